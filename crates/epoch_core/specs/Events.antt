@@ -3,7 +3,7 @@ use Rattle.std.specs.Prelude.{◌≡◌, ◌≢◌, ℕ, ◌+◌, ◌<◌, ◌^�
 use Rattle.mica_model.specs.declared.write.Write.{Write}
 use Rattle.mica_model.specs.Write.{IsWrite}
 use Rattle.mica_model.specs.CacheStep.{IsOfItem}
-use Rattle.mica_model.specs.History.{History, State, cached, stored, state, stamp, IsAcceptedAfter}
+use Rattle.mica_model.specs.History.{History, State, cache_state, store_state, state_of, stamp_of, IsAcceptedAfter}
 use Rattle.epoch_core.specs.declared.shape.Shape.{Shape}
 use Rattle.epoch_core.specs.declared.state.OwnerState.{OwnerState}
 use Rattle.epoch_core.specs.declared.state.Phase.{Phase}
@@ -30,7 +30,7 @@ pub record MayMark (o : OwnerState) (write : Write) (n : ℕ) : Type 0 where
   pub begun : o.phase ≡ Begun (bucket_in o write.key)
   pub fits : IsWrite write
   pub accepted : IsAcceptedAfter (options_in o) o.history write
-  pub stamp : n ≡ stamp (options_in o) (o.history ++ write ∷ [])
+  pub stamp : n ≡ stamp_of (options_in o) (o.history ++ write ∷ [])
 
 -- a fact of the marked write, its bucket and the history before it
 abbrev pub WhenMarked : Phase → (ℕ → Write → History → Type 0) → Type 0
@@ -44,12 +44,12 @@ SparesOthers o b p = (other c slot entry : ℕ) → IsMain o.shape other → oth
 
 -- The word at the offset belongs to the write, by the state before it: in cache mode it is one of the item's, in store mode no other bucket's.
 abbrev pub BelongsTo : OwnerState → ℕ → Write → State → ℕ → Type 0
-BelongsTo o b write (cached before) p = IsOfItem (options_in o) before write p
-BelongsTo o b write (stored before) p = SparesOthers o b p
+BelongsTo o b write (cache_state before) p = IsOfItem (options_in o) before write p
+BelongsTo o b write (store_state before) p = SparesOthers o b p
 
 -- an item word may be put where it belongs to the marked write
 pub record MayPutWord (o : OwnerState) (p : ℕ) : Type 0 where
-  pub its_word : WhenMarked o.phase (λ b write before. BelongsTo o b write (state (options_in o) before) p)
+  pub its_word : WhenMarked o.phase (λ b write before. BelongsTo o b write (state_of (options_in o) before) p)
   pub low : p < 2 ^ 48
 
 -- the bucket belongs to the marked write's chain, or is a free spare

@@ -2,7 +2,7 @@
 use Rattle.std.specs.Prelude.{◌≡◌, ℕ, ◌+◌, ◌*◌, ◌<◌, ◌≤◌, [], ◌∷◌, ◌++◌, length}
 use Rattle.std.specs.List.{AllByRecursion}
 use Rattle.mica_model.specs.Write.{IsWrite}
-use Rattle.mica_model.specs.History.{History, IsHistory, stamp}
+use Rattle.mica_model.specs.History.{History, IsHistory, stamp_of}
 use Rattle.epoch_core.specs.declared.shape.Shape.{Shape}
 use Rattle.epoch_core.specs.declared.state.OwnerState.{OwnerState}
 use Rattle.epoch_core.specs.declared.state.Phase.{Phase}
@@ -31,7 +31,7 @@ pub record Kept (o : OwnerState) : Type 0 where
   pub wide : length o.words ≡ word_count o.shape
   pub chains : HasChains o
   pub history : IsLawfulHistory o.shape o.history
-  pub stamp : stamp_in o ≡ stamp (options_in o) o.history
+  pub stamp : stamp_in o ≡ stamp_of (options_in o) o.history
   -- twice the writes to the bucket, one more while a write is begun there, and one less while one is marked
   pub epochs : (b : ℕ) → IsMain o.shape b
       → epoch_in o b + marked_in o.phase b ≡ 2 * writes_in o b + begun_in o.phase b

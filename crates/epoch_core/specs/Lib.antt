@@ -6,4 +6,4 @@ pub mod LiveEntry
 pub mod StandsFor
 pub mod Events
 pub mod Kept
-pub mod Steps
+pub mod OwnerStep

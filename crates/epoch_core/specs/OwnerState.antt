@@ -2,7 +2,7 @@
 use Rattle.std.specs.Prelude.{ℕ, ◌==◌, List, [], if◌then◌else◌, slice_index, replicate}
 use Rattle.mica_words.specs.Hash.{bucket_of}
 use Rattle.mica_model.specs.declared.options.Options.{Options}
-use Rattle.mica_model.specs.History.{State, state, writes_to_bucket}
+use Rattle.mica_model.specs.History.{State, state_of, writes_to_bucket}
 use Rattle.epoch_core.specs.declared.shape.Shape.{Shape}
 use Rattle.epoch_core.specs.declared.state.OwnerState.{OwnerState}
 use Rattle.epoch_core.specs.declared.state.Phase.{Phase}
@@ -35,7 +35,7 @@ abbrev pub options_in : OwnerState → Options
 options_in o = options_of o.shape
 
 abbrev pub state_in : OwnerState → State
-state_in o = state (options_in o) o.history
+state_in o = state_of (options_in o) o.history
 
 -- the bucket of a key
 abbrev pub bucket_in : OwnerState → List ℕ → ℕ

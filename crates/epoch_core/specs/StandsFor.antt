@@ -8,9 +8,9 @@ use Rattle.mica_words.specs.Item.{item_size}
 use Rattle.mica_words.specs.Spelling.{item_words}
 use Rattle.mica_model.specs.declared.options.Mode.{Mode}
 use Rattle.mica_model.specs.declared.options.Mode.TheVariants.{Cache, Store}
-use Rattle.mica_model.specs.Cache as cache
-use Rattle.mica_model.specs.Store as store
-use Rattle.mica_model.specs.History.{State, cached, stored}
+use Rattle.mica_model.specs.Cache.{Record, record_of}
+use Rattle.mica_model.specs.Store.{Cell}
+use Rattle.mica_model.specs.History.{State, cache_state, store_state}
 use Rattle.epoch_core.specs.declared.state.OwnerState.{OwnerState}
 use Rattle.epoch_core.specs.Shape.{IsMain}
 use Rattle.epoch_core.specs.Layout.{item_at}
@@ -19,18 +19,18 @@ use Rattle.epoch_core.specs.Chain.{InChain, IsDense}
 use Rattle.epoch_core.specs.LiveEntry.{HasLiveEntry}
 
 -- what a record of the log holds, and at which offset
-abbrev pub held_at : cache.Record → store.Held × ℕ
-held_at found = (record { value = found.value; room = found.room }, found.offset)
+abbrev pub cell_at : Record → Cell × ℕ
+cell_at found = (record { value = found.value; room = found.room }, found.offset)
 
 -- The machine has this value and room for the key. A record of the log has its offset too.
-abbrev pub Has : State → List ℕ → store.Held → ℕ → Type 0
-Has (cached s) key held p = option_map held_at (cache.record_of s key) ≡ Some (held, p)
-Has (stored s) key held p = get s.pairs key ≡ Some held
+abbrev pub Has : State → List ℕ → Cell → ℕ → Type 0
+Has (cache_state s) key cell p = option_map cell_at (record_of s key) ≡ Some (cell, p)
+Has (store_state s) key cell p = get s.cells key ≡ Some cell
 
 -- the words from the offset on are those of the item
-abbrev pub SpellsItem : OwnerState → ℕ → List ℕ → store.Held → Type 0
-SpellsItem o p key held = (i : ℕ) → i < item_size key held.value
-    → item_in o (p + i) ≡ slice_index (item_words held.room key held.value) i
+abbrev pub SpellsItem : OwnerState → ℕ → List ℕ → Cell → Type 0
+SpellsItem o p key cell = (i : ℕ) → i < item_size key cell.value
+    → item_in o (p + i) ≡ slice_index (item_words cell.room key cell.value) i
 
 -- In store mode an offset is the place of a block.
 abbrev pub IsOffset : Mode → ℕ → ℕ → Type 0
@@ -42,13 +42,13 @@ abbrev pub room_in : OwnerState → ℕ → ℕ
 room_in o entry = header_room (item_in o (entry_offset entry))
 
 -- The entry, with the item at its offset, spells what the machine has of a key of the bucket. The item's hash word is among its words.
-pub record Spells (o : OwnerState) (b entry : ℕ) (key : List ℕ) (held : store.Held) : Type 0 where
+pub record Spells (o : OwnerState) (b entry : ℕ) (key : List ℕ) (cell : Cell) : Type 0 where
   pub bucket : bucket_in o key ≡ b
-  pub has : Has (state_in o) key held (entry_offset entry)
+  pub has : Has (state_in o) key cell (entry_offset entry)
   pub offset : IsOffset o.shape.mode o.shape.words (entry_offset entry)
   pub tag : entry_tag entry ≡ tag_of key
-  pub item : SpellsItem o (entry_offset entry) key held
-  pub in_room : item_size key held.value ≤ room_in o entry
+  pub item : SpellsItem o (entry_offset entry) key cell
+  pub in_room : item_size key cell.value ≤ room_in o entry
 
 -- the offset names a word of the room of the entry's item
 abbrev pub IsInRoom : OwnerState → ℕ → ℕ → Type 0
@@ -68,14 +68,14 @@ HasChain Store o b = IsDense o b
 pub record StandsFor (o : OwnerState) (b : ℕ) : Type 0 where
   -- each live entry spells something of the state
   pub nothing_else : (c slot entry : ℕ) → HasLiveEntry o b c slot entry
-      → (key : List ℕ) × (held : store.Held) × Spells o b entry key held
+      → (key : List ℕ) × (cell : Cell) × Spells o b entry key cell
   -- each of the bucket's records or pairs is spelt
-  pub each : (key : List ℕ) (held : store.Held) (p : ℕ) → bucket_in o key ≡ b → Has (state_in o) key held p
-      → (c : ℕ) × (slot : ℕ) × (entry : ℕ) × HasLiveEntry o b c slot entry × Spells o b entry key held
+  pub each : (key : List ℕ) (cell : Cell) (p : ℕ) → bucket_in o key ≡ b → Has (state_in o) key cell p
+      → (c : ℕ) × (slot : ℕ) × (entry : ℕ) × HasLiveEntry o b c slot entry × Spells o b entry key cell
   -- and only once
-  pub once : (c slot entry c' slot' entry' : ℕ) (key : List ℕ) (held : store.Held)
+  pub once : (c slot entry c' slot' entry' : ℕ) (key : List ℕ) (cell : Cell)
       → HasLiveEntry o b c slot entry → HasLiveEntry o b c' slot' entry'
-      → Spells o b entry key held → Spells o b entry' key held → (c ≡ c') × (slot ≡ slot')
+      → Spells o b entry key cell → Spells o b entry' key cell → (c ≡ c') × (slot ≡ slot')
   -- the rooms of the bucket's live items share no word
   pub rooms : (c slot entry c' slot' entry' : ℕ)
       → HasLiveEntry o b c slot entry → HasLiveEntry o b c' slot' entry'

@@ -9,7 +9,7 @@ use Rattle.epoch_core.specs.declared.state.Phase.TheVariants.{Idle}
 use Rattle.epoch_core.specs.OwnerState.{options_in}
 
 -- One step of the machine. An accepted write is gained, and beside it words alone may change. A refused one changes nothing.
-pub record IsStep (old new : OwnerState) (write : Write) (outcome : Outcome) : Type 0 where
+pub record IsOwnerStep (old new : OwnerState) (write : Write) (outcome : Outcome) : Type 0 where
   pub allowed : MayGive (options_in old) old.history write outcome
   pub gained : new ≡ (if is_accepted outcome
       then record old { words = new.words; history = old.history ++ write ∷ [] }

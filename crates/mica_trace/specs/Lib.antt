@@ -1,0 +1,5 @@
+pub mod Lines
+pub mod TraceGrammar
+pub mod ReportGrammar
+pub mod Rounds
+pub mod LawfulReport

@@ -1,0 +1,136 @@
+ghost use Rattle.std.specs.Prelude.{◌≡◌, ◌≤◌, ◌<◌, ◌∷◌, ◌++◌, [], length, vec_len, slice_get, string_bytes, IfOk, OnOk, OnErr};
+ghost use Rattle.std.specs.Option.{option_copied};
+ghost use Rattle.mica_trace.specs.ReportGrammar.{report_line_text, IsReportLine, op_word, outcome_words};
+
+use mica_io::{Bytes, NoMemory};
+use mica_model::{Op, Outcome};
+use std::alloc::Global;
+use std::marker::Model;
+
+/// A line of a report.
+#[derive(Debug, Drop)]
+pub enum Line {
+    Wrote {
+        op: Op,
+        outcome: Outcome,
+        stamp: u64,
+    },
+    Hit {
+        stamp: u64,
+        value: Bytes,
+    },
+    Miss {
+        stamp: u64,
+    },
+    Sync,
+}
+
+/// A list of lines.
+#[derive(Debug, Drop)]
+pub struct Report {
+    lines: Vec<Line>,
+}
+
+impl Model for Report {
+    ghost use Rattle.std.specs.Prelude.{List, length, ◌<◌, ◌^◌};
+    ghost use Rattle.mica_trace.specs.declared.report.Line.{Line};
+
+    ghost Value = { List Line };
+
+    ghost view = { λ r. r.lines.items };
+
+    ghost invariant = { λ r. length r.lines.items < 2 ^ 32 };
+}
+
+impl Report {
+    pub fn new(alloc: Global) -> Self
+        ensures { result ≡ [] }
+    {
+        Report {
+            lines: Vec::new(alloc),
+        }
+    }
+
+    /// Adds a line at the end.
+    pub fn push(&mut self, line: Line) -> Result<(), NoMemory>
+        requires { length self.old < 4294967295 }
+        ensures ok { OnOk result (self.new ≡ self.old ++ line ∷ []) }
+        ensures err { OnErr result (self.new ≡ self.old) }
+    {
+        self.lines.push(line)?;
+        Ok(())
+    }
+
+    pub fn len(&self) -> u32
+        ensures { result ≡ length self.now }
+    {
+        self.lines.len() as u32
+    }
+
+    /// The line of this number, from 0.
+    pub fn line(&self, number: u32) -> Option<&Line>
+        ensures { option_copied result ≡ slice_get self.now number }
+    {
+        self.lines.get(number as usize)
+    }
+}
+
+fn op_text(op: Op) -> &'static str
+    ensures { result.now ≡ op_word op }
+{
+    match op {
+        Op::Put => "put",
+        Op::Del => "del",
+    }
+}
+
+fn outcome_text(outcome: Outcome) -> &'static str
+    ensures { result.now ≡ outcome_words outcome }
+{
+    match outcome {
+        Outcome::Stored => "stored",
+        Outcome::Deleted => "deleted",
+        Outcome::Absent => "absent",
+        Outcome::FullSpare => "full spare",
+        Outcome::FullBlock => "full block",
+        Outcome::Worn => "worn",
+    }
+}
+
+// The line's text without its line feed.
+fn text_of(alloc: Global, line: &Line) -> Result<Vec<u8>, NoMemory>
+    ensures { IfOk result (λ text. text.items ≡ report_line_text line.now) }
+{
+    match line {
+        Line::Wrote { op, outcome, stamp } => {
+            let op = op_text(*op);
+            let outcome = outcome_text(*outcome);
+            let text = format!(in alloc; "{op} {stamp} {outcome}")?;
+            Ok(Vec::from_slice(alloc, text.as_bytes())?)
+        }
+        Line::Hit { stamp, value } => {
+            let front = format!(in alloc; "get {stamp} hit ")?;
+            let mut text = Vec::from_slice(alloc, front.as_bytes())?;
+            text.extend_from_slice(value.bytes())?;
+            Ok(text)
+        }
+        Line::Miss { stamp } => {
+            let text = format!(in alloc; "get {stamp} miss")?;
+            Ok(Vec::from_slice(alloc, text.as_bytes())?)
+        }
+        Line::Sync => Ok(Vec::from_slice(alloc, b"sync")?),
+    }
+}
+
+/// Appends the line's text and a line feed. After want of memory nothing is appended.
+pub fn put_report_line(line: &Line, out: &mut Vec<u8>) -> Result<(), NoMemory>
+    requires { IsReportLine line.now }
+    ensures ok { OnOk result (out.new.items ≡ out.old.items ++ report_line_text line.now ++ 10 ∷ []) }
+    ensures err { OnErr result (out.new.items ≡ out.old.items) }
+{
+    let alloc = *out.allocator();
+    let mut text = text_of(alloc, line)?;
+    text.push(b'\n')?;
+    out.extend_from_slice(text.as_slice())?;
+    Ok(())
+}

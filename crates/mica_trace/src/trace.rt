@@ -1,0 +1,53 @@
+ghost use Rattle.std.specs.Prelude.{◌≡◌, ◌≤◌, List, length, vec_len, slice_get};
+ghost use Rattle.std.specs.Option.{option_copied};
+
+use crate::TraceLine;
+use std::marker::Model;
+
+/// A list of lines, each of them one that a trace may have.
+#[derive(Debug, Drop)]
+pub struct Trace {
+    lines: Vec<TraceLine>,
+}
+
+impl Model for Trace {
+    ghost use Rattle.std.specs.Prelude.{List, length, ◌≤◌};
+    ghost use Rattle.std.specs.List.{AllByRecursion};
+    ghost use Rattle.mica_trace.specs.declared.line.TraceLine.{TraceLine};
+    ghost use Rattle.mica_trace.specs.TraceGrammar.{IsTraceLine, IsWithinLimits};
+
+    ghost Value = { List TraceLine };
+
+    ghost view = { λ t. t.lines.items };
+
+    ghost invariant = { λ t. AllByRecursion IsTraceLine t.lines.items × IsWithinLimits t.lines.items };
+}
+
+impl Trace {
+    ghost use Rattle.std.specs.Prelude.{None, Some, IfSome};
+    ghost use Rattle.std.specs.List.{AllByRecursion};
+    ghost use Rattle.mica_trace.specs.TraceGrammar.{IsTraceLine, IsWithinLimits};
+
+    pub(crate) fn of(lines: Vec<TraceLine>) -> Self
+        requires lines { AllByRecursion IsTraceLine lines.items }
+        requires few { IsWithinLimits lines.items }
+        ensures { result ≡ lines.items }
+    {
+        Trace { lines }
+    }
+
+    pub fn len(&self) -> u32
+        ensures len { result ≡ length self.now }
+        ensures few { IsWithinLimits self.now }
+        ensures lines { AllByRecursion IsTraceLine self.now }
+    {
+        self.lines.len() as u32
+    }
+
+    /// The line of this number, from 0.
+    pub fn line(&self, number: u32) -> Option<&TraceLine>
+        ensures { option_copied result ≡ slice_get self.now number }
+    {
+        self.lines.get(number as usize)
+    }
+}
