@@ -1,1 +1,4 @@
 pub mod Places
+pub mod Made
+pub mod Reach
+pub mod Spares
