@@ -22,6 +22,7 @@ use Rattle.epoch_core.specs.StandsFor.{room_in, IsInRoom}
 use Rattle.epoch_core.specs.Events.{WhenMarked, BelongsTo, IsAllowed, place_of}
 use Rattle.epoch_core.proofs.Reach.{IsReached, by_entry, by_link, by_item}
 use Rattle.epoch_core.specs.Kept.{PhaseFits, Kept}
+use Rattle.epoch_core.proofs.Marked.{chain_bucket, marked_not, ends_main, its_bucket, its_inside}
 use Rattle.epoch_core.proofs.Places.{same_bucket, no_epoch, no_stamp, no_item, item_no_epoch}
 
 -- A word of the marked write in cache mode is in no room of a live item of another, unmarked bucket: the one case that goes by the log.
@@ -30,75 +31,21 @@ LogSpares o = (b : ℕ) (write : Write) (history : List Write) (before : _) (c s
     → o.phase ≡ Marked b write history → state_of (options_in o) history ≡ cache_state before → BelongsTo o b write (cache_state before) p
     → IsMain o.shape other → other ≢ b → HasLiveEntry o other c slot entry → ¬ (IsInRoom o entry p)
 
-abbrev pub bit : ℕ → ℕ → ℕ
-bit c b = if nat_eq c b then 1 else 0
-
-pub bit_same : (c b : ℕ) → c ≡ b → bit c b ≡ 1
-bit_same c b e = ap (λ (z : Bool). if z then 1 else 0) (eq-eqb c b e)
-
-pub bit_else : (c b : ℕ) → c ≢ b → bit c b ≡ 0
-bit_else c b n = ap (λ (z : Bool). if z then 1 else 0) (ne_eqb c b n)
-
-pub bit_is : (c b : ℕ) → bit c b ≡ 1 → c ≡ b
-bit_is c b e = dite (ℕ_discrete c b) (λ is. is) (λ n. let zero = bit_else c b n in absurd (omega arith))
-
 module _ (o : OwnerState) (s : Kept o) (log : LogSpares o) where
-  among_bucket : (n b c : ℕ) → IsBucket o.shape b → IsAmong o n b c → IsBucket o.shape c
-  among_bucket zero b c l h = absurd h
-  among_bucket (suc n) b c l (inl e) = subst (IsBucket o.shape) e l
-  among_bucket (suc n) b c l (inr h) = elim (s.chains.links b l) [ inl none ↦ absurd (h.0 none) | inr spare ↦ among_bucket n (link_in o b) c spare.1 h.1 ]
-
-  chain_bucket : (b c : ℕ) → IsMain o.shape b → InChain o b c → IsBucket o.shape c
-  chain_bucket b c l h = among_bucket (suc o.shape.spares) b c (omega arith) h
-
-  marked_not : (b c : ℕ) (write : Write) (history : List Write) → o.phase ≡ Marked b write history → marked_in o.phase c ≡ 0 → c ≢ b
-  marked_not b c write history is none same =
-      let one : bit b c ≡ 1 = bit_same b c (sym same) in
-      let here : marked_in o.phase c ≡ bit b c = ap (λ (q : Phase). marked_in q c) is in
-      omega arith
-
-  marked_main : (b : ℕ) (write : Write) (history : List Write) → o.phase ≡ Marked b write history → IsMain o.shape b
-  unfolding bucket_of
-  marked_main b write history is =
-      let fits = subst (PhaseFits o) is s.phase in
-      let some : 0 < o.shape.buckets = subst (λ (z : ℕ). 0 < z) (sym s.shape.ranges.buckets.2) (pow_pos s.shape.ranges.buckets.0) in
-      subst (λ (z : ℕ). z < o.shape.buckets) (sym fits.0) (mod-lt (fnv1a write.key) some)
-
-  ends_main : (phase : Phase) → o.phase ≡ phase → (b : ℕ) → marked_in phase b ≡ 1 → IsMain o.shape b
-  ends_main Idle is b one = absurd (omega arith)
-  ends_main (Begun c) is b one = absurd (omega arith)
-  ends_main (Marked c write before) is b one = subst (IsMain o.shape) (bit_is c b one) (marked_main c write before is)
-
-  -- a bucket that the marked write may change is in no chain of an unmarked one
-  its_bucket : (phase : Phase) → o.phase ≡ phase → (c : ℕ) → WhenMarked phase (λ b write before. InChain o b c ⊎ IsFreeSpare o c)
-      → (other : ℕ) → IsMain o.shape other → marked_in o.phase other ≡ 0 → ¬ (InChain o other c)
-  its_bucket Idle is c h other l none = absurd h
-  its_bucket (Begun b) is c h other l none = absurd h
-  its_bucket (Marked b write before) is c (inl own) other l none =
-      s.chains.apart b other c (marked_main b write before is) l (λ same. marked_not b other write before is none (sym same)) own
-  its_bucket (Marked b write before) is c (inr free) other l none = free.free other l
-
-  -- it is a bucket
-  its_inside : (phase : Phase) → o.phase ≡ phase → (c : ℕ) → WhenMarked phase (λ b write before. InChain o b c ⊎ IsFreeSpare o c) → IsBucket o.shape c
-  its_inside Idle is c h = absurd h
-  its_inside (Begun b) is c h = absurd h
-  its_inside (Marked b write before) is c (inl own) = chain_bucket b c (marked_main b write before is) own
-  its_inside (Marked b write before) is c (inr free) = free.spare.1
-
   module _ (other : ℕ) (l : IsMain o.shape other) (none : marked_in o.phase other ≡ 0) where
     -- none of the 16 words of a bucket of its chain
     apart_slot : (e : Event) → IsAllowed e o → (c slot : ℕ) → InChain o other c → slot < 16 → entries_at o.shape c + slot ≢ place_of o.shape e
     apart_slot (Begins b) a c slot h x e = no_epoch o.shape b c slot a.main x e
     apart_slot (Marks write n) a c slot h x e = no_stamp o.shape c slot e
-    apart_slot (PutsWord p y) a c slot h x e = no_item o.shape c slot p (chain_bucket other c l h) x e
+    apart_slot (PutsWord p y) a c slot h x e = no_item o.shape c slot p (chain_bucket o s other c l h) x e
     apart_slot (PutsEntry d t entry) a c slot h x e =
         let small = a.in_bucket in
         let same : c ≡ d = same_bucket o.shape c d slot t x (omega arith) e in
-        its_bucket o.phase refl d a.its_bucket other l none (subst (InChain o other) same h)
+        its_bucket o s o.phase refl d a.its_bucket other l none (subst (InChain o other) same h)
     apart_slot (PutsLink d next) a c slot h x e =
         let same : c ≡ d = same_bucket o.shape c d slot 15 x (omega arith) e in
-        its_bucket o.phase refl d a.its_bucket other l none (subst (InChain o other) same h)
-    apart_slot (Ends b) a c slot h x e = no_epoch o.shape b c slot (ends_main o.phase refl b a.marked) x e
+        its_bucket o s o.phase refl d a.its_bucket other l none (subst (InChain o other) same h)
+    apart_slot (Ends b) a c slot h x e = no_epoch o.shape b c slot (ends_main o s o.phase refl b a.marked) x e
 
     -- no word of the room of one of its live items
     apart_room : (e : Event) → IsAllowed e o → (c slot entry i : ℕ) → HasLiveEntry o other c slot entry → i < room_in o entry
@@ -113,12 +60,12 @@ module _ (o : OwnerState) (s : Kept o) (log : LogSpares o) where
         puts (Marked b write before) is f = by_state (state_of (options_in o) before) refl f
           where
             by_state : (now : State) → state_of (options_in o) before ≡ now → BelongsTo o b write now p → ⊥
-            by_state (cache_state now) at f = log b write before now c slot entry other p is at f l (marked_not b other write before is none) h (i, x, e)
-            by_state (store_state now) at f = f other c slot entry l (marked_not b other write before is none) h (i, x, e)
+            by_state (cache_state now) at f = log b write before now c slot entry other p is at f l (marked_not o s b other write before is none) h (i, x, e)
+            by_state (store_state now) at f = f other c slot entry l (marked_not o s b other write before is none) h (i, x, e)
     apart_room (PutsEntry d t y) a c slot entry i h x e =
-        let small = a.in_bucket in no_item o.shape d t (entry_offset entry + i) (its_inside o.phase refl d a.its_bucket) (omega arith) (sym e)
-    apart_room (PutsLink d next) a c slot entry i h x e = no_item o.shape d 15 (entry_offset entry + i) (its_inside o.phase refl d a.its_bucket) (omega arith) (sym e)
-    apart_room (Ends b) a c slot entry i h x e = item_no_epoch o.shape b (entry_offset entry + i) (ends_main o.phase refl b a.marked) e
+        let small = a.in_bucket in no_item o.shape d t (entry_offset entry + i) (its_inside o s o.phase refl d a.its_bucket) (omega arith) (sym e)
+    apart_room (PutsLink d next) a c slot entry i h x e = no_item o.shape d 15 (entry_offset entry + i) (its_inside o s o.phase refl d a.its_bucket) (omega arith) (sym e)
+    apart_room (Ends b) a c slot entry i h x e = item_no_epoch o.shape b (entry_offset entry + i) (ends_main o s o.phase refl b a.marked) e
 
     -- the law
     pub spares : (e : Event) → IsAllowed e o → (place : ℕ) → IsReached o other place → place ≢ place_of o.shape e
