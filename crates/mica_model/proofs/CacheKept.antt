@@ -1,19 +1,17 @@
 -- What every state of the cache machine has, and that each accepted write keeps it.
-use Rattle.std.proofs.Common.{◌≡◌, ℕ, ◌+◌, ◌*◌, ◌/◌, ◌%◌, ◌≤◌, ◌<◌, inl, inr, ◌⊎◌, List, [], ◌∷◌, ◌++◌, length, Option, Some, None, Bool, true, false, cond, not, refl, sym, ap, ◌∙◌, subst, arith, ◌≢◌, leb, eqb, ⊎_elim}
+use Rattle.std.proofs.Common.{◌≡◌, ℕ, ◌+◌, ◌*◌, ◌≤◌, ◌<◌, List, [], ◌∷◌, ◌++◌, length, Option, Some, None, Bool, true, false, cond, not, refl, sym, ap, ◌∙◌, subst, arith, ◌≢◌, leb, eqb, ⊎_elim}
 use Rattle.std.specs.List.{find, filter, AllByRecursion as AllOf, count_by}
 use Rattle.std.specs.Prelude.{map}
-use Rattle.std.specs.Str.{bytes_eq}
-use Rattle.std.proofs.lemmas.Bool.{true≢false, leb-true, le-leb, eqb-true, eqb-false, ne_eqb, eq-eqb, and_parts, cases_eq}
+use Rattle.std.proofs.lemmas.Bool.{true≢false, leb-true, eqb-true, eqb-false, ne_eqb, and_parts, cases_eq}
 use Rattle.std.proofs.lemmas.List.Sums.{sum_by_push}
 use Rattle.mica_words.specs.Hash.{bucket_of}
-use Rattle.mica_words.specs.Item.{KeyFits, ValueFits, item_size, words_for}
+use Rattle.mica_words.specs.Item.{KeyFits, ValueFits, item_size}
 use Rattle.mica_words.specs.Packing.{AreBytes}
 use Rattle.mica_words.specs.Stamp.{tail_of}
 use Rattle.mica_model.specs.declared.options.Options.{Options}
 use Rattle.mica_model.specs.declared.write.Write.{Write}
 use Rattle.mica_model.specs.declared.write.Op.{Op}
 use Rattle.mica_model.specs.declared.write.Op.TheVariants.{Put, Del}
-use Rattle.mica_model.specs.Options.{IsValid}
 use Rattle.mica_model.specs.Write.{IsWrite, HasValueOf, size_of}
 use Rattle.mica_model.specs.Cache as cache
 use Rattle.mica_model.specs.Cache.{Record, Cache, has_key, record_of, is_live}
@@ -159,15 +157,15 @@ module _ (options : Options) (s : Cache) (kept : IsKept options s) (write : Writ
         are = found.all_push IsRecord (others write.key s.records) (new_record s write) (found.all_filter IsRecord (λ r. not (has_key write.key r)) s.records kept.are)
             (record { key = is.key; key_bytes = is.key_bytes; value = value; value_bytes = is.value_bytes; size = omega arith; room = size });
         here =
-          let all = count (bucket_of write.key options.buckets) in
-          let few = fewer (bucket_of write.key options.buckets) in
-          let one : cond (is_in_bucket options (bucket_of write.key options.buckets) (new_record s write)) 1 0 ≤ 1 = elim (is_in_bucket options (bucket_of write.key options.buckets) (new_record s write)) as (λ b. cond b 1 0 ≤ 1) [ true ↦ omega arith | false ↦ omega arith ] in
-          omega arith;
+            let all = count (bucket_of write.key options.buckets) in
+            let few = fewer (bucket_of write.key options.buckets) in
+            let one : cond (is_in_bucket options (bucket_of write.key options.buckets) (new_record s write)) 1 0 ≤ 1 = elim (is_in_bucket options (bucket_of write.key options.buckets) (new_record s write)) as (λ b. cond b 1 0 ≤ 1) [ true ↦ omega arith | false ↦ omega arith ] in
+            omega arith;
         there = λ bucket other.
-          let all = count bucket in
-          let few = fewer bucket in
-          let none : cond {A = ℕ} (is_in_bucket options bucket (new_record s write)) 1 0 ≡ 0 = ap (λ (b : Bool). cond {A = ℕ} b 1 0) (ne_eqb (bucket_of write.key options.buckets) bucket other) in
-          omega arith;
+            let all = count bucket in
+            let few = fewer bucket in
+            let none : cond {A = ℕ} (is_in_bucket options bucket (new_record s write)) 1 0 ≡ 0 = ap (λ (b : Bool). cond {A = ℕ} b 1 0) (ne_eqb (bucket_of write.key options.buckets) bucket other) in
+            omega arith;
         least = omega arith;
         most = omega arith;
       }
@@ -190,14 +188,14 @@ module _ (options : Options) (s : Cache) (kept : IsKept options s) (write : Writ
         laid = laid.laid_later 0 (tail_of s.stamp) (tail_of (s.stamp + 1)) (map (rewritten write) s.records) (omega arith) (laid.laid_map (rewritten write) (rewritten_offset write) (rewritten_room write) 0 (tail_of s.stamp) s.records kept.laid);
         unique = laid.unique_map (rewritten write) (rewritten_key write) s.records kept.unique;
         are = all_map_both IsRecord (λ r. has_key write.key r ≡ true → r ≡ held) IsRecord (rewritten write)
-          (λ r fine only. elim (has_key write.key r) as (λ b. has_key write.key r ≡ b → IsRecord (cond b (record r { value = write.value }) r)) [
+            (λ r fine only. elim (has_key write.key r) as (λ b. has_key write.key r ≡ b → IsRecord (cond b (record r { value = write.value }) r)) [
               | true ↦ λ here.
                   let key = laid.key_is write.key r here in
                   let room : size_of write ≤ r.room = subst (λ (h : Record). size_of write ≤ h.room) (sym (only here)) keeps.fits in
                   record { key = fine.key; key_bytes = fine.key_bytes; value = value; value_bytes = is.value_bytes; size = subst (λ (k : List ℕ). item_size k write.value ≤ r.room) (sym key) room; room = fine.room }
               | false ↦ λ here. fine
             ] refl)
-          s.records kept.are (only_found write.key held s.records kept.unique keeps.is);
+            s.records kept.are (only_found write.key held s.records kept.unique keeps.is);
         here = let few = kept.buckets (bucket_of write.key options.buckets) in let all = same (bucket_of write.key options.buckets) in omega arith;
         there = λ bucket other. let few = kept.buckets bucket in let all = same bucket in omega arith;
         least = omega arith;

@@ -1,8 +1,8 @@
 -- What a search finds in a list, and what it finds once parts of the list are gone.
-use Rattle.std.proofs.Common.{◌≡◌, ℕ, ◌+◌, ◌≤◌, ◌<◌, List, [], ◌∷◌, ◌++◌, Option, Some, None, Bool, true, false, cond, refl, sym, ap, ◌∙◌, subst, arith, ◌≢◌}
+use Rattle.std.proofs.Common.{◌≡◌, ◌+◌, ◌≤◌, ◌<◌, List, [], ◌∷◌, ◌++◌, Some, None, Bool, true, false, cond, refl, sym, ap, ◌∙◌, subst, arith}
 use Rattle.std.specs.List.{find, filter, AllByRecursion as AllOf, count_by}
 use Rattle.std.specs.Prelude.{map}
-use Rattle.std.proofs.lemmas.Bool.{true≢false, cases_Bool}
+use Rattle.std.proofs.lemmas.Bool.{true≢false}
 use Rattle.std.proofs.lemmas.List.Sums.{sum_by-cons}
 use Rattle.std.proofs.lemmas.Option.{same_Some}
 use Rattle.mica_model.specs.Cache.{Record}
@@ -45,9 +45,9 @@ module _ {X : Type 0} where
       elim (q x) as (λ b. q x ≡ b → find p (cond b (x ∷ filter q xs) (filter q xs)) ≡ cond (p x) (Some x) (find p xs)) [
         | true ↦ λ here. ap (cond (p x) (Some x)) (found_filter_all p q keeps xs)
         | false ↦ λ here. elim (p x) as (λ b. p x ≡ b → find p (filter q xs) ≡ cond b (Some x) (find p xs)) [
-            | true ↦ λ yes. absurd (true≢false (sym (keeps x yes) ∙ here))
-            | false ↦ λ no. found_filter_all p q keeps xs
-          ] refl
+          | true ↦ λ yes. absurd (true≢false (sym (keeps x yes) ∙ here))
+          | false ↦ λ no. found_filter_all p q keeps xs
+        ] refl
       ] refl
 
   -- what was found is still found where the filter keeps it
@@ -59,9 +59,9 @@ module _ {X : Type 0} where
             ap (λ b. find p (cond b (y ∷ filter q xs) (filter q xs))) (ap q (same_Some y x e) ∙ keeps)
             ∙ ap (λ b. cond b (Some y) (find p (filter q xs))) here ∙ e
         | false ↦ λ here e. elim (q y) as (λ b. find p (cond b (y ∷ filter q xs) (filter q xs)) ≡ Some x) [
-            | true ↦ ap (λ b. cond b (Some y) (find p (filter q xs))) here ∙ found_filter p q xs x e keeps
-            | false ↦ found_filter p q xs x e keeps
-          ]
+          | true ↦ ap (λ b. cond b (Some y) (find p (filter q xs))) here ∙ found_filter p q xs x e keeps
+          | false ↦ found_filter p q xs x e keeps
+        ]
       ] refl is
 
   pub missed_filter : (p q : X → Bool) (xs : List X) → find p xs ≡ None → find p (filter q xs) ≡ None
@@ -70,9 +70,9 @@ module _ {X : Type 0} where
       elim (p x) as (λ b. p x ≡ b → cond b (Some x) (find p xs) ≡ None → find p (cond (q x) (x ∷ filter q xs) (filter q xs)) ≡ None) [
         | true ↦ λ here e. cc
         | false ↦ λ here e. elim (q x) as (λ b. find p (cond b (x ∷ filter q xs) (filter q xs)) ≡ None) [
-            | true ↦ ap (λ b. cond b (Some x) (find p (filter q xs))) here ∙ missed_filter p q xs e
-            | false ↦ missed_filter p q xs e
-          ]
+          | true ↦ ap (λ b. cond b (Some x) (find p (filter q xs))) here ∙ missed_filter p q xs e
+          | false ↦ missed_filter p q xs e
+        ]
       ] refl is
 
   -- a search that finds nothing of the first list goes on in the second
@@ -141,9 +141,9 @@ found_without_first p here apart [] = refl
 found_without_first p here apart (x ∷ xs) =
     elim (here x) as (λ b. here x ≡ b → find p (cond b xs (x ∷ without_first here xs)) ≡ cond (p x) (Some x) (find p xs)) [
       | true ↦ λ is. elim (p x) as (λ b. p x ≡ b → find p xs ≡ cond b (Some x) (find p xs)) [
-          | true ↦ λ yes. absurd (true≢false (sym is ∙ apart x yes))
-          | false ↦ λ no. refl
-        ] refl
+        | true ↦ λ yes. absurd (true≢false (sym is ∙ apart x yes))
+        | false ↦ λ no. refl
+      ] refl
       | false ↦ λ is. ap (cond (p x) (Some x)) (found_without_first p here apart xs)
     ] refl
 
@@ -153,9 +153,9 @@ missed_without_first p here (x ∷ xs) is =
     elim (p x) as (λ b. p x ≡ b → cond b (Some x) (find p xs) ≡ None → find p (cond (here x) xs (x ∷ without_first here xs)) ≡ None) [
       | true ↦ λ yes e. cc
       | false ↦ λ no e. elim (here x) as (λ b. find p (cond b xs (x ∷ without_first here xs)) ≡ None) [
-          | true ↦ e
-          | false ↦ ap (λ b. cond b (Some x) (find p (without_first here xs))) no ∙ missed_without_first p here xs e
-        ]
+        | true ↦ e
+        | false ↦ ap (λ b. cond b (Some x) (find p (without_first here xs))) no ∙ missed_without_first p here xs e
+      ]
     ] refl is
 
 pub all_without_first : (P : Record → Type 0) (here : Record → Bool) (xs : List Record) → AllOf P xs → AllOf P (without_first here xs)

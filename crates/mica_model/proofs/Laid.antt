@@ -1,5 +1,5 @@
 -- Records in a log: each ends where or before the next begins, and no two are of one key.
-use Rattle.std.proofs.Common.{◌≡◌, ℕ, ◌+◌, ◌≤◌, ◌<◌, inl, inr, ◌⊎◌, List, [], ◌∷◌, ◌++◌, Option, Some, None, Bool, true, false, cond, refl, sym, ap, ◌∙◌, subst, arith, ◌≢◌}
+use Rattle.std.proofs.Common.{◌≡◌, ℕ, ◌+◌, ◌≤◌, inl, inr, ◌⊎◌, List, [], ◌∷◌, ◌++◌, Some, None, Bool, true, false, cond, refl, sym, ap, ◌∙◌, subst, arith, ◌≢◌}
 use Rattle.std.specs.List.{find, filter}
 use Rattle.std.specs.Prelude.{map}
 use Rattle.std.specs.Str.{bytes_eq}
@@ -96,11 +96,11 @@ laid_apart p q differ from upto (x ∷ rs) r r' laid is is' =
           let there = laid_found q (x.offset + x.room) upto rs r' laid.1 later in
           inl (subst (λ (y : Record). y.offset + y.room ≤ r'.offset) (same_Some x r e) there.0)
       | false ↦ λ here e. elim (q x) as (λ b. cond b (Some x) (find q rs) ≡ Some r' → (r.offset + r.room ≤ r'.offset) ⊎ (r'.offset + r'.room ≤ r.offset)) [
-          | true ↦ λ e'.
-              let there = laid_found p (x.offset + x.room) upto rs r laid.1 e in
-              inr (subst (λ (y : Record). y.offset + y.room ≤ r.offset) (same_Some x r' e') there.0)
-          | false ↦ λ e'. laid_apart p q differ (x.offset + x.room) upto rs r r' laid.1 e e'
-        ] is'
+        | true ↦ λ e'.
+            let there = laid_found p (x.offset + x.room) upto rs r laid.1 e in
+            inr (subst (λ (y : Record). y.offset + y.room ≤ r.offset) (same_Some x r' e') there.0)
+        | false ↦ λ e'. laid_apart p q differ (x.offset + x.room) upto rs r r' laid.1 e e'
+      ] is'
     ] refl is
 
 -- no key has two records
@@ -177,10 +177,10 @@ found_before_filter key q (x ∷ rs) r unique is =
             | false ↦ λ e'. found_before_filter key q rs r unique.1 e'
           ] e
       | false ↦ λ gone e. elim (has_key key x) as (λ b. has_key key x ≡ b → (cond b (Some x) (find (has_key key) rs) ≡ Some r) × (q r ≡ true)) [
-            | true ↦ λ here.
-                let none : find (has_key key) rs ≡ None = ap (λ k. find (has_key k) rs) (sym (key_is key x here)) ∙ unique.0 in
-                let gone_too = missed_filter (has_key key) q rs none in
-                cc
-            | false ↦ λ here. found_before_filter key q rs r unique.1 e
-          ] refl
+        | true ↦ λ here.
+            let none : find (has_key key) rs ≡ None = ap (λ k. find (has_key k) rs) (sym (key_is key x here)) ∙ unique.0 in
+            let gone_too = missed_filter (has_key key) q rs none in
+            cc
+        | false ↦ λ here. found_before_filter key q rs r unique.1 e
+      ] refl
     ] refl is
