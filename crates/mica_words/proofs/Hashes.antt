@@ -1,6 +1,7 @@
 -- The ranges of a hash and of what it chooses, and a key's choices by its hash.
-use Rattle.std.proofs.Common.{◌≡◌, ℕ, ◌*◌, ◌+◌, ◌%◌, ◌^◌, ◌<◌, ◌≤◌, List, [], ◌∷◌, refl, arith, fold, bit_xor}
+use Rattle.std.proofs.Common.{◌≡◌, ℕ, ◌*◌, ◌%◌, ◌^◌, ◌<◌, ◌≤◌, List, [], ◌∷◌, refl, arith, fold, bit_xor}
 use Rattle.std.proofs.Math.Nat.{mod-lt}
+use Rattle.std.proofs.lemmas.Bool.Decides.{nat_tests}
 use Rattle.mica_words.specs.Hash.{fnv1a, hash_partition, hash_bucket, hash_tag, partition_of, bucket_of, tag_of}
 
 pub fnv1a-below : (key : List ℕ) → fnv1a key < 2 ^ 64
@@ -19,7 +20,7 @@ hash_bucket-below hash buckets some = mod-lt hash some
 
 -- a tag is 1 to 65,535
 pub hash_tag-range : (hash : ℕ) → (1 ≤ hash_tag hash) × (hash_tag hash < 2 ^ 16)
-hash_tag-range hash = ?
+hash_tag-range hash = (grind (arith, nat_tests), grind (arith, nat_tests))
 
 pub partition_of_hash : (key : List ℕ) (partitions : ℕ) → partition_of key partitions ≡ hash_partition (fnv1a key) partitions
 unfolding partition_of

@@ -2,13 +2,13 @@
 use Rattle.std.proofs.Common.{◌≡◌, ℕ, zero, suc, ◌+◌, ◌-◌, ◌*◌, ◌/◌, ◌%◌, ◌^◌, ◌<◌, ◌≤◌, List, [], ◌∷◌, ◌++◌, length, take, drop, replicate, flat_map, slice_index, refl, sym, ap, ◌∙◌, subst, arith, inl, inr, append_assoc, length-append, length-drop}
 use Rattle.std.proofs.lemmas.Bool.{cases_lt}
 use Rattle.std.proofs.lemmas.Grind.{same_number_lists, flat_map-append}
-use Rattle.std.proofs.lemmas.List.{append-nil, drop-drop, drop-take, get_or-drop, length-take, length-take-le, take-append-drop, take-append-le, take_all}
+use Rattle.std.proofs.lemmas.List.{append-nil, drop-drop, get_or-drop, length-take, length-take-le, take-append-drop, take-append-le, take_all}
 use Rattle.std.proofs.lemmas.List.Concat.{flat_map-cons}
 use Rattle.std.proofs.Math.Nat.{div-div-eq-div-mul, pow-succ'}
 use Rattle.std.proofs.Math.Seq.{take-append-add, take-append_seam}
 use Rattle.std.specs.Int.{w64, byte_at, bytes_low_first, to_le_bytes}
 use Rattle.byteorder.specs.Endian.{little_from}
-use Rattle.byteorder.specs.Numbers.{length-bytes_low_first, little_from-cons}
+use Rattle.byteorder.specs.Numbers.{little_from-cons}
 use Rattle.mica_words.specs.Item.{words_for}
 use Rattle.mica_words.specs.Packing.{AreBytes, little, packed_words, packed, unpacked}
 

@@ -1,5 +1,5 @@
 -- How many words bytes and items take.
-use Rattle.std.proofs.Common.{◌≡◌, ℕ, ◌+◌, ◌*◌, ◌<◌, ◌≤◌, List, length, arith}
+use Rattle.std.proofs.Common.{ℕ, ◌+◌, ◌*◌, ◌<◌, ◌≤◌, List, arith}
 use Rattle.mica_words.specs.Item.{KeyFits, ValueFits, words_for, item_size}
 
 -- the words hold the bytes, and fewer would not

@@ -1,7 +1,7 @@
 -- What `pack` and `unpack` have written, whole words first and then the bytes that are left, is what the definitions say.
 use Rattle.std.proofs.Common.{◌≡◌, ◌≢◌, ℕ, zero, suc, ◌+◌, ◌-◌, ◌*◌, ◌/◌, ◌%◌, ◌<◌, ◌≤◌, List, [], ◌∷◌, ◌++◌, length, take, drop, flat_map, slice_index, slice_set, refl, sym, ap, ◌∙◌, subst, arith, inl, inr, append_assoc, length-append, length-drop}
 use Rattle.std.proofs.lemmas.Bool.{cases_lt}
-use Rattle.std.proofs.lemmas.List.{append-nil, drop-drop, drop-take, drop_all, get_or_append_left, get_or-set_other, get_or-set_same, length-set, length-take-le, take-append-le, take_all}
+use Rattle.std.proofs.lemmas.List.{drop-drop, drop-take, get_or_append_left, get_or-set_other, get_or-set_same, length-set, length-take-le, take-append-le, take_all}
 use Rattle.std.proofs.lemmas.List.Concat.{flat_map-cons}
 use Rattle.std.proofs.Math.Seq.{take-append-add, drop-append_seam, take-append_seam, take-length}
 use Rattle.std.specs.Int.{w64, to_le_bytes}
