@@ -6,3 +6,5 @@ pub mod Spares
 pub mod Carried
 pub mod Walks
 pub mod Chains
+pub mod Machine
+pub mod Log
