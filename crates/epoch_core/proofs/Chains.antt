@@ -41,7 +41,7 @@ module _ (o p : OwnerState) (shape : p.shape ≡ o.shape) where
     ]
 
 module _ (o : OwnerState) (s : Kept o) where
-  other_word : (e : Event) (i : ℕ) → i ≢ place_of o.shape e → get_or (after e o).words i 0 ≡ get_or o.words i 0
+  pub other_word : (e : Event) (i : ℕ) → i ≢ place_of o.shape e → get_or (after e o).words i 0 ≡ get_or o.words i 0
   other_word e i n = get_or-set_other o.words (place_of o.shape e) i (word_after e (get_or o.words (place_of o.shape e) 0)) 0 n
 
   same_links : (e : Event) → ((c : ℕ) → IsBucket o.shape c → link_in (after e o) c ≡ link_in o c) → HasChains (after e o)

@@ -8,3 +8,4 @@ pub mod Walks
 pub mod Chains
 pub mod Machine
 pub mod Log
+pub mod Keeps
