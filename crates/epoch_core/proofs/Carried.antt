@@ -145,8 +145,8 @@ module _ (o : OwnerState) (words : List ℕ) (history : History) (phase : Phase)
 
   pub stands_on : (b : ℕ) → IsMain o.shape b → HasChains p → Carries o words history phase b
       → ((other : ℕ) → IsMain o.shape other → other ≢ b → marked_in phase other ≡ 0
-        → Carries o words history phase other
-        × ((c slot entry c' slot' entry' : ℕ) → HasLiveEntry o b c slot entry → HasLiveEntry o other c' slot' entry' → RoomsApart o entry entry'))
+      → Carries o words history phase other
+      × ((c slot entry c' slot' entry' : ℕ) → HasLiveEntry o b c slot entry → HasLiveEntry o other c' slot' entry' → RoomsApart o entry entry'))
       → StandsFor p b
   stands_on b l chains k others = record {
     nothing_else = λ c slot entry h.
@@ -161,17 +161,17 @@ module _ (o : OwnerState) (words : List ℕ) (history : History) (phase : Phase)
         let before = back b k c slot entry h in
         let before' = back b k c' slot' entry' h' in
         k.stands.once c slot entry c' slot' entry' key cell before before'
-          (spells_back b k c slot entry key cell before sp) (spells_back b k c' slot' entry' key cell before' sp');
+        (spells_back b k c slot entry key cell before sp) (spells_back b k c' slot' entry' key cell before' sp');
     rooms = λ c slot entry c' slot' entry' h h' other q i i'.
         let before = back b k c slot entry h in
         let before' = back b k c' slot' entry' h' in
         k.stands.rooms c slot entry c' slot' entry' before before' other q
-          (in_room b k c slot entry q before i) (in_room b k c' slot' entry' q before' i');
+        (in_room b k c slot entry q before i) (in_room b k c' slot' entry' q before' i');
     apart = λ other c slot entry c' slot' entry' main differs unmarked h h' q i i'.
         let of_other = others other main differs unmarked in
         let before = back b k c slot entry h in
         let before' = back other of_other.0 c' slot' entry' h' in
         of_other.1 c slot entry c' slot' entry' before before' q
-          (in_room b k c slot entry q before i) (in_room other of_other.0 c' slot' entry' q before' i');
+        (in_room b k c slot entry q before i) (in_room other of_other.0 c' slot' entry' q before' i');
     chain = has_chain_on o.shape.mode b k l chains k.stands.chain;
   }

@@ -53,8 +53,8 @@ module _ (o : OwnerState) (s : Kept o) where
             let m : IsBucket o.shape b = omega arith in
             let m' : IsBucket o.shape b' = omega arith in
             chains.apart b b' c l l' n
-              (same_among o (after e o) refl same chains (suc o.shape.spares) b c m h)
-              (same_among o (after e o) refl same chains (suc o.shape.spares) b' c m' h');
+            (same_among o (after e o) refl same chains (suc o.shape.spares) b c m h)
+            (same_among o (after e o) refl same chains (suc o.shape.spares) b' c m' h');
       }
 
   -- a link is put
@@ -92,8 +92,8 @@ module _ (o : OwnerState) (s : Kept o) where
     without_ends (suc n) x not (inr h) =
         let same = link_else x (not x (inl refl)) in
         dite (ℕ_discrete (link_in o x) 0)
-          (λ none. inl (same ∙ none))
-          (λ some. inr (subst (EndsWithin p n) (sym same) (without_ends n (link_in o x) (λ z among. not z (inr (some, among))) h)))
+        (λ none. inl (same ∙ none))
+        (λ some. inr (subst (EndsWithin p n) (sym same) (without_ends n (link_in o x) (λ z among. not z (inr (some, among))) h)))
 
     module _ (b : ℕ) (l : IsMain o.shape b) (not : (z : ℕ) → InChain o b z → z ≢ c) where
       chain_back : (y : ℕ) → InChain p b y → InChain o b y
@@ -105,7 +105,7 @@ module _ (o : OwnerState) (s : Kept o) where
     links_after : (d : ℕ) → IsBucket o.shape d → (link_in p d ≡ 0) ⊎ IsSpare o.shape (link_in p d)
     links_after d l = dite (ℕ_discrete d c)
         (λ is. subst (λ (z : ℕ). (z ≡ 0) ⊎ IsSpare o.shape z) (sym (ap (link_in p) is ∙ link_here))
-          (elim a.free [ inl none ↦ inl none | inr free ↦ inr free.0.spare ]))
+        (elim a.free [ inl none ↦ inl none | inr free ↦ inr free.0.spare ]))
         (λ n. subst (λ (z : ℕ). (z ≡ 0) ⊎ IsSpare o.shape z) (sym (link_else d n)) (s.chains.links d l))
 
     -- the chain that has the changed bucket goes there as before, and then on to the next
@@ -127,16 +127,16 @@ module _ (o : OwnerState) (s : Kept o) where
       own_back (suc n) x y (inl is) = inl (inl is)
       own_back (suc n) x y (inr h) = dite (ℕ_discrete x c)
           (λ is.
-            let to : link_in p x ≡ next = ap (link_in p) is ∙ link_here in
-            let some : next ≢ 0 = λ none. h.0 (to ∙ none) in
-            inr (some, behind_next some n y (subst (λ (z : ℕ). IsAmong p n z y) to h.1)))
+          let to : link_in p x ≡ next = ap (link_in p) is ∙ link_here in
+          let some : next ≢ 0 = λ none. h.0 (to ∙ none) in
+          inr (some, behind_next some n y (subst (λ (z : ℕ). IsAmong p n z y) to h.1)))
           (λ other.
-            let same = link_else x other in
-            let some : link_in o x ≢ 0 = λ none. h.0 (same ∙ none) in
-            elim (own_back n (link_in o x) y (subst (λ (z : ℕ). IsAmong p n z y) same h.1)) [
-              | inl among ↦ inl (inr (some, among))
-              | inr is ↦ inr is
-            ])
+          let same = link_else x other in
+          let some : link_in o x ≢ 0 = λ none. h.0 (same ∙ none) in
+          elim (own_back n (link_in o x) y (subst (λ (z : ℕ). IsAmong p n z y) same h.1)) [
+            | inl among ↦ inl (inr (some, among))
+            | inr is ↦ inr is
+          ])
 
       ends_cut : next ≡ 0 → (n x : ℕ) → EndsWithin o n x → EndsWithin p n x
       ends_cut none zero x h = absurd h
@@ -224,6 +224,6 @@ module _ (o : OwnerState) (s : Kept o) where
   chains_after (PutsEntry d slot entry) a =
       let small = a.in_bucket in
       same_links (PutsEntry d slot entry) (λ c l. other_word (PutsEntry d slot entry) (link_at o.shape c) (λ same.
-        let is = same_slot o.shape c d 15 slot (omega arith) (omega arith) same in absurd (omega arith)))
+      let is = same_slot o.shape c d 15 slot (omega arith) (omega arith) same in absurd (omega arith)))
   chains_after (PutsLink c next) a = link_chains c next a o.phase refl a.its_bucket
   chains_after (Ends b) a = same_links (Ends b) (λ c l. other_word (Ends b) (link_at o.shape c) (no_epoch o.shape b c 15 (ends_main o s o.phase refl b a.marked) (omega arith)))

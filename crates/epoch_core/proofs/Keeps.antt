@@ -71,7 +71,7 @@ module _ (o : OwnerState) (s : Kept o) where
       let wide = s.wide in
       let at : place_of o.shape e ≡ epoch_at c = is ∙ ap epoch_at (sym same) in
       subst (λ (z : ℕ). get_or (after e o).words z 0 ≡ get_or o.words z 0 + 1) at
-        (this_word e (omega arith) ∙ adds (get_or o.words (place_of o.shape e) 0))
+      (this_word e (omega arith) ∙ adds (get_or o.words (place_of o.shape e) 0))
 
   -- Events that change neither history nor stamp carry what the words stand for in unmarked buckets.
   module _ (e : Event) (a : IsAllowed e o) (history : (after e o).history ≡ o.history) (stamp : stamp_in (after e o) ≡ stamp_in o) where
@@ -90,8 +90,8 @@ module _ (o : OwnerState) (s : Kept o) where
     still_state before b l none =
         let was = before b none in
         stands_on o (words_after e o) (history_after e o.history) (phase_after e o) b l (chains_after o s e a) (still b l was)
-          (λ other m n unmarked. let was' = before other unmarked in
-            (still other m was', λ c slot entry c' slot' entry'. (s.state b l was).apart other c slot entry c' slot' entry' m n was'))
+        (λ other m n unmarked. let was' = before other unmarked in
+        (still other m was', λ c slot entry c' slot' entry'. (s.state b l was).apart other c slot entry c' slot' entry' m n was'))
 
   phase_same : (e : Event) → (after e o).history ≡ o.history → (after e o).phase ≡ o.phase → PhaseFits (after e o) (after e o).phase
   phase_same e history phase = by_phase o.phase (after e o).phase phase s.phase
@@ -139,8 +139,8 @@ module _ (o : OwnerState) (s : Kept o) where
             let marked = none c in
             let begun : begun_in o.phase c ≡ 0 = ap (λ (z : Phase). begun_in z c) idle in
             dite (ℕ_discrete c b)
-              (λ is. let one = bit_same b c (sym is) in let more = epoch_here (Begins b) b c refl a.main (λ n. refl) is in omega arith)
-              (λ n. let zero = bit_else b c (λ same. n (sym same)) in let same = epoch_else (Begins b) b c refl n in omega arith);
+            (λ is. let one = bit_same b c (sym is) in let more = epoch_here (Begins b) b c refl a.main (λ n. refl) is in omega arith)
+            (λ n. let zero = bit_else b c (λ same. n (sym same)) in let same = epoch_else (Begins b) b c refl n in omega arith);
         state = still_state (Begins b) a refl same_stamp (λ c unmarked. none c);
         phase = (a.main, a.not_worn);
       }
@@ -199,10 +199,11 @@ module _ (o : OwnerState) (s : Kept o) where
               omega arith;
           state = λ c l unmarked.
               stands_on o (words_after (Marks write n) o) (o.history ++ write ∷ []) (phase_after (Marks write n) o) c l (chains_after o s (Marks write n) a)
-                (marked_carries c l (unmarked_other c unmarked))
-                (λ other m differs unmarked'.
-                  (marked_carries other m (unmarked_other other unmarked'),
-                  λ d slot entry d' slot' entry'. (s.state c l (none c)).apart other d slot entry d' slot' entry' m differs (none other)));
+              (marked_carries c l (unmarked_other c unmarked))
+              (λ other m differs unmarked'. (
+                marked_carries other m (unmarked_other other unmarked'),
+                λ d slot entry d' slot' entry'. (s.state c l (none c)).apart other d slot entry d' slot' entry' m differs (none other),
+              ));
           phase = (refl, refl);
         }
 
@@ -254,11 +255,11 @@ module _ (o : OwnerState) (s : Kept o) where
           let begun : begun_in o.phase c ≡ 0 = ap (λ (z : Phase). begun_in z c) (marked_is o.phase b a.marked).2 in
           let marked = marked_here c in
           dite (ℕ_discrete c b)
-            (λ is. let one = bit_same b c (sym is) in let more = epoch_here (Ends b) b c refl main (λ n. refl) is in omega arith)
-            (λ n. let zero = bit_else b c (λ same. n (sym same)) in let same = epoch_else (Ends b) b c refl n in omega arith);
+          (λ is. let one = bit_same b c (sym is) in let more = epoch_here (Ends b) b c refl main (λ n. refl) is in omega arith)
+          (λ n. let zero = bit_else b c (λ same. n (sym same)) in let same = epoch_else (Ends b) b c refl n in omega arith);
       state = λ c l unmarked.
           stands_on o (words_after (Ends b) o) o.history Idle c l (chains_after o s (Ends b) a) (ended_carries c l)
-            (λ other m n unmarked'. (ended_carries other m, λ d slot entry d' slot' entry'. rooms_apart c other d slot entry d' slot' entry' l m n));
+          (λ other m n unmarked'. (ended_carries other m, λ d slot entry d' slot' entry'. rooms_apart c other d slot entry d' slot' entry' l m n));
       phase = tt;
     }
 

@@ -1,3 +1,4 @@
+pub mod Shapes
 pub mod Places
 pub mod Made
 pub mod Reach
@@ -9,3 +10,5 @@ pub mod Chains
 pub mod Machine
 pub mod Log
 pub mod Keeps
+pub mod Inside
+pub mod DiaryKeeps

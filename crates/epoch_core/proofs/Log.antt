@@ -50,7 +50,7 @@ pub room_is : (o : OwnerState) → Kept o → (b entry : ℕ) (key : List ℕ) (
 room_is o s b entry key cell sp =
     let fits = has_fits (options_in o) o.history s.history.writes key cell (entry_offset entry) sp.has in
     let word : item_in o (entry_offset entry) ≡ header_of cell.room (length key) (length cell.value) =
-        ap (item_in o) (sym (add-zero (entry_offset entry))) ∙ (sp.item 0 (omega arith) ∙ header_word cell.room key cell.value) in
+    ap (item_in o) (sym (add-zero (entry_offset entry))) ∙ (sp.item 0 (omega arith) ∙ header_word cell.room key cell.value) in
     ap header_room word ∙ header_room-header_of cell.room (length key) (length cell.value) fits.5
 
 pub log_spares : (o : OwnerState) → Kept o → LogSpares o
@@ -59,12 +59,12 @@ log_spares o s b write history before c slot entry other p is at belongs l n h i
     let all = all_parts IsWrite history write (subst (AllByRecursion IsWrite) fits.1 s.history.writes) in
     let options = options_in o in
     let now : state_in o ≡ cache_state (cs.after (options_in o) before write) =
-        ap (state_of (options_in o)) fits.1 ∙ (state_snoc (options_in o) history write ∙ ap (λ (z : State). after (options_in o) z write) at) in
+    ap (state_of (options_in o)) fits.1 ∙ (state_snoc (options_in o) history write ∙ ap (λ (z : State). after (options_in o) z write) at) in
     let unmarked : marked_in o.phase other ≡ 0 = ap (λ (z : Phase). marked_in z other) is ∙ bit_else b other (λ same. n (sym same)) in
     let some = (s.state other l unmarked).nothing_else c slot entry h in
     let sp = some.2 in
     let found = found_record (record_of (cs.after (options_in o) before write) some.0) some.1 (entry_offset entry)
-        (subst (λ (z : State). Has z some.0 some.1 (entry_offset entry)) now sp.has) in
+    (subst (λ (z : State). Has z some.0 some.1 (entry_offset entry)) now sp.has) in
     let mine = own (options_in o) s.shape.ranges history all.0 write all.1 before at p belongs in
     let room = room_is o s other entry some.0 some.1 sp in
     let others : some.0 ≢ write.key = λ same. n (sym sp.bucket ∙ (ap (bucket_in o) same ∙ sym fits.0)) in
@@ -76,9 +76,9 @@ log_spares o s b write history before c slot entry other p is at belongs l n h i
     let least = mine.2 in
     let most = mine.3 in
     let one : entry_offset entry + i.0 ≡ p =
-        one_place o.shape.words (tail_of (cs.after (options_in o) before write).stamp) (entry_offset entry + i.0) p
-          (let e = i.2 in omega arith) (omega arith) (omega arith) (omega arith) (omega arith) in
+    one_place o.shape.words (tail_of (cs.after (options_in o) before write).stamp) (entry_offset entry + i.0) p
+    (let e = i.2 in omega arith) (omega arith) (omega arith) (omega arith) (omega arith) in
     ⊎_elim
-      (λ (first : found.0.offset + found.0.room ≤ mine.0.offset). omega arith)
-      (λ (second : mine.0.offset + mine.0.room ≤ found.0.offset). omega arith)
-      (apart (options_in o) history all.0 write all.1 before at some.0 write.key found.0 mine.0 found.1 mine.1 others)
+    (λ (first : found.0.offset + found.0.room ≤ mine.0.offset). omega arith)
+    (λ (second : mine.0.offset + mine.0.room ≤ found.0.offset). omega arith)
+    (apart (options_in o) history all.0 write all.1 before at some.0 write.key found.0 mine.0 found.1 mine.1 others)

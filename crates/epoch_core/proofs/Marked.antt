@@ -1,5 +1,5 @@
 -- The bucket whose write is marked, and the buckets that its write may change.
-use Rattle.std.proofs.Common.{◌≡◌, ℕ, zero, suc, ◌+◌, ◌<◌, ◌≢◌, inl, inr, ◌⊎◌, List, Bool, if◌then◌else◌, nat_eq, eq-eqb, ne_eqb, refl, sym, ap, ◌∙◌, subst, arith}
+use Rattle.std.proofs.Common.{◌≡◌, ℕ, zero, suc, ◌+◌, ◌<◌, ◌≤◌, ◌≢◌, inl, inr, ◌⊎◌, List, Bool, true, false, if◌then◌else◌, nat_eq, eq-eqb, ne_eqb, refl, sym, ap, ◌∙◌, subst, arith}
 use Rattle.std.proofs.Math.Nat.{mod-lt}
 use Rattle.std.proofs.lemmas.Nat.{pow_pos}
 use native.Mathlib.Decide.{ℕ_discrete}
@@ -32,6 +32,9 @@ bit_same c b e = ap (λ (z : Bool). if z then 1 else 0) (eq-eqb c b e)
 
 pub bit_else : (c b : ℕ) → c ≢ b → bit c b ≡ 0
 bit_else c b n = ap (λ (z : Bool). if z then 1 else 0) (ne_eqb c b n)
+
+pub bit_le : (c b : ℕ) → bit c b ≤ 1
+bit_le c b = elim (nat_eq c b) as (λ (z : Bool). (if z then 1 else 0) ≤ 1) [ true ↦ omega arith | false ↦ omega arith ]
 
 pub bit_is : (c b : ℕ) → bit c b ≡ 1 → c ≡ b
 bit_is c b e = dite (ℕ_discrete c b) (λ is. is) (λ n. let zero = bit_else c b n in absurd (omega arith))

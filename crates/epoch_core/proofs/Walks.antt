@@ -92,8 +92,7 @@ module _ (o : OwnerState) (chains : HasChains o) where
   all_other zero x y s l h low none = tt
   all_other (suc k) x y s l h low none =
       let spare = link_spare x l h.0 in
-      let here : s ≢ link_in o x = none 0 (link_in o x) (omega arith) (h.0, refl) in
-      (
+      let here : s ≢ link_in o x = none 0 (link_in o x) (omega arith) (h.0, refl) in (
         other_number s (link_in o x) o.shape.buckets low spare.0 here,
         all_other k (link_in o x) y s spare.1 h.1 low (λ i z less behind. none (suc i) z (omega arith) (h.0, behind)),
       )
@@ -104,10 +103,9 @@ module _ (o : OwnerState) (chains : HasChains o) where
   distinct zero (suc k) x y l ends h = absurd ends
   distinct (suc n) (suc k) x y l (inl none) h = absurd (h.0 none)
   distinct (suc n) (suc k) x y l (inr ends) h =
-      let spare = link_spare x l h.0 in
-      (
+      let spare = link_spare x l h.0 in (
         all_other k (link_in o x) y (link_in o x) spare.1 h.1 spare.0
-          (λ i z less behind is. no_round o n n i (link_in o x) (omega arith) ends (subst (IsBehind o (suc i) (link_in o x)) (sym is) behind)),
+            (λ i z less behind is. no_round o n n i (link_in o x) (omega arith) ends (subst (IsBehind o (suc i) (link_in o x)) (sym is) behind)),
         distinct n k (link_in o x) y spare.1 ends h.1,
       )
 
@@ -120,13 +118,13 @@ module _ (o : OwnerState) (chains : HasChains o) where
       let high = free.spare.1 in
       let short = ends_behind o k (suc o.shape.spares) b c ends h in
       let others = all_other k b c next bucket h low (λ i z less behind is.
-          let close = ends_behind o (suc i) (suc o.shape.spares) b z ends behind in
-          free.free b main (subst (InChain o b) (sym is)
-            (among_of_behind o (suc i) (suc o.shape.spares) b z (elim close.0 as (λ r. r + suc i ≡ suc o.shape.spares → EndsWithin o r z → suc i < suc o.shape.spares) [
-              | zero ↦ λ e f. absurd f
-              | suc r ↦ λ e f. omega arith
-            ] close.1 close.2) behind))) in
+      let close = ends_behind o (suc i) (suc o.shape.spares) b z ends behind in
+      free.free b main (subst (InChain o b) (sym is)
+      (among_of_behind o (suc i) (suc o.shape.spares) b z (elim close.0 as (λ r. r + suc i ≡ suc o.shape.spares → EndsWithin o r z → suc i < suc o.shape.spares) [
+        | zero ↦ λ e f. absurd f
+        | suc r ↦ λ e f. omega arith
+      ] close.1 close.2) behind))) in
       let count = length-le_from_distinct_below ((next - o.shape.buckets) ∷ spares_behind o k b) o.shape.spares
-          (IsDistinct-cons eqb (next - o.shape.buckets) (spares_behind o k b) others (distinct (suc o.shape.spares) k b c bucket ends h))
-          (below_all o.shape.spares ((next - o.shape.buckets) ∷ spares_behind o k b) (omega arith, all_below k b c bucket h)) in
+      (IsDistinct-cons eqb (next - o.shape.buckets) (spares_behind o k b) others (distinct (suc o.shape.spares) k b c bucket ends h))
+      (below_all o.shape.spares ((next - o.shape.buckets) ∷ spares_behind o k b) (omega arith, all_below k b c bucket h)) in
       omega (arith, length_spares o k b)

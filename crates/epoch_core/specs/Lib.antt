@@ -7,3 +7,4 @@ pub mod StandsFor
 pub mod Events
 pub mod Kept
 pub mod OwnerStep
+pub mod Diary

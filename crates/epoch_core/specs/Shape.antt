@@ -1,5 +1,6 @@
 -- The shape of a partition, and the options that its machine goes by.
-use Rattle.std.specs.Prelude.{◌≡◌, ℕ, ◌+◌, ◌<◌, ◌≤◌}
+use Rattle.std.specs.Prelude.{◌≡◌, ℕ, ◌+◌, ◌<◌, ◌≤◌, Bool, ◌&&◌, nat_le}
+use Rattle.std.specs.Int.{is_power_of_two}
 use Rattle.mica_model.specs.declared.options.Mode.{Mode}
 use Rattle.mica_model.specs.declared.options.Mode.TheVariants.{Cache, Store}
 use Rattle.mica_model.specs.declared.options.Options.{Options}
@@ -37,6 +38,14 @@ options_of shape = record {
 pub record IsValidShape (shape : Shape) : Type 0 where
   pub ranges : IsValid (options_of shape)
   pub no_spares : shape.mode ≡ Cache → shape.spares ≡ 0
+
+-- the same as a test
+abbrev pub is_in_range : Shape → Bool
+is_in_range shape =
+    is_power_of_two shape.buckets && nat_le shape.buckets 65536
+    && nat_le shape.spares (spares_in shape.mode 65536)
+    && nat_le 256 shape.words && nat_le shape.words 1048576
+    && nat_le 1 shape.wear && nat_le shape.wear 68719476736
 
 -- main buckets have an epoch, and a key's bucket is one of them
 abbrev pub IsMain : Shape → ℕ → Type 0

@@ -6,12 +6,14 @@
 
 mod event;
 mod partition;
+mod plain;
 mod shape;
 mod state;
 mod words;
 
 pub use event::{Event, OwnerEvent};
 pub use partition::Partition;
+pub use plain::{Alone, Blank, Diary, Happens, PlainWords};
 pub use shape::{Shape, WordAt};
 pub use state::{OwnerState, Phase};
 pub use words::OwnerWords;

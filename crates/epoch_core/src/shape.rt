@@ -1,7 +1,7 @@
 //! The shape of a partition, and its words by their meaning.
-ghost use Rattle.std.specs.Prelude.{◌≡◌, ◌+◌, ◌*◌, ◌%◌, ◌<◌};
-ghost use Rattle.epoch_core.specs.Shape.{shape_of, IsValidShape};
-ghost use Rattle.epoch_core.specs.Layout.{entries_at, place_at, word_count, IsInside};
+ghost use Rattle.std.specs.Prelude.{◌≡◌, ◌↔◌, IsTrue, ◌+◌, ◌*◌, ◌%◌, ◌<◌};
+ghost use Rattle.epoch_core.specs.Shape.{shape_of, IsValidShape, is_in_range};
+ghost use Rattle.epoch_core.specs.Layout.{entries_at, place_at, word_count};
 
 use mica_model::{Mode, Options};
 
@@ -47,10 +47,32 @@ impl Shape {
         }
     }
 
+    /// Whether each field is in its range.
+    pub fn is_valid(&self) -> bool
+        ensures { IsTrue result ↔ IsValidShape self.now }
+    {
+        self.is_in_range()
+    }
+
+    fn is_in_range(&self) -> bool
+        ensures { result ≡ is_in_range self.now }
+    {
+        let spares = match self.mode {
+            Mode::Cache => 0,
+            Mode::Store => 65_536,
+        };
+        self.buckets.is_power_of_two()
+            && self.buckets <= 65_536
+            && self.spares <= spares
+            && 256 <= self.words
+            && self.words <= 1_048_576
+            && 1 <= self.wear
+            && self.wear <= 68_719_476_736
+    }
+
     /// Where the word lies.
     pub fn place(&self, at: WordAt) -> usize
-        requires valid { IsValidShape self.now }
-        requires inside { IsInside self.now at }
+        requires { 0 < self.now.words }
         ensures { result ≡ place_at self.now at }
     {
         match at {
