@@ -1,22 +1,20 @@
 -- After each event each link is 0 or names a spare bucket, each chain ends, and no spare bucket is in two.
-use Rattle.std.proofs.Common.{◌≡◌, ℕ, zero, suc, ◌+◌, ◌<◌, ◌≤◌, ◌≢◌, inl, inr, ◌⊎◌, List, length, refl, sym, ap, ◌∙◌, subst, arith, get_or, get_or-set_other, get_or-set_same}
+use Rattle.std.proofs.Common.{◌≡◌, ℕ, zero, suc, ◌<◌, ◌≢◌, inl, inr, ◌⊎◌, length, refl, sym, ap, ◌∙◌, subst, arith, get_or, get_or-set_other, get_or-set_same}
 use mathlib.Core.Logic.{dite}
 use native.Mathlib.Decide.{ℕ_discrete}
-use Rattle.mica_model.specs.declared.write.Write.{Write}
-use Rattle.mica_model.specs.History.{History}
 use Rattle.epoch_core.specs.declared.state.OwnerState.{OwnerState}
 use Rattle.epoch_core.specs.declared.state.Phase.{Phase}
 use Rattle.epoch_core.specs.declared.state.Phase.TheVariants.{Idle, Begun, Marked}
 use Rattle.epoch_core.specs.declared.event.Event.{Event}
 use Rattle.epoch_core.specs.declared.event.Event.TheVariants.{Begins, Marks, PutsWord, PutsEntry, PutsLink, Ends}
 use Rattle.epoch_core.specs.Shape.{IsMain, IsSpare, IsBucket}
-use Rattle.epoch_core.specs.Layout.{stamp_at, epoch_at, entry_at, link_at, item_at, word_count}
+use Rattle.epoch_core.specs.Layout.{link_at}
 use Rattle.epoch_core.specs.OwnerState.{link_in}
 use Rattle.epoch_core.specs.Chain.{IsAmong, EndsWithin, InChain, HasChains, IsFreeSpare}
 use Rattle.epoch_core.specs.Events.{WhenMarked, MayPutLink, IsAllowed, place_of, word_after, after}
 use Rattle.epoch_core.specs.Kept.{Kept}
 use Rattle.epoch_core.proofs.Places.{same_bucket, same_slot, no_epoch, no_stamp, no_item}
-use Rattle.epoch_core.proofs.Marked.{marked_main, its_inside, its_bucket, ends_main}
+use Rattle.epoch_core.proofs.Marked.{marked_main, its_inside, ends_main}
 use Rattle.epoch_core.proofs.Walks.{IsBehind, behind_of_among, ends_more, free_counts}
 
 -- Where no link of a bucket changes, no chain does.

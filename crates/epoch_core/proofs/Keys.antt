@@ -1,12 +1,10 @@
 -- The words of an item that spells a key hold that key, and no other.
-use Rattle.std.proofs.Common.{◌≡◌, ℕ, ◌+◌, ◌<◌, ◌↔◌, List, length, slice_index, refl, sym, ap, ◌∙◌, subst, arith, add-zero}
+use Rattle.std.proofs.Common.{◌≡◌, ℕ, ◌+◌, ◌<◌, List, length, slice_index, sym, ap, ◌∙◌, subst, arith, add-zero}
 use Rattle.std.proofs.lemmas.Grind.{same_number_lists}
 use Rattle.mica_words.specs.Entry.{entry_offset}
-use Rattle.mica_words.specs.Hash.{fnv1a}
 use Rattle.mica_words.specs.Header.{header_of, header_key_len}
 use Rattle.mica_words.specs.Item.{words_for}
 use Rattle.mica_words.specs.Packing.{AreBytes, packed}
-use Rattle.mica_words.specs.Spelling.{item_words}
 use Rattle.mica_words.proofs.Fields.{header_key_len-header_of}
 use Rattle.mica_words.proofs.ItemWords.{header_word, hash_word, packed_key_word}
 use Rattle.mica_words.proofs.PackedBytes.{length-packed, same_from_words}
@@ -27,7 +25,7 @@ module _ (o : OwnerState) (s : Kept o) (b entry : ℕ) (key : List ℕ) (cell : 
       let fits = has_fits (options_in o) o.history s.history.writes key cell (entry_offset entry) sp.has in
       let key_fits = fits.0 in
       let word : item_in o (entry_offset entry) ≡ header_of cell.room (length key) (length cell.value) =
-          ap (item_in o) (sym (add-zero (entry_offset entry))) ∙ (sp.item 0 (omega arith) ∙ header_word cell.room key cell.value) in
+      ap (item_in o) (sym (add-zero (entry_offset entry))) ∙ (sp.item 0 (omega arith) ∙ header_word cell.room key cell.value) in
       ap header_key_len word ∙ header_key_len-header_of cell.room (length key) (length cell.value) fits.5 (omega arith)
 
   key_word : (i : ℕ) → i < words_for (length key) → item_in o (entry_offset entry + 2 + i) ≡ slice_index (packed key) i
@@ -46,8 +44,8 @@ module _ (o : OwnerState) (s : Kept o) (b entry : ℕ) (key : List ℕ) (cell : 
       let fits = has_fits (options_in o) o.history s.history.writes key cell (entry_offset entry) sp.has in
       let long : length key ≡ length other = sym key_len ∙ h.len in
       let words : packed key ≡ packed other = same_number_lists (packed key) (packed other)
-          (length-packed key ∙ (ap words_for long ∙ sym (length-packed other)))
-          (λ i l.
-            let below : i < words_for (length key) = omega (arith, length-packed key) in
-            sym (key_word i below) ∙ h.words i (subst (λ (z : ℕ). i < words_for z) long below)) in
+      (length-packed key ∙ (ap words_for long ∙ sym (length-packed other)))
+      (λ i l.
+      let below : i < words_for (length key) = omega (arith, length-packed key) in
+      sym (key_word i below) ∙ h.words i (subst (λ (z : ℕ). i < words_for z) long below)) in
       same_from_words key other fits.1 bytes long words

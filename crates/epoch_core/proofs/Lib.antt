@@ -15,3 +15,4 @@ pub mod DiaryKeeps
 pub mod Puts
 pub mod SameMachine
 pub mod Keys
+pub mod EventWords

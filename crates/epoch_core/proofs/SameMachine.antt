@@ -1,5 +1,5 @@
 -- The machine of options is that of their shape: it reads no other option, and in cache mode no spares.
-use Rattle.std.proofs.Common.{◌≡◌, ◌≢◌, ℕ, inl, inr, ◌⊎◌, [], ◌∷◌, Option, Some, None, refl, sym, ap, ◌∙◌, subst, arith, ◌+◌}
+use Rattle.std.proofs.Common.{◌≡◌, ℕ, inl, inr, [], ◌∷◌, Option, Some, None, refl, sym, ap, ◌∙◌, subst, arith, ◌+◌}
 use Rattle.std.specs.List.{fold}
 use Rattle.mica_model.specs.declared.options.Options.{Options}
 use Rattle.mica_model.specs.declared.options.Mode.{Mode}
@@ -46,7 +46,7 @@ module _ (options : Options) where
   unfolding cs.after
   same_after (cache_state s) write =
       ap (λ (z : cache.Cache). cache_state (record (cs.without_displaced options write.key (cs.without_passed options z)) { accepted = s.accepted + 1 }))
-        (same_op write.op s write)
+      (same_op write.op s write)
   same_after (store_state s) write = refl
 
   same_from : (now : State) (history : History) → fold (after shaped) now history ≡ fold (after options) now history
