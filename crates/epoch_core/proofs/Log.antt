@@ -1,5 +1,5 @@
 -- A word of the marked write in cache mode is in no room of a live item of another bucket: the log's window and its rooms say so.
-use Rattle.std.proofs.Common.{◌≡◌, ℕ, zero, suc, ◌+◌, ◌*◌, ◌/◌, ◌%◌, ◌<◌, ◌≤◌, ◌≢◌, inl, inr, ◌⊎◌, List, length, Some, sym, ap, ◌∙◌, subst, arith, add-zero, ⊎_elim}
+use Rattle.std.proofs.Common.{◌≡◌, ℕ, ◌+◌, ◌*◌, ◌/◌, ◌%◌, ◌<◌, ◌≤◌, ◌≢◌, inl, inr, ◌⊎◌, List, length, Some, sym, ap, ◌∙◌, subst, arith, add-zero, ⊎_elim}
 use Rattle.std.specs.List.{AllByRecursion}
 use Rattle.std.proofs.Math.Nat.{mul-le-mul_left, mul-suc, div-add-mod}
 use Rattle.std.proofs.lemmas.Bool.{cases_lt}
