@@ -58,6 +58,11 @@ pub record IsWithinLimits (lines : List TraceLine) : Type 0 where
   pub few_lines : length lines ≤ MAX_LINES
   pub few_rounds : syncs_in lines < MAX_ROUNDS
 
+-- after this many lines and syncs a trace may have the line
+pub record HasLineRoom (lines syncs : ℕ) (line : TraceLine) : Type 0 where
+  pub line_room : lines < MAX_LINES
+  pub round_room : is_sync line ≡ true → syncs + 1 < MAX_ROUNDS
+
 -- the text spells these lines, one after another
 pub record IsTrace (text : List ℕ) (lines : List TraceLine) : Type 0 where
   pub spelled : AllZip IsTextOf (lines_of text) lines
