@@ -1,6 +1,6 @@
 -- clap reads options as the grammar does.
 use Rattle.std.proofs.Common.{◌≡◌, ◌≢◌, ℕ, ◌==◌, ◌&&◌, ◌||◌, Bool, true, false, not, true≢false, List, [], ◌∷◌, ◌++◌, map, Option, Some, None, sym, refl, ap, ◌∙◌, subst, ⊎_elim, append-nil, one-add, arith}
-use Rattle.std.specs.Prelude.{find, fold, codes, option_and_then, option_map, slice_get, if◌then◌else◌}
+use Rattle.std.specs.Prelude.{find, fold, option_and_then, option_map, slice_get, if◌then◌else◌}
 use Rattle.std.specs.List.{list_any, before_first, after_first}
 use Rattle.std.specs.Str.{bytes_eq}
 use Rattle.std.proofs.lemmas.Slice.Eq.{bytes_eq-Decides}
@@ -16,7 +16,6 @@ use Rattle.clap.specs.declared.parser.matches.Found.{Found}
 use Rattle.clap.specs.declared.parser.matches.ArgMatches.{ArgMatches}
 use Rattle.clap.specs.declared.error.Error.{Error}
 use Rattle.clap.specs.declared.error.kind.ErrorKind.TheVariants.{OutOfMemory}
-use Rattle.std.specs.Borrow.{Bor}
 use Rattle.clap.specs.Faults.{fault_of, turn_fault, walk_fault, settle_fault, defaults_fault, is_simple_and_free, given_default_fault, entered_fault, built_fault}
 use Rattle.clap.specs.declared.parser.matches.ValueSource.TheVariants.{CommandLine}
 use Rattle.clap.specs.Values.{reading_of}
@@ -24,7 +23,7 @@ use Rattle.clap.specs.declared.builder.value_parser.Reading.{Reading}
 use Rattle.clap.specs.declared.builder.value_parser.ValueParser.TheVariants.{String}
 use Rattle.clap.specs.Lexer.{strip_byte}
 use Rattle.mica_cmd.specs.ClapCommand.{option_rule, command_shape, app_with, is_stray, is_blank, IsGiven}
-use Rattle.mica_cmd.specs.Words.{Text, Given, has_name, is_given, text_of, behind_hyphen, behind_hyphens, begins_with_hyphen, is_equals_sign, Word, named, valued, other, word_by, word_of, on_word, give, given_after, given_by}
+use Rattle.mica_cmd.specs.Words.{Text, Given, has_name, is_given, text_of, behind_hyphen, begins_with_hyphen, is_equals_sign, Word, named, valued, other, word_by, word_of, on_word, give, given_after, given_by}
 
 -- the option as building leaves it
 abbrev opt : Text → Rule

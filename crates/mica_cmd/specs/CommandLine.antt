@@ -1,7 +1,7 @@
 -- The commands, their options, and the command that words give.
-use Rattle.std.specs.Prelude.{◌≡◌, ℕ, ◌==◌, ◌&&◌, ◌||◌, not, nat_le, Bool, false, List, [], ◌∷◌, Option, Some, None, if◌then◌else◌, option_and_then, option_map, map, codes, bytes_eq}
-use Rattle.std.specs.List.{list_all}
-use Rattle.std.specs.Int.{is_power_of_two}
+use Rattle.std.specs.Prelude.{◌≡◌, ℕ, ◌&&◌, Bool, false, List, [], ◌∷◌, Option, Some, None, if◌then◌else◌, option_and_then, option_map, codes, bytes_eq}
+use Rattle.std.specs.Int.{is_power_of_two, is_in_range}
+use Rattle.std.specs.Str.{all_ascii_digits}
 use Rattle.std.specs.Str.Parse.{digits_value}
 use Rattle.mica_model.specs.declared.options.Options.{Options}
 use Rattle.mica_model.specs.declared.options.Mode.{Mode}
@@ -11,19 +11,20 @@ use Rattle.mica_cmd.specs.declared.command.Command.{Command}
 use Rattle.mica_cmd.specs.declared.command.Command.TheVariants.{Replay}
 use Rattle.mica_cmd.specs.Words.{Text, given_by, text_of}
 
-abbrev pub is_digit : ℕ → Bool
-is_digit x = nat_le 48 x && nat_le x 57
+-- a digit, which is no zero where more follows
+abbrev pub begins_number : Text → Bool
+begins_number [] = false
+begins_number (x ∷ []) = is_in_range 48 57 x
+begins_number (x ∷ y ∷ ys) = is_in_range 49 57 x
 
--- one digit or more, of which the first is no zero unless it stands alone
+-- digits alone, and no zero before others
 abbrev pub is_number : Text → Bool
-is_number [] = false
-is_number (x ∷ []) = is_digit x
-is_number (x ∷ y ∷ ys) = not (x == 48) && list_all is_digit (x ∷ y ∷ ys)
+is_number text = begins_number text && all_ascii_digits text
 
 -- the number that a text writes, where it is one of this range
 abbrev pub number_of : ℕ → ℕ → Text → Option ℕ
 number_of least most text =
-    if is_number text && nat_le least (digits_value 10 text) && nat_le (digits_value 10 text) most then Some (digits_value 10 text) else None
+    if is_number text && is_in_range least most (digits_value 10 text) then Some (digits_value 10 text) else None
 
 abbrev pub power_of_two_of : ℕ → Text → Option ℕ
 power_of_two_of most text = option_and_then (λ n. if is_power_of_two n then Some n else None) (number_of 1 most text)

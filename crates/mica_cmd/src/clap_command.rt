@@ -1,5 +1,6 @@
 // Command lines as clap takes them apart: options with one value each, and nothing else.
 ghost use Rattle.std.specs.Prelude.{◌≡◌, IfOk, IfErr, None, [], false, true, map, string_bytes};
+ghost use Rattle.std.specs.List.{list_any};
 ghost use Rattle.clap.specs.Walk.{rule_of};
 ghost use Rattle.clap.specs.Simple.{app_of};
 ghost use Rattle.clap.specs.Faults.{is_simple_and_free};
@@ -48,6 +49,12 @@ fn is_stray(word: &str) -> bool
     }
 }
 
+fn has_stray(words: &[String]) -> bool
+    ensures { result ≡ list_any (λ w. is_stray (string_bytes w)) words.now }
+{
+    words.iter().any(|word| is_stray(word.as_str()))
+}
+
 /// What the words behind the name of a command give to its options.
 pub fn matches_of<'a>(
     alloc: Global,
@@ -62,7 +69,7 @@ pub fn matches_of<'a>(
     ensures refused { IfErr result (λ e. e ≡ WordsFault.Usage
         → given_by (map (λ o. o.now) options.now) (map string_bytes words.entry.now) ≡ None) }
 {
-    if words.iter().any(|word| is_stray(word.as_str())) {
+    if has_stray(words) {
         return Err(WordsFault::Usage);
     }
     let Ok(command) = clap_command(alloc, name, options) else {

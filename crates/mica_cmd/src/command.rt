@@ -44,8 +44,10 @@ pub fn read_words(alloc: Global, words: &[String]) -> Result<Command, WordsFault
     match name.as_str() {
         "replay" => {
             let found = matches_of(alloc, "replay", REPLAY_OPTIONS.as_slice(), rest)?;
-            let options = replay_options(&found).ok_or(WordsFault::Usage)?;
-            Ok(Command::Replay(options))
+            match replay_options(&found) {
+                Some(options) => Ok(Command::Replay(options)),
+                None => Err(WordsFault::Usage),
+            }
         }
         _ => Err(WordsFault::Usage),
     }

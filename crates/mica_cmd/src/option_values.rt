@@ -2,22 +2,25 @@
 ghost use Rattle.std.specs.Prelude.{◌≡◌, Some, None, option_map, option_and_then};
 ghost use Rattle.std.specs.Int.{is_power_of_two};
 ghost use Rattle.clap.specs.Matches.{first_value, found_of};
-ghost use Rattle.mica_cmd.specs.CommandLine.{mode, buckets, number, number_of, value_of, replay_options};
+ghost use Rattle.mica_cmd.specs.CommandLine.{begins_number, mode, buckets, number, number_of, value_of, replay_options};
 
 use clap::ArgMatches;
 use mica_model::{Mode, Options};
+
+fn begins_number(text: &str) -> bool
+    ensures { result ≡ begins_number text.now }
+{
+    matches!(text.as_bytes(), [b'0'..=b'9'] | [b'1'..=b'9', _, ..])
+}
 
 // The number that a text writes, where it lies in its range.
 fn number_of(text: &str, least: u64, most: u64) -> Option<u64>
     ensures { result ≡ number_of least most text.now }
 {
-    match text.as_bytes() {
-        [b'0'] | [b'1'..=b'9', ..] => {}
-        _ => return None,
-    }
-    let Ok(number) = text.parse::<u64>() else {
+    if !begins_number(text) {
         return None;
-    };
+    }
+    let number = text.parse().ok()?;
     if least <= number && number <= most {
         Some(number)
     } else {
