@@ -7,5 +7,9 @@
 mod clap_command;
 mod command;
 mod option_values;
+mod status;
+mod top;
 
 pub use command::{Command, WordsFault, read_words};
+pub use status::Status;
+pub use top::{MAX_SOURCE_LEN, mica};
