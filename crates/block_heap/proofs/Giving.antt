@@ -121,22 +121,26 @@ module _ (words place at : ℕ) (xs : List Block) (block : Block) (list : IsBloc
           now = right_is ∙ given_first words place block.size before after own_list (ap (λ n. take n xs) first);
         }
 
+    -- and then with the left one
+    left_is : (front : List Block) (last : Block) (zs : List Block) → before ≡ front ++ last ∷ [] → length front ≡ at - 1
+        → zs ≡ take (at - 1) ys ++ with_next (drop (at - 1) ys) → zs ≡ merged (before ++ freed ∷ after)
+    unfolding freed
+    left_is front last zs split short left =
+        let rest = last ∷ joined freed after in
+        let ys_is : ys ≡ front ++ rest = right_is ∙ ap (λ bs. bs ++ joined freed after) split ∙ append_assoc front (last ∷ []) (joined freed after) in
+        left
+        ∙ ap (λ bs. take (at - 1) bs ++ with_next (drop (at - 1) bs)) ys_is
+        ∙ join_seam front rest (at - 1) short
+        ∙ given_behind words place block.size before after own_list front last split
+
     pub IsGiven-behind : (zs : List Block) → 0 < at → zs ≡ take (at - 1) ys ++ with_next (drop (at - 1) ys) → IsGiven xs zs place
     unfolding freed
     IsGiven-behind zs some left =
         let split = last_of before (at - 1) (let e = long in omega arith) in
-        let front = split.0 in
-        let last = split.1 in
-        let ys_is : ys ≡ front ++ last ∷ joined freed after =
-        right_is ∙ ap (λ bs. bs ++ joined freed after) split.2 ∙ append_assoc front (last ∷ []) (joined freed after) in
         record {
           before = before;
           after = after;
           size = block.size;
           was = old;
-          now =
-              left
-              ∙ ap (λ bs. take (at - 1) bs ++ with_next (drop (at - 1) bs)) ys_is
-              ∙ join_seam front (last ∷ joined freed after) (at - 1) split.3
-              ∙ given_behind words place block.size before after own_list front last split.2;
+          now = left_is split.0 split.1 zs split.2 split.3 left;
         }

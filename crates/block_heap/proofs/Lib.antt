@@ -6,3 +6,4 @@ pub mod Taking
 pub mod Finding
 pub mod Giving
 pub mod Largest
+pub mod UsedBlocks

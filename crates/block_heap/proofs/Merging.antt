@@ -4,7 +4,7 @@ use Rattle.block_heap.specs.declared.block.Block.{Block}
 use Rattle.block_heap.specs.Blocks.{free_block, IsFree, Fills, BeginsFree, IsMerged}
 use Rattle.block_heap.specs.Changes.{joined, merged}
 
-both_false : (a b : Bool) → (a || b) ≡ false → (a ≡ false) × (b ≡ false)
+pub both_false : (a b : Bool) → (a || b) ≡ false → (a ≡ false) × (b ≡ false)
 both_false true b e = cc
 both_false false b e = (refl, e)
 
