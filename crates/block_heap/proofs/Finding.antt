@@ -1,5 +1,5 @@
 -- What a search among the blocks found, or did not find.
-use Rattle.std.proofs.Common.{◌≡◌, ℕ, ◌<◌, ◌≤◌, ◌&&◌, List, [], ◌∷◌, length, refl, sym, subst, arith, Bool, true, false, not, cond, ltb, Option, Some, None}
+use Rattle.std.proofs.Common.{ap, ◌≡◌, ℕ, ◌<◌, ◌≤◌, ◌&&◌, List, [], ◌∷◌, length, refl, sym, subst, arith, Bool, true, false, not, cond, ltb, Option, Some, None}
 use Rattle.std.specs.Prelude.{nat_le, nat_eq}
 use Rattle.std.specs.List.{All, position, position_or_len}
 use Rattle.std.specs.Option.{IfNone, IsSome}
@@ -7,7 +7,7 @@ use Rattle.std.proofs.lemmas.List.Sums.{fails_before_first}
 use Rattle.std.proofs.lemmas.List.Elements.{All-nil, All-cons, All-head, All-tail}
 use Rattle.std.proofs.lemmas.Bool.Decides.{nat_tests}
 use Rattle.block_heap.specs.declared.block.Block.{Block}
-use Rattle.block_heap.specs.Blocks.{HasUsed, used_blocks, free_sizes, NoneFits}
+use Rattle.block_heap.specs.Blocks.{used_block, HasUsed, used_blocks, free_sizes, NoneFits}
 use Rattle.block_heap.proofs.Counting.{free_more, free_same, used_more, used_same}
 
 past : (a n : ℕ) (t : Bool) → ltb a n ≡ t → None ≡ cond t (Some a) None → n ≤ a
@@ -71,4 +71,4 @@ pub IsSome-position : (place : ℕ) (blocks : List Block) (r : Option ℕ) → r
 IsSome-position place blocks (Some at) e has = refl
 IsSome-position place blocks None e has =
     let none = all_elsewhere place blocks (all_fail (is_used_at place) blocks e) in
-    absurd (none has.0 has.1 has.2 (subst (λ (b : Block). b.place ≡ place) (sym has.3) has.4))
+    absurd (none has.among.0 (used_block place has.size) has.among.1 (ap (λ (b : Block). b.place) has.among.2))

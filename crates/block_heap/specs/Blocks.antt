@@ -1,5 +1,5 @@
 -- The blocks of a heap: a list in order of place.
-use Rattle.std.specs.Prelude.{◌≡◌, ℕ, ◌+◌, ◌-◌, ◌*◌, ◌<◌, ◌≤◌, not, true, false, List, [], ◌∷◌, length, map, filter, sum_by, All, Any, Contains}
+use Rattle.std.specs.Prelude.{◌≡◌, ℕ, ◌+◌, ◌-◌, ◌*◌, ◌<◌, ◌≤◌, not, true, false, List, [], ◌∷◌, length, map, filter, sum_by, All, Contains}
 use Rattle.block_heap.specs.declared.block.Block.{Block}
 
 abbrev pub free_block : ℕ → ℕ → Block
@@ -42,8 +42,9 @@ abbrev pub free_sizes : List Block → List ℕ
 free_sizes blocks = map (λ block. block.size) (filter (λ block. not block.used) blocks)
 
 -- a used block begins at the place
-abbrev pub HasUsed : List Block → ℕ → Type 0
-HasUsed blocks place = Any (λ block. block.place ≡ place) (used_blocks blocks)
+pub record HasUsed (blocks : List Block) (place : ℕ) : Type 0 where
+  pub size : ℕ
+  pub among : Contains (used_blocks blocks) (used_block place size)
 
 -- no free block has as many words as are needed
 abbrev pub NoneFits : List Block → ℕ → Type 0
