@@ -1,5 +1,5 @@
-ghost use Rattle.std.specs.Prelude.{◌≡◌, ◌↔◌, IsTrue};
-ghost use Rattle.block_heap.specs.Blocks.{free_block, used_block, IsFree};
+ghost use Rattle.std.specs.Prelude.{◌≡◌};
+ghost use Rattle.block_heap.specs.Blocks.{free_block, used_block};
 
 /// Words that lie together, which are used or free as a whole.
 #[derive(Clone, Copy)]
@@ -28,11 +28,5 @@ impl Block {
             size,
             used: true,
         }
-    }
-
-    pub fn is_free(&self) -> bool
-        ensures { IsTrue result ↔ IsFree self.now }
-    {
-        !self.used
     }
 }

@@ -34,13 +34,13 @@ impl Heap {
         requires limit { words ≤ 1048576 }
         ensures { IfOk result (λ heap. heap ≡ free_block 0 words ∷ []) }
     {
-        // Each word may become a block of its own.
+        // A word may be a used block of its own, so there may be as many blocks as words.
         let mut blocks = Vec::with_capacity(alloc, words as usize)?;
         blocks.push(Block::free(0, words))?;
         Ok(Heap { blocks })
     }
 
-    /// The place of a block of as many words as are needed.
+    /// The place of a block of as many words as are needed. Which free block it is cut from is left open.
     pub fn take(&mut self, need: u32) -> Option<u32>
         requires { 1 ≤ need }
         ensures none { IsNone result ↔ NoneFits self.old need }
