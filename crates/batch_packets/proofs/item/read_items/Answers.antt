@@ -1,0 +1,28 @@
+use Rattle.std.proofs.Common.{◌≡◌, ◌+◌, arith, rules, append_assoc}
+use Rattle.std.proofs.lemmas.Result.{err_from_is_err_and}
+use Rattle.std.proofs.lemmas.List.{length_push}
+use Rattle.std.proofs.lemmas.List.Elements.{All-push}
+use Rattle.std.proofs.lemmas.Grind.{common_steps, flat_map-append}
+use Rattle.batch_packets.proofs.Walk.{goes_on, ends, trails, is_done}
+use Rattle.batch_packets.proofs.item.read_items.Goals as goal
+
+pub returns-in_err-item-clause-fault : goal.returns-in_err-item-clause-fault
+returns-in_err-item-clause-fault g c =
+    let p = err_from_is_err_and c.from_residual.result c.from_residual.ensures.1 in
+    rw (p.1, p.2) (ends g.T.Item.kind c.args.count c.loop.counter c.loop.rest.now _ c.in_err-item.field-0.0 c.loop-test.true c.in_err-item.ensures.fault c.loop.invariant.faults)
+
+pub loop-preserved : goal.loop-preserved
+loop-preserved g c =
+    record {
+      text = ?;
+      count = ?;
+      lawful = rw c.in_ok-push.ensures.items (All-push g.T.Item.is_item c.loop.items.items c.in_ok-item.item c.loop.invariant.lawful c.in_ok-item.ensures.lawful);
+      in_range = rw c.in_ok-push.ensures.items (All-push g.T.Item.is_in_range c.loop.items.items c.in_ok-item.item c.loop.invariant.in_range c.in_ok-item.ensures.in_range);
+      faults = goes_on g.T.Item.kind c.args.count c.loop.counter c.loop.rest.now c.in_ok-item.after.now _ c.loop-test.true c.in_ok-item.ensures.fault c.in_ok-item.ensures.rest c.loop.invariant.faults;
+    }
+
+pub returns-then-not-is_empty-clause-fault : goal.returns-then-not-is_empty-clause-fault
+returns-then-not-is_empty-clause-fault g c = trails g.T.Item.kind c.args.count c.loop.counter c.loop.rest.now _ c.loop-test.false ? c.loop.invariant.faults
+
+pub returns-clause-fault : goal.returns-clause-fault
+returns-clause-fault g c = is_done g.T.Item.kind c.args.count c.loop.counter c.loop.rest.now _ c.loop-test.false ? c.loop.invariant.faults
