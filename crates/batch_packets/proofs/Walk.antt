@@ -1,6 +1,9 @@
 -- The first fault, as a walk over the items meets it.
-use Rattle.std.proofs.Common.{◌≡◌, ℕ, suc, ◌+◌, ◌-◌, ◌<◌, ◌≤◌, true, nat_lt, List, length, drop, Option, Some, None, refl, sym, ap, ◌∙◌, arith}
+use Rattle.std.proofs.Common.{◌≡◌, ℕ, suc, ◌+◌, ◌-◌, ◌<◌, ◌≤◌, true, nat_lt, List, [], ◌∷◌, ◌++◌, length, drop, Option, Some, None, refl, sym, ap, ◌∙◌, append_assoc, arith}
 use Rattle.std.proofs.lemmas.Bool.{lt-ltb}
+use Rattle.std.proofs.lemmas.List.{drop-drop, append-nil}
+use Rattle.std.proofs.lemmas.List.Concat.{flat_map-append}
+use Rattle.std.specs.List.{flat_map}
 use Rattle.batch_packets.specs.declared.fault.BatchFault.{BatchFault}
 use Rattle.batch_packets.specs.declared.fault.BatchFault.TheVariants.{Short, Magic, Version, Count, Length, Op, Trailing, NoMemory}
 use Rattle.batch_packets.specs.Faults.{or_later, IsFirst}
@@ -48,3 +51,21 @@ unfolding items_fault
 is_done kind count i rest first le none so_far =
     let k : count - i ≡ 0 = omega arith in
     so_far ∙ rw (k, none) refl
+
+-- what is left after a fixed part, a key and a value
+pub after_two : (fixed : ℕ) (from : List ℕ) (key value size : ℕ) (after_key rest : List ℕ) → size ≡ fixed + key + value → after_key ≡ drop key (drop fixed from) → rest ≡ drop value after_key → drop size from ≡ rest
+after_two fixed from key value size after_key rest is one two =
+    let total : fixed + (key + value) ≡ size = omega arith in
+    sym (two ∙ ap (drop value) one ∙ drop-drop value key (drop fixed from) ∙ drop-drop (key + value) fixed from ∙ ap (λ (n : ℕ). drop n from) total)
+
+-- the texts of the items so far, with one more
+pub texts_more : {Item : Type 0} (text : Item → List ℕ) (items : List Item) (item : Item) (from rest after : List ℕ) → from ≡ flat_map text items ++ rest → rest ≡ text item ++ after → from ≡ flat_map text (items ++ item ∷ []) ++ after
+texts_more text items item from rest after so_far one =
+    let whole : flat_map text (items ++ item ∷ []) ++ after ≡ flat_map text items ++ (text item ++ after) = rw flat_map-append (simp (append_assoc, append-nil)) in
+    so_far ∙ ap (λ (r : List ℕ). flat_map text items ++ r) one ∙ sym whole
+
+-- what is left after a fixed part and a value
+pub after_one : (fixed : ℕ) (from : List ℕ) (value size : ℕ) (rest : List ℕ) → size ≡ fixed + value → rest ≡ drop value (drop fixed from) → drop size from ≡ rest
+after_one fixed from value size rest is one =
+    let total : fixed + value ≡ size = omega arith in
+    sym (one ∙ drop-drop value fixed from ∙ ap (λ (n : ℕ). drop n from) total)

@@ -104,5 +104,5 @@ pub fn write_datagram<T: Item>(
     for item in items {
         item.put(&mut out)?;
     }
-    Ok(Bytes::copy(alloc, &out)?)
+    Ok(Bytes::from(out))
 }

@@ -9,10 +9,12 @@ mod batch;
 mod fault;
 mod header;
 mod item;
+mod laws;
 mod replies;
 
 pub use batch::{Batch, Request, RequestList, Want, read_batch, write_batch};
 pub use fault::BatchFault;
+pub use laws::one_reading;
 pub use replies::{Replies, Reply, ReplyList, read_replies, write_replies};
 
 /// The text of a batch, or of replies.
