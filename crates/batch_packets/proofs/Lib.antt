@@ -3,3 +3,4 @@ pub mod RequestLaws
 pub mod ReplyLaws
 pub mod Walk
 pub mod Cells
+pub mod Splits

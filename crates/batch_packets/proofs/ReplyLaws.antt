@@ -1,10 +1,10 @@
 -- What the text of a reply tells of it, and that of replies of them.
-use Rattle.std.proofs.Common.{◌≡◌, ℕ, ◌+◌, ◌*◌, ◌/◌, ◌%◌, ◌^◌, ◌<◌, ◌≤◌, ◌||◌, ◌&&◌, Bool, true, false, cond, ltb, leb, eqb, not, List, [], ◌∷◌, ◌++◌, length, take, drop, None, refl, sym, ap, ◌∙◌, append_assoc, arith, length-append}
-use Rattle.std.specs.Prelude.{◌==◌, if◌then◌else◌, slice_index}
+use Rattle.std.proofs.Common.{◌≡◌, ℕ, ◌+◌, ◌^◌, ◌<◌, ◌≤◌, true, false, ltb, leb, eqb, List, ◌++◌, length, take, drop, None, refl, sym, ap, ◌∙◌, arith, length-append}
+use Rattle.std.specs.Prelude.{◌==◌, slice_index}
 use Rattle.std.specs.List.{flat_map, All, AllByRecursion}
-use Rattle.std.specs.Int.{w32, w64, from_le_bytes, to_le_bytes}
-use Rattle.std.proofs.lemmas.Bool.{le-ltb, le-leb, lt-ltb, cond_both}
-use Rattle.std.proofs.lemmas.List.{take_at, drop_at}
+use Rattle.std.specs.Int.{w32, w64, from_le_bytes}
+use Rattle.std.proofs.lemmas.Bool.{le-ltb, le-leb, cond_both}
+use Rattle.std.proofs.lemmas.List.{take_at}
 use Rattle.std.proofs.lemmas.List.Elements.{recursion_from_All}
 use Rattle.std.proofs.lemmas.Nat.{from_le_bytes-to_le_bytes_4, from_le_bytes-to_le_bytes_8}
 use Rattle.batch_packets.specs.declared.replies.Reply.{Reply}
@@ -51,6 +51,10 @@ value_after x rest = refl
 length_is : (x : Reply) → length (reply_text x) ≡ 16 + length x.value
 unfolding reply_text
 length_is x = omega arith
+
+-- the first reply always fits a datagram
+pub short_reply : (x : Reply) → IsReply 1 x → length (reply_text x) ≤ 1040
+short_reply x lawful = omega (arith, length_is x, lawful.value, longest x.status)
 
 size : (x : Reply) (rest : List ℕ) → IsReply 1 x → replies_kind.size (reply_text x ++ rest) ≡ length (reply_text x)
 size x rest lawful = rw (length_is x, value_len_is x rest lawful) refl

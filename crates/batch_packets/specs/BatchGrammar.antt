@@ -1,5 +1,5 @@
 -- Batches of requests, by cases on bytes.
-use Rattle.std.specs.Prelude.{◌≡◌, ◌+◌, ◌^◌, ◌<◌, ◌≤◌, ◌==◌, ◌&&◌, ℕ, Bool, List, [], ◌∷◌, ◌++◌, length, drop, slice_index, nat_lt, nat_le, codes, IsTrue, All, if◌then◌else◌}
+use Rattle.std.specs.Prelude.{◌≡◌, ◌+◌, ◌^◌, ◌<◌, ◌≤◌, ◌==◌, ◌&&◌, ℕ, Bool, List, ◌∷◌, ◌++◌, length, drop, slice_index, nat_lt, nat_le, codes, IsTrue, All, if◌then◌else◌}
 use Rattle.std.specs.Int.{w16, w32, to_le_bytes, from_le_bytes}
 use Rattle.mica_words.specs.Item.{KeyFits}
 use Rattle.batch_packets.specs.declared.batch.Want.{Want}

@@ -1,5 +1,5 @@
 -- What batches and replies have in common: a header, and items one after another. Numbers are little endian.
-use Rattle.std.specs.Prelude.{◌≡◌, ◌<◌, ◌≤◌, ◌==◌, ◌+◌, ℕ, zero, suc, Bool, not, List, [], ◌∷◌, ◌++◌, length, drop, slice_index, nat_eq, nat_lt, Option, All}
+use Rattle.std.specs.Prelude.{◌<◌, ◌≤◌, ◌==◌, ◌+◌, ℕ, zero, suc, Bool, not, List, [], ◌∷◌, ◌++◌, length, drop, slice_index, nat_eq, nat_lt, Option}
 use Rattle.std.specs.Int.{w32, to_le_bytes}
 use Rattle.std.specs.List.{flat_map, starts_with}
 use Rattle.batch_packets.specs.declared.fault.BatchFault.{BatchFault}

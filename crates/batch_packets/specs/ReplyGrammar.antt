@@ -1,5 +1,5 @@
 -- Replies to a batch, by cases on bytes.
-use Rattle.std.specs.Prelude.{◌≡◌, ◌+◌, ◌^◌, ◌<◌, ◌≤◌, ◌==◌, ◌&&◌, ◌||◌, ℕ, Bool, List, [], ◌∷◌, ◌++◌, length, drop, slice_index, nat_lt, nat_le, codes, IsTrue, All, if◌then◌else◌}
+use Rattle.std.specs.Prelude.{◌≡◌, ◌+◌, ◌^◌, ◌<◌, ◌≤◌, ◌==◌, ◌&&◌, ◌||◌, ℕ, Bool, List, ◌∷◌, ◌++◌, length, drop, slice_index, nat_lt, nat_le, codes, IsTrue, All, if◌then◌else◌}
 use Rattle.std.specs.Int.{w16, w32, w64, to_le_bytes, from_le_bytes}
 use Rattle.batch_packets.specs.declared.replies.Reply.{Reply}
 use Rattle.batch_packets.specs.declared.replies.Replies.{Replies}

@@ -8,5 +8,4 @@ ghost use Rattle.batch_packets.specs.ReplyGrammar.{SpellsReplies};
 pub fn one_reading()
     ensures batch { (bytes : List ℕ) (a b : Batch) → SpellsBatch bytes a → SpellsBatch bytes b → a ≡ b }
     ensures replies { (bytes : List ℕ) (a b : Replies) → SpellsReplies bytes a → SpellsReplies bytes b → a ≡ b }
-{
-}
+{}

@@ -1,4 +1,4 @@
-ghost use Rattle.std.specs.Prelude.{◌≡◌, ◌<◌, ◌≤◌, ◌+◌, ◌++◌, length, take, All, IfOk, IsOkUnless};
+ghost use Rattle.std.specs.Prelude.{◌≡◌, ◌<◌, ◌≤◌, ◌+◌, ◌++◌, length, take, drop, All, IfOk, IsOkUnless};
 ghost use Rattle.batch_packets.specs.Faults.{AgreesWith};
 ghost use Rattle.batch_packets.specs.Datagram.{first_fault, FillDatagram};
 
@@ -65,7 +65,7 @@ pub struct Replies {
 
 ghost use Rattle.batch_packets.specs.declared.replies.Replies.{Replies};
 ghost use Rattle.batch_packets.specs.ReplyGrammar.{IsReply, SpellsReplies, reply_text, replies_kind, is_status, longest_value};
-ghost use Rattle.batch_packets.specs.Splitting.{CarryReplies};
+ghost use Rattle.batch_packets.specs.Splitting.{BeginWith, CarryReplies};
 ghost use Rattle.std.specs.Prelude.{◌↔◌, IsTrue};
 ghost use Rattle.std.specs.List.{flat_map};
 
@@ -176,8 +176,7 @@ fn fitting(replies: &[Reply]) -> usize
     requires lawful { All (IsReply 1) replies.now }
     requires some { 0 < length replies.now }
     ensures within { result ≤ length replies.now }
-    ensures fill { FillDatagram reply_text 1 (take result replies.now) }
-    ensures most { result < length replies.now → ¬ FillDatagram reply_text 1 (take (result + 1) replies.now) }
+    ensures fill { BeginWith 1 replies.now (take result replies.now) (drop result replies.now) }
 {
     let mut size = HEADER_LEN;
     for (count, reply) in replies.iter().enumerate() {

@@ -1,4 +1,3 @@
-use Rattle.std.proofs.Common.{◌≡◌}
 use Rattle.std.proofs.lemmas.Result.{err_from_is_err_and}
 use Rattle.batch_packets.proofs.ItemLaws.{memory_alone}
 use Rattle.batch_packets.proofs.RequestLaws.{batch_has_no_fault}

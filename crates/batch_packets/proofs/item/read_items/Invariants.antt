@@ -1,4 +1,4 @@
-use Rattle.std.proofs.Common.{◌≡◌, ◌++◌, ◌-◌, ◌≤◌, length}
+use Rattle.std.proofs.Common.{◌≡◌, ◌++◌, ◌-◌, length}
 use Rattle.std.specs.List.{flat_map, All}
 use Rattle.batch_packets.specs.Datagram.{items_fault}
 use Rattle.batch_packets.proofs.item.read_items.Given as goal

@@ -21,4 +21,4 @@ returns-clause-text c =
     let len : length c.in_ok-copy.field-0 ≡ c.from-value_len.result = ap length c.in_ok-copy.ensures ∙ c.split_at.ensures.front_len in
     let after : drop 16 from ≡ c.in_ok-copy.field-0 ++ c.split_at.result.1.now = rw (value, rest) (sym (take-append-drop c.from-value_len.result (drop 16 from))) in
     reply_parts from c.from_le_bytes-2.result c.from_le_bytes-3.result c.in_ok-copy.field-0 c.split_at.result.1.now c.in-len16-up.len_at_least (λ k. omega (arith, c.type_inv.from k)) c.if-zero-ne0.false
-        (len ∙ c.from-value_len.ensures ∙ c.from_le_bytes.ensures) c.from_le_bytes-2.ensures c.from_le_bytes-3.ensures after
+    (len ∙ c.from-value_len.ensures ∙ c.from_le_bytes.ensures) c.from_le_bytes-2.ensures c.from_le_bytes-3.ensures after
