@@ -48,27 +48,27 @@ value_after : (x : Reply) (rest : List ℕ) → drop 16 (reply_text x ++ rest) �
 unfolding reply_text
 value_after x rest = refl
 
-length_is : (x : Reply) → length (reply_text x) ≡ 16 + length x.value
+pub length-reply_text : (x : Reply) → length (reply_text x) ≡ 16 + length x.value
 unfolding reply_text
-length_is x = omega arith
+length-reply_text x = omega arith
 
 -- the first reply always fits a datagram
 pub short_reply : (x : Reply) → IsReply 1 x → length (reply_text x) ≤ 1040
-short_reply x lawful = omega (arith, length_is x, lawful.value, longest x.status)
+short_reply x lawful = omega (arith, length-reply_text x, lawful.value, longest x.status)
 
 size : (x : Reply) (rest : List ℕ) → IsReply 1 x → replies_kind.size (reply_text x ++ rest) ≡ length (reply_text x)
-size x rest lawful = rw (length_is x, value_len_is x rest lawful) refl
+size x rest lawful = rw (length-reply_text x, value_len_is x rest lawful) refl
 
 no_fault : (x : Reply) (rest : List ℕ) → IsReply 1 x → item_fault replies_kind 1 (reply_text x ++ rest) ≡ None
 no_fault x rest lawful =
     let text = reply_text x ++ rest in
     let whole : replies_kind.size text ≡ length (reply_text x) = size x rest lawful in
-    let len : length text ≡ 16 + length x.value + length rest = length-append (reply_text x) rest ∙ rw (length_is x) refl in
+    let len : length text ≡ 16 + length x.value + length rest = length-append (reply_text x) rest ∙ rw (length-reply_text x) refl in
     let a : ltb (length text) 16 ≡ false = le-ltb _ _ (omega arith) in
     let b : is_status 1 (status_at text) ≡ true = ap (is_status 1) (status_is x rest) ∙ lawful.status in
     let c : (slice_index text 1 == 0) ≡ true = ap (λ n. n == 0) (zero_is x rest) in
     let d : leb (value_len_at text) (longest_value 1 (status_at text)) ≡ true = le-leb _ _ (rw (value_len_is x rest lawful, status_is x rest) lawful.value) in
-    let e : ltb (length text) (replies_kind.size text) ≡ false = le-ltb _ _ (omega (arith, length_is x)) in
+    let e : ltb (length text) (replies_kind.size text) ≡ false = le-ltb _ _ (omega (arith, length-reply_text x)) in
     rw (a, b, c, d, e) refl
 
 value : (x : Reply) (rest : List ℕ) → IsReply 1 x → IsInRange x → reply_at (reply_text x ++ rest) ≡ x
@@ -98,10 +98,10 @@ shown replies lt = record { number = from_le_bytes-to_le_bytes_4 replies.number 
 
 pub replies_have_no_fault : (bytes : List ℕ) (replies : Replies) → SpellsReplies bytes replies → first_fault replies_kind bytes ≡ None
 replies_have_no_fault bytes replies h =
-    let fill = h.lawful.fill in
+    let fits = h.lawful.fits in
     let texts = flat_map reply_text replies.replies in
     let none = no_faults replies_kind reply_text reply_at replies.replies (replies_tell replies.replies h.lawful.each h.in_range) in
-    ap (first_fault replies_kind) h.text ∙ no_first_fault replies_kind (replies_text replies) (length replies.replies) (omega (arith, fill.short)) (omega arith) refl refl refl fill.some none
+    ap (first_fault replies_kind) h.text ∙ no_first_fault replies_kind (replies_text replies) (length replies.replies) (omega (arith, fits.short)) (omega arith) refl refl refl fits.some none
 
 pub one_replies : (bytes : List ℕ) (a b : Replies) → SpellsReplies bytes a → SpellsReplies bytes b → a ≡ b
 one_replies bytes a b p q =

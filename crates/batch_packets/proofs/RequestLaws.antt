@@ -62,23 +62,23 @@ texts_are : (x : Request) (rest : List ℕ) → drop 8 (request_text x ++ rest) 
 unfolding request_text
 texts_are x rest = append_assoc x.key x.value rest
 
-length_is : (x : Request) → length (request_text x) ≡ 8 + length x.key + length x.value
+pub length-request_text : (x : Request) → length (request_text x) ≡ 8 + length x.key + length x.value
 unfolding request_text
-length_is x = omega (arith, length-append x.key x.value)
+length-request_text x = omega (arith, length-append x.key x.value)
 
 size : (x : Request) (rest : List ℕ) → IsRequest 1 x → batch_kind.size (request_text x ++ rest) ≡ length (request_text x)
-size x rest lawful = rw (length_is x, key_len_is x rest, value_len_is x rest lawful) refl
+size x rest lawful = rw (length-request_text x, key_len_is x rest, value_len_is x rest lawful) refl
 
 no_fault : (x : Request) (rest : List ℕ) → IsRequest 1 x → item_fault batch_kind 1 (request_text x ++ rest) ≡ None
 no_fault x rest lawful =
     let text = request_text x ++ rest in
     let whole : batch_kind.size text ≡ length (request_text x) = size x rest lawful in
-    let len : length text ≡ 8 + length x.key + length x.value + length rest = length-append (request_text x) rest ∙ rw (length_is x) refl in
+    let len : length text ≡ 8 + length x.key + length x.value + length rest = length-append (request_text x) rest ∙ rw (length-request_text x) refl in
     let a : ltb (length text) 8 ≡ false = le-ltb _ _ (omega arith) in
     let b : is_operation 1 (operation_at text) ≡ true = ap (is_operation 1) (operation_is x rest) ∙ lawful.operation in
     let c : ltb 0 (key_len_at text) ≡ true = lt-ltb _ _ (rw (key_len_is x rest) lawful.key.0) in
     let d : leb (value_len_at text) (longest_value 1 (operation_at text)) ≡ true = le-leb _ _ (rw (value_len_is x rest lawful, operation_is x rest) lawful.value) in
-    let e : ltb (length text) (batch_kind.size text) ≡ false = le-ltb _ _ (omega (arith, length_is x)) in
+    let e : ltb (length text) (batch_kind.size text) ≡ false = le-ltb _ _ (omega (arith, length-request_text x)) in
     rw (a, b, c, d, e) refl
 
 value : (x : Request) (rest : List ℕ) → IsRequest 1 x → IsInRange x → request_at (request_text x ++ rest) ≡ x
@@ -111,10 +111,10 @@ shown batch lt = record { number = from_le_bytes-to_le_bytes_4 batch.number lt; 
 
 pub batch_has_no_fault : (bytes : List ℕ) (batch : Batch) → SpellsBatch bytes batch → first_fault batch_kind bytes ≡ None
 batch_has_no_fault bytes batch h =
-    let fill = h.lawful.fill in
+    let fits = h.lawful.fits in
     let texts = flat_map request_text batch.requests in
     let none = no_faults batch_kind request_text request_at batch.requests (requests_tell batch.requests h.lawful.each h.in_range) in
-    ap (first_fault batch_kind) h.text ∙ no_first_fault batch_kind (batch_text batch) (length batch.requests) (omega (arith, fill.short)) (omega arith) refl refl refl fill.some none
+    ap (first_fault batch_kind) h.text ∙ no_first_fault batch_kind (batch_text batch) (length batch.requests) (omega (arith, fits.short)) (omega arith) refl refl refl fits.some none
 
 pub one_batch : (bytes : List ℕ) (a b : Batch) → SpellsBatch bytes a → SpellsBatch bytes b → a ≡ b
 one_batch bytes a b p q =

@@ -71,8 +71,8 @@ after_one fixed from value size rest is one =
     let total : fixed + value ≡ size = omega arith in
     sym (one ∙ drop-drop value fixed from ∙ ap (λ (n : ℕ). drop n from) total)
 
--- the size of the items so far and of the next one is within that of all
-pub sizes_fit : {Item : Type 0} (text : Item → List ℕ) (items : List Item) (item : Item) (i size more : ℕ) → i < length items → item ≡ get_or items i item → size ≡ length (flat_map text (take i items)) → more ≡ length (text item) → length (flat_map text items) ≤ 1472 → size + more ≤ 1472
-sizes_fit text items item i size more lt is so_far one short =
+-- the bytes of the items so far and of the next one are within those of all
+pub sizes_fit : {Item : Type 0} (text : Item → List ℕ) (items : List Item) (item : Item) (i len more : ℕ) → i < length items → item ≡ get_or items i item → len ≡ 10 + length (flat_map text (take i items)) → more ≡ length (text item) → 10 + length (flat_map text items) ≤ 1472 → len + more ≤ 1472
+sizes_fit text items item i len more lt is so_far one short =
     let here : more ≡ length (text (get_or items i item)) = one ∙ ap (λ x. length (text x)) is in
     omega (arith, length-flat_map-take text items i item lt)

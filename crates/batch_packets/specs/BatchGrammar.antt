@@ -6,7 +6,7 @@ use Rattle.batch_packets.specs.declared.batch.Want.{Want}
 use Rattle.batch_packets.specs.declared.batch.Want.TheVariants.{Get, Put, Del}
 use Rattle.batch_packets.specs.declared.batch.Request.{Request}
 use Rattle.batch_packets.specs.declared.batch.Batch.{Batch}
-use Rattle.batch_packets.specs.Datagram.{value_limit, datagram_text, FillDatagram, Kind}
+use Rattle.batch_packets.specs.Datagram.{value_limit, datagram_text, FitsDatagram, Kind}
 
 -- the byte of an operation
 abbrev pub operation_of : Want → ℕ
@@ -46,12 +46,14 @@ batch_magic = codes "MICA"
 abbrev pub version_of : Batch → ℕ
 version_of batch = 1
 
+-- the text of a batch
 abbrev pub batch_text : Batch → List ℕ
-batch_text batch = datagram_text batch_magic request_text (version_of batch) batch.number batch.requests
+batch_text batch =
+    datagram_text batch_magic request_text (version_of batch) batch.number batch.requests
 
 -- a batch that has a text: it fits a datagram, and each request is one of its version
 pub record IsBatch (batch : Batch) : Type 0 where
-  pub fill : FillDatagram request_text (version_of batch) batch.requests
+  pub fits : FitsDatagram request_text (version_of batch) batch.requests
   pub each : All (IsRequest (version_of batch)) batch.requests
 
 -- the bytes are the text of this batch
@@ -61,12 +63,15 @@ pub record SpellsBatch (bytes : List ℕ) (batch : Batch) : Type 0 where
   pub number : batch.number < 2 ^ 32
   pub in_range : All IsInRange batch.requests
 
+-- the byte of the operation in the bytes of a request
 abbrev pub operation_at : List ℕ → ℕ
 operation_at bytes = slice_index bytes 0
 
+-- the length of its key
 abbrev pub key_len_at : List ℕ → ℕ
 key_len_at bytes = slice_index bytes 1
 
+-- the length of its value
 abbrev pub value_len_at : List ℕ → ℕ
 value_len_at bytes = from_le_bytes w16 (drop 2 bytes)
 

@@ -1,4 +1,5 @@
--- What batches and replies have in common: a header, and items one after another. Numbers are little endian.
+-- What batches and replies have in common: a header, and items one after another.
+-- All numbers are little endian.
 use Rattle.std.specs.Prelude.{◌<◌, ◌≤◌, ◌==◌, ◌+◌, ℕ, zero, suc, Bool, not, List, [], ◌∷◌, ◌++◌, length, drop, slice_index, nat_eq, nat_lt, Option}
 use Rattle.std.specs.Int.{w32, to_le_bytes}
 use Rattle.std.specs.List.{flat_map, starts_with}
@@ -10,19 +11,19 @@ use Rattle.batch_packets.specs.Faults.{first_of, or_later}
 abbrev pub is_version : ℕ → Bool
 is_version version = version == 1
 
--- the bytes that a datagram of a version may have
+-- how many bytes a datagram of a version may have
 abbrev pub limit_of : ℕ → ℕ
 limit_of version = 1472
 
--- the bytes that a datagram of any version may have
+-- how many bytes a datagram of any version may have
 abbrev pub largest_limit : ℕ
 largest_limit = 1472
 
--- the bytes that the longest value of a version has
+-- how many bytes a value of a version may have
 abbrev pub value_limit : ℕ → ℕ
 value_limit version = 1024
 
--- a magic, the version, how many items follow, and the number of the batch
+-- the ten bytes of a header: a magic, the version, how many items follow, and the batch's number
 abbrev pub header_text : List ℕ → ℕ → ℕ → ℕ → List ℕ
 header_text magic version count number = magic ++ version ∷ count ∷ to_le_bytes w32 number
 
@@ -31,13 +32,15 @@ abbrev pub datagram_text : {Item : Type 0} → List ℕ → (Item → List ℕ) 
 datagram_text magic text version number items =
     header_text magic version (length items) number ++ flat_map text items
 
--- items that one datagram of a version may hold
-pub record FillDatagram {Item : Type 0} (text : Item → List ℕ) (version : ℕ) (items : List Item) : Type 0 where
+-- the items fit one datagram of a version
+pub record FitsDatagram {Item : Type 0} (text : Item → List ℕ) (version : ℕ) (items : List Item)
+    : Type 0 where
   pub some : 0 < length items
   pub few : length items ≤ 255
   pub short : 10 + length (flat_map text items) ≤ limit_of version
 
--- what the two kinds of datagram differ in: what the bytes from an item's first on say of it
+-- What the two kinds of datagram differ in: the magic, and what the bytes of an item say of it. The
+-- bytes of an item are those from its first one on.
 pub record Kind : Type 0 where
   pub magic : List ℕ
   -- the bytes before an item's texts
@@ -49,9 +52,11 @@ pub record Kind : Type 0 where
   -- the bytes of the whole item
   pub size : List ℕ → ℕ
 
+-- the version in the bytes of a datagram
 abbrev pub version_at : List ℕ → ℕ
 version_at bytes = slice_index bytes 4
 
+-- how many items it says that it has
 abbrev pub count_at : List ℕ → ℕ
 count_at bytes = slice_index bytes 5
 

@@ -3,7 +3,7 @@ use Rattle.std.specs.Prelude.{◌≡◌, ◌+◌, ◌^◌, ◌<◌, ◌≤◌, �
 use Rattle.std.specs.Int.{w16, w32, w64, to_le_bytes, from_le_bytes}
 use Rattle.batch_packets.specs.declared.replies.Reply.{Reply}
 use Rattle.batch_packets.specs.declared.replies.Replies.{Replies}
-use Rattle.batch_packets.specs.Datagram.{value_limit, datagram_text, FillDatagram, Kind}
+use Rattle.batch_packets.specs.Datagram.{value_limit, datagram_text, FitsDatagram, Kind}
 
 -- Whether a version has this status: 0 hit, 1 miss, 2 stored, 3 deleted, 4 absent, 5 full spare,
 -- 6 full block, 7 worn, 9 bad batch.
@@ -38,12 +38,14 @@ replies_magic = codes "MICR"
 abbrev pub version_of : Replies → ℕ
 version_of replies = 1
 
+-- the text of replies
 abbrev pub replies_text : Replies → List ℕ
-replies_text replies = datagram_text replies_magic reply_text (version_of replies) replies.number replies.replies
+replies_text replies =
+    datagram_text replies_magic reply_text (version_of replies) replies.number replies.replies
 
 -- replies that have a text: they fit a datagram, and each is one of its version
 pub record IsReplies (replies : Replies) : Type 0 where
-  pub fill : FillDatagram reply_text (version_of replies) replies.replies
+  pub fits : FitsDatagram reply_text (version_of replies) replies.replies
   pub each : All (IsReply (version_of replies)) replies.replies
 
 -- the bytes are the text of these replies
@@ -53,9 +55,11 @@ pub record SpellsReplies (bytes : List ℕ) (replies : Replies) : Type 0 where
   pub number : replies.number < 2 ^ 32
   pub in_range : All IsInRange replies.replies
 
+-- the status in the bytes of a reply
 abbrev pub status_at : List ℕ → ℕ
 status_at bytes = slice_index bytes 0
 
+-- the length of its value
 abbrev pub value_len_at : List ℕ → ℕ
 value_len_at bytes = from_le_bytes w16 (drop 2 bytes)
 

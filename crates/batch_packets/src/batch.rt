@@ -2,7 +2,7 @@ ghost use Rattle.std.specs.Prelude.{◌≡◌, ◌<◌, ◌+◌, ◌++◌, ℕ, 
 ghost use Rattle.batch_packets.specs.Faults.{AgreesWith};
 ghost use Rattle.batch_packets.specs.Datagram.{first_fault};
 
-use crate::item::{Item, read_datagram, write_datagram};
+use crate::item::{Item, len_of, read_datagram, write_datagram};
 use crate::{BatchFault, Datagram};
 use mica_io::{Bytes, NoMemory};
 use std::alloc::Global;
@@ -172,7 +172,8 @@ pub fn read_batch(alloc: Global, from: &[u8]) -> Result<Batch, BatchFault>
     ensures batch { IfOk result (SpellsBatch from.now) }
     ensures fault { AgreesWith (first_fault batch_kind from.now) result }
     // The text of a batch is read, unless memory runs out.
-    ensures only { (batch : Batch) → SpellsBatch from.now batch → IsOkUnless result BatchFault.NoMemory }
+    ensures only { (batch : Batch) → SpellsBatch from.now batch
+        → IsOkUnless result BatchFault.NoMemory }
 {
     let (number, requests) = read_datagram(alloc, from)?;
     Ok(Batch {
@@ -186,5 +187,6 @@ pub fn write_batch(alloc: Global, batch: &Batch) -> Result<Datagram, NoMemory>
     requires { IsBatch batch.now }
     ensures { IfOk result (λ text. text ≡ batch_text batch.now) }
 {
-    write_datagram(alloc, batch.number, batch.requests.as_slice())
+    let requests = batch.requests.as_slice();
+    write_datagram(alloc, batch.number, requests, len_of(requests))
 }

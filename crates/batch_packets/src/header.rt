@@ -13,6 +13,9 @@ pub const HEADER_LEN: usize = 10;
 /// The most bytes of a datagram.
 pub const LIMIT: usize = 1472;
 
+/// The most items of a datagram.
+pub const MOST: usize = 255;
+
 /// How many items follow, the number of the batch, and the bytes after the header.
 pub fn read_header(magic: [u8; 4], from: &[u8]) -> Result<(u8, u32, &[u8]), BatchFault>
     ensures text { IfOk result (λ x. from.now ≡ header_text magic 1 x.0 x.1 ++ x.2.now) }

@@ -1,7 +1,7 @@
-ghost use Rattle.std.specs.Prelude.{◌≡◌, ◌++◌, ◌<◌, ◌≤◌, ℕ, List, None, length, drop, All, IfOk, IfErr, OnOk};
+ghost use Rattle.std.specs.Prelude.{◌≡◌, ◌+◌, ◌++◌, ◌<◌, ◌≤◌, ℕ, List, None, length, drop, All, IfOk, IfErr, OnOk};
 ghost use Rattle.std.specs.List.{flat_map};
 ghost use Rattle.batch_packets.specs.Faults.{AgreesWith};
-ghost use Rattle.batch_packets.specs.Datagram.{Kind, FillDatagram, datagram_text, item_fault, items_fault, first_fault};
+ghost use Rattle.batch_packets.specs.Datagram.{Kind, FitsDatagram, datagram_text, item_fault, items_fault, first_fault};
 
 use crate::header::{HEADER_LEN, put_header, read_header};
 use crate::{BatchFault, Datagram};
@@ -66,7 +66,7 @@ fn read_items<T: Item>(alloc: Global, count: u8, from: &[u8]) -> Result<Vec<T>, 
 /// The number and the items of a datagram, all of the bytes.
 pub fn read_datagram<T: Item>(alloc: Global, from: &[u8]) -> Result<(u32, Vec<T>), BatchFault>
     ensures text { IfOk result (λ x. from.now ≡ datagram_text T.kind.magic T.text 1 x.0 x.1.items) }
-    ensures fill { IfOk result (λ x. FillDatagram T.text 1 x.1.items) }
+    ensures fits { IfOk result (λ x. FitsDatagram T.text 1 x.1.items) }
     ensures lawful { IfOk result (λ x. All T.is_item x.1.items) }
     ensures in_range { IfOk result (λ x. All T.is_in_range x.1.items) }
     ensures fault { AgreesWith (first_fault T.kind from.now) result }
@@ -76,33 +76,35 @@ pub fn read_datagram<T: Item>(alloc: Global, from: &[u8]) -> Result<(u32, Vec<T>
     Ok((number, items))
 }
 
-/// How many bytes the texts of the items have.
-fn size_of<T: Item>(items: &[T]) -> usize
+/// The length of a datagram's text.
+pub fn len_of<T: Item>(items: &[T]) -> usize
     requires lawful { All T.is_item items.now }
-    requires short { length (flat_map T.text items.now) ≤ 1472 }
-    ensures { result ≡ length (flat_map T.text items.now) }
+    requires fits { FitsDatagram T.text 1 items.now }
+    ensures { result ≡ 10 + length (flat_map T.text items.now) }
 {
-    let mut size = 0;
+    let mut len = HEADER_LEN;
     for item in items {
-        size += item.size();
+        len += item.size();
     }
-    size
+    len
 }
 
-/// The text of a datagram.
+/// The text of a datagram, which has this length.
 pub fn write_datagram<T: Item>(
     alloc: Global,
     number: u32,
     items: &[T],
+    len: usize,
 ) -> Result<Datagram, NoMemory>
     requires lawful { All T.is_item items.now }
-    requires fill { FillDatagram T.text 1 items.now }
+    requires fits { FitsDatagram T.text 1 items.now }
+    requires len { len ≡ 10 + length (flat_map T.text items.now) }
     ensures { IfOk result (λ text. text ≡ datagram_text T.kind.magic T.text 1 number items.now) }
 {
-    let mut out = Vec::with_capacity(alloc, HEADER_LEN + size_of(items))?;
-    put_header(&mut out, T::magic(), items.len() as u8, number)?;
+    let mut text = Vec::with_capacity(alloc, len)?;
+    put_header(&mut text, T::magic(), items.len() as u8, number)?;
     for item in items {
-        item.put(&mut out)?;
+        item.put(&mut text)?;
     }
-    Ok(Bytes::from(out))
+    Ok(Bytes::from(text))
 }

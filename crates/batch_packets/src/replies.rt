@@ -1,8 +1,8 @@
 ghost use Rattle.std.specs.Prelude.{◌≡◌, ◌<◌, ◌≤◌, ◌+◌, ◌++◌, length, take, drop, All, IfOk, IsOkUnless};
 ghost use Rattle.batch_packets.specs.Faults.{AgreesWith};
-ghost use Rattle.batch_packets.specs.Datagram.{first_fault, FillDatagram};
+ghost use Rattle.batch_packets.specs.Datagram.{first_fault, FitsDatagram};
 
-use crate::header::{HEADER_LEN, LIMIT};
+use crate::header::{HEADER_LEN, LIMIT, MOST};
 use crate::item::{Item, read_datagram, write_datagram};
 use crate::{BatchFault, Datagram};
 use mica_io::{Bytes, NoMemory};
@@ -65,7 +65,7 @@ pub struct Replies {
 
 ghost use Rattle.batch_packets.specs.declared.replies.Replies.{Replies};
 ghost use Rattle.batch_packets.specs.ReplyGrammar.{IsReply, SpellsReplies, reply_text, replies_kind, is_status, longest_value};
-ghost use Rattle.batch_packets.specs.Splitting.{BeginWith, CarryReplies};
+ghost use Rattle.batch_packets.specs.Splitting.{BeginsWith, SplitsInto};
 ghost use Rattle.std.specs.Prelude.{◌↔◌, IsTrue};
 ghost use Rattle.std.specs.List.{flat_map};
 
@@ -162,7 +162,8 @@ pub fn read_replies(alloc: Global, from: &[u8]) -> Result<Replies, BatchFault>
     ensures replies { IfOk result (SpellsReplies from.now) }
     ensures fault { AgreesWith (first_fault replies_kind from.now) result }
     // The text of replies is read, unless memory runs out.
-    ensures only { (replies : Replies) → SpellsReplies from.now replies → IsOkUnless result BatchFault.NoMemory }
+    ensures only { (replies : Replies) → SpellsReplies from.now replies
+        → IsOkUnless result BatchFault.NoMemory }
 {
     let (number, replies) = read_datagram(alloc, from)?;
     Ok(Replies {
@@ -171,37 +172,40 @@ pub fn read_replies(alloc: Global, from: &[u8]) -> Result<Replies, BatchFault>
     })
 }
 
-/// How many of the replies go into the next datagram.
-fn fitting(replies: &[Reply]) -> usize
+/// How many of the replies go into the next datagram, and the length of its text.
+fn fitting(replies: &[Reply]) -> (usize, usize)
     requires lawful { All (IsReply 1) replies.now }
     requires some { 0 < length replies.now }
-    ensures within { result ≤ length replies.now }
-    ensures fill { BeginWith 1 replies.now (take result replies.now) (drop result replies.now) }
+    ensures within { result.0 ≤ length replies.now }
+    ensures begin { BeginsWith 1 replies.now (take result.0 replies.now) (drop result.0 replies.now) }
+    ensures len { result.1 ≡ 10 + length (flat_map reply_text (take result.0 replies.now)) }
 {
-    let mut size = HEADER_LEN;
+    let mut len = HEADER_LEN;
     for (count, reply) in replies.iter().enumerate() {
-        size += reply.size();
-        if count == 255 || size > LIMIT {
-            return count;
+        let size = reply.size();
+        if count == MOST || len + size > LIMIT {
+            return (count, len);
         }
+        len += size;
     }
-    replies.len()
+    (replies.len(), len)
 }
 
-/// The datagrams of the replies to the batch of this number. No replies give none.
+/// The datagrams of the replies to the batch of this number: each takes as many replies as fit.
 pub fn write_replies(
     alloc: Global,
     replies: &[Reply],
     number: u32,
 ) -> Result<Vec<Datagram>, NoMemory>
     requires { All (IsReply 1) replies.now }
-    ensures { IfOk result (λ datagrams. CarryReplies 1 number replies.now datagrams.items) }
+    ensures { IfOk result (λ datagrams. SplitsInto 1 number replies.now datagrams.items) }
 {
     let mut datagrams = Vec::new(alloc);
     let mut rest = replies;
     while !rest.is_empty() {
-        let (now, later) = rest.split_at(fitting(rest));
-        datagrams.push(write_datagram(alloc, number, now)?)?;
+        let (count, len) = fitting(rest);
+        let (now, later) = rest.split_at(count);
+        datagrams.push(write_datagram(alloc, number, now, len)?)?;
         rest = later;
     }
     Ok(datagrams)

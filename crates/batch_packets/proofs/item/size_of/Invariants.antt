@@ -1,6 +1,0 @@
-use Rattle.std.proofs.Common.{◌≡◌, length, take}
-use Rattle.std.specs.List.{flat_map}
-use Rattle.batch_packets.proofs.item.size_of.Given as goal
-
-abbrev pub invariant-loop-item : goal.invariant-loop-item
-invariant-loop-item g l = l.size ≡ length (flat_map g.T.Item.text (take l.item-index l.items))
