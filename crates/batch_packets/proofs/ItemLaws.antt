@@ -39,6 +39,7 @@ one_list kind text value_at (x ∷ xs) (y ∷ ys) p q len same =
 -- a datagram without a fault in its header or its items has none
 pub no_first_fault : (kind : Kind) (bytes : List ℕ) (count : ℕ) → length bytes ≤ 1472 → 10 ≤ length bytes → starts_with nat_eq bytes kind.magic ≡ true → version_at bytes ≡ 1 → count_at bytes ≡ count → 0 < count
     → items_fault kind 1 count (drop 10 bytes) ≡ None → first_fault kind bytes ≡ None
+unfolding first_fault
 no_first_fault kind bytes count short long magic version is some none =
     let a : nat_lt 1472 (length bytes) ≡ false = le-ltb _ _ short in
     let b : nat_lt (length bytes) 10 ≡ false = le-ltb _ _ long in

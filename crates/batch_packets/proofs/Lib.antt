@@ -2,5 +2,4 @@ pub mod ItemLaws
 pub mod RequestLaws
 pub mod ReplyLaws
 pub mod Walk
-pub mod Cells
 pub mod Splits

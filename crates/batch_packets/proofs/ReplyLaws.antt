@@ -93,10 +93,11 @@ record Shown (bytes : List ℕ) (replies : Replies) : Type 0 where
   texts : drop 10 bytes ≡ flat_map reply_text replies.replies
 
 shown : (replies : Replies) → replies.number < 2 ^ 32 → Shown (replies_text replies) replies
-unfolding number_at
+unfolding number_at replies_text
 shown replies lt = record { number = from_le_bytes-to_le_bytes_4 replies.number lt; count = refl; texts = refl }
 
 pub replies_have_no_fault : (bytes : List ℕ) (replies : Replies) → SpellsReplies bytes replies → first_fault replies_kind bytes ≡ None
+unfolding replies_text
 replies_have_no_fault bytes replies h =
     let fits = h.lawful.fits in
     let texts = flat_map reply_text replies.replies in

@@ -106,10 +106,11 @@ record Shown (bytes : List ℕ) (batch : Batch) : Type 0 where
   texts : drop 10 bytes ≡ flat_map request_text batch.requests
 
 shown : (batch : Batch) → batch.number < 2 ^ 32 → Shown (batch_text batch) batch
-unfolding number_at
+unfolding number_at batch_text
 shown batch lt = record { number = from_le_bytes-to_le_bytes_4 batch.number lt; count = refl; texts = refl }
 
 pub batch_has_no_fault : (bytes : List ℕ) (batch : Batch) → SpellsBatch bytes batch → first_fault batch_kind bytes ≡ None
+unfolding batch_text
 batch_has_no_fault bytes batch h =
     let fits = h.lawful.fits in
     let texts = flat_map request_text batch.requests in

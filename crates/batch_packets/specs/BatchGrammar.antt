@@ -47,7 +47,7 @@ abbrev pub version_of : Batch → ℕ
 version_of batch = 1
 
 -- the text of a batch
-abbrev pub batch_text : Batch → List ℕ
+unfoldable pub batch_text : Batch → List ℕ
 batch_text batch =
     datagram_text batch_magic request_text (version_of batch) batch.number batch.requests
 

@@ -87,7 +87,7 @@ items_fault kind version (suc count) bytes =
     (items_fault kind version count (drop (kind.size bytes) bytes))
 
 -- the first fault of a datagram
-abbrev pub first_fault : Kind → List ℕ → Option BatchFault
+unfoldable pub first_fault : Kind → List ℕ → Option BatchFault
 first_fault kind bytes =
     or_later (header_fault kind.magic bytes)
     (items_fault kind (version_at bytes) (count_at bytes) (drop 10 bytes))

@@ -39,7 +39,7 @@ abbrev pub version_of : Replies → ℕ
 version_of replies = 1
 
 -- the text of replies
-abbrev pub replies_text : Replies → List ℕ
+unfoldable pub replies_text : Replies → List ℕ
 replies_text replies =
     datagram_text replies_magic reply_text (version_of replies) replies.number replies.replies
 

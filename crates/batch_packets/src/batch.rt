@@ -1,4 +1,4 @@
-ghost use Rattle.std.specs.Prelude.{◌≡◌, ◌<◌, ◌+◌, ◌++◌, ℕ, Some, length, sum_by, All, IfOk, IfErr, OnOk, IfSome, IfNone, IsOkUnless, false};
+ghost use Rattle.std.specs.Prelude.{◌≡◌, false, IfOk, IfSome, IfNone, IsOkUnless};
 ghost use Rattle.batch_packets.specs.Faults.{AgreesWith};
 ghost use Rattle.batch_packets.specs.Datagram.{first_fault};
 
@@ -105,7 +105,7 @@ impl Want {
 }
 
 ghost use Rattle.batch_packets.specs.declared.batch.Batch.{Batch};
-ghost use Rattle.batch_packets.specs.BatchGrammar.{IsBatch, SpellsBatch, request_text, batch_text, batch_kind};
+ghost use Rattle.batch_packets.specs.BatchGrammar.{IsBatch, SpellsBatch, batch_text, batch_kind};
 
 impl Item for Request {
     ghost use Rattle.batch_packets.specs.BatchGrammar.{IsRequest, IsInRange, request_text, batch_kind};
@@ -167,7 +167,8 @@ impl Item for Request {
     }
 }
 
-/// Reads a batch, all of the bytes.
+/// The batch whose text the bytes are.
+#[tactic(auto, unfolding(crate::specs::BatchGrammar::batch_text))]
 pub fn read_batch(alloc: Global, from: &[u8]) -> Result<Batch, BatchFault>
     ensures batch { IfOk result (SpellsBatch from.now) }
     ensures fault { AgreesWith (first_fault batch_kind from.now) result }
@@ -183,6 +184,7 @@ pub fn read_batch(alloc: Global, from: &[u8]) -> Result<Batch, BatchFault>
 }
 
 /// The text of a batch.
+#[tactic(auto, unfolding(crate::specs::BatchGrammar::batch_text))]
 pub fn write_batch(alloc: Global, batch: &Batch) -> Result<Datagram, NoMemory>
     requires { IsBatch batch.now }
     ensures { IfOk result (λ text. text ≡ batch_text batch.now) }

@@ -1,4 +1,5 @@
-ghost use Rattle.std.specs.Prelude.{◌≡◌, ◌<◌, ◌≤◌, ◌++◌, Some, length, IfOk, IfErr, OnOk};
+ghost use Rattle.std.specs.Prelude.{◌≡◌, ◌<◌, ◌≤◌, ◌++◌, Some, length, IfOk, IfErr, IfSome, IfNone, OnOk};
+ghost use Rattle.std.specs.Int.{w64, to_le_bytes};
 ghost use Rattle.batch_packets.specs.Datagram.{header_text, header_fault, largest_limit};
 
 use crate::BatchFault;
@@ -15,6 +16,18 @@ pub const LIMIT: usize = 1472;
 
 /// The most items of a datagram.
 pub const MOST: usize = 255;
+
+/// The number of eight bytes at the front, and the bytes after it.
+pub fn read_u64(from: &[u8]) -> Option<(u64, &[u8])>
+    ensures some { IfSome result (λ x. from.now ≡ to_le_bytes w64 x.0 ++ x.1.now) }
+    ensures none { IfNone result (length from.now < 8) }
+{
+    let [b0, b1, b2, b3, b4, b5, b6, b7, rest @ ..] = from else {
+        return None;
+    };
+    let number = u64::from_le_bytes([*b0, *b1, *b2, *b3, *b4, *b5, *b6, *b7]);
+    Some((number, rest))
+}
 
 /// How many items follow, the number of the batch, and the bytes after the header.
 pub fn read_header(magic: [u8; 4], from: &[u8]) -> Result<(u8, u32, &[u8]), BatchFault>

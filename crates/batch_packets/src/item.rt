@@ -1,4 +1,4 @@
-ghost use Rattle.std.specs.Prelude.{◌≡◌, ◌+◌, ◌++◌, ◌<◌, ◌≤◌, ℕ, List, None, length, drop, All, IfOk, IfErr, OnOk};
+ghost use Rattle.std.specs.Prelude.{◌≡◌, ◌+◌, ◌++◌, ℕ, List, length, drop, All, IfOk, OnOk};
 ghost use Rattle.std.specs.List.{flat_map};
 ghost use Rattle.batch_packets.specs.Faults.{AgreesWith};
 ghost use Rattle.batch_packets.specs.Datagram.{Kind, FitsDatagram, datagram_text, item_fault, items_fault, first_fault};
@@ -63,7 +63,8 @@ fn read_items<T: Item>(alloc: Global, count: u8, from: &[u8]) -> Result<Vec<T>, 
     Ok(items)
 }
 
-/// The number and the items of a datagram, all of the bytes.
+/// The number and the items of the datagram whose text the bytes are.
+#[tactic(auto, unfolding(crate::specs::Datagram::first_fault))]
 pub fn read_datagram<T: Item>(alloc: Global, from: &[u8]) -> Result<(u32, Vec<T>), BatchFault>
     ensures text { IfOk result (λ x. from.now ≡ datagram_text T.kind.magic T.text 1 x.0 x.1.items) }
     ensures fits { IfOk result (λ x. FitsDatagram T.text 1 x.1.items) }

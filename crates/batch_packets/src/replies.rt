@@ -1,8 +1,8 @@
-ghost use Rattle.std.specs.Prelude.{◌≡◌, ◌<◌, ◌≤◌, ◌+◌, ◌++◌, length, take, drop, All, IfOk, IsOkUnless};
+ghost use Rattle.std.specs.Prelude.{◌≡◌, ◌<◌, ◌≤◌, ◌+◌, length, take, drop, All, IfOk, IsOkUnless};
 ghost use Rattle.batch_packets.specs.Faults.{AgreesWith};
-ghost use Rattle.batch_packets.specs.Datagram.{first_fault, FitsDatagram};
+ghost use Rattle.batch_packets.specs.Datagram.{first_fault};
 
-use crate::header::{HEADER_LEN, LIMIT, MOST};
+use crate::header::{HEADER_LEN, LIMIT, MOST, read_u64};
 use crate::item::{Item, read_datagram, write_datagram};
 use crate::{BatchFault, Datagram};
 use mica_io::{Bytes, NoMemory};
@@ -66,7 +66,6 @@ pub struct Replies {
 ghost use Rattle.batch_packets.specs.declared.replies.Replies.{Replies};
 ghost use Rattle.batch_packets.specs.ReplyGrammar.{IsReply, SpellsReplies, reply_text, replies_kind, is_status, longest_value};
 ghost use Rattle.batch_packets.specs.Splitting.{BeginsWith, SplitsInto};
-ghost use Rattle.std.specs.Prelude.{◌↔◌, IsTrue};
 ghost use Rattle.std.specs.List.{flat_map};
 
 fn is_status(byte: u8) -> bool
@@ -98,26 +97,10 @@ impl Item for Reply {
 
     #[tactic(auto, unfolding(crate::specs::ReplyGrammar::reply_text))]
     fn read(alloc: Global, from: &[u8]) -> Result<(Reply, &[u8]), BatchFault> {
-        let [
-            status,
-            zero,
-            v0,
-            v1,
-            t0,
-            t1,
-            t2,
-            t3,
-            s0,
-            s1,
-            s2,
-            s3,
-            s4,
-            s5,
-            s6,
-            s7,
-            texts @ ..,
-        ] = from
-        else {
+        let [status, zero, v0, v1, t0, t1, t2, t3, after @ ..] = from else {
+            return Err(BatchFault::Short);
+        };
+        let Some((stamp, texts)) = read_u64(after) else {
             return Err(BatchFault::Short);
         };
         if !is_status(*status) || *zero != 0 {
@@ -134,7 +117,7 @@ impl Item for Reply {
         let reply = Reply {
             status: *status,
             ticket: u32::from_le_bytes([*t0, *t1, *t2, *t3]),
-            stamp: u64::from_le_bytes([*s0, *s1, *s2, *s3, *s4, *s5, *s6, *s7]),
+            stamp,
             value: Bytes::copy(alloc, value)?,
         };
         Ok((reply, rest))
@@ -157,7 +140,8 @@ impl Item for Reply {
     }
 }
 
-/// Reads replies, all of the bytes.
+/// The replies whose text the bytes are.
+#[tactic(auto, unfolding(crate::specs::ReplyGrammar::replies_text))]
 pub fn read_replies(alloc: Global, from: &[u8]) -> Result<Replies, BatchFault>
     ensures replies { IfOk result (SpellsReplies from.now) }
     ensures fault { AgreesWith (first_fault replies_kind from.now) result }
