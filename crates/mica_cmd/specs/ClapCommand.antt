@@ -9,6 +9,7 @@ use Rattle.mica_cmd.specs.Words.{Text, Given, text_of, begins_with_hyphen, behin
 abbrev pub option_rule : Text → Rule
 option_rule name = record (new_rule name) { long = Some name; action = Some Set }
 
+-- what clap keeps of a command itself
 abbrev pub command_shape : Text → List Text → Shape
 command_shape command names = record (new_shape command) {
   rules = map option_rule names;
@@ -21,6 +22,7 @@ command_shape command names = record (new_shape command) {
 abbrev pub app_with : Text → List Text → App
 app_with command names = record { top = command_shape command names; subs = [] }
 
+-- there is no text, or an empty one
 abbrev pub is_blank : Option Text → Bool
 is_blank None = true
 is_blank (Some []) = true
@@ -30,7 +32,7 @@ is_blank (Some (x ∷ xs)) = false
 abbrev pub is_stray : Text → Bool
 is_stray word = begins_with_hyphen word && is_blank (behind_hyphens word)
 
--- the texts that the options were given, as `texts` says, are those that the words gave
+-- `texts` says of each name which text the words gave to its option
 abbrev pub IsGiven : (Text → Option Text) → Option Given → Type 0
 IsGiven texts None = ⊥
 IsGiven texts (Some given) = (name : Text) → texts name ≡ text_of given name

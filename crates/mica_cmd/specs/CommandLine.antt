@@ -24,15 +24,21 @@ is_number text = begins_number text && all_ascii_digits text
 -- the number that a text writes, where it is one of this range
 abbrev pub number_of : ℕ → ℕ → Text → Option ℕ
 number_of least most text =
-    if is_number text && is_in_range least most (digits_value 10 text) then Some (digits_value 10 text) else None
+    if is_number text && is_in_range least most (digits_value 10 text)
+    then Some (digits_value 10 text)
+    else None
 
+-- the power of two that a text writes, where it is at most this
 abbrev pub power_of_two_of : ℕ → Text → Option ℕ
-power_of_two_of most text = option_and_then (λ n. if is_power_of_two n then Some n else None) (number_of 1 most text)
+power_of_two_of most text =
+    option_and_then (λ n. if is_power_of_two n then Some n else None) (number_of 1 most text)
 
+-- the mode that a text names, of those that the program has
 abbrev pub mode_of : Text → Option Mode
 mode_of text = if bytes_eq text (codes "store") then Some Store else None
 
--- an option: its name, what a text means as its value, and its value where it is not given; without such a value it is required
+-- an option: its name, what a text means as its value, and its value where it is not given;
+-- without such a value it is required
 pub record Setting (A : Type 0) : Type 0 where
   pub name : Text
   pub meaning : Text → Option A
@@ -40,7 +46,8 @@ pub record Setting (A : Type 0) : Type 0 where
 
 -- an option whose value is a number from `least` to `most`
 abbrev pub number : Text → ℕ → ℕ → ℕ → Setting ℕ
-number name least most default = record { name = name; meaning = number_of least most; default = Some default }
+number name least most default =
+    record { name = name; meaning = number_of least most; default = Some default }
 
 -- each option by its name; a number by its name, its least and greatest value, and its default
 abbrev pub mode : Setting Mode
@@ -67,6 +74,7 @@ tries = number (codes "tries") 1 1000 100
 abbrev pub wear : Setting ℕ
 wear = number (codes "wear") 1 68719476736 68719476736
 
+-- the value of an option that was given this text, or none
 abbrev pub value_by : {A : Type 0} → Setting A → Option Text → Option A
 value_by setting None = setting.default
 value_by setting (Some text) = setting.meaning text
@@ -75,10 +83,12 @@ value_by setting (Some text) = setting.meaning text
 abbrev pub value_of : {A : Type 0} → Setting A → (Text → Option Text) → Option A
 value_of setting given = value_by setting (given setting.name)
 
+-- the second, which takes what the first has, where both have something
 infixr 20 ◌>>=◌
 abbrev pub ◌>>=◌ : {A B : Type 0} → Option A → (A → Option B) → Option B
 value >>= next = option_and_then next value
 
+-- the names of the options of `replay`
 abbrev pub replay_names : List Text
 replay_names = mode.name ∷ partitions.name ∷ buckets.name ∷ spares.name ∷ words.name ∷ readers.name ∷ tries.name ∷ wear.name ∷ []
 
@@ -93,7 +103,16 @@ replay_options given =
     value_of readers given >>= λ readers.
     value_of tries given >>= λ tries.
     value_of wear given >>= λ wear.
-    Some (record { mode = mode; partitions = partitions; buckets = buckets; spares = spares; words = words; readers = readers; tries = tries; wear = wear })
+    Some (record {
+      mode = mode;
+      partitions = partitions;
+      buckets = buckets;
+      spares = spares;
+      words = words;
+      readers = readers;
+      tries = tries;
+      wear = wear;
+    })
 
 -- the command that words give: the first is its name, and the rest are its options
 abbrev pub command_of : List Text → Option Command
@@ -108,5 +127,6 @@ pub record IsOffered (options : Options) : Type 0 where
   pub valid : IsValid options
   pub mode : options.mode ≡ Store
 
+-- the options of a command are offered
 abbrev pub IsOfferedCommand : Command → Type 0
 IsOfferedCommand (Replay options) = IsOffered options
