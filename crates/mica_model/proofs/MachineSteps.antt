@@ -1,124 +1,93 @@
--- A step of the cache machine: its history, its state and its fates.
-use Rattle.std.proofs.Common.{◌≡◌, ℕ, ◌+◌, ◌≤◌, ◌<◌, List, [], ◌∷◌, ◌++◌, length, Option, Some, None, Bool, true, false, cond, refl, sym, ap, ◌∙◌, subst, is_some}
-use Rattle.std.specs.List.{AllByRecursion as AllOf}
-use Rattle.std.specs.Str.{bytes_eq}
-use Rattle.std.proofs.lemmas.Bool.{le-leb, lt-leb}
-use Rattle.mica_model.specs.declared.options.Options.{Options}
-use Rattle.mica_model.specs.declared.options.Mode.TheVariants.{Cache as CacheMode}
-use Rattle.mica_model.specs.declared.accepted.Accepted.{Accepted}
-use Rattle.mica_model.specs.declared.write.Write.{Write}
+-- Accepted writes, by the fields of the machine.
+use Rattle.std.proofs.Common.{◌≡◌, ℕ, List, ◌+◌, ◌<◌, ◌≤◌, ◌⊎◌, ⊎_elim, refl, sym, ap, ◌∙◌, subst, arith, cond, true}
+use Rattle.std.proofs.Math.Nat.{mod-lt, one-le-pow}
+use Rattle.std.specs.Prelude.{max}
+use Rattle.std.specs.FinMap.{get, insert, remove}
+use Rattle.mica_words.specs.Hash.{fnv1a, bucket_of}
+use Rattle.mica_words.specs.Item.{item_size}
 use Rattle.mica_model.specs.declared.write.Op.{Op}
-use Rattle.mica_model.specs.declared.write.Op.TheVariants.{Put, Del}
+use Rattle.mica_model.specs.declared.write.Op.TheVariants.{Del}
 use Rattle.mica_model.specs.declared.write.Outcome.{Outcome}
-use Rattle.mica_model.specs.declared.write.Outcome.TheVariants.{Worn}
-use Rattle.mica_model.specs.declared.fate.Fate.{Fate}
-use Rattle.mica_model.specs.declared.fate.Fate.TheVariants.{Displaced, Passed, Held}
-use Rattle.mica_model.specs.Options.{IsValid}
-use Rattle.mica_model.specs.Write.{IsWrite, is_accepted}
-use Rattle.mica_model.specs.Cache as cache
-use Rattle.mica_model.specs.Cache.{Cache}
-use Rattle.mica_model.specs.CacheStep as cs
-use Rattle.mica_model.specs.CacheFields.{writes_of, fate_in, fate_written, marked_passed, marked_displaced, displaced_record}
-use Rattle.mica_model.specs.Fate.{has_record, fate_of, fate_after}
-use Rattle.mica_model.specs.History.{History, State, cache_state, after, state_of, IsHistory, IsAcceptedAfter, Allows}
-use Rattle.mica_model.specs.Logged.{Logged, IsLoggedStep}
-use Rattle.mica_model.proofs.CacheLaws.{kept_in}
-use Rattle.mica_model.proofs.FateLaws.{cache_of, state_is_cache, fate_snoc, right_in}
-use Rattle.mica_model.proofs.FateMarks.{passed_writes, displaced_writes}
-use Rattle.mica_model.proofs.FateSteps.{fate_step}
-use Rattle.mica_model.proofs.Found.{all_push}
-use Rattle.mica_model.proofs.Histories.{state_snoc, history_snoc}
+use Rattle.mica_model.specs.declared.write.Outcome.TheVariants.{Stored, Deleted, Absent}
+use Rattle.mica_model.specs.declared.store_machine.StoreMachine.TheInside.{Inside}
+use Rattle.mica_model.specs.Write.{write_of, is_accepted}
+use Rattle.mica_model.specs.Store.{Store, room_of, rooms, spares_in_use}
+use Rattle.mica_model.specs.StoreStep.{Allows, after}
+use Rattle.mica_model.specs.CellTable.{Table, with_cells}
+use Rattle.mica_model.specs.StoreMachineFields.{IsMachine}
+use Rattle.mica_model.specs.History.{IsStep, store_state}
+use Rattle.mica_model.proofs.StoreSteps.{put_state, put_rooms, put_spares, delete_rooms, delete_spares}
 
-same_accepted : (op : Op) (options : Options) (s : Cache) (write : Write) → (cs.after_op op options s write).accepted ≡ s.accepted
-same_accepted Put options s write = put_same (cs.kept_record options s write)
-  where
-    put_same : (o : Option cache.Record) → (cs.after_put o s write).accepted ≡ s.accepted
-    put_same None = refl
-    put_same (Some held) = refl
-same_accepted Del options s write = refl
+-- the machine with another table, after an accepted write
+abbrev pub accepting : Inside → Table → Inside
+accepting a table = record { options = a.options; table = table; stamp = a.stamp + 1; accepted = a.accepted + 1 }
 
-pub written_accepted : (options : Options) (s : Cache) (write : Write) → (cs.after_write options s write).accepted ≡ s.accepted
-written_accepted options s write = same_accepted write.op options s write
+abbrev pub store_of : Inside → Store
+store_of a = record { cells = a.table.cells; stamp = a.stamp; accepted = a.accepted }
 
-is_reply : (op : Op) (b : Bool) → is_accepted (cs.reply_of op b) ≡ true
-is_reply Put b = refl
-is_reply Del true = refl
-is_reply Del false = refl
+bucket_within : (key : List ℕ) (buckets : ℕ) → 0 < buckets → bucket_of key buckets < buckets
+unfolding bucket_of
+bucket_within key buckets some = mod-lt (fnv1a key) some
 
-same_state : (s t : Cache) → cache_state s ≡ cache_state t → s ≡ t
-same_state s t e = cc
+module _ (a : Inside) (m : IsMachine a) (op : Op) (key value : List ℕ) where
+  within : bucket_of key a.options.buckets < a.options.buckets
+  within = bucket_within key a.options.buckets (subst (λ n. 0 < n) (sym m.valid.buckets.2) (let one = one-le-pow m.valid.buckets.0 2 (omega arith) in omega arith))
 
-module _ (options : Options) (history : History) (s : Cache) (at : state_of options history ≡ cache_state s) (write : Write) where
-  abbrev old : Logged
-  old = record { options = options; history = history }
+  module _ (allowed : Allows a.options (store_of a) (write_of op key value) Stored) (room : ℕ) (takes : room ≡ max (room_of (get a.table.cells key)) (item_size key value))
+      (table : Table) (new : table ≡ with_cells a.table (insert a.table.cells key (record { value = value; room = room }))) where
+    pub put_keeps : IsMachine (accepting a table)
+    put_keeps =
+        let words = put_rooms a.options (store_of a) op key value room takes allowed.1.1 m.words in
+        let spares = put_spares a.options (store_of a) op key value room takes within allowed.1.1 m.spares in
+        let alive = allowed.0 in
+        record {
+          valid = m.valid;
+          buckets = ap (λ (t : Table). t.buckets) new ∙ m.buckets;
+          words = subst (λ (t : Table). rooms t.cells ≤ a.options.words) (sym new) words;
+          spares = subst (λ (t : Table). spares_in_use a.options.buckets t.cells ≤ a.options.spares) (sym new) spares;
+          stamp = ap (λ n. n + 1) m.stamp;
+          accepted = omega arith;
+        }
 
-  pub worn_step : options.wear ≤ s.accepted → IsLoggedStep (record { options = options; history = history }) write Worn (record { options = options; history = history })
-  unfolding cs.reply
-  worn_step worn = record {
-    options = refl;
-    history = refl;
-    step = record {
-      allowed = subst (λ (t : State). Allows options t write Worn) (sym at) (sym (ap (λ b. cond b Worn (cs.reply_of write.op (is_some (cache.record_of s write.key)))) (le-leb options.wear s.accepted worn)));
-      result = refl;
-    };
-  }
-
-  module _ (unworn : s.accepted < options.wear) (outcome : Outcome) (replied : outcome ≡ cs.reply_of write.op (has_record s write.key)) where
-    is_done : is_accepted outcome ≡ true
-    is_done = ap is_accepted replied ∙ is_reply write.op (has_record s write.key)
-
-    allowed : Allows options (state_of options history) write outcome
-    unfolding cs.reply
-    allowed = subst (λ (t : State). Allows options t write outcome) (sym at)
-        (replied ∙ sym (ap (λ b. cond b Worn (cs.reply_of write.op (has_record s write.key))) (lt-leb options.wear s.accepted unworn)))
-
-    may_follow : IsAcceptedAfter options history write
-    may_follow = (outcome, is_done, allowed)
-
-    pub accepted_step : (later : History) → later ≡ history ++ write ∷ [] → IsLoggedStep (record { options = options; history = history }) write outcome (record { options = options; history = later })
-    accepted_step later is = record {
-      options = refl;
-      history = is ∙ sym (ap (λ b. cond b (history ++ write ∷ []) history) is_done);
-      step = record {
-        allowed = allowed;
-        result = ap (state_of options) is ∙ state_snoc options history write ∙ sym (ap (λ b. cond b (after options (state_of options history) write) (state_of options history)) is_done);
-      };
+    pub put_steps : IsStep a.options (store_state (store_of a)) (write_of op key value) Stored (store_state (store_of (accepting a table)))
+    put_steps = record {
+      allowed = allowed;
+      result = ap (λ (t : Table). store_state (record { cells = t.cells; stamp = a.stamp + 1; accepted = a.accepted + 1 })) new
+          ∙ ap store_state (sym (put_state a.options (store_of a) op key value room takes op allowed.1.0));
     }
 
-    pub later_lawful : IsHistory options history → IsHistory options (history ++ write ∷ [])
-    later_lawful lawful = history_snoc options history write lawful may_follow
+  module _ (outcome : Outcome) (which : (outcome ≡ Deleted) ⊎ (outcome ≡ Absent)) (allowed : Allows a.options (store_of a) (write_of op key value) outcome)
+      (table : Table) (new : table ≡ with_cells a.table (remove a.table.cells key)) where
+    deletes : (op ≡ Del) × (is_accepted outcome ≡ true) × (¬ (a.options.wear ≤ a.accepted))
+    deletes =
+        ⊎_elim (λ is. let there = subst (Allows a.options (store_of a) (write_of op key value)) is allowed in (there.1.0, ap is_accepted is, there.0))
+        (λ is. let there = subst (Allows a.options (store_of a) (write_of op key value)) is allowed in (there.1.0, ap is_accepted is, there.0))
+        which
 
-pub later_state : (options : Options) (history : History) (s : Cache) → state_of options history ≡ cache_state s → (write : Write) → state_of options (history ++ write ∷ []) ≡ cache_state (cs.after options s write)
-later_state options history s at write = state_snoc options history write ∙ ap (λ (t : State). after options t write) at
+    pub delete_keeps : IsMachine (accepting a table)
+    delete_keeps =
+        let words = delete_rooms (store_of a) key in
+        let alive = deletes.2 in
+        let bound = m.words in
+        let less : rooms (remove a.table.cells key) ≤ a.options.words = omega arith in
+        record {
+          valid = m.valid;
+          buckets = ap (λ (t : Table). t.buckets) new ∙ m.buckets;
+          words = subst (λ (t : Table). rooms t.cells ≤ a.options.words) (sym new) less;
+          spares = subst (λ (t : Table). spares_in_use a.options.buckets t.cells ≤ a.options.spares) (sym new) (delete_spares a.options (store_of a) key within m.spares);
+          stamp = ap (λ n. n + 1) m.stamp;
+          accepted = omega arith;
+        }
 
-pub later_writes : (history : History) (write : Write) → AllOf IsWrite history → IsWrite write → AllOf IsWrite (history ++ write ∷ [])
-later_writes history write writes is = all_push IsWrite history write writes is
+    delete_state : after (store_of a) (write_of Del key value) ≡ record { cells = remove a.table.cells key; stamp = a.stamp + 1; accepted = a.accepted + 1 }
+    unfolding after
+    delete_state = refl
 
--- the state after the whole step, with the accepted writes counted
-
-pub counted : (options : Options) (s : Cache) (write : Write) (n : ℕ) → n ≡ s.accepted → record (cs.without_displaced options write.key (cs.without_passed options (cs.after_write options s write))) { accepted = n + 1 } ≡ cs.after options s write
-unfolding cs.after
-counted options s write n is = ap (λ (m : ℕ). record (cs.without_displaced options write.key (cs.without_passed options (cs.after_write options s write))) { accepted = m + 1 }) is
-
-module _ (options : Options) (valid : IsValid options) (mode : options.mode ≡ CacheMode) (log : List Accepted) (writes : AllOf IsWrite (writes_of log)) (s : Cache) (at : state_of options (writes_of log) ≡ cache_state s)
-    (fates : (key : List ℕ) → fate_of options (writes_of log) key ≡ fate_in log key) (write : Write) (is : IsWrite write) where
-  state_is : cache_of options (writes_of log) ≡ s
-  state_is = same_state _ _ (sym (state_is_cache options mode (writes_of log)) ∙ at)
-
-  right : (key : List ℕ) → has_record s key ≡ true → fate_in log key ≡ Held
-  right key here = sym (fates key) ∙ (right_in options (writes_of log) key).on (ap (λ (t : Cache). has_record t key) state_is ∙ here)
-
-  pub later_fates : (n : ℕ) → n ≡ length (writes_of log) + 1 → (noted : List Accepted) (fate : Fate) → fate ≡ fate_written (cs.reply_of write.op (has_record s write.key)) n (fate_in log write.key)
-      → ((key : List ℕ) → fate_in noted key ≡ cond (bytes_eq write.key key) fate (fate_in log key))
-      → (key : List ℕ) → fate_of options (writes_of log ++ write ∷ []) key
-      ≡ fate_in (marked_displaced (Displaced n) (displaced_record options write.key (cs.without_passed options (cs.after_write options s write)).records)
-      (marked_passed (Passed n) options.words (cs.after_write options s write).stamp (cs.after_write options s write).records noted)) key
-  later_fates n count noted fate fate_is notes key =
-      fate_snoc options (writes_of log) write key
-      ∙ ap (λ (t : Cache). fate_after options t write (length (writes_of log) + 1) key (fate_of options (writes_of log) key)) state_is
-      ∙ ap (λ (m : ℕ). fate_after options s write m key (fate_of options (writes_of log) key)) (sym count)
-      ∙ fate_step options valid s (kept_in options (writes_of log) writes s at) write is n log right noted fate fate_is notes key (fate_of options (writes_of log) key) (fates key)
-
-pub later_log : (options : Options) (key : List ℕ) (n words stamp : ℕ) (rs ts : List cache.Record) (noted : List Accepted)
-    → writes_of (marked_displaced (Displaced n) (displaced_record options key ts) (marked_passed (Passed n) words stamp rs noted)) ≡ writes_of noted
-later_log options key n words stamp rs ts noted = displaced_writes options key (Displaced n) ts (marked_passed (Passed n) words stamp rs noted) ∙ passed_writes (Passed n) words stamp rs noted
+    pub delete_steps : IsStep a.options (store_state (store_of a)) (write_of op key value) outcome (store_state (store_of (accepting a table)))
+    delete_steps = record {
+      allowed = allowed;
+      result = ap (λ (t : Table). store_state (record { cells = t.cells; stamp = a.stamp + 1; accepted = a.accepted + 1 })) new
+          ∙ ap store_state (sym delete_state)
+          ∙ ap (λ o. store_state (after (store_of a) (write_of o key value))) (sym deletes.0)
+          ∙ ap (λ b. cond b (store_state (after (store_of a) (write_of op key value))) (store_state (store_of a))) (sym deletes.1);
+    }

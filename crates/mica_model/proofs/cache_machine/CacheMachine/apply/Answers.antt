@@ -16,7 +16,7 @@ use Rattle.mica_model.specs.Logged.{Logged, IsLoggedStep}
 use Rattle.mica_model.specs.Write.{IsWrite, write_of}
 use Rattle.mica_model.proofs.CacheLaws.{kept_in, stamp_bound}
 use Rattle.mica_model.proofs.Histories.{within_wear, accepted_is_length}
-use Rattle.mica_model.proofs.MachineSteps.{worn_step, accepted_step, later_lawful, later_state, later_writes, later_fates, later_log, counted, written_accepted}
+use Rattle.mica_model.proofs.CacheMachineSteps.{worn_step, accepted_step, later_lawful, later_state, later_writes, later_fates, later_log, counted, written_accepted}
 use Rattle.mica_model.proofs.cache_machine.CacheMachine.apply.Goals as goal
 
 pub write-requires-clause-stamp : goal.write-requires-clause-stamp
