@@ -4,6 +4,7 @@ ghost use Rattle.mica_trace.specs.ReportGrammar.{report_line_text, IsReportLine,
 
 use mica_io::{Bytes, NoMemory};
 use mica_model::{Op, Outcome};
+use mica_words::MAX_VALUE_LEN;
 use std::alloc::Global;
 use std::marker::Model;
 
@@ -43,12 +44,13 @@ impl Model for Report {
 }
 
 impl Report {
-    pub fn new(alloc: Global) -> Self
-        ensures { result ≡ [] }
+    /// No lines, with room for this many.
+    pub fn with_capacity(alloc: Global, lines: u32) -> Result<Self, NoMemory>
+        ensures { IfOk result (λ report. report ≡ []) }
     {
-        Report {
-            lines: Vec::new(alloc),
-        }
+        Ok(Report {
+            lines: Vec::with_capacity(alloc, lines as usize)?,
+        })
     }
 
     /// Adds a line at the end.
@@ -65,6 +67,13 @@ impl Report {
         ensures { result ≡ length self.now }
     {
         self.lines.len() as u32
+    }
+
+    /// All lines, in order.
+    pub fn lines(&self) -> &[Line]
+        ensures { result.now ≡ self.now }
+    {
+        self.lines.as_slice()
     }
 
     /// The line of this number, from 0.
@@ -97,29 +106,20 @@ fn outcome_text(outcome: Outcome) -> &'static str
     }
 }
 
-// The line's text without its line feed.
-fn text_of(alloc: Global, line: &Line) -> Result<Vec<u8>, NoMemory>
-    ensures { IfOk result (λ text. text.items ≡ report_line_text line.now) }
+// Appends the parts and a line feed, or nothing.
+fn append(out: &mut Vec<u8>, front: &str, value: &[u8]) -> Result<(), NoMemory>
+    requires { length value.now ≤ MAX_VALUE_LEN }
+    ensures ok { OnOk result (out.new.items ≡ out.old.items ++ (front.now ++ value.now) ++ 10 ∷ []) }
+    ensures err { OnErr result (out.new.items ≡ out.old.items) }
 {
-    match line {
-        Line::Wrote { op, outcome, stamp } => {
-            let op = op_text(*op);
-            let outcome = outcome_text(*outcome);
-            let text = format!(in alloc; "{op} {stamp} {outcome}")?;
-            Ok(Vec::from_slice(alloc, text.as_bytes())?)
-        }
-        Line::Hit { stamp, value } => {
-            let front = format!(in alloc; "get {stamp} hit ")?;
-            let mut text = Vec::from_slice(alloc, front.as_bytes())?;
-            text.extend_from_slice(value.bytes())?;
-            Ok(text)
-        }
-        Line::Miss { stamp } => {
-            let text = format!(in alloc; "get {stamp} miss")?;
-            Ok(Vec::from_slice(alloc, text.as_bytes())?)
-        }
-        Line::Sync => Ok(Vec::from_slice(alloc, b"sync")?),
+    out.reserve(front.len() + value.len() + 1)?;
+    let room = out.extend_from_slice(front.as_bytes()).is_ok()
+        && out.extend_from_slice(value).is_ok()
+        && out.push(b'\n').is_ok();
+    if !room {
+        unreachable!();
     }
+    Ok(())
 }
 
 /// Appends the line's text and a line feed. After want of memory nothing is appended.
@@ -129,8 +129,21 @@ pub fn put_report_line(line: &Line, out: &mut Vec<u8>) -> Result<(), NoMemory>
     ensures err { OnErr result (out.new.items ≡ out.old.items) }
 {
     let alloc = *out.allocator();
-    let mut text = text_of(alloc, line)?;
-    text.push(b'\n')?;
-    out.extend_from_slice(text.as_slice())?;
-    Ok(())
+    match line {
+        Line::Wrote { op, outcome, stamp } => {
+            let op = op_text(*op);
+            let outcome = outcome_text(*outcome);
+            let front = format!(in alloc; "{op} {stamp} {outcome}")?;
+            append(out, front.as_str(), b"")
+        }
+        Line::Hit { stamp, value } => {
+            let front = format!(in alloc; "get {stamp} hit ")?;
+            append(out, front.as_str(), value.bytes())
+        }
+        Line::Miss { stamp } => {
+            let front = format!(in alloc; "get {stamp} miss")?;
+            append(out, front.as_str(), b"")
+        }
+        Line::Sync => append(out, "sync", b""),
+    }
 }

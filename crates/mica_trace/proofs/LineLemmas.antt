@@ -1,0 +1,115 @@
+-- Lemmas on the lines of a text and of a trace.
+use Rattle.std.proofs.Common.{◌≡◌, ◌≢◌, ℕ, zero, suc, ◌+◌, ◌-◌, ◌<◌, ◌≤◌, List, [], ◌∷◌, ◌++◌, length, length-append, get_or, take, cond, refl, sym, ap, ◌∙◌, subst, arith, Bool, true, false, ne_eqb, eqb, codes}
+use Rattle.std.specs.List.{AllByRecursion, AllZip}
+use Rattle.std.proofs.lemmas.Bool.{false≢true}
+use Rattle.std.proofs.lemmas.List.{take_more}
+use Rattle.std.proofs.lemmas.List.Sums.{sum_by-cons}
+use Rattle.mica_trace.specs.declared.line.TraceOp.{TraceOp}
+use Rattle.mica_trace.specs.declared.line.TraceOp.TheVariants.{Put, Del, Get, Sync}
+use Rattle.mica_trace.specs.declared.line.TraceLine.{TraceLine}
+use Rattle.mica_trace.specs.Lines.{onto_first, lines_of, Lacks}
+use Rattle.mica_trace.specs.TraceGrammar.{IsKey, IsValue, HasFields, IsTraceLine, op_text, line_text, IsTextOf, is_sync, is_sync_op, syncs_in}
+
+pub All_push : {X : Type 0} (P : X → Type 0) (xs : List X) (y : X) → AllByRecursion P xs → P y → AllByRecursion P (xs ++ y ∷ [])
+All_push P [] y all here = (here, tt)
+All_push P (x ∷ xs) y all here = (all.0, All_push P xs y all.1 here)
+
+pub Lacks_more : (byte : ℕ) (text : List ℕ) (i b : ℕ) → i < length text → b ≡ get_or text i b → b ≢ byte → Lacks byte (take i text) → Lacks byte (take (i + 1) text)
+Lacks_more byte text i b within is other so_far =
+    subst (Lacks byte) (sym (take_more text i b within ∙ ap (λ x. take i text ++ x ∷ []) (sym is))) (All_push (λ x. x ≢ byte) (take i text) b so_far other)
+
+pub lines_of_fed : (line rest : List ℕ) → Lacks 10 line → lines_of (line ++ 10 ∷ rest) ≡ line ∷ lines_of rest
+lines_of_fed [] rest lacks = refl
+lines_of_fed (b ∷ line) rest lacks =
+    ap (λ t. cond t ([] ∷ lines_of (line ++ 10 ∷ rest)) (onto_first b (lines_of (line ++ 10 ∷ rest)))) (ne_eqb b 10 lacks.0)
+    ∙ ap (onto_first b) (lines_of_fed line rest lacks.1)
+
+pub lines_of_last : (line : List ℕ) → 0 < length line → Lacks 10 line → lines_of line ≡ line ∷ []
+lines_of_last [] some lacks = absurd (omega arith)
+lines_of_last (b ∷ []) some lacks = ap (λ t. cond t ([] ∷ []) ((b ∷ []) ∷ [])) (ne_eqb b 10 lacks.0)
+lines_of_last (b ∷ c ∷ line) some lacks =
+    ap (λ t. cond t ([] ∷ lines_of (c ∷ line)) (onto_first b (lines_of (c ∷ line)))) (ne_eqb b 10 lacks.0)
+    ∙ ap (onto_first b) (lines_of_last (c ∷ line) (omega arith) lacks.1)
+
+pub one_split : (a b c d : List ℕ) → Lacks 32 a → Lacks 32 c → a ++ 32 ∷ b ≡ c ++ 32 ∷ d → (a ≡ c) × (b ≡ d)
+one_split [] b [] d a_lacks c_lacks same = (refl, cc)
+one_split [] b (y ∷ c) d a_lacks c_lacks same = let head : y ≡ 32 = cc in absurd (c_lacks.0 head)
+one_split (x ∷ a) b [] d a_lacks c_lacks same = let head : x ≡ 32 = cc in absurd (a_lacks.0 head)
+one_split (x ∷ a) b (y ∷ c) d a_lacks c_lacks same =
+    let head : x ≡ y = cc in
+    let tail : a ++ 32 ∷ b ≡ c ++ 32 ∷ d = cc in
+    let rest = one_split a b c d a_lacks.1 c_lacks.1 tail in
+    let keys = rest.0 in
+    (cc, rest.1)
+
+pub key_lacks_space : (key : List ℕ) → AllByRecursion (λ b. (33 ≤ b) × (b ≤ 126)) key → Lacks 32 key
+key_lacks_space [] all = tt
+key_lacks_space (b ∷ key) all = ((λ is. let here = all.0 in omega arith), key_lacks_space key all.1)
+
+pub space_or_none : (key value : List ℕ) → ¬ (Lacks 32 (key ++ 32 ∷ value))
+space_or_none [] value lacks = lacks.0 refl
+space_or_none (b ∷ key) value lacks = space_or_none key value lacks.1
+
+-- what no reading of a line finds
+pub no_line : (text : List ℕ) → text ≢ codes "sync"
+    → ((key : List ℕ) → text ≡ codes "get " ++ key → ¬ (IsKey key))
+    → ((key : List ℕ) → text ≡ codes "del " ++ key → ¬ (IsKey key))
+    → ((key value : List ℕ) → text ≡ codes "put " ++ (key ++ 32 ∷ value) → IsKey key → ¬ (IsValue value))
+    → (line : TraceLine) → ¬ (IsTextOf text line)
+no_line text no_sync no_get no_del no_put line is = by line.op line.key line.value is.0 is.1
+  where
+    by : (op : TraceOp) (key value : List ℕ) → HasFields op key value → text ≡ op_text op key value → ⊥
+    by Put key value fields spelled = no_put key value spelled fields.0 fields.1
+    by Del key value fields spelled = no_del key spelled fields.0
+    by Get key value fields spelled = no_get key spelled fields.0
+    by Sync key value fields spelled = no_sync spelled
+
+op_text_length : (op : TraceOp) (key value : List ℕ) → HasFields op key value → length (op_text op key value) ≤ 1284
+op_text_length Put key value fields = let k = fields.0.0.1 in let v = fields.1.0 in omega (arith, length-append key (32 ∷ value))
+op_text_length Del key value fields = let k = fields.0.0.1 in omega arith
+op_text_length Get key value fields = let k = fields.0.0.1 in omega arith
+op_text_length Sync key value fields = omega arith
+
+-- a line of a trace is not long
+pub text_length : (text : List ℕ) (line : TraceLine) → IsTextOf text line → length text ≤ 1284
+text_length text line is = subst (λ t. length t ≤ 1284) (sym is.1) (op_text_length line.op line.key line.value is.0)
+
+sync_op : (op : TraceOp) (key value : List ℕ) → codes "sync" ≡ op_text op key value → is_sync_op op ≡ true
+sync_op Put key value same = absurd (false≢true (sym (ap (λ t. eqb (get_or t 0 0) 115) same)))
+sync_op Del key value same = absurd (false≢true (sym (ap (λ t. eqb (get_or t 0 0) 115) same)))
+sync_op Get key value same = absurd (false≢true (sym (ap (λ t. eqb (get_or t 0 0) 115) same)))
+sync_op Sync key value same = refl
+
+-- the text of a sync is no other line's
+pub sync_text : (text : List ℕ) (line : TraceLine) → IsTextOf text line → text ≡ codes "sync" → is_sync line ≡ true
+sync_text text line is same = sync_op line.op line.key line.value (sym same ∙ is.1)
+
+text_sync_op : (op : TraceOp) (key value : List ℕ) → is_sync_op op ≡ true → op_text op key value ≡ codes "sync"
+text_sync_op Put key value is = absurd (cc)
+text_sync_op Del key value is = absurd (cc)
+text_sync_op Get key value is = absurd (cc)
+text_sync_op Sync key value is = refl
+
+pub text_of_sync : (text : List ℕ) (line : TraceLine) → IsTextOf text line → is_sync line ≡ true → text ≡ codes "sync"
+text_of_sync text line is sync = is.1 ∙ text_sync_op line.op line.key line.value sync
+
+same_sync : (a b : Bool) → (a ≡ true → b ≡ true) → (b ≡ true → a ≡ true) → a ≡ b
+same_sync true b there back = sym (there refl)
+same_sync false true there back = back refl
+same_sync false false there back = refl
+
+-- lines of the same text are syncs together
+pub one_sync : (text : List ℕ) (a b : TraceLine) → IsTextOf text a → IsTextOf text b → is_sync a ≡ is_sync b
+one_sync text a b is_a is_b =
+    same_sync (is_sync a) (is_sync b) (λ s. sync_text text b is_b (text_of_sync text a is_a s)) (λ s. sync_text text a is_a (text_of_sync text b is_b s))
+
+pub syncs_cons : (line : TraceLine) (lines : List TraceLine) → syncs_in (line ∷ lines) ≡ cond (is_sync line) 1 0 + syncs_in lines
+syncs_cons line lines = sum_by-cons (λ l. cond (is_sync l) 1 0) line lines
+
+pub syncs_push : (lines : List TraceLine) (line : TraceLine) → syncs_in (lines ++ line ∷ []) ≡ syncs_in lines + cond (is_sync line) 1 0
+syncs_push [] line = syncs_cons line [] ∙ omega arith
+syncs_push (l ∷ lines) line =
+    let here = syncs_cons l (lines ++ line ∷ []) in
+    let there = syncs_cons l lines in
+    let rest = syncs_push lines line in
+    omega arith
