@@ -1,6 +1,7 @@
 //! The replay of a trace: one machine for each partition, and a report that is lawful for the trace.
 #![tactic(auto)]
 
+mod machine;
 mod printing;
 mod run;
 
