@@ -2,7 +2,7 @@
 use Rattle.std.proofs.Common.{◌≡◌, ℕ, inl, inr, List, [], ◌∷◌, ◌++◌, Option, Some, None, refl, sym, ap, ◌∙◌, subst, cond, true, false, Bool}
 use Rattle.std.specs.List.{fold, cons_option}
 use Rattle.std.specs.Option.{option_to_list}
-use Rattle.std.specs.Prelude.{is_some, nat_le}
+use Rattle.std.specs.Prelude.{is_some}
 use Rattle.std.proofs.lemmas.Grind.{fold-append}
 use Rattle.std.proofs.lemmas.List.{append-nil}
 use Rattle.mica_model.specs.declared.options.Options.{Options}
@@ -28,7 +28,7 @@ use Rattle.mica_trace.specs.ReportGrammar.{HasOutcome, IsReportLine}
 use Rattle.mica_trace.specs.LawfulReport.{IsKindOf, step_by, Answers}
 use Rattle.mica_trace.specs.Rounds.{write_by}
 use Rattle.mica_replay.specs.Machines.{StepsAs}
-use Rattle.mica_replay.specs.Replied.{Replied, RepliedBy, IsWriteLine, IsWritten, IsRead}
+use Rattle.mica_replay.specs.Replied.{Replied, RepliedBy, IsWriteLine, IsWritten}
 use Rattle.mica_replay.proofs.InOrder.{At, gain, write_in_line, step_in_line}
 
 cache_outcome : (op : Op) (worn found : Bool) → HasOutcome op (cond worn Worn (cs.reply_of op found))

@@ -1,23 +1,23 @@
 -- How far a trace has run: the machine of each partition has the history of its part of the writes.
-use Rattle.std.proofs.Common.{◌≡◌, ◌≢◌, ℕ, zero, suc, ◌+◌, ◌<◌, ◌≤◌, List, [], ◌∷◌, ◌++◌, length, get_or, take, Some, refl, sym, ap, ◌∙◌, subst, arith, slice_get, slice_set, eq-eqb, ne_eqb, inl, inr, ◌⊎◌, replicate, map}
+use Rattle.std.proofs.Common.{◌≡◌, ◌≢◌, ℕ, zero, suc, ◌+◌, ◌≤◌, List, [], ◌∷◌, ◌++◌, length, take, Some, refl, sym, ap, ◌∙◌, subst, arith, slice_get, slice_set, eq-eqb, ne_eqb, inl, inr, ◌⊎◌, replicate, map}
 use Rattle.std.specs.List.{AllByRecursion}
 use Rattle.std.proofs.lemmas.List.{take_more, take_all, length_push, length-set, length-replicate}
 use Rattle.std.proofs.lemmas.Option.{get_or_from_slice_get, slice_get_within}
 use Rattle.mica_model.specs.declared.options.Options.{Options}
 use Rattle.mica_model.specs.declared.write.Write.{Write}
 use Rattle.mica_model.specs.Machine.{Machine, new_machine}
-use Rattle.mica_model.specs.History.{History, state_of, State, start, IsStep}
+use Rattle.mica_model.specs.History.{History, state_of, IsStep}
 use Rattle.mica_model.proofs.Values.{ValuesAre, start_are}
 use Rattle.mica_trace.specs.declared.line.TraceOp.TheVariants.{Get}
 use Rattle.mica_trace.specs.declared.line.TraceLine.{TraceLine}
 use Rattle.mica_trace.specs.declared.report.Line.{Line}
 use Rattle.mica_trace.specs.TraceGrammar.{IsTraceLine, IsValue}
 use Rattle.mica_trace.specs.Rounds.{partition_in}
-use Rattle.mica_trace.specs.LawfulReport.{IsGetAt, Answers, history_after}
+use Rattle.mica_trace.specs.LawfulReport.{Answers, history_after}
 use Rattle.mica_trace.specs.ExactReport.{writes_before, ExactReport}
 use Rattle.mica_replay.specs.Machines.{StepsAs, AreNew}
 use Rattle.mica_replay.specs.Replied.{Replied}
-use Rattle.mica_replay.proofs.InOrder.{InOrder, At, IsWritten, gain, part, part_gain, part_kept, push, one_to_one, runs, at_place, write_in_line}
+use Rattle.mica_replay.proofs.InOrder.{InOrder, IsWritten, gain, part, part_gain, part_kept, push, one_to_one, runs, at_place}
 use Rattle.mica_replay.proofs.Following.{follows, Follows, replied_as}
 
 -- the machine of partition p has the state of the partition's part of the writes

@@ -2,6 +2,7 @@
 #![tactic(auto)]
 
 mod machine;
+mod on_partition;
 mod printing;
 mod run;
 
