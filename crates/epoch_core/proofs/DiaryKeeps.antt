@@ -11,8 +11,8 @@ use Rattle.epoch_core.specs.declared.plain.Diary.{Diary}
 use Rattle.epoch_core.specs.declared.plain.Blank.{Blank}
 use Rattle.epoch_core.specs.Shape.{IsValidShape}
 use Rattle.epoch_core.specs.OwnerState.{as_made}
-use Rattle.epoch_core.specs.Events.{IsAllowed, after}
-use Rattle.epoch_core.specs.Diary.{CanPlay, plays, blank_diary, diary_after, DiaryFits, AllFit, knows, happened}
+use Rattle.epoch_core.specs.Events.{IsAllowed, after, CanPlay, plays}
+use Rattle.epoch_core.specs.Diary.{blank_diary, diary_after, DiaryFits, AllFit, knows, happened}
 use Rattle.epoch_core.proofs.Made.{kept_as_made}
 use Rattle.epoch_core.proofs.Keeps.{kept_after}
 

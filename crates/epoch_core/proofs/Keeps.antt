@@ -75,7 +75,7 @@ module _ (o : OwnerState) (s : Kept o) where
 
   -- Events that change neither history nor stamp carry what the words stand for in unmarked buckets.
   module _ (e : Event) (a : IsAllowed e o) (history : (after e o).history ≡ o.history) (stamp : stamp_in (after e o) ≡ stamp_in o) where
-    still : (b : ℕ) → IsMain o.shape b → marked_in o.phase b ≡ 0 → Carries o (words_after e o) (history_after e o.history) (phase_after e o) b
+    pub still : (b : ℕ) → IsMain o.shape b → marked_in o.phase b ≡ 0 → Carries o (words_after e o) (history_after e o.history) (phase_after e o) b
     still b l none = record {
       stands = s.state b l none;
       word = λ i r. other_word o s e i (spares o s (log_spares o s) b l none e a i r);

@@ -12,3 +12,4 @@ pub mod Log
 pub mod Keeps
 pub mod Inside
 pub mod DiaryKeeps
+pub mod Puts

@@ -35,7 +35,7 @@ order zero (suc y) = inl (omega arith)
 order (suc x) zero = inr (omega arith)
 order (suc x) (suc y) = ⊎_elim (λ (less : x < y). inl (omega arith)) (λ (more : y ≤ x). inr (omega arith)) (order x y)
 
-not_below : (n x y : ℕ) → x % n ≡ y % n → x < y → y < x + n → ⊥
+pub not_below : (n x y : ℕ) → x % n ≡ y % n → x < y → y < x + n → ⊥
 not_below n x y same less near =
     quotients n (x / n) (y / n) (x % n) x y (div-add-mod x n) (ap (λ (z : ℕ). n * (y / n) + z) same ∙ div-add-mod y n) less near (order (x / n) (y / n))
 

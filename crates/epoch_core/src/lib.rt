@@ -5,6 +5,7 @@
 #![tactic(auto)]
 
 mod event;
+mod item;
 mod partition;
 mod plain;
 mod shape;
@@ -12,6 +13,7 @@ mod state;
 mod words;
 
 pub use event::{Event, OwnerEvent};
+pub use item::{holds_key, write_item};
 pub use partition::Partition;
 pub use plain::{Alone, Blank, Diary, Happens, PlainWords};
 pub use shape::{Shape, WordAt};
