@@ -1,19 +1,13 @@
 //! Items, from their first word on.
-ghost use Rattle.std.specs.Prelude.{◌≡◌, ℕ, ◌+◌, ◌<◌, ◌^◌, length, slice_index};
+ghost use Rattle.std.specs.Prelude.{◌≡◌, ◌<◌, ◌^◌};
 ghost use Rattle.mica_words.specs.Item.{KeyFits, ValueFits, item_size as item_size_of};
-ghost use Rattle.epoch_core.specs.OwnerState.{item_in};
 ghost use Rattle.epoch_core.specs.Kept.{Kept};
 ghost use Rattle.circular_log.specs.LogItem.{HasItem, IsValueAt, room_at};
 ghost use Rattle.circular_log.specs.LogWrite.{MayAppend, MayRewrite, with_item};
 
 use epoch_core::{OwnerWords, WordAt, write_item};
 use mica_model::ItemBuf;
-use mica_words::{
-    MAX_VALUE_LEN, header_key_len, header_of, header_room, header_value_len, item_size, pack,
-    unpack,
-};
-
-const MAX_VALUE_WORDS: usize = (MAX_VALUE_LEN + 7) / 8;
+use mica_words::{MAX_VALUE_LEN, header_key_len, header_room, header_value_len, item_size};
 
 /// Writes the marked put's item at the offset, the tail before it, in a room of its own size.
 pub fn append<W: OwnerWords>(words: &mut W, offset: u64, key: &[u8], value: &[u8])
@@ -56,23 +50,10 @@ pub fn item_at<W: OwnerWords>(words: &mut W, offset: u64, out: &mut ItemBuf)
     let header = words.read(WordAt::Item(offset));
     let len = header_value_len(header) as usize;
     let value_at = offset + 2 + u64::from(header_key_len(header).div_ceil(8));
-    let mut packed = [0; MAX_VALUE_WORDS];
-    let packed = &mut packed[..len.div_ceil(8)];
-    load(words, value_at, packed);
     let mut value = [0; MAX_VALUE_LEN];
-    unpack(packed, len, &mut value);
-    out.set(&value[..len]);
-}
-
-// Loads the item words from the offset on.
-fn load<W: OwnerWords>(words: &mut W, offset: u64, into: &mut [u64])
-    requires { offset < 2 ^ 49 }
-    ensures items { (i : ℕ) → i < length into.new
-        → slice_index into.new i ≡ item_in (W.owner words.old) (offset + i) }
-    ensures len { length into.new ≡ length into.old }
-    ensures same { (W.owner words.new ≡ W.owner words.old) × (W.home words.new ≡ W.home words.old) }
-{
-    for (i, word) in into.iter_mut().enumerate() {
-        *word = words.read(WordAt::Item(offset + i as u64));
+    for i in 0..len.div_ceil(8) {
+        let word = words.read(WordAt::Item(value_at + i as u64));
+        value[8 * i..8 * i + 8].copy_from_slice(&word.to_le_bytes());
     }
+    out.set(&value[..len]);
 }
