@@ -13,3 +13,6 @@ pub mod Keeps
 pub mod Inside
 pub mod DiaryKeeps
 pub mod Puts
+pub mod SameMachine
+pub mod Keys
+pub mod EventWords

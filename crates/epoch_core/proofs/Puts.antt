@@ -1,20 +1,17 @@
 -- Item words put one after another: when each may be put, and what they make of the state.
-use Rattle.std.proofs.Common.{◌≡◌, ℕ, zero, suc, ◌+◌, ◌%◌, ◌<◌, ◌≤◌, ◌≢◌, inl, inr, List, [], ◌∷◌, length, get_or, add-zero, refl, sym, ap, ◌∙◌, subst, arith, length-set, get_or-set_other, get_or-set_same}
+use Rattle.std.proofs.Common.{◌≡◌, ℕ, zero, suc, ◌+◌, ◌<◌, ◌≤◌, ◌≢◌, List, [], ◌∷◌, length, get_or, add-zero, refl, sym, ap, ◌∙◌, subst, arith, length-set, get_or-set_other, get_or-set_same}
 use Rattle.std.proofs.Math.Nat.{mod-lt}
 use Rattle.mica_model.specs.declared.options.Mode.TheVariants.{Cache}
 use Rattle.mica_model.specs.declared.write.Write.{Write}
-use Rattle.mica_model.specs.History.{History, State, cache_state, store_state, state_of}
+use Rattle.mica_model.specs.History.{State, cache_state, store_state, state_of}
 use Rattle.mica_model.proofs.Histories.{cached_in}
 use Rattle.epoch_core.specs.declared.state.OwnerState.{OwnerState}
 use Rattle.epoch_core.specs.declared.state.Phase.{Phase}
 use Rattle.epoch_core.specs.declared.state.Phase.TheVariants.{Idle, Begun, Marked}
 use Rattle.epoch_core.specs.declared.event.Event.{Event}
 use Rattle.epoch_core.specs.declared.event.Event.TheVariants.{PutsWord}
-use Rattle.epoch_core.specs.Shape.{IsMain}
 use Rattle.epoch_core.specs.Layout.{stamp_at, item_at, word_count}
-use Rattle.epoch_core.specs.OwnerState.{stamp_in, item_in, options_in, marked_in}
-use Rattle.epoch_core.specs.LiveEntry.{HasLiveEntry}
-use Rattle.epoch_core.specs.StandsFor.{IsInRoom}
+use Rattle.epoch_core.specs.OwnerState.{stamp_in, options_in, marked_in}
 use Rattle.epoch_core.specs.Events.{WhenMarked, SparesOthers, BelongsTo, MayPutWord, words_after, history_after, phase_after, after, CanPlay, plays, puts_from}
 use Rattle.epoch_core.specs.Kept.{Kept}
 use Rattle.epoch_core.proofs.Log.{not_below}
@@ -63,11 +60,10 @@ module _ (o : OwnerState) (s : Kept o) (p x : ℕ) (a : MayPutWord o p) where
 pub can_put : (o : OwnerState) → Kept o → (p : ℕ) (xs : List ℕ) → MayPutWords o p (length xs) → CanPlay (puts_from p xs) o
 can_put o s p [] may = tt
 can_put o s p (x ∷ xs) may =
-    let first : MayPutWord o p = subst (MayPutWord o) (omega arith) (may 0 (omega arith)) in
-    (
+    let first : MayPutWord o p = subst (MayPutWord o) (omega arith) (may 0 (omega arith)) in (
       first,
       can_put (after (PutsWord p x) o) (kept_after o s (PutsWord p x) first) (p + 1) xs
-        (λ i l. may_put_still o s p x first (p + 1 + i) (subst (MayPutWord o) (omega arith) (may (suc i) (omega arith)))),
+          (λ i l. may_put_still o s p x first (p + 1 + i) (subst (MayPutWord o) (omega arith) (may (suc i) (omega arith)))),
     )
 
 -- in cache mode whatever the words are
@@ -78,6 +74,7 @@ module _ (o : OwnerState) (mode : o.shape.mode ≡ Cache) where
       by_state : (b : ℕ) (write : Write) (now : State) → (s : _) × (now ≡ cache_state s) → BelongsTo o b write now q → BelongsTo (after (PutsWord p x) o) b write now q
       by_state b write (cache_state now) is h = h
       by_state b write (store_state now) is h = cc is.1
+
       by_phase : (phase : Phase) → WhenMarked phase (λ b write before. BelongsTo o b write (state_of (options_in o) before) q)
           → WhenMarked phase (λ b write before. BelongsTo (after (PutsWord p x) o) b write (state_of (options_in o) before) q)
       by_phase Idle h = absurd h
@@ -89,7 +86,7 @@ can_put_cached o mode p [] may = tt
 can_put_cached o mode p (x ∷ xs) may = (
   subst (MayPutWord o) (omega arith) (may 0 (omega arith)),
   can_put_cached (after (PutsWord p x) o) mode (p + 1) xs
-    (λ i l. cached_still o mode p x (p + 1 + i) (subst (MayPutWord o) (omega arith) (may (suc i) (omega arith)))),
+      (λ i l. cached_still o mode p x (p + 1 + i) (subst (MayPutWord o) (omega arith) (may (suc i) (omega arith)))),
 )
 
 -- What they make of the state: the words from the offset on are those, and nothing else changed.

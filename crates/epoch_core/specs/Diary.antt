@@ -1,5 +1,5 @@
 -- The first events of an owner, as they are kept, and the rule of the one-word table whose seat has them in its view.
-use Rattle.std.specs.Prelude.{◌≡◌, ℕ, ◌<◌, List, [], ◌∷◌, ◌++◌, length, nat_lt, if◌then◌else◌}
+use Rattle.std.specs.Prelude.{◌≡◌, ℕ, ◌<◌, [], ◌∷◌, ◌++◌, length, nat_lt, if◌then◌else◌}
 use mathlib.Core.Option.{some}
 use lib.ListN.{get_elem?}
 use Rattle.atomic_table.specs.Table.{State, Me, Step}
@@ -8,7 +8,6 @@ use Rattle.epoch_core.specs.declared.event.Event.{Event}
 use Rattle.epoch_core.specs.declared.event.Event.TheVariants.{Begins, Marks, PutsWord, PutsEntry, PutsLink, Ends}
 use Rattle.epoch_core.specs.declared.event.OwnerEvent.{OwnerEvent}
 use Rattle.epoch_core.specs.declared.event.OwnerEvent.TheVariants.{Begin, Mark, PutWord, PutEntry, PutLink, End}
-use Rattle.epoch_core.specs.declared.state.OwnerState.{OwnerState}
 use Rattle.epoch_core.specs.declared.plain.Diary.{Diary}
 use Rattle.epoch_core.specs.declared.plain.Blank.{Blank}
 use Rattle.epoch_core.specs.OwnerState.{as_made}

@@ -1,11 +1,8 @@
-use Rattle.std.proofs.Common.{◌≡◌, ℕ, ◌+◌, ◌-◌, ◌*◌, ◌≤◌, List, [], ◌∷◌, ◌++◌, length, take, drop, set, refl, sym, ap, ◌∙◌, arith, length-set, length-drop}
+use Rattle.std.proofs.Common.{◌≡◌, ℕ, ◌+◌, ◌-◌, ◌≤◌, List, [], ◌∷◌, ◌++◌, length, take, drop, set, refl, ap, ◌∙◌, arith, length-set, length-drop}
 use Rattle.std.proofs.lemmas.List.{append-nil, drop_all}
 use Rattle.std.proofs.lemmas.Slice.{take-put_mid}
 use borrow.Rule.Slice.PartMut.{put_mid}
-use Rattle.mica_words.specs.Hash.{fnv1a}
-use Rattle.mica_words.specs.Header.{header_of}
-use Rattle.mica_words.specs.Item.{words_for, item_size}
-use Rattle.mica_words.specs.Packing.{packed}
+use Rattle.mica_words.specs.Item.{words_for}
 use Rattle.mica_words.specs.Spelling.{item_words}
 use Rattle.mica_words.proofs.PackedBytes.{length-packed}
 use Rattle.epoch_core.proofs.item.spell_item.Goals as goal

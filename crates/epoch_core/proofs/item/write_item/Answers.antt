@@ -1,4 +1,4 @@
-use Rattle.std.proofs.Common.{◌+◌, ◌<◌, ◌^◌, length, ap, arith}
+use Rattle.std.proofs.Common.{◌<◌, ◌^◌, length, ap, arith}
 use Rattle.mica_words.specs.Spelling.{item_words}
 use Rattle.mica_words.proofs.ItemWords.{length-item_words}
 use Rattle.epoch_core.proofs.item.write_item.Goals as goal
