@@ -1,4 +1,0 @@
-use Rattle.mica_model.proofs.store_machine.StoreMachine.accepted.Goals as goal
-
-pub returns : goal.returns
-returns c = absurd c.self.invariant
