@@ -1,2 +1,4 @@
 pub mod Choosing
 pub mod Looking
+pub mod Counting
+pub mod Displaced
