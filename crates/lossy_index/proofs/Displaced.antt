@@ -78,7 +78,7 @@ some_found here (x ∷ rs) some =
     ] (sym whole)
 
 -- an item has at least three words
-some_room : (r : Record) → IsRecord r → 0 < r.room
+pub some_room : (r : Record) → IsRecord r → 0 < r.room
 some_room r is = let size = is.size in omega arith
 
 -- the entries of a bucket, by their slots, name the bucket's records
