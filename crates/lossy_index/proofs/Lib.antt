@@ -4,3 +4,4 @@ pub mod Counting
 pub mod Displaced
 pub mod Found
 pub mod Taken
+pub mod NoneDisplaced
