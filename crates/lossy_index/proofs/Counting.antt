@@ -66,10 +66,10 @@ unfolding IsDistinct
 distinct_below f zero one = tt
 distinct_below f (suc n) one = (
   all_not_in (map f (below n)) (f n) (λ q is same.
-    let at = in_below f n q is in
-    let less = at.1 in
-    let e = one n at.0 (omega arith) (omega arith) (same ∙ at.2) in
-    absurd (omega arith)),
+      let at = in_below f n q is in
+      let less = at.1 in
+      let e = one n at.0 (omega arith) (omega arith) (same ∙ at.2) in
+      absurd (omega arith)),
   distinct_below f n (λ k l x y same. one k l (omega arith) (omega arith) same),
 )
 
@@ -99,11 +99,11 @@ unfolding IsDistinct
 distinct_offsets from upto [] laid some = tt
 distinct_offsets from upto (x ∷ rs) laid some = (
   all_not_in (offsets rs) x.offset (λ q is same.
-    let at = offset_in rs q is in
-    let most = least_offset (x.offset + x.room) upto rs at.0 laid.1 at.1 in
-    let room = some.0 in
-    let e = at.2 in
-    absurd (omega arith)),
+      let at = offset_in rs q is in
+      let most = least_offset (x.offset + x.room) upto rs at.0 laid.1 at.1 in
+      let room = some.0 in
+      let e = at.2 in
+      absurd (omega arith)),
   distinct_offsets (x.offset + x.room) upto rs laid.1 some.1,
 )
 

@@ -1,6 +1,6 @@
 -- The record that the machine displaces is that of the slot which a new entry takes. So what the machine has of the other keys of the written bucket after
 -- a put that is appended is what the other slots have, of the items that the log has not passed.
-use Rattle.std.proofs.Common.{◌≡◌, ◌≢◌, ℕ, zero, suc, ◌+◌, ◌*◌, ◌<◌, ◌≤◌, inl, inr, ◌⊎◌, List, [], ◌∷◌, ◌++◌, Option, Some, None, Bool, true, false, cond, not, eqb, length, refl, sym, ap, ◌∙◌, subst, arith}
+use Rattle.std.proofs.Common.{◌≡◌, ◌≢◌, ℕ, ◌+◌, ◌*◌, ◌<◌, ◌≤◌, inl, inr, List, [], ◌∷◌, ◌++◌, Option, Some, None, Bool, true, false, cond, not, eqb, length, refl, sym, ap, ◌∙◌, subst, arith}
 use Rattle.std.specs.Prelude.{map}
 use Rattle.std.specs.List.{IsDistinct, AllByRecursion as AllOf, find, filter, count_by}
 use Rattle.std.proofs.lemmas.Bool.{true≢false, eqb-true, eq-eqb, ne_eqb, leb-true, le-leb}
@@ -19,8 +19,8 @@ use Rattle.mica_model.specs.CacheStep.{others, new_record, without_first, is_in_
 use Rattle.mica_model.proofs.Found as found
 use Rattle.mica_model.proofs.Laid as laid
 use Rattle.mica_model.proofs.Laid.{IsLaid}
-use Rattle.mica_model.proofs.CacheKept.{IsRecord, IsKept, IsWritten, after_write_is, live_of, here_of, left_of, size_at_most, tail_past}
-use Rattle.mica_model.proofs.CacheLaws.{written_same, window_kept, tail_rises}
+use Rattle.mica_model.proofs.CacheKept.{IsRecord, IsKept, IsWritten, after_write_is, live_of, here_of, size_at_most, tail_past}
+use Rattle.mica_model.proofs.CacheLaws.{written_same, window_kept}
 use Rattle.lossy_index.proofs.Counting.{IsIn, at_most, below, below_in, in_below, distinct_more, distinct_below, offsets, distinct_offsets, found_in, in_found, passing, passes_in, count_offsets}
 
 -- a search that the first one to go does not pass
@@ -178,6 +178,7 @@ module _ (options : Options) (s : Cache) (kept : IsKept options s) (write : Writ
       where
         none_some : None ≡ Some r → ⊥
         none_some e = cc
+
         apart_differ : (key : List ℕ) (r : Record) → find (has_key key) (live_of options (cs.after_write options s write)) ≡ Some r
             → has_key key first.0 ≡ false → r.offset ≢ first.0.offset
         apart_differ key r there other same =

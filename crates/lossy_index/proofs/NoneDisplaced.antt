@@ -1,8 +1,8 @@
 -- After a write that appends nothing, a delete or a put that is kept in place, no record is displaced: the machine has of the other keys what it had and
 -- the log has not passed.
-use Rattle.std.proofs.Common.{◌≡◌, ◌≢◌, ℕ, ◌+◌, ◌<◌, ◌≤◌, List, [], ◌∷◌, Option, Some, None, Bool, true, false, cond, not, eqb, refl, sym, ap, ◌∙◌, subst, arith}
+use Rattle.std.proofs.Common.{◌≡◌, ◌≢◌, ℕ, ◌+◌, ◌≤◌, List, [], ◌∷◌, Option, Some, None, Bool, true, false, cond, not, eqb, refl, sym, ap, ◌∙◌, arith}
 use Rattle.std.specs.Prelude.{map}
-use Rattle.std.specs.List.{find, filter, count_by}
+use Rattle.std.specs.List.{find, count_by}
 use Rattle.std.proofs.lemmas.Bool.{le-leb}
 use Rattle.mica_words.specs.Hash.{bucket_of}
 use Rattle.mica_words.specs.Stamp.{tail_of}

@@ -1,8 +1,6 @@
 -- After a put that is appended, its entry takes a slot by the new stamp. What the other slots have, of the items that the log has not passed, is what the
 -- machine has of the bucket's other keys.
 use Rattle.std.proofs.Common.{◌≡◌, ◌≢◌, ℕ, ◌+◌, ◌<◌, ◌≤◌, List, Option, Some, None, MatchOption, refl, sym, ap, ◌∙◌, subst, arith}
-use Rattle.std.proofs.lemmas.Option.{same_Some}
-use Rattle.mica_words.specs.Hash.{bucket_of}
 use Rattle.mica_words.specs.Entry.{entry_offset}
 use Rattle.mica_words.specs.Stamp.{tail_of}
 use Rattle.mica_model.specs.declared.options.Options.{Options}
@@ -14,14 +12,13 @@ use Rattle.mica_model.specs.Write.{IsWrite}
 use Rattle.mica_model.specs.Cache.{Record, Cache, record_of}
 use Rattle.mica_model.specs.CacheStep as cs
 use Rattle.mica_model.specs.History.{cache_state}
-use Rattle.mica_model.proofs.CacheKept.{IsKept}
 use Rattle.epoch_core.specs.declared.state.OwnerState.{OwnerState}
 use Rattle.epoch_core.specs.Shape.{IsMain}
 use Rattle.epoch_core.specs.OwnerState.{stamp_in, entry_in, options_in, state_in, bucket_in, marked_in}
 use Rattle.epoch_core.specs.Kept.{Kept}
-use Rattle.lossy_index.specs.Slot.{offset_in, IsEmpty, IsPassed, IsSlotOf, HasNoSlot}
-use Rattle.lossy_index.specs.Place.{IsFirst, HoldsOfNone, IsLeast, GivesWay, empty, passed, oldest, Takes}
-use Rattle.lossy_index.proofs.Displaced.{IsFree, Leaves, takes_free, takes_oldest}
+use Rattle.lossy_index.specs.Slot.{IsSlotOf, HasNoSlot}
+use Rattle.lossy_index.specs.Place.{GivesWay, empty, passed, oldest, Takes}
+use Rattle.lossy_index.proofs.Displaced.{Leaves, takes_free, takes_oldest}
 use Rattle.lossy_index.proofs.Found.{kept, found_is, missed_is, record_spelt, one_key, index}
 
 -- the write itself has the stamp of the whole step
@@ -63,10 +60,10 @@ module _ (o : OwnerState) (k : Kept o) (mode : o.shape.mode ≡ CacheMode) (writ
     own_leaves x is_slot = (
       is_slot.in_bucket,
       λ small. free_leaves x small (λ r key slot other has live used place same.
-        let own = found_is o k mode b main unmarked s at write.key x is.key_bytes is_slot in
-        let spelt = record_spelt o k mode b main unmarked s at (entry_in o b x) write.key own.0 own.2 in
-        other (one_key o k mode b main unmarked s at key write.key r spelt.0 has spelt.1
-        (sym place ∙ (ap (λ (z : ℕ). entry_offset (entry_in o b z)) same ∙ sym spelt.2)))),
+          let own = found_is o k mode b main unmarked s at write.key x is.key_bytes is_slot in
+          let spelt = record_spelt o k mode b main unmarked s at (entry_in o b x) write.key own.0 own.2 in
+          other (one_key o k mode b main unmarked s at key write.key r spelt.0 has spelt.1
+          (sym place ∙ (ap (λ (z : ℕ). entry_offset (entry_in o b z)) same ∙ sym spelt.2)))),
     )
 
     -- the slot that gives way to a new key
@@ -75,34 +72,35 @@ module _ (o : OwnerState) (k : Kept o) (mode : o.shape.mode ≡ CacheMode) (writ
     gives_leaves x none (empty first) = (
       first.in_bucket,
       λ small. free_leaves x small (λ r key slot other has live used place same.
-        used (ap (entry_in o b) same ∙ (sym (entries x small) ∙ first.holds))),
+          used (ap (entry_in o b) same ∙ (sym (entries x small) ∙ first.holds))),
     )
     gives_leaves x none (passed used first) = (
       first.in_bucket,
       λ small. free_leaves x small (λ r key slot other has live some place same.
-        let gone = first.holds in
-        let entry = ap entry_offset (entries x small) in
-        let there = ap (λ (z : ℕ). entry_offset (entry_in o b z)) same in
-        omega arith),
+          let gone = first.holds in
+          let entry = ap entry_offset (entries x small) in
+          let there = ap (λ (z : ℕ). entry_offset (entry_in o b z)) same in
+          omega arith),
     )
     gives_leaves x none (oldest used live least) = (
       least.in_bucket,
       λ small. takes_oldest (options_in o) k.shape.ranges s (kept o k mode b main unmarked s at) write is appended (entry_in o b)
-        (index o k mode b main unmarked s at) x small
-        (missed_is o k mode b main unmarked s at write.key refl none)
-        (λ slot l. (
-          λ zero. used slot l (entries slot l ∙ zero),
+          (index o k mode b main unmarked s at) x small
+          (missed_is o k mode b main unmarked s at write.key refl none)
+          (λ slot l. (
+            λ zero. used slot l (entries slot l ∙ zero),
+            let entry = ap entry_offset (entries slot l) in
+                let tail = ap tail_of stamp in
+                let live_here = live slot l in
+                omega arith,
+          ))
+          (λ slot l.
           let entry = ap entry_offset (entries slot l) in
-          let tail = ap tail_of stamp in
-          let live_here = live slot l in
-          omega arith,
-        ))
-        (λ slot l.
-        let entry = ap entry_offset (entries slot l) in
-        let own = ap entry_offset (entries x small) in
-        let most = least.least slot l in
-        omega arith),
+          let own = ap entry_offset (entries x small) in
+          let most = least.least slot l in
+          omega arith),
     )
+
     -- the slot that the entry takes
     pub taken : (old : Option ℕ) (x : ℕ) → MatchOption old (HasNoSlot o (bucket_in o write.key) write.key) (IsSlotOf o (bucket_in o write.key) write.key)
         → Takes now (bucket_in o write.key) old x → (x < 15) × ((small : x < 15) → LeavesOthers x small)
