@@ -47,10 +47,10 @@ header_fits room key_len value_len narrow short few = omega arith
 
 -- a stamp
 
--- a write in place moves the stamp alone, an append moves the tail by its words
+-- an append moves the tail by as many words
 pub tail_of-append : (stamp words : ℕ) → tail_of (stamp + 65536 * words) ≡ tail_of stamp + words
 tail_of-append stamp words = omega arith
 
--- the tail falls where no stamp falls
+-- the tail never falls where the stamp does not
 pub tail_of-rises : (stamp later : ℕ) → stamp ≤ later → tail_of stamp ≤ tail_of later
 tail_of-rises stamp later rises = omega arith

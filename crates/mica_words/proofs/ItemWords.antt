@@ -5,9 +5,9 @@ use Rattle.std.proofs.lemmas.List.{get_or_append_left, get_or-append-add}
 use Rattle.mica_words.specs.Hash.{fnv1a}
 use Rattle.mica_words.specs.Header.{header_of}
 use Rattle.mica_words.specs.Item.{words_for, item_size}
-use Rattle.mica_words.specs.Packing.{AreBytes, packed}
+use Rattle.mica_words.specs.Packing.{AreBytes, packed, unpacked}
 use Rattle.mica_words.specs.Spelling.{item_words}
-use Rattle.mica_words.proofs.PackedBytes.{length-packed, same_from_words}
+use Rattle.mica_words.proofs.PackedBytes.{length-packed, same_from_words, unpacked-packed}
 
 pub length-item_words : (room : ℕ) (key value : List ℕ) → length (item_words room key value) ≡ item_size key value
 unfolding item_words
@@ -16,6 +16,11 @@ length-item_words room key value =
     let one = length-packed key in
     let two = length-packed value in
     omega arith
+
+pub item_words_are : (room : ℕ) (key value : List ℕ)
+    → item_words room key value ≡ header_of room (length key) (length value) ∷ fnv1a key ∷ (packed key ++ packed value)
+unfolding item_words
+item_words_are room key value = refl
 
 pub header_word : (room : ℕ) (key value : List ℕ) → slice_index (item_words room key value) 0 ≡ header_of room (length key) (length value)
 unfolding item_words
@@ -59,3 +64,9 @@ same_key key other small fewer same each =
     same_from_words key other small fewer same (same_number_lists (packed key) (packed other) (omega (arith, ap words_for same))
     (λ i below. sym (packed_key_word 0 key [] i (omega arith))
     ∙ (each (2 + i) (omega arith) (omega arith) ∙ packed_key_word 0 other [] i (omega (arith, ap words_for same)))))
+
+-- words that hold the packed value unpack to it
+pub same_value : (value words : List ℕ) → AreBytes value → length words ≡ words_for (length value)
+    → ((i : ℕ) → i < length words → slice_index words i ≡ slice_index (packed value) i) → unpacked (length value) words ≡ value
+same_value value words small same each =
+    ap (unpacked (length value)) (same_number_lists words (packed value) (same ∙ sym (length-packed value)) each) ∙ unpacked-packed value small

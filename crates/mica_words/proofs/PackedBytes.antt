@@ -131,12 +131,6 @@ same_from_words bytes others small fewer same words =
     sym (unpacked-packed bytes small) ∙ (ap (unpacked (length bytes)) words
     ∙ (ap (λ (z : ℕ). unpacked z (packed others)) same ∙ unpacked-packed others fewer))
 
--- words that agree with the packed ones at each place unpack to the text
-pub unpacked_from_places : (bytes words : List ℕ) → AreBytes bytes → length words ≡ words_for (length bytes)
-    → ((i : ℕ) → i < length words → slice_index words i ≡ slice_index (packed bytes) i) → unpacked (length bytes) words ≡ bytes
-unpacked_from_places bytes words small same each =
-    ap (unpacked (length bytes)) (same_number_lists words (packed bytes) (same ∙ sym (length-packed bytes)) each) ∙ unpacked-packed bytes small
-
 pub length-words : (words : List ℕ) → length (flat_map (to_le_bytes w64) words) ≡ 8 * length words
 length-words [] = refl
 length-words (word ∷ words) =

@@ -2,27 +2,27 @@
 //! since a tag is at least 1.
 
 ghost use Rattle.std.specs.Prelude.{◌≡◌, ◌≤◌, ◌<◌, ◌^◌};
-ghost use Rattle.mica_words.specs.Entry.{entry_of as entry_word, entry_tag as tag_in, entry_offset as offset_in};
+ghost use Rattle.mica_words.specs.Entry.{entry_of, entry_tag, entry_offset};
 
 /// The entry of an item with this tag, at this offset.
 pub fn entry_of(tag: u16, offset: u64) -> u64
     requires tag { 1 ≤ tag }
     requires offset { offset < 2 ^ 48 }
-    ensures { result ≡ entry_word tag offset }
+    ensures { result ≡ entry_of tag offset }
 {
     u64::from(tag) << 48 | offset
 }
 
 /// The tag above the offset.
 pub fn entry_tag(entry: u64) -> u16
-    ensures { result ≡ tag_in entry }
+    ensures { result ≡ entry_tag entry }
 {
     (entry >> 48) as u16
 }
 
 /// The offset below the tag, in words.
 pub fn entry_offset(entry: u64) -> u64
-    ensures { result ≡ offset_in entry }
+    ensures { result ≡ entry_offset entry }
 {
     entry & ((1 << 48) - 1)
 }

@@ -1,5 +1,5 @@
-//! The hash of a key, FNV-1a of 64 bits, and what its parts choose: the lower 32 bits a bucket, the next 16 a tag, the
-//! upper 16 a partition.
+//! The hash of a key, FNV-1a of 64 bits, and what its parts choose: its lower bits a bucket, bits 32 to 47 a tag, its
+//! upper 16 bits a partition.
 
 ghost use Rattle.std.specs.Prelude.{◌≡◌, ◌≤◌};
 ghost use Rattle.mica_words.specs.Hash.{fnv1a, hash_partition, hash_bucket, hash_tag};

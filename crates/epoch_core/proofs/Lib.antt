@@ -1,0 +1,14 @@
+pub mod Shapes
+pub mod Places
+pub mod Made
+pub mod Reach
+pub mod Marked
+pub mod Spares
+pub mod Carried
+pub mod Walks
+pub mod Chains
+pub mod Machine
+pub mod Log
+pub mod Keeps
+pub mod Inside
+pub mod DiaryKeeps
