@@ -1,0 +1,6 @@
+mod Walk
+mod ChainLists
+mod Effects
+mod Frames
+mod Pushes
+mod Entered
