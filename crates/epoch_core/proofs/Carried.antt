@@ -65,13 +65,13 @@ module _ (o : OwnerState) (words : List ℕ) (history : History) (phase : Phase)
           subst (λ (z : ℕ). IsAmong p n z c) (sym same) (among_on n (link_in o d) c (λ x among. up x (inr (h.0, among))) h.1),
         )
 
-    chain_back : (c : ℕ) → InChain p b c → InChain o b c
+    pub chain_back : (c : ℕ) → InChain p b c → InChain o b c
     chain_back c h = among_back (suc o.shape.spares) b c (λ x among. among) h
 
-    chain_on : (c : ℕ) → InChain o b c → InChain p b c
+    pub chain_on : (c : ℕ) → InChain o b c → InChain p b c
     chain_on c h = among_on (suc o.shape.spares) b c (λ x among. among) h
 
-    entry_same : (c slot : ℕ) → InChain o b c → slot < 15 → get_or words (entry_at o.shape c slot) 0 ≡ get_or o.words (entry_at o.shape c slot) 0
+    pub entry_same : (c slot : ℕ) → InChain o b c → slot < 15 → get_or words (entry_at o.shape c slot) 0 ≡ get_or o.words (entry_at o.shape c slot) 0
     entry_same c slot h x = k.word (entry_at o.shape c slot) (by_entry c slot h x refl)
 
     dense_on : IsDense o b → IsDense p b
@@ -85,7 +85,7 @@ module _ (o : OwnerState) (words : List ℕ) (history : History) (phase : Phase)
 
     -- a live entry
 
-    back : (c slot entry : ℕ) → HasLiveEntry p b c slot entry → HasLiveEntry o b c slot entry
+    pub back : (c slot entry : ℕ) → HasLiveEntry p b c slot entry → HasLiveEntry o b c slot entry
     back c slot entry h = let before = chain_back c h.in_chain in record {
       in_chain = before;
       in_bucket = h.in_bucket;
@@ -93,7 +93,7 @@ module _ (o : OwnerState) (words : List ℕ) (history : History) (phase : Phase)
       live = (h.live.0, k.live (entry_offset entry) h.live.1);
     }
 
-    on : (c slot entry : ℕ) → HasLiveEntry o b c slot entry → IsLiveItem o.shape.mode o.shape.words (stamp_in p) (entry_offset entry)
+    pub on : (c slot entry : ℕ) → HasLiveEntry o b c slot entry → IsLiveItem o.shape.mode o.shape.words (stamp_in p) (entry_offset entry)
         → HasLiveEntry p b c slot entry
     on c slot entry h live = record {
       in_chain = chain_on c h.in_chain;
@@ -105,19 +105,19 @@ module _ (o : OwnerState) (words : List ℕ) (history : History) (phase : Phase)
     some_room : (c slot entry : ℕ) → HasLiveEntry o b c slot entry → 0 < room_in o entry
     some_room c slot entry h = let some = k.stands.nothing_else c slot entry h in let fits = some.2.in_room in omega arith
 
-    room : (c slot entry : ℕ) → HasLiveEntry o b c slot entry → room_in p entry ≡ room_in o entry
+    pub room : (c slot entry : ℕ) → HasLiveEntry o b c slot entry → room_in p entry ≡ room_in o entry
     room c slot entry h =
         let first = ap (item_at o.shape) (sym (add-zero (entry_offset entry))) in
         ap header_room (k.word (item_at o.shape (entry_offset entry)) (by_item c slot entry 0 h (some_room c slot entry h) first))
 
-    in_room : (c slot entry q : ℕ) → HasLiveEntry o b c slot entry → IsInRoom p entry q → IsInRoom o entry q
+    pub in_room : (c slot entry q : ℕ) → HasLiveEntry o b c slot entry → IsInRoom p entry q → IsInRoom o entry q
     in_room c slot entry q h i = let same = room c slot entry h in (i.0, let below = i.1 in omega arith, i.2)
 
-    item_same : (c slot entry i : ℕ) → HasLiveEntry o b c slot entry → i < room_in o entry
+    pub item_same : (c slot entry i : ℕ) → HasLiveEntry o b c slot entry → i < room_in o entry
         → get_or words (item_at o.shape (entry_offset entry + i)) 0 ≡ get_or o.words (item_at o.shape (entry_offset entry + i)) 0
     item_same c slot entry i h x = k.word (item_at o.shape (entry_offset entry + i)) (by_item c slot entry i h x refl)
 
-    spells_on : (c slot entry : ℕ) (key : List ℕ) (cell : Cell) → HasLiveEntry o b c slot entry
+    pub spells_on : (c slot entry : ℕ) (key : List ℕ) (cell : Cell) → HasLiveEntry o b c slot entry
         → IsLiveItem o.shape.mode o.shape.words (stamp_in p) (entry_offset entry) → Spells o b entry key cell → Spells p b entry key cell
     spells_on c slot entry key cell h live sp = let fits = sp.in_room in let same = room c slot entry h in record {
       bucket = sp.bucket;
@@ -128,7 +128,7 @@ module _ (o : OwnerState) (words : List ℕ) (history : History) (phase : Phase)
       in_room = omega arith;
     }
 
-    spells_back : (c slot entry : ℕ) (key : List ℕ) (cell : Cell) → HasLiveEntry o b c slot entry → Spells p b entry key cell → Spells o b entry key cell
+    pub spells_back : (c slot entry : ℕ) (key : List ℕ) (cell : Cell) → HasLiveEntry o b c slot entry → Spells p b entry key cell → Spells o b entry key cell
     spells_back c slot entry key cell h sp = let fits = sp.in_room in let same = room c slot entry h in record {
       bucket = sp.bucket;
       has = k.has_back key cell (entry_offset entry) sp.bucket sp.has;

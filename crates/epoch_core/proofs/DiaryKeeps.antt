@@ -1,5 +1,5 @@
 -- Each event keeps the rule of the one-word table whose seat has a diary.
-use Rattle.std.proofs.Common.{◌≡◌, ℕ, zero, suc, ◌+◌, ◌<◌, Bool, true, false, cond, nat_lt, List, [], ◌∷◌, ◌++◌, length, set, refl, sym, ap, ◌∙◌, subst, arith, ⊎_elim, length-append}
+use Rattle.std.proofs.Common.{◌≡◌, ℕ, zero, suc, true, false, cond, nat_lt, List, [], ◌∷◌, ◌++◌, length, set, refl, sym, ap, ◌∙◌, subst, arith, ⊎_elim}
 use Rattle.std.proofs.lemmas.Bool.{ltb-true, ltb-false}
 use mathlib.Core.Option.{some, none, some-injective}
 use lib.ListN.{get_elem?}
@@ -11,8 +11,8 @@ use Rattle.epoch_core.specs.declared.plain.Diary.{Diary}
 use Rattle.epoch_core.specs.declared.plain.Blank.{Blank}
 use Rattle.epoch_core.specs.Shape.{IsValidShape}
 use Rattle.epoch_core.specs.OwnerState.{as_made}
-use Rattle.epoch_core.specs.Events.{IsAllowed, after}
-use Rattle.epoch_core.specs.Diary.{CanPlay, plays, blank_diary, diary_after, DiaryFits, AllFit, knows, happened}
+use Rattle.epoch_core.specs.Events.{IsAllowed, after, CanPlay, plays}
+use Rattle.epoch_core.specs.Diary.{blank_diary, diary_after, DiaryFits, AllFit, knows, happened}
 use Rattle.epoch_core.proofs.Made.{kept_as_made}
 use Rattle.epoch_core.proofs.Keeps.{kept_after}
 

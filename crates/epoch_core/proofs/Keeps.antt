@@ -1,16 +1,14 @@
 -- Each event of an owner keeps the owner's fact.
-use Rattle.std.proofs.Common.{◌≡◌, ℕ, zero, suc, ◌+◌, ◌*◌, ◌^◌, ◌<◌, ◌≤◌, ◌≢◌, Bool, true, false, cond, nat_eq, if◌then◌else◌, List, [], ◌∷◌, ◌++◌, length, count_by, get_or, set, refl, sym, ap, ◌∙◌, subst, arith, length-set, get_or-set_same, length-append}
+use Rattle.std.proofs.Common.{◌≡◌, ℕ, ◌+◌, ◌<◌, ◌≤◌, ◌≢◌, Bool, cond, nat_eq, if◌then◌else◌, List, [], ◌∷◌, ◌++◌, length, count_by, get_or, refl, sym, ap, ◌∙◌, subst, arith, length-set, get_or-set_same, length-append}
 use mathlib.Core.Logic.{dite}
 use native.Mathlib.Decide.{ℕ_discrete}
-use Rattle.std.specs.List.{AllByRecursion}
 use Rattle.std.proofs.lemmas.List.Sums.{sum_by_push}
 use Rattle.mica_words.specs.Hash.{bucket_of}
 use Rattle.mica_model.specs.declared.options.Mode.{Mode}
 use Rattle.mica_model.specs.declared.options.Mode.TheVariants.{Cache, Store}
 use Rattle.mica_model.specs.declared.write.Write.{Write}
 use Rattle.mica_model.specs.Write.{IsWrite}
-use Rattle.mica_model.specs.Store.{Cell}
-use Rattle.mica_model.specs.History.{History, state_of, stamp_of, IsHistory}
+use Rattle.mica_model.specs.History.{History, state_of, stamp_of}
 use Rattle.mica_model.proofs.Histories.{history_snoc}
 use Rattle.mica_model.proofs.Rises.{stamp_rises}
 use Rattle.epoch_core.specs.declared.state.OwnerState.{OwnerState}
@@ -20,14 +18,14 @@ use Rattle.epoch_core.specs.declared.event.Event.{Event}
 use Rattle.epoch_core.specs.declared.event.Event.TheVariants.{Begins, Marks, PutsWord, PutsEntry, PutsLink, Ends}
 use Rattle.epoch_core.specs.Shape.{IsMain}
 use Rattle.epoch_core.specs.Layout.{stamp_at, epoch_at, word_count}
-use Rattle.epoch_core.specs.OwnerState.{stamp_in, epoch_in, options_in, bucket_in, writes_in, begun_in, marked_in}
+use Rattle.epoch_core.specs.OwnerState.{stamp_in, epoch_in, options_in, bucket_in, begun_in, marked_in}
 use Rattle.epoch_core.specs.LiveEntry.{IsLiveItem, HasLiveEntry}
 use Rattle.epoch_core.specs.StandsFor.{Has, RoomsApart, StandsFor}
 use Rattle.epoch_core.specs.Events.{MayBegin, MayMark, MayEnd, IsAllowed, place_of, word_after, words_after, history_after, phase_after, after}
 use Rattle.epoch_core.specs.Kept.{IsLawfulHistory, PhaseFits, Kept}
 use Rattle.epoch_core.proofs.Places.{no_epoch, item_no_epoch}
 use Rattle.epoch_core.proofs.Reach.{IsReached, by_entry, by_link, by_item}
-use Rattle.epoch_core.proofs.Marked.{bit, bit_same, bit_else, bit_is, marked_main, ends_main}
+use Rattle.epoch_core.proofs.Marked.{bit, bit_same, bit_else, bit_is, ends_main}
 use Rattle.epoch_core.proofs.Spares.{spares}
 use Rattle.epoch_core.proofs.Log.{log_spares}
 use Rattle.epoch_core.proofs.Machine.{all_more, marked_back, marked_on, marked_live}
@@ -75,7 +73,7 @@ module _ (o : OwnerState) (s : Kept o) where
 
   -- Events that change neither history nor stamp carry what the words stand for in unmarked buckets.
   module _ (e : Event) (a : IsAllowed e o) (history : (after e o).history ≡ o.history) (stamp : stamp_in (after e o) ≡ stamp_in o) where
-    still : (b : ℕ) → IsMain o.shape b → marked_in o.phase b ≡ 0 → Carries o (words_after e o) (history_after e o.history) (phase_after e o) b
+    pub still : (b : ℕ) → IsMain o.shape b → marked_in o.phase b ≡ 0 → Carries o (words_after e o) (history_after e o.history) (phase_after e o) b
     still b l none = record {
       stands = s.state b l none;
       word = λ i r. other_word o s e i (spares o s (log_spares o s) b l none e a i r);

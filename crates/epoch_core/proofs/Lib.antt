@@ -12,3 +12,7 @@ pub mod Log
 pub mod Keeps
 pub mod Inside
 pub mod DiaryKeeps
+pub mod Puts
+pub mod SameMachine
+pub mod Keys
+pub mod EventWords

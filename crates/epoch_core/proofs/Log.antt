@@ -1,5 +1,5 @@
 -- A word of the marked write in cache mode is in no room of a live item of another bucket: the log's window and its rooms say so.
-use Rattle.std.proofs.Common.{◌≡◌, ℕ, zero, suc, ◌+◌, ◌*◌, ◌/◌, ◌%◌, ◌<◌, ◌≤◌, ◌≢◌, inl, inr, ◌⊎◌, List, length, refl, sym, ap, ◌∙◌, subst, arith, add-zero, ⊎_elim}
+use Rattle.std.proofs.Common.{◌≡◌, ℕ, zero, suc, ◌+◌, ◌*◌, ◌/◌, ◌%◌, ◌<◌, ◌≤◌, ◌≢◌, inl, inr, ◌⊎◌, List, length, sym, ap, ◌∙◌, subst, arith, add-zero, ⊎_elim}
 use Rattle.std.specs.List.{AllByRecursion}
 use Rattle.std.proofs.Math.Nat.{mul-le-mul_left, mul-suc, div-add-mod}
 use Rattle.mica_words.specs.Entry.{entry_offset}
@@ -8,7 +8,7 @@ use Rattle.mica_words.specs.Stamp.{tail_of}
 use Rattle.mica_words.proofs.Fields.{header_room-header_of}
 use Rattle.mica_words.proofs.ItemWords.{header_word}
 use Rattle.mica_model.specs.Write.{IsWrite}
-use Rattle.mica_model.specs.Cache.{Record, record_of}
+use Rattle.mica_model.specs.Cache.{record_of}
 use Rattle.mica_model.specs.CacheStep as cs
 use Rattle.mica_model.specs.Store.{Cell}
 use Rattle.mica_model.specs.History.{State, cache_state, state_of, after}
@@ -35,7 +35,7 @@ order zero (suc y) = inl (omega arith)
 order (suc x) zero = inr (omega arith)
 order (suc x) (suc y) = ⊎_elim (λ (less : x < y). inl (omega arith)) (λ (more : y ≤ x). inr (omega arith)) (order x y)
 
-not_below : (n x y : ℕ) → x % n ≡ y % n → x < y → y < x + n → ⊥
+pub not_below : (n x y : ℕ) → x % n ≡ y % n → x < y → y < x + n → ⊥
 not_below n x y same less near =
     quotients n (x / n) (y / n) (x % n) x y (div-add-mod x n) (ap (λ (z : ℕ). n * (y / n) + z) same ∙ div-add-mod y n) less near (order (x / n) (y / n))
 

@@ -2,11 +2,9 @@
 use Rattle.std.proofs.Common.{◌≡◌, ℕ, ◌<◌, ◌≤◌, ◌≢◌, List, [], ◌∷◌, ◌++◌, Option, Some, None, refl, sym, ap, ◌∙◌, subst, arith}
 use Rattle.std.specs.List.{AllByRecursion}
 use Rattle.std.specs.Prelude.{option_map, unwrap_or}
-use Rattle.std.specs.FinMap.{get}
 use Rattle.mica_words.specs.Hash.{bucket_of}
 use Rattle.mica_words.specs.Item.{KeyFits, ValueFits, item_size}
 use Rattle.mica_words.specs.Packing.{AreBytes}
-use Rattle.mica_words.specs.Stamp.{tail_of}
 use Rattle.mica_model.specs.declared.options.Options.{Options}
 use Rattle.mica_model.specs.declared.options.Mode.{Mode}
 use Rattle.mica_model.specs.declared.options.Mode.TheVariants.{Cache as CacheMode, Store as StoreMode}

@@ -1,5 +1,5 @@
 -- The owner's fact holds before any event.
-use Rattle.std.proofs.Common.{◌≡◌, ℕ, zero, suc, replicate, inl, inr, List, [], get_or, refl, sym, ◌∙◌, arith}
+use Rattle.std.proofs.Common.{◌≡◌, ℕ, zero, suc, replicate, inl, inr, List, get_or, refl, sym, ◌∙◌, arith}
 use Rattle.std.proofs.lemmas.List.{length-replicate}
 use Rattle.std.specs.FinMap.{get-empty}
 use Rattle.std.specs.Ordering.{nat_cmp}

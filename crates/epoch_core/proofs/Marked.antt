@@ -1,28 +1,19 @@
 -- The bucket whose write is marked, and the buckets that its write may change.
-use Rattle.std.proofs.Common.{◌≡◌, ℕ, zero, suc, ◌+◌, ◌<◌, ◌≤◌, ◌≢◌, inl, inr, ◌⊎◌, List, Bool, true, false, if◌then◌else◌, nat_eq, eq-eqb, ne_eqb, refl, sym, ap, ◌∙◌, subst, arith}
+use Rattle.std.proofs.Common.{◌≡◌, ℕ, zero, suc, ◌<◌, ◌≤◌, ◌≢◌, inl, inr, ◌⊎◌, List, Bool, true, false, if◌then◌else◌, nat_eq, eq-eqb, ne_eqb, sym, ap, subst, arith}
 use Rattle.std.proofs.Math.Nat.{mod-lt}
 use Rattle.std.proofs.lemmas.Nat.{pow_pos}
 use native.Mathlib.Decide.{ℕ_discrete}
 use mathlib.Core.Logic.{dite}
 use Rattle.mica_words.specs.Hash.{fnv1a, bucket_of}
-use Rattle.mica_words.specs.Entry.{entry_offset}
 use Rattle.mica_model.specs.declared.write.Write.{Write}
-use Rattle.mica_model.specs.History.{State, cache_state, store_state, state_of}
 use Rattle.epoch_core.specs.declared.state.OwnerState.{OwnerState}
 use Rattle.epoch_core.specs.declared.state.Phase.{Phase}
 use Rattle.epoch_core.specs.declared.state.Phase.TheVariants.{Idle, Begun, Marked}
-use Rattle.epoch_core.specs.declared.event.Event.{Event}
-use Rattle.epoch_core.specs.declared.event.Event.TheVariants.{Begins, Marks, PutsWord, PutsEntry, PutsLink, Ends}
 use Rattle.epoch_core.specs.Shape.{IsMain, IsBucket}
-use Rattle.epoch_core.specs.Layout.{entries_at, item_at}
-use Rattle.epoch_core.specs.OwnerState.{link_in, options_in, marked_in}
+use Rattle.epoch_core.specs.OwnerState.{link_in, marked_in}
 use Rattle.epoch_core.specs.Chain.{IsAmong, InChain, IsFreeSpare}
-use Rattle.epoch_core.specs.LiveEntry.{HasLiveEntry}
-use Rattle.epoch_core.specs.StandsFor.{room_in, IsInRoom}
-use Rattle.epoch_core.specs.Events.{WhenMarked, BelongsTo, IsAllowed, place_of}
-use Rattle.epoch_core.proofs.Reach.{IsReached, by_entry, by_link, by_item}
+use Rattle.epoch_core.specs.Events.{WhenMarked}
 use Rattle.epoch_core.specs.Kept.{PhaseFits, Kept}
-use Rattle.epoch_core.proofs.Places.{same_bucket, no_epoch, no_stamp, no_item, item_no_epoch}
 
 abbrev pub bit : ℕ → ℕ → ℕ
 bit c b = if nat_eq c b then 1 else 0

@@ -1,10 +1,5 @@
 -- An event goes to no word that a get of a bucket with no marked write needs.
-use Rattle.std.proofs.Common.{◌≡◌, ℕ, zero, suc, ◌+◌, ◌<◌, ◌≢◌, inl, inr, ◌⊎◌, List, Bool, if◌then◌else◌, nat_eq, eq-eqb, ne_eqb, refl, sym, ap, ◌∙◌, subst, arith}
-use Rattle.std.proofs.Math.Nat.{mod-lt}
-use Rattle.std.proofs.lemmas.Nat.{pow_pos}
-use native.Mathlib.Decide.{ℕ_discrete}
-use mathlib.Core.Logic.{dite}
-use Rattle.mica_words.specs.Hash.{fnv1a, bucket_of}
+use Rattle.std.proofs.Common.{◌≡◌, ℕ, ◌+◌, ◌<◌, ◌≢◌, List, refl, sym, ◌∙◌, subst, arith}
 use Rattle.mica_words.specs.Entry.{entry_offset}
 use Rattle.mica_model.specs.declared.write.Write.{Write}
 use Rattle.mica_model.specs.History.{State, cache_state, store_state, state_of}
@@ -13,15 +8,15 @@ use Rattle.epoch_core.specs.declared.state.Phase.{Phase}
 use Rattle.epoch_core.specs.declared.state.Phase.TheVariants.{Idle, Begun, Marked}
 use Rattle.epoch_core.specs.declared.event.Event.{Event}
 use Rattle.epoch_core.specs.declared.event.Event.TheVariants.{Begins, Marks, PutsWord, PutsEntry, PutsLink, Ends}
-use Rattle.epoch_core.specs.Shape.{IsMain, IsBucket}
+use Rattle.epoch_core.specs.Shape.{IsMain}
 use Rattle.epoch_core.specs.Layout.{entries_at, item_at}
-use Rattle.epoch_core.specs.OwnerState.{link_in, options_in, marked_in}
-use Rattle.epoch_core.specs.Chain.{IsAmong, InChain, IsFreeSpare}
+use Rattle.epoch_core.specs.OwnerState.{options_in, marked_in}
+use Rattle.epoch_core.specs.Chain.{InChain}
 use Rattle.epoch_core.specs.LiveEntry.{HasLiveEntry}
 use Rattle.epoch_core.specs.StandsFor.{room_in, IsInRoom}
 use Rattle.epoch_core.specs.Events.{WhenMarked, BelongsTo, IsAllowed, place_of}
 use Rattle.epoch_core.proofs.Reach.{IsReached, by_entry, by_link, by_item}
-use Rattle.epoch_core.specs.Kept.{PhaseFits, Kept}
+use Rattle.epoch_core.specs.Kept.{Kept}
 use Rattle.epoch_core.proofs.Marked.{chain_bucket, marked_not, ends_main, its_bucket, its_inside}
 use Rattle.epoch_core.proofs.Places.{same_bucket, no_epoch, no_stamp, no_item, item_no_epoch}
 

@@ -1,5 +1,5 @@
 -- A chain has no more buckets than all spares and its main one, since it ends and so meets no bucket twice.
-use Rattle.std.proofs.Common.{◌≡◌, ℕ, zero, suc, ◌+◌, ◌-◌, ◌<◌, ◌≤◌, ◌≢◌, inl, inr, ◌⊎◌, Bool, true, false, List, [], ◌∷◌, length, eqb, refl, sym, ap, ◌∙◌, subst, arith, ⊎_elim}
+use Rattle.std.proofs.Common.{◌≡◌, ℕ, zero, suc, ◌+◌, ◌-◌, ◌<◌, ◌≤◌, ◌≢◌, inl, inr, true, false, List, [], ◌∷◌, length, eqb, refl, sym, ap, subst, arith, ⊎_elim}
 use Rattle.std.specs.List.{AllByRecursion, IsDistinct, list_any}
 use Rattle.std.proofs.lemmas.Bool.{cases_Bool}
 use Rattle.std.proofs.lemmas.Bool.Decides.{nat_tests}
@@ -25,6 +25,12 @@ pub among_of_behind : (o : OwnerState) (k n x y : ℕ) → k < n → IsBehind o 
 among_of_behind o k zero x y less h = absurd (omega arith)
 among_of_behind o zero (suc n) x y less h = inl h
 among_of_behind o (suc k) (suc n) x y less h = inr (h.0, among_of_behind o k n (link_in o x) y (omega arith) h.1)
+
+pub among_more : (o : OwnerState) (n m x y : ℕ) → n ≤ m → IsAmong o n x y → IsAmong o m x y
+among_more o zero m x y less h = absurd h
+among_more o (suc n) zero x y less h = absurd (omega arith)
+among_more o (suc n) (suc m) x y less (inl is) = inl is
+among_more o (suc n) (suc m) x y less (inr h) = inr (h.0, among_more o n m (link_in o x) y (omega arith) h.1)
 
 pub ends_more : (o : OwnerState) (n m x : ℕ) → n ≤ m → EndsWithin o n x → EndsWithin o m x
 ends_more o zero m x less h = absurd h

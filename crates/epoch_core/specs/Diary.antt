@@ -1,5 +1,5 @@
 -- The first events of an owner, as they are kept, and the rule of the one-word table whose seat has them in its view.
-use Rattle.std.specs.Prelude.{◌≡◌, ℕ, ◌<◌, List, [], ◌∷◌, ◌++◌, length, nat_lt, if◌then◌else◌}
+use Rattle.std.specs.Prelude.{◌≡◌, ℕ, ◌<◌, [], ◌∷◌, ◌++◌, length, nat_lt, if◌then◌else◌}
 use mathlib.Core.Option.{some}
 use lib.ListN.{get_elem?}
 use Rattle.atomic_table.specs.Table.{State, Me, Step}
@@ -8,11 +8,10 @@ use Rattle.epoch_core.specs.declared.event.Event.{Event}
 use Rattle.epoch_core.specs.declared.event.Event.TheVariants.{Begins, Marks, PutsWord, PutsEntry, PutsLink, Ends}
 use Rattle.epoch_core.specs.declared.event.OwnerEvent.{OwnerEvent}
 use Rattle.epoch_core.specs.declared.event.OwnerEvent.TheVariants.{Begin, Mark, PutWord, PutEntry, PutLink, End}
-use Rattle.epoch_core.specs.declared.state.OwnerState.{OwnerState}
 use Rattle.epoch_core.specs.declared.plain.Diary.{Diary}
 use Rattle.epoch_core.specs.declared.plain.Blank.{Blank}
 use Rattle.epoch_core.specs.OwnerState.{as_made}
-use Rattle.epoch_core.specs.Events.{IsAllowed, after}
+use Rattle.epoch_core.specs.Events.{after, CanPlay, plays}
 use Rattle.epoch_core.specs.Kept.{Kept}
 
 -- Events in memory
@@ -34,17 +33,6 @@ event_of (PutWord p x) write = PutsWord p x
 event_of (PutEntry c slot entry) write = PutsEntry c slot entry
 event_of (PutLink c next) write = PutsLink c next
 event_of (End b) write = Ends b
-
--- Several events, one after another
-
--- each is allowed where it comes
-abbrev pub CanPlay : List Event → OwnerState → Type 0
-CanPlay [] o = Unit {0}
-CanPlay (e ∷ es) o = IsAllowed e o × CanPlay es (after e o)
-
-abbrev pub plays : List Event → OwnerState → OwnerState
-plays [] o = o
-plays (e ∷ es) o = plays es (after e o)
 
 -- The diary
 

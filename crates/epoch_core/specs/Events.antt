@@ -119,3 +119,19 @@ after e o = record o {
   history = history_after e o.history;
   phase = phase_after e o;
 }
+
+-- Several events, one after another
+
+-- each is allowed where it comes
+abbrev pub CanPlay : List Event → OwnerState → Type 0
+CanPlay [] o = Unit {0}
+CanPlay (e ∷ es) o = IsAllowed e o × CanPlay es (after e o)
+
+abbrev pub plays : List Event → OwnerState → OwnerState
+plays [] o = o
+plays (e ∷ es) o = plays es (after e o)
+
+-- the words stored from the offset on
+abbrev pub puts_from : ℕ → List ℕ → List Event
+puts_from p [] = []
+puts_from p (x ∷ xs) = PutsWord p x ∷ puts_from (p + 1) xs

@@ -5,6 +5,7 @@ pub mod Chain
 pub mod LiveEntry
 pub mod StandsFor
 pub mod Events
+pub mod ItemAt
 pub mod Kept
 pub mod OwnerStep
 pub mod Diary

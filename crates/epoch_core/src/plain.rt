@@ -1,9 +1,10 @@
 //! The owner's words in a vector. Beside them stands a table of one word, whose one seat's view is what contracts see of the owner.
 ghost use Rattle.std.specs.Prelude.{◌≡◌, ◌<◌, true, map, ◌∷◌, ◌++◌, [], length, nat_lt, if◌then◌else◌, IfOk, vec_len, vec_capacity};
 ghost use Rattle.epoch_core.specs.Shape.{IsValidShape, is_in_range};
+ghost use Rattle.epoch_core.specs.OwnerState.{as_made};
 ghost use Rattle.epoch_core.specs.Events.{IsAllowed, place_of};
 ghost use Rattle.epoch_core.specs.Kept.{Kept};
-ghost use Rattle.epoch_core.specs.Diary.{blank_diary, diary_after, owner_event};
+ghost use Rattle.epoch_core.specs.Diary.{diary_after, owner_event};
 
 use crate::event::{Event, OwnerEvent};
 use crate::shape::{Shape, WordAt};
@@ -50,8 +51,8 @@ impl Play<(), Diary> for Knows {
     ghost then = { knows };
 }
 
-/// The event of a step, for the proof alone. Each call picks it.
-pub trait Happens {
+// The event of a step, for the proof alone. Each call picks it.
+trait Happens {
     ghost use Rattle.epoch_core.specs.declared.event.Event.{Event};
 
     ghost event: { Event };
@@ -127,7 +128,8 @@ impl PlainWords {
     /// Words as made, and room for so many of the first events.
     pub fn new(alloc: Global, shape: &Shape, log_room: u32) -> Result<PlainWords, NoMemory>
         requires { IsValidShape shape.now }
-        ensures { IfOk result (λ w. w.seat.me.0 ≡ blank_diary record { shape = shape.now; room = log_room }) }
+        ensures made { IfOk result (λ w. w.seat.me.0.owner ≡ as_made shape.now) }
+        ensures log { IfOk result (λ w. (w.seat.me.0.kept ≡ []) × (w.seat.me.0.room ≡ log_room)) }
     {
         let words = vec![in alloc; 0u64; shape.word_count()]?;
         let events = Vec::with_capacity(alloc, log_room as usize)?;

@@ -1,5 +1,6 @@
 //! The shape of a partition, and its words by their meaning.
 ghost use Rattle.std.specs.Prelude.{◌≡◌, ◌↔◌, IsTrue, ◌+◌, ◌*◌, ◌%◌, ◌<◌};
+ghost use Rattle.mica_model.specs.Options.{IsValid};
 ghost use Rattle.epoch_core.specs.Shape.{shape_of, IsValidShape, is_in_range};
 ghost use Rattle.epoch_core.specs.Layout.{entries_at, place_at, word_count};
 
@@ -32,7 +33,8 @@ pub enum WordAt {
 impl Shape {
     /// There are no spares in cache mode.
     pub fn of(options: &Options) -> Shape
-        ensures { result ≡ shape_of options.now }
+        ensures same { result ≡ shape_of options.now }
+        ensures valid { IsValid options.now → IsValidShape result }
     {
         let spares = match options.mode {
             Mode::Cache => 0,
