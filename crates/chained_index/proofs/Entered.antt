@@ -18,7 +18,8 @@ use Rattle.chained_index.specs.ChainChange.{KeepsChain, ChangesChain}
 use Rattle.chained_index.specs.Index.{Index, IsBlank, IsIndexOf}
 use Rattle.chained_index.proofs.Walk.{IsWalk, walk_of, same_step, in_chain, dense_of_shape}
 use Rattle.chained_index.proofs.ChainLists.{bucket_inside}
-use Rattle.chained_index.proofs.Effects.{SameBucket, entry_here, entry_else, link_stays, entered_same, entered_only}
+use Rattle.epoch_core.proofs.EventWords.{entry_puts, entry_puts_other, link_puts_entry}
+use Rattle.chained_index.proofs.Effects.{SameBucket, entered_same, entered_only}
 use Rattle.chained_index.proofs.Frames.{chain_back, chain_on, chain_kept, dense_kept}
 use Rattle.chained_index.proofs.Pushes.{bucket_at-same, SameSlot, pushed, dropped, changed}
 
@@ -39,14 +40,14 @@ module _ (o : OwnerState) (s : Kept o) (b : ℕ) (main : IsMain o.shape b) (link
   -- the chain's buckets are the same
 
   pub buckets_stay : (k : ℕ) → bucket_at p k b ≡ bucket_at o k b
-  buckets_stay k = bucket_at-same o p k b (λ j less. link_stays o s c inside slot x low (bucket_at o j b))
+  buckets_stay k = bucket_at-same o p k b (λ j less. link_puts_entry o s.wide c slot x (bucket_at o j b) low)
 
   pub entry_new : entry_in p (bucket_at p at b) slot ≡ x
-  entry_new = ap (λ (z : ℕ). entry_in p z slot) (buckets_stay at) ∙ entry_here o s c inside slot x low
+  entry_new = ap (λ (z : ℕ). entry_in p z slot) (buckets_stay at) ∙ entry_puts o s.wide c slot x inside low
 
   pub entry_old : (k t : ℕ) → k ≤ links → t < 15 → (k ≢ at) ⊎ (t ≢ slot) → SameSlot o p b k t
   entry_old k t near small differ =
-      ap (λ (z : ℕ). entry_in p z t) (buckets_stay k) ∙ entry_else o s c inside slot x low (bucket_at o k b) t small (elim differ [
+      ap (λ (z : ℕ). entry_in p z t) (buckets_stay k) ∙ entry_puts_other o s.wide c slot x (bucket_at o k b) t low small (elim differ [
         | inl n ↦ inl (λ same. n (same_step o b links (walk_of o b links used h) k at near few same))
         | inr n ↦ inr n
       ])
@@ -55,22 +56,22 @@ module _ (o : OwnerState) (s : Kept o) (b : ℕ) (main : IsMain o.shape b) (link
   entry_by_number k t near small differ = entry_old k t near small (dite (ℕ_discrete k at) (λ is. inr (λ same. differ (omega arith))) (λ n. inl n))
 
   link_there : (k : ℕ) → link_in p (bucket_at p k b) ≡ link_in o (bucket_at o k b)
-  link_there k = ap (link_in p) (buckets_stay k) ∙ link_stays o s c inside slot x low (bucket_at o k b)
+  link_there k = ap (link_in p) (buckets_stay k) ∙ link_puts_entry o s.wide c slot x (bucket_at o k b) low
 
   -- other chains, and the index
 
   other_same : (other d : ℕ) → IsMain o.shape other → other ≢ b → InChain o other d → SameBucket o p d
-  other_same other d l n i = entered_same o s c inside slot x low d (λ same.
+  other_same other d l n i = entered_same o s c slot x low d (λ same.
       s.chains.apart other b d l main n i (subst (InChain o b) (sym same) (in_chain o b links (walk_of o b links used h) h.few at few)))
 
   pub others_keep : (other : ℕ) → IsMain o.shape other → other ≢ b → KeepsChain o p other
   others_keep other l n = chain_kept o p.words long other (λ d i. other_same other d l n i)
 
   chains_back : (other d : ℕ) → InChain p other d → InChain o other d
-  chains_back other d i = chain_back o p.words long other (λ e j. link_stays o s c inside slot x low e) d i
+  chains_back other d i = chain_back o p.words long other (λ e j. link_puts_entry o s.wide c slot x e low) d i
 
   chains_on : (other d : ℕ) → InChain o other d → InChain p other d
-  chains_on other d i = chain_on o p.words long other (λ e j. link_stays o s c inside slot x low e) d i
+  chains_on other d i = chain_on o p.words long other (λ e j. link_puts_entry o s.wide c slot x e low) d i
 
   pub free_on : (d : ℕ) → IsFreeSpare o d → IsFreeSpare p d
   free_on d f = record { spare = f.spare; free = λ other l i. f.free other l (chains_back other d i) }
@@ -80,7 +81,7 @@ module _ (o : OwnerState) (s : Kept o) (b : ℕ) (main : IsMain o.shape b) (link
 
   pub blank_on : (d : ℕ) → IsFreeSpare o d → IsBlank o d → IsBlank p d
   blank_on d f e =
-      let same = entered_same o s c inside slot x low d (λ is. f.free b main (subst (InChain o b) (sym is) (in_chain o b links (walk_of o b links used h) h.few at few))) in record {
+      let same = entered_same o s c slot x low d (λ is. f.free b main (subst (InChain o b) (sym is) (in_chain o b links (walk_of o b links used h) h.few at few))) in record {
         no_link = same.link ∙ e.no_link;
         no_entry = λ t small. same.entry t small ∙ e.no_entry t small;
       }

@@ -4,3 +4,8 @@ mod Effects
 mod Frames
 mod Pushes
 mod Entered
+mod Linked
+mod Walking
+mod Full
+mod FreeList
+mod Calls

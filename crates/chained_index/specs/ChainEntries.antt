@@ -40,7 +40,12 @@ pub record IsUsed (o : OwnerState) (b : ℕ) (spot : Spot) : Type 0 where
 unfoldable pub number_of : OwnerState → ℕ → Spot → ℕ
 number_of o b spot = 15 * position_or_len (λ c. c == spot.bucket) (buckets_of o b) + spot.slot
 
--- the entry has the key's tag, and the item at its offset has the key
-pub record NamesKey (o : OwnerState) (entry : ℕ) (key : List ℕ) : Type 0 where
-  pub tag : entry_tag entry ≡ tag_of key
-  pub item : HasKey o (entry_offset entry) key
+-- The spot has an entry of the key's tag, whose item has the key.
+pub record IsSpotOf (o : OwnerState) (b : ℕ) (key : List ℕ) (spot : Spot) : Type 0 where
+  pub used : IsUsed o b spot
+  pub tag : entry_tag (spot_entry o spot) ≡ tag_of key
+  pub item : HasKey o (entry_offset (spot_entry o spot)) key
+
+-- no spot is the key's
+abbrev pub HasNoSpot : OwnerState → ℕ → List ℕ → Type 0
+HasNoSpot o b key = (spot : Spot) → ¬ (IsSpotOf o b key spot)

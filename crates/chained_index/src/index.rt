@@ -1,12 +1,12 @@
 //! The chained index, after the MICA paper's store mode.
-ghost use Rattle.std.specs.Prelude.{◌≡◌, ◌≢◌, ℕ, suc, ◌+◌, ◌-◌, ◌*◌, ◌<◌, ◌≤◌, ◌^◌, ◌↔◌, ◌++◌, ◌∷◌, [], IsFalse, IfOk, MatchOption, All, slice_set, swap_remove};
+ghost use Rattle.std.specs.Prelude.{◌≡◌, ◌≢◌, ℕ, suc, ◌+◌, ◌-◌, ◌*◌, ◌<◌, ◌≤◌, ◌^◌, ◌↔◌, ◌++◌, ◌∷◌, [], IsFalse, IfOk, MatchOption, slice_set, swap_remove};
 ghost use Rattle.mica_words.specs.Entry.{entry_of};
 ghost use Rattle.mica_words.specs.Item.{KeyFits};
 ghost use Rattle.epoch_core.specs.Shape.{IsValidShape, IsMain, IsBucket};
 ghost use Rattle.epoch_core.specs.OwnerState.{as_made, entry_in, marked_in};
 ghost use Rattle.epoch_core.specs.Events.{WhenMarked};
 ghost use Rattle.epoch_core.specs.Kept.{Kept};
-ghost use Rattle.chained_index.specs.ChainEntries.{entries_of, number_of, spot_entry, IsUsed, NamesKey};
+ghost use Rattle.chained_index.specs.ChainEntries.{entries_of, number_of, IsUsed, IsSpotOf, HasNoSpot};
 ghost use Rattle.chained_index.specs.ChainChange.{ChangesChain};
 ghost use Rattle.chained_index.specs.ChainShape.{bucket_at, HasChainShape, EndsAt};
 ghost use Rattle.chained_index.specs.Index.{IsIndexOf, LacksPlace};
@@ -74,12 +74,8 @@ impl ChainedIndex {
         requires index { IsIndexOf self.now (W.owner words.old) }
         requires bucket { IsMain (W.owner words.old).shape bucket }
         requires key { KeyFits key.now }
-        ensures found {
-            MatchOption result
-                (All (λ entry. ¬ (NamesKey (W.owner words.old) entry key.entry.now)) (entries_of (W.owner words.old) bucket))
-                (λ spot. IsUsed (W.owner words.old) bucket spot
-                    × NamesKey (W.owner words.old) (spot_entry (W.owner words.old) spot) key.entry.now)
-        }
+        ensures found { MatchOption result (HasNoSpot (W.owner words.old) bucket key.entry.now)
+            (IsSpotOf (W.owner words.old) bucket key.entry.now) }
         ensures same { (W.owner words.new ≡ W.owner words.old) × (W.home words.new ≡ W.home words.old) }
         ensures kept { Kept (W.owner words.new) }
     {
@@ -113,18 +109,18 @@ impl ChainedIndex {
         requires bucket { IsMain (W.owner words.old).shape bucket }
         ensures place { IsFalse result ↔ LacksPlace self.now (W.owner words.old) bucket }
         ensures same { (W.owner words.new ≡ W.owner words.old) × (W.home words.new ≡ W.home words.old) }
-        ensures kept { Kept (W.owner words.new) }
     {
-        let end = self.end_of(words, bucket);
-        end.used < SLOTS || !self.free.is_empty()
+        !self.free.is_empty() || self.end_of(words, bucket).used < SLOTS
     }
 
     /// Adds an entry after the chain's last.
     pub fn place<W: OwnerWords>(&mut self, words: &mut W, bucket: u32, tag: u16, offset: u64)
         requires index { IsIndexOf self.old (W.owner words.old) }
         requires marked { marked_in (W.owner words.old).phase bucket ≡ 1 }
+        requires bucket { IsMain (W.owner words.old).shape bucket }
         requires place { ¬ (LacksPlace self.old (W.owner words.old) bucket) }
-        requires entry { (1 ≤ tag) × (offset < 2 ^ 48) }
+        requires tag { 1 ≤ tag }
+        requires offset { offset < 2 ^ 48 }
         ensures entries {
             ChangesChain (W.owner words.old) (W.owner words.new) bucket
                 (entries_of (W.owner words.old) bucket ++ entry_of tag offset ∷ [])
@@ -147,7 +143,8 @@ impl ChainedIndex {
     pub fn replace<W: OwnerWords>(&mut self, words: &mut W, spot: Spot, tag: u16, offset: u64)
         requires index { IsIndexOf self.old (W.owner words.old) }
         requires spot { WhenMarked (W.owner words.old).phase (λ b write before. IsUsed (W.owner words.old) b spot) }
-        requires entry { (1 ≤ tag) × (offset < 2 ^ 48) }
+        requires tag { 1 ≤ tag }
+        requires offset { offset < 2 ^ 48 }
         ensures entries {
             WhenMarked (W.owner words.old).phase (λ b write before.
                 ChangesChain (W.owner words.old) (W.owner words.new) b
@@ -164,6 +161,7 @@ impl ChainedIndex {
     pub fn remove<W: OwnerWords>(&mut self, words: &mut W, bucket: u32, spot: Spot)
         requires index { IsIndexOf self.old (W.owner words.old) }
         requires marked { marked_in (W.owner words.old).phase bucket ≡ 1 }
+        requires bucket { IsMain (W.owner words.old).shape bucket }
         requires spot { IsUsed (W.owner words.old) bucket spot }
         ensures entries {
             ChangesChain (W.owner words.old) (W.owner words.new) bucket
@@ -209,11 +207,12 @@ impl ChainedIndex {
                 → (bucket_at (W.owner words.old) links bucket ≡ result.1)
                 × ((k : ℕ) → suc k ≡ links → bucket_at (W.owner words.old) k bucket ≡ result.0)
         }
+        ensures inside { IsBucket (W.owner words.old).shape result.1 }
         ensures same { (W.owner words.new ≡ W.owner words.old) × (W.home words.new ≡ W.home words.old) }
     {
         let mut before = bucket;
         let mut at = bucket;
-        for _link in 0..self.shape.spares {
+        for link in 0..self.shape.spares {
             let next = words.read(WordAt::Link(at)) as u32;
             if next == 0 {
                 return (before, at);

@@ -1,0 +1,211 @@
+-- What the stores of each call make of a chain and its index.
+use Rattle.std.proofs.Common.{◌≡◌, ℕ, suc, ◌+◌, ◌-◌, ◌*◌, ◌<◌, ◌≤◌, ◌≢◌, inl, inr, ◌⊎◌, List, [], ◌∷◌, ◌++◌, length, get_or, take, set, refl, sym, ap, ◌∙◌, subst, arith, length-set}
+use Rattle.std.specs.Prelude.{Contains, swap_remove}
+use mathlib.Core.Logic.{dite}
+use native.Mathlib.Decide.{ℕ_discrete}
+use Rattle.std.proofs.lemmas.Bool.{cases_lt}
+use Rattle.std.proofs.lemmas.List.Elements.{Contains-push}
+use Rattle.epoch_core.specs.declared.shape.Shape.{Shape}
+use Rattle.mica_model.specs.declared.write.Write.{Write}
+use Rattle.epoch_core.specs.declared.state.OwnerState.{OwnerState}
+use Rattle.epoch_core.specs.declared.state.Phase.{Phase}
+use Rattle.epoch_core.specs.declared.state.Phase.TheVariants.{Idle, Begun, Marked}
+use Rattle.epoch_core.specs.declared.event.Event.TheVariants.{PutsEntry, PutsLink}
+use Rattle.epoch_core.specs.Shape.{IsMain, IsBucket}
+use Rattle.epoch_core.specs.OwnerState.{entry_in, link_in, marked_in}
+use Rattle.epoch_core.specs.Chain.{InChain, IsFreeSpare}
+use Rattle.epoch_core.specs.Events.{WhenMarked, IsItsBucket, MayPutEntry, MayPutLink, after}
+use Rattle.epoch_core.specs.Kept.{Kept}
+use Rattle.epoch_core.proofs.Marked.{bit_is}
+use Rattle.chained_index.specs.declared.index.Spot.{Spot}
+use Rattle.chained_index.specs.declared.index.ChainEnd.{ChainEnd}
+use Rattle.chained_index.specs.ChainEntries.{entries_of, number_of, IsUsed}
+use Rattle.chained_index.specs.ChainShape.{bucket_at, HasChainShape, EndsAt}
+use Rattle.chained_index.specs.ChainChange.{ChangesChain}
+use Rattle.chained_index.specs.Index.{Index, IsBlank, IsIndexOf}
+use Rattle.chained_index.proofs.Walk.{IsWalk, walk_of, in_chain, of_chain, same_step, shape_there}
+use Rattle.chained_index.proofs.ChainLists.{bucket_inside, number_is, length-entries_of, get_or-entries_of}
+use Rattle.chained_index.proofs.Frames.{changes_then}
+use Rattle.chained_index.proofs.Entered as entered
+use Rattle.chained_index.proofs.Linked as linked
+use Rattle.chained_index.proofs.FreeList.{contains_more, contains_split, pairs_before, not_before, pairs_more}
+
+-- When a store may happen
+
+pub when_marked : (phase : Phase) (b : ℕ) (P : ℕ → Type 0) → marked_in phase b ≡ 1 → P b → WhenMarked phase (λ c write before. P c)
+when_marked Idle b P one h = absurd (omega arith)
+when_marked (Begun c) b P one h = absurd (omega arith)
+when_marked (Marked c write before) b P one h = subst P (sym (bit_is c b one)) h
+
+pub its_own : (o : OwnerState) (b c : ℕ) → marked_in o.phase b ≡ 1 → InChain o b c → IsItsBucket o c
+its_own o b c one h = when_marked o.phase b (λ d. InChain o d c ⊎ IsFreeSpare o c) one (inl h)
+
+pub its_spare : (o : OwnerState) (b c : ℕ) → marked_in o.phase b ≡ 1 → IsFreeSpare o c → IsItsBucket o c
+its_spare o b c one f = when_marked o.phase b (λ d. InChain o d c ⊎ IsFreeSpare o c) one (inr f)
+
+-- The end of a chain
+
+module _ (o : OwnerState) (s : Kept o) (b : ℕ) (main : IsMain o.shape b) (links : ℕ) (end : ChainEnd) (e : EndsAt o b links end) where
+  pub end_in_chain : InChain o b end.bucket
+  end_in_chain = subst (InChain o b) e.last (in_chain o b links (walk_of o b links end.used e.shape) e.shape.few links (omega arith))
+
+  pub end_inside : IsBucket o.shape end.bucket
+  end_inside = subst (IsBucket o.shape) e.last (bucket_inside o s b main links end.used e.shape links (omega arith))
+
+  -- an entry is added to it
+  module _ (x : ℕ) (some : x ≢ 0) (p : OwnerState) (kept : Kept p) (room : end.used < 15) (is : p ≡ after (PutsEntry end.bucket end.used x) o) where
+    put_there : p ≡ after (PutsEntry (bucket_at o links b) end.used x) o
+    put_there = is ∙ ap (λ (z : ℕ). after (PutsEntry z end.used x) o) (sym e.last)
+
+    pub pushed_by : ChangesChain o p b (entries_of o b ++ x ∷ [])
+    pushed_by = subst (λ (z : OwnerState). ChangesChain o z b (entries_of o b ++ x ∷ [])) (sym put_there)
+        (entered.changes_pushed o s b main links end.used e.shape links (omega arith) end.used x room some refl refl (subst Kept put_there kept))
+
+    pub index_pushed_by : (index : Index) → IsIndexOf index o → IsIndexOf index p
+    index_pushed_by index h = subst (IsIndexOf index) (sym put_there)
+        (entered.index_pushed o s b main links end.used e.shape links (omega arith) end.used x room some refl refl index h)
+
+  -- a spare bucket is taken behind it
+  module _ (x : ℕ) (some : x ≢ 0) (next : ℕ) (free : IsFreeSpare o next) (blank : IsBlank o next) (full : end.used ≡ 15)
+      (m p : OwnerState) (middle : Kept m) (kept : Kept p)
+      (first : m ≡ after (PutsEntry next 0 x) o) (second : p ≡ after (PutsLink end.bucket next) m) where
+    shape : HasChainShape o b links 15
+    shape = subst (HasChainShape o b links) full e.shape
+
+    two : p ≡ linked.taken o s b main links shape next x some free blank
+    two = second ∙ (ap (λ (z : ℕ). after (PutsLink z next) m) (sym e.last) ∙ ap (after (PutsLink (bucket_at o links b) next)) first)
+
+    first_kept : Kept (linked.taken_first o s b main links shape next x some free blank)
+    first_kept = subst Kept first middle
+
+    pub taken_by : ChangesChain o p b (entries_of o b ++ x ∷ [])
+    taken_by = subst (λ (z : OwnerState). ChangesChain o z b (entries_of o b ++ x ∷ [])) (sym two)
+        (linked.changes_taken o s b main links shape next x some free blank first_kept (subst Kept two kept))
+
+    pub index_taken_by : (sh : Shape) (rest : List ℕ) → IsIndexOf (record { shape = sh; free = rest ++ next ∷ [] }) o → IsIndexOf (record { shape = sh; free = rest }) p
+    index_taken_by sh rest h = subst (IsIndexOf (record { shape = sh; free = rest })) (sym two) record {
+      shape = h.shape;
+      dense = linked.dense_taken o s b main links shape next x some free blank first_kept h.dense;
+      free = λ c. (
+        λ has. linked.still_free o s b main links shape next x some free blank first_kept c ((h.free c).0 (contains_more rest next c has))
+            (λ same. not_before rest next h.once (subst (Contains rest) same has)),
+        λ f. let before = linked.free_taken o s b main links shape next x some free blank first_kept c f in
+            elim (contains_split rest next c ((h.free c).1 before.0)) [ inl has ↦ has | inr same ↦ absurd (before.1 same) ],
+      );
+      once = pairs_before rest next h.once;
+      blank = λ c f. linked.blank_taken o s b main links shape next x some free blank first_kept c f
+          (h.blank c (linked.free_taken o s b main links shape next x some free blank first_kept c f).0);
+    }
+
+-- A used spot
+
+module _ (o : OwnerState) (s : Kept o) (b : ℕ) (main : IsMain o.shape b) (links used : ℕ) (h : HasChainShape o b links used) (spot : Spot) (u : IsUsed o b spot) where
+  at : (k : ℕ) × (k ≤ links) × (bucket_at o k b ≡ spot.bucket)
+  at = of_chain o b links (walk_of o b links used h) spot.bucket u.in_chain
+
+  within : 15 * at.0 + spot.slot < 15 * links + used
+  within =
+      let near = at.1 in
+      let low = u.in_bucket in
+      dite (ℕ_discrete at.0 links)
+      (λ is. elim (cases_lt spot.slot used) [
+        | inl less ↦ omega arith
+        | inr more ↦ absurd (u.used (ap (λ (z : ℕ). entry_in o z spot.slot) (sym at.2 ∙ ap (λ (z : ℕ). bucket_at o z b) is) ∙ h.empty spot.slot more low))
+      ])
+      (λ n. omega arith)
+
+  number_at : number_of o b spot ≡ 15 * at.0 + spot.slot
+  number_at = number_is o b links used h at.0 at.1 spot at.2
+
+  pub number_within : number_of o b spot < length (entries_of o b)
+  number_within = let size = length-entries_of o s b main links used h in let less = within in omega (arith, number_at)
+
+  pub number_entry : get_or (entries_of o b) (number_of o b spot) 0 ≡ entry_in o spot.bucket spot.slot
+  number_entry = ap (λ (z : ℕ). get_or (entries_of o b) z 0) number_at
+      ∙ (get_or-entries_of o s b main links used h at.0 spot.slot u.in_bucket within ∙ ap (λ (z : ℕ). entry_in o z spot.slot) at.2)
+
+  -- its entry is changed
+  module _ (x : ℕ) (some : x ≢ 0) (p : OwnerState) (kept : Kept p) (is : p ≡ after (PutsEntry spot.bucket spot.slot x) o) where
+    put_here : p ≡ after (PutsEntry (bucket_at o at.0 b) spot.slot x) o
+    put_here = is ∙ ap (λ (z : ℕ). after (PutsEntry z spot.slot x) o) (sym at.2)
+
+    pub shape_by : HasChainShape p b links used
+    shape_by = subst (λ (z : OwnerState). HasChainShape z b links used) (sym put_here)
+        (entered.shape_changed o s b main links used h at.0 at.1 spot.slot x u.in_bucket some within)
+
+    pub buckets_by : (k : ℕ) → bucket_at p k b ≡ bucket_at o k b
+    buckets_by k = ap (λ (z : OwnerState). bucket_at z k b) put_here ∙ entered.buckets_stay o s b main links used h at.0 at.1 spot.slot x u.in_bucket k
+
+    pub changed_by : ChangesChain o p b (set (entries_of o b) (number_of o b spot) x)
+    changed_by = subst (λ (z : ℕ). ChangesChain o p b (set (entries_of o b) z x)) (sym number_at)
+        (subst (λ (z : OwnerState). ChangesChain o z b (set (entries_of o b) (15 * at.0 + spot.slot) x)) (sym put_here)
+          (entered.changes_entry o s b main links used h at.0 at.1 spot.slot x u.in_bucket some within (subst Kept put_here kept)))
+
+    pub index_changed_by : (index : Index) → IsIndexOf index o → IsIndexOf index p
+    index_changed_by index i = subst (IsIndexOf index) (sym put_here)
+        (entered.index_changed o s b main links used h at.0 at.1 spot.slot x u.in_bucket some within index i)
+
+-- The last entry
+
+module _ (o : OwnerState) (s : Kept o) (b : ℕ) (main : IsMain o.shape b) (links used : ℕ) (h : HasChainShape o b links used) (slot : ℕ) (last : suc slot ≡ used) where
+  low : slot < 15
+  low = let within = h.within in omega arith
+
+  -- it is dropped
+  module _ (stays : (links ≡ 0) ⊎ (0 < slot)) (p : OwnerState) (kept : Kept p) (is : p ≡ after (PutsEntry (bucket_at o links b) slot 0) o) where
+    pub dropped_by : ChangesChain o p b (take (length (entries_of o b) - 1) (entries_of o b))
+    dropped_by = subst (λ (z : OwnerState). ChangesChain o z b (take (length (entries_of o b) - 1) (entries_of o b))) (sym is)
+        (entered.changes_dropped o s b main links used h links (omega arith) slot 0 low refl refl last stays (subst Kept is kept))
+
+    pub index_dropped_by : (index : Index) → IsIndexOf index o → IsIndexOf index p
+    index_dropped_by index i = subst (IsIndexOf index) (sym is)
+        (entered.index_dropped o s b main links used h links (omega arith) slot 0 low refl refl last stays index i)
+
+-- and its bucket is released
+module _ (o : OwnerState) (s : Kept o) (b : ℕ) (main : IsMain o.shape b) (before : ℕ) (h : HasChainShape o b (suc before) 1)
+    (m p : OwnerState) (middle : Kept m) (kept : Kept p)
+    (first : m ≡ after (PutsEntry (bucket_at o (suc before) b) 0 0) o) (second : p ≡ after (PutsLink (bucket_at o before b) 0) m) where
+  abbrev released_bucket : ℕ
+  released_bucket = bucket_at o (suc before) b
+
+  both : p ≡ linked.released o s b main before h
+  both = second ∙ ap (after (PutsLink (bucket_at o before b) 0)) first
+
+  middle_kept : Kept (linked.released_first o s b main before h)
+  middle_kept = subst Kept first middle
+
+  pub released_by : ChangesChain o p b (take (length (entries_of o b) - 1) (entries_of o b))
+  released_by = subst (λ (z : OwnerState). ChangesChain o z b (take (length (entries_of o b) - 1) (entries_of o b))) (sym both)
+      (linked.changes_released o s b main before h middle_kept (subst Kept both kept))
+
+  not_free : (sh : Shape) (free : List ℕ) → IsIndexOf (record { shape = sh; free = free }) o → ¬ (Contains free released_bucket)
+  not_free sh free i has = ((i.free released_bucket).0 has).free b main
+      (in_chain o b (suc before) (walk_of o b (suc before) 1 h) h.few (suc before) (omega arith))
+
+  pub index_released_by : (sh : Shape) (free : List ℕ) → IsIndexOf (record { shape = sh; free = free }) o
+      → IsIndexOf (record { shape = sh; free = free ++ released_bucket ∷ [] }) p
+  index_released_by sh free i = subst (IsIndexOf (record { shape = sh; free = free ++ released_bucket ∷ [] })) (sym both) record {
+    shape = i.shape;
+    dense = linked.dense_released o s b main before h middle_kept i.dense;
+    free = λ c. (
+      λ has. elim (contains_split free released_bucket c has) [
+        | inl was ↦ linked.free_still o s b main before h middle_kept c ((i.free c).0 was)
+        | inr same ↦ subst (IsFreeSpare (linked.released o s b main before h)) (sym same) (linked.last_free o s b main before h middle_kept)
+      ],
+      λ f. dite (ℕ_discrete c released_bucket)
+          (λ same. subst (Contains (free ++ released_bucket ∷ [])) (sym same) (Contains-push free released_bucket))
+          (λ n. contains_more free released_bucket c ((i.free c).1 (linked.free_released o s b main before h middle_kept c f n))),
+    );
+    once = pairs_more free released_bucket i.once (not_free sh free i);
+    blank = λ c f. dite (ℕ_discrete c released_bucket)
+        (λ same. subst (IsBlank (linked.released o s b main before h)) (sym same) (linked.last_blank o s b main before h middle_kept))
+        (λ n. let was = linked.free_released o s b main before h middle_kept c f n in linked.blank_released o s b main before h middle_kept c was (i.blank c was));
+  }
+
+-- `swap_remove`, where the last entry was stored in the spot's place first
+pub swap_is : (xs ys : List ℕ) (i last y : ℕ) → ys ≡ set xs i y → length xs ≡ suc last → y ≡ get_or xs last 0 → take (length ys - 1) ys ≡ swap_remove xs i 0
+swap_is xs ys i last y is size value =
+    let at : length xs - 1 ≡ last = omega arith in
+    let long : length ys ≡ length xs = ap length is ∙ length-set xs i y in
+    let same : y ≡ get_or xs (length xs - 1) 0 = value ∙ ap (λ (z : ℕ). get_or xs z 0) (sym at) in
+    ap (λ (z : ℕ). take (z - 1) ys) long ∙ ap (take (length xs - 1)) (is ∙ ap (set xs i) same)
