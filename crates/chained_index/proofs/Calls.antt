@@ -5,6 +5,7 @@ use mathlib.Core.Logic.{dite}
 use native.Mathlib.Decide.{ℕ_discrete}
 use Rattle.std.proofs.lemmas.Bool.{cases_lt}
 use Rattle.std.proofs.lemmas.List.Elements.{Contains-push}
+use Rattle.mica_words.specs.Entry.{entry_of}
 use Rattle.epoch_core.specs.declared.shape.Shape.{Shape}
 use Rattle.mica_model.specs.declared.write.Write.{Write}
 use Rattle.epoch_core.specs.declared.state.OwnerState.{OwnerState}
@@ -16,7 +17,8 @@ use Rattle.epoch_core.specs.OwnerState.{entry_in, link_in, marked_in}
 use Rattle.epoch_core.specs.Chain.{InChain, IsFreeSpare}
 use Rattle.epoch_core.specs.Events.{WhenMarked, IsItsBucket, MayPutEntry, MayPutLink, after}
 use Rattle.epoch_core.specs.Kept.{Kept}
-use Rattle.epoch_core.proofs.Marked.{bit_is}
+use Rattle.chained_index.proofs.Chained.{Chained, chained, chained_before}
+use Rattle.epoch_core.proofs.Marked.{bit_is, bit_same, ends_main}
 use Rattle.chained_index.specs.declared.index.Spot.{Spot}
 use Rattle.chained_index.specs.declared.index.ChainEnd.{ChainEnd}
 use Rattle.chained_index.specs.ChainEntries.{entries_of, number_of, IsUsed}
@@ -43,9 +45,13 @@ its_own o b c one h = when_marked o.phase b (λ d. InChain o d c ⊎ IsFreeSpare
 pub its_spare : (o : OwnerState) (b c : ℕ) → marked_in o.phase b ≡ 1 → IsFreeSpare o c → IsItsBucket o c
 its_spare o b c one f = when_marked o.phase b (λ d. InChain o d c ⊎ IsFreeSpare o c) one (inr f)
 
+-- an entry is not 0, as its tag is not
+pub some_entry : (tag offset : ℕ) → 1 ≤ tag → entry_of tag offset ≢ 0
+some_entry tag offset some none = omega arith
+
 -- The end of a chain
 
-module _ (o : OwnerState) (s : Kept o) (b : ℕ) (main : IsMain o.shape b) (links : ℕ) (end : ChainEnd) (e : EndsAt o b links end) where
+module _ (o : OwnerState) (s : Chained o) (b : ℕ) (main : IsMain o.shape b) (links : ℕ) (end : ChainEnd) (e : EndsAt o b links end) where
   pub end_in_chain : InChain o b end.bucket
   end_in_chain = subst (InChain o b) e.last (in_chain o b links (walk_of o b links end.used e.shape) e.shape.few links (omega arith))
 
@@ -53,13 +59,13 @@ module _ (o : OwnerState) (s : Kept o) (b : ℕ) (main : IsMain o.shape b) (link
   end_inside = subst (IsBucket o.shape) e.last (bucket_inside o s b main links end.used e.shape links (omega arith))
 
   -- an entry is added to it
-  module _ (x : ℕ) (some : x ≢ 0) (p : OwnerState) (kept : Kept p) (room : end.used < 15) (is : p ≡ after (PutsEntry end.bucket end.used x) o) where
+  module _ (x : ℕ) (some : x ≢ 0) (p : OwnerState) (kept : Chained p) (room : end.used < 15) (is : p ≡ after (PutsEntry end.bucket end.used x) o) where
     put_there : p ≡ after (PutsEntry (bucket_at o links b) end.used x) o
     put_there = is ∙ ap (λ (z : ℕ). after (PutsEntry z end.used x) o) (sym e.last)
 
     pub pushed_by : ChangesChain o p b (entries_of o b ++ x ∷ [])
     pushed_by = subst (λ (z : OwnerState). ChangesChain o z b (entries_of o b ++ x ∷ [])) (sym put_there)
-        (entered.changes_pushed o s b main links end.used e.shape links (omega arith) end.used x room some refl refl (subst Kept put_there kept))
+        (entered.changes_pushed o s b main links end.used e.shape links (omega arith) end.used x room some refl refl (subst Chained put_there kept))
 
     pub index_pushed_by : (index : Index) → IsIndexOf index o → IsIndexOf index p
     index_pushed_by index h = subst (IsIndexOf index) (sym put_there)
@@ -67,7 +73,7 @@ module _ (o : OwnerState) (s : Kept o) (b : ℕ) (main : IsMain o.shape b) (link
 
   -- a spare bucket is taken behind it
   module _ (x : ℕ) (some : x ≢ 0) (next : ℕ) (free : IsFreeSpare o next) (blank : IsBlank o next) (full : end.used ≡ 15)
-      (m p : OwnerState) (middle : Kept m) (kept : Kept p)
+      (m p : OwnerState) (middle : Chained m) (kept : Chained p)
       (first : m ≡ after (PutsEntry next 0 x) o) (second : p ≡ after (PutsLink end.bucket next) m) where
     shape : HasChainShape o b links 15
     shape = subst (HasChainShape o b links) full e.shape
@@ -75,12 +81,12 @@ module _ (o : OwnerState) (s : Kept o) (b : ℕ) (main : IsMain o.shape b) (link
     two : p ≡ linked.taken o s b main links shape next x some free blank
     two = second ∙ (ap (λ (z : ℕ). after (PutsLink z next) m) (sym e.last) ∙ ap (after (PutsLink (bucket_at o links b) next)) first)
 
-    first_kept : Kept (linked.taken_first o s b main links shape next x some free blank)
-    first_kept = subst Kept first middle
+    first_kept : Chained (linked.taken_first o s b main links shape next x some free blank)
+    first_kept = subst Chained first middle
 
     pub taken_by : ChangesChain o p b (entries_of o b ++ x ∷ [])
     taken_by = subst (λ (z : OwnerState). ChangesChain o z b (entries_of o b ++ x ∷ [])) (sym two)
-        (linked.changes_taken o s b main links shape next x some free blank first_kept (subst Kept two kept))
+        (linked.changes_taken o s b main links shape next x some free blank first_kept (subst Chained two kept))
 
     pub index_taken_by : (sh : Shape) (rest : List ℕ) → IsIndexOf (record { shape = sh; free = rest ++ next ∷ [] }) o → IsIndexOf (record { shape = sh; free = rest }) p
     index_taken_by sh rest h = subst (IsIndexOf (record { shape = sh; free = rest })) (sym two) record {
@@ -99,7 +105,7 @@ module _ (o : OwnerState) (s : Kept o) (b : ℕ) (main : IsMain o.shape b) (link
 
 -- A used spot
 
-module _ (o : OwnerState) (s : Kept o) (b : ℕ) (main : IsMain o.shape b) (links used : ℕ) (h : HasChainShape o b links used) (spot : Spot) (u : IsUsed o b spot) where
+module _ (o : OwnerState) (s : Chained o) (b : ℕ) (main : IsMain o.shape b) (links used : ℕ) (h : HasChainShape o b links used) (spot : Spot) (u : IsUsed o b spot) where
   at : (k : ℕ) × (k ≤ links) × (bucket_at o k b ≡ spot.bucket)
   at = of_chain o b links (walk_of o b links used h) spot.bucket u.in_chain
 
@@ -125,7 +131,7 @@ module _ (o : OwnerState) (s : Kept o) (b : ℕ) (main : IsMain o.shape b) (link
       ∙ (get_or-entries_of o s b main links used h at.0 spot.slot u.in_bucket within ∙ ap (λ (z : ℕ). entry_in o z spot.slot) at.2)
 
   -- its entry is changed
-  module _ (x : ℕ) (some : x ≢ 0) (p : OwnerState) (kept : Kept p) (is : p ≡ after (PutsEntry spot.bucket spot.slot x) o) where
+  module _ (x : ℕ) (some : x ≢ 0) (p : OwnerState) (kept : Chained p) (is : p ≡ after (PutsEntry spot.bucket spot.slot x) o) where
     put_here : p ≡ after (PutsEntry (bucket_at o at.0 b) spot.slot x) o
     put_here = is ∙ ap (λ (z : ℕ). after (PutsEntry z spot.slot x) o) (sym at.2)
 
@@ -139,7 +145,7 @@ module _ (o : OwnerState) (s : Kept o) (b : ℕ) (main : IsMain o.shape b) (link
     pub changed_by : ChangesChain o p b (set (entries_of o b) (number_of o b spot) x)
     changed_by = subst (λ (z : ℕ). ChangesChain o p b (set (entries_of o b) z x)) (sym number_at)
         (subst (λ (z : OwnerState). ChangesChain o z b (set (entries_of o b) (15 * at.0 + spot.slot) x)) (sym put_here)
-          (entered.changes_entry o s b main links used h at.0 at.1 spot.slot x u.in_bucket some within (subst Kept put_here kept)))
+          (entered.changes_entry o s b main links used h at.0 at.1 spot.slot x u.in_bucket some within (subst Chained put_here kept)))
 
     pub index_changed_by : (index : Index) → IsIndexOf index o → IsIndexOf index p
     index_changed_by index i = subst (IsIndexOf index) (sym put_here)
@@ -147,23 +153,23 @@ module _ (o : OwnerState) (s : Kept o) (b : ℕ) (main : IsMain o.shape b) (link
 
 -- The last entry
 
-module _ (o : OwnerState) (s : Kept o) (b : ℕ) (main : IsMain o.shape b) (links used : ℕ) (h : HasChainShape o b links used) (slot : ℕ) (last : suc slot ≡ used) where
+module _ (o : OwnerState) (s : Chained o) (b : ℕ) (main : IsMain o.shape b) (links used : ℕ) (h : HasChainShape o b links used) (slot : ℕ) (last : suc slot ≡ used) where
   low : slot < 15
   low = let within = h.within in omega arith
 
   -- it is dropped
-  module _ (stays : (links ≡ 0) ⊎ (0 < slot)) (p : OwnerState) (kept : Kept p) (is : p ≡ after (PutsEntry (bucket_at o links b) slot 0) o) where
+  module _ (stays : (links ≡ 0) ⊎ (0 < slot)) (p : OwnerState) (kept : Chained p) (is : p ≡ after (PutsEntry (bucket_at o links b) slot 0) o) where
     pub dropped_by : ChangesChain o p b (take (length (entries_of o b) - 1) (entries_of o b))
     dropped_by = subst (λ (z : OwnerState). ChangesChain o z b (take (length (entries_of o b) - 1) (entries_of o b))) (sym is)
-        (entered.changes_dropped o s b main links used h links (omega arith) slot 0 low refl refl last stays (subst Kept is kept))
+        (entered.changes_dropped o s b main links used h links (omega arith) slot 0 low refl refl last stays (subst Chained is kept))
 
     pub index_dropped_by : (index : Index) → IsIndexOf index o → IsIndexOf index p
     index_dropped_by index i = subst (IsIndexOf index) (sym is)
         (entered.index_dropped o s b main links used h links (omega arith) slot 0 low refl refl last stays index i)
 
 -- and its bucket is released
-module _ (o : OwnerState) (s : Kept o) (b : ℕ) (main : IsMain o.shape b) (before : ℕ) (h : HasChainShape o b (suc before) 1)
-    (m p : OwnerState) (middle : Kept m) (kept : Kept p)
+module _ (o : OwnerState) (s : Chained o) (b : ℕ) (main : IsMain o.shape b) (before : ℕ) (h : HasChainShape o b (suc before) 1)
+    (m p : OwnerState) (middle : Chained m) (kept : Chained p)
     (first : m ≡ after (PutsEntry (bucket_at o (suc before) b) 0 0) o) (second : p ≡ after (PutsLink (bucket_at o before b) 0) m) where
   abbrev released_bucket : ℕ
   released_bucket = bucket_at o (suc before) b
@@ -171,12 +177,12 @@ module _ (o : OwnerState) (s : Kept o) (b : ℕ) (main : IsMain o.shape b) (befo
   both : p ≡ linked.released o s b main before h
   both = second ∙ ap (after (PutsLink (bucket_at o before b) 0)) first
 
-  middle_kept : Kept (linked.released_first o s b main before h)
-  middle_kept = subst Kept first middle
+  middle_kept : Chained (linked.released_first o s b main before h)
+  middle_kept = subst Chained first middle
 
   pub released_by : ChangesChain o p b (take (length (entries_of o b) - 1) (entries_of o b))
   released_by = subst (λ (z : OwnerState). ChangesChain o z b (take (length (entries_of o b) - 1) (entries_of o b))) (sym both)
-      (linked.changes_released o s b main before h middle_kept (subst Kept both kept))
+      (linked.changes_released o s b main before h middle_kept (subst Chained both kept))
 
   not_free : (sh : Shape) (free : List ℕ) → IsIndexOf (record { shape = sh; free = free }) o → ¬ (Contains free released_bucket)
   not_free sh free i has = ((i.free released_bucket).0 has).free b main
@@ -209,3 +215,36 @@ swap_is xs ys i last y is size value =
     let long : length ys ≡ length xs = ap length is ∙ length-set xs i y in
     let same : y ≡ get_or xs (length xs - 1) 0 = value ∙ ap (λ (z : ℕ). get_or xs z 0) (sym at) in
     ap (λ (z : ℕ). take (z - 1) ys) long ∙ ap (take (length xs - 1)) (is ∙ ap (set xs i) same)
+
+-- Where a write is marked, what holds of its bucket.
+
+pub marked_part : (phase : Phase) (P Q : ℕ → Type 0) → ((b : ℕ) → marked_in phase b ≡ 1 → P b → Q b)
+    → WhenMarked phase (λ b write before. P b) → WhenMarked phase (λ b write before. Q b)
+marked_part Idle P Q f h = h
+marked_part (Begun b) P Q f h = h
+marked_part (Marked b write before) P Q f h = f b (bit_same b b refl) h
+
+pub marked_any : (phase : Phase) (P : ℕ → Type 0) (R : Type 0) → ((b : ℕ) → marked_in phase b ≡ 1 → P b → R) → WhenMarked phase (λ b write before. P b) → R
+marked_any Idle P R f h = absurd h
+marked_any (Begun b) P R f h = absurd h
+marked_any (Marked b write before) P R f h = f b (bit_same b b refl) h
+
+module _ (o p : OwnerState) (kept : Kept p) (spot : Spot) (x : ℕ) (some : x ≢ 0) (is : p ≡ after (PutsEntry spot.bucket spot.slot x) o)
+    (b : ℕ) (one : marked_in o.phase b ≡ 1) (u : IsUsed o b spot) (index : Index) (i : IsIndexOf index o) where
+  stored : Kept (after (PutsEntry spot.bucket spot.slot x) o)
+  stored = subst Kept is kept
+
+  before_it : Chained o
+  before_it = chained_before o spot.bucket spot.slot x u.in_bucket (chained (after (PutsEntry spot.bucket spot.slot x) o) stored)
+
+  its_main : IsMain o.shape b
+  its_main = ends_main (after (PutsEntry spot.bucket spot.slot x) o) stored o.phase refl b one
+
+  its_shape : (links : ℕ) × (used : ℕ) × HasChainShape o b links used
+  its_shape = shape_there o b (before_it.chains.end b its_main) (i.dense b its_main)
+
+  pub replaced_by : ChangesChain o p b (set (entries_of o b) (number_of o b spot) x)
+  replaced_by = changed_by o before_it b its_main its_shape.0 its_shape.1 its_shape.2 spot u x some p (chained p kept) is
+
+  pub index_replaced_by : IsIndexOf index p
+  index_replaced_by = index_changed_by o before_it b its_main its_shape.0 its_shape.1 its_shape.2 spot u x some p (chained p kept) is index i

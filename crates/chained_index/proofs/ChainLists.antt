@@ -10,11 +10,10 @@ use Rattle.epoch_core.specs.declared.state.OwnerState.{OwnerState}
 use Rattle.epoch_core.specs.Shape.{IsMain, IsBucket}
 use Rattle.epoch_core.specs.Layout.{entries_at, entry_at, word_count}
 use Rattle.epoch_core.specs.OwnerState.{entry_in, link_in}
-use Rattle.epoch_core.specs.Kept.{Kept}
+use Rattle.chained_index.proofs.Chained.{Chained, chain_inside}
 use Rattle.chained_index.specs.declared.index.Spot.{Spot}
 use Rattle.chained_index.specs.ChainEntries.{buckets_from, buckets_of, entries_in, entries_of, number_of}
 use Rattle.chained_index.specs.ChainShape.{bucket_at, HasChainShape}
-use Rattle.epoch_core.proofs.Marked.{chain_bucket}
 use Rattle.chained_index.proofs.Walk.{IsWalk, walk_of, no_repeat, same_step, in_chain}
 
 -- the buckets
@@ -188,9 +187,9 @@ module _ (o : OwnerState) (wide : length o.words ≡ word_count o.shape) where
   entries_there b links used s buckets =
       subst (λ (z : List ℕ). HasEntries links used b (flat_map (entries_in o) z)) (sym (buckets_of_is o b links (walk_of o b links used s) s.few)) (walk_entries links used b s buckets)
 
-module _ (o : OwnerState) (kept : Kept o) (b : ℕ) (main : IsMain o.shape b) (links used : ℕ) (s : HasChainShape o b links used) where
+module _ (o : OwnerState) (kept : Chained o) (b : ℕ) (main : IsMain o.shape b) (links used : ℕ) (s : HasChainShape o b links used) where
   pub bucket_inside : (k : ℕ) → k ≤ links → IsBucket o.shape (bucket_at o k b)
-  bucket_inside k few = chain_bucket o kept b (bucket_at o k b) main (in_chain o b links (walk_of o b links used s) s.few k few)
+  bucket_inside k few = chain_inside o kept b (bucket_at o k b) main (in_chain o b links (walk_of o b links used s) s.few k few)
 
   pub length-entries_of : length (entries_of o b) ≡ 15 * links + used
   length-entries_of = (entries_there o kept.wide b links used s bucket_inside).0

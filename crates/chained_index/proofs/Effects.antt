@@ -6,7 +6,7 @@ use Rattle.epoch_core.specs.Shape.{IsBucket}
 use Rattle.epoch_core.specs.Layout.{epoch_at}
 use Rattle.epoch_core.specs.OwnerState.{entry_in, link_in}
 use Rattle.epoch_core.specs.Events.{after}
-use Rattle.epoch_core.specs.Kept.{Kept}
+use Rattle.chained_index.proofs.Chained.{Chained}
 use Rattle.epoch_core.proofs.Places.{no_epoch}
 use Rattle.epoch_core.proofs.EventWords.{other, stamp_puts_entry, stamp_puts_link, entry_puts_other, entry_puts_link, link_puts_entry, link_puts_other, item_puts_entry, item_puts_link}
 use Rattle.chained_index.specs.ChainChange.{ChangesOnlyIndex}
@@ -19,7 +19,7 @@ pub record SameBucket (o p : OwnerState) (d : ℕ) : Type 0 where
 pub same_then : (o m p : OwnerState) (d : ℕ) → SameBucket o m d → SameBucket m p d → SameBucket o p d
 same_then o m p d one two = record { link = two.link ∙ one.link; entry = λ slot low. two.entry slot low ∙ one.entry slot low }
 
-module _ (o : OwnerState) (s : Kept o) (c : ℕ) where
+module _ (o : OwnerState) (s : Chained o) (c : ℕ) where
   pub entered_same : (slot x : ℕ) → slot < 15 → (d : ℕ) → d ≢ c → SameBucket o (after (PutsEntry c slot x) o) d
   entered_same slot x low d n = record {
     link = link_puts_entry o s.wide c slot x d low;

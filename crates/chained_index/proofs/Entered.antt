@@ -11,7 +11,7 @@ use Rattle.epoch_core.specs.Layout.{entry_at}
 use Rattle.epoch_core.specs.OwnerState.{entry_in, link_in}
 use Rattle.epoch_core.specs.Chain.{InChain, IsDense, IsFreeSpare}
 use Rattle.epoch_core.specs.Events.{after}
-use Rattle.epoch_core.specs.Kept.{Kept}
+use Rattle.chained_index.proofs.Chained.{Chained}
 use Rattle.chained_index.specs.ChainEntries.{entries_of}
 use Rattle.chained_index.specs.ChainShape.{bucket_at, HasChainShape}
 use Rattle.chained_index.specs.ChainChange.{KeepsChain, ChangesChain}
@@ -23,7 +23,7 @@ use Rattle.chained_index.proofs.Effects.{SameBucket, entered_same, entered_only}
 use Rattle.chained_index.proofs.Frames.{chain_back, chain_on, chain_kept, dense_kept}
 use Rattle.chained_index.proofs.Pushes.{bucket_at-same, SameSlot, pushed, dropped, changed}
 
-module _ (o : OwnerState) (s : Kept o) (b : ℕ) (main : IsMain o.shape b) (links used : ℕ) (h : HasChainShape o b links used)
+module _ (o : OwnerState) (s : Chained o) (b : ℕ) (main : IsMain o.shape b) (links used : ℕ) (h : HasChainShape o b links used)
     (at : ℕ) (few : at ≤ links) (slot x : ℕ) (low : slot < 15) where
   abbrev c : ℕ
   c = bucket_at o at b
@@ -122,12 +122,12 @@ module _ (o : OwnerState) (s : Kept o) (b : ℕ) (main : IsMain o.shape b) (link
               some (sym entry_new ∙ (ap (λ (z : ℕ). entry_in p (bucket_at p z b) slot) (sym same_k) ∙ (ap (entry_in p (bucket_at p k b)) (sym same_t) ∙ none))))
             (λ differ none. old (sym (entry_by_number k t near small differ) ∙ none))
 
-    pub entries_changed : Kept p → entries_of p b ≡ set (entries_of o b) (15 * at + slot) x
+    pub entries_changed : Chained p → entries_of p b ≡ set (entries_of o b) (15 * at + slot) x
     entries_changed kept = changed o p s kept b main main links used h links used shape_changed at slot x low within refl
         (λ k t small less differ. let wide = h.within in entry_by_number k t (omega arith) small differ)
         entry_new
 
-    pub changes_entry : Kept p → ChangesChain o p b (set (entries_of o b) (15 * at + slot) x)
+    pub changes_entry : Chained p → ChangesChain o p b (set (entries_of o b) (15 * at + slot) x)
     changes_entry kept = record { entries = entries_changed kept; others = others_keep; rest = entered_only o s c inside slot x low }
 
     pub index_changed : (index : Index) → IsIndexOf index o → IsIndexOf index p
@@ -152,7 +152,7 @@ module _ (o : OwnerState) (s : Kept o) (b : ℕ) (main : IsMain o.shape b) (link
             (λ is none. some (sym entry_new ∙ (ap (λ (z : ℕ). entry_in p (bucket_at p z b) slot) end ∙ (ap (entry_in p (bucket_at p links b)) (next ∙ sym is) ∙ none))))
             (λ differ none. h.not_empty t (omega arith) (sym (entry_by_number links t (omega arith) (omega arith) (λ is. differ (omega arith))) ∙ none))
 
-    pub changes_pushed : Kept p → ChangesChain o p b (entries_of o b ++ x ∷ [])
+    pub changes_pushed : Chained p → ChangesChain o p b (entries_of o b ++ x ∷ [])
     changes_pushed kept = record {
       entries = pushed o p s kept b main main links used h links (suc used) shape_pushed x (omega arith)
           (λ k t small less. entry_by_number k t (omega arith) small (λ is. omega arith))
@@ -184,7 +184,7 @@ module _ (o : OwnerState) (s : Kept o) (b : ℕ) (main : IsMain o.shape b) (link
             (λ is. ap (entry_in p (bucket_at p links b)) is ∙ (ap (λ (z : ℕ). entry_in p (bucket_at p z b) slot) (sym end) ∙ (entry_new ∙ none_now)))
             (λ differ. entry_by_number links t (omega arith) small (λ is. differ (omega arith)) ∙ h.empty t (omega arith) small)
 
-    pub changes_dropped : Kept p → ChangesChain o p b (take (length (entries_of o b) - 1) (entries_of o b))
+    pub changes_dropped : Chained p → ChangesChain o p b (take (length (entries_of o b) - 1) (entries_of o b))
     changes_dropped kept = record {
       entries = dropped o p s kept b main main links used h links slot shape_dropped (omega arith)
           (λ k t small less. entry_by_number k t (omega arith) small (λ is. omega arith));

@@ -4,12 +4,12 @@ use mathlib.Core.Logic.{dite}
 use native.Mathlib.Decide.{ℕ_discrete}
 use Rattle.epoch_core.specs.declared.state.OwnerState.{OwnerState}
 use Rattle.epoch_core.specs.Shape.{IsMain}
-use Rattle.epoch_core.specs.Kept.{Kept}
+use Rattle.chained_index.proofs.Chained.{Chained}
 use Rattle.chained_index.specs.ChainShape.{HasChainShape}
 use Rattle.chained_index.specs.Index.{Index, LacksPlace}
 use Rattle.chained_index.proofs.ChainLists.{length-entries_of}
 
-module _ (o : OwnerState) (s : Kept o) (b : ℕ) (main : IsMain o.shape b) (links used : ℕ) (h : HasChainShape o b links used) (index : Index) where
+module _ (o : OwnerState) (s : Chained o) (b : ℕ) (main : IsMain o.shape b) (links used : ℕ) (h : HasChainShape o b links used) (index : Index) where
   pub lacks : 15 ≤ used → index.free ≡ [] → LacksPlace index o b
   lacks full none =
       let size = length-entries_of o s b main links used h in

@@ -1,3 +1,4 @@
+mod Chained
 mod Walk
 mod ChainLists
 mod Effects
@@ -9,3 +10,4 @@ mod Walking
 mod Full
 mod FreeList
 mod Calls
+mod Counted

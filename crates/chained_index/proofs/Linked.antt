@@ -9,7 +9,7 @@ use Rattle.epoch_core.specs.Layout.{entry_at, link_at}
 use Rattle.epoch_core.specs.OwnerState.{entry_in, link_in}
 use Rattle.epoch_core.specs.Chain.{InChain, IsDense, IsFreeSpare}
 use Rattle.epoch_core.specs.Events.{after}
-use Rattle.epoch_core.specs.Kept.{Kept}
+use Rattle.chained_index.proofs.Chained.{Chained}
 use Rattle.epoch_core.proofs.Walks.{free_counts}
 use Rattle.epoch_core.proofs.EventWords.{entry_puts, entry_puts_other, entry_puts_link, link_puts_entry, link_puts, link_puts_other}
 use Rattle.chained_index.specs.ChainEntries.{entries_of}
@@ -23,14 +23,14 @@ use Rattle.chained_index.proofs.Frames.{chain_back, chain_on, chain_kept, dense_
 use Rattle.chained_index.proofs.Pushes.{bucket_at-same, SameSlot, pushed, dropped}
 
 -- Two buckets changed, the first's entry and the second's link, and no chain but that of b has either.
-module _ (o : OwnerState) (s : Kept o) (d slot x c next : ℕ) (low : slot < 15) (inside : IsBucket o.shape d) (within : IsBucket o.shape c) where
+module _ (o : OwnerState) (s : Chained o) (d slot x c next : ℕ) (low : slot < 15) (inside : IsBucket o.shape d) (within : IsBucket o.shape c) where
   abbrev pub m : OwnerState
   m = after (PutsEntry d slot x) o
 
   abbrev pub p : OwnerState
   p = after (PutsLink c next) m
 
-  module _ (t : Kept m) where
+  module _ (t : Chained m) where
     long : length p.words ≡ length o.words
     long = length-set m.words (link_at o.shape c) next ∙ length-set o.words (entry_at o.shape d slot) x
 
@@ -68,7 +68,7 @@ module _ (o : OwnerState) (s : Kept o) (d slot x c next : ℕ) (low : slot < 15)
           (λ n. dense_kept o p.words long e (λ f i. other_same e f l n i) (dense e l))
 
 -- A spare bucket is taken.
-module _ (o : OwnerState) (s : Kept o) (b : ℕ) (main : IsMain o.shape b) (links : ℕ) (h : HasChainShape o b links 15)
+module _ (o : OwnerState) (s : Chained o) (b : ℕ) (main : IsMain o.shape b) (links : ℕ) (h : HasChainShape o b links 15)
     (next x : ℕ) (some : x ≢ 0) (free : IsFreeSpare o next) (blank : IsBlank o next) where
   abbrev end : ℕ
   end = bucket_at o links b
@@ -94,7 +94,7 @@ module _ (o : OwnerState) (s : Kept o) (b : ℕ) (main : IsMain o.shape b) (link
     λ is. s.chains.apart other b e l main n i (subst (InChain o b) (sym is) (in_chain o b links w h.few links (omega arith))),
   )
 
-  module _ (t : Kept taken_first) where
+  module _ (t : Chained taken_first) where
     before_end : (j : ℕ) → j < links → link_in taken (bucket_at o j b) ≡ link_in o (bucket_at o j b)
     before_end j less = link_both o s next 0 x end next (omega arith) free.spare.1 end_inside t (bucket_at o j b)
         (λ same. let is = same_step o b links w j links (omega arith) (omega arith) same in omega arith)
@@ -141,7 +141,7 @@ module _ (o : OwnerState) (s : Kept o) (b : ℕ) (main : IsMain o.shape b) (link
             (λ is. subst (λ (z : ℕ). entry_in o (bucket_at o z b) slot ≢ 0) (sym is) (h.not_empty slot low))
             (λ n. h.full k slot (omega arith) low)
 
-    pub changes_taken : Kept taken → ChangesChain o taken b (entries_of o b ++ x ∷ [])
+    pub changes_taken : Chained taken → ChangesChain o taken b (entries_of o b ++ x ∷ [])
     changes_taken kept = record {
       entries = pushed o taken s kept b main main links 15 h (suc links) 1 shape_taken x (omega arith)
           (λ k slot low less. old_slot k slot (omega arith) low)
@@ -192,7 +192,7 @@ module _ (o : OwnerState) (s : Kept o) (b : ℕ) (main : IsMain o.shape b) (link
         }
 
 -- A spare bucket is released.
-module _ (o : OwnerState) (s : Kept o) (b : ℕ) (main : IsMain o.shape b) (links : ℕ) (h : HasChainShape o b (suc links) 1) where
+module _ (o : OwnerState) (s : Chained o) (b : ℕ) (main : IsMain o.shape b) (links : ℕ) (h : HasChainShape o b (suc links) 1) where
   abbrev before : ℕ
   before = bucket_at o links b
 
@@ -230,7 +230,7 @@ module _ (o : OwnerState) (s : Kept o) (b : ℕ) (main : IsMain o.shape b) (link
   last_spare = subst (IsSpare o.shape) (sym (bucket_at-suc o links b))
       (elim (s.chains.links before before_inside) [ inl none ↦ absurd (h.linked links (omega arith) none) | inr spare ↦ spare ])
 
-  module _ (t : Kept released_first) where
+  module _ (t : Chained released_first) where
     link_old : (j : ℕ) → j < links → link_in released (bucket_at o j b) ≡ link_in o (bucket_at o j b)
     link_old j less = link_both o s last 0 0 before 0 (omega arith) last_inside before_inside t (bucket_at o j b)
         (distinct j links (omega arith) (omega arith) (λ is. omega arith))
@@ -255,7 +255,7 @@ module _ (o : OwnerState) (s : Kept o) (b : ℕ) (main : IsMain o.shape b) (link
       some = inr (omega arith);
     }
 
-    pub changes_released : Kept released → ChangesChain o released b (take (length (entries_of o b) - 1) (entries_of o b))
+    pub changes_released : Chained released → ChangesChain o released b (take (length (entries_of o b) - 1) (entries_of o b))
     changes_released kept = record {
       entries = dropped o released s kept b main main (suc links) 1 h links 15 shape_released (omega arith)
           (λ k slot low less. kept_slot k slot (omega arith) low);

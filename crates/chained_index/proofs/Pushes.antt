@@ -7,7 +7,7 @@ use native.Mathlib.Decide.{ℕ_discrete}
 use Rattle.epoch_core.specs.declared.state.OwnerState.{OwnerState}
 use Rattle.epoch_core.specs.Shape.{IsMain}
 use Rattle.epoch_core.specs.OwnerState.{entry_in, link_in}
-use Rattle.epoch_core.specs.Kept.{Kept}
+use Rattle.chained_index.proofs.Chained.{Chained}
 use Rattle.chained_index.specs.ChainEntries.{entries_of}
 use Rattle.chained_index.specs.ChainShape.{bucket_at, HasChainShape}
 use Rattle.chained_index.proofs.ChainLists.{length-entries_of, get_or-entries_of, entries_are}
@@ -22,7 +22,7 @@ bucket_at-same o p (suc k) b same =
 abbrev pub SameSlot : OwnerState → OwnerState → ℕ → ℕ → ℕ → Type 0
 SameSlot o p b k slot = entry_in p (bucket_at p k b) slot ≡ entry_in o (bucket_at o k b) slot
 
-module _ (o p : OwnerState) (s : Kept o) (t : Kept p) (b : ℕ) (main : IsMain o.shape b) (still : IsMain p.shape b)
+module _ (o p : OwnerState) (s : Chained o) (t : Chained p) (b : ℕ) (main : IsMain o.shape b) (still : IsMain p.shape b)
     (links used : ℕ) (h : HasChainShape o b links used) (more last : ℕ) (i : HasChainShape p b more last) where
   pub pushed : (x : ℕ) → 15 * more + last ≡ 15 * links + used + 1
       → ((k slot : ℕ) → slot < 15 → 15 * k + slot < 15 * links + used → SameSlot o p b k slot)

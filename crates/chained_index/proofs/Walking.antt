@@ -6,7 +6,7 @@ use Rattle.epoch_core.specs.declared.state.OwnerState.{OwnerState}
 use Rattle.epoch_core.specs.Shape.{IsMain, IsBucket}
 use Rattle.epoch_core.specs.OwnerState.{entry_in, link_in}
 use Rattle.epoch_core.specs.Chain.{IsDense}
-use Rattle.epoch_core.specs.Kept.{Kept}
+use Rattle.chained_index.proofs.Chained.{Chained}
 use Rattle.chained_index.specs.ChainShape.{bucket_at, HasChainShape, EndsAt}
 use Rattle.chained_index.proofs.Walk.{bucket_at-suc, walk_of, shape_of_walk, shape_there}
 
@@ -35,7 +35,7 @@ pub record IsAt (o : OwnerState) (b link at before : ℕ) : Type 0 where
   pub near : (links used : ℕ) → HasChainShape o b links used → link ≤ links
 
 -- one link further
-pub one_further : (m n : OwnerState) → n ≡ m → Kept n → (b link at before next : ℕ) → IsAt m b link at before → next ≡ link_in m at → next ≢ 0
+pub one_further : (m n : OwnerState) → n ≡ m → Chained n → (b link at before next : ℕ) → IsAt m b link at before → next ≡ link_in m at → next ≢ 0
     → IsAt n b (link + 1) next at
 one_further m n is s b link at before next w value some =
     subst (λ (z : OwnerState). IsAt z b (link + 1) next at) (sym is) record {
@@ -46,11 +46,11 @@ one_further m n is s b link at before next w value some =
           let more = further m b links used h link (w.near links used h) (λ none. some (value ∙ (ap (link_in m) (sym w.here) ∙ none))) in omega arith;
     }
   where
-    t : Kept m
-    t = subst Kept is s
+    t : Chained m
+    t = subst Chained is s
 
 -- the end of a chain, from its last two buckets and the used slots of the last
-pub end_there : (o : OwnerState) → Kept o → (b : ℕ) → IsMain o.shape b → IsDense o b → (before last used : ℕ)
+pub end_there : (o : OwnerState) → Chained o → (b : ℕ) → IsMain o.shape b → IsDense o b → (before last used : ℕ)
     → ((links used : ℕ) → HasChainShape o b links used → (bucket_at o links b ≡ last) × ((k : ℕ) → suc k ≡ links → bucket_at o k b ≡ before))
     → (used ≤ 15) × ((slot : ℕ) → slot < used → entry_in o last slot ≢ 0) × (used < 15 → entry_in o last used ≡ 0)
     → (links : ℕ) × EndsAt o b links (record { before = before; bucket = last; used = used })

@@ -4,6 +4,7 @@ use Rattle.epoch_core.specs.declared.shape.Shape.{Shape}
 use Rattle.epoch_core.specs.OwnerState.{link_in}
 use Rattle.chained_index.specs.Index.{Index}
 use Rattle.chained_index.specs.ChainShape.{bucket_at, HasChainShape}
+use Rattle.chained_index.proofs.Chained.{chained}
 use Rattle.chained_index.proofs.Walking.{at_end, end_found, one_further}
 use Rattle.chained_index.proofs.index.ChainedIndex.last_two.Goals as goal
 
@@ -22,7 +23,7 @@ loop-link-preserved g c =
     let n : OwnerState = g.W.OwnerWords.owner c.read-next.new.self in record {
       owner = c.read-next.ensures.same.0 ∙ c.loop-link.invariant.owner;
       home = c.read-next.ensures.same.1 ∙ c.loop-link.invariant.home;
-      walk = one_further m n c.read-next.ensures.same.0 c.read-next.ensures.kept c.args.bucket c.loop-link.link c.loop-link.at c.loop-link.before c.read-next.result
+      walk = one_further m n c.read-next.ensures.same.0 (chained n c.read-next.ensures.kept) c.args.bucket c.loop-link.link c.loop-link.at c.loop-link.before c.read-next.result
           c.loop-link.invariant.walk c.read-next.ensures.value (search rules);
     }
 

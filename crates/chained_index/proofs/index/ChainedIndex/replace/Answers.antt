@@ -1,20 +1,34 @@
-use Rattle.std.proofs.Common.{rules, ◌≡◌, ◌≢◌, ℕ, suc, ◌+◌, ◌-◌, ◌*◌, ◌<◌, ◌≤◌, ◌^◌, ◌↔◌, ◌++◌, ◌∷◌, [], IsFalse, IfOk, MatchOption, slice_set, swap_remove, length, ◌/◌, ◌%◌, Bool, true, false, nat_eq, nat_lt, List, slice_index_or, bit_and, bit_or, Fits, w8, w32, w64, Bor, MutBor}
+use Rattle.std.proofs.Common.{◌≡◌, ℕ, ◌≢◌, ◌∙◌, set, refl, ap, arith}
 use Rattle.mica_words.specs.Entry.{entry_of}
-use Rattle.mica_words.specs.Item.{KeyFits}
-use Rattle.epoch_core.specs.Shape.{IsValidShape, IsMain, IsBucket}
-use Rattle.epoch_core.specs.OwnerState.{as_made, entry_in, marked_in}
-use Rattle.epoch_core.specs.Events.{WhenMarked}
-use Rattle.epoch_core.specs.Kept.{Kept}
-use Rattle.chained_index.specs.ChainEntries.{entries_of, number_of, IsUsed, IsSpotOf, HasNoSpot}
+use Rattle.epoch_core.specs.declared.state.OwnerState.{OwnerState}
+use Rattle.epoch_core.specs.declared.event.Event.TheVariants.{PutsEntry}
+use Rattle.epoch_core.specs.Events.{after}
+use Rattle.chained_index.specs.ChainEntries.{entries_of, number_of, IsUsed}
 use Rattle.chained_index.specs.ChainChange.{ChangesChain}
-use Rattle.chained_index.specs.ChainShape.{bucket_at, HasChainShape, EndsAt}
-use Rattle.chained_index.specs.Index.{IsIndexOf, LacksPlace}
+use Rattle.chained_index.specs.Index.{IsIndexOf}
+use Rattle.chained_index.proofs.Calls.{marked_part, marked_any, some_entry, replaced_by, index_replaced_by}
 use Rattle.chained_index.proofs.index.ChainedIndex.replace.Goals as goal
 
--- src/index.rt:143:5
 pub returns-clause-entries : goal.returns-clause-entries
-returns-clause-entries g c = ?
+returns-clause-entries g c =
+    let o : OwnerState = g.W.OwnerWords.owner c.args.words.now in
+    let p : OwnerState = g.W.OwnerWords.owner c.put_entry.new.self in
+    let x : ℕ = entry_of c.args.tag c.args.offset in
+    let is : p ≡ after (PutsEntry c.args.spot.bucket c.args.spot.slot x) o =
+        c.put_entry.ensures.event.0 ∙ ap (λ (z : ℕ). after (PutsEntry c.args.spot.bucket c.args.spot.slot z) o) c.entry_of.ensures in
+    marked_part o.phase (λ b. IsUsed o b c.args.spot) (λ b. ChangesChain o p b (set (entries_of o b) (number_of o b c.args.spot) x))
+    (λ b one u. replaced_by o p c.put_entry.ensures.kept c.args.spot x (some_entry c.args.tag c.args.offset c.requires.tag) is b one u c.args.self.now c.requires.index)
+    c.requires.spot
 
--- src/index.rt:143:5
 pub returns-clause-index : goal.returns-clause-index
-returns-clause-index g c = ?
+returns-clause-index g c =
+    let o : OwnerState = g.W.OwnerWords.owner c.args.words.now in
+    let p : OwnerState = g.W.OwnerWords.owner c.put_entry.new.self in
+    let x : ℕ = entry_of c.args.tag c.args.offset in
+    let is : p ≡ after (PutsEntry c.args.spot.bucket c.args.spot.slot x) o =
+        c.put_entry.ensures.event.0 ∙ ap (λ (z : ℕ). after (PutsEntry c.args.spot.bucket c.args.spot.slot z) o) c.entry_of.ensures in (
+      refl,
+      marked_any o.phase (λ b. IsUsed o b c.args.spot) (IsIndexOf c.args.self.now p)
+      (λ b one u. index_replaced_by o p c.put_entry.ensures.kept c.args.spot x (some_entry c.args.tag c.args.offset c.requires.tag) is b one u c.args.self.now c.requires.index)
+      c.requires.spot,
+    )
