@@ -1,5 +1,5 @@
 -- What the stores of each call make of a chain and its index.
-use Rattle.std.proofs.Common.{◌≡◌, ℕ, suc, ◌+◌, ◌-◌, ◌*◌, ◌<◌, ◌≤◌, ◌≢◌, inl, inr, ◌⊎◌, List, [], ◌∷◌, ◌++◌, length, get_or, take, set, refl, sym, ap, ◌∙◌, subst, arith, length-set}
+use Rattle.std.proofs.Common.{◌≡◌, ℕ, suc, ◌+◌, ◌-◌, ◌*◌, ◌<◌, ◌≤◌, ◌≢◌, inl, inr, ◌⊎◌, Option, Some, option_to_list, List, [], ◌∷◌, ◌++◌, length, get_or, take, set, refl, sym, ap, ◌∙◌, subst, arith, length-set}
 use Rattle.std.specs.Prelude.{Contains, swap_remove}
 use mathlib.Core.Logic.{dite}
 use native.Mathlib.Decide.{ℕ_discrete}
@@ -13,11 +13,13 @@ use Rattle.epoch_core.specs.declared.state.Phase.{Phase}
 use Rattle.epoch_core.specs.declared.state.Phase.TheVariants.{Idle, Begun, Marked}
 use Rattle.epoch_core.specs.declared.event.Event.TheVariants.{PutsEntry, PutsLink}
 use Rattle.epoch_core.specs.Shape.{IsMain, IsBucket}
+use Rattle.epoch_core.specs.Layout.{entry_at}
 use Rattle.epoch_core.specs.OwnerState.{entry_in, link_in, marked_in}
 use Rattle.epoch_core.specs.Chain.{InChain, IsFreeSpare}
 use Rattle.epoch_core.specs.Events.{WhenMarked, IsItsBucket, MayPutEntry, MayPutLink, after}
 use Rattle.epoch_core.specs.Kept.{Kept}
 use Rattle.chained_index.proofs.Chained.{Chained, chained, chained_before}
+use Rattle.epoch_core.proofs.EventWords.{link_puts_entry}
 use Rattle.epoch_core.proofs.Marked.{bit_is, bit_same, ends_main}
 use Rattle.chained_index.specs.declared.index.Spot.{Spot}
 use Rattle.chained_index.specs.declared.index.ChainEnd.{ChainEnd}
@@ -27,7 +29,7 @@ use Rattle.chained_index.specs.ChainChange.{ChangesChain}
 use Rattle.chained_index.specs.Index.{Index, IsBlank, IsIndexOf}
 use Rattle.chained_index.proofs.Walk.{IsWalk, walk_of, in_chain, of_chain, same_step, shape_there}
 use Rattle.chained_index.proofs.ChainLists.{bucket_inside, number_is, length-entries_of, get_or-entries_of}
-use Rattle.chained_index.proofs.Frames.{changes_then}
+use Rattle.chained_index.proofs.Frames.{chain_back, chain_on}
 use Rattle.chained_index.proofs.Entered as entered
 use Rattle.chained_index.proofs.Linked as linked
 use Rattle.chained_index.proofs.FreeList.{contains_more, contains_split, pairs_before, not_before, pairs_more}
@@ -44,6 +46,30 @@ its_own o b c one h = when_marked o.phase b (λ d. InChain o d c ⊎ IsFreeSpare
 
 pub its_spare : (o : OwnerState) (b c : ℕ) → marked_in o.phase b ≡ 1 → IsFreeSpare o c → IsItsBucket o c
 its_spare o b c one f = when_marked o.phase b (λ d. InChain o d c ⊎ IsFreeSpare o c) one (inr f)
+
+-- A store of an entry changes no chain.
+module _ (o : OwnerState) (s : Chained o) (c slot x : ℕ) (low : slot < 15) where
+  abbrev m : OwnerState
+  m = after (PutsEntry c slot x) o
+
+  pub chain_still : (b d : ℕ) → InChain o b d → InChain m b d
+  chain_still b d h = chain_on o m.words (length-set o.words (entry_at o.shape c slot) x) b (λ e i. link_puts_entry o s.wide c slot x e low) d h
+
+  pub free_still : (d : ℕ) → IsFreeSpare o d → IsFreeSpare m d
+  free_still d f = record {
+    spare = f.spare;
+    free = λ other l i. f.free other l (chain_back o m.words (length-set o.words (entry_at o.shape c slot) x) other (λ e j. link_puts_entry o s.wide c slot x e low) d i);
+  }
+
+  -- a blank spare may be linked, or a link cut, behind it
+  pub may_link : (b d next : ℕ) → marked_in o.phase b ≡ 1 → InChain o b d → IsFreeSpare o next → link_in o next ≡ 0 → MayPutLink m d next
+  may_link b d next one h f none = record {
+    its_bucket = its_own m b d one (chain_still b d h);
+    free = inr (free_still next f, link_puts_entry o s.wide c slot x next low ∙ none);
+  }
+
+  pub may_cut : (b d : ℕ) → marked_in o.phase b ≡ 1 → InChain o b d → MayPutLink m d 0
+  may_cut b d one h = record { its_bucket = its_own m b d one (chain_still b d h); free = inl refl }
 
 -- an entry is not 0, as its tag is not
 pub some_entry : (tag offset : ℕ) → 1 ≤ tag → entry_of tag offset ≢ 0
@@ -102,6 +128,17 @@ module _ (o : OwnerState) (s : Chained o) (b : ℕ) (main : IsMain o.shape b) (l
       blank = λ c f. linked.blank_taken o s b main links shape next x some free blank first_kept c f
           (h.blank c (linked.free_taken o s b main links shape next x some free blank first_kept c f).0);
     }
+
+-- the index, with the spare that was popped last in its list
+pub popped_last : (o : OwnerState) (sh : Shape) (was : Index) (items rest : List ℕ) (popped : Option ℕ) (next : ℕ)
+    → record { shape = sh; free = items } ≡ was → items ≡ rest ++ option_to_list popped → popped ≡ Some next
+    → IsIndexOf was o → IsIndexOf (record { shape = sh; free = rest ++ next ∷ [] }) o
+popped_last o sh was items rest popped next view split is index =
+    let same = split ∙ ap (λ (z : Option ℕ). rest ++ option_to_list z) is in
+    subst (λ (z : Index). IsIndexOf z o) (sym view ∙ ap (λ (z : List ℕ). record { shape = sh; free = z }) same) index
+
+pub last_is_free : (o : OwnerState) (sh : Shape) (rest : List ℕ) (next : ℕ) → IsIndexOf (record { shape = sh; free = rest ++ next ∷ [] }) o → IsFreeSpare o next
+last_is_free o sh rest next index = (index.free next).0 (Contains-push rest next)
 
 -- A used spot
 
