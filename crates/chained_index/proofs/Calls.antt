@@ -12,7 +12,7 @@ use Rattle.epoch_core.specs.declared.state.OwnerState.{OwnerState}
 use Rattle.epoch_core.specs.declared.state.Phase.{Phase}
 use Rattle.epoch_core.specs.declared.state.Phase.TheVariants.{Idle, Begun, Marked}
 use Rattle.epoch_core.specs.declared.event.Event.TheVariants.{PutsEntry, PutsLink}
-use Rattle.epoch_core.specs.Shape.{IsMain, IsBucket}
+use Rattle.epoch_core.specs.Shape.{IsMain, IsSpare, IsBucket}
 use Rattle.epoch_core.specs.Layout.{entry_at}
 use Rattle.epoch_core.specs.OwnerState.{entry_in, link_in, marked_in}
 use Rattle.epoch_core.specs.Chain.{InChain, IsFreeSpare}
@@ -27,11 +27,12 @@ use Rattle.chained_index.specs.ChainEntries.{entries_of, number_of, IsUsed}
 use Rattle.chained_index.specs.ChainShape.{bucket_at, HasChainShape, EndsAt}
 use Rattle.chained_index.specs.ChainChange.{ChangesChain}
 use Rattle.chained_index.specs.Index.{Index, IsBlank, IsIndexOf}
-use Rattle.chained_index.proofs.Walk.{IsWalk, walk_of, in_chain, of_chain, same_step, shape_there}
+use Rattle.chained_index.proofs.Walk.{walk_of, no_repeat, in_chain, of_chain, shape_there, bucket_at-suc}
 use Rattle.chained_index.proofs.ChainLists.{bucket_inside, number_is, length-entries_of, get_or-entries_of}
-use Rattle.chained_index.proofs.Frames.{chain_back, chain_on}
+use Rattle.chained_index.proofs.Frames.{chain_back, chain_on, changes_then}
 use Rattle.chained_index.proofs.Entered as entered
 use Rattle.chained_index.proofs.Linked as linked
+use Rattle.chained_index.proofs.Counted.{room_for}
 use Rattle.chained_index.proofs.FreeList.{contains_more, contains_split, pairs_before, not_before, pairs_more}
 
 -- When a store may happen
@@ -285,3 +286,130 @@ module _ (o p : OwnerState) (kept : Kept p) (spot : Spot) (x : ℕ) (some : x �
 
   pub index_replaced_by : IsIndexOf index p
   index_replaced_by = index_changed_by o before_it b its_main its_shape.0 its_shape.1 its_shape.2 spot u x some p (chained p kept) is index i
+
+-- The chain's last entry goes into a spot.
+
+module _ (o : OwnerState) (s : Chained o) (b : ℕ) (main : IsMain o.shape b) (links : ℕ) (end : ChainEnd) (e : EndsAt o b links end) where
+  -- a last bucket that is not the main one has one before it
+  before_end : end.bucket ≢ b → (k : ℕ) × (suc k ≡ links)
+  before_end n = dite (ℕ_discrete links 0) (λ is. absurd (n (sym e.last ∙ ap (λ (z : ℕ). bucket_at o z b) is))) (λ some. (links - 1, omega arith))
+
+  -- the last bucket stays where it is the main one or has more entries
+  pub end_stays : ((end.used - 1 ≡ 0) × (end.bucket ≡ b)) ⊎ (end.used - 1 ≢ 0) → (links ≡ 0) ⊎ (0 < end.used - 1)
+  end_stays (inl is) = inl (dite (ℕ_discrete links 0) (λ none. none)
+      (λ n. absurd (no_repeat o b links (walk_of o b links end.used e.shape) links 0 (omega arith) (omega arith) (e.last ∙ is.1))))
+  end_stays (inr n) = inr (omega arith)
+
+  end_spare : end.bucket ≢ b → IsSpare o.shape end.bucket
+  end_spare n =
+      let k = before_end n in
+      let step : bucket_at o links b ≡ link_in o (bucket_at o k.0 b) = ap (λ (z : ℕ). bucket_at o z b) (sym k.1) ∙ bucket_at-suc o k.0 b in
+      let near = k.1 in
+      subst (IsSpare o.shape) (sym step ∙ e.last)
+      (elim (s.chains.links (bucket_at o k.0 b) (bucket_inside o s b main links end.used e.shape k.0 (omega arith))) [
+        | inl none ↦ absurd (e.shape.linked k.0 (omega arith) none)
+        | inr spare ↦ spare
+      ])
+
+  pub before_in_chain : end.bucket ≢ b → InChain o b end.before
+  before_in_chain n =
+      let k = before_end n in
+      let near = k.1 in
+      subst (InChain o b) (e.before k.0 k.1) (in_chain o b links (walk_of o b links end.used e.shape) e.shape.few k.0 (omega arith))
+
+  -- so there is room for it in the list of free spares
+  pub release_room : end.bucket ≢ b → (sh : Shape) (free : List ℕ) → IsIndexOf (record { shape = sh; free = free }) o → length free < o.shape.spares
+  release_room n sh free index =
+      let spare = end_spare n in
+      room_for free end.bucket o.shape.buckets o.shape.spares index.once
+      (λ has. ((index.free end.bucket).0 has).free b main (end_in_chain o s b main links end e))
+      (λ c has. ((index.free c).0 has).spare)
+      spare.0 spare.1
+
+  module _ (spot : Spot) (u : IsUsed o b spot) where
+    pub used_some : 0 < end.used
+    used_some =
+        let size = length-entries_of o s b main links end.used e.shape in
+        let less = number_within o s b main links end.used e.shape spot u in
+        elim e.shape.some [ inl none ↦ omega arith | inr some ↦ some ]
+
+    module _ (y : ℕ) (last : y ≡ entry_in o end.bucket (end.used - 1)) where
+      abbrev pub moved : OwnerState
+      moved = after (PutsEntry spot.bucket spot.slot y) o
+
+      last_slot : end.used - 1 < 15
+      last_slot = let within = e.shape.within in let some = used_some in omega arith
+
+      last_entry : y ≡ entry_in o (bucket_at o links b) (end.used - 1)
+      last_entry = last ∙ ap (λ (z : ℕ). entry_in o z (end.used - 1)) (sym e.last)
+
+      some_last : y ≢ 0
+      some_last none = let some = used_some in e.shape.not_empty (end.used - 1) (omega arith) (sym last_entry ∙ none)
+
+      module _ (t : Chained moved) where
+        moved_shape : HasChainShape moved b links end.used
+        moved_shape = shape_by o s b main links end.used e.shape spot u y some_last moved t refl
+
+        moved_at : (k : ℕ) → bucket_at moved k b ≡ bucket_at o k b
+        moved_at k = buckets_by o s b main links end.used e.shape spot u y some_last moved t refl k
+
+        moved_entries : ChangesChain o moved b (set (entries_of o b) (number_of o b spot) y)
+        moved_entries = changed_by o s b main links end.used e.shape spot u y some_last moved t refl
+
+        pub moved_index : (index : Index) → IsIndexOf index o → IsIndexOf index moved
+        moved_index index i = index_changed_by o s b main links end.used e.shape spot u y some_last moved t refl index i
+
+        -- what the chain has once the last is dropped too
+        removed : (p : OwnerState) → ChangesChain moved p b (take (length (entries_of moved b) - 1) (entries_of moved b))
+            → ChangesChain o p b (swap_remove (entries_of o b) (number_of o b spot) 0)
+        removed p two =
+            let some = used_some in
+            let size = length-entries_of o s b main links end.used e.shape in
+            let place : 15 * links + (end.used - 1) < 15 * links + end.used = omega arith in
+            let value : y ≡ get_or (entries_of o b) (15 * links + (end.used - 1)) 0 =
+                last_entry ∙ sym (get_or-entries_of o s b main links end.used e.shape links (end.used - 1) last_slot place) in
+            subst (ChangesChain o p b)
+            (swap_is (entries_of o b) (entries_of moved b) (number_of o b spot) (15 * links + (end.used - 1)) y moved_entries.entries (omega arith) value)
+            (changes_then o moved p b (set (entries_of o b) (number_of o b spot) y) (take (length (entries_of moved b) - 1) (entries_of moved b)) moved_entries two)
+
+        drop_there : (p : OwnerState) → p ≡ after (PutsEntry end.bucket (end.used - 1) 0) moved → p ≡ after (PutsEntry (bucket_at moved links b) (end.used - 1) 0) moved
+        drop_there p is = is ∙ ap (λ (z : ℕ). after (PutsEntry z (end.used - 1) 0) moved) (sym e.last ∙ sym (moved_at links))
+
+        slots_left : suc (end.used - 1) ≡ end.used
+        slots_left = let some = used_some in omega arith
+
+        -- with other entries in its bucket, or in the main one
+        module _ (stays : (links ≡ 0) ⊎ (0 < end.used - 1)) (p : OwnerState) (kept : Chained p) (is : p ≡ after (PutsEntry end.bucket (end.used - 1) 0) moved) where
+          pub removed_by : ChangesChain o p b (swap_remove (entries_of o b) (number_of o b spot) 0)
+          removed_by = removed p (dropped_by moved t b main links end.used moved_shape (end.used - 1) slots_left stays p kept (drop_there p is))
+
+          pub index_removed_by : (index : Index) → IsIndexOf index o → IsIndexOf index p
+          index_removed_by index i =
+              index_dropped_by moved t b main links end.used moved_shape (end.used - 1) slots_left stays p kept (drop_there p is) index (moved_index index i)
+
+        -- with its bucket
+        module _ (alone : end.used - 1 ≡ 0) (n : end.bucket ≢ b) (q p : OwnerState) (middle : Chained q) (kept : Chained p)
+            (first : q ≡ after (PutsEntry end.bucket (end.used - 1) 0) moved) (second : p ≡ after (PutsLink end.before 0) q) where
+          k : (k : ℕ) × (suc k ≡ links)
+          k = before_end n
+
+          cut_shape : HasChainShape moved b (suc k.0) 1
+          cut_shape = subst (λ (z : ℕ). HasChainShape moved b z 1) (sym k.1) (subst (HasChainShape moved b links) (sym slots_left ∙ ap suc alone) moved_shape)
+
+          cut_first : q ≡ after (PutsEntry (bucket_at moved (suc k.0) b) 0 0) moved
+          cut_first = drop_there q first ∙ (ap (λ (z : ℕ). after (PutsEntry (bucket_at moved z b) (end.used - 1) 0) moved) (sym k.1)
+              ∙ ap (λ (z : ℕ). after (PutsEntry (bucket_at moved (suc k.0) b) z 0) moved) alone)
+
+          cut_second : p ≡ after (PutsLink (bucket_at moved k.0 b) 0) q
+          cut_second = second ∙ ap (λ (z : ℕ). after (PutsLink z 0) q) (sym (e.before k.0 k.1) ∙ sym (moved_at k.0))
+
+          cut_bucket : bucket_at moved (suc k.0) b ≡ end.bucket
+          cut_bucket = ap (λ (z : ℕ). bucket_at moved z b) k.1 ∙ (moved_at links ∙ e.last)
+
+          pub released_by_call : ChangesChain o p b (swap_remove (entries_of o b) (number_of o b spot) 0)
+          released_by_call = removed p (released_by moved t b main k.0 cut_shape q p middle kept cut_first cut_second)
+
+          pub index_released_by_call : (sh : Shape) (free : List ℕ) → IsIndexOf (record { shape = sh; free = free }) o
+              → IsIndexOf (record { shape = sh; free = free ++ end.bucket ∷ [] }) p
+          index_released_by_call sh free i = subst (λ (z : ℕ). IsIndexOf (record { shape = sh; free = free ++ z ∷ [] }) p) cut_bucket
+              (index_released_by moved t b main k.0 cut_shape q p middle kept cut_first cut_second sh free (moved_index (record { shape = sh; free = free }) i))
