@@ -11,3 +11,4 @@ mod Full
 mod FreeList
 mod Calls
 mod Counted
+mod Finding

@@ -28,26 +28,30 @@ end_found m o is b link at before here there ends links used h =
     )
 
 -- where a walk stands: at the bucket that so many links lead to, no further than the chain's last
-pub record IsAt (o : OwnerState) (b link at before : ℕ) : Type 0 where
+pub record IsAt (o : OwnerState) (b link at : ℕ) : Type 0 where
   pub inside : IsBucket o.shape at
   pub here : bucket_at o link b ≡ at
-  pub behind : (k : ℕ) → suc k ≡ link → bucket_at o k b ≡ before
   pub near : (links used : ℕ) → HasChainShape o b links used → link ≤ links
 
--- one link further
-pub one_further : (m n : OwnerState) → n ≡ m → Chained n → (b link at before next : ℕ) → IsAt m b link at before → next ≡ link_in m at → next ≢ 0
-    → IsAt n b (link + 1) next at
-one_further m n is s b link at before next w value some =
-    subst (λ (z : OwnerState). IsAt z b (link + 1) next at) (sym is) record {
-      inside = subst (IsBucket m.shape) (sym value) (elim (t.chains.links at w.inside) [ inl none ↦ absurd (some (value ∙ none)) | inr spare ↦ spare.1 ]);
-      here = ap (λ (z : ℕ). bucket_at m z b) (add-one link) ∙ (bucket_at-suc m link b ∙ (ap (link_in m) w.here ∙ sym value));
-      behind = λ k e. let same : k ≡ link = omega arith in ap (λ (z : ℕ). bucket_at m z b) same ∙ w.here;
-      near = λ links used h.
-          let more = further m b links used h link (w.near links used h) (λ none. some (value ∙ (ap (link_in m) (sym w.here) ∙ none))) in omega arith;
-    }
-  where
-    t : Chained m
-    t = subst Chained is s
+-- the bucket one link before
+abbrev pub IsBehind : OwnerState → ℕ → ℕ → ℕ → Type 0
+IsBehind o b link before = (k : ℕ) → suc k ≡ link → bucket_at o k b ≡ before
+
+module _ (m n : OwnerState) (is : n ≡ m) (b link at : ℕ) (w : IsAt m b link at) where
+  -- one link further
+  pub one_further : Chained n → (next : ℕ) → next ≡ link_in m at → next ≢ 0 → IsAt n b (link + 1) next
+  one_further s next value some =
+      let t : Chained m = subst Chained is s in
+      subst (λ (z : OwnerState). IsAt z b (link + 1) next) (sym is) record {
+        inside = subst (IsBucket m.shape) (sym value) (elim (t.chains.links at w.inside) [ inl none ↦ absurd (some (value ∙ none)) | inr spare ↦ spare.1 ]);
+        here = ap (λ (z : ℕ). bucket_at m z b) (add-one link) ∙ (bucket_at-suc m link b ∙ (ap (link_in m) w.here ∙ sym value));
+        near = λ links used h.
+            let more = further m b links used h link (w.near links used h) (λ none. some (value ∙ (ap (link_in m) (sym w.here) ∙ none))) in omega arith;
+      }
+
+  pub behind_further : IsBehind n b (link + 1) at
+  behind_further = subst (λ (z : OwnerState). IsBehind z b (link + 1) at) (sym is)
+      (λ k e. let same : k ≡ link = omega arith in ap (λ (z : ℕ). bucket_at m z b) same ∙ w.here)
 
 -- the end of a chain, from its last two buckets and the used slots of the last
 pub end_there : (o : OwnerState) → Chained o → (b : ℕ) → IsMain o.shape b → IsDense o b → (before last used : ℕ)

@@ -1,10 +1,11 @@
 //! The chained index, after the MICA paper's store mode.
-ghost use Rattle.std.specs.Prelude.{◌≡◌, ◌≢◌, ℕ, suc, ◌+◌, ◌-◌, ◌*◌, ◌<◌, ◌≤◌, ◌^◌, ◌↔◌, ◌++◌, ◌∷◌, [], IsFalse, IfOk, MatchOption, slice_set, swap_remove};
-ghost use Rattle.mica_words.specs.Entry.{entry_of};
+ghost use Rattle.std.specs.Prelude.{◌≡◌, ◌≢◌, ℕ, suc, ◌+◌, ◌-◌, ◌*◌, ◌<◌, ◌≤◌, ◌^◌, ◌↔◌, ◌++◌, ◌∷◌, [], IsTrue, IsFalse, IfOk, MatchOption, slice_set, swap_remove};
+ghost use Rattle.mica_words.specs.Entry.{entry_of, entry_tag as entry_tag_of, entry_offset as entry_offset_of};
 ghost use Rattle.mica_words.specs.Item.{KeyFits};
 ghost use Rattle.epoch_core.specs.Shape.{IsValidShape, IsMain, IsBucket};
 ghost use Rattle.epoch_core.specs.OwnerState.{as_made, entry_in, marked_in};
 ghost use Rattle.epoch_core.specs.Events.{WhenMarked};
+ghost use Rattle.epoch_core.specs.ItemAt.{HasKey};
 ghost use Rattle.epoch_core.specs.Kept.{Kept};
 ghost use Rattle.chained_index.specs.ChainEntries.{entries_of, number_of, IsUsed, IsSpotOf, HasNoSpot};
 ghost use Rattle.chained_index.specs.ChainChange.{ChangesChain};
@@ -81,13 +82,13 @@ impl ChainedIndex {
     {
         let tag = tag_of(key_hash(key));
         let mut at = bucket;
-        for _ in 0..=self.shape.spares {
+        for link in 0..=self.shape.spares {
             for slot in 0..SLOTS {
                 let entry = words.read(WordAt::Entry(at, slot));
                 if entry == 0 {
                     return None;
                 }
-                if entry_tag(entry) == tag && holds_key(words, entry_offset(entry), key) {
+                if names_key(words, entry, tag, key) {
                     return Some(Spot {
                         bucket: at,
                         slot,
@@ -222,6 +223,18 @@ impl ChainedIndex {
         }
         (before, at)
     }
+}
+
+// Whether the entry has the tag, and its item the key.
+fn names_key<W: OwnerWords>(words: &mut W, entry: u64, tag: u16, key: &[u8]) -> bool
+    requires { KeyFits key.now }
+    ensures names {
+        IsTrue result
+            ↔ ((entry_tag_of entry ≡ tag) × HasKey (W.owner words.old) (entry_offset_of entry) key.entry.now)
+    }
+    ensures same { (W.owner words.new ≡ W.owner words.old) × (W.home words.new ≡ W.home words.old) }
+{
+    entry_tag(entry) == tag && holds_key(words, entry_offset(entry), key)
 }
 
 // How many slots of the bucket are used before the first empty one.
