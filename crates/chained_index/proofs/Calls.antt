@@ -183,7 +183,7 @@ module _ (o : OwnerState) (s : Chained o) (b : ℕ) (main : IsMain o.shape b) (l
     pub changed_by : ChangesChain o p b (set (entries_of o b) (number_of o b spot) x)
     changed_by = subst (λ (z : ℕ). ChangesChain o p b (set (entries_of o b) z x)) (sym number_at)
         (subst (λ (z : OwnerState). ChangesChain o z b (set (entries_of o b) (15 * at.0 + spot.slot) x)) (sym put_here)
-          (entered.changes_entry o s b main links used h at.0 at.1 spot.slot x u.in_bucket some within (subst Chained put_here kept)))
+        (entered.changes_entry o s b main links used h at.0 at.1 spot.slot x u.in_bucket some within (subst Chained put_here kept)))
 
     pub index_changed_by : (index : Index) → IsIndexOf index o → IsIndexOf index p
     index_changed_by index i = subst (IsIndexOf index) (sym put_here)
@@ -367,7 +367,7 @@ module _ (o : OwnerState) (s : Chained o) (b : ℕ) (main : IsMain o.shape b) (l
             let size = length-entries_of o s b main links end.used e.shape in
             let place : 15 * links + (end.used - 1) < 15 * links + end.used = omega arith in
             let value : y ≡ get_or (entries_of o b) (15 * links + (end.used - 1)) 0 =
-                last_entry ∙ sym (get_or-entries_of o s b main links end.used e.shape links (end.used - 1) last_slot place) in
+            last_entry ∙ sym (get_or-entries_of o s b main links end.used e.shape links (end.used - 1) last_slot place) in
             subst (ChangesChain o p b)
             (swap_is (entries_of o b) (entries_of moved b) (number_of o b spot) (15 * links + (end.used - 1)) y moved_entries.entries (omega arith) value)
             (changes_then o moved p b (set (entries_of o b) (number_of o b spot) y) (take (length (entries_of moved b) - 1) (entries_of moved b)) moved_entries two)

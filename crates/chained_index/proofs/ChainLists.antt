@@ -73,8 +73,8 @@ number_is o b links used s k few spot is =
     let here = get_or-buckets_of o b links used s in
     let long = length-buckets_of o b links used s in
     let at : position_or_len test (buckets_of o b) ≡ k = position_or_len_is test (buckets_of o b) k 0 (omega arith)
-        (λ j less. ne_eqb (get_or (buckets_of o b) j 0) spot.bucket (λ same. no_repeat o b links w k j less few (is ∙ (sym same ∙ here j (omega arith)))))
-        (λ less. eq-eqb (get_or (buckets_of o b) k 0) spot.bucket (here k few ∙ is)) in
+    (λ j less. ne_eqb (get_or (buckets_of o b) j 0) spot.bucket (λ same. no_repeat o b links w k j less few (is ∙ (sym same ∙ here j (omega arith)))))
+    (λ less. eq-eqb (get_or (buckets_of o b) k 0) spot.bucket (here k few ∙ is)) in
     ap (λ (z : ℕ). 15 * z + spot.slot) at
 
 -- the entries of one bucket
@@ -144,12 +144,12 @@ module _ (o : OwnerState) (wide : length o.words ≡ word_count o.shape) where
       let long = length-slots b bucket in (
         ap length is ∙ (length-take used (slots b) ∙ omega arith),
         λ k slot low less.
-          let first : k ≡ 0 = omega arith in
-          let here : 15 * k + slot ≡ slot = omega arith in
-          ap (λ (z : List ℕ). get_or z (15 * k + slot) 0) is
-          ∙ (ap (λ (z : ℕ). get_or (take used (slots b)) z 0) here
-          ∙ (get_or-take used (slots b) slot 0 (omega arith)
-          ∙ (get_or-slots b slot low ∙ ap (λ (z : ℕ). entry_in o (bucket_at o z b) slot) (sym first)))),
+            let first : k ≡ 0 = omega arith in
+            let here : 15 * k + slot ≡ slot = omega arith in
+            ap (λ (z : List ℕ). get_or z (15 * k + slot) 0) is
+            ∙ (ap (λ (z : ℕ). get_or (take used (slots b)) z 0) here
+            ∙ (get_or-take used (slots b) slot 0 (omega arith)
+            ∙ (get_or-slots b slot low ∙ ap (λ (z : ℕ). entry_in o (bucket_at o z b) slot) (sym first)))),
       )
 
   more_entries : (b links used : ℕ) → HasChainShape o b (suc links) used → IsBucket o.shape b → (xs : List ℕ) → HasEntries links used (link_in o b) xs
@@ -204,11 +204,11 @@ module _ (o : OwnerState) (kept : Chained o) (b : ℕ) (main : IsMain o.shape b)
   entries_are xs long same =
       let within = s.within in
       ext_get_or 0 (entries_of o b) xs (length-entries_of ∙ sym long) (λ i less.
-        let k : ℕ = i / 15 in
-        let slot : ℕ = i % 15 in
-        let size = length-entries_of in
-        let at : 15 * k + slot ≡ i = omega arith in
-        let low : slot < 15 = omega arith in
-        let inside : 15 * k + slot < 15 * links + used = omega arith in
-        ap (λ (z : ℕ). get_or (entries_of o b) z 0) (sym at)
-        ∙ (get_or-entries_of k slot low inside ∙ (sym (same k slot (omega arith) low inside) ∙ ap (λ (z : ℕ). get_or xs z 0) at)))
+      let k : ℕ = i / 15 in
+      let slot : ℕ = i % 15 in
+      let size = length-entries_of in
+      let at : 15 * k + slot ≡ i = omega arith in
+      let low : slot < 15 = omega arith in
+      let inside : 15 * k + slot < 15 * links + used = omega arith in
+      ap (λ (z : ℕ). get_or (entries_of o b) z 0) (sym at)
+      ∙ (get_or-entries_of k slot low inside ∙ (sym (same k slot (omega arith) low inside) ∙ ap (λ (z : ℕ). get_or xs z 0) at)))

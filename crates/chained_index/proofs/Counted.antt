@@ -45,11 +45,11 @@ module _ (xs : List ℕ) (low n : ℕ) (pairs : AllPairs (λ c d. c ≢ d) xs) (
   few_in_range =
       let long = length-from_zero in
       let bound = length-le_from_distinct_below from_zero n distinct (λ q has.
-        let at = any_at q from_zero has in
-        let less : at.0 < length xs = omega (arith, at.1) in
-        let is = at_zero at.0 0 less in
-        let range = inside (get_or xs at.0 0) (here at.0 less) in
-        omega (arith, range.0, range.1, at.2)) in
+      let at = any_at q from_zero has in
+      let less : at.0 < length xs = omega (arith, at.1) in
+      let is = at_zero at.0 0 less in
+      let range = inside (get_or xs at.0 0) (here at.0 less) in
+      omega (arith, range.0, range.1, at.2)) in
       omega arith
 
 -- one more that differs from them all leaves room

@@ -117,9 +117,9 @@ module _ (o : OwnerState) (s : Chained o) (b : ℕ) (main : IsMain o.shape b) (l
         not_zero : (k t : ℕ) → k ≤ links → t < 15 → entry_in o (bucket_at o k b) t ≢ 0 → entry_in p (bucket_at p k b) t ≢ 0
         not_zero k t near small old = dite (ℕ_discrete (15 * k + t) (15 * at + slot))
             (λ is none.
-              let same_k : k ≡ at = omega arith in
-              let same_t : t ≡ slot = omega arith in
-              some (sym entry_new ∙ (ap (λ (z : ℕ). entry_in p (bucket_at p z b) slot) (sym same_k) ∙ (ap (entry_in p (bucket_at p k b)) (sym same_t) ∙ none))))
+            let same_k : k ≡ at = omega arith in
+            let same_t : t ≡ slot = omega arith in
+            some (sym entry_new ∙ (ap (λ (z : ℕ). entry_in p (bucket_at p z b) slot) (sym same_k) ∙ (ap (entry_in p (bucket_at p k b)) (sym same_t) ∙ none))))
             (λ differ none. old (sym (entry_by_number k t near small differ) ∙ none))
 
     pub entries_changed : Chained p → entries_of p b ≡ set (entries_of o b) (15 * at + slot) x
@@ -157,7 +157,7 @@ module _ (o : OwnerState) (s : Chained o) (b : ℕ) (main : IsMain o.shape b) (l
       entries = pushed o p s kept b main main links used h links (suc used) shape_pushed x (omega arith)
           (λ k t small less. entry_by_number k t (omega arith) small (λ is. omega arith))
           (λ k t small is. let same_k : k ≡ at = omega arith in let same_t : t ≡ slot = omega arith in
-            ap (λ (z : ℕ). entry_in p (bucket_at p z b) t) same_k ∙ (ap (entry_in p (bucket_at p at b)) same_t ∙ entry_new));
+          ap (λ (z : ℕ). entry_in p (bucket_at p z b) t) same_k ∙ (ap (entry_in p (bucket_at p at b)) same_t ∙ entry_new));
       others = others_keep;
       rest = entered_only o s c inside slot x low;
     }

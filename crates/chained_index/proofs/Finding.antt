@@ -51,13 +51,13 @@ module _ (o : OwnerState) (s : Chained o) (b : ℕ) (main : IsMain o.shape b) (d
       elim (cases_lt found.0 link) [
         | inl less ↦ before found.0 spot.slot less is.used.in_bucket (subst (λ (z : ℕ). IsSlotOf o key z spot.slot) (sym found.2) (is.tag, is.item))
         | inr more ↦ dite (ℕ_discrete found.0 link)
-          (λ same.
+            (λ same.
             let bucket : at ≡ spot.bucket = sym w.here ∙ (ap (λ (z : ℕ). bucket_at o z b) (sym same) ∙ found.2) in
             elim (cases_lt spot.slot slot) [
               | inl less' ↦ here spot.slot less' (subst (λ (z : ℕ). IsSlotOf o key z spot.slot) (sym bucket) (is.tag, is.item))
               | inr more' ↦ behind bucket more'
             ])
-          (λ differ. let near = found.1 in
+            (λ differ. let near = found.1 in
             there.2.full link slot (omega arith) low (ap (λ (z : ℕ). entry_in o z slot) w.here ∙ empty))
       ]
     where
@@ -65,7 +65,7 @@ module _ (o : OwnerState) (s : Chained o) (b : ℕ) (main : IsMain o.shape b) (d
       behind bucket more = dite (ℕ_discrete spot.slot slot)
           (λ same. is.used.used (ap (λ (z : ℕ). entry_in o z spot.slot) (sym bucket) ∙ (ap (entry_in o at) same ∙ empty)))
           (λ differ. dense.in_order at slot spot.slot at_in_chain (omega arith) is.used.in_bucket
-            (λ none. is.used.used (ap (λ (z : ℕ). entry_in o z spot.slot) (sym bucket) ∙ none)) empty)
+          (λ none. is.used.used (ap (λ (z : ℕ). entry_in o z spot.slot) (sym bucket) ∙ none)) empty)
 
   -- where there is no link, there is no other bucket
   pub none_at_end : link_in o at ≡ 0 → NoneBefore o b key link → NoneAt o key at 15 → HasNoSpot o b key
@@ -75,7 +75,7 @@ module _ (o : OwnerState) (s : Chained o) (b : ℕ) (main : IsMain o.shape b) (d
       let near = found.1 in
       dite (ℕ_discrete found.0 link)
       (λ same. here spot.slot is.used.in_bucket
-        (subst (λ (z : ℕ). IsSlotOf o key z spot.slot) (sym (sym w.here ∙ (ap (λ (z : ℕ). bucket_at o z b) (sym same) ∙ found.2))) (is.tag, is.item)))
+      (subst (λ (z : ℕ). IsSlotOf o key z spot.slot) (sym (sym w.here ∙ (ap (λ (z : ℕ). bucket_at o z b) (sym same) ∙ found.2))) (is.tag, is.item)))
       (λ differ. before found.0 spot.slot (omega arith) is.used.in_bucket (subst (λ (z : ℕ). IsSlotOf o key z spot.slot) (sym found.2) (is.tag, is.item)))
 
   -- no walk goes past all spares

@@ -24,13 +24,13 @@ module _ (o : OwnerState) (words : List ℕ) (long : length words ≡ length o.w
       let width : ℕ = entry_at o.shape c 15 - entry_at o.shape c 0 in
       let size : width ≡ 15 = omega arith in
       ap (filter (nat_lt 0)) (ext_get_or 0 (take width (drop first words)) (take width (drop first o.words))
-        (omega (arith, length-take width (drop first words), length-take width (drop first o.words), length-drop first words, length-drop first o.words, long))
-        (λ i less.
-          let low : i < 15 = omega (arith, length-take width (drop first words)) in
-          let at : first + i ≡ entry_at o.shape c i = omega arith in
-          get_or-take width (drop first words) i 0 (omega arith) ∙ (get_or-drop first words i 0
-          ∙ (ap (λ (z : ℕ). get_or words z 0) at ∙ (same.entry i low ∙ (ap (λ (z : ℕ). get_or o.words z 0) (sym at)
-          ∙ (sym (get_or-drop first o.words i 0) ∙ sym (get_or-take width (drop first o.words) i 0 (omega arith)))))))))
+      (omega (arith, length-take width (drop first words), length-take width (drop first o.words), length-drop first words, length-drop first o.words, long))
+      (λ i less.
+      let low : i < 15 = omega (arith, length-take width (drop first words)) in
+      let at : first + i ≡ entry_at o.shape c i = omega arith in
+      get_or-take width (drop first words) i 0 (omega arith) ∙ (get_or-drop first words i 0
+      ∙ (ap (λ (z : ℕ). get_or words z 0) at ∙ (same.entry i low ∙ (ap (λ (z : ℕ). get_or o.words z 0) (sym at)
+      ∙ (sym (get_or-drop first o.words i 0) ∙ sym (get_or-take width (drop first o.words) i 0 (omega arith)))))))))
 
   -- where the links of a chain are the same, so are its buckets
   module _ (b : ℕ) (same : (d : ℕ) → InChain o b d → link_in p d ≡ link_in o d) where
@@ -47,8 +47,10 @@ module _ (o : OwnerState) (words : List ℕ) (long : length words ≡ length o.w
     among_on (suc n) d c up (inl is) = inl is
     among_on (suc n) d c up (inr h) =
         let e = same d (up d (inl refl)) in
-        inr (λ none. h.0 (sym e ∙ none),
-          subst (λ (z : ℕ). IsAmong p n z c) (sym e) (among_on n (link_in o d) c (λ x among. up x (inr (h.0, among))) h.1))
+        inr (
+          λ none. h.0 (sym e ∙ none),
+          subst (λ (z : ℕ). IsAmong p n z c) (sym e) (among_on n (link_in o d) c (λ x among. up x (inr (h.0, among))) h.1),
+        )
 
     pub chain_back : (c : ℕ) → InChain p b c → InChain o b c
     chain_back c h = among_back (suc o.shape.spares) b c (λ x among. among) h
@@ -64,9 +66,9 @@ module _ (o : OwnerState) (words : List ℕ) (long : length words ≡ length o.w
         ap (λ (z : List ℕ). d ∷ z) (dite (ℕ_discrete (link_in o d) 0)
         (λ none. if_none (link_in p d) [] (buckets_from p n (link_in p d)) (e ∙ none) ∙ sym (if_none (link_in o d) [] (buckets_from o n (link_in o d)) none))
         (λ some. if_some (link_in p d) [] (buckets_from p n (link_in p d)) (λ none. some (sym e ∙ none))
-          ∙ (ap (buckets_from p n) e
-          ∙ (buckets_same n (link_in o d) (λ x among. up x (inr (some, among)))
-          ∙ sym (if_some (link_in o d) [] (buckets_from o n (link_in o d)) some)))))
+        ∙ (ap (buckets_from p n) e
+        ∙ (buckets_same n (link_in o d) (λ x among. up x (inr (some, among)))
+        ∙ sym (if_some (link_in o d) [] (buckets_from o n (link_in o d)) some)))))
 
   module _ (b : ℕ) (same : (d : ℕ) → InChain o b d → SameBucket o p d) where
     back : (c : ℕ) → InChain p b c → InChain o b c
@@ -79,12 +81,12 @@ module _ (o : OwnerState) (words : List ℕ) (long : length words ≡ length o.w
     flat_same (suc n) d up =
         let here = entries_in_same d (same d (up d (inl refl))) in
         let more : flat_map (entries_in p) (if nat_eq (link_in o d) 0 then [] else buckets_from o n (link_in o d))
-            ≡ flat_map (entries_in o) (if nat_eq (link_in o d) 0 then [] else buckets_from o n (link_in o d)) =
-            dite (ℕ_discrete (link_in o d) 0)
-            (λ none. let is = if_none (link_in o d) [] (buckets_from o n (link_in o d)) none in
-              ap (flat_map (entries_in p)) is ∙ sym (ap (flat_map (entries_in o)) is))
-            (λ some. let is = if_some (link_in o d) [] (buckets_from o n (link_in o d)) some in
-              ap (flat_map (entries_in p)) is ∙ (flat_same n (link_in o d) (λ x among. up x (inr (some, among))) ∙ sym (ap (flat_map (entries_in o)) is))) in
+        ≡ flat_map (entries_in o) (if nat_eq (link_in o d) 0 then [] else buckets_from o n (link_in o d)) =
+        dite (ℕ_discrete (link_in o d) 0)
+        (λ none. let is = if_none (link_in o d) [] (buckets_from o n (link_in o d)) none in
+        ap (flat_map (entries_in p)) is ∙ sym (ap (flat_map (entries_in o)) is))
+        (λ some. let is = if_some (link_in o d) [] (buckets_from o n (link_in o d)) some in
+        ap (flat_map (entries_in p)) is ∙ (flat_same n (link_in o d) (λ x among. up x (inr (some, among))) ∙ sym (ap (flat_map (entries_in o)) is))) in
         (λ j. here j ++ more j)
 
     pub chain_kept : KeepsChain o p b

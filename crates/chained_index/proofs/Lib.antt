@@ -12,3 +12,4 @@ mod FreeList
 mod Calls
 mod Counted
 mod Finding
+mod AsMade

@@ -132,10 +132,11 @@ module _ (o : OwnerState) (s : Chained o) (b : ℕ) (main : IsMain o.shape b) (l
         linked : (k : ℕ) → k < suc links → link_in taken (bucket_at taken k b) ≢ 0
         linked k less none = dite (ℕ_discrete k links)
             (λ is.
-              let low = free.spare.0 in
-              let to : next ≡ 0 = sym taken_next ∙ (bucket_at-suc taken links b ∙ (ap (λ (z : ℕ). link_in taken (bucket_at taken z b)) (sym is) ∙ none)) in
-              let l = main in omega arith)
+            let low = free.spare.0 in
+            let to : next ≡ 0 = sym taken_next ∙ (bucket_at-suc taken links b ∙ (ap (λ (z : ℕ). link_in taken (bucket_at taken z b)) (sym is) ∙ none)) in
+            let l = main in omega arith)
             (λ n. h.linked k (omega arith) (sym (before_end k (omega arith)) ∙ (ap (link_in taken) (sym (taken_at k (omega arith))) ∙ none)))
+
         full : (k slot : ℕ) → k ≤ links → slot < 15 → entry_in o (bucket_at o k b) slot ≢ 0
         full k slot few low = dite (ℕ_discrete k links)
             (λ is. subst (λ (z : ℕ). entry_in o (bucket_at o z b) slot ≢ 0) (sym is) (h.not_empty slot low))
@@ -146,7 +147,7 @@ module _ (o : OwnerState) (s : Chained o) (b : ℕ) (main : IsMain o.shape b) (l
       entries = pushed o taken s kept b main main links 15 h (suc links) 1 shape_taken x (omega arith)
           (λ k slot low less. old_slot k slot (omega arith) low)
           (λ k slot low is. let same_k : k ≡ suc links = omega arith in let same_slot : slot ≡ 0 = omega arith in
-            ap (λ (z : ℕ). entry_in taken (bucket_at taken z b) slot) same_k ∙ (ap (entry_in taken (bucket_at taken (suc links) b)) same_slot ∙ new_slot));
+          ap (λ (z : ℕ). entry_in taken (bucket_at taken z b) slot) same_k ∙ (ap (entry_in taken (bucket_at taken (suc links) b)) same_slot ∙ new_slot));
       others = others_keep o s next 0 x end next (omega arith) free.spare.1 end_inside t b apart;
       rest = only_then o taken_first taken (entered_only o s next free.spare.1 0 x (omega arith)) (linked_only taken_first t end end_inside next);
     }
@@ -165,8 +166,8 @@ module _ (o : OwnerState) (s : Chained o) (b : ℕ) (main : IsMain o.shape b) (l
         in_none : (other : ℕ) → IsMain o.shape other → ¬ (InChain o other e)
         in_none other l i = dite (ℕ_discrete other b)
             (λ is.
-              let at = of_chain o b links w e (subst (λ (z : ℕ). InChain o z e) is i) in
-              f.free b main (subst (InChain taken b) (taken_at at.0 at.1 ∙ at.2) (in_chain taken b (suc links) (walk_of taken b (suc links) 1 shape_taken) shape_taken.few at.0 (omega (arith, at.1)))))
+            let at = of_chain o b links w e (subst (λ (z : ℕ). InChain o z e) is i) in
+            f.free b main (subst (InChain taken b) (taken_at at.0 at.1 ∙ at.2) (in_chain taken b (suc links) (walk_of taken b (suc links) 1 shape_taken) shape_taken.few at.0 (omega (arith, at.1)))))
             (λ n. f.free other l (other_on o s next 0 x end next (omega arith) free.spare.1 end_inside t b apart other e l n i))
 
     pub still_free : (e : ℕ) → IsFreeSpare o e → e ≢ next → IsFreeSpare taken e
@@ -175,18 +176,18 @@ module _ (o : OwnerState) (s : Chained o) (b : ℕ) (main : IsMain o.shape b) (l
         in_none : (other : ℕ) → IsMain o.shape other → ¬ (InChain taken other e)
         in_none other l i = dite (ℕ_discrete other b)
             (λ is.
-              let at = of_chain taken b (suc links) (walk_of taken b (suc links) 1 shape_taken) e (subst (λ (z : ℕ). InChain taken z e) is i) in
-              dite (ℕ_discrete at.0 (suc links))
-              (λ end'. differ (sym at.2 ∙ (ap (λ (z : ℕ). bucket_at taken z b) end' ∙ taken_next)))
-              (λ near. let few = at.1 in
-                f.free b main (subst (InChain o b) (sym (taken_at at.0 (omega arith)) ∙ at.2) (in_chain o b links w h.few at.0 (omega arith)))))
+            let at = of_chain taken b (suc links) (walk_of taken b (suc links) 1 shape_taken) e (subst (λ (z : ℕ). InChain taken z e) is i) in
+            dite (ℕ_discrete at.0 (suc links))
+            (λ end'. differ (sym at.2 ∙ (ap (λ (z : ℕ). bucket_at taken z b) end' ∙ taken_next)))
+            (λ near. let few = at.1 in
+            f.free b main (subst (InChain o b) (sym (taken_at at.0 (omega arith)) ∙ at.2) (in_chain o b links w h.few at.0 (omega arith)))))
             (λ n. f.free other l (other_back o s next 0 x end next (omega arith) free.spare.1 end_inside t b apart other e l n i))
 
     pub blank_taken : (e : ℕ) → IsFreeSpare taken e → IsBlank o e → IsBlank taken e
     blank_taken e f is =
         let before = free_taken e f in
         let same = both_same o s next 0 x end next (omega arith) free.spare.1 end_inside t e before.1
-            (λ end'. before.0.free b main (subst (InChain o b) (sym end') (in_chain o b links w h.few links (omega arith)))) in record {
+        (λ end'. before.0.free b main (subst (InChain o b) (sym end') (in_chain o b links w h.few links (omega arith)))) in record {
           no_link = same.link ∙ is.no_link;
           no_entry = λ slot low. same.entry slot low ∙ is.no_entry slot low;
         }
@@ -241,7 +242,7 @@ module _ (o : OwnerState) (s : Chained o) (b : ℕ) (main : IsMain o.shape b) (l
     kept_slot : (k slot : ℕ) → k ≤ links → slot < 15 → SameSlot o released b k slot
     kept_slot k slot few low = ap (λ (z : ℕ). entry_in released z slot) (released_at k few)
         ∙ entry_both o s last 0 0 before 0 (omega arith) last_inside before_inside t (bucket_at o k b) slot low
-          (inl (distinct k (suc links) (omega arith) (omega arith) (λ is. omega arith)))
+        (inl (distinct k (suc links) (omega arith) (omega arith) (λ is. omega arith)))
 
     pub shape_released : HasChainShape released b links 15
     shape_released = let few = h.few in record {
@@ -321,8 +322,8 @@ module _ (o : OwnerState) (s : Chained o) (b : ℕ) (main : IsMain o.shape b) (l
     pub blank_released : (e : ℕ) → IsFreeSpare o e → IsBlank o e → IsBlank released e
     blank_released e f is =
         let same = both_same o s last 0 0 before 0 (omega arith) last_inside before_inside t e
-            (λ z. f.free b main (subst (InChain o b) (sym z) (here (suc links) (omega arith))))
-            (λ z. f.free b main (subst (InChain o b) (sym z) (here links (omega arith)))) in record {
+        (λ z. f.free b main (subst (InChain o b) (sym z) (here (suc links) (omega arith))))
+        (λ z. f.free b main (subst (InChain o b) (sym z) (here links (omega arith)))) in record {
           no_link = same.link ∙ is.no_link;
           no_entry = λ slot low. same.entry slot low ∙ is.no_entry slot low;
         }

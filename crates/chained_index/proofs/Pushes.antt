@@ -32,11 +32,11 @@ module _ (o p : OwnerState) (s : Chained o) (t : Chained p) (b : ℕ) (main : Is
       let size = length-entries_of o s b main links used h in
       entries_are p t b still more last i (entries_of o b ++ x ∷ []) (length_push (entries_of o b) x ∙ omega arith)
       (λ k slot few low less. dite (ℕ_discrete (15 * k + slot) (15 * links + used))
-        (λ is. get_or_push (entries_of o b) x 0 (15 * k + slot) (omega arith) ∙ sym (new k slot low is))
-        (λ differ.
-          let before : 15 * k + slot < 15 * links + used = omega arith in
-          get_or_append_left (entries_of o b) (x ∷ []) 0 (15 * k + slot) (omega arith)
-          ∙ (get_or-entries_of o s b main links used h k slot low before ∙ sym (old k slot low before))))
+      (λ is. get_or_push (entries_of o b) x 0 (15 * k + slot) (omega arith) ∙ sym (new k slot low is))
+      (λ differ.
+      let before : 15 * k + slot < 15 * links + used = omega arith in
+      get_or_append_left (entries_of o b) (x ∷ []) 0 (15 * k + slot) (omega arith)
+      ∙ (get_or-entries_of o s b main links used h k slot low before ∙ sym (old k slot low before))))
 
   pub dropped : 15 * more + last + 1 ≡ 15 * links + used
       → ((k slot : ℕ) → slot < 15 → 15 * k + slot < 15 * more + last → SameSlot o p b k slot)
@@ -46,8 +46,8 @@ module _ (o p : OwnerState) (s : Chained o) (t : Chained p) (b : ℕ) (main : Is
       entries_are p t b still more last i (take (length (entries_of o b) - 1) (entries_of o b))
       (length-take (length (entries_of o b) - 1) (entries_of o b) ∙ omega arith)
       (λ k slot few low less.
-        get_or-take (length (entries_of o b) - 1) (entries_of o b) (15 * k + slot) 0 (omega arith)
-        ∙ (get_or-entries_of o s b main links used h k slot low (omega arith) ∙ sym (old k slot low less)))
+      get_or-take (length (entries_of o b) - 1) (entries_of o b) (15 * k + slot) 0 (omega arith)
+      ∙ (get_or-entries_of o s b main links used h k slot low (omega arith) ∙ sym (old k slot low less)))
 
   pub changed : (at in_slot x : ℕ) → in_slot < 15 → 15 * at + in_slot < 15 * links + used → 15 * more + last ≡ 15 * links + used
       → ((k slot : ℕ) → slot < 15 → 15 * k + slot < 15 * links + used → 15 * k + slot ≢ 15 * at + in_slot → SameSlot o p b k slot)
@@ -58,12 +58,12 @@ module _ (o p : OwnerState) (s : Chained o) (t : Chained p) (b : ℕ) (main : Is
       entries_are p t b still more last i (set (entries_of o b) (15 * at + in_slot) x)
       (length-set (entries_of o b) (15 * at + in_slot) x ∙ omega arith)
       (λ k slot few low less. dite (ℕ_discrete (15 * k + slot) (15 * at + in_slot))
-        (λ is.
-          let same_k : k ≡ at = omega arith in
-          let same_slot : slot ≡ in_slot = omega arith in
-          ap (λ (z : ℕ). get_or (set (entries_of o b) (15 * at + in_slot) x) z 0) is
-          ∙ (get_or-set_same (entries_of o b) (15 * at + in_slot) x 0 (omega arith)
-          ∙ (sym new ∙ (ap (λ (z : ℕ). entry_in p (bucket_at p z b) in_slot) (sym same_k) ∙ ap (entry_in p (bucket_at p k b)) (sym same_slot)))))
-        (λ differ.
-          get_or-set_other (entries_of o b) (15 * at + in_slot) (15 * k + slot) x 0 differ
-          ∙ (get_or-entries_of o s b main links used h k slot low (omega arith) ∙ sym (old k slot low (omega arith) differ))))
+      (λ is.
+      let same_k : k ≡ at = omega arith in
+      let same_slot : slot ≡ in_slot = omega arith in
+      ap (λ (z : ℕ). get_or (set (entries_of o b) (15 * at + in_slot) x) z 0) is
+      ∙ (get_or-set_same (entries_of o b) (15 * at + in_slot) x 0 (omega arith)
+      ∙ (sym new ∙ (ap (λ (z : ℕ). entry_in p (bucket_at p z b) in_slot) (sym same_k) ∙ ap (entry_in p (bucket_at p k b)) (sym same_slot)))))
+      (λ differ.
+      get_or-set_other (entries_of o b) (15 * at + in_slot) (15 * k + slot) x 0 differ
+      ∙ (get_or-entries_of o s b main links used h k slot low (omega arith) ∙ sym (old k slot low (omega arith) differ))))

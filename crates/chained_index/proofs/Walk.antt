@@ -94,8 +94,8 @@ first_zero f (suc n) = let rest = first_zero f n in more rest.0 rest.1 rest.2 re
     more u few some zero_at = dite (ℕ_discrete (f u) 0)
         (λ none. (u, omega arith, some, λ less. none))
         (λ used. dite (ℕ_discrete u n)
-          (λ is. (suc n, omega arith, λ i less. dite (ℕ_discrete i u) (λ e. subst (λ (z : ℕ). f z ≢ 0) (sym e) used) (λ e. some i (omega arith)), λ less. absurd (omega arith)))
-          (λ not. absurd (used (zero_at (omega arith)))))
+        (λ is. (suc n, omega arith, λ i less. dite (ℕ_discrete i u) (λ e. subst (λ (z : ℕ). f z ≢ 0) (sym e) used) (λ e. some i (omega arith)), λ less. absurd (omega arith)))
+        (λ not. absurd (used (zero_at (omega arith)))))
 
 pub shape_of_walk : (o : OwnerState) (b links used : ℕ) → IsWalk o b links → links ≤ o.shape.spares → IsDense o b → used ≤ 15
     → ((slot : ℕ) → slot < used → entry_in o (bucket_at o links b) slot ≢ 0)
@@ -113,12 +113,14 @@ shape_of_walk o b links used w few d within some none = record {
   where
     end : InChain o b (bucket_at o links b)
     end = in_chain o b links w few links (omega arith)
+
     empty : (slot : ℕ) → used ≤ slot → slot < 15 → entry_in o (bucket_at o links b) slot ≡ 0
     empty slot low high = dite (ℕ_discrete (entry_in o (bucket_at o links b) slot) 0)
         (λ is. is)
         (λ n. dite (ℕ_discrete slot used)
-          (λ same. absurd (n (ap (entry_in o (bucket_at o links b)) same ∙ none (omega arith))))
-          (λ differ. absurd (d.in_order (bucket_at o links b) used slot end (omega arith) high n (none (omega arith)))))
+        (λ same. absurd (n (ap (entry_in o (bucket_at o links b)) same ∙ none (omega arith))))
+        (λ differ. absurd (d.in_order (bucket_at o links b) used slot end (omega arith) high n (none (omega arith)))))
+
     first : links ≢ 0 → used ≡ 0 → ⊥
     first n z = d.some (bucket_at o links b) end (no_repeat o b links w links 0 (omega arith) (omega arith)) (ap (entry_in o (bucket_at o links b)) (sym z) ∙ none (omega arith))
 
@@ -142,18 +144,21 @@ dense_of_shape o b links used s = record {
   where
     w : IsWalk o b links
     w = walk_of o b links used s
+
     full : (k : ℕ) → k ≤ links → (slot : ℕ) → slot < 15 → link_in o (bucket_at o k b) ≢ 0 → entry_in o (bucket_at o k b) slot ≢ 0
     full k few slot low linked = dite (ℕ_discrete k links)
         (λ is. absurd (linked (ap (λ (z : ℕ). link_in o (bucket_at o z b)) is ∙ s.last)))
         (λ n. s.full k slot (omega arith) low)
+
     in_order : (k : ℕ) → k ≤ links → (slot later : ℕ) → slot < later → later < 15 → entry_in o (bucket_at o k b) later ≢ 0 → entry_in o (bucket_at o k b) slot ≢ 0
     in_order k few slot later less low some = dite (ℕ_discrete k links)
         (λ is. subst (λ (z : ℕ). entry_in o (bucket_at o z b) slot ≢ 0) (sym is)
-          (last (subst (λ (z : ℕ). entry_in o (bucket_at o z b) later ≢ 0) is some)))
+        (last (subst (λ (z : ℕ). entry_in o (bucket_at o z b) later ≢ 0) is some)))
         (λ n. s.full k slot (omega arith) (omega arith))
       where
         last : entry_in o (bucket_at o links b) later ≢ 0 → entry_in o (bucket_at o links b) slot ≢ 0
         last more = elim (cases_lt slot used) [ inl low' ↦ s.not_empty slot low' | inr high ↦ absurd (more (s.empty later (omega arith) low)) ]
+
     first : (k : ℕ) → k ≤ links → k ≢ 0 → entry_in o (bucket_at o k b) 0 ≢ 0
     first k few n = dite (ℕ_discrete k links)
         (λ is. subst (λ (z : ℕ). entry_in o (bucket_at o z b) 0 ≢ 0) (sym is) (s.not_empty 0 (elim s.some [ inl none ↦ absurd (n (is ∙ none)) | inr some ↦ some ])))

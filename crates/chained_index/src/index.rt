@@ -89,10 +89,7 @@ impl ChainedIndex {
                     return None;
                 }
                 if names_key(words, entry, tag, key) {
-                    return Some(Spot {
-                        bucket: at,
-                        slot,
-                    });
+                    return Some(Spot { bucket: at, slot });
                 }
             }
             let next = words.read(WordAt::Link(at)) as u32;
@@ -122,10 +119,8 @@ impl ChainedIndex {
         requires place { ¬ (LacksPlace self.old (W.owner words.old) bucket) }
         requires tag { 1 ≤ tag }
         requires offset { offset < 2 ^ 48 }
-        ensures entries {
-            ChangesChain (W.owner words.old) (W.owner words.new) bucket
-                (entries_of (W.owner words.old) bucket ++ entry_of tag offset ∷ [])
-        }
+        ensures entries { ChangesChain (W.owner words.old) (W.owner words.new) bucket
+            (entries_of (W.owner words.old) bucket ++ entry_of tag offset ∷ []) }
         ensures index { IsIndexOf self.new (W.owner words.new) }
         ensures kept { Kept (W.owner words.new) }
         ensures home { W.home words.new ≡ W.home words.old }
@@ -146,11 +141,9 @@ impl ChainedIndex {
         requires spot { WhenMarked (W.owner words.old).phase (λ b write before. IsUsed (W.owner words.old) b spot) }
         requires tag { 1 ≤ tag }
         requires offset { offset < 2 ^ 48 }
-        ensures entries {
-            WhenMarked (W.owner words.old).phase (λ b write before.
-                ChangesChain (W.owner words.old) (W.owner words.new) b
-                    (slice_set (entries_of (W.owner words.old) b) (number_of (W.owner words.old) b spot) (entry_of tag offset)))
-        }
+        ensures entries { WhenMarked (W.owner words.old).phase (λ b write before.
+            ChangesChain (W.owner words.old) (W.owner words.new) b
+            (slice_set (entries_of (W.owner words.old) b) (number_of (W.owner words.old) b spot) (entry_of tag offset))) }
         ensures index { (self.new ≡ self.old) × IsIndexOf self.new (W.owner words.new) }
         ensures kept { Kept (W.owner words.new) }
         ensures home { W.home words.new ≡ W.home words.old }
@@ -164,10 +157,8 @@ impl ChainedIndex {
         requires marked { marked_in (W.owner words.old).phase bucket ≡ 1 }
         requires bucket { IsMain (W.owner words.old).shape bucket }
         requires spot { IsUsed (W.owner words.old) bucket spot }
-        ensures entries {
-            ChangesChain (W.owner words.old) (W.owner words.new) bucket
-                (swap_remove (entries_of (W.owner words.old) bucket) (number_of (W.owner words.old) bucket spot) 0)
-        }
+        ensures entries { ChangesChain (W.owner words.old) (W.owner words.new) bucket
+            (swap_remove (entries_of (W.owner words.old) bucket) (number_of (W.owner words.old) bucket spot) 0) }
         ensures index { IsIndexOf self.new (W.owner words.new) }
         ensures kept { Kept (W.owner words.new) }
         ensures home { W.home words.new ≡ W.home words.old }
@@ -203,11 +194,9 @@ impl ChainedIndex {
     fn last_two<W: OwnerWords>(&self, words: &mut W, bucket: u32) -> (u32, u32)
         requires index { IsIndexOf self.now (W.owner words.old) }
         requires bucket { IsMain (W.owner words.old).shape bucket }
-        ensures last {
-            (links used : ℕ) → HasChainShape (W.owner words.old) bucket links used
-                → (bucket_at (W.owner words.old) links bucket ≡ result.1)
-                × ((k : ℕ) → suc k ≡ links → bucket_at (W.owner words.old) k bucket ≡ result.0)
-        }
+        ensures last { (links used : ℕ) → HasChainShape (W.owner words.old) bucket links used
+            → (bucket_at (W.owner words.old) links bucket ≡ result.1)
+            × ((k : ℕ) → suc k ≡ links → bucket_at (W.owner words.old) k bucket ≡ result.0) }
         ensures inside { IsBucket (W.owner words.old).shape result.1 }
         ensures same { (W.owner words.new ≡ W.owner words.old) × (W.home words.new ≡ W.home words.old) }
     {
@@ -228,10 +217,8 @@ impl ChainedIndex {
 // Whether the entry has the tag, and its item the key.
 fn names_key<W: OwnerWords>(words: &mut W, entry: u64, tag: u16, key: &[u8]) -> bool
     requires { KeyFits key.now }
-    ensures names {
-        IsTrue result
-            ↔ ((entry_tag_of entry ≡ tag) × HasKey (W.owner words.old) (entry_offset_of entry) key.entry.now)
-    }
+    ensures names { IsTrue result
+        ↔ ((entry_tag_of entry ≡ tag) × HasKey (W.owner words.old) (entry_offset_of entry) key.entry.now) }
     ensures same { (W.owner words.new ≡ W.owner words.old) × (W.home words.new ≡ W.home words.old) }
 {
     entry_tag(entry) == tag && holds_key(words, entry_offset(entry), key)
@@ -240,10 +227,8 @@ fn names_key<W: OwnerWords>(words: &mut W, entry: u64, tag: u16, key: &[u8]) -> 
 // How many slots of the bucket are used before the first empty one.
 fn used_slots<W: OwnerWords>(words: &mut W, bucket: u32) -> u32
     requires { IsBucket (W.owner words.old).shape bucket }
-    ensures used {
-        (result ≤ 15) × ((slot : ℕ) → slot < result → entry_in (W.owner words.old) bucket slot ≢ 0)
-            × (result < 15 → entry_in (W.owner words.old) bucket result ≡ 0)
-    }
+    ensures used { (result ≤ 15) × ((slot : ℕ) → slot < result → entry_in (W.owner words.old) bucket slot ≢ 0)
+        × (result < 15 → entry_in (W.owner words.old) bucket result ≡ 0) }
     ensures same { (W.owner words.new ≡ W.owner words.old) × (W.home words.new ≡ W.home words.old) }
     ensures kept { Kept (W.owner words.new) }
 {

@@ -20,4 +20,4 @@ returns-clause-end g c =
     end_there o (chained o (subst Kept same c.used_slots.ensures.kept)) c.args.bucket c.requires.bucket (c.requires.index.dense c.args.bucket c.requires.bucket)
     c.last_two-before.result.0 last used c.last_two-before.ensures.last
     (subst (λ (z : OwnerState). (used ≤ 15) × ((slot : ℕ) → slot < used → entry_in z last slot ≢ 0) × (used < 15 → entry_in z last used ≡ 0))
-      c.last_two-before.ensures.same.0 c.used_slots.ensures.used)
+    c.last_two-before.ensures.same.0 c.used_slots.ensures.used)

@@ -19,7 +19,7 @@ returns-then-entry-eq0-clause-found g c =
     let o : OwnerState = g.W.OwnerWords.owner c.args.words.now in
     let s : Chained o = chained o (subst Kept (c.read-entry.ensures.same.0 ∙ c.loop-slot.invariant.owner) c.read-entry.ensures.kept) in
     let value : c.read-entry.result ≡ entry_in o c.loop-link.at c.loop-slot.slot =
-        c.read-entry.ensures.value ∙ ap (λ (z : OwnerState). entry_in z c.loop-link.at c.loop-slot.slot) c.loop-slot.invariant.owner in
+    c.read-entry.ensures.value ∙ ap (λ (z : OwnerState). entry_in z c.loop-link.at c.loop-slot.slot) c.loop-slot.invariant.owner in
     none_past_empty o s c.args.bucket c.requires.bucket (c.requires.index.dense c.args.bucket c.requires.bucket) c.args.key.now c.loop-link.link c.loop-link.at
     c.loop-link.invariant.walk c.loop-slot.slot c.loop-slot-test.true (sym value ∙ c.if-entry-eq0.true) c.loop-link.invariant.before c.loop-slot.invariant.here
 
@@ -30,14 +30,14 @@ returns-then-names_key-clause-found g c =
     let same = c.read-entry.ensures.same.0 ∙ c.loop-slot.invariant.owner in
     let s : Chained o = chained o (subst Kept same c.read-entry.ensures.kept) in
     let value : c.read-entry.result ≡ entry_in o c.loop-link.at c.loop-slot.slot =
-        c.read-entry.ensures.value ∙ ap (λ (z : OwnerState). entry_in z c.loop-link.at c.loop-slot.slot) c.loop-slot.invariant.owner in
+    c.read-entry.ensures.value ∙ ap (λ (z : OwnerState). entry_in z c.loop-link.at c.loop-slot.slot) c.loop-slot.invariant.owner in
     let names = c.names_key.ensures.names.0 c.if-names_key.true in
     let tag : c.tag_of-tag.result ≡ tag_of c.args.key.now = search rules in
     spot_found o s c.args.bucket c.requires.bucket (c.requires.index.dense c.args.bucket c.requires.bucket) c.args.key.now c.loop-link.link c.loop-link.at
     c.loop-link.invariant.walk c.loop-slot.slot c.loop-slot-test.true (λ none. c.if-entry-eq0.false (value ∙ none)) (
       ap entry_tag (sym value) ∙ (names.0 ∙ tag),
       subst (λ (z : OwnerState). HasKey z (entry_offset (entry_in o c.loop-link.at c.loop-slot.slot)) c.args.key.now) same
-        (subst (λ (z : ℕ). HasKey (g.W.OwnerWords.owner c.read-entry.new.self) (entry_offset z) c.args.key.now) value names.1),
+          (subst (λ (z : ℕ). HasKey (g.W.OwnerWords.owner c.read-entry.new.self) (entry_offset z) c.args.key.now) value names.1),
     )
 
 pub loop-slot-preserved : goal.loop-slot-preserved
@@ -46,20 +46,20 @@ loop-slot-preserved g c =
     let o : OwnerState = g.W.OwnerWords.owner c.args.words.now in
     let same = c.read-entry.ensures.same.0 ∙ c.loop-slot.invariant.owner in
     let value : c.read-entry.result ≡ entry_in o c.loop-link.at c.loop-slot.slot =
-        c.read-entry.ensures.value ∙ ap (λ (z : OwnerState). entry_in z c.loop-link.at c.loop-slot.slot) c.loop-slot.invariant.owner in
+    c.read-entry.ensures.value ∙ ap (λ (z : OwnerState). entry_in z c.loop-link.at c.loop-slot.slot) c.loop-slot.invariant.owner in
     let tag : c.tag_of-tag.result ≡ tag_of c.args.key.now = search rules in record {
       owner = c.names_key.ensures.same.0 ∙ same;
       home = c.names_key.ensures.same.1 ∙ (c.read-entry.ensures.same.1 ∙ c.loop-slot.invariant.home);
       kept = λ some. subst Kept same c.read-entry.ensures.kept;
       here = λ t less is. dite (ℕ_discrete t c.loop-slot.slot)
           (λ at.
-            let there : IsSlotOf o c.args.key.now c.loop-link.at c.loop-slot.slot = subst (IsSlotOf o c.args.key.now c.loop-link.at) at is in
-            let named = c.names_key.ensures.names.1 (
-              ap entry_tag value ∙ (there.0 ∙ sym tag),
-              subst (λ (z : ℕ). HasKey (g.W.OwnerWords.owner c.read-entry.new.self) (entry_offset z) c.args.key.now) (sym value)
+          let there : IsSlotOf o c.args.key.now c.loop-link.at c.loop-slot.slot = subst (IsSlotOf o c.args.key.now c.loop-link.at) at is in
+          let named = c.names_key.ensures.names.1 (
+            ap entry_tag value ∙ (there.0 ∙ sym tag),
+            subst (λ (z : ℕ). HasKey (g.W.OwnerWords.owner c.read-entry.new.self) (entry_offset z) c.args.key.now) (sym value)
                 (subst (λ (z : OwnerState). HasKey z (entry_offset (entry_in o c.loop-link.at c.loop-slot.slot)) c.args.key.now) (sym same) there.1),
-            ) in
-            cc)
+          ) in
+          cc)
           (λ n. c.loop-slot.invariant.here t (omega arith) is);
     }
 
@@ -68,7 +68,7 @@ returns-then-next-eq0-clause-found g c =
     let o : OwnerState = g.W.OwnerWords.owner c.args.words.now in
     let s : Chained o = chained o (subst Kept (c.read-next.ensures.same.0 ∙ c.loop-slot.invariant.owner) c.read-next.ensures.kept) in
     let value : c.read-next.result ≡ link_in o c.loop-link.at =
-        c.read-next.ensures.value ∙ ap (λ (z : OwnerState). link_in z c.loop-link.at) c.loop-slot.invariant.owner in
+    c.read-next.ensures.value ∙ ap (λ (z : OwnerState). link_in z c.loop-link.at) c.loop-slot.invariant.owner in
     let none : c.read-next.result ≡ 0 = search rules in
     let all : c.loop-slot.slot ≡ 15 = omega arith in
     none_at_end o s c.args.bucket c.requires.bucket (c.requires.index.dense c.args.bucket c.requires.bucket) c.args.key.now c.loop-link.link c.loop-link.at
@@ -80,7 +80,7 @@ loop-link-preserved g c =
     let same = c.read-next.ensures.same.0 ∙ c.loop-slot.invariant.owner in
     let kept : Kept o = subst Kept same c.read-next.ensures.kept in
     let value : c.read-next.result ≡ link_in o c.loop-link.at =
-        c.read-next.ensures.value ∙ ap (λ (z : OwnerState). link_in z c.loop-link.at) c.loop-slot.invariant.owner in
+    c.read-next.ensures.value ∙ ap (λ (z : OwnerState). link_in z c.loop-link.at) c.loop-slot.invariant.owner in
     let some : c.read-next.result ≢ 0 = search rules in record {
       owner = same;
       home = c.read-next.ensures.same.1 ∙ c.loop-slot.invariant.home;
@@ -95,7 +95,7 @@ returns-else-next-eq0-clause-found g c =
     let o : OwnerState = g.W.OwnerWords.owner c.args.words.now in
     let s : Chained o = chained o (subst Kept (c.read-next.ensures.same.0 ∙ c.loop-slot.invariant.owner) c.read-next.ensures.kept) in
     let value : c.read-next.result ≡ link_in o c.loop-link.at =
-        c.read-next.ensures.value ∙ ap (λ (z : OwnerState). link_in z c.loop-link.at) c.loop-slot.invariant.owner in
+    c.read-next.ensures.value ∙ ap (λ (z : OwnerState). link_in z c.loop-link.at) c.loop-slot.invariant.owner in
     let some : c.read-next.result ≢ 0 = search rules in
     let next = one_further o o refl c.args.bucket c.loop-link.link c.loop-link.at c.loop-link.invariant.walk s c.read-next.result value some in
     let known = ap (λ (z : Shape). z.spares) c.requires.index.shape in

@@ -15,7 +15,7 @@ returns-then-next-eq0-clause-last g c =
     let none : c.read-next.result ≡ 0 = search rules in
     end_found m (g.W.OwnerWords.owner c.args.words.now) c.loop-link.invariant.owner c.args.bucket c.loop-link.link c.loop-link.at c.loop-link.before w.here c.loop-link.invariant.behind
     (λ links used h. at_end m c.args.bucket links used h c.loop-link.link (w.near links used h)
-      (ap (link_in m) w.here ∙ (sym c.read-next.ensures.value ∙ none)))
+    (ap (link_in m) w.here ∙ (sym c.read-next.ensures.value ∙ none)))
 
 pub loop-link-preserved : goal.loop-link-preserved
 loop-link-preserved g c =
@@ -34,9 +34,9 @@ returns-clause-last g c =
     let w = c.loop-link.invariant.walk in
     end_found m (g.W.OwnerWords.owner c.args.words.now) c.loop-link.invariant.owner c.args.bucket c.loop-link.link c.loop-link.at c.loop-link.before w.here c.loop-link.invariant.behind
     (λ links used h.
-      let few = h.few in
-      let near = w.near links used h in
-      let same = ap (λ (z : OwnerState). z.shape.spares) c.loop-link.invariant.owner in
-      let known = ap (λ (z : Shape). z.spares) c.requires.index.shape in
-      let seen = ap (λ (z : Index). z.shape.spares) c.self.view_is in
-      omega arith)
+    let few = h.few in
+    let near = w.near links used h in
+    let same = ap (λ (z : OwnerState). z.shape.spares) c.loop-link.invariant.owner in
+    let known = ap (λ (z : Shape). z.spares) c.requires.index.shape in
+    let seen = ap (λ (z : Index). z.shape.spares) c.self.view_is in
+    omega arith)

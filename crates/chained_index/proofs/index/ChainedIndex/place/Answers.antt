@@ -31,7 +31,7 @@ put_entry-requires g c =
 -- the entry went into the last bucket
 pushed : (g : Over) (c : goal.After-put_entry g)
     → ChangesChain (g.W.OwnerWords.owner c.args.words.now) (g.W.OwnerWords.owner c.put_entry.new.self) c.args.bucket
-      (entries_of (g.W.OwnerWords.owner c.args.words.now) c.args.bucket ++ entry_of c.args.tag c.args.offset ∷ [])
+    (entries_of (g.W.OwnerWords.owner c.args.words.now) c.args.bucket ++ entry_of c.args.tag c.args.offset ∷ [])
     × IsIndexOf c.args.self.now (g.W.OwnerWords.owner c.put_entry.new.self)
 pushed g c =
     let o : OwnerState = g.W.OwnerWords.owner c.args.words.now in
@@ -41,8 +41,8 @@ pushed g c =
     let x : ℕ = entry_of c.args.tag c.args.offset in
     let some : x ≢ 0 = some_entry c.args.tag c.args.offset c.requires.tag in
     let is : p ≡ after (PutsEntry c.end_of-end.result.bucket c.end_of-end.result.used x) o = c.put_entry.ensures.event.0
-        ∙ (ap (after (PutsEntry c.end_of-end.result.bucket c.end_of-end.result.used c.entry_of-entry.result)) c.end_of-end.ensures.same.0
-        ∙ ap (λ (z : ℕ). after (PutsEntry c.end_of-end.result.bucket c.end_of-end.result.used z) o) c.entry_of-entry.ensures) in (
+    ∙ (ap (after (PutsEntry c.end_of-end.result.bucket c.end_of-end.result.used c.entry_of-entry.result)) c.end_of-end.ensures.same.0
+    ∙ ap (λ (z : ℕ). after (PutsEntry c.end_of-end.result.bucket c.end_of-end.result.used z) o) c.entry_of-entry.ensures) in (
       pushed_by o s c.args.bucket c.requires.bucket e.0 c.end_of-end.result e.1 x some p (chained p c.put_entry.ensures.kept) c.if-end-lt-SLOTS.true is,
       index_pushed_by o s c.args.bucket c.requires.bucket e.0 c.end_of-end.result e.1 x some p (chained p c.put_entry.ensures.kept) c.if-end-lt-SLOTS.true is
           c.args.self.now c.requires.index,
@@ -58,7 +58,7 @@ pub put_entry-requires-in-Some : goal.put_entry-requires-in-Some
 put_entry-requires-in-Some g c =
     let o : OwnerState = g.W.OwnerWords.owner c.args.words.now in
     let known = popped_last o c.self.inside.shape c.args.self.now c.self.inside.free.items c.pop.new.self.items c.pop.result c.in-Some.next
-        c.self.view_is c.pop.ensures.items c.in-Some.is c.requires.index in
+    c.self.view_is c.pop.ensures.items c.in-Some.is c.requires.index in
     let free = last_is_free o c.self.inside.shape c.pop.new.self.items c.in-Some.next known in
     subst (λ (z : OwnerState). MayPutEntry z c.in-Some.next 0) (sym c.end_of-end.ensures.same.0) record {
       its_bucket = its_spare o c.args.bucket c.in-Some.next c.requires.marked free;
@@ -73,16 +73,16 @@ put_link-requires g c =
     let next : ℕ = c.in-Some.next in
     let x : ℕ = c.entry_of-entry.result in
     let known = popped_last o c.self.inside.shape c.args.self.now c.self.inside.free.items c.pop.new.self.items c.pop.result c.in-Some.next
-        c.self.view_is c.pop.ensures.items c.in-Some.is c.requires.index in
+    c.self.view_is c.pop.ensures.items c.in-Some.is c.requires.index in
     let free = last_is_free o c.self.inside.shape c.pop.new.self.items c.in-Some.next known in
     subst (λ (z : OwnerState). MayPutLink z c.end_of-end.result.bucket next) (sym (c.put_entry-in-Some.ensures.event.0 ∙ ap (after (PutsEntry next 0 x)) c.end_of-end.ensures.same.0))
     (may_link o s next 0 x (omega arith) c.args.bucket c.end_of-end.result.bucket next c.requires.marked
-      (end_in_chain o s c.args.bucket c.requires.bucket e.0 c.end_of-end.result e.1) free (known.blank next free).no_link)
+    (end_in_chain o s c.args.bucket c.requires.bucket e.0 c.end_of-end.result e.1) free (known.blank next free).no_link)
 
 -- the entry went into a spare bucket
 taken : (g : Over) (c : goal.After-put_link g)
     → ChangesChain (g.W.OwnerWords.owner c.args.words.now) (g.W.OwnerWords.owner c.put_link.new.self) c.args.bucket
-      (entries_of (g.W.OwnerWords.owner c.args.words.now) c.args.bucket ++ entry_of c.args.tag c.args.offset ∷ [])
+    (entries_of (g.W.OwnerWords.owner c.args.words.now) c.args.bucket ++ entry_of c.args.tag c.args.offset ∷ [])
     × IsIndexOf (record { shape = c.self.inside.shape; free = c.pop.new.self.items }) (g.W.OwnerWords.owner c.put_link.new.self)
 taken g c =
     let o : OwnerState = g.W.OwnerWords.owner c.args.words.now in
@@ -94,14 +94,14 @@ taken g c =
     let x : ℕ = entry_of c.args.tag c.args.offset in
     let some : x ≢ 0 = some_entry c.args.tag c.args.offset c.requires.tag in
     let known = popped_last o c.self.inside.shape c.args.self.now c.self.inside.free.items c.pop.new.self.items c.pop.result c.in-Some.next
-        c.self.view_is c.pop.ensures.items c.in-Some.is c.requires.index in
+    c.self.view_is c.pop.ensures.items c.in-Some.is c.requires.index in
     let free = last_is_free o c.self.inside.shape c.pop.new.self.items c.in-Some.next known in
     let blank = known.blank next free in
     let within = e.1.shape.within in
     let full : c.end_of-end.result.used ≡ 15 = omega arith in
     let first : m ≡ after (PutsEntry next 0 x) o = c.put_entry-in-Some.ensures.event.0
-        ∙ (ap (after (PutsEntry next 0 c.entry_of-entry.result)) c.end_of-end.ensures.same.0
-        ∙ ap (λ (z : ℕ). after (PutsEntry next 0 z) o) c.entry_of-entry.ensures) in
+    ∙ (ap (after (PutsEntry next 0 c.entry_of-entry.result)) c.end_of-end.ensures.same.0
+    ∙ ap (λ (z : ℕ). after (PutsEntry next 0 z) o) c.entry_of-entry.ensures) in
     let middle = chained m c.put_entry-in-Some.ensures.kept in
     let last = chained p c.put_link.ensures.kept in (
       taken_by o s c.args.bucket c.requires.bucket e.0 c.end_of-end.result e.1 x some next free blank full m p middle last first c.put_link.ensures.event.0,

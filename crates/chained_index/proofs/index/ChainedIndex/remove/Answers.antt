@@ -19,7 +19,7 @@ read-entry-requires g c =
     let within = e.1.shape.within in
     let some = used_some o s c.args.bucket c.requires.bucket e.0 c.end_of-end.result e.1 c.args.spot c.requires.spot in (
       subst (λ (z : OwnerState). IsBucket z.shape c.end_of-end.result.bucket) (sym c.end_of-end.ensures.same.0)
-        (end_inside o s c.args.bucket c.requires.bucket e.0 c.end_of-end.result e.1),
+          (end_inside o s c.args.bucket c.requires.bucket e.0 c.end_of-end.result e.1),
       omega arith,
     )
 
@@ -54,8 +54,8 @@ put_link-requires g c =
     let t : Chained (store o) = chained (store o) (subst Kept first c.put_entry.ensures.kept) in
     subst (λ (z : OwnerState). MayPutLink z c.end_of-end.result.before 0) (sym (c.put_entry-2.ensures.event.0 ∙ ap drop first))
     (may_cut (store o) t c.end_of-end.result.bucket (c.end_of-end.result.used - 1) 0 (omega arith) c.args.bucket c.end_of-end.result.before c.requires.marked
-      (chain_still o s c.args.spot.bucket c.args.spot.slot y c.requires.spot.in_bucket c.args.bucket c.end_of-end.result.before
-      (before_in_chain o s c.args.bucket c.requires.bucket e.0 c.end_of-end.result e.1 c.if-end-bucket.true)))
+    (chain_still o s c.args.spot.bucket c.args.spot.slot y c.requires.spot.in_bucket c.args.bucket c.end_of-end.result.before
+    (before_in_chain o s c.args.bucket c.requires.bucket e.0 c.end_of-end.result e.1 c.if-end-bucket.true)))
 
 pub push_reserved-requires : goal.push_reserved-requires
 push_reserved-requires g c =
@@ -83,7 +83,7 @@ returns-then-end-bucket-clause-entries g c =
     let first : g.W.OwnerWords.owner c.put_entry.new.self ≡ store o = c.put_entry.ensures.event.0 ∙ ap store (c.read-entry.ensures.same.0 ∙ c.end_of-end.ensures.same.0) in
     let t : Chained (store o) = chained (store o) (subst Kept first c.put_entry.ensures.kept) in
     let last : y ≡ entry_in o c.end_of-end.result.bucket slot =
-        c.read-entry.ensures.value ∙ ap (λ (z : OwnerState). entry_in z c.end_of-end.result.bucket slot) c.end_of-end.ensures.same.0 in
+    c.read-entry.ensures.value ∙ ap (λ (z : OwnerState). entry_in z c.end_of-end.result.bucket slot) c.end_of-end.ensures.same.0 in
     released_by_call o s c.args.bucket c.requires.bucket e.0 c.end_of-end.result e.1 c.args.spot c.requires.spot y last t c.if-last-eq0.true c.if-end-bucket.true q p
     (chained q c.put_entry-2.ensures.kept) (chained p c.put_link.ensures.kept) (c.put_entry-2.ensures.event.0 ∙ ap drop first) c.put_link.ensures.event.0
 
@@ -101,12 +101,12 @@ returns-then-end-bucket-clause-index g c =
     let first : g.W.OwnerWords.owner c.put_entry.new.self ≡ store o = c.put_entry.ensures.event.0 ∙ ap store (c.read-entry.ensures.same.0 ∙ c.end_of-end.ensures.same.0) in
     let t : Chained (store o) = chained (store o) (subst Kept first c.put_entry.ensures.kept) in
     let last : y ≡ entry_in o c.end_of-end.result.bucket slot =
-        c.read-entry.ensures.value ∙ ap (λ (z : OwnerState). entry_in z c.end_of-end.result.bucket slot) c.end_of-end.ensures.same.0 in
+    c.read-entry.ensures.value ∙ ap (λ (z : OwnerState). entry_in z c.end_of-end.result.bucket slot) c.end_of-end.ensures.same.0 in
     let index = subst (λ (z : Index). IsIndexOf z o) (sym c.self.view_is) c.requires.index in
     subst (λ (z : List ℕ). IsIndexOf (record { shape = c.self.inside.shape; free = z }) p) (sym c.push_reserved.ensures.items)
     (index_released_by_call o s c.args.bucket c.requires.bucket e.0 c.end_of-end.result e.1 c.args.spot c.requires.spot y last t c.if-last-eq0.true c.if-end-bucket.true q p
-      (chained q c.put_entry-2.ensures.kept) (chained p c.put_link.ensures.kept) (c.put_entry-2.ensures.event.0 ∙ ap drop first) c.put_link.ensures.event.0
-      c.self.inside.shape c.self.inside.free.items index)
+    (chained q c.put_entry-2.ensures.kept) (chained p c.put_link.ensures.kept) (c.put_entry-2.ensures.event.0 ∙ ap drop first) c.put_link.ensures.event.0
+    c.self.inside.shape c.self.inside.free.items index)
 
 pub returns-else-last-eq0-clause-entries : goal.returns-else-last-eq0-clause-entries
 returns-else-last-eq0-clause-entries g c =
@@ -121,7 +121,7 @@ returns-else-last-eq0-clause-entries g c =
     let first : g.W.OwnerWords.owner c.put_entry.new.self ≡ store o = c.put_entry.ensures.event.0 ∙ ap store (c.read-entry.ensures.same.0 ∙ c.end_of-end.ensures.same.0) in
     let t : Chained (store o) = chained (store o) (subst Kept first c.put_entry.ensures.kept) in
     let last : y ≡ entry_in o c.end_of-end.result.bucket slot =
-        c.read-entry.ensures.value ∙ ap (λ (z : OwnerState). entry_in z c.end_of-end.result.bucket slot) c.end_of-end.ensures.same.0 in
+    c.read-entry.ensures.value ∙ ap (λ (z : OwnerState). entry_in z c.end_of-end.result.bucket slot) c.end_of-end.ensures.same.0 in
     let stays = end_stays o s c.args.bucket c.requires.bucket e.0 c.end_of-end.result e.1 c.else-last-eq0.either in
     removed_by o s c.args.bucket c.requires.bucket e.0 c.end_of-end.result e.1 c.args.spot c.requires.spot y last t stays p
     (chained p c.put_entry-2.ensures.kept) (c.put_entry-2.ensures.event.0 ∙ ap drop first)
@@ -139,7 +139,7 @@ returns-else-last-eq0-clause-index g c =
     let first : g.W.OwnerWords.owner c.put_entry.new.self ≡ store o = c.put_entry.ensures.event.0 ∙ ap store (c.read-entry.ensures.same.0 ∙ c.end_of-end.ensures.same.0) in
     let t : Chained (store o) = chained (store o) (subst Kept first c.put_entry.ensures.kept) in
     let last : y ≡ entry_in o c.end_of-end.result.bucket slot =
-        c.read-entry.ensures.value ∙ ap (λ (z : OwnerState). entry_in z c.end_of-end.result.bucket slot) c.end_of-end.ensures.same.0 in
+    c.read-entry.ensures.value ∙ ap (λ (z : OwnerState). entry_in z c.end_of-end.result.bucket slot) c.end_of-end.ensures.same.0 in
     let stays = end_stays o s c.args.bucket c.requires.bucket e.0 c.end_of-end.result e.1 c.else-last-eq0.either in
     index_removed_by o s c.args.bucket c.requires.bucket e.0 c.end_of-end.result e.1 c.args.spot c.requires.spot y last t stays p
     (chained p c.put_entry-2.ensures.kept) (c.put_entry-2.ensures.event.0 ∙ ap drop first) c.args.self.now c.requires.index

@@ -1,1 +1,0 @@
-use Rattle.chained_index.proofs.Calls.{swap_is}
