@@ -17,7 +17,7 @@ limit_of version = 1472
 
 -- how many bytes a datagram of any version may have
 abbrev pub largest_limit : ℕ
-largest_limit = 1472
+largest_limit = limit_of 1
 
 -- how many bytes a value of a version may have
 abbrev pub value_limit : ℕ → ℕ

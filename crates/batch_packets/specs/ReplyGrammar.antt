@@ -69,6 +69,7 @@ replies_kind = record {
   magic = replies_magic;
   fixed = 16;
   is_known = λ version bytes. is_status version (status_at bytes) && (slice_index bytes 1 == 0);
-  is_allowed = λ version bytes. nat_le (value_len_at bytes) (longest_value version (status_at bytes));
+  is_allowed = λ version bytes.
+      nat_le (value_len_at bytes) (longest_value version (status_at bytes));
   size = λ bytes. 16 + value_len_at bytes;
 }

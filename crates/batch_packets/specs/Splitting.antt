@@ -15,8 +15,8 @@ pub record BeginsWith (version : ℕ) (replies group later : List Reply) : Type 
   pub fits : FitsDatagram reply_text version group
   pub full : HasNoRoom version group later
 
--- The replies split into datagrams of one number, in order: each datagram is the text of as many of the
--- replies that are left as fit, and no replies give no datagram.
+-- The replies split into datagrams of one number, in order: each datagram is the text of as many of
+-- the replies that are left as fit. No replies give no datagram.
 abbrev pub SplitsInto : ℕ → ℕ → List Reply → List (List ℕ) → Type 0
 SplitsInto version number replies [] = replies ≡ []
 SplitsInto version number replies (datagram ∷ datagrams) =

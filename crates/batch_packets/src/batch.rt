@@ -2,6 +2,7 @@ ghost use Rattle.std.specs.Prelude.{◌≡◌, false, IfOk, IfSome, IfNone, IsOk
 ghost use Rattle.batch_packets.specs.Faults.{AgreesWith};
 ghost use Rattle.batch_packets.specs.Datagram.{first_fault};
 
+use crate::header::VALUE_LIMIT;
 use crate::item::{Item, len_of, read_datagram, write_datagram};
 use crate::{BatchFault, Datagram};
 use mica_io::{Bytes, NoMemory};
@@ -98,7 +99,7 @@ impl Want {
         ensures { result ≡ longest_value 1 (operation_of self) }
     {
         match self {
-            Want::Put => 1024,
+            Want::Put => VALUE_LIMIT,
             Want::Get | Want::Del => 0,
         }
     }

@@ -14,6 +14,9 @@ pub const HEADER_LEN: usize = 10;
 /// The most bytes of a datagram.
 pub const LIMIT: usize = 1472;
 
+/// The most bytes of a value.
+pub const VALUE_LIMIT: usize = 1024;
+
 /// The most items of a datagram.
 pub const MOST: usize = 255;
 

@@ -1,8 +1,8 @@
 //! Datagrams of the server as bytes: a batch of requests, and the replies to it.
 //!
-//! What is read is the batch, or the replies, whose text the bytes are. A fault is the first one in the
-//! order of the format, and comes exactly there. What is written is the text. No two batches have one
-//! text, nor two lists of replies.
+//! What is read is the batch, or the replies, whose text the bytes are. A fault is the first one in
+//! the order of the format, and comes exactly there; want of memory alone is free. What is written is
+//! the text. Bytes are the text of at most one batch, and of at most one list of replies.
 #![tactic(auto)]
 
 mod batch;

@@ -2,7 +2,7 @@ ghost use Rattle.std.specs.Prelude.{◌≡◌, ◌<◌, ◌≤◌, ◌+◌, leng
 ghost use Rattle.batch_packets.specs.Faults.{AgreesWith};
 ghost use Rattle.batch_packets.specs.Datagram.{first_fault};
 
-use crate::header::{HEADER_LEN, LIMIT, MOST, read_u64};
+use crate::header::{HEADER_LEN, LIMIT, MOST, VALUE_LIMIT, read_u64};
 use crate::item::{Item, read_datagram, write_datagram};
 use crate::{BatchFault, Datagram};
 use mica_io::{Bytes, NoMemory};
@@ -12,7 +12,8 @@ use std::marker::Model;
 /// The reply to one request, whose ticket it repeats. The value is empty unless it is a hit.
 #[derive(Debug, Drop)]
 pub struct Reply {
-    /// 0 hit, 1 miss, 2 stored, 3 deleted, 4 absent, 5 full spare, 6 full block, 7 worn, 9 bad batch.
+    /// 0 hit, 1 miss, 2 stored, 3 deleted, 4 absent, 5 full spare, 6 full block, 7 worn, or 9 bad
+    /// batch.
     pub status: u8,
     pub ticket: u32,
     pub stamp: u64,
@@ -77,7 +78,7 @@ fn is_status(byte: u8) -> bool
 fn longest_value(status: u8) -> usize
     ensures { result ≡ longest_value 1 status }
 {
-    if status == 0 { 1024 } else { 0 }
+    if status == 0 { VALUE_LIMIT } else { 0 }
 }
 
 impl Item for Reply {
@@ -161,7 +162,8 @@ fn fitting(replies: &[Reply]) -> (usize, usize)
     requires lawful { All (IsReply 1) replies.now }
     requires some { 0 < length replies.now }
     ensures within { result.0 ≤ length replies.now }
-    ensures begin { BeginsWith 1 replies.now (take result.0 replies.now) (drop result.0 replies.now) }
+    ensures begin { BeginsWith 1 replies.now
+        (take result.0 replies.now) (drop result.0 replies.now) }
     ensures len { result.1 ≡ 10 + length (flat_map reply_text (take result.0 replies.now)) }
 {
     let mut len = HEADER_LEN;

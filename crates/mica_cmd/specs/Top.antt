@@ -36,36 +36,38 @@ pub record IsRefusalOf (input : Option (List ℕ)) (text : List ℕ) : Type 0 wh
   pub refused : IfSome input (λ bytes. ¬ (IsTooLong bytes) × Refuses bytes fault × IsNoTrace bytes)
   pub spelled : text ≡ line_of (fault_text fault)
 
--- What is due for a command and for the bytes that the source has, where it tells them: the status, and the text that is then written.
-abbrev pub IsDue : Option Command → Option (List ℕ) → Status → List ℕ → Type 0
-IsDue None input Usage text = text ≡ line_of (codes "usage")
-IsDue (Some (Replay options)) input Done text = IsReportOf options input text
-IsDue (Some (Replay options)) input TraceRefused text = IsRefusalOf input text
-IsDue (Some (Replay options)) input TraceLong text = IfSome input IsTooLong × (text ≡ line_of (codes "trace too long"))
-IsDue (Some (Replay options)) input ReadFault text = text ≡ line_of (codes "read fault")
-IsDue _ input _ text = ⊥
+-- What is due for a command, for the bytes that the source has, where it tells them, and where a read may have failed: the status, and the
+-- text that is then written.
+abbrev pub IsDue : Option Command → Option (List ℕ) → Type 0 → Status → List ℕ → Type 0
+IsDue None input read_failed Usage text = text ≡ line_of (codes "usage")
+IsDue (Some (Replay options)) input read_failed Done text = IsReportOf options input text
+IsDue (Some (Replay options)) input read_failed TraceRefused text = IsRefusalOf input text
+IsDue (Some (Replay options)) input read_failed TraceLong text = IfSome input IsTooLong × (text ≡ line_of (codes "trace too long"))
+IsDue (Some (Replay options)) input read_failed ReadFault text = read_failed × (text ≡ line_of (codes "read fault"))
+IsDue _ input read_failed _ text = ⊥
 
 -- the sink took a proper prefix of the text
 abbrev pub AppendsPart : Option (List ℕ) → Option (List ℕ) → List ℕ → Type 0
 AppendsPart before after text = (n : ℕ) × (n < length text) × Appends before after (take n text)
 
 -- What the sink took at each status: the due text; a proper prefix of what was due, where a write failed; or nothing, for want of memory.
-abbrev pub Ends : Option Command → Option (List ℕ) → Status → Option (List ℕ) → Option (List ℕ) → Type 0
-Ends command input WriteFault before after =
-    (status : Status) × (text : List ℕ) × IsDue command input status text × AppendsPart before after text
-Ends command input NoMemory before after = Keeps before after
-Ends command input status before after = (text : List ℕ) × IsDue command input status text × Appends before after text
+abbrev pub Ends : Option Command → Option (List ℕ) → Type 0 → Type 0 → Status → Option (List ℕ) → Option (List ℕ) → Type 0
+Ends command input read_failed write_failed WriteFault before after =
+    write_failed × ((status : Status) × (text : List ℕ) × IsDue command input read_failed status text × AppendsPart before after text)
+Ends command input read_failed write_failed NoMemory before after = Keeps before after
+Ends command input read_failed write_failed status before after =
+    (text : List ℕ) × IsDue command input read_failed status text × Appends before after text
 
--- the text was written as due with the status, or a part of it, at a fault
-abbrev pub IsWritten : Status → List ℕ → Status → Option (List ℕ) → Option (List ℕ) → Type 0
-IsWritten status text result before after =
-    ((result ≡ status) × Appends before after text) ⊎ ((result ≡ WriteFault) × AppendsPart before after text)
+-- the text was written as due with the status, or a part of it, where a write failed
+abbrev pub IsWritten : Status → List ℕ → Type 0 → Status → Option (List ℕ) → Option (List ℕ) → Type 0
+IsWritten status text write_failed result before after =
+    ((result ≡ status) × Appends before after text) ⊎ ((result ≡ WriteFault) × write_failed × AppendsPart before after text)
 
 -- what became of a trace that was refused for the fault
-abbrev pub IsRefusedWith : TraceFault → Status → Option (List ℕ) → Option (List ℕ) → Type 0
-IsRefusedWith fault result before after =
+abbrev pub IsRefusedWith : TraceFault → Type 0 → Status → Option (List ℕ) → Option (List ℕ) → Type 0
+IsRefusedWith fault write_failed result before after =
     ((result ≡ NoMemory) × Keeps before after)
-    ⊎ ((fault ≢ NoRoom) × IsWritten TraceRefused (line_of (fault_text fault)) result before after)
+    ⊎ ((fault ≢ NoRoom) × IsWritten TraceRefused (line_of (fault_text fault)) write_failed result before after)
 
 -- The headline: the source was read to its end and gave a trace, and the sink took the text of a lawful report of it, and nothing else.
 pub record PrintsLawfully (options : Options) (input rest before after : Option (List ℕ)) : Type 0 where

@@ -21,8 +21,8 @@ pub const MAX_SOURCE_LEN: usize = 16_777_216;
 // Writes the text that is due with a status. Where that fails, the status is `WriteFault` instead.
 fn write_due<K: Sink>(sink: &mut K, text: &[u8], status: Status) -> Status
     requires { status ≢ Status.WriteFault }
-    ensures written { IsWritten status text.now result (K.taken sink.old) (K.taken sink.new) }
-    ensures cause { result ≡ Status.WriteFault → Rose (K.faults sink.old) (K.faults sink.new) }
+    ensures { IsWritten status text.now (Rose (K.faults sink.old) (K.faults sink.new)) result
+        (K.taken sink.old) (K.taken sink.new) }
 {
     match write_all(sink, text) {
         Ok(()) => status,
@@ -32,8 +32,8 @@ fn write_due<K: Sink>(sink: &mut K, text: &[u8], status: Status) -> Status
 
 // Writes the line that names why a trace is refused.
 fn refuse<K: Sink>(alloc: Global, sink: &mut K, fault: TraceFault) -> Status
-    ensures written { IsRefusedWith fault result (K.taken sink.old) (K.taken sink.new) }
-    ensures cause { result ≡ Status.WriteFault → Rose (K.faults sink.old) (K.faults sink.new) }
+    ensures { IsRefusedWith fault (Rose (K.faults sink.old) (K.faults sink.new)) result
+        (K.taken sink.old) (K.taken sink.new) }
 {
     if fault == TraceFault::NoMemory {
         return Status::NoMemory;
@@ -56,9 +56,9 @@ fn replay_source<S: Source, K: Sink>(
 
     ensures headline { result ≡ Status.Done → Headline (Some (Replay options.now))
         (S.left source.old) (S.left source.new) (K.taken sink.old) (K.taken sink.new) }
-    ensures ended { Ends (Some (Replay options.now)) (S.left source.old) result (K.taken sink.old) (K.taken sink.new) }
-    ensures read_fault { result ≡ Status.ReadFault → Rose (S.faults source.old) (S.faults source.new) }
-    ensures write_fault { result ≡ Status.WriteFault → Rose (K.faults sink.old) (K.faults sink.new) }
+    ensures ended { Ends (Some (Replay options.now)) (S.left source.old)
+        (Rose (S.faults source.old) (S.faults source.new)) (Rose (K.faults sink.old) (K.faults sink.new))
+        result (K.taken sink.old) (K.taken sink.new) }
     ensures took { (bytes : List ℕ) × (length bytes ≤ MAX_SOURCE_LEN + 1)
         × Consumes (S.left source.old) (S.left source.new) bytes }
 {
@@ -91,11 +91,10 @@ pub fn mica<S: Source, K: Sink>(
     ensures headline { result ≡ Status.Done → Headline (command_of (map string_bytes words.now))
         (S.left source.old) (S.left source.new) (K.taken sink.old) (K.taken sink.new) }
 
-    // Each status has its cause in the words and the bytes, and the sink took what is due with it.
-    ensures ended { Ends (command_of (map string_bytes words.now)) (S.left source.old) result
-        (K.taken sink.old) (K.taken sink.new) }
-    ensures read_fault { result ≡ Status.ReadFault → Rose (S.faults source.old) (S.faults source.new) }
-    ensures write_fault { result ≡ Status.WriteFault → Rose (K.faults sink.old) (K.faults sink.new) }
+    // Each status has its cause in the words, the bytes or a fault, and the sink took what is due with it.
+    ensures ended { Ends (command_of (map string_bytes words.now)) (S.left source.old)
+        (Rose (S.faults source.old) (S.faults source.new)) (Rose (K.faults sink.old) (K.faults sink.new))
+        result (K.taken sink.old) (K.taken sink.new) }
 
     // A trace within its limits is replayed.
     ensures complete { IsReplayOfTrace (command_of (map string_bytes words.now)) (S.left source.old)

@@ -48,10 +48,10 @@ module _ (a : Inside) (t : IsTable a) where
       ap (λ fs. from_sorted {R = by_bytes} (entries_of fs)) new ∙ removed_cell a.cells.entries (sorted_entries a.cells.entries t.ordered) key
 
   module _ (key : List ℕ) (bucket : ℕ) (is : bucket ≡ bucket_of key a.buckets) (within : bucket < a.buckets) where
-    pub count_is : slice_index a.keys.keys.items bucket ≡ keys_in a.buckets bucket (cells_of a)
+    pub count_is : slice_index a.counts.keys.items bucket ≡ keys_in a.buckets bucket (cells_of a)
     count_is = t.counts bucket within
 
-    pub counted : spares_behind (slice_index a.keys.keys.items bucket) ≤ a.keys.spares
+    pub counted : spares_behind (slice_index a.counts.keys.items bucket) ≤ a.counts.spares
     counted =
         let among = spares_among a.buckets bucket (cells_of a) a.buckets within in
         let sum = t.spares in
@@ -60,14 +60,14 @@ module _ (a : Inside) (t : IsTable a) where
 
     -- one more key, in this list and this number
     module _ (cell : Cell) (new : get (cells_of a) key ≡ None) where
-      pub more_counts : (counts : List ℕ) (k : ℕ) → k ≡ slice_index a.keys.keys.items bucket + 1 → counts ≡ slice_set a.keys.keys.items bucket k → HasCounts a.buckets counts (insert (cells_of a) key cell)
+      pub more_counts : (counts : List ℕ) (k : ℕ) → k ≡ slice_index a.counts.keys.items bucket + 1 → counts ≡ slice_set a.counts.keys.items bucket k → HasCounts a.buckets counts (insert (cells_of a) key cell)
       more_counts counts k one set =
           subst (λ xs. HasCounts a.buckets xs (insert (cells_of a) key cell)) (sym set)
-          (counts_change a.buckets a.keys.keys.items (cells_of a) (insert (cells_of a) key cell) bucket k t.len within t.counts
+          (counts_change a.buckets a.counts.keys.items (cells_of a) (insert (cells_of a) key cell) bucket k t.len within t.counts
           (new_here a.buckets bucket (cells_of a) key is within cell new ∙ ap (λ n. n + 1) (sym count_is) ∙ sym one)
           (new_others a.buckets bucket (cells_of a) key is within cell new))
 
-      pub more_spares : (spares k : ℕ) → k ≡ slice_index a.keys.keys.items bucket + 1 → spares + spares_behind (slice_index a.keys.keys.items bucket) ≡ a.keys.spares + spares_behind k
+      pub more_spares : (spares k : ℕ) → k ≡ slice_index a.counts.keys.items bucket + 1 → spares + spares_behind (slice_index a.counts.keys.items bucket) ≡ a.counts.spares + spares_behind k
           → spares ≡ spares_in_use a.buckets (insert (cells_of a) key cell)
       more_spares spares k one set =
           let step = new_spares a.buckets bucket (cells_of a) key is within cell new in
@@ -79,18 +79,18 @@ module _ (a : Inside) (t : IsTable a) where
 
     -- one key less
     module _ (old : Cell) (had : get (cells_of a) key ≡ Some old) where
-      pub less_count : slice_index a.keys.keys.items bucket ≡ keys_in a.buckets bucket (remove (cells_of a) key) + 1
+      pub less_count : slice_index a.counts.keys.items bucket ≡ keys_in a.buckets bucket (remove (cells_of a) key) + 1
       less_count = count_is ∙ less_here a.buckets bucket (cells_of a) key is within old had
 
-      pub less_counts : (counts : List ℕ) (k : ℕ) → k + 1 ≡ slice_index a.keys.keys.items bucket → counts ≡ slice_set a.keys.keys.items bucket k → HasCounts a.buckets counts (remove (cells_of a) key)
+      pub less_counts : (counts : List ℕ) (k : ℕ) → k + 1 ≡ slice_index a.counts.keys.items bucket → counts ≡ slice_set a.counts.keys.items bucket k → HasCounts a.buckets counts (remove (cells_of a) key)
       less_counts counts k one set =
           let left = less_count in
           subst (λ xs. HasCounts a.buckets xs (remove (cells_of a) key)) (sym set)
-          (counts_change a.buckets a.keys.keys.items (cells_of a) (remove (cells_of a) key) bucket k t.len within t.counts
+          (counts_change a.buckets a.counts.keys.items (cells_of a) (remove (cells_of a) key) bucket k t.len within t.counts
           (omega arith)
           (less_others a.buckets bucket (cells_of a) key is within old had))
 
-      pub spares_left : (spares k : ℕ) → k + 1 ≡ slice_index a.keys.keys.items bucket → spares + spares_behind (slice_index a.keys.keys.items bucket) ≡ a.keys.spares + spares_behind k
+      pub spares_left : (spares k : ℕ) → k + 1 ≡ slice_index a.counts.keys.items bucket → spares + spares_behind (slice_index a.counts.keys.items bucket) ≡ a.counts.spares + spares_behind k
           → spares ≡ spares_in_use a.buckets (remove (cells_of a) key)
       spares_left spares k one set =
           let step = less_spares a.buckets bucket (cells_of a) key is within old had in

@@ -27,9 +27,8 @@ HasCounts buckets counts cells = (bucket : ℕ) → bucket < buckets → slice_i
 pub record IsTable (a : Inside) : Type 0 where
   pub ordered : IsOrdered (λ x y. slice_cmp nat_cmp x.items y.items) a.cells
   pub some : 1 ≤ a.buckets
-  pub few : a.buckets ≤ 65536
-  pub len : length a.keys.keys.items ≡ a.buckets
-  pub counts : HasCounts a.buckets a.keys.keys.items (cells_of a)
-  pub spares : a.keys.spares ≡ spares_in_use a.buckets (cells_of a)
-  pub small : a.keys.spares < 2 ^ 32
+  pub len : length a.counts.keys.items ≡ a.buckets
+  pub counts : HasCounts a.buckets a.counts.keys.items (cells_of a)
+  pub spares : a.counts.spares ≡ spares_in_use a.buckets (cells_of a)
+  pub small : a.counts.spares < 2 ^ 32
   pub rooms : a.rooms ≡ rooms (cells_of a)

@@ -1,5 +1,5 @@
-// What a store machine keeps: the cells of its keys, with the numbers that a put asks for.
-ghost use Rattle.std.specs.Prelude.{◌≡◌, ◌+◌, ◌<◌, ◌≤◌, ◌^◌, ◌%◌, is_some, IfOk, OnOk, OnErr, IsTrue, ◌↔◌};
+// The cells of a partition's keys, with the numbers that a put asks for: so no put counts keys or adds up rooms.
+ghost use Rattle.std.specs.Prelude.{◌≡◌, ◌+◌, ◌<◌, ◌≤◌, ◌^◌, ◌%◌, IfOk, OnOk, OnErr, IsTrue, ◌↔◌};
 ghost use Rattle.std.specs.FinMap.{empty, get, insert, remove};
 ghost use Rattle.std.specs.Option.{option_map};
 ghost use Rattle.mica_words.specs.Hash.{bucket_of};
@@ -19,7 +19,7 @@ use std::marker::Model;
 pub struct CellTable {
     buckets: u32,
     cells: BTreeMap<Vec<u8>, Cell>,
-    keys: BucketKeys,
+    counts: BucketKeys,
     // The words of all rooms.
     rooms: u32,
 }
@@ -40,14 +40,13 @@ impl Model for CellTable {
 
 impl CellTable {
     pub fn new(alloc: Global, buckets: u32) -> Result<Self, NoMemory>
-        requires some { 1 ≤ buckets }
-        requires few { buckets ≤ 65536 }
+        requires { 1 ≤ buckets }
         ensures { IfOk result (λ table. table ≡ record { buckets = buckets; cells = empty }) }
     {
         Ok(CellTable {
             buckets,
             cells: BTreeMap::new(alloc),
-            keys: BucketKeys::new(alloc, buckets)?,
+            counts: BucketKeys::new(alloc, buckets)?,
             rooms: 0,
         })
     }
@@ -75,8 +74,8 @@ impl CellTable {
     pub fn lacks_spare(&self, key: &[u8], spares: u32) -> bool
         ensures { IsTrue result ↔ LacksSpare self.now key.now spares }
     {
-        let keys = self.keys.keys[self.bucket_of(key)];
-        is_full(keys) && self.keys.spares == spares
+        let keys = self.counts.keys[self.bucket_of(key)];
+        is_full(keys) && self.counts.spares == spares
     }
 
     #[tactic(auto, unfolding(mica_words::specs::Hash::bucket_of))]
@@ -111,8 +110,8 @@ impl CellTable {
             Some(old) => self.rooms = self.rooms - old.room + room,
             None => {
                 self.rooms += room;
-                let keys = self.keys.keys[bucket] + 1;
-                self.keys.set(bucket, keys);
+                let keys = self.counts.keys[bucket] + 1;
+                self.counts.set(bucket, keys);
             }
         }
         Ok(())
@@ -125,8 +124,8 @@ impl CellTable {
         let bucket = self.bucket_of(key);
         if let Some(old) = self.cells.remove(key) {
             self.rooms -= old.room;
-            let keys = self.keys.keys[bucket] - 1;
-            self.keys.set(bucket, keys);
+            let keys = self.counts.keys[bucket] - 1;
+            self.counts.set(bucket, keys);
         }
     }
 }

@@ -34,15 +34,18 @@ returns-in-Ok-Replay-clause-complete g c =
     let before = g.K.Sink.taken c.args.sink.now in
     let after = g.K.Sink.taken c.replay_source.new.sink in
     let result = c.replay_source.result in
-    let ends = at_replay options_of (λ command options. Ends (Some (Replay options)) left result before after → Ends (Some command) left result before after) (λ options is. is)
+    let read_failed = Rose (g.S.Source.faults c.args.source.now) (g.S.Source.faults c.replay_source.new.source) in
+    let write_failed = Rose (g.K.Sink.faults c.args.sink.now) (g.K.Sink.faults c.replay_source.new.sink) in
+    let ends = at_replay options_of (λ command options. Ends (Some (Replay options)) left read_failed write_failed result before after → Ends (Some command) left read_failed write_failed result before after) (λ options is. is)
         c.in-Ok-Replay.field-0 c.replay_source.ensures.ended in
-    complete _ left before after result (Rose (g.S.Source.faults c.args.source.now) (g.S.Source.faults c.replay_source.new.source))
-    (Rose (g.K.Sink.faults c.args.sink.now) (g.K.Sink.faults c.replay_source.new.sink))
-    (subst (λ command. Ends command left result before after) (sym c.in-Ok-Replay.ensures.command) ends) c.replay_source.ensures.read_fault c.replay_source.ensures.write_fault
+    complete read_failed write_failed _ left before after result
+    (subst (λ command. Ends command left read_failed write_failed result before after) (sym c.in-Ok-Replay.ensures.command) ends)
 
 pub returns-in-Err-Usage-clause-ended : goal.returns-in-Err-Usage-clause-ended
 returns-in-Err-Usage-clause-ended g c =
     let none : command_of (map string_bytes c.args.words.now) ≡ None = c.in-Err-Usage.ensures.usage c.in-Err-Usage.field-0-is in
-    subst (λ command. Ends command (g.S.Source.left c.args.source.now) c.write_due.result (g.K.Sink.taken c.args.sink.now) (g.K.Sink.taken c.write_due.new.sink)) (sym none)
-    (due_ends None (g.S.Source.left c.args.source.now) (g.K.Sink.taken c.args.sink.now) (g.K.Sink.taken c.write_due.new.sink)
-    Usage (line_of (codes "usage")) c.write_due.result refl c.write_due.ensures.written)
+    let read_failed = Rose (g.S.Source.faults c.args.source.now) (g.S.Source.faults c.args.source.now) in
+    let write_failed = Rose (g.K.Sink.faults c.args.sink.now) (g.K.Sink.faults c.write_due.new.sink) in
+    subst (λ command. Ends command (g.S.Source.left c.args.source.now) read_failed write_failed c.write_due.result (g.K.Sink.taken c.args.sink.now) (g.K.Sink.taken c.write_due.new.sink)) (sym none)
+    (due_ends read_failed write_failed None (g.S.Source.left c.args.source.now) (g.K.Sink.taken c.args.sink.now) (g.K.Sink.taken c.write_due.new.sink)
+    Usage (line_of (codes "usage")) c.write_due.result refl c.write_due.ensures)

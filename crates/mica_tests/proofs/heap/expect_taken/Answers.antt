@@ -1,4 +1,4 @@
-use Rattle.std.proofs.Common.{rules, ℕ}
+use Rattle.std.proofs.Common.{rules}
 use Rattle.block_heap.specs.Changes.{IsTaken}
 use Rattle.mica_tests.proofs.Held.{used_after_take}
 use Rattle.mica_tests.proofs.heap.expect_taken.Goals as goal

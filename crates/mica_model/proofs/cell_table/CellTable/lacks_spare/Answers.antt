@@ -17,7 +17,7 @@ returns-else-is_full c =
     let is = c.bucket_of.ensures.value ∙ ap (λ (u : Table). bucket_of key u.buckets) (sym c.self.view_is) in
     let within = subst (λ (u : Table). bucket < u.buckets) (sym c.self.view_is) c.bucket_of.ensures.within in
     let count : c.index-keys.result.now ≡ keys_in a.buckets (bucket_of key a.buckets) (cells_of a) =
-    c.index-keys.ensures ∙ get_or_default_zero a.keys.keys.items bucket c.index-keys.result.now (subst (λ n. bucket < n) (sym t.len) within)
+    c.index-keys.ensures ∙ get_or_default_zero a.counts.keys.items bucket c.index-keys.result.now (subst (λ n. bucket < n) (sym t.len) within)
     ∙ count_is a t key bucket is within ∙ ap (λ b. keys_in a.buckets b (cells_of a)) is in (
       λ full. absurd (false≢true (sym c.if-is_full.false ∙ full)),
       λ lacks. let here = subst (λ u. LacksSpare u key c.args.spares) (sym c.self.view_is) lacks in

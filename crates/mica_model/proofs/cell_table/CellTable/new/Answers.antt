@@ -16,8 +16,7 @@ invariant_of-result c =
     ∙ sym (ap (keys_in c.args.buckets bucket) none ∙ no_keys c.args.buckets bucket) in
     record {
       ordered = c.new.ensures.ordered;
-      some = c.requires.some;
-      few = c.requires.few;
+      some = c.requires;
       len = ap length c.in_ok-new.ensures.keys ∙ length-replicate _ _;
       counts = counts;
       spares = c.in_ok-new.ensures.spares ∙ sym (ap (spares_in_use c.args.buckets) none ∙ no_spares c.args.buckets c.args.buckets);

@@ -47,9 +47,8 @@ invariant_of-self-in-Some c =
     record {
       ordered = c.in_ok-old.ensures.ordered;
       some = t.some;
-      few = t.few;
       len = t.len;
-      counts = subst (HasCounts a.buckets a.keys.keys.items) (sym new) (λ bucket within. t.counts bucket within ∙ sym (keys_over a.buckets bucket (cells_of a) key (cell_of c.in-Some.old) cell had));
+      counts = subst (HasCounts a.buckets a.counts.keys.items) (sym new) (λ bucket within. t.counts bucket within ∙ sym (keys_over a.buckets bucket (cells_of a) key (cell_of c.in-Some.old) cell had));
       spares = t.spares ∙ sym (over_spares a.buckets (cells_of a) key (cell_of c.in-Some.old) cell had) ∙ ap (spares_in_use a.buckets) (sym new);
       small = t.small;
       rooms = omega arith;
@@ -73,11 +72,11 @@ overflow_add-keys c =
     let is = c.bucket_of-bucket.ensures.value ∙ ap (λ (u : Table). bucket_of key u.buckets) (sym c.self.view_is) in
     let within = subst (λ (u : Table). c.bucket_of-bucket.result < u.buckets) (sym c.self.view_is) c.bucket_of-bucket.ensures.within in
     let behind = counted a t key c.bucket_of-bucket.result is within in
-    let count : c.index.result.now ≡ slice_index a.keys.keys.items c.bucket_of-bucket.result =
-    c.index.ensures ∙ get_or_default_zero a.keys.keys.items c.bucket_of-bucket.result c.index.result.now (subst (λ n. c.bucket_of-bucket.result < n) (sym t.len) within) in
+    let count : c.index.result.now ≡ slice_index a.counts.keys.items c.bucket_of-bucket.result =
+    c.index.ensures ∙ get_or_default_zero a.counts.keys.items c.bucket_of-bucket.result c.index.result.now (subst (λ n. c.bucket_of-bucket.result < n) (sym t.len) within) in
     let most = subst (λ (u : Table). spares_in_use u.buckets u.cells ≤ 65536) (sym c.self.view_is) c.requires.spares in
     let sum = t.spares in
-    let few = few_keys (slice_index a.keys.keys.items c.bucket_of-bucket.result) a.keys.spares behind (omega arith) in
+    let few = few_keys (slice_index a.counts.keys.items c.bucket_of-bucket.result) a.counts.spares behind (omega arith) in
     omega arith
 
 pub set-requires-clause-counted : goal.set-requires-clause-counted
@@ -92,8 +91,8 @@ set-requires-clause-fits c =
     let t = c.self.invariant in
     let bucket = c.bucket_of-bucket.result in
     let within = subst (λ (u : Table). bucket < u.buckets) (sym c.self.view_is) c.bucket_of-bucket.ensures.within in
-    let count : c.index.result.now ≡ slice_index a.keys.keys.items bucket =
-    c.index.ensures ∙ get_or_default_zero a.keys.keys.items bucket c.index.result.now (subst (λ n. bucket < n) (sym t.len) within) in
+    let count : c.index.result.now ≡ slice_index a.counts.keys.items bucket =
+    c.index.ensures ∙ get_or_default_zero a.counts.keys.items bucket c.index.result.now (subst (λ n. bucket < n) (sym t.len) within) in
     let most = subst (λ (u : Table). spares_in_use u.buckets u.cells ≤ 65536) (sym c.self.view_is) c.requires.spares in
     let sum = t.spares in
     let old = ap spares_behind count in
@@ -110,9 +109,9 @@ invariant_of-self-in-None c =
     let new = after_put a t c.in_ok-from_slice.field-0 _ key c.args.value.now c.in_ok-from_slice.ensures.items c.in_ok-copy.ensures c.insert.new.self.entries c.in_ok-old.ensures.entries in
     let is = c.bucket_of-bucket.ensures.value ∙ ap (λ (u : Table). bucket_of key u.buckets) (sym c.self.view_is) in
     let within = subst (λ (u : Table). bucket < u.buckets) (sym c.self.view_is) c.bucket_of-bucket.ensures.within in
-    let count : c.index.result.now ≡ slice_index a.keys.keys.items bucket =
-    c.index.ensures ∙ get_or_default_zero a.keys.keys.items bucket c.index.result.now (subst (λ n. bucket < n) (sym t.len) within) in
-    let one : c.index.result.now + 1 ≡ slice_index a.keys.keys.items bucket + 1 = ap (λ n. n + 1) count in
+    let count : c.index.result.now ≡ slice_index a.counts.keys.items bucket =
+    c.index.ensures ∙ get_or_default_zero a.counts.keys.items bucket c.index.result.now (subst (λ n. bucket < n) (sym t.len) within) in
+    let one : c.index.result.now + 1 ≡ slice_index a.counts.keys.items bucket + 1 = ap (λ n. n + 1) count in
     let step = rooms_insert (cells_of a) key cell in
     let room = ap room_of none in
     let sum = t.rooms in
@@ -120,7 +119,6 @@ invariant_of-self-in-None c =
     record {
       ordered = c.in_ok-old.ensures.ordered;
       some = t.some;
-      few = t.few;
       len = ap length c.set.ensures.keys ∙ length-set _ _ _ ∙ t.len;
       counts = subst (HasCounts a.buckets c.set.new.self.keys.items) (sym new) (more_counts a t key bucket is within cell none _ _ one c.set.ensures.keys);
       spares = more_spares a t key bucket is within cell none _ _ one c.set.ensures.spares ∙ ap (spares_in_use a.buckets) (sym new);

@@ -27,8 +27,8 @@ overflow_sub-keys c =
     let is = c.bucket_of-bucket.ensures.value ∙ ap (λ (u : Table). bucket_of key u.buckets) (sym c.self.view_is) in
     let within = subst (λ (u : Table). bucket < u.buckets) (sym c.self.view_is) c.bucket_of-bucket.ensures.within in
     let had = found a t _ key refl _ c.in-Some.ensures.value in
-    let count : c.index.result.now ≡ slice_index a.keys.keys.items bucket =
-    c.index.ensures ∙ get_or_default_zero a.keys.keys.items bucket c.index.result.now (subst (λ n. bucket < n) (sym t.len) within) in
+    let count : c.index.result.now ≡ slice_index a.counts.keys.items bucket =
+    c.index.ensures ∙ get_or_default_zero a.counts.keys.items bucket c.index.result.now (subst (λ n. bucket < n) (sym t.len) within) in
     let less = less_count a t key bucket is within (cell_of c.in-Some.old) had in
     omega arith
 
@@ -44,8 +44,8 @@ set-requires-clause-fits c =
     let t = c.self.invariant in
     let bucket = c.bucket_of-bucket.result in
     let within = subst (λ (u : Table). bucket < u.buckets) (sym c.self.view_is) c.bucket_of-bucket.ensures.within in
-    let count : c.index.result.now ≡ slice_index a.keys.keys.items bucket =
-    c.index.ensures ∙ get_or_default_zero a.keys.keys.items bucket c.index.result.now (subst (λ n. bucket < n) (sym t.len) within) in
+    let count : c.index.result.now ≡ slice_index a.counts.keys.items bucket =
+    c.index.ensures ∙ get_or_default_zero a.counts.keys.items bucket c.index.result.now (subst (λ n. bucket < n) (sym t.len) within) in
     let old = ap spares_behind count in
     let small = t.small in
     omega arith
@@ -61,10 +61,10 @@ invariant_of-self c =
     let new = after_remove a t key c.remove.new.self.entries c.in-Some.ensures.entries in
     let is = c.bucket_of-bucket.ensures.value ∙ ap (λ (u : Table). bucket_of key u.buckets) (sym c.self.view_is) in
     let within = subst (λ (u : Table). bucket < u.buckets) (sym c.self.view_is) c.bucket_of-bucket.ensures.within in
-    let count : c.index.result.now ≡ slice_index a.keys.keys.items bucket =
-    c.index.ensures ∙ get_or_default_zero a.keys.keys.items bucket c.index.result.now (subst (λ n. bucket < n) (sym t.len) within) in
+    let count : c.index.result.now ≡ slice_index a.counts.keys.items bucket =
+    c.index.ensures ∙ get_or_default_zero a.counts.keys.items bucket c.index.result.now (subst (λ n. bucket < n) (sym t.len) within) in
     let less = less_count a t key bucket is within old had in
-    let one : (c.index.result.now - 1) + 1 ≡ slice_index a.keys.keys.items bucket = omega arith in
+    let one : (c.index.result.now - 1) + 1 ≡ slice_index a.counts.keys.items bucket = omega arith in
     let step = rooms_remove (cells_of a) key in
     let room = ap room_of had in
     let sum = t.rooms in
@@ -72,7 +72,6 @@ invariant_of-self c =
     record {
       ordered = c.in-Some.ensures.ordered;
       some = t.some;
-      few = t.few;
       len = ap length c.set.ensures.keys ∙ length-set _ _ _ ∙ t.len;
       counts = subst (HasCounts a.buckets c.set.new.self.keys.items) (sym new) (less_counts a t key bucket is within old had _ _ one c.set.ensures.keys);
       spares = spares_left a t key bucket is within old had _ _ one c.set.ensures.spares ∙ ap (spares_in_use a.buckets) (sym new);

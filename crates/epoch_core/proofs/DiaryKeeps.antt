@@ -1,0 +1,59 @@
+-- Each event keeps the rule of the one-word table whose seat has a diary.
+use Rattle.std.proofs.Common.{◌≡◌, ℕ, zero, suc, true, false, cond, nat_lt, List, [], ◌∷◌, ◌++◌, length, set, refl, sym, ap, ◌∙◌, subst, arith, ⊎_elim}
+use Rattle.std.proofs.lemmas.Bool.{ltb-true, ltb-false}
+use mathlib.Core.Option.{some, none, some-injective}
+use lib.ListN.{get_elem?}
+use Rattle.atomic_table.specs.Table.{Me, step, keeps, opening, Allows}
+use Rattle.atomic_table.proofs.Lists.{at_set}
+use Rattle.epoch_core.specs.declared.event.Event.{Event}
+use Rattle.epoch_core.specs.declared.state.OwnerState.{OwnerState}
+use Rattle.epoch_core.specs.declared.plain.Diary.{Diary}
+use Rattle.epoch_core.specs.declared.plain.Blank.{Blank}
+use Rattle.epoch_core.specs.Shape.{IsValidShape}
+use Rattle.epoch_core.specs.OwnerState.{as_made}
+use Rattle.epoch_core.specs.Events.{IsAllowed, after, CanPlay, plays}
+use Rattle.epoch_core.specs.Diary.{blank_diary, diary_after, DiaryFits, AllFit, knows, happened}
+use Rattle.epoch_core.proofs.Made.{kept_as_made}
+use Rattle.epoch_core.proofs.Keeps.{kept_after}
+
+can_more : (es : List Event) (e : Event) (o : OwnerState) → CanPlay es o → IsAllowed e (plays es o) → CanPlay (es ++ e ∷ []) o
+can_more [] e o can allowed = (allowed, tt)
+can_more (x ∷ es) e o can allowed = (can.0, can_more es e (after x o) can.1 allowed)
+
+plays_more : (es : List Event) (e : Event) (o : OwnerState) → plays (es ++ e ∷ []) o ≡ after e (plays es o)
+plays_more [] e o = refl
+plays_more (x ∷ es) e o = plays_more es e (after x o)
+
+diary_fits : (e : Event) (d : Diary) → DiaryFits d → IsAllowed e d.owner → DiaryFits (diary_after e d)
+diary_fits e d f a =
+    let start : OwnerState = as_made d.owner.shape in
+    let now = kept_after d.owner f.owner e a in
+    elim (nat_lt (length d.kept) d.room) as (λ b. nat_lt (length d.kept) d.room ≡ b
+    → DiaryFits (record { owner = after e d.owner; kept = cond b (d.kept ++ e ∷ []) d.kept; room = d.room })) [
+      | true ↦ λ is.
+          let led = f.whole (ltb-true (length d.kept) d.room is) in record {
+            owner = now;
+            kept = can_more d.kept e (as_made d.owner.shape) f.kept (subst (IsAllowed e) (sym led) a);
+            whole = λ less. plays_more d.kept e (as_made d.owner.shape) ∙ ap (after e) led;
+          }
+      | false ↦ λ is. record { owner = now; kept = f.kept; whole = λ less. absurd (let full = ltb-false (length d.kept) d.room is in omega arith) }
+    ] refl
+
+module _ (slots id : ℕ) (me : Me (Unit {0}) Diary) where
+  all_fit : (vs : List Diary) (now : Diary) → DiaryFits now → ((j : ℕ) (d : Diary) → get_elem? vs j ≡ some d → DiaryFits d)
+      → (j : ℕ) (d : Diary) → get_elem? (set vs id now) j ≡ some d → DiaryFits d
+  all_fit vs now fit all j d at = ⊎_elim (λ (t : (j ≡ id) × (now ≡ d)). subst DiaryFits t.1 fit) (λ t. all j d t.1) (at_set vs id j now d at)
+
+  pub knows_at : (i : ℕ) → Allows AllFit slots id me i (λ n. n) (knows (step slots i 0 0 none) me)
+  knows_at i s all _ at _ = let f = all id me.0 at in (me.0, keeps, tt, all_fit s.views me.0 f all, (refl, f.owner))
+
+  pub happens_at : (e : Event) (i n : ℕ) → IsAllowed e me.0.owner → Allows AllFit slots id me i (λ _. n) (λ _. happened e (step slots i n 0 none) me n)
+  happens_at e i n allowed s all _ at _ =
+      let f = all id me.0 at in
+      let now : Diary = diary_after e me.0 in
+      (now, keeps, tt, all_fit s.views now (diary_fits e me.0 f allowed) all, (refl, f.owner, kept_after me.0.owner f.owner e allowed))
+
+pub starts : (blank : Blank) (words : List ℕ) → IsValidShape blank.shape → AllFit (opening words [] (blank_diary blank))
+starts blank words valid zero d at =
+    subst DiaryFits (some-injective _ _ at) record { owner = kept_as_made blank.shape valid; kept = tt; whole = λ less. refl }
+starts blank words valid (suc j) d at = absurd (cc at)

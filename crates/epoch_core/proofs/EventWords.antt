@@ -1,0 +1,104 @@
+-- What each event makes of the words by their meaning.
+use Rattle.std.proofs.Common.{◌≡◌, ℕ, ◌<◌, ◌≢◌, ◌⊎◌, inl, inr, length, get_or, sym, arith, get_or-set_other, get_or-set_same}
+use Rattle.std.proofs.Math.Nat.{mod-lt}
+use Rattle.mica_model.specs.declared.write.Write.{Write}
+use Rattle.epoch_core.specs.declared.state.OwnerState.{OwnerState}
+use Rattle.epoch_core.specs.declared.event.Event.{Event}
+use Rattle.epoch_core.specs.declared.event.Event.TheVariants.{Begins, Marks, PutsWord, PutsEntry, PutsLink}
+use Rattle.epoch_core.specs.Shape.{IsMain, IsBucket}
+use Rattle.epoch_core.specs.Layout.{stamp_at, entry_at, link_at, item_at, word_count}
+use Rattle.epoch_core.specs.OwnerState.{stamp_in, entry_in, link_in, item_in}
+use Rattle.epoch_core.specs.Events.{place_of, word_after, after}
+use Rattle.epoch_core.proofs.Places.{same_bucket, same_slot, no_epoch, no_stamp, no_item, item_no_epoch}
+
+-- a word at another place than the event's is as it was
+pub other : (o : OwnerState) (e : Event) (i : ℕ) → i ≢ place_of o.shape e → get_or (after e o).words i 0 ≡ get_or o.words i 0
+other o e i n = get_or-set_other o.words (place_of o.shape e) i (word_after e (get_or o.words (place_of o.shape e) 0)) 0 n
+
+here : (o : OwnerState) (e : Event) → place_of o.shape e < length o.words
+    → get_or (after e o).words (place_of o.shape e) 0 ≡ word_after e (get_or o.words (place_of o.shape e) 0)
+here o e l = get_or-set_same o.words (place_of o.shape e) (word_after e (get_or o.words (place_of o.shape e) 0)) 0 l
+
+module _ (o : OwnerState) (wide : length o.words ≡ word_count o.shape) where
+  -- the stamp
+
+  pub stamp_marks : (write : Write) (n : ℕ) → stamp_in (after (Marks write n) o) ≡ n
+  stamp_marks write n = here o (Marks write n) (omega arith)
+
+  pub stamp_begins : (b : ℕ) → stamp_in (after (Begins b) o) ≡ stamp_in o
+  stamp_begins b = other o (Begins b) stamp_at (λ is. omega arith)
+
+  pub stamp_puts_word : (p x : ℕ) → stamp_in (after (PutsWord p x) o) ≡ stamp_in o
+  stamp_puts_word p x = other o (PutsWord p x) stamp_at (λ is. omega arith)
+
+  pub stamp_puts_entry : (c slot x : ℕ) → stamp_in (after (PutsEntry c slot x) o) ≡ stamp_in o
+  stamp_puts_entry c slot x = other o (PutsEntry c slot x) stamp_at (λ is. omega arith)
+
+  pub stamp_puts_link : (c next : ℕ) → stamp_in (after (PutsLink c next) o) ≡ stamp_in o
+  stamp_puts_link c next = other o (PutsLink c next) stamp_at (λ is. omega arith)
+
+  -- entries
+
+  pub entry_begins : (b c slot : ℕ) → IsMain o.shape b → slot < 15 → entry_in (after (Begins b) o) c slot ≡ entry_in o c slot
+  entry_begins b c slot l x = other o (Begins b) (entry_at o.shape c slot) (no_epoch o.shape b c slot l (omega arith))
+
+  pub entry_marks : (write : Write) (n c slot : ℕ) → entry_in (after (Marks write n) o) c slot ≡ entry_in o c slot
+  entry_marks write n c slot = other o (Marks write n) (entry_at o.shape c slot) (no_stamp o.shape c slot)
+
+  pub entry_puts_word : (p x c slot : ℕ) → IsBucket o.shape c → slot < 15 → entry_in (after (PutsWord p x) o) c slot ≡ entry_in o c slot
+  entry_puts_word p x c slot l y = other o (PutsWord p x) (entry_at o.shape c slot) (no_item o.shape c slot p l (omega arith))
+
+  pub entry_puts : (c slot x : ℕ) → IsBucket o.shape c → slot < 15 → entry_in (after (PutsEntry c slot x) o) c slot ≡ x
+  entry_puts c slot x l y = here o (PutsEntry c slot x) (omega arith)
+
+  pub entry_puts_other : (c slot x d t : ℕ) → slot < 15 → t < 15 → (d ≢ c) ⊎ (t ≢ slot) → entry_in (after (PutsEntry c slot x) o) d t ≡ entry_in o d t
+  entry_puts_other c slot x d t y z (inl n) =
+      other o (PutsEntry c slot x) (entry_at o.shape d t) (λ is. n (same_bucket o.shape d c t slot (omega arith) (omega arith) is))
+  entry_puts_other c slot x d t y z (inr n) =
+      other o (PutsEntry c slot x) (entry_at o.shape d t) (λ is. n (same_slot o.shape d c t slot (omega arith) (omega arith) is))
+
+  pub entry_puts_link : (c next d t : ℕ) → t < 15 → entry_in (after (PutsLink c next) o) d t ≡ entry_in o d t
+  entry_puts_link c next d t z =
+      other o (PutsLink c next) (entry_at o.shape d t) (λ is. let same = same_slot o.shape d c t 15 (omega arith) (omega arith) is in omega arith)
+
+  -- links
+
+  pub link_begins : (b c : ℕ) → IsMain o.shape b → link_in (after (Begins b) o) c ≡ link_in o c
+  link_begins b c l = other o (Begins b) (link_at o.shape c) (no_epoch o.shape b c 15 l (omega arith))
+
+  pub link_marks : (write : Write) (n c : ℕ) → link_in (after (Marks write n) o) c ≡ link_in o c
+  link_marks write n c = other o (Marks write n) (link_at o.shape c) (no_stamp o.shape c 15)
+
+  pub link_puts_word : (p x c : ℕ) → IsBucket o.shape c → link_in (after (PutsWord p x) o) c ≡ link_in o c
+  link_puts_word p x c l = other o (PutsWord p x) (link_at o.shape c) (no_item o.shape c 15 p l (omega arith))
+
+  pub link_puts_entry : (c slot x d : ℕ) → slot < 15 → link_in (after (PutsEntry c slot x) o) d ≡ link_in o d
+  link_puts_entry c slot x d y =
+      other o (PutsEntry c slot x) (link_at o.shape d) (λ is. let same = same_slot o.shape d c 15 slot (omega arith) (omega arith) is in omega arith)
+
+  pub link_puts : (c next : ℕ) → IsBucket o.shape c → link_in (after (PutsLink c next) o) c ≡ next
+  link_puts c next l = here o (PutsLink c next) (omega arith)
+
+  pub link_puts_other : (c next d : ℕ) → d ≢ c → link_in (after (PutsLink c next) o) d ≡ link_in o d
+  link_puts_other c next d n =
+      other o (PutsLink c next) (link_at o.shape d) (λ is. n (same_bucket o.shape d c 15 15 (omega arith) (omega arith) is))
+
+  -- item words
+
+  pub item_begins : (b p : ℕ) → IsMain o.shape b → item_in (after (Begins b) o) p ≡ item_in o p
+  item_begins b p l = other o (Begins b) (item_at o.shape p) (item_no_epoch o.shape b p l)
+
+  pub item_marks : (write : Write) (n p : ℕ) → item_in (after (Marks write n) o) p ≡ item_in o p
+  item_marks write n p = other o (Marks write n) (item_at o.shape p) (λ is. omega arith)
+
+  pub item_puts : (p x : ℕ) → 0 < o.shape.words → item_in (after (PutsWord p x) o) p ≡ x
+  item_puts p x some = let less = mod-lt p some in here o (PutsWord p x) (omega arith)
+
+  pub item_puts_other : (p x q : ℕ) → item_at o.shape q ≢ item_at o.shape p → item_in (after (PutsWord p x) o) q ≡ item_in o q
+  item_puts_other p x q n = other o (PutsWord p x) (item_at o.shape q) n
+
+  pub item_puts_entry : (c slot x p : ℕ) → IsBucket o.shape c → slot < 15 → item_in (after (PutsEntry c slot x) o) p ≡ item_in o p
+  item_puts_entry c slot x p l y = other o (PutsEntry c slot x) (item_at o.shape p) (λ is. no_item o.shape c slot p l (omega arith) (sym is))
+
+  pub item_puts_link : (c next p : ℕ) → IsBucket o.shape c → item_in (after (PutsLink c next) o) p ≡ item_in o p
+  item_puts_link c next p l = other o (PutsLink c next) (item_at o.shape p) (λ is. no_item o.shape c 15 p l (omega arith) (sym is))

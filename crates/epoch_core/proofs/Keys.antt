@@ -1,0 +1,51 @@
+-- The words of an item that spells a key hold that key, and no other.
+use Rattle.std.proofs.Common.{◌≡◌, ℕ, ◌+◌, ◌<◌, List, length, slice_index, sym, ap, ◌∙◌, subst, arith, add-zero}
+use Rattle.std.proofs.lemmas.Grind.{same_number_lists}
+use Rattle.mica_words.specs.Entry.{entry_offset}
+use Rattle.mica_words.specs.Header.{header_of, header_key_len}
+use Rattle.mica_words.specs.Item.{words_for}
+use Rattle.mica_words.specs.Packing.{AreBytes, packed}
+use Rattle.mica_words.proofs.Fields.{header_key_len-header_of}
+use Rattle.mica_words.proofs.ItemWords.{header_word, hash_word, packed_key_word}
+use Rattle.mica_words.proofs.PackedBytes.{length-packed, same_from_words}
+use Rattle.mica_model.specs.Store.{Cell}
+use Rattle.epoch_core.specs.declared.state.OwnerState.{OwnerState}
+use Rattle.epoch_core.specs.OwnerState.{item_in, options_in}
+use Rattle.epoch_core.specs.StandsFor.{Spells}
+use Rattle.epoch_core.specs.ItemAt.{HasKey}
+use Rattle.epoch_core.specs.Kept.{Kept}
+use Rattle.epoch_core.proofs.Machine.{has_fits}
+
+module _ (o : OwnerState) (s : Kept o) (b entry : ℕ) (key : List ℕ) (cell : Cell) (sp : Spells o b entry key cell) where
+  abbrev p : ℕ
+  p = entry_offset entry
+
+  key_len : header_key_len (item_in o (entry_offset entry)) ≡ length key
+  key_len =
+      let fits = has_fits (options_in o) o.history s.history.writes key cell (entry_offset entry) sp.has in
+      let key_fits = fits.0 in
+      let word : item_in o (entry_offset entry) ≡ header_of cell.room (length key) (length cell.value) =
+      ap (item_in o) (sym (add-zero (entry_offset entry))) ∙ (sp.item 0 (omega arith) ∙ header_word cell.room key cell.value) in
+      ap header_key_len word ∙ header_key_len-header_of cell.room (length key) (length cell.value) fits.5 (omega arith)
+
+  key_word : (i : ℕ) → i < words_for (length key) → item_in o (entry_offset entry + 2 + i) ≡ slice_index (packed key) i
+  key_word i l =
+      ap (item_in o) (omega arith) ∙ (sp.item (2 + i) (omega arith) ∙ packed_key_word cell.room key cell.value i l)
+
+  pub has_its_key : HasKey o (entry_offset entry) key
+  has_its_key = record {
+    len = key_len;
+    hash = sp.item 1 (omega arith) ∙ hash_word cell.room key cell.value;
+    words = key_word;
+  }
+
+  pub has_no_other : (other : List ℕ) → AreBytes other → HasKey o (entry_offset entry) other → key ≡ other
+  has_no_other other bytes h =
+      let fits = has_fits (options_in o) o.history s.history.writes key cell (entry_offset entry) sp.has in
+      let long : length key ≡ length other = sym key_len ∙ h.len in
+      let words : packed key ≡ packed other = same_number_lists (packed key) (packed other)
+      (length-packed key ∙ (ap words_for long ∙ sym (length-packed other)))
+      (λ i l.
+      let below : i < words_for (length key) = omega (arith, length-packed key) in
+      sym (key_word i below) ∙ h.words i (subst (λ (z : ℕ). i < words_for z) long below)) in
+      same_from_words key other fits.1 bytes long words

@@ -1,0 +1,87 @@
+-- The owner's fact holds before any event.
+use Rattle.std.proofs.Common.{◌≡◌, ℕ, zero, suc, replicate, inl, inr, List, [], get_or, refl, sym, ◌∙◌, arith}
+use Rattle.std.proofs.lemmas.List.{length-replicate}
+use Rattle.std.specs.FinMap.{get-empty}
+use Rattle.std.specs.Ordering.{nat_cmp}
+use Rattle.std.specs.Cmp.Lexicographic.{slice_cmp}
+use Rattle.mica_model.specs.declared.options.Mode.{Mode}
+use Rattle.mica_model.specs.declared.options.Mode.TheVariants.{Cache, Store}
+use Rattle.mica_model.specs.Cache as cache
+use Rattle.mica_model.specs.Store as store
+use Rattle.mica_model.specs.History.{start, stamp_in}
+use Rattle.epoch_core.specs.declared.shape.Shape.{Shape}
+use Rattle.epoch_core.specs.declared.state.OwnerState.{OwnerState}
+use Rattle.epoch_core.specs.Shape.{IsValidShape}
+use Rattle.epoch_core.specs.Layout.{word_count, epoch_at, entry_at, link_at}
+use Rattle.epoch_core.specs.OwnerState.{as_made}
+use Rattle.epoch_core.specs.Chain.{InChain}
+use Rattle.epoch_core.specs.LiveEntry.{HasLiveEntry}
+use Rattle.epoch_core.specs.StandsFor.{Has, HasChain, StandsFor}
+use Rattle.epoch_core.specs.Kept.{Kept}
+
+zeros : (n i : ℕ) → ◌≡◌ {A = ℕ} (get_or (replicate n 0) i 0) 0
+zeros zero i = refl
+zeros (suc n) zero = refl
+zeros (suc n) (suc i) = zeros n i
+
+no_stamp_yet : (mode : Mode) → stamp_in (start mode) ≡ 0
+unfolding cache.start store.start
+no_stamp_yet Cache = refl
+no_stamp_yet Store = refl
+
+has_nothing : (mode : Mode) (key : List ℕ) (cell : store.Cell) (p : ℕ) → ¬ (Has (start mode) key cell p)
+unfolding cache.start store.start
+has_nothing Cache key cell p h = cc h
+has_nothing Store key cell p h = cc (sym h ∙ get-empty {X = store.Cell} (slice_cmp nat_cmp) key)
+
+module _ (shape : Shape) (valid : IsValidShape shape) where
+  abbrev o : OwnerState
+  o = as_made shape
+
+  no_link : (b : ℕ) → get_or o.words (link_at shape b) 0 ≡ 0
+  no_link b = zeros (word_count shape) (link_at shape b)
+
+  no_entry : (b c slot entry : ℕ) → ¬ (HasLiveEntry o b c slot entry)
+  no_entry b c slot entry h = h.live.0 (sym h.found ∙ zeros (word_count shape) (entry_at shape c slot))
+
+  alone : (b c : ℕ) → InChain o b c → b ≡ c
+  alone b c (inl e) = e
+  alone b c (inr h) = absurd (h.0 (no_link b))
+
+  has_chain : (mode : Mode) (b : ℕ) → HasChain mode o b
+  has_chain Cache b = tt
+  has_chain Store b = (
+    record {
+      full = λ c slot h linked x. absurd (linked (no_link c));
+      in_order = λ c slot later h x y used. absurd (used (zeros (word_count shape) (entry_at shape c later)));
+      some = λ c h other. absurd (other (sym (alone b c h)));
+    },
+    λ c d l other h h'. other (alone c d h' ∙ sym (alone b d h)),
+  )
+
+  stands_for : (b : ℕ) → StandsFor o b
+  stands_for b = record {
+    nothing_else = λ c slot entry h. absurd (no_entry b c slot entry h);
+    each = λ key cell p is h. absurd (has_nothing shape.mode key cell p h);
+    once = λ c slot entry c' slot' entry' key cell h. absurd (no_entry b c slot entry h);
+    rooms = λ c slot entry c' slot' entry' h. absurd (no_entry b c slot entry h);
+    apart = λ other c slot entry c' slot' entry' l n m h. absurd (no_entry b c slot entry h);
+    chain = has_chain shape.mode b;
+  }
+
+  pub kept_as_made : Kept o
+  kept_as_made = record {
+    shape = valid;
+    wide = length-replicate (word_count shape) 0;
+    chains = record {
+      links = λ c l. inl (no_link c);
+      end = λ b l. inl (no_link b);
+      apart = λ b b' c l l' n h h'. n (alone b c h ∙ sym (alone b' c h'));
+    };
+    history = record { accepted = tt; writes = tt; not_above_wear = omega arith };
+    stamp = zeros (word_count shape) 0 ∙ sym (no_stamp_yet shape.mode);
+    epochs = λ b l. omega (arith, zeros (word_count shape) (epoch_at b));
+    state = λ b l none. stands_for b;
+    phase = tt;
+    met_seen = ([], refl);
+  }

@@ -1,0 +1,77 @@
+-- The bucket whose write is marked, and the buckets that its write may change.
+use Rattle.std.proofs.Common.{◌≡◌, ℕ, zero, suc, ◌<◌, ◌≤◌, ◌≢◌, inl, inr, ◌⊎◌, List, Bool, true, false, if◌then◌else◌, nat_eq, eq-eqb, ne_eqb, sym, ap, subst, arith}
+use Rattle.std.proofs.Math.Nat.{mod-lt}
+use Rattle.std.proofs.lemmas.Nat.{pow_pos}
+use native.Mathlib.Decide.{ℕ_discrete}
+use mathlib.Core.Logic.{dite}
+use Rattle.mica_words.specs.Hash.{fnv1a, bucket_of}
+use Rattle.mica_model.specs.declared.write.Write.{Write}
+use Rattle.epoch_core.specs.declared.state.OwnerState.{OwnerState}
+use Rattle.epoch_core.specs.declared.state.Phase.{Phase}
+use Rattle.epoch_core.specs.declared.state.Phase.TheVariants.{Idle, Begun, Marked}
+use Rattle.epoch_core.specs.Shape.{IsMain, IsBucket}
+use Rattle.epoch_core.specs.OwnerState.{link_in, marked_in}
+use Rattle.epoch_core.specs.Chain.{IsAmong, InChain, IsFreeSpare}
+use Rattle.epoch_core.specs.Events.{WhenMarked}
+use Rattle.epoch_core.specs.Kept.{PhaseFits, Kept}
+
+abbrev pub bit : ℕ → ℕ → ℕ
+bit c b = if nat_eq c b then 1 else 0
+
+pub bit_same : (c b : ℕ) → c ≡ b → bit c b ≡ 1
+bit_same c b e = ap (λ (z : Bool). if z then 1 else 0) (eq-eqb c b e)
+
+pub bit_else : (c b : ℕ) → c ≢ b → bit c b ≡ 0
+bit_else c b n = ap (λ (z : Bool). if z then 1 else 0) (ne_eqb c b n)
+
+pub bit_le : (c b : ℕ) → bit c b ≤ 1
+bit_le c b = elim (nat_eq c b) as (λ (z : Bool). (if z then 1 else 0) ≤ 1) [ true ↦ omega arith | false ↦ omega arith ]
+
+pub bit_is : (c b : ℕ) → bit c b ≡ 1 → c ≡ b
+bit_is c b e = dite (ℕ_discrete c b) (λ is. is) (λ n. let zero = bit_else c b n in absurd (omega arith))
+
+module _ (o : OwnerState) (s : Kept o) where
+  pub among_bucket : (n b c : ℕ) → IsBucket o.shape b → IsAmong o n b c → IsBucket o.shape c
+  among_bucket zero b c l h = absurd h
+  among_bucket (suc n) b c l (inl e) = subst (IsBucket o.shape) e l
+  among_bucket (suc n) b c l (inr h) = elim (s.chains.links b l) [
+    | inl none ↦ absurd (h.0 none)
+    | inr spare ↦ among_bucket n (link_in o b) c spare.1 h.1
+  ]
+
+  pub chain_bucket : (b c : ℕ) → IsMain o.shape b → InChain o b c → IsBucket o.shape c
+  chain_bucket b c l h = among_bucket (suc o.shape.spares) b c (omega arith) h
+
+  pub marked_not : (b c : ℕ) (write : Write) (history : List Write) → o.phase ≡ Marked b write history → marked_in o.phase c ≡ 0 → c ≢ b
+  marked_not b c write history is none same =
+      let one : bit b c ≡ 1 = bit_same b c (sym same) in
+      let here : marked_in o.phase c ≡ bit b c = ap (λ (q : Phase). marked_in q c) is in
+      omega arith
+
+  pub marked_main : (b : ℕ) (write : Write) (history : List Write) → o.phase ≡ Marked b write history → IsMain o.shape b
+  unfolding bucket_of
+  marked_main b write history is =
+      let fits = subst (PhaseFits o) is s.phase in
+      let some : 0 < o.shape.buckets = subst (λ (z : ℕ). 0 < z) (sym s.shape.ranges.buckets.2) (pow_pos s.shape.ranges.buckets.0) in
+      subst (λ (z : ℕ). z < o.shape.buckets) (sym fits.0) (mod-lt (fnv1a write.key) some)
+
+  pub ends_main : (phase : Phase) → o.phase ≡ phase → (b : ℕ) → marked_in phase b ≡ 1 → IsMain o.shape b
+  ends_main Idle is b one = absurd (omega arith)
+  ends_main (Begun c) is b one = absurd (omega arith)
+  ends_main (Marked c write before) is b one = subst (IsMain o.shape) (bit_is c b one) (marked_main c write before is)
+
+  -- a bucket that the marked write may change is in no chain of an unmarked one
+  pub its_bucket : (phase : Phase) → o.phase ≡ phase → (c : ℕ) → WhenMarked phase (λ b write before. InChain o b c ⊎ IsFreeSpare o c)
+      → (other : ℕ) → IsMain o.shape other → marked_in o.phase other ≡ 0 → ¬ (InChain o other c)
+  its_bucket Idle is c h other l none = absurd h
+  its_bucket (Begun b) is c h other l none = absurd h
+  its_bucket (Marked b write before) is c (inl own) other l none =
+      s.chains.apart b other c (marked_main b write before is) l (λ same. marked_not b other write before is none (sym same)) own
+  its_bucket (Marked b write before) is c (inr free) other l none = free.free other l
+
+  -- it is a bucket
+  pub its_inside : (phase : Phase) → o.phase ≡ phase → (c : ℕ) → WhenMarked phase (λ b write before. InChain o b c ⊎ IsFreeSpare o c) → IsBucket o.shape c
+  its_inside Idle is c h = absurd h
+  its_inside (Begun b) is c h = absurd h
+  its_inside (Marked b write before) is c (inl own) = chain_bucket b c (marked_main b write before is) own
+  its_inside (Marked b write before) is c (inr free) = free.spare.1

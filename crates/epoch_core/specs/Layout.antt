@@ -1,0 +1,46 @@
+-- Where words stand. Word 0 is the stamp. Each main bucket has its epoch, 15 entries and a link, and
+-- then each spare bucket 15 entries and a link. Then come the item words.
+use Rattle.std.specs.Prelude.{ℕ, ◌+◌, ◌*◌, ◌%◌, ◌<◌, min}
+use Rattle.epoch_core.specs.declared.shape.Shape.{Shape}
+use Rattle.epoch_core.specs.declared.shape.WordAt.{WordAt}
+use Rattle.epoch_core.specs.declared.shape.WordAt.TheVariants.{Stamp, Epoch, Entry, Link, Item}
+use Rattle.epoch_core.specs.Shape.{IsMain, IsBucket}
+
+abbrev pub stamp_at : ℕ
+stamp_at = 0
+
+abbrev pub epoch_at : ℕ → ℕ
+epoch_at b = 1 + 17 * b
+
+-- The place of a bucket's first entry. Before it stand the stamp, the 16 words of each bucket below,
+-- and the epoch of each main bucket up to it.
+abbrev pub entries_at : Shape → ℕ → ℕ
+entries_at shape b = 1 + 16 * b + min (b + 1) shape.buckets
+
+abbrev pub entry_at : Shape → ℕ → ℕ → ℕ
+entry_at shape b slot = entries_at shape b + slot
+
+abbrev pub link_at : Shape → ℕ → ℕ
+link_at shape b = entries_at shape b + 15
+
+-- the item words go round
+abbrev pub item_at : Shape → ℕ → ℕ
+item_at shape p = 1 + 17 * shape.buckets + 16 * shape.spares + p % shape.words
+
+abbrev pub word_count : Shape → ℕ
+word_count shape = 1 + 17 * shape.buckets + 16 * shape.spares + shape.words
+
+abbrev pub place_at : Shape → WordAt → ℕ
+place_at shape Stamp = stamp_at
+place_at shape (Epoch b) = epoch_at b
+place_at shape (Entry b slot) = entry_at shape b slot
+place_at shape (Link b) = link_at shape b
+place_at shape (Item p) = item_at shape p
+
+-- the bucket and the slot are in range
+abbrev pub IsInside : Shape → WordAt → Type 0
+IsInside shape Stamp = Unit {0}
+IsInside shape (Epoch b) = IsMain shape b
+IsInside shape (Entry b slot) = IsBucket shape b × (slot < 15)
+IsInside shape (Link b) = IsBucket shape b
+IsInside shape (Item p) = Unit {0}

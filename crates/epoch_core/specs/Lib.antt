@@ -1,0 +1,11 @@
+pub mod Shape
+pub mod Layout
+pub mod OwnerState
+pub mod Chain
+pub mod LiveEntry
+pub mod StandsFor
+pub mod Events
+pub mod ItemAt
+pub mod Kept
+pub mod OwnerStep
+pub mod Diary

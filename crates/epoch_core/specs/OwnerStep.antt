@@ -1,0 +1,18 @@
+-- What a partition's calls make of its owner's state.
+use Rattle.std.specs.Prelude.{◌≡◌, ◌∷◌, [], ◌++◌, if◌then◌else◌}
+use Rattle.mica_model.specs.declared.write.Write.{Write}
+use Rattle.mica_model.specs.declared.write.Outcome.{Outcome}
+use Rattle.mica_model.specs.Write.{is_accepted}
+use Rattle.mica_model.specs.History.{MayGive}
+use Rattle.epoch_core.specs.declared.state.OwnerState.{OwnerState}
+use Rattle.epoch_core.specs.declared.state.Phase.TheVariants.{Idle}
+use Rattle.epoch_core.specs.OwnerState.{options_in}
+
+-- One step of the machine. An accepted write is gained, and beside it words alone may change. A refused
+-- one changes nothing.
+pub record IsOwnerStep (old new : OwnerState) (write : Write) (outcome : Outcome) : Type 0 where
+  pub allowed : MayGive (options_in old) old.history write outcome
+  pub gained : new ≡ (if is_accepted outcome
+      then record old { words = new.words; history = old.history ++ write ∷ [] }
+      else old)
+  pub idle : new.phase ≡ Idle
