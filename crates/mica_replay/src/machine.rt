@@ -17,13 +17,7 @@ pub trait Machine: Drop {
 
     ghost state: { Self → State };
 
-    fn step(
-        &mut self,
-        alloc: Global,
-        op: Op,
-        key: &[u8],
-        value: &[u8],
-    ) -> Result<Outcome, NoMemory>
+    fn step(&mut self, alloc: Global, op: Op, key: &[u8], value: &[u8]) -> Result<Outcome, NoMemory>
         requires key { KeyFits key.now }
         requires value { HasValueOf op value.now }
         ensures step { IfOk result (λ outcome. IsStep (options self.old) (state self.old)

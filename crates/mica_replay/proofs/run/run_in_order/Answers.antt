@@ -30,9 +30,9 @@ loop-line-preserved g c =
     let new_seen : Machine = record { options = g.M.Machine.options new; state = g.M.Machine.state new } in
     let seen = map (λ m. record { options = g.M.Machine.options m; state = g.M.Machine.state m }) items in
     let is : slice_get trace n ≡ Some line =
-        ap (λ ts. slice_get ts n) (sym c.lines-line-items.ensures.same) ∙ slice_get_read c.lines-line-items.result.now _ n line refl c.loop-line-test.true c.line-item.is in
+    ap (λ ts. slice_get ts n) (sym c.lines-line-items.ensures.same) ∙ slice_get_read c.lines-line-items.result.now _ n line refl c.loop-line-test.true c.line-item.is in
     let at : p ≡ partition_in options line =
-        c.partition_of-partition.ensures ∙ ap (λ h. hash_partition h options.partitions) (c.key_hash.ensures ∙ ap fnv1a c.bytes.ensures) ∙ sym (partition_of_hash line.key options.partitions) in
+    c.partition_of-partition.ensures ∙ ap (λ h. hash_partition h options.partitions) (c.key_hash.ensures ∙ ap fnv1a c.bytes.ensures) ∙ sym (partition_of_hash line.key options.partitions) in
     let below = partition_of-below line.key options.partitions c.requires.valid.partitions.0 in
     let many = c.loop-line.invariant.many in
     let long = length-map items (λ m. record { options = g.M.Machine.options m; state = g.M.Machine.state m }) in
@@ -40,12 +40,12 @@ loop-line-preserved g c =
     let fits : p < length items = subst (λ k. p < k) (sym many ∙ long) low in
     let here = slice_get_read items _ p old refl fits c.index_mut.ensures.value in
     let here_seen : slice_get seen p ≡ Some old_seen = slice_get-map (λ m. record { options = g.M.Machine.options m; state = g.M.Machine.state m }) items p
-        ∙ ap (option_map (λ m. record { options = g.M.Machine.options m; state = g.M.Machine.state m })) here in
+    ∙ ap (option_map (λ m. record { options = g.M.Machine.options m; state = g.M.Machine.state m })) here in
     let next = goes_on options trace seen c.loop-line.report n c.loop-line.invariant line is (line_at trace n line c.lines-line-items.ensures.lines is)
-        old_seen new_seen printed (ap (λ q. slice_get seen q) (sym at) ∙ here_seen) c.in_ok-printed.ensures.replied c.reply_to.ensures.options in
+    old_seen new_seen printed (ap (λ q. slice_get seen q) (sym at) ∙ here_seen) c.in_ok-printed.ensures.replied c.reply_to.ensures.options in
     let next_here = subst (λ q. IsRunning options trace (slice_set seen q new_seen) (c.loop-line.report ++ printed ∷ []) (n + 1)) (sym at) next in
     let next_seen = subst (λ ms. IsRunning options trace ms (c.loop-line.report ++ printed ∷ []) (n + 1))
-        (sym (map-set (λ m. record { options = g.M.Machine.options m; state = g.M.Machine.state m }) items p new)) next_here in
+    (sym (map-set (λ m. record { options = g.M.Machine.options m; state = g.M.Machine.state m }) items p new)) next_here in
     subst (λ r. IsRunning options trace (map (λ m. record { options = g.M.Machine.options m; state = g.M.Machine.state m }) (slice_set items p new)) r (n + 1)) (sym c.in_ok-push.ensures.ok) next_seen
 
 pub returns : goal.returns
