@@ -6,7 +6,8 @@ use Rattle.mica_words.specs.Hash.{fnv1a, hash_partition}
 use Rattle.mica_words.proofs.Hashes.{partition_of_hash, partition_of-below}
 use Rattle.mica_model.specs.Machine.{Machine}
 use Rattle.mica_trace.specs.Rounds.{partition_in}
-use Rattle.mica_replay.proofs.Running.{IsRunning, begins, goes_on, ends, line_at}
+use Rattle.mica_trace.specs.TraceGrammar.{IsTraceLine}
+use Rattle.mica_replay.proofs.Running.{IsRunning, begins, goes_on, ends, each_at}
 use Rattle.mica_replay.proofs.run.run_in_order.Goals as goal
 
 pub loop-line-init : goal.loop-line-init
@@ -41,7 +42,7 @@ loop-line-preserved g c =
     let here = slice_get_read items _ p old refl fits c.index_mut.ensures.value in
     let here_seen : slice_get seen p ≡ Some old_seen = slice_get-map (λ m. record { options = g.M.Machine.options m; state = g.M.Machine.state m }) items p
     ∙ ap (option_map (λ m. record { options = g.M.Machine.options m; state = g.M.Machine.state m })) here in
-    let next = goes_on options trace seen c.loop-line.report n c.loop-line.invariant line is (line_at trace n line c.lines-line-items.ensures.lines is)
+    let next = goes_on options trace seen c.loop-line.report n c.loop-line.invariant line is (each_at IsTraceLine trace n line c.lines-line-items.ensures.lines is)
     old_seen new_seen printed (ap (λ q. slice_get seen q) (sym at) ∙ here_seen) c.in_ok-printed.ensures.replied c.reply_to.ensures.options in
     let next_here = subst (λ q. IsRunning options trace (slice_set seen q new_seen) (c.loop-line.report ++ printed ∷ []) (n + 1)) (sym at) next in
     let next_seen = subst (λ ms. IsRunning options trace ms (c.loop-line.report ++ printed ∷ []) (n + 1))
