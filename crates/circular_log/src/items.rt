@@ -24,14 +24,14 @@ pub fn append<W: OwnerWords>(words: &mut W, offset: u64, key: &[u8], value: &[u8
     ensures home { W.home words.new ≡ W.home words.old }
     ensures kept { Kept (W.owner words.new) }
 {
-    // A load tells that the words are lawful, so that the offsets of the item are known to be small.
+    // A load tells that the words are lawful: so the offsets of the item are known to be small.
     words.read(WordAt::Stamp);
     let room = item_size(key.len(), value.len());
     write_item(words, offset, room, key, value);
 }
 
-/// Writes the marked put's value into the room of the key's item. The room stays, and so do the hash and the key, which
-/// are not stored again.
+/// Writes the marked put's value into the room of the key's item. The room stays, and so do the hash and
+/// the key, which are not stored again.
 pub fn rewrite<W: OwnerWords>(words: &mut W, offset: u64, key: &[u8], value: &[u8])
     requires key { KeyFits key.now }
     requires value { ValueFits value.now }
@@ -57,7 +57,8 @@ fn put_words<W: OwnerWords>(words: &mut W, offset: u64, from: &[u64])
     requires low { offset + length from.now < 2 ^ 64 }
     requires kept { Kept (W.owner words.old) }
     requires allowed { CanPlay (puts_from offset from.now) (W.owner words.old) }
-    ensures events { W.owner words.new ≡ plays (puts_from offset from.entry.now) (W.owner words.old) }
+    ensures events { W.owner words.new
+        ≡ plays (puts_from offset from.entry.now) (W.owner words.old) }
     ensures home { W.home words.new ≡ W.home words.old }
     ensures kept { Kept (W.owner words.new) }
 {
