@@ -3,9 +3,8 @@
 //! oldest entry.
 //!
 //! The layer above may rely on this: `find` gives the slot whose live item has the key, exactly where there is
-//! one; `place` and `clear` store one entry, and `place` in the slot that `specs/Place` says. `proofs/` has what
-//! these are to the cache machine: the slot that a new entry takes is that of the record which the machine
-//! displaces. No call takes memory, and none refuses.
+//! one; `place` and `clear` store one entry, and `place` in the slot that `specs/Place` says. No call takes
+//! memory, and none refuses.
 #![tactic(auto)]
 
 mod finding;
