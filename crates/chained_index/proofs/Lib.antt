@@ -1,4 +1,4 @@
-mod Chained
+pub mod Chained
 mod Walk
 mod ChainLists
 mod Effects
@@ -10,6 +10,9 @@ mod Walking
 mod Full
 mod FreeList
 mod Calls
-mod Counted
+pub mod Counted
 mod Finding
 mod AsMade
+pub mod Stays
+pub mod Listed
+pub mod Numbers

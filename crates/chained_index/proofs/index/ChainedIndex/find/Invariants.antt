@@ -1,4 +1,4 @@
-use Rattle.std.proofs.Common.{◌≡◌, ℕ, ◌<◌}
+use Rattle.std.proofs.Common.{◌≡◌, ◌<◌}
 use Rattle.epoch_core.specs.Kept.{Kept}
 use Rattle.chained_index.proofs.Walking.{IsAt}
 use Rattle.chained_index.proofs.Finding.{NoneBefore, NoneAt}

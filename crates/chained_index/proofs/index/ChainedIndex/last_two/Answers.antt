@@ -1,9 +1,8 @@
-use Rattle.std.proofs.Common.{◌≡◌, ℕ, ◌<◌, ◌≤◌, ◌∙◌, sym, ap, arith, rules, add-zero}
+use Rattle.std.proofs.Common.{◌≡◌, ◌∙◌, sym, ap, arith, rules}
 use Rattle.epoch_core.specs.declared.state.OwnerState.{OwnerState}
 use Rattle.epoch_core.specs.declared.shape.Shape.{Shape}
 use Rattle.epoch_core.specs.OwnerState.{link_in}
 use Rattle.chained_index.specs.Index.{Index}
-use Rattle.chained_index.specs.ChainShape.{bucket_at, HasChainShape}
 use Rattle.chained_index.proofs.Chained.{chained}
 use Rattle.chained_index.proofs.Walking.{at_end, end_found, one_further, behind_further}
 use Rattle.chained_index.proofs.index.ChainedIndex.last_two.Goals as goal

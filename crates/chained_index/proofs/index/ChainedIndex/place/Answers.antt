@@ -1,12 +1,8 @@
-use Rattle.std.proofs.Common.{◌≡◌, ℕ, ◌≢◌, ◌≤◌, ◌∙◌, Option, option_to_list, length, List, [], ◌∷◌, ◌++◌, refl, sym, ap, subst, arith, rules}
+use Rattle.std.proofs.Common.{◌≡◌, ℕ, ◌≢◌, ◌∙◌, length, [], ◌∷◌, ◌++◌, sym, ap, subst, arith, rules}
 use Rattle.std.proofs.lemmas.List.{nil_from_length}
-use Rattle.std.proofs.lemmas.List.Elements.{Contains-push}
 use Rattle.mica_words.specs.Entry.{entry_of}
-use Rattle.epoch_core.specs.declared.shape.Shape.{Shape}
 use Rattle.epoch_core.specs.declared.state.OwnerState.{OwnerState}
-use Rattle.epoch_core.specs.declared.event.Event.TheVariants.{PutsEntry, PutsLink}
-use Rattle.epoch_core.specs.OwnerState.{link_in}
-use Rattle.epoch_core.specs.Chain.{IsFreeSpare}
+use Rattle.epoch_core.specs.declared.event.Event.TheVariants.{PutsEntry}
 use Rattle.epoch_core.specs.Events.{MayPutEntry, MayPutLink, after}
 use Rattle.epoch_core.specs.Kept.{Kept}
 use Rattle.chained_index.specs.ChainEntries.{entries_of}

@@ -1,14 +1,14 @@
-use Rattle.std.proofs.Common.{◌≡◌, ℕ, ◌-◌, ◌<◌, ◌≤◌, rules, ◌≢◌, ◌⊎◌, ◌∙◌, inl, inr, List, sym, ap, subst, arith, length, vec_len, vec_capacity, ◌++◌, ◌∷◌, []}
+use Rattle.std.proofs.Common.{◌≡◌, ℕ, ◌-◌, ◌≤◌, rules, ◌∙◌, List, sym, ap, subst, arith, length, vec_len, vec_capacity}
 use Rattle.epoch_core.specs.declared.state.OwnerState.{OwnerState}
 use Rattle.epoch_core.specs.declared.shape.Shape.{Shape}
-use Rattle.epoch_core.specs.declared.event.Event.TheVariants.{PutsEntry, PutsLink}
+use Rattle.epoch_core.specs.declared.event.Event.TheVariants.{PutsEntry}
 use Rattle.epoch_core.specs.Shape.{IsBucket}
 use Rattle.epoch_core.specs.OwnerState.{entry_in}
 use Rattle.epoch_core.specs.Events.{MayPutEntry, MayPutLink, after}
 use Rattle.epoch_core.specs.Kept.{Kept}
 use Rattle.chained_index.specs.Index.{Index, IsIndexOf}
 use Rattle.chained_index.proofs.Chained.{Chained, chained}
-use Rattle.chained_index.proofs.Calls.{its_own, end_in_chain, end_inside, chain_still, may_cut, end_stays, before_in_chain, release_room, used_some, moved, removed_by, index_removed_by, released_by_call, index_released_by_call}
+use Rattle.chained_index.proofs.Calls.{its_own, end_in_chain, end_inside, chain_still, may_cut, end_stays, before_in_chain, release_room, used_some, removed_by, index_removed_by, released_by_call, index_released_by_call}
 use Rattle.chained_index.proofs.index.ChainedIndex.remove.Goals as goal
 
 pub read-entry-requires : goal.read-entry-requires
