@@ -16,3 +16,4 @@ mod AsMade
 pub mod Stays
 pub mod Listed
 pub mod Numbers
+pub mod SpareCount
