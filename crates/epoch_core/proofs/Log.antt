@@ -1,17 +1,21 @@
 -- A word of the marked write in cache mode is in no room of a live item of another bucket: the log's window and its rooms say so.
-use Rattle.std.proofs.Common.{◌≡◌, ℕ, zero, suc, ◌+◌, ◌*◌, ◌/◌, ◌%◌, ◌<◌, ◌≤◌, ◌≢◌, inl, inr, ◌⊎◌, List, length, sym, ap, ◌∙◌, subst, arith, add-zero, ⊎_elim}
+use Rattle.std.proofs.Common.{◌≡◌, ℕ, ◌+◌, ◌*◌, ◌/◌, ◌%◌, ◌<◌, ◌≤◌, ◌≢◌, inl, inr, ◌⊎◌, List, length, Some, sym, ap, ◌∙◌, subst, arith, add-zero, ⊎_elim}
 use Rattle.std.specs.List.{AllByRecursion}
 use Rattle.std.proofs.Math.Nat.{mul-le-mul_left, mul-suc, div-add-mod}
+use Rattle.std.proofs.lemmas.Bool.{cases_lt}
 use Rattle.mica_words.specs.Entry.{entry_offset}
 use Rattle.mica_words.specs.Header.{header_of, header_room}
 use Rattle.mica_words.specs.Stamp.{tail_of}
 use Rattle.mica_words.proofs.Fields.{header_room-header_of}
 use Rattle.mica_words.proofs.ItemWords.{header_word}
+use Rattle.mica_model.specs.declared.options.Options.{Options}
+use Rattle.mica_model.specs.declared.write.Write.{Write}
+use Rattle.mica_model.specs.Options.{IsValid}
 use Rattle.mica_model.specs.Write.{IsWrite}
-use Rattle.mica_model.specs.Cache.{record_of}
+use Rattle.mica_model.specs.Cache.{Cache, Record, record_of}
 use Rattle.mica_model.specs.CacheStep as cs
 use Rattle.mica_model.specs.Store.{Cell}
-use Rattle.mica_model.specs.History.{State, cache_state, state_of, after}
+use Rattle.mica_model.specs.History.{History, State, cache_state, state_of, after}
 use Rattle.mica_model.proofs.Histories.{state_snoc}
 use Rattle.mica_model.proofs.CacheLaws.{window, apart, own}
 use Rattle.epoch_core.specs.declared.state.OwnerState.{OwnerState}
@@ -29,21 +33,15 @@ quotients : (n q q' r x y : ℕ) → n * q + r ≡ x → n * q' + r ≡ y → x 
 quotients n q q' r x y is is' less near (inl up) = let more = mul-le-mul_left n up in omega (arith, more, mul-suc n q)
 quotients n q q' r x y is is' less near (inr down) = let more = mul-le-mul_left n down in omega (arith, more)
 
-order : (x y : ℕ) → (x < y) ⊎ (y ≤ x)
-order zero zero = inr (omega arith)
-order zero (suc y) = inl (omega arith)
-order (suc x) zero = inr (omega arith)
-order (suc x) (suc y) = ⊎_elim (λ (less : x < y). inl (omega arith)) (λ (more : y ≤ x). inr (omega arith)) (order x y)
-
 pub not_below : (n x y : ℕ) → x % n ≡ y % n → x < y → y < x + n → ⊥
 not_below n x y same less near =
-    quotients n (x / n) (y / n) (x % n) x y (div-add-mod x n) (ap (λ (z : ℕ). n * (y / n) + z) same ∙ div-add-mod y n) less near (order (x / n) (y / n))
+    quotients n (x / n) (y / n) (x % n) x y (div-add-mod x n) (ap (λ (z : ℕ). n * (y / n) + z) same ∙ div-add-mod y n) less near (cases_lt (x / n) (y / n))
 
-one_place : (n tail x y : ℕ) → x % n ≡ y % n → tail ≤ x + n → tail ≤ y + n → x < tail → y < tail → x ≡ y
+pub one_place : (n tail x y : ℕ) → x % n ≡ y % n → tail ≤ x + n → tail ≤ y + n → x < tail → y < tail → x ≡ y
 one_place n tail x y same a b c d = ⊎_elim
     (λ (less : x < y). absurd (not_below n x y same less (omega arith)))
-    (λ (more : y ≤ x). ⊎_elim (λ (less : y < x). absurd (not_below n y x (sym same) less (omega arith))) (λ (even : x ≤ y). omega arith) (order y x))
-    (order x y)
+    (λ (more : y ≤ x). ⊎_elim (λ (less : y < x). absurd (not_below n y x (sym same) less (omega arith))) (λ (even : x ≤ y). omega arith) (cases_lt y x))
+    (cases_lt x y)
 
 -- the room of an entry's item is the one that the machine has
 pub room_is : (o : OwnerState) → Kept o → (b entry : ℕ) (key : List ℕ) (cell : Cell) → Spells o b entry key cell → room_in o entry ≡ cell.room
@@ -53,11 +51,28 @@ room_is o s b entry key cell sp =
     ap (item_in o) (sym (add-zero (entry_offset entry))) ∙ (sp.item 0 (omega arith) ∙ header_word cell.room key cell.value) in
     ap header_room word ∙ header_room-header_of cell.room (length key) (length cell.value) fits.5
 
+-- a word of the write's item is in no room of what the log has of another key
+pub other_rooms : (options : Options) → IsValid options → (history : History) → AllByRecursion IsWrite history → (write : Write) → IsWrite write
+    → (before : Cache) → state_of options history ≡ cache_state before → (p : ℕ) → cs.IsOfItem options before write p
+    → (key : List ℕ) → key ≢ write.key → (r : Record) → record_of (cs.after options before write) key ≡ Some r
+    → (i : ℕ) → i < r.room → (r.offset + i) % options.words ≢ p % options.words
+other_rooms options valid history writes write is before at p item key differ r found i below same =
+    let mine = own options valid history writes write is before at p item in
+    let there = window options history writes write is before at key r found in
+    let here = window options history writes write is before at write.key mine.0 mine.1 in
+    let least = mine.2 in
+    let most = mine.3 in
+    let one : r.offset + i ≡ p =
+    one_place options.words (tail_of (cs.after options before write).stamp) (r.offset + i) p same (omega arith) (omega arith) (omega arith) (omega arith) in
+    ⊎_elim
+    (λ (first : r.offset + r.room ≤ mine.0.offset). omega arith)
+    (λ (second : mine.0.offset + mine.0.room ≤ r.offset). omega arith)
+    (apart options history writes write is before at key write.key r mine.0 found mine.1 differ)
+
 pub log_spares : (o : OwnerState) → Kept o → LogSpares o
 log_spares o s b write history before c slot entry other p is at belongs l n h i =
     let fits = subst (PhaseFits o) is s.phase in
     let all = all_parts IsWrite history write (subst (AllByRecursion IsWrite) fits.1 s.history.writes) in
-    let options = options_in o in
     let now : state_in o ≡ cache_state (cs.after (options_in o) before write) =
     ap (state_of (options_in o)) fits.1 ∙ (state_snoc (options_in o) history write ∙ ap (λ (z : State). after (options_in o) z write) at) in
     let unmarked : marked_in o.phase other ≡ 0 = ap (λ (z : Phase). marked_in z other) is ∙ bit_else b other (λ same. n (sym same)) in
@@ -65,20 +80,10 @@ log_spares o s b write history before c slot entry other p is at belongs l n h i
     let sp = some.2 in
     let found = found_record (record_of (cs.after (options_in o) before write) some.0) some.1 (entry_offset entry)
     (subst (λ (z : State). Has z some.0 some.1 (entry_offset entry)) now sp.has) in
-    let mine = own (options_in o) s.shape.ranges history all.0 write all.1 before at p belongs in
+    let differ : some.0 ≢ write.key = λ same. n (sym sp.bucket ∙ (ap (bucket_in o) same ∙ sym fits.0)) in
     let room = room_is o s other entry some.0 some.1 sp in
-    let others : some.0 ≢ write.key = λ same. n (sym sp.bucket ∙ (ap (bucket_in o) same ∙ sym fits.0)) in
-    let there = window (options_in o) history all.0 write all.1 before at some.0 found.0 found.1 in
-    let here = window (options_in o) history all.0 write all.1 before at write.key mine.0 mine.1 in
-    let offset = found.2 in
     let room' : some.1.room ≡ found.0.room = ap (λ (z : Cell). z.room) found.3 in
     let below = i.1 in
-    let least = mine.2 in
-    let most = mine.3 in
-    let one : entry_offset entry + i.0 ≡ p =
-    one_place o.shape.words (tail_of (cs.after (options_in o) before write).stamp) (entry_offset entry + i.0) p
-    (let e = i.2 in omega arith) (omega arith) (omega arith) (omega arith) (omega arith) in
-    ⊎_elim
-    (λ (first : found.0.offset + found.0.room ≤ mine.0.offset). omega arith)
-    (λ (second : mine.0.offset + mine.0.room ≤ found.0.offset). omega arith)
-    (apart (options_in o) history all.0 write all.1 before at some.0 write.key found.0 mine.0 found.1 mine.1 others)
+    let place : (found.0.offset + i.0) % o.shape.words ≡ p % o.shape.words =
+    ap (λ (z : ℕ). (z + i.0) % o.shape.words) {y = entry_offset entry} found.2 ∙ (let e = i.2 in omega arith) in
+    other_rooms (options_in o) s.shape.ranges history all.0 write all.1 before at p belongs some.0 differ found.0 found.1 i.0 (omega arith) place

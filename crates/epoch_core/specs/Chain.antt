@@ -1,4 +1,4 @@
--- The chain of a bucket: a main bucket, and the spare buckets behind it. In cache mode there are no spares.
+-- The chain of a bucket: a main bucket, and the spare buckets behind it. In cache mode there are none.
 use Rattle.std.specs.Prelude.{◌≡◌, ◌≢◌, ℕ, zero, suc, ◌<◌, ◌⊎◌}
 use Rattle.epoch_core.specs.declared.state.OwnerState.{OwnerState}
 use Rattle.epoch_core.specs.Shape.{IsMain, IsSpare, IsBucket}
@@ -33,7 +33,8 @@ pub record IsFreeSpare (o : OwnerState) (c : ℕ) : Type 0 where
   pub spare : IsSpare o.shape c
   pub free : (b : ℕ) → IsMain o.shape b → ¬ (InChain o b c)
 
--- Every bucket of the chain but the last is full, the slots of the last are used from 0 on, and no spare bucket of it is empty.
+-- Every bucket of the chain but the last is full, the slots of the last are used from 0 on, and no
+-- spare bucket of it is empty.
 pub record IsDense (o : OwnerState) (b : ℕ) : Type 0 where
   pub full : (c slot : ℕ) → InChain o b c → link_in o c ≢ 0 → slot < 15 → entry_in o c slot ≢ 0
   pub in_order : (c slot later : ℕ) → InChain o b c → slot < later → later < 15

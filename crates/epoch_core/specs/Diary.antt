@@ -1,5 +1,6 @@
--- The first events of an owner, as they are kept, and the rule of the one-word table whose seat has them in its view.
-use Rattle.std.specs.Prelude.{◌≡◌, ℕ, ◌<◌, [], ◌∷◌, ◌++◌, length, nat_lt, if◌then◌else◌}
+-- The first events of an owner, as they are kept, and the rule of the one-word table whose seat has
+-- them in its view.
+use Rattle.std.specs.Prelude.{◌≡◌, ℕ, ◌<◌, List, [], ◌∷◌, ◌++◌, length, nat_lt, if◌then◌else◌}
 use mathlib.Core.Option.{some}
 use lib.ListN.{get_elem?}
 use Rattle.atomic_table.specs.Table.{State, Me, Step}
@@ -39,14 +40,19 @@ event_of (End b) write = Ends b
 abbrev pub blank_diary : Blank → Diary
 blank_diary blank = record { owner = as_made blank.shape; kept = []; room = blank.room }
 
+-- one more, while there is room
+abbrev pub with_room : {X : Type 0} → ℕ → List X → X → List X
+with_room room kept x = if nat_lt (length kept) room then kept ++ x ∷ [] else kept
+
 -- the event is kept while there is room
 abbrev pub diary_after : Event → Diary → Diary
 diary_after e d = record d {
   owner = after e d.owner;
-  kept = if nat_lt (length d.kept) d.room then d.kept ++ e ∷ [] else d.kept;
+  kept = with_room d.room d.kept e;
 }
 
--- The owner's fact holds. The kept events can be played from the start, and while there is room for more they are all and lead here.
+-- The owner's fact holds. The kept events can be played from the start, and while there is room for
+-- more they are all, and lead here.
 pub record DiaryFits (d : Diary) : Type 0 where
   pub owner : Kept d.owner
   pub kept : CanPlay d.kept (as_made d.owner.shape)
@@ -60,5 +66,7 @@ AllFit s = (j : ℕ) (d : Diary) → get_elem? s.views j ≡ some d → DiaryFit
 abbrev pub knows : Step (Unit {0}) → Me (Unit {0}) Diary → ℕ → Me (Unit {0}) Diary → Type 0
 knows step me n now = (now ≡ me) × Kept me.0.owner
 
-abbrev pub happened : Event → Step (Unit {0}) → Me (Unit {0}) Diary → ℕ → Me (Unit {0}) Diary → Type 0
-happened e step me n now = (now ≡ (diary_after e me.0, me.1)) × Kept me.0.owner × Kept (after e me.0.owner)
+abbrev pub happened :
+    Event → Step (Unit {0}) → Me (Unit {0}) Diary → ℕ → Me (Unit {0}) Diary → Type 0
+happened e step me n now =
+    (now ≡ (diary_after e me.0, me.1)) × Kept me.0.owner × Kept (after e me.0.owner)

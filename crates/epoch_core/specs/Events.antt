@@ -1,5 +1,6 @@
 -- The owner's events: when each may happen, and what it makes of the owner's state.
 use Rattle.std.specs.Prelude.{◌≡◌, ◌≢◌, ℕ, ◌+◌, ◌<◌, ◌^◌, ◌⊎◌, List, [], ◌∷◌, ◌++◌, length, slice_index, slice_set}
+use Rattle.mica_words.specs.Spelling.{item_words}
 use Rattle.mica_model.specs.declared.write.Write.{Write}
 use Rattle.mica_model.specs.Write.{IsWrite}
 use Rattle.mica_model.specs.CacheStep.{IsOfItem}
@@ -25,7 +26,8 @@ pub record MayBegin (o : OwnerState) (b : ℕ) : Type 0 where
   pub main : IsMain o.shape b
   pub not_worn : length o.history < o.shape.wear
 
--- a write that the machine accepts may be marked once it is begun in its key's bucket, by the stamp after it
+-- a write that the machine accepts may be marked once it is begun in its key's bucket,
+-- by the stamp after it
 pub record MayMark (o : OwnerState) (write : Write) (n : ℕ) : Type 0 where
   pub begun : o.phase ≡ Begun (bucket_in o write.key)
   pub fits : IsWrite write
@@ -42,14 +44,16 @@ abbrev pub SparesOthers : OwnerState → ℕ → ℕ → Type 0
 SparesOthers o b p = (other c slot entry : ℕ) → IsMain o.shape other → other ≢ b
     → HasLiveEntry o other c slot entry → ¬ (IsInRoom o entry p)
 
--- The word at the offset belongs to the write, by the state before it: in cache mode it is one of the item's, in store mode no other bucket's.
+-- The word at the offset belongs to the write, by the state before it: in cache mode it is one of the
+-- item's, in store mode no other bucket's.
 abbrev pub BelongsTo : OwnerState → ℕ → Write → State → ℕ → Type 0
 BelongsTo o b write (cache_state before) p = IsOfItem (options_in o) before write p
 BelongsTo o b write (store_state before) p = SparesOthers o b p
 
 -- an item word may be put where it belongs to the marked write
 pub record MayPutWord (o : OwnerState) (p : ℕ) : Type 0 where
-  pub its_word : WhenMarked o.phase (λ b write before. BelongsTo o b write (state_of (options_in o) before) p)
+  pub its_word : WhenMarked o.phase
+      (λ b write before. BelongsTo o b write (state_of (options_in o) before) p)
   pub low : p < 2 ^ 48
 
 -- the bucket belongs to the marked write's chain, or is a free spare
@@ -100,7 +104,8 @@ word_after (Ends b) n = n + 1
 
 abbrev pub words_after : Event → OwnerState → List ℕ
 words_after e o =
-    let place : ℕ = place_of o.shape e in slice_set o.words place (word_after e (slice_index o.words place))
+    let place : ℕ = place_of o.shape e in
+    slice_set o.words place (word_after e (slice_index o.words place))
 
 -- a mark is the write's event: the history gains it
 abbrev pub history_after : Event → History → History
@@ -135,3 +140,7 @@ plays (e ∷ es) o = plays es (after e o)
 abbrev pub puts_from : ℕ → List ℕ → List Event
 puts_from p [] = []
 puts_from p (x ∷ xs) = PutsWord p x ∷ puts_from (p + 1) xs
+
+-- the words of an item stored at the offset
+abbrev pub item_events : ℕ → ℕ → List ℕ → List ℕ → List Event
+item_events p room key value = puts_from p (item_words room key value)

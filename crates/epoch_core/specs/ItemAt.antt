@@ -11,4 +11,5 @@ use Rattle.epoch_core.specs.OwnerState.{item_in}
 pub record HasKey (o : OwnerState) (p : ℕ) (key : List ℕ) : Type 0 where
   pub len : header_key_len (item_in o p) ≡ length key
   pub hash : item_in o (p + 1) ≡ fnv1a key
-  pub words : (i : ℕ) → i < words_for (length key) → item_in o (p + 2 + i) ≡ slice_index (packed key) i
+  pub words : (i : ℕ) → i < words_for (length key)
+      → item_in o (p + 2 + i) ≡ slice_index (packed key) i

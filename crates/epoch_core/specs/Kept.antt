@@ -32,7 +32,7 @@ pub record Kept (o : OwnerState) : Type 0 where
   pub chains : HasChains o
   pub history : IsLawfulHistory o.shape o.history
   pub stamp : stamp_in o ≡ stamp_of (options_in o) o.history
-  -- twice the writes to the bucket, one more while a write is begun there, and one less while one is marked
+  -- twice the writes to the bucket, one more while a write is begun there, one less while one is marked
   pub epochs : (b : ℕ) → IsMain o.shape b
       → epoch_in o b + marked_in o.phase b ≡ 2 * writes_in o b + begun_in o.phase b
   pub state : (b : ℕ) → IsMain o.shape b → marked_in o.phase b ≡ 0 → StandsFor o b

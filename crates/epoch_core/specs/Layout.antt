@@ -1,4 +1,5 @@
--- Where words stand. Word 0 is the stamp. Each main bucket has its epoch, 15 entries and a link, and then each spare bucket 15 entries and a link. Then come the item words.
+-- Where words stand. Word 0 is the stamp. Each main bucket has its epoch, 15 entries and a link, and
+-- then each spare bucket 15 entries and a link. Then come the item words.
 use Rattle.std.specs.Prelude.{ℕ, ◌+◌, ◌*◌, ◌%◌, ◌<◌, min}
 use Rattle.epoch_core.specs.declared.shape.Shape.{Shape}
 use Rattle.epoch_core.specs.declared.shape.WordAt.{WordAt}
@@ -11,7 +12,8 @@ stamp_at = 0
 abbrev pub epoch_at : ℕ → ℕ
 epoch_at b = 1 + 17 * b
 
--- The place of a bucket's first entry. Before it stand the stamp, the 16 words of each bucket below, and the epoch of each main bucket up to it.
+-- The place of a bucket's first entry. Before it stand the stamp, the 16 words of each bucket below,
+-- and the epoch of each main bucket up to it.
 abbrev pub entries_at : Shape → ℕ → ℕ
 entries_at shape b = 1 + 16 * b + min (b + 1) shape.buckets
 

@@ -9,15 +9,17 @@ use Rattle.epoch_core.specs.declared.state.OwnerState.{OwnerState}
 use Rattle.epoch_core.specs.OwnerState.{stamp_in, entry_in}
 use Rattle.epoch_core.specs.Chain.{InChain}
 
--- In cache mode an item is live while the log, of this many words, has not passed it by this stamp. In store mode it always is.
+-- In cache mode an item is live while the log, of this many words, has not passed it by this stamp.
+-- In store mode it always is.
 abbrev pub IsLiveItem : Mode → ℕ → ℕ → ℕ → Type 0
 IsLiveItem Cache words stamp p = tail_of stamp ≤ p + words
 IsLiveItem Store words stamp p = Unit {0}
 
 abbrev pub IsLive : Shape → ℕ → ℕ → Type 0
-IsLive shape stamp entry = (entry ≢ 0) × IsLiveItem shape.mode shape.words stamp (entry_offset entry)
+IsLive shape stamp entry =
+    (entry ≢ 0) × IsLiveItem shape.mode shape.words stamp (entry_offset entry)
 
--- the slot of bucket c, in the chain of bucket b, has this entry, which is live by the stamp word now
+-- the slot of bucket c, in the chain of bucket b, has this entry, live by the stamp word now
 pub record HasLiveEntry (o : OwnerState) (b c slot entry : ℕ) : Type 0 where
   pub in_chain : InChain o b c
   pub in_bucket : slot < 15

@@ -4,13 +4,17 @@ use Rattle.mica_words.specs.Hash.{bucket_of}
 use Rattle.mica_model.specs.declared.options.Options.{Options}
 use Rattle.mica_model.specs.History.{State, state_of, writes_to_bucket}
 use Rattle.epoch_core.specs.declared.shape.Shape.{Shape}
+use Rattle.epoch_core.specs.declared.shape.WordAt.{WordAt}
 use Rattle.epoch_core.specs.declared.state.OwnerState.{OwnerState}
 use Rattle.epoch_core.specs.declared.state.Phase.{Phase}
 use Rattle.epoch_core.specs.declared.state.Phase.TheVariants.{Idle, Begun, Marked}
 use Rattle.epoch_core.specs.Shape.{options_of}
-use Rattle.epoch_core.specs.Layout.{stamp_at, epoch_at, entry_at, link_at, item_at, word_count}
+use Rattle.epoch_core.specs.Layout.{stamp_at, epoch_at, entry_at, link_at, item_at, place_at, word_count}
 
 -- The words
+
+abbrev pub word_at : OwnerState → WordAt → ℕ
+word_at o at = slice_index o.words (place_at o.shape at)
 
 abbrev pub stamp_in : OwnerState → ℕ
 stamp_in o = slice_index o.words stamp_at
@@ -59,4 +63,5 @@ marked_in _ b = 0
 
 -- As made, before any event: all words are 0.
 abbrev pub as_made : Shape → OwnerState
-as_made shape = record { shape = shape; words = replicate (word_count shape) 0; history = []; phase = Idle }
+as_made shape =
+    record { shape = shape; words = replicate (word_count shape) 0; history = []; phase = Idle }

@@ -8,7 +8,8 @@ use Rattle.epoch_core.specs.declared.state.OwnerState.{OwnerState}
 use Rattle.epoch_core.specs.declared.state.Phase.TheVariants.{Idle}
 use Rattle.epoch_core.specs.OwnerState.{options_in}
 
--- One step of the machine. An accepted write is gained, and beside it words alone may change. A refused one changes nothing.
+-- One step of the machine. An accepted write is gained, and beside it words alone may change. A refused
+-- one changes nothing.
 pub record IsOwnerStep (old new : OwnerState) (write : Write) (outcome : Outcome) : Type 0 where
   pub allowed : MayGive (options_in old) old.history write outcome
   pub gained : new ≡ (if is_accepted outcome

@@ -41,7 +41,8 @@ IsOffset Store words p = p < words
 abbrev pub room_in : OwnerState → ℕ → ℕ
 room_in o entry = header_room (item_in o (entry_offset entry))
 
--- The entry, with the item at its offset, spells what the machine has of a key of the bucket. The item's hash word is among its words.
+-- The entry, with the item at its offset, spells what the machine has of a key of the bucket. The
+-- item's hash word is among its words.
 pub record Spells (o : OwnerState) (b entry : ℕ) (key : List ℕ) (cell : Cell) : Type 0 where
   pub bucket : bucket_in o key ≡ b
   pub has : Has (state_in o) key cell (entry_offset entry)
@@ -70,8 +71,10 @@ pub record StandsFor (o : OwnerState) (b : ℕ) : Type 0 where
   pub nothing_else : (c slot entry : ℕ) → HasLiveEntry o b c slot entry
       → (key : List ℕ) × (cell : Cell) × Spells o b entry key cell
   -- each of the bucket's records or pairs is spelt
-  pub each : (key : List ℕ) (cell : Cell) (p : ℕ) → bucket_in o key ≡ b → Has (state_in o) key cell p
-      → (c : ℕ) × (slot : ℕ) × (entry : ℕ) × HasLiveEntry o b c slot entry × Spells o b entry key cell
+  pub each : (key : List ℕ) (cell : Cell) (p : ℕ)
+      → bucket_in o key ≡ b → Has (state_in o) key cell p
+      → (c : ℕ) × (slot : ℕ) × (entry : ℕ)
+      × HasLiveEntry o b c slot entry × Spells o b entry key cell
   -- and only once
   pub once : (c slot entry c' slot' entry' : ℕ) (key : List ℕ) (cell : Cell)
       → HasLiveEntry o b c slot entry → HasLiveEntry o b c' slot' entry'
@@ -83,5 +86,6 @@ pub record StandsFor (o : OwnerState) (b : ℕ) : Type 0 where
   -- nor do they with the room of a live item of another bucket that is not marked
   pub apart : (other c slot entry c' slot' entry' : ℕ)
       → IsMain o.shape other → other ≢ b → marked_in o.phase other ≡ 0
-      → HasLiveEntry o b c slot entry → HasLiveEntry o other c' slot' entry' → RoomsApart o entry entry'
+      → HasLiveEntry o b c slot entry → HasLiveEntry o other c' slot' entry'
+      → RoomsApart o entry entry'
   pub chain : HasChain o.shape.mode o b

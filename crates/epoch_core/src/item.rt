@@ -3,7 +3,7 @@ ghost use Rattle.std.specs.Prelude.{◌≡◌, ℕ, ◌+◌, ◌<◌, ◌≤◌,
 ghost use Rattle.mica_words.specs.Item.{KeyFits, ValueFits, item_size as item_size_of};
 ghost use Rattle.mica_words.specs.Spelling.{item_words};
 ghost use Rattle.epoch_core.specs.OwnerState.{item_in};
-ghost use Rattle.epoch_core.specs.Events.{CanPlay, plays, puts_from};
+ghost use Rattle.epoch_core.specs.Events.{CanPlay, plays, puts_from, item_events};
 ghost use Rattle.epoch_core.specs.ItemAt.{HasKey};
 ghost use Rattle.epoch_core.specs.Kept.{Kept};
 
@@ -22,7 +22,8 @@ pub fn holds_key<W: OwnerWords>(words: &mut W, offset: u64, key: &[u8]) -> bool
     requires offset { offset < 2 ^ 48 }
     requires key { KeyFits key.now }
     ensures holds { IsTrue result ↔ HasKey (W.owner words.old) offset key.entry.now }
-    ensures same { (W.owner words.new ≡ W.owner words.old) × (W.home words.new ≡ W.home words.old) }
+    ensures same { W.owner words.new ≡ W.owner words.old }
+    ensures home { W.home words.new ≡ W.home words.old }
 {
     let header = words.read(WordAt::Item(offset));
     if header_key_len(header) as usize != key.len() {
@@ -39,7 +40,8 @@ fn holds_words<W: OwnerWords>(words: &mut W, offset: u64, expected: &[u64]) -> b
     requires { offset + length expected.now < 2 ^ 64 }
     ensures holds { IsTrue result ↔ ((i : ℕ) → i < length expected.entry.now
         → item_in (W.owner words.old) (offset + i) ≡ slice_index expected.entry.now i) }
-    ensures same { (W.owner words.new ≡ W.owner words.old) × (W.home words.new ≡ W.home words.old) }
+    ensures same { W.owner words.new ≡ W.owner words.old }
+    ensures home { W.home words.new ≡ W.home words.old }
 {
     for (i, word) in expected.iter().enumerate() {
         if words.read(WordAt::Item(offset + i as u64)) != *word {
@@ -54,8 +56,9 @@ pub fn write_item<W: OwnerWords>(words: &mut W, offset: u64, room: u32, key: &[u
     requires key { KeyFits key.now }
     requires value { ValueFits value.now }
     requires room { room < 65536 }
-    requires allowed { CanPlay (puts_from offset (item_words room key.now value.now)) (W.owner words.old) }
-    ensures events { W.owner words.new ≡ plays (puts_from offset (item_words room key.entry.now value.entry.now)) (W.owner words.old) }
+    requires allowed { CanPlay (item_events offset room key.now value.now) (W.owner words.old) }
+    ensures events { W.owner words.new
+        ≡ plays (item_events offset room key.entry.now value.entry.now) (W.owner words.old) }
     ensures kept { Kept (W.owner words.new) }
     ensures home { W.home words.new ≡ W.home words.old }
 {
@@ -85,7 +88,8 @@ fn put_words<W: OwnerWords>(words: &mut W, offset: u64, from: &[u64])
     requires some { 0 < length from.now }
     requires room { offset + length from.now < 2 ^ 64 }
     requires allowed { CanPlay (puts_from offset from.now) (W.owner words.old) }
-    ensures events { W.owner words.new ≡ plays (puts_from offset from.entry.now) (W.owner words.old) }
+    ensures events { W.owner words.new
+        ≡ plays (puts_from offset from.entry.now) (W.owner words.old) }
     ensures kept { Kept (W.owner words.new) }
     ensures home { W.home words.new ≡ W.home words.old }
 {

@@ -1,8 +1,9 @@
-//! The core: the words of one partition, what its owner knows of them, and the traits whose methods are the events that change them.
+//! The core: the words of one partition, what its owner knows of them, and the traits whose methods are
+//! the events that change them.
 //!
-//! The layer above may rely on this: an event that may happen (`MayBegin` to `MayEnd`) makes of the owner's state what
-//! `after` says, and whatever happened, `Kept` holds of it: in each bucket with no marked write the words stand for the
-//! machine's state.
+//! The layer above may rely on this: an event that may happen (`MayBegin` to `MayEnd`) makes of the
+//! owner's state what `after` says, and whatever happened, `Kept` holds of it: in each bucket with no
+//! marked write the words stand for the machine's state.
 #![tactic(auto)]
 
 mod event;

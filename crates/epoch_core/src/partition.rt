@@ -23,19 +23,24 @@ pub trait Partition {
     fn put(&mut self, key: &[u8], value: &[u8]) -> Outcome
         requires key { KeyFits key.now }
         requires value { ValueFits value.now }
-        ensures step { IsOwnerStep (owner self.old) (owner self.new) (write_of Put key.now value.now) result }
+        ensures step { IsOwnerStep (owner self.old) (owner self.new)
+            (write_of Put key.now value.now) result }
         ensures home { home self.new ≡ home self.old };
 
     fn del(&mut self, key: &[u8]) -> Outcome
         requires { KeyFits key.now }
-        ensures step { IsOwnerStep (owner self.old) (owner self.new) (write_of Del key.now []) result }
+        ensures step { IsOwnerStep (owner self.old) (owner self.new)
+            (write_of Del key.now []) result }
         ensures home { home self.new ≡ home self.old };
 
-    /// Copies the key's value into the buffer, which is empty afterwards where there is none. Only loads happen.
+    /// Copies the key's value into the buffer, which is empty afterwards where there is none.
+    /// Only loads happen.
     fn get(&mut self, key: &[u8], out: &mut ItemBuf) -> Answer
         requires { KeyFits key.now }
-        ensures answer { IsAnswer result out.new (answer_of (options_in (owner self.old)) (owner self.old).history key.now) }
-        ensures same { (owner self.new ≡ owner self.old) × (home self.new ≡ home self.old) };
+        ensures answer { IsAnswer result out.new
+            (answer_of (options_in (owner self.old)) (owner self.old).history key.now) }
+        ensures same { owner self.new ≡ owner self.old }
+        ensures home { home self.new ≡ home self.old };
 
     /// The stamp after the last accepted write.
     fn stamp(&self) -> u64

@@ -1,10 +1,11 @@
-//! The owner's words in a vector. Beside them stands a table of one word, whose one seat's view is what contracts see of the owner.
+//! The owner's words in a vector. Beside them stands a table of one word, whose one seat's view is what
+//! contracts see of the owner.
 ghost use Rattle.std.specs.Prelude.{◌≡◌, ◌<◌, true, map, ◌∷◌, ◌++◌, [], length, nat_lt, if◌then◌else◌, IfOk, vec_len, vec_capacity};
 ghost use Rattle.epoch_core.specs.Shape.{IsValidShape, is_in_range};
 ghost use Rattle.epoch_core.specs.OwnerState.{as_made};
 ghost use Rattle.epoch_core.specs.Events.{IsAllowed, place_of};
 ghost use Rattle.epoch_core.specs.Kept.{Kept};
-ghost use Rattle.epoch_core.specs.Diary.{diary_after, owner_event};
+ghost use Rattle.epoch_core.specs.Diary.{with_room, diary_after, owner_event};
 
 use crate::event::{Event, OwnerEvent};
 use crate::shape::{Shape, WordAt};
@@ -17,7 +18,8 @@ use std::alloc::Global;
 use std::collections::LinkedList;
 use std::marker::{Brand, PhantomData};
 
-/// The owner's state, and the first of its events, of which there is room for so many. No value of it is made.
+/// The owner's state, and the first of its events, of which there is room for so many. No value of it
+/// is made.
 pub struct Diary {
     pub owner: OwnerState,
     pub kept: LinkedList<Event>,
@@ -95,8 +97,7 @@ pub struct PlainWords {
 
 // Adds the event where there is room.
 fn keep(events: &mut Vec<OwnerEvent>, event: OwnerEvent)
-    ensures items { events.new.items ≡ (if nat_lt (vec_len events.old) (vec_capacity events.old) then events.old.items ++ event ∷ []
-        else events.old.items) }
+    ensures items { events.new.items ≡ with_room (vec_capacity events.old) events.old.items event }
     ensures room { vec_capacity events.new ≡ vec_capacity events.old }
 {
     if events.len() < events.capacity() {
@@ -104,7 +105,8 @@ fn keep(events: &mut Vec<OwnerEvent>, event: OwnerEvent)
     }
 }
 
-// A step of the event that K names. It is told what the pick reads: the event in memory, and the write of a mark.
+// A step of the event that K names. It is told what the pick reads: the event in memory, and the write
+// of a mark.
 fn happen<K: Happens>(
     book: &Shared<(), Diary, Blank, Alone>,
     seat: &mut Seat<(), Diary>,

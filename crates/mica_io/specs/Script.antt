@@ -24,7 +24,7 @@ is_next_listed script = list_any (λ call. call == next_call script) script.fail
 abbrev pub after_call : Script → Script
 after_call script = record script { calls = next_call script }
 
--- a call that may move `there` bytes and is asked for `asked` moves n of them: all, up to the piece
+-- a call that is asked for `asked` bytes where `there` bytes could move moves n: all of them, up to the piece
 abbrev pub MovesPiece : Option Script → Option ℕ → ℕ → ℕ → Type 0
 MovesPiece None there asked n = ⊤
 MovesPiece (Some script) None asked n = n ≤ script.piece

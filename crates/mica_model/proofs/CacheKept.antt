@@ -19,7 +19,8 @@ use Rattle.mica_model.specs.CacheStep as cs
 use Rattle.mica_model.specs.CacheStep.{others, new_record, kept_record, may_keep, without_first, is_in_bucket}
 use Rattle.mica_model.proofs.Found as found
 use Rattle.mica_model.proofs.Laid as laid
-use Rattle.mica_model.proofs.Laid.{IsLaid, IsUnique}
+use Rattle.mica_model.specs.CacheFields.{IsUnique}
+use Rattle.mica_model.proofs.Laid.{IsLaid}
 
 -- a record whose key and value fit, in a room of the item's size or more
 pub record IsRecord (held : Record) : Type 0 where

@@ -1,7 +1,8 @@
 -- The laws of the cache machine's states, over lawful histories.
-use Rattle.std.proofs.Common.{◌≡◌, ℕ, ◌+◌, ◌*◌, ◌≤◌, ◌<◌, ◌⊎◌, List, [], ◌∷◌, ◌++◌, length, Option, Some, None, Bool, true, false, cond, not, refl, sym, ap, ◌∙◌, subst, arith, ◌≢◌, eqb}
+use Rattle.std.proofs.Common.{is_some, ◌≡◌, ℕ, ◌+◌, ◌*◌, ◌≤◌, ◌<◌, ◌⊎◌, List, [], ◌∷◌, ◌++◌, length, Option, Some, None, Bool, true, false, cond, not, refl, sym, ap, ◌∙◌, subst, arith, ◌≢◌, eqb}
 use Rattle.std.specs.List.{find, filter, fold, AllByRecursion as AllOf, count_by}
-use Rattle.std.specs.Prelude.{map}
+use Rattle.std.specs.Prelude.{map, option_map}
+use Rattle.std.proofs.lemmas.Option.{same_Some}
 use Rattle.std.proofs.lemmas.Bool.{leb-true, le-leb, eqb-true, ne_eqb}
 use Rattle.std.proofs.lemmas.List.Sums.{sum_by_push}
 use Rattle.std.proofs.lemmas.List.Elements.{filter-append}
@@ -17,7 +18,7 @@ use Rattle.mica_model.specs.declared.write.Op.{Op}
 use Rattle.mica_model.specs.declared.write.Op.TheVariants.{Put, Del}
 use Rattle.mica_model.specs.Options.{IsValid}
 use Rattle.mica_model.specs.Write.{IsWrite, size_of}
-use Rattle.mica_model.specs.Cache.{Record, Cache, has_key, record_of, is_live}
+use Rattle.mica_model.specs.Cache.{Record, Cache, has_key, record_of, value_in, is_live}
 use Rattle.mica_model.specs.CacheStep as cs
 use Rattle.mica_model.specs.CacheStep.{others, new_record, kept_record, without_first, is_in_bucket}
 use Rattle.mica_model.specs.History.{History, State, cache_state, store_state, after, start, state_of, accepted_in}
@@ -61,6 +62,13 @@ module _ (options : Options) (s : Cache) (kept : IsKept options s) where
       let fine = record_is key r is in
       subst (λ (k : List ℕ). KeyFits k × AreBytes k × ValueFits r.value × AreBytes r.value × (item_size k r.value ≤ r.room) × (r.room < 65536)) key_is
       (fine.key, fine.key_bytes, fine.value, fine.value_bytes, fine.size, (let room = fine.room in omega arith))
+
+  value_by : (key value : List ℕ) (o : Option Record) → record_of s key ≡ o → option_map (λ held. held.value) o ≡ Some value → ValueFits value
+  value_by key value None at is = cc
+  value_by key value (Some r) at is = subst ValueFits (same_Some r.value value is) (record_is key r at).value
+
+  pub value_kept : (key value : List ℕ) → value_in s key ≡ Some value → ValueFits value
+  value_kept key value is = value_by key value (record_of s key) refl is
 
   -- the log's window
   pub window_kept : (key : List ℕ) (r : Record) → record_of s key ≡ Some r → (tail_of s.stamp ≤ r.offset + options.words) × (r.offset + r.room ≤ tail_of s.stamp)
@@ -240,10 +248,22 @@ module _ (options : Options) (valid : IsValid options) (s : Cache) (kept : IsKep
   put_record_of Put at = put_record_by (kept_record options s write) refl
   put_record_of Del at = cc
 
+  put_found : (o : Option Record) → kept_record options s write ≡ o → is_some (record_of (put_of o) write.key) ≡ true
+  put_found None at = ap is_some (found.found_append_none (has_key write.key) (others write.key s.records) (new_record s write ∷ []) no_other ∙ alone)
+  put_found (Some held) at = ap is_some (laid.found_map (rewritten write) (rewritten_key write) write.key s.records held (keeps_put options s write held at).is)
+
+  written_by : (op : Op) → op ≡ Put → is_some (record_of (cs.after_op op options s write) write.key) ≡ true
+  written_by Put at = put_found (kept_record options s write) refl
+  written_by Del at = cc
+
   -- after a put, its key has a record of its value, whose room has the item
   pub put_held : write.op ≡ Put → (r : Record) × (record_of (cs.after options s write) write.key ≡ Some r) × (r.value ≡ write.value) × (r.offset ≡ cs.offset_of options s write) × (size_of write ≤ r.room)
   unfolding cs.after
   put_held at = let p = put_record_of write.op at in (p.held, p.stays, p.value, p.offset, p.size)
+
+  -- and so it has one after the write itself
+  pub written_held : write.op ≡ Put → is_some (record_of (cs.after_write options s write) write.key) ≡ true
+  written_held at = written_by write.op at
 
   own_by : (op : Op) → write.op ≡ op → (p : ℕ) → cs.IsOfItemBy op options s write p
       → (r : Record) × (record_of (cs.after options s write) write.key ≡ Some r) × (r.offset ≤ p) × (p < r.offset + r.room)

@@ -84,6 +84,14 @@ module _ {X : Type 0} where
         | false ↦ λ e. found_append_none p xs ys e
       ] is
 
+  pub found_append_some : (p : X → Bool) (xs ys : List X) (x : X) → find p xs ≡ Some x → find p (xs ++ ys) ≡ Some x
+  found_append_some p [] ys x is = cc
+  found_append_some p (y ∷ xs) ys x is =
+      elim (p y) as (λ b. cond b (Some y) (find p xs) ≡ Some x → cond b (Some y) (find p (xs ++ ys)) ≡ Some x) [
+        | true ↦ λ e. e
+        | false ↦ λ e. found_append_some p xs ys x e
+      ] is
+
   pub found_push_other : (p : X → Bool) (xs : List X) (y : X) → p y ≡ false → find p (xs ++ y ∷ []) ≡ find p xs
   found_push_other p [] y other = ap (λ b. cond b (Some y) None) other
   found_push_other p (x ∷ xs) y other = ap (cond (p x) (Some x)) (found_push_other p xs y other)

@@ -7,6 +7,7 @@ use Rattle.std.proofs.lemmas.Bool.{true≢false, false_from_ne_true}
 use Rattle.std.proofs.lemmas.Option.{same_Some}
 use Rattle.std.proofs.lemmas.Slice.Eq.{bytes_eq-Decides}
 use Rattle.mica_model.specs.Cache.{Record, has_key}
+use Rattle.mica_model.specs.CacheFields.{IsUnique}
 use Rattle.mica_model.specs.CacheStep.{without_first}
 use Rattle.mica_model.proofs.Found.{missed_filter, missed_without_first, found_passes}
 
@@ -102,11 +103,6 @@ laid_apart p q differ from upto (x ∷ rs) r r' laid is is' =
         | false ↦ λ e'. laid_apart p q differ (x.offset + x.room) upto rs r r' laid.1 e e'
       ] is'
     ] refl is
-
--- no key has two records
-abbrev pub IsUnique : List Record → Type 0
-IsUnique [] = Unit {0}
-IsUnique (r ∷ rs) = (find (has_key r.key) rs ≡ None) × IsUnique rs
 
 pub unique_filter : (q : Record → Bool) (rs : List Record) → IsUnique rs → IsUnique (filter q rs)
 unique_filter q [] unique = tt

@@ -3,3 +3,4 @@ pub mod TraceGrammar
 pub mod ReportGrammar
 pub mod Rounds
 pub mod LawfulReport
+pub mod ExactReport

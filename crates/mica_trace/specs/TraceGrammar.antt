@@ -1,6 +1,7 @@
 -- Traces, by cases on bytes.
 use Rattle.std.specs.Prelude.{◌≡◌, ◌≢◌, ℕ, ◌+◌, ◌<◌, ◌≤◌, Bool, true, false, List, [], ◌∷◌, ◌++◌, length, count_by, codes}
 use Rattle.std.specs.List.{AllByRecursion, AllZip}
+use Rattle.std.specs.Fmt.{decimal}
 use Rattle.mica_trace.specs.declared.limits.TheConstants.{MAX_LINES, MAX_LINE_LEN, MAX_ROUNDS}
 use Rattle.mica_trace.specs.declared.line.TraceOp.{TraceOp}
 use Rattle.mica_trace.specs.declared.line.TraceOp.TheVariants.{Put, Del, Get, Sync}
@@ -80,6 +81,14 @@ IsFaultOf n syncs text (BadLine m) =
     (m ≡ n) × (n ≤ MAX_LINES) × (length text ≤ MAX_LINE_LEN) × ((line : TraceLine) → ¬ (IsTextOf text line))
 IsFaultOf n syncs text TooManyRounds = (n ≤ MAX_LINES) × (text ≡ codes "sync") × (MAX_ROUNDS ≤ syncs + 1)
 IsFaultOf n syncs text NoMemory = ⊥
+
+-- what is said of a fault
+abbrev pub fault_text : TraceFault → List ℕ
+fault_text (BadLine n) = codes "bad line " ++ decimal n
+fault_text (LongLine n) = codes "long line " ++ decimal n
+fault_text TooManyLines = codes "too many lines"
+fault_text TooManyRounds = codes "too many rounds"
+fault_text NoMemory = codes "out of memory"
 
 -- A walk over the lines stops with this fault: the lines before are those of a trace, and the next one is refused for it.
 pub record Refuses (text : List ℕ) (fault : TraceFault) : Type 0 where

@@ -44,12 +44,13 @@ impl Model for Report {
 }
 
 impl Report {
-    pub fn new(alloc: Global) -> Self
-        ensures { result ≡ [] }
+    /// No lines, with room for this many.
+    pub fn with_capacity(alloc: Global, lines: u32) -> Result<Self, NoMemory>
+        ensures { IfOk result (λ report. report ≡ []) }
     {
-        Report {
-            lines: Vec::new(alloc),
-        }
+        Ok(Report {
+            lines: Vec::with_capacity(alloc, lines as usize)?,
+        })
     }
 
     /// Adds a line at the end.
@@ -66,6 +67,13 @@ impl Report {
         ensures { result ≡ length self.now }
     {
         self.lines.len() as u32
+    }
+
+    /// All lines, in order.
+    pub fn lines(&self) -> &[Line]
+        ensures { result.now ≡ self.now }
+    {
+        self.lines.as_slice()
     }
 
     /// The line of this number, from 0.

@@ -37,11 +37,18 @@ impl Trace {
     }
 
     pub fn len(&self) -> u32
-        ensures len { result ≡ length self.now }
-        ensures few { IsWithinLimits self.now }
-        ensures lines { AllByRecursion IsTraceLine self.now }
+        ensures { result ≡ length self.now }
     {
         self.lines.len() as u32
+    }
+
+    /// All lines, in order.
+    pub fn lines(&self) -> &[TraceLine]
+        ensures same { result.now ≡ self.now }
+        ensures lines { AllByRecursion IsTraceLine self.now }
+        ensures within { IsWithinLimits self.now }
+    {
+        self.lines.as_slice()
     }
 
     /// The line of this number, from 0.

@@ -5,16 +5,21 @@ use Rattle.std.specs.Io.KnownBytes.{Consumes}
 use Rattle.std.proofs.KnownBytes.{Consumes-trans}
 use Rattle.mica_io.proofs.source.read_up_to.Goals as goal
 
--- the bytes that a read put after the front are consumed after those of the front
-Consumes-after : (a b c : Option (List ℕ)) (xs ys : List ℕ) (filled n : ℕ) → take filled ys ≡ take filled xs
-    → Consumes a b (take filled xs) → Consumes b c (take n (drop filled ys)) → Consumes a c (take (filled + n) ys)
-Consumes-after a b c xs ys filled n front before more =
-    subst (Consumes a c) (sym (take-add filled n ys ∙ ap (λ p. p ++ take n (drop filled ys)) front)) (Consumes-trans a b c _ _ before more)
+-- room is made after the front, and what a read puts there is consumed after it
+Consumes-after : (a b c : Option (List ℕ)) (front roomy lent after : List ℕ) (filled n : ℕ)
+    → take filled roomy ≡ take filled front → lent ≡ roomy → take filled after ≡ take filled lent
+    → Consumes a b (take filled front) → Consumes b c (take n (drop filled after))
+    → Consumes a c (take (filled + n) after)
+Consumes-after a b c front roomy lent after filled n made same kept before more =
+    let whole = kept ∙ ap (take filled) same ∙ made in
+    let split = take-add filled n after ∙ ap (λ p. p ++ take n (drop filled after)) whole in
+    subst (Consumes a c) (sym split) (Consumes-trans a b c _ _ before more)
 
 pub loop-filled-preserved : goal.loop-filled-preserved
 loop-filled-preserved g c =
     let read = c.in_ok-count.ensures in
+    let made = c.in_ok-make_room.ensures in
     let before = c.loop-filled.invariant in
-    let whole = with_items_is c.make_room.new.bytes c.read_after.new.bytes (search (rules, places)) in
-    let front = read.front ∙ ap (take c.loop-filled.filled) c.deref_mut.ensures.value ∙ c.in_ok-make_room.ensures.front in
-    (search (rules, places), c.in_ok-make_room.ensures.within, rw whole (Consumes-after _ _ _ _ _ _ _ front before.2 read.given), search rules, read.steady ∙ before.4)
+    let items = with_items_is c.make_room.new.bytes c.read_after.new.bytes (search (rules, places)) in
+    let consumed = Consumes-after _ _ _ _ _ _ _ _ _ made.front c.deref_mut.ensures.value read.front before.2 read.given in
+    (search (rules, places), made.within, rw items consumed, search rules, read.steady ∙ before.4)

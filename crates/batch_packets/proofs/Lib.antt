@@ -1,0 +1,5 @@
+pub mod ItemLaws
+pub mod RequestLaws
+pub mod ReplyLaws
+pub mod Walk
+pub mod Splits

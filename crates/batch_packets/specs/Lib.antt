@@ -1,0 +1,5 @@
+pub mod Faults
+pub mod Datagram
+pub mod BatchGrammar
+pub mod ReplyGrammar
+pub mod Splitting

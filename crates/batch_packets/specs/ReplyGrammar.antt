@@ -1,0 +1,75 @@
+-- Replies to a batch, by cases on bytes.
+use Rattle.std.specs.Prelude.{◌≡◌, ◌+◌, ◌^◌, ◌<◌, ◌≤◌, ◌==◌, ◌&&◌, ◌||◌, ℕ, Bool, List, ◌∷◌, ◌++◌, length, drop, slice_index, nat_lt, nat_le, codes, IsTrue, All, if◌then◌else◌}
+use Rattle.std.specs.Int.{w16, w32, w64, to_le_bytes, from_le_bytes}
+use Rattle.batch_packets.specs.declared.replies.Reply.{Reply}
+use Rattle.batch_packets.specs.declared.replies.Replies.{Replies}
+use Rattle.batch_packets.specs.Datagram.{value_limit, datagram_text, FitsDatagram, Kind}
+
+-- Whether a version has this status: 0 hit, 1 miss, 2 stored, 3 deleted, 4 absent, 5 full spare,
+-- 6 full block, 7 worn, 9 bad batch.
+abbrev pub is_status : ℕ → ℕ → Bool
+is_status version status = nat_lt status 8 || status == 9
+
+-- the bytes that a value of this status may have: a hit alone has one
+abbrev pub longest_value : ℕ → ℕ → ℕ
+longest_value version status = if status == 0 then value_limit version else 0
+
+-- a reply that a version may have
+pub record IsReply (version : ℕ) (reply : Reply) : Type 0 where
+  pub status : IsTrue (is_status version reply.status)
+  pub value : length reply.value ≤ longest_value version reply.status
+
+-- its numbers are below the limits of their types, as in every value of the types
+pub record IsInRange (reply : Reply) : Type 0 where
+  pub ticket : reply.ticket < 2 ^ 32
+  pub stamp : reply.stamp < 2 ^ 64
+
+-- sixteen bytes and the value
+unfoldable pub reply_text : Reply → List ℕ
+reply_text reply =
+    reply.status ∷ 0 ∷ to_le_bytes w16 (length reply.value)
+    ++ to_le_bytes w32 reply.ticket ++ to_le_bytes w64 reply.stamp ++ reply.value
+
+-- the magic of replies
+abbrev pub replies_magic : List ℕ
+replies_magic = codes "MICR"
+
+-- the version of replies; there is one as yet
+abbrev pub version_of : Replies → ℕ
+version_of replies = 1
+
+-- the text of replies
+unfoldable pub replies_text : Replies → List ℕ
+replies_text replies =
+    datagram_text replies_magic reply_text (version_of replies) replies.number replies.replies
+
+-- replies that have a text: they fit a datagram, and each is one of its version
+pub record IsReplies (replies : Replies) : Type 0 where
+  pub fits : FitsDatagram reply_text (version_of replies) replies.replies
+  pub each : All (IsReply (version_of replies)) replies.replies
+
+-- the bytes are the text of these replies
+pub record SpellsReplies (bytes : List ℕ) (replies : Replies) : Type 0 where
+  pub text : bytes ≡ replies_text replies
+  pub lawful : IsReplies replies
+  pub number : replies.number < 2 ^ 32
+  pub in_range : All IsInRange replies.replies
+
+-- the status in the bytes of a reply
+abbrev pub status_at : List ℕ → ℕ
+status_at bytes = slice_index bytes 0
+
+-- the length of its value
+abbrev pub value_len_at : List ℕ → ℕ
+value_len_at bytes = from_le_bytes w16 (drop 2 bytes)
+
+-- what the bytes of a reply say; the byte after the status is 0
+abbrev pub replies_kind : Kind
+replies_kind = record {
+  magic = replies_magic;
+  fixed = 16;
+  is_known = λ version bytes. is_status version (status_at bytes) && (slice_index bytes 1 == 0);
+  is_allowed = λ version bytes.
+      nat_le (value_len_at bytes) (longest_value version (status_at bytes));
+  size = λ bytes. 16 + value_len_at bytes;
+}

@@ -1,0 +1,195 @@
+ghost use Rattle.std.specs.Prelude.{◌≡◌, false, IfOk, IfSome, IfNone, IsOkUnless};
+ghost use Rattle.batch_packets.specs.Faults.{AgreesWith};
+ghost use Rattle.batch_packets.specs.Datagram.{first_fault};
+
+use crate::header::VALUE_LIMIT;
+use crate::item::{Item, len_of, read_datagram, write_datagram};
+use crate::{BatchFault, Datagram};
+use mica_io::{Bytes, NoMemory};
+use std::alloc::Global;
+use std::marker::Model;
+
+/// What a request asks for.
+#[derive(Clone, Copy, Debug, PartialEq, Eq)]
+pub enum Want {
+    Get,
+    Put,
+    Del,
+}
+
+/// A request of a client. Its reply repeats the ticket. The value is empty unless it is a put.
+#[derive(Debug, Drop)]
+pub struct Request {
+    pub want: Want,
+    pub ticket: u32,
+    pub key: Bytes,
+    pub value: Bytes,
+}
+
+/// A list of requests.
+#[derive(Debug, Drop)]
+pub struct RequestList {
+    requests: Vec<Request>,
+}
+
+impl Model for RequestList {
+    ghost use Rattle.std.specs.Prelude.{List};
+    ghost use Rattle.batch_packets.specs.declared.batch.Request.{Request};
+
+    ghost Value = { List Request };
+
+    ghost view = { λ l. l.requests.items };
+}
+
+impl RequestList {
+    pub fn as_slice(&self) -> &[Request]
+        ensures { result.now ≡ self.now }
+    {
+        self.requests.as_slice()
+    }
+
+    pub fn into_vec(self) -> Vec<Request>
+        ensures { result.items ≡ self }
+    {
+        self.requests
+    }
+}
+
+impl From<Vec<Request>> for RequestList {
+    ghost from_gives = { λ requests list. list ≡ requests.items };
+
+    fn from(requests: Vec<Request>) -> Self {
+        RequestList { requests }
+    }
+}
+
+/// The requests of one datagram. The replies repeat its number.
+#[derive(Debug, Drop)]
+pub struct Batch {
+    pub number: u32,
+    pub requests: RequestList,
+}
+
+impl Want {
+    ghost use Rattle.batch_packets.specs.BatchGrammar.{operation_of, is_operation, longest_value};
+
+    fn of(byte: u8) -> Option<Want>
+        ensures known { IfSome result (λ want. byte ≡ operation_of want) }
+        ensures unknown { IfNone result (is_operation 1 byte ≡ false) }
+    {
+        match byte {
+            0 => Some(Want::Get),
+            1 => Some(Want::Put),
+            2 => Some(Want::Del),
+            _ => None,
+        }
+    }
+
+    fn byte(self) -> u8
+        ensures { result ≡ operation_of self }
+    {
+        match self {
+            Want::Get => 0,
+            Want::Put => 1,
+            Want::Del => 2,
+        }
+    }
+
+    fn longest_value(self) -> usize
+        ensures { result ≡ longest_value 1 (operation_of self) }
+    {
+        match self {
+            Want::Put => VALUE_LIMIT,
+            Want::Get | Want::Del => 0,
+        }
+    }
+}
+
+ghost use Rattle.batch_packets.specs.declared.batch.Batch.{Batch};
+ghost use Rattle.batch_packets.specs.BatchGrammar.{IsBatch, SpellsBatch, batch_text, batch_kind};
+
+impl Item for Request {
+    ghost use Rattle.batch_packets.specs.BatchGrammar.{IsRequest, IsInRange, request_text, batch_kind};
+
+    ghost kind = { batch_kind };
+
+    ghost text = { request_text };
+
+    ghost is_item = { IsRequest 1 };
+
+    ghost is_in_range = { IsInRange };
+
+    fn magic() -> [u8; 4] {
+        *b"MICA"
+    }
+
+    #[tactic(auto, unfolding(crate::specs::BatchGrammar::request_text))]
+    fn read(alloc: Global, from: &[u8]) -> Result<(Request, &[u8]), BatchFault> {
+        let [operation, key_len, v0, v1, t0, t1, t2, t3, texts @ ..] = from else {
+            return Err(BatchFault::Short);
+        };
+        let Some(want) = Want::of(*operation) else {
+            return Err(BatchFault::Op);
+        };
+        let key_len = usize::from(*key_len);
+        let value_len = usize::from(u16::from_le_bytes([*v0, *v1]));
+        if key_len == 0 || value_len > want.longest_value() {
+            return Err(BatchFault::Length);
+        }
+        if texts.len() < key_len + value_len {
+            return Err(BatchFault::Short);
+        }
+        let (key, after_key) = texts.split_at(key_len);
+        let (value, rest) = after_key.split_at(value_len);
+        let request = Request {
+            want,
+            ticket: u32::from_le_bytes([*t0, *t1, *t2, *t3]),
+            key: Bytes::copy(alloc, key)?,
+            value: Bytes::copy(alloc, value)?,
+        };
+        Ok((request, rest))
+    }
+
+    #[tactic(auto, unfolding(crate::specs::BatchGrammar::request_text))]
+    fn size(&self) -> usize {
+        8 + self.key.bytes().len() + self.value.bytes().len()
+    }
+
+    #[tactic(auto, unfolding(crate::specs::BatchGrammar::request_text))]
+    fn put(&self, out: &mut Vec<u8>) -> Result<(), NoMemory> {
+        let key = self.key.bytes();
+        let value = self.value.bytes();
+        out.extend_from_slice(&[self.want.byte(), key.len() as u8])?;
+        out.extend_from_slice(&(value.len() as u16).to_le_bytes())?;
+        out.extend_from_slice(&self.ticket.to_le_bytes())?;
+        out.extend_from_slice(key)?;
+        out.extend_from_slice(value)?;
+        Ok(())
+    }
+}
+
+/// The batch whose text the bytes are.
+#[tactic(auto, unfolding(crate::specs::BatchGrammar::batch_text))]
+pub fn read_batch(alloc: Global, from: &[u8]) -> Result<Batch, BatchFault>
+    ensures batch { IfOk result (SpellsBatch from.now) }
+    ensures fault { AgreesWith (first_fault batch_kind from.now) result }
+    // The text of a batch is read, unless memory runs out.
+    ensures only { (batch : Batch) → SpellsBatch from.now batch
+        → IsOkUnless result BatchFault.NoMemory }
+{
+    let (number, requests) = read_datagram(alloc, from)?;
+    Ok(Batch {
+        number,
+        requests: RequestList::from(requests),
+    })
+}
+
+/// The text of a batch.
+#[tactic(auto, unfolding(crate::specs::BatchGrammar::batch_text))]
+pub fn write_batch(alloc: Global, batch: &Batch) -> Result<Datagram, NoMemory>
+    requires { IsBatch batch.now }
+    ensures { IfOk result (λ text. text ≡ batch_text batch.now) }
+{
+    let requests = batch.requests.as_slice();
+    write_datagram(alloc, batch.number, requests, len_of(requests))
+}

@@ -1,0 +1,111 @@
+ghost use Rattle.std.specs.Prelude.{◌≡◌, ◌+◌, ◌++◌, ℕ, List, length, drop, All, IfOk, OnOk};
+ghost use Rattle.std.specs.List.{flat_map};
+ghost use Rattle.batch_packets.specs.Faults.{AgreesWith};
+ghost use Rattle.batch_packets.specs.Datagram.{Kind, FitsDatagram, datagram_text, item_fault, items_fault, first_fault};
+
+use crate::header::{HEADER_LEN, put_header, read_header};
+use crate::{BatchFault, Datagram};
+use mica_io::{Bytes, NoMemory};
+use std::alloc::Global;
+
+/// What a datagram has several of: requests in a batch, or replies.
+pub trait Item: Drop {
+    ghost kind: { Kind };
+
+    ghost text: { Self → List ℕ };
+
+    /// What may be written.
+    ghost is_item: { Self → Type 0 };
+
+    /// Its numbers are below the limits of their types.
+    ghost is_in_range: { Self → Type 0 };
+
+    fn magic() -> [u8; 4]
+        ensures { result ≡ kind.magic };
+
+    /// The item at the front, and the bytes after it.
+    fn read(alloc: Global, from: &[u8]) -> Result<(Self, &[u8]), BatchFault>
+        ensures text { IfOk result (λ x. from.now ≡ text x.0 ++ x.1.now) }
+        ensures lawful { IfOk result (λ x. is_item x.0) }
+        ensures in_range { IfOk result (λ x. is_in_range x.0) }
+        ensures rest { IfOk result (λ x. drop (kind.size from.now) from.now ≡ x.1.now) }
+        ensures fault { AgreesWith (item_fault kind 1 from.now) result };
+
+    /// How many bytes its text has.
+    fn size(&self) -> usize
+        requires { is_item self.now }
+        ensures { result ≡ length (text self.now) };
+
+    /// Appends its text.
+    fn put(&self, out: &mut Vec<u8>) -> Result<(), NoMemory>
+        requires { is_item self.now }
+        ensures { OnOk result (out.new.items ≡ out.old.items ++ text self.now) };
+}
+
+/// So many items, after which nothing follows.
+fn read_items<T: Item>(alloc: Global, count: u8, from: &[u8]) -> Result<Vec<T>, BatchFault>
+    ensures text { IfOk result (λ items. from.now ≡ flat_map T.text items.items) }
+    ensures count { IfOk result (λ items. length items.items ≡ count) }
+    ensures lawful { IfOk result (λ items. All T.is_item items.items) }
+    ensures in_range { IfOk result (λ items. All T.is_in_range items.items) }
+    ensures fault { AgreesWith (items_fault T.kind 1 count from.now) result }
+{
+    let mut items = Vec::new(alloc);
+    let mut rest = from;
+    for _ in 0..count {
+        let (item, after) = T::read(alloc, rest)?;
+        items.push(item)?;
+        rest = after;
+    }
+    if !rest.is_empty() {
+        return Err(BatchFault::Trailing);
+    }
+    Ok(items)
+}
+
+/// The number and the items of the datagram whose text the bytes are.
+#[tactic(auto, unfolding(crate::specs::Datagram::first_fault))]
+pub fn read_datagram<T: Item>(alloc: Global, from: &[u8]) -> Result<(u32, Vec<T>), BatchFault>
+    ensures text { IfOk result (λ x. from.now ≡ datagram_text T.kind.magic T.text 1 x.0 x.1.items) }
+    ensures fits { IfOk result (λ x. FitsDatagram T.text 1 x.1.items) }
+    ensures lawful { IfOk result (λ x. All T.is_item x.1.items) }
+    ensures in_range { IfOk result (λ x. All T.is_in_range x.1.items) }
+    ensures fault { AgreesWith (first_fault T.kind from.now) result }
+{
+    let (count, number, rest) = read_header(T::magic(), from)?;
+    let items = read_items(alloc, count, rest)?;
+    Ok((number, items))
+}
+
+/// The length of a datagram's text.
+pub fn len_of<T: Item>(items: &[T]) -> usize
+    requires lawful { All T.is_item items.now }
+    requires fits { FitsDatagram T.text 1 items.now }
+    ensures { result ≡ 10 + length (flat_map T.text items.now) }
+{
+    let mut len = HEADER_LEN;
+    for item in items {
+        len += item.size();
+    }
+    len
+}
+
+/// The text of a datagram, which has this length.
+pub fn write_datagram<T: Item>(
+    alloc: Global,
+    number: u32,
+    items: &[T],
+    len: usize,
+) -> Result<Datagram, NoMemory>
+    requires lawful { All T.is_item items.now }
+    requires fits { FitsDatagram T.text 1 items.now }
+    requires len { len ≡ 10 + length (flat_map T.text items.now) }
+    ensures { IfOk result (λ text. text ≡ datagram_text T.kind.magic T.text 1 number items.now) }
+{
+    let mut text = Vec::with_capacity(alloc, len)?;
+    put_header(&mut text, T::magic(), items.len() as u8, number)?;
+    for item in items {
+        item.put(&mut text)?;
+    }
+    Ok(Bytes::from(text))
+}

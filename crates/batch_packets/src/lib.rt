@@ -1,0 +1,21 @@
+//! Datagrams of the server as bytes: a batch of requests, and the replies to it.
+//!
+//! What is read is the batch, or the replies, whose text the bytes are. A fault is the first one in
+//! the order of the format, and comes exactly there; want of memory alone is free. What is written is
+//! the text. Bytes are the text of at most one batch, and of at most one list of replies.
+#![tactic(auto)]
+
+mod batch;
+mod fault;
+mod header;
+mod item;
+mod laws;
+mod replies;
+
+pub use batch::{Batch, Request, RequestList, Want, read_batch, write_batch};
+pub use fault::BatchFault;
+pub use laws::one_reading;
+pub use replies::{Replies, Reply, ReplyList, read_replies, write_replies};
+
+/// The text of a batch, or of replies.
+pub type Datagram = mica_io::Bytes;

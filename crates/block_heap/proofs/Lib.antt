@@ -1,0 +1,9 @@
+pub mod Order
+pub mod Merging
+pub mod Counting
+pub mod Places
+pub mod Taking
+pub mod Finding
+pub mod Giving
+pub mod Largest
+pub mod UsedBlocks

@@ -1,0 +1,32 @@
+ghost use Rattle.std.specs.Prelude.{◌≡◌};
+ghost use Rattle.block_heap.specs.Blocks.{free_block, used_block};
+
+/// Words that lie together, which are used or free as a whole.
+#[derive(Clone, Copy)]
+pub struct Block {
+    pub place: u32,
+    pub size: u32,
+    pub used: bool,
+}
+
+impl Block {
+    pub fn free(place: u32, size: u32) -> Self
+        ensures { result ≡ free_block place size }
+    {
+        Block {
+            place,
+            size,
+            used: false,
+        }
+    }
+
+    pub fn used(place: u32, size: u32) -> Self
+        ensures { result ≡ used_block place size }
+    {
+        Block {
+            place,
+            size,
+            used: true,
+        }
+    }
+}

@@ -1,0 +1,110 @@
+-- The values of options, and why they are valid.
+use Rattle.std.proofs.Common.{◌≡◌, ℕ, zero, suc, ◌/◌, ◌%◌, ◌^◌, ◌≤◌, Option, Some, None, Bool, true, false, true≢false, count_ones, nat_le, ◌&&◌, codes, bytes_eq, ap, sym, refl, subst, unwrap_or, if◌then◌else◌, arith, inl, inr}
+use lib.Count.{ones, ones_step}
+use Rattle.std.proofs.lemmas.Nat.{zero_from_ones, ones_le_self}
+use Rattle.std.proofs.lemmas.Bool.{leb-true}
+use Rattle.std.proofs.lemmas.Bool.Decides.{nat_tests, leb_tells}
+use Rattle.std.proofs.Math.Pow.{pow_mono}
+use Rattle.std.proofs.Common.{pow-suc}
+use Rattle.std.proofs.lemmas.Option.{none-some}
+use Rattle.std.specs.Int.{is_power_of_two}
+use Rattle.std.specs.Str.Parse.{digits_value}
+use Rattle.mica_model.specs.declared.options.Options.{Options}
+use Rattle.mica_model.specs.declared.options.Mode.{Mode}
+use Rattle.mica_model.specs.declared.options.Mode.TheVariants.{Store}
+use Rattle.mica_model.specs.Options.{InRange}
+use Rattle.mica_cmd.specs.Words.{Text}
+use Rattle.mica_cmd.specs.CommandLine.{mode, partitions, buckets, spares, words, readers, tries, wear, number, number_of, is_number, value_by, value_of, replay_options, IsOffered, ◌>>=◌}
+
+same_number : (a b : ℕ) → Some a ≡ Some b → a ≡ b
+same_number a b e = ap (λ o. unwrap_or o 0) e
+
+pub no_buckets : (given : Option Text) (b : ℕ) → value_by (number (codes "buckets") 1 65536 1024) given ≡ Some b → is_power_of_two b ≡ false → value_by buckets given ≡ None
+unfolding ones
+no_buckets None b is none = absurd (true≢false (subst (λ n. is_power_of_two n ≡ false) (sym (same_number 1024 b is)) none))
+no_buckets (Some text) b is none = rw is (rw none refl)
+
+from_half : (n r : ℕ) → n % 2 ≡ r → count_ones n ≡ 1 → (count_ones (n / 2) ≡ 1 → (k : ℕ) × (n / 2 ≡ 2 ^ k)) → (k : ℕ) × (n ≡ 2 ^ k)
+from_half n zero even one half = let s = ones_step n in let h = half (omega arith) in (suc h.0, omega (arith, h.1, pow-suc 2 h.0))
+from_half n (suc r) odd one half = let s = ones_step n in let none = zero_from_ones (n / 2) (omega arith) in (0, omega arith)
+
+power : (d n : ℕ) → n ≤ d → count_ones n ≡ 1 → (k : ℕ) × (n ≡ 2 ^ k)
+power zero n below one = absurd (let l = ones_le_self n in omega arith)
+power (suc d) n below one = let l = ones_le_self n in from_half n (n % 2) refl one (power d (n / 2) (omega arith))
+
+number_bounds : (least most : ℕ) (t : Text) (n : ℕ) → number_of least most t ≡ Some n → InRange least most n
+number_bounds least most t n e =
+    elim (is_number t) as (λ p. (if p && (nat_le least (digits_value 10 t) && nat_le (digits_value 10 t) most) then Some (digits_value 10 t) else None) ≡ Some n → InRange least most n) [
+      | true ↦ bounds (nat_le least (digits_value 10 t)) (nat_le (digits_value 10 t) most) refl refl
+      | false ↦ λ none. absurd (none-some n none)
+    ] e
+  where
+    bounds : (low high : Bool) → nat_le least (digits_value 10 t) ≡ low → nat_le (digits_value 10 t) most ≡ high → (if low && high then Some (digits_value 10 t) else None) ≡ Some n → InRange least most n
+    bounds true true l h is = subst (InRange least most) (same_number (digits_value 10 t) n is) (leb-true _ _ l, leb-true _ _ h)
+    bounds true false l h is = absurd (none-some n is)
+    bounds false high l h is = absurd (none-some n is)
+
+value_bounds : (name : Text) (least most default : ℕ) (given : Option Text) (n : ℕ) → InRange least most default → value_by (number name least most default) given ≡ Some n → InRange least most n
+value_bounds name least most default None n between is = subst (InRange least most) (same_number default n is) between
+value_bounds name least most default (Some t) n between is = number_bounds least most t n is
+
+power_bounds : (o : Option ℕ) (n : ℕ) → ((m : ℕ) → o ≡ Some m → InRange 1 65536 m) → (o >>= λ m. if is_power_of_two m then Some m else None) ≡ Some n → InRange 1 65536 n × (is_power_of_two n ≡ true)
+power_bounds None n within is = absurd (none-some n is)
+power_bounds (Some m) n within is =
+    elim (is_power_of_two m) as (λ p. is_power_of_two m ≡ p → (if p then Some m else None) ≡ Some n → InRange 1 65536 n × (is_power_of_two n ≡ true)) [
+      | true ↦ λ power same. let e = same_number m n same in (subst (InRange 1 65536) e (within m refl), subst (λ k. is_power_of_two k ≡ true) e power)
+      | false ↦ λ _ none. absurd (none-some n none)
+    ] refl is
+
+buckets_bounds : (given : Option Text) (n : ℕ) → value_by buckets given ≡ Some n → InRange 1 65536 n × (is_power_of_two n ≡ true)
+unfolding ones
+buckets_bounds None n is = subst (λ k. InRange 1 65536 k × (is_power_of_two k ≡ true)) (same_number 1024 n is) ((omega arith, omega arith), refl)
+buckets_bounds (Some t) n is = power_bounds (number_of 1 65536 t) n (number_bounds 1 65536 t) is
+
+small_power : (k : ℕ) → 2 ^ k ≤ 65536 → k ≤ 16
+small_power k below = elim (leb_tells k 16) as (λ _. k ≤ 16) [ inl h ↦ h.1 | inr h ↦ absurd (let more : 2 ^ 17 ≤ 2 ^ k = pow_mono {i = 17} {j = k} (omega (arith, h.1)) in omega arith) ]
+
+bucket_power : (n : ℕ) → InRange 1 65536 n → is_power_of_two n ≡ true → (k : ℕ) × (k ≤ 16) × (n ≡ 2 ^ k)
+bucket_power n within is =
+    let p = power n n (omega arith) (grind (arith, nat_tests)) in
+    (p.0, small_power p.0 (omega (arith, p.1)), p.1)
+
+-- one value after another
+both_told : {A B : Type 0} (o : Option A) (next : A → Option B) (b : B) → (o >>= next) ≡ Some b → (a : A) × (o ≡ Some a) × (next a ≡ Some b)
+both_told None next b is = absurd (none-some b is)
+both_told (Some a) next b is = (a, refl, is)
+
+store_mode : (given : Option Text) (m : Mode) → value_by mode given ≡ Some m → Store ≡ m
+store_mode None m is = absurd (none-some m is)
+store_mode (Some t) m is =
+    elim (bytes_eq t (codes "store")) as (λ b. (if b then Some Store else None) ≡ Some m → Store ≡ m) [
+      | true ↦ λ same. ap (λ o. unwrap_or o Store) same
+      | false ↦ λ none. absurd (none-some m none)
+    ] is
+
+same_options : (a b : Options) → Some a ≡ Some b → a ≡ b
+same_options a b e = ap (λ o. unwrap_or o a) e
+
+pub offered : (given : Text → Option Text) (options : Options) → replay_options given ≡ Some options → IsOffered options
+offered given options is =
+    let m = both_told (value_of mode given) _ options is in
+    let p = both_told (value_of partitions given) _ options m.2 in
+    let b = both_told (value_of buckets given) _ options p.2 in
+    let s = both_told (value_of spares given) _ options b.2 in
+    let w = both_told (value_of words given) _ options s.2 in
+    let r = both_told (value_of readers given) _ options w.2 in
+    let t = both_told (value_of tries given) _ options r.2 in
+    let e = both_told (value_of wear given) _ options t.2 in
+    let power = buckets_bounds (given buckets.name) b.0 b.1 in
+    subst IsOffered (same_options _ options e.2) (record {
+      valid = record {
+        partitions = value_bounds partitions.name 1 16 4 (given partitions.name) p.0 (omega arith, omega arith) p.1;
+        buckets = bucket_power b.0 power.0 power.1;
+        spares = value_bounds spares.name 0 65536 1024 (given spares.name) s.0 (omega arith, omega arith) s.1;
+        words = value_bounds words.name 256 1048576 65536 (given words.name) w.0 (omega arith, omega arith) w.1;
+        readers = value_bounds readers.name 1 16 4 (given readers.name) r.0 (omega arith, omega arith) r.1;
+        tries = value_bounds tries.name 1 1000 100 (given tries.name) t.0 (omega arith, omega arith) t.1;
+        wear = value_bounds wear.name 1 68719476736 68719476736 (given wear.name) e.0 (omega arith, omega arith) e.1;
+      };
+      mode = sym (store_mode (given mode.name) m.0 m.1);
+    })

@@ -1,0 +1,88 @@
+// The values of options, from the texts that they were given.
+ghost use Rattle.std.specs.Prelude.{◌≡◌, Some, None, option_map, option_and_then};
+ghost use Rattle.std.specs.Int.{is_power_of_two};
+ghost use Rattle.clap.specs.Matches.{first_value, found_of};
+ghost use Rattle.mica_cmd.specs.CommandLine.{begins_number, mode, buckets, number, number_of, value_of, replay_options};
+
+use clap::ArgMatches;
+use mica_model::{Mode, Options};
+
+fn begins_number(text: &str) -> bool
+    ensures { result ≡ begins_number text.now }
+{
+    matches!(text.as_bytes(), [b'0'..=b'9'] | [b'1'..=b'9', _, ..])
+}
+
+// The number that a text writes, where it lies in its range.
+fn number_of(text: &str, least: u64, most: u64) -> Option<u64>
+    ensures { result ≡ number_of least most text.now }
+{
+    if !begins_number(text) {
+        return None;
+    }
+    let number = text.parse().ok()?;
+    if least <= number && number <= most {
+        Some(number)
+    } else {
+        None
+    }
+}
+
+fn number(found: &ArgMatches<'_>, name: &str, least: u64, most: u64, default: u64) -> Option<u64>
+    ensures { result ≡ value_of (number name.now least most default) (first_value (found_of found.now)) }
+{
+    match found.get_str(name) {
+        Some(text) => number_of(text, least, most),
+        None => Some(default),
+    }
+}
+
+// The same of a number that fits 32 bits.
+fn count(found: &ArgMatches<'_>, name: &str, least: u32, most: u32, default: u32) -> Option<u32>
+    ensures { result ≡ value_of (number name.now least most default) (first_value (found_of found.now)) }
+{
+    let value = number(
+        found,
+        name,
+        u64::from(least),
+        u64::from(most),
+        u64::from(default),
+    )?;
+    Some(value as u32)
+}
+
+fn mode(found: &ArgMatches<'_>) -> Option<Mode>
+    ensures { result ≡ value_of mode (first_value (found_of found.now)) }
+{
+    match found.get_str("mode")? {
+        "store" => Some(Mode::Store),
+        _ => None,
+    }
+}
+
+fn buckets(found: &ArgMatches<'_>) -> Option<u32>
+    ensures { result ≡ value_of buckets (first_value (found_of found.now)) }
+{
+    let buckets = count(found, "buckets", 1, 65_536, 1_024)?;
+    if buckets.is_power_of_two() {
+        Some(buckets)
+    } else {
+        None
+    }
+}
+
+/// The options of `replay`, or `None` where one is missing or its text is no value of it.
+pub fn replay_options(found: &ArgMatches<'_>) -> Option<Options>
+    ensures { result ≡ replay_options (first_value (found_of found.now)) }
+{
+    Some(Options {
+        mode: mode(found)?,
+        partitions: count(found, "partitions", 1, 16, 4)?,
+        buckets: buckets(found)?,
+        spares: count(found, "spares", 0, 65_536, 1_024)?,
+        words: count(found, "words", 256, 1_048_576, 65_536)?,
+        readers: count(found, "readers", 1, 16, 4)?,
+        tries: count(found, "tries", 1, 1_000, 100)?,
+        wear: number(found, "wear", 1, 68_719_476_736, 68_719_476_736)?,
+    })
+}

@@ -1,0 +1,16 @@
+/// How a run ended, in the order of the numbers that the program ends with.
+#[derive(Clone, Copy, Debug, PartialEq, Eq)]
+pub enum Status {
+    /// The command was carried out.
+    Done,
+    /// The words are no command's.
+    Usage,
+    NoMemory,
+    /// What the source gave is no trace.
+    TraceRefused,
+    /// The source gave more bytes than a trace may have.
+    TraceLong,
+    ReadFault,
+    WriteFault,
+    NetFault,
+}

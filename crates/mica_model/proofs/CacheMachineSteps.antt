@@ -1,0 +1,124 @@
+-- A step of the cache machine: its history, its state and its fates.
+use Rattle.std.proofs.Common.{◌≡◌, ℕ, ◌+◌, ◌≤◌, ◌<◌, List, [], ◌∷◌, ◌++◌, length, Option, Some, None, Bool, true, false, cond, refl, sym, ap, ◌∙◌, subst, is_some}
+use Rattle.std.specs.List.{AllByRecursion as AllOf}
+use Rattle.std.specs.Str.{bytes_eq}
+use Rattle.std.proofs.lemmas.Bool.{le-leb, lt-leb}
+use Rattle.mica_model.specs.declared.options.Options.{Options}
+use Rattle.mica_model.specs.declared.options.Mode.TheVariants.{Cache as CacheMode}
+use Rattle.mica_model.specs.declared.accepted.Accepted.{Accepted}
+use Rattle.mica_model.specs.declared.write.Write.{Write}
+use Rattle.mica_model.specs.declared.write.Op.{Op}
+use Rattle.mica_model.specs.declared.write.Op.TheVariants.{Put, Del}
+use Rattle.mica_model.specs.declared.write.Outcome.{Outcome}
+use Rattle.mica_model.specs.declared.write.Outcome.TheVariants.{Worn}
+use Rattle.mica_model.specs.declared.fate.Fate.{Fate}
+use Rattle.mica_model.specs.declared.fate.Fate.TheVariants.{Displaced, Passed, Held}
+use Rattle.mica_model.specs.Options.{IsValid}
+use Rattle.mica_model.specs.Write.{IsWrite, is_accepted}
+use Rattle.mica_model.specs.Cache as cache
+use Rattle.mica_model.specs.Cache.{Cache}
+use Rattle.mica_model.specs.CacheStep as cs
+use Rattle.mica_model.specs.CacheFields.{writes_of, fate_in, fate_written, marked_passed, marked_displaced, displaced_record}
+use Rattle.mica_model.specs.Fate.{has_record, fate_of, fate_after}
+use Rattle.mica_model.specs.History.{History, State, cache_state, after, state_of, IsHistory, IsAcceptedAfter, Allows}
+use Rattle.mica_model.specs.Logged.{Logged, IsLoggedStep}
+use Rattle.mica_model.proofs.CacheLaws.{kept_in}
+use Rattle.mica_model.proofs.FateLaws.{cache_of, state_is_cache, fate_snoc, right_in}
+use Rattle.mica_model.proofs.FateMarks.{passed_writes, displaced_writes}
+use Rattle.mica_model.proofs.FateSteps.{fate_step}
+use Rattle.mica_model.proofs.Found.{all_push}
+use Rattle.mica_model.proofs.Histories.{state_snoc, history_snoc}
+
+same_accepted : (op : Op) (options : Options) (s : Cache) (write : Write) → (cs.after_op op options s write).accepted ≡ s.accepted
+same_accepted Put options s write = put_same (cs.kept_record options s write)
+  where
+    put_same : (o : Option cache.Record) → (cs.after_put o s write).accepted ≡ s.accepted
+    put_same None = refl
+    put_same (Some held) = refl
+same_accepted Del options s write = refl
+
+pub written_accepted : (options : Options) (s : Cache) (write : Write) → (cs.after_write options s write).accepted ≡ s.accepted
+written_accepted options s write = same_accepted write.op options s write
+
+is_reply : (op : Op) (b : Bool) → is_accepted (cs.reply_of op b) ≡ true
+is_reply Put b = refl
+is_reply Del true = refl
+is_reply Del false = refl
+
+same_state : (s t : Cache) → cache_state s ≡ cache_state t → s ≡ t
+same_state s t e = cc
+
+module _ (options : Options) (history : History) (s : Cache) (at : state_of options history ≡ cache_state s) (write : Write) where
+  abbrev old : Logged
+  old = record { options = options; history = history }
+
+  pub worn_step : options.wear ≤ s.accepted → IsLoggedStep (record { options = options; history = history }) write Worn (record { options = options; history = history })
+  unfolding cs.reply
+  worn_step worn = record {
+    options = refl;
+    history = refl;
+    step = record {
+      allowed = subst (λ (t : State). Allows options t write Worn) (sym at) (sym (ap (λ b. cond b Worn (cs.reply_of write.op (is_some (cache.record_of s write.key)))) (le-leb options.wear s.accepted worn)));
+      result = refl;
+    };
+  }
+
+  module _ (unworn : s.accepted < options.wear) (outcome : Outcome) (replied : outcome ≡ cs.reply_of write.op (has_record s write.key)) where
+    is_done : is_accepted outcome ≡ true
+    is_done = ap is_accepted replied ∙ is_reply write.op (has_record s write.key)
+
+    allowed : Allows options (state_of options history) write outcome
+    unfolding cs.reply
+    allowed = subst (λ (t : State). Allows options t write outcome) (sym at)
+        (replied ∙ sym (ap (λ b. cond b Worn (cs.reply_of write.op (has_record s write.key))) (lt-leb options.wear s.accepted unworn)))
+
+    may_follow : IsAcceptedAfter options history write
+    may_follow = (outcome, is_done, allowed)
+
+    pub accepted_step : (later : History) → later ≡ history ++ write ∷ [] → IsLoggedStep (record { options = options; history = history }) write outcome (record { options = options; history = later })
+    accepted_step later is = record {
+      options = refl;
+      history = is ∙ sym (ap (λ b. cond b (history ++ write ∷ []) history) is_done);
+      step = record {
+        allowed = allowed;
+        result = ap (state_of options) is ∙ state_snoc options history write ∙ sym (ap (λ b. cond b (after options (state_of options history) write) (state_of options history)) is_done);
+      };
+    }
+
+    pub later_lawful : IsHistory options history → IsHistory options (history ++ write ∷ [])
+    later_lawful lawful = history_snoc options history write lawful may_follow
+
+pub later_state : (options : Options) (history : History) (s : Cache) → state_of options history ≡ cache_state s → (write : Write) → state_of options (history ++ write ∷ []) ≡ cache_state (cs.after options s write)
+later_state options history s at write = state_snoc options history write ∙ ap (λ (t : State). after options t write) at
+
+pub later_writes : (history : History) (write : Write) → AllOf IsWrite history → IsWrite write → AllOf IsWrite (history ++ write ∷ [])
+later_writes history write writes is = all_push IsWrite history write writes is
+
+-- the state after the whole step, with the accepted writes counted
+
+pub counted : (options : Options) (s : Cache) (write : Write) (n : ℕ) → n ≡ s.accepted → record (cs.without_displaced options write.key (cs.without_passed options (cs.after_write options s write))) { accepted = n + 1 } ≡ cs.after options s write
+unfolding cs.after
+counted options s write n is = ap (λ (m : ℕ). record (cs.without_displaced options write.key (cs.without_passed options (cs.after_write options s write))) { accepted = m + 1 }) is
+
+module _ (options : Options) (valid : IsValid options) (mode : options.mode ≡ CacheMode) (log : List Accepted) (writes : AllOf IsWrite (writes_of log)) (s : Cache) (at : state_of options (writes_of log) ≡ cache_state s)
+    (fates : (key : List ℕ) → fate_of options (writes_of log) key ≡ fate_in log key) (write : Write) (is : IsWrite write) where
+  state_is : cache_of options (writes_of log) ≡ s
+  state_is = same_state _ _ (sym (state_is_cache options mode (writes_of log)) ∙ at)
+
+  right : (key : List ℕ) → has_record s key ≡ true → fate_in log key ≡ Held
+  right key here = sym (fates key) ∙ (right_in options (writes_of log) key).on (ap (λ (t : Cache). has_record t key) state_is ∙ here)
+
+  pub later_fates : (n : ℕ) → n ≡ length (writes_of log) + 1 → (noted : List Accepted) (fate : Fate) → fate ≡ fate_written (cs.reply_of write.op (has_record s write.key)) n (fate_in log write.key)
+      → ((key : List ℕ) → fate_in noted key ≡ cond (bytes_eq write.key key) fate (fate_in log key))
+      → (key : List ℕ) → fate_of options (writes_of log ++ write ∷ []) key
+      ≡ fate_in (marked_displaced (Displaced n) (displaced_record options write.key (cs.without_passed options (cs.after_write options s write)).records)
+      (marked_passed (Passed n) options.words (cs.after_write options s write).stamp (cs.after_write options s write).records noted)) key
+  later_fates n count noted fate fate_is notes key =
+      fate_snoc options (writes_of log) write key
+      ∙ ap (λ (t : Cache). fate_after options t write (length (writes_of log) + 1) key (fate_of options (writes_of log) key)) state_is
+      ∙ ap (λ (m : ℕ). fate_after options s write m key (fate_of options (writes_of log) key)) (sym count)
+      ∙ fate_step options valid s (kept_in options (writes_of log) writes s at) write is n log right noted fate fate_is notes key (fate_of options (writes_of log) key) (fates key)
+
+pub later_log : (options : Options) (key : List ℕ) (n words stamp : ℕ) (rs ts : List cache.Record) (noted : List Accepted)
+    → writes_of (marked_displaced (Displaced n) (displaced_record options key ts) (marked_passed (Passed n) words stamp rs noted)) ≡ writes_of noted
+later_log options key n words stamp rs ts noted = displaced_writes options key (Displaced n) ts (marked_passed (Passed n) words stamp rs noted) ∙ passed_writes (Passed n) words stamp rs noted

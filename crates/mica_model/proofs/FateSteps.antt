@@ -1,0 +1,109 @@
+-- The fates that the machine keeps, after a step.
+use Rattle.std.proofs.Common.{◌≡◌, ℕ, List, None, Bool, true, false, cond, not, ◌&&◌, refl, sym, ap, ◌∙◌, is_some, ◌≢◌}
+use Rattle.std.specs.List.{find}
+use Rattle.std.specs.Str.{bytes_eq}
+use Rattle.std.proofs.lemmas.Bool.{true≢false}
+use Rattle.std.proofs.lemmas.Slice.Eq.{bytes_eq-Decides}
+use Rattle.mica_model.specs.declared.options.Options.{Options}
+use Rattle.mica_model.specs.declared.accepted.Accepted.{Accepted}
+use Rattle.mica_model.specs.declared.write.Write.{Write}
+use Rattle.mica_model.specs.declared.write.Op.{Op}
+use Rattle.mica_model.specs.declared.write.Op.TheVariants.{Put, Del}
+use Rattle.mica_model.specs.declared.fate.Fate.{Fate}
+use Rattle.mica_model.specs.declared.fate.Fate.TheVariants.{Deleted, Displaced, Passed, Held}
+use Rattle.mica_model.specs.Options.{IsValid}
+use Rattle.mica_model.specs.Write.{IsWrite}
+use Rattle.mica_model.specs.Cache.{Cache, has_key}
+use Rattle.mica_model.specs.CacheStep as cs
+use Rattle.mica_model.specs.CacheFields.{IsUnique, fate_in, fate_written, marked_passed, marked_displaced, displaced_record}
+use Rattle.mica_model.specs.Fate.{has_record, fate_after}
+use Rattle.mica_model.proofs.Found as found
+use Rattle.mica_model.proofs.Laid as laid
+use Rattle.mica_model.proofs.CacheKept.{IsKept, after_write_is}
+use Rattle.mica_model.proofs.CacheLaws.{written_same, written_held}
+use Rattle.mica_model.proofs.FateLaws.{pick, live_wrote, left_live}
+use Rattle.mica_model.proofs.FateMarks.{has, has_write, passed_fate, passed_has, displaced_fate, held_has}
+
+pick_same : (had wrote live left : Bool) (n : ℕ) (written before : Fate) → (left ≡ true → live ≡ true) → (live ≡ true → wrote ≡ true)
+    → (wrote ≡ true → written ≡ Held) → (wrote ≡ false → written ≡ cond had (Deleted n) before)
+    → cond (live && not left) (Displaced n) (cond (wrote && not live) (Passed n) written) ≡ pick had wrote live left n before
+pick_same had true true true n written before up up' held gone = held refl
+pick_same true true true false n written before up up' held gone = refl
+pick_same false true true false n written before up up' held gone = refl
+pick_same true true false false n written before up up' held gone = refl
+pick_same false true false false n written before up up' held gone = refl
+pick_same true false false false n written before up up' held gone = gone refl
+pick_same false false false false n written before up up' held gone = gone refl
+pick_same had wrote false true n written before up up' held gone = absurd (true≢false (sym (up refl)))
+pick_same had false true left n written before up up' held gone = absurd (true≢false (sym (up' refl)))
+
+module _ (options : Options) (valid : IsValid options) (s : Cache) (kept : IsKept options s) (write : Write) (is : IsWrite write) (n : ℕ) (log : List Accepted)
+    (right : (key : List ℕ) → has_record s key ≡ true → fate_in log key ≡ Held)
+    (noted : List Accepted) (fate : Fate) (fate_is : fate ≡ fate_written (cs.reply_of write.op (has_record s write.key)) n (fate_in log write.key))
+    (notes : (key : List ℕ) → fate_in noted key ≡ cond (bytes_eq write.key key) fate (fate_in log key)) where
+  abbrev one : Cache
+  one = cs.after_write options s write
+
+  abbrev two : Cache
+  two = cs.without_passed options (cs.after_write options s write)
+
+  unique_one : IsUnique (cs.after_write options s write).records
+  unique_one = (after_write_is options s kept write is).unique
+
+  -- of the written key
+
+  deleted_none : find (has_key write.key) (cs.others write.key s.records) ≡ None
+  deleted_none = found.missed (has_key write.key) (cs.others write.key s.records)
+      (found.all_weaker (λ r. not (has_key write.key r) ≡ true) (λ r. has_key write.key r ≡ false) (λ r h. elim (has_key write.key r) as (λ b. not b ≡ true → b ≡ false) [ true ↦ λ e. cc | false ↦ λ e. refl ] h)
+      (cs.others write.key s.records) (found.all_passes (λ r. not (has_key write.key r)) s.records))
+
+  own_held : (op : Op) → op ≡ write.op → has_record (cs.after_op op options s write) write.key ≡ true → fate_written (cs.reply_of op (has_record s write.key)) n (fate_in log write.key) ≡ Held
+  own_held Put at here = refl
+  own_held Del at here = absurd (true≢false (sym here ∙ ap is_some deleted_none))
+
+  own_gone : (op : Op) → op ≡ write.op → has_record (cs.after_op op options s write) write.key ≡ false
+      → fate_written (cs.reply_of op (has_record s write.key)) n (fate_in log write.key) ≡ cond (has_record s write.key) (Deleted n) (fate_in log write.key)
+  own_gone Put at gone = absurd (true≢false (sym (written_held options valid s kept write is (sym at)) ∙ (ap (λ (op : Op). has_record (cs.after_op op options s write) write.key) (sym at) ∙ gone)))
+  own_gone Del at gone = elim (has_record s write.key) as (λ b. fate_written (cs.reply_of Del b) n (fate_in log write.key) ≡ cond b (Deleted n) (fate_in log write.key)) [ true ↦ refl | false ↦ refl ]
+
+  -- of each key, after the write itself
+
+  wrote_held : (key : List ℕ) → has_record (cs.after_write options s write) key ≡ true → fate_in noted key ≡ Held
+  wrote_held key here = notes key ∙ elim (bytes_eq write.key key) as (λ b. bytes_eq write.key key ≡ b → cond b fate (fate_in log key) ≡ Held) [
+    | true ↦ λ same.
+        let own : write.key ≡ key = (bytes_eq-Decides write.key key).0 same in
+        fate_is ∙ own_held write.op refl (ap (has_record (cs.after_write options s write)) own ∙ here)
+    | false ↦ λ other.
+        let differ : key ≢ write.key = λ e. true≢false (sym ((bytes_eq-Decides write.key key).1 (sym e)) ∙ other) in
+        right key (ap is_some (sym (written_same options s write key differ)) ∙ here)
+  ] refl
+
+  wrote_gone : (key : List ℕ) → has_record (cs.after_write options s write) key ≡ false → fate_in noted key ≡ cond (has_record s key) (Deleted n) (fate_in log key)
+  wrote_gone key gone = notes key ∙ elim (bytes_eq write.key key) as (λ b. bytes_eq write.key key ≡ b → cond b fate (fate_in log key) ≡ cond (has_record s key) (Deleted n) (fate_in log key)) [
+    | true ↦ λ same.
+        let own : write.key ≡ key = (bytes_eq-Decides write.key key).0 same in
+        fate_is ∙ own_gone write.op refl (ap (has_record (cs.after_write options s write)) own ∙ gone)
+        ∙ ap (λ k. cond (has_record s k) (Deleted n) (fate_in log k)) own
+    | false ↦ λ other.
+        let differ : key ≢ write.key = λ e. true≢false (sym ((bytes_eq-Decides write.key key).1 (sym e)) ∙ other) in
+        sym (ap (λ b. cond b (Deleted n) (fate_in log key)) (ap is_some (sym (written_same options s write key differ)) ∙ gone))
+  ] refl
+
+  -- of each key, after the step
+
+  pub fate_step : (key : List ℕ) (before : Fate) → before ≡ fate_in log key
+      → fate_after options s write n key before
+      ≡ fate_in (marked_displaced (Displaced n) (displaced_record options write.key (cs.without_passed options (cs.after_write options s write)).records)
+      (marked_passed (Passed n) options.words (cs.after_write options s write).stamp (cs.after_write options s write).records noted)) key
+  unfolding cs.after
+  fate_step key before before_is =
+      let passed = marked_passed (Passed n) options.words one.stamp one.records noted in
+      let in_noted : has one.records key ≡ true → has_write noted key ≡ true = λ here. held_has noted key (wrote_held key here) in
+      let after_passed = passed_fate (Passed n) options.words one.stamp one.records noted key unique_one in_noted in
+      let in_passed : has two.records key ≡ true → has_write passed key ≡ true =
+      λ here. passed_has (Passed n) options.words one.stamp one.records noted key ∙ in_noted (live_wrote options s write key here) in
+      let after_displaced = displaced_fate options write.key (Displaced n) two.records passed key (laid.unique_filter _ one.records unique_one) in_passed in
+      sym (after_displaced
+      ∙ ap (λ f. cond (has_record two key && not (has_record (cs.without_displaced options write.key two) key)) (Displaced n) f) after_passed
+      ∙ pick_same (has_record s key) (has_record one key) (has_record two key) (has_record (cs.without_displaced options write.key two) key) n (fate_in noted key) before
+      (left_live options s write key) (live_wrote options s write key) (wrote_held key) (λ gone. wrote_gone key gone ∙ ap (λ f. cond (has_record s key) (Deleted n) f) (sym before_is)))

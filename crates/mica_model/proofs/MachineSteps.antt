@@ -1,0 +1,93 @@
+-- Accepted writes, by the fields of the machine.
+use Rattle.std.proofs.Common.{◌≡◌, ℕ, List, ◌+◌, ◌<◌, ◌≤◌, ◌⊎◌, ⊎_elim, refl, sym, ap, ◌∙◌, subst, arith, cond, true}
+use Rattle.std.proofs.Math.Nat.{mod-lt, one-le-pow}
+use Rattle.std.specs.Prelude.{max}
+use Rattle.std.specs.FinMap.{get, insert, remove}
+use Rattle.mica_words.specs.Hash.{fnv1a, bucket_of}
+use Rattle.mica_words.specs.Item.{item_size}
+use Rattle.mica_model.specs.declared.write.Op.{Op}
+use Rattle.mica_model.specs.declared.write.Op.TheVariants.{Del}
+use Rattle.mica_model.specs.declared.write.Outcome.{Outcome}
+use Rattle.mica_model.specs.declared.write.Outcome.TheVariants.{Stored, Deleted, Absent}
+use Rattle.mica_model.specs.declared.store_machine.StoreMachine.TheInside.{Inside}
+use Rattle.mica_model.specs.Write.{write_of, is_accepted}
+use Rattle.mica_model.specs.Store.{Store, room_of, rooms, spares_in_use}
+use Rattle.mica_model.specs.StoreStep.{Allows, after}
+use Rattle.mica_model.specs.CellTable.{Table, with_cells}
+use Rattle.mica_model.specs.StoreMachineFields.{IsMachine}
+use Rattle.mica_model.specs.History.{IsStep, store_state}
+use Rattle.mica_model.proofs.StoreSteps.{put_state, put_rooms, put_spares, delete_rooms, delete_spares}
+
+-- the machine with another table, after an accepted write
+abbrev pub accepting : Inside → Table → Inside
+accepting a table = record { options = a.options; table = table; stamp = a.stamp + 1; accepted = a.accepted + 1 }
+
+abbrev pub store_of : Inside → Store
+store_of a = record { cells = a.table.cells; stamp = a.stamp; accepted = a.accepted }
+
+bucket_within : (key : List ℕ) (buckets : ℕ) → 0 < buckets → bucket_of key buckets < buckets
+unfolding bucket_of
+bucket_within key buckets some = mod-lt (fnv1a key) some
+
+module _ (a : Inside) (m : IsMachine a) (op : Op) (key value : List ℕ) where
+  within : bucket_of key a.options.buckets < a.options.buckets
+  within = bucket_within key a.options.buckets (subst (λ n. 0 < n) (sym m.valid.buckets.2) (let one = one-le-pow m.valid.buckets.0 2 (omega arith) in omega arith))
+
+  module _ (allowed : Allows a.options (store_of a) (write_of op key value) Stored) (room : ℕ) (takes : room ≡ max (room_of (get a.table.cells key)) (item_size key value))
+      (table : Table) (new : table ≡ with_cells a.table (insert a.table.cells key (record { value = value; room = room }))) where
+    pub put_keeps : IsMachine (accepting a table)
+    put_keeps =
+        let words = put_rooms a.options (store_of a) op key value room takes allowed.1.1 m.words in
+        let spares = put_spares a.options (store_of a) op key value room takes within allowed.1.1 m.spares in
+        let alive = allowed.0 in
+        record {
+          valid = m.valid;
+          buckets = ap (λ (t : Table). t.buckets) new ∙ m.buckets;
+          words = subst (λ (t : Table). rooms t.cells ≤ a.options.words) (sym new) words;
+          spares = subst (λ (t : Table). spares_in_use a.options.buckets t.cells ≤ a.options.spares) (sym new) spares;
+          stamp = ap (λ n. n + 1) m.stamp;
+          accepted = omega arith;
+        }
+
+    pub put_steps : IsStep a.options (store_state (store_of a)) (write_of op key value) Stored (store_state (store_of (accepting a table)))
+    put_steps = record {
+      allowed = allowed;
+      result = ap (λ (t : Table). store_state (record { cells = t.cells; stamp = a.stamp + 1; accepted = a.accepted + 1 })) new
+          ∙ ap store_state (sym (put_state a.options (store_of a) op key value room takes op allowed.1.0));
+    }
+
+  module _ (outcome : Outcome) (which : (outcome ≡ Deleted) ⊎ (outcome ≡ Absent)) (allowed : Allows a.options (store_of a) (write_of op key value) outcome)
+      (table : Table) (new : table ≡ with_cells a.table (remove a.table.cells key)) where
+    deletes : (op ≡ Del) × (is_accepted outcome ≡ true) × (¬ (a.options.wear ≤ a.accepted))
+    deletes =
+        ⊎_elim (λ is. let there = subst (Allows a.options (store_of a) (write_of op key value)) is allowed in (there.1.0, ap is_accepted is, there.0))
+        (λ is. let there = subst (Allows a.options (store_of a) (write_of op key value)) is allowed in (there.1.0, ap is_accepted is, there.0))
+        which
+
+    pub delete_keeps : IsMachine (accepting a table)
+    delete_keeps =
+        let words = delete_rooms (store_of a) key in
+        let alive = deletes.2 in
+        let bound = m.words in
+        let less : rooms (remove a.table.cells key) ≤ a.options.words = omega arith in
+        record {
+          valid = m.valid;
+          buckets = ap (λ (t : Table). t.buckets) new ∙ m.buckets;
+          words = subst (λ (t : Table). rooms t.cells ≤ a.options.words) (sym new) less;
+          spares = subst (λ (t : Table). spares_in_use a.options.buckets t.cells ≤ a.options.spares) (sym new) (delete_spares a.options (store_of a) key within m.spares);
+          stamp = ap (λ n. n + 1) m.stamp;
+          accepted = omega arith;
+        }
+
+    delete_state : after (store_of a) (write_of Del key value) ≡ record { cells = remove a.table.cells key; stamp = a.stamp + 1; accepted = a.accepted + 1 }
+    unfolding after
+    delete_state = refl
+
+    pub delete_steps : IsStep a.options (store_state (store_of a)) (write_of op key value) outcome (store_state (store_of (accepting a table)))
+    delete_steps = record {
+      allowed = allowed;
+      result = ap (λ (t : Table). store_state (record { cells = t.cells; stamp = a.stamp + 1; accepted = a.accepted + 1 })) new
+          ∙ ap store_state (sym delete_state)
+          ∙ ap (λ o. store_state (after (store_of a) (write_of o key value))) (sym deletes.0)
+          ∙ ap (λ b. cond b (store_state (after (store_of a) (write_of op key value))) (store_state (store_of a))) (sym deletes.1);
+    }

@@ -1,0 +1,115 @@
+-- The fate `Never` comes exactly where no put of the key was accepted.
+use Rattle.std.proofs.Common.{◌≡◌, ℕ, ◌+◌, List, [], ◌∷◌, None, Bool, true, false, not, refl, sym, ap, ◌∙◌, is_some, ◌≢◌, ◌↔◌}
+use Rattle.std.specs.List.{find, AllByRecursion as AllOf}
+use Rattle.std.specs.Str.{bytes_eq}
+use Rattle.std.proofs.lemmas.Bool.{true≢false}
+use Rattle.std.proofs.lemmas.Slice.Eq.{bytes_eq-Decides}
+use Rattle.mica_model.specs.declared.options.Options.{Options}
+use Rattle.mica_model.specs.declared.write.Write.{Write}
+use Rattle.mica_model.specs.declared.write.Op.{Op}
+use Rattle.mica_model.specs.declared.write.Op.TheVariants.{Put, Del}
+use Rattle.mica_model.specs.declared.fate.Fate.{Fate}
+use Rattle.mica_model.specs.declared.fate.Fate.TheVariants.{Never, Deleted, Displaced, Passed, Held}
+use Rattle.mica_model.specs.Options.{IsValid}
+use Rattle.mica_model.specs.Write.{IsWrite}
+use Rattle.mica_model.specs.Cache as cache
+use Rattle.mica_model.specs.Cache.{Record, Cache, has_key, record_of}
+use Rattle.mica_model.specs.CacheStep as cs
+use Rattle.mica_model.specs.Fate.{has_record, fate_after, fate_from, fate_of}
+use Rattle.mica_model.specs.History.{History}
+use Rattle.mica_model.proofs.Found as found
+use Rattle.mica_model.proofs.CacheKept.{IsKept, start_kept, after_kept}
+use Rattle.mica_model.proofs.CacheLaws.{written_same, put_held}
+use Rattle.mica_model.proofs.FateLaws.{pick, live_wrote, left_live}
+
+-- the write is no put of the key
+abbrev pub IsNoPut : List ℕ → Write → Type 0
+IsNoPut key write = write.op ≡ Put → write.key ≢ key
+
+-- a fate that is another stays another
+
+stays_by : (had wrote live left : Bool) (n : ℕ) (before : Fate) → before ≢ Never → pick had wrote live left n before ≢ Never
+stays_by had wrote live true n before other is = cc
+stays_by true false live false n before other is = cc
+stays_by had true false false n before other is = elim had as (λ b. pick b true false false n before ≡ Never → ⊥) [ true ↦ λ e. cc | false ↦ λ e. cc ] is
+stays_by had true true false n before other is = elim had as (λ b. pick b true true false n before ≡ Never → ⊥) [ true ↦ λ e. cc | false ↦ λ e. cc ] is
+stays_by false false true false n before other is = cc
+stays_by false false false false n before other is = other is
+
+module _ (options : Options) (key : List ℕ) where
+  stays_after : (s : Cache) (write : Write) (n : ℕ) (before : Fate) → before ≢ Never → fate_after options s write n key before ≢ Never
+  stays_after s write n before other =
+      stays_by (has_record s key) (has_record (cs.after_write options s write) key) (has_record (cs.without_passed options (cs.after_write options s write)) key) (has_record (cs.after options s write) key) n before other
+
+  stays : (s : Cache) (n : ℕ) (before : Fate) (history : History) → before ≢ Never → fate_from options s n key before history ≢ Never
+  stays s n before [] other = other
+  stays s n before (write ∷ history) other =
+      stays (cs.after options s write) (n + 1) (fate_after options s write n key before) history (stays_after s write n before other)
+
+  was_never : (s : Cache) (n : ℕ) (before : Fate) (history : History) → fate_from options s n key before history ≡ Never → before ≡ Never
+  was_never s n before history is = elim before as (λ f. before ≡ f → f ≡ Never) [
+    | Never ↦ λ at. refl
+    | Deleted m ↦ λ at. absurd (stays s n before history (λ never. cc) is)
+    | Displaced m ↦ λ at. absurd (stays s n before history (λ never. cc) is)
+    | Passed m ↦ λ at. absurd (stays s n before history (λ never. cc) is)
+    | Held ↦ λ at. absurd (stays s n before history (λ never. cc) is)
+  ] refl
+
+  -- a put gives its key a record, so a fate that is another
+
+  module _ (valid : IsValid options) where
+    no_put : (s : Cache) → IsKept options s → (write : Write) → IsWrite write → (n : ℕ) (before : Fate) → fate_after options s write n key before ≡ Never → IsNoPut key write
+    no_put s kept write is n before never put same =
+        let mine = put_held options valid s kept write is put in
+        let here : has_record (cs.after options s write) key ≡ true = ap (λ (k : List ℕ). has_record (cs.after options s write) k) (sym same) ∙ ap is_some mine.1 in
+        held_not (ap (λ b. pick (has_record s key) (has_record (cs.after_write options s write) key) (has_record (cs.without_passed options (cs.after_write options s write)) key) b n before) (sym here) ∙ never)
+      where
+        held_not : Held ≡ Never → ⊥
+        held_not e = cc
+
+    no_puts : (s : Cache) → IsKept options s → (n : ℕ) (before : Fate) (history : History) → AllOf IsWrite history → fate_from options s n key before history ≡ Never → AllOf (IsNoPut key) history
+    no_puts s kept n before [] writes never = tt
+    no_puts s kept n before (write ∷ history) writes never = (
+      no_put s kept write writes.0 n before (was_never (cs.after options s write) (n + 1) (fate_after options s write n key before) history never),
+      no_puts (cs.after options s write) (after_kept options s write writes.0 kept) (n + 1) (fate_after options s write n key before) history writes.1 never,
+    )
+
+  -- without a put there is no record, and no fate
+
+  deleted_none : (s : Cache) → find (has_key key) (cs.others key s.records) ≡ None
+  deleted_none s = found.missed (has_key key) (cs.others key s.records)
+      (found.all_weaker (λ r. not (has_key key r) ≡ true) (λ r. has_key key r ≡ false) (λ r h. elim (has_key key r) as (λ b. not b ≡ true → b ≡ false) [ true ↦ λ e. cc | false ↦ λ e. refl ] h)
+      (cs.others key s.records) (found.all_passes (λ r. not (has_key key r)) s.records))
+
+  own_none : (op : Op) (s : Cache) (write : Write) → (op ≢ Put) → write.key ≡ key → has_record (cs.after_op op options s write) key ≡ false
+  own_none Put s write other same = absurd (other refl)
+  own_none Del s write other same = ap (λ (k : List ℕ). is_some (find (has_key key) (cs.others k s.records))) same ∙ ap is_some (deleted_none s)
+
+  still_none : (s : Cache) (write : Write) → IsNoPut key write → has_record s key ≡ false → has_record (cs.after_write options s write) key ≡ false
+  still_none s write absent none = elim (bytes_eq write.key key) as (λ b. bytes_eq write.key key ≡ b → has_record (cs.after_write options s write) key ≡ false) [
+    | true ↦ λ same. let is : write.key ≡ key = (bytes_eq-Decides write.key key).0 same in own_none write.op s write (λ put. absent put is) is
+    | false ↦ λ other. ap is_some (written_same options s write key (λ e. true≢false (sym ((bytes_eq-Decides write.key key).1 (sym e)) ∙ other))) ∙ none
+  ] refl
+
+  never_by : (had wrote live left : Bool) (n : ℕ) → had ≡ false → wrote ≡ false → (left ≡ true → live ≡ true) → (live ≡ true → wrote ≡ true) → (pick had wrote live left n Never ≡ Never) × (left ≡ false)
+  never_by false false false false n h w up up' = (refl, refl)
+  never_by had wrote false true n h w up up' = absurd (true≢false (sym (up refl)))
+  never_by had false true left n h w up up' = absurd (true≢false (sym (up' refl)))
+  never_by true wrote live left n h w up up' = absurd (true≢false h)
+  never_by had true live left n h w up up' = absurd (true≢false w)
+
+  never_from : (s : Cache) (n : ℕ) (history : History) → has_record s key ≡ false → AllOf (IsNoPut key) history → fate_from options s n key Never history ≡ Never
+  never_from s n [] none absent = refl
+  never_from s n (write ∷ history) none absent =
+      let next = never_by (has_record s key) (has_record (cs.after_write options s write) key) (has_record (cs.without_passed options (cs.after_write options s write)) key) (has_record (cs.after options s write) key) n
+      none (still_none s write absent.0 none) (left_live options s write key) (live_wrote options s write key) in
+      ap (λ (f : Fate). fate_from options (cs.after options s write) (n + 1) key f history) next.0 ∙ never_from (cs.after options s write) (n + 1) history next.1 absent.1
+
+start_none : (key : List ℕ) → has_record cache.start key ≡ false
+unfolding cache.start
+start_none key = refl
+
+pub never_is_no_put : (options : Options) → IsValid options → (history : History) → AllOf IsWrite history → (key : List ℕ) → (fate_of options history key ≡ Never) ↔ AllOf (IsNoPut key) history
+unfolding fate_of
+never_is_no_put options valid history writes key =
+    (no_puts options key valid cache.start (start_kept options) 1 Never history writes, never_from options key cache.start 1 history (start_none key))

@@ -1,0 +1,81 @@
+-- Steps of the store, by the fields of the machine.
+use Rattle.std.proofs.Common.{◌≡◌, ℕ, List, ◌+◌, ◌%◌, ◌<◌, ◌≤◌, ◌⊎◌, ⊎_elim, Option, Some, None, refl, sym, ap, ◌∙◌, subst, arith, cond, true, false}
+use Rattle.std.specs.Prelude.{max, nat_le, IsSomeAnd}
+use Rattle.std.specs.FinMap.{get, insert, remove}
+use Rattle.std.proofs.lemmas.Bool.{leb-true, leb-false}
+use Rattle.std.proofs.lemmas.Bool.Decides.{eqb_tells}
+use Rattle.mica_words.specs.Hash.{bucket_of}
+use Rattle.mica_words.specs.Item.{item_size}
+use Rattle.mica_model.specs.declared.options.Options.{Options}
+use Rattle.mica_model.specs.declared.write.Op.{Op}
+use Rattle.mica_model.specs.declared.write.Op.TheVariants.{Put, Del}
+use Rattle.mica_model.specs.Write.{write_of}
+use Rattle.mica_model.specs.Store.{Cell, Store, room_of, rooms, keys_in, spares_in_use}
+use Rattle.mica_model.specs.StoreStep.{GivesValue, FitsRoom, NeedsBlock, HasWords, room_after, after}
+use Rattle.mica_model.proofs.CellSums.{rooms_insert, rooms_remove, remove_none}
+use Rattle.mica_model.proofs.TableSteps.{new_spares, over_spares, less_spares, less_here}
+
+room_is : (o : Option Cell) (size : ℕ) → room_after o size ≡ max (room_of o) size
+room_is None size = omega arith
+room_is (Some cell) size =
+    elim (nat_le size cell.room) as (λ b. nat_le size cell.room ≡ b → cond b cell.room size ≡ max cell.room size) [
+      | true ↦ λ is. let fits = leb-true size cell.room is in omega arith
+      | false ↦ λ is. let less = leb-false size cell.room is in omega arith
+    ] refl
+
+fits_room : (o : Option Cell) (size : ℕ) → IsSomeAnd o (λ cell. size ≤ cell.room) → size ≤ room_of o
+fits_room None size fits = absurd fits
+fits_room (Some cell) size fits = fits
+
+module _ (options : Options) (s : Store) (op : Op) (key value : List ℕ) (room : ℕ) (takes : room ≡ max (room_of (get s.cells key)) (item_size key value)) where
+  abbrev pub new_cell : Cell
+  new_cell = record { value = value; room = room }
+
+  pub put_state : (op_ : Op) → GivesValue op_ → after s (write_of op_ key value) ≡ record { cells = insert s.cells key new_cell; stamp = s.stamp + 1; accepted = s.accepted + 1 }
+  unfolding after
+  put_state Put gives = ap (λ r. record { cells = insert s.cells key (record { value = value; room = r }); stamp = s.stamp + 1; accepted = s.accepted + 1 }) (room_is (get s.cells key) (item_size key value) ∙ sym takes)
+  put_state Del gives = absurd gives
+
+  pub put_rooms : FitsRoom s (write_of op key value) ⊎ (NeedsBlock options s (write_of op key value) × HasWords options s (write_of op key value))
+      → rooms s.cells ≤ options.words → rooms (insert s.cells key new_cell) ≤ options.words
+  put_rooms may within =
+      let step = rooms_insert s.cells key new_cell in
+      ⊎_elim (λ fits. let enough = fits_room (get s.cells key) (item_size key value) fits in omega arith) (λ has. let words = has.1 in omega arith) may
+
+  module _ (within : bucket_of key options.buckets < options.buckets) where
+    new_key : get s.cells key ≡ None → NeedsBlock options s (write_of op key value) → spares_in_use options.buckets s.cells ≤ options.spares
+        → spares_in_use options.buckets (insert s.cells key new_cell) ≤ options.spares
+    new_key none needs most =
+        let change = new_spares options.buckets (bucket_of key options.buckets) s.cells key refl within new_cell none in
+        let keys = keys_in options.buckets (bucket_of key options.buckets) s.cells in
+        ⊎_elim (λ full.
+        ⊎_elim (λ empty. let none_here = empty.1 in omega arith)
+        (λ some. ⊎_elim
+        (λ out. absurd (needs.has_spare (record { is_new = none; some = (let not_none = some.1 in omega arith); full = full.1; none_left = out.1 })))
+        (λ left. let others = left.1 in omega arith)
+        (eqb_tells (spares_in_use options.buckets s.cells) options.spares))
+        (eqb_tells keys 0))
+        (λ free. let rest = free.1 in omega arith)
+        (eqb_tells (keys % 15) 0)
+
+    pub put_spares : FitsRoom s (write_of op key value) ⊎ (NeedsBlock options s (write_of op key value) × HasWords options s (write_of op key value))
+        → spares_in_use options.buckets s.cells ≤ options.spares → spares_in_use options.buckets (insert s.cells key new_cell) ≤ options.spares
+    put_spares may most =
+        elim (get s.cells key) as (λ o. get s.cells key ≡ o → spares_in_use options.buckets (insert s.cells key new_cell) ≤ options.spares) [
+          | None ↦ λ none. ⊎_elim (λ fits. absurd (subst (λ o. IsSomeAnd o (λ cell. item_size key value ≤ cell.room)) none fits)) (λ has. new_key none has.0 most) may
+          | Some old ↦ λ had. let same = over_spares options.buckets s.cells key old new_cell had in omega arith
+        ] refl
+
+pub delete_rooms : (s : Store) (key : List ℕ) → rooms (remove s.cells key) ≤ rooms s.cells
+delete_rooms s key = let all = rooms_remove s.cells key in omega arith
+
+pub delete_spares : (options : Options) (s : Store) (key : List ℕ) → bucket_of key options.buckets < options.buckets → spares_in_use options.buckets s.cells ≤ options.spares
+    → spares_in_use options.buckets (remove s.cells key) ≤ options.spares
+delete_spares options s key within most =
+    elim (get s.cells key) as (λ o. get s.cells key ≡ o → spares_in_use options.buckets (remove s.cells key) ≤ options.spares) [
+      | None ↦ λ none. let same = ap (spares_in_use options.buckets) (remove_none s.cells key none) in omega arith
+      | Some old ↦ λ had.
+          let change = less_spares options.buckets (bucket_of key options.buckets) s.cells key refl within old had in
+          let fewer = less_here options.buckets (bucket_of key options.buckets) s.cells key refl within old had in
+          omega arith
+    ] refl

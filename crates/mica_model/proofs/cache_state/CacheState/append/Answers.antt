@@ -1,0 +1,25 @@
+use Rattle.std.proofs.Common.{◌≡◌, ◌++◌, ◌∷◌, [], ap, ◌∙◌, not, rules}
+use Rattle.std.proofs.lemmas.Fn.{filter_same}
+use Rattle.mica_words.specs.Stamp.{tail_of}
+use Rattle.mica_model.specs.declared.write.Op.TheVariants.{Put}
+use Rattle.mica_model.specs.Cache.{Cache, has_key}
+use Rattle.mica_model.specs.CacheStep.{after_append, others}
+use Rattle.mica_model.specs.Write.{write_of, size_of}
+use Rattle.mica_model.proofs.CacheSteps.{appended_is}
+use Rattle.mica_model.proofs.cache_state.CacheState.append.Goals as goal
+
+pub returns-clause-ok : goal.returns-clause-ok
+returns-clause-ok c =
+    let a = c.self.inside in
+    let s : Cache = record { records = a.records.items; stamp = a.stamp; accepted = a.accepted } in
+    let write = write_of Put c.args.key.now c.args.value.now in
+    let kept = filter_same _ (λ held. not (has_key c.args.key.now held)) _ (λ x b q k. search rules) _ _ c.retain.ensures.filtered in
+    let key : c.in_ok-copy.field-0 ≡ c.args.key.now = c.in_ok-copy.ensures in
+    let value : c.in_ok-copy-2.field-0 ≡ c.args.value.now = c.in_ok-copy-2.ensures in
+    let offset : c.tail_of-offset.result ≡ tail_of a.stamp = c.tail_of-offset.ensures in
+    let size : c.item_size-size.result ≡ size_of write = c.item_size-size.ensures in
+    appended_is s write c.push_reserved.new.self.items c.new-record.result c.from.result
+    (c.push_reserved.ensures.items ∙ ap (λ rs. rs ++ c.new-record.result ∷ []) (kept ∙ ap (others c.args.key.now) c.in_ok-reserve.ensures.items))
+    (c.new-record.ensures ∙ λ i. record { key = key i; value = value i; offset = offset i; room = size i })
+    (c.from.ensures ∙ size)
+    ∙ ap (λ (t : Cache). after_append t write) c.self.view_is

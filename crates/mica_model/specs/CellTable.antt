@@ -1,0 +1,29 @@
+-- The table of cells in a store machine, as contracts see it.
+use Rattle.std.specs.Prelude.{◌≡◌, ℕ, ◌<◌, ◌%◌, List, refl}
+use Rattle.std.specs.Coded.{Coded, code_by, coded×, coded_ℕ}
+use Rattle.std.specs.FinMap as map
+use Rattle.mica_words.specs.Hash.{bucket_of}
+use Rattle.mica_model.specs.declared.cell.Cell.{Cell as CellInCode}
+use Rattle.mica_model.specs.Store.{Cell, Cells, keys_in, spares_in_use}
+use Rattle.mica_model.specs.Codes.{text_code, cell_code}
+
+pub record Table : Type 0 where
+  pub buckets : ℕ
+  pub cells : Cells
+
+abbrev pub table_code : Coded Table
+table_code =
+    code_by (ℕ × Cells) (coded× coded_ℕ (map.code text_code cell_code)) (λ t. (t.buckets, t.cells)) (λ p. record { buckets = p.0; cells = p.1 }) (λ _. refl)
+
+abbrev pub cell_of : CellInCode → Cell
+cell_of cell = record { value = cell.value; room = cell.room }
+
+-- the table with these cells
+abbrev pub with_cells : Table → Cells → Table
+with_cells table cells = record { buckets = table.buckets; cells = cells }
+
+-- the key's bucket and the spares behind it are full, and no other spare is left
+pub record LacksSpare (table : Table) (key : List ℕ) (spares : ℕ) : Type 0 where
+  pub some : 0 < keys_in table.buckets (bucket_of key table.buckets) table.cells
+  pub full : keys_in table.buckets (bucket_of key table.buckets) table.cells % 15 ≡ 0
+  pub none_left : spares_in_use table.buckets table.cells ≡ spares

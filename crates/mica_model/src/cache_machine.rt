@@ -1,0 +1,169 @@
+ghost use Rattle.std.specs.Prelude.{◌≡◌, ◌↔◌, IfOk, OnErr, length};
+ghost use Rattle.mica_words.specs.Item.{KeyFits};
+ghost use Rattle.mica_model.specs.Answer.{IsAnswer};
+ghost use Rattle.mica_model.specs.CacheFields.{displaced_record, fate_written, marked_displaced, marked_passed};
+ghost use Rattle.mica_model.specs.CacheStep.{without_displaced, without_passed};
+ghost use Rattle.mica_model.specs.Fate.{fate_of};
+ghost use Rattle.mica_model.specs.History.{answer_of, stamp_of};
+ghost use Rattle.mica_model.specs.Logged.{IsLoggedStep, new_log};
+ghost use Rattle.mica_model.specs.Options.{IsValid};
+ghost use Rattle.mica_model.specs.Write.{HasValueOf, write_of};
+
+use crate::accepted::{Accepted, fate_among, mark, mark_passed, put_accepted};
+use crate::cache_state::CacheState;
+use crate::{Answer, Fate, ItemBuf, Mode, Op, Options, Outcome, Write};
+use mica_io::{Bytes, NoMemory};
+use std::alloc::Global;
+use std::marker::Model;
+
+/// The one-thread machine of a partition in cache mode, plain and slow. It keeps its accepted writes, each with what
+/// became of its key.
+#[derive(Drop)]
+pub struct CacheMachine {
+    options: Options,
+    state: CacheState,
+    log: Vec<Accepted>,
+}
+
+impl Model for CacheMachine {
+    ghost use Rattle.mica_model.specs.Logged.{Logged};
+
+    ghost Value = { Logged };
+
+    ghost use Rattle.mica_model.specs.CacheInside.{logged_of, IsMachine};
+
+    ghost view = { logged_of };
+
+    ghost invariant = { IsMachine };
+}
+
+impl CacheMachine {
+    /// An empty partition.
+    pub fn new(alloc: Global, options: &Options) -> Result<Self, NoMemory>
+        requires valid { IsValid options.now }
+        requires mode { options.now.mode ≡ Mode.Cache }
+        ensures { IfOk result (λ machine. machine ≡ new_log options.now) }
+    {
+        Ok(CacheMachine {
+            options: *options,
+            state: CacheState::new(alloc),
+            log: Vec::new(alloc),
+        })
+    }
+
+    /// It has the tail of the log above 16 bits, and rises at each accepted write.
+    pub fn stamp(&self) -> u64
+        ensures { result ≡ stamp_of self.now.options self.now.history }
+    {
+        self.state.stamp()
+    }
+
+    /// The number of accepted writes.
+    pub fn accepted(&self) -> u64
+        ensures { result ≡ length self.now.history }
+    {
+        self.state.accepted()
+    }
+
+    /// The value of the key, which the buffer then has, or a miss, at which it is empty. It is a hit exactly where the
+    /// key's fate is `Held`.
+    pub fn answer(&self, key: &[u8], out: &mut ItemBuf) -> Answer
+        ensures answer { IsAnswer result out.new
+            (answer_of self.now.options self.now.history key.now) }
+        ensures fate { (result ≡ Answer.Hit)
+            ↔ (fate_of self.now.options self.now.history key.now ≡ Fate.Held) }
+    {
+        match self.state.value(key) {
+            Some(value) => {
+                out.set(value);
+                Answer::Hit
+            }
+            None => {
+                out.clear();
+                Answer::Miss
+            }
+        }
+    }
+
+    /// What became of the key.
+    pub fn fate(&self, key: &[u8]) -> Fate
+        ensures { result ≡ fate_of self.now.options self.now.history key.now }
+    {
+        fate_among(&self.log, key)
+    }
+
+    /// One step.
+    pub fn apply(
+        &mut self,
+        alloc: Global,
+        op: Op,
+        key: &[u8],
+        value: &[u8],
+    ) -> Result<Outcome, NoMemory>
+        requires key { KeyFits key.now }
+        requires value { HasValueOf op value.now }
+
+        ensures step { IfOk result
+            (λ outcome. IsLoggedStep self.old (write_of op key.now value.now) outcome self.new) }
+        ensures err { OnErr result (self.new ≡ self.old) }
+    {
+        if self.state.accepted() >= self.options.wear {
+            return Ok(Outcome::Worn);
+        }
+        let write = Write {
+            op,
+            key: Bytes::copy(alloc, key)?,
+            value: Bytes::copy(alloc, value)?,
+        };
+        self.log.reserve(1)?;
+        let options = self.options;
+        let outcome = self.state.write(alloc, &options, op, key, value)?;
+        let number = self.state.accepted() + 1;
+        let fate = fate_after(outcome, number, fate_among(&self.log, key));
+        put_accepted(&mut self.log, write, fate);
+        drop_dead(&mut self.state, &mut self.log, &options, key, number);
+        self.state.count();
+        Ok(outcome)
+    }
+}
+
+// The fate of a key after a write to it with this outcome and number, where it had another before.
+fn fate_after(outcome: Outcome, number: u64, before: Fate) -> Fate
+    ensures { result ≡ fate_written outcome number before }
+{
+    match outcome {
+        Outcome::Stored => Fate::Held,
+        Outcome::Deleted => Fate::Deleted(number),
+        _ => before,
+    }
+}
+
+// What the log has passed goes, and then what the index displaces. The number is that of the write.
+fn drop_dead(
+    state: &mut CacheState,
+    log: &mut Vec<Accepted>,
+    options: &Options,
+    key: &[u8],
+    number: u64,
+)
+    requires { IsValid options.now }
+    ensures state { state.new
+        ≡ without_displaced options.now key.now (without_passed options.now state.old) }
+    ensures log { log.new.items ≡ marked_displaced (Fate.Displaced number)
+        (displaced_record options.now key.now (without_passed options.now state.old).records)
+        (marked_passed (Fate.Passed number) options.now.words state.old.stamp state.old.records log.old.items) }
+{
+    mark_passed(
+        log,
+        state.records(),
+        options.words,
+        state.stamp(),
+        Fate::Passed(number),
+    );
+    state.drop_passed(options);
+    if let Some(at) = state.displaced(options, key) {
+        let record = &state.records()[at];
+        mark(log, record.key(), Fate::Displaced(number));
+    }
+    state.drop_displaced(options, key);
+}

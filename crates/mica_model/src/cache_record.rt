@@ -1,0 +1,88 @@
+ghost use Rattle.std.specs.Prelude.{◌≡◌, ◌≤◌};
+ghost use Rattle.mica_model.specs.Cache.{has_key, is_live as is_live_at};
+ghost use Rattle.mica_model.specs.CacheStep.{is_in_bucket as is_in};
+ghost use Rattle.mica_model.specs.Options.{IsValid};
+
+use crate::Options;
+use mica_io::Bytes;
+use mica_words::{bucket_of, key_hash, tail_of};
+use std::marker::Model;
+
+/// What the log has of a key.
+#[derive(Drop)]
+pub struct CacheRecord {
+    key: Bytes,
+    value: Bytes,
+    offset: u64,
+    room: u32,
+}
+
+impl Model for CacheRecord {
+    ghost use Rattle.mica_model.specs.Cache.{Record};
+    ghost use Rattle.mica_model.specs.Codes.{record_code};
+
+    ghost Value = { Record };
+
+    ghost coded = { record_code };
+
+    ghost view = { λ r. record { key = r.key; value = r.value; offset = r.offset; room = r.room } };
+}
+
+impl CacheRecord {
+    pub fn new(key: Bytes, value: Bytes, offset: u64, room: u32) -> Self
+        ensures { result ≡ record { key = key; value = value; offset = offset; room = room } }
+    {
+        CacheRecord {
+            key,
+            value,
+            offset,
+            room,
+        }
+    }
+
+    pub fn key(&self) -> &[u8]
+        ensures { result.now ≡ self.now.key }
+    {
+        self.key.bytes()
+    }
+
+    pub fn value(&self) -> &[u8]
+        ensures { result.now ≡ self.now.value }
+    {
+        self.value.bytes()
+    }
+
+    /// The words that its item may use.
+    pub fn room(&self) -> u32
+        ensures { result ≡ self.now.room }
+    {
+        self.room
+    }
+
+    pub fn has_key(&self, key: &[u8]) -> bool
+        ensures { result ≡ has_key key.now self.now }
+    {
+        self.key.bytes() == key
+    }
+
+    /// Whether a log of this many words has not passed it.
+    pub fn is_live(&self, words: u32, stamp: u64) -> bool
+        ensures { result ≡ is_live_at words stamp self.now.offset }
+    {
+        tail_of(stamp).saturating_sub(u64::from(words)) <= self.offset
+    }
+
+    #[tactic(auto, unfolding(mica_words::specs::Hash::bucket_of))]
+    pub fn is_in_bucket(&self, bucket: u32, options: &Options) -> bool
+        requires { IsValid options.now }
+        ensures { result ≡ is_in options.now bucket self.now }
+    {
+        bucket_of(key_hash(self.key.bytes()), options.buckets) == bucket
+    }
+
+    pub fn rewrite(&mut self, value: Bytes)
+        ensures { self.new ≡ record self.old { value = value } }
+    {
+        self.value = value;
+    }
+}

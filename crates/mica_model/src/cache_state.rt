@@ -1,0 +1,261 @@
+ghost use Rattle.std.specs.Prelude.{◌≡◌, ◌+◌, ◌<◌, ◌^◌, [], IfOk, OnOk, OnErr, is_some, option_copied, position, count_by};
+ghost use Rattle.mica_words.specs.Item.{KeyFits, ValueFits};
+ghost use Rattle.mica_model.specs.Cache.{start, has_key, record_of, value_in};
+ghost use Rattle.mica_model.specs.CacheFields.{IsUnique, displaced_at, kept_place};
+ghost use Rattle.mica_model.specs.CacheStep.{after_append, after_put, after_delete, after_write, reply_of, kept_record, without_passed, without_displaced, is_in_bucket};
+ghost use Rattle.mica_model.specs.Options.{IsValid};
+ghost use Rattle.mica_model.specs.Write.{HasValueOf, write_of};
+
+use crate::cache_record::CacheRecord;
+use crate::{Op, Options, Outcome};
+use mica_io::{Bytes, NoMemory};
+use mica_words::{bucket_of, item_size, key_hash, tail_of};
+use std::alloc::Global;
+use std::marker::Model;
+
+/// The state of a partition in cache mode: records in the order of the log, the stamp, and how many writes were
+/// accepted. Each of its methods is one rule of a step.
+#[derive(Drop)]
+pub struct CacheState {
+    records: Vec<CacheRecord>,
+    stamp: u64,
+    accepted: u64,
+}
+
+impl Model for CacheState {
+    ghost use Rattle.mica_model.specs.Cache.{Cache};
+    ghost use Rattle.mica_model.specs.Codes.{cache_code};
+
+    ghost Value = { Cache };
+
+    ghost coded = { cache_code };
+
+    ghost view = { λ s. record { records = s.records.items; stamp = s.stamp; accepted = s.accepted } };
+}
+
+impl CacheState {
+    pub fn new(alloc: Global) -> Self
+        ensures { result ≡ start }
+    {
+        CacheState {
+            records: Vec::new(alloc),
+            stamp: 0,
+            accepted: 0,
+        }
+    }
+
+    pub fn stamp(&self) -> u64
+        ensures { result ≡ self.now.stamp }
+    {
+        self.stamp
+    }
+
+    pub fn accepted(&self) -> u64
+        ensures { result ≡ self.now.accepted }
+    {
+        self.accepted
+    }
+
+    pub fn records(&self) -> &[CacheRecord]
+        ensures { result.now ≡ self.now.records }
+    {
+        self.records.as_slice()
+    }
+
+    fn holds(&self, key: &[u8]) -> bool
+        ensures { result ≡ is_some (record_of self.now key.now) }
+    {
+        find_record(&self.records, key).is_some()
+    }
+
+    /// The value of the key, if it has one.
+    pub fn value(&self, key: &[u8]) -> Option<&[u8]>
+        ensures { option_copied result ≡ value_in self.now key.now }
+    {
+        match find_record(&self.records, key) {
+            Some(at) => {
+                let record = &self.records[at];
+                Some(record.value())
+            }
+            None => None,
+        }
+    }
+
+    /// The write itself, before the log passes and the index displaces.
+    pub fn write(
+        &mut self,
+        alloc: Global,
+        options: &Options,
+        op: Op,
+        key: &[u8],
+        value: &[u8],
+    ) -> Result<Outcome, NoMemory>
+        requires key { KeyFits key.now }
+        requires value { HasValueOf op value.now }
+        requires stamp { self.old.stamp < 2 ^ 60 }
+        requires unique { IsUnique self.old.records }
+
+        ensures ok { OnOk result
+            (self.new ≡ after_write options.now self.old (write_of op key.now value.now)) }
+        ensures outcome { IfOk result
+            (λ outcome. outcome ≡ reply_of op (is_some (record_of self.old key.now))) }
+        ensures err { OnErr result (self.new ≡ self.old) }
+    {
+        let held = self.holds(key);
+        match op {
+            Op::Put => self.put(alloc, options, key, value)?,
+            Op::Del => self.delete(key),
+        }
+        Ok(reply_to(op, held))
+    }
+
+    fn put(
+        &mut self,
+        alloc: Global,
+        options: &Options,
+        key: &[u8],
+        value: &[u8],
+    ) -> Result<(), NoMemory>
+        requires key { KeyFits key.now }
+        requires value { ValueFits value.now }
+        requires stamp { self.old.stamp < 2 ^ 60 }
+        requires unique { IsUnique self.old.records }
+
+        ensures ok { let write = write_of Op.Put key.now value.now in
+            OnOk result (self.new ≡ after_put (kept_record options.now self.old write) self.old write) }
+        ensures err { OnErr result (self.new ≡ self.old) }
+    {
+        let Some(at) = self.kept_at(options, key, value) else {
+            return self.append(alloc, key, value);
+        };
+        let value = Bytes::copy(alloc, value)?;
+        let record = &mut self.records[at];
+        record.rewrite(value);
+        self.stamp += 1;
+        Ok(())
+    }
+
+    // The place of the record in whose room a put is kept, if it is.
+    fn kept_at(&self, options: &Options, key: &[u8], value: &[u8]) -> Option<usize>
+        requires key { KeyFits key.now }
+        requires value { ValueFits value.now }
+        requires stamp { self.now.stamp < 2 ^ 60 }
+        ensures { result ≡ kept_place options.now self.now (write_of Op.Put key.now value.now) }
+    {
+        let at = find_record(&self.records, key)?;
+        let record = &self.records[at];
+        if item_size(key.len(), value.len()) <= record.room()
+            && record.is_live(options.words, self.stamp + 1)
+        {
+            Some(at)
+        } else {
+            None
+        }
+    }
+
+    // Puts a record of the key last, in the place of the one that it may have.
+    fn append(&mut self, alloc: Global, key: &[u8], value: &[u8]) -> Result<(), NoMemory>
+        requires key { KeyFits key.now }
+        requires value { ValueFits value.now }
+        requires stamp { self.old.stamp < 2 ^ 60 }
+
+        ensures ok { OnOk result
+            (self.new ≡ after_append self.old (write_of Op.Put key.now value.now)) }
+        ensures err { OnErr result (self.new ≡ self.old) }
+    {
+        let size = item_size(key.len(), value.len());
+        let offset = tail_of(self.stamp);
+        let record = CacheRecord::new(
+            Bytes::copy(alloc, key)?,
+            Bytes::copy(alloc, value)?,
+            offset,
+            size,
+        );
+        self.records.reserve(1)?;
+        self.records.retain(|held| !held.has_key(key));
+        self.records.push_reserved(record);
+        self.stamp += 65536 * u64::from(size);
+        Ok(())
+    }
+
+    fn delete(&mut self, key: &[u8])
+        requires { self.old.stamp < 2 ^ 60 }
+        ensures { self.new ≡ after_delete self.old (write_of Op.Del key.now []) }
+    {
+        self.records.retain(|record| !record.has_key(key));
+        self.stamp += 1;
+    }
+
+    pub fn drop_passed(&mut self, options: &Options)
+        ensures { self.new ≡ without_passed options.now self.old }
+    {
+        let stamp = self.stamp;
+        self.records
+            .retain(|record| record.is_live(options.words, stamp));
+    }
+
+    /// The place of the record that is displaced, if one is: the first of the key's bucket, where it has 16.
+    pub fn displaced(&self, options: &Options, key: &[u8]) -> Option<usize>
+        requires { IsValid options.now }
+        ensures { result ≡ displaced_at options.now key.now self.now.records }
+    {
+        let bucket = bucket_of(key_hash(key), options.buckets);
+        if count_in_bucket(&self.records, options, bucket) != 16 {
+            return None;
+        }
+        first_in_bucket(&self.records, options, bucket)
+    }
+
+    pub fn drop_displaced(&mut self, options: &Options, key: &[u8])
+        requires { IsValid options.now }
+        ensures { self.new ≡ without_displaced options.now key.now self.old }
+    {
+        if let Some(at) = self.displaced(options, key) {
+            self.records.remove(at);
+        }
+    }
+
+    pub fn count(&mut self)
+        requires { self.old.accepted < 2 ^ 60 }
+        ensures { self.new ≡ record self.old { accepted = self.old.accepted + 1 } }
+    {
+        self.accepted += 1;
+    }
+}
+
+// The reply to a write, by whether its key had a record.
+fn reply_to(op: Op, held: bool) -> Outcome
+    ensures { result ≡ reply_of op held }
+{
+    match op {
+        Op::Put => Outcome::Stored,
+        Op::Del if held => Outcome::Deleted,
+        Op::Del => Outcome::Absent,
+    }
+}
+
+// The place of the key's record, if it has one.
+fn find_record(records: &[CacheRecord], key: &[u8]) -> Option<usize>
+    ensures { result ≡ position (has_key key.now) records.now }
+{
+    records.iter().position(|record| record.has_key(key))
+}
+
+fn first_in_bucket(records: &[CacheRecord], options: &Options, bucket: u32) -> Option<usize>
+    requires { IsValid options.now }
+    ensures { result ≡ position (is_in_bucket options.now bucket) records.now }
+{
+    records
+        .iter()
+        .position(|record| record.is_in_bucket(bucket, options))
+}
+
+fn count_in_bucket(records: &[CacheRecord], options: &Options, bucket: u32) -> usize
+    requires { IsValid options.now }
+    ensures { result ≡ count_by (is_in_bucket options.now bucket) records.now }
+{
+    records
+        .iter()
+        .filter(|record| record.is_in_bucket(bucket, options))
+        .count()
+}

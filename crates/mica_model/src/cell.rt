@@ -1,0 +1,11 @@
+ghost use Rattle.mica_words.specs.Item.{ValueFits};
+
+use mica_io::Bytes;
+
+// What a key has: its value, and how many words it may use.
+#[derive(Drop)]
+pub struct Cell {
+    pub value: Bytes,
+    pub room: u32,
+    ghost fits: { ValueFits value },
+}

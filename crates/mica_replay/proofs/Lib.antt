@@ -1,0 +1,3 @@
+pub mod InOrder
+pub mod Following
+pub mod Running

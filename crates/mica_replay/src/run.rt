@@ -1,0 +1,109 @@
+ghost use Rattle.std.specs.Prelude.{◌≡◌, ◌<◌, ◌≤◌, IfOk, OnOk, replicate, vec_len};
+ghost use Rattle.mica_words.specs.Item.{KeyFits};
+ghost use Rattle.mica_model.specs.Machine.{new_machine};
+ghost use Rattle.mica_model.specs.Options.{IsValid};
+ghost use Rattle.mica_model.specs.Write.{HasValueOf, write_of};
+ghost use Rattle.mica_trace.specs.TraceGrammar.{IsTraceLine};
+ghost use Rattle.mica_trace.specs.ExactReport.{ExactReport};
+ghost use Rattle.mica_trace.specs.LawfulReport.{LawfulReport};
+ghost use Rattle.mica_replay.specs.Replied.{IsWriteLine, IsReadLine, Replied};
+
+use mica_io::{Bytes, NoMemory};
+use mica_model::{Answer, ItemBuf, Mode, Op, Options, StoreMachine};
+use mica_trace::{Line, Report, Trace, TraceLine, TraceOp};
+use mica_words::{key_hash, partition_of};
+use std::alloc::Global;
+
+// One machine for each partition.
+fn new_machines(alloc: Global, options: &Options) -> Result<Vec<StoreMachine>, NoMemory>
+    requires valid { IsValid options.now }
+    requires mode { options.now.mode ≡ Mode.Store }
+    ensures { IfOk result (λ machines. machines.items ≡ replicate options.now.partitions (new_machine options.now)) }
+{
+    let mut machines = Vec::with_capacity(alloc, options.partitions as usize)?;
+    for _ in 0..options.partitions {
+        machines.push(StoreMachine::new(alloc, options)?)?;
+    }
+    Ok(machines)
+}
+
+fn write(
+    alloc: Global,
+    machine: &mut StoreMachine,
+    op: Op,
+    line: &TraceLine,
+) -> Result<Line, NoMemory>
+    requires key { KeyFits line.now.key }
+    requires value { HasValueOf op line.now.value }
+    ensures written { IfOk result (λ printed. IsWriteLine machine.old.options machine.old.state
+        (write_of op line.now.key line.now.value) printed machine.new.state) }
+    ensures options { machine.new.options ≡ machine.old.options }
+{
+    let outcome = machine.apply(alloc, op, line.key.bytes(), line.value.bytes())?;
+    let stamp = machine.stamp();
+    Ok(Line::Wrote { op, outcome, stamp })
+}
+
+fn read(
+    alloc: Global,
+    machine: &StoreMachine,
+    key: &[u8],
+    out: &mut ItemBuf,
+) -> Result<Line, NoMemory>
+    ensures { IfOk result (λ printed. IsReadLine machine.now.state key.now printed machine.now.state) }
+{
+    let stamp = machine.stamp();
+    match machine.answer(key, out) {
+        Answer::Hit => Ok(Line::Hit {
+            stamp,
+            value: Bytes::copy(alloc, out.value())?,
+        }),
+        Answer::Miss => Ok(Line::Miss { stamp }),
+    }
+}
+
+// What the machine replies to a line.
+fn reply_to(
+    alloc: Global,
+    machine: &mut StoreMachine,
+    line: &TraceLine,
+    out: &mut ItemBuf,
+) -> Result<Line, NoMemory>
+    requires { IsTraceLine line.now }
+    ensures replied { IfOk result (λ printed. Replied machine.old.options machine.old.state line.now printed machine.new.state) }
+    ensures options { machine.new.options ≡ machine.old.options }
+{
+    match line.op {
+        TraceOp::Put => write(alloc, machine, Op::Put, line),
+        TraceOp::Del => write(alloc, machine, Op::Del, line),
+        TraceOp::Get => read(alloc, machine, line.key.bytes(), out),
+        TraceOp::Sync => Ok(Line::Sync),
+    }
+}
+
+// Answers each get at its place.
+fn run_in_order(alloc: Global, options: &Options, trace: &Trace) -> Result<Report, NoMemory>
+    requires valid { IsValid options.now }
+    requires mode { options.now.mode ≡ Mode.Store }
+    ensures { IfOk result (ExactReport options.now trace.now) }
+{
+    let mut machines = new_machines(alloc, options)?;
+    let mut out = ItemBuf::new(alloc)?;
+    let mut report = Report::with_capacity(alloc, trace.len())?;
+    for line in trace.lines() {
+        let partition = partition_of(key_hash(line.key.bytes()), options.partitions) as usize;
+        let printed = reply_to(alloc, &mut machines[partition], line, &mut out)?;
+        report.push(printed)?;
+    }
+    Ok(report)
+}
+
+/// The report of a trace, by one machine for each partition, on one thread.
+pub fn run_trace(alloc: Global, options: &Options, trace: &Trace) -> Result<Report, NoMemory>
+    requires valid { IsValid options.now }
+    requires mode { options.now.mode ≡ Mode.Store }
+    ensures { IfOk result (LawfulReport options.now trace.now) }
+{
+    let report = run_in_order(alloc, options, trace)?;
+    Ok(report)
+}
