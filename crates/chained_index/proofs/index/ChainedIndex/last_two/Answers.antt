@@ -20,11 +20,11 @@ pub loop-link-preserved : goal.loop-link-preserved
 loop-link-preserved g c =
     let m : OwnerState = g.W.OwnerWords.owner c.loop-link.words in
     let n : OwnerState = g.W.OwnerWords.owner c.read-next.new.self in record {
-      owner = c.read-next.ensures.same.0 ∙ c.loop-link.invariant.owner;
-      home = c.read-next.ensures.same.1 ∙ c.loop-link.invariant.home;
-      walk = one_further m n c.read-next.ensures.same.0 c.args.bucket c.loop-link.link c.loop-link.at c.loop-link.invariant.walk (chained n c.read-next.ensures.kept)
+      owner = c.read-next.ensures.same ∙ c.loop-link.invariant.owner;
+      home = c.read-next.ensures.home ∙ c.loop-link.invariant.home;
+      walk = one_further m n c.read-next.ensures.same c.args.bucket c.loop-link.link c.loop-link.at c.loop-link.invariant.walk (chained n c.read-next.ensures.kept)
           c.read-next.result c.read-next.ensures.value (search rules);
-      behind = behind_further m n c.read-next.ensures.same.0 c.args.bucket c.loop-link.link c.loop-link.at c.loop-link.invariant.walk;
+      behind = behind_further m n c.read-next.ensures.same c.args.bucket c.loop-link.link c.loop-link.at c.loop-link.invariant.walk;
     }
 
 pub returns-clause-last : goal.returns-clause-last

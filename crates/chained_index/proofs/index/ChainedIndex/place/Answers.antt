@@ -36,7 +36,7 @@ pushed g c =
     let e = c.end_of-end.ensures.end in
     let x : ℕ = entry_of c.args.tag c.args.offset in
     let some : x ≢ 0 = some_entry c.args.tag c.args.offset c.requires.tag in
-    let is : p ≡ after (PutsEntry c.end_of-end.result.bucket c.end_of-end.result.used x) o = c.put_entry.ensures.event.0
+    let is : p ≡ after (PutsEntry c.end_of-end.result.bucket c.end_of-end.result.used x) o = c.put_entry.ensures.event
     ∙ (ap (after (PutsEntry c.end_of-end.result.bucket c.end_of-end.result.used c.entry_of-entry.result)) c.end_of-end.ensures.same.0
     ∙ ap (λ (z : ℕ). after (PutsEntry c.end_of-end.result.bucket c.end_of-end.result.used z) o) c.entry_of-entry.ensures) in (
       pushed_by o s c.args.bucket c.requires.bucket e.0 c.end_of-end.result e.1 x some p (chained p c.put_entry.ensures.kept) c.if-end-lt-SLOTS.true is,
@@ -71,7 +71,7 @@ put_link-requires g c =
     let known = popped_last o c.self.inside.shape c.args.self.now c.self.inside.free.items c.pop.new.self.items c.pop.result c.in-Some.next
     c.self.view_is c.pop.ensures.items c.in-Some.is c.requires.index in
     let free = last_is_free o c.self.inside.shape c.pop.new.self.items c.in-Some.next known in
-    subst (λ (z : OwnerState). MayPutLink z c.end_of-end.result.bucket next) (sym (c.put_entry-in-Some.ensures.event.0 ∙ ap (after (PutsEntry next 0 x)) c.end_of-end.ensures.same.0))
+    subst (λ (z : OwnerState). MayPutLink z c.end_of-end.result.bucket next) (sym (c.put_entry-in-Some.ensures.event ∙ ap (after (PutsEntry next 0 x)) c.end_of-end.ensures.same.0))
     (may_link o s next 0 x (omega arith) c.args.bucket c.end_of-end.result.bucket next c.requires.marked
     (end_in_chain o s c.args.bucket c.requires.bucket e.0 c.end_of-end.result e.1) free (known.blank next free).no_link)
 
@@ -95,13 +95,13 @@ taken g c =
     let blank = known.blank next free in
     let within = e.1.shape.within in
     let full : c.end_of-end.result.used ≡ 15 = omega arith in
-    let first : m ≡ after (PutsEntry next 0 x) o = c.put_entry-in-Some.ensures.event.0
+    let first : m ≡ after (PutsEntry next 0 x) o = c.put_entry-in-Some.ensures.event
     ∙ (ap (after (PutsEntry next 0 c.entry_of-entry.result)) c.end_of-end.ensures.same.0
     ∙ ap (λ (z : ℕ). after (PutsEntry next 0 z) o) c.entry_of-entry.ensures) in
     let middle = chained m c.put_entry-in-Some.ensures.kept in
     let last = chained p c.put_link.ensures.kept in (
-      taken_by o s c.args.bucket c.requires.bucket e.0 c.end_of-end.result e.1 x some next free blank full m p middle last first c.put_link.ensures.event.0,
-      index_taken_by o s c.args.bucket c.requires.bucket e.0 c.end_of-end.result e.1 x some next free blank full m p middle last first c.put_link.ensures.event.0
+      taken_by o s c.args.bucket c.requires.bucket e.0 c.end_of-end.result e.1 x some next free blank full m p middle last first c.put_link.ensures.event,
+      index_taken_by o s c.args.bucket c.requires.bucket e.0 c.end_of-end.result e.1 x some next free blank full m p middle last first c.put_link.ensures.event
           c.self.inside.shape c.pop.new.self.items known,
     )
 

@@ -32,7 +32,7 @@ put_entry-requires-2 g c =
     let within = e.1.shape.within in
     let some = used_some o s c.args.bucket c.requires.bucket e.0 c.end_of-end.result e.1 c.args.spot c.requires.spot in
     let store : OwnerState → OwnerState = after (PutsEntry c.args.spot.bucket c.args.spot.slot y) in
-    let first : g.W.OwnerWords.owner c.put_entry.new.self ≡ store o = c.put_entry.ensures.event.0 ∙ ap store (c.read-entry.ensures.same.0 ∙ c.end_of-end.ensures.same.0) in
+    let first : g.W.OwnerWords.owner c.put_entry.new.self ≡ store o = c.put_entry.ensures.event ∙ ap store (c.read-entry.ensures.same ∙ c.end_of-end.ensures.same.0) in
     subst (λ (z : OwnerState). MayPutEntry z c.end_of-end.result.bucket (c.end_of-end.result.used - 1)) (sym first) record {
       its_bucket = its_own (store o) c.args.bucket c.end_of-end.result.bucket c.requires.marked
           (chain_still o s c.args.spot.bucket c.args.spot.slot y c.requires.spot.in_bucket c.args.bucket c.end_of-end.result.bucket
@@ -50,9 +50,9 @@ put_link-requires g c =
     let some = used_some o s c.args.bucket c.requires.bucket e.0 c.end_of-end.result e.1 c.args.spot c.requires.spot in
     let store : OwnerState → OwnerState = after (PutsEntry c.args.spot.bucket c.args.spot.slot y) in
     let drop : OwnerState → OwnerState = after (PutsEntry c.end_of-end.result.bucket (c.end_of-end.result.used - 1) 0) in
-    let first : g.W.OwnerWords.owner c.put_entry.new.self ≡ store o = c.put_entry.ensures.event.0 ∙ ap store (c.read-entry.ensures.same.0 ∙ c.end_of-end.ensures.same.0) in
+    let first : g.W.OwnerWords.owner c.put_entry.new.self ≡ store o = c.put_entry.ensures.event ∙ ap store (c.read-entry.ensures.same ∙ c.end_of-end.ensures.same.0) in
     let t : Chained (store o) = chained (store o) (subst Kept first c.put_entry.ensures.kept) in
-    subst (λ (z : OwnerState). MayPutLink z c.end_of-end.result.before 0) (sym (c.put_entry-2.ensures.event.0 ∙ ap drop first))
+    subst (λ (z : OwnerState). MayPutLink z c.end_of-end.result.before 0) (sym (c.put_entry-2.ensures.event ∙ ap drop first))
     (may_cut (store o) t c.end_of-end.result.bucket (c.end_of-end.result.used - 1) 0 (omega arith) c.args.bucket c.end_of-end.result.before c.requires.marked
     (chain_still o s c.args.spot.bucket c.args.spot.slot y c.requires.spot.in_bucket c.args.bucket c.end_of-end.result.before
     (before_in_chain o s c.args.bucket c.requires.bucket e.0 c.end_of-end.result e.1 c.if-end-bucket.true)))
@@ -80,12 +80,12 @@ returns-then-end-bucket-clause-entries g c =
     let slot : ℕ = c.end_of-end.result.used - 1 in
     let store : OwnerState → OwnerState = after (PutsEntry c.args.spot.bucket c.args.spot.slot y) in
     let drop : OwnerState → OwnerState = after (PutsEntry c.end_of-end.result.bucket slot 0) in
-    let first : g.W.OwnerWords.owner c.put_entry.new.self ≡ store o = c.put_entry.ensures.event.0 ∙ ap store (c.read-entry.ensures.same.0 ∙ c.end_of-end.ensures.same.0) in
+    let first : g.W.OwnerWords.owner c.put_entry.new.self ≡ store o = c.put_entry.ensures.event ∙ ap store (c.read-entry.ensures.same ∙ c.end_of-end.ensures.same.0) in
     let t : Chained (store o) = chained (store o) (subst Kept first c.put_entry.ensures.kept) in
     let last : y ≡ entry_in o c.end_of-end.result.bucket slot =
     c.read-entry.ensures.value ∙ ap (λ (z : OwnerState). entry_in z c.end_of-end.result.bucket slot) c.end_of-end.ensures.same.0 in
     released_by_call o s c.args.bucket c.requires.bucket e.0 c.end_of-end.result e.1 c.args.spot c.requires.spot y last t c.if-last-eq0.true c.if-end-bucket.true q p
-    (chained q c.put_entry-2.ensures.kept) (chained p c.put_link.ensures.kept) (c.put_entry-2.ensures.event.0 ∙ ap drop first) c.put_link.ensures.event.0
+    (chained q c.put_entry-2.ensures.kept) (chained p c.put_link.ensures.kept) (c.put_entry-2.ensures.event ∙ ap drop first) c.put_link.ensures.event
 
 pub returns-then-end-bucket-clause-index : goal.returns-then-end-bucket-clause-index
 returns-then-end-bucket-clause-index g c =
@@ -98,14 +98,14 @@ returns-then-end-bucket-clause-index g c =
     let slot : ℕ = c.end_of-end.result.used - 1 in
     let store : OwnerState → OwnerState = after (PutsEntry c.args.spot.bucket c.args.spot.slot y) in
     let drop : OwnerState → OwnerState = after (PutsEntry c.end_of-end.result.bucket slot 0) in
-    let first : g.W.OwnerWords.owner c.put_entry.new.self ≡ store o = c.put_entry.ensures.event.0 ∙ ap store (c.read-entry.ensures.same.0 ∙ c.end_of-end.ensures.same.0) in
+    let first : g.W.OwnerWords.owner c.put_entry.new.self ≡ store o = c.put_entry.ensures.event ∙ ap store (c.read-entry.ensures.same ∙ c.end_of-end.ensures.same.0) in
     let t : Chained (store o) = chained (store o) (subst Kept first c.put_entry.ensures.kept) in
     let last : y ≡ entry_in o c.end_of-end.result.bucket slot =
     c.read-entry.ensures.value ∙ ap (λ (z : OwnerState). entry_in z c.end_of-end.result.bucket slot) c.end_of-end.ensures.same.0 in
     let index = subst (λ (z : Index). IsIndexOf z o) (sym c.self.view_is) c.requires.index in
     subst (λ (z : List ℕ). IsIndexOf (record { shape = c.self.inside.shape; free = z }) p) (sym c.push_reserved.ensures.items)
     (index_released_by_call o s c.args.bucket c.requires.bucket e.0 c.end_of-end.result e.1 c.args.spot c.requires.spot y last t c.if-last-eq0.true c.if-end-bucket.true q p
-    (chained q c.put_entry-2.ensures.kept) (chained p c.put_link.ensures.kept) (c.put_entry-2.ensures.event.0 ∙ ap drop first) c.put_link.ensures.event.0
+    (chained q c.put_entry-2.ensures.kept) (chained p c.put_link.ensures.kept) (c.put_entry-2.ensures.event ∙ ap drop first) c.put_link.ensures.event
     c.self.inside.shape c.self.inside.free.items index)
 
 pub returns-else-last-eq0-clause-entries : goal.returns-else-last-eq0-clause-entries
@@ -118,13 +118,13 @@ returns-else-last-eq0-clause-entries g c =
     let slot : ℕ = c.end_of-end.result.used - 1 in
     let store : OwnerState → OwnerState = after (PutsEntry c.args.spot.bucket c.args.spot.slot y) in
     let drop : OwnerState → OwnerState = after (PutsEntry c.end_of-end.result.bucket slot 0) in
-    let first : g.W.OwnerWords.owner c.put_entry.new.self ≡ store o = c.put_entry.ensures.event.0 ∙ ap store (c.read-entry.ensures.same.0 ∙ c.end_of-end.ensures.same.0) in
+    let first : g.W.OwnerWords.owner c.put_entry.new.self ≡ store o = c.put_entry.ensures.event ∙ ap store (c.read-entry.ensures.same ∙ c.end_of-end.ensures.same.0) in
     let t : Chained (store o) = chained (store o) (subst Kept first c.put_entry.ensures.kept) in
     let last : y ≡ entry_in o c.end_of-end.result.bucket slot =
     c.read-entry.ensures.value ∙ ap (λ (z : OwnerState). entry_in z c.end_of-end.result.bucket slot) c.end_of-end.ensures.same.0 in
     let stays = end_stays o s c.args.bucket c.requires.bucket e.0 c.end_of-end.result e.1 c.else-last-eq0.either in
     removed_by o s c.args.bucket c.requires.bucket e.0 c.end_of-end.result e.1 c.args.spot c.requires.spot y last t stays p
-    (chained p c.put_entry-2.ensures.kept) (c.put_entry-2.ensures.event.0 ∙ ap drop first)
+    (chained p c.put_entry-2.ensures.kept) (c.put_entry-2.ensures.event ∙ ap drop first)
 
 pub returns-else-last-eq0-clause-index : goal.returns-else-last-eq0-clause-index
 returns-else-last-eq0-clause-index g c =
@@ -136,10 +136,10 @@ returns-else-last-eq0-clause-index g c =
     let slot : ℕ = c.end_of-end.result.used - 1 in
     let store : OwnerState → OwnerState = after (PutsEntry c.args.spot.bucket c.args.spot.slot y) in
     let drop : OwnerState → OwnerState = after (PutsEntry c.end_of-end.result.bucket slot 0) in
-    let first : g.W.OwnerWords.owner c.put_entry.new.self ≡ store o = c.put_entry.ensures.event.0 ∙ ap store (c.read-entry.ensures.same.0 ∙ c.end_of-end.ensures.same.0) in
+    let first : g.W.OwnerWords.owner c.put_entry.new.self ≡ store o = c.put_entry.ensures.event ∙ ap store (c.read-entry.ensures.same ∙ c.end_of-end.ensures.same.0) in
     let t : Chained (store o) = chained (store o) (subst Kept first c.put_entry.ensures.kept) in
     let last : y ≡ entry_in o c.end_of-end.result.bucket slot =
     c.read-entry.ensures.value ∙ ap (λ (z : OwnerState). entry_in z c.end_of-end.result.bucket slot) c.end_of-end.ensures.same.0 in
     let stays = end_stays o s c.args.bucket c.requires.bucket e.0 c.end_of-end.result e.1 c.else-last-eq0.either in
     index_removed_by o s c.args.bucket c.requires.bucket e.0 c.end_of-end.result e.1 c.args.spot c.requires.spot y last t stays p
-    (chained p c.put_entry-2.ensures.kept) (c.put_entry-2.ensures.event.0 ∙ ap drop first) c.args.self.now c.requires.index
+    (chained p c.put_entry-2.ensures.kept) (c.put_entry-2.ensures.event ∙ ap drop first) c.args.self.now c.requires.index
