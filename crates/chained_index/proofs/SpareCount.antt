@@ -47,9 +47,11 @@ module _ (xs ys : List ℕ) where
       | inl low ↦
           let first = get_or_append_left xs ys d i low in
           let second = get_or-append_right xs ys (length xs) j d refl high in
-          apart (get_or xs i d) (i, low, get_or_default xs i (get_or xs i d) d low)
-          (j - length xs, omega (arith, within, length-append xs ys),
-            get_or_default ys (j - length xs) (get_or xs i d) d (omega (arith, within, length-append xs ys)) ∙ (sym second ∙ (sym same ∙ first)))
+          apart (get_or xs i d) (i, low, get_or_default xs i (get_or xs i d) d low) (
+            j - length xs,
+            omega (arith, within, length-append xs ys),
+            get_or_default ys (j - length xs) (get_or xs i d) d (omega (arith, within, length-append xs ys)) ∙ (sym second ∙ (sym same ∙ first)),
+          )
       | inr high' ↦ two (i - length xs) (j - length xs) d (omega arith) (omega (arith, within, length-append xs ys))
           (sym (get_or-append_right xs ys (length xs) i d refl high') ∙ (same ∙ get_or-append_right xs ys (length xs) j d refl high))
     ]
@@ -78,9 +80,9 @@ module _ (xs : List ℕ) (low n : ℕ) (all : (c : ℕ) → low ≤ c → c < lo
   pub many_in_range : n ≤ length xs
   many_in_range =
       let bound = le-length_from_below (map (λ c. c - low) xs) n (λ q less.
-        let has = all (low + q) (omega arith) (omega arith) in
-        any_from q has.0 (map (λ c. c - low) xs) (omega (arith, has.1, length-map xs (λ c. c - low)))
-        (get_or-map (λ c. c - low) xs has.0 (low + q) 0 has.1 ∙ (ap (λ (z : ℕ). z - low) has.2 ∙ omega arith))) in
+      let has = all (low + q) (omega arith) (omega arith) in
+      any_from q has.0 (map (λ c. c - low) xs) (omega (arith, has.1, length-map xs (λ c. c - low)))
+      (get_or-map (λ c. c - low) xs has.0 (low + q) 0 has.1 ∙ (ap (λ (z : ℕ). z - low) has.2 ∙ omega arith))) in
       omega (arith, length-map xs (λ c. c - low))
 
 -- the spare buckets of a chain
@@ -113,10 +115,10 @@ module _ (o : OwnerState) (s : Chained o) (b : ℕ) (main : IsMain o.shape b) (l
       let at : bucket_at o (suc has.0) b ≡ c = sym (get_or-chain_spares has.0 c low) ∙ has.2 in (
         subst (InChain o b) at (in_chain o b links (walk_of o b links used h) h.few (suc has.0) (omega arith)),
         subst (IsSpare o.shape) (sym (bucket_at-suc o has.0 b) ∙ at)
-          (elim (s.chains.links (bucket_at o has.0 b) (bucket_inside o s b main links used h has.0 (omega arith))) [
-            | inl none ↦ absurd (h.linked has.0 low none)
-            | inr spare ↦ spare
-          ]),
+            (elim (s.chains.links (bucket_at o has.0 b) (bucket_inside o s b main links used h has.0 (omega arith))) [
+              | inl none ↦ absurd (h.linked has.0 low none)
+              | inr spare ↦ spare
+            ]),
       )
 
   chain_in_spares : (c : ℕ) → InChain o b c → o.shape.buckets ≤ c → Contains (chain_spares o b) c
@@ -176,22 +178,22 @@ module _ (o : OwnerState) (s : Chained o) (index : Index) (known : IsIndexOf ind
   from_chain zero few b c less i high = absurd (omega arith)
   from_chain (suc n) few b c less i high = dite (ℕ_discrete b n)
       (λ is.
-        let main : IsMain o.shape n = omega arith in
-        let h = shape_in n main in
-        contains_left (chain_spares o n) (all_spares o n) c (chain_in_spares o s n main h.0 h.1 h.2 c (subst (λ (z : ℕ). InChain o z c) is i) high))
+      let main : IsMain o.shape n = omega arith in
+      let h = shape_in n main in
+      contains_left (chain_spares o n) (all_spares o n) c (chain_in_spares o s n main h.0 h.1 h.2 c (subst (λ (z : ℕ). InChain o z c) is i) high))
       (λ differ. contains_right (chain_spares o n) (all_spares o n) c (from_chain n (omega arith) b c (omega arith) i high))
 
   all_differ : (n : ℕ) → n ≤ o.shape.buckets → AllPairs (λ c d. c ≢ d) (all_spares o n)
   unfolding all_spares
-  all_differ zero few i j d less within = absurd (omega arith)
+  all_differ zero few = λ i j d less within. absurd (omega arith)
   all_differ (suc b) few =
       let main : IsMain o.shape b = omega arith in
       let h = shape_in b main in
       pairs_joined (chain_spares o b) (all_spares o b) (spares_differ o s b main h.0 h.1 h.2) (all_differ b (omega arith))
       (λ c here more.
-        let is = spares_in_chain o s b main h.0 h.1 h.2 c here in
-        let other = in_some_chain b (omega arith) c more in
-        s.chains.apart b other.0 c main (omega (arith, other.1)) (λ same. omega (arith, other.1)) is.0 other.2)
+      let is = spares_in_chain o s b main h.0 h.1 h.2 c here in
+      let other = in_some_chain b (omega arith) c more in
+      s.chains.apart b other.0 c main (omega (arith, other.1)) (λ same. omega (arith, other.1)) is.0 other.2)
 
   every : List ℕ
   every = index.free ++ all_spares o o.shape.buckets
@@ -200,8 +202,8 @@ module _ (o : OwnerState) (s : Chained o) (index : Index) (known : IsIndexOf ind
   unfolding every
   every_differ = pairs_joined index.free (all_spares o o.shape.buckets) known.once (all_differ o.shape.buckets (omega arith))
       (λ c has more.
-        let in_one = in_some_chain o.shape.buckets (omega arith) c more in
-        ((known.free c).0 has).free in_one.0 in_one.1 in_one.2)
+      let in_one = in_some_chain o.shape.buckets (omega arith) c more in
+      ((known.free c).0 has).free in_one.0 in_one.1 in_one.2)
 
   every_inside : (c : ℕ) → Contains every c → IsSpare o.shape c
   unfolding every

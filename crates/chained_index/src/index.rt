@@ -77,7 +77,8 @@ impl ChainedIndex {
         requires key { KeyFits key.now }
         ensures found { MatchOption result (HasNoSpot (W.owner words.old) bucket key.entry.now)
             (IsSpotOf (W.owner words.old) bucket key.entry.now) }
-        ensures same { (W.owner words.new ≡ W.owner words.old) × (W.home words.new ≡ W.home words.old) }
+        ensures same { W.owner words.new ≡ W.owner words.old }
+        ensures home { W.home words.new ≡ W.home words.old }
         ensures kept { Kept (W.owner words.new) }
     {
         let tag = tag_of(key_hash(key));
@@ -106,7 +107,8 @@ impl ChainedIndex {
         requires index { IsIndexOf self.now (W.owner words.old) }
         requires bucket { IsMain (W.owner words.old).shape bucket }
         ensures place { IsFalse result ↔ LacksPlace self.now (W.owner words.old) bucket }
-        ensures same { (W.owner words.new ≡ W.owner words.old) × (W.home words.new ≡ W.home words.old) }
+        ensures same { W.owner words.new ≡ W.owner words.old }
+        ensures home { W.home words.new ≡ W.home words.old }
     {
         !self.free.is_empty() || self.end_of(words, bucket).used < SLOTS
     }
@@ -179,7 +181,8 @@ impl ChainedIndex {
         requires index { IsIndexOf self.now (W.owner words.old) }
         requires bucket { IsMain (W.owner words.old).shape bucket }
         ensures end { (links : ℕ) × EndsAt (W.owner words.old) bucket links result }
-        ensures same { (W.owner words.new ≡ W.owner words.old) × (W.home words.new ≡ W.home words.old) }
+        ensures same { W.owner words.new ≡ W.owner words.old }
+        ensures home { W.home words.new ≡ W.home words.old }
         ensures kept { Kept (W.owner words.new) }
     {
         let (before, last) = self.last_two(words, bucket);
@@ -198,7 +201,8 @@ impl ChainedIndex {
             → (bucket_at (W.owner words.old) links bucket ≡ result.1)
             × ((k : ℕ) → suc k ≡ links → bucket_at (W.owner words.old) k bucket ≡ result.0) }
         ensures inside { IsBucket (W.owner words.old).shape result.1 }
-        ensures same { (W.owner words.new ≡ W.owner words.old) × (W.home words.new ≡ W.home words.old) }
+        ensures same { W.owner words.new ≡ W.owner words.old }
+        ensures home { W.home words.new ≡ W.home words.old }
     {
         let mut before = bucket;
         let mut at = bucket;
@@ -219,7 +223,8 @@ fn names_key<W: OwnerWords>(words: &mut W, entry: u64, tag: u16, key: &[u8]) -> 
     requires { KeyFits key.now }
     ensures names { IsTrue result
         ↔ ((entry_tag_of entry ≡ tag) × HasKey (W.owner words.old) (entry_offset_of entry) key.entry.now) }
-    ensures same { (W.owner words.new ≡ W.owner words.old) × (W.home words.new ≡ W.home words.old) }
+    ensures same { W.owner words.new ≡ W.owner words.old }
+    ensures home { W.home words.new ≡ W.home words.old }
 {
     entry_tag(entry) == tag && holds_key(words, entry_offset(entry), key)
 }
@@ -229,7 +234,8 @@ fn used_slots<W: OwnerWords>(words: &mut W, bucket: u32) -> u32
     requires { IsBucket (W.owner words.old).shape bucket }
     ensures used { (result ≤ 15) × ((slot : ℕ) → slot < result → entry_in (W.owner words.old) bucket slot ≢ 0)
         × (result < 15 → entry_in (W.owner words.old) bucket result ≡ 0) }
-    ensures same { (W.owner words.new ≡ W.owner words.old) × (W.home words.new ≡ W.home words.old) }
+    ensures same { W.owner words.new ≡ W.owner words.old }
+    ensures home { W.home words.new ≡ W.home words.old }
     ensures kept { Kept (W.owner words.new) }
 {
     for slot in 0..SLOTS {

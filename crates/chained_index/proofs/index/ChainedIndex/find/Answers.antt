@@ -48,8 +48,8 @@ loop-slot-preserved g c =
     let value : c.read-entry.result ≡ entry_in o c.loop-link.at c.loop-slot.slot =
     c.read-entry.ensures.value ∙ ap (λ (z : OwnerState). entry_in z c.loop-link.at c.loop-slot.slot) c.loop-slot.invariant.owner in
     let tag : c.tag_of-tag.result ≡ tag_of c.args.key.now = search rules in record {
-      owner = c.names_key.ensures.same.0 ∙ same;
-      home = c.names_key.ensures.same.1 ∙ (c.read-entry.ensures.home ∙ c.loop-slot.invariant.home);
+      owner = c.names_key.ensures.same ∙ same;
+      home = c.names_key.ensures.home ∙ (c.read-entry.ensures.home ∙ c.loop-slot.invariant.home);
       kept = λ some. subst Kept same c.read-entry.ensures.kept;
       here = λ t less is. dite (ℕ_discrete t c.loop-slot.slot)
           (λ at.
