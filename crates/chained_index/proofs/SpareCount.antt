@@ -7,7 +7,7 @@ use Rattle.std.proofs.lemmas.List.{get_or-drop, get_or-map, get_or_default, get_
 use Rattle.std.proofs.lemmas.Map.Steps.{le-length_from_below}
 use mathlib.Core.Logic.{dite}
 use native.Mathlib.Decide.{ℕ_discrete}
-use Rattle.mica_model.specs.Store.{spares_behind}
+use Rattle.mica_model.specs.Store.{Cells, keys_in, spares_behind, spares_below, spares_in_use}
 use Rattle.epoch_core.specs.declared.state.OwnerState.{OwnerState}
 use Rattle.epoch_core.specs.Shape.{IsMain, IsSpare}
 use Rattle.epoch_core.specs.OwnerState.{link_in}
@@ -228,3 +228,16 @@ module _ (o : OwnerState) (s : Chained o) (index : Index) (known : IsIndexOf ind
       let least = many_in_range every o.shape.buckets o.shape.spares every_spare in
       let behind = length-all_spares o.shape.buckets (omega arith) in
       omega (arith, length-append index.free (all_spares o o.shape.buckets))
+
+  -- in the machine's words, where each chain has as many entries as its bucket has keys
+  module _ (cells : Cells) (as_keys : (b : ℕ) → IsMain o.shape b → length (entries_of o b) ≡ keys_in o.shape.buckets b cells) where
+    used_below : (n : ℕ) → n ≤ o.shape.buckets → spares_used o n ≡ spares_below o.shape.buckets n cells
+    unfolding spares_used spares_below
+    used_below zero few = refl
+    used_below (suc b) few =
+        let here : spares_behind (length (entries_of o b)) ≡ spares_behind (keys_in o.shape.buckets b cells) = ap spares_behind (as_keys b (omega arith)) in
+        let rest = used_below b (omega arith) in
+        omega arith
+
+    pub free_spares : length index.free + spares_in_use o.shape.buckets cells ≡ o.shape.spares
+    free_spares = let all = spares_counted in let used = used_below o.shape.buckets (omega arith) in omega arith

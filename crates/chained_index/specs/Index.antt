@@ -17,7 +17,8 @@ pub record IsBlank (o : OwnerState) (c : ℕ) : Type 0 where
   pub no_link : link_in o c ≡ 0
   pub no_entry : (slot : ℕ) → slot < 15 → entry_in o c slot ≡ 0
 
--- The index is one of these words: their chains are dense, and its free spares are the spares in no chain, each once and each blank.
+-- The index is one of these words: their chains are dense, and its free spares are the spares in no chain,
+-- each once and each blank.
 pub record IsIndexOf (index : Index) (o : OwnerState) : Type 0 where
   pub shape : index.shape ≡ o.shape
   pub dense : (b : ℕ) → IsMain o.shape b → IsDense o b
