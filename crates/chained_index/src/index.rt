@@ -84,7 +84,7 @@ impl ChainedIndex {
     {
         let tag = tag_of(key_hash(key));
         let mut at = bucket;
-        for link in 0..=self.shape.spares {
+        for _link in 0..=self.shape.spares {
             for slot in 0..SLOTS {
                 let entry = words.read(WordAt::Entry(at, slot));
                 if entry == 0 {
@@ -208,7 +208,7 @@ impl ChainedIndex {
     {
         let mut before = bucket;
         let mut at = bucket;
-        for link in 0..self.shape.spares {
+        for _link in 0..self.shape.spares {
             let next = words.read(WordAt::Link(at)) as u32;
             if next == 0 {
                 return (before, at);

@@ -20,7 +20,7 @@ returns-then-entry-eq0-clause-found g c =
     let s : Chained o = chained o (subst Kept (c.read-entry.ensures.same ∙ c.loop-slot.invariant.owner) c.read-entry.ensures.kept) in
     let value : c.read-entry.result ≡ entry_in o c.loop-link.at c.loop-slot.slot =
     c.read-entry.ensures.value ∙ ap (λ (z : OwnerState). entry_in z c.loop-link.at c.loop-slot.slot) c.loop-slot.invariant.owner in
-    none_past_empty o s c.args.bucket c.requires.bucket (c.requires.index.dense c.args.bucket c.requires.bucket) c.args.key.now c.loop-link.link c.loop-link.at
+    none_past_empty o s c.args.bucket c.requires.bucket (c.requires.index.dense c.args.bucket c.requires.bucket) c.args.key.now c.loop-link._link c.loop-link.at
     c.loop-link.invariant.walk c.loop-slot.slot c.loop-slot-test.true (sym value ∙ c.if-entry-eq0.true) c.loop-link.invariant.before c.loop-slot.invariant.here
 
 pub returns-then-names_key-clause-found : goal.returns-then-names_key-clause-found
@@ -33,7 +33,7 @@ returns-then-names_key-clause-found g c =
     c.read-entry.ensures.value ∙ ap (λ (z : OwnerState). entry_in z c.loop-link.at c.loop-slot.slot) c.loop-slot.invariant.owner in
     let names = c.names_key.ensures.names.0 c.if-names_key.true in
     let tag : c.tag_of-tag.result ≡ tag_of c.args.key.now = search rules in
-    spot_found o s c.args.bucket c.requires.bucket (c.requires.index.dense c.args.bucket c.requires.bucket) c.args.key.now c.loop-link.link c.loop-link.at
+    spot_found o s c.args.bucket c.requires.bucket (c.requires.index.dense c.args.bucket c.requires.bucket) c.args.key.now c.loop-link._link c.loop-link.at
     c.loop-link.invariant.walk c.loop-slot.slot c.loop-slot-test.true (λ none. c.if-entry-eq0.false (value ∙ none)) (
       ap entry_tag (sym value) ∙ (names.0 ∙ tag),
       subst (λ (z : OwnerState). HasKey z (entry_offset (entry_in o c.loop-link.at c.loop-slot.slot)) c.args.key.now) same
@@ -71,7 +71,7 @@ returns-then-next-eq0-clause-found g c =
     c.read-next.ensures.value ∙ ap (λ (z : OwnerState). link_in z c.loop-link.at) c.loop-slot.invariant.owner in
     let none : c.read-next.result ≡ 0 = search rules in
     let all : c.loop-slot.slot ≡ 15 = omega arith in
-    none_at_end o s c.args.bucket c.requires.bucket (c.requires.index.dense c.args.bucket c.requires.bucket) c.args.key.now c.loop-link.link c.loop-link.at
+    none_at_end o s c.args.bucket c.requires.bucket (c.requires.index.dense c.args.bucket c.requires.bucket) c.args.key.now c.loop-link._link c.loop-link.at
     c.loop-link.invariant.walk (sym value ∙ none) c.loop-link.invariant.before (λ t less. c.loop-slot.invariant.here t (omega arith))
 
 pub loop-link-preserved : goal.loop-link-preserved
@@ -85,8 +85,8 @@ loop-link-preserved g c =
       owner = same;
       home = c.read-next.ensures.home ∙ c.loop-slot.invariant.home;
       kept = λ more. kept;
-      walk = one_further o o refl c.args.bucket c.loop-link.link c.loop-link.at c.loop-link.invariant.walk (chained o kept) c.read-next.result value some;
-      before = none_more o (chained o kept) c.args.bucket c.requires.bucket (c.requires.index.dense c.args.bucket c.requires.bucket) c.args.key.now c.loop-link.link
+      walk = one_further o o refl c.args.bucket c.loop-link._link c.loop-link.at c.loop-link.invariant.walk (chained o kept) c.read-next.result value some;
+      before = none_more o (chained o kept) c.args.bucket c.requires.bucket (c.requires.index.dense c.args.bucket c.requires.bucket) c.args.key.now c.loop-link._link
           c.loop-link.at c.loop-link.invariant.walk c.loop-link.invariant.before (λ t less. c.loop-slot.invariant.here t (omega arith));
     }
 
@@ -97,7 +97,7 @@ returns-else-next-eq0-clause-found g c =
     let value : c.read-next.result ≡ link_in o c.loop-link.at =
     c.read-next.ensures.value ∙ ap (λ (z : OwnerState). link_in z c.loop-link.at) c.loop-slot.invariant.owner in
     let some : c.read-next.result ≢ 0 = search rules in
-    let next = one_further o o refl c.args.bucket c.loop-link.link c.loop-link.at c.loop-link.invariant.walk s c.read-next.result value some in
+    let next = one_further o o refl c.args.bucket c.loop-link._link c.loop-link.at c.loop-link.invariant.walk s c.read-next.result value some in
     let known = ap (λ (z : Shape). z.spares) c.requires.index.shape in
     let seen = ap (λ (z : Index). z.shape.spares) c.self.view_is in
-    absurd (not_past o s c.args.bucket c.requires.bucket (c.requires.index.dense c.args.bucket c.requires.bucket) c.args.key.now (c.loop-link.link + 1) c.read-next.result next (omega arith))
+    absurd (not_past o s c.args.bucket c.requires.bucket (c.requires.index.dense c.args.bucket c.requires.bucket) c.args.key.now (c.loop-link._link + 1) c.read-next.result next (omega arith))

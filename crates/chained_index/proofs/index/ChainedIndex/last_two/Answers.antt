@@ -12,8 +12,8 @@ returns-then-next-eq0-clause-last g c =
     let m : OwnerState = g.W.OwnerWords.owner c.loop-link.words in
     let w = c.loop-link.invariant.walk in
     let none : c.read-next.result ≡ 0 = search rules in
-    end_found m (g.W.OwnerWords.owner c.args.words.now) c.loop-link.invariant.owner c.args.bucket c.loop-link.link c.loop-link.at c.loop-link.before w.here c.loop-link.invariant.behind
-    (λ links used h. at_end m c.args.bucket links used h c.loop-link.link (w.near links used h)
+    end_found m (g.W.OwnerWords.owner c.args.words.now) c.loop-link.invariant.owner c.args.bucket c.loop-link._link c.loop-link.at c.loop-link.before w.here c.loop-link.invariant.behind
+    (λ links used h. at_end m c.args.bucket links used h c.loop-link._link (w.near links used h)
     (ap (link_in m) w.here ∙ (sym c.read-next.ensures.value ∙ none)))
 
 pub loop-link-preserved : goal.loop-link-preserved
@@ -22,16 +22,16 @@ loop-link-preserved g c =
     let n : OwnerState = g.W.OwnerWords.owner c.read-next.new.self in record {
       owner = c.read-next.ensures.same ∙ c.loop-link.invariant.owner;
       home = c.read-next.ensures.home ∙ c.loop-link.invariant.home;
-      walk = one_further m n c.read-next.ensures.same c.args.bucket c.loop-link.link c.loop-link.at c.loop-link.invariant.walk (chained n c.read-next.ensures.kept)
+      walk = one_further m n c.read-next.ensures.same c.args.bucket c.loop-link._link c.loop-link.at c.loop-link.invariant.walk (chained n c.read-next.ensures.kept)
           c.read-next.result c.read-next.ensures.value (search rules);
-      behind = behind_further m n c.read-next.ensures.same c.args.bucket c.loop-link.link c.loop-link.at c.loop-link.invariant.walk;
+      behind = behind_further m n c.read-next.ensures.same c.args.bucket c.loop-link._link c.loop-link.at c.loop-link.invariant.walk;
     }
 
 pub returns-clause-last : goal.returns-clause-last
 returns-clause-last g c =
     let m : OwnerState = g.W.OwnerWords.owner c.loop-link.words in
     let w = c.loop-link.invariant.walk in
-    end_found m (g.W.OwnerWords.owner c.args.words.now) c.loop-link.invariant.owner c.args.bucket c.loop-link.link c.loop-link.at c.loop-link.before w.here c.loop-link.invariant.behind
+    end_found m (g.W.OwnerWords.owner c.args.words.now) c.loop-link.invariant.owner c.args.bucket c.loop-link._link c.loop-link.at c.loop-link.before w.here c.loop-link.invariant.behind
     (λ links used h.
     let few = h.few in
     let near = w.near links used h in
