@@ -1,5 +1,5 @@
 -- All spare buckets are free or behind a main bucket, each in one place.
-use Rattle.std.proofs.Common.{◌≡◌, ℕ, zero, suc, ◌+◌, ◌-◌, ◌*◌, ◌/◌, ◌<◌, ◌≤◌, ◌≢◌, inl, inr, ◌⊎◌, List, [], ◌∷◌, ◌++◌, length, get_or, drop, map, Bool, true, ◌||◌, eqb, eq-eqb, refl, sym, ap, ◌∙◌, subst, arith, length-append, length-drop}
+use Rattle.std.proofs.Common.{◌≡◌, ℕ, zero, suc, ◌+◌, ◌-◌, ◌<◌, ◌≤◌, ◌≢◌, inl, inr, ◌⊎◌, List, [], ◌∷◌, ◌++◌, length, get_or, drop, map, true, eqb, eq-eqb, refl, sym, ap, ◌∙◌, subst, arith, length-append, length-drop}
 use Rattle.std.specs.Prelude.{Contains, AllPairs}
 use Rattle.std.specs.List.{list_any}
 use Rattle.std.proofs.lemmas.Bool.{cases_lt, or_left, or_right}
@@ -10,8 +10,7 @@ use native.Mathlib.Decide.{ℕ_discrete}
 use Rattle.mica_model.specs.Store.{Cells, keys_in, spares_behind, spares_below, spares_in_use}
 use Rattle.epoch_core.specs.declared.state.OwnerState.{OwnerState}
 use Rattle.epoch_core.specs.Shape.{IsMain, IsSpare}
-use Rattle.epoch_core.specs.OwnerState.{link_in}
-use Rattle.epoch_core.specs.Chain.{InChain, IsFreeSpare}
+use Rattle.epoch_core.specs.Chain.{InChain}
 use Rattle.chained_index.specs.ChainEntries.{buckets_of, entries_of}
 use Rattle.chained_index.specs.ChainShape.{bucket_at, HasChainShape}
 use Rattle.chained_index.specs.Index.{Index, IsIndexOf}
