@@ -28,6 +28,7 @@ entries_in o c =
 unfoldable pub entries_of : OwnerState → ℕ → List ℕ
 entries_of o b = flat_map (entries_in o) (buckets_of o b)
 
+-- the entry in a spot
 abbrev pub spot_entry : OwnerState → Spot → ℕ
 spot_entry o spot = entry_in o spot.bucket spot.slot
 
@@ -37,7 +38,8 @@ pub record IsUsed (o : OwnerState) (b : ℕ) (spot : Spot) : Type 0 where
   pub in_bucket : spot.slot < 15
   pub used : spot_entry o spot ≢ 0
 
--- where a spot's entry stands in the list, since every bucket before it is full
+-- where the entry of a used spot stands in the list of a dense chain, all of whose buckets but the last
+-- are full
 unfoldable pub number_of : OwnerState → ℕ → Spot → ℕ
 number_of o b spot = 15 * position_or_len (λ c. c == spot.bucket) (buckets_of o b) + spot.slot
 
