@@ -54,10 +54,6 @@ each_at P [] n x all is = absurd (cc)
 each_at P (y ∷ xs) zero x all is = let same : y ≡ x = cc in subst P same all.0
 each_at P (y ∷ xs) (suc n) x all is = each_at P xs n x all.1 is
 
-each_replicated : {X : Type 0} (P : X → Type 0) (n : ℕ) (x : X) → P x → AllByRecursion P (replicate n x)
-each_replicated P zero x here = tt
-each_replicated P (suc n) x here = (here, each_replicated P n x here)
-
 -- an element of a list with one element set is the new one, or was there
 set_cases : {X : Type 0} (xs : List X) (p : ℕ) (x : X) (q : ℕ) (y : X) → slice_get (slice_set xs p x) q ≡ Some y → ((p ≡ q) × (x ≡ y)) ⊎ ((p ≢ q) × (slice_get xs q ≡ Some y))
 set_cases [] p x q y is = absurd (cc)
@@ -70,16 +66,9 @@ set_cases (z ∷ xs) (suc p) x (suc q) y is =
       | inr other ↦ inr ((λ same. other.0 (omega arith)), other.1)
     ]
 
-pub map_replicate : {X Y : Type 0} (f : X → Y) (n : ℕ) (x : X) → map f (replicate n x) ≡ replicate n (f x)
-map_replicate f zero x = refl
-map_replicate f (suc n) x = ap (λ ys. f x ∷ ys) (map_replicate f n x)
-
-pub new_stores : (options : Options) (machines : List Machine) → machines ≡ replicate options.partitions (new_machine options) → AreNew options machines
-new_stores options machines are = record {
-  many = ap length are ∙ length-replicate options.partitions (new_machine options);
-  each = subst (AllByRecursion (IsNew options)) (sym are)
-      (each_replicated (IsNew options) options.partitions (new_machine options) (record { steps = λ history write outcome new step. step; start = refl }));
-}
+pub each_push : {X : Type 0} (P : X → Type 0) (xs : List X) (x : X) → AllByRecursion P xs → P x → AllByRecursion P (xs ++ x ∷ [])
+each_push P [] x all here = (here, tt)
+each_push P (y ∷ xs) x all here = (all.0, each_push P xs x all.1 here)
 
 pub begins : (options : Options) (trace : List TraceLine) (machines : List Machine) → AreNew options machines → IsRunning options trace machines [] 0
 begins options trace machines new = record {
