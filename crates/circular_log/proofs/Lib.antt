@@ -1,0 +1,2 @@
+pub mod MarkedPut
+pub mod LoadedValue

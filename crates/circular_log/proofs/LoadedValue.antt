@@ -1,0 +1,103 @@
+-- The bytes of the words that were loaded are the value of the item.
+use Rattle.std.proofs.Common.{◌≡◌, ℕ, zero, suc, ◌+◌, ◌-◌, ◌*◌, ◌<◌, ◌≤◌, List, [], ◌∷◌, ◌++◌, length, take, drop, flat_map, get_or, add-zero, refl, sym, ap, ◌∙◌, arith, inl, inr, rules, length-append}
+use Rattle.std.proofs.lemmas.Bool.{cases_lt}
+use Rattle.std.proofs.lemmas.Grind.{common_steps, flat_map-append}
+use Rattle.std.proofs.lemmas.List.{append-nil, get_or_append_left, take-take}
+use Rattle.std.proofs.lemmas.Slice.{take-put_mid}
+use Rattle.std.proofs.Math.Seq.{get_or-append_seam}
+use Rattle.std.specs.Int.{w64, to_le_bytes}
+use borrow.Rule.Slice.PartMut.{put_mid}
+use Rattle.mica_words.specs.Header.{header_of, header_key_len, header_value_len}
+use Rattle.mica_words.specs.Item.{words_for}
+use Rattle.mica_words.specs.Packing.{packed, unpacked}
+use Rattle.mica_words.specs.Spelling.{item_words}
+use Rattle.mica_words.proofs.Fields.{header_key_len-header_of, header_value_len-header_of}
+use Rattle.mica_words.proofs.ItemWords.{header_word, value_word, same_value}
+use Rattle.mica_model.specs.Store.{Cell}
+use Rattle.epoch_core.specs.declared.state.OwnerState.{OwnerState}
+use Rattle.epoch_core.specs.OwnerState.{item_in}
+use Rattle.circular_log.specs.LogItem.{IsItem}
+
+-- the item words from the offset on, this many
+abbrev pub words_from : OwnerState → ℕ → ℕ → List ℕ
+words_from o p zero = []
+words_from o p (suc n) = words_from o p n ++ item_in o (p + n) ∷ []
+
+-- their bytes
+abbrev pub bytes_from : OwnerState → ℕ → ℕ → List ℕ
+bytes_from o p n = flat_map (to_le_bytes w64) (words_from o p n)
+
+length-words_from : (o : OwnerState) (p n : ℕ) → length (words_from o p n) ≡ n
+length-words_from o p zero = refl
+length-words_from o p (suc n) =
+    let rest = length-words_from o p n in
+    omega (arith, length-append (words_from o p n) (item_in o (p + n) ∷ []))
+
+word_from : (o : OwnerState) (p n k : ℕ) → k < n → get_or (words_from o p n) k 0 ≡ item_in o (p + k)
+word_from o p zero k below = absurd (omega arith)
+word_from o p (suc n) k below =
+    let long = length-words_from o p n in
+    elim (cases_lt k n) [
+      | inl less ↦ get_or_append_left (words_from o p n) (item_in o (p + n) ∷ []) 0 k (omega arith) ∙ word_from o p n k less
+      | inr more ↦
+          let last : k ≡ length (words_from o p n) = omega arith in
+          ap (λ (z : ℕ). get_or (words_from o p n ++ item_in o (p + n) ∷ []) z 0) last
+          ∙ (get_or-append_seam (words_from o p n) (item_in o (p + n)) [] 0 ∙ ap (λ (z : ℕ). item_in o (p + z)) (sym (last ∙ long)))
+    ]
+
+-- one word more
+pub bytes_more : (o : OwnerState) (p i next : ℕ) (xs bytes : List ℕ) → next ≡ suc i → take (8 * i) xs ≡ bytes_from o p i → 8 * i ≤ length xs
+    → bytes ≡ to_le_bytes w64 (item_in o (p + i)) → take (8 * next) (put_mid (8 * i) (8 * i + 8 - 8 * i) xs bytes) ≡ bytes_from o p next
+bytes_more o p i next xs bytes more so_far room is =
+    let eight : length bytes ≡ 8 = ap length is in
+    take-put_mid (8 * i) (8 * i + 8 - 8 * i) xs bytes (8 * next) (omega arith) room
+    ∙ (ap (λ (z : List ℕ). z ++ bytes) so_far
+    ∙ (ap (λ (z : List ℕ). bytes_from o p i ++ z) (is ∙ sym (append-nil (to_le_bytes w64 (item_in o (p + i)))))
+    ∙ (sym (flat_map-append (to_le_bytes w64) (words_from o p i) (item_in o (p + i) ∷ [])) ∙ ap (bytes_from o p) (sym more))))
+
+-- a part of 8 bytes leaves the length
+pub length-eight : (i : ℕ) (xs bytes : List ℕ) → 8 * i + 8 ≤ length xs → length bytes ≡ 8
+    → length (put_mid (8 * i) (8 * i + 8 - 8 * i) xs bytes) ≡ length xs
+length-eight i xs bytes room eight = search (rules, common_steps)
+
+module _ (o : OwnerState) (p : ℕ) (key : List ℕ) (cell : Cell) (item : IsItem o p key cell) where
+  header_is : item_in o p ≡ header_of cell.room (length key) (length cell.value)
+  header_is = ap (item_in o) (sym (add-zero p)) ∙ (item.spelt 0 (omega arith) ∙ header_word cell.room key cell.value)
+
+  pub key_len_is : (word : ℕ) → word ≡ item_in o p → header_key_len word ≡ length key
+  key_len_is word is =
+      let room = item.room_fits in
+      let few = item.key_fits.1 in
+      ap header_key_len (is ∙ header_is) ∙ header_key_len-header_of cell.room (length key) (length cell.value) room (omega arith)
+
+  pub value_len_is : (word : ℕ) → word ≡ item_in o p → header_value_len word ≡ length cell.value
+  value_len_is word is =
+      let room = item.room_fits in
+      let few = item.key_fits.1 in
+      ap header_value_len (is ∙ header_is) ∙ header_value_len-header_of cell.room (length key) (length cell.value) room (omega arith)
+
+  value_word_is : (k : ℕ) → k < words_for (length cell.value) → item_in o (p + 2 + words_for (length key) + k) ≡ get_or (packed cell.value) k 0
+  value_word_is k below =
+      let place : p + 2 + words_for (length key) + k ≡ p + (2 + words_for (length key) + k) = omega arith in
+      ap (item_in o) place ∙ (item.spelt (2 + words_for (length key) + k) (omega arith) ∙ value_word cell.room key cell.value k below)
+
+  value_by : (at : ℕ) (xs : List ℕ) → at ≡ p + 2 + words_for (length key)
+      → take (8 * words_for (length cell.value)) xs ≡ bytes_from o at (words_for (length cell.value)) → take (length cell.value) xs ≡ cell.value
+  unfolding unpacked
+  value_by at xs place bytes =
+      let n : ℕ = words_for (length cell.value) in
+      let long : length (words_from o at (words_for (length cell.value))) ≡ words_for (length cell.value) =
+      length-words_from o at (words_for (length cell.value)) in
+      sym (take-take (length cell.value) (8 * words_for (length cell.value)) xs (omega arith))
+      ∙ (ap (take (length cell.value)) bytes
+      ∙ same_value cell.value (words_from o at (words_for (length cell.value))) item.value_bytes long
+      (λ k below.
+      word_from o at (words_for (length cell.value)) k (omega arith)
+      ∙ (ap (λ (z : ℕ). item_in o (z + k)) place ∙ value_word_is k (omega arith))))
+
+  -- the bytes of all the value's words, in the state where they were loaded, begin with the value
+  pub value_is : (now : OwnerState) (at n len : ℕ) (xs : List ℕ) → now ≡ o → at ≡ p + 2 + words_for (length key) → n ≡ words_for (length cell.value)
+      → len ≡ length cell.value → take (8 * n) xs ≡ bytes_from now at n → take len xs ≡ cell.value
+  value_is now at n len xs same place words bytes_are bytes =
+      ap (λ (z : ℕ). take z xs) bytes_are
+      ∙ value_by at xs place (ap (λ (z : ℕ). take (8 * z) xs) (sym words) ∙ (bytes ∙ (λ j. bytes_from (same j) at (words j))))

@@ -1,0 +1,55 @@
+use Rattle.std.proofs.Common.{◌≡◌, ℕ, ◌+◌, ◌*◌, ◌≤◌, refl, sym, ap, ◌∙◌, subst, arith, length, take}
+use Rattle.std.specs.Int.{w64, to_le_bytes}
+use Rattle.epoch_core.specs.declared.state.OwnerState.{OwnerState}
+use Rattle.epoch_core.specs.OwnerState.{item_in}
+use Rattle.mica_words.specs.Item.{words_for}
+use Rattle.circular_log.proofs.LoadedValue.{bytes_from, bytes_more, length-eight, key_len_is, value_len_is, value_is}
+use Rattle.circular_log.proofs.items.item_at.Goals as goal
+
+pub loop-i-init : goal.loop-i-init
+loop-i-init g c =
+    let owner = g.W.OwnerWords.owner in
+    let it = c.requires.item in
+    let len = value_len_is (owner c.args.words.now) c.args.offset it.0 it.1 it.2 c.read-header.result c.read-header.ensures.value in
+    let few = it.2.value_fits in
+    record {
+      owner = refl;
+      home = refl;
+      kept = c.read-header.ensures.kept;
+      few = omega (arith, c.header_value_len-len.ensures);
+      wide = refl;
+      bytes = refl;
+    }
+
+pub loop-i-preserved : goal.loop-i-preserved
+loop-i-preserved g c =
+    let owner = g.W.OwnerWords.owner in
+    let loop = c.loop-i.invariant in
+    let end = c.div_ceil-i-end.ensures in
+    let room : 8 * c.loop-i.i + 8 ≤ length c.loop-i.value = omega (arith, loop.few, loop.wide, c.loop-i-test.true) in
+    let bytes = c.copy_from_slice.ensures.after ∙ c.to_le_bytes.ensures in
+    let word = c.read-word.ensures.value ∙ ap (λ (o : OwnerState). item_in o (c.args.offset + 2 + c.from.result + c.loop-i.i)) loop.owner in
+    record {
+      owner = c.read-word.ensures.same.0 ∙ loop.owner;
+      home = c.read-word.ensures.same.1 ∙ loop.home;
+      kept = c.read-word.ensures.kept;
+      few = loop.few;
+      wide = length-eight c.loop-i.i c.loop-i.value c.copy_from_slice.new.self room (ap length bytes) ∙ loop.wide;
+      bytes = bytes_more (owner c.read-header.new.self) (c.args.offset + 2 + c.from.result) c.loop-i.i (c.loop-i.i + 1) c.loop-i.value c.copy_from_slice.new.self
+          (omega arith) loop.bytes (omega arith) (bytes ∙ ap (to_le_bytes w64) word);
+    }
+
+pub returns-clause-value : goal.returns-clause-value
+returns-clause-value g c key cell item =
+    let owner = g.W.OwnerWords.owner in
+    let loop = c.loop-i.invariant in
+    let read = c.read-header.ensures.value in
+    let len : c.header_value_len-len.result ≡ length cell.value =
+    c.header_value_len-len.ensures ∙ value_len_is (owner c.args.words.now) c.args.offset key cell item c.read-header.result read in
+    let key_len : c.header_key_len.result ≡ length key =
+    c.header_key_len.ensures ∙ key_len_is (owner c.args.words.now) c.args.offset key cell item c.read-header.result read in
+    let words : c.loop-i.i ≡ words_for (length cell.value) = omega (arith, c.loop-i-test.false, c.div_ceil-i-end.ensures) in
+    let place : c.args.offset + 2 + c.from.result ≡ c.args.offset + 2 + words_for (length key) = omega (arith, c.from.ensures, c.div_ceil.ensures) in
+    c.set.ensures
+    ∙ value_is (owner c.args.words.now) c.args.offset key cell item (owner c.read-header.new.self) (c.args.offset + 2 + c.from.result) c.loop-i.i
+    c.header_value_len-len.result c.loop-i.value c.read-header.ensures.same.0 place words len loop.bytes

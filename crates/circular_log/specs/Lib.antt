@@ -1,0 +1,2 @@
+pub mod LogItem
+pub mod LogWrite

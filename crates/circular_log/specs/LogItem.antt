@@ -1,0 +1,29 @@
+-- An item of the log, by its words.
+use Rattle.std.specs.Prelude.{◌≡◌, ℕ, ◌<◌, List}
+use Rattle.mica_words.specs.Item.{KeyFits, ValueFits}
+use Rattle.mica_words.specs.Packing.{AreBytes}
+use Rattle.mica_words.specs.Header.{header_room}
+use Rattle.mica_model.specs.Store.{Cell}
+use Rattle.epoch_core.specs.declared.state.OwnerState.{OwnerState}
+use Rattle.epoch_core.specs.OwnerState.{item_in}
+use Rattle.epoch_core.specs.StandsFor.{SpellsItem}
+
+-- the words from the offset on spell this key, value and room, which fit
+pub record IsItem (o : OwnerState) (p : ℕ) (key : List ℕ) (cell : Cell) : Type 0 where
+  pub key_fits : KeyFits key
+  pub value_fits : ValueFits cell.value
+  pub value_bytes : AreBytes cell.value
+  pub room_fits : cell.room < 65536
+  pub spelt : SpellsItem o p key cell
+
+-- an item stands at the offset
+abbrev pub HasItem : OwnerState → ℕ → Type 0
+HasItem o p = (key : List ℕ) × (cell : Cell) × IsItem o p key cell
+
+-- the value of the item at the offset
+abbrev pub IsValueAt : OwnerState → ℕ → List ℕ → Type 0
+IsValueAt o p value = (key : List ℕ) (cell : Cell) → IsItem o p key cell → value ≡ cell.value
+
+-- the room of the item at the offset, by its header
+abbrev pub room_at : OwnerState → ℕ → ℕ
+room_at o p = header_room (item_in o p)

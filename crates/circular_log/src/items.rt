@@ -1,0 +1,59 @@
+//! Items, from their first word on.
+ghost use Rattle.std.specs.Prelude.{◌≡◌, ◌<◌, ◌^◌};
+ghost use Rattle.mica_words.specs.Item.{KeyFits, ValueFits, item_size as item_size_of};
+ghost use Rattle.epoch_core.specs.Kept.{Kept};
+ghost use Rattle.circular_log.specs.LogItem.{HasItem, IsValueAt, room_at};
+ghost use Rattle.circular_log.specs.LogWrite.{MayAppend, MayRewrite, with_item};
+
+use epoch_core::{OwnerWords, WordAt, write_item};
+use mica_model::ItemBuf;
+use mica_words::{MAX_VALUE_LEN, header_key_len, header_room, header_value_len, item_size};
+
+/// Writes the marked put's item at the offset, the tail before it, in a room of its own size.
+pub fn append<W: OwnerWords>(words: &mut W, offset: u64, key: &[u8], value: &[u8])
+    requires key { KeyFits key.now }
+    requires value { ValueFits value.now }
+    requires marked { MayAppend (W.owner words.old) offset key.now value.now }
+    ensures item { W.owner words.new ≡ with_item (W.owner words.old) offset
+        (item_size_of key.entry.now value.entry.now) key.entry.now value.entry.now }
+    ensures home { W.home words.new ≡ W.home words.old }
+    ensures kept { Kept (W.owner words.new) }
+{
+    // A load tells that the words are lawful, so that the offsets of the item are known to be small.
+    words.read(WordAt::Stamp);
+    let room = item_size(key.len(), value.len());
+    write_item(words, offset, room, key, value);
+}
+
+/// Writes the marked put's value into the room of the key's item, which stays.
+pub fn rewrite<W: OwnerWords>(words: &mut W, offset: u64, key: &[u8], value: &[u8])
+    requires key { KeyFits key.now }
+    requires value { ValueFits value.now }
+    requires marked { MayRewrite (W.owner words.old) offset key.now value.now }
+    ensures item { W.owner words.new ≡ with_item (W.owner words.old) offset
+        (room_at (W.owner words.old) offset) key.entry.now value.entry.now }
+    ensures home { W.home words.new ≡ W.home words.old }
+    ensures kept { Kept (W.owner words.new) }
+{
+    let room = header_room(words.read(WordAt::Item(offset)));
+    write_item(words, offset, room, key, value);
+}
+
+/// Copies the value of the item that stands at the offset.
+pub fn item_at<W: OwnerWords>(words: &mut W, offset: u64, out: &mut ItemBuf)
+    requires offset { offset < 2 ^ 48 }
+    requires item { HasItem (W.owner words.old) offset }
+    ensures value { IsValueAt (W.owner words.old) offset out.new }
+    ensures same { (W.owner words.new ≡ W.owner words.old) × (W.home words.new ≡ W.home words.old) }
+    ensures kept { Kept (W.owner words.new) }
+{
+    let header = words.read(WordAt::Item(offset));
+    let len = header_value_len(header) as usize;
+    let value_at = offset + 2 + u64::from(header_key_len(header).div_ceil(8));
+    let mut value = [0; MAX_VALUE_LEN];
+    for i in 0..len.div_ceil(8) {
+        let word = words.read(WordAt::Item(value_at + i as u64));
+        value[8 * i..8 * i + 8].copy_from_slice(&word.to_le_bytes());
+    }
+    out.set(&value[..len]);
+}

@@ -1,0 +1,58 @@
+-- What a look at one slot tells.
+use Rattle.std.proofs.Common.{◌≡◌, ◌≢◌, ℕ, ◌+◌, ◌<◌, ◌≤◌, List, refl, sym, ap, ◌∙◌, subst, arith}
+use Rattle.mica_words.specs.Hash.{fnv1a, hash_tag, tag_of}
+use Rattle.mica_words.specs.Entry.{entry_tag, entry_offset}
+use Rattle.mica_words.specs.Stamp.{tail_of}
+use Rattle.mica_words.proofs.Hashes.{tag_of_hash}
+use Rattle.epoch_core.specs.declared.state.OwnerState.{OwnerState}
+use Rattle.epoch_core.specs.OwnerState.{stamp_in, entry_in}
+use Rattle.epoch_core.specs.ItemAt.{HasKey}
+use Rattle.lossy_index.specs.Slot.{IsSlotOf}
+
+-- what is known before the first slot: the key's tag, the tail, and how many words the log has
+pub record Seeks (o : OwnerState) (key : List ℕ) (tag tail words : ℕ) : Type 0 where
+  pub tag_is : tag ≡ tag_of key
+  pub tail_is : tail ≡ tail_of (stamp_in o)
+  pub words_are : words ≡ o.shape.words
+
+pub seeks : (o : OwnerState) (key : List ℕ) (hash tag stamp tail words : ℕ) → hash ≡ fnv1a key → tag ≡ hash_tag hash
+    → stamp ≡ stamp_in o → tail ≡ tail_of stamp → words ≡ o.shape.words → Seeks o key tag tail words
+seeks o key hash tag stamp tail words is_hash is_tag is_stamp is_tail is_words = record {
+  tag_is = is_tag ∙ (ap hash_tag is_hash ∙ sym (tag_of_hash key));
+  tail_is = is_tail ∙ ap tail_of is_stamp;
+  words_are = is_words;
+}
+
+module _ (o now : OwnerState) (same : now ≡ o) (b slot : ℕ) (key : List ℕ) (tag tail words entry offset : ℕ) (s : Seeks o key tag tail words)
+    (read : entry ≡ entry_in now b slot) (at : offset ≡ entry_offset entry) where
+  entry_is : entry ≡ entry_in o b slot
+  entry_is = read ∙ ap (λ (z : OwnerState). entry_in z b slot) same
+
+  offset_is : offset ≡ entry_offset (entry_in o b slot)
+  offset_is = at ∙ ap entry_offset entry_is
+
+  pub found : slot < 15 → entry_tag entry ≡ tag → tail ≤ offset + words → (z : OwnerState) → z ≡ o → HasKey z offset key → IsSlotOf o b key slot
+  found small tags live z is has =
+      let e = offset_is in
+      let t = s.tail_is in
+      let w = s.words_are in record {
+        in_bucket = small;
+        tag = ap entry_tag (sym entry_is) ∙ (tags ∙ s.tag_is);
+        live = omega arith;
+        item = subst (λ (x : ℕ). HasKey o x key) e (subst (λ (x : OwnerState). HasKey x offset key) is has);
+      }
+
+  pub of_other_tag : entry_tag entry ≢ tag → ¬ (IsSlotOf o b key slot)
+  of_other_tag other is = other (ap entry_tag entry_is ∙ (is.tag ∙ sym s.tag_is))
+
+  pub passed : offset + words < tail → ¬ (IsSlotOf o b key slot)
+  passed gone is =
+      let e = offset_is in
+      let t = s.tail_is in
+      let w = s.words_are in
+      let live = is.live in
+      omega arith
+
+  pub of_other_key : (z : OwnerState) → z ≡ o → ¬ (HasKey z offset key) → ¬ (IsSlotOf o b key slot)
+  of_other_key z same other is =
+      other (subst (λ (x : OwnerState). HasKey x offset key) (sym same) (subst (λ (x : ℕ). HasKey o x key) (sym offset_is) is.item))

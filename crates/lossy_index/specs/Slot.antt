@@ -1,0 +1,31 @@
+-- The slots of a bucket, by the entries, the items and the stamp as they are now.
+use Rattle.std.specs.Prelude.{◌≡◌, ℕ, ◌+◌, ◌<◌, ◌≤◌, List}
+use Rattle.mica_words.specs.Hash.{tag_of}
+use Rattle.mica_words.specs.Entry.{entry_tag, entry_offset}
+use Rattle.mica_words.specs.Stamp.{tail_of}
+use Rattle.epoch_core.specs.declared.state.OwnerState.{OwnerState}
+use Rattle.epoch_core.specs.OwnerState.{stamp_in, entry_in}
+use Rattle.epoch_core.specs.ItemAt.{HasKey}
+
+-- where the item of the slot's entry begins
+abbrev pub offset_in : OwnerState → ℕ → ℕ → ℕ
+offset_in o b slot = entry_offset (entry_in o b slot)
+
+-- the slot has no entry
+abbrev pub IsEmpty : OwnerState → ℕ → ℕ → Type 0
+IsEmpty o b slot = entry_in o b slot ≡ 0
+
+-- the log has passed the item of the slot's entry
+abbrev pub IsPassed : OwnerState → ℕ → ℕ → Type 0
+IsPassed o b slot = offset_in o b slot + o.shape.words < tail_of (stamp_in o)
+
+-- The slot has an entry of the key's tag, whose item the log has not passed and has the key.
+pub record IsSlotOf (o : OwnerState) (b : ℕ) (key : List ℕ) (slot : ℕ) : Type 0 where
+  pub in_bucket : slot < 15
+  pub tag : entry_tag (entry_in o b slot) ≡ tag_of key
+  pub live : tail_of (stamp_in o) ≤ offset_in o b slot + o.shape.words
+  pub item : HasKey o (offset_in o b slot) key
+
+-- no slot is the key's
+abbrev pub HasNoSlot : OwnerState → ℕ → List ℕ → Type 0
+HasNoSlot o b key = (slot : ℕ) → ¬ (IsSlotOf o b key slot)
