@@ -8,4 +8,4 @@ pub write_item-requires-clause-allowed : goal.write_item-requires-clause-allowed
 write_item-requires-clause-allowed g c =
     let now = g.W.OwnerWords.owner c.read.new.self in
     can_append now c.read.ensures.kept c.args.key.now c.args.value.now c.requires.key c.requires.value c.args.offset c.item_size-room.result
-    (subst (λ (o : OwnerState). MayAppend o c.args.offset c.args.key.now c.args.value.now) (sym c.read.ensures.same.0) c.requires.marked)
+    (subst (λ (o : OwnerState). MayAppend o c.args.offset c.args.key.now c.args.value.now) (sym c.read.ensures.same) c.requires.marked)

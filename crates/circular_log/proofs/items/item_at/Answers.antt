@@ -30,8 +30,8 @@ loop-i-preserved g c =
     let bytes = c.copy_from_slice.ensures.after ∙ c.to_le_bytes.ensures in
     let word = c.read-word.ensures.value ∙ ap (λ (o : OwnerState). item_in o (c.args.offset + 2 + c.from.result + c.loop-i.i)) loop.owner in
     record {
-      owner = c.read-word.ensures.same.0 ∙ loop.owner;
-      home = c.read-word.ensures.same.1 ∙ loop.home;
+      owner = c.read-word.ensures.same ∙ loop.owner;
+      home = c.read-word.ensures.home ∙ loop.home;
       kept = c.read-word.ensures.kept;
       few = loop.few;
       wide = length-eight c.loop-i.i c.loop-i.value c.copy_from_slice.new.self room (ap length bytes) ∙ loop.wide;
@@ -52,4 +52,4 @@ returns-clause-value g c key cell item =
     let place : c.args.offset + 2 + c.from.result ≡ c.args.offset + 2 + words_for (length key) = omega (arith, c.from.ensures, c.div_ceil.ensures) in
     c.set.ensures
     ∙ value_is (owner c.args.words.now) c.args.offset key cell item (owner c.read-header.new.self) (c.args.offset + 2 + c.from.result) c.loop-i.i
-    c.header_value_len-len.result c.loop-i.value c.read-header.ensures.same.0 place words len loop.bytes
+    c.header_value_len-len.result c.loop-i.value c.read-header.ensures.same place words len loop.bytes

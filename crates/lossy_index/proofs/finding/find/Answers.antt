@@ -20,11 +20,11 @@ pub returns-then-holds_key-clause-found : goal.returns-then-holds_key-clause-fou
 returns-then-holds_key-clause-found g c =
     let owner = g.W.OwnerWords.owner in
     let loop = c.loop-slot.invariant in
-    let old = c.read.ensures.same.0 in
+    let old = c.read.ensures.same in
     subst (λ (z : OwnerState). IsSlotOf z c.args.bucket c.args.key.now c.loop-slot.slot) old
     (found (owner c.read.new.self) (owner c.loop-slot.words) loop.owner c.args.bucket c.loop-slot.slot c.args.key.now _ _ _ _ _ loop.seeks
     c.read-entry.ensures.value c.entry_offset-offset.ensures c.loop-slot-test.true (sym c.entry_tag.ensures ∙ c.if-entry_tag-tag.true) c.if-tail-offset.true
-    (owner c.read-entry.new.self) (c.read-entry.ensures.same.0 ∙ loop.owner) (c.holds_key.ensures.holds.0 c.if-holds_key.true))
+    (owner c.read-entry.new.self) (c.read-entry.ensures.same ∙ loop.owner) (c.holds_key.ensures.holds.0 c.if-holds_key.true))
 
 pub loop-slot-preserved : goal.loop-slot-preserved
 loop-slot-preserved g c =
@@ -38,7 +38,7 @@ loop-slot-preserved g c =
       none = below_more _ _ loop.none (elim c.else-entry_tag-tag.branch [
         | else-entry_tag-tag-via-then-entry_tag-tag+then-tail-offset+else-holds_key w ↦
             of_other_key (owner c.read.new.self) (owner c.loop-slot.words) loop.owner c.args.bucket c.loop-slot.slot c.args.key.now _ _ _ _ _ loop.seeks
-            c.read-entry.ensures.value c.entry_offset-offset.ensures (owner c.read-entry.new.self) (c.read-entry.ensures.same.0 ∙ loop.owner) (λ has. true≢false (sym (w.holds_key.ensures.holds.1 has) ∙ w.if-holds_key.false))
+            c.read-entry.ensures.value c.entry_offset-offset.ensures (owner c.read-entry.new.self) (c.read-entry.ensures.same ∙ loop.owner) (λ has. true≢false (sym (w.holds_key.ensures.holds.1 has) ∙ w.if-holds_key.false))
         | else-entry_tag-tag-via-then-entry_tag-tag+else-tail-offset w ↦
             passed (owner c.read.new.self) (owner c.loop-slot.words) loop.owner c.args.bucket c.loop-slot.slot c.args.key.now _ _ _ _ _ loop.seeks
             c.read-entry.ensures.value c.entry_offset-offset.ensures w.if-tail-offset.false
