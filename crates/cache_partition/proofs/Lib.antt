@@ -1,0 +1,6 @@
+pub mod Slots
+pub mod Rooms
+pub mod Displaced
+pub mod Leaves
+pub mod Counts
+pub mod Stands
