@@ -20,7 +20,7 @@ use Rattle.mica_model.specs.CacheStep as cs
 use Rattle.mica_model.specs.CacheStep.{others, new_record, kept_record, without_first}
 use Rattle.mica_model.proofs.Found as found
 use Rattle.mica_model.proofs.Laid as laid
-use Rattle.mica_model.proofs.CacheKept.{IsKept, after_write_is, rewritten, rewritten_key, left_of, live_of, here_of, size_at_most, tail_past}
+use Rattle.mica_model.proofs.CacheKept.{IsKept, keeps_put, after_write_is, rewritten, rewritten_key, left_of, live_of, here_of, size_at_most, tail_past}
 use Rattle.mica_model.proofs.CacheLaws.{written_same}
 use Rattle.cache_partition.proofs.Displaced.{found_other, found_gone, first_found, first_least}
 
@@ -97,6 +97,58 @@ module _ (options : Options) (m : Cache) (kept : IsKept options m) (write : Writ
       let is : cs.after_write options m write ≡ cs.after_delete m write = ap (λ (z : Op). cs.after_op z options m write) op in
       subst (λ (t : Cache). count_by here (live_of options t) ≢ 16) (sym is) (few_live (cs.after_delete m write) fewer)
 
+  -- the stamp after a write
+
+  pub deleted_stamp : write.op ≡ Del → (cs.after options m write).stamp ≡ m.stamp + 1
+  unfolding cs.after
+  deleted_stamp op = ap (λ (z : Op). (cs.after_op z options m write).stamp) op
+
+  pub rewritten_stamp : (held : Record) → write.op ≡ Put → kept_record options m write ≡ Some held → (cs.after options m write).stamp ≡ m.stamp + 1
+  unfolding cs.after
+  rewritten_stamp held op at =
+      ap (λ (z : Op). (cs.after_op z options m write).stamp) op ∙ ap (λ (z : Option Record). (cs.after_put z m write).stamp) at
+
+  pub appended_stamp : write.op ≡ Put → kept_record options m write ≡ None → (cs.after options m write).stamp ≡ m.stamp + 65536 * size_of write
+  unfolding cs.after
+  appended_stamp op at =
+      ap (λ (z : Op). (cs.after_op z options m write).stamp) op ∙ ap (λ (z : Option Record). (cs.after_put z m write).stamp) at
+
+  -- what the machine has of the key itself
+
+  left_all : (rs : List Record) → count_by here rs ≢ 16 → left_of options write rs ≡ rs
+  left_all rs few = ap (λ b. cond b (without_first here rs) rs) (ne_eqb (count_by here rs) 16 few)
+
+  no_others : find (has_key write.key) (others write.key m.records) ≡ None
+  no_others = found.missed (has_key write.key) (others write.key m.records)
+      (found.all_weaker (λ r. not (has_key write.key r) ≡ true) (λ r. has_key write.key r ≡ false) (λ r h. elim (has_key write.key r) as (λ b. not b ≡ true → b ≡ false) [ true ↦ λ e. cc | false ↦ λ e. refl ] h)
+      (others write.key m.records) (found.all_passes (λ r. not (has_key write.key r)) m.records))
+
+  -- a delete leaves it none
+  pub deleted_none : write.op ≡ Del → record_of (cs.after options m write) write.key ≡ None
+  unfolding cs.after
+  deleted_none op =
+      let is : cs.after_write options m write ≡ cs.after_delete m write = ap (λ (z : Op). cs.after_op z options m write) op in
+      ap (λ (t : Cache). find (has_key write.key) (left_of options write (live_of options t))) is
+      ∙ (ap (find (has_key write.key)) (left_all (live_of options (cs.after_delete m write)) (few_live (cs.after_delete m write) fewer))
+      ∙ found.missed_filter (has_key write.key) (live_test options (cs.after_delete m write)) (others write.key m.records) no_others)
+
+  -- a put that is kept in place leaves it the new value
+  pub rewritten_own : (held : Record) → write.op ≡ Put → kept_record options m write ≡ Some held
+      → record_of (cs.after options m write) write.key ≡ Some (record held { value = write.value })
+  unfolding cs.after
+  rewritten_own held op at =
+      let is : cs.after_write options m write ≡ cs.after_rewrite m write =
+      ap (λ (z : Op). cs.after_op z options m write) op ∙ ap (λ (z : Option Record). cs.after_put z m write) at in
+      let keeps = keeps_put options m write held at in
+      let new : rewritten write held ≡ record held { value = write.value } =
+      ap (λ b. cond b (record held { value = write.value }) held) (found.found_passes (has_key write.key) m.records held keeps.is) in
+      let few = subst (λ (t : Cache). count_by here (live_of options t) ≢ 16) is (few_rewritten held op at) in
+      ap (λ (t : Cache). find (has_key write.key) (left_of options write (live_of options t))) is
+      ∙ (ap (find (has_key write.key)) (left_all (live_of options (cs.after_rewrite m write)) few)
+      ∙ found.found_filter (has_key write.key) (live_test options (cs.after_rewrite m write)) (cs.after_rewrite m write).records (record held { value = write.value })
+      (laid.found_map (rewritten write) (rewritten_key write) write.key m.records held keeps.is ∙ ap Some new)
+      (le-leb (tail_of (m.stamp + 1)) (held.offset + options.words) keeps.live))
+
   -- the key's own record is one less among the others
   one_less : (rs : List Record) (r : Record) → find (has_key write.key) rs ≡ Some r → count_by here (others write.key rs) + 1 ≤ count_by here rs
   one_less [] r at = cc
@@ -143,6 +195,31 @@ module _ (options : Options) (m : Cache) (kept : IsKept options m) (write : Writ
     live_are =
         filter-append (live_test options (cs.after_append m write)) (others write.key m.records) (new_record m write ∷ [])
         ∙ ap (λ b. live_others ++ cond b (new_record m write ∷ []) []) new_live
+
+    -- the new record is the key's
+    new_found : (rs : List Record) → find (has_key write.key) rs ≡ None → find (has_key write.key) (rs ++ new_record m write ∷ []) ≡ Some (new_record m write)
+    new_found rs none =
+        found.found_append_none (has_key write.key) rs (new_record m write ∷ []) none
+        ∙ ap (λ b. cond b (Some (new_record m write)) None) (laid.has_its_key write.key (new_record m write) refl)
+
+    pub appended_own : record_of (cs.after options m write) write.key ≡ Some (new_record m write)
+    unfolding cs.after
+    appended_own =
+        let none = found.missed_filter (has_key write.key) (live_test options (cs.after_append m write)) (others write.key m.records) no_others in
+        let lives : live_after options m write ≡ live_others ++ new_record m write ∷ [] = ap (live_of options) (is_appended op at) ∙ live_are in
+        ap (λ (rs : List Record). find (has_key write.key) (left_of options write rs)) lives ∙ by_room none
+      where
+        by_room : find (has_key write.key) live_others ≡ None → find (has_key write.key) (left_of options write (live_others ++ new_record m write ∷ [])) ≡ Some (new_record m write)
+        by_room none =
+            elim (eqb (count_by here (live_others ++ new_record m write ∷ [])) 16) as (λ b. eqb (count_by here (live_others ++ new_record m write ∷ [])) 16 ≡ b
+            → find (has_key write.key) (cond b (without_first here (live_others ++ new_record m write ∷ [])) (live_others ++ new_record m write ∷ [])) ≡ Some (new_record m write)) [
+              | true ↦ λ full.
+                  let is = eqb-true (count_by here (live_others ++ new_record m write ∷ [])) 16 full in
+                  let all = new_counts live_others in
+                  ap (find (has_key write.key)) (found.without_first_push here live_others (new_record m write) (omega arith))
+                  ∙ new_found (without_first here live_others) (found.missed_without_first (has_key write.key) here live_others none)
+              | false ↦ λ room. new_found live_others none
+            ] refl
 
     -- where fewer than 15 others are live in the bucket, no record is lost
     pub few_added : count_by here live_others ≤ 14 → count_by here (live_after options m write) ≢ 16

@@ -1,5 +1,7 @@
 use Rattle.std.proofs.Common.{◌≡◌, sym, ap, ◌∙◌}
 use Rattle.cache_partition.proofs.Slots as slots
+use Rattle.cache_partition.proofs.Endings as endings
+use Rattle.cache_partition.proofs.Effects as effects
 use Rattle.cache_partition.proofs.Counts as counts
 use Rattle.cache_partition.proofs.Displaced as displaced
 use Rattle.cache_partition.proofs.Rooms as rooms
