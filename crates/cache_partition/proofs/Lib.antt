@@ -6,3 +6,4 @@ pub mod Counts
 pub mod Effects
 pub mod Stands
 pub mod Endings
+pub mod Writes

@@ -6,13 +6,15 @@ use Rattle.mica_model.specs.Cache.{record_of}
 use Rattle.mica_model.specs.CacheStep.{kept_record}
 use Rattle.mica_model.specs.History.{State, cache_state, store_state}
 use Rattle.epoch_core.specs.declared.state.OwnerState.{OwnerState}
-use Rattle.epoch_core.specs.OwnerState.{options_in, state_in, bucket_in}
+use Rattle.epoch_core.specs.OwnerState.{stamp_in, options_in, state_in, bucket_in}
+use Rattle.cache_partition.specs.declared.seeking.Sought.{Sought}
 use Rattle.lossy_index.specs.Slot.{IsSlotOf, HasNoSlot}
 
--- the bucket is the key's, and the slot is the key's slot there, if it has one
-pub record IsSought (o : OwnerState) (key : List ℕ) (b : ℕ) (slot : Option ℕ) : Type 0 where
-  pub bucket : b ≡ bucket_in o key
-  pub found : MatchOption slot (HasNoSlot o b key) (IsSlotOf o b key)
+-- the bucket is the key's, the slot is its slot there, if it has one, and the stamp is the one now
+pub record IsSought (o : OwnerState) (key : List ℕ) (sought : Sought) : Type 0 where
+  pub bucket : sought.bucket ≡ bucket_in o key
+  pub found : MatchOption sought.slot (HasNoSlot o sought.bucket key) (IsSlotOf o sought.bucket key)
+  pub stamp : sought.stamp ≡ stamp_in o
 
 abbrev pub kept_offset_by : Options → State → Write → Option ℕ
 kept_offset_by options (cache_state s) write = option_map (λ held. held.offset) (kept_record options s write)

@@ -8,6 +8,7 @@
 mod partition;
 mod reading;
 mod removing;
+mod seeking;
 mod writing;
 
 pub use partition::CachePartition;

@@ -1,5 +1,5 @@
 //! The partition and its calls.
-ghost use Rattle.std.specs.Prelude.{◌≡◌, length};
+ghost use Rattle.std.specs.Prelude.{◌≡◌, length, nat_le};
 ghost use Rattle.mica_model.specs.declared.options.Mode.TheVariants.{Cache};
 ghost use Rattle.mica_model.specs.History.{stamp_of};
 ghost use Rattle.epoch_core.specs.declared.state.Phase.TheVariants.{Idle};
@@ -47,7 +47,9 @@ impl<W: OwnerWords> CachePartition<W> {
     }
 
     // Whether as many writes were accepted as the partition may bear.
-    fn is_worn(&self) -> bool {
+    fn is_worn(&self) -> bool
+        ensures { result ≡ nat_le (W.owner self.now.words).shape.wear (length (W.owner self.now.words).history) }
+    {
         self.words.shape().wear <= self.accepted
     }
 }
@@ -58,7 +60,7 @@ impl<W: OwnerWords> Partition for CachePartition<W> {
     ghost home = { λ p. W.home p.words };
 
     fn put(&mut self, key: &[u8], value: &[u8]) -> Outcome {
-        if self.words.shape().wear <= self.accepted {
+        if self.is_worn() {
             return Outcome::Worn;
         }
         self.stamp = put(&mut self.words, key, value);
@@ -67,13 +69,13 @@ impl<W: OwnerWords> Partition for CachePartition<W> {
     }
 
     fn del(&mut self, key: &[u8]) -> Outcome {
-        if self.words.shape().wear <= self.accepted {
+        if self.is_worn() {
             return Outcome::Worn;
         }
-        let was_there = remove(&mut self.words, key);
-        self.stamp += 1;
+        let removed = remove(&mut self.words, key);
+        self.stamp = removed.stamp;
         self.accepted += 1;
-        if was_there {
+        if removed.had_record {
             Outcome::Deleted
         } else {
             Outcome::Absent

@@ -6,33 +6,13 @@ ghost use Rattle.mica_model.specs.Answer.{IsAnswer};
 ghost use Rattle.mica_model.specs.History.{answer_of};
 ghost use Rattle.epoch_core.specs.declared.state.Phase.TheVariants.{Idle};
 ghost use Rattle.epoch_core.specs.OwnerState.{options_in};
-ghost use Rattle.epoch_core.specs.Kept.{Kept};
-ghost use Rattle.cache_partition.specs.Sought.{IsSought};
 
+use crate::seeking::bucket_of_key;
 use circular_log::item_at;
 use epoch_core::{OwnerWords, WordAt};
 use lossy_index::find;
 use mica_model::{Answer, ItemBuf};
-use mica_words::{bucket_of, entry_offset, key_hash};
-
-/// A key's bucket, and its slot there if it has one.
-#[derive(Drop)]
-pub(crate) struct Place {
-    pub bucket: u32,
-    pub slot: Option<u32>,
-}
-
-/// Looks the key up.
-pub(crate) fn seek<W: OwnerWords>(words: &mut W, key: &[u8]) -> Place
-    requires { KeyFits key.now }
-    ensures sought { IsSought (W.owner words.old) key.entry.now result.bucket result.slot }
-    ensures same { (W.owner words.new ≡ W.owner words.old) × (W.home words.new ≡ W.home words.old) }
-    ensures kept { Kept (W.owner words.new) }
-{
-    let bucket = bucket_of(key_hash(key), words.shape().buckets);
-    let slot = find(words, bucket, key);
-    Place { bucket, slot }
-}
+use mica_words::entry_offset;
 
 /// Copies the key's value into the buffer.
 pub(crate) fn value_of<W: OwnerWords>(words: &mut W, key: &[u8], out: &mut ItemBuf) -> Answer
@@ -43,10 +23,10 @@ pub(crate) fn value_of<W: OwnerWords>(words: &mut W, key: &[u8], out: &mut ItemB
         (answer_of (options_in (W.owner words.old)) (W.owner words.old).history key.entry.now) }
     ensures same { (W.owner words.new ≡ W.owner words.old) × (W.home words.new ≡ W.home words.old) }
 {
-    let place = seek(words, key);
-    match place.slot {
+    let bucket = bucket_of_key(words, key);
+    match find(words, bucket, key) {
         Some(slot) => {
-            let entry = words.read(WordAt::Entry(place.bucket, slot));
+            let entry = words.read(WordAt::Entry(bucket, slot));
             item_at(words, entry_offset(entry), out);
             Answer::Hit
         }
