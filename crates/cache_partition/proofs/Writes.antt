@@ -1,6 +1,7 @@
 -- A write from its begin to its end: when its events may happen, and what it makes of the state.
 use Rattle.std.proofs.Common.{◌≡◌, ◌≢◌, ℕ, ◌+◌, ◌*◌, ◌^◌, ◌<◌, ◌≤◌, inl, inr, List, [], ◌∷◌, ◌++◌, length, get_or, Option, Some, None, Bool, true, false, cond, refl, sym, ap, ◌∙◌, subst, arith, add-zero}
-use Rattle.std.specs.Prelude.{is_some, option_map, MatchOption}
+use Rattle.std.specs.Prelude.{is_some, option_map, MatchOption, nat_le, ◌&&◌}
+use Rattle.std.specs.Bool.{then_some}
 use Rattle.std.proofs.lemmas.Bool.{lt-leb}
 use Rattle.std.proofs.lemmas.Option.{same_Some}
 use Rattle.mica_model.specs.Store.{Cell}
@@ -19,7 +20,7 @@ use Rattle.mica_model.specs.declared.write.Write.{Write}
 use Rattle.mica_model.specs.declared.write.Outcome.{Outcome}
 use Rattle.mica_model.specs.declared.write.Outcome.TheVariants.{Stored, Deleted, Absent, Worn}
 use Rattle.mica_model.specs.Write.{IsWrite, write_of, size_of, is_accepted}
-use Rattle.mica_model.specs.Cache.{Cache, Record, record_of}
+use Rattle.mica_model.specs.Cache.{Cache, Record, record_of, is_live}
 use Rattle.mica_model.specs.CacheStep as cs
 use Rattle.mica_model.specs.CacheStep.{kept_record}
 use Rattle.mica_model.specs.History.{History, State, cache_state, store_state, state_of, stamp_of, accepted_in, stamp_in as stamp_of_state, after as state_after, Allows, MayGive, IsAcceptedAfter}
@@ -393,3 +394,39 @@ kept_slot o s may w is p b keeps here None none =
 
 pub stamp_gained : (o new : OwnerState) (w : Write) (n : ℕ) → Gains o new w → n ≡ stamp_of (options_in o) (o.history ++ w ∷ []) → n ≡ stamp_of (options_in new) new.history
 stamp_gained o new w n gained is = is ∙ ap (λ (z : OwnerState). stamp_of (options_in z) z.history) (sym gained)
+
+-- where a put is kept in place, by the key's slot
+
+none_kept : (options : Options) (m : Cache) (w : Write) → record_of m w.key ≡ None → option_map (λ (held : Record). held.offset) (kept_record options m w) ≡ None
+none_kept options m w absent = ap (λ (z : Option Record). option_map (λ (held : Record). held.offset) (cs.kept_if options m w z)) absent
+
+kept_if_is : (fits : Bool) (r : Record) → then_some fits r.offset ≡ option_map (λ (held : Record). held.offset) (cond fits (Some r) None)
+kept_if_is true r = refl
+kept_if_is false r = refl
+
+pub no_slot_keeps : (o : OwnerState) → Kept o → (may : MayWrite o) → (w : Write) → (b : ℕ) → b ≡ bucket_in o w.key → HasNoSlot o b w.key → kept_offset o w ≡ None
+no_slot_keeps o s may w b here none =
+    let main : IsMain o.shape b = subst (IsMain o.shape) (sym here) (key_main o s w.key) in
+    let stood = s.state b main (ap (λ (z : Phase). marked_in z b) may.idle) in
+    let there = cached_in (options_in o) may.cached o.history in
+    subst (λ (z : State). kept_offset_by (options_in o) z w ≡ None) (sym there.1)
+    (none_kept (options_in o) there.0 w (slots.no_record o s there.0 there.1 may.cached b w.key stood (sym here) none))
+
+pub slot_keeps : (o : OwnerState) → Kept o → (may : MayWrite o) → (w : Write) → IsWrite w → (b slot : ℕ) → b ≡ bucket_in o w.key → IsSlotOf o b w.key slot
+    → (stamp offset room : ℕ) → stamp ≡ stamp_in o → offset ≡ entry_offset (entry_in o b slot) → room ≡ room_in o (entry_in o b slot)
+    → (fits : Bool) → fits ≡ (nat_le (size_of w) room && is_live o.shape.words (stamp + 1) offset) → then_some fits offset ≡ kept_offset o w
+slot_keeps o s may w is b slot here found stamp offset room stamp_is offset_is room_is_now fits fits_is =
+    let main : IsMain o.shape b = subst (IsMain o.shape) (sym here) (key_main o s w.key) in
+    let stood = s.state b main (ap (λ (z : Phase). marked_in z b) may.idle) in
+    let there = cached_in (options_in o) may.cached o.history in
+    let spelt = slots.slot_spells o s may.cached b slot w.key is.key_bytes stood found in
+    let held = slots.record_spelt o s there.0 there.1 b (entry_in o b slot) w.key spelt.0 spelt.1 in
+    let offset_held : offset ≡ held.0.offset = offset_is ∙ sym held.2 in
+    let room_held : room ≡ held.0.room = room_is_now ∙ (room_is o s b (entry_in o b slot) w.key spelt.0 spelt.1 ∙ ap (λ (c : Cell). c.room) held.3) in
+    let stamp_held : stamp ≡ there.0.stamp = stamp_is ∙ (s.stamp ∙ ap stamp_of_state there.1) in
+    let may_keep_is : fits ≡ cs.may_keep (options_in o) there.0 w held.0 =
+    fits_is ∙ (λ j. nat_le (size_of w) (room_held j) && is_live o.shape.words (stamp_held j + 1) (offset_held j)) in
+    subst (λ (z : State). then_some fits offset ≡ kept_offset_by (options_in o) z w) (sym there.1)
+    ((λ j. then_some (may_keep_is j) (offset_held j))
+    ∙ (kept_if_is (cs.may_keep (options_in o) there.0 w held.0) held.0
+    ∙ ap (λ (z : Option Record). option_map (λ (held : Record). held.offset) (cs.kept_if (options_in o) there.0 w z)) (sym held.1)))
