@@ -7,3 +7,4 @@ pub mod Effects
 pub mod Stands
 pub mod Endings
 pub mod Writes
+pub mod Answering

@@ -2,7 +2,7 @@
 use Rattle.std.proofs.Common.{◌≡◌, ◌≢◌, ℕ, ◌+◌, ◌*◌, ◌^◌, ◌<◌, ◌≤◌, inl, inr, List, [], ◌∷◌, ◌++◌, length, get_or, Option, Some, None, Bool, true, false, cond, refl, sym, ap, ◌∙◌, subst, arith, add-zero}
 use Rattle.std.specs.Prelude.{is_some, option_map, MatchOption, nat_le, ◌&&◌}
 use Rattle.std.specs.Bool.{then_some}
-use Rattle.std.proofs.lemmas.Bool.{lt-leb}
+use Rattle.std.proofs.lemmas.Bool.{lt-leb, le-leb}
 use Rattle.std.proofs.lemmas.Option.{same_Some}
 use Rattle.mica_model.specs.Store.{Cell}
 use Rattle.mica_words.specs.Hash.{tag_of}
@@ -14,6 +14,8 @@ use Rattle.mica_words.specs.Spelling.{item_words}
 use Rattle.mica_words.specs.Stamp.{tail_of}
 use Rattle.mica_words.proofs.ItemWords.{length-item_words}
 use Rattle.mica_model.specs.declared.options.Options.{Options}
+use Rattle.mica_model.specs.declared.options.Mode.{Mode}
+use Rattle.mica_model.specs.declared.options.Mode.TheVariants.{Cache as CacheMode, Store as StoreMode}
 use Rattle.mica_model.specs.declared.write.Op.{Op}
 use Rattle.mica_model.specs.declared.write.Op.TheVariants.{Put, Del}
 use Rattle.mica_model.specs.declared.write.Write.{Write}
@@ -21,9 +23,11 @@ use Rattle.mica_model.specs.declared.write.Outcome.{Outcome}
 use Rattle.mica_model.specs.declared.write.Outcome.TheVariants.{Stored, Deleted, Absent, Worn}
 use Rattle.mica_model.specs.Write.{IsWrite, write_of, size_of, is_accepted}
 use Rattle.mica_model.specs.Cache.{Cache, Record, record_of, is_live}
+use Rattle.mica_model.specs.Cache as cache
+use Rattle.mica_model.specs.Store as store
 use Rattle.mica_model.specs.CacheStep as cs
 use Rattle.mica_model.specs.CacheStep.{kept_record}
-use Rattle.mica_model.specs.History.{History, State, cache_state, store_state, state_of, stamp_of, accepted_in, stamp_in as stamp_of_state, after as state_after, Allows, MayGive, IsAcceptedAfter}
+use Rattle.mica_model.specs.History.{History, State, start, cache_state, store_state, state_of, stamp_of, accepted_in, stamp_in as stamp_of_state, after as state_after, Allows, MayGive, IsAcceptedAfter}
 use Rattle.mica_model.proofs.CacheKept.{IsKept, keeps_put, size_at_most}
 use Rattle.mica_model.proofs.CacheLaws.{kept_in}
 use Rattle.mica_model.proofs.Laid.{found_key}
@@ -35,10 +39,11 @@ use Rattle.epoch_core.specs.declared.state.Phase.TheVariants.{Idle, Begun, Marke
 use Rattle.epoch_core.specs.declared.event.Event.TheVariants.{Begins, Marks, PutsEntry, Ends}
 use Rattle.epoch_core.specs.Shape.{IsMain}
 use Rattle.epoch_core.specs.Layout.{word_count}
-use Rattle.epoch_core.specs.OwnerState.{stamp_in, entry_in, item_in, options_in, state_in, bucket_in, marked_in}
+use Rattle.epoch_core.specs.OwnerState.{stamp_in, entry_in, item_in, options_in, state_in, bucket_in, marked_in, as_made}
 use Rattle.epoch_core.specs.Events.{MayBegin, MayMark, MayEnd, after, plays, puts_from}
 use Rattle.epoch_core.specs.StandsFor.{cell_at, Spells, SpellsItem, room_in, StandsFor}
 use Rattle.epoch_core.specs.Kept.{Kept}
+use Rattle.epoch_core.specs.OwnerStep.{IsOwnerStep}
 use Rattle.epoch_core.proofs.Carried.{changed}
 use Rattle.epoch_core.proofs.Inside.{some_words}
 use Rattle.epoch_core.proofs.Log.{room_is}
@@ -73,6 +78,54 @@ reply_accepted Put found = refl
 reply_accepted Del true = refl
 reply_accepted Del false = refl
 
+-- the reply to a write that is not refused
+
+replies : (options : Options) (m : Cache) (w : Write) → m.accepted < options.wear → cs.reply options m w ≡ cs.reply_of w.op (is_some (record_of m w.key))
+unfolding cs.reply
+replies options m w few = ap (λ b. cond b Worn (cs.reply_of w.op (is_some (record_of m w.key)))) (lt-leb options.wear m.accepted few)
+
+pub may_give : (o : OwnerState) → MayWrite o → (w : Write) → MayGive (options_in o) o.history w (cs.reply_of w.op (had_record o w.key))
+may_give o may w =
+    let there = cached_in (options_in o) may.cached o.history in
+    let count = ap accepted_in there.1 in
+    let all = accepted_is_length (options_in o) o.history in
+    let less = may.not_worn in
+    subst (λ (z : State). Allows (options_in o) z w (cs.reply_of w.op (had_record_by z w.key))) (sym there.1) (sym (replies (options_in o) there.0 w (omega arith)))
+
+-- and to one that is
+
+refuses : (options : Options) (m : Cache) (w : Write) → options.wear ≤ m.accepted → Worn ≡ cs.reply options m w
+unfolding cs.reply
+refuses options m w full = ap (λ b. cond b Worn (cs.reply_of w.op (is_some (record_of m w.key)))) (sym (le-leb options.wear m.accepted full))
+
+pub worn_step : (o : OwnerState) → o.phase ≡ Idle → o.shape.mode ≡ CacheMode → o.shape.wear ≤ length o.history → (w : Write) → IsOwnerStep o o w Worn
+worn_step o idle mode full w =
+    let there = cached_in (options_in o) mode o.history in
+    let count = ap accepted_in there.1 in
+    let all = accepted_is_length (options_in o) o.history in
+    record {
+      allowed = subst (λ (z : State). Allows (options_in o) z w Worn) (sym there.1) (refuses (options_in o) there.0 w (omega arith));
+      gained = refl;
+      idle = idle;
+    }
+
+-- a step that gains the write
+pub accepted_step : (o new : OwnerState) → MayWrite o → (w : Write) (outcome : Outcome) → Gains o new w → outcome ≡ cs.reply_of w.op (had_record o w.key) → IsOwnerStep o new w outcome
+accepted_step o new may w outcome gained is = record {
+  allowed = subst (MayGive (options_in o) o.history w) (sym is) (may_give o may w);
+  gained = gained ∙ ap (λ b. cond b (record o { words = new.words; history = o.history ++ w ∷ [] }) o) (sym (ap is_accepted is ∙ reply_accepted w.op (had_record o w.key)));
+  idle = ap (λ (z : OwnerState). z.phase) gained ∙ may.idle;
+}
+
+-- as made, no stamp was given
+start_stamp : (mode : Mode) → stamp_of_state (start mode) ≡ 0
+unfolding cache.start store.start
+start_stamp CacheMode = refl
+start_stamp StoreMode = refl
+
+pub new_stamp : (o : OwnerState) → o ≡ as_made o.shape → 0 ≡ stamp_of (options_in o) o.history
+new_stamp o made = sym (ap (stamp_of (options_in o)) (ap (λ (z : OwnerState). z.history) made) ∙ start_stamp o.shape.mode)
+
 module _ (o : OwnerState) (s : Kept o) (may : MayWrite o) (w : Write) (is : IsWrite w) where
   now : (m : Cache) × (state_in o ≡ cache_state m)
   now = cached_in (options_in o) may.cached o.history
@@ -89,20 +142,8 @@ module _ (o : OwnerState) (s : Kept o) (may : MayWrite o) (w : Write) (is : IsWr
   stamp_next : stamp_of (options_in o) (o.history ++ w ∷ []) ≡ (cs.after (options_in o) now.0 w).stamp
   stamp_next = ap stamp_of_state (state_snoc (options_in o) o.history w ∙ ap (λ (z : State). state_after (options_in o) z w) now.1)
 
-  -- the reply to a write that is not refused
-  replies : cs.reply (options_in o) now.0 w ≡ cs.reply_of w.op (is_some (record_of now.0 w.key))
-  unfolding cs.reply
-  replies =
-      let count = ap accepted_in now.1 in
-      let all = accepted_is_length (options_in o) o.history in
-      let less = may.not_worn in
-      ap (λ b. cond b Worn (cs.reply_of w.op (is_some (record_of now.0 w.key)))) (lt-leb o.shape.wear now.0.accepted (omega arith))
-
-  pub may_give : MayGive (options_in o) o.history w (cs.reply_of w.op (had_record o w.key))
-  may_give = subst (λ (z : State). Allows (options_in o) z w (cs.reply_of w.op (had_record_by z w.key))) (sym now.1) (sym replies)
-
   accepted : IsAcceptedAfter (options_in o) o.history w
-  accepted = (cs.reply_of w.op (had_record o w.key), reply_accepted w.op (had_record o w.key), may_give)
+  accepted = (cs.reply_of w.op (had_record o w.key), reply_accepted w.op (had_record o w.key), may_give o may w)
 
   pub may_begin : (b : ℕ) → b ≡ bucket_in o w.key → MayBegin o b
   may_begin b here = record { idle = may.idle; main = subst (IsMain o.shape) (sym here) (key_main o s w.key); not_worn = may.not_worn }

@@ -9,6 +9,7 @@ use Rattle.mica_model.specs.declared.write.Op.TheVariants.{Put}
 use Rattle.mica_model.specs.Write.{write_of}
 use Rattle.mica_model.specs.Cache.{is_live}
 use Rattle.epoch_core.specs.declared.state.OwnerState.{OwnerState}
+use Rattle.epoch_core.specs.declared.shape.Shape.{Shape}
 use Rattle.epoch_core.specs.Shape.{IsMain}
 use Rattle.epoch_core.specs.OwnerState.{item_in}
 use Rattle.lossy_index.specs.Slot.{IsSlotOf, HasNoSlot}
@@ -34,7 +35,10 @@ read-requires g c =
     (omega arith, found.in_bucket)
 
 pub overflow_add-sought : goal.overflow_add-sought
-overflow_add-sought g c = ?
+overflow_add-sought g c =
+    let small = stamp_limit (g.W.OwnerWords.owner c.args.words.now) c.requires.kept in
+    let old = c.requires.sought.stamp in
+    omega arith
 
 pub returns-clause-kept_offset : goal.returns-clause-kept_offset
 returns-clause-kept_offset g c =
@@ -52,9 +56,12 @@ returns-clause-kept_offset g c =
       | then-fits w ↦
           w.then_some-is
           ∙ (w.is_live.ensures
+          ∙ (ap (λ (z : Shape). is_live z.words (c.args.sought.now.stamp + 1) c.entry_offset-offset.result) w.shape.ensures.same
           ∙ (ap (λ (z : OwnerState). is_live z.shape.words (c.args.sought.now.stamp + 1) c.entry_offset-offset.result) (c.read-2.ensures.same ∙ c.read.ensures.same)
-          ∙ ap (λ (t : Bool). t && is_live o.shape.words (c.args.sought.now.stamp + 1) c.entry_offset-offset.result) (sym (le-leb (item_size c.args.key.now c.args.value.now) c.header_room-room.result (omega arith)))))
+          ∙ ap (λ (t : Bool). t && is_live o.shape.words (c.args.sought.now.stamp + 1) c.entry_offset-offset.result) (sym (le-leb (item_size c.args.key.now c.args.value.now) c.header_room-room.result (omega arith))))))
       | else-fits w ↦
+          let not : nat_le c.item_size.result c.header_room-room.result ≡ false = lt-leb c.item_size.result c.header_room-room.result w.if-fits.false in
           w.then_some-is
-          ∙ ap (λ (t : Bool). t && is_live o.shape.words (c.args.sought.now.stamp + 1) c.entry_offset-offset.result) (sym (lt-leb (item_size c.args.key.now c.args.value.now) c.header_room-room.result (omega arith)))
+          ∙ (not ∙ ap (λ (t : Bool). t && is_live o.shape.words (c.args.sought.now.stamp + 1) c.entry_offset-offset.result)
+          (sym (ap (λ (n : ℕ). nat_le n c.header_room-room.result) (sym c.item_size.ensures) ∙ not)))
     ])
