@@ -1,10 +1,10 @@
 -- What the key's slot tells of the answer to a get.
-use Rattle.std.proofs.Common.{◌≡◌, ℕ, List, Option, Some, None, refl, sym, ap, ◌∙◌, subst, arith}
+use Rattle.std.proofs.Common.{◌≡◌, ℕ, List, Some, None, sym, ap, ◌∙◌, subst}
 use Rattle.std.specs.Prelude.{option_map}
 use Rattle.mica_words.specs.Entry.{entry_offset}
 use Rattle.mica_words.specs.Packing.{AreBytes}
 use Rattle.mica_model.specs.declared.options.Mode.TheVariants.{Cache as CacheMode}
-use Rattle.mica_model.specs.Cache.{Record, record_of}
+use Rattle.mica_model.specs.Cache.{Record}
 use Rattle.mica_model.specs.Store.{Cell}
 use Rattle.mica_model.specs.History.{State, value_in, answer_of}
 use Rattle.mica_model.proofs.Histories.{cached_in}

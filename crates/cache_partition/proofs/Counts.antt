@@ -1,5 +1,5 @@
 -- How many of the log's records the live slots of a bucket have, where a put's key has no record yet.
-use Rattle.std.proofs.Common.{◌≡◌, ◌≢◌, ℕ, zero, suc, ◌+◌, ◌<◌, ◌≤◌, inl, List, [], ◌∷◌, length, eqb, Some, None, Bool, true, false, cond, not, refl, sym, ap, ◌∙◌, subst, arith, ⊎_elim}
+use Rattle.std.proofs.Common.{◌≡◌, ◌≢◌, ℕ, suc, ◌+◌, ◌<◌, ◌≤◌, inl, List, [], ◌∷◌, length, eqb, Some, None, Bool, true, false, cond, not, refl, sym, ap, ◌∙◌, subst, arith, ⊎_elim}
 use Rattle.std.specs.List.{find, filter, count_by, list_any, IsDistinct, AllByRecursion as AllOf}
 use Rattle.std.proofs.lemmas.Bool.{true≢false, cases_Bool, leb-true, eqb-true, eq-eqb, ne_eqb}
 use Rattle.std.proofs.lemmas.Bool.Decides.{nat_tests}
@@ -7,7 +7,6 @@ use Rattle.std.proofs.lemmas.Option.{same_Some}
 use Rattle.std.proofs.lemmas.List.Sums.{length-filter}
 use Rattle.std.proofs.lemmas.Map.Keys.{IsDistinct-cons}
 use Rattle.std.proofs.lemmas.Map.Steps.{length-le_from_distinct_below, le-length_from_below}
-use Rattle.mica_words.specs.Hash.{bucket_of}
 use Rattle.mica_words.specs.Entry.{entry_offset}
 use Rattle.mica_words.specs.Stamp.{tail_of}
 use Rattle.mica_model.specs.declared.options.Mode.TheVariants.{Cache as CacheMode}

@@ -1,13 +1,13 @@
 -- Lists of the log's records: which one is displaced, and what is left.
-use Rattle.std.proofs.Common.{◌≡◌, ◌≢◌, ℕ, ◌+◌, ◌≤◌, ◌<◌, List, [], ◌∷◌, Option, Some, None, Bool, true, false, cond, refl, sym, ap, ◌∙◌, subst, arith}
-use Rattle.std.specs.List.{find, filter, count_by, AllByRecursion as AllOf}
+use Rattle.std.proofs.Common.{◌≡◌, ◌≢◌, ℕ, ◌+◌, ◌≤◌, ◌<◌, List, [], ◌∷◌, Some, None, Bool, true, false, cond, refl, sym, ap, ◌∙◌, arith}
+use Rattle.std.specs.List.{find, count_by, AllByRecursion as AllOf}
 use Rattle.std.proofs.lemmas.Bool.{true≢false}
 use Rattle.std.proofs.lemmas.Option.{same_Some}
 use Rattle.mica_model.specs.Cache.{Record, has_key}
 use Rattle.mica_model.specs.CacheFields.{IsUnique}
 use Rattle.mica_model.specs.CacheStep.{without_first}
 use Rattle.mica_model.proofs.Found.{found_has, missed_all, all_weaker, count_cons}
-use Rattle.mica_model.proofs.Laid.{key_is, has_its_key, has_other_key, IsLaid, laid_found}
+use Rattle.mica_model.proofs.Laid.{has_its_key, has_other_key, IsLaid, laid_found}
 
 pub all_both : {X : Type 0} (P Q : X → Type 0) (xs : List X) → AllOf P xs → AllOf Q xs → AllOf (λ x. P x × Q x) xs
 all_both P Q [] ps qs = tt

@@ -1,5 +1,5 @@
 -- What the events of a write make of the entries of its bucket and of the item words.
-use Rattle.std.proofs.Common.{◌≡◌, ◌≢◌, ℕ, ◌+◌, ◌<◌, ◌≤◌, inr, List, [], ◌∷◌, ◌++◌, length, get_or, refl, sym, ap, ◌∙◌, subst, arith, length-set}
+use Rattle.std.proofs.Common.{◌≡◌, ◌≢◌, ℕ, ◌+◌, ◌<◌, ◌≤◌, inr, List, [], ◌∷◌, ◌++◌, length, get_or, ◌∙◌, arith, length-set}
 use Rattle.mica_model.specs.declared.write.Write.{Write}
 use Rattle.epoch_core.specs.declared.state.OwnerState.{OwnerState}
 use Rattle.epoch_core.specs.declared.state.Phase.TheVariants.{Marked}
@@ -7,12 +7,9 @@ use Rattle.epoch_core.specs.declared.event.Event.TheVariants.{Begins, Marks, Put
 use Rattle.epoch_core.specs.Shape.{IsMain}
 use Rattle.epoch_core.specs.Layout.{entry_at, item_at, word_count}
 use Rattle.epoch_core.specs.OwnerState.{stamp_in, entry_in, item_in, bucket_in}
-use Rattle.epoch_core.specs.Events.{after, plays, puts_from, words_after}
-use Rattle.epoch_core.specs.Kept.{Kept}
+use Rattle.epoch_core.specs.Events.{after, plays, puts_from}
 use Rattle.epoch_core.proofs.Carried.{changed}
 use Rattle.epoch_core.proofs.EventWords.{entry_begins, entry_marks, item_begins, item_marks, stamp_marks, entry_puts, entry_puts_other, item_puts_entry, stamp_puts_entry}
-use Rattle.epoch_core.proofs.Inside.{some_words}
-use Rattle.epoch_core.proofs.Keeps.{kept_after}
 use Rattle.epoch_core.proofs.Places.{no_item}
 use Rattle.epoch_core.proofs.Puts.{PutsWords, puts_words}
 

@@ -1,12 +1,12 @@
 -- The ways in which a write ends, each with what it leaves of its bucket.
-use Rattle.std.proofs.Common.{◌≡◌, ◌≢◌, ℕ, ◌+◌, ◌*◌, ◌^◌, ◌%◌, ◌<◌, ◌≤◌, ◌⊎◌, inl, inr, List, [], ◌∷◌, ◌++◌, length, get_or, Option, Some, None, refl, sym, ap, ◌∙◌, subst, arith, add-zero, ⊎_elim}
+use Rattle.std.proofs.Common.{◌≡◌, ◌≢◌, ℕ, ◌+◌, ◌*◌, ◌^◌, ◌<◌, ◌≤◌, inl, inr, List, [], ◌∷◌, ◌++◌, length, get_or, Option, Some, None, refl, sym, ap, ◌∙◌, subst, arith, add-zero, ⊎_elim}
 use Rattle.std.specs.List.{find, count_by}
 use Rattle.std.proofs.lemmas.Bool.{cases_lt}
 use Rattle.std.proofs.lemmas.Nat.{pow_pos}
 use Rattle.std.proofs.lemmas.Option.{same_Some}
-use Rattle.mica_words.specs.Hash.{bucket_of, tag_of}
+use Rattle.mica_words.specs.Hash.{tag_of}
 use Rattle.mica_words.specs.Entry.{entry_of, entry_tag, entry_offset}
-use Rattle.mica_words.specs.Header.{header_of, header_room}
+use Rattle.mica_words.specs.Header.{header_room}
 use Rattle.mica_words.specs.Item.{item_size}
 use Rattle.mica_words.specs.Spelling.{item_words}
 use Rattle.mica_words.specs.Stamp.{tail_of}
@@ -17,12 +17,12 @@ use Rattle.mica_model.specs.declared.options.Mode.{Mode}
 use Rattle.mica_model.specs.declared.options.Mode.TheVariants.{Cache as CacheMode}
 use Rattle.mica_model.specs.declared.write.Op.TheVariants.{Put, Del}
 use Rattle.mica_model.specs.declared.write.Write.{Write}
-use Rattle.mica_model.specs.Write.{IsWrite, write_of}
+use Rattle.mica_model.specs.Write.{IsWrite}
 use Rattle.mica_model.specs.Cache.{Cache, Record, record_of}
 use Rattle.mica_model.specs.CacheStep as cs
 use Rattle.mica_model.specs.CacheStep.{kept_record, new_record}
 use Rattle.mica_model.specs.Store.{Cell}
-use Rattle.mica_model.specs.History.{State, cache_state, stamp_in as stamp_of_state}
+use Rattle.mica_model.specs.History.{cache_state, stamp_in as stamp_of_state}
 use Rattle.mica_model.proofs.CacheKept.{IsKept, keeps_put, here_of}
 use Rattle.mica_model.proofs.CacheLaws.{kept_in, window_kept, fits_kept, apart_kept}
 use Rattle.mica_model.proofs.Stamps.{stamp_small}
@@ -30,7 +30,6 @@ use Rattle.epoch_core.specs.declared.state.OwnerState.{OwnerState}
 use Rattle.epoch_core.specs.declared.state.Phase.{Phase}
 use Rattle.epoch_core.specs.declared.state.Phase.TheVariants.{Idle, Marked}
 use Rattle.epoch_core.specs.Shape.{IsMain}
-use Rattle.epoch_core.specs.Layout.{item_at}
 use Rattle.epoch_core.specs.OwnerState.{stamp_in, entry_in, item_in, options_in, state_in, bucket_in, marked_in}
 use Rattle.epoch_core.specs.LiveEntry.{HasLiveEntry}
 use Rattle.epoch_core.specs.StandsFor.{cell_at, Has, IsOffset, Spells, room_in, StandsFor}
@@ -38,14 +37,14 @@ use Rattle.epoch_core.specs.Kept.{Kept}
 use Rattle.epoch_core.proofs.Carried.{changed}
 use Rattle.epoch_core.proofs.Log.{other_rooms}
 use Rattle.lossy_index.specs.Slot.{IsSlotOf, HasNoSlot, IsEmpty, IsPassed, offset_in}
-use Rattle.lossy_index.specs.Place.{GivesWay, IsFirst, HoldsOfNone, IsLeast, empty, passed, oldest}
+use Rattle.lossy_index.specs.Place.{GivesWay, HoldsOfNone, empty, passed, oldest}
 use Rattle.cache_partition.proofs.Slots as slots
 use Rattle.cache_partition.proofs.Displaced.{some_found}
 use Rattle.cache_partition.proofs.Leaves as leaves
 use Rattle.cache_partition.proofs.Leaves.{Leaves, Nothing}
 use Rattle.cache_partition.proofs.Counts as counts
 use Rattle.cache_partition.proofs.Effects.{Effect}
-use Rattle.cache_partition.proofs.Stands.{same_bytes, HasMine, HasNone, Written, state_is, stands}
+use Rattle.cache_partition.proofs.Stands.{same_bytes, HasMine, Written, state_is, stands}
 
 -- a key's bucket is a main one
 pub key_main : (o : OwnerState) → Kept o → (key : List ℕ) → IsMain o.shape (bucket_in o key)

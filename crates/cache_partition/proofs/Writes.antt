@@ -1,5 +1,5 @@
 -- A write from its begin to its end: when its events may happen, and what it makes of the state.
-use Rattle.std.proofs.Common.{◌≡◌, ◌≢◌, ℕ, ◌+◌, ◌*◌, ◌^◌, ◌<◌, ◌≤◌, inl, inr, List, [], ◌∷◌, ◌++◌, length, get_or, Option, Some, None, Bool, true, false, cond, refl, sym, ap, ◌∙◌, subst, arith, add-zero}
+use Rattle.std.proofs.Common.{◌≡◌, ℕ, ◌+◌, ◌*◌, ◌^◌, ◌<◌, ◌≤◌, List, [], ◌∷◌, ◌++◌, length, Option, Some, None, Bool, true, false, cond, refl, sym, ap, ◌∙◌, subst, arith}
 use Rattle.std.specs.Prelude.{is_some, option_map, MatchOption, nat_le, ◌&&◌}
 use Rattle.std.specs.Bool.{then_some}
 use Rattle.std.proofs.lemmas.Bool.{lt-leb, le-leb}
@@ -20,14 +20,14 @@ use Rattle.mica_model.specs.declared.write.Op.{Op}
 use Rattle.mica_model.specs.declared.write.Op.TheVariants.{Put, Del}
 use Rattle.mica_model.specs.declared.write.Write.{Write}
 use Rattle.mica_model.specs.declared.write.Outcome.{Outcome}
-use Rattle.mica_model.specs.declared.write.Outcome.TheVariants.{Stored, Deleted, Absent, Worn}
+use Rattle.mica_model.specs.declared.write.Outcome.TheVariants.{Worn}
 use Rattle.mica_model.specs.Write.{IsWrite, write_of, size_of, is_accepted}
 use Rattle.mica_model.specs.Cache.{Cache, Record, record_of, is_live}
 use Rattle.mica_model.specs.Cache as cache
 use Rattle.mica_model.specs.Store as store
 use Rattle.mica_model.specs.CacheStep as cs
 use Rattle.mica_model.specs.CacheStep.{kept_record}
-use Rattle.mica_model.specs.History.{History, State, start, cache_state, store_state, state_of, stamp_of, accepted_in, stamp_in as stamp_of_state, after as state_after, Allows, MayGive, IsAcceptedAfter}
+use Rattle.mica_model.specs.History.{State, start, cache_state, stamp_of, accepted_in, stamp_in as stamp_of_state, after as state_after, Allows, MayGive, IsAcceptedAfter}
 use Rattle.mica_model.proofs.CacheKept.{IsKept, keeps_put, size_at_most}
 use Rattle.mica_model.proofs.CacheLaws.{kept_in}
 use Rattle.mica_model.proofs.Laid.{found_key}
@@ -36,11 +36,11 @@ use Rattle.mica_model.proofs.Stamps.{stamp_small}
 use Rattle.epoch_core.specs.declared.state.OwnerState.{OwnerState}
 use Rattle.epoch_core.specs.declared.state.Phase.{Phase}
 use Rattle.epoch_core.specs.declared.state.Phase.TheVariants.{Idle, Begun, Marked}
-use Rattle.epoch_core.specs.declared.event.Event.TheVariants.{Begins, Marks, PutsEntry, Ends}
+use Rattle.epoch_core.specs.declared.event.Event.TheVariants.{Begins, PutsEntry, Ends}
 use Rattle.epoch_core.specs.Shape.{IsMain}
 use Rattle.epoch_core.specs.Layout.{word_count}
 use Rattle.epoch_core.specs.OwnerState.{stamp_in, entry_in, item_in, options_in, state_in, bucket_in, marked_in, as_made}
-use Rattle.epoch_core.specs.Events.{MayBegin, MayMark, MayEnd, after, plays, puts_from}
+use Rattle.epoch_core.specs.Events.{MayBegin, MayMark, MayEnd, after}
 use Rattle.epoch_core.specs.StandsFor.{cell_at, Spells, SpellsItem, room_in, StandsFor}
 use Rattle.epoch_core.specs.Kept.{Kept}
 use Rattle.epoch_core.specs.OwnerStep.{IsOwnerStep}

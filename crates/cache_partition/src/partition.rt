@@ -3,6 +3,7 @@ ghost use Rattle.std.specs.Prelude.{◌≡◌, length, nat_le};
 ghost use Rattle.mica_model.specs.declared.options.Mode.TheVariants.{Cache};
 ghost use Rattle.mica_model.specs.History.{stamp_of};
 ghost use Rattle.epoch_core.specs.declared.state.Phase.TheVariants.{Idle};
+ghost use Rattle.epoch_core.specs.Shape.{IsValidShape};
 ghost use Rattle.epoch_core.specs.OwnerState.{options_in, as_made};
 
 use crate::reading::value_of;
@@ -48,7 +49,9 @@ impl<W: OwnerWords> CachePartition<W> {
 
     // Whether as many writes were accepted as the partition may bear.
     fn is_worn(&self) -> bool
-        ensures { result ≡ nat_le (W.owner self.now.words).shape.wear (length (W.owner self.now.words).history) }
+        ensures worn { result ≡ nat_le (W.owner self.now.words).shape.wear
+            (length (W.owner self.now.words).history) }
+        ensures valid { IsValidShape (W.owner self.now.words).shape }
     {
         self.words.shape().wear <= self.accepted
     }

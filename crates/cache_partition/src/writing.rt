@@ -85,12 +85,7 @@ fn put_in_place<W: OwnerWords>(
 }
 
 // The put appends its item, which the key's slot names afterwards.
-fn put_at_tail<W: OwnerWords>(
-    words: &mut W,
-    sought: &Sought,
-    key: &[u8],
-    value: &[u8],
-) -> u64
+fn put_at_tail<W: OwnerWords>(words: &mut W, sought: &Sought, key: &[u8], value: &[u8]) -> u64
     requires kept { Kept (W.owner words.old) }
     requires may { MayWrite (W.owner words.old) }
     requires key { KeyFits key.now }
@@ -106,7 +101,13 @@ fn put_at_tail<W: OwnerWords>(
     let stamp = sought.stamp + 65_536 * u64::from(item_size(key.len(), value.len()));
     begin(words, sought.bucket, Op::Put, key, value, stamp);
     append(words, tail, key, value);
-    place(words, sought.bucket, sought.slot, tag_of(key_hash(key)), tail);
+    place(
+        words,
+        sought.bucket,
+        sought.slot,
+        tag_of(key_hash(key)),
+        tail,
+    );
     words.end_write(sought.bucket);
     stamp
 }

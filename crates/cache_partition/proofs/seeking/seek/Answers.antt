@@ -1,4 +1,4 @@
-use Rattle.std.proofs.Common.{◌≡◌, ap, ◌∙◌}
+use Rattle.std.proofs.Common.{ap, ◌∙◌}
 use Rattle.epoch_core.specs.OwnerState.{stamp_in}
 use Rattle.cache_partition.proofs.seeking.seek.Goals as goal
 

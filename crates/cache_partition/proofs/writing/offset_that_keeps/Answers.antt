@@ -1,6 +1,5 @@
-use Rattle.std.proofs.Common.{◌≡◌, ℕ, ◌+◌, ◌<◌, ◌≤◌, Bool, true, false, refl, sym, ap, ◌∙◌, subst, arith, Option, Some, None}
+use Rattle.std.proofs.Common.{◌≡◌, ℕ, ◌+◌, Bool, false, sym, ap, ◌∙◌, subst, arith, Option}
 use Rattle.std.specs.Prelude.{MatchOption, nat_le, ◌&&◌}
-use Rattle.std.specs.Bool.{then_some}
 use Rattle.std.proofs.lemmas.Bool.{le-leb, lt-leb}
 use Rattle.mica_words.specs.Entry.{entry_offset}
 use Rattle.mica_words.specs.Header.{header_room}
@@ -13,7 +12,6 @@ use Rattle.epoch_core.specs.declared.shape.Shape.{Shape}
 use Rattle.epoch_core.specs.Shape.{IsMain}
 use Rattle.epoch_core.specs.OwnerState.{item_in}
 use Rattle.lossy_index.specs.Slot.{IsSlotOf, HasNoSlot}
-use Rattle.cache_partition.specs.Sought.{kept_offset}
 use Rattle.cache_partition.proofs.Endings.{key_main}
 use Rattle.cache_partition.proofs.Writes.{stamp_limit, put_is, no_slot_keeps, slot_keeps}
 use Rattle.cache_partition.proofs.writing.offset_that_keeps.Goals as goal

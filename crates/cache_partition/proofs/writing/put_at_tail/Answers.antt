@@ -1,13 +1,11 @@
-use Rattle.std.proofs.Common.{◌≡◌, ℕ, ◌+◌, ◌*◌, ◌^◌, ◌<◌, ◌≤◌, refl, sym, ap, ◌∙◌, subst, arith, Option, Some, None}
-use Rattle.std.specs.Prelude.{MatchOption}
+use Rattle.std.proofs.Common.{◌+◌, ◌*◌, refl, sym, ap, ◌∙◌, subst, arith}
 use Rattle.mica_words.specs.Entry.{entry_of}
-use Rattle.mica_words.specs.Hash.{hash_tag, tag_of}
+use Rattle.mica_words.specs.Hash.{hash_tag}
 use Rattle.mica_words.specs.Item.{item_size}
 use Rattle.mica_words.specs.Stamp.{tail_of}
 use Rattle.mica_words.proofs.Hashes.{tag_of_hash}
 use Rattle.mica_words.proofs.Sizes.{item_size-most}
 use Rattle.mica_model.specs.declared.write.Op.TheVariants.{Put}
-use Rattle.mica_model.specs.declared.write.Write.{Write}
 use Rattle.mica_model.specs.Write.{write_of}
 use Rattle.epoch_core.specs.declared.state.OwnerState.{OwnerState}
 use Rattle.epoch_core.specs.declared.event.Event.TheVariants.{PutsEntry}
@@ -73,7 +71,7 @@ end_write-requires g c =
     let event = c.append.ensures.item ∙ ap (λ (z : OwnerState). with_item z c.tail_of-tail.result (item_size c.args.key.now c.args.value.now) c.args.key.now c.args.value.now) c.begin.ensures.marked in
     let whole = c.place.ensures.entry ∙ ap (after (PutsEntry c.args.sought.now.bucket c.place.result (entry_of c.tag_of.result c.tail_of-tail.result))) event in
     let stamp = (λ j. c.requires.sought.stamp j + 65536 * (c.from.ensures ∙ c.item_size.ensures) j)
-        ∙ sym (stamp_appended o c.requires.kept c.requires.may (write_of Put c.args.key.now c.args.value.now) is refl c.requires.at_tail) in
+    ∙ sym (stamp_appended o c.requires.kept c.requires.may (write_of Put c.args.key.now c.args.value.now) is refl c.requires.at_tail) in
     subst (λ (z : OwnerState). MayEnd z c.args.sought.now.bucket) (sym whole)
     (end_at_tail o c.requires.kept c.requires.may (write_of Put c.args.key.now c.args.value.now) is (c.args.sought.now.stamp + 65536 * c.from.result) refl c.requires.at_tail stamp
     c.args.sought.now.bucket c.place.result c.tag_of.result c.tail_of-tail.result c.args.sought.now.slot c.requires.sought.bucket c.requires.sought.found

@@ -1,18 +1,11 @@
-use Rattle.std.proofs.Common.{◌≡◌, ℕ, ◌+◌, refl, sym, ap, ◌∙◌, subst, arith, Option, Some, None}
-use Rattle.std.specs.Prelude.{MatchOption}
-use Rattle.mica_words.proofs.ItemWords.{length-item_words}
+use Rattle.std.proofs.Common.{ℕ, ◌+◌, refl, sym, ap, ◌∙◌, subst, arith}
 use Rattle.mica_model.specs.declared.write.Op.TheVariants.{Put}
-use Rattle.mica_model.specs.declared.write.Write.{Write}
 use Rattle.mica_model.specs.Write.{write_of}
 use Rattle.epoch_core.specs.declared.state.OwnerState.{OwnerState}
-use Rattle.epoch_core.specs.OwnerState.{stamp_in, options_in}
-use Rattle.epoch_core.specs.Events.{MayEnd, after}
+use Rattle.epoch_core.specs.Events.{MayEnd}
 use Rattle.epoch_core.specs.Kept.{Kept}
 use Rattle.circular_log.specs.LogItem.{room_at}
 use Rattle.circular_log.specs.LogWrite.{MayRewrite, with_item}
-use Rattle.lossy_index.specs.Slot.{IsSlotOf, HasNoSlot}
-use Rattle.cache_partition.specs.Gained.{MayWrite}
-use Rattle.cache_partition.specs.Sought.{IsSought, had_record}
 use Rattle.cache_partition.proofs.Writes.{stamp_limit, stamp_rewritten, put_is, item_gained, gains, end_in_place, may_rewrite, kept_slot, stamp_gained}
 use Rattle.cache_partition.proofs.writing.put_in_place.Goals as goal
 
