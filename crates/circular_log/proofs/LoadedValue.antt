@@ -1,5 +1,5 @@
 -- The bytes of the words that were loaded are the value of the item.
-use Rattle.std.proofs.Common.{◌≡◌, ℕ, zero, suc, ◌+◌, ◌-◌, ◌*◌, ◌<◌, ◌≤◌, List, [], ◌∷◌, ◌++◌, length, take, drop, flat_map, get_or, add-zero, refl, sym, ap, ◌∙◌, arith, inl, inr, rules, length-append}
+use Rattle.std.proofs.Common.{◌≡◌, ℕ, zero, suc, ◌+◌, ◌-◌, ◌*◌, ◌<◌, ◌≤◌, List, [], ◌∷◌, ◌++◌, length, take, flat_map, get_or, add-zero, refl, sym, ap, ◌∙◌, arith, inl, inr, rules, length-append}
 use Rattle.std.proofs.lemmas.Bool.{cases_lt}
 use Rattle.std.proofs.lemmas.Grind.{common_steps, flat_map-append}
 use Rattle.std.proofs.lemmas.List.{append-nil, get_or_append_left, take-take}
@@ -10,7 +10,6 @@ use borrow.Rule.Slice.PartMut.{put_mid}
 use Rattle.mica_words.specs.Header.{header_of, header_key_len, header_value_len}
 use Rattle.mica_words.specs.Item.{words_for}
 use Rattle.mica_words.specs.Packing.{packed, unpacked}
-use Rattle.mica_words.specs.Spelling.{item_words}
 use Rattle.mica_words.proofs.Fields.{header_key_len-header_of, header_value_len-header_of}
 use Rattle.mica_words.proofs.ItemWords.{header_word, value_word, same_value}
 use Rattle.mica_model.specs.Store.{Cell}

@@ -1,5 +1,5 @@
 -- The words of a marked put's item may be put.
-use Rattle.std.proofs.Common.{◌≡◌, ℕ, ◌+◌, ◌*◌, ◌^◌, ◌<◌, ◌≤◌, List, [], ◌∷◌, ◌++◌, length, Option, Some, None, refl, sym, ap, ◌∙◌, subst, arith}
+use Rattle.std.proofs.Common.{◌≡◌, ℕ, ◌+◌, ◌^◌, ◌<◌, ◌≤◌, List, Option, refl, sym, ap, ◌∙◌, subst, arith}
 use Rattle.std.specs.List.{AllByRecursion}
 use Rattle.mica_words.specs.Item.{KeyFits, ValueFits, item_size}
 use Rattle.mica_words.specs.Spelling.{item_words}
@@ -7,8 +7,8 @@ use Rattle.mica_words.proofs.ItemWords.{length-item_words}
 use Rattle.mica_model.specs.declared.write.Op.TheVariants.{Put}
 use Rattle.mica_model.specs.declared.write.Write.{Write}
 use Rattle.mica_model.specs.Write.{IsWrite, write_of}
-use Rattle.mica_model.specs.Cache.{Record, Cache}
-use Rattle.mica_model.specs.CacheStep.{IsOfItem, begin_of, kept_record}
+use Rattle.mica_model.specs.Cache.{Record}
+use Rattle.mica_model.specs.CacheStep.{begin_of, kept_record}
 use Rattle.mica_model.specs.History.{History, State, cache_state, store_state, state_of, stamp_in, stamp_of}
 use Rattle.mica_model.proofs.CacheKept.{keeps_put}
 use Rattle.mica_model.proofs.CacheLaws.{kept_in, window_kept}
@@ -18,7 +18,7 @@ use Rattle.epoch_core.specs.declared.state.OwnerState.{OwnerState}
 use Rattle.epoch_core.specs.declared.state.Phase.{Phase}
 use Rattle.epoch_core.specs.declared.state.Phase.TheVariants.{Idle, Begun, Marked}
 use Rattle.epoch_core.specs.OwnerState.{options_in}
-use Rattle.epoch_core.specs.Events.{WhenMarked, BelongsTo, MayPutWord, CanPlay, puts_from}
+use Rattle.epoch_core.specs.Events.{WhenMarked, BelongsTo, CanPlay, puts_from}
 use Rattle.epoch_core.specs.Kept.{PhaseFits, Kept}
 use Rattle.epoch_core.proofs.Machine.{all_parts}
 use Rattle.epoch_core.proofs.Puts.{MayPutWords, can_put}

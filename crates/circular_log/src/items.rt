@@ -44,7 +44,8 @@ pub fn item_at<W: OwnerWords>(words: &mut W, offset: u64, out: &mut ItemBuf)
     requires offset { offset < 2 ^ 48 }
     requires item { HasItem (W.owner words.old) offset }
     ensures value { IsValueAt (W.owner words.old) offset out.new }
-    ensures same { (W.owner words.new ≡ W.owner words.old) × (W.home words.new ≡ W.home words.old) }
+    ensures same { W.owner words.new ≡ W.owner words.old }
+    ensures home { W.home words.new ≡ W.home words.old }
     ensures kept { Kept (W.owner words.new) }
 {
     let header = words.read(WordAt::Item(offset));

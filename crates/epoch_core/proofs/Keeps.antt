@@ -1,5 +1,5 @@
 -- Each event of an owner keeps the owner's fact.
-use Rattle.std.proofs.Common.{◌≡◌, ℕ, ◌+◌, ◌<◌, ◌≤◌, ◌≢◌, Bool, cond, nat_eq, if◌then◌else◌, List, [], ◌∷◌, ◌++◌, length, count_by, get_or, refl, sym, ap, ◌∙◌, subst, arith, length-set, get_or-set_same, length-append}
+use Rattle.std.proofs.Common.{◌≡◌, ℕ, ◌+◌, ◌<◌, ◌≤◌, ◌≢◌, Bool, cond, nat_eq, if◌then◌else◌, List, [], ◌∷◌, ◌++◌, length, count_by, get_or, refl, sym, ap, ◌∙◌, subst, arith, length-set, get_or-set_same, length-append, append_assoc}
 use mathlib.Core.Logic.{dite}
 use native.Mathlib.Decide.{ℕ_discrete}
 use Rattle.std.proofs.lemmas.List.Sums.{sum_by_push}
@@ -8,7 +8,7 @@ use Rattle.mica_model.specs.declared.options.Mode.{Mode}
 use Rattle.mica_model.specs.declared.options.Mode.TheVariants.{Cache, Store}
 use Rattle.mica_model.specs.declared.write.Write.{Write}
 use Rattle.mica_model.specs.Write.{IsWrite}
-use Rattle.mica_model.specs.History.{History, state_of, stamp_of}
+use Rattle.mica_model.specs.History.{History, IsPrefix, state_of, stamp_of}
 use Rattle.mica_model.proofs.Histories.{history_snoc}
 use Rattle.mica_model.proofs.Rises.{stamp_rises}
 use Rattle.epoch_core.specs.declared.state.OwnerState.{OwnerState}
@@ -118,6 +118,7 @@ module _ (o : OwnerState) (s : Kept o) where
             omega arith;
         state = still_state e a history same_stamp (λ b none. ap (λ (z : Phase). marked_in z b) (sym phase) ∙ none);
         phase = phase_same e history phase;
+        met_seen = subst (λ (z : History). IsPrefix o.met.seen z) (sym history) s.met_seen;
       }
 
   -- a write begins
@@ -141,6 +142,7 @@ module _ (o : OwnerState) (s : Kept o) where
             (λ n. let zero = bit_else b c (λ same. n (sym same)) in let same = epoch_else (Begins b) b c refl n in omega arith);
         state = still_state (Begins b) a refl same_stamp (λ c unmarked. none c);
         phase = (a.main, a.not_worn);
+        met_seen = s.met_seen;
       }
 
   -- a write is marked
@@ -203,6 +205,7 @@ module _ (o : OwnerState) (s : Kept o) where
                 λ d slot entry d' slot' entry'. (s.state c l (none c)).apart other d slot entry d' slot' entry' m differs (none other),
               ));
           phase = (refl, refl);
+          met_seen = (s.met_seen.0 ++ write ∷ [], ap (λ (z : History). z ++ write ∷ []) s.met_seen.1 ∙ append_assoc o.met.seen s.met_seen.0 (write ∷ []));
         }
 
   -- a write ends
@@ -259,6 +262,7 @@ module _ (o : OwnerState) (s : Kept o) where
           stands_on o (words_after (Ends b) o) o.history Idle c l (chains_after o s (Ends b) a) (ended_carries c l)
           (λ other m n unmarked'. (ended_carries other m, λ d slot entry d' slot' entry'. rooms_apart c other d slot entry d' slot' entry' l m n));
       phase = tt;
+      met_seen = s.met_seen;
     }
 
   pub kept_after : (e : Event) → IsAllowed e o → Kept (after e o)

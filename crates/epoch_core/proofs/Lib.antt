@@ -16,3 +16,5 @@ pub mod Puts
 pub mod SameMachine
 pub mod Keys
 pub mod EventWords
+pub mod CacheBuckets
+pub mod StoreBuckets

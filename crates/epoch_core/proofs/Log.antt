@@ -37,7 +37,7 @@ pub not_below : (n x y : ℕ) → x % n ≡ y % n → x < y → y < x + n → �
 not_below n x y same less near =
     quotients n (x / n) (y / n) (x % n) x y (div-add-mod x n) (ap (λ (z : ℕ). n * (y / n) + z) same ∙ div-add-mod y n) less near (cases_lt (x / n) (y / n))
 
-one_place : (n tail x y : ℕ) → x % n ≡ y % n → tail ≤ x + n → tail ≤ y + n → x < tail → y < tail → x ≡ y
+pub one_place : (n tail x y : ℕ) → x % n ≡ y % n → tail ≤ x + n → tail ≤ y + n → x < tail → y < tail → x ≡ y
 one_place n tail x y same a b c d = ⊎_elim
     (λ (less : x < y). absurd (not_below n x y same less (omega arith)))
     (λ (more : y ≤ x). ⊎_elim (λ (less : y < x). absurd (not_below n y x (sym same) less (omega arith))) (λ (even : x ≤ y). omega arith) (cases_lt y x))

@@ -1,5 +1,5 @@
 -- The owner's fact holds before any event.
-use Rattle.std.proofs.Common.{◌≡◌, ℕ, zero, suc, replicate, inl, inr, List, get_or, refl, sym, ◌∙◌, arith}
+use Rattle.std.proofs.Common.{◌≡◌, ℕ, zero, suc, replicate, inl, inr, List, [], get_or, refl, sym, ◌∙◌, arith}
 use Rattle.std.proofs.lemmas.List.{length-replicate}
 use Rattle.std.specs.FinMap.{get-empty}
 use Rattle.std.specs.Ordering.{nat_cmp}
@@ -83,4 +83,5 @@ module _ (shape : Shape) (valid : IsValidShape shape) where
     epochs = λ b l. omega (arith, zeros (word_count shape) (epoch_at b));
     state = λ b l none. stands_for b;
     phase = tt;
+    met_seen = ([], refl);
   }

@@ -46,10 +46,10 @@ pub in_range_valid : (shape : Shape) → IsValidShape shape → is_in_range shap
 in_range_valid shape valid =
     let r = valid.ranges in
     let power : (is_power_of_two shape.buckets ≡ true) × (shape.buckets ≤ 65536) =
-        subst (λ (n : ℕ). (is_power_of_two n ≡ true) × (n ≤ 65536)) (sym r.buckets.2) (power_is_small r.buckets.0 r.buckets.1) in
+    subst (λ (n : ℕ). (is_power_of_two n ≡ true) × (n ≤ 65536)) (sym r.buckets.2) (power_is_small r.buckets.0 r.buckets.1) in
     both_true (both_true (both_true (both_true (both_true (both_true
-      power.0
-      (le-leb shape.buckets 65536 power.1))
+    power.0
+    (le-leb shape.buckets 65536 power.1))
     (le-leb shape.spares (spares_in shape.mode 65536) (within_spares shape.mode shape.spares r.spares.1 valid.no_spares)))
     (le-leb 256 shape.words r.words.0)) (le-leb shape.words 1048576 r.words.1))
     (le-leb 1 shape.wear r.wear.0)) (le-leb shape.wear 68719476736 r.wear.1)

@@ -2,7 +2,7 @@
 use Rattle.std.specs.Prelude.{◌≡◌, ℕ, ◌+◌, ◌*◌, ◌<◌, ◌≤◌, [], ◌∷◌, ◌++◌, length}
 use Rattle.std.specs.List.{AllByRecursion}
 use Rattle.mica_model.specs.Write.{IsWrite}
-use Rattle.mica_model.specs.History.{History, IsHistory, stamp_of}
+use Rattle.mica_model.specs.History.{History, IsHistory, IsPrefix, stamp_of}
 use Rattle.epoch_core.specs.declared.shape.Shape.{Shape}
 use Rattle.epoch_core.specs.declared.state.OwnerState.{OwnerState}
 use Rattle.epoch_core.specs.declared.state.Phase.{Phase}
@@ -37,3 +37,5 @@ pub record Kept (o : OwnerState) : Type 0 where
       → epoch_in o b + marked_in o.phase b ≡ 2 * writes_in o b + begun_in o.phase b
   pub state : (b : ℕ) → IsMain o.shape b → marked_in o.phase b ≡ 0 → StandsFor o b
   pub phase : PhaseFits o o.phase
+  -- what a seat that was met had seen begins the history
+  pub met_seen : IsPrefix o.met.seen o.history

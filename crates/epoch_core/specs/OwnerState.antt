@@ -61,7 +61,14 @@ abbrev pub marked_in : Phase → ℕ → ℕ
 marked_in (Marked c write before) b = if c == b then 1 else 0
 marked_in _ b = 0
 
--- As made, before any event: all words are 0.
+-- As made, before any event: all words are 0, and no seat was met.
 abbrev pub as_made : Shape → OwnerState
 as_made shape =
-    record { shape = shape; words = replicate (word_count shape) 0; history = []; phase = Idle }
+    record {
+      shape = shape;
+      words = replicate (word_count shape) 0;
+      history = [];
+      phase = Idle;
+      met = record { seen = []; fails = [] };
+      closed = 0;
+    }

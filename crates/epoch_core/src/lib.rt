@@ -19,5 +19,5 @@ pub use item::{holds_key, write_item};
 pub use partition::Partition;
 pub use plain::{Alone, Blank, Diary, PlainWords};
 pub use shape::{Shape, WordAt};
-pub use state::{OwnerState, Phase};
+pub use state::{Failure, Met, OwnerState, Phase};
 pub use words::OwnerWords;

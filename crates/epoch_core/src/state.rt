@@ -13,10 +13,26 @@ pub enum Phase {
     Marked(u64, Write, LinkedList<Write>),
 }
 
-/// The partition's words, the writes that they came from, and the phase.
+/// A try of a reader whose two loads of an epoch do not show that no write came between.
+pub struct Failure {
+    pub bucket: u64,
+    pub first: u64,
+    pub last: u64,
+}
+
+/// What the seat that was joined into the owner last had seen, and how its tries failed.
+pub struct Met {
+    pub seen: LinkedList<Write>,
+    pub fails: LinkedList<Failure>,
+}
+
+/// The partition's words, the writes that they came from, the phase, what was met last, and how many
+/// tries the seats that were met had closed.
 pub struct OwnerState {
     pub shape: Shape,
     pub words: LinkedList<u64>,
     pub history: LinkedList<Write>,
     pub phase: Phase,
+    pub met: Met,
+    pub closed: u64,
 }

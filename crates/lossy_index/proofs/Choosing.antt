@@ -1,7 +1,7 @@
 -- Which slot gives way, as far as the slots were looked at.
-use Rattle.std.proofs.Common.{◌≡◌, ℕ, ◌+◌, ◌<◌, ◌≤◌, Option, Some, None, sym, ◌∙◌, arith}
+use Rattle.std.proofs.Common.{◌≡◌, ℕ, ◌<◌, ◌≤◌, Option, Some, None}
 use Rattle.epoch_core.specs.declared.state.OwnerState.{OwnerState}
-use Rattle.lossy_index.specs.Slot.{offset_in, IsEmpty, IsPassed}
+use Rattle.lossy_index.specs.Slot.{offset_in, IsPassed}
 use Rattle.lossy_index.specs.Place.{IsFirst}
 
 -- the first of these slots that the log has passed, if it has passed one

@@ -15,7 +15,8 @@ pub fn find<W: OwnerWords>(words: &mut W, bucket: u32, key: &[u8]) -> Option<u32
     requires key { KeyFits key.now }
     ensures found { MatchOption result (HasNoSlot (W.owner words.old) bucket key.entry.now)
         (IsSlotOf (W.owner words.old) bucket key.entry.now) }
-    ensures same { (W.owner words.new ≡ W.owner words.old) × (W.home words.new ≡ W.home words.old) }
+    ensures same { W.owner words.new ≡ W.owner words.old }
+    ensures home { W.home words.new ≡ W.home words.old }
     ensures kept { Kept (W.owner words.new) }
 {
     let tag = tag_of(key_hash(key));

@@ -55,7 +55,8 @@ pub fn clear<W: OwnerWords>(words: &mut W, bucket: u32, slot: u32)
 fn slot_that_gives_way<W: OwnerWords>(words: &mut W, bucket: u32) -> u32
     requires { IsMain (W.owner words.old).shape bucket }
     ensures slot { GivesWay (W.owner words.old) bucket result }
-    ensures same { (W.owner words.new ≡ W.owner words.old) × (W.home words.new ≡ W.home words.old) }
+    ensures same { W.owner words.new ≡ W.owner words.old }
+    ensures home { W.home words.new ≡ W.home words.old }
 {
     let tail = tail_of(words.read(WordAt::Stamp));
     let log_words = u64::from(words.shape().words);

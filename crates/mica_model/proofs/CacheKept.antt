@@ -2,7 +2,7 @@
 use Rattle.std.proofs.Common.{◌≡◌, ℕ, ◌+◌, ◌*◌, ◌≤◌, ◌<◌, List, [], ◌∷◌, ◌++◌, length, Option, Some, None, Bool, true, false, cond, not, refl, sym, ap, ◌∙◌, subst, arith, ◌≢◌, leb, eqb, ⊎_elim}
 use Rattle.std.specs.List.{find, filter, AllByRecursion as AllOf, count_by}
 use Rattle.std.specs.Prelude.{map}
-use Rattle.std.proofs.lemmas.Bool.{true≢false, leb-true, eqb-true, eqb-false, ne_eqb, and_parts, cases_eq}
+use Rattle.std.proofs.lemmas.Bool.{not-true, true≢false, leb-true, eqb-true, eqb-false, ne_eqb, and_parts, cases_eq}
 use Rattle.std.proofs.lemmas.List.Sums.{sum_by_push}
 use Rattle.mica_words.specs.Hash.{bucket_of}
 use Rattle.mica_words.specs.Item.{KeyFits, ValueFits, item_size}
@@ -75,7 +75,7 @@ all_map_both : (P Q R : Record → Type 0) (f : Record → Record) → ((r : Rec
 all_map_both P Q R f gives [] ps qs = tt
 all_map_both P Q R f gives (r ∷ rs) ps qs = (gives r ps.0 qs.0, all_map_both P Q R f gives rs ps.1 qs.1)
 
-count_map : (p : Record → Bool) (f : Record → Record) → ((r : Record) → p (f r) ≡ p r) → (rs : List Record) → count_by p (map f rs) ≡ count_by p rs
+pub count_map : (p : Record → Bool) (f : Record → Record) → ((r : Record) → p (f r) ≡ p r) → (rs : List Record) → count_by p (map f rs) ≡ count_by p rs
 count_map p f same [] = refl
 count_map p f same (r ∷ rs) =
     found.count_cons p (f r) (map f rs) ∙ ap (λ b. cond b 1 0 + count_by p (map f rs)) (same r) ∙ ap (λ n. cond (p r) 1 0 + n) (count_map p f same rs) ∙ sym (found.count_cons p r rs)
@@ -135,12 +135,13 @@ pub record IsWritten (options : Options) (s : Cache) (write : Write) (t : Cache)
   pub least : s.stamp < t.stamp
   pub most : t.stamp ≤ s.stamp + 10616832
 
-module _ (options : Options) (s : Cache) (kept : IsKept options s) (write : Write) (is : IsWrite write) where
-  not_there : find (has_key write.key) (others write.key s.records) ≡ None
-  not_there = found.missed (has_key write.key) (others write.key s.records)
-      (found.all_weaker (λ r. not (has_key write.key r) ≡ true) (λ r. has_key write.key r ≡ false) (λ r h. elim (has_key write.key r) as (λ b. not b ≡ true → b ≡ false) [ true ↦ λ e. cc | false ↦ λ e. refl ] h)
-      (others write.key s.records) (found.all_passes (λ r. not (has_key write.key r)) s.records))
+-- the records of other keys have none of the key
+pub others_lack : (key : List ℕ) (records : List Record) → find (has_key key) (others key records) ≡ None
+others_lack key records = found.missed (has_key key) (others key records)
+    (found.all_weaker (λ r. not (has_key key r) ≡ true) (λ r. has_key key r ≡ false) (λ r h. not-true (has_key key r) h) (others key records)
+    (found.all_passes (λ r. not (has_key key r)) records))
 
+module _ (options : Options) (s : Cache) (kept : IsKept options s) (write : Write) (is : IsWrite write) where
   fewer : (bucket : ℕ) → count_by (is_in_bucket options bucket) (others write.key s.records) ≤ 15
   fewer bucket = let less = found.count_filter (is_in_bucket options bucket) (λ r. not (has_key write.key r)) s.records in let few = kept.buckets bucket in omega arith
 
@@ -154,7 +155,7 @@ module _ (options : Options) (s : Cache) (kept : IsKept options s) (write : Writ
       let count = λ (bucket : ℕ). sum_by_push (λ (r : Record). cond (is_in_bucket options bucket r) 1 0) (others write.key s.records) (new_record s write) in
       record {
         laid = subst (λ (n : ℕ). IsLaid 0 n (others write.key s.records ++ new_record s write ∷ [])) (sym (tail_past s.stamp (size_of write))) (laid.laid_push 0 (tail_of s.stamp) (others write.key s.records) (new_record s write) refl others_laid);
-        unique = laid.unique_push (others write.key s.records) (new_record s write) not_there (laid.unique_filter (λ r. not (has_key write.key r)) s.records kept.unique);
+        unique = laid.unique_push (others write.key s.records) (new_record s write) (others_lack write.key s.records) (laid.unique_filter (λ r. not (has_key write.key r)) s.records kept.unique);
         are = found.all_push IsRecord (others write.key s.records) (new_record s write) (found.all_filter IsRecord (λ r. not (has_key write.key r)) s.records kept.are)
             (record { key = is.key; key_bytes = is.key_bytes; value = value; value_bytes = is.value_bytes; size = omega arith; room = size });
         here =

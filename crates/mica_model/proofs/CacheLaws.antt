@@ -24,7 +24,7 @@ use Rattle.mica_model.specs.CacheStep.{others, new_record, kept_record, without_
 use Rattle.mica_model.specs.History.{History, State, cache_state, store_state, after, start, state_of, accepted_in}
 use Rattle.mica_model.proofs.Found as found
 use Rattle.mica_model.proofs.Laid as laid
-use Rattle.mica_model.proofs.CacheKept.{IsRecord, IsKept, KeepsPut, keeps_put, start_kept, after_kept, after_write_is, rewritten, rewritten_key, left_of, live_of, here_of, size_at_most, tail_past}
+use Rattle.mica_model.proofs.CacheKept.{others_lack, count_map, IsRecord, IsKept, KeepsPut, keeps_put, start_kept, after_kept, after_write_is, rewritten, rewritten_key, left_of, live_of, here_of, size_at_most, tail_past}
 use Rattle.mica_model.proofs.Histories.{accepted_is_length}
 use Rattle.mica_model.proofs.Rises.{after_rises}
 
@@ -150,11 +150,6 @@ module _ (options : Options) (valid : IsValid options) (s : Cache) (kept : IsKep
 
   -- a put that appends
 
-  no_other : find (has_key write.key) (others write.key s.records) ≡ None
-  no_other = found.missed (has_key write.key) (others write.key s.records)
-      (found.all_weaker (λ r. not (has_key write.key r) ≡ true) (λ r. has_key write.key r ≡ false) (λ r h. elim (has_key write.key r) as (λ b. not b ≡ true → b ≡ false) [ true ↦ λ e. cc | false ↦ λ e. refl ] h)
-      (others write.key s.records) (found.all_passes (λ r. not (has_key write.key r)) s.records))
-
   new_is : has_key write.key (new_record s write) ≡ true
   new_is = laid.has_its_key write.key (new_record s write) refl
 
@@ -202,7 +197,7 @@ module _ (options : Options) (valid : IsValid options) (s : Cache) (kept : IsKep
   appended_stays =
       let rs = filter (live_test options (put_of None)) (others write.key s.records) in
       ap (λ all. find (has_key write.key) (left_of options write all)) live_are
-      ∙ found_left rs (found.missed_filter (has_key write.key) (live_test options (put_of None)) (others write.key s.records) no_other) few_others
+      ∙ found_left rs (found.missed_filter (has_key write.key) (live_test options (put_of None)) (others write.key s.records) (others_lack write.key s.records)) few_others
 
   -- a put that is kept
 
@@ -213,11 +208,6 @@ module _ (options : Options) (valid : IsValid options) (s : Cache) (kept : IsKep
     rewritten_held : rewritten write held ≡ record held { value = write.value }
     rewritten_held = ap (λ b. cond b (record held { value = write.value }) held) (found.found_passes (has_key write.key) s.records held keeps.is)
 
-    same_count : (p : Record → Bool) (f : Record → Record) → ((r : Record) → p (f r) ≡ p r) → (rs : List Record) → count_by p (map f rs) ≡ count_by p rs
-    same_count p f same [] = refl
-    same_count p f same (r ∷ rs) =
-        found.count_cons p (f r) (map f rs) ∙ ap (λ b. cond b 1 0 + count_by p (map f rs)) (same r) ∙ ap (λ n. cond (p r) 1 0 + n) (same_count p f same rs) ∙ sym (found.count_cons p r rs)
-
     rewritten_stays : find (has_key write.key) (left_of options write (live_of options (put_of (Some held)))) ≡ Some (record held { value = write.value })
     rewritten_stays =
         let t = put_of (Some held) in
@@ -225,7 +215,7 @@ module _ (options : Options) (valid : IsValid options) (s : Cache) (kept : IsKep
         let here = laid.found_map (rewritten write) (rewritten_key write) write.key s.records held keeps.is ∙ ap Some rewritten_held in
         let passes = found.found_filter (has_key write.key) (live_test options t) t.records now_held here (le-leb (tail_of (s.stamp + 1)) (held.offset + options.words) keeps.live) in
         let fewer = found.count_filter (here_of options write) (live_test options t) t.records in
-        let same = same_count (here_of options write) (rewritten write) (λ r. ap (λ k. eqb (bucket_of k options.buckets) (bucket_of write.key options.buckets)) (rewritten_key write r)) s.records in
+        let same = count_map (here_of options write) (rewritten write) (λ r. ap (λ k. eqb (bucket_of k options.buckets) (bucket_of write.key options.buckets)) (rewritten_key write r)) s.records in
         let few = kept.buckets (bucket_of write.key options.buckets) in
         let not_full : count_by (here_of options write) live ≡ 16 → ⊥ = λ full. omega arith in
         ap (λ b. find (has_key write.key) (cond b (without_first (here_of options write) live) live)) (ne_eqb (count_by (here_of options write) live) 16 not_full) ∙ passes
@@ -249,7 +239,7 @@ module _ (options : Options) (valid : IsValid options) (s : Cache) (kept : IsKep
   put_record_of Del at = cc
 
   put_found : (o : Option Record) → kept_record options s write ≡ o → is_some (record_of (put_of o) write.key) ≡ true
-  put_found None at = ap is_some (found.found_append_none (has_key write.key) (others write.key s.records) (new_record s write ∷ []) no_other ∙ alone)
+  put_found None at = ap is_some (found.found_append_none (has_key write.key) (others write.key s.records) (new_record s write ∷ []) (others_lack write.key s.records) ∙ alone)
   put_found (Some held) at = ap is_some (laid.found_map (rewritten write) (rewritten_key write) write.key s.records held (keeps_put options s write held at).is)
 
   written_by : (op : Op) → op ≡ Put → is_some (record_of (cs.after_op op options s write) write.key) ≡ true

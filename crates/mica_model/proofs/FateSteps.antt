@@ -1,6 +1,5 @@
 -- The fates that the machine keeps, after a step.
-use Rattle.std.proofs.Common.{◌≡◌, ℕ, List, None, Bool, true, false, cond, not, ◌&&◌, refl, sym, ap, ◌∙◌, is_some, ◌≢◌}
-use Rattle.std.specs.List.{find}
+use Rattle.std.proofs.Common.{◌≡◌, ℕ, List, Bool, true, false, cond, not, ◌&&◌, refl, sym, ap, ◌∙◌, is_some, ◌≢◌}
 use Rattle.std.specs.Str.{bytes_eq}
 use Rattle.std.proofs.lemmas.Bool.{true≢false}
 use Rattle.std.proofs.lemmas.Slice.Eq.{bytes_eq-Decides}
@@ -13,13 +12,12 @@ use Rattle.mica_model.specs.declared.fate.Fate.{Fate}
 use Rattle.mica_model.specs.declared.fate.Fate.TheVariants.{Deleted, Displaced, Passed, Held}
 use Rattle.mica_model.specs.Options.{IsValid}
 use Rattle.mica_model.specs.Write.{IsWrite}
-use Rattle.mica_model.specs.Cache.{Cache, has_key}
+use Rattle.mica_model.specs.Cache.{Cache}
 use Rattle.mica_model.specs.CacheStep as cs
 use Rattle.mica_model.specs.CacheFields.{IsUnique, fate_in, fate_written, marked_passed, marked_displaced, displaced_record}
 use Rattle.mica_model.specs.Fate.{has_record, fate_after}
-use Rattle.mica_model.proofs.Found as found
 use Rattle.mica_model.proofs.Laid as laid
-use Rattle.mica_model.proofs.CacheKept.{IsKept, after_write_is}
+use Rattle.mica_model.proofs.CacheKept.{others_lack, IsKept, after_write_is}
 use Rattle.mica_model.proofs.CacheLaws.{written_same, written_held}
 use Rattle.mica_model.proofs.FateLaws.{pick, live_wrote, left_live}
 use Rattle.mica_model.proofs.FateMarks.{has, has_write, passed_fate, passed_has, displaced_fate, held_has}
@@ -52,14 +50,9 @@ module _ (options : Options) (valid : IsValid options) (s : Cache) (kept : IsKep
 
   -- of the written key
 
-  deleted_none : find (has_key write.key) (cs.others write.key s.records) ≡ None
-  deleted_none = found.missed (has_key write.key) (cs.others write.key s.records)
-      (found.all_weaker (λ r. not (has_key write.key r) ≡ true) (λ r. has_key write.key r ≡ false) (λ r h. elim (has_key write.key r) as (λ b. not b ≡ true → b ≡ false) [ true ↦ λ e. cc | false ↦ λ e. refl ] h)
-      (cs.others write.key s.records) (found.all_passes (λ r. not (has_key write.key r)) s.records))
-
   own_held : (op : Op) → op ≡ write.op → has_record (cs.after_op op options s write) write.key ≡ true → fate_written (cs.reply_of op (has_record s write.key)) n (fate_in log write.key) ≡ Held
   own_held Put at here = refl
-  own_held Del at here = absurd (true≢false (sym here ∙ ap is_some deleted_none))
+  own_held Del at here = absurd (true≢false (sym here ∙ ap is_some (others_lack write.key s.records)))
 
   own_gone : (op : Op) → op ≡ write.op → has_record (cs.after_op op options s write) write.key ≡ false
       → fate_written (cs.reply_of op (has_record s write.key)) n (fate_in log write.key) ≡ cond (has_record s write.key) (Deleted n) (fate_in log write.key)

@@ -1,5 +1,5 @@
 -- The fate `Never` comes exactly where no put of the key was accepted.
-use Rattle.std.proofs.Common.{◌≡◌, ℕ, ◌+◌, List, [], ◌∷◌, None, Bool, true, false, not, refl, sym, ap, ◌∙◌, is_some, ◌≢◌, ◌↔◌}
+use Rattle.std.proofs.Common.{◌≡◌, ℕ, ◌+◌, List, [], ◌∷◌, Bool, true, false, refl, sym, ap, ◌∙◌, is_some, ◌≢◌, ◌↔◌}
 use Rattle.std.specs.List.{find, AllByRecursion as AllOf}
 use Rattle.std.specs.Str.{bytes_eq}
 use Rattle.std.proofs.lemmas.Bool.{true≢false}
@@ -17,8 +17,7 @@ use Rattle.mica_model.specs.Cache.{Record, Cache, has_key, record_of}
 use Rattle.mica_model.specs.CacheStep as cs
 use Rattle.mica_model.specs.Fate.{has_record, fate_after, fate_from, fate_of}
 use Rattle.mica_model.specs.History.{History}
-use Rattle.mica_model.proofs.Found as found
-use Rattle.mica_model.proofs.CacheKept.{IsKept, start_kept, after_kept}
+use Rattle.mica_model.proofs.CacheKept.{others_lack, IsKept, start_kept, after_kept}
 use Rattle.mica_model.proofs.CacheLaws.{written_same, put_held}
 use Rattle.mica_model.proofs.FateLaws.{pick, live_wrote, left_live}
 
@@ -76,14 +75,9 @@ module _ (options : Options) (key : List ℕ) where
 
   -- without a put there is no record, and no fate
 
-  deleted_none : (s : Cache) → find (has_key key) (cs.others key s.records) ≡ None
-  deleted_none s = found.missed (has_key key) (cs.others key s.records)
-      (found.all_weaker (λ r. not (has_key key r) ≡ true) (λ r. has_key key r ≡ false) (λ r h. elim (has_key key r) as (λ b. not b ≡ true → b ≡ false) [ true ↦ λ e. cc | false ↦ λ e. refl ] h)
-      (cs.others key s.records) (found.all_passes (λ r. not (has_key key r)) s.records))
-
   own_none : (op : Op) (s : Cache) (write : Write) → (op ≢ Put) → write.key ≡ key → has_record (cs.after_op op options s write) key ≡ false
   own_none Put s write other same = absurd (other refl)
-  own_none Del s write other same = ap (λ (k : List ℕ). is_some (find (has_key key) (cs.others k s.records))) same ∙ ap is_some (deleted_none s)
+  own_none Del s write other same = ap (λ (k : List ℕ). is_some (find (has_key key) (cs.others k s.records))) same ∙ ap is_some (others_lack key s.records)
 
   still_none : (s : Cache) (write : Write) → IsNoPut key write → has_record s key ≡ false → has_record (cs.after_write options s write) key ≡ false
   still_none s write absent none = elim (bytes_eq write.key key) as (λ b. bytes_eq write.key key ≡ b → has_record (cs.after_write options s write) key ≡ false) [

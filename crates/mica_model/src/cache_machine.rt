@@ -151,7 +151,8 @@ fn drop_dead(
         ≡ without_displaced options.now key.now (without_passed options.now state.old) }
     ensures log { log.new.items ≡ marked_displaced (Fate.Displaced number)
         (displaced_record options.now key.now (without_passed options.now state.old).records)
-        (marked_passed (Fate.Passed number) options.now.words state.old.stamp state.old.records log.old.items) }
+        (marked_passed (Fate.Passed number) options.now.words state.old.stamp state.old.records
+        log.old.items) }
 {
     mark_passed(
         log,

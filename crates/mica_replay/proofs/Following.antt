@@ -2,7 +2,7 @@
 use Rattle.std.proofs.Common.{◌≡◌, ℕ, inl, inr, List, [], ◌∷◌, ◌++◌, Option, Some, None, refl, sym, ap, ◌∙◌, subst, cond, true, false, Bool}
 use Rattle.std.specs.List.{fold, cons_option}
 use Rattle.std.specs.Option.{option_to_list}
-use Rattle.std.specs.Prelude.{is_some, nat_le}
+use Rattle.std.specs.Prelude.{is_some}
 use Rattle.std.proofs.lemmas.Grind.{fold-append}
 use Rattle.std.proofs.lemmas.List.{append-nil}
 use Rattle.mica_model.specs.declared.options.Options.{Options}
@@ -27,7 +27,8 @@ use Rattle.mica_trace.specs.TraceGrammar.{IsValue, HasFields, IsTraceLine}
 use Rattle.mica_trace.specs.ReportGrammar.{HasOutcome, IsReportLine}
 use Rattle.mica_trace.specs.LawfulReport.{IsKindOf, step_by, Answers}
 use Rattle.mica_trace.specs.Rounds.{write_by}
-use Rattle.mica_replay.specs.Replied.{Replied, RepliedBy, IsWritten, IsRead}
+use Rattle.mica_replay.specs.Machines.{StepsAs}
+use Rattle.mica_replay.specs.Replied.{Replied, RepliedBy, IsWriteLine, IsWritten}
 use Rattle.mica_replay.proofs.InOrder.{At, gain, write_in_line, step_in_line}
 
 cache_outcome : (op : Op) (worn found : Bool) → HasOutcome op (cond worn Worn (cs.reply_of op found))
@@ -139,3 +140,29 @@ module _ (options : Options) where
   follows history old new line printed is all fields replied =
       follows_by history new line.op line.key line.value printed fields (subst (ValuesAre IsValue) (sym is) all)
       (subst (λ (o : State). Replied options o line printed new) (sym is) replied)
+
+-- what is replied by other options is replied by these, after each history, where their steps are steps of these
+pub replied_as : (options by : Options) (history : History) (old new : State) (line : TraceLine) (printed : Line) → StepsAs options by
+    → state_of options history ≡ old → Replied by old line printed new → Replied options old line printed new
+replied_as options by history old new line printed steps is replied =
+    subst (λ (o : State). Replied options o line printed new) is
+    (go line.op (write_by line.op line.key line.value) printed (subst (λ (o : State). Replied by o line printed new) (sym is) replied))
+  where
+    write_line : (write : Write) (printed : Line) → IsWriteLine by (state_of options history) write printed new → IsWriteLine options (state_of options history) write printed new
+    write_line write (Wrote op outcome s) r = record { same_op = r.same_op; step = steps history write outcome new r.step; stamped = r.stamped }
+    write_line write (Hit s value) r = r
+    write_line write (Miss s) r = r
+    write_line write SyncLine r = r
+
+    go : (op : TraceOp) (write : Option Write) (printed : Line) → RepliedBy by (state_of options history) op write line.key printed new → RepliedBy options (state_of options history) op write line.key printed new
+    go Put (Some write) printed r = write_line write printed r
+    go Del (Some write) printed r = write_line write printed r
+    go Get (Some write) printed r = write_line write printed r
+    go Sync (Some write) printed r = write_line write printed r
+    go Get None printed r = r
+    go Sync None SyncLine r = r
+    go Sync None (Wrote op outcome s) r = r
+    go Sync None (Hit s value) r = r
+    go Sync None (Miss s) r = r
+    go Put None printed r = r
+    go Del None printed r = r

@@ -1,3 +1,4 @@
 pub mod InOrder
 pub mod Following
 pub mod Running
+pub mod ShapeSteps

@@ -1,27 +1,28 @@
 -- How far a trace has run: the machine of each partition has the history of its part of the writes.
-use Rattle.std.proofs.Common.{◌≡◌, ◌≢◌, ℕ, zero, suc, ◌+◌, ◌<◌, ◌≤◌, List, [], ◌∷◌, ◌++◌, length, get_or, take, Some, refl, sym, ap, ◌∙◌, subst, arith, slice_get, slice_set, eq-eqb, ne_eqb, inl, inr, ◌⊎◌, replicate}
+use Rattle.std.proofs.Common.{◌≡◌, ◌≢◌, ℕ, zero, suc, ◌+◌, ◌≤◌, List, [], ◌∷◌, ◌++◌, length, take, Some, refl, sym, ap, ◌∙◌, subst, arith, slice_get, slice_set, eq-eqb, ne_eqb, inl, inr, ◌⊎◌, replicate, map}
 use Rattle.std.specs.List.{AllByRecursion}
 use Rattle.std.proofs.lemmas.List.{take_more, take_all, length_push, length-set, length-replicate}
 use Rattle.std.proofs.lemmas.Option.{get_or_from_slice_get, slice_get_within}
 use Rattle.mica_model.specs.declared.options.Options.{Options}
 use Rattle.mica_model.specs.declared.write.Write.{Write}
 use Rattle.mica_model.specs.Machine.{Machine, new_machine}
-use Rattle.mica_model.specs.History.{History, state_of, State}
+use Rattle.mica_model.specs.History.{History, state_of, IsStep}
 use Rattle.mica_model.proofs.Values.{ValuesAre, start_are}
 use Rattle.mica_trace.specs.declared.line.TraceOp.TheVariants.{Get}
 use Rattle.mica_trace.specs.declared.line.TraceLine.{TraceLine}
 use Rattle.mica_trace.specs.declared.report.Line.{Line}
 use Rattle.mica_trace.specs.TraceGrammar.{IsTraceLine, IsValue}
 use Rattle.mica_trace.specs.Rounds.{partition_in}
-use Rattle.mica_trace.specs.LawfulReport.{IsGetAt, Answers, history_after}
+use Rattle.mica_trace.specs.LawfulReport.{Answers, history_after}
 use Rattle.mica_trace.specs.ExactReport.{writes_before, ExactReport}
+use Rattle.mica_replay.specs.Machines.{StepsAs, IsNew, AreNew}
 use Rattle.mica_replay.specs.Replied.{Replied}
-use Rattle.mica_replay.proofs.InOrder.{InOrder, At, IsWritten, gain, part, part_gain, part_kept, push, one_to_one, runs, at_place, write_in_line}
-use Rattle.mica_replay.proofs.Following.{follows, Follows}
+use Rattle.mica_replay.proofs.InOrder.{InOrder, IsWritten, gain, part, part_gain, part_kept, push, one_to_one, runs, at_place}
+use Rattle.mica_replay.proofs.Following.{follows, Follows, replied_as}
 
 -- the machine of partition p has the state of the partition's part of the writes
 pub record IsMachineOf (options : Options) (all : List Write) (p : ℕ) (machine : Machine) : Type 0 where
-  pub options_are : machine.options ≡ options
+  pub steps : StepsAs options machine.options
   pub state_is : state_of options (part options p all) ≡ machine.state
   pub values : ValuesAre IsValue machine.state
 
@@ -48,10 +49,14 @@ exact options final trace report run = record {
       ];
 }
 
-replicated : {X : Type 0} (n : ℕ) (x y : X) (p : ℕ) → slice_get (replicate n x) p ≡ Some y → x ≡ y
-replicated zero x y p is = absurd (cc)
-replicated (suc n) x y zero is = cc
-replicated (suc n) x y (suc p) is = replicated n x y p is
+pub each_at : {X : Type 0} (P : X → Type 0) (xs : List X) (n : ℕ) (x : X) → AllByRecursion P xs → slice_get xs n ≡ Some x → P x
+each_at P [] n x all is = absurd (cc)
+each_at P (y ∷ xs) zero x all is = let same : y ≡ x = cc in subst P same all.0
+each_at P (y ∷ xs) (suc n) x all is = each_at P xs n x all.1 is
+
+each_replicated : {X : Type 0} (P : X → Type 0) (n : ℕ) (x : X) → P x → AllByRecursion P (replicate n x)
+each_replicated P zero x here = tt
+each_replicated P (suc n) x here = (here, each_replicated P n x here)
 
 -- an element of a list with one element set is the new one, or was there
 set_cases : {X : Type 0} (xs : List X) (p : ℕ) (x : X) (q : ℕ) (y : X) → slice_get (slice_set xs p x) q ≡ Some y → ((p ≡ q) × (x ≡ y)) ⊎ ((p ≢ q) × (slice_get xs q ≡ Some y))
@@ -65,14 +70,29 @@ set_cases (z ∷ xs) (suc p) x (suc q) y is =
       | inr other ↦ inr ((λ same. other.0 (omega arith)), other.1)
     ]
 
-pub begins : (options : Options) (trace : List TraceLine) (machines : List Machine) → machines ≡ replicate options.partitions (new_machine options) → IsRunning options trace machines [] 0
-begins options trace machines are = record {
+pub map_replicate : {X Y : Type 0} (f : X → Y) (n : ℕ) (x : X) → map f (replicate n x) ≡ replicate n (f x)
+map_replicate f zero x = refl
+map_replicate f (suc n) x = ap (λ ys. f x ∷ ys) (map_replicate f n x)
+
+pub new_stores : (options : Options) (machines : List Machine) → machines ≡ replicate options.partitions (new_machine options) → AreNew options machines
+new_stores options machines are = record {
+  many = ap length are ∙ length-replicate options.partitions (new_machine options);
+  each = subst (AllByRecursion (IsNew options)) (sym are)
+      (each_replicated (IsNew options) options.partitions (new_machine options) (record { steps = λ history write outcome new step. step; start = refl }));
+}
+
+pub begins : (options : Options) (trace : List TraceLine) (machines : List Machine) → AreNew options machines → IsRunning options trace machines [] 0
+begins options trace machines new = record {
   all = [];
   in_order = refl;
-  many = ap length are ∙ length-replicate options.partitions (new_machine options);
+  many = new.many;
   each = λ p machine is.
-      let same = replicated options.partitions (new_machine options) machine p (ap (λ ms. slice_get ms p) (sym are) ∙ is) in
-      subst (IsMachineOf options [] p) same (record { options_are = refl; state_is = refl; values = start_are IsValue options.mode });
+      let here = each_at (IsNew options) machines p machine new.each is in
+      record {
+        steps = here.steps;
+        state_is = sym here.start;
+        values = subst (ValuesAre IsValue) (sym here.start) (start_are IsValue options.mode);
+      };
   long = refl;
 }
 
@@ -88,14 +108,14 @@ module _ (options : Options) (trace : List TraceLine) (machines : List Machine) 
 
   next : Follows options (part options p so_far.all) line printed new.state
   next = follows options (part options p so_far.all) machine.state new.state line printed own.state_is own.values fields
-      (subst (λ o. Replied o machine.state line printed new.state) own.options_are replied)
+      (replied_as options machine.options (part options p so_far.all) machine.state new.state line printed own.steps own.state_is replied)
 
   each_after : (q : ℕ) (m : Machine) → slice_get (slice_set machines p new) q ≡ Some m → IsMachineOf options (gain so_far.all line printed) q m
   each_after q m at =
       elim (set_cases machines p new q m at) as (λ _. IsMachineOf options (gain so_far.all line printed) q m) [
         | inl same ↦
             let made : IsMachineOf options (gain so_far.all line printed) p new = record {
-              options_are = options_same ∙ own.options_are;
+              steps = subst (StepsAs options) (sym options_same) own.steps;
               state_is = ap (state_of options) (part_gain options p so_far.all line printed (eq-eqb p p refl)) ∙ next.state_is;
               values = next.values;
             } in
@@ -104,7 +124,7 @@ module _ (options : Options) (trace : List TraceLine) (machines : List Machine) 
         | inr other ↦
             let was = so_far.each q m other.1 in
             record {
-              options_are = was.options_are;
+              steps = was.steps;
               state_is = ap (state_of options) (part_kept options q so_far.all line printed (ne_eqb p q other.0)) ∙ was.state_is;
               values = was.values;
             }
@@ -129,8 +149,3 @@ pub ends : (options : Options) (trace : List TraceLine) (machines : List Machine
     → IsRunning options trace machines report n → length trace ≤ n → ExactReport options trace report
 ends options trace machines report n so_far all =
     exact options so_far.all trace report (subst (λ ls. InOrder options [] ls report so_far.all) (take_all n trace all) so_far.in_order)
-
-pub line_at : (xs : List TraceLine) (n : ℕ) (line : TraceLine) → AllByRecursion IsTraceLine xs → slice_get xs n ≡ Some line → IsTraceLine line
-line_at [] n line all is = absurd (cc)
-line_at (x ∷ xs) zero line all is = let same : x ≡ line = cc in subst IsTraceLine same all.0
-line_at (x ∷ xs) (suc n) line all is = line_at xs n line all.1 is

@@ -1,2 +1,3 @@
+pub mod Machines
 pub mod Replied
 pub mod Printed

@@ -1,6 +1,8 @@
 //! The replay of a trace: one machine for each partition, and a report that is lawful for the trace.
 #![tactic(auto)]
 
+mod machine;
+mod on_partition;
 mod printing;
 mod run;
 

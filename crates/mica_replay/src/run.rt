@@ -1,4 +1,4 @@
-ghost use Rattle.std.specs.Prelude.{◌≡◌, ◌<◌, ◌≤◌, IfOk, OnOk, replicate, vec_len};
+ghost use Rattle.std.specs.Prelude.{◌≡◌, ◌<◌, ◌≤◌, IfOk, OnOk, map, replicate, vec_len};
 ghost use Rattle.mica_words.specs.Item.{KeyFits};
 ghost use Rattle.mica_model.specs.Machine.{new_machine};
 ghost use Rattle.mica_model.specs.Options.{IsValid};
@@ -6,8 +6,10 @@ ghost use Rattle.mica_model.specs.Write.{HasValueOf, write_of};
 ghost use Rattle.mica_trace.specs.TraceGrammar.{IsTraceLine};
 ghost use Rattle.mica_trace.specs.ExactReport.{ExactReport};
 ghost use Rattle.mica_trace.specs.LawfulReport.{LawfulReport};
+ghost use Rattle.mica_replay.specs.Machines.{AreNew};
 ghost use Rattle.mica_replay.specs.Replied.{IsWriteLine, IsReadLine, Replied};
 
+use crate::machine::Machine;
 use mica_io::{Bytes, NoMemory};
 use mica_model::{Answer, ItemBuf, Mode, Op, Options, StoreMachine};
 use mica_trace::{Line, Report, Trace, TraceLine, TraceOp};
@@ -27,30 +29,32 @@ fn new_machines(alloc: Global, options: &Options) -> Result<Vec<StoreMachine>, N
     Ok(machines)
 }
 
-fn write(
+fn write<M: Machine>(
     alloc: Global,
-    machine: &mut StoreMachine,
+    machine: &mut M,
     op: Op,
     line: &TraceLine,
 ) -> Result<Line, NoMemory>
     requires key { KeyFits line.now.key }
     requires value { HasValueOf op line.now.value }
-    ensures written { IfOk result (λ printed. IsWriteLine machine.old.options machine.old.state
-        (write_of op line.now.key line.now.value) printed machine.new.state) }
-    ensures options { machine.new.options ≡ machine.old.options }
+    ensures written { IfOk result (λ printed. IsWriteLine (M.options machine.old) (M.state machine.old)
+        (write_of op line.now.key line.now.value) printed (M.state machine.new)) }
+    ensures options { M.options machine.new ≡ M.options machine.old }
 {
-    let outcome = machine.apply(alloc, op, line.key.bytes(), line.value.bytes())?;
+    let outcome = machine.step(alloc, op, line.key.bytes(), line.value.bytes())?;
     let stamp = machine.stamp();
     Ok(Line::Wrote { op, outcome, stamp })
 }
 
-fn read(
+fn read<M: Machine>(
     alloc: Global,
-    machine: &StoreMachine,
+    machine: &mut M,
     key: &[u8],
     out: &mut ItemBuf,
 ) -> Result<Line, NoMemory>
-    ensures { IfOk result (λ printed. IsReadLine machine.now.state key.now printed machine.now.state) }
+    requires { KeyFits key.now }
+    ensures read { IfOk result (λ printed. IsReadLine (M.state machine.old) key.now printed (M.state machine.new)) }
+    ensures options { M.options machine.new ≡ M.options machine.old }
 {
     let stamp = machine.stamp();
     match machine.answer(key, out) {
@@ -63,15 +67,16 @@ fn read(
 }
 
 // What the machine replies to a line.
-fn reply_to(
+fn reply_to<M: Machine>(
     alloc: Global,
-    machine: &mut StoreMachine,
+    machine: &mut M,
     line: &TraceLine,
     out: &mut ItemBuf,
 ) -> Result<Line, NoMemory>
     requires { IsTraceLine line.now }
-    ensures replied { IfOk result (λ printed. Replied machine.old.options machine.old.state line.now printed machine.new.state) }
-    ensures options { machine.new.options ≡ machine.old.options }
+    ensures replied { IfOk result (λ printed. Replied (M.options machine.old) (M.state machine.old)
+        line.now printed (M.state machine.new)) }
+    ensures options { M.options machine.new ≡ M.options machine.old }
 {
     match line.op {
         TraceOp::Put => write(alloc, machine, Op::Put, line),
@@ -82,12 +87,16 @@ fn reply_to(
 }
 
 // Answers each get at its place.
-fn run_in_order(alloc: Global, options: &Options, trace: &Trace) -> Result<Report, NoMemory>
+fn run_in_order<M: Machine>(
+    alloc: Global,
+    options: &Options,
+    mut machines: Vec<M>,
+    trace: &Trace,
+) -> Result<Report, NoMemory>
     requires valid { IsValid options.now }
-    requires mode { options.now.mode ≡ Mode.Store }
+    requires machines { AreNew options.now (map (λ m. record { options = M.options m; state = M.state m }) machines.items) }
     ensures { IfOk result (ExactReport options.now trace.now) }
 {
-    let mut machines = new_machines(alloc, options)?;
     let mut out = ItemBuf::new(alloc)?;
     let mut report = Report::with_capacity(alloc, trace.len())?;
     for line in trace.lines() {
@@ -104,6 +113,7 @@ pub fn run_trace(alloc: Global, options: &Options, trace: &Trace) -> Result<Repo
     requires mode { options.now.mode ≡ Mode.Store }
     ensures { IfOk result (LawfulReport options.now trace.now) }
 {
-    let report = run_in_order(alloc, options, trace)?;
+    let machines = new_machines(alloc, options)?;
+    let report = run_in_order(alloc, options, machines, trace)?;
     Ok(report)
 }

@@ -1,4 +1,4 @@
-use Rattle.std.proofs.Common.{◌≡◌, sym, subst}
+use Rattle.std.proofs.Common.{sym, subst}
 use Rattle.epoch_core.specs.declared.state.OwnerState.{OwnerState}
 use Rattle.circular_log.specs.LogWrite.{MayAppend}
 use Rattle.circular_log.proofs.MarkedPut.{can_append}

@@ -1,9 +1,9 @@
-use Rattle.std.proofs.Common.{◌≡◌, ℕ, ◌+◌, ◌*◌, ◌≤◌, refl, sym, ap, ◌∙◌, subst, arith, length, take}
+use Rattle.std.proofs.Common.{◌≡◌, ◌+◌, ◌*◌, ◌≤◌, refl, ap, ◌∙◌, arith, length}
 use Rattle.std.specs.Int.{w64, to_le_bytes}
 use Rattle.epoch_core.specs.declared.state.OwnerState.{OwnerState}
 use Rattle.epoch_core.specs.OwnerState.{item_in}
 use Rattle.mica_words.specs.Item.{words_for}
-use Rattle.circular_log.proofs.LoadedValue.{bytes_from, bytes_more, length-eight, key_len_is, value_len_is, value_is}
+use Rattle.circular_log.proofs.LoadedValue.{bytes_more, length-eight, key_len_is, value_len_is, value_is}
 use Rattle.circular_log.proofs.items.item_at.Goals as goal
 
 pub loop-i-init : goal.loop-i-init

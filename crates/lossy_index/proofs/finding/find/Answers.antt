@@ -1,4 +1,4 @@
-use Rattle.std.proofs.Common.{rules, ◌≡◌, ◌≢◌, ◌∙◌, sym, subst, below_more}
+use Rattle.std.proofs.Common.{rules, ◌∙◌, sym, subst, below_more}
 use Rattle.std.proofs.lemmas.Bool.{true≢false}
 use Rattle.epoch_core.specs.declared.state.OwnerState.{OwnerState}
 use Rattle.lossy_index.specs.Slot.{IsSlotOf}

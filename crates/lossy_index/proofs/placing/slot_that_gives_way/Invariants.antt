@@ -1,5 +1,5 @@
-use Rattle.std.proofs.Common.{◌≡◌, ℕ, ◌<◌, ◌≤◌}
-use Rattle.lossy_index.specs.Slot.{offset_in, IsEmpty}
+use Rattle.std.proofs.Common.{◌≡◌, ℕ, ◌<◌}
+use Rattle.lossy_index.specs.Slot.{IsEmpty}
 use Rattle.lossy_index.proofs.Choosing.{IsFirstPassed, HasLeast}
 use Rattle.lossy_index.proofs.placing.slot_that_gives_way.Given as goal
 

@@ -37,7 +37,7 @@ returns-in-Ok-Replay-clause-complete g c =
     let read_failed = Rose (g.S.Source.faults c.args.source.now) (g.S.Source.faults c.replay_source.new.source) in
     let write_failed = Rose (g.K.Sink.faults c.args.sink.now) (g.K.Sink.faults c.replay_source.new.sink) in
     let ends = at_replay options_of (λ command options. Ends (Some (Replay options)) left read_failed write_failed result before after → Ends (Some command) left read_failed write_failed result before after) (λ options is. is)
-        c.in-Ok-Replay.field-0 c.replay_source.ensures.ended in
+    c.in-Ok-Replay.field-0 c.replay_source.ensures.ended in
     complete read_failed write_failed _ left before after result
     (subst (λ command. Ends command left read_failed write_failed result before after) (sym c.in-Ok-Replay.ensures.command) ends)
 

@@ -1,5 +1,7 @@
+use Rattle.std.proofs.Common.{map}
 use Rattle.mica_replay.proofs.Running.{IsRunning}
 use Rattle.mica_replay.proofs.run.run_in_order.Given as goal
 
 abbrev pub invariant-loop-line : goal.invariant-loop-line
-invariant-loop-line l = IsRunning l.options l.trace l.machines.items l.report l.line-index
+invariant-loop-line g l =
+    IsRunning l.options l.trace (map (λ m. record { options = g.M.Machine.options m; state = g.M.Machine.state m }) l.machines.items) l.report l.line-index

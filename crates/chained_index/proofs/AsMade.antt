@@ -1,0 +1,62 @@
+-- The index of words as made.
+use Rattle.std.proofs.Common.{◌≡◌, ℕ, zero, suc, ◌+◌, ◌-◌, ◌<◌, ◌≤◌, ◌≢◌, inl, inr, List, length, get_or, replicate, refl, sym, ap, ◌∙◌, arith}
+use Rattle.std.proofs.lemmas.Bool.{cases_lt}
+use Rattle.std.proofs.lemmas.List.{get_or-replicate, get_or_past, get_or_default, length-replicate}
+use Rattle.epoch_core.specs.declared.shape.Shape.{Shape}
+use Rattle.epoch_core.specs.declared.state.OwnerState.{OwnerState}
+use Rattle.epoch_core.specs.Shape.{IsMain}
+use Rattle.epoch_core.specs.Layout.{entry_at, link_at, word_count}
+use Rattle.epoch_core.specs.OwnerState.{entry_in, link_in, as_made}
+use Rattle.epoch_core.specs.Chain.{InChain, IsFreeSpare}
+use Rattle.chained_index.specs.Index.{IsIndexOf}
+
+all_zero : (n i : ℕ) → get_or {A = ℕ} (replicate n 0) i 0 ≡ 0
+all_zero n i = elim (cases_lt i n) [
+  | inl less ↦ get_or-replicate n i 0 0 less
+  | inr more ↦ get_or_past (replicate n 0) i 0 (omega (arith, length-replicate {A = ℕ} n 0))
+]
+
+module _ (shape : Shape) where
+  abbrev o : OwnerState
+  o = as_made shape
+
+  no_link : (c : ℕ) → link_in o c ≡ 0
+  no_link c = all_zero (word_count shape) (link_at shape c)
+
+  no_entry : (c slot : ℕ) → entry_in o c slot ≡ 0
+  no_entry c slot = all_zero (word_count shape) (entry_at shape c slot)
+
+  alone : (b c : ℕ) → InChain o b c → b ≡ c
+  alone b c (inl is) = is
+  alone b c (inr h) = absurd (h.0 (no_link b))
+
+  -- all spares, in order, are the free ones
+  module _ (free : List ℕ) (size : length free ≡ shape.spares) (at : (k : ℕ) → k < shape.spares → get_or free k 0 ≡ shape.buckets + k) where
+    read : (k d : ℕ) → k < shape.spares → get_or free k d ≡ shape.buckets + k
+    read k d less = get_or_default free k d 0 (omega arith) ∙ at k less
+
+    pub index_as_made : IsIndexOf (record { shape = shape; free = free }) o
+    index_as_made = record {
+      shape = refl;
+      dense = λ b main. record {
+        full = λ c slot h linked low none. linked (no_link c);
+        in_order = λ c slot later h less low some none. some (no_entry c later);
+        some = λ c h other none. other (sym (alone b c h));
+      };
+      free = λ c. (
+        λ has.
+            let below : has.0 < shape.spares = omega (arith, has.1) in
+            let is = read has.0 c below in
+            record {
+              spare = (omega (arith, has.2), omega (arith, has.2));
+              free = λ b main h. let same = alone b c h in omega (arith, has.2);
+            },
+        λ f.
+            let low = f.spare.0 in
+            let high = f.spare.1 in
+            let below : c - shape.buckets < shape.spares = omega arith in
+            (c - shape.buckets, omega arith, read (c - shape.buckets) c below ∙ omega arith),
+      );
+      once = λ i j d less within same. let one = read i d (omega arith) in let two = read j d (omega arith) in omega arith;
+      blank = λ c f. record { no_link = no_link c; no_entry = λ slot low. no_entry c slot };
+    }

@@ -1,0 +1,15 @@
+mod Chained
+mod Walk
+mod ChainLists
+mod Effects
+mod Frames
+mod Pushes
+mod Entered
+mod Linked
+mod Walking
+mod Full
+mod FreeList
+mod Calls
+mod Counted
+mod Finding
+mod AsMade

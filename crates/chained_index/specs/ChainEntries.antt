@@ -1,0 +1,51 @@
+-- The entries of a chain, as a list.
+use Rattle.std.specs.Prelude.{◌≡◌, ◌≢◌, ℕ, zero, suc, ◌+◌, ◌*◌, ◌<◌, ◌==◌, nat_lt, List, [], ◌∷◌, if◌then◌else◌, filter, flat_map, slice_range}
+use Rattle.std.specs.List.{position_or_len}
+use Rattle.mica_words.specs.Hash.{tag_of}
+use Rattle.mica_words.specs.Entry.{entry_tag, entry_offset}
+use Rattle.epoch_core.specs.declared.state.OwnerState.{OwnerState}
+use Rattle.epoch_core.specs.Layout.{entry_at}
+use Rattle.epoch_core.specs.OwnerState.{entry_in, link_in}
+use Rattle.epoch_core.specs.Chain.{InChain}
+use Rattle.epoch_core.specs.ItemAt.{HasKey}
+use Rattle.chained_index.specs.declared.index.Spot.{Spot}
+
+-- the first n buckets from b on, each of which the link before it names
+unfoldable pub buckets_from : OwnerState → ℕ → ℕ → List ℕ
+buckets_from o zero b = []
+buckets_from o (suc n) b = b ∷ (if link_in o b == 0 then [] else buckets_from o n (link_in o b))
+
+-- the buckets of a chain, its main bucket first
+unfoldable pub buckets_of : OwnerState → ℕ → List ℕ
+buckets_of o b = buckets_from o (suc o.shape.spares) b
+
+-- the entries of one bucket, in the order of its slots
+unfoldable pub entries_in : OwnerState → ℕ → List ℕ
+entries_in o c = filter (nat_lt 0) (slice_range o.words (entry_at o.shape c 0) (entry_at o.shape c 15))
+
+-- the entries of a chain, bucket by bucket
+unfoldable pub entries_of : OwnerState → ℕ → List ℕ
+entries_of o b = flat_map (entries_in o) (buckets_of o b)
+
+abbrev pub spot_entry : OwnerState → Spot → ℕ
+spot_entry o spot = entry_in o spot.bucket spot.slot
+
+-- the spot is a used slot in the chain of bucket b
+pub record IsUsed (o : OwnerState) (b : ℕ) (spot : Spot) : Type 0 where
+  pub in_chain : InChain o b spot.bucket
+  pub in_bucket : spot.slot < 15
+  pub used : spot_entry o spot ≢ 0
+
+-- where a spot's entry stands in the list, since every bucket before it is full
+unfoldable pub number_of : OwnerState → ℕ → Spot → ℕ
+number_of o b spot = 15 * position_or_len (λ c. c == spot.bucket) (buckets_of o b) + spot.slot
+
+-- The spot has an entry of the key's tag, whose item has the key.
+pub record IsSpotOf (o : OwnerState) (b : ℕ) (key : List ℕ) (spot : Spot) : Type 0 where
+  pub used : IsUsed o b spot
+  pub tag : entry_tag (spot_entry o spot) ≡ tag_of key
+  pub item : HasKey o (entry_offset (spot_entry o spot)) key
+
+-- no spot is the key's
+abbrev pub HasNoSpot : OwnerState → ℕ → List ℕ → Type 0
+HasNoSpot o b key = (spot : Spot) → ¬ (IsSpotOf o b key spot)

@@ -1,0 +1,4 @@
+pub mod ChainEntries
+pub mod ChainShape
+pub mod ChainChange
+pub mod Index

@@ -1,0 +1,241 @@
+//! The chained index, after the MICA paper's store mode.
+ghost use Rattle.std.specs.Prelude.{◌≡◌, ◌≢◌, ℕ, suc, ◌+◌, ◌-◌, ◌*◌, ◌<◌, ◌≤◌, ◌^◌, ◌↔◌, ◌++◌, ◌∷◌, [], IsTrue, IsFalse, IfOk, MatchOption, slice_set, swap_remove};
+ghost use Rattle.mica_words.specs.Entry.{entry_of, entry_tag as entry_tag_of, entry_offset as entry_offset_of};
+ghost use Rattle.mica_words.specs.Item.{KeyFits};
+ghost use Rattle.epoch_core.specs.Shape.{IsValidShape, IsMain, IsBucket};
+ghost use Rattle.epoch_core.specs.OwnerState.{as_made, entry_in, marked_in};
+ghost use Rattle.epoch_core.specs.Events.{WhenMarked};
+ghost use Rattle.epoch_core.specs.ItemAt.{HasKey};
+ghost use Rattle.epoch_core.specs.Kept.{Kept};
+ghost use Rattle.chained_index.specs.ChainEntries.{entries_of, number_of, IsUsed, IsSpotOf, HasNoSpot};
+ghost use Rattle.chained_index.specs.ChainChange.{ChangesChain};
+ghost use Rattle.chained_index.specs.ChainShape.{bucket_at, HasChainShape, EndsAt};
+ghost use Rattle.chained_index.specs.Index.{IsIndexOf, LacksPlace};
+
+use epoch_core::{OwnerWords, Shape, WordAt, holds_key};
+use mica_io::NoMemory;
+use mica_words::{entry_of, entry_offset, entry_tag, key_hash, tag_of};
+use std::alloc::Global;
+use std::marker::Model;
+
+/// How many entries a bucket has.
+const SLOTS: u32 = 15;
+
+/// Where an entry stands.
+#[derive(Clone, Copy, Debug, PartialEq, Eq)]
+pub struct Spot {
+    pub bucket: u32,
+    pub slot: u32,
+}
+
+/// Which spare buckets are free. The chains themselves stand in the words.
+#[derive(Drop)]
+pub struct ChainedIndex {
+    shape: Shape,
+    free: Vec<u32>,
+}
+
+impl Model for ChainedIndex {
+    ghost use Rattle.std.specs.Prelude.{◌≤◌, vec_capacity};
+    ghost use Rattle.chained_index.specs.Index.{Index};
+
+    ghost Value = { Index };
+
+    ghost view = { λ i. record { shape = i.shape; free = i.free.items } };
+
+    ghost invariant = { λ i. i.shape.spares ≤ vec_capacity i.free };
+}
+
+// Where a chain ends: its last bucket, the bucket before that, and how many slots of the last one are used.
+#[derive(Clone, Copy)]
+struct ChainEnd {
+    before: u32,
+    bucket: u32,
+    used: u32,
+}
+
+impl ChainedIndex {
+    /// The index of words as made: all spare buckets are free.
+    pub fn new(alloc: Global, shape: &Shape) -> Result<ChainedIndex, NoMemory>
+        requires { IsValidShape shape.now }
+        ensures { IfOk result (λ index. IsIndexOf index (as_made shape.now)) }
+    {
+        let mut free = Vec::with_capacity(alloc, shape.spares as usize)?;
+        for spare in 0..shape.spares {
+            free.push_reserved(shape.buckets + spare);
+        }
+        Ok(ChainedIndex {
+            shape: *shape,
+            free,
+        })
+    }
+
+    /// Looks behind the entries of the key's tag alone.
+    pub fn find<W: OwnerWords>(&self, words: &mut W, bucket: u32, key: &[u8]) -> Option<Spot>
+        requires index { IsIndexOf self.now (W.owner words.old) }
+        requires bucket { IsMain (W.owner words.old).shape bucket }
+        requires key { KeyFits key.now }
+        ensures found { MatchOption result (HasNoSpot (W.owner words.old) bucket key.entry.now)
+            (IsSpotOf (W.owner words.old) bucket key.entry.now) }
+        ensures same { (W.owner words.new ≡ W.owner words.old) × (W.home words.new ≡ W.home words.old) }
+        ensures kept { Kept (W.owner words.new) }
+    {
+        let tag = tag_of(key_hash(key));
+        let mut at = bucket;
+        for link in 0..=self.shape.spares {
+            for slot in 0..SLOTS {
+                let entry = words.read(WordAt::Entry(at, slot));
+                if entry == 0 {
+                    return None;
+                }
+                if names_key(words, entry, tag, key) {
+                    return Some(Spot { bucket: at, slot });
+                }
+            }
+            let next = words.read(WordAt::Link(at)) as u32;
+            if next == 0 {
+                return None;
+            }
+            at = next;
+        }
+        None
+    }
+
+    /// Whether a further entry has a place in the chain.
+    pub fn has_place<W: OwnerWords>(&self, words: &mut W, bucket: u32) -> bool
+        requires index { IsIndexOf self.now (W.owner words.old) }
+        requires bucket { IsMain (W.owner words.old).shape bucket }
+        ensures place { IsFalse result ↔ LacksPlace self.now (W.owner words.old) bucket }
+        ensures same { (W.owner words.new ≡ W.owner words.old) × (W.home words.new ≡ W.home words.old) }
+    {
+        !self.free.is_empty() || self.end_of(words, bucket).used < SLOTS
+    }
+
+    /// Adds an entry after the chain's last.
+    pub fn place<W: OwnerWords>(&mut self, words: &mut W, bucket: u32, tag: u16, offset: u64)
+        requires index { IsIndexOf self.old (W.owner words.old) }
+        requires marked { marked_in (W.owner words.old).phase bucket ≡ 1 }
+        requires bucket { IsMain (W.owner words.old).shape bucket }
+        requires place { ¬ (LacksPlace self.old (W.owner words.old) bucket) }
+        requires tag { 1 ≤ tag }
+        requires offset { offset < 2 ^ 48 }
+        ensures entries { ChangesChain (W.owner words.old) (W.owner words.new) bucket
+            (entries_of (W.owner words.old) bucket ++ entry_of tag offset ∷ []) }
+        ensures index { IsIndexOf self.new (W.owner words.new) }
+        ensures kept { Kept (W.owner words.new) }
+        ensures home { W.home words.new ≡ W.home words.old }
+    {
+        let entry = entry_of(tag, offset);
+        let end = self.end_of(words, bucket);
+        if end.used < SLOTS {
+            words.put_entry(end.bucket, end.used, entry);
+        } else if let Some(next) = self.free.pop() {
+            words.put_entry(next, 0, entry);
+            words.put_link(end.bucket, next);
+        }
+    }
+
+    /// Changes the entry of a spot in the chain of the bucket whose write is marked.
+    pub fn replace<W: OwnerWords>(&mut self, words: &mut W, spot: Spot, tag: u16, offset: u64)
+        requires index { IsIndexOf self.old (W.owner words.old) }
+        requires spot { WhenMarked (W.owner words.old).phase (λ b write before. IsUsed (W.owner words.old) b spot) }
+        requires tag { 1 ≤ tag }
+        requires offset { offset < 2 ^ 48 }
+        ensures entries { WhenMarked (W.owner words.old).phase (λ b write before.
+            ChangesChain (W.owner words.old) (W.owner words.new) b
+            (slice_set (entries_of (W.owner words.old) b) (number_of (W.owner words.old) b spot) (entry_of tag offset))) }
+        ensures index { (self.new ≡ self.old) × IsIndexOf self.new (W.owner words.new) }
+        ensures kept { Kept (W.owner words.new) }
+        ensures home { W.home words.new ≡ W.home words.old }
+    {
+        words.put_entry(spot.bucket, spot.slot, entry_of(tag, offset));
+    }
+
+    /// Moves the chain's last entry into the spot, and releases a spare bucket that becomes empty.
+    pub fn remove<W: OwnerWords>(&mut self, words: &mut W, bucket: u32, spot: Spot)
+        requires index { IsIndexOf self.old (W.owner words.old) }
+        requires marked { marked_in (W.owner words.old).phase bucket ≡ 1 }
+        requires bucket { IsMain (W.owner words.old).shape bucket }
+        requires spot { IsUsed (W.owner words.old) bucket spot }
+        ensures entries { ChangesChain (W.owner words.old) (W.owner words.new) bucket
+            (swap_remove (entries_of (W.owner words.old) bucket) (number_of (W.owner words.old) bucket spot) 0) }
+        ensures index { IsIndexOf self.new (W.owner words.new) }
+        ensures kept { Kept (W.owner words.new) }
+        ensures home { W.home words.new ≡ W.home words.old }
+    {
+        let end = self.end_of(words, bucket);
+        let last = end.used - 1;
+        let entry = words.read(WordAt::Entry(end.bucket, last));
+        words.put_entry(spot.bucket, spot.slot, entry);
+        words.put_entry(end.bucket, last, 0);
+        if last == 0 && end.bucket != bucket {
+            words.put_link(end.before, 0);
+            self.free.push_reserved(end.bucket);
+        }
+    }
+
+    // The end of a bucket's chain. The bucket before a main one is itself.
+    fn end_of<W: OwnerWords>(&self, words: &mut W, bucket: u32) -> ChainEnd
+        requires index { IsIndexOf self.now (W.owner words.old) }
+        requires bucket { IsMain (W.owner words.old).shape bucket }
+        ensures end { (links : ℕ) × EndsAt (W.owner words.old) bucket links result }
+        ensures same { (W.owner words.new ≡ W.owner words.old) × (W.home words.new ≡ W.home words.old) }
+        ensures kept { Kept (W.owner words.new) }
+    {
+        let (before, last) = self.last_two(words, bucket);
+        ChainEnd {
+            before,
+            bucket: last,
+            used: used_slots(words, last),
+        }
+    }
+
+    // The last bucket of a chain, after the one before it.
+    fn last_two<W: OwnerWords>(&self, words: &mut W, bucket: u32) -> (u32, u32)
+        requires index { IsIndexOf self.now (W.owner words.old) }
+        requires bucket { IsMain (W.owner words.old).shape bucket }
+        ensures last { (links used : ℕ) → HasChainShape (W.owner words.old) bucket links used
+            → (bucket_at (W.owner words.old) links bucket ≡ result.1)
+            × ((k : ℕ) → suc k ≡ links → bucket_at (W.owner words.old) k bucket ≡ result.0) }
+        ensures inside { IsBucket (W.owner words.old).shape result.1 }
+        ensures same { (W.owner words.new ≡ W.owner words.old) × (W.home words.new ≡ W.home words.old) }
+    {
+        let mut before = bucket;
+        let mut at = bucket;
+        for link in 0..self.shape.spares {
+            let next = words.read(WordAt::Link(at)) as u32;
+            if next == 0 {
+                return (before, at);
+            }
+            before = at;
+            at = next;
+        }
+        (before, at)
+    }
+}
+
+// Whether the entry has the tag, and its item the key.
+fn names_key<W: OwnerWords>(words: &mut W, entry: u64, tag: u16, key: &[u8]) -> bool
+    requires { KeyFits key.now }
+    ensures names { IsTrue result
+        ↔ ((entry_tag_of entry ≡ tag) × HasKey (W.owner words.old) (entry_offset_of entry) key.entry.now) }
+    ensures same { (W.owner words.new ≡ W.owner words.old) × (W.home words.new ≡ W.home words.old) }
+{
+    entry_tag(entry) == tag && holds_key(words, entry_offset(entry), key)
+}
+
+// How many slots of the bucket are used before the first empty one.
+fn used_slots<W: OwnerWords>(words: &mut W, bucket: u32) -> u32
+    requires { IsBucket (W.owner words.old).shape bucket }
+    ensures used { (result ≤ 15) × ((slot : ℕ) → slot < result → entry_in (W.owner words.old) bucket slot ≢ 0)
+        × (result < 15 → entry_in (W.owner words.old) bucket result ≡ 0) }
+    ensures same { (W.owner words.new ≡ W.owner words.old) × (W.home words.new ≡ W.home words.old) }
+    ensures kept { Kept (W.owner words.new) }
+{
+    for slot in 0..SLOTS {
+        if words.read(WordAt::Entry(bucket, slot)) == 0 {
+            return slot;
+        }
+    }
+    SLOTS
+}

@@ -1,0 +1,28 @@
+//! The tests of the project. They call what the crates below make public, with inputs whose answers were found by
+//! hand or by another program.
+#![tactic(auto)]
+
+#[cfg(test)]
+mod adapters;
+#[cfg(test)]
+mod cache_machine;
+#[cfg(test)]
+mod faults;
+#[cfg(test)]
+mod heap;
+#[cfg(test)]
+mod packets;
+#[cfg(test)]
+mod refused_traces;
+#[cfg(test)]
+mod refused_words;
+#[cfg(test)]
+mod runs;
+#[cfg(test)]
+mod statuses;
+#[cfg(test)]
+mod store_machine;
+#[cfg(test)]
+mod store_replays;
+#[cfg(test)]
+mod words;
