@@ -383,11 +383,14 @@ item_gained o s w is b n p room here =
     let least = s.shape.ranges.words.0 in
     effects.put_same o s.wide (some_words o s) b (subst (IsMain o.shape) (sym here) (key_main o s w.key)) w n p (item_words room w.key w.value) (omega arith)
 
-pub gains : (o q new : OwnerState) (w : Write) (b : ℕ) → o.phase ≡ Idle → q.shape ≡ o.shape → q.history ≡ o.history ++ w ∷ [] → new ≡ after (Ends b) q → Gains o new w
-gains o q new w b idle shape history is =
-    let ended : after (Ends b) q ≡ record o { words = (after (Ends b) q).words; history = o.history ++ w ∷ [] } =
-    (λ j. record { shape = shape j; words = (after (Ends b) q).words; history = history j; phase = sym idle j }) in
-    is ∙ (ended ∙ ap (λ (z : OwnerState). record o { words = z.words; history = o.history ++ w ∷ [] }) (sym is))
+pub gains : (o q new : OwnerState) (w : Write) (b : ℕ) (words : List ℕ) (phase : Phase) → o.phase ≡ Idle
+    → q ≡ changed o words (o.history ++ w ∷ []) phase → new ≡ after (Ends b) q → Gains o new w
+gains o q new w b words phase idle gained is =
+    let ended : List ℕ = (after (Ends b) (changed o words (o.history ++ w ∷ []) phase)).words in
+    let whole : new ≡ after (Ends b) (changed o words (o.history ++ w ∷ []) phase) = is ∙ ap (after (Ends b)) gained in
+    let between : after (Ends b) (changed o words (o.history ++ w ∷ []) phase) ≡ record o { words = ended; history = o.history ++ w ∷ [] } =
+    (λ j. record o { words = ended; history = o.history ++ w ∷ []; phase = sym idle j }) in
+    whole ∙ (between ∙ ap (λ (z : OwnerState). record o { words = z.words; history = o.history ++ w ∷ [] }) (sym whole))
 
 -- the stamp stays far below the limit of a word
 pub stamp_limit : (o : OwnerState) → Kept o → stamp_in o < 2 ^ 60

@@ -6,5 +6,5 @@ pub returns-clause-sought : goal.returns-clause-sought
 returns-clause-sought g c = record {
   bucket = c.bucket_of_key-bucket.ensures.bucket;
   found = c.find-slot.ensures.found;
-  stamp = c.read-stamp.ensures.value ∙ ap stamp_in c.find-slot.ensures.same.0;
+  stamp = c.read-stamp.ensures.value ∙ ap stamp_in c.find-slot.ensures.same;
 }

@@ -88,8 +88,7 @@ returns-clause-gains g c =
     let event = c.append.ensures.item ∙ ap (λ (z : OwnerState). with_item z c.tail_of-tail.result (item_size c.args.key.now c.args.value.now) c.args.key.now c.args.value.now) c.begin.ensures.marked in
     let gained = event ∙ item_gained o c.requires.kept (write_of Put c.args.key.now c.args.value.now) is c.args.sought.now.bucket (c.args.sought.now.stamp + 65536 * c.from.result) c.tail_of-tail.result (item_size c.args.key.now c.args.value.now) c.requires.sought.bucket in
     let placed = c.place.ensures.entry ∙ ap (after (PutsEntry c.args.sought.now.bucket c.place.result (entry_of c.tag_of.result c.tail_of-tail.result))) gained in
-    gains o (owner c.place.new.words) (owner c.end_write.new.self) (write_of Put c.args.key.now c.args.value.now) c.args.sought.now.bucket c.requires.may.idle
-    (ap (λ (z : OwnerState). z.shape) placed) (ap (λ (z : OwnerState). z.history) placed) c.end_write.ensures.event
+    gains o (owner c.place.new.words) (owner c.end_write.new.self) (write_of Put c.args.key.now c.args.value.now) c.args.sought.now.bucket _ _ c.requires.may.idle placed c.end_write.ensures.event
 
 pub returns-clause-stamp : goal.returns-clause-stamp
 returns-clause-stamp g c =

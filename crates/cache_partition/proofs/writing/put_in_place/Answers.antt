@@ -52,8 +52,7 @@ returns-clause-gains g c =
     let is = put_is c.args.key.now c.args.value.now c.requires.key (λ k. omega (arith, c.type_inv.key k)) c.requires.value (λ k. omega (arith, c.type_inv.value k)) in
     let event = c.rewrite.ensures.item ∙ ap (λ (z : OwnerState). with_item z c.args.offset (room_at z c.args.offset) c.args.key.now c.args.value.now) c.begin.ensures.marked in
     let gained = event ∙ item_gained o c.requires.kept (write_of Put c.args.key.now c.args.value.now) is c.args.sought.now.bucket (c.args.sought.now.stamp + 1) c.args.offset _ c.requires.sought.bucket in
-    gains o (owner c.rewrite.new.words) (owner c.end_write.new.self) (write_of Put c.args.key.now c.args.value.now) c.args.sought.now.bucket c.requires.may.idle
-    (ap (λ (z : OwnerState). z.shape) gained) (ap (λ (z : OwnerState). z.history) gained) c.end_write.ensures.event
+    gains o (owner c.rewrite.new.words) (owner c.end_write.new.self) (write_of Put c.args.key.now c.args.value.now) c.args.sought.now.bucket _ _ c.requires.may.idle gained c.end_write.ensures.event
 
 pub returns-clause-stamp : goal.returns-clause-stamp
 returns-clause-stamp g c =
