@@ -9,6 +9,8 @@ ghost use Rattle.mica_model.specs.Answer.{IsAnswer};
 ghost use Rattle.mica_model.specs.History.{State, IsStep, stamp_in, value_in};
 ghost use Rattle.mica_model.specs.Write.{HasValueOf, write_of};
 
+use cache_partition::CachePartition;
+use epoch_core::{Partition, PlainWords, Shape};
 use mica_io::NoMemory;
 use mica_model::{Answer, ItemBuf, Op, Options, Outcome, StoreMachine};
 use std::alloc::Global;
@@ -74,5 +76,42 @@ impl Machine for StoreMachine {
 
     fn stamp(&self) -> u64 {
         StoreMachine::stamp(self)
+    }
+}
+
+impl Machine for CachePartition<PlainWords> {
+    ghost use Rattle.mica_model.specs.declared.options.Mode.TheVariants.{Cache};
+    ghost use Rattle.epoch_core.specs.OwnerState.{options_in, state_in};
+
+    ghost mode = { Cache };
+
+    ghost own_options = { λ p. options_in (⟦<CachePartition<PlainWords> as Partition>⟧.owner p) };
+
+    ghost state = { λ p. state_in (⟦<CachePartition<PlainWords> as Partition>⟧.owner p) };
+
+    fn new(alloc: Global, options: &Options) -> Result<Self, NoMemory> {
+        let words = PlainWords::new(alloc, &Shape::of(options), 0)?;
+        Ok(CachePartition::new(words))
+    }
+
+    fn step(
+        &mut self,
+        _alloc: Global,
+        op: Op,
+        key: &[u8],
+        value: &[u8],
+    ) -> Result<Outcome, NoMemory> {
+        match op {
+            Op::Put => Ok(self.put(key, value)),
+            Op::Del => Ok(self.del(key)),
+        }
+    }
+
+    fn answer(&mut self, key: &[u8], out: &mut ItemBuf) -> Answer {
+        self.get(key, out)
+    }
+
+    fn stamp(&self) -> u64 {
+        Partition::stamp(self)
     }
 }

@@ -9,6 +9,8 @@ ghost use Rattle.mica_replay.specs.Machines.{AreNew};
 ghost use Rattle.mica_replay.specs.Replied.{IsWriteLine, IsReadLine, Replied};
 
 use crate::machine::Machine;
+use cache_partition::CachePartition;
+use epoch_core::PlainWords;
 use mica_io::{Bytes, NoMemory};
 use mica_model::{Answer, ItemBuf, Mode, Op, Options, StoreMachine};
 use mica_trace::{Line, Report, Trace, TraceLine, TraceOp};
@@ -107,12 +109,28 @@ fn run_in_order<M: Machine>(
     Ok(report)
 }
 
-/// The report of a trace, by one machine for each partition, on one thread.
-pub fn run_trace(alloc: Global, options: &Options, trace: &Trace) -> Result<Report, NoMemory>
+fn run_on<M: Machine>(
+    alloc: Global,
+    options: &Options,
+    trace: &Trace,
+) -> Result<Report, NoMemory>
     requires valid { IsValid options.now }
-    requires mode { options.now.mode ≡ Mode.Store }
+    requires mode { options.now.mode ≡ M.mode }
     ensures { IfOk result (LawfulReport options.now trace.now) }
 {
-    let report = run_in_order::<StoreMachine>(alloc, options, trace)?;
+    let report = run_in_order::<M>(alloc, options, trace)?;
     Ok(report)
+}
+
+/// The report of a trace, by one machine for each partition, on one thread.
+///
+/// In cache mode a partition is a log and an index over words, in store mode the plain machine.
+pub fn run_trace(alloc: Global, options: &Options, trace: &Trace) -> Result<Report, NoMemory>
+    requires { IsValid options.now }
+    ensures { IfOk result (LawfulReport options.now trace.now) }
+{
+    match options.mode {
+        Mode::Cache => run_on::<CachePartition<PlainWords>>(alloc, options, trace),
+        Mode::Store => run_on::<StoreMachine>(alloc, options, trace),
+    }
 }
