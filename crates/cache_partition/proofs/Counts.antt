@@ -74,9 +74,6 @@ module _ (o : OwnerState) (s : Kept o) (mode : o.shape.mode ≡ CacheMode) (m : 
         omega arith,
       )
 
-  counted : List Record
-  counted = filter here lives
-
   all_slots : AllOf SlotOf (filter here lives)
   all_slots =
       let live = λ (r : Record). is_live o.shape.words (cs.after_append m w).stamp r.offset in
@@ -182,7 +179,6 @@ module _ (o : OwnerState) (s : Kept o) (mode : o.shape.mode ≡ CacheMode) (m : 
             live = (live.0, is_live_item o.shape.mode o.shape.words (stamp_in o) (entry_offset (entry_in o b i)) mode (omega arith));
           } in
           let some = stood.nothing_else b i (entry_in o b i) h in
-          let key : List ℕ = some.0 in
           let spelt = record_spelt o s m at b (entry_in o b i) some.0 some.1 some.2 in
           let other : some.0 ≢ w.key = λ same. (let gone : record_of m some.0 ≡ None = ap (record_of m) same ∙ absent in cc (sym gone ∙ spelt.1)) in
           let offset = spelt.2 in

@@ -235,10 +235,6 @@ module _ (o : OwnerState) (s : Kept o) (idle : o.phase ≡ Idle) (mode : o.shape
           mine = inl mine_there;
         })
 
-        -- the tail after the put
-        abbrev tail : ℕ
-        tail = tail_of (cs.after_append m w).stamp
-
         tail_is : tail_of (stamp_in q) ≡ tail_of (cs.after_append m w).stamp
         tail_is = ap tail_of (later ∙ leaves.appended_stamp (options_in o) m kept w op appended)
 
@@ -264,9 +260,6 @@ module _ (o : OwnerState) (s : Kept o) (idle : o.phase ≡ Idle) (mode : o.shape
           first : (f : Record) × (find (here_of (options_in o) w) (leaves.live_others (options_in o) m kept w) ≡ Some f)
           first = let all = many in some_found (here_of (options_in o) w) (leaves.live_others (options_in o) m kept w) (omega arith)
 
-          lost : Record
-          lost = first.0
-
           slot_live : HasLiveEntry o b b slot (entry_in o b slot)
           slot_live =
               let stamp = s.stamp ∙ ap stamp_of_state at in
@@ -282,7 +275,6 @@ module _ (o : OwnerState) (s : Kept o) (idle : o.phase ≡ Idle) (mode : o.shape
 
           names_lost : names.0 ≡ first.0.key
           names_lost =
-              let f : Record = first.0 in
               let facts = leaves.first_is (options_in o) m kept w s.shape.ranges is op appended first.0 first.1 in
               let held = slots.record_spelt o s m at b (entry_in o b slot) names.0 names.1 names.2 in
               let offset = held.2 in

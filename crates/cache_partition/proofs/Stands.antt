@@ -239,11 +239,7 @@ module _ (o : OwnerState) (s : Kept o) (mode : o.shape.mode ≡ CacheMode) (m : 
         let had : Has (state_in o) key cell p = subst (λ (z : Cell). Has (state_in o) key z p) (sym found.4)
         (subst (λ (z : ℕ). Has (state_in o) key (cell_at found.0).0 z) found.2 (has_record o s m at key found.0 before.0)) in
         let there = stood.each key cell p here had in
-        let c : ℕ = there.0 in
-        let i : ℕ = there.1 in
-        let entry : ℕ = there.2 in
         let h : HasLiveEntry o b b there.1 there.2 = subst (λ (z : ℕ). HasLiveEntry o b z there.1 there.2) (sym (alone o s mode b there.0 there.3.in_chain)) there.3 in
-        let sp : Spells o b there.2 key cell = there.4 in
         let spelt = record_spelt o s m at b there.2 key cell there.4 in
         let same : spelt.0 ≡ found.0 = same_Some spelt.0 found.0 (sym spelt.1 ∙ before.0) in
         let offset : entry_offset there.2 ≡ p = sym spelt.2 ∙ (ap (λ (r : Record). r.offset) same ∙ found.2) in

@@ -179,7 +179,6 @@ module _ (o : OwnerState) (s : Kept o) (may : MayWrite o) (w : Write) (is : IsWr
     end_cleared op b slot here =
         subst (λ (z : ℕ). IsSlotOf o z w.key slot → Kept (after (PutsEntry z slot 0) (marked_with o z w n)) → MayEnd (after (PutsEntry z slot 0) (marked_with o z w n)) z)
         (sym here) (λ found t.
-        let b' : ℕ = bucket_in o w.key in
         let main = key_main o s w.key in
         let words : List ℕ = (marked_with o (bucket_in o w.key) w n).words in
         let long = effects.length-marked o s.wide (some_words o s) (bucket_in o w.key) main w n in
@@ -241,7 +240,6 @@ module _ (o : OwnerState) (s : Kept o) (may : MayWrite o) (w : Write) (is : IsWr
         subst (λ (z : ℕ). IsSlotOf o z w.key slot → Kept (with_item (marked_with o z w n) p (room_at (marked_with o z w n) p) w.key w.value)
         → MayEnd (with_item (marked_with o z w n) p (room_at (marked_with o z w n) p) w.key w.value) z) (sym here) (λ found t.
         let held = held_at p keeps in
-        let b' : ℕ = bucket_in o w.key in
         let main = key_main o s w.key in
         let room = room_now (bucket_in o w.key) p refl held.0 held.1 held.2 slot found in
         subst (λ (r : ℕ). Kept (with_item (marked_with o (bucket_in o w.key) w n) p r w.key w.value) → MayEnd (with_item (marked_with o (bucket_in o w.key) w n) p r w.key w.value) (bucket_in o w.key)) (sym room)
@@ -249,7 +247,6 @@ module _ (o : OwnerState) (s : Kept o) (may : MayWrite o) (w : Write) (is : IsWr
         → MayEnd (with_item (marked_with o (bucket_in o w.key) w n) z held.0.room w.key w.value) (bucket_in o w.key)) held.2
         (λ t'.
         let few = few_words held.0.room in
-        let xs : List ℕ = item_words held.0.room w.key w.value in
         let whole = effects.put_same o s.wide (some_words o s) (bucket_in o w.key) main w n held.0.offset (item_words held.0.room w.key w.value) few in
         subst (λ (z : OwnerState). MayEnd z (bucket_in o w.key)) (sym whole) (record {
           marked = bit_same (bucket_in o w.key) (bucket_in o w.key) refl;
@@ -269,9 +266,6 @@ module _ (o : OwnerState) (s : Kept o) (may : MayWrite o) (w : Write) (is : IsWr
     module _ (op : w.op ≡ Put) (keeps : kept_offset o w ≡ None) (stamp : n ≡ stamp_of (options_in o) (o.history ++ w ∷ [])) where
       abbrev here : ℕ
       here = bucket_in o w.key
-
-      abbrev tail : ℕ
-      tail = tail_of now.0.stamp
 
       -- the words with the item stored
       abbrev stored : List ℕ
@@ -430,7 +424,6 @@ kept_slot o s may w is p b keeps here (Some slot) found = (slot, found)
 kept_slot o s may w is p b keeps here None none =
     let main : IsMain o.shape b = subst (IsMain o.shape) (sym here) (key_main o s w.key) in
     let stood = s.state b main (ap (λ (z : Phase). marked_in z b) may.idle) in
-    let m : Cache = (now o s may w is).0 in
     let absent : record_of (now o s may w is).0 w.key ≡ None = slots.no_record o s (now o s may w is).0 (now o s may w is).1 may.cached b w.key stood (sym here) none in
     let held = held_at o s may w is p keeps in
     let not_kept : kept_record (options_in o) (now o s may w is).0 w ≡ None = ap (cs.kept_if (options_in o) (now o s may w is).0 w) absent in

@@ -2,7 +2,7 @@
 ghost use Rattle.std.specs.Prelude.{◌≡◌, Some, None};
 ghost use Rattle.mica_words.specs.Item.{KeyFits, ValueFits};
 ghost use Rattle.mica_model.specs.declared.write.Op.TheVariants.{Put};
-ghost use Rattle.mica_model.specs.Write.{write_of};
+ghost use Rattle.mica_model.specs.Write.{IsWrite, write_of};
 ghost use Rattle.mica_model.specs.History.{stamp_of};
 ghost use Rattle.epoch_core.specs.OwnerState.{options_in};
 ghost use Rattle.epoch_core.specs.Kept.{Kept};
@@ -42,8 +42,7 @@ fn offset_that_keeps<W: OwnerWords>(
 ) -> Option<u64>
     requires kept { Kept (W.owner words.old) }
     requires may { MayWrite (W.owner words.old) }
-    requires key { KeyFits key.now }
-    requires value { ValueFits value.now }
+    requires write { IsWrite (write_of Put key.now value.now) }
     requires sought { IsSought (W.owner words.old) key.now sought.now }
     ensures kept_offset { result
         ≡ kept_offset (W.owner words.old) (write_of Put key.entry.now value.entry.now) }
@@ -67,8 +66,7 @@ fn put_in_place<W: OwnerWords>(
 ) -> u64
     requires kept { Kept (W.owner words.old) }
     requires may { MayWrite (W.owner words.old) }
-    requires key { KeyFits key.now }
-    requires value { ValueFits value.now }
+    requires write { IsWrite (write_of Put key.now value.now) }
     requires sought { IsSought (W.owner words.old) key.now sought.now }
     requires in_place { kept_offset (W.owner words.old) (write_of Put key.now value.now)
         ≡ Some offset }
@@ -88,8 +86,7 @@ fn put_in_place<W: OwnerWords>(
 fn put_at_tail<W: OwnerWords>(words: &mut W, sought: &Sought, key: &[u8], value: &[u8]) -> u64
     requires kept { Kept (W.owner words.old) }
     requires may { MayWrite (W.owner words.old) }
-    requires key { KeyFits key.now }
-    requires value { ValueFits value.now }
+    requires write { IsWrite (write_of Put key.now value.now) }
     requires sought { IsSought (W.owner words.old) key.now sought.now }
     requires at_tail { kept_offset (W.owner words.old) (write_of Put key.now value.now) ≡ None }
     ensures gains { Gains (W.owner words.old) (W.owner words.new)

@@ -33,10 +33,6 @@ pub end_write-requires : goal.end_write-requires
 end_write-requires g c =
     let owner = g.W.OwnerWords.owner in
     let o = owner c.seek-sought.new.words in
-    let b = c.seek-sought.result.bucket in
-    let n = c.seek-sought.result.stamp + 1 in
-    let key = c.args.key.now in
-    let w : Write = write_of Del c.args.key.now [] in
     let may = subst MayWrite (sym c.seek-sought.ensures.same.0) c.requires.may in
     let sought = subst (λ (z : OwnerState). IsSought z c.args.key.now c.seek-sought.result) (sym c.seek-sought.ensures.same.0) c.seek-sought.ensures.sought in
     let is = delete_is c.args.key.now c.requires.key (λ k. omega (arith, c.type_inv.key k)) in

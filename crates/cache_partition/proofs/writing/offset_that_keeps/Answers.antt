@@ -13,7 +13,7 @@ use Rattle.epoch_core.specs.Shape.{IsMain}
 use Rattle.epoch_core.specs.OwnerState.{item_in}
 use Rattle.lossy_index.specs.Slot.{IsSlotOf, HasNoSlot}
 use Rattle.cache_partition.proofs.Endings.{key_main}
-use Rattle.cache_partition.proofs.Writes.{stamp_limit, put_is, no_slot_keeps, slot_keeps}
+use Rattle.cache_partition.proofs.Writes.{stamp_limit, no_slot_keeps, slot_keeps}
 use Rattle.cache_partition.proofs.writing.offset_that_keeps.Goals as goal
 use Rattle.cache_partition.proofs.writing.offset_that_keeps.Goals.{then-fits, else-fits}
 
@@ -42,13 +42,12 @@ pub returns-clause-kept_offset : goal.returns-clause-kept_offset
 returns-clause-kept_offset g c =
     let owner = g.W.OwnerWords.owner in
     let o = owner c.args.words.now in
-    let is = put_is c.args.key.now c.args.value.now c.requires.key (λ k. omega (arith, c.type_inv.key k)) c.requires.value (λ k. omega (arith, c.type_inv.value k)) in
     let found : IsSlotOf o c.args.sought.now.bucket c.args.key.now c.in_ok-slot.slot =
     subst (λ (z : Option ℕ). MatchOption z (HasNoSlot o c.args.sought.now.bucket c.args.key.now) (IsSlotOf o c.args.sought.now.bucket c.args.key.now)) c.in_ok-slot.was c.requires.sought.found in
     let offset = c.entry_offset-offset.ensures ∙ ap entry_offset c.read.ensures.value in
     let room = c.header_room-room.ensures ∙ ap header_room (c.read-2.ensures.value ∙ (ap (λ (z : OwnerState). item_in z c.entry_offset-offset.result) c.read.ensures.same ∙ ap (item_in o) offset)) in
     c.then_some.ensures
-    ∙ slot_keeps o c.requires.kept c.requires.may (write_of Put c.args.key.now c.args.value.now) is c.args.sought.now.bucket c.in_ok-slot.slot c.requires.sought.bucket found
+    ∙ slot_keeps o c.requires.kept c.requires.may (write_of Put c.args.key.now c.args.value.now) c.requires.write c.args.sought.now.bucket c.in_ok-slot.slot c.requires.sought.bucket found
     c.args.sought.now.stamp c.entry_offset-offset.result c.header_room-room.result c.requires.sought.stamp offset room c.if-fits.then_some
     (elim c.if-fits.branch [
       | then-fits w ↦
