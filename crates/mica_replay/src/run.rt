@@ -109,11 +109,7 @@ fn run_in_order<M: Machine>(
     Ok(report)
 }
 
-fn run_on<M: Machine>(
-    alloc: Global,
-    options: &Options,
-    trace: &Trace,
-) -> Result<Report, NoMemory>
+fn run_on<M: Machine>(alloc: Global, options: &Options, trace: &Trace) -> Result<Report, NoMemory>
     requires valid { IsValid options.now }
     requires mode { options.now.mode ≡ M.mode }
     ensures { IfOk result (LawfulReport options.now trace.now) }
