@@ -1,12 +1,12 @@
 -- How far a trace has run: the machine of each partition has the history of its part of the writes.
-use Rattle.std.proofs.Common.{◌≡◌, ◌≢◌, ℕ, zero, suc, ◌+◌, ◌≤◌, List, [], ◌∷◌, ◌++◌, length, take, Some, refl, sym, ap, ◌∙◌, subst, arith, slice_get, slice_set, eq-eqb, ne_eqb, inl, inr, ◌⊎◌, replicate, map}
+use Rattle.std.proofs.Common.{◌≡◌, ◌≢◌, ℕ, zero, suc, ◌+◌, ◌≤◌, List, [], ◌∷◌, ◌++◌, length, take, Some, refl, sym, ap, ◌∙◌, subst, arith, slice_get, slice_set, eq-eqb, ne_eqb, inl, inr, ◌⊎◌}
 use Rattle.std.specs.List.{AllByRecursion}
-use Rattle.std.proofs.lemmas.List.{take_more, take_all, length_push, length-set, length-replicate}
+use Rattle.std.proofs.lemmas.List.{take_more, take_all, length_push, length-set}
 use Rattle.std.proofs.lemmas.Option.{get_or_from_slice_get, slice_get_within}
 use Rattle.mica_model.specs.declared.options.Options.{Options}
 use Rattle.mica_model.specs.declared.write.Write.{Write}
-use Rattle.mica_model.specs.Machine.{Machine, new_machine}
-use Rattle.mica_model.specs.History.{History, state_of, IsStep}
+use Rattle.mica_model.specs.Machine.{Machine}
+use Rattle.mica_model.specs.History.{History, state_of}
 use Rattle.mica_model.proofs.Values.{ValuesAre, start_are}
 use Rattle.mica_trace.specs.declared.line.TraceOp.TheVariants.{Get}
 use Rattle.mica_trace.specs.declared.line.TraceLine.{TraceLine}
@@ -65,10 +65,6 @@ set_cases (z ∷ xs) (suc p) x (suc q) y is =
       | inl same ↦ inl (ap suc same.0, same.1)
       | inr other ↦ inr ((λ same. other.0 (omega arith)), other.1)
     ]
-
-pub each_push : {X : Type 0} (P : X → Type 0) (xs : List X) (x : X) → AllByRecursion P xs → P x → AllByRecursion P (xs ++ x ∷ [])
-each_push P [] x all here = (here, tt)
-each_push P (y ∷ xs) x all here = (all.0, each_push P xs x all.1 here)
 
 pub begins : (options : Options) (trace : List TraceLine) (machines : List Machine) → AreNew options machines → IsRunning options trace machines [] 0
 begins options trace machines new = record {

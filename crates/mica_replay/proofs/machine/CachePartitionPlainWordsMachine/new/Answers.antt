@@ -1,7 +1,6 @@
-use Rattle.std.proofs.Common.{◌≡◌, sym, ap, ◌∙◌, subst}
+use Rattle.std.proofs.Common.{sym, ap, ◌∙◌, subst}
 use Rattle.epoch_core.specs.declared.state.OwnerState.{OwnerState}
 use Rattle.epoch_core.specs.OwnerState.{options_in, state_in, as_made}
-use Rattle.epoch_core.specs.Shape.{shape_of}
 use Rattle.mica_replay.specs.Machines.{IsNew}
 use Rattle.mica_replay.proofs.ShapeSteps.{made_new}
 use Rattle.mica_replay.proofs.machine.CachePartitionPlainWordsMachine.new.Goals as goal
