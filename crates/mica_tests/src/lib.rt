@@ -7,6 +7,8 @@ mod adapters;
 #[cfg(test)]
 mod cache_machine;
 #[cfg(test)]
+mod cache_replays;
+#[cfg(test)]
 mod faults;
 #[cfg(test)]
 mod heap;
