@@ -21,6 +21,8 @@ mod refused_words;
 #[cfg(test)]
 mod runs;
 #[cfg(test)]
+mod same_as_machine;
+#[cfg(test)]
 mod statuses;
 #[cfg(test)]
 mod store_machine;
