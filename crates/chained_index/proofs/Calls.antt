@@ -7,7 +7,6 @@ use Rattle.std.proofs.lemmas.Bool.{cases_lt}
 use Rattle.std.proofs.lemmas.List.Elements.{Contains-push}
 use Rattle.mica_words.specs.Entry.{entry_of}
 use Rattle.epoch_core.specs.declared.shape.Shape.{Shape}
-use Rattle.mica_model.specs.declared.write.Write.{Write}
 use Rattle.epoch_core.specs.declared.state.OwnerState.{OwnerState}
 use Rattle.epoch_core.specs.declared.state.Phase.{Phase}
 use Rattle.epoch_core.specs.declared.state.Phase.TheVariants.{Idle, Begun, Marked}
@@ -16,7 +15,7 @@ use Rattle.epoch_core.specs.Shape.{IsMain, IsSpare, IsBucket}
 use Rattle.epoch_core.specs.Layout.{entry_at}
 use Rattle.epoch_core.specs.OwnerState.{entry_in, link_in, marked_in}
 use Rattle.epoch_core.specs.Chain.{InChain, IsFreeSpare}
-use Rattle.epoch_core.specs.Events.{WhenMarked, IsItsBucket, MayPutEntry, MayPutLink, after}
+use Rattle.epoch_core.specs.Events.{WhenMarked, IsItsBucket, MayPutLink, after}
 use Rattle.epoch_core.specs.Kept.{Kept}
 use Rattle.chained_index.proofs.Chained.{Chained, chained, chained_before}
 use Rattle.epoch_core.proofs.EventWords.{link_puts_entry}
@@ -54,12 +53,12 @@ module _ (o : OwnerState) (s : Chained o) (c slot x : ℕ) (low : slot < 15) whe
   m = after (PutsEntry c slot x) o
 
   pub chain_still : (b d : ℕ) → InChain o b d → InChain m b d
-  chain_still b d h = chain_on o m.words (length-set o.words (entry_at o.shape c slot) x) b (λ e i. link_puts_entry o s.wide c slot x e low) d h
+  chain_still b d h = chain_on o m.words o.history o.phase (length-set o.words (entry_at o.shape c slot) x) b (λ e i. link_puts_entry o s.wide c slot x e low) d h
 
   pub free_still : (d : ℕ) → IsFreeSpare o d → IsFreeSpare m d
   free_still d f = record {
     spare = f.spare;
-    free = λ other l i. f.free other l (chain_back o m.words (length-set o.words (entry_at o.shape c slot) x) other (λ e j. link_puts_entry o s.wide c slot x e low) d i);
+    free = λ other l i. f.free other l (chain_back o m.words o.history o.phase (length-set o.words (entry_at o.shape c slot) x) other (λ e j. link_puts_entry o s.wide c slot x e low) d i);
   }
 
   -- a blank spare may be linked, or a link cut, behind it

@@ -1,20 +1,18 @@
 -- The lists of a chain by its shape: its buckets, and its entries by their places.
-use Rattle.std.proofs.Common.{◌≡◌, ℕ, zero, suc, ◌+◌, ◌-◌, ◌*◌, ◌/◌, ◌%◌, ◌<◌, ◌≤◌, ◌≢◌, inl, inr, ◌⊎◌, List, [], ◌∷◌, ◌++◌, length, get_or, take, drop, Bool, true, false, cond, nat_eq, nat_lt, filter, flat_map, slice_range, if◌then◌else◌, refl, sym, ap, ◌∙◌, subst, arith, length-append, length-take, length-drop, zero-add, eq-eqb, ne_eqb}
+use Rattle.std.proofs.Common.{◌≡◌, ℕ, zero, suc, ◌+◌, ◌-◌, ◌*◌, ◌/◌, ◌%◌, ◌<◌, ◌≤◌, ◌≢◌, inl, inr, List, [], ◌∷◌, ◌++◌, length, get_or, take, drop, Bool, true, nat_eq, nat_lt, filter, flat_map, slice_range, if◌then◌else◌, refl, sym, ap, ◌∙◌, subst, arith, length-append, length-take, length-drop, eq-eqb, ne_eqb}
 use Rattle.std.specs.List.{position_or_len}
-use Rattle.std.proofs.lemmas.Bool.{cases_lt, cases_eq, lt-ltb, eqb-true}
-use Rattle.std.proofs.lemmas.List.{get_or-take, get_or-drop, get_or_append_left, get_or-append_right, ext_get_or, take_all, append-nil}
+use Rattle.std.proofs.lemmas.Bool.{lt-ltb}
+use Rattle.std.proofs.lemmas.List.{get_or-take, get_or-drop, get_or_append_left, get_or-append_right, ext_get_or, append-nil}
 use Rattle.std.proofs.lemmas.List.Sums.{position_or_len_is}
-use mathlib.Core.Logic.{dite}
-use native.Mathlib.Decide.{ℕ_discrete}
 use Rattle.epoch_core.specs.declared.state.OwnerState.{OwnerState}
 use Rattle.epoch_core.specs.Shape.{IsMain, IsBucket}
-use Rattle.epoch_core.specs.Layout.{entries_at, entry_at, word_count}
+use Rattle.epoch_core.specs.Layout.{entry_at, word_count}
 use Rattle.epoch_core.specs.OwnerState.{entry_in, link_in}
 use Rattle.chained_index.proofs.Chained.{Chained, chain_inside}
 use Rattle.chained_index.specs.declared.index.Spot.{Spot}
 use Rattle.chained_index.specs.ChainEntries.{buckets_from, buckets_of, entries_in, entries_of, number_of}
 use Rattle.chained_index.specs.ChainShape.{bucket_at, HasChainShape}
-use Rattle.chained_index.proofs.Walk.{IsWalk, walk_of, no_repeat, same_step, in_chain}
+use Rattle.chained_index.proofs.Walk.{IsWalk, walk_of, no_repeat, in_chain}
 
 -- the buckets
 

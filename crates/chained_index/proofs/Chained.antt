@@ -1,5 +1,5 @@
 -- What the calls go by of the owner's fact: how many words there are, and what holds of all chains.
-use Rattle.std.proofs.Common.{◌≡◌, ℕ, zero, suc, ◌+◌, ◌<◌, ◌≢◌, inl, inr, ◌⊎◌, length, refl, sym, ap, ◌∙◌, subst, arith, length-set}
+use Rattle.std.proofs.Common.{◌≡◌, ℕ, zero, suc, ◌<◌, inl, inr, ◌⊎◌, length, sym, ◌∙◌, subst, arith, length-set}
 use Rattle.epoch_core.specs.declared.state.OwnerState.{OwnerState}
 use Rattle.epoch_core.specs.declared.event.Event.TheVariants.{PutsEntry}
 use Rattle.epoch_core.specs.Shape.{IsMain, IsSpare, IsBucket}

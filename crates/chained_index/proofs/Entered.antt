@@ -1,6 +1,5 @@
 -- An entry is stored in a chain, with no link changed: it is added, changed or dropped.
-use Rattle.std.proofs.Common.{◌≡◌, ℕ, zero, suc, ◌+◌, ◌-◌, ◌*◌, ◌<◌, ◌≤◌, ◌≢◌, inl, inr, ◌⊎◌, ◌↔◌, List, [], ◌∷◌, ◌++◌, length, take, set, refl, sym, ap, ◌∙◌, subst, arith}
-use Rattle.std.specs.Prelude.{Contains}
+use Rattle.std.proofs.Common.{◌≡◌, ℕ, suc, ◌+◌, ◌-◌, ◌*◌, ◌<◌, ◌≤◌, ◌≢◌, inl, inr, ◌⊎◌, [], ◌∷◌, ◌++◌, length, take, set, refl, sym, ap, ◌∙◌, subst, arith}
 use mathlib.Core.Logic.{dite}
 use native.Mathlib.Decide.{ℕ_discrete}
 use Rattle.std.proofs.Math.ListN.{length-set}
@@ -16,7 +15,7 @@ use Rattle.chained_index.specs.ChainEntries.{entries_of}
 use Rattle.chained_index.specs.ChainShape.{bucket_at, HasChainShape}
 use Rattle.chained_index.specs.ChainChange.{KeepsChain, ChangesChain}
 use Rattle.chained_index.specs.Index.{Index, IsBlank, IsIndexOf}
-use Rattle.chained_index.proofs.Walk.{IsWalk, walk_of, same_step, in_chain, dense_of_shape}
+use Rattle.chained_index.proofs.Walk.{walk_of, same_step, in_chain, dense_of_shape}
 use Rattle.chained_index.proofs.ChainLists.{bucket_inside}
 use Rattle.epoch_core.proofs.EventWords.{entry_puts, entry_puts_other, link_puts_entry}
 use Rattle.chained_index.proofs.Effects.{SameBucket, entered_same, entered_only}
@@ -65,13 +64,13 @@ module _ (o : OwnerState) (s : Chained o) (b : ℕ) (main : IsMain o.shape b) (l
       s.chains.apart other b d l main n i (subst (InChain o b) (sym same) (in_chain o b links (walk_of o b links used h) h.few at few)))
 
   pub others_keep : (other : ℕ) → IsMain o.shape other → other ≢ b → KeepsChain o p other
-  others_keep other l n = chain_kept o p.words long other (λ d i. other_same other d l n i)
+  others_keep other l n = chain_kept o p.words o.history o.phase long other (λ d i. other_same other d l n i)
 
   chains_back : (other d : ℕ) → InChain p other d → InChain o other d
-  chains_back other d i = chain_back o p.words long other (λ e j. link_puts_entry o s.wide c slot x e low) d i
+  chains_back other d i = chain_back o p.words o.history o.phase long other (λ e j. link_puts_entry o s.wide c slot x e low) d i
 
   chains_on : (other d : ℕ) → InChain o other d → InChain p other d
-  chains_on other d i = chain_on o p.words long other (λ e j. link_puts_entry o s.wide c slot x e low) d i
+  chains_on other d i = chain_on o p.words o.history o.phase long other (λ e j. link_puts_entry o s.wide c slot x e low) d i
 
   pub free_on : (d : ℕ) → IsFreeSpare o d → IsFreeSpare p d
   free_on d f = record { spare = f.spare; free = λ other l i. f.free other l (chains_back other d i) }
@@ -89,7 +88,7 @@ module _ (o : OwnerState) (s : Chained o) (b : ℕ) (main : IsMain o.shape b) (l
   pub dense_by : IsDense p b → ((d : ℕ) → IsMain o.shape d → IsDense o d) → (d : ℕ) → IsMain o.shape d → IsDense p d
   dense_by own dense d l = dite (ℕ_discrete d b)
       (λ is. subst (IsDense p) (sym is) own)
-      (λ n. dense_kept o p.words long d (λ e i. other_same d e l n i) (dense d l))
+      (λ n. dense_kept o p.words o.history o.phase long d (λ e i. other_same d e l n i) (dense d l))
 
   pub index_entered : (index : Index) → IsDense p b → IsIndexOf index o → IsIndexOf index p
   index_entered index own is = record {

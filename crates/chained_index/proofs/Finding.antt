@@ -1,5 +1,5 @@
 -- A search along a chain.
-use Rattle.std.proofs.Common.{◌≡◌, ℕ, suc, ◌+◌, ◌<◌, ◌≤◌, ◌≢◌, inl, inr, ◌⊎◌, List, refl, sym, ap, ◌∙◌, subst, arith}
+use Rattle.std.proofs.Common.{◌≡◌, ℕ, ◌+◌, ◌<◌, ◌≤◌, ◌≢◌, inl, inr, List, sym, ap, ◌∙◌, subst, arith}
 use mathlib.Core.Logic.{dite}
 use native.Mathlib.Decide.{ℕ_discrete}
 use Rattle.std.proofs.lemmas.Bool.{cases_lt}
@@ -10,8 +10,7 @@ use Rattle.epoch_core.specs.Shape.{IsMain}
 use Rattle.epoch_core.specs.OwnerState.{entry_in, link_in}
 use Rattle.epoch_core.specs.Chain.{InChain, IsDense}
 use Rattle.epoch_core.specs.ItemAt.{HasKey}
-use Rattle.chained_index.specs.declared.index.Spot.{Spot}
-use Rattle.chained_index.specs.ChainEntries.{IsUsed, IsSpotOf, HasNoSpot}
+use Rattle.chained_index.specs.ChainEntries.{IsSpotOf, HasNoSpot}
 use Rattle.chained_index.specs.ChainShape.{bucket_at, HasChainShape}
 use Rattle.chained_index.proofs.Chained.{Chained}
 use Rattle.chained_index.proofs.Walk.{walk_of, in_chain, of_chain, shape_there}

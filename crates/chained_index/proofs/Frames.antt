@@ -1,21 +1,23 @@
 -- A chain none of whose buckets changed is as it was.
-use Rattle.std.proofs.Common.{◌≡◌, ℕ, zero, suc, ◌+◌, ◌-◌, ◌<◌, ◌≢◌, inl, inr, ◌⊎◌, List, [], ◌∷◌, ◌++◌, length, get_or, take, drop, nat_eq, nat_lt, if◌then◌else◌, filter, flat_map, slice_range, refl, sym, ap, ◌∙◌, subst, arith, length-take, length-drop}
+use Rattle.std.proofs.Common.{◌≡◌, ℕ, zero, suc, ◌+◌, ◌-◌, ◌<◌, ◌≢◌, inl, inr, List, [], ◌∷◌, ◌++◌, length, get_or, take, drop, nat_eq, nat_lt, if◌then◌else◌, filter, flat_map, refl, sym, ap, ◌∙◌, subst, arith, length-take, length-drop}
 use Rattle.std.proofs.lemmas.List.{get_or-take, get_or-drop, ext_get_or}
 use mathlib.Core.Logic.{dite}
 use native.Mathlib.Decide.{ℕ_discrete}
+use Rattle.mica_model.specs.History.{History}
 use Rattle.epoch_core.specs.declared.state.OwnerState.{OwnerState}
+use Rattle.epoch_core.specs.declared.state.Phase.{Phase}
 use Rattle.epoch_core.specs.Shape.{IsMain}
 use Rattle.epoch_core.specs.Layout.{entry_at}
-use Rattle.epoch_core.specs.OwnerState.{entry_in, link_in}
+use Rattle.epoch_core.specs.OwnerState.{link_in}
 use Rattle.epoch_core.specs.Chain.{IsAmong, InChain, IsDense}
 use Rattle.chained_index.specs.ChainEntries.{buckets_from, buckets_of, entries_in, entries_of}
 use Rattle.chained_index.specs.ChainChange.{KeepsChain, ChangesOnlyIndex, ChangesChain}
 use Rattle.chained_index.proofs.Effects.{SameBucket}
 use Rattle.chained_index.proofs.ChainLists.{if_none, if_some}
 
-module _ (o : OwnerState) (words : List ℕ) (long : length words ≡ length o.words) where
+module _ (o : OwnerState) (words : List ℕ) (history : History) (phase : Phase) (long : length words ≡ length o.words) where
   abbrev p : OwnerState
-  p = record o { words = words }
+  p = record o { words = words; history = history; phase = phase }
 
   entries_in_same : (c : ℕ) → SameBucket o p c → entries_in p c ≡ entries_in o c
   unfolding entries_in

@@ -1,4 +1,4 @@
-mod Chained
+pub mod Chained
 mod Walk
 mod ChainLists
 mod Effects
@@ -10,6 +10,10 @@ mod Walking
 mod Full
 mod FreeList
 mod Calls
-mod Counted
+pub mod Counted
 mod Finding
 mod AsMade
+pub mod Stays
+pub mod Listed
+pub mod Numbers
+pub mod SpareCount

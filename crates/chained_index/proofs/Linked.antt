@@ -1,5 +1,5 @@
 -- A spare bucket is taken into a chain with its first entry, or released with its last.
-use Rattle.std.proofs.Common.{◌≡◌, ℕ, zero, suc, ◌+◌, ◌-◌, ◌*◌, ◌<◌, ◌≤◌, ◌≢◌, inl, inr, ◌⊎◌, List, [], ◌∷◌, ◌++◌, length, take, refl, sym, ap, ◌∙◌, subst, arith, length-set}
+use Rattle.std.proofs.Common.{◌≡◌, ℕ, suc, ◌-◌, ◌<◌, ◌≤◌, ◌≢◌, inl, inr, ◌⊎◌, [], ◌∷◌, ◌++◌, length, take, refl, sym, ap, ◌∙◌, subst, arith, length-set}
 use mathlib.Core.Logic.{dite}
 use native.Mathlib.Decide.{ℕ_discrete}
 use Rattle.epoch_core.specs.declared.state.OwnerState.{OwnerState}
@@ -54,18 +54,18 @@ module _ (o : OwnerState) (s : Chained o) (d slot x c next : ℕ) (low : slot < 
       other_same other e l n i = let apart = none other e l n i in both_same e apart.0 apart.1
 
       pub others_keep : (other : ℕ) → IsMain o.shape other → other ≢ b → KeepsChain o p other
-      others_keep other l n = chain_kept o p.words long other (λ e i. other_same other e l n i)
+      others_keep other l n = chain_kept o p.words o.history o.phase long other (λ e i. other_same other e l n i)
 
       pub other_back : (other e : ℕ) → IsMain o.shape other → other ≢ b → InChain p other e → InChain o other e
-      other_back other e l n i = chain_back o p.words long other (λ f j. (other_same other f l n j).link) e i
+      other_back other e l n i = chain_back o p.words o.history o.phase long other (λ f j. (other_same other f l n j).link) e i
 
       pub other_on : (other e : ℕ) → IsMain o.shape other → other ≢ b → InChain o other e → InChain p other e
-      other_on other e l n i = chain_on o p.words long other (λ f j. (other_same other f l n j).link) e i
+      other_on other e l n i = chain_on o p.words o.history o.phase long other (λ f j. (other_same other f l n j).link) e i
 
       pub dense_both : IsDense p b → ((e : ℕ) → IsMain o.shape e → IsDense o e) → (e : ℕ) → IsMain o.shape e → IsDense p e
       dense_both own dense e l = dite (ℕ_discrete e b)
           (λ is. subst (IsDense p) (sym is) own)
-          (λ n. dense_kept o p.words long e (λ f i. other_same e f l n i) (dense e l))
+          (λ n. dense_kept o p.words o.history o.phase long e (λ f i. other_same e f l n i) (dense e l))
 
 -- A spare bucket is taken.
 module _ (o : OwnerState) (s : Chained o) (b : ℕ) (main : IsMain o.shape b) (links : ℕ) (h : HasChainShape o b links 15)

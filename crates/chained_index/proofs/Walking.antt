@@ -1,5 +1,5 @@
 -- A step along a chain, and its end.
-use Rattle.std.proofs.Common.{◌≡◌, ℕ, suc, subst, add-one, ◌+◌, ◌<◌, ◌≤◌, ◌^◌, ◌≢◌, ◌⊎◌, inl, inr, sym, ap, ◌∙◌, arith}
+use Rattle.std.proofs.Common.{◌≡◌, ℕ, suc, subst, add-one, ◌+◌, ◌<◌, ◌≤◌, ◌≢◌, inl, inr, sym, ap, ◌∙◌, arith}
 use mathlib.Core.Logic.{dite}
 use native.Mathlib.Decide.{ℕ_discrete}
 use Rattle.epoch_core.specs.declared.state.OwnerState.{OwnerState}

@@ -17,7 +17,8 @@ pub record KeepsChain (old new : OwnerState) (b : ℕ) : Type 0 where
   pub buckets : buckets_of new b ≡ buckets_of old b
   pub entries : entries_of new b ≡ entries_of old b
 
--- The chain of bucket b has these entries now, each other chain is as it was, and so is all that is no index.
+-- The chain of bucket b has these entries now. Each other chain is as it was, and so are all words but
+-- entries and links.
 pub record ChangesChain (old new : OwnerState) (b : ℕ) (xs : List ℕ) : Type 0 where
   pub entries : entries_of new b ≡ xs
   pub others : (other : ℕ) → IsMain old.shape other → other ≢ b → KeepsChain old new other

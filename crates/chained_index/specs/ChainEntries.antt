@@ -1,5 +1,5 @@
 -- The entries of a chain, as a list.
-use Rattle.std.specs.Prelude.{◌≡◌, ◌≢◌, ℕ, zero, suc, ◌+◌, ◌*◌, ◌<◌, ◌==◌, nat_lt, List, [], ◌∷◌, if◌then◌else◌, filter, flat_map, slice_range}
+use Rattle.std.specs.Prelude.{◌≡◌, ◌≢◌, ℕ, zero, suc, ◌+◌, ◌*◌, ◌<◌, ◌==◌, nat_lt, List, [], ◌∷◌, if◌then◌else◌, filter, flat_map, slice_range, slice_set, swap_remove}
 use Rattle.std.specs.List.{position_or_len}
 use Rattle.mica_words.specs.Hash.{tag_of}
 use Rattle.mica_words.specs.Entry.{entry_tag, entry_offset}
@@ -21,12 +21,14 @@ buckets_of o b = buckets_from o (suc o.shape.spares) b
 
 -- the entries of one bucket, in the order of its slots
 unfoldable pub entries_in : OwnerState → ℕ → List ℕ
-entries_in o c = filter (nat_lt 0) (slice_range o.words (entry_at o.shape c 0) (entry_at o.shape c 15))
+entries_in o c =
+    filter (nat_lt 0) (slice_range o.words (entry_at o.shape c 0) (entry_at o.shape c 15))
 
 -- the entries of a chain, bucket by bucket
 unfoldable pub entries_of : OwnerState → ℕ → List ℕ
 entries_of o b = flat_map (entries_in o) (buckets_of o b)
 
+-- the entry in a spot
 abbrev pub spot_entry : OwnerState → Spot → ℕ
 spot_entry o spot = entry_in o spot.bucket spot.slot
 
@@ -36,9 +38,18 @@ pub record IsUsed (o : OwnerState) (b : ℕ) (spot : Spot) : Type 0 where
   pub in_bucket : spot.slot < 15
   pub used : spot_entry o spot ≢ 0
 
--- where a spot's entry stands in the list, since every bucket before it is full
+-- where the entry of a used spot stands in the list of a dense chain, all of whose buckets but the last
+-- are full
 unfoldable pub number_of : OwnerState → ℕ → Spot → ℕ
 number_of o b spot = 15 * position_or_len (λ c. c == spot.bucket) (buckets_of o b) + spot.slot
+
+-- the entries with another one in the spot
+abbrev pub entries_with : OwnerState → ℕ → Spot → ℕ → List ℕ
+entries_with o b spot entry = slice_set (entries_of o b) (number_of o b spot) entry
+
+-- the entries without the one in the spot, whose place the last one takes
+abbrev pub entries_without : OwnerState → ℕ → Spot → List ℕ
+entries_without o b spot = swap_remove (entries_of o b) (number_of o b spot) 0
 
 -- The spot has an entry of the key's tag, whose item has the key.
 pub record IsSpotOf (o : OwnerState) (b : ℕ) (key : List ℕ) (spot : Spot) : Type 0 where

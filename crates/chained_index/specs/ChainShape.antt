@@ -1,4 +1,4 @@
--- The shape of a dense chain: how many links it has, and how many slots of its last bucket are used.
+-- The shape of a dense chain: the number of its links, and of the used slots of its last bucket.
 use Rattle.std.specs.Prelude.{◌≡◌, ◌≢◌, ℕ, zero, suc, ◌<◌, ◌≤◌, ◌⊎◌}
 use Rattle.epoch_core.specs.declared.state.OwnerState.{OwnerState}
 use Rattle.epoch_core.specs.OwnerState.{entry_in, link_in}
@@ -9,7 +9,8 @@ abbrev pub bucket_at : OwnerState → ℕ → ℕ → ℕ
 bucket_at o zero b = b
 bucket_at o (suc k) b = bucket_at o k (link_in o b)
 
--- so many links lead from b to the last bucket, every bucket before it is full, and so many of its first slots are used
+-- So many links lead from b to the last bucket. Every bucket before it is full, and so many of its own
+-- slots are used, from the first on.
 pub record HasChainShape (o : OwnerState) (b links used : ℕ) : Type 0 where
   pub few : links ≤ o.shape.spares
   pub linked : (k : ℕ) → k < links → link_in o (bucket_at o k b) ≢ 0

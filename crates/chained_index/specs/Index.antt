@@ -12,12 +12,13 @@ pub record Index : Type 0 where
   pub shape : Shape
   pub free : List ℕ
 
--- neither link nor entry
+-- a bucket with neither link nor entry
 pub record IsBlank (o : OwnerState) (c : ℕ) : Type 0 where
   pub no_link : link_in o c ≡ 0
   pub no_entry : (slot : ℕ) → slot < 15 → entry_in o c slot ≡ 0
 
--- The index is one of these words: their chains are dense, and its free spares are the spares in no chain, each once and each blank.
+-- The index is one of these words: their chains are dense, and its free spares are the spares in no chain,
+-- each once and each blank.
 pub record IsIndexOf (index : Index) (o : OwnerState) : Type 0 where
   pub shape : index.shape ≡ o.shape
   pub dense : (b : ℕ) → IsMain o.shape b → IsDense o b
@@ -25,7 +26,7 @@ pub record IsIndexOf (index : Index) (o : OwnerState) : Type 0 where
   pub once : AllPairs (λ c d. c ≢ d) index.free
   pub blank : (c : ℕ) → IsFreeSpare o c → IsBlank o c
 
--- the chain's last bucket is full, and no spare bucket is left
+-- the entries fill the buckets of the chain, and no spare bucket is left
 pub record LacksPlace (index : Index) (o : OwnerState) (b : ℕ) : Type 0 where
   pub some : 0 < length (entries_of o b)
   pub full : length (entries_of o b) % 15 ≡ 0

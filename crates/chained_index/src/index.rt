@@ -1,5 +1,5 @@
 //! The chained index, after the MICA paper's store mode.
-ghost use Rattle.std.specs.Prelude.{◌≡◌, ◌≢◌, ℕ, suc, ◌+◌, ◌-◌, ◌*◌, ◌<◌, ◌≤◌, ◌^◌, ◌↔◌, ◌++◌, ◌∷◌, [], IsTrue, IsFalse, IfOk, MatchOption, slice_set, swap_remove};
+ghost use Rattle.std.specs.Prelude.{◌≡◌, ◌≢◌, ℕ, suc, ◌+◌, ◌<◌, ◌≤◌, ◌^◌, ◌↔◌, ◌++◌, ◌∷◌, [], IsTrue, IsFalse, IfOk, MatchOption};
 ghost use Rattle.mica_words.specs.Entry.{entry_of, entry_tag as entry_tag_of, entry_offset as entry_offset_of};
 ghost use Rattle.mica_words.specs.Item.{KeyFits};
 ghost use Rattle.epoch_core.specs.Shape.{IsValidShape, IsMain, IsBucket};
@@ -7,7 +7,7 @@ ghost use Rattle.epoch_core.specs.OwnerState.{as_made, entry_in, marked_in};
 ghost use Rattle.epoch_core.specs.Events.{WhenMarked};
 ghost use Rattle.epoch_core.specs.ItemAt.{HasKey};
 ghost use Rattle.epoch_core.specs.Kept.{Kept};
-ghost use Rattle.chained_index.specs.ChainEntries.{entries_of, number_of, IsUsed, IsSpotOf, HasNoSpot};
+ghost use Rattle.chained_index.specs.ChainEntries.{entries_of, entries_with, entries_without, IsUsed, IsSpotOf, HasNoSpot};
 ghost use Rattle.chained_index.specs.ChainChange.{ChangesChain};
 ghost use Rattle.chained_index.specs.ChainShape.{bucket_at, HasChainShape, EndsAt};
 ghost use Rattle.chained_index.specs.Index.{IsIndexOf, LacksPlace};
@@ -46,7 +46,8 @@ impl Model for ChainedIndex {
     ghost invariant = { λ i. i.shape.spares ≤ vec_capacity i.free };
 }
 
-// Where a chain ends: its last bucket, the bucket before that, and how many slots of the last one are used.
+// Where a chain ends: its last bucket, the bucket before that, and how many slots of the last one
+// are used.
 #[derive(Clone, Copy)]
 struct ChainEnd {
     before: u32,
@@ -77,12 +78,13 @@ impl ChainedIndex {
         requires key { KeyFits key.now }
         ensures found { MatchOption result (HasNoSpot (W.owner words.old) bucket key.entry.now)
             (IsSpotOf (W.owner words.old) bucket key.entry.now) }
-        ensures same { (W.owner words.new ≡ W.owner words.old) × (W.home words.new ≡ W.home words.old) }
+        ensures same { W.owner words.new ≡ W.owner words.old }
+        ensures home { W.home words.new ≡ W.home words.old }
         ensures kept { Kept (W.owner words.new) }
     {
         let tag = tag_of(key_hash(key));
         let mut at = bucket;
-        for link in 0..=self.shape.spares {
+        for _link in 0..=self.shape.spares {
             for slot in 0..SLOTS {
                 let entry = words.read(WordAt::Entry(at, slot));
                 if entry == 0 {
@@ -106,7 +108,8 @@ impl ChainedIndex {
         requires index { IsIndexOf self.now (W.owner words.old) }
         requires bucket { IsMain (W.owner words.old).shape bucket }
         ensures place { IsFalse result ↔ LacksPlace self.now (W.owner words.old) bucket }
-        ensures same { (W.owner words.new ≡ W.owner words.old) × (W.home words.new ≡ W.home words.old) }
+        ensures same { W.owner words.new ≡ W.owner words.old }
+        ensures home { W.home words.new ≡ W.home words.old }
     {
         !self.free.is_empty() || self.end_of(words, bucket).used < SLOTS
     }
@@ -138,12 +141,13 @@ impl ChainedIndex {
     /// Changes the entry of a spot in the chain of the bucket whose write is marked.
     pub fn replace<W: OwnerWords>(&mut self, words: &mut W, spot: Spot, tag: u16, offset: u64)
         requires index { IsIndexOf self.old (W.owner words.old) }
-        requires spot { WhenMarked (W.owner words.old).phase (λ b write before. IsUsed (W.owner words.old) b spot) }
+        requires spot { WhenMarked (W.owner words.old).phase
+            (λ b write before. IsUsed (W.owner words.old) b spot) }
         requires tag { 1 ≤ tag }
         requires offset { offset < 2 ^ 48 }
         ensures entries { WhenMarked (W.owner words.old).phase (λ b write before.
             ChangesChain (W.owner words.old) (W.owner words.new) b
-            (slice_set (entries_of (W.owner words.old) b) (number_of (W.owner words.old) b spot) (entry_of tag offset))) }
+            (entries_with (W.owner words.old) b spot (entry_of tag offset))) }
         ensures index { (self.new ≡ self.old) × IsIndexOf self.new (W.owner words.new) }
         ensures kept { Kept (W.owner words.new) }
         ensures home { W.home words.new ≡ W.home words.old }
@@ -158,7 +162,7 @@ impl ChainedIndex {
         requires bucket { IsMain (W.owner words.old).shape bucket }
         requires spot { IsUsed (W.owner words.old) bucket spot }
         ensures entries { ChangesChain (W.owner words.old) (W.owner words.new) bucket
-            (swap_remove (entries_of (W.owner words.old) bucket) (number_of (W.owner words.old) bucket spot) 0) }
+            (entries_without (W.owner words.old) bucket spot) }
         ensures index { IsIndexOf self.new (W.owner words.new) }
         ensures kept { Kept (W.owner words.new) }
         ensures home { W.home words.new ≡ W.home words.old }
@@ -179,7 +183,8 @@ impl ChainedIndex {
         requires index { IsIndexOf self.now (W.owner words.old) }
         requires bucket { IsMain (W.owner words.old).shape bucket }
         ensures end { (links : ℕ) × EndsAt (W.owner words.old) bucket links result }
-        ensures same { (W.owner words.new ≡ W.owner words.old) × (W.home words.new ≡ W.home words.old) }
+        ensures same { W.owner words.new ≡ W.owner words.old }
+        ensures home { W.home words.new ≡ W.home words.old }
         ensures kept { Kept (W.owner words.new) }
     {
         let (before, last) = self.last_two(words, bucket);
@@ -198,11 +203,12 @@ impl ChainedIndex {
             → (bucket_at (W.owner words.old) links bucket ≡ result.1)
             × ((k : ℕ) → suc k ≡ links → bucket_at (W.owner words.old) k bucket ≡ result.0) }
         ensures inside { IsBucket (W.owner words.old).shape result.1 }
-        ensures same { (W.owner words.new ≡ W.owner words.old) × (W.home words.new ≡ W.home words.old) }
+        ensures same { W.owner words.new ≡ W.owner words.old }
+        ensures home { W.home words.new ≡ W.home words.old }
     {
         let mut before = bucket;
         let mut at = bucket;
-        for link in 0..self.shape.spares {
+        for _link in 0..self.shape.spares {
             let next = words.read(WordAt::Link(at)) as u32;
             if next == 0 {
                 return (before, at);
@@ -217,9 +223,10 @@ impl ChainedIndex {
 // Whether the entry has the tag, and its item the key.
 fn names_key<W: OwnerWords>(words: &mut W, entry: u64, tag: u16, key: &[u8]) -> bool
     requires { KeyFits key.now }
-    ensures names { IsTrue result
-        ↔ ((entry_tag_of entry ≡ tag) × HasKey (W.owner words.old) (entry_offset_of entry) key.entry.now) }
-    ensures same { (W.owner words.new ≡ W.owner words.old) × (W.home words.new ≡ W.home words.old) }
+    ensures names { IsTrue result ↔ ((entry_tag_of entry ≡ tag)
+        × HasKey (W.owner words.old) (entry_offset_of entry) key.entry.now) }
+    ensures same { W.owner words.new ≡ W.owner words.old }
+    ensures home { W.home words.new ≡ W.home words.old }
 {
     entry_tag(entry) == tag && holds_key(words, entry_offset(entry), key)
 }
@@ -227,9 +234,11 @@ fn names_key<W: OwnerWords>(words: &mut W, entry: u64, tag: u16, key: &[u8]) -> 
 // How many slots of the bucket are used before the first empty one.
 fn used_slots<W: OwnerWords>(words: &mut W, bucket: u32) -> u32
     requires { IsBucket (W.owner words.old).shape bucket }
-    ensures used { (result ≤ 15) × ((slot : ℕ) → slot < result → entry_in (W.owner words.old) bucket slot ≢ 0)
+    ensures used { (result ≤ 15)
+        × ((slot : ℕ) → slot < result → entry_in (W.owner words.old) bucket slot ≢ 0)
         × (result < 15 → entry_in (W.owner words.old) bucket result ≡ 0) }
-    ensures same { (W.owner words.new ≡ W.owner words.old) × (W.home words.new ≡ W.home words.old) }
+    ensures same { W.owner words.new ≡ W.owner words.old }
+    ensures home { W.home words.new ≡ W.home words.old }
     ensures kept { Kept (W.owner words.new) }
 {
     for slot in 0..SLOTS {

@@ -1,4 +1,4 @@
-use Rattle.std.proofs.Common.{◌≡◌, ℕ, ◌<◌, ◌≤◌, ◌≢◌, ◌∙◌, sym, ap, subst}
+use Rattle.std.proofs.Common.{◌≡◌, ℕ, ◌<◌, ◌≤◌, ◌≢◌, ◌∙◌, sym, subst}
 use Rattle.epoch_core.specs.declared.state.OwnerState.{OwnerState}
 use Rattle.epoch_core.specs.Shape.{IsBucket}
 use Rattle.epoch_core.specs.OwnerState.{entry_in}
@@ -9,15 +9,15 @@ use Rattle.chained_index.proofs.index.ChainedIndex.end_of.Goals as goal
 
 pub used_slots-requires : goal.used_slots-requires
 used_slots-requires g c =
-    subst (λ (z : OwnerState). IsBucket z.shape c.last_two-before.result.1) (sym c.last_two-before.ensures.same.0) c.last_two-before.ensures.inside
+    subst (λ (z : OwnerState). IsBucket z.shape c.last_two-before.result.1) (sym c.last_two-before.ensures.same) c.last_two-before.ensures.inside
 
 pub returns-clause-end : goal.returns-clause-end
 returns-clause-end g c =
     let o : OwnerState = g.W.OwnerWords.owner c.args.words.now in
-    let same = c.used_slots.ensures.same.0 ∙ c.last_two-before.ensures.same.0 in
+    let same = c.used_slots.ensures.same ∙ c.last_two-before.ensures.same in
     let used : ℕ = c.used_slots.result in
     let last : ℕ = c.last_two-before.result.1 in
     end_there o (chained o (subst Kept same c.used_slots.ensures.kept)) c.args.bucket c.requires.bucket (c.requires.index.dense c.args.bucket c.requires.bucket)
     c.last_two-before.result.0 last used c.last_two-before.ensures.last
     (subst (λ (z : OwnerState). (used ≤ 15) × ((slot : ℕ) → slot < used → entry_in z last slot ≢ 0) × (used < 15 → entry_in z last used ≡ 0))
-    c.last_two-before.ensures.same.0 c.used_slots.ensures.used)
+    c.last_two-before.ensures.same c.used_slots.ensures.used)

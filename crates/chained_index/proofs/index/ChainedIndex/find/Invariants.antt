@@ -1,4 +1,4 @@
-use Rattle.std.proofs.Common.{◌≡◌, ℕ, ◌<◌}
+use Rattle.std.proofs.Common.{◌≡◌, ◌<◌}
 use Rattle.epoch_core.specs.Kept.{Kept}
 use Rattle.chained_index.proofs.Walking.{IsAt}
 use Rattle.chained_index.proofs.Finding.{NoneBefore, NoneAt}
@@ -8,9 +8,9 @@ abbrev pub invariant-loop-link : goal.invariant-loop-link
 invariant-loop-link g l = record {
   owner : g.W.OwnerWords.owner l.words ≡ g.W.OwnerWords.owner l.fn.words;
   home : g.W.OwnerWords.home l.words ≡ g.W.OwnerWords.home l.fn.words;
-  kept : 0 < l.link → Kept (g.W.OwnerWords.owner l.fn.words);
-  walk : IsAt (g.W.OwnerWords.owner l.fn.words) l.bucket l.link l.at;
-  before : NoneBefore (g.W.OwnerWords.owner l.fn.words) l.bucket l.key l.link;
+  kept : 0 < l._link → Kept (g.W.OwnerWords.owner l.fn.words);
+  walk : IsAt (g.W.OwnerWords.owner l.fn.words) l.bucket l._link l.at;
+  before : NoneBefore (g.W.OwnerWords.owner l.fn.words) l.bucket l.key l._link;
 }
 
 abbrev pub invariant-loop-slot : goal.invariant-loop-slot

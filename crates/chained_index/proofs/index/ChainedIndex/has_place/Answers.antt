@@ -11,7 +11,7 @@ use Rattle.chained_index.proofs.index.ChainedIndex.has_place.Goals as goal
 pub returns-else-not-is_empty-clause-place : goal.returns-else-not-is_empty-clause-place
 returns-else-not-is_empty-clause-place g c =
     let o : OwnerState = g.W.OwnerWords.owner c.args.words.now in
-    let kept = chained o (subst Kept c.end_of.ensures.same.0 c.end_of.ensures.kept) in
+    let kept = chained o (subst Kept c.end_of.ensures.same c.end_of.ensures.kept) in
     let end = c.end_of.ensures.end in
     let empty : length c.self.inside.free.items ≡ 0 = search rules in
     let none : c.args.self.now.free ≡ [] = sym (ap (λ (z : Index). z.free) c.self.view_is) ∙ nil_from_length c.self.inside.free.items empty in (

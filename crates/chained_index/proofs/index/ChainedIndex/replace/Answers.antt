@@ -1,4 +1,4 @@
-use Rattle.std.proofs.Common.{◌≡◌, ℕ, ◌≢◌, ◌∙◌, set, refl, ap, arith}
+use Rattle.std.proofs.Common.{◌≡◌, ℕ, ◌∙◌, set, refl, ap}
 use Rattle.mica_words.specs.Entry.{entry_of}
 use Rattle.epoch_core.specs.declared.state.OwnerState.{OwnerState}
 use Rattle.epoch_core.specs.declared.event.Event.TheVariants.{PutsEntry}
@@ -15,7 +15,7 @@ returns-clause-entries g c =
     let p : OwnerState = g.W.OwnerWords.owner c.put_entry.new.self in
     let x : ℕ = entry_of c.args.tag c.args.offset in
     let is : p ≡ after (PutsEntry c.args.spot.bucket c.args.spot.slot x) o =
-    c.put_entry.ensures.event.0 ∙ ap (λ (z : ℕ). after (PutsEntry c.args.spot.bucket c.args.spot.slot z) o) c.entry_of.ensures in
+    c.put_entry.ensures.event ∙ ap (λ (z : ℕ). after (PutsEntry c.args.spot.bucket c.args.spot.slot z) o) c.entry_of.ensures in
     marked_part o.phase (λ b. IsUsed o b c.args.spot) (λ b. ChangesChain o p b (set (entries_of o b) (number_of o b c.args.spot) x))
     (λ b one u. replaced_by o p c.put_entry.ensures.kept c.args.spot x (some_entry c.args.tag c.args.offset c.requires.tag) is b one u c.args.self.now c.requires.index)
     c.requires.spot
@@ -26,7 +26,7 @@ returns-clause-index g c =
     let p : OwnerState = g.W.OwnerWords.owner c.put_entry.new.self in
     let x : ℕ = entry_of c.args.tag c.args.offset in
     let is : p ≡ after (PutsEntry c.args.spot.bucket c.args.spot.slot x) o =
-    c.put_entry.ensures.event.0 ∙ ap (λ (z : ℕ). after (PutsEntry c.args.spot.bucket c.args.spot.slot z) o) c.entry_of.ensures in (
+    c.put_entry.ensures.event ∙ ap (λ (z : ℕ). after (PutsEntry c.args.spot.bucket c.args.spot.slot z) o) c.entry_of.ensures in (
       refl,
       marked_any o.phase (λ b. IsUsed o b c.args.spot) (IsIndexOf c.args.self.now p)
           (λ b one u. index_replaced_by o p c.put_entry.ensures.kept c.args.spot x (some_entry c.args.tag c.args.offset c.requires.tag) is b one u c.args.self.now c.requires.index)
