@@ -118,10 +118,10 @@ module _ (o : OwnerState) (s : Chained o) (mode : o.shape.mode ≡ Store) (index
   shape_in : (b : ℕ) → IsMain o.shape b → (links : ℕ) × (used : ℕ) × HasChainShape o b links used
   shape_in b main = shape_there o b (s.chains.end b main) (known.dense b main)
 
-  place : (b : ℕ) → IsMain o.shape b → (c slot entry : ℕ) → HasLiveEntry o b c slot entry → (i : ℕ) × Stands o b c slot entry i
+  pub place : (b : ℕ) → IsMain o.shape b → (c slot entry : ℕ) → HasLiveEntry o b c slot entry → (i : ℕ) × Stands o b c slot entry i
   place b main = place_of o s mode b main (shape_in b main).0 (shape_in b main).1 (shape_in b main).2
 
-  spot : (b : ℕ) → IsMain o.shape b → (i : ℕ) → i < length (entries_of o b) → Stands o b (bucket_at o (i / 15) b) (i % 15) (at (entries_of o b) i) i
+  pub spot : (b : ℕ) → IsMain o.shape b → (i : ℕ) → i < length (entries_of o b) → Stands o b (bucket_at o (i / 15) b) (i % 15) (at (entries_of o b) i) i
   spot b main = spot_of o s mode b main (shape_in b main).0 (shape_in b main).1 (shape_in b main).2
 
   module _ (b : ℕ) (main : IsMain o.shape b) where

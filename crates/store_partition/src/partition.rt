@@ -1,0 +1,266 @@
+//! The partition and its calls.
+ghost use Rattle.std.specs.Prelude.{◌≡◌, ◌+◌, ◌<◌, ◌≤◌, ◌↔◌, [], Some, None, IsTrue, IfOk, length};
+ghost use Rattle.mica_words.specs.Item.{KeyFits, ValueFits, item_size as item_size_of};
+ghost use Rattle.mica_words.specs.Entry.{entry_offset as entry_offset_of};
+ghost use Rattle.mica_model.specs.declared.options.Mode.TheVariants.{Store};
+ghost use Rattle.mica_model.specs.declared.write.Op.TheVariants.{Put, Del};
+ghost use Rattle.mica_model.specs.Write.{write_of};
+ghost use Rattle.mica_model.specs.History.{stamp_of};
+ghost use Rattle.epoch_core.specs.OwnerState.{options_in, as_made};
+ghost use Rattle.epoch_core.specs.OwnerStep.{IsOwnerStep};
+ghost use Rattle.epoch_core.specs.StandsFor.{room_in};
+ghost use Rattle.epoch_core.specs.Kept.{Kept};
+ghost use Rattle.chained_index.specs.ChainEntries.{spot_entry};
+ghost use Rattle.store_partition.specs.Sought.{IsSought};
+ghost use Rattle.store_partition.specs.Parts.{AreParts};
+
+use crate::marking::begin_marked;
+use crate::reading::{block_at, seek, value_of};
+use block_heap::Heap;
+use chained_index::{ChainedIndex, Spot};
+use epoch_core::{OwnerWords, Partition, write_item};
+use mica_io::NoMemory;
+use mica_model::{Answer, ItemBuf, Op, Outcome};
+use mica_words::{item_size, key_hash, tag_of};
+use std::alloc::Global;
+
+/// A partition over an owner's words. Its stamp is the number of accepted writes.
+#[derive(Drop)]
+pub struct StorePartition<W: OwnerWords> {
+    words: W,
+    index: ChainedIndex,
+    heap: Heap,
+    accepted: u64,
+    pub ghost parts: { ∥ AreParts index heap (W.owner words) ∥₁ },
+    pub ghost counted: { accepted ≡ length (W.owner words).history },
+    pub ghost stamped: { accepted ≡ stamp_of (options_in (W.owner words)) (W.owner words).history },
+}
+
+impl<W: OwnerWords> StorePartition<W> {
+    /// An empty partition over words as made, which are dropped where there is no memory.
+    pub fn new(alloc: Global, words: W) -> Result<StorePartition<W>, NoMemory>
+        requires made { W.owner words ≡ as_made (W.owner words).shape }
+        requires mode { (W.owner words).shape.mode ≡ Store }
+        ensures owner { IfOk result (λ p. W.owner p.words ≡ W.owner words) }
+        ensures home { IfOk result (λ p. W.home p.words ≡ W.home words) }
+    {
+        let shape = words.shape();
+        let index = ChainedIndex::new(alloc, &shape)?;
+        let heap = Heap::new(alloc, shape.words)?;
+        Ok(StorePartition {
+            words,
+            index,
+            heap,
+            accepted: 0,
+        })
+    }
+
+    /// The words, with what the partition made of them.
+    pub fn into_words(self) -> W
+        ensures owner { W.owner result ≡ W.owner self.words }
+        ensures home { W.home result ≡ W.home self.words }
+    {
+        self.words
+    }
+
+    // Whether as many writes were accepted as the partition may bear.
+    fn is_worn(&self) -> bool
+        ensures { IsTrue result ↔ ((W.owner self.now.words).shape.wear ≤ length (W.owner self.now.words).history) }
+    {
+        self.words.shape().wear <= self.accepted
+    }
+
+    // A put of a key that has an item, whose room is kept where it suffices.
+    fn put_known(&mut self, bucket: u32, spot: Spot, key: &[u8], value: &[u8]) -> Outcome
+        requires kept { Kept (W.owner self.old.words) }
+        requires unworn { length (W.owner self.old.words).history < (W.owner self.old.words).shape.wear }
+        requires key { KeyFits key.now }
+        requires value { ValueFits value.now }
+        requires sought { IsSought (W.owner self.old.words) key.now bucket (Some spot) }
+        ensures step { IsOwnerStep (W.owner self.old.words) (W.owner self.new.words)
+            (write_of Put key.entry.now value.entry.now) result }
+        ensures home { W.home self.new.words ≡ W.home self.old.words }
+    {
+        let (offset, room) = block_at(&mut self.words, spot);
+        if item_size(key.len(), value.len()) <= room {
+            self.put_in_room(bucket, spot, offset, room, key, value);
+            Outcome::Stored
+        } else {
+            self.put_grown(bucket, spot, offset, key, value)
+        }
+    }
+
+    // The put writes its item into the room that the key's item has.
+    fn put_in_room(
+        &mut self,
+        bucket: u32,
+        spot: Spot,
+        offset: u64,
+        room: u32,
+        key: &[u8],
+        value: &[u8],
+    )
+        requires kept { Kept (W.owner self.old.words) }
+        requires unworn { length (W.owner self.old.words).history < (W.owner self.old.words).shape.wear }
+        requires key { KeyFits key.now }
+        requires value { ValueFits value.now }
+        requires sought { IsSought (W.owner self.old.words) key.now bucket (Some spot) }
+        requires offset { offset ≡ entry_offset_of (spot_entry (W.owner self.old.words) spot) }
+        requires room { room ≡ room_in (W.owner self.old.words) (spot_entry (W.owner self.old.words) spot) }
+        requires fits { item_size_of key.now value.now ≤ room }
+        ensures step { IsOwnerStep (W.owner self.old.words) (W.owner self.new.words)
+            (write_of Put key.entry.now value.entry.now) Outcome.Stored }
+        ensures home { W.home self.new.words ≡ W.home self.old.words }
+    {
+        let stamp = self.accepted + 1;
+        begin_marked(&mut self.words, bucket, Op::Put, key, value, stamp);
+        write_item(&mut self.words, offset, room, key, value);
+        self.words.end_write(bucket);
+        self.accepted = stamp;
+    }
+
+    // The put takes a new block for its item, and then gives the old one back.
+    fn put_grown(
+        &mut self,
+        bucket: u32,
+        spot: Spot,
+        offset: u64,
+        key: &[u8],
+        value: &[u8],
+    ) -> Outcome
+        requires kept { Kept (W.owner self.old.words) }
+        requires unworn { length (W.owner self.old.words).history < (W.owner self.old.words).shape.wear }
+        requires key { KeyFits key.now }
+        requires value { ValueFits value.now }
+        requires sought { IsSought (W.owner self.old.words) key.now bucket (Some spot) }
+        requires offset { offset ≡ entry_offset_of (spot_entry (W.owner self.old.words) spot) }
+        requires grows { room_in (W.owner self.old.words) (spot_entry (W.owner self.old.words) spot)
+            < item_size_of key.now value.now }
+        ensures step { IsOwnerStep (W.owner self.old.words) (W.owner self.new.words)
+            (write_of Put key.entry.now value.entry.now) result }
+        ensures home { W.home self.new.words ≡ W.home self.old.words }
+    {
+        let size = item_size(key.len(), value.len());
+        let Some(place) = self.heap.take(size) else {
+            return Outcome::FullBlock;
+        };
+        let stamp = self.accepted + 1;
+        begin_marked(&mut self.words, bucket, Op::Put, key, value, stamp);
+        write_item(&mut self.words, u64::from(place), size, key, value);
+        self.index
+            .replace(&mut self.words, spot, tag_of(key_hash(key)), u64::from(place));
+        self.words.end_write(bucket);
+        self.heap.give(offset as u32);
+        self.accepted = stamp;
+        Outcome::Stored
+    }
+
+    // A put of a key that has none.
+    fn put_new(&mut self, bucket: u32, key: &[u8], value: &[u8]) -> Outcome
+        requires kept { Kept (W.owner self.old.words) }
+        requires unworn { length (W.owner self.old.words).history < (W.owner self.old.words).shape.wear }
+        requires key { KeyFits key.now }
+        requires value { ValueFits value.now }
+        requires sought { IsSought (W.owner self.old.words) key.now bucket None }
+        ensures step { IsOwnerStep (W.owner self.old.words) (W.owner self.new.words)
+            (write_of Put key.entry.now value.entry.now) result }
+        ensures home { W.home self.new.words ≡ W.home self.old.words }
+    {
+        if !self.index.has_place(&mut self.words, bucket) {
+            return Outcome::FullSpare;
+        }
+        let size = item_size(key.len(), value.len());
+        let Some(place) = self.heap.take(size) else {
+            return Outcome::FullBlock;
+        };
+        let stamp = self.accepted + 1;
+        begin_marked(&mut self.words, bucket, Op::Put, key, value, stamp);
+        write_item(&mut self.words, u64::from(place), size, key, value);
+        self.index
+            .place(&mut self.words, bucket, tag_of(key_hash(key)), u64::from(place));
+        self.words.end_write(bucket);
+        self.accepted = stamp;
+        Outcome::Stored
+    }
+
+    // A delete of a key that has an item.
+    fn del_known(&mut self, bucket: u32, spot: Spot, key: &[u8])
+        requires kept { Kept (W.owner self.old.words) }
+        requires unworn { length (W.owner self.old.words).history < (W.owner self.old.words).shape.wear }
+        requires key { KeyFits key.now }
+        requires sought { IsSought (W.owner self.old.words) key.now bucket (Some spot) }
+        ensures step { IsOwnerStep (W.owner self.old.words) (W.owner self.new.words)
+            (write_of Del key.entry.now []) Outcome.Deleted }
+        ensures home { W.home self.new.words ≡ W.home self.old.words }
+    {
+        let (offset, _) = block_at(&mut self.words, spot);
+        let stamp = self.accepted + 1;
+        begin_marked(&mut self.words, bucket, Op::Del, key, &[], stamp);
+        self.index.remove(&mut self.words, bucket, spot);
+        self.words.end_write(bucket);
+        self.heap.give(offset as u32);
+        self.accepted = stamp;
+    }
+
+    // A delete of a key that has none.
+    fn del_absent(&mut self, bucket: u32, key: &[u8])
+        requires kept { Kept (W.owner self.old.words) }
+        requires unworn { length (W.owner self.old.words).history < (W.owner self.old.words).shape.wear }
+        requires key { KeyFits key.now }
+        requires sought { IsSought (W.owner self.old.words) key.now bucket None }
+        ensures step { IsOwnerStep (W.owner self.old.words) (W.owner self.new.words)
+            (write_of Del key.entry.now []) Outcome.Absent }
+        ensures home { W.home self.new.words ≡ W.home self.old.words }
+    {
+        let stamp = self.accepted + 1;
+        begin_marked(&mut self.words, bucket, Op::Del, key, &[], stamp);
+        self.words.end_write(bucket);
+        self.accepted = stamp;
+    }
+}
+
+impl<W: OwnerWords> Partition for StorePartition<W> {
+    ghost owner = { λ p. W.owner p.words };
+
+    ghost home = { λ p. W.home p.words };
+
+    fn put(&mut self, key: &[u8], value: &[u8]) -> Outcome {
+        if self.is_worn() {
+            return Outcome::Worn;
+        }
+        let place = seek(&mut self.words, &self.index, key);
+        match place.spot {
+            Some(spot) => self.put_known(place.bucket, spot, key, value),
+            None => self.put_new(place.bucket, key, value),
+        }
+    }
+
+    fn del(&mut self, key: &[u8]) -> Outcome {
+        if self.is_worn() {
+            return Outcome::Worn;
+        }
+        let place = seek(&mut self.words, &self.index, key);
+        match place.spot {
+            Some(spot) => {
+                self.del_known(place.bucket, spot, key);
+                Outcome::Deleted
+            }
+            None => {
+                self.del_absent(place.bucket, key);
+                Outcome::Absent
+            }
+        }
+    }
+
+    fn get(&mut self, key: &[u8], out: &mut ItemBuf) -> Answer {
+        value_of(&mut self.words, &self.index, &self.heap, key, out)
+    }
+
+    fn stamp(&self) -> u64 {
+        self.accepted
+    }
+
+    fn accepted(&self) -> u64 {
+        self.accepted
+    }
+}
