@@ -12,8 +12,9 @@ ghost use Rattle.mica_model.specs.Write.{HasValueOf, write_of};
 use cache_partition::CachePartition;
 use epoch_core::{Partition, PlainWords, Shape};
 use mica_io::NoMemory;
-use mica_model::{Answer, ItemBuf, Op, Options, Outcome, StoreMachine};
+use mica_model::{Answer, ItemBuf, Op, Options, Outcome};
 use std::alloc::Global;
+use store_partition::StorePartition;
 
 // A machine of one partition, whichever way its state is kept.
 pub trait Machine: Drop {
@@ -47,38 +48,6 @@ pub trait Machine: Drop {
         ensures { result ≡ stamp_in (state self.now) };
 }
 
-impl Machine for StoreMachine {
-    ghost use Rattle.mica_model.specs.declared.options.Mode.TheVariants.{Store};
-
-    ghost mode = { Store };
-
-    ghost own_options = { λ m. m.options };
-
-    ghost state = { λ m. m.state };
-
-    fn new(alloc: Global, options: &Options) -> Result<Self, NoMemory> {
-        StoreMachine::new(alloc, options)
-    }
-
-    fn step(
-        &mut self,
-        alloc: Global,
-        op: Op,
-        key: &[u8],
-        value: &[u8],
-    ) -> Result<Outcome, NoMemory> {
-        self.apply(alloc, op, key, value)
-    }
-
-    fn answer(&mut self, key: &[u8], out: &mut ItemBuf) -> Answer {
-        StoreMachine::answer(self, key, out)
-    }
-
-    fn stamp(&self) -> u64 {
-        StoreMachine::stamp(self)
-    }
-}
-
 impl Machine for CachePartition<PlainWords> {
     ghost use Rattle.mica_model.specs.declared.options.Mode.TheVariants.{Cache};
     ghost use Rattle.epoch_core.specs.OwnerState.{options_in, state_in};
@@ -92,6 +61,43 @@ impl Machine for CachePartition<PlainWords> {
     fn new(alloc: Global, options: &Options) -> Result<Self, NoMemory> {
         let words = PlainWords::new(alloc, &Shape::of(options), 0)?;
         Ok(CachePartition::new(words))
+    }
+
+    fn step(
+        &mut self,
+        _alloc: Global,
+        op: Op,
+        key: &[u8],
+        value: &[u8],
+    ) -> Result<Outcome, NoMemory> {
+        match op {
+            Op::Put => Ok(self.put(key, value)),
+            Op::Del => Ok(self.del(key)),
+        }
+    }
+
+    fn answer(&mut self, key: &[u8], out: &mut ItemBuf) -> Answer {
+        self.get(key, out)
+    }
+
+    fn stamp(&self) -> u64 {
+        Partition::stamp(self)
+    }
+}
+
+impl Machine for StorePartition<PlainWords> {
+    ghost use Rattle.mica_model.specs.declared.options.Mode.TheVariants.{Store};
+    ghost use Rattle.epoch_core.specs.OwnerState.{options_in, state_in};
+
+    ghost mode = { Store };
+
+    ghost own_options = { λ p. options_in (⟦<StorePartition<PlainWords> as Partition>⟧.owner p) };
+
+    ghost state = { λ p. state_in (⟦<StorePartition<PlainWords> as Partition>⟧.owner p) };
+
+    fn new(alloc: Global, options: &Options) -> Result<Self, NoMemory> {
+        let words = PlainWords::new(alloc, &Shape::of(options), 0)?;
+        StorePartition::new(alloc, words)
     }
 
     fn step(

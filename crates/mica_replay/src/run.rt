@@ -12,10 +12,11 @@ use crate::machine::Machine;
 use cache_partition::CachePartition;
 use epoch_core::PlainWords;
 use mica_io::{Bytes, NoMemory};
-use mica_model::{Answer, ItemBuf, Mode, Op, Options, StoreMachine};
+use mica_model::{Answer, ItemBuf, Mode, Op, Options};
 use mica_trace::{Line, Report, Trace, TraceLine, TraceOp};
 use mica_words::{key_hash, partition_of};
 use std::alloc::Global;
+use store_partition::StorePartition;
 
 // One machine for each partition.
 fn new_machines<M: Machine>(alloc: Global, options: &Options) -> Result<Vec<M>, NoMemory>
@@ -120,13 +121,13 @@ fn run_on<M: Machine>(alloc: Global, options: &Options, trace: &Trace) -> Result
 
 /// The report of a trace, by one machine for each partition, on one thread.
 ///
-/// In cache mode a partition is a log and an index over words, in store mode the plain machine.
+/// A partition is a log under a lossy index in cache mode, a heap under a lossless one in store mode, over words of its own.
 pub fn run_trace(alloc: Global, options: &Options, trace: &Trace) -> Result<Report, NoMemory>
     requires { IsValid options.now }
     ensures { IfOk result (LawfulReport options.now trace.now) }
 {
     match options.mode {
         Mode::Cache => run_on::<CachePartition<PlainWords>>(alloc, options, trace),
-        Mode::Store => run_on::<StoreMachine>(alloc, options, trace),
+        Mode::Store => run_on::<StorePartition<PlainWords>>(alloc, options, trace),
     }
 }
