@@ -1,2 +1,3 @@
 pub mod MarkedPut
+pub mod InPlace
 pub mod LoadedValue

@@ -105,5 +105,5 @@ module _ (o : OwnerState) (s : Kept o) (key value : List ℕ) (key_fits : KeyFit
   pub can_append : (room : ℕ) → MayAppend o p key value → CanPlay (puts_from p (item_words room key value)) o
   can_append room a = can_put_item room (may_put o.phase refl (appends o.phase refl a.marked a.at_tail))
 
-  pub can_rewrite : (room : ℕ) → MayRewrite o p key value → CanPlay (puts_from p (item_words room key value)) o
-  can_rewrite room a = can_put_item room (may_put o.phase refl (rewrites o.phase refl a.marked a.in_place))
+  pub may_rewrite : MayRewrite o p key value → MayPutWords o p (item_size key value)
+  may_rewrite a = may_put o.phase refl (rewrites o.phase refl a.marked a.in_place)

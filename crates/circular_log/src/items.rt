@@ -1,13 +1,18 @@
 //! Items, from their first word on.
-ghost use Rattle.std.specs.Prelude.{◌≡◌, ◌<◌, ◌^◌};
+ghost use Rattle.std.specs.Prelude.{◌≡◌, ◌+◌, ◌<◌, ◌^◌, length};
 ghost use Rattle.mica_words.specs.Item.{KeyFits, ValueFits, item_size as item_size_of};
+ghost use Rattle.epoch_core.specs.Events.{CanPlay, plays, puts_from};
 ghost use Rattle.epoch_core.specs.Kept.{Kept};
 ghost use Rattle.circular_log.specs.LogItem.{HasItem, IsValueAt, room_at};
 ghost use Rattle.circular_log.specs.LogWrite.{MayAppend, MayRewrite, with_item};
 
 use epoch_core::{OwnerWords, WordAt, write_item};
 use mica_model::ItemBuf;
-use mica_words::{MAX_VALUE_LEN, header_key_len, header_room, header_value_len, item_size};
+use mica_words::{
+    MAX_VALUE_LEN, header_key_len, header_of, header_room, header_value_len, item_size, pack,
+};
+
+const MAX_VALUE_WORDS: usize = (MAX_VALUE_LEN + 7) / 8;
 
 /// Writes the marked put's item at the offset, the tail before it, in a room of its own size.
 pub fn append<W: OwnerWords>(words: &mut W, offset: u64, key: &[u8], value: &[u8])
@@ -19,13 +24,14 @@ pub fn append<W: OwnerWords>(words: &mut W, offset: u64, key: &[u8], value: &[u8
     ensures home { W.home words.new ≡ W.home words.old }
     ensures kept { Kept (W.owner words.new) }
 {
-    // A load tells that the words are lawful, so that the offsets of the item are known to be small.
+    // A load tells that the words are lawful: so the offsets of the item are known to be small.
     words.read(WordAt::Stamp);
     let room = item_size(key.len(), value.len());
     write_item(words, offset, room, key, value);
 }
 
-/// Writes the marked put's value into the room of the key's item, which stays.
+/// Writes the marked put's value into the room of the key's item. The room stays, and so do the hash and
+/// the key, which are not stored again.
 pub fn rewrite<W: OwnerWords>(words: &mut W, offset: u64, key: &[u8], value: &[u8])
     requires key { KeyFits key.now }
     requires value { ValueFits value.now }
@@ -36,7 +42,29 @@ pub fn rewrite<W: OwnerWords>(words: &mut W, offset: u64, key: &[u8], value: &[u
     ensures kept { Kept (W.owner words.new) }
 {
     let room = header_room(words.read(WordAt::Item(offset)));
-    write_item(words, offset, room, key, value);
+    let mut packed = [0; MAX_VALUE_WORDS];
+    let packed = &mut packed[..value.len().div_ceil(8)];
+    pack(value, packed);
+    words.put_word(
+        offset,
+        header_of(room, key.len() as u32, value.len() as u32),
+    );
+    put_words(words, offset + u64::from(item_size(key.len(), 0)), packed);
+}
+
+// Stores the words from the offset on.
+fn put_words<W: OwnerWords>(words: &mut W, offset: u64, from: &[u64])
+    requires low { offset + length from.now < 2 ^ 64 }
+    requires kept { Kept (W.owner words.old) }
+    requires allowed { CanPlay (puts_from offset from.now) (W.owner words.old) }
+    ensures events { W.owner words.new
+        ≡ plays (puts_from offset from.entry.now) (W.owner words.old) }
+    ensures home { W.home words.new ≡ W.home words.old }
+    ensures kept { Kept (W.owner words.new) }
+{
+    for (i, word) in from.iter().enumerate() {
+        words.put_word(offset + i as u64, *word);
+    }
 }
 
 /// Copies the value of the item that stands at the offset.

@@ -1,9 +1,10 @@
-//! Items in the circular log of cache mode: a put appends its item at the tail, over the oldest items, or writes its
-//! value into the room that the key's item has.
+//! Items in the circular log of cache mode, after the MICA paper: a put appends its item at the tail, over the
+//! oldest items, or writes its value into the room that the key's item has.
 //!
-//! The layer above may rely on this: after `append` and `rewrite` the owner's state is the one with the item stored at
-//! the offset, and nothing else has changed; `item_at` gives the value that the words at an offset spell; and
-//! `is_live` says whether the log has not passed an offset yet. No call takes memory, and none refuses.
+//! The layer above may rely on this: after `append` and `rewrite` the owner's state is the one with the item
+//! stored at the offset, and nothing else has changed; `item_at` gives the value that the words at an offset
+//! spell; and `is_live` says whether the log has not passed an offset yet. No call takes memory, and none
+//! refuses.
 #![tactic(auto)]
 
 mod items;

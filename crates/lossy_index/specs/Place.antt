@@ -18,12 +18,13 @@ pub record IsLeast (number : ℕ → ℕ) (slot : ℕ) : Type 0 where
   pub in_bucket : slot < 15
   pub least : (other : ℕ) → other < 15 → number slot ≤ number other
 
--- The slot that gives way to a new key's entry: the first empty one, else the first whose item the log has passed, else
--- the one of least offset, whose item is the oldest.
+-- The slot that gives way to a new key's entry: the first empty one, else the first whose item the log
+-- has passed, else the one of least offset, whose item is the oldest.
 pub data GivesWay (o : OwnerState) (b slot : ℕ) : Type 0 where
   empty : IsFirst (IsEmpty o b) slot → GivesWay o b slot
   passed : HoldsOfNone (IsEmpty o b) → IsFirst (IsPassed o b) slot → GivesWay o b slot
-  oldest : HoldsOfNone (IsEmpty o b) → HoldsOfNone (IsPassed o b) → IsLeast (offset_in o b) slot → GivesWay o b slot
+  oldest : HoldsOfNone (IsEmpty o b) → HoldsOfNone (IsPassed o b) → IsLeast (offset_in o b) slot
+      → GivesWay o b slot
 
 -- the slot that an entry takes: the given one, else the one that gives way
 abbrev pub Takes : OwnerState → ℕ → Option ℕ → ℕ → Type 0

@@ -19,7 +19,7 @@ IsEmpty o b slot = entry_in o b slot ≡ 0
 abbrev pub IsPassed : OwnerState → ℕ → ℕ → Type 0
 IsPassed o b slot = offset_in o b slot + o.shape.words < tail_of (stamp_in o)
 
--- The slot has an entry of the key's tag, whose item the log has not passed and has the key.
+-- The slot has an entry of the key's tag, whose item has the key and which the log has not passed.
 pub record IsSlotOf (o : OwnerState) (b : ℕ) (key : List ℕ) (slot : ℕ) : Type 0 where
   pub in_bucket : slot < 15
   pub tag : entry_tag (entry_in o b slot) ≡ tag_of key

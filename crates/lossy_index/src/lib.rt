@@ -1,9 +1,10 @@
-//! The lossy index of cache mode: in each bucket, 15 entries of a tag and an item's offset. An entry whose item the
-//! log has passed stays until its slot is taken, and a full bucket gives up its oldest entry.
+//! The lossy index of cache mode, after the MICA paper: in each bucket, 15 entries of a tag and an item's
+//! offset. An entry whose item the log has passed stays until its slot is taken, and a full bucket gives up its
+//! oldest entry.
 //!
-//! The layer above may rely on this: `find` gives the slot whose live item has the key, exactly where there is one;
-//! `place` and `clear` store one entry, and `place` in the slot that `specs/Place` says. No call takes memory, and
-//! none refuses.
+//! The layer above may rely on this: `find` gives the slot whose live item has the key, exactly where there is
+//! one; `place` and `clear` store one entry, and `place` in the slot that `specs/Place` says. No call takes
+//! memory, and none refuses.
 #![tactic(auto)]
 
 mod finding;

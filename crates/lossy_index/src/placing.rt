@@ -12,8 +12,8 @@ use crate::SLOTS;
 use epoch_core::{OwnerWords, WordAt};
 use mica_words::{entry_of, entry_offset, tail_of};
 
-/// Stores an entry of the tag and the offset, and answers its slot: `old` where that is given, else the one that
-/// gives way.
+/// Stores an entry of the tag and the offset, and answers its slot: `old` where that is given, else the one
+/// that gives way.
 pub fn place<W: OwnerWords>(
     words: &mut W,
     bucket: u32,

@@ -59,21 +59,21 @@ module _ (read_failed write_failed : Type 0) where
       elim either as (λ _. Ends (Some (Replay options)) left read_failed write_failed result before after) [
         | inl memory ↦ subst (λ s. Ends (Some (Replay options)) left read_failed write_failed s before after) (sym memory.0) memory.1
         | inr written ↦ elim why as (λ _. Ends (Some (Replay options)) left read_failed write_failed result before after) [
-            | inl is ↦ absurd (written.0 is)
-            | inr bad ↦ due_ends (Some (Replay options)) left before after TraceRefused (line_of (fault_text fault)) result
-                (refused_due options left rest input fault read ended short bad) written.1
-          ]
+          | inl is ↦ absurd (written.0 is)
+          | inr bad ↦ due_ends (Some (Replay options)) left before after TraceRefused (line_of (fault_text fault)) result
+              (refused_due options left rest input fault read ended short bad) written.1
+        ]
       ]
 
   -- a refused trace is not done
   pub refused_undone : (fault : TraceFault) (result : Status) (before after : Option (List ℕ)) → IsRefusedWith fault write_failed result before after → result ≢ Done
   refused_undone fault result before after either = elim either as (λ _. result ≢ Done) [
-      | inl memory ↦ λ is. let same : NoMemory ≡ Done = sym memory.0 ∙ is in cc
-      | inr written ↦ elim written.1 as (λ _. result ≢ Done) [
-          | inl whole ↦ λ is. let same : TraceRefused ≡ Done = sym whole.0 ∙ is in cc
-          | inr part ↦ λ is. let same : WriteFault ≡ Done = sym part.0 ∙ is in cc
-        ]
+    | inl memory ↦ λ is. let same : NoMemory ≡ Done = sym memory.0 ∙ is in cc
+    | inr written ↦ elim written.1 as (λ _. result ≢ Done) [
+      | inl whole ↦ λ is. let same : TraceRefused ≡ Done = sym whole.0 ∙ is in cc
+      | inr part ↦ λ is. let same : WriteFault ≡ Done = sym part.0 ∙ is in cc
     ]
+  ]
 
   -- with no fault of source and sink a trace is replayed, but for want of memory
   pub complete : (command : Option Command) (input before after : Option (List ℕ)) (result : Status) → Ends command input read_failed write_failed result before after

@@ -11,10 +11,9 @@ use Rattle.std.specs.Int.{is_power_of_two}
 use Rattle.std.specs.Str.Parse.{digits_value}
 use Rattle.mica_model.specs.declared.options.Options.{Options}
 use Rattle.mica_model.specs.declared.options.Mode.{Mode}
-use Rattle.mica_model.specs.declared.options.Mode.TheVariants.{Store}
-use Rattle.mica_model.specs.Options.{InRange}
+use Rattle.mica_model.specs.Options.{InRange, IsValid}
 use Rattle.mica_cmd.specs.Words.{Text}
-use Rattle.mica_cmd.specs.CommandLine.{mode, partitions, buckets, spares, words, readers, tries, wear, number, number_of, is_number, value_by, value_of, replay_options, IsOffered, ◌>>=◌}
+use Rattle.mica_cmd.specs.CommandLine.{mode, partitions, buckets, spares, words, readers, tries, wear, number, number_of, is_number, value_by, value_of, replay_options, ◌>>=◌}
 
 same_number : (a b : ℕ) → Some a ≡ Some b → a ≡ b
 same_number a b e = ap (λ o. unwrap_or o 0) e
@@ -74,19 +73,11 @@ both_told : {A B : Type 0} (o : Option A) (next : A → Option B) (b : B) → (o
 both_told None next b is = absurd (none-some b is)
 both_told (Some a) next b is = (a, refl, is)
 
-store_mode : (given : Option Text) (m : Mode) → value_by mode given ≡ Some m → Store ≡ m
-store_mode None m is = absurd (none-some m is)
-store_mode (Some t) m is =
-    elim (bytes_eq t (codes "store")) as (λ b. (if b then Some Store else None) ≡ Some m → Store ≡ m) [
-      | true ↦ λ same. ap (λ o. unwrap_or o Store) same
-      | false ↦ λ none. absurd (none-some m none)
-    ] is
-
 same_options : (a b : Options) → Some a ≡ Some b → a ≡ b
 same_options a b e = ap (λ o. unwrap_or o a) e
 
-pub offered : (given : Text → Option Text) (options : Options) → replay_options given ≡ Some options → IsOffered options
-offered given options is =
+pub replay_valid : (given : Text → Option Text) (options : Options) → replay_options given ≡ Some options → IsValid options
+replay_valid given options is =
     let m = both_told (value_of mode given) _ options is in
     let p = both_told (value_of partitions given) _ options m.2 in
     let b = both_told (value_of buckets given) _ options p.2 in
@@ -96,15 +87,12 @@ offered given options is =
     let t = both_told (value_of tries given) _ options r.2 in
     let e = both_told (value_of wear given) _ options t.2 in
     let power = buckets_bounds (given buckets.name) b.0 b.1 in
-    subst IsOffered (same_options _ options e.2) (record {
-      valid = record {
-        partitions = value_bounds partitions.name 1 16 4 (given partitions.name) p.0 (omega arith, omega arith) p.1;
-        buckets = bucket_power b.0 power.0 power.1;
-        spares = value_bounds spares.name 0 65536 1024 (given spares.name) s.0 (omega arith, omega arith) s.1;
-        words = value_bounds words.name 256 1048576 65536 (given words.name) w.0 (omega arith, omega arith) w.1;
-        readers = value_bounds readers.name 1 16 4 (given readers.name) r.0 (omega arith, omega arith) r.1;
-        tries = value_bounds tries.name 1 1000 100 (given tries.name) t.0 (omega arith, omega arith) t.1;
-        wear = value_bounds wear.name 1 68719476736 68719476736 (given wear.name) e.0 (omega arith, omega arith) e.1;
-      };
-      mode = sym (store_mode (given mode.name) m.0 m.1);
+    subst IsValid (same_options _ options e.2) (record {
+      partitions = value_bounds partitions.name 1 16 4 (given partitions.name) p.0 (omega arith, omega arith) p.1;
+      buckets = bucket_power b.0 power.0 power.1;
+      spares = value_bounds spares.name 0 65536 1024 (given spares.name) s.0 (omega arith, omega arith) s.1;
+      words = value_bounds words.name 256 1048576 65536 (given words.name) w.0 (omega arith, omega arith) w.1;
+      readers = value_bounds readers.name 1 16 4 (given readers.name) r.0 (omega arith, omega arith) r.1;
+      tries = value_bounds tries.name 1 1000 100 (given tries.name) t.0 (omega arith, omega arith) t.1;
+      wear = value_bounds wear.name 1 68719476736 68719476736 (given wear.name) e.0 (omega arith, omega arith) e.1;
     })

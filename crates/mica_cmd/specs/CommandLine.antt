@@ -5,7 +5,7 @@ use Rattle.std.specs.Str.{all_ascii_digits}
 use Rattle.std.specs.Str.Parse.{digits_value}
 use Rattle.mica_model.specs.declared.options.Options.{Options}
 use Rattle.mica_model.specs.declared.options.Mode.{Mode}
-use Rattle.mica_model.specs.declared.options.Mode.TheVariants.{Store}
+use Rattle.mica_model.specs.declared.options.Mode.TheVariants.{Cache, Store}
 use Rattle.mica_model.specs.Options.{IsValid}
 use Rattle.mica_cmd.specs.declared.command.Command.{Command}
 use Rattle.mica_cmd.specs.declared.command.Command.TheVariants.{Replay}
@@ -35,7 +35,9 @@ power_of_two_of most text =
 
 -- the mode that a text names, of those that the program has
 abbrev pub mode_of : Text → Option Mode
-mode_of text = if bytes_eq text (codes "store") then Some Store else None
+mode_of text =
+    if bytes_eq text (codes "cache") then Some Cache
+    else (if bytes_eq text (codes "store") then Some Store else None)
 
 -- an option: its name, what a text means as its value, and its value where it is not given;
 -- without such a value it is required
@@ -122,11 +124,6 @@ command_of (name ∷ rest) =
     then (given_by replay_names rest >>= λ given. option_map (λ o. Replay o) (replay_options (text_of given)))
     else None
 
--- the options lie in their ranges, and the mode is one that the program has
-pub record IsOffered (options : Options) : Type 0 where
-  pub valid : IsValid options
-  pub mode : options.mode ≡ Store
-
--- the options of a command are offered
-abbrev pub IsOfferedCommand : Command → Type 0
-IsOfferedCommand (Replay options) = IsOffered options
+-- the options of a command lie in their ranges
+abbrev pub IsValidCommand : Command → Type 0
+IsValidCommand (Replay options) = IsValid options

@@ -1,6 +1,6 @@
 // The commands, and the words that give them.
 ghost use Rattle.std.specs.Prelude.{◌≡◌, IfOk, IfErr, None, Some, map, string_bytes};
-ghost use Rattle.mica_cmd.specs.CommandLine.{command_of, IsOfferedCommand};
+ghost use Rattle.mica_cmd.specs.CommandLine.{command_of, IsValidCommand};
 
 use crate::clap_command::matches_of;
 use crate::option_values::replay_options;
@@ -36,7 +36,7 @@ pub fn read_words(alloc: Global, words: &[String]) -> Result<Command, WordsFault
     ensures command { IfOk result (λ c. command_of (map string_bytes words.now) ≡ Some c) }
     ensures usage { IfErr result (λ e. e ≡ WordsFault.Usage
         → command_of (map string_bytes words.now) ≡ None) }
-    ensures offered { IfOk result IsOfferedCommand }
+    ensures valid { IfOk result IsValidCommand }
 {
     let Some((name, rest)) = words.split_first() else {
         return Err(WordsFault::Usage);

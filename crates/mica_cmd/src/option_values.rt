@@ -55,6 +55,7 @@ fn mode(found: &ArgMatches<'_>) -> Option<Mode>
     ensures { result ≡ value_of mode (first_value (found_of found.now)) }
 {
     match found.get_str("mode")? {
+        "cache" => Some(Mode::Cache),
         "store" => Some(Mode::Store),
         _ => None,
     }

@@ -2,10 +2,11 @@ ghost use Rattle.std.specs.Prelude.{◌≡◌, ◌+◌, ◌≢◌, ◌⊎◌, �
 ghost use Rattle.std.specs.Io.KnownBytes.{Appends, Keeps, Consumes, IsAtEnd};
 ghost use Rattle.mica_io.specs.Faults.{Rose};
 ghost use Rattle.mica_model.specs.declared.options.Options.{Options};
+ghost use Rattle.mica_model.specs.Options.{IsValid};
 ghost use Rattle.mica_trace.specs.declared.line.TraceLine.{TraceLine};
 ghost use Rattle.mica_trace.specs.TraceGrammar.{IsTrace, fault_text};
 ghost use Rattle.mica_cmd.specs.declared.command.Command.TheVariants.{Replay};
-ghost use Rattle.mica_cmd.specs.CommandLine.{command_of, IsOffered};
+ghost use Rattle.mica_cmd.specs.CommandLine.{command_of};
 ghost use Rattle.mica_cmd.specs.Top.{Ends, Headline, IsWritten, IsRefusedWith, IsReplayOfTrace, most_read};
 
 use crate::{Command, Status, WordsFault, read_words};
@@ -52,7 +53,7 @@ fn replay_source<S: Source, K: Sink>(
     sink: &mut K,
 ) -> Status
     requires open { S.has_ended source.old ≡ false }
-    requires offered { IsOffered options.now }
+    requires valid { IsValid options.now }
 
     ensures headline { result ≡ Status.Done → Headline (Some (Replay options.now))
         (S.left source.old) (S.left source.new) (K.taken sink.old) (K.taken sink.new) }

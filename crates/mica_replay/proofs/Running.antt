@@ -1,12 +1,12 @@
 -- How far a trace has run: the machine of each partition has the history of its part of the writes.
-use Rattle.std.proofs.Common.{◌≡◌, ◌≢◌, ℕ, zero, suc, ◌+◌, ◌≤◌, List, [], ◌∷◌, ◌++◌, length, take, Some, refl, sym, ap, ◌∙◌, subst, arith, slice_get, slice_set, eq-eqb, ne_eqb, inl, inr, ◌⊎◌, replicate, map}
+use Rattle.std.proofs.Common.{◌≡◌, ◌≢◌, ℕ, zero, suc, ◌+◌, ◌≤◌, List, [], ◌∷◌, ◌++◌, length, take, Some, refl, sym, ap, ◌∙◌, subst, arith, slice_get, slice_set, eq-eqb, ne_eqb, inl, inr, ◌⊎◌}
 use Rattle.std.specs.List.{AllByRecursion}
-use Rattle.std.proofs.lemmas.List.{take_more, take_all, length_push, length-set, length-replicate}
+use Rattle.std.proofs.lemmas.List.{take_more, take_all, length_push, length-set}
 use Rattle.std.proofs.lemmas.Option.{get_or_from_slice_get, slice_get_within}
 use Rattle.mica_model.specs.declared.options.Options.{Options}
 use Rattle.mica_model.specs.declared.write.Write.{Write}
-use Rattle.mica_model.specs.Machine.{Machine, new_machine}
-use Rattle.mica_model.specs.History.{History, state_of, IsStep}
+use Rattle.mica_model.specs.Machine.{Machine}
+use Rattle.mica_model.specs.History.{History, state_of}
 use Rattle.mica_model.proofs.Values.{ValuesAre, start_are}
 use Rattle.mica_trace.specs.declared.line.TraceOp.TheVariants.{Get}
 use Rattle.mica_trace.specs.declared.line.TraceLine.{TraceLine}
@@ -15,7 +15,7 @@ use Rattle.mica_trace.specs.TraceGrammar.{IsTraceLine, IsValue}
 use Rattle.mica_trace.specs.Rounds.{partition_in}
 use Rattle.mica_trace.specs.LawfulReport.{Answers, history_after}
 use Rattle.mica_trace.specs.ExactReport.{writes_before, ExactReport}
-use Rattle.mica_replay.specs.Machines.{StepsAs, AreNew}
+use Rattle.mica_replay.specs.Machines.{StepsAs, IsNew, AreNew}
 use Rattle.mica_replay.specs.Replied.{Replied}
 use Rattle.mica_replay.proofs.InOrder.{InOrder, IsWritten, gain, part, part_gain, part_kept, push, one_to_one, runs, at_place}
 use Rattle.mica_replay.proofs.Following.{follows, Follows, replied_as}
@@ -49,10 +49,10 @@ exact options final trace report run = record {
       ];
 }
 
-replicated : {X : Type 0} (n : ℕ) (x y : X) (p : ℕ) → slice_get (replicate n x) p ≡ Some y → x ≡ y
-replicated zero x y p is = absurd (cc)
-replicated (suc n) x y zero is = cc
-replicated (suc n) x y (suc p) is = replicated n x y p is
+pub each_at : {X : Type 0} (P : X → Type 0) (xs : List X) (n : ℕ) (x : X) → AllByRecursion P xs → slice_get xs n ≡ Some x → P x
+each_at P [] n x all is = absurd (cc)
+each_at P (y ∷ xs) zero x all is = let same : y ≡ x = cc in subst P same all.0
+each_at P (y ∷ xs) (suc n) x all is = each_at P xs n x all.1 is
 
 -- an element of a list with one element set is the new one, or was there
 set_cases : {X : Type 0} (xs : List X) (p : ℕ) (x : X) (q : ℕ) (y : X) → slice_get (slice_set xs p x) q ≡ Some y → ((p ≡ q) × (x ≡ y)) ⊎ ((p ≢ q) × (slice_get xs q ≡ Some y))
@@ -66,29 +66,18 @@ set_cases (z ∷ xs) (suc p) x (suc q) y is =
       | inr other ↦ inr ((λ same. other.0 (omega arith)), other.1)
     ]
 
-pub map_replicate : {X Y : Type 0} (f : X → Y) (n : ℕ) (x : X) → map f (replicate n x) ≡ replicate n (f x)
-map_replicate f zero x = refl
-map_replicate f (suc n) x = ap (λ ys. f x ∷ ys) (map_replicate f n x)
-
-pub new_store : (options : Options) (machines : List Machine) → machines ≡ replicate options.partitions (new_machine options) → AreNew options machines
-new_store options machines are = record {
-  many = ap length are ∙ length-replicate options.partitions (new_machine options);
-  steps = λ p machine is.
-      let same = replicated options.partitions (new_machine options) machine p (ap (λ ms. slice_get ms p) (sym are) ∙ is) in
-      λ history write outcome new step. subst (λ (m : Machine). IsStep m.options (state_of options history) write outcome new) (sym same) step;
-  start = λ p machine is. ap (λ (m : Machine). m.state) (sym (replicated options.partitions (new_machine options) machine p (ap (λ ms. slice_get ms p) (sym are) ∙ is)));
-}
-
 pub begins : (options : Options) (trace : List TraceLine) (machines : List Machine) → AreNew options machines → IsRunning options trace machines [] 0
 begins options trace machines new = record {
   all = [];
   in_order = refl;
   many = new.many;
-  each = λ p machine is. record {
-    steps = new.steps p machine is;
-    state_is = sym (new.start p machine is);
-    values = subst (ValuesAre IsValue) (sym (new.start p machine is)) (start_are IsValue options.mode);
-  };
+  each = λ p machine is.
+      let here = each_at (IsNew options) machines p machine new.each is in
+      record {
+        steps = here.steps;
+        state_is = sym here.start;
+        values = subst (ValuesAre IsValue) (sym here.start) (start_are IsValue options.mode);
+      };
   long = refl;
 }
 
@@ -145,8 +134,3 @@ pub ends : (options : Options) (trace : List TraceLine) (machines : List Machine
     → IsRunning options trace machines report n → length trace ≤ n → ExactReport options trace report
 ends options trace machines report n so_far all =
     exact options so_far.all trace report (subst (λ ls. InOrder options [] ls report so_far.all) (take_all n trace all) so_far.in_order)
-
-pub line_at : (xs : List TraceLine) (n : ℕ) (line : TraceLine) → AllByRecursion IsTraceLine xs → slice_get xs n ≡ Some line → IsTraceLine line
-line_at [] n line all is = absurd (cc)
-line_at (x ∷ xs) zero line all is = let same : x ≡ line = cc in subst IsTraceLine same all.0
-line_at (x ∷ xs) (suc n) line all is = line_at xs n line all.1 is

@@ -5,8 +5,9 @@ use Rattle.mica_model.specs.Write.{is_accepted}
 use Rattle.mica_model.specs.History.{State, after, state_of, Allows}
 use Rattle.mica_model.proofs.Histories.{state_snoc}
 use Rattle.epoch_core.specs.Shape.{shape_of, options_of}
+use Rattle.epoch_core.specs.OwnerState.{options_in, state_in, as_made}
 use Rattle.epoch_core.proofs.SameMachine.{same_state, same_may_give}
-use Rattle.mica_replay.specs.Machines.{StepsAs}
+use Rattle.mica_replay.specs.Machines.{StepsAs, IsNew}
 
 -- what the machine of the shape does, that of the options does
 pub shape_steps : (options : Options) → StepsAs options (options_of (shape_of options))
@@ -25,3 +26,7 @@ shape_steps options history write outcome new step = record {
     by : (b : Bool) → cond b (after (options_of (shape_of options)) (state_of options history) write) (state_of options history) ≡ cond b (after options (state_of options history) write) (state_of options history)
     by true = moved
     by false = refl
+
+-- words as made are a new machine
+pub made_new : (options : Options) → IsNew options (record { options = options_in (as_made (shape_of options)); state = state_in (as_made (shape_of options)) })
+made_new options = record { steps = shape_steps options; start = refl }

@@ -1,5 +1,6 @@
 -- The machines of a replay.
-use Rattle.std.specs.Prelude.{◌≡◌, ℕ, List, length, Some, slice_get}
+use Rattle.std.specs.Prelude.{◌≡◌, List, length}
+use Rattle.std.specs.List.{AllByRecursion}
 use Rattle.mica_model.specs.declared.options.Options.{Options}
 use Rattle.mica_model.specs.declared.write.Write.{Write}
 use Rattle.mica_model.specs.declared.write.Outcome.{Outcome}
@@ -11,8 +12,12 @@ abbrev pub StepsAs : Options → Options → Type 0
 StepsAs options by = (history : History) (write : Write) (outcome : Outcome) (new : State)
     → IsStep by (state_of options history) write outcome new → IsStep options (state_of options history) write outcome new
 
+-- a machine before its first write, whose steps are those of the options
+pub record IsNew (options : Options) (machine : Machine) : Type 0 where
+  pub steps : StepsAs options machine.options
+  pub start : machine.state ≡ start options.mode
+
 -- one new machine for each partition
 pub record AreNew (options : Options) (machines : List Machine) : Type 0 where
   pub many : length machines ≡ options.partitions
-  pub steps : (p : ℕ) (machine : Machine) → slice_get machines p ≡ Some machine → StepsAs options machine.options
-  pub start : (p : ℕ) (machine : Machine) → slice_get machines p ≡ Some machine → machine.state ≡ start options.mode
+  pub each : AllByRecursion (IsNew options) machines

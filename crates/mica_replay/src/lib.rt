@@ -2,7 +2,6 @@
 #![tactic(auto)]
 
 mod machine;
-mod on_partition;
 mod printing;
 mod run;
 

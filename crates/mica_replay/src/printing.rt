@@ -8,7 +8,7 @@ ghost use Rattle.mica_replay.specs.Printed.{PrintsReport, PrintsPart};
 
 use crate::run_trace;
 use mica_io::{Failed, NoMemory, Sink, write_all};
-use mica_model::{Mode, Options};
+use mica_model::Options;
 use mica_trace::{Report, Trace, put_report_line};
 use std::alloc::Global;
 
@@ -59,8 +59,7 @@ pub fn replay<K: Sink>(
     trace: &Trace,
     sink: &mut K,
 ) -> Result<(), ReplayFault>
-    requires valid { IsValid options.now }
-    requires mode { options.now.mode ≡ Mode.Store }
+    requires { IsValid options.now }
 
     ensures ok { OnOk result (PrintsReport options.now trace.now (K.taken sink.old) (K.taken sink.new)) }
     ensures fault { IsErrOf result ReplayFault.Write → Rose (K.faults sink.old) (K.faults sink.new)

@@ -1,6 +1,5 @@
-ghost use Rattle.std.specs.Prelude.{◌≡◌, ◌<◌, ◌≤◌, IfOk, OnOk, map, replicate, vec_len};
+ghost use Rattle.std.specs.Prelude.{◌≡◌, ◌<◌, ◌≤◌, IfOk, OnOk, map};
 ghost use Rattle.mica_words.specs.Item.{KeyFits};
-ghost use Rattle.mica_model.specs.Machine.{new_machine};
 ghost use Rattle.mica_model.specs.Options.{IsValid};
 ghost use Rattle.mica_model.specs.Write.{HasValueOf, write_of};
 ghost use Rattle.mica_trace.specs.TraceGrammar.{IsTraceLine};
@@ -10,6 +9,8 @@ ghost use Rattle.mica_replay.specs.Machines.{AreNew};
 ghost use Rattle.mica_replay.specs.Replied.{IsWriteLine, IsReadLine, Replied};
 
 use crate::machine::Machine;
+use cache_partition::CachePartition;
+use epoch_core::PlainWords;
 use mica_io::{Bytes, NoMemory};
 use mica_model::{Answer, ItemBuf, Mode, Op, Options, StoreMachine};
 use mica_trace::{Line, Report, Trace, TraceLine, TraceOp};
@@ -17,14 +18,15 @@ use mica_words::{key_hash, partition_of};
 use std::alloc::Global;
 
 // One machine for each partition.
-fn new_machines(alloc: Global, options: &Options) -> Result<Vec<StoreMachine>, NoMemory>
+fn new_machines<M: Machine>(alloc: Global, options: &Options) -> Result<Vec<M>, NoMemory>
     requires valid { IsValid options.now }
-    requires mode { options.now.mode ≡ Mode.Store }
-    ensures { IfOk result (λ machines. machines.items ≡ replicate options.now.partitions (new_machine options.now)) }
+    requires mode { options.now.mode ≡ M.mode }
+    ensures { IfOk result (λ machines. AreNew options.now
+        (map (λ m. record { options = M.own_options m; state = M.state m }) machines.items)) }
 {
     let mut machines = Vec::with_capacity(alloc, options.partitions as usize)?;
     for _ in 0..options.partitions {
-        machines.push(StoreMachine::new(alloc, options)?)?;
+        machines.push(M::new(alloc, options)?)?;
     }
     Ok(machines)
 }
@@ -37,9 +39,9 @@ fn write<M: Machine>(
 ) -> Result<Line, NoMemory>
     requires key { KeyFits line.now.key }
     requires value { HasValueOf op line.now.value }
-    ensures written { IfOk result (λ printed. IsWriteLine (M.options machine.old) (M.state machine.old)
+    ensures written { IfOk result (λ printed. IsWriteLine (M.own_options machine.old) (M.state machine.old)
         (write_of op line.now.key line.now.value) printed (M.state machine.new)) }
-    ensures options { M.options machine.new ≡ M.options machine.old }
+    ensures options { M.own_options machine.new ≡ M.own_options machine.old }
 {
     let outcome = machine.step(alloc, op, line.key.bytes(), line.value.bytes())?;
     let stamp = machine.stamp();
@@ -54,7 +56,7 @@ fn read<M: Machine>(
 ) -> Result<Line, NoMemory>
     requires { KeyFits key.now }
     ensures read { IfOk result (λ printed. IsReadLine (M.state machine.old) key.now printed (M.state machine.new)) }
-    ensures options { M.options machine.new ≡ M.options machine.old }
+    ensures options { M.own_options machine.new ≡ M.own_options machine.old }
 {
     let stamp = machine.stamp();
     match machine.answer(key, out) {
@@ -74,9 +76,9 @@ fn reply_to<M: Machine>(
     out: &mut ItemBuf,
 ) -> Result<Line, NoMemory>
     requires { IsTraceLine line.now }
-    ensures replied { IfOk result (λ printed. Replied (M.options machine.old) (M.state machine.old)
+    ensures replied { IfOk result (λ printed. Replied (M.own_options machine.old) (M.state machine.old)
         line.now printed (M.state machine.new)) }
-    ensures options { M.options machine.new ≡ M.options machine.old }
+    ensures options { M.own_options machine.new ≡ M.own_options machine.old }
 {
     match line.op {
         TraceOp::Put => write(alloc, machine, Op::Put, line),
@@ -90,13 +92,13 @@ fn reply_to<M: Machine>(
 fn run_in_order<M: Machine>(
     alloc: Global,
     options: &Options,
-    mut machines: Vec<M>,
     trace: &Trace,
 ) -> Result<Report, NoMemory>
     requires valid { IsValid options.now }
-    requires machines { AreNew options.now (map (λ m. record { options = M.options m; state = M.state m }) machines.items) }
+    requires mode { options.now.mode ≡ M.mode }
     ensures { IfOk result (ExactReport options.now trace.now) }
 {
+    let mut machines = new_machines::<M>(alloc, options)?;
     let mut out = ItemBuf::new(alloc)?;
     let mut report = Report::with_capacity(alloc, trace.len())?;
     for line in trace.lines() {
@@ -107,13 +109,24 @@ fn run_in_order<M: Machine>(
     Ok(report)
 }
 
-/// The report of a trace, by one machine for each partition, on one thread.
-pub fn run_trace(alloc: Global, options: &Options, trace: &Trace) -> Result<Report, NoMemory>
+fn run_on<M: Machine>(alloc: Global, options: &Options, trace: &Trace) -> Result<Report, NoMemory>
     requires valid { IsValid options.now }
-    requires mode { options.now.mode ≡ Mode.Store }
+    requires mode { options.now.mode ≡ M.mode }
     ensures { IfOk result (LawfulReport options.now trace.now) }
 {
-    let machines = new_machines(alloc, options)?;
-    let report = run_in_order(alloc, options, machines, trace)?;
+    let report = run_in_order::<M>(alloc, options, trace)?;
     Ok(report)
+}
+
+/// The report of a trace, by one machine for each partition, on one thread.
+///
+/// In cache mode a partition is a log and an index over words, in store mode the plain machine.
+pub fn run_trace(alloc: Global, options: &Options, trace: &Trace) -> Result<Report, NoMemory>
+    requires { IsValid options.now }
+    ensures { IfOk result (LawfulReport options.now trace.now) }
+{
+    match options.mode {
+        Mode::Cache => run_on::<CachePartition<PlainWords>>(alloc, options, trace),
+        Mode::Store => run_on::<StoreMachine>(alloc, options, trace),
+    }
 }

@@ -5,6 +5,10 @@
 #[cfg(test)]
 mod adapters;
 #[cfg(test)]
+mod cache_machine;
+#[cfg(test)]
+mod cache_replays;
+#[cfg(test)]
 mod faults;
 #[cfg(test)]
 mod heap;
@@ -16,6 +20,8 @@ mod refused_traces;
 mod refused_words;
 #[cfg(test)]
 mod runs;
+#[cfg(test)]
+mod same_as_machine;
 #[cfg(test)]
 mod statuses;
 #[cfg(test)]

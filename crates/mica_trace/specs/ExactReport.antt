@@ -20,4 +20,4 @@ pub record ExactReport (options : Options) (trace : List TraceLine) (report : Li
   -- each get has the machine's answer after the writes that stand before it
   pub gets : (n : ℕ) (line : TraceLine) (printed : Line) → IsGetAt trace report n line printed
       → let p = partition_in options line in
-        Answers options (history_after options p trace report (writes_before options p trace n)) line.key printed
+      Answers options (history_after options p trace report (writes_before options p trace n)) line.key printed

@@ -1,11 +1,54 @@
-use Rattle.std.proofs.Common.{sym, subst}
-use Rattle.epoch_core.specs.declared.state.OwnerState.{OwnerState}
-use Rattle.circular_log.specs.LogWrite.{MayRewrite}
-use Rattle.circular_log.proofs.MarkedPut.{can_rewrite}
+use Rattle.std.proofs.Common.{◌≡◌, length, ap, ◌∙◌, arith}
+use Rattle.mica_words.specs.Header.{header_room}
+use Rattle.mica_words.specs.Item.{words_for}
+use Rattle.mica_words.proofs.PackedBytes.{length-packed}
+use Rattle.circular_log.proofs.InPlace.{may_put_header, low, can_put_rest, rest_stored}
 use Rattle.circular_log.proofs.items.rewrite.Goals as goal
 
-pub write_item-requires-clause-allowed : goal.write_item-requires-clause-allowed
-write_item-requires-clause-allowed g c =
-    let now = g.W.OwnerWords.owner c.read.new.self in
-    can_rewrite now c.read.ensures.kept c.args.key.now c.args.value.now c.requires.key c.requires.value c.args.offset c.header_room-room.result
-    (subst (λ (o : OwnerState). MayRewrite o c.args.offset c.args.key.now c.args.value.now) (sym c.read.ensures.same) c.requires.marked)
+pub put_word-requires : goal.put_word-requires
+put_word-requires g c =
+    let owner = g.W.OwnerWords.owner in
+    may_put_header (owner c.read.new.self) c.read.ensures.kept (owner c.args.words.now) c.read.ensures.same c.args.key.now c.args.value.now
+    c.requires.key c.requires.value c.args.offset c.requires.marked
+
+pub overflow_add-offset : goal.overflow_add-offset
+overflow_add-offset g c =
+    let owner = g.W.OwnerWords.owner in
+    omega (
+      arith,
+      c.from.ensures,
+      c.item_size.ensures,
+      c.requires.key,
+      low (owner c.read.new.self) c.read.ensures.kept (owner c.args.words.now)
+          c.read.ensures.same c.args.key.now c.args.value.now c.requires.key c.requires.value c.args.offset c.requires.marked,
+    )
+
+pub put_words-requires-clause-low : goal.put_words-requires-clause-low
+put_words-requires-clause-low g c =
+    let owner = g.W.OwnerWords.owner in
+    let words : length c.pack.new.into ≡ words_for (length c.args.value.now) = ap length c.pack.ensures ∙ length-packed c.args.value.now in
+    omega (
+      arith,
+      c.from.ensures,
+      c.item_size.ensures,
+      c.requires.key,
+      c.requires.value,
+      low (owner c.read.new.self) c.read.ensures.kept
+          (owner c.args.words.now) c.read.ensures.same c.args.key.now c.args.value.now c.requires.key c.requires.value c.args.offset c.requires.marked,
+    )
+
+pub put_words-requires-clause-allowed : goal.put_words-requires-clause-allowed
+put_words-requires-clause-allowed g c =
+    let owner = g.W.OwnerWords.owner in
+    can_put_rest (owner c.read.new.self) c.read.ensures.kept (owner c.args.words.now) c.read.ensures.same c.args.key.now c.args.value.now
+    c.requires.key c.requires.value c.args.offset c.requires.marked c.header_room-room.result (owner c.put_word.new.self) c.header_of.result
+    c.from.result c.pack.new.into c.put_word.ensures.event c.header_of.ensures (c.from.ensures ∙ c.item_size.ensures) c.pack.ensures c.put_word.ensures.kept
+
+pub returns-clause-item : goal.returns-clause-item
+returns-clause-item g c =
+    let owner = g.W.OwnerWords.owner in
+    c.put_words.ensures.events
+    ∙ rest_stored (owner c.read.new.self) c.read.ensures.kept (owner c.args.words.now) c.read.ensures.same c.args.key.now c.args.value.now
+    c.requires.key c.requires.value c.args.offset c.requires.marked c.header_room-room.result (owner c.put_word.new.self) c.header_of.result
+    c.from.result c.pack.new.into c.put_word.ensures.event c.header_of.ensures (c.from.ensures ∙ c.item_size.ensures) c.pack.ensures
+    _ (c.header_room-room.ensures ∙ ap header_room c.read.ensures.value)

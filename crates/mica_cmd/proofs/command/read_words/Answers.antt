@@ -3,7 +3,7 @@ use Rattle.std.proofs.lemmas.Result.{err_from_is_err_and}
 use Rattle.clap.specs.Matches.{first_value, found_of}
 use Rattle.mica_cmd.specs.declared.command.Command.TheVariants.{Replay}
 use Rattle.mica_cmd.proofs.CommandLemmas.{is_replay, replay_given, replay_refused}
-use Rattle.mica_cmd.proofs.ValueLemmas.{offered}
+use Rattle.mica_cmd.proofs.ValueLemmas.{replay_valid}
 use Rattle.mica_cmd.proofs.command.read_words.Goals as goal
 
 pub returns-in_err-found-in-replay-clause-usage : goal.returns-in_err-found-in-replay-clause-usage
@@ -19,8 +19,8 @@ returns-in-Some-replay_options-clause-command c =
     let names = ap (map (λ o. o.now)) c.as_slice.ensures in
     replay_given _ _ _ _ words names c.in_ok-found-in-replay.ensures.given ∙ ap (option_map (λ o. Replay o)) (sym c.in-Some-replay_options.ensures)
 
-pub returns-in-Some-replay_options-clause-offered : goal.returns-in-Some-replay_options-clause-offered
-returns-in-Some-replay_options-clause-offered c = offered (first_value (found_of c.in_ok-found-in-replay.found)) c.in-Some-replay_options.options (sym c.in-Some-replay_options.ensures)
+pub returns-in-Some-replay_options-clause-valid : goal.returns-in-Some-replay_options-clause-valid
+returns-in-Some-replay_options-clause-valid c = replay_valid (first_value (found_of c.in_ok-found-in-replay.found)) c.in-Some-replay_options.options (sym c.in-Some-replay_options.ensures)
 
 pub returns-in-replay-clause-usage : goal.returns-in-replay-clause-usage
 returns-in-replay-clause-usage c =

@@ -2,12 +2,13 @@ use Rattle.std.proofs.Common.{◌≡◌, Err, Some, None, codes, refl, sym, ap, 
 use Rattle.std.specs.Prelude.{string_bytes}
 use Rattle.mica_io.specs.Faults.{Rose}
 use Rattle.mica_model.specs.declared.options.Options.{Options}
+use Rattle.mica_model.specs.Options.{IsValid}
 use Rattle.mica_model.specs.declared.options.Mode.TheVariants.{Cache}
 use Rattle.mica_cmd.specs.declared.command.Command.{Command}
 use Rattle.mica_cmd.specs.declared.command.Command.TheVariants.{Replay}
 use Rattle.mica_cmd.specs.declared.status.Status.{Status}
 use Rattle.mica_cmd.specs.declared.status.Status.TheVariants.{Usage}
-use Rattle.mica_cmd.specs.CommandLine.{command_of, IsOffered, IsOfferedCommand}
+use Rattle.mica_cmd.specs.CommandLine.{command_of, IsValidCommand}
 use Rattle.mica_cmd.specs.Top.{line_of, Ends}
 use Rattle.mica_cmd.proofs.Endings.{due_ends, complete}
 use borrow.Enum.Total.{values_d}
@@ -25,8 +26,8 @@ options_of command = (values_d command_enum 0 (none, tt {0}) command).0
 at_replay : (f : Command → Options) (P : Command → Options → Type 0) → ((options : Options) → P (Replay options) (f (Replay options))) → (command : Command) → P command (f command)
 at_replay f P each (Replay options) = each options
 
-pub replay_source-requires-clause-offered : goal.replay_source-requires-clause-offered
-replay_source-requires-clause-offered g c = at_replay options_of (λ command options. IsOfferedCommand command → IsOffered options) (λ options is. is) c.in-Ok-Replay.field-0 c.in-Ok-Replay.ensures.offered
+pub replay_source-requires-clause-valid : goal.replay_source-requires-clause-valid
+replay_source-requires-clause-valid g c = at_replay options_of (λ command options. IsValidCommand command → IsValid options) (λ options is. is) c.in-Ok-Replay.field-0 c.in-Ok-Replay.ensures.valid
 
 pub returns-in-Ok-Replay-clause-complete : goal.returns-in-Ok-Replay-clause-complete
 returns-in-Ok-Replay-clause-complete g c =
@@ -37,7 +38,7 @@ returns-in-Ok-Replay-clause-complete g c =
     let read_failed = Rose (g.S.Source.faults c.args.source.now) (g.S.Source.faults c.replay_source.new.source) in
     let write_failed = Rose (g.K.Sink.faults c.args.sink.now) (g.K.Sink.faults c.replay_source.new.sink) in
     let ends = at_replay options_of (λ command options. Ends (Some (Replay options)) left read_failed write_failed result before after → Ends (Some command) left read_failed write_failed result before after) (λ options is. is)
-        c.in-Ok-Replay.field-0 c.replay_source.ensures.ended in
+    c.in-Ok-Replay.field-0 c.replay_source.ensures.ended in
     complete read_failed write_failed _ left before after result
     (subst (λ command. Ends command left read_failed write_failed result before after) (sym c.in-Ok-Replay.ensures.command) ends)
 

@@ -33,8 +33,7 @@ returns-in-Err-Write-clause-ended g c =
     let short : length input ≤ 16777216 = omega (arith, within, c.in-Ok.input.ok.0) in
     let is = subst (λ bytes. IsTrace bytes trace) c.as_slice.ensures.value c.in-Ok-read_trace.ensures.trace in
     let fault = c.in-Err-Write.ensures.fault (ap Err c.in-Err-Write.field-0-is) in
-    let part = fault.1 in
-    (
+    let part = fault.1 in (
       fault.0,
       (
         Done,

@@ -1,0 +1,10 @@
+pub mod Slots
+pub mod Rooms
+pub mod Displaced
+pub mod Leaves
+pub mod Counts
+pub mod Effects
+pub mod Stands
+pub mod Endings
+pub mod Writes
+pub mod Answering

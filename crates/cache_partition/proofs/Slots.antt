@@ -1,0 +1,96 @@
+-- What a live slot of a bucket tells of the log's records, in cache mode.
+use Rattle.std.proofs.Common.{◌≡◌, ◌≢◌, ℕ, suc, ◌+◌, ◌≤◌, inl, inr, List, Option, Some, None, refl, sym, ap, ◌∙◌, subst, arith}
+use Rattle.std.specs.Prelude.{option_map}
+use Rattle.std.proofs.lemmas.Option.{same_Some}
+use Rattle.mica_words.specs.Entry.{entry_tag, entry_offset}
+use Rattle.mica_words.specs.Packing.{AreBytes}
+use Rattle.mica_words.specs.Stamp.{tail_of}
+use Rattle.mica_words.proofs.Hashes.{tag_of-range}
+use Rattle.mica_model.specs.declared.options.Mode.{Mode}
+use Rattle.mica_model.specs.declared.options.Mode.TheVariants.{Cache as CacheMode}
+use Rattle.mica_model.specs.Cache.{Cache, Record, record_of}
+use Rattle.mica_model.specs.Store.{Cell}
+use Rattle.mica_model.specs.History.{State, cache_state}
+use Rattle.epoch_core.specs.declared.state.OwnerState.{OwnerState}
+use Rattle.epoch_core.specs.OwnerState.{stamp_in, entry_in, options_in, state_in, bucket_in}
+use Rattle.epoch_core.specs.Chain.{IsAmong, InChain}
+use Rattle.epoch_core.specs.LiveEntry.{IsLiveItem, HasLiveEntry}
+use Rattle.epoch_core.specs.ItemAt.{HasKey}
+use Rattle.epoch_core.specs.StandsFor.{cell_at, Has, Spells, StandsFor}
+use Rattle.epoch_core.specs.Kept.{Kept}
+use Rattle.epoch_core.proofs.Machine.{has_fits, found_record}
+use Rattle.epoch_core.proofs.Keys.{has_its_key, has_no_other}
+use Rattle.lossy_index.specs.Slot.{IsSlotOf, HasNoSlot}
+
+pub live_is : (mode : Mode) (words stamp p : ℕ) → mode ≡ CacheMode → IsLiveItem mode words stamp p → tail_of stamp ≤ p + words
+live_is mode words stamp p is live = subst (λ (z : Mode). IsLiveItem z words stamp p) is live
+
+pub is_live_item : (mode : Mode) (words stamp p : ℕ) → mode ≡ CacheMode → tail_of stamp ≤ p + words → IsLiveItem mode words stamp p
+is_live_item mode words stamp p is live = subst (λ (z : Mode). IsLiveItem z words stamp p) (sym is) live
+
+module _ (o : OwnerState) (s : Kept o) where
+  -- an entry spells one key, with one value and room
+
+  pub only_key : (b b' entry : ℕ) (key key' : List ℕ) (cell cell' : Cell) → Spells o b entry key cell → Spells o b' entry key' cell' → key ≡ key'
+  only_key b b' entry key key' cell cell' sp sp' =
+      let fits = has_fits (options_in o) o.history s.history.writes key' cell' (entry_offset entry) sp'.has in
+      has_no_other o s b entry key cell sp key' fits.1 (has_its_key o s b' entry key' cell' sp')
+
+  module _ (mode : o.shape.mode ≡ CacheMode) where
+    -- the chain is the bucket alone
+    pub alone : (b c : ℕ) → InChain o b c → b ≡ c
+    alone b c h = elim (subst (λ (n : ℕ). IsAmong o (suc n) b c) (s.shape.no_spares mode) h) [ inl is ↦ is | inr more ↦ absurd more.1 ]
+
+    pub slot_is : (b c slot entry : ℕ) (key : List ℕ) (cell : Cell) → HasLiveEntry o b c slot entry → Spells o b entry key cell → IsSlotOf o b key slot
+    slot_is b c slot entry key cell h sp =
+        let found : entry_in o b slot ≡ entry = ap (λ (z : ℕ). entry_in o z slot) (alone b c h.in_chain) ∙ h.found in record {
+          in_bucket = h.in_bucket;
+          tag = ap entry_tag found ∙ sp.tag;
+          live = let live = live_is o.shape.mode o.shape.words (stamp_in o) (entry_offset entry) mode h.live.1 in let same = ap entry_offset found in omega arith;
+          item = subst (λ (z : ℕ). HasKey o (entry_offset z) key) (sym found) (has_its_key o s b entry key cell sp);
+        }
+
+    pub entry_is : (b slot : ℕ) (key : List ℕ) → IsSlotOf o b key slot → HasLiveEntry o b b slot (entry_in o b slot)
+    entry_is b slot key is =
+        let tag = is.tag in
+        let some = (tag_of-range key).0 in
+        let none : entry_in o b slot ≢ 0 = λ empty. let zero : entry_tag (entry_in o b slot) ≡ 0 = ap entry_tag empty in omega arith in record {
+          in_chain = inl refl;
+          in_bucket = is.in_bucket;
+          found = refl;
+          live = (none, is_live_item o.shape.mode o.shape.words (stamp_in o) (entry_offset (entry_in o b slot)) mode is.live);
+        }
+
+    -- the key's slot spells what the machine has of the key
+    pub slot_spells : (b slot : ℕ) (key : List ℕ) → AreBytes key → StandsFor o b → IsSlotOf o b key slot
+        → (cell : Cell) × Spells o b (entry_in o b slot) key cell
+    slot_spells b slot key bytes stands is =
+        let some = stands.nothing_else b slot (entry_in o b slot) (entry_is b slot key is) in
+        let same = has_no_other o s b (entry_in o b slot) some.0 some.1 some.2 key bytes is.item in
+        (some.1, subst (λ (k : List ℕ). Spells o b (entry_in o b slot) k some.1) same some.2)
+
+  module _ (m : Cache) (at : state_in o ≡ cache_state m) where
+    pub record_spelt : (b entry : ℕ) (key : List ℕ) (cell : Cell) → Spells o b entry key cell
+        → (r : Record) × (record_of m key ≡ Some r) × (r.offset ≡ entry_offset entry) × (cell ≡ record { value = r.value; room = r.room })
+    record_spelt b entry key cell sp =
+        found_record (record_of m key) cell (entry_offset entry) (subst (λ (z : State). Has z key cell (entry_offset entry)) at sp.has)
+
+    pub has_record : (key : List ℕ) (r : Record) → record_of m key ≡ Some r → Has (state_in o) key (cell_at r).0 r.offset
+    has_record key r is = subst (λ (z : State). Has z key (cell_at r).0 r.offset) (sym at) (ap (option_map cell_at) is)
+
+    pub only_cell : (b b' entry entry' : ℕ) (key : List ℕ) (cell cell' : Cell) → Spells o b entry key cell → Spells o b' entry' key cell' → (cell ≡ cell') × (entry_offset entry ≡ entry_offset entry')
+    only_cell b b' entry entry' key cell cell' sp sp' =
+        let one = record_spelt b entry key cell sp in
+        let two = record_spelt b' entry' key cell' sp' in
+        let same : one.0 ≡ two.0 = same_Some one.0 two.0 (sym one.1 ∙ two.1) in
+        (one.3 ∙ (ap (λ (r : Record). (cell_at r).0) same ∙ sym two.3), sym one.2 ∙ (ap (λ (r : Record). r.offset) same ∙ two.2))
+
+    -- a key without a slot has no record
+    pub no_record : (mode : o.shape.mode ≡ CacheMode) (b : ℕ) (key : List ℕ) → StandsFor o b → bucket_in o key ≡ b → HasNoSlot o b key → record_of m key ≡ None
+    no_record mode b key stands here none = by_record (record_of m key) refl
+      where
+        by_record : (found : Option Record) → record_of m key ≡ found → found ≡ None
+        by_record None is = refl
+        by_record (Some r) is =
+            let at_slot = stands.each key (cell_at r).0 r.offset here (has_record key r is) in
+            absurd (none at_slot.1 (slot_is mode b at_slot.0 at_slot.1 at_slot.2 key (cell_at r).0 at_slot.3 at_slot.4))

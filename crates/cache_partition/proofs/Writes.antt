@@ -1,0 +1,469 @@
+-- A write from its begin to its end: when its events may happen, and what it makes of the state.
+use Rattle.std.proofs.Common.{◌≡◌, ℕ, ◌+◌, ◌*◌, ◌^◌, ◌<◌, ◌≤◌, List, [], ◌∷◌, ◌++◌, length, Option, Some, None, Bool, true, false, cond, refl, sym, ap, ◌∙◌, subst, arith}
+use Rattle.std.specs.Prelude.{is_some, option_map, MatchOption, nat_le, ◌&&◌}
+use Rattle.std.specs.Bool.{then_some}
+use Rattle.std.proofs.lemmas.Bool.{lt-leb, le-leb}
+use Rattle.std.proofs.lemmas.Option.{same_Some}
+use Rattle.mica_model.specs.Store.{Cell}
+use Rattle.mica_words.specs.Hash.{tag_of}
+use Rattle.mica_words.specs.Entry.{entry_of, entry_offset}
+use Rattle.mica_words.specs.Header.{header_room}
+use Rattle.mica_words.specs.Item.{KeyFits, ValueFits, item_size}
+use Rattle.mica_words.specs.Packing.{AreBytes}
+use Rattle.mica_words.specs.Spelling.{item_words}
+use Rattle.mica_words.specs.Stamp.{tail_of}
+use Rattle.mica_words.proofs.ItemWords.{length-item_words}
+use Rattle.mica_model.specs.declared.options.Options.{Options}
+use Rattle.mica_model.specs.declared.options.Mode.{Mode}
+use Rattle.mica_model.specs.declared.options.Mode.TheVariants.{Cache as CacheMode, Store as StoreMode}
+use Rattle.mica_model.specs.declared.write.Op.{Op}
+use Rattle.mica_model.specs.declared.write.Op.TheVariants.{Put, Del}
+use Rattle.mica_model.specs.declared.write.Write.{Write}
+use Rattle.mica_model.specs.declared.write.Outcome.{Outcome}
+use Rattle.mica_model.specs.declared.write.Outcome.TheVariants.{Worn}
+use Rattle.mica_model.specs.Write.{IsWrite, write_of, size_of, is_accepted}
+use Rattle.mica_model.specs.Cache.{Cache, Record, record_of, is_live}
+use Rattle.mica_model.specs.Cache as cache
+use Rattle.mica_model.specs.Store as store
+use Rattle.mica_model.specs.CacheStep as cs
+use Rattle.mica_model.specs.CacheStep.{kept_record}
+use Rattle.mica_model.specs.History.{State, start, cache_state, stamp_of, accepted_in, stamp_in as stamp_of_state, after as state_after, Allows, MayGive, IsAcceptedAfter}
+use Rattle.mica_model.proofs.CacheKept.{IsKept, keeps_put, size_at_most}
+use Rattle.mica_model.proofs.CacheLaws.{kept_in}
+use Rattle.mica_model.proofs.Laid.{found_key}
+use Rattle.mica_model.proofs.Histories.{cached_in, state_snoc, accepted_is_length}
+use Rattle.mica_model.proofs.Stamps.{stamp_small}
+use Rattle.epoch_core.specs.declared.state.OwnerState.{OwnerState}
+use Rattle.epoch_core.specs.declared.state.Phase.{Phase}
+use Rattle.epoch_core.specs.declared.state.Phase.TheVariants.{Idle, Begun, Marked}
+use Rattle.epoch_core.specs.declared.event.Event.TheVariants.{Begins, PutsEntry, Ends}
+use Rattle.epoch_core.specs.Shape.{IsMain}
+use Rattle.epoch_core.specs.Layout.{word_count}
+use Rattle.epoch_core.specs.OwnerState.{stamp_in, entry_in, item_in, options_in, state_in, bucket_in, marked_in, as_made}
+use Rattle.epoch_core.specs.Events.{MayBegin, MayMark, MayEnd, after}
+use Rattle.epoch_core.specs.StandsFor.{cell_at, Spells, SpellsItem, room_in, StandsFor}
+use Rattle.epoch_core.specs.Kept.{Kept}
+use Rattle.epoch_core.specs.OwnerStep.{IsOwnerStep}
+use Rattle.epoch_core.proofs.Carried.{changed}
+use Rattle.epoch_core.proofs.Inside.{some_words}
+use Rattle.epoch_core.proofs.Log.{room_is}
+use Rattle.epoch_core.proofs.Marked.{bit_same}
+use Rattle.circular_log.specs.LogItem.{room_at}
+use Rattle.circular_log.specs.LogWrite.{IsAppendedAt, IsKeptAt, MayAppend, MayRewrite, with_item}
+use Rattle.lossy_index.specs.Slot.{IsSlotOf, HasNoSlot}
+use Rattle.lossy_index.specs.Place.{Takes, GivesWay, empty, passed, oldest}
+use Rattle.cache_partition.specs.Gained.{MayWrite, Gains, marked_with}
+use Rattle.cache_partition.specs.Sought.{kept_offset, kept_offset_by, had_record, had_record_by}
+use Rattle.cache_partition.proofs.Slots as slots
+use Rattle.cache_partition.proofs.Leaves as leaves
+use Rattle.cache_partition.proofs.Effects as effects
+use Rattle.cache_partition.proofs.Effects.{Effect}
+use Rattle.cache_partition.proofs.Endings as endings
+use Rattle.cache_partition.proofs.Endings.{key_main}
+
+-- what keeps a put
+
+kept_some : (options : Options) (m : Cache) (w : Write) (found : Option Record) (p : ℕ) → kept_record options m w ≡ found
+    → option_map (λ (held : Record). held.offset) found ≡ Some p → (held : Record) × (kept_record options m w ≡ Some held) × (held.offset ≡ p)
+kept_some options m w None p is e = cc
+kept_some options m w (Some held) p is e = (held, is, cc)
+
+kept_none : (options : Options) (m : Cache) (w : Write) (found : Option Record) → kept_record options m w ≡ found
+    → option_map (λ (held : Record). held.offset) found ≡ None → kept_record options m w ≡ None
+kept_none options m w None is e = is
+kept_none options m w (Some held) is e = cc
+
+reply_accepted : (op : Op) (found : Bool) → is_accepted (cs.reply_of op found) ≡ true
+reply_accepted Put found = refl
+reply_accepted Del true = refl
+reply_accepted Del false = refl
+
+-- the reply to a write that is not refused
+
+replies : (options : Options) (m : Cache) (w : Write) → m.accepted < options.wear → cs.reply options m w ≡ cs.reply_of w.op (is_some (record_of m w.key))
+unfolding cs.reply
+replies options m w few = ap (λ b. cond b Worn (cs.reply_of w.op (is_some (record_of m w.key)))) (lt-leb options.wear m.accepted few)
+
+pub may_give : (o : OwnerState) → MayWrite o → (w : Write) → MayGive (options_in o) o.history w (cs.reply_of w.op (had_record o w.key))
+may_give o may w =
+    let there = cached_in (options_in o) may.cached o.history in
+    let count = ap accepted_in there.1 in
+    let all = accepted_is_length (options_in o) o.history in
+    let less = may.not_worn in
+    subst (λ (z : State). Allows (options_in o) z w (cs.reply_of w.op (had_record_by z w.key))) (sym there.1) (sym (replies (options_in o) there.0 w (omega arith)))
+
+-- and to one that is
+
+refuses : (options : Options) (m : Cache) (w : Write) → options.wear ≤ m.accepted → Worn ≡ cs.reply options m w
+unfolding cs.reply
+refuses options m w full = ap (λ b. cond b Worn (cs.reply_of w.op (is_some (record_of m w.key)))) (sym (le-leb options.wear m.accepted full))
+
+pub worn_step : (o : OwnerState) → o.phase ≡ Idle → o.shape.mode ≡ CacheMode → o.shape.wear ≤ length o.history → (w : Write) → IsOwnerStep o o w Worn
+worn_step o idle mode full w =
+    let there = cached_in (options_in o) mode o.history in
+    let count = ap accepted_in there.1 in
+    let all = accepted_is_length (options_in o) o.history in
+    record {
+      allowed = subst (λ (z : State). Allows (options_in o) z w Worn) (sym there.1) (refuses (options_in o) there.0 w (omega arith));
+      gained = refl;
+      idle = idle;
+    }
+
+-- a step that gains the write
+pub accepted_step : (o new : OwnerState) → MayWrite o → (w : Write) (outcome : Outcome) → Gains o new w → outcome ≡ cs.reply_of w.op (had_record o w.key) → IsOwnerStep o new w outcome
+accepted_step o new may w outcome gained is = record {
+  allowed = subst (MayGive (options_in o) o.history w) (sym is) (may_give o may w);
+  gained = gained ∙ ap (λ b. cond b (record o { words = new.words; history = o.history ++ w ∷ [] }) o) (sym (ap is_accepted is ∙ reply_accepted w.op (had_record o w.key)));
+  idle = ap (λ (z : OwnerState). z.phase) gained ∙ may.idle;
+}
+
+-- as made, no stamp was given
+start_stamp : (mode : Mode) → stamp_of_state (start mode) ≡ 0
+unfolding cache.start store.start
+start_stamp CacheMode = refl
+start_stamp StoreMode = refl
+
+pub new_stamp : (o : OwnerState) → o ≡ as_made o.shape → 0 ≡ stamp_of (options_in o) o.history
+new_stamp o made = sym (ap (stamp_of (options_in o)) (ap (λ (z : OwnerState). z.history) made) ∙ start_stamp o.shape.mode)
+
+module _ (o : OwnerState) (s : Kept o) (may : MayWrite o) (w : Write) (is : IsWrite w) where
+  now : (m : Cache) × (state_in o ≡ cache_state m)
+  now = cached_in (options_in o) may.cached o.history
+
+  at : state_in o ≡ cache_state now.0
+  at = now.1
+
+  kept : IsKept (options_in o) now.0
+  kept = kept_in (options_in o) o.history s.history.writes now.0 now.1
+
+  stamp_now : stamp_in o ≡ now.0.stamp
+  stamp_now = s.stamp ∙ ap stamp_of_state now.1
+
+  stamp_next : stamp_of (options_in o) (o.history ++ w ∷ []) ≡ (cs.after (options_in o) now.0 w).stamp
+  stamp_next = ap stamp_of_state (state_snoc (options_in o) o.history w ∙ ap (λ (z : State). state_after (options_in o) z w) now.1)
+
+  accepted : IsAcceptedAfter (options_in o) o.history w
+  accepted = (cs.reply_of w.op (had_record o w.key), reply_accepted w.op (had_record o w.key), may_give o may w)
+
+  pub may_begin : (b : ℕ) → b ≡ bucket_in o w.key → MayBegin o b
+  may_begin b here = record { idle = may.idle; main = subst (IsMain o.shape) (sym here) (key_main o s w.key); not_worn = may.not_worn }
+
+  pub may_mark : (b n : ℕ) → b ≡ bucket_in o w.key → n ≡ stamp_of (options_in o) (o.history ++ w ∷ []) → MayMark (after (Begins b) o) w n
+  may_mark b n here stamp = record { begun = ap Begun here; fits = is; accepted = accepted; stamp = stamp }
+
+  pub stamp_deleted : w.op ≡ Del → stamp_of (options_in o) (o.history ++ w ∷ []) ≡ stamp_in o + 1
+  stamp_deleted op = stamp_next ∙ (leaves.deleted_stamp (options_in o) now.0 kept w op ∙ ap (λ (z : ℕ). z + 1) (sym stamp_now))
+
+  held_at : (p : ℕ) → kept_offset o w ≡ Some p → (held : Record) × (kept_record (options_in o) now.0 w ≡ Some held) × (held.offset ≡ p)
+  held_at p keeps = kept_some (options_in o) now.0 w (kept_record (options_in o) now.0 w) p refl (subst (λ (z : State). kept_offset_by (options_in o) z w ≡ Some p) now.1 keeps)
+
+  held_none : kept_offset o w ≡ None → kept_record (options_in o) now.0 w ≡ None
+  held_none keeps = kept_none (options_in o) now.0 w (kept_record (options_in o) now.0 w) refl (subst (λ (z : State). kept_offset_by (options_in o) z w ≡ None) now.1 keeps)
+
+  pub stamp_rewritten : (p : ℕ) → w.op ≡ Put → kept_offset o w ≡ Some p → stamp_of (options_in o) (o.history ++ w ∷ []) ≡ stamp_in o + 1
+  stamp_rewritten p op keeps =
+      let held = held_at p keeps in
+      stamp_next ∙ (leaves.rewritten_stamp (options_in o) now.0 kept w held.0 op held.1 ∙ ap (λ (z : ℕ). z + 1) (sym stamp_now))
+
+  pub stamp_appended : w.op ≡ Put → kept_offset o w ≡ None → stamp_of (options_in o) (o.history ++ w ∷ []) ≡ stamp_in o + 65536 * size_of w
+  stamp_appended op keeps =
+      stamp_next ∙ (leaves.appended_stamp (options_in o) now.0 kept w op (held_none keeps) ∙ ap (λ (z : ℕ). z + 65536 * size_of w) (sym stamp_now))
+
+  -- what the bucket is at the end
+
+  module _ (n : ℕ) where
+    -- a delete
+
+    pub end_cleared : w.op ≡ Del → (b slot : ℕ) → b ≡ bucket_in o w.key → IsSlotOf o b w.key slot
+        → Kept (after (PutsEntry b slot 0) (marked_with o b w n)) → MayEnd (after (PutsEntry b slot 0) (marked_with o b w n)) b
+    end_cleared op b slot here =
+        subst (λ (z : ℕ). IsSlotOf o z w.key slot → Kept (after (PutsEntry z slot 0) (marked_with o z w n)) → MayEnd (after (PutsEntry z slot 0) (marked_with o z w n)) z)
+        (sym here) (λ found t.
+        let main = key_main o s w.key in
+        let words : List ℕ = (marked_with o (bucket_in o w.key) w n).words in
+        let long = effects.length-marked o s.wide (some_words o s) (bucket_in o w.key) main w n in
+        let same = effects.marked_entry o s.wide (some_words o s) (bucket_in o w.key) main w n in
+        let effect = effects.marked_effect o s.wide (some_words o s) (bucket_in o w.key) main w n slot in
+        record {
+          marked = bit_same (bucket_in o w.key) (bucket_in o w.key) refl;
+          stands_for = endings.delete_of_slot o s may.idle may.cached now.0 now.1 w is (after (PutsEntry (bucket_in o w.key) slot 0) (marked_with o (bucket_in o w.key) w n)).words t op slot found
+              (effects.entry_here o s.wide (some_words o s) (bucket_in o w.key) main w n words long slot found.in_bucket 0 0 [] same effect)
+              (effects.entry_effect o s.wide (some_words o s) (bucket_in o w.key) main w n words long slot found.in_bucket 0 0 [] same effect);
+        })
+
+    pub end_absent : w.op ≡ Del → (b : ℕ) → b ≡ bucket_in o w.key → HasNoSlot o b w.key → Kept (marked_with o b w n) → MayEnd (marked_with o b w n) b
+    end_absent op b here =
+        subst (λ (z : ℕ). HasNoSlot o z w.key → Kept (marked_with o z w n) → MayEnd (marked_with o z w n) z)
+        (sym here) (λ none t. record {
+          marked = bit_same (bucket_in o w.key) (bucket_in o w.key) refl;
+          stands_for = endings.delete_of_none o s may.idle may.cached now.0 now.1 w is (marked_with o (bucket_in o w.key) w n).words t op none
+              (effects.marked_effect o s.wide (some_words o s) (bucket_in o w.key) (key_main o s w.key) w n 15);
+        })
+
+    -- a put
+
+    few_words : (room : ℕ) → length (item_words room w.key w.value) ≤ o.shape.words
+    few_words room =
+        let long = length-item_words room w.key w.value in
+        let size : size_of w ≤ 162 = size_at_most w is in
+        let least = s.shape.ranges.words.0 in
+        omega arith
+
+    -- in place
+
+    room_kept : (b p : ℕ) → b ≡ bucket_in o w.key → (held : Record) → kept_record (options_in o) now.0 w ≡ Some held → held.offset ≡ p
+        → (slot : ℕ) → IsSlotOf o b w.key slot → (room_in o (entry_in o b slot) ≡ held.room) × (entry_offset (entry_in o b slot) ≡ p) × Spells o b (entry_in o b slot) w.key (cell_at held).0
+    room_kept b p here held at_held offset slot found =
+        let main : IsMain o.shape b = subst (IsMain o.shape) (sym here) (key_main o s w.key) in
+        let stood = s.state b main (ap (λ (z : Phase). marked_in z b) may.idle) in
+        let spelt = slots.slot_spells o s may.cached b slot w.key is.key_bytes stood found in
+        let record_there = slots.record_spelt o s now.0 now.1 b (entry_in o b slot) w.key spelt.0 spelt.1 in
+        let same : record_there.0 ≡ held = same_Some record_there.0 held (sym record_there.1 ∙ (keeps_put (options_in o) now.0 w held at_held).is) in
+        let cell : spelt.0 ≡ (cell_at held).0 = record_there.3 ∙ ap (λ (r : Record). (cell_at r).0) same in (
+          room_is o s b (entry_in o b slot) w.key spelt.0 spelt.1 ∙ ap (λ (c : Cell). c.room) cell,
+          sym record_there.2 ∙ (ap (λ (r : Record). r.offset) same ∙ offset),
+          subst (Spells o b (entry_in o b slot) w.key) cell spelt.1,
+        )
+
+    -- the room that the item's header has now
+    room_now : (b p : ℕ) → b ≡ bucket_in o w.key → (held : Record) → kept_record (options_in o) now.0 w ≡ Some held → held.offset ≡ p
+        → (slot : ℕ) → IsSlotOf o b w.key slot → room_at (marked_with o b w n) p ≡ held.room
+    room_now b p here held at_held offset slot found =
+        let main : IsMain o.shape b = subst (IsMain o.shape) (sym here) (key_main o s w.key) in
+        let before = room_kept b p here held at_held offset slot found in
+        ap header_room (effects.marked_item o s.wide (some_words o s) b main w n p ∙ ap (item_in o) (sym before.1)) ∙ before.0
+
+    pub end_in_place : w.op ≡ Put → (b p slot : ℕ) → b ≡ bucket_in o w.key → kept_offset o w ≡ Some p → IsSlotOf o b w.key slot
+        → Kept (with_item (marked_with o b w n) p (room_at (marked_with o b w n) p) w.key w.value)
+        → MayEnd (with_item (marked_with o b w n) p (room_at (marked_with o b w n) p) w.key w.value) b
+    end_in_place op b p slot here keeps =
+        subst (λ (z : ℕ). IsSlotOf o z w.key slot → Kept (with_item (marked_with o z w n) p (room_at (marked_with o z w n) p) w.key w.value)
+        → MayEnd (with_item (marked_with o z w n) p (room_at (marked_with o z w n) p) w.key w.value) z) (sym here) (λ found t.
+        let held = held_at p keeps in
+        let main = key_main o s w.key in
+        let room = room_now (bucket_in o w.key) p refl held.0 held.1 held.2 slot found in
+        subst (λ (r : ℕ). Kept (with_item (marked_with o (bucket_in o w.key) w n) p r w.key w.value) → MayEnd (with_item (marked_with o (bucket_in o w.key) w n) p r w.key w.value) (bucket_in o w.key)) (sym room)
+        (subst (λ (z : ℕ). Kept (with_item (marked_with o (bucket_in o w.key) w n) z held.0.room w.key w.value)
+        → MayEnd (with_item (marked_with o (bucket_in o w.key) w n) z held.0.room w.key w.value) (bucket_in o w.key)) held.2
+        (λ t'.
+        let few = few_words held.0.room in
+        let whole = effects.put_same o s.wide (some_words o s) (bucket_in o w.key) main w n held.0.offset (item_words held.0.room w.key w.value) few in
+        subst (λ (z : OwnerState). MayEnd z (bucket_in o w.key)) (sym whole) (record {
+          marked = bit_same (bucket_in o w.key) (bucket_in o w.key) refl;
+          stands_for = endings.put_in_place o s may.idle may.cached now.0 now.1 w is (with_item (marked_with o (bucket_in o w.key) w n) held.0.offset held.0.room w.key w.value).words
+              (subst Kept whole t') op held.0 held.1 slot found
+              (effects.put_entry_same o s.wide (some_words o s) (bucket_in o w.key) main w n held.0.offset (item_words held.0.room w.key w.value) few slot found.in_bucket)
+              (effects.put_effect o s.wide (some_words o s) (bucket_in o w.key) main w n held.0.offset (item_words held.0.room w.key w.value) few slot);
+        }))) t)
+
+    -- at the tail
+
+    in_bucket : (p : OwnerState) (b slot : ℕ) → GivesWay p b slot → slot < 15
+    in_bucket p b slot (empty is) = is.in_bucket
+    in_bucket p b slot (passed full is) = is.in_bucket
+    in_bucket p b slot (oldest full all is) = is.in_bucket
+
+    module _ (op : w.op ≡ Put) (keeps : kept_offset o w ≡ None) (stamp : n ≡ stamp_of (options_in o) (o.history ++ w ∷ [])) where
+      abbrev here : ℕ
+      here = bucket_in o w.key
+
+      -- the words with the item stored
+      abbrev stored : List ℕ
+      stored = (with_item (marked_with o (bucket_in o w.key) w n) (tail_of now.0.stamp) (item_size w.key w.value) w.key w.value).words
+
+      abbrev with_stored : OwnerState
+      with_stored = changed o stored (o.history ++ w ∷ []) (Marked (bucket_in o w.key) w o.history)
+
+      stored_is : with_item (marked_with o (bucket_in o w.key) w n) (tail_of now.0.stamp) (item_size w.key w.value) w.key w.value ≡ with_stored
+      stored_is = effects.put_same o s.wide (some_words o s) (bucket_in o w.key) (key_main o s w.key) w n (tail_of now.0.stamp) (item_words (item_size w.key w.value) w.key w.value) (few_words (item_size w.key w.value))
+
+      stored_same : (i : ℕ) → i < 15 → entry_in with_stored here i ≡ entry_in o here i
+      stored_same = effects.put_entry_same o s.wide (some_words o s) (bucket_in o w.key) (key_main o s w.key) w n (tail_of now.0.stamp) (item_words (item_size w.key w.value) w.key w.value) (few_words (item_size w.key w.value))
+
+      stored_stamp : stamp_in with_stored ≡ now.0.stamp + 65536 * item_size w.key w.value
+      stored_stamp =
+          effects.put_stamp o s.wide (some_words o s) (bucket_in o w.key) (key_main o s w.key) w n (tail_of now.0.stamp) (item_words (item_size w.key w.value) w.key w.value) (few_words (item_size w.key w.value))
+          ∙ (stamp ∙ (stamp_next ∙ leaves.appended_stamp (options_in o) now.0 kept w op (held_none keeps)))
+
+      stored_long : length stored ≡ word_count o.shape
+      stored_long = effects.length-put o s.wide (some_words o s) (bucket_in o w.key) (key_main o s w.key) w n (tail_of now.0.stamp) (item_words (item_size w.key w.value) w.key w.value) (few_words (item_size w.key w.value))
+
+      abbrev entry : ℕ
+      entry = entry_of (tag_of w.key) (tail_of now.0.stamp)
+
+      module _ (slot : ℕ) (below : slot < 15) (t : Kept (after (PutsEntry here slot entry) with_stored)) where
+        named : entry_in (after (PutsEntry here slot entry) with_stored) here slot ≡ entry
+        named = effects.entry_here o s.wide (some_words o s) (bucket_in o w.key) (key_main o s w.key) w n stored stored_long slot below entry
+            (tail_of now.0.stamp) (item_words (item_size w.key w.value) w.key w.value) stored_same
+            (effects.put_effect o s.wide (some_words o s) (bucket_in o w.key) (key_main o s w.key) w n (tail_of now.0.stamp) (item_words (item_size w.key w.value) w.key w.value) (few_words (item_size w.key w.value)) slot)
+
+        effect : Effect o (after (PutsEntry here slot entry) with_stored) here slot (tail_of now.0.stamp) (item_words (item_size w.key w.value) w.key w.value)
+        effect = effects.entry_effect o s.wide (some_words o s) (bucket_in o w.key) (key_main o s w.key) w n stored stored_long slot below entry
+            (tail_of now.0.stamp) (item_words (item_size w.key w.value) w.key w.value) stored_same
+            (effects.put_effect o s.wide (some_words o s) (bucket_in o w.key) (key_main o s w.key) w n (tail_of now.0.stamp) (item_words (item_size w.key w.value) w.key w.value) (few_words (item_size w.key w.value)) slot)
+
+        over_slot : IsSlotOf o here w.key slot → MayEnd (after (PutsEntry here slot entry) with_stored) here
+        over_slot found = record {
+          marked = bit_same (bucket_in o w.key) (bucket_in o w.key) refl;
+          stands_for = endings.put_over_slot o s may.idle may.cached now.0 now.1 w is (after (PutsEntry here slot entry) with_stored).words t op (held_none keeps) slot below named effect found;
+        }
+
+        over_none : HasNoSlot o here w.key → GivesWay with_stored here slot → MayEnd (after (PutsEntry here slot entry) with_stored) here
+        over_none none gives = record {
+          marked = bit_same (bucket_in o w.key) (bucket_in o w.key) refl;
+          stands_for = endings.put_over_none o s may.idle may.cached now.0 now.1 w is (after (PutsEntry here slot entry) with_stored).words t op (held_none keeps) slot below named effect none stored stored_same stored_stamp gives;
+        }
+
+      by_slot : (old : Option ℕ) (slot : ℕ) → MatchOption old (HasNoSlot o here w.key) (IsSlotOf o here w.key) → Takes with_stored here old slot
+          → Kept (after (PutsEntry here slot entry) with_stored) → MayEnd (after (PutsEntry here slot entry) with_stored) here
+      by_slot None slot none gives t = over_none slot (in_bucket with_stored here slot gives) t none gives
+      by_slot (Some old) slot found same t =
+          let is_slot : IsSlotOf o here w.key slot = subst (IsSlotOf o here w.key) (sym same) found in
+          over_slot slot is_slot.in_bucket t is_slot
+
+    -- the state once the item is stored and the slot names it
+    abbrev pub placed : ℕ → ℕ → ℕ → ℕ → OwnerState
+    placed b slot tag p = after (PutsEntry b slot (entry_of tag p)) (with_item (marked_with o b w n) p (item_size w.key w.value) w.key w.value)
+
+    pub end_at_tail : w.op ≡ Put → kept_offset o w ≡ None → n ≡ stamp_of (options_in o) (o.history ++ w ∷ []) → (b slot tag p : ℕ) (old : Option ℕ) → b ≡ bucket_in o w.key → MatchOption old (HasNoSlot o b w.key) (IsSlotOf o b w.key)
+        → tag ≡ tag_of w.key → p ≡ tail_of (stamp_in o) → Takes (with_item (marked_with o b w n) p (item_size w.key w.value) w.key w.value) b old slot
+        → Kept (placed b slot tag p) → MayEnd (placed b slot tag p) b
+    end_at_tail op keeps stamp b slot tag p old in_its sought tag_is p_is =
+        subst (λ (z : ℕ). MatchOption old (HasNoSlot o z w.key) (IsSlotOf o z w.key) → Takes (with_item (marked_with o z w n) p (item_size w.key w.value) w.key w.value) z old slot
+        → Kept (placed z slot tag p) → MayEnd (placed z slot tag p) z) (sym in_its)
+        (subst (λ (z : ℕ). MatchOption old (HasNoSlot o (bucket_in o w.key) w.key) (IsSlotOf o (bucket_in o w.key) w.key) → Takes (with_item (marked_with o (bucket_in o w.key) w n) p (item_size w.key w.value) w.key w.value) (bucket_in o w.key) old slot
+        → Kept (placed (bucket_in o w.key) slot z p) → MayEnd (placed (bucket_in o w.key) slot z p) (bucket_in o w.key)) (sym tag_is)
+        (subst (λ (z : ℕ). MatchOption old (HasNoSlot o (bucket_in o w.key) w.key) (IsSlotOf o (bucket_in o w.key) w.key) → Takes (with_item (marked_with o (bucket_in o w.key) w n) z (item_size w.key w.value) w.key w.value) (bucket_in o w.key) old slot
+        → Kept (placed (bucket_in o w.key) slot (tag_of w.key) z) → MayEnd (placed (bucket_in o w.key) slot (tag_of w.key) z) (bucket_in o w.key)) (sym (p_is ∙ ap tail_of stamp_now))
+        (subst (λ (z : OwnerState). MatchOption old (HasNoSlot o (bucket_in o w.key) w.key) (IsSlotOf o (bucket_in o w.key) w.key) → Takes z (bucket_in o w.key) old slot
+        → Kept (after (PutsEntry (bucket_in o w.key) slot (entry_of (tag_of w.key) (tail_of now.0.stamp))) z) → MayEnd (after (PutsEntry (bucket_in o w.key) slot (entry_of (tag_of w.key) (tail_of now.0.stamp))) z) (bucket_in o w.key))
+        (sym (stored_is op keeps stamp)) (by_slot op keeps stamp old slot)))) sought
+
+-- a put's item may be stored
+
+module _ (o : OwnerState) (s : Kept o) (may : MayWrite o) (key value : List ℕ) (is : IsWrite (write_of Put key value)) (b n p : ℕ) where
+  abbrev put : Write
+  put = write_of Put key value
+
+  pub may_append : kept_offset o (write_of Put key value) ≡ None → p ≡ tail_of (stamp_in o) → MayAppend (marked_with o b (write_of Put key value) n) p key value
+  may_append keeps tail = record {
+    marked = refl;
+    at_tail = subst (λ (z : State). IsAppendedAt (options_in o) z (write_of Put key value) p) (sym (at o s may (write_of Put key value) is))
+        (held_none o s may (write_of Put key value) is keeps, tail ∙ ap tail_of (stamp_now o s may (write_of Put key value) is));
+  }
+
+  pub may_rewrite : (slot : ℕ) → b ≡ bucket_in o key → kept_offset o (write_of Put key value) ≡ Some p → IsSlotOf o b key slot → MayRewrite (marked_with o b (write_of Put key value) n) p key value
+  may_rewrite slot in_its keeps found =
+      let held = held_at o s may (write_of Put key value) is p keeps in
+      let before = room_kept o s may (write_of Put key value) is n b p in_its held.0 held.1 held.2 slot found in
+      let main : IsMain o.shape b = subst (IsMain o.shape) (sym in_its) (key_main o s key) in
+      let its_key : held.0.key ≡ key = found_key key (now o s may (write_of Put key value) is).0.records held.0 (keeps_put (options_in o) (now o s may (write_of Put key value) is).0 (write_of Put key value) held.0 held.1).is in
+      let spelt : SpellsItem (marked_with o b (write_of Put key value) n) p key (cell_at held.0).0 = λ i l.
+      effects.marked_item o s.wide (some_words o s) b main (write_of Put key value) n (p + i) ∙ (ap (λ (z : ℕ). item_in o (z + i)) (sym before.1) ∙ before.2.item i l) in
+      record {
+        marked = refl;
+        in_place = subst (λ (z : State). IsKeptAt (marked_with o b (write_of Put key value) n) z (write_of Put key value) p) (sym (at o s may (write_of Put key value) is))
+            (held.0, held.1, held.2, subst (λ (k : List ℕ). SpellsItem (marked_with o b (write_of Put key value) n) p k (cell_at held.0).0) (sym its_key) spelt);
+      }
+
+-- what was marked and stored is the history's gain, and other words
+
+pub item_gained : (o : OwnerState) → Kept o → (w : Write) → IsWrite w → (b n p room : ℕ) → b ≡ bucket_in o w.key
+    → with_item (marked_with o b w n) p room w.key w.value
+    ≡ changed o (with_item (marked_with o b w n) p room w.key w.value).words (o.history ++ w ∷ []) (Marked (bucket_in o w.key) w o.history)
+item_gained o s w is b n p room here =
+    let long = length-item_words room w.key w.value in
+    let size : size_of w ≤ 162 = size_at_most w is in
+    let least = s.shape.ranges.words.0 in
+    effects.put_same o s.wide (some_words o s) b (subst (IsMain o.shape) (sym here) (key_main o s w.key)) w n p (item_words room w.key w.value) (omega arith)
+
+pub gains : (o q new : OwnerState) (w : Write) (b : ℕ) (words : List ℕ) (phase : Phase) → o.phase ≡ Idle
+    → q ≡ changed o words (o.history ++ w ∷ []) phase → new ≡ after (Ends b) q → Gains o new w
+gains o q new w b words phase idle gained is =
+    let ended : List ℕ = (after (Ends b) (changed o words (o.history ++ w ∷ []) phase)).words in
+    let whole : new ≡ after (Ends b) (changed o words (o.history ++ w ∷ []) phase) = is ∙ ap (after (Ends b)) gained in
+    let between : after (Ends b) (changed o words (o.history ++ w ∷ []) phase) ≡ record o { words = ended; history = o.history ++ w ∷ [] } =
+    (λ j. record o { words = ended; history = o.history ++ w ∷ []; phase = sym idle j }) in
+    whole ∙ (between ∙ ap (λ (z : OwnerState). record o { words = z.words; history = o.history ++ w ∷ [] }) (sym whole))
+
+-- the stamp stays far below the limit of a word
+pub stamp_limit : (o : OwnerState) → Kept o → stamp_in o < 2 ^ 60
+stamp_limit o s =
+    let small = stamp_small (options_in o) s.shape.ranges o.history s.history.accepted s.history.writes in
+    let is = s.stamp in
+    omega arith
+
+-- writes of keys and values that fit
+
+pub put_is : (key value : List ℕ) → KeyFits key → AreBytes key → ValueFits value → AreBytes value → IsWrite (write_of Put key value)
+put_is key value key_fits key_bytes value_fits value_bytes = record { key = key_fits; key_bytes = key_bytes; value = value_fits; value_bytes = value_bytes }
+
+pub delete_is : (key : List ℕ) → KeyFits key → AreBytes key → IsWrite (write_of Del key [])
+delete_is key key_fits key_bytes = record { key = key_fits; key_bytes = key_bytes; value = refl; value_bytes = λ k. omega arith }
+
+-- whether a slot was found is whether there was a record
+pub found_had : (o : OwnerState) → Kept o → MayWrite o → (key : List ℕ) → AreBytes key → (b : ℕ) → b ≡ bucket_in o key → (slot : Option ℕ)
+    → MatchOption slot (HasNoSlot o b key) (IsSlotOf o b key) → is_some slot ≡ had_record o key
+found_had o s may key bytes b here slot found =
+    let now = cached_in (options_in o) may.cached o.history in
+    let main : IsMain o.shape b = subst (IsMain o.shape) (sym here) (key_main o s key) in
+    let stood = s.state b main (ap (λ (z : Phase). marked_in z b) may.idle) in
+    subst (λ (z : State). is_some slot ≡ had_record_by z key) (sym now.1) (by_slot now.0 now.1 stood slot found)
+  where
+    by_slot : (m : Cache) → state_in o ≡ cache_state m → StandsFor o b → (slot : Option ℕ) → MatchOption slot (HasNoSlot o b key) (IsSlotOf o b key)
+        → is_some slot ≡ is_some (record_of m key)
+    by_slot m at stood None none = ap is_some (sym (slots.no_record o s m at may.cached b key stood (sym here) none))
+    by_slot m at stood (Some slot) found =
+        let spelt = slots.slot_spells o s may.cached b slot key bytes stood found in
+        ap is_some (sym (slots.record_spelt o s m at b (entry_in o b slot) key spelt.0 spelt.1).1)
+
+-- a put that is kept in place has a slot
+pub kept_slot : (o : OwnerState) → Kept o → (may : MayWrite o) → (w : Write) → IsWrite w → (p b : ℕ) → kept_offset o w ≡ Some p → b ≡ bucket_in o w.key → (slot : Option ℕ)
+    → MatchOption slot (HasNoSlot o b w.key) (IsSlotOf o b w.key) → (i : ℕ) × IsSlotOf o b w.key i
+kept_slot o s may w is p b keeps here (Some slot) found = (slot, found)
+kept_slot o s may w is p b keeps here None none =
+    let main : IsMain o.shape b = subst (IsMain o.shape) (sym here) (key_main o s w.key) in
+    let stood = s.state b main (ap (λ (z : Phase). marked_in z b) may.idle) in
+    let absent : record_of (now o s may w is).0 w.key ≡ None = slots.no_record o s (now o s may w is).0 (now o s may w is).1 may.cached b w.key stood (sym here) none in
+    let held = held_at o s may w is p keeps in
+    let not_kept : kept_record (options_in o) (now o s may w is).0 w ≡ None = ap (cs.kept_if (options_in o) (now o s may w is).0 w) absent in
+    cc (sym not_kept ∙ held.1)
+
+pub stamp_gained : (o new : OwnerState) (w : Write) (n : ℕ) → Gains o new w → n ≡ stamp_of (options_in o) (o.history ++ w ∷ []) → n ≡ stamp_of (options_in new) new.history
+stamp_gained o new w n gained is = is ∙ ap (λ (z : OwnerState). stamp_of (options_in z) z.history) (sym gained)
+
+-- where a put is kept in place, by the key's slot
+
+none_kept : (options : Options) (m : Cache) (w : Write) → record_of m w.key ≡ None → option_map (λ (held : Record). held.offset) (kept_record options m w) ≡ None
+none_kept options m w absent = ap (λ (z : Option Record). option_map (λ (held : Record). held.offset) (cs.kept_if options m w z)) absent
+
+kept_if_is : (fits : Bool) (r : Record) → then_some fits r.offset ≡ option_map (λ (held : Record). held.offset) (cond fits (Some r) None)
+kept_if_is true r = refl
+kept_if_is false r = refl
+
+pub no_slot_keeps : (o : OwnerState) → Kept o → (may : MayWrite o) → (w : Write) → (b : ℕ) → b ≡ bucket_in o w.key → HasNoSlot o b w.key → kept_offset o w ≡ None
+no_slot_keeps o s may w b here none =
+    let main : IsMain o.shape b = subst (IsMain o.shape) (sym here) (key_main o s w.key) in
+    let stood = s.state b main (ap (λ (z : Phase). marked_in z b) may.idle) in
+    let there = cached_in (options_in o) may.cached o.history in
+    subst (λ (z : State). kept_offset_by (options_in o) z w ≡ None) (sym there.1)
+    (none_kept (options_in o) there.0 w (slots.no_record o s there.0 there.1 may.cached b w.key stood (sym here) none))
+
+pub slot_keeps : (o : OwnerState) → Kept o → (may : MayWrite o) → (w : Write) → IsWrite w → (b slot : ℕ) → b ≡ bucket_in o w.key → IsSlotOf o b w.key slot
+    → (stamp offset room : ℕ) → stamp ≡ stamp_in o → offset ≡ entry_offset (entry_in o b slot) → room ≡ room_in o (entry_in o b slot)
+    → (fits : Bool) → fits ≡ (nat_le (size_of w) room && is_live o.shape.words (stamp + 1) offset) → then_some fits offset ≡ kept_offset o w
+slot_keeps o s may w is b slot here found stamp offset room stamp_is offset_is room_is_now fits fits_is =
+    let main : IsMain o.shape b = subst (IsMain o.shape) (sym here) (key_main o s w.key) in
+    let stood = s.state b main (ap (λ (z : Phase). marked_in z b) may.idle) in
+    let there = cached_in (options_in o) may.cached o.history in
+    let spelt = slots.slot_spells o s may.cached b slot w.key is.key_bytes stood found in
+    let held = slots.record_spelt o s there.0 there.1 b (entry_in o b slot) w.key spelt.0 spelt.1 in
+    let offset_held : offset ≡ held.0.offset = offset_is ∙ sym held.2 in
+    let room_held : room ≡ held.0.room = room_is_now ∙ (room_is o s b (entry_in o b slot) w.key spelt.0 spelt.1 ∙ ap (λ (c : Cell). c.room) held.3) in
+    let stamp_held : stamp ≡ there.0.stamp = stamp_is ∙ (s.stamp ∙ ap stamp_of_state there.1) in
+    let may_keep_is : fits ≡ cs.may_keep (options_in o) there.0 w held.0 =
+    fits_is ∙ (λ j. nat_le (size_of w) (room_held j) && is_live o.shape.words (stamp_held j + 1) (offset_held j)) in
+    subst (λ (z : State). then_some fits offset ≡ kept_offset_by (options_in o) z w) (sym there.1)
+    ((λ j. then_some (may_keep_is j) (offset_held j))
+    ∙ (kept_if_is (cs.may_keep (options_in o) there.0 w held.0) held.0
+    ∙ ap (λ (z : Option Record). option_map (λ (held : Record). held.offset) (cs.kept_if (options_in o) there.0 w z)) (sym held.1)))

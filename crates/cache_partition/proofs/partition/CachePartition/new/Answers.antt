@@ -1,0 +1,12 @@
+use Rattle.std.proofs.Common.{length, sym, ap}
+use Rattle.epoch_core.specs.declared.state.OwnerState.{OwnerState}
+use Rattle.cache_partition.proofs.Writes.{new_stamp}
+use Rattle.cache_partition.proofs.partition.CachePartition.new.Goals as goal
+
+pub invariant_of-result : goal.invariant_of-result
+invariant_of-result g c = record {
+  idle = ap (λ (o : OwnerState). o.phase) c.requires.made;
+  cached = c.requires.mode;
+  stamped = new_stamp (g.W.OwnerWords.owner c.args.words) c.requires.made;
+  counted = sym (ap (λ (o : OwnerState). length o.history) c.requires.made);
+}

@@ -1,0 +1,46 @@
+use Rattle.std.proofs.Common.{[], length, sym, ap, ◌∙◌, arith}
+use Rattle.std.proofs.lemmas.Bool.{leb-true, leb-false}
+use Rattle.mica_model.specs.declared.write.Op.TheVariants.{Del}
+use Rattle.mica_model.specs.declared.write.Outcome.TheVariants.{Deleted, Absent}
+use Rattle.mica_model.specs.Write.{write_of}
+use Rattle.mica_model.specs.CacheStep.{reply_of}
+use Rattle.cache_partition.specs.Gained.{MayWrite}
+use Rattle.cache_partition.proofs.Writes.{worn_step, accepted_step}
+use Rattle.cache_partition.proofs.partition.CachePartitionPartition.del.Goals as goal
+
+pub returns-then-is_worn-clause-step : goal.returns-then-is_worn-clause-step
+returns-then-is_worn-clause-step g c =
+    let o = g.W.OwnerWords.owner c.args.self.now.words in
+    worn_step o c.args.self.now.idle c.args.self.now.cached (leb-true o.shape.wear (length o.history) (sym c.is_worn.ensures.worn ∙ c.if-is_worn.true)) (write_of Del c.args.key.now [])
+
+pub overflow_add-self : goal.overflow_add-self
+overflow_add-self g c =
+    let o = g.W.OwnerWords.owner c.args.self.now.words in
+    let few = leb-false o.shape.wear (length o.history) (sym c.is_worn.ensures.worn ∙ c.if-is_worn.false) in
+    let most = c.is_worn.ensures.valid.ranges.wear.1 in
+    let count = c.args.self.now.counted in
+    omega arith
+
+pub returns-then-removed-clause-step : goal.returns-then-removed-clause-step
+returns-then-removed-clause-step g c =
+    let owner = g.W.OwnerWords.owner in
+    let o = owner c.args.self.now.words in
+    let may : MayWrite o = record {
+      idle = c.args.self.now.idle;
+      cached = c.args.self.now.cached;
+      not_worn = leb-false o.shape.wear (length o.history) (sym c.is_worn.ensures.worn ∙ c.if-is_worn.false);
+    } in
+    accepted_step o (owner c.remove-removed.new.words) may (write_of Del c.args.key.now []) Deleted c.remove-removed.ensures.gains
+    (ap (reply_of Del) (sym c.if-removed.true ∙ c.remove-removed.ensures.found))
+
+pub returns-else-removed-clause-step : goal.returns-else-removed-clause-step
+returns-else-removed-clause-step g c =
+    let owner = g.W.OwnerWords.owner in
+    let o = owner c.args.self.now.words in
+    let may : MayWrite o = record {
+      idle = c.args.self.now.idle;
+      cached = c.args.self.now.cached;
+      not_worn = leb-false o.shape.wear (length o.history) (sym c.is_worn.ensures.worn ∙ c.if-is_worn.false);
+    } in
+    accepted_step o (owner c.remove-removed.new.words) may (write_of Del c.args.key.now []) Absent c.remove-removed.ensures.gains
+    (ap (reply_of Del) (sym c.if-removed.false ∙ c.remove-removed.ensures.found))

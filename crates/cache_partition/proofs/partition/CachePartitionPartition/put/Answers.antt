@@ -1,0 +1,32 @@
+use Rattle.std.proofs.Common.{length, refl, sym, ◌∙◌, arith}
+use Rattle.std.proofs.lemmas.Bool.{leb-true, leb-false}
+use Rattle.mica_model.specs.declared.write.Op.TheVariants.{Put}
+use Rattle.mica_model.specs.declared.write.Outcome.TheVariants.{Stored}
+use Rattle.mica_model.specs.Write.{write_of}
+use Rattle.cache_partition.specs.Gained.{MayWrite}
+use Rattle.cache_partition.proofs.Writes.{worn_step, accepted_step}
+use Rattle.cache_partition.proofs.partition.CachePartitionPartition.put.Goals as goal
+
+pub returns-then-is_worn-clause-step : goal.returns-then-is_worn-clause-step
+returns-then-is_worn-clause-step g c =
+    let o = g.W.OwnerWords.owner c.args.self.now.words in
+    worn_step o c.args.self.now.idle c.args.self.now.cached (leb-true o.shape.wear (length o.history) (sym c.is_worn.ensures.worn ∙ c.if-is_worn.true)) (write_of Put c.args.key.now c.args.value.now)
+
+pub overflow_add-self : goal.overflow_add-self
+overflow_add-self g c =
+    let o = g.W.OwnerWords.owner c.args.self.now.words in
+    let few = leb-false o.shape.wear (length o.history) (sym c.is_worn.ensures.worn ∙ c.if-is_worn.false) in
+    let most = c.is_worn.ensures.valid.ranges.wear.1 in
+    let count = c.args.self.now.counted in
+    omega arith
+
+pub returns-clause-step : goal.returns-clause-step
+returns-clause-step g c =
+    let owner = g.W.OwnerWords.owner in
+    let o = owner c.args.self.now.words in
+    let may : MayWrite o = record {
+      idle = c.args.self.now.idle;
+      cached = c.args.self.now.cached;
+      not_worn = leb-false o.shape.wear (length o.history) (sym c.is_worn.ensures.worn ∙ c.if-is_worn.false);
+    } in
+    accepted_step o (owner c.put-self.new.words) may (write_of Put c.args.key.now c.args.value.now) Stored c.put-self.ensures.gains refl

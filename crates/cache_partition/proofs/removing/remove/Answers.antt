@@ -1,0 +1,60 @@
+use Rattle.std.proofs.Common.{◌≡◌, ℕ, [], ◌+◌, refl, sym, ap, ◌∙◌, subst, arith, Option}
+use Rattle.std.specs.Prelude.{MatchOption}
+use Rattle.mica_model.specs.declared.write.Op.TheVariants.{Del}
+use Rattle.mica_model.specs.declared.write.Write.{Write}
+use Rattle.mica_model.specs.Write.{write_of}
+use Rattle.epoch_core.specs.declared.state.OwnerState.{OwnerState}
+use Rattle.epoch_core.specs.declared.event.Event.TheVariants.{PutsEntry}
+use Rattle.epoch_core.specs.OwnerState.{stamp_in}
+use Rattle.epoch_core.specs.Events.{MayEnd, after}
+use Rattle.epoch_core.specs.Kept.{Kept}
+use Rattle.lossy_index.specs.Slot.{IsSlotOf, HasNoSlot}
+use Rattle.cache_partition.specs.Gained.{MayWrite}
+use Rattle.cache_partition.specs.Sought.{IsSought, had_record}
+use Rattle.cache_partition.proofs.Writes.{stamp_limit, stamp_deleted, delete_is, end_cleared, end_absent, found_had}
+use Rattle.cache_partition.proofs.removing.remove.Goals as goal
+use Rattle.cache_partition.proofs.removing.remove.Goals.{in-Some, in_default}
+
+pub overflow_add-stamp : goal.overflow_add-stamp
+overflow_add-stamp g c =
+    let small = stamp_limit (g.W.OwnerWords.owner c.seek-sought.new.words) c.seek-sought.ensures.kept in
+    let old : stamp_in (g.W.OwnerWords.owner c.seek-sought.new.words) ≡ c.seek-sought.result.stamp = ap stamp_in c.seek-sought.ensures.same.0 ∙ sym c.seek-sought.ensures.sought.stamp in
+    omega arith
+
+pub begin-requires-clause-stamp : goal.begin-requires-clause-stamp
+begin-requires-clause-stamp g c =
+    let o = g.W.OwnerWords.owner c.seek-sought.new.words in
+    let may = subst MayWrite (sym c.seek-sought.ensures.same.0) c.requires.may in
+    let is = delete_is c.args.key.now c.requires.key (λ k. omega (arith, c.type_inv.key k)) in
+    ap (λ (z : ℕ). z + 1) (c.seek-sought.ensures.sought.stamp ∙ ap stamp_in (sym c.seek-sought.ensures.same.0))
+    ∙ sym (stamp_deleted o c.seek-sought.ensures.kept may (write_of Del c.args.key.now []) is refl)
+
+pub end_write-requires : goal.end_write-requires
+end_write-requires g c =
+    let owner = g.W.OwnerWords.owner in
+    let o = owner c.seek-sought.new.words in
+    let may = subst MayWrite (sym c.seek-sought.ensures.same.0) c.requires.may in
+    let sought = subst (λ (z : OwnerState). IsSought z c.args.key.now c.seek-sought.result) (sym c.seek-sought.ensures.same.0) c.seek-sought.ensures.sought in
+    let is = delete_is c.args.key.now c.requires.key (λ k. omega (arith, c.type_inv.key k)) in
+    elim c.match-sought.branch [
+      | in-Some w ↦
+          let event = w.clear.ensures.entry ∙ ap (after (PutsEntry c.seek-sought.result.bucket w.in-Some.slot 0)) c.begin.ensures.marked in
+          subst (λ (z : OwnerState). MayEnd z c.seek-sought.result.bucket) (sym (ap owner w.words-is ∙ event))
+          (end_cleared (owner c.seek-sought.new.words) c.seek-sought.ensures.kept may (write_of Del c.args.key.now []) is (c.seek-sought.result.stamp + 1) refl c.seek-sought.result.bucket w.in-Some.slot sought.bucket
+          (subst (λ (z : Option ℕ). MatchOption z (HasNoSlot o c.seek-sought.result.bucket c.args.key.now) (IsSlotOf o c.seek-sought.result.bucket c.args.key.now)) w.in-Some.is sought.found)
+          (subst Kept event w.clear.ensures.kept))
+      | in_default w ↦
+          subst (λ (z : OwnerState). MayEnd z c.seek-sought.result.bucket) (sym (ap owner w.words-is ∙ c.begin.ensures.marked))
+          (end_absent (owner c.seek-sought.new.words) c.seek-sought.ensures.kept may (write_of Del c.args.key.now []) is (c.seek-sought.result.stamp + 1) refl c.seek-sought.result.bucket sought.bucket
+          (subst (λ (z : Option ℕ). MatchOption z (HasNoSlot o c.seek-sought.result.bucket c.args.key.now) (IsSlotOf o c.seek-sought.result.bucket c.args.key.now)) w.in_default.is sought.found)
+          (subst Kept c.begin.ensures.marked c.begin.ensures.kept))
+    ]
+
+pub returns-clause-found : goal.returns-clause-found
+returns-clause-found g c =
+    let o = g.W.OwnerWords.owner c.seek-sought.new.words in
+    let may = subst MayWrite (sym c.seek-sought.ensures.same.0) c.requires.may in
+    let sought = subst (λ (z : OwnerState). IsSought z c.args.key.now c.seek-sought.result) (sym c.seek-sought.ensures.same.0) c.seek-sought.ensures.sought in
+    c.is_some.ensures
+    ∙ (found_had o c.seek-sought.ensures.kept may c.args.key.now (λ k. omega (arith, c.type_inv.key k)) c.seek-sought.result.bucket sought.bucket c.seek-sought.result.slot sought.found
+    ∙ ap (λ (z : OwnerState). had_record z c.args.key.now) c.seek-sought.ensures.same.0)

@@ -1,0 +1,22 @@
+-- One accepted write, from a state between writes to the next one.
+use Rattle.std.specs.Prelude.{◌≡◌, ℕ, ◌<◌, ◌∷◌, [], ◌++◌, length}
+use Rattle.mica_model.specs.declared.options.Mode.TheVariants.{Cache}
+use Rattle.mica_model.specs.declared.write.Write.{Write}
+use Rattle.epoch_core.specs.declared.state.OwnerState.{OwnerState}
+use Rattle.epoch_core.specs.declared.state.Phase.TheVariants.{Idle}
+use Rattle.epoch_core.specs.declared.event.Event.TheVariants.{Begins, Marks}
+use Rattle.epoch_core.specs.Events.{after}
+
+-- a partition in cache mode between writes, which may bear one more
+pub record MayWrite (o : OwnerState) : Type 0 where
+  pub idle : o.phase ≡ Idle
+  pub cached : o.shape.mode ≡ Cache
+  pub not_worn : length o.history < o.shape.wear
+
+-- the history gains the write, and beside it words alone change
+abbrev pub Gains : OwnerState → OwnerState → Write → Type 0
+Gains o new write = new ≡ record o { words = new.words; history = o.history ++ write ∷ [] }
+
+-- the state once the write is begun in the bucket and marked by the stamp
+abbrev pub marked_with : OwnerState → ℕ → Write → ℕ → OwnerState
+marked_with o b write stamp = after (Marks write stamp) (after (Begins b) o)

@@ -1,0 +1,33 @@
+-- What the words tell of a key before a write.
+use Rattle.std.specs.Prelude.{◌≡◌, ℕ, Bool, false, List, Option, None, MatchOption, is_some, option_map}
+use Rattle.mica_model.specs.declared.options.Options.{Options}
+use Rattle.mica_model.specs.declared.write.Write.{Write}
+use Rattle.mica_model.specs.Cache.{record_of}
+use Rattle.mica_model.specs.CacheStep.{kept_record}
+use Rattle.mica_model.specs.History.{State, cache_state, store_state}
+use Rattle.epoch_core.specs.declared.state.OwnerState.{OwnerState}
+use Rattle.epoch_core.specs.OwnerState.{stamp_in, options_in, state_in, bucket_in}
+use Rattle.cache_partition.specs.declared.seeking.Sought.{Sought}
+use Rattle.lossy_index.specs.Slot.{IsSlotOf, HasNoSlot}
+
+-- the bucket is the key's, the slot is its slot there, if it has one, and the stamp is the one now
+pub record IsSought (o : OwnerState) (key : List ℕ) (sought : Sought) : Type 0 where
+  pub bucket : sought.bucket ≡ bucket_in o key
+  pub found : MatchOption sought.slot (HasNoSlot o sought.bucket key) (IsSlotOf o sought.bucket key)
+  pub stamp : sought.stamp ≡ stamp_in o
+
+abbrev pub kept_offset_by : Options → State → Write → Option ℕ
+kept_offset_by options (cache_state s) write = option_map (λ held. held.offset) (kept_record options s write)
+kept_offset_by options (store_state s) write = None
+
+-- the offset of the record in whose room a put is kept, if it is
+abbrev pub kept_offset : OwnerState → Write → Option ℕ
+kept_offset o write = kept_offset_by (options_in o) (state_in o) write
+
+abbrev pub had_record_by : State → List ℕ → Bool
+had_record_by (cache_state s) key = is_some (record_of s key)
+had_record_by (store_state s) key = false
+
+-- whether the log has a record of the key
+abbrev pub had_record : OwnerState → List ℕ → Bool
+had_record o key = had_record_by (state_in o) key

@@ -1,0 +1,99 @@
+//! The partition and its calls.
+ghost use Rattle.std.specs.Prelude.{◌≡◌, length, nat_le};
+ghost use Rattle.mica_model.specs.declared.options.Mode.TheVariants.{Cache};
+ghost use Rattle.mica_model.specs.History.{stamp_of};
+ghost use Rattle.epoch_core.specs.declared.state.Phase.TheVariants.{Idle};
+ghost use Rattle.epoch_core.specs.Shape.{IsValidShape};
+ghost use Rattle.epoch_core.specs.OwnerState.{options_in, as_made};
+
+use crate::reading::value_of;
+use crate::removing::remove;
+use crate::writing::put;
+use epoch_core::{OwnerWords, Partition};
+use mica_model::{Answer, ItemBuf, Outcome};
+
+/// A partition over an owner's words, with its stamp and the number of accepted writes at hand.
+#[derive(Drop)]
+pub struct CachePartition<W: OwnerWords> {
+    words: W,
+    stamp: u64,
+    accepted: u64,
+    pub ghost idle: { (W.owner words).phase ≡ Idle },
+    pub ghost cached: { (W.owner words).shape.mode ≡ Cache },
+    pub ghost stamped: { stamp ≡ stamp_of (options_in (W.owner words)) (W.owner words).history },
+    pub ghost counted: { accepted ≡ length (W.owner words).history },
+}
+
+impl<W: OwnerWords> CachePartition<W> {
+    /// An empty partition over words as made. It takes no memory.
+    pub fn new(words: W) -> CachePartition<W>
+        requires made { W.owner words ≡ as_made (W.owner words).shape }
+        requires mode { (W.owner words).shape.mode ≡ Cache }
+        ensures owner { W.owner result.words ≡ W.owner words }
+        ensures home { W.home result.words ≡ W.home words }
+    {
+        CachePartition {
+            words,
+            stamp: 0,
+            accepted: 0,
+        }
+    }
+
+    /// The words, with what the partition made of them.
+    pub fn into_words(self) -> W
+        ensures owner { W.owner result ≡ W.owner self.words }
+        ensures home { W.home result ≡ W.home self.words }
+    {
+        self.words
+    }
+
+    // Whether as many writes were accepted as the partition may bear.
+    fn is_worn(&self) -> bool
+        ensures worn { result ≡ nat_le (W.owner self.now.words).shape.wear
+            (length (W.owner self.now.words).history) }
+        ensures valid { IsValidShape (W.owner self.now.words).shape }
+    {
+        self.words.shape().wear <= self.accepted
+    }
+}
+
+impl<W: OwnerWords> Partition for CachePartition<W> {
+    ghost owner = { λ p. W.owner p.words };
+
+    ghost home = { λ p. W.home p.words };
+
+    fn put(&mut self, key: &[u8], value: &[u8]) -> Outcome {
+        if self.is_worn() {
+            return Outcome::Worn;
+        }
+        self.stamp = put(&mut self.words, key, value);
+        self.accepted += 1;
+        Outcome::Stored
+    }
+
+    fn del(&mut self, key: &[u8]) -> Outcome {
+        if self.is_worn() {
+            return Outcome::Worn;
+        }
+        let removed = remove(&mut self.words, key);
+        self.stamp = removed.stamp;
+        self.accepted += 1;
+        if removed.had_record {
+            Outcome::Deleted
+        } else {
+            Outcome::Absent
+        }
+    }
+
+    fn get(&mut self, key: &[u8], out: &mut ItemBuf) -> Answer {
+        value_of(&mut self.words, key, out)
+    }
+
+    fn stamp(&self) -> u64 {
+        self.stamp
+    }
+
+    fn accepted(&self) -> u64 {
+        self.accepted
+    }
+}

@@ -1,0 +1,38 @@
+//! The answer to a get.
+ghost use Rattle.std.specs.Prelude.{◌≡◌};
+ghost use Rattle.mica_words.specs.Item.{KeyFits};
+ghost use Rattle.mica_model.specs.declared.options.Mode.TheVariants.{Cache};
+ghost use Rattle.mica_model.specs.Answer.{IsAnswer};
+ghost use Rattle.mica_model.specs.History.{answer_of};
+ghost use Rattle.epoch_core.specs.declared.state.Phase.TheVariants.{Idle};
+ghost use Rattle.epoch_core.specs.OwnerState.{options_in};
+
+use crate::seeking::bucket_of_key;
+use circular_log::item_at;
+use epoch_core::{OwnerWords, WordAt};
+use lossy_index::find;
+use mica_model::{Answer, ItemBuf};
+use mica_words::entry_offset;
+
+/// Copies the key's value into the buffer.
+pub(crate) fn value_of<W: OwnerWords>(words: &mut W, key: &[u8], out: &mut ItemBuf) -> Answer
+    requires key { KeyFits key.now }
+    requires idle { (W.owner words.old).phase ≡ Idle }
+    requires cached { (W.owner words.old).shape.mode ≡ Cache }
+    ensures answer { IsAnswer result out.new
+        (answer_of (options_in (W.owner words.old)) (W.owner words.old).history key.entry.now) }
+    ensures same { (W.owner words.new ≡ W.owner words.old) × (W.home words.new ≡ W.home words.old) }
+{
+    let bucket = bucket_of_key(words, key);
+    match find(words, bucket, key) {
+        Some(slot) => {
+            let entry = words.read(WordAt::Entry(bucket, slot));
+            item_at(words, entry_offset(entry), out);
+            Answer::Hit
+        }
+        None => {
+            out.clear();
+            Answer::Miss
+        }
+    }
+}

@@ -1,0 +1,72 @@
+//! What is known of a key before a write to it, and the write's begin.
+ghost use Rattle.std.specs.Prelude.{◌≡◌, ◌++◌, ◌∷◌, []};
+ghost use Rattle.mica_words.specs.Item.{KeyFits};
+ghost use Rattle.mica_model.specs.Write.{IsWrite, write_of};
+ghost use Rattle.mica_model.specs.History.{stamp_of};
+ghost use Rattle.epoch_core.specs.Shape.{IsMain};
+ghost use Rattle.epoch_core.specs.OwnerState.{options_in, bucket_in};
+ghost use Rattle.epoch_core.specs.Kept.{Kept};
+ghost use Rattle.cache_partition.specs.Gained.{MayWrite, marked_with};
+ghost use Rattle.cache_partition.specs.Sought.{IsSought};
+
+use epoch_core::{OwnerWords, WordAt};
+use lossy_index::find;
+use mica_model::Op;
+use mica_words::{bucket_of, key_hash};
+
+/// A key's bucket, its slot there if it has one, and the stamp.
+#[derive(Drop)]
+pub(crate) struct Sought {
+    pub bucket: u32,
+    pub slot: Option<u32>,
+    pub stamp: u64,
+}
+
+/// The bucket of a key.
+pub(crate) fn bucket_of_key<W: OwnerWords>(words: &W, key: &[u8]) -> u32
+    ensures bucket { result ≡ bucket_in (W.owner words.now) key.now }
+    ensures main { IsMain (W.owner words.now).shape result }
+{
+    bucket_of(key_hash(key), words.shape().buckets)
+}
+
+/// Looks the key up.
+pub(crate) fn seek<W: OwnerWords>(words: &mut W, key: &[u8]) -> Sought
+    requires { KeyFits key.now }
+    ensures sought { IsSought (W.owner words.old) key.entry.now result }
+    ensures same { (W.owner words.new ≡ W.owner words.old) × (W.home words.new ≡ W.home words.old) }
+    ensures kept { Kept (W.owner words.new) }
+{
+    let bucket = bucket_of_key(words, key);
+    let slot = find(words, bucket, key);
+    let stamp = words.read(WordAt::Stamp);
+    Sought {
+        bucket,
+        slot,
+        stamp,
+    }
+}
+
+/// Begins the write in its bucket and marks it.
+pub(crate) fn begin<W: OwnerWords>(
+    words: &mut W,
+    bucket: u32,
+    op: Op,
+    key: &[u8],
+    value: &[u8],
+    stamp: u64,
+)
+    requires kept { Kept (W.owner words.old) }
+    requires may { MayWrite (W.owner words.old) }
+    requires bucket { bucket ≡ bucket_in (W.owner words.old) key.now }
+    requires write { IsWrite (write_of op key.now value.now) }
+    requires stamp { stamp ≡ stamp_of (options_in (W.owner words.old))
+        ((W.owner words.old).history ++ write_of op key.now value.now ∷ []) }
+    ensures marked { W.owner words.new ≡ marked_with (W.owner words.old) bucket
+        (write_of op key.entry.now value.entry.now) stamp }
+    ensures home { W.home words.new ≡ W.home words.old }
+    ensures kept { Kept (W.owner words.new) }
+{
+    words.begin_write(bucket);
+    words.mark(op, key, value, stamp);
+}

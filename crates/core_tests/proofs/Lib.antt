@@ -1,0 +1,4 @@
+pub mod MarkedPut
+pub mod Marking
+pub mod Storing
+pub mod Ending

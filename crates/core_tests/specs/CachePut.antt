@@ -1,0 +1,25 @@
+-- One put of cache mode, in a partition with one bucket.
+use Rattle.std.specs.Prelude.{◌≡◌, ℕ, ◌<◌, [], ◌∷◌}
+use Rattle.mica_model.specs.declared.options.Mode.TheVariants.{Cache}
+use Rattle.mica_model.specs.declared.write.Op.TheVariants.{Put}
+use Rattle.mica_model.specs.declared.write.Write.{Write}
+use Rattle.mica_model.specs.Write.{write_of}
+use Rattle.epoch_core.specs.declared.shape.Shape.{Shape}
+use Rattle.epoch_core.specs.declared.state.OwnerState.{OwnerState}
+use Rattle.epoch_core.specs.declared.state.Phase.TheVariants.{Marked}
+use Rattle.epoch_core.specs.OwnerState.{entry_in}
+use Rattle.epoch_core.specs.Kept.{Kept}
+
+abbrev pub one_bucket : Shape
+one_bucket = record { mode = Cache; buckets = 1; spares = 0; words = 1024; wear = 68719476736 }
+
+-- the put of `a` with `1`
+abbrev pub put_of_a : Write
+put_of_a = write_of Put (97 ∷ []) (49 ∷ [])
+
+-- The put is marked as the first write, and no entry is stored yet.
+pub record IsMarked (o : OwnerState) : Type 0 where
+  pub shape : o.shape ≡ one_bucket
+  pub phase : o.phase ≡ Marked 0 put_of_a []
+  pub empty : (slot : ℕ) → slot < 15 → entry_in o 0 slot ≡ 0
+  pub kept : Kept o

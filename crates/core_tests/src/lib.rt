@@ -1,0 +1,5 @@
+//! The tests of the core: the calls of an owner over plain words, with words that were found by hand.
+#![tactic(auto)]
+
+#[cfg(test)]
+mod cache_put;
