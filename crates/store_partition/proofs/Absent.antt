@@ -1,8 +1,7 @@
 -- A delete of a key that has none.
-use Rattle.std.proofs.Common.{◌≡◌, ◌≢◌, ℕ, ◌+◌, ◌<◌, ◌≤◌, ◌⊎◌, inl, inr, List, [], length, get_or, refl, sym, ap, ◌∙◌, subst, arith}
+use Rattle.std.proofs.Common.{◌≡◌, ℕ, ◌+◌, ◌<◌, ◌≤◌, ◌⊎◌, inr, List, [], length, get_or, refl, sym, ap, ◌∙◌, subst, arith}
 use Rattle.mica_words.specs.Item.{KeyFits}
 use Rattle.mica_words.specs.Packing.{AreBytes}
-use Rattle.mica_words.specs.Entry.{entry_offset}
 use Rattle.mica_model.specs.declared.write.Write.{Write}
 use Rattle.mica_model.specs.declared.write.Op.TheVariants.{Del}
 use Rattle.mica_model.specs.declared.write.Outcome.TheVariants.{Absent}
@@ -18,13 +17,12 @@ use Rattle.epoch_core.specs.Shape.{IsMain}
 use Rattle.epoch_core.specs.Layout.{item_at}
 use Rattle.epoch_core.specs.OwnerState.{item_in, options_in, bucket_in}
 use Rattle.epoch_core.specs.OwnerStep.{IsOwnerStep}
-use Rattle.epoch_core.specs.StandsFor.{room_in, StandsFor}
+use Rattle.epoch_core.specs.StandsFor.{StandsFor}
 use Rattle.epoch_core.specs.Events.{MayBegin, MayMark, MayEnd, after as after_event}
 use Rattle.epoch_core.specs.Kept.{Kept}
 use Rattle.block_heap.specs.declared.block.Block.{Block}
 use Rattle.chained_index.specs.ChainEntries.{entries_of, HasNoSpot}
 use Rattle.chained_index.specs.Index.{Index}
-use Rattle.chained_index.proofs.Listed.{at}
 use Rattle.store_partition.specs.Parts.{AreParts, marked_in_bucket}
 use Rattle.store_partition.proofs.Entries.{main_of, store_at}
 use Rattle.store_partition.proofs.Facts as facts
@@ -91,12 +89,12 @@ module _ (o : OwnerState) (s : Kept o) (index : Index) (blocks : List Block) (pa
       pub parts_ok : AreParts index blocks o5
       parts_ok = finish.parts_are o s index blocks parts (write_of Del key []) b is words o2 o5 at_last e5 index blocks
           (relisted.parts_end o s index blocks parts (write_of Del key []) words 0 0 rest kept (entries_of o (bucket_in o key)) (λ i. ⊥) (λ i j. i ≡ j) relists
-            (entries (bucket_in o key) (main_of o s key)) (λ c l other. entries c l) (λ c j l other less. inr (omega arith)) index blocks
-            (effects.marked_index o s index blocks parts (write_of Del key []) n (finish.begun o s index blocks parts (write_of Del key []) unworn))
-            parts.list (λ i new. absurd new) (λ i old. parts.used (bucket_in o key) (main_of o s key) old.j old.within) (λ c j l other less. parts.used c l j less)
-            (λ c l. ap length (entries c l) ∙ (parts.entries c l ∙ ap (keys_in o.shape.buckets c) (facts.cells_are o s index blocks parts key bytes ∙ sym same_cells)))
-            (parts.count ∙ ap len (facts.cells_are o s index blocks parts key bytes ∙ sym same_cells))
-            (parts.words ∙ ap rooms (facts.cells_are o s index blocks parts key bytes ∙ sym same_cells)))
+          (entries (bucket_in o key) (main_of o s key)) (λ c l other. entries c l) (λ c j l other less. inr (omega arith)) index blocks
+          (effects.marked_index o s index blocks parts (write_of Del key []) n (finish.begun o s index blocks parts (write_of Del key []) unworn))
+          parts.list (λ i new. absurd new) (λ i old. parts.used (bucket_in o key) (main_of o s key) old.j old.within) (λ c j l other less. parts.used c l j less)
+          (λ c l. ap length (entries c l) ∙ (parts.entries c l ∙ ap (keys_in o.shape.buckets c) (facts.cells_are o s index blocks parts key bytes ∙ sym same_cells)))
+          (parts.count ∙ ap len (facts.cells_are o s index blocks parts key bytes ∙ sym same_cells))
+          (parts.words ∙ ap rooms (facts.cells_are o s index blocks parts key bytes ∙ sym same_cells)))
 
       pub count : length o5.history ≡ length o.history + 1
       count = finish.count_is o s index blocks parts (write_of Del key []) b is words o2 o5 at_last e5

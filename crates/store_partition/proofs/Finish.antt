@@ -1,15 +1,11 @@
 -- From the words put to the end of a write.
-use Rattle.std.proofs.Common.{◌≡◌, ◌≢◌, ℕ, ◌+◌, ◌^◌, ◌<◌, ◌≤◌, ◌⊎◌, inl, inr, List, [], ◌∷◌, ◌++◌, length, get_or, true, cond, refl, sym, ap, ◌∙◌, subst, arith, Option, Some, None}
-use Rattle.std.specs.Prelude.{Contains}
-use Rattle.std.specs.FinMap.{len}
+use Rattle.std.proofs.Common.{◌≡◌, ◌≢◌, ℕ, ◌+◌, ◌<◌, List, [], ◌∷◌, ◌++◌, length, get_or, true, cond, refl, sym, ap, ◌∙◌, subst}
 use Rattle.std.proofs.lemmas.List.{length_push}
-use Rattle.mica_words.specs.Entry.{entry_offset}
 use Rattle.mica_model.specs.declared.write.Write.{Write}
 use Rattle.mica_model.specs.declared.write.Outcome.{Outcome}
 use Rattle.mica_model.specs.Write.{IsWrite, is_accepted}
-use Rattle.mica_model.specs.Store.{Store, rooms, keys_in}
 use Rattle.mica_model.specs.StoreStep as ss
-use Rattle.mica_model.specs.History.{State, store_state, stamp_in, stamp_of, after, History, MayGive, IsAcceptedAfter}
+use Rattle.mica_model.specs.History.{State, stamp_in, stamp_of, after, History, MayGive, IsAcceptedAfter}
 use Rattle.mica_model.proofs.Histories.{state_snoc}
 use Rattle.mica_model.proofs.StoreLaws.{stamp_is_length}
 use Rattle.epoch_core.specs.declared.state.OwnerState.{OwnerState}
@@ -18,9 +14,9 @@ use Rattle.epoch_core.specs.declared.state.Phase.TheVariants.{Idle, Begun, Marke
 use Rattle.epoch_core.specs.declared.event.Event.TheVariants.{Begins, Ends}
 use Rattle.epoch_core.specs.Shape.{IsMain}
 use Rattle.epoch_core.specs.Layout.{item_at}
-use Rattle.epoch_core.specs.OwnerState.{item_in, options_in, bucket_in}
+use Rattle.epoch_core.specs.OwnerState.{options_in, bucket_in}
 use Rattle.epoch_core.specs.OwnerStep.{IsOwnerStep}
-use Rattle.epoch_core.specs.StandsFor.{room_in, StandsFor}
+use Rattle.epoch_core.specs.StandsFor.{StandsFor}
 use Rattle.epoch_core.specs.Events.{MayBegin, MayMark, MayEnd, after as after_event}
 use Rattle.epoch_core.specs.Kept.{Kept}
 use Rattle.epoch_core.proofs.Machine.{all_more}
@@ -28,10 +24,10 @@ use Rattle.epoch_core.proofs.Marked.{bit_same}
 use Rattle.epoch_core.proofs.Keeps.{kept_after}
 use Rattle.block_heap.specs.declared.block.Block.{Block}
 use Rattle.chained_index.specs.ChainEntries.{entries_of}
-use Rattle.chained_index.specs.ChainChange.{ChangesChain, KeepsChain}
-use Rattle.chained_index.specs.Index.{Index, IsIndexOf}
+use Rattle.chained_index.specs.ChainChange.{ChangesChain}
+use Rattle.chained_index.specs.Index.{Index}
 use Rattle.chained_index.proofs.Chained.{Chained, chained}
-use Rattle.store_partition.specs.Parts.{AreParts, marked_in_bucket}
+use Rattle.store_partition.specs.Parts.{AreParts}
 use Rattle.store_partition.proofs.Entries.{main_of, store_at}
 
 module _ (o : OwnerState) (s : Kept o) (index : Index) (blocks : List Block) (parts : AreParts index blocks o) (w : Write) where

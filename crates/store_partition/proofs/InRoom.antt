@@ -1,8 +1,8 @@
 -- A put whose item fits the room of the key's item.
-use Rattle.std.proofs.Common.{◌≡◌, ◌≢◌, ℕ, ◌+◌, ◌<◌, ◌≤◌, ◌⊎◌, inl, inr, List, [], length, get_or, Some, refl, sym, ap, ◌∙◌, subst, subst₂, arith}
+use Rattle.std.proofs.Common.{◌≡◌, ◌≢◌, ℕ, ◌+◌, ◌<◌, ◌≤◌, ◌⊎◌, inl, inr, List, length, Some, refl, sym, ap, ◌∙◌, subst, subst₂, arith}
 use Rattle.std.specs.Prelude.{IsSomeAnd, Contains}
 use Rattle.std.specs.FinMap.{get, len, insert}
-use Rattle.mica_words.specs.Entry.{entry_offset, entry_tag}
+use Rattle.mica_words.specs.Entry.{entry_offset}
 use Rattle.mica_words.specs.Item.{item_size}
 use Rattle.mica_words.specs.Packing.{AreBytes}
 use Rattle.mica_model.specs.declared.write.Op.TheVariants.{Put}
@@ -64,9 +64,10 @@ module _ (o : OwnerState) (s : Kept o) (index : Index) (blocks : List Block) (pa
   old_room = room_is ∙ facts.room_found o s index blocks parts key bytes spot found n within entry_is
 
   may : MayGive (options_in o) o.history (write_of Put key value) Stored
-  may = facts.may_give o s index blocks parts key bytes (write_of Put key value) refl unworn Stored
-      (facts.not_worn o s index blocks parts key bytes (write_of Put key value) refl unworn,
-        (tt, inl (subst (λ z. IsSomeAnd z (λ cell. item_size key value ≤ cell.room)) (sym has) (let same = old_room in omega arith))))
+  may = facts.may_give o s index blocks parts key bytes (write_of Put key value) refl unworn Stored (
+    facts.not_worn o s index blocks parts key bytes (write_of Put key value) refl unworn,
+    (tt, inl (subst (λ z. IsSomeAnd z (λ cell. item_size key value ≤ cell.room)) (sym has) (let same = old_room in omega arith))),
+  )
 
   there_offset : entry_offset (at xs n) ≡ offset
   there_offset = ap entry_offset entry_is ∙ sym offset_is
@@ -83,7 +84,7 @@ module _ (o : OwnerState) (s : Kept o) (index : Index) (blocks : List Block) (pa
       let p = there_offset in
       let r = there_room in
       elim (clear o s index blocks parts (bucket_in o key) n c j main l within less
-        ((stood o s index blocks parts (bucket_in o key) main).apart c n j l other (unmarked o s index blocks parts c) within less)) [
+      ((stood o s index blocks parts (bucket_in o key) main).apart c n j l other (unmarked o s index blocks parts c) within less)) [
         | inl before ↦ inr (omega arith)
         | inr behind ↦ inl (omega arith)
       ]
@@ -93,7 +94,7 @@ module _ (o : OwnerState) (s : Kept o) (index : Index) (blocks : List Block) (pa
       let p = there_offset in
       let r = there_room in
       elim (clear o s index blocks parts (bucket_in o key) j (bucket_in o key) n main main less within
-        ((stood o s index blocks parts (bucket_in o key) main).rooms j n less within other)) [
+      ((stood o s index blocks parts (bucket_in o key) main).rooms j n less within other)) [
         | inl before ↦ inl (omega arith)
         | inr behind ↦ inr (omega arith)
       ]

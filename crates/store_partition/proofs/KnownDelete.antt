@@ -1,5 +1,5 @@
 -- A delete of a key that has an item.
-use Rattle.std.proofs.Common.{◌≡◌, ◌≢◌, ℕ, ◌+◌, ◌-◌, ◌^◌, ◌<◌, ◌≤◌, ◌⊎◌, inl, inr, List, [], ◌∷◌, ◌++◌, length, get_or, Some, refl, sym, ap, ◌∙◌, subst, subst₂, arith}
+use Rattle.std.proofs.Common.{◌≡◌, ◌≢◌, ℕ, ◌+◌, ◌-◌, ◌^◌, ◌<◌, ◌≤◌, ◌⊎◌, inr, List, [], ◌∷◌, ◌++◌, length, get_or, Some, refl, sym, ap, ◌∙◌, subst, subst₂, arith}
 use Rattle.std.specs.Prelude.{IsSome, Contains}
 use Rattle.std.specs.FinMap.{get, len, remove}
 use Rattle.std.specs.List.{swap_remove}
@@ -11,7 +11,7 @@ use Rattle.mica_words.specs.Entry.{entry_offset}
 use Rattle.mica_model.specs.declared.write.Op.TheVariants.{Del}
 use Rattle.mica_model.specs.declared.write.Outcome.TheVariants.{Deleted}
 use Rattle.mica_model.specs.Write.{IsWrite, write_of}
-use Rattle.mica_model.specs.Store.{Store, Cell, Cells, rooms, keys_in}
+use Rattle.mica_model.specs.Store.{Store, Cell, rooms, keys_in}
 use Rattle.mica_model.specs.StoreStep as ss
 use Rattle.mica_model.specs.History.{MayGive, stamp_of}
 use Rattle.mica_model.proofs.TableSteps.{less_here, less_others}
@@ -33,7 +33,7 @@ use Rattle.chained_index.specs.declared.index.Spot.{Spot}
 use Rattle.chained_index.specs.ChainEntries.{entries_of, number_of, spot_entry, IsUsed, IsSpotOf}
 use Rattle.chained_index.specs.ChainChange.{ChangesChain}
 use Rattle.chained_index.specs.Index.{Index, IsIndexOf}
-use Rattle.chained_index.proofs.Chained.{Chained, chained, chain_inside}
+use Rattle.chained_index.proofs.Chained.{chained, chain_inside}
 use Rattle.chained_index.proofs.Listed.{at}
 use Rattle.chained_index.proofs.Numbers.{number_within, number_entry}
 use Rattle.store_partition.specs.Parts.{AreParts, marked_in_bucket}
@@ -107,9 +107,10 @@ module _ (o : OwnerState) (s : Kept o) (index : Index) (blocks : List Block) (pa
   first_entry = facts.place_entry o s index blocks parts key bytes spot found.used
 
   may : MayGive (options_in o) o.history (write_of Del key []) Deleted
-  may = facts.may_give o s index blocks parts key bytes (write_of Del key []) refl unworn Deleted
-      (facts.not_worn o s index blocks parts key bytes (write_of Del key []) refl unworn,
-        (refl, subst IsSome (sym (has (number_of o (bucket_in o key) spot) first_within first_entry)) refl))
+  may = facts.may_give o s index blocks parts key bytes (write_of Del key []) refl unworn Deleted (
+    facts.not_worn o s index blocks parts key bytes (write_of Del key []) refl unworn,
+    (refl, subst IsSome (sym (has (number_of o (bucket_in o key) spot) first_within first_entry)) refl),
+  )
 
   pub spot_ok : IsBucket o.shape spot.bucket × (spot.slot < 15)
   spot_ok = (chain_inside o (chained o s) (bucket_in o key) spot.bucket main found.used.in_chain, found.used.in_bucket)
@@ -174,7 +175,7 @@ module _ (o : OwnerState) (s : Kept o) (index : Index) (blocks : List Block) (pa
     entry_is = ap (λ (zs : List ℕ). at zs n) (sym (entries (bucket_in o key) main))
         ∙ (number_entry marked (chained marked kept) index known (bucket_in o key) main spot still_used
         ∙ used.entry_same o (chained o s) words (o.history ++ write_of Del key [] ∷ []) (Marked (bucket_in o key) (write_of Del key []) o.history) (effects.marked_link o s index blocks parts (write_of Del key []) t)
-            (effects.marked_entry o s index blocks parts (write_of Del key []) t) (bucket_in o key) main spot found.used)
+        (effects.marked_entry o s index blocks parts (write_of Del key []) t) (bucket_in o key) main spot found.used)
 
     module _ (o4 : OwnerState) (k4 : Kept o4) (index' : Index) (known' : IsIndexOf index' o4)
         (change : ChangesChain o2 o4 b (swap_remove (entries_of o2 b) (number_of o2 b spot) 0)) where
@@ -256,26 +257,26 @@ module _ (o : OwnerState) (s : Kept o) (index : Index) (blocks : List Block) (pa
           pub parts_ok : AreParts index' blocks' o5
           parts_ok = finish.parts_are o s index blocks parts (write_of Del key []) b is o4.words o4 o5 at_last e5 index' blocks'
               (relisted.parts_end o s index blocks parts (write_of Del key []) o4.words 0 0 rest kept4 ys (λ i. ⊥) Comes relists
-                lists others (λ c j l other less. inr (omega arith)) index' blocks' known4
-                (subst (λ (k : ℕ). IsBlockList k blocks') (words_are o.shape.words blocks parts.list) list)
-                (λ i new. absurd new)
-                (λ i before. used_given blocks blocks' place (entry_offset (at xs before.j)) (room_in o (at xs before.j)) given
-                  (λ same. here_differs n within entry_is before.j before.within (not_n n within entry_is before.j before.other) (sym place_is ∙ same))
-                  (parts.used (bucket_in o key) main before.j before.within))
-                (λ c j l other less. used_given blocks blocks' place (entry_offset (at (entries_of o c) j)) (room_in o (at (entries_of o c) j)) given
-                  (λ same. there_differs n within entry_is c j l other less (sym place_is ∙ same)) (parts.used c l j less))
-                (λ c l. dite (ℕ_discrete c (bucket_in o key))
-                  (λ same. subst (λ (z : ℕ). length (entries_of (finish.put_state o (write_of Del key []) o4.words) z) ≡ keys_in o.shape.buckets z (ss.after m (write_of Del key [])).cells) (sym same)
-                    (ap length lists ∙ (own_keys ∙ ap (keys_in o.shape.buckets (bucket_in o key)) (sym cells))))
-                  (λ other. ap length (others c l other) ∙ (other_keys c l other ∙ ap (keys_in o.shape.buckets c) (sym cells))))
-                (let all = parts.count ∙ ap len (facts.cells_are o s index blocks parts key bytes) in
-                let one = given_count blocks blocks' place given in
-                let fewer = len_less m.cells key gone had in
-                let e : length (used_blocks blocks') ≡ len (remove m.cells key) = omega arith in
-                e ∙ ap len (sym cells))
-                (let all = parts.words ∙ ap rooms (facts.cells_are o s index blocks parts key bytes) in
-                let one = given_words blocks blocks' place given in
-                let fewer = rooms_less m.cells key gone had in
-                let size = size_is in
-                let e : words_of (used_blocks blocks') ≡ rooms (remove m.cells key) = omega arith in
-                e ∙ ap rooms (sym cells)))
+              lists others (λ c j l other less. inr (omega arith)) index' blocks' known4
+              (subst (λ (k : ℕ). IsBlockList k blocks') (words_are o.shape.words blocks parts.list) list)
+              (λ i new. absurd new)
+              (λ i before. used_given blocks blocks' place (entry_offset (at xs before.j)) (room_in o (at xs before.j)) given
+              (λ same. here_differs n within entry_is before.j before.within (not_n n within entry_is before.j before.other) (sym place_is ∙ same))
+              (parts.used (bucket_in o key) main before.j before.within))
+              (λ c j l other less. used_given blocks blocks' place (entry_offset (at (entries_of o c) j)) (room_in o (at (entries_of o c) j)) given
+              (λ same. there_differs n within entry_is c j l other less (sym place_is ∙ same)) (parts.used c l j less))
+              (λ c l. dite (ℕ_discrete c (bucket_in o key))
+              (λ same. subst (λ (z : ℕ). length (entries_of (finish.put_state o (write_of Del key []) o4.words) z) ≡ keys_in o.shape.buckets z (ss.after m (write_of Del key [])).cells) (sym same)
+              (ap length lists ∙ (own_keys ∙ ap (keys_in o.shape.buckets (bucket_in o key)) (sym cells))))
+              (λ other. ap length (others c l other) ∙ (other_keys c l other ∙ ap (keys_in o.shape.buckets c) (sym cells))))
+              (let all = parts.count ∙ ap len (facts.cells_are o s index blocks parts key bytes) in
+              let one = given_count blocks blocks' place given in
+              let fewer = len_less m.cells key gone had in
+              let e : length (used_blocks blocks') ≡ len (remove m.cells key) = omega arith in
+              e ∙ ap len (sym cells))
+              (let all = parts.words ∙ ap rooms (facts.cells_are o s index blocks parts key bytes) in
+              let one = given_words blocks blocks' place given in
+              let fewer = rooms_less m.cells key gone had in
+              let size = size_is in
+              let e : words_of (used_blocks blocks') ≡ rooms (remove m.cells key) = omega arith in
+              e ∙ ap rooms (sym cells)))

@@ -1,5 +1,5 @@
 -- A put that is stored, by its events, wherever its block lies.
-use Rattle.std.proofs.Common.{◌≡◌, ◌≢◌, ℕ, ◌+◌, ◌<◌, ◌≤◌, ◌⊎◌, inl, inr, List, [], length, get_or, refl, sym, ap, ◌∙◌, subst, arith}
+use Rattle.std.proofs.Common.{◌≡◌, ◌≢◌, ℕ, ◌+◌, ◌<◌, ◌≤◌, ◌⊎◌, List, length, get_or, refl, sym, ap, ◌∙◌, subst, arith}
 use Rattle.std.specs.Prelude.{Contains}
 use Rattle.std.specs.FinMap.{get, len, insert}
 use mathlib.Core.Logic.{dite}
@@ -13,7 +13,7 @@ use Rattle.mica_model.specs.declared.write.Write.{Write}
 use Rattle.mica_model.specs.declared.write.Op.TheVariants.{Put}
 use Rattle.mica_model.specs.declared.write.Outcome.TheVariants.{Stored}
 use Rattle.mica_model.specs.Write.{IsWrite, write_of}
-use Rattle.mica_model.specs.Store.{Store, Cell, Cells, rooms, keys_in}
+use Rattle.mica_model.specs.Store.{Store, Cell, rooms, keys_in}
 use Rattle.mica_model.specs.StoreStep as ss
 use Rattle.mica_model.specs.History.{MayGive, stamp_of}
 use Rattle.epoch_core.specs.declared.state.OwnerState.{OwnerState}
@@ -60,7 +60,7 @@ module _ (o : OwnerState) (s : Kept o) (index : Index) (blocks : List Block) (pa
   module _ (n : ℕ) (o2 : OwnerState) (e2 : o2 ≡ marked_in_bucket o b (write_of Put key value) n) (k2 : Kept o2)
       (from room : ℕ) (few : item_size key value ≤ room) (block : from + room ≤ o.shape.words)
       (others_apart : (c j : ℕ) → IsMain o.shape c → c ≢ bucket_in o key → j < length (entries_of o c)
-          → (entry_offset (at (entries_of o c) j) + room_in o (at (entries_of o c) j) ≤ from) ⊎ (from + room ≤ entry_offset (at (entries_of o c) j))) where
+      → (entry_offset (at (entries_of o c) j) + room_in o (at (entries_of o c) j) ≤ from) ⊎ (from + room ≤ entry_offset (at (entries_of o c) j))) where
     abbrev zs : List ℕ
     zs = item_words room key value
 
@@ -115,12 +115,12 @@ module _ (o : OwnerState) (s : Kept o) (index : Index) (blocks : List Block) (pa
           (old : (i : ℕ) → i < length ys → i ≢ place → (i < length (entries_of o (bucket_in o key))) × (at ys i ≡ at (entries_of o (bucket_in o key)) i))
           (on : (j : ℕ) → j < length (entries_of o (bucket_in o key)) → j ≢ place → j < length ys)
           (differ : (j : ℕ) → j < length (entries_of o (bucket_in o key)) → j ≢ place
-              → (k : List ℕ) (cell : Cell) → Spells o (bucket_in o key) (at (entries_of o (bucket_in o key)) j) k cell → k ≢ key)
+          → (k : List ℕ) (cell : Cell) → Spells o (bucket_in o key) (at (entries_of o (bucket_in o key)) j) k cell → k ≢ key)
           (not_place : (j : ℕ) → j < length (entries_of o (bucket_in o key))
-              → ((k : List ℕ) (cell : Cell) → Spells o (bucket_in o key) (at (entries_of o (bucket_in o key)) j) k cell → k ≢ key) → j ≢ place)
+          → ((k : List ℕ) (cell : Cell) → Spells o (bucket_in o key) (at (entries_of o (bucket_in o key)) j) k cell → k ≢ key) → j ≢ place)
           (apart : (j : ℕ) → j < length (entries_of o (bucket_in o key)) → j ≢ place
-              → (entry_offset (at (entries_of o (bucket_in o key)) j) + room_in o (at (entries_of o (bucket_in o key)) j) ≤ from)
-              ⊎ (from + room ≤ entry_offset (at (entries_of o (bucket_in o key)) j))) where
+          → (entry_offset (at (entries_of o (bucket_in o key)) j) + room_in o (at (entries_of o (bucket_in o key)) j) ≤ from)
+          ⊎ (from + room ≤ entry_offset (at (entries_of o (bucket_in o key)) j))) where
         at_last : o4 ≡ record o { words = o4.words; history = (finish.put_state o (write_of Put key value) o4.words).history; phase = (finish.put_state o (write_of Put key value) o4.words).phase }
         at_last = finish.same4 o (write_of Put key value) put_words o3 o4 ys at_put change
 
@@ -180,10 +180,10 @@ module _ (o : OwnerState) (s : Kept o) (index : Index) (blocks : List Block) (pa
 
           pub parts_ok : (blocks' : List Block) → IsBlockList o.shape.words blocks' → Contains (used_blocks blocks') (used_block from room)
               → ((j : ℕ) → j < length (entries_of o (bucket_in o key))
-                  → ((k : List ℕ) (cell : Cell) → Spells o (bucket_in o key) (at (entries_of o (bucket_in o key)) j) k cell → k ≢ key)
-                  → Contains (used_blocks blocks') (used_block (entry_offset (at (entries_of o (bucket_in o key)) j)) (room_in o (at (entries_of o (bucket_in o key)) j))))
+              → ((k : List ℕ) (cell : Cell) → Spells o (bucket_in o key) (at (entries_of o (bucket_in o key)) j) k cell → k ≢ key)
+              → Contains (used_blocks blocks') (used_block (entry_offset (at (entries_of o (bucket_in o key)) j)) (room_in o (at (entries_of o (bucket_in o key)) j))))
               → ((c j : ℕ) → IsMain o.shape c → c ≢ bucket_in o key → j < length (entries_of o c)
-                  → Contains (used_blocks blocks') (used_block (entry_offset (at (entries_of o c) j)) (room_in o (at (entries_of o c) j))))
+              → Contains (used_blocks blocks') (used_block (entry_offset (at (entries_of o c) j)) (room_in o (at (entries_of o c) j))))
               → length ys ≡ keys_in o.shape.buckets (bucket_in o key) (insert m.cells key cell)
               → ((c : ℕ) → IsMain o.shape c → c ≢ bucket_in o key → length (entries_of o c) ≡ keys_in o.shape.buckets c (insert m.cells key cell))
               → length (used_blocks blocks') ≡ len (insert m.cells key cell)
@@ -192,10 +192,10 @@ module _ (o : OwnerState) (s : Kept o) (index : Index) (blocks : List Block) (pa
           parts_ok blocks' list new_used here there keys keys' counted total =
               finish.parts_are o s index blocks parts (write_of Put key value) b is o4.words o4 o5 at_last e5 index' blocks'
               (relisted.parts_end o s index blocks parts (write_of Put key value) o4.words from room rest kept4 ys (λ i. i ≡ place) (λ i j. i ≡ j) relists
-                entries others others_apart index' blocks' known4 list
-                (λ i new. new_used) (λ i before. here before.j before.within before.other) there
-                (λ c l. dite (ℕ_discrete c (bucket_in o key))
-                  (λ same. subst (λ (z : ℕ). length (entries_of (finish.put_state o (write_of Put key value) o4.words) z) ≡ keys_in o.shape.buckets z (ss.after m (write_of Put key value)).cells) (sym same)
-                    (ap length entries ∙ (keys ∙ ap (keys_in o.shape.buckets (bucket_in o key)) (sym after_is))))
-                  (λ other. ap length (others c l other) ∙ (keys' c l other ∙ ap (keys_in o.shape.buckets c) (sym after_is))))
-                (counted ∙ ap len (sym after_is)) (total ∙ ap rooms (sym after_is)))
+              entries others others_apart index' blocks' known4 list
+              (λ i new. new_used) (λ i before. here before.j before.within before.other) there
+              (λ c l. dite (ℕ_discrete c (bucket_in o key))
+              (λ same. subst (λ (z : ℕ). length (entries_of (finish.put_state o (write_of Put key value) o4.words) z) ≡ keys_in o.shape.buckets z (ss.after m (write_of Put key value)).cells) (sym same)
+              (ap length entries ∙ (keys ∙ ap (keys_in o.shape.buckets (bucket_in o key)) (sym after_is))))
+              (λ other. ap length (others c l other) ∙ (keys' c l other ∙ ap (keys_in o.shape.buckets c) (sym after_is))))
+              (counted ∙ ap len (sym after_is)) (total ∙ ap rooms (sym after_is)))

@@ -1,9 +1,8 @@
 -- A put that takes a block: of a key whose room is too small, and of a new key.
-use Rattle.std.proofs.Common.{◌≡◌, ◌≢◌, ℕ, ◌+◌, ◌-◌, ◌*◌, ◌%◌, ◌^◌, ◌<◌, ◌≤◌, ◌⊎◌, inl, inr, List, [], ◌∷◌, ◌++◌, length, get_or, set, Some, None, refl, sym, ap, ◌∙◌, subst, subst₂, arith, length-set}
-use Rattle.std.specs.Prelude.{IsSomeAnd, Contains, slice_set}
+use Rattle.std.proofs.Common.{◌≡◌, ◌≢◌, ℕ, ◌+◌, ◌-◌, ◌*◌, ◌%◌, ◌^◌, ◌<◌, ◌≤◌, ◌⊎◌, inl, inr, List, [], ◌∷◌, ◌++◌, length, Some, None, refl, sym, ap, ◌∙◌, subst, subst₂, arith, length-set}
+use Rattle.std.specs.Prelude.{Contains, slice_set}
 use Rattle.std.specs.FinMap.{get, len, insert}
 use Rattle.std.proofs.lemmas.List.{get_or-set_same, get_or-set_other, length_push, get_or_append_left}
-use Rattle.std.proofs.lemmas.Bool.{cases_lt}
 use Rattle.std.proofs.Math.Seq.{get_or-append_seam}
 use Rattle.mica_words.specs.Hash.{tag_of}
 use Rattle.mica_words.specs.Entry.{entry_of, entry_offset, entry_tag}
@@ -13,7 +12,7 @@ use Rattle.mica_words.proofs.Fields.{entry_tag-entry_of, entry_offset-entry_of}
 use Rattle.mica_model.specs.declared.write.Op.TheVariants.{Put}
 use Rattle.mica_model.specs.declared.write.Outcome.TheVariants.{Stored, FullBlock}
 use Rattle.mica_model.specs.Write.{IsWrite, write_of}
-use Rattle.mica_model.specs.Store.{Store, Cell, Cells, rooms, keys_in}
+use Rattle.mica_model.specs.Store.{Store, Cell, rooms, keys_in}
 use Rattle.mica_model.specs.StoreStep as ss
 use Rattle.mica_model.specs.History.{MayGive, stamp_of}
 use Rattle.mica_model.proofs.CacheKept.{size_at_most}
@@ -37,7 +36,7 @@ use Rattle.chained_index.specs.declared.index.Spot.{Spot}
 use Rattle.chained_index.specs.ChainEntries.{entries_of, number_of, spot_entry, IsUsed, IsSpotOf, HasNoSpot}
 use Rattle.chained_index.specs.ChainChange.{ChangesChain}
 use Rattle.chained_index.specs.Index.{Index, IsIndexOf, LacksPlace}
-use Rattle.chained_index.proofs.Chained.{Chained, chained}
+use Rattle.chained_index.proofs.Chained.{chained}
 use Rattle.chained_index.proofs.Listed.{at}
 use Rattle.chained_index.proofs.Numbers.{number_within, number_entry}
 use Rattle.store_partition.specs.Parts.{AreParts, marked_in_bucket}
@@ -46,10 +45,8 @@ use Rattle.store_partition.proofs.Counts.{len_over, len_new, rooms_over, rooms_n
 use Rattle.store_partition.proofs.HeapBlocks.{used_given, used_taken, new_taken, taken_clear, taken_count, taken_words, given_count, given_words, given_size, words_are}
 use Rattle.store_partition.proofs.Used as used
 use Rattle.store_partition.proofs.Facts as facts
-use Rattle.store_partition.proofs.Effects as effects
 use Rattle.store_partition.proofs.Storing as storing
 use Rattle.store_partition.proofs.KnownDelete as known
-use Rattle.store_partition.proofs.Finish as finish
 
 module _ (o : OwnerState) (s : Kept o) (index : Index) (blocks : List Block) (parts : AreParts index blocks o) (key value : List ℕ)
     (w_is : IsWrite (write_of Put key value)) (bytes : AreBytes key) (b : ℕ) (is : b ≡ bucket_in o key) (unworn : length o.history < o.shape.wear) where
@@ -178,9 +175,9 @@ module _ (o : OwnerState) (s : Kept o) (index : Index) (blocks : List Block) (pa
           entry_is = ap (λ (zs : List ℕ). at zs n) (sym (put_entries (bucket_in o key) main))
               ∙ (number_entry put_state (chained put_state kept3) index put_index (bucket_in o key) main spot still_used
               ∙ used.entry_same o (chained o s) put_state.words (o.history ++ write_of Put key value ∷ []) (Marked (bucket_in o key) (write_of Put key value) o.history)
-                  (storing.put_link o s index blocks parts key value w_is b is unworn may t o2 e2 k2 place size some block others_apart)
-                  (storing.put_entry o s index blocks parts key value w_is b is unworn may t o2 e2 k2 place size some block others_apart)
-                  (bucket_in o key) main spot found.used)
+              (storing.put_link o s index blocks parts key value w_is b is unworn may t o2 e2 k2 place size some block others_apart)
+              (storing.put_entry o s index blocks parts key value w_is b is unworn may t o2 e2 k2 place size some block others_apart)
+              (bucket_in o key) main spot found.used)
 
           abbrev old : Cell
           old = (facts.cell_found o s index blocks parts key bytes spot found n within entry_is).0
@@ -294,11 +291,11 @@ module _ (o : OwnerState) (s : Kept o) (index : Index) (blocks : List Block) (pa
                     blocks2 (subst (λ (k : ℕ). IsBlockList k blocks2) (words_are o.shape.words blocks1 list_taken) list2)
                     (used_given blocks1 blocks2 gone place size given not_new (new_taken blocks blocks1 place size taken))
                     (λ j l other. used_given blocks1 blocks2 gone (entry_offset (at xs j)) (room_in o (at xs j)) given
-                      (λ same. known.here_differs o s index blocks parts key w_is.key bytes b is unworn spot found n within entry_is j l (not_n j l other) (sym gone_is ∙ same))
-                      (used_taken blocks blocks1 place size (entry_offset (at xs j)) (room_in o (at xs j)) taken (parts.used (bucket_in o key) main j l)))
+                    (λ same. known.here_differs o s index blocks parts key w_is.key bytes b is unworn spot found n within entry_is j l (not_n j l other) (sym gone_is ∙ same))
+                    (used_taken blocks blocks1 place size (entry_offset (at xs j)) (room_in o (at xs j)) taken (parts.used (bucket_in o key) main j l)))
                     (λ c j l other less. used_given blocks1 blocks2 gone (entry_offset (at (entries_of o c) j)) (room_in o (at (entries_of o c) j)) given
-                      (λ same. known.there_differs o s index blocks parts key w_is.key bytes b is unworn spot found n within entry_is c j l other less (sym gone_is ∙ same))
-                      (used_taken blocks blocks1 place size (entry_offset (at (entries_of o c) j)) (room_in o (at (entries_of o c) j)) taken (parts.used c l j less)))
+                    (λ same. known.there_differs o s index blocks parts key w_is.key bytes b is unworn spot found n within entry_is c j l other less (sym gone_is ∙ same))
+                    (used_taken blocks blocks1 place size (entry_offset (at (entries_of o c) j)) (room_in o (at (entries_of o c) j)) taken (parts.used c l j less)))
                     (long ∙ keys_now (bucket_in o key) main) (λ c l other. keys_now c l)
                     (let more = taken_count blocks blocks1 place size taken in
                     let fewer = given_count blocks1 blocks2 gone given in

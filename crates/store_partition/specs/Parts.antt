@@ -30,7 +30,7 @@ cells_in o = cells_of (state_in o)
 abbrev pub HasBlocks : OwnerState → List Block → ℕ → Type 0
 HasBlocks o blocks b = (i : ℕ) → i < length (entries_of o b)
     → Contains (used_blocks blocks)
-        (used_block (entry_offset (slice_index (entries_of o b) i)) (room_in o (slice_index (entries_of o b) i)))
+    (used_block (entry_offset (slice_index (entries_of o b) i)) (room_in o (slice_index (entries_of o b) i)))
 
 -- The index is one of the owner's words, each chain has as many entries as the machine has keys of its bucket, and the
 -- used blocks of the heap are the rooms of the machine's cells.

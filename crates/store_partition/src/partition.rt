@@ -147,8 +147,12 @@ impl<W: OwnerWords> StorePartition<W> {
         let stamp = self.accepted + 1;
         begin_marked(&mut self.words, bucket, Op::Put, key, value, stamp);
         write_item(&mut self.words, u64::from(place), size, key, value);
-        self.index
-            .replace(&mut self.words, spot, tag_of(key_hash(key)), u64::from(place));
+        self.index.replace(
+            &mut self.words,
+            spot,
+            tag_of(key_hash(key)),
+            u64::from(place),
+        );
         self.words.end_write(bucket);
         self.heap.give(offset as u32);
         self.accepted = stamp;
@@ -176,8 +180,12 @@ impl<W: OwnerWords> StorePartition<W> {
         let stamp = self.accepted + 1;
         begin_marked(&mut self.words, bucket, Op::Put, key, value, stamp);
         write_item(&mut self.words, u64::from(place), size, key, value);
-        self.index
-            .place(&mut self.words, bucket, tag_of(key_hash(key)), u64::from(place));
+        self.index.place(
+            &mut self.words,
+            bucket,
+            tag_of(key_hash(key)),
+            u64::from(place),
+        );
         self.words.end_write(bucket);
         self.accepted = stamp;
         Outcome::Stored

@@ -1,9 +1,7 @@
-use Rattle.std.proofs.Common.{◌≡◌, ℕ, ◌+◌, ◌<◌, ◌≤◌, [], length, sym, ap, ◌∙◌, subst, arith}
-use Rattle.mica_model.specs.declared.write.Op.TheVariants.{Put, Del}
+use Rattle.std.proofs.Common.{ℕ, ◌+◌, subst, arith}
+use Rattle.mica_model.specs.declared.write.Op.TheVariants.{Put}
 use Rattle.mica_model.specs.Write.{IsWrite, write_of}
-use Rattle.epoch_core.specs.declared.state.OwnerState.{OwnerState}
-use Rattle.epoch_core.specs.OwnerState.{bucket_in}
-use Rattle.chained_index.specs.ChainEntries.{HasNoSpot, IsSpotOf}
+use Rattle.chained_index.specs.ChainEntries.{IsSpotOf}
 use Rattle.store_partition.proofs.Whole.{whole}
 use Rattle.store_partition.proofs.InRoom as in_room
 use Rattle.store_partition.proofs.partition.StorePartition.put_in_room.Goals as goal
@@ -17,7 +15,11 @@ begin_marked-requires-clause-begin g c =
     let sought = c.requires.sought in
     let found = subst (λ (b : ℕ). IsSpotOf o b c.args.key.now c.args.spot) sought.bucket sought.found in
     let w_is : IsWrite (write_of Put c.args.key.now c.args.value.now) = record {
-      key = c.requires.key; key_bytes = λ k. omega (arith, c.type_inv.key k); value = c.requires.value; value_bytes = λ k. omega (arith, c.type_inv.value k) } in
+      key = c.requires.key;
+      key_bytes = λ k. omega (arith, c.type_inv.key k);
+      value = c.requires.value;
+      value_bytes = λ k. omega (arith, c.type_inv.value k);
+    } in
     in_room.begin_ok o c.requires.kept index heap parts c.args.key.now c.args.value.now w_is (λ k. omega (arith, c.type_inv.key k))
     c.args.bucket sought.bucket c.requires.unworn c.args.spot found c.args.offset c.args.room c.requires.offset c.requires.room c.requires.fits
 
@@ -30,7 +32,11 @@ begin_marked-requires-clause-mark g c =
     let sought = c.requires.sought in
     let found = subst (λ (b : ℕ). IsSpotOf o b c.args.key.now c.args.spot) sought.bucket sought.found in
     let w_is : IsWrite (write_of Put c.args.key.now c.args.value.now) = record {
-      key = c.requires.key; key_bytes = λ k. omega (arith, c.type_inv.key k); value = c.requires.value; value_bytes = λ k. omega (arith, c.type_inv.value k) } in
+      key = c.requires.key;
+      key_bytes = λ k. omega (arith, c.type_inv.key k);
+      value = c.requires.value;
+      value_bytes = λ k. omega (arith, c.type_inv.value k);
+    } in
     in_room.mark_ok o c.requires.kept index heap parts c.args.key.now c.args.value.now w_is (λ k. omega (arith, c.type_inv.key k))
     c.args.bucket sought.bucket c.requires.unworn c.args.spot found c.args.offset c.args.room c.requires.offset c.requires.room c.requires.fits c.args.self.now.accepted c.args.self.now.counted
 
@@ -43,7 +49,11 @@ write_item-requires-clause-allowed g c =
     let sought = c.requires.sought in
     let found = subst (λ (b : ℕ). IsSpotOf o b c.args.key.now c.args.spot) sought.bucket sought.found in
     let w_is : IsWrite (write_of Put c.args.key.now c.args.value.now) = record {
-      key = c.requires.key; key_bytes = λ k. omega (arith, c.type_inv.key k); value = c.requires.value; value_bytes = λ k. omega (arith, c.type_inv.value k) } in
+      key = c.requires.key;
+      key_bytes = λ k. omega (arith, c.type_inv.key k);
+      value = c.requires.value;
+      value_bytes = λ k. omega (arith, c.type_inv.value k);
+    } in
     in_room.can_ok o c.requires.kept index heap parts c.args.key.now c.args.value.now w_is (λ k. omega (arith, c.type_inv.key k))
     c.args.bucket sought.bucket c.requires.unworn c.args.spot found c.args.offset c.args.room c.requires.offset c.requires.room c.requires.fits (c.args.self.now.accepted + 1)
     (g.W.OwnerWords.owner c.begin_marked.new.words) c.begin_marked.ensures.events c.begin_marked.ensures.kept
@@ -57,7 +67,11 @@ end_write-requires g c =
     let sought = c.requires.sought in
     let found = subst (λ (b : ℕ). IsSpotOf o b c.args.key.now c.args.spot) sought.bucket sought.found in
     let w_is : IsWrite (write_of Put c.args.key.now c.args.value.now) = record {
-      key = c.requires.key; key_bytes = λ k. omega (arith, c.type_inv.key k); value = c.requires.value; value_bytes = λ k. omega (arith, c.type_inv.value k) } in
+      key = c.requires.key;
+      key_bytes = λ k. omega (arith, c.type_inv.key k);
+      value = c.requires.value;
+      value_bytes = λ k. omega (arith, c.type_inv.value k);
+    } in
     in_room.end_ok o c.requires.kept index heap parts c.args.key.now c.args.value.now w_is (λ k. omega (arith, c.type_inv.key k))
     c.args.bucket sought.bucket c.requires.unworn c.args.spot found c.args.offset c.args.room c.requires.offset c.requires.room c.requires.fits (c.args.self.now.accepted + 1)
     (g.W.OwnerWords.owner c.begin_marked.new.words) c.begin_marked.ensures.events c.begin_marked.ensures.kept
@@ -72,7 +86,11 @@ invariant_of-self g c =
     let sought = c.requires.sought in
     let found = subst (λ (b : ℕ). IsSpotOf o b c.args.key.now c.args.spot) sought.bucket sought.found in
     let w_is : IsWrite (write_of Put c.args.key.now c.args.value.now) = record {
-      key = c.requires.key; key_bytes = λ k. omega (arith, c.type_inv.key k); value = c.requires.value; value_bytes = λ k. omega (arith, c.type_inv.value k) } in
+      key = c.requires.key;
+      key_bytes = λ k. omega (arith, c.type_inv.key k);
+      value = c.requires.value;
+      value_bytes = λ k. omega (arith, c.type_inv.value k);
+    } in
     let counted = c.args.self.now.counted in
     let count = in_room.count o c.requires.kept index heap parts c.args.key.now c.args.value.now w_is (λ k. omega (arith, c.type_inv.key k))
     c.args.bucket sought.bucket c.requires.unworn c.args.spot found c.args.offset c.args.room c.requires.offset c.requires.room c.requires.fits (c.args.self.now.accepted + 1)
@@ -84,11 +102,15 @@ invariant_of-self g c =
     (g.W.OwnerWords.owner c.begin_marked.new.words) c.begin_marked.ensures.events c.begin_marked.ensures.kept
     (g.W.OwnerWords.owner c.write_item.new.words) c.write_item.ensures.events c.write_item.ensures.kept
     (g.W.OwnerWords.owner c.end_write.new.self) c.end_write.ensures.event in
-    record { parts = ∣ in_room.parts_ok o c.requires.kept index heap parts c.args.key.now c.args.value.now w_is (λ k. omega (arith, c.type_inv.key k))
-    c.args.bucket sought.bucket c.requires.unworn c.args.spot found c.args.offset c.args.room c.requires.offset c.requires.room c.requires.fits (c.args.self.now.accepted + 1)
-    (g.W.OwnerWords.owner c.begin_marked.new.words) c.begin_marked.ensures.events c.begin_marked.ensures.kept
-    (g.W.OwnerWords.owner c.write_item.new.words) c.write_item.ensures.events c.write_item.ensures.kept
-    (g.W.OwnerWords.owner c.end_write.new.self) c.end_write.ensures.event ∣₁; counted = omega arith; stamped = omega arith }
+    record {
+      parts = ∣ in_room.parts_ok o c.requires.kept index heap parts c.args.key.now c.args.value.now w_is (λ k. omega (arith, c.type_inv.key k))
+          c.args.bucket sought.bucket c.requires.unworn c.args.spot found c.args.offset c.args.room c.requires.offset c.requires.room c.requires.fits (c.args.self.now.accepted + 1)
+          (g.W.OwnerWords.owner c.begin_marked.new.words) c.begin_marked.ensures.events c.begin_marked.ensures.kept
+          (g.W.OwnerWords.owner c.write_item.new.words) c.write_item.ensures.events c.write_item.ensures.kept
+          (g.W.OwnerWords.owner c.end_write.new.self) c.end_write.ensures.event ∣₁;
+      counted = omega arith;
+      stamped = omega arith;
+    }
 
 pub returns-clause-step : goal.returns-clause-step
 returns-clause-step g c =
@@ -99,7 +121,11 @@ returns-clause-step g c =
     let sought = c.requires.sought in
     let found = subst (λ (b : ℕ). IsSpotOf o b c.args.key.now c.args.spot) sought.bucket sought.found in
     let w_is : IsWrite (write_of Put c.args.key.now c.args.value.now) = record {
-      key = c.requires.key; key_bytes = λ k. omega (arith, c.type_inv.key k); value = c.requires.value; value_bytes = λ k. omega (arith, c.type_inv.value k) } in
+      key = c.requires.key;
+      key_bytes = λ k. omega (arith, c.type_inv.key k);
+      value = c.requires.value;
+      value_bytes = λ k. omega (arith, c.type_inv.value k);
+    } in
     in_room.step o c.requires.kept index heap parts c.args.key.now c.args.value.now w_is (λ k. omega (arith, c.type_inv.key k))
     c.args.bucket sought.bucket c.requires.unworn c.args.spot found c.args.offset c.args.room c.requires.offset c.requires.room c.requires.fits (c.args.self.now.accepted + 1)
     (g.W.OwnerWords.owner c.begin_marked.new.words) c.begin_marked.ensures.events c.begin_marked.ensures.kept

@@ -1,11 +1,11 @@
-use Rattle.std.proofs.Common.{◌≡◌, ℕ, ◌+◌, ◌<◌, ◌≤◌, [], length, sym, ap, ◌∙◌, subst, arith}
-use Rattle.mica_model.specs.declared.write.Op.TheVariants.{Put, Del}
+use Rattle.std.proofs.Common.{◌≡◌, ℕ, ◌+◌, [], sym, ap, ◌∙◌, subst, arith}
+use Rattle.mica_model.specs.declared.write.Op.TheVariants.{Put}
 use Rattle.mica_model.specs.Write.{IsWrite, write_of}
 use Rattle.epoch_core.specs.declared.state.OwnerState.{OwnerState}
 use Rattle.epoch_core.specs.OwnerState.{bucket_in}
-use Rattle.chained_index.specs.ChainEntries.{HasNoSpot, IsSpotOf}
+use Rattle.chained_index.specs.ChainEntries.{HasNoSpot}
 use Rattle.store_partition.proofs.Whole.{whole}
-use Rattle.std.proofs.Common.{subst₂, refl, ◌++◌, ◌∷◌, true, false}
+use Rattle.std.proofs.Common.{subst₂, refl, ◌++◌, ◌∷◌}
 use Rattle.std.proofs.lemmas.Bool.{true≢false}
 use Rattle.mica_words.specs.Hash.{hash_tag, tag_of}
 use Rattle.mica_words.specs.Item.{item_size}
@@ -15,11 +15,10 @@ use Rattle.epoch_core.specs.Shape.{IsMain}
 use Rattle.epoch_core.specs.Events.{MayBegin, MayMark, CanPlay, plays, item_events, after}
 use Rattle.epoch_core.specs.declared.event.Event.TheVariants.{Begins}
 use Rattle.epoch_core.specs.OwnerStep.{IsOwnerStep}
-use Rattle.epoch_core.specs.Kept.{Kept}
 use Rattle.mica_model.specs.declared.write.Outcome.TheVariants.{FullSpare, FullBlock}
-use Rattle.block_heap.specs.Blocks.{MayLack, HasUsed}
+use Rattle.block_heap.specs.Blocks.{MayLack}
 use Rattle.block_heap.specs.Changes.{IsTaken}
-use Rattle.chained_index.specs.ChainEntries.{entries_of, number_of}
+use Rattle.chained_index.specs.ChainEntries.{entries_of}
 use Rattle.chained_index.specs.ChainChange.{ChangesChain}
 use Rattle.chained_index.specs.Index.{LacksPlace}
 use Rattle.store_partition.specs.Parts.{marked_in_bucket}
@@ -70,13 +69,17 @@ returns-in_default-clause-step g c =
     let sought = c.requires.sought in
     let none = subst (λ (b : ℕ). HasNoSpot o b c.args.key.now) sought.bucket sought.found in
     let w_is : IsWrite (write_of Put c.args.key.now c.args.value.now) = record {
-      key = c.requires.key; key_bytes = λ k. omega (arith, c.type_inv.key k); value = c.requires.value; value_bytes = λ k. omega (arith, c.type_inv.value k) } in
+      key = c.requires.key;
+      key_bytes = λ k. omega (arith, c.type_inv.key k);
+      value = c.requires.value;
+      value_bytes = λ k. omega (arith, c.type_inv.value k);
+    } in
     let size_is : c.item_size-size.result ≡ item_size c.args.key.now c.args.value.now = c.item_size-size.ensures in
     let same = c.has_place.ensures.same in
     let has_place : ¬ (LacksPlace index o (bucket_in o c.args.key.now)) = λ lacks.
-        true≢false (c.if-not-has_place.ensures.place.1 (subst (λ (b : ℕ). LacksPlace index o b) (sym sought.bucket) lacks)) in
+    true≢false (c.if-not-has_place.ensures.place.1 (subst (λ (b : ℕ). LacksPlace index o b) (sym sought.bucket) lacks)) in
     let needs = new_needs o c.requires.kept index heap parts c.args.key.now c.args.value.now (λ k. omega (arith, c.type_inv.key k)) none
-        (λ spare. has_place (spares.lacks_place o c.requires.kept index heap parts c.args.key.now c.args.value.now (λ k. omega (arith, c.type_inv.key k)) spare)) in
+    (λ spare. has_place (spares.lacks_place o c.requires.kept index heap parts c.args.key.now c.args.value.now (λ k. omega (arith, c.type_inv.key k)) spare)) in
     subst (λ (z : OwnerState). IsOwnerStep o z (write_of Put c.args.key.now c.args.value.now) FullBlock) (sym same)
     (taken.full_block o c.requires.kept index heap parts c.args.key.now c.args.value.now w_is (λ k. omega (arith, c.type_inv.key k))
     c.args.bucket sought.bucket c.requires.unworn needs
@@ -91,13 +94,17 @@ begin_marked-requires-clause-begin g c =
     let sought = c.requires.sought in
     let none = subst (λ (b : ℕ). HasNoSpot o b c.args.key.now) sought.bucket sought.found in
     let w_is : IsWrite (write_of Put c.args.key.now c.args.value.now) = record {
-      key = c.requires.key; key_bytes = λ k. omega (arith, c.type_inv.key k); value = c.requires.value; value_bytes = λ k. omega (arith, c.type_inv.value k) } in
+      key = c.requires.key;
+      key_bytes = λ k. omega (arith, c.type_inv.key k);
+      value = c.requires.value;
+      value_bytes = λ k. omega (arith, c.type_inv.value k);
+    } in
     let size_is : c.item_size-size.result ≡ item_size c.args.key.now c.args.value.now = c.item_size-size.ensures in
     let same = c.has_place.ensures.same in
     let has_place : ¬ (LacksPlace index o (bucket_in o c.args.key.now)) = λ lacks.
-        true≢false (c.if-not-has_place.ensures.place.1 (subst (λ (b : ℕ). LacksPlace index o b) (sym sought.bucket) lacks)) in
+    true≢false (c.if-not-has_place.ensures.place.1 (subst (λ (b : ℕ). LacksPlace index o b) (sym sought.bucket) lacks)) in
     let needs = new_needs o c.requires.kept index heap parts c.args.key.now c.args.value.now (λ k. omega (arith, c.type_inv.key k)) none
-        (λ spare. has_place (spares.lacks_place o c.requires.kept index heap parts c.args.key.now c.args.value.now (λ k. omega (arith, c.type_inv.key k)) spare)) in
+    (λ spare. has_place (spares.lacks_place o c.requires.kept index heap parts c.args.key.now c.args.value.now (λ k. omega (arith, c.type_inv.key k)) spare)) in
     let cut = subst (IsTaken heap c.take.new.self c.in-Some.place) size_is c.in-Some.ensures.taken in
     subst (λ (z : OwnerState). MayBegin z c.args.bucket) (sym same) (taken.begin_ok o c.requires.kept index heap parts c.args.key.now c.args.value.now w_is (λ k. omega (arith, c.type_inv.key k))
     c.args.bucket sought.bucket c.requires.unworn needs c.take.new.self c.in-Some.place cut c.take.ensures.blocks)
@@ -111,13 +118,17 @@ begin_marked-requires-clause-mark g c =
     let sought = c.requires.sought in
     let none = subst (λ (b : ℕ). HasNoSpot o b c.args.key.now) sought.bucket sought.found in
     let w_is : IsWrite (write_of Put c.args.key.now c.args.value.now) = record {
-      key = c.requires.key; key_bytes = λ k. omega (arith, c.type_inv.key k); value = c.requires.value; value_bytes = λ k. omega (arith, c.type_inv.value k) } in
+      key = c.requires.key;
+      key_bytes = λ k. omega (arith, c.type_inv.key k);
+      value = c.requires.value;
+      value_bytes = λ k. omega (arith, c.type_inv.value k);
+    } in
     let size_is : c.item_size-size.result ≡ item_size c.args.key.now c.args.value.now = c.item_size-size.ensures in
     let same = c.has_place.ensures.same in
     let has_place : ¬ (LacksPlace index o (bucket_in o c.args.key.now)) = λ lacks.
-        true≢false (c.if-not-has_place.ensures.place.1 (subst (λ (b : ℕ). LacksPlace index o b) (sym sought.bucket) lacks)) in
+    true≢false (c.if-not-has_place.ensures.place.1 (subst (λ (b : ℕ). LacksPlace index o b) (sym sought.bucket) lacks)) in
     let needs = new_needs o c.requires.kept index heap parts c.args.key.now c.args.value.now (λ k. omega (arith, c.type_inv.key k)) none
-        (λ spare. has_place (spares.lacks_place o c.requires.kept index heap parts c.args.key.now c.args.value.now (λ k. omega (arith, c.type_inv.key k)) spare)) in
+    (λ spare. has_place (spares.lacks_place o c.requires.kept index heap parts c.args.key.now c.args.value.now (λ k. omega (arith, c.type_inv.key k)) spare)) in
     let cut = subst (IsTaken heap c.take.new.self c.in-Some.place) size_is c.in-Some.ensures.taken in
     subst (λ (z : OwnerState). MayMark (after (Begins c.args.bucket) z) (write_of Put c.args.key.now c.args.value.now) (c.args.self.now.accepted + 1)) (sym same)
     (taken.mark_ok o c.requires.kept index heap parts c.args.key.now c.args.value.now w_is (λ k. omega (arith, c.type_inv.key k))
@@ -132,16 +143,20 @@ write_item-requires-clause-allowed g c =
     let sought = c.requires.sought in
     let none = subst (λ (b : ℕ). HasNoSpot o b c.args.key.now) sought.bucket sought.found in
     let w_is : IsWrite (write_of Put c.args.key.now c.args.value.now) = record {
-      key = c.requires.key; key_bytes = λ k. omega (arith, c.type_inv.key k); value = c.requires.value; value_bytes = λ k. omega (arith, c.type_inv.value k) } in
+      key = c.requires.key;
+      key_bytes = λ k. omega (arith, c.type_inv.key k);
+      value = c.requires.value;
+      value_bytes = λ k. omega (arith, c.type_inv.value k);
+    } in
     let size_is : c.item_size-size.result ≡ item_size c.args.key.now c.args.value.now = c.item_size-size.ensures in
     let same = c.has_place.ensures.same in
     let has_place : ¬ (LacksPlace index o (bucket_in o c.args.key.now)) = λ lacks.
-        true≢false (c.if-not-has_place.ensures.place.1 (subst (λ (b : ℕ). LacksPlace index o b) (sym sought.bucket) lacks)) in
+    true≢false (c.if-not-has_place.ensures.place.1 (subst (λ (b : ℕ). LacksPlace index o b) (sym sought.bucket) lacks)) in
     let needs = new_needs o c.requires.kept index heap parts c.args.key.now c.args.value.now (λ k. omega (arith, c.type_inv.key k)) none
-        (λ spare. has_place (spares.lacks_place o c.requires.kept index heap parts c.args.key.now c.args.value.now (λ k. omega (arith, c.type_inv.key k)) spare)) in
+    (λ spare. has_place (spares.lacks_place o c.requires.kept index heap parts c.args.key.now c.args.value.now (λ k. omega (arith, c.type_inv.key k)) spare)) in
     let cut = subst (IsTaken heap c.take.new.self c.in-Some.place) size_is c.in-Some.ensures.taken in
     let events : g.W.OwnerWords.owner c.begin_marked.new.words ≡ marked_in_bucket o c.args.bucket (write_of Put c.args.key.now c.args.value.now) (c.args.self.now.accepted + 1) =
-        c.begin_marked.ensures.events ∙ ap (λ (z : OwnerState). marked_in_bucket z c.args.bucket (write_of Put c.args.key.now c.args.value.now) (c.args.self.now.accepted + 1)) same in
+    c.begin_marked.ensures.events ∙ ap (λ (z : OwnerState). marked_in_bucket z c.args.bucket (write_of Put c.args.key.now c.args.value.now) (c.args.self.now.accepted + 1)) same in
     subst₂ (λ (p n : ℕ). CanPlay (item_events p n c.args.key.now c.args.value.now) (g.W.OwnerWords.owner c.begin_marked.new.words)) (sym c.from.ensures) (sym size_is)
     (taken.can_ok o c.requires.kept index heap parts c.args.key.now c.args.value.now w_is (λ k. omega (arith, c.type_inv.key k))
     c.args.bucket sought.bucket c.requires.unworn needs c.take.new.self c.in-Some.place cut c.take.ensures.blocks (c.args.self.now.accepted + 1)
@@ -156,18 +171,22 @@ place-requires-clause-index g c =
     let sought = c.requires.sought in
     let none = subst (λ (b : ℕ). HasNoSpot o b c.args.key.now) sought.bucket sought.found in
     let w_is : IsWrite (write_of Put c.args.key.now c.args.value.now) = record {
-      key = c.requires.key; key_bytes = λ k. omega (arith, c.type_inv.key k); value = c.requires.value; value_bytes = λ k. omega (arith, c.type_inv.value k) } in
+      key = c.requires.key;
+      key_bytes = λ k. omega (arith, c.type_inv.key k);
+      value = c.requires.value;
+      value_bytes = λ k. omega (arith, c.type_inv.value k);
+    } in
     let size_is : c.item_size-size.result ≡ item_size c.args.key.now c.args.value.now = c.item_size-size.ensures in
     let same = c.has_place.ensures.same in
     let has_place : ¬ (LacksPlace index o (bucket_in o c.args.key.now)) = λ lacks.
-        true≢false (c.if-not-has_place.ensures.place.1 (subst (λ (b : ℕ). LacksPlace index o b) (sym sought.bucket) lacks)) in
+    true≢false (c.if-not-has_place.ensures.place.1 (subst (λ (b : ℕ). LacksPlace index o b) (sym sought.bucket) lacks)) in
     let needs = new_needs o c.requires.kept index heap parts c.args.key.now c.args.value.now (λ k. omega (arith, c.type_inv.key k)) none
-        (λ spare. has_place (spares.lacks_place o c.requires.kept index heap parts c.args.key.now c.args.value.now (λ k. omega (arith, c.type_inv.key k)) spare)) in
+    (λ spare. has_place (spares.lacks_place o c.requires.kept index heap parts c.args.key.now c.args.value.now (λ k. omega (arith, c.type_inv.key k)) spare)) in
     let cut = subst (IsTaken heap c.take.new.self c.in-Some.place) size_is c.in-Some.ensures.taken in
     let events : g.W.OwnerWords.owner c.begin_marked.new.words ≡ marked_in_bucket o c.args.bucket (write_of Put c.args.key.now c.args.value.now) (c.args.self.now.accepted + 1) =
-        c.begin_marked.ensures.events ∙ ap (λ (z : OwnerState). marked_in_bucket z c.args.bucket (write_of Put c.args.key.now c.args.value.now) (c.args.self.now.accepted + 1)) same in
+    c.begin_marked.ensures.events ∙ ap (λ (z : OwnerState). marked_in_bucket z c.args.bucket (write_of Put c.args.key.now c.args.value.now) (c.args.self.now.accepted + 1)) same in
     let put : g.W.OwnerWords.owner c.write_item.new.words ≡ plays (item_events c.in-Some.place (item_size c.args.key.now c.args.value.now) c.args.key.now c.args.value.now) (g.W.OwnerWords.owner c.begin_marked.new.words) =
-        c.write_item.ensures.events ∙ (λ i. plays (item_events (c.from.ensures i) (size_is i) c.args.key.now c.args.value.now) (g.W.OwnerWords.owner c.begin_marked.new.words)) in
+    c.write_item.ensures.events ∙ (λ i. plays (item_events (c.from.ensures i) (size_is i) c.args.key.now c.args.value.now) (g.W.OwnerWords.owner c.begin_marked.new.words)) in
     taken.index_ok o c.requires.kept index heap parts c.args.key.now c.args.value.now w_is (λ k. omega (arith, c.type_inv.key k))
     c.args.bucket sought.bucket c.requires.unworn needs c.take.new.self c.in-Some.place cut c.take.ensures.blocks (c.args.self.now.accepted + 1)
     (g.W.OwnerWords.owner c.begin_marked.new.words) events c.begin_marked.ensures.kept
@@ -182,18 +201,22 @@ place-requires-clause-marked g c =
     let sought = c.requires.sought in
     let none = subst (λ (b : ℕ). HasNoSpot o b c.args.key.now) sought.bucket sought.found in
     let w_is : IsWrite (write_of Put c.args.key.now c.args.value.now) = record {
-      key = c.requires.key; key_bytes = λ k. omega (arith, c.type_inv.key k); value = c.requires.value; value_bytes = λ k. omega (arith, c.type_inv.value k) } in
+      key = c.requires.key;
+      key_bytes = λ k. omega (arith, c.type_inv.key k);
+      value = c.requires.value;
+      value_bytes = λ k. omega (arith, c.type_inv.value k);
+    } in
     let size_is : c.item_size-size.result ≡ item_size c.args.key.now c.args.value.now = c.item_size-size.ensures in
     let same = c.has_place.ensures.same in
     let has_place : ¬ (LacksPlace index o (bucket_in o c.args.key.now)) = λ lacks.
-        true≢false (c.if-not-has_place.ensures.place.1 (subst (λ (b : ℕ). LacksPlace index o b) (sym sought.bucket) lacks)) in
+    true≢false (c.if-not-has_place.ensures.place.1 (subst (λ (b : ℕ). LacksPlace index o b) (sym sought.bucket) lacks)) in
     let needs = new_needs o c.requires.kept index heap parts c.args.key.now c.args.value.now (λ k. omega (arith, c.type_inv.key k)) none
-        (λ spare. has_place (spares.lacks_place o c.requires.kept index heap parts c.args.key.now c.args.value.now (λ k. omega (arith, c.type_inv.key k)) spare)) in
+    (λ spare. has_place (spares.lacks_place o c.requires.kept index heap parts c.args.key.now c.args.value.now (λ k. omega (arith, c.type_inv.key k)) spare)) in
     let cut = subst (IsTaken heap c.take.new.self c.in-Some.place) size_is c.in-Some.ensures.taken in
     let events : g.W.OwnerWords.owner c.begin_marked.new.words ≡ marked_in_bucket o c.args.bucket (write_of Put c.args.key.now c.args.value.now) (c.args.self.now.accepted + 1) =
-        c.begin_marked.ensures.events ∙ ap (λ (z : OwnerState). marked_in_bucket z c.args.bucket (write_of Put c.args.key.now c.args.value.now) (c.args.self.now.accepted + 1)) same in
+    c.begin_marked.ensures.events ∙ ap (λ (z : OwnerState). marked_in_bucket z c.args.bucket (write_of Put c.args.key.now c.args.value.now) (c.args.self.now.accepted + 1)) same in
     let put : g.W.OwnerWords.owner c.write_item.new.words ≡ plays (item_events c.in-Some.place (item_size c.args.key.now c.args.value.now) c.args.key.now c.args.value.now) (g.W.OwnerWords.owner c.begin_marked.new.words) =
-        c.write_item.ensures.events ∙ (λ i. plays (item_events (c.from.ensures i) (size_is i) c.args.key.now c.args.value.now) (g.W.OwnerWords.owner c.begin_marked.new.words)) in
+    c.write_item.ensures.events ∙ (λ i. plays (item_events (c.from.ensures i) (size_is i) c.args.key.now c.args.value.now) (g.W.OwnerWords.owner c.begin_marked.new.words)) in
     taken.marked_ok o c.requires.kept index heap parts c.args.key.now c.args.value.now w_is (λ k. omega (arith, c.type_inv.key k))
     c.args.bucket sought.bucket c.requires.unworn needs c.take.new.self c.in-Some.place cut c.take.ensures.blocks (c.args.self.now.accepted + 1)
     (g.W.OwnerWords.owner c.begin_marked.new.words) events c.begin_marked.ensures.kept
@@ -208,18 +231,22 @@ place-requires-clause-bucket g c =
     let sought = c.requires.sought in
     let none = subst (λ (b : ℕ). HasNoSpot o b c.args.key.now) sought.bucket sought.found in
     let w_is : IsWrite (write_of Put c.args.key.now c.args.value.now) = record {
-      key = c.requires.key; key_bytes = λ k. omega (arith, c.type_inv.key k); value = c.requires.value; value_bytes = λ k. omega (arith, c.type_inv.value k) } in
+      key = c.requires.key;
+      key_bytes = λ k. omega (arith, c.type_inv.key k);
+      value = c.requires.value;
+      value_bytes = λ k. omega (arith, c.type_inv.value k);
+    } in
     let size_is : c.item_size-size.result ≡ item_size c.args.key.now c.args.value.now = c.item_size-size.ensures in
     let same = c.has_place.ensures.same in
     let has_place : ¬ (LacksPlace index o (bucket_in o c.args.key.now)) = λ lacks.
-        true≢false (c.if-not-has_place.ensures.place.1 (subst (λ (b : ℕ). LacksPlace index o b) (sym sought.bucket) lacks)) in
+    true≢false (c.if-not-has_place.ensures.place.1 (subst (λ (b : ℕ). LacksPlace index o b) (sym sought.bucket) lacks)) in
     let needs = new_needs o c.requires.kept index heap parts c.args.key.now c.args.value.now (λ k. omega (arith, c.type_inv.key k)) none
-        (λ spare. has_place (spares.lacks_place o c.requires.kept index heap parts c.args.key.now c.args.value.now (λ k. omega (arith, c.type_inv.key k)) spare)) in
+    (λ spare. has_place (spares.lacks_place o c.requires.kept index heap parts c.args.key.now c.args.value.now (λ k. omega (arith, c.type_inv.key k)) spare)) in
     let cut = subst (IsTaken heap c.take.new.self c.in-Some.place) size_is c.in-Some.ensures.taken in
     let events : g.W.OwnerWords.owner c.begin_marked.new.words ≡ marked_in_bucket o c.args.bucket (write_of Put c.args.key.now c.args.value.now) (c.args.self.now.accepted + 1) =
-        c.begin_marked.ensures.events ∙ ap (λ (z : OwnerState). marked_in_bucket z c.args.bucket (write_of Put c.args.key.now c.args.value.now) (c.args.self.now.accepted + 1)) same in
+    c.begin_marked.ensures.events ∙ ap (λ (z : OwnerState). marked_in_bucket z c.args.bucket (write_of Put c.args.key.now c.args.value.now) (c.args.self.now.accepted + 1)) same in
     let put : g.W.OwnerWords.owner c.write_item.new.words ≡ plays (item_events c.in-Some.place (item_size c.args.key.now c.args.value.now) c.args.key.now c.args.value.now) (g.W.OwnerWords.owner c.begin_marked.new.words) =
-        c.write_item.ensures.events ∙ (λ i. plays (item_events (c.from.ensures i) (size_is i) c.args.key.now c.args.value.now) (g.W.OwnerWords.owner c.begin_marked.new.words)) in
+    c.write_item.ensures.events ∙ (λ i. plays (item_events (c.from.ensures i) (size_is i) c.args.key.now c.args.value.now) (g.W.OwnerWords.owner c.begin_marked.new.words)) in
     taken.main_ok o c.requires.kept index heap parts c.args.key.now c.args.value.now w_is (λ k. omega (arith, c.type_inv.key k))
     c.args.bucket sought.bucket c.requires.unworn needs c.take.new.self c.in-Some.place cut c.take.ensures.blocks (c.args.self.now.accepted + 1)
     (g.W.OwnerWords.owner c.begin_marked.new.words) events c.begin_marked.ensures.kept
@@ -234,18 +261,22 @@ place-requires-clause-place g c =
     let sought = c.requires.sought in
     let none = subst (λ (b : ℕ). HasNoSpot o b c.args.key.now) sought.bucket sought.found in
     let w_is : IsWrite (write_of Put c.args.key.now c.args.value.now) = record {
-      key = c.requires.key; key_bytes = λ k. omega (arith, c.type_inv.key k); value = c.requires.value; value_bytes = λ k. omega (arith, c.type_inv.value k) } in
+      key = c.requires.key;
+      key_bytes = λ k. omega (arith, c.type_inv.key k);
+      value = c.requires.value;
+      value_bytes = λ k. omega (arith, c.type_inv.value k);
+    } in
     let size_is : c.item_size-size.result ≡ item_size c.args.key.now c.args.value.now = c.item_size-size.ensures in
     let same = c.has_place.ensures.same in
     let has_place : ¬ (LacksPlace index o (bucket_in o c.args.key.now)) = λ lacks.
-        true≢false (c.if-not-has_place.ensures.place.1 (subst (λ (b : ℕ). LacksPlace index o b) (sym sought.bucket) lacks)) in
+    true≢false (c.if-not-has_place.ensures.place.1 (subst (λ (b : ℕ). LacksPlace index o b) (sym sought.bucket) lacks)) in
     let needs = new_needs o c.requires.kept index heap parts c.args.key.now c.args.value.now (λ k. omega (arith, c.type_inv.key k)) none
-        (λ spare. has_place (spares.lacks_place o c.requires.kept index heap parts c.args.key.now c.args.value.now (λ k. omega (arith, c.type_inv.key k)) spare)) in
+    (λ spare. has_place (spares.lacks_place o c.requires.kept index heap parts c.args.key.now c.args.value.now (λ k. omega (arith, c.type_inv.key k)) spare)) in
     let cut = subst (IsTaken heap c.take.new.self c.in-Some.place) size_is c.in-Some.ensures.taken in
     let events : g.W.OwnerWords.owner c.begin_marked.new.words ≡ marked_in_bucket o c.args.bucket (write_of Put c.args.key.now c.args.value.now) (c.args.self.now.accepted + 1) =
-        c.begin_marked.ensures.events ∙ ap (λ (z : OwnerState). marked_in_bucket z c.args.bucket (write_of Put c.args.key.now c.args.value.now) (c.args.self.now.accepted + 1)) same in
+    c.begin_marked.ensures.events ∙ ap (λ (z : OwnerState). marked_in_bucket z c.args.bucket (write_of Put c.args.key.now c.args.value.now) (c.args.self.now.accepted + 1)) same in
     let put : g.W.OwnerWords.owner c.write_item.new.words ≡ plays (item_events c.in-Some.place (item_size c.args.key.now c.args.value.now) c.args.key.now c.args.value.now) (g.W.OwnerWords.owner c.begin_marked.new.words) =
-        c.write_item.ensures.events ∙ (λ i. plays (item_events (c.from.ensures i) (size_is i) c.args.key.now c.args.value.now) (g.W.OwnerWords.owner c.begin_marked.new.words)) in
+    c.write_item.ensures.events ∙ (λ i. plays (item_events (c.from.ensures i) (size_is i) c.args.key.now c.args.value.now) (g.W.OwnerWords.owner c.begin_marked.new.words)) in
     taken.place_ok o c.requires.kept index heap parts c.args.key.now c.args.value.now w_is (λ k. omega (arith, c.type_inv.key k))
     c.args.bucket sought.bucket c.requires.unworn needs c.take.new.self c.in-Some.place cut c.take.ensures.blocks (c.args.self.now.accepted + 1)
     (g.W.OwnerWords.owner c.begin_marked.new.words) events c.begin_marked.ensures.kept
@@ -260,21 +291,25 @@ end_write-requires g c =
     let sought = c.requires.sought in
     let none = subst (λ (b : ℕ). HasNoSpot o b c.args.key.now) sought.bucket sought.found in
     let w_is : IsWrite (write_of Put c.args.key.now c.args.value.now) = record {
-      key = c.requires.key; key_bytes = λ k. omega (arith, c.type_inv.key k); value = c.requires.value; value_bytes = λ k. omega (arith, c.type_inv.value k) } in
+      key = c.requires.key;
+      key_bytes = λ k. omega (arith, c.type_inv.key k);
+      value = c.requires.value;
+      value_bytes = λ k. omega (arith, c.type_inv.value k);
+    } in
     let size_is : c.item_size-size.result ≡ item_size c.args.key.now c.args.value.now = c.item_size-size.ensures in
     let same = c.has_place.ensures.same in
     let has_place : ¬ (LacksPlace index o (bucket_in o c.args.key.now)) = λ lacks.
-        true≢false (c.if-not-has_place.ensures.place.1 (subst (λ (b : ℕ). LacksPlace index o b) (sym sought.bucket) lacks)) in
+    true≢false (c.if-not-has_place.ensures.place.1 (subst (λ (b : ℕ). LacksPlace index o b) (sym sought.bucket) lacks)) in
     let needs = new_needs o c.requires.kept index heap parts c.args.key.now c.args.value.now (λ k. omega (arith, c.type_inv.key k)) none
-        (λ spare. has_place (spares.lacks_place o c.requires.kept index heap parts c.args.key.now c.args.value.now (λ k. omega (arith, c.type_inv.key k)) spare)) in
+    (λ spare. has_place (spares.lacks_place o c.requires.kept index heap parts c.args.key.now c.args.value.now (λ k. omega (arith, c.type_inv.key k)) spare)) in
     let cut = subst (IsTaken heap c.take.new.self c.in-Some.place) size_is c.in-Some.ensures.taken in
     let events : g.W.OwnerWords.owner c.begin_marked.new.words ≡ marked_in_bucket o c.args.bucket (write_of Put c.args.key.now c.args.value.now) (c.args.self.now.accepted + 1) =
-        c.begin_marked.ensures.events ∙ ap (λ (z : OwnerState). marked_in_bucket z c.args.bucket (write_of Put c.args.key.now c.args.value.now) (c.args.self.now.accepted + 1)) same in
+    c.begin_marked.ensures.events ∙ ap (λ (z : OwnerState). marked_in_bucket z c.args.bucket (write_of Put c.args.key.now c.args.value.now) (c.args.self.now.accepted + 1)) same in
     let put : g.W.OwnerWords.owner c.write_item.new.words ≡ plays (item_events c.in-Some.place (item_size c.args.key.now c.args.value.now) c.args.key.now c.args.value.now) (g.W.OwnerWords.owner c.begin_marked.new.words) =
-        c.write_item.ensures.events ∙ (λ i. plays (item_events (c.from.ensures i) (size_is i) c.args.key.now c.args.value.now) (g.W.OwnerWords.owner c.begin_marked.new.words)) in
+    c.write_item.ensures.events ∙ (λ i. plays (item_events (c.from.ensures i) (size_is i) c.args.key.now c.args.value.now) (g.W.OwnerWords.owner c.begin_marked.new.words)) in
     let tag : c.tag_of.result ≡ tag_of c.args.key.now = c.tag_of.ensures ∙ (ap hash_tag c.key_hash.ensures ∙ sym (tag_of_hash c.args.key.now)) in
     let change = subst (λ (p : ℕ). ChangesChain (g.W.OwnerWords.owner c.write_item.new.words) (g.W.OwnerWords.owner c.place.new.words) c.args.bucket
-        (entries_of (g.W.OwnerWords.owner c.write_item.new.words) c.args.bucket ++ entry_of c.tag_of.result p ∷ [])) c.from-2.ensures c.place.ensures.entries in
+    (entries_of (g.W.OwnerWords.owner c.write_item.new.words) c.args.bucket ++ entry_of c.tag_of.result p ∷ [])) c.from-2.ensures c.place.ensures.entries in
     taken.new_end o c.requires.kept index heap parts c.args.key.now c.args.value.now w_is (λ k. omega (arith, c.type_inv.key k))
     c.args.bucket sought.bucket c.requires.unworn needs c.take.new.self c.in-Some.place cut c.take.ensures.blocks (c.args.self.now.accepted + 1)
     (g.W.OwnerWords.owner c.begin_marked.new.words) events c.begin_marked.ensures.kept
@@ -290,21 +325,25 @@ invariant_of-self-2 g c =
     let sought = c.requires.sought in
     let none = subst (λ (b : ℕ). HasNoSpot o b c.args.key.now) sought.bucket sought.found in
     let w_is : IsWrite (write_of Put c.args.key.now c.args.value.now) = record {
-      key = c.requires.key; key_bytes = λ k. omega (arith, c.type_inv.key k); value = c.requires.value; value_bytes = λ k. omega (arith, c.type_inv.value k) } in
+      key = c.requires.key;
+      key_bytes = λ k. omega (arith, c.type_inv.key k);
+      value = c.requires.value;
+      value_bytes = λ k. omega (arith, c.type_inv.value k);
+    } in
     let size_is : c.item_size-size.result ≡ item_size c.args.key.now c.args.value.now = c.item_size-size.ensures in
     let same = c.has_place.ensures.same in
     let has_place : ¬ (LacksPlace index o (bucket_in o c.args.key.now)) = λ lacks.
-        true≢false (c.if-not-has_place.ensures.place.1 (subst (λ (b : ℕ). LacksPlace index o b) (sym sought.bucket) lacks)) in
+    true≢false (c.if-not-has_place.ensures.place.1 (subst (λ (b : ℕ). LacksPlace index o b) (sym sought.bucket) lacks)) in
     let needs = new_needs o c.requires.kept index heap parts c.args.key.now c.args.value.now (λ k. omega (arith, c.type_inv.key k)) none
-        (λ spare. has_place (spares.lacks_place o c.requires.kept index heap parts c.args.key.now c.args.value.now (λ k. omega (arith, c.type_inv.key k)) spare)) in
+    (λ spare. has_place (spares.lacks_place o c.requires.kept index heap parts c.args.key.now c.args.value.now (λ k. omega (arith, c.type_inv.key k)) spare)) in
     let cut = subst (IsTaken heap c.take.new.self c.in-Some.place) size_is c.in-Some.ensures.taken in
     let events : g.W.OwnerWords.owner c.begin_marked.new.words ≡ marked_in_bucket o c.args.bucket (write_of Put c.args.key.now c.args.value.now) (c.args.self.now.accepted + 1) =
-        c.begin_marked.ensures.events ∙ ap (λ (z : OwnerState). marked_in_bucket z c.args.bucket (write_of Put c.args.key.now c.args.value.now) (c.args.self.now.accepted + 1)) same in
+    c.begin_marked.ensures.events ∙ ap (λ (z : OwnerState). marked_in_bucket z c.args.bucket (write_of Put c.args.key.now c.args.value.now) (c.args.self.now.accepted + 1)) same in
     let put : g.W.OwnerWords.owner c.write_item.new.words ≡ plays (item_events c.in-Some.place (item_size c.args.key.now c.args.value.now) c.args.key.now c.args.value.now) (g.W.OwnerWords.owner c.begin_marked.new.words) =
-        c.write_item.ensures.events ∙ (λ i. plays (item_events (c.from.ensures i) (size_is i) c.args.key.now c.args.value.now) (g.W.OwnerWords.owner c.begin_marked.new.words)) in
+    c.write_item.ensures.events ∙ (λ i. plays (item_events (c.from.ensures i) (size_is i) c.args.key.now c.args.value.now) (g.W.OwnerWords.owner c.begin_marked.new.words)) in
     let tag : c.tag_of.result ≡ tag_of c.args.key.now = c.tag_of.ensures ∙ (ap hash_tag c.key_hash.ensures ∙ sym (tag_of_hash c.args.key.now)) in
     let change = subst (λ (p : ℕ). ChangesChain (g.W.OwnerWords.owner c.write_item.new.words) (g.W.OwnerWords.owner c.place.new.words) c.args.bucket
-        (entries_of (g.W.OwnerWords.owner c.write_item.new.words) c.args.bucket ++ entry_of c.tag_of.result p ∷ [])) c.from-2.ensures c.place.ensures.entries in
+    (entries_of (g.W.OwnerWords.owner c.write_item.new.words) c.args.bucket ++ entry_of c.tag_of.result p ∷ [])) c.from-2.ensures c.place.ensures.entries in
     let counted = c.args.self.now.counted in
     let count = taken.new_count o c.requires.kept index heap parts c.args.key.now c.args.value.now w_is (λ k. omega (arith, c.type_inv.key k))
     c.args.bucket sought.bucket c.requires.unworn needs c.take.new.self c.in-Some.place cut c.take.ensures.blocks (c.args.self.now.accepted + 1)
@@ -318,12 +357,16 @@ invariant_of-self-2 g c =
     (g.W.OwnerWords.owner c.write_item.new.words) put c.write_item.ensures.kept none
     c.tag_of.result tag (g.W.OwnerWords.owner c.place.new.words) c.place.ensures.kept c.place.new.self c.place.ensures.index change
     (g.W.OwnerWords.owner c.end_write.new.self) c.end_write.ensures.event in
-    record { parts = ∣ taken.new_parts o c.requires.kept index heap parts c.args.key.now c.args.value.now w_is (λ k. omega (arith, c.type_inv.key k))
-    c.args.bucket sought.bucket c.requires.unworn needs c.take.new.self c.in-Some.place cut c.take.ensures.blocks (c.args.self.now.accepted + 1)
-    (g.W.OwnerWords.owner c.begin_marked.new.words) events c.begin_marked.ensures.kept
-    (g.W.OwnerWords.owner c.write_item.new.words) put c.write_item.ensures.kept none
-    c.tag_of.result tag (g.W.OwnerWords.owner c.place.new.words) c.place.ensures.kept c.place.new.self c.place.ensures.index change
-    (g.W.OwnerWords.owner c.end_write.new.self) c.end_write.ensures.event ∣₁; counted = omega arith; stamped = omega arith }
+    record {
+      parts = ∣ taken.new_parts o c.requires.kept index heap parts c.args.key.now c.args.value.now w_is (λ k. omega (arith, c.type_inv.key k))
+          c.args.bucket sought.bucket c.requires.unworn needs c.take.new.self c.in-Some.place cut c.take.ensures.blocks (c.args.self.now.accepted + 1)
+          (g.W.OwnerWords.owner c.begin_marked.new.words) events c.begin_marked.ensures.kept
+          (g.W.OwnerWords.owner c.write_item.new.words) put c.write_item.ensures.kept none
+          c.tag_of.result tag (g.W.OwnerWords.owner c.place.new.words) c.place.ensures.kept c.place.new.self c.place.ensures.index change
+          (g.W.OwnerWords.owner c.end_write.new.self) c.end_write.ensures.event ∣₁;
+      counted = omega arith;
+      stamped = omega arith;
+    }
 
 pub returns-clause-step : goal.returns-clause-step
 returns-clause-step g c =
@@ -334,21 +377,25 @@ returns-clause-step g c =
     let sought = c.requires.sought in
     let none = subst (λ (b : ℕ). HasNoSpot o b c.args.key.now) sought.bucket sought.found in
     let w_is : IsWrite (write_of Put c.args.key.now c.args.value.now) = record {
-      key = c.requires.key; key_bytes = λ k. omega (arith, c.type_inv.key k); value = c.requires.value; value_bytes = λ k. omega (arith, c.type_inv.value k) } in
+      key = c.requires.key;
+      key_bytes = λ k. omega (arith, c.type_inv.key k);
+      value = c.requires.value;
+      value_bytes = λ k. omega (arith, c.type_inv.value k);
+    } in
     let size_is : c.item_size-size.result ≡ item_size c.args.key.now c.args.value.now = c.item_size-size.ensures in
     let same = c.has_place.ensures.same in
     let has_place : ¬ (LacksPlace index o (bucket_in o c.args.key.now)) = λ lacks.
-        true≢false (c.if-not-has_place.ensures.place.1 (subst (λ (b : ℕ). LacksPlace index o b) (sym sought.bucket) lacks)) in
+    true≢false (c.if-not-has_place.ensures.place.1 (subst (λ (b : ℕ). LacksPlace index o b) (sym sought.bucket) lacks)) in
     let needs = new_needs o c.requires.kept index heap parts c.args.key.now c.args.value.now (λ k. omega (arith, c.type_inv.key k)) none
-        (λ spare. has_place (spares.lacks_place o c.requires.kept index heap parts c.args.key.now c.args.value.now (λ k. omega (arith, c.type_inv.key k)) spare)) in
+    (λ spare. has_place (spares.lacks_place o c.requires.kept index heap parts c.args.key.now c.args.value.now (λ k. omega (arith, c.type_inv.key k)) spare)) in
     let cut = subst (IsTaken heap c.take.new.self c.in-Some.place) size_is c.in-Some.ensures.taken in
     let events : g.W.OwnerWords.owner c.begin_marked.new.words ≡ marked_in_bucket o c.args.bucket (write_of Put c.args.key.now c.args.value.now) (c.args.self.now.accepted + 1) =
-        c.begin_marked.ensures.events ∙ ap (λ (z : OwnerState). marked_in_bucket z c.args.bucket (write_of Put c.args.key.now c.args.value.now) (c.args.self.now.accepted + 1)) same in
+    c.begin_marked.ensures.events ∙ ap (λ (z : OwnerState). marked_in_bucket z c.args.bucket (write_of Put c.args.key.now c.args.value.now) (c.args.self.now.accepted + 1)) same in
     let put : g.W.OwnerWords.owner c.write_item.new.words ≡ plays (item_events c.in-Some.place (item_size c.args.key.now c.args.value.now) c.args.key.now c.args.value.now) (g.W.OwnerWords.owner c.begin_marked.new.words) =
-        c.write_item.ensures.events ∙ (λ i. plays (item_events (c.from.ensures i) (size_is i) c.args.key.now c.args.value.now) (g.W.OwnerWords.owner c.begin_marked.new.words)) in
+    c.write_item.ensures.events ∙ (λ i. plays (item_events (c.from.ensures i) (size_is i) c.args.key.now c.args.value.now) (g.W.OwnerWords.owner c.begin_marked.new.words)) in
     let tag : c.tag_of.result ≡ tag_of c.args.key.now = c.tag_of.ensures ∙ (ap hash_tag c.key_hash.ensures ∙ sym (tag_of_hash c.args.key.now)) in
     let change = subst (λ (p : ℕ). ChangesChain (g.W.OwnerWords.owner c.write_item.new.words) (g.W.OwnerWords.owner c.place.new.words) c.args.bucket
-        (entries_of (g.W.OwnerWords.owner c.write_item.new.words) c.args.bucket ++ entry_of c.tag_of.result p ∷ [])) c.from-2.ensures c.place.ensures.entries in
+    (entries_of (g.W.OwnerWords.owner c.write_item.new.words) c.args.bucket ++ entry_of c.tag_of.result p ∷ [])) c.from-2.ensures c.place.ensures.entries in
     taken.new_step o c.requires.kept index heap parts c.args.key.now c.args.value.now w_is (λ k. omega (arith, c.type_inv.key k))
     c.args.bucket sought.bucket c.requires.unworn needs c.take.new.self c.in-Some.place cut c.take.ensures.blocks (c.args.self.now.accepted + 1)
     (g.W.OwnerWords.owner c.begin_marked.new.words) events c.begin_marked.ensures.kept
