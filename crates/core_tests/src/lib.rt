@@ -3,3 +3,5 @@
 
 #[cfg(test)]
 mod cache_put;
+#[cfg(test)]
+mod one_spare;

@@ -12,7 +12,7 @@ returns c =
     let owner = c.in_ok-words.words.seat.me.0.owner in
     let made = c.in_ok-words.ensures.made ∙ ap as_made c.of.ensures.same in
     IfOk-weaker c.new-2.result
-      (λ p. p.words.seat.me.0.owner ≡ owner)
-      (λ p. IsNew options (record { options = options_in p.words.seat.me.0.owner; state = state_in p.words.seat.me.0.owner }))
-      (λ p same. subst (λ (o : OwnerState). IsNew options (record { options = options_in o; state = state_in o })) (sym (same ∙ made)) (made_new options))
-      c.new-2.ensures.owner
+    (λ p. p.words.seat.me.0.owner ≡ owner)
+    (λ p. IsNew options (record { options = options_in p.words.seat.me.0.owner; state = state_in p.words.seat.me.0.owner }))
+    (λ p same. subst (λ (o : OwnerState). IsNew options (record { options = options_in o; state = state_in o })) (sym (same ∙ made)) (made_new options))
+    c.new-2.ensures.owner
