@@ -5,3 +5,5 @@
 mod cache_put;
 #[cfg(test)]
 mod one_spare;
+#[cfg(test)]
+mod same_as_machine;
