@@ -14,7 +14,7 @@ use Rattle.epoch_core.specs.OwnerState.{stamp_in, link_in, state_in, bucket_in, 
 use Rattle.epoch_core.specs.Chain.{IsAmong, InChain, IsDense, HasChains}
 use Rattle.epoch_core.specs.LiveEntry.{IsLiveItem, HasLiveEntry}
 use Rattle.epoch_core.specs.StandsFor.{Has, Spells, room_in, IsInRoom, RoomsApart, HasChain, StandsFor}
-use Rattle.epoch_core.proofs.Reach.{IsReached, by_entry, by_link, by_item}
+use Rattle.epoch_core.specs.Reach.{IsReached, by_entry, by_link, by_item}
 
 -- the state with other words, another history and another phase
 abbrev pub changed : OwnerState → List ℕ → History → Phase → OwnerState
@@ -137,6 +137,15 @@ module _ (o : OwnerState) (words : List ℕ) (history : History) (phase : Phase)
       item = λ i x. sym (item_same c slot entry i h (omega arith)) ∙ sp.item i x;
       in_room = omega arith;
     }
+
+    -- and so what is reached now was reached before
+    pub reach_back : (i : ℕ) → IsReached p b i → IsReached o b i
+    reach_back i (by_entry c slot h x is) = by_entry c slot (chain_back c h) x is
+    reach_back i (by_link c h is) = by_link c (chain_back c h) is
+    reach_back i (by_item c slot entry j h x is) =
+        let before = back c slot entry h in
+        let same = room c slot entry before in
+        by_item c slot entry j before (omega arith) is
 
   -- Chains of other buckets may grow, but not by a spare of this one: the fact on all chains says so.
   has_chain_on : (mode : Mode) (b : ℕ) → Carries o words history phase b → IsMain o.shape b → HasChains p → HasChain mode o b → HasChain mode p b

@@ -1,5 +1,5 @@
 -- Each event of an owner keeps the owner's fact.
-use Rattle.std.proofs.Common.{◌≡◌, ℕ, ◌+◌, ◌<◌, ◌≤◌, ◌≢◌, Bool, cond, nat_eq, if◌then◌else◌, List, [], ◌∷◌, ◌++◌, length, count_by, get_or, refl, sym, ap, ◌∙◌, subst, arith, length-set, get_or-set_same, length-append, append_assoc}
+use Rattle.std.proofs.Common.{◌≡◌, ℕ, ◌+◌, ◌%◌, ◌<◌, ◌≤◌, ◌≢◌, Bool, cond, nat_eq, if◌then◌else◌, List, [], ◌∷◌, ◌++◌, length, count_by, get_or, refl, sym, ap, ◌∙◌, subst, arith, length-set, get_or-set_same, length-append, append_assoc}
 use mathlib.Core.Logic.{dite}
 use native.Mathlib.Decide.{ℕ_discrete}
 use Rattle.std.proofs.lemmas.List.Sums.{sum_by_push}
@@ -22,17 +22,19 @@ use Rattle.epoch_core.specs.OwnerState.{stamp_in, epoch_in, options_in, bucket_i
 use Rattle.epoch_core.specs.LiveEntry.{IsLiveItem, HasLiveEntry}
 use Rattle.epoch_core.specs.StandsFor.{Has, RoomsApart, StandsFor}
 use Rattle.epoch_core.specs.Events.{MayBegin, MayMark, MayEnd, IsAllowed, place_of, word_after, words_after, history_after, phase_after, after}
+use Rattle.epoch_core.specs.Failures.{FailsFit}
 use Rattle.epoch_core.specs.Kept.{IsLawfulHistory, PhaseFits, Kept}
 use Rattle.epoch_core.proofs.Places.{no_epoch, item_no_epoch}
-use Rattle.epoch_core.proofs.Reach.{IsReached, by_entry, by_link, by_item}
-use Rattle.epoch_core.proofs.Marked.{bit, bit_same, bit_else, bit_is, ends_main}
+use Rattle.epoch_core.specs.Reach.{IsReached, by_entry, by_link, by_item}
+use Rattle.epoch_core.proofs.Marked.{bit, bit_same, bit_else, bit_is, calm, ends_main}
+use Rattle.epoch_core.proofs.Failing.{fails_rise}
 use Rattle.epoch_core.proofs.Spares.{spares}
 use Rattle.epoch_core.proofs.Log.{log_spares}
 use Rattle.epoch_core.proofs.Machine.{all_more, marked_back, marked_on, marked_live}
 use Rattle.epoch_core.proofs.Carried.{Carries, stands_on}
 use Rattle.epoch_core.proofs.Chains.{other_word, chains_after}
 
-count_more : {X : Type 0} (p : X → Bool) (xs : List X) (x : X) → count_by p (xs ++ x ∷ []) ≡ count_by p xs + (if p x then 1 else 0)
+pub count_more : {X : Type 0} (p : X → Bool) (xs : List X) (x : X) → count_by p (xs ++ x ∷ []) ≡ count_by p xs + (if p x then 1 else 0)
 count_more p xs x = sum_by_push (λ y. cond (p y) 1 0) xs x
 
 marked_is : (phase : Phase) (b : ℕ) → marked_in phase b ≡ 1 → (write : Write) × (before : History) × (phase ≡ Marked b write before)
@@ -70,6 +72,27 @@ module _ (o : OwnerState) (s : Kept o) where
       let at : place_of o.shape e ≡ epoch_at c = is ∙ ap epoch_at (sym same) in
       subst (λ (z : ℕ). get_or (after e o).words z 0 ≡ get_or o.words z 0 + 1) at
       (this_word e (omega arith) ∙ adds (get_or o.words (place_of o.shape e) 0))
+
+  adds_rise : (e : Event) (b c : ℕ) → place_of o.shape e ≡ epoch_at b → IsMain o.shape b → ((n : ℕ) → word_after e n ≡ n + 1)
+      → epoch_in o c ≤ epoch_in (after e o) c
+  adds_rise e b c is l adds = dite (ℕ_discrete c b)
+      (λ here. let more = epoch_here e b c is l adds here in omega arith)
+      (λ n. let same = epoch_else e b c is n in omega arith)
+
+  -- no epoch falls
+  pub rises : (e : Event) → IsAllowed e o → (c : ℕ) → IsMain o.shape c → epoch_in o c ≤ epoch_in (after e o) c
+  rises (Begins b) a c l = adds_rise (Begins b) b c refl a.main (λ n. refl)
+  rises (Marks write n) a c l = let same = other_word o s (Marks write n) (epoch_at c) (λ is. omega arith) in omega arith
+  rises (PutsWord q x) a c l = let same = other_word o s (PutsWord q x) (epoch_at c) (λ is. item_no_epoch o.shape c q l (sym is)) in omega arith
+  rises (PutsEntry d slot entry) a c l =
+      let small = a.in_bucket in
+      let same = other_word o s (PutsEntry d slot entry) (epoch_at c) (λ is. no_epoch o.shape c d slot l (omega arith) (sym is)) in omega arith
+  rises (PutsLink d next) a c l =
+      let same = other_word o s (PutsLink d next) (epoch_at c) (λ is. no_epoch o.shape c d 15 l (omega arith) (sym is)) in omega arith
+  rises (Ends b) a c l = adds_rise (Ends b) b c refl (ends_main o s o.phase refl b a.marked) (λ n. refl)
+
+  fails_after : (e : Event) → IsAllowed e o → FailsFit (after e o) o.met.fails
+  fails_after e a = fails_rise o (after e o) refl (rises e a) o.met.fails s.met_fails
 
   -- Events that change neither history nor stamp carry what the words stand for in unmarked buckets.
   module _ (e : Event) (a : IsAllowed e o) (history : (after e o).history ≡ o.history) (stamp : stamp_in (after e o) ≡ stamp_in o) where
@@ -119,6 +142,7 @@ module _ (o : OwnerState) (s : Kept o) where
         state = still_state e a history same_stamp (λ b none. ap (λ (z : Phase). marked_in z b) (sym phase) ∙ none);
         phase = phase_same e history phase;
         met_seen = subst (λ (z : History). IsPrefix o.met.seen z) (sym history) s.met_seen;
+        met_fails = fails_after e a;
       }
 
   -- a write begins
@@ -143,6 +167,7 @@ module _ (o : OwnerState) (s : Kept o) where
         state = still_state (Begins b) a refl same_stamp (λ c unmarked. none c);
         phase = (a.main, a.not_worn);
         met_seen = s.met_seen;
+        met_fails = fails_after (Begins b) a;
       }
 
   -- a write is marked
@@ -205,6 +230,7 @@ module _ (o : OwnerState) (s : Kept o) where
                 λ d slot entry d' slot' entry'. (s.state c l (none c)).apart other d slot entry d' slot' entry' m differs (none other),
               ));
           phase = (refl, refl);
+          met_fails = fails_after (Marks write n) a;
           met_seen = (s.met_seen.0 ++ write ∷ [], ap (λ (z : History). z ++ write ∷ []) s.met_seen.1 ∙ append_assoc o.met.seen s.met_seen.0 (write ∷ []));
         }
 
@@ -263,7 +289,22 @@ module _ (o : OwnerState) (s : Kept o) where
           (λ other m n unmarked'. (ended_carries other m, λ d slot entry d' slot' entry'. rooms_apart c other d slot entry d' slot' entry' l m n));
       phase = tt;
       met_seen = s.met_seen;
+      met_fails = fails_after (Ends b) a;
     }
+
+  -- each event carries what the words of a bucket with an even epoch stand for
+  pub carries : (e : Event) → IsAllowed e o → (b : ℕ) → IsMain o.shape b → epoch_in o b % 2 ≡ 0
+      → Carries o (words_after e o) (history_after e o.history) (phase_after e o) b
+  carries (Begins c) a b l even = still (Begins c) a refl (other_word o s (Begins c) stamp_at (λ is. omega arith)) b l (calm o s b l even).1
+  carries (Marks write n) a b l even =
+      let here : begun_in o.phase b ≡ bit (bucket_in o write.key) b = ap (λ (z : Phase). begun_in z b) a.begun in
+      let none = (calm o s b l even).0 in
+      marked_carries write n a b l (λ same. let one = bit_same (bucket_in o write.key) b (sym same) in omega arith)
+  carries (PutsWord q x) a b l even = still (PutsWord q x) a refl (other_word o s (PutsWord q x) stamp_at (λ is. omega arith)) b l (calm o s b l even).1
+  carries (PutsEntry c slot entry) a b l even =
+      still (PutsEntry c slot entry) a refl (other_word o s (PutsEntry c slot entry) stamp_at (λ is. omega arith)) b l (calm o s b l even).1
+  carries (PutsLink c next) a b l even = still (PutsLink c next) a refl (other_word o s (PutsLink c next) stamp_at (λ is. omega arith)) b l (calm o s b l even).1
+  carries (Ends c) a b l even = ended_carries c a b l
 
   pub kept_after : (e : Event) → IsAllowed e o → Kept (after e o)
   kept_after (Begins b) a = begins b a

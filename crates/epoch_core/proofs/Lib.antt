@@ -1,8 +1,8 @@
 pub mod Shapes
 pub mod Places
 pub mod Made
-pub mod Reach
 pub mod Marked
+pub mod Failing
 pub mod Spares
 pub mod Carried
 pub mod Walks
@@ -18,3 +18,9 @@ pub mod Keys
 pub mod EventWords
 pub mod CacheBuckets
 pub mod StoreBuckets
+pub mod Prefixes
+pub mod Growing
+pub mod Spelling
+pub mod LoadKeeps
+pub mod Meeting
+pub mod JoinKeeps

@@ -18,6 +18,7 @@ use Rattle.epoch_core.specs.Chain.{InChain}
 use Rattle.epoch_core.specs.LiveEntry.{HasLiveEntry}
 use Rattle.epoch_core.specs.StandsFor.{Has, HasChain, StandsFor}
 use Rattle.epoch_core.specs.Kept.{Kept}
+use Rattle.epoch_core.proofs.Failing.{in_none}
 
 zeros : (n i : ℕ) → ◌≡◌ {A = ℕ} (get_or (replicate n 0) i 0) 0
 zeros zero i = refl
@@ -84,4 +85,5 @@ module _ (shape : Shape) (valid : IsValidShape shape) where
     state = λ b l none. stands_for b;
     phase = tt;
     met_seen = ([], refl);
+    met_fails = λ f has. absurd (in_none f has);
   }

@@ -1,5 +1,5 @@
 -- The bucket whose write is marked, and the buckets that its write may change.
-use Rattle.std.proofs.Common.{◌≡◌, ℕ, zero, suc, ◌<◌, ◌≤◌, ◌≢◌, inl, inr, ◌⊎◌, List, Bool, true, false, if◌then◌else◌, nat_eq, eq-eqb, ne_eqb, sym, ap, subst, arith}
+use Rattle.std.proofs.Common.{◌≡◌, ℕ, zero, suc, ◌%◌, ◌<◌, ◌≤◌, ◌≢◌, inl, inr, ◌⊎◌, List, Bool, true, false, if◌then◌else◌, nat_eq, eq-eqb, ne_eqb, refl, sym, ap, subst, arith}
 use Rattle.std.proofs.Math.Nat.{mod-lt}
 use Rattle.std.proofs.lemmas.Nat.{pow_pos}
 use native.Mathlib.Decide.{ℕ_discrete}
@@ -10,7 +10,7 @@ use Rattle.epoch_core.specs.declared.state.OwnerState.{OwnerState}
 use Rattle.epoch_core.specs.declared.state.Phase.{Phase}
 use Rattle.epoch_core.specs.declared.state.Phase.TheVariants.{Idle, Begun, Marked}
 use Rattle.epoch_core.specs.Shape.{IsMain, IsBucket}
-use Rattle.epoch_core.specs.OwnerState.{link_in, marked_in}
+use Rattle.epoch_core.specs.OwnerState.{epoch_in, link_in, begun_in, marked_in}
 use Rattle.epoch_core.specs.Chain.{IsAmong, InChain, IsFreeSpare}
 use Rattle.epoch_core.specs.Events.{WhenMarked}
 use Rattle.epoch_core.specs.Kept.{PhaseFits, Kept}
@@ -30,7 +30,32 @@ bit_le c b = elim (nat_eq c b) as (λ (z : Bool). (if z then 1 else 0) ≤ 1) [ 
 pub bit_is : (c b : ℕ) → bit c b ≡ 1 → c ≡ b
 bit_is c b e = dite (ℕ_discrete c b) (λ is. is) (λ n. let zero = bit_else c b n in absurd (omega arith))
 
+begun_le : (phase : Phase) (b : ℕ) → begun_in phase b ≤ 1
+begun_le Idle b = omega arith
+begun_le (Begun c) b = bit_le c b
+begun_le (Marked c write before) b = omega arith
+
+marked_le : (phase : Phase) (b : ℕ) → marked_in phase b ≤ 1
+marked_le Idle b = omega arith
+marked_le (Begun c) b = omega arith
+marked_le (Marked c write before) b = bit_le c b
+
+one_only : (phase : Phase) (b : ℕ) → marked_in phase b ≡ 1 → begun_in phase b ≡ 0
+one_only Idle b one = refl
+one_only (Begun c) b one = absurd (omega arith)
+one_only (Marked c write before) b one = refl
+
 module _ (o : OwnerState) (s : Kept o) where
+  -- at an even epoch no write is begun or marked in the bucket
+  pub calm : (b : ℕ) → IsMain o.shape b → epoch_in o b % 2 ≡ 0 → (begun_in o.phase b ≡ 0) × (marked_in o.phase b ≡ 0)
+  calm b l even =
+      let e = s.epochs b l in
+      let begun = begun_le o.phase b in
+      let marked = marked_le o.phase b in
+      dite (ℕ_discrete (marked_in o.phase b) 1)
+      (λ one. let none = one_only o.phase b one in absurd (omega arith))
+      (λ not. (omega arith, omega arith))
+
   pub among_bucket : (n b c : ℕ) → IsBucket o.shape b → IsAmong o n b c → IsBucket o.shape c
   among_bucket zero b c l h = absurd h
   among_bucket (suc n) b c l (inl e) = subst (IsBucket o.shape) e l

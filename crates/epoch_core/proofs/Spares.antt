@@ -15,7 +15,7 @@ use Rattle.epoch_core.specs.Chain.{InChain}
 use Rattle.epoch_core.specs.LiveEntry.{HasLiveEntry}
 use Rattle.epoch_core.specs.StandsFor.{room_in, IsInRoom}
 use Rattle.epoch_core.specs.Events.{WhenMarked, BelongsTo, IsAllowed, place_of}
-use Rattle.epoch_core.proofs.Reach.{IsReached, by_entry, by_link, by_item}
+use Rattle.epoch_core.specs.Reach.{IsReached, by_entry, by_link, by_item}
 use Rattle.epoch_core.specs.Kept.{Kept}
 use Rattle.epoch_core.proofs.Marked.{chain_bucket, marked_not, ends_main, its_bucket, its_inside}
 use Rattle.epoch_core.proofs.Places.{same_bucket, no_epoch, no_stamp, no_item, item_no_epoch}

@@ -12,6 +12,7 @@ use Rattle.epoch_core.specs.Layout.{word_count}
 use Rattle.epoch_core.specs.OwnerState.{stamp_in, epoch_in, options_in, bucket_in, writes_in, begun_in, marked_in}
 use Rattle.epoch_core.specs.Chain.{HasChains}
 use Rattle.epoch_core.specs.StandsFor.{StandsFor}
+use Rattle.epoch_core.specs.Failures.{FailsFit}
 
 -- a history of accepted writes whose keys and values fit, no more than the partition may bear
 pub record IsLawfulHistory (shape : Shape) (history : History) : Type 0 where
@@ -39,3 +40,4 @@ pub record Kept (o : OwnerState) : Type 0 where
   pub phase : PhaseFits o o.phase
   -- what a seat that was met had seen begins the history
   pub met_seen : IsPrefix o.met.seen o.history
+  pub met_fails : FailsFit o o.met.fails

@@ -5,7 +5,14 @@ pub mod Chain
 pub mod LiveEntry
 pub mod StandsFor
 pub mod Events
+pub mod Reach
+pub mod Failures
 pub mod ItemAt
 pub mod Kept
+pub mod ReaderState
+pub mod Spelt
+pub mod ReaderKept
+pub mod Grows
+pub mod Joins
 pub mod OwnerStep
 pub mod Diary

@@ -8,16 +8,22 @@
 
 mod event;
 mod item;
+mod lending;
 mod partition;
 mod plain;
+mod reader;
+mod reading;
 mod shape;
 mod state;
 mod words;
 
 pub use event::{Event, OwnerEvent};
 pub use item::{holds_key, write_item};
+pub use lending::LendWords;
 pub use partition::Partition;
 pub use plain::{Alone, Blank, Diary, PlainWords};
+pub use reader::{Cut, Known, ReaderState, Try};
+pub use reading::ReaderWords;
 pub use shape::{Shape, WordAt};
 pub use state::{Failure, Met, OwnerState, Phase};
 pub use words::OwnerWords;

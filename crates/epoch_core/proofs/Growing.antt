@@ -1,0 +1,87 @@
+-- The central law: an event leaves the words in reach of a bucket whose even epoch stands still. So whatever is kept of a reader
+-- is kept past it.
+use Rattle.std.proofs.Common.{◌≡◌, ℕ, ◌*◌, ◌%◌, ◌≤◌, [], ◌∷◌, refl, sym, ap, ◌∙◌, subst, arith, Option, Some, None}
+use Rattle.mica_model.specs.History.{History, IsPrefix, writes_to_bucket}
+use Rattle.epoch_core.specs.declared.shape.Shape.{Shape}
+use Rattle.epoch_core.specs.declared.state.OwnerState.{OwnerState}
+use Rattle.epoch_core.specs.declared.reader.Cut.{Cut}
+use Rattle.epoch_core.specs.declared.reader.Try.{Try}
+use Rattle.epoch_core.specs.declared.reader.ReaderState.{ReaderState}
+use Rattle.epoch_core.specs.declared.event.Event.{Event}
+use Rattle.epoch_core.specs.declared.event.Event.TheVariants.{Begins, Marks, PutsWord, PutsEntry, PutsLink, Ends}
+use Rattle.epoch_core.specs.Shape.{options_of, IsMain}
+use Rattle.epoch_core.specs.OwnerState.{epoch_in}
+use Rattle.epoch_core.specs.Events.{IsAllowed, words_after, history_after, phase_after, after}
+use Rattle.epoch_core.specs.Kept.{Kept}
+use Rattle.epoch_core.specs.Grows.{Grows}
+use Rattle.epoch_core.specs.ReaderKept.{IsSpelt, CutKept, TryKept, CurrentKept, ReaderKept}
+use Rattle.epoch_core.proofs.Prefixes.{prefix_same, prefix_then}
+use Rattle.epoch_core.proofs.Failing.{fails_rise}
+use Rattle.epoch_core.proofs.Carried.{reach_back}
+use Rattle.epoch_core.proofs.Keeps.{rises, carries}
+
+goes_on : (e : Event) (history : History) → IsPrefix history (history_after e history)
+goes_on (Begins b) history = prefix_same history
+goes_on (Marks write n) history = (write ∷ [], refl)
+goes_on (PutsWord p x) history = prefix_same history
+goes_on (PutsEntry c slot entry) history = prefix_same history
+goes_on (PutsLink c next) history = prefix_same history
+goes_on (Ends b) history = prefix_same history
+
+pub grows : (o : OwnerState) → Kept o → (e : Event) → IsAllowed e o → Grows o (after e o)
+grows o s e a = record {
+  shape = refl;
+  history = goes_on e o.history;
+  rises = rises o s e a;
+  still = λ b l even same place reached.
+      let k = carries o s e a b l even in
+      let before = reach_back o (words_after e o) (history_after e o.history) (phase_after e o) b k place reached in
+      (before, k.word place before);
+}
+
+-- What is kept of a reader is kept past what grows.
+
+module _ (o p : OwnerState) (g : Grows o p) where
+  module _ (t : Try) (k : TryKept o t) where
+    -- where the epoch is the first one after, it was so before
+    unmoved : epoch_in p t.bucket ≡ t.first → epoch_in o t.bucket ≡ t.first
+    unmoved is = let rise = g.rises t.bucket k.main in let low = k.first in omega arith
+
+    cut_grows : (at : Option Cut) → CutKept o t at → CutKept p t at
+    cut_grows None c = tt
+    cut_grows (Some at) c = (
+      prefix_then at.history o.history p.history c.0 g.history,
+      λ is. subst (λ (z : Shape). IsSpelt z t.bucket at) (sym g.shape) (c.1 (unmoved is)),
+    )
+
+    try_grows : TryKept p t
+    try_grows = let rise = g.rises t.bucket k.main in let low = k.first in record {
+      main = subst (λ (z : Shape). IsMain z t.bucket) (sym g.shape) k.main;
+      even = k.even;
+      first = omega arith;
+      loads = λ is place x has reached.
+          let was = unmoved is in
+          let even = ap (λ (z : ℕ). z % 2) was ∙ k.even in
+          let same = g.still t.bucket k.main even (is ∙ sym was) place reached in
+          same.1 ∙ k.loads was place x has same.0;
+      at = cut_grows t.at k.at;
+    }
+
+  current_grows : (current : Option Try) → CurrentKept o current → CurrentKept p current
+  current_grows None k = tt
+  current_grows (Some t) k = try_grows t k
+
+  pub reader_grows : (r : ReaderState) → ReaderKept o r → ReaderKept p r
+  reader_grows r k = record {
+    shape = k.shape ∙ sym g.shape;
+    seen = prefix_then r.seen o.history p.history k.seen g.history;
+    done = k.done;
+    met = k.met;
+    ended = λ b main.
+        let was : IsMain o.shape b = subst (λ (z : Shape). IsMain z b) g.shape main in
+        let rise = g.rises b was in
+        let ended = k.ended b was in
+        subst (λ (z : Shape). 2 * writes_to_bucket (options_of z) r.done b ≤ epoch_in p b) (sym g.shape) (omega arith);
+    fails = fails_rise o p g.shape g.rises r.fails k.fails;
+    current = current_grows r.current k.current;
+  }

@@ -1,0 +1,153 @@
+-- Each load of a reader keeps what is kept of it.
+use Rattle.std.proofs.Common.{◌≡◌, ℕ, ◌*◌, ◌%◌, ◌≤◌, Bool, List, [], ◌∷◌, ◌++◌, inl, inr, get_or, refl, sym, ap, ◌∙◌, subst, arith, le_refl, eq-eqb, ne_eqb, Option, Some, None, if◌then◌else◌}
+use mathlib.Core.Logic.{dite}
+use native.Mathlib.Decide.{ℕ_discrete}
+use Rattle.mica_model.specs.History.{writes_to_bucket}
+use Rattle.epoch_core.specs.declared.shape.Shape.{Shape}
+use Rattle.epoch_core.specs.declared.state.Failure.{Failure}
+use Rattle.epoch_core.specs.declared.state.OwnerState.{OwnerState}
+use Rattle.epoch_core.specs.declared.reader.Cut.{Cut}
+use Rattle.epoch_core.specs.declared.reader.Try.{Try}
+use Rattle.epoch_core.specs.declared.reader.ReaderState.{ReaderState}
+use Rattle.epoch_core.specs.Shape.{options_of, IsMain}
+use Rattle.epoch_core.specs.OwnerState.{epoch_in}
+use Rattle.epoch_core.specs.Kept.{Kept}
+use Rattle.epoch_core.specs.Failures.{failure, FailsFit}
+use Rattle.epoch_core.specs.ReaderState.{new_try, opened, with_load, loaded, with_cut, stamped, fails_after, shut}
+use Rattle.epoch_core.specs.ReaderKept.{CutKept, CurrentKept, ReaderKept, TellsCut, TellsTry, Tells}
+use Rattle.epoch_core.proofs.Prefixes.{prefix_same, prefix_then}
+use Rattle.epoch_core.proofs.Failing.{in_cons, in_none, in_both, fails_more}
+use Rattle.epoch_core.proofs.Marked.{calm}
+use Rattle.epoch_core.proofs.Spelling.{spells}
+
+module _ (o : OwnerState) (s : Kept o) (r : ReaderState) (k : ReaderKept o r) where
+  -- what a reader knows of an epoch before it loads it
+  pub least_epoch : (b : ℕ) → IsMain r.shape b → 2 * writes_to_bucket (options_of r.shape) r.done b ≤ epoch_in o b
+  least_epoch b main =
+      subst (λ (z : Shape). 2 * writes_to_bucket (options_of z) r.done b ≤ epoch_in o b) (sym k.shape)
+      (k.ended b (subst (λ (z : Shape). IsMain z b) k.shape main))
+
+  -- the first epoch
+
+  pub opens : (b : ℕ) → IsMain r.shape b → ReaderKept o (opened b (epoch_in o b) r)
+  opens b l =
+      let n : ℕ = epoch_in o b in
+      let main : IsMain o.shape b = subst (λ (z : Shape). IsMain z b) k.shape l in
+      let more : List Failure = r.fails ++ failure b n n ∷ [] in record {
+        shape = k.shape;
+        seen = k.seen;
+        done = k.done;
+        met = k.met;
+        ended = k.ended;
+        fails = dite (ℕ_discrete (n % 2) 0)
+            (λ even. subst (λ (z : Bool). FailsFit o (if z then r.fails else more)) (sym (eq-eqb (n % 2) 0 even)) k.fails)
+            (λ odd. subst (λ (z : Bool). FailsFit o (if z then r.fails else more)) (sym (ne_eqb (n % 2) 0 odd))
+            (fails_more o r.fails (failure b n n) k.fails (main, le_refl n, (le_refl n, inl (omega arith)))));
+        current = dite (ℕ_discrete (n % 2) 0)
+            (λ even. subst (λ (z : Bool). CurrentKept o (if z then Some (new_try b n) else None)) (sym (eq-eqb (n % 2) 0 even))
+            record { main = main; even = even; first = le_refl n; loads = λ _ place x has. absurd (in_none (place, x) has); at = tt })
+            (λ odd. subst (λ (z : Bool). CurrentKept o (if z then Some (new_try b n) else None)) (sym (ne_eqb (n % 2) 0 odd)) tt);
+      }
+
+  -- an entry, a link or an item word
+
+  load_current : (place : ℕ) (current : Option Try) → CurrentKept o current → CurrentKept o (with_load place (get_or o.words place 0) current)
+  load_current place None t = tt
+  load_current place (Some t) g = record {
+    main = g.main;
+    even = g.even;
+    first = g.first;
+    loads = λ is at x has reached. elim (in_both t.loads ((place, get_or o.words place 0) ∷ []) (at, x) has) [
+      | inl old ↦ g.loads is at x old reached
+      | inr new ↦ elim (in_cons (place, get_or o.words place 0) (at, x) [] new) [
+        | inl same ↦ ap (λ (z : ℕ). get_or o.words z 0) (sym (ap (λ (z : ℕ × ℕ). z.0) same)) ∙ ap (λ (z : ℕ × ℕ). z.1) same
+        | inr none ↦ absurd (in_none (at, x) none)
+      ]
+    ];
+    at = cut_same t.at g.at;
+  }
+    where
+      cut_same : (at : Option Cut) → CutKept o t at → CutKept o (record t { loads = t.loads ++ (place, get_or o.words place 0) ∷ [] }) at
+      cut_same None c = tt
+      cut_same (Some at) c = c
+
+  pub loads : (place : ℕ) → ReaderKept o (loaded place (get_or o.words place 0) r)
+  loads place = record {
+    shape = k.shape;
+    seen = k.seen;
+    done = k.done;
+    met = k.met;
+    ended = k.ended;
+    fails = k.fails;
+    current = load_current place r.current k.current;
+  }
+
+  -- the stamp
+
+  stamp_current : (current : Option Try) → CurrentKept o current → CurrentKept o (with_cut o.history current)
+  stamp_current None t = tt
+  stamp_current (Some t) g = record {
+    main = g.main;
+    even = g.even;
+    first = g.first;
+    loads = g.loads;
+    at = (
+      prefix_same o.history,
+      λ is.
+          let even = ap (λ (z : ℕ). z % 2) is ∙ g.even in
+          spells o s t g is (s.state t.bucket g.main (calm o s t.bucket g.main even).1),
+    );
+  }
+
+  pub stamps : ReaderKept o (stamped o.history r)
+  stamps = record {
+    shape = k.shape;
+    seen = prefix_same o.history;
+    done = prefix_then r.done r.seen o.history k.done k.seen;
+    met = λ m has. let known = k.met m has in (prefix_then m.seen r.seen o.history known.0 k.seen, known.1);
+    ended = k.ended;
+    fails = k.fails;
+    current = stamp_current r.current k.current;
+  }
+
+  -- the last epoch
+
+  shut_fails : (current : Option Try) (b : ℕ) → CurrentKept o current → ((t : Try) → current ≡ Some t → t.bucket ≡ b)
+      → FailsFit o (fails_after (epoch_in o b) current r.fails)
+  shut_fails None b g is = k.fails
+  shut_fails (Some t) b g is =
+      let n : ℕ = epoch_in o b in
+      let here : t.bucket ≡ b = is t refl in
+      let same = ap (epoch_in o) here in
+      let first = g.first in
+      let more : List Failure = r.fails ++ failure t.bucket t.first n ∷ [] in dite (ℕ_discrete n t.first)
+      (λ still. subst (λ (z : Bool). FailsFit o (if z then r.fails else more)) (sym (eq-eqb n t.first still)) k.fails)
+      (λ moved. subst (λ (z : Bool). FailsFit o (if z then r.fails else more)) (sym (ne_eqb n t.first moved))
+      (fails_more o r.fails (failure t.bucket t.first n) k.fails (g.main, omega arith, (omega arith, inr (omega arith)))))
+
+  pub shuts : (b : ℕ) → ((t : Try) → r.current ≡ Some t → t.bucket ≡ b) → ReaderKept o (shut (epoch_in o b) r)
+  shuts b is = record {
+    shape = k.shape;
+    seen = k.seen;
+    done = k.done;
+    met = k.met;
+    ended = k.ended;
+    fails = shut_fails r.current b k.current is;
+    current = tt;
+  }
+
+  -- and what it tells
+
+  tell_cut : (t : Try) (at : Option Cut) → CutKept o t at → epoch_in o t.bucket ≡ t.first → TellsCut o.shape t.bucket at
+  tell_cut t None c is = tt
+  tell_cut t (Some at) c is = c.1 is
+
+  tell_try : (current : Option Try) (b : ℕ) → CurrentKept o current → ((t : Try) → current ≡ Some t → t.bucket ≡ b) → TellsTry o.shape (epoch_in o b) current
+  tell_try None b g is = tt
+  tell_try (Some t) b g is =
+      let same = ap (epoch_in o) (is t refl) in
+      let first = g.first in
+      (omega arith, λ still. tell_cut t t.at g.at (same ∙ still))
+
+  pub tells : (b : ℕ) → ((t : Try) → r.current ≡ Some t → t.bucket ≡ b) → Tells (epoch_in o b) r
+  tells b is = subst (λ (z : Shape). TellsTry z (epoch_in o b) r.current) (sym k.shape) (tell_try r.current b k.current is)

@@ -1,0 +1,37 @@
+-- Prefixes of histories.
+use Rattle.std.proofs.Common.{◌≡◌, ◌≤◌, [], ◌∷◌, ◌++◌, Bool, true, false, nat_lt, if◌then◌else◌, length, refl, sym, ap, ◌∙◌, arith, append_assoc}
+use Rattle.std.proofs.lemmas.Bool.{ltb-true, ltb-false}
+use Rattle.std.proofs.lemmas.List.{append-nil}
+use Rattle.mica_model.specs.History.{History, IsPrefix}
+use Rattle.epoch_core.specs.Joins.{longer}
+
+pub prefix_same : (h : History) → IsPrefix h h
+prefix_same h = ([], sym (append-nil h))
+
+pub prefix_then : (a b c : History) → IsPrefix a b → IsPrefix b c → IsPrefix a c
+prefix_then a b c x y = (x.0 ++ y.0, y.1 ∙ (ap (λ (z : History). z ++ y.0) x.1 ∙ append_assoc a x.0 y.0))
+
+-- of two prefixes of one history the shorter begins the longer
+
+tails : (a b x y : History) → a ++ x ≡ b ++ y → length b ≤ length a → IsPrefix b a
+tails a [] x y e l = (a, refl)
+tails [] (w ∷ b) x y e l = absurd (omega arith)
+tails (v ∷ a) (w ∷ b) x y e l =
+    let rest : a ++ x ≡ b ++ y = cc in
+    let head : v ≡ w = cc in
+    let t = tails a b x y rest (omega arith) in
+    (t.0, λ i. head i ∷ t.1 i)
+
+pub shorter_begins : (h a b : History) → IsPrefix a h → IsPrefix b h → length b ≤ length a → IsPrefix b a
+shorter_begins h a b s t l = tails a b s.0 t.0 (sym s.1 ∙ t.1) l
+
+-- whatever holds of the longer one where both begin it
+pub longer_as : (P : History → Type 0) (h a b : History) → IsPrefix a h → IsPrefix b h → (IsPrefix b a → P a) → (IsPrefix a b → P b) → P (longer a b)
+longer_as P h a b s t first second = by_test (nat_lt (length a) (length b)) refl
+  where
+    by_test : (z : Bool) → nat_lt (length a) (length b) ≡ z → P (if z then b else a)
+    by_test true e = second (shorter_begins h b a t s (omega (arith, ltb-true _ _ e)))
+    by_test false e = first (shorter_begins h a b s t (omega (arith, ltb-false _ _ e)))
+
+pub longer_both : (h a b : History) → IsPrefix a h → IsPrefix b h → IsPrefix (longer a b) h × IsPrefix a (longer a b) × IsPrefix b (longer a b)
+longer_both h a b s t = longer_as (λ (z : History). IsPrefix z h × IsPrefix a z × IsPrefix b z) h a b s t (λ c. (s, prefix_same a, c)) (λ c. (t, c, prefix_same b))

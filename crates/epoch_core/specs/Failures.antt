@@ -1,0 +1,18 @@
+-- Tries that failed.
+use Rattle.std.specs.Prelude.{◌≡◌, ℕ, ◌%◌, ◌<◌, ◌≤◌, ◌⊎◌, List, Contains}
+use Rattle.epoch_core.specs.declared.state.OwnerState.{OwnerState}
+use Rattle.epoch_core.specs.declared.state.Failure.{Failure}
+use Rattle.epoch_core.specs.Shape.{IsMain}
+use Rattle.epoch_core.specs.OwnerState.{epoch_in}
+
+abbrev pub failure : ℕ → ℕ → ℕ → Failure
+failure b first last = record { bucket = b; first = first; last = last }
+
+-- a write was under way, or one came between
+abbrev pub IsFailure : Failure → Type 0
+IsFailure f = (f.first ≤ f.last) × ((f.first % 2 ≡ 1) ⊎ (f.first < f.last))
+
+-- each was of a main bucket whose epoch has come that far
+abbrev pub FailsFit : OwnerState → List Failure → Type 0
+FailsFit o fails = (f : Failure) → Contains fails f
+    → IsMain o.shape f.bucket × (f.last ≤ epoch_in o f.bucket) × IsFailure f

@@ -1,0 +1,86 @@
+-- What the loads of a try spell.
+use Rattle.std.specs.Prelude.{◌≡◌, ◌≢◌, ℕ, zero, suc, ◌+◌, ◌<◌, List, [], ◌∷◌, length, Contains, slice_index, Option, Some, None}
+use Rattle.mica_words.specs.declared.item.TheConstants.{MAX_VALUE_LEN}
+use Rattle.mica_words.specs.Hash.{fnv1a, tag_of}
+use Rattle.mica_words.specs.Entry.{entry_tag, entry_offset}
+use Rattle.mica_words.specs.Header.{header_key_len, header_value_len}
+use Rattle.mica_words.specs.Item.{words_for}
+use Rattle.mica_words.specs.Packing.{packed, unpacked}
+use Rattle.epoch_core.specs.declared.shape.Shape.{Shape}
+use Rattle.epoch_core.specs.Layout.{entry_at, link_at, item_at}
+use Rattle.epoch_core.specs.LiveEntry.{IsLive}
+use Rattle.epoch_core.specs.StandsFor.{IsOffset}
+
+-- places of words, each with what was found there
+abbrev pub Loads : Type 0
+Loads = List (ℕ × ℕ)
+
+abbrev pub HasLoad : Loads → ℕ → ℕ → Type 0
+HasLoad loads place x = Contains loads (place, x)
+
+-- The buckets cs stand behind b, one after another, by links that were loaded: up to one without a link,
+-- or as many as there are spares.
+abbrev pub HasLinks : Shape → Loads → ℕ → ℕ → List ℕ → Type 0
+HasLinks shape loads zero b [] = Unit {0}
+HasLinks shape loads zero b (c ∷ cs) = ⊥
+HasLinks shape loads (suc left) b [] = HasLoad loads (link_at shape b) 0
+HasLinks shape loads (suc left) b (c ∷ cs) =
+    (c ≢ 0) × HasLoad loads (link_at shape b) c × HasLinks shape loads left c cs
+
+-- a word of the item at the offset shows that it is no item of this key, or the offset is out of range
+pub data TellsOther (shape : Shape) (loads : Loads) (p : ℕ) (key : List ℕ) : Type 0 where
+  by_offset : ¬ (IsOffset shape.mode shape.words p) → TellsOther shape loads p key
+  by_key_len : (x : ℕ) → HasLoad loads (item_at shape p) x → header_key_len x ≢ length key
+      → TellsOther shape loads p key
+  by_value_len : (x : ℕ) → HasLoad loads (item_at shape p) x → MAX_VALUE_LEN < header_value_len x
+      → TellsOther shape loads p key
+  by_hash : (x : ℕ) → HasLoad loads (item_at shape (p + 1)) x → x ≢ fnv1a key
+      → TellsOther shape loads p key
+  by_key_word : (i x : ℕ) → i < words_for (length key) → HasLoad loads (item_at shape (p + 2 + i)) x
+      → x ≢ slice_index (packed key) i → TellsOther shape loads p key
+
+-- the words of the item at the offset show that it is this key's, and hold this value
+pub record TellsItem (shape : Shape) (loads : Loads) (p : ℕ) (key value : List ℕ) : Type 0 where
+  pub header : ℕ
+  pub header_load : HasLoad loads (item_at shape p) header
+  pub key_len : header_key_len header ≡ length key
+  pub value_len : header_value_len header ≡ length value
+  pub hash : HasLoad loads (item_at shape (p + 1)) (fnv1a key)
+  pub key_words : (i : ℕ) → i < words_for (length key)
+      → HasLoad loads (item_at shape (p + 2 + i)) (slice_index (packed key) i)
+  pub words : List ℕ
+  pub words_len : length words ≡ words_for (length value)
+  pub value_words : (i : ℕ) → i < length words
+      → HasLoad loads (item_at shape (p + 2 + words_for (length key) + i)) (slice_index words i)
+  pub held : unpacked (length value) words ≡ value
+
+-- A slot of these buckets has the entry, of the key's tag.
+pub record IsEntryOf (shape : Shape) (loads : Loads) (chain key : List ℕ) (entry : ℕ) : Type 0 where
+  pub bucket : ℕ
+  pub slot : ℕ
+  pub in_chain : Contains chain bucket
+  pub in_bucket : slot < 15
+  pub load : HasLoad loads (entry_at shape bucket slot) entry
+  pub tag : entry_tag entry ≡ tag_of key
+
+-- an entry that is not the key's: it has another tag, is not live by the stamp, or names another's item
+pub data IsNoEntryOf (shape : Shape) (loads : Loads) (stamp : ℕ) (key : List ℕ) (entry : ℕ) : Type 0 where
+  by_tag : entry_tag entry ≢ tag_of key → IsNoEntryOf shape loads stamp key entry
+  by_stamp : ¬ (IsLive shape stamp entry) → IsNoEntryOf shape loads stamp key entry
+  by_item : TellsOther shape loads (entry_offset entry) key → IsNoEntryOf shape loads stamp key entry
+
+-- A miss: each slot of the chain was loaded, and had no entry of the key. A hit: some slot had one, live by
+-- the stamp, whose item holds the value.
+abbrev pub IsTold : Shape → Loads → ℕ → List ℕ → List ℕ → Option (List ℕ) → Type 0
+IsTold shape loads stamp chain key None = (c slot : ℕ) → Contains chain c → slot < 15
+    → (entry : ℕ) × HasLoad loads (entry_at shape c slot) entry × IsNoEntryOf shape loads stamp key entry
+IsTold shape loads stamp chain key (Some value) =
+    (entry : ℕ) × IsEntryOf shape loads chain key entry × IsLive shape stamp entry
+    × TellsItem shape loads (entry_offset entry) key value
+
+-- The loads hold the links of the whole chain of the bucket, and by the stamp they tell the key's value, or
+-- that it has none.
+pub record SpellsAnswer (shape : Shape) (loads : Loads) (stamp b : ℕ) (key : List ℕ) (answer : Option (List ℕ)) : Type 0 where
+  pub behind : List ℕ
+  pub links : HasLinks shape loads shape.spares b behind
+  pub told : IsTold shape loads stamp (b ∷ behind) key answer

@@ -1,0 +1,68 @@
+//! The reader's words.
+ghost use Rattle.std.specs.Prelude.{◌≡◌, ℕ, ◌*◌, ◌<◌, ◌≤◌, ◌⊎◌, true, is_some};
+ghost use Rattle.atomic_table.specs.Seated.{TableId};
+ghost use Rattle.mica_model.specs.History.{IsPrefix, stamp_of, writes_to_bucket};
+ghost use Rattle.epoch_core.specs.declared.reader.ReaderState.{ReaderState};
+ghost use Rattle.epoch_core.specs.Shape.{options_of, IsValidShape, IsMain, IsSpare, IsBucket};
+ghost use Rattle.epoch_core.specs.Layout.{entry_at, link_at, item_at};
+ghost use Rattle.epoch_core.specs.ReaderState.{opened, loaded, stamped, shut};
+ghost use Rattle.epoch_core.specs.ReaderKept.{MetKept, Tells};
+
+use crate::shape::Shape;
+
+/// The words of a partition, in the hands of one of its readers. Each method is one load, takes no memory and
+/// refuses nothing, whatever the owner does meanwhile.
+pub trait ReaderWords: Drop {
+    /// What the reader knows.
+    ghost reader: { Self → ReaderState };
+
+    /// The table that the views of the owner and of its readers stand in. No call changes it.
+    ghost home: { Self → TableId };
+
+    fn shape(&self) -> Shape
+        ensures same { result ≡ (reader self.now).shape }
+        ensures valid { IsValidShape result };
+
+    /// Opens a try of a main bucket where its epoch is even. A try that was open is given up.
+    fn first_epoch(&mut self, bucket: u32) -> u64
+        requires { IsMain (reader self.old).shape bucket }
+        ensures event { reader self.new ≡ opened bucket result (reader self.old) }
+        ensures least { 2 * writes_to_bucket (options_of (reader self.old).shape)
+            (reader self.old).done bucket ≤ result }
+        ensures home { home self.new ≡ home self.old };
+
+    fn entry(&mut self, bucket: u32, slot: u32) -> u64
+        requires { IsBucket (reader self.old).shape bucket × (slot < 15) }
+        ensures event { reader self.new
+            ≡ loaded (entry_at (reader self.old).shape bucket slot) result (reader self.old) }
+        ensures home { home self.new ≡ home self.old };
+
+    /// The number of the spare bucket behind this one, or 0.
+    fn link(&mut self, bucket: u32) -> u32
+        requires { IsBucket (reader self.old).shape bucket }
+        ensures event { reader self.new
+            ≡ loaded (link_at (reader self.old).shape bucket) result (reader self.old) }
+        ensures next { (result ≡ 0) ⊎ IsSpare (reader self.old).shape result }
+        ensures home { home self.new ≡ home self.old };
+
+    fn item_word(&mut self, offset: u64) -> u64
+        ensures event { reader self.new
+            ≡ loaded (item_at (reader self.old).shape offset) result (reader self.old) }
+        ensures home { home self.new ≡ home self.old };
+
+    /// The owner's history at this load is what the reader has seen then, and the cut of an open try.
+    fn stamp(&mut self) -> u64
+        ensures event { reader self.new ≡ stamped (reader self.new).seen (reader self.old) }
+        ensures seen { IsPrefix (reader self.old).seen (reader self.new).seen }
+        ensures value { result
+            ≡ stamp_of (options_of (reader self.old).shape) (reader self.new).seen }
+        ensures met { MetKept (reader self.old) }
+        ensures home { home self.new ≡ home self.old };
+
+    /// Loads the epoch of the open try's bucket again, and closes the try.
+    fn last_epoch(&mut self) -> u64
+        requires { is_some (reader self.old).current ≡ true }
+        ensures event { reader self.new ≡ shut result (reader self.old) }
+        ensures tells { Tells result (reader self.old) }
+        ensures home { home self.new ≡ home self.old };
+}

@@ -1,0 +1,52 @@
+-- A search for a key through the entries of a chain.
+use Rattle.std.specs.Prelude.{◌≡◌, ◌≢◌, ℕ, ◌+◌, ◌*◌, ◌<◌, ◌≤◌, ◌⊎◌, List, [], ◌∷◌, Contains, Option, Some, None}
+use Rattle.mica_words.specs.Hash.{tag_of}
+use Rattle.mica_words.specs.Entry.{entry_tag, entry_offset}
+use Rattle.epoch_core.specs.declared.shape.Shape.{Shape}
+use Rattle.epoch_core.specs.declared.reader.ReaderState.{ReaderState}
+use Rattle.epoch_core.specs.Layout.{entry_at}
+use Rattle.epoch_core.specs.Spelt.{Loads, HasLoad, HasLinks, TellsOther, TellsItem, IsEntryOf}
+use Rattle.optimistic_get.specs.Loading.{most_words, loads_in, GoesOn}
+
+-- What was found of an entry: it has another tag, its item is another key's, or it begins no later than the
+-- item that was found first or last.
+pub data IsWeighed (shape : Shape) (loads : Loads) (key : List ℕ) (best : Option ℕ) (entry : ℕ) : Type 0 where
+  by_tag : entry_tag entry ≢ tag_of key → IsWeighed shape loads key best entry
+  by_item : TellsOther shape loads (entry_offset entry) key → IsWeighed shape loads key best entry
+  by_best : (p : ℕ) → best ≡ Some p → entry_offset entry ≤ p → IsWeighed shape loads key best entry
+
+-- the item at this offset, if there is one, is the key's by an entry of these buckets, and holds this value
+abbrev pub IsBest : Shape → Loads → List ℕ → List ℕ → Option ℕ → List ℕ → Type 0
+IsBest shape loads chain key None value = Unit {0}
+IsBest shape loads chain key (Some p) value =
+    (entry : ℕ) × IsEntryOf shape loads chain key entry × (entry_offset entry ≡ p)
+    × TellsItem shape loads p key value
+
+-- a later one counts
+abbrev pub IsNoWorse : Option ℕ → Option ℕ → Type 0
+IsNoWorse None new = Unit {0}
+IsNoWorse (Some p) None = ⊥
+IsNoWorse (Some p) (Some q) = p ≤ q
+
+-- the slot was loaded, and its entry was weighed
+abbrev pub IsSlotWeighed : Shape → Loads → List ℕ → Option ℕ → ℕ → ℕ → Type 0
+IsSlotWeighed shape loads key best c slot =
+    (entry : ℕ) × HasLoad loads (entry_at shape c slot) entry × IsWeighed shape loads key best entry
+
+-- The first slots of a bucket were looked at. The best item of before is the best still, or another one of
+-- this bucket.
+pub record Scans (old : ReaderState) (c count : ℕ) (key : List ℕ) (best : Option ℕ) (value : List ℕ)
+    (now : Option ℕ) (now_value : List ℕ) (new : ReaderState) : Type 0 where
+  pub on : GoesOn old (count * (1 + most_words)) new
+  pub rises : IsNoWorse best now
+  pub found : ((now ≡ best) × (now_value ≡ value)) ⊎ IsBest new.shape (loads_in new) (c ∷ []) key now now_value
+  pub slots : (slot : ℕ) → slot < count → IsSlotWeighed new.shape (loads_in new) key now c slot
+
+-- The whole chain of a bucket was looked at.
+pub record Searches (old : ReaderState) (b : ℕ) (key : List ℕ) (best : Option ℕ) (value : List ℕ) (new : ReaderState) : Type 0 where
+  pub on : GoesOn old ((old.shape.spares + 1) * (16 + 15 * most_words)) new
+  pub behind : List ℕ
+  pub links : HasLinks new.shape (loads_in new) new.shape.spares b behind
+  pub found : IsBest new.shape (loads_in new) (b ∷ behind) key best value
+  pub slots : (c slot : ℕ) → Contains (b ∷ behind) c → slot < 15
+      → IsSlotWeighed new.shape (loads_in new) key best c slot

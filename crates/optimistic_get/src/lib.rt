@@ -1,0 +1,13 @@
+//! A get by loads alone, after the MICA paper: the reader compares the bucket's epoch before and after its loads,
+//! and uses nothing that it loaded where the epoch was odd or moved.
+//!
+//! The layer above may rely on this: `Hit` and `Miss` are what the machine answers at the history that the seat
+//! has seen then (`Answers`), and `Again` comes exactly where each try failed. No call takes memory or waits.
+#![tactic(auto)]
+
+mod getting;
+mod looking;
+mod searching;
+mod trying;
+
+pub use getting::{Got, get};

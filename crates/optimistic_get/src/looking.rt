@@ -1,0 +1,105 @@
+//! The item behind an entry, by loads in an open try.
+ghost use Rattle.std.specs.Prelude.{◌≡◌, ◌+◌, ◌<◌, ◌≤◌, ◌^◌, true, is_some, length, MatchBool, MatchOption};
+ghost use Rattle.mica_words.specs.declared.item.TheConstants.{MAX_VALUE_LEN};
+ghost use Rattle.mica_words.specs.Hash.{fnv1a};
+ghost use Rattle.mica_words.specs.Item.{KeyFits, words_for};
+ghost use Rattle.mica_words.specs.Packing.{packed as packed_words};
+ghost use Rattle.epoch_core.specs.Spelt.{TellsOther, TellsItem};
+ghost use Rattle.optimistic_get.specs.Loading.{most_words, loads_in, GoesOn, HasWords, LacksWord, HasKeyOf, HoldsValue};
+
+use epoch_core::ReaderWords;
+use mica_model::{ItemBuf, Mode};
+use mica_words::{MAX_VALUE_LEN, header_key_len, header_value_len};
+
+// Whether the words from the offset on are these. It loads up to the first that is not.
+fn holds_words<R: ReaderWords>(seat: &mut R, offset: u64, expected: &[u64]) -> bool
+    requires open { is_some (R.reader seat.old).current ≡ true }
+    requires low { offset + length expected.now < 2 ^ 64 }
+    ensures on { GoesOn (R.reader seat.old) (length expected.entry.now) (R.reader seat.new) }
+    ensures told { MatchBool result (HasWords (R.reader seat.new) offset expected.entry.now)
+        (LacksWord (R.reader seat.new) offset expected.entry.now) }
+    ensures home { R.home seat.new ≡ R.home seat.old }
+{
+    for (i, word) in expected.iter().enumerate() {
+        if seat.item_word(offset + i as u64) != *word {
+            return false;
+        }
+    }
+    true
+}
+
+// Where the item at the offset is the key's, the length of its value.
+fn value_len_at<R: ReaderWords>(
+    seat: &mut R,
+    offset: u64,
+    key: &[u8],
+    hash: u64,
+    packed: &[u64],
+) -> Option<usize>
+    requires open { is_some (R.reader seat.old).current ≡ true }
+    requires offset { offset < 2 ^ 48 }
+    requires key { KeyFits key.now }
+    requires hash { hash ≡ fnv1a key.now }
+    requires packed { packed.now ≡ packed_words key.now }
+    ensures on { GoesOn (R.reader seat.old) (2 + words_for (length key.entry.now)) (R.reader seat.new) }
+    ensures told { MatchOption result
+        (TellsOther (R.reader seat.new).shape (loads_in (R.reader seat.new)) offset key.entry.now)
+        (HasKeyOf (R.reader seat.new) offset key.entry.now) }
+    ensures home { R.home seat.new ≡ R.home seat.old }
+{
+    let header = seat.item_word(offset);
+    let len = header_value_len(header) as usize;
+    if header_key_len(header) as usize != key.len() || len > MAX_VALUE_LEN {
+        return None;
+    }
+    (seat.item_word(offset + 1) == hash && holds_words(seat, offset + 2, packed)).then_some(len)
+}
+
+// Loads the value of this length, which stands at the offset.
+fn load_value<R: ReaderWords>(seat: &mut R, offset: u64, len: usize, out: &mut ItemBuf)
+    requires open { is_some (R.reader seat.old).current ≡ true }
+    requires low { offset + 2 ^ 32 < 2 ^ 64 }
+    requires len { len ≤ MAX_VALUE_LEN }
+    ensures on { GoesOn (R.reader seat.old) (words_for len) (R.reader seat.new) }
+    ensures value { HoldsValue (R.reader seat.new) offset len out.new }
+    ensures home { R.home seat.new ≡ R.home seat.old }
+{
+    let mut value = [0; MAX_VALUE_LEN];
+    for i in 0..len.div_ceil(8) {
+        let word = seat.item_word(offset + i as u64);
+        value[8 * i..8 * i + 8].copy_from_slice(&word.to_le_bytes());
+    }
+    out.set(&value[..len]);
+}
+
+/// Whether the item at the offset is the key's. Then its value is in the buffer.
+pub(crate) fn look<R: ReaderWords>(
+    seat: &mut R,
+    offset: u64,
+    key: &[u8],
+    hash: u64,
+    packed: &[u64],
+    out: &mut ItemBuf,
+) -> bool
+    requires open { is_some (R.reader seat.old).current ≡ true }
+    requires offset { offset < 2 ^ 48 }
+    requires key { KeyFits key.now }
+    requires hash { hash ≡ fnv1a key.now }
+    requires packed { packed.now ≡ packed_words key.now }
+    ensures on { GoesOn (R.reader seat.old) most_words (R.reader seat.new) }
+    ensures told { MatchBool result
+        (TellsItem (R.reader seat.new).shape (loads_in (R.reader seat.new)) offset key.entry.now out.new)
+        (TellsOther (R.reader seat.new).shape (loads_in (R.reader seat.new)) offset key.entry.now
+            × (out.new ≡ out.old)) }
+    ensures home { R.home seat.new ≡ R.home seat.old }
+{
+    let shape = seat.shape();
+    if matches!(shape.mode, Mode::Store) && offset >= u64::from(shape.words) {
+        return false;
+    }
+    let Some(len) = value_len_at(seat, offset, key, hash, packed) else {
+        return false;
+    };
+    load_value(seat, offset + 2 + packed.len() as u64, len, out);
+    true
+}

@@ -1,0 +1,79 @@
+//! The entries of a chain, by loads in an open try.
+ghost use Rattle.std.specs.Prelude.{◌≡◌, ◌<◌, ◌^◌, true, is_some, None, IfSome};
+ghost use Rattle.mica_words.specs.Hash.{fnv1a};
+ghost use Rattle.mica_words.specs.Item.{KeyFits};
+ghost use Rattle.mica_words.specs.Packing.{packed as packed_words};
+ghost use Rattle.epoch_core.specs.Shape.{IsMain, IsBucket};
+ghost use Rattle.optimistic_get.specs.Search.{Scans, Searches};
+
+use crate::looking::look;
+use epoch_core::ReaderWords;
+use mica_model::ItemBuf;
+use mica_words::{entry_offset, entry_tag, tag_of};
+
+// The offset of the best item of the key, after one bucket more.
+fn scan<R: ReaderWords>(
+    seat: &mut R,
+    bucket: u32,
+    key: &[u8],
+    hash: u64,
+    packed: &[u64],
+    best: Option<u64>,
+    out: &mut ItemBuf,
+) -> Option<u64>
+    requires open { is_some (R.reader seat.old).current ≡ true }
+    requires bucket { IsBucket (R.reader seat.old).shape bucket }
+    requires key { KeyFits key.now }
+    requires hash { hash ≡ fnv1a key.now }
+    requires packed { packed.now ≡ packed_words key.now }
+    requires low { IfSome best (λ p. p < 2 ^ 48) }
+    ensures low { IfSome result (λ p. p < 2 ^ 48) }
+    ensures scans { Scans (R.reader seat.old) bucket 15 key.entry.now best out.old result out.new
+        (R.reader seat.new) }
+    ensures home { R.home seat.new ≡ R.home seat.old }
+{
+    let tag = tag_of(hash);
+    let mut best = best;
+    for slot in 0..15 {
+        let entry = seat.entry(bucket, slot);
+        let offset = entry_offset(entry);
+        if entry_tag(entry) == tag
+            && best.is_none_or(|p| p < offset)
+            && look(seat, offset, key, hash, packed, out)
+        {
+            best = Some(offset);
+        }
+    }
+    best
+}
+
+/// The offset of the key's item that begins last, among those of the chain's entries. Its value is in the buffer.
+pub(crate) fn search<R: ReaderWords>(
+    seat: &mut R,
+    bucket: u32,
+    key: &[u8],
+    hash: u64,
+    packed: &[u64],
+    out: &mut ItemBuf,
+) -> Option<u64>
+    requires open { is_some (R.reader seat.old).current ≡ true }
+    requires bucket { IsMain (R.reader seat.old).shape bucket }
+    requires key { KeyFits key.now }
+    requires hash { hash ≡ fnv1a key.now }
+    requires packed { packed.now ≡ packed_words key.now }
+    ensures searches { Searches (R.reader seat.old) bucket key.entry.now result out.new (R.reader seat.new) }
+    ensures low { IfSome result (λ p. p < 2 ^ 48) }
+    ensures home { R.home seat.new ≡ R.home seat.old }
+{
+    let mut best = scan(seat, bucket, key, hash, packed, None, out);
+    let mut at = bucket;
+    for _ in 0..seat.shape().spares {
+        let next = seat.link(at);
+        if next == 0 {
+            break;
+        }
+        at = next;
+        best = scan(seat, at, key, hash, packed, best, out);
+    }
+    best
+}
