@@ -1,13 +1,15 @@
 -- Loads in an open try, one after another.
-use Rattle.std.proofs.Common.{◌≡◌, ◌≢◌, ℕ, ◌+◌, ◌<◌, ◌≤◌, List, [], ◌∷◌, ◌++◌, length, slice_index, Bool, true, false, refl, sym, ap, ◌∙◌, subst, arith, Option, Some, None, inl, inr, ⊎_elim}
+use Rattle.std.proofs.Common.{◌≡◌, ◌≢◌, ℕ, ◌+◌, ◌<◌, ◌≤◌, List, [], ◌∷◌, ◌++◌, length, slice_index, true, refl, sym, ap, ◌∙◌, subst, arith, Option, Some, None, ⊎_elim}
 use Rattle.std.specs.Prelude.{is_some}
 use Rattle.std.proofs.lemmas.Bool.{cases_lt}
+use Rattle.std.proofs.lemmas.List.{get_or_append_left}
+use Rattle.std.proofs.Math.Seq.{get_or-append_seam}
 use Rattle.epoch_core.specs.declared.shape.Shape.{Shape}
 use Rattle.epoch_core.specs.declared.reader.Try.{Try}
 use Rattle.epoch_core.specs.declared.reader.ReaderState.{ReaderState}
 use Rattle.epoch_core.specs.Layout.{item_at}
 use Rattle.epoch_core.specs.ReaderState.{with_load, loaded}
-use Rattle.epoch_core.specs.Spelt.{Loads, HasLoad}
+use Rattle.epoch_core.specs.Spelt.{HasLoad}
 use Rattle.epoch_core.proofs.Failing.{in_left, in_last}
 use Rattle.optimistic_get.specs.Loading.{loads_of, loads_in, Keeps, TryGoesOn, GoesOn, HasWords, LacksWord}
 
@@ -112,3 +114,23 @@ pub lacks : (q p' : ReaderState) (x p i : ℕ) (words : List ℕ) → is_some q.
     → i < length words → x ≢ slice_index words i → LacksWord p' p words
 lacks q p' x p i words trying is inside other =
     subst (λ (z : ReaderState). LacksWord z p words) (sym is) record { at = i; inside = inside; found = x; load = this_load q.current (item_at q.shape (p + i)) x trying; other = other }
+
+-- One load
+
+pub item_here : (q p' : ReaderState) (p x : ℕ) → is_some q.current ≡ true → p' ≡ loaded (item_at q.shape p) x q → HasLoad (loads_in p') (item_at p'.shape p) x
+item_here q p' p x trying is = subst (λ (z : ReaderState). HasLoad (loads_in z) (item_at z.shape p) x) (sym is) (this_load q.current (item_at q.shape p) x trying)
+
+-- what was found before is there still
+pub item_still : (r q : ReaderState) (n p x : ℕ) → GoesOn r n q → HasLoad (loads_in r) (item_at r.shape p) x → HasLoad (loads_in q) (item_at q.shape p) x
+item_still r q n p x g h = subst (λ (z : Shape). HasLoad (loads_in q) (item_at z p) x) (sym (on_shape r q n g)) (on_keeps r q n g (item_at r.shape p) x h)
+
+pub words_still : (r q : ReaderState) (n p : ℕ) (words : List ℕ) → GoesOn r n q → HasWords r p words → HasWords q p words
+words_still r q n p words g has i l = item_still r q n (p + i) (slice_index words i) g (has i l)
+
+-- a word more at a list's end
+pub first_snoc : (q p' : ReaderState) (x p i : ℕ) (words : List ℕ) → is_some q.current ≡ true → p' ≡ loaded (item_at q.shape (p + i)) x q
+    → length words ≡ i → HasFirst q p words i → HasFirst p' p (words ++ x ∷ []) (i + 1)
+first_snoc q p' x p i words trying is long has =
+    first_more q p' x p i (words ++ x ∷ []) trying is
+    (sym (ap (λ (z : ℕ). slice_index (words ++ x ∷ []) z) (sym long) ∙ get_or-append_seam words x [] 0))
+    (λ k l. subst (HasLoad (loads_in q) (item_at q.shape (p + k))) (sym (get_or_append_left words (x ∷ []) 0 k (omega arith))) (has k l))

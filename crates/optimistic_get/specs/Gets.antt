@@ -1,7 +1,5 @@
 -- What a try and a get make of a reader's state, and what they answer.
 use Rattle.std.specs.Prelude.{◌≡◌, ℕ, ◌+◌, ◌*◌, ◌<◌, ◌≤◌, ◌++◌, List, [], ◌∷◌, length, Contains, Option, Some, None}
-use Rattle.mica_model.specs.declared.write.Answer.TheVariants.{Hit as HitAnswer, Miss as MissAnswer}
-use Rattle.mica_model.specs.Answer.{IsAnswer}
 use Rattle.mica_model.specs.History.{IsPrefix, stamp_of, answer_of, writes_to_bucket}
 use Rattle.epoch_core.specs.declared.state.Failure.{Failure}
 use Rattle.epoch_core.specs.declared.reader.ReaderState.{ReaderState}
@@ -29,7 +27,7 @@ pub record TriesMade (old : ReaderState) (n : ℕ) (new : ReaderState) : Type 0 
         current = new.current;
       }
   pub seen : IsPrefix old.seen new.seen
-  pub loads : new.loads ≤ old.loads + n * most_loads old.shape
+  pub loads : new.loads ≤ old.loads + most_loads old.shape * n
 
 -- a failure of the bucket, whose first epoch tells of each write that had ended
 pub record IsFailureAt (old : ReaderState) (b first last : ℕ) : Type 0 where

@@ -33,6 +33,16 @@ abbrev pub IsSlotWeighed : Shape → Loads → List ℕ → Option ℕ → ℕ �
 IsSlotWeighed shape loads key best c slot =
     (entry : ℕ) × HasLoad loads (entry_at shape c slot) entry × IsWeighed shape loads key best entry
 
+-- An entry was looked at. The best item of before is the best still, or this entry's is.
+pub record Weighs (old : ReaderState) (entry : ℕ) (key : List ℕ) (best : Option ℕ) (value : List ℕ)
+    (now : Option ℕ) (now_value : List ℕ) (new : ReaderState) : Type 0 where
+  pub on : GoesOn old most_words new
+  pub rises : IsNoWorse best now
+  pub found : ((now ≡ best) × (now_value ≡ value))
+      ⊎ ((now ≡ Some (entry_offset entry)) × (entry_tag entry ≡ tag_of key)
+      × TellsItem new.shape (loads_in new) (entry_offset entry) key now_value)
+  pub weighed : IsWeighed new.shape (loads_in new) key now entry
+
 -- The first slots of a bucket were looked at. The best item of before is the best still, or another one of
 -- this bucket.
 pub record Scans (old : ReaderState) (c count : ℕ) (key : List ℕ) (best : Option ℕ) (value : List ℕ)

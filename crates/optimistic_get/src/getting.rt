@@ -36,7 +36,7 @@ pub fn get<R: ReaderWords>(seat: &mut R, key: &[u8], tries: u32, out: &mut ItemB
     let packed = &mut packed[..key.len().div_ceil(8)];
     pack(key, packed);
     let mut failed = (0, 0);
-    for _ in 0..tries {
+    for _try in 0..tries {
         match try_get(seat, bucket, key, hash, packed, out) {
             Tried::Found(stamp) => return Got::Hit { stamp },
             Tried::Absent(stamp) => {

@@ -48,17 +48,27 @@ fn value_len_at<R: ReaderWords>(
     ensures home { R.home seat.new ≡ R.home seat.old }
 {
     let header = seat.item_word(offset);
-    let len = header_value_len(header) as usize;
-    if header_key_len(header) as usize != key.len() || len > MAX_VALUE_LEN {
+    if header_key_len(header) as usize != key.len() {
         return None;
     }
-    (seat.item_word(offset + 1) == hash && holds_words(seat, offset + 2, packed)).then_some(len)
+    let len = header_value_len(header) as usize;
+    if len > MAX_VALUE_LEN {
+        return None;
+    }
+    if seat.item_word(offset + 1) != hash {
+        return None;
+    }
+    if holds_words(seat, offset + 2, packed) {
+        Some(len)
+    } else {
+        None
+    }
 }
 
 // Loads the value of this length, which stands at the offset.
 fn load_value<R: ReaderWords>(seat: &mut R, offset: u64, len: usize, out: &mut ItemBuf)
     requires open { is_some (R.reader seat.old).current ≡ true }
-    requires low { offset + 2 ^ 32 < 2 ^ 64 }
+    requires low { offset < 2 ^ 63 }
     requires len { len ≤ MAX_VALUE_LEN }
     ensures on { GoesOn (R.reader seat.old) (words_for len) (R.reader seat.new) }
     ensures value { HoldsValue (R.reader seat.new) offset len out.new }

@@ -1,15 +1,60 @@
 //! The entries of a chain, by loads in an open try.
-ghost use Rattle.std.specs.Prelude.{◌≡◌, ◌<◌, ◌^◌, true, is_some, None, IfSome};
+ghost use Rattle.std.specs.Prelude.{◌≡◌, ℕ, ◌<◌, ◌≤◌, ◌^◌, true, is_some, Some, None, IfSome, MatchBool};
 ghost use Rattle.mica_words.specs.Hash.{fnv1a};
 ghost use Rattle.mica_words.specs.Item.{KeyFits};
 ghost use Rattle.mica_words.specs.Packing.{packed as packed_words};
 ghost use Rattle.epoch_core.specs.Shape.{IsMain, IsBucket};
-ghost use Rattle.optimistic_get.specs.Search.{Scans, Searches};
+ghost use Rattle.optimistic_get.specs.Search.{Weighs, Scans, Searches};
 
 use crate::looking::look;
 use epoch_core::ReaderWords;
 use mica_model::ItemBuf;
 use mica_words::{entry_offset, entry_tag, tag_of};
+
+// Whether an item at the offset begins later than the best one.
+fn is_later(best: Option<u64>, offset: u64) -> bool
+    ensures { MatchBool result ((p : ℕ) → best ≡ Some p → p ≤ offset)
+        ((p : ℕ) × (best ≡ Some p) × (offset ≤ p)) }
+{
+    match best {
+        Some(p) => p < offset,
+        None => true,
+    }
+}
+
+// The offset of the best item of the key, after one entry more.
+fn weigh<R: ReaderWords>(
+    seat: &mut R,
+    entry: u64,
+    key: &[u8],
+    hash: u64,
+    packed: &[u64],
+    best: Option<u64>,
+    out: &mut ItemBuf,
+) -> Option<u64>
+    requires open { is_some (R.reader seat.old).current ≡ true }
+    requires key { KeyFits key.now }
+    requires hash { hash ≡ fnv1a key.now }
+    requires packed { packed.now ≡ packed_words key.now }
+    requires low { IfSome best (λ p. p < 2 ^ 48) }
+    ensures weighs { Weighs (R.reader seat.old) entry key.entry.now best out.old result out.new
+        (R.reader seat.new) }
+    ensures low { IfSome result (λ p. p < 2 ^ 48) }
+    ensures home { R.home seat.new ≡ R.home seat.old }
+{
+    if entry_tag(entry) != tag_of(hash) {
+        return best;
+    }
+    let offset = entry_offset(entry);
+    if !is_later(best, offset) {
+        return best;
+    }
+    if look(seat, offset, key, hash, packed, out) {
+        Some(offset)
+    } else {
+        best
+    }
+}
 
 // The offset of the best item of the key, after one bucket more.
 fn scan<R: ReaderWords>(
@@ -32,17 +77,10 @@ fn scan<R: ReaderWords>(
         (R.reader seat.new) }
     ensures home { R.home seat.new ≡ R.home seat.old }
 {
-    let tag = tag_of(hash);
     let mut best = best;
     for slot in 0..15 {
         let entry = seat.entry(bucket, slot);
-        let offset = entry_offset(entry);
-        if entry_tag(entry) == tag
-            && best.is_none_or(|p| p < offset)
-            && look(seat, offset, key, hash, packed, out)
-        {
-            best = Some(offset);
-        }
+        best = weigh(seat, entry, key, hash, packed, best, out);
     }
     best
 }
@@ -67,10 +105,10 @@ pub(crate) fn search<R: ReaderWords>(
 {
     let mut best = scan(seat, bucket, key, hash, packed, None, out);
     let mut at = bucket;
-    for _ in 0..seat.shape().spares {
+    for _link in 0..seat.shape().spares {
         let next = seat.link(at);
         if next == 0 {
-            break;
+            return best;
         }
         at = next;
         best = scan(seat, at, key, hash, packed, best, out);

@@ -4,6 +4,7 @@ ghost use Rattle.mica_words.specs.Hash.{fnv1a};
 ghost use Rattle.mica_words.specs.Item.{KeyFits};
 ghost use Rattle.mica_words.specs.Packing.{packed as packed_words};
 ghost use Rattle.mica_words.specs.Hash.{bucket_of};
+ghost use Rattle.epoch_core.specs.Shape.{IsMain};
 ghost use Rattle.epoch_core.specs.LiveEntry.{IsLiveItem};
 ghost use Rattle.optimistic_get.specs.Gets.{Tries};
 
@@ -43,6 +44,7 @@ pub(crate) fn try_get<R: ReaderWords>(
     packed: &[u64],
     out: &mut ItemBuf,
 ) -> Tried
+    requires main { IsMain (R.reader seat.old).shape bucket }
     requires bucket { bucket ≡ bucket_of key.now (R.reader seat.old).shape.buckets }
     requires key { KeyFits key.now }
     requires hash { hash ≡ fnv1a key.now }

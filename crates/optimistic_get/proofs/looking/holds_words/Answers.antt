@@ -1,4 +1,4 @@
-use Rattle.std.proofs.Common.{◌≡◌, ◌+◌, ◌<◌, length, arith, rules, sym}
+use Rattle.std.proofs.Common.{◌+◌, length, arith, rules}
 use Rattle.optimistic_get.proofs.Loads.{on_load, on_at_most, on_open, first_more, lacks}
 use Rattle.optimistic_get.proofs.looking.holds_words.Goals as goal
 

@@ -1,0 +1,233 @@
+-- What a try's loads, its stamp and its two epochs tell together.
+use Rattle.std.proofs.Common.{◌≡◌, ◌≢◌, ℕ, ◌+◌, ◌*◌, ◌%◌, ◌<◌, ◌≤◌, List, [], ◌∷◌, ◌++◌, Bool, sym, ap, ◌∙◌, subst, arith, eq-eqb, ne_eqb, Option, Some, None, inl, inr, if◌then◌else◌}
+use Rattle.std.specs.Prelude.{Contains}
+use Rattle.mica_words.specs.Hash.{bucket_of, tag_of}
+use Rattle.mica_words.specs.Entry.{entry_tag, entry_offset}
+use Rattle.mica_words.specs.Packing.{AreBytes}
+use Rattle.mica_words.proofs.Hashes.{tag_of-range}
+use Rattle.mica_model.specs.declared.options.Mode.{Mode}
+use Rattle.mica_model.specs.declared.options.Mode.TheVariants.{Cache, Store}
+use Rattle.mica_model.specs.History.{History, IsPrefix, stamp_of, answer_of, writes_to_bucket}
+use Rattle.epoch_core.specs.declared.shape.Shape.{Shape}
+use Rattle.epoch_core.specs.declared.reader.Try.{Try}
+use Rattle.epoch_core.specs.declared.reader.ReaderState.{ReaderState}
+use Rattle.epoch_core.specs.Shape.{options_of}
+use Rattle.epoch_core.specs.LiveEntry.{IsLiveItem}
+use Rattle.epoch_core.specs.Failures.{failure}
+use Rattle.epoch_core.specs.ReaderState.{new_try, opened, with_cut, stamped, fails_after, closes, shut}
+use Rattle.epoch_core.specs.Spelt.{Loads, HasLinks, TellsItem, IsNoEntryOf, by_tag as no_tag, by_stamp as no_stamp, by_item as no_item, SpellsAnswer}
+use Rattle.epoch_core.specs.ReaderKept.{IsSpelt, TellsTry, Tells}
+use Rattle.epoch_core.proofs.Prefixes.{prefix_same}
+use Rattle.optimistic_get.specs.Loading.{loads_of, loads_in, TryGoesOn}
+use Rattle.optimistic_get.specs.Search.{IsWeighed, by_tag, by_item, by_best, IsBest, IsSlotWeighed, Searches}
+use Rattle.optimistic_get.specs.Gets.{IsAnsweredAt, TriesMade, Tries}
+use Rattle.optimistic_get.specs.declared.trying.Tried.TheVariants.{Found, Absent, Failed}
+
+-- What the loads spell
+
+live_later : (mode : Mode) (words stamp p q : ℕ) → p ≤ q → IsLiveItem mode words stamp p → IsLiveItem mode words stamp q
+live_later Cache words stamp p q less live = omega arith
+live_later Store words stamp p q less live = tt
+
+tagged : (entry : ℕ) (key : List ℕ) → entry_tag entry ≡ tag_of key → entry ≢ 0
+tagged entry key tag none = let some = (tag_of-range key).0 in omega arith
+
+module _ (shape : Shape) (loads : Loads) (stamp b : ℕ) (key behind : List ℕ) (links : HasLinks shape loads shape.spares b behind) where
+  -- the best item, where it is live
+  spells_hit : (p : ℕ) (value : List ℕ) → IsBest shape loads (b ∷ behind) key (Some p) value → IsLiveItem shape.mode shape.words stamp p
+      → SpellsAnswer shape loads stamp b key (Some value)
+  spells_hit p value best live = record {
+    behind = behind;
+    links = links;
+    told = (
+      best.0,
+      best.1,
+      (tagged best.0 key best.1.tag, subst (IsLiveItem shape.mode shape.words stamp) (sym best.2) live),
+      subst (λ (z : ℕ). TellsItem shape loads z key value) (sym best.2) best.3,
+    );
+  }
+
+  -- none, where no best item is live
+  spells_miss : (best : Option ℕ) → ((p : ℕ) → best ≡ Some p → ¬ (IsLiveItem shape.mode shape.words stamp p))
+      → ((c slot : ℕ) → Contains (b ∷ behind) c → slot < 15 → IsSlotWeighed shape loads key best c slot)
+      → SpellsAnswer shape loads stamp b key None
+  spells_miss best dead slots = record {
+    behind = behind;
+    links = links;
+    told = λ c slot h l. let at = slots c slot h l in (at.0, at.1, no_entry at.0 at.2);
+  }
+    where
+      no_entry : (entry : ℕ) → IsWeighed shape loads key best entry → IsNoEntryOf shape loads stamp key entry
+      no_entry entry (by_tag n) = no_tag n
+      no_entry entry (by_item told) = no_item told
+      no_entry entry (by_best p is less) = no_stamp (λ live. dead p is (live_later shape.mode shape.words stamp (entry_offset entry) p less live.1))
+
+-- The states of one try
+
+goes_to : (t : Try) (c : Option Try) → TryGoesOn (Some t) c → c ≡ Some (record t { loads = loads_of c })
+goes_to t None g = absurd g
+goes_to t (Some u) g = ap (λ (z : Try). Some z) g.0
+
+module _ (r q : ReaderState) (b n : ℕ) (first : q ≡ opened b n r) (least : 2 * writes_to_bucket (options_of r.shape) r.done b ≤ n) where
+  -- an odd epoch
+  pub odd_fails : (key value : List ℕ) → n % 2 ≡ 1 → Tries r b key (Failed n n) value q
+  odd_fails key value odd = (
+    record {
+      same = λ i. record {
+        shape = ap (λ (z : ReaderState). z.shape) first i;
+        seen = q.seen;
+        done = ap (λ (z : ReaderState). z.done) first i;
+        met = ap (λ (z : ReaderState). z.met) first i;
+        loads = q.loads;
+        tried = ap (λ (z : ReaderState). z.tried) first i;
+        fails = q.fails;
+        closed = q.closed;
+        current = q.current;
+      };
+      seen = subst (IsPrefix r.seen) (sym (ap (λ (z : ReaderState). z.seen) first)) (prefix_same r.seen);
+      loads = let one = ap (λ (z : ReaderState). z.loads) first in omega arith;
+    },
+    record { fails = (omega arith, inl odd); least = least },
+    ap (λ (z : ReaderState). z.fails) first ∙ ap (λ (z : Bool). if z then r.fails else (r.fails ++ failure b n n ∷ [])) (ne_eqb (n % 2) 0 (λ none. omega arith)),
+    ap (λ (z : ReaderState). z.closed) first,
+  )
+
+  module _ (even : n % 2 ≡ 0) (key : List ℕ) (best : Option ℕ) (value : List ℕ) (q2 q3 q4 : ReaderState) (search : Searches q b key best value q2)
+      (stamp last : ℕ) (cut : q3 ≡ stamped q3.seen q2) (more : IsPrefix q2.seen q3.seen) (stamped_is : stamp ≡ stamp_of (options_of q2.shape) q3.seen)
+      (end : q4 ≡ shut last q3) (tells : Tells last q3) where
+    now_try : q.current ≡ Some (new_try b n)
+    now_try = ap (λ (z : ReaderState). z.current) first ∙ ap (λ (z : Bool). if z then Some (new_try b n) else None) (eq-eqb (n % 2) 0 even)
+
+    abbrev tried : Try
+    tried = record { bucket = b; first = n; loads = loads_in q2; at = Some (record { history = q3.seen; loads = loads_in q2 }) }
+
+    cut_try : q3.current ≡ Some tried
+    cut_try = ap (λ (z : ReaderState). z.current) cut
+        ∙ ap (with_cut q3.seen) (goes_to (new_try b n) q2.current (subst (λ (c : Option Try). TryGoesOn c q2.current) now_try search.on.current))
+
+    shape2 : q2.shape ≡ r.shape
+    shape2 = ap (λ (z : ReaderState). z.shape) search.on.same ∙ ap (λ (z : ReaderState). z.shape) first
+
+    shape3 : q3.shape ≡ r.shape
+    shape3 = ap (λ (z : ReaderState). z.shape) cut ∙ shape2
+
+    shape4 : q4.shape ≡ r.shape
+    shape4 = ap (λ (z : ReaderState). z.shape) end ∙ shape3
+
+    seen4 : q4.seen ≡ q3.seen
+    seen4 = ap (λ (z : ReaderState). z.seen) end
+
+    told : (n ≤ last) × (last ≡ n → IsSpelt r.shape b (record { history = q3.seen; loads = loads_in q2 }))
+    told = subst (λ (z : Shape). TellsTry z last (Some tried)) shape3 (subst (TellsTry q3.shape last) cut_try tells)
+
+    seen_before : q2.seen ≡ r.seen
+    seen_before = ap (λ (z : ReaderState). z.seen) search.on.same ∙ ap (λ (z : ReaderState). z.seen) first
+
+    fails_before : q3.fails ≡ r.fails
+    fails_before =
+        ap (λ (z : ReaderState). z.fails) cut
+        ∙ (ap (λ (z : ReaderState). z.fails) search.on.same
+        ∙ (ap (λ (z : ReaderState). z.fails) first ∙ ap (λ (z : Bool). if z then r.fails else (r.fails ++ failure b n n ∷ [])) (eq-eqb (n % 2) 0 even)))
+
+    closed_before : q3.closed ≡ r.closed
+    closed_before = ap (λ (z : ReaderState). z.closed) cut ∙ (ap (λ (z : ReaderState). z.closed) search.on.same ∙ ap (λ (z : ReaderState). z.closed) first)
+
+    fails_now : q4.fails ≡ fails_after last (Some tried) r.fails
+    fails_now = ap (λ (z : ReaderState). z.fails) end ∙ (λ i. fails_after last (cut_try i) (fails_before i))
+
+    closed_now : q4.closed ≡ r.closed + closes last (Some tried)
+    closed_now = ap (λ (z : ReaderState). z.closed) end ∙ (λ i. closed_before i + closes last (cut_try i))
+
+    tried_now : q4.tried ≡ r.tried + 1
+    tried_now =
+        ap (λ (z : ReaderState). z.tried) end
+        ∙ (ap (λ (z : ReaderState). z.tried) cut ∙ (ap (λ (z : ReaderState). z.tried) search.on.same ∙ ap (λ (z : ReaderState). z.tried) first))
+
+    done_now : q4.done ≡ r.done
+    done_now =
+        ap (λ (z : ReaderState). z.done) end
+        ∙ (ap (λ (z : ReaderState). z.done) cut ∙ (ap (λ (z : ReaderState). z.done) search.on.same ∙ ap (λ (z : ReaderState). z.done) first))
+
+    met_now : q4.met ≡ r.met
+    met_now =
+        ap (λ (z : ReaderState). z.met) end
+        ∙ (ap (λ (z : ReaderState). z.met) cut ∙ (ap (λ (z : ReaderState). z.met) search.on.same ∙ ap (λ (z : ReaderState). z.met) first))
+
+    once : TriesMade r 1 q4
+    once = record {
+      same = λ i. record {
+        shape = shape4 i;
+        seen = q4.seen;
+        done = done_now i;
+        met = met_now i;
+        loads = q4.loads;
+        tried = tried_now i;
+        fails = q4.fails;
+        closed = q4.closed;
+        current = q4.current;
+      };
+      seen = subst (IsPrefix r.seen) (sym seen4) (subst (λ (z : History). IsPrefix z q3.seen) seen_before more);
+      loads =
+          let one = ap (λ (z : ReaderState). z.loads) first in
+          let two = search.on.loads in
+          let three = ap (λ (z : ReaderState). z.loads) cut in
+          let four = ap (λ (z : ReaderState). z.loads) end in
+          let same = ap (λ (z : ReaderState). z.shape.spares) first in
+          omega arith;
+    }
+
+    stamped_at : stamp ≡ stamp_of (options_of q4.shape) q4.seen
+    stamped_at = stamped_is ∙ (λ i. stamp_of (options_of ((shape2 ∙ sym shape4) i)) (sym seen4 i))
+
+    -- where the epoch has not moved, what the loads spell is the answer
+    answered : last ≡ n → AreBytes key → bucket_of key r.shape.buckets ≡ b → (answer : Option (List ℕ)) → SpellsAnswer q2.shape (loads_in q2) stamp b key answer
+        → IsAnsweredAt q4 key answer stamp
+    answered still bytes here answer spell = record {
+      stamped = stamped_at;
+      answered = subst (λ (z : Shape × History). answer_of (options_of z.0) z.1 key ≡ answer) (λ i. (sym shape4 i, sym seen4 i))
+          (told.1 still key answer bytes here
+          (subst (λ (z : Shape × ℕ). SpellsAnswer z.0 (loads_in q2) z.1 b key answer)
+          (λ i. (shape2 i, (stamped_is ∙ (λ j. stamp_of (options_of (shape2 j)) q3.seen)) i)) spell));
+    }
+
+    same_fails : last ≡ n → q4.fails ≡ r.fails
+    same_fails still = fails_now ∙ ap (λ (z : Bool). if z then r.fails else (r.fails ++ failure b n last ∷ [])) (eq-eqb last n still)
+
+    one_closed : last ≡ n → q4.closed ≡ r.closed + 1
+    one_closed still = closed_now ∙ ap (λ (z : Bool). r.closed + (if z then 1 else 0)) (eq-eqb last n still)
+
+    live_then : (s : Shape) (p : ℕ) → s ≡ q4.shape → IsLiveItem s.mode s.words stamp p → IsLiveItem q2.shape.mode q2.shape.words stamp p
+    live_then s p same = subst (λ (z : Shape). IsLiveItem z.mode z.words stamp p) (same ∙ (shape4 ∙ sym shape2))
+
+    live_now : (s : Shape) (p : ℕ) → s ≡ q4.shape → IsLiveItem q2.shape.mode q2.shape.words stamp p → IsLiveItem s.mode s.words stamp p
+    live_now s p same = subst (λ (z : Shape). IsLiveItem z.mode z.words stamp p) (sym (same ∙ (shape4 ∙ sym shape2)))
+
+    pub hits : (s : Shape) (p : ℕ) → s ≡ q4.shape → best ≡ Some p → IsLiveItem s.mode s.words stamp p → last ≡ n → AreBytes key → bucket_of key r.shape.buckets ≡ b
+        → Tries r b key (Found stamp) value q4
+    hits s p same is live still bytes here = (
+      once,
+      answered still bytes here (Some value)
+          (spells_hit q2.shape (loads_in q2) stamp b key search.behind search.links p value
+          (subst (λ (z : Option ℕ). IsBest q2.shape (loads_in q2) (b ∷ search.behind) key z value) is search.found) (live_then s p same live)),
+      same_fails still,
+      one_closed still,
+    )
+
+    pub misses : (s : Shape) → s ≡ q4.shape → ((p : ℕ) → best ≡ Some p → ¬ (IsLiveItem s.mode s.words stamp p)) → last ≡ n → AreBytes key → bucket_of key r.shape.buckets ≡ b
+        → Tries r b key (Absent stamp) value q4
+    misses s same dead still bytes here = (
+      once,
+      answered still bytes here None
+          (spells_miss q2.shape (loads_in q2) stamp b key search.behind search.links best (λ p is live. dead p is (live_now s p same live)) search.slots),
+      same_fails still,
+      one_closed still,
+    )
+
+    pub moved : last ≢ n → Tries r b key (Failed n last) value q4
+    moved other =
+        let low = told.0 in (
+          once,
+          record { fails = (low, inr (omega arith)); least = least },
+          fails_now ∙ ap (λ (z : Bool). if z then r.fails else (r.fails ++ failure b n last ∷ [])) (ne_eqb last n other),
+          closed_now ∙ (ap (λ (z : Bool). r.closed + (if z then 1 else 0)) (ne_eqb last n other) ∙ (omega arith)),
+        )

@@ -1,0 +1,160 @@
+-- A search along the links of a chain.
+use Rattle.std.proofs.Common.{◌≡◌, ◌≢◌, ℕ, zero, suc, ◌+◌, ◌*◌, ◌<◌, List, [], ◌∷◌, ◌++◌, length, refl, sym, ap, ◌∙◌, subst, arith, Option, None, ◌⊎◌, inl, inr, length-append}
+use Rattle.std.specs.Prelude.{Contains}
+use Rattle.epoch_core.specs.declared.shape.Shape.{Shape}
+use Rattle.epoch_core.specs.declared.reader.ReaderState.{ReaderState}
+use Rattle.epoch_core.specs.Layout.{link_at}
+use Rattle.epoch_core.specs.ReaderState.{loaded}
+use Rattle.epoch_core.specs.Spelt.{Loads, HasLoad, HasLinks}
+use Rattle.epoch_core.proofs.Failing.{in_cons, in_none, in_left, in_both, in_last}
+use Rattle.optimistic_get.specs.Loading.{most_words, loads_in, Keeps, GoesOn}
+use Rattle.optimistic_get.specs.Search.{IsBest, IsSlotWeighed, Scans, Searches}
+use Rattle.optimistic_get.proofs.Loads.{on_then, on_at_most, on_open, on_keeps, on_shape, load_here}
+use Rattle.optimistic_get.proofs.Items.{on_one}
+use Rattle.optimistic_get.proofs.Entries.{best_keeps, slot_keeps, no_worse_same}
+
+-- the buckets cs stand behind b, by links that were loaded, and the last one is this
+abbrev pub HasPath : Shape → Loads → ℕ → List ℕ → ℕ → Type 0
+HasPath shape loads b [] last = b ≡ last
+HasPath shape loads b (c ∷ cs) last = (c ≢ 0) × HasLoad loads (link_at shape b) c × HasPath shape loads c cs last
+
+path_keeps : (shape : Shape) (loads more : Loads) → Keeps loads more → (b : ℕ) (cs : List ℕ) (last : ℕ) → HasPath shape loads b cs last → HasPath shape more b cs last
+path_keeps shape loads more keeps b [] last is = is
+path_keeps shape loads more keeps b (c ∷ cs) last h = (h.0, keeps (link_at shape b) c h.1, path_keeps shape loads more keeps c cs last h.2)
+
+path_snoc : (shape : Shape) (loads : Loads) (b : ℕ) (cs : List ℕ) (last next : ℕ) → HasPath shape loads b cs last → next ≢ 0 → HasLoad loads (link_at shape last) next
+    → HasPath shape loads b (cs ++ next ∷ []) next
+path_snoc shape loads b [] last next is some load = (some, subst (λ (z : ℕ). HasLoad loads (link_at shape z) next) (sym is) load, refl)
+path_snoc shape loads b (c ∷ cs) last next h some load = (h.0, h.1, path_snoc shape loads c cs last next h.2 some load)
+
+-- a path that ends, or is as long as may be, is the chain's links
+
+path_ends : (shape : Shape) (loads : Loads) (left b : ℕ) (cs : List ℕ) (last : ℕ) → HasPath shape loads b cs last → length cs < left → HasLoad loads (link_at shape last) 0
+    → HasLinks shape loads left b cs
+path_ends shape loads zero b cs last h few load = absurd (omega arith)
+path_ends shape loads (suc left) b [] last is few load = subst (λ (z : ℕ). HasLoad loads (link_at shape z) 0) (sym is) load
+path_ends shape loads (suc left) b (c ∷ cs) last h few load = (h.0, h.1, path_ends shape loads left c cs last h.2 (omega arith) load)
+
+path_full : (shape : Shape) (loads : Loads) (left b : ℕ) (cs : List ℕ) (last : ℕ) → HasPath shape loads b cs last → length cs ≡ left → HasLinks shape loads left b cs
+path_full shape loads zero b [] last h full = tt
+path_full shape loads zero b (c ∷ cs) last h full = absurd (omega arith)
+path_full shape loads (suc left) b [] last h full = absurd (omega arith)
+path_full shape loads (suc left) b (c ∷ cs) last h full = (h.0, h.1, path_full shape loads left c cs last h.2 (omega arith))
+
+-- So many links were followed, and each bucket on the way was looked at.
+pub record Walks (old : ReaderState) (b links at : ℕ) (key : List ℕ) (best : Option ℕ) (value : List ℕ) (new : ReaderState) : Type 0 where
+  pub on : GoesOn old (links * (16 + 15 * most_words) + 15 * (1 + most_words)) new
+  pub behind : List ℕ
+  pub long : length behind ≡ links
+  pub path : HasPath new.shape (loads_in new) b behind at
+  pub found : IsBest new.shape (loads_in new) (b ∷ behind) key best value
+  pub slots : (c slot : ℕ) → Contains (b ∷ behind) c → slot < 15 → IsSlotWeighed new.shape (loads_in new) key best c slot
+
+none_found : (shape : Shape) (loads : Loads) (chain key value v : List ℕ) (best : Option ℕ) → ((best ≡ None) × (v ≡ value)) ⊎ IsBest shape loads chain key best v → IsBest shape loads chain key best v
+none_found shape loads chain key value v best (inl none) = subst (λ (z : Option ℕ). IsBest shape loads chain key z v) (sym none.0) tt
+none_found shape loads chain key value v best (inr is) = is
+
+-- the first bucket
+pub walks_first : (r q : ReaderState) (b : ℕ) (key : List ℕ) (value : List ℕ) (best : Option ℕ) (v : List ℕ) → Scans r b 15 key None value best v q → Walks r b 0 b key best v q
+walks_first r q b key value best v scans = record {
+  on = on_at_most r q (15 * (1 + most_words)) (0 * (16 + 15 * most_words) + 15 * (1 + most_words)) (omega arith) scans.on;
+  behind = [];
+  long = refl;
+  path = refl;
+  found = none_found q.shape (loads_in q) (b ∷ []) key value v best scans.found;
+  slots = λ c slot h l. elim (in_cons b c [] h) [
+    | inl is ↦ subst (λ (z : ℕ). IsSlotWeighed q.shape (loads_in q) key best z slot) is (scans.slots slot l)
+    | inr none ↦ absurd (in_none c none)
+  ];
+}
+
+module _ (r q q1 q2 : ReaderState) (b links at next : ℕ) (key : List ℕ) (best : Option ℕ) (value : List ℕ) (now : Option ℕ) (v : List ℕ)
+    (before : Walks r b links at key best value q) (load : q1 ≡ loaded (link_at q.shape at) next q) where
+  one : GoesOn q 1 q1
+  one = on_one q q1 (link_at q.shape at) next (on_open r q _ before.on) load
+
+  link_there : HasLoad (loads_in q1) (link_at q.shape at) next
+  link_there = load_here q q1 (link_at q.shape at) next (on_open r q _ before.on) load
+
+  -- where there is no link, the chain was looked at
+  pub searched : next ≡ 0 → links < r.shape.spares → Searches r b key best value q1
+  searched none few =
+      let shape = on_shape q q1 1 one in
+      let keeps = on_keeps q q1 1 one in
+      let start = on_shape r q _ before.on in record {
+        on = on_at_most r q1 (links * (16 + 15 * most_words) + 15 * (1 + most_words) + 1) ((r.shape.spares + 1) * (16 + 15 * most_words)) (omega arith)
+            (on_then r q q1 (links * (16 + 15 * most_words) + 15 * (1 + most_words)) 1 before.on one);
+        behind = before.behind;
+        links = subst (λ (z : Shape). HasLinks z (loads_in q1) z.spares b before.behind) (sym shape)
+            (path_ends q.shape (loads_in q1) q.shape.spares b before.behind at
+            (path_keeps q.shape (loads_in q) (loads_in q1) keeps b before.behind at before.path)
+            (omega (arith, before.long, ap (λ (z : Shape). z.spares) start))
+            (subst (HasLoad (loads_in q1) (link_at q.shape at)) none link_there));
+        found = subst (λ (z : Shape). IsBest z (loads_in q1) (b ∷ before.behind) key best value) (sym shape)
+            (best_keeps q.shape (loads_in q) (loads_in q1) keeps (b ∷ before.behind) (b ∷ before.behind) key best value (λ d h. h) before.found);
+        slots = λ c slot h l. subst (λ (z : Shape). IsSlotWeighed z (loads_in q1) key best c slot) (sym shape)
+            (slot_keeps q.shape (loads_in q) (loads_in q1) keeps key best best c slot (no_worse_same best) (before.slots c slot h l));
+      }
+
+  module _ (some : next ≢ 0) (scans : Scans q1 next 15 key best value now v q2) where
+    all : GoesOn q (1 + 15 * (1 + most_words)) q2
+    all = on_then q q1 q2 1 (15 * (1 + most_words)) one scans.on
+
+    shape : q2.shape ≡ q.shape
+    shape = on_shape q q2 _ all
+
+    keeps : Keeps (loads_in q) (loads_in q2)
+    keeps = on_keeps q q2 _ all
+
+    wider : (c : ℕ) → Contains (b ∷ before.behind) c → Contains (b ∷ (before.behind ++ next ∷ [])) c
+    wider c h = in_left (b ∷ before.behind) (next ∷ []) c h
+
+    new_one : (c : ℕ) → Contains (next ∷ []) c → Contains (b ∷ (before.behind ++ next ∷ [])) c
+    new_one c h = elim (in_cons next c [] h) [
+      | inl is ↦ subst (Contains (b ∷ (before.behind ++ next ∷ []))) is (in_last (b ∷ before.behind) next)
+      | inr none ↦ absurd (in_none c none)
+    ]
+
+    found_more : IsBest q2.shape (loads_in q2) (b ∷ (before.behind ++ next ∷ [])) key now v
+    found_more = elim scans.found [
+      | inl same ↦
+          subst (λ (z : Shape). IsBest z (loads_in q2) (b ∷ (before.behind ++ next ∷ [])) key now v) (sym shape)
+          (subst (λ (z : Option ℕ × List ℕ). IsBest q.shape (loads_in q2) (b ∷ (before.behind ++ next ∷ [])) key z.0 z.1) (λ i. (sym same.0 i, sym same.1 i))
+          (best_keeps q.shape (loads_in q) (loads_in q2) keeps (b ∷ before.behind) (b ∷ (before.behind ++ next ∷ [])) key best value wider before.found))
+      | inr is ↦ best_keeps q2.shape (loads_in q2) (loads_in q2) (λ place x h. h) (next ∷ []) (b ∷ (before.behind ++ next ∷ [])) key now v new_one is
+    ]
+
+    -- the bucket behind
+    pub walks_more : Walks r b (links + 1) next key now v q2
+    walks_more = record {
+      on = on_at_most r q2 (links * (16 + 15 * most_words) + 15 * (1 + most_words) + (1 + 15 * (1 + most_words))) ((links + 1) * (16 + 15 * most_words) + 15 * (1 + most_words)) (omega arith)
+          (on_then r q q2 (links * (16 + 15 * most_words) + 15 * (1 + most_words)) (1 + 15 * (1 + most_words)) before.on all);
+      behind = before.behind ++ next ∷ [];
+      long = omega (arith, before.long, length-append before.behind (next ∷ []));
+      path = subst (λ (z : Shape). HasPath z (loads_in q2) b (before.behind ++ next ∷ []) next) (sym shape)
+          (path_snoc q.shape (loads_in q2) b before.behind at next
+          (path_keeps q.shape (loads_in q) (loads_in q2) keeps b before.behind at before.path) some
+          (on_keeps q1 q2 _ scans.on (link_at q.shape at) next link_there));
+      found = found_more;
+      slots = λ c slot h l. elim (in_both (b ∷ before.behind) (next ∷ []) c h) [
+        | inl old ↦
+            subst (λ (z : Shape). IsSlotWeighed z (loads_in q2) key now c slot) (sym shape)
+            (slot_keeps q.shape (loads_in q) (loads_in q2) keeps key best now c slot scans.rises (before.slots c slot old l))
+        | inr new ↦ elim (in_cons next c [] new) [
+          | inl is ↦ subst (λ (z : ℕ). IsSlotWeighed q2.shape (loads_in q2) key now z slot) is (scans.slots slot l)
+          | inr none ↦ absurd (in_none c none)
+        ]
+      ];
+    }
+
+-- where as many links were followed as there are spares, the chain was looked at
+pub searched_all : (r q : ReaderState) (b links at : ℕ) (key : List ℕ) (best : Option ℕ) (value : List ℕ) → Walks r b links at key best value q → links ≡ r.shape.spares
+    → Searches r b key best value q
+searched_all r q b links at key best value w all =
+    let shape = on_shape r q _ w.on in record {
+      on = on_at_most r q (links * (16 + 15 * most_words) + 15 * (1 + most_words)) ((r.shape.spares + 1) * (16 + 15 * most_words)) (omega arith) w.on;
+      behind = w.behind;
+      links = path_full q.shape (loads_in q) q.shape.spares b w.behind at w.path (w.long ∙ (all ∙ ap (λ (z : Shape). z.spares) (sym shape)));
+      found = w.found;
+      slots = w.slots;
+    }

@@ -1,0 +1,59 @@
+use Rattle.std.proofs.Common.{sym, ◌∙◌, subst, arith}
+use Rattle.optimistic_get.specs.Loading.{HasKeyOf}
+use Rattle.optimistic_get.proofs.Items.{other_key_len, long_value, on_two, other_hash, on_three, other_word, has_key, when_true, when_false}
+use Rattle.optimistic_get.proofs.looking.value_len_at.Goals as goal
+
+pub returns-then-header_key_len-key-clause-told : goal.returns-then-header_key_len-key-clause-told
+returns-then-header_key_len-key-clause-told g c =
+    let reader = g.R.ReaderWords.reader in
+    other_key_len (reader c.args.seat.now) (reader c.item_word-header.new.self) c.args.offset c.item_word-header.result c.args.key.now c.requires.open c.item_word-header.ensures.event
+    (λ same. c.if-header_key_len-key.true (c.header_key_len.ensures ∙ same))
+
+pub returns-then-len-gt-MAX_VALUE_LEN-clause-told : goal.returns-then-len-gt-MAX_VALUE_LEN-clause-told
+returns-then-len-gt-MAX_VALUE_LEN-clause-told g c =
+    let reader = g.R.ReaderWords.reader in
+    let more = c.if-len-gt-MAX_VALUE_LEN.true in
+    long_value (reader c.args.seat.now) (reader c.item_word-header.new.self) c.args.offset c.item_word-header.result c.args.key.now c.requires.open c.item_word-header.ensures.event
+    (omega (arith, c.header_value_len-len.ensures))
+
+pub returns-then-item_word-hash-clause-on : goal.returns-then-item_word-hash-clause-on
+returns-then-item_word-hash-clause-on g c =
+    let reader = g.R.ReaderWords.reader in
+    let two = on_two (reader c.args.seat.now) (reader c.item_word-header.new.self) c.args.offset c.item_word-header.result c.args.key.now c.requires.open c.item_word-header.ensures.event
+    (reader c.item_word.new.self) c.item_word.result c.item_word.ensures.event in
+    record { same = two.same; loads = let few = two.loads in omega arith; current = two.current }
+
+pub returns-then-item_word-hash-clause-told : goal.returns-then-item_word-hash-clause-told
+returns-then-item_word-hash-clause-told g c =
+    let reader = g.R.ReaderWords.reader in
+    other_hash (reader c.args.seat.now) (reader c.item_word-header.new.self) c.args.offset c.item_word-header.result c.args.key.now c.requires.open c.item_word-header.ensures.event
+    (reader c.item_word.new.self) c.item_word.result c.item_word.ensures.event (λ same. c.if-item_word-hash.true (same ∙ sym c.requires.hash))
+
+pub returns-then-holds_words-clause-on : goal.returns-then-holds_words-clause-on
+returns-then-holds_words-clause-on g c =
+    let reader = g.R.ReaderWords.reader in
+    on_three (reader c.args.seat.now) (reader c.item_word-header.new.self) c.args.offset c.item_word-header.result c.args.key.now c.requires.open c.item_word-header.ensures.event
+    (reader c.item_word.new.self) c.item_word.result c.item_word.ensures.event (reader c.holds_words.new.seat) c.args.packed.now c.requires.packed c.holds_words.ensures.on
+
+pub returns-then-holds_words-clause-told : goal.returns-then-holds_words-clause-told
+returns-then-holds_words-clause-told g c =
+    let reader = g.R.ReaderWords.reader in
+    let fits = c.if-len-gt-MAX_VALUE_LEN.false in
+    subst (HasKeyOf (reader c.holds_words.new.seat) c.args.offset c.args.key.now) (sym c.header_value_len-len.ensures)
+    (has_key (reader c.args.seat.now) (reader c.item_word-header.new.self) c.args.offset c.item_word-header.result c.args.key.now c.requires.open c.item_word-header.ensures.event
+    (reader c.item_word.new.self) c.item_word.result c.item_word.ensures.event (reader c.holds_words.new.seat) c.args.packed.now c.requires.packed c.holds_words.ensures.on
+    (sym c.header_key_len.ensures ∙ c.if-header_key_len-key.false) (omega (arith, c.header_value_len-len.ensures)) (c.if-item_word-hash.false ∙ c.requires.hash)
+    (when_true _ _ c.holds_words.result c.if-holds_words.true c.holds_words.ensures.told))
+
+pub returns-else-holds_words-clause-on : goal.returns-else-holds_words-clause-on
+returns-else-holds_words-clause-on g c =
+    let reader = g.R.ReaderWords.reader in
+    on_three (reader c.args.seat.now) (reader c.item_word-header.new.self) c.args.offset c.item_word-header.result c.args.key.now c.requires.open c.item_word-header.ensures.event
+    (reader c.item_word.new.self) c.item_word.result c.item_word.ensures.event (reader c.holds_words.new.seat) c.args.packed.now c.requires.packed c.holds_words.ensures.on
+
+pub returns-else-holds_words-clause-told : goal.returns-else-holds_words-clause-told
+returns-else-holds_words-clause-told g c =
+    let reader = g.R.ReaderWords.reader in
+    other_word (reader c.args.seat.now) (reader c.item_word-header.new.self) c.args.offset c.item_word-header.result c.args.key.now c.requires.open c.item_word-header.ensures.event
+    (reader c.item_word.new.self) c.item_word.result c.item_word.ensures.event (reader c.holds_words.new.seat) c.args.packed.now c.requires.packed c.holds_words.ensures.on
+    (when_false _ _ c.holds_words.result c.if-holds_words.false c.holds_words.ensures.told)
