@@ -1,0 +1,113 @@
+//! A seat that reads, and a note of what one has seen.
+ghost use Rattle.std.specs.Prelude.{◌≡◌, ◌<◌, true, [], Some};
+ghost use Rattle.std.specs.Arc.{arc_value};
+ghost use Rattle.mica_model.specs.History.{IsPrefix};
+ghost use Rattle.epoch_core.specs.declared.reader.Try.{Try};
+ghost use Rattle.epoch_core.specs.Shape.{is_in_range, IsMain};
+ghost use Rattle.epoch_core.specs.Layout.{word_count};
+ghost use Rattle.epoch_core.specs.ReaderState.{stamped};
+ghost use Rattle.epoch_core.specs.Joins.{noted, told};
+ghost use Rattle.partition_table.specs.Rule.{is_reader, reader_in};
+
+use crate::plays::{Follows, Lends, Looks, Meets, Opens, Shuts, Stamps};
+use crate::rule::{Partition, View};
+use atomic_table::Seat;
+use epoch_core::{ReaderWords, Shape, WordAt};
+use std::alloc::Global;
+use std::sync::Arc;
+
+/// A reader's seat at a partition's table.
+#[derive(Drop)]
+pub struct ReaderSeat {
+    pub(crate) table: Arc<Partition, Global>,
+    pub(crate) seat: Seat<(), View>,
+    pub(crate) shape: Shape,
+    // The bucket of the open try.
+    pub(crate) bucket: u32,
+    pub ghost seated: { seat.table_id ≡ (arc_value table).shared.table_id },
+    pub ghost wide: { (arc_value table).shared.table_id.words ≡ word_count shape },
+    pub ghost valid: { is_in_range shape ≡ true },
+    pub ghost reads: { is_reader seat.me.0 ≡ true },
+    pub ghost light: { seat.me.1 ≡ [] },
+    pub ghost shaped: { (reader_in seat.me.0).shape ≡ shape },
+    pub ghost tries: { (t : Try) → (reader_in seat.me.0).current ≡ Some t → (t.bucket ≡ bucket) × IsMain shape bucket },
+}
+
+/// A seat without a table: it cannot load.
+#[derive(Drop)]
+pub struct Note {
+    pub(crate) seat: Seat<(), View>,
+    pub ghost reads: { is_reader seat.me.0 ≡ true },
+    pub ghost light: { seat.me.1 ≡ [] },
+}
+
+impl ReaderSeat {
+    /// A note that has seen the same.
+    pub fn note(&mut self) -> Note
+        ensures note { reader_in result.seat.me.0 ≡ noted (reader_in self.old.seat.me.0) }
+        ensures note_home { result.seat.table_id ≡ self.old.seat.table_id }
+        ensures same { reader_in self.new.seat.me.0 ≡ reader_in self.old.seat.me.0 }
+        ensures home { self.new.seat.table_id ≡ self.old.seat.table_id }
+    {
+        let seat = self.table.shared.split_seat::<Lends>(&mut self.seat);
+        Note { seat }
+    }
+
+    /// Takes in what a note of the same table has seen.
+    pub fn tell(&mut self, note: Note)
+        requires { note.seat.table_id ≡ self.old.seat.table_id }
+        ensures event { reader_in self.new.seat.me.0 ≡ stamped (reader_in self.new.seat.me.0).seen
+            (told (reader_in self.old.seat.me.0) (reader_in note.seat.me.0)) }
+        ensures seen { IsPrefix (reader_in self.old.seat.me.0).seen (reader_in self.new.seat.me.0).seen
+            × IsPrefix (reader_in note.seat.me.0).seen (reader_in self.new.seat.me.0).seen }
+        ensures done { IsPrefix (reader_in self.old.seat.me.0).done (reader_in self.new.seat.me.0).done
+            × IsPrefix (reader_in note.seat.me.0).done (reader_in self.new.seat.me.0).done }
+        ensures home { self.new.seat.table_id ≡ self.old.seat.table_id }
+    {
+        let Note { seat } = note;
+        self.table.shared.join_seat::<Meets>(&mut self.seat, seat);
+        self.table.shared.load::<Stamps>(&mut self.seat, 0);
+    }
+}
+
+impl ReaderWords for ReaderSeat {
+    ghost reader = { λ s. reader_in s.seat.me.0 };
+
+    ghost home = { λ s. s.seat.table_id };
+
+    fn shape(&self) -> Shape {
+        self.shape
+    }
+
+    fn first_epoch(&mut self, bucket: u32) -> u64 {
+        let place = self.shape.place(WordAt::Epoch(bucket));
+        let epoch = self.table.shared.load::<Opens>(&mut self.seat, place);
+        self.bucket = bucket;
+        epoch
+    }
+
+    fn entry(&mut self, bucket: u32, slot: u32) -> u64 {
+        let place = self.shape.place(WordAt::Entry(bucket, slot));
+        self.table.shared.load::<Looks>(&mut self.seat, place)
+    }
+
+    fn link(&mut self, bucket: u32) -> u32 {
+        let place = self.shape.place(WordAt::Link(bucket));
+        self.table.shared.load::<Follows>(&mut self.seat, place) as u32
+    }
+
+    fn item_word(&mut self, offset: u64) -> u64 {
+        let place = self.shape.place(WordAt::Item(offset));
+        self.table.shared.load::<Looks>(&mut self.seat, place)
+    }
+
+    fn stamp(&mut self) -> u64 {
+        let place = self.shape.place(WordAt::Stamp);
+        self.table.shared.load::<Stamps>(&mut self.seat, place)
+    }
+
+    fn last_epoch(&mut self) -> u64 {
+        let place = self.shape.place(WordAt::Epoch(self.bucket));
+        self.table.shared.load::<Shuts>(&mut self.seat, place)
+    }
+}
