@@ -18,13 +18,16 @@ use Rattle.epoch_core.specs.OwnerState.{as_made, epoch_in}
 use Rattle.epoch_core.specs.Events.{IsAllowed, place_of, word_after, after}
 use Rattle.epoch_core.specs.Kept.{Kept}
 use Rattle.epoch_core.specs.Grows.{Grows}
-use Rattle.epoch_core.specs.ReaderState.{opened, loaded, stamped, shut}
+use Rattle.std.specs.Prelude.{is_some, if◌then◌else◌, ◌==◌}
+use Rattle.epoch_core.specs.ReaderState.{new_try, opened, loaded, stamped, shut}
 use Rattle.epoch_core.specs.ReaderKept.{MetKept, ReaderKept, Tells}
-use Rattle.epoch_core.specs.Joins.{lent, met_by, known, told}
+use Rattle.epoch_core.specs.Joins.{lent, noted, met_by, known, told}
 use Rattle.epoch_core.proofs.Made.{kept_as_made}
 use Rattle.epoch_core.proofs.Inside.{epoch_small}
 use Rattle.epoch_core.proofs.Keeps.{kept_after}
 use Rattle.epoch_core.proofs.Growing.{grows, reader_grows}
+use Rattle.epoch_core.proofs.Prefixes.{prefix_then}
+use Rattle.epoch_core.proofs.Failing.{in_head, in_tail}
 use Rattle.epoch_core.proofs.LoadKeeps.{least_epoch, opens as opens_keep, loads as loads_keep, stamps as stamps_keep, shuts as shuts_keep, tells}
 use Rattle.epoch_core.proofs.JoinKeeps.{lends, notes, meet_grows, meets, tells_of}
 use Rattle.partition_table.specs.declared.rule.View.{View}
@@ -319,3 +322,73 @@ starts shape words is valid = record {
     only : (j : ℕ) (v : View) → get_elem? (Owns (as_made shape) ∷ []) j ≡ some v → ViewKept (as_made shape) j v
     only zero v at = subst (ViewKept (as_made shape) 0) (some-injective _ _ at) (refl, refl)
     only (suc j) v at = absurd (cc at)
+
+-- What the seats' methods read off their steps
+
+pub met_owns : (v w : View) → is_owner v ≡ true → is_owner (view_met v w) ≡ true
+met_owns (Owns o) w e = refl
+met_owns (Reads r) w e = absurd (cc e)
+met_owns Spent w e = absurd (cc e)
+
+pub met_owner : (v w : View) → is_owner v ≡ true → owner_in (view_met v w) ≡ met_by (owner_in v) (reader_in w)
+met_owner (Owns o) w e = refl
+met_owner (Reads r) w e = absurd (cc e)
+met_owner Spent w e = absurd (cc e)
+
+pub lent_owner : (v : View) → is_owner v ≡ true → view_lent v ≡ lent (owner_in v)
+lent_owner (Owns o) e = refl
+lent_owner (Reads r) e = absurd (cc e)
+lent_owner Spent e = absurd (cc e)
+
+pub noted_reader : (v : View) → is_reader v ≡ true → view_lent v ≡ noted (reader_in v)
+noted_reader (Owns o) e = absurd (cc e)
+noted_reader (Reads r) e = refl
+noted_reader Spent e = absurd (cc e)
+
+pub met_reads : (v w : View) → is_reader v ≡ true → (is_reader (view_met v w) ≡ true) × (reader_in (view_met v w) ≡ told (reader_in v) (reader_in w))
+met_reads (Owns o) w e = absurd (cc e)
+met_reads (Reads r) w e = (refl, refl)
+met_reads Spent w e = absurd (cc e)
+
+-- the bucket of an open try
+pub try_main : (shape : Shape) (current : Option Try) (b : ℕ) → is_some current ≡ true → ((t : Try) → current ≡ Some t → (t.bucket ≡ b) × IsMain shape b) → IsMain shape b
+try_main shape None b trying tries = absurd (cc trying)
+try_main shape (Some t) b trying tries = (tries t refl).1
+
+-- the bucket of the try that a first epoch load opened
+
+opened_bucket : (even : Bool) (b n : ℕ) (t : Try) → (if even then Some (new_try b n) else None) ≡ Some t → t.bucket ≡ b
+opened_bucket true b n t e = cc
+opened_bucket false b n t e = absurd (cc e)
+
+pub opened_tries : (q q' : ReaderState) (b n : ℕ) → q' ≡ opened b n q → (t : Try) → q'.current ≡ Some t → t.bucket ≡ b
+opened_tries q q' b n is t at = opened_bucket (n % 2 == 0) b n t (sym (ap (λ (z : ReaderState). z.current) is) ∙ at)
+
+module _ (m m' m'' : Seated) (w : View) (n slots i : ℕ) (reads : is_reader m.0 ≡ true) (joined : m' ≡ (view_met m.0 w, m.1)) (h : stamps (step slots i 0 0 none) m' n m'') where
+  told_is : reader_in m'.0 ≡ told (reader_in m.0) (reader_in w)
+  told_is = ap (λ (z : Seated). reader_in z.0) joined ∙ (met_reads m.0 w reads).1
+
+  both_known : MetKept (told (reader_in m.0) (reader_in w))
+  both_known = subst MetKept told_is h.4
+
+  seen_is : (reader_in m''.0).seen ≡ h.0
+  seen_is = ap (λ (z : Seated). (reader_in z.0).seen) h.1
+
+  done_is : (reader_in m''.0).done ≡ (told (reader_in m.0) (reader_in w)).done
+  done_is = ap (λ (z : Seated). (reader_in z.0).done) h.1 ∙ ap (λ (z : ReaderState). z.done) told_is
+
+  seen_more : (seen : History) → IsPrefix seen (told (reader_in m.0) (reader_in w)).seen → IsPrefix seen (reader_in m''.0).seen
+  seen_more seen s = subst (IsPrefix seen) (sym seen_is)
+      (prefix_then seen (told (reader_in m.0) (reader_in w)).seen h.0 s (subst (λ (z : ReaderState). IsPrefix z.seen h.0) told_is h.2))
+
+  first_known : IsPrefix (reader_in m.0).seen (told (reader_in m.0) (reader_in w)).seen × IsPrefix (reader_in m.0).done (told (reader_in m.0) (reader_in w)).done
+  first_known = both_known (known (reader_in m.0)) (in_head (known (reader_in m.0)) (known (reader_in w) ∷ []))
+
+  second_known : IsPrefix (reader_in w).seen (told (reader_in m.0) (reader_in w)).seen × IsPrefix (reader_in w).done (told (reader_in m.0) (reader_in w)).done
+  second_known = both_known (known (reader_in w)) (in_tail (known (reader_in m.0)) (known (reader_in w)) (known (reader_in w) ∷ []) (in_head (known (reader_in w)) []))
+
+  pub told_seen : IsPrefix (reader_in m.0).seen (reader_in m''.0).seen × IsPrefix (reader_in w).seen (reader_in m''.0).seen
+  told_seen = (seen_more (reader_in m.0).seen first_known.0, seen_more (reader_in w).seen second_known.0)
+
+  pub told_done : IsPrefix (reader_in m.0).done (reader_in m''.0).done × IsPrefix (reader_in w).done (reader_in m''.0).done
+  told_done = (subst (IsPrefix (reader_in m.0).done) (sym done_is) first_known.1, subst (IsPrefix (reader_in w).done) (sym done_is) second_known.1)

@@ -1,0 +1,12 @@
+use Rattle.std.proofs.Common.{rules, sym, subst}
+use Rattle.epoch_core.specs.declared.shape.Shape.{Shape}
+use Rattle.epoch_core.specs.Layout.{IsInside}
+use Rattle.partition_table.proofs.Steps.{reads}
+use Rattle.partition_table.proofs.Bounds.{word_inside}
+use Rattle.partition_table.proofs.owner.OwnerSeatOwnerWords.read.Goals as goal
+
+pub load-requires : goal.load-requires
+load-requires c =
+    let self = c.args.self.now in
+    let there = word_inside self.shape c.args.at c.place-place.result _ self.valid (subst (λ (z : Shape). IsInside z c.args.at) self.shaped c.requires) c.place-place.ensures self.wide in
+    (search rules, search rules, reads _ _ self.seat.me self.owns _)

@@ -1,0 +1,13 @@
+use Rattle.std.proofs.Common.{rules, sym, subst}
+use Rattle.epoch_core.specs.declared.shape.Shape.{Shape}
+use Rattle.epoch_core.specs.declared.shape.WordAt.TheVariants.{Item}
+use Rattle.epoch_core.specs.Layout.{IsInside}
+use Rattle.partition_table.proofs.Steps.{loads_at}
+use Rattle.partition_table.proofs.Bounds.{word_inside}
+use Rattle.partition_table.proofs.reader.ReaderSeatReaderWords.item_word.Goals as goal
+
+pub load-requires : goal.load-requires
+load-requires c =
+    let self = c.args.self.now in
+    let there = word_inside self.shape (Item c.args.offset) c.place-place.result _ self.valid tt c.place-place.ensures self.wide in
+    (search rules, search rules, loads_at _ _ self.seat.me self.reads _)

@@ -1,0 +1,13 @@
+use Rattle.std.proofs.Common.{rules, sym, subst}
+use Rattle.epoch_core.specs.declared.shape.Shape.{Shape}
+use Rattle.epoch_core.specs.declared.shape.WordAt.TheVariants.{Stamp}
+use Rattle.epoch_core.specs.Layout.{IsInside}
+use Rattle.partition_table.proofs.Steps.{stamps_here}
+use Rattle.partition_table.proofs.Bounds.{word_inside}
+use Rattle.partition_table.proofs.reader.ReaderSeatReaderWords.stamp.Goals as goal
+
+pub load-requires : goal.load-requires
+load-requires c =
+    let self = c.args.self.now in
+    let there = word_inside self.shape (Stamp) c.place-place.result _ self.valid tt c.place-place.ensures self.wide in
+    (search rules, search rules, stamps_here _ _ self.seat.me self.reads _ c.place-place.ensures)
