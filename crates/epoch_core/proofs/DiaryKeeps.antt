@@ -20,7 +20,7 @@ can_more : (es : List Event) (e : Event) (o : OwnerState) → CanPlay es o → I
 can_more [] e o can allowed = (allowed, tt)
 can_more (x ∷ es) e o can allowed = (can.0, can_more es e (after x o) can.1 allowed)
 
-plays_more : (es : List Event) (e : Event) (o : OwnerState) → plays (es ++ e ∷ []) o ≡ after e (plays es o)
+pub plays_more : (es : List Event) (e : Event) (o : OwnerState) → plays (es ++ e ∷ []) o ≡ after e (plays es o)
 plays_more [] e o = refl
 plays_more (x ∷ es) e o = plays_more es e (after x o)
 
@@ -45,7 +45,7 @@ module _ (slots id : ℕ) (me : Me (Unit {0}) Diary) where
   all_fit vs now fit all j d at = ⊎_elim (λ (t : (j ≡ id) × (now ≡ d)). subst DiaryFits t.1 fit) (λ t. all j d t.1) (at_set vs id j now d at)
 
   pub knows_at : (i : ℕ) → Allows AllFit slots id me i (λ n. n) (knows (step slots i 0 0 none) me)
-  knows_at i s all _ at _ = let f = all id me.0 at in (me.0, keeps, tt, all_fit s.views me.0 f all, (refl, f.owner))
+  knows_at i s all _ at _ = let f = all id me.0 at in (me.0, keeps, tt, all_fit s.views me.0 f all, (refl, f))
 
   pub happens_at : (e : Event) (i n : ℕ) → IsAllowed e me.0.owner → Allows AllFit slots id me i (λ _. n) (λ _. happened e (step slots i n 0 none) me n)
   happens_at e i n allowed s all _ at _ =

@@ -24,3 +24,5 @@ pub mod Spelling
 pub mod LoadKeeps
 pub mod Meeting
 pub mod JoinKeeps
+pub mod ScriptKeeps
+pub mod Cuts

@@ -64,7 +64,7 @@ abbrev pub AllFit : State (Unit {0}) Diary → Type 0
 AllFit s = (j : ℕ) (d : Diary) → get_elem? s.views j ≡ some d → DiaryFits d
 
 abbrev pub knows : Step (Unit {0}) → Me (Unit {0}) Diary → ℕ → Me (Unit {0}) Diary → Type 0
-knows step me n now = (now ≡ me) × Kept me.0.owner
+knows step me n now = (now ≡ me) × DiaryFits me.0
 
 abbrev pub happened :
     Event → Step (Unit {0}) → Me (Unit {0}) Diary → ℕ → Me (Unit {0}) Diary → Type 0

@@ -16,3 +16,4 @@ pub mod Grows
 pub mod Joins
 pub mod OwnerStep
 pub mod Diary
+pub mod Script

@@ -3,7 +3,7 @@
 ghost use Rattle.std.specs.Prelude.{◌≡◌, ◌<◌, true, map, ◌∷◌, ◌++◌, [], length, nat_lt, if◌then◌else◌, IfOk, vec_len, vec_capacity};
 ghost use Rattle.epoch_core.specs.Shape.{IsValidShape, is_in_range};
 ghost use Rattle.epoch_core.specs.OwnerState.{as_made};
-ghost use Rattle.epoch_core.specs.Events.{IsAllowed, place_of};
+ghost use Rattle.epoch_core.specs.Events.{IsAllowed, CanPlay, place_of};
 ghost use Rattle.epoch_core.specs.Kept.{Kept};
 ghost use Rattle.epoch_core.specs.Diary.{with_room, diary_after, owner_event};
 
@@ -154,6 +154,40 @@ impl PlainWords {
         ensures { result.now ≡ map owner_event self.now.seat.me.0.kept }
     {
         self.events.as_slice()
+    }
+}
+
+/// The kept events, and a token that knows the writes of their marks.
+#[derive(Drop)]
+pub(crate) struct Script {
+    pub events: Vec<OwnerEvent>,
+    pub shape: Shape,
+    pub token: Seat<(), Diary>,
+}
+
+impl PlainWords {
+    // Leaves the words behind.
+    pub(crate) fn into_script(self) -> Script
+        ensures events { result.events.items ≡ map owner_event result.token.me.0.kept }
+        ensures can { CanPlay result.token.me.0.kept (as_made result.shape) }
+        ensures valid { is_in_range result.shape ≡ true }
+        ensures same { (result.shape ≡ self.shape) × (result.token.me ≡ self.seat.me) }
+    {
+        let PlainWords {
+            words: _,
+            events,
+            shape,
+            book,
+            seat,
+        } = self;
+        let mut token = seat;
+        book.shared.load::<Knows>(&mut token, 0);
+        drop(book);
+        Script {
+            events,
+            shape,
+            token,
+        }
     }
 }
 

@@ -1,0 +1,131 @@
+-- Each step of a script keeps the rule of the one-word table whose seat has a book.
+use Rattle.std.proofs.Common.{◌≡◌, ℕ, zero, suc, ◌+◌, ◌<◌, ◌^◌, List, [], ◌∷◌, ◌++◌, map, drop, length, get_or, set, refl, sym, ap, ◌∙◌, subst, ⊎_elim, arith, drop-cons}
+use Rattle.std.proofs.lemmas.List.{append-nil}
+use mathlib.Core.Option.{some, none, some-injective}
+use lib.ListN.{get_elem?}
+use Rattle.atomic_table.specs.Table.{step, keeps, opening, Allows}
+use Rattle.atomic_table.proofs.Lists.{at_set}
+use Rattle.epoch_core.specs.declared.shape.Shape.{Shape}
+use Rattle.epoch_core.specs.declared.event.Event.{Event}
+use Rattle.epoch_core.specs.declared.event.Event.TheVariants.{Begins, Marks, PutsWord, PutsEntry, PutsLink, Ends}
+use Rattle.epoch_core.specs.declared.event.OwnerEvent.{OwnerEvent}
+use Rattle.epoch_core.specs.declared.state.OwnerState.{OwnerState}
+use Rattle.epoch_core.specs.declared.reader.ReaderState.{ReaderState}
+use Rattle.epoch_core.specs.declared.scripted.Book.{Book}
+use Rattle.epoch_core.specs.Shape.{IsValidShape}
+use Rattle.epoch_core.specs.OwnerState.{as_made}
+use Rattle.epoch_core.specs.Events.{IsAllowed, place_of, after, CanPlay, plays}
+use Rattle.epoch_core.specs.Diary.{owner_event}
+use Rattle.epoch_core.specs.Kept.{Kept}
+use Rattle.epoch_core.specs.ReaderKept.{ReaderKept}
+use Rattle.epoch_core.specs.Script.{BookFits, AllFit, opening_book, Reading, laid, next_owner, first_of, rest_of, play_next, played, Look, first, word, stamp, last, look_at, MayLook, looked, owner_place, owner_sum}
+use Rattle.epoch_core.proofs.Made.{kept_as_made}
+use Rattle.epoch_core.proofs.Marked.{ends_main}
+use Rattle.epoch_core.proofs.Keeps.{kept_after}
+use Rattle.epoch_core.proofs.Inside.{event_inside, epoch_small}
+use Rattle.epoch_core.proofs.Growing.{grows, reader_grows}
+use Rattle.epoch_core.proofs.LoadKeeps.{opens, loads, stamps, shuts}
+use Rattle.epoch_core.proofs.JoinKeeps.{lends}
+use Rattle.epoch_core.proofs.DiaryKeeps.{plays_more}
+
+next_fits : (b : Book) → BookFits b → BookFits (play_next b)
+next_fits b f = by_rest b.rest f.rest
+  where
+    by_rest : (rest : List Event) → CanPlay rest b.owner → BookFits (record b { owner = next_owner rest b.owner; played = b.played ++ first_of rest; rest = rest_of rest })
+    by_rest [] can = record {
+      owner = f.owner;
+      reader = f.reader;
+      played = f.played ∙ ap (λ (z : List Event). plays z (as_made b.owner.shape)) (sym (append-nil b.played));
+      rest = tt;
+    }
+    by_rest (e ∷ es) can = record {
+      owner = kept_after b.owner f.owner e can.0;
+      reader = reader_grows b.owner (after e b.owner) (grows b.owner f.owner e can.0) b.reader f.reader;
+      played = ap (after e) f.played ∙ sym (plays_more b.played e (as_made b.owner.shape));
+      rest = can.1;
+    }
+
+look_fits : (look : Look) (o : OwnerState) (r : ReaderState) → Kept o → ReaderKept o r → MayLook look r → ReaderKept o (look_at look o r)
+look_fits (first b) o r s k may = opens o s r k b may
+look_fits (word place) o r s k may = loads o s r k place
+look_fits stamp o r s k may = stamps o s r k
+look_fits (last b) o r s k may = shuts o s r k b may
+
+pub more_loads : (look : Look) (o : OwnerState) (r : ReaderState) → (look_at look o r).loads ≡ r.loads + 1
+more_loads (first b) o r = refl
+more_loads (word place) o r = refl
+more_loads stamp o r = refl
+more_loads (last b) o r = refl
+
+pub same_shape : (look : Look) (o : OwnerState) (r : ReaderState) → (look_at look o r).shape ≡ r.shape
+same_shape (first b) o r = refl
+same_shape (word place) o r = refl
+same_shape stamp o r = refl
+same_shape (last b) o r = refl
+
+module _ (slots id : ℕ) (me : Reading) where
+  all_fit : (vs : List Book) (p : Book) → BookFits p → ((j : ℕ) (b : Book) → get_elem? vs j ≡ some b → BookFits b)
+      → (j : ℕ) (b : Book) → get_elem? (set vs id p) j ≡ some b → BookFits b
+  all_fit vs p fit all j b at = ⊎_elim (λ (t : (j ≡ id) × (p ≡ b)). subst BookFits t.1 fit) (λ t. all j b t.1) (at_set vs id j p b at)
+
+  pub plays_at : (i n : ℕ) → Allows AllFit slots id me i (λ _. n) (λ _. played (step slots i n 0 none) me n)
+  plays_at i n s all _ at _ =
+      let f = all id me.0 at in
+      (play_next me.0, keeps, tt, all_fit s.views (play_next me.0) (next_fits me.0 f) all, (refl, f))
+
+  pub lays_at : (events : List Event) (i n : ℕ) → CanPlay events me.0.owner → Allows AllFit slots id me i (λ _. n) (λ _. laid events (step slots i n 0 none) me n)
+  lays_at events i n can s all _ at _ =
+      let f = all id me.0 at in
+      let p : Book = record me.0 { rest = events } in
+      (p, keeps, tt, all_fit s.views p (record { owner = f.owner; reader = f.reader; played = f.played; rest = can }) all, refl)
+
+  pub looks_at : (look : Look) (i n : ℕ) → MayLook look me.0.reader → Allows AllFit slots id me i (λ _. n) (λ _. looked look (step slots i n 0 none) me n)
+  looks_at look i n may s all _ at _ =
+      let f = all id me.0 at in
+      let p : Book = record me.0 { reader = look_at look me.0.owner me.0.reader } in
+      let fits : BookFits p = record { owner = f.owner; reader = look_fits look me.0.owner me.0.reader f.owner f.reader may; played = f.played; rest = f.rest } in
+      (p, keeps, tt, all_fit s.views p fits all, (refl, f))
+
+pub starts : (shape : Shape) (words : List ℕ) → IsValidShape shape → AllFit (opening words [] (opening_book shape))
+starts shape words valid zero b at =
+    let s = kept_as_made shape valid in
+    subst BookFits (some-injective _ _ at) record { owner = s; reader = lends (as_made shape) s; played = refl; rest = tt }
+starts shape words valid (suc j) b at = absurd (cc at)
+
+-- the next event of a script, by what is in memory of it
+
+same_place : (shape : Shape) (e : Event) → owner_place shape (owner_event e) ≡ place_of shape e
+same_place shape (Begins b) = refl
+same_place shape (Marks write n) = refl
+same_place shape (PutsWord p x) = refl
+same_place shape (PutsEntry c slot entry) = refl
+same_place shape (PutsLink c next) = refl
+same_place shape (Ends b) = refl
+
+sum_small : (e : Event) (o : OwnerState) → Kept o → IsAllowed e o → owner_sum (owner_event e) (get_or o.words (place_of o.shape e) 0) < 2 ^ 64
+sum_small (Begins b) o s a = epoch_small o s b a.main
+sum_small (Marks write n) o s a = omega arith
+sum_small (PutsWord p x) o s a = omega arith
+sum_small (PutsEntry c slot entry) o s a = omega arith
+sum_small (PutsLink c next) o s a = omega arith
+sum_small (Ends b) o s a = epoch_small o s b (ends_main o s o.phase refl b a.marked)
+
+abbrev Fits : OwnerEvent → Shape → List ℕ → Type 0
+Fits x shape items = (owner_place shape x < length items) × (owner_sum x (get_or items (owner_place shape x) 0) < 2 ^ 64)
+
+head_fits : (rest : List Event) (xs : List OwnerEvent) (x : OwnerEvent) (o : OwnerState) → x ∷ xs ≡ map owner_event rest → Kept o → CanPlay rest o → Fits x o.shape o.words
+head_fits [] xs x o is s can = absurd (cc is)
+head_fits (e ∷ es) xs x o is s can =
+    let same : owner_event e ≡ x = cc in
+    let place = same_place o.shape e in
+    subst (λ (z : OwnerEvent). Fits z o.shape o.words) same (
+      subst (λ (z : ℕ). z < length o.words) (sym place) (event_inside o s e can.0),
+      subst (λ (z : ℕ). owner_sum (owner_event e) (get_or o.words z 0) < 2 ^ 64) (sym place) (sum_small e o s can.0),
+    )
+
+pub next_fits_memory : (b : Book) (events : List OwnerEvent) (done : ℕ) (x : OwnerEvent) (shape : Shape) (items : List ℕ) → drop done events ≡ map owner_event b.rest → done < length events
+    → x ≡ get_or events done x → BookFits b → b.owner.shape ≡ shape → items ≡ b.owner.words → Fits x shape items
+next_fits_memory b events done x shape items is l at f same words =
+    let head : drop done events ≡ x ∷ drop (suc done) events = drop-cons events done x l ∙ ap (λ (z : OwnerEvent). z ∷ drop (suc done) events) (sym at) in
+    subst (λ (z : Shape × List ℕ). Fits x z.0 z.1) (λ j. (same j, sym words j))
+    (head_fits b.rest (drop (suc done) events) x b.owner (sym head ∙ is) f.owner f.rest)

@@ -1,0 +1,356 @@
+//! A reader of one thread, between whose loads the kept events of an owner are played.
+ghost use Rattle.std.specs.Prelude.{◌≡◌, ℕ, ◌+◌, ◌<◌, ◌≤◌, ◌^◌, true, [], map, drop, length, min, slice_index, slice_set, Some, IfOk};
+ghost use Rattle.epoch_core.specs.declared.reader.Try.{Try};
+ghost use Rattle.epoch_core.specs.Shape.{IsMain, is_in_range};
+ghost use Rattle.epoch_core.specs.Layout.{word_count};
+ghost use Rattle.epoch_core.specs.Kept.{Kept};
+ghost use Rattle.epoch_core.specs.ReaderKept.{ReaderKept};
+ghost use Rattle.epoch_core.specs.Events.{CanPlay};
+ghost use Rattle.epoch_core.specs.Diary.{owner_event};
+ghost use Rattle.epoch_core.specs.ReaderState.{newcomer};
+ghost use Rattle.epoch_core.specs.Script.{Rises, NoneAbove, cut_at, BookFits, MayLook, StaysIn, look_at, owner_place, owner_word, owner_sum};
+
+use crate::event::{Event, OwnerEvent};
+use crate::plain::{Diary, PlainWords, Script};
+use crate::reader::ReaderState;
+use crate::reading::ReaderWords;
+use crate::shape::{Shape, WordAt};
+use crate::state::OwnerState;
+use atomic_table::{Play, Seat, Shared, Table, TableRule};
+use mica_io::NoMemory;
+use std::alloc::Global;
+use std::collections::LinkedList;
+use std::marker::{Brand, PhantomData};
+
+/// The owner's state so far, the reader's, the events that were played, and those that are left. No value of
+/// it is made.
+pub struct Book {
+    pub owner: OwnerState,
+    pub reader: ReaderState,
+    pub played: LinkedList<Event>,
+    pub rest: LinkedList<Event>,
+}
+
+/// The rule of the one word, whose one seat has a book.
+pub struct Plot;
+
+impl TableRule<(), Book, Shape> for Plot {
+    ghost use Rattle.epoch_core.specs.Script.{AllFit, opening_book};
+
+    ghost holds = { λ _. AllFit };
+
+    ghost first = { opening_book };
+}
+
+// The events of a script, for the proof alone.
+trait Tells {
+    ghost use Rattle.std.specs.Prelude.{List};
+    ghost use Rattle.epoch_core.specs.declared.event.Event.{Event};
+
+    ghost events: { List Event };
+}
+
+impl Tells for Brand {
+    ghost use Rattle.std.specs.Prelude.{[]};
+
+    ghost events = { [] };
+}
+
+// The script is laid down.
+struct Lays<K> {
+    script: PhantomData<K>,
+}
+
+impl<K: Tells> Play<(), Book> for Lays<K> {
+    ghost use Rattle.epoch_core.specs.Script.{laid};
+
+    ghost then = { laid K.events };
+}
+
+// The next event happens.
+struct Next;
+
+impl Play<(), Book> for Next {
+    ghost use Rattle.epoch_core.specs.Script.{played};
+
+    ghost then = { played };
+}
+
+// Which load a step is, for the proof alone. Each call picks it.
+trait Looks {
+    ghost use Rattle.epoch_core.specs.Script.{Look};
+
+    ghost look: { Look };
+}
+
+impl Looks for Brand {
+    ghost use Rattle.epoch_core.specs.Script.{stamp};
+
+    ghost look = { stamp };
+}
+
+// The load that K names.
+struct Loads<K> {
+    look: PhantomData<K>,
+}
+
+impl<K: Looks> Play<(), Book> for Loads<K> {
+    ghost use Rattle.epoch_core.specs.Script.{looked};
+
+    ghost then = { looked K.look };
+}
+
+// The words so far, the events, and how many of them were played.
+#[derive(Drop)]
+struct Stage {
+    words: Vec<u64>,
+    events: Vec<OwnerEvent>,
+    played: usize,
+    shape: Shape,
+    book: Table<(), Book, Shape, Plot, Global>,
+    seat: Seat<(), Book>,
+    pub ghost seated: { seat.table_id ≡ book.shared.table_id },
+    pub ghost wide: { book.shared.table_id.words ≡ 1 },
+    pub ghost some_words: { 0 < shape.words },
+    pub ghost same: { words.items ≡ seat.me.0.owner.words },
+    pub ghost shaped: { seat.me.0.owner.shape ≡ shape },
+    pub ghost script: { drop played events.items ≡ map owner_event seat.me.0.rest },
+    pub ghost inside: { played ≤ length events.items },
+}
+
+/// A reader whose loads are numbered from 1. When load number `i` happens, the first `cuts[i - 1]` events have
+/// been played; past the end of the cuts the last one counts.
+#[derive(Drop)]
+pub struct Scripted {
+    stage: Stage,
+    cuts: Vec<u32>,
+    // How many loads there were, up to the number of cuts.
+    loads: usize,
+    // The bucket of the open try.
+    bucket: u32,
+    pub ghost valid: { is_in_range stage.shape ≡ true },
+    pub ghost read_shape: { stage.seat.me.0.reader.shape ≡ stage.shape },
+    pub ghost rise: { Rises cuts.items },
+    pub ghost few: { NoneAbove (length stage.events.items) cuts.items },
+    pub ghost counted: { loads ≡ min stage.seat.me.0.reader.loads (length cuts.items) },
+    pub ghost at: { stage.played ≡ cut_at cuts.items stage.seat.me.0.reader.loads },
+    pub ghost tries: { (t : Try) → stage.seat.me.0.reader.current ≡ Some t
+        → (t.bucket ≡ bucket) × IsMain stage.shape bucket },
+}
+
+// The event's store.
+fn apply(words: &mut Vec<u64>, shape: &Shape, event: OwnerEvent)
+    requires some { 0 < shape.now.words }
+    requires inside { owner_place shape.now event < length words.old.items }
+    requires fits { owner_sum event
+        (slice_index words.old.items (owner_place shape.now event)) < 2 ^ 64 }
+    ensures { words.new.items ≡ slice_set words.old.items (owner_place shape.entry.now event)
+        (owner_word event (slice_index words.old.items (owner_place shape.entry.now event))) }
+{
+    match event {
+        OwnerEvent::Begin(bucket) => {
+            let place = shape.place(WordAt::Epoch(bucket));
+            words[place] += 1;
+        }
+        OwnerEvent::Mark(stamp) => {
+            let place = shape.place(WordAt::Stamp);
+            words[place] = stamp;
+        }
+        OwnerEvent::PutWord(offset, value) => {
+            let place = shape.place(WordAt::Item(offset));
+            words[place] = value;
+        }
+        OwnerEvent::PutEntry(bucket, slot, value) => {
+            let place = shape.place(WordAt::Entry(bucket, slot));
+            words[place] = value;
+        }
+        OwnerEvent::PutLink(bucket, next) => {
+            let place = shape.place(WordAt::Link(bucket));
+            words[place] = u64::from(next);
+        }
+        OwnerEvent::End(bucket) => {
+            let place = shape.place(WordAt::Epoch(bucket));
+            words[place] += 1;
+        }
+    }
+}
+
+// The load that K names.
+fn look<K: Looks>(book: &Shared<(), Book, Shape, Plot>, seat: &mut Seat<(), Book>)
+    requires book { (seat.old.table_id ≡ book.now.table_id) × (0 < book.now.table_id.words) }
+    requires may { MayLook K.look seat.old.me.0.reader }
+    ensures reader { seat.new.me.0.reader ≡ look_at K.look seat.old.me.0.owner seat.old.me.0.reader }
+    ensures owner { seat.new.me.0.owner ≡ seat.old.me.0.owner }
+    ensures rest { seat.new.me.0.rest ≡ seat.old.me.0.rest }
+    ensures fits { BookFits seat.old.me.0 }
+    ensures seat { seat.new.table_id ≡ seat.old.table_id }
+{
+    book.store::<Loads<K>>(seat, 0, 0);
+}
+
+// Lays down the script that K names.
+fn lay<K: Tells>(
+    book: &Shared<(), Book, Shape, Plot>,
+    seat: &mut Seat<(), Book>,
+    _of: &Seat<(), Diary>,
+)
+    requires book { (seat.old.table_id ≡ book.now.table_id) × (0 < book.now.table_id.words) }
+    requires can { CanPlay K.events seat.old.me.0.owner }
+    ensures laid { seat.new.me.0 ≡ record seat.old.me.0 { rest = K.events } }
+    ensures seat { seat.new.table_id ≡ seat.old.table_id }
+{
+    book.store::<Lays<K>>(seat, 0, 0);
+}
+
+impl Stage {
+    // Plays the next event.
+    fn play(&mut self)
+        requires { self.old.played < length self.old.events.items }
+        ensures reader { self.new.seat.me.0.reader ≡ self.old.seat.me.0.reader }
+        ensures same { (self.new.events ≡ self.old.events) × (self.new.shape ≡ self.old.shape) }
+        ensures home { self.new.seat.table_id ≡ self.old.seat.table_id }
+        ensures played { self.new.played ≡ self.old.played + 1 }
+    {
+        let book = &self.book;
+        book.shared.store::<Next>(&mut self.seat, 0, 0);
+        let event = self.events[self.played];
+        apply(&mut self.words, &self.shape, event);
+        self.played += 1;
+    }
+
+    // Plays up to the event of this number.
+    fn play_to(&mut self, until: usize)
+        requires later { self.old.played ≤ until }
+        requires few { until ≤ length self.old.events.items }
+        ensures reader { self.new.seat.me.0.reader ≡ self.old.seat.me.0.reader }
+        ensures same { (self.new.events ≡ self.old.events) × (self.new.shape ≡ self.old.shape) }
+        ensures home { self.new.seat.table_id ≡ self.old.seat.table_id }
+        ensures played { self.new.played ≡ until }
+    {
+        for _event in self.played..until {
+            self.play();
+        }
+    }
+}
+
+impl Scripted {
+    /// A reader of the words whose events the plain words kept, which begin empty. On `NoMemory` the plain
+    /// words are dropped.
+    pub fn new(alloc: Global, plain: PlainWords, cuts: &[u32]) -> Result<Scripted, NoMemory>
+        requires rise { Rises cuts.now }
+        requires few { NoneAbove (length plain.seat.me.0.kept) cuts.now }
+        ensures made { IfOk result (λ s. s.stage.seat.me.0.reader ≡ newcomer plain.shape [] []) }
+        ensures script { IfOk result (λ s. (s.stage.seat.me.0.rest ≡ plain.seat.me.0.kept)
+            × (s.cuts.items ≡ cuts.now)) }
+    {
+        let Script {
+            events,
+            shape,
+            token,
+        } = plain.into_script();
+        let words = vec![in alloc; 0u64; shape.word_count()]?;
+        let cuts = cuts.to_vec(alloc)?;
+        let (book, seat) = Table::<(), Book, Shape, Plot, Global>::of_words(alloc, &[0], &shape)?;
+        let mut seat = seat;
+        let table = &book;
+        lay::<Brand>(&table.shared, &mut seat, &token);
+        Ok(Scripted {
+            stage: Stage {
+                words,
+                events,
+                played: 0,
+                shape,
+                book,
+                seat,
+            },
+            cuts,
+            loads: 0,
+            bucket: 0,
+        })
+    }
+
+    // How many events are to have been played before the next load.
+    fn next_cut(&self) -> usize
+        ensures { result ≡ cut_at self.now.cuts.items (self.now.loads + 1) }
+    {
+        match self.cuts.get(self.loads) {
+            Some(cut) => *cut as usize,
+            None => match self.cuts.last() {
+                Some(cut) => *cut as usize,
+                None => 0,
+            },
+        }
+    }
+
+    // One more load.
+    fn next_loads(&self) -> usize
+        ensures { result ≡ min (self.now.loads + 1) (length self.now.cuts.items) }
+    {
+        if self.loads < self.cuts.len() {
+            self.loads + 1
+        } else {
+            self.cuts.len()
+        }
+    }
+
+    // The next load, of the word at this place. K says which load it is.
+    fn load<K: Looks>(&mut self, place: usize, bucket: u32) -> u64
+        requires inside { place < word_count self.old.stage.shape }
+        requires may { MayLook K.look self.old.stage.seat.me.0.reader }
+        requires tries { StaysIn self.old.stage.shape bucket K.look self.old.stage.seat.me.0.reader }
+        ensures event { self.new.stage.seat.me.0.reader ≡ look_at K.look self.new.stage.seat.me.0.owner
+            self.old.stage.seat.me.0.reader }
+        ensures value { result ≡ slice_index self.new.stage.seat.me.0.owner.words place }
+        ensures owner { Kept self.new.stage.seat.me.0.owner }
+        ensures reader { ReaderKept self.new.stage.seat.me.0.owner self.old.stage.seat.me.0.reader }
+        ensures home { self.new.stage.seat.table_id ≡ self.old.stage.seat.table_id }
+    {
+        let until = self.next_cut();
+        self.loads = self.next_loads();
+        self.stage.play_to(until);
+        let book = &self.stage.book;
+        look::<K>(&book.shared, &mut self.stage.seat);
+        self.bucket = bucket;
+        self.stage.words[place]
+    }
+}
+
+impl ReaderWords for Scripted {
+    ghost reader = { λ s. s.stage.seat.me.0.reader };
+
+    ghost home = { λ s. s.stage.seat.table_id };
+
+    fn shape(&self) -> Shape {
+        self.stage.shape
+    }
+
+    fn first_epoch(&mut self, bucket: u32) -> u64 {
+        let place = self.stage.shape.place(WordAt::Epoch(bucket));
+        self.load::<Brand>(place, bucket)
+    }
+
+    fn entry(&mut self, bucket: u32, slot: u32) -> u64 {
+        let place = self.stage.shape.place(WordAt::Entry(bucket, slot));
+        self.load::<Brand>(place, self.bucket)
+    }
+
+    fn link(&mut self, bucket: u32) -> u32 {
+        let place = self.stage.shape.place(WordAt::Link(bucket));
+        self.load::<Brand>(place, self.bucket) as u32
+    }
+
+    fn item_word(&mut self, offset: u64) -> u64 {
+        let place = self.stage.shape.place(WordAt::Item(offset));
+        self.load::<Brand>(place, self.bucket)
+    }
+
+    fn stamp(&mut self) -> u64 {
+        let place = self.stage.shape.place(WordAt::Stamp);
+        self.load::<Brand>(place, self.bucket)
+    }
+
+    fn last_epoch(&mut self) -> u64 {
+        let place = self.stage.shape.place(WordAt::Epoch(self.bucket));
+        self.load::<Brand>(place, self.bucket)
+    }
+}
