@@ -7,3 +7,5 @@ mod cache_put;
 mod one_spare;
 #[cfg(test)]
 mod same_as_machine;
+#[cfg(test)]
+mod torn_get;
