@@ -9,7 +9,8 @@ ghost use Rattle.epoch_core.specs.OwnerState.{options_in, as_made};
 use crate::reading::value_of;
 use crate::removing::remove;
 use crate::writing::put;
-use epoch_core::{OwnerWords, Partition};
+use epoch_core::{LendPartition, LendWords, OwnerWords, Partition};
+use mica_io::NoMemory;
 use mica_model::{Answer, ItemBuf, Outcome};
 
 /// A partition over an owner's words, with its stamp and the number of accepted writes at hand.
@@ -95,5 +96,27 @@ impl<W: OwnerWords> Partition for CachePartition<W> {
 
     fn accepted(&self) -> u64 {
         self.accepted
+    }
+}
+
+impl<W: LendWords> LendPartition for CachePartition<W> {
+    type Reader = W::Reader;
+
+    type Note = W::Note;
+
+    ghost noted = { λ n. W.noted n };
+
+    ghost note_home = { λ n. W.note_home n };
+
+    fn lend(&mut self) -> Result<W::Reader, NoMemory> {
+        self.words.lend()
+    }
+
+    fn note(&mut self) -> W::Note {
+        self.words.note()
+    }
+
+    fn meet(&mut self, seat: W::Reader) {
+        self.words.meet(seat);
     }
 }

@@ -8,6 +8,7 @@
 
 mod event;
 mod item;
+mod lend_partition;
 mod lending;
 mod partition;
 mod plain;
@@ -20,6 +21,7 @@ mod words;
 
 pub use event::{Event, OwnerEvent};
 pub use item::{holds_key, write_item};
+pub use lend_partition::LendPartition;
 pub use lending::LendWords;
 pub use partition::Partition;
 pub use plain::{Alone, Blank, Diary, PlainWords};
