@@ -10,9 +10,10 @@ ghost use Rattle.mica_model.specs.History.{State, IsStep, stamp_in, value_in};
 ghost use Rattle.mica_model.specs.Write.{HasValueOf, write_of};
 
 use cache_partition::CachePartition;
-use epoch_core::{Partition, PlainWords, Shape};
+use epoch_core::{Partition, Shape};
 use mica_io::NoMemory;
 use mica_model::{Answer, ItemBuf, Op, Options, Outcome};
+use partition_table::{OwnerSeat, make};
 use std::alloc::Global;
 use store_partition::StorePartition;
 
@@ -48,18 +49,18 @@ pub trait Machine: Drop {
         ensures { result ≡ stamp_in (state self.now) };
 }
 
-impl Machine for CachePartition<PlainWords> {
+impl Machine for CachePartition<OwnerSeat> {
     ghost use Rattle.mica_model.specs.declared.options.Mode.TheVariants.{Cache};
     ghost use Rattle.epoch_core.specs.OwnerState.{options_in, state_in};
 
     ghost mode = { Cache };
 
-    ghost own_options = { λ p. options_in (⟦<CachePartition<PlainWords> as Partition>⟧.owner p) };
+    ghost own_options = { λ p. options_in (⟦<CachePartition<OwnerSeat> as Partition>⟧.owner p) };
 
-    ghost state = { λ p. state_in (⟦<CachePartition<PlainWords> as Partition>⟧.owner p) };
+    ghost state = { λ p. state_in (⟦<CachePartition<OwnerSeat> as Partition>⟧.owner p) };
 
     fn new(alloc: Global, options: &Options) -> Result<Self, NoMemory> {
-        let words = PlainWords::new(alloc, &Shape::of(options), 0)?;
+        let words = make(alloc, &Shape::of(options))?;
         Ok(CachePartition::new(words))
     }
 
@@ -85,18 +86,18 @@ impl Machine for CachePartition<PlainWords> {
     }
 }
 
-impl Machine for StorePartition<PlainWords> {
+impl Machine for StorePartition<OwnerSeat> {
     ghost use Rattle.mica_model.specs.declared.options.Mode.TheVariants.{Store};
     ghost use Rattle.epoch_core.specs.OwnerState.{options_in, state_in};
 
     ghost mode = { Store };
 
-    ghost own_options = { λ p. options_in (⟦<StorePartition<PlainWords> as Partition>⟧.owner p) };
+    ghost own_options = { λ p. options_in (⟦<StorePartition<OwnerSeat> as Partition>⟧.owner p) };
 
-    ghost state = { λ p. state_in (⟦<StorePartition<PlainWords> as Partition>⟧.owner p) };
+    ghost state = { λ p. state_in (⟦<StorePartition<OwnerSeat> as Partition>⟧.owner p) };
 
     fn new(alloc: Global, options: &Options) -> Result<Self, NoMemory> {
-        let words = PlainWords::new(alloc, &Shape::of(options), 0)?;
+        let words = make(alloc, &Shape::of(options))?;
         StorePartition::new(alloc, words)
     }
 

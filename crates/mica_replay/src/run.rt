@@ -10,11 +10,11 @@ ghost use Rattle.mica_replay.specs.Replied.{IsWriteLine, IsReadLine, Replied};
 
 use crate::machine::Machine;
 use cache_partition::CachePartition;
-use epoch_core::PlainWords;
 use mica_io::{Bytes, NoMemory};
 use mica_model::{Answer, ItemBuf, Mode, Op, Options};
 use mica_trace::{Line, Report, Trace, TraceLine, TraceOp};
 use mica_words::{key_hash, partition_of};
+use partition_table::OwnerSeat;
 use std::alloc::Global;
 use store_partition::StorePartition;
 
@@ -127,7 +127,7 @@ pub fn run_trace(alloc: Global, options: &Options, trace: &Trace) -> Result<Repo
     ensures { IfOk result (LawfulReport options.now trace.now) }
 {
     match options.mode {
-        Mode::Cache => run_on::<CachePartition<PlainWords>>(alloc, options, trace),
-        Mode::Store => run_on::<StorePartition<PlainWords>>(alloc, options, trace),
+        Mode::Cache => run_on::<CachePartition<OwnerSeat>>(alloc, options, trace),
+        Mode::Store => run_on::<StorePartition<OwnerSeat>>(alloc, options, trace),
     }
 }
