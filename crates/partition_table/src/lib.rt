@@ -5,7 +5,9 @@ mod owner;
 mod plays;
 mod reader;
 mod rule;
+mod tables;
 
 pub use owner::{OwnerSeat, make};
 pub use reader::{Note, ReaderSeat};
 pub use rule::{Law, Partition, View};
+pub use tables::{Entry, Tables};

@@ -18,7 +18,7 @@ use crate::marking::begin_marked;
 use crate::reading::{block_at, seek, value_of};
 use block_heap::Heap;
 use chained_index::{ChainedIndex, Spot};
-use epoch_core::{OwnerWords, Partition, write_item};
+use epoch_core::{LendPartition, LendWords, OwnerWords, Partition, write_item};
 use mica_io::NoMemory;
 use mica_model::{Answer, ItemBuf, Op, Outcome};
 use mica_words::{item_size, key_hash, tag_of};
@@ -270,5 +270,27 @@ impl<W: OwnerWords> Partition for StorePartition<W> {
 
     fn accepted(&self) -> u64 {
         self.accepted
+    }
+}
+
+impl<W: LendWords> LendPartition for StorePartition<W> {
+    type Reader = W::Reader;
+
+    type Note = W::Note;
+
+    ghost noted = { λ n. W.noted n };
+
+    ghost note_home = { λ n. W.note_home n };
+
+    fn lend(&mut self) -> Result<W::Reader, NoMemory> {
+        self.words.lend()
+    }
+
+    fn note(&mut self) -> W::Note {
+        self.words.note()
+    }
+
+    fn meet(&mut self, seat: W::Reader) {
+        self.words.meet(seat);
     }
 }

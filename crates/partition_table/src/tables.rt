@@ -1,0 +1,67 @@
+//! The owner seats of a run that has ended.
+ghost use Rattle.std.specs.Prelude.{◌≡◌, ◌<◌, ◌+◌, ◌++◌, [], ◌∷◌, length};
+ghost use Rattle.epoch_core.specs.declared.state.Phase.TheVariants.{Idle};
+ghost use Rattle.partition_table.specs.Rule.{owner_in};
+ghost use Rattle.partition_table.specs.Tabled.{entry_of};
+
+use crate::owner::OwnerSeat;
+use epoch_core::Shape;
+use mica_model::Write;
+use std::collections::LinkedList;
+use std::marker::Model;
+
+/// What contracts see of a kept seat. No value of it is made.
+pub struct Entry {
+    pub shape: Shape,
+    pub history: LinkedList<Write>,
+    pub closed: u64,
+}
+
+/// Its places are a fixed row, so that keeping a seat takes no memory.
+#[derive(Drop)]
+pub struct Tables {
+    seats: [Option<OwnerSeat>; 16],
+    count: u32,
+}
+
+impl Model for Tables {
+    ghost use Rattle.std.specs.Prelude.{◌≡◌, ◌≤◌, List, length};
+    ghost use Rattle.partition_table.specs.declared.tables.Entry.{Entry};
+    ghost use Rattle.partition_table.specs.Tabled.{entries};
+
+    ghost Value = { List Entry };
+
+    ghost view = { λ t. entries t.seats t.count };
+
+    ghost invariant = { λ t. (length t.seats ≡ 16) × (t.count ≤ 16) × (length (entries t.seats t.count) ≡ t.count) };
+}
+
+impl Tables {
+    pub fn new() -> Tables
+        ensures { result ≡ [] }
+    {
+        Tables {
+            seats: [
+                None, None, None, None, None, None, None, None, None, None, None, None, None, None,
+                None, None,
+            ],
+            count: 0,
+        }
+    }
+
+    pub fn len(&self) -> u32
+        ensures { result ≡ length self.now }
+    {
+        self.count
+    }
+
+    /// Keeps a seat, last.
+    pub fn keep(&mut self, seat: OwnerSeat)
+        requires few { length self.old < 16 }
+        requires idle { (owner_in seat.seat.me.0).phase ≡ Idle }
+        ensures { self.new ≡ self.old ++ entry_of seat ∷ [] }
+    {
+        self.seats[self.count as usize] = Some(seat);
+        self.count += 1;
+    }
+}
