@@ -1,0 +1,5 @@
+//! The tests of readers beside an owner: lent seats in threads of their own.
+#![tactic(auto)]
+
+#[cfg(test)]
+mod lent;
