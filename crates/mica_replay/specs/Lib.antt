@@ -1,3 +1,4 @@
 pub mod Machines
 pub mod Replied
 pub mod Printed
+pub mod Reads
