@@ -133,8 +133,7 @@ module _ (r q q1 q2 : ReaderState) (c n entry : ℕ) (key : List ℕ) (best : Op
           (best_keeps q.shape (loads_in q) (loads_in q2) keeps (c ∷ []) (c ∷ []) key now v (λ d h. h) was)))
     ]
     | inr one ↦
-        inr (subst (λ (z : Option ℕ). IsBest q2.shape (loads_in q2) (c ∷ []) key z w) (sym one.0)
-        (
+        inr (subst (λ (z : Option ℕ). IsBest q2.shape (loads_in q2) (c ∷ []) key z w) (sym one.0) (
           entry,
           record {
             bucket = c;

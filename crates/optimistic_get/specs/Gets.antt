@@ -19,13 +19,13 @@ pub record IsAnsweredAt (r : ReaderState) (key : List ℕ) (answer : Option (Lis
 -- n tries were made: nothing but these fields has changed, and what was seen is seen
 pub record TriesMade (old : ReaderState) (n : ℕ) (new : ReaderState) : Type 0 where
   pub same : new ≡ record old {
-        seen = new.seen;
-        loads = new.loads;
-        tried = old.tried + n;
-        fails = new.fails;
-        closed = new.closed;
-        current = new.current;
-      }
+    seen = new.seen;
+    loads = new.loads;
+    tried = old.tried + n;
+    fails = new.fails;
+    closed = new.closed;
+    current = new.current;
+  }
   pub seen : IsPrefix old.seen new.seen
   pub loads : new.loads ≤ old.loads + most_loads old.shape * n
 

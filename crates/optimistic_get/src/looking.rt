@@ -100,7 +100,7 @@ pub(crate) fn look<R: ReaderWords>(
     ensures told { MatchBool result
         (TellsItem (R.reader seat.new).shape (loads_in (R.reader seat.new)) offset key.entry.now out.new)
         (TellsOther (R.reader seat.new).shape (loads_in (R.reader seat.new)) offset key.entry.now
-            × (out.new ≡ out.old)) }
+        × (out.new ≡ out.old)) }
     ensures home { R.home seat.new ≡ R.home seat.old }
 {
     let shape = seat.shape();

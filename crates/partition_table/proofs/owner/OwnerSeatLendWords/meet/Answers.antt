@@ -7,5 +7,9 @@ pub join_seat-requires : goal.join_seat-requires
 join_seat-requires c = (search rules, search rules, search rules, search rules, owner_joins _ c.args.self.now.seat.me.0 _ c.args.seat.seat.me.0 c.args.self.now.owns c.args.seat.reads)
 
 pub load-requires : goal.load-requires
-load-requires c = (search rules, search rules, reads _ _ c.join_seat.new.seat.me
-    (ap (λ (z : Seated). is_owner z.0) c.join_seat.ensures.2 ∙ met_owns c.args.self.now.seat.me.0 c.args.seat.seat.me.0 c.args.self.now.owns) _)
+load-requires c = (
+  search rules,
+  search rules,
+  reads _ _ c.join_seat.new.seat.me
+      (ap (λ (z : Seated). is_owner z.0) c.join_seat.ensures.2 ∙ met_owns c.args.self.now.seat.me.0 c.args.seat.seat.me.0 c.args.self.now.owns) _,
+)
