@@ -1,0 +1,161 @@
+//! Plain Rust of the same rules as `mica`, to measure beside it: `replay` answers each line at its place on one
+//! thread, `rounds` runs owners and readers in threads over tables of atomic words, `gen` prints a trace.
+
+mod cache;
+mod generate;
+mod hash;
+mod machine;
+mod rounds;
+mod store;
+mod table;
+mod trace;
+
+use cache::Cache;
+use hash::{key_hash, partition_of};
+use machine::{Machine, Mode, Options, Outcome};
+use std::collections::HashMap;
+use std::env;
+use std::io::{self, Read, Write};
+use std::process::ExitCode;
+use store::Store;
+use trace::{Line, read_trace};
+
+fn put_number(number: u64, out: &mut Vec<u8>) {
+    let mut digits = [0; 20];
+    let mut at = digits.len();
+    let mut rest = number;
+    loop {
+        at -= 1;
+        digits[at] = b'0' + (rest % 10) as u8;
+        rest /= 10;
+        if rest == 0 {
+            break;
+        }
+    }
+    out.extend_from_slice(&digits[at..]);
+}
+
+pub fn put_write(word: &[u8], outcome: Outcome, stamp: u64, out: &mut Vec<u8>) {
+    out.extend_from_slice(word);
+    put_number(stamp, out);
+    out.push(b' ');
+    out.extend_from_slice(outcome.text());
+    out.push(b'\n');
+}
+
+pub fn put_get(stamp: u64, out: &mut Vec<u8>, get: impl FnOnce(&mut Vec<u8>) -> bool) {
+    out.extend_from_slice(b"get ");
+    put_number(stamp, out);
+    let before = out.len();
+    out.extend_from_slice(b" hit ");
+    if !get(out) {
+        out.truncate(before);
+        out.extend_from_slice(b" miss");
+    }
+    out.push(b'\n');
+}
+
+fn replay<M: Machine>(machines: &mut [M], lines: &[Line<'_>]) -> Vec<u8> {
+    let mut out = Vec::with_capacity(32 * lines.len());
+    for line in lines {
+        match *line {
+            Line::Put { key, value } => {
+                let hash = key_hash(key);
+                let count = machines.len();
+                let machine = &mut machines[partition_of(hash, count)];
+                let outcome = machine.put(hash, key, value);
+                put_write(b"put ", outcome, machine.stamp(), &mut out);
+            }
+            Line::Del { key } => {
+                let hash = key_hash(key);
+                let count = machines.len();
+                let machine = &mut machines[partition_of(hash, count)];
+                let outcome = machine.del(hash, key);
+                put_write(b"del ", outcome, machine.stamp(), &mut out);
+            }
+            Line::Get { key } => {
+                let hash = key_hash(key);
+                let machine = &machines[partition_of(hash, machines.len())];
+                put_get(machine.stamp(), &mut out, |out| machine.get(hash, key, out));
+            }
+            Line::Sync => out.extend_from_slice(b"sync\n"),
+        }
+    }
+    out
+}
+
+fn read_options(words: &[String]) -> Result<HashMap<&str, &str>, String> {
+    words
+        .chunks(2)
+        .map(|pair| match pair {
+            [name, value] => match name.strip_prefix("--") {
+                Some(name) => Ok((name, value.as_str())),
+                None => Err(format!("no option: {name}")),
+            },
+            _ => Err("an option has no value".to_owned()),
+        })
+        .collect()
+}
+
+pub fn number_of(options: &HashMap<&str, &str>, name: &str, default: u64) -> Result<u64, String> {
+    match options.get(name) {
+        Some(text) => text.parse().map_err(|_| format!("--{name} wants a number")),
+        None => Ok(default),
+    }
+}
+
+fn options_of(options: &HashMap<&str, &str>) -> Result<Options, String> {
+    let mode = match options.get("mode") {
+        Some(&"cache") => Mode::Cache,
+        Some(&"store") => Mode::Store,
+        _ => return Err("--mode is cache or store".to_owned()),
+    };
+    let number = |name, default| number_of(options, name, default);
+    Ok(Options {
+        mode,
+        partitions: number("partitions", 4)? as usize,
+        buckets: number("buckets", 1_024)? as usize,
+        spares: number("spares", 1_024)? as usize,
+        words: number("words", 65_536)? as usize,
+        readers: number("readers", 4)? as usize,
+        wear: number("wear", 1 << 36)?,
+    })
+}
+
+fn run(words: &[String]) -> Result<(), Box<dyn std::error::Error>> {
+    let (command, rest) = words.split_first().ok_or("replay, rounds or gen")?;
+    let words = read_options(rest)?;
+    let out = if command == "gen" {
+        generate::trace_of(&words)?
+    } else {
+        let options = options_of(&words)?;
+        let mut text = Vec::new();
+        io::stdin().lock().read_to_end(&mut text)?;
+        let lines = read_trace(&text).map_err(|fault| fault.to_string())?;
+        match (command.as_str(), options.mode) {
+            ("replay", Mode::Cache) => {
+                let mut machines: Vec<_> = (0..options.partitions).map(|_| Cache::new(&options)).collect();
+                replay(&mut machines, &lines)
+            }
+            ("replay", Mode::Store) => {
+                let mut machines: Vec<_> = (0..options.partitions).map(|_| Store::new(&options)).collect();
+                replay(&mut machines, &lines)
+            }
+            ("rounds", _) => rounds::run(&options, &lines),
+            _ => return Err("replay, rounds or gen".into()),
+        }
+    };
+    io::stdout().lock().write_all(&out)?;
+    Ok(())
+}
+
+fn main() -> ExitCode {
+    let words: Vec<String> = env::args().skip(1).collect();
+    match run(&words) {
+        Ok(()) => ExitCode::SUCCESS,
+        Err(error) => {
+            eprintln!("{error}");
+            ExitCode::FAILURE
+        }
+    }
+}

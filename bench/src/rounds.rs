@@ -1,0 +1,124 @@
+//! A trace in rounds: in each, every partition's owner and every reader is a thread of its own.
+
+use crate::hash::{key_hash, partition_of};
+use crate::machine::{Options, Outcome};
+use crate::table::{Owner, Table};
+use crate::trace::Line;
+use crate::{put_get, put_write};
+use std::thread;
+
+/// A line's text lies in its worker's buffer, one after another.
+#[derive(Default)]
+struct Printed {
+    text: Vec<u8>,
+    ends: Vec<usize>,
+}
+
+impl Printed {
+    fn end_line(&mut self) {
+        self.ends.push(self.text.len());
+    }
+}
+
+fn run_owner(owner: &mut Owner<'_>, writes: &[(u64, Line<'_>)]) -> Vec<(Outcome, u64)> {
+    let mut replies = Vec::with_capacity(writes.len());
+    for &(hash, line) in writes {
+        let outcome = match line {
+            Line::Put { key, value } => owner.put(hash, key, value),
+            Line::Del { key } => owner.del(hash, key),
+            Line::Get { .. } | Line::Sync => continue,
+        };
+        replies.push((outcome, owner.stamp()));
+    }
+    replies
+}
+
+fn run_reader(tables: &[Table], gets: &[(u64, &[u8])]) -> Printed {
+    let mut printed = Printed::default();
+    let mut value = Vec::with_capacity(1_024);
+    for &(hash, key) in gets {
+        value.clear();
+        let (stamp, is_hit) = tables[partition_of(hash, tables.len())].get(hash, key, &mut value);
+        put_get(stamp, &mut printed.text, |text| {
+            text.extend_from_slice(&value);
+            is_hit
+        });
+        printed.end_line();
+    }
+    printed
+}
+
+pub fn run(options: &Options, lines: &[Line<'_>]) -> Vec<u8> {
+    let tables: Vec<Table> = (0..options.partitions).map(|_| Table::new(options)).collect();
+    let mut owners: Vec<Owner<'_>> = tables.iter().map(|table| Owner::new(table, options)).collect();
+    let mut out = Vec::with_capacity(32 * lines.len());
+    let mut next_get = 0;
+    for round in lines.split_inclusive(|line| matches!(line, Line::Sync)) {
+        let mut writes = vec![Vec::new(); options.partitions];
+        let mut gets = vec![Vec::new(); options.readers];
+        let first_get = next_get;
+        for &line in round {
+            match line {
+                Line::Put { key, .. } | Line::Del { key } => {
+                    let hash = key_hash(key);
+                    writes[partition_of(hash, options.partitions)].push((hash, line));
+                }
+                Line::Get { key } => {
+                    gets[next_get % options.readers].push((key_hash(key), key));
+                    next_get += 1;
+                }
+                Line::Sync => (),
+            }
+        }
+        let (tables, writes, gets) = (&tables, &writes, &gets);
+        let (replies, printed): (Vec<_>, Vec<_>) = thread::scope(|scope| {
+            let owners: Vec<_> = owners
+                .iter_mut()
+                .zip(writes)
+                .map(|(owner, writes)| scope.spawn(move || run_owner(owner, writes)))
+                .collect();
+            let readers: Vec<_> = gets.iter().map(|gets| scope.spawn(move || run_reader(tables, gets))).collect();
+            (
+                owners.into_iter().map(|owner| owner.join().expect("an owner")).collect(),
+                readers.into_iter().map(|reader| reader.join().expect("a reader")).collect(),
+            )
+        });
+        merge(round, first_get, &replies, &printed, &mut out);
+        if round.is_empty() {
+            break;
+        }
+    }
+    out
+}
+
+fn merge(
+    round: &[Line<'_>],
+    first_get: usize,
+    replies: &[Vec<(Outcome, u64)>],
+    printed: &[Printed],
+    out: &mut Vec<u8>,
+) {
+    let mut next_write = vec![0; replies.len()];
+    let mut next_line = vec![0; printed.len()];
+    let mut get = first_get;
+    for line in round {
+        match line {
+            Line::Put { key, .. } | Line::Del { key } => {
+                let partition = partition_of(key_hash(key), replies.len());
+                let (outcome, stamp) = replies[partition][next_write[partition]];
+                next_write[partition] += 1;
+                let word: &[u8] = if matches!(line, Line::Put { .. }) { b"put " } else { b"del " };
+                put_write(word, outcome, stamp, out);
+            }
+            Line::Get { .. } => {
+                let reader = get % printed.len();
+                get += 1;
+                let (lines, at) = (&printed[reader], next_line[reader]);
+                let begin = if at == 0 { 0 } else { lines.ends[at - 1] };
+                out.extend_from_slice(&lines.text[begin..lines.ends[at]]);
+                next_line[reader] += 1;
+            }
+            Line::Sync => out.extend_from_slice(b"sync\n"),
+        }
+    }
+}
