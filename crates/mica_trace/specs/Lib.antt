@@ -4,3 +4,4 @@ pub mod ReportGrammar
 pub mod Rounds
 pub mod LawfulReport
 pub mod ExactReport
+pub mod RoundReport
