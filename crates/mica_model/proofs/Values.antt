@@ -1,10 +1,10 @@
 -- Each value that a state has was written: what holds of all written values holds of those that the state has.
-use Rattle.std.proofs.Common.{◌≡◌, ◌+◌, ℕ, List, [], ◌∷◌, ◌++◌, Option, Some, None, refl, sym, ap, ◌∙◌, subst, cond, Bool, true, false}
-use Rattle.std.specs.Prelude.{map, not, filter, find, option_map}
-use Rattle.std.specs.List.{AllByRecursion as AllOf, count_by}
+use Rattle.std.proofs.Common.{◌≡◌, ℕ, List, Option, Some, None, refl, sym, ◌∙◌, subst, cond, Bool, true, false}
+use Rattle.std.specs.Prelude.{option_map}
+use Rattle.std.specs.List.{AllByRecursion as AllOf}
 use Rattle.std.specs.Ordering.{nat_cmp, eq_by_cmp}
 use Rattle.std.specs.Cmp.Lexicographic.{slice_cmp, nat_list_cmp_total}
-use Rattle.std.specs.FinMap.{get, insert, remove, get-insert, get-remove, get-empty}
+use Rattle.std.specs.FinMap.{get, insert, get-insert, get-remove, get-empty}
 use Rattle.std.proofs.lemmas.Option.{same_Some}
 use Rattle.mica_words.specs.Hash.{bucket_of}
 use Rattle.mica_model.specs.declared.options.Options.{Options}

@@ -1,6 +1,6 @@
 -- Lemmas on the lines of a text and of a trace.
-use Rattle.std.proofs.Common.{◌≡◌, ◌≢◌, ℕ, zero, suc, ◌+◌, ◌-◌, ◌<◌, ◌≤◌, List, [], ◌∷◌, ◌++◌, length, length-append, get_or, take, cond, refl, sym, ap, ◌∙◌, subst, arith, Bool, true, false, ne_eqb, eqb, codes}
-use Rattle.std.specs.List.{AllByRecursion, AllZip}
+use Rattle.std.proofs.Common.{◌≡◌, ◌≢◌, ℕ, ◌+◌, ◌<◌, ◌≤◌, List, [], ◌∷◌, ◌++◌, length, length-append, get_or, take, cond, refl, sym, ap, ◌∙◌, subst, arith, Bool, true, false, ne_eqb, eqb, codes}
+use Rattle.std.specs.List.{AllByRecursion}
 use Rattle.std.proofs.lemmas.Bool.{false≢true}
 use Rattle.std.proofs.lemmas.List.{take_more}
 use Rattle.std.proofs.lemmas.List.Sums.{sum_by-cons}
@@ -8,7 +8,7 @@ use Rattle.mica_trace.specs.declared.line.TraceOp.{TraceOp}
 use Rattle.mica_trace.specs.declared.line.TraceOp.TheVariants.{Put, Del, Get, Sync}
 use Rattle.mica_trace.specs.declared.line.TraceLine.{TraceLine}
 use Rattle.mica_trace.specs.Lines.{onto_first, lines_of, Lacks}
-use Rattle.mica_trace.specs.TraceGrammar.{IsKey, IsValue, HasFields, IsTraceLine, op_text, line_text, IsTextOf, is_sync, is_sync_op, syncs_in}
+use Rattle.mica_trace.specs.TraceGrammar.{IsKey, IsValue, HasFields, op_text, IsTextOf, is_sync, is_sync_op, syncs_in}
 
 pub All_push : {X : Type 0} (P : X → Type 0) (xs : List X) (y : X) → AllByRecursion P xs → P y → AllByRecursion P (xs ++ y ∷ [])
 All_push P [] y all here = (here, tt)

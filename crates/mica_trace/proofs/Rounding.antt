@@ -5,7 +5,7 @@ use Rattle.std.proofs.lemmas.List.Sums.{sum_by-cons}
 use Rattle.mica_model.specs.declared.options.Options.{Options}
 use Rattle.mica_trace.specs.declared.line.TraceLine.{TraceLine}
 use Rattle.mica_trace.specs.TraceGrammar.{is_sync}
-use Rattle.mica_trace.specs.Rounds.{round_of, lines_before, write_in, writes_of, round_begin, round_end}
+use Rattle.mica_trace.specs.Rounds.{round_of, write_in, writes_of, round_begin, round_end}
 use Rattle.mica_trace.specs.ExactReport.{writes_before}
 
 length_cons : {X : Type 0} (o : Option X) (xs ys : List X) → length xs ≤ length ys → length (cons_option o xs) ≤ length (cons_option o ys)

@@ -1,6 +1,6 @@
 use Rattle.std.proofs.Common.{◌≡◌, ◌+◌, ℕ, Bool, true, false, cond, sym, ◌∙◌, ap, subst, inl, inr, eqb-true, arith, length}
 use Rattle.std.proofs.lemmas.List.{nil_from_length}
-use Rattle.mica_trace.specs.TraceGrammar.{IsTrace, IsFaultOf, HasLineRoom, is_sync}
+use Rattle.mica_trace.specs.TraceGrammar.{IsFaultOf, HasLineRoom, is_sync}
 use Rattle.mica_trace.proofs.Reading.{HasRead, refuses, reads_more, reads_all, no_trace, AllZip_valid}
 use Rattle.mica_trace.proofs.read.read_trace.Goals as goal
 use Rattle.mica_trace.proofs.read.read_trace.Goals.{then-is_sync, else-is_sync}
