@@ -43,6 +43,7 @@ impl<W: OwnerWords> CachePartition<W> {
     /// The words, with what the partition made of them.
     pub fn into_words(self) -> W
         ensures owner { W.owner result ≡ W.owner self.words }
+        ensures idle { (W.owner result).phase ≡ Idle }
         ensures home { W.home result ≡ W.home self.words }
     {
         self.words

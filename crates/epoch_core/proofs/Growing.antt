@@ -1,5 +1,6 @@
 -- The central law: an event leaves the words in reach of a bucket whose even epoch stands still. So whatever is kept of a reader
 -- is kept past it.
+use Rattle.std.specs.Prelude.{IfSome}
 use Rattle.std.proofs.Common.{◌≡◌, ℕ, ◌*◌, ◌%◌, ◌≤◌, [], ◌∷◌, refl, sym, ap, ◌∙◌, subst, arith, Option, Some, None}
 use Rattle.mica_model.specs.History.{History, IsPrefix, writes_to_bucket}
 use Rattle.epoch_core.specs.declared.shape.Shape.{Shape}
@@ -14,7 +15,7 @@ use Rattle.epoch_core.specs.OwnerState.{epoch_in}
 use Rattle.epoch_core.specs.Events.{IsAllowed, words_after, history_after, phase_after, after}
 use Rattle.epoch_core.specs.Kept.{Kept}
 use Rattle.epoch_core.specs.Grows.{Grows}
-use Rattle.epoch_core.specs.ReaderKept.{IsSpelt, CutKept, TryKept, CurrentKept, ReaderKept}
+use Rattle.epoch_core.specs.ReaderKept.{IsSpelt, CutKept, TryKept, ReaderKept}
 use Rattle.epoch_core.proofs.Prefixes.{prefix_same, prefix_then}
 use Rattle.epoch_core.proofs.Failing.{fails_rise}
 use Rattle.epoch_core.proofs.Carried.{reach_back}
@@ -47,12 +48,12 @@ module _ (o p : OwnerState) (g : Grows o p) where
     unmoved : epoch_in p t.bucket ≡ t.first → epoch_in o t.bucket ≡ t.first
     unmoved is = let rise = g.rises t.bucket k.main in let low = k.first in omega arith
 
-    cut_grows : (at : Option Cut) → CutKept o t at → CutKept p t at
+    cut_grows : (at : Option Cut) → IfSome at (CutKept o t) → IfSome at (CutKept p t)
     cut_grows None c = tt
-    cut_grows (Some at) c = (
-      prefix_then at.history o.history p.history c.0 g.history,
-      λ is. subst (λ (z : Shape). IsSpelt z t.bucket at) (sym g.shape) (c.1 (unmoved is)),
-    )
+    cut_grows (Some at) c = record {
+      seen = prefix_then at.history o.history p.history c.seen g.history;
+      spelt = λ is. subst (λ (z : Shape). IsSpelt z t.bucket at) (sym g.shape) (c.spelt (unmoved is));
+    }
 
     try_grows : TryKept p t
     try_grows = let rise = g.rises t.bucket k.main in let low = k.first in record {
@@ -67,7 +68,7 @@ module _ (o p : OwnerState) (g : Grows o p) where
       at = cut_grows t.at k.at;
     }
 
-  current_grows : (current : Option Try) → CurrentKept o current → CurrentKept p current
+  current_grows : (current : Option Try) → IfSome current (TryKept o) → IfSome current (TryKept p)
   current_grows None k = tt
   current_grows (Some t) k = try_grows t k
 

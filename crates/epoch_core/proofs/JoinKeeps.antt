@@ -14,7 +14,7 @@ use Rattle.epoch_core.specs.OwnerState.{epoch_in, options_in, bucket_in, writes_
 use Rattle.epoch_core.specs.Kept.{PhaseFits, Kept}
 use Rattle.epoch_core.specs.Grows.{Grows}
 use Rattle.epoch_core.specs.ReaderKept.{MetKept, ReaderKept}
-use Rattle.epoch_core.specs.Joins.{ended_in, lent, noted, met_by, longer, known, told}
+use Rattle.epoch_core.specs.Joins.{ended_in, lent, note_of, met_by, longer, known, told}
 use Rattle.epoch_core.proofs.Prefixes.{prefix_same, prefix_then, longer_as, longer_both}
 use Rattle.epoch_core.proofs.Failing.{in_cons, in_none, fails_both}
 use Rattle.epoch_core.proofs.Keeps.{count_more}
@@ -48,7 +48,7 @@ lends o s = record {
   current = tt;
 }
 
-pub notes : (o : OwnerState) (r : ReaderState) → ReaderKept o r → ReaderKept o (noted r)
+pub notes : (o : OwnerState) (r : ReaderState) → ReaderKept o r → ReaderKept o (note_of r)
 notes o r k = record {
   shape = k.shape;
   seen = k.seen;

@@ -1,4 +1,5 @@
 -- Each load of a reader keeps what is kept of it.
+use Rattle.std.specs.Prelude.{IfSome}
 use Rattle.std.proofs.Common.{◌≡◌, ℕ, ◌*◌, ◌%◌, ◌≤◌, Bool, List, [], ◌∷◌, ◌++◌, inl, inr, get_or, refl, sym, ap, ◌∙◌, subst, arith, le_refl, eq-eqb, ne_eqb, Option, Some, None, if◌then◌else◌}
 use mathlib.Core.Logic.{dite}
 use native.Mathlib.Decide.{ℕ_discrete}
@@ -14,7 +15,7 @@ use Rattle.epoch_core.specs.OwnerState.{epoch_in}
 use Rattle.epoch_core.specs.Kept.{Kept}
 use Rattle.epoch_core.specs.Failures.{failure, FailsFit}
 use Rattle.epoch_core.specs.ReaderState.{new_try, opened, with_load, loaded, with_cut, stamped, fails_after, shut}
-use Rattle.epoch_core.specs.ReaderKept.{CutKept, CurrentKept, ReaderKept, TellsCut, TellsTry, Tells}
+use Rattle.epoch_core.specs.ReaderKept.{IsSpelt, CutKept, TryKept, ReaderKept, TellsTry, Tells}
 use Rattle.epoch_core.proofs.Prefixes.{prefix_same, prefix_then}
 use Rattle.epoch_core.proofs.Failing.{in_cons, in_none, in_both, fails_more}
 use Rattle.epoch_core.proofs.Marked.{calm}
@@ -44,14 +45,14 @@ module _ (o : OwnerState) (s : Kept o) (r : ReaderState) (k : ReaderKept o r) wh
             (λ odd. subst (λ (z : Bool). FailsFit o (if z then r.fails else more)) (sym (ne_eqb (n % 2) 0 odd))
             (fails_more o r.fails (failure b n n) k.fails (main, le_refl n, (le_refl n, inl (omega arith)))));
         current = dite (ℕ_discrete (n % 2) 0)
-            (λ even. subst (λ (z : Bool). CurrentKept o (if z then Some (new_try b n) else None)) (sym (eq-eqb (n % 2) 0 even))
+            (λ even. subst (λ (z : Bool). IfSome (if z then Some (new_try b n) else None) (TryKept o)) (sym (eq-eqb (n % 2) 0 even))
             record { main = main; even = even; first = le_refl n; loads = λ _ place x has. absurd (in_none (place, x) has); at = tt })
-            (λ odd. subst (λ (z : Bool). CurrentKept o (if z then Some (new_try b n) else None)) (sym (ne_eqb (n % 2) 0 odd)) tt);
+            (λ odd. subst (λ (z : Bool). IfSome (if z then Some (new_try b n) else None) (TryKept o)) (sym (ne_eqb (n % 2) 0 odd)) tt);
       }
 
   -- an entry, a link or an item word
 
-  load_current : (place : ℕ) (current : Option Try) → CurrentKept o current → CurrentKept o (with_load place (get_or o.words place 0) current)
+  load_current : (place : ℕ) (current : Option Try) → IfSome current (TryKept o) → IfSome (with_load place (get_or o.words place 0) current) (TryKept o)
   load_current place None t = tt
   load_current place (Some t) g = record {
     main = g.main;
@@ -67,9 +68,9 @@ module _ (o : OwnerState) (s : Kept o) (r : ReaderState) (k : ReaderKept o r) wh
     at = cut_same t.at g.at;
   }
     where
-      cut_same : (at : Option Cut) → CutKept o t at → CutKept o (record t { loads = t.loads ++ (place, get_or o.words place 0) ∷ [] }) at
+      cut_same : (at : Option Cut) → IfSome at (CutKept o t) → IfSome at (CutKept o (record t { loads = t.loads ++ (place, get_or o.words place 0) ∷ [] }))
       cut_same None c = tt
-      cut_same (Some at) c = c
+      cut_same (Some at) c = record { seen = c.seen; spelt = c.spelt }
 
   pub loads : (place : ℕ) → ReaderKept o (loaded place (get_or o.words place 0) r)
   loads place = record {
@@ -84,19 +85,19 @@ module _ (o : OwnerState) (s : Kept o) (r : ReaderState) (k : ReaderKept o r) wh
 
   -- the stamp
 
-  stamp_current : (current : Option Try) → CurrentKept o current → CurrentKept o (with_cut o.history current)
+  stamp_current : (current : Option Try) → IfSome current (TryKept o) → IfSome (with_cut o.history current) (TryKept o)
   stamp_current None t = tt
   stamp_current (Some t) g = record {
     main = g.main;
     even = g.even;
     first = g.first;
     loads = g.loads;
-    at = (
-      prefix_same o.history,
-      λ is.
+    at = record {
+      seen = prefix_same o.history;
+      spelt = λ is.
           let even = ap (λ (z : ℕ). z % 2) is ∙ g.even in
-          spells o s t g is (s.state t.bucket g.main (calm o s t.bucket g.main even).1),
-    );
+          spells o s t g is (s.state t.bucket g.main (calm o s t.bucket g.main even).1);
+    };
   }
 
   pub stamps : ReaderKept o (stamped o.history r)
@@ -112,7 +113,7 @@ module _ (o : OwnerState) (s : Kept o) (r : ReaderState) (k : ReaderKept o r) wh
 
   -- the last epoch
 
-  shut_fails : (current : Option Try) (b : ℕ) → CurrentKept o current → ((t : Try) → current ≡ Some t → t.bucket ≡ b)
+  shut_fails : (current : Option Try) (b : ℕ) → IfSome current (TryKept o) → ((t : Try) → current ≡ Some t → t.bucket ≡ b)
       → FailsFit o (fails_after (epoch_in o b) current r.fails)
   shut_fails None b g is = k.fails
   shut_fails (Some t) b g is =
@@ -138,16 +139,17 @@ module _ (o : OwnerState) (s : Kept o) (r : ReaderState) (k : ReaderKept o r) wh
 
   -- and what it tells
 
-  tell_cut : (t : Try) (at : Option Cut) → CutKept o t at → epoch_in o t.bucket ≡ t.first → TellsCut o.shape t.bucket at
+  tell_cut : (t : Try) (at : Option Cut) → IfSome at (CutKept o t) → epoch_in o t.bucket ≡ t.first → IfSome at (IsSpelt o.shape t.bucket)
   tell_cut t None c is = tt
-  tell_cut t (Some at) c is = c.1 is
+  tell_cut t (Some at) c is = c.spelt is
 
-  tell_try : (current : Option Try) (b : ℕ) → CurrentKept o current → ((t : Try) → current ≡ Some t → t.bucket ≡ b) → TellsTry o.shape (epoch_in o b) current
+  tell_try : (current : Option Try) (b : ℕ) → IfSome current (TryKept o) → ((t : Try) → current ≡ Some t → t.bucket ≡ b)
+      → IfSome current (TellsTry o.shape (epoch_in o b))
   tell_try None b g is = tt
   tell_try (Some t) b g is =
       let same = ap (epoch_in o) (is t refl) in
       let first = g.first in
-      (omega arith, λ still. tell_cut t t.at g.at (same ∙ still))
+      record { least = omega arith; spelt = λ still. tell_cut t t.at g.at (same ∙ still) }
 
   pub tells : (b : ℕ) → ((t : Try) → r.current ≡ Some t → t.bucket ≡ b) → Tells (epoch_in o b) r
-  tells b is = subst (λ (z : Shape). TellsTry z (epoch_in o b) r.current) (sym k.shape) (tell_try r.current b k.current is)
+  tells b is = subst (λ (z : Shape). IfSome r.current (TellsTry z (epoch_in o b))) (sym k.shape) (tell_try r.current b k.current is)

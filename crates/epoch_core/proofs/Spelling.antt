@@ -23,7 +23,7 @@ use Rattle.epoch_core.specs.Chain.{IsAmong, InChain}
 use Rattle.epoch_core.specs.LiveEntry.{IsLive, HasLiveEntry}
 use Rattle.epoch_core.specs.StandsFor.{cell_at, Has, Spells, StandsFor}
 use Rattle.epoch_core.specs.Reach.{by_entry, by_link, by_item}
-use Rattle.epoch_core.specs.Spelt.{HasLoad, HasLinks, TellsOther, by_offset, by_key_len, by_value_len, by_hash, by_key_word, TellsItem, IsNoEntryOf, by_tag, by_stamp, by_item as by_other, SpellsAnswer}
+use Rattle.epoch_core.specs.Spelt.{HasLoad, HasLinks, ShowsOther, by_offset, by_key_len, by_value_len, by_hash, by_key_word, ShowsItem, IsNoEntryOf, by_tag, by_stamp, by_item as by_other, SpellsAnswer}
 use Rattle.epoch_core.specs.Kept.{Kept}
 use Rattle.epoch_core.specs.ReaderKept.{IsSpelt, TryKept}
 use Rattle.epoch_core.proofs.Machine.{Fits, has_fits}
@@ -130,7 +130,7 @@ module _ (o : OwnerState) (s : Kept o) (t : Try) (k : TryKept o t) (still : epoc
         ∙ word_now (2 + words_for (length key) + i) x (omega arith) (subst (λ (z : ℕ). HasLoad t.loads (item_at o.shape z) x) place load)
 
     -- they do not tell that it is another key's
-    not_other : ¬ (TellsOther o.shape t.loads (entry_offset entry) key)
+    not_other : ¬ (ShowsOther o.shape t.loads (entry_offset entry) key)
     not_other (by_offset out) = out sp.offset
     not_other (by_key_len x load other) = other (key_len_is x load)
     not_other (by_value_len x load long) = let short = fits.2 in let is = value_len_is x load in omega arith
@@ -138,29 +138,29 @@ module _ (o : OwnerState) (s : Kept o) (t : Try) (k : TryKept o t) (still : epoc
     not_other (by_key_word i x l load other) = other (sym (key_word_is i x l load))
 
     -- where they tell that it is a key's, it is, with that value
-    is_item : (key' value : List ℕ) → AreBytes key' → TellsItem o.shape t.loads (entry_offset entry) key' value → (key ≡ key') × (cell.value ≡ value)
-    is_item key' value bytes told =
-        let one : length key ≡ length key' = sym (key_len_is told.header told.header_load) ∙ told.key_len in
-        let two : length cell.value ≡ length value = sym (value_len_is told.header told.header_load) ∙ told.value_len in
+    is_item : (key' value : List ℕ) → AreBytes key' → ShowsItem o.shape t.loads (entry_offset entry) key' value → (key ≡ key') × (cell.value ≡ value)
+    is_item key' value bytes shows =
+        let one : length key ≡ length key' = sym (key_len_is shows.header shows.header_load) ∙ shows.key_len in
+        let two : length cell.value ≡ length value = sym (value_len_is shows.header shows.header_load) ∙ shows.value_len in
         let words : packed key ≡ packed key' = same_number_lists (packed key) (packed key')
         (length-packed key ∙ (ap words_for one ∙ sym (length-packed key')))
         (λ i l.
         let below : i < words_for (length key) = omega (arith, length-packed key) in
-        key_word_is i (slice_index (packed key') i) below (told.key_words i (subst (λ (z : ℕ). i < words_for z) one below))) in
-        let long : length told.words ≡ words_for (length cell.value) = told.words_len ∙ ap words_for (sym two) in
-        let held : unpacked (length cell.value) told.words ≡ cell.value = same_value cell.value told.words fits.3 long
-        (λ i l. sym (value_word_is i (slice_index told.words i) (words_for (length key')) (ap words_for (sym one)) (subst (λ (z : ℕ). i < z) long l) (told.value_words i l))) in
-        (same_from_words key key' fits.1 bytes one words, sym held ∙ (ap (λ (z : ℕ). unpacked z told.words) two ∙ told.held))
+        key_word_is i (slice_index (packed key') i) below (shows.key_words i (subst (λ (z : ℕ). i < words_for z) one below))) in
+        let long : length shows.words ≡ words_for (length cell.value) = shows.words_len ∙ ap words_for (sym two) in
+        let held : unpacked (length cell.value) shows.words ≡ cell.value = same_value cell.value shows.words fits.3 long
+        (λ i l. sym (value_word_is i (slice_index shows.words i) (words_for (length key')) (ap words_for (sym one)) (subst (λ (z : ℕ). i < z) long l) (shows.value_words i l))) in
+        (same_from_words key key' fits.1 bytes one words, sym held ∙ (ap (λ (z : ℕ). unpacked z shows.words) two ∙ shows.held))
 
   live_now : (entry : ℕ) → IsLive o.shape (stamp_in o) entry → IsLive o.shape (stamp_of (options_in o) o.history) entry
   live_now entry live = subst (λ (z : ℕ). IsLive o.shape z entry) s.stamp live
 
-  -- a live entry of the key's is not told to be none
+  -- a live entry of the key's is not shows to be none
   is_one : (c slot entry : ℕ) (h : HasLiveEntry o t.bucket c slot entry) (key : List ℕ) (cell : Cell) → Spells o t.bucket entry key cell
       → ¬ (IsNoEntryOf o.shape t.loads (stamp_of (options_in o) o.history) key entry)
   is_one c slot entry h key cell sp (by_tag other) = other sp.tag
   is_one c slot entry h key cell sp (by_stamp dead) = dead (live_now entry h.live)
-  is_one c slot entry h key cell sp (by_other told) = not_other c slot entry h key cell sp told
+  is_one c slot entry h key cell sp (by_other shows) = not_other c slot entry h key cell sp shows
 
   told_answer : (key : List ℕ) → AreBytes key → bucket_in o key ≡ t.bucket → (value : Option (List ℕ))
       → SpellsAnswer o.shape t.loads (stamp_of (options_in o) o.history) t.bucket key value
@@ -170,22 +170,22 @@ module _ (o : OwnerState) (s : Kept o) (t : Try) (k : TryKept o t) (still : epoc
       let has = has_value (state_in o) key v is in
       let at = f.each key has.0 has.1 bucket has.2 in
       let h = at.3 in
-      let told = spell.told at.0 at.1 (meets o.shape.spares t.bucket spell.behind whole spell.links at.0 h.in_chain) h.in_bucket in
-      let same : told.0 ≡ at.2 = sym (entry_now at.0 at.1 told.0 h.in_chain h.in_bucket told.1) ∙ h.found in
+      let shows = spell.shows at.0 at.1 (meets o.shape.spares t.bucket spell.behind whole spell.links at.0 h.in_chain) h.in_bucket in
+      let same : shows.0 ≡ at.2 = sym (entry_now at.0 at.1 shows.0 h.in_chain h.in_bucket shows.1) ∙ h.found in
       absurd (is_one at.0 at.1 at.2 h key has.0 at.4
-      (subst (IsNoEntryOf o.shape t.loads (stamp_of (options_in o) o.history) key) same told.2))
+      (subst (IsNoEntryOf o.shape t.loads (stamp_of (options_in o) o.history) key) same shows.2))
   told_answer key bytes bucket (Some value) spell now is =
-      let entry = spell.told.0 in
-      let at = spell.told.1 in
+      let entry = spell.shows.0 in
+      let at = spell.shows.1 in
       let among = walk o.shape.spares t.bucket spell.behind whole spell.links at.bucket at.in_chain in
       let h : HasLiveEntry o t.bucket at.bucket at.slot entry = record {
         in_chain = among;
         in_bucket = at.in_bucket;
         found = entry_now at.bucket at.slot entry among at.in_bucket at.load;
-        live = subst (λ (z : ℕ). IsLive o.shape z entry) (sym s.stamp) spell.told.2;
+        live = subst (λ (z : ℕ). IsLive o.shape z entry) (sym s.stamp) spell.shows.2;
       } in
       let some = f.nothing_else at.bucket at.slot entry h in
-      let same = is_item at.bucket at.slot entry h some.0 some.1 some.2 key value bytes spell.told.3 in
+      let same = is_item at.bucket at.slot entry h some.0 some.1 some.2 key value bytes spell.shows.3 in
       sym is ∙ (sym (ap (λ (z : List ℕ). answer_of (options_in o) o.history z) same.0)
       ∙ (value_has (state_in o) some.0 some.1 (entry_offset entry) some.2.has ∙ ap (λ (z : List ℕ). Some z) same.1))
 

@@ -1,4 +1,4 @@
--- What no event of an owner takes away: all that a reader's fact rests on.
+-- What no event of an owner takes away: the law by which what is kept of each reader outlives each event.
 use Rattle.std.specs.Prelude.{◌≡◌, ℕ, ◌%◌, ◌≤◌, slice_index}
 use Rattle.mica_model.specs.History.{IsPrefix}
 use Rattle.epoch_core.specs.declared.state.OwnerState.{OwnerState}

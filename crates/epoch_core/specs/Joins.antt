@@ -18,8 +18,8 @@ abbrev pub lent : OwnerState → ReaderState
 lent o = newcomer o.shape o.history (ended_in o.phase o.history)
 
 -- the note that a reader splits off
-abbrev pub noted : ReaderState → ReaderState
-noted r = newcomer r.shape r.seen r.done
+abbrev pub note_of : ReaderState → ReaderState
+note_of r = newcomer r.shape r.seen r.done
 
 -- the owner that a seat was joined into
 abbrev pub met_by : OwnerState → ReaderState → OwnerState

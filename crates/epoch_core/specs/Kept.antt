@@ -40,4 +40,5 @@ pub record Kept (o : OwnerState) : Type 0 where
   pub phase : PhaseFits o o.phase
   -- what a seat that was met had seen begins the history
   pub met_seen : IsPrefix o.met.seen o.history
+  -- and its failures are of epochs that have come
   pub met_fails : FailsFit o o.met.fails

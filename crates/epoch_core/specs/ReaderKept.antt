@@ -1,5 +1,5 @@
 -- What every step keeps of a reader's state, beside its owner's.
-use Rattle.std.specs.Prelude.{◌≡◌, ℕ, ◌*◌, ◌%◌, ◌≤◌, List, Contains, slice_index, Option, Some, None}
+use Rattle.std.specs.Prelude.{◌≡◌, ℕ, ◌*◌, ◌%◌, ◌≤◌, List, Contains, slice_index, Option, IfSome}
 use Rattle.mica_words.specs.Hash.{bucket_of}
 use Rattle.mica_words.specs.Packing.{AreBytes}
 use Rattle.mica_model.specs.History.{IsPrefix, stamp_of, answer_of, writes_to_bucket}
@@ -15,18 +15,20 @@ use Rattle.epoch_core.specs.Reach.{IsReached}
 use Rattle.epoch_core.specs.Failures.{FailsFit}
 use Rattle.epoch_core.specs.Spelt.{HasLoad, SpellsAnswer}
 
--- each answer of the bucket's keys that the loads before the cut spell, by its stamp, is that of its history
+-- Each answer of the bucket's keys that the loads before the cut spell, by its stamp, is that of its history.
 abbrev pub IsSpelt : Shape → ℕ → Cut → Type 0
 IsSpelt shape b at = (key : List ℕ) (answer : Option (List ℕ))
     → AreBytes key → bucket_of key shape.buckets ≡ b
     → SpellsAnswer shape at.loads (stamp_of (options_of shape) at.history) b key answer
     → answer_of (options_of shape) at.history key ≡ answer
 
-abbrev pub CutKept : OwnerState → Try → Option Cut → Type 0
-CutKept o t None = Unit {0}
-CutKept o t (Some at) = IsPrefix at.history o.history
-    × (epoch_in o t.bucket ≡ t.first → IsSpelt o.shape t.bucket at)
+-- The cut of a try: its history begins the owner's, and while the epoch has not moved, what the loads before
+-- it spell is so.
+pub record CutKept (o : OwnerState) (t : Try) (at : Cut) : Type 0 where
+  pub seen : IsPrefix at.history o.history
+  pub spelt : epoch_in o t.bucket ≡ t.first → IsSpelt o.shape t.bucket at
 
+-- An open try.
 pub record TryKept (o : OwnerState) (t : Try) : Type 0 where
   pub main : IsMain o.shape t.bucket
   pub even : t.first % 2 ≡ 0
@@ -34,11 +36,7 @@ pub record TryKept (o : OwnerState) (t : Try) : Type 0 where
   -- while the epoch has not moved, what was loaded of the words in reach is there still
   pub loads : epoch_in o t.bucket ≡ t.first → (place x : ℕ)
       → HasLoad t.loads place x → IsReached o t.bucket place → slice_index o.words place ≡ x
-  pub at : CutKept o t t.at
-
-abbrev pub CurrentKept : OwnerState → Option Try → Type 0
-CurrentKept o None = Unit {0}
-CurrentKept o (Some t) = TryKept o t
+  pub at : IfSome t.at (CutKept o t)
 
 -- what both seats of the last join knew is known
 abbrev pub MetKept : ReaderState → Type 0
@@ -53,18 +51,13 @@ pub record ReaderKept (o : OwnerState) (r : ReaderState) : Type 0 where
   -- of the writes in done each has ended
   pub ended : (b : ℕ) → IsMain o.shape b → 2 * writes_to_bucket (options_in o) r.done b ≤ epoch_in o b
   pub fails : FailsFit o r.fails
-  pub current : CurrentKept o r.current
+  pub current : IfSome r.current (TryKept o)
 
--- What the last epoch load tells, which found n: the epoch did not fall, and where it is the first one, the
--- loads before the stamp load spelt what the history then answers.
-
-abbrev pub TellsCut : Shape → ℕ → Option Cut → Type 0
-TellsCut shape b None = Unit {0}
-TellsCut shape b (Some at) = IsSpelt shape b at
-
-abbrev pub TellsTry : Shape → ℕ → Option Try → Type 0
-TellsTry shape n None = Unit {0}
-TellsTry shape n (Some t) = (t.first ≤ n) × (n ≡ t.first → TellsCut shape t.bucket t.at)
+-- What the last epoch load of an open try tells, which found n: the epoch did not fall, and where it is the
+-- first one, what the loads before the stamp load spell is so.
+pub record TellsTry (shape : Shape) (n : ℕ) (t : Try) : Type 0 where
+  pub least : t.first ≤ n
+  pub spelt : n ≡ t.first → IfSome t.at (IsSpelt shape t.bucket)
 
 abbrev pub Tells : ℕ → ReaderState → Type 0
-Tells n r = TellsTry r.shape n r.current
+Tells n r = IfSome r.current (TellsTry r.shape n)

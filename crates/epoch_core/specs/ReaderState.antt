@@ -61,8 +61,8 @@ abbrev pub closes : ℕ → Option Try → ℕ
 closes n None = 0
 closes n (Some t) = if n == t.first then (if is_some t.at then 1 else 0) else 0
 
--- The last epoch load of the open try, which found n: another epoch is a failure. The first one closes the
--- try, and counts where the try loaded a stamp.
+-- The last epoch load, which found n, ends the open try. Where n is not the first epoch, the try failed. Where
+-- it is, and the try loaded a stamp, the try counts as closed.
 abbrev pub shut : ℕ → ReaderState → ReaderState
 shut n r = record r {
   loads = r.loads + 1;

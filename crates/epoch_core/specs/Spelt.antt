@@ -28,19 +28,19 @@ HasLinks shape loads (suc left) b (c ∷ cs) =
     (c ≢ 0) × HasLoad loads (link_at shape b) c × HasLinks shape loads left c cs
 
 -- a word of the item at the offset shows that it is no item of this key, or the offset is out of range
-pub data TellsOther (shape : Shape) (loads : Loads) (p : ℕ) (key : List ℕ) : Type 0 where
-  by_offset : ¬ (IsOffset shape.mode shape.words p) → TellsOther shape loads p key
+pub data ShowsOther (shape : Shape) (loads : Loads) (p : ℕ) (key : List ℕ) : Type 0 where
+  by_offset : ¬ (IsOffset shape.mode shape.words p) → ShowsOther shape loads p key
   by_key_len : (x : ℕ) → HasLoad loads (item_at shape p) x → header_key_len x ≢ length key
-      → TellsOther shape loads p key
+      → ShowsOther shape loads p key
   by_value_len : (x : ℕ) → HasLoad loads (item_at shape p) x → MAX_VALUE_LEN < header_value_len x
-      → TellsOther shape loads p key
+      → ShowsOther shape loads p key
   by_hash : (x : ℕ) → HasLoad loads (item_at shape (p + 1)) x → x ≢ fnv1a key
-      → TellsOther shape loads p key
+      → ShowsOther shape loads p key
   by_key_word : (i x : ℕ) → i < words_for (length key) → HasLoad loads (item_at shape (p + 2 + i)) x
-      → x ≢ slice_index (packed key) i → TellsOther shape loads p key
+      → x ≢ slice_index (packed key) i → ShowsOther shape loads p key
 
 -- the words of the item at the offset show that it is this key's, and hold this value
-pub record TellsItem (shape : Shape) (loads : Loads) (p : ℕ) (key value : List ℕ) : Type 0 where
+pub record ShowsItem (shape : Shape) (loads : Loads) (p : ℕ) (key value : List ℕ) : Type 0 where
   pub header : ℕ
   pub header_load : HasLoad loads (item_at shape p) header
   pub key_len : header_key_len header ≡ length key
@@ -67,20 +67,20 @@ pub record IsEntryOf (shape : Shape) (loads : Loads) (chain key : List ℕ) (ent
 pub data IsNoEntryOf (shape : Shape) (loads : Loads) (stamp : ℕ) (key : List ℕ) (entry : ℕ) : Type 0 where
   by_tag : entry_tag entry ≢ tag_of key → IsNoEntryOf shape loads stamp key entry
   by_stamp : ¬ (IsLive shape stamp entry) → IsNoEntryOf shape loads stamp key entry
-  by_item : TellsOther shape loads (entry_offset entry) key → IsNoEntryOf shape loads stamp key entry
+  by_item : ShowsOther shape loads (entry_offset entry) key → IsNoEntryOf shape loads stamp key entry
 
 -- A miss: each slot of the chain was loaded, and had no entry of the key. A hit: some slot had one, live by
 -- the stamp, whose item holds the value.
-abbrev pub IsTold : Shape → Loads → ℕ → List ℕ → List ℕ → Option (List ℕ) → Type 0
-IsTold shape loads stamp chain key None = (c slot : ℕ) → Contains chain c → slot < 15
+abbrev pub ShowsAnswer : Shape → Loads → ℕ → List ℕ → List ℕ → Option (List ℕ) → Type 0
+ShowsAnswer shape loads stamp chain key None = (c slot : ℕ) → Contains chain c → slot < 15
     → (entry : ℕ) × HasLoad loads (entry_at shape c slot) entry × IsNoEntryOf shape loads stamp key entry
-IsTold shape loads stamp chain key (Some value) =
+ShowsAnswer shape loads stamp chain key (Some value) =
     (entry : ℕ) × IsEntryOf shape loads chain key entry × IsLive shape stamp entry
-    × TellsItem shape loads (entry_offset entry) key value
+    × ShowsItem shape loads (entry_offset entry) key value
 
 -- The loads hold the links of the whole chain of the bucket, and by the stamp they tell the key's value, or
 -- that it has none.
 pub record SpellsAnswer (shape : Shape) (loads : Loads) (stamp b : ℕ) (key : List ℕ) (answer : Option (List ℕ)) : Type 0 where
   pub behind : List ℕ
   pub links : HasLinks shape loads shape.spares b behind
-  pub told : IsTold shape loads stamp (b ∷ behind) key answer
+  pub shows : ShowsAnswer shape loads stamp (b ∷ behind) key answer

@@ -14,7 +14,7 @@ use mica_io::NoMemory;
 pub trait LendPartition: Partition {
     type Reader: ReaderWords;
 
-    /// It has seen what a reader has, and cannot load.
+    /// A note has seen a history, as a reader has, and cannot load.
     type Note: Drop;
 
     ghost noted: { Self.Note → ReaderState };
@@ -41,6 +41,7 @@ pub trait LendPartition: Partition {
     fn meet(&mut self, seat: Self::Reader)
         requires { Self.Reader.home seat ≡ Self.home self.old }
         ensures met { Self.owner self.new ≡ met_by (Self.owner self.old) (Self.Reader.reader seat) }
+        ensures idle { (Self.owner self.new).phase ≡ Idle }
         ensures kept { Kept (Self.owner self.new) }
         ensures home { Self.home self.new ≡ Self.home self.old };
 }

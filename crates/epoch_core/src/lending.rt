@@ -13,7 +13,7 @@ use mica_io::NoMemory;
 pub trait LendWords: OwnerWords {
     type Reader: ReaderWords;
 
-    /// It has seen what a reader has, and cannot load.
+    /// A note has seen a history, as a reader has, and cannot load.
     type Note: Drop;
 
     ghost noted: { Self.Note → ReaderState };

@@ -91,7 +91,7 @@ pub struct PlainWords {
     pub ghost some_words: { 0 < shape.words },
     pub ghost shaped: { seat.me.0.owner.shape ≡ shape },
     pub ghost same: { words.items ≡ seat.me.0.owner.words },
-    pub ghost noted: { events.items ≡ map owner_event seat.me.0.kept },
+    pub ghost listed: { events.items ≡ map owner_event seat.me.0.kept },
     pub ghost roomy: { seat.me.0.room ≡ vec_capacity events },
 }
 

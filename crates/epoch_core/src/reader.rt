@@ -25,9 +25,9 @@ pub struct Known {
     pub done: LinkedList<Write>,
 }
 
-/// A reader's or a note's state: the history that it has seen, the part of it whose writes had ended, what
-/// both seats of its last join knew, how many loads and tries it made, how its tries failed, how many it
-/// closed, and the one that is open.
+/// The state of a reader, or of a note: the history that it has seen, the part of it whose writes had ended,
+/// what both seats of its last join knew, the number of its loads and of its tries, its failures, the number
+/// of its tries that loaded a stamp and found the first epoch again, and its open try.
 pub struct ReaderState {
     pub shape: Shape,
     pub seen: LinkedList<Write>,

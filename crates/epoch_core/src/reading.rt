@@ -6,7 +6,7 @@ ghost use Rattle.epoch_core.specs.declared.reader.ReaderState.{ReaderState};
 ghost use Rattle.epoch_core.specs.Shape.{options_of, IsValidShape, IsMain, IsSpare, IsBucket};
 ghost use Rattle.epoch_core.specs.Layout.{entry_at, link_at, item_at};
 ghost use Rattle.epoch_core.specs.ReaderState.{opened, loaded, stamped, shut};
-ghost use Rattle.epoch_core.specs.ReaderKept.{MetKept, Tells};
+ghost use Rattle.epoch_core.specs.ReaderKept.{Tells};
 
 use crate::shape::Shape;
 
@@ -31,6 +31,7 @@ pub trait ReaderWords: Drop {
             (reader self.old).done bucket ≤ result }
         ensures home { home self.new ≡ home self.old };
 
+    /// The entry of this slot, which is 0 where the slot is empty.
     fn entry(&mut self, bucket: u32, slot: u32) -> u64
         requires { IsBucket (reader self.old).shape bucket × (slot < 15) }
         ensures event { reader self.new
@@ -45,18 +46,19 @@ pub trait ReaderWords: Drop {
         ensures next { (result ≡ 0) ⊎ IsSpare (reader self.old).shape result }
         ensures home { home self.new ≡ home self.old };
 
+    /// The item word at this offset, which goes round the end of the words.
     fn item_word(&mut self, offset: u64) -> u64
         ensures event { reader self.new
             ≡ loaded (item_at (reader self.old).shape offset) result (reader self.old) }
         ensures home { home self.new ≡ home self.old };
 
-    /// The owner's history at this load is what the reader has seen then, and the cut of an open try.
+    /// The stamp. The reader has seen the owner's history at this load from then on, and that history is the cut of
+    /// an open try.
     fn stamp(&mut self) -> u64
         ensures event { reader self.new ≡ stamped (reader self.new).seen (reader self.old) }
         ensures seen { IsPrefix (reader self.old).seen (reader self.new).seen }
         ensures value { result
             ≡ stamp_of (options_of (reader self.old).shape) (reader self.new).seen }
-        ensures met { MetKept (reader self.old) }
         ensures home { home self.new ≡ home self.old };
 
     /// Loads the epoch of the open try's bucket again, and closes the try.

@@ -43,14 +43,14 @@ impl TableRule<(), Book, Shape> for Plot {
 }
 
 // The events of a script, for the proof alone.
-trait Tells {
+trait Names {
     ghost use Rattle.std.specs.Prelude.{List};
     ghost use Rattle.epoch_core.specs.declared.event.Event.{Event};
 
     ghost events: { List Event };
 }
 
-impl Tells for Brand {
+impl Names for Brand {
     ghost use Rattle.std.specs.Prelude.{[]};
 
     ghost events = { [] };
@@ -61,7 +61,7 @@ struct Lays<K> {
     script: PhantomData<K>,
 }
 
-impl<K: Tells> Play<(), Book> for Lays<K> {
+impl<K: Names> Play<(), Book> for Lays<K> {
     ghost use Rattle.epoch_core.specs.Script.{laid};
 
     ghost then = { laid K.events };
@@ -90,11 +90,11 @@ impl Looks for Brand {
 }
 
 // The load that K names.
-struct Loads<K> {
+struct DoesLook<K> {
     look: PhantomData<K>,
 }
 
-impl<K: Looks> Play<(), Book> for Loads<K> {
+impl<K: Looks> Play<(), Book> for DoesLook<K> {
     ghost use Rattle.epoch_core.specs.Script.{looked};
 
     ghost then = { looked K.look };
@@ -185,14 +185,14 @@ fn look<K: Looks>(book: &Shared<(), Book, Shape, Plot>, seat: &mut Seat<(), Book
     ensures fits { BookFits seat.old.me.0 }
     ensures seat { seat.new.table_id ≡ seat.old.table_id }
 {
-    book.store::<Loads<K>>(seat, 0, 0);
+    book.store::<DoesLook<K>>(seat, 0, 0);
 }
 
 // Lays down the script that K names.
-fn lay<K: Tells>(
+fn lay<K: Names>(
     book: &Shared<(), Book, Shape, Plot>,
     seat: &mut Seat<(), Book>,
-    _of: &Seat<(), Diary>,
+    _token: &Seat<(), Diary>,
 )
     requires book { (seat.old.table_id ≡ book.now.table_id) × (0 < book.now.table_id.words) }
     requires can { CanPlay K.events seat.old.me.0.owner }

@@ -1,6 +1,6 @@
 -- What a try's loads, its stamp and its two epochs tell together.
 use Rattle.std.proofs.Common.{◌≡◌, ◌≢◌, ℕ, ◌+◌, ◌*◌, ◌%◌, ◌<◌, ◌≤◌, List, [], ◌∷◌, ◌++◌, Bool, sym, ap, ◌∙◌, subst, arith, eq-eqb, ne_eqb, Option, Some, None, inl, inr, if◌then◌else◌}
-use Rattle.std.specs.Prelude.{Contains}
+use Rattle.std.specs.Prelude.{Contains, IfSome}
 use Rattle.mica_words.specs.Hash.{bucket_of, tag_of}
 use Rattle.mica_words.specs.Entry.{entry_tag, entry_offset}
 use Rattle.mica_words.specs.Packing.{AreBytes}
@@ -15,8 +15,8 @@ use Rattle.epoch_core.specs.Shape.{options_of}
 use Rattle.epoch_core.specs.LiveEntry.{IsLiveItem}
 use Rattle.epoch_core.specs.Failures.{failure}
 use Rattle.epoch_core.specs.ReaderState.{new_try, opened, with_cut, stamped, fails_after, closes, shut}
-use Rattle.epoch_core.specs.Spelt.{Loads, HasLinks, TellsItem, IsNoEntryOf, by_tag as no_tag, by_stamp as no_stamp, by_item as no_item, SpellsAnswer}
-use Rattle.epoch_core.specs.ReaderKept.{IsSpelt, TellsTry, Tells}
+use Rattle.epoch_core.specs.Spelt.{Loads, HasLinks, ShowsItem, IsNoEntryOf, by_tag as no_tag, by_stamp as no_stamp, by_item as no_item, SpellsAnswer}
+use Rattle.epoch_core.specs.ReaderKept.{TellsTry, Tells}
 use Rattle.epoch_core.proofs.Prefixes.{prefix_same}
 use Rattle.optimistic_get.specs.Loading.{loads_of, loads_in, TryGoesOn}
 use Rattle.optimistic_get.specs.Search.{IsWeighed, by_tag, by_item, by_best, IsBest, IsSlotWeighed, Searches}
@@ -39,11 +39,11 @@ module _ (shape : Shape) (loads : Loads) (stamp b : ℕ) (key behind : List ℕ)
   spells_hit p value best live = record {
     behind = behind;
     links = links;
-    told = (
+    shows = (
       best.0,
       best.1,
       (tagged best.0 key best.1.tag, subst (IsLiveItem shape.mode shape.words stamp) (sym best.2) live),
-      subst (λ (z : ℕ). TellsItem shape loads z key value) (sym best.2) best.3,
+      subst (λ (z : ℕ). ShowsItem shape loads z key value) (sym best.2) best.3,
     );
   }
 
@@ -54,12 +54,12 @@ module _ (shape : Shape) (loads : Loads) (stamp b : ℕ) (key behind : List ℕ)
   spells_miss best dead slots = record {
     behind = behind;
     links = links;
-    told = λ c slot h l. let at = slots c slot h l in (at.0, at.1, no_entry at.0 at.2);
+    shows = λ c slot h l. let at = slots c slot h l in (at.0, at.1, no_entry at.0 at.2);
   }
     where
       no_entry : (entry : ℕ) → IsWeighed shape loads key best entry → IsNoEntryOf shape loads stamp key entry
       no_entry entry (by_tag n) = no_tag n
-      no_entry entry (by_item told) = no_item told
+      no_entry entry (by_item shows) = no_item shows
       no_entry entry (by_best p is less) = no_stamp (λ live. dead p is (live_later shape.mode shape.words stamp (entry_offset entry) p less live.1))
 
 -- The states of one try
@@ -117,8 +117,8 @@ module _ (r q : ReaderState) (b n : ℕ) (first : q ≡ opened b n r) (least : 2
     seen4 : q4.seen ≡ q3.seen
     seen4 = ap (λ (z : ReaderState). z.seen) end
 
-    told : (n ≤ last) × (last ≡ n → IsSpelt r.shape b (record { history = q3.seen; loads = loads_in q2 }))
-    told = subst (λ (z : Shape). TellsTry z last (Some tried)) shape3 (subst (TellsTry q3.shape last) cut_try tells)
+    told : TellsTry r.shape last tried
+    told = subst (λ (z : Shape). TellsTry z last tried) shape3 (subst (λ (c : Option Try). IfSome c (TellsTry q3.shape last)) cut_try tells)
 
     seen_before : q2.seen ≡ r.seen
     seen_before = ap (λ (z : ReaderState). z.seen) search.on.same ∙ ap (λ (z : ReaderState). z.seen) first
@@ -185,7 +185,7 @@ module _ (r q : ReaderState) (b n : ℕ) (first : q ≡ opened b n r) (least : 2
     answered still bytes here answer spell = record {
       stamped = stamped_at;
       answered = subst (λ (z : Shape × History). answer_of (options_of z.0) z.1 key ≡ answer) (λ i. (sym shape4 i, sym seen4 i))
-          (told.1 still key answer bytes here
+          (told.spelt still key answer bytes here
           (subst (λ (z : Shape × ℕ). SpellsAnswer z.0 (loads_in q2) z.1 b key answer)
           (λ i. (shape2 i, (stamped_is ∙ (λ j. stamp_of (options_of (shape2 j)) q3.seen)) i)) spell));
     }
@@ -225,7 +225,7 @@ module _ (r q : ReaderState) (b n : ℕ) (first : q ≡ opened b n r) (least : 2
 
     pub moved : last ≢ n → Tries r b key (Failed n last) value q4
     moved other =
-        let low = told.0 in (
+        let low = told.least in (
           once,
           record { fails = (low, inr (omega arith)); least = least },
           fails_now ∙ ap (λ (z : Bool). if z then r.fails else (r.fails ++ failure b n last ∷ [])) (ne_eqb last n other),

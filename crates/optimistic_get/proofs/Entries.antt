@@ -8,7 +8,7 @@ use Rattle.epoch_core.specs.declared.shape.Shape.{Shape}
 use Rattle.epoch_core.specs.declared.reader.ReaderState.{ReaderState}
 use Rattle.epoch_core.specs.Layout.{entry_at, item_at}
 use Rattle.epoch_core.specs.ReaderState.{loaded}
-use Rattle.epoch_core.specs.Spelt.{Loads, HasLoad, TellsOther, by_offset, by_key_len, by_value_len, by_hash, by_key_word, TellsItem, IsEntryOf}
+use Rattle.epoch_core.specs.Spelt.{Loads, HasLoad, ShowsOther, by_offset, by_key_len, by_value_len, by_hash, by_key_word, ShowsItem, IsEntryOf}
 use Rattle.epoch_core.proofs.Failing.{in_head}
 use Rattle.optimistic_get.specs.Loading.{most_words, loads_in, Keeps, GoesOn}
 use Rattle.optimistic_get.specs.Search.{IsWeighed, by_tag, by_item, by_best, IsBest, IsNoWorse, IsSlotWeighed, Weighs, Scans}
@@ -18,25 +18,25 @@ use Rattle.optimistic_get.proofs.Items.{on_one}
 -- What loads tell they tell still with more of them.
 
 module _ (shape : Shape) (loads more : Loads) (keeps : Keeps loads more) where
-  pub other_keeps : (p : ℕ) (key : List ℕ) → TellsOther shape loads p key → TellsOther shape more p key
+  pub other_keeps : (p : ℕ) (key : List ℕ) → ShowsOther shape loads p key → ShowsOther shape more p key
   other_keeps p key (by_offset out) = by_offset out
   other_keeps p key (by_key_len x load n) = by_key_len x (keeps (item_at shape p) x load) n
   other_keeps p key (by_value_len x load n) = by_value_len x (keeps (item_at shape p) x load) n
   other_keeps p key (by_hash x load n) = by_hash x (keeps (item_at shape (p + 1)) x load) n
   other_keeps p key (by_key_word i x l load n) = by_key_word i x l (keeps (item_at shape (p + 2 + i)) x load) n
 
-  pub item_keeps : (p : ℕ) (key value : List ℕ) → TellsItem shape loads p key value → TellsItem shape more p key value
-  item_keeps p key value told = record {
-    header = told.header;
-    header_load = keeps _ _ told.header_load;
-    key_len = told.key_len;
-    value_len = told.value_len;
-    hash = keeps _ _ told.hash;
-    key_words = λ i l. keeps _ _ (told.key_words i l);
-    words = told.words;
-    words_len = told.words_len;
-    value_words = λ i l. keeps _ _ (told.value_words i l);
-    held = told.held;
+  pub item_keeps : (p : ℕ) (key value : List ℕ) → ShowsItem shape loads p key value → ShowsItem shape more p key value
+  item_keeps p key value shows = record {
+    header = shows.header;
+    header_load = keeps _ _ shows.header_load;
+    key_len = shows.key_len;
+    value_len = shows.value_len;
+    hash = keeps _ _ shows.hash;
+    key_words = λ i l. keeps _ _ (shows.key_words i l);
+    words = shows.words;
+    words_len = shows.words_len;
+    value_words = λ i l. keeps _ _ (shows.value_words i l);
+    held = shows.held;
   }
 
   entry_keeps : (chain wider key : List ℕ) (entry : ℕ) → ((c : ℕ) → Contains chain c → Contains wider c) → IsEntryOf shape loads chain key entry
@@ -62,7 +62,7 @@ module _ (shape : Shape) (loads more : Loads) (keeps : Keeps loads more) where
 
   pub weighed_keeps : (key : List ℕ) (best now : Option ℕ) (entry : ℕ) → IsNoWorse best now → IsWeighed shape loads key best entry → IsWeighed shape more key now entry
   weighed_keeps key best now entry worse (by_tag n) = by_tag n
-  weighed_keeps key best now entry worse (by_item told) = by_item (other_keeps (entry_offset entry) key told)
+  weighed_keeps key best now entry worse (by_item shows) = by_item (other_keeps (entry_offset entry) key shows)
   weighed_keeps key best now entry worse (by_best p is less) =
       let later = no_worse p best now is worse in by_best later.0 later.1 (let more = later.2 in omega arith)
 
@@ -91,12 +91,12 @@ weighs_none r q n entry key best value g few weighed =
     record { on = on_at_most r q n most_words few g; rises = no_worse_same best; found = inl (refl, refl); weighed = weighed }
 
 pub weighs_one : (r q : ReaderState) (entry : ℕ) (key : List ℕ) (best : Option ℕ) (value now : List ℕ) → GoesOn r most_words q
-    → ((p : ℕ) → best ≡ Some p → p ≤ entry_offset entry) → entry_tag entry ≡ tag_of key → TellsItem q.shape (loads_in q) (entry_offset entry) key now
+    → ((p : ℕ) → best ≡ Some p → p ≤ entry_offset entry) → entry_tag entry ≡ tag_of key → ShowsItem q.shape (loads_in q) (entry_offset entry) key now
     → Weighs r entry key best value (Some (entry_offset entry)) now q
-weighs_one r q entry key best value now g later tag told = record {
+weighs_one r q entry key best value now g later tag shows = record {
   on = g;
   rises = later_no_worse best (entry_offset entry) later;
-  found = inr (refl, tag, told);
+  found = inr (refl, tag, shows);
   weighed = by_best (entry_offset entry) refl (omega arith);
 }
 

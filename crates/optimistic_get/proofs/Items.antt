@@ -10,7 +10,7 @@ use Rattle.mica_words.proofs.PackedBytes.{length-packed}
 use Rattle.epoch_core.specs.declared.reader.ReaderState.{ReaderState}
 use Rattle.epoch_core.specs.Layout.{item_at}
 use Rattle.epoch_core.specs.ReaderState.{loaded}
-use Rattle.epoch_core.specs.Spelt.{HasLoad, TellsOther, by_key_len, by_value_len, by_hash, by_key_word, TellsItem}
+use Rattle.epoch_core.specs.Spelt.{HasLoad, ShowsOther, by_key_len, by_value_len, by_hash, by_key_word, ShowsItem}
 use Rattle.optimistic_get.specs.Loading.{loads_in, GoesOn, HasWords, LacksWord, HasKeyOf, HoldsValue}
 use Rattle.optimistic_get.proofs.Loads.{on_none, on_load, on_then, on_open, item_here, item_still, words_still}
 
@@ -18,10 +18,10 @@ pub on_one : (r q : ReaderState) (place x : ℕ) → is_some r.current ≡ true 
 on_one r q place x trying is = on_load r r q 0 place x (on_none r trying) is
 
 module _ (r q : ReaderState) (p header : ℕ) (key : List ℕ) (trying : is_some r.current ≡ true) (one : q ≡ loaded (item_at r.shape p) header r) where
-  pub other_key_len : header_key_len header ≢ length key → TellsOther q.shape (loads_in q) p key
+  pub other_key_len : header_key_len header ≢ length key → ShowsOther q.shape (loads_in q) p key
   other_key_len n = by_key_len header (item_here r q p header trying one) n
 
-  pub long_value : MAX_VALUE_LEN < header_value_len header → TellsOther q.shape (loads_in q) p key
+  pub long_value : MAX_VALUE_LEN < header_value_len header → ShowsOther q.shape (loads_in q) p key
   long_value more = by_value_len header (item_here r q p header trying one) more
 
   after_one : is_some q.current ≡ true
@@ -31,14 +31,14 @@ module _ (r q : ReaderState) (p header : ℕ) (key : List ℕ) (trying : is_some
     pub on_two : GoesOn r 2 q2
     on_two = on_load r q q2 1 _ x (on_one r q _ header trying one) two
 
-    pub other_hash : x ≢ fnv1a key → TellsOther q2.shape (loads_in q2) p key
+    pub other_hash : x ≢ fnv1a key → ShowsOther q2.shape (loads_in q2) p key
     other_hash n = by_hash x (item_here q q2 (p + 1) x after_one two) n
 
     module _ (q3 : ReaderState) (words : List ℕ) (is : words ≡ packed key) (three : GoesOn q2 (length words) q3) where
       pub on_three : GoesOn r (2 + words_for (length key)) q3
       on_three = subst (λ (z : ℕ). GoesOn r (2 + z) q3) (ap length is ∙ length-packed key) (on_then r q2 q3 2 (length words) on_two three)
 
-      pub other_word : LacksWord q3 (p + 2) words → TellsOther q3.shape (loads_in q3) p key
+      pub other_word : LacksWord q3 (p + 2) words → ShowsOther q3.shape (loads_in q3) p key
       other_word lacks =
           let inside = lacks.inside in
           by_key_word lacks.at lacks.found (omega (arith, ap length is, length-packed key)) lacks.load
@@ -60,7 +60,7 @@ module _ (r q : ReaderState) (p header : ℕ) (key : List ℕ) (trying : is_some
 
 -- the key and the value behind it are an item of the key
 pub tells_item : (q q' : ReaderState) (n p at len : ℕ) (key value : List ℕ) → HasKeyOf q p key len → GoesOn q n q' → at ≡ p + 2 + words_for (length key)
-    → HoldsValue q' at len value → TellsItem q'.shape (loads_in q') p key value
+    → HoldsValue q' at len value → ShowsItem q'.shape (loads_in q') p key value
 tells_item q q' n p at len key value has g place holds = record {
   header = has.header;
   header_load = item_still q q' n p has.header g has.header_load;

@@ -5,14 +5,14 @@ use Rattle.mica_words.specs.Entry.{entry_tag, entry_offset}
 use Rattle.epoch_core.specs.declared.shape.Shape.{Shape}
 use Rattle.epoch_core.specs.declared.reader.ReaderState.{ReaderState}
 use Rattle.epoch_core.specs.Layout.{entry_at}
-use Rattle.epoch_core.specs.Spelt.{Loads, HasLoad, HasLinks, TellsOther, TellsItem, IsEntryOf}
+use Rattle.epoch_core.specs.Spelt.{Loads, HasLoad, HasLinks, ShowsOther, ShowsItem, IsEntryOf}
 use Rattle.optimistic_get.specs.Loading.{most_words, loads_in, GoesOn}
 
 -- What was found of an entry: it has another tag, its item is another key's, or it begins no later than the
 -- item that was found first or last.
 pub data IsWeighed (shape : Shape) (loads : Loads) (key : List ℕ) (best : Option ℕ) (entry : ℕ) : Type 0 where
   by_tag : entry_tag entry ≢ tag_of key → IsWeighed shape loads key best entry
-  by_item : TellsOther shape loads (entry_offset entry) key → IsWeighed shape loads key best entry
+  by_item : ShowsOther shape loads (entry_offset entry) key → IsWeighed shape loads key best entry
   by_best : (p : ℕ) → best ≡ Some p → entry_offset entry ≤ p → IsWeighed shape loads key best entry
 
 -- the item at this offset, if there is one, is the key's by an entry of these buckets, and holds this value
@@ -20,7 +20,7 @@ abbrev pub IsBest : Shape → Loads → List ℕ → List ℕ → Option ℕ →
 IsBest shape loads chain key None value = Unit {0}
 IsBest shape loads chain key (Some p) value =
     (entry : ℕ) × IsEntryOf shape loads chain key entry × (entry_offset entry ≡ p)
-    × TellsItem shape loads p key value
+    × ShowsItem shape loads p key value
 
 -- a later one counts
 abbrev pub IsNoWorse : Option ℕ → Option ℕ → Type 0
@@ -40,7 +40,7 @@ pub record Weighs (old : ReaderState) (entry : ℕ) (key : List ℕ) (best : Opt
   pub rises : IsNoWorse best now
   pub found : ((now ≡ best) × (now_value ≡ value))
       ⊎ ((now ≡ Some (entry_offset entry)) × (entry_tag entry ≡ tag_of key)
-      × TellsItem new.shape (loads_in new) (entry_offset entry) key now_value)
+      × ShowsItem new.shape (loads_in new) (entry_offset entry) key now_value)
   pub weighed : IsWeighed new.shape (loads_in new) key now entry
 
 -- The first slots of a bucket were looked at. The best item of before is the best still, or another one of

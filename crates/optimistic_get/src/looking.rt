@@ -4,7 +4,7 @@ ghost use Rattle.mica_words.specs.declared.item.TheConstants.{MAX_VALUE_LEN};
 ghost use Rattle.mica_words.specs.Hash.{fnv1a};
 ghost use Rattle.mica_words.specs.Item.{KeyFits, words_for};
 ghost use Rattle.mica_words.specs.Packing.{packed as packed_words};
-ghost use Rattle.epoch_core.specs.Spelt.{TellsOther, TellsItem};
+ghost use Rattle.epoch_core.specs.Spelt.{ShowsOther, ShowsItem};
 ghost use Rattle.optimistic_get.specs.Loading.{most_words, loads_in, GoesOn, HasWords, LacksWord, HasKeyOf, HoldsValue};
 
 use epoch_core::ReaderWords;
@@ -16,7 +16,7 @@ fn holds_words<R: ReaderWords>(seat: &mut R, offset: u64, expected: &[u64]) -> b
     requires open { is_some (R.reader seat.old).current ≡ true }
     requires low { offset + length expected.now < 2 ^ 64 }
     ensures on { GoesOn (R.reader seat.old) (length expected.entry.now) (R.reader seat.new) }
-    ensures told { MatchBool result (HasWords (R.reader seat.new) offset expected.entry.now)
+    ensures shows { MatchBool result (HasWords (R.reader seat.new) offset expected.entry.now)
         (LacksWord (R.reader seat.new) offset expected.entry.now) }
     ensures home { R.home seat.new ≡ R.home seat.old }
 {
@@ -42,8 +42,8 @@ fn value_len_at<R: ReaderWords>(
     requires hash { hash ≡ fnv1a key.now }
     requires packed { packed.now ≡ packed_words key.now }
     ensures on { GoesOn (R.reader seat.old) (2 + words_for (length key.entry.now)) (R.reader seat.new) }
-    ensures told { MatchOption result
-        (TellsOther (R.reader seat.new).shape (loads_in (R.reader seat.new)) offset key.entry.now)
+    ensures shows { MatchOption result
+        (ShowsOther (R.reader seat.new).shape (loads_in (R.reader seat.new)) offset key.entry.now)
         (HasKeyOf (R.reader seat.new) offset key.entry.now) }
     ensures home { R.home seat.new ≡ R.home seat.old }
 {
@@ -97,9 +97,9 @@ pub(crate) fn look<R: ReaderWords>(
     requires hash { hash ≡ fnv1a key.now }
     requires packed { packed.now ≡ packed_words key.now }
     ensures on { GoesOn (R.reader seat.old) most_words (R.reader seat.new) }
-    ensures told { MatchBool result
-        (TellsItem (R.reader seat.new).shape (loads_in (R.reader seat.new)) offset key.entry.now out.new)
-        (TellsOther (R.reader seat.new).shape (loads_in (R.reader seat.new)) offset key.entry.now
+    ensures shows { MatchBool result
+        (ShowsItem (R.reader seat.new).shape (loads_in (R.reader seat.new)) offset key.entry.now out.new)
+        (ShowsOther (R.reader seat.new).shape (loads_in (R.reader seat.new)) offset key.entry.now
         × (out.new ≡ out.old)) }
     ensures home { R.home seat.new ≡ R.home seat.old }
 {

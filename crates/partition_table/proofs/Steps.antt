@@ -21,7 +21,7 @@ use Rattle.epoch_core.specs.Grows.{Grows}
 use Rattle.std.specs.Prelude.{is_some, if◌then◌else◌, ◌==◌}
 use Rattle.epoch_core.specs.ReaderState.{new_try, opened, loaded, stamped, shut}
 use Rattle.epoch_core.specs.ReaderKept.{MetKept, ReaderKept, Tells}
-use Rattle.epoch_core.specs.Joins.{lent, noted, met_by, known, told}
+use Rattle.epoch_core.specs.Joins.{lent, note_of, met_by, known, told}
 use Rattle.epoch_core.proofs.Made.{kept_as_made}
 use Rattle.epoch_core.proofs.Inside.{epoch_small}
 use Rattle.epoch_core.proofs.Keeps.{kept_after}
@@ -340,7 +340,7 @@ lent_owner (Owns o) e = refl
 lent_owner (Reads r) e = absurd (cc e)
 lent_owner Spent e = absurd (cc e)
 
-pub noted_reader : (v : View) → is_reader v ≡ true → view_lent v ≡ noted (reader_in v)
+pub noted_reader : (v : View) → is_reader v ≡ true → view_lent v ≡ note_of (reader_in v)
 noted_reader (Owns o) e = absurd (cc e)
 noted_reader (Reads r) e = refl
 noted_reader Spent e = absurd (cc e)

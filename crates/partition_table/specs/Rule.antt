@@ -11,7 +11,7 @@ use Rattle.epoch_core.specs.OwnerState.{as_made}
 use Rattle.epoch_core.specs.Kept.{Kept}
 use Rattle.epoch_core.specs.ReaderState.{newcomer}
 use Rattle.epoch_core.specs.ReaderKept.{ReaderKept}
-use Rattle.epoch_core.specs.Joins.{lent, noted, met_by, told}
+use Rattle.epoch_core.specs.Joins.{lent, note_of, met_by, told}
 use Rattle.partition_table.specs.declared.rule.View.{View}
 use Rattle.partition_table.specs.declared.rule.View.TheVariants.{Owns, Reads, Spent}
 
@@ -60,7 +60,7 @@ reader_in _ = newcomer no_shape [] []
 -- what a seat of this view splits off
 abbrev pub view_lent : View → ReaderState
 view_lent (Owns o) = lent o
-view_lent (Reads r) = noted r
+view_lent (Reads r) = note_of r
 view_lent Spent = newcomer no_shape [] []
 
 -- the view of a seat that another was joined into

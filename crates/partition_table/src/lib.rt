@@ -9,5 +9,4 @@ mod tables;
 
 pub use owner::{OwnerSeat, make};
 pub use reader::{Note, ReaderSeat};
-pub use rule::{Law, Partition, View};
 pub use tables::{Entry, Tables};

@@ -10,7 +10,7 @@ ghost use Rattle.partition_table.specs.Rule.{is_owner, owner_in, reader_in};
 
 use crate::plays::{Does, Happens, Lends, Meets, TellsWord};
 use crate::reader::{Note, ReaderSeat};
-use crate::rule::{Partition, View};
+use crate::rule::{PartitionTable, View};
 use atomic_table::{Seat, Table};
 use epoch_core::{LendWords, OwnerEvent, OwnerWords, Shape, WordAt};
 use mica_io::NoMemory;
@@ -22,7 +22,7 @@ use std::sync::Arc;
 /// The owner's seat at a partition's table.
 #[derive(Drop)]
 pub struct OwnerSeat {
-    table: Arc<Partition, Global>,
+    table: Arc<PartitionTable, Global>,
     seat: Seat<(), View>,
     shape: Shape,
     pub ghost seated: { seat.table_id ≡ (arc_value table).shared.table_id },
@@ -40,7 +40,7 @@ pub fn make(alloc: Global, shape: &Shape) -> Result<OwnerSeat, NoMemory>
 {
     let words = vec![in alloc; 0u64; shape.word_count()]?;
     let (table, seat) = Table::of_words(alloc, words.as_slice(), shape)?;
-    let table: Arc<Partition, Global> = Arc::new(alloc, table)?;
+    let table: Arc<PartitionTable, Global> = Arc::new(alloc, table)?;
     Ok(OwnerSeat {
         table,
         seat,

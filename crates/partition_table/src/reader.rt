@@ -6,11 +6,11 @@ ghost use Rattle.epoch_core.specs.declared.reader.Try.{Try};
 ghost use Rattle.epoch_core.specs.Shape.{is_in_range, IsMain};
 ghost use Rattle.epoch_core.specs.Layout.{word_count};
 ghost use Rattle.epoch_core.specs.ReaderState.{stamped};
-ghost use Rattle.epoch_core.specs.Joins.{noted, told};
+ghost use Rattle.epoch_core.specs.Joins.{note_of, told};
 ghost use Rattle.partition_table.specs.Rule.{is_reader, reader_in};
 
 use crate::plays::{Follows, Lends, Looks, Meets, Opens, Shuts, Stamps};
-use crate::rule::{Partition, View};
+use crate::rule::{PartitionTable, View};
 use atomic_table::Seat;
 use epoch_core::{ReaderWords, Shape, WordAt};
 use std::alloc::Global;
@@ -19,7 +19,7 @@ use std::sync::Arc;
 /// A reader's seat at a partition's table.
 #[derive(Drop)]
 pub struct ReaderSeat {
-    pub(crate) table: Arc<Partition, Global>,
+    pub(crate) table: Arc<PartitionTable, Global>,
     pub(crate) seat: Seat<(), View>,
     pub(crate) shape: Shape,
     // The bucket of the open try.
@@ -44,7 +44,7 @@ pub struct Note {
 impl ReaderSeat {
     /// A note that has seen the same.
     pub fn note(&mut self) -> Note
-        ensures note { reader_in result.seat.me.0 ≡ noted (reader_in self.old.seat.me.0) }
+        ensures note { reader_in result.seat.me.0 ≡ note_of (reader_in self.old.seat.me.0) }
         ensures note_home { result.seat.table_id ≡ self.old.seat.table_id }
         ensures same { reader_in self.new.seat.me.0 ≡ reader_in self.old.seat.me.0 }
         ensures home { self.new.seat.table_id ≡ self.old.seat.table_id }

@@ -25,4 +25,4 @@ impl TableRule<(), View, Shape> for Law {
 }
 
 /// The words of one partition.
-pub type Partition = Table<(), View, Shape, Law, Global>;
+pub type PartitionTable = Table<(), View, Shape, Law, Global>;

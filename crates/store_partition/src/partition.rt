@@ -6,6 +6,7 @@ ghost use Rattle.mica_model.specs.declared.options.Mode.TheVariants.{Store};
 ghost use Rattle.mica_model.specs.declared.write.Op.TheVariants.{Put, Del};
 ghost use Rattle.mica_model.specs.Write.{write_of};
 ghost use Rattle.mica_model.specs.History.{stamp_of};
+ghost use Rattle.epoch_core.specs.declared.state.Phase.TheVariants.{Idle};
 ghost use Rattle.epoch_core.specs.OwnerState.{options_in, as_made};
 ghost use Rattle.epoch_core.specs.OwnerStep.{IsOwnerStep};
 ghost use Rattle.epoch_core.specs.StandsFor.{room_in};
@@ -58,6 +59,7 @@ impl<W: OwnerWords> StorePartition<W> {
     /// The words, with what the partition made of them.
     pub fn into_words(self) -> W
         ensures owner { W.owner result ≡ W.owner self.words }
+        ensures idle { (W.owner result).phase ≡ Idle }
         ensures home { W.home result ≡ W.home self.words }
     {
         self.words
