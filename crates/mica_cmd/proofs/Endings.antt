@@ -1,99 +1,97 @@
 -- How a run ends with what is due.
-use Rattle.std.proofs.Common.{◌≡◌, ◌≢◌, ℕ, ◌+◌, ◌<◌, ◌≤◌, ◌⊎◌, inl, inr, List, ◌++◌, length, length-append, Option, Some, None, refl, sym, ap, ◌∙◌, subst, arith}
+use Rattle.std.proofs.Common.{◌≡◌, ℕ, ◌+◌, ◌≤◌, ◌⊎◌, inl, inr, List, length, length-append, Option, Some, None, codes, refl, sym, ap, ◌∙◌, subst, arith}
 use Rattle.std.specs.Prelude.{IfSome}
-use Rattle.std.specs.Io.KnownBytes.{Appends, Keeps, Consumes, IsAtEnd}
+use Rattle.std.specs.Option.{IsSomeAnd}
+use Rattle.std.specs.Io.KnownBytes.{Appends, Consumes, IsAtEnd}
 use Rattle.std.proofs.KnownBytes.{Consumes-whole}
 use Rattle.mica_model.specs.declared.options.Options.{Options}
 use Rattle.mica_trace.specs.declared.line.TraceLine.{TraceLine}
 use Rattle.mica_trace.specs.declared.line.TraceFault.{TraceFault}
 use Rattle.mica_trace.specs.declared.line.TraceFault.TheVariants.{NoMemory as NoRoom}
 use Rattle.mica_trace.specs.TraceGrammar.{IsTrace, IsNoTrace, Refuses, fault_text}
+use Rattle.mica_cmd.specs.declared.top.TheConstants.{MAX_SOURCE_LEN}
 use Rattle.mica_cmd.specs.declared.command.Command.{Command}
 use Rattle.mica_cmd.specs.declared.command.Command.TheVariants.{Replay}
 use Rattle.mica_cmd.specs.declared.status.Status.{Status}
 use Rattle.mica_cmd.specs.declared.status.Status.TheVariants.{Done, Usage, NoMemory, TraceRefused, TraceLong, ReadFault, WriteFault, NetFault}
-use Rattle.mica_cmd.specs.Top.{line_of, IsTooLong, IsRefusalOf, IsDue, AppendsPart, IsWritten, IsRefusedWith, Ends, IsReplayOfTrace}
+use Rattle.mica_cmd.specs.Outside.{Outside, IsReadUp}
+use Rattle.mica_cmd.specs.Top.{line_of, IsTooLong, IsDue, IsWritten, IsRefusedWith, Ends, IsUnhindered, ReadsFor, KeepsPromises}
 
-module _ (read_failed write_failed : Type 0) where
-  at_due : (command : Option Command) (input before after : Option (List ℕ)) (status : Status) (text : List ℕ)
-      → IsDue command input read_failed status text → Appends before after text → Ends command input read_failed write_failed status before after
-  at_due None input before after Usage text is taken = (text, is, taken)
-  at_due None input before after Done text is taken = absurd is
-  at_due None input before after NoMemory text is taken = absurd is
-  at_due None input before after TraceRefused text is taken = absurd is
-  at_due None input before after TraceLong text is taken = absurd is
-  at_due None input before after ReadFault text is taken = absurd is
-  at_due None input before after WriteFault text is taken = absurd is
-  at_due None input before after NetFault text is taken = absurd is
-  at_due (Some (Replay options)) input before after Done text is taken = (text, is, taken)
-  at_due (Some (Replay options)) input before after TraceRefused text is taken = (text, is, taken)
-  at_due (Some (Replay options)) input before after TraceLong text is taken = (text, is, taken)
-  at_due (Some (Replay options)) input before after ReadFault text is taken = (text, is, taken)
-  at_due (Some (Replay options)) input before after Usage text is taken = absurd is
-  at_due (Some (Replay options)) input before after NoMemory text is taken = absurd is
-  at_due (Some (Replay options)) input before after WriteFault text is taken = absurd is
-  at_due (Some (Replay options)) input before after NetFault text is taken = absurd is
-
-  -- the due text was written, or a part of it
-  pub due_ends : (command : Option Command) (input before after : Option (List ℕ)) (status : Status) (text : List ℕ) (result : Status)
-      → IsDue command input read_failed status text → IsWritten status text write_failed result before after → Ends command input read_failed write_failed result before after
-  due_ends command input before after status text result is either =
-      elim either as (λ _. Ends command input read_failed write_failed result before after) [
-        | inl whole ↦ subst (λ s. Ends command input read_failed write_failed s before after) (sym whole.0) (at_due command input before after status text is whole.1)
-        | inr part ↦ subst (λ s. Ends command input read_failed write_failed s before after) (sym part.0) (part.1, (status, text, is, part.2))
-      ]
-
-  -- a trace that was refused
-  refused_due : (options : Options) (left after : Option (List ℕ)) (input : List ℕ) (fault : TraceFault) → Consumes left after input → IsAtEnd after → length input ≤ 16777216
-      → Refuses input fault × IsNoTrace input → IsDue (Some (Replay options)) left read_failed TraceRefused (line_of (fault_text fault))
-  refused_due options left after input fault read ended short bad = record {
-    fault = fault;
-    refused = Consumes-whole left after input (λ bytes. ¬ (IsTooLong bytes) × Refuses bytes fault × IsNoTrace bytes) read ended ((λ long. omega arith), bad.0, bad.1);
-    spelled = refl;
-  }
-
-  pub refused_ends : (options : Options) (left rest : Option (List ℕ)) (input : List ℕ) (fault : TraceFault) (result : Status) (before after : Option (List ℕ))
-      → Consumes left rest input → IsAtEnd rest → length input ≤ 16777216 → (fault ≡ NoRoom) ⊎ (Refuses input fault × IsNoTrace input)
-      → IsRefusedWith fault write_failed result before after → Ends (Some (Replay options)) left read_failed write_failed result before after
-  refused_ends options left rest input fault result before after read ended short why either =
-      elim either as (λ _. Ends (Some (Replay options)) left read_failed write_failed result before after) [
-        | inl memory ↦ subst (λ s. Ends (Some (Replay options)) left read_failed write_failed s before after) (sym memory.0) memory.1
-        | inr written ↦ elim why as (λ _. Ends (Some (Replay options)) left read_failed write_failed result before after) [
-          | inl is ↦ absurd (written.0 is)
-          | inr bad ↦ due_ends (Some (Replay options)) left before after TraceRefused (line_of (fault_text fault)) result
-              (refused_due options left rest input fault read ended short bad) written.1
-        ]
-      ]
-
-  -- a refused trace is not done
-  pub refused_undone : (fault : TraceFault) (result : Status) (before after : Option (List ℕ)) → IsRefusedWith fault write_failed result before after → result ≢ Done
-  refused_undone fault result before after either = elim either as (λ _. result ≢ Done) [
-    | inl memory ↦ λ is. let same : NoMemory ≡ Done = sym memory.0 ∙ is in cc
-    | inr written ↦ elim written.1 as (λ _. result ≢ Done) [
-      | inl whole ↦ λ is. let same : TraceRefused ≡ Done = sym whole.0 ∙ is in cc
-      | inr part ↦ λ is. let same : WriteFault ≡ Done = sym part.0 ∙ is in cc
+-- what was written of the due text with its status
+pub due_ends : (command : Option Command) (old new : Outside) (status : Status) (text : List ℕ) (result : Status) → IsDue command old new status text
+    → ((line : List ℕ) × IsDue command old new status line × Appends old.sink.taken new.sink.taken line → Ends command old new status)
+    → IsWritten status text old.sink new.sink result → Ends command old new result
+due_ends command old new status text result due whole either =
+    elim either as (λ _. Ends command old new result) [
+      | inl all ↦ subst (Ends command old new) (sym all.0) (whole (text, due, all.1))
+      | inr part ↦ subst (Ends command old new) (sym part.0) (part.1, (status, text, due, part.2))
     ]
-  ]
 
-  -- with no fault of source and sink a trace is replayed, but for want of memory
-  pub complete : (command : Option Command) (input before after : Option (List ℕ)) (result : Status) → Ends command input read_failed write_failed result before after
-      → IsReplayOfTrace command input → ¬ read_failed → ¬ write_failed → (result ≡ Done) ⊎ (result ≡ NoMemory)
-  complete None input before after result ends is no_read no_write = absurd is
-  complete (Some (Replay options)) None before after result ends is no_read no_write = absurd is
-  complete (Some (Replay options)) (Some bytes) before after Done ends is no_read no_write = inl refl
-  complete (Some (Replay options)) (Some bytes) before after NoMemory ends is no_read no_write = inr refl
-  complete (Some (Replay options)) (Some bytes) before after Usage ends is no_read no_write = absurd ends.1
-  complete (Some (Replay options)) (Some bytes) before after NetFault ends is no_read no_write = absurd ends.1
-  complete (Some (Replay options)) (Some bytes) before after TraceRefused ends is no_read no_write = absurd (ends.1.refused.2 is.1 is.2)
-  complete (Some (Replay options)) (Some bytes) before after TraceLong ends is no_read no_write = absurd (is.0 ends.1.0)
-  complete (Some (Replay options)) (Some bytes) before after ReadFault ends is no_read no_write = absurd (no_read ends.1.0)
-  complete (Some (Replay options)) (Some bytes) before after WriteFault ends is no_read no_write = absurd (no_write ends.0)
+-- nothing is told of the bytes where they must be told
+never_both : (left : Option (List ℕ)) (P Q : List ℕ → Type 0) → ((bytes : List ℕ) → P bytes → Q bytes → ⊥) → IfSome left P → IsSomeAnd left Q → ⊥
+never_both None P Q never first second = second
+never_both (Some bytes) P Q never first second = never bytes first second
+
+-- an unhindered command is carried out, but for want of memory
+complete : (command : Option Command) (old new : Outside) (status : Status) → Ends command old new status
+    → IsUnhindered command old new → (status ≡ Done) ⊎ (status ≡ NoMemory)
+complete command old new Done ends free = inl refl
+complete command old new NoMemory ends free = inr refl
+complete None old new Usage ends free = absurd free
+complete None old new TraceRefused ends free = absurd free
+complete None old new TraceLong ends free = absurd free
+complete None old new ReadFault ends free = absurd free
+complete None old new WriteFault ends free = absurd free
+complete None old new NetFault ends free = absurd free
+complete (Some (Replay options)) old new Usage ends free = absurd ends.1
+complete (Some (Replay options)) old new NetFault ends free = absurd ends.1
+complete (Some (Replay options)) old new TraceRefused ends free = absurd (never_both old.source.left _ _ (λ bytes no is. no.2 is.1.0 is.1.1) ends.1.refused free.0)
+complete (Some (Replay options)) old new TraceLong ends free = absurd (never_both old.source.left _ _ (λ bytes long is. is.0 long) ends.1.0 free.0)
+complete (Some (Replay options)) old new ReadFault ends free = absurd (free.1 ends.1.0)
+complete (Some (Replay options)) old new WriteFault ends free = absurd (free.2 ends.0)
+
+pub keeps_promises : (command : Option Command) (old new : Outside) (status : Status) → Ends command old new status → ReadsFor command old.source new.source
+    → KeepsPromises command old new status
+keeps_promises command old new status ends reads = record { ended = ends; complete = complete command old new status ends; reads = reads }
+
+-- the text of a trace that was read to the end, within the limit
+pub gives_trace : (left rest : Option (List ℕ)) (input : List ℕ) (trace : List TraceLine) → Consumes left rest input → IsAtEnd rest → length input ≤ MAX_SOURCE_LEN
+    → IsTrace input trace → IfSome left (λ bytes. ¬ (IsTooLong bytes) × IsTrace bytes trace)
+gives_trace left rest input trace read ended short is = Consumes-whole left rest input (λ bytes. ¬ (IsTooLong bytes) × IsTrace bytes trace) read ended ((λ long. omega arith), is)
+
+-- bytes that are no trace
+pub refused_ends : (options : Options) (old new : Outside) (input : List ℕ) (fault : TraceFault) (result : Status)
+    → Consumes old.source.left new.source.left input → IsReadUp new.source → length input ≤ MAX_SOURCE_LEN → (fault ≡ NoRoom) ⊎ (Refuses input fault × IsNoTrace input)
+    → IsRefusedWith fault old.sink new.sink result → Ends (Some (Replay options)) old new result
+refused_ends options old new input fault result read ended short why either =
+    elim either as (λ _. Ends (Some (Replay options)) old new result) [
+      | inl memory ↦ subst (Ends (Some (Replay options)) old new) (sym memory.0) memory.1
+      | inr written ↦ elim why as (λ _. Ends (Some (Replay options)) old new result) [
+        | inl is ↦ absurd (written.0 is)
+        | inr bad ↦ let due : IsDue (Some (Replay options)) old new TraceRefused (line_of (fault_text fault)) = record {
+          fault = fault;
+          named = written.0;
+          refused = Consumes-whole old.source.left new.source.left input (λ bytes. ¬ (IsTooLong bytes) × Refuses bytes fault × IsNoTrace bytes) read ended.nothing
+              ((λ long. omega arith), bad.0, bad.1);
+          ended = ended;
+          spelled = refl;
+        } in
+            due_ends (Some (Replay options)) old new TraceRefused (line_of (fault_text fault)) result due (λ line. line) written.1
+      ]
+    ]
 
 -- a source whose reads gave more than the limit has more
-pub long_source : (left after : Option (List ℕ)) → (bytes : List ℕ) × (length bytes ≡ 16777217) × Consumes left after bytes → IfSome left IsTooLong
+pub long_source : (left after : Option (List ℕ)) → (bytes : List ℕ) × (length bytes ≡ MAX_SOURCE_LEN + 1) × Consumes left after bytes → IfSome left IsTooLong
 long_source None after read = tt
 long_source (Some input) None read = absurd read.2
 long_source (Some input) (Some rest) read =
     let long = read.1 in
     let whole = ap length read.2 ∙ length-append read.0 rest in
     omega arith
+
+-- words that give no command
+pub usage_promises : (command : Option Command) (old new : Outside) (result : Status) → command ≡ None → new.source ≡ old.source
+    → IsWritten Usage (line_of (codes "usage")) old.sink new.sink result → KeepsPromises command old new result
+usage_promises command old new result none same written =
+    subst (λ c. KeepsPromises c old new result) (sym none)
+    (keeps_promises None old new result (due_ends None old new Usage (line_of (codes "usage")) result refl (λ line. line) written) same)

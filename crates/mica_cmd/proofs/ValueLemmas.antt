@@ -1,5 +1,5 @@
 -- The values of options, and why they are valid.
-use Rattle.std.proofs.Common.{◌≡◌, ℕ, zero, suc, ◌/◌, ◌%◌, ◌^◌, ◌≤◌, Option, Some, None, Bool, true, false, true≢false, count_ones, nat_le, ◌&&◌, codes, bytes_eq, ap, sym, refl, subst, unwrap_or, if◌then◌else◌, arith, inl, inr}
+use Rattle.std.proofs.Common.{◌≡◌, ℕ, zero, suc, ◌/◌, ◌%◌, ◌^◌, ◌≤◌, Option, Some, None, Bool, true, false, true≢false, count_ones, nat_le, ◌&&◌, codes, ap, sym, refl, subst, unwrap_or, if◌then◌else◌, arith, inl, inr}
 use lib.Count.{ones, ones_step}
 use Rattle.std.proofs.lemmas.Nat.{zero_from_ones, ones_le_self}
 use Rattle.std.proofs.lemmas.Bool.{leb-true}
@@ -10,7 +10,6 @@ use Rattle.std.proofs.lemmas.Option.{none-some}
 use Rattle.std.specs.Int.{is_power_of_two}
 use Rattle.std.specs.Str.Parse.{digits_value}
 use Rattle.mica_model.specs.declared.options.Options.{Options}
-use Rattle.mica_model.specs.declared.options.Mode.{Mode}
 use Rattle.mica_model.specs.Options.{InRange, IsValid}
 use Rattle.mica_cmd.specs.Words.{Text}
 use Rattle.mica_cmd.specs.CommandLine.{mode, partitions, buckets, spares, words, readers, tries, wear, number, number_of, is_number, value_by, value_of, replay_options, ◌>>=◌}

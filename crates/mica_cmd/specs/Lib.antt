@@ -1,4 +1,5 @@
 pub mod Words
 pub mod CommandLine
 pub mod ClapCommand
+pub mod Outside
 pub mod Top

@@ -1,6 +1,8 @@
 -- What a run of the program ends with, and what it writes.
-use Rattle.std.specs.Prelude.{◌≡◌, ◌≢◌, ℕ, ◌+◌, ◌<◌, ◌⊎◌, List, [], ◌∷◌, ◌++◌, length, take, codes, Option, Some, None, IfSome}
-use Rattle.std.specs.Io.KnownBytes.{Appends, Keeps, IsAtEnd}
+use Rattle.std.specs.Prelude.{◌≡◌, ◌≢◌, ℕ, ◌+◌, ◌<◌, ◌≤◌, ◌⊎◌, List, [], ◌∷◌, ◌++◌, length, take, codes, Option, Some, None, IfSome}
+use Rattle.std.specs.Option.{IsSomeAnd}
+use Rattle.std.specs.Io.KnownBytes.{Appends, Keeps, Consumes}
+use Rattle.mica_io.specs.Faults.{Rose}
 use Rattle.mica_model.specs.declared.options.Options.{Options}
 use Rattle.mica_trace.specs.declared.line.TraceLine.{TraceLine}
 use Rattle.mica_trace.specs.declared.line.TraceFault.{TraceFault}
@@ -13,82 +15,119 @@ use Rattle.mica_cmd.specs.declared.top.TheConstants.{MAX_SOURCE_LEN}
 use Rattle.mica_cmd.specs.declared.command.Command.{Command}
 use Rattle.mica_cmd.specs.declared.command.Command.TheVariants.{Replay}
 use Rattle.mica_cmd.specs.declared.status.Status.{Status}
-use Rattle.mica_cmd.specs.declared.status.Status.TheVariants.{Done, Usage, NoMemory, TraceRefused, TraceLong, ReadFault, WriteFault, NetFault}
+use Rattle.mica_cmd.specs.declared.status.Status.TheVariants.{Done, Usage, NoMemory, TraceRefused, TraceLong, ReadFault, WriteFault}
+use Rattle.mica_cmd.specs.Outside.{SourceFacts, SinkFacts, Outside, IsReadUp}
+
+-- the bytes are more than a source may give
+abbrev pub IsTooLong : List ℕ → Type 0
+IsTooLong bytes = MAX_SOURCE_LEN < length bytes
+
+-- the bytes that the source has left, where it tells them, are the text of this trace, and not too many
+abbrev pub Gives : SourceFacts → List TraceLine → Type 0
+Gives source trace = IfSome source.left (λ bytes. ¬ (IsTooLong bytes) × IsTrace bytes trace)
+
+-- The headline: the source gave a trace and was read to its end, and the sink took the text of a lawful report of it, and nothing else.
+pub record PrintsLawfully (options : Options) (old new : Outside) : Type 0 where
+  pub trace : List TraceLine
+  pub read : Gives old.source trace
+  pub ended : IsReadUp new.source
+  pub report : List Line
+  pub lawful : LawfulReport options trace report
+  pub printed : Appends old.sink.taken new.sink.taken (report_text report)
+
+-- what it means that a command was carried out
+abbrev pub Headline : Option Command → Outside → Outside → Type 0
+Headline (Some (Replay options)) old new = PrintsLawfully options old new
+Headline None old new = ⊥
+
+-- the text of a lawful report of the trace that the source gave
+pub record IsReportText (options : Options) (old new : SourceFacts) (text : List ℕ) : Type 0 where
+  pub trace : List TraceLine
+  pub read : Gives old trace
+  pub ended : IsReadUp new
+  pub report : List Line
+  pub lawful : LawfulReport options trace report
+  pub spelled : text ≡ report_text report
 
 -- a line that names what went wrong
 abbrev pub line_of : List ℕ → List ℕ
 line_of text = text ++ 10 ∷ []
 
-abbrev pub IsTooLong : List ℕ → Type 0
-IsTooLong input = MAX_SOURCE_LEN < length input
-
--- the text is that of a lawful report of the trace that the source gave
-pub record IsReportOf (options : Options) (input : Option (List ℕ)) (text : List ℕ) : Type 0 where
-  pub trace : List TraceLine
-  pub read : IfSome input (λ bytes. ¬ (IsTooLong bytes) × IsTrace bytes trace)
-  pub report : List Line
-  pub lawful : LawfulReport options trace report
-  pub spelled : text ≡ report_text report
-
--- the text names the first fault of a source that gave no trace
-pub record IsRefusalOf (input : Option (List ℕ)) (text : List ℕ) : Type 0 where
+-- the line of the first fault of the bytes that the source gave, which are no trace
+pub record IsRefusalLine (old new : SourceFacts) (text : List ℕ) : Type 0 where
   pub fault : TraceFault
-  pub refused : IfSome input (λ bytes. ¬ (IsTooLong bytes) × Refuses bytes fault × IsNoTrace bytes)
+  pub named : fault ≢ NoRoom
+  pub refused : IfSome old.left (λ bytes. ¬ (IsTooLong bytes) × Refuses bytes fault × IsNoTrace bytes)
+  pub ended : IsReadUp new
   pub spelled : text ≡ line_of (fault_text fault)
 
--- What is due for a command, for the bytes that the source has, where it tells them, and where a read may have failed: the status, and the
--- text that is then written.
-abbrev pub IsDue : Option Command → Option (List ℕ) → Type 0 → Status → List ℕ → Type 0
-IsDue None input read_failed Usage text = text ≡ line_of (codes "usage")
-IsDue (Some (Replay options)) input read_failed Done text = IsReportOf options input text
-IsDue (Some (Replay options)) input read_failed TraceRefused text = IsRefusalOf input text
-IsDue (Some (Replay options)) input read_failed TraceLong text = IfSome input IsTooLong × (text ≡ line_of (codes "trace too long"))
-IsDue (Some (Replay options)) input read_failed ReadFault text = read_failed × (text ≡ line_of (codes "read fault"))
-IsDue _ input read_failed _ text = ⊥
+-- the text that is due with a status of a replay
+abbrev pub IsDueOfReplay : Options → SourceFacts → SourceFacts → Status → List ℕ → Type 0
+IsDueOfReplay options old new Done text = IsReportText options old new text
+IsDueOfReplay options old new TraceRefused text = IsRefusalLine old new text
+IsDueOfReplay options old new TraceLong text = IfSome old.left IsTooLong × (text ≡ line_of (codes "trace too long"))
+IsDueOfReplay options old new ReadFault text = Rose old.faults new.faults × (text ≡ line_of (codes "read fault"))
+IsDueOfReplay options old new _ text = ⊥
 
--- the sink took a proper prefix of the text
-abbrev pub AppendsPart : Option (List ℕ) → Option (List ℕ) → List ℕ → Type 0
-AppendsPart before after text = (n : ℕ) × (n < length text) × Appends before after (take n text)
+-- the text that is due with a status where the words give no command
+abbrev pub IsDueOfNoCommand : Status → List ℕ → Type 0
+IsDueOfNoCommand Usage text = text ≡ line_of (codes "usage")
+IsDueOfNoCommand _ text = ⊥
 
--- What the sink took at each status: the due text; a proper prefix of what was due, where a write failed; or nothing, for want of memory.
-abbrev pub Ends : Option Command → Option (List ℕ) → Type 0 → Type 0 → Status → Option (List ℕ) → Option (List ℕ) → Type 0
-Ends command input read_failed write_failed WriteFault before after =
-    write_failed × ((status : Status) × (text : List ℕ) × IsDue command input read_failed status text × AppendsPart before after text)
-Ends command input read_failed write_failed NoMemory before after = Keeps before after
-Ends command input read_failed write_failed status before after =
-    (text : List ℕ) × IsDue command input read_failed status text × Appends before after text
+-- the text that is due with a status
+abbrev pub IsDue : Option Command → Outside → Outside → Status → List ℕ → Type 0
+IsDue (Some (Replay options)) old new status text = IsDueOfReplay options old.source new.source status text
+IsDue None old new status text = IsDueOfNoCommand status text
+
+-- the sink took a proper prefix of the text, and nothing else
+abbrev pub AppendsPart : SinkFacts → SinkFacts → List ℕ → Type 0
+AppendsPart old new text = (n : ℕ) × (n < length text) × Appends old.taken new.taken (take n text)
+
+-- What each status means: the headline; nothing written, for want of memory; a proper prefix of what was due, where a write failed; or
+-- the line that is due.
+abbrev pub Ends : Option Command → Outside → Outside → Status → Type 0
+Ends command old new Done = Headline command old new
+Ends command old new NoMemory = Keeps old.sink.taken new.sink.taken
+Ends command old new WriteFault =
+    Rose old.sink.faults new.sink.faults
+    × ((status : Status) × (text : List ℕ) × IsDue command old new status text × AppendsPart old.sink new.sink text)
+Ends command old new status = (text : List ℕ) × IsDue command old new status text × Appends old.sink.taken new.sink.taken text
+
+-- the source tells the text of a trace, which is not too long
+abbrev pub TellsTrace : SourceFacts → Type 0
+TellsTrace source = IsSomeAnd source.left (λ bytes. ¬ (IsTooLong bytes) × ((trace : List TraceLine) × IsTrace bytes trace))
+
+-- nothing keeps the command from being carried out: what it reads is in order, and no count of faults rose
+abbrev pub IsUnhindered : Option Command → Outside → Outside → Type 0
+IsUnhindered (Some (Replay options)) old new =
+    TellsTrace old.source × ¬ (Rose old.source.faults new.source.faults) × ¬ (Rose old.sink.faults new.sink.faults)
+IsUnhindered None old new = ⊥
+
+-- the source gave at most so many bytes
+abbrev pub GivesAtMost : ℕ → SourceFacts → SourceFacts → Type 0
+GivesAtMost most old new = (bytes : List ℕ) × (length bytes ≤ most) × Consumes old.left new.left bytes
+
+-- A replay reads no more than shows that a trace is too long, and nothing else touches the source.
+abbrev pub ReadsFor : Option Command → SourceFacts → SourceFacts → Type 0
+ReadsFor (Some (Replay options)) old new = GivesAtMost (MAX_SOURCE_LEN + 1) old new
+ReadsFor None old new = new ≡ old
+
+-- What a run of a command promises of what was outside before it and is after it, and of its status.
+pub record KeepsPromises (command : Option Command) (old new : Outside) (status : Status) : Type 0 where
+  -- each status has its meaning, and Done that of the headline
+  pub ended : Ends command old new status
+  -- an unhindered command is carried out, but for want of memory
+  pub complete : IsUnhindered command old new → (status ≡ Done) ⊎ (status ≡ NoMemory)
+  pub reads : ReadsFor command old.source new.source
 
 -- the text was written as due with the status, or a part of it, where a write failed
-abbrev pub IsWritten : Status → List ℕ → Type 0 → Status → Option (List ℕ) → Option (List ℕ) → Type 0
-IsWritten status text write_failed result before after =
-    ((result ≡ status) × Appends before after text) ⊎ ((result ≡ WriteFault) × write_failed × AppendsPart before after text)
+abbrev pub IsWritten : Status → List ℕ → SinkFacts → SinkFacts → Status → Type 0
+IsWritten status text old new result =
+    ((result ≡ status) × Appends old.taken new.taken text)
+    ⊎ ((result ≡ WriteFault) × Rose old.faults new.faults × AppendsPart old new text)
 
 -- what became of a trace that was refused for the fault
-abbrev pub IsRefusedWith : TraceFault → Type 0 → Status → Option (List ℕ) → Option (List ℕ) → Type 0
-IsRefusedWith fault write_failed result before after =
-    ((result ≡ NoMemory) × Keeps before after)
-    ⊎ ((fault ≢ NoRoom) × IsWritten TraceRefused (line_of (fault_text fault)) write_failed result before after)
-
--- The headline: the source was read to its end and gave a trace, and the sink took the text of a lawful report of it, and nothing else.
-pub record PrintsLawfully (options : Options) (input rest before after : Option (List ℕ)) : Type 0 where
-  pub trace : List TraceLine
-  pub ended : IsAtEnd rest
-  pub read : IfSome input (λ bytes. IsTrace bytes trace)
-  pub report : List Line
-  pub lawful : LawfulReport options trace report
-  pub printed : Appends before after (report_text report)
-
--- the headline, where the command is a replay
-abbrev pub Headline : Option Command → Option (List ℕ) → Option (List ℕ) → Option (List ℕ) → Option (List ℕ) → Type 0
-Headline (Some (Replay options)) input rest before after = PrintsLawfully options input rest before after
-Headline None input rest before after = ⊥
-
--- the words are a replay's, and the source tells the bytes of a trace
-abbrev pub IsReplayOfTrace : Option Command → Option (List ℕ) → Type 0
-IsReplayOfTrace (Some (Replay options)) (Some bytes) = ¬ (IsTooLong bytes) × (trace : List TraceLine) × IsTrace bytes trace
-IsReplayOfTrace _ _ = ⊥
-
--- how many bytes a command reads at most
-abbrev pub most_read : Option Command → ℕ
-most_read (Some (Replay options)) = MAX_SOURCE_LEN + 1
-most_read None = 0
+abbrev pub IsRefusedWith : TraceFault → SinkFacts → SinkFacts → Status → Type 0
+IsRefusedWith fault old new result =
+    ((result ≡ NoMemory) × Keeps old.taken new.taken)
+    ⊎ ((fault ≢ NoRoom) × IsWritten TraceRefused (line_of (fault_text fault)) old new result)

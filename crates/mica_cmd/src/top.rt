@@ -1,13 +1,9 @@
-ghost use Rattle.std.specs.Prelude.{◌≡◌, ◌+◌, ◌≢◌, ◌⊎◌, ◌≤◌, ◌∷◌, ◌++◌, [], ℕ, List, Some, None, length, map, string_bytes, codes, true, false};
-ghost use Rattle.std.specs.Io.KnownBytes.{Appends, Keeps, Consumes, IsAtEnd};
-ghost use Rattle.mica_io.specs.Faults.{Rose};
-ghost use Rattle.mica_model.specs.declared.options.Options.{Options};
+ghost use Rattle.std.specs.Prelude.{◌≡◌, ◌≢◌, Some, map, string_bytes, false};
 ghost use Rattle.mica_model.specs.Options.{IsValid};
-ghost use Rattle.mica_trace.specs.declared.line.TraceLine.{TraceLine};
-ghost use Rattle.mica_trace.specs.TraceGrammar.{IsTrace, fault_text};
 ghost use Rattle.mica_cmd.specs.declared.command.Command.TheVariants.{Replay};
 ghost use Rattle.mica_cmd.specs.CommandLine.{command_of};
-ghost use Rattle.mica_cmd.specs.Top.{Ends, Headline, IsWritten, IsRefusedWith, IsReplayOfTrace, most_read};
+ghost use Rattle.mica_cmd.specs.Outside.{Outside, SourceFacts, SinkFacts};
+ghost use Rattle.mica_cmd.specs.Top.{KeepsPromises, IsWritten, IsRefusedWith};
 
 use crate::{Command, Status, WordsFault, read_words};
 use mica_io::{ReadFault, Sink, Source, read_up_to, write_all};
@@ -21,9 +17,9 @@ pub const MAX_SOURCE_LEN: usize = 16_777_216;
 
 // Writes the text that is due with a status. Where that fails, the status is `WriteFault` instead.
 fn write_due<K: Sink>(sink: &mut K, text: &[u8], status: Status) -> Status
-    requires { status ≢ Status.WriteFault }
-    ensures { IsWritten status text.now (Rose (K.faults sink.old) (K.faults sink.new)) result
-        (K.taken sink.old) (K.taken sink.new) }
+    ensures { IsWritten status text.now
+        (record { taken = K.taken sink.old; faults = K.faults sink.old })
+        (record { taken = K.taken sink.new; faults = K.faults sink.new }) result }
 {
     match write_all(sink, text) {
         Ok(()) => status,
@@ -33,8 +29,9 @@ fn write_due<K: Sink>(sink: &mut K, text: &[u8], status: Status) -> Status
 
 // Writes the line that names why a trace is refused.
 fn refuse<K: Sink>(alloc: Global, sink: &mut K, fault: TraceFault) -> Status
-    ensures { IsRefusedWith fault (Rose (K.faults sink.old) (K.faults sink.new)) result
-        (K.taken sink.old) (K.taken sink.new) }
+    ensures { IsRefusedWith fault
+        (record { taken = K.taken sink.old; faults = K.faults sink.old })
+        (record { taken = K.taken sink.new; faults = K.faults sink.new }) result }
 {
     if fault == TraceFault::NoMemory {
         return Status::NoMemory;
@@ -54,14 +51,15 @@ fn replay_source<S: Source, K: Sink>(
 ) -> Status
     requires open { S.has_ended source.old ≡ false }
     requires valid { IsValid options.now }
-
-    ensures headline { result ≡ Status.Done → Headline (Some (Replay options.now))
-        (S.left source.old) (S.left source.new) (K.taken sink.old) (K.taken sink.new) }
-    ensures ended { Ends (Some (Replay options.now)) (S.left source.old)
-        (Rose (S.faults source.old) (S.faults source.new)) (Rose (K.faults sink.old) (K.faults sink.new))
-        result (K.taken sink.old) (K.taken sink.new) }
-    ensures took { (bytes : List ℕ) × (length bytes ≤ MAX_SOURCE_LEN + 1)
-        × Consumes (S.left source.old) (S.left source.new) bytes }
+    ensures { KeepsPromises (Some (Replay options.now))
+        (record {
+          source = record { left = S.left source.old; has_ended = S.has_ended source.old; faults = S.faults source.old };
+          sink = record { taken = K.taken sink.old; faults = K.faults sink.old };
+        })
+        (record {
+          source = record { left = S.left source.new; has_ended = S.has_ended source.new; faults = S.faults source.new };
+          sink = record { taken = K.taken sink.new; faults = K.faults sink.new };
+        }) result }
 {
     let input = match read_up_to(alloc, source, MAX_SOURCE_LEN) {
         Ok(input) => input,
@@ -80,6 +78,9 @@ fn replay_source<S: Source, K: Sink>(
 }
 
 /// Carries a command out. It reads the words first, then the source, then the trace.
+///
+/// The contract is the program's: what each status means, the headline with `Done`, which commands are carried out whatever
+/// happens, and how much is read.
 pub fn mica<S: Source, K: Sink>(
     alloc: Global,
     words: &[String],
@@ -87,24 +88,15 @@ pub fn mica<S: Source, K: Sink>(
     sink: &mut K,
 ) -> Status
     requires { S.has_ended source.old ≡ false }
-
-    // With `Done` the report that was printed is lawful for the trace that was read.
-    ensures headline { result ≡ Status.Done → Headline (command_of (map string_bytes words.now))
-        (S.left source.old) (S.left source.new) (K.taken sink.old) (K.taken sink.new) }
-
-    // Each status has its cause in the words, the bytes or a fault, and the sink took what is due with it.
-    ensures ended { Ends (command_of (map string_bytes words.now)) (S.left source.old)
-        (Rose (S.faults source.old) (S.faults source.new)) (Rose (K.faults sink.old) (K.faults sink.new))
-        result (K.taken sink.old) (K.taken sink.new) }
-
-    // A trace within its limits is replayed.
-    ensures complete { IsReplayOfTrace (command_of (map string_bytes words.now)) (S.left source.old)
-        → ¬ (Rose (S.faults source.old) (S.faults source.new)) → ¬ (Rose (K.faults sink.old) (K.faults sink.new))
-        → (result ≡ Status.Done) ⊎ (result ≡ Status.NoMemory) }
-
-    // No more is read than shows that a trace is too long, and nothing for refused words.
-    ensures took { (bytes : List ℕ) × (length bytes ≤ most_read (command_of (map string_bytes words.now)))
-        × Consumes (S.left source.old) (S.left source.new) bytes }
+    ensures { KeepsPromises (command_of (map string_bytes words.now))
+        (record {
+          source = record { left = S.left source.old; has_ended = S.has_ended source.old; faults = S.faults source.old };
+          sink = record { taken = K.taken sink.old; faults = K.faults sink.old };
+        })
+        (record {
+          source = record { left = S.left source.new; has_ended = S.has_ended source.new; faults = S.faults source.new };
+          sink = record { taken = K.taken sink.new; faults = K.faults sink.new };
+        }) result }
 {
     match read_words(alloc, words) {
         Ok(Command::Replay(options)) => replay_source(alloc, &options, source, sink),
