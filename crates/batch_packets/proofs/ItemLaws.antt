@@ -4,6 +4,7 @@ use Rattle.std.specs.Prelude.{nat_eq, nat_lt}
 use Rattle.std.specs.List.{flat_map, AllByRecursion, starts_with}
 use Rattle.std.proofs.lemmas.Bool.{le-ltb, ne_eqb}
 use Rattle.std.proofs.lemmas.List.{drop_at}
+use Rattle.batch_packets.specs.declared.header.TheConstants.{HEADER_LEN, LIMIT}
 use Rattle.batch_packets.specs.declared.fault.BatchFault.{BatchFault}
 use Rattle.batch_packets.specs.declared.fault.BatchFault.TheVariants.{Short, Magic, Version, Count, Length, Op, Trailing, NoMemory}
 use Rattle.batch_packets.specs.Faults.{IsFirst}
@@ -37,12 +38,12 @@ one_list kind text value_at (x ∷ xs) (y ∷ ys) p q len same =
     ap (λ z. z ∷ xs) head ∙ ap (λ zs. y ∷ zs) tail
 
 -- a datagram without a fault in its header or its items has none
-pub no_first_fault : (kind : Kind) (bytes : List ℕ) (count : ℕ) → length bytes ≤ 1472 → 10 ≤ length bytes → starts_with nat_eq bytes kind.magic ≡ true → version_at bytes ≡ 1 → count_at bytes ≡ count → 0 < count
-    → items_fault kind 1 count (drop 10 bytes) ≡ None → first_fault kind bytes ≡ None
+pub no_first_fault : (kind : Kind) (bytes : List ℕ) (count : ℕ) → length bytes ≤ LIMIT → HEADER_LEN ≤ length bytes → starts_with nat_eq bytes kind.magic ≡ true → version_at bytes ≡ 1 → count_at bytes ≡ count → 0 < count
+    → items_fault kind 1 count (drop HEADER_LEN bytes) ≡ None → first_fault kind bytes ≡ None
 unfolding first_fault
 no_first_fault kind bytes count short long magic version is some none =
-    let a : nat_lt 1472 (length bytes) ≡ false = le-ltb _ _ short in
-    let b : nat_lt (length bytes) 10 ≡ false = le-ltb _ _ long in
+    let a : nat_lt LIMIT (length bytes) ≡ false = le-ltb _ _ short in
+    let b : nat_lt (length bytes) HEADER_LEN ≡ false = le-ltb _ _ long in
     let c : nat_eq count 0 ≡ false = ne_eqb count 0 (λ e. omega arith) in
     rw (a, b, magic, version, is, c, none) refl
 

@@ -7,10 +7,11 @@ use Rattle.std.proofs.lemmas.Bool.{le-ltb, le-leb, cond_both}
 use Rattle.std.proofs.lemmas.List.{take_at}
 use Rattle.std.proofs.lemmas.List.Elements.{recursion_from_All}
 use Rattle.std.proofs.lemmas.Nat.{from_le_bytes-to_le_bytes_4, from_le_bytes-to_le_bytes_8}
+use Rattle.batch_packets.specs.declared.header.TheConstants.{HEADER_LEN, VALUE_LIMIT}
 use Rattle.batch_packets.specs.declared.replies.Reply.{Reply}
 use Rattle.batch_packets.specs.declared.replies.Replies.{Replies}
 use Rattle.batch_packets.specs.Datagram.{item_fault, first_fault, count_at}
-use Rattle.batch_packets.specs.ReplyGrammar.{IsReply, IsInRange, reply_text, replies_kind, is_status, longest_value, status_at, value_len_at, replies_text, SpellsReplies}
+use Rattle.batch_packets.specs.ReplyGrammar.{IsReply, replies_datagram, IsInRange, reply_text, replies_kind, is_status, longest_value, status_at, value_len_at, replies_text, SpellsReplies}
 use Rattle.batch_packets.proofs.ItemLaws.{Tells, no_faults, one_list, no_first_fault}
 
 pub reply_at : List ℕ → Reply
@@ -21,8 +22,8 @@ reply_at bytes = record {
   value = take (value_len_at bytes) (drop 16 bytes);
 }
 
-longest : (status : ℕ) → longest_value 1 status ≤ 1024
-longest status = cond_both (eqb status 0) 1024 0 (λ n. n ≤ 1024) (λ e. omega arith) (λ e. omega arith)
+longest : (status : ℕ) → longest_value 1 status ≤ VALUE_LIMIT
+longest status = cond_both (eqb status 0) VALUE_LIMIT 0 (λ n. n ≤ VALUE_LIMIT) (λ e. omega arith) (λ e. omega arith)
 
 status_is : (x : Reply) (rest : List ℕ) → status_at (reply_text x ++ rest) ≡ x.status
 unfolding reply_text
@@ -51,10 +52,6 @@ value_after x rest = refl
 pub length-reply_text : (x : Reply) → length (reply_text x) ≡ 16 + length x.value
 unfolding reply_text
 length-reply_text x = omega arith
-
--- the first reply always fits a datagram
-pub short_reply : (x : Reply) → IsReply 1 x → length (reply_text x) ≤ 1040
-short_reply x lawful = omega (arith, length-reply_text x, lawful.value, longest x.status)
 
 size : (x : Reply) (rest : List ℕ) → IsReply 1 x → replies_kind.size (reply_text x ++ rest) ≡ length (reply_text x)
 size x rest lawful = rw (length-reply_text x, value_len_is x rest lawful) refl
@@ -90,14 +87,14 @@ number_at bytes = from_le_bytes w32 (drop 6 bytes)
 record Shown (bytes : List ℕ) (replies : Replies) : Type 0 where
   number : number_at bytes ≡ replies.number
   count : count_at bytes ≡ length replies.replies
-  texts : drop 10 bytes ≡ flat_map reply_text replies.replies
+  texts : drop HEADER_LEN bytes ≡ flat_map reply_text replies.replies
 
 shown : (replies : Replies) → replies.number < 2 ^ 32 → Shown (replies_text replies) replies
-unfolding number_at replies_text
+unfolding number_at replies_datagram
 shown replies lt = record { number = from_le_bytes-to_le_bytes_4 replies.number lt; count = refl; texts = refl }
 
 pub replies_have_no_fault : (bytes : List ℕ) (replies : Replies) → SpellsReplies bytes replies → first_fault replies_kind bytes ≡ None
-unfolding replies_text
+unfolding replies_datagram
 replies_have_no_fault bytes replies h =
     let fits = h.lawful.fits in
     let texts = flat_map reply_text replies.replies in
@@ -111,7 +108,7 @@ one_replies bytes a b p q =
     let n = shown b q.number in
     let number : a.number ≡ b.number = sym m.number ∙ ap number_at same ∙ n.number in
     let count : length a.replies ≡ length b.replies = sym m.count ∙ ap count_at same ∙ n.count in
-    let texts : flat_map reply_text a.replies ≡ flat_map reply_text b.replies = sym m.texts ∙ ap (drop 10) same ∙ n.texts in
+    let texts : flat_map reply_text a.replies ≡ flat_map reply_text b.replies = sym m.texts ∙ ap (drop HEADER_LEN) same ∙ n.texts in
     let replies : a.replies ≡ b.replies = one_list replies_kind reply_text reply_at a.replies b.replies (replies_tell a.replies p.lawful.each p.in_range) (replies_tell b.replies q.lawful.each q.in_range) count texts in
     let made : ℕ → List Reply → Replies = λ n rs. record { number = n; replies = rs } in
     ap (λ n. made n a.replies) number ∙ ap (made b.number) replies

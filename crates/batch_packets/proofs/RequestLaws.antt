@@ -7,6 +7,7 @@ use Rattle.std.specs.Int.{w32, from_le_bytes}
 use Rattle.std.proofs.lemmas.Bool.{le-ltb, le-leb, lt-ltb}
 use Rattle.std.proofs.lemmas.List.{take_at, drop_at}
 use Rattle.std.proofs.lemmas.Nat.{from_le_bytes-to_le_bytes_4}
+use Rattle.batch_packets.specs.declared.header.TheConstants.{HEADER_LEN, VALUE_LIMIT}
 use Rattle.batch_packets.specs.declared.batch.Request.{Request}
 use Rattle.batch_packets.specs.declared.batch.Want.{Want}
 use Rattle.batch_packets.specs.declared.batch.Want.TheVariants.{Get, Put, Del}
@@ -32,7 +33,7 @@ request_at bytes = record {
   value = take (value_len_at bytes) (drop (key_len_at bytes) (drop 8 bytes));
 }
 
-longest : (want : Want) → longest_value 1 (operation_of want) ≤ 1024
+longest : (want : Want) → longest_value 1 (operation_of want) ≤ VALUE_LIMIT
 longest Get = omega arith
 longest Put = omega arith
 longest Del = omega arith
@@ -103,7 +104,7 @@ number_at bytes = from_le_bytes w32 (drop 6 bytes)
 record Shown (bytes : List ℕ) (batch : Batch) : Type 0 where
   number : number_at bytes ≡ batch.number
   count : count_at bytes ≡ length batch.requests
-  texts : drop 10 bytes ≡ flat_map request_text batch.requests
+  texts : drop HEADER_LEN bytes ≡ flat_map request_text batch.requests
 
 shown : (batch : Batch) → batch.number < 2 ^ 32 → Shown (batch_text batch) batch
 unfolding number_at batch_text
@@ -124,7 +125,7 @@ one_batch bytes a b p q =
     let n = shown b q.number in
     let number : a.number ≡ b.number = sym m.number ∙ ap number_at same ∙ n.number in
     let count : length a.requests ≡ length b.requests = sym m.count ∙ ap count_at same ∙ n.count in
-    let texts : flat_map request_text a.requests ≡ flat_map request_text b.requests = sym m.texts ∙ ap (drop 10) same ∙ n.texts in
+    let texts : flat_map request_text a.requests ≡ flat_map request_text b.requests = sym m.texts ∙ ap (drop HEADER_LEN) same ∙ n.texts in
     let requests : a.requests ≡ b.requests = one_list batch_kind request_text request_at a.requests b.requests (requests_tell a.requests p.lawful.each p.in_range) (requests_tell b.requests q.lawful.each q.in_range) count texts in
     let made : ℕ → List Request → Batch = λ n rs. record { number = n; requests = rs } in
     ap (λ n. made n a.requests) number ∙ ap (made b.number) requests

@@ -1,13 +1,13 @@
 -- Splitting replies, one datagram after another.
 use Rattle.std.proofs.Common.{◌≡◌, ℕ, zero, suc, ◌⊎◌, inl, inr, ◌+◌, ◌<◌, ◌≤◌, List, [], ◌∷◌, ◌++◌, length, get_or, take, drop, refl, sym, ap, subst, ◌∙◌, arith, length-append}
-use Rattle.std.specs.List.{flat_map, All}
+use Rattle.std.specs.List.{flat_map}
 use Rattle.std.proofs.lemmas.List.{take-append-drop, take_more, get_or-drop, length-take-le, length-drop}
 use Rattle.std.proofs.lemmas.List.Concat.{flat_map-append}
+use Rattle.batch_packets.specs.declared.header.TheConstants.{HEADER_LEN, MOST, LIMIT}
 use Rattle.batch_packets.specs.declared.replies.Reply.{Reply}
 use Rattle.batch_packets.specs.Datagram.{FitsDatagram}
-use Rattle.batch_packets.specs.ReplyGrammar.{IsReply, reply_text, replies_text}
+use Rattle.batch_packets.specs.ReplyGrammar.{reply_text, replies_datagram}
 use Rattle.batch_packets.specs.Splitting.{HasNoRoom, BeginsWith, SplitsInto}
-use Rattle.batch_packets.proofs.ReplyLaws.{short_reply}
 
 no_room : (group later : List Reply) → ((d : Reply) → 0 < length later → ¬ FitsDatagram reply_text 1 (group ++ get_or later 0 d ∷ [])) → HasNoRoom 1 group later
 no_room group [] h = tt
@@ -26,28 +26,26 @@ begin_with replies n fits most =
 -- what is known of the first replies while they are counted
 pub record Counted (replies : List Reply) (n len : ℕ) : Type 0 where
   pub within : n ≤ length replies
-  pub len_is : len ≡ 10 + length (flat_map reply_text (take n replies))
-  pub few : n ≤ 255
-  pub short : len ≤ 1472
+  pub len_is : len ≡ HEADER_LEN + length (flat_map reply_text (take n replies))
+  pub few : n ≤ MOST
+  pub short : len ≤ LIMIT
 
 one_more : (replies : List Reply) (n : ℕ) (d : Reply) → n < length replies → length (flat_map reply_text (take (n + 1) replies)) ≡ length (flat_map reply_text (take n replies)) + length (reply_text (get_or replies n d))
 one_more replies n d lt =
     let x = get_or replies n d in
     omega (arith, ap (λ (xs : List Reply). length (flat_map reply_text xs)) (take_more replies n d lt), ap length (flat_map-append reply_text (take n replies) (x ∷ [])), length-append (flat_map reply_text (take n replies)) (reply_text x ++ []), length-append (reply_text x) [])
 
--- The next reply, and the bytes of its text.
+-- the next reply, and the bytes of its text, which alone fit a datagram
 pub record IsNext (replies : List Reply) (n more : ℕ) (next : Reply) : Type 0 where
   pub lt : n < length replies
   pub is : next ≡ get_or replies n next
   pub more_is : more ≡ length (reply_text next)
+  pub fits : HEADER_LEN + more ≤ LIMIT
 
 more_here : (replies : List Reply) (n more : ℕ) (next : Reply) → IsNext replies n more next → more ≡ length (reply_text (get_or replies n next))
 more_here replies n more next h = h.more_is ∙ ap (λ (x : Reply). length (reply_text x)) h.is
 
-pub short_next : (replies : List Reply) (n more : ℕ) (next : Reply) → IsNext replies n more next → All (IsReply 1) replies → more ≤ 1040
-short_next replies n more next h lawful = omega (arith, more_here replies n more next h, short_reply (get_or replies n next) (lawful n next h.lt))
-
-pub goes_on : (replies : List Reply) (n len more : ℕ) (next : Reply) → IsNext replies n more next → Counted replies n len → ¬ (n ≡ 255) → len + more ≤ 1472 → Counted replies (n + 1) (len + more)
+pub goes_on : (replies : List Reply) (n len more : ℕ) (next : Reply) → IsNext replies n more next → Counted replies n len → ¬ (n ≡ MOST) → len + more ≤ LIMIT → Counted replies (n + 1) (len + more)
 goes_on replies n len more next h so_far few short = record {
   within = omega (arith, h.lt);
   len_is = omega (arith, one_more replies n next h.lt, more_here replies n more next h, so_far.len_is);
@@ -60,22 +58,22 @@ all_fit replies n len some so_far =
     let all : length (take n replies) ≡ n = length-take-le n replies so_far.within in
     record { some = omega arith; few = omega (arith, so_far.few); short = omega (arith, so_far.len_is, so_far.short) }
 
-begun : (replies : List Reply) (n len more : ℕ) → Counted replies n len → more ≤ 1040 → 1472 < len + more → 0 < n
+begun : (replies : List Reply) (n len more : ℕ) → Counted replies n len → HEADER_LEN + more ≤ LIMIT → LIMIT < len + more → 0 < n
 begun replies zero len more so_far short long = absurd (omega (arith, so_far.len_is))
 begun replies (suc n) len more so_far short long = omega arith
 
-too_many : (replies : List Reply) (n : ℕ) → n < length replies → 255 < n + 1 → ¬ FitsDatagram reply_text 1 (take (n + 1) replies)
+too_many : (replies : List Reply) (n : ℕ) → n < length replies → MOST < n + 1 → ¬ FitsDatagram reply_text 1 (take (n + 1) replies)
 too_many replies n lt many fill = absurd (omega (arith, fill.few, length-take-le (n + 1) replies (omega arith)))
 
-too_long : (replies : List Reply) (n len more : ℕ) (next : Reply) → IsNext replies n more next → Counted replies n len → 1472 < len + more → ¬ FitsDatagram reply_text 1 (take (n + 1) replies)
+too_long : (replies : List Reply) (n len more : ℕ) (next : Reply) → IsNext replies n more next → Counted replies n len → LIMIT < len + more → ¬ FitsDatagram reply_text 1 (take (n + 1) replies)
 too_long replies n len more next h so_far long fill = absurd (omega (arith, fill.short, one_more replies n next h.lt, more_here replies n more next h, so_far.len_is))
 
 -- the count stops where one reply more is too many, or makes too many bytes
-pub stops : (replies : List Reply) (n len more : ℕ) (next : Reply) → IsNext replies n more next → All (IsReply 1) replies → Counted replies n len → (n ≡ 255) ⊎ (1472 < len + more) → BeginsWith 1 replies (take n replies) (drop n replies)
-stops replies n len more next h lawful so_far (inl e) =
+pub stops : (replies : List Reply) (n len more : ℕ) (next : Reply) → IsNext replies n more next → Counted replies n len → (n ≡ MOST) ⊎ (LIMIT < len + more) → BeginsWith 1 replies (take n replies) (drop n replies)
+stops replies n len more next h so_far (inl e) =
     begin_with replies n (all_fit replies n len (omega arith) so_far) (λ _. too_many replies n h.lt (omega arith))
-stops replies n len more next h lawful so_far (inr long) =
-    begin_with replies n (all_fit replies n len (begun replies n len more so_far (short_next replies n more next h lawful) long) so_far) (λ _. too_long replies n len more next h so_far long)
+stops replies n len more next h so_far (inr long) =
+    begin_with replies n (all_fit replies n len (begun replies n len more so_far h.fits long) so_far) (λ _. too_long replies n len more next h so_far long)
 
 -- the count ends where all fit
 pub ends : (replies : List Reply) (n len : ℕ) → length replies ≤ n → 0 < length replies → Counted replies n len → BeginsWith 1 replies (take (length replies) replies) (drop (length replies) replies)
@@ -84,10 +82,10 @@ ends replies n len past some so_far =
     subst (λ (k : ℕ). BeginsWith 1 replies (take k replies) (drop k replies)) all (begin_with replies n (all_fit replies n len (omega arith) so_far) (λ lt. absurd (omega arith)))
 
 -- no replies are counted at first
-pub starts : (replies : List Reply) → Counted replies 0 10
+pub starts : (replies : List Reply) → Counted replies 0 HEADER_LEN
 starts replies = record { within = omega arith; len_is = refl; few = omega arith; short = omega arith }
 
 -- one datagram more, in front of those that carry what it leaves
 pub more_carried : (number n : ℕ) (rest group later : List Reply) (datagram : List ℕ) (more : List (List ℕ)) → BeginsWith 1 rest (take n rest) (drop n rest) → group ≡ take n rest → later ≡ drop n rest
-    → datagram ≡ replies_text (record { number = number; replies = group }) → SplitsInto 1 number later more → SplitsInto 1 number rest (datagram ∷ more)
+    → datagram ≡ replies_datagram 1 number group → SplitsInto 1 number later more → SplitsInto 1 number rest (datagram ∷ more)
 more_carried number n rest group later datagram more begin front back text carried = (group, later, rw (front, back) begin, text, carried)

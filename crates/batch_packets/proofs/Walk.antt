@@ -1,9 +1,8 @@
 -- The first fault, as a walk over the items meets it.
-use Rattle.std.proofs.Common.{◌≡◌, ℕ, suc, ◌+◌, ◌-◌, ◌<◌, ◌≤◌, true, nat_lt, List, [], ◌∷◌, ◌++◌, length, get_or, take, drop, Option, Some, None, refl, sym, ap, ◌∙◌, append_assoc, arith}
+use Rattle.std.proofs.Common.{◌≡◌, ℕ, suc, ◌+◌, ◌-◌, ◌<◌, ◌≤◌, true, nat_lt, List, [], ◌∷◌, ◌++◌, length, drop, Option, Some, None, refl, sym, ap, ◌∙◌, append_assoc, arith}
 use Rattle.std.proofs.lemmas.Bool.{lt-ltb}
 use Rattle.std.proofs.lemmas.List.{drop-drop, append-nil}
 use Rattle.std.proofs.lemmas.List.Concat.{flat_map-append}
-use Rattle.std.proofs.lemmas.List.Folds.{length-flat_map-take}
 use Rattle.std.specs.List.{flat_map}
 use Rattle.batch_packets.specs.declared.fault.BatchFault.{BatchFault}
 use Rattle.batch_packets.specs.declared.fault.BatchFault.TheVariants.{Short, Magic, Version, Count, Length, Op, Trailing, NoMemory}
@@ -70,9 +69,3 @@ pub after_one : (fixed : ℕ) (from : List ℕ) (value size : ℕ) (rest : List 
 after_one fixed from value size rest is one =
     let total : fixed + value ≡ size = omega arith in
     sym (one ∙ drop-drop value fixed from ∙ ap (λ (n : ℕ). drop n from) total)
-
--- the bytes of the items so far and of the next one are within those of all
-pub sizes_fit : {Item : Type 0} (text : Item → List ℕ) (items : List Item) (item : Item) (i len more : ℕ) → i < length items → item ≡ get_or items i item → len ≡ 10 + length (flat_map text (take i items)) → more ≡ length (text item) → 10 + length (flat_map text items) ≤ 1472 → len + more ≤ 1472
-sizes_fit text items item i len more lt is so_far one short =
-    let here : more ≡ length (text (get_or items i item)) = one ∙ ap (λ x. length (text x)) is in
-    omega (arith, length-flat_map-take text items i item lt)

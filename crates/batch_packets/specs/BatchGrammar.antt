@@ -6,7 +6,7 @@ use Rattle.batch_packets.specs.declared.batch.Want.{Want}
 use Rattle.batch_packets.specs.declared.batch.Want.TheVariants.{Get, Put, Del}
 use Rattle.batch_packets.specs.declared.batch.Request.{Request}
 use Rattle.batch_packets.specs.declared.batch.Batch.{Batch}
-use Rattle.batch_packets.specs.Datagram.{value_limit, datagram_text, FitsDatagram, Kind}
+use Rattle.batch_packets.specs.Datagram.{is_version, value_limit, datagram_text, FitsDatagram, Kind}
 
 -- the byte of an operation
 abbrev pub operation_of : Want → ℕ
@@ -51,8 +51,9 @@ unfoldable pub batch_text : Batch → List ℕ
 batch_text batch =
     datagram_text batch_magic request_text (version_of batch) batch.number batch.requests
 
--- a batch that has a text: it fits a datagram, and each request is one of its version
+-- a batch that has a text: there is such a version, it fits a datagram, and each request is one of its version
 pub record IsBatch (batch : Batch) : Type 0 where
+  pub version : IsTrue (is_version (version_of batch))
   pub fits : FitsDatagram request_text (version_of batch) batch.requests
   pub each : All (IsRequest (version_of batch)) batch.requests
 

@@ -3,6 +3,7 @@
 use Rattle.std.specs.Prelude.{◌<◌, ◌≤◌, ◌==◌, ◌+◌, ℕ, zero, suc, Bool, not, List, [], ◌∷◌, ◌++◌, length, drop, slice_index, nat_eq, nat_lt, Option}
 use Rattle.std.specs.Int.{w32, to_le_bytes}
 use Rattle.std.specs.List.{flat_map, starts_with}
+use Rattle.batch_packets.specs.declared.header.TheConstants.{HEADER_LEN, MOST, LIMIT, VALUE_LIMIT}
 use Rattle.batch_packets.specs.declared.fault.BatchFault.{BatchFault}
 use Rattle.batch_packets.specs.declared.fault.BatchFault.TheVariants.{Short, Magic, Version, Count, Length, Op, Trailing}
 use Rattle.batch_packets.specs.Faults.{first_of, or_later}
@@ -13,7 +14,7 @@ is_version version = version == 1
 
 -- how many bytes a datagram of a version may have
 abbrev pub limit_of : ℕ → ℕ
-limit_of version = 1472
+limit_of version = LIMIT
 
 -- how many bytes a datagram of any version may have
 abbrev pub largest_limit : ℕ
@@ -21,9 +22,9 @@ largest_limit = limit_of 1
 
 -- how many bytes a value of a version may have
 abbrev pub value_limit : ℕ → ℕ
-value_limit version = 1024
+value_limit version = VALUE_LIMIT
 
--- the ten bytes of a header: a magic, the version, how many items follow, and the batch's number
+-- the bytes of a header: a magic, the version, how many items follow, and the batch's number
 abbrev pub header_text : List ℕ → ℕ → ℕ → ℕ → List ℕ
 header_text magic version count number = magic ++ version ∷ count ∷ to_le_bytes w32 number
 
@@ -36,8 +37,8 @@ datagram_text magic text version number items =
 pub record FitsDatagram {Item : Type 0} (text : Item → List ℕ) (version : ℕ) (items : List Item)
     : Type 0 where
   pub some : 0 < length items
-  pub few : length items ≤ 255
-  pub short : 10 + length (flat_map text items) ≤ limit_of version
+  pub few : length items ≤ MOST
+  pub short : HEADER_LEN + length (flat_map text items) ≤ limit_of version
 
 -- What the two kinds of datagram differ in: the magic, and what the bytes of an item say of it. The
 -- bytes of an item are those from its first one on.
@@ -64,7 +65,7 @@ count_at bytes = slice_index bytes 5
 abbrev pub header_fault : List ℕ → List ℕ → Option BatchFault
 header_fault magic bytes = first_of
     ((nat_lt largest_limit (length bytes), Length)
-    ∷ (nat_lt (length bytes) 10, Short)
+    ∷ (nat_lt (length bytes) HEADER_LEN, Short)
     ∷ (not (starts_with nat_eq bytes magic), Magic)
     ∷ (not (is_version (version_at bytes)), Version)
     ∷ (count_at bytes == 0, Count)
@@ -90,4 +91,4 @@ items_fault kind version (suc count) bytes =
 unfoldable pub first_fault : Kind → List ℕ → Option BatchFault
 first_fault kind bytes =
     or_later (header_fault kind.magic bytes)
-    (items_fault kind (version_at bytes) (count_at bytes) (drop 10 bytes))
+    (items_fault kind (version_at bytes) (count_at bytes) (drop HEADER_LEN bytes))

@@ -3,7 +3,7 @@ use Rattle.std.specs.Prelude.{◌≡◌, ◌+◌, ◌^◌, ◌<◌, ◌≤◌, �
 use Rattle.std.specs.Int.{w16, w32, w64, to_le_bytes, from_le_bytes}
 use Rattle.batch_packets.specs.declared.replies.Reply.{Reply}
 use Rattle.batch_packets.specs.declared.replies.Replies.{Replies}
-use Rattle.batch_packets.specs.Datagram.{value_limit, datagram_text, FitsDatagram, Kind}
+use Rattle.batch_packets.specs.Datagram.{is_version, value_limit, datagram_text, FitsDatagram, Kind}
 
 -- Whether a version has this status: 0 hit, 1 miss, 2 stored, 3 deleted, 4 absent, 5 full spare,
 -- 6 full block, 7 worn, 9 bad batch.
@@ -34,17 +34,22 @@ reply_text reply =
 abbrev pub replies_magic : List ℕ
 replies_magic = codes "MICR"
 
+-- the text of one datagram of these replies, in a version
+unfoldable pub replies_datagram : ℕ → ℕ → List Reply → List ℕ
+replies_datagram version number replies =
+    datagram_text replies_magic reply_text version number replies
+
 -- the version of replies; there is one as yet
 abbrev pub version_of : Replies → ℕ
 version_of replies = 1
 
 -- the text of replies
-unfoldable pub replies_text : Replies → List ℕ
-replies_text replies =
-    datagram_text replies_magic reply_text (version_of replies) replies.number replies.replies
+abbrev pub replies_text : Replies → List ℕ
+replies_text replies = replies_datagram (version_of replies) replies.number replies.replies
 
--- replies that have a text: they fit a datagram, and each is one of its version
+-- replies that have a text: there is such a version, they fit a datagram, and each is one of its version
 pub record IsReplies (replies : Replies) : Type 0 where
+  pub version : IsTrue (is_version (version_of replies))
   pub fits : FitsDatagram reply_text (version_of replies) replies.replies
   pub each : All (IsReply (version_of replies)) replies.replies
 

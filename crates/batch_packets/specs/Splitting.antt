@@ -2,7 +2,7 @@
 use Rattle.std.specs.Prelude.{◌≡◌, ℕ, List, [], ◌∷◌, ◌++◌}
 use Rattle.batch_packets.specs.declared.replies.Reply.{Reply}
 use Rattle.batch_packets.specs.Datagram.{FitsDatagram}
-use Rattle.batch_packets.specs.ReplyGrammar.{reply_text, replies_text}
+use Rattle.batch_packets.specs.ReplyGrammar.{reply_text, replies_datagram}
 
 -- a datagram of these replies has no room for the one that follows, if one does
 abbrev pub HasNoRoom : ℕ → List Reply → List Reply → Type 0
@@ -15,11 +15,11 @@ pub record BeginsWith (version : ℕ) (replies group later : List Reply) : Type 
   pub fits : FitsDatagram reply_text version group
   pub full : HasNoRoom version group later
 
--- The replies split into datagrams of one number, in order: each datagram is the text of as many of
--- the replies that are left as fit. No replies give no datagram.
+-- The replies split into datagrams of one version and number, in order: each datagram is the text of as
+-- many of the replies that are left as fit. No replies give no datagram.
 abbrev pub SplitsInto : ℕ → ℕ → List Reply → List (List ℕ) → Type 0
 SplitsInto version number replies [] = replies ≡ []
 SplitsInto version number replies (datagram ∷ datagrams) =
     (group : List Reply) × (later : List Reply) × BeginsWith version replies group later
-    × (datagram ≡ replies_text (record { number = number; replies = group }))
+    × (datagram ≡ replies_datagram version number group)
     × SplitsInto version number later datagrams

@@ -1,11 +1,12 @@
-ghost use Rattle.std.specs.Prelude.{◌≡◌, false, IfOk, IfSome, IfNone, IsOkUnless};
+ghost use Rattle.std.specs.Prelude.{◌≡◌, ◌≤◌, ◌↔◌, false, length, All, IsTrue, IfOk, IfSome, IfNone, IsOkUnless};
 ghost use Rattle.batch_packets.specs.Faults.{AgreesWith};
 ghost use Rattle.batch_packets.specs.Datagram.{first_fault};
 
-use crate::header::VALUE_LIMIT;
+use crate::header::{LIMIT, MOST, VALUE_LIMIT};
 use crate::item::{Item, len_of, read_datagram, write_datagram};
 use crate::{BatchFault, Datagram};
 use mica_io::{Bytes, NoMemory};
+use mica_words::key_fits;
 use std::alloc::Global;
 use std::marker::Model;
 
@@ -106,7 +107,7 @@ impl Want {
 }
 
 ghost use Rattle.batch_packets.specs.declared.batch.Batch.{Batch};
-ghost use Rattle.batch_packets.specs.BatchGrammar.{IsBatch, SpellsBatch, batch_text, batch_kind};
+ghost use Rattle.batch_packets.specs.BatchGrammar.{IsRequest, IsBatch, SpellsBatch, request_text, batch_text, batch_kind};
 
 impl Item for Request {
     ghost use Rattle.batch_packets.specs.BatchGrammar.{IsRequest, IsInRange, request_text, batch_kind};
@@ -182,6 +183,44 @@ pub fn read_batch(alloc: Global, from: &[u8]) -> Result<Batch, BatchFault>
         number,
         requests: RequestList::from(requests),
     })
+}
+
+/// Whether this is a request of version 1.
+pub fn is_request(request: &Request) -> bool
+    ensures { IsTrue result ↔ IsRequest 1 request.now }
+{
+    let value = request.value.bytes();
+    key_fits(request.key.bytes()) && value.len() <= request.want.longest_value()
+}
+
+/// How many bytes a request adds to the text of its batch.
+pub fn request_len(request: &Request) -> usize
+    requires { IsRequest 1 request.now }
+    ensures { result ≡ length (request_text request.now) }
+{
+    request.size()
+}
+
+/// How many bytes the text of a batch has.
+#[tactic(auto, unfolding(crate::specs::BatchGrammar::batch_text))]
+pub fn batch_len(batch: &Batch) -> usize
+    requires lawful { All (IsRequest 1) batch.now.requests }
+    requires few { length batch.now.requests ≤ MOST }
+    ensures { result ≡ length (batch_text batch.now) }
+{
+    len_of(batch.requests.as_slice())
+}
+
+/// Whether the batch has a text, so that it may be written.
+#[tactic(auto, unfolding(crate::specs::BatchGrammar::batch_text))]
+pub fn is_batch(batch: &Batch) -> bool
+    ensures { IsTrue result ↔ IsBatch batch.now }
+{
+    let requests = batch.requests.as_slice();
+    !requests.is_empty()
+        && requests.len() <= MOST
+        && requests.iter().all(is_request)
+        && batch_len(batch) <= LIMIT
 }
 
 /// The text of a batch.

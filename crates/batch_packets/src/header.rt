@@ -4,6 +4,7 @@ ghost use Rattle.batch_packets.specs.Datagram.{header_text, header_fault, larges
 
 use crate::BatchFault;
 use mica_io::NoMemory;
+use mica_words::MAX_VALUE_LEN;
 
 /// The version that is read and written.
 const VERSION: u8 = 1;
@@ -11,14 +12,14 @@ const VERSION: u8 = 1;
 /// The bytes of a header.
 pub const HEADER_LEN: usize = 10;
 
-/// The most bytes of a datagram.
-pub const LIMIT: usize = 1472;
-
-/// The most bytes of a value.
-pub const VALUE_LIMIT: usize = 1024;
-
 /// The most items of a datagram.
 pub const MOST: usize = 255;
+
+/// The most bytes of a datagram of version 1.
+pub const LIMIT: usize = 1472;
+
+/// The most bytes of a value of version 1.
+pub const VALUE_LIMIT: usize = MAX_VALUE_LEN;
 
 /// The number of eight bytes at the front, and the bytes after it.
 pub fn read_u64(from: &[u8]) -> Option<(u64, &[u8])>

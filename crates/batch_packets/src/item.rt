@@ -1,9 +1,9 @@
-ghost use Rattle.std.specs.Prelude.{◌≡◌, ◌+◌, ◌++◌, ℕ, List, length, drop, All, IfOk, OnOk};
+ghost use Rattle.std.specs.Prelude.{◌≡◌, ◌≤◌, ◌+◌, ◌++◌, ℕ, List, length, drop, All, IfOk, OnOk};
 ghost use Rattle.std.specs.List.{flat_map};
 ghost use Rattle.batch_packets.specs.Faults.{AgreesWith};
 ghost use Rattle.batch_packets.specs.Datagram.{Kind, FitsDatagram, datagram_text, item_fault, items_fault, first_fault};
 
-use crate::header::{HEADER_LEN, put_header, read_header};
+use crate::header::{HEADER_LEN, LIMIT, MOST, put_header, read_header};
 use crate::{BatchFault, Datagram};
 use mica_io::{Bytes, NoMemory};
 use std::alloc::Global;
@@ -31,10 +31,11 @@ pub trait Item: Drop {
         ensures rest { IfOk result (λ x. drop (kind.size from.now) from.now ≡ x.1.now) }
         ensures fault { AgreesWith (item_fault kind 1 from.now) result };
 
-    /// How many bytes its text has.
+    /// How many bytes its text has. One item always fits a datagram.
     fn size(&self) -> usize
         requires { is_item self.now }
-        ensures { result ≡ length (text self.now) };
+        ensures size { result ≡ length (text self.now) }
+        ensures fits { HEADER_LEN + result ≤ LIMIT };
 
     /// Appends its text.
     fn put(&self, out: &mut Vec<u8>) -> Result<(), NoMemory>
@@ -80,8 +81,8 @@ pub fn read_datagram<T: Item>(alloc: Global, from: &[u8]) -> Result<(u32, Vec<T>
 /// The length of a datagram's text.
 pub fn len_of<T: Item>(items: &[T]) -> usize
     requires lawful { All T.is_item items.now }
-    requires fits { FitsDatagram T.text 1 items.now }
-    ensures { result ≡ 10 + length (flat_map T.text items.now) }
+    requires few { length items.now ≤ MOST }
+    ensures { result ≡ HEADER_LEN + length (flat_map T.text items.now) }
 {
     let mut len = HEADER_LEN;
     for item in items {
@@ -99,7 +100,7 @@ pub fn write_datagram<T: Item>(
 ) -> Result<Datagram, NoMemory>
     requires lawful { All T.is_item items.now }
     requires fits { FitsDatagram T.text 1 items.now }
-    requires len { len ≡ 10 + length (flat_map T.text items.now) }
+    requires len { len ≡ HEADER_LEN + length (flat_map T.text items.now) }
     ensures { IfOk result (λ text. text ≡ datagram_text T.kind.magic T.text 1 number items.now) }
 {
     let mut text = Vec::with_capacity(alloc, len)?;

@@ -12,8 +12,12 @@ mod item;
 mod laws;
 mod replies;
 
-pub use batch::{Batch, Request, RequestList, Want, read_batch, write_batch};
+pub use batch::{
+    Batch, Request, RequestList, Want, batch_len, is_batch, is_request, read_batch, request_len,
+    write_batch,
+};
 pub use fault::BatchFault;
+pub use header::{HEADER_LEN, LIMIT, MOST};
 pub use laws::one_reading;
 pub use replies::{Replies, Reply, ReplyList, read_replies, write_replies};
 

@@ -142,7 +142,7 @@ impl Item for Reply {
 }
 
 /// The replies whose text the bytes are.
-#[tactic(auto, unfolding(crate::specs::ReplyGrammar::replies_text))]
+#[tactic(auto, unfolding(crate::specs::ReplyGrammar::replies_datagram))]
 pub fn read_replies(alloc: Global, from: &[u8]) -> Result<Replies, BatchFault>
     ensures replies { IfOk result (SpellsReplies from.now) }
     ensures fault { AgreesWith (first_fault replies_kind from.now) result }
@@ -164,7 +164,7 @@ fn fitting(replies: &[Reply]) -> (usize, usize)
     ensures within { result.0 ≤ length replies.now }
     ensures begin { BeginsWith 1 replies.now
         (take result.0 replies.now) (drop result.0 replies.now) }
-    ensures len { result.1 ≡ 10 + length (flat_map reply_text (take result.0 replies.now)) }
+    ensures len { result.1 ≡ HEADER_LEN + length (flat_map reply_text (take result.0 replies.now)) }
 {
     let mut len = HEADER_LEN;
     for (count, reply) in replies.iter().enumerate() {

@@ -1,8 +1,11 @@
 //! Batches and replies as bytes.
 
 use batch_packets::{
-    BatchFault, Reply, Request, Want, read_batch, read_replies, write_batch, write_replies,
+    BatchFault, Reply, Request, Want, is_batch, read_batch, read_replies, write_batch,
+    write_replies,
 };
+use mica_io::Bytes;
+use std::alloc::Global;
 use std::process::Abort;
 use std::test::Fail;
 
@@ -153,4 +156,73 @@ fn more_bytes_are_a_fault(rt: HostRuntime) -> Result<(), Fail> {
         expect_fault(&rt, bytes.as_slice(), fault);
     }
     Ok(())
+}
+
+/// Checks that a batch with this text is read, may be written, and is written as the same bytes.
+fn expect_batch_written_back(
+    rt: &(impl Abort + AllocGlobal),
+    bytes: &[u8],
+    count: usize,
+) -> Result<(), Fail> {
+    let batch = read_batch(rt.alloc(), bytes)?;
+    assert!(rt; batch.requests.as_slice().len() == count);
+    let may_be_written = is_batch(&batch);
+    assert!(rt; may_be_written);
+    let text = write_batch(rt.alloc(), &batch)?;
+    assert!(rt; text.bytes() == bytes);
+    Ok(())
+}
+
+/// The text of a batch that gets the key `a` under each of the tickets from 0 on.
+fn many_gets(alloc: Global, count: u8) -> Result<Vec<u8>, Fail> {
+    let mut bytes = Vec::from_slice(alloc, b"MICA")?;
+    bytes.extend_from_slice(&[1, count, 0, 0, 0, 0])?;
+    for ticket in 0..count {
+        bytes.extend_from_slice(&[0, 1, 0, 0, ticket, 0, 0, 0, b'a'])?;
+    }
+    Ok(bytes)
+}
+
+// The shortest request has nine bytes, so 162 of them fill a datagram of 1,472 bytes.
+#[test]
+fn a_full_batch_is_written_back(rt: HostRuntime) -> Result<(), Fail> {
+    let full = many_gets(rt.alloc(), 162)?;
+    expect_batch_written_back(&rt, full.as_slice(), 162)?;
+    let longer = many_gets(rt.alloc(), 163)?;
+    expect_fault(&rt, longer.as_slice(), BatchFault::Length);
+    Ok(())
+}
+
+/// Checks that a datagram has replies of these tickets, one after another.
+fn expect_tickets(
+    rt: &(impl Abort + AllocGlobal),
+    datagram: &[u8],
+    first: u32,
+    count: usize,
+) -> Result<(), Fail> {
+    let read = read_replies(rt.alloc(), datagram)?;
+    let replies = read.replies.as_slice();
+    assert!(rt; replies.len() == count);
+    for (ticket, reply) in (first..).zip(replies.iter()) {
+        assert!(rt; reply.ticket == ticket);
+    }
+    Ok(())
+}
+
+// A reply without a value has 16 bytes, so 91 of them fill a datagram.
+#[test]
+fn replies_are_split(rt: HostRuntime) -> Result<(), Fail> {
+    let mut replies = Vec::new(rt.alloc());
+    for ticket in 0..100 {
+        replies.push(Reply {
+            status: 1,
+            ticket,
+            stamp: 0,
+            value: Bytes::copy(rt.alloc(), b"")?,
+        })?;
+    }
+    let datagrams = write_replies(rt.alloc(), replies.as_slice(), 7)?;
+    assert!(rt; datagrams.len() == 2);
+    expect_tickets(&rt, datagrams[0].bytes(), 0, 91)?;
+    expect_tickets(&rt, datagrams[1].bytes(), 91, 9)
 }

@@ -1,12 +1,12 @@
 use Rattle.std.proofs.Common.{◌∷◌, [], rules, append_assoc}
 use Rattle.std.proofs.lemmas.List.{append-nil, nil_from_length}
 use Rattle.std.proofs.lemmas.List.Elements.{All-drop}
-use Rattle.batch_packets.specs.ReplyGrammar.{IsReply, replies_text}
+use Rattle.batch_packets.specs.ReplyGrammar.{IsReply, replies_datagram}
 use Rattle.batch_packets.proofs.Splits.{more_carried}
 use Rattle.batch_packets.proofs.replies.write_replies.Goals as goal
 
 pub loop-rest-preserved : goal.loop-rest-preserved
-unfolding replies_text
+unfolding replies_datagram
 loop-rest-preserved c =
     record {
       lawful = rw c.split_at.ensures.back (All-drop (IsReply 1) c.fitting-count.result.0 c.loop-rest.rest.now c.loop-rest.invariant.lawful);
