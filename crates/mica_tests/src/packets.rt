@@ -1,5 +1,8 @@
 //! Batches and replies as bytes.
 
+ghost use Rattle.std.specs.Prelude.{All, IfOk};
+ghost use Rattle.batch_packets.specs.ReplyGrammar.{IsReply};
+
 use batch_packets::{
     BatchFault, Reply, Request, Want, is_batch, read_batch, read_replies, write_batch,
     write_replies,
@@ -209,18 +212,26 @@ fn expect_tickets(
     Ok(())
 }
 
-// A reply without a value has 16 bytes, so 91 of them fill a datagram.
-#[test]
-fn replies_are_split(rt: HostRuntime) -> Result<(), Fail> {
-    let mut replies = Vec::new(rt.alloc());
+fn hundred_misses(alloc: Global) -> Result<Vec<Reply>, Fail>
+    ensures { IfOk result (λ replies. All (IsReply 1) replies.items) }
+{
+    let mut replies = Vec::new(alloc);
     for ticket in 0..100 {
+        let value = Bytes::copy(alloc, b"")?;
         replies.push(Reply {
             status: 1,
             ticket,
             stamp: 0,
-            value: Bytes::copy(rt.alloc(), b"")?,
+            value,
         })?;
     }
+    Ok(replies)
+}
+
+// A reply without a value has 16 bytes, so 91 of them fill a datagram.
+#[test]
+fn replies_are_split(rt: HostRuntime) -> Result<(), Fail> {
+    let replies = hundred_misses(rt.alloc())?;
     let datagrams = write_replies(rt.alloc(), replies.as_slice(), 7)?;
     assert!(rt; datagrams.len() == 2);
     expect_tickets(&rt, datagrams[0].bytes(), 0, 91)?;
