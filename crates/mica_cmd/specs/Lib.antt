@@ -1,4 +1,5 @@
 pub mod Words
+pub mod GenOptions
 pub mod CommandLine
 pub mod ClapCommand
 pub mod Outside

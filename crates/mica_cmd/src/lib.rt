@@ -7,12 +7,14 @@
 
 mod clap_command;
 mod command;
+mod gen_options;
 mod option_values;
 mod program;
 mod status;
 mod top;
 
 pub use command::{Command, WordsFault, read_words};
+pub use gen_options::GenOptions;
 pub use program::run_program;
 pub use status::Status;
 pub use top::{MAX_SOURCE_LEN, mica};
