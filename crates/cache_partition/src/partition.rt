@@ -1,7 +1,11 @@
 //! The partition and its calls.
-ghost use Rattle.std.specs.Prelude.{◌≡◌, length, nat_le};
+ghost use Rattle.std.specs.Prelude.{◌≡◌, ◌≢◌, length, nat_le};
+ghost use Rattle.mica_words.specs.Item.{KeyFits};
+ghost use Rattle.mica_model.specs.Answer.{IsAnswer};
+ghost use Rattle.mica_model.specs.Fate.{fate_of};
+ghost use Rattle.mica_model.specs.declared.fate.Fate.TheVariants.{Held};
 ghost use Rattle.mica_model.specs.declared.options.Mode.TheVariants.{Cache};
-ghost use Rattle.mica_model.specs.History.{stamp_of};
+ghost use Rattle.mica_model.specs.History.{stamp_of, answer_of};
 ghost use Rattle.epoch_core.specs.declared.state.Phase.TheVariants.{Idle};
 ghost use Rattle.epoch_core.specs.Shape.{IsValidShape};
 ghost use Rattle.epoch_core.specs.OwnerState.{options_in, as_made};
@@ -87,7 +91,15 @@ impl<W: OwnerWords> Partition for CachePartition<W> {
         }
     }
 
-    fn get(&mut self, key: &[u8], out: &mut ItemBuf) -> Answer {
+    fn get(&mut self, key: &[u8], out: &mut ItemBuf) -> Answer
+        requires { KeyFits key.now }
+        ensures answer { IsAnswer result out.new
+            (answer_of (options_in (W.owner self.old.words)) (W.owner self.old.words).history key.now) }
+        ensures same { W.owner self.new.words ≡ W.owner self.old.words }
+        ensures home { W.home self.new.words ≡ W.home self.old.words }
+        ensures fate { result ≡ Answer.Miss
+            → fate_of (options_in (W.owner self.old.words)) (W.owner self.old.words).history key.now ≢ Held }
+    {
         value_of(&mut self.words, key, out)
     }
 

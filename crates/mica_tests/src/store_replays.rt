@@ -395,3 +395,18 @@ fn a_full_heap_refuses_a_put(rt: HostRuntime) -> Result<(), Fail> {
     let output = b"put 1 stored\nput 1 full block\nsync\nget 1 miss\n";
     expect_output(&rt, words, input.as_bytes(), Status::Done, output)
 }
+
+// Items of 64 words each, where there are 256. Two that do not touch are deleted: 128 words are free, and no block has more than 64.
+#[test]
+fn fragments_refuse_a_put(rt: HostRuntime) -> Result<(), Fail> {
+    let small = "x".repeat(rt.alloc(), 488)?;
+    let large = "y".repeat(rt.alloc(), 700)?;
+    let input = format!(in rt.alloc();
+        "put a {small}\nput b {small}\nput c {small}\nput d {small}\ndel a\ndel c\nput e {large}\n"
+    )?;
+    let words =
+        "replay --mode store --partitions 1 --buckets 1 --spares 4 --words 256 --readers 1 --tries 1000";
+    let output =
+        b"put 1 stored\nput 2 stored\nput 3 stored\nput 4 stored\ndel 5 deleted\ndel 6 deleted\nput 6 full block\n";
+    expect_output(&rt, words, input.as_bytes(), Status::Done, output)
+}

@@ -11,6 +11,7 @@ ghost use Rattle.epoch_core.specs.OwnerState.{options_in, as_made};
 ghost use Rattle.epoch_core.specs.OwnerStep.{IsOwnerStep};
 ghost use Rattle.epoch_core.specs.StandsFor.{room_in};
 ghost use Rattle.epoch_core.specs.Kept.{Kept};
+ghost use Rattle.block_heap.specs.Blocks.{NoneFits};
 ghost use Rattle.chained_index.specs.ChainEntries.{spot_entry};
 ghost use Rattle.store_partition.specs.Sought.{IsSought};
 ghost use Rattle.store_partition.specs.Parts.{AreParts};
@@ -81,15 +82,16 @@ impl<W: OwnerWords> StorePartition<W> {
         requires sought { IsSought (W.owner self.old.words) key.now bucket (Some spot) }
         ensures step { IsOwnerStep (W.owner self.old.words) (W.owner self.new.words)
             (write_of Put key.entry.now value.entry.now) result }
+        ensures full { result ≡ Outcome.FullBlock
+            → NoneFits self.old.heap (item_size_of key.entry.now value.entry.now) }
         ensures home { W.home self.new.words ≡ W.home self.old.words }
     {
         let (offset, room) = block_at(&mut self.words, spot);
-        if item_size(key.len(), value.len()) <= room {
-            self.put_in_room(bucket, spot, offset, room, key, value);
-            Outcome::Stored
-        } else {
-            self.put_grown(bucket, spot, offset, key, value)
+        if item_size(key.len(), value.len()) > room {
+            return self.put_grown(bucket, spot, offset, key, value);
         }
+        self.put_in_room(bucket, spot, offset, room, key, value);
+        Outcome::Stored
     }
 
     // The put writes its item into the room that the key's item has.
@@ -140,6 +142,8 @@ impl<W: OwnerWords> StorePartition<W> {
             < item_size_of key.now value.now }
         ensures step { IsOwnerStep (W.owner self.old.words) (W.owner self.new.words)
             (write_of Put key.entry.now value.entry.now) result }
+        ensures full { result ≡ Outcome.FullBlock
+            → NoneFits self.old.heap (item_size_of key.entry.now value.entry.now) }
         ensures home { W.home self.new.words ≡ W.home self.old.words }
     {
         let size = item_size(key.len(), value.len());
@@ -170,6 +174,8 @@ impl<W: OwnerWords> StorePartition<W> {
         requires sought { IsSought (W.owner self.old.words) key.now bucket None }
         ensures step { IsOwnerStep (W.owner self.old.words) (W.owner self.new.words)
             (write_of Put key.entry.now value.entry.now) result }
+        ensures full { result ≡ Outcome.FullBlock
+            → NoneFits self.old.heap (item_size_of key.entry.now value.entry.now) }
         ensures home { W.home self.new.words ≡ W.home self.old.words }
     {
         if !self.index.has_place(&mut self.words, bucket) {
@@ -234,7 +240,15 @@ impl<W: OwnerWords> Partition for StorePartition<W> {
 
     ghost home = { λ p. W.home p.words };
 
-    fn put(&mut self, key: &[u8], value: &[u8]) -> Outcome {
+    fn put(&mut self, key: &[u8], value: &[u8]) -> Outcome
+        requires key { KeyFits key.now }
+        requires value { ValueFits value.now }
+        ensures step { IsOwnerStep (W.owner self.old.words) (W.owner self.new.words)
+            (write_of Put key.now value.now) result }
+        ensures home { W.home self.new.words ≡ W.home self.old.words }
+        ensures full { result ≡ Outcome.FullBlock
+            → NoneFits self.old.heap (item_size_of key.now value.now) }
+    {
         if self.is_worn() {
             return Outcome::Worn;
         }
