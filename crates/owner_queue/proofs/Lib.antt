@@ -1,0 +1,7 @@
+pub mod Keeps
+pub mod Flags
+pub mod Ended
+pub mod OneSender
+pub mod Whole
+pub mod Counting
+pub mod OnlySender

@@ -1,0 +1,10 @@
+use Rattle.std.proofs.Common.{rules}
+use Rattle.owner_queue.specs.AckOrder.{no_note}
+use Rattle.owner_queue.proofs.Keeps.{begins, first_fork}
+use Rattle.owner_queue.proofs.acks.make.Goals as goal
+
+pub bounded_with-requires-clause-rule : goal.bounded_with-requires-clause-rule
+bounded_with-requires-clause-rule g c = begins _ _ _
+
+pub another-seat-requires-clause-rule : goal.another-seat-requires-clause-rule
+another-seat-requires-clause-rule g c = first_fork _ _ no_note _ _ _ (search rules)

@@ -1,0 +1,33 @@
+-- What an acknowledgement says of its write.
+use Rattle.std.specs.Prelude.{◌≡◌, ℕ, Bool, true, false, [], ◌∷◌, ◌++◌}
+use Rattle.atomic_table.specs.Seated.{TableId}
+use Rattle.mica_model.specs.declared.options.Options.{Options}
+use Rattle.mica_model.specs.declared.write.Write.{Write}
+use Rattle.mica_model.specs.declared.write.Outcome.{Outcome}
+use Rattle.mica_model.specs.Write.{is_accepted}
+use Rattle.mica_model.specs.History.{History, IsPrefix, IsCut, MayGive}
+use Rattle.epoch_core.specs.declared.reader.ReaderState.{ReaderState}
+use Rattle.epoch_core.specs.Shape.{options_of}
+use Rattle.partition_table.specs.declared.reader.Note.{Note}
+use Rattle.partition_table.specs.Rule.{reader_in}
+
+-- what a note has seen
+abbrev pub seen_by : Note → ReaderState
+seen_by note = reader_in note.seat.me.0
+
+-- the table that a note is of
+abbrev pub table_of : Note → TableId
+table_of note = note.seat.table_id
+
+-- An accepted write is the last of the cut, and its outcome is one that the machine may give there. A refused one has an outcome that
+-- the machine may give after the cut.
+abbrev pub IsReplyAt : Bool → Options → History → Write → Outcome → Type 0
+IsReplyAt true options cut write outcome = (before : History) × (cut ≡ before ++ write ∷ []) × MayGive options before write outcome
+IsReplyAt false options cut write outcome = MayGive options cut write outcome
+
+-- The note has seen a history that begins with the one of this stamp, whose every write has ended. The reply is the machine's there.
+pub record IsAcked (note : ReaderState) (write : Write) (outcome : Outcome) (stamp : ℕ) : Type 0 where
+  pub cut : History
+  pub is_cut : IsCut (options_of note.shape) note.seen stamp cut
+  pub ended : IsPrefix cut note.done
+  pub reply : IsReplyAt (is_accepted outcome) (options_of note.shape) cut write outcome

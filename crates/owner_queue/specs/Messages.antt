@@ -1,0 +1,50 @@
+-- Jobs, ends, and in what order one sender may send them.
+use Rattle.std.specs.Prelude.{Option, Some, None, ◌≡◌, ℕ, ◌<◌, Bool, true, false, List, All}
+use Rattle.std.specs.List.{list_any, filter_map}
+use Rattle.mica_model.specs.declared.write.Write.{Write}
+use Rattle.mica_model.specs.Write.{IsWrite}
+use Rattle.owner_queue.specs.declared.message.Message.{Message}
+use Rattle.owner_queue.specs.declared.message.Message.TheVariants as kind
+use Rattle.owner_queue.specs.Delivery as delivery
+
+abbrev pub sender_of : Message → ℕ
+sender_of (kind.Job j) = j.sender
+sender_of (kind.End p) = p
+
+-- an end has none
+abbrev pub ticket_of : Message → ℕ
+ticket_of (kind.Job j) = j.ticket
+ticket_of (kind.End p) = 0
+
+abbrev pub is_end : Message → Bool
+is_end (kind.Job j) = false
+is_end (kind.End p) = true
+
+-- a job's key and value fit, and there is no value where the operation has none
+abbrev pub IsFit : Message → Type 0
+IsFit (kind.Job j) = IsWrite j.write
+IsFit (kind.End p) = Unit {0}
+
+-- the messages of one sender, in order
+abbrev pub sent_by : ℕ → List Message → List Message
+sent_by p messages = delivery.from_sender sender_of p messages
+
+-- the sender p has ended
+abbrev pub has_end : ℕ → List Message → Bool
+has_end p messages = list_any is_end (sent_by p messages)
+
+-- A message may follow what its sender sent before: no end is among these, and a job's write fits and its ticket is below `jobs` and
+-- above those before it.
+pub record MayFollow (jobs : ℕ) (before : List Message) (m : Message) : Type 0 where
+  pub no_end : list_any is_end before ≡ false
+  pub in_range : is_end m ≡ false → ticket_of m < jobs
+  pub rises : is_end m ≡ false → All (λ b. ticket_of b < ticket_of m) before
+  pub fit : IsFit m
+
+abbrev pub write_in : Message → Option Write
+write_in (kind.Job j) = Some j.write
+write_in (kind.End p) = None
+
+-- the writes of the jobs, in order
+abbrev pub writes_in : List Message → List Write
+writes_in messages = filter_map write_in messages

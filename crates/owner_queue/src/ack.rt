@@ -1,0 +1,28 @@
+//! An acknowledgement.
+ghost use Rattle.owner_queue.specs.Acked.{seen_by, IsAcked};
+
+use crate::rule::Queued;
+use mica_model::{Outcome, Write};
+use partition_table::Note;
+
+/// What an owner replied to a job, with the job's write moved back, and a note that has seen it.
+#[derive(Drop)]
+pub struct Ack {
+    pub ticket: u64,
+    pub write: Write,
+    pub outcome: Outcome,
+    pub stamp: u64,
+    pub note: Note,
+    pub ghost acked: { ∥ IsAcked (seen_by note) write outcome stamp ∥₁ },
+}
+
+// The terms of a queue of acknowledgements are a note of the table that all their notes are of.
+impl Queued<Note> for Ack {
+    ghost use Rattle.owner_queue.specs.AckOrder.{only_sender, AckMayFollowAt, no_note};
+
+    ghost sender = { only_sender };
+
+    ghost follows = { AckMayFollowAt };
+
+    ghost unset = { no_note };
+}

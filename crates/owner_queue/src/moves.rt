@@ -1,0 +1,58 @@
+//! The steps at the ends of any queue: each waits on, whatever the channel answers.
+ghost use Rattle.std.specs.Prelude.{◌≡◌, ◌<◌, ◌≤◌, ◌++◌, [], ◌∷◌, ℕ, true, false, IfOk, slice_get, Some, vec_len};
+ghost use Rattle.crossbeam_channel.specs.Claims.{IsSeatAt};
+ghost use Rattle.crossbeam_channel.specs.Ends.{sends_on, receives_on};
+ghost use Rattle.owner_queue.specs.Delivery.{from_sender, sender, receiver};
+ghost use Rattle.owner_queue.specs.Ends.{known};
+
+use crate::rule::{InOrder, Knows, Queued, Sends, Takes};
+use crossbeam_channel::{Pass, RuledReceiver, RuledSender};
+use std::sync::Wait;
+
+/// How many messages may wait in a queue.
+pub const CAPACITY: usize = 64;
+
+/// Puts a message at the back.
+pub fn put<S, T: Queued<S>, R: Wait>(
+    rt: &R,
+    end: &RuledSender<T, Knows<T, S>, InOrder>,
+    pass: &mut Pass<T, Knows<T, S>>,
+    message: T,
+)
+    requires seat { IsSeatAt (sends_on end.now) pass.old }
+    requires view { known pass.old ≡ sender (known pass.old).number (known pass.old).terms (known pass.old).sent }
+    requires own { T.sender message ≡ (known pass.old).number }
+    requires order { T.follows (known pass.old).terms (known pass.old).sent message }
+    ensures seat { IsSeatAt (sends_on end.now) pass.new }
+    ensures view { known pass.new ≡ sender (known pass.old).number (known pass.old).terms ((known pass.old).sent ++ message ∷ []) }
+{
+    let mut message = message;
+    for _ in rt.forever() {
+        match end.send_as::<Sends, R>(rt, pass, message) {
+            Ok(()) => return,
+            Err(error) => message = error.into_inner(),
+        }
+    }
+    unreachable!()
+}
+
+/// Takes the front.
+pub fn take<S, T: Queued<S>, R: Wait>(
+    rt: &R,
+    end: &RuledReceiver<T, Knows<T, S>, InOrder>,
+    pass: &mut Pass<T, Knows<T, S>>,
+) -> T
+    requires seat { IsSeatAt (receives_on end.now) pass.old }
+    requires view { ((known pass.old).takes ≡ true) × ((known pass.old).sends ≡ false) }
+    ensures seat { IsSeatAt (receives_on end.now) pass.new }
+    ensures view { known pass.new ≡ receiver (known pass.old).number (known pass.old).terms ((known pass.old).taken ++ result ∷ []) }
+    ensures sender { T.sender result < (known pass.old).number }
+    ensures order { T.follows (known pass.old).terms (from_sender T.sender (T.sender result) (known pass.old).taken) result }
+{
+    for _ in rt.forever() {
+        if let Ok(message) = end.recv_as::<Takes, R>(rt, pass) {
+            return message;
+        }
+    }
+    unreachable!()
+}
