@@ -1,22 +1,13 @@
 -- Lemmas on the lines of a text and of a trace.
-use Rattle.std.proofs.Common.{◌≡◌, ◌≢◌, ℕ, ◌+◌, ◌<◌, ◌≤◌, List, [], ◌∷◌, ◌++◌, length, length-append, get_or, take, cond, refl, sym, ap, ◌∙◌, subst, arith, Bool, true, false, ne_eqb, eqb, codes}
+use Rattle.std.proofs.Common.{◌≡◌, ◌≢◌, ℕ, zero, suc, ◌+◌, ◌<◌, ◌≤◌, List, [], ◌∷◌, ◌++◌, length, length-append, get_or, take, cond, refl, sym, ap, ◌∙◌, subst, arith, Bool, true, false, ne_eqb, eqb, codes}
 use Rattle.std.specs.List.{AllByRecursion}
 use Rattle.std.proofs.lemmas.Bool.{false≢true}
-use Rattle.std.proofs.lemmas.List.{take_more}
 use Rattle.std.proofs.lemmas.List.Sums.{sum_by-cons}
 use Rattle.mica_trace.specs.declared.line.TraceOp.{TraceOp}
 use Rattle.mica_trace.specs.declared.line.TraceOp.TheVariants.{Put, Del, Get, Sync}
 use Rattle.mica_trace.specs.declared.line.TraceLine.{TraceLine}
 use Rattle.mica_trace.specs.Lines.{onto_first, lines_of, Lacks}
 use Rattle.mica_trace.specs.TraceGrammar.{IsKey, IsValue, HasFields, op_text, IsTextOf, is_sync, is_sync_op, syncs_in}
-
-pub All_push : {X : Type 0} (P : X → Type 0) (xs : List X) (y : X) → AllByRecursion P xs → P y → AllByRecursion P (xs ++ y ∷ [])
-All_push P [] y all here = (here, tt)
-All_push P (x ∷ xs) y all here = (all.0, All_push P xs y all.1 here)
-
-pub Lacks_more : (byte : ℕ) (text : List ℕ) (i b : ℕ) → i < length text → b ≡ get_or text i b → b ≢ byte → Lacks byte (take i text) → Lacks byte (take (i + 1) text)
-Lacks_more byte text i b within is other so_far =
-    subst (Lacks byte) (sym (take_more text i b within ∙ ap (λ x. take i text ++ x ∷ []) (sym is))) (All_push (λ x. x ≢ byte) (take i text) b so_far other)
 
 pub lines_of_fed : (line rest : List ℕ) → Lacks 10 line → lines_of (line ++ 10 ∷ rest) ≡ line ∷ lines_of rest
 lines_of_fed [] rest lacks = refl
@@ -31,24 +22,9 @@ lines_of_last (b ∷ c ∷ line) some lacks =
     ap (λ t. cond t ([] ∷ lines_of (c ∷ line)) (onto_first b (lines_of (c ∷ line)))) (ne_eqb b 10 lacks.0)
     ∙ ap (onto_first b) (lines_of_last (c ∷ line) (omega arith) lacks.1)
 
-pub one_split : (a b c d : List ℕ) → Lacks 32 a → Lacks 32 c → a ++ 32 ∷ b ≡ c ++ 32 ∷ d → (a ≡ c) × (b ≡ d)
-one_split [] b [] d a_lacks c_lacks same = (refl, cc)
-one_split [] b (y ∷ c) d a_lacks c_lacks same = let head : y ≡ 32 = cc in absurd (c_lacks.0 head)
-one_split (x ∷ a) b [] d a_lacks c_lacks same = let head : x ≡ 32 = cc in absurd (a_lacks.0 head)
-one_split (x ∷ a) b (y ∷ c) d a_lacks c_lacks same =
-    let head : x ≡ y = cc in
-    let tail : a ++ 32 ∷ b ≡ c ++ 32 ∷ d = cc in
-    let rest = one_split a b c d a_lacks.1 c_lacks.1 tail in
-    let keys = rest.0 in
-    (cc, rest.1)
-
 pub key_lacks_space : (key : List ℕ) → AllByRecursion (λ b. (33 ≤ b) × (b ≤ 126)) key → Lacks 32 key
 key_lacks_space [] all = tt
 key_lacks_space (b ∷ key) all = ((λ is. let here = all.0 in omega arith), key_lacks_space key all.1)
-
-pub space_or_none : (key value : List ℕ) → ¬ (Lacks 32 (key ++ 32 ∷ value))
-space_or_none [] value lacks = lacks.0 refl
-space_or_none (b ∷ key) value lacks = space_or_none key value lacks.1
 
 -- what no reading of a line finds
 pub no_line : (text : List ℕ) → text ≢ codes "sync"

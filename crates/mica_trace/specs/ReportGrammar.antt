@@ -1,5 +1,6 @@
 -- Reports, by cases on their lines.
-use Rattle.std.specs.Prelude.{ℕ, List, [], ◌∷◌, ◌++◌, codes, flat_map}
+use Rattle.std.specs.Prelude.{◌≡◌, ◌≢◌, ℕ, ◌+◌, ◌<◌, ◌^◌, List, [], ◌∷◌, ◌++◌, length, codes, flat_map}
+use Rattle.std.specs.List.{AllByRecursion}
 use Rattle.std.specs.Fmt.{decimal}
 use Rattle.mica_model.specs.declared.write.Op.{Op}
 use Rattle.mica_model.specs.declared.write.Op.TheVariants.{Put, Del}
@@ -7,6 +8,8 @@ use Rattle.mica_model.specs.declared.write.Outcome.{Outcome}
 use Rattle.mica_model.specs.declared.write.Outcome.TheVariants.{Stored, Deleted, Absent, FullSpare, FullBlock, Worn}
 use Rattle.mica_trace.specs.declared.report.Line.{Line}
 use Rattle.mica_trace.specs.declared.report.Line.TheVariants.{Wrote, Hit, Miss, Sync}
+use Rattle.mica_trace.specs.declared.report_reader.ReportFault.{ReportFault}
+use Rattle.mica_trace.specs.declared.report_reader.ReportFault.TheVariants.{BadLine, NoMemory}
 use Rattle.mica_trace.specs.TraceGrammar.{IsValue}
 
 abbrev pub op_word : Op → List ℕ
@@ -32,11 +35,15 @@ HasOutcome Del Absent = Unit {0}
 HasOutcome Del Worn = Unit {0}
 HasOutcome _ _ = ⊥
 
+-- a number of 64 bits
+abbrev pub IsStamp : ℕ → Type 0
+IsStamp stamp = stamp < 2 ^ 64
+
 -- a line that a report may have
 abbrev pub IsReportLine : Line → Type 0
-IsReportLine (Wrote op outcome stamp) = HasOutcome op outcome
-IsReportLine (Hit stamp value) = IsValue value
-IsReportLine (Miss stamp) = Unit {0}
+IsReportLine (Wrote op outcome stamp) = HasOutcome op outcome × IsStamp stamp
+IsReportLine (Hit stamp value) = IsStamp stamp × IsValue value
+IsReportLine (Miss stamp) = IsStamp stamp
 IsReportLine Sync = Unit {0}
 
 -- the text of a line, without its line feed
@@ -46,6 +53,40 @@ report_line_text (Hit stamp value) = codes "get " ++ decimal stamp ++ codes " hi
 report_line_text (Miss stamp) = codes "get " ++ decimal stamp ++ codes " miss"
 report_line_text Sync = codes "sync"
 
+-- the text is that of the line
+abbrev pub SpellsLine : List ℕ → Line → Type 0
+SpellsLine text line = IsReportLine line × (text ≡ report_line_text line)
+
+abbrev pub SpellsNoLine : List ℕ → Type 0
+SpellsNoLine text = (line : Line) → ¬ (SpellsLine text line)
+
 -- each line ends with a line feed
 abbrev pub report_text : List Line → List ℕ
 report_text lines = flat_map (λ line. report_line_text line ++ 10 ∷ []) lines
+
+-- the text spells these lines, each with its line feed
+pub record IsReport (text : List ℕ) (report : List Line) : Type 0 where
+  pub lines : AllByRecursion IsReportLine report
+  pub spelled : text ≡ report_text report
+
+abbrev pub IsNoReport : List ℕ → Type 0
+IsNoReport text = (report : List Line) → ¬ (IsReport text report)
+
+-- no report line stands at the front with its line feed
+abbrev pub BeginsWithNoLine : List ℕ → Type 0
+BeginsWithNoLine text = (line : Line) (more : List ℕ) → IsReportLine line → text ≢ report_line_text line ++ 10 ∷ more
+
+-- line n, counted from 1, is the first that is no report line with its line feed
+pub record IsFirstBadLine (text : List ℕ) (n : ℕ) : Type 0 where
+  pub before : List Line
+  pub rest : List ℕ
+  pub lines : AllByRecursion IsReportLine before
+  pub parts : text ≡ report_text before ++ rest
+  pub number : n ≡ length before + 1
+  pub some : rest ≢ []
+  pub bad : BeginsWithNoLine rest
+
+-- what a text is refused for; want of memory has no cause in it
+abbrev pub RefusesReport : List ℕ → ReportFault → Type 0
+RefusesReport text (BadLine n) = IsFirstBadLine text n × IsNoReport text
+RefusesReport text NoMemory = Unit {0}

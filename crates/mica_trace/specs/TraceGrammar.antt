@@ -1,5 +1,5 @@
 -- Traces, by cases on bytes.
-use Rattle.std.specs.Prelude.{◌≡◌, ℕ, ◌+◌, ◌<◌, ◌≤◌, Bool, true, false, List, [], ◌∷◌, ◌++◌, length, count_by, codes}
+use Rattle.std.specs.Prelude.{◌≡◌, ℕ, ◌+◌, ◌<◌, ◌≤◌, Bool, true, false, List, [], ◌∷◌, ◌++◌, length, count_by, codes, flat_map}
 use Rattle.std.specs.List.{AllByRecursion, AllZip}
 use Rattle.std.specs.Fmt.{decimal}
 use Rattle.mica_trace.specs.declared.limits.TheConstants.{MAX_LINES, MAX_LINE_LEN, MAX_ROUNDS}
@@ -43,6 +43,10 @@ line_text line = op_text line.op line.key line.value
 abbrev pub IsTextOf : List ℕ → TraceLine → Type 0
 IsTextOf text line = IsTraceLine line × (text ≡ line_text line)
 
+-- the line that ends a round
+abbrev pub sync_line : TraceLine
+sync_line = record { op = Sync; key = []; value = [] }
+
 abbrev pub is_sync_op : TraceOp → Bool
 is_sync_op Sync = true
 is_sync_op _ = false
@@ -53,6 +57,10 @@ is_sync line = is_sync_op line.op
 -- how many lines end a round
 abbrev pub syncs_in : List TraceLine → ℕ
 syncs_in lines = count_by is_sync lines
+
+-- the text in which each line ends with a line feed
+abbrev pub trace_text : List TraceLine → List ℕ
+trace_text lines = flat_map (λ line. line_text line ++ 10 ∷ []) lines
 
 -- no more lines and rounds than a trace may have; its last round ends with the trace
 pub record IsWithinLimits (lines : List TraceLine) : Type 0 where

@@ -1,15 +1,22 @@
 //! Traces and reports: their lines, their texts, and what makes a report lawful for a trace.
 #![tactic(auto)]
 
+mod append;
+mod laws;
 mod limits;
 mod line;
 mod read;
 mod report;
+mod report_reader;
 mod split;
 mod trace;
+mod trace_text;
 
+pub use laws::one_reading;
 pub use limits::{MAX_LINE_LEN, MAX_LINES, MAX_ROUNDS};
 pub use line::{TraceFault, TraceLine, TraceOp};
 pub use read::read_trace;
 pub use report::{Line, Report, put_report_line};
+pub use report_reader::{ReportFault, read_report};
 pub use trace::Trace;
+pub use trace_text::put_trace;

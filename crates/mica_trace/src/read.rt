@@ -14,14 +14,14 @@ fn is_key(key: &[u8]) -> bool
     key_fits(key) && key.iter().all(|b| 33 <= *b && *b <= 126)
 }
 
-fn is_value(value: &[u8]) -> bool
+pub(crate) fn is_value(value: &[u8]) -> bool
     ensures { IsTrue result ↔ IsValue value.now }
 {
     value_fits(value) && value.iter().all(|b| 32 <= *b && *b <= 126)
 }
 
 // Why a text is not read as a line.
-enum LineFault {
+pub(crate) enum LineFault {
     Bad,
     NoMemory,
 }
@@ -33,16 +33,6 @@ impl From<NoMemory> for LineFault {
 
     fn from(_: NoMemory) -> Self {
         LineFault::NoMemory
-    }
-}
-
-fn sync_line(alloc: Global) -> TraceLine
-    ensures { result ≡ record { op = TraceOp.Sync; key = []; value = [] } }
-{
-    TraceLine {
-        op: TraceOp::Sync,
-        key: Bytes::empty(alloc),
-        value: Bytes::empty(alloc),
     }
 }
 
@@ -85,7 +75,7 @@ fn read_line(alloc: Global, text: &[u8]) -> Result<TraceLine, LineFault>
     ensures bad { IsErrOf result LineFault.Bad → (line : TraceLine) → ¬ (IsTextOf text.now line) }
 {
     if text == b"sync".as_slice() {
-        return Ok(sync_line(alloc));
+        return Ok(TraceLine::sync(alloc));
     }
     if let Some(key) = after_word(text, b"get ") {
         return read_key_line(alloc, TraceOp::Get, key);

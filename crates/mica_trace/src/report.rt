@@ -2,9 +2,10 @@ ghost use Rattle.std.specs.Prelude.{◌≡◌, ◌≤◌, ◌<◌, ◌∷◌, �
 ghost use Rattle.std.specs.Option.{option_copied};
 ghost use Rattle.mica_trace.specs.ReportGrammar.{report_line_text, IsReportLine, op_word, outcome_words};
 
+use crate::append::append_line;
+use itoa::Buffer;
 use mica_io::{Bytes, NoMemory};
 use mica_model::{Op, Outcome};
-use mica_words::MAX_VALUE_LEN;
 use std::alloc::Global;
 use std::marker::Model;
 
@@ -106,44 +107,35 @@ fn outcome_text(outcome: Outcome) -> &'static str
     }
 }
 
-// Appends the parts and a line feed, or nothing.
-fn append(out: &mut Vec<u8>, front: &str, value: &[u8]) -> Result<(), NoMemory>
-    requires { length value.now ≤ MAX_VALUE_LEN }
-    ensures ok { OnOk result (out.new.items ≡ out.old.items ++ (front.now ++ value.now) ++ 10 ∷ []) }
-    ensures err { OnErr result (out.new.items ≡ out.old.items) }
-{
-    out.reserve(front.len() + value.len() + 1)?;
-    let room = out.extend_from_slice(front.as_bytes()).is_ok()
-        && out.extend_from_slice(value).is_ok()
-        && out.push(b'\n').is_ok();
-    if !room {
-        unreachable!();
-    }
-    Ok(())
-}
-
 /// Appends the line's text and a line feed. After want of memory nothing is appended.
 pub fn put_report_line(line: &Line, out: &mut Vec<u8>) -> Result<(), NoMemory>
     requires { IsReportLine line.now }
     ensures ok { OnOk result (out.new.items ≡ out.old.items ++ report_line_text line.now ++ 10 ∷ []) }
     ensures err { OnErr result (out.new.items ≡ out.old.items) }
 {
-    let alloc = *out.allocator();
+    let mut digits = Buffer::new();
     match line {
         Line::Wrote { op, outcome, stamp } => {
-            let op = op_text(*op);
-            let outcome = outcome_text(*outcome);
-            let front = format!(in alloc; "{op} {stamp} {outcome}")?;
-            append(out, front.as_str(), b"")
+            let stamp = digits.format(*stamp).as_bytes();
+            let (op, outcome) = (op_text(*op).as_bytes(), outcome_text(*outcome).as_bytes());
+            append_line(out, &[op, b" ".as_slice(), stamp, b" ".as_slice(), outcome])
         }
         Line::Hit { stamp, value } => {
-            let front = format!(in alloc; "get {stamp} hit ")?;
-            append(out, front.as_str(), value.bytes())
+            let stamp = digits.format(*stamp).as_bytes();
+            append_line(
+                out,
+                &[
+                    b"get ".as_slice(),
+                    stamp,
+                    b" hit ".as_slice(),
+                    value.bytes(),
+                ],
+            )
         }
         Line::Miss { stamp } => {
-            let front = format!(in alloc; "get {stamp} miss")?;
-            append(out, front.as_str(), b"")
+            let stamp = digits.format(*stamp).as_bytes();
+            append_line(out, &[b"get ".as_slice(), stamp, b" miss".as_slice()])
         }
-        Line::Sync => append(out, "sync", b""),
+        Line::Sync => append_line(out, &[b"sync".as_slice()]),
     }
 }

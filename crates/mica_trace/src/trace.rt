@@ -28,7 +28,8 @@ impl Trace {
     ghost use Rattle.std.specs.List.{AllByRecursion};
     ghost use Rattle.mica_trace.specs.TraceGrammar.{IsTraceLine, IsWithinLimits};
 
-    pub(crate) fn of(lines: Vec<TraceLine>) -> Self
+    /// The trace of these lines, which it keeps.
+    pub fn of(lines: Vec<TraceLine>) -> Self
         requires lines { AllByRecursion IsTraceLine lines.items }
         requires few { IsWithinLimits lines.items }
         ensures { result ≡ lines.items }

@@ -1,0 +1,38 @@
+-- How long the text of a trace is at most.
+use Rattle.std.proofs.Common.{◌≡◌, ℕ, zero, suc, ◌*◌, ◌<◌, ◌≤◌, List, [], ◌∷◌, ◌++◌, length, length-append, get_or, take, refl, sym, ap, subst, arith}
+use Rattle.std.specs.List.{AllByRecursion}
+use Rattle.mica_trace.specs.declared.line.TraceOp.{TraceOp}
+use Rattle.mica_trace.specs.declared.line.TraceOp.TheVariants.{Put, Del, Get, Sync}
+use Rattle.mica_trace.specs.declared.line.TraceLine.{TraceLine}
+use Rattle.mica_trace.specs.TraceGrammar.{HasFields, IsTraceLine, line_text, trace_text}
+use Rattle.mica_trace.proofs.LineLemmas.{text_length}
+
+pub record HasShortFields (key value : List ℕ) : Type 0 where
+  pub key_len : length key ≤ 255
+  pub value_len : length value ≤ 1024
+
+short_fields : (op : TraceOp) (key value : List ℕ) → HasFields op key value → HasShortFields key value
+short_fields Put key value fields = record { key_len = fields.0.0.1; value_len = fields.1.0 }
+short_fields Del key value fields = let none = ap length fields.1 in record { key_len = fields.0.0.1; value_len = omega arith }
+short_fields Get key value fields = let none = ap length fields.1 in record { key_len = fields.0.0.1; value_len = omega arith }
+short_fields Sync key value fields = let none = ap length fields.0 in let no_value = ap length fields.1 in record { key_len = omega arith; value_len = omega arith }
+
+line_at : (lines : List TraceLine) (i : ℕ) (d : TraceLine) → i < length lines → AllByRecursion IsTraceLine lines → IsTraceLine (get_or lines i d)
+line_at [] i d less all = absurd (omega arith)
+line_at (l ∷ lines) zero d less all = all.0
+line_at (l ∷ lines) (suc i) d less all = line_at lines i d (omega arith) all.1
+
+pub short_at : (lines : List TraceLine) (i : ℕ) (line : TraceLine) → line ≡ get_or lines i line → i < length lines → AllByRecursion IsTraceLine lines
+    → HasShortFields line.key line.value
+short_at lines i line is less all = short_fields line.op line.key line.value (subst IsTraceLine (sym is) (line_at lines i line less all))
+
+-- each line has 1,285 bytes at most, its line feed counted
+pub taken_length : (lines : List TraceLine) (i : ℕ) → AllByRecursion IsTraceLine lines → length (trace_text (take i lines)) ≤ 1285 * i
+taken_length lines zero all = omega arith
+taken_length [] (suc i) all = omega arith
+taken_length (l ∷ lines) (suc i) all =
+    let rest = taken_length lines i all.1 in
+    let line = text_length (line_text l) l (all.0, refl) in
+    let here = length-append (line_text l) (10 ∷ []) in
+    let parts = length-append (line_text l ++ 10 ∷ []) (trace_text (take i lines)) in
+    omega arith

@@ -1,0 +1,145 @@
+-- A text has at most one report.
+use Rattle.std.proofs.Common.{◌≡◌, ℕ, ◌<◌, ◌≤◌, List, [], ◌∷◌, ◌++◌, length, length-append, refl, sym, ap, ◌∙◌, arith, codes, append_assoc, get_or, drop, eqb, cond, rules, ◌⊎◌, inl, inr}
+use Rattle.std.specs.List.{AllByRecursion}
+use Rattle.std.specs.Fmt.{decimal}
+use Rattle.std.specs.Str.Parse.{AllDigits}
+use Rattle.std.proofs.lemmas.Fmt.{decimal_injective, digits_decimal}
+use Rattle.std.proofs.lemmas.Str.Parse.{numerals_by_value, tells_digits, digit_at}
+use Rattle.mica_model.specs.declared.write.Op.TheVariants.{Put, Del}
+use Rattle.mica_model.specs.declared.write.Outcome.{Outcome}
+use Rattle.mica_model.specs.declared.write.Outcome.TheVariants.{Stored, Deleted, Absent, FullSpare, FullBlock, Worn}
+use Rattle.mica_trace.specs.declared.report.Line.{Line}
+use Rattle.mica_trace.specs.declared.report.Line.TheVariants.{Wrote, Hit, Miss, Sync}
+use Rattle.mica_trace.specs.Lines.{Lacks}
+use Rattle.mica_trace.specs.ReportGrammar.{outcome_words, IsStamp, IsReportLine, report_line_text, report_text, IsReport}
+use Rattle.mica_trace.specs.LawfulReport.{stamp_in}
+use Rattle.mica_trace.proofs.TextLaws.{one_split, Lacks_append}
+
+digits_lack : (byte : ℕ) → byte < 48 → (ds : List ℕ) → AllDigits 10 ds → Lacks byte ds
+digits_lack byte low [] all = tt
+digits_lack byte low (d ∷ ds) all =
+    let here = digit_at (d ∷ ds) 0 all (omega arith) in
+    ((λ is. let least = here.0 in omega arith), digits_lack byte low ds all.1)
+
+-- a number has no space and no line feed
+pub decimal_lacks : (byte n : ℕ) → byte < 48 → IsStamp n → Lacks byte (decimal n)
+decimal_lacks byte n low is = digits_lack byte low (decimal n) (digits_decimal (numerals_by_value (AllDigits 10) tells_digits) n is)
+
+value_lacks : (value : List ℕ) → AllByRecursion (λ b. (32 ≤ b) × (b ≤ 126)) value → Lacks 10 value
+value_lacks [] all = tt
+value_lacks (b ∷ value) all = ((λ is. let least = all.0.0 in omega arith), value_lacks value all.1)
+
+words_lack : (outcome : Outcome) → Lacks 10 (outcome_words outcome)
+words_lack Stored = search rules
+words_lack Deleted = search rules
+words_lack Absent = search rules
+words_lack FullSpare = search rules
+words_lack FullBlock = search rules
+words_lack Worn = search rules
+
+stamped : (n : ℕ) (reply : List ℕ) → IsStamp n → Lacks 10 reply → Lacks 10 (decimal n ++ 32 ∷ reply)
+stamped n reply is lacks = Lacks_append 10 (decimal n) (32 ∷ reply) (decimal_lacks 10 n (omega arith) is) ((λ e. omega arith), lacks)
+
+-- a line has no line feed
+pub line_lacks : (line : Line) → IsReportLine line → Lacks 10 (report_line_text line)
+line_lacks (Wrote Put outcome stamp) is = Lacks_append 10 (codes "put ") _ (search rules) (stamped stamp (outcome_words outcome) is.1 (words_lack outcome))
+line_lacks (Wrote Del outcome stamp) is = Lacks_append 10 (codes "del ") _ (search rules) (stamped stamp (outcome_words outcome) is.1 (words_lack outcome))
+line_lacks (Hit stamp value) is =
+    let front = Lacks_append 10 (codes "get ") (decimal stamp) (search rules) (decimal_lacks 10 stamp (omega arith) is.0) in
+    Lacks_append 10 (codes "get " ++ decimal stamp ++ codes " hit ") value (Lacks_append 10 (codes "get " ++ decimal stamp) (codes " hit ") front (search rules)) (value_lacks value is.1.1)
+line_lacks (Miss stamp) is = Lacks_append 10 (codes "get ") _ (search rules) (stamped stamp (codes "miss") is (search rules))
+line_lacks Sync is = search rules
+
+pub record SameReply (m n : ℕ) (a b : List ℕ) : Type 0 where
+  pub stamp : m ≡ n
+  pub reply : a ≡ b
+
+-- a stamp and what stands behind it are read in one way
+pub one_reply : (m n : ℕ) (a b : List ℕ) → IsStamp m → IsStamp n → decimal m ++ 32 ∷ a ≡ decimal n ++ 32 ∷ b → SameReply m n a b
+one_reply m n a b m_is n_is same =
+    let parts = one_split 32 (decimal m) a (decimal n) b (decimal_lacks 32 m (omega arith) m_is) (decimal_lacks 32 n (omega arith) n_is) same in
+    record { stamp = decimal_injective m n m_is n_is parts.0; reply = parts.1 }
+
+-- an outcome, by two bytes of its words
+abbrev outcome_at : List ℕ → Outcome
+outcome_at words =
+    let first = get_or words 0 0 in
+    cond (eqb first 115) Stored (cond (eqb first 100) Deleted (cond (eqb first 97) Absent (cond (eqb first 119) Worn
+    (cond (eqb (get_or words 5 0) 115) FullSpare FullBlock))))
+
+outcome_is : (outcome : Outcome) → outcome_at (outcome_words outcome) ≡ outcome
+outcome_is Stored = refl
+outcome_is Deleted = refl
+outcome_is Absent = refl
+outcome_is FullSpare = refl
+outcome_is FullBlock = refl
+outcome_is Worn = refl
+
+-- what stands behind a line's stamp
+abbrev reply_in : Line → List ℕ
+reply_in (Wrote op outcome stamp) = outcome_words outcome
+reply_in (Hit stamp value) = codes "hit " ++ value
+reply_in (Miss stamp) = codes "miss"
+reply_in Sync = []
+
+-- the line, by the first byte of its text, its stamp and what stands behind that
+abbrev line_by : ℕ → ℕ → List ℕ → Line
+line_by first stamp reply =
+    cond (eqb first 112) (Wrote Put (outcome_at reply) stamp) (cond (eqb first 100) (Wrote Del (outcome_at reply) stamp)
+    (cond (eqb first 115) Sync (cond (eqb (get_or reply 0 0) 104) (Hit stamp (drop 4 reply)) (Miss stamp))))
+
+line_is : (line : Line) → line_by (get_or (report_line_text line) 0 0) (stamp_in line) (reply_in line) ≡ line
+line_is (Wrote Put outcome stamp) = ap (λ o. Wrote Put o stamp) (outcome_is outcome)
+line_is (Wrote Del outcome stamp) = ap (λ o. Wrote Del o stamp) (outcome_is outcome)
+line_is (Hit stamp value) = refl
+line_is (Miss stamp) = refl
+line_is Sync = refl
+
+-- the text of a line is a sync's, or has its stamp and reply behind four bytes
+record HasReply (line : Line) : Type 0 where
+  stamp : IsStamp (stamp_in line)
+  rest : drop 4 (report_line_text line) ≡ decimal (stamp_in line) ++ 32 ∷ reply_in line
+
+kinds : (line : Line) → IsReportLine line → (line ≡ Sync) ⊎ HasReply line
+kinds (Wrote Put outcome stamp) is = inr (record { stamp = is.1; rest = refl })
+kinds (Wrote Del outcome stamp) is = inr (record { stamp = is.1; rest = refl })
+kinds (Hit stamp value) is = inr (record { stamp = is.0; rest = append_assoc (decimal stamp) (codes " hit ") value })
+kinds (Miss stamp) is = inr (record { stamp = is; rest = refl })
+kinds Sync is = inl refl
+
+no_sync : (line : Line) → HasReply line → report_line_text line ≡ codes "sync" → ⊥
+no_sync line is same =
+    let long = ap length (sym is.rest ∙ ap (drop 4) same) in
+    omega (arith, length-append {A = ℕ})
+
+one_text : (a b : Line) → IsReportLine a → IsReportLine b → report_line_text a ≡ report_line_text b → a ≡ b
+one_text a b left right same = elim (kinds a left) [
+  | inl sync ↦ elim (kinds b right) [
+    | inl sync' ↦ sync ∙ sym sync'
+    | inr reply ↦ absurd (no_sync b reply (sym same ∙ ap report_line_text sync))
+  ]
+  | inr reply ↦ elim (kinds b right) [
+    | inl sync ↦ absurd (no_sync a reply (same ∙ ap report_line_text sync))
+    | inr reply' ↦
+        let first = ap (λ t. get_or t 0 0) same in
+        let parts = one_reply (stamp_in a) (stamp_in b) (reply_in a) (reply_in b) reply.stamp reply'.stamp (sym reply.rest ∙ ap (drop 4) same ∙ reply'.rest) in
+        let stamps = parts.stamp in
+        let replies = parts.reply in
+        let whole : line_by (get_or (report_line_text a) 0 0) (stamp_in a) (reply_in a) ≡ line_by (get_or (report_line_text b) 0 0) (stamp_in b) (reply_in b) = cc in
+        sym (line_is a) ∙ whole ∙ line_is b
+  ]
+]
+
+pub one_report : (text : List ℕ) (a b : List Line) → IsReport text a → IsReport text b → a ≡ b
+one_report text a b left right = go a b left.lines right.lines (sym left.spelled ∙ right.spelled)
+  where
+    go : (a b : List Line) → AllByRecursion IsReportLine a → AllByRecursion IsReportLine b → report_text a ≡ report_text b → a ≡ b
+    go [] [] left right same = refl
+    go [] (y ∷ b) left right same = absurd (let long = ap length same in omega (arith, length-append {A = ℕ}))
+    go (x ∷ a) [] left right same = absurd (let long = ap length same in omega (arith, length-append {A = ℕ}))
+    go (x ∷ a) (y ∷ b) left right same =
+        let parts = one_split 10 (report_line_text x) (report_text a) (report_line_text y) (report_text b) (line_lacks x left.0) (line_lacks y right.0)
+        (sym (append_assoc (report_line_text x) (10 ∷ []) (report_text a)) ∙ same ∙ append_assoc (report_line_text y) (10 ∷ []) (report_text b)) in
+        let here = one_text x y left.0 right.0 parts.0 in
+        let there = go a b left.1 right.1 parts.1 in
+        cc
