@@ -11,8 +11,7 @@ use Rattle.mica_model.specs.declared.write.Outcome.TheVariants.{Stored, Deleted,
 use Rattle.mica_trace.specs.declared.report.Line.{Line}
 use Rattle.mica_trace.specs.declared.report.Line.TheVariants.{Wrote, Hit, Miss, Sync}
 use Rattle.mica_trace.specs.Lines.{Lacks}
-use Rattle.mica_trace.specs.ReportGrammar.{outcome_words, IsStamp, IsReportLine, report_line_text, report_text, IsReport}
-use Rattle.mica_trace.specs.LawfulReport.{stamp_in}
+use Rattle.mica_trace.specs.ReportGrammar.{stamp_in, outcome_words, IsStamp, IsPrintable, report_line_text, report_text, IsReport}
 use Rattle.mica_trace.proofs.TextLaws.{one_split, Lacks_append}
 
 digits_lack : (byte : ℕ) → byte < 48 → (ds : List ℕ) → AllDigits 10 ds → Lacks byte ds
@@ -41,13 +40,13 @@ stamped : (n : ℕ) (reply : List ℕ) → IsStamp n → Lacks 10 reply → Lack
 stamped n reply is lacks = Lacks_append 10 (decimal n) (32 ∷ reply) (decimal_lacks 10 n (omega arith) is) ((λ e. omega arith), lacks)
 
 -- a line has no line feed
-pub line_lacks : (line : Line) → IsReportLine line → Lacks 10 (report_line_text line)
+pub line_lacks : (line : Line) → IsPrintable line → Lacks 10 (report_line_text line)
 line_lacks (Wrote Put outcome stamp) is = Lacks_append 10 (codes "put ") _ (search rules) (stamped stamp (outcome_words outcome) is.1 (words_lack outcome))
 line_lacks (Wrote Del outcome stamp) is = Lacks_append 10 (codes "del ") _ (search rules) (stamped stamp (outcome_words outcome) is.1 (words_lack outcome))
 line_lacks (Hit stamp value) is =
-    let front = Lacks_append 10 (codes "get ") (decimal stamp) (search rules) (decimal_lacks 10 stamp (omega arith) is.0) in
-    Lacks_append 10 (codes "get " ++ decimal stamp ++ codes " hit ") value (Lacks_append 10 (codes "get " ++ decimal stamp) (codes " hit ") front (search rules)) (value_lacks value is.1.1)
-line_lacks (Miss stamp) is = Lacks_append 10 (codes "get ") _ (search rules) (stamped stamp (codes "miss") is (search rules))
+    let front = Lacks_append 10 (codes "get ") (decimal stamp) (search rules) (decimal_lacks 10 stamp (omega arith) is.1) in
+    Lacks_append 10 (codes "get " ++ decimal stamp ++ codes " hit ") value (Lacks_append 10 (codes "get " ++ decimal stamp) (codes " hit ") front (search rules)) (value_lacks value is.0.1)
+line_lacks (Miss stamp) is = Lacks_append 10 (codes "get ") _ (search rules) (stamped stamp (codes "miss") is.1 (search rules))
 line_lacks Sync is = search rules
 
 pub record SameReply (m n : ℕ) (a b : List ℕ) : Type 0 where
@@ -100,11 +99,11 @@ record HasReply (line : Line) : Type 0 where
   stamp : IsStamp (stamp_in line)
   rest : drop 4 (report_line_text line) ≡ decimal (stamp_in line) ++ 32 ∷ reply_in line
 
-kinds : (line : Line) → IsReportLine line → (line ≡ Sync) ⊎ HasReply line
+kinds : (line : Line) → IsPrintable line → (line ≡ Sync) ⊎ HasReply line
 kinds (Wrote Put outcome stamp) is = inr (record { stamp = is.1; rest = refl })
 kinds (Wrote Del outcome stamp) is = inr (record { stamp = is.1; rest = refl })
-kinds (Hit stamp value) is = inr (record { stamp = is.0; rest = append_assoc (decimal stamp) (codes " hit ") value })
-kinds (Miss stamp) is = inr (record { stamp = is; rest = refl })
+kinds (Hit stamp value) is = inr (record { stamp = is.1; rest = append_assoc (decimal stamp) (codes " hit ") value })
+kinds (Miss stamp) is = inr (record { stamp = is.1; rest = refl })
 kinds Sync is = inl refl
 
 no_sync : (line : Line) → HasReply line → report_line_text line ≡ codes "sync" → ⊥
@@ -112,7 +111,7 @@ no_sync line is same =
     let long = ap length (sym is.rest ∙ ap (drop 4) same) in
     omega (arith, length-append {A = ℕ})
 
-one_text : (a b : Line) → IsReportLine a → IsReportLine b → report_line_text a ≡ report_line_text b → a ≡ b
+one_text : (a b : Line) → IsPrintable a → IsPrintable b → report_line_text a ≡ report_line_text b → a ≡ b
 one_text a b left right same = elim (kinds a left) [
   | inl sync ↦ elim (kinds b right) [
     | inl sync' ↦ sync ∙ sym sync'
@@ -133,7 +132,7 @@ one_text a b left right same = elim (kinds a left) [
 pub one_report : (text : List ℕ) (a b : List Line) → IsReport text a → IsReport text b → a ≡ b
 one_report text a b left right = go a b left.lines right.lines (sym left.spelled ∙ right.spelled)
   where
-    go : (a b : List Line) → AllByRecursion IsReportLine a → AllByRecursion IsReportLine b → report_text a ≡ report_text b → a ≡ b
+    go : (a b : List Line) → AllByRecursion IsPrintable a → AllByRecursion IsPrintable b → report_text a ≡ report_text b → a ≡ b
     go [] [] left right same = refl
     go [] (y ∷ b) left right same = absurd (let long = ap length same in omega (arith, length-append {A = ℕ}))
     go (x ∷ a) [] left right same = absurd (let long = ap length same in omega (arith, length-append {A = ℕ}))

@@ -13,15 +13,15 @@ use Rattle.mica_trace.specs.declared.report.Line.{Line}
 use Rattle.mica_trace.specs.declared.report.Line.TheVariants.{Wrote, Hit, Miss, Sync}
 use Rattle.mica_trace.specs.Lines.{Lacks}
 use Rattle.mica_trace.specs.TraceGrammar.{IsValue}
-use Rattle.mica_trace.specs.ReportGrammar.{op_word, outcome_words, HasOutcome, IsStamp, IsReportLine, report_line_text, SpellsLine, SpellsNoLine, report_text, IsReport, IsNoReport, BeginsWithNoLine, IsFirstBadLine}
+use Rattle.mica_trace.specs.ReportGrammar.{op_word, outcome_words, HasOutcome, IsStamp, IsPrintable, report_line_text, SpellsLine, SpellsNoLine, report_text, IsReport, IsNoReport, BeginsWithNoLine, IsFirstBadLine}
 use Rattle.mica_trace.proofs.TextLaws.{one_split, lacks_or_has}
 use Rattle.mica_trace.proofs.ReportLaws.{line_lacks, one_reply}
 
 pub record HasReadLines (from : List ℕ) (report : List Line) (rest : List ℕ) : Type 0 where
-  pub lines : AllByRecursion IsReportLine report
+  pub lines : AllByRecursion IsPrintable report
   pub parts : from ≡ report_text report ++ rest
 
-All_push : (lines : List Line) (line : Line) → AllByRecursion IsReportLine lines → IsReportLine line → AllByRecursion IsReportLine (lines ++ line ∷ [])
+All_push : (lines : List Line) (line : Line) → AllByRecursion IsPrintable lines → IsPrintable line → AllByRecursion IsPrintable (lines ++ line ∷ [])
 All_push [] line all here = (here, tt)
 All_push (l ∷ lines) line all here = (all.0, All_push lines line all.1 here)
 
@@ -80,7 +80,7 @@ no_line rest text after first lacks bad line more is same =
     bad line (is, parts.0)
 
 -- the lines before a line that is none are those of any report, which then goes on with none
-none_after : (before report : List Line) (rest : List ℕ) → AllByRecursion IsReportLine before → AllByRecursion IsReportLine report
+none_after : (before report : List Line) (rest : List ℕ) → AllByRecursion IsPrintable before → AllByRecursion IsPrintable report
     → rest ≢ [] → BeginsWithNoLine rest → report_text before ++ rest ≢ report_text report
 none_after [] [] rest left right some bad same = some same
 none_after [] (y ∷ report) rest left right some bad same =
@@ -128,9 +128,9 @@ pub no_answer : (text answer : List ℕ) (s : ℕ) → IsStamp s → text ≡ de
 no_answer text answer s stamp is no_miss no_hit (Wrote Put o n) spells = false≢true (first _ _ spells.1)
 no_answer text answer s stamp is no_miss no_hit (Wrote Del o n) spells = false≢true (first _ _ spells.1)
 no_answer text answer s stamp is no_miss no_hit (Hit n value) spells =
-    no_hit value spells.0.1
-    (one_reply s n answer (codes "hit " ++ value) stamp spells.0.0 (sym is ∙ ap (drop 4) spells.1 ∙ append_assoc (decimal n) (codes " hit ") value)).reply
-no_answer text answer s stamp is no_miss no_hit (Miss n) spells = no_miss (one_reply s n answer (codes "miss") stamp spells.0 (sym is ∙ ap (drop 4) spells.1)).reply
+    no_hit value spells.0.0
+    (one_reply s n answer (codes "hit " ++ value) stamp spells.0.1 (sym is ∙ ap (drop 4) spells.1 ∙ append_assoc (decimal n) (codes " hit ") value)).reply
+no_answer text answer s stamp is no_miss no_hit (Miss n) spells = no_miss (one_reply s n answer (codes "miss") stamp spells.0.1 (sym is ∙ ap (drop 4) spells.1)).reply
 no_answer text answer s stamp is no_miss no_hit Sync spells = false≢true (first _ _ spells.1)
 
 pub none_means : {A : Type 0} (r : Option A) (P : Type 0) (Q : A → Type 0) → r ≡ None → P → MatchOption r P Q

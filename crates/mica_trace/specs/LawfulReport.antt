@@ -12,6 +12,7 @@ use Rattle.mica_trace.specs.declared.line.TraceLine.{TraceLine}
 use Rattle.mica_trace.specs.declared.report.Line.{Line}
 use Rattle.mica_trace.specs.declared.report.Line.TheVariants.{Wrote, Hit, Miss, Sync as SyncLine}
 use Rattle.mica_trace.specs.ReportGrammar.{IsReportLine}
+pub use Rattle.mica_trace.specs.ReportGrammar.{stamp_in}
 use Rattle.mica_trace.specs.Rounds.{partition_in, is_in_partition, write_by, round_of, round_begin, round_end, reader_of}
 
 -- the kind of report line that an operation has
@@ -62,12 +63,6 @@ IsAnsweredInRound options lines report n line printed =
     let round = round_of lines n in
     (i : ℕ) × (round_begin options p lines round ≤ i) × (i ≤ round_end options p lines round)
     × Answers options (history_after options p lines report i) line.key printed
-
-abbrev pub stamp_in : Line → ℕ
-stamp_in (Wrote op outcome stamp) = stamp
-stamp_in (Hit stamp value) = stamp
-stamp_in (Miss stamp) = stamp
-stamp_in SyncLine = 0
 
 pub record LawfulReport (options : Options) (trace : List TraceLine) (report : List Line) : Type 0 where
   -- its lines stand one to one for those of the trace

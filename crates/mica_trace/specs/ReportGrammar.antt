@@ -35,16 +35,26 @@ HasOutcome Del Absent = Unit {0}
 HasOutcome Del Worn = Unit {0}
 HasOutcome _ _ = ⊥
 
+-- a line that a report may have
+abbrev pub IsReportLine : Line → Type 0
+IsReportLine (Wrote op outcome stamp) = HasOutcome op outcome
+IsReportLine (Hit stamp value) = IsValue value
+IsReportLine (Miss stamp) = Unit {0}
+IsReportLine Sync = Unit {0}
+
+abbrev pub stamp_in : Line → ℕ
+stamp_in (Wrote op outcome stamp) = stamp
+stamp_in (Hit stamp value) = stamp
+stamp_in (Miss stamp) = stamp
+stamp_in Sync = 0
+
 -- a number of 64 bits
 abbrev pub IsStamp : ℕ → Type 0
 IsStamp stamp = stamp < 2 ^ 64
 
--- a line that a report may have
-abbrev pub IsReportLine : Line → Type 0
-IsReportLine (Wrote op outcome stamp) = HasOutcome op outcome × IsStamp stamp
-IsReportLine (Hit stamp value) = IsStamp stamp × IsValue value
-IsReportLine (Miss stamp) = IsStamp stamp
-IsReportLine Sync = Unit {0}
+-- a line that a report may have, with a number of 64 bits
+abbrev pub IsPrintable : Line → Type 0
+IsPrintable line = IsReportLine line × IsStamp (stamp_in line)
 
 -- the text of a line, without its line feed
 abbrev pub report_line_text : Line → List ℕ
@@ -55,7 +65,7 @@ report_line_text Sync = codes "sync"
 
 -- the text is that of the line
 abbrev pub SpellsLine : List ℕ → Line → Type 0
-SpellsLine text line = IsReportLine line × (text ≡ report_line_text line)
+SpellsLine text line = IsPrintable line × (text ≡ report_line_text line)
 
 abbrev pub SpellsNoLine : List ℕ → Type 0
 SpellsNoLine text = (line : Line) → ¬ (SpellsLine text line)
@@ -66,7 +76,7 @@ report_text lines = flat_map (λ line. report_line_text line ++ 10 ∷ []) lines
 
 -- the text spells these lines, each with its line feed
 pub record IsReport (text : List ℕ) (report : List Line) : Type 0 where
-  pub lines : AllByRecursion IsReportLine report
+  pub lines : AllByRecursion IsPrintable report
   pub spelled : text ≡ report_text report
 
 abbrev pub IsNoReport : List ℕ → Type 0
@@ -74,13 +84,13 @@ IsNoReport text = (report : List Line) → ¬ (IsReport text report)
 
 -- no report line stands at the front with its line feed
 abbrev pub BeginsWithNoLine : List ℕ → Type 0
-BeginsWithNoLine text = (line : Line) (more : List ℕ) → IsReportLine line → text ≢ report_line_text line ++ 10 ∷ more
+BeginsWithNoLine text = (line : Line) (more : List ℕ) → IsPrintable line → text ≢ report_line_text line ++ 10 ∷ more
 
 -- line n, counted from 1, is the first that is no report line with its line feed
 pub record IsFirstBadLine (text : List ℕ) (n : ℕ) : Type 0 where
   pub before : List Line
   pub rest : List ℕ
-  pub lines : AllByRecursion IsReportLine before
+  pub lines : AllByRecursion IsPrintable before
   pub parts : text ≡ report_text before ++ rest
   pub number : n ≡ length before + 1
   pub some : rest ≢ []
