@@ -1,5 +1,6 @@
 pub mod Words
 pub mod GenOptions
+pub mod Generator
 pub mod CommandLine
 pub mod ClapCommand
 pub mod Outside

@@ -8,6 +8,7 @@
 mod clap_command;
 mod command;
 mod gen_options;
+mod generator;
 mod option_values;
 mod program;
 mod status;
@@ -15,6 +16,7 @@ mod top;
 
 pub use command::{Command, WordsFault, read_words};
 pub use gen_options::GenOptions;
+pub use generator::gen_trace;
 pub use program::run_program;
 pub use status::Status;
 pub use top::{MAX_SOURCE_LEN, mica};
