@@ -1,7 +1,7 @@
 use Rattle.std.proofs.Common.{◌≡◌, ◌++◌, ◌∙◌, ap, sym, subst, arith}
 use Rattle.std.specs.List.{AllByRecursion}
 use Rattle.mica_trace.specs.TraceGrammar.{IsTraceLine, IsWithinLimits}
-use Rattle.mica_cmd.specs.Generator.{lines_at, generated}
+use Rattle.mica_cmd.specs.Generator.{lines_at}
 use Rattle.mica_cmd.proofs.Generating.{first_lines, gen_facts, at_start, first_next, all_fit, within_limits}
 use Rattle.mica_cmd.proofs.generator.gen_trace.Goals as goal
 

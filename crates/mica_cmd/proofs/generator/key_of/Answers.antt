@@ -1,4 +1,4 @@
-use Rattle.std.proofs.Common.{◌≤◌, ◌∙◌, length, set, ap, arith}
+use Rattle.std.proofs.Common.{◌∙◌, set, ap, arith}
 use Rattle.mica_cmd.proofs.Generating.{gen_facts, five_digits, key_text}
 use Rattle.mica_cmd.proofs.generator.key_of.Goals as goal
 

@@ -1,4 +1,4 @@
-use Rattle.std.proofs.Common.{◌≤◌, length, arith}
+use Rattle.std.proofs.Common.{arith}
 use Rattle.mica_cmd.proofs.Generating.{gen_facts, five_digits}
 use Rattle.mica_cmd.proofs.generator.value_of.Goals as goal
 
