@@ -18,12 +18,11 @@ const ONE_BUCKET: Shape = Shape {
     wear: 68_719_476_736,
 };
 
-/// A get of `a` with so many tries, between whose loads the put of `a` with `1` happens: its first events before
-/// the first load, and all before the second one where `all` says so.
+/// A get of `a` with so many tries, between whose loads the put of `a` with `1` happens: so many of its events before
+/// the first load, the second, and the third.
 fn expect_got(
     rt: &(impl Abort + AllocGlobal),
-    first: u32,
-    all: bool,
+    cuts: [u32; 3],
     tries: u32,
     expected: Got,
     value: &str,
@@ -35,31 +34,39 @@ fn expect_got(
     let mut partition = StorePartition::new(alloc, words)?;
     assert_eq!(rt; partition.put(b"a", b"1"), Outcome::Stored);
     let words = partition.into_words();
-    let count = words.events().len();
-    assert!(rt; first as usize <= count && count <= 64);
-    let cuts = [first, if all { count as u32 } else { first }];
+    assert!(rt;
+        cuts[0] <= cuts[1] && cuts[1] <= cuts[2] && cuts[2] as usize <= words.events().len()
+    );
     let mut seat = Scripted::new(alloc, words, &cuts)?;
     let mut out = ItemBuf::new(alloc)?;
-    assert_eq!(rt; get(&mut seat, b"a", tries, &mut out), expected);
-    assert_eq!(rt; out.value(), value.as_bytes());
+    assert!(rt; get(&mut seat, b"a", tries, &mut out) == expected);
+    assert!(rt; out.value() == value.as_bytes());
     Ok(())
 }
 
 #[test]
 fn a_put_comes_between(rt: HostRuntime) -> Result<(), Fail> {
-    expect_got(&rt, 0, true, 1, Got::Again { first: 0, last: 2 }, "")?;
-    expect_got(&rt, 0, true, 2, Got::Hit { stamp: 1 }, "1")?;
+    expect_got(&rt, [0, 8, 8], 1, Got::Again { first: 0, last: 2 }, "")?;
+    expect_got(&rt, [0, 8, 8], 2, Got::Hit { stamp: 1 }, "1")?;
     Ok(())
 }
 
 #[test]
 fn a_put_is_under_way(rt: HostRuntime) -> Result<(), Fail> {
-    expect_got(&rt, 1, false, 1, Got::Again { first: 1, last: 1 }, "")?;
+    expect_got(&rt, [1, 1, 1], 1, Got::Again { first: 1, last: 1 }, "")?;
     Ok(())
 }
 
 #[test]
 fn no_put_has_begun(rt: HostRuntime) -> Result<(), Fail> {
-    expect_got(&rt, 0, false, 1, Got::Miss { stamp: 0 }, "")?;
+    expect_got(&rt, [0, 0, 0], 1, Got::Miss { stamp: 0 }, "")?;
+    Ok(())
+}
+
+// Two tries find the put begun and marked, the third one finds it done.
+#[test]
+fn each_try_has_a_cut_of_its_own(rt: HostRuntime) -> Result<(), Fail> {
+    expect_got(&rt, [1, 2, 8], 2, Got::Again { first: 1, last: 1 }, "")?;
+    expect_got(&rt, [1, 2, 8], 3, Got::Hit { stamp: 1 }, "1")?;
     Ok(())
 }

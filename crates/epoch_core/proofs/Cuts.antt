@@ -54,3 +54,40 @@ cut_few cuts most (suc i) few = either (cases_lt i (length cuts))
     either (cases_lt 0 (length cuts))
     (λ some. let le = few (length cuts - 1) (omega arith) in omega arith)
     (λ none. let nothing = get_or_past cuts (length cuts - 1) 0 (omega arith) in omega arith))
+
+pub cut_grows : (cuts : List ℕ) (n more : ℕ) → Rises cuts → cut_at cuts n ≤ cut_at cuts (n + more)
+cut_grows cuts n zero rise = let same = ap (cut_at cuts) (add_zero n) in omega arith
+  where
+    add_zero : (n : ℕ) → n + 0 ≡ n
+    add_zero n = omega arith
+cut_grows cuts n (suc more) rise =
+    let before = cut_grows cuts n more rise in
+    let one = cut_rises cuts (n + more) rise in
+    let same = ap (cut_at cuts) (add_suc n more) in
+    omega arith
+  where
+    add_suc : (n more : ℕ) → n + suc more ≡ n + more + 1
+    add_suc n more = omega arith
+
+abbrev last : List ℕ → ℕ
+last cuts = get_or cuts (length cuts - 1) 0
+
+last_then : (cuts : List ℕ) (n : ℕ) → cut_at cuts (n + (length cuts + 1)) ≡ last cuts
+last_then cuts n = ap (cut_at cuts) (one_more n) ∙ cut_past cuts (n + length cuts) (omega arith)
+  where
+    one_more : (n : ℕ) → n + (length cuts + 1) ≡ suc (n + length cuts)
+    one_more n = omega arith
+
+pub still_at_last : (cuts : List ℕ) (n played : ℕ) → Rises cuts → played ≡ cut_at cuts n → played ≡ last cuts → (m : ℕ) → n < m → cut_at cuts m ≡ played
+still_at_last cuts n played rise at end m less =
+    let up = cut_grows cuts n (m - n) rise in
+    let there = ap (cut_at cuts) (later n m less) in
+    let most = cut_grows cuts m (length cuts + 1) rise in
+    let then = last_then cuts m in
+    omega arith
+  where
+    later : (n m : ℕ) → n < m → n + (m - n) ≡ m
+    later n m less = omega arith
+
+pub last_of_still : (cuts : List ℕ) (n played : ℕ) → ((m : ℕ) → n < m → cut_at cuts m ≡ played) → played ≡ last cuts
+last_of_still cuts n played still = sym (still (n + (length cuts + 1)) (omega arith)) ∙ last_then cuts n

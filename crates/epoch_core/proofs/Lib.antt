@@ -25,4 +25,5 @@ pub mod LoadKeeps
 pub mod Meeting
 pub mod JoinKeeps
 pub mod ScriptKeeps
+pub mod Settling
 pub mod Cuts

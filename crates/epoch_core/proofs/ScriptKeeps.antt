@@ -1,6 +1,7 @@
 -- Each step of a script keeps the rule of the one-word table whose seat has a book.
-use Rattle.std.proofs.Common.{◌≡◌, ℕ, zero, suc, ◌+◌, ◌<◌, ◌^◌, List, [], ◌∷◌, ◌++◌, map, drop, length, get_or, set, refl, sym, ap, ◌∙◌, subst, ⊎_elim, arith, drop-cons}
+use Rattle.std.proofs.Common.{◌≡◌, ℕ, zero, suc, ◌+◌, ◌<◌, ◌^◌, List, [], ◌∷◌, ◌++◌, map, drop, length, get_or, set, refl, sym, ap, ◌∙◌, subst, ⊎_elim, arith, drop-cons, take, append_assoc}
 use Rattle.std.proofs.lemmas.List.{append-nil}
+use Rattle.std.proofs.Math.Seq.{take-append_seam}
 use mathlib.Core.Option.{some, none, some-injective}
 use lib.ListN.{get_elem?}
 use Rattle.atomic_table.specs.Table.{step, keeps, opening, Allows}
@@ -11,14 +12,19 @@ use Rattle.epoch_core.specs.declared.event.Event.TheVariants.{Begins, Marks, Put
 use Rattle.epoch_core.specs.declared.event.OwnerEvent.{OwnerEvent}
 use Rattle.epoch_core.specs.declared.state.OwnerState.{OwnerState}
 use Rattle.epoch_core.specs.declared.reader.ReaderState.{ReaderState}
+use Rattle.epoch_core.specs.declared.plain.Script.{Script}
+use Rattle.epoch_core.specs.declared.scripted.Plan.{Plan}
+use Rattle.epoch_core.specs.declared.scripted.Look.{Look}
+use Rattle.epoch_core.specs.declared.scripted.Look.TheVariants.{FirstEpoch, Word, Stamp, LastEpoch}
 use Rattle.epoch_core.specs.declared.scripted.Book.{Book}
 use Rattle.epoch_core.specs.Shape.{IsValidShape}
 use Rattle.epoch_core.specs.OwnerState.{as_made}
 use Rattle.epoch_core.specs.Events.{IsAllowed, place_of, after, CanPlay, plays}
 use Rattle.epoch_core.specs.Diary.{owner_event}
 use Rattle.epoch_core.specs.Kept.{Kept}
+use Rattle.epoch_core.specs.ReaderState.{newcomer}
 use Rattle.epoch_core.specs.ReaderKept.{ReaderKept}
-use Rattle.epoch_core.specs.Script.{BookFits, AllFit, opening_book, Reading, laid, next_owner, first_of, rest_of, play_next, played, Look, first, word, stamp, last, look_at, MayLook, looked, owner_place, owner_sum}
+use Rattle.epoch_core.specs.Script.{owner_at, plan_of, look_at, MayLook, reads_on, BookFits, AllFit, opening_book, Reading, next_owner, first_of, rest_of, play_next, played, look_next, IsTime, looked, owner_place, owner_sum}
 use Rattle.epoch_core.proofs.Made.{kept_as_made}
 use Rattle.epoch_core.proofs.Marked.{ends_main}
 use Rattle.epoch_core.proofs.Keeps.{kept_after}
@@ -29,68 +35,105 @@ use Rattle.epoch_core.proofs.JoinKeeps.{lends}
 use Rattle.epoch_core.proofs.DiaryKeeps.{plays_more}
 
 next_fits : (b : Book) → BookFits b → BookFits (play_next b)
-next_fits b f = by_rest b.rest f.rest
+next_fits b f = by_rest b.rest f.script f.rest
   where
-    by_rest : (rest : List Event) → CanPlay rest b.owner → BookFits (record b { owner = next_owner rest b.owner; played = b.played ++ first_of rest; rest = rest_of rest })
-    by_rest [] can = record {
+    by_rest : (rest : List Event) → b.played ++ rest ≡ b.plan.events → CanPlay rest b.owner
+        → BookFits (record b { owner = next_owner rest b.owner; played = b.played ++ first_of rest; rest = rest_of rest })
+    by_rest [] script can = record {
       owner = f.owner;
       reader = f.reader;
-      played = f.played ∙ ap (λ (z : List Event). plays z (as_made b.owner.shape)) (sym (append-nil b.played));
+      script = ap (λ (z : List Event). z ++ []) (append-nil b.played) ∙ script;
+      played = f.played ∙ ap (λ (z : List Event). plays z (as_made b.plan.shape)) (sym (append-nil b.played));
       rest = tt;
+      looks = f.looks;
     }
-    by_rest (e ∷ es) can = record {
+    by_rest (e ∷ es) script can = record {
       owner = kept_after b.owner f.owner e can.0;
       reader = reader_grows b.owner (after e b.owner) (grows b.owner f.owner e can.0) b.reader f.reader;
-      played = ap (after e) f.played ∙ sym (plays_more b.played e (as_made b.owner.shape));
+      script = append_assoc b.played (e ∷ []) es ∙ script;
+      played = ap (after e) f.played ∙ sym (plays_more b.played e (as_made b.plan.shape));
       rest = can.1;
+      looks = f.looks;
     }
 
 look_fits : (look : Look) (o : OwnerState) (r : ReaderState) → Kept o → ReaderKept o r → MayLook look r → ReaderKept o (look_at look o r)
-look_fits (first b) o r s k may = opens o s r k b may
-look_fits (word place) o r s k may = loads o s r k place
-look_fits stamp o r s k may = stamps o s r k
-look_fits (last b) o r s k may = shuts o s r k b may
+look_fits (FirstEpoch b) o r s k may = opens o s r k b may
+look_fits (Word place) o r s k may = loads o s r k place
+look_fits Stamp o r s k may = stamps o s r k
+look_fits (LastEpoch b) o r s k may = shuts o s r k b may
 
 pub more_loads : (look : Look) (o : OwnerState) (r : ReaderState) → (look_at look o r).loads ≡ r.loads + 1
-more_loads (first b) o r = refl
-more_loads (word place) o r = refl
-more_loads stamp o r = refl
-more_loads (last b) o r = refl
+more_loads (FirstEpoch b) o r = refl
+more_loads (Word place) o r = refl
+more_loads Stamp o r = refl
+more_loads (LastEpoch b) o r = refl
 
 pub same_shape : (look : Look) (o : OwnerState) (r : ReaderState) → (look_at look o r).shape ≡ r.shape
-same_shape (first b) o r = refl
-same_shape (word place) o r = refl
-same_shape stamp o r = refl
-same_shape (last b) o r = refl
+same_shape (FirstEpoch b) o r = refl
+same_shape (Word place) o r = refl
+same_shape Stamp o r = refl
+same_shape (LastEpoch b) o r = refl
 
-module _ (slots id : ℕ) (me : Reading) where
-  all_fit : (vs : List Book) (p : Book) → BookFits p → ((j : ℕ) (b : Book) → get_elem? vs j ≡ some b → BookFits b)
-      → (j : ℕ) (b : Book) → get_elem? (set vs id p) j ≡ some b → BookFits b
-  all_fit vs p fit all j b at = ⊎_elim (λ (t : (j ≡ id) × (p ≡ b)). subst BookFits t.1 fit) (λ t. all j b t.1) (at_set vs id j p b at)
+-- The numbers of the loads
 
-  pub plays_at : (i n : ℕ) → Allows AllFit slots id me i (λ _. n) (λ _. played (step slots i n 0 none) me n)
+loads_on : (plan : Plan) (n : ℕ) (looks : List Look) (r : ReaderState) → (reads_on plan n looks r).loads ≡ r.loads + length looks
+loads_on plan n [] r = omega arith
+loads_on plan n (look ∷ looks) r =
+    let rest = loads_on plan (n + 1) looks (look_at look (owner_at plan (n + 1)) r) in
+    let one = more_loads look (owner_at plan (n + 1)) r in
+    omega arith
+
+pub loads_counted : (b : Book) → BookFits b → b.reader.loads ≡ length b.looks
+loads_counted b f = let on = loads_on b.plan 0 b.looks (newcomer b.plan.shape [] []) in let same = ap (λ (z : ReaderState). z.loads) f.looks in omega arith
+
+reads_more : (plan : Plan) (n : ℕ) (looks : List Look) (look : Look) (r : ReaderState)
+    → reads_on plan n (looks ++ look ∷ []) r ≡ look_at look (owner_at plan (n + length looks + 1)) (reads_on plan n looks r)
+reads_more plan n [] look r = ap (λ (z : ℕ). look_at look (owner_at plan z) r) (omega arith)
+reads_more plan n (l ∷ looks) look r =
+    let q : ReaderState = look_at l (owner_at plan (n + 1)) r in
+    reads_more plan (n + 1) looks look q ∙ ap (λ (z : ℕ). look_at look (owner_at plan z) (reads_on plan (n + 1) looks q)) (omega arith)
+
+-- the owner of the book is the plan's at the next load
+pub owner_then : (b : Book) → BookFits b → IsTime b → b.owner ≡ owner_at b.plan (b.reader.loads + 1)
+owner_then b f time = f.played ∙ ap (λ (z : List Event). plays z (as_made b.plan.shape))
+    (sym (take-append_seam b.played b.rest) ∙ (ap (take (length b.played)) f.script ∙ ap (λ (z : ℕ). take z b.plan.events) time))
+
+book_looks : (look : Look) (b : Book) → BookFits b → MayLook look b.reader → IsTime b → BookFits (look_next look b)
+book_looks look b f may time = let count = loads_counted b f in let number : b.reader.loads + 1 ≡ 0 + length b.looks + 1 = omega arith in record {
+  owner = f.owner;
+  reader = look_fits look b.owner b.reader f.owner f.reader may;
+  script = f.script;
+  played = f.played;
+  rest = f.rest;
+  looks = (λ i. look_at look ((owner_then b f time ∙ ap (owner_at b.plan) number) i) (f.looks i))
+      ∙ sym (reads_more b.plan 0 b.looks look (newcomer b.plan.shape [] []));
+}
+
+module _ (script : Script) (slots id : ℕ) (me : Reading) where
+  all_fit : (vs : List Book) (p : Book) → (p.plan ≡ plan_of script) × BookFits p → ((j : ℕ) (b : Book) → get_elem? vs j ≡ some b → (b.plan ≡ plan_of script) × BookFits b)
+      → (j : ℕ) (b : Book) → get_elem? (set vs id p) j ≡ some b → (b.plan ≡ plan_of script) × BookFits b
+  all_fit vs p fit all j b at =
+      ⊎_elim (λ (t : (j ≡ id) × (p ≡ b)). subst (λ (z : Book). (z.plan ≡ plan_of script) × BookFits z) t.1 fit) (λ t. all j b t.1) (at_set vs id j p b at)
+
+  pub plays_at : (i n : ℕ) → Allows (AllFit script) slots id me i (λ _. n) (λ _. played (step slots i n 0 none) me n)
   plays_at i n s all _ at _ =
       let f = all id me.0 at in
-      (play_next me.0, keeps, tt, all_fit s.views (play_next me.0) (next_fits me.0 f) all, (refl, f))
+      (play_next me.0, keeps, tt, all_fit s.views (play_next me.0) (f.0, next_fits me.0 f.1) all, (refl, f.1))
 
-  pub lays_at : (events : List Event) (i n : ℕ) → CanPlay events me.0.owner → Allows AllFit slots id me i (λ _. n) (λ _. laid events (step slots i n 0 none) me n)
-  lays_at events i n can s all _ at _ =
+  pub looks_at : (look : Look) (i n : ℕ) → MayLook look me.0.reader → IsTime me.0 → Allows (AllFit script) slots id me i (λ _. n) (λ _. looked look (step slots i n 0 none) me n)
+  looks_at look i n may time s all _ at _ =
       let f = all id me.0 at in
-      let p : Book = record me.0 { rest = events } in
-      (p, keeps, tt, all_fit s.views p (record { owner = f.owner; reader = f.reader; played = f.played; rest = can }) all, refl)
+      let fits = book_looks look me.0 f.1 may time in
+      (look_next look me.0, keeps, tt, all_fit s.views (look_next look me.0) (f.0, fits) all, (refl, f.1, fits))
 
-  pub looks_at : (look : Look) (i n : ℕ) → MayLook look me.0.reader → Allows AllFit slots id me i (λ _. n) (λ _. looked look (step slots i n 0 none) me n)
-  looks_at look i n may s all _ at _ =
-      let f = all id me.0 at in
-      let p : Book = record me.0 { reader = look_at look me.0.owner me.0.reader } in
-      let fits : BookFits p = record { owner = f.owner; reader = look_fits look me.0.owner me.0.reader f.owner f.reader may; played = f.played; rest = f.rest } in
-      (p, keeps, tt, all_fit s.views p fits all, (refl, f))
-
-pub starts : (shape : Shape) (words : List ℕ) → IsValidShape shape → AllFit (opening words [] (opening_book shape))
-starts shape words valid zero b at =
-    let s = kept_as_made shape valid in
-    subst BookFits (some-injective _ _ at) record { owner = s; reader = lends (as_made shape) s; played = refl; rest = tt }
-starts shape words valid (suc j) b at = absurd (cc at)
+pub starts : (script : Script) (words : List ℕ) → IsValidShape script.shape → CanPlay script.token.me.0.kept (as_made script.shape)
+    → AllFit script (opening words [] (opening_book (plan_of script)))
+starts script words valid can zero b at =
+    let plan : Plan = plan_of script in
+    let s = kept_as_made plan.shape valid in
+    subst (λ (z : Book). (z.plan ≡ plan) × BookFits z) (some-injective _ _ at)
+    (refl, record { owner = s; reader = lends (as_made plan.shape) s; script = refl; played = refl; rest = can; looks = refl })
+starts script words valid can (suc j) b at = absurd (cc at)
 
 -- the next event of a script, by what is in memory of it
 

@@ -17,3 +17,4 @@ pub mod Joins
 pub mod OwnerStep
 pub mod Diary
 pub mod Script
+pub mod Seats

@@ -1,5 +1,5 @@
--- A reader of one thread between whose loads a script of an owner's events is played.
-use Rattle.std.specs.Prelude.{◌≡◌, ℕ, zero, suc, ◌+◌, ◌-◌, ◌<◌, ◌≤◌, List, [], ◌∷◌, ◌++◌, length, slice_index, get_or, Some}
+-- A reader of one thread, between whose loads the events of an owner are played as a plan says.
+use Rattle.std.specs.Prelude.{◌≡◌, ◌≢◌, ℕ, zero, suc, ◌+◌, ◌-◌, ◌<◌, ◌≤◌, Bool, true, false, List, [], ◌∷◌, ◌++◌, length, take, slice_index, get_or, Some}
 use mathlib.Core.Option.{some}
 use lib.ListN.{get_elem?}
 use Rattle.atomic_table.specs.Table.{State, Me, Step}
@@ -9,10 +9,16 @@ use Rattle.mica_model.specs.Write.{write_of}
 use Rattle.epoch_core.specs.declared.shape.Shape.{Shape}
 use Rattle.epoch_core.specs.declared.event.Event.{Event}
 use Rattle.epoch_core.specs.declared.event.OwnerEvent.{OwnerEvent}
-use Rattle.epoch_core.specs.declared.event.OwnerEvent.TheVariants.{Begin, End}
+use Rattle.epoch_core.specs.declared.event.OwnerEvent.TheVariants.{Begin, Mark, End}
 use Rattle.epoch_core.specs.declared.state.OwnerState.{OwnerState}
+use Rattle.epoch_core.specs.declared.state.Phase.{Phase}
+use Rattle.epoch_core.specs.declared.state.Phase.TheVariants.{Idle}
 use Rattle.epoch_core.specs.declared.reader.Try.{Try}
 use Rattle.epoch_core.specs.declared.reader.ReaderState.{ReaderState}
+use Rattle.epoch_core.specs.declared.plain.Script.{Script}
+use Rattle.epoch_core.specs.declared.scripted.Plan.{Plan}
+use Rattle.epoch_core.specs.declared.scripted.Look.{Look}
+use Rattle.epoch_core.specs.declared.scripted.Look.TheVariants.{FirstEpoch, Word, Stamp, LastEpoch}
 use Rattle.epoch_core.specs.declared.scripted.Book.{Book}
 use Rattle.epoch_core.specs.Shape.{IsMain}
 use Rattle.epoch_core.specs.Layout.{epoch_at}
@@ -23,40 +29,85 @@ use Rattle.epoch_core.specs.Kept.{Kept}
 use Rattle.epoch_core.specs.ReaderState.{newcomer, opened, loaded, stamped, shut}
 use Rattle.epoch_core.specs.ReaderKept.{ReaderKept}
 
--- Cuts
+-- The plan
 
--- they never fall
+-- the cuts never fall
 abbrev pub Rises : List ℕ → Type 0
 Rises cuts = (i j : ℕ) → i ≤ j → j < length cuts → slice_index cuts i ≤ slice_index cuts j
 
 abbrev pub NoneAbove : ℕ → List ℕ → Type 0
 NoneAbove n cuts = (i : ℕ) → i < length cuts → slice_index cuts i ≤ n
 
--- How many events have been played after so many loads: past the end of the cuts the last one counts.
+-- How many events have been played when the load of this number happens, from 1: past the end of the cuts the
+-- last one counts.
 abbrev pub cut_at : List ℕ → ℕ → ℕ
 cut_at cuts zero = 0
 cut_at cuts (suc i) = get_or cuts i (slice_index cuts (length cuts - 1))
 
+-- the owner's state when the load of this number happens
+abbrev pub owner_at : Plan → ℕ → OwnerState
+owner_at plan n = plays (take (cut_at plan.cuts n) plan.events) (as_made plan.shape)
+
+abbrev pub plan_of : Script → Plan
+plan_of script = record { shape = script.shape; events = script.token.me.0.kept; cuts = script.cuts.items }
+
+-- The loads
+
+abbrev pub look_at : Look → OwnerState → ReaderState → ReaderState
+look_at (FirstEpoch b) o r = opened b (slice_index o.words (epoch_at b)) r
+look_at (Word place) o r = loaded place (slice_index o.words place) r
+look_at Stamp o r = stamped o.history r
+look_at (LastEpoch b) o r = shut (slice_index o.words (epoch_at b)) r
+
+abbrev pub MayLook : Look → ReaderState → Type 0
+MayLook (FirstEpoch b) r = IsMain r.shape b
+MayLook (Word place) r = Unit {0}
+MayLook Stamp r = Unit {0}
+MayLook (LastEpoch b) r = (t : Try) → r.current ≡ Some t → t.bucket ≡ b
+
+-- the try that is open after the load is of this main bucket
+abbrev pub StaysIn : Shape → ℕ → Look → ReaderState → Type 0
+StaysIn shape b look r = (o : OwnerState) (t : Try) → (look_at look o r).current ≡ Some t
+    → (t.bucket ≡ b) × IsMain shape b
+
+-- the reader after some loads more, where n were before
+abbrev pub reads_on : Plan → ℕ → List Look → ReaderState → ReaderState
+reads_on plan n [] r = r
+reads_on plan n (look ∷ looks) r = reads_on plan (n + 1) looks (look_at look (owner_at plan (n + 1)) r)
+
+-- the reader after these loads, each at the owner's state of its number
+abbrev pub reader_after : Plan → List Look → ReaderState
+reader_after plan looks = reads_on plan 0 looks (newcomer plan.shape [] [])
+
 -- The book
 
--- What is kept of the owner and of the reader, as after the events that were played. The others can follow.
+-- What is kept of the owner and of the reader. Both are as the plan says: the owner after the events that were
+-- played, whom the others can follow, and the reader after its loads.
 pub record BookFits (b : Book) : Type 0 where
   pub owner : Kept b.owner
   pub reader : ReaderKept b.owner b.reader
-  pub played : b.owner ≡ plays b.played (as_made b.owner.shape)
+  pub script : b.played ++ b.rest ≡ b.plan.events
+  pub played : b.owner ≡ plays b.played (as_made b.plan.shape)
   pub rest : CanPlay b.rest b.owner
+  pub looks : b.reader ≡ reader_after b.plan b.looks
 
-abbrev pub AllFit : State (Unit {0}) Book → Type 0
-AllFit s = (j : ℕ) (b : Book) → get_elem? s.views j ≡ some b → BookFits b
+-- The plan is the script's, for good.
+abbrev pub AllFit : Script → State (Unit {0}) Book → Type 0
+AllFit script s = (j : ℕ) (b : Book) → get_elem? s.views j ≡ some b → (b.plan ≡ plan_of script) × BookFits b
 
-abbrev pub opening_book : Shape → Book
-opening_book shape = record { owner = as_made shape; reader = newcomer shape [] []; played = []; rest = [] }
+abbrev pub opening_book : Plan → Book
+opening_book plan =
+    record {
+      plan = plan;
+      owner = as_made plan.shape;
+      reader = newcomer plan.shape [] [];
+      played = [];
+      rest = plan.events;
+      looks = [];
+    }
 
 abbrev pub Reading : Type 0
 Reading = Me (Unit {0}) Book
-
-abbrev pub laid : List Event → Step (Unit {0}) → Reading → ℕ → Reading → Type 0
-laid events step me n now = now ≡ (record me.0 { rest = events }, me.1)
 
 -- the next event
 
@@ -82,34 +133,22 @@ play_next b = record b {
 abbrev pub played : Step (Unit {0}) → Reading → ℕ → Reading → Type 0
 played step me n now = (now ≡ (play_next me.0, me.1)) × BookFits me.0
 
--- a load
+-- the next load
 
-pub data Look : Type 0 where
-  first : ℕ → Look
-  word : ℕ → Look
-  stamp : Look
-  last : ℕ → Look
+abbrev pub look_next : Look → Book → Book
+look_next look b = record b { reader = look_at look b.owner b.reader; looks = b.looks ++ look ∷ [] }
 
-abbrev pub look_at : Look → OwnerState → ReaderState → ReaderState
-look_at (first b) o r = opened b (slice_index o.words (epoch_at b)) r
-look_at (word place) o r = loaded place (slice_index o.words place) r
-look_at stamp o r = stamped o.history r
-look_at (last b) o r = shut (slice_index o.words (epoch_at b)) r
-
-abbrev pub MayLook : Look → ReaderState → Type 0
-MayLook (first b) r = IsMain r.shape b
-MayLook (word place) r = Unit {0}
-MayLook stamp r = Unit {0}
-MayLook (last b) r = (t : Try) → r.current ≡ Some t → t.bucket ≡ b
-
--- the try that is open after the load is of this main bucket
-abbrev pub StaysIn : Shape → ℕ → Look → ReaderState → Type 0
-StaysIn shape b look r = (o : OwnerState) (t : Try) → (look_at look o r).current ≡ Some t
-    → (t.bucket ≡ b) × IsMain shape b
+-- as many events have been played as the plan has before the next load
+abbrev pub IsTime : Book → Type 0
+IsTime b = length b.played ≡ cut_at b.plan.cuts (b.reader.loads + 1)
 
 abbrev pub looked : Look → Step (Unit {0}) → Reading → ℕ → Reading → Type 0
-looked look step me n now =
-    (now ≡ (record me.0 { reader = look_at look me.0.owner me.0.reader }, me.1)) × BookFits me.0
+looked look step me n now = (now ≡ (look_next look me.0, me.1)) × BookFits me.0 × BookFits (look_next look me.0)
+
+-- No later load plays an event, and no write is begun.
+pub record IsSettled (b : Book) : Type 0 where
+  pub still : (n : ℕ) → b.reader.loads < n → cut_at b.plan.cuts n ≡ length b.played
+  pub idle : b.owner.phase ≡ Idle
 
 -- Events in memory: where each stores, and what, which no write of a mark decides.
 
@@ -127,3 +166,15 @@ abbrev pub owner_sum : OwnerEvent → ℕ → ℕ
 owner_sum (Begin b) n = n + 1
 owner_sum (End b) n = n + 1
 owner_sum _ n = 0
+
+-- whether a write is begun and has not ended
+
+abbrev pub is_writing : Phase → Bool
+is_writing Idle = false
+is_writing _ = true
+
+abbrev pub writing_after : OwnerEvent → Bool → Bool
+writing_after (Begin b) writing = true
+writing_after (Mark n) writing = true
+writing_after (End b) writing = false
+writing_after _ writing = writing

@@ -27,7 +27,7 @@ pub use partition::Partition;
 pub use plain::{Alone, Blank, Diary, PlainWords};
 pub use reader::{Cut, Known, ReaderState, Try};
 pub use reading::ReaderWords;
-pub use scripted::{Book, Plot, Scripted};
+pub use scripted::{Book, Look, Plan, Plot, Scripted};
 pub use shape::{Shape, WordAt};
 pub use state::{Failure, Met, OwnerState, Phase};
 pub use words::OwnerWords;

@@ -127,11 +127,13 @@ fn happen<K: Happens>(
 }
 
 impl PlainWords {
+    ghost use Rattle.epoch_core.specs.Seats.{diary_of};
+
     /// Words as made, and room for so many of the first events.
     pub fn new(alloc: Global, shape: &Shape, log_room: u32) -> Result<PlainWords, NoMemory>
         requires { IsValidShape shape.now }
-        ensures made { IfOk result (λ w. w.seat.me.0.owner ≡ as_made shape.now) }
-        ensures log { IfOk result (λ w. (w.seat.me.0.kept ≡ []) × (w.seat.me.0.room ≡ log_room)) }
+        ensures made { IfOk result (λ w. (diary_of w).owner ≡ as_made shape.now) }
+        ensures log { IfOk result (λ w. ((diary_of w).kept ≡ []) × ((diary_of w).room ≡ log_room)) }
     {
         let words = vec![in alloc; 0u64; shape.word_count()]?;
         let events = Vec::with_capacity(alloc, log_room as usize)?;
@@ -151,27 +153,29 @@ impl PlainWords {
 
     /// The first events but loads, as many as there was room for.
     pub fn events(&self) -> &[OwnerEvent]
-        ensures { result.now ≡ map owner_event self.now.seat.me.0.kept }
+        ensures { result.now ≡ map owner_event (diary_of self.now).kept }
     {
         self.events.as_slice()
     }
 }
 
-/// The kept events, and a token that knows the writes of their marks.
+/// The kept events, a token that knows the writes of their marks, and how many of them have been played when each
+/// load of a reader happens.
 #[derive(Drop)]
 pub(crate) struct Script {
     pub events: Vec<OwnerEvent>,
     pub shape: Shape,
     pub token: Seat<(), Diary>,
+    pub cuts: Vec<u32>,
 }
 
 impl PlainWords {
     // Leaves the words behind.
-    pub(crate) fn into_script(self) -> Script
+    pub(crate) fn into_script(self, cuts: Vec<u32>) -> Script
         ensures events { result.events.items ≡ map owner_event result.token.me.0.kept }
         ensures can { CanPlay result.token.me.0.kept (as_made result.shape) }
         ensures valid { is_in_range result.shape ≡ true }
-        ensures same { (result.shape ≡ self.shape) × (result.token.me ≡ self.seat.me) }
+        ensures same { (result.shape ≡ self.shape) × (result.token.me ≡ self.seat.me) × (result.cuts ≡ cuts) }
     {
         let PlainWords {
             words: _,
@@ -187,6 +191,7 @@ impl PlainWords {
             events,
             shape,
             token,
+            cuts,
         }
     }
 }

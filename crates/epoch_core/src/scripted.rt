@@ -1,17 +1,15 @@
 //! A reader of one thread, between whose loads the kept events of an owner are played.
-ghost use Rattle.std.specs.Prelude.{◌≡◌, ℕ, ◌+◌, ◌<◌, ◌≤◌, ◌^◌, true, [], map, drop, length, min, slice_index, slice_set, Some, IfOk};
+ghost use Rattle.std.specs.Prelude.{◌≡◌, ℕ, ◌+◌, ◌-◌, ◌<◌, ◌≤◌, ◌^◌, ◌↔◌, true, map, drop, length, min, slice_index, slice_set, Some, IsTrue};
 ghost use Rattle.epoch_core.specs.declared.reader.Try.{Try};
 ghost use Rattle.epoch_core.specs.Shape.{IsMain, is_in_range};
 ghost use Rattle.epoch_core.specs.Layout.{word_count};
 ghost use Rattle.epoch_core.specs.Kept.{Kept};
 ghost use Rattle.epoch_core.specs.ReaderKept.{ReaderKept};
-ghost use Rattle.epoch_core.specs.Events.{CanPlay};
 ghost use Rattle.epoch_core.specs.Diary.{owner_event};
-ghost use Rattle.epoch_core.specs.ReaderState.{newcomer};
-ghost use Rattle.epoch_core.specs.Script.{Rises, NoneAbove, cut_at, BookFits, MayLook, StaysIn, look_at, owner_place, owner_word, owner_sum};
+ghost use Rattle.epoch_core.specs.Script.{Rises, NoneAbove, cut_at, look_at, reader_after, BookFits, MayLook, StaysIn, look_next, IsTime, IsSettled, owner_place, owner_word, owner_sum, is_writing, writing_after};
 
 use crate::event::{Event, OwnerEvent};
-use crate::plain::{Diary, PlainWords, Script};
+use crate::plain::{PlainWords, Script};
 use crate::reader::ReaderState;
 use crate::reading::ReaderWords;
 use crate::shape::{Shape, WordAt};
@@ -22,49 +20,45 @@ use std::alloc::Global;
 use std::collections::LinkedList;
 use std::marker::{Brand, PhantomData};
 
-/// The owner's state so far, the reader's, the events that were played, and those that are left. No value of
-/// it is made.
+/// What is laid down: an owner's events from words as made on, and how many of them have been played when each
+/// load happens. No value of it is made.
+pub struct Plan {
+    pub shape: Shape,
+    pub events: LinkedList<Event>,
+    pub cuts: LinkedList<u64>,
+}
+
+/// A load. No value of it is made.
+pub enum Look {
+    /// The bucket.
+    FirstEpoch(u64),
+    /// The place of an entry, a link or an item word.
+    Word(u64),
+    Stamp,
+    /// The bucket.
+    LastEpoch(u64),
+}
+
+/// The plan, the owner's state so far, the reader's, the events that were played, those that are left, and the
+/// loads. No value of it is made.
 pub struct Book {
+    pub plan: Plan,
     pub owner: OwnerState,
     pub reader: ReaderState,
     pub played: LinkedList<Event>,
     pub rest: LinkedList<Event>,
+    pub looks: LinkedList<Look>,
 }
 
-/// The rule of the one word, whose one seat has a book.
+/// The rule of the one word, whose one seat has a book. It is told the script, which nothing changes.
 pub struct Plot;
 
-impl TableRule<(), Book, Shape> for Plot {
-    ghost use Rattle.epoch_core.specs.Script.{AllFit, opening_book};
+impl TableRule<(), Book, Script> for Plot {
+    ghost use Rattle.epoch_core.specs.Script.{AllFit, plan_of, opening_book};
 
-    ghost holds = { λ _. AllFit };
+    ghost holds = { AllFit };
 
-    ghost first = { opening_book };
-}
-
-// The events of a script, for the proof alone.
-trait Names {
-    ghost use Rattle.std.specs.Prelude.{List};
-    ghost use Rattle.epoch_core.specs.declared.event.Event.{Event};
-
-    ghost events: { List Event };
-}
-
-impl Names for Brand {
-    ghost use Rattle.std.specs.Prelude.{[]};
-
-    ghost events = { [] };
-}
-
-// The script is laid down.
-struct Lays<K> {
-    script: PhantomData<K>,
-}
-
-impl<K: Names> Play<(), Book> for Lays<K> {
-    ghost use Rattle.epoch_core.specs.Script.{laid};
-
-    ghost then = { laid K.events };
+    ghost first = { λ script. opening_book (plan_of script) };
 }
 
 // The next event happens.
@@ -78,15 +72,15 @@ impl Play<(), Book> for Next {
 
 // Which load a step is, for the proof alone. Each call picks it.
 trait Looks {
-    ghost use Rattle.epoch_core.specs.Script.{Look};
+    ghost use Rattle.epoch_core.specs.declared.scripted.Look.{Look};
 
     ghost look: { Look };
 }
 
 impl Looks for Brand {
-    ghost use Rattle.epoch_core.specs.Script.{stamp};
+    ghost use Rattle.epoch_core.specs.declared.scripted.Look.TheVariants.{Stamp};
 
-    ghost look = { stamp };
+    ghost look = { Stamp };
 }
 
 // The load that K names.
@@ -100,14 +94,15 @@ impl<K: Looks> Play<(), Book> for DoesLook<K> {
     ghost then = { looked K.look };
 }
 
-// The words so far, the events, and how many of them were played.
+// The words so far, the events, how many of them were played, and whether the last write of these has not ended.
 #[derive(Drop)]
 struct Stage {
     words: Vec<u64>,
     events: Vec<OwnerEvent>,
     played: usize,
+    writing: bool,
     shape: Shape,
-    book: Table<(), Book, Shape, Plot, Global>,
+    book: Table<(), Book, Script, Plot, Global>,
     seat: Seat<(), Book>,
     pub ghost seated: { seat.table_id ≡ book.shared.table_id },
     pub ghost wide: { book.shared.table_id.words ≡ 1 },
@@ -116,6 +111,8 @@ struct Stage {
     pub ghost shaped: { seat.me.0.owner.shape ≡ shape },
     pub ghost script: { drop played events.items ≡ map owner_event seat.me.0.rest },
     pub ghost inside: { played ≤ length events.items },
+    pub ghost counted: { played ≡ length seat.me.0.played },
+    pub ghost begun: { writing ≡ is_writing seat.me.0.owner.phase },
 }
 
 /// A reader whose loads are numbered from 1. When load number `i` happens, the first `cuts[i - 1]` events have
@@ -130,6 +127,8 @@ pub struct Scripted {
     bucket: u32,
     pub ghost valid: { is_in_range stage.shape ≡ true },
     pub ghost read_shape: { stage.seat.me.0.reader.shape ≡ stage.shape },
+    pub ghost planned: { stage.seat.me.0.plan.cuts ≡ cuts.items },
+    pub ghost follows: { stage.seat.me.0.reader ≡ reader_after stage.seat.me.0.plan stage.seat.me.0.looks },
     pub ghost rise: { Rises cuts.items },
     pub ghost few: { NoneAbove (length stage.events.items) cuts.items },
     pub ghost counted: { loads ≡ min stage.seat.me.0.reader.loads (length cuts.items) },
@@ -176,30 +175,27 @@ fn apply(words: &mut Vec<u64>, shape: &Shape, event: OwnerEvent)
 }
 
 // The load that K names.
-fn look<K: Looks>(book: &Shared<(), Book, Shape, Plot>, seat: &mut Seat<(), Book>)
+fn take_look<K: Looks>(book: &Shared<(), Book, Script, Plot>, seat: &mut Seat<(), Book>)
     requires book { (seat.old.table_id ≡ book.now.table_id) × (0 < book.now.table_id.words) }
     requires may { MayLook K.look seat.old.me.0.reader }
-    ensures reader { seat.new.me.0.reader ≡ look_at K.look seat.old.me.0.owner seat.old.me.0.reader }
-    ensures owner { seat.new.me.0.owner ≡ seat.old.me.0.owner }
-    ensures rest { seat.new.me.0.rest ≡ seat.old.me.0.rest }
-    ensures fits { BookFits seat.old.me.0 }
+    requires time { IsTime seat.old.me.0 }
+    ensures book { seat.new.me.0 ≡ look_next K.look seat.old.me.0 }
+    ensures before { BookFits seat.old.me.0 }
+    ensures fits { BookFits (look_next K.look seat.old.me.0) }
     ensures seat { seat.new.table_id ≡ seat.old.table_id }
 {
     book.store::<DoesLook<K>>(seat, 0, 0);
 }
 
-// Lays down the script that K names.
-fn lay<K: Names>(
-    book: &Shared<(), Book, Shape, Plot>,
-    seat: &mut Seat<(), Book>,
-    _token: &Seat<(), Diary>,
-)
-    requires book { (seat.old.table_id ≡ book.now.table_id) × (0 < book.now.table_id.words) }
-    requires can { CanPlay K.events seat.old.me.0.owner }
-    ensures laid { seat.new.me.0 ≡ record seat.old.me.0 { rest = K.events } }
-    ensures seat { seat.new.table_id ≡ seat.old.table_id }
+// Whether a write is under way after the event.
+fn goes_on_writing(event: OwnerEvent, writing: bool) -> bool
+    ensures { result ≡ writing_after event writing }
 {
-    book.store::<Lays<K>>(seat, 0, 0);
+    match event {
+        OwnerEvent::Begin(_) | OwnerEvent::Mark(_) => true,
+        OwnerEvent::End(_) => false,
+        _ => writing,
+    }
 }
 
 impl Stage {
@@ -207,6 +203,8 @@ impl Stage {
     fn play(&mut self)
         requires { self.old.played < length self.old.events.items }
         ensures reader { self.new.seat.me.0.reader ≡ self.old.seat.me.0.reader }
+        ensures plan { (self.new.seat.me.0.plan ≡ self.old.seat.me.0.plan)
+            × (self.new.seat.me.0.looks ≡ self.old.seat.me.0.looks) }
         ensures same { (self.new.events ≡ self.old.events) × (self.new.shape ≡ self.old.shape) }
         ensures home { self.new.seat.table_id ≡ self.old.seat.table_id }
         ensures played { self.new.played ≡ self.old.played + 1 }
@@ -215,6 +213,7 @@ impl Stage {
         book.shared.store::<Next>(&mut self.seat, 0, 0);
         let event = self.events[self.played];
         apply(&mut self.words, &self.shape, event);
+        self.writing = goes_on_writing(event, self.writing);
         self.played += 1;
     }
 
@@ -223,6 +222,8 @@ impl Stage {
         requires later { self.old.played ≤ until }
         requires few { until ≤ length self.old.events.items }
         ensures reader { self.new.seat.me.0.reader ≡ self.old.seat.me.0.reader }
+        ensures plan { (self.new.seat.me.0.plan ≡ self.old.seat.me.0.plan)
+            × (self.new.seat.me.0.looks ≡ self.old.seat.me.0.looks) }
         ensures same { (self.new.events ≡ self.old.events) × (self.new.shape ≡ self.old.shape) }
         ensures home { self.new.seat.table_id ≡ self.old.seat.table_id }
         ensures played { self.new.played ≡ until }
@@ -234,31 +235,32 @@ impl Stage {
 }
 
 impl Scripted {
-    /// A reader of the words whose events the plain words kept, which begin empty. On `NoMemory` the plain
-    /// words are dropped.
+    ghost use Rattle.std.specs.Prelude.{IfOk};
+    ghost use Rattle.epoch_core.specs.Script.{opening_book};
+    ghost use Rattle.epoch_core.specs.Seats.{diary_of, book_of, plan_for};
+
+    /// A reader of the words whose events the plain words kept, which begin as made. On `NoMemory` the plain words
+    /// are dropped.
     pub fn new(alloc: Global, plain: PlainWords, cuts: &[u32]) -> Result<Scripted, NoMemory>
         requires rise { Rises cuts.now }
-        requires few { NoneAbove (length plain.seat.me.0.kept) cuts.now }
-        ensures made { IfOk result (λ s. s.stage.seat.me.0.reader ≡ newcomer plain.shape [] []) }
-        ensures script { IfOk result (λ s. (s.stage.seat.me.0.rest ≡ plain.seat.me.0.kept)
-            × (s.cuts.items ≡ cuts.now)) }
+        requires few { NoneAbove (length (diary_of plain).kept) cuts.now }
+        ensures made { IfOk result (λ s. book_of s ≡ opening_book (plan_for plain cuts.now)) }
     {
+        let script = plain.into_script(cuts.to_vec(alloc)?);
+        let words = vec![in alloc; 0u64; script.shape.word_count()]?;
+        let (book, seat) = Table::<(), Book, Script, Plot, Global>::of_words(alloc, &[0], &script)?;
         let Script {
             events,
             shape,
-            token,
-        } = plain.into_script();
-        let words = vec![in alloc; 0u64; shape.word_count()]?;
-        let cuts = cuts.to_vec(alloc)?;
-        let (book, seat) = Table::<(), Book, Shape, Plot, Global>::of_words(alloc, &[0], &shape)?;
-        let mut seat = seat;
-        let table = &book;
-        lay::<Brand>(&table.shared, &mut seat, &token);
+            token: _,
+            cuts,
+        } = script;
         Ok(Scripted {
             stage: Stage {
                 words,
                 events,
                 played: 0,
+                writing: false,
                 shape,
                 book,
                 seat,
@@ -269,16 +271,29 @@ impl Scripted {
         })
     }
 
+    /// Whether no later load plays an event, and each write that was begun has ended.
+    pub fn is_settled(&self) -> bool
+        ensures { IsTrue result ↔ IsSettled (book_of self.now) }
+    {
+        self.stage.played == self.last_cut() && !self.stage.writing
+    }
+
+    fn last_cut(&self) -> usize
+        ensures { result ≡ slice_index self.now.cuts.items (length self.now.cuts.items - 1) }
+    {
+        match self.cuts.last() {
+            Some(cut) => *cut as usize,
+            None => 0,
+        }
+    }
+
     // How many events are to have been played before the next load.
     fn next_cut(&self) -> usize
         ensures { result ≡ cut_at self.now.cuts.items (self.now.loads + 1) }
     {
         match self.cuts.get(self.loads) {
             Some(cut) => *cut as usize,
-            None => match self.cuts.last() {
-                Some(cut) => *cut as usize,
-                None => 0,
-            },
+            None => self.last_cut(),
         }
     }
 
@@ -309,7 +324,7 @@ impl Scripted {
         self.loads = self.next_loads();
         self.stage.play_to(until);
         let book = &self.stage.book;
-        look::<K>(&book.shared, &mut self.stage.seat);
+        take_look::<K>(&book.shared, &mut self.stage.seat);
         self.bucket = bucket;
         self.stage.words[place]
     }

@@ -2,7 +2,9 @@ use Rattle.std.proofs.Common.{◌≡◌, ℕ, ◌+◌, length, min, true, sym, a
 use Rattle.epoch_core.specs.declared.shape.Shape.{Shape}
 use Rattle.epoch_core.specs.declared.reader.ReaderState.{ReaderState}
 use Rattle.epoch_core.specs.Shape.{IsMain, is_in_range}
-use Rattle.epoch_core.specs.Script.{NoneAbove, cut_at, look_at}
+use Rattle.epoch_core.specs.declared.scripted.Plan.{Plan}
+use Rattle.epoch_core.specs.declared.scripted.Book.{Book}
+use Rattle.epoch_core.specs.Script.{NoneAbove, cut_at, look_at, reader_after}
 use Rattle.epoch_core.proofs.ScriptKeeps.{more_loads, same_shape}
 use Rattle.epoch_core.proofs.Cuts.{cut_min, min_more, cut_rises, cut_few}
 use Rattle.epoch_core.proofs.scripted.Scripted.load.Goals as goal
@@ -24,6 +26,15 @@ play_to-requires-clause-few g c =
     let few = cut_few self.cuts.items (length self.stage.events.items) (self.loads + 1) self.few in
     omega arith
 
+pub take_look-requires-clause-time : goal.take_look-requires-clause-time
+take_look-requires-clause-time g c =
+    let self = c.args.self.now in
+    let now = c.play_to.new.self in
+    let was = self.stage.seat.me.0.reader in
+    let e = c.play_to.ensures in
+    sym now.counted ∙ e.played ∙ c.next_cut-until.ensures ∙ ap (λ (z : ℕ). cut_at self.cuts.items (z + 1)) self.counted ∙ cut_min self.cuts.items was.loads
+    ∙ (λ i. cut_at ((sym self.planned ∙ ap (λ (z : Plan). z.cuts) (sym e.plan.0)) i) ((ap (λ (z : ReaderState). z.loads + 1) (sym e.reader)) i))
+
 pub invariant_of-self-2 : goal.invariant_of-self-2
 invariant_of-self-2 g c =
     let self = c.args.self.now in
@@ -31,11 +42,14 @@ invariant_of-self-2 g c =
     let was = self.stage.seat.me.0.reader in
     let owner = c.play_to.new.self.seat.me.0.owner in
     let e = c.play_to.ensures in
-    let read = c.look.ensures.reader ∙ ap (look_at g.K.Looks.look owner) e.reader in
-    let loads : c.look.new.seat.me.0.reader.loads ≡ was.loads + 1 = ap (λ (z : ReaderState). z.loads) read ∙ more_loads g.K.Looks.look owner was in
+    let book = c.take_look.ensures.book in
+    let read = ap (λ (z : Book). z.reader) book ∙ ap (look_at g.K.Looks.look owner) e.reader in
+    let loads : c.take_look.new.seat.me.0.reader.loads ≡ was.loads + 1 = ap (λ (z : ReaderState). z.loads) read ∙ more_loads g.K.Looks.look owner was in
     record {
       valid = subst (λ (z : Shape). is_in_range z ≡ true) (sym e.same.1) self.valid;
       read_shape = ap (λ (z : ReaderState). z.shape) read ∙ same_shape g.K.Looks.look owner was ∙ self.read_shape ∙ sym e.same.1;
+      planned = ap (λ (z : Book). z.plan.cuts) book ∙ ap (λ (z : Plan). z.cuts) e.plan.0 ∙ self.planned;
+      follows = subst (λ (z : Book). z.reader ≡ reader_after z.plan z.looks) (sym book) c.take_look.ensures.fits.looks;
       rise = self.rise;
       few = subst (λ (z : ℕ). NoneAbove z cuts) (ap (λ (z : _). length z.items) (sym e.same.0)) self.few;
       counted = c.next_loads-self.ensures ∙ ap (λ (z : ℕ). min (z + 1) (length cuts)) self.counted ∙ min_more was.loads (length cuts)

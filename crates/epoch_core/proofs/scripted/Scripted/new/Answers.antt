@@ -4,4 +4,7 @@ use Rattle.epoch_core.proofs.ScriptKeeps.{starts}
 use Rattle.epoch_core.proofs.scripted.Scripted.new.Goals as goal
 
 pub of_words-requires : goal.of_words-requires
-of_words-requires c = starts c.into_script-events.result.shape (0 ∷ []) (valid_in_range c.into_script-events.result.shape c.into_script-events.ensures.valid)
+of_words-requires c =
+    let script = c.into_script-script.result in
+    let e = c.into_script-script.ensures in
+    starts script (0 ∷ []) (valid_in_range script.shape e.valid) e.can

@@ -3,7 +3,7 @@ use Rattle.epoch_core.proofs.ScriptKeeps.{plays_at, next_fits_memory}
 use Rattle.epoch_core.proofs.scripted.Stage.play.Goals as goal
 
 pub store-requires : goal.store-requires
-store-requires c = (search rules, search rules, plays_at _ _ c.args.self.now.seat.me 0 0)
+store-requires c = (search rules, search rules, plays_at c.args.self.now.book.shared.key _ _ c.args.self.now.seat.me 0 0)
 
 pub apply-requires-clause-inside : goal.apply-requires-clause-inside
 apply-requires-clause-inside c =
