@@ -3,13 +3,13 @@ use Rattle.std.specs.Prelude.{ℕ, zero, suc, List, [], ◌∷◌, ◌++◌, Opt
 use Rattle.epoch_core.specs.declared.state.OwnerState.{OwnerState}
 use Rattle.partition_table.specs.declared.owner.OwnerSeat.{OwnerSeat}
 use Rattle.partition_table.specs.declared.tables.Entry.{Entry}
-use Rattle.partition_table.specs.Rule.{owner_in}
+use Rattle.partition_table.specs.Seats.{owner_state}
 
 abbrev pub entry_in : OwnerState → Entry
 entry_in o = record { shape = o.shape; history = o.history; closed = o.closed }
 
 abbrev pub entry_of : OwnerSeat → Entry
-entry_of s = entry_in (owner_in s.seat.me.0)
+entry_of s = entry_in (owner_state s)
 
 abbrev pub some_entry : Option OwnerSeat → List Entry
 some_entry None = []

@@ -1,17 +1,17 @@
 //! The one seat that writes.
-ghost use Rattle.std.specs.Prelude.{◌≡◌, ℕ, ◌<◌, ◌^◌, ◌+◌, true, IfOk};
+ghost use Rattle.std.specs.Prelude.{◌≡◌, ℕ, ◌+◌, true};
 ghost use Rattle.std.specs.Arc.{arc_value};
-ghost use Rattle.epoch_core.specs.Shape.{IsValidShape, IsMain, is_in_range};
+ghost use Rattle.epoch_core.specs.Shape.{IsMain, is_in_range};
 ghost use Rattle.epoch_core.specs.Layout.{epoch_at, word_count};
-ghost use Rattle.epoch_core.specs.OwnerState.{as_made};
 ghost use Rattle.epoch_core.specs.Events.{IsAllowed, place_of, word_after, after};
 ghost use Rattle.epoch_core.specs.Kept.{Kept};
-ghost use Rattle.partition_table.specs.Rule.{is_owner, owner_in, reader_in};
+ghost use Rattle.partition_table.specs.Rule.{is_owner, owner_in};
 
+use crate::places::Places;
 use crate::plays::{Does, Happens, Lends, Meets, TellsWord};
 use crate::reader::{Note, ReaderSeat};
 use crate::rule::{PartitionTable, View};
-use atomic_table::{Seat, Table};
+use atomic_table::Seat;
 use epoch_core::{LendWords, OwnerEvent, OwnerWords, Shape, WordAt};
 use mica_io::NoMemory;
 use mica_model::Op;
@@ -22,33 +22,20 @@ use std::sync::Arc;
 /// The owner's seat at a partition's table.
 #[derive(Drop)]
 pub struct OwnerSeat {
-    table: Arc<PartitionTable, Global>,
-    seat: Seat<(), View>,
-    shape: Shape,
+    pub(crate) table: Arc<PartitionTable, Global>,
+    pub(crate) seat: Seat<(), View>,
+    pub(crate) places: Places,
     pub ghost seated: { seat.table_id ≡ (arc_value table).shared.table_id },
-    pub ghost wide: { (arc_value table).shared.table_id.words ≡ word_count shape },
-    pub ghost valid: { is_in_range shape ≡ true },
+    pub ghost wide: { (arc_value table).shared.table_id.words ≡ word_count places.shape },
+    pub ghost valid: { is_in_range places.shape ≡ true },
     pub ghost owns: { is_owner seat.me.0 ≡ true },
-    pub ghost shaped: { (owner_in seat.me.0).shape ≡ shape },
+    pub ghost shaped: { (owner_in seat.me.0).shape ≡ places.shape },
     pub ghost kept: { ∥ Kept (owner_in seat.me.0) ∥₁ },
 }
 
-/// A partition whose words are 0, in the hands of its owner.
-pub fn make(alloc: Global, shape: &Shape) -> Result<OwnerSeat, NoMemory>
-    requires { IsValidShape shape.now }
-    ensures made { IfOk result (λ s. owner_in s.seat.me.0 ≡ as_made shape.now) }
-{
-    let words = vec![in alloc; 0u64; shape.word_count()]?;
-    let (table, seat) = Table::of_words(alloc, words.as_slice(), shape)?;
-    let table: Arc<PartitionTable, Global> = Arc::new(alloc, table)?;
-    Ok(OwnerSeat {
-        table,
-        seat,
-        shape: *shape,
-    })
-}
-
 impl OwnerSeat {
+    ghost use Rattle.partition_table.specs.Seats.{owner_state, owner_home};
+
     // The store of the event that K names. It is told what the pick reads: the event in memory, and the write of
     // a mark.
     fn store_as<K: Happens>(
@@ -60,12 +47,12 @@ impl OwnerSeat {
         _key: &[u8],
         _value: &[u8],
     )
-        requires place { place ≡ place_of self.old.shape K.event }
+        requires place { place ≡ place_of self.old.places.shape K.event }
         requires value { (n : ℕ) → word_after K.event n ≡ value }
-        requires allowed { IsAllowed K.event (owner_in self.old.seat.me.0) }
-        ensures event { owner_in self.new.seat.me.0 ≡ after K.event (owner_in self.old.seat.me.0) }
-        ensures kept { Kept (owner_in self.new.seat.me.0) }
-        ensures home { self.new.seat.table_id ≡ self.old.seat.table_id }
+        requires allowed { IsAllowed K.event (owner_state self.old) }
+        ensures event { owner_state self.new ≡ after K.event (owner_state self.old) }
+        ensures kept { Kept (owner_state self.new) }
+        ensures home { owner_home self.new ≡ owner_home self.old }
     {
         self.table
             .shared
@@ -74,15 +61,15 @@ impl OwnerSeat {
 
     // The fetch-add of the event that K names, on a main bucket's epoch.
     fn add_as<K: Happens>(&mut self, bucket: u32, _event: OwnerEvent)
-        requires place { place_of self.old.shape K.event ≡ epoch_at bucket }
+        requires place { place_of self.old.places.shape K.event ≡ epoch_at bucket }
         requires value { (n : ℕ) → word_after K.event n ≡ n + 1 }
-        requires main { IsMain self.old.shape bucket }
-        requires allowed { IsAllowed K.event (owner_in self.old.seat.me.0) }
-        ensures event { owner_in self.new.seat.me.0 ≡ after K.event (owner_in self.old.seat.me.0) }
-        ensures kept { Kept (owner_in self.new.seat.me.0) }
-        ensures home { self.new.seat.table_id ≡ self.old.seat.table_id }
+        requires main { IsMain self.old.places.shape bucket }
+        requires allowed { IsAllowed K.event (owner_state self.old) }
+        ensures event { owner_state self.new ≡ after K.event (owner_state self.old) }
+        ensures kept { Kept (owner_state self.new) }
+        ensures home { owner_home self.new ≡ owner_home self.old }
     {
-        let place = self.shape.place(WordAt::Epoch(bucket));
+        let place = self.places.of(WordAt::Epoch(bucket));
         self.table
             .shared
             .fetch_add::<Does<K>>(&mut self.seat, place, 1);
@@ -90,16 +77,18 @@ impl OwnerSeat {
 }
 
 impl OwnerWords for OwnerSeat {
-    ghost owner = { λ s. owner_in s.seat.me.0 };
+    ghost use Rattle.partition_table.specs.Seats.{owner_state, owner_home};
 
-    ghost home = { λ s. s.seat.table_id };
+    ghost owner = { owner_state };
+
+    ghost home = { owner_home };
 
     fn shape(&self) -> Shape {
-        self.shape
+        self.places.shape
     }
 
     fn read(&mut self, at: WordAt) -> u64 {
-        let place = self.shape.place(at);
+        let place = self.places.of(at);
         self.table.shared.load::<TellsWord>(&mut self.seat, place)
     }
 
@@ -108,25 +97,25 @@ impl OwnerWords for OwnerSeat {
     }
 
     fn mark(&mut self, op: Op, key: &[u8], value: &[u8], stamp: u64) {
-        let place = self.shape.place(WordAt::Stamp);
+        let place = self.places.of(WordAt::Stamp);
         self.store_as::<Brand>(place, stamp, OwnerEvent::Mark(stamp), op, key, value);
     }
 
     fn put_word(&mut self, offset: u64, value: u64) {
         let event = OwnerEvent::PutWord(offset, value);
-        let place = self.shape.place(WordAt::Item(offset));
+        let place = self.places.of(WordAt::Item(offset));
         self.store_as::<Brand>(place, value, event, Op::Del, &[], &[]);
     }
 
     fn put_entry(&mut self, bucket: u32, slot: u32, value: u64) {
         let event = OwnerEvent::PutEntry(bucket, slot, value);
-        let place = self.shape.place(WordAt::Entry(bucket, slot));
+        let place = self.places.of(WordAt::Entry(bucket, slot));
         self.store_as::<Brand>(place, value, event, Op::Del, &[], &[]);
     }
 
     fn put_link(&mut self, bucket: u32, next: u32) {
         let event = OwnerEvent::PutLink(bucket, next);
-        let place = self.shape.place(WordAt::Link(bucket));
+        let place = self.places.of(WordAt::Link(bucket));
         self.store_as::<Brand>(place, u64::from(next), event, Op::Del, &[], &[]);
     }
 
@@ -140,9 +129,11 @@ impl LendWords for OwnerSeat {
 
     type Note = Note;
 
-    ghost noted = { λ n. reader_in n.seat.me.0 };
+    ghost use Rattle.partition_table.specs.Seats.{note_state, note_home as home_of_note};
 
-    ghost note_home = { λ n. n.seat.table_id };
+    ghost noted = { note_state };
+
+    ghost note_home = { home_of_note };
 
     fn lend(&mut self) -> Result<ReaderSeat, NoMemory> {
         let table = Arc::try_clone(&self.table)?;
@@ -150,7 +141,7 @@ impl LendWords for OwnerSeat {
         Ok(ReaderSeat {
             table,
             seat,
-            shape: self.shape,
+            places: self.places,
             bucket: 0,
         })
     }
@@ -164,7 +155,7 @@ impl LendWords for OwnerSeat {
         let ReaderSeat {
             table,
             seat,
-            shape: _,
+            places: _,
             bucket: _,
         } = seat;
         drop(table);

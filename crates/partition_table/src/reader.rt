@@ -9,6 +9,7 @@ ghost use Rattle.epoch_core.specs.ReaderState.{stamped};
 ghost use Rattle.epoch_core.specs.Joins.{note_of, told};
 ghost use Rattle.partition_table.specs.Rule.{is_reader, reader_in};
 
+use crate::places::Places;
 use crate::plays::{Follows, Lends, Looks, Meets, Opens, Shuts, Stamps};
 use crate::rule::{PartitionTable, View};
 use atomic_table::Seat;
@@ -21,16 +22,16 @@ use std::sync::Arc;
 pub struct ReaderSeat {
     pub(crate) table: Arc<PartitionTable, Global>,
     pub(crate) seat: Seat<(), View>,
-    pub(crate) shape: Shape,
+    pub(crate) places: Places,
     // The bucket of the open try.
     pub(crate) bucket: u32,
     pub ghost seated: { seat.table_id ≡ (arc_value table).shared.table_id },
-    pub ghost wide: { (arc_value table).shared.table_id.words ≡ word_count shape },
-    pub ghost valid: { is_in_range shape ≡ true },
+    pub ghost wide: { (arc_value table).shared.table_id.words ≡ word_count places.shape },
+    pub ghost valid: { is_in_range places.shape ≡ true },
     pub ghost reads: { is_reader seat.me.0 ≡ true },
     pub ghost light: { seat.me.1 ≡ [] },
-    pub ghost shaped: { (reader_in seat.me.0).shape ≡ shape },
-    pub ghost tries: { (t : Try) → (reader_in seat.me.0).current ≡ Some t → (t.bucket ≡ bucket) × IsMain shape bucket },
+    pub ghost shaped: { (reader_in seat.me.0).shape ≡ places.shape },
+    pub ghost tries: { (t : Try) → (reader_in seat.me.0).current ≡ Some t → (t.bucket ≡ bucket) × IsMain places.shape bucket },
 }
 
 /// A seat without a table: it cannot load.
@@ -42,12 +43,14 @@ pub struct Note {
 }
 
 impl ReaderSeat {
+    ghost use Rattle.partition_table.specs.Seats.{reader_state, reader_home, note_state, note_home};
+
     /// A note that has seen the same.
     pub fn note(&mut self) -> Note
-        ensures note { reader_in result.seat.me.0 ≡ note_of (reader_in self.old.seat.me.0) }
-        ensures note_home { result.seat.table_id ≡ self.old.seat.table_id }
-        ensures same { reader_in self.new.seat.me.0 ≡ reader_in self.old.seat.me.0 }
-        ensures home { self.new.seat.table_id ≡ self.old.seat.table_id }
+        ensures note { note_state result ≡ note_of (reader_state self.old) }
+        ensures note_home { note_home result ≡ reader_home self.old }
+        ensures same { reader_state self.new ≡ reader_state self.old }
+        ensures home { reader_home self.new ≡ reader_home self.old }
     {
         let seat = self.table.shared.split_seat::<Lends>(&mut self.seat);
         Note { seat }
@@ -55,14 +58,14 @@ impl ReaderSeat {
 
     /// Takes in what a note of the same table has seen.
     pub fn tell(&mut self, note: Note)
-        requires { note.seat.table_id ≡ self.old.seat.table_id }
-        ensures event { reader_in self.new.seat.me.0 ≡ stamped (reader_in self.new.seat.me.0).seen
-            (told (reader_in self.old.seat.me.0) (reader_in note.seat.me.0)) }
-        ensures seen { IsPrefix (reader_in self.old.seat.me.0).seen (reader_in self.new.seat.me.0).seen
-            × IsPrefix (reader_in note.seat.me.0).seen (reader_in self.new.seat.me.0).seen }
-        ensures done { IsPrefix (reader_in self.old.seat.me.0).done (reader_in self.new.seat.me.0).done
-            × IsPrefix (reader_in note.seat.me.0).done (reader_in self.new.seat.me.0).done }
-        ensures home { self.new.seat.table_id ≡ self.old.seat.table_id }
+        requires { note_home note ≡ reader_home self.old }
+        ensures event { reader_state self.new ≡ stamped (reader_state self.new).seen
+            (told (reader_state self.old) (note_state note)) }
+        ensures seen { IsPrefix (reader_state self.old).seen (reader_state self.new).seen
+            × IsPrefix (note_state note).seen (reader_state self.new).seen }
+        ensures done { IsPrefix (reader_state self.old).done (reader_state self.new).done
+            × IsPrefix (note_state note).done (reader_state self.new).done }
+        ensures home { reader_home self.new ≡ reader_home self.old }
     {
         let Note { seat } = note;
         self.table.shared.join_seat::<Meets>(&mut self.seat, seat);
@@ -71,43 +74,45 @@ impl ReaderSeat {
 }
 
 impl ReaderWords for ReaderSeat {
-    ghost reader = { λ s. reader_in s.seat.me.0 };
+    ghost use Rattle.partition_table.specs.Seats.{reader_state, reader_home};
 
-    ghost home = { λ s. s.seat.table_id };
+    ghost reader = { reader_state };
+
+    ghost home = { reader_home };
 
     fn shape(&self) -> Shape {
-        self.shape
+        self.places.shape
     }
 
     fn first_epoch(&mut self, bucket: u32) -> u64 {
-        let place = self.shape.place(WordAt::Epoch(bucket));
+        let place = self.places.of(WordAt::Epoch(bucket));
         let epoch = self.table.shared.load::<Opens>(&mut self.seat, place);
         self.bucket = bucket;
         epoch
     }
 
     fn entry(&mut self, bucket: u32, slot: u32) -> u64 {
-        let place = self.shape.place(WordAt::Entry(bucket, slot));
+        let place = self.places.of(WordAt::Entry(bucket, slot));
         self.table.shared.load::<Looks>(&mut self.seat, place)
     }
 
     fn link(&mut self, bucket: u32) -> u32 {
-        let place = self.shape.place(WordAt::Link(bucket));
+        let place = self.places.of(WordAt::Link(bucket));
         self.table.shared.load::<Follows>(&mut self.seat, place) as u32
     }
 
     fn item_word(&mut self, offset: u64) -> u64 {
-        let place = self.shape.place(WordAt::Item(offset));
+        let place = self.places.of(WordAt::Item(offset));
         self.table.shared.load::<Looks>(&mut self.seat, place)
     }
 
     fn stamp(&mut self) -> u64 {
-        let place = self.shape.place(WordAt::Stamp);
+        let place = self.places.of(WordAt::Stamp);
         self.table.shared.load::<Stamps>(&mut self.seat, place)
     }
 
     fn last_epoch(&mut self) -> u64 {
-        let place = self.shape.place(WordAt::Epoch(self.bucket));
+        let place = self.places.of(WordAt::Epoch(self.bucket));
         self.table.shared.load::<Shuts>(&mut self.seat, place)
     }
 }

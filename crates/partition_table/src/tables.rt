@@ -1,7 +1,7 @@
 //! The owner seats of a run that has ended.
 ghost use Rattle.std.specs.Prelude.{◌≡◌, ◌<◌, ◌+◌, ◌++◌, [], ◌∷◌, length};
 ghost use Rattle.epoch_core.specs.declared.state.Phase.TheVariants.{Idle};
-ghost use Rattle.partition_table.specs.Rule.{owner_in};
+ghost use Rattle.partition_table.specs.Seats.{owner_state};
 ghost use Rattle.partition_table.specs.Tabled.{entry_of};
 
 use crate::owner::OwnerSeat;
@@ -58,7 +58,7 @@ impl Tables {
     /// Keeps a seat, last.
     pub fn keep(&mut self, seat: OwnerSeat)
         requires few { length self.old < 16 }
-        requires idle { (owner_in seat.seat.me.0).phase ≡ Idle }
+        requires idle { (owner_state seat).phase ≡ Idle }
         ensures { self.new ≡ self.old ++ entry_of seat ∷ [] }
     {
         self.seats[self.count as usize] = Some(seat);

@@ -10,9 +10,9 @@ use Rattle.partition_table.proofs.owner.OwnerSeat.add_as.Goals as goal
 pub fetch_add-requires : goal.fetch_add-requires
 fetch_add-requires g c =
     let self = c.args.self.now in
-    let there = word_inside self.shape (Epoch c.args.bucket) c.place-place.result _ self.valid c.requires.main c.place-place.ensures self.wide in (
+    let there = word_inside self.places.shape (Epoch c.args.bucket) c.of-place.result _ self.valid c.requires.main c.of-place.ensures.place self.wide in (
       search rules,
       search rules,
-      adds_at _ _ self.seat.me self.owns _ c.args.bucket _ (ap (λ (z : Shape). place_of z _) self.shaped ∙ c.requires.place) c.place-place.ensures
+      adds_at _ _ self.seat.me self.owns _ c.args.bucket _ (ap (λ (z : Shape). place_of z _) self.shaped ∙ c.requires.place) c.of-place.ensures.place
           (subst (λ (z : Shape). IsMain z c.args.bucket) (sym self.shaped) c.requires.main) c.requires.allowed c.requires.value,
     )

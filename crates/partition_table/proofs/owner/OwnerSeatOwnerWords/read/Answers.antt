@@ -8,5 +8,5 @@ use Rattle.partition_table.proofs.owner.OwnerSeatOwnerWords.read.Goals as goal
 pub load-requires : goal.load-requires
 load-requires c =
     let self = c.args.self.now in
-    let there = word_inside self.shape c.args.at c.place-place.result _ self.valid (subst (λ (z : Shape). IsInside z c.args.at) self.shaped c.requires) c.place-place.ensures self.wide in
+    let there = word_inside self.places.shape c.args.at c.of-place.result _ self.valid (subst (λ (z : Shape). IsInside z c.args.at) self.shaped c.requires) c.of-place.ensures.place self.wide in
     (search rules, search rules, reads _ _ self.seat.me self.owns _)

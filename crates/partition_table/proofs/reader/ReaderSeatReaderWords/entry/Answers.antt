@@ -9,5 +9,5 @@ use Rattle.partition_table.proofs.reader.ReaderSeatReaderWords.entry.Goals as go
 pub load-requires : goal.load-requires
 load-requires c =
     let self = c.args.self.now in
-    let there = word_inside self.shape (Entry c.args.bucket c.args.slot) c.place-place.result _ self.valid (subst (λ (z : Shape). IsInside z (Entry c.args.bucket c.args.slot)) self.shaped c.requires) c.place-place.ensures self.wide in
+    let there = word_inside self.places.shape (Entry c.args.bucket c.args.slot) c.of-place.result _ self.valid (subst (λ (z : Shape). IsInside z (Entry c.args.bucket c.args.slot)) self.shaped c.requires) c.of-place.ensures.place self.wide in
     (search rules, search rules, loads_at _ _ self.seat.me self.reads _)

@@ -9,5 +9,5 @@ use Rattle.partition_table.proofs.reader.ReaderSeatReaderWords.item_word.Goals a
 pub load-requires : goal.load-requires
 load-requires c =
     let self = c.args.self.now in
-    let there = word_inside self.shape (Item c.args.offset) c.place-place.result _ self.valid tt c.place-place.ensures self.wide in
+    let there = word_inside self.places.shape (Item c.args.offset) c.of-place.result _ self.valid tt c.of-place.ensures.place self.wide in
     (search rules, search rules, loads_at _ _ self.seat.me self.reads _)

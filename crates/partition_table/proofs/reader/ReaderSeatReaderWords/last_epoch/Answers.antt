@@ -8,6 +8,6 @@ use Rattle.partition_table.proofs.reader.ReaderSeatReaderWords.last_epoch.Goals 
 pub load-requires : goal.load-requires
 load-requires c =
     let self = c.args.self.now in
-    let main = try_main self.shape (reader_in self.seat.me.0).current self.bucket c.requires self.tries in
-    let there = word_inside self.shape (Epoch self.bucket) c.place-place.result _ self.valid main c.place-place.ensures self.wide in
-    (search rules, search rules, shuts_here _ _ self.seat.me self.reads self.bucket _ c.place-place.ensures (λ t e. (self.tries t e).0))
+    let main = try_main self.places.shape (reader_in self.seat.me.0).current self.bucket c.requires self.tries in
+    let there = word_inside self.places.shape (Epoch self.bucket) c.of-place.result _ self.valid main c.of-place.ensures.place self.wide in
+    (search rules, search rules, shuts_here _ _ self.seat.me self.reads self.bucket _ c.of-place.ensures.place (λ t e. (self.tries t e).0))

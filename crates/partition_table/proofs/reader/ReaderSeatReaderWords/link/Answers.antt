@@ -9,5 +9,5 @@ use Rattle.partition_table.proofs.reader.ReaderSeatReaderWords.link.Goals as goa
 pub load-requires : goal.load-requires
 load-requires c =
     let self = c.args.self.now in
-    let there = word_inside self.shape (Link c.args.bucket) c.place-place.result _ self.valid (subst (λ (z : Shape). IsInside z (Link c.args.bucket)) self.shaped c.requires) c.place-place.ensures self.wide in
+    let there = word_inside self.places.shape (Link c.args.bucket) c.of-place.result _ self.valid (subst (λ (z : Shape). IsInside z (Link c.args.bucket)) self.shaped c.requires) c.of-place.ensures.place self.wide in
     (search rules, search rules, follows_at _ _ self.seat.me self.reads _)

@@ -9,5 +9,5 @@ use Rattle.partition_table.proofs.reader.ReaderSeatReaderWords.stamp.Goals as go
 pub load-requires : goal.load-requires
 load-requires c =
     let self = c.args.self.now in
-    let there = word_inside self.shape (Stamp) c.place-place.result _ self.valid tt c.place-place.ensures self.wide in
-    (search rules, search rules, stamps_here _ _ self.seat.me self.reads _ c.place-place.ensures)
+    let there = word_inside self.places.shape (Stamp) c.of-place.result _ self.valid tt c.of-place.ensures.place self.wide in
+    (search rules, search rules, stamps_here _ _ self.seat.me self.reads _ c.of-place.ensures.place)

@@ -1,7 +1,7 @@
 use Rattle.std.proofs.Common.{◌<◌, [], ◌∷◌, ◌++◌, length, Some, List, ap, ◌∙◌, arith, length-set, length-append}
 use Rattle.partition_table.specs.declared.tables.Entry.{Entry}
 use Rattle.partition_table.specs.Tabled.{entry_of, entries}
-use Rattle.partition_table.proofs.Places.{keeps}
+use Rattle.partition_table.proofs.Rows.{keeps}
 use Rattle.partition_table.proofs.tables.Tables.keep.Goals as goal
 
 pub invariant_of-self : goal.invariant_of-self

@@ -1,0 +1,26 @@
+-- What contracts see of a seat and of a note: what it knows, and the table that it is of.
+use Rattle.atomic_table.specs.Seated.{TableId}
+use Rattle.epoch_core.specs.declared.state.OwnerState.{OwnerState}
+use Rattle.epoch_core.specs.declared.reader.ReaderState.{ReaderState}
+use Rattle.partition_table.specs.declared.owner.OwnerSeat.{OwnerSeat}
+use Rattle.partition_table.specs.declared.reader.ReaderSeat.{ReaderSeat}
+use Rattle.partition_table.specs.declared.reader.Note.{Note}
+use Rattle.partition_table.specs.Rule.{owner_in, reader_in}
+
+abbrev pub owner_state : OwnerSeat → OwnerState
+owner_state s = owner_in s.seat.me.0
+
+abbrev pub owner_home : OwnerSeat → TableId
+owner_home s = s.seat.table_id
+
+abbrev pub reader_state : ReaderSeat → ReaderState
+reader_state s = reader_in s.seat.me.0
+
+abbrev pub reader_home : ReaderSeat → TableId
+reader_home s = s.seat.table_id
+
+abbrev pub note_state : Note → ReaderState
+note_state n = reader_in n.seat.me.0
+
+abbrev pub note_home : Note → TableId
+note_home n = n.seat.table_id

@@ -1,0 +1,64 @@
+//! Where words lie, with what was divided last at hand.
+ghost use Rattle.std.specs.Prelude.{◌≡◌, ◌+◌, ◌*◌, ◌%◌, ◌<◌};
+ghost use Rattle.epoch_core.specs.Layout.{place_at, item_at};
+ghost use Rattle.partition_table.specs.Rounds.{BeginsRound};
+
+use epoch_core::{Shape, WordAt};
+
+/// The places of a shape's words. Item words go round the end of the words: the round that was asked for last is
+/// kept, so that the words of one item take one division, and none where they lie in that round.
+#[derive(Clone, Copy)]
+pub(crate) struct Places {
+    pub shape: Shape,
+    // The place of the first item word.
+    items: usize,
+    // The offset at which the round begins.
+    round: u64,
+    pub ghost some: { 0 < shape.words },
+    pub ghost first: { items ≡ 1 + 17 * shape.buckets + 16 * shape.spares },
+    pub ghost whole: { round % shape.words ≡ 0 },
+}
+
+impl Places {
+    pub fn new(shape: &Shape) -> Places
+        requires { 0 < shape.now.words }
+        ensures { result.shape ≡ shape.now }
+    {
+        Places {
+            shape: *shape,
+            items: shape.place(WordAt::Item(0)),
+            round: 0,
+        }
+    }
+
+    /// Where the word lies.
+    pub fn of(&mut self, at: WordAt) -> usize
+        ensures place { result ≡ place_at self.old.shape at }
+        ensures shape { self.new.shape ≡ self.old.shape }
+    {
+        match at {
+            WordAt::Item(offset) => self.of_item(offset),
+            _ => self.shape.place(at),
+        }
+    }
+
+    fn of_item(&mut self, offset: u64) -> usize
+        ensures place { result ≡ item_at self.old.shape offset }
+        ensures shape { self.new.shape ≡ self.old.shape }
+    {
+        self.round = self.round_of(offset);
+        self.items + (offset - self.round) as usize
+    }
+
+    // Where the round of the offset begins.
+    fn round_of(&self, offset: u64) -> u64
+        ensures { BeginsRound self.now.shape.words offset result }
+    {
+        let words = u64::from(self.shape.words);
+        if self.round <= offset && offset - self.round < words {
+            self.round
+        } else {
+            offset - offset % words
+        }
+    }
+}
