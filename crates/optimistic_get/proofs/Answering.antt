@@ -1,6 +1,6 @@
 -- What a try's loads, its stamp and its two epochs tell together.
-use Rattle.std.proofs.Common.{◌≡◌, ◌≢◌, ℕ, ◌+◌, ◌*◌, ◌%◌, ◌<◌, ◌≤◌, List, [], ◌∷◌, ◌++◌, Bool, sym, ap, ◌∙◌, subst, arith, eq-eqb, ne_eqb, Option, Some, None, inl, inr, if◌then◌else◌}
-use Rattle.std.specs.Prelude.{Contains, IfSome}
+use Rattle.std.proofs.Common.{◌≡◌, ◌≢◌, ℕ, ◌+◌, ◌*◌, ◌%◌, ◌<◌, ◌≤◌, List, [], ◌∷◌, ◌++◌, Bool, false, sym, ap, ◌∙◌, subst, arith, eq-eqb, ne_eqb, Option, Some, None, inl, inr, if◌then◌else◌}
+use Rattle.std.specs.Prelude.{Contains, IfSome, ◌==◌}
 use Rattle.mica_words.specs.Hash.{bucket_of, tag_of}
 use Rattle.mica_words.specs.Entry.{entry_tag, entry_offset}
 use Rattle.mica_words.specs.Packing.{AreBytes}
@@ -11,17 +11,16 @@ use Rattle.mica_model.specs.History.{History, IsPrefix, stamp_of, answer_of, wri
 use Rattle.epoch_core.specs.declared.shape.Shape.{Shape}
 use Rattle.epoch_core.specs.declared.reader.Try.{Try}
 use Rattle.epoch_core.specs.declared.reader.ReaderState.{ReaderState}
-use Rattle.epoch_core.specs.Shape.{options_of}
+use Rattle.epoch_core.specs.Shape.{options_of, IsMain}
 use Rattle.epoch_core.specs.LiveEntry.{IsLiveItem}
 use Rattle.epoch_core.specs.Failures.{failure}
 use Rattle.epoch_core.specs.ReaderState.{new_try, opened, with_cut, stamped, fails_after, closes, shut}
 use Rattle.epoch_core.specs.Spelt.{Loads, HasLinks, ShowsItem, IsNoEntryOf, by_tag as no_tag, by_stamp as no_stamp, by_item as no_item, SpellsAnswer}
 use Rattle.epoch_core.specs.ReaderKept.{TellsTry, Tells}
 use Rattle.epoch_core.proofs.Prefixes.{prefix_same}
-use Rattle.optimistic_get.specs.Loading.{loads_of, loads_in, TryGoesOn}
+use Rattle.optimistic_get.specs.Loading.{most_loads, loads_of, loads_in, TryGoesOn}
 use Rattle.optimistic_get.specs.Search.{IsWeighed, by_tag, by_item, by_best, IsBest, IsSlotWeighed, Searches}
-use Rattle.optimistic_get.specs.Gets.{IsAnsweredAt, TriesMade, Tries}
-use Rattle.optimistic_get.specs.declared.trying.Tried.TheVariants.{Found, Absent, Failed}
+use Rattle.optimistic_get.specs.Gets.{IsAnsweredAt, TriesMade, most_of_failure, TryAnswers, TryFails}
 
 -- What the loads spell
 
@@ -70,9 +69,9 @@ goes_to t (Some u) g = ap (λ (z : Try). Some z) g.0
 
 module _ (r q : ReaderState) (b n : ℕ) (first : q ≡ opened b n r) (least : 2 * writes_to_bucket (options_of r.shape) r.done b ≤ n) where
   -- an odd epoch
-  pub odd_fails : (key value : List ℕ) → n % 2 ≡ 1 → Tries r b key (Failed n n) value q
-  odd_fails key value odd = (
-    record {
+  pub odd_fails : n % 2 ≡ 1 → TryFails r b n n q
+  odd_fails odd = record {
+    made = record {
       same = λ i. record {
         shape = ap (λ (z : ReaderState). z.shape) first i;
         seen = q.seen;
@@ -85,12 +84,17 @@ module _ (r q : ReaderState) (b n : ℕ) (first : q ≡ opened b n r) (least : 2
         current = q.current;
       };
       seen = subst (IsPrefix r.seen) (sym (ap (λ (z : ReaderState). z.seen) first)) (prefix_same r.seen);
-      loads = let one = ap (λ (z : ReaderState). z.loads) first in omega arith;
-    },
-    record { fails = (omega arith, inl odd); least = least },
-    ap (λ (z : ReaderState). z.fails) first ∙ ap (λ (z : Bool). if z then r.fails else (r.fails ++ failure b n n ∷ [])) (ne_eqb (n % 2) 0 (λ none. omega arith)),
-    ap (λ (z : ReaderState). z.closed) first,
-  )
+      ended = λ _. ap (λ (z : ReaderState). z.current) first ∙ ap (λ (z : Bool). if z then Some (new_try b n) else None) not_even;
+    };
+    loads = subst (λ (z : Bool). q.loads ≤ r.loads + (if z then 1 else most_loads r.shape)) (sym (eq-eqb (n % 2) 1 odd))
+        (let one = ap (λ (z : ReaderState). z.loads) first in omega arith);
+    fails = ap (λ (z : ReaderState). z.fails) first ∙ ap (λ (z : Bool). if z then r.fails else (r.fails ++ failure b n n ∷ [])) not_even;
+    closed = ap (λ (z : ReaderState). z.closed) first;
+    failure = record { fails = (omega arith, inl odd); least = least };
+  }
+    where
+      not_even : (n % 2 == 0) ≡ false
+      not_even = ne_eqb (n % 2) 0 (λ even. omega (arith, odd, even))
 
   module _ (even : n % 2 ≡ 0) (key : List ℕ) (best : Option ℕ) (value : List ℕ) (q2 q3 q4 : ReaderState) (search : Searches q b key best value q2)
       (stamp last : ℕ) (cut : q3 ≡ stamped q3.seen q2) (more : IsPrefix q2.seen q3.seen) (stamped_is : stamp ≡ stamp_of (options_of q2.shape) q3.seen)
@@ -167,14 +171,17 @@ module _ (r q : ReaderState) (b n : ℕ) (first : q ≡ opened b n r) (least : 2
         current = q4.current;
       };
       seen = subst (IsPrefix r.seen) (sym seen4) (subst (λ (z : History). IsPrefix z q3.seen) seen_before more);
-      loads =
-          let one = ap (λ (z : ReaderState). z.loads) first in
-          let two = search.on.loads in
-          let three = ap (λ (z : ReaderState). z.loads) cut in
-          let four = ap (λ (z : ReaderState). z.loads) end in
-          let same = ap (λ (z : ReaderState). z.shape.spares) first in
-          omega arith;
+      ended = λ _. ap (λ (z : ReaderState). z.current) end;
     }
+
+    loads_once : q4.loads ≤ r.loads + most_loads r.shape
+    loads_once =
+        let one = ap (λ (z : ReaderState). z.loads) first in
+        let two = search.on.loads in
+        let three = ap (λ (z : ReaderState). z.loads) cut in
+        let four = ap (λ (z : ReaderState). z.loads) end in
+        let same = ap (λ (z : ReaderState). z.shape.spares) first in
+        omega arith
 
     stamped_at : stamp ≡ stamp_of (options_of q4.shape) q4.seen
     stamped_at = stamped_is ∙ (λ i. stamp_of (options_of ((shape2 ∙ sym shape4) i)) (sym seen4 i))
@@ -203,31 +210,42 @@ module _ (r q : ReaderState) (b n : ℕ) (first : q ≡ opened b n r) (least : 2
     live_now s p same = subst (λ (z : Shape). IsLiveItem z.mode z.words stamp p) (sym (same ∙ (shape4 ∙ sym shape2)))
 
     pub hits : (s : Shape) (p : ℕ) → s ≡ q4.shape → best ≡ Some p → IsLiveItem s.mode s.words stamp p → last ≡ n → AreBytes key → bucket_of key r.shape.buckets ≡ b
-        → Tries r b key (Found stamp) value q4
-    hits s p same is live still bytes here = (
-      once,
-      answered still bytes here (Some value)
+        → TryAnswers r key (Some value) stamp q4
+    hits s p same is live still bytes here = record {
+      made = once;
+      loads = loads_once;
+      fails = same_fails still;
+      closed = one_closed still;
+      answered = answered still bytes here (Some value)
           (spells_hit q2.shape (loads_in q2) stamp b key search.behind search.links p value
-          (subst (λ (z : Option ℕ). IsBest q2.shape (loads_in q2) (b ∷ search.behind) key z value) is search.found) (live_then s p same live)),
-      same_fails still,
-      one_closed still,
-    )
+          (subst (λ (z : Option ℕ). IsBest q2.shape (loads_in q2) (b ∷ search.behind) key z value) is search.found) (live_then s p same live));
+    }
 
     pub misses : (s : Shape) → s ≡ q4.shape → ((p : ℕ) → best ≡ Some p → ¬ (IsLiveItem s.mode s.words stamp p)) → last ≡ n → AreBytes key → bucket_of key r.shape.buckets ≡ b
-        → Tries r b key (Absent stamp) value q4
-    misses s same dead still bytes here = (
-      once,
-      answered still bytes here None
-          (spells_miss q2.shape (loads_in q2) stamp b key search.behind search.links best (λ p is live. dead p is (live_now s p same live)) search.slots),
-      same_fails still,
-      one_closed still,
-    )
+        → TryAnswers r key None stamp q4
+    misses s same dead still bytes here = record {
+      made = once;
+      loads = loads_once;
+      fails = same_fails still;
+      closed = one_closed still;
+      answered = answered still bytes here None
+          (spells_miss q2.shape (loads_in q2) stamp b key search.behind search.links best (λ p is live. dead p is (live_now s p same live)) search.slots);
+    }
 
-    pub moved : last ≢ n → Tries r b key (Failed n last) value q4
+    pub moved : last ≢ n → TryFails r b n last q4
     moved other =
-        let low = told.least in (
-          once,
-          record { fails = (low, inr (omega arith)); least = least },
-          fails_now ∙ ap (λ (z : Bool). if z then r.fails else (r.fails ++ failure b n last ∷ [])) (ne_eqb last n other),
-          closed_now ∙ (ap (λ (z : Bool). r.closed + (if z then 1 else 0)) (ne_eqb last n other) ∙ (omega arith)),
-        )
+        let low = told.least in record {
+          made = once;
+          loads = subst (λ (z : Bool). q4.loads ≤ r.loads + (if z then 1 else most_loads r.shape)) (sym (ne_eqb (n % 2) 1 (λ odd. omega (arith, odd, even)))) loads_once;
+          fails = fails_now ∙ ap (λ (z : Bool). if z then r.fails else (r.fails ++ failure b n last ∷ [])) (ne_eqb last n other);
+          closed = closed_now ∙ (ap (λ (z : Bool). r.closed + (if z then 1 else 0)) (ne_eqb last n other) ∙ (omega arith));
+          failure = record { fails = (low, inr (omega arith)); least = least };
+        }
+
+-- the main buckets stay
+
+pub main_opened : (r q : ReaderState) (b c n : ℕ) → q ≡ opened c n r → IsMain r.shape b → IsMain q.shape b
+main_opened r q b c n is = subst (λ (z : Shape). IsMain z b) (sym (ap (λ (z : ReaderState). z.shape) is))
+
+pub main_stamped : (r q : ReaderState) (b : ℕ) (history : History) → q ≡ stamped history r → IsMain r.shape b → IsMain q.shape b
+main_stamped r q b history is = subst (λ (z : Shape). IsMain z b) (sym (ap (λ (z : ReaderState). z.shape) is))

@@ -4,10 +4,12 @@ ghost use Rattle.mica_words.specs.Hash.{bucket_of as bucket_of_key};
 ghost use Rattle.mica_words.specs.Item.{KeyFits};
 ghost use Rattle.optimistic_get.specs.Gets.{Answers};
 
-use crate::trying::{Tried, try_get};
+use crate::trying::try_get;
+use crate::wanted::Wanted;
 use epoch_core::ReaderWords;
 use mica_model::ItemBuf;
 use mica_words::{MAX_KEY_LEN, bucket_of, key_hash, pack};
+use std::hint::spin_loop;
 
 const MAX_KEY_WORDS: usize = (MAX_KEY_LEN + 7) / 8;
 
@@ -20,6 +22,17 @@ pub enum Got {
     Miss { stamp: u64 },
     /// Each try failed, the last one with these two epochs.
     Again { first: u64, last: u64 },
+}
+
+impl Got {
+    ghost use Rattle.optimistic_get.specs.Gets.{is_again as again_is};
+
+    /// Whether each try failed.
+    pub fn is_again(&self) -> bool
+        ensures { result ≡ again_is self.now }
+    {
+        matches!(self, Got::Again { .. })
+    }
 }
 
 /// The machine's answer at the last stamp load, or `Again` where each of the tries failed.
@@ -35,18 +48,13 @@ pub fn get<R: ReaderWords>(seat: &mut R, key: &[u8], tries: u32, out: &mut ItemB
     let mut packed = [0; MAX_KEY_WORDS];
     let packed = &mut packed[..key.len().div_ceil(8)];
     pack(key, packed);
-    let mut failed = (0, 0);
-    for _try in 0..tries {
-        match try_get(seat, bucket, key, hash, packed, out) {
-            Tried::Found(stamp) => return Got::Hit { stamp },
-            Tried::Absent(stamp) => {
-                out.clear();
-                return Got::Miss { stamp };
-            }
-            Tried::Failed(first, last) => failed = (first, last),
+    let wanted = Wanted { key, hash, packed };
+    for _try in 1..tries {
+        let got = try_get(seat, bucket, &wanted, out);
+        if !got.is_again() {
+            return got;
         }
+        spin_loop();
     }
-    out.clear();
-    let (first, last) = failed;
-    Got::Again { first, last }
+    try_get(seat, bucket, &wanted, out)
 }

@@ -9,5 +9,6 @@ mod getting;
 mod looking;
 mod searching;
 mod trying;
+mod wanted;
 
 pub use getting::{Got, get};

@@ -1,12 +1,11 @@
 //! The item behind an entry, by loads in an open try.
 ghost use Rattle.std.specs.Prelude.{◌≡◌, ◌+◌, ◌<◌, ◌≤◌, ◌^◌, true, is_some, length, MatchBool, MatchOption};
 ghost use Rattle.mica_words.specs.declared.item.TheConstants.{MAX_VALUE_LEN};
-ghost use Rattle.mica_words.specs.Hash.{fnv1a};
-ghost use Rattle.mica_words.specs.Item.{KeyFits, words_for};
-ghost use Rattle.mica_words.specs.Packing.{packed as packed_words};
+ghost use Rattle.mica_words.specs.Item.{words_for};
 ghost use Rattle.epoch_core.specs.Spelt.{ShowsOther, ShowsItem};
 ghost use Rattle.optimistic_get.specs.Loading.{most_words, loads_in, GoesOn, HasWords, LacksWord, HasKeyOf, HoldsValue};
 
+use crate::wanted::Wanted;
 use epoch_core::ReaderWords;
 use mica_model::{ItemBuf, Mode};
 use mica_words::{MAX_VALUE_LEN, header_key_len, header_value_len};
@@ -29,36 +28,27 @@ fn holds_words<R: ReaderWords>(seat: &mut R, offset: u64, expected: &[u64]) -> b
 }
 
 // Where the item at the offset is the key's, the length of its value.
-fn value_len_at<R: ReaderWords>(
-    seat: &mut R,
-    offset: u64,
-    key: &[u8],
-    hash: u64,
-    packed: &[u64],
-) -> Option<usize>
+fn value_len_at<R: ReaderWords>(seat: &mut R, offset: u64, wanted: &Wanted<'_>) -> Option<usize>
     requires open { is_some (R.reader seat.old).current ≡ true }
     requires offset { offset < 2 ^ 48 }
-    requires key { KeyFits key.now }
-    requires hash { hash ≡ fnv1a key.now }
-    requires packed { packed.now ≡ packed_words key.now }
-    ensures on { GoesOn (R.reader seat.old) (2 + words_for (length key.entry.now)) (R.reader seat.new) }
+    ensures on { GoesOn (R.reader seat.old) (2 + words_for (length wanted.now.key.now)) (R.reader seat.new) }
     ensures shows { MatchOption result
-        (ShowsOther (R.reader seat.new).shape (loads_in (R.reader seat.new)) offset key.entry.now)
-        (HasKeyOf (R.reader seat.new) offset key.entry.now) }
+        (ShowsOther (R.reader seat.new).shape (loads_in (R.reader seat.new)) offset wanted.now.key.now)
+        (HasKeyOf (R.reader seat.new) offset wanted.now.key.now) }
     ensures home { R.home seat.new ≡ R.home seat.old }
 {
     let header = seat.item_word(offset);
-    if header_key_len(header) as usize != key.len() {
+    if header_key_len(header) as usize != wanted.key.len() {
         return None;
     }
     let len = header_value_len(header) as usize;
     if len > MAX_VALUE_LEN {
         return None;
     }
-    if seat.item_word(offset + 1) != hash {
+    if seat.item_word(offset + 1) != wanted.hash {
         return None;
     }
-    if holds_words(seat, offset + 2, packed) {
+    if holds_words(seat, offset + 2, wanted.packed) {
         Some(len)
     } else {
         None
@@ -74,32 +64,27 @@ fn load_value<R: ReaderWords>(seat: &mut R, offset: u64, len: usize, out: &mut I
     ensures value { HoldsValue (R.reader seat.new) offset len out.new }
     ensures home { R.home seat.new ≡ R.home seat.old }
 {
-    let mut value = [0; MAX_VALUE_LEN];
+    out.clear();
     for i in 0..len.div_ceil(8) {
         let word = seat.item_word(offset + i as u64);
-        value[8 * i..8 * i + 8].copy_from_slice(&word.to_le_bytes());
+        out.push_word(word);
     }
-    out.set(&value[..len]);
+    out.truncate(len);
 }
 
 /// Whether the item at the offset is the key's. Then its value is in the buffer.
 pub(crate) fn look<R: ReaderWords>(
     seat: &mut R,
     offset: u64,
-    key: &[u8],
-    hash: u64,
-    packed: &[u64],
+    wanted: &Wanted<'_>,
     out: &mut ItemBuf,
 ) -> bool
     requires open { is_some (R.reader seat.old).current ≡ true }
     requires offset { offset < 2 ^ 48 }
-    requires key { KeyFits key.now }
-    requires hash { hash ≡ fnv1a key.now }
-    requires packed { packed.now ≡ packed_words key.now }
     ensures on { GoesOn (R.reader seat.old) most_words (R.reader seat.new) }
     ensures shows { MatchBool result
-        (ShowsItem (R.reader seat.new).shape (loads_in (R.reader seat.new)) offset key.entry.now out.new)
-        (ShowsOther (R.reader seat.new).shape (loads_in (R.reader seat.new)) offset key.entry.now
+        (ShowsItem (R.reader seat.new).shape (loads_in (R.reader seat.new)) offset wanted.now.key.now out.new)
+        (ShowsOther (R.reader seat.new).shape (loads_in (R.reader seat.new)) offset wanted.now.key.now
         × (out.new ≡ out.old)) }
     ensures home { R.home seat.new ≡ R.home seat.old }
 {
@@ -107,9 +92,9 @@ pub(crate) fn look<R: ReaderWords>(
     if matches!(shape.mode, Mode::Store) && offset >= u64::from(shape.words) {
         return false;
     }
-    let Some(len) = value_len_at(seat, offset, key, hash, packed) else {
+    let Some(len) = value_len_at(seat, offset, wanted) else {
         return false;
     };
-    load_value(seat, offset + 2 + packed.len() as u64, len, out);
+    load_value(seat, offset + 2 + wanted.packed.len() as u64, len, out);
     true
 }

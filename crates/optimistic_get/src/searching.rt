@@ -1,12 +1,10 @@
 //! The entries of a chain, by loads in an open try.
 ghost use Rattle.std.specs.Prelude.{◌≡◌, ℕ, ◌<◌, ◌≤◌, ◌^◌, true, is_some, Some, None, IfSome, MatchBool};
-ghost use Rattle.mica_words.specs.Hash.{fnv1a};
-ghost use Rattle.mica_words.specs.Item.{KeyFits};
-ghost use Rattle.mica_words.specs.Packing.{packed as packed_words};
 ghost use Rattle.epoch_core.specs.Shape.{IsMain, IsBucket};
 ghost use Rattle.optimistic_get.specs.Search.{Weighs, Scans, Searches};
 
 use crate::looking::look;
+use crate::wanted::Wanted;
 use epoch_core::ReaderWords;
 use mica_model::ItemBuf;
 use mica_words::{entry_offset, entry_tag, tag_of};
@@ -26,30 +24,25 @@ fn is_later(best: Option<u64>, offset: u64) -> bool
 fn weigh<R: ReaderWords>(
     seat: &mut R,
     entry: u64,
-    key: &[u8],
-    hash: u64,
-    packed: &[u64],
+    wanted: &Wanted<'_>,
     best: Option<u64>,
     out: &mut ItemBuf,
 ) -> Option<u64>
     requires open { is_some (R.reader seat.old).current ≡ true }
-    requires key { KeyFits key.now }
-    requires hash { hash ≡ fnv1a key.now }
-    requires packed { packed.now ≡ packed_words key.now }
     requires low { IfSome best (λ p. p < 2 ^ 48) }
-    ensures weighs { Weighs (R.reader seat.old) entry key.entry.now best out.old result out.new
+    ensures weighs { Weighs (R.reader seat.old) entry wanted.now.key.now best out.old result out.new
         (R.reader seat.new) }
     ensures low { IfSome result (λ p. p < 2 ^ 48) }
     ensures home { R.home seat.new ≡ R.home seat.old }
 {
-    if entry_tag(entry) != tag_of(hash) {
+    if entry_tag(entry) != tag_of(wanted.hash) {
         return best;
     }
     let offset = entry_offset(entry);
     if !is_later(best, offset) {
         return best;
     }
-    if look(seat, offset, key, hash, packed, out) {
+    if look(seat, offset, wanted, out) {
         Some(offset)
     } else {
         best
@@ -60,27 +53,22 @@ fn weigh<R: ReaderWords>(
 fn scan<R: ReaderWords>(
     seat: &mut R,
     bucket: u32,
-    key: &[u8],
-    hash: u64,
-    packed: &[u64],
+    wanted: &Wanted<'_>,
     best: Option<u64>,
     out: &mut ItemBuf,
 ) -> Option<u64>
     requires open { is_some (R.reader seat.old).current ≡ true }
     requires bucket { IsBucket (R.reader seat.old).shape bucket }
-    requires key { KeyFits key.now }
-    requires hash { hash ≡ fnv1a key.now }
-    requires packed { packed.now ≡ packed_words key.now }
     requires low { IfSome best (λ p. p < 2 ^ 48) }
     ensures low { IfSome result (λ p. p < 2 ^ 48) }
-    ensures scans { Scans (R.reader seat.old) bucket 15 key.entry.now best out.old result out.new
+    ensures scans { Scans (R.reader seat.old) bucket 15 wanted.now.key.now best out.old result out.new
         (R.reader seat.new) }
     ensures home { R.home seat.new ≡ R.home seat.old }
 {
     let mut best = best;
     for slot in 0..15 {
         let entry = seat.entry(bucket, slot);
-        best = weigh(seat, entry, key, hash, packed, best, out);
+        best = weigh(seat, entry, wanted, best, out);
     }
     best
 }
@@ -89,21 +77,16 @@ fn scan<R: ReaderWords>(
 pub(crate) fn search<R: ReaderWords>(
     seat: &mut R,
     bucket: u32,
-    key: &[u8],
-    hash: u64,
-    packed: &[u64],
+    wanted: &Wanted<'_>,
     out: &mut ItemBuf,
 ) -> Option<u64>
     requires open { is_some (R.reader seat.old).current ≡ true }
     requires bucket { IsMain (R.reader seat.old).shape bucket }
-    requires key { KeyFits key.now }
-    requires hash { hash ≡ fnv1a key.now }
-    requires packed { packed.now ≡ packed_words key.now }
-    ensures searches { Searches (R.reader seat.old) bucket key.entry.now result out.new (R.reader seat.new) }
+    ensures searches { Searches (R.reader seat.old) bucket wanted.now.key.now result out.new (R.reader seat.new) }
     ensures low { IfSome result (λ p. p < 2 ^ 48) }
     ensures home { R.home seat.new ≡ R.home seat.old }
 {
-    let mut best = scan(seat, bucket, key, hash, packed, None, out);
+    let mut best = scan(seat, bucket, wanted, None, out);
     let mut at = bucket;
     for _link in 0..seat.shape().spares {
         let next = seat.link(at);
@@ -111,7 +94,7 @@ pub(crate) fn search<R: ReaderWords>(
             return best;
         }
         at = next;
-        best = scan(seat, at, key, hash, packed, best, out);
+        best = scan(seat, at, wanted, best, out);
     }
     best
 }

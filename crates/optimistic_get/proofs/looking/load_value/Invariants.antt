@@ -1,4 +1,4 @@
-use Rattle.std.proofs.Common.{◌≡◌, ◌*◌, ℕ, List, length, take}
+use Rattle.std.proofs.Common.{◌≡◌, ◌*◌, ℕ, List, length}
 use Rattle.optimistic_get.specs.Loading.{GoesOn}
 use Rattle.optimistic_get.proofs.Loads.{HasFirst}
 use Rattle.optimistic_get.proofs.Bytes.{bytes_of}
@@ -11,7 +11,7 @@ invariant-loop-i g l = record {
   words : List ℕ;
   long : length words ≡ l.i;
   first : HasFirst (g.R.ReaderWords.reader l.seat) l.offset words l.i;
-  wide : length l.value ≡ 1024;
-  bytes : take (8 * l.i) l.value ≡ bytes_of words;
+  bytes : l.out ≡ bytes_of words;
+  wide : length l.out ≡ 8 * l.i;
   home : g.R.ReaderWords.home l.seat ≡ g.R.ReaderWords.home l.initial.seat;
 }

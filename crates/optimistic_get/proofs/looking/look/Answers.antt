@@ -9,14 +9,14 @@ use Rattle.optimistic_get.proofs.looking.look.Goals as goal
 pub returns-clause-on : goal.returns-clause-on
 returns-clause-on g c =
     let reader = g.R.ReaderWords.reader in
-    let key = c.requires.key.1 in
+    let key = c.args.wanted.now.fits.1 in
     let len = c.in-Some.ensures.shows.fits in
-    on_at_most (reader c.args.seat.now) (reader c.load_value.new.seat) (2 + words_for (length c.args.key.now) + words_for c.in-Some.len) most_words (omega arith)
-    (on_then (reader c.args.seat.now) (reader c.value_len_at.new.seat) (reader c.load_value.new.seat) (2 + words_for (length c.args.key.now)) (words_for c.in-Some.len)
+    on_at_most (reader c.args.seat.now) (reader c.load_value.new.seat) (2 + words_for (length c.args.wanted.now.key.now) + words_for c.in-Some.len) most_words (omega arith)
+    (on_then (reader c.args.seat.now) (reader c.value_len_at.new.seat) (reader c.load_value.new.seat) (2 + words_for (length c.args.wanted.now.key.now)) (words_for c.in-Some.len)
     c.in-Some.ensures.on c.load_value.ensures.on)
 
 pub returns-clause-shows : goal.returns-clause-shows
 returns-clause-shows g c =
     let reader = g.R.ReaderWords.reader in
-    tells_item (reader c.value_len_at.new.seat) (reader c.load_value.new.seat) (words_for c.in-Some.len) c.args.offset _ c.in-Some.len c.args.key.now c.load_value.new.out
-    c.in-Some.ensures.shows c.load_value.ensures.on (omega (arith, ap length c.requires.packed, length-packed c.args.key.now)) c.load_value.ensures.value
+    tells_item (reader c.value_len_at.new.seat) (reader c.load_value.new.seat) (words_for c.in-Some.len) c.args.offset _ c.in-Some.len c.args.wanted.now.key.now c.load_value.new.out
+    c.in-Some.ensures.shows c.load_value.ensures.on (omega (arith, ap length c.args.wanted.now.words, length-packed c.args.wanted.now.key.now)) c.load_value.ensures.value

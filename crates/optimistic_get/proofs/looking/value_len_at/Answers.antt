@@ -3,57 +3,57 @@ use Rattle.optimistic_get.specs.Loading.{HasKeyOf}
 use Rattle.optimistic_get.proofs.Items.{other_key_len, long_value, on_two, other_hash, on_three, other_word, has_key, when_true, when_false}
 use Rattle.optimistic_get.proofs.looking.value_len_at.Goals as goal
 
-pub returns-then-header_key_len-key-clause-shows : goal.returns-then-header_key_len-key-clause-shows
-returns-then-header_key_len-key-clause-shows g c =
+pub returns-then-header_key_len-wanted-clause-shows : goal.returns-then-header_key_len-wanted-clause-shows
+returns-then-header_key_len-wanted-clause-shows g c =
     let reader = g.R.ReaderWords.reader in
-    other_key_len (reader c.args.seat.now) (reader c.item_word-header.new.self) c.args.offset c.item_word-header.result c.args.key.now c.requires.open c.item_word-header.ensures.event
-    (λ same. c.if-header_key_len-key.true (c.header_key_len.ensures ∙ same))
+    other_key_len (reader c.args.seat.now) (reader c.item_word-header.new.self) c.args.offset c.item_word-header.result c.args.wanted.now.key.now c.requires.open c.item_word-header.ensures.event
+    (λ same. c.if-header_key_len-wanted.true (c.header_key_len.ensures ∙ same))
 
 pub returns-then-len-gt-MAX_VALUE_LEN-clause-shows : goal.returns-then-len-gt-MAX_VALUE_LEN-clause-shows
 returns-then-len-gt-MAX_VALUE_LEN-clause-shows g c =
     let reader = g.R.ReaderWords.reader in
     let more = c.if-len-gt-MAX_VALUE_LEN.true in
-    long_value (reader c.args.seat.now) (reader c.item_word-header.new.self) c.args.offset c.item_word-header.result c.args.key.now c.requires.open c.item_word-header.ensures.event
+    long_value (reader c.args.seat.now) (reader c.item_word-header.new.self) c.args.offset c.item_word-header.result c.args.wanted.now.key.now c.requires.open c.item_word-header.ensures.event
     (omega (arith, c.header_value_len-len.ensures))
 
-pub returns-then-item_word-hash-clause-on : goal.returns-then-item_word-hash-clause-on
-returns-then-item_word-hash-clause-on g c =
+pub returns-then-item_word-wanted-clause-on : goal.returns-then-item_word-wanted-clause-on
+returns-then-item_word-wanted-clause-on g c =
     let reader = g.R.ReaderWords.reader in
-    let two = on_two (reader c.args.seat.now) (reader c.item_word-header.new.self) c.args.offset c.item_word-header.result c.args.key.now c.requires.open c.item_word-header.ensures.event
+    let two = on_two (reader c.args.seat.now) (reader c.item_word-header.new.self) c.args.offset c.item_word-header.result c.args.wanted.now.key.now c.requires.open c.item_word-header.ensures.event
     (reader c.item_word.new.self) c.item_word.result c.item_word.ensures.event in
     record { same = two.same; loads = let few = two.loads in omega arith; current = two.current }
 
-pub returns-then-item_word-hash-clause-shows : goal.returns-then-item_word-hash-clause-shows
-returns-then-item_word-hash-clause-shows g c =
+pub returns-then-item_word-wanted-clause-shows : goal.returns-then-item_word-wanted-clause-shows
+returns-then-item_word-wanted-clause-shows g c =
     let reader = g.R.ReaderWords.reader in
-    other_hash (reader c.args.seat.now) (reader c.item_word-header.new.self) c.args.offset c.item_word-header.result c.args.key.now c.requires.open c.item_word-header.ensures.event
-    (reader c.item_word.new.self) c.item_word.result c.item_word.ensures.event (λ same. c.if-item_word-hash.true (same ∙ sym c.requires.hash))
+    other_hash (reader c.args.seat.now) (reader c.item_word-header.new.self) c.args.offset c.item_word-header.result c.args.wanted.now.key.now c.requires.open c.item_word-header.ensures.event
+    (reader c.item_word.new.self) c.item_word.result c.item_word.ensures.event (λ same. c.if-item_word-wanted.true (same ∙ sym c.args.wanted.now.hashed))
 
 pub returns-then-holds_words-clause-on : goal.returns-then-holds_words-clause-on
 returns-then-holds_words-clause-on g c =
     let reader = g.R.ReaderWords.reader in
-    on_three (reader c.args.seat.now) (reader c.item_word-header.new.self) c.args.offset c.item_word-header.result c.args.key.now c.requires.open c.item_word-header.ensures.event
-    (reader c.item_word.new.self) c.item_word.result c.item_word.ensures.event (reader c.holds_words.new.seat) c.args.packed.now c.requires.packed c.holds_words.ensures.on
+    on_three (reader c.args.seat.now) (reader c.item_word-header.new.self) c.args.offset c.item_word-header.result c.args.wanted.now.key.now c.requires.open c.item_word-header.ensures.event
+    (reader c.item_word.new.self) c.item_word.result c.item_word.ensures.event (reader c.holds_words.new.seat) c.args.wanted.now.packed.now c.args.wanted.now.words c.holds_words.ensures.on
 
 pub returns-then-holds_words-clause-shows : goal.returns-then-holds_words-clause-shows
 returns-then-holds_words-clause-shows g c =
     let reader = g.R.ReaderWords.reader in
     let fits = c.if-len-gt-MAX_VALUE_LEN.false in
-    subst (HasKeyOf (reader c.holds_words.new.seat) c.args.offset c.args.key.now) (sym c.header_value_len-len.ensures)
-    (has_key (reader c.args.seat.now) (reader c.item_word-header.new.self) c.args.offset c.item_word-header.result c.args.key.now c.requires.open c.item_word-header.ensures.event
-    (reader c.item_word.new.self) c.item_word.result c.item_word.ensures.event (reader c.holds_words.new.seat) c.args.packed.now c.requires.packed c.holds_words.ensures.on
-    (sym c.header_key_len.ensures ∙ c.if-header_key_len-key.false) (omega (arith, c.header_value_len-len.ensures)) (c.if-item_word-hash.false ∙ c.requires.hash)
+    subst (HasKeyOf (reader c.holds_words.new.seat) c.args.offset c.args.wanted.now.key.now) (sym c.header_value_len-len.ensures)
+    (has_key (reader c.args.seat.now) (reader c.item_word-header.new.self) c.args.offset c.item_word-header.result c.args.wanted.now.key.now c.requires.open c.item_word-header.ensures.event
+    (reader c.item_word.new.self) c.item_word.result c.item_word.ensures.event (reader c.holds_words.new.seat) c.args.wanted.now.packed.now c.args.wanted.now.words c.holds_words.ensures.on
+    (sym c.header_key_len.ensures ∙ c.if-header_key_len-wanted.false) (omega (arith, c.header_value_len-len.ensures)) (c.if-item_word-wanted.false ∙ c.args.wanted.now.hashed)
     (when_true _ _ c.holds_words.result c.if-holds_words.true c.holds_words.ensures.shows))
 
 pub returns-else-holds_words-clause-on : goal.returns-else-holds_words-clause-on
 returns-else-holds_words-clause-on g c =
     let reader = g.R.ReaderWords.reader in
-    on_three (reader c.args.seat.now) (reader c.item_word-header.new.self) c.args.offset c.item_word-header.result c.args.key.now c.requires.open c.item_word-header.ensures.event
-    (reader c.item_word.new.self) c.item_word.result c.item_word.ensures.event (reader c.holds_words.new.seat) c.args.packed.now c.requires.packed c.holds_words.ensures.on
+    on_three (reader c.args.seat.now) (reader c.item_word-header.new.self) c.args.offset c.item_word-header.result c.args.wanted.now.key.now c.requires.open c.item_word-header.ensures.event
+    (reader c.item_word.new.self) c.item_word.result c.item_word.ensures.event (reader c.holds_words.new.seat) c.args.wanted.now.packed.now c.args.wanted.now.words c.holds_words.ensures.on
 
 pub returns-else-holds_words-clause-shows : goal.returns-else-holds_words-clause-shows
 returns-else-holds_words-clause-shows g c =
     let reader = g.R.ReaderWords.reader in
-    other_word (reader c.args.seat.now) (reader c.item_word-header.new.self) c.args.offset c.item_word-header.result c.args.key.now c.requires.open c.item_word-header.ensures.event
-    (reader c.item_word.new.self) c.item_word.result c.item_word.ensures.event (reader c.holds_words.new.seat) c.args.packed.now c.requires.packed c.holds_words.ensures.on
+    other_word (reader c.args.seat.now) (reader c.item_word-header.new.self) c.args.offset c.item_word-header.result c.args.wanted.now.key.now c.requires.open c.item_word-header.ensures.event
+    (reader c.item_word.new.self) c.item_word.result c.item_word.ensures.event (reader c.holds_words.new.seat) c.args.wanted.now.packed.now c.args.wanted.now.words c.holds_words.ensures.on
     (when_false _ _ c.holds_words.result c.if-holds_words.false c.holds_words.ensures.shows)

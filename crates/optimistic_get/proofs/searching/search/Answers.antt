@@ -9,7 +9,7 @@ pub loop-link-init : goal.loop-link-init
 loop-link-init g c =
     let reader = g.R.ReaderWords.reader in
     let main = c.requires.bucket in record {
-      walks = walks_first (reader c.args.seat.now) (reader c.scan-best.new.seat) c.args.bucket c.args.key.now c.args.out.now c.scan-best.result c.scan-best.new.out c.scan-best.ensures.scans;
+      walks = walks_first (reader c.args.seat.now) (reader c.scan-best.new.seat) c.args.bucket c.args.wanted.now.key.now c.args.out.now c.scan-best.result c.scan-best.new.out c.scan-best.ensures.scans;
       at = omega arith;
       low = c.scan-best.ensures.low;
       home = c.scan-best.ensures.home;
@@ -20,7 +20,7 @@ returns-then-next-eq0-clause-searches g c =
     let reader = g.R.ReaderWords.reader in
     let r = reader c.args.seat.now in
     let first = ap (λ (z : Shape). z.spares) (c.shape-link-end.ensures.same ∙ on_shape r (reader c.scan-best.new.seat) _ c.scan-best.ensures.scans.on) in
-    searched r (reader c.loop-link.seat) (reader c.link-next.new.self) (reader c.link-next.new.self) c.args.bucket c.loop-link._link c.loop-link.at c.link-next.result c.args.key.now
+    searched r (reader c.loop-link.seat) (reader c.link-next.new.self) (reader c.link-next.new.self) c.args.bucket c.loop-link._link c.loop-link.at c.link-next.result c.args.wanted.now.key.now
     c.loop-link.best c.loop-link.out c.loop-link.best c.loop-link.out c.loop-link.invariant.walks c.link-next.ensures.event c.if-next-eq0.true (omega (arith, c.loop-link-test.true))
 
 pub loop-link-preserved : goal.loop-link-preserved
@@ -32,7 +32,7 @@ loop-link-preserved g c =
       | inl none ↦ absurd (c.if-next-eq0.false none)
       | inr is ↦ subst (λ (z : Shape). IsSpare z c.link-next.result) shape is
     ] in record {
-      walks = walks_more r (reader c.loop-link.seat) (reader c.link-next.new.self) (reader c.scan-best-in-loop-link.new.seat) c.args.bucket c.loop-link._link c.loop-link.at c.link-next.result c.args.key.now
+      walks = walks_more r (reader c.loop-link.seat) (reader c.link-next.new.self) (reader c.scan-best-in-loop-link.new.seat) c.args.bucket c.loop-link._link c.loop-link.at c.link-next.result c.args.wanted.now.key.now
           c.loop-link.best c.loop-link.out c.scan-best-in-loop-link.result c.scan-best-in-loop-link.new.out c.loop-link.invariant.walks c.link-next.ensures.event c.if-next-eq0.false c.scan-best-in-loop-link.ensures.scans;
       at = spare.1;
       low = c.scan-best-in-loop-link.ensures.low;
@@ -44,5 +44,5 @@ returns-clause-searches g c =
     let reader = g.R.ReaderWords.reader in
     let r = reader c.args.seat.now in
     let first = ap (λ (z : Shape). z.spares) (c.shape-link-end.ensures.same ∙ on_shape r (reader c.scan-best.new.seat) _ c.scan-best.ensures.scans.on) in
-    searched_all r (reader c.loop-link.seat) c.args.bucket c.loop-link._link c.loop-link.at c.args.key.now c.loop-link.best c.loop-link.out c.loop-link.invariant.walks
+    searched_all r (reader c.loop-link.seat) c.args.bucket c.loop-link._link c.loop-link.at c.args.wanted.now.key.now c.loop-link.best c.loop-link.out c.loop-link.invariant.walks
     (omega (arith, c.loop-link-test.false, first))

@@ -6,7 +6,7 @@ use Rattle.optimistic_get.proofs.searching.search.Given as goal
 
 abbrev pub invariant-loop-link : goal.invariant-loop-link
 invariant-loop-link g l = record {
-  walks : Walks (g.R.ReaderWords.reader l.fn.seat) l.bucket l._link l.at l.key l.best l.out (g.R.ReaderWords.reader l.seat);
+  walks : Walks (g.R.ReaderWords.reader l.fn.seat) l.bucket l._link l.at l.wanted.key.now l.best l.out (g.R.ReaderWords.reader l.seat);
   at : IsBucket (g.R.ReaderWords.reader l.fn.seat).shape l.at;
   low : IfSome l.best (λ p. p < 2 ^ 48);
   home : g.R.ReaderWords.home l.seat ≡ g.R.ReaderWords.home l.fn.seat;
