@@ -2,7 +2,7 @@
 use Rattle.std.proofs.Common.{◌≡◌, ℕ, ◌+◌, ◌≤◌, ◌⊎◌, inl, inr, List, length, length-append, Option, Some, None, codes, refl, sym, ap, ◌∙◌, subst, arith}
 use Rattle.std.specs.Prelude.{IfSome}
 use Rattle.std.specs.Option.{IsSomeAnd}
-use Rattle.std.specs.Io.KnownBytes.{Appends, Consumes, IsAtEnd}
+use Rattle.std.specs.Io.KnownBytes.{Keeps, Appends, Consumes, IsAtEnd}
 use Rattle.std.proofs.KnownBytes.{Consumes-whole}
 use Rattle.mica_model.specs.declared.options.Options.{Options}
 use Rattle.mica_trace.specs.declared.line.TraceLine.{TraceLine}
@@ -37,18 +37,13 @@ complete : (command : Option Command) (old new : Outside) (status : Status) → 
     → IsUnhindered command old new → (status ≡ Done) ⊎ (status ≡ NoMemory)
 complete command old new Done ends free = inl refl
 complete command old new NoMemory ends free = inr refl
-complete None old new Usage ends free = absurd free
-complete None old new TraceRefused ends free = absurd free
-complete None old new TraceLong ends free = absurd free
-complete None old new ReadFault ends free = absurd free
-complete None old new WriteFault ends free = absurd free
-complete None old new NetFault ends free = absurd free
 complete (Some (Replay options)) old new Usage ends free = absurd ends.1
 complete (Some (Replay options)) old new NetFault ends free = absurd ends.1
 complete (Some (Replay options)) old new TraceRefused ends free = absurd (never_both old.source.left _ _ (λ bytes no is. no.2 is.1.0 is.1.1) ends.1.refused free.0)
 complete (Some (Replay options)) old new TraceLong ends free = absurd (never_both old.source.left _ _ (λ bytes long is. is.0 long) ends.1.0 free.0)
 complete (Some (Replay options)) old new ReadFault ends free = absurd (free.1 ends.1.0)
 complete (Some (Replay options)) old new WriteFault ends free = absurd (free.2 ends.0)
+complete _ old new status ends free = absurd free
 
 pub keeps_promises : (command : Option Command) (old new : Outside) (status : Status) → Ends command old new status → ReadsFor command old.source new.source
     → KeepsPromises command old new status
@@ -95,3 +90,11 @@ pub usage_promises : (command : Option Command) (old new : Outside) (result : St
 usage_promises command old new result none same written =
     subst (λ c. KeepsPromises c old new result) (sym none)
     (keeps_promises None old new result (due_ends None old new Usage (line_of (codes "usage")) result refl (λ line. line) written) same)
+
+kept_itself : (taken : Option (List ℕ)) → Keeps taken taken
+kept_itself None = tt
+kept_itself (Some bytes) = refl
+
+-- no memory for the words
+pub memory_promises : (outside : Outside) → KeepsPromises None outside outside NoMemory
+memory_promises outside = keeps_promises None outside outside NoMemory (kept_itself outside.sink.taken) refl

@@ -68,7 +68,7 @@ bucket_power n within is =
     (p.0, small_power p.0 (omega (arith, p.1)), p.1)
 
 -- one value after another
-both_told : {A B : Type 0} (o : Option A) (next : A → Option B) (b : B) → (o >>= next) ≡ Some b → (a : A) × (o ≡ Some a) × (next a ≡ Some b)
+pub both_told : {A B : Type 0} (o : Option A) (next : A → Option B) (b : B) → (o >>= next) ≡ Some b → (a : A) × (o ≡ Some a) × (next a ≡ Some b)
 both_told None next b is = absurd (none-some b is)
 both_told (Some a) next b is = (a, refl, is)
 

@@ -1,5 +1,5 @@
 -- The commands, their options, and the command that words give.
-use Rattle.std.specs.Prelude.{ℕ, ◌&&◌, Bool, false, List, [], ◌∷◌, Option, Some, None, if◌then◌else◌, option_and_then, option_map, codes, bytes_eq}
+use Rattle.std.specs.Prelude.{◌≡◌, ⊤, ℕ, ◌&&◌, Bool, true, false, List, [], ◌∷◌, ◌++◌, Result, Ok, Err, Option, Some, None, if◌then◌else◌, option_and_then, option_map, codes, bytes_eq}
 use Rattle.std.specs.Int.{is_power_of_two, is_in_range}
 use Rattle.std.specs.Str.{all_ascii_digits}
 use Rattle.std.specs.Str.Parse.{digits_value}
@@ -8,7 +8,11 @@ use Rattle.mica_model.specs.declared.options.Mode.{Mode}
 use Rattle.mica_model.specs.declared.options.Mode.TheVariants.{Cache, Store}
 use Rattle.mica_model.specs.Options.{IsValid}
 use Rattle.mica_cmd.specs.declared.command.Command.{Command}
-use Rattle.mica_cmd.specs.declared.command.Command.TheVariants.{Replay}
+use Rattle.mica_cmd.specs.declared.command.Command.TheVariants.{Replay, Gen, Bench}
+use Rattle.mica_cmd.specs.declared.command.WordsFault.{WordsFault}
+use Rattle.mica_cmd.specs.declared.command.WordsFault.TheVariants.{Usage, NoMemory}
+use Rattle.mica_cmd.specs.declared.gen_options.GenOptions.{GenOptions}
+use Rattle.mica_cmd.specs.GenOptions.{is_valid}
 use Rattle.mica_cmd.specs.Words.{Text, given_by, text_of}
 
 -- a digit, which is no zero where more follows
@@ -76,6 +80,34 @@ tries = number (codes "tries") 1 1000 100
 abbrev pub wear : Setting ℕ
 wear = number (codes "wear") 1 68719476736 68719476736
 
+-- the options of a generated trace
+abbrev pub seed : Setting ℕ
+seed = number (codes "seed") 0 18446744073709551615 1
+
+abbrev pub ops : Setting ℕ
+ops = number (codes "ops") 1 100000 20000
+
+abbrev pub keys : Setting ℕ
+keys = number (codes "keys") 1 65536 1000
+
+abbrev pub key_len : Setting ℕ
+key_len = number (codes "key-len") 8 255 16
+
+abbrev pub value_len : Setting ℕ
+value_len = number (codes "value-len") 8 1024 64
+
+abbrev pub gets : Setting ℕ
+gets = number (codes "gets") 0 100 95
+
+abbrev pub dels : Setting ℕ
+dels = number (codes "dels") 0 100 0
+
+abbrev pub hot : Setting ℕ
+hot = number (codes "hot") 0 100 0
+
+abbrev pub every : Setting ℕ
+every = number (codes "every") 1 100000 1000
+
 -- the value of an option that was given this text, or none
 abbrev pub value_by : {A : Type 0} → Setting A → Option Text → Option A
 value_by setting None = setting.default
@@ -116,14 +148,77 @@ replay_options given =
       wear = wear;
     })
 
+-- options that are valid
+abbrev pub if_valid : GenOptions → Option GenOptions
+if_valid options = if is_valid options then Some options else None
+
+-- the names of the options of `gen`
+abbrev pub gen_names : List Text
+gen_names = seed.name ∷ ops.name ∷ keys.name ∷ key_len.name ∷ value_len.name ∷ gets.name ∷ dels.name ∷ hot.name ∷ every.name ∷ []
+
+-- the options of a generated trace, where they are valid together
+abbrev pub gen_options : (Text → Option Text) → Option GenOptions
+gen_options given =
+    value_of seed given >>= λ seed.
+    value_of ops given >>= λ ops.
+    value_of keys given >>= λ keys.
+    value_of key_len given >>= λ key_len.
+    value_of value_len given >>= λ value_len.
+    value_of gets given >>= λ gets.
+    value_of dels given >>= λ dels.
+    value_of hot given >>= λ hot.
+    value_of every given >>= λ every.
+    if_valid (record {
+      seed = seed;
+      ops = ops;
+      keys = keys;
+      key_len = key_len;
+      value_len = value_len;
+      gets = gets;
+      dels = dels;
+      hot = hot;
+      every = every;
+    })
+
+-- the names of the options of `bench`
+abbrev pub bench_names : List Text
+bench_names = replay_names ++ gen_names
+
+-- each command, from the texts that its options were given
+abbrev pub replay_given : (Text → Option Text) → Option Command
+replay_given given = option_map (λ options. Replay options) (replay_options given)
+
+abbrev pub gen_given : (Text → Option Text) → Option Command
+gen_given given = option_map (λ generator. Gen generator) (gen_options given)
+
+abbrev pub bench_given : (Text → Option Text) → Option Command
+bench_given given = replay_options given >>= λ options. option_map (λ generator. Bench options generator) (gen_options given)
+
+-- what words give as options of these names
+abbrev pub read_as : List Text → ((Text → Option Text) → Option Command) → List Text → Option Command
+read_as names meaning words = given_by names words >>= λ given. meaning (text_of given)
+
+-- the command of this name, with these words behind it
+abbrev pub command_named : Text → List Text → Option Command
+command_named name words =
+    if bytes_eq name (codes "replay") then read_as replay_names replay_given words
+    else (if bytes_eq name (codes "gen") then read_as gen_names gen_given words
+    else (if bytes_eq name (codes "bench") then read_as bench_names bench_given words
+    else None))
+
 -- the command that words give: the first is its name, and the rest are its options
 abbrev pub command_of : List Text → Option Command
 command_of [] = None
-command_of (name ∷ rest) =
-    if bytes_eq name (codes "replay")
-    then (given_by replay_names rest >>= λ given. option_map (λ o. Replay o) (replay_options (text_of given)))
-    else None
+command_of (name ∷ words) = command_named name words
 
 -- the options of a command lie in their ranges
 abbrev pub IsValidCommand : Command → Type 0
 IsValidCommand (Replay options) = IsValid options
+IsValidCommand (Gen generator) = is_valid generator ≡ true
+IsValidCommand (Bench options generator) = IsValid options × (is_valid generator ≡ true)
+
+-- what is read of words that give this command, or none: want of memory may come with any
+abbrev pub IsReadingOf : Option Command → Result Command WordsFault → Type 0
+IsReadingOf given (Ok command) = (given ≡ Some command) × IsValidCommand command
+IsReadingOf given (Err Usage) = given ≡ None
+IsReadingOf given (Err NoMemory) = ⊤

@@ -5,3 +5,4 @@ pub mod CommandLine
 pub mod ClapCommand
 pub mod Outside
 pub mod Top
+pub mod Exit

@@ -38,7 +38,7 @@ pub record PrintsLawfully (options : Options) (old new : Outside) : Type 0 where
 -- what it means that a command was carried out
 abbrev pub Headline : Option Command → Outside → Outside → Type 0
 Headline (Some (Replay options)) old new = PrintsLawfully options old new
-Headline None old new = ⊥
+Headline _ old new = ⊥
 
 -- the text of a lawful report of the trace that the source gave
 pub record IsReportText (options : Options) (old new : SourceFacts) (text : List ℕ) : Type 0 where
@@ -78,6 +78,7 @@ IsDueOfNoCommand _ text = ⊥
 abbrev pub IsDue : Option Command → Outside → Outside → Status → List ℕ → Type 0
 IsDue (Some (Replay options)) old new status text = IsDueOfReplay options old.source new.source status text
 IsDue None old new status text = IsDueOfNoCommand status text
+IsDue _ old new status text = ⊥
 
 -- the sink took a proper prefix of the text, and nothing else
 abbrev pub AppendsPart : SinkFacts → SinkFacts → List ℕ → Type 0
@@ -101,7 +102,7 @@ TellsTrace source = IsSomeAnd source.left (λ bytes. ¬ (IsTooLong bytes) × ((t
 abbrev pub IsUnhindered : Option Command → Outside → Outside → Type 0
 IsUnhindered (Some (Replay options)) old new =
     TellsTrace old.source × ¬ (Rose old.source.faults new.source.faults) × ¬ (Rose old.sink.faults new.sink.faults)
-IsUnhindered None old new = ⊥
+IsUnhindered _ old new = ⊥
 
 -- the source gave at most so many bytes
 abbrev pub GivesAtMost : ℕ → SourceFacts → SourceFacts → Type 0
@@ -110,7 +111,7 @@ GivesAtMost most old new = (bytes : List ℕ) × (length bytes ≤ most) × Cons
 -- A replay reads no more than shows that a trace is too long, and nothing else touches the source.
 abbrev pub ReadsFor : Option Command → SourceFacts → SourceFacts → Type 0
 ReadsFor (Some (Replay options)) old new = GivesAtMost (MAX_SOURCE_LEN + 1) old new
-ReadsFor None old new = new ≡ old
+ReadsFor _ old new = new ≡ old
 
 -- What a run of a command promises of what was outside before it and is after it, and of its status.
 pub record KeepsPromises (command : Option Command) (old new : Outside) (status : Status) : Type 0 where

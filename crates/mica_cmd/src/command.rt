@@ -1,16 +1,22 @@
 // The commands, and the words that give them.
-ghost use Rattle.std.specs.Prelude.{◌≡◌, IfOk, IfErr, None, Some, map, string_bytes};
-ghost use Rattle.mica_cmd.specs.CommandLine.{command_of, IsValidCommand};
+ghost use Rattle.std.specs.Prelude.{◌≡◌, map, string_bytes};
+ghost use Rattle.mica_cmd.specs.CommandLine.{bench_given, bench_names, command_of, gen_given, gen_names, read_as, replay_given, replay_names, IsReadingOf};
 
+use crate::GenOptions;
 use crate::clap_command::matches_of;
-use crate::option_values::replay_options;
+use crate::option_values::{gen_options, replay_options};
 use mica_model::Options;
 use std::alloc::Global;
 
 /// What the program is asked to do.
 #[derive(Clone, Copy, Debug, PartialEq, Eq)]
 pub enum Command {
+    /// To replay the trace that the source gives.
     Replay(Options),
+    /// To print a generated trace.
+    Gen(GenOptions),
+    /// To run a generated trace and print a summary.
+    Bench(Options, GenOptions),
 }
 
 /// Why there is no command: the words give none, or there was no memory to read them.
@@ -31,24 +37,82 @@ static REPLAY_OPTIONS: [&str; 8] = [
     "wear",
 ];
 
+static GEN_OPTIONS: [&str; 9] = [
+    "seed",
+    "ops",
+    "keys",
+    "key-len",
+    "value-len",
+    "gets",
+    "dels",
+    "hot",
+    "every",
+];
+
+static BENCH_OPTIONS: [&str; 17] = [
+    "mode",
+    "partitions",
+    "buckets",
+    "spares",
+    "words",
+    "readers",
+    "tries",
+    "wear",
+    "seed",
+    "ops",
+    "keys",
+    "key-len",
+    "value-len",
+    "gets",
+    "dels",
+    "hot",
+    "every",
+];
+
+fn read_replay(alloc: Global, words: &[String]) -> Result<Command, WordsFault>
+    ensures { IsReadingOf (read_as replay_names replay_given (map string_bytes words.now)) result }
+{
+    let found = matches_of(alloc, "replay", REPLAY_OPTIONS.as_slice(), words)?;
+    match replay_options(&found) {
+        Some(options) => Ok(Command::Replay(options)),
+        None => Err(WordsFault::Usage),
+    }
+}
+
+fn read_gen(alloc: Global, words: &[String]) -> Result<Command, WordsFault>
+    ensures { IsReadingOf (read_as gen_names gen_given (map string_bytes words.now)) result }
+{
+    let found = matches_of(alloc, "gen", GEN_OPTIONS.as_slice(), words)?;
+    match gen_options(&found) {
+        Some(generator) => Ok(Command::Gen(generator)),
+        None => Err(WordsFault::Usage),
+    }
+}
+
+fn read_bench(alloc: Global, words: &[String]) -> Result<Command, WordsFault>
+    ensures { IsReadingOf (read_as bench_names bench_given (map string_bytes words.now)) result }
+{
+    let found = matches_of(alloc, "bench", BENCH_OPTIONS.as_slice(), words)?;
+    let Some(options) = replay_options(&found) else {
+        return Err(WordsFault::Usage);
+    };
+    match gen_options(&found) {
+        Some(generator) => Ok(Command::Bench(options, generator)),
+        None => Err(WordsFault::Usage),
+    }
+}
+
 /// The command that the words after the program's name give.
 pub fn read_words(alloc: Global, words: &[String]) -> Result<Command, WordsFault>
-    ensures command { IfOk result (λ c. command_of (map string_bytes words.now) ≡ Some c) }
-    ensures usage { IfErr result (λ e. e ≡ WordsFault.Usage
-        → command_of (map string_bytes words.now) ≡ None) }
-    ensures valid { IfOk result IsValidCommand }
+    ensures { IsReadingOf (command_of (map string_bytes words.now)) result }
 {
     let Some((name, rest)) = words.split_first() else {
         return Err(WordsFault::Usage);
     };
     match name.as_str() {
-        "replay" => {
-            let found = matches_of(alloc, "replay", REPLAY_OPTIONS.as_slice(), rest)?;
-            match replay_options(&found) {
-                Some(options) => Ok(Command::Replay(options)),
-                None => Err(WordsFault::Usage),
-            }
-        }
+        "replay" => read_replay(alloc, rest),
+        "gen" => read_gen(alloc, rest),
+        "bench" => read_bench(alloc, rest),
         _ => Err(WordsFault::Usage),
     }
 }

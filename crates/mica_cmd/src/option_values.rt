@@ -2,8 +2,9 @@
 ghost use Rattle.std.specs.Prelude.{◌≡◌, Some, None, option_map, option_and_then};
 ghost use Rattle.std.specs.Int.{is_power_of_two};
 ghost use Rattle.clap.specs.Matches.{first_value, found_of};
-ghost use Rattle.mica_cmd.specs.CommandLine.{begins_number, mode, buckets, number, number_of, value_of, replay_options};
+ghost use Rattle.mica_cmd.specs.CommandLine.{begins_number, mode, buckets, number, number_of, value_of, replay_options, gen_options};
 
+use crate::GenOptions;
 use clap::ArgMatches;
 use mica_model::{Mode, Options};
 
@@ -86,4 +87,26 @@ pub fn replay_options(found: &ArgMatches<'_>) -> Option<Options>
         tries: count(found, "tries", 1, 1_000, 100)?,
         wear: number(found, "wear", 1, 68_719_476_736, 68_719_476_736)?,
     })
+}
+
+/// The options of a generated trace, or `None` where a text is no value of its option, or the values are not valid together.
+pub fn gen_options(found: &ArgMatches<'_>) -> Option<GenOptions>
+    ensures { result ≡ gen_options (first_value (found_of found.now)) }
+{
+    let options = GenOptions {
+        seed: number(found, "seed", 0, 18_446_744_073_709_551_615, 1)?,
+        ops: count(found, "ops", 1, 100_000, 20_000)?,
+        keys: count(found, "keys", 1, 65_536, 1_000)?,
+        key_len: count(found, "key-len", 8, 255, 16)?,
+        value_len: count(found, "value-len", 8, 1_024, 64)?,
+        gets: count(found, "gets", 0, 100, 95)?,
+        dels: count(found, "dels", 0, 100, 0)?,
+        hot: count(found, "hot", 0, 100, 0)?,
+        every: count(found, "every", 1, 100_000, 1_000)?,
+    };
+    if options.is_valid() {
+        Some(options)
+    } else {
+        None
+    }
 }

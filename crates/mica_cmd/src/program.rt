@@ -1,33 +1,54 @@
+// The whole program: its words, and the number that it ends with.
+ghost use Rattle.std.specs.Prelude.{◌≡◌, false};
+ghost use Rattle.std.specs.Process.{exit_status};
+ghost use Rattle.mica_cmd.specs.Outside.{Outside, SourceFacts, SinkFacts};
+ghost use Rattle.mica_cmd.specs.Exit.{exit_number, Exits};
+
 use crate::{Status, mica};
-use mica_io::{StdSink, StdSource};
-use std::alloc::Global;
+use mica_io::{NoMemory, Sink, Source};
 use std::env;
+use std::io::ErrorKind;
 use std::process::ExitCode;
 use std::rt::Env;
 
 // The words after the program's name. Words that are no text count as none, which no command has.
-fn words(rt: &HostRuntime, alloc: Global) -> Result<Vec<String>, Status> {
-    let mut words = Vec::new(alloc);
-    let Ok(args) = env::args(rt) else {
-        return Ok(words);
-    };
-    for word in args.skip(1) {
-        if words.push(word).is_err() {
-            return Err(Status::NoMemory);
+fn words(rt: &HostRuntime) -> Result<Vec<String>, NoMemory> {
+    let mut words = Vec::new(rt.alloc());
+    match env::args(rt) {
+        Ok(args) => {
+            for word in args.skip(1) {
+                words.push(word)?;
+            }
+            Ok(words)
         }
+        Err(error) => match error.kind() {
+            ErrorKind::OutOfMemory => Err(NoMemory),
+            _ => Ok(words),
+        },
     }
-    Ok(words)
 }
 
-/// The whole program: its words, standard input and standard output. It ends with the status' number.
-pub fn run_program(rt: &HostRuntime) -> ExitCode {
-    let status = match words(rt, rt.alloc()) {
-        Ok(words) => {
-            let mut source = StdSource::new(rt.stdin());
-            let mut sink = StdSink::new(rt.stdout());
-            mica(rt.alloc(), words.as_slice(), &mut source, &mut sink)
-        }
-        Err(status) => status,
-    };
+fn exit_code(status: Status) -> ExitCode
+    ensures { exit_status result ≡ exit_number status }
+{
     ExitCode::from(status as u8)
+}
+
+/// Carries out the command that the program's words give, and ends with the number of its status.
+pub fn run_program<S: Source, K: Sink>(rt: &HostRuntime, source: &mut S, sink: &mut K) -> ExitCode
+    requires { S.has_ended source.old ≡ false }
+    ensures { Exits
+        (record {
+          source = record { left = S.left source.old; has_ended = S.has_ended source.old; faults = S.faults source.old };
+          sink = record { taken = K.taken sink.old; faults = K.faults sink.old };
+        })
+        (record {
+          source = record { left = S.left source.new; has_ended = S.has_ended source.new; faults = S.faults source.new };
+          sink = record { taken = K.taken sink.new; faults = K.faults sink.new };
+        }) (exit_status result) }
+{
+    match words(rt) {
+        Ok(words) => exit_code(mica(rt.alloc(), words.as_slice(), source, sink)),
+        Err(NoMemory) => exit_code(Status::NoMemory),
+    }
 }

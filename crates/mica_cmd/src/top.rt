@@ -100,6 +100,7 @@ pub fn mica<S: Source, K: Sink>(
 {
     match read_words(alloc, words) {
         Ok(Command::Replay(options)) => replay_source(alloc, &options, source, sink),
+        Ok(Command::Gen(_)) | Ok(Command::Bench(_, _)) => Status::NoMemory,
         Err(WordsFault::Usage) => write_due(sink, b"usage\n", Status::Usage),
         Err(WordsFault::NoMemory) => Status::NoMemory,
     }
