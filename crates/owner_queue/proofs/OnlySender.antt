@@ -1,5 +1,5 @@
 -- Of the messages of a queue with one sender, all are its own.
-use Rattle.std.proofs.Common.{◌≡◌, ℕ, ◌<◌, ◌==◌, List, [], ◌∷◌, refl, ap, ◌∙◌, arith, cond, true, eq-eqb}
+use Rattle.std.proofs.Common.{◌≡◌, ◌<◌, ◌==◌, List, [], ◌∷◌, refl, ap, ◌∙◌, arith, cond, true, eq-eqb}
 use Rattle.std.specs.List.{AllByRecursion}
 use Rattle.owner_queue.specs.declared.message.Message.{Message}
 use Rattle.owner_queue.specs.Messages.{sender_of, sent_by}

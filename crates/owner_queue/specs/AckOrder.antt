@@ -7,7 +7,7 @@ use Rattle.partition_table.specs.declared.reader.Note.{Note}
 use Rattle.partition_table.specs.declared.rule.View.TheVariants.{Reads}
 use Rattle.partition_table.specs.Rule.{no_shape}
 use Rattle.owner_queue.specs.declared.ack.Ack.{Ack}
-use Rattle.owner_queue.specs.Acked.{table_of}
+use Rattle.partition_table.specs.Seats.{note_home}
 
 -- a queue of acknowledgements has one sender
 abbrev pub only_sender : Ack → ℕ
@@ -16,14 +16,14 @@ only_sender ack = 0
 -- An acknowledgement may follow others: its note is of the queue's table, its ticket is above theirs, and its stamp is at least theirs,
 -- and above them where its write was accepted.
 pub record AckMayFollow (table : TableId) (before : List Ack) (ack : Ack) : Type 0 where
-  pub note : table_of ack.note ≡ table
+  pub note : note_home ack.note ≡ table
   pub ticket : All (λ b. b.ticket < ack.ticket) before
   pub stamp : All (λ b. b.stamp ≤ ack.stamp) before
   pub accepted : is_accepted ack.outcome ≡ true → All (λ b. b.stamp < ack.stamp) before
 
 -- the same, at the table of another note
 abbrev pub AckMayFollowAt : Note → List Ack → Ack → Type 0
-AckMayFollowAt note before ack = AckMayFollow (table_of note) before ack
+AckMayFollowAt note before ack = AckMayFollow (note_home note) before ack
 
 -- a note of no table
 abbrev pub no_note : Note

@@ -1,6 +1,5 @@
 -- What an acknowledgement says of its write.
 use Rattle.std.specs.Prelude.{◌≡◌, ℕ, Bool, true, false, [], ◌∷◌, ◌++◌}
-use Rattle.atomic_table.specs.Seated.{TableId}
 use Rattle.mica_model.specs.declared.options.Options.{Options}
 use Rattle.mica_model.specs.declared.write.Write.{Write}
 use Rattle.mica_model.specs.declared.write.Outcome.{Outcome}
@@ -8,16 +7,6 @@ use Rattle.mica_model.specs.Write.{is_accepted}
 use Rattle.mica_model.specs.History.{History, IsPrefix, IsCut, MayGive}
 use Rattle.epoch_core.specs.declared.reader.ReaderState.{ReaderState}
 use Rattle.epoch_core.specs.Shape.{options_of}
-use Rattle.partition_table.specs.declared.reader.Note.{Note}
-use Rattle.partition_table.specs.Rule.{reader_in}
-
--- what a note has seen
-abbrev pub seen_by : Note → ReaderState
-seen_by note = reader_in note.seat.me.0
-
--- the table that a note is of
-abbrev pub table_of : Note → TableId
-table_of note = note.seat.table_id
 
 -- An accepted write is the last of the cut, and its outcome is one that the machine may give there. A refused one has an outcome that
 -- the machine may give after the cut.

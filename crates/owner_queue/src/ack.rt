@@ -1,5 +1,6 @@
 //! An acknowledgement.
-ghost use Rattle.owner_queue.specs.Acked.{seen_by, IsAcked};
+ghost use Rattle.owner_queue.specs.Acked.{IsAcked};
+ghost use Rattle.partition_table.specs.Seats.{note_state};
 
 use crate::rule::Queued;
 use mica_model::{Outcome, Write};
@@ -13,7 +14,7 @@ pub struct Ack {
     pub outcome: Outcome,
     pub stamp: u64,
     pub note: Note,
-    pub ghost acked: { ∥ IsAcked (seen_by note) write outcome stamp ∥₁ },
+    pub ghost acked: { ∥ IsAcked (note_state note) write outcome stamp ∥₁ },
 }
 
 // The terms of a queue of acknowledgements are a note of the table that all their notes are of.

@@ -1,6 +1,7 @@
 //! Queues of acknowledgements: one sender and one receiver.
 ghost use Rattle.std.specs.Prelude.{◌≡◌, [], ◌∷◌, ◌++◌, IfOk};
-ghost use Rattle.owner_queue.specs.Acked.{seen_by, table_of, IsAcked};
+ghost use Rattle.owner_queue.specs.Acked.{IsAcked};
+ghost use Rattle.partition_table.specs.Seats.{note_state, note_home, reader_home};
 ghost use Rattle.owner_queue.specs.AckOrder.{AckMayFollow};
 ghost use Rattle.owner_queue.specs.AckEnds.{ack_box, BeginsAcks};
 
@@ -27,12 +28,12 @@ impl Model for AckSender {
     ghost use Rattle.crossbeam_channel.specs.Ends.{sends_on, ruled_capacity};
     ghost use Rattle.owner_queue.specs.Delivery.{sender};
     ghost use Rattle.owner_queue.specs.Ends.{capacity, queue_of, known};
-    ghost use Rattle.owner_queue.specs.Acked.{table_of};
+    ghost use Rattle.partition_table.specs.Seats.{note_home};
     ghost use Rattle.owner_queue.specs.AckEnds.{AckBox, ack_box};
 
     ghost Value = { AckBox };
 
-    ghost view = { λ s. ack_box (queue_of s.pass) (table_of (known s.pass).terms) (known s.pass).sent };
+    ghost view = { λ s. ack_box (queue_of s.pass) (note_home (known s.pass).terms) (known s.pass).sent };
 
     ghost invariant = { λ s. IsSeatAt (sends_on s.end) s.pass
         × (known s.pass ≡ sender (known s.pass).number (known s.pass).terms (known s.pass).sent)
@@ -52,12 +53,12 @@ impl Model for AckReceiver {
     ghost use Rattle.crossbeam_channel.specs.Claims.{IsSeatAt};
     ghost use Rattle.crossbeam_channel.specs.Ends.{receives_on, ruled_capacity};
     ghost use Rattle.owner_queue.specs.Ends.{capacity, queue_of, known};
-    ghost use Rattle.owner_queue.specs.Acked.{table_of};
+    ghost use Rattle.partition_table.specs.Seats.{note_home};
     ghost use Rattle.owner_queue.specs.AckEnds.{AckBox, ack_box};
 
     ghost Value = { AckBox };
 
-    ghost view = { λ r. ack_box (queue_of r.pass) (table_of (known r.pass).terms) (known r.pass).taken };
+    ghost view = { λ r. ack_box (queue_of r.pass) (note_home (known r.pass).terms) (known r.pass).taken };
 
     ghost invariant = { λ r. IsSeatAt (receives_on r.end) r.pass
         × ((known r.pass).takes ≡ true) × ((known r.pass).sends ≡ false)
@@ -79,7 +80,7 @@ impl AckReceiver {
     pub fn recv<R: Wait>(&mut self, rt: &R) -> Ack
         ensures taken { self.new ≡ ack_box self.old.queue self.old.table (self.old.list ++ result ∷ []) }
         ensures order { AckMayFollow self.old.table self.old.list result }
-        ensures acked { IsAcked (seen_by result.note) result.write result.outcome result.stamp }
+        ensures acked { IsAcked (note_state result.note) result.write result.outcome result.stamp }
     {
         take(rt, &self.end, &mut self.pass)
     }
@@ -98,8 +99,8 @@ impl AckReceiver {
 
 /// A queue of capacity 64 for one sender and one receiver, for notes of the seat's table.
 pub fn ack_queue(alloc: Global, of: &ReaderSeat) -> Result<(AckSender, AckReceiver), NoMemory>
-    ensures sender { IfOk result (λ r. r.0 ≡ ack_box r.1.queue of.now.seat.table_id []) }
-    ensures receiver { IfOk result (λ r. r.1 ≡ ack_box r.1.queue of.now.seat.table_id []) }
+    ensures sender { IfOk result (λ r. r.0 ≡ ack_box r.1.queue (reader_home of.now) []) }
+    ensures receiver { IfOk result (λ r. r.1 ≡ ack_box r.1.queue (reader_home of.now) []) }
 {
     make::<Brand>(alloc, of)
 }
@@ -108,9 +109,9 @@ fn make<J: Terms<Note>>(
     alloc: Global,
     _of: &ReaderSeat,
 ) -> Result<(AckSender, AckReceiver), NoMemory>
-    requires { table_of J.terms ≡ _of.now.seat.table_id }
-    ensures sender { IfOk result (λ r. r.0 ≡ ack_box r.1.queue _of.now.seat.table_id []) }
-    ensures receiver { IfOk result (λ r. r.1 ≡ ack_box r.1.queue _of.now.seat.table_id []) }
+    requires { note_home J.terms ≡ reader_home _of.now }
+    ensures sender { IfOk result (λ r. r.0 ≡ ack_box r.1.queue (reader_home _of.now) []) }
+    ensures receiver { IfOk result (λ r. r.1 ≡ ack_box r.1.queue (reader_home _of.now) []) }
 {
     let (from, to, mut pass) = bounded_with::<Ack, Knows<Ack, Note>, InOrder, Global>(
         alloc, CAPACITY,
