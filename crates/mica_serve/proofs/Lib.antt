@@ -1,0 +1,10 @@
+pub mod InOrder
+pub mod Replying
+pub mod Alone
+pub mod Fronts
+pub mod ServedAlone
+pub mod Through
+pub mod Cut
+pub mod SoloSteps
+pub mod OneEnd
+pub mod Serving

@@ -1,0 +1,10 @@
+pub mod PortOptions
+pub mod Turn
+pub mod Dealing
+pub mod Session
+pub mod Answering
+pub mod Served
+pub mod NetRun
+pub mod Solo
+pub mod Owners
+pub mod Ends

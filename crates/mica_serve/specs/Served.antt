@@ -1,0 +1,149 @@
+-- What the fronts of a server received and replied to.
+use Rattle.std.specs.Prelude.{◌≡◌, ◌+◌, ◌<◌, ◌≤◌, ◌==◌, ◌⊎◌, ℕ, Bool, true, List, ◌++◌, take, drop, map, length, slice_get, nat_lt, Some, None, if◌then◌else◌, AllPairs, All, sum_by, filter}
+use Rattle.std.specs.List.{filter_map, AllZip}
+use Rattle.mica_io.specs.Traffic.{Datagram, Traffic, EndScript, Sent}
+use Rattle.mica_io.specs.Ports.{Port, Ports, waiting, back, is_waiting}
+use Rattle.mica_model.specs.declared.options.Options.{Options}
+use Rattle.mica_model.specs.Write.{is_accepted}
+use Rattle.mica_model.specs.History.{History, IsPrefix, stamp_of, answer_of}
+use Rattle.mica_model.specs.Run.{RunStep, IsRun, history_of}
+use Rattle.mica_serve.specs.declared.ports.Ports.{Ports as PortOptions}
+use Rattle.mica_serve.specs.declared.ports.Totals.{Totals}
+use Rattle.mica_serve.specs.Turn.{Turn, write_in, partition_in, writes_of, write_reply, get_reply}
+use Rattle.mica_serve.specs.Dealing.{Dealing, IsDealing, turns_in, due_to}
+
+-- One front and its port
+
+-- The front received the datagrams of its port in order, until so many of them, or until the end where there are fewer, and sent what is due to
+-- each before it received the next one.
+pub record ServesPort (batches : ℕ) (before after : Port) (dealings : List Dealing) : Type 0 where
+  pub datagrams : List Datagram
+  pub script : EndScript
+  pub waited : before ≡ waiting datagrams script
+  pub released : after ≡ back (record { left = drop batches datagrams; received = take batches datagrams; sent = due_to dealings })
+      (nat_lt (length datagrams) batches)
+  pub received : map (λ e. e.datagram) dealings ≡ take batches datagrams
+  pub each : All IsDealing dealings
+
+-- Partitions
+
+-- a step of a partition's machine, and the front whose write it answers
+pub record Placed : Type 0 where
+  pub front : ℕ
+  pub step : RunStep
+
+-- the steps of one front
+abbrev pub steps_by : ℕ → List Placed → List RunStep
+steps_by front placed = filter_map (λ q. if q.front == front then Some q.step else None) placed
+
+abbrev pub steps_in : List Placed → List RunStep
+steps_in placed = map (λ q. q.step) placed
+
+-- the reply to a write is that of the step
+pub record RepliesStep (turn : Turn) (step : RunStep) : Type 0 where
+  pub write : write_in turn.request ≡ Some step.write
+  pub reply : turn.reply ≡ write_reply turn.request.ticket step.outcome step.stamp
+
+-- The writes of all fronts to a partition are one run of its machine, in which those of each front stand in the order of its requests.
+pub record ServesWrites (options : Options) (partition : ℕ) (fronts : List (List Turn)) (placed : List Placed) : Type 0 where
+  pub run : IsRun options (steps_in placed)
+  pub each : (f : ℕ) (turns : List Turn) → slice_get fronts f ≡ Some turns
+      → AllZip RepliesStep (writes_of options partition turns) (steps_by f placed)
+  pub no_others : All (λ q. q.front < length fronts) placed
+
+-- the stamps of one front's writes never fall, and each accepted one is above those before it
+abbrev pub NoFall : RunStep → RunStep → Type 0
+NoFall earlier later = (earlier.stamp ≤ later.stamp) × (is_accepted later.outcome ≡ true → earlier.stamp < later.stamp)
+
+-- A get is answered as of a beginning of the history, whose stamp is no less than those replied before to the same front.
+pub record ServesGet (options : Options) (history : History) (turns : List Turn) (n : ℕ) (turn : Turn) : Type 0 where
+  pub cut : History
+  pub begins : IsPrefix cut history
+  pub reply : turn.reply
+      ≡ get_reply turn.version turn.request.ticket (stamp_of options cut) (answer_of options cut turn.request.key)
+  pub latest : (m : ℕ) (earlier : Turn) → m < n → slice_get turns m ≡ Some earlier
+      → partition_in options earlier ≡ partition_in options turn → earlier.reply.stamp ≤ turn.reply.stamp
+
+-- the request at this place is a get
+pub record IsGetAt (options : Options) (partition : ℕ) (turns : List Turn) (n : ℕ) (turn : Turn) : Type 0 where
+  pub asked : slice_get turns n ≡ Some turn
+  pub get : write_in turn.request ≡ None
+  pub here : partition_in options turn ≡ partition
+
+-- All fronts
+
+-- the history of a partition: the accepted writes of all fronts, in the order of their stamps
+abbrev pub history_in : List Placed → History
+history_in placed = history_of (steps_in placed)
+
+-- What the ports of a net tell before and after, what each front made of its datagrams, and a run of each partition's machine.
+pub record Served (options : Options) (ports : PortOptions) (before after : Ports) (fronts : List (List Dealing)) (runs : ℕ → List Placed)
+    : Type 0 where
+  pub many : length fronts ≡ ports.fronts
+  pub datagrams : (f : ℕ) (dealings : List Dealing) → slice_get fronts f ≡ Some dealings
+      → ServesPort ports.batches (before (ports.port + f)) (after (ports.port + f)) dealings
+  pub writes : (p : ℕ) → p < options.partitions → ServesWrites options p (map turns_in fronts) (runs p)
+  pub order : (p f : ℕ) → p < options.partitions → AllPairs NoFall (steps_by f (runs p))
+  pub gets : (p f : ℕ) (dealings : List Dealing) (n : ℕ) (turn : Turn) → p < options.partitions → slice_get fronts f ≡ Some dealings
+      → IsGetAt options p (turns_in dealings) n turn → ServesGet options (history_in (runs p)) (turns_in dealings) n turn
+
+abbrev pub has_no_turns : Dealing → Bool
+has_no_turns dealing = length dealing.turns == 0
+
+-- the datagrams received, the requests in those that were batches, and the others
+pub record Counts (fronts : List (List Dealing)) (totals : Totals) : Type 0 where
+  pub batches : totals.batches ≡ sum_by length fronts
+  pub requests : totals.requests ≡ sum_by (λ dealings. length (turns_in dealings)) fronts
+  pub bad : totals.bad ≡ sum_by (λ dealings. length (filter has_no_turns dealings)) fronts
+
+-- the fronts served, and the totals count what they did
+pub record Serves (options : Options) (ports : PortOptions) (totals : Totals) (before after : Ports) : Type 0 where
+  pub fronts : List (List Dealing)
+  pub runs : ℕ → List Placed
+  pub served : Served options ports before after fronts runs
+  pub counted : Counts fronts totals
+
+-- Where a fault came
+
+-- a list of datagrams begins as the other
+abbrev pub BeginsAs : List Sent → List Sent → Type 0
+BeginsAs begun all = (later : List Sent) × (all ≡ begun ++ later)
+
+-- The front received a beginning of the datagrams of its port, at most so many of them, and sent a beginning of what is due to these.
+pub record BeginsPort (batches : ℕ) (before : Port) (traffic : Traffic) (dealings : List Dealing) : Type 0 where
+  pub datagrams : List Datagram
+  pub script : EndScript
+  pub waited : before ≡ waiting datagrams script
+  pub in_order : datagrams ≡ traffic.received ++ traffic.left
+  pub few : length traffic.received ≤ batches
+  pub received : map (λ e. e.datagram) dealings ≡ traffic.received
+  pub each : All IsDealing dealings
+  pub sent : BeginsAs traffic.sent (due_to dealings)
+
+-- all that is due was sent, and the datagrams ended, or so many were received
+abbrev pub IsThrough : ℕ → Traffic → Bool → List Dealing → Type 0
+IsThrough batches traffic ended dealings =
+    (traffic.sent ≡ due_to dealings) × ((ended ≡ true) ⊎ (length traffic.received ≡ batches))
+
+-- the port of a front is as it was, or its end is back
+abbrev pub LeavesPort : ℕ → Port → Port → Type 0
+LeavesPort batches before after =
+    (after ≡ before)
+    ⊎ ((traffic : Traffic) × (ended : Bool) × (dealings : List Dealing)
+    × (after ≡ back traffic ended) × BeginsPort batches before traffic dealings)
+
+-- the end of a front is back, and the front is not through, whatever else may be due to its datagrams
+abbrev pub IsCutShort : ℕ → Port → Type 0
+IsCutShort batches (back traffic ended) =
+    (dealings : List Dealing) → All IsDealing dealings → map (λ e. e.datagram) dealings ≡ traffic.received
+    → ¬ (IsThrough batches traffic ended dealings)
+IsCutShort batches after = ⊥
+
+-- the port of a front waited, and the front is not through
+abbrev pub IsStopped : ℕ → Port → Port → Type 0
+IsStopped batches before after = (is_waiting before ≡ true) × IsCutShort batches after
+
+-- each front stopped or was through, and a bind failed or some front is not through
+pub record StopsShort (ports : PortOptions) (bind_failed : Type 0) (before after : Ports) : Type 0 where
+  pub each : (f : ℕ) → f < ports.fronts → LeavesPort ports.batches (before (ports.port + f)) (after (ports.port + f))
+  pub some : bind_failed ⊎ ((f : ℕ) × (f < ports.fronts) × IsStopped ports.batches (before (ports.port + f)) (after (ports.port + f)))

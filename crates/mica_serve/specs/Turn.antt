@@ -1,0 +1,71 @@
+-- A request and its reply.
+use Rattle.std.specs.Prelude.{ℕ, ◌==◌, ◌&&◌, List, [], Option, Some, None, is_some, is_none, filter}
+use Rattle.mica_words.specs.Hash.{partition_of}
+use Rattle.mica_model.specs.declared.options.Options.{Options}
+use Rattle.mica_model.specs.declared.write.Op.TheVariants.{Put as PutOp, Del as DelOp}
+use Rattle.mica_model.specs.declared.write.Outcome.{Outcome}
+use Rattle.mica_model.specs.declared.write.Outcome.TheVariants.{Stored, Deleted, Absent, FullSpare, FullBlock, Worn}
+use Rattle.mica_model.specs.declared.write.Write.{Write}
+use Rattle.mica_model.specs.declared.write.Answer.{Answer}
+use Rattle.mica_model.specs.declared.write.Answer.TheVariants.{Hit, Miss}
+use Rattle.mica_model.specs.Write.{write_of}
+use Rattle.batch_packets.specs.declared.batch.Want.{Want}
+use Rattle.batch_packets.specs.declared.batch.Want.TheVariants.{Get, Put, Del}
+use Rattle.batch_packets.specs.declared.batch.Request.{Request}
+use Rattle.batch_packets.specs.declared.replies.Reply.{Reply}
+
+-- the version is that of the request's batch
+pub record Turn : Type 0 where
+  pub version : ℕ
+  pub request : Request
+  pub reply : Reply
+
+abbrev pub write_by : Want → List ℕ → List ℕ → Option Write
+write_by Get key value = None
+write_by Put key value = Some (write_of PutOp key value)
+write_by Del key value = Some (write_of DelOp key value)
+
+-- the write of a request, where it is no get
+abbrev pub write_in : Request → Option Write
+write_in request = write_by request.want request.key request.value
+
+-- the partition of a request's key
+abbrev pub partition_in : Options → Turn → ℕ
+partition_in options turn = partition_of turn.request.key options.partitions
+
+-- the writes among the turns, in one partition
+abbrev pub writes_of : Options → ℕ → List Turn → List Turn
+writes_of options partition turns =
+    filter (λ t. is_some (write_in t.request) && (partition_in options t == partition)) turns
+
+-- the gets among the turns, in one partition
+abbrev pub gets_of : Options → ℕ → List Turn → List Turn
+gets_of options partition turns =
+    filter (λ t. is_none (write_in t.request) && (partition_in options t == partition)) turns
+
+-- the status of a write's reply
+abbrev pub status_of : Outcome → ℕ
+status_of Stored = 2
+status_of Deleted = 3
+status_of Absent = 4
+status_of FullSpare = 5
+status_of FullBlock = 6
+status_of Worn = 7
+
+-- the status of a get's reply
+abbrev pub status_at : Answer → ℕ
+status_at Hit = 0
+status_at Miss = 1
+
+-- the reply to a write
+abbrev pub write_reply : ℕ → Outcome → ℕ → Reply
+write_reply ticket outcome stamp = record { status = status_of outcome; ticket = ticket; stamp = stamp; value = [] }
+
+-- the reply to a get, in a version, where the key has this value or none
+abbrev pub get_reply : ℕ → ℕ → ℕ → Option (List ℕ) → Reply
+get_reply version ticket stamp None = record { status = status_at Miss; ticket = ticket; stamp = stamp; value = [] }
+get_reply version ticket stamp (Some value) = record { status = status_at Hit; ticket = ticket; stamp = stamp; value = value }
+
+-- the reply to bytes that are no batch
+abbrev pub bad_batch_reply : Reply
+bad_batch_reply = record { status = 9; ticket = 0; stamp = 0; value = [] }

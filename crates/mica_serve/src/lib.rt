@@ -1,0 +1,19 @@
+//! The server: what stands behind each port, and the partitions behind that.
+//!
+//! A front answers the requests of each datagram in order, each before the next one. `serve_batch` says what is made of one datagram;
+//! what all fronts received and replied is to be `Served` (`specs/Served.antt`): the writes of all fronts are one run of each partition's
+//! machine, and each get is its answer at the replied stamp.
+#![tactic(auto)]
+
+mod batch;
+mod deal;
+mod end;
+mod front;
+mod gate;
+mod ports;
+mod solo;
+
+pub use batch::serve_batch;
+pub use front::Front;
+pub use ports::{Ports, ServeFault, Totals};
+pub use solo::SoloFront;
