@@ -1,6 +1,7 @@
 pub mod Words
 pub mod GenOptions
 pub mod Generator
+pub mod Summary
 pub mod CommandLine
 pub mod ClapCommand
 pub mod Outside

@@ -12,6 +12,7 @@ mod generator;
 mod option_values;
 mod program;
 mod status;
+mod summary;
 mod top;
 
 pub use command::{Command, WordsFault, read_words};
@@ -19,4 +20,5 @@ pub use gen_options::GenOptions;
 pub use generator::gen_trace;
 pub use program::run_program;
 pub use status::Status;
+pub use summary::put_summary;
 pub use top::{MAX_SOURCE_LEN, mica};
