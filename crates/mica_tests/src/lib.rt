@@ -11,6 +11,8 @@ mod cache_replays;
 #[cfg(test)]
 mod faults;
 #[cfg(test)]
+mod generated_traces;
+#[cfg(test)]
 mod heap;
 #[cfg(test)]
 mod packets;
@@ -18,6 +20,8 @@ mod packets;
 mod refused_traces;
 #[cfg(test)]
 mod refused_words;
+#[cfg(test)]
+mod reports;
 #[cfg(test)]
 mod runs;
 #[cfg(test)]
