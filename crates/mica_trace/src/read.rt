@@ -1,4 +1,5 @@
 ghost use Rattle.std.specs.Prelude.{◌≡◌, ◌≤◌, ◌<◌, ◌+◌, ◌↔◌, ◌⊎◌, ◌∷◌, ◌++◌, [], ℕ, List, length, IfOk, IfErr, IsErrOf, IsTrue};
+ghost use Rattle.std.specs.List.{AllByRecursion};
 ghost use Rattle.mica_trace.specs.declared.line.TraceLine.{TraceLine};
 ghost use Rattle.mica_trace.specs.TraceGrammar.{IsKey, IsValue, IsTextOf, IsTrace, IsNoTrace, IsFaultOf, Refuses, HasLineRoom};
 
@@ -8,16 +9,27 @@ use mica_io::{Bytes, NoMemory};
 use mica_words::{key_fits, value_fits};
 use std::alloc::Global;
 
+// Whether each byte is one of these. There is no early exit, so that many bytes are judged at a time.
+fn are_between(text: &[u8], least: u8, most: u8) -> bool
+    ensures { IsTrue result ↔ AllByRecursion (λ b. (least ≤ b) × (b ≤ most)) text.now }
+{
+    let mut all = true;
+    for byte in text {
+        all &= least <= *byte && *byte <= most;
+    }
+    all
+}
+
 fn is_key(key: &[u8]) -> bool
     ensures { IsTrue result ↔ IsKey key.now }
 {
-    key_fits(key) && key.iter().all(|b| 33 <= *b && *b <= 126)
+    key_fits(key) && are_between(key, 33, 126)
 }
 
 pub(crate) fn is_value(value: &[u8]) -> bool
     ensures { IsTrue result ↔ IsValue value.now }
 {
-    value_fits(value) && value.iter().all(|b| 32 <= *b && *b <= 126)
+    value_fits(value) && are_between(value, 32, 126)
 }
 
 // Why a text is not read as a line.
