@@ -46,7 +46,7 @@ module _ (o : OwnerState) (s : Kept o) (mode : o.shape.mode ≡ CacheMode) (m : 
 
   -- the tail after the put
   abbrev tail : ℕ
-  tail = tail_of (cs.after_append m w).stamp
+  tail = tail_of (cs.after_append m (cs.new_record m w.key w.value)).stamp
 
   abbrev lives : List Record
   lives = live_others (options_in o) m kept w
@@ -76,7 +76,7 @@ module _ (o : OwnerState) (s : Kept o) (mode : o.shape.mode ≡ CacheMode) (m : 
 
   all_slots : AllOf SlotOf (filter here lives)
   all_slots =
-      let live = λ (r : Record). is_live o.shape.words (cs.after_append m w).stamp r.offset in
+      let live = λ (r : Record). is_live o.shape.words (cs.after_append m (cs.new_record m w.key w.value)).stamp r.offset in
       let rest = others w.key m.records in
       let found_all : AllOf (λ r. record_of m r.key ≡ Some r) (filter here lives) =
       found.all_filter (λ r. record_of m r.key ≡ Some r) here lives (found.all_filter (λ r. record_of m r.key ≡ Some r) live rest

@@ -23,8 +23,8 @@ use Rattle.mica_model.specs.CacheStep as cs
 use Rattle.mica_model.specs.CacheStep.{kept_record, new_record}
 use Rattle.mica_model.specs.Store.{Cell}
 use Rattle.mica_model.specs.History.{cache_state, stamp_in as stamp_of_state}
-use Rattle.mica_model.proofs.CacheKept.{IsKept, keeps_put, here_of}
-use Rattle.mica_model.proofs.CacheLaws.{kept_in, window_kept, fits_kept, apart_kept}
+use Rattle.mica_model.proofs.CacheKept.{IsKept, begin_of, offset_of, keeps_put, here_of}
+use Rattle.mica_model.proofs.CacheLaws.{kept_in, window_kept, fits_kept, apart_kept, put_item}
 use Rattle.mica_model.proofs.Stamps.{stamp_small}
 use Rattle.epoch_core.specs.declared.state.OwnerState.{OwnerState}
 use Rattle.epoch_core.specs.declared.state.Phase.{Phase}
@@ -180,8 +180,8 @@ module _ (o : OwnerState) (s : Kept o) (idle : o.phase ≡ Idle) (mode : o.shape
     })
 
     module _ (op : w.op ≡ Put) where
-      its_item : (p : ℕ) → cs.offset_of (options_in o) m w ≡ p → (j : ℕ) → j < item_size w.key w.value → cs.IsOfItem (options_in o) m w (p + j)
-      its_item p begin j less = subst (λ z. cs.IsOfItemBy z (options_in o) m w (p + j)) (sym op) (omega arith, omega arith)
+      its_item : (p : ℕ) → offset_of (options_in o) m w ≡ p → (j : ℕ) → j < item_size w.key w.value → cs.IsOfItem (options_in o) m w (p + j)
+      its_item p begin j less = put_item (options_in o) m w op (p + j) (omega arith) (omega arith)
 
       -- a put that is kept in place
       pub put_in_place : (held : Record) → kept_record (options_in o) m w ≡ Some held → (slot : ℕ) → IsSlotOf o b w.key slot
@@ -191,7 +191,7 @@ module _ (o : OwnerState) (s : Kept o) (idle : o.phase ≡ Idle) (mode : o.shape
           let before = slot_record slot slot_is in
           let entry = slots.entry_is o s mode b slot w.key slot_is in
           let offset : entry_offset (entry_in o b slot) ≡ held.offset = sym before.2 ∙ ap (λ (r : Record). r.offset) (same_Some before.0 held (sym before.1 ∙ keeps.is)) in
-          let begin : cs.offset_of (options_in o) m w ≡ held.offset = ap (λ (z : Option Record). cs.begin_of z m) at_held in
+          let begin : offset_of (options_in o) m w ≡ held.offset = ap (λ (z : Option Record). begin_of z m) at_held in
           let long = length-item_words held.room w.key w.value in
           ends_with slot Nothing (record {
             leaves = leaves.none_lost (options_in o) m kept w is (leaves.few_rewritten (options_in o) m kept w held op at_held);
@@ -214,13 +214,13 @@ module _ (o : OwnerState) (s : Kept o) (idle : o.phase ≡ Idle) (mode : o.shape
             omega arith
 
         mine_there : HasMine q w slot
-        mine_there = has_mine slot below (new_record m w) (leaves.appended_own (options_in o) m kept w s.shape.ranges is op appended) refl
+        mine_there = has_mine slot below (new_record m w.key w.value) (leaves.appended_own (options_in o) m kept w s.shape.ranges is op appended) refl
             (entry_of (tag_of w.key) (tail_of m.stamp)) here (entry_not_empty (tag_of w.key) (tail_of m.stamp) (tag_of-range w.key).0)
             (entry_offset-entry_of (tag_of w.key) (tail_of m.stamp) tail_small) (entry_tag-entry_of (tag_of w.key) (tail_of m.stamp) tail_small) effect
 
         stays : (key : List ℕ) (r : Record) → key ≢ w.key → record_of new key ≡ Some r → (i : ℕ) → i < r.room → item_in q (r.offset + i) ≡ item_in o (r.offset + i)
         stays =
-            let begin : cs.offset_of (options_in o) m w ≡ tail_of m.stamp = ap (λ (z : Option Record). cs.begin_of z m) appended in
+            let begin : offset_of (options_in o) m w ≡ tail_of m.stamp = ap (λ (z : Option Record). begin_of z m) appended in
             let long = length-item_words (item_size w.key w.value) w.key w.value in
             items_stay slot (tail_of m.stamp) (item_words (item_size w.key w.value) w.key w.value) effect (λ j less. its_item (tail_of m.stamp) begin j (omega arith))
 
@@ -235,11 +235,11 @@ module _ (o : OwnerState) (s : Kept o) (idle : o.phase ≡ Idle) (mode : o.shape
           mine = inl mine_there;
         })
 
-        tail_is : tail_of (stamp_in q) ≡ tail_of (cs.after_append m w).stamp
+        tail_is : tail_of (stamp_in q) ≡ tail_of (cs.after_append m (new_record m w.key w.value)).stamp
         tail_is = ap tail_of (later ∙ leaves.appended_stamp (options_in o) m kept w op appended)
 
         -- into a slot that is empty or whose item the log has passed by then
-        into_dead : HasNoSlot o b w.key → (entry_in o b slot ≢ 0 → tail_of (cs.after_append m w).stamp ≤ entry_offset (entry_in o b slot) + o.shape.words → ⊥) → StandsFor q b
+        into_dead : HasNoSlot o b w.key → (entry_in o b slot ≢ 0 → tail_of (cs.after_append m (new_record m w.key w.value)).stamp ≤ entry_offset (entry_in o b slot) + o.shape.words → ⊥) → StandsFor q b
         into_dead none dead = ends_with slot Nothing (record {
           leaves = leaves.none_lost (options_in o) m kept w is
               (leaves.few_added (options_in o) m kept w s.shape.ranges is op appended (counts.few o s mode m at kept w stood slot below dead));
@@ -252,7 +252,7 @@ module _ (o : OwnerState) (s : Kept o) (idle : o.phase ≡ Idle) (mode : o.shape
 
         -- into the slot of least offset, where all are live: its item is the bucket's oldest, which the machine displaces
         module _ (none : HasNoSlot o b w.key) (used : (i : ℕ) → i < 15 → entry_in o b i ≢ 0)
-            (live : (i : ℕ) → i < 15 → tail_of (cs.after_append m w).stamp ≤ entry_offset (entry_in o b i) + o.shape.words)
+            (live : (i : ℕ) → i < 15 → tail_of (cs.after_append m (new_record m w.key w.value)).stamp ≤ entry_offset (entry_in o b i) + o.shape.words)
             (least : (i : ℕ) → i < 15 → entry_offset (entry_in o b slot) ≤ entry_offset (entry_in o b i)) where
           many : 15 ≤ count_by (here_of (options_in o) w) (leaves.live_others (options_in o) m kept w)
           many = counts.many o s mode m at kept w stood s.shape.ranges is op appended (slots.no_record o s m at mode b w.key stood refl none) (λ i l. (used i l, live i l))
@@ -326,12 +326,12 @@ module _ (o : OwnerState) (s : Kept o) (idle : o.phase ≡ Idle) (mode : o.shape
           used_in : HoldsOfNone (IsEmpty p b) → (i : ℕ) → i < 15 → entry_in o b i ≢ 0
           used_in full i l zero = full i l (same i l ∙ zero)
 
-          live_in : HoldsOfNone (IsPassed p b) → (i : ℕ) → i < 15 → tail_of (cs.after_append m w).stamp ≤ entry_offset (entry_in o b i) + o.shape.words
+          live_in : HoldsOfNone (IsPassed p b) → (i : ℕ) → i < 15 → tail_of (cs.after_append m (new_record m w.key w.value)).stamp ≤ entry_offset (entry_in o b i) + o.shape.words
           live_in all i l = ⊎_elim
-              (λ (gone : entry_offset (entry_in o b i) + o.shape.words < tail_of (cs.after_append m w).stamp).
+              (λ (gone : entry_offset (entry_in o b i) + o.shape.words < tail_of (cs.after_append m (new_record m w.key w.value)).stamp).
               absurd (all i l (let offset = offset_same i l in let now = stamp in omega arith)))
-              (λ (there : tail_of (cs.after_append m w).stamp ≤ entry_offset (entry_in o b i) + o.shape.words). there)
-              (cases_lt (entry_offset (entry_in o b i) + o.shape.words) (tail_of (cs.after_append m w).stamp))
+              (λ (there : tail_of (cs.after_append m (new_record m w.key w.value)).stamp ≤ entry_offset (entry_in o b i) + o.shape.words). there)
+              (cases_lt (entry_offset (entry_in o b i) + o.shape.words) (tail_of (cs.after_append m (new_record m w.key w.value)).stamp))
 
           pub put_over_none : GivesWay p b slot → StandsFor q b
           put_over_none (empty is) = into_dead none (λ some alive. some (sym (same slot below) ∙ is.holds))

@@ -6,6 +6,7 @@ use Rattle.std.proofs.lemmas.Bool.{true≢false, leb-true, le-leb, ne_eqb, eq-eq
 use Rattle.std.proofs.lemmas.List.Elements.{filter-append}
 use Rattle.std.proofs.lemmas.List.Sums.{sum_by_push}
 use Rattle.mica_words.specs.Hash.{bucket_of}
+use Rattle.mica_words.specs.Item.{largest_item}
 use Rattle.mica_words.specs.Stamp.{tail_of}
 use Rattle.mica_model.specs.declared.options.Options.{Options}
 use Rattle.mica_model.specs.declared.write.Write.{Write}
@@ -164,15 +165,15 @@ module _ (options : Options) (m : Cache) (kept : IsKept options m) (write : Writ
 
   -- a put that is not kept in place
 
-  pub is_appended : write.op ≡ Put → kept_record options m write ≡ None → cs.after_write options m write ≡ cs.after_append m write
+  pub is_appended : write.op ≡ Put → kept_record options m write ≡ None → cs.after_write options m write ≡ cs.after_append m (new_record m write.key write.value)
   is_appended op at = ap (λ (z : Op). cs.after_op z options m write) op ∙ ap (λ (z : Option Record). cs.after_put z m write) at
 
   abbrev pub live_others : List Record
-  live_others = filter (live_test options (cs.after_append m write)) (others write.key m.records)
+  live_others = filter (live_test options (cs.after_append m (new_record m write.key write.value))) (others write.key m.records)
 
-  new_counts : (rs : List Record) → count_by here (rs ++ new_record m write ∷ []) ≡ count_by here rs + 1
+  new_counts : (rs : List Record) → count_by here (rs ++ new_record m write.key write.value ∷ []) ≡ count_by here rs + 1
   new_counts rs =
-      sum_by_push (λ (r : Record). cond {A = ℕ} (here r) 1 0) rs (new_record m write)
+      sum_by_push (λ (r : Record). cond {A = ℕ} (here r) 1 0) rs (new_record m write.key write.value)
       ∙ ap (λ (b : Bool). count_by here rs + cond {A = ℕ} b 1 0) (eq-eqb (bucket_of write.key options.buckets) (bucket_of write.key options.buckets) refl)
 
   pub few_replaced : write.op ≡ Put → kept_record options m write ≡ None → (r : Record) → record_of m write.key ≡ Some r → count_by here (live_after options m write) ≢ 16
@@ -180,42 +181,42 @@ module _ (options : Options) (m : Cache) (kept : IsKept options m) (write : Writ
       let less = one_less m.records r had in
       let few = kept.buckets (bucket_of write.key options.buckets) in
       let all = new_counts (others write.key m.records) in
-      subst (λ (t : Cache). count_by here (live_of options t) ≢ 16) (sym (is_appended op at)) (few_live (cs.after_append m write) (omega arith))
+      subst (λ (t : Cache). count_by here (live_of options t) ≢ 16) (sym (is_appended op at)) (few_live (cs.after_append m (new_record m write.key write.value)) (omega arith))
 
   module _ (valid : IsValid options) (is : IsWrite write) (op : write.op ≡ Put) (at : kept_record options m write ≡ None) where
-    new_live : live_test options (cs.after_append m write) (new_record m write) ≡ true
+    new_live : live_test options (cs.after_append m (new_record m write.key write.value)) (new_record m write.key write.value) ≡ true
     new_live =
-        let size : size_of write ≤ 162 = size_at_most write is in
+        let size : size_of write ≤ largest_item = size_at_most write is in
         let least = valid.words.0 in
         let tail = tail_past m.stamp (size_of write) in
         le-leb (tail_of (m.stamp + 65536 * size_of write)) (tail_of m.stamp + options.words) (omega arith)
 
-    live_are : live_of options (cs.after_append m write) ≡ live_others ++ new_record m write ∷ []
+    live_are : live_of options (cs.after_append m (new_record m write.key write.value)) ≡ live_others ++ new_record m write.key write.value ∷ []
     live_are =
-        filter-append (live_test options (cs.after_append m write)) (others write.key m.records) (new_record m write ∷ [])
-        ∙ ap (λ b. live_others ++ cond b (new_record m write ∷ []) []) new_live
+        filter-append (live_test options (cs.after_append m (new_record m write.key write.value))) (others write.key m.records) (new_record m write.key write.value ∷ [])
+        ∙ ap (λ b. live_others ++ cond b (new_record m write.key write.value ∷ []) []) new_live
 
     -- the new record is the key's
-    new_found : (rs : List Record) → find (has_key write.key) rs ≡ None → find (has_key write.key) (rs ++ new_record m write ∷ []) ≡ Some (new_record m write)
+    new_found : (rs : List Record) → find (has_key write.key) rs ≡ None → find (has_key write.key) (rs ++ new_record m write.key write.value ∷ []) ≡ Some (new_record m write.key write.value)
     new_found rs none =
-        found.found_append_none (has_key write.key) rs (new_record m write ∷ []) none
-        ∙ ap (λ b. cond b (Some (new_record m write)) None) (laid.has_its_key write.key (new_record m write) refl)
+        found.found_append_none (has_key write.key) rs (new_record m write.key write.value ∷ []) none
+        ∙ ap (λ b. cond b (Some (new_record m write.key write.value)) None) (laid.has_its_key write.key (new_record m write.key write.value) refl)
 
-    pub appended_own : record_of (cs.after options m write) write.key ≡ Some (new_record m write)
+    pub appended_own : record_of (cs.after options m write) write.key ≡ Some (new_record m write.key write.value)
     unfolding cs.after
     appended_own =
-        let none = found.missed_filter (has_key write.key) (live_test options (cs.after_append m write)) (others write.key m.records) no_others in
-        let lives : live_after options m write ≡ live_others ++ new_record m write ∷ [] = ap (live_of options) (is_appended op at) ∙ live_are in
+        let none = found.missed_filter (has_key write.key) (live_test options (cs.after_append m (new_record m write.key write.value))) (others write.key m.records) no_others in
+        let lives : live_after options m write ≡ live_others ++ new_record m write.key write.value ∷ [] = ap (live_of options) (is_appended op at) ∙ live_are in
         ap (λ (rs : List Record). find (has_key write.key) (left_of options write rs)) lives ∙ by_room none
       where
-        by_room : find (has_key write.key) live_others ≡ None → find (has_key write.key) (left_of options write (live_others ++ new_record m write ∷ [])) ≡ Some (new_record m write)
+        by_room : find (has_key write.key) live_others ≡ None → find (has_key write.key) (left_of options write (live_others ++ new_record m write.key write.value ∷ [])) ≡ Some (new_record m write.key write.value)
         by_room none =
-            elim (eqb (count_by here (live_others ++ new_record m write ∷ [])) 16) as (λ b. eqb (count_by here (live_others ++ new_record m write ∷ [])) 16 ≡ b
-            → find (has_key write.key) (cond b (without_first here (live_others ++ new_record m write ∷ [])) (live_others ++ new_record m write ∷ [])) ≡ Some (new_record m write)) [
+            elim (eqb (count_by here (live_others ++ new_record m write.key write.value ∷ [])) 16) as (λ b. eqb (count_by here (live_others ++ new_record m write.key write.value ∷ [])) 16 ≡ b
+            → find (has_key write.key) (cond b (without_first here (live_others ++ new_record m write.key write.value ∷ [])) (live_others ++ new_record m write.key write.value ∷ [])) ≡ Some (new_record m write.key write.value)) [
               | true ↦ λ full.
-                  let is = eqb-true (count_by here (live_others ++ new_record m write ∷ [])) 16 full in
+                  let is = eqb-true (count_by here (live_others ++ new_record m write.key write.value ∷ [])) 16 full in
                   let all = new_counts live_others in
-                  ap (find (has_key write.key)) (found.without_first_push here live_others (new_record m write) (omega arith))
+                  ap (find (has_key write.key)) (found.without_first_push here live_others (new_record m write.key write.value) (omega arith))
                   ∙ new_found (without_first here live_others) (found.missed_without_first (has_key write.key) here live_others none)
               | false ↦ λ room. new_found live_others none
             ] refl
@@ -228,38 +229,38 @@ module _ (options : Options) (m : Cache) (kept : IsKept options m) (write : Writ
         (subst (λ (rs : List Record). count_by here rs ≢ 16) (sym live_are) (λ full. omega arith))
 
     live_unique : IsUnique live_others
-    live_unique = laid.unique_filter (live_test options (cs.after_append m write)) (others write.key m.records) (laid.unique_filter (λ r. not (has_key write.key r)) m.records kept.unique)
+    live_unique = laid.unique_filter (live_test options (cs.after_append m (new_record m write.key write.value))) (others write.key m.records) (laid.unique_filter (λ r. not (has_key write.key r)) m.records kept.unique)
 
     live_others_back : (key : List ℕ) (r : Record) → find (has_key key) live_others ≡ Some r → record_of m key ≡ Some r
     live_others_back key r is =
-        let other = laid.found_before_filter key (live_test options (cs.after_append m write)) (others write.key m.records) r (laid.unique_filter (λ r. not (has_key write.key r)) m.records kept.unique) is in
+        let other = laid.found_before_filter key (live_test options (cs.after_append m (new_record m write.key write.value))) (others write.key m.records) r (laid.unique_filter (λ r. not (has_key write.key r)) m.records kept.unique) is in
         (laid.found_before_filter key (λ r. not (has_key write.key r)) m.records r kept.unique other.0).0
 
-    pub live_others_on : (key : List ℕ) (r : Record) → key ≢ write.key → record_of m key ≡ Some r → tail_of (cs.after_append m write).stamp ≤ r.offset + options.words
+    pub live_others_on : (key : List ℕ) (r : Record) → key ≢ write.key → record_of m key ≡ Some r → tail_of (cs.after_append m (new_record m write.key write.value)).stamp ≤ r.offset + options.words
         → find (has_key key) live_others ≡ Some r
     live_others_on key r other had live =
-        found.found_filter (has_key key) (live_test options (cs.after_append m write)) (others write.key m.records) r
+        found.found_filter (has_key key) (live_test options (cs.after_append m (new_record m write.key write.value))) (others write.key m.records) r
         (found.found_filter (has_key key) (λ r. not (has_key write.key r)) m.records r had (ap not (laid.has_other_key write.key r (λ same. other (sym (laid.found_key key m.records r had) ∙ same)))))
-        (le-leb (tail_of (cs.after_append m write).stamp) (r.offset + options.words) live)
+        (le-leb (tail_of (cs.after_append m (new_record m write.key write.value)).stamp) (r.offset + options.words) live)
 
     -- the first of them is a record, of the bucket, and none of the bucket's begins before it
     pub first_is : (f : Record) → find here live_others ≡ Some f
-        → (record_of m f.key ≡ Some f) × (bucket_of f.key options.buckets ≡ bucket_of write.key options.buckets) × (tail_of (cs.after_append m write).stamp ≤ f.offset + options.words) × (f.key ≢ write.key)
+        → (record_of m f.key ≡ Some f) × (bucket_of f.key options.buckets ≡ bucket_of write.key options.buckets) × (tail_of (cs.after_append m (new_record m write.key write.value)).stamp ≤ f.offset + options.words) × (f.key ≢ write.key)
     first_is f first =
         let of_its_key = first_found here live_others f live_unique first in
-        let other = laid.found_before_filter f.key (live_test options (cs.after_append m write)) (others write.key m.records) f (laid.unique_filter (λ r. not (has_key write.key r)) m.records kept.unique) of_its_key in
+        let other = laid.found_before_filter f.key (live_test options (cs.after_append m (new_record m write.key write.value))) (others write.key m.records) f (laid.unique_filter (λ r. not (has_key write.key r)) m.records kept.unique) of_its_key in
         let had = laid.found_before_filter f.key (λ r. not (has_key write.key r)) m.records f kept.unique other.0 in (
           had.0,
           eqb-true (bucket_of f.key options.buckets) (bucket_of write.key options.buckets) (found.found_passes here live_others f first),
-          leb-true (tail_of (cs.after_append m write).stamp) (f.offset + options.words) other.1,
+          leb-true (tail_of (cs.after_append m (new_record m write.key write.value)).stamp) (f.offset + options.words) other.1,
           λ same. true≢false (sym had.1 ∙ ap not (laid.has_its_key write.key f same)),
         )
 
     pub first_begins : (f : Record) → find here live_others ≡ Some f → (key : List ℕ) (r : Record) → key ≢ write.key → record_of m key ≡ Some r
-        → tail_of (cs.after_append m write).stamp ≤ r.offset + options.words → bucket_of key options.buckets ≡ bucket_of write.key options.buckets → f.offset ≤ r.offset
+        → tail_of (cs.after_append m (new_record m write.key write.value)).stamp ≤ r.offset + options.words → bucket_of key options.buckets ≡ bucket_of write.key options.buckets → f.offset ≤ r.offset
     first_begins f first key r other had live there =
         first_least here 0 (tail_of m.stamp) live_others f r key
-        (laid.laid_filter (live_test options (cs.after_append m write)) 0 (tail_of m.stamp) (others write.key m.records) (laid.laid_filter (λ r. not (has_key write.key r)) 0 (tail_of m.stamp) m.records kept.laid))
+        (laid.laid_filter (live_test options (cs.after_append m (new_record m write.key write.value))) 0 (tail_of m.stamp) (others write.key m.records) (laid.laid_filter (λ r. not (has_key write.key r)) 0 (tail_of m.stamp) m.records kept.laid))
         first (live_others_on key r other had live)
         (eq-eqb (bucket_of r.key options.buckets) (bucket_of write.key options.buckets) (ap (λ (k : List ℕ). bucket_of k options.buckets) (laid.found_key key m.records r had) ∙ there))
 
@@ -267,16 +268,16 @@ module _ (options : Options) (m : Cache) (kept : IsKept options m) (write : Writ
     pub first_lost : 15 ≤ count_by here live_others → (f : Record) → find here live_others ≡ Some f → Leaves options m write (λ key. key ≡ f.key)
     unfolding cs.after
     first_lost many f first =
-        let few : count_by here live_others ≤ 15 = let less = found.count_filter here (live_test options (cs.after_append m write)) (others write.key m.records) in let most = fewer in omega arith in
-        let lives : live_after options m write ≡ live_others ++ new_record m write ∷ [] = ap (live_of options) (is_appended op at) ∙ live_are in
-        let full : count_by here (live_others ++ new_record m write ∷ []) ≡ 16 = let all = new_counts live_others in omega arith in
+        let few : count_by here live_others ≤ 15 = let less = found.count_filter here (live_test options (cs.after_append m (new_record m write.key write.value))) (others write.key m.records) in let most = fewer in omega arith in
+        let lives : live_after options m write ≡ live_others ++ new_record m write.key write.value ∷ [] = ap (live_of options) (is_appended op at) ∙ live_are in
+        let full : count_by here (live_others ++ new_record m write.key write.value ∷ []) ≡ 16 = let all = new_counts live_others in omega arith in
         let left : (key : List ℕ) → key ≢ write.key → find (has_key key) (left_of options write (live_after options m write)) ≡ find (has_key key) (without_first here live_others) = λ key other.
         ap (λ (rs : List Record). find (has_key key) (left_of options write rs)) lives
-        ∙ (ap (λ b. find (has_key key) (cond b (without_first here (live_others ++ new_record m write ∷ [])) (live_others ++ new_record m write ∷ [])))
-        (eq-eqb (count_by here (live_others ++ new_record m write ∷ [])) 16 full)
-        ∙ (ap (find (has_key key)) (found.without_first_push here live_others (new_record m write) (omega arith))
-        ∙ found.found_push_other (has_key key) (without_first here live_others) (new_record m write) (laid.has_other_key key (new_record m write) (λ same. other (sym same))))) in
-        let later : tail_of (cs.after_write options m write).stamp ≡ tail_of (cs.after_append m write).stamp = ap (λ (t : Cache). tail_of t.stamp) (is_appended op at) in record {
+        ∙ (ap (λ b. find (has_key key) (cond b (without_first here (live_others ++ new_record m write.key write.value ∷ [])) (live_others ++ new_record m write.key write.value ∷ [])))
+        (eq-eqb (count_by here (live_others ++ new_record m write.key write.value ∷ [])) 16 full)
+        ∙ (ap (find (has_key key)) (found.without_first_push here live_others (new_record m write.key write.value) (omega arith))
+        ∙ found.found_push_other (has_key key) (without_first here live_others) (new_record m write.key write.value) (laid.has_other_key key (new_record m write.key write.value) (λ same. other (sym same))))) in
+        let later : tail_of (cs.after_write options m write).stamp ≡ tail_of (cs.after_append m (new_record m write.key write.value)).stamp = ap (λ (t : Cache). tail_of t.stamp) (is_appended op at) in record {
           back = λ key r other found_left.
               let is : find (has_key key) (without_first here live_others) ≡ Some r = sym (left key other) ∙ found_left in
               let not_first : key ≢ f.key = λ same. (let gone : find (has_key key) (without_first here live_others) ≡ None = ap (λ (k : List ℕ). find (has_key k) (without_first here live_others)) same ∙ found_gone here live_others f live_unique first in cc) in

@@ -8,7 +8,7 @@ use Rattle.mica_model.specs.Store.{Cell}
 use Rattle.mica_words.specs.Hash.{tag_of}
 use Rattle.mica_words.specs.Entry.{entry_of, entry_offset}
 use Rattle.mica_words.specs.Header.{header_room}
-use Rattle.mica_words.specs.Item.{KeyFits, ValueFits, item_size}
+use Rattle.mica_words.specs.Item.{KeyFits, ValueFits, item_size, largest_item}
 use Rattle.mica_words.specs.Packing.{AreBytes}
 use Rattle.mica_words.specs.Spelling.{item_words}
 use Rattle.mica_words.specs.Stamp.{tail_of}
@@ -21,6 +21,7 @@ use Rattle.mica_model.specs.declared.write.Op.TheVariants.{Put, Del}
 use Rattle.mica_model.specs.declared.write.Write.{Write}
 use Rattle.mica_model.specs.declared.write.Outcome.{Outcome}
 use Rattle.mica_model.specs.declared.write.Outcome.TheVariants.{Worn}
+use Rattle.mica_model.specs.Limits.{most_stamp}
 use Rattle.mica_model.specs.Write.{IsWrite, write_of, size_of, is_accepted}
 use Rattle.mica_model.specs.Cache.{Cache, Record, record_of, is_live}
 use Rattle.mica_model.specs.Cache as cache
@@ -73,30 +74,30 @@ kept_none : (options : Options) (m : Cache) (w : Write) (found : Option Record) 
 kept_none options m w None is e = is
 kept_none options m w (Some held) is e = cc
 
-reply_accepted : (op : Op) (found : Bool) → is_accepted (cs.reply_of op found) ≡ true
-reply_accepted Put found = refl
-reply_accepted Del true = refl
-reply_accepted Del false = refl
+reply_accepted : (op : Op) (options : Options) (w : Write) (found : Bool) → is_accepted (cs.reply_of op options w found) ≡ true
+reply_accepted Put options w found = refl
+reply_accepted Del options w true = refl
+reply_accepted Del options w false = refl
 
 -- the reply to a write that is not refused
 
-replies : (options : Options) (m : Cache) (w : Write) → m.accepted < options.wear → cs.reply options m w ≡ cs.reply_of w.op (is_some (record_of m w.key))
+replies : (options : Options) (m : Cache) (w : Write) → m.accepted < options.wear → cs.reply options m w ≡ cs.reply_of w.op options w (is_some (record_of m w.key))
 unfolding cs.reply
-replies options m w few = ap (λ b. cond b Worn (cs.reply_of w.op (is_some (record_of m w.key)))) (lt-leb options.wear m.accepted few)
+replies options m w few = ap (λ b. cond b Worn (cs.reply_of w.op options w (is_some (record_of m w.key)))) (lt-leb options.wear m.accepted few)
 
-pub may_give : (o : OwnerState) → MayWrite o → (w : Write) → MayGive (options_in o) o.history w (cs.reply_of w.op (had_record o w.key))
+pub may_give : (o : OwnerState) → MayWrite o → (w : Write) → MayGive (options_in o) o.history w (cs.reply_of w.op (options_in o) w (had_record o w.key))
 may_give o may w =
     let there = cached_in (options_in o) may.cached o.history in
     let count = ap accepted_in there.1 in
     let all = accepted_is_length (options_in o) o.history in
     let less = may.not_worn in
-    subst (λ (z : State). Allows (options_in o) z w (cs.reply_of w.op (had_record_by z w.key))) (sym there.1) (sym (replies (options_in o) there.0 w (omega arith)))
+    subst (λ (z : State). Allows (options_in o) z w (cs.reply_of w.op (options_in o) w (had_record_by z w.key))) (sym there.1) (sym (replies (options_in o) there.0 w (omega arith)))
 
 -- and to one that is
 
 refuses : (options : Options) (m : Cache) (w : Write) → options.wear ≤ m.accepted → Worn ≡ cs.reply options m w
 unfolding cs.reply
-refuses options m w full = ap (λ b. cond b Worn (cs.reply_of w.op (is_some (record_of m w.key)))) (sym (le-leb options.wear m.accepted full))
+refuses options m w full = ap (λ b. cond b Worn (cs.reply_of w.op options w (is_some (record_of m w.key)))) (sym (le-leb options.wear m.accepted full))
 
 pub worn_step : (o : OwnerState) → o.phase ≡ Idle → o.shape.mode ≡ CacheMode → o.shape.wear ≤ length o.history → (w : Write) → IsOwnerStep o o w Worn
 worn_step o idle mode full w =
@@ -110,10 +111,10 @@ worn_step o idle mode full w =
     }
 
 -- a step that gains the write
-pub accepted_step : (o new : OwnerState) → MayWrite o → (w : Write) (outcome : Outcome) → Gains o new w → outcome ≡ cs.reply_of w.op (had_record o w.key) → IsOwnerStep o new w outcome
+pub accepted_step : (o new : OwnerState) → MayWrite o → (w : Write) (outcome : Outcome) → Gains o new w → outcome ≡ cs.reply_of w.op (options_in o) w (had_record o w.key) → IsOwnerStep o new w outcome
 accepted_step o new may w outcome gained is = record {
   allowed = subst (MayGive (options_in o) o.history w) (sym is) (may_give o may w);
-  gained = gained ∙ ap (λ b. cond b (record o { words = new.words; history = o.history ++ w ∷ [] }) o) (sym (ap is_accepted is ∙ reply_accepted w.op (had_record o w.key)));
+  gained = gained ∙ ap (λ b. cond b (record o { words = new.words; history = o.history ++ w ∷ [] }) o) (sym (ap is_accepted is ∙ reply_accepted w.op (options_in o) w (had_record o w.key)));
   idle = ap (λ (z : OwnerState). z.phase) gained ∙ may.idle;
 }
 
@@ -143,7 +144,7 @@ module _ (o : OwnerState) (s : Kept o) (may : MayWrite o) (w : Write) (is : IsWr
   stamp_next = ap stamp_of_state (state_snoc (options_in o) o.history w ∙ ap (λ (z : State). state_after (options_in o) z w) now.1)
 
   accepted : IsAcceptedAfter (options_in o) o.history w
-  accepted = (cs.reply_of w.op (had_record o w.key), reply_accepted w.op (had_record o w.key), may_give o may w)
+  accepted = (cs.reply_of w.op (options_in o) w (had_record o w.key), reply_accepted w.op (options_in o) w (had_record o w.key), may_give o may w)
 
   pub may_begin : (b : ℕ) → b ≡ bucket_in o w.key → MayBegin o b
   may_begin b here = record { idle = may.idle; main = subst (IsMain o.shape) (sym here) (key_main o s w.key); not_worn = may.not_worn }
@@ -205,7 +206,7 @@ module _ (o : OwnerState) (s : Kept o) (may : MayWrite o) (w : Write) (is : IsWr
     few_words : (room : ℕ) → length (item_words room w.key w.value) ≤ o.shape.words
     few_words room =
         let long = length-item_words room w.key w.value in
-        let size : size_of w ≤ 162 = size_at_most w is in
+        let size : size_of w ≤ largest_item = size_at_most w is in
         let least = s.shape.ranges.words.0 in
         omega arith
 
@@ -373,7 +374,7 @@ pub item_gained : (o : OwnerState) → Kept o → (w : Write) → IsWrite w → 
     ≡ changed o (with_item (marked_with o b w n) p room w.key w.value).words (o.history ++ w ∷ []) (Marked (bucket_in o w.key) w o.history)
 item_gained o s w is b n p room here =
     let long = length-item_words room w.key w.value in
-    let size : size_of w ≤ 162 = size_at_most w is in
+    let size : size_of w ≤ largest_item = size_at_most w is in
     let least = s.shape.ranges.words.0 in
     effects.put_same o s.wide (some_words o s) b (subst (IsMain o.shape) (sym here) (key_main o s w.key)) w n p (item_words room w.key w.value) (omega arith)
 
@@ -387,7 +388,7 @@ gains o q new w b words phase idle gained is =
     whole ∙ (between ∙ ap (λ (z : OwnerState). record o { words = z.words; history = o.history ++ w ∷ [] }) (sym whole))
 
 -- the stamp stays far below the limit of a word
-pub stamp_limit : (o : OwnerState) → Kept o → stamp_in o < 2 ^ 60
+pub stamp_limit : (o : OwnerState) → Kept o → stamp_in o ≤ most_stamp
 stamp_limit o s =
     let small = stamp_small (options_in o) s.shape.ranges o.history s.history.accepted s.history.writes in
     let is = s.stamp in

@@ -1,6 +1,7 @@
 -- The entries of a chain, as a list.
 use Rattle.std.specs.Prelude.{◌≡◌, ◌≢◌, ℕ, zero, suc, ◌+◌, ◌*◌, ◌<◌, ◌==◌, nat_lt, List, [], ◌∷◌, if◌then◌else◌, filter, flat_map, slice_range, slice_set, swap_remove}
 use Rattle.std.specs.List.{position_or_len}
+use Rattle.mica_words.specs.declared.entry.TheConstants.{SLOTS}
 use Rattle.mica_words.specs.Hash.{tag_of}
 use Rattle.mica_words.specs.Entry.{entry_tag, entry_offset}
 use Rattle.epoch_core.specs.declared.state.OwnerState.{OwnerState}
@@ -22,7 +23,7 @@ buckets_of o b = buckets_from o (suc o.shape.spares) b
 -- the entries of one bucket, in the order of its slots
 unfoldable pub entries_in : OwnerState → ℕ → List ℕ
 entries_in o c =
-    filter (nat_lt 0) (slice_range o.words (entry_at o.shape c 0) (entry_at o.shape c 15))
+    filter (nat_lt 0) (slice_range o.words (entry_at o.shape c 0) (entry_at o.shape c SLOTS))
 
 -- the entries of a chain, bucket by bucket
 unfoldable pub entries_of : OwnerState → ℕ → List ℕ
@@ -35,13 +36,13 @@ spot_entry o spot = entry_in o spot.bucket spot.slot
 -- the spot is a used slot in the chain of bucket b
 pub record IsUsed (o : OwnerState) (b : ℕ) (spot : Spot) : Type 0 where
   pub in_chain : InChain o b spot.bucket
-  pub in_bucket : spot.slot < 15
+  pub in_bucket : spot.slot < SLOTS
   pub used : spot_entry o spot ≢ 0
 
 -- where the entry of a used spot stands in the list of a dense chain, all of whose buckets but the last
 -- are full
 unfoldable pub number_of : OwnerState → ℕ → Spot → ℕ
-number_of o b spot = 15 * position_or_len (λ c. c == spot.bucket) (buckets_of o b) + spot.slot
+number_of o b spot = SLOTS * position_or_len (λ c. c == spot.bucket) (buckets_of o b) + spot.slot
 
 -- the entries with another one in the spot
 abbrev pub entries_with : OwnerState → ℕ → Spot → ℕ → List ℕ

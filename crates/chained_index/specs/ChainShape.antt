@@ -1,5 +1,6 @@
 -- The shape of a dense chain: the number of its links, and of the used slots of its last bucket.
 use Rattle.std.specs.Prelude.{◌≡◌, ◌≢◌, ℕ, zero, suc, ◌<◌, ◌≤◌, ◌⊎◌}
+use Rattle.mica_words.specs.declared.entry.TheConstants.{SLOTS}
 use Rattle.epoch_core.specs.declared.state.OwnerState.{OwnerState}
 use Rattle.epoch_core.specs.OwnerState.{entry_in, link_in}
 use Rattle.chained_index.specs.declared.index.ChainEnd.{ChainEnd}
@@ -15,10 +16,10 @@ pub record HasChainShape (o : OwnerState) (b links used : ℕ) : Type 0 where
   pub few : links ≤ o.shape.spares
   pub linked : (k : ℕ) → k < links → link_in o (bucket_at o k b) ≢ 0
   pub last : link_in o (bucket_at o links b) ≡ 0
-  pub full : (k slot : ℕ) → k < links → slot < 15 → entry_in o (bucket_at o k b) slot ≢ 0
-  pub within : used ≤ 15
+  pub full : (k slot : ℕ) → k < links → slot < SLOTS → entry_in o (bucket_at o k b) slot ≢ 0
+  pub within : used ≤ SLOTS
   pub not_empty : (slot : ℕ) → slot < used → entry_in o (bucket_at o links b) slot ≢ 0
-  pub empty : (slot : ℕ) → used ≤ slot → slot < 15 → entry_in o (bucket_at o links b) slot ≡ 0
+  pub empty : (slot : ℕ) → used ≤ slot → slot < SLOTS → entry_in o (bucket_at o links b) slot ≡ 0
   pub some : (links ≡ 0) ⊎ (0 < used)
 
 -- the chain of b ends here, behind so many links

@@ -1,5 +1,6 @@
 -- What contracts see of a chained index.
 use Rattle.std.specs.Prelude.{◌≡◌, ◌≢◌, ℕ, ◌<◌, ◌%◌, ◌↔◌, List, [], length, Contains, AllPairs}
+use Rattle.mica_words.specs.declared.entry.TheConstants.{SLOTS}
 use Rattle.epoch_core.specs.declared.shape.Shape.{Shape}
 use Rattle.epoch_core.specs.declared.state.OwnerState.{OwnerState}
 use Rattle.epoch_core.specs.Shape.{IsMain}
@@ -15,7 +16,7 @@ pub record Index : Type 0 where
 -- a bucket with neither link nor entry
 pub record IsBlank (o : OwnerState) (c : ℕ) : Type 0 where
   pub no_link : link_in o c ≡ 0
-  pub no_entry : (slot : ℕ) → slot < 15 → entry_in o c slot ≡ 0
+  pub no_entry : (slot : ℕ) → slot < SLOTS → entry_in o c slot ≡ 0
 
 -- The index is one of these words: their chains are dense, and its free spares are the spares in no chain,
 -- each once and each blank.
@@ -29,5 +30,5 @@ pub record IsIndexOf (index : Index) (o : OwnerState) : Type 0 where
 -- the entries fill the buckets of the chain, and no spare bucket is left
 pub record LacksPlace (index : Index) (o : OwnerState) (b : ℕ) : Type 0 where
   pub some : 0 < length (entries_of o b)
-  pub full : length (entries_of o b) % 15 ≡ 0
+  pub full : length (entries_of o b) % SLOTS ≡ 0
   pub none_free : index.free ≡ []

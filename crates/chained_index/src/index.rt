@@ -1,5 +1,6 @@
 //! The chained index, after the MICA paper's store mode.
 ghost use Rattle.std.specs.Prelude.{◌≡◌, ◌≢◌, ℕ, suc, ◌+◌, ◌<◌, ◌≤◌, ◌^◌, ◌↔◌, ◌++◌, ◌∷◌, [], IsTrue, IsFalse, IfOk, MatchOption};
+ghost use Rattle.mica_words.specs.declared.entry.TheConstants.{SLOTS};
 ghost use Rattle.mica_words.specs.Entry.{entry_of, entry_tag as entry_tag_of, entry_offset as entry_offset_of};
 ghost use Rattle.mica_words.specs.Item.{KeyFits};
 ghost use Rattle.epoch_core.specs.Shape.{IsValidShape, IsMain, IsBucket};
@@ -14,12 +15,9 @@ ghost use Rattle.chained_index.specs.Index.{IsIndexOf, LacksPlace};
 
 use epoch_core::{OwnerWords, Shape, WordAt, holds_key};
 use mica_io::NoMemory;
-use mica_words::{entry_of, entry_offset, entry_tag, key_hash, tag_of};
+use mica_words::{SLOTS, entry_of, entry_offset, entry_tag, key_hash, tag_of};
 use std::alloc::Global;
 use std::marker::Model;
-
-/// How many entries a bucket has.
-const SLOTS: u32 = 15;
 
 /// Where an entry stands.
 #[derive(Clone, Copy, Debug, PartialEq, Eq)]
@@ -234,9 +232,9 @@ fn names_key<W: OwnerWords>(words: &mut W, entry: u64, tag: u16, key: &[u8]) -> 
 // How many slots of the bucket are used before the first empty one.
 fn used_slots<W: OwnerWords>(words: &mut W, bucket: u32) -> u32
     requires { IsBucket (W.owner words.old).shape bucket }
-    ensures used { (result ≤ 15)
+    ensures used { (result ≤ SLOTS)
         × ((slot : ℕ) → slot < result → entry_in (W.owner words.old) bucket slot ≢ 0)
-        × (result < 15 → entry_in (W.owner words.old) bucket result ≡ 0) }
+        × (result < SLOTS → entry_in (W.owner words.old) bucket result ≡ 0) }
     ensures same { W.owner words.new ≡ W.owner words.old }
     ensures home { W.home words.new ≡ W.home words.old }
     ensures kept { Kept (W.owner words.new) }

@@ -8,10 +8,11 @@ use Rattle.mica_model.specs.declared.write.Op.TheVariants.{Put}
 use Rattle.mica_model.specs.declared.write.Write.{Write}
 use Rattle.mica_model.specs.Write.{IsWrite, write_of}
 use Rattle.mica_model.specs.Cache.{Record}
-use Rattle.mica_model.specs.CacheStep.{begin_of, kept_record}
+use Rattle.mica_model.specs.Limits.{most_stamp}
+use Rattle.mica_model.specs.CacheStep.{kept_record}
 use Rattle.mica_model.specs.History.{History, State, cache_state, store_state, state_of, stamp_in, stamp_of}
-use Rattle.mica_model.proofs.CacheKept.{keeps_put}
-use Rattle.mica_model.proofs.CacheLaws.{kept_in, window_kept}
+use Rattle.mica_model.proofs.CacheKept.{begin_of, offset_of, keeps_put}
+use Rattle.mica_model.proofs.CacheLaws.{kept_in, window_kept, put_item}
 use Rattle.mica_model.proofs.Rises.{stamp_rises}
 use Rattle.mica_model.proofs.Stamps.{stamp_small}
 use Rattle.epoch_core.specs.declared.state.OwnerState.{OwnerState}
@@ -30,11 +31,13 @@ module _ (o : OwnerState) (s : Kept o) (key value : List ℕ) (key_fits : KeyFit
 
   -- where the put's item begins, by the state before it
   abbrev BeginsAt : State → Type 0
-  BeginsAt (cache_state before) = (begin_of (kept_record (options_in o) before (write_of Put key value)) before ≡ p) × (p + item_size key value ≤ 2 ^ 48)
+  BeginsAt (cache_state before) = (offset_of (options_in o) before (write_of Put key value) ≡ p) × (p + item_size key value ≤ 2 ^ 48)
   BeginsAt (store_state before) = ⊥
 
   belongs : (b : ℕ) (now : State) → BeginsAt now → (i : ℕ) → i < item_size key value → BelongsTo o b (write_of Put key value) now (p + i)
-  belongs b (cache_state before) at i l = let begin = at.0 in (omega arith, omega arith)
+  belongs b (cache_state before) at i l =
+      let begin = at.0 in
+      put_item (options_in o) before (write_of Put key value) refl (p + i) (omega arith) (omega arith)
   belongs b (store_state before) at i l = absurd at
 
   low : (now : State) → BeginsAt now → (i : ℕ) → i < item_size key value → p + i < 2 ^ 48
@@ -54,7 +57,7 @@ module _ (o : OwnerState) (s : Kept o) (key value : List ℕ) (key_fits : KeyFit
   }
 
   -- the tail before a marked write is far from the largest offset
-  tail_small : (b : ℕ) (write : Write) (before : History) → o.phase ≡ Marked b write before → stamp_of (options_in o) before < 2 ^ 60
+  tail_small : (b : ℕ) (write : Write) (before : History) → o.phase ≡ Marked b write before → stamp_of (options_in o) before ≤ most_stamp
   tail_small b write before is =
       let fits = subst (PhaseFits o) is s.phase in
       let rises = stamp_rises (options_in o) before write in
@@ -62,11 +65,11 @@ module _ (o : OwnerState) (s : Kept o) (key value : List ℕ) (key_fits : KeyFit
       let same = ap (stamp_of (options_in o)) fits.1 in
       omega arith
 
-  by_append : (now : State) → stamp_in now < 2 ^ 60 → IsAppendedAt (options_in o) now (write_of Put key value) p → BeginsAt now
+  by_append : (now : State) → stamp_in now ≤ most_stamp → IsAppendedAt (options_in o) now (write_of Put key value) p → BeginsAt now
   by_append (cache_state before) small at = let tail = at.1 in (ap (λ (z : Option Record). begin_of z before) at.0 ∙ sym at.1, omega arith)
   by_append (store_state before) small at = absurd at
 
-  by_rewrite : (before : History) → AllByRecursion IsWrite before → (now : State) → state_of (options_in o) before ≡ now → stamp_in now < 2 ^ 60
+  by_rewrite : (before : History) → AllByRecursion IsWrite before → (now : State) → state_of (options_in o) before ≡ now → stamp_in now ≤ most_stamp
       → IsKeptAt o now (write_of Put key value) p → BeginsAt now
   by_rewrite before writes (cache_state now) is small at =
       let keeps = keeps_put (options_in o) now (write_of Put key value) at.0 at.1 in

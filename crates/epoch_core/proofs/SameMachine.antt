@@ -1,5 +1,5 @@
 -- The machine of options is that of their shape: it reads no other option, and in cache mode no spares.
-use Rattle.std.proofs.Common.{◌≡◌, ℕ, inl, inr, [], ◌∷◌, Option, Some, None, refl, sym, ap, ◌∙◌, subst, arith, ◌+◌}
+use Rattle.std.proofs.Common.{◌≡◌, ℕ, Bool, true, false, cond, is_some, inl, inr, [], ◌∷◌, Option, Some, None, refl, sym, ap, ◌∙◌, subst, arith, ◌+◌}
 use Rattle.std.specs.List.{fold}
 use Rattle.mica_model.specs.declared.options.Options.{Options}
 use Rattle.mica_model.specs.declared.options.Mode.{Mode}
@@ -30,6 +30,11 @@ all_spares : (mode : Mode) (spares : ℕ) → mode ≡ StoreMode → spares_in m
 all_spares CacheMode spares is = cc
 all_spares StoreMode spares is = refl
 
+same_reply_of : (op : Op) (options options' : Options) (write : Write) (found : Bool) → cs.reply_of op options write found ≡ cs.reply_of op options' write found
+same_reply_of Put options options' write found = refl
+same_reply_of Del options options' write true = refl
+same_reply_of Del options options' write false = refl
+
 module _ (options : Options) where
   abbrev shaped : Options
   shaped = options_of (shape_of options)
@@ -59,7 +64,7 @@ module _ (options : Options) where
 
   same_reply : (s : cache.Cache) (write : Write) → cs.reply shaped s write ≡ cs.reply options s write
   unfolding cs.reply
-  same_reply s write = refl
+  same_reply s write = ap (λ (reply : Outcome). cond (cs.is_worn options s) Worn reply) (same_reply_of write.op shaped options write (is_some (cache.record_of s write.key)))
 
   module _ (mode : options.mode ≡ StoreMode) (s : store.Store) (write : Write) where
     spares : spares_in options.mode options.spares ≡ options.spares
@@ -72,7 +77,7 @@ module _ (options : Options) where
     spare_back h = record { is_new = h.is_new; some = h.some; full = h.full; none_left = h.none_left ∙ spares }
 
     block_back : ss.NeedsBlock shaped s write → ss.NeedsBlock options s write
-    block_back h = record { gives = h.gives; no_room = h.no_room; has_spare = λ needs. h.has_spare (spare_on needs) }
+    block_back h = record { stores = h.stores; no_room = h.no_room; has_spare = λ needs. h.has_spare (spare_on needs) }
 
     allows_back : (outcome : Outcome) → ss.Allows shaped s write outcome → ss.Allows options s write outcome
     allows_back Worn h = h

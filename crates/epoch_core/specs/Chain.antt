@@ -1,5 +1,6 @@
 -- The chain of a bucket: a main bucket, and the spare buckets behind it. In cache mode there are none.
 use Rattle.std.specs.Prelude.{◌≡◌, ◌≢◌, ℕ, zero, suc, ◌<◌, ◌⊎◌}
+use Rattle.mica_words.specs.declared.entry.TheConstants.{SLOTS}
 use Rattle.epoch_core.specs.declared.state.OwnerState.{OwnerState}
 use Rattle.epoch_core.specs.Shape.{IsMain, IsSpare, IsBucket}
 use Rattle.epoch_core.specs.OwnerState.{entry_in, link_in}
@@ -36,7 +37,7 @@ pub record IsFreeSpare (o : OwnerState) (c : ℕ) : Type 0 where
 -- Every bucket of the chain but the last is full, the slots of the last are used from 0 on, and no
 -- spare bucket of it is empty.
 pub record IsDense (o : OwnerState) (b : ℕ) : Type 0 where
-  pub full : (c slot : ℕ) → InChain o b c → link_in o c ≢ 0 → slot < 15 → entry_in o c slot ≢ 0
-  pub in_order : (c slot later : ℕ) → InChain o b c → slot < later → later < 15
+  pub full : (c slot : ℕ) → InChain o b c → link_in o c ≢ 0 → slot < SLOTS → entry_in o c slot ≢ 0
+  pub in_order : (c slot later : ℕ) → InChain o b c → slot < later → later < SLOTS
       → entry_in o c later ≢ 0 → entry_in o c slot ≢ 0
   pub some : (c : ℕ) → InChain o b c → c ≢ b → entry_in o c 0 ≢ 0

@@ -1,5 +1,6 @@
 -- The owner's events: when each may happen, and what it makes of the owner's state.
 use Rattle.std.specs.Prelude.{◌≡◌, ◌≢◌, ℕ, ◌+◌, ◌<◌, ◌^◌, ◌⊎◌, List, [], ◌∷◌, ◌++◌, length, slice_index, slice_set}
+use Rattle.mica_words.specs.declared.entry.TheConstants.{SLOTS}
 use Rattle.mica_words.specs.Spelling.{item_words}
 use Rattle.mica_model.specs.declared.write.Write.{Write}
 use Rattle.mica_model.specs.Write.{IsWrite}
@@ -62,7 +63,7 @@ IsItsBucket o c = WhenMarked o.phase (λ b write before. InChain o b c ⊎ IsFre
 
 pub record MayPutEntry (o : OwnerState) (c slot : ℕ) : Type 0 where
   pub its_bucket : IsItsBucket o c
-  pub in_bucket : slot < 15
+  pub in_bucket : slot < SLOTS
 
 -- a link may be put that is none, or leads to a free spare without one
 pub record MayPutLink (o : OwnerState) (c next : ℕ) : Type 0 where

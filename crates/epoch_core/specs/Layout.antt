@@ -1,6 +1,7 @@
--- Where words stand. Word 0 is the stamp. Each main bucket has its epoch, 15 entries and a link, and
--- then each spare bucket 15 entries and a link. Then come the item words.
+-- Where words stand. Word 0 is the stamp. Each main bucket has its epoch, its entries and a link, and
+-- then each spare bucket its entries and a link. Then come the item words.
 use Rattle.std.specs.Prelude.{ℕ, ◌+◌, ◌*◌, ◌%◌, ◌<◌, min}
+use Rattle.mica_words.specs.declared.entry.TheConstants.{SLOTS}
 use Rattle.epoch_core.specs.declared.shape.Shape.{Shape}
 use Rattle.epoch_core.specs.declared.shape.WordAt.{WordAt}
 use Rattle.epoch_core.specs.declared.shape.WordAt.TheVariants.{Stamp, Epoch, Entry, Link, Item}
@@ -9,26 +10,34 @@ use Rattle.epoch_core.specs.Shape.{IsMain, IsBucket}
 abbrev pub stamp_at : ℕ
 stamp_at = 0
 
-abbrev pub epoch_at : ℕ → ℕ
-epoch_at b = 1 + 17 * b
+-- a bucket's entries and its link
+abbrev pub bucket_words : ℕ
+bucket_words = SLOTS + 1
 
--- The place of a bucket's first entry. Before it stand the stamp, the 16 words of each bucket below,
+-- those of a main bucket, with its epoch
+abbrev pub main_words : ℕ
+main_words = bucket_words + 1
+
+abbrev pub epoch_at : ℕ → ℕ
+epoch_at b = 1 + main_words * b
+
+-- The place of a bucket's first entry. Before it stand the stamp, the entries and the link of each bucket below,
 -- and the epoch of each main bucket up to it.
 abbrev pub entries_at : Shape → ℕ → ℕ
-entries_at shape b = 1 + 16 * b + min (b + 1) shape.buckets
+entries_at shape b = 1 + bucket_words * b + min (b + 1) shape.buckets
 
 abbrev pub entry_at : Shape → ℕ → ℕ → ℕ
 entry_at shape b slot = entries_at shape b + slot
 
 abbrev pub link_at : Shape → ℕ → ℕ
-link_at shape b = entries_at shape b + 15
+link_at shape b = entries_at shape b + SLOTS
 
 -- the item words go round
 abbrev pub item_at : Shape → ℕ → ℕ
-item_at shape p = 1 + 17 * shape.buckets + 16 * shape.spares + p % shape.words
+item_at shape p = 1 + main_words * shape.buckets + bucket_words * shape.spares + p % shape.words
 
 abbrev pub word_count : Shape → ℕ
-word_count shape = 1 + 17 * shape.buckets + 16 * shape.spares + shape.words
+word_count shape = 1 + main_words * shape.buckets + bucket_words * shape.spares + shape.words
 
 abbrev pub place_at : Shape → WordAt → ℕ
 place_at shape Stamp = stamp_at
@@ -41,6 +50,6 @@ place_at shape (Item p) = item_at shape p
 abbrev pub IsInside : Shape → WordAt → Type 0
 IsInside shape Stamp = Unit {0}
 IsInside shape (Epoch b) = IsMain shape b
-IsInside shape (Entry b slot) = IsBucket shape b × (slot < 15)
+IsInside shape (Entry b slot) = IsBucket shape b × (slot < SLOTS)
 IsInside shape (Link b) = IsBucket shape b
 IsInside shape (Item p) = Unit {0}

@@ -1,5 +1,6 @@
 -- The live entries of a bucket: those that are not 0 and whose item the log has not passed.
 use Rattle.std.specs.Prelude.{◌≡◌, ◌≢◌, ℕ, ◌+◌, ◌<◌, ◌≤◌}
+use Rattle.mica_words.specs.declared.entry.TheConstants.{SLOTS}
 use Rattle.mica_words.specs.Entry.{entry_offset}
 use Rattle.mica_words.specs.Stamp.{tail_of}
 use Rattle.mica_model.specs.declared.options.Mode.{Mode}
@@ -22,6 +23,6 @@ IsLive shape stamp entry =
 -- the slot of bucket c, in the chain of bucket b, has this entry, live by the stamp word now
 pub record HasLiveEntry (o : OwnerState) (b c slot entry : ℕ) : Type 0 where
   pub in_chain : InChain o b c
-  pub in_bucket : slot < 15
+  pub in_bucket : slot < SLOTS
   pub found : entry_in o c slot ≡ entry
   pub live : IsLive o.shape (stamp_in o) entry

@@ -1,5 +1,6 @@
 -- The words that a get of a main bucket needs, as the words are now.
 use Rattle.std.specs.Prelude.{◌≡◌, ℕ, ◌+◌, ◌<◌}
+use Rattle.mica_words.specs.declared.entry.TheConstants.{SLOTS}
 use Rattle.mica_words.specs.Entry.{entry_offset}
 use Rattle.epoch_core.specs.declared.state.OwnerState.{OwnerState}
 use Rattle.epoch_core.specs.Layout.{entry_at, link_at, item_at}
@@ -9,7 +10,7 @@ use Rattle.epoch_core.specs.StandsFor.{room_in}
 
 -- The entries and links of its chain, and the words of the rooms of the items that its live entries name.
 pub data IsReached (o : OwnerState) (b place : ℕ) : Type 0 where
-  by_entry : (c slot : ℕ) → InChain o b c → slot < 15 → place ≡ entry_at o.shape c slot
+  by_entry : (c slot : ℕ) → InChain o b c → slot < SLOTS → place ≡ entry_at o.shape c slot
       → IsReached o b place
   by_link : (c : ℕ) → InChain o b c → place ≡ link_at o.shape c → IsReached o b place
   by_item : (c slot entry i : ℕ) → HasLiveEntry o b c slot entry → i < room_in o entry

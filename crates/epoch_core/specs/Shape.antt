@@ -4,6 +4,7 @@ use Rattle.std.specs.Int.{is_power_of_two}
 use Rattle.mica_model.specs.declared.options.Mode.{Mode}
 use Rattle.mica_model.specs.declared.options.Mode.TheVariants.{Cache, Store}
 use Rattle.mica_model.specs.declared.options.Options.{Options}
+use Rattle.mica_model.specs.declared.options.TheConstants.{MAX_WEAR}
 use Rattle.mica_model.specs.Options.{IsValid}
 use Rattle.epoch_core.specs.declared.shape.Shape.{Shape}
 
@@ -45,7 +46,7 @@ is_in_range shape =
     is_power_of_two shape.buckets && nat_le shape.buckets 65536
     && nat_le shape.spares (spares_in shape.mode 65536)
     && nat_le 256 shape.words && nat_le shape.words 1048576
-    && nat_le 1 shape.wear && nat_le shape.wear 68719476736
+    && nat_le 1 shape.wear && nat_le shape.wear MAX_WEAR
 
 -- main buckets have an epoch, and a key's bucket is one of them
 abbrev pub IsMain : Shape → ℕ → Type 0

@@ -2,9 +2,16 @@
 ghost use Rattle.std.specs.Prelude.{◌≡◌, ◌↔◌, IsTrue, ◌+◌, ◌*◌, ◌%◌, ◌<◌};
 ghost use Rattle.mica_model.specs.Options.{IsValid};
 ghost use Rattle.epoch_core.specs.Shape.{shape_of, IsValidShape, is_in_range};
-ghost use Rattle.epoch_core.specs.Layout.{entries_at, place_at, word_count};
+ghost use Rattle.epoch_core.specs.Layout.{bucket_words, main_words, entries_at, place_at, word_count};
 
-use mica_model::{Mode, Options};
+use mica_model::{MAX_WEAR, Mode, Options};
+use mica_words::SLOTS;
+
+/// A bucket's entries and its link.
+const BUCKET_WORDS: usize = SLOTS as usize + 1;
+
+/// Those of a main bucket, with its epoch.
+const MAIN_WORDS: usize = BUCKET_WORDS + 1;
 
 /// How many words a partition has of each kind, in which mode, and how many writes it may bear.
 #[derive(Clone, Copy, Debug, PartialEq, Eq)]
@@ -69,7 +76,7 @@ impl Shape {
             && 256 <= self.words
             && self.words <= 1_048_576
             && 1 <= self.wear
-            && self.wear <= 68_719_476_736
+            && self.wear <= MAX_WEAR
     }
 
     /// Where the word lies.
@@ -79,9 +86,9 @@ impl Shape {
     {
         match at {
             WordAt::Stamp => 0,
-            WordAt::Epoch(bucket) => 1 + 17 * bucket as usize,
+            WordAt::Epoch(bucket) => 1 + MAIN_WORDS * bucket as usize,
             WordAt::Entry(bucket, slot) => self.first_entry(bucket) + slot as usize,
-            WordAt::Link(bucket) => self.first_entry(bucket) + 15,
+            WordAt::Link(bucket) => self.first_entry(bucket) + SLOTS as usize,
             WordAt::Item(offset) => self.first_item() + self.around(offset),
         }
     }
@@ -90,13 +97,13 @@ impl Shape {
     fn first_entry(&self, bucket: u32) -> usize
         ensures { result ≡ entries_at self.now bucket }
     {
-        1 + 16 * bucket as usize + (bucket as usize + 1).min(self.buckets as usize)
+        1 + BUCKET_WORDS * bucket as usize + (bucket as usize + 1).min(self.buckets as usize)
     }
 
     fn first_item(&self) -> usize
-        ensures { result ≡ 1 + 17 * self.now.buckets + 16 * self.now.spares }
+        ensures { result ≡ 1 + main_words * self.now.buckets + bucket_words * self.now.spares }
     {
-        1 + 17 * self.buckets as usize + 16 * self.spares as usize
+        1 + MAIN_WORDS * self.buckets as usize + BUCKET_WORDS * self.spares as usize
     }
 
     // Most offsets of store mode need no division.

@@ -1,5 +1,6 @@
 -- The slots of a bucket, by the entries, the items and the stamp as they are now.
 use Rattle.std.specs.Prelude.{◌≡◌, ℕ, ◌+◌, ◌<◌, ◌≤◌, List}
+use Rattle.mica_words.specs.declared.entry.TheConstants.{SLOTS}
 use Rattle.mica_words.specs.Hash.{tag_of}
 use Rattle.mica_words.specs.Entry.{entry_tag, entry_offset}
 use Rattle.mica_words.specs.Stamp.{tail_of}
@@ -21,7 +22,7 @@ IsPassed o b slot = offset_in o b slot + o.shape.words < tail_of (stamp_in o)
 
 -- The slot has an entry of the key's tag, whose item has the key and which the log has not passed.
 pub record IsSlotOf (o : OwnerState) (b : ℕ) (key : List ℕ) (slot : ℕ) : Type 0 where
-  pub in_bucket : slot < 15
+  pub in_bucket : slot < SLOTS
   pub tag : entry_tag (entry_in o b slot) ≡ tag_of key
   pub live : tail_of (stamp_in o) ≤ offset_in o b slot + o.shape.words
   pub item : HasKey o (offset_in o b slot) key

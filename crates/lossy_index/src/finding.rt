@@ -5,9 +5,8 @@ ghost use Rattle.epoch_core.specs.Shape.{IsMain};
 ghost use Rattle.epoch_core.specs.Kept.{Kept};
 ghost use Rattle.lossy_index.specs.Slot.{IsSlotOf, HasNoSlot};
 
-use crate::SLOTS;
 use epoch_core::{OwnerWords, WordAt, holds_key};
-use mica_words::{entry_offset, entry_tag, key_hash, tag_of, tail_of};
+use mica_words::{SLOTS, entry_offset, entry_tag, key_hash, tag_of, tail_of};
 
 /// The slot whose live item has the key.
 pub fn find<W: OwnerWords>(words: &mut W, bucket: u32, key: &[u8]) -> Option<u32>

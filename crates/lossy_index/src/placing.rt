@@ -1,5 +1,6 @@
 //! Changes of one entry.
 ghost use Rattle.std.specs.Prelude.{◌≡◌, ℕ, ◌<◌, ◌≤◌, ◌^◌, IfSome};
+ghost use Rattle.mica_words.specs.declared.entry.TheConstants.{SLOTS};
 ghost use Rattle.mica_words.specs.Entry.{entry_of as entry_word};
 ghost use Rattle.epoch_core.specs.declared.event.Event.TheVariants.{PutsEntry};
 ghost use Rattle.epoch_core.specs.Shape.{IsMain};
@@ -8,9 +9,8 @@ ghost use Rattle.epoch_core.specs.Events.{after};
 ghost use Rattle.epoch_core.specs.Kept.{Kept};
 ghost use Rattle.lossy_index.specs.Place.{GivesWay, Takes};
 
-use crate::SLOTS;
 use epoch_core::{OwnerWords, WordAt};
-use mica_words::{entry_of, entry_offset, tail_of};
+use mica_words::{SLOTS, entry_of, entry_offset, tail_of};
 
 /// Stores an entry of the tag and the offset, and answers its slot: `old` where that is given, else the one
 /// that gives way.
@@ -23,7 +23,7 @@ pub fn place<W: OwnerWords>(
 ) -> u32
     requires marked { marked_in (W.owner words.old).phase bucket ≡ 1 }
     requires bucket { IsMain (W.owner words.old).shape bucket }
-    requires old { IfSome old (λ slot. slot < 15) }
+    requires old { IfSome old (λ slot. slot < SLOTS) }
     requires tag { 1 ≤ tag }
     requires offset { offset < 2 ^ 48 }
     ensures slot { Takes (W.owner words.old) bucket old result }
@@ -43,7 +43,7 @@ pub fn place<W: OwnerWords>(
 /// Empties the slot.
 pub fn clear<W: OwnerWords>(words: &mut W, bucket: u32, slot: u32)
     requires marked { marked_in (W.owner words.old).phase bucket ≡ 1 }
-    requires slot { slot < 15 }
+    requires slot { slot < SLOTS }
     ensures entry { W.owner words.new ≡ after (PutsEntry bucket slot 0) (W.owner words.old) }
     ensures home { W.home words.new ≡ W.home words.old }
     ensures kept { Kept (W.owner words.new) }

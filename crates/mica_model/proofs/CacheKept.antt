@@ -5,13 +5,14 @@ use Rattle.std.specs.Prelude.{map}
 use Rattle.std.proofs.lemmas.Bool.{not-true, true≢false, leb-true, eqb-true, eqb-false, ne_eqb, and_parts, cases_eq}
 use Rattle.std.proofs.lemmas.List.Sums.{sum_by_push}
 use Rattle.mica_words.specs.Hash.{bucket_of}
-use Rattle.mica_words.specs.Item.{KeyFits, ValueFits, item_size}
+use Rattle.mica_words.specs.Item.{KeyFits, ValueFits, item_size, largest_item}
 use Rattle.mica_words.specs.Packing.{AreBytes}
 use Rattle.mica_words.specs.Stamp.{tail_of}
 use Rattle.mica_model.specs.declared.options.Options.{Options}
 use Rattle.mica_model.specs.declared.write.Write.{Write}
 use Rattle.mica_model.specs.declared.write.Op.{Op}
 use Rattle.mica_model.specs.declared.write.Op.TheVariants.{Put, Del}
+use Rattle.mica_model.specs.Limits.{most_added}
 use Rattle.mica_model.specs.Write.{IsWrite, HasValueOf, size_of}
 use Rattle.mica_model.specs.Cache as cache
 use Rattle.mica_model.specs.Cache.{Record, Cache, has_key, record_of, is_live}
@@ -29,7 +30,7 @@ pub record IsRecord (held : Record) : Type 0 where
   pub value : ValueFits held.value
   pub value_bytes : AreBytes held.value
   pub size : item_size held.key held.value ≤ held.room
-  pub room : held.room ≤ 162
+  pub room : held.room ≤ largest_item
 
 abbrev pub AreLive : ℕ → ℕ → List Record → Type 0
 AreLive words stamp records = AllOf (λ held. tail_of stamp ≤ held.offset + words) records
@@ -41,7 +42,7 @@ pub record IsKept (options : Options) (s : Cache) : Type 0 where
   pub live : AreLive options.words s.stamp s.records
   pub are : AllOf IsRecord s.records
   pub buckets : (bucket : ℕ) → count_by (is_in_bucket options bucket) s.records ≤ 15
-  pub stamp : s.stamp ≤ s.accepted * 10616832
+  pub stamp : s.stamp ≤ s.accepted * most_added
 
 pub start_kept : (options : Options) → IsKept options cache.start
 unfolding cache.start
@@ -54,12 +55,12 @@ start_kept options = record {
   stamp = omega arith;
 }
 
--- an item has at most 162 words
-size_by : (op : Op) (key value : List ℕ) → KeyFits key → HasValueOf op value → item_size key value ≤ 162
+-- the largest item has the most words
+size_by : (op : Op) (key value : List ℕ) → KeyFits key → HasValueOf op value → item_size key value ≤ largest_item
 size_by Put key value key_fits fits = let short = key_fits.1 in omega arith
 size_by Del key value key_fits none = let short = key_fits.1 in let empty : length value ≡ 0 = ap length none in omega arith
 
-pub size_at_most : (write : Write) → IsWrite write → size_of write ≤ 162
+pub size_at_most : (write : Write) → IsWrite write → size_of write ≤ largest_item
 size_at_most write is = size_by write.op write.key write.value is.key is.value
 
 value_by : (op : Op) (value : List ℕ) → HasValueOf op value → ValueFits value
@@ -111,6 +112,14 @@ keeps_by options s write (Some r) at held is =
 pub keeps_put : (options : Options) (s : Cache) (write : Write) (held : Record) → kept_record options s write ≡ Some held → KeepsPut options s write held
 keeps_put options s write held is = keeps_by options s write (record_of s write.key) refl held is
 
+-- where the item of a put begins: in the room that keeps it, else at the tail
+abbrev pub begin_of : Option Record → Cache → ℕ
+begin_of None s = tail_of s.stamp
+begin_of (Some held) s = held.offset
+
+abbrev pub offset_of : Options → Cache → Write → ℕ
+offset_of options s write = begin_of (kept_record options s write) s
+
 -- what a put that is kept makes of each record
 abbrev pub rewritten : Write → Record → Record
 rewritten write held = cond (has_key write.key held) (record held { value = write.value }) held
@@ -133,7 +142,7 @@ pub record IsWritten (options : Options) (s : Cache) (write : Write) (t : Cache)
   pub here : count_by (is_in_bucket options (bucket_of write.key options.buckets)) t.records ≤ 16
   pub there : (bucket : ℕ) → bucket_of write.key options.buckets ≢ bucket → count_by (is_in_bucket options bucket) t.records ≤ 15
   pub least : s.stamp < t.stamp
-  pub most : t.stamp ≤ s.stamp + 10616832
+  pub most : t.stamp ≤ s.stamp + most_added
 
 -- the records of other keys have none of the key
 pub others_lack : (key : List ℕ) (records : List Record) → find (has_key key) (others key records) ≡ None
@@ -148,25 +157,25 @@ module _ (options : Options) (s : Cache) (kept : IsKept options s) (write : Writ
   pub others_laid : IsLaid 0 (tail_of s.stamp) (others write.key s.records)
   others_laid = laid.laid_filter (λ r. not (has_key write.key r)) 0 (tail_of s.stamp) s.records kept.laid
 
-  appended : ValueFits write.value → IsWritten options s write (cs.after_append s write)
+  appended : ValueFits write.value → IsWritten options s write (cs.after_append s (new_record s write.key write.value))
   appended value =
-      let size : size_of write ≤ 162 = size_at_most write is in
+      let size : size_of write ≤ largest_item = size_at_most write is in
       let some : 0 < size_of write = omega arith in
-      let count = λ (bucket : ℕ). sum_by_push (λ (r : Record). cond (is_in_bucket options bucket r) 1 0) (others write.key s.records) (new_record s write) in
+      let count = λ (bucket : ℕ). sum_by_push (λ (r : Record). cond (is_in_bucket options bucket r) 1 0) (others write.key s.records) (new_record s write.key write.value) in
       record {
-        laid = subst (λ (n : ℕ). IsLaid 0 n (others write.key s.records ++ new_record s write ∷ [])) (sym (tail_past s.stamp (size_of write))) (laid.laid_push 0 (tail_of s.stamp) (others write.key s.records) (new_record s write) refl others_laid);
-        unique = laid.unique_push (others write.key s.records) (new_record s write) (others_lack write.key s.records) (laid.unique_filter (λ r. not (has_key write.key r)) s.records kept.unique);
-        are = found.all_push IsRecord (others write.key s.records) (new_record s write) (found.all_filter IsRecord (λ r. not (has_key write.key r)) s.records kept.are)
+        laid = subst (λ (n : ℕ). IsLaid 0 n (others write.key s.records ++ new_record s write.key write.value ∷ [])) (sym (tail_past s.stamp (size_of write))) (laid.laid_push 0 (tail_of s.stamp) (others write.key s.records) (new_record s write.key write.value) refl others_laid);
+        unique = laid.unique_push (others write.key s.records) (new_record s write.key write.value) (others_lack write.key s.records) (laid.unique_filter (λ r. not (has_key write.key r)) s.records kept.unique);
+        are = found.all_push IsRecord (others write.key s.records) (new_record s write.key write.value) (found.all_filter IsRecord (λ r. not (has_key write.key r)) s.records kept.are)
             (record { key = is.key; key_bytes = is.key_bytes; value = value; value_bytes = is.value_bytes; size = omega arith; room = size });
         here =
             let all = count (bucket_of write.key options.buckets) in
             let few = fewer (bucket_of write.key options.buckets) in
-            let one : cond (is_in_bucket options (bucket_of write.key options.buckets) (new_record s write)) 1 0 ≤ 1 = elim (is_in_bucket options (bucket_of write.key options.buckets) (new_record s write)) as (λ b. cond b 1 0 ≤ 1) [ true ↦ omega arith | false ↦ omega arith ] in
+            let one : cond (is_in_bucket options (bucket_of write.key options.buckets) (new_record s write.key write.value)) 1 0 ≤ 1 = elim (is_in_bucket options (bucket_of write.key options.buckets) (new_record s write.key write.value)) as (λ b. cond b 1 0 ≤ 1) [ true ↦ omega arith | false ↦ omega arith ] in
             omega arith;
         there = λ bucket other.
             let all = count bucket in
             let few = fewer bucket in
-            let none : cond {A = ℕ} (is_in_bucket options bucket (new_record s write)) 1 0 ≡ 0 = ap (λ (b : Bool). cond {A = ℕ} b 1 0) (ne_eqb (bucket_of write.key options.buckets) bucket other) in
+            let none : cond {A = ℕ} (is_in_bucket options bucket (new_record s write.key write.value)) 1 0 ≡ 0 = ap (λ (b : Bool). cond {A = ℕ} b 1 0) (ne_eqb (bucket_of write.key options.buckets) bucket other) in
             omega arith;
         least = omega arith;
         most = omega arith;

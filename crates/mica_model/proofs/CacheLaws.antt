@@ -7,7 +7,7 @@ use Rattle.std.proofs.lemmas.Bool.{leb-true, le-leb, eqb-true, ne_eqb}
 use Rattle.std.proofs.lemmas.List.Sums.{sum_by_push}
 use Rattle.std.proofs.lemmas.List.Elements.{filter-append}
 use Rattle.mica_words.specs.Hash.{bucket_of}
-use Rattle.mica_words.specs.Item.{KeyFits, ValueFits, item_size}
+use Rattle.mica_words.specs.Item.{KeyFits, ValueFits, item_size, largest_item}
 use Rattle.mica_words.specs.Packing.{AreBytes}
 use Rattle.mica_words.specs.Stamp.{tail_of}
 use Rattle.mica_model.specs.declared.options.Options.{Options}
@@ -17,6 +17,7 @@ use Rattle.mica_model.specs.declared.write.Write.{Write}
 use Rattle.mica_model.specs.declared.write.Op.{Op}
 use Rattle.mica_model.specs.declared.write.Op.TheVariants.{Put, Del}
 use Rattle.mica_model.specs.Options.{IsValid}
+use Rattle.mica_model.specs.Limits.{most_added}
 use Rattle.mica_model.specs.Write.{IsWrite, size_of}
 use Rattle.mica_model.specs.Cache.{Record, Cache, has_key, record_of, value_in, is_live}
 use Rattle.mica_model.specs.CacheStep as cs
@@ -24,7 +25,7 @@ use Rattle.mica_model.specs.CacheStep.{others, new_record, kept_record, without_
 use Rattle.mica_model.specs.History.{History, State, cache_state, store_state, after, start, state_of, accepted_in}
 use Rattle.mica_model.proofs.Found as found
 use Rattle.mica_model.proofs.Laid as laid
-use Rattle.mica_model.proofs.CacheKept.{others_lack, count_map, IsRecord, IsKept, KeepsPut, keeps_put, start_kept, after_kept, after_write_is, rewritten, rewritten_key, left_of, live_of, here_of, size_at_most, tail_past}
+use Rattle.mica_model.proofs.CacheKept.{others_lack, count_map, IsRecord, IsKept, KeepsPut, keeps_put, start_kept, after_kept, after_write_is, begin_of, offset_of, rewritten, rewritten_key, left_of, live_of, here_of, size_at_most, tail_past}
 use Rattle.mica_model.proofs.Histories.{accepted_is_length}
 use Rattle.mica_model.proofs.Rises.{after_rises}
 
@@ -100,7 +101,7 @@ module _ (options : Options) (s : Cache) (write : Write) (key : List ℕ) (other
   others_same = found.found_filter_all (has_key key) (λ r. not (has_key write.key r)) (λ r here. ap not (not_written r here)) s.records
 
   put_same : (o : Option Record) → record_of (cs.after_put o s write) key ≡ record_of s key
-  put_same None = found.found_push_other (has_key key) (others write.key s.records) (new_record s write) (laid.has_other_key key (new_record s write) (λ same. other (sym same))) ∙ others_same
+  put_same None = found.found_push_other (has_key key) (others write.key s.records) (new_record s write.key write.value) (laid.has_other_key key (new_record s write.key write.value) (λ same. other (sym same))) ∙ others_same
   put_same (Some held) = find_map (has_key key) (rewritten write) (λ r. ap (λ k. has_key key (record r { key = k })) (rewritten_key write r))
       (λ r here. ap (λ b. cond b (record r { value = write.value }) r) (not_written r here)) s.records
 
@@ -143,6 +144,35 @@ module _ (options : Options) (s : Cache) (kept : IsKept options s) (write : Writ
       left_same (live_of options written)
       ∙ found.found_filter (has_key key) (live_test options written) written.records r (written_same options s write key other_key ∙ found_before) (le-leb (tail_of written.stamp) (r.offset + options.words) live)
 
+-- What a put's key has after the write itself: its item.
+module _ (options : Options) (s : Cache) (write : Write) where
+  pub written_own : (o : Option Record) → kept_record options s write ≡ o
+      → (r : Record) × (record_of (cs.after_put o s write) write.key ≡ Some r) × (r.offset ≡ begin_of o s) × (item_size r.key r.value ≡ size_of write)
+  written_own None at =
+      let new = new_record s write.key write.value in (
+        new,
+        found.found_append_none (has_key write.key) (others write.key s.records) (new ∷ []) (others_lack write.key s.records)
+            ∙ ap (λ b. cond b (Some new) None) (laid.has_its_key write.key new refl),
+        refl,
+        refl,
+      )
+  written_own (Some held) at =
+      let keeps = keeps_put options s write held at in (
+        record held { value = write.value },
+        laid.found_map (rewritten write) (rewritten_key write) write.key s.records held keeps.is
+            ∙ ap (λ b. Some (cond b (record held { value = write.value }) held)) (found.found_passes (has_key write.key) s.records held keeps.is),
+        refl,
+        ap (λ (k : List ℕ). item_size k write.value) (laid.found_key write.key s.records held keeps.is),
+      )
+
+  -- so these are the words of its item
+  pub put_item : write.op ≡ Put → (p : ℕ) → offset_of options s write ≤ p → p < offset_of options s write + size_of write → cs.IsOfItem options s write p
+  put_item at p least most =
+      let own = written_own (kept_record options s write) refl in
+      let begins = own.2 in
+      let size = own.3 in
+      subst (λ (o : Option Record). cs.IsInItem o p) (sym (ap (λ (op : Op). record_of (cs.after_op op options s write) write.key) at ∙ own.1)) (omega arith, omega arith)
+
 -- A put's own record survives its step.
 module _ (options : Options) (valid : IsValid options) (s : Cache) (kept : IsKept options s) (write : Write) (is : IsWrite write) where
   abbrev put_of : Option Record → Cache
@@ -150,15 +180,15 @@ module _ (options : Options) (valid : IsValid options) (s : Cache) (kept : IsKep
 
   -- a put that appends
 
-  new_is : has_key write.key (new_record s write) ≡ true
-  new_is = laid.has_its_key write.key (new_record s write) refl
+  new_is : has_key write.key (new_record s write.key write.value) ≡ true
+  new_is = laid.has_its_key write.key (new_record s write.key write.value) refl
 
-  alone : find (has_key write.key) (new_record s write ∷ []) ≡ Some (new_record s write)
-  alone = ap (λ b. cond b (Some (new_record s write)) None) new_is
+  alone : find (has_key write.key) (new_record s write.key write.value ∷ []) ≡ Some (new_record s write.key write.value)
+  alone = ap (λ b. cond b (Some (new_record s write.key write.value)) None) new_is
 
-  new_live : live_test options (put_of None) (new_record s write) ≡ true
+  new_live : live_test options (put_of None) (new_record s write.key write.value) ≡ true
   new_live =
-      let size : size_of write ≤ 162 = size_at_most write is in
+      let size : size_of write ≤ largest_item = size_at_most write is in
       let least = valid.words.0 in
       let tail = tail_past s.stamp (size_of write) in
       le-leb (tail_of (s.stamp + 65536 * size_of write)) (tail_of s.stamp + options.words) (omega arith)
@@ -166,9 +196,9 @@ module _ (options : Options) (valid : IsValid options) (s : Cache) (kept : IsKep
   live_others : List Record
   live_others = filter (live_test options (put_of None)) (others write.key s.records)
 
-  live_are : live_of options (put_of None) ≡ filter (live_test options (put_of None)) (others write.key s.records) ++ new_record s write ∷ []
-  live_are = filter-append (live_test options (put_of None)) (others write.key s.records) (new_record s write ∷ [])
-      ∙ ap (λ b. filter (live_test options (put_of None)) (others write.key s.records) ++ cond b (new_record s write ∷ []) []) new_live
+  live_are : live_of options (put_of None) ≡ filter (live_test options (put_of None)) (others write.key s.records) ++ new_record s write.key write.value ∷ []
+  live_are = filter-append (live_test options (put_of None)) (others write.key s.records) (new_record s write.key write.value ∷ [])
+      ∙ ap (λ b. filter (live_test options (put_of None)) (others write.key s.records) ++ cond b (new_record s write.key write.value ∷ []) []) new_live
 
   few_others : count_by (here_of options write) (filter (live_test options (put_of None)) (others write.key s.records)) ≤ 15
   few_others =
@@ -178,22 +208,22 @@ module _ (options : Options) (valid : IsValid options) (s : Cache) (kept : IsKep
       omega arith
 
   found_left : (rs : List Record) → find (has_key write.key) rs ≡ None → count_by (here_of options write) rs ≤ 15
-      → find (has_key write.key) (left_of options write (rs ++ new_record s write ∷ [])) ≡ Some (new_record s write)
+      → find (has_key write.key) (left_of options write (rs ++ new_record s write.key write.value ∷ [])) ≡ Some (new_record s write.key write.value)
   found_left rs none few =
-      elim (eqb (count_by (here_of options write) (rs ++ new_record s write ∷ [])) 16) as (λ b. eqb (count_by (here_of options write) (rs ++ new_record s write ∷ [])) 16 ≡ b
-      → find (has_key write.key) (cond b (without_first (here_of options write) (rs ++ new_record s write ∷ [])) (rs ++ new_record s write ∷ [])) ≡ Some (new_record s write)) [
+      elim (eqb (count_by (here_of options write) (rs ++ new_record s write.key write.value ∷ [])) 16) as (λ b. eqb (count_by (here_of options write) (rs ++ new_record s write.key write.value ∷ [])) 16 ≡ b
+      → find (has_key write.key) (cond b (without_first (here_of options write) (rs ++ new_record s write.key write.value ∷ [])) (rs ++ new_record s write.key write.value ∷ [])) ≡ Some (new_record s write.key write.value)) [
         | true ↦ λ full.
-            let is_full = eqb-true (count_by (here_of options write) (rs ++ new_record s write ∷ [])) 16 full in
-            let all = sum_by_push (λ (r : Record). cond {A = ℕ} (here_of options write r) 1 0) rs (new_record s write) in
-            let one : cond {A = ℕ} (here_of options write (new_record s write)) 1 0 ≤ 1 = elim (here_of options write (new_record s write)) as (λ b. cond {A = ℕ} b 1 0 ≤ 1) [ true ↦ omega arith | false ↦ omega arith ] in
+            let is_full = eqb-true (count_by (here_of options write) (rs ++ new_record s write.key write.value ∷ [])) 16 full in
+            let all = sum_by_push (λ (r : Record). cond {A = ℕ} (here_of options write r) 1 0) rs (new_record s write.key write.value) in
+            let one : cond {A = ℕ} (here_of options write (new_record s write.key write.value)) 1 0 ≤ 1 = elim (here_of options write (new_record s write.key write.value)) as (λ b. cond {A = ℕ} b 1 0 ≤ 1) [ true ↦ omega arith | false ↦ omega arith ] in
             let some : 0 < count_by (here_of options write) rs = omega arith in
-            ap (find (has_key write.key)) (found.without_first_push (here_of options write) rs (new_record s write) some)
-            ∙ found.found_append_none (has_key write.key) (without_first (here_of options write) rs) (new_record s write ∷ []) (found.missed_without_first (has_key write.key) (here_of options write) rs none)
+            ap (find (has_key write.key)) (found.without_first_push (here_of options write) rs (new_record s write.key write.value) some)
+            ∙ found.found_append_none (has_key write.key) (without_first (here_of options write) rs) (new_record s write.key write.value ∷ []) (found.missed_without_first (has_key write.key) (here_of options write) rs none)
             ∙ alone
-        | false ↦ λ room. found.found_append_none (has_key write.key) rs (new_record s write ∷ []) none ∙ alone
+        | false ↦ λ room. found.found_append_none (has_key write.key) rs (new_record s write.key write.value ∷ []) none ∙ alone
       ] refl
 
-  appended_stays : find (has_key write.key) (left_of options write (live_of options (put_of None))) ≡ Some (new_record s write)
+  appended_stays : find (has_key write.key) (left_of options write (live_of options (put_of None))) ≡ Some (new_record s write.key write.value)
   appended_stays =
       let rs = filter (live_test options (put_of None)) (others write.key s.records) in
       ap (λ all. find (has_key write.key) (left_of options write all)) live_are
@@ -225,11 +255,11 @@ module _ (options : Options) (valid : IsValid options) (s : Cache) (kept : IsKep
     pub held : Record
     pub stays : find (has_key write.key) (left_of options write (live_of options t)) ≡ Some held
     pub value : held.value ≡ write.value
-    pub offset : held.offset ≡ cs.begin_of o s
+    pub offset : held.offset ≡ begin_of o s
     pub size : size_of write ≤ held.room
 
   put_record_by : (o : Option Record) → kept_record options s write ≡ o → PutRecord (put_of o) o
-  put_record_by None at = record { held = new_record s write; stays = appended_stays; value = refl; offset = refl; size = omega arith }
+  put_record_by None at = record { held = new_record s write.key write.value; stays = appended_stays; value = refl; offset = refl; size = omega arith }
   put_record_by (Some held) at =
       let keeps = keeps_put options s write held at in
       record { held = record held { value = write.value }; stays = rewritten_stays held keeps; value = refl; offset = refl; size = keeps.fits }
@@ -238,16 +268,12 @@ module _ (options : Options) (valid : IsValid options) (s : Cache) (kept : IsKep
   put_record_of Put at = put_record_by (kept_record options s write) refl
   put_record_of Del at = cc
 
-  put_found : (o : Option Record) → kept_record options s write ≡ o → is_some (record_of (put_of o) write.key) ≡ true
-  put_found None at = ap is_some (found.found_append_none (has_key write.key) (others write.key s.records) (new_record s write ∷ []) (others_lack write.key s.records) ∙ alone)
-  put_found (Some held) at = ap is_some (laid.found_map (rewritten write) (rewritten_key write) write.key s.records held (keeps_put options s write held at).is)
-
   written_by : (op : Op) → op ≡ Put → is_some (record_of (cs.after_op op options s write) write.key) ≡ true
-  written_by Put at = put_found (kept_record options s write) refl
+  written_by Put at = ap is_some (written_own options s write (kept_record options s write) refl).1
   written_by Del at = cc
 
   -- after a put, its key has a record of its value, whose room has the item
-  pub put_held : write.op ≡ Put → (r : Record) × (record_of (cs.after options s write) write.key ≡ Some r) × (r.value ≡ write.value) × (r.offset ≡ cs.offset_of options s write) × (size_of write ≤ r.room)
+  pub put_held : write.op ≡ Put → (r : Record) × (record_of (cs.after options s write) write.key ≡ Some r) × (r.value ≡ write.value) × (r.offset ≡ offset_of options s write) × (size_of write ≤ r.room)
   unfolding cs.after
   put_held at = let p = put_record_of write.op at in (p.held, p.stays, p.value, p.offset, p.size)
 
@@ -255,16 +281,20 @@ module _ (options : Options) (valid : IsValid options) (s : Cache) (kept : IsKep
   pub written_held : write.op ≡ Put → is_some (record_of (cs.after_write options s write) write.key) ≡ true
   written_held at = written_by write.op at
 
-  own_by : (op : Op) → write.op ≡ op → (p : ℕ) → cs.IsOfItemBy op options s write p
+  own_by : (op : Op) → write.op ≡ op → (p : ℕ) → cs.IsInItem (record_of (cs.after_op op options s write) write.key) p
       → (r : Record) × (record_of (cs.after options s write) write.key ≡ Some r) × (r.offset ≤ p) × (p < r.offset + r.room)
   own_by Put at p item =
+      let own = written_own options s write (kept_record options s write) refl in
+      let here : (own.0.offset ≤ p) × (p < own.0.offset + item_size own.0.key own.0.value) = subst (λ (o : Option Record). cs.IsInItem o p) own.1 item in
+      let begun = own.2 in
+      let size = own.3 in
       let mine = put_held at in
       let begins = mine.3 in
       let long = mine.4 in
-      let least = item.0 in
-      let most = item.1 in
+      let least = here.0 in
+      let most = here.1 in
       (mine.0, mine.1, omega arith, omega arith)
-  own_by Del at p item = absurd item
+  own_by Del at p item = absurd (subst (λ (o : Option Record). cs.IsInItem o p) (others_lack write.key s.records) item)
 
   pub own_kept : (p : ℕ) → cs.IsOfItem options s write p → (r : Record) × (record_of (cs.after options s write) write.key ≡ Some r) × (r.offset ≤ p) × (p < r.offset + r.room)
   own_kept p item = own_by write.op refl p item
@@ -320,9 +350,9 @@ pub tail_rises : (options : Options) (s : Cache) (write : Write) → tail_of s.s
 tail_rises options s write = let more = after_rises options (cache_state s) write in omega arith
 
 -- the stamp stays far below the limit of a word
-pub stamp_bound : (options : Options) (history : History) → AllOf IsWrite history → (s : Cache) → state_of options history ≡ cache_state s → s.stamp ≤ length history * 10616832
+pub stamp_bound : (options : Options) (history : History) → AllOf IsWrite history → (s : Cache) → state_of options history ≡ cache_state s → s.stamp ≤ length history * most_added
 stamp_bound options history writes s at =
     let most = (kept_in options history writes s at).stamp in
     let count = ap accepted_in at in
     let all = accepted_is_length options history in
-    subst (λ (n : ℕ). s.stamp ≤ n * 10616832) (sym count ∙ all) most
+    subst (λ (n : ℕ). s.stamp ≤ n * most_added) (sym count ∙ all) most

@@ -1,8 +1,8 @@
 -- A step of the cache machine: its history, its state and its fates.
-use Rattle.std.proofs.Common.{◌≡◌, ℕ, ◌+◌, ◌≤◌, ◌<◌, List, [], ◌∷◌, ◌++◌, length, Option, Some, None, Bool, true, false, cond, refl, sym, ap, ◌∙◌, subst, is_some}
+use Rattle.std.proofs.Common.{◌≡◌, ℕ, ◌+◌, List, [], ◌∷◌, ◌++◌, length, Option, Some, None, true, false, cond, refl, sym, ap, ◌∙◌, subst}
 use Rattle.std.specs.List.{AllByRecursion as AllOf}
 use Rattle.std.specs.Str.{bytes_eq}
-use Rattle.std.proofs.lemmas.Bool.{le-leb, lt-leb}
+use Rattle.std.proofs.lemmas.Bool.{true≢false}
 use Rattle.mica_model.specs.declared.options.Options.{Options}
 use Rattle.mica_model.specs.declared.options.Mode.TheVariants.{Cache as CacheMode}
 use Rattle.mica_model.specs.declared.accepted.Accepted.{Accepted}
@@ -20,8 +20,8 @@ use Rattle.mica_model.specs.Cache.{Cache}
 use Rattle.mica_model.specs.CacheStep as cs
 use Rattle.mica_model.specs.CacheFields.{writes_of, fate_in, fate_written, marked_passed, marked_displaced, displaced_record}
 use Rattle.mica_model.specs.Fate.{has_record, fate_of, fate_after}
-use Rattle.mica_model.specs.History.{History, State, cache_state, after, state_of, IsHistory, IsAcceptedAfter, Allows}
-use Rattle.mica_model.specs.Logged.{Logged, IsLoggedStep}
+use Rattle.mica_model.specs.History.{History, State, cache_state, after, state_of, IsHistory, Allows}
+use Rattle.mica_model.specs.Logged.{IsLoggedStep}
 use Rattle.mica_model.proofs.CacheLaws.{kept_in}
 use Rattle.mica_model.proofs.FateLaws.{cache_of, state_is_cache, fate_snoc, right_in}
 use Rattle.mica_model.proofs.FateMarks.{passed_writes, displaced_writes}
@@ -40,53 +40,45 @@ same_accepted Del options s write = refl
 pub written_accepted : (options : Options) (s : Cache) (write : Write) → (cs.after_write options s write).accepted ≡ s.accepted
 written_accepted options s write = same_accepted write.op options s write
 
-is_reply : (op : Op) (b : Bool) → is_accepted (cs.reply_of op b) ≡ true
-is_reply Put b = refl
-is_reply Del true = refl
-is_reply Del false = refl
-
 same_state : (s t : Cache) → cache_state s ≡ cache_state t → s ≡ t
 same_state s t e = cc
 
 module _ (options : Options) (history : History) (s : Cache) (at : state_of options history ≡ cache_state s) (write : Write) where
-  abbrev old : Logged
-  old = record { options = options; history = history }
-
-  pub worn_step : options.wear ≤ s.accepted → IsLoggedStep (record { options = options; history = history }) write Worn (record { options = options; history = history })
-  unfolding cs.reply
-  worn_step worn = record {
-    options = refl;
-    history = refl;
-    step = record {
-      allowed = subst (λ (t : State). Allows options t write Worn) (sym at) (sym (ap (λ b. cond b Worn (cs.reply_of write.op (is_some (cache.record_of s write.key)))) (le-leb options.wear s.accepted worn)));
-      result = refl;
-    };
-  }
-
-  module _ (unworn : s.accepted < options.wear) (outcome : Outcome) (replied : outcome ≡ cs.reply_of write.op (has_record s write.key)) where
-    is_done : is_accepted outcome ≡ true
-    is_done = ap is_accepted replied ∙ is_reply write.op (has_record s write.key)
-
+  module _ (outcome : Outcome) (replied : outcome ≡ cs.reply options s write) where
     allowed : Allows options (state_of options history) write outcome
-    unfolding cs.reply
-    allowed = subst (λ (t : State). Allows options t write outcome) (sym at)
-        (replied ∙ sym (ap (λ b. cond b Worn (cs.reply_of write.op (has_record s write.key))) (lt-leb options.wear s.accepted unworn)))
+    allowed = subst (λ (t : State). Allows options t write outcome) (sym at) replied
 
-    may_follow : IsAcceptedAfter options history write
-    may_follow = (outcome, is_done, allowed)
-
-    pub accepted_step : (later : History) → later ≡ history ++ write ∷ [] → IsLoggedStep (record { options = options; history = history }) write outcome (record { options = options; history = later })
-    accepted_step later is = record {
+    pub refused_step : is_accepted outcome ≡ false → IsLoggedStep (record { options = options; history = history }) write outcome (record { options = options; history = history })
+    refused_step refused = record {
       options = refl;
-      history = is ∙ sym (ap (λ b. cond b (history ++ write ∷ []) history) is_done);
+      history = sym (ap (λ b. cond b (history ++ write ∷ []) history) refused);
       step = record {
         allowed = allowed;
-        result = ap (state_of options) is ∙ state_snoc options history write ∙ sym (ap (λ b. cond b (after options (state_of options history) write) (state_of options history)) is_done);
+        result = sym (ap (λ b. cond b (after options (state_of options history) write) (state_of options history)) refused);
       };
     }
 
-    pub later_lawful : IsHistory options history → IsHistory options (history ++ write ∷ [])
-    later_lawful lawful = history_snoc options history write lawful may_follow
+    module _ (done : is_accepted outcome ≡ true) where
+      -- an accepted write has the reply of a partition that is not worn
+      pub replied_unworn : outcome ≡ cs.reply_of write.op options write (has_record s write.key)
+      unfolding cs.reply
+      replied_unworn = elim (cs.is_worn options s) as (λ b. outcome ≡ cond b Worn (cs.reply_of write.op options write (has_record s write.key)) → outcome ≡ cs.reply_of write.op options write (has_record s write.key)) [
+        | true ↦ λ e. absurd (true≢false (sym done ∙ ap is_accepted e))
+        | false ↦ λ e. e
+      ] replied
+
+      pub accepted_step : (later : History) → later ≡ history ++ write ∷ [] → IsLoggedStep (record { options = options; history = history }) write outcome (record { options = options; history = later })
+      accepted_step later is = record {
+        options = refl;
+        history = is ∙ sym (ap (λ b. cond b (history ++ write ∷ []) history) done);
+        step = record {
+          allowed = allowed;
+          result = ap (state_of options) is ∙ state_snoc options history write ∙ sym (ap (λ b. cond b (after options (state_of options history) write) (state_of options history)) done);
+        };
+      }
+
+      pub later_lawful : IsHistory options history → IsHistory options (history ++ write ∷ [])
+      later_lawful lawful = history_snoc options history write lawful (outcome, done, allowed)
 
 pub later_state : (options : Options) (history : History) (s : Cache) → state_of options history ≡ cache_state s → (write : Write) → state_of options (history ++ write ∷ []) ≡ cache_state (cs.after options s write)
 later_state options history s at write = state_snoc options history write ∙ ap (λ (t : State). after options t write) at
@@ -108,7 +100,7 @@ module _ (options : Options) (valid : IsValid options) (mode : options.mode ≡ 
   right : (key : List ℕ) → has_record s key ≡ true → fate_in log key ≡ Held
   right key here = sym (fates key) ∙ (right_in options (writes_of log) key).on (ap (λ (t : Cache). has_record t key) state_is ∙ here)
 
-  pub later_fates : (n : ℕ) → n ≡ length (writes_of log) + 1 → (noted : List Accepted) (fate : Fate) → fate ≡ fate_written (cs.reply_of write.op (has_record s write.key)) n (fate_in log write.key)
+  pub later_fates : (n : ℕ) → n ≡ length (writes_of log) + 1 → (noted : List Accepted) (fate : Fate) → fate ≡ fate_written (cs.reply_of write.op options write (has_record s write.key)) n (fate_in log write.key)
       → ((key : List ℕ) → fate_in noted key ≡ cond (bytes_eq write.key key) fate (fate_in log key))
       → (key : List ℕ) → fate_of options (writes_of log ++ write ∷ []) key
       ≡ fate_in (marked_displaced (Displaced n) (displaced_record options write.key (cs.without_passed options (cs.after_write options s write)).records)

@@ -93,11 +93,11 @@ module _ (options : Options) (s : Cache) (write : Write) where
   kept_none is = ap (λ o. place_if (kept_if options s write o)) (missed_all (has_key write.key) s.records is)
 
 -- a put that appends
-pub appended_is : (s : Cache) (write : Write) (records : List Record) (new : Record) (size : ℕ) → records ≡ cs.others write.key s.records ++ new ∷ [] → new ≡ cs.new_record s write → size ≡ size_of write
-    → record s { records = records; stamp = s.stamp + 65536 * size } ≡ cs.after_append s write
+pub appended_is : (s : Cache) (write : Write) (records : List Record) (new : Record) (size : ℕ) → records ≡ cs.others write.key s.records ++ new ∷ [] → new ≡ cs.new_record s write.key write.value → size ≡ size_of write
+    → record s { records = records; stamp = s.stamp + 65536 * size } ≡ cs.after_append s (cs.new_record s write.key write.value)
 appended_is s write records new size is new_is size_is =
     ap (λ (rs : List Record). record s { records = rs; stamp = s.stamp + 65536 * size }) (is ∙ ap (λ r. cs.others write.key s.records ++ r ∷ []) new_is)
-    ∙ ap (λ (n : ℕ). record s { records = cs.others write.key s.records ++ cs.new_record s write ∷ []; stamp = s.stamp + 65536 * n }) size_is
+    ∙ ap (λ (n : ℕ). record s { records = cs.others write.key s.records ++ cs.new_record s write.key write.value ∷ []; stamp = s.stamp + 65536 * n }) size_is
 
 -- a put that is kept at a place
 
@@ -146,7 +146,7 @@ appends_by options s write (Some held) at is =
       | false ↦ λ none. refl
     ] is
 
-pub appends : (options : Options) (s : Cache) (write : Write) → kept_place options s write ≡ None → cs.after_append s write ≡ cs.after_put (kept_record options s write) s write
+pub appends : (options : Options) (s : Cache) (write : Write) → kept_place options s write ≡ None → cs.after_append s (cs.new_record s write.key write.value) ≡ cs.after_put (kept_record options s write) s write
 appends options s write is = sym (ap (λ o. cs.after_put o s write) (appends_by options s write (record_of s write.key) refl is))
 
 -- the value of a key, by the place of its record

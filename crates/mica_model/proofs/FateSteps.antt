@@ -37,7 +37,7 @@ pick_same had false true left n written before up up' held gone = absurd (true�
 
 module _ (options : Options) (valid : IsValid options) (s : Cache) (kept : IsKept options s) (write : Write) (is : IsWrite write) (n : ℕ) (log : List Accepted)
     (right : (key : List ℕ) → has_record s key ≡ true → fate_in log key ≡ Held)
-    (noted : List Accepted) (fate : Fate) (fate_is : fate ≡ fate_written (cs.reply_of write.op (has_record s write.key)) n (fate_in log write.key))
+    (noted : List Accepted) (fate : Fate) (fate_is : fate ≡ fate_written (cs.reply_of write.op options write (has_record s write.key)) n (fate_in log write.key))
     (notes : (key : List ℕ) → fate_in noted key ≡ cond (bytes_eq write.key key) fate (fate_in log key)) where
   abbrev one : Cache
   one = cs.after_write options s write
@@ -50,14 +50,14 @@ module _ (options : Options) (valid : IsValid options) (s : Cache) (kept : IsKep
 
   -- of the written key
 
-  own_held : (op : Op) → op ≡ write.op → has_record (cs.after_op op options s write) write.key ≡ true → fate_written (cs.reply_of op (has_record s write.key)) n (fate_in log write.key) ≡ Held
+  own_held : (op : Op) → op ≡ write.op → has_record (cs.after_op op options s write) write.key ≡ true → fate_written (cs.reply_of op options write (has_record s write.key)) n (fate_in log write.key) ≡ Held
   own_held Put at here = refl
   own_held Del at here = absurd (true≢false (sym here ∙ ap is_some (others_lack write.key s.records)))
 
   own_gone : (op : Op) → op ≡ write.op → has_record (cs.after_op op options s write) write.key ≡ false
-      → fate_written (cs.reply_of op (has_record s write.key)) n (fate_in log write.key) ≡ cond (has_record s write.key) (Deleted n) (fate_in log write.key)
+      → fate_written (cs.reply_of op options write (has_record s write.key)) n (fate_in log write.key) ≡ cond (has_record s write.key) (Deleted n) (fate_in log write.key)
   own_gone Put at gone = absurd (true≢false (sym (written_held options valid s kept write is (sym at)) ∙ (ap (λ (op : Op). has_record (cs.after_op op options s write) write.key) (sym at) ∙ gone)))
-  own_gone Del at gone = elim (has_record s write.key) as (λ b. fate_written (cs.reply_of Del b) n (fate_in log write.key) ≡ cond b (Deleted n) (fate_in log write.key)) [ true ↦ refl | false ↦ refl ]
+  own_gone Del at gone = elim (has_record s write.key) as (λ b. fate_written (cs.reply_of Del options write b) n (fate_in log write.key) ≡ cond b (Deleted n) (fate_in log write.key)) [ true ↦ refl | false ↦ refl ]
 
   -- of each key, after the write itself
 

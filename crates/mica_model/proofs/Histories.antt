@@ -79,10 +79,10 @@ accepted_is_length options history =
 
 -- and no more than the partition may bear
 
-cache_unworn : (options : Options) (s : cache.Cache) (write : Write) (outcome : Outcome) → is_accepted outcome ≡ true → outcome ≡ cs.reply options s write → s.accepted < options.wear
+pub cache_unworn : (options : Options) (s : cache.Cache) (write : Write) (outcome : Outcome) → is_accepted outcome ≡ true → outcome ≡ cs.reply options s write → s.accepted < options.wear
 unfolding cs.reply
 cache_unworn options s write outcome accepted is =
-    elim (cs.is_worn options s) as (λ b. cs.is_worn options s ≡ b → outcome ≡ cond b Worn (cs.reply_of write.op (is_some (cache.record_of s write.key))) → s.accepted < options.wear) [
+    elim (cs.is_worn options s) as (λ b. cs.is_worn options s ≡ b → outcome ≡ cond b Worn (cs.reply_of write.op options write (is_some (cache.record_of s write.key))) → s.accepted < options.wear) [
       | true ↦ λ worn e. absurd (true≢false (sym accepted ∙ ap is_accepted e))
       | false ↦ λ unworn e. leb-false options.wear s.accepted unworn
     ] refl is

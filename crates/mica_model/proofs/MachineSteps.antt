@@ -53,7 +53,7 @@ module _ (a : Inside) (m : IsMachine a) (op : Op) (key value : List ℕ) where
     put_steps = record {
       allowed = allowed;
       result = ap (λ (t : Table). store_state (record { cells = t.cells; stamp = a.stamp + 1; accepted = a.accepted + 1 })) new
-          ∙ ap store_state (sym (put_state a.options (store_of a) op key value room takes op allowed.1.0));
+          ∙ ap store_state (sym (put_state a.options (store_of a) op key value room takes op allowed.1.0.0));
     }
 
   module _ (outcome : Outcome) (which : (outcome ≡ Deleted) ⊎ (outcome ≡ Absent)) (allowed : Allows a.options (store_of a) (write_of op key value) outcome)

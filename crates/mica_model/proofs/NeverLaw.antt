@@ -1,4 +1,4 @@
--- The fate `Never` comes exactly where no put of the key was accepted.
+-- The fate `Never` comes exactly where no accepted write gave the key a value.
 use Rattle.std.proofs.Common.{◌≡◌, ℕ, ◌+◌, List, [], ◌∷◌, Bool, true, false, refl, sym, ap, ◌∙◌, is_some, ◌≢◌, ◌↔◌}
 use Rattle.std.specs.List.{find, AllByRecursion as AllOf}
 use Rattle.std.specs.Str.{bytes_eq}
@@ -11,19 +11,19 @@ use Rattle.mica_model.specs.declared.write.Op.TheVariants.{Put, Del}
 use Rattle.mica_model.specs.declared.fate.Fate.{Fate}
 use Rattle.mica_model.specs.declared.fate.Fate.TheVariants.{Never, Deleted, Displaced, Passed, Held}
 use Rattle.mica_model.specs.Options.{IsValid}
-use Rattle.mica_model.specs.Write.{IsWrite}
+use Rattle.mica_model.specs.Write.{GivesValue, IsWrite}
 use Rattle.mica_model.specs.Cache as cache
 use Rattle.mica_model.specs.Cache.{Record, Cache, has_key, record_of}
 use Rattle.mica_model.specs.CacheStep as cs
-use Rattle.mica_model.specs.Fate.{has_record, fate_after, fate_from, fate_of}
+use Rattle.mica_model.specs.Fate.{GivesNoValue, has_record, fate_after, fate_from, fate_of}
 use Rattle.mica_model.specs.History.{History}
 use Rattle.mica_model.proofs.CacheKept.{others_lack, IsKept, start_kept, after_kept}
 use Rattle.mica_model.proofs.CacheLaws.{written_same, put_held}
 use Rattle.mica_model.proofs.FateLaws.{pick, live_wrote, left_live}
 
--- the write is no put of the key
-abbrev pub IsNoPut : List ℕ → Write → Type 0
-IsNoPut key write = write.op ≡ Put → write.key ≢ key
+gives_put : (op : Op) → GivesValue op → op ≡ Put
+gives_put Put gives = refl
+gives_put Del gives = absurd gives
 
 -- a fate that is another stays another
 
@@ -57,16 +57,16 @@ module _ (options : Options) (key : List ℕ) where
   -- a put gives its key a record, so a fate that is another
 
   module _ (valid : IsValid options) where
-    no_put : (s : Cache) → IsKept options s → (write : Write) → IsWrite write → (n : ℕ) (before : Fate) → fate_after options s write n key before ≡ Never → IsNoPut key write
-    no_put s kept write is n before never put same =
-        let mine = put_held options valid s kept write is put in
+    no_put : (s : Cache) → IsKept options s → (write : Write) → IsWrite write → (n : ℕ) (before : Fate) → fate_after options s write n key before ≡ Never → GivesNoValue key write
+    no_put s kept write is n before never gives same =
+        let mine = put_held options valid s kept write is (gives_put write.op gives) in
         let here : has_record (cs.after options s write) key ≡ true = ap (λ (k : List ℕ). has_record (cs.after options s write) k) (sym same) ∙ ap is_some mine.1 in
         held_not (ap (λ b. pick (has_record s key) (has_record (cs.after_write options s write) key) (has_record (cs.without_passed options (cs.after_write options s write)) key) b n before) (sym here) ∙ never)
       where
         held_not : Held ≡ Never → ⊥
         held_not e = cc
 
-    no_puts : (s : Cache) → IsKept options s → (n : ℕ) (before : Fate) (history : History) → AllOf IsWrite history → fate_from options s n key before history ≡ Never → AllOf (IsNoPut key) history
+    no_puts : (s : Cache) → IsKept options s → (n : ℕ) (before : Fate) (history : History) → AllOf IsWrite history → fate_from options s n key before history ≡ Never → AllOf (GivesNoValue key) history
     no_puts s kept n before [] writes never = tt
     no_puts s kept n before (write ∷ history) writes never = (
       no_put s kept write writes.0 n before (was_never (cs.after options s write) (n + 1) (fate_after options s write n key before) history never),
@@ -75,13 +75,13 @@ module _ (options : Options) (key : List ℕ) where
 
   -- without a put there is no record, and no fate
 
-  own_none : (op : Op) (s : Cache) (write : Write) → (op ≢ Put) → write.key ≡ key → has_record (cs.after_op op options s write) key ≡ false
-  own_none Put s write other same = absurd (other refl)
+  own_none : (op : Op) (s : Cache) (write : Write) → ¬ (GivesValue op) → write.key ≡ key → has_record (cs.after_op op options s write) key ≡ false
+  own_none Put s write other same = absurd (other tt)
   own_none Del s write other same = ap (λ (k : List ℕ). is_some (find (has_key key) (cs.others k s.records))) same ∙ ap is_some (others_lack key s.records)
 
-  still_none : (s : Cache) (write : Write) → IsNoPut key write → has_record s key ≡ false → has_record (cs.after_write options s write) key ≡ false
+  still_none : (s : Cache) (write : Write) → GivesNoValue key write → has_record s key ≡ false → has_record (cs.after_write options s write) key ≡ false
   still_none s write absent none = elim (bytes_eq write.key key) as (λ b. bytes_eq write.key key ≡ b → has_record (cs.after_write options s write) key ≡ false) [
-    | true ↦ λ same. let is : write.key ≡ key = (bytes_eq-Decides write.key key).0 same in own_none write.op s write (λ put. absent put is) is
+    | true ↦ λ same. let is : write.key ≡ key = (bytes_eq-Decides write.key key).0 same in own_none write.op s write (λ gives. absent gives is) is
     | false ↦ λ other. ap is_some (written_same options s write key (λ e. true≢false (sym ((bytes_eq-Decides write.key key).1 (sym e)) ∙ other))) ∙ none
   ] refl
 
@@ -92,7 +92,7 @@ module _ (options : Options) (key : List ℕ) where
   never_by true wrote live left n h w up up' = absurd (true≢false h)
   never_by had true live left n h w up up' = absurd (true≢false w)
 
-  never_from : (s : Cache) (n : ℕ) (history : History) → has_record s key ≡ false → AllOf (IsNoPut key) history → fate_from options s n key Never history ≡ Never
+  never_from : (s : Cache) (n : ℕ) (history : History) → has_record s key ≡ false → AllOf (GivesNoValue key) history → fate_from options s n key Never history ≡ Never
   never_from s n [] none absent = refl
   never_from s n (write ∷ history) none absent =
       let next = never_by (has_record s key) (has_record (cs.after_write options s write) key) (has_record (cs.without_passed options (cs.after_write options s write)) key) (has_record (cs.after options s write) key) n
@@ -103,7 +103,7 @@ start_none : (key : List ℕ) → has_record cache.start key ≡ false
 unfolding cache.start
 start_none key = refl
 
-pub never_is_no_put : (options : Options) → IsValid options → (history : History) → AllOf IsWrite history → (key : List ℕ) → (fate_of options history key ≡ Never) ↔ AllOf (IsNoPut key) history
+pub never_is_no_value : (options : Options) → IsValid options → (history : History) → AllOf IsWrite history → (key : List ℕ) → (fate_of options history key ≡ Never) ↔ AllOf (GivesNoValue key) history
 unfolding fate_of
-never_is_no_put options valid history writes key =
+never_is_no_value options valid history writes key =
     (no_puts options key valid cache.start (start_kept options) 1 Never history writes, never_from options key cache.start 1 history (start_none key))

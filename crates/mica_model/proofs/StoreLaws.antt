@@ -8,7 +8,7 @@ use Rattle.std.specs.declared.cmp.Ordering.TheVariants.{Less, Equal, Greater}
 use Rattle.std.specs.Cmp.Lexicographic.{slice_cmp, nat_list_cmp_total}
 use Rattle.std.proofs.lemmas.Bool.{leb-true, false_from_ne_true}
 use Rattle.std.proofs.lemmas.Option.{same_Some}
-use Rattle.mica_words.specs.Item.{KeyFits, ValueFits, item_size}
+use Rattle.mica_words.specs.Item.{KeyFits, ValueFits, item_size, largest_item}
 use Rattle.mica_words.specs.Packing.{AreBytes}
 use Rattle.mica_model.specs.declared.options.Options.{Options}
 use Rattle.mica_model.specs.declared.options.Mode.{Mode}
@@ -57,7 +57,7 @@ pub record IsCell (key : List ℕ) (cell : Cell) : Type 0 where
   pub value : ValueFits cell.value
   pub value_bytes : AreBytes cell.value
   pub size : item_size key cell.value ≤ cell.room
-  pub room : cell.room ≤ 162
+  pub room : cell.room ≤ largest_item
 
 pub record IsKept (s : Store) : Type 0 where
   pub are : (key : List ℕ) (cell : Cell) → get s.cells key ≡ Some cell → IsCell key cell
@@ -67,10 +67,10 @@ start_kept : IsKept store_start
 unfolding store_start
 start_kept = record { are = λ key cell is. let none = get-empty {X = Cell} (slice_cmp nat_cmp) key in cc; stamp = refl }
 
-room_by : (o : Option Cell) (size : ℕ) → size ≤ 162 → ((cell : Cell) → o ≡ Some cell → cell.room ≤ 162) → (size ≤ ss.room_after o size) × (ss.room_after o size ≤ 162)
+room_by : (o : Option Cell) (size : ℕ) → size ≤ largest_item → ((cell : Cell) → o ≡ Some cell → cell.room ≤ largest_item) → (size ≤ ss.room_after o size) × (ss.room_after o size ≤ largest_item)
 room_by None size small rooms = (omega arith, small)
 room_by (Some cell) size small rooms =
-    elim (leb size cell.room) as (λ b. leb size cell.room ≡ b → (size ≤ cond b cell.room size) × (cond b cell.room size ≤ 162)) [
+    elim (leb size cell.room) as (λ b. leb size cell.room ≡ b → (size ≤ cond b cell.room size) × (cond b cell.room size ≤ largest_item)) [
       | true ↦ λ fits. (leb-true size cell.room fits, rooms cell refl)
       | false ↦ λ short. (omega arith, small)
     ] refl

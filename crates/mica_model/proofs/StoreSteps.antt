@@ -9,9 +9,9 @@ use Rattle.mica_words.specs.Item.{item_size}
 use Rattle.mica_model.specs.declared.options.Options.{Options}
 use Rattle.mica_model.specs.declared.write.Op.{Op}
 use Rattle.mica_model.specs.declared.write.Op.TheVariants.{Put, Del}
-use Rattle.mica_model.specs.Write.{write_of}
+use Rattle.mica_model.specs.Write.{GivesValue, write_of}
 use Rattle.mica_model.specs.Store.{Cell, Store, room_of, rooms, keys_in, spares_in_use}
-use Rattle.mica_model.specs.StoreStep.{GivesValue, FitsRoom, NeedsBlock, HasWords, room_after, after}
+use Rattle.mica_model.specs.StoreStep.{FitsRoom, NeedsBlock, HasWords, room_after, after}
 use Rattle.mica_model.proofs.CellSums.{rooms_insert, rooms_remove, remove_none}
 use Rattle.mica_model.proofs.TableSteps.{new_spares, over_spares, less_spares, less_here}
 

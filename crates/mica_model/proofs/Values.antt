@@ -18,7 +18,7 @@ use Rattle.mica_model.specs.Cache as cache
 use Rattle.mica_model.specs.CacheStep as cs
 use Rattle.mica_model.specs.Store.{Cell, Store}
 use Rattle.mica_model.specs.Store as store
-use Rattle.mica_model.specs.StoreStep.{GivesValue}
+use Rattle.mica_model.specs.Write.{GivesValue}
 use Rattle.mica_model.specs.StoreStep as ss
 use Rattle.mica_model.specs.History.{State, cache_state, store_state, start, after, value_in}
 use Rattle.mica_model.proofs.Found.{found_has, all_filter, all_push, all_map, all_without_first}
@@ -38,7 +38,7 @@ module _ (P : List ℕ → Type 0) where
   rewritten write false r fits has = has
 
   put_are : (found : Option Record) (s : Cache) (write : Write) → P write.value → AllOf (λ r. P r.value) s.records → AllOf (λ r. P r.value) (cs.after_put found s write).records
-  put_are None s write fits all = all_push (λ r. P r.value) _ (cs.new_record s write) (all_filter (λ r. P r.value) _ s.records all) fits
+  put_are None s write fits all = all_push (λ r. P r.value) _ (cs.new_record s write.key write.value) (all_filter (λ r. P r.value) _ s.records all) fits
   put_are (Some held) s write fits all = all_map (λ r. P r.value) _ s.records (λ r has. rewritten write (has_key write.key r) r fits has) all
 
   cache_op_are : (op : Op) (options : Options) (s : Cache) (write : Write) → (GivesValue op → P write.value) → AllOf (λ r. P r.value) s.records → AllOf (λ r. P r.value) (cs.after_op op options s write).records

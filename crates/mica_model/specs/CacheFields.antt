@@ -1,6 +1,7 @@
 -- The fields of the cache machine, as its methods speak of them.
-use Rattle.std.specs.Prelude.{◌≡◌, ℕ, ◌==◌, Bool, List, [], ◌∷◌, Option, Some, None, is_some, find, map, fold, count_by, position, option_map, unwrap_or, bytes_eq, if◌then◌else◌}
+use Rattle.std.specs.Prelude.{◌≡◌, ℕ, ◌+◌, ◌==◌, Bool, List, [], ◌∷◌, Option, Some, None, is_some, find, map, fold, count_by, position, option_map, unwrap_or, bytes_eq, if◌then◌else◌}
 use Rattle.mica_words.specs.Hash.{bucket_of}
+use Rattle.mica_words.specs.declared.entry.TheConstants.{SLOTS}
 use Rattle.mica_model.specs.declared.options.Options.{Options}
 use Rattle.mica_model.specs.declared.accepted.Accepted.{Accepted}
 use Rattle.mica_model.specs.declared.fate.Fate.{Fate}
@@ -26,13 +27,13 @@ kept_place options cache write =
 abbrev pub displaced_at : Options → List ℕ → List Record → Option ℕ
 displaced_at options key records =
     let here : Record → Bool = is_in_bucket options (bucket_of key options.buckets) in
-    if count_by here records == 16 then position here records else None
+    if count_by here records == SLOTS + 1 then position here records else None
 
 -- the record that is displaced, if one is
 abbrev pub displaced_record : Options → List ℕ → List Record → Option Record
 displaced_record options key records =
     let here : Record → Bool = is_in_bucket options (bucket_of key options.buckets) in
-    if count_by here records == 16 then find here records else None
+    if count_by here records == SLOTS + 1 then find here records else None
 
 -- the writes of a list
 abbrev pub writes_of : List Accepted → History

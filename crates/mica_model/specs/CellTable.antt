@@ -3,6 +3,7 @@ use Rattle.std.specs.Prelude.{◌≡◌, ℕ, ◌<◌, ◌%◌, List, refl}
 use Rattle.std.specs.Coded.{Coded, code_by, coded×, coded_ℕ}
 use Rattle.std.specs.FinMap as map
 use Rattle.mica_words.specs.Hash.{bucket_of}
+use Rattle.mica_words.specs.declared.entry.TheConstants.{SLOTS}
 use Rattle.mica_model.specs.declared.cell.Cell.{Cell as CellInCode}
 use Rattle.mica_model.specs.Store.{Cell, Cells, keys_in, spares_in_use}
 use Rattle.mica_model.specs.Codes.{text_code, cell_code}
@@ -25,5 +26,5 @@ with_cells table cells = record { buckets = table.buckets; cells = cells }
 -- the key's bucket and the spares behind it are full, and no other spare is left
 pub record LacksSpare (table : Table) (key : List ℕ) (spares : ℕ) : Type 0 where
   pub some : 0 < keys_in table.buckets (bucket_of key table.buckets) table.cells
-  pub full : keys_in table.buckets (bucket_of key table.buckets) table.cells % 15 ≡ 0
+  pub full : keys_in table.buckets (bucket_of key table.buckets) table.cells % SLOTS ≡ 0
   pub none_left : spares_in_use table.buckets table.cells ≡ spares

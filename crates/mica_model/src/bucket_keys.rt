@@ -3,6 +3,7 @@ ghost use Rattle.std.specs.Prelude.{◌≡◌, ◌+◌, ◌<◌, ◌≤◌, ◌^
 ghost use Rattle.mica_model.specs.Store.{spares_behind};
 
 use mica_io::NoMemory;
+use mica_words::SLOTS;
 use std::alloc::Global;
 
 #[derive(Drop)]
@@ -42,5 +43,5 @@ impl BucketKeys {
 fn spares_behind(keys: u32) -> u32
     ensures { result ≡ spares_behind keys }
 {
-    keys.div_ceil(15).saturating_sub(1)
+    keys.div_ceil(SLOTS).saturating_sub(1)
 }

@@ -1,10 +1,12 @@
-ghost use Rattle.std.specs.Prelude.{◌≡◌, ◌↔◌, IfOk, OnErr, length};
+//! The machine of cache mode.
+ghost use Rattle.std.specs.Prelude.{◌≡◌, ◌↔◌, IsTrue, IfOk, OnErr, length};
+ghost use Rattle.std.specs.List.{AllByRecursion};
 ghost use Rattle.mica_words.specs.Item.{KeyFits};
 ghost use Rattle.mica_model.specs.Answer.{IsAnswer};
 ghost use Rattle.mica_model.specs.CacheFields.{displaced_record, fate_written, marked_displaced, marked_passed};
 ghost use Rattle.mica_model.specs.CacheStep.{without_displaced, without_passed};
-ghost use Rattle.mica_model.specs.Fate.{fate_of};
-ghost use Rattle.mica_model.specs.History.{answer_of, stamp_of};
+ghost use Rattle.mica_model.specs.Fate.{GivesNoValue, fate_of};
+ghost use Rattle.mica_model.specs.History.{MayGive, answer_of, stamp_of};
 ghost use Rattle.mica_model.specs.Logged.{IsLoggedStep, new_log};
 ghost use Rattle.mica_model.specs.Options.{IsValid};
 ghost use Rattle.mica_model.specs.Write.{HasValueOf, write_of};
@@ -87,9 +89,21 @@ impl CacheMachine {
 
     /// What became of the key.
     pub fn fate(&self, key: &[u8]) -> Fate
-        ensures { result ≡ fate_of self.now.options self.now.history key.now }
+        ensures fate { result ≡ fate_of self.now.options self.now.history key.now }
+        ensures never { (result ≡ Fate.Never)
+            ↔ AllByRecursion (GivesNoValue key.now) self.now.history }
     {
         fate_among(&self.log, key)
+    }
+
+    /// Whether the machine may reply this to the write, as it would now.
+    pub fn allows(&self, op: Op, key: &[u8], value: &[u8], outcome: Outcome) -> bool
+        requires key { KeyFits key.now }
+        requires value { HasValueOf op value.now }
+        ensures { IsTrue result ↔ MayGive self.now.options self.now.history
+            (write_of op key.now value.now) outcome }
+    {
+        self.state.replies(&self.options, op, key, value, outcome)
     }
 
     /// One step.
@@ -107,8 +121,9 @@ impl CacheMachine {
             (λ outcome. IsLoggedStep self.old (write_of op key.now value.now) outcome self.new) }
         ensures err { OnErr result (self.new ≡ self.old) }
     {
-        if self.state.accepted() >= self.options.wear {
-            return Ok(Outcome::Worn);
+        let outcome = self.state.reply(&self.options, op, key, value);
+        if !outcome.is_accepted() {
+            return Ok(outcome);
         }
         let write = Write {
             op,
@@ -117,7 +132,7 @@ impl CacheMachine {
         };
         self.log.reserve(1)?;
         let options = self.options;
-        let outcome = self.state.write(alloc, &options, op, key, value)?;
+        self.state.write(alloc, &options, op, key, value)?;
         let number = self.state.accepted() + 1;
         let fate = fate_after(outcome, number, fate_among(&self.log, key));
         put_accepted(&mut self.log, write, fate);

@@ -1,15 +1,18 @@
-ghost use Rattle.std.specs.Prelude.{◌≡◌, ◌+◌, ◌<◌, ◌^◌, [], IfOk, OnOk, OnErr, is_some, option_copied, position, count_by};
+//! The state of a partition in cache mode, and the rules of a step.
+ghost use Rattle.std.specs.Prelude.{◌≡◌, ◌+◌, ◌≤◌, ◌<◌, [], ◌↔◌, IsTrue, OnOk, OnErr, is_some, option_copied, position, count_by};
 ghost use Rattle.mica_words.specs.Item.{KeyFits, ValueFits};
 ghost use Rattle.mica_model.specs.Cache.{start, has_key, record_of, value_in};
 ghost use Rattle.mica_model.specs.CacheFields.{IsUnique, displaced_at, kept_place};
-ghost use Rattle.mica_model.specs.CacheStep.{after_append, after_put, after_delete, after_write, reply_of, kept_record, without_passed, without_displaced, is_in_bucket};
+ghost use Rattle.mica_model.specs.CacheStep.{after_append, new_record, after_put, after_delete, after_write, reply, kept_record, without_passed, without_displaced, is_in_bucket};
+ghost use Rattle.mica_model.specs.Limits.{most_stamp};
+ghost use Rattle.mica_model.specs.declared.options.TheConstants.{MAX_WEAR};
 ghost use Rattle.mica_model.specs.Options.{IsValid};
 ghost use Rattle.mica_model.specs.Write.{HasValueOf, write_of};
 
 use crate::cache_record::CacheRecord;
 use crate::{Op, Options, Outcome};
 use mica_io::{Bytes, NoMemory};
-use mica_words::{bucket_of, item_size, key_hash, tail_of};
+use mica_words::{SLOTS, bucket_of, item_size, key_hash, tail_of};
 use std::alloc::Global;
 use std::marker::Model;
 
@@ -81,7 +84,37 @@ impl CacheState {
         }
     }
 
-    /// The write itself, before the log passes and the index displaces.
+    /// The reply to a write.
+    #[tactic(auto, unfolding(crate::specs::CacheStep::reply))]
+    pub fn reply(&self, options: &Options, op: Op, key: &[u8], value: &[u8]) -> Outcome
+        ensures { result ≡ reply options.now self.now (write_of op key.now value.now) }
+    {
+        if self.accepted >= options.wear {
+            return Outcome::Worn;
+        }
+        match op {
+            Op::Put => Outcome::Stored,
+            Op::Del if self.holds(key) => Outcome::Deleted,
+            Op::Del => Outcome::Absent,
+        }
+    }
+
+    /// Whether this is the reply to a write.
+    pub fn replies(
+        &self,
+        options: &Options,
+        op: Op,
+        key: &[u8],
+        value: &[u8],
+        outcome: Outcome,
+    ) -> bool
+        ensures { IsTrue result
+            ↔ (outcome ≡ reply options.now self.now (write_of op key.now value.now)) }
+    {
+        self.reply(options, op, key, value) == outcome
+    }
+
+    /// An accepted write itself, before the log passes and the index displaces.
     pub fn write(
         &mut self,
         alloc: Global,
@@ -89,24 +122,21 @@ impl CacheState {
         op: Op,
         key: &[u8],
         value: &[u8],
-    ) -> Result<Outcome, NoMemory>
+    ) -> Result<(), NoMemory>
         requires key { KeyFits key.now }
         requires value { HasValueOf op value.now }
-        requires stamp { self.old.stamp < 2 ^ 60 }
+        requires stamp { self.old.stamp ≤ most_stamp }
         requires unique { IsUnique self.old.records }
 
         ensures ok { OnOk result
             (self.new ≡ after_write options.now self.old (write_of op key.now value.now)) }
-        ensures outcome { IfOk result
-            (λ outcome. outcome ≡ reply_of op (is_some (record_of self.old key.now))) }
         ensures err { OnErr result (self.new ≡ self.old) }
     {
-        let held = self.holds(key);
         match op {
             Op::Put => self.put(alloc, options, key, value)?,
             Op::Del => self.delete(key),
         }
-        Ok(reply_to(op, held))
+        Ok(())
     }
 
     fn put(
@@ -118,7 +148,7 @@ impl CacheState {
     ) -> Result<(), NoMemory>
         requires key { KeyFits key.now }
         requires value { ValueFits value.now }
-        requires stamp { self.old.stamp < 2 ^ 60 }
+        requires stamp { self.old.stamp ≤ most_stamp }
         requires unique { IsUnique self.old.records }
 
         ensures ok { let write = write_of Op.Put key.now value.now in
@@ -139,7 +169,7 @@ impl CacheState {
     fn kept_at(&self, options: &Options, key: &[u8], value: &[u8]) -> Option<usize>
         requires key { KeyFits key.now }
         requires value { ValueFits value.now }
-        requires stamp { self.now.stamp < 2 ^ 60 }
+        requires stamp { self.now.stamp ≤ most_stamp }
         ensures { result ≡ kept_place options.now self.now (write_of Op.Put key.now value.now) }
     {
         let at = find_record(&self.records, key)?;
@@ -157,10 +187,10 @@ impl CacheState {
     fn append(&mut self, alloc: Global, key: &[u8], value: &[u8]) -> Result<(), NoMemory>
         requires key { KeyFits key.now }
         requires value { ValueFits value.now }
-        requires stamp { self.old.stamp < 2 ^ 60 }
+        requires stamp { self.old.stamp ≤ most_stamp }
 
         ensures ok { OnOk result
-            (self.new ≡ after_append self.old (write_of Op.Put key.now value.now)) }
+            (self.new ≡ after_append self.old (new_record self.old key.now value.now)) }
         ensures err { OnErr result (self.new ≡ self.old) }
     {
         let size = item_size(key.len(), value.len());
@@ -179,7 +209,7 @@ impl CacheState {
     }
 
     fn delete(&mut self, key: &[u8])
-        requires { self.old.stamp < 2 ^ 60 }
+        requires { self.old.stamp ≤ most_stamp }
         ensures { self.new ≡ after_delete self.old (write_of Op.Del key.now []) }
     {
         self.records.retain(|record| !record.has_key(key));
@@ -194,13 +224,14 @@ impl CacheState {
             .retain(|record| record.is_live(options.words, stamp));
     }
 
-    /// The place of the record that is displaced, if one is: the first of the key's bucket, where it has 16.
+    /// The place of the record that is displaced, if one is: the first of the key's bucket, where it has more
+    /// than a bucket has entries.
     pub fn displaced(&self, options: &Options, key: &[u8]) -> Option<usize>
         requires { IsValid options.now }
         ensures { result ≡ displaced_at options.now key.now self.now.records }
     {
         let bucket = bucket_of(key_hash(key), options.buckets);
-        if count_in_bucket(&self.records, options, bucket) != 16 {
+        if count_in_bucket(&self.records, options, bucket) != SLOTS as usize + 1 {
             return None;
         }
         first_in_bucket(&self.records, options, bucket)
@@ -216,21 +247,10 @@ impl CacheState {
     }
 
     pub fn count(&mut self)
-        requires { self.old.accepted < 2 ^ 60 }
+        requires { self.old.accepted < MAX_WEAR }
         ensures { self.new ≡ record self.old { accepted = self.old.accepted + 1 } }
     {
         self.accepted += 1;
-    }
-}
-
-// The reply to a write, by whether its key had a record.
-fn reply_to(op: Op, held: bool) -> Outcome
-    ensures { result ≡ reply_of op held }
-{
-    match op {
-        Op::Put => Outcome::Stored,
-        Op::Del if held => Outcome::Deleted,
-        Op::Del => Outcome::Absent,
     }
 }
 

@@ -4,13 +4,14 @@ ghost use Rattle.std.specs.FinMap.{empty, get, insert, remove};
 ghost use Rattle.std.specs.Option.{option_map};
 ghost use Rattle.mica_words.specs.Hash.{bucket_of};
 ghost use Rattle.mica_words.specs.Item.{ValueFits};
+ghost use Rattle.mica_words.specs.declared.entry.TheConstants.{SLOTS};
 ghost use Rattle.mica_model.specs.Store.{room_of, rooms, spares_in_use};
 ghost use Rattle.mica_model.specs.CellTable.{LacksSpare, with_cells, cell_of};
 
 use crate::bucket_keys::BucketKeys;
 use crate::cell::Cell;
 use mica_io::{Bytes, NoMemory};
-use mica_words::{bucket_of, key_hash};
+use mica_words::{SLOTS, bucket_of, key_hash};
 use std::alloc::Global;
 use std::collections::BTreeMap;
 use std::marker::Model;
@@ -132,7 +133,7 @@ impl CellTable {
 
 // Whether a bucket of this many keys, with the spares behind it, has no free entry.
 fn is_full(keys: u32) -> bool
-    ensures { IsTrue result ↔ (0 < keys) × (keys % 15 ≡ 0) }
+    ensures { IsTrue result ↔ (0 < keys) × (keys % SLOTS ≡ 0) }
 {
-    keys > 0 && keys % 15 == 0
+    keys > 0 && keys % SLOTS == 0
 }

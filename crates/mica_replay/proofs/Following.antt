@@ -11,7 +11,7 @@ use Rattle.mica_model.specs.declared.write.Op.TheVariants.{Put as PutOp, Del as 
 use Rattle.mica_model.specs.declared.write.Write.{Write}
 use Rattle.mica_model.specs.declared.write.Outcome.{Outcome}
 use Rattle.mica_model.specs.declared.write.Outcome.TheVariants.{Stored, Deleted, Absent, FullSpare, FullBlock, Worn}
-use Rattle.mica_model.specs.Write.{is_accepted, write_of}
+use Rattle.mica_model.specs.Write.{GivesValue, is_accepted, write_of}
 use Rattle.mica_model.specs.Cache as cache
 use Rattle.mica_model.specs.CacheStep as cs
 use Rattle.mica_model.specs.StoreStep as ss
@@ -31,14 +31,14 @@ use Rattle.mica_replay.specs.Machines.{StepsAs}
 use Rattle.mica_replay.specs.Replied.{Replied, RepliedBy, IsWriteLine, IsWritten}
 use Rattle.mica_replay.proofs.InOrder.{At, gain, write_in_line, step_in_line}
 
-cache_outcome : (op : Op) (worn found : Bool) → HasOutcome op (cond worn Worn (cs.reply_of op found))
-cache_outcome PutOp true found = tt
-cache_outcome PutOp false found = tt
-cache_outcome DelOp true found = tt
-cache_outcome DelOp false true = tt
-cache_outcome DelOp false false = tt
+cache_outcome : (op : Op) (options : Options) (write : Write) (worn found : Bool) → HasOutcome op (cond worn Worn (cs.reply_of op options write found))
+cache_outcome PutOp options write true found = tt
+cache_outcome PutOp options write false found = tt
+cache_outcome DelOp options write true found = tt
+cache_outcome DelOp options write false true = tt
+cache_outcome DelOp options write false false = tt
 
-gives_put : (op : Op) → ss.GivesValue op → op ≡ PutOp
+gives_put : (op : Op) → GivesValue op → op ≡ PutOp
 gives_put PutOp gives = refl
 gives_put DelOp gives = absurd gives
 
@@ -46,10 +46,10 @@ gives_put DelOp gives = absurd gives
 pub has_outcome : (options : Options) (now : State) (write : Write) (outcome : Outcome) → Allows options now write outcome → HasOutcome write.op outcome
 unfolding cs.reply
 has_outcome options (cache_state s) write outcome allowed =
-    subst (HasOutcome write.op) (sym allowed) (cache_outcome write.op (cs.is_worn options s) (is_some (cache.record_of s write.key)))
-has_outcome options (store_state s) write Stored allowed = subst (λ op. HasOutcome op Stored) (sym (gives_put write.op allowed.1.0)) tt
+    subst (HasOutcome write.op) (sym allowed) (cache_outcome write.op options write (cs.is_worn options s) (is_some (cache.record_of s write.key)))
+has_outcome options (store_state s) write Stored allowed = subst (λ op. HasOutcome op Stored) (sym (gives_put write.op allowed.1.0.0)) tt
 has_outcome options (store_state s) write FullSpare allowed = subst (λ op. HasOutcome op FullSpare) (sym (gives_put write.op allowed.1.0)) tt
-has_outcome options (store_state s) write FullBlock allowed = subst (λ op. HasOutcome op FullBlock) (sym (gives_put write.op allowed.1.0.gives)) tt
+has_outcome options (store_state s) write FullBlock allowed = subst (λ op. HasOutcome op FullBlock) (sym (gives_put write.op allowed.1.0.stores.0)) tt
 has_outcome options (store_state s) write Deleted allowed = subst (λ op. HasOutcome op Deleted) (sym allowed.1.0) tt
 has_outcome options (store_state s) write Absent allowed = subst (λ op. HasOutcome op Absent) (sym allowed.1.0) tt
 has_outcome options (store_state s) write Worn allowed = worn write.op
@@ -72,7 +72,7 @@ module _ (options : Options) where
       by true = refl
       by false = refl
 
-  step_values : (b : Bool) (old new : State) (write : Write) → (ss.GivesValue write.op → IsValue write.value) → new ≡ cond b (after options old write) old
+  step_values : (b : Bool) (old new : State) (write : Write) → (GivesValue write.op → IsValue write.value) → new ≡ cond b (after options old write) old
       → ValuesAre IsValue old → ValuesAre IsValue new
   step_values true old new write fits is all = subst (ValuesAre IsValue) (sym is) (after_are IsValue options old write fits all)
   step_values false old new write fits is all = subst (ValuesAre IsValue) (sym is) all
@@ -83,7 +83,7 @@ module _ (options : Options) where
     pub values : ValuesAre IsValue new
 
   follows_write : (history : History) (new : State) (top : TraceOp) (write : Write) (op : Op) (outcome : Outcome) (s : ℕ) (key value : List ℕ)
-      → write_by top key value ≡ Some write → (op ≡ write.op → IsKindOf top (Wrote op outcome s)) → (ss.GivesValue write.op → IsValue write.value)
+      → write_by top key value ≡ Some write → (op ≡ write.op → IsKindOf top (Wrote op outcome s)) → (GivesValue write.op → IsValue write.value)
       → ValuesAre IsValue (state_of options history) → IsWritten options (state_of options history) write op outcome s new
       → Follows history (record { op = top; key = key; value = value }) (Wrote op outcome s) new
   follows_write history new top write op outcome s key value reads kind fits all is =

@@ -1,7 +1,8 @@
 //! The one-thread machine of cache mode.
 
-use mica_model::{Answer, CacheMachine, Fate, ItemBuf, Mode, Op, Options, Outcome};
-use mica_words::{key_fits, value_fits};
+use mica_model::{
+    Answer, CacheMachine, Fate, ItemBuf, Mode, Op, Options, Outcome, write_fits,
+};
 use std::process::Abort;
 use std::test::Fail;
 
@@ -36,8 +37,8 @@ fn expect_write(
     stamp: u64,
 ) -> Result<(), Fail> {
     let (key, value) = (key.as_bytes(), value.as_bytes());
-    assert!(rt; key_fits(key) && value_fits(value));
-    assert!(rt; op == Op::Put || value.is_empty());
+    assert!(rt; write_fits(op, key, value));
+    assert!(rt; machine.allows(op, key, value, outcome));
     let found = machine.apply(rt.alloc(), op, key, value)?;
     assert_eq!(rt; found, outcome);
     assert_eq!(rt; machine.stamp(), stamp);
@@ -164,7 +165,7 @@ static IN_PLACE: [Step; 11] = [
 ];
 
 // Each of the first items has 128 words, where there are 256.
-static PASSED: [Step; 7] = [
+static PASSED: [Step; 8] = [
     Step::Put {
         key: "a",
         text: "x",
@@ -189,6 +190,7 @@ static PASSED: [Step; 7] = [
         stamp: 17039360,
     },
     Step::Fate("a", Fate::Passed(3)),
+    Step::Fate("b", Fate::Held),
     Step::Hit {
         key: "b",
         text: "x",

@@ -5,8 +5,7 @@ use Rattle.std.specs.List.{AllByRecursion, AllZip, cons_option, fold}
 use Rattle.mica_model.specs.declared.options.Options.{Options}
 use Rattle.mica_model.specs.declared.write.Op.TheVariants.{Put as PutOp, Del as DelOp}
 use Rattle.mica_model.specs.declared.write.Write.{Write}
-use Rattle.mica_model.specs.Write.{is_accepted}
-use Rattle.mica_model.specs.StoreStep.{GivesValue}
+use Rattle.mica_model.specs.Write.{GivesValue, is_accepted}
 use Rattle.mica_model.specs.History.{History, State, IsPrefix, MayGive, after, start, state_of}
 use Rattle.mica_model.specs.Run.{RunStep, accepted_write, history_of, IsRunFrom}
 use Rattle.mica_model.proofs.Values.{ValuesAre, start_are, after_are, value_is}

@@ -4,6 +4,9 @@
 ghost use Rattle.std.specs.Prelude.{◌≡◌, ◌≤◌, ◌<◌, ◌^◌};
 ghost use Rattle.mica_words.specs.Entry.{entry_of, entry_tag, entry_offset};
 
+/// The entries of a bucket.
+pub const SLOTS: u32 = 15;
+
 /// The entry of an item with this tag, at this offset.
 pub fn entry_of(tag: u16, offset: u64) -> u64
     requires tag { 1 ≤ tag }

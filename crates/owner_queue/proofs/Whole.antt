@@ -11,7 +11,7 @@ use Rattle.mica_model.specs.declared.write.Op.TheVariants.{Put, Del}
 use Rattle.mica_model.specs.declared.write.Write.{Write}
 use Rattle.mica_model.specs.declared.write.Outcome.{Outcome}
 use Rattle.mica_model.specs.declared.write.Outcome.TheVariants.{Stored, Deleted, Absent, FullSpare, FullBlock, Worn}
-use Rattle.mica_model.specs.Write.{is_accepted, size_of}
+use Rattle.mica_model.specs.Write.{GivesValue, Replaces, is_accepted, size_of}
 use Rattle.mica_model.specs.Store.{Cell, Store}
 use Rattle.mica_model.specs.StoreStep as ss
 use Rattle.mica_model.specs.History.{History, State, cache_state, store_state, IsCut, MayGive, Allows, state_of, stamp_of}
@@ -35,9 +35,13 @@ number_from x c e = omega arith
 
 -- Outcomes that may be given
 
-gives_once : (op : Op) → IsProp (ss.GivesValue op)
+gives_once : (op : Op) → IsProp (GivesValue op)
 gives_once Put = hlevel props
 gives_once Del = hlevel props
+
+replaces : (op : Op) → GivesValue op → Replaces op
+replaces Put gives = tt
+replaces Del gives = absurd gives
 
 module _ (options : Options) (s : Store) (write : Write) where
   fits_or_not : (o : Option Cell) → (IsSomeAnd o (λ cell. size_of write ≤ cell.room)) ⊎ ¬ (IsSomeAnd o (λ cell. size_of write ≤ cell.room))
@@ -51,19 +55,19 @@ module _ (options : Options) (s : Store) (write : Write) where
   stored_whole has = (
     ∥∥₁_elim has (hlevel props) (λ a. a.0),
     (
-      gives,
+      stores,
       elim (fits_or_not (get s.cells write.key)) as (λ _. ss.FitsRoom s write ⊎ (ss.NeedsBlock options s write × ss.HasWords options s write)) [
         | inl fits ↦ inl fits
         | inr not_fits ↦ inr (
-          (record { gives = gives; no_room = not_fits; has_spare = ∥∥₁_elim has (hlevel props) (λ a. elim a.1.1 as (λ _. ¬ (ss.NeedsSpare options s write.key)) [ inl fits ↦ absurd (not_fits fits) | inr block ↦ block.0.has_spare ]) }),
+          (record { stores = stores; no_room = not_fits; has_spare = ∥∥₁_elim has (hlevel props) (λ a. elim a.1.1 as (λ _. ¬ (ss.NeedsSpare options s write.key)) [ inl fits ↦ absurd (not_fits fits) | inr block ↦ block.0.has_spare ]) }),
           ∥∥₁_elim has (hlevel props) (λ a. elim a.1.1 as (λ _. ss.HasWords options s write) [ inl fits ↦ absurd (not_fits fits) | inr block ↦ block.1 ]),
         )
       ],
     ),
   )
     where
-      gives : ss.GivesValue write.op
-      gives = ∥∥₁_elim has (gives_once write.op) (λ a. a.1.0)
+      stores : ss.Stores s write
+      stores = let gives = ∥∥₁_elim has (gives_once write.op) (λ a. a.1.0.0) in (gives, inl (replaces write.op gives))
 
   allows_whole : (outcome : Outcome) → ∥ ss.Allows options s write outcome ∥₁ → ss.Allows options s write outcome
   allows_whole Stored has = stored_whole has
@@ -74,7 +78,7 @@ module _ (options : Options) (s : Store) (write : Write) where
     ∥∥₁_elim has (hlevel props) (λ a. a.0),
     (
       record {
-        gives = ∥∥₁_elim has (gives_once write.op) (λ a. a.1.0.gives);
+        stores = let gives = ∥∥₁_elim has (gives_once write.op) (λ a. a.1.0.stores.0) in (gives, inl (replaces write.op gives));
         no_room = ∥∥₁_elim has (hlevel props) (λ a. a.1.0.no_room);
         has_spare = ∥∥₁_elim has (hlevel props) (λ a. a.1.0.has_spare);
       },

@@ -66,7 +66,7 @@ module _ (o : OwnerState) (s : Kept o) (index : Index) (blocks : List Block) (pa
   may : MayGive (options_in o) o.history (write_of Put key value) Stored
   may = facts.may_give o s index blocks parts key bytes (write_of Put key value) refl unworn Stored (
     facts.not_worn o s index blocks parts key bytes (write_of Put key value) refl unworn,
-    (tt, inl (subst (λ z. IsSomeAnd z (λ cell. item_size key value ≤ cell.room)) (sym has) (let same = old_room in omega arith))),
+    ((tt, inl tt), inl (subst (λ z. IsSomeAnd z (λ cell. item_size key value ≤ cell.room)) (sym has) (let same = old_room in omega arith))),
   )
 
   there_offset : entry_offset (at xs n) ≡ offset

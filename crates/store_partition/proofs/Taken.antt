@@ -81,7 +81,7 @@ module _ (o : OwnerState) (s : Kept o) (index : Index) (blocks : List Block) (pa
         let total = parts.words ∙ ap rooms (facts.cells_are o s index blocks parts key bytes) in
         let has_words : ss.HasWords (options_in o) m (write_of Put key value) = omega arith in
         facts.may_give o s index blocks parts key bytes (write_of Put key value) refl unworn Stored
-        (facts.not_worn o s index blocks parts key bytes (write_of Put key value) refl unworn, (tt, inr (needs, has_words)))
+        (facts.not_worn o s index blocks parts key bytes (write_of Put key value) refl unworn, ((tt, inl tt), inr (needs, has_words)))
 
     pub begin_ok : MayBegin o b
     begin_ok = storing.begin_ok o s index blocks parts key value w_is b is unworn may

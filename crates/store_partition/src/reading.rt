@@ -1,5 +1,6 @@
 //! Where a key's entry stands, and the answer to a get.
 ghost use Rattle.std.specs.Prelude.{◌≡◌, ◌<◌};
+ghost use Rattle.mica_words.specs.declared.entry.TheConstants.{SLOTS};
 ghost use Rattle.mica_words.specs.Item.{KeyFits};
 ghost use Rattle.mica_words.specs.Header.{header_room as header_room_of};
 ghost use Rattle.mica_words.specs.Entry.{entry_offset as entry_offset_of};
@@ -44,7 +45,7 @@ pub(crate) fn seek<W: OwnerWords>(words: &mut W, index: &ChainedIndex, key: &[u8
 
 /// The offset of the item that a spot's entry names, and its room.
 pub(crate) fn block_at<W: OwnerWords>(words: &mut W, spot: Spot) -> (u64, u32)
-    requires { IsBucket (W.owner words.old).shape spot.bucket × (spot.slot < 15) }
+    requires { IsBucket (W.owner words.old).shape spot.bucket × (spot.slot < SLOTS) }
     ensures offset { result.0 ≡ entry_offset_of (spot_entry (W.owner words.old) spot) }
     ensures room { result.1 ≡ room_in (W.owner words.old) (spot_entry (W.owner words.old) spot) }
     ensures same { (W.owner words.new ≡ W.owner words.old) × (W.home words.new ≡ W.home words.old) }

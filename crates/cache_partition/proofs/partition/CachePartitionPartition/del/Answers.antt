@@ -4,6 +4,7 @@ use Rattle.mica_model.specs.declared.write.Op.TheVariants.{Del}
 use Rattle.mica_model.specs.declared.write.Outcome.TheVariants.{Deleted, Absent}
 use Rattle.mica_model.specs.Write.{write_of}
 use Rattle.mica_model.specs.CacheStep.{reply_of}
+use Rattle.epoch_core.specs.OwnerState.{options_in}
 use Rattle.cache_partition.specs.Gained.{MayWrite}
 use Rattle.cache_partition.proofs.Writes.{worn_step, accepted_step}
 use Rattle.cache_partition.proofs.partition.CachePartitionPartition.del.Goals as goal
@@ -31,7 +32,7 @@ returns-then-removed-clause-step g c =
       not_worn = leb-false o.shape.wear (length o.history) (sym c.is_worn.ensures.worn ∙ c.if-is_worn.false);
     } in
     accepted_step o (owner c.remove-removed.new.words) may (write_of Del c.args.key.now []) Deleted c.remove-removed.ensures.gains
-    (ap (reply_of Del) (sym c.if-removed.true ∙ c.remove-removed.ensures.found))
+    (ap (reply_of Del (options_in o) (write_of Del c.args.key.now [])) (sym c.if-removed.true ∙ c.remove-removed.ensures.found))
 
 pub returns-else-removed-clause-step : goal.returns-else-removed-clause-step
 returns-else-removed-clause-step g c =
@@ -43,4 +44,4 @@ returns-else-removed-clause-step g c =
       not_worn = leb-false o.shape.wear (length o.history) (sym c.is_worn.ensures.worn ∙ c.if-is_worn.false);
     } in
     accepted_step o (owner c.remove-removed.new.words) may (write_of Del c.args.key.now []) Absent c.remove-removed.ensures.gains
-    (ap (reply_of Del) (sym c.if-removed.false ∙ c.remove-removed.ensures.found))
+    (ap (reply_of Del (options_in o) (write_of Del c.args.key.now [])) (sym c.if-removed.false ∙ c.remove-removed.ensures.found))

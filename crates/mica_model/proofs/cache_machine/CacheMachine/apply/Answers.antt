@@ -1,4 +1,4 @@
-use Rattle.std.proofs.Common.{◌≡◌, ℕ, ◌+◌, ◌<◌, ◌≤◌, List, [], ◌∷◌, ◌++◌, length, cond, ap, sym, ◌∙◌, subst, arith}
+use Rattle.std.proofs.Common.{◌≡◌, ℕ, ◌+◌, List, [], ◌∷◌, ◌++◌, length, cond, true, false, ap, sym, ◌∙◌, subst, arith}
 use Rattle.std.specs.List.{AllByRecursion}
 use Rattle.std.specs.Str.{bytes_eq}
 use Rattle.mica_model.specs.declared.accepted.Accepted.{Accepted}
@@ -6,17 +6,16 @@ use Rattle.mica_model.specs.declared.options.Options.{Options}
 use Rattle.mica_model.specs.declared.fate.Fate.TheVariants.{Displaced, Passed}
 use Rattle.mica_model.specs.declared.write.Write.{Write}
 use Rattle.mica_model.specs.declared.write.Outcome.{Outcome}
-use Rattle.mica_model.specs.declared.write.Outcome.TheVariants.{Worn}
 use Rattle.mica_model.specs.Cache.{Cache}
 use Rattle.mica_model.specs.CacheFields.{writes_of, fate_in, fate_written, displaced_record, marked_displaced, marked_passed}
 use Rattle.mica_model.specs.CacheStep as cs
 use Rattle.mica_model.specs.Fate.{fate_of, has_record}
 use Rattle.mica_model.specs.History.{IsHistory, state_of, cache_state, accepted_in}
 use Rattle.mica_model.specs.Logged.{Logged, IsLoggedStep}
-use Rattle.mica_model.specs.Write.{IsWrite, write_of}
+use Rattle.mica_model.specs.Write.{IsWrite, is_accepted, write_of}
 use Rattle.mica_model.proofs.CacheLaws.{kept_in, stamp_bound}
-use Rattle.mica_model.proofs.Histories.{within_wear, accepted_is_length}
-use Rattle.mica_model.proofs.CacheMachineSteps.{worn_step, accepted_step, later_lawful, later_state, later_writes, later_fates, later_log, counted, written_accepted}
+use Rattle.mica_model.proofs.Histories.{within_wear, accepted_is_length, cache_unworn}
+use Rattle.mica_model.proofs.CacheMachineSteps.{refused_step, replied_unworn, accepted_step, later_lawful, later_state, later_writes, later_fates, later_log, counted, written_accepted}
 use Rattle.mica_model.proofs.cache_machine.CacheMachine.apply.Goals as goal
 
 pub write-requires-clause-stamp : goal.write-requires-clause-stamp
@@ -33,13 +32,13 @@ write-requires-clause-unique c =
     let a = c.self.inside in
     (kept_in a.options (writes_of a.log.items) c.self.invariant.writes a.state c.self.invariant.state).unique
 
-pub returns-then-accepted-self-clause-step : goal.returns-then-accepted-self-clause-step
-returns-then-accepted-self-clause-step c =
+pub returns-then-not-is_accepted-clause-step : goal.returns-then-not-is_accepted-clause-step
+returns-then-not-is_accepted-clause-step c =
     let a = c.self.inside in
-    let i = c.self.invariant in
     let write = write_of c.args.op c.args.key.now c.args.value.now in
-    let worn : a.options.wear ≤ a.state.accepted = omega arith in
-    subst (λ (m : Logged). IsLoggedStep m write Worn m) c.self.view_is (worn_step a.options (writes_of a.log.items) a.state i.state write worn)
+    let refused : is_accepted c.reply-outcome.result ≡ false = sym c.is_accepted.ensures ∙ c.if-not-is_accepted.true in
+    subst (λ (m : Logged). IsLoggedStep m write c.reply-outcome.result m) c.self.view_is
+    (refused_step a.options (writes_of a.log.items) a.state c.self.invariant.state write c.reply-outcome.result c.reply-outcome.ensures refused)
 
 -- the write, its step, and what the list then has
 
@@ -77,10 +76,16 @@ module _ (c : goal.After-count) where
   }
 
   wrote : c.write.new.self ≡ cs.after_write options before write
-  wrote = c.in_ok-outcome.ensures.ok
+  wrote = c.in_ok-write.ensures.ok
 
-  replied : c.in_ok-outcome.outcome ≡ cs.reply_of c.args.op (has_record before c.args.key.now)
-  replied = c.in_ok-outcome.ensures.outcome
+  outcome : Outcome
+  outcome = c.reply-outcome.result
+
+  replied : c.reply-outcome.result ≡ cs.reply options before write
+  replied = c.reply-outcome.ensures
+
+  done : is_accepted c.reply-outcome.result ≡ true
+  done = sym c.is_accepted.ensures ∙ c.if-not-is_accepted.false
 
   room : c.reserve.new.self.items ≡ log
   room = c.in_ok-reserve.ensures.items
@@ -105,11 +110,11 @@ module _ (c : goal.After-count) where
       ap (λ (n : ℕ). n + 1)
       (c.accepted-number.ensures ∙ ap (λ (t : Cache). t.accepted) wrote ∙ written_accepted options before write ∙ sym (ap accepted_in c.self.invariant.state) ∙ accepted_is_length options (writes_of log))
 
-  fate_is : c.fate_after-fate.result ≡ fate_written (cs.reply_of c.args.op (has_record before c.args.key.now)) number (fate_in log c.args.key.now)
+  fate_is : c.fate_after-fate.result ≡ fate_written (cs.reply_of c.args.op options write (has_record before c.args.key.now)) number (fate_in log c.args.key.now)
   fate_is =
       c.fate_after-fate.ensures
-      ∙ ap (λ (o : Outcome). fate_written o number c.fate_among.result) replied
-      ∙ ap (fate_written (cs.reply_of c.args.op (has_record before c.args.key.now)) number)
+      ∙ ap (λ (o : Outcome). fate_written o number c.fate_among.result) (replied_unworn options (writes_of log) before c.self.invariant.state write c.reply-outcome.result replied done)
+      ∙ ap (fate_written (cs.reply_of c.args.op options write (has_record before c.args.key.now)) number)
       (c.fate_among.ensures ∙ ap (λ (l : List Accepted). fate_in l c.args.key.now) (c.deref.ensures.value ∙ room))
 
   notes : (key : List ℕ) → fate_in noted key ≡ cond (bytes_eq c.args.key.now key) c.fate_after-fate.result (fate_in log key)
@@ -125,13 +130,28 @@ module _ (c : goal.After-count) where
       (c.drop_dead.ensures.log
       ∙ ap (λ (t : Cache). marked_displaced (Displaced number) (displaced_record options c.args.key.now (cs.without_passed options t).records) (marked_passed (Passed number) options.words t.stamp t.records noted)) wrote))
 
-  alive : before.accepted < options.wear
-  alive = omega arith
+pub count-requires : goal.count-requires
+count-requires c =
+    let a = c.self.inside in
+    let write = write_of c.args.op c.args.key.now c.args.value.now in
+    let unworn = cache_unworn a.options a.state write c.reply-outcome.result (sym c.is_accepted.ensures ∙ c.if-not-is_accepted.false) c.reply-outcome.ensures in
+    let most = c.self.invariant.valid.wear.1 in
+    let same : c.drop_dead.new.state.accepted ≡ a.state.accepted = ap (λ (t : Cache). t.accepted) (c.drop_dead.ensures.state ∙ ap (λ (t : Cache). cs.without_displaced a.options c.args.key.now (cs.without_passed a.options t)) c.in_ok-write.ensures.ok) ∙ written_accepted a.options a.state write in
+    omega arith
+
+pub overflow_add-number : goal.overflow_add-number
+overflow_add-number c =
+    let a = c.self.inside in
+    let write = write_of c.args.op c.args.key.now c.args.value.now in
+    let unworn = cache_unworn a.options a.state write c.reply-outcome.result (sym c.is_accepted.ensures ∙ c.if-not-is_accepted.false) c.reply-outcome.ensures in
+    let most = c.self.invariant.valid.wear.1 in
+    let same : c.accepted-number.result ≡ a.state.accepted = c.accepted-number.ensures ∙ ap (λ (t : Cache). t.accepted) c.in_ok-write.ensures.ok ∙ written_accepted a.options a.state write in
+    omega arith
 
 pub returns-clause-step : goal.returns-clause-step
 returns-clause-step c =
-    subst (λ (m : Logged). IsLoggedStep m (write c) c.in_ok-outcome.outcome (record { options = options c; history = writes_of c.drop_dead.new.log.items })) c.self.view_is
-    (accepted_step (options c) (writes_of (log c)) (before c) c.self.invariant.state (write c) (alive c) c.in_ok-outcome.outcome (replied c) (writes_of c.drop_dead.new.log.items) (later c))
+    subst (λ (m : Logged). IsLoggedStep m (write c) c.reply-outcome.result (record { options = options c; history = writes_of c.drop_dead.new.log.items })) c.self.view_is
+    (accepted_step (options c) (writes_of (log c)) (before c) c.self.invariant.state (write c) c.reply-outcome.result (replied c) (done c) (writes_of c.drop_dead.new.log.items) (later c))
 
 pub invariant_of-self-2 : goal.invariant_of-self-2
 invariant_of-self-2 c =
@@ -140,7 +160,7 @@ invariant_of-self-2 c =
     record {
       valid = i.valid;
       mode = i.mode;
-      lawful = subst (IsHistory (options c)) (sym (later c)) (later_lawful (options c) history (before c) i.state (write c) (alive c) c.in_ok-outcome.outcome (replied c) i.lawful);
+      lawful = subst (IsHistory (options c)) (sym (later c)) (later_lawful (options c) history (before c) i.state (write c) c.reply-outcome.result (replied c) (done c) i.lawful);
       writes = subst (AllByRecursion IsWrite) (sym (later c)) (later_writes history (write c) i.writes (is_write c));
       state = ap (state_of (options c)) (later c) ∙ later_state (options c) history (before c) i.state (write c) ∙ ap cache_state (sym (now c));
       fates = λ key. ap (λ h. fate_of (options c) h key) (later c) ∙ fates c key;

@@ -3,7 +3,7 @@ use Rattle.std.proofs.lemmas.Fn.{filter_same}
 use Rattle.mica_words.specs.Stamp.{tail_of}
 use Rattle.mica_model.specs.declared.write.Op.TheVariants.{Put}
 use Rattle.mica_model.specs.Cache.{Cache, has_key}
-use Rattle.mica_model.specs.CacheStep.{after_append, others}
+use Rattle.mica_model.specs.CacheStep.{after_append, new_record, others}
 use Rattle.mica_model.specs.Write.{write_of, size_of}
 use Rattle.mica_model.proofs.CacheSteps.{appended_is}
 use Rattle.mica_model.proofs.cache_state.CacheState.append.Goals as goal
@@ -22,4 +22,4 @@ returns-clause-ok c =
     (c.push_reserved.ensures.items ∙ ap (λ rs. rs ++ c.new-record.result ∷ []) (kept ∙ ap (others c.args.key.now) c.in_ok-reserve.ensures.items))
     (c.new-record.ensures ∙ λ i. record { key = key i; value = value i; offset = offset i; room = size i })
     (c.from.ensures ∙ size)
-    ∙ ap (λ (t : Cache). after_append t write) c.self.view_is
+    ∙ ap (λ (t : Cache). after_append t (new_record t write.key write.value)) c.self.view_is

@@ -1,4 +1,4 @@
-use Rattle.std.proofs.Common.{◌≡◌, sym, ap, ◌∙◌, subst, length}
+use Rattle.std.proofs.Common.{sym, ap, ◌∙◌, subst, length}
 use Rattle.epoch_core.specs.declared.state.OwnerState.{OwnerState}
 use Rattle.mica_model.specs.History.{stamp_of}
 use Rattle.epoch_core.specs.OwnerState.{options_in}
