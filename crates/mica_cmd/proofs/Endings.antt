@@ -1,5 +1,5 @@
 -- How a run ends with what is due.
-use Rattle.std.proofs.Common.{◌≡◌, ℕ, ◌+◌, ◌≤◌, ◌⊎◌, inl, inr, List, length, length-append, Option, Some, None, codes, refl, sym, ap, ◌∙◌, subst, arith}
+use Rattle.std.proofs.Common.{◌≡◌, ℕ, ◌+◌, ◌≤◌, ◌⊎◌, inl, inr, List, [], length, length-append, Option, Some, None, codes, refl, sym, ap, ◌∙◌, subst, arith}
 use Rattle.std.specs.Prelude.{IfSome}
 use Rattle.std.specs.Option.{IsSomeAnd}
 use Rattle.std.specs.Io.KnownBytes.{Keeps, Appends, Consumes, IsAtEnd}
@@ -11,11 +11,14 @@ use Rattle.mica_trace.specs.declared.line.TraceFault.TheVariants.{NoMemory as No
 use Rattle.mica_trace.specs.TraceGrammar.{IsTrace, IsNoTrace, Refuses, fault_text}
 use Rattle.mica_cmd.specs.declared.top.TheConstants.{MAX_SOURCE_LEN}
 use Rattle.mica_cmd.specs.declared.command.Command.{Command}
-use Rattle.mica_cmd.specs.declared.command.Command.TheVariants.{Replay}
+use Rattle.mica_cmd.specs.declared.command.Command.TheVariants.{Replay, Gen, Bench}
 use Rattle.mica_cmd.specs.declared.status.Status.{Status}
 use Rattle.mica_cmd.specs.declared.status.Status.TheVariants.{Done, Usage, NoMemory, TraceRefused, TraceLong, ReadFault, WriteFault, NetFault}
-use Rattle.mica_cmd.specs.Outside.{Outside, IsReadUp}
-use Rattle.mica_cmd.specs.Top.{line_of, IsTooLong, IsDue, IsWritten, IsRefusedWith, Ends, IsUnhindered, ReadsFor, KeepsPromises}
+use Rattle.mica_trace.specs.TraceGrammar.{trace_text}
+use Rattle.mica_cmd.specs.declared.gen_options.GenOptions.{GenOptions}
+use Rattle.mica_cmd.specs.Generator.{generated}
+use Rattle.mica_cmd.specs.Outside.{SourceFacts, SinkFacts, Outside, IsReadUp}
+use Rattle.mica_cmd.specs.Top.{line_of, IsTooLong, IsDue, IsSummaryText, IsWritten, IsRefusedWith, Headline, Ends, IsUnhindered, ReadsFor, KeepsPromises}
 
 -- what was written of the due text with its status
 pub due_ends : (command : Option Command) (old new : Outside) (status : Status) (text : List ℕ) (result : Status) → IsDue command old new status text
@@ -43,7 +46,19 @@ complete (Some (Replay options)) old new TraceRefused ends free = absurd (never_
 complete (Some (Replay options)) old new TraceLong ends free = absurd (never_both old.source.left _ _ (λ bytes long is. is.0 long) ends.1.0 free.0)
 complete (Some (Replay options)) old new ReadFault ends free = absurd (free.1 ends.1.0)
 complete (Some (Replay options)) old new WriteFault ends free = absurd (free.2 ends.0)
-complete _ old new status ends free = absurd free
+complete (Some (Gen generator)) old new Usage ends free = absurd ends.1
+complete (Some (Gen generator)) old new TraceRefused ends free = absurd ends.1
+complete (Some (Gen generator)) old new TraceLong ends free = absurd ends.1
+complete (Some (Gen generator)) old new ReadFault ends free = absurd ends.1
+complete (Some (Gen generator)) old new NetFault ends free = absurd ends.1
+complete (Some (Gen generator)) old new WriteFault ends free = absurd (free ends.0)
+complete (Some (Bench options generator)) old new Usage ends free = absurd ends.1
+complete (Some (Bench options generator)) old new TraceRefused ends free = absurd ends.1
+complete (Some (Bench options generator)) old new TraceLong ends free = absurd ends.1
+complete (Some (Bench options generator)) old new ReadFault ends free = absurd ends.1
+complete (Some (Bench options generator)) old new NetFault ends free = absurd ends.1
+complete (Some (Bench options generator)) old new WriteFault ends free = absurd (free ends.0)
+complete None old new status ends free = absurd free
 
 pub keeps_promises : (command : Option Command) (old new : Outside) (status : Status) → Ends command old new status → ReadsFor command old.source new.source
     → KeepsPromises command old new status
@@ -84,6 +99,38 @@ long_source (Some input) (Some rest) read =
     let whole = ap length read.2 ∙ length-append read.0 rest in
     omega arith
 
+-- what a command wrote that reads nothing
+pub output_promises : (command : Command) (source : SourceFacts) (old new : SinkFacts) (text : List ℕ) (result : Status)
+    → let before : Outside = record { source = source; sink = old } in
+    let after : Outside = record { source = source; sink = new } in
+    IsDue (Some command) before after Done text → (Appends old.taken new.taken text → Headline (Some command) before after)
+    → ReadsFor (Some command) source source → IsWritten Done text old new result → KeepsPromises (Some command) before after result
+output_promises command source old new text result due output reads written =
+    let before : Outside = record { source = source; sink = old } in
+    let after : Outside = record { source = source; sink = new } in
+    let ends : Ends (Some command) before after result = elim written as (λ _. Ends (Some command) before after result) [
+      | inl all ↦ subst (Ends (Some command) before after) (sym all.0) (output all.1)
+      | inr part ↦ subst (Ends (Some command) before after) (sym part.0) (part.1, (Done, text, due, part.2))
+    ] in
+    keeps_promises (Some command) before after result ends reads
+
+pub trace_promises : (generator : GenOptions) (source : SourceFacts) (old new : SinkFacts) (text : List ℕ) (result : Status) → text ≡ trace_text (generated generator)
+    → IsWritten Done text old new result → KeepsPromises (Some (Gen generator)) (record { source = source; sink = old }) (record { source = source; sink = new }) result
+trace_promises generator source old new text result is written =
+    output_promises (Gen generator) source old new text result is (λ taken. subst (Appends old.taken new.taken) is taken) refl written
+
+pub summary_promises : (options : Options) (generator : GenOptions) (source : SourceFacts) (old new : SinkFacts) (text : List ℕ) (result : Status)
+    → IsSummaryText options generator text → IsWritten Done text old new result
+    → KeepsPromises (Some (Bench options generator)) (record { source = source; sink = old }) (record { source = source; sink = new }) result
+summary_promises options generator source old new text result is written =
+    output_promises (Bench options generator) source old new text result is
+    (λ taken. record { report = is.report; lawful = is.lawful; printed = subst (Appends old.taken new.taken) is.spelled taken }) refl written
+
+-- the command that words give is this one
+pub given_promises : (given : Option Command) (read command : Command) (old new : Outside) (result : Status) → given ≡ Some read → read ≡ command
+    → KeepsPromises (Some command) old new result → KeepsPromises given old new result
+given_promises given read command old new result is same kept = subst (λ c. KeepsPromises c old new result) (sym (is ∙ ap (λ c. Some c) same)) kept
+
 -- words that give no command
 pub usage_promises : (command : Option Command) (old new : Outside) (result : Status) → command ≡ None → new.source ≡ old.source
     → IsWritten Usage (line_of (codes "usage")) old.sink new.sink result → KeepsPromises command old new result
@@ -95,6 +142,16 @@ kept_itself : (taken : Option (List ℕ)) → Keeps taken taken
 kept_itself None = tt
 kept_itself (Some bytes) = refl
 
--- no memory for the words
-pub memory_promises : (outside : Outside) → KeepsPromises None outside outside NoMemory
-memory_promises outside = keeps_promises None outside outside NoMemory (kept_itself outside.sink.taken) refl
+takes_nothing : (left : Option (List ℕ)) → Consumes left left []
+takes_nothing None = tt
+takes_nothing (Some bytes) = refl
+
+reads_nothing : (command : Option Command) (source : SourceFacts) → ReadsFor command source source
+reads_nothing (Some (Replay options)) source = ([], omega arith, takes_nothing source.left)
+reads_nothing (Some (Gen generator)) source = refl
+reads_nothing (Some (Bench options generator)) source = refl
+reads_nothing None source = refl
+
+-- no memory before anything was touched
+pub memory_promises : (command : Option Command) (outside : Outside) → KeepsPromises command outside outside NoMemory
+memory_promises command outside = keeps_promises command outside outside NoMemory (kept_itself outside.sink.taken) (reads_nothing command outside.source)

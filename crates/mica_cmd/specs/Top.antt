@@ -8,14 +8,17 @@ use Rattle.mica_trace.specs.declared.line.TraceLine.{TraceLine}
 use Rattle.mica_trace.specs.declared.line.TraceFault.{TraceFault}
 use Rattle.mica_trace.specs.declared.line.TraceFault.TheVariants.{NoMemory as NoRoom}
 use Rattle.mica_trace.specs.declared.report.Line.{Line}
-use Rattle.mica_trace.specs.TraceGrammar.{IsTrace, IsNoTrace, Refuses, fault_text}
+use Rattle.mica_trace.specs.TraceGrammar.{IsTrace, IsNoTrace, Refuses, fault_text, trace_text}
 use Rattle.mica_trace.specs.ReportGrammar.{report_text}
 use Rattle.mica_trace.specs.LawfulReport.{LawfulReport}
 use Rattle.mica_cmd.specs.declared.top.TheConstants.{MAX_SOURCE_LEN}
 use Rattle.mica_cmd.specs.declared.command.Command.{Command}
-use Rattle.mica_cmd.specs.declared.command.Command.TheVariants.{Replay}
+use Rattle.mica_cmd.specs.declared.command.Command.TheVariants.{Replay, Gen, Bench}
 use Rattle.mica_cmd.specs.declared.status.Status.{Status}
 use Rattle.mica_cmd.specs.declared.status.Status.TheVariants.{Done, Usage, NoMemory, TraceRefused, TraceLong, ReadFault, WriteFault}
+use Rattle.mica_cmd.specs.declared.gen_options.GenOptions.{GenOptions}
+use Rattle.mica_cmd.specs.Generator.{generated}
+use Rattle.mica_cmd.specs.Summary.{summary_text}
 use Rattle.mica_cmd.specs.Outside.{SourceFacts, SinkFacts, Outside, IsReadUp}
 
 -- the bytes are more than a source may give
@@ -35,10 +38,22 @@ pub record PrintsLawfully (options : Options) (old new : Outside) : Type 0 where
   pub lawful : LawfulReport options trace report
   pub printed : Appends old.sink.taken new.sink.taken (report_text report)
 
+-- the sink took the text of the generated trace, and nothing else
+abbrev pub PrintsTrace : GenOptions → Outside → Outside → Type 0
+PrintsTrace generator old new = Appends old.sink.taken new.sink.taken (trace_text (generated generator))
+
+-- the sink took the summary of a lawful report of the generated trace, and nothing else
+pub record PrintsSummary (options : Options) (generator : GenOptions) (old new : Outside) : Type 0 where
+  pub report : List Line
+  pub lawful : LawfulReport options (generated generator) report
+  pub printed : Appends old.sink.taken new.sink.taken (summary_text options (generated generator) report)
+
 -- what it means that a command was carried out
 abbrev pub Headline : Option Command → Outside → Outside → Type 0
 Headline (Some (Replay options)) old new = PrintsLawfully options old new
-Headline _ old new = ⊥
+Headline (Some (Gen generator)) old new = PrintsTrace generator old new
+Headline (Some (Bench options generator)) old new = PrintsSummary options generator old new
+Headline None old new = ⊥
 
 -- the text of a lawful report of the trace that the source gave
 pub record IsReportText (options : Options) (old new : SourceFacts) (text : List ℕ) : Type 0 where
@@ -69,6 +84,22 @@ IsDueOfReplay options old new TraceLong text = IfSome old.left IsTooLong × (tex
 IsDueOfReplay options old new ReadFault text = Rose old.faults new.faults × (text ≡ line_of (codes "read fault"))
 IsDueOfReplay options old new _ text = ⊥
 
+-- the text that is due with a status where a trace is generated
+abbrev pub IsDueOfGen : GenOptions → Status → List ℕ → Type 0
+IsDueOfGen generator Done text = text ≡ trace_text (generated generator)
+IsDueOfGen generator _ text = ⊥
+
+-- the summary of a lawful report of the generated trace
+pub record IsSummaryText (options : Options) (generator : GenOptions) (text : List ℕ) : Type 0 where
+  pub report : List Line
+  pub lawful : LawfulReport options (generated generator) report
+  pub spelled : text ≡ summary_text options (generated generator) report
+
+-- the text that is due with a status where a generated trace is run
+abbrev pub IsDueOfBench : Options → GenOptions → Status → List ℕ → Type 0
+IsDueOfBench options generator Done text = IsSummaryText options generator text
+IsDueOfBench options generator _ text = ⊥
+
 -- the text that is due with a status where the words give no command
 abbrev pub IsDueOfNoCommand : Status → List ℕ → Type 0
 IsDueOfNoCommand Usage text = text ≡ line_of (codes "usage")
@@ -77,8 +108,9 @@ IsDueOfNoCommand _ text = ⊥
 -- the text that is due with a status
 abbrev pub IsDue : Option Command → Outside → Outside → Status → List ℕ → Type 0
 IsDue (Some (Replay options)) old new status text = IsDueOfReplay options old.source new.source status text
+IsDue (Some (Gen generator)) old new status text = IsDueOfGen generator status text
+IsDue (Some (Bench options generator)) old new status text = IsDueOfBench options generator status text
 IsDue None old new status text = IsDueOfNoCommand status text
-IsDue _ old new status text = ⊥
 
 -- the sink took a proper prefix of the text, and nothing else
 abbrev pub AppendsPart : SinkFacts → SinkFacts → List ℕ → Type 0
@@ -102,13 +134,15 @@ TellsTrace source = IsSomeAnd source.left (λ bytes. ¬ (IsTooLong bytes) × ((t
 abbrev pub IsUnhindered : Option Command → Outside → Outside → Type 0
 IsUnhindered (Some (Replay options)) old new =
     TellsTrace old.source × ¬ (Rose old.source.faults new.source.faults) × ¬ (Rose old.sink.faults new.sink.faults)
-IsUnhindered _ old new = ⊥
+IsUnhindered (Some (Gen generator)) old new = ¬ (Rose old.sink.faults new.sink.faults)
+IsUnhindered (Some (Bench options generator)) old new = ¬ (Rose old.sink.faults new.sink.faults)
+IsUnhindered None old new = ⊥
 
 -- the source gave at most so many bytes
 abbrev pub GivesAtMost : ℕ → SourceFacts → SourceFacts → Type 0
 GivesAtMost most old new = (bytes : List ℕ) × (length bytes ≤ most) × Consumes old.left new.left bytes
 
--- A replay reads no more than shows that a trace is too long, and nothing else touches the source.
+-- A replay reads no more than shows that a trace is too long. Nothing else touches the source.
 abbrev pub ReadsFor : Option Command → SourceFacts → SourceFacts → Type 0
 ReadsFor (Some (Replay options)) old new = GivesAtMost (MAX_SOURCE_LEN + 1) old new
 ReadsFor _ old new = new ≡ old

@@ -1,15 +1,18 @@
-ghost use Rattle.std.specs.Prelude.{◌≡◌, ◌≢◌, Some, map, string_bytes, false};
+ghost use Rattle.std.specs.Prelude.{◌≡◌, IfOk, true, ◌≢◌, Some, map, string_bytes, false};
 ghost use Rattle.mica_model.specs.Options.{IsValid};
-ghost use Rattle.mica_cmd.specs.declared.command.Command.TheVariants.{Replay};
+ghost use Rattle.mica_cmd.specs.declared.command.Command.TheVariants.{Replay, Gen, Bench};
+ghost use Rattle.mica_trace.specs.TraceGrammar.{trace_text};
+ghost use Rattle.mica_cmd.specs.GenOptions.{is_valid};
+ghost use Rattle.mica_cmd.specs.Generator.{generated};
 ghost use Rattle.mica_cmd.specs.CommandLine.{command_of};
 ghost use Rattle.mica_cmd.specs.Outside.{Outside, SourceFacts, SinkFacts};
-ghost use Rattle.mica_cmd.specs.Top.{KeepsPromises, IsWritten, IsRefusedWith};
+ghost use Rattle.mica_cmd.specs.Top.{KeepsPromises, IsSummaryText, IsWritten, IsRefusedWith};
 
-use crate::{Command, Status, WordsFault, read_words};
-use mica_io::{ReadFault, Sink, Source, read_up_to, write_all};
+use crate::{Command, GenOptions, Status, WordsFault, gen_trace, put_summary, read_words};
+use mica_io::{NoMemory, ReadFault, Sink, Source, read_up_to, write_all};
 use mica_model::Options;
-use mica_replay::{ReplayFault, replay};
-use mica_trace::{TraceFault, read_trace};
+use mica_replay::{ReplayFault, replay, run_trace};
+use mica_trace::{TraceFault, put_trace, read_trace};
 use std::alloc::Global;
 
 /// The most bytes that a source may give.
@@ -77,6 +80,66 @@ fn replay_source<S: Source, K: Sink>(
     }
 }
 
+// Prints the trace that the options generate.
+fn print_trace<K: Sink>(alloc: Global, generator: &GenOptions, sink: &mut K) -> Status
+    requires { is_valid generator.now ≡ true }
+    ensures { (source : SourceFacts) → KeepsPromises (Some (Gen generator.now))
+        (record { source = source; sink = record { taken = K.taken sink.old; faults = K.faults sink.old } })
+        (record { source = source; sink = record { taken = K.taken sink.new; faults = K.faults sink.new } })
+        result }
+{
+    match generated_text(alloc, generator) {
+        Ok(text) => write_due(sink, text.as_slice(), Status::Done),
+        Err(NoMemory) => Status::NoMemory,
+    }
+}
+
+fn generated_text(alloc: Global, generator: &GenOptions) -> Result<Vec<u8>, NoMemory>
+    requires { is_valid generator.now ≡ true }
+    ensures { IfOk result (λ text. text.items ≡ trace_text (generated generator.now)) }
+{
+    let trace = gen_trace(alloc, generator)?;
+    let mut text = Vec::new(alloc);
+    put_trace(&trace, &mut text)?;
+    Ok(text)
+}
+
+// Runs the trace that the options generate, and prints the summary.
+fn print_summary<K: Sink>(
+    alloc: Global,
+    options: &Options,
+    generator: &GenOptions,
+    sink: &mut K,
+) -> Status
+    requires options { IsValid options.now }
+    requires generator { is_valid generator.now ≡ true }
+    ensures { (source : SourceFacts) → KeepsPromises (Some (Bench options.now generator.now))
+        (record { source = source; sink = record { taken = K.taken sink.old; faults = K.faults sink.old } })
+        (record { source = source; sink = record { taken = K.taken sink.new; faults = K.faults sink.new } })
+        result }
+{
+    match summary_of_run(alloc, options, generator) {
+        Ok(text) => write_due(sink, text.as_slice(), Status::Done),
+        Err(NoMemory) => Status::NoMemory,
+    }
+}
+
+fn summary_of_run(
+    alloc: Global,
+    options: &Options,
+    generator: &GenOptions,
+) -> Result<Vec<u8>, NoMemory>
+    requires options { IsValid options.now }
+    requires generator { is_valid generator.now ≡ true }
+    ensures { IfOk result (λ text. IsSummaryText options.now generator.now text.items) }
+{
+    let trace = gen_trace(alloc, generator)?;
+    let report = run_trace(alloc, options, &trace)?;
+    let mut text = Vec::new(alloc);
+    put_summary(options, &trace, &report, &mut text)?;
+    Ok(text)
+}
+
 /// Carries a command out. It reads the words first, then the source, then the trace.
 ///
 /// The contract is the program's: what each status means, the headline with `Done`, which commands are carried out whatever
@@ -100,7 +163,8 @@ pub fn mica<S: Source, K: Sink>(
 {
     match read_words(alloc, words) {
         Ok(Command::Replay(options)) => replay_source(alloc, &options, source, sink),
-        Ok(Command::Gen(_)) | Ok(Command::Bench(_, _)) => Status::NoMemory,
+        Ok(Command::Gen(generator)) => print_trace(alloc, &generator, sink),
+        Ok(Command::Bench(options, generator)) => print_summary(alloc, &options, &generator, sink),
         Err(WordsFault::Usage) => write_due(sink, b"usage\n", Status::Usage),
         Err(WordsFault::NoMemory) => Status::NoMemory,
     }

@@ -1,12 +1,25 @@
 use Rattle.std.proofs.Common.{Err, refl, subst, map, string_bytes}
 use Rattle.mica_cmd.specs.CommandLine.{command_of, IsValidCommand, IsReadingOf}
-use Rattle.mica_cmd.proofs.Endings.{usage_promises}
+use Rattle.mica_cmd.proofs.Endings.{given_promises, memory_promises, usage_promises}
 use Rattle.mica_cmd.proofs.top.mica.Goals as goal
 
 pub replay_source-requires-clause-valid : goal.replay_source-requires-clause-valid
 replay_source-requires-clause-valid g c = subst IsValidCommand c.in-Ok-Replay.field-0-is c.in-Ok-Replay.ensures.1
 
+pub returns-in-Ok-Gen : goal.returns-in-Ok-Gen
+returns-in-Ok-Gen g c =
+    given_promises _ _ _ _ _ _ c.in-Ok-Gen.ensures.0 c.in-Ok-Gen.field-0-is
+    (c.print_trace.ensures (record { left = g.S.Source.left c.args.source.now; has_ended = g.S.Source.has_ended c.args.source.now; faults = g.S.Source.faults c.args.source.now }))
+
+pub returns-in-Ok-Bench : goal.returns-in-Ok-Bench
+returns-in-Ok-Bench g c =
+    given_promises _ _ _ _ _ _ c.in-Ok-Bench.ensures.0 c.in-Ok-Bench.field-0-is
+    (c.print_summary.ensures (record { left = g.S.Source.left c.args.source.now; has_ended = g.S.Source.has_ended c.args.source.now; faults = g.S.Source.faults c.args.source.now }))
+
 pub returns-in-Err-Usage : goal.returns-in-Err-Usage
 returns-in-Err-Usage g c =
     let none = subst (λ e. IsReadingOf (command_of (map string_bytes c.args.words.now)) (Err e)) c.in-Err-Usage.field-0-is c.in-Err-Usage.ensures in
     usage_promises _ _ _ _ none refl c.write_due.ensures
+
+pub returns-in-Err-NoMemory : goal.returns-in-Err-NoMemory
+returns-in-Err-NoMemory g c = memory_promises _ _

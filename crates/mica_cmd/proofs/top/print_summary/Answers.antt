@@ -1,0 +1,9 @@
+use Rattle.std.proofs.Common.{sym, subst}
+use Rattle.mica_cmd.specs.Top.{IsSummaryText}
+use Rattle.mica_cmd.proofs.Endings.{summary_promises}
+use Rattle.mica_cmd.proofs.top.print_summary.Goals as goal
+
+pub returns-in-Ok : goal.returns-in-Ok
+returns-in-Ok g c =
+    let is = subst (IsSummaryText c.args.options.now c.args.generator.now) (sym c.as_slice.ensures.value) c.in-Ok.ensures in
+    λ source. summary_promises c.args.options.now c.args.generator.now source _ _ c.as_slice.result.now _ is c.write_due.ensures
