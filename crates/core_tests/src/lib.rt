@@ -4,6 +4,8 @@
 #[cfg(test)]
 mod cache_put;
 #[cfg(test)]
+mod every_cut;
+#[cfg(test)]
 mod one_spare;
 #[cfg(test)]
 mod same_as_machine;
