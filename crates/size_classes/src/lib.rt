@@ -1,0 +1,38 @@
+//! Classes of sizes, for lists of free blocks.
+//!
+//! The layer above may rely on this: a larger size has no lower class, and classes are below 64. So a block
+//! of a class above that of a need is always large enough.
+#![tactic(auto)]
+
+ghost use Rattle.std.specs.Prelude.{◌≡◌, ◌<◌, ◌≤◌, ◌^◌, ℕ};
+ghost use Rattle.size_classes.specs.Classes.{class_of};
+
+/// How many classes there are.
+pub const CLASSES: u32 = 64;
+
+/// The class of a size.
+pub fn class_of(words: u32) -> u32
+    requires some { 1 ≤ words }
+    requires limit { words ≤ 1048576 }
+    ensures formula { result ≡ class_of words }
+    ensures never_falls { (fewer : ℕ) → 1 ≤ fewer → fewer ≤ words → class_of fewer ≤ result }
+    ensures below { result < CLASSES }
+{
+    if words < 32 {
+        return words - 1;
+    }
+    let highest = 31 - words.leading_zeros();
+    31 + 2 * (highest - 5) + (words >> (highest - 1)) % 2
+}
+
+/// The least size of the class: no size of it is below.
+pub fn least_of(class: u32) -> u32
+    requires { class < CLASSES }
+    ensures { (words : ℕ) → 1 ≤ words → words < 2 ^ 32 → class_of words ≡ class → result ≤ words }
+{
+    if class < 31 {
+        return class + 1;
+    }
+    let half = class - 31;
+    (2 + half % 2) << (4 + half / 2)
+}
