@@ -8,16 +8,19 @@ use mica_io::Bytes;
 use mica_words::{bucket_of, key_hash, tail_of};
 use std::marker::Model;
 
-/// What the log has of a key.
+/// What the log has of a key, and the key's hash, so that no step hashes the keys of other records.
 #[derive(Drop)]
 pub struct CacheRecord {
     key: Bytes,
+    hash: u64,
     value: Bytes,
     offset: u64,
     room: u32,
 }
 
 impl Model for CacheRecord {
+    ghost use Rattle.std.specs.Prelude.{◌≡◌};
+    ghost use Rattle.mica_words.specs.Hash.{fnv1a};
     ghost use Rattle.mica_model.specs.Cache.{Record};
     ghost use Rattle.mica_model.specs.Codes.{record_code};
 
@@ -26,6 +29,8 @@ impl Model for CacheRecord {
     ghost coded = { record_code };
 
     ghost view = { λ r. record { key = r.key; value = r.value; offset = r.offset; room = r.room } };
+
+    ghost invariant = { λ r. r.hash ≡ fnv1a r.key };
 }
 
 impl CacheRecord {
@@ -33,6 +38,7 @@ impl CacheRecord {
         ensures { result ≡ record { key = key; value = value; offset = offset; room = room } }
     {
         CacheRecord {
+            hash: key_hash(key.bytes()),
             key,
             value,
             offset,
@@ -77,7 +83,7 @@ impl CacheRecord {
         requires { IsValid options.now }
         ensures { result ≡ is_in options.now bucket self.now }
     {
-        bucket_of(key_hash(self.key.bytes()), options.buckets) == bucket
+        bucket_of(self.hash, options.buckets) == bucket
     }
 
     pub fn rewrite(&mut self, value: Bytes)
