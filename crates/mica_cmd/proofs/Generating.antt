@@ -18,7 +18,7 @@ use Rattle.rand_pcg.specs.Pcg.{multiplier_64, pcg32}
 use Rattle.mica_trace.specs.declared.line.TraceOp.{TraceOp}
 use Rattle.mica_trace.specs.declared.line.TraceOp.TheVariants.{Put, Del, Get, Sync}
 use Rattle.mica_trace.specs.declared.line.TraceLine.{TraceLine}
-use Rattle.mica_trace.specs.TraceGrammar.{IsKey, IsValue, IsTraceLine, is_sync, is_sync_op, sync_line, syncs_in, IsWithinLimits}
+use Rattle.mica_trace.specs.TraceGrammar.{trace_text, line_text, op_text, IsKey, IsValue, IsTraceLine, is_sync, is_sync_op, sync_line, syncs_in, IsWithinLimits}
 use Rattle.mica_trace.proofs.LineLemmas.{syncs_cons}
 use Rattle.mica_cmd.specs.declared.gen_options.GenOptions.{GenOptions}
 use Rattle.mica_cmd.specs.GenOptions.{are_in_ranges, has_room, is_valid, syncs_of, longest_text}
@@ -352,3 +352,62 @@ module _ (options : GenOptions) (facts : GenFacts options) where
       let rounds = facts.rounds in
       let most = facts.lines in
       record { few_lines = omega arith; few_rounds = omega arith }
+
+-- the bytes of the text
+
+text_append : (xs ys : List TraceLine) → length (trace_text (xs ++ ys)) ≡ length (trace_text xs) + length (trace_text ys)
+text_append xs ys = ap length (flat_map-append (λ line. line_text line ++ 10 ∷ []) xs ys) ∙ length-append (trace_text xs) (trace_text ys)
+
+text_of_one : (line : TraceLine) → length (trace_text (line ∷ [])) ≡ length (line_text line) + 1
+text_of_one line = ap length (append-nil (line_text line ++ 10 ∷ [])) ∙ length-append (line_text line) (10 ∷ [])
+
+op_length : (options : GenOptions) (op : TraceOp) (key : List ℕ) (i : ℕ) → is_sync_op op ≡ false → length key ≡ options.key_len → length (padded options.value_len i) ≡ options.value_len
+    → length (op_text op key (value_by options op i)) ≤ 5 + options.key_len + options.value_len
+op_length options Put key i plain key_is value_is = let parts = length-append key (32 ∷ padded options.value_len i) in omega arith
+op_length options Del key i plain key_is value_is = omega arith
+op_length options Get key i plain key_is value_is = omega arith
+op_length options Sync key i plain key_is value_is = absurd (false≢true (sym plain))
+
+module _ (options : GenOptions) (facts : GenFacts options) where
+  operation_length : (i : ℕ) → i < options.ops → length (line_text (operation options i)) ≤ 5 + options.key_len + options.value_len
+  operation_length i less =
+      let number = key_number options (word options (3 * i + 1)) (word options (3 * i + 2)) in
+      let few = few_keys options facts (word options (3 * i + 1)) (word options (3 * i + 2)) in
+      let most = facts.ops_high in
+      let key_low = facts.key_low in
+      let value_low = facts.value_low in
+      let digits = five_digits number (omega arith) in
+      let key = length_padded (options.key_len - 1) number (omega arith) in
+      let key_is : length (key_by options number) ≡ options.key_len = omega arith in
+      let value_digits = five_digits i (omega arith) in
+      op_length options (op_by options (word options (3 * i))) (key_by options number) i (no_sync options (word options (3 * i))) key_is (length_padded options.value_len i (omega arith))
+
+  length_at : (i : ℕ) → i < options.ops → length (trace_text (lines_at options i)) ≤ 6 + options.key_len + options.value_len + 5 * cond (ends_round options i) 1 0
+  length_at i less = go (ends_round options i) (operation_length i less)
+    where
+      go : (ends : Bool) → length (line_text (operation options i)) ≤ 5 + options.key_len + options.value_len
+          → length (trace_text (operation options i ∷ cond ends (sync_line ∷ []) [])) ≤ 6 + options.key_len + options.value_len + 5 * cond ends 1 0
+      go true short = let both = text_append (operation options i ∷ []) (sync_line ∷ []) in let one = text_of_one (operation options i) in omega arith
+      go false short = let one = text_of_one (operation options i) in omega arith
+
+  first_length : (n : ℕ) → n ≤ options.ops → length (trace_text (first_lines options n)) ≤ n * (6 + options.key_len + options.value_len) + 5 * syncs_in (first_lines options n)
+  first_length zero le = omega arith
+  first_length (suc n) le =
+      let before = first_length n (omega arith) in
+      let here = length_at n (omega arith) in
+      let counted = (counted_at options facts n).syncs_are in
+      let syncs = sum_by-append (λ l. cond (is_sync l) 1 0) (first_lines options n) (lines_at options n) in
+      let text = text_append (first_lines options n) (lines_at options n) in
+      subst (λ lines. length (trace_text lines) ≤ suc n * (6 + options.key_len + options.value_len) + 5 * syncs_in lines) (sym (first_more options n)) (omega arith)
+
+  -- the text is no longer than a source may be
+  short_text : length (trace_text (generated options)) ≤ 16777216
+  short_text =
+      let some = facts.ops_low in
+      let syncs = (counted_last options facts (options.ops - 1) (omega arith)).syncs_are in
+      let long = first_length options.ops (omega arith) in
+      let most = facts.bytes in
+      omega arith
+
+pub text_fits : (options : GenOptions) → is_valid options ≡ true → length (trace_text (generated options)) ≤ 16777216
+text_fits options valid = short_text options (gen_facts options valid)

@@ -1,10 +1,11 @@
 // Generates traces.
 ghost use Rattle.std.specs.Prelude.{◌≡◌, ◌≤◌, ◌<◌, ◌+◌, ◌*◌, ◌++◌, length, true, IfOk, OnOk};
 ghost use Rattle.std.specs.Fmt.{decimal};
+ghost use Rattle.mica_trace.specs.TraceGrammar.{trace_text};
 ghost use Rattle.mica_cmd.specs.GenOptions.{is_valid};
 ghost use Rattle.mica_cmd.specs.Generator.{generator, op_by, key_number, padded, key_by, value_by, operation, ends_round, lines_at, generated};
 
-use crate::GenOptions;
+use crate::{GenOptions, MAX_SOURCE_LEN};
 use itoa::write_digits;
 use mica_io::{Bytes, NoMemory};
 use mica_trace::{Trace, TraceLine, TraceOp};
@@ -137,7 +138,10 @@ fn push_operation(
 /// The trace that the options generate.
 pub fn gen_trace(alloc: Global, options: &GenOptions) -> Result<Trace, NoMemory>
     requires { is_valid options.now ≡ true }
-    ensures { IfOk result (λ trace. trace ≡ generated options.now) }
+    ensures trace { IfOk result (λ trace. trace ≡ generated options.now) }
+
+    // Its text is no longer than a source may be.
+    ensures room { length (trace_text (generated options.now)) ≤ MAX_SOURCE_LEN }
 {
     let mut words = Pcg32::new(options.seed, STREAM);
     let mut lines = Vec::with_capacity(alloc, (options.ops + options.syncs()) as usize)?;

@@ -2,7 +2,7 @@ use Rattle.std.proofs.Common.{◌≡◌, ◌++◌, ◌∙◌, ap, sym, subst, ar
 use Rattle.std.specs.List.{AllByRecursion}
 use Rattle.mica_trace.specs.TraceGrammar.{IsTraceLine, IsWithinLimits}
 use Rattle.mica_cmd.specs.Generator.{lines_at}
-use Rattle.mica_cmd.proofs.Generating.{first_lines, gen_facts, at_start, first_next, all_fit, within_limits}
+use Rattle.mica_cmd.proofs.Generating.{first_lines, gen_facts, at_start, first_next, all_fit, within_limits, text_fits}
 use Rattle.mica_cmd.proofs.generator.gen_trace.Goals as goal
 
 pub loop-number-init : goal.loop-number-init
@@ -29,3 +29,12 @@ of-requires-clause-few c =
     let ended : c.loop-number.number ≡ c.args.options.now.ops = omega arith in
     let whole = c.loop-number.invariant.lines ∙ ap (first_lines c.args.options.now) ended in
     subst IsWithinLimits (sym whole) (within_limits c.args.options.now (gen_facts c.args.options.now c.requires))
+
+pub returns-in_err-lines-clause-room : goal.returns-in_err-lines-clause-room
+returns-in_err-lines-clause-room c = text_fits c.args.options.now c.requires
+
+pub returns-in_err-push_operation-clause-room : goal.returns-in_err-push_operation-clause-room
+returns-in_err-push_operation-clause-room c = text_fits c.args.options.now c.requires
+
+pub returns-clause-room : goal.returns-clause-room
+returns-clause-room c = text_fits c.args.options.now c.requires
