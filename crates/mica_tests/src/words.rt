@@ -1,10 +1,13 @@
 //! Hashes, entries, headers, packed bytes and sizes.
 
+ghost use Rattle.std.specs.Prelude.{◌≤◌};
+
 use mica_words::{
     bucket_of, entry_of, entry_offset, entry_tag, header_key_len, header_of, header_room,
     header_value_len, item_size, key_fits, key_hash, pack, partition_of, tag_of, tail_of, unpack,
     value_fits,
 };
+use size_classes::class_of;
 use std::process::Abort;
 use std::test::Fail;
 
@@ -168,4 +171,22 @@ fn what_fits(rt: HostRuntime) -> Result<(), Fail> {
         assert_eq!(rt; value_fits(&bytes[..len]), is_value, "{len}");
     }
     Ok(())
+}
+
+fn expect_class(rt: &impl Abort, words: u32, class: u32)
+    requires some { 1 ≤ words }
+    requires limit { words ≤ 1048576 }
+{
+    let found = class_of(words);
+    assert!(rt; found == class);
+}
+
+#[test]
+fn classes_of_sizes(rt: HostRuntime) {
+    expect_class(&rt, 1, 0);
+    expect_class(&rt, 31, 30);
+    expect_class(&rt, 32, 31);
+    expect_class(&rt, 48, 32);
+    expect_class(&rt, 64, 33);
+    expect_class(&rt, 1_048_576, 61);
 }
