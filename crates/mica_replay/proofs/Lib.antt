@@ -1,4 +1,13 @@
-pub mod InOrder
-pub mod Following
-pub mod Running
-pub mod ShapeSteps
+pub mod OwnerRuns
+pub mod ReaderSteps
+pub mod MergedReport
+pub mod ClosedTries
+pub mod NextRound
+pub mod SeatMeets
+pub mod RoundSteps
+pub mod RoundShares
+pub mod RoundEnds
+pub mod LineShares
+pub mod RoundPrints
+pub mod OneRound
+pub mod WorkerParts

@@ -1,4 +1,12 @@
-pub mod Machines
-pub mod Replied
+pub mod Replies
+pub mod LineNumbers
+pub mod ReaderGets
+pub mod Replayed
 pub mod Printed
-pub mod Reads
+pub mod Answered
+pub mod Lending
+pub mod Workers
+pub mod Between
+pub mod RoundRun
+pub mod Shares
+pub mod Merged

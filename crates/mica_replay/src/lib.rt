@@ -1,9 +1,24 @@
-//! The replay of a trace: one machine for each partition, and a report that is lawful for the trace.
+//! The replay of a trace, in rounds that its syncs part: in each, every partition's owner and every reader work side by
+//! side, each in a thread of its own, and at its end all readers' seats meet their owners.
+//!
+//! The layer above may rely on this: the report is lawful for the trace, and the kept seats are those through which the
+//! owners wrote and the readers answered (`IsReplayed`).
 #![tactic(auto)]
 
-mod machine;
+mod done;
+mod lending;
+mod merging;
+mod owner;
 mod printing;
+mod reader;
+mod round;
+mod rounds;
 mod run;
+mod sharing;
+mod worker;
 
+pub use done::Done;
+pub use owner::run_owner;
 pub use printing::{ReplayFault, replay};
+pub use reader::{Found, run_reader};
 pub use run::run_trace;

@@ -1,16 +1,19 @@
-ghost use Rattle.std.specs.Prelude.{◌≡◌, ◌≤◌, ◌<◌, ℕ, List, length, take, IfOk, OnOk, IsErrOf};
+//! A replay: a trace's report, written as a whole.
+ghost use Rattle.std.specs.Prelude.{◌≡◌, ◌≤◌, [], IfOk, OnOk, IsErrOf};
 ghost use Rattle.std.specs.List.{AllByRecursion};
-ghost use Rattle.std.specs.Io.KnownBytes.{Appends};
 ghost use Rattle.mica_io.specs.Faults.{Rose};
 ghost use Rattle.mica_model.specs.Options.{IsValid};
 ghost use Rattle.mica_trace.specs.ReportGrammar.{report_text, IsReportLine};
 ghost use Rattle.mica_replay.specs.Printed.{PrintsReport, PrintsPart};
 
 use crate::run_trace;
-use mica_io::{Failed, NoMemory, Sink, write_all};
+use mica_io::{Failed, Gate, NoMemory, Sink, write_all};
 use mica_model::Options;
 use mica_trace::{Report, Trace, put_report_line};
+use partition_table::Tables;
 use std::alloc::Global;
+use std::sync::Wait;
+use std::thread::Threads;
 
 /// Why a replay did not end.
 #[derive(Clone, Copy, Debug, PartialEq, Eq)]
@@ -52,23 +55,34 @@ fn text_of(alloc: Global, report: &Report) -> Result<Vec<u8>, NoMemory>
     Ok(text)
 }
 
-/// Writes a lawful report of the trace. Its whole text is made before the first byte is written.
-pub fn replay<K: Sink>(
+/// Writes a lawful report of the trace, and keeps the owners' seats. Its whole text is made before the first byte
+/// is written.
+pub fn replay<W: Threads + Wait + Sync, K: Sink, G: Gate>(
+    rt: &W,
     alloc: Global,
     options: &Options,
     trace: &Trace,
     sink: &mut K,
+    gate: &G,
+    tables: &mut Tables,
 ) -> Result<(), ReplayFault>
-    requires { IsValid options.now }
+    requires valid { IsValid options.now }
+    requires tables { tables.old ≡ [] }
 
-    ensures ok { OnOk result (PrintsReport options.now trace.now (K.taken sink.old) (K.taken sink.new)) }
+    ensures ok { OnOk result (PrintsReport options.now trace.now (K.taken sink.old) (K.taken sink.new) tables.new) }
     ensures fault { IsErrOf result ReplayFault.Write → Rose (K.faults sink.old) (K.faults sink.new)
-        × PrintsPart options.now trace.now (K.taken sink.old) (K.taken sink.new) }
-    ensures unwritten { IsErrOf result ReplayFault.NoMemory → sink.new ≡ sink.old }
+        × PrintsPart options.now trace.now (K.taken sink.old) (K.taken sink.new) tables.new }
+    ensures unwritten { IsErrOf result ReplayFault.NoMemory → (sink.new ≡ sink.old) × (tables.new ≡ []) }
     ensures never_fall { K.faults sink.old ≤ K.faults sink.new }
 {
-    let report = run_trace(alloc, options, trace)?;
-    let text = text_of(alloc, &report)?;
+    let report = run_trace(rt, alloc, options, trace, gate, tables)?;
+    let text = match text_of(alloc, &report) {
+        Ok(text) => text,
+        Err(_) => {
+            *tables = Tables::new();
+            return Err(ReplayFault::NoMemory);
+        }
+    };
     write_all(sink, text.as_slice())?;
     Ok(())
 }

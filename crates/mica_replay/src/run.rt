@@ -1,133 +1,180 @@
-ghost use Rattle.std.specs.Prelude.{◌≡◌, ◌<◌, ◌≤◌, IfOk, OnOk, map};
-ghost use Rattle.mica_words.specs.Item.{KeyFits};
+//! A trace from its owners' making to the keeping of their seats.
+ghost use Rattle.std.specs.Prelude.{◌≡◌, ◌≤◌, ◌+◌, ◌++◌, [], ℕ, Some, IfOk, OnErr, map, length, slice_get};
+ghost use Rattle.mica_model.specs.declared.options.Mode.{Mode};
 ghost use Rattle.mica_model.specs.Options.{IsValid};
-ghost use Rattle.mica_model.specs.Write.{HasValueOf, write_of};
-ghost use Rattle.mica_trace.specs.TraceGrammar.{IsTraceLine};
-ghost use Rattle.mica_trace.specs.ExactReport.{ExactReport};
-ghost use Rattle.mica_trace.specs.LawfulReport.{LawfulReport};
-ghost use Rattle.mica_replay.specs.Machines.{AreNew};
-ghost use Rattle.mica_replay.specs.Replied.{IsWriteLine, IsReadLine, Replied};
+ghost use Rattle.epoch_core.specs.declared.state.Phase.TheVariants.{Idle};
+ghost use Rattle.epoch_core.specs.declared.state.OwnerState.{OwnerState};
+ghost use Rattle.epoch_core.specs.Shape.{shape_of};
+ghost use Rattle.epoch_core.specs.OwnerState.{as_made};
+ghost use Rattle.partition_table.specs.Rule.{owner_in};
+ghost use Rattle.mica_replay.specs.Lending.{OwnerPart, owner_part};
+ghost use Rattle.mica_replay.specs.RoundRun.{reader_part, AreMade, AreFree, kept_of};
+ghost use Rattle.mica_replay.specs.Replayed.{IsReplayed};
 
-use crate::machine::Machine;
+use crate::done::Done;
+use crate::rounds::run_rounds;
+use crate::worker::{OwnerWork, ReaderWork};
 use cache_partition::CachePartition;
-use mica_io::{Bytes, NoMemory};
-use mica_model::{Answer, ItemBuf, Mode, Op, Options};
-use mica_trace::{Line, Report, Trace, TraceLine, TraceOp};
-use mica_words::{key_hash, partition_of};
-use partition_table::OwnerSeat;
+use epoch_core::{LendPartition, Partition, ReaderWords, Shape};
+use mica_io::{Gate, NoMemory};
+use mica_model::{Mode, Options};
+use mica_trace::{Report, Trace};
+use partition_table::{Note, OwnerSeat, ReaderSeat, Tables, make};
 use std::alloc::Global;
+use std::sync::Wait;
+use std::thread::Threads;
 use store_partition::StorePartition;
 
-// One machine for each partition.
-fn new_machines<M: Machine>(alloc: Global, options: &Options) -> Result<Vec<M>, NoMemory>
+// A partition over an owner's seat, which can be kept when the run has ended.
+pub trait OnTable: Drop {
+    // The mode that it is for.
+    ghost mode: { Mode };
+
+    ghost state: { Self → OwnerState };
+
+    fn new(alloc: Global, options: &Options) -> Result<Self, NoMemory>
+        requires valid { IsValid options.now }
+        requires mode { options.now.mode ≡ Self.mode }
+        ensures made { IfOk result (λ p. Self.state p ≡ as_made (shape_of options.now)) };
+
+    fn into_seat(self) -> OwnerSeat
+        ensures { owner_in result.seat.me.0 ≡ Self.state self };
+}
+
+impl OnTable for CachePartition<OwnerSeat> {
+    ghost use Rattle.mica_model.specs.declared.options.Mode.TheVariants.{Cache};
+
+    ghost mode = { Cache };
+
+    ghost state = { λ p. ⟦<CachePartition<OwnerSeat> as Partition>⟧.owner p };
+
+    fn new(alloc: Global, options: &Options) -> Result<Self, NoMemory> {
+        let words = make(alloc, &Shape::of(options))?;
+        Ok(CachePartition::new(words))
+    }
+
+    fn into_seat(self) -> OwnerSeat {
+        self.into_words()
+    }
+}
+
+impl OnTable for StorePartition<OwnerSeat> {
+    ghost use Rattle.mica_model.specs.declared.options.Mode.TheVariants.{Store};
+
+    ghost mode = { Store };
+
+    ghost state = { λ p. ⟦<StorePartition<OwnerSeat> as Partition>⟧.owner p };
+
+    fn new(alloc: Global, options: &Options) -> Result<Self, NoMemory> {
+        let words = make(alloc, &Shape::of(options))?;
+        StorePartition::new(alloc, words)
+    }
+
+    fn into_seat(self) -> OwnerSeat {
+        self.into_words()
+    }
+}
+
+// One owner for each partition.
+fn make_owners<P: OnTable + Partition>(alloc: Global, options: &Options) -> Result<Vec<OwnerWork<P>>, NoMemory>
     requires valid { IsValid options.now }
-    requires mode { options.now.mode ≡ M.mode }
-    ensures { IfOk result (λ machines. AreNew options.now
-        (map (λ m. record { options = M.own_options m; state = M.state m }) machines.items)) }
+    requires mode { options.now.mode ≡ P.mode }
+    requires same { (p : P) → P.state p ≡ P.owner p }
+    ensures { IfOk result (λ owners. AreMade options.now (map (λ w. owner_part P.owner P.home w) owners.items)) }
 {
-    let mut machines = Vec::with_capacity(alloc, options.partitions as usize)?;
-    for _ in 0..options.partitions {
-        machines.push(M::new(alloc, options)?)?;
+    let mut owners = Vec::with_capacity(alloc, options.partitions as usize)?;
+    for p in 0..options.partitions {
+        owners.push(OwnerWork {
+            part: P::new(alloc, options)?,
+            worker: options.readers + p,
+            writes: Vec::new(alloc),
+            done: Done::new(alloc, 0)?,
+        })?;
     }
-    Ok(machines)
+    Ok(owners)
 }
 
-fn write<M: Machine>(
+// As many readers as the options say, without seats.
+fn make_readers<R: ReaderWords>(
     alloc: Global,
-    machine: &mut M,
-    op: Op,
-    line: &TraceLine,
-) -> Result<Line, NoMemory>
-    requires key { KeyFits line.now.key }
-    requires value { HasValueOf op line.now.value }
-    ensures written { IfOk result (λ printed. IsWriteLine (M.own_options machine.old) (M.state machine.old)
-        (write_of op line.now.key line.now.value) printed (M.state machine.new)) }
-    ensures options { M.own_options machine.new ≡ M.own_options machine.old }
+    options: &Options,
+) -> Result<Vec<ReaderWork<R>>, NoMemory>
+    requires valid { IsValid options.now }
+    ensures { IfOk result (λ readers. AreFree options.now (map (λ r. reader_part R.reader R.home r) readers.items)) }
 {
-    let outcome = machine.step(alloc, op, line.key.bytes(), line.value.bytes())?;
-    let stamp = machine.stamp();
-    Ok(Line::Wrote { op, outcome, stamp })
-}
-
-fn read<M: Machine>(
-    alloc: Global,
-    machine: &mut M,
-    key: &[u8],
-    out: &mut ItemBuf,
-) -> Result<Line, NoMemory>
-    requires { KeyFits key.now }
-    ensures read { IfOk result (λ printed. IsReadLine (M.state machine.old) key.now printed (M.state machine.new)) }
-    ensures options { M.own_options machine.new ≡ M.own_options machine.old }
-{
-    let stamp = machine.stamp();
-    match machine.answer(key, out) {
-        Answer::Hit => Ok(Line::Hit {
-            stamp,
-            value: Bytes::copy(alloc, out.value())?,
-        }),
-        Answer::Miss => Ok(Line::Miss { stamp }),
+    let mut readers = Vec::with_capacity(alloc, options.readers as usize)?;
+    for q in 0..options.readers {
+        readers.push(ReaderWork {
+            seats: Vec::new(alloc),
+            worker: q,
+            gets: Vec::new(alloc),
+            found: None,
+        })?;
     }
+    Ok(readers)
 }
 
-// What the machine replies to a line.
-fn reply_to<M: Machine>(
-    alloc: Global,
-    machine: &mut M,
-    line: &TraceLine,
-    out: &mut ItemBuf,
-) -> Result<Line, NoMemory>
-    requires { IsTraceLine line.now }
-    ensures replied { IfOk result (λ printed. Replied (M.own_options machine.old) (M.state machine.old)
-        line.now printed (M.state machine.new)) }
-    ensures options { M.own_options machine.new ≡ M.own_options machine.old }
+// Keeps the seats of all owners, in order.
+fn keep_all<P: OnTable + Partition>(owners: Vec<OwnerWork<P>>, tables: &mut Tables)
+    requires same { (p : P) → P.state p ≡ P.owner p }
+    requires room { length tables.old + length owners.items ≤ 16 }
+    requires idle { (p : ℕ) (w : OwnerPart) → slice_get (map (λ w. owner_part P.owner P.home w) owners.items) p ≡ Some w → w.state.phase ≡ Idle }
+    ensures { tables.new ≡ tables.old ++ map kept_of (map (λ w. owner_part P.owner P.home w) owners.items) }
 {
-    match line.op {
-        TraceOp::Put => write(alloc, machine, Op::Put, line),
-        TraceOp::Del => write(alloc, machine, Op::Del, line),
-        TraceOp::Get => read(alloc, machine, line.key.bytes(), out),
-        TraceOp::Sync => Ok(Line::Sync),
+    let mut left = owners.into_iter();
+    while let Some(owner) = left.next() {
+        tables.keep(owner.part.into_seat());
     }
 }
 
-// Answers each get at its place.
-fn run_in_order<M: Machine>(
+// The report of a trace, by one owner for each partition and readers beside them.
+fn run_on<
+    W: Threads + Wait + Sync,
+    P: OnTable + LendPartition<Reader = ReaderSeat, Note = Note> + Send,
+    G: Gate,
+>(
+    rt: &W,
     alloc: Global,
     options: &Options,
     trace: &Trace,
+    gate: &G,
+    tables: &mut Tables,
 ) -> Result<Report, NoMemory>
     requires valid { IsValid options.now }
-    requires mode { options.now.mode ≡ M.mode }
-    ensures { IfOk result (ExactReport options.now trace.now) }
+    requires mode { options.now.mode ≡ P.mode }
+    requires same { (p : P) → P.state p ≡ P.owner p }
+    requires tables { tables.old ≡ [] }
+    ensures ok { IfOk result (λ report. IsReplayed options.now trace.now report tables.new) }
+    ensures none { OnErr result (tables.new ≡ []) }
 {
-    let mut machines = new_machines::<M>(alloc, options)?;
-    let mut out = ItemBuf::new(alloc)?;
-    let mut report = Report::with_capacity(alloc, trace.len())?;
-    for line in trace.lines() {
-        let partition = partition_of(key_hash(line.key.bytes()), options.partitions) as usize;
-        let printed = reply_to(alloc, &mut machines[partition], line, &mut out)?;
-        report.push(printed)?;
-    }
+    let mut owners = make_owners::<P>(alloc, options)?;
+    let mut readers = make_readers::<ReaderSeat>(alloc, options)?;
+    let report = run_rounds(rt, alloc, options, trace, gate, &mut owners, &mut readers)?;
+    keep_all(owners, tables);
     Ok(report)
 }
 
-fn run_on<M: Machine>(alloc: Global, options: &Options, trace: &Trace) -> Result<Report, NoMemory>
+/// The report of a trace. In each round each partition has an owner and each reader seats of all partitions, all
+/// in threads of their own. The owners' seats are kept, in the order of the partitions.
+pub fn run_trace<W: Threads + Wait + Sync, G: Gate>(
+    rt: &W,
+    alloc: Global,
+    options: &Options,
+    trace: &Trace,
+    gate: &G,
+    tables: &mut Tables,
+) -> Result<Report, NoMemory>
     requires valid { IsValid options.now }
-    requires mode { options.now.mode ≡ M.mode }
-    ensures { IfOk result (LawfulReport options.now trace.now) }
-{
-    let report = run_in_order::<M>(alloc, options, trace)?;
-    Ok(report)
-}
-
-/// The report of a trace, by one machine for each partition, on one thread.
-///
-/// A partition is a log under a lossy index in cache mode, a heap under a lossless one in store mode, over words of its own.
-pub fn run_trace(alloc: Global, options: &Options, trace: &Trace) -> Result<Report, NoMemory>
-    requires { IsValid options.now }
-    ensures { IfOk result (LawfulReport options.now trace.now) }
+    requires tables { tables.old ≡ [] }
+    ensures ok { IfOk result (λ report. IsReplayed options.now trace.now report tables.new) }
+    ensures none { OnErr result (tables.new ≡ []) }
 {
     match options.mode {
-        Mode::Cache => run_on::<CachePartition<OwnerSeat>>(alloc, options, trace),
-        Mode::Store => run_on::<StorePartition<OwnerSeat>>(alloc, options, trace),
+        Mode::Cache => {
+            run_on::<W, CachePartition<OwnerSeat>, G>(rt, alloc, options, trace, gate, tables)
+        }
+        Mode::Store => {
+            run_on::<W, StorePartition<OwnerSeat>, G>(rt, alloc, options, trace, gate, tables)
+        }
     }
 }

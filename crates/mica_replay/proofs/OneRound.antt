@@ -1,0 +1,188 @@
+-- A round, from the parts of its workers to what is printed for it.
+use Rattle.std.proofs.Common.{◌≡◌, ℕ, zero, suc, ◌+◌, ◌<◌, ◌≤◌, ◌^◌, List, [], ◌∷◌, ◌++◌, ◌-◌, length, map, take, drop, slice_get, Some, refl, sym, ap, ◌∙◌, subst, arith, Bool, true, false, cond}
+use Rattle.std.specs.Prelude.{option_map}
+use Rattle.std.specs.List.{AllZip, AllByRecursion}
+use Rattle.std.proofs.lemmas.List.{length-map}
+use Rattle.std.proofs.lemmas.List.Sums.{sum_by-cons, sum_by-append}
+use Rattle.std.proofs.lemmas.Option.{slice_get-map, slice_get_within}
+use Rattle.mica_model.specs.declared.options.Options.{Options}
+use Rattle.mica_model.specs.Options.{IsValid}
+use Rattle.mica_trace.specs.declared.line.TraceLine.{TraceLine}
+use Rattle.mica_trace.specs.declared.report.Line.{Line}
+use Rattle.mica_trace.specs.TraceGrammar.{IsTraceLine}
+use Rattle.epoch_core.specs.declared.state.OwnerState.{OwnerState}
+use Rattle.mica_trace.specs.RoundReport.{EndsRound, IsOneRound, is_get, gets_in}
+use Rattle.mica_replay.specs.LineNumbers.{lines_at}
+use Rattle.mica_replay.specs.Merged.{IsMerged}
+use Rattle.mica_replay.specs.ReaderGets.{HaveRead}
+use Rattle.mica_replay.specs.Replies.{Reply}
+use Rattle.mica_trace.specs.RoundReport.{HasKind}
+use Rattle.mica_replay.specs.Between.{IsReplaying, HasRound}
+use Rattle.mica_replay.specs.Lending.{OwnerPart, lent_part}
+use Rattle.mica_replay.specs.RoundRun.{ReaderPart, AreReady, HasRunRound, IsSplit, AreFree, state_of_owner, replies_of, found_of}
+use Rattle.mica_replay.specs.Shares.{Each, KeepsGets, IsShared}
+use Rattle.mica_replay.specs.Merged.{AreEnough, HasMerged}
+use Rattle.mica_replay.proofs.ReaderSteps.{at_within}
+use Rattle.mica_replay.proofs.RoundSteps.{same_map}
+use Rattle.mica_replay.proofs.RoundShares.{shares, found_is}
+use Rattle.mica_replay.proofs.NextRound.{next_round}
+
+same_at : {Z : Type 0} {x y : Z} → Some x ≡ Some y → x ≡ y
+same_at is = cc
+
+module _ (options : Options) (valid : IsValid options) (trace before round : List TraceLine) (report : List Line) (owner_parts given : List OwnerPart) (reader_parts asked : List ReaderPart)
+    (few : length round < 2 ^ 32) (so_far : IsReplaying options before report (map state_of_owner owner_parts)) (free : AreFree options reader_parts)
+    (shared : IsShared options trace (gets_in before) round owner_parts given reader_parts asked) where
+  same_states : map state_of_owner given ≡ map state_of_owner owner_parts
+  same_states = same_map state_of_owner owner_parts given shared.owners.many (λ n x y is_x is_y. (shared.owners.each n x y is_x is_y).0.keeps.state)
+
+  given_many : length given ≡ options.partitions
+  given_many = shared.owners.many ∙ sym (length-map owner_parts state_of_owner) ∙ so_far.many
+
+  asked_many : length asked ≡ options.readers
+  asked_many = shared.readers.many ∙ free.many
+
+  split : IsSplit options trace (gets_in before) round given asked
+  split = record {
+    owners = given_many;
+    readers = asked_many;
+    writes = λ p w is.
+        let less = slice_get_within given p w is in
+        let many = shared.owners.many in
+        let old = at_within owner_parts p (omega arith) in
+        (shared.owners.each p old.0 w old.1 is).0.writes;
+    gets = λ q t is.
+        let less = slice_get_within asked q t is in
+        let many = shared.readers.many in
+        let old = at_within reader_parts q (omega arith) in
+        (shared.readers.each q old.0 t old.1 is).gets;
+  }
+
+  pub are_ready : AreReady trace options given asked
+  are_ready = record {
+    owners = given_many;
+    readers = let some = valid.readers.0 in let many = asked_many in omega arith;
+    each_owner = λ p w is.
+        let less = slice_get_within given p w is in
+        let many = shared.owners.many in
+        let old = at_within owner_parts p (omega arith) in
+        let it = shared.owners.each p old.0 w old.1 is in
+        let at = slice_get-map state_of_owner owner_parts p ∙ ap (option_map state_of_owner) old.1 in
+        record {
+          shape = ap (λ (o : OwnerState). o.shape) it.0.keeps.state ∙ (so_far.each p old.0.state at).shape;
+          named = it.0.named;
+          none = it.1;
+          room = it.2;
+        };
+    each_reader = λ q t is.
+        let less = slice_get_within asked q t is in
+        let many = shared.readers.many in
+        let old = at_within reader_parts q (omega arith) in
+        let it = shared.readers.each q old.0 t old.1 is in
+        record { seats = it.keeps.seats ∙ free.none q old.0 old.1; named = it.named; few = let most = it.few in omega arith };
+  }
+
+  -- after all have run
+  module _ (news : List OwnerPart) (left_readers : List ReaderPart) (run : HasRunRound trace options given news asked left_readers) (found : List (List Line)) (all_found : map found_of left_readers ≡ map (λ (l : List Line). Some l) found) where
+    here : HasRound options before round (map state_of_owner given) (map state_of_owner run.ran_owners) (map state_of_owner news) run.seats (map replies_of run.ran_owners) found
+    here = shares options trace before round given news asked left_readers found split run all_found
+
+    same_replies : map replies_of news ≡ map replies_of run.ran_owners
+    same_replies = same_map replies_of run.ran_owners news (run.met ∙ sym run.ran) (λ n x y is_x is_y. ap (λ d. d.list) (run.meets n x y is_x is_y).done)
+
+    pub are_enough : AreEnough options (gets_in before) round (map replies_of news) found
+    are_enough = record {
+      owners = length-map news replies_of ∙ run.met ∙ given_many;
+      readers = here.readers;
+      writes = λ p replies is.
+          let is_done : slice_get (map replies_of run.ran_owners) p ≡ Some replies = subst (λ (l : List (List Reply)). slice_get l p ≡ Some replies) same_replies is in
+          let less = slice_get_within (map replies_of run.ran_owners) p replies is_done in
+          let one = length-map run.ran_owners replies_of in
+          let two = run.ran in
+          let three = length-map given state_of_owner in
+          let four = length-map run.ran_owners state_of_owner in
+          let old = at_within (map state_of_owner given) p (omega arith) in
+          let ran = at_within (map state_of_owner run.ran_owners) p (omega arith) in
+          (here.writes p old.0 ran.0 replies old.1 ran.1 is_done).many;
+      gets = λ q lines is.
+          let less = slice_get_within found q lines is in
+          let readers = here.readers in
+          let many = asked_many in
+          let one = run.seated in
+          let two = run.left in
+          let own = at_within run.seats q (omega arith) in
+          let turn = at_within asked q (omega arith) in
+          let new = at_within left_readers q (omega arith) in
+          let turned = run.read q turn.0 new.0 own.0 turn.1 new.1 own.1 in
+          let found_here : new.0.found ≡ Some lines = same_at (sym (slice_get-map found_of left_readers q ∙ ap (option_map found_of) new.1) ∙ ap (λ l. slice_get l q) all_found
+          ∙ (slice_get-map (λ (l : List Line). Some l) found q ∙ ap (option_map (λ (l : List Line). Some l)) is)) in
+          let read = found_is new.0.found (λ (l : List Line). HaveRead options (lines_at trace turn.0.gets) l (map lent_part given) own.0) lines found_here turned.read in
+          subst (λ (l : List TraceLine). AllZip HasKind l lines) (split.gets q turn.0 turn.1) read.lines;
+    }
+
+    pub goes_next : EndsRound before → IsOneRound round → AllByRecursion IsTraceLine before → AllByRecursion IsTraceLine round → (now : List Line) → HasMerged options (gets_in before) round report now (map replies_of news) found
+        → IsReplaying options (before ++ round) now (map state_of_owner news)
+    goes_next ended one lines_before lines_here now merged =
+        let from_given = subst (λ (l : List OwnerState). IsReplaying options before report l) (sym same_states) so_far in
+        let by_rans = subst (λ (l : List (List Reply)). IsMerged options (gets_in before) round merged.printed l found) same_replies merged.merged in
+        subst (λ (l : List Line). IsReplaying options (before ++ round) l (map state_of_owner news)) (sym merged.report)
+        (next_round options valid before round report merged.printed (map state_of_owner given) (map state_of_owner run.ran_owners) (map state_of_owner news) run.seats (map replies_of run.ran_owners) found
+        from_given ended one lines_before lines_here here by_rans)
+
+    -- the readers are without seats again, and stay so
+    pub free_again : (kept : List ReaderPart) → Each (λ (_ : ℕ). KeepsGets) left_readers kept → AreFree options kept
+    free_again kept keeps = record {
+      many = keeps.many ∙ run.left ∙ asked_many;
+      none = λ q t is.
+          let less = slice_get_within kept q t is in
+          let one = keeps.many in
+          let two = run.left in
+          let three = run.seated in
+          let new = at_within left_readers q (omega arith) in
+          let old = at_within asked q (omega arith) in
+          let own = at_within run.seats q (omega arith) in
+          (keeps.each q new.0 t new.1 is).keeps.seats ∙ (run.read q old.0 new.0 own.0 old.1 new.1 own.1).none;
+    }
+
+-- Lists that are cut in two
+
+pub take_join : {X : Type 0} (from to : ℕ) (xs : List X) → from ≤ to → take from xs ++ take (to - from) (drop from xs) ≡ take to xs
+take_join zero to xs low = let none : to - zero ≡ to = omega arith in ap (λ n. take n xs) none
+take_join (suc from) zero xs low = absurd (omega arith)
+take_join (suc from) (suc to) [] low = let none : suc to - suc from ≡ to - from = omega arith in nothing (suc to - suc from)
+  where
+    nothing : {X : Type 0} (n : ℕ) → take {A = X} n [] ≡ []
+    nothing zero = refl
+    nothing (suc n) = refl
+take_join (suc from) (suc to) (x ∷ xs) low =
+    let less : suc to - suc from ≡ to - from = omega arith in
+    ap (λ n. x ∷ take from xs ++ take n (drop from xs)) less ∙ ap (λ l. x ∷ l) (take_join from to xs (omega arith))
+
+pub all_take : {X : Type 0} (Q : X → Type 0) (n : ℕ) (xs : List X) → AllByRecursion Q xs → AllByRecursion Q (take n xs)
+all_take Q zero xs all = tt
+all_take Q (suc n) [] all = tt
+all_take Q (suc n) (x ∷ xs) all = (all.0, all_take Q n xs all.1)
+
+pub all_drop : {X : Type 0} (Q : X → Type 0) (n : ℕ) (xs : List X) → AllByRecursion Q xs → AllByRecursion Q (drop n xs)
+all_drop Q zero xs all = all
+all_drop Q (suc n) [] all = tt
+all_drop Q (suc n) (x ∷ xs) all = all_drop Q n xs all.1
+
+pub twice_map : {X Y Z : Type 0} (f : X → Y) (h : Y → Z) (xs : List X) → map (λ x. h (f x)) xs ≡ map h (map f xs)
+twice_map f h [] = refl
+twice_map f h (x ∷ xs) = ap (λ l. h (f x) ∷ l) (twice_map f h xs)
+
+pub gets_few : (lines : List TraceLine) → gets_in lines ≤ length lines
+gets_few [] = omega arith
+gets_few (line ∷ lines) =
+    let rest = gets_few lines in
+    let counted : gets_in (line ∷ lines) ≡ cond (is_get line) 1 0 + gets_in lines = sum_by-cons (λ l. cond (is_get l) 1 0) line lines in
+    let one = at_most_one (is_get line) in
+    omega arith
+  where
+    at_most_one : (b : Bool) → cond b 1 0 ≤ 1
+    at_most_one true = omega arith
+    at_most_one false = omega arith
+
+pub gets_join : (xs ys : List TraceLine) → gets_in (xs ++ ys) ≡ gets_in xs + gets_in ys
+gets_join xs ys = sum_by-append (λ l. cond (is_get l) 1 0) xs ys

@@ -1,0 +1,430 @@
+-- A round from the lending of its seats to the last meeting.
+use Rattle.std.proofs.Common.{◌≡◌, ℕ, zero, suc, ◌+◌, ◌<◌, ◌≤◌, ◌^◌, inl, inr, List, [], ◌∷◌, ◌++◌, length, map, get_or, slice_get, slice_set, slice_index_or, Option, Some, refl, sym, ap, ◌∙◌, subst, arith, All, IfSome, ◌==◌, ◌≢◌, true, false, eq-eqb, eqb-true, true≢false}
+use Rattle.std.specs.Prelude.{option_map, option_and_then}
+use Rattle.std.proofs.lemmas.List.{map-set, length-map, length-set}
+use Rattle.std.proofs.lemmas.Option.{slice_get_read, slice_get-map, slice_get_within, get_or_from_slice_get}
+use Rattle.atomic_table.specs.Seated.{TableId}
+use Rattle.mica_model.specs.declared.options.Options.{Options}
+use Rattle.mica_trace.specs.declared.line.TraceLine.{TraceLine}
+use Rattle.mica_trace.specs.declared.report.Line.{Line}
+use Rattle.epoch_core.specs.declared.reader.ReaderState.{ReaderState}
+use Rattle.mica_replay.specs.declared.worker.OwnerWork.{OwnerWork}
+use Rattle.mica_replay.specs.declared.worker.ReaderWork.{ReaderWork}
+use Rattle.mica_model.specs.History.{IsPrefix}
+use Rattle.epoch_core.specs.declared.state.OwnerState.{OwnerState}
+use Rattle.mica_replay.specs.LineNumbers.{lines_at, writes_at, NamesGet}
+use Rattle.mica_replay.specs.ReaderGets.{AreSeatsOf, HaveRead}
+use Rattle.mica_replay.specs.Replies.{HasWritten}
+use Rattle.mica_replay.specs.Workers.{IsReadyOwner, IsReadyReader, OwnerRan, OwnersRan, ReaderRan, ReadersRan}
+use Rattle.mica_replay.specs.Between.{seat_of, closed_of, sum_to}
+use Rattle.mica_replay.specs.Lending.{OwnerPart, owner_part, lent_part, table_in, HaveMet}
+use Rattle.mica_replay.specs.RoundRun.{ReaderPart, reader_part, IsReadyOwnerPart, AreReady, HasMetReaders, HasRunRound}
+use Rattle.mica_replay.specs.Shares.{Each}
+use Rattle.mica_replay.proofs.ReaderSteps.{set_cases, at_within}
+
+-- the first q elements have changed so, and those behind them have not changed
+pub record UpTo {X : Type 0} (R : X → X → Type 0) (q : ℕ) (olds news : List X) : Type 0 where
+  pub many : length news ≡ length olds
+  pub done : (i : ℕ) (old new : X) → i < q → slice_get olds i ≡ Some old → slice_get news i ≡ Some new → R old new
+  pub later : (i : ℕ) (old new : X) → q ≤ i → slice_get olds i ≡ Some old → slice_get news i ≡ Some new → new ≡ old
+
+pub up_none : {X : Type 0} (R : X → X → Type 0) (xs : List X) → UpTo R 0 xs xs
+up_none R xs = record {
+  many = refl;
+  done = λ i old new less is_old is_new. absurd (omega arith);
+  later = λ i old new from is_old is_new. same_at (sym is_new ∙ is_old);
+}
+  where
+    same_at : {Z : Type 0} {x y : Z} → Some x ≡ Some y → x ≡ y
+    same_at is = cc
+
+pub up_one : {X : Type 0} (R : X → X → Type 0) (q : ℕ) (olds mids : List X) (mid new : X) → UpTo R q olds mids → slice_get mids q ≡ Some mid → R mid new → UpTo R (q + 1) olds (slice_set mids q new)
+up_one {X = X} R q olds mids mid new so_far at one = record {
+  many = length-set mids q new ∙ so_far.many;
+  done = λ i old x less is_old is_new.
+      elim (set_cases mids q new i x is_new) as (λ _. R old x) [
+        | inl same ↦
+            let is_old_here : slice_get olds q ≡ Some old = subst (λ (n : ℕ). slice_get olds n ≡ Some old) (sym same.0) is_old in
+            let was : mid ≡ old = so_far.later q old mid (omega arith) is_old_here at in
+            subst (λ (y : X). R old y) same.1 (subst (λ (y : X). R y new) was one)
+        | inr other ↦ so_far.done i old x (before i less other.0) is_old other.1
+      ];
+  later = λ i old x from is_old is_new.
+      elim (set_cases mids q new i x is_new) as (λ _. x ≡ old) [
+        | inl same ↦ let here = same.0 in absurd (omega arith)
+        | inr other ↦ so_far.later i old x (omega arith) is_old other.1
+      ];
+}
+  where
+    before : (i : ℕ) → i < q + 1 → (q ≡ i → ⊥) → i < q
+    before i less other = omega arith
+
+pub up_all : {X : Type 0} (R : X → X → Type 0) (n : ℕ) (olds news : List X) → length news ≤ n → UpTo R n olds news → Each (λ (_ : ℕ). R) olds news
+up_all R n olds news all so_far = record {
+  many = so_far.many;
+  each = λ i old new is_old is_new. let less = slice_get_within news i new is_new in so_far.done i old new (omega arith) is_old is_new;
+}
+
+-- an element of a list that is seen through a function
+pub seen_at : {X Y : Type 0} (f : X → Y) (items : List X) (n : ℕ) (x : X) → n < length items → x ≡ get_or items n x → slice_get (map f items) n ≡ Some (f x)
+seen_at f items n x less is = slice_get-map f items n ∙ ap (option_map f) (slice_get_read items (length items) n x refl less is)
+
+pub up_seen : {X Y : Type 0} (f : X → Y) (R : Y → Y → Type 0) (olds : List Y) (items : List X) (q : ℕ) (old new : X) → UpTo R q olds (map f items) → q < length items → old ≡ get_or items q old
+    → R (f old) (f new) → UpTo R (q + 1) olds (map f (slice_set items q new))
+up_seen f R olds items q old new so_far less is one =
+    subst (UpTo R (q + 1) olds) (sym (map-set f items q new)) (up_one R q olds (map f items) (f old) (f new) so_far (seen_at f items q old less is) one)
+
+-- an element behind the first q is as it was
+pub not_yet : {X Y : Type 0} (f : X → Y) (R : Y → Y → Type 0) (olds : List Y) (items : List X) (q : ℕ) (old : X) → UpTo R q olds (map f items) → q < length items → old ≡ get_or items q old → slice_get olds q ≡ Some (f old)
+not_yet f R olds items q old so_far less is =
+    let many = so_far.many in
+    let long = length-map items f in
+    let first = at_within olds q (omega arith) in
+    let same : f old ≡ first.0 = so_far.later q first.0 (f old) (omega arith) first.1 (seen_at f items q old less is) in
+    first.1 ∙ ap (λ y. Some y) (sym same)
+
+pub none_seen : {X Y : Type 0} (f : X → Y) (items : List X) → map f items ≡ [] → items ≡ []
+none_seen f [] is = refl
+none_seen f (x ∷ xs) is = absurd (cc)
+
+-- an element that is seen is one of the list
+pub seen_back : {X Y : Type 0} (f : X → Y) (items : List X) (n : ℕ) (y : Y) → slice_get (map f items) n ≡ Some y → (x : X) × (slice_get items n ≡ Some x) × (f x ≡ y)
+seen_back f [] n y is = absurd (cc)
+seen_back f (x ∷ items) zero y is = (x, refl, cc)
+seen_back f (x ∷ items) (suc n) y is = seen_back f items n y is
+
+pub all_by : {X Y : Type 0} (f : X → Y) (P : X → Type 0) (Q : Y → Type 0) (items : List X) → ((x : X) → Q (f x) → P x) → ((n : ℕ) (y : Y) → slice_get (map f items) n ≡ Some y → Q y) → All P items
+all_by f P Q items step each =
+    λ n d less.
+    let at = at_within items n less in
+    let is = get_or_from_slice_get items n at.0 d at.1 in
+    subst P (sym is) (step at.0 (each n (f at.0) (slice_get-map f items n ∙ ap (option_map f) at.1)))
+
+-- what each element keeps, all keep
+pub same_map : {X Y : Type 0} (f : X → Y) (xs ys : List X) → length ys ≡ length xs → ((n : ℕ) (x y : X) → slice_get xs n ≡ Some x → slice_get ys n ≡ Some y → f y ≡ f x) → map f ys ≡ map f xs
+same_map f [] [] many each = refl
+same_map f [] (y ∷ ys) many each = absurd (omega arith)
+same_map f (x ∷ xs) [] many each = absurd (omega arith)
+same_map f (x ∷ xs) (y ∷ ys) many each = ap (λ z. z ∷ map f ys) (each 0 x y refl refl) ∙ ap (λ zs. f x ∷ zs) (same_map f xs ys (omega arith) (λ n a b is_a is_b. each (suc n) a b is_a is_b))
+
+-- what holds at each place, read with any element for the places outside, holds of the elements
+pub at_each : {X : Type 0} (R : X → X → Type 0) (xs ys : List X) → length ys ≡ length xs → ((i : ℕ) (d : X) → i < length xs → R (slice_index_or xs i d) (slice_index_or ys i d))
+    → (n : ℕ) (x y : X) → slice_get xs n ≡ Some x → slice_get ys n ≡ Some y → R x y
+at_each {X = X} R xs ys many each n x y is_x is_y =
+    let less = slice_get_within xs n x is_x in
+    let one = each n x less in
+    subst (λ (z : X). R x z) (get_or_from_slice_get ys n y x is_y) (subst (λ (z : X). R z (slice_index_or ys n x)) (get_or_from_slice_get xs n x x is_x) one)
+
+-- a reader that has been lent seats
+pub record IsLent (owner_parts : List OwnerPart) (old new : ReaderPart) : Type 0 where
+  pub seats : new.seats ≡ map lent_part owner_parts
+  pub tables : new.tables ≡ map table_in owner_parts
+  pub worker : new.worker ≡ old.worker
+  pub gets : new.gets ≡ old.gets
+
+-- a reader that has given them back
+pub record HasLeft (old new : ReaderPart) : Type 0 where
+  pub seats : new.seats ≡ []
+  pub worker : new.worker ≡ old.worker
+  pub gets : new.gets ≡ old.gets
+  pub found : new.found ≡ old.found
+
+-- an owner that has met the seats of the first q readers
+pub record MetTo (q : ℕ) (seats : List (List ReaderState)) (p : ℕ) (ran new : OwnerPart) : Type 0 where
+  pub shape : new.state.shape ≡ ran.state.shape
+  pub history : new.state.history ≡ ran.state.history
+  pub phase : new.state.phase ≡ ran.state.phase
+  pub closed : new.state.closed ≡ ran.state.closed + sum_to q (λ i. closed_of (seat_of seats i p))
+  pub seen : (i : ℕ) (seat : ReaderState) → i < q → seat_of seats i p ≡ Some seat → IsPrefix seat.seen new.state.history
+  pub table : new.table ≡ ran.table
+  pub worker : new.worker ≡ ran.worker
+  pub writes : new.writes ≡ ran.writes
+  pub done : new.done ≡ ran.done
+
+pub record HaveMetTo (q : ℕ) (seats : List (List ReaderState)) (ran_owners news : List OwnerPart) : Type 0 where
+  pub many : length news ≡ length ran_owners
+  pub each : (p : ℕ) (ran new : OwnerPart) → slice_get ran_owners p ≡ Some ran → slice_get news p ≡ Some new → MetTo q seats p ran new
+
+same_at : {Z : Type 0} {x y : Z} → Some x ≡ Some y → x ≡ y
+same_at is = cc
+
+pub met_nobody : (seats : List (List ReaderState)) (owner_parts : List OwnerPart) → HaveMetTo 0 seats owner_parts owner_parts
+met_nobody seats owner_parts = record {
+  many = refl;
+  each = λ p ran new is_ran is_new.
+      subst (λ (w : OwnerPart). MetTo 0 seats p ran w) (same_at (sym is_ran ∙ is_new)) (record {
+        shape = refl;
+        history = refl;
+        phase = refl;
+        closed = omega arith;
+        seen = λ i seat less is. absurd (omega arith);
+        table = refl;
+        worker = refl;
+        writes = refl;
+        done = refl;
+      });
+}
+
+-- a reader's seat of a partition
+seat_is : (seats : List (List ReaderState)) (q p : ℕ) (own : List ReaderState) → slice_get seats q ≡ Some own → seat_of seats q p ≡ slice_get own p
+seat_is seats q p own is = ap (λ o. option_and_then (λ l. slice_get l p) o) is
+
+pub met_more : (q : ℕ) (seats : List (List ReaderState)) (ran_owners mids news : List OwnerPart) (own : List ReaderState) → HaveMetTo q seats ran_owners mids → slice_get seats q ≡ Some own → length own ≡ length ran_owners
+    → HaveMet own mids news → HaveMetTo (q + 1) seats ran_owners news
+met_more q seats ran_owners mids news own so_far is_his full met = record {
+  many = met.many ∙ so_far.many;
+  each = λ p ran new is_ran is_new.
+      let one = so_far.many in
+      let two = met.many in
+      let less = slice_get_within ran_owners p ran is_ran in
+      let mid = at_within mids p (omega arith) in
+      let seat = at_within own p (omega arith) in
+      let was = so_far.each p ran mid.0 is_ran mid.1 in
+      let now = met.each p seat.0 mid.0 new seat.1 mid.1 is_new in
+      let here : seat_of seats q p ≡ Some seat.0 = seat_is seats q p own is_his ∙ seat.1 in
+      let count : closed_of (seat_of seats q p) ≡ seat.0.closed = ap closed_of here in
+      let next : sum_to (q + 1) (λ i. closed_of (seat_of seats i p)) ≡ closed_of (seat_of seats q p) + sum_to q (λ i. closed_of (seat_of seats i p)) = ap (λ n. sum_to n (λ i. closed_of (seat_of seats i p))) (plus_one q) in
+      let same_history : mid.0.state.history ≡ new.state.history = sym now.history in
+      record {
+        shape = now.shape ∙ was.shape;
+        history = now.history ∙ was.history;
+        phase = now.phase ∙ was.phase;
+        closed = now.closed ∙ (let a = was.closed in omega arith);
+        seen = λ i s below is.
+            elim (i == q) as (λ b. (i == q) ≡ b → IsPrefix s.seen new.state.history) [
+              | true ↦ λ e.
+                  let at : i ≡ q = eqb-true i q e in
+                  let is_here : seat_of seats q p ≡ Some s = subst (λ (n : ℕ). seat_of seats n p ≡ Some s) at is in
+                  subst (λ (x : ReaderState). IsPrefix x.seen new.state.history) (same_at (sym here ∙ is_here)) now.seen
+              | false ↦ λ e.
+                  let other : i ≢ q = λ same. absurd (true≢false (sym (eq-eqb i q same) ∙ e)) in
+                  subst (IsPrefix s.seen) same_history (was.seen i s (under i other below) is)
+            ] refl;
+        table = now.table ∙ was.table;
+        worker = now.worker ∙ was.worker;
+        writes = now.writes ∙ was.writes;
+        done = now.done ∙ was.done;
+      };
+}
+  where
+    plus_one : (n : ℕ) → n + 1 ≡ suc n
+    plus_one n = omega arith
+
+    under : (i : ℕ) → i ≢ q → i < q + 1 → i < q
+    under i other below = omega arith
+
+pub met_everybody : (seats : List (List ReaderState)) (n : ℕ) (ran_owners news : List OwnerPart) → length seats ≡ n → HaveMetTo n seats ran_owners news → (p : ℕ) (ran new : OwnerPart) → slice_get ran_owners p ≡ Some ran → slice_get news p ≡ Some new
+    → HasMetReaders n seats p ran new
+met_everybody seats n ran_owners news many met p ran new is_ran is_new =
+    let it = met.each p ran new is_ran is_new in
+    record {
+      met = record {
+        shape = it.shape;
+        history = it.history;
+        phase = it.phase;
+        closed = it.closed;
+        seen = λ q seat is. it.seen q seat (let low = seat_within seats q p seat is in omega arith) is;
+      };
+      table = it.table;
+      worker = it.worker;
+      writes = it.writes;
+      done = it.done;
+    }
+  where
+    seat_within : (seats : List (List ReaderState)) (q p : ℕ) (seat : ReaderState) → seat_of seats q p ≡ Some seat → q < length seats
+    seat_within [] q p seat is = absurd (cc)
+    seat_within (own ∷ seats) zero p seat is = omega arith
+    seat_within (own ∷ seats) (suc q) p seat is = let rest = seat_within seats q p seat is in omega arith
+
+-- Owners and readers as they lie in memory, of which contracts see owner_parts and reader_parts
+
+-- a reader with seats of these tables that has answered
+record HasAnswered (trace : List TraceLine) (options : Options) (owner_parts : List OwnerPart) (old mid : ReaderPart) : Type 0 where
+  many : length mid.seats ≡ length owner_parts
+  tables : mid.tables ≡ map table_in owner_parts
+  worker : mid.worker ≡ old.worker
+  gets : mid.gets ≡ old.gets
+  read : IfSome mid.found (λ lines. HaveRead options (lines_at trace old.gets) lines (map lent_part owner_parts) mid.seats)
+
+module _ {P R : Type 0} (owner : P → OwnerState) (home : P → TableId) (reader : R → ReaderState) (at : R → TableId) (trace : List TraceLine) (options : Options)
+    (owner_parts : List OwnerPart) (reader_parts : List ReaderPart) (ready : AreReady trace options owner_parts reader_parts) where
+  abbrev f : OwnerWork P → OwnerPart
+  f w = owner_part owner home w
+
+  abbrev t : ReaderWork R → ReaderPart
+  t r = reader_part reader at r
+
+  pub lends_none : (readers : List (ReaderWork R)) (q : ℕ) (old : ReaderWork R) → UpTo (IsLent owner_parts) q reader_parts (map t readers) → q < length readers → old ≡ get_or readers q old → old.seats.items ≡ []
+  lends_none readers q old so_far less is =
+      let many = so_far.many in
+      let long = length-map readers t in
+      let first = at_within reader_parts q (omega arith) in
+      let here = seen_at t readers q old less is in
+      let same : t old ≡ first.0 = so_far.later q first.0 (t old) (omega arith) first.1 here in
+      none_seen reader old.seats.items (ap (λ (x : ReaderPart). x.seats) same ∙ (ready.each_reader q first.0 first.1).seats)
+
+  pub lends_one : (readers : List (ReaderWork R)) (q : ℕ) (old new : ReaderWork R) → UpTo (IsLent owner_parts) q reader_parts (map t readers) → q < length readers → old ≡ get_or readers q old
+      → IsLent owner_parts (t old) (t new) → UpTo (IsLent owner_parts) (q + 1) reader_parts (map t (slice_set readers q new))
+  lends_one readers q old new so_far less is lent =
+      subst (UpTo (IsLent owner_parts) (q + 1) reader_parts) (sym (map-set t readers q new)) (up_one (IsLent owner_parts) q reader_parts (map t readers) (t old) (t new) so_far (seen_at t readers q old less is) lent)
+
+  pub owners_ready : (owners : List (OwnerWork P)) → map f owners ≡ owner_parts → All (IsReadyOwner trace) owners
+  owners_ready owners same =
+      all_by f (IsReadyOwner trace) (IsReadyOwnerPart trace options) owners (λ w it. record { named = it.named; none = it.none; room = it.room })
+      (λ n w is. ready.each_owner n w (subst (λ (ws : List OwnerPart). slice_get ws n ≡ Some w) same is))
+
+  lent_seats : AreSeatsOf options (map lent_part owner_parts)
+  lent_seats = record {
+    many = length-map owner_parts lent_part ∙ ready.owners;
+    shapes = λ p seat is.
+        let back = seen_back lent_part owner_parts p seat is in
+        ap (λ (s : ReaderState). s.shape) (sym back.2) ∙ (ready.each_owner p back.0 back.1).shape;
+  }
+
+  -- what was lent to the reader at a place
+  lent_at : (readers : List (ReaderWork R)) (n : ℕ) → length readers ≤ n → UpTo (IsLent owner_parts) n reader_parts (map t readers) → (q : ℕ) (new : ReaderPart) → slice_get (map t readers) q ≡ Some new
+      → (old : ReaderPart) × (slice_get reader_parts q ≡ Some old) × IsLent owner_parts old new
+  lent_at readers n all lent q new is_new =
+      let many = lent.many in
+      let long = length-map readers t in
+      let less = slice_get_within (map t readers) q new is_new in
+      let first = at_within reader_parts q (omega arith) in
+      (first.0, first.1, lent.done q first.0 new (omega arith) first.1 is_new)
+
+  pub readers_ready : (readers : List (ReaderWork R)) (n : ℕ) → length readers ≤ n → UpTo (IsLent owner_parts) n reader_parts (map t readers) → All (IsReadyReader reader trace options) readers
+  readers_ready readers n all lent =
+      λ k d less.
+      let one = at_within readers k less in
+      let is = get_or_from_slice_get readers k one.0 d one.1 in
+      let it = lent_at readers n all lent k (t one.0) (slice_get-map t readers k ∙ ap (option_map t) one.1) in
+      let was = ready.each_reader k it.0 it.1 in
+      subst (IsReadyReader reader trace options) (sym is) (record {
+        seats = subst (AreSeatsOf options) (sym it.2.seats) lent_seats;
+        named = subst (All (NamesGet trace)) (sym it.2.gets) was.named;
+        few = subst (λ (l : List ℕ). length l < 2 ^ 32) (sym it.2.gets) was.few;
+      })
+
+  -- after all have run
+  module _ (owners ran_owners : List (OwnerWork P)) (lents mids : List (ReaderWork R)) (n : ℕ) (all : length lents ≤ n) (same : map f owners ≡ owner_parts) (lent : UpTo (IsLent owner_parts) n reader_parts (map t lents))
+      (owned : OwnersRan owner home trace owners ran_owners) (reading : ReadersRan reader at trace options lents mids) where
+    abbrev given : List (List ReaderState)
+    given = map (λ (x : ReaderPart). x.seats) (map t mids)
+
+    answered : (q : ℕ) (old mid : ReaderPart) → slice_get reader_parts q ≡ Some old → slice_get (map t mids) q ≡ Some mid → HasAnswered trace options owner_parts old mid
+    answered q old mid is_old is_mid =
+        let back = seen_back t mids q mid is_mid in
+        let many = reading.0 in
+        let less = slice_get_within mids q back.0 back.1 in
+        let was = at_within lents q (omega arith) in
+        let one = at_each (ReaderRan reader at trace options) lents mids reading.0 reading.1 q was.0 back.0 was.1 back.1 in
+        let it = lent_at lents n all lent q (t was.0) (slice_get-map t lents q ∙ ap (option_map t) was.1) in
+        let same_old : it.0 ≡ old = same_at (sym it.1 ∙ is_old) in
+        subst (HasAnswered trace options owner_parts old) back.2 (subst (λ (x : ReaderPart). HasAnswered trace options owner_parts x (t back.0)) same_old (record {
+          many = sym (length-map back.0.seats.items (λ s. at s) ∙ sym (length-map back.0.seats.items (λ s. reader s))) ∙ ap length (one.at_home ∙ it.2.tables) ∙ length-map owner_parts table_in;
+          tables = one.at_home ∙ it.2.tables;
+          worker = one.worker ∙ it.2.worker;
+          gets = ap (λ g. g.items) one.gets ∙ it.2.gets;
+          read = subst (λ (l : List ℕ). IfSome back.0.found (λ found. HaveRead options (lines_at trace l) found (map lent_part owner_parts) (map reader back.0.seats.items))) it.2.gets
+              (subst (λ (l : List ReaderState). IfSome back.0.found (λ found. HaveRead options (lines_at trace was.0.gets.items) found l (map reader back.0.seats.items))) it.2.seats one.found);
+        }))
+
+    ran_same : (p : ℕ) (old ran : OwnerPart) → slice_get owner_parts p ≡ Some old → slice_get (map f ran_owners) p ≡ Some ran → HasWritten old.state ran.state (writes_at trace old.writes) ran.done.list
+        × (ran.table ≡ old.table) × (ran.worker ≡ old.worker) × (ran.writes ≡ old.writes)
+    ran_same p old ran is_old is_ran =
+        let back = seen_back f ran_owners p ran is_ran in
+        let first = seen_back f owners p old (subst (λ (ws : List OwnerPart). slice_get ws p ≡ Some old) (sym same) is_old) in
+        let one = at_each (OwnerRan owner home trace) owners ran_owners owned.0 owned.1 p first.0 back.0 first.1 back.1 in
+        let here : HasWritten (owner first.0.part) (owner back.0.part) (writes_at trace first.0.writes.items) back.0.done.list × (home back.0.part ≡ home first.0.part) × (back.0.worker ≡ first.0.worker) × (back.0.writes.items ≡ first.0.writes.items) = (one.written, one.at_home, one.worker, ap (λ w. w.items) one.writes) in
+        subst (λ (w : OwnerPart). HasWritten old.state w.state (writes_at trace old.writes) w.done.list × (w.table ≡ old.table) × (w.worker ≡ old.worker) × (w.writes ≡ old.writes)) back.2
+        (subst (λ (w : OwnerPart). HasWritten w.state (owner back.0.part) (writes_at trace w.writes) back.0.done.list × (home back.0.part ≡ w.table) × (back.0.worker ≡ w.worker) × (back.0.writes.items ≡ w.writes)) first.2 here)
+
+    ran_many : length (map f ran_owners) ≡ length owner_parts
+    ran_many = length-map ran_owners f ∙ owned.0 ∙ sym (length-map owners f) ∙ ap length same
+
+    tables_now : (q : ℕ) (now : List (OwnerWork P)) → HaveMetTo q given (map f ran_owners) (map f now) → map table_in (map f now) ≡ map table_in owner_parts
+    tables_now q now met =
+        same_map table_in (map f ran_owners) (map f now) met.many (λ n x y is_x is_y. (met.each n x y is_x is_y).table)
+        ∙ same_map table_in owner_parts (map f ran_owners) ran_many (λ n x y is_x is_y. (ran_same n x y is_x is_y).1)
+
+    -- the reader at a place that has not yet given its seats back
+    mid_at : (q : ℕ) (readers : List (ReaderWork R)) (old : ReaderWork R) → UpTo HasLeft q (map t mids) (map t readers) → q < length readers → old ≡ get_or readers q old → slice_get (map t mids) q ≡ Some (t old)
+    mid_at q readers old left less is =
+        let many = left.many in
+        let long = length-map readers t in
+        let one = at_within (map t mids) q (omega arith) in
+        let was = left.later q one.0 (t old) (omega arith) one.1 (seen_at t readers q old less is) in
+        one.1 ∙ ap (λ (x : ReaderPart). Some x) (sym was)
+
+    turn_at : (q : ℕ) (mid : ReaderPart) → slice_get (map t mids) q ≡ Some mid → (old : ReaderPart) × (slice_get reader_parts q ≡ Some old)
+    turn_at q mid is =
+        let less = slice_get_within (map t mids) q mid is in
+        let long = length-map mids t in
+        let many = reading.0 in
+        let count = length-map lents t in
+        let first = lent.many in
+        at_within reader_parts q (omega arith)
+
+    pub homes_same : (q : ℕ) (readers : List (ReaderWork R)) (now : List (OwnerWork P)) (old : ReaderWork R) → UpTo HasLeft q (map t mids) (map t readers) → HaveMetTo q given (map f ran_owners) (map f now)
+        → q < length readers → old ≡ get_or readers q old → map at old.seats.items ≡ map table_in (map f now)
+    homes_same q readers now old left met less is =
+        let mid = mid_at q readers old left less is in
+        let first = turn_at q (t old) mid in
+        (answered q first.0 (t old) first.1 mid).tables ∙ sym (tables_now q now met)
+
+    pub meets_more : (q : ℕ) (readers : List (ReaderWork R)) (now later : List (OwnerWork P)) (old : ReaderWork R) → UpTo HasLeft q (map t mids) (map t readers) → HaveMetTo q given (map f ran_owners) (map f now)
+        → q < length readers → old ≡ get_or readers q old → HaveMet (map reader old.seats.items) (map f now) (map f later) → HaveMetTo (q + 1) given (map f ran_owners) (map f later)
+    meets_more q readers now later old left met less is more =
+        let mid = mid_at q readers old left less is in
+        let first = turn_at q (t old) mid in
+        let it = answered q first.0 (t old) first.1 mid in
+        let given_here : slice_get given q ≡ Some (t old).seats = slice_get-map (λ (x : ReaderPart). x.seats) (map t mids) q ∙ ap (option_map (λ (x : ReaderPart). x.seats)) mid in
+        met_more q given (map f ran_owners) (map f now) (map f later) (t old).seats met given_here (it.many ∙ sym ran_many) more
+
+    pub leaves_one : (q : ℕ) (readers : List (ReaderWork R)) (old new : ReaderWork R) → UpTo HasLeft q (map t mids) (map t readers) → q < length readers → old ≡ get_or readers q old → HasLeft (t old) (t new)
+        → UpTo HasLeft (q + 1) (map t mids) (map t (slice_set readers q new))
+    leaves_one q readers old new left less is one =
+        subst (UpTo HasLeft (q + 1) (map t mids)) (sym (map-set t readers q new)) (up_one HasLeft q (map t mids) (map t readers) (t old) (t new) left (seen_at t readers q old less is) one)
+
+    pub ran_round : (q : ℕ) (readers : List (ReaderWork R)) (now : List (OwnerWork P)) → length readers ≡ q → UpTo HasLeft q (map t mids) (map t readers) → HaveMetTo q given (map f ran_owners) (map f now)
+        → HasRunRound trace options owner_parts (map f now) reader_parts (map t readers)
+    ran_round q readers now all_left left met =
+        let count = left.many in
+        let long = length-map readers t in
+        let long_mids = length-map mids t in
+        let long_lents = length-map lents t in
+        let many = reading.0 in
+        let first = lent.many in
+        let long_given = length-map (map t mids) (λ (x : ReaderPart). x.seats) in
+        let readers_many : q ≡ length reader_parts = omega arith in
+        record {
+          ran_owners = map f ran_owners;
+          seats = given;
+          ran = ran_many;
+          met = met.many ∙ ran_many;
+          seated = omega arith;
+          left = omega arith;
+          wrote = ran_same;
+          read = λ n old new own is_old is_new is_his.
+              let back = seen_back (λ (x : ReaderPart). x.seats) (map t mids) n own is_his in
+              let it = answered n old back.0 is_old back.1 in
+              let low = slice_get_within (map t readers) n new is_new in
+              let gone = left.done n back.0 new (omega arith) back.1 is_new in
+              record {
+                many = ap length (sym back.2) ∙ it.many;
+                none = gone.seats;
+                gets = gone.gets ∙ it.gets;
+                worker = gone.worker ∙ it.worker;
+                read = subst (λ (o : Option (List Line)). IfSome o (λ lines. HaveRead options (lines_at trace old.gets) lines (map lent_part owner_parts) own)) (sym gone.found)
+                    (subst (λ (l : List ReaderState). IfSome back.0.found (λ lines. HaveRead options (lines_at trace old.gets) lines (map lent_part owner_parts) l)) back.2 it.read);
+              };
+          meets = subst (λ (n : ℕ). (p : ℕ) (ran new : OwnerPart) → slice_get (map f ran_owners) p ≡ Some ran → slice_get (map f now) p ≡ Some new → HasMetReaders n given p ran new) readers_many
+              (met_everybody given q (map f ran_owners) (map f now) (omega arith) met);
+        }
+
+-- what is seen of each element is seen of one more
+pub each_more : {X Y : Type 0} (f : X → Y) (Q : Y → Type 0) (items : List X) (x : X) → ((i : ℕ) (y : Y) → slice_get (map f items) i ≡ Some y → Q y) → Q (f x)
+    → (i : ℕ) (y : Y) → slice_get (map f (items ++ x ∷ [])) i ≡ Some y → Q y
+each_more f Q [] x each one zero y is = subst Q (same_at is) one
+each_more f Q [] x each one (suc i) y is = absurd (cc)
+each_more f Q (z ∷ items) x each one zero y is = each zero y is
+each_more f Q (z ∷ items) x each one (suc i) y is = each_more f Q items x (λ k w at. each (suc k) w at) one i y is

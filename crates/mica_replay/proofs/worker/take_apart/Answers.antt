@@ -1,0 +1,29 @@
+use Rattle.std.proofs.Common.{arith, length-append, ◌∷◌, [], ◌∙◌, sym, ap, ◌++◌}
+use Rattle.mica_replay.proofs.WorkerParts.{readers_push, readers_same, owners_push, owners_same}
+use Rattle.mica_replay.proofs.worker.take_apart.Goals as goal
+
+pub loop-worker-preserved-in-Reader : goal.loop-worker-preserved-in-Reader
+loop-worker-preserved-in-Reader g c =
+    let i = c.loop-worker.invariant in
+    let more = length-append c.loop-worker.yielded (c.in-Some.worker ∷ []) in
+    record {
+      readers = c.push_reserved.ensures.items ∙ ap (λ l. l ++ c.in-Reader.reader ∷ []) i.readers ∙ sym (readers_push c.loop-worker.yielded c.in-Some.worker c.in-Reader.reader c.in-Reader.is);
+      owners = i.owners ∙ sym (owners_same c.loop-worker.yielded c.in-Some.worker c.in-Reader.reader c.in-Reader.is);
+      readers_len = omega (arith, i.readers_len, more, c.push_reserved.ensures.len);
+      owners_len = omega (arith, i.owners_len, more);
+      readers_room = omega (arith, i.readers_room, c.push_reserved.ensures.capacity);
+      owners_room = i.owners_room;
+    }
+
+pub loop-worker-preserved : goal.loop-worker-preserved
+loop-worker-preserved g c =
+    let i = c.loop-worker.invariant in
+    let more = length-append c.loop-worker.yielded (c.in-Some.worker ∷ []) in
+    record {
+      readers = i.readers ∙ sym (readers_same c.loop-worker.yielded c.in-Some.worker c.in-Owner.owner c.in-Owner.is);
+      owners = c.push_reserved-in-Owner.ensures.items ∙ ap (λ l. l ++ c.in-Owner.owner ∷ []) i.owners ∙ sym (owners_push c.loop-worker.yielded c.in-Some.worker c.in-Owner.owner c.in-Owner.is);
+      readers_len = omega (arith, i.readers_len, more);
+      owners_len = omega (arith, i.owners_len, more, c.push_reserved-in-Owner.ensures.len);
+      readers_room = i.readers_room;
+      owners_room = omega (arith, i.owners_room, c.push_reserved-in-Owner.ensures.capacity);
+    }

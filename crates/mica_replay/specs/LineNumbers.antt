@@ -1,0 +1,23 @@
+-- Lines of a trace by their numbers, from 0.
+use Rattle.std.specs.Prelude.{◌≡◌, ℕ, List, slice_get, Option, IsSome, IsSomeAnd}
+use Rattle.std.specs.List.{filter_map}
+use Rattle.mica_model.specs.declared.write.Write.{Write}
+use Rattle.mica_trace.specs.declared.line.TraceOp.TheVariants.{Get}
+use Rattle.mica_trace.specs.declared.line.TraceLine.{TraceLine}
+use Rattle.mica_trace.specs.Rounds.{write_by}
+
+abbrev pub lines_at : List TraceLine → List ℕ → List TraceLine
+lines_at trace numbers = filter_map (slice_get trace) numbers
+
+abbrev pub write_at : TraceLine → Option Write
+write_at line = write_by line.op line.key line.value
+
+-- the writes of the lines of these numbers
+abbrev pub writes_at : List TraceLine → List ℕ → List Write
+writes_at trace numbers = filter_map write_at (lines_at trace numbers)
+
+abbrev pub NamesWrite : List TraceLine → ℕ → Type 0
+NamesWrite trace number = IsSomeAnd (slice_get trace number) (λ line. IsSome (write_at line))
+
+abbrev pub NamesGet : List TraceLine → ℕ → Type 0
+NamesGet trace number = IsSomeAnd (slice_get trace number) (λ line. line.op ≡ Get)

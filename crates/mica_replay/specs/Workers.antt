@@ -1,0 +1,75 @@
+-- What the workers of a round have in hand, and what each makes of it.
+use Rattle.std.specs.Prelude.{◌≡◌, ℕ, ◌<◌, ◌≤◌, ◌^◌, List, [], ◌∷◌, length, map, All, slice_index_or, IfSome}
+use Rattle.atomic_table.specs.Seated.{TableId}
+use Rattle.mica_model.specs.declared.options.Options.{Options}
+use Rattle.mica_trace.specs.declared.line.TraceLine.{TraceLine}
+use Rattle.epoch_core.specs.declared.state.OwnerState.{OwnerState}
+use Rattle.epoch_core.specs.declared.reader.ReaderState.{ReaderState}
+use Rattle.mica_replay.specs.declared.worker.OwnerWork.{OwnerWork}
+use Rattle.mica_replay.specs.declared.worker.ReaderWork.{ReaderWork}
+use Rattle.mica_replay.specs.declared.worker.Worker.{Worker}
+use Rattle.mica_replay.specs.declared.worker.Worker.TheVariants.{Reader, Owner}
+use Rattle.mica_replay.specs.LineNumbers.{writes_at, lines_at, NamesWrite, NamesGet}
+use Rattle.mica_replay.specs.ReaderGets.{AreSeatsOf, HaveRead}
+use Rattle.mica_replay.specs.Replies.{HasWritten}
+
+module _ {P : Type 0} where
+  -- an owner with lines to write, and room for the replies
+  pub record IsReadyOwner (trace : List TraceLine) (w : OwnerWork P) : Type 0 where
+    pub named : All (NamesWrite trace) w.writes.items
+    pub none : w.done.list ≡ []
+    pub room : length w.writes.items ≤ w.done.spare
+
+  module _ (owner : P → OwnerState) (home : P → TableId) (trace : List TraceLine) where
+    pub record OwnerRan (w v : OwnerWork P) : Type 0 where
+      pub writes : v.writes ≡ w.writes
+      pub worker : v.worker ≡ w.worker
+      pub written : HasWritten (owner w.part) (owner v.part) (writes_at trace w.writes.items) v.done.list
+      pub at_home : home v.part ≡ home w.part
+
+    abbrev pub OwnersRan : List (OwnerWork P) → List (OwnerWork P) → Type 0
+    OwnersRan xs ys = (length ys ≡ length xs) × ((i : ℕ) (d : OwnerWork P) → i < length xs → OwnerRan (slice_index_or xs i d) (slice_index_or ys i d))
+
+module _ {R : Type 0} where
+  -- a reader with a seat of each partition and lines to get
+  pub record IsReadyReader (reader : R → ReaderState) (trace : List TraceLine) (options : Options) (r : ReaderWork R) : Type 0 where
+    pub seats : AreSeatsOf options (map (λ s. reader s) r.seats.items)
+    pub named : All (NamesGet trace) r.gets.items
+    pub few : length r.gets.items < 2 ^ 32
+
+  module _ (reader : R → ReaderState) (home : R → TableId) (trace : List TraceLine) (options : Options) where
+    pub record ReaderRan (r t : ReaderWork R) : Type 0 where
+      pub gets : t.gets ≡ r.gets
+      pub worker : t.worker ≡ r.worker
+      pub at_home : map (λ s. home s) t.seats.items ≡ map (λ s. home s) r.seats.items
+      pub found : IfSome t.found (λ found. HaveRead options (lines_at trace r.gets.items) found (map (λ s. reader s) r.seats.items) (map (λ s. reader s) t.seats.items))
+
+    abbrev pub ReadersRan : List (ReaderWork R) → List (ReaderWork R) → Type 0
+    ReadersRan xs ys = (length ys ≡ length xs) × ((i : ℕ) (d : ReaderWork R) → i < length xs → ReaderRan (slice_index_or xs i d) (slice_index_or ys i d))
+
+module _ {P R : Type 0} where
+  abbrev pub IsReadyWorker : (R → ReaderState) → List TraceLine → Options → Worker P R → Type 0
+  IsReadyWorker reader trace options (Reader r) = IsReadyReader reader trace options r
+  IsReadyWorker reader trace options (Owner w) = IsReadyOwner trace w
+
+  module _ (owner : P → OwnerState) (home : P → TableId) (reader : R → ReaderState) (seat_home : R → TableId) (trace : List TraceLine) (options : Options) where
+    abbrev pub WorkerRan : Worker P R → Worker P R → Type 0
+    WorkerRan (Reader r) (Reader t) = ReaderRan reader seat_home trace options r t
+    WorkerRan (Owner w) (Owner v) = OwnerRan owner home trace w v
+    WorkerRan _ _ = ⊥
+
+    abbrev pub WorkersRan : List (Worker P R) → List (Worker P R) → Type 0
+    WorkersRan xs ys = (length ys ≡ length xs) × ((i : ℕ) (d : Worker P R) → i < length xs → WorkerRan (slice_index_or xs i d) (slice_index_or ys i d))
+
+module _ {P R : Type 0} where
+  -- the readers among the workers, in order
+  abbrev pub readers_in : List (Worker P R) → List (ReaderWork R)
+  readers_in [] = []
+  readers_in (Reader r ∷ ws) = r ∷ readers_in ws
+  readers_in (Owner w ∷ ws) = readers_in ws
+
+  -- the owners among them
+  abbrev pub owners_in : List (Worker P R) → List (OwnerWork P)
+  owners_in [] = []
+  owners_in (Reader r ∷ ws) = owners_in ws
+  owners_in (Owner w ∷ ws) = w ∷ owners_in ws

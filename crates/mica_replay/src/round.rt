@@ -1,0 +1,52 @@
+//! A round from the lending of its seats to the last meeting.
+ghost use Rattle.std.specs.Prelude.{◌≡◌, ◌<◌, OnOk, All, map, length};
+ghost use Rattle.mica_model.specs.Options.{IsValid};
+ghost use Rattle.mica_replay.specs.Lending.{owner_part, seat_state, seat_table};
+ghost use Rattle.mica_replay.specs.RoundRun.{reader_part, AreReady, HasRunRound};
+
+use crate::lending::{lend_all, meet_all};
+use crate::worker::{OwnerWork, ReaderWork, run_all};
+use epoch_core::LendPartition;
+use mica_io::{Gate, NoMemory};
+use mica_model::Options;
+use mica_trace::Trace;
+use partition_table::{Note, ReaderSeat};
+use std::alloc::Global;
+use std::sync::Wait;
+use std::thread::Threads;
+
+/// Lends each reader a seat of each partition, runs owners and readers side by side, and gives the seats back.
+pub(crate) fn run_round<
+    W: Threads + Wait + Sync,
+    P: LendPartition<Reader = ReaderSeat, Note = Note> + Drop + Send,
+    G: Gate,
+>(
+    rt: &W,
+    alloc: Global,
+    trace: &Trace,
+    options: &Options,
+    gate: &G,
+    owners: &mut Vec<OwnerWork<P>>,
+    readers: &mut Vec<ReaderWork<ReaderSeat>>,
+) -> Result<(), NoMemory>
+    requires valid { IsValid options.now }
+    requires ready { AreReady trace.now options.now
+        (map (λ w. owner_part P.owner P.home w) owners.old.items)
+        (map (λ r. reader_part seat_state seat_table r) readers.old.items) }
+    ensures ran { OnOk result (HasRunRound trace.now options.now
+        (map (λ w. owner_part P.owner P.home w) owners.old.items)
+        (map (λ w. owner_part P.owner P.home w) owners.new.items)
+        (map (λ r. reader_part seat_state seat_table r) readers.old.items)
+        (map (λ r. reader_part seat_state seat_table r) readers.new.items)) }
+{
+    for q in 0..readers.len() {
+        let reader = &mut readers[q];
+        lend_all(owners, &mut reader.seats)?;
+    }
+    run_all(rt, alloc, trace, options, gate, owners, readers)?;
+    for q in 0..readers.len() {
+        let reader = &mut readers[q];
+        meet_all(owners, &mut reader.seats);
+    }
+    Ok(())
+}

@@ -1,0 +1,215 @@
+//! The workers of a round: each owner and each reader, with its part of the round, in a thread of its own.
+ghost use Rattle.std.specs.Prelude.{◌≡◌, ◌+◌, ◌<◌, ◌≤◌, ◌++◌, [], ℕ, List, All, length, map, slice_index_or, vec_len, vec_capacity, OnOk};
+ghost use Rattle.mica_model.specs.Options.{IsValid};
+ghost use Rattle.mica_replay.specs.Lending.{seat_state, seat_table};
+ghost use Rattle.mica_replay.specs.Workers.{IsReadyOwner, OwnerRan, OwnersRan, IsReadyReader, ReaderRan, ReadersRan, IsReadyWorker, WorkerRan, WorkersRan, owners_in, readers_in};
+
+use crate::done::Done;
+use crate::owner::run_owner;
+use crate::reader::{Found, run_reader};
+use epoch_core::{LendPartition, ReaderWords};
+use mica_io::{Gate, NoMemory};
+use mica_model::Options;
+use mica_trace::Trace;
+use partition_table::{Note, ReaderSeat};
+use std::alloc::Global;
+use std::mem;
+use std::sync::Wait;
+use std::thread::{Threads, for_each_mut};
+
+/// An owner with its part of a round.
+#[derive(Drop)]
+pub struct OwnerWork<P> {
+    pub part: P,
+    pub worker: u32,
+    pub writes: Vec<u32>,
+    pub done: Done,
+}
+
+impl<P: LendPartition> OwnerWork<P> {
+    fn run<G: Gate>(&mut self, trace: &Trace, gate: &G)
+        requires { IsReadyOwner trace.now self.old }
+        ensures { OwnerRan P.owner P.home trace.now self.old self.new }
+    {
+        run_owner(
+            &mut self.part,
+            trace,
+            self.writes.as_slice(),
+            &mut self.done,
+            gate,
+            self.worker,
+        );
+    }
+}
+
+/// A reader with its part of a round. Nothing is found where there was no memory.
+#[derive(Drop)]
+pub struct ReaderWork<R> {
+    pub seats: Vec<R>,
+    pub worker: u32,
+    pub gets: Vec<u32>,
+    pub found: Option<Found>,
+}
+
+impl<R: ReaderWords> ReaderWork<R> {
+    fn run<W: Threads + Wait + Sync, G: Gate>(
+        &mut self,
+        rt: &W,
+        alloc: Global,
+        trace: &Trace,
+        options: &Options,
+        gate: &G,
+    )
+        requires valid { IsValid options.now }
+        requires ready { IsReadyReader R.reader trace.now options.now self.old }
+        ensures { ReaderRan R.reader R.home trace.now options.now self.old self.new }
+    {
+        self.found = run_reader(
+            rt,
+            alloc,
+            &mut self.seats,
+            trace,
+            self.gets.as_slice(),
+            options,
+            gate,
+            self.worker,
+        )
+        .ok();
+    }
+}
+
+/// A worker of a round.
+#[derive(Drop)]
+pub enum Worker<P, R> {
+    Reader(ReaderWork<R>),
+    Owner(OwnerWork<P>),
+}
+
+impl<P: LendPartition, R: ReaderWords> Worker<P, R> {
+    fn run<W: Threads + Wait + Sync, G: Gate>(
+        &mut self,
+        rt: &W,
+        alloc: Global,
+        trace: &Trace,
+        options: &Options,
+        gate: &G,
+    )
+        requires valid { IsValid options.now }
+        requires ready { IsReadyWorker R.reader trace.now options.now self.old }
+        ensures { WorkerRan P.owner P.home R.reader R.home trace.now options.now self.old self.new }
+    {
+        match self {
+            Worker::Reader(reader) => reader.run(rt, alloc, trace, options, gate),
+            Worker::Owner(owner) => owner.run(trace, gate),
+        }
+    }
+}
+
+// Runs all workers side by side.
+fn run_workers<
+    W: Threads + Wait + Sync,
+    P: LendPartition<Reader = ReaderSeat, Note = Note> + Drop + Send,
+    G: Gate,
+>(
+    rt: &W,
+    alloc: Global,
+    trace: &Trace,
+    options: &Options,
+    gate: &G,
+    workers: &mut Vec<Worker<P, ReaderSeat>>,
+)
+    requires some { 0 < length workers.old.items }
+    requires valid { IsValid options.now }
+    requires ready { All (IsReadyWorker seat_state trace.now options.now) workers.old.items }
+    ensures { WorkersRan P.owner P.home seat_state seat_table trace.now options.now
+        workers.old.items workers.new.items }
+{
+    let threads = workers.len();
+    for_each_mut(
+        rt,
+        workers.as_mut_slice(),
+        threads,
+        &|_, worker|
+            requires { IsValid options.now × IsReadyWorker seat_state trace.now options.now worker.now }
+            ensures { WorkerRan P.owner P.home seat_state seat_table trace.entry.now options.entry.now
+                worker.entry.now worker.exit.now }
+        { worker.run(rt, alloc, trace, options, gate) },
+    );
+}
+
+// The readers and the owners, each as a worker.
+fn gather<P: Drop, R: Drop>(
+    alloc: Global,
+    readers: &mut Vec<ReaderWork<R>>,
+    owners: &mut Vec<OwnerWork<P>>,
+    workers: &mut Vec<Worker<P, R>>,
+)
+    requires none { workers.old.items ≡ [] }
+    requires room { vec_len readers.old + vec_len owners.old ≤ vec_capacity workers.old }
+    ensures { workers.new.items
+        ≡ map Worker.Reader readers.old.items ++ map Worker.Owner owners.old.items }
+{
+    let readers = mem::replace(readers, Vec::new(alloc));
+    let owners = mem::replace(owners, Vec::new(alloc));
+    for reader in readers {
+        workers.push_reserved(Worker::Reader(reader));
+    }
+    for owner in owners {
+        workers.push_reserved(Worker::Owner(owner));
+    }
+}
+
+// The readers and the owners among the workers, in order.
+fn take_apart<P: Drop, R: Drop>(
+    workers: Vec<Worker<P, R>>,
+    readers: &mut Vec<ReaderWork<R>>,
+    owners: &mut Vec<OwnerWork<P>>,
+)
+    requires none { (readers.old.items ≡ []) × (owners.old.items ≡ []) }
+    requires readers { vec_len workers ≤ vec_capacity readers.old }
+    requires owners { vec_len workers ≤ vec_capacity owners.old }
+    ensures readers { readers.new.items ≡ readers_in workers.items }
+    ensures owners { owners.new.items ≡ owners_in workers.items }
+{
+    for worker in workers {
+        match worker {
+            Worker::Reader(reader) => readers.push_reserved(reader),
+            Worker::Owner(owner) => owners.push_reserved(owner),
+        }
+    }
+}
+
+/// Runs all readers and all owners side by side, each in a thread of its own. All room is made before the first
+/// of them starts.
+pub(crate) fn run_all<
+    W: Threads + Wait + Sync,
+    P: LendPartition<Reader = ReaderSeat, Note = Note> + Drop + Send,
+    G: Gate,
+>(
+    rt: &W,
+    alloc: Global,
+    trace: &Trace,
+    options: &Options,
+    gate: &G,
+    owners: &mut Vec<OwnerWork<P>>,
+    readers: &mut Vec<ReaderWork<ReaderSeat>>,
+) -> Result<(), NoMemory>
+    requires some { 0 < length readers.old.items }
+    requires valid { IsValid options.now }
+    requires owners { All (IsReadyOwner trace.now) owners.old.items }
+    requires readers { All (IsReadyReader seat_state trace.now options.now) readers.old.items }
+    ensures owners { OnOk result (OwnersRan P.owner P.home trace.now owners.old.items owners.new.items) }
+    ensures readers { OnOk result (ReadersRan seat_state seat_table trace.now options.now
+        readers.old.items readers.new.items) }
+{
+    let room = readers.len() + owners.len();
+    let mut workers = Vec::with_capacity(alloc, room)?;
+    let mut readers_after = Vec::with_capacity(alloc, room)?;
+    let mut owners_after = Vec::with_capacity(alloc, room)?;
+    gather(alloc, readers, owners, &mut workers);
+    run_workers(rt, alloc, trace, options, gate, &mut workers);
+    take_apart(workers, &mut readers_after, &mut owners_after);
+    *readers = readers_after;
+    *owners = owners_after;
+    Ok(())
+}
