@@ -2,11 +2,13 @@
 #![tactic(auto)]
 
 use mica_cmd::run_program;
-use mica_io::{StdSink, StdSource};
+use mica_io::{FreeGate, StdSink, StdSource};
+use partition_table::Tables;
 use std::process::ExitCode;
 
 fn main(rt: HostRuntime) -> ExitCode {
     let mut source = StdSource::new(rt.stdin());
     let mut sink = StdSink::new(rt.stdout());
-    run_program(&rt, &mut source, &mut sink)
+    let mut tables = Tables::new();
+    run_program(&rt, &rt, &mut source, &mut sink, &FreeGate, &mut tables)
 }

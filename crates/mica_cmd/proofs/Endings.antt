@@ -1,5 +1,5 @@
 -- How a run ends with what is due.
-use Rattle.std.proofs.Common.{◌≡◌, ℕ, ◌+◌, ◌≤◌, ◌⊎◌, inl, inr, List, [], length, length-append, Option, Some, None, codes, refl, sym, ap, ◌∙◌, subst, arith}
+use Rattle.std.proofs.Common.{◌≡◌, ◌≢◌, ℕ, ◌+◌, ◌≤◌, ◌⊎◌, inl, inr, List, [], length, length-append, Option, Some, None, codes, refl, sym, ap, ◌∙◌, subst, arith}
 use Rattle.std.specs.Prelude.{IfSome}
 use Rattle.std.specs.Option.{IsSomeAnd}
 use Rattle.std.specs.Io.KnownBytes.{Keeps, Appends, Consumes, IsAtEnd}
@@ -15,13 +15,14 @@ use Rattle.mica_cmd.specs.declared.command.Command.TheVariants.{Replay, Gen, Ben
 use Rattle.mica_cmd.specs.declared.status.Status.{Status}
 use Rattle.mica_cmd.specs.declared.status.Status.TheVariants.{Done, Usage, NoMemory, TraceRefused, TraceLong, ReadFault, WriteFault, NetFault}
 use Rattle.mica_trace.specs.TraceGrammar.{trace_text}
+use Rattle.partition_table.specs.declared.tables.Entry.{Entry}
 use Rattle.mica_cmd.specs.declared.gen_options.GenOptions.{GenOptions}
 use Rattle.mica_cmd.specs.Generator.{generated}
 use Rattle.mica_cmd.specs.Outside.{SourceFacts, SinkFacts, Outside, IsReadUp}
-use Rattle.mica_cmd.specs.Top.{line_of, IsTooLong, IsDue, IsSummaryText, IsWritten, IsRefusedWith, Headline, Ends, IsUnhindered, ReadsFor, KeepsPromises}
+use Rattle.mica_cmd.specs.Top.{line_of, IsTooLong, IsDue, SummarizesRun, IsWritten, IsRefusedWith, Headline, Ends, IsUnhindered, ReadsFor, KeepsTables, KeepsPromises}
 
 -- what was written of the due text with its status
-pub due_ends : (command : Option Command) (old new : Outside) (status : Status) (text : List ℕ) (result : Status) → IsDue command old new status text
+due_ends : (command : Option Command) (old new : Outside) (status : Status) (text : List ℕ) (result : Status) → IsDue command old new status text
     → ((line : List ℕ) × IsDue command old new status line × Appends old.sink.taken new.sink.taken line → Ends command old new status)
     → IsWritten status text old.sink new.sink result → Ends command old new result
 due_ends command old new status text result due whole either =
@@ -61,8 +62,24 @@ complete (Some (Bench options generator)) old new WriteFault ends free = absurd 
 complete None old new status ends free = absurd free
 
 pub keeps_promises : (command : Option Command) (old new : Outside) (status : Status) → Ends command old new status → ReadsFor command old.source new.source
-    → KeepsPromises command old new status
-keeps_promises command old new status ends reads = record { ended = ends; complete = complete command old new status ends; reads = reads }
+    → (status ≡ Done → KeepsTables command old new) → KeepsPromises command old new status
+keeps_promises command old new status ends reads tables = record { ended = ends; complete = complete command old new status ends; reads = reads; tables = tables }
+
+-- the line of another status was written
+not_done : (command : Option Command) (old new : Outside) (status : Status) (text : List ℕ) (result : Status) → status ≢ Done → IsWritten status text old.sink new.sink result
+    → result ≡ Done → KeepsTables command old new
+not_done command old new status text result other either done =
+    elim either as (λ _. KeepsTables command old new) [
+      | inl all ↦ absurd (other (sym all.0 ∙ done))
+      | inr part ↦ let no : WriteFault ≡ Done = sym part.0 ∙ done in absurd (cc)
+    ]
+
+-- the line that is due with a status was written, or a part of it
+pub line_promises : (command : Option Command) (old new : Outside) (status : Status) (text : List ℕ) (result : Status) → status ≢ Done → IsDue command old new status text
+    → ((line : List ℕ) × IsDue command old new status line × Appends old.sink.taken new.sink.taken line → Ends command old new status)
+    → IsWritten status text old.sink new.sink result → ReadsFor command old.source new.source → KeepsPromises command old new result
+line_promises command old new status text result other due whole written reads =
+    keeps_promises command old new result (due_ends command old new status text result due whole written) reads (not_done command old new status text result other written)
 
 -- the text of a trace that was read to the end, within the limit
 pub gives_trace : (left rest : Option (List ℕ)) (input : List ℕ) (trace : List TraceLine) → Consumes left rest input → IsAtEnd rest → length input ≤ MAX_SOURCE_LEN
@@ -70,7 +87,7 @@ pub gives_trace : (left rest : Option (List ℕ)) (input : List ℕ) (trace : Li
 gives_trace left rest input trace read ended short is = Consumes-whole left rest input (λ bytes. ¬ (IsTooLong bytes) × IsTrace bytes trace) read ended ((λ long. omega arith), is)
 
 -- bytes that are no trace
-pub refused_ends : (options : Options) (old new : Outside) (input : List ℕ) (fault : TraceFault) (result : Status)
+refused_ends : (options : Options) (old new : Outside) (input : List ℕ) (fault : TraceFault) (result : Status)
     → Consumes old.source.left new.source.left input → IsReadUp new.source → length input ≤ MAX_SOURCE_LEN → (fault ≡ NoRoom) ⊎ (Refuses input fault × IsNoTrace input)
     → IsRefusedWith fault old.sink new.sink result → Ends (Some (Replay options)) old new result
 refused_ends options old new input fault result read ended short why either =
@@ -90,6 +107,17 @@ refused_ends options old new input fault result read ended short why either =
       ]
     ]
 
+pub refused_promises : (options : Options) (old new : Outside) (input : List ℕ) (fault : TraceFault) (result : Status)
+    → Consumes old.source.left new.source.left input → IsReadUp new.source → length input ≤ MAX_SOURCE_LEN → (fault ≡ NoRoom) ⊎ (Refuses input fault × IsNoTrace input)
+    → IsRefusedWith fault old.sink new.sink result → ReadsFor (Some (Replay options)) old.source new.source → KeepsPromises (Some (Replay options)) old new result
+refused_promises options old new input fault result read ended short why either reads =
+    keeps_promises (Some (Replay options)) old new result (refused_ends options old new input fault result read ended short why either) reads
+    (λ done.
+    elim either as (λ _. KeepsTables (Some (Replay options)) old new) [
+      | inl memory ↦ let no : NoMemory ≡ Done = sym memory.0 ∙ done in absurd (cc)
+      | inr written ↦ not_done (Some (Replay options)) old new TraceRefused (line_of (fault_text fault)) result (λ no. cc) written.1 done
+    ])
+
 -- a source whose reads gave more than the limit has more
 pub long_source : (left after : Option (List ℕ)) → (bytes : List ℕ) × (length bytes ≡ MAX_SOURCE_LEN + 1) × Consumes left after bytes → IfSome left IsTooLong
 long_source None after read = tt
@@ -100,31 +128,41 @@ long_source (Some input) (Some rest) read =
     omega arith
 
 -- what a command wrote that reads nothing
-pub output_promises : (command : Command) (source : SourceFacts) (old new : SinkFacts) (text : List ℕ) (result : Status)
-    → let before : Outside = record { source = source; sink = old } in
-    let after : Outside = record { source = source; sink = new } in
-    IsDue (Some command) before after Done text → (Appends old.taken new.taken text → Headline (Some command) before after)
+pub output_promises : (command : Command) (source : SourceFacts) (old new : SinkFacts) (was kept : List Entry) (text : List ℕ) (result : Status)
+    → let before : Outside = record { source = source; sink = old; tables = was } in
+    let after : Outside = record { source = source; sink = new; tables = kept } in
+    IsDue (Some command) before after Done text
+    → (Appends old.taken new.taken text → Headline (Some command) before after × KeepsTables (Some command) before after)
     → ReadsFor (Some command) source source → IsWritten Done text old new result → KeepsPromises (Some command) before after result
-output_promises command source old new text result due output reads written =
-    let before : Outside = record { source = source; sink = old } in
-    let after : Outside = record { source = source; sink = new } in
+output_promises command source old new was kept text result due output reads written =
+    let before : Outside = record { source = source; sink = old; tables = was } in
+    let after : Outside = record { source = source; sink = new; tables = kept } in
     let ends : Ends (Some command) before after result = elim written as (λ _. Ends (Some command) before after result) [
-      | inl all ↦ subst (Ends (Some command) before after) (sym all.0) (output all.1)
+      | inl all ↦ subst (Ends (Some command) before after) (sym all.0) (output all.1).0
       | inr part ↦ subst (Ends (Some command) before after) (sym part.0) (part.1, (Done, text, due, part.2))
     ] in
     keeps_promises (Some command) before after result ends reads
+    (λ done.
+    elim written as (λ _. KeepsTables (Some command) before after) [
+      | inl all ↦ (output all.1).1
+      | inr part ↦ let no : WriteFault ≡ Done = sym part.0 ∙ done in absurd (cc)
+    ])
 
-pub trace_promises : (generator : GenOptions) (source : SourceFacts) (old new : SinkFacts) (text : List ℕ) (result : Status) → text ≡ trace_text (generated generator)
-    → IsWritten Done text old new result → KeepsPromises (Some (Gen generator)) (record { source = source; sink = old }) (record { source = source; sink = new }) result
-trace_promises generator source old new text result is written =
-    output_promises (Gen generator) source old new text result is (λ taken. subst (Appends old.taken new.taken) is taken) refl written
+pub trace_promises : (generator : GenOptions) (source : SourceFacts) (old new : SinkFacts) (kept : List Entry) (text : List ℕ) (result : Status) → text ≡ trace_text (generated generator)
+    → IsWritten Done text old new result
+    → KeepsPromises (Some (Gen generator)) (record { source = source; sink = old; tables = kept }) (record { source = source; sink = new; tables = kept }) result
+trace_promises generator source old new kept text result is written =
+    output_promises (Gen generator) source old new kept kept text result is (λ taken. (subst (Appends old.taken new.taken) is taken, tt)) refl written
 
-pub summary_promises : (options : Options) (generator : GenOptions) (source : SourceFacts) (old new : SinkFacts) (text : List ℕ) (result : Status)
-    → IsSummaryText options generator text → IsWritten Done text old new result
-    → KeepsPromises (Some (Bench options generator)) (record { source = source; sink = old }) (record { source = source; sink = new }) result
-summary_promises options generator source old new text result is written =
-    output_promises (Bench options generator) source old new text result is
-    (λ taken. record { report = is.report; lawful = is.lawful; printed = subst (Appends old.taken new.taken) is.spelled taken }) refl written
+pub summary_promises : (options : Options) (generator : GenOptions) (source : SourceFacts) (old new : SinkFacts) (was kept : List Entry) (text : List ℕ) (result : Status)
+    → SummarizesRun options generator kept text → IsWritten Done text old new result
+    → KeepsPromises (Some (Bench options generator)) (record { source = source; sink = old; tables = was }) (record { source = source; sink = new; tables = kept }) result
+summary_promises options generator source old new was kept text result is written =
+    output_promises (Bench options generator) source old new was kept text result (record { report = is.report; lawful = is.replayed.lawful; spelled = is.spelled })
+    (λ taken. let printed = subst (Appends old.taken new.taken) is.spelled taken in (
+      record { report = is.report; lawful = is.replayed.lawful; printed = printed },
+      record { report = is.report; replayed = is.replayed; printed = printed },
+    )) refl written
 
 -- the command that words give is this one
 pub given_promises : (given : Option Command) (read command : Command) (old new : Outside) (result : Status) → given ≡ Some read → read ≡ command
@@ -136,7 +174,7 @@ pub usage_promises : (command : Option Command) (old new : Outside) (result : St
     → IsWritten Usage (line_of (codes "usage")) old.sink new.sink result → KeepsPromises command old new result
 usage_promises command old new result none same written =
     subst (λ c. KeepsPromises c old new result) (sym none)
-    (keeps_promises None old new result (due_ends None old new Usage (line_of (codes "usage")) result refl (λ line. line) written) same)
+    (line_promises None old new Usage (line_of (codes "usage")) result (λ no. cc) refl (λ line. line) written same)
 
 kept_itself : (taken : Option (List ℕ)) → Keeps taken taken
 kept_itself None = tt
@@ -154,4 +192,4 @@ reads_nothing None source = refl
 
 -- no memory before anything was touched
 pub memory_promises : (command : Option Command) (outside : Outside) → KeepsPromises command outside outside NoMemory
-memory_promises command outside = keeps_promises command outside outside NoMemory (kept_itself outside.sink.taken) (reads_nothing command outside.source)
+memory_promises command outside = keeps_promises command outside outside NoMemory (kept_itself outside.sink.taken) (reads_nothing command outside.source) (λ done. let no : NoMemory ≡ Done = done in absurd (cc))

@@ -1,6 +1,7 @@
 -- What is known of the outside at one moment of a run.
 use Rattle.std.specs.Prelude.{◌≡◌, ℕ, Bool, true, List, Option}
 use Rattle.std.specs.Io.KnownBytes.{IsAtEnd}
+use Rattle.partition_table.specs.declared.tables.Entry.{Entry}
 
 -- a source: the bytes that it has left, where it tells them, whether a read has answered that it ended, and its count of faults
 pub record SourceFacts : Type 0 where
@@ -13,10 +14,11 @@ pub record SinkFacts : Type 0 where
   pub taken : Option (List ℕ)
   pub faults : ℕ
 
--- all that a run touches
+-- all that a run touches; the tables keep the owners' seats of a run that has ended
 pub record Outside : Type 0 where
   pub source : SourceFacts
   pub sink : SinkFacts
+  pub tables : List Entry
 
 -- the source was read to its end
 pub record IsReadUp (source : SourceFacts) : Type 0 where

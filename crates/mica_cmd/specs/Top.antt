@@ -11,6 +11,8 @@ use Rattle.mica_trace.specs.declared.report.Line.{Line}
 use Rattle.mica_trace.specs.TraceGrammar.{IsTrace, IsNoTrace, Refuses, fault_text, trace_text}
 use Rattle.mica_trace.specs.ReportGrammar.{report_text}
 use Rattle.mica_trace.specs.LawfulReport.{LawfulReport}
+use Rattle.partition_table.specs.declared.tables.Entry.{Entry}
+use Rattle.mica_replay.specs.Replayed.{IsReplayed}
 use Rattle.mica_cmd.specs.declared.top.TheConstants.{MAX_SOURCE_LEN}
 use Rattle.mica_cmd.specs.declared.command.Command.{Command}
 use Rattle.mica_cmd.specs.declared.command.Command.TheVariants.{Replay, Gen, Bench}
@@ -147,6 +149,26 @@ abbrev pub ReadsFor : Option Command → SourceFacts → SourceFacts → Type 0
 ReadsFor (Some (Replay options)) old new = GivesAtMost (MAX_SOURCE_LEN + 1) old new
 ReadsFor _ old new = new ≡ old
 
+-- the report that the sink took is that of a run whose owners' seats the tables keep
+pub record KeepsSeats (options : Options) (old new : Outside) : Type 0 where
+  pub trace : List TraceLine
+  pub read : Gives old.source trace
+  pub report : List Line
+  pub replayed : IsReplayed options trace report new.tables
+  pub printed : Appends old.sink.taken new.sink.taken (report_text report)
+
+-- the summary that the sink took is that of a run of the generated trace whose owners' seats the tables keep
+pub record KeepsGeneratedSeats (options : Options) (generator : GenOptions) (old new : Outside) : Type 0 where
+  pub report : List Line
+  pub replayed : IsReplayed options (generated generator) report new.tables
+  pub printed : Appends old.sink.taken new.sink.taken (summary_text options (generated generator) report)
+
+-- what the tables keep once a command was carried out
+abbrev pub KeepsTables : Option Command → Outside → Outside → Type 0
+KeepsTables (Some (Replay options)) old new = KeepsSeats options old new
+KeepsTables (Some (Bench options generator)) old new = KeepsGeneratedSeats options generator old new
+KeepsTables _ old new = Unit {0}
+
 -- What a run of a command promises of what was outside before it and is after it, and of its status.
 pub record KeepsPromises (command : Option Command) (old new : Outside) (status : Status) : Type 0 where
   -- each status has its meaning, and Done that of the headline
@@ -154,6 +176,14 @@ pub record KeepsPromises (command : Option Command) (old new : Outside) (status 
   -- an unhindered command is carried out, but for want of memory
   pub complete : IsUnhindered command old new → (status ≡ Done) ⊎ (status ≡ NoMemory)
   pub reads : ReadsFor command old.source new.source
+  -- where it was carried out, the tables have the seats of the run that was printed
+  pub tables : status ≡ Done → KeepsTables command old new
+
+-- the summary of a run of the generated trace whose owners' seats are these
+pub record SummarizesRun (options : Options) (generator : GenOptions) (kept : List Entry) (text : List ℕ) : Type 0 where
+  pub report : List Line
+  pub replayed : IsReplayed options (generated generator) report kept
+  pub spelled : text ≡ summary_text options (generated generator) report
 
 -- the text was written as due with the status, or a part of it, where a write failed
 abbrev pub IsWritten : Status → List ℕ → SinkFacts → SinkFacts → Status → Type 0

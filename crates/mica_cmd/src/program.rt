@@ -1,15 +1,18 @@
 // The whole program: its words, and the number that it ends with.
-ghost use Rattle.std.specs.Prelude.{◌≡◌, false};
+ghost use Rattle.std.specs.Prelude.{◌≡◌, [], false};
 ghost use Rattle.std.specs.Process.{exit_status};
 ghost use Rattle.mica_cmd.specs.Outside.{Outside, SourceFacts, SinkFacts};
 ghost use Rattle.mica_cmd.specs.Exit.{exit_number, Exits};
 
 use crate::{Status, mica};
-use mica_io::{NoMemory, Sink, Source};
+use mica_io::{Gate, NoMemory, Sink, Source};
+use partition_table::Tables;
 use std::env;
 use std::io::ErrorKind;
 use std::process::ExitCode;
 use std::rt::Env;
+use std::sync::Wait;
+use std::thread::Threads;
 
 // The words after the program's name. Words that are no text count as none, which no command has.
 fn words(rt: &HostRuntime) -> Result<Vec<String>, NoMemory> {
@@ -34,21 +37,40 @@ fn exit_code(status: Status) -> ExitCode
     ExitCode::from(status as u8)
 }
 
-/// Carries out the command that the program's words give, and ends with the number of its status.
-pub fn run_program<S: Source, K: Sink>(rt: &HostRuntime, source: &mut S, sink: &mut K) -> ExitCode
-    requires { S.has_ended source.old ≡ false }
+/// Carries out the command that the program's words give, and ends with the number of its status. `threads` is the
+/// same runtime, which may start threads in `main` alone.
+pub fn run_program<W: Threads + Wait + Sync, S: Source, K: Sink, G: Gate>(
+    rt: &HostRuntime,
+    threads: &W,
+    source: &mut S,
+    sink: &mut K,
+    gate: &G,
+    tables: &mut Tables,
+) -> ExitCode
+    requires source { S.has_ended source.old ≡ false }
+    requires tables { tables.old ≡ [] }
     ensures { Exits
         (record {
           source = record { left = S.left source.old; has_ended = S.has_ended source.old; faults = S.faults source.old };
           sink = record { taken = K.taken sink.old; faults = K.faults sink.old };
+          tables = tables.old;
         })
         (record {
           source = record { left = S.left source.new; has_ended = S.has_ended source.new; faults = S.faults source.new };
           sink = record { taken = K.taken sink.new; faults = K.faults sink.new };
+          tables = tables.new;
         }) (exit_status result) }
 {
     match words(rt) {
-        Ok(words) => exit_code(mica(rt.alloc(), words.as_slice(), source, sink)),
+        Ok(words) => exit_code(mica(
+            threads,
+            rt.alloc(),
+            words.as_slice(),
+            source,
+            sink,
+            gate,
+            tables,
+        )),
         Err(NoMemory) => exit_code(Status::NoMemory),
     }
 }

@@ -1,19 +1,23 @@
-ghost use Rattle.std.specs.Prelude.{◌≡◌, IfOk, true, ◌≢◌, Some, map, string_bytes, false};
+ghost use Rattle.std.specs.Prelude.{◌≡◌, ◌≢◌, [], List, IfOk, true, Some, map, string_bytes, false};
 ghost use Rattle.mica_model.specs.Options.{IsValid};
 ghost use Rattle.mica_cmd.specs.declared.command.Command.TheVariants.{Replay, Gen, Bench};
 ghost use Rattle.mica_trace.specs.TraceGrammar.{trace_text};
+ghost use Rattle.partition_table.specs.declared.tables.Entry.{Entry};
 ghost use Rattle.mica_cmd.specs.GenOptions.{is_valid};
 ghost use Rattle.mica_cmd.specs.Generator.{generated};
 ghost use Rattle.mica_cmd.specs.CommandLine.{command_of};
 ghost use Rattle.mica_cmd.specs.Outside.{Outside, SourceFacts, SinkFacts};
-ghost use Rattle.mica_cmd.specs.Top.{KeepsPromises, IsSummaryText, IsWritten, IsRefusedWith};
+ghost use Rattle.mica_cmd.specs.Top.{KeepsPromises, SummarizesRun, IsWritten, IsRefusedWith};
 
 use crate::{Command, GenOptions, Status, WordsFault, gen_trace, put_summary, read_words};
-use mica_io::{NoMemory, ReadFault, Sink, Source, read_up_to, write_all};
+use mica_io::{Gate, NoMemory, ReadFault, Sink, Source, read_up_to, write_all};
 use mica_model::Options;
 use mica_replay::{ReplayFault, replay, run_trace};
 use mica_trace::{TraceFault, put_trace, read_trace};
+use partition_table::Tables;
 use std::alloc::Global;
+use std::sync::Wait;
+use std::thread::Threads;
 
 /// The most bytes that a source may give.
 pub const MAX_SOURCE_LEN: usize = 16_777_216;
@@ -46,22 +50,28 @@ fn refuse<K: Sink>(alloc: Global, sink: &mut K, fault: TraceFault) -> Status
 }
 
 // Replays the trace that the source gives.
-fn replay_source<S: Source, K: Sink>(
+fn replay_source<W: Threads + Wait + Sync, S: Source, K: Sink, G: Gate>(
+    rt: &W,
     alloc: Global,
     options: &Options,
     source: &mut S,
     sink: &mut K,
+    gate: &G,
+    tables: &mut Tables,
 ) -> Status
     requires open { S.has_ended source.old ≡ false }
     requires valid { IsValid options.now }
+    requires tables { tables.old ≡ [] }
     ensures { KeepsPromises (Some (Replay options.now))
         (record {
           source = record { left = S.left source.old; has_ended = S.has_ended source.old; faults = S.faults source.old };
           sink = record { taken = K.taken sink.old; faults = K.faults sink.old };
+          tables = tables.old;
         })
         (record {
           source = record { left = S.left source.new; has_ended = S.has_ended source.new; faults = S.faults source.new };
           sink = record { taken = K.taken sink.new; faults = K.faults sink.new };
+          tables = tables.new;
         }) result }
 {
     let input = match read_up_to(alloc, source, MAX_SOURCE_LEN) {
@@ -71,7 +81,7 @@ fn replay_source<S: Source, K: Sink>(
         Err(ReadFault::NoMemory) => return Status::NoMemory,
     };
     match read_trace(alloc, input.as_slice()) {
-        Ok(trace) => match replay(alloc, options, &trace, sink) {
+        Ok(trace) => match replay(rt, alloc, options, &trace, sink, gate, tables) {
             Ok(()) => Status::Done,
             Err(ReplayFault::Write) => Status::WriteFault,
             Err(ReplayFault::NoMemory) => Status::NoMemory,
@@ -83,10 +93,17 @@ fn replay_source<S: Source, K: Sink>(
 // Prints the trace that the options generate.
 fn print_trace<K: Sink>(alloc: Global, generator: &GenOptions, sink: &mut K) -> Status
     requires { is_valid generator.now ≡ true }
-    ensures { (source : SourceFacts) → KeepsPromises (Some (Gen generator.now))
-        (record { source = source; sink = record { taken = K.taken sink.old; faults = K.faults sink.old } })
-        (record { source = source; sink = record { taken = K.taken sink.new; faults = K.faults sink.new } })
-        result }
+    ensures { (source : SourceFacts) → (kept : List Entry) → KeepsPromises (Some (Gen generator.now))
+        (record {
+          source = source;
+          sink = record { taken = K.taken sink.old; faults = K.faults sink.old };
+          tables = kept;
+        })
+        (record {
+          source = source;
+          sink = record { taken = K.taken sink.new; faults = K.faults sink.new };
+          tables = kept;
+        }) result }
 {
     match generated_text(alloc, generator) {
         Ok(text) => write_due(sink, text.as_slice(), Status::Done),
@@ -105,36 +122,51 @@ fn generated_text(alloc: Global, generator: &GenOptions) -> Result<Vec<u8>, NoMe
 }
 
 // Runs the trace that the options generate, and prints the summary.
-fn print_summary<K: Sink>(
+fn print_summary<W: Threads + Wait + Sync, K: Sink, G: Gate>(
+    rt: &W,
     alloc: Global,
     options: &Options,
     generator: &GenOptions,
     sink: &mut K,
+    gate: &G,
+    tables: &mut Tables,
 ) -> Status
     requires options { IsValid options.now }
     requires generator { is_valid generator.now ≡ true }
+    requires tables { tables.old ≡ [] }
     ensures { (source : SourceFacts) → KeepsPromises (Some (Bench options.now generator.now))
-        (record { source = source; sink = record { taken = K.taken sink.old; faults = K.faults sink.old } })
-        (record { source = source; sink = record { taken = K.taken sink.new; faults = K.faults sink.new } })
-        result }
+        (record {
+          source = source;
+          sink = record { taken = K.taken sink.old; faults = K.faults sink.old };
+          tables = tables.old;
+        })
+        (record {
+          source = source;
+          sink = record { taken = K.taken sink.new; faults = K.faults sink.new };
+          tables = tables.new;
+        }) result }
 {
-    match summary_of_run(alloc, options, generator) {
+    match summary_of_run(rt, alloc, options, generator, gate, tables) {
         Ok(text) => write_due(sink, text.as_slice(), Status::Done),
         Err(NoMemory) => Status::NoMemory,
     }
 }
 
-fn summary_of_run(
+fn summary_of_run<W: Threads + Wait + Sync, G: Gate>(
+    rt: &W,
     alloc: Global,
     options: &Options,
     generator: &GenOptions,
+    gate: &G,
+    tables: &mut Tables,
 ) -> Result<Vec<u8>, NoMemory>
     requires options { IsValid options.now }
     requires generator { is_valid generator.now ≡ true }
-    ensures { IfOk result (λ text. IsSummaryText options.now generator.now text.items) }
+    requires tables { tables.old ≡ [] }
+    ensures { IfOk result (λ text. SummarizesRun options.now generator.now tables.new text.items) }
 {
     let trace = gen_trace(alloc, generator)?;
-    let report = run_trace(alloc, options, &trace)?;
+    let report = run_trace(rt, alloc, options, &trace, gate, tables)?;
     let mut text = Vec::new(alloc);
     put_summary(options, &trace, &report, &mut text)?;
     Ok(text)
@@ -143,28 +175,38 @@ fn summary_of_run(
 /// Carries a command out. It reads the words first, then the source, then the trace.
 ///
 /// The contract is the program's: what each status means, the headline with `Done`, which commands are carried out whatever
-/// happens, and how much is read.
-pub fn mica<S: Source, K: Sink>(
+/// happens, how much is read, and what the tables keep.
+pub fn mica<W: Threads + Wait + Sync, S: Source, K: Sink, G: Gate>(
+    rt: &W,
     alloc: Global,
     words: &[String],
     source: &mut S,
     sink: &mut K,
+    gate: &G,
+    tables: &mut Tables,
 ) -> Status
-    requires { S.has_ended source.old ≡ false }
+    requires source { S.has_ended source.old ≡ false }
+    requires tables { tables.old ≡ [] }
     ensures { KeepsPromises (command_of (map string_bytes words.now))
         (record {
           source = record { left = S.left source.old; has_ended = S.has_ended source.old; faults = S.faults source.old };
           sink = record { taken = K.taken sink.old; faults = K.faults sink.old };
+          tables = tables.old;
         })
         (record {
           source = record { left = S.left source.new; has_ended = S.has_ended source.new; faults = S.faults source.new };
           sink = record { taken = K.taken sink.new; faults = K.faults sink.new };
+          tables = tables.new;
         }) result }
 {
     match read_words(alloc, words) {
-        Ok(Command::Replay(options)) => replay_source(alloc, &options, source, sink),
+        Ok(Command::Replay(options)) => {
+            replay_source(rt, alloc, &options, source, sink, gate, tables)
+        }
         Ok(Command::Gen(generator)) => print_trace(alloc, &generator, sink),
-        Ok(Command::Bench(options, generator)) => print_summary(alloc, &options, &generator, sink),
+        Ok(Command::Bench(options, generator)) => {
+            print_summary(rt, alloc, &options, &generator, sink, gate, tables)
+        }
         Err(WordsFault::Usage) => write_due(sink, b"usage\n", Status::Usage),
         Err(WordsFault::NoMemory) => Status::NoMemory,
     }

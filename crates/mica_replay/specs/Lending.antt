@@ -4,18 +4,9 @@ use Rattle.atomic_table.specs.Seated.{TableId}
 use Rattle.mica_model.specs.History.{IsPrefix}
 use Rattle.epoch_core.specs.declared.state.OwnerState.{OwnerState}
 use Rattle.epoch_core.specs.declared.reader.ReaderState.{ReaderState}
-use Rattle.partition_table.specs.declared.reader.ReaderSeat.{ReaderSeat}
-use Rattle.partition_table.specs.Rule.{reader_in}
 use Rattle.mica_replay.specs.declared.worker.OwnerWork.{OwnerWork}
 use Rattle.epoch_core.specs.Joins.{lent}
 use Rattle.mica_replay.specs.Replies.{Replies}
-
--- what a reader's seat knows, and its table
-abbrev pub seat_state : ReaderSeat → ReaderState
-seat_state s = reader_in s.seat.me.0
-
-abbrev pub seat_table : ReaderSeat → TableId
-seat_table s = s.seat.table_id
 
 -- an owner's state and table, and its part of a round
 pub record OwnerPart : Type 0 where

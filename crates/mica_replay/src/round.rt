@@ -1,7 +1,8 @@
 //! A round from the lending of its seats to the last meeting.
 ghost use Rattle.std.specs.Prelude.{◌≡◌, ◌<◌, OnOk, All, map, length};
 ghost use Rattle.mica_model.specs.Options.{IsValid};
-ghost use Rattle.mica_replay.specs.Lending.{owner_part, seat_state, seat_table};
+ghost use Rattle.mica_replay.specs.Lending.{owner_part};
+ghost use Rattle.partition_table.specs.Seats.{reader_state, reader_home};
 ghost use Rattle.mica_replay.specs.RoundRun.{reader_part, AreReady, HasRunRound};
 
 use crate::lending::{lend_all, meet_all};
@@ -32,12 +33,12 @@ pub(crate) fn run_round<
     requires valid { IsValid options.now }
     requires ready { AreReady trace.now options.now
         (map (λ w. owner_part P.owner P.home w) owners.old.items)
-        (map (λ r. reader_part seat_state seat_table r) readers.old.items) }
+        (map (λ r. reader_part reader_state reader_home r) readers.old.items) }
     ensures ran { OnOk result (HasRunRound trace.now options.now
         (map (λ w. owner_part P.owner P.home w) owners.old.items)
         (map (λ w. owner_part P.owner P.home w) owners.new.items)
-        (map (λ r. reader_part seat_state seat_table r) readers.old.items)
-        (map (λ r. reader_part seat_state seat_table r) readers.new.items)) }
+        (map (λ r. reader_part reader_state reader_home r) readers.old.items)
+        (map (λ r. reader_part reader_state reader_home r) readers.new.items)) }
 {
     for q in 0..readers.len() {
         let reader = &mut readers[q];

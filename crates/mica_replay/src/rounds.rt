@@ -2,7 +2,8 @@
 ghost use Rattle.std.specs.Prelude.{◌≡◌, ◌<◌, ◌≤◌, ◌-◌, [], IfOk, OnOk, MatchOption, map, length, take, drop};
 ghost use Rattle.mica_model.specs.Options.{IsValid};
 ghost use Rattle.mica_trace.specs.RoundReport.{EndsRound, IsOneRound, gets_in};
-ghost use Rattle.mica_replay.specs.Lending.{owner_part, seat_state, seat_table};
+ghost use Rattle.mica_replay.specs.Lending.{owner_part};
+ghost use Rattle.partition_table.specs.Seats.{reader_state, reader_home};
 ghost use Rattle.mica_replay.specs.RoundRun.{reader_part, state_of_owner, AreFree, AreMade, IsRoundTo};
 ghost use Rattle.mica_replay.specs.Between.{IsReplaying};
 
@@ -57,11 +58,11 @@ fn run_one<
     requires one { IsOneRound (take (to - from) (drop from trace.now)) }
     requires so_far { IsReplaying options.now (take from trace.now) report.old
         (map state_of_owner (map (λ w. owner_part P.owner P.home w) owners.old.items)) }
-    requires readers { AreFree options.now (map (λ r. reader_part seat_state seat_table r) readers.old.items) }
+    requires readers { AreFree options.now (map (λ r. reader_part reader_state reader_home r) readers.old.items) }
     ensures gets { IfOk result (λ g. g ≡ gets_in (take to trace.now)) }
     ensures so_far { OnOk result (IsReplaying options.now (take to trace.now) report.new
         (map state_of_owner (map (λ w. owner_part P.owner P.home w) owners.new.items))) }
-    ensures readers { OnOk result (AreFree options.now (map (λ r. reader_part seat_state seat_table r) readers.new.items)) }
+    ensures readers { OnOk result (AreFree options.now (map (λ r. reader_part reader_state reader_home r) readers.new.items)) }
 {
     let next = split_round(alloc, options, trace, from, to, gets, owners, readers)?;
     run_round(rt, alloc, trace, options, gate, owners, readers)?;
@@ -94,7 +95,7 @@ pub(crate) fn run_rounds<
 ) -> Result<Report, NoMemory>
     requires valid { IsValid options.now }
     requires made { AreMade options.now (map (λ w. owner_part P.owner P.home w) owners.old.items) }
-    requires free { AreFree options.now (map (λ r. reader_part seat_state seat_table r) readers.old.items) }
+    requires free { AreFree options.now (map (λ r. reader_part reader_state reader_home r) readers.old.items) }
     ensures { IfOk result (λ report. IsReplaying options.now trace.now report
         (map state_of_owner (map (λ w. owner_part P.owner P.home w) owners.new.items))) }
 {

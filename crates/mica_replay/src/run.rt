@@ -6,7 +6,6 @@ ghost use Rattle.epoch_core.specs.declared.state.Phase.TheVariants.{Idle};
 ghost use Rattle.epoch_core.specs.declared.state.OwnerState.{OwnerState};
 ghost use Rattle.epoch_core.specs.Shape.{shape_of};
 ghost use Rattle.epoch_core.specs.OwnerState.{as_made};
-ghost use Rattle.partition_table.specs.Rule.{owner_in};
 ghost use Rattle.mica_replay.specs.Lending.{OwnerPart, owner_part};
 ghost use Rattle.mica_replay.specs.RoundRun.{reader_part, AreMade, AreFree, kept_of};
 ghost use Rattle.mica_replay.specs.Replayed.{IsReplayed};
@@ -38,7 +37,7 @@ pub trait OnTable: Drop {
         ensures made { IfOk result (λ p. Self.state p ≡ as_made (shape_of options.now)) };
 
     fn into_seat(self) -> OwnerSeat
-        ensures { owner_in result.seat.me.0 ≡ Self.state self };
+        ensures { owner_state result ≡ Self.state self };
 }
 
 impl OnTable for CachePartition<OwnerSeat> {
@@ -76,7 +75,10 @@ impl OnTable for StorePartition<OwnerSeat> {
 }
 
 // One owner for each partition.
-fn make_owners<P: OnTable + Partition>(alloc: Global, options: &Options) -> Result<Vec<OwnerWork<P>>, NoMemory>
+fn make_owners<P: OnTable + Partition>(
+    alloc: Global,
+    options: &Options,
+) -> Result<Vec<OwnerWork<P>>, NoMemory>
     requires valid { IsValid options.now }
     requires mode { options.now.mode ≡ P.mode }
     requires same { (p : P) → P.state p ≡ P.owner p }

@@ -1,7 +1,7 @@
 //! The workers of a round: each owner and each reader, with its part of the round, in a thread of its own.
 ghost use Rattle.std.specs.Prelude.{◌≡◌, ◌+◌, ◌<◌, ◌≤◌, ◌++◌, [], ℕ, List, All, length, map, slice_index_or, vec_len, vec_capacity, OnOk};
 ghost use Rattle.mica_model.specs.Options.{IsValid};
-ghost use Rattle.mica_replay.specs.Lending.{seat_state, seat_table};
+ghost use Rattle.partition_table.specs.Seats.{reader_state, reader_home};
 ghost use Rattle.mica_replay.specs.Workers.{IsReadyOwner, OwnerRan, OwnersRan, IsReadyReader, ReaderRan, ReadersRan, IsReadyWorker, WorkerRan, WorkersRan, owners_in, readers_in};
 
 use crate::done::Done;
@@ -120,8 +120,8 @@ fn run_workers<
 )
     requires some { 0 < length workers.old.items }
     requires valid { IsValid options.now }
-    requires ready { All (IsReadyWorker seat_state trace.now options.now) workers.old.items }
-    ensures { WorkersRan P.owner P.home seat_state seat_table trace.now options.now
+    requires ready { All (IsReadyWorker reader_state trace.now options.now) workers.old.items }
+    ensures { WorkersRan P.owner P.home reader_state reader_home trace.now options.now
         workers.old.items workers.new.items }
 {
     let threads = workers.len();
@@ -130,8 +130,8 @@ fn run_workers<
         workers.as_mut_slice(),
         threads,
         &|_, worker|
-            requires { IsValid options.now × IsReadyWorker seat_state trace.now options.now worker.now }
-            ensures { WorkerRan P.owner P.home seat_state seat_table trace.entry.now options.entry.now
+            requires { IsValid options.now × IsReadyWorker reader_state trace.now options.now worker.now }
+            ensures { WorkerRan P.owner P.home reader_state reader_home trace.entry.now options.entry.now
                 worker.entry.now worker.exit.now }
         { worker.run(rt, alloc, trace, options, gate) },
     );
@@ -197,9 +197,9 @@ pub(crate) fn run_all<
     requires some { 0 < length readers.old.items }
     requires valid { IsValid options.now }
     requires owners { All (IsReadyOwner trace.now) owners.old.items }
-    requires readers { All (IsReadyReader seat_state trace.now options.now) readers.old.items }
+    requires readers { All (IsReadyReader reader_state trace.now options.now) readers.old.items }
     ensures owners { OnOk result (OwnersRan P.owner P.home trace.now owners.old.items owners.new.items) }
-    ensures readers { OnOk result (ReadersRan seat_state seat_table trace.now options.now
+    ensures readers { OnOk result (ReadersRan reader_state reader_home trace.now options.now
         readers.old.items readers.new.items) }
 {
     let room = readers.len() + owners.len();

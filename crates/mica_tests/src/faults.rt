@@ -3,7 +3,9 @@
 use crate::runs::{Outside, expect_between};
 use mica_cmd::Status;
 use std::process::Abort;
+use std::sync::Wait;
 use std::test::Fail;
+use std::thread::Threads;
 
 /// A run over a source whose reads take a byte each. One read or one write fails, by its number from 1.
 #[derive(Clone, Copy)]
@@ -125,7 +127,11 @@ static FAULTS: [Fault; 11] = [
 ];
 
 /// The status of a run with this fault, and what was written until then.
-fn expect_fault(rt: &(impl Abort + AllocGlobal), fault: &Fault, input: &str) -> Result<(), Fail> {
+fn expect_fault(
+    rt: &(impl Abort + AllocGlobal + Threads + Wait + Sync),
+    fault: &Fault,
+    input: &str,
+) -> Result<(), Fail> {
     let outside = Outside {
         source_piece: 1,
         source_fails: &[fault.read],

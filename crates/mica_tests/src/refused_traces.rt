@@ -3,7 +3,9 @@
 use crate::runs::expect_output;
 use mica_cmd::Status;
 use std::process::Abort;
+use std::sync::Wait;
 use std::test::Fail;
+use std::thread::Threads;
 
 const STORE: &str = "replay --mode=store";
 
@@ -113,7 +115,7 @@ fn bad_lines(rt: HostRuntime) -> Result<(), Fail> {
 
 /// The line is refused as the second one, by its length or by what it says.
 fn expect_refused_line(
-    rt: &(impl Abort + AllocGlobal),
+    rt: &(impl Abort + AllocGlobal + Threads + Wait + Sync),
     start: &str,
     more: usize,
     refusal: &str,
@@ -148,7 +150,7 @@ fn long_lines(rt: HostRuntime) -> Result<(), Fail> {
 
 /// So many like lines give this.
 fn expect_lines(
-    rt: &(impl Abort + AllocGlobal),
+    rt: &(impl Abort + AllocGlobal + Threads + Wait + Sync),
     line: &str,
     count: usize,
     status: Status,
@@ -186,7 +188,7 @@ fn lines_at_their_limit(rt: HostRuntime) -> Result<(), Fail> {
 
 /// So many bytes without a line feed give this.
 fn expect_bytes(
-    rt: &(impl Abort + AllocGlobal),
+    rt: &(impl Abort + AllocGlobal + Threads + Wait + Sync),
     count: usize,
     status: Status,
     output: &[u8],

@@ -3,7 +3,9 @@
 use crate::runs::expect_output;
 use mica_cmd::Status;
 use std::process::Abort;
+use std::sync::Wait;
 use std::test::Fail;
+use std::thread::Threads;
 
 static REFUSED: [&str; 16] = [
     "",
@@ -97,7 +99,7 @@ static ACCEPTED: [&str; 6] = [
 
 /// Each line ends with this status and has written this, over a trace of one get.
 fn expect_lines(
-    rt: &(impl Abort + AllocGlobal),
+    rt: &(impl Abort + AllocGlobal + Threads + Wait + Sync),
     lines: &[&str],
     status: Status,
     output: &[u8],

@@ -1,10 +1,13 @@
 //! One run of the top call over bytes in memory.
 
 use mica_cmd::{Status, mica};
-use mica_io::{MemSink, MemSource, NoMemory};
+use mica_io::{FreeGate, MemSink, MemSource, NoMemory};
+use partition_table::Tables;
 use std::alloc::Global;
 use std::process::Abort;
+use std::sync::Wait;
 use std::test::Fail;
+use std::thread::Threads;
 
 /// A run, and how it ends. The words are parted by one space.
 pub struct Run {
@@ -38,7 +41,7 @@ fn words_of(alloc: Global, line: &str) -> Result<Vec<String>, NoMemory> {
 
 /// Runs the words over the input, and compares the status and all that was written.
 pub fn expect_between(
-    rt: &(impl Abort + AllocGlobal),
+    rt: &(impl Abort + AllocGlobal + Threads + Wait + Sync),
     outside: &Outside<'_>,
     line: &str,
     input: &[u8],
@@ -50,7 +53,16 @@ pub fn expect_between(
     assert!(rt; outside.source_piece > 0 && outside.sink_piece > 0);
     let mut source = MemSource::new(alloc, input, outside.source_piece, outside.source_fails)?;
     let mut sink = MemSink::new(alloc, outside.room, outside.sink_piece, outside.sink_fails)?;
-    let found = mica(alloc, words.as_slice(), &mut source, &mut sink);
+    let mut tables = Tables::new();
+    let found = mica(
+        rt,
+        alloc,
+        words.as_slice(),
+        &mut source,
+        &mut sink,
+        &FreeGate,
+        &mut tables,
+    );
     assert!(rt; found == status, "{line}: {found:?} for {status:?}");
     assert!(rt; sink.taken() == output, "{line}: other bytes were written");
     Ok(())
@@ -58,7 +70,7 @@ pub fn expect_between(
 
 /// The same over an outside that moves some bytes at a time, and never fails.
 pub fn expect_output(
-    rt: &(impl Abort + AllocGlobal),
+    rt: &(impl Abort + AllocGlobal + Threads + Wait + Sync),
     line: &str,
     input: &[u8],
     status: Status,
@@ -75,7 +87,10 @@ pub fn expect_output(
 }
 
 /// The same for each run, over an outside that moves few bytes at a time.
-pub fn expect_runs(rt: &(impl Abort + AllocGlobal), runs: &[Run]) -> Result<(), Fail> {
+pub fn expect_runs(
+    rt: &(impl Abort + AllocGlobal + Threads + Wait + Sync),
+    runs: &[Run],
+) -> Result<(), Fail> {
     let outside = Outside {
         source_piece: 7,
         source_fails: &[],

@@ -6,7 +6,9 @@ use mica_model::{Answer, CacheMachine, ItemBuf, Mode, Op, Options, Outcome};
 use mica_words::{key_fits, value_fits};
 use std::alloc::Global;
 use std::process::Abort;
+use std::sync::Wait;
 use std::test::Fail;
+use std::thread::Threads;
 
 fn outcome_words(outcome: Outcome) -> &'static str {
     match outcome {
@@ -61,7 +63,7 @@ fn get_line(alloc: Global, machine: &CacheMachine, key: &str) -> Result<String, 
 
 // Draws so many writes and gets of 40 keys, and compares what a replay prints with what the machine says.
 fn expect_same(
-    rt: &(impl Abort + AllocGlobal),
+    rt: &(impl Abort + AllocGlobal + Threads + Wait + Sync),
     words: &str,
     options: &Options,
     count: u32,
@@ -91,7 +93,10 @@ fn expect_same(
             }
             _ => {
                 let reply = get_line(alloc, &machine, key.as_str())?;
-                (format!(in alloc; "get {key}\n")?, reply)
+                (
+                    format!(in alloc; "sync\nget {key}\nsync\n")?,
+                    format!(in alloc; "sync\n{reply}sync\n")?,
+                )
             }
         };
         input.push_str(line.as_str())?;

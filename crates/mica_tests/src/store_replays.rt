@@ -89,18 +89,24 @@ del 1 absent
         input: "\
 put a 1
 del a
+sync
 get a
+sync
 del a
 put a 2
+sync
 get a
 ",
         status: Status::Done,
         output: "\
 put 1 stored
 del 2 deleted
+sync
 get 2 miss
+sync
 del 3 absent
 put 4 stored
+sync
 get 4 hit 2
 ",
     },
@@ -108,19 +114,29 @@ get 4 hit 2
         words: ONE,
         input: "\
 put a 
+sync
 get a
+sync
 put a  1
+sync
 get a
+sync
 put b a b
+sync
 get b
 ",
         status: Status::Done,
         output: "\
 put 1 stored
+sync
 get 1 hit 
+sync
 put 2 stored
+sync
 get 2 hit  1
+sync
 put 3 stored
+sync
 get 3 hit a b
 ",
     },
@@ -275,6 +291,7 @@ put k27 1
 put k29 1
 put k30 1
 put k02 2
+sync
 get k02
 get k30
 ",
@@ -297,6 +314,7 @@ put 14 stored
 put 15 stored
 put 15 full spare
 put 16 stored
+sync
 get 16 hit 2
 get 16 miss
 ",

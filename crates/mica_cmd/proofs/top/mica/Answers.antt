@@ -4,12 +4,12 @@ use Rattle.mica_cmd.proofs.Endings.{given_promises, memory_promises, usage_promi
 use Rattle.mica_cmd.proofs.top.mica.Goals as goal
 
 pub replay_source-requires-clause-valid : goal.replay_source-requires-clause-valid
-replay_source-requires-clause-valid g c = subst IsValidCommand c.in-Ok-Replay.field-0-is c.in-Ok-Replay.ensures.1
+replay_source-requires-clause-valid g c κs within = subst IsValidCommand c.in-Ok-Replay.field-0-is c.in-Ok-Replay.ensures.1
 
 pub returns-in-Ok-Gen : goal.returns-in-Ok-Gen
 returns-in-Ok-Gen g c =
     given_promises _ _ _ _ _ _ c.in-Ok-Gen.ensures.0 c.in-Ok-Gen.field-0-is
-    (c.print_trace.ensures (record { left = g.S.Source.left c.args.source.now; has_ended = g.S.Source.has_ended c.args.source.now; faults = g.S.Source.faults c.args.source.now }))
+    (c.print_trace.ensures (record { left = g.S.Source.left c.args.source.now; has_ended = g.S.Source.has_ended c.args.source.now; faults = g.S.Source.faults c.args.source.now }) c.args.tables.now)
 
 pub returns-in-Ok-Bench : goal.returns-in-Ok-Bench
 returns-in-Ok-Bench g c =

@@ -6,19 +6,19 @@ use Rattle.mica_cmd.specs.declared.top.TheConstants.{MAX_SOURCE_LEN}
 use Rattle.mica_cmd.specs.declared.command.Command.TheVariants.{Replay}
 use Rattle.mica_cmd.specs.declared.status.Status.TheVariants.{Done, TraceLong, ReadFault}
 use Rattle.mica_cmd.specs.Top.{line_of}
-use Rattle.mica_cmd.proofs.Endings.{due_ends, keeps_promises, long_source, refused_ends, gives_trace}
+use Rattle.mica_cmd.proofs.Endings.{keeps_promises, line_promises, long_source, refused_promises, gives_trace}
 use Rattle.mica_cmd.proofs.top.replay_source.Goals as goal
 
 pub returns-in-Err-Failed : goal.returns-in-Err-Failed
 returns-in-Err-Failed g c =
     let read = c.in-Err-Failed.ensures in
-    keeps_promises _ _ _ _ (due_ends (Some (Replay c.args.options.now)) _ _ ReadFault (line_of (codes "read fault")) _ (read.cause (ap Err c.in-Err-Failed.field-0-is), refl) (λ line. line) c.write_due.ensures) read.took
+    line_promises (Some (Replay c.args.options.now)) _ _ ReadFault (line_of (codes "read fault")) _ (λ no. cc) (read.cause (ap Err c.in-Err-Failed.field-0-is), refl) (λ line. line) c.write_due.ensures read.took
 
 pub returns-in-Err-Long : goal.returns-in-Err-Long
 returns-in-Err-Long g c =
     let read = c.in-Err-Long.ensures in
     let long = long_source _ _ (read.long (ap Err c.in-Err-Long.field-0-is)) in
-    keeps_promises _ _ _ _ (due_ends (Some (Replay c.args.options.now)) _ _ TraceLong (line_of (codes "trace too long")) _ (long, refl) (λ line. line) c.write_due-in-Err-Long.ensures) read.took
+    line_promises (Some (Replay c.args.options.now)) _ _ TraceLong (line_of (codes "trace too long")) _ (λ no. cc) (long, refl) (λ line. line) c.write_due-in-Err-Long.ensures read.took
 
 pub returns-in-Err-Write : goal.returns-in-Err-Write
 returns-in-Err-Write g c =
@@ -40,12 +40,12 @@ returns-in-Err-Write g c =
           read = gives_trace _ _ input trace read.all read.end.0 short is;
           ended = record { told = read.end.1; nothing = read.end.0 };
           report = part.report;
-          lawful = part.lawful;
+          lawful = part.replayed.lawful;
           spelled = refl;
         },
         (part.count, part.proper, part.taken),
       ),
-    ) read.took
+    ) read.took (λ no. absurd (cc))
 
 pub returns : goal.returns
 returns g c =
@@ -55,4 +55,4 @@ returns g c =
     let within = read.within in
     let short : length input ≤ MAX_SOURCE_LEN = omega (arith, within, c.in-Ok.input.ok.0) in
     let why = subst (λ bytes. (fault ≡ NoRoom) ⊎ (Refuses bytes fault × IsNoTrace bytes)) c.as_slice.ensures.value c.in-Err.ensures.refused in
-    keeps_promises _ _ _ _ (refused_ends _ _ _ input fault _ read.all (record { told = read.end.1; nothing = read.end.0 }) short why c.refuse.ensures) read.took
+    refused_promises _ _ _ input fault _ read.all (record { told = read.end.1; nothing = read.end.0 }) short why c.refuse.ensures read.took

@@ -15,14 +15,14 @@ use Rattle.mica_replay.specs.Merged.{AreEnough, HasMerged}
 use Rattle.mica_trace.proofs.ListParts.{length_zip}
 use Rattle.mica_replay.proofs.LineShares.{take_most}
 use Rattle.mica_replay.proofs.OneRound.{are_ready, are_enough, goes_next, free_again, take_join, all_take, all_drop, twice_map, gets_few, gets_join}
-use Rattle.mica_replay.specs.Lending.{seat_state, seat_table}
+use Rattle.partition_table.specs.Seats.{reader_state, reader_home}
 use Rattle.partition_table.specs.declared.reader.ReaderSeat.{ReaderSeat}
 use Rattle.mica_replay.proofs.rounds.run_one.Goals as goal
 
 pub run_round-requires-clause-ready : goal.run_round-requires-clause-ready
 run_round-requires-clause-ready g c κs within =
     let f = λ (w : OwnerWork g.row.P.Denot). owner_part g.P.Partition.owner g.P.Partition.home w in
-    let t = λ (r : ReaderWork ReaderSeat). reader_part seat_state seat_table r in
+    let t = λ (r : ReaderWork ReaderSeat). reader_part reader_state reader_home r in
     let options = c.args.options.now in
     let trace = c.args.trace.now in
     let before = take c.args.from trace in
@@ -39,7 +39,7 @@ run_round-requires-clause-ready g c κs within =
 pub print_round-requires-clause-enough : goal.print_round-requires-clause-enough
 print_round-requires-clause-enough g c =
     let f = λ (w : OwnerWork g.row.P.Denot). owner_part g.P.Partition.owner g.P.Partition.home w in
-    let t = λ (r : ReaderWork ReaderSeat). reader_part seat_state seat_table r in
+    let t = λ (r : ReaderWork ReaderSeat). reader_part reader_state reader_home r in
     let options = c.args.options.now in
     let trace = c.args.trace.now in
     let before = take c.args.from trace in
@@ -82,7 +82,7 @@ returns-clause-gets g c =
 pub returns-clause-so_far : goal.returns-clause-so_far
 returns-clause-so_far g c =
     let f = λ (w : OwnerWork g.row.P.Denot). owner_part g.P.Partition.owner g.P.Partition.home w in
-    let t = λ (r : ReaderWork ReaderSeat). reader_part seat_state seat_table r in
+    let t = λ (r : ReaderWork ReaderSeat). reader_part reader_state reader_home r in
     let options = c.args.options.now in
     let trace = c.args.trace.now in
     let before = take c.args.from trace in
@@ -113,7 +113,7 @@ returns-clause-so_far g c =
 pub returns-clause-readers : goal.returns-clause-readers
 returns-clause-readers g c =
     let f = λ (w : OwnerWork g.row.P.Denot). owner_part g.P.Partition.owner g.P.Partition.home w in
-    let t = λ (r : ReaderWork ReaderSeat). reader_part seat_state seat_table r in
+    let t = λ (r : ReaderWork ReaderSeat). reader_part reader_state reader_home r in
     let options = c.args.options.now in
     let trace = c.args.trace.now in
     let before = take c.args.from trace in
