@@ -23,6 +23,8 @@ mod refused_words;
 #[cfg(test)]
 mod reports;
 #[cfg(test)]
+mod rounds;
+#[cfg(test)]
 mod runs;
 #[cfg(test)]
 mod same_as_machine;

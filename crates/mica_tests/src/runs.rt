@@ -1,7 +1,7 @@
 //! One run of the top call over bytes in memory.
 
 use mica_cmd::{Status, mica};
-use mica_io::{FreeGate, MemSink, MemSource, NoMemory};
+use mica_io::{FreeGate, Gate, MemSink, MemSource, NoMemory};
 use partition_table::Tables;
 use std::alloc::Global;
 use std::process::Abort;
@@ -39,6 +39,32 @@ fn words_of(alloc: Global, line: &str) -> Result<Vec<String>, NoMemory> {
     Ok(words)
 }
 
+/// Runs the words over the input, and gives the status and the sink.
+pub fn run_words<G: Gate>(
+    rt: &(impl Abort + AllocGlobal + Threads + Wait + Sync),
+    outside: &Outside<'_>,
+    gate: &G,
+    line: &str,
+    input: &[u8],
+) -> Result<(Status, MemSink), Fail> {
+    let alloc = rt.alloc();
+    let words = words_of(alloc, line)?;
+    assert!(rt; outside.source_piece > 0 && outside.sink_piece > 0);
+    let mut source = MemSource::new(alloc, input, outside.source_piece, outside.source_fails)?;
+    let mut sink = MemSink::new(alloc, outside.room, outside.sink_piece, outside.sink_fails)?;
+    let mut tables = Tables::new();
+    let status = mica(
+        rt,
+        alloc,
+        words.as_slice(),
+        &mut source,
+        &mut sink,
+        gate,
+        &mut tables,
+    );
+    Ok((status, sink))
+}
+
 /// Runs the words over the input, and compares the status and all that was written.
 pub fn expect_between(
     rt: &(impl Abort + AllocGlobal + Threads + Wait + Sync),
@@ -48,21 +74,7 @@ pub fn expect_between(
     status: Status,
     output: &[u8],
 ) -> Result<(), Fail> {
-    let alloc = rt.alloc();
-    let words = words_of(alloc, line)?;
-    assert!(rt; outside.source_piece > 0 && outside.sink_piece > 0);
-    let mut source = MemSource::new(alloc, input, outside.source_piece, outside.source_fails)?;
-    let mut sink = MemSink::new(alloc, outside.room, outside.sink_piece, outside.sink_fails)?;
-    let mut tables = Tables::new();
-    let found = mica(
-        rt,
-        alloc,
-        words.as_slice(),
-        &mut source,
-        &mut sink,
-        &FreeGate,
-        &mut tables,
-    );
+    let (found, sink) = run_words(rt, outside, &FreeGate, line, input)?;
     assert!(rt; found == status, "{line}: {found:?} for {status:?}");
     assert!(rt; sink.taken() == output, "{line}: other bytes were written");
     Ok(())
