@@ -60,6 +60,7 @@ fn two_readers_answer_beside_the_owner(rt: HostRuntime) -> Result<(), Fail> {
 
 /// Holds the reader before its first get until the owner came to its second write, and the owner there until the
 /// reader came to its second get.
+#[derive(Drop)]
 struct Meeting {
     owner_came: AtomicBool,
     reader_came: AtomicBool,
@@ -105,6 +106,7 @@ fn the_workers_of_a_round_meet_at_the_gate(rt: HostRuntime) -> Result<(), Fail> 
 }
 
 /// Counts the calls of each worker below 4: byte `call` of its number says how often it called with that number.
+#[derive(Drop)]
 struct Counts {
     calls: [AtomicU64; 4],
 }
