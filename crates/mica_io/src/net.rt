@@ -1,5 +1,5 @@
 //! A net.
-ghost use Rattle.std.specs.Prelude.{◌≡◌, ◌<◌, ◌≤◌, ◌+◌, ◌⊎◌, ◌==◌, ◌||◌, not, ℕ, false, List, Some, Option, is_err, IfOk, IfSome, OnOk, OnErr, min, if◌then◌else◌};
+ghost use Rattle.std.specs.Prelude.{◌≡◌, ◌<◌, ◌≤◌, ◌+◌, ◌⊎◌, ◌==◌, ◌||◌, not, ℕ, false, List, Some, Option, is_err, IfOk, IfSome, IfNone, None, OnErr, min, if◌then◌else◌};
 ghost use Rattle.mica_io.specs.Faults.{Rose, LAST_COUNT, faults_after};
 ghost use Rattle.mica_io.specs.Script.{is_listed};
 ghost use Rattle.mica_io.specs.Traffic.{new_traffic};
@@ -47,6 +47,7 @@ pub trait Net {
             (λ old. BindsEnd old port (Self.End.traffic e) (Self.End.script e) (ports self.new))) }
 
         ensures unbound { OnErr result (ports self.new ≡ ports self.old) }
+        ensures silent { IfNone (ports self.old) (ports self.new ≡ None) }
         ensures cause { OnErr result (Rose (faults self.old) (faults self.new)) }
         ensures never_fall { faults self.old ≤ faults self.new }
         ensures counted { IfSome (fails self.old)
@@ -66,6 +67,7 @@ pub trait Net {
 
         ensures told { IfSome (ports self.old) (λ all. IfSome (Self.End.traffic end) (λ traffic. ports self.new
             ≡ Some (with_port (Self.End.port end) (back traffic (Self.End.has_ended end)) all))) }
+        ensures silent { IfNone (ports self.old) (ports self.new ≡ None) }
         ensures cause { 0 < Self.End.faults end → Rose (faults self.old) (faults self.new) }
         ensures never_fall { faults self.old ≤ faults self.new }
         ensures counted { IfSome (fails self.old)

@@ -8,3 +8,6 @@ pub mod Cut
 pub mod SoloSteps
 pub mod OneEnd
 pub mod Serving
+pub mod Binding
+pub mod Serial
+pub mod Whole

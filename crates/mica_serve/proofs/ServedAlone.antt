@@ -13,8 +13,9 @@ use Rattle.mica_serve.specs.Turn.{Turn, write_in, partition_in, writes_of}
 use Rattle.mica_serve.specs.Dealing.{Dealing, turns_in}
 use Rattle.mica_serve.specs.Session.{Session, Sessions, Answers, AnswersBy, AnswersInOrder}
 use Rattle.mica_serve.specs.Served.{Placed, ServesPort, ServesGet, RepliesStep, Served, steps_in, steps_by, history_in}
+use Rattle.mica_serve.specs.Ends.{FrontsInOrder}
 use Rattle.mica_serve.proofs.InOrder.{answers_moved}
-use Rattle.mica_serve.proofs.Fronts.{FrontsInOrder, Together, together, order_of}
+use Rattle.mica_serve.proofs.Fronts.{Together, together, order_of}
 
 -- one front more
 pub fronts_snoc : (options : Options) (old between new : Sessions) (fronts : List (List Turn)) (turns : List Turn)

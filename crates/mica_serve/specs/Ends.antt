@@ -1,10 +1,13 @@
 -- The ends behind which the fronts stand, as contracts see them.
-use Rattle.std.specs.Prelude.{◌≡◌, ◌*◌, ◌≢◌, ◌+◌, ◌<◌, ◌≤◌, ◌⊎◌, ◌==◌, ℕ, suc, Bool, true, false, List, [], ◌∷◌, ◌++◌, take, drop, map, length, slice_get, nat_lt, Option, Some, None, is_some, IfSome, All, ⊤, if◌then◌else◌}
+use Rattle.std.specs.Prelude.{◌≡◌, ◌*◌, ◌≢◌, ◌+◌, ◌<◌, ◌≤◌, ◌⊎◌, ◌==◌, ℕ, suc, Bool, true, false, List, [], ◌∷◌, ◌++◌, take, drop, map, length, slice_get, nat_lt, Option, Some, None, is_some, IfSome, All, ⊤, Result, Ok, Err, if◌then◌else◌}
 use Rattle.mica_io.specs.Faults.{Rose}
 use Rattle.mica_io.specs.Traffic.{Datagram, Traffic, EndScript, Sent, new_traffic}
 use Rattle.mica_io.specs.Ports.{Ports, waiting, out, back}
 use Rattle.mica_model.specs.declared.options.Options.{Options}
 use Rattle.mica_serve.specs.declared.ports.Totals.{Totals}
+use Rattle.mica_serve.specs.declared.ports.ServeFault.{ServeFault}
+use Rattle.mica_serve.specs.declared.ports.ServeFault.TheVariants.{Net, NoMemory}
+use Rattle.mica_serve.specs.Turn.{Turn}
 use Rattle.mica_serve.specs.Dealing.{Dealing, IsDealing, turns_in, due_to}
 use Rattle.mica_serve.specs.Session.{Sessions, AnswersInOrder, count_of_writes}
 use Rattle.mica_serve.specs.Served.{BeginsAs, Counts}
@@ -69,6 +72,10 @@ counted requests totals = record {
   bad = totals.bad + (if requests == 0 then 1 else 0);
 }
 
+-- the totals of two
+abbrev pub added : Totals → Totals → Totals
+added a b = record { batches = a.batches + b.batches; requests = a.requests + b.requests; bad = a.bad + b.bad }
+
 -- nothing was counted
 abbrev pub none_counted : Totals
 none_counted = record { batches = 0; requests = 0; bad = 0 }
@@ -123,3 +130,133 @@ pub record LeavesEnd (batches : ℕ) (ended : Bool) (before after : Traffic) : T
   pub dealings : List Dealing
   pub begins : BeginsEnd batches dealings before after
   pub short : IsShort batches dealings ended after
+
+-- All ends
+
+-- what contracts see of an end at one moment
+pub record EndFacts : Type 0 where
+  pub port : ℕ
+  pub traffic : Option Traffic
+  pub faults : ℕ
+  pub has_ended : Bool
+  pub has_script : Bool
+
+-- an end that was just bound to this port
+pub record IsNewEnd (port : ℕ) (end : EndFacts) : Type 0 where
+  pub port_is : end.port ≡ port
+  pub no_faults : end.faults ≡ 0
+  pub unended : end.has_ended ≡ false
+  pub fresh : IfSome end.traffic (λ t. t ≡ new_traffic t.left)
+
+-- the ends are new, at ports one after another
+abbrev pub AreNewEnds : ℕ → List EndFacts → Type 0
+AreNewEnds first ends = (i : ℕ) (end : EndFacts) → slice_get ends i ≡ Some end → IsNewEnd (first + i) end
+
+-- the ends stand at ports one after another
+abbrev pub AreAtPorts : ℕ → List EndFacts → Type 0
+AreAtPorts first ends = (i : ℕ) (end : EndFacts) → slice_get ends i ≡ Some end → end.port ≡ first + i
+
+-- no end has come to its end, received or sent
+abbrev pub AreOpen : List EndFacts → Type 0
+AreOpen ends = (i : ℕ) (end : EndFacts) → slice_get ends i ≡ Some end → (end.has_ended ≡ false) × IfSome end.traffic (λ t. t ≡ new_traffic t.left)
+
+-- the end has left what its port had waiting
+pub record WaitedAt (before : Ports) (port : ℕ) (end : EndFacts) : Type 0 where
+  pub datagrams : List Datagram
+  pub foretold : EndScript
+  pub waited : before port ≡ waiting datagrams foretold
+  pub told : end.traffic ≡ Some (new_traffic datagrams)
+  pub scripted : end.has_script ≡ true
+
+-- the ports of the ends waited, and are out; no others changed
+pub record BindsEnds (first : ℕ) (ends : List EndFacts) (before after : Ports) : Type 0 where
+  pub each : (i : ℕ) (end : EndFacts) → slice_get ends i ≡ Some end → WaitedAt before (first + i) end
+  pub out : (i : ℕ) → i < length ends → after (first + i) ≡ out
+  pub others : (q : ℕ) → ((i : ℕ) → i < length ends → q ≢ first + i) → after q ≡ before q
+
+-- each end is back with what it tells, and no other port changed
+pub record ReleasesEnds (first : ℕ) (ends : List EndFacts) (before after : Ports) : Type 0 where
+  pub each : (i : ℕ) (end : EndFacts) (traffic : Traffic) → slice_get ends i ≡ Some end → end.traffic ≡ Some traffic
+      → after (first + i) ≡ back traffic end.has_ended
+  pub others : (q : ℕ) → ((i : ℕ) → i < length ends → q ≢ first + i) → after q ≡ before q
+
+-- What a front made of an end and what it left, without its answers: the datagrams, what was sent, and whether the end came.
+pub record DealsWithEnd (batches : ℕ) (dealings : List Dealing) (before after : EndFacts) : Type 0 where
+  pub had : Traffic
+  pub had_is : before.traffic ≡ Some had
+  pub each : All IsDealing dealings
+  pub asked : map (λ d. d.datagram) dealings ≡ take batches had.left
+  pub told : after.traffic ≡ Some (record { left = drop batches had.left; received = take batches had.left; sent = due_to dealings })
+  pub at_end : after.has_ended ≡ nat_lt (length had.left) batches
+
+-- what it made of an end in part, or left untouched
+abbrev pub DealsInPartWithEnd : ℕ → EndFacts → EndFacts → Type 0
+DealsInPartWithEnd batches before after =
+    (had : Traffic) × (has : Traffic) × (dealings : List Dealing)
+    × (before.traffic ≡ Some had) × (after.traffic ≡ Some has) × BeginsEnd batches dealings had has
+
+-- it stopped at a fault
+pub record StopsEnd (batches : ℕ) (before after : EndFacts) : Type 0 where
+  pub had : Traffic
+  pub has : Traffic
+  pub had_is : before.traffic ≡ Some had
+  pub has_is : after.traffic ≡ Some has
+  pub leaves : LeavesEnd batches after.has_ended had has
+
+-- an end keeps its port, its count does not fall, and it goes on telling what it told
+pub record KeepsEnd (before after : EndFacts) : Type 0 where
+  pub port : after.port ≡ before.port
+  pub never_fall : before.faults ≤ after.faults
+  pub tells : is_some before.traffic ≡ true → is_some after.traffic ≡ true
+  pub scripted : after.has_script ≡ before.has_script
+
+abbrev pub TellAll : List EndFacts → Type 0
+TellAll ends = (i : ℕ) (end : EndFacts) → slice_get ends i ≡ Some end → is_some end.traffic ≡ true
+
+-- the fronts answered their requests one front after another, alone
+abbrev pub FrontsInOrder : Options → Sessions → List (List Turn) → Sessions → Type 0
+FrontsInOrder options old [] new = (q : ℕ) → new q ≡ old q
+FrontsInOrder options old (turns ∷ later) new = (between : Sessions) × AnswersInOrder options true old turns between × FrontsInOrder options between later new
+
+-- each front dealt with its end, one front after another
+pub record ServesAll (options : Options) (old : Sessions) (batches : ℕ) (totals : Totals) (new : Sessions) (before after : List EndFacts) : Type 0 where
+  pub fronts : List (List Dealing)
+  pub many : length fronts ≡ length before
+  pub each : (f : ℕ) (dealings : List Dealing) (b a : EndFacts) → slice_get fronts f ≡ Some dealings → slice_get before f ≡ Some b → slice_get after f ≡ Some a
+      → DealsWithEnd batches dealings b a
+  pub in_order : FrontsInOrder options old (map turns_in fronts) new
+  pub counted : Counts fronts totals
+
+-- one of the fronts stopped at a fault
+pub record StopsSome (batches : ℕ) (before after : List EndFacts) : Type 0 where
+  pub front : ℕ
+  pub old : EndFacts
+  pub new : EndFacts
+  pub was : slice_get before front ≡ Some old
+  pub is : slice_get after front ≡ Some new
+  pub rose : Rose old.faults new.faults
+  pub stops : TellAll before → StopsEnd batches old new
+
+-- no fault came at the ends that tell their scripts
+abbrev pub HasNoEndFault : List EndFacts → List EndFacts → Type 0
+HasNoEndFault before after = (i : ℕ) (old new : EndFacts) → slice_get before i ≡ Some old → slice_get after i ≡ Some new → old.has_script ≡ true
+    → new.faults ≡ old.faults
+
+-- each end was dealt with at least in part
+abbrev pub DealsInPartWithAll : ℕ → List EndFacts → List EndFacts → Type 0
+DealsInPartWithAll batches before after = (i : ℕ) (old new : EndFacts) → slice_get before i ≡ Some old → slice_get after i ≡ Some new
+    → DealsInPartWithEnd batches old new
+
+-- what each answer says of the ends; want of memory says nothing
+abbrev pub MeansForEnds : Result Totals ServeFault → Options → Sessions → ℕ → Sessions → List EndFacts → List EndFacts → Type 0
+MeansForEnds (Ok totals) options old batches new before after =
+    HasNoEndFault before after × (TellAll before → ServesAll options old batches totals new before after)
+MeansForEnds (Err Net) options old batches new before after = StopsSome batches before after × (TellAll before → DealsInPartWithAll batches before after)
+MeansForEnds (Err NoMemory) options old batches new before after = ⊤
+
+-- the fronts were served, one after another
+pub record ServesFronts (options : Options) (old : Sessions) (batches : ℕ) (answer : Result Totals ServeFault) (new : Sessions) (before after : List EndFacts)
+    : Type 0 where
+  pub many : length after ≡ length before
+  pub kept : (i : ℕ) (b a : EndFacts) → slice_get before i ≡ Some b → slice_get after i ≡ Some a → KeepsEnd b a
+  pub means : MeansForEnds answer options old batches new before after

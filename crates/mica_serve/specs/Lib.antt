@@ -4,7 +4,7 @@ pub mod Dealing
 pub mod Session
 pub mod Answering
 pub mod Served
-pub mod NetRun
 pub mod Solo
 pub mod Owners
 pub mod Ends
+pub mod NetRun

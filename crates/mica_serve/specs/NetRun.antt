@@ -1,5 +1,5 @@
 -- What a net tells before and after a call.
-use Rattle.std.specs.Prelude.{◌≡◌, ◌≢◌, ◌+◌, ℕ, ◌<◌, ◌≤◌, List, Option, Some, None, ⊤, IfSome, Result, Ok, Err}
+use Rattle.std.specs.Prelude.{◌≡◌, ◌≢◌, ◌+◌, ◌⊎◌, ℕ, ◌<◌, ◌≤◌, true, List, length, slice_get, Option, Some, None, is_some, ⊤, IfSome, Result, Ok, Err}
 use Rattle.mica_io.specs.Ports.{Ports, out}
 use Rattle.mica_io.specs.Faults.{Rose}
 use Rattle.mica_model.specs.declared.options.Options.{Options}
@@ -7,7 +7,9 @@ use Rattle.mica_serve.specs.declared.ports.Ports.{Ports as PortOptions}
 use Rattle.mica_serve.specs.declared.ports.Totals.{Totals}
 use Rattle.mica_serve.specs.declared.ports.ServeFault.{ServeFault}
 use Rattle.mica_serve.specs.declared.ports.ServeFault.TheVariants.{Net, NoMemory}
+use Rattle.mica_serve.specs.Session.{Sessions}
 use Rattle.mica_serve.specs.Served.{Serves, StopsShort}
+use Rattle.mica_serve.specs.Ends.{EndFacts, AreNewEnds, BindsEnds, ReleasesEnds, KeepsEnd, MeansForEnds}
 
 -- what contracts see of a net at one moment
 pub record NetFacts : Type 0 where
@@ -18,9 +20,9 @@ pub record NetFacts : Type 0 where
   pub ports : Option Ports
   pub fails : Option (List ℕ)
 
--- a fact of the ports before and after, where the net tells them; it goes on telling them
+-- a fact of the ports before and after, where the net tells them; it goes on telling them, or telling nothing
 abbrev pub OnPorts : (Ports → Ports → Type 0) → Option Ports → Option Ports → Type 0
-OnPorts P None after = ⊤
+OnPorts P None after = after ≡ None
 OnPorts P (Some before) None = ⊥
 OnPorts P (Some before) (Some after) = P before after
 
@@ -55,3 +57,43 @@ pub record KeepsNet (ports : PortOptions) (before after : NetFacts) : Type 0 whe
   pub first : 0 < after.binds → after.first ≡ ports.port
   pub never_fall : before.faults ≤ after.faults
   pub released : OnPorts (ReleasesAll ports) before.ports after.ports
+
+-- a bind failed, and no end was served
+pub record FailsToBind (before after : NetFacts) (olds news : List EndFacts) : Type 0 where
+  pub rose : Rose before.faults after.faults
+  pub refused : before.refused < after.refused
+  pub untouched : news ≡ olds
+
+-- what each answer says, once the ends were bound; want of memory says nothing
+abbrev pub MeansForRun : Result Totals ServeFault → Options → Sessions → PortOptions → Sessions → NetFacts → NetFacts → List EndFacts → List EndFacts → Type 0
+MeansForRun (Ok totals) options old ports new before after olds news =
+    (length olds ≡ ports.fronts) × (is_some before.fails ≡ true → after.faults ≡ before.faults)
+    × MeansForEnds (Ok totals) options old ports.batches new olds news
+MeansForRun (Err Net) options old ports new before after olds news =
+    FailsToBind before after olds news ⊎ MeansForEnds (Err Net) options old ports.batches new olds news
+MeansForRun (Err NoMemory) options old ports new before after olds news = ⊤
+
+-- The ports were bound, up to the first bind that failed, and the fronts served; these ends are left to be released.
+pub record BindsAndServes (options : Options) (old : Sessions) (ports : PortOptions) (answer : Result Totals ServeFault) (new : Sessions)
+    (before after : NetFacts) (news : List EndFacts) : Type 0 where
+  pub olds : List EndFacts
+  pub are_new : AreNewEnds ports.port olds
+  pub bound : OnPorts (BindsEnds ports.port olds) before.ports after.ports
+  pub within : length olds ≤ ports.fronts
+  pub many : length news ≡ length olds
+  pub kept : (i : ℕ) (b a : EndFacts) → slice_get olds i ≡ Some b → slice_get news i ≡ Some a → KeepsEnd b a
+  pub never_fall : before.faults ≤ after.faults
+  pub fails : after.fails ≡ before.fails
+  pub binds : after.binds ≤ ports.fronts
+  pub first : 0 < after.binds → after.first ≡ ports.port
+  pub means : MeansForRun answer options old ports new before after olds news
+
+-- the ends were released, and the net tells what they tell
+pub record ReleasesNet (first : ℕ) (ends : List EndFacts) (before after : NetFacts) : Type 0 where
+  pub told : OnPorts (ReleasesEnds first ends) before.ports after.ports
+  pub cause : (i : ℕ) (end : EndFacts) → slice_get ends i ≡ Some end → 0 < end.faults → Rose before.faults after.faults
+  pub steady : is_some before.fails ≡ true → ((i : ℕ) (end : EndFacts) → slice_get ends i ≡ Some end → end.faults ≡ 0) → after.faults ≡ before.faults
+  pub never_fall : before.faults ≤ after.faults
+  pub binds : after.binds ≡ before.binds
+  pub first_is : after.first ≡ before.first
+  pub refused : after.refused ≡ before.refused

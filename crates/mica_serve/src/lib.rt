@@ -1,7 +1,7 @@
 //! The server: what stands behind each port, and the partitions behind that.
 //!
-//! A front answers the requests of each datagram in order, each before the next one. `serve_batch` says what is made of one datagram;
-//! what all fronts received and replied is to be `Served` (`specs/Served.antt`): the writes of all fronts are one run of each partition's
+//! A front answers the requests of each datagram in order, each before the next one. `serve_batch` says what is made of one datagram.
+//! What all fronts of `serve` received and replied is `Served` (`specs/Served.antt`): the writes of all fronts are one run of each partition's
 //! machine, and each get is its answer at the replied stamp.
 #![tactic(auto)]
 
@@ -11,9 +11,11 @@ mod end;
 mod front;
 mod gate;
 mod ports;
+mod run;
 mod solo;
 
 pub use batch::serve_batch;
 pub use front::Front;
 pub use ports::{Ports, ServeFault, Totals};
+pub use run::serve;
 pub use solo::SoloFront;

@@ -2,6 +2,7 @@
 ghost use Rattle.std.specs.Prelude.{◌≡◌, ◌↔◌, IsTrue};
 
 use mica_io::{Failed, NoMemory};
+use std::alloc::AllocError;
 
 /// The first port, how many fronts there are, one behind each port from there on, and how many datagrams a front takes.
 #[derive(Clone, Copy, Debug, PartialEq, Eq)]
@@ -28,8 +29,8 @@ pub enum ServeFault {
 }
 
 impl Totals {
-    ghost use Rattle.std.specs.Prelude.{◌≡◌, ◌≤◌, ◌<◌};
-    ghost use Rattle.mica_serve.specs.Ends.{counted, none_counted};
+    ghost use Rattle.std.specs.Prelude.{◌≡◌, ◌<◌, ◌+◌};
+    ghost use Rattle.mica_serve.specs.Ends.{added, counted, none_counted};
 
     pub(crate) fn none() -> Totals
         ensures { result ≡ none_counted }
@@ -39,6 +40,17 @@ impl Totals {
             requests: 0,
             bad: 0,
         }
+    }
+
+    pub(crate) fn add(&mut self, other: Totals)
+        requires batches { self.old.batches + other.batches < 18446744073709551616 }
+        requires requests { self.old.requests + other.requests < 18446744073709551616 }
+        requires bad { self.old.bad + other.bad < 18446744073709551616 }
+        ensures { self.new ≡ added self.old other }
+    {
+        self.batches += other.batches;
+        self.requests += other.requests;
+        self.bad += other.bad;
     }
 
     /// Counts one more datagram, of so many requests.
@@ -62,6 +74,16 @@ impl From<NoMemory> for ServeFault {
     ghost from_gives = { λ _ e. e ≡ NoMemory };
 
     fn from(_: NoMemory) -> Self {
+        ServeFault::NoMemory
+    }
+}
+
+impl From<AllocError> for ServeFault {
+    ghost use Rattle.mica_serve.specs.declared.ports.ServeFault.TheVariants.{NoMemory};
+
+    ghost from_gives = { λ _ e. e ≡ NoMemory };
+
+    fn from(_: AllocError) -> Self {
         ServeFault::NoMemory
     }
 }

@@ -1,0 +1,215 @@
+-- Ends that are bound one after another, and come back one after another.
+use Rattle.std.proofs.Common.{◌≡◌, ℕ, zero, suc, ◌+◌, ◌<◌, ◌≤◌, ◌⊎◌, inl, inr, Bool, true, false, cond, List, [], ◌∷◌, ◌++◌, length, map, Option, Some, None, refl, sym, ap, ◌∙◌, subst, append_assoc, take, drop, slice_get, slice_index_or, eqb, eqb-true, arith, length-append}
+use Rattle.std.specs.Prelude.{◌≢◌, IfSome, IfNone, is_some, option_map}
+use Rattle.std.proofs.lemmas.Option.{slice_get-map, slice_get_read}
+use Rattle.std.proofs.lemmas.Bool.{eq-eqb, ne_eqb, true≢false, cases_lt}
+use Rattle.mica_io.specs.Traffic.{Datagram, Traffic, EndScript, new_traffic}
+use Rattle.mica_io.specs.Ports.{Port, Ports, waiting, out, back, with_port, BindsEnd}
+use Rattle.mica_serve.specs.Ends.{EndFacts, IsNewEnd, AreNewEnds, WaitedAt, BindsEnds, ReleasesEnds, TellAll}
+use Rattle.mica_io.specs.Faults.{Rose, LAST_COUNT}
+use Rattle.std.proofs.lemmas.List.{take_at, take-append-drop}
+use Rattle.mica_serve.specs.NetRun.{OnPorts}
+
+-- what stands at a place of a list with one more element
+pub at_snoc : {X : Type 0} (xs : List X) (x : X) (i : ℕ) (y : X) → slice_get (xs ++ x ∷ []) i ≡ Some y
+    → ((slice_get xs i ≡ Some y) × (i < length xs)) ⊎ ((i ≡ length xs) × (x ≡ y))
+at_snoc [] x zero y is = inr (refl, cc)
+at_snoc [] x (suc i) y is = absurd (cc)
+at_snoc (z ∷ xs) x zero y is = inl (is, omega arith)
+at_snoc (z ∷ xs) x (suc i) y is = elim (at_snoc xs x i y is) [
+  | inl h ↦ inl (h.0, omega (arith, h.1))
+  | inr h ↦ inr (omega (arith, h.0), h.1)
+]
+
+-- what stands in a mapped list
+pub at_map : {X Y : Type 0} (f : X → Y) (xs : List X) (i : ℕ) (x : X) → i < length xs → x ≡ slice_index_or xs i x → slice_get (map f xs) i ≡ Some (f x)
+at_map f xs i x lt is = slice_get-map f xs i ∙ ap (option_map f) (slice_get_read xs (length xs) i x refl lt is)
+
+-- a place where something stands is within the list
+pub place_below : {X : Type 0} (xs : List X) (i : ℕ) (x : X) → slice_get xs i ≡ Some x → i < length xs
+place_below [] zero x is = absurd (cc)
+place_below [] (suc i) x is = absurd (cc)
+place_below (y ∷ xs) zero x is = omega arith
+place_below (y ∷ xs) (suc i) x is = omega (arith, place_below xs i x is)
+
+pub new_more : (first : ℕ) (ends : List EndFacts) (end : EndFacts) → AreNewEnds first ends → IsNewEnd (first + length ends) end → AreNewEnds first (ends ++ end ∷ [])
+new_more first ends end each one i e is = elim (at_snoc ends end i e is) as (λ _. IsNewEnd (first + i) e) [
+  | inl h ↦ each i e h.0
+  | inr h ↦ subst (λ (x : EndFacts). IsNewEnd (first + i) x) h.1 (subst (λ (n : ℕ). IsNewEnd (first + n) end) (sym h.0) one)
+]
+
+at_port : (number : ℕ) (port : Port) (ports : Ports) → with_port number port ports number ≡ port
+at_port number port ports = ap (λ b. cond b port (ports number)) (eq-eqb number number refl)
+
+off_port : (number q : ℕ) (port : Port) (ports : Ports) → q ≢ number → with_port number port ports q ≡ ports q
+off_port number q port ports other = ap (λ b. cond b port (ports q)) (ne_eqb q number other)
+
+-- one end more was bound
+pub binds_more : (first : ℕ) (ends : List EndFacts) (end : EndFacts) (script : Option EndScript) (before between after : Ports)
+    → BindsEnds first ends before between → BindsEnd between (first + length ends) end.traffic script (Some after) → end.has_script ≡ true
+    → BindsEnds first (ends ++ end ∷ []) before after
+binds_more first ends end script before between after so_far one scripted =
+    let port = first + length ends in
+    let was : between port ≡ before port = so_far.others port (λ i lt e. absurd (omega arith)) in
+    let result = one.result in
+    let now : after ≡ with_port port out between = cc in
+    record {
+      each = λ i e is. elim (at_snoc ends end i e is) as (λ _. WaitedAt before (first + i) e) [
+        | inl h ↦ so_far.each i e h.0
+        | inr h ↦ subst (λ (x : EndFacts). WaitedAt before (first + i) x) h.1 (record {
+          datagrams = one.datagrams;
+          foretold = one.foretold;
+          waited = ap (λ n. before (first + n)) h.0 ∙ sym was ∙ one.waited;
+          told = one.traffic_is;
+          scripted = scripted;
+        })
+      ];
+      out = λ i lt. ap (λ (f : Ports). f (first + i)) now ∙ elim (eqb (first + i) port) as (λ b. eqb (first + i) port ≡ b → cond b out (between (first + i)) ≡ out) [
+        | true ↦ λ e. refl
+        | false ↦ λ e. so_far.out i (below i (length ends) (omega (arith, lt, length-append ends (end ∷ []))) (λ same. absurd (true≢false (sym (eq-eqb (first + i) port (ap (λ n. first + n) same)) ∙ e))))
+      ] refl;
+      others = λ q other. ap (λ (f : Ports). f q) now
+          ∙ off_port port q out between (other (length ends) (omega (arith, length-append ends (end ∷ []))))
+          ∙ so_far.others q (λ i lt. other i (omega (arith, lt, length-append ends (end ∷ []))));
+    }
+  where
+    below : (i n : ℕ) → i ≤ n → ¬ (i ≡ n) → i < n
+    below i n le other = elim (cases_lt i n) as (λ _. i < n) [ inl lt ↦ lt | inr ge ↦ absurd (other (omega arith)) ]
+
+-- the same, where the net may tell its ports or not
+pub bound_more : (first : ℕ) (ends : List EndFacts) (end : EndFacts) (script : Option EndScript) (a b c : Option Ports) → OnPorts (BindsEnds first ends) a b
+    → IfSome b (λ y. BindsEnd y (first + length ends) end.traffic script c) → end.has_script ≡ is_some script
+    → IfNone b (c ≡ None) → OnPorts (BindsEnds first (ends ++ end ∷ [])) a c
+bound_more first ends end script None b c p q scripted silent = subst (λ (o : Option Ports). IfNone o (c ≡ None)) p silent
+bound_more first ends end script (Some x) None c p q scripted silent = absurd p
+bound_more first ends end script (Some x) (Some y) c p q scripted silent =
+    let port = first + length ends in
+    let is = q.result in
+    subst (λ (t : Option Ports). OnPorts (BindsEnds first (ends ++ end ∷ [])) (Some x) t) (sym is)
+    (binds_more first ends end script x y (with_port port out y) p (subst (λ (t : Option Ports). BindsEnd y port end.traffic script t) is q)
+    (scripted ∙ ap is_some q.script_is))
+
+pub none_bound : (first : ℕ) (a : Option Ports) → OnPorts (BindsEnds first []) a a
+none_bound first None = refl
+none_bound first (Some x) = record { each = λ i e is. absurd (cc); out = λ i lt. absurd (omega arith); others = λ q other. refl }
+
+pub none_new : (first : ℕ) → AreNewEnds first []
+none_new first i e is = absurd (cc)
+
+-- What stands while ends are released, the last one first, where the first k are still out.
+pub record Releasing (first : ℕ) (ends : List EndFacts) (k : ℕ) (before now : Ports) : Type 0 where
+  pub still : (i : ℕ) → i < k → now (first + i) ≡ out
+  pub came : (i : ℕ) (end : EndFacts) (traffic : Traffic) → k ≤ i → slice_get ends i ≡ Some end → end.traffic ≡ Some traffic
+      → now (first + i) ≡ back traffic end.has_ended
+  pub others : (q : ℕ) → ((i : ℕ) → i < length ends → q ≢ first + i) → now q ≡ before q
+
+pub none_released : (first : ℕ) (ends : List EndFacts) (before : Ports) → ((i : ℕ) → i < length ends → before (first + i) ≡ out)
+    → Releasing first ends (length ends) before before
+none_released first ends before still = record {
+  still = still;
+  came = λ i e t le is is'. absurd (let lt = place_below ends i e is in omega arith);
+  others = λ q other. refl;
+}
+
+pub one_released : (first : ℕ) (ends : List EndFacts) (j : ℕ) (end : EndFacts) (traffic : Traffic) (before now : Ports)
+    → Releasing first ends (suc j) before now → slice_get ends j ≡ Some end → end.traffic ≡ Some traffic
+    → Releasing first ends j before (with_port (first + j) (back traffic end.has_ended) now)
+one_released first ends j end traffic before now r here told = record {
+  still = λ i lt. off_port (first + j) (first + i) (back traffic end.has_ended) now (λ e. absurd (omega arith)) ∙ r.still i (omega arith);
+  came = λ i e t le is is'. elim (cases_lt j i) as (λ _. with_port (first + j) (back traffic end.has_ended) now (first + i) ≡ back t e.has_ended) [
+    | inl lt ↦ off_port (first + j) (first + i) (back traffic end.has_ended) now (λ e. absurd (omega arith)) ∙ r.came i e t (omega arith) is is'
+    | inr ge ↦
+        let place : i ≡ j = omega arith in
+        let there : slice_get ends i ≡ Some end = ap (slice_get ends) place ∙ here in
+        let same : end ≡ e = cc in
+        let same' : traffic ≡ t = cc in
+        ap (λ (n : ℕ). with_port (first + j) (back traffic end.has_ended) now (first + n)) place ∙ at_port (first + j) (back traffic end.has_ended) now
+        ∙ ap (λ (x : Traffic). back x end.has_ended) same' ∙ ap (λ (x : EndFacts). back t x.has_ended) same
+  ];
+  others = λ q other. off_port (first + j) q (back traffic end.has_ended) now (other j (place_below ends j end here)) ∙ r.others q other;
+}
+
+pub all_released : (first : ℕ) (ends : List EndFacts) (before now : Ports) → Releasing first ends 0 before now → ReleasesEnds first ends before now
+all_released first ends before now r = record { each = λ i e t is is'. r.came i e t (omega arith) is is'; others = r.others }
+
+pub out_all : (first : ℕ) (ends : List EndFacts) (a : Option Ports) → IfSome a (λ all. (i : ℕ) → i < length ends → all (first + i) ≡ out)
+    → OnPorts (Releasing first ends (length ends)) a a
+out_all first ends None h = refl
+out_all first ends (Some x) h = none_released first ends x h
+
+pub released_more : (first : ℕ) (ends : List EndFacts) (j : ℕ) (end : EndFacts) (a b c : Option Ports) → OnPorts (Releasing first ends (suc j)) a b
+    → slice_get ends j ≡ Some end → end.port ≡ first + j → IfSome a (λ _. is_some end.traffic ≡ true)
+    → IfSome b (λ all. IfSome end.traffic (λ traffic. c ≡ Some (with_port end.port (back traffic end.has_ended) all)))
+    → IfNone b (c ≡ None) → OnPorts (Releasing first ends j) a c
+released_more first ends j end None b c p here port told q silent = subst (λ (o : Option Ports). IfNone o (c ≡ None)) p silent
+released_more first ends j end (Some x) None c p here port told q silent = absurd p
+released_more first ends j end (Some x) (Some y) c p here port told q silent = by end.traffic refl told q
+  where
+    by : (t : Option Traffic) → end.traffic ≡ t → is_some t ≡ true → IfSome t (λ traffic. c ≡ Some (with_port end.port (back traffic end.has_ended) y))
+        → OnPorts (Releasing first ends j) (Some x) c
+    by None is never q = absurd (true≢false (sym never))
+    by (Some traffic) is told q =
+        subst (λ (o : Option Ports). OnPorts (Releasing first ends j) (Some x) o)
+        (sym (q ∙ ap (λ (n : ℕ). Some (with_port n (back traffic end.has_ended) y)) port))
+        (one_released first ends j end traffic x y p here is)
+
+pub all_told : (first : ℕ) (ends : List EndFacts) (a b : Option Ports) → OnPorts (Releasing first ends 0) a b → OnPorts (ReleasesEnds first ends) a b
+all_told first ends None b p = p
+all_told first ends (Some x) None p = absurd p
+all_told first ends (Some x) (Some y) p = all_released first ends x y p
+
+pub when_some : {A : Type 0} {X : Type 0} (o : Option A) → is_some o ≡ true → IfSome o (λ _. X) → X
+when_some None never h = absurd (true≢false (sym never))
+when_some (Some a) told h = h
+
+-- the first port that was bound
+pub first_kept : (binds n port at first new : ℕ) → binds ≡ n → new ≡ cond (eqb binds 0) at first → at ≡ port + n → (0 < n → first ≡ port) → new ≡ port
+first_kept binds n port at first new is now here before = elim (eqb binds 0) as (λ b. eqb binds 0 ≡ b → new ≡ cond b at first → new ≡ port) [
+  | true ↦ λ e now. let zero_is = eqb-true binds 0 e in now ∙ here ∙ omega arith
+  | false ↦ λ e now. now ∙ before (some n is e)
+] refl now
+  where
+    some : (n : ℕ) → binds ≡ n → eqb binds 0 ≡ false → 0 < n
+    some zero is e = absurd (true≢false (sym (eq-eqb binds 0 is) ∙ e))
+    some (suc n) is e = omega arith
+
+-- a count that rose, seen from before or from after
+pub rose_on : (a b c : ℕ) → a ≤ b → Rose b c → Rose a c
+rose_on a b c le (inl lt) = inl (omega arith)
+rose_on a b c le (inr last) = inr last
+
+pub rose_before : (a b c : ℕ) → a ≤ b → Rose a b → b ≤ c → Rose a c
+rose_before a b c under (inl lt) le = inl (omega arith)
+rose_before a b c under (inr last) le = elim (cases_lt LAST_COUNT c) as (λ _. Rose a c) [ inl past ↦ inl (omega arith) | inr upto ↦ inr (omega arith) ]
+
+at_seam : {X : Type 0} (xs : List X) (x : X) (ys : List X) → slice_get (xs ++ x ∷ ys) (length xs) ≡ Some x
+at_seam [] x ys = refl
+at_seam (z ∷ xs) x ys = at_seam xs x ys
+
+-- the last of a beginning was popped
+pub popped : {X : Type 0} (initial old new : List X) (end : X) → old ≡ take (length old) initial → old ≡ new ++ end ∷ []
+    → (new ≡ take (length new) initial) × (slice_get initial (length new) ≡ Some end)
+popped initial old new end begins last =
+    let rest = drop (length old) initial in
+    let whole : initial ≡ new ++ end ∷ rest =
+    sym (take-append-drop (length old) initial) ∙ ap (λ t. t ++ rest) (sym begins ∙ last) ∙ append_assoc new (end ∷ []) rest in (
+      sym (ap (take (length new)) whole ∙ take_at new (end ∷ rest) (length new) refl),
+      ap (λ l. slice_get l (length new)) whole ∙ at_seam new end rest,
+    )
+
+pub still_out : (first : ℕ) (ends : List EndFacts) (n j port : ℕ) (a b : Option Ports) → OnPorts (Releasing first ends n) a b → j < n → port ≡ first + j
+    → IfSome b (λ all. all port ≡ out)
+still_out first ends n j port None b p lt is = subst (λ (o : Option Ports). IfSome o (λ all. all port ≡ out)) (sym p) tt
+still_out first ends n j port (Some x) None p lt is = absurd p
+still_out first ends n j port (Some x) (Some y) p lt is = ap y is ∙ p.still j lt
+
+pub tells_at : (ends : List EndFacts) (j : ℕ) (end : EndFacts) (a : Option Ports) → IfSome a (λ all. TellAll ends) → slice_get ends j ≡ Some end
+    → IfSome a (λ _. is_some end.traffic ≡ true)
+tells_at ends j end None h is = tt
+tells_at ends j end (Some x) h is = h j end is
+
+pub from_map : {X Y : Type 0} (f : X → Y) (xs : List X) (i : ℕ) (y : Y) → slice_get (map f xs) i ≡ Some y → (x : X) × (slice_get xs i ≡ Some x) × (f x ≡ y)
+from_map f [] zero y is = absurd (cc)
+from_map f [] (suc i) y is = absurd (cc)
+from_map f (x ∷ xs) zero y is = (x, refl, cc)
+from_map f (x ∷ xs) (suc i) y is = from_map f xs i y is

@@ -1,0 +1,303 @@
+-- What a whole run makes of the ports: bound, served, released.
+use Rattle.std.proofs.Common.{◌≡◌, ℕ, zero, suc, ◌+◌, ◌-◌, ◌<◌, ◌≤◌, ◌⊎◌, inl, inr, Bool, true, false, List, [], ◌∷◌, ◌++◌, length, map, take, drop, Option, Some, None, refl, sym, ap, ◌∙◌, subst, slice_get, arith}
+use Rattle.std.specs.Prelude.{◌≢◌, is_some, nat_lt, Result, Ok, Err, IfSome}
+use Rattle.std.specs.List.{All}
+use Rattle.std.proofs.lemmas.Bool.{cases_lt}
+use Rattle.std.proofs.lemmas.List.Elements.{All-from_recursion}
+use Rattle.mica_io.specs.Traffic.{Datagram, Traffic, EndScript, new_traffic}
+use Rattle.mica_io.specs.Ports.{Port, Ports, waiting, out, back, is_waiting}
+use Rattle.mica_model.specs.declared.options.Options.{Options}
+use Rattle.mica_serve.specs.declared.ports.Ports.{Ports as PortOptions}
+use Rattle.mica_serve.specs.declared.ports.Totals.{Totals}
+use Rattle.mica_serve.specs.Dealing.{Dealing, IsDealing, due_to}
+use Rattle.mica_serve.specs.Session.{Sessions}
+use Rattle.mica_serve.specs.Served.{Serves, ServesPort, BeginsPort, LeavesPort, IsCutShort, IsStopped, StopsShort}
+use Rattle.mica_io.specs.Faults.{Rose}
+use Rattle.mica_serve.specs.declared.ports.ServeFault.{ServeFault}
+use Rattle.mica_serve.specs.declared.ports.ServeFault.TheVariants.{Net, NoMemory}
+use Rattle.mica_serve.specs.NetRun.{NetFacts, OnPorts, ReleasesAll, ReleasesNet, KeepsNet, BindsAndServes, FailsToBind, MeansForRun, HasNoFault, HasStopped, IsCauseOf}
+use Rattle.mica_serve.specs.Ends.{EndFacts, TellAll, AreNewEnds, AreAtPorts, BindsEnds, ReleasesEnds, WaitedAt, DealsWithEnd, DealsInPartWithEnd, DealsInPartWithAll, StopsSome, ServesAll, ServesFronts, MeansForEnds, BeginsEnd, KeepsEnd}
+use Rattle.mica_serve.proofs.Binding.{place_below, rose_on, rose_before}
+use Rattle.mica_serve.proofs.Serial.{same_kept}
+use Rattle.mica_serve.proofs.ServedAlone.{runs, served}
+use Rattle.mica_serve.proofs.Through.{cut_short}
+
+some_at : {X : Type 0} (xs : List X) (i : ℕ) → i < length xs → (x : X) × (slice_get xs i ≡ Some x)
+some_at [] i lt = absurd (omega arith)
+some_at (x ∷ xs) zero lt = (x, refl)
+some_at (x ∷ xs) (suc i) lt = some_at xs i (omega arith)
+
+-- ends that were bound where a net tells its ports tell their traffic
+pub bound_tell : (first : ℕ) (ends : List EndFacts) (before mid : Ports) → BindsEnds first ends before mid → TellAll ends
+bound_tell first ends before mid bound i e is = ap is_some (bound.each i e is).told
+
+-- a port is one of so many from the first on, or none of them
+among : (first n q : ℕ) → ((i : ℕ) × (i < n) × (q ≡ first + i)) ⊎ ((i : ℕ) → i < n → q ≢ first + i)
+among first n q = elim (cases_lt q first) as (λ _. ((i : ℕ) × (i < n) × (q ≡ first + i)) ⊎ ((i : ℕ) → i < n → q ≢ first + i)) [
+  | inl lt ↦ inr (λ i below e. absurd (omega arith))
+  | inr ge ↦ elim (cases_lt (q - first) n) as (λ _. ((i : ℕ) × (i < n) × (q ≡ first + i)) ⊎ ((i : ℕ) → i < n → q ≢ first + i)) [
+    | inl lt ↦ inl (q - first, lt, omega arith)
+    | inr out_of ↦ inr (λ i below e. absurd (omega arith))
+  ]
+]
+
+module _ (ports : PortOptions) (olds news : List EndFacts) (before mid after : Ports) (many : length news ≡ length olds) (within : length olds ≤ ports.fronts)
+    (bound : BindsEnds ports.port olds before mid) (released : ReleasesEnds ports.port news mid after) where
+  untouched : (q : ℕ) → ((i : ℕ) → i < length olds → q ≢ ports.port + i) → after q ≡ before q
+  untouched q other = released.others q (λ i lt. other i (omega (arith, lt, many))) ∙ bound.others q other
+
+  module _ (tells : TellAll news) where
+    came_back : (i : ℕ) (a : EndFacts) → slice_get news i ≡ Some a → (traffic : Traffic) × (a.traffic ≡ Some traffic) × (after (ports.port + i) ≡ back traffic a.has_ended)
+    came_back i a is = by a.traffic refl (tells i a is)
+      where
+        by : (t : Option Traffic) → a.traffic ≡ t → is_some a.traffic ≡ true → (traffic : Traffic) × (a.traffic ≡ Some traffic) × (after (ports.port + i) ≡ back traffic a.has_ended)
+        by None e never = absurd (cc)
+        by (Some t) e tell = (t, e, released.each i a t is e)
+
+    -- every end is back
+    pub all_back : ReleasesAll ports before after
+    all_back = record {
+      released = λ q is_out. elim (among ports.port (length olds) q) as (λ _. before q ≡ out) [
+        | inl h ↦
+            let a = some_at news h.0 (omega (arith, h.1, many)) in
+            let b = came_back h.0 a.0 a.1 in
+            let here : after q ≡ back b.0 a.0.has_ended = ap after h.2 ∙ b.2 in
+            absurd (cc)
+        | inr other ↦ sym (untouched q other) ∙ is_out
+      ];
+      others = λ q other. untouched q (λ i lt. other i (omega arith));
+    }
+
+  -- what a front dealt with is what its port shows
+  pub port_served : (batches : ℕ) (f : ℕ) (dealings : List Dealing) (b a : EndFacts) → slice_get olds f ≡ Some b → slice_get news f ≡ Some a
+      → DealsWithEnd batches dealings b a → ServesPort batches (before (ports.port + f)) (after (ports.port + f)) dealings
+  port_served batches f dealings b a is is' d =
+      let w = bound.each f b is in
+      let told = w.told in
+      let had_is = d.had_is in
+      let had : d.had ≡ new_traffic w.datagrams = cc in
+      let left : d.had.left ≡ w.datagrams = ap (λ (t : Traffic). t.left) had in
+      record {
+        datagrams = w.datagrams;
+        script = w.foretold;
+        waited = w.waited;
+        released = released.each f a _ is' d.told
+            ∙ ap (back (record { left = drop batches d.had.left; received = take batches d.had.left; sent = due_to dealings })) d.at_end
+            ∙ ap (λ (l : List Datagram). back (record { left = drop batches l; received = take batches l; sent = due_to dealings }) (nat_lt (length l) batches)) left;
+        received = d.asked ∙ ap (take batches) left;
+        each = d.each;
+      }
+
+  -- a front that was served in part leaves its port so
+  port_left : (batches : ℕ) (f : ℕ) (b a : EndFacts) → slice_get olds f ≡ Some b → slice_get news f ≡ Some a → DealsInPartWithEnd batches b a
+      → LeavesPort batches (before (ports.port + f)) (after (ports.port + f))
+  port_left batches f b a is is' d =
+      let w = bound.each f b is in
+      let told = w.told in
+      let had_is = d.3 in
+      let had : d.0 ≡ new_traffic w.datagrams = cc in
+      let begins = d.5 in
+      inr (
+        d.1,
+        a.has_ended,
+        d.2,
+        released.each f a d.1 is' d.4,
+        record {
+          datagrams = w.datagrams;
+          script = w.foretold;
+          waited = w.waited;
+          in_order = ap (λ (t : Traffic). t.left) (sym had) ∙ begins.in_order;
+          few = begins.few;
+          received = begins.asked;
+          each = begins.each;
+          sent = begins.sent;
+        },
+      )
+
+  pub each_left : (batches : ℕ) → DealsInPartWithAll batches olds news → (f : ℕ) → f < ports.fronts → LeavesPort batches (before (ports.port + f)) (after (ports.port + f))
+  each_left batches part f lt = elim (cases_lt f (length olds)) as (λ _. LeavesPort batches (before (ports.port + f)) (after (ports.port + f))) [
+    | inl below ↦
+        let b = some_at olds f below in
+        let a = some_at news f (omega (arith, below, many)) in
+        port_left batches f b.0 a.0 b.1 a.1 (part f b.0 a.0 b.1 a.1)
+    | inr past ↦ inl (untouched (ports.port + f) (λ i below e. absurd (omega arith)))
+  ]
+
+  pub stopped_some : (batches : ℕ) (s : StopsSome batches olds news) → (f : ℕ) × (f < ports.fronts) × IsStopped batches (before (ports.port + f)) (after (ports.port + f))
+  stopped_some batches s =
+      let tell = bound_tell ports.port olds before mid bound in
+      let stops = s.stops tell in
+      let w = bound.each s.front s.old s.was in
+      let leaves = stops.leaves in
+      let cut = cut_short batches stops.has s.new.has_ended leaves.dealings leaves.begins.each leaves.begins.asked leaves.begins.sent leaves.short in (
+        s.front,
+        omega (arith, place_below olds s.front s.old s.was),
+        (ap is_waiting w.waited, subst (λ (p : Port). IsCutShort batches p) (sym (released.each s.front s.new stops.has s.is stops.has_is)) cut),
+      )
+
+  pub all_served : (options : Options) (old new : Sessions) (totals : Totals) → ((q : ℕ) → (old q).seen ≡ []) → length olds ≡ ports.fronts
+      → ServesAll options old ports.batches totals new olds news → Serves options ports totals before after
+  all_served options old new totals starts full all = record {
+    fronts = all.fronts;
+    runs = runs options old new all.fronts starts all.in_order;
+    served = served options old new all.fronts starts all.in_order ports before after (all.many ∙ full)
+        (λ f dealings is.
+        let lt = place_below all.fronts f dealings is in
+        let b = some_at olds f (omega (arith, lt, all.many)) in
+        let a = some_at news f (omega (arith, lt, all.many, many)) in
+        port_served ports.batches f dealings b.0 a.0 b.1 a.1 (all.each f dealings b.0 a.0 is b.1 a.1));
+    counted = all.counted;
+  }
+
+-- ends that were bound and not served were left at their beginning
+pub none_served : (batches first : ℕ) (ends : List EndFacts) (before mid : Ports) → BindsEnds first ends before mid → DealsInPartWithAll batches ends ends
+none_served batches first ends before mid bound i b a is is' =
+    let w = bound.each i b is in
+    let same : b ≡ a = cc in (
+      new_traffic w.datagrams,
+      new_traffic w.datagrams,
+      [],
+      w.told,
+      ap (λ (e : EndFacts). e.traffic) (sym same) ∙ w.told,
+      record { in_order = refl; few = omega arith; asked = refl; each = All-from_recursion IsDealing [] tt; sent = ([], refl) },
+    )
+
+-- what was kept of ends that were bound
+pub kept_at : (first : ℕ) (olds news : List EndFacts) → length news ≡ length olds → AreNewEnds first olds
+    → ((i : ℕ) (b a : EndFacts) → slice_get olds i ≡ Some b → slice_get news i ≡ Some a → KeepsEnd b a) → AreAtPorts first news
+kept_at first olds news many new kept i a is =
+    let b = some_at olds i (omega (arith, many, place_below news i a is)) in
+    (kept i b.0 a b.1 is).port ∙ (new i b.0 b.1).port_is
+
+pub kept_tell : (olds news : List EndFacts) → length news ≡ length olds
+    → ((i : ℕ) (b a : EndFacts) → slice_get olds i ≡ Some b → slice_get news i ≡ Some a → KeepsEnd b a) → TellAll olds → TellAll news
+kept_tell olds news many kept tell i a is =
+    let b = some_at olds i (omega (arith, many, place_below news i a is)) in
+    (kept i b.0 a b.1 is).tells (tell i b.0 b.1)
+
+on_ports_then : (P Q R : Ports → Ports → Type 0) → ((a b c : Ports) → P a b → Q b c → R a c) → (a b c : Option Ports)
+    → OnPorts P a b → OnPorts Q b c → OnPorts R a c
+on_ports_then P Q R f None b c p q = subst (λ (o : Option Ports). OnPorts Q o c) p q
+on_ports_then P Q R f (Some a) None c p q = absurd p
+on_ports_then P Q R f (Some a) (Some b) None p q = absurd q
+on_ports_then P Q R f (Some a) (Some b) (Some c) p q = f a b c p q
+
+module _ (options : Options) (ports : PortOptions) (old new : Sessions) (starts : (q : ℕ) → (old q).seen ≡ []) (before mid after : NetFacts) (news : List EndFacts)
+    (rel : ReleasesNet ports.port news mid after) where
+  pub keeps : (answer : Result Totals ServeFault) → BindsAndServes options old ports answer new before mid news → KeepsNet ports before after
+  keeps answer run = record {
+    binds = omega (arith, rel.binds, run.binds);
+    first = λ some. rel.first_is ∙ run.first (omega (arith, rel.binds));
+    never_fall = omega (arith, run.never_fall, rel.never_fall);
+    released = on_ports_then _ _ (ReleasesAll ports)
+        (λ x y z b r. all_back ports run.olds news x y z run.many run.within b r (kept_tell run.olds news run.many run.kept (bound_tell ports.port run.olds x y b)))
+        before.ports mid.ports after.ports run.bound rel.told;
+  }
+
+  no_faults : (totals : Totals) (run : BindsAndServes options old ports (Ok totals) new before mid news) → HasNoFault before after
+  no_faults totals run = by before.ports mid.ports before.fails refl run.bound
+    where
+      by : (x y : Option Ports) (l : Option (List ℕ)) → before.fails ≡ l → OnPorts (BindsEnds ports.port run.olds) x y
+          → IfSome x (λ _. IfSome l (λ _. after.faults ≡ before.faults))
+      by None y l is b = tt
+      by (Some x) None l is b = absurd b
+      by (Some x) (Some y) None is b = tt
+      by (Some x) (Some y) (Some l) is b =
+          rel.steady (ap is_some (run.fails ∙ is))
+          (λ i a at.
+          let o = some_at run.olds i (omega (arith, run.many, place_below news i a at)) in
+          run.means.2.0 i o.0 a o.1 at (b.each i o.0 o.1).scripted ∙ (run.are_new i o.0 o.1).no_faults)
+          ∙ run.means.1 (ap is_some is)
+
+  stops : (run : BindsAndServes options old ports (Err Net) new before mid news) → HasStopped ports before after
+  stops run = by run.means
+    where
+      by : FailsToBind before mid run.olds news ⊎ (StopsSome ports.batches run.olds news × (TellAll run.olds → DealsInPartWithAll ports.batches run.olds news)) → HasStopped ports before after
+      by (inl failed) = record {
+        rose = rose_before before.faults mid.faults after.faults run.never_fall failed.rose rel.never_fall;
+        stopped = on_ports_then _ _ (StopsShort ports (before.refused < after.refused))
+            (λ x y z b r. record {
+              each = each_left ports run.olds news x y z run.many run.within b r ports.batches
+                  (subst (λ (n : List EndFacts). DealsInPartWithAll ports.batches run.olds n) (sym failed.untouched) (none_served ports.batches ports.port run.olds x y b));
+              some = inl (omega (arith, failed.refused, rel.refused));
+            })
+            before.ports mid.ports after.ports run.bound rel.told;
+      }
+      by (inr s) =
+          let zero_is : s.0.old.faults ≡ 0 = (run.are_new s.0.front s.0.old s.0.was).no_faults in
+          let some : 0 < s.0.new.faults = elim s.0.rose as (λ _. 0 < s.0.new.faults) [ inl lt ↦ omega (arith, zero_is) | inr last ↦ omega (arith, last) ] in
+          record {
+            rose = rose_on before.faults mid.faults after.faults run.never_fall (rel.cause s.0.front s.0.new s.0.is some);
+            stopped = on_ports_then _ _ (StopsShort ports (before.refused < after.refused))
+                (λ x y z b r. record {
+                  each = each_left ports run.olds news x y z run.many run.within b r ports.batches (s.1 (bound_tell ports.port run.olds x y b));
+                  some = inr (stopped_some ports run.olds news x y z run.many run.within b r ports.batches s.0);
+                })
+                before.ports mid.ports after.ports run.bound rel.told;
+          }
+
+  pub cause : (answer : Result Totals ServeFault) → BindsAndServes options old ports answer new before mid news → IsCauseOf answer options ports before after
+  cause (Ok totals) run = record {
+    served = on_ports_then _ _ (Serves options ports totals)
+        (λ x y z b r. all_served ports run.olds news x y z run.many run.within b r options old new totals starts run.means.0
+        (run.means.2.1 (bound_tell ports.port run.olds x y b)))
+        before.ports mid.ports after.ports run.bound rel.told;
+    no_fault = no_faults totals run;
+  }
+  cause (Err Net) run = stops run
+  cause (Err NoMemory) run = tt
+
+-- the run up to the release
+module _ (options : Options) (ports : PortOptions) (before mid : NetFacts) (olds : List EndFacts) (are_new : AreNewEnds ports.port olds)
+    (bound : OnPorts (BindsEnds ports.port olds) before.ports mid.ports) (within : length olds ≤ ports.fronts) (never_fall : before.faults ≤ mid.faults)
+    (fails : mid.fails ≡ before.fails) (binds : mid.binds ≤ ports.fronts) (first : 0 < mid.binds → mid.first ≡ ports.port) where
+  pub run_failed : (sessions : Sessions) → Rose before.faults mid.faults → before.refused < mid.refused → BindsAndServes options sessions ports (Err Net) sessions before mid olds
+  run_failed sessions rose refused = record {
+    olds = olds;
+    are_new = are_new;
+    bound = bound;
+    within = within;
+    many = refl;
+    kept = λ i b a is is'. same_kept b a (cc);
+    never_fall = never_fall;
+    fails = fails;
+    binds = binds;
+    first = first;
+    means = inl (record { rose = rose; refused = refused; untouched = refl });
+  }
+
+  pub run_served : (old new : Sessions) (answer : Result Totals ServeFault) (news : List EndFacts) → length olds ≡ ports.fronts
+      → (is_some before.fails ≡ true → mid.faults ≡ before.faults) → ServesFronts options old ports.batches answer new olds news
+      → BindsAndServes options old ports answer new before mid news
+  run_served old new answer news full steady s = record {
+    olds = olds;
+    are_new = are_new;
+    bound = bound;
+    within = within;
+    many = s.many;
+    kept = s.kept;
+    never_fall = never_fall;
+    fails = fails;
+    binds = binds;
+    first = first;
+    means = by answer s.means;
+  }
+    where
+      by : (answer : Result Totals ServeFault) → MeansForEnds answer options old ports.batches new olds news → MeansForRun answer options old ports new before mid olds news
+      by (Ok totals) m = (full, steady, m)
+      by (Err Net) m = inr m
+      by (Err NoMemory) m = tt
+
+-- the ports of the ends are out until they are released, and the ends tell what they did
+pub out_until : (first : ℕ) (olds news : List EndFacts) (a b : Option Ports) → length news ≡ length olds → OnPorts (BindsEnds first olds) a b
+    → IfSome b (λ all. (i : ℕ) → i < length news → all (first + i) ≡ out)
+out_until first olds news None b many p = subst (λ (o : Option Ports). IfSome o (λ all. (i : ℕ) → i < length news → all (first + i) ≡ out)) (sym p) tt
+out_until first olds news (Some x) None many p = absurd p
+out_until first olds news (Some x) (Some y) many p = λ i lt. p.out i (omega (arith, many))
+
+pub tell_until : (first : ℕ) (olds news : List EndFacts) (a b : Option Ports) → length news ≡ length olds
+    → ((i : ℕ) (b a : EndFacts) → slice_get olds i ≡ Some b → slice_get news i ≡ Some a → KeepsEnd b a) → OnPorts (BindsEnds first olds) a b
+    → IfSome b (λ all. TellAll news)
+tell_until first olds news None b many kept p = subst (λ (o : Option Ports). IfSome o (λ all. TellAll news)) (sym p) tt
+tell_until first olds news (Some x) None many kept p = absurd p
+tell_until first olds news (Some x) (Some y) many kept p = kept_tell olds news many kept (bound_tell first olds x y p)

@@ -1,0 +1,30 @@
+use Rattle.std.proofs.Common.{◌≡◌, ◌≤◌, ◌<◌, ◌+◌, ℕ, true, map, length, take, slice_get, Some}
+use Rattle.std.specs.Prelude.{is_some}
+use Rattle.mica_io.specs.Faults.{Rose}
+use Rattle.mica_serve.specs.Ends.{EndFacts}
+use Rattle.mica_serve.specs.NetRun.{OnPorts}
+use Rattle.mica_serve.proofs.Binding.{Releasing}
+use Rattle.mica_serve.proofs.run.release_all.Given as goal
+
+abbrev pub invariant-loop-end : goal.invariant-loop-end
+invariant-loop-end g l =
+    (l.ends.items ≡ take (length l.ends.items) l.initial.ends.items)
+    × OnPorts (Releasing l.first (map (λ e. record {
+      port = g.N.End.Datagrams.port e;
+      traffic = g.N.End.Datagrams.traffic e;
+      faults = g.N.End.Datagrams.faults e;
+      has_ended = g.N.End.Datagrams.has_ended e;
+      has_script = is_some (g.N.End.Datagrams.script e);
+    }) l.initial.ends.items) (length l.ends.items)) (g.N.Net.ports l.initial.net) (g.N.Net.ports l.net)
+    × (g.N.Net.faults l.initial.net ≤ g.N.Net.faults l.net)
+    × (g.N.Net.fails l.net ≡ g.N.Net.fails l.initial.net)
+    × (g.N.Net.binds l.net ≡ g.N.Net.binds l.initial.net)
+    × (g.N.Net.first l.net ≡ g.N.Net.first l.initial.net)
+    × (g.N.Net.refused l.net ≡ g.N.Net.refused l.initial.net)
+    × ((i : ℕ) (e : g.row.N-End.Denot) → length l.ends.items ≤ i → slice_get l.initial.ends.items i ≡ Some e → 0 < g.N.End.Datagrams.faults e
+    → Rose (g.N.Net.faults l.initial.net) (g.N.Net.faults l.net))
+    × (is_some (g.N.Net.fails l.initial.net) ≡ true → ((i : ℕ) (e : g.row.N-End.Denot) → slice_get l.initial.ends.items i ≡ Some e → g.N.End.Datagrams.faults e ≡ 0)
+    → g.N.Net.faults l.net ≡ g.N.Net.faults l.initial.net)
+
+abbrev pub decreases-loop-end : goal.decreases-loop-end
+decreases-loop-end g l = length l.ends.items
