@@ -11,3 +11,9 @@ pub mod LineShares
 pub mod RoundPrints
 pub mod OneRound
 pub mod WorkerParts
+pub mod JobRuns
+pub mod Feeders
+pub mod RoundJobs
+pub mod JobOrder
+pub mod QueueSteps
+pub mod FedRound

@@ -1,5 +1,5 @@
 -- An owner's replies to one write more.
-use Rattle.std.proofs.Common.{◌≡◌, ℕ, ◌-◌, ◌<◌, List, [], ◌∷◌, ◌++◌, length, map, zip, take, Option, Some, None, refl, sym, ap, ◌∙◌, subst, arith, cond, true, false, append-nil, append_assoc, slice_get, IsSome, IsSomeAnd, ◌≤◌, length-take-le}
+use Rattle.std.proofs.Common.{◌≡◌, ℕ, ◌-◌, ◌<◌, List, [], ◌∷◌, ◌++◌, length, map, zip, Option, Some, None, refl, sym, ap, ◌∙◌, subst, arith, cond, true, false, append-nil, append_assoc, slice_get, IsSomeAnd, ◌≤◌}
 use Rattle.std.specs.List.{cons_option, filter_map}
 use Rattle.std.proofs.lemmas.List.{map-append, length_push}
 use Rattle.std.proofs.lemmas.List.Elements.{filter_map-append}
@@ -101,16 +101,3 @@ writes_at_few trace numbers =
 pub some_and : {X : Type 0} (o : Option X) (P : X → Type 0) → IsSomeAnd o P → (x : X) × (o ≡ Some x) × P x
 some_and None P is = absurd is
 some_and (Some x) P is = (x, refl, is)
-
-pub some_is : {X : Type 0} (o : Option X) → IsSome o → (x : X) × (o ≡ Some x)
-some_is None is = absurd (cc)
-some_is (Some x) is = (x, refl)
-
-pub room_left : (old mid : OwnerState) (trace : List TraceLine) (numbers : List ℕ) (k : ℕ) (before now : Replies) → RepliesTo old mid (writes_at trace (take k numbers)) before now
-    → k < length numbers → length numbers ≤ before.spare → 0 < now.spare
-room_left old mid trace numbers k before now so_far less enough =
-    let room = so_far.room in
-    let many = so_far.written.many in
-    let few = writes_at_few trace (take k numbers) in
-    let long = length-take-le k numbers (omega arith) in
-    omega arith

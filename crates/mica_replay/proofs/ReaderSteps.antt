@@ -19,14 +19,12 @@ use Rattle.mica_trace.specs.TraceGrammar.{HasFields, IsTraceLine}
 use Rattle.mica_trace.specs.Rounds.{partition_in, is_in_partition}
 use Rattle.mica_trace.specs.LawfulReport.{IsKindOf, Answers}
 use Rattle.epoch_core.specs.declared.shape.Shape.{Shape}
-use Rattle.epoch_core.specs.declared.state.Failure.{Failure}
 use Rattle.epoch_core.specs.Shape.{shape_of, options_of}
 use Rattle.epoch_core.proofs.SameMachine.{same_state}
 use Rattle.optimistic_get.specs.declared.getting.Got.{Got}
 use Rattle.optimistic_get.specs.declared.getting.Got.TheVariants.{Hit, Miss, Again}
 use Rattle.epoch_core.specs.declared.reader.ReaderState.{ReaderState}
 use Rattle.mica_trace.specs.RoundReport.{Pair, pairs_in, AnswersRise}
-use Rattle.epoch_core.specs.Failures.{failure}
 use Rattle.optimistic_get.specs.Gets.{TriesMade, FailsMore, Answered}
 use Rattle.optimistic_get.specs.Gets.{Answers as GetAnswers}
 use Rattle.mica_replay.specs.Answered.{IsReadAt, IsRead, IsNotAgain, line_of}

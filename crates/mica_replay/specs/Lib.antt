@@ -10,3 +10,7 @@ pub mod Between
 pub mod RoundRun
 pub mod Shares
 pub mod Merged
+pub mod JobReplies
+pub mod Feeds
+pub mod RoundJobs
+pub mod Queues

@@ -6,12 +6,16 @@
 #![tactic(auto)]
 
 mod done;
+mod feeder;
+mod feeding;
 mod lending;
 mod merging;
 mod owner;
 mod printing;
+mod queues;
 mod reader;
 mod round;
+mod round_jobs;
 mod rounds;
 mod run;
 mod sharing;

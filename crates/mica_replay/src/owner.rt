@@ -1,56 +1,56 @@
 //! The owner's part of a round.
-ghost use Rattle.std.specs.Prelude.{◌≡◌, ◌≤◌, Some, IsSome, All, length};
-ghost use Rattle.mica_model.specs.declared.write.Write.{Write};
-ghost use Rattle.mica_trace.specs.TraceGrammar.{IsTraceLine};
+ghost use Rattle.std.specs.Prelude.{◌≡◌, ◌≤◌, ◌<◌, ◌*◌, ℕ, true};
+ghost use Rattle.mica_model.specs.Write.{IsWrite};
 ghost use Rattle.epoch_core.specs.OwnerStep.{IsOwnerStep};
-ghost use Rattle.mica_replay.specs.LineNumbers.{write_at, writes_at, NamesWrite};
-ghost use Rattle.mica_replay.specs.Replies.{RepliesTo};
+ghost use Rattle.owner_queue.specs.Messages.{has_end};
+ghost use Rattle.mica_replay.specs.JobReplies.{RepliesToJobs};
 
 use crate::done::Done;
 use epoch_core::LendPartition;
 use mica_io::Gate;
-use mica_model::Outcome;
-use mica_trace::{Trace, TraceLine, TraceOp};
+use mica_model::{Op, Outcome, Write};
+use owner_queue::{JobReceiver, Message};
+use std::sync::Wait;
 
-// Applies the write of a line.
-fn apply<P: LendPartition>(part: &mut P, line: &TraceLine) -> Outcome
-    requires fields { IsTraceLine line.now }
-    requires write { IsSome (write_at line.now) }
-    ensures step { (w : Write) → write_at line.now ≡ Some w
-        → IsOwnerStep (P.owner part.old) (P.owner part.new) w result }
+fn apply_write<P: LendPartition>(part: &mut P, write: &Write) -> Outcome
+    requires { IsWrite write.now }
+    ensures step { IsOwnerStep (P.owner part.old) (P.owner part.new) write.now result }
     ensures home { P.home part.new ≡ P.home part.old }
 {
-    match line.op {
-        TraceOp::Put => part.put(line.key.bytes(), line.value.bytes()),
-        TraceOp::Del => part.del(line.key.bytes()),
-        TraceOp::Get | TraceOp::Sync => unreachable!(),
+    match write.op {
+        Op::Put => part.put(write.key.bytes(), write.value.bytes()),
+        Op::Del => part.del(write.key.bytes()),
     }
 }
 
-/// Applies the writes at these line numbers, in order, and adds the outcome and the stamp of each at the end
-/// of `out`. It takes no memory.
-pub fn run_owner<P: LendPartition, G: Gate>(
+/// Takes jobs until the queue's end, and adds the outcome and the stamp of each at the end of `out`. It takes no
+/// memory.
+pub fn run_owner<W: Wait, P: LendPartition, G: Gate>(
+    rt: &W,
     part: &mut P,
-    trace: &Trace,
-    writes: &[u32],
+    jobs: &mut JobReceiver,
     out: &mut Done,
     gate: &G,
     worker: u32,
 )
-    requires named { All (NamesWrite trace.now) writes.now }
-    requires room { length writes.now ≤ out.old.spare }
-    ensures replies { RepliesTo (P.owner part.old) (P.owner part.new)
-        (writes_at trace.now writes.now) out.old out.new }
+    requires room { jobs.old.senders * jobs.old.jobs ≤ out.old.spare }
+    ensures replies { RepliesToJobs (P.owner part.old) (P.owner part.new) jobs.old jobs.new out.old out.new }
+    ensures ended { (p : ℕ) → p < jobs.old.senders → has_end p jobs.new.taken ≡ true }
     ensures home { P.home part.new ≡ P.home part.old }
 {
     let most = out.spare();
-    let lines = trace.lines();
     let mut call = 0;
-    for number in writes {
-        gate.turn(worker, call);
-        let outcome = apply(part, &lines[*number as usize]);
-        out.push(outcome, part.stamp());
-        call += 1;
+    for _ in rt.forever() {
+        match jobs.recv(rt) {
+            Some(Message::Job(job)) => {
+                gate.turn(worker, call);
+                let outcome = apply_write(part, &job.write);
+                out.push(outcome, part.stamp());
+                call += 1;
+            }
+            Some(Message::End(_)) => {}
+            None => break,
+        }
     }
     gate.turn(worker, call);
 }

@@ -65,7 +65,7 @@ fn run_one<
     ensures readers { OnOk result (AreFree options.now (map (λ r. reader_part reader_state reader_home r) readers.new.items)) }
 {
     let next = split_round(alloc, options, trace, from, to, gets, owners, readers)?;
-    run_round(rt, alloc, trace, options, gate, owners, readers)?;
+    run_round(rt, alloc, trace, options, gate, from, to, owners, readers)?;
     let mut found = collect(alloc, readers)?;
     print_round(
         alloc,

@@ -19,6 +19,7 @@ use epoch_core::{LendPartition, Partition, ReaderWords, Shape};
 use mica_io::{Gate, NoMemory};
 use mica_model::{Mode, Options};
 use mica_trace::{Report, Trace};
+use owner_queue::job_queue;
 use partition_table::{Note, OwnerSeat, ReaderSeat, Tables, make};
 use std::alloc::Global;
 use std::sync::Wait;
@@ -87,10 +88,13 @@ fn make_owners<P: OnTable + Partition>(
 {
     let mut owners = Vec::with_capacity(alloc, options.partitions as usize)?;
     for p in 0..options.partitions {
+        let part = P::new(alloc, options)?;
+        let (_, jobs) = job_queue(alloc, 1, 0)?;
         owners.push(OwnerWork {
-            part: P::new(alloc, options)?,
+            part,
             worker: options.readers + p,
             writes: Vec::new(alloc),
+            jobs,
             done: Done::new(alloc, 0)?,
         })?;
     }

@@ -1,16 +1,20 @@
 //! The workers of a round: each owner and each reader, with its part of the round, in a thread of its own.
-ghost use Rattle.std.specs.Prelude.{◌≡◌, ◌+◌, ◌<◌, ◌≤◌, ◌++◌, [], ℕ, List, All, length, map, slice_index_or, vec_len, vec_capacity, OnOk};
+ghost use Rattle.std.specs.Prelude.{◌≡◌, ◌+◌, ◌<◌, ◌≤◌, ◌++◌, [], ℕ, List, All, length, map, slice_index_or, vec_len, vec_capacity, OnOk, IfOk};
+ghost use Rattle.std.specs.List.{AllZip};
 ghost use Rattle.mica_model.specs.Options.{IsValid};
 ghost use Rattle.partition_table.specs.Seats.{reader_state, reader_home};
-ghost use Rattle.mica_replay.specs.Workers.{IsReadyOwner, OwnerRan, OwnersRan, IsReadyReader, ReaderRan, ReadersRan, IsReadyWorker, WorkerRan, WorkersRan, owners_in, readers_in};
+ghost use Rattle.mica_replay.specs.Workers.{IsReadyReader, ReaderRan, ReadersRan, IsFedOwner, OwnerFed, IsReadyWorker, WorkerRan, WorkersRan, owners_in, readers_in, senders_in};
+ghost use Rattle.mica_replay.specs.Feeds.{IsReadyFeeder, HasFed};
 
 use crate::done::Done;
+use crate::feeder::Feeder;
 use crate::owner::run_owner;
 use crate::reader::{Found, run_reader};
 use epoch_core::{LendPartition, ReaderWords};
 use mica_io::{Gate, NoMemory};
 use mica_model::Options;
 use mica_trace::Trace;
+use owner_queue::{JobReceiver, JobSender};
 use partition_table::{Note, ReaderSeat};
 use std::alloc::Global;
 use std::mem;
@@ -22,19 +26,21 @@ use std::thread::{Threads, for_each_mut};
 pub struct OwnerWork<P> {
     pub part: P,
     pub worker: u32,
+    /// The lines whose writes it is fed.
     pub writes: Vec<u32>,
+    pub jobs: JobReceiver,
     pub done: Done,
 }
 
 impl<P: LendPartition> OwnerWork<P> {
-    fn run<G: Gate>(&mut self, trace: &Trace, gate: &G)
-        requires { IsReadyOwner trace.now self.old }
-        ensures { OwnerRan P.owner P.home trace.now self.old self.new }
+    fn run<W: Wait, G: Gate>(&mut self, rt: &W, gate: &G)
+        requires { IsFedOwner self.old }
+        ensures { OwnerFed P.owner P.home self.old self.new }
     {
         run_owner(
+            rt,
             &mut self.part,
-            trace,
-            self.writes.as_slice(),
+            &mut self.jobs,
             &mut self.done,
             gate,
             self.worker,
@@ -83,6 +89,7 @@ impl<R: ReaderWords> ReaderWork<R> {
 pub enum Worker<P, R> {
     Reader(ReaderWork<R>),
     Owner(OwnerWork<P>),
+    Feeder(Feeder),
 }
 
 impl<P: LendPartition, R: ReaderWords> Worker<P, R> {
@@ -100,7 +107,8 @@ impl<P: LendPartition, R: ReaderWords> Worker<P, R> {
     {
         match self {
             Worker::Reader(reader) => reader.run(rt, alloc, trace, options, gate),
-            Worker::Owner(owner) => owner.run(trace, gate),
+            Worker::Owner(owner) => owner.run(rt, gate),
+            Worker::Feeder(feeder) => feeder.run(rt),
         }
     }
 }
@@ -146,8 +154,9 @@ fn gather<P: Drop, R: Drop>(
 )
     requires none { workers.old.items ≡ [] }
     requires room { vec_len readers.old + vec_len owners.old ≤ vec_capacity workers.old }
-    ensures { workers.new.items
+    ensures items { workers.new.items
         ≡ map Worker.Reader readers.old.items ++ map Worker.Owner owners.old.items }
+    ensures capacity { vec_capacity workers.new ≡ vec_capacity workers.old }
 {
     let readers = mem::replace(readers, Vec::new(alloc));
     let owners = mem::replace(owners, Vec::new(alloc));
@@ -159,28 +168,31 @@ fn gather<P: Drop, R: Drop>(
     }
 }
 
-// The readers and the owners among the workers, in order.
+// The readers and the owners among the workers, in order, and the senders of the feeder.
 fn take_apart<P: Drop, R: Drop>(
     workers: Vec<Worker<P, R>>,
     readers: &mut Vec<ReaderWork<R>>,
     owners: &mut Vec<OwnerWork<P>>,
+    senders: &mut Vec<JobSender>,
 )
-    requires none { (readers.old.items ≡ []) × (owners.old.items ≡ []) }
+    requires none { (readers.old.items ≡ []) × (owners.old.items ≡ []) × (senders.old.items ≡ []) }
     requires readers { vec_len workers ≤ vec_capacity readers.old }
     requires owners { vec_len workers ≤ vec_capacity owners.old }
     ensures readers { readers.new.items ≡ readers_in workers.items }
     ensures owners { owners.new.items ≡ owners_in workers.items }
+    ensures senders { senders.new.items ≡ senders_in [] workers.items }
 {
     for worker in workers {
         match worker {
             Worker::Reader(reader) => readers.push_reserved(reader),
             Worker::Owner(owner) => owners.push_reserved(owner),
+            Worker::Feeder(feeder) => *senders = feeder.senders,
         }
     }
 }
 
-/// Runs all readers and all owners side by side, each in a thread of its own. All room is made before the first
-/// of them starts.
+/// Runs all readers, all owners and the feeder of their queues side by side, each in a thread of its own. All
+/// room is made before the first of them starts. Gives the feeder's senders.
 pub(crate) fn run_all<
     W: Threads + Wait + Sync,
     P: LendPartition<Reader = ReaderSeat, Note = Note> + Drop + Send,
@@ -191,25 +203,34 @@ pub(crate) fn run_all<
     trace: &Trace,
     options: &Options,
     gate: &G,
+    feeder: Feeder,
     owners: &mut Vec<OwnerWork<P>>,
     readers: &mut Vec<ReaderWork<ReaderSeat>>,
-) -> Result<(), NoMemory>
-    requires some { 0 < length readers.old.items }
+) -> Result<Vec<JobSender>, NoMemory>
     requires valid { IsValid options.now }
-    requires owners { All (IsReadyOwner trace.now) owners.old.items }
+    requires owners { All IsFedOwner owners.old.items }
     requires readers { All (IsReadyReader reader_state trace.now options.now) readers.old.items }
-    ensures owners { OnOk result (OwnersRan P.owner P.home trace.now owners.old.items owners.new.items) }
+    requires feeder { IsReadyFeeder feeder }
+    ensures owners { OnOk result (AllZip (OwnerFed P.owner P.home) owners.old.items owners.new.items) }
     ensures readers { OnOk result (ReadersRan reader_state reader_home trace.now options.now
         readers.old.items readers.new.items) }
+    ensures fed { IfOk result (λ senders. HasFed feeder senders.items) }
 {
-    let room = readers.len() + owners.len();
+    let room = readers.len() + owners.len() + 1;
     let mut workers = Vec::with_capacity(alloc, room)?;
     let mut readers_after = Vec::with_capacity(alloc, room)?;
     let mut owners_after = Vec::with_capacity(alloc, room)?;
+    let mut senders_after = Vec::new(alloc);
     gather(alloc, readers, owners, &mut workers);
+    workers.push_reserved(Worker::Feeder(feeder));
     run_workers(rt, alloc, trace, options, gate, &mut workers);
-    take_apart(workers, &mut readers_after, &mut owners_after);
+    take_apart(
+        workers,
+        &mut readers_after,
+        &mut owners_after,
+        &mut senders_after,
+    );
     *readers = readers_after;
     *owners = owners_after;
-    Ok(())
+    Ok(senders_after)
 }

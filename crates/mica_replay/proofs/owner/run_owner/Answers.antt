@@ -1,38 +1,42 @@
-use Rattle.std.proofs.Common.{◌≡◌, ◌+◌, ℕ, ◌++◌, ◌∷◌, [], List, take, get_or, slice_get, Some, IsSome, sym, ap, ◌∙◌, subst}
-use Rattle.std.proofs.lemmas.List.{take_more}
-use Rattle.std.proofs.lemmas.Option.{get_or_from_slice_get}
-use Rattle.mica_trace.specs.declared.line.TraceLine.{TraceLine}
-use Rattle.mica_replay.specs.LineNumbers.{write_at, writes_at}
-use Rattle.mica_replay.specs.Replies.{RepliesTo}
-use Rattle.mica_replay.proofs.OwnerRuns.{owns_one, writes_at_push, room_left, some_and, some_is}
+use Rattle.std.proofs.Common.{[], ◌∷◌, ap, ◌∙◌, arith, refl}
+use Rattle.owner_queue.specs.declared.message.Message.{Message}
+use Rattle.owner_queue.specs.Messages.{writes_in}
+use Rattle.mica_replay.proofs.JobRuns.{fed_none, fed_end, fed_room, fed_calls, fed_job}
 use Rattle.mica_replay.proofs.owner.run_owner.Goals as goal
+
+pub loop-init : goal.loop-init
+loop-init g c = record { fed = fed_none (g.P.Partition.owner c.args.part.now) c.args.jobs.now c.args.out.now; home = refl }
 
 pub push-requires : goal.push-requires
 push-requires g c =
-    room_left (g.P.Partition.owner c.args.part.now) (g.P.Partition.owner c.loop-number.part) c.args.trace.now c.args.writes.now c.loop-number.number-index c.args.out.now c.loop-number.out
-    c.loop-number.invariant.replies c.loop-number-test.true c.requires.room
+    let m = c.in-Some-Job in
+    fed_room (g.P.Partition.owner c.args.part.now) (g.P.Partition.owner c.loop.part) c.args.jobs.now c.loop.jobs c.recv.new.self c.args.out.now c.loop.out c.loop.call m.field-0
+    c.loop.invariant.fed m.ensures.some m.ensures.sender m.ensures.order m.job.write (ap (λ (x : Message). writes_in (x ∷ [])) m.field-0-is) c.requires.room
 
-pub loop-number-preserved : goal.loop-number-preserved
-loop-number-preserved g c =
-    let k = c.loop-number.number-index in
-    let trace = c.args.trace.now in
-    let numbers = c.args.writes.now in
-    let less = c.loop-number-test.true in
-    let number : ℕ = get_or numbers k 0 in
-    let line = c.index-lines-number.result in
-    let at = some_and (slice_get trace number) (λ (l : TraceLine). IsSome (write_at l)) (c.requires.named k 0 less) in
-    let same : line ≡ at.0 = c.index-lines-number.is ∙ ap (λ (ls : List TraceLine). get_or ls number line) c.lines-lines.ensures.same ∙ get_or_from_slice_get trace number at.0 line at.1 in
-    let write = some_is (write_at at.0) at.2 in
-    let is_write : write_at line ≡ Some write.0 = ap write_at same ∙ write.1 in
-    let is_line : slice_get trace number ≡ Some line = at.1 ∙ ap (λ (l : TraceLine). Some l) (sym same) in
-    let some = room_left (g.P.Partition.owner c.args.part.now) (g.P.Partition.owner c.loop-number.part) trace numbers k c.args.out.now c.loop-number.out c.loop-number.invariant.replies less c.requires.room in
-    let more : writes_at trace (take (k + 1) numbers) ≡ writes_at trace (take k numbers) ++ write.0 ∷ []
-    = ap (writes_at trace) (take_more numbers k 0 less) ∙ writes_at_push trace (take k numbers) number line write.0 is_line is_write in
+pub overflow_add-call : goal.overflow_add-call
+overflow_add-call g c =
+    let m = c.in-Some-Job in
+    let few = fed_calls (g.P.Partition.owner c.args.part.now) (g.P.Partition.owner c.loop.part) c.args.jobs.now c.loop.jobs c.recv.new.self c.args.out.now c.loop.out c.loop.call m.field-0
+    c.loop.invariant.fed m.ensures.some m.ensures.sender m.ensures.order m.job.write (ap (λ (x : Message). writes_in (x ∷ [])) m.field-0-is) c.requires.room in
+    let most = c.spare-most.ensures in
+    let fits = c.spare-most.type_inv in
+    omega arith
+
+pub loop-preserved-in-Some-Job : goal.loop-preserved-in-Some-Job
+loop-preserved-in-Some-Job g c =
+    let m = c.in-Some-Job in
     record {
-      replies = subst (λ ws. RepliesTo (g.P.Partition.owner c.args.part.now) (g.P.Partition.owner c.apply-outcome.new.part) ws c.args.out.now c.push.new.self) (sym more)
-          (owns_one (g.P.Partition.owner c.args.part.now) (g.P.Partition.owner c.loop-number.part) (g.P.Partition.owner c.apply-outcome.new.part) (writes_at trace (take k numbers)) write.0
-          c.args.out.now c.loop-number.out c.push.new.self c.apply-outcome.result c.stamp.result
-          c.loop-number.invariant.replies (c.apply-outcome.ensures.step write.0 is_write) c.stamp.ensures some c.push.ensures);
-      home = c.apply-outcome.ensures.home ∙ c.loop-number.invariant.home;
-      call = ap (λ n. n + 1) c.loop-number.invariant.call;
+      fed = fed_job (g.P.Partition.owner c.args.part.now) (g.P.Partition.owner c.loop.part) c.args.jobs.now c.loop.jobs c.recv.new.self c.args.out.now c.loop.out c.loop.call m.field-0
+          c.loop.invariant.fed m.ensures.some m.ensures.sender m.ensures.order m.job.write (ap (λ (x : Message). writes_in (x ∷ [])) m.field-0-is) c.requires.room
+          (g.P.Partition.owner c.apply_write-outcome.new.part) c.push.new.self c.apply_write-outcome.result c.stamp.result c.apply_write-outcome.ensures.step c.stamp.ensures c.push.ensures;
+      home = c.apply_write-outcome.ensures.home ∙ c.loop.invariant.home;
+    }
+
+pub loop-preserved : goal.loop-preserved
+loop-preserved g c =
+    let m = c.in-Some-End in
+    record {
+      fed = fed_end (g.P.Partition.owner c.args.part.now) (g.P.Partition.owner c.loop.part) c.args.jobs.now c.loop.jobs c.recv.new.self c.args.out.now c.loop.out c.loop.call m.field-0
+          c.loop.invariant.fed m.ensures.some m.ensures.sender m.ensures.order (ap (λ (x : Message). writes_in (x ∷ [])) m.field-0-is);
+      home = c.loop.invariant.home;
     }

@@ -1,11 +1,9 @@
-use Rattle.std.proofs.Common.{◌≡◌, take}
-use Rattle.mica_replay.specs.LineNumbers.{writes_at}
-use Rattle.mica_replay.specs.Replies.{RepliesTo}
+use Rattle.std.proofs.Common.{◌≡◌}
+use Rattle.mica_replay.proofs.JobRuns.{HasTakenJobs}
 use Rattle.mica_replay.proofs.owner.run_owner.Given as goal
 
-abbrev pub invariant-loop-number : goal.invariant-loop-number
-invariant-loop-number g l = record {
-  replies : RepliesTo (g.P.Partition.owner l.initial.part) (g.P.Partition.owner l.part) (writes_at l.trace (take l.number-index l.writes)) l.initial.out l.out;
+abbrev pub invariant-loop : goal.invariant-loop
+invariant-loop g l = record {
+  fed : HasTakenJobs (g.P.Partition.owner l.initial.part) (g.P.Partition.owner l.part) l.initial.jobs l.jobs l.initial.out l.out l.call;
   home : g.P.Partition.home l.part ≡ g.P.Partition.home l.initial.part;
-  call : l.call ≡ l.number-index;
 }

@@ -1,5 +1,4 @@
 use Rattle.std.proofs.Common.{◌∙◌}
-use Rattle.mica_words.specs.Hash.{bucket_of}
 use Rattle.mica_replay.proofs.ReaderSteps.{is_read, fails_again}
 use Rattle.mica_replay.proofs.reader.ask.Goals as goal
 

@@ -1,7 +1,6 @@
-use Rattle.std.proofs.Common.{◌≡◌, ◌+◌, ◌-◌, ◌<◌, ◌≤◌, length, take, drop, List, ◌∷◌, [], ◌++◌, get_or, sym, ap, ◌∙◌, subst, arith, take_all}
+use Rattle.std.proofs.Common.{◌≡◌, ◌-◌, ◌<◌, length, take, drop, get_or, sym, ap, ◌∙◌, subst, arith, take_all}
 use Rattle.std.specs.List.{AllByRecursion}
 use Rattle.std.proofs.lemmas.List.{take_more, length-drop}
-use Rattle.mica_trace.specs.declared.line.TraceLine.{TraceLine}
 use Rattle.mica_trace.specs.TraceGrammar.{is_sync}
 use Rattle.mica_trace.specs.RoundReport.{EndsRound, IsOneRound}
 use Rattle.mica_replay.proofs.RoundEnds.{IsNoSync, all_push, one_round, whole_round, ends_round, part_more}

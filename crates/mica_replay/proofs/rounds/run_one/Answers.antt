@@ -14,6 +14,7 @@ use Rattle.mica_replay.specs.Shares.{IsShared}
 use Rattle.mica_replay.specs.Merged.{AreEnough, HasMerged}
 use Rattle.mica_trace.proofs.ListParts.{length_zip}
 use Rattle.mica_replay.proofs.LineShares.{take_most}
+use Rattle.mica_replay.proofs.FedRound.{shared_writes}
 use Rattle.mica_replay.proofs.OneRound.{are_ready, are_enough, goes_next, free_again, take_join, all_take, all_drop, twice_map, gets_few, gets_join}
 use Rattle.partition_table.specs.Seats.{reader_state, reader_home}
 use Rattle.partition_table.specs.declared.reader.ReaderSeat.{ReaderSeat}
@@ -35,6 +36,24 @@ run_round-requires-clause-ready g c κs within =
     let few : length round < 2 ^ 32 = omega (arith, c.ranges.to.fits) in
     let shared = subst (λ (n : ℕ). IsShared options trace n round owner_parts given reader_parts asked) c.requires.gets c.in_ok-next.ensures.shared in
     are_ready options c.requires.valid trace before round c.args.report.now owner_parts given reader_parts asked few c.requires.so_far c.requires.readers shared
+
+pub run_round-requires-clause-shared : goal.run_round-requires-clause-shared
+run_round-requires-clause-shared g c κs within =
+    let f = λ (w : OwnerWork g.row.P.Denot). owner_part g.P.Partition.owner g.P.Partition.home w in
+    let t = λ (r : ReaderWork ReaderSeat). reader_part reader_state reader_home r in
+    let options = c.args.options.now in
+    let trace = c.args.trace.now in
+    let before = take c.args.from trace in
+    let round = take (c.args.to - c.args.from) (drop c.args.from trace) in
+    let owner_parts = map f c.args.owners.now.items in
+    let given = map f c.split_round.new.owners.items in
+    let reader_parts = map t c.args.readers.now.items in
+    let asked = map t c.split_round.new.readers.items in
+    let most = take_most (c.args.to - c.args.from) (drop c.args.from trace) in
+    let few : length round < 2 ^ 32 = omega (arith, c.ranges.to.fits) in
+    let shared = subst (λ (n : ℕ). IsShared options trace n round owner_parts given reader_parts asked) c.requires.gets c.in_ok-next.ensures.shared in
+    let all = are_ready options c.requires.valid trace before round c.args.report.now owner_parts given reader_parts asked few c.requires.so_far c.requires.readers shared in
+    shared_writes options trace round (gets_in before) owner_parts given reader_parts asked shared all.owners
 
 pub print_round-requires-clause-enough : goal.print_round-requires-clause-enough
 print_round-requires-clause-enough g c =

@@ -14,5 +14,5 @@ loop-p-preserved g c =
     record {
       many = ap length c.in_ok-push.ensures.items ∙ length_push c.loop-p.owners.items _ ∙ ap (λ n. n + 1) c.loop-p.invariant.many;
       made = subst (λ (items : List (OwnerWork g.row.P.Denot)). (i : ℕ) (w : OwnerPart) → slice_get (map f items) i ≡ Some w → w.state ≡ as_made made) (sym c.in_ok-push.ensures.items)
-          (each_more f (λ (w : OwnerPart). w.state ≡ as_made made) c.loop-p.owners.items _ c.loop-p.invariant.made (sym (c.requires.same c.in_ok-new.field-0) ∙ c.in_ok-new.ensures.made));
+          (each_more f (λ (w : OwnerPart). w.state ≡ as_made made) c.loop-p.owners.items _ c.loop-p.invariant.made (sym (c.requires.same c.in_ok-part.part) ∙ c.in_ok-part.ensures.made));
     }

@@ -1,5 +1,5 @@
 use Rattle.std.proofs.Common.{arith, length-append, ◌∷◌, [], ◌∙◌, sym, ap, ◌++◌}
-use Rattle.mica_replay.proofs.WorkerParts.{readers_push, readers_same, owners_push, owners_same}
+use Rattle.mica_replay.proofs.WorkerParts.{readers_push, readers_same, readers_fed, owners_push, owners_same, owners_fed, senders_reader, senders_owner, senders_fed}
 use Rattle.mica_replay.proofs.worker.take_apart.Goals as goal
 
 pub loop-worker-preserved-in-Reader : goal.loop-worker-preserved-in-Reader
@@ -9,10 +9,25 @@ loop-worker-preserved-in-Reader g c =
     record {
       readers = c.push_reserved.ensures.items ∙ ap (λ l. l ++ c.in-Reader.reader ∷ []) i.readers ∙ sym (readers_push c.loop-worker.yielded c.in-Some.worker c.in-Reader.reader c.in-Reader.is);
       owners = i.owners ∙ sym (owners_same c.loop-worker.yielded c.in-Some.worker c.in-Reader.reader c.in-Reader.is);
+      senders = i.senders ∙ sym (senders_reader c.loop-worker.yielded c.in-Some.worker c.in-Reader.reader c.in-Reader.is);
       readers_len = omega (arith, i.readers_len, more, c.push_reserved.ensures.len);
       owners_len = omega (arith, i.owners_len, more);
       readers_room = omega (arith, i.readers_room, c.push_reserved.ensures.capacity);
       owners_room = i.owners_room;
+    }
+
+pub loop-worker-preserved-in-Owner : goal.loop-worker-preserved-in-Owner
+loop-worker-preserved-in-Owner g c =
+    let i = c.loop-worker.invariant in
+    let more = length-append c.loop-worker.yielded (c.in-Some.worker ∷ []) in
+    record {
+      readers = i.readers ∙ sym (readers_same c.loop-worker.yielded c.in-Some.worker c.in-Owner.owner c.in-Owner.is);
+      owners = c.push_reserved-in-Owner.ensures.items ∙ ap (λ l. l ++ c.in-Owner.owner ∷ []) i.owners ∙ sym (owners_push c.loop-worker.yielded c.in-Some.worker c.in-Owner.owner c.in-Owner.is);
+      senders = i.senders ∙ sym (senders_owner c.loop-worker.yielded c.in-Some.worker c.in-Owner.owner c.in-Owner.is);
+      readers_len = omega (arith, i.readers_len, more);
+      owners_len = omega (arith, i.owners_len, more, c.push_reserved-in-Owner.ensures.len);
+      readers_room = i.readers_room;
+      owners_room = omega (arith, i.owners_room, c.push_reserved-in-Owner.ensures.capacity);
     }
 
 pub loop-worker-preserved : goal.loop-worker-preserved
@@ -20,10 +35,11 @@ loop-worker-preserved g c =
     let i = c.loop-worker.invariant in
     let more = length-append c.loop-worker.yielded (c.in-Some.worker ∷ []) in
     record {
-      readers = i.readers ∙ sym (readers_same c.loop-worker.yielded c.in-Some.worker c.in-Owner.owner c.in-Owner.is);
-      owners = c.push_reserved-in-Owner.ensures.items ∙ ap (λ l. l ++ c.in-Owner.owner ∷ []) i.owners ∙ sym (owners_push c.loop-worker.yielded c.in-Some.worker c.in-Owner.owner c.in-Owner.is);
+      readers = i.readers ∙ sym (readers_fed c.loop-worker.yielded c.in-Some.worker c.in-Feeder.feeder c.in-Feeder.is);
+      owners = i.owners ∙ sym (owners_fed c.loop-worker.yielded c.in-Some.worker c.in-Feeder.feeder c.in-Feeder.is);
+      senders = sym (senders_fed c.loop-worker.yielded c.in-Some.worker c.in-Feeder.feeder c.in-Feeder.is);
       readers_len = omega (arith, i.readers_len, more);
-      owners_len = omega (arith, i.owners_len, more, c.push_reserved-in-Owner.ensures.len);
+      owners_len = omega (arith, i.owners_len, more);
       readers_room = i.readers_room;
-      owners_room = omega (arith, i.owners_room, c.push_reserved-in-Owner.ensures.capacity);
+      owners_room = i.owners_room;
     }

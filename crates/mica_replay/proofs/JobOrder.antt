@@ -1,0 +1,147 @@
+-- The jobs of a round stand in an order that their senders may send them in.
+use Rattle.std.proofs.Common.{◌≡◌, ℕ, zero, suc, ◌+◌, ◌<◌, ◌≤◌, ◌==◌, List, [], ◌∷◌, ◌++◌, length, map, filter, slice_get, Some, None, refl, sym, ap, ◌∙◌, subst, arith, cond, true, false, eq-eqb, ne_eqb, length-append, ⊎_elim}
+use Rattle.std.specs.List.{list_any, cons_option, AllByRecursion}
+use Rattle.std.specs.Vec.Iter.{into_iter_items}
+use Rattle.std.proofs.lemmas.List.{map-append}
+use Rattle.std.proofs.lemmas.Bool.{cases_lt}
+use Rattle.std.proofs.lemmas.List.Elements.{filter-append, All-from_recursion}
+use Rattle.mica_words.proofs.Hashes.{partition_of-below}
+use Rattle.mica_words.specs.Packing.{AreBytes}
+use Rattle.mica_model.specs.declared.options.Options.{Options}
+use Rattle.mica_model.specs.declared.write.Write.{Write}
+use Rattle.mica_model.specs.Options.{IsValid}
+use Rattle.mica_model.specs.declared.write.Op.TheVariants.{Put as PutOp, Del as DelOp}
+use Rattle.mica_model.specs.Write.{IsWrite, write_of}
+use Rattle.mica_trace.specs.declared.line.TraceOp.{TraceOp}
+use Rattle.mica_trace.specs.declared.line.TraceOp.TheVariants.{Put, Del, Get, Sync}
+use Rattle.mica_trace.specs.declared.line.TraceLine.{TraceLine}
+use Rattle.mica_trace.specs.TraceGrammar.{HasFields, IsTraceLine}
+use Rattle.mica_trace.specs.Rounds.{partition_in, is_in_partition, write_by, writes_of}
+use Rattle.owner_queue.specs.declared.message.Message.{Message}
+use Rattle.owner_queue.specs.declared.message.Message.TheVariants as kind
+use Rattle.owner_queue.specs.Messages.{sender_of, ticket_of, is_end, IsFit, writes_in}
+use Rattle.owner_queue.specs.JobEnds.{Outbox, outbox}
+use Rattle.mica_replay.specs.declared.feeder.Feed.{Feed}
+use Rattle.mica_replay.specs.declared.feeder.Feeder.{Feeder}
+use Rattle.mica_replay.specs.Feeds.{jobs_for, IsReadyFeeder}
+use Rattle.mica_replay.specs.RoundJobs.{jobs_from}
+use Rattle.mica_replay.proofs.ReaderSteps.{at_within}
+
+-- Each write of a trace line fits.
+
+low_bytes : (bytes : List ℕ) → AllByRecursion (λ x. x ≤ 126) bytes → AreBytes bytes
+low_bytes [] all k = omega arith
+low_bytes (x ∷ bytes) all zero = let low = all.0 in omega arith
+low_bytes (x ∷ bytes) all (suc k) = low_bytes bytes all.1 k
+
+visible : (low : ℕ) (bytes : List ℕ) → AllByRecursion (λ x. (low ≤ x) × (x ≤ 126)) bytes → AllByRecursion (λ x. x ≤ 126) bytes
+visible low [] all = tt
+visible low (x ∷ bytes) all = (all.0.1, visible low bytes all.1)
+
+line_write : (op : TraceOp) (key value : List ℕ) (write : Write) → HasFields op key value → write_by op key value ≡ Some write → IsWrite write
+line_write Put key value write fields is =
+    let e : write_of PutOp key value ≡ write = cc in
+    subst IsWrite e (record { key = fields.0.0; key_bytes = low_bytes key (visible 33 key fields.0.1); value = fields.1.0; value_bytes = low_bytes value (visible 32 value fields.1.1) })
+line_write Del key value write fields is =
+    let e : write_of DelOp key value ≡ write = cc in
+    subst IsWrite e (record { key = fields.0.0; key_bytes = low_bytes key (visible 33 key fields.0.1); value = fields.1; value_bytes = subst AreBytes (sym fields.1) (low_bytes [] tt) })
+line_write Get key value write fields is = absurd (cc)
+line_write Sync key value write fields is = absurd (cc)
+
+writes_fit : (options : Options) (p : ℕ) (lines : List TraceLine) → AllByRecursion IsTraceLine lines → AllByRecursion IsWrite (writes_of options p lines)
+writes_fit options p [] all = tt
+writes_fit options p (line ∷ lines) all =
+    let rest = writes_fit options p lines all.1 in
+    elim (is_in_partition options p line) as (λ b. AllByRecursion IsWrite (cons_option (cond b (write_by line.op line.key line.value) None) (writes_of options p lines))) [
+      | true ↦ elim (write_by line.op line.key line.value) as (λ o. write_by line.op line.key line.value ≡ o → AllByRecursion IsWrite (cons_option o (writes_of options p lines))) [
+        | None ↦ λ is. rest
+        | Some write ↦ λ is. (line_write line.op line.key line.value write all.0 is, rest)
+      ] refl
+      | false ↦ rest
+    ]
+
+-- no line is of a partition that there isn't
+no_writes : (options : Options) (p : ℕ) (lines : List TraceLine) → IsValid options → options.partitions ≤ p → writes_of options p lines ≡ []
+no_writes options p [] valid far = refl
+no_writes options p (line ∷ lines) valid far =
+    let below = partition_of-below line.key options.partitions valid.partitions.0 in
+    ap (λ b. cons_option (cond b (write_by line.op line.key line.value) None) (writes_of options p lines)) (ne_eqb (partition_in options line) p (λ same. omega (arith, same, below, far)))
+    ∙ no_writes options p lines valid far
+
+-- What is known of a job between others of its queue.
+record JobAt (n : ℕ) (writes : List Write) (before : List Message) (m : Message) : Type 0 where
+  own : sender_of m ≡ 0
+  job : is_end m ≡ false
+  ticket : ticket_of m ≡ n + length before
+  less : length before < length writes
+  fit : IsFit m
+  no_end : list_any is_end before ≡ false
+  below : AllByRecursion (λ b. ticket_of b < n + length before) before
+
+job_at : (n : ℕ) (writes : List Write) (before later : List Message) (m : Message) → AllByRecursion IsWrite writes → jobs_from n writes ≡ before ++ m ∷ later → JobAt n writes before m
+job_at n [] before later m fits is = absurd (omega (arith, ap length is, length-append before (m ∷ later)))
+job_at n (write ∷ writes) [] later m fits is =
+    let head : kind.Job (record { sender = 0; ticket = n; write = write }) ≡ m = cc in
+    subst (JobAt n (write ∷ writes) []) head (record { own = refl; job = refl; ticket = omega arith; less = omega arith; fit = fits.0; no_end = refl; below = tt })
+job_at n (write ∷ writes) (x ∷ before) later m fits is =
+    let head : kind.Job (record { sender = 0; ticket = n; write = write }) ≡ x = cc in
+    let tail : jobs_from (n + 1) writes ≡ before ++ m ∷ later = cc in
+    let rest = job_at (n + 1) writes before later m fits.1 tail in
+    let up : (n + 1) + length before ≡ n + suc (length before) = omega arith in
+    record {
+      own = rest.own;
+      job = rest.job;
+      ticket = rest.ticket ∙ up;
+      less = (let less = rest.less in omega arith);
+      fit = rest.fit;
+      no_end = subst (λ (y : Message). list_any is_end (y ∷ before) ≡ false) head rest.no_end;
+      below = (subst (λ (y : Message). ticket_of y < n + suc (length before)) head (omega arith), subst (λ (k : ℕ). AllByRecursion (λ b. ticket_of b < k) before) up rest.below);
+    }
+
+jobs_for-append : (q : ℕ) (xs ys : List Feed) → jobs_for q (xs ++ ys) ≡ jobs_for q xs ++ jobs_for q ys
+jobs_for-append q xs ys = ap (map (λ (feed : Feed). kind.Job feed.job)) (filter-append (λ feed. feed.queue == q) xs ys) ∙ map-append (λ (feed : Feed). kind.Job feed.job) (filter (λ feed. feed.queue == q) xs) (filter (λ feed. feed.queue == q) ys)
+
+jobs_for-own : (feed : Feed) (feeds : List Feed) → jobs_for feed.queue (feed ∷ feeds) ≡ kind.Job feed.job ∷ jobs_for feed.queue feeds
+jobs_for-own feed feeds = ap (λ b. map (λ (x : Feed). kind.Job x.job) (cond b (feed ∷ filter (λ x. x.queue == feed.queue) feeds) (filter (λ x. x.queue == feed.queue) feeds))) (eq-eqb feed.queue feed.queue refl)
+
+-- The feeder of a round has jobs in order, where each sender may send as many as its queue gets.
+pub ready : (options : Options) (lines : List TraceLine) (feeds : List Feed) (f : Feeder) → IsValid options → AllByRecursion IsTraceLine lines
+    → ((p : ℕ) → jobs_for p feeds ≡ jobs_from 0 (writes_of options p lines)) → length f.senders.items ≡ options.partitions
+    → ((p : ℕ) (sender : Outbox) → slice_get f.senders.items p ≡ Some sender → (n : ℕ) × (sender ≡ outbox sender.queue 0 n []) × (length (writes_of options p lines) ≤ n))
+    → into_iter_items f.feeds ≡ feeds → IsReadyFeeder f
+ready options lines feeds f valid fit made many fresh in_hand = record {
+  none = λ p sender at.
+      let it = fresh p sender at in
+      (ap (λ (o : Outbox). o.sent) it.1, ap (λ (o : Outbox). o.number) it.1);
+  order = λ before later feed is.
+      let q : ℕ = feed.queue in
+      let split : jobs_from 0 (writes_of options q lines) ≡ jobs_for q before ++ kind.Job feed.job ∷ jobs_for q later
+      = sym (made q) ∙ ap (jobs_for q) (sym in_hand ∙ is) ∙ jobs_for-append q before (feed ∷ later) ∙ ap (λ l. jobs_for q before ++ l) (jobs_for-own feed later) in
+      let here = job_at 0 (writes_of options q lines) (jobs_for q before) (jobs_for q later) (kind.Job feed.job) (writes_fit options q lines fit) split in
+      let inside : q < options.partitions = within q (let less = here.less in omega arith) in
+      let sender = at_within f.senders.items q (omega arith) in
+      let it = fresh q sender.0 sender.1 in
+      let jobs_is : sender.0.jobs ≡ it.0 = ap (λ (o : Outbox). o.jobs) it.1 in
+      let ticket = here.ticket in (
+        sender.0,
+        sender.1,
+        here.own ∙ sym (ap (λ (o : Outbox). o.number) it.1),
+        record {
+          no_end = here.no_end;
+          in_range = λ _. omega (arith, here.ticket, here.less, it.2, jobs_is);
+          rises = λ _. All-from_recursion (λ b. ticket_of b < feed.job.ticket) (jobs_for q before) (subst (λ (k : ℕ). AllByRecursion (λ b. ticket_of b < k) (jobs_for q before)) (sym ticket) here.below);
+          fit = here.fit;
+        },
+      );
+}
+  where
+    within : (q : ℕ) → 0 < length (writes_of options q lines) → q < options.partitions
+    within q some =
+        ⊎_elim (λ (less : q < options.partitions). less)
+        (λ (far : options.partitions ≤ q). absurd (omega (arith, some, ap length (no_writes options q lines valid far))))
+        (cases_lt q options.partitions)
+
+-- the writes of the jobs, and of the end behind them, are the writes that the jobs were made of
+pub writes_in-jobs : (n : ℕ) (writes : List Write) → writes_in (jobs_from n writes ++ kind.End 0 ∷ []) ≡ writes
+writes_in-jobs n [] = refl
+writes_in-jobs n (write ∷ writes) = ap (λ l. write ∷ l) (writes_in-jobs (n + 1) writes)

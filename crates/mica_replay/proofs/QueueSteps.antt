@@ -1,0 +1,107 @@
+-- One queue more, and one sender more that is taken in.
+use Rattle.std.proofs.Common.{◌≡◌, ℕ, zero, suc, ◌+◌, ◌<◌, ◌≤◌, ◌⊎◌, inl, inr, List, [], ◌∷◌, ◌++◌, length, slice_get, slice_set, Some, refl, sym, ap, ◌∙◌, subst, arith, true, length-append}
+use Rattle.std.proofs.lemmas.List.{length_push, length-set}
+use Rattle.std.proofs.lemmas.Option.{slice_get_within}
+use Rattle.owner_queue.specs.Messages.{sent_by, has_end}
+use Rattle.owner_queue.specs.JobEnds.{Outbox}
+use Rattle.mica_replay.specs.declared.worker.OwnerWork.{OwnerWork}
+use Rattle.mica_replay.specs.Queues.{HasQueue, HaveQueues, MayTakeIn, HaveTakenIn}
+use Rattle.mica_replay.proofs.ReaderSteps.{set_cases}
+
+same_at : {Z : Type 0} {x y : Z} → Some x ≡ Some y → x ≡ y
+same_at is = cc
+
+at_push : {X : Type 0} (xs : List X) (x : X) (i : ℕ) (y : X) → slice_get (xs ++ x ∷ []) i ≡ Some y → ((i ≡ length xs) × (x ≡ y)) ⊎ (slice_get xs i ≡ Some y)
+at_push [] x zero y is = inl (refl, cc)
+at_push [] x (suc i) y is = absurd (cc)
+at_push (z ∷ xs) x zero y is = inr is
+at_push (z ∷ xs) x (suc i) y is = elim (at_push xs x i y is) as (λ _. ((suc i ≡ suc (length xs)) × (x ≡ y)) ⊎ (slice_get xs i ≡ Some y)) [
+  | inl here ↦ inl (ap suc here.0, here.1)
+  | inr front ↦ inr front
+]
+
+at_next : {X : Type 0} (xs : List X) (x : X) (rest : List X) → slice_get (xs ++ x ∷ rest) (length xs) ≡ Some x
+at_next [] x rest = refl
+at_next (y ∷ xs) x rest = at_next xs x rest
+
+set_same : {X : Type 0} (xs : List X) (i : ℕ) (x : X) → slice_get xs i ≡ Some x → slice_set xs i x ≡ xs
+set_same [] i x is = refl
+set_same (y ∷ xs) zero x is = cc
+set_same (y ∷ xs) (suc i) x is = ap (λ l. y ∷ l) (set_same xs i x is)
+
+-- the last of one element is the first
+pub only_one : (items rest : List Outbox) (last first : Outbox) → items ≡ rest ++ last ∷ [] → length items ≡ 1 → slice_get items 0 ≡ Some first → last ≡ first
+only_one items [] last first is one at = let e : slice_get (last ∷ []) 0 ≡ Some first = sym (ap (λ l. slice_get l 0) is) ∙ at in cc
+only_one items (x ∷ rest) last first is one at = absurd (omega (arith, ap length is, one, length-append rest (last ∷ [])))
+
+module _ {P : Type 0} where
+  -- the first p owners have their queues
+  pub record QueuesTo (p : ℕ) (olds news : List (OwnerWork P)) (senders : List Outbox) : Type 0 where
+    pub many : length news ≡ length olds
+    pub senders_many : length senders ≡ p
+    pub done : (i : ℕ) (old new : OwnerWork P) (sender : Outbox) → slice_get olds i ≡ Some old → slice_get news i ≡ Some new → slice_get senders i ≡ Some sender → HasQueue old new sender
+    pub later : (i : ℕ) (old new : OwnerWork P) → p ≤ i → slice_get olds i ≡ Some old → slice_get news i ≡ Some new → new ≡ old
+
+  pub queues_none : (olds : List (OwnerWork P)) → QueuesTo 0 olds olds []
+  queues_none olds = record {
+    many = refl;
+    senders_many = refl;
+    done = λ i old new sender is_old is_new is_sender. absurd (cc);
+    later = λ i old new from is_old is_new. same_at (sym is_new ∙ is_old);
+  }
+
+  pub queues_one : (p : ℕ) (olds mids : List (OwnerWork P)) (senders : List Outbox) (mid new : OwnerWork P) (sender : Outbox) → QueuesTo p olds mids senders → slice_get mids p ≡ Some mid
+      → HasQueue mid new sender → QueuesTo (p + 1) olds (slice_set mids p new) (senders ++ sender ∷ [])
+  queues_one p olds mids senders mid new sender so_far at one = record {
+    many = length-set mids p new ∙ so_far.many;
+    senders_many = length_push senders sender ∙ ap (λ n. n + 1) so_far.senders_many;
+    done = λ i old x s is_old is_new is_sender.
+        elim (set_cases mids p new i x is_new) as (λ _. HasQueue old x s) [
+          | inl here ↦
+              let old_here : slice_get olds p ≡ Some old = subst (λ (n : ℕ). slice_get olds n ≡ Some old) (sym here.0) is_old in
+              let was : mid ≡ old = so_far.later p old mid (omega arith) old_here at in
+              elim (at_push senders sender i s is_sender) as (λ _. HasQueue old x s) [
+                | inl s_here ↦ subst (λ (y : OwnerWork P × OwnerWork P × Outbox). HasQueue y.0 y.1 y.2) (λ i. (was i, here.1 i, s_here.1 i)) one
+                | inr front ↦ let less = slice_get_within senders i s front in absurd (omega (arith, here.0, less, so_far.senders_many))
+              ]
+          | inr other ↦
+              elim (at_push senders sender i s is_sender) as (λ _. HasQueue old x s) [
+                | inl s_here ↦ absurd (other.0 (sym (s_here.0 ∙ so_far.senders_many)))
+                | inr front ↦ so_far.done i old x s is_old other.1 front
+              ]
+        ];
+    later = λ i old x from is_old is_new.
+        elim (set_cases mids p new i x is_new) as (λ _. x ≡ old) [
+          | inl here ↦ let same = here.0 in absurd (omega arith)
+          | inr other ↦ so_far.later i old x (omega arith) is_old other.1
+        ];
+  }
+
+  pub queues_all : (n : ℕ) (olds news : List (OwnerWork P)) (senders : List Outbox) → length olds ≡ n → QueuesTo n olds news senders → HaveQueues olds news senders
+  queues_all n olds news senders long all = record { many = all.many; senders_many = all.senders_many ∙ sym long; each = all.done }
+
+  pub takes_none : (olds : List (OwnerWork P)) → HaveTakenIn olds olds []
+  takes_none olds = record { same = refl; whole = λ p w sender is is_sender. absurd (cc) }
+
+  -- the owner at the place of the next sender takes it in, and is as it was
+  pub takes_in_one : (olds news : List (OwnerWork P)) (senders : List Outbox) (sender : Outbox) (w new : OwnerWork P) → HaveTakenIn olds news senders → slice_get news (length senders) ≡ Some w
+      → new ≡ w → sent_by sender.number w.jobs.taken ≡ sender.sent → HaveTakenIn olds (slice_set news (length senders) new) (senders ++ sender ∷ [])
+  takes_in_one olds news senders sender w new so_far at same whole = record {
+    same = ap (slice_set news (length senders)) same ∙ set_same news (length senders) w at ∙ so_far.same;
+    whole = λ p x s is_x is_s.
+        elim (at_push senders sender p s is_s) as (λ _. sent_by s.number x.jobs.taken ≡ s.sent) [
+          | inl here ↦
+              let the_owner : w ≡ x = same_at (sym at ∙ ap (λ l. slice_get l (length senders)) so_far.same ∙ ap (slice_get olds) (sym here.0) ∙ is_x) in
+              subst (λ (y : Outbox × OwnerWork P). sent_by y.0.number y.1.jobs.taken ≡ y.0.sent) (λ i. (here.1 i, the_owner i)) whole
+          | inr front ↦ so_far.whole p x s is_x front
+        ];
+  }
+
+  -- The next sender is the one at its place, of its owner's queue, whose end the owner took.
+  module _ (olds news : List (OwnerWork P)) (senders yielded rest : List Outbox) (sender : Outbox) (may : MayTakeIn olds senders) (so_far : HaveTakenIn olds news yielded)
+      (left : senders ≡ yielded ++ sender ∷ rest) where
+    pub next_below : length yielded < length news
+    next_below = omega (arith, ap length left, length-append yielded (sender ∷ rest), may.many, ap length so_far.same)
+
+    pub next_may : (w : OwnerWork P) → slice_get news (length yielded) ≡ Some w → (sender.queue ≡ w.jobs.queue) × (has_end sender.number w.jobs.taken ≡ true)
+    next_may w at = may.each (length yielded) w sender (ap (λ l. slice_get l (length yielded)) (sym so_far.same) ∙ at) (ap (λ l. slice_get l (length yielded)) left ∙ at_next yielded sender rest)

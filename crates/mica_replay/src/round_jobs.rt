@@ -1,0 +1,83 @@
+//! The jobs of a round, made before it begins.
+ghost use Rattle.std.specs.Prelude.{◌≡◌, ◌<◌, ◌≤◌, ◌^◌, ◌+◌, ℕ, IfOk, OnOk, length, take};
+ghost use Rattle.mica_model.specs.Options.{IsValid};
+ghost use Rattle.mica_trace.specs.Rounds.{writes_of};
+ghost use Rattle.mica_replay.specs.Feeds.{jobs_for};
+ghost use Rattle.mica_replay.specs.LineNumbers.{write_at};
+ghost use Rattle.mica_replay.specs.RoundJobs.{jobs_from, HasFeeds};
+
+use crate::feeder::Feed;
+use mica_io::{Bytes, NoMemory};
+use mica_model::{Op, Options, Write};
+use mica_trace::{TraceLine, TraceOp};
+use mica_words::{key_hash, partition_of};
+use owner_queue::Job;
+use std::alloc::Global;
+
+// The write of a line, if it has one.
+fn write_of_line(alloc: Global, line: &TraceLine) -> Result<Option<Write>, NoMemory>
+    ensures { IfOk result (λ write. write ≡ write_at line.now) }
+{
+    let op = match line.op {
+        TraceOp::Put => Op::Put,
+        TraceOp::Del => Op::Del,
+        TraceOp::Get | TraceOp::Sync => return Ok(None),
+    };
+    Ok(Some(Write {
+        op,
+        key: Bytes::copy(alloc, line.key.bytes())?,
+        value: Bytes::copy(alloc, line.value.bytes())?,
+    }))
+}
+
+// The job of one line more, if it has one.
+fn feed_line(
+    alloc: Global,
+    options: &Options,
+    lines: &[TraceLine],
+    number: usize,
+    feeds: &mut Vec<Feed>,
+    tickets: &mut Vec<u64>,
+) -> Result<(), NoMemory>
+    requires valid { IsValid options.now }
+    requires few { length lines.now < 2 ^ 32 }
+    requires number { number < length lines.now }
+    requires so_far { HasFeeds options.now (take number lines.now) feeds.old.items tickets.old.items }
+    ensures { OnOk result (HasFeeds options.now (take (number + 1) lines.now) feeds.new.items tickets.new.items) }
+{
+    let line = &lines[number];
+    let Some(write) = write_of_line(alloc, line)? else {
+        return Ok(());
+    };
+    let queue = partition_of(key_hash(line.key.bytes()), options.partitions);
+    let ticket = tickets[queue as usize];
+    feeds.push(Feed {
+        queue,
+        job: Job {
+            sender: 0,
+            ticket,
+            write,
+        },
+    })?;
+    tickets[queue as usize] = ticket + 1;
+    Ok(())
+}
+
+/// The jobs of these lines' writes, in order, each for the queue of its partition. The tickets of a queue count
+/// from 0.
+pub(crate) fn make_feeds(
+    alloc: Global,
+    options: &Options,
+    lines: &[TraceLine],
+) -> Result<Vec<Feed>, NoMemory>
+    requires valid { IsValid options.now }
+    requires few { length lines.now < 2 ^ 32 }
+    ensures { IfOk result (λ feeds. (p : ℕ) → jobs_for p feeds.items ≡ jobs_from 0 (writes_of options.now p lines.now)) }
+{
+    let mut feeds = Vec::with_capacity(alloc, lines.len())?;
+    let mut tickets = vec![in alloc; 0u64; options.partitions as usize]?;
+    for number in 0..lines.len() {
+        feed_line(alloc, options, lines, number, &mut feeds, &mut tickets)?;
+    }
+    Ok(feeds)
+}
