@@ -1,3 +1,4 @@
+//! Why bytes are no datagram of the kind that was asked for.
 ghost use Rattle.std.specs.Prelude.{◌≡◌};
 
 use mica_io::NoMemory;

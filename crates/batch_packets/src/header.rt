@@ -1,3 +1,4 @@
+//! The header that every datagram begins with.
 ghost use Rattle.std.specs.Prelude.{◌≡◌, ◌<◌, ◌≤◌, ◌++◌, Some, length, IfOk, IfErr, IfSome, IfNone, OnOk};
 ghost use Rattle.std.specs.Int.{w64, to_le_bytes};
 ghost use Rattle.batch_packets.specs.Datagram.{header_text, header_fault, largest_limit};

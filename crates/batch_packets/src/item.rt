@@ -1,3 +1,4 @@
+//! Requests and replies as items behind a header, which are read and written alike.
 ghost use Rattle.std.specs.Prelude.{◌≡◌, ◌≤◌, ◌+◌, ◌++◌, ℕ, List, length, drop, All, IfOk, OnOk};
 ghost use Rattle.std.specs.List.{flat_map};
 ghost use Rattle.batch_packets.specs.Faults.{AgreesWith};

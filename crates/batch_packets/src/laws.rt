@@ -1,3 +1,4 @@
+//! Bytes have one reading.
 ghost use Rattle.std.specs.Prelude.{◌≡◌, ℕ, List};
 ghost use Rattle.batch_packets.specs.declared.batch.Batch.{Batch};
 ghost use Rattle.batch_packets.specs.declared.replies.Replies.{Replies};

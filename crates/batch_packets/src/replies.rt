@@ -1,3 +1,4 @@
+//! Replies, read from bytes and split into datagrams.
 ghost use Rattle.std.specs.Prelude.{◌≡◌, ◌<◌, ◌≤◌, ◌+◌, length, take, drop, All, IfOk, IsOkUnless};
 ghost use Rattle.batch_packets.specs.Faults.{AgreesWith};
 ghost use Rattle.batch_packets.specs.Datagram.{first_fault};

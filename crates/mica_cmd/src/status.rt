@@ -1,3 +1,5 @@
+//! What a run ends with.
+
 /// How a run ended, in the order of the numbers that the program ends with.
 #[derive(Clone, Copy, Debug, PartialEq, Eq)]
 pub enum Status {

@@ -1,3 +1,4 @@
+//! A record of the cache machine.
 ghost use Rattle.std.specs.Prelude.{◌≡◌, ◌≤◌};
 ghost use Rattle.mica_model.specs.Cache.{has_key, is_live as is_live_at};
 ghost use Rattle.mica_model.specs.CacheStep.{is_in_bucket as is_in};

@@ -1,3 +1,4 @@
+//! What the store machine keeps of a key.
 ghost use Rattle.mica_words.specs.Item.{ValueFits};
 
 use mica_io::Bytes;

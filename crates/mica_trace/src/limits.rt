@@ -1,3 +1,4 @@
+//! The limits of a trace.
 use mica_words::{MAX_KEY_LEN, MAX_VALUE_LEN};
 
 /// The most lines of a trace.

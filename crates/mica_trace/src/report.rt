@@ -1,3 +1,4 @@
+//! Reports and their lines.
 ghost use Rattle.std.specs.Prelude.{◌≡◌, ◌≤◌, ◌<◌, ◌∷◌, ◌++◌, [], length, vec_len, slice_get, string_bytes, IfOk, OnOk, OnErr};
 ghost use Rattle.std.specs.Option.{option_copied};
 ghost use Rattle.mica_trace.specs.ReportGrammar.{report_line_text, IsReportLine, op_word, outcome_words};

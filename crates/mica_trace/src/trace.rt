@@ -1,3 +1,4 @@
+//! A trace: lines within the limits.
 ghost use Rattle.std.specs.Prelude.{◌≡◌, ◌≤◌, List, length, vec_len, slice_get};
 ghost use Rattle.std.specs.Option.{option_copied};
 
