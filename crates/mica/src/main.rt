@@ -1,14 +1,23 @@
-//! The program: the top call over standard input and standard output.
+//! The program: the top call over standard input, standard output and the UDP sockets of this machine.
 #![tactic(auto)]
 
 use mica_cmd::run_program;
-use mica_io::{FreeGate, StdSink, StdSource};
+use mica_io::{FreeGate, StdSink, StdSource, UdpNet};
 use partition_table::Tables;
 use std::process::ExitCode;
 
 fn main(rt: HostRuntime) -> ExitCode {
     let mut source = StdSource::new(rt.stdin());
     let mut sink = StdSink::new(rt.stdout());
+    let mut net = UdpNet::new(&rt);
     let mut tables = Tables::new();
-    run_program(&rt, &rt, &mut source, &mut sink, &FreeGate, &mut tables)
+    run_program(
+        &rt,
+        &rt,
+        &mut source,
+        &mut sink,
+        &mut net,
+        &FreeGate,
+        &mut tables,
+    )
 }

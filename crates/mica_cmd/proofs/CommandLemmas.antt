@@ -39,8 +39,8 @@ other_name name this differs = elim (bytes_eq name this) as (λ b. bytes_eq name
 ] refl
 
 -- a name that no command has
-pub no_command : (name : Text) (words : List Text) → name ≢ codes "replay" → name ≢ codes "gen" → name ≢ codes "bench" → command_named name words ≡ None
-no_command name words replay gen bench = rw (other_name name (codes "replay") replay, other_name name (codes "gen") gen, other_name name (codes "bench") bench) refl
+pub no_command : (name : Text) (words : List Text) → name ≢ codes "replay" → name ≢ codes "serve" → name ≢ codes "gen" → name ≢ codes "bench" → command_named name words ≡ None
+no_command name words replay serve gen bench = rw (other_name name (codes "replay") replay, other_name name (codes "serve") serve, other_name name (codes "gen") gen, other_name name (codes "bench") bench) refl
 
 pub gen_valid : (given : Text → Option Text) (generator : GenOptions) → gen_options given ≡ Some generator → is_valid generator ≡ true
 gen_valid given generator is =

@@ -1,5 +1,5 @@
 -- The values of options, and why they are valid.
-use Rattle.std.proofs.Common.{◌≡◌, ℕ, zero, suc, ◌/◌, ◌%◌, ◌^◌, ◌≤◌, Option, Some, None, Bool, true, false, true≢false, count_ones, nat_le, ◌&&◌, codes, ap, sym, refl, subst, unwrap_or, if◌then◌else◌, arith, inl, inr}
+use Rattle.std.proofs.Common.{◌≡◌, ℕ, zero, suc, ◌/◌, ◌%◌, ◌^◌, ◌≤◌, Option, Some, None, Bool, true, false, true≢false, count_ones, nat_le, ◌&&◌, codes, ap, sym, refl, subst, unwrap_or, option_map, if◌then◌else◌, arith, inl, inr}
 use lib.Count.{ones, ones_step}
 use Rattle.std.proofs.lemmas.Nat.{zero_from_ones, ones_le_self}
 use Rattle.std.proofs.lemmas.Bool.{leb-true}
@@ -11,8 +11,10 @@ use Rattle.std.specs.Int.{is_power_of_two}
 use Rattle.std.specs.Str.Parse.{digits_value}
 use Rattle.mica_model.specs.declared.options.Options.{Options}
 use Rattle.mica_model.specs.Options.{InRange, IsValid}
+use Rattle.mica_serve.specs.declared.ports.Ports.{Ports}
+use Rattle.mica_serve.specs.PortOptions.{IsValidPorts}
 use Rattle.mica_cmd.specs.Words.{Text}
-use Rattle.mica_cmd.specs.CommandLine.{mode, partitions, buckets, spares, words, readers, tries, wear, number, number_of, is_number, value_by, value_of, replay_options, ◌>>=◌}
+use Rattle.mica_cmd.specs.CommandLine.{mode, partitions, buckets, spares, words, readers, tries, wear, port, fronts, batches, number, required_number, number_of, is_number, value_by, value_of, replay_options, serve_options, port_options, ◌>>=◌}
 
 same_number : (a b : ℕ) → Some a ≡ Some b → a ≡ b
 same_number a b e = ap (λ o. unwrap_or o 0) e
@@ -94,4 +96,39 @@ replay_valid given options is =
       readers = value_bounds readers.name 1 16 4 (given readers.name) r.0 (omega arith, omega arith) r.1;
       tries = value_bounds tries.name 1 1000 100 (given tries.name) t.0 (omega arith, omega arith) t.1;
       wear = value_bounds wear.name 1 68719476736 68719476736 (given wear.name) e.0 (omega arith, omega arith) e.1;
+    })
+
+-- a value that must be given lies in its range
+pub required_bounds : (name : Text) (least most : ℕ) (given : Option Text) (n : ℕ) → value_by (required_number name least most) given ≡ Some n → InRange least most n
+required_bounds name least most None n is = absurd (none-some n is)
+required_bounds name least most (Some t) n is = number_bounds least most t n is
+
+-- the number of readers may be any in its range
+with_one_reader : (read : Option Options) (options : Options) → ((o : Options) → read ≡ Some o → IsValid o) → option_map (λ (o : Options). record o { readers = 1 }) read ≡ Some options → IsValid options
+with_one_reader None options valid is = absurd (none-some options is)
+with_one_reader (Some o) options valid is =
+    let v = valid o refl in
+    subst IsValid (same_options (record o { readers = 1 }) options is) (record {
+      partitions = v.partitions;
+      buckets = v.buckets;
+      spares = v.spares;
+      words = v.words;
+      readers = (omega arith, omega arith);
+      tries = v.tries;
+      wear = v.wear;
+    })
+
+pub serve_valid : (given : Text → Option Text) (options : Options) → serve_options given ≡ Some options → IsValid options
+serve_valid given options is = with_one_reader (replay_options given) options (replay_valid given) is
+
+pub ports_valid : (given : Text → Option Text) (ports : Ports) → port_options given ≡ Some ports → IsValidPorts ports
+ports_valid given ports is =
+    let p = both_told (value_of port given) _ ports is in
+    let f = both_told (value_of fronts given) _ ports p.2 in
+    let b = both_told (value_of batches given) _ ports f.2 in
+    let made : Ports = record { port = p.0; fronts = f.0; batches = b.0 } in
+    subst IsValidPorts (ap (λ o. unwrap_or o made) b.2) (record {
+      port = required_bounds port.name 1024 65000 (given port.name) p.0 p.1;
+      fronts = value_bounds fronts.name 1 16 1 (given fronts.name) f.0 (omega arith, omega arith) f.1;
+      batches = required_bounds batches.name 1 1000000 (given batches.name) b.0 b.1;
     })

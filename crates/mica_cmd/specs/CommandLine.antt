@@ -7,8 +7,10 @@ use Rattle.mica_model.specs.declared.options.Options.{Options}
 use Rattle.mica_model.specs.declared.options.Mode.{Mode}
 use Rattle.mica_model.specs.declared.options.Mode.TheVariants.{Cache, Store}
 use Rattle.mica_model.specs.Options.{IsValid}
+use Rattle.mica_serve.specs.declared.ports.Ports.{Ports}
+use Rattle.mica_serve.specs.PortOptions.{IsValidPorts}
 use Rattle.mica_cmd.specs.declared.command.Command.{Command}
-use Rattle.mica_cmd.specs.declared.command.Command.TheVariants.{Replay, Gen, Bench}
+use Rattle.mica_cmd.specs.declared.command.Command.TheVariants.{Replay, Serve, Gen, Bench}
 use Rattle.mica_cmd.specs.declared.command.WordsFault.{WordsFault}
 use Rattle.mica_cmd.specs.declared.command.WordsFault.TheVariants.{Usage, NoMemory}
 use Rattle.mica_cmd.specs.declared.gen_options.GenOptions.{GenOptions}
@@ -55,6 +57,11 @@ abbrev pub number : Text → ℕ → ℕ → ℕ → Setting ℕ
 number name least most default =
     record { name = name; meaning = number_of least most; default = Some default }
 
+-- the same, where it is required
+abbrev pub required_number : Text → ℕ → ℕ → Setting ℕ
+required_number name least most =
+    record { name = name; meaning = number_of least most; default = None }
+
 -- each option by its name; a number by its name, its least and greatest value, and its default
 abbrev pub mode : Setting Mode
 mode = record { name = codes "mode"; meaning = mode_of; default = None }
@@ -79,6 +86,16 @@ tries = number (codes "tries") 1 1000 100
 
 abbrev pub wear : Setting ℕ
 wear = number (codes "wear") 1 68719476736 68719476736
+
+-- the options of a server: its first port, how many fronts it has, and how many datagrams each of them takes
+abbrev pub port : Setting ℕ
+port = required_number (codes "port") 1024 65000
+
+abbrev pub fronts : Setting ℕ
+fronts = number (codes "fronts") 1 16 1
+
+abbrev pub batches : Setting ℕ
+batches = required_number (codes "batches") 1 1000000
 
 -- the options of a generated trace
 abbrev pub seed : Setting ℕ
@@ -148,6 +165,22 @@ replay_options given =
       wear = wear;
     })
 
+-- the names of the options of `serve`
+abbrev pub serve_names : List Text
+serve_names = mode.name ∷ partitions.name ∷ buckets.name ∷ spares.name ∷ words.name ∷ tries.name ∷ wear.name ∷ port.name ∷ fronts.name ∷ batches.name ∷ []
+
+-- the partitions of `serve`, which has no option `--readers`: the number stands at 1
+abbrev pub serve_options : (Text → Option Text) → Option Options
+serve_options given = option_map (λ (options : Options). record options { readers = 1 }) (replay_options given)
+
+-- the ports of `serve`
+abbrev pub port_options : (Text → Option Text) → Option Ports
+port_options given =
+    value_of port given >>= λ port.
+    value_of fronts given >>= λ fronts.
+    value_of batches given >>= λ batches.
+    Some (record { port = port; fronts = fronts; batches = batches })
+
 -- options that are valid
 abbrev pub if_valid : GenOptions → Option GenOptions
 if_valid options = if is_valid options then Some options else None
@@ -188,6 +221,9 @@ bench_names = replay_names ++ gen_names
 abbrev pub replay_given : (Text → Option Text) → Option Command
 replay_given given = option_map (λ options. Replay options) (replay_options given)
 
+abbrev pub serve_given : (Text → Option Text) → Option Command
+serve_given given = serve_options given >>= λ options. option_map (λ ports. Serve options ports) (port_options given)
+
 abbrev pub gen_given : (Text → Option Text) → Option Command
 gen_given given = option_map (λ generator. Gen generator) (gen_options given)
 
@@ -202,9 +238,10 @@ read_as names meaning words = given_by names words >>= λ given. meaning (text_o
 abbrev pub command_named : Text → List Text → Option Command
 command_named name words =
     if bytes_eq name (codes "replay") then read_as replay_names replay_given words
+    else (if bytes_eq name (codes "serve") then read_as serve_names serve_given words
     else (if bytes_eq name (codes "gen") then read_as gen_names gen_given words
     else (if bytes_eq name (codes "bench") then read_as bench_names bench_given words
-    else None))
+    else None)))
 
 -- the command that words give: the first is its name, and the rest are its options
 abbrev pub command_of : List Text → Option Command
@@ -214,6 +251,7 @@ command_of (name ∷ words) = command_named name words
 -- the options of a command lie in their ranges
 abbrev pub IsValidCommand : Command → Type 0
 IsValidCommand (Replay options) = IsValid options
+IsValidCommand (Serve options ports) = IsValid options × IsValidPorts ports
 IsValidCommand (Gen generator) = is_valid generator ≡ true
 IsValidCommand (Bench options generator) = IsValid options × (is_valid generator ≡ true)
 

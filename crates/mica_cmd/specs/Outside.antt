@@ -2,6 +2,7 @@
 use Rattle.std.specs.Prelude.{◌≡◌, ℕ, Bool, true, List, Option}
 use Rattle.std.specs.Io.KnownBytes.{IsAtEnd}
 use Rattle.partition_table.specs.declared.tables.Entry.{Entry}
+use Rattle.mica_serve.specs.NetRun.{NetFacts}
 
 -- a source: the bytes that it has left, where it tells them, whether a read has answered that it ended, and its count of faults
 pub record SourceFacts : Type 0 where
@@ -18,6 +19,7 @@ pub record SinkFacts : Type 0 where
 pub record Outside : Type 0 where
   pub source : SourceFacts
   pub sink : SinkFacts
+  pub net : NetFacts
   pub tables : List Entry
 
 -- the source was read to its end

@@ -1,6 +1,7 @@
 -- What a run of the program ends with, and what it writes.
 use Rattle.std.specs.Prelude.{◌≡◌, ◌≢◌, ℕ, ◌+◌, ◌<◌, ◌≤◌, ◌⊎◌, List, [], ◌∷◌, ◌++◌, length, take, codes, Option, Some, None, IfSome}
 use Rattle.std.specs.Option.{IsSomeAnd}
+use Rattle.std.specs.Fmt.{decimal}
 use Rattle.std.specs.Io.KnownBytes.{Appends, Keeps, Consumes}
 use Rattle.mica_io.specs.Faults.{Rose}
 use Rattle.mica_model.specs.declared.options.Options.{Options}
@@ -13,11 +14,14 @@ use Rattle.mica_trace.specs.ReportGrammar.{report_text}
 use Rattle.mica_trace.specs.LawfulReport.{LawfulReport}
 use Rattle.partition_table.specs.declared.tables.Entry.{Entry}
 use Rattle.mica_replay.specs.Replayed.{IsReplayed}
+use Rattle.mica_serve.specs.declared.ports.Ports.{Ports}
+use Rattle.mica_serve.specs.declared.ports.Totals.{Totals}
+use Rattle.mica_serve.specs.NetRun.{NetFacts, HasServed, HasStopped, KeepsNet}
 use Rattle.mica_cmd.specs.declared.top.TheConstants.{MAX_SOURCE_LEN}
 use Rattle.mica_cmd.specs.declared.command.Command.{Command}
-use Rattle.mica_cmd.specs.declared.command.Command.TheVariants.{Replay, Gen, Bench}
+use Rattle.mica_cmd.specs.declared.command.Command.TheVariants.{Replay, Serve, Gen, Bench}
 use Rattle.mica_cmd.specs.declared.status.Status.{Status}
-use Rattle.mica_cmd.specs.declared.status.Status.TheVariants.{Done, Usage, NoMemory, TraceRefused, TraceLong, ReadFault, WriteFault}
+use Rattle.mica_cmd.specs.declared.status.Status.TheVariants.{Done, Usage, NoMemory, TraceRefused, TraceLong, ReadFault, WriteFault, NetFault}
 use Rattle.mica_cmd.specs.declared.gen_options.GenOptions.{GenOptions}
 use Rattle.mica_cmd.specs.Generator.{generated}
 use Rattle.mica_cmd.specs.Summary.{summary_text}
@@ -50,9 +54,21 @@ pub record PrintsSummary (options : Options) (generator : GenOptions) (old new :
   pub lawful : LawfulReport options (generated generator) report
   pub printed : Appends old.sink.taken new.sink.taken (summary_text options (generated generator) report)
 
+-- the line of what the fronts of a server received
+abbrev pub totals_text : Totals → List ℕ
+totals_text totals =
+    codes "batches " ++ decimal totals.batches ++ codes " requests " ++ decimal totals.requests ++ codes " bad " ++ decimal totals.bad ++ 10 ∷ []
+
+-- the fronts served, and the sink took the line of their totals, and nothing else
+pub record PrintsTotals (options : Options) (ports : Ports) (old new : Outside) : Type 0 where
+  pub totals : Totals
+  pub served : HasServed options ports totals old.net new.net
+  pub printed : Appends old.sink.taken new.sink.taken (totals_text totals)
+
 -- what it means that a command was carried out
 abbrev pub Headline : Option Command → Outside → Outside → Type 0
 Headline (Some (Replay options)) old new = PrintsLawfully options old new
+Headline (Some (Serve options ports)) old new = PrintsTotals options ports old new
 Headline (Some (Gen generator)) old new = PrintsTrace generator old new
 Headline (Some (Bench options generator)) old new = PrintsSummary options generator old new
 Headline None old new = ⊥
@@ -86,6 +102,12 @@ IsDueOfReplay options old new TraceLong text = IfSome old.left IsTooLong × (tex
 IsDueOfReplay options old new ReadFault text = Rose old.faults new.faults × (text ≡ line_of (codes "read fault"))
 IsDueOfReplay options old new _ text = ⊥
 
+-- the text that is due with a status of a server: the totals of what it served, or the line of a fault of the net that stopped it
+abbrev pub IsDueOfServe : Options → Ports → NetFacts → NetFacts → Status → List ℕ → Type 0
+IsDueOfServe options ports old new Done text = (totals : Totals) × HasServed options ports totals old new × (text ≡ totals_text totals)
+IsDueOfServe options ports old new NetFault text = HasStopped ports old new × (text ≡ line_of (codes "net fault"))
+IsDueOfServe options ports old new _ text = ⊥
+
 -- the text that is due with a status where a trace is generated
 abbrev pub IsDueOfGen : GenOptions → Status → List ℕ → Type 0
 IsDueOfGen generator Done text = text ≡ trace_text (generated generator)
@@ -110,6 +132,7 @@ IsDueOfNoCommand _ text = ⊥
 -- the text that is due with a status
 abbrev pub IsDue : Option Command → Outside → Outside → Status → List ℕ → Type 0
 IsDue (Some (Replay options)) old new status text = IsDueOfReplay options old.source new.source status text
+IsDue (Some (Serve options ports)) old new status text = IsDueOfServe options ports old.net new.net status text
 IsDue (Some (Gen generator)) old new status text = IsDueOfGen generator status text
 IsDue (Some (Bench options generator)) old new status text = IsDueOfBench options generator status text
 IsDue None old new status text = IsDueOfNoCommand status text
@@ -136,6 +159,7 @@ TellsTrace source = IsSomeAnd source.left (λ bytes. ¬ (IsTooLong bytes) × ((t
 abbrev pub IsUnhindered : Option Command → Outside → Outside → Type 0
 IsUnhindered (Some (Replay options)) old new =
     TellsTrace old.source × ¬ (Rose old.source.faults new.source.faults) × ¬ (Rose old.sink.faults new.sink.faults)
+IsUnhindered (Some (Serve options ports)) old new = ¬ (Rose old.net.faults new.net.faults) × ¬ (Rose old.sink.faults new.sink.faults)
 IsUnhindered (Some (Gen generator)) old new = ¬ (Rose old.sink.faults new.sink.faults)
 IsUnhindered (Some (Bench options generator)) old new = ¬ (Rose old.sink.faults new.sink.faults)
 IsUnhindered None old new = ⊥
@@ -148,6 +172,11 @@ GivesAtMost most old new = (bytes : List ℕ) × (length bytes ≤ most) × Cons
 abbrev pub ReadsFor : Option Command → SourceFacts → SourceFacts → Type 0
 ReadsFor (Some (Replay options)) old new = GivesAtMost (MAX_SOURCE_LEN + 1) old new
 ReadsFor _ old new = new ≡ old
+
+-- A server binds at most one port for each front, from the first port on, and each end is back, whatever the status. Nothing else touches the net.
+abbrev pub TouchesNet : Option Command → NetFacts → NetFacts → Type 0
+TouchesNet (Some (Serve options ports)) old new = KeepsNet ports old new
+TouchesNet _ old new = new ≡ old
 
 -- the report that the sink took is that of a run whose owners' seats the tables keep
 pub record KeepsSeats (options : Options) (old new : Outside) : Type 0 where
@@ -176,6 +205,7 @@ pub record KeepsPromises (command : Option Command) (old new : Outside) (status 
   -- an unhindered command is carried out, but for want of memory
   pub complete : IsUnhindered command old new → (status ≡ Done) ⊎ (status ≡ NoMemory)
   pub reads : ReadsFor command old.source new.source
+  pub net : TouchesNet command old.net new.net
   -- where it was carried out, the tables have the seats of the run that was printed
   pub tables : status ≡ Done → KeepsTables command old new
 
@@ -190,6 +220,10 @@ abbrev pub IsWritten : Status → List ℕ → SinkFacts → SinkFacts → Statu
 IsWritten status text old new result =
     ((result ≡ status) × Appends old.taken new.taken text)
     ⊎ ((result ≡ WriteFault) × Rose old.faults new.faults × AppendsPart old new text)
+
+-- the text was written as that of a command that was carried out, or there was no memory for it
+abbrev pub IsPrinted : List ℕ → SinkFacts → SinkFacts → Status → Type 0
+IsPrinted text old new result = ((result ≡ NoMemory) × Keeps old.taken new.taken) ⊎ IsWritten Done text old new result
 
 -- what became of a trace that was refused for the fault
 abbrev pub IsRefusedWith : TraceFault → SinkFacts → SinkFacts → Status → Type 0

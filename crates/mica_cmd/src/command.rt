@@ -1,11 +1,12 @@
 // The commands, and the words that give them.
 ghost use Rattle.std.specs.Prelude.{◌≡◌, map, string_bytes};
-ghost use Rattle.mica_cmd.specs.CommandLine.{bench_given, bench_names, command_of, gen_given, gen_names, read_as, replay_given, replay_names, IsReadingOf};
+ghost use Rattle.mica_cmd.specs.CommandLine.{bench_given, bench_names, command_of, gen_given, gen_names, read_as, replay_given, replay_names, serve_given, serve_names, IsReadingOf};
 
 use crate::GenOptions;
 use crate::clap_command::matches_of;
-use crate::option_values::{gen_options, replay_options};
+use crate::option_values::{gen_options, port_options, replay_options, serve_options};
 use mica_model::Options;
+use mica_serve::Ports;
 use std::alloc::Global;
 
 /// What the program is asked to do.
@@ -13,6 +14,8 @@ use std::alloc::Global;
 pub enum Command {
     /// To replay the trace that the source gives.
     Replay(Options),
+    /// To answer the requests that come to these ports.
+    Serve(Options, Ports),
     /// To print a generated trace.
     Gen(GenOptions),
     /// To run a generated trace and print a summary.
@@ -35,6 +38,19 @@ static REPLAY_OPTIONS: [&str; 8] = [
     "readers",
     "tries",
     "wear",
+];
+
+static SERVE_OPTIONS: [&str; 10] = [
+    "mode",
+    "partitions",
+    "buckets",
+    "spares",
+    "words",
+    "tries",
+    "wear",
+    "port",
+    "fronts",
+    "batches",
 ];
 
 static GEN_OPTIONS: [&str; 9] = [
@@ -79,6 +95,19 @@ fn read_replay(alloc: Global, words: &[String]) -> Result<Command, WordsFault>
     }
 }
 
+fn read_serve(alloc: Global, words: &[String]) -> Result<Command, WordsFault>
+    ensures { IsReadingOf (read_as serve_names serve_given (map string_bytes words.now)) result }
+{
+    let found = matches_of(alloc, "serve", SERVE_OPTIONS.as_slice(), words)?;
+    let Some(options) = serve_options(&found) else {
+        return Err(WordsFault::Usage);
+    };
+    match port_options(&found) {
+        Some(ports) => Ok(Command::Serve(options, ports)),
+        None => Err(WordsFault::Usage),
+    }
+}
+
 fn read_gen(alloc: Global, words: &[String]) -> Result<Command, WordsFault>
     ensures { IsReadingOf (read_as gen_names gen_given (map string_bytes words.now)) result }
 {
@@ -111,6 +140,7 @@ pub fn read_words(alloc: Global, words: &[String]) -> Result<Command, WordsFault
     };
     match name.as_str() {
         "replay" => read_replay(alloc, rest),
+        "serve" => read_serve(alloc, rest),
         "gen" => read_gen(alloc, rest),
         "bench" => read_bench(alloc, rest),
         _ => Err(WordsFault::Usage),

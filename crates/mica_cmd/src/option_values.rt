@@ -2,11 +2,12 @@
 ghost use Rattle.std.specs.Prelude.{◌≡◌, Some, None, option_map, option_and_then};
 ghost use Rattle.std.specs.Int.{is_power_of_two};
 ghost use Rattle.clap.specs.Matches.{first_value, found_of};
-ghost use Rattle.mica_cmd.specs.CommandLine.{begins_number, mode, buckets, number, number_of, value_of, replay_options, gen_options};
+ghost use Rattle.mica_cmd.specs.CommandLine.{begins_number, mode, buckets, number, required_number, number_of, value_of, replay_options, serve_options, port_options, gen_options};
 
 use crate::GenOptions;
 use clap::ArgMatches;
 use mica_model::{Mode, Options};
+use mica_serve::Ports;
 
 fn begins_number(text: &str) -> bool
     ensures { result ≡ begins_number text.now }
@@ -52,6 +53,15 @@ fn count(found: &ArgMatches<'_>, name: &str, least: u32, most: u32, default: u32
     Some(value as u32)
 }
 
+// The same where the option is required.
+fn required(found: &ArgMatches<'_>, name: &str, least: u32, most: u32) -> Option<u32>
+    ensures { result ≡ value_of (required_number name.now least most) (first_value (found_of found.now)) }
+{
+    let text = found.get_str(name)?;
+    let value = number_of(text, u64::from(least), u64::from(most))?;
+    Some(value as u32)
+}
+
 fn mode(found: &ArgMatches<'_>) -> Option<Mode>
     ensures { result ≡ value_of mode (first_value (found_of found.now)) }
 {
@@ -86,6 +96,28 @@ pub fn replay_options(found: &ArgMatches<'_>) -> Option<Options>
         readers: count(found, "readers", 1, 16, 4)?,
         tries: count(found, "tries", 1, 1_000, 100)?,
         wear: number(found, "wear", 1, 68_719_476_736, 68_719_476_736)?,
+    })
+}
+
+/// The partitions of `serve`, which has no readers to count.
+pub fn serve_options(found: &ArgMatches<'_>) -> Option<Options>
+    ensures { result ≡ serve_options (first_value (found_of found.now)) }
+{
+    let options = replay_options(found)?;
+    Some(Options {
+        readers: 1,
+        ..options
+    })
+}
+
+/// The ports of `serve`, or `None` where one is missing or its text is no value of it.
+pub fn port_options(found: &ArgMatches<'_>) -> Option<Ports>
+    ensures { result ≡ port_options (first_value (found_of found.now)) }
+{
+    Some(Ports {
+        port: required(found, "port", 1_024, 65_000)? as u16,
+        fronts: count(found, "fronts", 1, 16, 1)?,
+        batches: required(found, "batches", 1, 1_000_000)?,
     })
 }
 

@@ -5,7 +5,7 @@ ghost use Rattle.mica_cmd.specs.Outside.{Outside, SourceFacts, SinkFacts};
 ghost use Rattle.mica_cmd.specs.Exit.{exit_number, Exits};
 
 use crate::{Status, mica};
-use mica_io::{Gate, NoMemory, Sink, Source};
+use mica_io::{Gate, Net, NoMemory, Sink, Source};
 use partition_table::Tables;
 use std::env;
 use std::io::ErrorKind;
@@ -39,25 +39,43 @@ fn exit_code(status: Status) -> ExitCode
 
 /// Carries out the command that the program's words give, and ends with the number of its status. `threads` is the
 /// same runtime, which may start threads in `main` alone.
-pub fn run_program<W: Threads + Wait + Sync, S: Source, K: Sink, G: Gate>(
+pub fn run_program<W: Threads + Wait + Sync, S: Source, K: Sink, N: Net, G: Gate>(
     rt: &HostRuntime,
     threads: &W,
     source: &mut S,
     sink: &mut K,
+    net: &mut N,
     gate: &G,
     tables: &mut Tables,
 ) -> ExitCode
     requires source { S.has_ended source.old ≡ false }
+    requires net { N.binds net.old ≡ 0 }
     requires tables { tables.old ≡ [] }
     ensures { Exits
         (record {
           source = record { left = S.left source.old; has_ended = S.has_ended source.old; faults = S.faults source.old };
           sink = record { taken = K.taken sink.old; faults = K.faults sink.old };
+          net = record {
+            faults = N.faults net.old;
+            binds = N.binds net.old;
+            first = N.first net.old;
+            refused = N.refused net.old;
+            ports = N.ports net.old;
+            fails = N.fails net.old;
+          };
           tables = tables.old;
         })
         (record {
           source = record { left = S.left source.new; has_ended = S.has_ended source.new; faults = S.faults source.new };
           sink = record { taken = K.taken sink.new; faults = K.faults sink.new };
+          net = record {
+            faults = N.faults net.new;
+            binds = N.binds net.new;
+            first = N.first net.new;
+            refused = N.refused net.new;
+            ports = N.ports net.new;
+            fails = N.fails net.new;
+          };
           tables = tables.new;
         }) (exit_status result) }
 {
@@ -68,6 +86,7 @@ pub fn run_program<W: Threads + Wait + Sync, S: Source, K: Sink, G: Gate>(
             words.as_slice(),
             source,
             sink,
+            net,
             gate,
             tables,
         )),

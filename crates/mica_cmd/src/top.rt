@@ -1,18 +1,21 @@
 ghost use Rattle.std.specs.Prelude.{◌≡◌, ◌≢◌, [], List, IfOk, true, Some, map, string_bytes, false};
 ghost use Rattle.mica_model.specs.Options.{IsValid};
-ghost use Rattle.mica_cmd.specs.declared.command.Command.TheVariants.{Replay, Gen, Bench};
+ghost use Rattle.mica_cmd.specs.declared.command.Command.TheVariants.{Replay, Serve, Gen, Bench};
 ghost use Rattle.mica_trace.specs.TraceGrammar.{trace_text};
+ghost use Rattle.mica_serve.specs.PortOptions.{IsValidPorts};
+ghost use Rattle.mica_serve.specs.NetRun.{NetFacts};
 ghost use Rattle.partition_table.specs.declared.tables.Entry.{Entry};
 ghost use Rattle.mica_cmd.specs.GenOptions.{is_valid};
 ghost use Rattle.mica_cmd.specs.Generator.{generated};
 ghost use Rattle.mica_cmd.specs.CommandLine.{command_of};
 ghost use Rattle.mica_cmd.specs.Outside.{Outside, SourceFacts, SinkFacts};
-ghost use Rattle.mica_cmd.specs.Top.{KeepsPromises, SummarizesRun, IsWritten, IsRefusedWith};
+ghost use Rattle.mica_cmd.specs.Top.{KeepsPromises, SummarizesRun, IsWritten, IsPrinted, IsRefusedWith, totals_text};
 
 use crate::{Command, GenOptions, Status, WordsFault, gen_trace, put_summary, read_words};
-use mica_io::{Gate, NoMemory, ReadFault, Sink, Source, read_up_to, write_all};
+use mica_io::{Gate, Net, NoMemory, ReadFault, Sink, Source, read_up_to, write_all};
 use mica_model::Options;
 use mica_replay::{ReplayFault, replay, run_trace};
+use mica_serve::{Ports, ServeFault, Totals, serve};
 use mica_trace::{TraceFault, put_trace, read_trace};
 use partition_table::Tables;
 use std::alloc::Global;
@@ -62,15 +65,17 @@ fn replay_source<W: Threads + Wait + Sync, S: Source, K: Sink, G: Gate>(
     requires open { S.has_ended source.old ≡ false }
     requires valid { IsValid options.now }
     requires tables { tables.old ≡ [] }
-    ensures { KeepsPromises (Some (Replay options.now))
+    ensures { (outer : NetFacts) → KeepsPromises (Some (Replay options.now))
         (record {
           source = record { left = S.left source.old; has_ended = S.has_ended source.old; faults = S.faults source.old };
           sink = record { taken = K.taken sink.old; faults = K.faults sink.old };
+          net = outer;
           tables = tables.old;
         })
         (record {
           source = record { left = S.left source.new; has_ended = S.has_ended source.new; faults = S.faults source.new };
           sink = record { taken = K.taken sink.new; faults = K.faults sink.new };
+          net = outer;
           tables = tables.new;
         }) result }
 {
@@ -93,15 +98,17 @@ fn replay_source<W: Threads + Wait + Sync, S: Source, K: Sink, G: Gate>(
 // Prints the trace that the options generate.
 fn print_trace<K: Sink>(alloc: Global, generator: &GenOptions, sink: &mut K) -> Status
     requires { is_valid generator.now ≡ true }
-    ensures { (source : SourceFacts) → (kept : List Entry) → KeepsPromises (Some (Gen generator.now))
+    ensures { (source : SourceFacts) → (outer : NetFacts) → (kept : List Entry) → KeepsPromises (Some (Gen generator.now))
         (record {
           source = source;
           sink = record { taken = K.taken sink.old; faults = K.faults sink.old };
+          net = outer;
           tables = kept;
         })
         (record {
           source = source;
           sink = record { taken = K.taken sink.new; faults = K.faults sink.new };
+          net = outer;
           tables = kept;
         }) result }
 {
@@ -134,15 +141,17 @@ fn print_summary<W: Threads + Wait + Sync, K: Sink, G: Gate>(
     requires options { IsValid options.now }
     requires generator { is_valid generator.now ≡ true }
     requires tables { tables.old ≡ [] }
-    ensures { (source : SourceFacts) → KeepsPromises (Some (Bench options.now generator.now))
+    ensures { (source : SourceFacts) → (outer : NetFacts) → KeepsPromises (Some (Bench options.now generator.now))
         (record {
           source = source;
           sink = record { taken = K.taken sink.old; faults = K.faults sink.old };
+          net = outer;
           tables = tables.old;
         })
         (record {
           source = source;
           sink = record { taken = K.taken sink.new; faults = K.faults sink.new };
+          net = outer;
           tables = tables.new;
         }) result }
 {
@@ -172,36 +181,121 @@ fn summary_of_run<W: Threads + Wait + Sync, G: Gate>(
     Ok(text)
 }
 
+// Serves the ports, and prints the totals.
+fn serve_command<W: Threads + Wait + Sync, K: Sink, N: Net, G: Gate>(
+    rt: &W,
+    alloc: Global,
+    options: &Options,
+    ports: &Ports,
+    sink: &mut K,
+    net: &mut N,
+    gate: &G,
+) -> Status
+    requires options { IsValid options.now }
+    requires ports { IsValidPorts ports.now }
+    requires unbound { N.binds net.old ≡ 0 }
+    ensures { (source : SourceFacts) → (kept : List Entry) → KeepsPromises (Some (Serve options.now ports.now))
+        (record {
+          source = source;
+          sink = record { taken = K.taken sink.old; faults = K.faults sink.old };
+          net = record {
+            faults = N.faults net.old;
+            binds = N.binds net.old;
+            first = N.first net.old;
+            refused = N.refused net.old;
+            ports = N.ports net.old;
+            fails = N.fails net.old;
+          };
+          tables = kept;
+        })
+        (record {
+          source = source;
+          sink = record { taken = K.taken sink.new; faults = K.faults sink.new };
+          net = record {
+            faults = N.faults net.new;
+            binds = N.binds net.new;
+            first = N.first net.new;
+            refused = N.refused net.new;
+            ports = N.ports net.new;
+            fails = N.fails net.new;
+          };
+          tables = kept;
+        }) result }
+{
+    match serve(rt, alloc, options, ports, net, gate) {
+        Ok(totals) => print_totals(alloc, totals, sink),
+        Err(ServeFault::Net) => write_due(sink, b"net fault\n", Status::NetFault),
+        Err(ServeFault::NoMemory) => Status::NoMemory,
+    }
+}
+
+fn print_totals<K: Sink>(alloc: Global, totals: Totals, sink: &mut K) -> Status
+    ensures { IsPrinted (totals_text totals)
+        (record { taken = K.taken sink.old; faults = K.faults sink.old })
+        (record { taken = K.taken sink.new; faults = K.faults sink.new }) result }
+{
+    let Totals {
+        batches,
+        requests,
+        bad,
+    } = totals;
+    match format!(in alloc; "batches {batches} requests {requests} bad {bad}\n") {
+        Ok(line) => write_due(sink, line.as_bytes(), Status::Done),
+        Err(_) => Status::NoMemory,
+    }
+}
+
 /// Carries a command out. It reads the words first, then the source, then the trace.
 ///
 /// The contract is the program's: what each status means, the headline with `Done`, which commands are carried out whatever
-/// happens, how much is read, and what the tables keep.
-pub fn mica<W: Threads + Wait + Sync, S: Source, K: Sink, G: Gate>(
+/// happens, how much is read, what becomes of the net, and what the tables keep.
+pub fn mica<W: Threads + Wait + Sync, S: Source, K: Sink, N: Net, G: Gate>(
     rt: &W,
     alloc: Global,
     words: &[String],
     source: &mut S,
     sink: &mut K,
+    net: &mut N,
     gate: &G,
     tables: &mut Tables,
 ) -> Status
     requires source { S.has_ended source.old ≡ false }
+    requires net { N.binds net.old ≡ 0 }
     requires tables { tables.old ≡ [] }
     ensures { KeepsPromises (command_of (map string_bytes words.now))
         (record {
           source = record { left = S.left source.old; has_ended = S.has_ended source.old; faults = S.faults source.old };
           sink = record { taken = K.taken sink.old; faults = K.faults sink.old };
+          net = record {
+            faults = N.faults net.old;
+            binds = N.binds net.old;
+            first = N.first net.old;
+            refused = N.refused net.old;
+            ports = N.ports net.old;
+            fails = N.fails net.old;
+          };
           tables = tables.old;
         })
         (record {
           source = record { left = S.left source.new; has_ended = S.has_ended source.new; faults = S.faults source.new };
           sink = record { taken = K.taken sink.new; faults = K.faults sink.new };
+          net = record {
+            faults = N.faults net.new;
+            binds = N.binds net.new;
+            first = N.first net.new;
+            refused = N.refused net.new;
+            ports = N.ports net.new;
+            fails = N.fails net.new;
+          };
           tables = tables.new;
         }) result }
 {
     match read_words(alloc, words) {
         Ok(Command::Replay(options)) => {
             replay_source(rt, alloc, &options, source, sink, gate, tables)
+        }
+        Ok(Command::Serve(options, ports)) => {
+            serve_command(rt, alloc, &options, &ports, sink, net, gate)
         }
         Ok(Command::Gen(generator)) => print_trace(alloc, &generator, sink),
         Ok(Command::Bench(options, generator)) => {

@@ -1,8 +1,6 @@
 //! The one-thread machine of cache mode.
 
-use mica_model::{
-    Answer, CacheMachine, Fate, ItemBuf, Mode, Op, Options, Outcome, write_fits,
-};
+use mica_model::{Answer, CacheMachine, Fate, ItemBuf, Mode, Op, Options, Outcome, write_fits};
 use std::process::Abort;
 use std::test::Fail;
 

@@ -29,6 +29,8 @@ mod runs;
 #[cfg(test)]
 mod same_as_machine;
 #[cfg(test)]
+mod served;
+#[cfg(test)]
 mod statuses;
 #[cfg(test)]
 mod store_machine;

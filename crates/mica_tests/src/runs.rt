@@ -1,7 +1,7 @@
 //! One run of the top call over bytes in memory.
 
 use mica_cmd::{Status, mica};
-use mica_io::{FreeGate, Gate, MemSink, MemSource, NoMemory};
+use mica_io::{FreeGate, Gate, MemNet, MemSink, MemSource, NoMemory};
 use partition_table::Tables;
 use std::alloc::Global;
 use std::process::Abort;
@@ -28,7 +28,7 @@ pub struct Outside<'a> {
 }
 
 /// The words of a command line that are parted by one space.
-fn words_of(alloc: Global, line: &str) -> Result<Vec<String>, NoMemory> {
+pub fn words_of(alloc: Global, line: &str) -> Result<Vec<String>, NoMemory> {
     let mut words = Vec::new(alloc);
     if line.is_empty() {
         return Ok(words);
@@ -52,6 +52,7 @@ pub fn run_words<G: Gate>(
     assert!(rt; outside.source_piece > 0 && outside.sink_piece > 0);
     let mut source = MemSource::new(alloc, input, outside.source_piece, outside.source_fails)?;
     let mut sink = MemSink::new(alloc, outside.room, outside.sink_piece, outside.sink_fails)?;
+    let mut net = MemNet::new(alloc, &[])?;
     let mut tables = Tables::new();
     let status = mica(
         rt,
@@ -59,6 +60,7 @@ pub fn run_words<G: Gate>(
         words.as_slice(),
         &mut source,
         &mut sink,
+        &mut net,
         gate,
         &mut tables,
     );
