@@ -4,8 +4,11 @@ ghost use Rattle.std.specs.Prelude.{◌≡◌, ◌<◌};
 ghost use Rattle.epoch_core.specs.OwnerState.{as_made};
 ghost use Rattle.core_tests.specs.CachePut.{one_bucket, IsMarked};
 
-use epoch_core::{OwnerEvent, OwnerWords, PlainWords, Shape, WordAt, holds_key, write_item};
-use mica_model::{Mode, Op};
+use cache_partition::CachePartition;
+use epoch_core::{
+    OwnerEvent, OwnerWords, Partition, PlainWords, Shape, WordAt, holds_key, write_item,
+};
+use mica_model::{Mode, Op, Outcome};
 use std::process::Abort;
 use std::test::Fail;
 
@@ -25,6 +28,18 @@ const HEADER: u64 = 0x0000_0001_0001_0004;
 const HASH_OF_A: u64 = 0xaf63_dc4c_8601_ec8c;
 
 const ENTRY_OF_A: u64 = 0xdc4c_0000_0000_0000;
+
+/// What the put of `a` with `1` does to the words.
+static EVENTS: [OwnerEvent; 8] = [
+    OwnerEvent::Begin(0),
+    OwnerEvent::Mark(STAMP),
+    OwnerEvent::PutWord(0, HEADER),
+    OwnerEvent::PutWord(1, HASH_OF_A),
+    OwnerEvent::PutWord(2, 0x61),
+    OwnerEvent::PutWord(3, 0x31),
+    OwnerEvent::PutEntry(0, 0, ENTRY_OF_A),
+    OwnerEvent::End(0),
+];
 
 /// Begins the put of `a` with `1` and marks it.
 fn mark_put<W: OwnerWords>(words: &mut W)
@@ -66,17 +81,7 @@ fn the_words_and_events_of_a_put(rt: HostRuntime) -> Result<(), Fail> {
     assert_eq!(rt; words.read(WordAt::Item(1)), HASH_OF_A);
     assert_eq!(rt; words.read(WordAt::Item(2)), 0x61);
     assert_eq!(rt; words.read(WordAt::Item(3)), 0x31);
-    let expected = [
-        OwnerEvent::Begin(0),
-        OwnerEvent::Mark(STAMP),
-        OwnerEvent::PutWord(0, HEADER),
-        OwnerEvent::PutWord(1, HASH_OF_A),
-        OwnerEvent::PutWord(2, 0x61),
-        OwnerEvent::PutWord(3, 0x31),
-        OwnerEvent::PutEntry(0, 0, ENTRY_OF_A),
-        OwnerEvent::End(0),
-    ];
-    assert_eq!(rt; words.events(), expected.as_slice());
+    assert!(rt; words.events() == EVENTS.as_slice());
     assert!(rt; holds_key(&mut words, 0, b"a"));
     assert!(rt; !holds_key(&mut words, 0, b"b"));
     assert!(rt; !holds_key(&mut words, 0, b"aa"));
@@ -94,5 +99,16 @@ fn a_key_under_another_hash(rt: HostRuntime) -> Result<(), Fail> {
     put_item_word(&mut words, 3, 0x31);
     assert!(rt; !holds_key(&mut words, 0, b"a"));
     assert!(rt; !holds_key(&mut words, 0, b"b"));
+    Ok(())
+}
+
+#[test]
+fn a_partition_stores_the_same_words(rt: HostRuntime) -> Result<(), Fail> {
+    let words = PlainWords::new(rt.alloc(), &ONE_BUCKET, 8)?;
+    let mut partition = CachePartition::new(words);
+    let outcome = partition.put(b"a", b"1");
+    let words = partition.into_words();
+    assert!(rt; outcome == Outcome::Stored);
+    assert!(rt; words.events() == EVENTS.as_slice());
     Ok(())
 }

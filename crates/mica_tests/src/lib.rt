@@ -11,6 +11,8 @@ mod cache_replays;
 #[cfg(test)]
 mod faults;
 #[cfg(test)]
+mod generated_runs;
+#[cfg(test)]
 mod generated_traces;
 #[cfg(test)]
 mod heap;
@@ -30,8 +32,6 @@ mod runs;
 mod same_as_machine;
 #[cfg(test)]
 mod served;
-#[cfg(test)]
-mod statuses;
 #[cfg(test)]
 mod store_machine;
 #[cfg(test)]

@@ -113,7 +113,7 @@ fn bad_lines(rt: HostRuntime) -> Result<(), Fail> {
     Ok(())
 }
 
-/// The line is refused as the second one, by its length or by what it says.
+/// The first line is refused, by its length or by what it says.
 fn expect_refused_line(
     rt: &(impl Abort + AllocGlobal + Threads + Wait + Sync),
     start: &str,
@@ -122,8 +122,8 @@ fn expect_refused_line(
 ) -> Result<(), Fail> {
     let alloc = rt.alloc();
     let text = "x".repeat(alloc, more)?;
-    let input = format!(in alloc; "sync\n{start}{text}\nget\n")?;
-    let output = format!(in alloc; "{refusal} 2\n")?;
+    let input = format!(in alloc; "{start}{text}\nget\n")?;
+    let output = format!(in alloc; "{refusal} 1\n")?;
     expect_output(
         rt,
         STORE,
