@@ -5,6 +5,8 @@
 #[cfg(test)]
 mod adapters;
 #[cfg(test)]
+mod benches;
+#[cfg(test)]
 mod cache_machine;
 #[cfg(test)]
 mod cache_replays;
