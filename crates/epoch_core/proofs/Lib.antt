@@ -13,6 +13,7 @@ pub mod Keeps
 pub mod Inside
 pub mod DiaryKeeps
 pub mod Puts
+pub mod ItemEvents
 pub mod SameMachine
 pub mod Keys
 pub mod EventWords

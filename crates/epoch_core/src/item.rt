@@ -1,7 +1,7 @@
 //! Items in the words of a partition.
 ghost use Rattle.std.specs.Prelude.{◌≡◌, ℕ, ◌+◌, ◌<◌, ◌≤◌, ◌^◌, ◌↔◌, IsTrue, length, slice_index};
-ghost use Rattle.mica_words.specs.Item.{KeyFits, ValueFits, item_size as item_size_of};
-ghost use Rattle.mica_words.specs.Spelling.{item_words};
+ghost use Rattle.mica_words.specs.Item.{KeyFits, ValueFits, words_for};
+ghost use Rattle.mica_words.specs.Packing.{packed};
 ghost use Rattle.epoch_core.specs.OwnerState.{item_in};
 ghost use Rattle.epoch_core.specs.Events.{CanPlay, plays, puts_from, item_events};
 ghost use Rattle.epoch_core.specs.ItemAt.{HasKey};
@@ -9,13 +9,9 @@ ghost use Rattle.epoch_core.specs.Kept.{Kept};
 
 use crate::shape::WordAt;
 use crate::words::OwnerWords;
-use mica_words::{
-    MAX_KEY_LEN, MAX_VALUE_LEN, header_key_len, header_of, item_size, key_hash, pack,
-};
+use mica_words::{MAX_KEY_LEN, header_key_len, header_of, item_size, key_hash, pack, packed_word};
 
 const MAX_KEY_WORDS: usize = (MAX_KEY_LEN + 7) / 8;
-
-const MAX_ITEM_WORDS: usize = 2 + MAX_KEY_WORDS + (MAX_VALUE_LEN + 7) / 8;
 
 /// Whether the words at the offset have the key's length, its words and its hash.
 pub fn holds_key<W: OwnerWords>(words: &mut W, offset: u64, key: &[u8]) -> bool
@@ -62,38 +58,26 @@ pub fn write_item<W: OwnerWords>(words: &mut W, offset: u64, room: u32, key: &[u
     ensures kept { Kept (W.owner words.new) }
     ensures home { W.home words.new ≡ W.home words.old }
 {
-    let size = item_size(key.len(), value.len()) as usize;
-    let mut item = [0; MAX_ITEM_WORDS];
-    let item = &mut item[..size];
-    spell_item(room, key, value, item);
-    put_words(words, offset, item);
+    words.put_word(
+        offset,
+        header_of(room, key.len() as u32, value.len() as u32),
+    );
+    words.put_word(offset + 1, key_hash(key));
+    put_packed(words, offset + 2, key);
+    put_packed(words, offset + u64::from(item_size(key.len(), 0)), value);
 }
 
-fn spell_item(room: u32, key: &[u8], value: &[u8], into: &mut [u64])
-    requires key { KeyFits key.now }
-    requires value { ValueFits value.now }
-    requires room { room < 65536 }
-    requires size { length into.old ≡ item_size_of key.now value.now }
-    ensures { into.new ≡ item_words room key.now value.now }
-{
-    let value_at = 2 + key.len().div_ceil(8);
-    into[0] = header_of(room, key.len() as u32, value.len() as u32);
-    into[1] = key_hash(key);
-    pack(key, &mut into[2..value_at]);
-    pack(value, &mut into[value_at..]);
-}
-
-// Stores the words from the offset on.
-fn put_words<W: OwnerWords>(words: &mut W, offset: u64, from: &[u64])
-    requires some { 0 < length from.now }
-    requires room { offset + length from.now < 2 ^ 64 }
-    requires allowed { CanPlay (puts_from offset from.now) (W.owner words.old) }
+/// Stores the words that the bytes are packed into, from the offset on.
+pub fn put_packed<W: OwnerWords>(words: &mut W, offset: u64, bytes: &[u8])
+    requires low { offset + words_for (length bytes.now) < 2 ^ 64 }
+    requires kept { Kept (W.owner words.old) }
+    requires allowed { CanPlay (puts_from offset (packed bytes.now)) (W.owner words.old) }
     ensures events { W.owner words.new
-        ≡ plays (puts_from offset from.entry.now) (W.owner words.old) }
+        ≡ plays (puts_from offset (packed bytes.entry.now)) (W.owner words.old) }
     ensures kept { Kept (W.owner words.new) }
     ensures home { W.home words.new ≡ W.home words.old }
 {
-    for (i, word) in from.iter().enumerate() {
-        words.put_word(offset + i as u64, *word);
+    for i in 0..bytes.len().div_ceil(8) {
+        words.put_word(offset + i as u64, packed_word(bytes, i));
     }
 }

@@ -20,7 +20,7 @@ mod state;
 mod words;
 
 pub use event::{Event, OwnerEvent};
-pub use item::{holds_key, write_item};
+pub use item::{holds_key, put_packed, write_item};
 pub use lend_partition::LendPartition;
 pub use lending::LendWords;
 pub use partition::Partition;
