@@ -1,9 +1,5 @@
 pub mod Order
-pub mod Merging
-pub mod Counting
 pub mod Places
-pub mod Taking
-pub mod Finding
-pub mod Giving
-pub mod Largest
-pub mod UsedBlocks
+pub mod Merging
+pub mod TagLaws
+pub mod ListLaws

@@ -1,3 +1,4 @@
 pub mod Blocks
 pub mod Changes
-pub mod Inside
+pub mod Tags
+pub mod Lists

@@ -1,12 +1,6 @@
 //! A heap of words, given out in blocks.
-//!
-//! The layer above may rely on this: the blocks fill the heap, no two free ones touch, `take` is refused
-//! exactly where no free block is large enough, and after `new` no call takes memory. It may not rely on
-//! which block `take` gives.
 #![tactic(auto)]
 
 mod block;
-mod blocks;
-mod heap;
-
-pub use heap::Heap;
+mod lists;
+mod tagged;
