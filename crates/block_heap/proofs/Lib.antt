@@ -1,5 +1,12 @@
 pub mod Order
 pub mod Places
 pub mod Merging
+pub mod Counting
+pub mod Taking
+pub mod UsedBlocks
 pub mod TagLaws
 pub mod ListLaws
+pub mod Listing
+pub mod Keeping
+pub mod Giving
+pub mod Finding

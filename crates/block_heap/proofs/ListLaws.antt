@@ -1,7 +1,9 @@
 -- Lists of places that stay kept where a place is added or leaves.
-use Rattle.std.proofs.Common.{◌≡◌, ◌≢◌, ℕ, zero, suc, ◌+◌, ◌-◌, ◌*◌, ◌/◌, ◌%◌, ◌^◌, ◌<◌, ◌≤◌, ◌⊎◌, inl, inr, min, Bool, true, false, not, cond, List, [], ◌∷◌, ◌++◌, length, map, get_or, set, refl, sym, ap, ◌∙◌, subst, arith, length-append}
+use Rattle.std.proofs.Common.{◌≡◌, ◌≢◌, ℕ, zero, suc, ◌+◌, ◌-◌, ◌*◌, ◌/◌, ◌%◌, ◌^◌, ◌<◌, ◌≤◌, ◌⊎◌, inl, inr, min, Bool, true, false, not, cond, eqb, List, [], ◌∷◌, ◌++◌, length, map, get_or, set, refl, sym, ap, ◌∙◌, subst, arith, length-append}
 use Rattle.std.specs.Int.{bit_at, w64, trailing_zeros, leading_zeros}
-use Rattle.std.specs.List.{Contains}
+use Rattle.std.specs.List.{Contains, swap_remove}
+use Rattle.std.specs.List.Sorted.{IsPermutation}
+use Rattle.std.proofs.lemmas.List.Sorted.{IsPermutation-swap_remove}
 use Rattle.std.proofs.Math.Nat.{div-div-eq-div-mul, div-eq_of_lt-le}
 use Rattle.std.proofs.Math.ListN.{get_or-eq_default}
 use Rattle.std.proofs.Math.Seq.{get_or-append_seam}
@@ -9,6 +11,7 @@ use Rattle.std.proofs.lemmas.Nat.{pow-add, leading_top, le-div}
 use Rattle.std.proofs.lemmas.Nat.Bits.{bit_at-trailing_zeros, bit_at_above, bit_at-zero}
 use Rattle.std.proofs.lemmas.List.{get_or-set_same, get_or-set_other, get_or_append_left, get_or_default, length-set, length-map, map-set, get_or-map, map-append}
 use Rattle.std.proofs.lemmas.Bool.{cases_eq, cases_lt}
+use Rattle.std.proofs.Math.Dec.{eqb-suc-zero}
 use Rattle.block_heap.specs.Lists.{list_of, KeepsLists, IsUnlisted, MayLie, HasRoom, HaveRoom, IsLeast}
 
 module _ (lists : List (List ℕ)) (positions : List ℕ) (filled : ℕ) (h : KeepsLists lists positions filled) (class : ℕ) (few : class < 64) where
@@ -106,9 +109,12 @@ module _ (lists : List (List ℕ)) (positions : List ℕ) (filled : ℕ) (h : Ke
 
     came_here : (k : ℕ) → k + 1 < length old → (k ≡ at) ⊎ (k ≡ at → ⊥) → (j : ℕ) × (j < length old) × (get_or left k 0 ≡ get_or old j 0) × (get_or (set positions last at) (get_or old j 0) 0 ≡ k)
     came_here k lt (inl e) =
-        let within = subst (λ x. x < length positions) last_is (h.within class (length old - 1) few (omega arith)) in
-        (length old - 1, omega arith, ap (λ n. get_or left n 0) e ∙ moved 0 (omega arith),
-          ap (λ x. get_or (set positions last at) x 0) last_is ∙ get_or-set_same positions last at 0 within ∙ sym e)
+        let within = subst (λ x. x < length positions) last_is (h.within class (length old - 1) few (omega arith)) in (
+          length old - 1,
+          omega arith,
+          ap (λ n. get_or left n 0) e ∙ moved 0 (omega arith),
+          ap (λ x. get_or (set positions last at) x 0) last_is ∙ get_or-set_same positions last at 0 within ∙ sym e,
+        )
     came_here k lt (inr ne) =
         let here = h.placed class k few (omega arith) in
         let other : get_or old k 0 ≢ last = λ e. (let there = h.placed class (length old - 1) few (omega arith) in let both = ap (λ x. get_or positions x 0) (e ∙ sym last_is) in omega arith) in
@@ -166,6 +172,26 @@ at_position lists positions filled class place at h few listed read =
     let is : at ≡ k = read ∙ get_or_default positions place at 0 within ∙ ap (λ x. get_or positions x 0) (sym here) ∙ h.placed class k few listed.1 in
     (subst (λ n. n < length (list_of lists class)) (sym is) listed.1, sym listed.2 ∙ ap (λ n. get_or (list_of lists class) n place) (sym is))
 
+-- the list of a listed place has one, and the place a position
+pub listed_some : (lists : List (List ℕ)) (positions : List ℕ) (filled class place : ℕ) (list : List ℕ) → KeepsLists lists positions filled → class < 64 → list_of lists class ≡ list → Contains (list_of lists class) place
+    → (0 < length list) × (place < length positions)
+listed_some lists positions filled class place list h few is listed =
+    let here : get_or (list_of lists class) listed.0 0 ≡ place = get_or_default (list_of lists class) listed.0 0 place listed.1 ∙ listed.2 in
+    let short = listed.1 in
+    (omega (arith, ap length is), subst (λ x. x < length positions) here (h.within class listed.0 few listed.1))
+
+pub listed_at : (lists : List (List ℕ)) (positions : List ℕ) (filled class place at : ℕ) (list : List ℕ) → KeepsLists lists positions filled → class < 64 → list_of lists class ≡ list → Contains (list_of lists class) place → at ≡ get_or positions place at
+    → (at < length list) × (place ≡ get_or list at place)
+listed_at lists positions filled class place at list h few is listed read =
+    subst (λ l. (at < length l) × (place ≡ get_or l at place)) is (at_position lists positions filled class place at h few listed read)
+
+-- the last place of a list has a position
+pub last_within : (lists : List (List ℕ)) (positions : List ℕ) (filled class last : ℕ) (list : List ℕ) → KeepsLists lists positions filled → class < 64 → list_of lists class ≡ list → 0 < length list → last ≡ get_or list (length list - 1) last
+    → last < length positions
+last_within lists positions filled class last list h few is some read =
+    let here : get_or (list_of lists class) (length list - 1) 0 ≡ last = ap (λ l. get_or l (length list - 1) 0) is ∙ get_or_default list (length list - 1) 0 last (omega arith) ∙ sym read in
+    subst (λ x. x < length positions) here (h.within class (length list - 1) few (omega (arith, ap length is)))
+
 -- a shift and a shift by one more
 shifted : (n a j : ℕ) → n / 2 ^ a / 2 / 2 ^ j ≡ n / 2 ^ (a + 1 + j)
 shifted n a j =
@@ -213,6 +239,34 @@ picked f xs class x lt here = get_or-map f xs class x [] lt ∙ ap f (sym here)
 pub added_view : {X : Type 0} (f : X → List ℕ) (xs : List X) (class place : ℕ) (x w : X) → class < length xs → x ≡ get_or xs class x → f w ≡ f x ++ place ∷ []
     → map f (set xs class w) ≡ set (map f xs) class (list_of (map f xs) class ++ place ∷ [])
 added_view f xs class place x w lt here more = map-set f xs class w ∙ ap (λ l. set (map f xs) class l) (more ∙ ap (λ l. l ++ place ∷ []) (sym (picked f xs class x lt here)))
+
+pub added_list : {X : Type 0} (f : X → List ℕ) (xs : List X) (class place : ℕ) (x w : X) → class < length xs → x ≡ get_or xs class x → f w ≡ f x ++ place ∷ []
+    → list_of (map f (set xs class w)) class ≡ list_of (map f xs) class ++ place ∷ []
+added_list f xs class place x w lt here more =
+    ap (λ ls. list_of ls class) (added_view f xs class place x w lt here more)
+    ∙ get_or-set_same (map f xs) class (list_of (map f xs) class ++ place ∷ []) [] (omega (arith, length-map xs f))
+
+-- a list is changed, and its own is there now
+pub set_list : {X : Type 0} (f : X → List ℕ) (xs : List X) (class : ℕ) (w : X) → class < length xs → list_of (map f (set xs class w)) class ≡ f w
+set_list f xs class w lt = ap (λ ls. list_of ls class) (map-set f xs class w) ∙ get_or-set_same (map f xs) class (f w) [] (omega (arith, length-map xs f))
+
+-- and the others stay
+pub set_others : {X : Type 0} (f : X → List ℕ) (xs : List X) (class other : ℕ) (w : X) → other ≢ class → list_of (map f (set xs class w)) other ≡ list_of (map f xs) other
+set_others f xs class other w ne = ap (λ ls. list_of ls other) (map-set f xs class w) ∙ get_or-set_other (map f xs) class other (f w) [] ne
+
+-- the bit of a list says whether it has a place
+pub bit_of : (n len : ℕ) (none : Bool) (bit : ℕ) → none ≡ eqb n 0 → n ≡ len → bit ≡ cond (not none) 1 0 → bit ≡ min 1 len
+bit_of zero len none bit is same on = on ∙ ap (λ e. cond (not e) 1 0) is ∙ omega (arith, same)
+bit_of (suc n) len none bit is same on =
+    let one : 1 ≡ min 1 len = omega (arith, same) in
+    on ∙ ap (λ e. cond (not e) 1 0) (is ∙ eqb-suc-zero n) ∙ one
+
+-- a list without the place that stood at an index
+pub left_out : (whole list new : List ℕ) (at place value : ℕ) → at < length list → place ≡ get_or list at place → value ≡ get_or list at value → new ≡ swap_remove list at value → whole ≡ list → IsPermutation whole (place ∷ new)
+left_out whole list new at place value lt here read is same =
+    let value_is : value ≡ place = read ∙ get_or_default list at value place lt ∙ sym here in
+    subst (λ l. IsPermutation l (place ∷ new)) (sym same)
+    (subst (λ l. IsPermutation list (place ∷ l)) (sym (is ∙ ap (λ v. swap_remove list at v) value_is)) (IsPermutation-swap_remove list at place lt here))
 
 pub keeps_with : {X : Type 0} (f : X → List ℕ) (xs : List X) (positions : List ℕ) (filled class place n bits : ℕ) (x w : X) → KeepsLists (map f xs) positions filled → class < 64 → x ≡ get_or xs class x → f w ≡ f x ++ place ∷ [] → n ≡ length (f x)
     → bits < 2 ^ 64 → place < length positions → IsUnlisted (map f xs) place → bit_at bits class ≡ 1 → ((i : ℕ) → i < 64 → i ≢ class → bit_at bits i ≡ bit_at filled i)

@@ -2,3 +2,4 @@ pub mod Blocks
 pub mod Changes
 pub mod Tags
 pub mod Lists
+pub mod Inside

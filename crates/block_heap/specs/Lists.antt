@@ -1,7 +1,6 @@
 -- The places of free blocks, in lists by class.
-use Rattle.std.specs.Prelude.{◌≡◌, ◌≢◌, ◌==◌, ℕ, ◌+◌, ◌*◌, ◌<◌, ◌≤◌, ◌^◌, min, List, [], length, map, filter, slice_index, slice_index_or}
+use Rattle.std.specs.Prelude.{◌≡◌, ◌≢◌, ◌==◌, if◌then◌else◌, ℕ, ◌+◌, ◌*◌, ◌<◌, ◌≤◌, ◌^◌, min, List, [], length, sum_by, slice_index, slice_index_or}
 use Rattle.std.specs.Int.{bit_at}
-use Rattle.std.specs.List.Sorted.{IsPermutation}
 use Rattle.size_classes.specs.Classes.{class_of}
 use Rattle.block_heap.specs.declared.block.Block.{Block}
 
@@ -9,13 +8,14 @@ use Rattle.block_heap.specs.declared.block.Block.{Block}
 abbrev pub list_of : List (List ℕ) → ℕ → List ℕ
 list_of lists class = slice_index_or lists class []
 
--- the places of the blocks of a class
-abbrev pub places_in : ℕ → List Block → List ℕ
-places_in class blocks = map (λ block. block.place) (filter (λ block. class_of block.size == class) blocks)
+-- what a block counts in the list of a class, where each place counts so much
+abbrev pub count_in : ℕ → (ℕ → ℕ) → Block → ℕ
+count_in class weight block = if block.used then 0 else if class_of block.size == class then weight block.place else 0
 
--- the lists have the places of these blocks, each in the list of its class
+-- The lists have the places of the free blocks, each in the list of its class: whatever each place counts, the
+-- list of a class counts as much as the free blocks of that class.
 abbrev pub AreListed : List (List ℕ) → List Block → Type 0
-AreListed lists blocks = (class : ℕ) → class < 64 → IsPermutation (list_of lists class) (places_in class blocks)
+AreListed lists blocks = (class : ℕ) → class < 64 → (weight : ℕ → ℕ) → sum_by weight (list_of lists class) ≡ sum_by (count_in class weight) blocks
 
 -- no size of the class is below
 abbrev pub IsLeast : ℕ → ℕ → Type 0

@@ -1,6 +1,13 @@
 //! A heap of words, given out in blocks.
+//!
+//! The layer above may rely on this: the blocks fill the heap, no two free ones touch, `take` is refused
+//! exactly where no free block is large enough, and after `new` no call takes memory. It may not rely on
+//! which block `take` gives.
 #![tactic(auto)]
 
 mod block;
+mod heap;
 mod lists;
 mod tagged;
+
+pub use heap::Heap;

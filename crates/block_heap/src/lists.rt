@@ -1,5 +1,5 @@
 // The places of free blocks, in lists by class.
-ghost use Rattle.std.specs.Prelude.{◌≡◌, ◌≢◌, ◌^◌, ◌+◌, ◌<◌, ◌≤◌, ℕ, Bool, [], ◌∷◌, ◌++◌, List, length, IfOk, IfSome, IfNone, Contains, slice_index, set, if◌then◌else◌};
+ghost use Rattle.std.specs.Prelude.{◌≡◌, ◌≢◌, ◌^◌, ◌+◌, ◌<◌, ◌≤◌, ℕ, Bool, [], ◌∷◌, ◌++◌, List, length, IfOk, IfSome, IfNone, Contains, slice_index, if◌then◌else◌};
 ghost use Rattle.std.specs.Int.{bit_at};
 ghost use Rattle.std.specs.List.Sorted.{IsPermutation};
 ghost use Rattle.block_heap.specs.Lists.{list_of, MayLie, IsUnlisted};
@@ -100,7 +100,8 @@ impl FreeLists {
         requires unlisted { IsUnlisted self.old.1 place }
         requires room { MayLie self.old.0 class (length (list_of self.old.1 class) + 1) }
         ensures words { self.new.0 ≡ self.old.0 }
-        ensures added { self.new.1 ≡ set self.old.1 class (list_of self.old.1 class ++ place ∷ []) }
+        ensures added { list_of self.new.1 class ≡ list_of self.old.1 class ++ place ∷ [] }
+        ensures others { (other : ℕ) → other ≢ class → list_of self.new.1 other ≡ list_of self.old.1 other }
     {
         let list = &mut self.lists[class as usize];
         self.positions[place as usize] = list.len() as u32;

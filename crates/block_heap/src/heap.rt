@@ -1,6 +1,10 @@
-ghost use Rattle.std.specs.Prelude.{◌≡◌, ◌+◌, ◌<◌, ◌≤◌, ◌↔◌, [], ◌∷◌, IfOk, IfNone, IfSome, IsNone, Contains};
+// The heap: its blocks, told by tags, and the lists of the free ones.
+ghost use Rattle.std.specs.Prelude.{◌≡◌, ◌+◌, ◌<◌, ◌≤◌, ◌↔◌, ℕ, List, [], ◌∷◌, ◌++◌, IfOk, IfNone, IfSome, IsNone, Contains, All, length};
+ghost use Rattle.block_heap.specs.declared.block.Block.{Block};
 ghost use Rattle.block_heap.specs.Blocks.{free_block, IsBlockList, HasUsed, NoneFits, MayLack, IsFree, IsLargest, words_of};
 ghost use Rattle.block_heap.specs.Changes.{IsTaken, IsGiven};
+ghost use Rattle.block_heap.specs.Lists.{AreListed};
+ghost use Rattle.block_heap.specs.Inside.{IsListable, blocks_in, words_in, HasFreeAt, AreShort, IsMost};
 
 use crate::block::Block;
 use crate::lists::FreeLists;
@@ -26,8 +30,48 @@ impl Model for Heap {
 
     ghost view = { λ s. s.blocks };
 
-    // IsBlockList (words_of blocks) blocks, AreListed free.1 (free blocks of blocks), free.0 ≡ words_of blocks
-    ghost invariant = { λ s. IsHeap s.blocks s.free };
+    ghost invariant = { λ s. IsHeap s.blocks s.free.0 s.free.1 };
+}
+
+// Takes a free neighbour out of its list, and tells how many words it has.
+fn unlist(free: &mut FreeLists, neighbour: Option<Block>) -> u32
+    requires { IsListable free.old.1 neighbour }
+    ensures size { result ≡ words_in neighbour }
+    ensures words { free.new.0 ≡ free.old.0 }
+    ensures listed { (before after : List Block) → AreListed free.old.1 (before ++ (blocks_in neighbour ++ after)) → AreListed free.new.1 (before ++ after) }
+{
+    let Some(block) = neighbour else {
+        return 0;
+    };
+    free.remove(class_of(block.size), block.place);
+    block.size
+}
+
+// The first block of the list that has as many words as are needed.
+fn first_fit(blocks: &TaggedBlocks, list: &[u32], need: u32) -> Option<Block>
+    requires { All (HasFreeAt blocks.now) list.now }
+    ensures none { IfNone result (AreShort blocks.now list.now need (length list.now)) }
+    ensures some { IfSome result (λ block. Contains blocks.now block × IsFree block × (need ≤ block.size)) }
+{
+    for place in list {
+        let size = blocks.size_at(*place);
+        if size >= need {
+            return Some(Block::free(*place, size));
+        }
+    }
+    None
+}
+
+// The words of the largest block of the list.
+fn most_words(blocks: &TaggedBlocks, list: &[u32]) -> u32
+    requires { All (HasFreeAt blocks.now) list.now }
+    ensures { IsMost blocks.now list.now (length list.now) result }
+{
+    let mut most = 0;
+    for listed in list {
+        most = most.max(blocks.size_at(*listed));
+    }
+    most
 }
 
 impl Heap {
@@ -48,17 +92,15 @@ impl Heap {
     fn fitting(&self, need: u32) -> Option<Block>
         requires { 1 ≤ need }
         ensures none { IfNone result (NoneFits self.now need) }
+        ensures may_lack { IfNone result (MayLack self.now need) }
         ensures some { IfSome result (λ block. Contains self.now block × IsFree block × (need ≤ block.size)) }
     {
         if need > self.blocks.words() {
             return None;
         }
         let class = class_of(need);
-        for place in self.free.list(class) {
-            let size = self.blocks.size_at(*place);
-            if size >= need {
-                return Some(Block::free(*place, size));
-            }
+        if let Some(block) = first_fit(&self.blocks, self.free.list(class), need) {
+            return Some(block);
         }
         let next = self.free.next_above(class)?;
         let place = self.free.list(next)[0];
@@ -93,8 +135,9 @@ impl Heap {
         let size = self.blocks.size_at(place);
         let left = self.blocks.free_before(place);
         let right = self.blocks.free_at(place + size);
-        let block = joined_left(&mut self.free, left, Block::free(place, size));
-        let block = joined_right(&mut self.free, block, right);
+        let before = unlist(&mut self.free, left);
+        let after = unlist(&mut self.free, right);
+        let block = Block::free(place - before, before + size + after);
         self.blocks.replace(block);
         self.free.add(class_of(block.size), block.place);
     }
@@ -106,28 +149,6 @@ impl Heap {
         let Some(last) = self.free.last() else {
             return 0;
         };
-        let mut most = 0;
-        for place in self.free.list(last) {
-            most = most.max(self.blocks.size_at(*place));
-        }
-        most
+        most_words(&self.blocks, self.free.list(last))
     }
-}
-
-// A block as one with the free one before it, which leaves its list.
-fn joined_left(free: &mut FreeLists, left: Option<Block>, block: Block) -> Block {
-    let Some(left) = left else {
-        return block;
-    };
-    free.remove(class_of(left.size), left.place);
-    Block::free(left.place, left.size + block.size)
-}
-
-// A block as one with the free one behind it, which leaves its list.
-fn joined_right(free: &mut FreeLists, block: Block, right: Option<Block>) -> Block {
-    let Some(right) = right else {
-        return block;
-    };
-    free.remove(class_of(right.size), right.place);
-    Block::free(block.place, block.size + right.size)
 }

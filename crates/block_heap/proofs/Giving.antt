@@ -1,0 +1,214 @@
+-- What giving a block back keeps.
+use Rattle.std.proofs.Common.{◌≡◌, ℕ, zero, suc, length, ◌+◌, ◌-◌, ◌<◌, ◌≤◌, Bool, true, false, ◌||◌, cond, Option, Some, None, List, [], ◌∷◌, ◌++◌, refl, sym, ap, ◌∙◌, subst, arith, append_assoc}
+use Rattle.std.specs.Prelude.{IfSome}
+use Rattle.std.specs.List.{Contains}
+use Rattle.std.proofs.lemmas.List.{append-nil}
+use Rattle.block_heap.specs.declared.block.Block.{Block}
+use Rattle.block_heap.specs.Blocks.{free_block, used_block, IsFree, Fills, IsMerged, IsBlockList, HasUsed, used_blocks, words_of}
+use Rattle.block_heap.specs.Changes.{joined, merged, IsGiven}
+use Rattle.block_heap.specs.Inside.{blocks_in, words_in}
+use Rattle.block_heap.specs.Tags.{EndsFree, IsLastFree, IsFirstFree}
+use Rattle.block_heap.proofs.Order.{words_of-append, words_of-cons, words_of-fills, front_fills, back_fills, back_merged, fills_instead, merged_instead}
+use Rattle.block_heap.proofs.Merging.{joined_apart, joined_begins, merged_fills, merged_merged, merged_same, merged_behind}
+use Rattle.block_heap.proofs.Counting.{used_more, used_same}
+use Rattle.block_heap.proofs.TagLaws.{parted, from-le-end}
+
+-- a list stays a block list where a block is given back
+pub IsBlockList-given : (words : ℕ) (old new : List Block) (place : ℕ) → IsBlockList words old → IsGiven old new place → IsBlockList words new
+IsBlockList-given words old new place list given =
+    let freed = given.before ++ free_block place given.size ∷ given.after in
+    let fills = fills_instead 0 words given.before (used_block place given.size ∷ given.after) (free_block place given.size ∷ given.after)
+    (subst (λ xs. Fills 0 xs words) given.was list.fills) (λ at h. h) in
+    record {
+      fills = subst (λ xs. Fills 0 xs words) (sym given.now) (merged_fills 0 words freed fills);
+      merged = subst IsMerged (sym given.now) (merged_merged freed);
+    }
+
+-- the blocks before a place without the free one that ends there
+abbrev pub front_of : (before : List Block) (left : Option Block) → IsLastFree before left → (front : List Block) × (before ≡ front ++ blocks_in left)
+front_of before None none = (before, sym (append-nil before))
+front_of before (Some last) is = (is.0, is.1)
+
+-- the blocks behind a place without the free one that begins there
+abbrev pub back_of : (after : List Block) (right : Option Block) → IsFirstFree after right → (back : List Block) × (after ≡ blocks_in right ++ back)
+back_of after None none = (after, refl)
+back_of after (Some first) is = (is.0, is.1)
+
+-- a free block as one with the free one behind it
+right_merged : (place size : ℕ) (after : List Block) (right : Option Block) → IsMerged after → (is : IsFirstFree after right) → merged (free_block place size ∷ after) ≡ free_block place (size + words_in right) ∷ (back_of after right is).0
+right_merged place size after None h none =
+    let same : size ≡ size + 0 = omega arith in
+    ap (joined (free_block place size)) (merged_same after h) ∙ joined_apart (free_block place size) after (λ both. none both.1) ∙ ap (λ n. free_block place n ∷ after) same
+right_merged place size after (Some first) h is =
+    ap (joined (free_block place size)) (merged_same after h ∙ is.1)
+    ∙ ap (λ u. cond u (free_block place size ∷ first ∷ is.0) (free_block place (size + first.size) ∷ is.0)) is.2
+
+-- a list that ends in a used block
+closed : (xs ys zs : List Block) → IsMerged (xs ++ zs) → (EndsFree xs → ⊥) → IsMerged ys → IsMerged (xs ++ ys)
+closed [] ys zs h ends is = is
+closed (x ∷ []) ys zs h ends is = (λ both. ends both.0, is)
+closed (x ∷ y ∷ xs) ys zs h ends is = (h.0, closed (y ∷ xs) ys zs h.1 ends is)
+
+-- a freed block as one with its free neighbours
+all_merged : (place size : ℕ) (before after : List Block) (left right : Option Block) → IsMerged (before ++ used_block place size ∷ after) → (last : IsLastFree before left) → (first : IsFirstFree after right) → place ≡ words_of (front_of before left last).0 + words_in left
+    → IfSome left (λ block. block.place ≡ words_of (front_of before left last).0)
+    → merged (before ++ free_block place size ∷ after) ≡ (front_of before left last).0 ++ free_block (place - words_in left) (words_in left + size + words_in right) ∷ (back_of after right first).0
+all_merged place size before after None right h last first here lies =
+    let alone = right_merged place size after right (back_merged before (used_block place size ∷ after) h).1 first in
+    let same : size + words_in right ≡ 0 + size + words_in right = omega arith in
+    let there : place ≡ place - 0 = omega arith in
+    merged_behind before (free_block place size ∷ after) (closed before (merged (free_block place size ∷ after)) (used_block place size ∷ after) h last (merged_merged (free_block place size ∷ after)))
+    ∙ ap (λ ys. before ++ ys) (alone ∙ ap (λ n. free_block place n ∷ (back_of after right first).0) same ∙ ap (λ p. free_block p (0 + size + words_in right) ∷ (back_of after right first).0) there)
+all_merged place size before after (Some block) right h last first here lies =
+    let front = last.0 in
+    let back = (back_of after right first).0 in
+    let alone = right_merged place size after right (back_merged before (used_block place size ∷ after) h).1 first in
+    let rest = block ∷ free_block place size ∷ after in
+    let old : before ++ used_block place size ∷ after ≡ front ++ block ∷ used_block place size ∷ after =
+    ap (λ xs. xs ++ used_block place size ∷ after) last.1 ∙ append_assoc front (block ∷ []) (used_block place size ∷ after) in
+    let freed : before ++ free_block place size ∷ after ≡ front ++ rest =
+    ap (λ xs. xs ++ free_block place size ∷ after) last.1 ∙ append_assoc front (block ∷ []) (free_block place size ∷ after) in
+    let apart = merged_instead front (block ∷ used_block place size ∷ after) (merged rest) (subst IsMerged old h) (joined_begins block (merged (free_block place size ∷ after))) (merged_merged rest) in
+    let there : block.place ≡ place - block.size = omega arith in
+    let same : block.size + (size + words_in right) ≡ block.size + size + words_in right = omega arith in
+    ap merged freed
+    ∙ merged_behind front rest apart
+    ∙ ap (λ ys. front ++ joined block ys) alone
+    ∙ ap (λ u. front ++ cond (u || false) (block ∷ free_block place (size + words_in right) ∷ back) (free_block block.place (block.size + (size + words_in right)) ∷ back)) last.2
+    ∙ ap (λ n. front ++ free_block block.place n ∷ back) same
+    ∙ ap (λ p. front ++ free_block p (block.size + size + words_in right) ∷ back) there
+
+words_of-in : (neighbour : Option Block) → words_of (blocks_in neighbour) ≡ words_in neighbour
+words_of-in None = refl
+words_of-in (Some block) = omega (arith, words_of-cons block [])
+
+-- A used block and its free neighbours, and the one free block that they become.
+pub record IsFreed (words : ℕ) (blocks : List Block) (place size : ℕ) (left right : Option Block) : Type 0 where
+  pub front : List Block
+  pub back : List Block
+  pub left_free : IfSome left IsFree
+  pub right_free : IfSome right IsFree
+  pub was : blocks ≡ front ++ (blocks_in left ++ (used_block place size ∷ (blocks_in right ++ back)))
+  pub given : (new : List Block) → new ≡ front ++ free_block (place - words_in left) (words_in left + size + words_in right) ∷ back → IsGiven blocks new place
+  pub starts : place - words_in left ≡ words_of front
+  pub enough : words_in left ≤ place
+
+pub freed : (words : ℕ) (blocks before after : List Block) (place size : ℕ) (left right : Option Block) → IsBlockList words blocks → blocks ≡ before ++ used_block place size ∷ after
+    → IsLastFree before left → IsFirstFree after right → IsFreed words blocks place size left right
+freed words blocks before after place size left right list is last first =
+    let own = subst (IsBlockList words) is list in
+    let front = front_of before left last in
+    let back = back_of after right first in
+    let at : place ≡ words_of before = (let e = (back_fills 0 words before (used_block place size ∷ after) own.fills).0 in omega arith) in
+    let here : place ≡ words_of front.0 + words_in left = omega (arith, at, ap words_of front.1, words_of-append front.0 (blocks_in left), words_of-in left) in
+    record {
+      front = front.0;
+      back = back.0;
+      left_free = left_by left last;
+      right_free = right_by right first;
+      was = is ∙ ap (λ xs. xs ++ used_block place size ∷ after) front.1 ∙ append_assoc front.0 (blocks_in left) (used_block place size ∷ after) ∙ ap (λ ys. front.0 ++ (blocks_in left ++ (used_block place size ∷ ys))) back.1;
+      given = λ new now. record { before = before; after = after; size = size; was = is; now = now ∙ sym (all_merged place size before after left right own.merged last first here (lies left last own.fills)) };
+      starts = omega arith;
+      enough = omega arith;
+    }
+  where
+    left_by : (left : Option Block) → IsLastFree before left → IfSome left IsFree
+    left_by None is = tt
+    left_by (Some block) is = is.2
+
+    right_by : (right : Option Block) → IsFirstFree after right → IfSome right IsFree
+    right_by None is = tt
+    right_by (Some block) is = is.2
+
+    lies : (left : Option Block) (last : IsLastFree before left) → Fills 0 (before ++ used_block place size ∷ after) words → IfSome left (λ block. block.place ≡ words_of (front_of before left last).0)
+    lies None last fills = tt
+    lies (Some block) last fills =
+        let front = subst (λ xs. Fills 0 xs (0 + words_of before)) last.1 (front_fills 0 words before (used_block place size ∷ after) fills) in
+        let e = (back_fills 0 (0 + words_of before) last.0 (block ∷ []) front).0 in
+        omega arith
+
+-- a used block is among all
+used_among : (blocks : List Block) (block : Block) → Contains (used_blocks blocks) block → Contains blocks block
+used_among [] block among = among
+used_among (b ∷ blocks) block among = by (used_among blocks block) b.used refl
+  where
+    later : Contains blocks block → Contains (b ∷ blocks) block
+    later there = (suc there.0, (let lt = there.1 in omega arith), there.2)
+
+    split : (Contains (used_blocks blocks) block → Contains blocks block) → Contains (b ∷ used_blocks blocks) block → Contains (b ∷ blocks) block
+    split rest (zero, lt, is) = (0, omega arith, is)
+    split rest (suc k, lt, is) = later (rest (k, omega arith, is))
+
+    by : (Contains (used_blocks blocks) block → Contains blocks block) → (u : Bool) → b.used ≡ u → Contains (b ∷ blocks) block
+    by rest true used = split rest (subst (λ (bs : List Block). Contains bs block) (used_more b blocks used) among)
+    by rest false free = later (rest (subst (λ (bs : List Block). Contains bs block) (used_same b blocks free) among))
+
+-- A used block, the blocks before and behind it, and where they end and begin.
+pub record UsedAt (words : ℕ) (blocks : List Block) (place size : ℕ) : Type 0 where
+  pub before : List Block
+  pub after : List Block
+  pub among : Contains blocks (used_block place size)
+  pub is : blocks ≡ before ++ used_block place size ∷ after
+  pub ends : Fills 0 before place
+  pub is_next : blocks ≡ (before ++ used_block place size ∷ []) ++ after
+  pub next : Fills 0 (before ++ used_block place size ∷ []) (place + size)
+  pub within : place + size ≤ words
+
+pub used_at : (words : ℕ) (blocks : List Block) (place : ℕ) → IsBlockList words blocks → (has : HasUsed blocks place) → UsedAt words blocks place has.size
+used_at words blocks place list has =
+    let block = used_block place has.size in
+    let among = used_among blocks block has.among in
+    let parts = parted blocks block among in
+    let is_next = parts.2 ∙ sym (append_assoc parts.0 (block ∷ []) parts.1) in
+    let fills = subst (λ xs. Fills 0 xs words) parts.2 list.fills in
+    let here = back_fills 0 words parts.0 (block ∷ parts.1) fills in
+    let at : 0 + words_of parts.0 ≡ place = sym here.0 in
+    let le = from-le-end ((0 + words_of parts.0) + has.size) words parts.1 here.2 in
+    let ends : 0 + words_of (parts.0 ++ block ∷ []) ≡ place + has.size = omega (arith, words_of-append parts.0 (block ∷ []), words_of-cons block []) in
+    record {
+      before = parts.0;
+      after = parts.1;
+      among = among;
+      is = parts.2;
+      ends = subst (λ n. Fills 0 parts.0 n) at (front_fills 0 words parts.0 (block ∷ parts.1) fills);
+      is_next = is_next;
+      next = subst (λ n. Fills 0 (parts.0 ++ block ∷ []) n) ends (front_fills 0 words (parts.0 ++ block ∷ []) parts.1 (subst (λ xs. Fills 0 xs words) is_next list.fills));
+      within = omega arith;
+    }
+
+-- the free block behind, and all before it
+pub before_right : (words : ℕ) (blocks : List Block) (place size : ℕ) (left right : Option Block) → (freed : IsFreed words blocks place size left right) → blocks ≡ (freed.front ++ (blocks_in left ++ used_block place size ∷ [])) ++ (blocks_in right ++ freed.back)
+before_right words blocks place size left right freed =
+    let used = used_block place size in
+    let l = blocks_in left in
+    let rest = blocks_in right ++ freed.back in
+    freed.was ∙ ap (λ ys. freed.front ++ ys) (sym (append_assoc l (used ∷ []) rest)) ∙ sym (append_assoc freed.front (l ++ used ∷ []) rest)
+
+-- The one free block, and the blocks that lie where it is to lie.
+pub record IsJoined (words : ℕ) (blocks : List Block) (place size : ℕ) (left right : Option Block) (front back : List Block) (block : Block) : Type 0 where
+  pub whole : blocks ≡ front ++ ((blocks_in left ++ used_block place size ∷ blocks_in right) ++ back)
+  pub fills : Fills block.place (blocks_in left ++ used_block place size ∷ blocks_in right) (block.place + block.size)
+  pub some : 0 < block.size
+  pub within : block.place + block.size ≤ words
+
+pub joined_block : (words : ℕ) (blocks : List Block) (place size : ℕ) (left right : Option Block) (block : Block) → IsBlockList words blocks → (freed : IsFreed words blocks place size left right) → 0 < size
+    → block ≡ free_block (place - words_in left) (words_in left + size + words_in right) → IsJoined words blocks place size left right freed.front freed.back block
+joined_block words blocks place size left right block list freed some is =
+    let used = used_block place size in
+    let l = blocks_in left in
+    let r = blocks_in right in
+    let middle = l ++ used ∷ r in
+    let whole : blocks ≡ freed.front ++ (middle ++ freed.back) = freed.was ∙ ap (λ ys. freed.front ++ ys) (sym (append_assoc l (used ∷ r) freed.back)) in
+    let own = back_fills 0 words freed.front (middle ++ freed.back) (subst (λ xs. Fills 0 xs words) whole list.fills) in
+    let own_middle = front_fills (0 + words_of freed.front) words middle freed.back own in
+    let rest = back_fills (0 + words_of freed.front) words middle freed.back own in
+    let le = from-le-end ((0 + words_of freed.front) + words_of middle) words freed.back rest in
+    let many : words_of middle ≡ words_in left + size + words_in right = omega (arith, words_of-append l (used ∷ r), words_of-cons used r, words_of-in left, words_of-in right) in
+    let at : 0 + words_of freed.front ≡ block.place = (let start = freed.starts in let there = ap (λ (b : Block). b.place) is in omega arith) in
+    let long : words_of middle ≡ block.size = many ∙ sym (ap (λ (b : Block). b.size) is) in
+    record {
+      whole = whole;
+      fills = subst (λ n. Fills block.place middle (block.place + n)) long (subst (λ n. Fills n middle (n + words_of middle)) at own_middle);
+      some = omega arith;
+      within = omega arith;
+    }

@@ -1,0 +1,55 @@
+-- What taking a block keeps.
+use Rattle.std.proofs.Common.{◌≡◌, ℕ, zero, suc, ◌+◌, ◌-◌, ◌<◌, ◌≤◌, List, [], ◌∷◌, ◌++◌, refl, sym, ap, subst, arith}
+use Rattle.block_heap.specs.declared.block.Block.{Block}
+use Rattle.block_heap.specs.Blocks.{free_block, used_block, Fills, IsMerged, IsBlockList, words_of}
+use Rattle.block_heap.specs.Changes.{rest_of, IsTaken}
+use Rattle.block_heap.proofs.Order.{words_of-fills, front_fills, back_fills, fills_instead, back_merged, merged_instead}
+
+rest_fills : (from end place size : ℕ) (after : List Block) → place ≡ from → Fills (from + size) after end → Fills from (rest_of place size ++ after) end
+rest_fills from end place zero after here h = let e : from + 0 ≡ from = omega arith in subst (λ n. Fills n after end) e h
+rest_fills from end place (suc size) after here h = (here, (omega arith), h)
+
+taken_fills : (from end place size need : ℕ) (after : List Block) → 0 < need → need ≤ size → Fills from (free_block place size ∷ after) end → Fills from (used_block place need ∷ (rest_of (place + need) (size - need) ++ after)) end
+taken_fills from end place size need after some enough h =
+    let e : from + size ≡ (from + need) + (size - need) = omega arith in
+    (h.0, some, rest_fills (from + need) end (place + need) (size - need) after (ap (λ n. n + need) h.0) (subst (λ n. Fills n after end) e h.2))
+
+rest_merged : (place size other more : ℕ) (after : List Block) → IsMerged (free_block place size ∷ after) → IsMerged (rest_of other more ++ after)
+rest_merged place size other zero after h = h.1
+rest_merged place size other (suc more) after h = (h.0, h.1)
+
+taken_merged : (place size need : ℕ) (before after : List Block) → IsMerged (before ++ free_block place size ∷ after) → IsMerged (before ++ used_block place need ∷ (rest_of (place + need) (size - need) ++ after))
+taken_merged place size need before after h =
+    let own = back_merged before (free_block place size ∷ after) h in
+    merged_instead before (free_block place size ∷ after) (used_block place need ∷ (rest_of (place + need) (size - need) ++ after)) h (λ e. cc)
+    ((λ both. let e = both.0 in cc), rest_merged place size (place + need) (size - need) after own)
+
+-- a list stays a block list where a block is taken
+pub IsBlockList-taken : (words : ℕ) (old new : List Block) (place need : ℕ) → 0 < need → IsBlockList words old → IsTaken old new place need → IsBlockList words new
+IsBlockList-taken words old new place need some list taken =
+    let fills = subst (λ xs. Fills 0 xs words) taken.was list.fills in
+    let merged = subst IsMerged taken.was list.merged in
+    record {
+      fills = subst (λ xs. Fills 0 xs words) (sym taken.now)
+          (fills_instead 0 words taken.before (free_block place taken.size ∷ taken.after)
+          (used_block place need ∷ (rest_of (place + need) (taken.size - need) ++ taken.after)) fills (λ at. taken_fills at words place taken.size need taken.after some taken.enough));
+      merged = subst IsMerged (sym taken.now) (taken_merged place taken.size need taken.before taken.after merged);
+    }
+
+pub words_of-list : (words : ℕ) (blocks : List Block) → IsBlockList words blocks → words_of blocks ≡ words
+words_of-list words blocks list = let e = words_of-fills 0 words blocks list.fills in omega arith
+
+-- a block's words lie in the heap
+pub place_within : (words : ℕ) (before after : List Block) (block : Block) → Fills 0 (before ++ block ∷ after) words → block.place + block.size ≤ words
+place_within words before after block h =
+    let here = back_fills 0 words before (block ∷ after) h in
+    let place = here.0 in
+    let end = words_of-fills ((0 + words_of before) + block.size) words after here.2 in
+    omega arith
+
+pub rest_is : (place size : ℕ) → 0 < size → rest_of place size ≡ free_block place size ∷ []
+rest_is place zero some = absurd (omega arith)
+rest_is place (suc size) some = refl
+
+pub rest_none : (place size : ℕ) → size ≡ 0 → rest_of place size ≡ []
+rest_none place size none = ap (rest_of place) none

@@ -1,0 +1,205 @@
+-- The used blocks: they lie apart in the heap, taking adds one to them, and giving back removes one.
+use Rattle.std.proofs.Common.{◌≡◌, ℕ, zero, suc, ◌+◌, ◌-◌, ◌<◌, ◌≤◌, ◌⊎◌, inl, inr, List, [], ◌∷◌, ◌++◌, length, get_or, refl, sym, ap, ◌∙◌, subst, arith, length-append, Bool, true, false, ◌||◌, cond}
+use Rattle.std.specs.List.{All, AllPairs, Contains}
+use Rattle.std.proofs.lemmas.List.Elements.{All-nil, All-cons, All-weaker, All-filter, All-append, filter-append}
+use Rattle.std.proofs.lemmas.List.Kept.{AllPairs-cons}
+use Rattle.block_heap.specs.declared.block.Block.{Block}
+use Rattle.block_heap.specs.Blocks.{free_block, used_block, Fills, IsBlockList, HasUsed, words_of, used_blocks}
+use Rattle.block_heap.specs.Changes.{rest_of, joined, merged, IsTaken, IsGiven}
+use Rattle.block_heap.proofs.Order.{words_of-fills, words_of-append, words_of-cons, front_fills, back_fills}
+use Rattle.block_heap.proofs.Merging.{both_false}
+use Rattle.block_heap.proofs.Counting.{used_more, used_same}
+use Rattle.block_heap.proofs.Taking.{place_within}
+
+-- one block more, and all others as they were
+pub record AddsBlock (old new : List Block) (block : Block) : Type 0 where
+  pub before : List Block
+  pub after : List Block
+  pub was : old ≡ before ++ after
+  pub now : new ≡ before ++ block ∷ after
+
+pub length-AddsBlock : (old new : List Block) (block : Block) → AddsBlock old new block → length new ≡ length old + 1
+length-AddsBlock old new block adds =
+    let was = ap length adds.was in
+    let now = ap length adds.now in
+    omega (arith, length-append adds.before adds.after, length-append adds.before (block ∷ adds.after))
+
+pub words_of-AddsBlock : (old new : List Block) (block : Block) → AddsBlock old new block → words_of new ≡ words_of old + block.size
+words_of-AddsBlock old new block adds =
+    let was = ap words_of adds.was in
+    let now = ap words_of adds.now in
+    omega (arith, words_of-append adds.before adds.after, words_of-append adds.before (block ∷ adds.after), words_of-cons block adds.after)
+
+used_blocks-append : (xs ys : List Block) → used_blocks (xs ++ ys) ≡ used_blocks xs ++ used_blocks ys
+used_blocks-append xs ys = filter-append (λ (b : Block). b.used) xs ys
+
+used_blocks-rest : (place size : ℕ) (after : List Block) → used_blocks (rest_of place size ++ after) ≡ used_blocks after
+used_blocks-rest place zero after = refl
+used_blocks-rest place (suc size) after = refl
+
+pub used_blocks-taken : (old new : List Block) (place need : ℕ) → IsTaken old new place need → AddsBlock (used_blocks old) (used_blocks new) (used_block place need)
+used_blocks-taken old new place need taken =
+    let rest = rest_of (place + need) (taken.size - need) in
+    record {
+      before = used_blocks taken.before;
+      after = used_blocks taken.after;
+      was = ap used_blocks taken.was ∙ used_blocks-append taken.before (free_block place taken.size ∷ taken.after);
+      now =
+          ap used_blocks taken.now
+          ∙ used_blocks-append taken.before (used_block place need ∷ (rest ++ taken.after))
+          ∙ ap (λ bs. used_blocks taken.before ++ used_block place need ∷ bs) (used_blocks-rest (place + need) (taken.size - need) taken.after);
+    }
+
+joined_by : (block next : Block) (rest : List Block) (v : Bool) → (block.used || next.used) ≡ v
+    → used_blocks (cond v (block ∷ next ∷ rest) (free_block block.place (block.size + next.size) ∷ rest)) ≡ used_blocks (block ∷ next ∷ rest)
+joined_by block next rest true e = refl
+joined_by block next rest false e =
+    let free = both_false block.used next.used e in
+    sym (used_same block (next ∷ rest) free.0 ∙ used_same next rest free.1)
+
+used_blocks-joined : (block : Block) (blocks : List Block) → used_blocks (joined block blocks) ≡ used_blocks (block ∷ blocks)
+used_blocks-joined block [] = refl
+used_blocks-joined block (next ∷ rest) = joined_by block next rest (block.used || next.used) refl
+
+-- merging free blocks changes no used one
+pub used_blocks-merged : (blocks : List Block) → used_blocks (merged blocks) ≡ used_blocks blocks
+used_blocks-merged [] = refl
+used_blocks-merged (block ∷ blocks) =
+    used_blocks-joined block (merged blocks) ∙ ap (λ bs. cond block.used (block ∷ bs) bs) (used_blocks-merged blocks)
+
+pub used_blocks-given : (old new : List Block) (place : ℕ) → (given : IsGiven old new place) → AddsBlock (used_blocks new) (used_blocks old) (used_block place given.size)
+used_blocks-given old new place given =
+    record {
+      before = used_blocks given.before;
+      after = used_blocks given.after;
+      was =
+          ap used_blocks given.now
+          ∙ used_blocks-merged (given.before ++ free_block place given.size ∷ given.after)
+          ∙ used_blocks-append given.before (free_block place given.size ∷ given.after);
+      now = ap used_blocks given.was ∙ used_blocks-append given.before (used_block place given.size ∷ given.after);
+    }
+
+-- each block lies between the places where the blocks begin and end
+all_within : (from end : ℕ) (blocks : List Block) → Fills from blocks end → All (λ block. (from ≤ block.place) × (block.place + block.size ≤ end)) blocks
+all_within from end [] h = All-nil (λ (block : Block). (from ≤ block.place) × (block.place + block.size ≤ end))
+all_within from end (block ∷ blocks) h =
+    let total = words_of-fills (from + block.size) end blocks h.2 in
+    let here = h.0 in
+    All-cons (λ (b : Block). (from ≤ b.place) × (b.place + b.size ≤ end)) block blocks (omega arith, omega arith)
+    (All-weaker (λ (b : Block). (from + block.size ≤ b.place) × (b.place + b.size ≤ end)) (λ b. (from ≤ b.place) × (b.place + b.size ≤ end))
+    (λ b p. (let lower = p.0 in omega arith, p.1)) blocks (all_within (from + block.size) end blocks h.2))
+
+-- each used block lies in the heap
+pub used_within : (words : ℕ) (blocks : List Block) → IsBlockList words blocks → All (λ block. block.place + block.size ≤ words) (used_blocks blocks)
+used_within words blocks list =
+    All-filter (λ (b : Block). b.used) (λ b. b.place + b.size ≤ words) blocks
+    (All-weaker (λ (b : Block). (0 ≤ b.place) × (b.place + b.size ≤ words)) (λ b. b.place + b.size ≤ words) (λ b p. p.1) blocks (all_within 0 words blocks list.fills))
+
+abbrev EndsBefore : Block → Block → Type 0
+EndsBefore one other = one.place + one.size ≤ other.place
+
+apart_by : (from end : ℕ) (block : Block) (blocks : List Block) (u : Bool) → block.used ≡ u → Fills from (block ∷ blocks) end → AllPairs EndsBefore (used_blocks blocks) → AllPairs EndsBefore (used_blocks (block ∷ blocks))
+apart_by from end block blocks true used h rest =
+    let here = h.0 in
+    subst (AllPairs EndsBefore) (sym (used_more block blocks used))
+    (AllPairs-cons EndsBefore block (used_blocks blocks)
+    (All-filter (λ (b : Block). b.used) (EndsBefore block) blocks
+    (All-weaker (λ (b : Block). (from + block.size ≤ b.place) × (b.place + b.size ≤ end)) (EndsBefore block) (λ b p. let lower = p.0 in omega arith) blocks
+    (all_within (from + block.size) end blocks h.2)))
+    rest)
+apart_by from end block blocks false free h rest = subst (AllPairs EndsBefore) (sym (used_same block blocks free)) rest
+
+apart : (from end : ℕ) (blocks : List Block) → Fills from blocks end → AllPairs EndsBefore (used_blocks blocks)
+apart from end [] h = λ i j d less within. absurd (omega arith)
+apart from end (block ∷ blocks) h = apart_by from end block blocks block.used refl h (apart (from + block.size) end blocks h.2)
+
+-- each used block ends before the next one begins
+pub used_apart : (words : ℕ) (blocks : List Block) → IsBlockList words blocks → AllPairs (λ one other. one.place + one.size ≤ other.place) (used_blocks blocks)
+used_apart words blocks list = apart 0 words blocks list.fills
+
+-- a taken block lies in the heap
+pub taken_within : (words : ℕ) (old new : List Block) (place need : ℕ) → IsBlockList words old → IsTaken old new place need → place + need ≤ words
+taken_within words old new place need list taken =
+    let inside = place_within words taken.before taken.after (free_block place taken.size) (subst (λ bs. Fills 0 bs words) taken.was list.fills) in
+    let enough = taken.enough in
+    omega arith
+
+-- a taken block lies apart from all that were used before
+pub taken_apart : (words : ℕ) (old new : List Block) (place need : ℕ) → IsBlockList words old → IsTaken old new place need
+    → All (λ block. (place + need ≤ block.place) ⊎ (block.place + block.size ≤ place)) (used_blocks old)
+unfolding used_blocks-taken
+taken_apart words old new place need list taken =
+    let fills = subst (λ bs. Fills 0 bs words) taken.was list.fills in
+    let front = front_fills 0 words taken.before (free_block place taken.size ∷ taken.after) fills in
+    let back = back_fills 0 words taken.before (free_block place taken.size ∷ taken.after) fills in
+    let here = back.0 in
+    let enough = taken.enough in
+    let Apart : Block → Type 0 = λ b. (place + need ≤ b.place) ⊎ (b.place + b.size ≤ place) in
+    let lower = All-weaker (λ (b : Block). (0 ≤ b.place) × (b.place + b.size ≤ 0 + words_of taken.before)) Apart (λ b p. inr (let upper = p.1 in omega arith)) taken.before
+    (all_within 0 (0 + words_of taken.before) taken.before front) in
+    let upper = All-weaker (λ (b : Block). ((0 + words_of taken.before) + taken.size ≤ b.place) × (b.place + b.size ≤ words)) Apart (λ b p. inl (let above = p.0 in omega arith)) taken.after
+    (all_within ((0 + words_of taken.before) + taken.size) words taken.after back.2) in
+    subst (λ (bs : List Block). All Apart bs) (sym ((used_blocks-taken old new place need taken).was))
+    (All-append Apart (used_blocks taken.before) (used_blocks taken.after)
+    (All-filter (λ (b : Block). b.used) Apart taken.before lower) (All-filter (λ (b : Block). b.used) Apart taken.after upper))
+
+contains_here : (block : Block) (blocks : List Block) → Contains (block ∷ blocks) block
+contains_here block blocks = (0, (omega arith), refl)
+
+contains_later : (block x : Block) (blocks : List Block) → Contains blocks x → Contains (block ∷ blocks) x
+contains_later block x blocks h = (suc h.0, (let lt = h.1 in omega arith), h.2)
+
+contains_cases_by : (block x : Block) (blocks : List Block) (k : ℕ) → k < length (block ∷ blocks) → get_or (block ∷ blocks) k x ≡ x → (block ≡ x) ⊎ Contains blocks x
+contains_cases_by block x blocks zero lt is = inl is
+contains_cases_by block x blocks (suc k) lt is = inr (k, (omega arith), is)
+
+contains_cases : (block x : Block) (blocks : List Block) → Contains (block ∷ blocks) x → (block ≡ x) ⊎ Contains blocks x
+contains_cases block x blocks h = contains_cases_by block x blocks h.0 h.1 h.2
+
+contains_added : (block : Block) (before after : List Block) → Contains (before ++ block ∷ after) block
+contains_added block [] after = contains_here block after
+contains_added block (b ∷ before) after = contains_later b block (before ++ block ∷ after) (contains_added block before after)
+
+contains_kept : (block x : Block) (before after : List Block) → Contains (before ++ after) x → Contains (before ++ block ∷ after) x
+contains_kept block x [] after h = contains_later block x after h
+contains_kept block x (b ∷ before) after h =
+    elim (contains_cases b x (before ++ after) h) [ inl e ↦ subst (Contains (b ∷ (before ++ block ∷ after))) e (contains_here b (before ++ block ∷ after)) | inr rest ↦ contains_later b x (before ++ block ∷ after) (contains_kept block x before after rest) ]
+
+contains_other : (block x : Block) (before after : List Block) → (block ≡ x → ⊥) → Contains (before ++ block ∷ after) x → Contains (before ++ after) x
+contains_other block x [] after another h = elim (contains_cases block x after h) [ inl e ↦ absurd (another e) | inr rest ↦ rest ]
+contains_other block x (b ∷ before) after another h =
+    elim (contains_cases b x (before ++ block ∷ after) h) [ inl e ↦ subst (Contains (b ∷ (before ++ after))) e (contains_here b (before ++ after)) | inr rest ↦ contains_later b x (before ++ after) (contains_other block x before after another rest) ]
+
+-- a used block begins at a place that was taken
+pub has_used_taken : (old new : List Block) (place need : ℕ) → IsTaken old new place need → HasUsed new place
+has_used_taken old new place need taken =
+    let adds = used_blocks-taken old new place need taken in
+    record {
+      size = need;
+      among = subst (λ (bs : List Block). Contains bs (used_block place need)) (sym adds.now) (contains_added (used_block place need) adds.before adds.after);
+    }
+
+-- and at each place where one did
+pub has_used_still : (old new : List Block) (place need other : ℕ) → IsTaken old new place need → HasUsed old other → HasUsed new other
+has_used_still old new place need other taken has =
+    let adds = used_blocks-taken old new place need taken in
+    let block = used_block other has.size in
+    record {
+      size = has.size;
+      among =
+          subst (λ (bs : List Block). Contains bs block) (sym adds.now)
+          (contains_kept (used_block place need) block adds.before adds.after (subst (λ (bs : List Block). Contains bs block) adds.was has.among));
+    }
+
+-- a used block still begins at each place but the one that was given back
+pub has_used_given : (old new : List Block) (place other : ℕ) → IsGiven old new place → (place ≡ other → ⊥) → HasUsed old other → HasUsed new other
+has_used_given old new place other given another has =
+    let adds = used_blocks-given old new place given in
+    let block = used_block other has.size in
+    record {
+      size = has.size;
+      among =
+          subst (λ (bs : List Block). Contains bs block) (sym adds.was)
+          (contains_other (used_block place given.size) block adds.before adds.after (λ e. another (ap (λ (b : Block). b.place) e))
+          (subst (λ (bs : List Block). Contains bs block) adds.now has.among));
+    }
