@@ -25,7 +25,7 @@ use Rattle.epoch_core.specs.Events.{WhenMarked, MayPutWord, after, CanPlay, play
 use Rattle.epoch_core.specs.Kept.{Kept}
 use Rattle.epoch_core.proofs.EventWords.{item_puts_other}
 use Rattle.epoch_core.proofs.Log.{not_below}
-use Rattle.epoch_core.proofs.Puts.{MayPutWords, may_put_still, can_put}
+use Rattle.epoch_core.proofs.Puts.{MayPutWords, may_put_still, can_put, plays-append}
 use Rattle.circular_log.specs.LogWrite.{IsKeptAt, MayRewrite, with_item}
 use Rattle.circular_log.proofs.MarkedPut.{may_rewrite}
 
@@ -39,12 +39,6 @@ there_already o p (x ∷ xs) same =
     ∙ ap (λ (z : List ℕ). record o { words = z }) (set-get_or o.words (item_at o.shape p) 0) in
     ap (plays (puts_from (p + 1) xs)) stays
     ∙ there_already o (p + 1) xs (λ i l. ap (item_in o) (omega arith) ∙ same (suc i) (omega arith))
-
-plays-append : (o : OwnerState) (p : ℕ) (xs ys : List ℕ) → plays (puts_from p (xs ++ ys)) o ≡ plays (puts_from (p + length xs) ys) (plays (puts_from p xs) o)
-plays-append o p [] ys = ap (λ (z : ℕ). plays (puts_from z ys) o) (omega arith)
-plays-append o p (x ∷ xs) ys =
-    plays-append (after (PutsWord p x) o) (p + 1) xs ys
-    ∙ ap (λ (z : ℕ). plays (puts_from z ys) (plays (puts_from p (x ∷ xs)) o)) (omega arith)
 
 -- `o` is the state once its header was loaded, which left it as it was.
 module _ (o : OwnerState) (s : Kept o) (old : OwnerState) (same : o ≡ old) (key value : List ℕ) (key_fits : KeyFits key) (value_fits : ValueFits value)

@@ -3,15 +3,14 @@ use Rattle.std.proofs.Common.{◌≡◌, ℕ, zero, suc, ◌+◌, ◌-◌, ◌*�
 use Rattle.std.proofs.lemmas.Bool.{cases_lt}
 use Rattle.std.proofs.lemmas.Grind.{common_steps, flat_map-append}
 use Rattle.std.proofs.lemmas.List.{append-nil, get_or_append_left, take-take}
-use Rattle.std.proofs.lemmas.Slice.{take-put_mid}
 use Rattle.std.proofs.Math.Seq.{get_or-append_seam}
 use Rattle.std.specs.Int.{w64, to_le_bytes}
-use borrow.Rule.Slice.PartMut.{put_mid}
 use Rattle.mica_words.specs.Header.{header_of, header_key_len, header_value_len}
 use Rattle.mica_words.specs.Item.{words_for}
 use Rattle.mica_words.specs.Packing.{packed, unpacked}
 use Rattle.mica_words.proofs.Fields.{header_key_len-header_of, header_value_len-header_of}
 use Rattle.mica_words.proofs.ItemWords.{header_word, value_word, same_value}
+use Rattle.mica_words.proofs.PackedBytes.{length-words}
 use Rattle.mica_model.specs.Store.{Cell}
 use Rattle.epoch_core.specs.declared.state.OwnerState.{OwnerState}
 use Rattle.epoch_core.specs.OwnerState.{item_in}
@@ -45,19 +44,14 @@ word_from o p (suc n) k below =
     ]
 
 -- one word more
-pub bytes_more : (o : OwnerState) (p i next : ℕ) (xs bytes : List ℕ) → next ≡ suc i → take (8 * i) xs ≡ bytes_from o p i → 8 * i ≤ length xs
-    → bytes ≡ to_le_bytes w64 (item_in o (p + i)) → take (8 * next) (put_mid (8 * i) (8 * i + 8 - 8 * i) xs bytes) ≡ bytes_from o p next
-bytes_more o p i next xs bytes more so_far room is =
-    let eight : length bytes ≡ 8 = ap length is in
-    take-put_mid (8 * i) (8 * i + 8 - 8 * i) xs bytes (8 * next) (omega arith) room
-    ∙ (ap (λ (z : List ℕ). z ++ bytes) so_far
-    ∙ (ap (λ (z : List ℕ). bytes_from o p i ++ z) (is ∙ sym (append-nil (to_le_bytes w64 (item_in o (p + i)))))
-    ∙ (sym (flat_map-append (to_le_bytes w64) (words_from o p i) (item_in o (p + i) ∷ [])) ∙ ap (bytes_from o p) (sym more))))
+pub bytes_more : (o : OwnerState) (p i next : ℕ) → next ≡ suc i → (bytes : List ℕ) → bytes ≡ bytes_from o p i → bytes ++ to_le_bytes w64 (item_in o (p + i)) ≡ bytes_from o p next
+bytes_more o p i next more bytes so_far =
+    ap (λ (z : List ℕ). z ++ to_le_bytes w64 (item_in o (p + i))) so_far
+    ∙ (ap (λ (z : List ℕ). bytes_from o p i ++ z) (sym (append-nil (to_le_bytes w64 (item_in o (p + i)))))
+    ∙ (sym (flat_map-append (to_le_bytes w64) (words_from o p i) (item_in o (p + i) ∷ [])) ∙ ap (bytes_from o p) (sym more)))
 
--- a part of 8 bytes leaves the length
-pub length-eight : (i : ℕ) (xs bytes : List ℕ) → 8 * i + 8 ≤ length xs → length bytes ≡ 8
-    → length (put_mid (8 * i) (8 * i + 8 - 8 * i) xs bytes) ≡ length xs
-length-eight i xs bytes room eight = search (rules, common_steps)
+pub length-bytes_from : (o : OwnerState) (p n : ℕ) → length (bytes_from o p n) ≡ 8 * n
+length-bytes_from o p n = length-words (words_from o p n) ∙ ap (λ (z : ℕ). 8 * z) (length-words_from o p n)
 
 module _ (o : OwnerState) (p : ℕ) (key : List ℕ) (cell : Cell) (item : IsItem o p key cell) where
   header_is : item_in o p ≡ header_of cell.room (length key) (length cell.value)
@@ -80,23 +74,18 @@ module _ (o : OwnerState) (p : ℕ) (key : List ℕ) (cell : Cell) (item : IsIte
       let place : p + 2 + words_for (length key) + k ≡ p + (2 + words_for (length key) + k) = omega arith in
       ap (item_in o) place ∙ (item.spelt (2 + words_for (length key) + k) (omega arith) ∙ value_word cell.room key cell.value k below)
 
-  value_by : (at : ℕ) (xs : List ℕ) → at ≡ p + 2 + words_for (length key)
-      → take (8 * words_for (length cell.value)) xs ≡ bytes_from o at (words_for (length cell.value)) → take (length cell.value) xs ≡ cell.value
+  value_by : (at : ℕ) → at ≡ p + 2 + words_for (length key) → take (length cell.value) (bytes_from o at (words_for (length cell.value))) ≡ cell.value
   unfolding unpacked
-  value_by at xs place bytes =
-      let n : ℕ = words_for (length cell.value) in
+  value_by at place =
       let long : length (words_from o at (words_for (length cell.value))) ≡ words_for (length cell.value) =
       length-words_from o at (words_for (length cell.value)) in
-      sym (take-take (length cell.value) (8 * words_for (length cell.value)) xs (omega arith))
-      ∙ (ap (take (length cell.value)) bytes
-      ∙ same_value cell.value (words_from o at (words_for (length cell.value))) item.value_bytes long
+      same_value cell.value (words_from o at (words_for (length cell.value))) item.value_bytes long
       (λ k below.
       word_from o at (words_for (length cell.value)) k (omega arith)
-      ∙ (ap (λ (z : ℕ). item_in o (z + k)) place ∙ value_word_is k (omega arith))))
+      ∙ (ap (λ (z : ℕ). item_in o (z + k)) place ∙ value_word_is k (omega arith)))
 
   -- the bytes of all the value's words, in the state where they were loaded, begin with the value
-  pub value_is : (now : OwnerState) (at n len : ℕ) (xs : List ℕ) → now ≡ o → at ≡ p + 2 + words_for (length key) → n ≡ words_for (length cell.value)
-      → len ≡ length cell.value → take (8 * n) xs ≡ bytes_from now at n → take len xs ≡ cell.value
-  value_is now at n len xs same place words bytes_are bytes =
-      ap (λ (z : ℕ). take z xs) bytes_are
-      ∙ value_by at xs place (ap (λ (z : ℕ). take (8 * z) xs) (sym words) ∙ (bytes ∙ (λ j. bytes_from (same j) at (words j))))
+  pub value_is : (now : OwnerState) (at n len : ℕ) (bytes : List ℕ) → now ≡ o → at ≡ p + 2 + words_for (length key) → n ≡ words_for (length cell.value)
+      → len ≡ length cell.value → bytes ≡ bytes_from now at n → take len bytes ≡ cell.value
+  value_is now at n len bytes same place words long is =
+      (λ j. take (long j) (is j)) ∙ ((λ j. take (length cell.value) (bytes_from (same j) at (words j))) ∙ value_by at place)

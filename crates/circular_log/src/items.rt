@@ -6,13 +6,9 @@ ghost use Rattle.epoch_core.specs.Kept.{Kept};
 ghost use Rattle.circular_log.specs.LogItem.{HasItem, IsValueAt, room_at};
 ghost use Rattle.circular_log.specs.LogWrite.{MayAppend, MayRewrite, with_item};
 
-use epoch_core::{OwnerWords, WordAt, write_item};
+use epoch_core::{OwnerWords, WordAt, put_packed, write_item};
 use mica_model::ItemBuf;
-use mica_words::{
-    MAX_VALUE_LEN, header_key_len, header_of, header_room, header_value_len, item_size, pack,
-};
-
-const MAX_VALUE_WORDS: usize = (MAX_VALUE_LEN + 7) / 8;
+use mica_words::{header_key_len, header_of, header_room, header_value_len, item_size};
 
 /// Writes the marked put's item at the offset, the tail before it, in a room of its own size.
 pub fn append<W: OwnerWords>(words: &mut W, offset: u64, key: &[u8], value: &[u8])
@@ -42,29 +38,11 @@ pub fn rewrite<W: OwnerWords>(words: &mut W, offset: u64, key: &[u8], value: &[u
     ensures kept { Kept (W.owner words.new) }
 {
     let room = header_room(words.read(WordAt::Item(offset)));
-    let mut packed = [0; MAX_VALUE_WORDS];
-    let packed = &mut packed[..value.len().div_ceil(8)];
-    pack(value, packed);
     words.put_word(
         offset,
         header_of(room, key.len() as u32, value.len() as u32),
     );
-    put_words(words, offset + u64::from(item_size(key.len(), 0)), packed);
-}
-
-// Stores the words from the offset on.
-fn put_words<W: OwnerWords>(words: &mut W, offset: u64, from: &[u64])
-    requires low { offset + length from.now < 2 ^ 64 }
-    requires kept { Kept (W.owner words.old) }
-    requires allowed { CanPlay (puts_from offset from.now) (W.owner words.old) }
-    ensures events { W.owner words.new
-        ≡ plays (puts_from offset from.entry.now) (W.owner words.old) }
-    ensures home { W.home words.new ≡ W.home words.old }
-    ensures kept { Kept (W.owner words.new) }
-{
-    for (i, word) in from.iter().enumerate() {
-        words.put_word(offset + i as u64, *word);
-    }
+    put_packed(words, offset + u64::from(item_size(key.len(), 0)), value);
 }
 
 /// Copies the value of the item that stands at the offset.
@@ -79,10 +57,9 @@ pub fn item_at<W: OwnerWords>(words: &mut W, offset: u64, out: &mut ItemBuf)
     let header = words.read(WordAt::Item(offset));
     let len = header_value_len(header) as usize;
     let value_at = offset + 2 + u64::from(header_key_len(header).div_ceil(8));
-    let mut value = [0; MAX_VALUE_LEN];
+    out.clear();
     for i in 0..len.div_ceil(8) {
-        let word = words.read(WordAt::Item(value_at + i as u64));
-        value[8 * i..8 * i + 8].copy_from_slice(&word.to_le_bytes());
+        out.push_word(words.read(WordAt::Item(value_at + i as u64)));
     }
-    out.set(&value[..len]);
+    out.truncate(len);
 }

@@ -1,6 +1,7 @@
 -- Item words put one after another: when each may be put, and what they make of the state.
-use Rattle.std.proofs.Common.{◌≡◌, ℕ, zero, suc, ◌+◌, ◌<◌, ◌≤◌, ◌≢◌, List, [], ◌∷◌, length, get_or, add-zero, refl, sym, ap, ◌∙◌, subst, arith, length-set, get_or-set_other, get_or-set_same}
+use Rattle.std.proofs.Common.{◌≡◌, ℕ, zero, suc, ◌+◌, ◌<◌, ◌≤◌, ◌≢◌, List, [], ◌∷◌, ◌++◌, length, drop, get_or, add-zero, refl, sym, ap, ◌∙◌, subst, arith, length-set, get_or-set_other, get_or-set_same}
 use Rattle.std.proofs.Math.Nat.{mod-lt}
+use Rattle.std.proofs.Math.Seq.{drop-cons}
 use Rattle.mica_model.specs.declared.options.Mode.TheVariants.{Cache}
 use Rattle.mica_model.specs.declared.write.Write.{Write}
 use Rattle.mica_model.specs.History.{State, cache_state, store_state, state_of}
@@ -65,6 +66,48 @@ can_put o s p (x ∷ xs) may =
       can_put (after (PutsWord p x) o) (kept_after o s (PutsWord p x) first) (p + 1) xs
           (λ i l. may_put_still o s p x first (p + 1 + i) (subst (MayPutWord o) (omega arith) (may (suc i) (omega arith)))),
     )
+
+-- words in two parts
+
+pub plays-append : (o : OwnerState) (p : ℕ) (xs ys : List ℕ) → plays (puts_from p (xs ++ ys)) o ≡ plays (puts_from (p + length xs) ys) (plays (puts_from p xs) o)
+plays-append o p [] ys = ap (λ (z : ℕ). plays (puts_from z ys) o) (omega arith)
+plays-append o p (x ∷ xs) ys =
+    plays-append (after (PutsWord p x) o) (p + 1) xs ys
+    ∙ ap (λ (z : ℕ). plays (puts_from z ys) (plays (puts_from p (x ∷ xs)) o)) (omega arith)
+
+pub can_play-append : (o : OwnerState) (p : ℕ) (xs ys : List ℕ) → CanPlay (puts_from p (xs ++ ys)) o
+    → CanPlay (puts_from p xs) o × CanPlay (puts_from (p + length xs) ys) (plays (puts_from p xs) o)
+can_play-append o p [] ys can = (tt, subst (λ (z : ℕ). CanPlay (puts_from z ys) o) (omega arith) can)
+can_play-append o p (x ∷ xs) ys can =
+    let rest = can_play-append (after (PutsWord p x) o) (p + 1) xs ys can.1 in (
+      (can.0, rest.0),
+      subst (λ (z : ℕ). CanPlay (puts_from z ys) (plays (puts_from p (x ∷ xs)) o)) (omega arith) rest.1,
+    )
+
+-- one of several words, and those behind it
+module _ (o : OwnerState) (p i : ℕ) (xs : List ℕ) (word : ℕ) (below : i < length xs) (is : word ≡ get_or xs i 0) where
+  next_at : p + i + 1 ≡ p + (i + 1)
+  next_at = omega arith
+
+  more : suc i ≡ i + 1
+  more = omega arith
+
+  pub can_play_at : CanPlay (puts_from (p + i) (drop i xs)) o → MayPutWord o (p + i) × CanPlay (puts_from (p + (i + 1)) (drop (i + 1) xs)) (after (PutsWord (p + i) word) o)
+  can_play_at can =
+      let both : MayPutWord o (p + i) × CanPlay (puts_from (p + i + 1) (drop (suc i) xs)) (after (PutsWord (p + i) (get_or xs i 0)) o) =
+      subst (λ (zs : List ℕ). CanPlay (puts_from (p + i) zs) o) (drop-cons xs i 0 below) can in (
+        both.0,
+        subst (λ (z : ℕ). CanPlay (puts_from (p + (i + 1)) (drop (i + 1) xs)) (after (PutsWord (p + i) z) o)) (sym is)
+            (subst (λ (n : ℕ). CanPlay (puts_from (p + (i + 1)) (drop n xs)) (after (PutsWord (p + i) (get_or xs i 0)) o)) more
+            (subst (λ (z : ℕ). CanPlay (puts_from z (drop (suc i) xs)) (after (PutsWord (p + i) (get_or xs i 0)) o)) next_at both.1)),
+      )
+
+  pub plays_at : plays (puts_from (p + (i + 1)) (drop (i + 1) xs)) (after (PutsWord (p + i) word) o) ≡ plays (puts_from (p + i) (drop i xs)) o
+  plays_at =
+      ap (λ (z : ℕ). plays (puts_from (p + (i + 1)) (drop (i + 1) xs)) (after (PutsWord (p + i) z) o)) is
+      ∙ (ap (λ (n : ℕ). plays (puts_from (p + (i + 1)) (drop n xs)) (after (PutsWord (p + i) (get_or xs i 0)) o)) (sym more)
+      ∙ ap (λ (z : ℕ). plays (puts_from z (drop (suc i) xs)) (after (PutsWord (p + i) (get_or xs i 0)) o)) (sym next_at)
+      ∙ ap (λ (zs : List ℕ). plays (puts_from (p + i) zs) o) (sym (drop-cons xs i 0 below)))
 
 -- in cache mode whatever the words are
 module _ (o : OwnerState) (mode : o.shape.mode ≡ Cache) where

@@ -13,3 +13,9 @@ pub record HasKey (o : OwnerState) (p : ℕ) (key : List ℕ) : Type 0 where
   pub hash : item_in o (p + 1) ≡ fnv1a key
   pub words : (i : ℕ) → i < words_for (length key)
       → item_in o (p + 2 + i) ≡ slice_index (packed key) i
+
+-- its hash and its words, whatever its length in the header
+pub record HasKeyWords (o : OwnerState) (p : ℕ) (key : List ℕ) : Type 0 where
+  pub hash : item_in o (p + 1) ≡ fnv1a key
+  pub words : (i : ℕ) → i < words_for (length key)
+      → item_in o (p + 2 + i) ≡ slice_index (packed key) i

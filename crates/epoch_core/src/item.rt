@@ -1,26 +1,33 @@
 //! Items in the words of a partition.
-ghost use Rattle.std.specs.Prelude.{◌≡◌, ℕ, ◌+◌, ◌<◌, ◌≤◌, ◌^◌, ◌↔◌, IsTrue, length, slice_index};
-ghost use Rattle.mica_words.specs.Item.{KeyFits, ValueFits, item_size as item_size_of};
-ghost use Rattle.mica_words.specs.Spelling.{item_words};
+ghost use Rattle.std.specs.Prelude.{◌≡◌, ℕ, ◌+◌, ◌<◌, ◌^◌, ◌↔◌, IsTrue, length, slice_index};
+ghost use Rattle.mica_words.specs.Hash.{fnv1a};
+ghost use Rattle.mica_words.specs.Item.{KeyFits, ValueFits, words_for};
+ghost use Rattle.mica_words.specs.Packing.{packed};
 ghost use Rattle.epoch_core.specs.OwnerState.{item_in};
 ghost use Rattle.epoch_core.specs.Events.{CanPlay, plays, puts_from, item_events};
-ghost use Rattle.epoch_core.specs.ItemAt.{HasKey};
+ghost use Rattle.epoch_core.specs.ItemAt.{HasKey, HasKeyWords};
 ghost use Rattle.epoch_core.specs.Kept.{Kept};
 
 use crate::shape::WordAt;
 use crate::words::OwnerWords;
-use mica_words::{
-    MAX_KEY_LEN, MAX_VALUE_LEN, header_key_len, header_of, item_size, key_hash, pack,
-};
+use mica_words::{header_key_len, header_of, item_size, key_hash, packed_word};
 
-const MAX_KEY_WORDS: usize = (MAX_KEY_LEN + 7) / 8;
-
-const MAX_ITEM_WORDS: usize = 2 + MAX_KEY_WORDS + (MAX_VALUE_LEN + 7) / 8;
-
-/// Whether the words at the offset have the key's length, its words and its hash.
+/// Whether the words at the offset have the key's length, its hash and its words.
 pub fn holds_key<W: OwnerWords>(words: &mut W, offset: u64, key: &[u8]) -> bool
     requires offset { offset < 2 ^ 48 }
     requires key { KeyFits key.now }
+    ensures holds { IsTrue result ↔ HasKey (W.owner words.old) offset key.entry.now }
+    ensures same { W.owner words.new ≡ W.owner words.old }
+    ensures home { W.home words.new ≡ W.home words.old }
+{
+    holds_key_hashed(words, offset, key, key_hash(key))
+}
+
+/// `holds_key` where the key's hash is at hand.
+pub fn holds_key_hashed<W: OwnerWords>(words: &mut W, offset: u64, key: &[u8], hash: u64) -> bool
+    requires offset { offset < 2 ^ 48 }
+    requires key { KeyFits key.now }
+    requires hashed { hash ≡ fnv1a key.now }
     ensures holds { IsTrue result ↔ HasKey (W.owner words.old) offset key.entry.now }
     ensures same { W.owner words.new ≡ W.owner words.old }
     ensures home { W.home words.new ≡ W.home words.old }
@@ -29,22 +36,19 @@ pub fn holds_key<W: OwnerWords>(words: &mut W, offset: u64, key: &[u8]) -> bool
     if header_key_len(header) as usize != key.len() {
         return false;
     }
-    let mut packed = [0; MAX_KEY_WORDS];
-    let packed = &mut packed[..key.len().div_ceil(8)];
-    pack(key, packed);
-    holds_words(words, offset + 2, packed) && words.read(WordAt::Item(offset + 1)) == key_hash(key)
+    words.read(WordAt::Item(offset + 1)) == hash && holds_packed(words, offset + 2, key)
 }
 
-// Whether the words from the offset on are these.
-fn holds_words<W: OwnerWords>(words: &mut W, offset: u64, expected: &[u64]) -> bool
-    requires { offset + length expected.now < 2 ^ 64 }
-    ensures holds { IsTrue result ↔ ((i : ℕ) → i < length expected.entry.now
-        → item_in (W.owner words.old) (offset + i) ≡ slice_index expected.entry.now i) }
+// Whether the words from the offset on are those that the bytes are packed into.
+fn holds_packed<W: OwnerWords>(words: &mut W, offset: u64, bytes: &[u8]) -> bool
+    requires { offset + words_for (length bytes.now) < 2 ^ 64 }
+    ensures holds { IsTrue result ↔ ((i : ℕ) → i < words_for (length bytes.entry.now)
+        → item_in (W.owner words.old) (offset + i) ≡ slice_index (packed bytes.entry.now) i) }
     ensures same { W.owner words.new ≡ W.owner words.old }
     ensures home { W.home words.new ≡ W.home words.old }
 {
-    for (i, word) in expected.iter().enumerate() {
-        if words.read(WordAt::Item(offset + i as u64)) != *word {
+    for i in 0..bytes.len().div_ceil(8) {
+        if words.read(WordAt::Item(offset + i as u64)) != packed_word(bytes, i) {
             return false;
         }
     }
@@ -62,38 +66,72 @@ pub fn write_item<W: OwnerWords>(words: &mut W, offset: u64, room: u32, key: &[u
     ensures kept { Kept (W.owner words.new) }
     ensures home { W.home words.new ≡ W.home words.old }
 {
-    let size = item_size(key.len(), value.len()) as usize;
-    let mut item = [0; MAX_ITEM_WORDS];
-    let item = &mut item[..size];
-    spell_item(room, key, value, item);
-    put_words(words, offset, item);
+    write_item_hashed(words, offset, room, key, key_hash(key), value);
 }
 
-fn spell_item(room: u32, key: &[u8], value: &[u8], into: &mut [u64])
+/// `write_item` where the key's hash is at hand.
+pub fn write_item_hashed<W: OwnerWords>(
+    words: &mut W,
+    offset: u64,
+    room: u32,
+    key: &[u8],
+    hash: u64,
+    value: &[u8],
+)
     requires key { KeyFits key.now }
+    requires hashed { hash ≡ fnv1a key.now }
     requires value { ValueFits value.now }
     requires room { room < 65536 }
-    requires size { length into.old ≡ item_size_of key.now value.now }
-    ensures { into.new ≡ item_words room key.now value.now }
-{
-    let value_at = 2 + key.len().div_ceil(8);
-    into[0] = header_of(room, key.len() as u32, value.len() as u32);
-    into[1] = key_hash(key);
-    pack(key, &mut into[2..value_at]);
-    pack(value, &mut into[value_at..]);
-}
-
-// Stores the words from the offset on.
-fn put_words<W: OwnerWords>(words: &mut W, offset: u64, from: &[u64])
-    requires some { 0 < length from.now }
-    requires room { offset + length from.now < 2 ^ 64 }
-    requires allowed { CanPlay (puts_from offset from.now) (W.owner words.old) }
+    requires allowed { CanPlay (item_events offset room key.now value.now) (W.owner words.old) }
     ensures events { W.owner words.new
-        ≡ plays (puts_from offset from.entry.now) (W.owner words.old) }
+        ≡ plays (item_events offset room key.entry.now value.entry.now) (W.owner words.old) }
     ensures kept { Kept (W.owner words.new) }
     ensures home { W.home words.new ≡ W.home words.old }
 {
-    for (i, word) in from.iter().enumerate() {
-        words.put_word(offset + i as u64, *word);
+    words.put_word(
+        offset,
+        header_of(room, key.len() as u32, value.len() as u32),
+    );
+    words.put_word(offset + 1, hash);
+    put_packed(words, offset + 2, key);
+    put_packed(words, offset + u64::from(item_size(key.len(), 0)), value);
+}
+
+/// Stores the header and the value of an item whose hash and key are there: they are not stored again.
+pub fn rewrite_item<W: OwnerWords>(
+    words: &mut W,
+    offset: u64,
+    room: u32,
+    key: &[u8],
+    value: &[u8],
+)
+    requires kept { Kept (W.owner words.old) }
+    requires key { KeyFits key.now }
+    requires value { ValueFits value.now }
+    requires room { room < 65536 }
+    requires there { HasKeyWords (W.owner words.old) offset key.now }
+    requires allowed { CanPlay (item_events offset room key.now value.now) (W.owner words.old) }
+    ensures events { W.owner words.new
+        ≡ plays (item_events offset room key.entry.now value.entry.now) (W.owner words.old) }
+    ensures kept { Kept (W.owner words.new) }
+    ensures home { W.home words.new ≡ W.home words.old }
+{
+    let header = header_of(room, key.len() as u32, value.len() as u32);
+    words.put_word(offset, header);
+    put_packed(words, offset + u64::from(item_size(key.len(), 0)), value);
+}
+
+// Stores the words that the bytes are packed into, from the offset on.
+fn put_packed<W: OwnerWords>(words: &mut W, offset: u64, bytes: &[u8])
+    requires low { offset + words_for (length bytes.now) < 2 ^ 64 }
+    requires kept { Kept (W.owner words.old) }
+    requires allowed { CanPlay (puts_from offset (packed bytes.now)) (W.owner words.old) }
+    ensures events { W.owner words.new
+        ≡ plays (puts_from offset (packed bytes.entry.now)) (W.owner words.old) }
+    ensures kept { Kept (W.owner words.new) }
+    ensures home { W.home words.new ≡ W.home words.old }
+{
+    for i in 0..bytes.len().div_ceil(8) {
+        words.put_word(offset + i as u64, packed_word(bytes, i));
     }
 }

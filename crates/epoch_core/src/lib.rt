@@ -1,9 +1,10 @@
-//! The core: the words of one partition, what its owner knows of them, and the traits whose methods are
-//! the events that change them.
+//! The core: the words of one partition, what its owner and its readers know of them, and the traits whose methods
+//! are the owner's events and the readers' loads.
 //!
-//! The layer above may rely on this: an event that may happen (`MayBegin` to `MayEnd`) makes of the
-//! owner's state what `after` says, and whatever happened, `Kept` holds of it: in each bucket with no
-//! marked write the words stand for the machine's state.
+//! The layer above may rely on this: an event that may happen (`MayBegin` to `MayEnd`) makes of the owner's state
+//! what `after` says, and whatever happened, `Kept` holds of it: in each bucket with no marked write the words stand
+//! for the machine's state. A load makes of a reader's state what `loaded` and its like say, and whatever was loaded,
+//! `ReaderKept` holds of it and the owner it fits: what a closed try spells is the machine's answer at its stamp.
 #![tactic(auto)]
 
 mod event;
@@ -20,7 +21,7 @@ mod state;
 mod words;
 
 pub use event::{Event, OwnerEvent};
-pub use item::{holds_key, write_item};
+pub use item::{holds_key, holds_key_hashed, rewrite_item, write_item, write_item_hashed};
 pub use lend_partition::LendPartition;
 pub use lending::LendWords;
 pub use partition::Partition;

@@ -5,7 +5,7 @@ use Rattle.std.proofs.lemmas.Grind.{same_number_lists, flat_map-append}
 use Rattle.std.proofs.lemmas.List.{append-nil, drop-drop, get_or-drop, length-take, length-take-le, take-append-drop, take-append-le, take_all}
 use Rattle.std.proofs.lemmas.List.Concat.{flat_map-cons}
 use Rattle.std.proofs.Math.Nat.{div-div-eq-div-mul, pow-succ'}
-use Rattle.std.proofs.Math.Seq.{take-append-add, take-append_seam}
+use Rattle.std.proofs.Math.Seq.{take-append-add, take-append_seam, take-length}
 use Rattle.std.specs.Int.{w64, byte_at, bytes_low_first, to_le_bytes}
 use Rattle.byteorder.specs.Endian.{little_from}
 use Rattle.byteorder.specs.Numbers.{little_from-cons}
@@ -39,6 +39,20 @@ length-packed_words (suc n) bytes = let rest = length-packed_words n (drop 8 byt
 pub length-packed : (bytes : List ℕ) → length (packed bytes) ≡ words_for (length bytes)
 unfolding packed
 length-packed bytes = length-packed_words (words_for (length bytes)) bytes
+
+pub packed_at : (bytes : List ℕ) (k : ℕ) → k < words_for (length bytes) → slice_index (packed bytes) k ≡ little (take 8 (drop (8 * k) bytes))
+unfolding packed
+packed_at bytes k below = packed_word (words_for (length bytes)) k bytes below
+
+-- so a word is read from the bytes at its place, 8 of them or as many as are left
+module _ (bytes rest : List ℕ) (k : ℕ) (below : k < words_for (length bytes)) (is : rest ≡ drop (8 * k) bytes) where
+  pub whole_word : little_from 0 8 rest ≡ slice_index (packed bytes) k
+  whole_word = little_is 8 rest ∙ (ap (λ (z : List ℕ). little (take 8 z)) is ∙ sym (packed_at bytes k below))
+
+  pub last_word : length rest < 8 → little_from 0 (length rest) rest ≡ slice_index (packed bytes) k
+  last_word short =
+      little_is (length rest) rest
+      ∙ (ap little (take-length rest ∙ (sym (take_all 8 rest (omega arith)) ∙ ap (take 8) is)) ∙ sym (packed_at bytes k below))
 
 -- words that hold the bytes in turn are the packed ones
 pub are_packed : (bytes words : List ℕ) → length words ≡ words_for (length bytes)

@@ -1,6 +1,6 @@
 //! Bytes packed into words, the first byte lowest.
 
-ghost use Rattle.std.specs.Prelude.{◌≡◌, ◌≤◌, ◌++◌, length, drop};
+ghost use Rattle.std.specs.Prelude.{◌≡◌, ◌<◌, ◌≤◌, ◌++◌, length, drop, slice_index};
 ghost use Rattle.mica_words.specs.Item.{words_for};
 ghost use Rattle.mica_words.specs.Packing.{packed, unpacked};
 
@@ -17,6 +17,18 @@ pub fn pack(from: &[u8], into: &mut [u64])
     if !rest.is_empty() {
         into[whole] = LittleEndian::read_uint(rest, rest.len());
     }
+}
+
+/// One of the words that the bytes are packed into.
+pub fn packed_word(from: &[u8], at: usize) -> u64
+    requires { at < words_for (length from.now) }
+    ensures { result ≡ slice_index (packed from.now) at }
+{
+    let rest = &from[8 * at..];
+    if rest.len() < 8 {
+        return LittleEndian::read_uint(rest, rest.len());
+    }
+    LittleEndian::read_u64(rest)
 }
 
 /// Unpacks the first `len` bytes of words, and leaves the rest of `into` as it is.

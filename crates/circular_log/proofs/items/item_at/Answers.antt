@@ -1,9 +1,9 @@
-use Rattle.std.proofs.Common.{◌≡◌, ◌+◌, ◌*◌, ◌≤◌, refl, ap, ◌∙◌, arith, length}
+use Rattle.std.proofs.Common.{◌≡◌, ◌+◌, ◌≤◌, ◌++◌, refl, ap, ◌∙◌, arith, length}
 use Rattle.std.specs.Int.{w64, to_le_bytes}
 use Rattle.epoch_core.specs.declared.state.OwnerState.{OwnerState}
 use Rattle.epoch_core.specs.OwnerState.{item_in}
 use Rattle.mica_words.specs.Item.{words_for}
-use Rattle.circular_log.proofs.LoadedValue.{bytes_more, length-eight, key_len_is, value_len_is, value_is}
+use Rattle.circular_log.proofs.LoadedValue.{bytes_more, length-bytes_from, key_len_is, value_len_is, value_is}
 use Rattle.circular_log.proofs.items.item_at.Goals as goal
 
 pub loop-i-init : goal.loop-i-init
@@ -17,26 +17,27 @@ loop-i-init g c =
       home = refl;
       kept = c.read-header.ensures.kept;
       few = omega (arith, c.header_value_len-len.ensures);
-      wide = refl;
-      bytes = refl;
+      bytes = c.clear.ensures;
     }
+
+pub push_word-requires : goal.push_word-requires
+push_word-requires g c =
+    let loop = c.loop-i.invariant in
+    let long = ap length loop.bytes ∙ length-bytes_from _ _ c.loop-i.i in
+    omega (arith, loop.few, long, c.loop-i-test.true, c.div_ceil-i-end.ensures)
 
 pub loop-i-preserved : goal.loop-i-preserved
 loop-i-preserved g c =
     let owner = g.W.OwnerWords.owner in
     let loop = c.loop-i.invariant in
-    let end = c.div_ceil-i-end.ensures in
-    let room : 8 * c.loop-i.i + 8 ≤ length c.loop-i.value = omega (arith, loop.few, loop.wide, c.loop-i-test.true) in
-    let bytes = c.copy_from_slice.ensures.after ∙ c.to_le_bytes.ensures in
     let word = c.read-word.ensures.value ∙ ap (λ (o : OwnerState). item_in o (c.args.offset + 2 + c.from.result + c.loop-i.i)) loop.owner in
     record {
       owner = c.read-word.ensures.same ∙ loop.owner;
       home = c.read-word.ensures.home ∙ loop.home;
       kept = c.read-word.ensures.kept;
       few = loop.few;
-      wide = length-eight c.loop-i.i c.loop-i.value c.copy_from_slice.new.self room (ap length bytes) ∙ loop.wide;
-      bytes = bytes_more (owner c.read-header.new.self) (c.args.offset + 2 + c.from.result) c.loop-i.i (c.loop-i.i + 1) c.loop-i.value c.copy_from_slice.new.self
-          (omega arith) loop.bytes (omega arith) (bytes ∙ ap (to_le_bytes w64) word);
+      bytes = c.push_word.ensures ∙ ap (λ w. c.loop-i.out ++ to_le_bytes w64 w) word
+          ∙ bytes_more (owner c.read-header.new.self) (c.args.offset + 2 + c.from.result) c.loop-i.i (c.loop-i.i + 1) (omega arith) c.loop-i.out loop.bytes;
     }
 
 pub returns-clause-value : goal.returns-clause-value
@@ -50,6 +51,6 @@ returns-clause-value g c key cell item =
     c.header_key_len.ensures ∙ key_len_is (owner c.args.words.now) c.args.offset key cell item c.read-header.result read in
     let words : c.loop-i.i ≡ words_for (length cell.value) = omega (arith, c.loop-i-test.false, c.div_ceil-i-end.ensures) in
     let place : c.args.offset + 2 + c.from.result ≡ c.args.offset + 2 + words_for (length key) = omega (arith, c.from.ensures, c.div_ceil.ensures) in
-    c.set.ensures
+    c.truncate.ensures
     ∙ value_is (owner c.args.words.now) c.args.offset key cell item (owner c.read-header.new.self) (c.args.offset + 2 + c.from.result) c.loop-i.i
-    c.header_value_len-len.result c.loop-i.value c.read-header.ensures.same place words len loop.bytes
+    c.header_value_len-len.result c.loop-i.out c.read-header.ensures.same place words len loop.bytes

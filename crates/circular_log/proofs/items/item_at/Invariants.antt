@@ -1,4 +1,5 @@
-use Rattle.std.proofs.Common.{◌≡◌, ◌*◌, ◌≤◌, length, take}
+use Rattle.std.proofs.Common.{◌≡◌, ◌≤◌}
+use Rattle.mica_words.specs.declared.item.TheConstants.{MAX_VALUE_LEN}
 use Rattle.epoch_core.specs.Kept.{Kept}
 use Rattle.circular_log.proofs.LoadedValue.{bytes_from}
 use Rattle.circular_log.proofs.items.item_at.Given as goal
@@ -8,7 +9,6 @@ invariant-loop-i g l = let o = g.W.OwnerWords.owner l.initial.words in record {
   owner : g.W.OwnerWords.owner l.words ≡ o;
   home : g.W.OwnerWords.home l.words ≡ g.W.OwnerWords.home l.initial.words;
   kept : Kept (g.W.OwnerWords.owner l.words);
-  few : l.len ≤ 1024;
-  wide : length l.value ≡ 1024;
-  bytes : take (8 * l.i) l.value ≡ bytes_from o l.value_at l.i;
+  few : l.len ≤ MAX_VALUE_LEN;
+  bytes : l.out ≡ bytes_from o l.value_at l.i;
 }

@@ -1,7 +1,6 @@
-use Rattle.std.proofs.Common.{◌≡◌, length, ap, ◌∙◌, arith}
+use Rattle.std.proofs.Common.{refl, ap, ◌∙◌, arith}
 use Rattle.mica_words.specs.Header.{header_room}
-use Rattle.mica_words.specs.Item.{words_for}
-use Rattle.mica_words.proofs.PackedBytes.{length-packed}
+use Rattle.mica_words.specs.Packing.{packed}
 use Rattle.circular_log.proofs.InPlace.{may_put_header, low, can_put_rest, rest_stored}
 use Rattle.circular_log.proofs.items.rewrite.Goals as goal
 
@@ -23,10 +22,9 @@ overflow_add-offset g c =
           c.read.ensures.same c.args.key.now c.args.value.now c.requires.key c.requires.value c.args.offset c.requires.marked,
     )
 
-pub put_words-requires-clause-low : goal.put_words-requires-clause-low
-put_words-requires-clause-low g c =
+pub put_packed-requires-clause-low : goal.put_packed-requires-clause-low
+put_packed-requires-clause-low g c =
     let owner = g.W.OwnerWords.owner in
-    let words : length c.pack.new.into ≡ words_for (length c.args.value.now) = ap length c.pack.ensures ∙ length-packed c.args.value.now in
     omega (
       arith,
       c.from.ensures,
@@ -37,18 +35,18 @@ put_words-requires-clause-low g c =
           (owner c.args.words.now) c.read.ensures.same c.args.key.now c.args.value.now c.requires.key c.requires.value c.args.offset c.requires.marked,
     )
 
-pub put_words-requires-clause-allowed : goal.put_words-requires-clause-allowed
-put_words-requires-clause-allowed g c =
+pub put_packed-requires-clause-allowed : goal.put_packed-requires-clause-allowed
+put_packed-requires-clause-allowed g c =
     let owner = g.W.OwnerWords.owner in
     can_put_rest (owner c.read.new.self) c.read.ensures.kept (owner c.args.words.now) c.read.ensures.same c.args.key.now c.args.value.now
     c.requires.key c.requires.value c.args.offset c.requires.marked c.header_room-room.result (owner c.put_word.new.self) c.header_of.result
-    c.from.result c.pack.new.into c.put_word.ensures.event c.header_of.ensures (c.from.ensures ∙ c.item_size.ensures) c.pack.ensures c.put_word.ensures.kept
+    c.from.result (packed c.args.value.now) c.put_word.ensures.event c.header_of.ensures (c.from.ensures ∙ c.item_size.ensures) refl c.put_word.ensures.kept
 
 pub returns-clause-item : goal.returns-clause-item
 returns-clause-item g c =
     let owner = g.W.OwnerWords.owner in
-    c.put_words.ensures.events
+    c.put_packed.ensures.events
     ∙ rest_stored (owner c.read.new.self) c.read.ensures.kept (owner c.args.words.now) c.read.ensures.same c.args.key.now c.args.value.now
     c.requires.key c.requires.value c.args.offset c.requires.marked c.header_room-room.result (owner c.put_word.new.self) c.header_of.result
-    c.from.result c.pack.new.into c.put_word.ensures.event c.header_of.ensures (c.from.ensures ∙ c.item_size.ensures) c.pack.ensures
+    c.from.result (packed c.args.value.now) c.put_word.ensures.event c.header_of.ensures (c.from.ensures ∙ c.item_size.ensures) refl
     _ (c.header_room-room.ensures ∙ ap header_room c.read.ensures.value)

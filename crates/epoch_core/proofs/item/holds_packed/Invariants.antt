@@ -1,10 +1,11 @@
 use Rattle.std.proofs.Common.{◌≡◌, ℕ, ◌+◌, ◌<◌, slice_index}
+use Rattle.mica_words.specs.Packing.{packed}
 use Rattle.epoch_core.specs.OwnerState.{item_in}
-use Rattle.epoch_core.proofs.item.holds_words.Given as goal
+use Rattle.epoch_core.proofs.item.holds_packed.Given as goal
 
 abbrev pub invariant-loop-i : goal.invariant-loop-i
 invariant-loop-i g l = record {
   owner : g.W.OwnerWords.owner l.words ≡ g.W.OwnerWords.owner l.initial.words;
   home : g.W.OwnerWords.home l.words ≡ g.W.OwnerWords.home l.initial.words;
-  same : (k : ℕ) → k < l.i → item_in (g.W.OwnerWords.owner l.initial.words) (l.offset + k) ≡ slice_index l.expected k;
+  same : (k : ℕ) → k < l.i → item_in (g.W.OwnerWords.owner l.initial.words) (l.offset + k) ≡ slice_index (packed l.bytes) k;
 }
