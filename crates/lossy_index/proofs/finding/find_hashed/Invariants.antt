@@ -2,7 +2,7 @@ use Rattle.std.proofs.Common.{◌≡◌, ℕ, ◌<◌}
 use Rattle.epoch_core.specs.Kept.{Kept}
 use Rattle.lossy_index.specs.Slot.{IsSlotOf}
 use Rattle.lossy_index.proofs.Looking.{Seeks}
-use Rattle.lossy_index.proofs.finding.find.Given as goal
+use Rattle.lossy_index.proofs.finding.find_hashed.Given as goal
 
 abbrev pub invariant-loop-slot : goal.invariant-loop-slot
 invariant-loop-slot g l = let o = g.W.OwnerWords.owner l.initial.words in record {
