@@ -9,7 +9,6 @@ use Rattle.mica_model.specs.declared.write.Write.{Write}
 use Rattle.mica_model.specs.Write.{IsWrite, write_of}
 use Rattle.mica_model.specs.Cache.{Record}
 use Rattle.mica_model.specs.Limits.{most_stamp}
-use Rattle.mica_model.specs.CacheStep.{kept_record}
 use Rattle.mica_model.specs.History.{History, State, cache_state, store_state, state_of, stamp_in, stamp_of}
 use Rattle.mica_model.proofs.CacheKept.{begin_of, offset_of, keeps_put}
 use Rattle.mica_model.proofs.CacheLaws.{kept_in, window_kept, put_item}
@@ -108,5 +107,5 @@ module _ (o : OwnerState) (s : Kept o) (key value : List ℕ) (key_fits : KeyFit
   pub can_append : (room : ℕ) → MayAppend o p key value → CanPlay (puts_from p (item_words room key value)) o
   can_append room a = can_put_item room (may_put o.phase refl (appends o.phase refl a.marked a.at_tail))
 
-  pub may_rewrite : MayRewrite o p key value → MayPutWords o p (item_size key value)
-  may_rewrite a = may_put o.phase refl (rewrites o.phase refl a.marked a.in_place)
+  pub can_rewrite : (room : ℕ) → MayRewrite o p key value → CanPlay (puts_from p (item_words room key value)) o
+  can_rewrite room a = can_put_item room (may_put o.phase refl (rewrites o.phase refl a.marked a.in_place))

@@ -1,14 +1,14 @@
 //! Items, from their first word on.
-ghost use Rattle.std.specs.Prelude.{◌≡◌, ◌+◌, ◌<◌, ◌^◌, length};
+ghost use Rattle.std.specs.Prelude.{◌≡◌, ◌+◌, ◌<◌, ◌^◌};
+ghost use Rattle.mica_words.specs.Hash.{fnv1a};
 ghost use Rattle.mica_words.specs.Item.{KeyFits, ValueFits, item_size as item_size_of};
-ghost use Rattle.epoch_core.specs.Events.{CanPlay, plays, puts_from};
 ghost use Rattle.epoch_core.specs.Kept.{Kept};
 ghost use Rattle.circular_log.specs.LogItem.{HasItem, IsValueAt, room_at};
 ghost use Rattle.circular_log.specs.LogWrite.{MayAppend, MayRewrite, with_item};
 
-use epoch_core::{OwnerWords, WordAt, put_packed, write_item};
+use epoch_core::{OwnerWords, WordAt, rewrite_item, write_item_hashed};
 use mica_model::ItemBuf;
-use mica_words::{header_key_len, header_of, header_room, header_value_len, item_size};
+use mica_words::{header_key_len, header_room, header_value_len, item_size, key_hash};
 
 /// Writes the marked put's item at the offset, the tail before it, in a room of its own size.
 pub fn append<W: OwnerWords>(words: &mut W, offset: u64, key: &[u8], value: &[u8])
@@ -20,10 +20,24 @@ pub fn append<W: OwnerWords>(words: &mut W, offset: u64, key: &[u8], value: &[u8
     ensures home { W.home words.new ≡ W.home words.old }
     ensures kept { Kept (W.owner words.new) }
 {
+    append_hashed(words, offset, key, key_hash(key), value);
+}
+
+/// `append` where the key's hash is at hand.
+pub fn append_hashed<W: OwnerWords>(words: &mut W, offset: u64, key: &[u8], hash: u64, value: &[u8])
+    requires key { KeyFits key.now }
+    requires hashed { hash ≡ fnv1a key.now }
+    requires value { ValueFits value.now }
+    requires marked { MayAppend (W.owner words.old) offset key.now value.now }
+    ensures item { W.owner words.new ≡ with_item (W.owner words.old) offset
+        (item_size_of key.entry.now value.entry.now) key.entry.now value.entry.now }
+    ensures home { W.home words.new ≡ W.home words.old }
+    ensures kept { Kept (W.owner words.new) }
+{
     // A load tells that the words are lawful: so the offsets of the item are known to be small.
     words.read(WordAt::Stamp);
     let room = item_size(key.len(), value.len());
-    write_item(words, offset, room, key, value);
+    write_item_hashed(words, offset, room, key, hash, value);
 }
 
 /// Writes the marked put's value into the room of the key's item. The room stays, and so do the hash and
@@ -38,11 +52,7 @@ pub fn rewrite<W: OwnerWords>(words: &mut W, offset: u64, key: &[u8], value: &[u
     ensures kept { Kept (W.owner words.new) }
 {
     let room = header_room(words.read(WordAt::Item(offset)));
-    words.put_word(
-        offset,
-        header_of(room, key.len() as u32, value.len() as u32),
-    );
-    put_packed(words, offset + u64::from(item_size(key.len(), 0)), value);
+    rewrite_item(words, offset, room, key, value);
 }
 
 /// Copies the value of the item that stands at the offset.

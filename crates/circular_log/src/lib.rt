@@ -10,5 +10,5 @@
 mod items;
 mod live;
 
-pub use items::{append, item_at, rewrite};
+pub use items::{append, append_hashed, item_at, rewrite};
 pub use live::is_live;

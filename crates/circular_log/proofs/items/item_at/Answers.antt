@@ -1,4 +1,4 @@
-use Rattle.std.proofs.Common.{◌≡◌, ◌+◌, ◌≤◌, ◌++◌, refl, ap, ◌∙◌, arith, length}
+use Rattle.std.proofs.Common.{◌≡◌, ℕ, ◌+◌, ◌*◌, ◌++◌, refl, ap, ◌∙◌, arith, length}
 use Rattle.std.specs.Int.{w64, to_le_bytes}
 use Rattle.epoch_core.specs.declared.state.OwnerState.{OwnerState}
 use Rattle.epoch_core.specs.OwnerState.{item_in}
@@ -23,18 +23,19 @@ loop-i-init g c =
 pub push_word-requires : goal.push_word-requires
 push_word-requires g c =
     let loop = c.loop-i.invariant in
-    let long = ap length loop.bytes ∙ length-bytes_from _ _ c.loop-i.i in
+    let from : ℕ = c.args.offset + 2 + c.from.result in
+    let long : length c.loop-i.out ≡ 8 * c.loop-i.i = ap length loop.bytes ∙ length-bytes_from (g.W.OwnerWords.owner c.read-header.new.self) from c.loop-i.i in
     omega (arith, loop.few, long, c.loop-i-test.true, c.div_ceil-i-end.ensures)
 
 pub loop-i-preserved : goal.loop-i-preserved
 loop-i-preserved g c =
     let owner = g.W.OwnerWords.owner in
     let loop = c.loop-i.invariant in
-    let word = c.read-word.ensures.value ∙ ap (λ (o : OwnerState). item_in o (c.args.offset + 2 + c.from.result + c.loop-i.i)) loop.owner in
+    let word = c.read.ensures.value ∙ ap (λ (o : OwnerState). item_in o (c.args.offset + 2 + c.from.result + c.loop-i.i)) loop.owner in
     record {
-      owner = c.read-word.ensures.same ∙ loop.owner;
-      home = c.read-word.ensures.home ∙ loop.home;
-      kept = c.read-word.ensures.kept;
+      owner = c.read.ensures.same ∙ loop.owner;
+      home = c.read.ensures.home ∙ loop.home;
+      kept = c.read.ensures.kept;
       few = loop.few;
       bytes = c.push_word.ensures ∙ ap (λ w. c.loop-i.out ++ to_le_bytes w64 w) word
           ∙ bytes_more (owner c.read-header.new.self) (c.args.offset + 2 + c.from.result) c.loop-i.i (c.loop-i.i + 1) (omega arith) c.loop-i.out loop.bytes;
