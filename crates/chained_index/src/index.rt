@@ -2,6 +2,7 @@
 ghost use Rattle.std.specs.Prelude.{◌≡◌, ◌≢◌, ℕ, suc, ◌+◌, ◌<◌, ◌≤◌, ◌^◌, ◌↔◌, ◌++◌, ◌∷◌, [], IsTrue, IsFalse, IfOk, MatchOption};
 ghost use Rattle.mica_words.specs.declared.entry.TheConstants.{SLOTS};
 ghost use Rattle.mica_words.specs.Entry.{entry_of, entry_tag as entry_tag_of, entry_offset as entry_offset_of};
+ghost use Rattle.mica_words.specs.Hash.{fnv1a};
 ghost use Rattle.mica_words.specs.Item.{KeyFits};
 ghost use Rattle.epoch_core.specs.Shape.{IsValidShape, IsMain, IsBucket};
 ghost use Rattle.epoch_core.specs.OwnerState.{as_made, entry_in, marked_in};
@@ -13,7 +14,7 @@ ghost use Rattle.chained_index.specs.ChainChange.{ChangesChain};
 ghost use Rattle.chained_index.specs.ChainShape.{bucket_at, HasChainShape, EndsAt};
 ghost use Rattle.chained_index.specs.Index.{IsIndexOf, LacksPlace};
 
-use epoch_core::{OwnerWords, Shape, WordAt, holds_key};
+use epoch_core::{OwnerWords, Shape, WordAt, holds_key_hashed};
 use mica_io::NoMemory;
 use mica_words::{SLOTS, entry_of, entry_offset, entry_tag, key_hash, tag_of};
 use std::alloc::Global;
@@ -80,7 +81,28 @@ impl ChainedIndex {
         ensures home { W.home words.new ≡ W.home words.old }
         ensures kept { Kept (W.owner words.new) }
     {
-        let tag = tag_of(key_hash(key));
+        self.find_hashed(words, bucket, key, key_hash(key))
+    }
+
+    /// `find` where the key's hash is at hand.
+    pub fn find_hashed<W: OwnerWords>(
+        &self,
+        words: &mut W,
+        bucket: u32,
+        key: &[u8],
+        hash: u64,
+    ) -> Option<Spot>
+        requires index { IsIndexOf self.now (W.owner words.old) }
+        requires bucket { IsMain (W.owner words.old).shape bucket }
+        requires key { KeyFits key.now }
+        requires hashed { hash ≡ fnv1a key.now }
+        ensures found { MatchOption result (HasNoSpot (W.owner words.old) bucket key.entry.now)
+            (IsSpotOf (W.owner words.old) bucket key.entry.now) }
+        ensures same { W.owner words.new ≡ W.owner words.old }
+        ensures home { W.home words.new ≡ W.home words.old }
+        ensures kept { Kept (W.owner words.new) }
+    {
+        let tag = tag_of(hash);
         let mut at = bucket;
         for _link in 0..=self.shape.spares {
             for slot in 0..SLOTS {
@@ -88,7 +110,7 @@ impl ChainedIndex {
                 if entry == 0 {
                     return None;
                 }
-                if names_key(words, entry, tag, key) {
+                if names_key(words, entry, tag, key, hash) {
                     return Some(Spot { bucket: at, slot });
                 }
             }
@@ -219,14 +241,15 @@ impl ChainedIndex {
 }
 
 // Whether the entry has the tag, and its item the key.
-fn names_key<W: OwnerWords>(words: &mut W, entry: u64, tag: u16, key: &[u8]) -> bool
-    requires { KeyFits key.now }
+fn names_key<W: OwnerWords>(words: &mut W, entry: u64, tag: u16, key: &[u8], hash: u64) -> bool
+    requires key { KeyFits key.now }
+    requires hashed { hash ≡ fnv1a key.now }
     ensures names { IsTrue result ↔ ((entry_tag_of entry ≡ tag)
         × HasKey (W.owner words.old) (entry_offset_of entry) key.entry.now) }
     ensures same { W.owner words.new ≡ W.owner words.old }
     ensures home { W.home words.new ≡ W.home words.old }
 {
-    entry_tag(entry) == tag && holds_key(words, entry_offset(entry), key)
+    entry_tag(entry) == tag && holds_key_hashed(words, entry_offset(entry), key, hash)
 }
 
 // How many slots of the bucket are used before the first empty one.

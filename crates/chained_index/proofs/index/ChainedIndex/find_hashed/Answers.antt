@@ -12,7 +12,7 @@ use Rattle.chained_index.specs.Index.{Index}
 use Rattle.chained_index.proofs.Chained.{Chained, chained}
 use Rattle.chained_index.proofs.Walking.{one_further}
 use Rattle.chained_index.proofs.Finding.{IsSlotOf, spot_found, none_past_empty, none_at_end, not_past, none_more}
-use Rattle.chained_index.proofs.index.ChainedIndex.find.Goals as goal
+use Rattle.chained_index.proofs.index.ChainedIndex.find_hashed.Goals as goal
 
 pub returns-then-entry-eq0-clause-found : goal.returns-then-entry-eq0-clause-found
 returns-then-entry-eq0-clause-found g c =

@@ -2,7 +2,7 @@ use Rattle.std.proofs.Common.{◌≡◌, ◌<◌}
 use Rattle.epoch_core.specs.Kept.{Kept}
 use Rattle.chained_index.proofs.Walking.{IsAt}
 use Rattle.chained_index.proofs.Finding.{NoneBefore, NoneAt}
-use Rattle.chained_index.proofs.index.ChainedIndex.find.Given as goal
+use Rattle.chained_index.proofs.index.ChainedIndex.find_hashed.Given as goal
 
 abbrev pub invariant-loop-link : goal.invariant-loop-link
 invariant-loop-link g l = record {
