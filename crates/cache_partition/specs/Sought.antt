@@ -1,5 +1,6 @@
 -- What the words tell of a key before a write.
 use Rattle.std.specs.Prelude.{◌≡◌, ℕ, Bool, false, List, Option, None, MatchOption, is_some, option_map}
+use Rattle.mica_words.specs.Hash.{fnv1a}
 use Rattle.mica_model.specs.declared.options.Options.{Options}
 use Rattle.mica_model.specs.declared.write.Write.{Write}
 use Rattle.mica_model.specs.Cache.{record_of}
@@ -10,8 +11,9 @@ use Rattle.epoch_core.specs.OwnerState.{stamp_in, options_in, state_in, bucket_i
 use Rattle.cache_partition.specs.declared.seeking.Sought.{Sought}
 use Rattle.lossy_index.specs.Slot.{IsSlotOf, HasNoSlot}
 
--- the bucket is the key's, the slot is its slot there, if it has one, and the stamp is the one now
+-- the hash and the bucket are the key's, the slot is its slot there, if it has one, and the stamp is the one now
 pub record IsSought (o : OwnerState) (key : List ℕ) (sought : Sought) : Type 0 where
+  pub hash : sought.hash ≡ fnv1a key
   pub bucket : sought.bucket ≡ bucket_in o key
   pub found : MatchOption sought.slot (HasNoSlot o sought.bucket key) (IsSlotOf o sought.bucket key)
   pub stamp : sought.stamp ≡ stamp_in o

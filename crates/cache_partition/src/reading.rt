@@ -7,10 +7,10 @@ ghost use Rattle.mica_model.specs.History.{answer_of};
 ghost use Rattle.epoch_core.specs.declared.state.Phase.TheVariants.{Idle};
 ghost use Rattle.epoch_core.specs.OwnerState.{options_in};
 
-use crate::seeking::bucket_of_key;
+use crate::seeking::bucket_and_hash;
 use circular_log::item_at;
 use epoch_core::{OwnerWords, WordAt};
-use lossy_index::find;
+use lossy_index::find_hashed;
 use mica_model::{Answer, ItemBuf};
 use mica_words::entry_offset;
 
@@ -23,8 +23,8 @@ pub(crate) fn value_of<W: OwnerWords>(words: &mut W, key: &[u8], out: &mut ItemB
         (answer_of (options_in (W.owner words.old)) (W.owner words.old).history key.entry.now) }
     ensures same { (W.owner words.new ≡ W.owner words.old) × (W.home words.new ≡ W.home words.old) }
 {
-    let bucket = bucket_of_key(words, key);
-    match find(words, bucket, key) {
+    let (bucket, hash) = bucket_and_hash(words, key);
+    match find_hashed(words, bucket, key, hash) {
         Some(slot) => {
             let entry = words.read(WordAt::Entry(bucket, slot));
             item_at(words, entry_offset(entry), out);

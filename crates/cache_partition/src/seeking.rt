@@ -1,5 +1,6 @@
 //! What is known of a key before a write to it, and the write's begin.
 ghost use Rattle.std.specs.Prelude.{◌≡◌, ◌++◌, ◌∷◌, []};
+ghost use Rattle.mica_words.specs.Hash.{fnv1a};
 ghost use Rattle.mica_words.specs.Item.{KeyFits};
 ghost use Rattle.mica_model.specs.Write.{IsWrite, write_of};
 ghost use Rattle.mica_model.specs.History.{stamp_of};
@@ -10,24 +11,27 @@ ghost use Rattle.cache_partition.specs.Gained.{MayWrite, marked_with};
 ghost use Rattle.cache_partition.specs.Sought.{IsSought};
 
 use epoch_core::{OwnerWords, WordAt};
-use lossy_index::find;
+use lossy_index::find_hashed;
 use mica_model::Op;
 use mica_words::{bucket_of, key_hash};
 
-/// A key's bucket, its slot there if it has one, and the stamp.
+/// A key's hash, its bucket, its slot there if it has one, and the stamp.
 #[derive(Drop)]
 pub(crate) struct Sought {
+    pub hash: u64,
     pub bucket: u32,
     pub slot: Option<u32>,
     pub stamp: u64,
 }
 
-/// The bucket of a key.
-pub(crate) fn bucket_of_key<W: OwnerWords>(words: &W, key: &[u8]) -> u32
-    ensures bucket { result ≡ bucket_in (W.owner words.now) key.now }
-    ensures main { IsMain (W.owner words.now).shape result }
+/// The bucket of a key, and the key's hash.
+pub(crate) fn bucket_and_hash<W: OwnerWords>(words: &W, key: &[u8]) -> (u32, u64)
+    ensures bucket { result.0 ≡ bucket_in (W.owner words.now) key.now }
+    ensures main { IsMain (W.owner words.now).shape result.0 }
+    ensures hashed { result.1 ≡ fnv1a key.now }
 {
-    bucket_of(key_hash(key), words.shape().buckets)
+    let hash = key_hash(key);
+    (bucket_of(hash, words.shape().buckets), hash)
 }
 
 /// Looks the key up.
@@ -37,10 +41,11 @@ pub(crate) fn seek<W: OwnerWords>(words: &mut W, key: &[u8]) -> Sought
     ensures same { (W.owner words.new ≡ W.owner words.old) × (W.home words.new ≡ W.home words.old) }
     ensures kept { Kept (W.owner words.new) }
 {
-    let bucket = bucket_of_key(words, key);
-    let slot = find(words, bucket, key);
+    let (bucket, hash) = bucket_and_hash(words, key);
+    let slot = find_hashed(words, bucket, key, hash);
     let stamp = words.read(WordAt::Stamp);
     Sought {
+        hash,
         bucket,
         slot,
         stamp,

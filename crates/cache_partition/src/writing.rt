@@ -10,11 +10,11 @@ ghost use Rattle.cache_partition.specs.Gained.{MayWrite, Gains};
 ghost use Rattle.cache_partition.specs.Sought.{IsSought, kept_offset};
 
 use crate::seeking::{Sought, begin, seek};
-use circular_log::{append, is_live, rewrite};
+use circular_log::{append_hashed, is_live, rewrite};
 use epoch_core::{OwnerWords, WordAt};
 use lossy_index::place;
 use mica_model::Op;
-use mica_words::{entry_offset, header_room, item_size, key_hash, tag_of, tail_of};
+use mica_words::{entry_offset, header_room, item_size, tag_of, tail_of};
 
 /// Stores the value for the key, and answers the new stamp.
 pub(crate) fn put<W: OwnerWords>(words: &mut W, key: &[u8], value: &[u8]) -> u64
@@ -97,12 +97,12 @@ fn put_at_tail<W: OwnerWords>(words: &mut W, sought: &Sought, key: &[u8], value:
     let tail = tail_of(sought.stamp);
     let stamp = sought.stamp + 65_536 * u64::from(item_size(key.len(), value.len()));
     begin(words, sought.bucket, Op::Put, key, value, stamp);
-    append(words, tail, key, value);
+    append_hashed(words, tail, key, sought.hash, value);
     place(
         words,
         sought.bucket,
         sought.slot,
-        tag_of(key_hash(key)),
+        tag_of(sought.hash),
         tail,
     );
     words.end_write(sought.bucket);
