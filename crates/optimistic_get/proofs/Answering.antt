@@ -20,7 +20,7 @@ use Rattle.epoch_core.specs.ReaderKept.{TellsTry, Tells}
 use Rattle.epoch_core.proofs.Prefixes.{prefix_same}
 use Rattle.optimistic_get.specs.Loading.{most_loads, loads_of, loads_in, TryGoesOn}
 use Rattle.optimistic_get.specs.Search.{IsWeighed, by_tag, by_item, by_best, IsBest, IsSlotWeighed, Searches}
-use Rattle.optimistic_get.specs.Gets.{IsAnsweredAt, TriesMade, most_of_failure, TryAnswers, TryFails}
+use Rattle.optimistic_get.specs.Gets.{IsAnsweredAt, TriesMade, TryAnswers, TryFails}
 
 -- What the loads spell
 

@@ -34,28 +34,27 @@ module _ (r q : ReaderState) (p header : ℕ) (key : List ℕ) (trying : is_some
     pub other_hash : x ≢ fnv1a key → ShowsOther q2.shape (loads_in q2) p key
     other_hash n = by_hash x (item_here q q2 (p + 1) x after_one two) n
 
-    module _ (q3 : ReaderState) (words : List ℕ) (is : words ≡ packed key) (three : GoesOn q2 (length words) q3) where
+    module _ (q3 : ReaderState) (three : GoesOn q2 (words_for (length key)) q3) where
       pub on_three : GoesOn r (2 + words_for (length key)) q3
-      on_three = subst (λ (z : ℕ). GoesOn r (2 + z) q3) (ap length is ∙ length-packed key) (on_then r q2 q3 2 (length words) on_two three)
+      on_three = on_then r q2 q3 2 (words_for (length key)) on_two three
 
-      pub other_word : LacksWord q3 (p + 2) words → ShowsOther q3.shape (loads_in q3) p key
+      pub other_word : LacksWord q3 (p + 2) (packed key) → ShowsOther q3.shape (loads_in q3) p key
       other_word lacks =
           let inside = lacks.inside in
-          by_key_word lacks.at lacks.found (omega (arith, ap length is, length-packed key)) lacks.load
-          (λ same. lacks.other (same ∙ ap (λ (z : List ℕ). slice_index z lacks.at) (sym is)))
+          by_key_word lacks.at lacks.found (omega (arith, length-packed key)) lacks.load lacks.other
 
-      pub has_key : header_key_len header ≡ length key → header_value_len header ≤ MAX_VALUE_LEN → x ≡ fnv1a key → HasWords q3 (p + 2) words
+      pub has_key : header_key_len header ≡ length key → header_value_len header ≤ MAX_VALUE_LEN → x ≡ fnv1a key → HasWords q3 (p + 2) (packed key)
           → HasKeyOf q3 p key (header_value_len header)
       has_key key_len fits hash has = record {
         header = header;
-        header_load = item_still q2 q3 (length words) p header three
+        header_load = item_still q2 q3 (words_for (length key)) p header three
             (item_still q q2 1 p header (on_one q q2 _ x after_one two) (item_here r q p header trying one));
         key_len = key_len;
         value_len = refl;
         fits = fits;
-        hash = item_still q2 q3 (length words) (p + 1) (fnv1a key) three
+        hash = item_still q2 q3 (words_for (length key)) (p + 1) (fnv1a key) three
             (subst (HasLoad (loads_in q2) (item_at q2.shape (p + 1))) hash (item_here q q2 (p + 1) x after_one two));
-        words = subst (HasWords q3 (p + 2)) is has;
+        words = has;
       }
 
 -- the key and the value behind it are an item of the key

@@ -8,10 +8,8 @@ use crate::trying::try_get;
 use crate::wanted::Wanted;
 use epoch_core::ReaderWords;
 use mica_model::ItemBuf;
-use mica_words::{MAX_KEY_LEN, bucket_of, key_hash, pack};
+use mica_words::{bucket_of, key_hash};
 use std::hint::spin_loop;
-
-const MAX_KEY_WORDS: usize = (MAX_KEY_LEN + 7) / 8;
 
 /// What a get answers.
 #[derive(Clone, Copy, Debug, PartialEq, Eq)]
@@ -45,10 +43,7 @@ pub fn get<R: ReaderWords>(seat: &mut R, key: &[u8], tries: u32, out: &mut ItemB
 {
     let hash = key_hash(key);
     let bucket = bucket_of(hash, seat.shape().buckets);
-    let mut packed = [0; MAX_KEY_WORDS];
-    let packed = &mut packed[..key.len().div_ceil(8)];
-    pack(key, packed);
-    let wanted = Wanted { key, hash, packed };
+    let wanted = Wanted { key, hash };
     for _try in 1..tries {
         let got = try_get(seat, bucket, &wanted, out);
         if !got.is_again() {

@@ -2,25 +2,26 @@
 ghost use Rattle.std.specs.Prelude.{◌≡◌, ◌+◌, ◌<◌, ◌≤◌, ◌^◌, true, is_some, length, MatchBool, MatchOption};
 ghost use Rattle.mica_words.specs.declared.item.TheConstants.{MAX_VALUE_LEN};
 ghost use Rattle.mica_words.specs.Item.{words_for};
+ghost use Rattle.mica_words.specs.Packing.{packed};
 ghost use Rattle.epoch_core.specs.Spelt.{ShowsOther, ShowsItem};
 ghost use Rattle.optimistic_get.specs.Loading.{most_words, loads_in, GoesOn, HasWords, LacksWord, HasKeyOf, HoldsValue};
 
 use crate::wanted::Wanted;
 use epoch_core::ReaderWords;
 use mica_model::{ItemBuf, Mode};
-use mica_words::{MAX_VALUE_LEN, header_key_len, header_value_len};
+use mica_words::{MAX_VALUE_LEN, header_key_len, header_value_len, item_size, packed_word};
 
-// Whether the words from the offset on are these. It loads up to the first that is not.
-fn holds_words<R: ReaderWords>(seat: &mut R, offset: u64, expected: &[u64]) -> bool
+// Whether the words from the offset on are those that the bytes are packed into. It loads up to the first that is not.
+fn holds_packed<R: ReaderWords>(seat: &mut R, offset: u64, bytes: &[u8]) -> bool
     requires open { is_some (R.reader seat.old).current ≡ true }
-    requires low { offset + length expected.now < 2 ^ 64 }
-    ensures on { GoesOn (R.reader seat.old) (length expected.entry.now) (R.reader seat.new) }
-    ensures shows { MatchBool result (HasWords (R.reader seat.new) offset expected.entry.now)
-        (LacksWord (R.reader seat.new) offset expected.entry.now) }
+    requires low { offset + words_for (length bytes.now) < 2 ^ 64 }
+    ensures on { GoesOn (R.reader seat.old) (words_for (length bytes.entry.now)) (R.reader seat.new) }
+    ensures shows { MatchBool result (HasWords (R.reader seat.new) offset (packed bytes.entry.now))
+        (LacksWord (R.reader seat.new) offset (packed bytes.entry.now)) }
     ensures home { R.home seat.new ≡ R.home seat.old }
 {
-    for (i, word) in expected.iter().enumerate() {
-        if seat.item_word(offset + i as u64) != *word {
+    for i in 0..bytes.len().div_ceil(8) {
+        if seat.item_word(offset + i as u64) != packed_word(bytes, i) {
             return false;
         }
     }
@@ -48,7 +49,7 @@ fn value_len_at<R: ReaderWords>(seat: &mut R, offset: u64, wanted: &Wanted<'_>) 
     if seat.item_word(offset + 1) != wanted.hash {
         return None;
     }
-    if holds_words(seat, offset + 2, wanted.packed) {
+    if holds_packed(seat, offset + 2, wanted.key) {
         Some(len)
     } else {
         None
@@ -95,6 +96,7 @@ pub(crate) fn look<R: ReaderWords>(
     let Some(len) = value_len_at(seat, offset, wanted) else {
         return false;
     };
-    load_value(seat, offset + 2 + wanted.packed.len() as u64, len, out);
+    let value_at = offset + u64::from(item_size(wanted.key.len(), 0));
+    load_value(seat, value_at, len, out);
     true
 }

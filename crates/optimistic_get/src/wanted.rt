@@ -1,17 +1,15 @@
 //! The key that a get looks for.
-ghost use Rattle.std.specs.Prelude.{◌≡◌, ◌<◌, ◌≤◌, length};
+ghost use Rattle.std.specs.Prelude.{◌≡◌, ◌<◌};
 ghost use Rattle.mica_words.specs.Hash.{fnv1a};
 ghost use Rattle.mica_words.specs.Item.{KeyFits};
-ghost use Rattle.mica_words.specs.Packing.{AreBytes, packed as packed_words};
+ghost use Rattle.mica_words.specs.Packing.{AreBytes};
 
-/// A key with its hash and its words.
+/// A key with its hash.
 #[derive(Clone, Copy)]
 pub(crate) struct Wanted<'a> {
     pub key: &'a [u8],
     pub hash: u64,
-    pub packed: &'a [u64],
     pub ghost fits: { KeyFits key.now },
     pub ghost hashed: { hash ≡ fnv1a key.now },
     pub ghost bytes: { AreBytes key.now },
-    pub ghost words: { packed.now ≡ packed_words key.now },
 }

@@ -1,6 +1,5 @@
-use Rattle.std.proofs.Common.{◌+◌, length, ap, arith}
+use Rattle.std.proofs.Common.{◌+◌, length, arith}
 use Rattle.mica_words.specs.Item.{words_for}
-use Rattle.mica_words.proofs.PackedBytes.{length-packed}
 use Rattle.optimistic_get.specs.Loading.{most_words}
 use Rattle.optimistic_get.proofs.Loads.{on_then, on_at_most}
 use Rattle.optimistic_get.proofs.Items.{tells_item}
@@ -19,4 +18,4 @@ pub returns-clause-shows : goal.returns-clause-shows
 returns-clause-shows g c =
     let reader = g.R.ReaderWords.reader in
     tells_item (reader c.value_len_at.new.seat) (reader c.load_value.new.seat) (words_for c.in-Some.len) c.args.offset _ c.in-Some.len c.args.wanted.now.key.now c.load_value.new.out
-    c.in-Some.ensures.shows c.load_value.ensures.on (omega (arith, ap length c.args.wanted.now.words, length-packed c.args.wanted.now.key.now)) c.load_value.ensures.value
+    c.in-Some.ensures.shows c.load_value.ensures.on (omega (arith, c.from-2.ensures, c.item_size.ensures)) c.load_value.ensures.value

@@ -29,31 +29,31 @@ returns-then-item_word-wanted-clause-shows g c =
     other_hash (reader c.args.seat.now) (reader c.item_word-header.new.self) c.args.offset c.item_word-header.result c.args.wanted.now.key.now c.requires.open c.item_word-header.ensures.event
     (reader c.item_word.new.self) c.item_word.result c.item_word.ensures.event (λ same. c.if-item_word-wanted.true (same ∙ sym c.args.wanted.now.hashed))
 
-pub returns-then-holds_words-clause-on : goal.returns-then-holds_words-clause-on
-returns-then-holds_words-clause-on g c =
+pub returns-then-holds_packed-clause-on : goal.returns-then-holds_packed-clause-on
+returns-then-holds_packed-clause-on g c =
     let reader = g.R.ReaderWords.reader in
     on_three (reader c.args.seat.now) (reader c.item_word-header.new.self) c.args.offset c.item_word-header.result c.args.wanted.now.key.now c.requires.open c.item_word-header.ensures.event
-    (reader c.item_word.new.self) c.item_word.result c.item_word.ensures.event (reader c.holds_words.new.seat) c.args.wanted.now.packed.now c.args.wanted.now.words c.holds_words.ensures.on
+    (reader c.item_word.new.self) c.item_word.result c.item_word.ensures.event (reader c.holds_packed.new.seat) c.holds_packed.ensures.on
 
-pub returns-then-holds_words-clause-shows : goal.returns-then-holds_words-clause-shows
-returns-then-holds_words-clause-shows g c =
+pub returns-then-holds_packed-clause-shows : goal.returns-then-holds_packed-clause-shows
+returns-then-holds_packed-clause-shows g c =
     let reader = g.R.ReaderWords.reader in
     let fits = c.if-len-gt-MAX_VALUE_LEN.false in
-    subst (HasKeyOf (reader c.holds_words.new.seat) c.args.offset c.args.wanted.now.key.now) (sym c.header_value_len-len.ensures)
+    subst (HasKeyOf (reader c.holds_packed.new.seat) c.args.offset c.args.wanted.now.key.now) (sym c.header_value_len-len.ensures)
     (has_key (reader c.args.seat.now) (reader c.item_word-header.new.self) c.args.offset c.item_word-header.result c.args.wanted.now.key.now c.requires.open c.item_word-header.ensures.event
-    (reader c.item_word.new.self) c.item_word.result c.item_word.ensures.event (reader c.holds_words.new.seat) c.args.wanted.now.packed.now c.args.wanted.now.words c.holds_words.ensures.on
+    (reader c.item_word.new.self) c.item_word.result c.item_word.ensures.event (reader c.holds_packed.new.seat) c.holds_packed.ensures.on
     (sym c.header_key_len.ensures ∙ c.if-header_key_len-wanted.false) (omega (arith, c.header_value_len-len.ensures)) (c.if-item_word-wanted.false ∙ c.args.wanted.now.hashed)
-    (when_true _ _ c.holds_words.result c.if-holds_words.true c.holds_words.ensures.shows))
+    (when_true _ _ c.holds_packed.result c.if-holds_packed.true c.holds_packed.ensures.shows))
 
-pub returns-else-holds_words-clause-on : goal.returns-else-holds_words-clause-on
-returns-else-holds_words-clause-on g c =
+pub returns-else-holds_packed-clause-on : goal.returns-else-holds_packed-clause-on
+returns-else-holds_packed-clause-on g c =
     let reader = g.R.ReaderWords.reader in
     on_three (reader c.args.seat.now) (reader c.item_word-header.new.self) c.args.offset c.item_word-header.result c.args.wanted.now.key.now c.requires.open c.item_word-header.ensures.event
-    (reader c.item_word.new.self) c.item_word.result c.item_word.ensures.event (reader c.holds_words.new.seat) c.args.wanted.now.packed.now c.args.wanted.now.words c.holds_words.ensures.on
+    (reader c.item_word.new.self) c.item_word.result c.item_word.ensures.event (reader c.holds_packed.new.seat) c.holds_packed.ensures.on
 
-pub returns-else-holds_words-clause-shows : goal.returns-else-holds_words-clause-shows
-returns-else-holds_words-clause-shows g c =
+pub returns-else-holds_packed-clause-shows : goal.returns-else-holds_packed-clause-shows
+returns-else-holds_packed-clause-shows g c =
     let reader = g.R.ReaderWords.reader in
     other_word (reader c.args.seat.now) (reader c.item_word-header.new.self) c.args.offset c.item_word-header.result c.args.wanted.now.key.now c.requires.open c.item_word-header.ensures.event
-    (reader c.item_word.new.self) c.item_word.result c.item_word.ensures.event (reader c.holds_words.new.seat) c.args.wanted.now.packed.now c.args.wanted.now.words c.holds_words.ensures.on
-    (when_false _ _ c.holds_words.result c.if-holds_words.false c.holds_words.ensures.shows)
+    (reader c.item_word.new.self) c.item_word.result c.item_word.ensures.event (reader c.holds_packed.new.seat) c.holds_packed.ensures.on
+    (when_false _ _ c.holds_packed.result c.if-holds_packed.false c.holds_packed.ensures.shows)
