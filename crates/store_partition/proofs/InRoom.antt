@@ -15,7 +15,8 @@ use Rattle.mica_model.proofs.CellSums.{keys_over}
 use Rattle.epoch_core.specs.declared.state.OwnerState.{OwnerState}
 use Rattle.epoch_core.specs.declared.event.Event.TheVariants.{Begins, Ends}
 use Rattle.epoch_core.specs.Shape.{IsMain}
-use Rattle.epoch_core.specs.OwnerState.{options_in, bucket_in}
+use Rattle.epoch_core.specs.ItemAt.{HasKey, HasKeyWords}
+use Rattle.epoch_core.specs.OwnerState.{item_in, options_in, bucket_in}
 use Rattle.epoch_core.specs.OwnerStep.{IsOwnerStep}
 use Rattle.epoch_core.specs.StandsFor.{Spells, room_in}
 use Rattle.epoch_core.specs.Events.{MayBegin, MayMark, MayEnd, CanPlay, plays, item_events, after as after_event}
@@ -29,6 +30,7 @@ use Rattle.chained_index.proofs.Listed.{at}
 use Rattle.store_partition.specs.Parts.{AreParts, marked_in_bucket}
 use Rattle.store_partition.proofs.Entries.{main_of, store_at, stood, inside, clear, unmarked}
 use Rattle.store_partition.proofs.Counts.{len_over, rooms_over, room_kept}
+use Rattle.store_partition.proofs.Effects as effects
 use Rattle.store_partition.proofs.Facts as facts
 use Rattle.store_partition.proofs.Storing as storing
 
@@ -117,6 +119,19 @@ module _ (o : OwnerState) (s : Kept o) (index : Index) (blocks : List Block) (pa
   mark_ok = storing.mark_ok o s index blocks parts key value w_is b is unworn may
 
   module _ (t : ℕ) (o2 : OwnerState) (e2 : o2 ≡ marked_in_bucket o b (write_of Put key value) t) (k2 : Kept o2) where
+    item_same : (q : ℕ) → item_in o2 q ≡ item_in o q
+    item_same q =
+        (λ j. item_in ((e2 ∙ ap (λ (z : ℕ). marked_in_bucket o z (write_of Put key value) t) is) j) q)
+        ∙ effects.marked_item o s index blocks parts (write_of Put key value) t q
+
+    -- the key's words stand in the room
+    pub there : HasKeyWords o2 offset key
+    there =
+        let has = subst (λ (p : ℕ). HasKey o p key) (sym offset_is) found.item in record {
+          hash = item_same (offset + 1) ∙ has.hash;
+          words = λ i l. item_same (offset + 2 + i) ∙ has.words i l;
+        }
+
     pub can_ok : CanPlay (item_events offset room key value) o2
     can_ok = storing.can_ok o s index blocks parts key value w_is b is unworn may t o2 e2 k2 offset room fits block others_apart
 

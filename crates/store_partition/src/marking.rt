@@ -1,5 +1,5 @@
 //! The two events that each write begins with.
-ghost use Rattle.std.specs.Prelude.{◌≡◌, ◌≤◌, length};
+ghost use Rattle.std.specs.Prelude.{◌≡◌};
 ghost use Rattle.mica_model.specs.Write.{write_of};
 ghost use Rattle.epoch_core.specs.Events.{MayBegin, MayMark, after};
 ghost use Rattle.epoch_core.specs.declared.event.Event.TheVariants.{Begins};

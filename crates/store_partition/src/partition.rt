@@ -1,5 +1,6 @@
 //! The partition and its calls.
 ghost use Rattle.std.specs.Prelude.{◌≡◌, ◌+◌, ◌<◌, ◌≤◌, ◌↔◌, [], Some, None, IsTrue, IfOk, length};
+ghost use Rattle.mica_words.specs.Hash.{fnv1a};
 ghost use Rattle.mica_words.specs.Item.{KeyFits, ValueFits, item_size as item_size_of};
 ghost use Rattle.mica_words.specs.Entry.{entry_offset as entry_offset_of};
 ghost use Rattle.mica_model.specs.declared.options.Mode.TheVariants.{Store};
@@ -17,13 +18,13 @@ ghost use Rattle.store_partition.specs.Sought.{IsSought};
 ghost use Rattle.store_partition.specs.Parts.{AreParts};
 
 use crate::marking::begin_marked;
-use crate::reading::{block_at, seek, value_of};
+use crate::reading::{Block, block_at, seek, value_of};
 use block_heap::Heap;
 use chained_index::{ChainedIndex, Spot};
-use epoch_core::{LendPartition, LendWords, OwnerWords, Partition, write_item};
+use epoch_core::{LendPartition, LendWords, OwnerWords, Partition, rewrite_item, write_item_hashed};
 use mica_io::NoMemory;
 use mica_model::{Answer, ItemBuf, Op, Outcome};
-use mica_words::{item_size, key_hash, tag_of};
+use mica_words::{item_size, tag_of};
 use std::alloc::Global;
 
 /// A partition over an owner's words. Its stamp is the number of accepted writes.
@@ -74,10 +75,18 @@ impl<W: OwnerWords> StorePartition<W> {
     }
 
     // A put of a key that has an item, whose room is kept where it suffices.
-    fn put_known(&mut self, bucket: u32, spot: Spot, key: &[u8], value: &[u8]) -> Outcome
+    fn put_known(
+        &mut self,
+        bucket: u32,
+        spot: Spot,
+        key: &[u8],
+        hash: u64,
+        value: &[u8],
+    ) -> Outcome
         requires kept { Kept (W.owner self.old.words) }
         requires unworn { length (W.owner self.old.words).history < (W.owner self.old.words).shape.wear }
         requires key { KeyFits key.now }
+        requires hashed { hash ≡ fnv1a key.now }
         requires value { ValueFits value.now }
         requires sought { IsSought (W.owner self.old.words) key.now bucket (Some spot) }
         ensures step { IsOwnerStep (W.owner self.old.words) (W.owner self.new.words)
@@ -86,39 +95,31 @@ impl<W: OwnerWords> StorePartition<W> {
             → NoneFits self.old.heap (item_size_of key.entry.now value.entry.now) }
         ensures home { W.home self.new.words ≡ W.home self.old.words }
     {
-        let (offset, room) = block_at(&mut self.words, spot);
-        if item_size(key.len(), value.len()) > room {
-            return self.put_grown(bucket, spot, offset, key, value);
+        let block = block_at(&mut self.words, spot);
+        if item_size(key.len(), value.len()) > block.room {
+            return self.put_grown(bucket, spot, block.offset, key, hash, value);
         }
-        self.put_in_room(bucket, spot, offset, room, key, value);
+        self.put_in_room(bucket, spot, block, key, value);
         Outcome::Stored
     }
 
-    // The put writes its item into the room that the key's item has.
-    fn put_in_room(
-        &mut self,
-        bucket: u32,
-        spot: Spot,
-        offset: u64,
-        room: u32,
-        key: &[u8],
-        value: &[u8],
-    )
+    // The put writes its value into the room that the key's item has.
+    fn put_in_room(&mut self, bucket: u32, spot: Spot, block: Block, key: &[u8], value: &[u8])
         requires kept { Kept (W.owner self.old.words) }
         requires unworn { length (W.owner self.old.words).history < (W.owner self.old.words).shape.wear }
         requires key { KeyFits key.now }
         requires value { ValueFits value.now }
         requires sought { IsSought (W.owner self.old.words) key.now bucket (Some spot) }
-        requires offset { offset ≡ entry_offset_of (spot_entry (W.owner self.old.words) spot) }
-        requires room { room ≡ room_in (W.owner self.old.words) (spot_entry (W.owner self.old.words) spot) }
-        requires fits { item_size_of key.now value.now ≤ room }
+        requires offset { block.offset ≡ entry_offset_of (spot_entry (W.owner self.old.words) spot) }
+        requires room { block.room ≡ room_in (W.owner self.old.words) (spot_entry (W.owner self.old.words) spot) }
+        requires fits { item_size_of key.now value.now ≤ block.room }
         ensures step { IsOwnerStep (W.owner self.old.words) (W.owner self.new.words)
             (write_of Put key.entry.now value.entry.now) Outcome.Stored }
         ensures home { W.home self.new.words ≡ W.home self.old.words }
     {
         let stamp = self.accepted + 1;
         begin_marked(&mut self.words, bucket, Op::Put, key, value, stamp);
-        write_item(&mut self.words, offset, room, key, value);
+        rewrite_item(&mut self.words, block.offset, block.room, key, value);
         self.words.end_write(bucket);
         self.accepted = stamp;
     }
@@ -130,11 +131,13 @@ impl<W: OwnerWords> StorePartition<W> {
         spot: Spot,
         offset: u64,
         key: &[u8],
+        hash: u64,
         value: &[u8],
     ) -> Outcome
         requires kept { Kept (W.owner self.old.words) }
         requires unworn { length (W.owner self.old.words).history < (W.owner self.old.words).shape.wear }
         requires key { KeyFits key.now }
+        requires hashed { hash ≡ fnv1a key.now }
         requires value { ValueFits value.now }
         requires sought { IsSought (W.owner self.old.words) key.now bucket (Some spot) }
         requires offset { offset ≡ entry_offset_of (spot_entry (W.owner self.old.words) spot) }
@@ -152,11 +155,11 @@ impl<W: OwnerWords> StorePartition<W> {
         };
         let stamp = self.accepted + 1;
         begin_marked(&mut self.words, bucket, Op::Put, key, value, stamp);
-        write_item(&mut self.words, u64::from(place), size, key, value);
+        write_item_hashed(&mut self.words, u64::from(place), size, key, hash, value);
         self.index.replace(
             &mut self.words,
             spot,
-            tag_of(key_hash(key)),
+            tag_of(hash),
             u64::from(place),
         );
         self.words.end_write(bucket);
@@ -166,10 +169,11 @@ impl<W: OwnerWords> StorePartition<W> {
     }
 
     // A put of a key that has none.
-    fn put_new(&mut self, bucket: u32, key: &[u8], value: &[u8]) -> Outcome
+    fn put_new(&mut self, bucket: u32, key: &[u8], hash: u64, value: &[u8]) -> Outcome
         requires kept { Kept (W.owner self.old.words) }
         requires unworn { length (W.owner self.old.words).history < (W.owner self.old.words).shape.wear }
         requires key { KeyFits key.now }
+        requires hashed { hash ≡ fnv1a key.now }
         requires value { ValueFits value.now }
         requires sought { IsSought (W.owner self.old.words) key.now bucket None }
         ensures step { IsOwnerStep (W.owner self.old.words) (W.owner self.new.words)
@@ -187,11 +191,11 @@ impl<W: OwnerWords> StorePartition<W> {
         };
         let stamp = self.accepted + 1;
         begin_marked(&mut self.words, bucket, Op::Put, key, value, stamp);
-        write_item(&mut self.words, u64::from(place), size, key, value);
+        write_item_hashed(&mut self.words, u64::from(place), size, key, hash, value);
         self.index.place(
             &mut self.words,
             bucket,
-            tag_of(key_hash(key)),
+            tag_of(hash),
             u64::from(place),
         );
         self.words.end_write(bucket);
@@ -209,12 +213,12 @@ impl<W: OwnerWords> StorePartition<W> {
             (write_of Del key.entry.now []) Outcome.Deleted }
         ensures home { W.home self.new.words ≡ W.home self.old.words }
     {
-        let (offset, _) = block_at(&mut self.words, spot);
+        let block = block_at(&mut self.words, spot);
         let stamp = self.accepted + 1;
         begin_marked(&mut self.words, bucket, Op::Del, key, &[], stamp);
         self.index.remove(&mut self.words, bucket, spot);
         self.words.end_write(bucket);
-        self.heap.give(offset as u32);
+        self.heap.give(block.offset as u32);
         self.accepted = stamp;
     }
 
@@ -254,8 +258,8 @@ impl<W: OwnerWords> Partition for StorePartition<W> {
         }
         let place = seek(&mut self.words, &self.index, key);
         match place.spot {
-            Some(spot) => self.put_known(place.bucket, spot, key, value),
-            None => self.put_new(place.bucket, key, value),
+            Some(spot) => self.put_known(place.bucket, spot, key, place.hash, value),
+            None => self.put_new(place.bucket, key, place.hash, value),
         }
     }
 

@@ -1,10 +1,9 @@
 //! Where a key's entry stands, and the answer to a get.
 ghost use Rattle.std.specs.Prelude.{◌≡◌, ◌<◌};
 ghost use Rattle.mica_words.specs.declared.entry.TheConstants.{SLOTS};
+ghost use Rattle.mica_words.specs.Hash.{fnv1a};
 ghost use Rattle.mica_words.specs.Item.{KeyFits};
-ghost use Rattle.mica_words.specs.Header.{header_room as header_room_of};
 ghost use Rattle.mica_words.specs.Entry.{entry_offset as entry_offset_of};
-ghost use Rattle.mica_model.specs.declared.options.Mode.TheVariants.{Store};
 ghost use Rattle.mica_model.specs.Answer.{IsAnswer};
 ghost use Rattle.mica_model.specs.History.{answer_of};
 ghost use Rattle.epoch_core.specs.Shape.{IsBucket};
@@ -23,9 +22,10 @@ use epoch_core::{OwnerWords, WordAt};
 use mica_model::{Answer, ItemBuf};
 use mica_words::{bucket_of, entry_offset, header_room, key_hash};
 
-/// A key's bucket, and the spot of its entry there if it has one.
+/// A key's hash, its bucket, and the spot of its entry there if it has one.
 #[derive(Drop)]
 pub(crate) struct Place {
+    pub hash: u64,
     pub bucket: u32,
     pub spot: Option<Spot>,
 }
@@ -34,25 +34,35 @@ pub(crate) struct Place {
 pub(crate) fn seek<W: OwnerWords>(words: &mut W, index: &ChainedIndex, key: &[u8]) -> Place
     requires index { IsIndexOf index.now (W.owner words.old) }
     requires key { KeyFits key.now }
+    ensures hashed { result.hash ≡ fnv1a key.entry.now }
     ensures sought { IsSought (W.owner words.old) key.entry.now result.bucket result.spot }
     ensures same { (W.owner words.new ≡ W.owner words.old) × (W.home words.new ≡ W.home words.old) }
     ensures kept { Kept (W.owner words.new) }
 {
-    let bucket = bucket_of(key_hash(key), words.shape().buckets);
-    let spot = index.find(words, bucket, key);
-    Place { bucket, spot }
+    let hash = key_hash(key);
+    let bucket = bucket_of(hash, words.shape().buckets);
+    let spot = index.find_hashed(words, bucket, key, hash);
+    Place { hash, bucket, spot }
 }
 
-/// The offset of the item that a spot's entry names, and its room.
-pub(crate) fn block_at<W: OwnerWords>(words: &mut W, spot: Spot) -> (u64, u32)
+/// The words of an item: where they begin, and how many it may use.
+#[derive(Clone, Copy)]
+pub(crate) struct Block {
+    pub offset: u64,
+    pub room: u32,
+}
+
+/// The block of the item that a spot's entry names.
+pub(crate) fn block_at<W: OwnerWords>(words: &mut W, spot: Spot) -> Block
     requires { IsBucket (W.owner words.old).shape spot.bucket × (spot.slot < SLOTS) }
-    ensures offset { result.0 ≡ entry_offset_of (spot_entry (W.owner words.old) spot) }
-    ensures room { result.1 ≡ room_in (W.owner words.old) (spot_entry (W.owner words.old) spot) }
+    ensures offset { result.offset ≡ entry_offset_of (spot_entry (W.owner words.old) spot) }
+    ensures room { result.room ≡ room_in (W.owner words.old) (spot_entry (W.owner words.old) spot) }
     ensures same { (W.owner words.new ≡ W.owner words.old) × (W.home words.new ≡ W.home words.old) }
     ensures kept { Kept (W.owner words.new) }
 {
     let offset = entry_offset(words.read(WordAt::Entry(spot.bucket, spot.slot)));
-    (offset, header_room(words.read(WordAt::Item(offset))))
+    let room = header_room(words.read(WordAt::Item(offset)));
+    Block { offset, room }
 }
 
 /// Copies the key's value into the buffer.

@@ -134,8 +134,8 @@ begin_marked-requires-clause-mark g c =
     (taken.mark_ok o c.requires.kept index heap parts c.args.key.now c.args.value.now w_is (λ k. omega (arith, c.type_inv.key k))
     c.args.bucket sought.bucket c.requires.unworn needs c.take.new.self c.in-Some.place cut c.take.ensures.blocks c.args.self.now.accepted c.args.self.now.counted)
 
-pub write_item-requires-clause-allowed : goal.write_item-requires-clause-allowed
-write_item-requires-clause-allowed g c =
+pub write_item_hashed-requires-clause-allowed : goal.write_item_hashed-requires-clause-allowed
+write_item_hashed-requires-clause-allowed g c =
     let o = g.W.OwnerWords.owner c.args.self.now.words in
     let index = c.args.self.now.index in
     let heap = c.args.self.now.heap in
@@ -185,12 +185,12 @@ place-requires-clause-index g c =
     let cut = subst (IsTaken heap c.take.new.self c.in-Some.place) size_is c.in-Some.ensures.taken in
     let events : g.W.OwnerWords.owner c.begin_marked.new.words ≡ marked_in_bucket o c.args.bucket (write_of Put c.args.key.now c.args.value.now) (c.args.self.now.accepted + 1) =
     c.begin_marked.ensures.events ∙ ap (λ (z : OwnerState). marked_in_bucket z c.args.bucket (write_of Put c.args.key.now c.args.value.now) (c.args.self.now.accepted + 1)) same in
-    let put : g.W.OwnerWords.owner c.write_item.new.words ≡ plays (item_events c.in-Some.place (item_size c.args.key.now c.args.value.now) c.args.key.now c.args.value.now) (g.W.OwnerWords.owner c.begin_marked.new.words) =
-    c.write_item.ensures.events ∙ (λ i. plays (item_events (c.from.ensures i) (size_is i) c.args.key.now c.args.value.now) (g.W.OwnerWords.owner c.begin_marked.new.words)) in
+    let put : g.W.OwnerWords.owner c.write_item_hashed.new.words ≡ plays (item_events c.in-Some.place (item_size c.args.key.now c.args.value.now) c.args.key.now c.args.value.now) (g.W.OwnerWords.owner c.begin_marked.new.words) =
+    c.write_item_hashed.ensures.events ∙ (λ i. plays (item_events (c.from.ensures i) (size_is i) c.args.key.now c.args.value.now) (g.W.OwnerWords.owner c.begin_marked.new.words)) in
     taken.index_ok o c.requires.kept index heap parts c.args.key.now c.args.value.now w_is (λ k. omega (arith, c.type_inv.key k))
     c.args.bucket sought.bucket c.requires.unworn needs c.take.new.self c.in-Some.place cut c.take.ensures.blocks (c.args.self.now.accepted + 1)
     (g.W.OwnerWords.owner c.begin_marked.new.words) events c.begin_marked.ensures.kept
-    (g.W.OwnerWords.owner c.write_item.new.words) put c.write_item.ensures.kept
+    (g.W.OwnerWords.owner c.write_item_hashed.new.words) put c.write_item_hashed.ensures.kept
 
 pub place-requires-clause-marked : goal.place-requires-clause-marked
 place-requires-clause-marked g c =
@@ -215,12 +215,12 @@ place-requires-clause-marked g c =
     let cut = subst (IsTaken heap c.take.new.self c.in-Some.place) size_is c.in-Some.ensures.taken in
     let events : g.W.OwnerWords.owner c.begin_marked.new.words ≡ marked_in_bucket o c.args.bucket (write_of Put c.args.key.now c.args.value.now) (c.args.self.now.accepted + 1) =
     c.begin_marked.ensures.events ∙ ap (λ (z : OwnerState). marked_in_bucket z c.args.bucket (write_of Put c.args.key.now c.args.value.now) (c.args.self.now.accepted + 1)) same in
-    let put : g.W.OwnerWords.owner c.write_item.new.words ≡ plays (item_events c.in-Some.place (item_size c.args.key.now c.args.value.now) c.args.key.now c.args.value.now) (g.W.OwnerWords.owner c.begin_marked.new.words) =
-    c.write_item.ensures.events ∙ (λ i. plays (item_events (c.from.ensures i) (size_is i) c.args.key.now c.args.value.now) (g.W.OwnerWords.owner c.begin_marked.new.words)) in
+    let put : g.W.OwnerWords.owner c.write_item_hashed.new.words ≡ plays (item_events c.in-Some.place (item_size c.args.key.now c.args.value.now) c.args.key.now c.args.value.now) (g.W.OwnerWords.owner c.begin_marked.new.words) =
+    c.write_item_hashed.ensures.events ∙ (λ i. plays (item_events (c.from.ensures i) (size_is i) c.args.key.now c.args.value.now) (g.W.OwnerWords.owner c.begin_marked.new.words)) in
     taken.marked_ok o c.requires.kept index heap parts c.args.key.now c.args.value.now w_is (λ k. omega (arith, c.type_inv.key k))
     c.args.bucket sought.bucket c.requires.unworn needs c.take.new.self c.in-Some.place cut c.take.ensures.blocks (c.args.self.now.accepted + 1)
     (g.W.OwnerWords.owner c.begin_marked.new.words) events c.begin_marked.ensures.kept
-    (g.W.OwnerWords.owner c.write_item.new.words) put c.write_item.ensures.kept
+    (g.W.OwnerWords.owner c.write_item_hashed.new.words) put c.write_item_hashed.ensures.kept
 
 pub place-requires-clause-bucket : goal.place-requires-clause-bucket
 place-requires-clause-bucket g c =
@@ -245,12 +245,12 @@ place-requires-clause-bucket g c =
     let cut = subst (IsTaken heap c.take.new.self c.in-Some.place) size_is c.in-Some.ensures.taken in
     let events : g.W.OwnerWords.owner c.begin_marked.new.words ≡ marked_in_bucket o c.args.bucket (write_of Put c.args.key.now c.args.value.now) (c.args.self.now.accepted + 1) =
     c.begin_marked.ensures.events ∙ ap (λ (z : OwnerState). marked_in_bucket z c.args.bucket (write_of Put c.args.key.now c.args.value.now) (c.args.self.now.accepted + 1)) same in
-    let put : g.W.OwnerWords.owner c.write_item.new.words ≡ plays (item_events c.in-Some.place (item_size c.args.key.now c.args.value.now) c.args.key.now c.args.value.now) (g.W.OwnerWords.owner c.begin_marked.new.words) =
-    c.write_item.ensures.events ∙ (λ i. plays (item_events (c.from.ensures i) (size_is i) c.args.key.now c.args.value.now) (g.W.OwnerWords.owner c.begin_marked.new.words)) in
+    let put : g.W.OwnerWords.owner c.write_item_hashed.new.words ≡ plays (item_events c.in-Some.place (item_size c.args.key.now c.args.value.now) c.args.key.now c.args.value.now) (g.W.OwnerWords.owner c.begin_marked.new.words) =
+    c.write_item_hashed.ensures.events ∙ (λ i. plays (item_events (c.from.ensures i) (size_is i) c.args.key.now c.args.value.now) (g.W.OwnerWords.owner c.begin_marked.new.words)) in
     taken.main_ok o c.requires.kept index heap parts c.args.key.now c.args.value.now w_is (λ k. omega (arith, c.type_inv.key k))
     c.args.bucket sought.bucket c.requires.unworn needs c.take.new.self c.in-Some.place cut c.take.ensures.blocks (c.args.self.now.accepted + 1)
     (g.W.OwnerWords.owner c.begin_marked.new.words) events c.begin_marked.ensures.kept
-    (g.W.OwnerWords.owner c.write_item.new.words) put c.write_item.ensures.kept
+    (g.W.OwnerWords.owner c.write_item_hashed.new.words) put c.write_item_hashed.ensures.kept
 
 pub place-requires-clause-place : goal.place-requires-clause-place
 place-requires-clause-place g c =
@@ -275,12 +275,12 @@ place-requires-clause-place g c =
     let cut = subst (IsTaken heap c.take.new.self c.in-Some.place) size_is c.in-Some.ensures.taken in
     let events : g.W.OwnerWords.owner c.begin_marked.new.words ≡ marked_in_bucket o c.args.bucket (write_of Put c.args.key.now c.args.value.now) (c.args.self.now.accepted + 1) =
     c.begin_marked.ensures.events ∙ ap (λ (z : OwnerState). marked_in_bucket z c.args.bucket (write_of Put c.args.key.now c.args.value.now) (c.args.self.now.accepted + 1)) same in
-    let put : g.W.OwnerWords.owner c.write_item.new.words ≡ plays (item_events c.in-Some.place (item_size c.args.key.now c.args.value.now) c.args.key.now c.args.value.now) (g.W.OwnerWords.owner c.begin_marked.new.words) =
-    c.write_item.ensures.events ∙ (λ i. plays (item_events (c.from.ensures i) (size_is i) c.args.key.now c.args.value.now) (g.W.OwnerWords.owner c.begin_marked.new.words)) in
+    let put : g.W.OwnerWords.owner c.write_item_hashed.new.words ≡ plays (item_events c.in-Some.place (item_size c.args.key.now c.args.value.now) c.args.key.now c.args.value.now) (g.W.OwnerWords.owner c.begin_marked.new.words) =
+    c.write_item_hashed.ensures.events ∙ (λ i. plays (item_events (c.from.ensures i) (size_is i) c.args.key.now c.args.value.now) (g.W.OwnerWords.owner c.begin_marked.new.words)) in
     taken.place_ok o c.requires.kept index heap parts c.args.key.now c.args.value.now w_is (λ k. omega (arith, c.type_inv.key k))
     c.args.bucket sought.bucket c.requires.unworn needs c.take.new.self c.in-Some.place cut c.take.ensures.blocks (c.args.self.now.accepted + 1)
     (g.W.OwnerWords.owner c.begin_marked.new.words) events c.begin_marked.ensures.kept
-    (g.W.OwnerWords.owner c.write_item.new.words) put c.write_item.ensures.kept has_place
+    (g.W.OwnerWords.owner c.write_item_hashed.new.words) put c.write_item_hashed.ensures.kept has_place
 
 pub end_write-requires : goal.end_write-requires
 end_write-requires g c =
@@ -305,15 +305,15 @@ end_write-requires g c =
     let cut = subst (IsTaken heap c.take.new.self c.in-Some.place) size_is c.in-Some.ensures.taken in
     let events : g.W.OwnerWords.owner c.begin_marked.new.words ≡ marked_in_bucket o c.args.bucket (write_of Put c.args.key.now c.args.value.now) (c.args.self.now.accepted + 1) =
     c.begin_marked.ensures.events ∙ ap (λ (z : OwnerState). marked_in_bucket z c.args.bucket (write_of Put c.args.key.now c.args.value.now) (c.args.self.now.accepted + 1)) same in
-    let put : g.W.OwnerWords.owner c.write_item.new.words ≡ plays (item_events c.in-Some.place (item_size c.args.key.now c.args.value.now) c.args.key.now c.args.value.now) (g.W.OwnerWords.owner c.begin_marked.new.words) =
-    c.write_item.ensures.events ∙ (λ i. plays (item_events (c.from.ensures i) (size_is i) c.args.key.now c.args.value.now) (g.W.OwnerWords.owner c.begin_marked.new.words)) in
-    let tag : c.tag_of.result ≡ tag_of c.args.key.now = c.tag_of.ensures ∙ (ap hash_tag c.key_hash.ensures ∙ sym (tag_of_hash c.args.key.now)) in
-    let change = subst (λ (p : ℕ). ChangesChain (g.W.OwnerWords.owner c.write_item.new.words) (g.W.OwnerWords.owner c.place.new.words) c.args.bucket
-    (entries_of (g.W.OwnerWords.owner c.write_item.new.words) c.args.bucket ++ entry_of c.tag_of.result p ∷ [])) c.from-2.ensures c.place.ensures.entries in
+    let put : g.W.OwnerWords.owner c.write_item_hashed.new.words ≡ plays (item_events c.in-Some.place (item_size c.args.key.now c.args.value.now) c.args.key.now c.args.value.now) (g.W.OwnerWords.owner c.begin_marked.new.words) =
+    c.write_item_hashed.ensures.events ∙ (λ i. plays (item_events (c.from.ensures i) (size_is i) c.args.key.now c.args.value.now) (g.W.OwnerWords.owner c.begin_marked.new.words)) in
+    let tag : c.tag_of.result ≡ tag_of c.args.key.now = c.tag_of.ensures ∙ (ap hash_tag c.requires.hashed ∙ sym (tag_of_hash c.args.key.now)) in
+    let change = subst (λ (p : ℕ). ChangesChain (g.W.OwnerWords.owner c.write_item_hashed.new.words) (g.W.OwnerWords.owner c.place.new.words) c.args.bucket
+    (entries_of (g.W.OwnerWords.owner c.write_item_hashed.new.words) c.args.bucket ++ entry_of c.tag_of.result p ∷ [])) c.from-2.ensures c.place.ensures.entries in
     taken.new_end o c.requires.kept index heap parts c.args.key.now c.args.value.now w_is (λ k. omega (arith, c.type_inv.key k))
     c.args.bucket sought.bucket c.requires.unworn needs c.take.new.self c.in-Some.place cut c.take.ensures.blocks (c.args.self.now.accepted + 1)
     (g.W.OwnerWords.owner c.begin_marked.new.words) events c.begin_marked.ensures.kept
-    (g.W.OwnerWords.owner c.write_item.new.words) put c.write_item.ensures.kept none
+    (g.W.OwnerWords.owner c.write_item_hashed.new.words) put c.write_item_hashed.ensures.kept none
     c.tag_of.result tag (g.W.OwnerWords.owner c.place.new.words) c.place.ensures.kept c.place.new.self c.place.ensures.index change
 
 pub invariant_of-self-2 : goal.invariant_of-self-2
@@ -339,29 +339,29 @@ invariant_of-self-2 g c =
     let cut = subst (IsTaken heap c.take.new.self c.in-Some.place) size_is c.in-Some.ensures.taken in
     let events : g.W.OwnerWords.owner c.begin_marked.new.words ≡ marked_in_bucket o c.args.bucket (write_of Put c.args.key.now c.args.value.now) (c.args.self.now.accepted + 1) =
     c.begin_marked.ensures.events ∙ ap (λ (z : OwnerState). marked_in_bucket z c.args.bucket (write_of Put c.args.key.now c.args.value.now) (c.args.self.now.accepted + 1)) same in
-    let put : g.W.OwnerWords.owner c.write_item.new.words ≡ plays (item_events c.in-Some.place (item_size c.args.key.now c.args.value.now) c.args.key.now c.args.value.now) (g.W.OwnerWords.owner c.begin_marked.new.words) =
-    c.write_item.ensures.events ∙ (λ i. plays (item_events (c.from.ensures i) (size_is i) c.args.key.now c.args.value.now) (g.W.OwnerWords.owner c.begin_marked.new.words)) in
-    let tag : c.tag_of.result ≡ tag_of c.args.key.now = c.tag_of.ensures ∙ (ap hash_tag c.key_hash.ensures ∙ sym (tag_of_hash c.args.key.now)) in
-    let change = subst (λ (p : ℕ). ChangesChain (g.W.OwnerWords.owner c.write_item.new.words) (g.W.OwnerWords.owner c.place.new.words) c.args.bucket
-    (entries_of (g.W.OwnerWords.owner c.write_item.new.words) c.args.bucket ++ entry_of c.tag_of.result p ∷ [])) c.from-2.ensures c.place.ensures.entries in
+    let put : g.W.OwnerWords.owner c.write_item_hashed.new.words ≡ plays (item_events c.in-Some.place (item_size c.args.key.now c.args.value.now) c.args.key.now c.args.value.now) (g.W.OwnerWords.owner c.begin_marked.new.words) =
+    c.write_item_hashed.ensures.events ∙ (λ i. plays (item_events (c.from.ensures i) (size_is i) c.args.key.now c.args.value.now) (g.W.OwnerWords.owner c.begin_marked.new.words)) in
+    let tag : c.tag_of.result ≡ tag_of c.args.key.now = c.tag_of.ensures ∙ (ap hash_tag c.requires.hashed ∙ sym (tag_of_hash c.args.key.now)) in
+    let change = subst (λ (p : ℕ). ChangesChain (g.W.OwnerWords.owner c.write_item_hashed.new.words) (g.W.OwnerWords.owner c.place.new.words) c.args.bucket
+    (entries_of (g.W.OwnerWords.owner c.write_item_hashed.new.words) c.args.bucket ++ entry_of c.tag_of.result p ∷ [])) c.from-2.ensures c.place.ensures.entries in
     let counted = c.args.self.now.counted in
     let count = taken.new_count o c.requires.kept index heap parts c.args.key.now c.args.value.now w_is (λ k. omega (arith, c.type_inv.key k))
     c.args.bucket sought.bucket c.requires.unworn needs c.take.new.self c.in-Some.place cut c.take.ensures.blocks (c.args.self.now.accepted + 1)
     (g.W.OwnerWords.owner c.begin_marked.new.words) events c.begin_marked.ensures.kept
-    (g.W.OwnerWords.owner c.write_item.new.words) put c.write_item.ensures.kept none
+    (g.W.OwnerWords.owner c.write_item_hashed.new.words) put c.write_item_hashed.ensures.kept none
     c.tag_of.result tag (g.W.OwnerWords.owner c.place.new.words) c.place.ensures.kept c.place.new.self c.place.ensures.index change
     (g.W.OwnerWords.owner c.end_write.new.self) c.end_write.ensures.event in
     let stamp = taken.new_stamp o c.requires.kept index heap parts c.args.key.now c.args.value.now w_is (λ k. omega (arith, c.type_inv.key k))
     c.args.bucket sought.bucket c.requires.unworn needs c.take.new.self c.in-Some.place cut c.take.ensures.blocks (c.args.self.now.accepted + 1)
     (g.W.OwnerWords.owner c.begin_marked.new.words) events c.begin_marked.ensures.kept
-    (g.W.OwnerWords.owner c.write_item.new.words) put c.write_item.ensures.kept none
+    (g.W.OwnerWords.owner c.write_item_hashed.new.words) put c.write_item_hashed.ensures.kept none
     c.tag_of.result tag (g.W.OwnerWords.owner c.place.new.words) c.place.ensures.kept c.place.new.self c.place.ensures.index change
     (g.W.OwnerWords.owner c.end_write.new.self) c.end_write.ensures.event in
     record {
       parts = ∣ taken.new_parts o c.requires.kept index heap parts c.args.key.now c.args.value.now w_is (λ k. omega (arith, c.type_inv.key k))
           c.args.bucket sought.bucket c.requires.unworn needs c.take.new.self c.in-Some.place cut c.take.ensures.blocks (c.args.self.now.accepted + 1)
           (g.W.OwnerWords.owner c.begin_marked.new.words) events c.begin_marked.ensures.kept
-          (g.W.OwnerWords.owner c.write_item.new.words) put c.write_item.ensures.kept none
+          (g.W.OwnerWords.owner c.write_item_hashed.new.words) put c.write_item_hashed.ensures.kept none
           c.tag_of.result tag (g.W.OwnerWords.owner c.place.new.words) c.place.ensures.kept c.place.new.self c.place.ensures.index change
           (g.W.OwnerWords.owner c.end_write.new.self) c.end_write.ensures.event ∣₁;
       counted = omega arith;
@@ -391,14 +391,14 @@ returns-clause-step g c =
     let cut = subst (IsTaken heap c.take.new.self c.in-Some.place) size_is c.in-Some.ensures.taken in
     let events : g.W.OwnerWords.owner c.begin_marked.new.words ≡ marked_in_bucket o c.args.bucket (write_of Put c.args.key.now c.args.value.now) (c.args.self.now.accepted + 1) =
     c.begin_marked.ensures.events ∙ ap (λ (z : OwnerState). marked_in_bucket z c.args.bucket (write_of Put c.args.key.now c.args.value.now) (c.args.self.now.accepted + 1)) same in
-    let put : g.W.OwnerWords.owner c.write_item.new.words ≡ plays (item_events c.in-Some.place (item_size c.args.key.now c.args.value.now) c.args.key.now c.args.value.now) (g.W.OwnerWords.owner c.begin_marked.new.words) =
-    c.write_item.ensures.events ∙ (λ i. plays (item_events (c.from.ensures i) (size_is i) c.args.key.now c.args.value.now) (g.W.OwnerWords.owner c.begin_marked.new.words)) in
-    let tag : c.tag_of.result ≡ tag_of c.args.key.now = c.tag_of.ensures ∙ (ap hash_tag c.key_hash.ensures ∙ sym (tag_of_hash c.args.key.now)) in
-    let change = subst (λ (p : ℕ). ChangesChain (g.W.OwnerWords.owner c.write_item.new.words) (g.W.OwnerWords.owner c.place.new.words) c.args.bucket
-    (entries_of (g.W.OwnerWords.owner c.write_item.new.words) c.args.bucket ++ entry_of c.tag_of.result p ∷ [])) c.from-2.ensures c.place.ensures.entries in
+    let put : g.W.OwnerWords.owner c.write_item_hashed.new.words ≡ plays (item_events c.in-Some.place (item_size c.args.key.now c.args.value.now) c.args.key.now c.args.value.now) (g.W.OwnerWords.owner c.begin_marked.new.words) =
+    c.write_item_hashed.ensures.events ∙ (λ i. plays (item_events (c.from.ensures i) (size_is i) c.args.key.now c.args.value.now) (g.W.OwnerWords.owner c.begin_marked.new.words)) in
+    let tag : c.tag_of.result ≡ tag_of c.args.key.now = c.tag_of.ensures ∙ (ap hash_tag c.requires.hashed ∙ sym (tag_of_hash c.args.key.now)) in
+    let change = subst (λ (p : ℕ). ChangesChain (g.W.OwnerWords.owner c.write_item_hashed.new.words) (g.W.OwnerWords.owner c.place.new.words) c.args.bucket
+    (entries_of (g.W.OwnerWords.owner c.write_item_hashed.new.words) c.args.bucket ++ entry_of c.tag_of.result p ∷ [])) c.from-2.ensures c.place.ensures.entries in
     taken.new_step o c.requires.kept index heap parts c.args.key.now c.args.value.now w_is (λ k. omega (arith, c.type_inv.key k))
     c.args.bucket sought.bucket c.requires.unworn needs c.take.new.self c.in-Some.place cut c.take.ensures.blocks (c.args.self.now.accepted + 1)
     (g.W.OwnerWords.owner c.begin_marked.new.words) events c.begin_marked.ensures.kept
-    (g.W.OwnerWords.owner c.write_item.new.words) put c.write_item.ensures.kept none
+    (g.W.OwnerWords.owner c.write_item_hashed.new.words) put c.write_item_hashed.ensures.kept none
     c.tag_of.result tag (g.W.OwnerWords.owner c.place.new.words) c.place.ensures.kept c.place.new.self c.place.ensures.index change
     (g.W.OwnerWords.owner c.end_write.new.self) c.end_write.ensures.event
