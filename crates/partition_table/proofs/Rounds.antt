@@ -1,5 +1,5 @@
 -- The item words of one round.
-use Rattle.std.proofs.Common.{◌≡◌, ℕ, ◌+◌, ◌-◌, ◌*◌, ◌/◌, ◌%◌, ◌<◌, ◌≤◌, sym, ap, ◌∙◌, arith}
+use Rattle.std.proofs.Common.{◌≡◌, ℕ, ◌+◌, ◌-◌, ◌*◌, ◌/◌, ◌%◌, ◌<◌, sym, ap, ◌∙◌, arith}
 use Rattle.std.proofs.Math.Nat.{mod-lt, mod-add-mod, mod-add-div, mod-eq_of_lt, add-mul-mod_self_left}
 use Rattle.partition_table.specs.Rounds.{BeginsRound}
 

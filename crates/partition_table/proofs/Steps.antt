@@ -1,5 +1,5 @@
 -- Each kind of step keeps the table's rule. An owner's step is proved against one reader's view at a time, a reader's against its own alone.
-use Rattle.std.proofs.Common.{◌≡◌, ◌≢◌, ℕ, zero, suc, replicate, ◌+◌, ◌*◌, ◌^◌, ◌%◌, ◌<◌, ◌≤◌, List, [], ◌∷◌, ◌⊎◌, ⊎_elim, Bool, true, false, get_or, set, refl, sym, ap, ◌∙◌, subst, arith, Option, Some, None, inl, inr}
+use Rattle.std.proofs.Common.{◌≡◌, ◌≢◌, ℕ, zero, suc, replicate, ◌+◌, ◌*◌, ◌^◌, ◌%◌, ◌≤◌, List, [], ◌∷◌, ◌⊎◌, ⊎_elim, Bool, true, false, get_or, set, refl, sym, ap, ◌∙◌, subst, arith, Option, Some, None}
 use mathlib.Core.Option.{Option as MOption, some, none, some-injective}
 use lib.ListN.{get_elem?}
 use lib.Seq.{set-get_or}
@@ -13,7 +13,7 @@ use Rattle.epoch_core.specs.declared.state.OwnerState.{OwnerState}
 use Rattle.epoch_core.specs.declared.reader.Try.{Try}
 use Rattle.epoch_core.specs.declared.reader.ReaderState.{ReaderState}
 use Rattle.epoch_core.specs.Shape.{options_of, IsValidShape, IsMain, IsBucket, IsSpare}
-use Rattle.epoch_core.specs.Layout.{stamp_at, epoch_at, link_at, word_count}
+use Rattle.epoch_core.specs.Layout.{epoch_at, link_at, word_count}
 use Rattle.epoch_core.specs.OwnerState.{as_made, epoch_in}
 use Rattle.epoch_core.specs.Events.{IsAllowed, place_of, word_after, after}
 use Rattle.epoch_core.specs.Kept.{Kept}
@@ -33,7 +33,7 @@ use Rattle.epoch_core.proofs.JoinKeeps.{lends, notes, meet_grows, meets, tells_o
 use Rattle.partition_table.specs.declared.rule.View.{View}
 use Rattle.partition_table.specs.declared.rule.View.TheVariants.{Owns, Reads, Spent}
 use Rattle.partition_table.specs.Rule.{Seated, ViewKept, IsLawful, is_owner, owner_in, is_reader, reader_in, view_lent, view_met}
-use Rattle.partition_table.specs.Plays.{tells_word, happened, Becomes, opens, looks, follows, stamps, shuts}
+use Rattle.partition_table.specs.Plays.{tells_word, happened, opens, looks, follows, stamps, shuts}
 
 owner_is : (v : View) → is_owner v ≡ true → v ≡ Owns (owner_in v)
 owner_is (Owns o) e = refl

@@ -1,4 +1,4 @@
-use Rattle.std.proofs.Common.{◌+◌, ap, ◌∙◌, arith}
+use Rattle.std.proofs.Common.{arith}
 use Rattle.partition_table.proofs.Rounds.{in_round}
 use Rattle.partition_table.proofs.places.Places.of_item.Goals as goal
 

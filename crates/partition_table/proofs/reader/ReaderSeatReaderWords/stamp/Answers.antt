@@ -1,7 +1,5 @@
-use Rattle.std.proofs.Common.{rules, sym, subst}
-use Rattle.epoch_core.specs.declared.shape.Shape.{Shape}
+use Rattle.std.proofs.Common.{rules}
 use Rattle.epoch_core.specs.declared.shape.WordAt.TheVariants.{Stamp}
-use Rattle.epoch_core.specs.Layout.{IsInside}
 use Rattle.partition_table.proofs.Steps.{stamps_here}
 use Rattle.partition_table.proofs.Bounds.{word_inside}
 use Rattle.partition_table.proofs.reader.ReaderSeatReaderWords.stamp.Goals as goal
