@@ -4,6 +4,7 @@ use Rattle.std.specs.List.{find, filter, AllByRecursion as AllOf, count_by}
 use Rattle.std.specs.Prelude.{map}
 use Rattle.std.proofs.lemmas.Bool.{not-true, true≢false, leb-true, eqb-true, eqb-false, ne_eqb, and_parts, cases_eq}
 use Rattle.std.proofs.lemmas.List.Sums.{sum_by_push}
+use Rattle.mica_words.specs.declared.entry.TheConstants.{SLOTS}
 use Rattle.mica_words.specs.Hash.{bucket_of}
 use Rattle.mica_words.specs.Item.{KeyFits, ValueFits, item_size, largest_item}
 use Rattle.mica_words.specs.Packing.{AreBytes}
@@ -41,7 +42,7 @@ pub record IsKept (options : Options) (s : Cache) : Type 0 where
   pub unique : IsUnique s.records
   pub live : AreLive options.words s.stamp s.records
   pub are : AllOf IsRecord s.records
-  pub buckets : (bucket : ℕ) → count_by (is_in_bucket options bucket) s.records ≤ 15
+  pub buckets : (bucket : ℕ) → count_by (is_in_bucket options bucket) s.records ≤ SLOTS
   pub stamp : s.stamp ≤ s.accepted * most_added
 
 pub start_kept : (options : Options) → IsKept options cache.start
@@ -139,8 +140,8 @@ pub record IsWritten (options : Options) (s : Cache) (write : Write) (t : Cache)
   pub laid : IsLaid 0 (tail_of t.stamp) t.records
   pub unique : IsUnique t.records
   pub are : AllOf IsRecord t.records
-  pub here : count_by (is_in_bucket options (bucket_of write.key options.buckets)) t.records ≤ 16
-  pub there : (bucket : ℕ) → bucket_of write.key options.buckets ≢ bucket → count_by (is_in_bucket options bucket) t.records ≤ 15
+  pub here : count_by (is_in_bucket options (bucket_of write.key options.buckets)) t.records ≤ SLOTS + 1
+  pub there : (bucket : ℕ) → bucket_of write.key options.buckets ≢ bucket → count_by (is_in_bucket options bucket) t.records ≤ SLOTS
   pub least : s.stamp < t.stamp
   pub most : t.stamp ≤ s.stamp + most_added
 
@@ -151,7 +152,7 @@ others_lack key records = found.missed (has_key key) (others key records)
     (found.all_passes (λ r. not (has_key key r)) records))
 
 module _ (options : Options) (s : Cache) (kept : IsKept options s) (write : Write) (is : IsWrite write) where
-  fewer : (bucket : ℕ) → count_by (is_in_bucket options bucket) (others write.key s.records) ≤ 15
+  fewer : (bucket : ℕ) → count_by (is_in_bucket options bucket) (others write.key s.records) ≤ SLOTS
   fewer bucket = let less = found.count_filter (is_in_bucket options bucket) (λ r. not (has_key write.key r)) s.records in let few = kept.buckets bucket in omega arith
 
   pub others_laid : IsLaid 0 (tail_of s.stamp) (others write.key s.records)
@@ -233,25 +234,25 @@ abbrev pub live_of : Options → Cache → List Record
 live_of options t = filter (λ held. is_live options.words t.stamp held.offset) t.records
 
 abbrev pub left_of : Options → Write → List Record → List Record
-left_of options write rs = cond (eqb (count_by (here_of options write) rs) 16) (without_first (here_of options write) rs) rs
+left_of options write rs = cond (eqb (count_by (here_of options write) rs) (SLOTS + 1)) (without_first (here_of options write) rs) rs
 
 -- what holds of a list, and of it without the first record of the bucket, holds of what is left
 by_left : (P : List Record → Type 0) (options : Options) (write : Write) (rs : List Record) → (P rs → P (without_first (here_of options write) rs)) → P rs → P (left_of options write rs)
-by_left P options write rs less all = elim (eqb (count_by (here_of options write) rs) 16) as (λ b. P (cond b (without_first (here_of options write) rs) rs)) [ true ↦ less all | false ↦ all ]
+by_left P options write rs less all = elim (eqb (count_by (here_of options write) rs) (SLOTS + 1)) as (λ b. P (cond b (without_first (here_of options write) rs) rs)) [ true ↦ less all | false ↦ all ]
 
 module _ (options : Options) (s : Cache) (kept : IsKept options s) (write : Write) (t : Cache) (written : IsWritten options s write t) where
-  few_left : (bucket : ℕ) → count_by (is_in_bucket options bucket) (left_of options write (live_of options t)) ≤ 15
+  few_left : (bucket : ℕ) → count_by (is_in_bucket options bucket) (left_of options write (live_of options t)) ≤ SLOTS
   few_left bucket =
       let live = live_of options t in
       ⊎_elim
-      (λ (same : bucket_of write.key options.buckets ≡ bucket). subst (λ (b : ℕ). count_by (is_in_bucket options b) (left_of options write live) ≤ 15) same
-      (elim (eqb (count_by (here_of options write) live) 16) as (λ b. eqb (count_by (here_of options write) live) 16 ≡ b → count_by (here_of options write) (cond b (without_first (here_of options write) live) live) ≤ 15) [
+      (λ (same : bucket_of write.key options.buckets ≡ bucket). subst (λ (b : ℕ). count_by (is_in_bucket options b) (left_of options write live) ≤ SLOTS) same
+      (elim (eqb (count_by (here_of options write) live) (SLOTS + 1)) as (λ b. eqb (count_by (here_of options write) live) (SLOTS + 1) ≡ b → count_by (here_of options write) (cond b (without_first (here_of options write) live) live) ≤ SLOTS) [
         | true ↦ λ full.
-            let is = eqb-true (count_by (here_of options write) live) 16 full in
+            let is = eqb-true (count_by (here_of options write) live) (SLOTS + 1) full in
             let less = found.count_without_first (here_of options write) live (omega arith) in
             omega arith
         | false ↦ λ room.
-            let not_full = eqb-false (count_by (here_of options write) live) 16 room in
+            let not_full = eqb-false (count_by (here_of options write) live) (SLOTS + 1) room in
             let most = found.count_filter (here_of options write) (λ held. is_live options.words t.stamp held.offset) t.records in
             let few = written.here in
             omega arith
@@ -259,7 +260,7 @@ module _ (options : Options) (s : Cache) (kept : IsKept options s) (write : Writ
       (λ (other : bucket_of write.key options.buckets ≢ bucket).
       let fewer = found.count_filter (is_in_bucket options bucket) (λ held. is_live options.words t.stamp held.offset) t.records in
       let few = written.there bucket other in
-      by_left (λ rs. count_by (is_in_bucket options bucket) rs ≤ 15) options write live (λ le. let less = found.count_without_first_le (is_in_bucket options bucket) (here_of options write) live in omega arith) (omega arith))
+      by_left (λ rs. count_by (is_in_bucket options bucket) rs ≤ SLOTS) options write live (λ le. let less = found.count_without_first_le (is_in_bucket options bucket) (here_of options write) live in omega arith) (omega arith))
       (cases_eq (bucket_of write.key options.buckets) bucket)
 
   pub step_kept : IsKept options (record { records = left_of options write (live_of options t); stamp = t.stamp; accepted = s.accepted + 1 })

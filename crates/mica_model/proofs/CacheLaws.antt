@@ -6,6 +6,7 @@ use Rattle.std.proofs.lemmas.Option.{same_Some}
 use Rattle.std.proofs.lemmas.Bool.{leb-true, le-leb, eqb-true, ne_eqb}
 use Rattle.std.proofs.lemmas.List.Sums.{sum_by_push}
 use Rattle.std.proofs.lemmas.List.Elements.{filter-append}
+use Rattle.mica_words.specs.declared.entry.TheConstants.{SLOTS}
 use Rattle.mica_words.specs.Hash.{bucket_of}
 use Rattle.mica_words.specs.Item.{KeyFits, ValueFits, item_size, largest_item}
 use Rattle.mica_words.specs.Packing.{AreBytes}
@@ -125,7 +126,7 @@ module _ (options : Options) (s : Cache) (kept : IsKept options s) (write : Writ
 
   -- what is displaced is of the written bucket
   left_same : (rs : List Record) → find (has_key key) (left_of options write rs) ≡ find (has_key key) rs
-  left_same rs = elim (eqb (count_by (here_of options write) rs) 16) as (λ b. find (has_key key) (cond b (without_first (here_of options write) rs) rs) ≡ find (has_key key) rs) [
+  left_same rs = elim (eqb (count_by (here_of options write) rs) (SLOTS + 1)) as (λ b. find (has_key key) (cond b (without_first (here_of options write) rs) rs) ≡ find (has_key key) rs) [
     | true ↦ found.found_without_first (has_key key) (here_of options write)
         (λ r here. ne_eqb (bucket_of r.key options.buckets) (bucket_of write.key options.buckets) (λ same. apart (ap (λ (k : List ℕ). bucket_of k options.buckets) (sym (laid.key_is key r here)) ∙ same))) rs
     | false ↦ refl
@@ -200,20 +201,20 @@ module _ (options : Options) (valid : IsValid options) (s : Cache) (kept : IsKep
   live_are = filter-append (live_test options (put_of None)) (others write.key s.records) (new_record s write.key write.value ∷ [])
       ∙ ap (λ b. filter (live_test options (put_of None)) (others write.key s.records) ++ cond b (new_record s write.key write.value ∷ []) []) new_live
 
-  few_others : count_by (here_of options write) (filter (live_test options (put_of None)) (others write.key s.records)) ≤ 15
+  few_others : count_by (here_of options write) (filter (live_test options (put_of None)) (others write.key s.records)) ≤ SLOTS
   few_others =
       let one = found.count_filter (here_of options write) (live_test options (put_of None)) (others write.key s.records) in
       let two = found.count_filter (here_of options write) (λ r. not (has_key write.key r)) s.records in
       let few = kept.buckets (bucket_of write.key options.buckets) in
       omega arith
 
-  found_left : (rs : List Record) → find (has_key write.key) rs ≡ None → count_by (here_of options write) rs ≤ 15
+  found_left : (rs : List Record) → find (has_key write.key) rs ≡ None → count_by (here_of options write) rs ≤ SLOTS
       → find (has_key write.key) (left_of options write (rs ++ new_record s write.key write.value ∷ [])) ≡ Some (new_record s write.key write.value)
   found_left rs none few =
-      elim (eqb (count_by (here_of options write) (rs ++ new_record s write.key write.value ∷ [])) 16) as (λ b. eqb (count_by (here_of options write) (rs ++ new_record s write.key write.value ∷ [])) 16 ≡ b
+      elim (eqb (count_by (here_of options write) (rs ++ new_record s write.key write.value ∷ [])) (SLOTS + 1)) as (λ b. eqb (count_by (here_of options write) (rs ++ new_record s write.key write.value ∷ [])) (SLOTS + 1) ≡ b
       → find (has_key write.key) (cond b (without_first (here_of options write) (rs ++ new_record s write.key write.value ∷ [])) (rs ++ new_record s write.key write.value ∷ [])) ≡ Some (new_record s write.key write.value)) [
         | true ↦ λ full.
-            let is_full = eqb-true (count_by (here_of options write) (rs ++ new_record s write.key write.value ∷ [])) 16 full in
+            let is_full = eqb-true (count_by (here_of options write) (rs ++ new_record s write.key write.value ∷ [])) (SLOTS + 1) full in
             let all = sum_by_push (λ (r : Record). cond {A = ℕ} (here_of options write r) 1 0) rs (new_record s write.key write.value) in
             let one : cond {A = ℕ} (here_of options write (new_record s write.key write.value)) 1 0 ≤ 1 = elim (here_of options write (new_record s write.key write.value)) as (λ b. cond {A = ℕ} b 1 0 ≤ 1) [ true ↦ omega arith | false ↦ omega arith ] in
             let some : 0 < count_by (here_of options write) rs = omega arith in
@@ -247,8 +248,8 @@ module _ (options : Options) (valid : IsValid options) (s : Cache) (kept : IsKep
         let fewer = found.count_filter (here_of options write) (live_test options t) t.records in
         let same = count_map (here_of options write) (rewritten write) (λ r. ap (λ k. eqb (bucket_of k options.buckets) (bucket_of write.key options.buckets)) (rewritten_key write r)) s.records in
         let few = kept.buckets (bucket_of write.key options.buckets) in
-        let not_full : count_by (here_of options write) live ≡ 16 → ⊥ = λ full. omega arith in
-        ap (λ b. find (has_key write.key) (cond b (without_first (here_of options write) live) live)) (ne_eqb (count_by (here_of options write) live) 16 not_full) ∙ passes
+        let not_full : count_by (here_of options write) live ≡ SLOTS + 1 → ⊥ = λ full. omega arith in
+        ap (λ b. find (has_key write.key) (cond b (without_first (here_of options write) live) live)) (ne_eqb (count_by (here_of options write) live) (SLOTS + 1) not_full) ∙ passes
 
   -- where the item of a put begins, and the room that it has
   pub record PutRecord (t : Cache) (o : Option Record) : Type 0 where
@@ -307,8 +308,8 @@ module _ (options : Options) (history : History) (writes : AllOf IsWrite history
       → KeyFits key × AreBytes key × ValueFits r.value × AreBytes r.value × (item_size key r.value ≤ r.room) × (r.room < 65536)
   record_fits = fits_kept options s (kept_in options history writes s at)
 
-  -- at most 15 records are in one bucket
-  pub buckets_few : (bucket : ℕ) → count_by (is_in_bucket options bucket) s.records ≤ 15
+  -- no bucket has more records than entries
+  pub buckets_few : (bucket : ℕ) → count_by (is_in_bucket options bucket) s.records ≤ SLOTS
   buckets_few = (kept_in options history writes s at).buckets
 
 module _ (options : Options) (history : History) (writes : AllOf IsWrite history) (write : Write) (is : IsWrite write) (before : Cache) (at : state_of options history ≡ cache_state before) where

@@ -5,7 +5,6 @@ use Rattle.std.specs.Str.{bytes_eq}
 use Rattle.std.proofs.lemmas.Bool.{true≢false}
 use Rattle.mica_model.specs.declared.options.Options.{Options}
 use Rattle.mica_model.specs.declared.options.Mode.TheVariants.{Cache as CacheMode}
-use Rattle.mica_model.specs.declared.accepted.Accepted.{Accepted}
 use Rattle.mica_model.specs.declared.write.Write.{Write}
 use Rattle.mica_model.specs.declared.write.Op.{Op}
 use Rattle.mica_model.specs.declared.write.Op.TheVariants.{Put, Del}
@@ -18,13 +17,12 @@ use Rattle.mica_model.specs.Write.{IsWrite, is_accepted}
 use Rattle.mica_model.specs.Cache as cache
 use Rattle.mica_model.specs.Cache.{Cache}
 use Rattle.mica_model.specs.CacheStep as cs
-use Rattle.mica_model.specs.CacheFields.{writes_of, fate_in, fate_written, marked_passed, marked_displaced, displaced_record}
+use Rattle.mica_model.specs.CacheFields.{Notes, fate_in, fate_written, marked_passed, marked_displaced, displaced_record}
 use Rattle.mica_model.specs.Fate.{has_record, fate_of, fate_after}
 use Rattle.mica_model.specs.History.{History, State, cache_state, after, state_of, IsHistory, Allows}
 use Rattle.mica_model.specs.Logged.{IsLoggedStep}
 use Rattle.mica_model.proofs.CacheLaws.{kept_in}
 use Rattle.mica_model.proofs.FateLaws.{cache_of, state_is_cache, fate_snoc, right_in}
-use Rattle.mica_model.proofs.FateMarks.{passed_writes, displaced_writes}
 use Rattle.mica_model.proofs.FateSteps.{fate_step}
 use Rattle.mica_model.proofs.Found.{all_push}
 use Rattle.mica_model.proofs.Histories.{state_snoc, history_snoc}
@@ -92,25 +90,21 @@ pub counted : (options : Options) (s : Cache) (write : Write) (n : ℕ) → n �
 unfolding cs.after
 counted options s write n is = ap (λ (m : ℕ). record (cs.without_displaced options write.key (cs.without_passed options (cs.after_write options s write))) { accepted = m + 1 }) is
 
-module _ (options : Options) (valid : IsValid options) (mode : options.mode ≡ CacheMode) (log : List Accepted) (writes : AllOf IsWrite (writes_of log)) (s : Cache) (at : state_of options (writes_of log) ≡ cache_state s)
-    (fates : (key : List ℕ) → fate_of options (writes_of log) key ≡ fate_in log key) (write : Write) (is : IsWrite write) where
-  state_is : cache_of options (writes_of log) ≡ s
-  state_is = same_state _ _ (sym (state_is_cache options mode (writes_of log)) ∙ at)
+module _ (options : Options) (valid : IsValid options) (mode : options.mode ≡ CacheMode) (history : History) (writes : AllOf IsWrite history) (s : Cache) (at : state_of options history ≡ cache_state s)
+    (log : Notes) (fates : (key : List ℕ) → fate_of options history key ≡ fate_in log key) (write : Write) (is : IsWrite write) where
+  state_is : cache_of options history ≡ s
+  state_is = same_state _ _ (sym (state_is_cache options mode history) ∙ at)
 
   right : (key : List ℕ) → has_record s key ≡ true → fate_in log key ≡ Held
-  right key here = sym (fates key) ∙ (right_in options (writes_of log) key).on (ap (λ (t : Cache). has_record t key) state_is ∙ here)
+  right key here = sym (fates key) ∙ (right_in options history key).on (ap (λ (t : Cache). has_record t key) state_is ∙ here)
 
-  pub later_fates : (n : ℕ) → n ≡ length (writes_of log) + 1 → (noted : List Accepted) (fate : Fate) → fate ≡ fate_written (cs.reply_of write.op options write (has_record s write.key)) n (fate_in log write.key)
+  pub later_fates : (n : ℕ) → n ≡ length history + 1 → (noted : Notes) (fate : Fate) → fate ≡ fate_written (cs.reply_of write.op options write (has_record s write.key)) n (fate_in log write.key)
       → ((key : List ℕ) → fate_in noted key ≡ cond (bytes_eq write.key key) fate (fate_in log key))
-      → (key : List ℕ) → fate_of options (writes_of log ++ write ∷ []) key
+      → (key : List ℕ) → fate_of options (history ++ write ∷ []) key
       ≡ fate_in (marked_displaced (Displaced n) (displaced_record options write.key (cs.without_passed options (cs.after_write options s write)).records)
       (marked_passed (Passed n) options.words (cs.after_write options s write).stamp (cs.after_write options s write).records noted)) key
   later_fates n count noted fate fate_is notes key =
-      fate_snoc options (writes_of log) write key
-      ∙ ap (λ (t : Cache). fate_after options t write (length (writes_of log) + 1) key (fate_of options (writes_of log) key)) state_is
-      ∙ ap (λ (m : ℕ). fate_after options s write m key (fate_of options (writes_of log) key)) (sym count)
-      ∙ fate_step options valid s (kept_in options (writes_of log) writes s at) write is n log right noted fate fate_is notes key (fate_of options (writes_of log) key) (fates key)
-
-pub later_log : (options : Options) (key : List ℕ) (n words stamp : ℕ) (rs ts : List cache.Record) (noted : List Accepted)
-    → writes_of (marked_displaced (Displaced n) (displaced_record options key ts) (marked_passed (Passed n) words stamp rs noted)) ≡ writes_of noted
-later_log options key n words stamp rs ts noted = displaced_writes options key (Displaced n) ts (marked_passed (Passed n) words stamp rs noted) ∙ passed_writes (Passed n) words stamp rs noted
+      fate_snoc options history write key
+      ∙ ap (λ (t : Cache). fate_after options t write (length history + 1) key (fate_of options history key)) state_is
+      ∙ ap (λ (m : ℕ). fate_after options s write m key (fate_of options history key)) (sym count)
+      ∙ fate_step options valid s (kept_in options history writes s at) write is n log right noted fate fate_is notes key (fate_of options history key) (fates key)

@@ -5,6 +5,7 @@ use Rattle.std.proofs.lemmas.List.Quantifiers.{position-Some}
 use Rattle.std.specs.Prelude.{map, option_map}
 use Rattle.std.proofs.lemmas.Bool.{eq-eqb, ne_eqb, le-leb, lt-leb, and_from, and_left, and_right}
 use Rattle.std.proofs.lemmas.Option.{none-some}
+use Rattle.mica_words.specs.declared.entry.TheConstants.{SLOTS}
 use Rattle.mica_words.specs.Hash.{bucket_of}
 use Rattle.mica_model.specs.declared.options.Options.{Options}
 use Rattle.mica_model.specs.declared.write.Write.{Write}
@@ -25,39 +26,39 @@ module _ (options : Options) (key : List ℕ) (records : List Record) where
   here = is_in_bucket options (bucket_of key options.buckets)
 
   abbrev left : List Record
-  left = cond (eqb (count_by here records) 16) (without_first here records) records
+  left = cond (eqb (count_by here records) (SLOTS + 1)) (without_first here records) records
 
-  pub displaced_goes : (at : ℕ) (d : Record) → displaced_at options key records ≡ Some at → remove records at ≡ cond (eqb (count_by (is_in_bucket options (bucket_of key options.buckets)) records) 16) (without_first (is_in_bucket options (bucket_of key options.buckets)) records) records
-  displaced_goes at d is = elim (eqb (count_by here records) 16) as (λ b. cond b (position here records) None ≡ Some at → remove records at ≡ cond b (without_first here records) records) [
+  pub displaced_goes : (at : ℕ) (d : Record) → displaced_at options key records ≡ Some at → remove records at ≡ cond (eqb (count_by (is_in_bucket options (bucket_of key options.buckets)) records) (SLOTS + 1)) (without_first (is_in_bucket options (bucket_of key options.buckets)) records) records
+  displaced_goes at d is = elim (eqb (count_by here records) (SLOTS + 1)) as (λ b. cond b (position here records) None ≡ Some at → remove records at ≡ cond b (without_first here records) records) [
     | true ↦ λ e. sym (removed_at here records at d e)
     | false ↦ λ e. absurd (none-some at e)
   ] is
 
-  pub displaced_none : displaced_at options key records ≡ None → records ≡ cond (eqb (count_by (is_in_bucket options (bucket_of key options.buckets)) records) 16) (without_first (is_in_bucket options (bucket_of key options.buckets)) records) records
-  displaced_none is = elim (eqb (count_by here records) 16) as (λ b. cond b (position here records) None ≡ None → records ≡ cond b (without_first here records) records) [
+  pub displaced_none : displaced_at options key records ≡ None → records ≡ cond (eqb (count_by (is_in_bucket options (bucket_of key options.buckets)) records) (SLOTS + 1)) (without_first (is_in_bucket options (bucket_of key options.buckets)) records) records
+  displaced_none is = elim (eqb (count_by here records) (SLOTS + 1)) as (λ b. cond b (position here records) None ≡ None → records ≡ cond b (without_first here records) records) [
     | true ↦ λ e. sym (kept_all here records e)
     | false ↦ λ e. refl
   ] is
 
   module _ (bucket : ℕ) (is : bucket ≡ bucket_of key options.buckets) where
-    pub displaced_full : count_by (is_in_bucket options bucket) records ≡ 16 → position (is_in_bucket options bucket) records ≡ displaced_at options key records
+    pub displaced_full : count_by (is_in_bucket options bucket) records ≡ SLOTS + 1 → position (is_in_bucket options bucket) records ≡ displaced_at options key records
     displaced_full full =
-        let P : ℕ → Type 0 = λ b. count_by (is_in_bucket options b) records ≡ 16 in
-        ap (λ b. position (is_in_bucket options b) records) is ∙ sym (ap (λ t. cond t (position here records) None) (eq-eqb (count_by here records) 16 (subst P is full)))
+        let P : ℕ → Type 0 = λ b. count_by (is_in_bucket options b) records ≡ SLOTS + 1 in
+        ap (λ b. position (is_in_bucket options b) records) is ∙ sym (ap (λ t. cond t (position here records) None) (eq-eqb (count_by here records) (SLOTS + 1) (subst P is full)))
 
-    pub displaced_not_full : (count_by (is_in_bucket options bucket) records ≡ 16 → ⊥) → None ≡ displaced_at options key records
+    pub displaced_not_full : (count_by (is_in_bucket options bucket) records ≡ SLOTS + 1 → ⊥) → None ≡ displaced_at options key records
     displaced_not_full other =
-        let P : ℕ → Type 0 = λ b. count_by (is_in_bucket options b) records ≡ 16 → ⊥ in
-        sym (ap (λ t. cond t (position here records) None) (ne_eqb (count_by here records) 16 (subst P is other)))
+        let P : ℕ → Type 0 = λ b. count_by (is_in_bucket options b) records ≡ SLOTS + 1 → ⊥ in
+        sym (ap (λ t. cond t (position here records) None) (ne_eqb (count_by here records) (SLOTS + 1) (subst P is other)))
 
   pub displaced_found : (at : ℕ) → displaced_at options key records ≡ Some at → (held : Record) → held ≡ get_or records at held → displaced_record options key records ≡ Some held
-  displaced_found at is held read = elim (eqb (count_by here records) 16) as (λ b. cond b (position here records) None ≡ Some at → cond b (find here records) None ≡ Some held) [
+  displaced_found at is held read = elim (eqb (count_by here records) (SLOTS + 1)) as (λ b. cond b (position here records) None ≡ Some at → cond b (find here records) None ≡ Some held) [
     | true ↦ λ e. found_at here records at e held ∙ ap Some (sym read)
     | false ↦ λ e. absurd (none-some at e)
   ] is
 
   pub displaced_missed : displaced_at options key records ≡ None → displaced_record options key records ≡ None
-  displaced_missed is = elim (eqb (count_by here records) 16) as (λ b. cond b (position here records) None ≡ None → cond b (find here records) None ≡ None) [
+  displaced_missed is = elim (eqb (count_by here records) (SLOTS + 1)) as (λ b. cond b (position here records) None ≡ None → cond b (find here records) None ≡ None) [
     | true ↦ λ e. missed_all here records e
     | false ↦ λ e. refl
   ] is

@@ -11,8 +11,9 @@ use Rattle.std.specs.BTreeMap.{insert_entry, is_at}
 use Rattle.std.specs.List.{AllByRecursion}
 use Rattle.std.specs.List.Sorted.{IsStrictlySortedBy}
 use Rattle.std.specs.Map.{lookup, remove_entry, keys_of}
-use Rattle.std.specs.FinMap.{find, put, is_sorted, get, insert, remove, entries, empty, from_sorted, same_entries_map, entries-from_sorted, entries-insert, get-from_sorted, get-remove, same_map, empty_of_len, len-entries, slice_cmp-IsAntisymmetric, nat_cmp-IsAntisymmetric}
+use Rattle.std.specs.FinMap.{find, put, is_sorted, get, len, insert, remove, entries, empty, from_sorted, same_entries_map, entries-from_sorted, entries-insert, get-from_sorted, get-remove, same_map, empty_of_len, len-entries, slice_cmp-IsAntisymmetric, nat_cmp-IsAntisymmetric}
 use Rattle.std.specs.FinMap.Entries.{below_all, where_key, is_sorted-put, is_sorted-where_key, find-where_key, by_order}
+use Rattle.std.proofs.lemmas.List.{length-map}
 use Rattle.std.proofs.lemmas.Map.Keys.{sorted_head, sorted_tail}
 use Rattle.mica_model.specs.declared.cell.Cell.{Cell as CellInCode}
 use Rattle.mica_model.specs.Store.{Cell}
@@ -109,6 +110,9 @@ removed_entry key (e ∷ es) sorted =
 module _ (es : List (Vec ℕ × CellInCode)) (sorted : T (is_sorted by_bytes (entries_of es))) where
   pub entries_are : entries (from_sorted {R = by_bytes} (entries_of es)) ≡ entries_of es
   entries_are = entries-from_sorted by_bytes (entries_of es) sorted
+
+  pub number_of_cells : length es ≡ len (from_sorted {R = by_bytes} (entries_of es))
+  number_of_cells = sym (len-entries (from_sorted {R = by_bytes} (entries_of es)) ∙ ap length entries_are ∙ length-map es (λ entry. (entry.0.items, cell_of entry.1)))
 
   pub get_cell : (key : List ℕ) → get (from_sorted {R = by_bytes} (entries_of es)) key ≡ option_map cell_of (lookup (has_bytes key) es)
   get_cell key = get-from_sorted by_bytes (entries_of es) key sorted ∙ find_entry key es

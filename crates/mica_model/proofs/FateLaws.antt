@@ -2,6 +2,7 @@
 use Rattle.std.proofs.Common.{◌≡◌, ℕ, ◌+◌, List, [], ◌∷◌, ◌++◌, length, Option, Some, None, Bool, true, false, cond, not, ◌&&◌, refl, sym, ap, ◌∙◌, subst, arith, is_some, ◌≢◌, eqb}
 use Rattle.std.specs.List.{find, fold, count_by}
 use Rattle.std.specs.Prelude.{option_map}
+use Rattle.mica_words.specs.declared.entry.TheConstants.{SLOTS}
 use Rattle.mica_model.specs.declared.options.Options.{Options}
 use Rattle.mica_model.specs.declared.options.Mode.{Mode}
 use Rattle.mica_model.specs.declared.options.Mode.TheVariants.{Cache as CacheMode}
@@ -64,7 +65,7 @@ module _ (options : Options) (s : Cache) (write : Write) (key : List ℕ) where
   pub left_live : has_record (cs.after options s write) key ≡ true → has_record (cs.without_passed options (cs.after_write options s write)) key ≡ true
   unfolding cs.after
   left_live = some_back (record_of two key) (find (has_key key) (left_of options write two.records))
-      (λ none. elim (eqb (count_by (here_of options write) two.records) 16) as (λ b. find (has_key key) (cond b (cs.without_first (here_of options write) two.records) two.records) ≡ None) [
+      (λ none. elim (eqb (count_by (here_of options write) two.records) (SLOTS + 1)) as (λ b. find (has_key key) (cond b (cs.without_first (here_of options write) two.records) two.records) ≡ None) [
         | true ↦ found.missed_without_first (has_key key) (here_of options write) two.records none
         | false ↦ none
       ])

@@ -4,7 +4,6 @@ use Rattle.std.specs.Str.{bytes_eq}
 use Rattle.std.proofs.lemmas.Bool.{true≢false}
 use Rattle.std.proofs.lemmas.Slice.Eq.{bytes_eq-Decides}
 use Rattle.mica_model.specs.declared.options.Options.{Options}
-use Rattle.mica_model.specs.declared.accepted.Accepted.{Accepted}
 use Rattle.mica_model.specs.declared.write.Write.{Write}
 use Rattle.mica_model.specs.declared.write.Op.{Op}
 use Rattle.mica_model.specs.declared.write.Op.TheVariants.{Put, Del}
@@ -14,13 +13,13 @@ use Rattle.mica_model.specs.Options.{IsValid}
 use Rattle.mica_model.specs.Write.{IsWrite}
 use Rattle.mica_model.specs.Cache.{Cache}
 use Rattle.mica_model.specs.CacheStep as cs
-use Rattle.mica_model.specs.CacheFields.{IsUnique, fate_in, fate_written, marked_passed, marked_displaced, displaced_record}
+use Rattle.mica_model.specs.CacheFields.{IsUnique, Notes, fate_in, fate_written, marked_passed, marked_displaced, displaced_record}
 use Rattle.mica_model.specs.Fate.{has_record, fate_after}
 use Rattle.mica_model.proofs.Laid as laid
 use Rattle.mica_model.proofs.CacheKept.{others_lack, IsKept, after_write_is}
 use Rattle.mica_model.proofs.CacheLaws.{written_same, written_held}
 use Rattle.mica_model.proofs.FateLaws.{pick, live_wrote, left_live}
-use Rattle.mica_model.proofs.FateMarks.{has, has_write, passed_fate, passed_has, displaced_fate, held_has}
+use Rattle.mica_model.proofs.FateMarks.{has, has_note, passed_fate, passed_has, displaced_fate, held_has}
 
 pick_same : (had wrote live left : Bool) (n : ℕ) (written before : Fate) → (left ≡ true → live ≡ true) → (live ≡ true → wrote ≡ true)
     → (wrote ≡ true → written ≡ Held) → (wrote ≡ false → written ≡ cond had (Deleted n) before)
@@ -35,9 +34,9 @@ pick_same false false false false n written before up up' held gone = gone refl
 pick_same had wrote false true n written before up up' held gone = absurd (true≢false (sym (up refl)))
 pick_same had false true left n written before up up' held gone = absurd (true≢false (sym (up' refl)))
 
-module _ (options : Options) (valid : IsValid options) (s : Cache) (kept : IsKept options s) (write : Write) (is : IsWrite write) (n : ℕ) (log : List Accepted)
+module _ (options : Options) (valid : IsValid options) (s : Cache) (kept : IsKept options s) (write : Write) (is : IsWrite write) (n : ℕ) (log : Notes)
     (right : (key : List ℕ) → has_record s key ≡ true → fate_in log key ≡ Held)
-    (noted : List Accepted) (fate : Fate) (fate_is : fate ≡ fate_written (cs.reply_of write.op options write (has_record s write.key)) n (fate_in log write.key))
+    (noted : Notes) (fate : Fate) (fate_is : fate ≡ fate_written (cs.reply_of write.op options write (has_record s write.key)) n (fate_in log write.key))
     (notes : (key : List ℕ) → fate_in noted key ≡ cond (bytes_eq write.key key) fate (fate_in log key)) where
   abbrev one : Cache
   one = cs.after_write options s write
@@ -91,9 +90,9 @@ module _ (options : Options) (valid : IsValid options) (s : Cache) (kept : IsKep
   unfolding cs.after
   fate_step key before before_is =
       let passed = marked_passed (Passed n) options.words one.stamp one.records noted in
-      let in_noted : has one.records key ≡ true → has_write noted key ≡ true = λ here. held_has noted key (wrote_held key here) in
+      let in_noted : has one.records key ≡ true → has_note noted key ≡ true = λ here. held_has noted key (wrote_held key here) in
       let after_passed = passed_fate (Passed n) options.words one.stamp one.records noted key unique_one in_noted in
-      let in_passed : has two.records key ≡ true → has_write passed key ≡ true =
+      let in_passed : has two.records key ≡ true → has_note passed key ≡ true =
       λ here. passed_has (Passed n) options.words one.stamp one.records noted key ∙ in_noted (live_wrote options s write key here) in
       let after_displaced = displaced_fate options write.key (Displaced n) two.records passed key (laid.unique_filter _ one.records unique_one) in_passed in
       sym (after_displaced

@@ -31,7 +31,7 @@ is_equal Less e = cc
 is_equal Equal e = refl
 is_equal Greater e = cc
 
-bytes_are_same : (key key' : List ℕ) → same_bytes key key' ≡ true → key ≡ key'
+pub bytes_are_same : (key key' : List ℕ) → same_bytes key key' ≡ true → key ≡ key'
 bytes_are_same key key' e = slice_cmp-IsAntisymmetric nat_cmp-IsAntisymmetric key key' (is_equal (slice_cmp nat_cmp key key') e)
 
 bytes_differ : (key key' : List ℕ) → key ≢ key' → same_bytes key key' ≡ false

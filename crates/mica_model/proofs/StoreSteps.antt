@@ -4,6 +4,7 @@ use Rattle.std.specs.Prelude.{max, nat_le, IsSomeAnd}
 use Rattle.std.specs.FinMap.{get, insert, remove}
 use Rattle.std.proofs.lemmas.Bool.{leb-true, leb-false}
 use Rattle.std.proofs.lemmas.Bool.Decides.{eqb_tells}
+use Rattle.mica_words.specs.declared.entry.TheConstants.{SLOTS}
 use Rattle.mica_words.specs.Hash.{bucket_of}
 use Rattle.mica_words.specs.Item.{item_size}
 use Rattle.mica_model.specs.declared.options.Options.{Options}
@@ -56,7 +57,7 @@ module _ (options : Options) (s : Store) (op : Op) (key value : List ℕ) (room 
         (eqb_tells (spares_in_use options.buckets s.cells) options.spares))
         (eqb_tells keys 0))
         (λ free. let rest = free.1 in omega arith)
-        (eqb_tells (keys % 15) 0)
+        (eqb_tells (keys % SLOTS) 0)
 
     pub put_spares : FitsRoom s (write_of op key value) ⊎ (NeedsBlock options s (write_of op key value) × HasWords options s (write_of op key value))
         → spares_in_use options.buckets s.cells ≤ options.spares → spares_in_use options.buckets (insert s.cells key new_cell) ≤ options.spares

@@ -1,9 +1,13 @@
 -- The fields of the cache machine, as its methods speak of them.
 use Rattle.std.specs.Prelude.{◌≡◌, ℕ, ◌+◌, ◌==◌, Bool, List, [], ◌∷◌, Option, Some, None, is_some, find, map, fold, count_by, position, option_map, unwrap_or, bytes_eq, if◌then◌else◌}
+use Rattle.std.specs.Ordering.{nat_cmp}
+use Rattle.std.specs.Cmp.Lexicographic.{slice_cmp}
+use Rattle.std.specs.BTreeMap.{is_at}
+use Rattle.std.specs.Map.{lookup}
 use Rattle.mica_words.specs.Hash.{bucket_of}
 use Rattle.mica_words.specs.declared.entry.TheConstants.{SLOTS}
 use Rattle.mica_model.specs.declared.options.Options.{Options}
-use Rattle.mica_model.specs.declared.accepted.Accepted.{Accepted}
+use Rattle.mica_model.specs.declared.fates.Fates.{Fates}
 use Rattle.mica_model.specs.declared.fate.Fate.{Fate}
 use Rattle.mica_model.specs.declared.fate.Fate.TheVariants.{Never, Deleted as Gone, Held}
 use Rattle.mica_model.specs.declared.write.Outcome.{Outcome}
@@ -11,7 +15,6 @@ use Rattle.mica_model.specs.declared.write.Outcome.TheVariants.{Stored, Deleted}
 use Rattle.mica_model.specs.declared.write.Write.{Write}
 use Rattle.mica_model.specs.Cache.{Record, Cache, has_key, is_live}
 use Rattle.mica_model.specs.CacheStep.{kept_record, is_in_bucket}
-use Rattle.mica_model.specs.History.{History}
 
 -- no key has two records
 abbrev pub IsUnique : List Record → Type 0
@@ -35,30 +38,33 @@ displaced_record options key records =
     let here : Record → Bool = is_in_bucket options (bucket_of key options.buckets) in
     if count_by here records == SLOTS + 1 then find here records else None
 
--- the writes of a list
-abbrev pub writes_of : List Accepted → History
-writes_of log = map (λ accepted. accepted.write) log
+-- the notes of a machine: what became of each key, of which it has one
+abbrev pub Notes : Type 0
+Notes = List ℕ → Option Fate
 
-abbrev pub is_to : List ℕ → Accepted → Bool
-is_to key accepted = bytes_eq accepted.write.key key
+abbrev pub notes_of : Fates → Notes
+notes_of fates = λ key. lookup (is_at (λ k. slice_cmp nat_cmp key k.items)) fates.notes.entries
 
--- the fate that the list has for a key: that of the first write to it
-abbrev pub fate_in : List Accepted → List ℕ → Fate
-fate_in log key = unwrap_or (option_map (λ accepted. accepted.fate) (find (is_to key) log)) Never
+abbrev pub no_notes : Notes
+no_notes = λ key. None
 
--- each write to the key has the fate
-abbrev pub marked : List ℕ → Fate → List Accepted → List Accepted
-marked key fate log = map (λ accepted. if is_to key accepted then record accepted { fate = fate } else accepted) log
+-- the fate that the notes have for a key, which is never without one
+abbrev pub fate_in : Notes → List ℕ → Fate
+fate_in notes key = unwrap_or (notes key) Never
 
--- each write to a key whose record the log has passed has the fate
-abbrev pub marked_passed : Fate → ℕ → ℕ → List Record → List Accepted → List Accepted
-marked_passed fate words stamp records log =
-    fold (λ marks held. if is_live words stamp held.offset then marks else marked held.key fate marks) log records
+-- the key's note, if it has one, says this fate
+abbrev pub marked : List ℕ → Fate → Notes → Notes
+marked key fate notes = λ k. if bytes_eq key k then option_map (λ _. fate) (notes k) else notes k
 
--- each write to the key of a displaced record has the fate
-abbrev pub marked_displaced : Fate → Option Record → List Accepted → List Accepted
-marked_displaced fate None log = log
-marked_displaced fate (Some held) log = marked held.key fate log
+-- so does the note of each key whose record the log has passed
+abbrev pub marked_passed : Fate → ℕ → ℕ → List Record → Notes → Notes
+marked_passed fate words stamp records notes =
+    fold (λ marks held. if is_live words stamp held.offset then marks else marked held.key fate marks) notes records
+
+-- and that of a displaced record's key
+abbrev pub marked_displaced : Fate → Option Record → Notes → Notes
+marked_displaced fate None notes = notes
+marked_displaced fate (Some held) notes = marked held.key fate notes
 
 -- the fate of a key once a write to it had an outcome, where it had another before
 abbrev pub fate_written : Outcome → ℕ → Fate → Fate

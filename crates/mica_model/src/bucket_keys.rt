@@ -1,4 +1,4 @@
-// How many keys each bucket has, and the spares that are in use behind all of them.
+//! How many keys each bucket has, and the spares that are in use behind all of them.
 ghost use Rattle.std.specs.Prelude.{◌≡◌, ◌+◌, ◌<◌, ◌≤◌, ◌^◌, length, slice_index, slice_set, replicate, IfOk};
 ghost use Rattle.mica_model.specs.Store.{spares_behind};
 

@@ -3,7 +3,7 @@ ghost use Rattle.std.specs.Prelude.{◌≡◌, ◌↔◌, IsTrue, IfOk, OnErr, l
 ghost use Rattle.std.specs.List.{AllByRecursion};
 ghost use Rattle.mica_words.specs.Item.{KeyFits};
 ghost use Rattle.mica_model.specs.Answer.{IsAnswer};
-ghost use Rattle.mica_model.specs.CacheFields.{displaced_record, fate_written, marked_displaced, marked_passed};
+ghost use Rattle.mica_model.specs.CacheFields.{displaced_record, fate_written, marked_displaced, marked_passed, notes_of};
 ghost use Rattle.mica_model.specs.CacheStep.{without_displaced, without_passed};
 ghost use Rattle.mica_model.specs.Fate.{GivesNoValue, fate_of};
 ghost use Rattle.mica_model.specs.History.{MayGive, answer_of, stamp_of};
@@ -11,20 +11,21 @@ ghost use Rattle.mica_model.specs.Logged.{IsLoggedStep, new_log};
 ghost use Rattle.mica_model.specs.Options.{IsValid};
 ghost use Rattle.mica_model.specs.Write.{HasValueOf, write_of};
 
-use crate::accepted::{Accepted, fate_among, mark, mark_passed, put_accepted};
 use crate::cache_state::CacheState;
+use crate::fates::{Fates, mark_passed};
 use crate::{Answer, Fate, ItemBuf, Mode, Op, Options, Outcome, Write};
 use mica_io::{Bytes, NoMemory};
 use std::alloc::Global;
 use std::marker::Model;
 
-/// The one-thread machine of a partition in cache mode, plain and slow. It keeps its accepted writes, each with what
-/// became of its key.
+/// The one-thread machine of a partition in cache mode, plain and slow. It keeps its accepted writes, and what
+/// became of each key.
 #[derive(Drop)]
 pub struct CacheMachine {
     options: Options,
     state: CacheState,
-    log: Vec<Accepted>,
+    log: Vec<Write>,
+    fates: Fates,
 }
 
 impl Model for CacheMachine {
@@ -50,6 +51,7 @@ impl CacheMachine {
             options: *options,
             state: CacheState::new(alloc),
             log: Vec::new(alloc),
+            fates: Fates::new(alloc),
         })
     }
 
@@ -93,7 +95,7 @@ impl CacheMachine {
         ensures never { (result ≡ Fate.Never)
             ↔ AllByRecursion (GivesNoValue key.now) self.now.history }
     {
-        fate_among(&self.log, key)
+        self.fates.get(key)
     }
 
     /// Whether the machine may reply this to the write, as it would now.
@@ -131,12 +133,14 @@ impl CacheMachine {
             value: Bytes::copy(alloc, value)?,
         };
         self.log.reserve(1)?;
+        self.fates.add(alloc, key)?;
         let options = self.options;
         self.state.write(alloc, &options, op, key, value)?;
         let number = self.state.accepted() + 1;
-        let fate = fate_after(outcome, number, fate_among(&self.log, key));
-        put_accepted(&mut self.log, write, fate);
-        drop_dead(&mut self.state, &mut self.log, &options, key, number);
+        let fate = fate_after(outcome, number, self.fates.get(key));
+        self.fates.mark(key, fate);
+        drop_dead(&mut self.state, &mut self.fates, &options, key, number);
+        self.log.push_reserved(write);
         self.state.count();
         Ok(outcome)
     }
@@ -154,23 +158,17 @@ fn fate_after(outcome: Outcome, number: u64, before: Fate) -> Fate
 }
 
 // What the log has passed goes, and then what the index displaces. The number is that of the write.
-fn drop_dead(
-    state: &mut CacheState,
-    log: &mut Vec<Accepted>,
-    options: &Options,
-    key: &[u8],
-    number: u64,
-)
+fn drop_dead(state: &mut CacheState, fates: &mut Fates, options: &Options, key: &[u8], number: u64)
     requires { IsValid options.now }
     ensures state { state.new
         ≡ without_displaced options.now key.now (without_passed options.now state.old) }
-    ensures log { log.new.items ≡ marked_displaced (Fate.Displaced number)
+    ensures fates { notes_of fates.new ≡ marked_displaced (Fate.Displaced number)
         (displaced_record options.now key.now (without_passed options.now state.old).records)
         (marked_passed (Fate.Passed number) options.now.words state.old.stamp state.old.records
-        log.old.items) }
+        (notes_of fates.old)) }
 {
     mark_passed(
-        log,
+        fates,
         state.records(),
         options.words,
         state.stamp(),
@@ -179,7 +177,7 @@ fn drop_dead(
     state.drop_passed(options);
     if let Some(at) = state.displaced(options, key) {
         let record = &state.records()[at];
-        mark(log, record.key(), Fate::Displaced(number));
+        fates.mark(record.key(), Fate::Displaced(number));
     }
     state.drop_displaced(options, key);
 }

@@ -1,6 +1,6 @@
-// The cells of a partition's keys, with the numbers that a put asks for: so no put counts keys or adds up rooms.
-ghost use Rattle.std.specs.Prelude.{◌≡◌, ◌+◌, ◌<◌, ◌≤◌, ◌^◌, ◌%◌, IfOk, OnOk, OnErr, IsTrue, ◌↔◌};
-ghost use Rattle.std.specs.FinMap.{empty, get, insert, remove};
+//! The cells of a partition's keys, with the numbers that a put asks for: so no put counts keys or adds up rooms.
+ghost use Rattle.std.specs.Prelude.{◌≡◌, ◌+◌, ◌-◌, ◌*◌, ◌<◌, ◌≤◌, ◌^◌, ◌%◌, IfOk, OnOk, OnErr, IsTrue, ◌↔◌};
+ghost use Rattle.std.specs.FinMap.{empty, get, insert, remove, len};
 ghost use Rattle.std.specs.Option.{option_map};
 ghost use Rattle.mica_words.specs.Hash.{bucket_of};
 ghost use Rattle.mica_words.specs.Item.{ValueFits};
@@ -69,6 +69,25 @@ impl CellTable {
         ensures { result ≡ rooms self.now.cells }
     {
         self.rooms
+    }
+
+    // Whether the rooms may lie so that no block of this size is left of this many words.
+    pub fn may_lack_block(&self, words: u32, size: u32) -> bool
+        requires size { 1 ≤ size }
+        requires words { rooms self.now.cells ≤ words }
+        ensures { IsTrue result
+            ↔ (words ≤ (len self.now.cells + 1) * (size - 1) + rooms self.now.cells) }
+    {
+        let free = words - self.rooms();
+        free as usize <= (self.len() + 1).saturating_mul(size as usize - 1)
+    }
+
+    // How many keys there are.
+    fn len(&self) -> usize
+        ensures number { result ≡ len self.now.cells }
+        ensures small { result < 2 ^ 63 }
+    {
+        self.cells.len()
     }
 
     // Whether a new key would need a spare bucket, where all of them are in use.

@@ -1,4 +1,4 @@
-// The ranges of the options.
+//! The ranges of the options.
 ghost use Rattle.std.specs.Prelude.{◌↔◌, IsTrue};
 ghost use Rattle.mica_model.specs.Options.{InRange, IsBucketNumber};
 

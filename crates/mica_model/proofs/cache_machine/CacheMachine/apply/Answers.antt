@@ -1,36 +1,36 @@
 use Rattle.std.proofs.Common.{◌≡◌, ℕ, ◌+◌, List, [], ◌∷◌, ◌++◌, length, cond, true, false, ap, sym, ◌∙◌, subst, arith}
 use Rattle.std.specs.List.{AllByRecursion}
 use Rattle.std.specs.Str.{bytes_eq}
-use Rattle.mica_model.specs.declared.accepted.Accepted.{Accepted}
 use Rattle.mica_model.specs.declared.options.Options.{Options}
 use Rattle.mica_model.specs.declared.fate.Fate.TheVariants.{Displaced, Passed}
 use Rattle.mica_model.specs.declared.write.Write.{Write}
 use Rattle.mica_model.specs.declared.write.Outcome.{Outcome}
 use Rattle.mica_model.specs.Cache.{Cache}
-use Rattle.mica_model.specs.CacheFields.{writes_of, fate_in, fate_written, displaced_record, marked_displaced, marked_passed}
+use Rattle.mica_model.specs.CacheFields.{Notes, notes_of, fate_in, fate_written, displaced_record, marked_displaced, marked_passed}
 use Rattle.mica_model.specs.CacheStep as cs
 use Rattle.mica_model.specs.Fate.{fate_of, has_record}
-use Rattle.mica_model.specs.History.{IsHistory, state_of, cache_state, accepted_in}
+use Rattle.mica_model.specs.History.{History, IsHistory, state_of, cache_state, accepted_in}
 use Rattle.mica_model.specs.Logged.{Logged, IsLoggedStep}
 use Rattle.mica_model.specs.Write.{IsWrite, is_accepted, write_of}
 use Rattle.mica_model.proofs.CacheLaws.{kept_in, stamp_bound}
+use Rattle.mica_model.proofs.FateMarks.{written_fates}
 use Rattle.mica_model.proofs.Histories.{within_wear, accepted_is_length, cache_unworn}
-use Rattle.mica_model.proofs.CacheMachineSteps.{refused_step, replied_unworn, accepted_step, later_lawful, later_state, later_writes, later_fates, later_log, counted, written_accepted}
+use Rattle.mica_model.proofs.CacheMachineSteps.{refused_step, replied_unworn, accepted_step, later_lawful, later_state, later_writes, later_fates, counted, written_accepted}
 use Rattle.mica_model.proofs.cache_machine.CacheMachine.apply.Goals as goal
 
 pub write-requires-clause-stamp : goal.write-requires-clause-stamp
 write-requires-clause-stamp c =
     let a = c.self.inside in
     let i = c.self.invariant in
-    let most = stamp_bound a.options (writes_of a.log.items) i.writes a.state i.state in
-    let few = within_wear a.options (writes_of a.log.items) i.lawful in
+    let most = stamp_bound a.options a.log.items i.writes a.state i.state in
+    let few = within_wear a.options a.log.items i.lawful in
     let wear = i.valid.wear.1 in
     omega arith
 
 pub write-requires-clause-unique : goal.write-requires-clause-unique
 write-requires-clause-unique c =
     let a = c.self.inside in
-    (kept_in a.options (writes_of a.log.items) c.self.invariant.writes a.state c.self.invariant.state).unique
+    (kept_in a.options a.log.items c.self.invariant.writes a.state c.self.invariant.state).unique
 
 pub returns-then-not-is_accepted-clause-step : goal.returns-then-not-is_accepted-clause-step
 returns-then-not-is_accepted-clause-step c =
@@ -38,7 +38,7 @@ returns-then-not-is_accepted-clause-step c =
     let write = write_of c.args.op c.args.key.now c.args.value.now in
     let refused : is_accepted c.reply-outcome.result ≡ false = sym c.is_accepted.ensures ∙ c.if-not-is_accepted.true in
     subst (λ (m : Logged). IsLoggedStep m write c.reply-outcome.result m) c.self.view_is
-    (refused_step a.options (writes_of a.log.items) a.state c.self.invariant.state write c.reply-outcome.result c.reply-outcome.ensures refused)
+    (refused_step a.options a.log.items a.state c.self.invariant.state write c.reply-outcome.result c.reply-outcome.ensures refused)
 
 -- the write, its step, and what the list then has
 
@@ -46,8 +46,11 @@ module _ (c : goal.After-count) where
   abbrev options : Options
   options = c.self.inside.options
 
-  abbrev log : List Accepted
+  abbrev log : History
   log = c.self.inside.log.items
+
+  abbrev notes : Notes
+  notes = notes_of c.self.inside.fates
 
   abbrev before : Cache
   before = c.self.inside.state
@@ -58,8 +61,8 @@ module _ (c : goal.After-count) where
   abbrev number : ℕ
   number = c.accepted-number.result + 1
 
-  abbrev noted : List Accepted
-  noted = c.put_accepted.new.log.items
+  abbrev noted : Notes
+  noted = notes_of c.mark.new.self
 
   key_is : c.in_ok-copy.field-0 ≡ c.args.key.now
   key_is = c.in_ok-copy.ensures
@@ -90,13 +93,11 @@ module _ (c : goal.After-count) where
   room : c.reserve.new.self.items ≡ log
   room = c.in_ok-reserve.ensures.items
 
-  later : writes_of c.drop_dead.new.log.items ≡ writes_of log ++ write ∷ []
+  later : c.push_reserved.new.self.items ≡ log ++ write ∷ []
   later =
-      ap writes_of c.drop_dead.ensures.log
-      ∙ later_log options c.args.key.now number options.words c.write.new.self.stamp c.write.new.self.records (cs.without_passed options c.write.new.self).records noted
-      ∙ c.put_accepted.ensures.writes
-      ∙ ap (λ (l : List Accepted). writes_of l ++ record { op = c.args.op; key = c.in_ok-copy.field-0; value = c.in_ok-copy-2.field-0 } ∷ []) room
-      ∙ ap (λ (w : Write). writes_of log ++ w ∷ []) (λ i. record { op = c.args.op; key = key_is i; value = value_is i })
+      c.push_reserved.ensures.items
+      ∙ ap (λ (l : History). l ++ record { op = c.args.op; key = c.in_ok-copy.field-0; value = c.in_ok-copy-2.field-0 } ∷ []) room
+      ∙ ap (λ (w : Write). log ++ w ∷ []) (λ i. record { op = c.args.op; key = key_is i; value = value_is i })
 
   now : c.count.new.self ≡ cs.after options before write
   now =
@@ -105,29 +106,29 @@ module _ (c : goal.After-count) where
       (c.drop_dead.ensures.state ∙ ap (λ (t : Cache). cs.without_displaced options c.args.key.now (cs.without_passed options t)) wrote)
       ∙ counted options before write (cs.after_write options before write).accepted (written_accepted options before write)
 
-  count : number ≡ length (writes_of log) + 1
+  count : number ≡ length log + 1
   count =
       ap (λ (n : ℕ). n + 1)
-      (c.accepted-number.ensures ∙ ap (λ (t : Cache). t.accepted) wrote ∙ written_accepted options before write ∙ sym (ap accepted_in c.self.invariant.state) ∙ accepted_is_length options (writes_of log))
+      (c.accepted-number.ensures ∙ ap (λ (t : Cache). t.accepted) wrote ∙ written_accepted options before write ∙ sym (ap accepted_in c.self.invariant.state) ∙ accepted_is_length options log)
 
-  fate_is : c.fate_after-fate.result ≡ fate_written (cs.reply_of c.args.op options write (has_record before c.args.key.now)) number (fate_in log c.args.key.now)
+  fate_is : c.fate_after-fate.result ≡ fate_written (cs.reply_of c.args.op options write (has_record before c.args.key.now)) number (fate_in notes c.args.key.now)
   fate_is =
       c.fate_after-fate.ensures
-      ∙ ap (λ (o : Outcome). fate_written o number c.fate_among.result) (replied_unworn options (writes_of log) before c.self.invariant.state write c.reply-outcome.result replied done)
+      ∙ ap (λ (o : Outcome). fate_written o number c.get.result) (replied_unworn options log before c.self.invariant.state write c.reply-outcome.result replied done)
       ∙ ap (fate_written (cs.reply_of c.args.op options write (has_record before c.args.key.now)) number)
-      (c.fate_among.ensures ∙ ap (λ (l : List Accepted). fate_in l c.args.key.now) (c.deref.ensures.value ∙ room))
+      (c.get.ensures ∙ c.in_ok-add.ensures.same c.args.key.now)
 
-  notes : (key : List ℕ) → fate_in noted key ≡ cond (bytes_eq c.args.key.now key) c.fate_after-fate.result (fate_in log key)
-  notes key =
-      c.put_accepted.ensures.fates key
-      ∙ ap (λ (k : List ℕ). cond (bytes_eq k key) c.fate_after-fate.result (fate_in c.reserve.new.self.items key)) key_is
-      ∙ ap (λ (l : List Accepted). cond (bytes_eq c.args.key.now key) c.fate_after-fate.result (fate_in l key)) room
+  noted_fates : (key : List ℕ) → fate_in noted key ≡ cond (bytes_eq c.args.key.now key) c.fate_after-fate.result (fate_in notes key)
+  noted_fates key =
+      ap (λ (n : Notes). fate_in n key) c.mark.ensures
+      ∙ written_fates c.args.key.now c.fate_after-fate.result (notes_of c.add.new.self) c.in_ok-add.ensures.noted key
+      ∙ ap (cond (bytes_eq c.args.key.now key) c.fate_after-fate.result) (c.in_ok-add.ensures.same key)
 
-  fates : (key : List ℕ) → fate_of options (writes_of log ++ write ∷ []) key ≡ fate_in c.drop_dead.new.log.items key
+  fates : (key : List ℕ) → fate_of options (log ++ write ∷ []) key ≡ fate_in (notes_of c.drop_dead.new.fates) key
   fates key =
-      later_fates options c.self.invariant.valid c.self.invariant.mode log c.self.invariant.writes before c.self.invariant.state c.self.invariant.fates write is_write number count noted c.fate_after-fate.result fate_is notes key
-      ∙ sym (ap (λ (l : List Accepted). fate_in l key)
-      (c.drop_dead.ensures.log
+      later_fates options c.self.invariant.valid c.self.invariant.mode log c.self.invariant.writes before c.self.invariant.state notes c.self.invariant.fates write is_write number count noted c.fate_after-fate.result fate_is noted_fates key
+      ∙ sym (ap (λ (n : Notes). fate_in n key)
+      (c.drop_dead.ensures.fates
       ∙ ap (λ (t : Cache). marked_displaced (Displaced number) (displaced_record options c.args.key.now (cs.without_passed options t).records) (marked_passed (Passed number) options.words t.stamp t.records noted)) wrote))
 
 pub count-requires : goal.count-requires
@@ -150,13 +151,13 @@ overflow_add-number c =
 
 pub returns-clause-step : goal.returns-clause-step
 returns-clause-step c =
-    subst (λ (m : Logged). IsLoggedStep m (write c) c.reply-outcome.result (record { options = options c; history = writes_of c.drop_dead.new.log.items })) c.self.view_is
-    (accepted_step (options c) (writes_of (log c)) (before c) c.self.invariant.state (write c) c.reply-outcome.result (replied c) (done c) (writes_of c.drop_dead.new.log.items) (later c))
+    subst (λ (m : Logged). IsLoggedStep m (write c) c.reply-outcome.result (record { options = options c; history = c.push_reserved.new.self.items })) c.self.view_is
+    (accepted_step (options c) (log c) (before c) c.self.invariant.state (write c) c.reply-outcome.result (replied c) (done c) c.push_reserved.new.self.items (later c))
 
 pub invariant_of-self-2 : goal.invariant_of-self-2
 invariant_of-self-2 c =
     let i = c.self.invariant in
-    let history = writes_of (log c) in
+    let history = log c in
     record {
       valid = i.valid;
       mode = i.mode;

@@ -1,9 +1,8 @@
-use Rattle.std.proofs.Common.{◌≡◌, List, ap, sym, ◌∙◌, subst, refl}
-use Rattle.mica_model.specs.declared.accepted.Accepted.{Accepted}
+use Rattle.std.proofs.Common.{◌≡◌, ap, sym, ◌∙◌, subst}
 use Rattle.mica_model.specs.declared.options.Mode.{Mode}
-use Rattle.mica_model.specs.CacheFields.{writes_of, fate_in}
+use Rattle.mica_model.specs.CacheFields.{Notes, fate_in}
 use Rattle.mica_model.specs.Fate.{fate_of}
-use Rattle.mica_model.specs.History.{IsHistory, start, state_of, cache_state}
+use Rattle.mica_model.specs.History.{History, IsHistory, start, state_of, cache_state}
 use Rattle.mica_model.specs.Write.{IsWrite}
 use Rattle.std.specs.List.{AllByRecursion}
 use Rattle.mica_model.proofs.cache_machine.CacheMachine.new.Goals as goal
@@ -16,8 +15,8 @@ invariant_of-result c =
     record {
       valid = c.requires.valid;
       mode = c.requires.mode;
-      lawful = subst (λ (log : List Accepted). IsHistory options (writes_of log)) none tt;
-      writes = subst (λ (log : List Accepted). AllByRecursion IsWrite (writes_of log)) none tt;
-      state = subst (λ (log : List Accepted). state_of options (writes_of log) ≡ cache_state c.new.result) none (ap (λ (mode : Mode). start mode) c.requires.mode ∙ ap cache_state (sym c.new.ensures));
-      fates = λ key. subst (λ (log : List Accepted). fate_of options (writes_of log) key ≡ fate_in log key) none refl;
+      lawful = subst (λ (log : History). IsHistory options log) none tt;
+      writes = subst (λ (log : History). AllByRecursion IsWrite log) none tt;
+      state = subst (λ (log : History). state_of options log ≡ cache_state c.new.result) none (ap (λ (mode : Mode). start mode) c.requires.mode ∙ ap cache_state (sym c.new.ensures));
+      fates = λ key. sym (ap (λ (history : History). fate_of options history key) none) ∙ sym (ap (λ (notes : Notes). fate_in notes key) c.new-3.ensures);
     }

@@ -1,6 +1,7 @@
 use Rattle.std.proofs.Common.{◌≡◌, ◌<◌, ◌%◌, sym, ap, ◌∙◌, subst}
 use Rattle.std.proofs.lemmas.Bool.{false≢true}
 use Rattle.std.proofs.lemmas.Grind.{get_or_default_zero}
+use Rattle.mica_words.specs.declared.entry.TheConstants.{SLOTS}
 use Rattle.mica_words.specs.Hash.{bucket_of}
 use Rattle.mica_model.specs.Store.{keys_in}
 use Rattle.mica_model.specs.CellTable.{Table, LacksSpare}
@@ -21,5 +22,5 @@ returns-else-is_full c =
     ∙ count_is a t key bucket is within ∙ ap (λ b. keys_in a.buckets b (cells_of a)) is in (
       λ full. absurd (false≢true (sym c.if-is_full.false ∙ full)),
       λ lacks. let here = subst (λ u. LacksSpare u key c.args.spares) (sym c.self.view_is) lacks in
-          c.is_full.ensures.1 (subst (λ n. 0 < n) (sym count) here.some, ap (λ n. n % 15) count ∙ here.full),
+          c.is_full.ensures.1 (subst (λ n. 0 < n) (sym count) here.some, ap (λ n. n % SLOTS) count ∙ here.full),
     )
