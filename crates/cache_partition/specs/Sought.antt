@@ -1,5 +1,5 @@
 -- What the words tell of a key before a write.
-use Rattle.std.specs.Prelude.{◌≡◌, ℕ, Bool, false, List, Option, None, MatchOption, is_some, option_map}
+use Rattle.std.specs.Prelude.{◌≡◌, ℕ, Bool, false, List, Option, None, IfSome, MatchOption, is_some, option_map}
 use Rattle.mica_words.specs.Hash.{fnv1a}
 use Rattle.mica_model.specs.declared.options.Options.{Options}
 use Rattle.mica_model.specs.declared.write.Write.{Write}
@@ -9,13 +9,15 @@ use Rattle.mica_model.specs.History.{State, cache_state, store_state}
 use Rattle.epoch_core.specs.declared.state.OwnerState.{OwnerState}
 use Rattle.epoch_core.specs.OwnerState.{stamp_in, options_in, state_in, bucket_in}
 use Rattle.cache_partition.specs.declared.seeking.Sought.{Sought}
-use Rattle.lossy_index.specs.Slot.{IsSlotOf, HasNoSlot}
+use Rattle.lossy_index.specs.Slot.{offset_in, IsSlotOf, HasNoSlot}
 
--- the hash and the bucket are the key's, the slot is its slot there, if it has one, and the stamp is the one now
+-- The hash and the bucket are the key's, the slot is its slot there, if it has one, the offset is the one in the slot's
+-- entry, and the stamp is the one now.
 pub record IsSought (o : OwnerState) (key : List ℕ) (sought : Sought) : Type 0 where
   pub hash : sought.hash ≡ fnv1a key
   pub bucket : sought.bucket ≡ bucket_in o key
   pub found : MatchOption sought.slot (HasNoSlot o sought.bucket key) (IsSlotOf o sought.bucket key)
+  pub offset : IfSome sought.slot (λ slot. sought.offset ≡ offset_in o sought.bucket slot)
   pub stamp : sought.stamp ≡ stamp_in o
 
 abbrev pub kept_offset_by : Options → State → Write → Option ℕ

@@ -12,7 +12,6 @@ use circular_log::item_at;
 use epoch_core::{OwnerWords, WordAt};
 use lossy_index::find_hashed;
 use mica_model::{Answer, ItemBuf};
-use mica_words::entry_offset;
 
 /// Copies the key's value into the buffer.
 pub(crate) fn value_of<W: OwnerWords>(words: &mut W, key: &[u8], out: &mut ItemBuf) -> Answer
@@ -24,10 +23,10 @@ pub(crate) fn value_of<W: OwnerWords>(words: &mut W, key: &[u8], out: &mut ItemB
     ensures same { (W.owner words.new ≡ W.owner words.old) × (W.home words.new ≡ W.home words.old) }
 {
     let (bucket, hash) = bucket_and_hash(words, key);
-    match find_hashed(words, bucket, key, hash) {
-        Some(slot) => {
-            let entry = words.read(WordAt::Entry(bucket, slot));
-            item_at(words, entry_offset(entry), out);
+    let stamp = words.read(WordAt::Stamp);
+    match find_hashed(words, bucket, key, hash, stamp) {
+        Some(found) => {
+            item_at(words, found.offset, out);
             Answer::Hit
         }
         None => {

@@ -15,12 +15,13 @@ use lossy_index::find_hashed;
 use mica_model::Op;
 use mica_words::{bucket_of, key_hash};
 
-/// A key's hash, its bucket, its slot there if it has one, and the stamp.
+/// A key's hash, its bucket, its slot there if it has one, with the offset in the slot's entry, and the stamp.
 #[derive(Drop)]
 pub(crate) struct Sought {
     pub hash: u64,
     pub bucket: u32,
     pub slot: Option<u32>,
+    pub offset: u64,
     pub stamp: u64,
 }
 
@@ -42,13 +43,22 @@ pub(crate) fn seek<W: OwnerWords>(words: &mut W, key: &[u8]) -> Sought
     ensures kept { Kept (W.owner words.new) }
 {
     let (bucket, hash) = bucket_and_hash(words, key);
-    let slot = find_hashed(words, bucket, key, hash);
     let stamp = words.read(WordAt::Stamp);
-    Sought {
-        hash,
-        bucket,
-        slot,
-        stamp,
+    match find_hashed(words, bucket, key, hash, stamp) {
+        Some(found) => Sought {
+            hash,
+            bucket,
+            slot: Some(found.slot),
+            offset: found.offset,
+            stamp,
+        },
+        None => Sought {
+            hash,
+            bucket,
+            slot: None,
+            offset: 0,
+            stamp,
+        },
     }
 }
 

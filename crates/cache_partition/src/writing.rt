@@ -14,7 +14,7 @@ use circular_log::{append_hashed, is_live, rewrite};
 use epoch_core::{OwnerWords, WordAt};
 use lossy_index::place;
 use mica_model::Op;
-use mica_words::{entry_offset, header_room, item_size, tag_of, tail_of};
+use mica_words::{header_room, item_size, tag_of, tail_of};
 
 /// Stores the value for the key, and answers the new stamp.
 pub(crate) fn put<W: OwnerWords>(words: &mut W, key: &[u8], value: &[u8]) -> u64
@@ -49,8 +49,8 @@ fn offset_that_keeps<W: OwnerWords>(
     ensures same { (W.owner words.new ≡ W.owner words.old) × (W.home words.new ≡ W.home words.old) }
     ensures kept { Kept (W.owner words.new) }
 {
-    let slot = sought.slot?;
-    let offset = entry_offset(words.read(WordAt::Entry(sought.bucket, slot)));
+    sought.slot?;
+    let offset = sought.offset;
     let room = header_room(words.read(WordAt::Item(offset)));
     let fits = item_size(key.len(), value.len()) <= room;
     (fits && is_live(offset, sought.stamp + 1, words.shape().words)).then_some(offset)

@@ -28,7 +28,7 @@ module _ (o now : OwnerState) (same : now ≡ o) (b slot : ℕ) (key : List ℕ)
   entry_is : entry ≡ entry_in o b slot
   entry_is = read ∙ ap (λ (z : OwnerState). entry_in z b slot) same
 
-  offset_is : offset ≡ entry_offset (entry_in o b slot)
+  pub offset_is : offset ≡ entry_offset (entry_in o b slot)
   offset_is = at ∙ ap entry_offset entry_is
 
   pub found : slot < 15 → entry_tag entry ≡ tag → tail ≤ offset + words → (z : OwnerState) → z ≡ o → HasKey z offset key → IsSlotOf o b key slot

@@ -5,6 +5,7 @@ use Rattle.mica_words.specs.Hash.{tag_of}
 use Rattle.mica_words.specs.Entry.{entry_tag, entry_offset}
 use Rattle.mica_words.specs.Stamp.{tail_of}
 use Rattle.epoch_core.specs.declared.state.OwnerState.{OwnerState}
+use Rattle.lossy_index.specs.declared.finding.Found.{Found}
 use Rattle.epoch_core.specs.OwnerState.{stamp_in, entry_in}
 use Rattle.epoch_core.specs.ItemAt.{HasKey}
 
@@ -26,6 +27,11 @@ pub record IsSlotOf (o : OwnerState) (b : ℕ) (key : List ℕ) (slot : ℕ) : T
   pub tag : entry_tag (entry_in o b slot) ≡ tag_of key
   pub live : tail_of (stamp_in o) ≤ offset_in o b slot + o.shape.words
   pub item : HasKey o (offset_in o b slot) key
+
+-- It is the key's slot, with the offset in its entry.
+pub record IsFoundAt (o : OwnerState) (b : ℕ) (key : List ℕ) (found : Found) : Type 0 where
+  pub slot : IsSlotOf o b key found.slot
+  pub offset : found.offset ≡ offset_in o b found.slot
 
 -- no slot is the key's
 abbrev pub HasNoSlot : OwnerState → ℕ → List ℕ → Type 0

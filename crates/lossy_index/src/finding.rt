@@ -3,11 +3,19 @@ ghost use Rattle.std.specs.Prelude.{◌≡◌, MatchOption};
 ghost use Rattle.mica_words.specs.Hash.{fnv1a};
 ghost use Rattle.mica_words.specs.Item.{KeyFits};
 ghost use Rattle.epoch_core.specs.Shape.{IsMain};
+ghost use Rattle.epoch_core.specs.OwnerState.{stamp_in};
 ghost use Rattle.epoch_core.specs.Kept.{Kept};
-ghost use Rattle.lossy_index.specs.Slot.{IsSlotOf, HasNoSlot};
+ghost use Rattle.lossy_index.specs.Slot.{IsSlotOf, IsFoundAt, HasNoSlot};
 
 use epoch_core::{OwnerWords, WordAt, holds_key_hashed};
 use mica_words::{SLOTS, entry_offset, entry_tag, key_hash, tag_of, tail_of};
+
+/// A key's slot, and the offset in its entry.
+#[derive(Clone, Copy, Debug, PartialEq, Eq)]
+pub struct Found {
+    pub slot: u32,
+    pub offset: u64,
+}
 
 /// The slot whose live item has the key.
 pub fn find<W: OwnerWords>(words: &mut W, bucket: u32, key: &[u8]) -> Option<u32>
@@ -19,28 +27,43 @@ pub fn find<W: OwnerWords>(words: &mut W, bucket: u32, key: &[u8]) -> Option<u32
     ensures home { W.home words.new ≡ W.home words.old }
     ensures kept { Kept (W.owner words.new) }
 {
-    find_hashed(words, bucket, key, key_hash(key))
+    let stamp = words.read(WordAt::Stamp);
+    match find_hashed(words, bucket, key, key_hash(key), stamp) {
+        Some(found) => Some(found.slot),
+        None => None,
+    }
 }
 
-/// `find` where the key's hash is at hand.
-pub fn find_hashed<W: OwnerWords>(words: &mut W, bucket: u32, key: &[u8], hash: u64) -> Option<u32>
+/// `find` where the key's hash and the stamp are at hand.
+pub fn find_hashed<W: OwnerWords>(
+    words: &mut W,
+    bucket: u32,
+    key: &[u8],
+    hash: u64,
+    stamp: u64,
+) -> Option<Found>
+    requires kept { Kept (W.owner words.old) }
     requires bucket { IsMain (W.owner words.old).shape bucket }
     requires key { KeyFits key.now }
     requires hashed { hash ≡ fnv1a key.now }
+    requires stamped { stamp ≡ stamp_in (W.owner words.old) }
     ensures found { MatchOption result (HasNoSlot (W.owner words.old) bucket key.entry.now)
-        (IsSlotOf (W.owner words.old) bucket key.entry.now) }
+        (IsFoundAt (W.owner words.old) bucket key.entry.now) }
     ensures same { W.owner words.new ≡ W.owner words.old }
     ensures home { W.home words.new ≡ W.home words.old }
     ensures kept { Kept (W.owner words.new) }
 {
     let tag = tag_of(hash);
-    let tail = tail_of(words.read(WordAt::Stamp));
+    let tail = tail_of(stamp);
     let log_words = u64::from(words.shape().words);
     for slot in 0..SLOTS {
         let entry = words.read(WordAt::Entry(bucket, slot));
         let offset = entry_offset(entry);
-        if entry_tag(entry) == tag && tail <= offset + log_words && holds_key_hashed(words, offset, key, hash) {
-            return Some(slot);
+        if entry_tag(entry) == tag
+            && tail <= offset + log_words
+            && holds_key_hashed(words, offset, key, hash)
+        {
+            return Some(Found { slot, offset });
         }
     }
     None

@@ -10,5 +10,5 @@
 mod finding;
 mod placing;
 
-pub use finding::{find, find_hashed};
+pub use finding::{Found, find, find_hashed};
 pub use placing::{clear, place};

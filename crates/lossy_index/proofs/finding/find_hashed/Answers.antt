@@ -1,8 +1,6 @@
-use Rattle.std.proofs.Common.{rules, ◌∙◌, sym, subst, below_more}
+use Rattle.std.proofs.Common.{rules, ◌∙◌, sym, below_more}
 use Rattle.std.proofs.lemmas.Bool.{true≢false}
-use Rattle.epoch_core.specs.declared.state.OwnerState.{OwnerState}
-use Rattle.lossy_index.specs.Slot.{IsSlotOf}
-use Rattle.lossy_index.proofs.Looking.{seeks, found, of_other_tag, passed, of_other_key}
+use Rattle.lossy_index.proofs.Looking.{seeks, found, offset_is, of_other_tag, passed, of_other_key}
 use Rattle.lossy_index.proofs.finding.find_hashed.Goals as goal
 use Rattle.lossy_index.proofs.finding.find_hashed.Goals.{else-entry_tag-tag-via-then-entry_tag-tag+then-tail-offset+else-holds_key_hashed, else-entry_tag-tag-via-then-entry_tag-tag+else-tail-offset, else-entry_tag-tag-via-else-entry_tag-tag}
 
@@ -10,9 +8,9 @@ pub loop-slot-init : goal.loop-slot-init
 loop-slot-init g c = record {
   owner = search rules;
   home = search rules;
-  kept = search rules;
-  seeks = seeks (g.W.OwnerWords.owner c.read.new.self) c.args.key.now _ _ _ _ _ c.requires.hashed c.tag_of-tag.ensures
-      (search rules) c.tail_of-tail.ensures (search rules);
+  kept = c.requires.kept;
+  seeks = seeks (g.W.OwnerWords.owner c.args.words.now) c.args.key.now _ _ _ _ _ c.requires.hashed c.tag_of-tag.ensures
+      c.requires.stamped c.tail_of-tail.ensures (search rules);
   none = search rules;
 }
 
@@ -20,11 +18,13 @@ pub returns-then-holds_key_hashed-clause-found : goal.returns-then-holds_key_has
 returns-then-holds_key_hashed-clause-found g c =
     let owner = g.W.OwnerWords.owner in
     let loop = c.loop-slot.invariant in
-    let old = c.read.ensures.same in
-    subst (λ (z : OwnerState). IsSlotOf z c.args.bucket c.args.key.now c.loop-slot.slot) old
-    (found (owner c.read.new.self) (owner c.loop-slot.words) loop.owner c.args.bucket c.loop-slot.slot c.args.key.now _ _ _ _ _ loop.seeks
-    c.read-entry.ensures.value c.entry_offset-offset.ensures c.loop-slot-test.true (sym c.entry_tag.ensures ∙ c.if-entry_tag-tag.true) c.if-tail-offset.true
-    (owner c.read-entry.new.self) (c.read-entry.ensures.same ∙ loop.owner) (c.holds_key_hashed.ensures.holds.0 c.if-holds_key_hashed.true))
+    record {
+      slot = found (owner c.args.words.now) (owner c.loop-slot.words) loop.owner c.args.bucket c.loop-slot.slot c.args.key.now _ _ _ _ _ loop.seeks
+          c.read-entry.ensures.value c.entry_offset-offset.ensures c.loop-slot-test.true (sym c.entry_tag.ensures ∙ c.if-entry_tag-tag.true) c.if-tail-offset.true
+          (owner c.read-entry.new.self) (c.read-entry.ensures.same ∙ loop.owner) (c.holds_key_hashed.ensures.holds.0 c.if-holds_key_hashed.true);
+      offset = offset_is (owner c.args.words.now) (owner c.loop-slot.words) loop.owner c.args.bucket c.loop-slot.slot c.args.key.now _ _ _ _ _ loop.seeks
+          c.read-entry.ensures.value c.entry_offset-offset.ensures;
+    }
 
 pub loop-slot-preserved : goal.loop-slot-preserved
 loop-slot-preserved g c =
@@ -37,13 +37,13 @@ loop-slot-preserved g c =
       seeks = loop.seeks;
       none = below_more _ _ loop.none (elim c.else-entry_tag-tag.branch [
         | else-entry_tag-tag-via-then-entry_tag-tag+then-tail-offset+else-holds_key_hashed w ↦
-            of_other_key (owner c.read.new.self) (owner c.loop-slot.words) loop.owner c.args.bucket c.loop-slot.slot c.args.key.now _ _ _ _ _ loop.seeks
+            of_other_key (owner c.args.words.now) (owner c.loop-slot.words) loop.owner c.args.bucket c.loop-slot.slot c.args.key.now _ _ _ _ _ loop.seeks
             c.read-entry.ensures.value c.entry_offset-offset.ensures (owner c.read-entry.new.self) (c.read-entry.ensures.same ∙ loop.owner) (λ has. true≢false (sym (w.holds_key_hashed.ensures.holds.1 has) ∙ w.if-holds_key_hashed.false))
         | else-entry_tag-tag-via-then-entry_tag-tag+else-tail-offset w ↦
-            passed (owner c.read.new.self) (owner c.loop-slot.words) loop.owner c.args.bucket c.loop-slot.slot c.args.key.now _ _ _ _ _ loop.seeks
+            passed (owner c.args.words.now) (owner c.loop-slot.words) loop.owner c.args.bucket c.loop-slot.slot c.args.key.now _ _ _ _ _ loop.seeks
             c.read-entry.ensures.value c.entry_offset-offset.ensures w.if-tail-offset.false
         | else-entry_tag-tag-via-else-entry_tag-tag w ↦
-            of_other_tag (owner c.read.new.self) (owner c.loop-slot.words) loop.owner c.args.bucket c.loop-slot.slot c.args.key.now _ _ _ _ _ loop.seeks
+            of_other_tag (owner c.args.words.now) (owner c.loop-slot.words) loop.owner c.args.bucket c.loop-slot.slot c.args.key.now _ _ _ _ _ loop.seeks
             c.read-entry.ensures.value c.entry_offset-offset.ensures (λ same. w.if-entry_tag-tag.false (c.entry_tag.ensures ∙ same))
       ]);
     }
