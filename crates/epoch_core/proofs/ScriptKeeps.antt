@@ -1,5 +1,6 @@
 -- Each step of a script keeps the rule of the one-word table whose seat has a book.
-use Rattle.std.proofs.Common.{◌≡◌, ℕ, zero, suc, ◌+◌, ◌<◌, ◌^◌, List, [], ◌∷◌, ◌++◌, map, drop, length, get_or, set, refl, sym, ap, ◌∙◌, subst, ⊎_elim, arith, drop-cons, take, append_assoc}
+use Rattle.std.proofs.Common.{◌≡◌, ℕ, zero, suc, ◌+◌, ◌<◌, ◌^◌, List, [], ◌∷◌, ◌++◌, map, drop, length, get_or, set, refl, sym, ap, ◌∙◌, subst, ⊎_elim, arith, drop-cons, take, append_assoc, Option, Some, None}
+use Rattle.std.specs.Prelude.{IfSome}
 use Rattle.std.proofs.lemmas.List.{append-nil}
 use Rattle.std.proofs.Math.Seq.{take-append_seam}
 use mathlib.Core.Option.{some, none, some-injective}
@@ -11,6 +12,7 @@ use Rattle.epoch_core.specs.declared.event.Event.{Event}
 use Rattle.epoch_core.specs.declared.event.Event.TheVariants.{Begins, Marks, PutsWord, PutsEntry, PutsLink, Ends}
 use Rattle.epoch_core.specs.declared.event.OwnerEvent.{OwnerEvent}
 use Rattle.epoch_core.specs.declared.state.OwnerState.{OwnerState}
+use Rattle.epoch_core.specs.declared.reader.Try.{Try}
 use Rattle.epoch_core.specs.declared.reader.ReaderState.{ReaderState}
 use Rattle.epoch_core.specs.declared.plain.Script.{Script}
 use Rattle.epoch_core.specs.declared.scripted.Plan.{Plan}
@@ -18,7 +20,7 @@ use Rattle.epoch_core.specs.declared.scripted.Look.{Look}
 use Rattle.epoch_core.specs.declared.scripted.Look.TheVariants.{FirstEpoch, Word, Stamp, LastEpoch}
 use Rattle.epoch_core.specs.declared.scripted.Book.{Book}
 use Rattle.epoch_core.specs.Shape.{IsValidShape}
-use Rattle.epoch_core.specs.OwnerState.{as_made}
+use Rattle.epoch_core.specs.OwnerState.{as_made, epoch_in}
 use Rattle.epoch_core.specs.Events.{IsAllowed, place_of, after, CanPlay, plays}
 use Rattle.epoch_core.specs.Diary.{owner_event}
 use Rattle.epoch_core.specs.Kept.{Kept}
@@ -97,6 +99,11 @@ reads_more plan n (l ∷ looks) look r =
 pub owner_then : (b : Book) → BookFits b → IsTime b → b.owner ≡ owner_at b.plan (b.reader.loads + 1)
 owner_then b f time = f.played ∙ ap (λ (z : List Event). plays z (as_made b.plan.shape))
     (sym (take-append_seam b.played b.rest) ∙ (ap (take (length b.played)) f.script ∙ ap (λ (z : ℕ). take z b.plan.events) time))
+
+-- the epoch of the open try's bucket
+pub ends_at : (o : OwnerState) (current : Option Try) (n b : ℕ) → n ≡ epoch_in o b → ((t : Try) → current ≡ Some t → t.bucket ≡ b) → IfSome current (λ t. n ≡ epoch_in o t.bucket)
+ends_at o None n b is same = tt
+ends_at o (Some t) n b is same = is ∙ ap (epoch_in o) (sym (same t refl))
 
 book_looks : (look : Look) (b : Book) → BookFits b → MayLook look b.reader → IsTime b → BookFits (look_next look b)
 book_looks look b f may time = let count = loads_counted b f in let number : b.reader.loads + 1 ≡ 0 + length b.looks + 1 = omega arith in record {

@@ -1,10 +1,14 @@
 -- When a script is settled: by its last cut, and whether a write is under way.
-use Rattle.std.proofs.Common.{◌≡◌, ℕ, ◌-◌, Bool, not, List, true, false, length, get_or, refl, sym, ap, ◌∙◌}
+use Rattle.std.proofs.Common.{◌≡◌, ℕ, ◌-◌, ◌<◌, take, arith, Bool, not, List, true, false, length, get_or, refl, sym, ap, ◌∙◌}
 use Rattle.std.specs.Prelude.{IsTrue}
+use Rattle.epoch_core.specs.declared.state.OwnerState.{OwnerState}
 use Rattle.epoch_core.specs.declared.state.Phase.{Phase}
 use Rattle.epoch_core.specs.declared.state.Phase.TheVariants.{Idle, Begun, Marked}
 use Rattle.epoch_core.specs.declared.scripted.Scripted.{Scripted}
-use Rattle.epoch_core.specs.Script.{cut_at, IsSettled, is_writing}
+use Rattle.epoch_core.specs.declared.scripted.Plan.{Plan}
+use Rattle.epoch_core.specs.OwnerState.{as_made}
+use Rattle.epoch_core.specs.Events.{plays}
+use Rattle.epoch_core.specs.Script.{cut_at, owner_at, Rests, IsSettled, is_writing}
 use Rattle.epoch_core.specs.Seats.{book_of}
 use Rattle.epoch_core.proofs.Cuts.{still_at_last, last_of_still}
 
@@ -31,3 +35,30 @@ module _ (s : Scripted) (last : ℕ) (is : last ≡ get_or s.cuts.items (length 
 pub quiet_is : (writing : Bool) → IsTrue (not writing) → writing ≡ false
 quiet_is false quiet = refl
 quiet_is true quiet = absurd (cc quiet)
+
+-- from then on the owner is at rest
+
+module _ (s : Scripted) (settled : IsSettled (book_of s)) where
+  pub at_rest : Rests (book_of s).plan (book_of s).reader.loads (book_of s).owner
+  at_rest = record {
+    still = λ n later.
+        let plan : Plan = (book_of s).plan in
+        ap (λ (z : ℕ). plays (take z plan.events) (as_made plan.shape))
+        (settled.still n later ∙ sym s.stage.counted ∙ s.at ∙ ap (λ (z : List ℕ). cut_at z (book_of s).reader.loads) (sym s.planned)) ∙ sym s.finds;
+    idle = settled.idle;
+  }
+
+  -- and so it is after more loads of the same plan
+  module _ (t : Scripted) (plan : (book_of t).plan ≡ (book_of s).plan) (later : (book_of s).reader.loads < (book_of t).reader.loads) where
+    pub same_owner : (book_of t).owner ≡ (book_of s).owner
+    same_owner = t.finds ∙ ap (λ (z : Plan). owner_at z (book_of t).reader.loads) plan ∙ at_rest.still (book_of t).reader.loads later
+
+    same_number : length (book_of s).played ≡ length (book_of t).played
+    same_number = sym (settled.still (book_of t).reader.loads later) ∙ ap (λ (z : Plan). cut_at z.cuts (book_of t).reader.loads) (sym plan)
+        ∙ ap (λ (z : List ℕ). cut_at z (book_of t).reader.loads) t.planned ∙ sym t.at ∙ t.stage.counted
+
+    pub settled_still : IsSettled (book_of t)
+    settled_still = record {
+      still = λ n more. ap (λ (z : Plan). cut_at z.cuts n) plan ∙ settled.still n (omega (arith, later, more)) ∙ same_number;
+      idle = ap (λ (z : OwnerState). z.phase) same_owner ∙ settled.idle;
+    }

@@ -1,11 +1,12 @@
 -- A reader of one thread, between whose loads the events of an owner are played as a plan says.
-use Rattle.std.specs.Prelude.{◌≡◌, ◌≢◌, ℕ, zero, suc, ◌+◌, ◌-◌, ◌<◌, ◌≤◌, Bool, true, false, List, [], ◌∷◌, ◌++◌, length, take, slice_index, get_or, Some}
+use Rattle.std.specs.Prelude.{◌≡◌, ◌≢◌, ℕ, zero, suc, ◌+◌, ◌-◌, ◌<◌, ◌≤◌, Bool, true, false, List, [], ◌∷◌, ◌++◌, length, take, slice_index, get_or, Some, IfSome}
 use mathlib.Core.Option.{some}
 use lib.ListN.{get_elem?}
 use Rattle.atomic_table.specs.Table.{State, Me, Step}
 use Rattle.mica_model.specs.declared.write.Op.TheVariants.{Del}
 use Rattle.mica_model.specs.declared.write.Write.{Write}
 use Rattle.mica_model.specs.Write.{write_of}
+use Rattle.mica_model.specs.History.{History}
 use Rattle.epoch_core.specs.declared.shape.Shape.{Shape}
 use Rattle.epoch_core.specs.declared.event.Event.{Event}
 use Rattle.epoch_core.specs.declared.event.OwnerEvent.{OwnerEvent}
@@ -22,7 +23,7 @@ use Rattle.epoch_core.specs.declared.scripted.Look.TheVariants.{FirstEpoch, Word
 use Rattle.epoch_core.specs.declared.scripted.Book.{Book}
 use Rattle.epoch_core.specs.Shape.{IsMain}
 use Rattle.epoch_core.specs.Layout.{epoch_at}
-use Rattle.epoch_core.specs.OwnerState.{as_made}
+use Rattle.epoch_core.specs.OwnerState.{as_made, epoch_in}
 use Rattle.epoch_core.specs.Events.{place_of, word_after, after, CanPlay, plays}
 use Rattle.epoch_core.specs.Diary.{event_of}
 use Rattle.epoch_core.specs.Kept.{Kept}
@@ -78,6 +79,25 @@ reads_on plan n (look ∷ looks) r = reads_on plan (n + 1) looks (look_at look (
 -- the reader after these loads, each at the owner's state of its number
 abbrev pub reader_after : Plan → List Look → ReaderState
 reader_after plan looks = reads_on plan 0 looks (newcomer plan.shape [] [])
+
+-- What the next load finds, by a plan
+
+-- the owner's state then
+abbrev pub owner_found : Plan → ReaderState → OwnerState
+owner_found plan r = owner_at plan (r.loads + 1)
+
+-- the bucket's epoch
+pub record FindsEpoch (r : ReaderState) (b n : ℕ) (plan : Plan) : Type 0 where
+  pub kept : Kept (owner_found plan r)
+  pub shape : (owner_found plan r).shape ≡ r.shape
+  pub epoch : n ≡ epoch_in (owner_found plan r) b
+
+-- the epoch of the open try's bucket
+abbrev pub FindsLastEpoch : ReaderState → ℕ → Plan → Type 0
+FindsLastEpoch r n plan = IfSome r.current (λ t. n ≡ epoch_in (owner_found plan r) t.bucket)
+
+abbrev pub FindsHistory : ReaderState → History → Plan → Type 0
+FindsHistory r history plan = history ≡ (owner_found plan r).history
 
 -- The book
 
@@ -149,6 +169,11 @@ looked look step me n now = (now ≡ (look_next look me.0, me.1)) × BookFits me
 pub record IsSettled (b : Book) : Type 0 where
   pub still : (n : ℕ) → b.reader.loads < n → cut_at b.plan.cuts n ≡ length b.played
   pub idle : b.owner.phase ≡ Idle
+
+-- after so many loads the owner's state is this one at each load to come, and no write is begun in it
+pub record Rests (plan : Plan) (loads : ℕ) (o : OwnerState) : Type 0 where
+  pub still : (n : ℕ) → loads < n → owner_at plan n ≡ o
+  pub idle : o.phase ≡ Idle
 
 -- Events in memory: where each stores, and what, which no write of a mark decides.
 

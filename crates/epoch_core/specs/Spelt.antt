@@ -1,6 +1,7 @@
 -- What the loads of a try spell.
 use Rattle.std.specs.Prelude.{◌≡◌, ◌≢◌, ℕ, zero, suc, ◌+◌, ◌<◌, List, [], ◌∷◌, length, Contains, slice_index, Option, Some, None}
 use Rattle.mica_words.specs.declared.item.TheConstants.{MAX_VALUE_LEN}
+use Rattle.mica_words.specs.declared.entry.TheConstants.{SLOTS}
 use Rattle.mica_words.specs.Hash.{fnv1a, tag_of}
 use Rattle.mica_words.specs.Entry.{entry_tag, entry_offset}
 use Rattle.mica_words.specs.Header.{header_key_len, header_value_len}
@@ -59,7 +60,7 @@ pub record IsEntryOf (shape : Shape) (loads : Loads) (chain key : List ℕ) (ent
   pub bucket : ℕ
   pub slot : ℕ
   pub in_chain : Contains chain bucket
-  pub in_bucket : slot < 15
+  pub in_bucket : slot < SLOTS
   pub load : HasLoad loads (entry_at shape bucket slot) entry
   pub tag : entry_tag entry ≡ tag_of key
 
@@ -72,7 +73,7 @@ pub data IsNoEntryOf (shape : Shape) (loads : Loads) (stamp : ℕ) (key : List �
 -- A miss: each slot of the chain was loaded, and had no entry of the key. A hit: some slot had one, live by
 -- the stamp, whose item holds the value.
 abbrev pub ShowsAnswer : Shape → Loads → ℕ → List ℕ → List ℕ → Option (List ℕ) → Type 0
-ShowsAnswer shape loads stamp chain key None = (c slot : ℕ) → Contains chain c → slot < 15
+ShowsAnswer shape loads stamp chain key None = (c slot : ℕ) → Contains chain c → slot < SLOTS
     → (entry : ℕ) × HasLoad loads (entry_at shape c slot) entry × IsNoEntryOf shape loads stamp key entry
 ShowsAnswer shape loads stamp chain key (Some value) =
     (entry : ℕ) × IsEntryOf shape loads chain key entry × IsLive shape stamp entry

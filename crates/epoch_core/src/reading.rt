@@ -1,12 +1,15 @@
 //! The reader's words.
-ghost use Rattle.std.specs.Prelude.{◌≡◌, ℕ, ◌*◌, ◌<◌, ◌≤◌, ◌⊎◌, true, is_some};
+ghost use Rattle.std.specs.Prelude.{◌≡◌, ℕ, ◌*◌, ◌<◌, ◌≤◌, ◌⊎◌, true, is_some, Option, IfSome};
 ghost use Rattle.atomic_table.specs.Seated.{TableId};
+ghost use Rattle.mica_words.specs.declared.entry.TheConstants.{SLOTS};
 ghost use Rattle.mica_model.specs.History.{IsPrefix, stamp_of, writes_to_bucket};
 ghost use Rattle.epoch_core.specs.declared.reader.ReaderState.{ReaderState};
+ghost use Rattle.epoch_core.specs.declared.scripted.Plan.{Plan};
 ghost use Rattle.epoch_core.specs.Shape.{options_of, IsValidShape, IsMain, IsSpare, IsBucket};
 ghost use Rattle.epoch_core.specs.Layout.{entry_at, link_at, item_at};
 ghost use Rattle.epoch_core.specs.ReaderState.{opened, loaded, stamped, shut};
 ghost use Rattle.epoch_core.specs.ReaderKept.{Tells};
+ghost use Rattle.epoch_core.specs.Script.{FindsEpoch, FindsLastEpoch, FindsHistory};
 
 use crate::shape::Shape;
 
@@ -19,6 +22,9 @@ pub trait ReaderWords: Drop {
     /// The table that the views of the owner and of its readers stand in. No call changes it.
     ghost home: { Self → TableId };
 
+    /// The owner's events and how many of them happen before each load, where that is laid down. No call changes it.
+    ghost plan: { Self → Option Plan };
+
     fn shape(&self) -> Shape
         ensures same { result ≡ (reader self.now).shape }
         ensures valid { IsValidShape result };
@@ -29,14 +35,17 @@ pub trait ReaderWords: Drop {
         ensures event { reader self.new ≡ opened bucket result (reader self.old) }
         ensures least { 2 * writes_to_bucket (options_of (reader self.old).shape)
             (reader self.old).done bucket ≤ result }
-        ensures home { home self.new ≡ home self.old };
+        ensures planned { IfSome (plan self.old) (FindsEpoch (reader self.old) bucket result) }
+        ensures home { home self.new ≡ home self.old }
+        ensures plan { plan self.new ≡ plan self.old };
 
     /// The entry of this slot, which is 0 where the slot is empty.
     fn entry(&mut self, bucket: u32, slot: u32) -> u64
-        requires { IsBucket (reader self.old).shape bucket × (slot < 15) }
+        requires { IsBucket (reader self.old).shape bucket × (slot < SLOTS) }
         ensures event { reader self.new
             ≡ loaded (entry_at (reader self.old).shape bucket slot) result (reader self.old) }
-        ensures home { home self.new ≡ home self.old };
+        ensures home { home self.new ≡ home self.old }
+        ensures plan { plan self.new ≡ plan self.old };
 
     /// The number of the spare bucket behind this one, or 0.
     fn link(&mut self, bucket: u32) -> u32
@@ -44,13 +53,15 @@ pub trait ReaderWords: Drop {
         ensures event { reader self.new
             ≡ loaded (link_at (reader self.old).shape bucket) result (reader self.old) }
         ensures next { (result ≡ 0) ⊎ IsSpare (reader self.old).shape result }
-        ensures home { home self.new ≡ home self.old };
+        ensures home { home self.new ≡ home self.old }
+        ensures plan { plan self.new ≡ plan self.old };
 
     /// The item word at this offset, which goes round the end of the words.
     fn item_word(&mut self, offset: u64) -> u64
         ensures event { reader self.new
             ≡ loaded (item_at (reader self.old).shape offset) result (reader self.old) }
-        ensures home { home self.new ≡ home self.old };
+        ensures home { home self.new ≡ home self.old }
+        ensures plan { plan self.new ≡ plan self.old };
 
     /// The stamp. The reader has seen the owner's history at this load from then on, and that history is the cut of
     /// an open try.
@@ -59,12 +70,16 @@ pub trait ReaderWords: Drop {
         ensures seen { IsPrefix (reader self.old).seen (reader self.new).seen }
         ensures value { result
             ≡ stamp_of (options_of (reader self.old).shape) (reader self.new).seen }
-        ensures home { home self.new ≡ home self.old };
+        ensures planned { IfSome (plan self.old) (FindsHistory (reader self.old) (reader self.new).seen) }
+        ensures home { home self.new ≡ home self.old }
+        ensures plan { plan self.new ≡ plan self.old };
 
     /// Loads the epoch of the open try's bucket again, and closes the try.
     fn last_epoch(&mut self) -> u64
         requires { is_some (reader self.old).current ≡ true }
         ensures event { reader self.new ≡ shut result (reader self.old) }
         ensures tells { Tells result (reader self.old) }
-        ensures home { home self.new ≡ home self.old };
+        ensures planned { IfSome (plan self.old) (FindsLastEpoch (reader self.old) result) }
+        ensures home { home self.new ≡ home self.old }
+        ensures plan { plan self.new ≡ plan self.old };
 }

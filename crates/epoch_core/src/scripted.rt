@@ -6,7 +6,7 @@ ghost use Rattle.epoch_core.specs.Layout.{word_count};
 ghost use Rattle.epoch_core.specs.Kept.{Kept};
 ghost use Rattle.epoch_core.specs.ReaderKept.{ReaderKept};
 ghost use Rattle.epoch_core.specs.Diary.{owner_event};
-ghost use Rattle.epoch_core.specs.Script.{Rises, NoneAbove, cut_at, look_at, reader_after, BookFits, MayLook, StaysIn, look_next, IsTime, IsSettled, owner_place, owner_word, owner_sum, is_writing, writing_after};
+ghost use Rattle.epoch_core.specs.Script.{Rises, NoneAbove, cut_at, owner_at, owner_found, look_at, reader_after, BookFits, MayLook, StaysIn, look_next, IsTime, IsSettled, owner_place, owner_word, owner_sum, is_writing, writing_after};
 
 use crate::event::{Event, OwnerEvent};
 use crate::plain::{PlainWords, Script};
@@ -128,6 +128,7 @@ pub struct Scripted {
     pub ghost valid: { is_in_range stage.shape ≡ true },
     pub ghost read_shape: { stage.seat.me.0.reader.shape ≡ stage.shape },
     pub ghost planned: { stage.seat.me.0.plan.cuts ≡ cuts.items },
+    pub ghost finds: { stage.seat.me.0.owner ≡ owner_at stage.seat.me.0.plan stage.seat.me.0.reader.loads },
     pub ghost follows: { stage.seat.me.0.reader ≡ reader_after stage.seat.me.0.plan stage.seat.me.0.looks },
     pub ghost rise: { Rises cuts.items },
     pub ghost few: { NoneAbove (length stage.events.items) cuts.items },
@@ -182,6 +183,7 @@ fn take_look<K: Looks>(book: &Shared<(), Book, Script, Plot>, seat: &mut Seat<()
     ensures book { seat.new.me.0 ≡ look_next K.look seat.old.me.0 }
     ensures before { BookFits seat.old.me.0 }
     ensures fits { BookFits (look_next K.look seat.old.me.0) }
+    ensures planned { seat.old.me.0.owner ≡ owner_found seat.old.me.0.plan seat.old.me.0.reader }
     ensures seat { seat.new.table_id ≡ seat.old.table_id }
 {
     book.store::<DoesLook<K>>(seat, 0, 0);
@@ -317,6 +319,9 @@ impl Scripted {
             self.old.stage.seat.me.0.reader }
         ensures value { result ≡ slice_index self.new.stage.seat.me.0.owner.words place }
         ensures owner { Kept self.new.stage.seat.me.0.owner }
+        ensures planned { self.new.stage.seat.me.0.owner
+            ≡ owner_found self.old.stage.seat.me.0.plan self.old.stage.seat.me.0.reader }
+        ensures plan { self.new.stage.seat.me.0.plan ≡ self.old.stage.seat.me.0.plan }
         ensures reader { ReaderKept self.new.stage.seat.me.0.owner self.old.stage.seat.me.0.reader }
         ensures home { self.new.stage.seat.table_id ≡ self.old.stage.seat.table_id }
     {
@@ -334,6 +339,8 @@ impl ReaderWords for Scripted {
     ghost reader = { λ s. s.stage.seat.me.0.reader };
 
     ghost home = { λ s. s.stage.seat.table_id };
+
+    ghost plan = { λ s. Some s.stage.seat.me.0.plan };
 
     fn shape(&self) -> Shape {
         self.stage.shape

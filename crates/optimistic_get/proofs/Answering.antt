@@ -1,6 +1,7 @@
 -- What a try's loads, its stamp and its two epochs tell together.
-use Rattle.std.proofs.Common.{◌≡◌, ◌≢◌, ℕ, ◌+◌, ◌*◌, ◌%◌, ◌<◌, ◌≤◌, List, [], ◌∷◌, ◌++◌, Bool, false, sym, ap, ◌∙◌, subst, arith, eq-eqb, ne_eqb, Option, Some, None, inl, inr, if◌then◌else◌}
+use Rattle.std.proofs.Common.{le_refl, ◌≡◌, ◌≢◌, ℕ, ◌+◌, ◌*◌, ◌%◌, ◌<◌, ◌≤◌, List, [], ◌∷◌, ◌++◌, Bool, false, sym, ap, ◌∙◌, subst, arith, eq-eqb, ne_eqb, Option, Some, None, inl, inr, if◌then◌else◌}
 use Rattle.std.specs.Prelude.{Contains, IfSome, ◌==◌}
+use Rattle.mica_words.specs.declared.entry.TheConstants.{SLOTS}
 use Rattle.mica_words.specs.Hash.{bucket_of, tag_of}
 use Rattle.mica_words.specs.Entry.{entry_tag, entry_offset}
 use Rattle.mica_words.specs.Packing.{AreBytes}
@@ -9,9 +10,15 @@ use Rattle.mica_model.specs.declared.options.Mode.{Mode}
 use Rattle.mica_model.specs.declared.options.Mode.TheVariants.{Cache, Store}
 use Rattle.mica_model.specs.History.{History, IsPrefix, stamp_of, answer_of, writes_to_bucket}
 use Rattle.epoch_core.specs.declared.shape.Shape.{Shape}
+use Rattle.epoch_core.specs.declared.state.Phase.{Phase}
+use Rattle.epoch_core.specs.declared.state.Phase.TheVariants.{Idle}
+use Rattle.epoch_core.specs.declared.state.OwnerState.{OwnerState}
+use Rattle.epoch_core.specs.declared.scripted.Plan.{Plan}
 use Rattle.epoch_core.specs.declared.reader.Try.{Try}
 use Rattle.epoch_core.specs.declared.reader.ReaderState.{ReaderState}
 use Rattle.epoch_core.specs.Shape.{options_of, IsMain}
+use Rattle.epoch_core.specs.OwnerState.{epoch_in, begun_in, marked_in}
+use Rattle.epoch_core.specs.Script.{Rests, owner_found, FindsEpoch, FindsLastEpoch, FindsHistory}
 use Rattle.epoch_core.specs.LiveEntry.{IsLiveItem}
 use Rattle.epoch_core.specs.Failures.{failure}
 use Rattle.epoch_core.specs.ReaderState.{new_try, opened, with_cut, stamped, fails_after, closes, shut}
@@ -20,7 +27,9 @@ use Rattle.epoch_core.specs.ReaderKept.{TellsTry, Tells}
 use Rattle.epoch_core.proofs.Prefixes.{prefix_same}
 use Rattle.optimistic_get.specs.Loading.{most_loads, loads_of, loads_in, TryGoesOn}
 use Rattle.optimistic_get.specs.Search.{IsWeighed, by_tag, by_item, by_best, IsBest, IsSlotWeighed, Searches}
-use Rattle.optimistic_get.specs.Gets.{IsAnsweredAt, TriesMade, TryAnswers, TryFails}
+use Rattle.optimistic_get.specs.declared.getting.Got.{Got}
+use Rattle.optimistic_get.specs.Settled.{TriesAtRest}
+use Rattle.optimistic_get.specs.Gets.{is_again, IsAnsweredAt, TriesMade, TryAnswers, TryFails}
 
 -- What the loads spell
 
@@ -48,7 +57,7 @@ module _ (shape : Shape) (loads : Loads) (stamp b : ℕ) (key behind : List ℕ)
 
   -- none, where no best item is live
   spells_miss : (best : Option ℕ) → ((p : ℕ) → best ≡ Some p → ¬ (IsLiveItem shape.mode shape.words stamp p))
-      → ((c slot : ℕ) → Contains (b ∷ behind) c → slot < 15 → IsSlotWeighed shape loads key best c slot)
+      → ((c slot : ℕ) → Contains (b ∷ behind) c → slot < SLOTS → IsSlotWeighed shape loads key best c slot)
       → SpellsAnswer shape loads stamp b key None
   spells_miss best dead slots = record {
     behind = behind;
@@ -61,7 +70,25 @@ module _ (shape : Shape) (loads : Loads) (stamp b : ℕ) (key behind : List ℕ)
       no_entry entry (by_item shows) = no_item shows
       no_entry entry (by_best p is less) = no_stamp (λ live. dead p is (live_later shape.mode shape.words stamp (entry_offset entry) p less live.1))
 
+-- The owner's state at rest
+
+found_at_rest : (plan : Plan) (o : OwnerState) (r q : ReaderState) → Rests plan r.loads o → r.loads ≤ q.loads → owner_found plan q ≡ o
+found_at_rest plan o r q rests later = rests.still (q.loads + 1) (omega arith)
+
+even_at_rest : (plan : Plan) (o : OwnerState) (r : ReaderState) (b n : ℕ) → IsMain r.shape b → Rests plan r.loads o → FindsEpoch r b n plan → n % 2 ≡ 0
+even_at_rest plan o r b n main rests finds =
+    let found : OwnerState = owner_found plan r in
+    let idle : found.phase ≡ Idle = ap (λ (z : OwnerState). z.phase) (found_at_rest plan o r r rests (omega arith)) ∙ rests.idle in
+    let marked = ap (λ (z : Phase). marked_in z b) idle in
+    let begun = ap (λ (z : Phase). begun_in z b) idle in
+    let epochs = finds.kept.epochs b (subst (λ (z : Shape). IsMain z b) (sym finds.shape) main) in
+    let epoch = finds.epoch in
+    omega arith
+
 -- The states of one try
+
+le_of : {a b : ℕ} → a < b → a ≤ b
+le_of less = omega arith
 
 goes_to : (t : Try) (c : Option Try) → TryGoesOn (Some t) c → c ≡ Some (record t { loads = loads_of c })
 goes_to t None g = absurd g
@@ -95,6 +122,11 @@ module _ (r q : ReaderState) (b n : ℕ) (first : q ≡ opened b n r) (least : 2
     where
       not_even : (n % 2 == 0) ≡ false
       not_even = ne_eqb (n % 2) 0 (λ even. omega (arith, odd, even))
+
+  -- which no plan finds at rest
+  pub odd_rests : IsMain r.shape b → n % 2 ≡ 1 → (got : Got) (plan : Option Plan) → IfSome plan (FindsEpoch r b n) → IfSome plan (TriesAtRest r got q)
+  odd_rests main odd got None finds = tt
+  odd_rests main odd got (Some plan) finds = λ o rests. absurd (let even = even_at_rest plan o r b n main rests finds in omega (arith, odd, even))
 
   module _ (even : n % 2 ≡ 0) (key : List ℕ) (best : Option ℕ) (value : List ℕ) (q2 q3 q4 : ReaderState) (search : Searches q b key best value q2)
       (stamp last : ℕ) (cut : q3 ≡ stamped q3.seen q2) (more : IsPrefix q2.seen q3.seen) (stamped_is : stamp ≡ stamp_of (options_of q2.shape) q3.seen)
@@ -177,7 +209,7 @@ module _ (r q : ReaderState) (b n : ℕ) (first : q ≡ opened b n r) (least : 2
     loads_once : q4.loads ≤ r.loads + most_loads r.shape
     loads_once =
         let one = ap (λ (z : ReaderState). z.loads) first in
-        let two = search.on.loads in
+        let two = search.on.most in
         let three = ap (λ (z : ReaderState). z.loads) cut in
         let four = ap (λ (z : ReaderState). z.loads) end in
         let same = ap (λ (z : ReaderState). z.shape.spares) first in
@@ -241,6 +273,33 @@ module _ (r q : ReaderState) (b n : ℕ) (first : q ≡ opened b n r) (least : 2
           closed = closed_now ∙ (ap (λ (z : Bool). r.closed + (if z then 1 else 0)) (ne_eqb last n other) ∙ (omega arith));
           failure = record { fails = (low, inr (omega arith)); least = least };
         }
+
+    -- the loads of a plan at rest
+
+    after_first : r.loads < q2.loads
+    after_first = let one = ap (λ (z : ReaderState). z.loads) first in let more = search.on.least in omega arith
+
+    after_cut : r.loads < q3.loads
+    after_cut = let before = after_first in let one = ap (λ (z : ReaderState). z.loads) cut in omega arith
+
+    after_all : r.loads < q4.loads
+    after_all = let before = after_cut in let one = ap (λ (z : ReaderState). z.loads) end in omega arith
+
+    pub sees_rest : (got : Got) → is_again got ≡ false → (plan : Option Plan) → IfSome plan (FindsHistory q2 q3.seen) → IfSome plan (TriesAtRest r got q4)
+    sees_rest got answers None finds = tt
+    sees_rest got answers (Some plan) finds = λ o rests. record {
+      answered = answers;
+      later = after_all;
+      seen = seen4 ∙ (finds ∙ ap (λ (z : OwnerState). z.history) (found_at_rest plan o r q2 rests (le_of after_first)));
+    }
+
+    pub moved_rests : last ≢ n → (got : Got) (plan : Option Plan) → IfSome plan (FindsEpoch r b n) → IfSome plan (FindsLastEpoch q3 last) → IfSome plan (TriesAtRest r got q4)
+    moved_rests other got None finds ends = tt
+    moved_rests other got (Some plan) finds ends = λ o rests. absurd (other (
+      subst (λ (c : Option Try). IfSome c (λ t. last ≡ epoch_in (owner_found plan q3) t.bucket)) cut_try ends
+      ∙ ap (λ (z : OwnerState). epoch_in z b) (found_at_rest plan o r q3 rests (le_of after_cut) ∙ sym (found_at_rest plan o r r rests (le_refl r.loads)))
+      ∙ sym finds.epoch
+    ))
 
 -- the main buckets stay
 

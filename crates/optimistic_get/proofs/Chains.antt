@@ -1,13 +1,15 @@
 -- A search along the links of a chain.
 use Rattle.std.proofs.Common.{◌≡◌, ◌≢◌, ℕ, zero, suc, ◌+◌, ◌*◌, ◌<◌, List, [], ◌∷◌, ◌++◌, length, refl, sym, ap, ◌∙◌, subst, arith, Option, None, ◌⊎◌, inl, inr, length-append}
 use Rattle.std.specs.Prelude.{Contains}
+use Rattle.mica_words.specs.declared.entry.TheConstants.{SLOTS}
+use Rattle.mica_words.specs.Item.{largest_item}
 use Rattle.epoch_core.specs.declared.shape.Shape.{Shape}
 use Rattle.epoch_core.specs.declared.reader.ReaderState.{ReaderState}
-use Rattle.epoch_core.specs.Layout.{link_at}
+use Rattle.epoch_core.specs.Layout.{bucket_words, link_at}
 use Rattle.epoch_core.specs.ReaderState.{loaded}
 use Rattle.epoch_core.specs.Spelt.{Loads, HasLoad, HasLinks}
 use Rattle.epoch_core.proofs.Failing.{in_cons, in_none, in_left, in_both, in_last}
-use Rattle.optimistic_get.specs.Loading.{most_words, loads_in, Keeps, GoesOn}
+use Rattle.optimistic_get.specs.Loading.{loads_in, Keeps, GoesOn}
 use Rattle.optimistic_get.specs.Search.{IsBest, IsSlotWeighed, Scans, Searches}
 use Rattle.optimistic_get.proofs.Loads.{on_then, on_at_most, on_open, on_keeps, on_shape, load_here}
 use Rattle.optimistic_get.proofs.Items.{on_one}
@@ -43,21 +45,21 @@ path_full shape loads (suc left) b (c ∷ cs) last h full = (h.0, h.1, path_full
 
 -- So many links were followed, and each bucket on the way was looked at.
 pub record Walks (old : ReaderState) (b links at : ℕ) (key : List ℕ) (best : Option ℕ) (value : List ℕ) (new : ReaderState) : Type 0 where
-  pub on : GoesOn old (links * (16 + 15 * most_words) + 15 * (1 + most_words)) new
+  pub on : GoesOn old (links * (bucket_words + SLOTS * largest_item) + SLOTS * (1 + largest_item)) new
   pub behind : List ℕ
   pub long : length behind ≡ links
   pub path : HasPath new.shape (loads_in new) b behind at
   pub found : IsBest new.shape (loads_in new) (b ∷ behind) key best value
-  pub slots : (c slot : ℕ) → Contains (b ∷ behind) c → slot < 15 → IsSlotWeighed new.shape (loads_in new) key best c slot
+  pub slots : (c slot : ℕ) → Contains (b ∷ behind) c → slot < SLOTS → IsSlotWeighed new.shape (loads_in new) key best c slot
 
 none_found : (shape : Shape) (loads : Loads) (chain key value v : List ℕ) (best : Option ℕ) → ((best ≡ None) × (v ≡ value)) ⊎ IsBest shape loads chain key best v → IsBest shape loads chain key best v
 none_found shape loads chain key value v best (inl none) = subst (λ (z : Option ℕ). IsBest shape loads chain key z v) (sym none.0) tt
 none_found shape loads chain key value v best (inr is) = is
 
 -- the first bucket
-pub walks_first : (r q : ReaderState) (b : ℕ) (key : List ℕ) (value : List ℕ) (best : Option ℕ) (v : List ℕ) → Scans r b 15 key None value best v q → Walks r b 0 b key best v q
+pub walks_first : (r q : ReaderState) (b : ℕ) (key : List ℕ) (value : List ℕ) (best : Option ℕ) (v : List ℕ) → Scans r b SLOTS key None value best v q → Walks r b 0 b key best v q
 walks_first r q b key value best v scans = record {
-  on = on_at_most r q (15 * (1 + most_words)) (0 * (16 + 15 * most_words) + 15 * (1 + most_words)) (omega arith) scans.on;
+  on = on_at_most r q (SLOTS * (1 + largest_item)) (0 * (bucket_words + SLOTS * largest_item) + SLOTS * (1 + largest_item)) (omega arith) scans.on;
   behind = [];
   long = refl;
   path = refl;
@@ -82,8 +84,8 @@ module _ (r q q1 q2 : ReaderState) (b links at next : ℕ) (key : List ℕ) (bes
       let shape = on_shape q q1 1 one in
       let keeps = on_keeps q q1 1 one in
       let start = on_shape r q _ before.on in record {
-        on = on_at_most r q1 (links * (16 + 15 * most_words) + 15 * (1 + most_words) + 1) ((r.shape.spares + 1) * (16 + 15 * most_words)) (omega arith)
-            (on_then r q q1 (links * (16 + 15 * most_words) + 15 * (1 + most_words)) 1 before.on one);
+        on = on_at_most r q1 (links * (bucket_words + SLOTS * largest_item) + SLOTS * (1 + largest_item) + 1) ((r.shape.spares + 1) * (bucket_words + SLOTS * largest_item)) (omega arith)
+            (on_then r q q1 (links * (bucket_words + SLOTS * largest_item) + SLOTS * (1 + largest_item)) 1 before.on one);
         behind = before.behind;
         links = subst (λ (z : Shape). HasLinks z (loads_in q1) z.spares b before.behind) (sym shape)
             (path_ends q.shape (loads_in q1) q.shape.spares b before.behind at
@@ -96,9 +98,9 @@ module _ (r q q1 q2 : ReaderState) (b links at next : ℕ) (key : List ℕ) (bes
             (slot_keeps q.shape (loads_in q) (loads_in q1) keeps key best best c slot (no_worse_same best) (before.slots c slot h l));
       }
 
-  module _ (some : next ≢ 0) (scans : Scans q1 next 15 key best value now v q2) where
-    all : GoesOn q (1 + 15 * (1 + most_words)) q2
-    all = on_then q q1 q2 1 (15 * (1 + most_words)) one scans.on
+  module _ (some : next ≢ 0) (scans : Scans q1 next SLOTS key best value now v q2) where
+    all : GoesOn q (1 + SLOTS * (1 + largest_item)) q2
+    all = on_then q q1 q2 1 (SLOTS * (1 + largest_item)) one scans.on
 
     shape : q2.shape ≡ q.shape
     shape = on_shape q q2 _ all
@@ -127,8 +129,8 @@ module _ (r q q1 q2 : ReaderState) (b links at next : ℕ) (key : List ℕ) (bes
     -- the bucket behind
     pub walks_more : Walks r b (links + 1) next key now v q2
     walks_more = record {
-      on = on_at_most r q2 (links * (16 + 15 * most_words) + 15 * (1 + most_words) + (1 + 15 * (1 + most_words))) ((links + 1) * (16 + 15 * most_words) + 15 * (1 + most_words)) (omega arith)
-          (on_then r q q2 (links * (16 + 15 * most_words) + 15 * (1 + most_words)) (1 + 15 * (1 + most_words)) before.on all);
+      on = on_at_most r q2 (links * (bucket_words + SLOTS * largest_item) + SLOTS * (1 + largest_item) + (1 + SLOTS * (1 + largest_item))) ((links + 1) * (bucket_words + SLOTS * largest_item) + SLOTS * (1 + largest_item)) (omega arith)
+          (on_then r q q2 (links * (bucket_words + SLOTS * largest_item) + SLOTS * (1 + largest_item)) (1 + SLOTS * (1 + largest_item)) before.on all);
       behind = before.behind ++ next ∷ [];
       long = omega (arith, before.long, length-append before.behind (next ∷ []));
       path = subst (λ (z : Shape). HasPath z (loads_in q2) b (before.behind ++ next ∷ []) next) (sym shape)
@@ -152,7 +154,7 @@ pub searched_all : (r q : ReaderState) (b links at : ℕ) (key : List ℕ) (best
     → Searches r b key best value q
 searched_all r q b links at key best value w all =
     let shape = on_shape r q _ w.on in record {
-      on = on_at_most r q (links * (16 + 15 * most_words) + 15 * (1 + most_words)) ((r.shape.spares + 1) * (16 + 15 * most_words)) (omega arith) w.on;
+      on = on_at_most r q (links * (bucket_words + SLOTS * largest_item) + SLOTS * (1 + largest_item)) ((r.shape.spares + 1) * (bucket_words + SLOTS * largest_item)) (omega arith) w.on;
       behind = w.behind;
       links = path_full q.shape (loads_in q) q.shape.spares b w.behind at w.path (w.long ∙ (all ∙ ap (λ (z : Shape). z.spares) (sym shape)));
       found = w.found;

@@ -2,15 +2,17 @@
 use Rattle.std.proofs.Common.{◌≡◌, ℕ, ◌+◌, ◌*◌, ◌<◌, ◌≤◌, List, [], ◌∷◌, refl, sym, ◌∙◌, subst, arith, Option, Some, None, ◌⊎◌, inl, inr, ⊎_elim}
 use Rattle.std.specs.Prelude.{Contains, true, is_some}
 use Rattle.std.proofs.lemmas.Bool.{cases_lt}
+use Rattle.mica_words.specs.declared.entry.TheConstants.{SLOTS}
 use Rattle.mica_words.specs.Hash.{tag_of}
 use Rattle.mica_words.specs.Entry.{entry_tag, entry_offset}
+use Rattle.mica_words.specs.Item.{largest_item}
 use Rattle.epoch_core.specs.declared.shape.Shape.{Shape}
 use Rattle.epoch_core.specs.declared.reader.ReaderState.{ReaderState}
 use Rattle.epoch_core.specs.Layout.{entry_at, item_at}
 use Rattle.epoch_core.specs.ReaderState.{loaded}
 use Rattle.epoch_core.specs.Spelt.{Loads, HasLoad, ShowsOther, by_offset, by_key_len, by_value_len, by_hash, by_key_word, ShowsItem, IsEntryOf}
 use Rattle.epoch_core.proofs.Failing.{in_head}
-use Rattle.optimistic_get.specs.Loading.{most_words, loads_in, Keeps, GoesOn}
+use Rattle.optimistic_get.specs.Loading.{loads_in, Keeps, GoesOn}
 use Rattle.optimistic_get.specs.Search.{IsWeighed, by_tag, by_item, by_best, IsBest, IsNoWorse, IsSlotWeighed, Weighs, Scans}
 use Rattle.optimistic_get.proofs.Loads.{on_none, on_then, on_at_most, on_open, on_keeps, on_shape, load_here}
 use Rattle.optimistic_get.proofs.Items.{on_one}
@@ -85,12 +87,12 @@ later_no_worse (Some p) q later = later p refl
 
 -- One entry
 
-pub weighs_none : (r q : ReaderState) (n entry : ℕ) (key : List ℕ) (best : Option ℕ) (value : List ℕ) → GoesOn r n q → n ≤ most_words
+pub weighs_none : (r q : ReaderState) (n entry : ℕ) (key : List ℕ) (best : Option ℕ) (value : List ℕ) → GoesOn r n q → n ≤ largest_item
     → IsWeighed q.shape (loads_in q) key best entry → Weighs r entry key best value best value q
 weighs_none r q n entry key best value g few weighed =
-    record { on = on_at_most r q n most_words few g; rises = no_worse_same best; found = inl (refl, refl); weighed = weighed }
+    record { on = on_at_most r q n largest_item few g; rises = no_worse_same best; found = inl (refl, refl); weighed = weighed }
 
-pub weighs_one : (r q : ReaderState) (entry : ℕ) (key : List ℕ) (best : Option ℕ) (value now : List ℕ) → GoesOn r most_words q
+pub weighs_one : (r q : ReaderState) (entry : ℕ) (key : List ℕ) (best : Option ℕ) (value now : List ℕ) → GoesOn r largest_item q
     → ((p : ℕ) → best ≡ Some p → p ≤ entry_offset entry) → entry_tag entry ≡ tag_of key → ShowsItem q.shape (loads_in q) (entry_offset entry) key now
     → Weighs r entry key best value (Some (entry_offset entry)) now q
 weighs_one r q entry key best value now g later tag shows = record {
@@ -107,21 +109,21 @@ scans_none r c key best value trying =
     record { on = on_none r trying; rises = no_worse_same best; found = inl (refl, refl); slots = λ slot l. absurd (omega arith) }
 
 module _ (r q q1 q2 : ReaderState) (c n entry : ℕ) (key : List ℕ) (best : Option ℕ) (value : List ℕ) (now : Option ℕ) (v : List ℕ) (next : Option ℕ) (w : List ℕ)
-    (before : Scans r c n key best value now v q) (load : q1 ≡ loaded (entry_at q.shape c n) entry q) (weigh : Weighs q1 entry key now v next w q2) (in_bucket : n < 15) where
+    (before : Scans r c n key best value now v q) (load : q1 ≡ loaded (entry_at q.shape c n) entry q) (weigh : Weighs q1 entry key now v next w q2) (in_bucket : n < SLOTS) where
   one : GoesOn q 1 q1
   one = on_one q q1 (entry_at q.shape c n) entry (on_open r q _ before.on) load
 
-  all : GoesOn q (1 + most_words) q2
-  all = on_then q q1 q2 1 most_words one weigh.on
+  all : GoesOn q (1 + largest_item) q2
+  all = on_then q q1 q2 1 largest_item one weigh.on
 
   shape : q2.shape ≡ q.shape
-  shape = on_shape q q2 (1 + most_words) all
+  shape = on_shape q q2 (1 + largest_item) all
 
   keeps : Keeps (loads_in q) (loads_in q2)
-  keeps = on_keeps q q2 (1 + most_words) all
+  keeps = on_keeps q q2 (1 + largest_item) all
 
   entry_there : HasLoad (loads_in q2) (entry_at q.shape c n) entry
-  entry_there = on_keeps q1 q2 most_words weigh.on (entry_at q.shape c n) entry (load_here q q1 (entry_at q.shape c n) entry (on_open r q _ before.on) load)
+  entry_there = on_keeps q1 q2 largest_item weigh.on (entry_at q.shape c n) entry (load_here q q1 (entry_at q.shape c n) entry (on_open r q _ before.on) load)
 
   found_more : ((next ≡ best) × (w ≡ value)) ⊎ IsBest q2.shape (loads_in q2) (c ∷ []) key next w
   found_more = elim weigh.found [
@@ -150,8 +152,8 @@ module _ (r q q1 q2 : ReaderState) (c n entry : ℕ) (key : List ℕ) (best : Op
 
   pub scans_more : Scans r c (n + 1) key best value next w q2
   scans_more = record {
-    on = on_at_most r q2 (n * (1 + most_words) + (1 + most_words)) ((n + 1) * (1 + most_words)) (omega arith)
-        (on_then r q q2 (n * (1 + most_words)) (1 + most_words) before.on all);
+    on = on_at_most r q2 (n * (1 + largest_item) + (1 + largest_item)) ((n + 1) * (1 + largest_item)) (omega arith)
+        (on_then r q q2 (n * (1 + largest_item)) (1 + largest_item) before.on all);
     rises = no_worse_then best now next before.rises weigh.rises;
     found = found_more;
     slots = λ slot l. ⊎_elim

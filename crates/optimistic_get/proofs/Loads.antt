@@ -57,24 +57,26 @@ this_load (Some t) place x trying = in_last t.loads (place, x)
 -- and so does a reader
 
 pub on_none : (r : ReaderState) → is_some r.current ≡ true → GoesOn r 0 r
-on_none r trying = record { same = refl; loads = omega arith; current = same_try r.current trying }
+on_none r trying = record { same = refl; most = omega arith; least = omega arith; current = same_try r.current trying }
 
 pub on_load : (r q p : ReaderState) (n place x : ℕ) → GoesOn r n q → p ≡ loaded place x q → GoesOn r (n + 1) p
 on_load r q p n place x g is = subst (GoesOn r (n + 1)) (sym is) record {
   same = ap (λ (z : ReaderState). record z { loads = q.loads + 1; current = with_load place x q.current }) g.same;
-  loads = let few = g.loads in omega arith;
+  most = let few = g.most in omega arith;
+  least = let some = g.least in omega arith;
   current = load_more r.current q.current place x g.current;
 }
 
 pub on_then : (r q p : ReaderState) (n m : ℕ) → GoesOn r n q → GoesOn q m p → GoesOn r (n + m) p
 on_then r q p n m g h = record {
   same = h.same ∙ ap (λ (z : ReaderState). record z { loads = p.loads; current = p.current }) g.same;
-  loads = let few = g.loads in let more = h.loads in omega arith;
+  most = let few = g.most in let more = h.most in omega arith;
+  least = let some = g.least in let more = h.least in omega arith;
   current = then_try r.current q.current p.current g.current h.current;
 }
 
 pub on_at_most : (r q : ReaderState) (n m : ℕ) → n ≤ m → GoesOn r n q → GoesOn r m q
-on_at_most r q n m less g = record { same = g.same; loads = let few = g.loads in omega arith; current = g.current }
+on_at_most r q n m less g = record { same = g.same; most = let few = g.most in omega arith; least = g.least; current = g.current }
 
 pub on_open : (r q : ReaderState) (n : ℕ) → GoesOn r n q → is_some q.current ≡ true
 on_open r q n g = still_open r.current q.current g.current

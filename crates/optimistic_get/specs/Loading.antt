@@ -1,24 +1,21 @@
 -- What loads in an open try make of a reader's state, and what they found.
 use Rattle.std.specs.Prelude.{◌≡◌, ◌≢◌, ℕ, ◌+◌, ◌*◌, ◌<◌, ◌≤◌, List, [], length, slice_index, Option, Some, None}
-use Rattle.mica_words.specs.declared.item.TheConstants.{MAX_KEY_LEN, MAX_VALUE_LEN}
+use Rattle.mica_words.specs.declared.item.TheConstants.{MAX_VALUE_LEN}
+use Rattle.mica_words.specs.declared.entry.TheConstants.{SLOTS}
 use Rattle.mica_words.specs.Hash.{fnv1a}
 use Rattle.mica_words.specs.Header.{header_key_len, header_value_len}
-use Rattle.mica_words.specs.Item.{words_for}
+use Rattle.mica_words.specs.Item.{words_for, largest_item}
 use Rattle.mica_words.specs.Packing.{packed, unpacked}
 use Rattle.epoch_core.specs.declared.shape.Shape.{Shape}
 use Rattle.epoch_core.specs.declared.reader.Try.{Try}
 use Rattle.epoch_core.specs.declared.reader.ReaderState.{ReaderState}
-use Rattle.epoch_core.specs.Layout.{item_at}
+use Rattle.epoch_core.specs.Layout.{bucket_words, item_at}
 use Rattle.epoch_core.specs.Spelt.{Loads, HasLoad}
-
--- the words of the longest item
-abbrev pub most_words : ℕ
-most_words = 2 + words_for MAX_KEY_LEN + words_for MAX_VALUE_LEN
 
 -- the loads of one try at most: two epochs and the stamp, and of each bucket of the chain the entries, the link
 -- and an item behind each entry
 abbrev pub most_loads : Shape → ℕ
-most_loads shape = 3 + (shape.spares + 1) * (16 + 15 * most_words)
+most_loads shape = 3 + (shape.spares + 1) * (bucket_words + SLOTS * largest_item)
 
 -- the loads of the open try
 abbrev pub loads_of : Option Try → Loads
@@ -37,10 +34,11 @@ abbrev pub TryGoesOn : Option Try → Option Try → Type 0
 TryGoesOn (Some t) (Some u) = (u ≡ record t { loads = u.loads }) × Keeps t.loads u.loads
 TryGoesOn _ _ = ⊥
 
--- At most n loads more of entries, links and item words, in the same try.
+-- At most n loads more, of entries, links and item words, in the same try.
 pub record GoesOn (old : ReaderState) (n : ℕ) (new : ReaderState) : Type 0 where
   pub same : new ≡ record old { loads = new.loads; current = new.current }
-  pub loads : new.loads ≤ old.loads + n
+  pub most : new.loads ≤ old.loads + n
+  pub least : old.loads ≤ new.loads
   pub current : TryGoesOn old.current new.current
 
 -- these words were found from the offset on

@@ -1,12 +1,14 @@
 -- A search for a key through the entries of a chain.
 use Rattle.std.specs.Prelude.{◌≡◌, ◌≢◌, ℕ, ◌+◌, ◌*◌, ◌<◌, ◌≤◌, ◌⊎◌, List, [], ◌∷◌, Contains, Option, Some, None}
+use Rattle.mica_words.specs.declared.entry.TheConstants.{SLOTS}
 use Rattle.mica_words.specs.Hash.{tag_of}
 use Rattle.mica_words.specs.Entry.{entry_tag, entry_offset}
+use Rattle.mica_words.specs.Item.{largest_item}
 use Rattle.epoch_core.specs.declared.shape.Shape.{Shape}
 use Rattle.epoch_core.specs.declared.reader.ReaderState.{ReaderState}
-use Rattle.epoch_core.specs.Layout.{entry_at}
+use Rattle.epoch_core.specs.Layout.{bucket_words, entry_at}
 use Rattle.epoch_core.specs.Spelt.{Loads, HasLoad, HasLinks, ShowsOther, ShowsItem, IsEntryOf}
-use Rattle.optimistic_get.specs.Loading.{most_words, loads_in, GoesOn}
+use Rattle.optimistic_get.specs.Loading.{loads_in, GoesOn}
 
 -- What was found of an entry: it has another tag, its item is another key's, or it begins no later than the
 -- item that was found first or last.
@@ -36,7 +38,7 @@ IsSlotWeighed shape loads key best c slot =
 -- An entry was looked at. The best item of before is the best still, or this entry's is.
 pub record Weighs (old : ReaderState) (entry : ℕ) (key : List ℕ) (best : Option ℕ) (value : List ℕ)
     (now : Option ℕ) (now_value : List ℕ) (new : ReaderState) : Type 0 where
-  pub on : GoesOn old most_words new
+  pub on : GoesOn old largest_item new
   pub rises : IsNoWorse best now
   pub found : ((now ≡ best) × (now_value ≡ value))
       ⊎ ((now ≡ Some (entry_offset entry)) × (entry_tag entry ≡ tag_of key)
@@ -47,16 +49,16 @@ pub record Weighs (old : ReaderState) (entry : ℕ) (key : List ℕ) (best : Opt
 -- this bucket.
 pub record Scans (old : ReaderState) (c count : ℕ) (key : List ℕ) (best : Option ℕ) (value : List ℕ)
     (now : Option ℕ) (now_value : List ℕ) (new : ReaderState) : Type 0 where
-  pub on : GoesOn old (count * (1 + most_words)) new
+  pub on : GoesOn old (count * (1 + largest_item)) new
   pub rises : IsNoWorse best now
   pub found : ((now ≡ best) × (now_value ≡ value)) ⊎ IsBest new.shape (loads_in new) (c ∷ []) key now now_value
   pub slots : (slot : ℕ) → slot < count → IsSlotWeighed new.shape (loads_in new) key now c slot
 
 -- The whole chain of a bucket was looked at.
 pub record Searches (old : ReaderState) (b : ℕ) (key : List ℕ) (best : Option ℕ) (value : List ℕ) (new : ReaderState) : Type 0 where
-  pub on : GoesOn old ((old.shape.spares + 1) * (16 + 15 * most_words)) new
+  pub on : GoesOn old ((old.shape.spares + 1) * (bucket_words + SLOTS * largest_item)) new
   pub behind : List ℕ
   pub links : HasLinks new.shape (loads_in new) new.shape.spares b behind
   pub found : IsBest new.shape (loads_in new) (b ∷ behind) key best value
-  pub slots : (c slot : ℕ) → Contains (b ∷ behind) c → slot < 15
+  pub slots : (c slot : ℕ) → Contains (b ∷ behind) c → slot < SLOTS
       → IsSlotWeighed new.shape (loads_in new) key best c slot

@@ -8,7 +8,9 @@
 mod getting;
 mod looking;
 mod searching;
+mod settled;
 mod trying;
 mod wanted;
 
 pub use getting::{Got, get};
+pub use settled::get_settled;

@@ -1,10 +1,10 @@
 //! The item behind an entry, by loads in an open try.
 ghost use Rattle.std.specs.Prelude.{◌≡◌, ◌+◌, ◌<◌, ◌≤◌, ◌^◌, true, is_some, length, MatchBool, MatchOption};
 ghost use Rattle.mica_words.specs.declared.item.TheConstants.{MAX_VALUE_LEN};
-ghost use Rattle.mica_words.specs.Item.{words_for};
+ghost use Rattle.mica_words.specs.Item.{words_for, largest_item};
 ghost use Rattle.mica_words.specs.Packing.{packed};
 ghost use Rattle.epoch_core.specs.Spelt.{ShowsOther, ShowsItem};
-ghost use Rattle.optimistic_get.specs.Loading.{most_words, loads_in, GoesOn, HasWords, LacksWord, HasKeyOf, HoldsValue};
+ghost use Rattle.optimistic_get.specs.Loading.{loads_in, GoesOn, HasWords, LacksWord, HasKeyOf, HoldsValue};
 
 use crate::wanted::Wanted;
 use epoch_core::ReaderWords;
@@ -19,6 +19,7 @@ fn holds_packed<R: ReaderWords>(seat: &mut R, offset: u64, bytes: &[u8]) -> bool
     ensures shows { MatchBool result (HasWords (R.reader seat.new) offset (packed bytes.entry.now))
         (LacksWord (R.reader seat.new) offset (packed bytes.entry.now)) }
     ensures home { R.home seat.new ≡ R.home seat.old }
+    ensures plan { R.plan seat.new ≡ R.plan seat.old }
 {
     for i in 0..bytes.len().div_ceil(8) {
         if seat.item_word(offset + i as u64) != packed_word(bytes, i) {
@@ -37,6 +38,7 @@ fn value_len_at<R: ReaderWords>(seat: &mut R, offset: u64, wanted: &Wanted<'_>) 
         (ShowsOther (R.reader seat.new).shape (loads_in (R.reader seat.new)) offset wanted.now.key.now)
         (HasKeyOf (R.reader seat.new) offset wanted.now.key.now) }
     ensures home { R.home seat.new ≡ R.home seat.old }
+    ensures plan { R.plan seat.new ≡ R.plan seat.old }
 {
     let header = seat.item_word(offset);
     if header_key_len(header) as usize != wanted.key.len() {
@@ -64,6 +66,7 @@ fn load_value<R: ReaderWords>(seat: &mut R, offset: u64, len: usize, out: &mut I
     ensures on { GoesOn (R.reader seat.old) (words_for len) (R.reader seat.new) }
     ensures value { HoldsValue (R.reader seat.new) offset len out.new }
     ensures home { R.home seat.new ≡ R.home seat.old }
+    ensures plan { R.plan seat.new ≡ R.plan seat.old }
 {
     out.clear();
     for i in 0..len.div_ceil(8) {
@@ -82,12 +85,13 @@ pub(crate) fn look<R: ReaderWords>(
 ) -> bool
     requires open { is_some (R.reader seat.old).current ≡ true }
     requires offset { offset < 2 ^ 48 }
-    ensures on { GoesOn (R.reader seat.old) most_words (R.reader seat.new) }
+    ensures on { GoesOn (R.reader seat.old) largest_item (R.reader seat.new) }
     ensures shows { MatchBool result
         (ShowsItem (R.reader seat.new).shape (loads_in (R.reader seat.new)) offset wanted.now.key.now out.new)
         (ShowsOther (R.reader seat.new).shape (loads_in (R.reader seat.new)) offset wanted.now.key.now
         × (out.new ≡ out.old)) }
     ensures home { R.home seat.new ≡ R.home seat.old }
+    ensures plan { R.plan seat.new ≡ R.plan seat.old }
 {
     let shape = seat.shape();
     if matches!(shape.mode, Mode::Store) && offset >= u64::from(shape.words) {

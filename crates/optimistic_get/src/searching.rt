@@ -1,5 +1,6 @@
 //! The entries of a chain, by loads in an open try.
 ghost use Rattle.std.specs.Prelude.{◌≡◌, ℕ, ◌<◌, ◌≤◌, ◌^◌, true, is_some, Some, None, IfSome, MatchBool};
+ghost use Rattle.mica_words.specs.declared.entry.TheConstants.{SLOTS};
 ghost use Rattle.epoch_core.specs.Shape.{IsMain, IsBucket};
 ghost use Rattle.optimistic_get.specs.Search.{Weighs, Scans, Searches};
 
@@ -7,7 +8,7 @@ use crate::looking::look;
 use crate::wanted::Wanted;
 use epoch_core::ReaderWords;
 use mica_model::ItemBuf;
-use mica_words::{entry_offset, entry_tag, tag_of};
+use mica_words::{SLOTS, entry_offset, entry_tag, tag_of};
 
 // Whether an item at the offset begins later than the best one.
 fn is_later(best: Option<u64>, offset: u64) -> bool
@@ -34,6 +35,7 @@ fn weigh<R: ReaderWords>(
         (R.reader seat.new) }
     ensures low { IfSome result (λ p. p < 2 ^ 48) }
     ensures home { R.home seat.new ≡ R.home seat.old }
+    ensures plan { R.plan seat.new ≡ R.plan seat.old }
 {
     if entry_tag(entry) != tag_of(wanted.hash) {
         return best;
@@ -61,12 +63,13 @@ fn scan<R: ReaderWords>(
     requires bucket { IsBucket (R.reader seat.old).shape bucket }
     requires low { IfSome best (λ p. p < 2 ^ 48) }
     ensures low { IfSome result (λ p. p < 2 ^ 48) }
-    ensures scans { Scans (R.reader seat.old) bucket 15 wanted.now.key.now best out.old result out.new
+    ensures scans { Scans (R.reader seat.old) bucket SLOTS wanted.now.key.now best out.old result out.new
         (R.reader seat.new) }
     ensures home { R.home seat.new ≡ R.home seat.old }
+    ensures plan { R.plan seat.new ≡ R.plan seat.old }
 {
     let mut best = best;
-    for slot in 0..15 {
+    for slot in 0..SLOTS {
         let entry = seat.entry(bucket, slot);
         best = weigh(seat, entry, wanted, best, out);
     }
@@ -85,6 +88,7 @@ pub(crate) fn search<R: ReaderWords>(
     ensures searches { Searches (R.reader seat.old) bucket wanted.now.key.now result out.new (R.reader seat.new) }
     ensures low { IfSome result (λ p. p < 2 ^ 48) }
     ensures home { R.home seat.new ≡ R.home seat.old }
+    ensures plan { R.plan seat.new ≡ R.plan seat.old }
 {
     let mut best = scan(seat, bucket, wanted, None, out);
     let mut at = bucket;

@@ -1,9 +1,10 @@
 //! One try.
-ghost use Rattle.std.specs.Prelude.{◌≡◌, ◌<◌, ◌^◌, ◌↔◌, IsTrue};
+ghost use Rattle.std.specs.Prelude.{◌≡◌, ◌<◌, ◌^◌, ◌↔◌, IsTrue, IfSome};
 ghost use Rattle.mica_words.specs.Hash.{bucket_of};
 ghost use Rattle.epoch_core.specs.Shape.{IsMain};
 ghost use Rattle.epoch_core.specs.LiveEntry.{IsLiveItem};
 ghost use Rattle.optimistic_get.specs.Gets.{Tries};
+ghost use Rattle.optimistic_get.specs.Settled.{TriesAtRest};
 
 use crate::getting::Got;
 use crate::searching::search;
@@ -34,7 +35,10 @@ pub(crate) fn try_get<R: ReaderWords>(
     requires main { IsMain (R.reader seat.old).shape bucket }
     requires bucket { bucket ≡ bucket_of wanted.now.key.now (R.reader seat.old).shape.buckets }
     ensures tries { Tries (R.reader seat.old) bucket wanted.now.key.now result out.new (R.reader seat.new) }
+    ensures planned { IfSome (R.plan seat.old)
+        (TriesAtRest (R.reader seat.old) result (R.reader seat.new)) }
     ensures home { R.home seat.new ≡ R.home seat.old }
+    ensures plan { R.plan seat.new ≡ R.plan seat.old }
 {
     let first = seat.first_epoch(bucket);
     if first % 2 == 1 {

@@ -1,5 +1,5 @@
 //! A seat that reads, and a note of what one has seen.
-ghost use Rattle.std.specs.Prelude.{◌≡◌, ◌<◌, true, [], Some};
+ghost use Rattle.std.specs.Prelude.{◌≡◌, ◌<◌, true, [], Some, None};
 ghost use Rattle.std.specs.Arc.{arc_value};
 ghost use Rattle.mica_model.specs.History.{IsPrefix};
 ghost use Rattle.epoch_core.specs.declared.reader.Try.{Try};
@@ -79,6 +79,8 @@ impl ReaderWords for ReaderSeat {
     ghost reader = { reader_state };
 
     ghost home = { reader_home };
+
+    ghost plan = { λ _. None };
 
     fn shape(&self) -> Shape {
         self.places.shape

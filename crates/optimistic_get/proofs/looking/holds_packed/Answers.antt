@@ -25,6 +25,7 @@ loop-i-preserved g c =
       first = first_more (reader c.loop-i.seat) (reader c.item_word.new.self) c.item_word.result c.args.offset c.loop-i.i (packed c.args.bytes.now)
           (on_open (reader c.args.seat.now) (reader c.loop-i.seat) c.loop-i.i c.loop-i.invariant.on) c.item_word.ensures.event (c.if-item_word-packed_word.false ∙ c.packed_word.ensures) c.loop-i.invariant.first;
       home = search rules;
+      plan = search rules;
     }
 
 pub returns-clause-shows : goal.returns-clause-shows

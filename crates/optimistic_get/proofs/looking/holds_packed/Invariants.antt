@@ -10,4 +10,5 @@ invariant-loop-i g l = record {
   on : GoesOn (g.R.ReaderWords.reader l.initial.seat) l.i (g.R.ReaderWords.reader l.seat);
   first : HasFirst (g.R.ReaderWords.reader l.seat) l.offset (packed l.bytes) l.i;
   home : g.R.ReaderWords.home l.seat ≡ g.R.ReaderWords.home l.initial.seat;
+  plan : g.R.ReaderWords.plan l.seat ≡ g.R.ReaderWords.plan l.initial.seat;
 }

@@ -17,6 +17,7 @@ loop-i-preserved g c =
       bytes = c.push_word.ensures ∙ bytes_more x loop.words c.loop-i.out loop.bytes;
       wide = eight_more c.loop-i.i x c.loop-i.out c.push_word.new.self c.push_word.ensures loop.wide;
       home = search rules;
+      plan = search rules;
     }
 
 pub returns-clause-value : goal.returns-clause-value

@@ -14,4 +14,5 @@ invariant-loop-i g l = record {
   bytes : l.out ≡ bytes_of words;
   wide : length l.out ≡ 8 * l.i;
   home : g.R.ReaderWords.home l.seat ≡ g.R.ReaderWords.home l.initial.seat;
+  plan : g.R.ReaderWords.plan l.seat ≡ g.R.ReaderWords.plan l.initial.seat;
 }

@@ -21,7 +21,7 @@ returns-then-item_word-wanted-clause-on g c =
     let reader = g.R.ReaderWords.reader in
     let two = on_two (reader c.args.seat.now) (reader c.item_word-header.new.self) c.args.offset c.item_word-header.result c.args.wanted.now.key.now c.requires.open c.item_word-header.ensures.event
     (reader c.item_word.new.self) c.item_word.result c.item_word.ensures.event in
-    record { same = two.same; loads = let few = two.loads in omega arith; current = two.current }
+    record { same = two.same; most = let few = two.most in omega arith; least = two.least; current = two.current }
 
 pub returns-then-item_word-wanted-clause-shows : goal.returns-then-item_word-wanted-clause-shows
 returns-then-item_word-wanted-clause-shows g c =

@@ -9,4 +9,5 @@ loop-slot-preserved g c =
           c.args.best c.args.out.now c.loop-slot.best c.loop-slot.out c.weigh-best.result c.weigh-best.new.out c.loop-slot.invariant.scans c.entry-entry.ensures.event c.weigh-best.ensures.weighs c.loop-slot-test.true;
       low = c.weigh-best.ensures.low;
       home = search rules;
+      plan = search rules;
     }

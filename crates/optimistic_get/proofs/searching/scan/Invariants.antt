@@ -8,4 +8,5 @@ invariant-loop-slot g l = record {
   scans : Scans (g.R.ReaderWords.reader l.initial.seat) l.bucket l.slot l.wanted.key.now l.initial.best l.initial.out l.best l.out (g.R.ReaderWords.reader l.seat);
   low : IfSome l.best (λ p. p < 2 ^ 48);
   home : g.R.ReaderWords.home l.seat ≡ g.R.ReaderWords.home l.initial.seat;
+  plan : g.R.ReaderWords.plan l.seat ≡ g.R.ReaderWords.plan l.initial.seat;
 }

@@ -13,6 +13,7 @@ loop-link-init g c =
       at = omega arith;
       low = c.scan-best.ensures.low;
       home = c.scan-best.ensures.home;
+      plan = c.scan-best.ensures.plan;
     }
 
 pub returns-then-next-eq0-clause-searches : goal.returns-then-next-eq0-clause-searches
@@ -37,6 +38,7 @@ loop-link-preserved g c =
       at = spare.1;
       low = c.scan-best-in-loop-link.ensures.low;
       home = c.scan-best-in-loop-link.ensures.home ∙ (c.link-next.ensures.home ∙ c.loop-link.invariant.home);
+      plan = c.scan-best-in-loop-link.ensures.plan ∙ (c.link-next.ensures.plan ∙ c.loop-link.invariant.plan);
     }
 
 pub returns-clause-searches : goal.returns-clause-searches

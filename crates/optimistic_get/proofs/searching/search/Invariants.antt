@@ -10,4 +10,5 @@ invariant-loop-link g l = record {
   at : IsBucket (g.R.ReaderWords.reader l.fn.seat).shape l.at;
   low : IfSome l.best (λ p. p < 2 ^ 48);
   home : g.R.ReaderWords.home l.seat ≡ g.R.ReaderWords.home l.fn.seat;
+  plan : g.R.ReaderWords.plan l.seat ≡ g.R.ReaderWords.plan l.fn.seat;
 }

@@ -1,0 +1,28 @@
+//! The get of a script that has no event left.
+ghost use Rattle.mica_words.specs.Item.{KeyFits};
+ghost use Rattle.epoch_core.specs.Script.{IsSettled};
+ghost use Rattle.epoch_core.specs.Seats.{book_of};
+ghost use Rattle.optimistic_get.specs.Settled.{AnswersPlayed};
+
+use crate::getting::Got;
+use crate::trying::try_get;
+use crate::wanted::Wanted;
+use epoch_core::{ReaderWords, Scripted};
+use mica_model::{Answer, ItemBuf};
+use mica_words::{bucket_of, key_hash};
+
+/// The machine's answer after the events that were played, by one try.
+pub fn get_settled(seat: &mut Scripted, key: &[u8], out: &mut ItemBuf) -> Answer
+    requires key { KeyFits key.now }
+    requires settled { IsSettled (book_of seat.old) }
+    ensures { AnswersPlayed (book_of seat.old) key.now result out.new (book_of seat.new) }
+{
+    let hash = key_hash(key);
+    let bucket = bucket_of(hash, seat.shape().buckets);
+    let wanted = Wanted { key, hash };
+    match try_get(seat, bucket, &wanted, out) {
+        Got::Hit { .. } => Answer::Hit,
+        Got::Miss { .. } => Answer::Miss,
+        Got::Again { .. } => unreachable!(),
+    }
+}
