@@ -1,4 +1,4 @@
-use Rattle.std.proofs.Common.{◌≡◌, ◌+◌, [], ◌∷◌, ◌++◌, length, ◌∙◌, arith, rules, length-append}
+use Rattle.std.proofs.Common.{◌≡◌, [], ◌∷◌, ◌++◌, ◌∙◌, arith, rules, length-append}
 use Rattle.mica_words.specs.Item.{words_for}
 use Rattle.optimistic_get.proofs.Loads.{on_load, on_open, first_snoc}
 use Rattle.optimistic_get.proofs.Bytes.{bytes_more, eight_more, value_of}
