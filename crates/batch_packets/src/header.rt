@@ -5,7 +5,6 @@ ghost use Rattle.batch_packets.specs.Datagram.{header_text, header_fault, larges
 
 use crate::BatchFault;
 use mica_io::NoMemory;
-use mica_words::MAX_VALUE_LEN;
 
 /// The version that is read and written.
 const VERSION: u8 = 1;
@@ -19,8 +18,8 @@ pub const MOST: usize = 255;
 /// The most bytes of a datagram of version 1.
 pub const LIMIT: usize = 1472;
 
-/// The most bytes of a value of version 1.
-pub const VALUE_LIMIT: usize = MAX_VALUE_LEN;
+/// The most bytes of a value of version 1, whose format keeps it also where the store takes longer values.
+pub const VALUE_LIMIT: usize = 1024;
 
 /// The number of eight bytes at the front, and the bytes after it.
 pub fn read_u64(from: &[u8]) -> Option<(u64, &[u8])>

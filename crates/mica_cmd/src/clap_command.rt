@@ -1,4 +1,4 @@
-// Command lines as clap takes them apart: options with one value each, and nothing else.
+//! Command lines as clap takes them apart: options with one value each, and nothing else.
 ghost use Rattle.std.specs.Prelude.{◌≡◌, IfOk, IfErr, None, [], false, true, map, string_bytes};
 ghost use Rattle.std.specs.List.{list_any};
 ghost use Rattle.clap.specs.Walk.{rule_of};

@@ -1,4 +1,4 @@
-// The commands, and the words that give them.
+//! The commands, and the words that give them.
 ghost use Rattle.std.specs.Prelude.{◌≡◌, map, string_bytes};
 ghost use Rattle.mica_cmd.specs.CommandLine.{bench_given, bench_names, command_of, gen_given, gen_names, read_as, replay_given, replay_names, serve_given, serve_names, IsReadingOf};
 

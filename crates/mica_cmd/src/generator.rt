@@ -1,4 +1,4 @@
-// Generates traces.
+//! Generates traces.
 ghost use Rattle.std.specs.Prelude.{◌≡◌, ◌≤◌, ◌<◌, ◌+◌, ◌*◌, ◌++◌, length, true, IfOk, OnOk};
 ghost use Rattle.std.specs.Fmt.{decimal};
 ghost use Rattle.mica_trace.specs.TraceGrammar.{trace_text};

@@ -1,4 +1,4 @@
-// The values of options, from the texts that they were given.
+//! The values of options, from the texts that they were given.
 ghost use Rattle.std.specs.Prelude.{◌≡◌, Some, None, option_map, option_and_then};
 ghost use Rattle.std.specs.Int.{is_power_of_two};
 ghost use Rattle.clap.specs.Matches.{first_value, found_of};

@@ -1,4 +1,4 @@
-// The whole program: its words, and the number that it ends with.
+//! The whole program: its words, and the number that it ends with.
 ghost use Rattle.std.specs.Prelude.{◌≡◌, [], false};
 ghost use Rattle.std.specs.Process.{exit_status};
 ghost use Rattle.mica_cmd.specs.Outside.{Outside, SourceFacts, SinkFacts};

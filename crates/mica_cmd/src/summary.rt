@@ -1,4 +1,4 @@
-// Prints the summary of a trace and its report.
+//! Prints the summary of a trace and its report.
 ghost use Rattle.std.specs.Prelude.{◌≡◌, ◌++◌, ◌≤◌, length, IfOk, OnOk, OnErr};
 ghost use Rattle.mica_model.specs.Options.{IsValid};
 ghost use Rattle.mica_trace.specs.LawfulReport.{LawfulReport};

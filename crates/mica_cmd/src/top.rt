@@ -1,3 +1,4 @@
+//! The top call: from the words of a command to its status, its text and what it leaves.
 ghost use Rattle.std.specs.Prelude.{◌≡◌, ◌≢◌, [], List, IfOk, true, Some, map, string_bytes, false};
 ghost use Rattle.mica_model.specs.Options.{IsValid};
 ghost use Rattle.mica_cmd.specs.declared.command.Command.TheVariants.{Replay, Serve, Gen, Bench};

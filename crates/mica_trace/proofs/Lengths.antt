@@ -1,6 +1,8 @@
 -- How long the text of a trace is at most.
-use Rattle.std.proofs.Common.{◌≡◌, ℕ, zero, suc, ◌*◌, ◌<◌, ◌≤◌, List, [], ◌∷◌, ◌++◌, length, length-append, get_or, take, refl, sym, ap, subst, arith}
+use Rattle.std.proofs.Common.{◌≡◌, ℕ, zero, suc, ◌+◌, ◌*◌, ◌<◌, ◌≤◌, List, [], ◌∷◌, ◌++◌, length, length-append, get_or, take, refl, sym, ap, subst, arith}
 use Rattle.std.specs.List.{AllByRecursion}
+use Rattle.mica_words.specs.declared.item.TheConstants.{MAX_KEY_LEN, MAX_VALUE_LEN}
+use Rattle.mica_trace.specs.declared.limits.TheConstants.{MAX_LINE_LEN}
 use Rattle.mica_trace.specs.declared.line.TraceOp.{TraceOp}
 use Rattle.mica_trace.specs.declared.line.TraceOp.TheVariants.{Put, Del, Get, Sync}
 use Rattle.mica_trace.specs.declared.line.TraceLine.{TraceLine}
@@ -8,8 +10,8 @@ use Rattle.mica_trace.specs.TraceGrammar.{HasFields, IsTraceLine, line_text, tra
 use Rattle.mica_trace.proofs.LineLemmas.{text_length}
 
 pub record HasShortFields (key value : List ℕ) : Type 0 where
-  pub key_len : length key ≤ 255
-  pub value_len : length value ≤ 1024
+  pub key_len : length key ≤ MAX_KEY_LEN
+  pub value_len : length value ≤ MAX_VALUE_LEN
 
 short_fields : (op : TraceOp) (key value : List ℕ) → HasFields op key value → HasShortFields key value
 short_fields Put key value fields = record { key_len = fields.0.0.1; value_len = fields.1.0 }
@@ -26,8 +28,8 @@ pub short_at : (lines : List TraceLine) (i : ℕ) (line : TraceLine) → line �
     → HasShortFields line.key line.value
 short_at lines i line is less all = short_fields line.op line.key line.value (subst IsTraceLine (sym is) (line_at lines i line less all))
 
--- each line has 1,285 bytes at most, its line feed counted
-pub taken_length : (lines : List TraceLine) (i : ℕ) → AllByRecursion IsTraceLine lines → length (trace_text (take i lines)) ≤ 1285 * i
+-- each line has its line feed too
+pub taken_length : (lines : List TraceLine) (i : ℕ) → AllByRecursion IsTraceLine lines → length (trace_text (take i lines)) ≤ (MAX_LINE_LEN + 1) * i
 taken_length lines zero all = omega arith
 taken_length [] (suc i) all = omega arith
 taken_length (l ∷ lines) (suc i) all =

@@ -3,6 +3,7 @@ use Rattle.std.proofs.Common.{◌≡◌, ◌≢◌, ℕ, ◌+◌, ◌<◌, ◌�
 use Rattle.std.specs.List.{AllByRecursion}
 use Rattle.std.proofs.lemmas.Bool.{false≢true}
 use Rattle.std.proofs.lemmas.List.Sums.{sum_by-cons}
+use Rattle.mica_trace.specs.declared.limits.TheConstants.{MAX_LINE_LEN}
 use Rattle.mica_trace.specs.declared.line.TraceOp.{TraceOp}
 use Rattle.mica_trace.specs.declared.line.TraceOp.TheVariants.{Put, Del, Get, Sync}
 use Rattle.mica_trace.specs.declared.line.TraceLine.{TraceLine}
@@ -40,15 +41,15 @@ no_line text no_sync no_get no_del no_put line is = by line.op line.key line.val
     by Get key value fields spelled = no_get key spelled fields.0
     by Sync key value fields spelled = no_sync spelled
 
-op_text_length : (op : TraceOp) (key value : List ℕ) → HasFields op key value → length (op_text op key value) ≤ 1284
+op_text_length : (op : TraceOp) (key value : List ℕ) → HasFields op key value → length (op_text op key value) ≤ MAX_LINE_LEN
 op_text_length Put key value fields = let k = fields.0.0.1 in let v = fields.1.0 in omega (arith, length-append key (32 ∷ value))
 op_text_length Del key value fields = let k = fields.0.0.1 in omega arith
 op_text_length Get key value fields = let k = fields.0.0.1 in omega arith
 op_text_length Sync key value fields = omega arith
 
 -- a line of a trace is not long
-pub text_length : (text : List ℕ) (line : TraceLine) → IsTextOf text line → length text ≤ 1284
-text_length text line is = subst (λ t. length t ≤ 1284) (sym is.1) (op_text_length line.op line.key line.value is.0)
+pub text_length : (text : List ℕ) (line : TraceLine) → IsTextOf text line → length text ≤ MAX_LINE_LEN
+text_length text line is = subst (λ t. length t ≤ MAX_LINE_LEN) (sym is.1) (op_text_length line.op line.key line.value is.0)
 
 sync_op : (op : TraceOp) (key value : List ℕ) → codes "sync" ≡ op_text op key value → is_sync_op op ≡ true
 sync_op Put key value same = absurd (false≢true (sym (ap (λ t. eqb (get_or t 0 0) 115) same)))

@@ -2,6 +2,7 @@
 use Rattle.std.proofs.Common.{◌≡◌, ℕ, ◌+◌, ◌<◌, ◌≤◌, List, [], ◌∷◌, ◌++◌, length, refl, sym, ap, ◌∙◌, subst, arith, append_assoc, cond, Bool, true, false}
 use Rattle.std.specs.List.{AllZip, AllByRecursion}
 use Rattle.std.proofs.lemmas.List.{append-nil, length_push}
+use Rattle.mica_trace.specs.declared.limits.TheConstants.{MAX_ROUNDS}
 use Rattle.mica_trace.specs.declared.line.TraceFault.{TraceFault}
 use Rattle.mica_trace.specs.declared.line.TraceFault.TheVariants.{BadLine, LongLine, TooManyLines, TooManyRounds, NoMemory}
 use Rattle.mica_trace.specs.declared.line.TraceLine.{TraceLine}
@@ -25,7 +26,7 @@ AllZip_push R (a ∷ xs) (b ∷ ys) x y all here = (all.0, AllZip_push R xs ys x
 pub reads_none : (from : List ℕ) → HasRead from [] from 0
 reads_none from = record { texts = []; parts = refl; spelled = tt; within = record { few_lines = omega arith; few_rounds = omega arith }; counted = refl }
 
-sync_room : (b : Bool) (syncs : ℕ) → syncs < 4096 → (b ≡ true → syncs + 1 < 4096) → syncs + cond b 1 0 < 4096
+sync_room : (b : Bool) (syncs : ℕ) → syncs < MAX_ROUNDS → (b ≡ true → syncs + 1 < MAX_ROUNDS) → syncs + cond b 1 0 < MAX_ROUNDS
 sync_room true syncs few room = room refl
 sync_room false syncs few room = omega arith
 
@@ -49,7 +50,7 @@ module _ (from : List ℕ) (lines : List TraceLine) (rest : List ℕ) (syncs : �
       let syncs_are = syncs_push lines line in
       let counted = so_far.counted in
       let here = room.line_room in
-      let few : syncs < 4096 = subst (λ s. s < 4096) (sym so_far.counted) so_far.within.few_rounds in
+      let few : syncs < MAX_ROUNDS = subst (λ s. s < MAX_ROUNDS) (sym so_far.counted) so_far.within.few_rounds in
       let fewer = sync_room (is_sync line) syncs few room.round_room in
       record {
         texts = so_far.texts ++ at ∷ [];

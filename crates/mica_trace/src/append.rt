@@ -1,4 +1,4 @@
-// Appends a line to a text.
+//! Appends a line to a text.
 ghost use Rattle.std.specs.Prelude.{◌≡◌, ◌∷◌, ◌++◌, [], flat_map, OnOk, OnErr};
 
 use mica_io::NoMemory;

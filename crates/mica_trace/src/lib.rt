@@ -12,7 +12,7 @@ mod split;
 mod trace;
 mod trace_text;
 
-pub use laws::one_reading;
+pub use laws::{lawful_is_report, one_reading};
 pub use limits::{MAX_LINE_LEN, MAX_LINES, MAX_ROUNDS};
 pub use line::{TraceFault, TraceLine, TraceOp};
 pub use read::read_trace;

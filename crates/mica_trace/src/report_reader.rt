@@ -1,4 +1,4 @@
-// Reads reports.
+//! Reads reports.
 ghost use Rattle.std.specs.Prelude.{◌≡◌, ◌≢◌, ◌<◌, ◌∷◌, ◌++◌, ℕ, List, length, codes, IfOk, IfErr, IsErrOf, MatchOption};
 ghost use Rattle.std.specs.Fmt.{decimal};
 ghost use Rattle.mica_model.specs.declared.write.Outcome.{Outcome};

@@ -1,4 +1,4 @@
-// Where bytes are parted.
+//! Where bytes are parted.
 ghost use Rattle.std.specs.Prelude.{◌≡◌, ◌<◌, ◌∷◌, ◌++◌, ℕ, List, length, MatchOption};
 ghost use Rattle.mica_trace.specs.Lines.{lines_of, Lacks};
 

@@ -1,4 +1,4 @@
-// Prints traces.
+//! Prints traces.
 ghost use Rattle.std.specs.Prelude.{◌≡◌, ◌≤◌, ◌∷◌, ◌++◌, [], length, OnOk, OnErr};
 ghost use Rattle.std.specs.List.{AllByRecursion};
 ghost use Rattle.mica_trace.specs.TraceGrammar.{IsTraceLine, IsWithinLimits, line_text, trace_text};
