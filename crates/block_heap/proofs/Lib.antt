@@ -1,9 +1,12 @@
 pub mod Order
+pub mod Places
 pub mod Merging
 pub mod Counting
-pub mod Places
 pub mod Taking
-pub mod Finding
-pub mod Giving
-pub mod Largest
 pub mod UsedBlocks
+pub mod TagLaws
+pub mod ListLaws
+pub mod Listing
+pub mod Keeping
+pub mod Giving
+pub mod Finding

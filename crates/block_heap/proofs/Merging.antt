@@ -48,7 +48,7 @@ apart_by : (block next : Block) (rest : List Block) (v : Bool) → (block.used |
 apart_by block next rest true e not_both = refl
 apart_by block next rest false e not_both = absurd (not_both (both_false block.used next.used e))
 
-joined_apart : (block : Block) (blocks : List Block) → ((IsFree block × BeginsFree blocks) → ⊥) → joined block blocks ≡ block ∷ blocks
+pub joined_apart : (block : Block) (blocks : List Block) → ((IsFree block × BeginsFree blocks) → ⊥) → joined block blocks ≡ block ∷ blocks
 joined_apart block [] not_both = refl
 joined_apart block (next ∷ rest) not_both = apart_by block next rest (block.used || next.used) refl not_both
 

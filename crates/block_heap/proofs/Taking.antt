@@ -1,10 +1,9 @@
 -- What taking a block keeps.
-use Rattle.std.proofs.Common.{◌≡◌, ℕ, zero, suc, ◌+◌, ◌-◌, ◌<◌, ◌≤◌, List, [], ◌∷◌, ◌++◌, length, refl, sym, ap, subst, arith, length-append}
+use Rattle.std.proofs.Common.{◌≡◌, ℕ, zero, suc, ◌+◌, ◌-◌, ◌<◌, ◌≤◌, List, [], ◌∷◌, ◌++◌, refl, sym, ap, subst, arith}
 use Rattle.block_heap.specs.declared.block.Block.{Block}
 use Rattle.block_heap.specs.Blocks.{free_block, used_block, Fills, IsMerged, IsBlockList, words_of}
 use Rattle.block_heap.specs.Changes.{rest_of, IsTaken}
-use Rattle.block_heap.specs.Inside.{IsHeap}
-use Rattle.block_heap.proofs.Order.{words_of-append, words_of-cons, words_of-fills, length-le-words_of, front_fills, back_fills, fills_instead, back_merged, merged_instead}
+use Rattle.block_heap.proofs.Order.{words_of-fills, front_fills, back_fills, fills_instead, back_merged, merged_instead}
 
 rest_fills : (from end place size : ℕ) (after : List Block) → place ≡ from → Fills (from + size) after end → Fills from (rest_of place size ++ after) end
 rest_fills from end place zero after here h = let e : from + 0 ≡ from = omega arith in subst (λ n. Fills n after end) e h
@@ -40,18 +39,6 @@ IsBlockList-taken words old new place need some list taken =
 pub words_of-list : (words : ℕ) (blocks : List Block) → IsBlockList words blocks → words_of blocks ≡ words
 words_of-list words blocks list = let e = words_of-fills 0 words blocks list.fills in omega arith
 
--- the heap's vector stays one with another block list of the same words
-pub IsHeap-same : (old new : List Block) (room more : ℕ) → IsHeap old room → room ≤ more → IsBlockList (words_of old) new → IsHeap new more
-IsHeap-same old new room more heap wider list =
-    let same = words_of-list (words_of old) new list in
-    let fits = heap.room in
-    let limit = heap.limit in
-    record {
-      list = subst (λ n. IsBlockList n new) (sym same) list;
-      room = omega arith;
-      limit = omega arith;
-    }
-
 -- a block's words lie in the heap
 pub place_within : (words : ℕ) (before after : List Block) (block : Block) → Fills 0 (before ++ block ∷ after) words → block.place + block.size ≤ words
 place_within words before after block h =
@@ -59,14 +46,6 @@ place_within words before after block h =
     let place = here.0 in
     let end = words_of-fills ((0 + words_of before) + block.size) words after here.2 in
     omega arith
-
--- where a block has two words or more, a vector with a place for each word has room for one more
-pub length-lt-words_of : (words : ℕ) (before after : List Block) (block : Block) → Fills 0 (before ++ block ∷ after) words → 1 < block.size → length (before ++ block ∷ after) < words_of (before ++ block ∷ after)
-length-lt-words_of words before after block h wide =
-    let here = back_fills 0 words before (block ∷ after) h in
-    let front = length-le-words_of 0 (0 + words_of before) before (front_fills 0 words before (block ∷ after) h) in
-    let back = length-le-words_of ((0 + words_of before) + block.size) words after here.2 in
-    omega (arith, length-append before (block ∷ after), words_of-append before (block ∷ after), words_of-cons block after)
 
 pub rest_is : (place size : ℕ) → 0 < size → rest_of place size ≡ free_block place size ∷ []
 rest_is place zero some = absurd (omega arith)

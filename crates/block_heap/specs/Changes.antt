@@ -23,11 +23,6 @@ joined block [] = block ∷ []
 joined block (next ∷ rest) =
     if block.used || next.used then block ∷ next ∷ rest else free_block block.place (block.size + next.size) ∷ rest
 
--- the first block, as one with the second where both are free
-abbrev pub with_next : List Block → List Block
-with_next [] = []
-with_next (block ∷ blocks) = joined block blocks
-
 -- the blocks with free neighbours made one
 abbrev pub merged : List Block → List Block
 merged [] = []

@@ -1,21 +1,43 @@
--- What the heap's vector of blocks keeps.
-use Rattle.std.specs.Prelude.{◌≡◌, ℕ, ◌≤◌, ◌<◌, ◌^◌, true, List, length}
-use Rattle.std.specs.List.{HoldsAt}
+-- What the heap keeps.
+use Rattle.std.specs.Prelude.{◌≡◌, ℕ, ◌≤◌, Option, Some, None, List, [], ◌∷◌, Contains, IfSome, ◌<◌, slice_index}
+use Rattle.size_classes.specs.Classes.{class_of}
 use Rattle.block_heap.specs.declared.block.Block.{Block}
-use Rattle.block_heap.specs.Blocks.{IsFree, IsBlockList, words_of}
+use Rattle.block_heap.specs.Blocks.{free_block, IsFree, IsBlockList, free_sizes, words_of}
+use Rattle.block_heap.specs.Lists.{list_of, AreListed}
 
--- a block list, in a vector with a place for each of its words, since a word may be a block
-pub record IsHeap (blocks : List Block) (capacity : ℕ) : Type 0 where
+-- a block list, and the lists of its free blocks, with a position for each of its words
+pub record IsHeap (blocks : List Block) (words : ℕ) (lists : List (List ℕ)) : Type 0 where
   pub list : IsBlockList (words_of blocks) blocks
-  pub room : words_of blocks ≤ capacity
-  pub limit : words_of blocks < 2 ^ 32
+  pub listed : AreListed lists blocks
+  pub same : words ≡ words_of blocks
+  pub limit : words_of blocks ≤ 1048576
 
--- the block at the index is free and has as many words as are needed
-pub record IsFit (blocks : List Block) (need at : ℕ) : Type 0 where
-  pub within : at < length blocks
-  pub fits : HoldsAt (λ block. IsFree block × (need ≤ block.size)) blocks at
+-- a neighbour as a list
+abbrev pub blocks_in : Option Block → List Block
+blocks_in None = []
+blocks_in (Some block) = block ∷ []
 
--- the block at the index is used and begins at the place
-pub record IsUsedAt (blocks : List Block) (place at : ℕ) : Type 0 where
-  pub within : at < length blocks
-  pub used : HoldsAt (λ block. (block.used ≡ true) × (block.place ≡ place)) blocks at
+-- the words of a neighbour, or 0 where there is none
+abbrev pub words_in : Option Block → ℕ
+words_in None = 0
+words_in (Some block) = block.size
+
+-- a neighbour is free, and stands in the list of its class
+abbrev pub IsListable : List (List ℕ) → Option Block → Type 0
+IsListable lists neighbour =
+    IfSome neighbour (λ block. IsFree block × (1 ≤ block.size) × (block.size ≤ 1048576) × Contains (list_of lists (class_of block.size)) block.place)
+
+-- a free block begins at the place
+pub record HasFreeAt (blocks : List Block) (place : ℕ) : Type 0 where
+  pub size : ℕ
+  pub among : Contains blocks (free_block place size)
+
+-- so many places of a list have blocks of fewer words than are needed
+abbrev pub AreShort : List Block → List ℕ → ℕ → ℕ → Type 0
+AreShort blocks list need count =
+    (k : ℕ) (block : Block) → k < count → Contains blocks block → block.place ≡ slice_index list k → block.size < need
+
+-- the largest size at so many places of a list, or 0 where there is none
+pub record IsMost (blocks : List Block) (list : List ℕ) (count most : ℕ) : Type 0 where
+  pub bound : (k : ℕ) (block : Block) → k < count → Contains blocks block → block.place ≡ slice_index list k → block.size ≤ most
+  pub found : 0 < most → Contains (free_sizes blocks) most

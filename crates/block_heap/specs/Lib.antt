@@ -1,3 +1,5 @@
 pub mod Blocks
 pub mod Changes
+pub mod Tags
+pub mod Lists
 pub mod Inside

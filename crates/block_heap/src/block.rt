@@ -1,3 +1,4 @@
+//! A block of words.
 ghost use Rattle.std.specs.Prelude.{◌≡◌};
 ghost use Rattle.block_heap.specs.Blocks.{free_block, used_block};
 

@@ -1,30 +1,77 @@
-ghost use Rattle.std.specs.Prelude.{◌≡◌, ◌+◌, ◌<◌, ◌≤◌, ◌↔◌, [], ◌∷◌, IfOk, IfNone, IfSome, IsNone};
-ghost use Rattle.block_heap.specs.Blocks.{free_block, IsBlockList, HasUsed, NoneFits, MayLack, IsLargest, words_of};
+//! The heap: its blocks, told by tags, and the lists of the free ones.
+ghost use Rattle.std.specs.Prelude.{◌≡◌, ◌+◌, ◌<◌, ◌≤◌, ◌↔◌, ℕ, List, [], ◌∷◌, ◌++◌, IfOk, IfNone, IfSome, IsNone, Contains, All, length};
+ghost use Rattle.block_heap.specs.declared.block.Block.{Block};
+ghost use Rattle.block_heap.specs.Blocks.{free_block, IsBlockList, HasUsed, NoneFits, MayLack, IsFree, IsLargest, words_of};
 ghost use Rattle.block_heap.specs.Changes.{IsTaken, IsGiven};
+ghost use Rattle.block_heap.specs.Lists.{AreListed};
+ghost use Rattle.block_heap.specs.Inside.{IsListable, blocks_in, words_in, HasFreeAt, AreShort, IsMost};
 
 use crate::block::Block;
-use crate::blocks::{cut, first_fit, join, used_at};
+use crate::lists::FreeLists;
+use crate::tagged::TaggedBlocks;
 use mica_io::NoMemory;
+use size_classes::class_of;
 use std::alloc::Global;
 use std::marker::Model;
 
 /// Words that are given out in blocks, and come back.
 #[derive(Drop)]
 pub struct Heap {
-    blocks: Vec<Block>,
+    blocks: TaggedBlocks,
+    free: FreeLists,
 }
 
 impl Model for Heap {
-    ghost use Rattle.std.specs.Prelude.{List, vec_capacity};
+    ghost use Rattle.std.specs.Prelude.{List};
     ghost use Rattle.block_heap.specs.declared.block.Block.{Block};
+    ghost use Rattle.block_heap.specs.Inside.{IsHeap};
 
     ghost Value = { List Block };
 
-    ghost use Rattle.block_heap.specs.Inside.{IsHeap};
+    ghost view = { λ s. s.blocks };
 
-    ghost view = { λ s. s.blocks.items };
+    ghost invariant = { λ s. IsHeap s.blocks s.free.0 s.free.1 };
+}
 
-    ghost invariant = { λ s. IsHeap s.blocks.items (vec_capacity s.blocks) };
+// Takes a free neighbour out of its list, and tells how many words it has.
+fn unlist(free: &mut FreeLists, neighbour: Option<Block>) -> u32
+    requires { IsListable free.old.1 neighbour }
+    ensures size { result ≡ words_in neighbour }
+    ensures words { free.new.0 ≡ free.old.0 }
+    ensures listed { (before after : List Block) → AreListed free.old.1 (before ++ (blocks_in neighbour ++ after)) → AreListed free.new.1 (before ++ after) }
+{
+    let Some(block) = neighbour else {
+        return 0;
+    };
+    free.remove(class_of(block.size), block.place);
+    block.size
+}
+
+// The first block of the list that has as many words as are needed.
+fn first_fit(blocks: &TaggedBlocks, list: &[u32], need: u32) -> Option<Block>
+    requires { All (HasFreeAt blocks.now) list.now }
+    ensures none { IfNone result (AreShort blocks.now list.now need (length list.now)) }
+    ensures some { IfSome result (λ block. Contains blocks.now block × IsFree block × (need ≤ block.size)) }
+{
+    for place in list {
+        let size = blocks.size_at(*place);
+        if size >= need {
+            return Some(Block::free(*place, size));
+        }
+    }
+    None
+}
+
+// The words of the largest block of the list.
+fn most_words(blocks: &TaggedBlocks, list: &[u32]) -> u32
+    requires { All (HasFreeAt blocks.now) list.now }
+    ensures { IsMost blocks.now list.now (length list.now) result }
+{
+    let mut most = 0;
+    for listed in list {
+        most = most.max(blocks.size_at(*listed));
+    }
+    most
 }
 
 impl Heap {
@@ -34,10 +81,30 @@ impl Heap {
         requires limit { words ≤ 1048576 }
         ensures { IfOk result (λ heap. heap ≡ free_block 0 words ∷ []) }
     {
-        // A word may be a used block of its own, so there may be as many blocks as words.
-        let mut blocks = Vec::with_capacity(alloc, words as usize)?;
-        blocks.push(Block::free(0, words))?;
-        Ok(Heap { blocks })
+        let blocks = TaggedBlocks::new(alloc, words)?;
+        let mut free = FreeLists::new(alloc, words)?;
+        free.add(class_of(words), 0);
+        Ok(Heap { blocks, free })
+    }
+
+    // A free block of as many words as are needed: of the class of the need, which is searched whole, else
+    // the first of the next class that has one.
+    fn fitting(&self, need: u32) -> Option<Block>
+        requires { 1 ≤ need }
+        ensures none { IfNone result (NoneFits self.now need) }
+        ensures may_lack { IfNone result (MayLack self.now need) }
+        ensures some { IfSome result (λ block. Contains self.now block × IsFree block × (need ≤ block.size)) }
+    {
+        if need > self.blocks.words() {
+            return None;
+        }
+        let class = class_of(need);
+        if let Some(block) = first_fit(&self.blocks, self.free.list(class), need) {
+            return Some(block);
+        }
+        let next = self.free.next_above(class)?;
+        let place = self.free.list(next)[0];
+        Some(Block::free(place, self.blocks.size_at(place)))
     }
 
     /// The place of a block of as many words as are needed. Which free block it is cut from is left open.
@@ -49,8 +116,14 @@ impl Heap {
         ensures taken { IfSome result (λ place. IsTaken self.old self.new place need) }
         ensures blocks { IsBlockList (words_of self.old) self.new }
     {
-        let at = first_fit(&self.blocks, need)?;
-        Some(cut(&mut self.blocks, at, need))
+        let block = self.fitting(need)?;
+        self.free.remove(class_of(block.size), block.place);
+        self.blocks.cut(block, need);
+        if need < block.size {
+            let rest = block.size - need;
+            self.free.add(class_of(rest), block.place + need);
+        }
+        Some(block.place)
     }
 
     /// Takes back the used block that begins at the place.
@@ -59,19 +132,23 @@ impl Heap {
         ensures given { IsGiven self.old self.new place }
         ensures blocks { IsBlockList (words_of self.old) self.new }
     {
-        let at = used_at(&self.blocks, place);
-        self.blocks[at].used = false;
-        join(&mut self.blocks, at);
-        if at > 0 {
-            join(&mut self.blocks, at - 1);
-        }
+        let size = self.blocks.size_at(place);
+        let left = self.blocks.free_before(place);
+        let right = self.blocks.free_at(place + size);
+        let before = unlist(&mut self.free, left);
+        let after = unlist(&mut self.free, right);
+        let block = Block::free(place - before, before + size + after);
+        self.blocks.replace(block);
+        self.free.add(class_of(block.size), block.place);
     }
 
     /// The size of the largest free block, or 0 where there is none.
     pub fn largest(&self) -> u32
         ensures { IsLargest self.now result }
     {
-        let free = self.blocks.iter().filter(|block| !block.used);
-        free.map(|block| block.size).max().unwrap_or(0)
+        let Some(last) = self.free.last() else {
+            return 0;
+        };
+        most_words(&self.blocks, self.free.list(last))
     }
 }

@@ -6,7 +6,8 @@
 #![tactic(auto)]
 
 mod block;
-mod blocks;
 mod heap;
+mod lists;
+mod tagged;
 
 pub use heap::Heap;

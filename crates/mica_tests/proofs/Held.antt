@@ -1,7 +1,9 @@
 -- Blocks that stay used while others are taken and given back.
-use Rattle.std.proofs.Common.{◌≡◌, ℕ, zero, suc, ◌<◌, ⊎_elim, List, ◌∷◌, length, refl, sym, ap, subst, arith}
+use Rattle.std.proofs.Common.{◌≡◌, ℕ, zero, suc, ◌<◌, ◌⊎◌, inl, inr, ⊎_elim, Bool, true, false, List, ◌∷◌, length, get_or, set, refl, sym, ap, ◌∙◌, subst, arith}
 use Rattle.std.specs.List.{Contains, slice_index_or}
 use Rattle.std.proofs.lemmas.List.Elements.{Contains-append_left, Contains-append_right, Contains-append_cases}
+use Rattle.std.proofs.lemmas.Bool.{cases_eq}
+use Rattle.std.proofs.lemmas.List.{get_or-set_same, get_or-set_other}
 use Rattle.block_heap.specs.declared.block.Block.{Block}
 use Rattle.block_heap.specs.Blocks.{used_block, HasUsed, used_blocks}
 use Rattle.block_heap.specs.Changes.{IsTaken, IsGiven}
@@ -58,3 +60,21 @@ used_after_give old new place other given differs used =
       among = fewer (used_blocks old) (used_blocks new) (used_block place given.size) (used_block other used.size)
           (λ same. differs (ap (λ b. b.place) same)) (used_blocks-given old new place given) used.among;
     }
+
+-- a place that is marked when it is taken, among those that were
+pub held_taken : (old new : List Block) (held : List Bool) (place need : ℕ) → ((other : ℕ) → get_or held other false ≡ true → HasUsed old other) → IsTaken old new place need
+    → (other : ℕ) → get_or (set held place true) other false ≡ true → HasUsed new other
+held_taken old new held place need marked taken other is = by (cases_eq other place)
+  where
+    by : (other ≡ place) ⊎ (other ≡ place → ⊥) → HasUsed new other
+    by (inl e) = subst (HasUsed new) (sym e) (used_by_take old new place need taken)
+    by (inr ne) = used_after_take old new place need other taken (marked other (sym (get_or-set_other held place other true false ne) ∙ is))
+
+-- a place whose mark goes when it is given back
+pub held_given : (old new : List Block) (held : List Bool) (place : ℕ) → place < length held → ((other : ℕ) → get_or held other false ≡ true → HasUsed old other) → IsGiven old new place
+    → (other : ℕ) → get_or (set held place false) other false ≡ true → HasUsed new other
+held_given old new held place within marked given other is = by (cases_eq other place)
+  where
+    by : (other ≡ place) ⊎ (other ≡ place → ⊥) → HasUsed new other
+    by (inl e) = (let off = sym (get_or-set_same held place false false within) ∙ sym (ap (λ k. get_or (set held place false) k false) e) ∙ is in cc)
+    by (inr ne) = used_after_give old new place other given (λ e. ne (sym e)) (marked other (sym (get_or-set_other held place other false false ne) ∙ is))

@@ -1,22 +1,22 @@
-use Rattle.std.proofs.Common.{List, not, rules, tests, ap, ◌∙◌, unwrap_or, subst}
-use Rattle.std.specs.List.{filter}
-use Rattle.std.specs.Ordering.{nat_cmp, max_by_ordering}
-use Rattle.std.proofs.lemmas.Iterator.{YieldsList-from_slice, YieldsList-from_map}
-use Rattle.std.proofs.lemmas.Iterator.Consumers.{YieldsList-from_filter, reduce_from_yields_List}
-use Rattle.std.proofs.lemmas.List.Folds.{max_of_map}
+use Rattle.std.proofs.Common.{List, ℕ, length, sym, subst}
+use Rattle.std.specs.List.{All}
 use Rattle.block_heap.specs.declared.block.Block.{Block}
 use Rattle.block_heap.specs.Blocks.{IsLargest}
-use Rattle.block_heap.proofs.Largest.{IsLargest-most}
+use Rattle.block_heap.specs.Inside.{HasFreeAt, IsMost}
+use Rattle.block_heap.proofs.Finding.{all_have, is_largest, none_largest}
 use Rattle.block_heap.proofs.heap.Heap.largest.Goals as goal
+
+pub returns-in_default : goal.returns-in_default
+returns-in_default c =
+    subst (λ (bs : List Block). IsLargest bs 0) c.self.view_is (none_largest c.self.inside.blocks c.self.inside.free.0 c.self.inside.free.1 c.self.invariant c.in_default.ensures.none)
+
+pub most_words-requires : goal.most_words-requires
+most_words-requires c =
+    subst (λ (xs : List ℕ). All (HasFreeAt c.self.inside.blocks) xs) (sym c.list.ensures) (all_have c.self.inside.blocks c.self.inside.free.0 c.self.inside.free.1 c.in-Some.last c.self.invariant c.in-Some.ensures.some.0)
 
 pub returns : goal.returns
 returns c =
-    let blocks = c.deref.result.now in
-    let most = reduce_from_yields_List (λ p z. max_by_ordering (nat_cmp p z) p z) _ c.max.result c.max.ensures.ran
-    (YieldsList-from_map _ (λ (b : Block). b.size)
-    (YieldsList-from_filter _ (λ (b : Block). not b.used) (YieldsList-from_slice blocks cc) c.filter-free.ensures.closure (λ x r q k. search (rules, tests)))
-    c.map.ensures.closure (λ x r q k. search (rules, tests))) in
-    let same = c.deref.ensures.value ∙ c.self.view_is in
-    subst (λ (bs : List Block). IsLargest bs c.unwrap_or.result) same
-    (IsLargest-most blocks c.unwrap_or.result
-    (c.unwrap_or.ensures ∙ ap (λ r. unwrap_or r 0) most ∙ max_of_map (λ (b : Block). b.size) (filter (λ (b : Block). not b.used) blocks)))
+    let some = c.in-Some.ensures.some in
+    let most = subst (λ (xs : List ℕ). IsMost c.self.inside.blocks xs (length xs) c.most_words.result) c.list.ensures c.most_words.ensures in
+    subst (λ (bs : List Block). IsLargest bs c.most_words.result) c.self.view_is
+    (is_largest c.self.inside.blocks c.self.inside.free.0 c.self.inside.free.1 c.in-Some.last c.most_words.result c.self.invariant some.0 most some.1 some.2)

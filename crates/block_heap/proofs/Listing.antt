@@ -1,0 +1,232 @@
+-- The lists of places against the free blocks.
+use Rattle.std.proofs.Common.{◌≡◌, ◌≢◌, ℕ, zero, suc, ◌+◌, ◌*◌, ◌^◌, ◌<◌, ◌≤◌, ◌⊎◌, inl, inr, Bool, true, false, cond, eqb, List, [], ◌∷◌, ◌++◌, length, get_or, refl, sym, ap, ◌∙◌, subst, arith}
+use Rattle.std.specs.List.{Contains, sum_by}
+use Rattle.std.specs.List.Sorted.{IsPermutation}
+use Rattle.std.proofs.lemmas.List.Sorted.{sum_by-IsPermutation}
+use Rattle.std.proofs.lemmas.List.Sums.{sum_by-cons, sum_by-append, sum_by_push, sum_by-remove}
+use Rattle.std.proofs.lemmas.Bool.{cases_eq, eq-eqb, ne_eqb}
+use Rattle.size_classes.specs.Classes.{class_of}
+use Rattle.block_heap.specs.declared.block.Block.{Block}
+use Rattle.block_heap.specs.Blocks.{free_block, Fills, IsFree, BeginsFree, IsMerged, words_of}
+use Rattle.block_heap.specs.Lists.{list_of, count_in, AreListed, IsUnlisted, IsLeast, MayLie}
+use Rattle.block_heap.proofs.Order.{words_of-cons, words_of-fills, back_fills}
+use Rattle.block_heap.proofs.Places.{free_is}
+use Rattle.block_heap.proofs.TagLaws.{parted, from-le-end}
+
+-- what a block counts in a list
+pub used_counts : (class : ℕ) (weight : ℕ → ℕ) (block : Block) → block.used ≡ true → count_in class weight block ≡ 0
+used_counts class weight block used = ap (λ u. cond u 0 (cond (eqb (class_of block.size) class) (weight block.place) 0)) used
+
+pub free_counts : (class : ℕ) (weight : ℕ → ℕ) (block : Block) → IsFree block → class_of block.size ≡ class → count_in class weight block ≡ weight block.place
+free_counts class weight block free is =
+    ap (λ u. cond u 0 (cond (eqb (class_of block.size) class) (weight block.place) 0)) free ∙ ap (λ t. cond t (weight block.place) 0) (eq-eqb (class_of block.size) class is)
+
+pub other_counts : (class : ℕ) (weight : ℕ → ℕ) (block : Block) → class_of block.size ≢ class → count_in class weight block ≡ 0
+other_counts class weight block other = by block.used
+  where
+    none : cond (eqb (class_of block.size) class) (weight block.place) 0 ≡ 0
+    none = ap (λ t. cond t (weight block.place) 0) (ne_eqb (class_of block.size) class other)
+
+    by : (u : Bool) → cond u 0 (cond (eqb (class_of block.size) class) (weight block.place) 0) ≡ 0
+    by true = refl
+    by false = none
+
+-- a free block's place is added to the list of its class
+pub listed_added : (lists new : List (List ℕ)) (before after : List Block) (block : Block) → IsFree block → list_of new (class_of block.size) ≡ list_of lists (class_of block.size) ++ block.place ∷ []
+    → ((other : ℕ) → other ≢ class_of block.size → list_of new other ≡ list_of lists other) → AreListed lists (before ++ after) → AreListed new (before ++ block ∷ after)
+listed_added lists new before after block free added others listed class few weight = by (cases_eq class (class_of block.size))
+  where
+    all : sum_by (count_in class weight) (before ++ block ∷ after) ≡ sum_by (count_in class weight) (before ++ after) + count_in class weight block
+    all = omega (arith, sum_by-append (count_in class weight) before (block ∷ after), sum_by-cons (count_in class weight) block after, sum_by-append (count_in class weight) before after)
+
+    by : (class ≡ class_of block.size) ⊎ (class ≡ class_of block.size → ⊥) → sum_by weight (list_of new class) ≡ sum_by (count_in class weight) (before ++ block ∷ after)
+    by (inl e) =
+        let own = free_counts class weight block free (sym e) in
+        let list : sum_by weight (list_of new class) ≡ sum_by weight (list_of lists class) + weight block.place =
+        ap (λ c. sum_by weight (list_of new c)) e ∙ ap (sum_by weight) added ∙ sum_by_push weight (list_of lists (class_of block.size)) block.place ∙ ap (λ c. sum_by weight (list_of lists c) + weight block.place) (sym e) in
+        omega (arith, all, own, list, listed class few weight)
+    by (inr ne) =
+        let none = other_counts class weight block (λ e. ne (sym e)) in
+        let list = ap (sum_by weight) (others class ne) in
+        omega (arith, all, none, list, listed class few weight)
+
+-- it leaves that list
+pub listed_removed : (lists new : List (List ℕ)) (before after : List Block) (block : Block) → IsFree block → IsPermutation (list_of lists (class_of block.size)) (block.place ∷ list_of new (class_of block.size))
+    → ((other : ℕ) → other ≢ class_of block.size → list_of new other ≡ list_of lists other) → AreListed lists (before ++ block ∷ after) → AreListed new (before ++ after)
+listed_removed lists new before after block free removed others listed class few weight = by (cases_eq class (class_of block.size))
+  where
+    all : sum_by (count_in class weight) (before ++ block ∷ after) ≡ sum_by (count_in class weight) (before ++ after) + count_in class weight block
+    all = omega (arith, sum_by-append (count_in class weight) before (block ∷ after), sum_by-cons (count_in class weight) block after, sum_by-append (count_in class weight) before after)
+
+    by : (class ≡ class_of block.size) ⊎ (class ≡ class_of block.size → ⊥) → sum_by weight (list_of new class) ≡ sum_by (count_in class weight) (before ++ after)
+    by (inl e) =
+        let own = free_counts class weight block free (sym e) in
+        let moved = sum_by-IsPermutation weight (list_of lists (class_of block.size)) (block.place ∷ list_of new (class_of block.size)) removed in
+        let new_list = ap (λ c. sum_by weight (list_of new c)) e in
+        let old_list = ap (λ c. sum_by weight (list_of lists c)) e in
+        omega (arith, all, own, moved, new_list, old_list, sum_by-cons weight block.place (list_of new (class_of block.size)), listed class few weight)
+    by (inr ne) =
+        let none = other_counts class weight block (λ e. ne (sym e)) in
+        let list = ap (sum_by weight) (others class ne) in
+        omega (arith, all, none, list, listed class few weight)
+
+-- a used block changes no list
+pub listed_beside : (lists : List (List ℕ)) (before after : List Block) (block : Block) → block.used ≡ true → AreListed lists (before ++ after) → AreListed lists (before ++ block ∷ after)
+listed_beside lists before after block used listed class few weight =
+    omega (arith, sum_by-append (count_in class weight) before (block ∷ after), sum_by-cons (count_in class weight) block after, sum_by-append (count_in class weight) before after, used_counts class weight block used, listed class few weight)
+
+pub listed_without : (lists : List (List ℕ)) (before after : List Block) (block : Block) → block.used ≡ true → AreListed lists (before ++ block ∷ after) → AreListed lists (before ++ after)
+listed_without lists before after block used listed class few weight =
+    omega (arith, sum_by-append (count_in class weight) before (block ∷ after), sum_by-cons (count_in class weight) block after, sum_by-append (count_in class weight) before after, used_counts class weight block used, listed class few weight)
+
+-- what counts one place alone
+abbrev at : ℕ → ℕ → ℕ
+at place other = cond (eqb other place) 1 0
+
+-- a place that a list counts is in it
+counted : (xs : List ℕ) (place : ℕ) → 0 < sum_by (at place) xs → Contains xs place
+counted [] place some = absurd (omega arith)
+counted (x ∷ xs) place some = by (cases_eq x place) (counted xs place)
+  where
+    by : (x ≡ place) ⊎ (x ≡ place → ⊥) → (0 < sum_by (at place) xs → Contains xs place) → Contains (x ∷ xs) place
+    by (inl e) later = (0, omega arith, e)
+    by (inr ne) later =
+        let none : at place x ≡ 0 = ap (λ t. cond t 1 0) (ne_eqb x place ne) in
+        let rest = later (omega (arith, sum_by-cons (at place) x xs, none)) in
+        (suc rest.0, (let lt = rest.1 in omega arith), rest.2)
+
+-- a block among others counts
+counts : (class : ℕ) (weight : ℕ → ℕ) (blocks : List Block) (block : Block) → Contains blocks block → IsFree block → class_of block.size ≡ class → weight block.place ≤ sum_by (count_in class weight) blocks
+counts class weight blocks block among free is =
+    let parts = parted blocks block among in
+    omega (arith, ap (sum_by (count_in class weight)) parts.2, sum_by-append (count_in class weight) parts.0 (block ∷ parts.1), sum_by-cons (count_in class weight) block parts.1, free_counts class weight block free is)
+
+-- a free block's place is listed
+pub place_listed : (lists : List (List ℕ)) (blocks : List Block) (block : Block) (class : ℕ) → class < 64 → class_of block.size ≡ class → AreListed lists blocks → Contains blocks block → IsFree block → Contains (list_of lists class) block.place
+place_listed lists blocks block class few is listed among free =
+    let one : at block.place block.place ≡ 1 = ap (λ t. cond t 1 0) (eq-eqb block.place block.place refl) in
+    counted (list_of lists class) block.place (omega (arith, counts class (at block.place) blocks block among free is, listed class few (at block.place), one))
+
+-- and no list is empty that has one
+pub list_filled : (lists : List (List ℕ)) (blocks : List Block) (block : Block) (class : ℕ) → class < 64 → class_of block.size ≡ class → AreListed lists blocks → Contains blocks block → IsFree block → 0 < length (list_of lists class)
+list_filled lists blocks block class few is listed among free = (let place = place_listed lists blocks block class few is listed among free in let lt = place.1 in omega arith)
+
+-- a free block of a class
+pub record HasFree (blocks : List Block) (class place : ℕ) : Type 0 where
+  pub size : ℕ
+  pub among : Contains blocks (free_block place size)
+  pub is : class_of size ≡ class
+
+found : (blocks : List Block) (class place : ℕ) → 0 < sum_by (count_in class (at place)) blocks → HasFree blocks class place
+found [] class place some = absurd (omega arith)
+found (block ∷ blocks) class place some = by (found blocks class place) block.used refl (cases_eq (class_of block.size) class) (cases_eq block.place place)
+  where
+    later : (0 < sum_by (count_in class (at place)) blocks → HasFree blocks class place) → count_in class (at place) block ≡ 0 → HasFree (block ∷ blocks) class place
+    later more none =
+        let rest = more (omega (arith, sum_by-cons (count_in class (at place)) block blocks)) in
+        record { size = rest.size; among = (suc rest.among.0, (let lt = rest.among.1 in omega arith), rest.among.2); is = rest.is }
+
+    by : (0 < sum_by (count_in class (at place)) blocks → HasFree blocks class place) → (u : Bool) → block.used ≡ u → (class_of block.size ≡ class) ⊎ (class_of block.size ≡ class → ⊥) → (block.place ≡ place) ⊎ (block.place ≡ place → ⊥)
+        → HasFree (block ∷ blocks) class place
+    by more true used _ _ = later more (used_counts class (at place) block used)
+    by more false free (inr other) _ = later more (other_counts class (at place) block other)
+    by more false free (inl is) (inr ne) =
+        let none : at place block.place ≡ 0 = ap (λ t. cond t 1 0) (ne_eqb block.place place ne) in
+        later more (free_counts class (at place) block free is ∙ none)
+    by more false free (inl is) (inl here) = record { size = block.size; among = (0, omega arith, free_is block free ∙ ap (λ p. free_block p block.size) here); is = is }
+
+-- a listed place is a free block's of its class
+pub block_listed : (lists : List (List ℕ)) (blocks : List Block) (class k place : ℕ) → class < 64 → AreListed lists blocks → k < length (list_of lists class) → get_or (list_of lists class) k 0 ≡ place → HasFree blocks class place
+block_listed lists blocks class k place few listed short is =
+    let one : at place (get_or (list_of lists class) k 0) ≡ 1 = ap (λ t. cond t 1 0) (eq-eqb (get_or (list_of lists class) k 0) place is) in
+    found blocks class place (omega (arith, sum_by-remove (at place) (list_of lists class) k 0 short, one, listed class few (at place)))
+
+-- where a block lies among others
+lies_from : (from end : ℕ) (blocks : List Block) (block : Block) → Fills from blocks end → Contains blocks block → (from ≤ block.place) × (0 < block.size) × (block.place + block.size ≤ end)
+lies_from from end blocks block fills among =
+    let parts = parted blocks block among in
+    let here = back_fills from end parts.0 (block ∷ parts.1) (subst (λ xs. Fills from xs end) parts.2 fills) in
+    let place = here.0 in
+    let le = from-le-end ((from + words_of parts.0) + block.size) end parts.1 here.2 in
+    (omega arith, here.1, omega arith)
+
+pub free_within : (words : ℕ) (blocks : List Block) (block : Block) → Fills 0 blocks words → Contains blocks block → (0 < block.size) × (block.place + block.size ≤ words)
+free_within words blocks block fills among = (let lies = lies_from 0 words blocks block fills among in (lies.1, lies.2))
+
+pub in_middle : (before after : List Block) (block : Block) → Contains (before ++ block ∷ after) block
+in_middle [] after block = (0, omega arith, refl)
+in_middle (b ∷ before) after block = (let rest = in_middle before after block in (suc rest.0, (let lt = rest.1 in omega arith), rest.2))
+
+-- no other block begins where a block does
+alone : (from end : ℕ) (before after : List Block) (block other : Block) (k : ℕ) → Fills from (before ++ block ∷ after) end → k < length (before ++ after) → get_or (before ++ after) k other ≡ other → other.place ≡ block.place → ⊥
+alone from end [] after block other k fills lt is same =
+    let lies = lies_from (from + block.size) end after other fills.2 (k, lt, is) in
+    let some = fills.1 in
+    let here = fills.0 in
+    let later = lies.0 in
+    omega arith
+alone from end (b ∷ before) after block other zero fills lt is same =
+    let lies = lies_from (from + b.size) end (before ++ block ∷ after) block fills.2 (in_middle before after block) in
+    let some = fills.1 in
+    let here = fills.0 in
+    let later = lies.0 in
+    let first = ap (λ (x : Block). x.place) is in
+    omega arith
+alone from end (b ∷ before) after block other (suc k) fills lt is same = alone (from + b.size) end before after block other k fills.2 (omega arith) is same
+
+-- a block beside those that are listed is in no list
+pub unlisted : (lists : List (List ℕ)) (before after : List Block) (block : Block) (words : ℕ) → Fills 0 (before ++ block ∷ after) words → AreListed lists (before ++ after) → IsUnlisted lists block.place
+unlisted lists before after block words fills listed class k few short is =
+    let has = block_listed lists (before ++ after) class k block.place few listed short is in
+    alone 0 words before after block (free_block block.place has.size) has.among.0 fills has.among.1 has.among.2 refl
+
+-- how many free blocks of a class there may be
+abbrev number : ℕ → List Block → ℕ
+number class blocks = sum_by (count_in class (λ _. 1)) blocks
+
+abbrev AreFew : ℕ → ℕ → List Block → Type 0
+AreFew class least blocks = (number class blocks * (least + 1) ≤ words_of blocks + 1) × ((BeginsFree blocks → ⊥) → number class blocks * (least + 1) ≤ words_of blocks)
+
+few_by : (class least end from : ℕ) (block : Block) (blocks : List Block) (u : Bool) → block.used ≡ u → IsLeast class least → end < 2 ^ 32 → Fills from (block ∷ blocks) end
+    → ((IsFree block × BeginsFree blocks) → ⊥) → (class_of block.size ≡ class) ⊎ (class_of block.size ≡ class → ⊥) → AreFew class least blocks → AreFew class least (block ∷ blocks)
+few_by class least end from block blocks true used is_least limit fills not_both _ few =
+    let same : number class (block ∷ blocks) ≡ number class blocks = omega (arith, sum_by-cons (count_in class (λ _. 1)) block blocks, used_counts class (λ _. 1) block used) in
+    let product = ap (λ n. n * (least + 1)) same in
+    let some = fills.1 in
+    let so_far = few.0 in
+    (omega (arith, product, words_of-cons block blocks), λ _. omega (arith, product, words_of-cons block blocks))
+few_by class least end from block blocks false free is_least limit fills not_both (inr other) few =
+    let same : number class (block ∷ blocks) ≡ number class blocks = omega (arith, sum_by-cons (count_in class (λ _. 1)) block blocks, other_counts class (λ _. 1) block other) in
+    let product = ap (λ n. n * (least + 1)) same in
+    let so_far = few.1 (λ begins. not_both (free, begins)) in
+    (omega (arith, product, words_of-cons block blocks), λ used. absurd (used free))
+few_by class least end from block blocks false free is_least limit fills not_both (inl is) few =
+    let more : number class (block ∷ blocks) ≡ suc (number class blocks) = omega (arith, sum_by-cons (count_in class (λ _. 1)) block blocks, free_counts class (λ _. 1) block free is) in
+    let product : number class (block ∷ blocks) * (least + 1) ≡ number class blocks * (least + 1) + (least + 1) = ap (λ n. n * (least + 1)) more ∙ omega arith in
+    let so_far = few.1 (λ begins. not_both (free, begins)) in
+    let le = from-le-end (from + block.size) end blocks fills.2 in
+    let some = fills.1 in
+    let short = is_least block.size some (omega arith) is in
+    (omega (arith, product, words_of-cons block blocks), λ used. absurd (used free))
+
+are_few : (class least end from : ℕ) (blocks : List Block) → IsLeast class least → end < 2 ^ 32 → Fills from blocks end → IsMerged blocks → AreFew class least blocks
+are_few class least end from [] is_least limit fills merged = (omega arith, λ _. omega arith)
+are_few class least end from (block ∷ blocks) is_least limit fills merged =
+    few_by class least end from block blocks block.used refl is_least limit fills merged.0 (cases_eq (class_of block.size) class) (are_few class least end (from + block.size) blocks is_least limit fills.2 merged.1)
+
+-- there is room for one more block in the list of its class
+pub may_lie : (lists : List (List ℕ)) (before after : List Block) (block : Block) (words : ℕ) → words ≤ 1048576 → class_of block.size < 64 → IsFree block → Fills 0 (before ++ block ∷ after) words → IsMerged (before ++ block ∷ after)
+    → AreListed lists (before ++ after) → MayLie words (class_of block.size) (length (list_of lists (class_of block.size)) + 1)
+may_lie lists before after block words limit few free fills merged listed = λ least is_least.
+    let class = class_of block.size in
+    let may = (are_few class least words 0 (before ++ block ∷ after) is_least (omega arith) fills merged).0 in
+    let ones = count_in class (λ _. 1) in
+    let long : sum_by (λ _. 1) (list_of lists class) ≡ length (list_of lists class) = ones_length (list_of lists class) in
+    let same : number class (before ++ block ∷ after) ≡ length (list_of lists class) + 1 =
+    omega (arith, sum_by-append ones before (block ∷ after), sum_by-cons ones block after, sum_by-append ones before after, free_counts class (λ _. 1) block free refl, listed class few (λ _. 1), long) in
+    let total = words_of-fills 0 words (before ++ block ∷ after) fills in
+    subst (λ n. n * (least + 1) ≤ words + 1) same (omega (arith, may, total))
+  where
+    ones_length : (xs : List ℕ) → sum_by (λ _. 1) xs ≡ length xs
+    ones_length [] = refl
+    ones_length (x ∷ xs) = omega (arith, sum_by-cons (λ (_ : ℕ). 1) x xs, ones_length xs)
