@@ -1,5 +1,5 @@
 -- What giving a block back keeps.
-use Rattle.std.proofs.Common.{◌≡◌, ℕ, zero, suc, length, ◌+◌, ◌-◌, ◌<◌, ◌≤◌, Bool, true, false, ◌||◌, cond, Option, Some, None, List, [], ◌∷◌, ◌++◌, refl, sym, ap, ◌∙◌, subst, arith, append_assoc}
+use Rattle.std.proofs.Common.{◌≡◌, ℕ, zero, suc, ◌+◌, ◌-◌, ◌<◌, ◌≤◌, Bool, true, false, ◌||◌, cond, Option, Some, None, List, [], ◌∷◌, ◌++◌, refl, sym, ap, ◌∙◌, subst, arith, append_assoc}
 use Rattle.std.specs.Prelude.{IfSome}
 use Rattle.std.specs.List.{Contains}
 use Rattle.std.proofs.lemmas.List.{append-nil}
@@ -8,7 +8,7 @@ use Rattle.block_heap.specs.Blocks.{free_block, used_block, IsFree, Fills, IsMer
 use Rattle.block_heap.specs.Changes.{joined, merged, IsGiven}
 use Rattle.block_heap.specs.Inside.{blocks_in, words_in}
 use Rattle.block_heap.specs.Tags.{HasBlock, EndsFree, IsLastFree, IsFirstFree}
-use Rattle.block_heap.proofs.Order.{words_of-append, words_of-cons, words_of-fills, front_fills, back_fills, back_merged, fills_instead, merged_instead}
+use Rattle.block_heap.proofs.Order.{words_of-append, words_of-cons, front_fills, back_fills, back_merged, fills_instead, merged_instead}
 use Rattle.block_heap.proofs.Merging.{joined_apart, joined_begins, merged_fills, merged_merged, merged_same, merged_behind}
 use Rattle.block_heap.proofs.Counting.{used_more, used_same}
 use Rattle.block_heap.proofs.TagLaws.{parted, from-le-end}

@@ -1,20 +1,19 @@
 -- What a change of the blocks and of their lists keeps.
-use Rattle.std.proofs.Common.{◌≡◌, ◌≢◌, ℕ, zero, suc, ◌+◌, ◌-◌, ◌<◌, ◌≤◌, Option, Some, None, List, [], ◌∷◌, ◌++◌, length, refl, sym, ap, ◌∙◌, subst, arith, append_assoc}
+use Rattle.std.proofs.Common.{◌≡◌, ◌≢◌, ℕ, ◌+◌, ◌-◌, ◌<◌, ◌≤◌, Option, Some, None, List, [], ◌∷◌, ◌++◌, length, refl, sym, ap, ◌∙◌, subst, arith, append_assoc}
 use Rattle.std.specs.List.{Contains}
 use Rattle.std.specs.List.Sorted.{IsPermutation}
 use Rattle.std.specs.Prelude.{IfSome}
-use Rattle.std.proofs.lemmas.List.{append-nil}
 use Rattle.size_classes.specs.Classes.{class_of}
 use Rattle.size_classes.proofs.Rising.{below_sixty_four}
 use Rattle.block_heap.specs.declared.block.Block.{Block}
-use Rattle.block_heap.specs.Blocks.{free_block, used_block, IsFree, Fills, IsBlockList, words_of}
+use Rattle.block_heap.specs.Blocks.{free_block, used_block, IsFree, IsBlockList, words_of}
 use Rattle.block_heap.specs.Changes.{rest_of, IsTaken}
 use Rattle.block_heap.specs.Lists.{list_of, AreListed, IsUnlisted, MayLie}
 use Rattle.block_heap.specs.Inside.{IsHeap, IsListable, blocks_in}
 use Rattle.block_heap.proofs.Places.{free_is}
 use Rattle.block_heap.proofs.TagLaws.{parted}
 use Rattle.block_heap.proofs.Taking.{IsBlockList-taken, words_of-list, rest_is, rest_none}
-use Rattle.block_heap.proofs.Listing.{listed_added, listed_removed, listed_beside, listed_without, unlisted, may_lie, free_within, in_middle, place_listed}
+use Rattle.block_heap.proofs.Listing.{listed_added, listed_removed, listed_beside, unlisted, may_lie, free_within, in_middle, place_listed}
 use Rattle.block_heap.proofs.Finding.{free_size}
 
 pub heap_with : (blocks now : List Block) (words : ℕ) (lists new : List (List ℕ)) → IsHeap blocks words lists → IsBlockList (words_of blocks) now → AreListed new now → IsHeap now words new

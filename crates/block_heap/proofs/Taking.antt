@@ -3,7 +3,7 @@ use Rattle.std.proofs.Common.{◌≡◌, ℕ, zero, suc, ◌+◌, ◌-◌, ◌<�
 use Rattle.block_heap.specs.declared.block.Block.{Block}
 use Rattle.block_heap.specs.Blocks.{free_block, used_block, Fills, IsMerged, IsBlockList, words_of}
 use Rattle.block_heap.specs.Changes.{rest_of, IsTaken}
-use Rattle.block_heap.proofs.Order.{words_of-fills, front_fills, back_fills, fills_instead, back_merged, merged_instead}
+use Rattle.block_heap.proofs.Order.{words_of-fills, back_fills, fills_instead, back_merged, merged_instead}
 
 rest_fills : (from end place size : ℕ) (after : List Block) → place ≡ from → Fills (from + size) after end → Fills from (rest_of place size ++ after) end
 rest_fills from end place zero after here h = let e : from + 0 ≡ from = omega arith in subst (λ n. Fills n after end) e h

@@ -1,4 +1,4 @@
-use Rattle.std.proofs.Common.{◌≡◌, ◌+◌, ◌<◌, ◌≤◌, length, get_or, refl, arith}
+use Rattle.std.proofs.Common.{get_or, refl, arith}
 use Rattle.block_heap.proofs.Finding.{found_at, short_more}
 use Rattle.block_heap.proofs.heap.first_fit.Goals as goal
 

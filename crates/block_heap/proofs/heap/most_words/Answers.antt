@@ -1,4 +1,4 @@
-use Rattle.std.proofs.Common.{◌≡◌, ◌+◌, ◌<◌, ◌≤◌, length, get_or, max, sym, ◌∙◌, subst, arith}
+use Rattle.std.proofs.Common.{◌≡◌, ◌+◌, length, sym, ◌∙◌, subst, arith}
 use Rattle.block_heap.specs.Inside.{IsMost}
 use Rattle.block_heap.proofs.Finding.{max_is, most_more}
 use Rattle.block_heap.proofs.heap.most_words.Goals as goal

@@ -1,10 +1,9 @@
-use Rattle.std.proofs.Common.{◌≡◌, ◌<◌, ◌≤◌, List, ℕ, length, get_or, refl, sym, subst, ap, ◌∙◌, arith}
+use Rattle.std.proofs.Common.{◌≡◌, ◌<◌, List, ℕ, length, get_or, refl, sym, subst, ap, ◌∙◌, arith}
 use Rattle.std.specs.List.{All, Contains}
 use Rattle.std.specs.Option.{IfNone}
 use Rattle.std.proofs.lemmas.List.{get_or_default}
-use Rattle.size_classes.specs.Classes.{class_of}
 use Rattle.block_heap.specs.declared.block.Block.{Block}
-use Rattle.block_heap.specs.Blocks.{free_block, NoneFits, MayLack, words_of}
+use Rattle.block_heap.specs.Blocks.{free_block, NoneFits, MayLack}
 use Rattle.block_heap.specs.Lists.{list_of}
 use Rattle.block_heap.specs.Inside.{HasFreeAt, AreShort}
 use Rattle.block_heap.proofs.Finding.{all_have, at_place, enough_above, free_size, found_at, lacks, none_fits, none_fits_beyond}

@@ -1,10 +1,10 @@
-use Rattle.std.proofs.Common.{◌≡◌, ◌+◌, ◌-◌, ◌<◌, ◌≤◌, ◌∷◌, ◌++◌, [], List, ℕ, length, refl, sym, subst, ap, ◌∙◌, arith}
+use Rattle.std.proofs.Common.{◌≡◌, ◌+◌, ◌<◌, ◌∷◌, ◌++◌, [], List, refl, sym, subst, ap, ◌∙◌, arith}
 use Rattle.block_heap.specs.declared.block.Block.{Block}
-use Rattle.block_heap.specs.Blocks.{free_block, used_block, HasUsed, IsFree, IsBlockList, Fills, words_of}
+use Rattle.block_heap.specs.Blocks.{used_block, IsFree, IsBlockList, Fills, words_of}
 use Rattle.block_heap.specs.Changes.{IsGiven}
-use Rattle.block_heap.specs.Inside.{blocks_in, words_in}
+use Rattle.block_heap.specs.Inside.{blocks_in}
 use Rattle.block_heap.specs.Lists.{AreListed}
-use Rattle.block_heap.specs.Tags.{HasBlock, IsSeam, Covers}
+use Rattle.block_heap.specs.Tags.{Covers}
 use Rattle.block_heap.proofs.Giving.{UsedAt, IsFound, IsBlockList-given, has_block, read_at, found, one_of, one_is, before_right}
 use Rattle.block_heap.proofs.Listing.{listed_without}
 use Rattle.block_heap.proofs.Keeping.{IsAddable, addable, listable, room_for, heap_added, same_words}

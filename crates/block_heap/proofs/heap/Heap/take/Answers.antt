@@ -1,12 +1,10 @@
-use Rattle.std.proofs.Common.{◌≡◌, ◌+◌, ◌-◌, ◌<◌, ◌≤◌, ◌∷◌, ◌++◌, List, ℕ, length, refl, sym, subst, ap, ◌∙◌, arith}
+use Rattle.std.proofs.Common.{◌+◌, ◌-◌, ◌<◌, List, refl, sym, subst, ◌∙◌, arith}
 use Rattle.std.specs.List.{Contains}
-use Rattle.size_classes.specs.Classes.{class_of}
 use Rattle.block_heap.specs.declared.block.Block.{Block}
 use Rattle.block_heap.specs.Blocks.{free_block, NoneFits, IsBlockList, words_of}
 use Rattle.block_heap.specs.Changes.{IsTaken}
 use Rattle.block_heap.proofs.Counting.{not_none_fits}
 use Rattle.block_heap.proofs.Listing.{place_listed}
-use Rattle.block_heap.proofs.Finding.{free_size}
 use Rattle.block_heap.proofs.Keeping.{Taken, IsRest, IsAddable, taken_block, taken_whole, taken_part, addable, room_for, heap_added, same_words}
 use Rattle.block_heap.proofs.heap.Heap.take.Goals as goal
 use Rattle.block_heap.proofs.heap.Heap.take.Goals.{After-cut}

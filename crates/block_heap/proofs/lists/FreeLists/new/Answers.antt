@@ -1,7 +1,7 @@
-use Rattle.std.proofs.Common.{◌≡◌, ◌+◌, ◌<◌, ◌≤◌, ◌∷◌, [], ℕ, List, length, sym, ap, ◌∙◌, subst, refl, arith}
+use Rattle.std.proofs.Common.{◌≡◌, length, sym, subst, arith}
 use Rattle.std.proofs.lemmas.List.{length-map}
 use Rattle.std.specs.Prelude.{vec_capacity}
-use Rattle.block_heap.specs.Lists.{HasRoom, HaveRoom, MayLie}
+use Rattle.block_heap.specs.Lists.{HasRoom, MayLie}
 use Rattle.block_heap.proofs.ListLaws.{rooms_more, empty_more, keeps_none, room_enough}
 use Rattle.block_heap.proofs.lists.FreeLists.new.Goals as goal
 

@@ -1,4 +1,4 @@
-use Rattle.std.proofs.Common.{◌≡◌, ◌<◌, ◌≤◌, ℕ, [], List, length, map}
+use Rattle.std.proofs.Common.{◌≡◌, ◌<◌, ℕ, [], length, map}
 use Rattle.std.specs.Prelude.{vec_capacity}
 use Rattle.block_heap.specs.Lists.{list_of, HasRoom}
 use Rattle.std.specs.List.{slice_index}

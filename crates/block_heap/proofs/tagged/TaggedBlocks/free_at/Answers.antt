@@ -1,5 +1,4 @@
-use Rattle.std.proofs.Common.{List, ◌≡◌, ◌<◌, ◌≤◌, ◌∷◌, ◌++◌, [], length, refl, ap, ◌∙◌, arith, subst, sym}
-use Rattle.block_heap.specs.declared.block.Block.{Block}
+use Rattle.std.proofs.Common.{◌≡◌, ◌∷◌, length, refl, ap, ◌∙◌, arith, subst, sym}
 use Rattle.block_heap.specs.Blocks.{free_block, BeginsFree, Fills}
 use Rattle.block_heap.proofs.Places.{free_is}
 use Rattle.block_heap.proofs.TagLaws.{first_told, read_size, read_used, used_not_free, seam_below, seam_words, after_fills, none_behind}

@@ -1,5 +1,4 @@
-use Rattle.std.proofs.Common.{List, ◌-◌, ◌≡◌, ◌∷◌, ◌++◌, [], refl, ap, ◌∙◌, arith, subst, sym}
-use Rattle.block_heap.specs.declared.block.Block.{Block}
+use Rattle.std.proofs.Common.{◌-◌, ◌≡◌, ◌∷◌, ◌++◌, [], refl, ap, ◌∙◌, arith, subst, sym}
 use Rattle.block_heap.specs.Blocks.{free_block, Fills}
 use Rattle.block_heap.specs.Tags.{EndsFree}
 use Rattle.block_heap.proofs.Places.{free_is}

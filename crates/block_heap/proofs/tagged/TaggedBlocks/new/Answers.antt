@@ -1,5 +1,5 @@
-use Rattle.std.proofs.Common.{◌≡◌, ◌<◌, ◌≤◌, ◌∷◌, [], arith, subst, sym, refl}
-use Rattle.block_heap.specs.Blocks.{free_block, Fills}
+use Rattle.std.proofs.Common.{◌∷◌, [], arith, subst, refl}
+use Rattle.block_heap.specs.Blocks.{free_block}
 use Rattle.block_heap.specs.Tags.{AreTagged}
 use Rattle.block_heap.proofs.TagLaws.{NowTell, now_tell}
 use Rattle.block_heap.proofs.tagged.TaggedBlocks.new.Goals as goal

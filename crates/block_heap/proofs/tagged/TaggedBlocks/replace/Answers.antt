@@ -1,6 +1,6 @@
-use Rattle.std.proofs.Common.{ℕ, List, ◌≡◌, ◌+◌, ◌<◌, ◌≤◌, ◌∷◌, ◌++◌, [], length, refl, ap, ◌∙◌, arith, subst, sym}
+use Rattle.std.proofs.Common.{List, ◌≡◌, ◌+◌, ◌∷◌, ◌++◌, ◌∙◌, subst}
 use Rattle.block_heap.specs.declared.block.Block.{Block}
-use Rattle.block_heap.specs.Blocks.{words_of, Fills}
+use Rattle.block_heap.specs.Blocks.{Fills}
 use Rattle.block_heap.specs.Tags.{TellBlocks}
 use Rattle.block_heap.proofs.TagLaws.{NowTell, one_written, replaced, covered_within}
 use Rattle.block_heap.proofs.tagged.TaggedBlocks.replace.Goals as goal
