@@ -1,5 +1,5 @@
 -- Blocks that stay used while others are taken and given back.
-use Rattle.std.proofs.Common.{◌≡◌, ℕ, zero, suc, ◌<◌, ◌⊎◌, inl, inr, ⊎_elim, Bool, true, false, List, ◌∷◌, length, get_or, set, refl, sym, ap, ◌∙◌, subst, arith}
+use Rattle.std.proofs.Common.{◌≡◌, ℕ, zero, suc, ◌<◌, ◌⊎◌, inl, inr, ⊎_elim, Bool, true, false, List, ◌∷◌, length, get_or, set, replicate, refl, sym, ap, ◌∙◌, subst, arith}
 use Rattle.std.specs.List.{Contains, slice_index_or}
 use Rattle.std.proofs.lemmas.List.Elements.{Contains-append_left, Contains-append_right, Contains-append_cases}
 use Rattle.std.proofs.lemmas.Bool.{cases_eq}
@@ -78,3 +78,12 @@ held_given old new held place within marked given other is = by (cases_eq other 
     by : (other ≡ place) ⊎ (other ≡ place → ⊥) → HasUsed new other
     by (inl e) = (let off = sym (get_or-set_same held place false false within) ∙ sym (ap (λ k. get_or (set held place false) k false) e) ∙ is in cc)
     by (inr ne) = used_after_give old new place other given (λ e. ne (sym e)) (marked other (sym (get_or-set_other held place other false false ne) ∙ is))
+
+-- where no place is marked, each marked one has a used block
+pub none_held : (n : ℕ) (held : List Bool) (blocks : List Block) → held ≡ replicate n false → (place : ℕ) → get_or held place false ≡ true → HasUsed blocks place
+none_held n held blocks none place is = absurd (let off = sym is ∙ ap (λ xs. get_or xs place false) none ∙ off n place in cc)
+  where
+    off : (n k : ℕ) → get_or (replicate n false) k false ≡ false
+    off zero k = refl
+    off (suc n) zero = refl
+    off (suc n) (suc k) = off n k

@@ -103,7 +103,7 @@ fn give_both(heap: &mut Heap, list: &mut Vec<Listed>, held: &mut Vec<bool>, from
     let Some(ahead) = held.iter().skip(from as usize).position(|used| *used) else {
         return true;
     };
-    let place = from.wrapping_add(ahead as u32);
+    let place = from.wrapping_add(u32::try_from(ahead).unwrap_or(0));
     if place as usize >= held.len() || !held[place as usize] {
         return false;
     }
@@ -134,13 +134,13 @@ fn agreeing(
 ) -> Result<u32, Fail> {
     let mut held = vec![in alloc; false; WORDS as usize]?;
     let mut state = 1u64;
-    let mut count = 0;
-    for _ in 0..calls {
+    let mut count = 0u32;
+    for _call in 0..calls {
         state = state
             .wrapping_mul(6_364_136_223_846_793_005)
             .wrapping_add(1_442_695_040_888_963_407);
         if agree(heap, list, &mut held, (state >> 33) as u32) {
-            count += 1;
+            count = count.wrapping_add(1);
         }
     }
     Ok(count)

@@ -11,6 +11,8 @@ mod cache_machine;
 #[cfg(test)]
 mod cache_replays;
 #[cfg(test)]
+mod drawn_heap;
+#[cfg(test)]
 mod faults;
 #[cfg(test)]
 mod generated_runs;
