@@ -20,9 +20,9 @@ struct Listed {
 
 // Uses the first words of the free block at the place, where it is large enough.
 fn cut_listed(list: &mut Vec<Listed>, place: u32, need: u32) -> bool {
-    let found = list
-        .iter()
-        .position(|block| !block.used && block.place == place && block.size >= need);
+    let found = list.iter().position(|block| !block.used
+        && block.place == place
+        && block.size >= need);
     let Some(at) = found else {
         return false;
     };
