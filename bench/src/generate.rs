@@ -6,14 +6,14 @@ use std::collections::HashMap;
 const MULTIPLIER: u64 = 6_364_136_223_846_793_005;
 const INCREMENT: u64 = 109;
 
-struct Pcg(u64);
+pub struct Pcg(u64);
 
 impl Pcg {
-    fn new(seed: u64) -> Pcg {
+    pub fn new(seed: u64) -> Pcg {
         Pcg(seed.wrapping_add(INCREMENT).wrapping_mul(MULTIPLIER).wrapping_add(INCREMENT))
     }
 
-    fn next(&mut self) -> u64 {
+    pub fn next(&mut self) -> u64 {
         let state = self.0;
         self.0 = state.wrapping_mul(MULTIPLIER).wrapping_add(INCREMENT);
         let word = (((state >> 18) ^ state) >> 27) as u32;

@@ -1,11 +1,14 @@
 //! Plain Rust of the same rules as `mica`, to measure beside it: `replay` answers each line at its place on one
-//! thread, `rounds` runs owners and readers in threads over tables of atomic words, `gen` prints a trace.
+//! thread, `rounds` and `queues` run owners and readers in threads over tables of atomic words,
+//! `gen` prints a trace, `serve` answers datagrams and `load` sends them.
 
 mod cache;
 mod generate;
 mod hash;
 mod machine;
+mod packets;
 mod rounds;
+mod server;
 mod store;
 mod table;
 mod trace;
@@ -13,8 +16,10 @@ mod trace;
 use cache::Cache;
 use hash::{key_hash, partition_of};
 use machine::{Machine, Mode, Options, Outcome};
+use rounds::Feed;
 use std::collections::HashMap;
 use std::env;
+use std::error::Error;
 use std::io::{self, Read, Write};
 use std::process::ExitCode;
 use store::Store;
@@ -122,28 +127,39 @@ fn options_of(options: &HashMap<&str, &str>) -> Result<Options, String> {
     })
 }
 
-fn run(words: &[String]) -> Result<(), Box<dyn std::error::Error>> {
-    let (command, rest) = words.split_first().ok_or("replay, rounds or gen")?;
+fn make<M>(options: &Options, machine: fn(&Options) -> M) -> Vec<M> {
+    (0..options.partitions).map(|_| machine(options)).collect()
+}
+
+/// The report of the trace on standard input.
+fn report(command: &str, options: &Options) -> Result<Vec<u8>, Box<dyn Error>> {
+    let mut text = Vec::new();
+    io::stdin().lock().read_to_end(&mut text)?;
+    let lines = read_trace(&text).map_err(|fault| fault.to_string())?;
+    Ok(match (command, options.mode) {
+        ("rounds", _) => rounds::run(options, &lines, Feed::Lists),
+        ("queues", _) => rounds::run(options, &lines, Feed::Queues),
+        (_, Mode::Cache) => replay(&mut make(options, Cache::new), &lines),
+        (_, Mode::Store) => replay(&mut make(options, Store::new), &lines),
+    })
+}
+
+fn run(words: &[String]) -> Result<(), Box<dyn Error>> {
+    const COMMANDS: &str = "replay, rounds, queues, gen, serve or load";
+    let (command, rest) = words.split_first().ok_or(COMMANDS)?;
     let words = read_options(rest)?;
-    let out = if command == "gen" {
-        generate::trace_of(&words)?
-    } else {
-        let options = options_of(&words)?;
-        let mut text = Vec::new();
-        io::stdin().lock().read_to_end(&mut text)?;
-        let lines = read_trace(&text).map_err(|fault| fault.to_string())?;
-        match (command.as_str(), options.mode) {
-            ("replay", Mode::Cache) => {
-                let mut machines: Vec<_> = (0..options.partitions).map(|_| Cache::new(&options)).collect();
-                replay(&mut machines, &lines)
+    let out = match command.as_str() {
+        "gen" => generate::trace_of(&words)?,
+        "load" => server::load(&words)?,
+        "replay" | "rounds" | "queues" => report(command, &options_of(&words)?)?,
+        "serve" => {
+            let options = options_of(&words)?;
+            match options.mode {
+                Mode::Cache => server::serve(&words, &mut make(&options, Cache::new))?,
+                Mode::Store => server::serve(&words, &mut make(&options, Store::new))?,
             }
-            ("replay", Mode::Store) => {
-                let mut machines: Vec<_> = (0..options.partitions).map(|_| Store::new(&options)).collect();
-                replay(&mut machines, &lines)
-            }
-            ("rounds", _) => rounds::run(&options, &lines),
-            _ => return Err("replay, rounds or gen".into()),
         }
+        _ => return Err(COMMANDS.into()),
     };
     io::stdout().lock().write_all(&out)?;
     Ok(())

@@ -5,7 +5,22 @@ use crate::machine::{Options, Outcome};
 use crate::table::{Owner, Table};
 use crate::trace::Line;
 use crate::{put_get, put_write};
+use std::sync::mpsc::{Receiver, SyncSender, sync_channel};
 use std::thread;
+
+/// How many writes may wait in a queue.
+const WAITING: usize = 64;
+
+/// How the owners get their writes.
+#[derive(Clone, Copy, PartialEq, Eq)]
+pub enum Feed {
+    /// Each as a list, made before the round.
+    Lists,
+    /// Each by a bounded queue, which one thread more fills.
+    Queues,
+}
+
+type Write<'a> = (u64, Line<'a>);
 
 /// A line's text lies in its worker's buffer, one after another.
 #[derive(Default)]
@@ -20,9 +35,9 @@ impl Printed {
     }
 }
 
-fn run_owner(owner: &mut Owner<'_>, writes: &[(u64, Line<'_>)]) -> Vec<(Outcome, u64)> {
-    let mut replies = Vec::with_capacity(writes.len());
-    for &(hash, line) in writes {
+fn run_owner<'a>(owner: &mut Owner<'_>, count: usize, writes: impl Iterator<Item = Write<'a>>) -> Vec<(Outcome, u64)> {
+    let mut replies = Vec::with_capacity(count);
+    for (hash, line) in writes {
         let outcome = match line {
             Line::Put { key, value } => owner.put(hash, key, value),
             Line::Del { key } => owner.del(hash, key),
@@ -48,20 +63,34 @@ fn run_reader(tables: &[Table], gets: &[(u64, &[u8])]) -> Printed {
     printed
 }
 
-pub fn run(options: &Options, lines: &[Line<'_>]) -> Vec<u8> {
+/// Sends each write to the queue of its partition, in order.
+fn feed<'a>(jobs: Vec<Write<'a>>, queues: Vec<SyncSender<Write<'a>>>) {
+    for job in jobs {
+        queues[partition_of(job.0, queues.len())].send(job).expect("an owner");
+    }
+}
+
+pub fn run(options: &Options, lines: &[Line<'_>], fed: Feed) -> Vec<u8> {
     let tables: Vec<Table> = (0..options.partitions).map(|_| Table::new(options)).collect();
     let mut owners: Vec<Owner<'_>> = tables.iter().map(|table| Owner::new(table, options)).collect();
     let mut out = Vec::with_capacity(32 * lines.len());
     let mut next_get = 0;
     for round in lines.split_inclusive(|line| matches!(line, Line::Sync)) {
+        let mut counts = vec![0; options.partitions];
         let mut writes = vec![Vec::new(); options.partitions];
+        let mut jobs = Vec::new();
         let mut gets = vec![Vec::new(); options.readers];
         let first_get = next_get;
         for &line in round {
             match line {
                 Line::Put { key, .. } | Line::Del { key } => {
                     let hash = key_hash(key);
-                    writes[partition_of(hash, options.partitions)].push((hash, line));
+                    let partition = partition_of(hash, options.partitions);
+                    counts[partition] += 1;
+                    match fed {
+                        Feed::Lists => writes[partition].push((hash, line)),
+                        Feed::Queues => jobs.push((hash, line)),
+                    }
                 }
                 Line::Get { key } => {
                     gets[next_get % options.readers].push((key_hash(key), key));
@@ -72,11 +101,23 @@ pub fn run(options: &Options, lines: &[Line<'_>]) -> Vec<u8> {
         }
         let (tables, writes, gets) = (&tables, &writes, &gets);
         let (replies, printed): (Vec<_>, Vec<_>) = thread::scope(|scope| {
+            let mut queues = Vec::new();
             let owners: Vec<_> = owners
                 .iter_mut()
                 .zip(writes)
-                .map(|(owner, writes)| scope.spawn(move || run_owner(owner, writes)))
+                .zip(counts)
+                .map(|((owner, writes), count)| match fed {
+                    Feed::Lists => scope.spawn(move || run_owner(owner, count, writes.iter().copied())),
+                    Feed::Queues => {
+                        let (sender, receiver): (_, Receiver<Write<'_>>) = sync_channel(WAITING);
+                        queues.push(sender);
+                        scope.spawn(move || run_owner(owner, count, receiver.into_iter()))
+                    }
+                })
                 .collect();
+            if fed == Feed::Queues {
+                scope.spawn(move || feed(jobs, queues));
+            }
             let readers: Vec<_> = gets.iter().map(|gets| scope.spawn(move || run_reader(tables, gets))).collect();
             (
                 owners.into_iter().map(|owner| owner.join().expect("an owner")).collect(),
