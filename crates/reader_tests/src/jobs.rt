@@ -1,0 +1,116 @@
+//! Two threads that send jobs to one queue, and a third that takes them.
+ghost use Rattle.std.specs.Prelude.{◌≡◌, ◌<◌, ℕ, [], true};
+ghost use Rattle.owner_queue.specs.Messages.{has_end};
+ghost use Rattle.owner_queue.specs.JobEnds.{outbox, inbox};
+
+use mica_io::Bytes;
+use mica_model::{Op, Write};
+use owner_queue::{Job, JobReceiver, JobSender, Message, job_queue};
+use std::alloc::Global;
+use std::process::Abort;
+use std::sync::Wait;
+use std::test::Fail;
+use std::thread::{Threads, join};
+
+const JOBS: u64 = 100;
+
+// Sends the jobs, with tickets from 0, and then the end. Without memory it sends fewer jobs.
+fn send_jobs<W: Wait>(rt: &W, alloc: Global, sender: JobSender, number: u32) -> JobSender
+    requires { sender ≡ outbox sender.queue number 100 [] }
+    ensures { (result.queue ≡ sender.queue) × (result.number ≡ number) }
+{
+    let mut sender = sender;
+    for ticket in 0..JOBS {
+        let Ok(key) = Bytes::copy(alloc, b"k") else {
+            break;
+        };
+        let write = Write {
+            op: Op::Del,
+            key,
+            value: Bytes::empty(alloc),
+        };
+        let job = Job {
+            sender: number,
+            ticket,
+            write,
+        };
+        sender.send(rt, Message::Job(job));
+    }
+    sender.send(rt, Message::End(number));
+    sender
+}
+
+// Takes all messages of two senders. Gives the tickets that they would send next, where each came in its turn.
+fn take_jobs<W: Wait>(rt: &W, receiver: JobReceiver) -> (JobReceiver, Option<[u64; 2]>)
+    requires { receiver ≡ inbox receiver.queue 2 100 [] }
+    ensures queue { result.0.queue ≡ receiver.queue }
+    ensures ended { (p : ℕ) → p < 2 → has_end p result.0.taken ≡ true }
+{
+    let mut receiver = receiver;
+    let mut next = [0; 2];
+    let mut in_turn = true;
+    for _ in rt.forever() {
+        match receiver.recv(rt) {
+            Some(Message::Job(job)) => {
+                let from = job.sender as usize;
+                in_turn = in_turn && job.ticket == next[from];
+                next[from] = job.ticket.saturating_add(1);
+            }
+            Some(Message::End(_)) => {}
+            None => break,
+        }
+    }
+    (receiver, if in_turn { Some(next) } else { None })
+}
+
+// Each end of the queue in a thread of its own, and then both senders taken in.
+fn exchange<W: Threads + Wait + Sync>(
+    rt: &W,
+    alloc: Global,
+    first: JobSender,
+    second: JobSender,
+    receiver: JobReceiver,
+) -> Option<[u64; 2]>
+    requires first { first ≡ outbox receiver.queue 0 100 [] }
+    requires second { second ≡ outbox receiver.queue 1 100 [] }
+    requires receiver { receiver ≡ inbox receiver.queue 2 100 [] }
+{
+    let ((first, second), (receiver, next)) = join(
+        rt,
+        || send_both(rt, alloc, first, second),
+        || take_jobs(rt, receiver),
+    );
+    let mut receiver = receiver;
+    receiver.take_in(first);
+    receiver.take_in(second);
+    next
+}
+
+fn send_both<W: Threads + Wait + Sync>(
+    rt: &W,
+    alloc: Global,
+    first: JobSender,
+    second: JobSender,
+) -> (JobSender, JobSender)
+    requires first { first ≡ outbox first.queue 0 100 [] }
+    requires second { second ≡ outbox second.queue 1 100 [] }
+    ensures first { (result.0.queue ≡ first.queue) × (result.0.number ≡ 0) }
+    ensures second { (result.1.queue ≡ second.queue) × (result.1.number ≡ 1) }
+{
+    join(
+        rt,
+        || send_jobs(rt, alloc, first, 0),
+        || send_jobs(rt, alloc, second, 1),
+    )
+}
+
+#[test]
+fn jobs_of_two_threads_come_each_in_their_order(rt: HostRuntime) -> Result<(), Fail> {
+    let (mut senders, receiver) = job_queue(rt.alloc(), 2, 100)?;
+    let (Some(second), Some(first)) = (senders.list.pop(), senders.list.pop()) else {
+        unreachable!()
+    };
+    let next = exchange(&rt, rt.alloc(), first, second, receiver);
+    assert!(rt; next == Some([JOBS, JOBS]));
+    Ok(())
+}
