@@ -77,7 +77,11 @@ fn exchange<W: Threads + Wait + Sync>(
 {
     let ((first, second), (receiver, next)) = join(
         rt,
-        || send_both(rt, alloc, first, second),
+        || -> (JobSender, JobSender)
+            requires { (first ≡ outbox first.queue 0 100 []) × (second ≡ outbox second.queue 1 100 []) }
+            ensures { ((result.0.queue ≡ first.queue) × (result.0.number ≡ 0))
+                × (result.1.queue ≡ second.queue) × (result.1.number ≡ 1) }
+        { send_both(rt, alloc, first, second) },
         || take_jobs(rt, receiver),
     );
     let mut receiver = receiver;
