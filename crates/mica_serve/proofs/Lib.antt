@@ -11,3 +11,7 @@ pub mod Serving
 pub mod Binding
 pub mod Serial
 pub mod Whole
+pub mod Among
+pub mod Beside
+pub mod PartitionTotals
+pub mod ServedBeside

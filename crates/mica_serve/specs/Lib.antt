@@ -4,6 +4,7 @@ pub mod Dealing
 pub mod Session
 pub mod Answering
 pub mod Served
+pub mod Beside
 pub mod Solo
 pub mod Owners
 pub mod Ends

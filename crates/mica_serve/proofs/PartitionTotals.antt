@@ -1,0 +1,92 @@
+-- Sums of a number for each partition.
+use Rattle.std.proofs.Common.{◌≡◌, ℕ, zero, suc, ◌+◌, ◌<◌, ◌≤◌, ◌⊎◌, inl, inr, Bool, true, false, cond, eqb, List, [], ◌∷◌, length, refl, sym, ap, ◌∙◌, subst, arith}
+use Rattle.std.specs.Prelude.{is_some, ◌&&◌}
+use Rattle.std.specs.List.{filter}
+use Rattle.std.proofs.lemmas.Bool.{eq-eqb, ne_eqb, cases_lt}
+use Rattle.mica_words.proofs.Hashes.{partition_of-below}
+use Rattle.mica_model.specs.declared.options.Options.{Options}
+use Rattle.mica_serve.specs.Turn.{Turn, write_in, partition_in, writes_of}
+use Rattle.mica_serve.specs.Session.{count_of_writes}
+use Rattle.mica_serve.specs.Beside.{total_below}
+
+pub total_add : (n : ℕ) (f g : ℕ → ℕ) → total_below n (λ p. f p + g p) ≡ total_below n f + total_below n g
+total_add zero f g = refl
+total_add (suc n) f g = let rest = total_add n f g in omega arith
+
+pub total_same : (n : ℕ) (f g : ℕ → ℕ) → ((p : ℕ) → p < n → f p ≡ g p) → total_below n f ≡ total_below n g
+total_same zero f g same = refl
+total_same (suc n) f g same = omega (arith, total_same n f g (λ p lt. same p (omega arith)), same n (omega arith))
+
+pub total_le : (n : ℕ) (f g : ℕ → ℕ) → ((p : ℕ) → p < n → f p ≤ g p) → total_below n f ≤ total_below n g
+total_le zero f g le = omega arith
+total_le (suc n) f g le = omega (arith, total_le n f g (λ p lt. le p (omega arith)), le n (omega arith))
+
+-- where none is greater and the sum is no less, all are equal
+pub total_all : (n : ℕ) (f g : ℕ → ℕ) → ((p : ℕ) → p < n → f p ≤ g p) → total_below n g ≤ total_below n f → (p : ℕ) → p < n → g p ≤ f p
+total_all zero f g le sum p lt = absurd (omega arith)
+total_all (suc n) f g le sum p lt =
+    let below = total_le n f g (λ p lt. le p (omega arith)) in
+    let last = le n (omega arith) in
+    elim (cases_lt p n) as (λ _. g p ≤ f p) [
+      | inl less ↦ total_all n f g (λ p lt. le p (omega arith)) (omega arith) p less
+      | inr more ↦ let here : n ≡ p = omega arith in subst (λ (q : ℕ). g q ≤ f q) here (omega arith)
+    ]
+
+-- the one number that counts, or none
+off : (q n : ℕ) (b : Bool) → ¬ (q ≡ n) → ◌≡◌ {A = ℕ} (cond (b && eqb q n) 1 0) 0
+off q n true other = ap (λ (e : Bool). cond {A = ℕ} e 1 0) (ne_eqb q n other)
+off q n false other = refl
+
+here : (q n : ℕ) (b : Bool) → q ≡ n → ◌≡◌ {A = ℕ} (cond (b && eqb q n) 1 0) (cond b 1 0)
+here q n true same = ap (λ (e : Bool). cond {A = ℕ} e 1 0) (eq-eqb q n same)
+here q n false same = refl
+
+total_none : (n q : ℕ) (b : Bool) → n ≤ q → total_below n (λ p. cond (b && eqb q p) 1 0) ≡ 0
+total_none zero q b le = refl
+total_none (suc n) q b le =
+    let rest = total_none n q b (omega arith) in
+    let one = off q n b (λ e. absurd (omega arith)) in
+    omega arith
+
+total_one : (n q : ℕ) (b : Bool) → q < n → total_below n (λ p. cond (b && eqb q p) 1 0) ≡ cond b 1 0
+total_one zero q b lt = absurd (omega arith)
+total_one (suc n) q b lt = elim (cases_lt q n) as (λ _. total_below (suc n) (λ p. cond (b && eqb q p) 1 0) ≡ cond b 1 0) [
+  | inl less ↦
+      let rest = total_one n q b less in
+      let one = off q n b (λ e. absurd (omega arith)) in
+      omega arith
+  | inr more ↦
+      let rest = total_none n q b more in
+      let one = here q n b (omega arith) in
+      omega arith
+]
+
+module _ (options : Options) (some : 1 ≤ options.partitions) where
+  writes_cons : (p : ℕ) (turn : Turn) (turns : List Turn)
+      → length (writes_of options p (turn ∷ turns)) ≡ cond (is_some (write_in turn.request) && eqb (partition_in options turn) p) 1 0 + length (writes_of options p turns)
+  writes_cons p turn turns = by (is_some (write_in turn.request) && eqb (partition_in options turn) p)
+    where
+      by : (b : Bool) → length (cond b (turn ∷ writes_of options p turns) (writes_of options p turns)) ≡ cond b 1 0 + length (writes_of options p turns)
+      by true = omega arith
+      by false = omega arith
+
+  -- each write is one of one partition
+  pub writes_total : (turns : List Turn) → count_of_writes turns ≡ total_below options.partitions (λ p. length (writes_of options p turns))
+  writes_total [] = none options.partitions
+    where
+      none : (n : ℕ) → 0 ≡ total_below n (λ p. 0)
+      none zero = refl
+      none (suc n) = omega (arith, none n)
+  writes_total (turn ∷ turns) =
+      let rest = writes_total turns in
+      let q = partition_in options turn in
+      let own = total_one options.partitions q (is_some (write_in turn.request)) (partition_of-below turn.request.key options.partitions some) in
+      let sum = total_add options.partitions (λ p. cond (is_some (write_in turn.request) && eqb q p) 1 0) (λ p. length (writes_of options p turns)) in
+      let all = total_same options.partitions (λ p. length (writes_of options p (turn ∷ turns)))
+      (λ p. cond (is_some (write_in turn.request) && eqb q p) 1 0 + length (writes_of options p turns)) (λ p _. writes_cons p turn turns) in
+      omega (arith, rest, own, sum, all, one (is_some (write_in turn.request)))
+    where
+      one : (b : Bool) → length (cond b (turn ∷ filter (λ t. is_some (write_in t.request)) turns) (filter (λ t. is_some (write_in t.request)) turns))
+          ≡ cond b 1 0 + count_of_writes turns
+      one true = omega arith
+      one false = omega arith

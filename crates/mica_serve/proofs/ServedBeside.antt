@@ -1,0 +1,89 @@
+-- Fronts that were served beside each other, served.
+use Rattle.std.proofs.Common.{◌≡◌, ℕ, ◌+◌, ◌<◌, ◌≤◌, List, [], ◌∷◌, ◌++◌, length, map, Option, Some, None, refl, sym, ap, ◌∙◌, subst, slice_get, arith, length-append}
+use Rattle.std.specs.List.{AllZip, All}
+use Rattle.std.proofs.lemmas.List.{append-nil, length-map}
+use Rattle.std.proofs.lemmas.Option.{slice_get-map}
+use Rattle.std.specs.Prelude.{option_map}
+use Rattle.mica_io.specs.Ports.{Ports}
+use Rattle.mica_model.specs.declared.options.Options.{Options}
+use Rattle.mica_model.specs.Run.{RunStep}
+use Rattle.mica_serve.specs.declared.ports.Ports.{Ports as PortOptions}
+use Rattle.mica_serve.specs.Turn.{Turn, writes_of, gets_of}
+use Rattle.mica_serve.specs.Dealing.{Dealing, turns_in}
+use Rattle.mica_serve.specs.Session.{Acknowledged, Told, Sessions}
+use Rattle.mica_serve.specs.Served.{Placed, ServesPort, ServesGet, IsGetAt, RepliesStep, Served, steps_in, steps_by, history_in}
+use Rattle.mica_serve.specs.Beside.{closed_of, total_below, AnsweredBeside, RunsPartitions}
+use Rattle.mica_serve.proofs.Fronts.{order_of}
+use Rattle.mica_serve.proofs.Among.{StandAmong, stand_few, stand_all, stand_append}
+use Rattle.mica_serve.proofs.Beside.{TellsTurns, Beside, beside_of, get_served}
+use Rattle.mica_serve.proofs.PartitionTotals.{total_all, writes_total}
+
+module _ (options : Options) (some : 1 ≤ options.partitions) (runs : ℕ → List Placed) (f : ℕ) (turns : List Turn) (old new : Sessions)
+    (known : AnsweredBeside options runs f turns old new) where
+  told : (p : ℕ) → p < options.partitions → (told : Told) × ((old p).told ≡ Some told) × (told.acks ≡ []) × (told.closed ≡ 0) × TellsTurns options p told turns (new p).told
+  told p lt =
+      let start = known.starts p lt in
+      (start.0, start.1, start.2.acks, start.2.closed, (beside_of options p old new turns known.answers).tells start.0 start.1)
+
+  -- the writes stand in order among the steps of the front
+  stands : (p : ℕ) → p < options.partitions → StandAmong (writes_of options p turns) (steps_by f (runs p))
+  stands p lt =
+      let t = told p lt in
+      let tells = t.4 in
+      let took = known.took p tells.told lt tells.is in
+      let acks : tells.told.acks ≡ tells.more = tells.acks ∙ ap (λ (a : List Acknowledged). a ++ tells.more) t.2 in
+      subst (λ (s : List RunStep). StandAmong (writes_of options p turns) s) (sym (took.1 ∙ ap (λ (a : List Acknowledged). map (λ x. x.step) a ++ took.0) acks))
+      (stand_before (writes_of options p turns) (map (λ a. a.step) tells.more) took.0 tells.stand)
+    where
+      stand_before : (turns : List Turn) (steps more : List RunStep) → StandAmong turns steps → StandAmong turns (steps ++ more)
+      stand_before turns steps more h = subst (λ (ts : List Turn). StandAmong ts (steps ++ more)) (append-nil turns) (stand_append turns [] steps more h tt)
+
+  -- and there are no others
+  pub all_replied : (p : ℕ) → p < options.partitions → AllZip RepliesStep (writes_of options p turns) (steps_by f (runs p))
+  all_replied p lt =
+      stand_all (writes_of options p turns) (steps_by f (runs p)) (stands p lt)
+      (total_all options.partitions (λ q. length (writes_of options q turns)) (λ q. length (steps_by f (runs q)))
+      (λ q below. stand_few (writes_of options q turns) (steps_by f (runs q)) (stands q below))
+      (omega (arith, known.few, writes_total options some turns)) p lt)
+
+  pub gets_of_run : (p n : ℕ) (turn : Turn) → p < options.partitions → IsGetAt options p turns n turn → ServesGet options (history_in (runs p)) turns n turn
+  gets_of_run p n turn lt is =
+      get_served options p (old p).seen (new p).seen (history_in (runs p)) turns n turn (known.seen p lt) ((beside_of options p old new turns known.answers).gets n turn is)
+
+  -- its seat closed one try for each get
+  pub closed_gets : (p : ℕ) → p < options.partitions → closed_of (new p).told ≡ length (gets_of options p turns)
+  closed_gets p lt =
+      let t = told p lt in
+      let tells = t.4 in
+      omega (arith, ap closed_of tells.is, tells.closed, t.3)
+
+-- what is known of each front makes all of them served
+pub served_beside : (options : Options) → 1 ≤ options.partitions → (runs : ℕ → List Placed) (fronts : List (List Dealing)) (ports : PortOptions) (before after : Ports)
+    → length fronts ≡ ports.fronts → RunsPartitions options (length fronts) runs
+    → ((f : ℕ) (dealings : List Dealing) → slice_get fronts f ≡ Some dealings → ServesPort ports.batches (before (ports.port + f)) (after (ports.port + f)) dealings)
+    → ((f : ℕ) (dealings : List Dealing) → slice_get fronts f ≡ Some dealings
+    → (old : Sessions) × (new : Sessions) × AnsweredBeside options runs f (turns_in dealings) old new)
+    → Served options ports before after fronts runs
+served_beside options some runs fronts ports before after many ran datagrams each =
+    record {
+      many = many;
+      datagrams = datagrams;
+      writes = λ p lt. record {
+        run = ran.run p lt;
+        each = λ f turns is. let own = dealt f turns is in subst (λ (ts : List Turn). AllZip RepliesStep (writes_of options p ts) (steps_by f (runs p))) own.2
+            (let k = each f own.0 own.1 in all_replied options some runs f (turns_in own.0) k.0 k.1 k.2 p lt);
+        no_others = subst (λ (n : ℕ). All (λ q. q.front < n) (runs p)) (sym (length-map fronts turns_in)) (ran.no_others p lt);
+      };
+      order = λ p f lt. order_of options f [] (runs p) (ran.run p lt);
+      gets = λ p f dealings n turn lt is asks. let k = each f dealings is in gets_of_run options some runs f (turns_in dealings) k.0 k.1 k.2 p n turn lt asks;
+    }
+  where
+    dealt : (f : ℕ) (turns : List Turn) → slice_get (map turns_in fronts) f ≡ Some turns → (dealings : List Dealing) × (slice_get fronts f ≡ Some dealings) × (turns_in dealings ≡ turns)
+    dealt f turns is = by (slice_get fronts f) refl (sym (slice_get-map turns_in fronts f) ∙ is)
+      where
+        by : (o : Option (List Dealing)) → slice_get fronts f ≡ o → option_map turns_in (slice_get fronts f) ≡ Some turns
+            → (dealings : List Dealing) × (slice_get fronts f ≡ Some dealings) × (turns_in dealings ≡ turns)
+        by None is' is = let none : option_map turns_in (slice_get fronts f) ≡ None = ap (option_map turns_in) is' in absurd (cc)
+        by (Some d) is' is =
+            let some : option_map turns_in (slice_get fronts f) ≡ Some (turns_in d) = ap (option_map turns_in) is' in
+            (d, is', cc)

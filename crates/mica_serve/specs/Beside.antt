@@ -1,0 +1,69 @@
+-- What is known of fronts that were served beside each other, once their owners have taken in what each of them has in hand.
+use Rattle.std.specs.Prelude.{false, ◌≡◌, ◌+◌, ◌<◌, ◌≤◌, ℕ, zero, suc, List, ◌++◌, [], map, length, slice_get, Option, Some, None, All, sum_by}
+use Rattle.mica_model.specs.declared.options.Options.{Options}
+use Rattle.mica_model.specs.History.{IsPrefix}
+use Rattle.mica_model.specs.Run.{RunStep, IsRun}
+use Rattle.epoch_core.specs.Shape.{shape_of}
+use Rattle.partition_table.specs.declared.tables.Entry.{Entry}
+use Rattle.mica_serve.specs.declared.ports.Ports.{Ports as PortOptions}
+use Rattle.mica_serve.specs.declared.ports.Totals.{Totals}
+use Rattle.mica_io.specs.Ports.{Ports}
+use Rattle.mica_serve.specs.Turn.{Turn, gets_of}
+use Rattle.mica_serve.specs.Dealing.{Dealing, turns_in}
+use Rattle.mica_serve.specs.Session.{Told, Sessions, AnswersInOrder, count_of_writes}
+use Rattle.mica_serve.specs.Served.{Placed, steps_in, steps_by, history_in, Served, Counts}
+
+abbrev pub closed_of : Option Told → ℕ
+closed_of None = 0
+closed_of (Some told) = told.closed
+
+-- the sum of a number for each partition
+abbrev pub total_below : ℕ → (ℕ → ℕ) → ℕ
+total_below zero f = 0
+total_below (suc n) f = total_below n f + f n
+
+-- nothing was told yet
+pub record IsUntold (told : Told) : Type 0 where
+  pub acks : told.acks ≡ []
+  pub closed : told.closed ≡ 0
+
+-- A front answered its requests in order. In each partition what it has seen begins the history, and the answers that it took begin those to
+-- its writes in the partition's run, in all of which together there are no more than it was asked for.
+pub record AnsweredBeside (options : Options) (runs : ℕ → List Placed) (f : ℕ) (turns : List Turn) (old new : Sessions) : Type 0 where
+  pub answers : AnswersInOrder options false old turns new
+  pub starts : (p : ℕ) → p < options.partitions → (told : Told) × ((old p).told ≡ Some told) × IsUntold told
+  pub seen : (p : ℕ) → p < options.partitions → IsPrefix (new p).seen (history_in (runs p))
+  pub took : (p : ℕ) (told : Told) → p < options.partitions → (new p).told ≡ Some told
+      → (later : List RunStep) × (steps_by f (runs p) ≡ map (λ a. a.step) told.acks ++ later)
+  pub few : total_below options.partitions (λ p. length (steps_by f (runs p))) ≤ count_of_writes turns
+
+-- each partition's machine ran on the writes of these fronts alone
+pub record RunsPartitions (options : Options) (fronts : ℕ) (runs : ℕ → List Placed) : Type 0 where
+  pub run : (p : ℕ) → p < options.partitions → IsRun options (steps_in (runs p))
+  pub no_others : (p : ℕ) → p < options.partitions → All (λ q. q.front < fronts) (runs p)
+
+-- how many gets the fronts answered in a partition
+abbrev pub gets_answered : Options → ℕ → List (List Dealing) → ℕ
+gets_answered options p fronts = sum_by (λ dealings. length (gets_of options p (turns_in dealings))) fronts
+
+-- the seat of partition p has the history of the fronts' accepted writes, and their seats closed one try for each get
+pub record IsServedEntry (options : Options) (fronts : List (List Dealing)) (runs : ℕ → List Placed) (p : ℕ) (entry : Entry) : Type 0 where
+  pub history : entry.history ≡ history_in (runs p)
+  pub closed : entry.closed ≡ gets_answered options p fronts
+
+-- one seat for each partition, in order
+pub record AreServedTables (options : Options) (fronts : List (List Dealing)) (runs : ℕ → List Placed) (kept : List Entry) : Type 0 where
+  pub each : (p : ℕ) (entry : Entry) → slice_get kept p ≡ Some entry → IsServedEntry options fronts runs p entry
+
+-- the fronts served, the totals count what they did, and these are their tables
+pub record ServesOnTables (options : Options) (ports : PortOptions) (totals : Totals) (kept : List Entry) (before after : Ports) : Type 0 where
+  pub fronts : List (List Dealing)
+  pub runs : ℕ → List Placed
+  pub served : Served options ports before after fronts runs
+  pub counted : Counts fronts totals
+  pub tables : AreServedTables options fronts runs kept
+
+-- one seat of the options' shape for each partition
+pub record HaveShapes (options : Options) (kept : List Entry) : Type 0 where
+  pub many : length kept ≡ options.partitions
+  pub shapes : (p : ℕ) (entry : Entry) → slice_get kept p ≡ Some entry → entry.shape ≡ shape_of options
