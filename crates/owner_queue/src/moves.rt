@@ -8,9 +8,13 @@ ghost use Rattle.owner_queue.specs.Ends.{known};
 use crate::rule::{InOrder, Knows, Queued, Sends, Takes};
 use crossbeam_channel::{Pass, RuledReceiver, RuledSender};
 use std::sync::Wait;
+use std::thread;
 
 /// How many messages may wait in a queue.
 pub const CAPACITY: usize = 64;
+
+// How often an end that has to wait gives its core to others before it sleeps. To wake a thread costs far more.
+const YIELDS: u32 = 8;
 
 /// Puts a message at the back.
 pub fn put<S, T: Queued<S>, R: Wait>(
@@ -27,6 +31,13 @@ pub fn put<S, T: Queued<S>, R: Wait>(
     ensures view { known pass.new ≡ sender (known pass.old).number (known pass.old).terms ((known pass.old).sent ++ message ∷ []) }
 {
     let mut message = message;
+    for _yielded in 0..YIELDS {
+        match end.try_send_as::<Sends, R>(rt, pass, message) {
+            Ok(()) => return,
+            Err(error) => message = error.into_inner(),
+        }
+        thread::yield_now();
+    }
     for _ in rt.forever() {
         match end.send_as::<Sends, R>(rt, pass, message) {
             Ok(()) => return,
@@ -49,6 +60,12 @@ pub fn take<S, T: Queued<S>, R: Wait>(
     ensures sender { T.sender result < (known pass.old).number }
     ensures order { T.follows (known pass.old).terms (from_sender T.sender (T.sender result) (known pass.old).taken) result }
 {
+    for _yielded in 0..YIELDS {
+        if let Ok(message) = end.try_recv_as::<Takes, R>(rt, pass) {
+            return message;
+        }
+        thread::yield_now();
+    }
     for _ in rt.forever() {
         if let Ok(message) = end.recv_as::<Takes, R>(rt, pass) {
             return message;

@@ -6,3 +6,6 @@ use Rattle.owner_queue.proofs.moves.take.Given as goal
 
 abbrev pub invariant-loop : goal.invariant-loop
 invariant-loop g l = IsSeatAt (receives_on l.end) l.pass × (known l.pass ≡ known l.initial.pass)
+
+abbrev pub invariant-loop-yielded : goal.invariant-loop-yielded
+invariant-loop-yielded g l = IsSeatAt (receives_on l.end) l.pass × (known l.pass ≡ known l.initial.pass)
