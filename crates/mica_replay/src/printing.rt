@@ -9,7 +9,7 @@ ghost use Rattle.mica_replay.specs.Printed.{PrintsReport, PrintsPart};
 use crate::run_trace;
 use mica_io::{Failed, Gate, NoMemory, Sink, write_all};
 use mica_model::Options;
-use mica_trace::{Report, Trace, put_report_line};
+use mica_trace::{Line, Report, Trace, put_report_line};
 use partition_table::Tables;
 use std::alloc::Global;
 use std::sync::Wait;
@@ -43,12 +43,28 @@ impl From<Failed> for ReplayFault {
     }
 }
 
+// The most bytes of a line without a value, with its line feed.
+const SHORT_LINE: usize = "put 18446744073709551615 full block\n".len();
+
+// Room for the text of the lines, so that it never grows.
+fn room_for(lines: &[Line]) -> usize {
+    let mut room = 0usize;
+    for line in lines {
+        let value_len = match line {
+            Line::Hit { value, .. } => value.bytes().len(),
+            Line::Wrote { .. } | Line::Miss { .. } | Line::Sync => 0,
+        };
+        room = room.saturating_add(value_len).saturating_add(SHORT_LINE);
+    }
+    room
+}
+
 // The report's text.
 fn text_of(alloc: Global, report: &Report) -> Result<Vec<u8>, NoMemory>
     requires { AllByRecursion IsReportLine report.now }
     ensures { IfOk result (λ text. text.items ≡ report_text report.now) }
 {
-    let mut text = Vec::new(alloc);
+    let mut text = Vec::with_capacity(alloc, room_for(report.lines()))?;
     for line in report.lines() {
         put_report_line(line, &mut text)?;
     }
