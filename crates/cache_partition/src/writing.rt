@@ -98,13 +98,7 @@ fn put_at_tail<W: OwnerWords>(words: &mut W, sought: &Sought, key: &[u8], value:
     let stamp = sought.stamp + 65_536 * u64::from(item_size(key.len(), value.len()));
     begin(words, sought.bucket, Op::Put, key, value, stamp);
     append_hashed(words, tail, key, sought.hash, value);
-    place(
-        words,
-        sought.bucket,
-        sought.slot,
-        tag_of(sought.hash),
-        tail,
-    );
+    place(words, sought.bucket, sought.slot, tag_of(sought.hash), tail);
     words.end_write(sought.bucket);
     stamp
 }

@@ -98,13 +98,7 @@ pub fn write_item_hashed<W: OwnerWords>(
 }
 
 /// Stores the header and the value of an item whose hash and key are there: they are not stored again.
-pub fn rewrite_item<W: OwnerWords>(
-    words: &mut W,
-    offset: u64,
-    room: u32,
-    key: &[u8],
-    value: &[u8],
-)
+pub fn rewrite_item<W: OwnerWords>(words: &mut W, offset: u64, room: u32, key: &[u8], value: &[u8])
     requires kept { Kept (W.owner words.old) }
     requires key { KeyFits key.now }
     requires value { ValueFits value.now }

@@ -296,10 +296,10 @@ module _ (r q : ReaderState) (b n : ℕ) (first : q ≡ opened b n r) (least : 2
     pub moved_rests : last ≢ n → (got : Got) (plan : Option Plan) → IfSome plan (FindsEpoch r b n) → IfSome plan (FindsLastEpoch q3 last) → IfSome plan (TriesAtRest r got q4)
     moved_rests other got None finds ends = tt
     moved_rests other got (Some plan) finds ends = λ o rests. absurd (other (
-      subst (λ (c : Option Try). IfSome c (λ t. last ≡ epoch_in (owner_found plan q3) t.bucket)) cut_try ends
-      ∙ ap (λ (z : OwnerState). epoch_in z b) (found_at_rest plan o r q3 rests (le_of after_cut) ∙ sym (found_at_rest plan o r r rests (le_refl r.loads)))
-      ∙ sym finds.epoch
-    ))
+        subst (λ (c : Option Try). IfSome c (λ t. last ≡ epoch_in (owner_found plan q3) t.bucket)) cut_try ends
+        ∙ ap (λ (z : OwnerState). epoch_in z b) (found_at_rest plan o r q3 rests (le_of after_cut) ∙ sym (found_at_rest plan o r r rests (le_refl r.loads)))
+        ∙ sym finds.epoch
+        ))
 
 -- the main buckets stay
 

@@ -21,7 +21,9 @@ use crate::marking::begin_marked;
 use crate::reading::{Block, block_at, seek, value_of};
 use block_heap::Heap;
 use chained_index::{ChainedIndex, Spot};
-use epoch_core::{LendPartition, LendWords, OwnerWords, Partition, rewrite_item, write_item_hashed};
+use epoch_core::{
+    LendPartition, LendWords, OwnerWords, Partition, rewrite_item, write_item_hashed,
+};
 use mica_io::NoMemory;
 use mica_model::{Answer, ItemBuf, Op, Outcome};
 use mica_words::{item_size, tag_of};
@@ -75,14 +77,7 @@ impl<W: OwnerWords> StorePartition<W> {
     }
 
     // A put of a key that has an item, whose room is kept where it suffices.
-    fn put_known(
-        &mut self,
-        bucket: u32,
-        spot: Spot,
-        key: &[u8],
-        hash: u64,
-        value: &[u8],
-    ) -> Outcome
+    fn put_known(&mut self, bucket: u32, spot: Spot, key: &[u8], hash: u64, value: &[u8]) -> Outcome
         requires kept { Kept (W.owner self.old.words) }
         requires unworn { length (W.owner self.old.words).history < (W.owner self.old.words).shape.wear }
         requires key { KeyFits key.now }
@@ -156,12 +151,8 @@ impl<W: OwnerWords> StorePartition<W> {
         let stamp = self.accepted + 1;
         begin_marked(&mut self.words, bucket, Op::Put, key, value, stamp);
         write_item_hashed(&mut self.words, u64::from(place), size, key, hash, value);
-        self.index.replace(
-            &mut self.words,
-            spot,
-            tag_of(hash),
-            u64::from(place),
-        );
+        self.index
+            .replace(&mut self.words, spot, tag_of(hash), u64::from(place));
         self.words.end_write(bucket);
         self.heap.give(offset as u32);
         self.accepted = stamp;
@@ -192,12 +183,8 @@ impl<W: OwnerWords> StorePartition<W> {
         let stamp = self.accepted + 1;
         begin_marked(&mut self.words, bucket, Op::Put, key, value, stamp);
         write_item_hashed(&mut self.words, u64::from(place), size, key, hash, value);
-        self.index.place(
-            &mut self.words,
-            bucket,
-            tag_of(hash),
-            u64::from(place),
-        );
+        self.index
+            .place(&mut self.words, bucket, tag_of(hash), u64::from(place));
         self.words.end_write(bucket);
         self.accepted = stamp;
         Outcome::Stored

@@ -18,8 +18,8 @@ try_get-requires-clause-bucket c =
 
 pub unreachable-requires : goal.unreachable-requires
 unreachable-requires c = cc (
-  sym (ap is_again c.in-Again.is) ∙ never_again c.args.seat.now c.try_get.new.seat c.requires.settled c.try_get.result c.try_get.ensures.planned
-)
+    sym (ap is_again c.in-Again.is) ∙ never_again c.args.seat.now c.try_get.new.seat c.requires.settled c.try_get.result c.try_get.ensures.planned
+    )
 
 pub returns-in-Hit : goal.returns-in-Hit
 returns-in-Hit c =
