@@ -5,3 +5,4 @@ pub mod Entries
 pub mod Chains
 pub mod Answering
 pub mod Repeating
+pub mod Repeated

@@ -1,3 +1,4 @@
 pub mod Loading
 pub mod Search
 pub mod Gets
+pub mod Asked
