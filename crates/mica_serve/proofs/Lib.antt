@@ -11,3 +11,6 @@ pub mod Serving
 pub mod Binding
 pub mod Serial
 pub mod Whole
+pub mod Telling
+pub mod OwnerSteps
+pub mod QueueSteps

@@ -4,6 +4,8 @@ pub mod Dealing
 pub mod Session
 pub mod Answering
 pub mod Served
+pub mod QueueFront
+pub mod OwnerWork
 pub mod Solo
 pub mod Owners
 pub mod Ends
