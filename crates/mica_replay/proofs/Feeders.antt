@@ -10,7 +10,8 @@ use Rattle.owner_queue.specs.JobEnds.{Outbox, outbox}
 use Rattle.mica_replay.specs.declared.feeder.Feed.{Feed}
 use Rattle.mica_replay.specs.declared.feeder.Feeder.{Feeder}
 use Rattle.mica_replay.specs.Feeds.{jobs_for, IsReadyFeeder, HasFed}
-use Rattle.mica_replay.proofs.ReaderSteps.{set_cases, at_within}
+use Rattle.owner_queue.proofs.Lists.{set_cases}
+use Rattle.mica_replay.proofs.ReaderSteps.{at_within}
 use Rattle.mica_replay.proofs.RoundSteps.{UpTo, up_one}
 
 same_at : {Z : Type 0} {x y : Z} → Some x ≡ Some y → x ≡ y

@@ -18,7 +18,8 @@ use Rattle.mica_replay.specs.LineNumbers.{write_at, writes_at, lines_at, NamesWr
 use Rattle.mica_replay.specs.Lending.{OwnerPart}
 use Rattle.mica_replay.specs.RoundRun.{ReaderPart}
 use Rattle.mica_replay.specs.Shares.{Each, KeepsOwner, KeepsReader, HasNoWrites, HasNoGets, HasWrites, HasGets, HasRoom, AreWithoutWrites, AreWithoutGets, IsShared}
-use Rattle.mica_replay.proofs.ReaderSteps.{set_cases, at_within}
+use Rattle.owner_queue.proofs.Lists.{set_cases}
+use Rattle.mica_replay.proofs.ReaderSteps.{at_within}
 use Rattle.mica_replay.proofs.OwnerRuns.{writes_at_push}
 use Rattle.mica_replay.proofs.MergedReport.{gets_by-push, itself, length_snoc}
 

@@ -22,6 +22,7 @@ use Rattle.mica_trace.specs.ReportGrammar.{IsReportLine}
 use Rattle.mica_trace.specs.Rounds.{partition_in, is_in_partition, write_by, write_in, writes_of, is_get_op}
 use Rattle.mica_trace.specs.LawfulReport.{IsKindOf, step_by, step_in, steps_of}
 use Rattle.mica_trace.specs.RoundReport.{Pair, is_get, gets_in, gets_by, pairs_of, gets_of, pairs_in, AnswersRise, history_in, IsRoundReport}
+use Rattle.owner_queue.proofs.Lists.{set_cases}
 use Rattle.mica_replay.specs.Between.{HaveWorked}
 use Rattle.mica_replay.specs.Merged.{IsMerged}
 use Rattle.mica_replay.specs.Replies.{Reply, step_with, steps_with}
@@ -116,17 +117,6 @@ module _ (options : Options) (valid : IsValid options) (before : List TraceLine)
   merged_report = record { lines = all_stand round printed merged.lines stands; writes = runs; gets = reads }
 
 -- One line more
-
-set_cases : {X : Type 0} (xs : List X) (p : ℕ) (x : X) (q : ℕ) (y : X) → slice_get (slice_set xs p x) q ≡ Some y → ((p ≡ q) × (x ≡ y)) ⊎ ((p ≢ q) × (slice_get xs q ≡ Some y))
-set_cases [] p x q y is = absurd (cc)
-set_cases (z ∷ xs) zero x zero y is = inl (refl, cc)
-set_cases (z ∷ xs) zero x (suc q) y is = inr ((λ same. omega arith), is)
-set_cases (z ∷ xs) (suc p) x zero y is = inr ((λ same. omega arith), is)
-set_cases (z ∷ xs) (suc p) x (suc q) y is =
-    elim (set_cases xs p x q y is) as (λ _. ((suc p ≡ suc q) × (x ≡ y)) ⊎ ((suc p ≢ suc q) × (slice_get xs q ≡ Some y))) [
-      | inl same ↦ inl (ap suc same.0, same.1)
-      | inr other ↦ inr ((λ same. other.0 (omega arith)), other.1)
-    ]
 
 pub gets_by-push : {X : Type 0} (line : X → TraceLine) (options : Options) (q g : ℕ) (xs : List X) (x : X)
     → gets_by line options q g (xs ++ x ∷ []) ≡ gets_by line options q g xs ++ gets_by line options q (g + gets_in (map line xs)) (x ∷ [])

@@ -16,6 +16,7 @@ use Rattle.epoch_core.specs.OwnerStep.{IsOwnerStep}
 use Rattle.mica_replay.specs.LineNumbers.{lines_at, write_at, writes_at}
 use Rattle.mica_replay.specs.Replies.{Reply, Replies, replies_with, step_with, steps_with, RepliesTo}
 use Rattle.mica_trace.proofs.ListParts.{zip-append}
+use Rattle.owner_queue.proofs.Gains.{step_gains}
 use Rattle.mica_trace.proofs.Prefixes.{history-append, run-append}
 
 pub owns_none : (o : OwnerState) (out : Replies) → RepliesTo o o [] out out
@@ -25,18 +26,6 @@ owns_none o out = record {
   room = omega arith;
   written = record { many = refl; run = tt; gained = ap (λ (h : History). record o { history = h }) (sym (append-nil o.history)) };
 }
-
--- an owner after a step has gained what the step gives a run
-step_gains : (mid new : OwnerState) (write : Write) (outcome : Outcome) (stamp : ℕ) → IsOwnerStep mid new write outcome
-    → new ≡ record mid { words = new.words; history = mid.history ++ history_of (step_with (write, (outcome, stamp)) ∷ []) }
-step_gains mid new write outcome stamp step =
-    elim (is_accepted outcome) as (λ b. new ≡ cond b (record mid { words = new.words; history = mid.history ++ write ∷ [] }) mid
-    → new ≡ record mid { words = new.words; history = mid.history ++ cons_option (cond b (Some write) None) [] }) [
-      | true ↦ λ e. e
-      | false ↦ λ e.
-          e ∙ subst (λ (ws : List ℕ). mid ≡ record mid { words = ws; history = mid.history ++ [] }) (sym (ap (λ (o : OwnerState). o.words) e))
-          (ap (λ (h : History). record mid { history = h }) (sym (append-nil mid.history)))
-    ] step.gained
 
 steps_push : (writes : List Write) (write : Write) (replies : List Reply) (reply : Reply) → length replies ≡ length writes
     → steps_with (writes ++ write ∷ []) (replies ++ reply ∷ []) ≡ steps_with writes replies ++ step_with (write, reply) ∷ []

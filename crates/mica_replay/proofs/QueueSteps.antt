@@ -6,7 +6,7 @@ use Rattle.owner_queue.specs.Messages.{sent_by, has_end}
 use Rattle.owner_queue.specs.JobEnds.{Outbox}
 use Rattle.mica_replay.specs.declared.worker.OwnerWork.{OwnerWork}
 use Rattle.mica_replay.specs.Queues.{HasQueue, HaveQueues, MayTakeIn, HaveTakenIn}
-use Rattle.mica_replay.proofs.ReaderSteps.{set_cases}
+use Rattle.owner_queue.proofs.Lists.{set_cases}
 
 same_at : {Z : Type 0} {x y : Z} → Some x ≡ Some y → x ≡ y
 same_at is = cc

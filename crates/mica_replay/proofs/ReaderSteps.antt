@@ -25,93 +25,18 @@ use Rattle.optimistic_get.specs.declared.getting.Got.{Got}
 use Rattle.optimistic_get.specs.declared.getting.Got.TheVariants.{Hit, Miss, Again}
 use Rattle.epoch_core.specs.declared.reader.ReaderState.{ReaderState}
 use Rattle.mica_trace.specs.RoundReport.{Pair, pairs_in, AnswersRise}
-use Rattle.optimistic_get.specs.Gets.{TriesMade, FailsMore, Answered}
-use Rattle.optimistic_get.specs.Gets.{Answers as GetAnswers}
-use Rattle.mica_replay.specs.Answered.{IsReadAt, IsRead, IsNotAgain, line_of}
+use Rattle.optimistic_get.specs.Asked.{SeatAnswers, IsReadAt, IsRead}
+use Rattle.optimistic_get.proofs.Repeated.{no_answers, seat_further, same_answer}
+use Rattle.mica_replay.specs.Answered.{IsNotAgain, line_of}
 use Rattle.mica_replay.specs.LineNumbers.{lines_at, NamesGet}
-use Rattle.mica_replay.specs.ReaderGets.{SeatAnswers, HasRead, HaveRead, AreSeatsOf, HaveSeenMore}
+use Rattle.mica_replay.specs.ReaderGets.{HasRead, HaveRead, AreSeatsOf, HaveSeenMore}
 use Rattle.mica_trace.specs.RoundReport.{HasKind}
 use Rattle.mica_trace.proofs.ListParts.{zip-append, AllZip-append, length_zip}
 use Rattle.mica_trace.proofs.Prefixes.{prefix_same, prefix_trans}
+use Rattle.owner_queue.proofs.Lists.{set_cases}
 use Rattle.mica_replay.proofs.OwnerRuns.{some_and}
 
--- Tries
-
-pub no_answers : (old : ReaderState) → SeatAnswers old old 0
-no_answers old = record {
-  shape = refl;
-  seen = prefix_same old.seen;
-  done = refl;
-  more = [];
-  fails = sym (append-nil old.fails);
-  tried = omega arith;
-  closed = omega arith;
-}
-
-pub seat_further : (old mid new : ReaderState) (m n : ℕ) → SeatAnswers old mid m → SeatAnswers mid new n → SeatAnswers old new (m + n)
-seat_further old mid new m n one two =
-    let count = length-append one.more two.more in
-    let a = one.closed in
-    let b = two.closed in
-    let c = one.tried in
-    let d = two.tried in
-    record {
-      shape = two.shape ∙ one.shape;
-      seen = prefix_trans old.seen mid.seen new.seen one.seen two.seen;
-      done = two.done ∙ one.done;
-      more = one.more ++ two.more;
-      fails = two.fails ∙ ap (λ f. f ++ two.more) one.fails ∙ append_assoc old.fails one.more two.more;
-      tried = omega arith;
-      closed = omega arith;
-    }
-
--- What a get makes of its seat, whatever it answers: so many tries failed, and so many closed.
-seat_by : (old new : ReaderState) (b failed answers : ℕ) → TriesMade old (failed + answers) new → FailsMore old.fails new.fails b failed → new.closed ≡ old.closed + answers → SeatAnswers old new answers
-seat_by old new b failed answers made fails closed =
-    let tried = ap (λ (r : ReaderState). r.tried) made.same in
-    let count = fails.count in
-    record {
-      shape = ap (λ (r : ReaderState). r.shape) made.same;
-      seen = made.seen;
-      done = ap (λ (r : ReaderState). r.done) made.same;
-      more = fails.more;
-      fails = fails.fails;
-      tried = omega arith;
-      closed = closed;
-    }
-
--- a get that answered, after others that did not
-
-is_read_at : (old mid new : ReaderState) (b tries stamp : ℕ) (key : List ℕ) (value : Option (List ℕ)) → SeatAnswers old mid 0 → Answered mid b tries key value stamp new → IsReadAt old key stamp value new
-is_read_at old mid new b tries stamp key value one two =
-    let seat = seat_by mid new b two.failed 1 two.made two.fails two.closed in
-    record {
-      seat = seat_further old mid new 0 1 one seat;
-      answer = subst (λ (s : Shape). IsAnswerAt (options_of s) new.seen key stamp value) (seat.shape ∙ one.shape) (two.answered.stamped, sym two.answered.answered);
-    }
-
-pub is_read : (old mid new : ReaderState) (b tries : ℕ) (key : List ℕ) (got : Got) (buffer : List ℕ) → SeatAnswers old mid 0 → GetAnswers mid b tries key got buffer new
-    → ((first last : ℕ) → got ≢ Again first last) → IsRead old key got buffer new
-is_read old mid new b tries key (Hit stamp) buffer one two other = is_read_at old mid new b tries stamp key (Some buffer) one two
-is_read old mid new b tries key (Miss stamp) buffer one two other = is_read_at old mid new b tries stamp key None one two.0
-is_read old mid new b tries key (Again first last) buffer one two other = absurd (other first last refl)
-
-pub fails_again : (old mid new : ReaderState) (b tries : ℕ) (key : List ℕ) (got : Got) (buffer : List ℕ) (first last : ℕ) → SeatAnswers old mid 0 → GetAnswers mid b tries key got buffer new
-    → got ≡ Again first last → SeatAnswers old new 0
-fails_again old mid new b tries key got buffer first last one two is =
-    let it = subst (λ (g : Got). GetAnswers mid b tries key g buffer new) is two in
-    let all = it.0 in
-    let count : tries + 0 ≡ tries = omega arith in
-    seat_further old mid new 0 0 one
-    (seat_by mid new b tries 0 (subst (λ (n : ℕ). TriesMade mid n new) (sym count) all.made) all.fails (omega (arith, all.closed)))
-
 -- One get more
-
-same_answer : (options : Options) (shape : Shape) (history : History) (key : List ℕ) (stamp : ℕ) (value : Option (List ℕ)) → shape ≡ shape_of options
-    → IsAnswerAt (options_of shape) history key stamp value → IsAnswerAt options history key stamp value
-same_answer options shape history key stamp value is answer =
-    let here = subst (λ (s : Shape). IsAnswerAt (options_of s) history key stamp value) is answer in
-    (here.0 ∙ ap stamp_in (same_state options history), here.1 ∙ ap (λ (s : State). value_in s key) (same_state options history))
 
 abbrev pub LineIsRead : Options → ReaderState → List ℕ → Line → ReaderState → Type 0
 LineIsRead options old key printed new = SeatAnswers old new 1 × Answers options new.seen key printed
@@ -119,7 +44,7 @@ LineIsRead options old key printed new = SeatAnswers old new 1 × Answers option
 pub read_line : (options : Options) (old new : ReaderState) (key : List ℕ) (got : Got) (buffer : List ℕ) → old.shape ≡ shape_of options → IsRead old key got buffer new
     → LineIsRead options old key (line_of got buffer) new
 read_line options old new key (Hit stamp) buffer shape is = (is.seat, same_answer options old.shape new.seen key stamp (Some buffer) shape is.answer)
-read_line options old new key (Miss stamp) buffer shape is = (is.seat, same_answer options old.shape new.seen key stamp None shape is.answer)
+read_line options old new key (Miss stamp) buffer shape is = (is.0.seat, same_answer options old.shape new.seen key stamp None shape is.0.answer)
 read_line options old new key (Again first last) buffer shape is = absurd is
 
 pub read_kind : (op : TraceOp) (got : Got) (buffer : List ℕ) → op ≡ Get → IsKindOf op (line_of got buffer)
@@ -175,17 +100,6 @@ module _ (options : Options) (gets : List TraceLine) (found : List Line) (line :
         seat = subst (λ (n : ℕ). SeatAnswers old new n) (ap length (sym pushed)) so_far.seat;
         answers = subst (λ (l : List Pair). AnswersRise options old.seen l new.seen) (sym pushed) so_far.answers;
       }
-
-pub set_cases : {X : Type 0} (xs : List X) (p : ℕ) (x : X) (q : ℕ) (y : X) → slice_get (slice_set xs p x) q ≡ Some y → ((p ≡ q) × (x ≡ y)) ⊎ ((p ≢ q) × (slice_get xs q ≡ Some y))
-set_cases [] p x q y is = absurd (cc)
-set_cases (z ∷ xs) zero x zero y is = inl (refl, cc)
-set_cases (z ∷ xs) zero x (suc q) y is = inr ((λ same. omega arith), is)
-set_cases (z ∷ xs) (suc p) x zero y is = inr ((λ same. omega arith), is)
-set_cases (z ∷ xs) (suc p) x (suc q) y is =
-    elim (set_cases xs p x q y is) as (λ _. ((suc p ≡ suc q) × (x ≡ y)) ⊎ ((suc p ≢ suc q) × (slice_get xs q ≡ Some y))) [
-      | inl same ↦ inl (ap suc same.0, same.1)
-      | inr other ↦ inr ((λ same. other.0 (omega arith)), other.1)
-    ]
 
 pub reads_none : (options : Options) (seats : List ReaderState) → HaveRead options [] [] seats seats
 reads_none options seats = record {
@@ -246,7 +160,7 @@ shape_kept options gets found olds mids p mid seats read at =
 
 pub read_goes : (old new : ReaderState) (key : List ℕ) (got : Got) (buffer : List ℕ) → IsRead old key got buffer new → (new.shape ≡ old.shape) × IsPrefix old.seen new.seen
 read_goes old new key (Hit stamp) buffer is = (is.seat.shape, is.seat.seen)
-read_goes old new key (Miss stamp) buffer is = (is.seat.shape, is.seat.seen)
+read_goes old new key (Miss stamp) buffer is = (is.0.seat.shape, is.0.seat.seen)
 read_goes old new key (Again first last) buffer is = absurd is
 
 -- one seat has seen more than what all had

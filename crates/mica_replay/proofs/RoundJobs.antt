@@ -13,7 +13,7 @@ use Rattle.mica_replay.specs.Feeds.{jobs_for}
 use Rattle.mica_replay.specs.LineNumbers.{write_at}
 use Rattle.mica_replay.specs.RoundJobs.{jobs_from, HasFeeds}
 use Rattle.mica_replay.proofs.Feeders.{jobs_for-push}
-use Rattle.mica_replay.proofs.ReaderSteps.{set_cases}
+use Rattle.owner_queue.proofs.Lists.{set_cases}
 
 jobs_from-push : (n : ℕ) (writes : List Write) (write : Write) → jobs_from n (writes ++ write ∷ []) ≡ jobs_from n writes ++ kind.Job (record { sender = 0; ticket = n + length writes; write = write }) ∷ []
 jobs_from-push n [] write = ap (λ t. kind.Job (record { sender = 0; ticket = t; write = write }) ∷ []) (omega arith)

@@ -20,7 +20,8 @@ use Rattle.mica_replay.specs.Replies.{Reply}
 use Rattle.mica_trace.specs.RoundReport.{HasKind}
 use Rattle.mica_replay.specs.Merged.{AreEnough, HasMerged}
 use Rattle.mica_trace.proofs.ListParts.{length_zip}
-use Rattle.mica_replay.proofs.ReaderSteps.{set_cases, at_within}
+use Rattle.owner_queue.proofs.Lists.{set_cases}
+use Rattle.mica_replay.proofs.ReaderSteps.{at_within}
 use Rattle.mica_replay.proofs.OwnerRuns.{filter_map_shorter}
 use Rattle.mica_replay.proofs.MergedReport.{AreEven, kind_at, merges_sync, evens_sync, merges_write, evens_write, merges_get, evens_get}
 

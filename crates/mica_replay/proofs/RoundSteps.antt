@@ -20,7 +20,8 @@ use Rattle.mica_replay.specs.Between.{seat_of, closed_of, sum_to}
 use Rattle.mica_replay.specs.Lending.{OwnerPart, owner_part, lent_part, table_in, HaveMet}
 use Rattle.mica_replay.specs.RoundRun.{ReaderPart, reader_part, IsReadyOwnerPart, AreReady, HasMetReaders, HasRunRound}
 use Rattle.mica_replay.specs.Shares.{Each}
-use Rattle.mica_replay.proofs.ReaderSteps.{set_cases, at_within}
+use Rattle.owner_queue.proofs.Lists.{set_cases}
+use Rattle.mica_replay.proofs.ReaderSteps.{at_within}
 
 -- the first q elements have changed so, and those behind them have not changed
 pub record UpTo {X : Type 0} (R : X → X → Type 0) (q : ℕ) (olds news : List X) : Type 0 where

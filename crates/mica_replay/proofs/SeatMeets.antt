@@ -10,7 +10,8 @@ use Rattle.epoch_core.specs.Kept.{Kept}
 use Rattle.epoch_core.specs.declared.reader.ReaderState.{ReaderState}
 use Rattle.epoch_core.specs.Joins.{met_by}
 use Rattle.mica_replay.specs.Lending.{OwnerPart, MeetsSeat, HaveMet}
-use Rattle.mica_replay.proofs.ReaderSteps.{set_cases, set_same, at_within}
+use Rattle.owner_queue.proofs.Lists.{set_cases}
+use Rattle.mica_replay.proofs.ReaderSteps.{set_same, at_within}
 
 module _ {X Y : Type 0} (f : X → Y) where
   -- an element that is seen as before leaves the list as it is seen

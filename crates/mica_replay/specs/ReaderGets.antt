@@ -3,22 +3,12 @@ use Rattle.std.specs.Prelude.{◌≡◌, ℕ, ◌+◌, List, ◌++◌, length, z
 use Rattle.std.specs.List.{AllZip}
 use Rattle.mica_model.specs.declared.options.Options.{Options}
 use Rattle.mica_model.specs.History.{IsPrefix}
-use Rattle.epoch_core.specs.declared.state.Failure.{Failure}
 use Rattle.epoch_core.specs.declared.reader.ReaderState.{ReaderState}
 use Rattle.epoch_core.specs.Shape.{shape_of}
+use Rattle.optimistic_get.specs.Asked.{SeatAnswers}
 use Rattle.mica_trace.specs.declared.line.TraceLine.{TraceLine}
 use Rattle.mica_trace.specs.declared.report.Line.{Line}
 use Rattle.mica_trace.specs.RoundReport.{HasKind, pairs_in, AnswersRise}
-
--- A seat that gave so many answers: each try that did not fail gave one.
-pub record SeatAnswers (old new : ReaderState) (answers : ℕ) : Type 0 where
-  pub shape : new.shape ≡ old.shape
-  pub seen : IsPrefix old.seen new.seen
-  pub done : new.done ≡ old.done
-  pub more : List Failure
-  pub fails : new.fails ≡ old.fails ++ more
-  pub tried : new.tried ≡ old.tried + length more + answers
-  pub closed : new.closed ≡ old.closed + answers
 
 -- The gets of a partition were answered by its seat: at histories that rise from what it had seen to what it has seen.
 pub record HasRead (options : Options) (p : ℕ) (gets : List TraceLine) (found : List Line) (old new : ReaderState) : Type 0 where

@@ -1,27 +1,13 @@
 //! The owner's part of a round.
 ghost use Rattle.std.specs.Prelude.{◌≡◌, ◌≤◌, ◌<◌, ◌*◌, ℕ, true};
-ghost use Rattle.mica_model.specs.Write.{IsWrite};
-ghost use Rattle.epoch_core.specs.OwnerStep.{IsOwnerStep};
 ghost use Rattle.owner_queue.specs.Messages.{has_end};
 ghost use Rattle.mica_replay.specs.JobReplies.{RepliesToJobs};
 
 use crate::done::Done;
 use epoch_core::LendPartition;
 use mica_io::Gate;
-use mica_model::{Op, Outcome, Write};
-use owner_queue::{JobReceiver, Message};
+use owner_queue::{JobReceiver, Message, apply_write};
 use std::sync::Wait;
-
-fn apply_write<P: LendPartition>(part: &mut P, write: &Write) -> Outcome
-    requires { IsWrite write.now }
-    ensures step { IsOwnerStep (P.owner part.old) (P.owner part.new) write.now result }
-    ensures home { P.home part.new ≡ P.home part.old }
-{
-    match write.op {
-        Op::Put => part.put(write.key.bytes(), write.value.bytes()),
-        Op::Del => part.del(write.key.bytes()),
-    }
-}
 
 /// Takes jobs until the queue's end, and adds the outcome and the stamp of each at the end of `out`. It takes no
 /// memory.

@@ -4,7 +4,7 @@ ghost use Rattle.std.specs.Option.{option_copied};
 ghost use Rattle.std.specs.Vec.Iter.{into_iter_items};
 ghost use Rattle.mica_words.specs.Item.{KeyFits};
 ghost use Rattle.mica_model.specs.Options.{IsValid};
-ghost use Rattle.mica_replay.specs.Answered.{IsRead, IsNotAgain, line_of};
+ghost use Rattle.mica_replay.specs.Answered.{IsNotAgain, line_of};
 ghost use Rattle.mica_replay.specs.LineNumbers.{lines_at, NamesGet};
 ghost use Rattle.mica_replay.specs.ReaderGets.{AreSeatsOf, HaveRead, HaveSeenMore};
 
@@ -13,11 +13,10 @@ use mica_io::{Bytes, Gate, NoMemory};
 use mica_model::{ItemBuf, Options};
 use mica_trace::{Line, Trace};
 use mica_words::{key_hash, partition_of};
-use optimistic_get::{Got, get};
+use optimistic_get::{Got, ask};
 use std::alloc::Global;
 use std::marker::Model;
 use std::sync::Wait;
-use std::thread;
 use std::thread::Threads;
 use std::vec::IntoIter;
 
@@ -57,28 +56,6 @@ impl Found {
     {
         self.lines.get(number as usize)
     }
-}
-
-// Asks until there is an answer. Where all tries of a call failed, the owner may want the core to go on.
-fn ask<W: Wait, R: ReaderWords>(
-    rt: &W,
-    seat: &mut R,
-    key: &[u8],
-    tries: u32,
-    out: &mut ItemBuf,
-) -> Got
-    requires key { KeyFits key.now }
-    requires tries { 0 < tries }
-    ensures answered { IsRead (R.reader seat.old) key.now result out.new (R.reader seat.new) }
-    ensures home { R.home seat.new ≡ R.home seat.old }
-{
-    for _ in rt.forever() {
-        match get(seat, key, tries, out) {
-            Got::Again { .. } => thread::yield_now(),
-            got => return got,
-        }
-    }
-    unreachable!()
 }
 
 // The line of an answer.

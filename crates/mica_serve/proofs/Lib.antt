@@ -15,3 +15,6 @@ pub mod Among
 pub mod Beside
 pub mod PartitionTotals
 pub mod ServedBeside
+pub mod Telling
+pub mod OwnerSteps
+pub mod QueueSteps

@@ -19,7 +19,8 @@ use Rattle.epoch_core.specs.Shape.{shape_of, options_of}
 use Rattle.epoch_core.specs.OwnerState.{options_in, as_made}
 use Rattle.epoch_core.specs.OwnerStep.{IsOwnerStep}
 use Rattle.epoch_core.proofs.SameMachine.{same_state, same_may_give}
-use Rattle.mica_serve.specs.Session.{Session, Writes, ChangesOnly, IsReplyAt}
+use Rattle.owner_queue.specs.Acked.{IsReplyAt}
+use Rattle.mica_serve.specs.Session.{Session, Writes, ChangesOnly}
 use Rattle.mica_serve.specs.Solo.{Solo, StepsPartition, history_at, alone_with, sessions_in}
 use Rattle.mica_serve.proofs.Alone.{stamp_grows}
 
@@ -130,7 +131,7 @@ module _ (old : Solo) (p : ℕ) (step : RunStep) (new : Solo) (h : StepsPartitio
   unfolding before after
   session = ap (λ (s : Solo). alone_with s.options (history_at s.histories p)) h.gained ∙ ap (alone_with old.options) (history_set old.histories p _ h.here)
 
-  reply : (b : Bool) → is_accepted step.outcome ≡ b → IsReplyAt old.options b after step.write step.outcome
+  reply : (b : Bool) → is_accepted step.outcome ≡ b → IsReplyAt b old.options after step.write step.outcome
   unfolding before after
   reply true is = (before, ap (λ b. before ++ cons_option (cond b (Some step.write) None) []) is, h.may)
   reply false is = subst (λ (x : History). MayGive old.options x step.write step.outcome)

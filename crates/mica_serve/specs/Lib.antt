@@ -5,6 +5,8 @@ pub mod Session
 pub mod Answering
 pub mod Served
 pub mod Beside
+pub mod QueueFront
+pub mod OwnerWork
 pub mod Solo
 pub mod Owners
 pub mod Ends

@@ -1,15 +1,20 @@
 -- What contracts see of a front before each partition, and what a request makes of it.
 use Rattle.std.specs.Prelude.{◌≡◌, ◌≢◌, ◌+◌, ◌<◌, ◌≤◌, ◌⊎◌, ◌++◌, ◌∷◌, [], ℕ, Bool, true, false, List, map, filter, length, Option, Some, None, is_some, if◌then◌else◌}
+use Rattle.atomic_table.specs.Seated.{TableId}
 use Rattle.mica_io.specs.Traffic.{Datagram}
 use Rattle.mica_model.specs.declared.options.Options.{Options}
 use Rattle.mica_model.specs.declared.write.Outcome.{Outcome}
 use Rattle.mica_model.specs.declared.write.Write.{Write}
 use Rattle.mica_model.specs.Write.{is_accepted}
-use Rattle.mica_model.specs.History.{History, IsPrefix, IsCut, MayGive}
+use Rattle.mica_model.specs.History.{History, IsPrefix, IsCut}
 use Rattle.mica_model.specs.Run.{RunStep, history_of, IsRunFrom, IsAnswerAt}
 use Rattle.batch_packets.specs.declared.batch.Batch.{Batch}
 use Rattle.batch_packets.specs.declared.batch.Request.{Request}
 use Rattle.batch_packets.specs.BatchGrammar.{SpellsBatch}
+use Rattle.owner_queue.specs.declared.message.Message.{Message}
+use Rattle.owner_queue.specs.declared.ack.Ack.{Ack}
+use Rattle.owner_queue.specs.Ends.{Queue}
+use Rattle.owner_queue.specs.Acked.{IsReplyAt}
 use Rattle.mica_serve.specs.Dealing.{Dealing, IsDealing}
 use Rattle.mica_serve.specs.Turn.{Turn, write_in, partition_in, write_reply, get_reply}
 
@@ -18,8 +23,18 @@ pub record Acknowledged : Type 0 where
   pub ticket : ℕ
   pub step : RunStep
 
--- what a front tells: the answers that it took, and how many tries its seat made, how many failed and how many answered
+-- where a front stands before an owner: the queue of its jobs, its number there and how many jobs it may send, the queue of its
+-- acknowledgements, and the table that their notes are of
+pub record Stand : Type 0 where
+  pub jobs : Queue Message
+  pub number : ℕ
+  pub most : ℕ
+  pub acks : Queue Ack
+  pub table : TableId
+
+-- what a front tells: where it stands, the answers that it took, and how many tries its seat made, how many failed and how many answered
 pub record Told : Type 0 where
+  pub stand : Stand
   pub acks : List Acknowledged
   pub tried : ℕ
   pub failed : ℕ
@@ -40,14 +55,9 @@ Sessions = ℕ → Session
 abbrev pub ChangesOnly : ℕ → Sessions → Sessions → Type 0
 ChangesOnly partition old new = (q : ℕ) → q ≢ partition → new q ≡ old q
 
--- the outcome is the machine's reply to the write that ends the history, or it is refused after the history
-abbrev pub IsReplyAt : Options → Bool → History → Write → Outcome → Type 0
-IsReplyAt options true history write outcome =
-    (before : History) × (history ≡ before ++ write ∷ []) × MayGive options before write outcome
-IsReplyAt options false history write outcome = MayGive options history write outcome
-
 -- One or more answers were taken, the last of them this one. What the seat learned with it may have made its list of failed tries longer.
 pub record TellsStep (old : Told) (step : RunStep) (new : Told) : Type 0 where
+  pub stand : new.stand ≡ old.stand
   pub more : List Acknowledged
   pub ticket : ℕ
   pub acks : new.acks ≡ old.acks ++ more ++ record { ticket = ticket; step = step } ∷ []
@@ -73,7 +83,7 @@ pub record Writes (options : Options) (is_alone : Bool) (old : Session) (step : 
   pub grows : IsPrefix old.seen new.seen
   pub cut : History
   pub at : IsCut options new.seen step.stamp cut
-  pub reply : IsReplyAt options (is_accepted step.outcome) cut step.write step.outcome
+  pub reply : IsReplyAt (is_accepted step.outcome) options cut step.write step.outcome
   pub done : IsPrefix old.done new.done
   pub ended : IsPrefix cut new.done
   pub order : old.last ≤ step.stamp

@@ -10,12 +10,15 @@ mod deal;
 mod end;
 mod front;
 mod gate;
+mod owner_work;
 mod ports;
+mod queue_front;
 mod run;
 mod solo;
 
 pub use batch::serve_batch;
 pub use front::Front;
 pub use ports::{Ports, ServeFault, Totals};
+pub use queue_front::QueueFront;
 pub use run::serve;
 pub use solo::SoloFront;

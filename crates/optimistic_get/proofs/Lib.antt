@@ -6,3 +6,4 @@ pub mod Chains
 pub mod Answering
 pub mod Repeating
 pub mod Resting
+pub mod Repeated

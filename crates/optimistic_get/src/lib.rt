@@ -2,9 +2,11 @@
 //! and uses nothing that it loaded where the epoch was odd or moved.
 //!
 //! The layer above may rely on this: `Hit` and `Miss` are what the machine answers at the history that the seat
-//! has seen then (`Answers`), and `Again` comes exactly where each try failed. No call takes memory or waits.
+//! has seen then (`Answers`), and `Again` comes exactly where each try failed. No call takes memory, and `ask` alone
+//! waits: it gets again until there is an answer.
 #![tactic(auto)]
 
+mod asking;
 mod getting;
 mod looking;
 mod searching;
@@ -12,5 +14,6 @@ mod settled;
 mod trying;
 mod wanted;
 
+pub use asking::ask;
 pub use getting::{Got, get};
 pub use settled::get_settled;

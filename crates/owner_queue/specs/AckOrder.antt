@@ -2,28 +2,30 @@
 use Rattle.std.specs.Prelude.{◌≡◌, ℕ, ◌<◌, ◌≤◌, true, List, [], All, refl}
 use Rattle.atomic_table.specs.Seated.{TableId}
 use Rattle.mica_model.specs.Write.{is_accepted}
+use Rattle.epoch_core.specs.declared.shape.Shape.{Shape}
 use Rattle.epoch_core.specs.ReaderState.{newcomer}
 use Rattle.partition_table.specs.declared.reader.Note.{Note}
 use Rattle.partition_table.specs.declared.rule.View.TheVariants.{Reads}
 use Rattle.partition_table.specs.Rule.{no_shape}
 use Rattle.owner_queue.specs.declared.ack.Ack.{Ack}
-use Rattle.partition_table.specs.Seats.{note_home}
+use Rattle.partition_table.specs.Seats.{note_state, note_home}
 
 -- a queue of acknowledgements has one sender
 abbrev pub only_sender : Ack → ℕ
 only_sender ack = 0
 
--- An acknowledgement may follow others: its note is of the queue's table, its ticket is above theirs, and its stamp is at least theirs,
--- and above them where its write was accepted.
-pub record AckMayFollow (table : TableId) (before : List Ack) (ack : Ack) : Type 0 where
+-- An acknowledgement may follow others: its note is of the queue's table and its shape, its ticket is above theirs, and its stamp is at
+-- least theirs, and above them where its write was accepted.
+pub record AckMayFollow (table : TableId) (shape : Shape) (before : List Ack) (ack : Ack) : Type 0 where
   pub note : note_home ack.note ≡ table
+  pub same : (note_state ack.note).shape ≡ shape
   pub ticket : All (λ b. b.ticket < ack.ticket) before
   pub stamp : All (λ b. b.stamp ≤ ack.stamp) before
   pub accepted : is_accepted ack.outcome ≡ true → All (λ b. b.stamp < ack.stamp) before
 
 -- the same, at the table of another note
 abbrev pub AckMayFollowAt : Note → List Ack → Ack → Type 0
-AckMayFollowAt note before ack = AckMayFollow (note_home note) before ack
+AckMayFollowAt note before ack = AckMayFollow (note_home note) (note_state note).shape before ack
 
 -- a note of no table
 abbrev pub no_note : Note

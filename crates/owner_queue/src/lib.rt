@@ -6,6 +6,7 @@
 
 mod ack;
 mod acks;
+mod applying;
 mod jobs;
 mod message;
 mod moves;
@@ -13,5 +14,6 @@ mod rule;
 
 pub use ack::Ack;
 pub use acks::{AckReceiver, AckSender, ack_queue};
+pub use applying::apply_write;
 pub use jobs::{JobReceiver, JobSender, JobSenders, job_queue};
 pub use message::{Job, Message};

@@ -8,7 +8,7 @@ use Rattle.owner_queue.proofs.acks.AckReceiver.recv.Goals as goal
 
 pub returns-clause-order : goal.returns-clause-order
 returns-clause-order g c =
-    subst (λ (y : AckBox). AckMayFollow y.table y.list c.take.result) c.self.view_is
+    subst (λ (y : AckBox). AckMayFollow y.table y.shape y.list c.take.result) c.self.view_is
     (follows_all (known c.self.inside.pass).terms (known c.self.inside.pass).taken c.take.result c.take.ensures.order)
 
 pub returns-clause-acked : goal.returns-clause-acked

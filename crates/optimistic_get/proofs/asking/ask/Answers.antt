@@ -1,6 +1,6 @@
 use Rattle.std.proofs.Common.{◌∙◌}
-use Rattle.mica_replay.proofs.ReaderSteps.{is_read, fails_again}
-use Rattle.mica_replay.proofs.reader.ask.Goals as goal
+use Rattle.optimistic_get.proofs.Repeated.{is_read, fails_again}
+use Rattle.optimistic_get.proofs.asking.ask.Goals as goal
 
 pub returns-in_default : goal.returns-in_default
 returns-in_default g c = record {

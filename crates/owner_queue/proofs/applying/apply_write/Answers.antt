@@ -3,7 +3,7 @@ use Rattle.mica_model.specs.declared.write.Op.TheVariants.{Put}
 use Rattle.mica_model.specs.declared.write.Write.{Write}
 use Rattle.mica_model.specs.Write.{write_of}
 use Rattle.epoch_core.specs.OwnerStep.{IsOwnerStep}
-use Rattle.mica_replay.proofs.owner.apply_write.Goals as goal
+use Rattle.owner_queue.proofs.applying.apply_write.Goals as goal
 
 pub returns-in-Put-clause-step : goal.returns-in-Put-clause-step
 returns-in-Put-clause-step g c =

@@ -1,6 +1,6 @@
 use Rattle.std.proofs.Common.{◌≡◌}
-use Rattle.mica_replay.specs.ReaderGets.{SeatAnswers}
-use Rattle.mica_replay.proofs.reader.ask.Given as goal
+use Rattle.optimistic_get.specs.Asked.{SeatAnswers}
+use Rattle.optimistic_get.proofs.asking.ask.Given as goal
 
 abbrev pub invariant-loop : goal.invariant-loop
 invariant-loop g l = record {
