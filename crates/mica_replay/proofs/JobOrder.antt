@@ -1,22 +1,19 @@
 -- The jobs of a round stand in an order that their senders may send them in.
-use Rattle.std.proofs.Common.{◌≡◌, ℕ, zero, suc, ◌+◌, ◌<◌, ◌≤◌, ◌==◌, List, [], ◌∷◌, ◌++◌, length, map, filter, slice_get, Some, None, refl, sym, ap, ◌∙◌, subst, arith, cond, true, false, eq-eqb, ne_eqb, length-append, ⊎_elim}
+use Rattle.std.proofs.Common.{◌≡◌, ℕ, suc, ◌+◌, ◌<◌, ◌≤◌, ◌==◌, List, [], ◌∷◌, ◌++◌, length, map, filter, slice_get, Some, None, refl, sym, ap, ◌∙◌, subst, arith, cond, true, false, eq-eqb, ne_eqb, length-append, ⊎_elim}
 use Rattle.std.specs.List.{list_any, cons_option, AllByRecursion}
 use Rattle.std.specs.Vec.Iter.{into_iter_items}
 use Rattle.std.proofs.lemmas.List.{map-append}
 use Rattle.std.proofs.lemmas.Bool.{cases_lt}
 use Rattle.std.proofs.lemmas.List.Elements.{filter-append, All-from_recursion}
 use Rattle.mica_words.proofs.Hashes.{partition_of-below}
-use Rattle.mica_words.specs.Packing.{AreBytes}
 use Rattle.mica_model.specs.declared.options.Options.{Options}
 use Rattle.mica_model.specs.declared.write.Write.{Write}
 use Rattle.mica_model.specs.Options.{IsValid}
-use Rattle.mica_model.specs.declared.write.Op.TheVariants.{Put as PutOp, Del as DelOp}
-use Rattle.mica_model.specs.Write.{IsWrite, write_of}
-use Rattle.mica_trace.specs.declared.line.TraceOp.{TraceOp}
-use Rattle.mica_trace.specs.declared.line.TraceOp.TheVariants.{Put, Del, Get, Sync}
+use Rattle.mica_model.specs.Write.{IsWrite}
 use Rattle.mica_trace.specs.declared.line.TraceLine.{TraceLine}
-use Rattle.mica_trace.specs.TraceGrammar.{HasFields, IsTraceLine}
+use Rattle.mica_trace.specs.TraceGrammar.{IsTraceLine}
 use Rattle.mica_trace.specs.Rounds.{partition_in, is_in_partition, write_by, writes_of}
+use Rattle.mica_trace.proofs.ReportStamps.{line_write}
 use Rattle.owner_queue.specs.declared.message.Message.{Message}
 use Rattle.owner_queue.specs.declared.message.Message.TheVariants as kind
 use Rattle.owner_queue.specs.Messages.{sender_of, ticket_of, is_end, IsFit, writes_in}
@@ -28,25 +25,6 @@ use Rattle.mica_replay.specs.RoundJobs.{jobs_from}
 use Rattle.mica_replay.proofs.ReaderSteps.{at_within}
 
 -- Each write of a trace line fits.
-
-low_bytes : (bytes : List ℕ) → AllByRecursion (λ x. x ≤ 126) bytes → AreBytes bytes
-low_bytes [] all k = omega arith
-low_bytes (x ∷ bytes) all zero = let low = all.0 in omega arith
-low_bytes (x ∷ bytes) all (suc k) = low_bytes bytes all.1 k
-
-visible : (low : ℕ) (bytes : List ℕ) → AllByRecursion (λ x. (low ≤ x) × (x ≤ 126)) bytes → AllByRecursion (λ x. x ≤ 126) bytes
-visible low [] all = tt
-visible low (x ∷ bytes) all = (all.0.1, visible low bytes all.1)
-
-line_write : (op : TraceOp) (key value : List ℕ) (write : Write) → HasFields op key value → write_by op key value ≡ Some write → IsWrite write
-line_write Put key value write fields is =
-    let e : write_of PutOp key value ≡ write = cc in
-    subst IsWrite e (record { key = fields.0.0; key_bytes = low_bytes key (visible 33 key fields.0.1); value = fields.1.0; value_bytes = low_bytes value (visible 32 value fields.1.1) })
-line_write Del key value write fields is =
-    let e : write_of DelOp key value ≡ write = cc in
-    subst IsWrite e (record { key = fields.0.0; key_bytes = low_bytes key (visible 33 key fields.0.1); value = fields.1; value_bytes = subst AreBytes (sym fields.1) (low_bytes [] tt) })
-line_write Get key value write fields is = absurd (cc)
-line_write Sync key value write fields is = absurd (cc)
 
 writes_fit : (options : Options) (p : ℕ) (lines : List TraceLine) → AllByRecursion IsTraceLine lines → AllByRecursion IsWrite (writes_of options p lines)
 writes_fit options p [] all = tt

@@ -2,23 +2,26 @@
 use Rattle.std.specs.Prelude.{◌≡◌, ℕ, ◌<◌, ◌≤◌, List, take, slice_get, Option, Some, None, if◌then◌else◌}
 use Rattle.std.specs.List.{filter_map, zip, AllZip}
 use Rattle.mica_model.specs.declared.options.Options.{Options}
-use Rattle.mica_model.specs.declared.write.Op.TheVariants.{Put as PutOp, Del as DelOp}
+use Rattle.mica_model.specs.declared.write.Op.{Op}
 use Rattle.mica_model.specs.declared.write.Write.{Write}
 use Rattle.mica_model.specs.History.{History}
 use Rattle.mica_model.specs.Run.{RunStep, IsRun, history_of, IsAnswerAt}
 use Rattle.mica_trace.specs.declared.line.TraceOp.{TraceOp}
-use Rattle.mica_trace.specs.declared.line.TraceOp.TheVariants.{Put, Del, Get, Sync}
+use Rattle.mica_trace.specs.declared.line.TraceOp.TheVariants.{Get, Sync}
 use Rattle.mica_trace.specs.declared.line.TraceLine.{TraceLine}
 use Rattle.mica_trace.specs.declared.report.Line.{Line}
 use Rattle.mica_trace.specs.declared.report.Line.TheVariants.{Wrote, Hit, Miss, Sync as SyncLine}
 use Rattle.mica_trace.specs.ReportGrammar.{IsReportLine}
 pub use Rattle.mica_trace.specs.ReportGrammar.{stamp_in}
-use Rattle.mica_trace.specs.Rounds.{partition_in, is_in_partition, write_by, round_of, round_begin, round_end, reader_of}
+use Rattle.mica_trace.specs.Rounds.{partition_in, is_in_partition, op_of, write_by, round_of, round_begin, round_end, reader_of}
 
--- the kind of report line that an operation has
+abbrev pub IsReplyTo : Option Op → Op → Type 0
+IsReplyTo None replied = ⊥
+IsReplyTo (Some asked) replied = replied ≡ asked
+
+-- the kind of report line that an operation has: a write has its reply, a get its answer, and a sync a sync
 abbrev pub IsKindOf : TraceOp → Line → Type 0
-IsKindOf Put (Wrote op outcome stamp) = op ≡ PutOp
-IsKindOf Del (Wrote op outcome stamp) = op ≡ DelOp
+IsKindOf op (Wrote replied outcome stamp) = IsReplyTo (op_of op) replied
 IsKindOf Get (Hit stamp value) = Unit {0}
 IsKindOf Get (Miss stamp) = Unit {0}
 IsKindOf Sync SyncLine = Unit {0}

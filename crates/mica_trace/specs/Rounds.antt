@@ -1,8 +1,9 @@
 -- The rounds of a trace, which its syncs part, and the writes of its partitions.
-use Rattle.std.specs.Prelude.{ℕ, zero, suc, ◌%◌, ◌==◌, Bool, true, false, List, [], ◌∷◌, length, take, count_by, Option, Some, None, if◌then◌else◌}
+use Rattle.std.specs.Prelude.{ℕ, zero, suc, ◌%◌, ◌==◌, Bool, true, false, List, [], ◌∷◌, length, take, count_by, Option, Some, None, option_map, if◌then◌else◌}
 use Rattle.std.specs.List.{filter_map}
 use Rattle.mica_words.specs.Hash.{partition_of}
 use Rattle.mica_model.specs.declared.options.Options.{Options}
+use Rattle.mica_model.specs.declared.write.Op.{Op}
 use Rattle.mica_model.specs.declared.write.Op.TheVariants.{Put as PutOp, Del as DelOp}
 use Rattle.mica_model.specs.declared.write.Write.{Write}
 use Rattle.mica_model.specs.Write.{write_of}
@@ -21,11 +22,16 @@ lines_before [] round = []
 lines_before (line ∷ lines) zero = []
 lines_before (line ∷ lines) (suc round) = line ∷ lines_before lines (if is_sync line then round else suc round)
 
+-- what an operation does with its key, where it is a write
+abbrev pub op_of : TraceOp → Option Op
+op_of Put = Some PutOp
+op_of Del = Some DelOp
+op_of Get = None
+op_of Sync = None
+
+-- the write that an operation is, where it is one
 abbrev pub write_by : TraceOp → List ℕ → List ℕ → Option Write
-write_by Put key value = Some (write_of PutOp key value)
-write_by Del key value = Some (write_of DelOp key value)
-write_by Get key value = None
-write_by Sync key value = None
+write_by op key value = option_map (λ does. write_of does key value) (op_of op)
 
 -- the partition of a line's key
 abbrev pub partition_in : Options → TraceLine → ℕ
