@@ -1,6 +1,6 @@
 //! Gets between whose loads an owner's writes happen, at every cut, judged by the plain machine at the carried stamp.
 
-use crate::scripts::{Judge, Script, count_events, expect_at_cuts};
+use crate::scripts::{Judge, MOST_EVENTS, Script, count_events, expect_at_cuts};
 use mica_model::{Mode, Op, Options};
 use std::alloc::AllocGlobal;
 use std::process::Abort;
@@ -32,6 +32,7 @@ const STORE: Options = Options {
 fn expect_every_cut(rt: &(impl Abort + AllocGlobal), script: Script<'_>) -> Result<(), Fail> {
     let mut judge = Judge::new(rt, script)?;
     let count = count_events(rt, script)?;
+    assert!(rt; count < MOST_EVENTS);
     for first in 0..count + 1 {
         for then in first..count + 1 {
             for loads in 1..26 {

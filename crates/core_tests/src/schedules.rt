@@ -1,7 +1,7 @@
 //! Four scripts, and gets of one try after each number of their events, judged by the plain machine at the carried
 //! stamp.
 
-use crate::scripts::{Judge, Script, count_events, expect_at_cuts};
+use crate::scripts::{Judge, MOST_EVENTS, Script, count_events, expect_at_cuts};
 use mica_model::{Mode, Op, Options};
 use std::alloc::AllocGlobal;
 use std::process::Abort;
@@ -30,7 +30,12 @@ fn expect_after(
     count: usize,
 ) -> Result<(), Fail> {
     for loads in 1..LOADS + 1 {
-        expect_at_cuts(rt, script, judge, (first, loads, count.min(first.saturating_add(1))))?;
+        expect_at_cuts(
+            rt,
+            script,
+            judge,
+            (first, loads, count.min(first.saturating_add(1))),
+        )?;
         expect_at_cuts(rt, script, judge, (first, loads, count))?;
     }
     Ok(())
@@ -40,6 +45,7 @@ fn expect_after(
 fn expect_script(rt: &(impl Abort + AllocGlobal), script: Script<'_>) -> Result<(), Fail> {
     let mut judge = Judge::new(rt, script)?;
     let count = count_events(rt, script)?;
+    assert!(rt; count < MOST_EVENTS);
     for first in 0..count + 1 {
         expect_after(rt, script, &mut judge, first, count)?;
     }

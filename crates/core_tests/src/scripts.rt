@@ -45,6 +45,9 @@ pub(crate) struct Judge {
 /// Room for the events of each script, and for one more.
 const ROOM: u32 = 512;
 
+/// More than the events of any script here.
+pub(crate) const MOST_EVENTS: usize = 1_000;
+
 fn apply<P: Partition>(
     rt: &impl Abort,
     alloc: Global,
@@ -84,12 +87,7 @@ fn stored_words(rt: &(impl Abort + AllocGlobal), script: Script<'_>) -> Result<P
     }
 }
 
-fn known_at(
-    alloc: Global,
-    stamp: u64,
-    answer: Answer,
-    out: &ItemBuf,
-) -> Result<Known, NoMemory> {
+fn known_at(alloc: Global, stamp: u64, answer: Answer, out: &ItemBuf) -> Result<Known, NoMemory> {
     let value = Vec::from_slice(alloc, out.value())?;
     Ok(Known {
         stamp,
@@ -99,10 +97,7 @@ fn known_at(
 }
 
 // What the machine of cache mode answers after each of the writes.
-fn cache_answers(
-    rt: &(impl Abort + AllocGlobal),
-    script: Script<'_>,
-) -> Result<Vec<Known>, Fail> {
+fn cache_answers(rt: &(impl Abort + AllocGlobal), script: Script<'_>) -> Result<Vec<Known>, Fail> {
     let alloc = rt.alloc();
     assert!(rt; script.options.is_valid() && script.options.mode == Mode::Cache);
     let mut machine = CacheMachine::new(alloc, &script.options)?;
@@ -121,10 +116,7 @@ fn cache_answers(
 }
 
 // What the machine of store mode answers after each of the writes.
-fn store_answers(
-    rt: &(impl Abort + AllocGlobal),
-    script: Script<'_>,
-) -> Result<Vec<Known>, Fail> {
+fn store_answers(rt: &(impl Abort + AllocGlobal), script: Script<'_>) -> Result<Vec<Known>, Fail> {
     let alloc = rt.alloc();
     assert!(rt; script.options.is_valid() && script.options.mode == Mode::Store);
     let mut machine = StoreMachine::new(alloc, &script.options)?;
@@ -144,17 +136,14 @@ fn store_answers(
 
 // Whether the machine gave this answer at this stamp.
 fn is_known(known: &[Known], stamp: u64, answer: Answer, value: &[u8]) -> bool {
-    known
-        .iter()
-        .any(|one| one.stamp == stamp && one.answer == answer && one.value.as_slice() == value)
+    known.iter().any(|one| one.stamp == stamp
+        && one.answer == answer
+        && one.value.as_slice() == value)
 }
 
 impl Judge {
     /// The answers of the plain machine, and no answer that came.
-    pub(crate) fn new(
-        rt: &(impl Abort + AllocGlobal),
-        script: Script<'_>,
-    ) -> Result<Judge, Fail> {
+    pub(crate) fn new(rt: &(impl Abort + AllocGlobal), script: Script<'_>) -> Result<Judge, Fail> {
         let known = match script.options.mode {
             Mode::Cache => cache_answers(rt, script)?,
             Mode::Store => store_answers(rt, script)?,
@@ -214,7 +203,7 @@ pub(crate) fn count_events(
     script: Script<'_>,
 ) -> Result<usize, Fail> {
     let count = stored_words(rt, script)?.events().len();
-    assert!(rt; 16 <= count && count < ROOM as usize);
+    assert!(rt; count < ROOM as usize);
     Ok(count)
 }
 
