@@ -1,0 +1,14 @@
+use Rattle.std.proofs.Common.{◌≡◌, ◌++◌, length, map}
+use Rattle.std.specs.Vec.Iter.{into_iter_items}
+use Rattle.mica_serve.proofs.LentParts.{LendsTo}
+use Rattle.mica_serve.proofs.opening.open_owner.Given as goal
+
+abbrev pub invariant-loop-sender : goal.invariant-loop-sender
+invariant-loop-sender g l = record {
+  at : l.at ≡ length l.yielded;
+  left : l.fn.list.items ≡ l.yielded ++ into_iter_items l.sender-iterator;
+  state : g.P.Partition.owner l.part ≡ g.P.Partition.owner l.initial.part;
+  home : g.P.Partition.home l.part ≡ g.P.Partition.home l.initial.part;
+  lends : LendsTo l.most (g.P.Partition.owner l.initial.part) (g.P.Partition.home l.initial.part) l.jobs l.at l.acks.items
+      (map (λ own. own.items) l.initial.hands.items) (map (λ own. own.items) l.hands.items);
+}
