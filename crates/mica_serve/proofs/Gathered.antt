@@ -230,7 +230,7 @@ module _ (options : Options) (batches : ℕ) where
         taken.shapes,
         λ i b a is is' scripted.
             let r = some_at rs i (omega (arith, place_below olds i b is, run.many_before)) in
-            let t = some_at sums.0 i (omega (arith, place_below olds i b is, run.many_before, ap length sums.1, length-map rs (λ (r : FrontRun). r.answer), length-map sums.0 (λ (t : Totals). Ok {A = Totals} {E = ServeFault} t))) in
+            let t = some_at sums.0 i (omega (arith, place_below olds i b is, run.many_before, ap length sums.1, length-map rs (λ (r : FrontRun). r.answer), length-map {B = Result Totals ServeFault} sums.0 (λ (t : Totals). Ok t))) in
             let at : slice_get (map (λ (r : FrontRun). r.answer) rs) i ≡ Some r.0.answer = slice_get-map (λ (r : FrontRun). r.answer) rs i ∙ ap (option_map (λ (r : FrontRun). r.answer)) r.1 in
             let at' : slice_get (map (λ (t : Totals). Ok t) sums.0) i ≡ Some (Ok t.0) = slice_get-map (λ (t : Totals). Ok t) sums.0 i ∙ ap (option_map (λ (t : Totals). Ok t)) t.1 in
             let both = ap (λ l. slice_get l i) sums.1 in

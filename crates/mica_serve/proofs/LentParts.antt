@@ -67,7 +67,7 @@ module _ (most : ℕ) (state : OwnerState) (table : TableId) (jobs : Inbox) wher
     unsent = λ f a is. absurd (none f is);
   }
     where
-      none : (f : ℕ) {a : AckBox} → slice_get {A = AckBox} [] f ≡ Some a → ⊥
+      none : (f : ℕ) {a : AckBox} → slice_get [] f ≡ Some a → ⊥
       none zero is = cc
       none (suc f) is = cc
 

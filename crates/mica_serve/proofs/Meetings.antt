@@ -105,7 +105,7 @@ drop_whole : {X : Type 0} (xs : List X) → drop (length xs) xs ≡ []
 drop_whole [] = refl
 drop_whole (x ∷ xs) = drop_whole xs
 
-drop_one : {X : Type 0} (xs : List X) (k : ℕ) (x : X) → slice_get xs k ≡ Some x → drop k xs ≡ x ∷ drop (k + 1) xs
+drop_one : {X : Type 0} (xs : List X) (k : ℕ) (x : X) → slice_get xs k ≡ Some x → drop k xs ≡ x ∷ drop (suc k) xs
 drop_one [] zero x is = absurd (cc)
 drop_one [] (suc k) x is = absurd (cc)
 drop_one (y ∷ xs) zero x is = ap (λ z. z ∷ xs) (same_some is)
@@ -125,11 +125,11 @@ take_long (x ∷ xs) zero le = refl
 take_long (x ∷ xs) (suc n) le = ap suc (take_long xs n (omega arith))
 
 -- a list that is the first ones of another, but for its last, is the first ones too
-take_less : {X : Type 0} (xs ys : List X) (y : X) (k : ℕ) → take (k + 1) xs ≡ ys ++ y ∷ [] → length ys ≡ k → ys ≡ take k xs
+take_less : {X : Type 0} (xs ys : List X) (y : X) (k : ℕ) → take (suc k) xs ≡ ys ++ y ∷ [] → length ys ≡ k → ys ≡ take k xs
 take_less xs ys y k is long =
     sym (take_all k ys (omega arith)) ∙ sym (take-append-le k ys (y ∷ []) (omega arith)) ∙ ap (take k) (sym is) ∙ take_twice xs k
   where
-    take_twice : {X : Type 0} (xs : List X) (k : ℕ) → take k (take (k + 1) xs) ≡ take k xs
+    take_twice : {X : Type 0} (xs : List X) (k : ℕ) → take k (take (suc k) xs) ≡ take k xs
     take_twice [] zero = refl
     take_twice [] (suc k) = refl
     take_twice (x ∷ xs) zero = refl
@@ -206,9 +206,10 @@ module _ (k : ℕ) (hands : List (List FrontPart)) (olds mids : List OwnerEnd) (
     where
       new_long : (p : ℕ) (old mid new : OwnerEnd) {part : FrontPart} → MeetsPart mid new part → slice_get olds p ≡ Some old → slice_get mids p ≡ Some mid → length new.acks ≡ k
       new_long p old mid new m old_at mid_at =
-          let one = ap length m.acks ∙ length_push new.acks m.answers in
-          let two = hand_may.last p mid mid_at in
-          omega arith
+          let one : length mid.acks ≡ length new.acks + 1 = ap length m.acks ∙ length_push new.acks m.answers in
+          let two : length mid.acks ≡ k + 1 = ap length (so_far.acks p old mid old_at mid_at)
+          ∙ take_long old.acks (k + 1) (omega (arith, may.fronts p old old_at, place_below hands k own is)) in
+          omega (arith, one, two)
 
       by : (f p : ℕ) (h : List FrontPart) (part : FrontPart) (old : OwnerEnd) → slice_get hands f ≡ Some h → slice_get h p ≡ Some part → slice_get olds p ≡ Some old
           → (k < f) ⊎ (f ≤ k) → k ≤ f → HasMet f old part

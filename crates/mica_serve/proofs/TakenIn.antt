@@ -33,7 +33,7 @@ use Rattle.mica_serve.specs.Session.{Acknowledged, Stand, Told, Session}
 use Rattle.mica_serve.specs.Served.{Placed, steps_in, steps_by, history_in}
 use Rattle.mica_serve.specs.Beside.{closed_of, total_below}
 use Rattle.mica_serve.specs.QueueFront.{QueueView, IsQueueFront, IsFrontPart, queue_view, stand_of, told_by, session_of, session_or_none, sessions_of, ended_part, acknowledged_by}
-use Rattle.mica_serve.specs.OwnerWork.{DoneJob, jobs_in, job_of, placed_in, answers_to, end_of, HasServed}
+use Rattle.mica_serve.specs.OwnerWork.{DoneJob, jobs_in, job_of, placed_in, answers_to, HasServed}
 use Rattle.mica_serve.specs.Ends.{EndFacts}
 use Rattle.mica_serve.specs.FrontRuns.{FrontRun, RunsFront, RunFronts, RanAll, IsTakenIn, AreTakenIn, closed_in}
 use Rattle.mica_serve.specs.Hands.{OwnerEnd, IsNewOwner, IsLentBy, AreFrontsOf, RanOwner, MayMeet, HasMet, MayMeetAll, HaveMetAll, closed_by, closed_at, met_after}
@@ -88,7 +88,7 @@ run_as options history (step ∷ steps) run = (
 )
 
 -- the run of the owner of each partition
-placed_of : (olds news : List OwnerEnd) → AllZip RanOwner olds news → ℕ → List Placed
+abbrev placed_of : (olds news : List OwnerEnd) → AllZip RanOwner olds news → ℕ → List Placed
 placed_of [] [] z p = []
 placed_of [] (n ∷ news) z p = []
 placed_of (o ∷ olds) [] z p = []
@@ -108,11 +108,11 @@ placed_at (x ∷ olds) (y ∷ news) z zero o n is is' =
 placed_at (x ∷ olds) (y ∷ news) z (suc p) o n is is' = placed_at olds news z.1 p o n is is'
 
 module _ {D : Type 0} (batches : ℕ) (facts : D → EndFacts) where
-  run_of : (o n : FrontTask D) → FrontRan batches facts o n → FrontRun
+  abbrev pub run_of : (o n : FrontTask D) → FrontRan batches facts o n → FrontRun
   run_of o n r = record { answer = n.answer; old = sessions_of r.front.parts; new = sessions_of r.ran.new.parts; left = r.front.left; left_after = r.ran.new.left }
 
   -- what the fronts came to
-  pub runs_of : (olds news : List (FrontTask D)) → AllZip (FrontRan batches facts) olds news → List FrontRun
+  abbrev pub runs_of : (olds news : List (FrontTask D)) → AllZip (FrontRan batches facts) olds news → List FrontRun
   runs_of [] [] z = []
   runs_of [] (n ∷ news) z = []
   runs_of (o ∷ olds) [] z = []
@@ -143,7 +143,7 @@ module _ {D : Type 0} (batches : ℕ) (facts : D → EndFacts) where
   module _ (options : Options) (fronts most : ℕ) (some : 1 ≤ options.partitions) (made owners : List OwnerEnd) (views : List QueueView)
       (opened : AreFrontsOf options fronts most made views) (ran : AllZip RanOwner made owners) (olds news : List (FrontTask D)) (z : AllZip (FrontRan batches facts) olds news)
       (views_are : map (λ (t : FrontTask D). t.front) olds ≡ map (λ (v : QueueView). Some v) views) where
-    hands : List (List FrontPart)
+    abbrev pub hands : List (List FrontPart)
     hands = map (λ (t : FrontTask D). t.parts.items) news
 
     owners_long : length owners ≡ length made
@@ -225,16 +225,13 @@ module _ {D : Type 0} (batches : ℕ) (facts : D → EndFacts) where
               ∙ sym (ap (λ (b : Inbox). b.queue) q.served.queue);
           ended = q.ended f (omega (arith, senders));
           acks = λ a a_at.
-              let box : slice_get (map end_of owner.acks) f ≡ Some (end_of a) = at_map end_of owner.acks f a a_at in
-              let first : slice_get (map end_of old.acks) f ≡ Some (end_of h.first.acks) = at_map end_of old.acks f h.first.acks h.lent.answers in
-              let same : end_of a ≡ end_of h.first.acks = same_some (sym box ∙ ap (λ l. slice_get l f) q.served.ends ∙ first) in
-              ap (λ e. e.0) same ∙ sym (ap (λ (x : FrontPart). x.acks.queue) h.part_is ∙ ap (λ (s : Stand). s.acks) h.stands);
+              let sent = q.served.sent f h.first.acks a h.lent.answers a_at in
+              ap (λ (b : AckBox). b.queue) sent.same ∙ sym (ap (λ (x : FrontPart). x.acks.queue) h.part_is ∙ ap (λ (s : Stand). s.acks) h.stands);
           table = ap (λ (x : FrontPart). reader_home x.seat) h.part_is ∙ sym h.fits.whole.home ∙ ap (λ (s : Stand). s.table) h.stands ∙ ap (λ (b : AckBox). b.table) h.lent.acks
               ∙ sym q.table;
         }
 
     pub may_meet : MayMeetAll owners hands
-    unfolding hands
     may_meet = record {
       fronts = λ p owner at.
           let old = some_at made p (omega (arith, place_below owners p owner at, owners_long)) in
@@ -247,10 +244,8 @@ module _ {D : Type 0} (batches : ℕ) (facts : D → EndFacts) where
           let three = length-map views (λ (v : QueueView). v.parts) in
           let four = opened.lent.many in
           let five = length-map news (λ (t : FrontTask D). t.parts.items) in
-          let six = ap length q.served.ends in
-          let seven = length-map owner.acks end_of in
-          let eight = length-map old.0.acks end_of in
-          let nine = new.acks in
+          let six = q.served.fronts in
+          let seven = new.acks in
           omega arith;
       many = λ f own at.
           let n = map_at (λ (t : FrontTask D). t.parts.items) news f own at in
@@ -283,23 +278,20 @@ module _ {D : Type 0} (batches : ℕ) (facts : D → EndFacts) where
     }
 
     module _ (after : List OwnerEnd) (met : HaveMetAll owners after hands) where
-      runs : ℕ → List Placed
+      abbrev runs : ℕ → List Placed
       runs = placed_of made owners ran
 
       -- an owner's history is its run
       history_run : (p : ℕ) (old owner : OwnerEnd) → slice_get made p ≡ Some old → slice_get owners p ≡ Some owner → owner.state.history ≡ history_in (runs p)
-      unfolding runs
       history_run p old owner at at' =
           let q = placed_at made owners ran p old owner at at' in
           let new = opened.lent.fresh p old at in
           ap (λ (s : OwnerState). s.history) q.0.served.gained ∙ ap (λ (s : OwnerState). s.history ++ history_in (placed_in q.0.served.done)) new.state ∙ ap history_in (sym q.1)
 
       met_one : (f p : ℕ) (o n : FrontTask D) (part : FrontPart) (owner : OwnerEnd) → slice_get news f ≡ Some n → slice_get n.parts.items p ≡ Some part → slice_get owners p ≡ Some owner → HasMet f owner part
-      unfolding hands
       met_one f p o n part owner at part_at owner_at = met.met f p n.parts.items part owner (at_map (λ (t : FrontTask D). t.parts.items) news f n at) part_at owner_at
 
       taken_one : (f : ℕ) (o n : FrontTask D) (r : FrontRan batches facts o n) → slice_get olds f ≡ Some o → slice_get news f ≡ Some n → IsTakenIn options runs f (run_of o n r)
-      unfolding runs
       taken_one f o n r is is' =
           let h = held f o n r is in
           let many = length-map r.ran.new.parts (ended_part r.ran.new.number) in
@@ -326,7 +318,7 @@ module _ {D : Type 0} (batches : ℕ) (facts : D → EndFacts) where
                 let may = may_meet_one f p o n r x.2 x.0 x.1 is x.5 x.3 x.4 in
                 let box = some_at x.1.acks f (omega (arith, front_low f o is, acks_many p x.0 x.1 x.3 x.4)) in
                 let begun = m.begins box.0 box.1 in
-                let sent = q.0.served.sent f box.0 box.1 in
+                let sent = (q.0.served.sent f x.6.first.acks box.0 x.6.lent.answers box.1).answers in
                 let own : told_by x.6.last ≡ told = same_some (sym (ap (λ (y : Option FrontPart). (session_or_none y).told) x.6.last_at) ∙ told_is) in
                 let list : x.2.acks.list ≡ x.6.last.acks.list = ap (λ (y : FrontPart). y.acks.list) x.6.part_is in (
                   map (λ (a : Acknowledged). a.step) (map acknowledged_by begun.0),
@@ -362,7 +354,7 @@ module _ {D : Type 0} (batches : ℕ) (facts : D → EndFacts) where
           acks_many p old owner at at' =
               let q = zip_at RanOwner made owners p old owner ran at at' in
               let new = opened.lent.fresh p old at in
-              sym (length-map owner.acks end_of) ∙ ap length q.served.ends ∙ length-map old.acks end_of ∙ new.acks
+              q.served.fronts ∙ new.acks
 
           few_one : (f p : ℕ) (o n : FrontTask D) (r : FrontRan batches facts o n) → Held f o n r → slice_get olds f ≡ Some o → slice_get news f ≡ Some n → (last : FrontPart)
               → slice_get r.ran.new.parts p ≡ Some last → length (steps_by f (placed_of made owners ran p)) ≤ length last.jobs.sent
@@ -387,7 +379,6 @@ module _ {D : Type 0} (batches : ℕ) (facts : D → EndFacts) where
           (old.0, owner.0, new.0, old.1, owner.1, new.1, sym new.2 ∙ ap (λ (o : OwnerEnd). entry_in o.state) (met.same p owner.0 new.0 owner.1 new.1))
 
       pub taken : AreTakenIn options (runs_of olds news z) (map (λ (o : OwnerEnd). entry_in o.state) after)
-      unfolding runs hands
       taken = record {
         runs = placed_of made owners ran;
         ran = record {

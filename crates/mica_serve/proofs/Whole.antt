@@ -204,7 +204,7 @@ module _ (options : Options) (some : 1 ≤ options.partitions) (ports : PortOpti
           rel.steady (ap is_some (run.fails ∙ is))
           (λ i a at.
           let o = some_at run.olds i (omega (arith, run.many, place_below news i a at)) in
-          run.means.3 i o.0 a o.1 at (b.each i o.0 o.1).scripted ∙ (run.are_new i o.0 o.1).no_faults)
+          run.means.2.1 i o.0 a o.1 at (b.each i o.0 o.1).scripted ∙ (run.are_new i o.0 o.1).no_faults)
           ∙ run.means.1 (ap is_some is)
 
   stops : (run : BindsAndServes options ports (Err Net) kept before mid news) → HasStopped ports before after
@@ -239,10 +239,10 @@ module _ (options : Options) (some : 1 ≤ options.partitions) (ports : PortOpti
   cause (Ok totals) run = record {
     served = on_ports_then _ _ (ServesOnTables options ports totals kept)
         (λ x y z b r. all_served ports run.olds news x y z run.many run.within b r options totals kept some run.means.0
-        (run.means.4 (bound_tell ports.port run.olds x y b)))
+        (run.means.2.2 (bound_tell ports.port run.olds x y b)))
         before.ports mid.ports after.ports run.bound rel.told;
     no_fault = no_faults totals run;
-    shapes = run.means.2;
+    shapes = run.means.2.0;
   }
   cause (Err Net) run = (unkept run.means, stops run)
     where

@@ -1,4 +1,4 @@
-use Rattle.std.proofs.Common.{◌≡◌, ℕ, List, [], ◌∷◌, ◌++◌, map, length, take, slice_get, Some, sym, ap, ◌∙◌, subst, arith}
+use Rattle.std.proofs.Common.{rules, ◌≡◌, ℕ, List, [], ◌∷◌, ◌++◌, map, length, take, slice_get, Some, sym, ap, ◌∙◌, subst, arith}
 use Rattle.std.specs.Option.{option_to_list}
 use Rattle.std.specs.Prelude.{option_map}
 use Rattle.std.proofs.lemmas.List.{length-map, take_all}
@@ -48,6 +48,6 @@ loop-parts-preserved g c =
 pub returns : goal.returns
 returns g c =
     let f = λ (t : OwnerTask g.row.P.Denot). owner_end g.P.Partition.owner g.P.Partition.home t in
-    let none : length c.loop-parts.hands.items ≡ 0 = ap length (c.pop.ensures.items ∙ ap (λ o. c.pop.new.self.items ++ option_to_list o) c.in-None.is) in
+    let none : length c.loop-parts.hands.items ≡ 0 = search rules in
     fronts_all (map f c.args.owners.now.items) (map f c.loop-parts.owners.items) (map (λ own. own.items) c.args.hands.items)
     (subst (λ (n : ℕ). FrontsMetFrom n (map (λ own. own.items) c.args.hands.items) (map f c.args.owners.now.items) (map f c.loop-parts.owners.items)) none c.loop-parts.invariant.met)

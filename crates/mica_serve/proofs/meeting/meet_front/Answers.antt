@@ -1,4 +1,4 @@
-use Rattle.std.proofs.Common.{◌≡◌, ◌<◌, ℕ, [], ◌∷◌, ◌++◌, map, length, get_or, slice_get, slice_set, Some, refl, sym, ap, ◌∙◌, subst, arith}
+use Rattle.std.proofs.Common.{rules, ◌≡◌, ◌<◌, ℕ, List, [], ◌∷◌, ◌++◌, map, length, get_or, slice_get, slice_set, Some, refl, sym, ap, ◌∙◌, subst, arith}
 use Rattle.std.specs.Option.{option_to_list}
 use Rattle.std.specs.Prelude.{option_map}
 use Rattle.std.proofs.lemmas.List.{length-map, map-set, take_all}
@@ -56,7 +56,7 @@ meet-requires-clause-some g c =
     omega (arith, may.1, old.acks.ok)
 
 pub meet-requires-clause-may : goal.meet-requires-clause-may
-meet-requires-clause-may g c _ _ n long =
+meet-requires-clause-may g c n long =
     let f = λ (t : OwnerTask g.row.P.Denot). owner_end g.P.Partition.owner g.P.Partition.home t in
     let rest = c.pop.new.self.items in
     let old = c.index_mut-owner.result.now in
@@ -107,6 +107,6 @@ loop-part-preserved g c =
 pub returns : goal.returns
 returns g c =
     let f = λ (t : OwnerTask g.row.P.Denot). owner_end g.P.Partition.owner g.P.Partition.home t in
-    let none : length c.loop-part.parts.items ≡ 0 = ap length (c.pop.ensures.items) ∙ ap length (ap (λ o. c.pop.new.self.items ++ option_to_list o) c.in-None.is) in
+    let none : length c.loop-part.parts.items ≡ 0 = search rules in
     parts_all c.args.parts.items (map f c.args.owners.now.items) (map f c.loop-part.owners.items)
     (subst (λ (n : ℕ). PartsMetFrom n c.args.parts.items (map f c.args.owners.now.items) (map f c.loop-part.owners.items)) none c.loop-part.invariant.met)

@@ -7,30 +7,30 @@ use Rattle.partition_table.specs.Seats.{reader_state}
 use Rattle.owner_queue.specs.AckEnds.{AckBox, BeginsAcks}
 use Rattle.owner_queue.specs.Messages.{sent_by, has_end}
 use Rattle.mica_serve.proofs.Meetings.{last_of, get_last, same_some}
-use Rattle.mica_serve.proofs.meeting.OwnerTask.meet.Goals as goal
+use Rattle.mica_serve.proofs.worker.OwnerTask.meet.Goals as goal
 
 pub take_in-requires-clause-queue : goal.take_in-requires-clause-queue
-take_in-requires-clause-queue g c _ _ =
+take_in-requires-clause-queue g c =
     let acks = c.args.self.now.acks in
     let n = last_of acks.items (omega (arith, c.requires.some, acks.ok)) in
     (c.requires.may n.0 n.1).jobs
 
 pub take_in-requires-clause-ended : goal.take_in-requires-clause-ended
-take_in-requires-clause-ended g c _ _ =
+take_in-requires-clause-ended g c =
     let acks = c.args.self.now.acks in
     let n = last_of acks.items (omega (arith, c.requires.some, acks.ok)) in
     let may = c.requires.may n.0 n.1 in
     ap (λ (m : ℕ). has_end m c.args.self.now.jobs.taken) may.number ∙ may.ended
 
 pub take_in-requires-2 : goal.take_in-requires-2
-take_in-requires-2 g c _ _ =
+take_in-requires-2 g c =
     let rest = c.pop.new.self.items in
     let is : c.args.self.now.acks.items ≡ rest ++ c.in-Some.answers ∷ [] = c.pop.ensures.items ∙ ap (λ o. rest ++ option_to_list o) c.in-Some.is in
     let may = c.requires.may (length rest) (ap length is ∙ length_push rest c.in-Some.answers) in
     may.acks c.in-Some.answers (ap (λ l. slice_get l (length rest)) is ∙ get_last rest c.in-Some.answers)
 
 pub meet-requires : goal.meet-requires
-meet-requires g c _ _ =
+meet-requires g c =
     let acks = c.args.self.now.acks in
     let n = last_of acks.items (omega (arith, c.requires.some, acks.ok)) in
     (c.requires.may n.0 n.1).table
