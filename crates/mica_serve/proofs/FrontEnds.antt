@@ -1,7 +1,9 @@
 -- What a front came to at its end.
-use Rattle.std.proofs.Common.{◌≡◌, ℕ, true, refl, List, [], map, Some, Option, subst, sym, ap, ◌∙◌, slice_get, length, arith}
+use Rattle.std.proofs.Common.{◌≡◌, ℕ, true, refl, List, [], map, Some, None, Option, subst, sym, ap, ◌∙◌, slice_get, length, arith}
 use Rattle.std.specs.Prelude.{is_some, false, IfOk, OnOk, IsErrOf, Result, Ok, Err, IfSome, ◌*◌, ◌≤◌}
+use Rattle.std.proofs.lemmas.Bool.{true≢false}
 use Rattle.mica_io.specs.Faults.{Rose}
+use Rattle.mica_io.specs.Traffic.{Traffic}
 use Rattle.mica_model.specs.declared.options.Options.{Options}
 use Rattle.mica_serve.specs.declared.ports.Totals.{Totals}
 use Rattle.mica_serve.specs.declared.ports.ServeFault.{ServeFault}
@@ -23,3 +25,9 @@ runs_front options batches run b a keeps served stopped cause small steady = rec
     by (Ok totals) served stopped cause small steady = (small, steady, served)
     by (Err Net) served stopped cause small steady = (cause refl, stopped refl)
     by (Err NoMemory) served stopped cause small steady = tt
+
+-- an end that tells what waits at it goes on telling it
+pub tells_still : (b a : Option Traffic) → OnTraffic (λ before after. ⊤) b a → is_some b ≡ true → is_some a ≡ true
+tells_still None a on told = absurd (true≢false (sym told))
+tells_still (Some b) None on told = absurd on
+tells_still (Some b) (Some a) on told = refl

@@ -164,14 +164,14 @@ pub(crate) fn run_workers<
         workers.as_mut_slice(),
         threads,
         &|_, worker|
-            requires notes { (n : Note) → (P.noted n ≡ note_state n) × (P.note_home n ≡ note_home n) }
-            requires ready { IsReadyWorker P.owner P.home batches (λ e. record {
-              port = D.port e;
-              traffic = D.traffic e;
-              faults = D.faults e;
-              has_ended = D.has_ended e;
-              has_script = is_some (D.script e);
-            }) worker.now }
+            requires { ((n : Note) → (P.noted n ≡ note_state n) × (P.note_home n ≡ note_home n))
+                × IsReadyWorker P.owner P.home batches (λ e. record {
+                  port = D.port e;
+                  traffic = D.traffic e;
+                  faults = D.faults e;
+                  has_ended = D.has_ended e;
+                  has_script = is_some (D.script e);
+                }) worker.now }
             ensures { WorkerRan P.owner P.home batches (λ e. record {
               port = D.port e;
               traffic = D.traffic e;
@@ -231,6 +231,7 @@ fn add_owners<P: Drop, D: Drop>(owners: Vec<OwnerTask<P>>, workers: &mut Vec<Wor
 fn add_fronts<P: Drop, D: Drop>(fronts: Vec<FrontTask<D>>, workers: &mut Vec<Worker<P, D>>)
     requires room { vec_len workers.old + vec_len fronts ≤ vec_capacity workers.old }
     ensures items { workers.new.items ≡ workers.old.items ++ map Worker.Front fronts.items }
+    ensures capacity { vec_capacity workers.new ≡ vec_capacity workers.old }
 {
     for front in fronts {
         workers.push_reserved(Worker::Front(front));

@@ -14,7 +14,7 @@ loop-f-init c = subst (λ (t : Totals). SumsTo 0 c.args.answers.now false t) (sy
 pub add-requires-clause-batches : goal.add-requires-clause-batches
 add-requires-clause-batches c =
     let f = c.loop-f.f in
-    let less : f < length c.args.answers.now = omega (arith, c.loop-f-test.true, c.len-f-end.ensures) in
+    let less : f < length c.args.answers.now = omega (arith, c.loop-f-test.true) in
     let at = slice_get_read c.args.answers.now (length c.args.answers.now) f c.index-answers-f.result refl less c.index-answers-f.is in
     let small = c.requires.small f c.in-Ok.one (at ∙ ap Some c.in-Ok.is) in
     omega (arith, c.loop-f.invariant.batches, small.datagrams, c.requires.few, less)
@@ -22,7 +22,7 @@ add-requires-clause-batches c =
 pub add-requires-clause-requests : goal.add-requires-clause-requests
 add-requires-clause-requests c =
     let f = c.loop-f.f in
-    let less : f < length c.args.answers.now = omega (arith, c.loop-f-test.true, c.len-f-end.ensures) in
+    let less : f < length c.args.answers.now = omega (arith, c.loop-f-test.true) in
     let at = slice_get_read c.args.answers.now (length c.args.answers.now) f c.index-answers-f.result refl less c.index-answers-f.is in
     let small = c.requires.small f c.in-Ok.one (at ∙ ap Some c.in-Ok.is) in
     omega (arith, c.loop-f.invariant.requests, small.requests, c.requires.few, less)
@@ -30,7 +30,7 @@ add-requires-clause-requests c =
 pub add-requires-clause-bad : goal.add-requires-clause-bad
 add-requires-clause-bad c =
     let f = c.loop-f.f in
-    let less : f < length c.args.answers.now = omega (arith, c.loop-f-test.true, c.len-f-end.ensures) in
+    let less : f < length c.args.answers.now = omega (arith, c.loop-f-test.true) in
     let at = slice_get_read c.args.answers.now (length c.args.answers.now) f c.index-answers-f.result refl less c.index-answers-f.is in
     let small = c.requires.small f c.in-Ok.one (at ∙ ap Some c.in-Ok.is) in
     omega (arith, c.loop-f.invariant.refused, small.refused, c.requires.few, less)
@@ -39,7 +39,7 @@ pub loop-f-preserved : goal.loop-f-preserved
 loop-f-preserved c =
     let f = c.loop-f.f in
     let answers = c.args.answers.now in
-    let less : f < length answers = omega (arith, c.loop-f-test.true, c.len-f-end.ensures) in
+    let less : f < length answers = omega (arith, c.loop-f-test.true) in
     let at = slice_get_read answers (length answers) f c.index-answers-f.result refl less c.index-answers-f.is in
     let s = c.loop-f.invariant in
     elim c.match-answers.branch [
@@ -57,13 +57,13 @@ loop-f-preserved c =
 pub returns-then-failed : goal.returns-then-failed
 returns-then-failed c =
     let answers = c.args.answers.now in
-    let whole : c.loop-f.f ≡ length answers = omega (arith, c.loop-f-test.false, c.loop-f.auto.f-end, c.len-f-end.ensures) in
+    let whole : c.loop-f.f ≡ length answers = omega (arith, c.loop-f-test.false, c.loop-f.auto.f-end) in
     sums_fault answers c.loop-f.totals
     (subst (λ (b : Bool). SumsTo (length answers) answers b c.loop-f.totals) c.if-failed.true (subst (λ (n : ℕ). SumsTo n answers c.loop-f.failed c.loop-f.totals) whole c.loop-f.invariant))
 
 pub returns-else-failed : goal.returns-else-failed
 returns-else-failed c =
     let answers = c.args.answers.now in
-    let whole : c.loop-f.f ≡ length answers = omega (arith, c.loop-f-test.false, c.loop-f.auto.f-end, c.len-f-end.ensures) in
+    let whole : c.loop-f.f ≡ length answers = omega (arith, c.loop-f-test.false, c.loop-f.auto.f-end) in
     sums_all answers c.loop-f.totals
     (subst (λ (b : Bool). SumsTo (length answers) answers b c.loop-f.totals) c.if-failed.false (subst (λ (n : ℕ). SumsTo n answers c.loop-f.failed c.loop-f.totals) whole c.loop-f.invariant))

@@ -1,12 +1,13 @@
-use Rattle.std.proofs.Common.{◌≡◌, ◌++◌, length, map}
+use Rattle.std.proofs.Common.{◌≡◌, ◌+◌, length, map}
 use Rattle.std.specs.Vec.Iter.{into_iter_items}
 use Rattle.mica_serve.proofs.LentParts.{LendsTo}
+use Rattle.mica_serve.proofs.Opened.{AreSendersFrom}
 use Rattle.mica_serve.proofs.opening.open_owner.Given as goal
 
 abbrev pub invariant-loop-sender : goal.invariant-loop-sender
 invariant-loop-sender g l = record {
-  at : l.at ≡ length l.yielded;
-  left : l.fn.list.items ≡ l.yielded ++ into_iter_items l.sender-iterator;
+  left : AreSendersFrom l.jobs l.most l.at (into_iter_items l.sender-iterator);
+  many : length (into_iter_items l.sender-iterator) + l.at ≡ length l.initial.hands.items;
   state : g.P.Partition.owner l.part ≡ g.P.Partition.owner l.initial.part;
   home : g.P.Partition.home l.part ≡ g.P.Partition.home l.initial.part;
   lends : LendsTo l.most (g.P.Partition.owner l.initial.part) (g.P.Partition.home l.initial.part) l.jobs l.at l.acks.items
