@@ -6,7 +6,7 @@ pub mod Through
 pub mod Cut
 pub mod SoloSteps
 pub mod OneEnd
-mod Opened
+pub mod Opened
 pub mod Serving
 pub mod Binding
 pub mod Among

@@ -20,6 +20,10 @@ use Rattle.mica_serve.proofs.LentParts.{LendsTo, lends_one, lends_all, hands_non
 same_some : {X : Type 0} {x y : X} → Some x ≡ Some y → x ≡ y
 same_some is = cc
 
+pub nil_of : {X : Type 0} (xs : List X) → length xs ≡ 0 → xs ≡ []
+nil_of [] none = refl
+nil_of (x ∷ xs) none = absurd (omega arith)
+
 abbrev pub rows : List (Vec FrontPart Global) → List (List FrontPart)
 rows hands = map (λ (own : Vec FrontPart Global). own.items) hands
 
@@ -35,7 +39,7 @@ pub senders_all : (jobs : Inbox) (most n : ℕ) (all left : List Outbox) → lef
 senders_all jobs most n all left is many each p sender at =
     let at_all : slice_get all p ≡ Some sender = ap (λ (l : List Outbox). slice_get l p) (sym is) ∙ at in
     let low = place_below all p sender at_all in
-    same_some (sym at_all ∙ each p (omega (arith, low, many)))
+    same_some (sym at_all ∙ each p (omega (arith, low, many))) ∙ ap (λ n. outbox jobs.queue n most []) (omega arith)
 
 pub sender_next : (jobs : Inbox) (most at : ℕ) (left rest : List Outbox) (sender : Outbox) → left ≡ sender ∷ rest → AreSendersFrom jobs most at left → sender ≡ outbox jobs.queue at most []
 sender_next jobs most at left rest sender head are =

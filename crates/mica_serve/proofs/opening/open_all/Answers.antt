@@ -7,7 +7,7 @@ use Rattle.mica_serve.specs.QueueFront.{QueueView, queue_view}
 use Rattle.mica_serve.specs.Tasks.{owner_end}
 use Rattle.mica_serve.specs.declared.queue_front.FrontPart.{FrontPart}
 use Rattle.mica_serve.proofs.Binding.{place_below}
-use Rattle.mica_serve.proofs.Opened.{rows, parts_of, next_long, next_new, next_lent, fronts_pushed}
+use Rattle.mica_serve.proofs.Opened.{nil_of, rows, parts_of, next_long, next_new, next_lent, fronts_pushed}
 use Rattle.mica_serve.proofs.opening.open_all.Goals as goal
 
 pub new-requires-clause-many : goal.new-requires-clause-many
@@ -34,11 +34,11 @@ new-requires-clause-each g c =
 pub loop-hand-init : goal.loop-hand-init
 loop-hand-init g c =
     let f = λ (t : OwnerTask g.row.P.Denot). owner_end g.P.Partition.owner g.P.Partition.home t in
-    let left = into_iter_items c.into_iter-hand.result in
+    let left = into_iter_items c.into_iter-hand-iterator.result in
     let none = c.requires.none in
     record {
       lent = subst (λ (l : List (List FrontPart)). AreLent c.args.options.now c.args.ports.now.fronts (255 * c.args.ports.now.batches) (map f c.in_ok-owners.owners.items) l)
-          (sym (ap (λ (l : List QueueView). parts_of l ++ rows left) none ∙ ap rows c.into_iter-hand.ensures.rest)) c.in_ok-owners.ensures.lent;
+          (sym (ap (λ (l : List QueueView). parts_of l ++ rows left) none ∙ ap rows c.into_iter-hand-iterator.ensures.rest)) c.in_ok-owners.ensures.lent;
       number = sym (ap length none);
       each = λ n front at. absurd (let low = place_below c.args.fronts.now.items n front at in let long = ap length none in omega arith);
     }
@@ -72,7 +72,7 @@ returns g c =
     let f = λ (t : OwnerTask g.row.P.Denot). owner_end g.P.Partition.owner g.P.Partition.home t in
     let made = c.loop-hand.fronts.items in
     let owners = c.in_ok-owners.owners.items in
-    let none : into_iter_items c.loop-hand.hand-iterator ≡ [] = c.in-None.ensures.steps in
+    let none = nil_of (into_iter_items c.loop-hand.hand-iterator) (omega (arith, c.in-None.ensures.steps.0, c.loop-hand.hand-iterator.rest.ok)) in
     record {
       lent = subst (λ (l : List (List FrontPart)). AreLent c.args.options.now c.args.ports.now.fronts (255 * c.args.ports.now.batches) (map f owners) l)
           (ap (λ l. parts_of made ++ rows l) none ∙ append-nil (parts_of made)) i.lent;

@@ -39,7 +39,7 @@ loop-p-preserved g c =
     let owner = c.in_ok-owner.owner in
     let pushed = c.in_ok-push-2.ensures.items in
     record {
-      lent = owners_pushed c.args.options.now c.args.ports.now.fronts (255 * c.args.ports.now.batches) f c.loop-p.owners.items c.push-2.new.self.items owner
+      lent = owners_pushed c.args.options.now c.args.ports.now.fronts (255 * c.args.ports.now.batches) f c.loop-p.owners.items c.push-in-loop-p.new.self.items owner
           (rows c.loop-p.hands.items) (rows c.open_owner.new.hands.items) pushed i.lent c.in_ok-owner.ensures;
       many = ap length pushed ∙ length_push c.loop-p.owners.items owner ∙ ap (λ n. n + 1) i.many;
     }
