@@ -26,3 +26,4 @@ pub mod LentParts
 pub mod WorkerParts
 pub mod FrontEnds
 pub mod Meetings
+pub mod RunAll

@@ -42,7 +42,7 @@ use Rattle.mica_serve.proofs.Binding.{place_below}
 use Rattle.mica_serve.proofs.Gathered.{some_at}
 use Rattle.mica_serve.proofs.JobCounts.{steps_answered, few_answered, total_few}
 
-zip_at : {X Y : Type 0} (Q : X → Y → Type 0) (xs : List X) (ys : List Y) (i : ℕ) (x : X) (y : Y) → AllZip Q xs ys → slice_get xs i ≡ Some x → slice_get ys i ≡ Some y → Q x y
+pub zip_at : {X Y : Type 0} (Q : X → Y → Type 0) (xs : List X) (ys : List Y) (i : ℕ) (x : X) (y : Y) → AllZip Q xs ys → slice_get xs i ≡ Some x → slice_get ys i ≡ Some y → Q x y
 zip_at Q [] ys zero x y z is is' = absurd (cc)
 zip_at Q [] ys (suc i) x y z is is' = absurd (cc)
 zip_at Q (a ∷ xs) [] i x y z is is' = absurd z
@@ -59,16 +59,16 @@ zip_long Q (x ∷ xs) [] z = absurd z
 zip_long Q (x ∷ xs) (y ∷ ys) z = ap suc (zip_long Q xs ys z.1)
 
 -- what stands in a list at a place of its map
-map_at : {X Y : Type 0} (g : X → Y) (xs : List X) (i : ℕ) (y : Y) → slice_get (map g xs) i ≡ Some y → (x : X) × (slice_get xs i ≡ Some x) × (g x ≡ y)
+pub map_at : {X Y : Type 0} (g : X → Y) (xs : List X) (i : ℕ) (y : Y) → slice_get (map g xs) i ≡ Some y → (x : X) × (slice_get xs i ≡ Some x) × (g x ≡ y)
 map_at g [] zero y is = absurd (cc)
 map_at g [] (suc i) y is = absurd (cc)
 map_at g (x ∷ xs) zero y is = (x, refl, cc)
 map_at g (x ∷ xs) (suc i) y is = map_at g xs i y is
 
-at_map : {X Y : Type 0} (g : X → Y) (xs : List X) (i : ℕ) (x : X) → slice_get xs i ≡ Some x → slice_get (map g xs) i ≡ Some (g x)
+pub at_map : {X Y : Type 0} (g : X → Y) (xs : List X) (i : ℕ) (x : X) → slice_get xs i ≡ Some x → slice_get (map g xs) i ≡ Some (g x)
 at_map g xs i x is = slice_get-map g xs i ∙ ap (option_map g) is
 
-same_some : {X : Type 0} {x y : X} → Some x ≡ Some y → x ≡ y
+pub same_some : {X : Type 0} {x y : X} → Some x ≡ Some y → x ≡ y
 same_some is = cc
 
 -- what all elements have one at a place has
