@@ -18,7 +18,7 @@ use Rattle.mica_serve.specs.Dealing.{Dealing, turns_in}
 use Rattle.mica_serve.specs.Session.{Sessions, AnswersInOrder, count_of_writes}
 use Rattle.mica_serve.specs.Served.{Placed, Counts, has_no_turns}
 use Rattle.mica_serve.specs.Beside.{AnsweredBeside, AreServedTables}
-use Rattle.mica_serve.specs.Ends.{OnTraffic, EndFacts, KeepsEnd, TellAll, DealsWithEnd, DealsInPartWithEnd, DealsInPartWithAll, StopsEnd, StopsSome, HasNoEndFault, MeansForEnds, ServesAll, ServesFronts, ServesEnd, LeavesEnd, BeginsEnd}
+use Rattle.mica_serve.specs.Ends.{OnTraffic, EndFacts, KeepsEnd, TellAll, DealsWithEnd, DealsInPartWithEnd, DealsInPartWithAll, StopsEnd, StopsSome, HasNoEndFault, MeansForEnds, ServesAll, ServesFronts, ServesEnd, LeavesEnd, BeginsEnd, IsUpTo}
 use Rattle.mica_serve.specs.FrontRuns.{FrontRun, MeansForFront, RunsFront, RunFronts, IsTakenIn, AreTakenIn, closed_in, RanAll, sum_of_totals, SumsUp}
 use Rattle.mica_serve.proofs.Binding.{place_below}
 use Rattle.mica_serve.proofs.ServedBeside.{closed_gets}
@@ -43,6 +43,12 @@ pub some_at : {X : Type 0} (xs : List X) (i : ℕ) → i < length xs → (x : X)
 some_at [] i lt = absurd (omega arith)
 some_at (x ∷ xs) zero lt = (x, refl)
 some_at (x ∷ xs) (suc i) lt = some_at xs i (omega arith)
+
+abbrev as_ok : Totals → Result Totals ServeFault
+as_ok totals = Ok totals
+
+same_answer : {x y : Result Totals ServeFault} → Some x ≡ Some y → x ≡ y
+same_answer is = cc
 
 counts_cons : (dealings : List Dealing) (fronts : List (List Dealing)) (one totals : Totals) → Counts (dealings ∷ []) one → Counts fronts totals
     → Counts (dealings ∷ fronts) (record { batches = one.batches + totals.batches; requests = one.requests + totals.requests; bad = one.bad + totals.bad })
@@ -232,9 +238,9 @@ module _ (options : Options) (batches : ℕ) where
             let r = some_at rs i (omega (arith, place_below olds i b is, run.many_before)) in
             let t = some_at sums.0 i (omega (arith, place_below olds i b is, run.many_before, ap length sums.1, length-map rs (λ (r : FrontRun). r.answer), length-map {B = Result Totals ServeFault} sums.0 (λ (t : Totals). Ok t))) in
             let at : slice_get (map (λ (r : FrontRun). r.answer) rs) i ≡ Some r.0.answer = slice_get-map (λ (r : FrontRun). r.answer) rs i ∙ ap (option_map (λ (r : FrontRun). r.answer)) r.1 in
-            let at' : slice_get (map (λ (t : Totals). Ok t) sums.0) i ≡ Some (Ok t.0) = slice_get-map (λ (t : Totals). Ok t) sums.0 i ∙ ap (option_map (λ (t : Totals). Ok t)) t.1 in
-            let both = ap (λ l. slice_get l i) sums.1 in
-            let answer : r.0.answer ≡ Ok t.0 = cc in
+            let at' : slice_get (map as_ok sums.0) i ≡ Some (as_ok t.0) = slice_get-map as_ok sums.0 i ∙ ap (option_map as_ok) t.1 in
+            let both = ap (λ (l : List (Result Totals ServeFault)). slice_get l i) sums.1 in
+            let answer : r.0.answer ≡ as_ok t.0 = same_answer (sym at ∙ both ∙ at') in
             (subst (λ x. MeansForFront x options batches r.0 b a) answer (run.each i r.0 b a r.1 is is').means).1 scripted,
         λ tell. all_served some rs totals kept olds news run.many_before taken
             (subst (λ (t : Totals). Built rs t olds news) (sym sums.2) (built rs sums.0 olds news sums.1 run.many_before run.many_after run.each tell)),
@@ -274,3 +280,16 @@ module _ (options : Options) (batches : ℕ) where
       by : (answer : Result Totals ServeFault) → KeepsOf answer left kept → KeepsWhere answer ran.fronts kept
       by (Ok totals) same = subst (AreTakenIn options ran.fronts) (sym same) ran.taken
       by (Err fault) none = none
+
+  -- as many answers as ends, and each that counts counts no more than its front was given
+  pub few_answers : (left : List Entry) (answers : List (Result Totals ServeFault)) (olds news : List EndFacts) → RanAll options batches left answers olds news → length answers ≡ length olds
+  few_answers left answers olds news ran = ap length ran.answers_are ∙ length-map ran.fronts (λ (r : FrontRun). r.answer) ∙ sym ran.run.many_before
+
+  pub small_answers : (left : List Entry) (answers : List (Result Totals ServeFault)) (olds news : List EndFacts) → RanAll options batches left answers olds news → batches ≤ 1000000
+      → (f : ℕ) (totals : Totals) → slice_get answers f ≡ Some (Ok totals) → IsUpTo 1000000 totals
+  small_answers left answers olds news ran few f totals is =
+      let r = answer_at ran.fronts f (Ok totals) (ap (λ l. slice_get l f) (sym ran.answers_are) ∙ is) in
+      let b = some_at olds f (omega (arith, place_below ran.fronts f r.0 r.1, ran.run.many_before)) in
+      let a = some_at news f (omega (arith, place_below ran.fronts f r.0 r.1, ran.run.many_after)) in
+      let up = (subst (λ x. MeansForFront x options batches r.0 b.0 a.0) r.2 (ran.run.each f r.0 b.0 a.0 r.1 b.1 a.1).means).0 in
+      record { datagrams = omega (arith, up.datagrams, few); requests = omega (arith, up.requests, few); refused = omega (arith, up.refused, few) }

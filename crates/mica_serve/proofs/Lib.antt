@@ -27,3 +27,4 @@ pub mod WorkerParts
 pub mod FrontEnds
 pub mod Meetings
 pub mod RunAll
+pub mod Opened

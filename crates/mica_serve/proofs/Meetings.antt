@@ -124,10 +124,13 @@ take_long [] (suc n) le = absurd (omega arith)
 take_long (x ∷ xs) zero le = refl
 take_long (x ∷ xs) (suc n) le = ap suc (take_long xs n (omega arith))
 
+one_more : (k : ℕ) → k + 1 ≡ suc k
+one_more k = omega arith
+
 -- a list that is the first ones of another, but for its last, is the first ones too
-take_less : {X : Type 0} (xs ys : List X) (y : X) (k : ℕ) → take (suc k) xs ≡ ys ++ y ∷ [] → length ys ≡ k → ys ≡ take k xs
+take_less : {X : Type 0} (xs ys : List X) (y : X) (k : ℕ) → take (k + 1) xs ≡ ys ++ y ∷ [] → length ys ≡ k → ys ≡ take k xs
 take_less xs ys y k is long =
-    sym (take_all k ys (omega arith)) ∙ sym (take-append-le k ys (y ∷ []) (omega arith)) ∙ ap (take k) (sym is) ∙ take_twice xs k
+    sym (take_all k ys (omega arith)) ∙ sym (take-append-le k ys (y ∷ []) (omega arith)) ∙ ap (take k) (sym is ∙ ap (λ (n : ℕ). take n xs) (one_more k)) ∙ take_twice xs k
   where
     take_twice : {X : Type 0} (xs : List X) (k : ℕ) → take k (take (suc k) xs) ≡ take k xs
     take_twice [] zero = refl
@@ -183,7 +186,7 @@ module _ (k : ℕ) (hands : List (List FrontPart)) (olds mids : List OwnerEnd) (
         let m = meets.each p part.0 mid.0 new part.1 mid.1 new_at in
         let same = so_far.same p old mid.0 old_at mid.1 in
         let closed : mid.0.state.closed + (reader_state part.0.seat).closed ≡ old.state.closed + sum_by (closed_at p) (drop k hands) =
-        omega (arith, ap (λ (o : OwnerEnd). o.state.closed) same, ap (sum_by (closed_at p)) (drop_one hands k own is), sum_by-cons (closed_at p) own (drop (k + 1) hands), ap closed_by part.1) in
+        omega (arith, ap (λ (o : OwnerEnd). o.state.closed) same, ap (sum_by (closed_at p)) (drop_one hands k own is ∙ ap (λ (n : ℕ). own ∷ drop n hands) (sym (one_more k))), sum_by-cons (closed_at p) own (drop (k + 1) hands), ap closed_by part.1) in
         m.same ∙ (λ i. record {
           state = record {
             shape = ap (λ (o : OwnerEnd). o.state.shape) same i;

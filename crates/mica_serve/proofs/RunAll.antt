@@ -60,7 +60,7 @@ module _ {P D : Type 0} (owner : P → OwnerState) (home : P → TableId) (facts
 
   -- all may run
   pub ready : AreOpen (map facts ends) → (ws : List (Worker P D)) → ws ≡ map Owner os ++ map Front tasks → All (IsReadyWorker owner home batches facts) ws
-  ready open ws are =
+  ready opens ws are =
       subst (All (IsReadyWorker owner home batches facts)) (sym are)
       (all_ready owner home batches facts os tasks
       (All-from_recursion (λ (t : OwnerTask P). IsReadyOwner (owner_end owner home t)) os (all_places (λ (t : OwnerTask P). IsReadyOwner (owner_end owner home t)) os
@@ -73,7 +73,7 @@ module _ {P D : Type 0} (owner : P → OwnerState) (home : P → TableId) (facts
           let v = map_at (λ (v : QueueView). Some v) views f t.front here in
           let own : slice_get (map facts ends) f ≡ Some (facts t.end) =
           at_map facts ends f t.end (ap (λ l. slice_get l f) (sym ends_paired) ∙ at_map (λ (t : FrontTask D). t.end) tasks f t at) in
-          let is = open f (facts t.end) own in
+          let is = opens f (facts t.end) own in
           let left : v.0.left ≡ 255 * batches = ap (λ (w : QueueView). w.left) (opened.each f v.0 v.1) in
           record { front = v.0; front_is = sym v.2; left = omega (arith, left); unended = is.0; fresh = is.1 }
 
