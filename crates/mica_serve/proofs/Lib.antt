@@ -27,4 +27,3 @@ pub mod WorkerParts
 pub mod FrontEnds
 pub mod Meetings
 pub mod RunAll
-pub mod Opened
