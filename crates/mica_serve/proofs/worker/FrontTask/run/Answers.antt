@@ -15,10 +15,10 @@ returns g c =
       has_script = is_some (g.D.Datagrams.script e);
     } in
     let old = c.in-Some.front in
-    let new = c.serve_end.new.front in
+    let new = c.serve_end-self.new.front in
     let b = facts c.args.self.now.end in
-    let a = facts c.serve_end.new.end in
-    let served = c.serve_end.ensures in
+    let a = facts c.serve_end-self.new.end in
+    let served = c.serve_end-self.ensures in
     record {
       front = old;
       front_is = c.in-Some.is;
@@ -28,7 +28,7 @@ returns g c =
         options_are = served.options;
         stands = served.stands;
         ended = c.end.ensures.ended;
-        run = runs_front old.options c.args.batches (record { answer = c.serve_end.result; old = sessions_of old.parts; new = sessions_of new.parts; left = old.left; left_after = new.left }) b a
+        run = runs_front old.options c.args.batches (record { answer = c.serve_end-self.result; old = sessions_of old.parts; new = sessions_of new.parts; left = old.left; left_after = new.left }) b a
             (record { port = served.port; never_fall = served.never_fall; tells = tells_still b.traffic a.traffic served.tells; scripted = served.script })
             served.served served.stopped served.cause served.small served.steady;
       };
