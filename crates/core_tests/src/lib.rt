@@ -10,4 +10,10 @@ mod one_spare;
 #[cfg(test)]
 mod same_as_machine;
 #[cfg(test)]
+mod schedules;
+#[cfg(test)]
+mod scripts;
+#[cfg(test)]
+mod settled;
+#[cfg(test)]
 mod torn_get;

@@ -3,7 +3,7 @@ use Rattle.std.proofs.lemmas.List.{length-map}
 use Rattle.epoch_core.specs.Script.{NoneAbove}
 use Rattle.epoch_core.specs.Diary.{owner_event}
 use Rattle.epoch_core.specs.Seats.{diary_of}
-use Rattle.core_tests.proofs.every_cut.expect_at_cuts.Goals as goal
+use Rattle.core_tests.proofs.scripts.expect_at_cuts.Goals as goal
 
 pub new-requires-clause-few : goal.new-requires-clause-few
 new-requires-clause-few g c =
