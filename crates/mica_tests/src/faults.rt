@@ -21,46 +21,14 @@ struct Fault {
 
 const STORE: &str = "replay --mode store";
 
+const INPUT: &str = "put a 1\nsync\nget a\n";
+
+const REPORT: &str = "put 1 stored\nsync\nget 1 hit 1\n";
+
 // No call of this number is made.
 const NONE: u32 = 1_000_000;
 
-static FAULTS: [Fault; 11] = [
-    Fault {
-        words: STORE,
-        read: 3,
-        write: NONE,
-        piece: 4,
-        room: 100,
-        status: Status::ReadFault,
-        output: "read fault\n",
-    },
-    Fault {
-        words: STORE,
-        read: 1,
-        write: NONE,
-        piece: 4,
-        room: 100,
-        status: Status::ReadFault,
-        output: "read fault\n",
-    },
-    Fault {
-        words: STORE,
-        read: 20,
-        write: NONE,
-        piece: 4,
-        room: 100,
-        status: Status::ReadFault,
-        output: "read fault\n",
-    },
-    Fault {
-        words: STORE,
-        read: 21,
-        write: NONE,
-        piece: 4,
-        room: 100,
-        status: Status::Done,
-        output: "put 1 stored\nsync\nget 1 hit 1\n",
-    },
+static FAULTS: [Fault; 7] = [
     Fault {
         words: STORE,
         read: NONE,
@@ -107,7 +75,7 @@ static FAULTS: [Fault; 11] = [
         output: "read",
     },
     Fault {
-        words: "repla",
+        words: "",
         read: NONE,
         write: 1,
         piece: 4,
@@ -147,9 +115,47 @@ fn expect_fault(
 #[test]
 fn a_read_or_a_write_fails(rt: HostRuntime) -> Result<(), Fail> {
     for fault in &FAULTS {
-        expect_fault(&rt, fault, "put a 1\nsync\nget a\n")?;
+        expect_fault(&rt, fault, INPUT)?;
     }
     Ok(())
+}
+
+/// The worked trace, whose reads and writes take a byte each. One of them fails, by its number from 1.
+fn expect_turn(
+    rt: &(impl Abort + AllocGlobal + Threads + Wait + Sync),
+    read: u32,
+    write: u32,
+    status: Status,
+    output: &[u8],
+) -> Result<(), Fail> {
+    let outside = Outside {
+        source_piece: 1,
+        source_fails: &[read],
+        sink_piece: 1,
+        sink_fails: &[write],
+        room: 100,
+    };
+    expect_between(rt, &outside, STORE, INPUT.as_bytes(), status, output)
+}
+
+// Each of the 19 bytes is a read, and the end is one more.
+#[test]
+fn each_read_fails_in_turn(rt: HostRuntime) -> Result<(), Fail> {
+    for read in 1..21 {
+        expect_turn(&rt, read, NONE, Status::ReadFault, b"read fault\n")?;
+    }
+    expect_turn(&rt, 21, NONE, Status::Done, REPORT.as_bytes())
+}
+
+// Each of the 30 bytes is a write. What was written are the bytes before the one that failed.
+#[test]
+fn each_write_fails_in_turn(rt: HostRuntime) -> Result<(), Fail> {
+    let report = REPORT.as_bytes();
+    for written in 0..report.len() {
+        let write = written as u32 + 1;
+        expect_turn(&rt, NONE, write, Status::WriteFault, &report[..written])?;
+    }
+    expect_turn(&rt, NONE, 31, Status::Done, report)
 }
 
 #[test]

@@ -202,3 +202,26 @@ fn bytes_at_their_limit(rt: HostRuntime) -> Result<(), Fail> {
     expect_bytes(&rt, 16_777_216, Status::TraceRefused, b"long line 1\n")?;
     expect_bytes(&rt, 16_777_217, Status::TraceLong, b"trace too long\n")
 }
+
+const WHOLE: &[u8; 19] = b"put a 1\nsync\nget a\n";
+
+/// The first and the last length that the trace is cut to, and how its run ends. A line may lack its feed at the end.
+static PREFIXES: [(usize, usize, Status, &str); 7] = [
+    (0, 0, Status::Done, ""),
+    (1, 5, Status::TraceRefused, "bad line 1\n"),
+    (6, 8, Status::Done, "put 1 stored\n"),
+    (9, 11, Status::TraceRefused, "bad line 2\n"),
+    (12, 13, Status::Done, "put 1 stored\nsync\n"),
+    (14, 17, Status::TraceRefused, "bad line 3\n"),
+    (18, 19, Status::Done, "put 1 stored\nsync\nget 1 hit 1\n"),
+];
+
+#[test]
+fn a_trace_is_cut_at_each_byte(rt: HostRuntime) -> Result<(), Fail> {
+    for (first, last, status, output) in &PREFIXES {
+        for len in *first..*last + 1 {
+            expect_output(&rt, STORE, &WHOLE[..len], *status, output.as_bytes())?;
+        }
+    }
+    Ok(())
+}

@@ -40,7 +40,7 @@ const NONE: u32 = 1_000_000;
 
 const TOTALS: &str = "batches 1 requests 2 bad 0\n";
 
-static SERVED: [Served; 6] = [
+static SERVED: [Served; 7] = [
     Served {
         bind: NONE,
         recv: NONE,
@@ -75,6 +75,14 @@ static SERVED: [Served; 6] = [
     },
     Served {
         bind: 2,
+        recv: NONE,
+        reply: NONE,
+        status: Status::Done,
+        output: TOTALS,
+        is_replied: true,
+    },
+    Served {
+        bind: NONE,
         recv: 2,
         reply: NONE,
         status: Status::Done,
