@@ -13,8 +13,8 @@ ghost use Rattle.epoch_core.specs.Kept.{Kept};
 use crate::shape::{Shape, WordAt};
 use mica_model::Op;
 
-/// The words of a partition, in the hands of their one owner. Each method is one event, takes no memory and
-/// refuses nothing.
+/// The words of a partition, in the hands of their one owner. Each method that stores is one event; none takes memory or
+/// refuses.
 pub trait OwnerWords: Drop {
     /// The words and what they came from.
     ghost owner: { Self → OwnerState };

@@ -20,6 +20,8 @@ use Rattle.mica_trace.specs.declared.line.TraceOp.TheVariants.{Put, Del, Get, Sy
 use Rattle.mica_trace.specs.declared.line.TraceLine.{TraceLine}
 use Rattle.mica_trace.specs.TraceGrammar.{trace_text, line_text, op_text, IsKey, IsValue, IsTraceLine, is_sync, is_sync_op, sync_line, syncs_in, IsWithinLimits}
 use Rattle.mica_trace.proofs.LineLemmas.{syncs_cons}
+use Rattle.mica_trace.specs.declared.limits.TheConstants.{MAX_LINES, MAX_ROUNDS}
+use Rattle.mica_cmd.specs.declared.top.TheConstants.{MAX_SOURCE_LEN}
 use Rattle.mica_cmd.specs.declared.gen_options.GenOptions.{GenOptions}
 use Rattle.mica_cmd.specs.GenOptions.{are_in_ranges, has_room, is_valid, syncs_of, longest_text}
 use Rattle.mica_cmd.specs.Generator.{generator, word, op_by, key_number, padded, key_by, value_by, operation, ends_round, lines_at, generated}
@@ -36,9 +38,9 @@ pub record GenFacts (options : GenOptions) : Type 0 where
   pub value_high : options.value_len ≤ 1024
   pub every_low : 1 ≤ options.every
   pub shares : options.gets + options.dels ≤ 100
-  pub rounds : syncs_of options < 4096
-  pub lines : options.ops + syncs_of options ≤ 100000
-  pub bytes : longest_text options ≤ 16777216
+  pub rounds : syncs_of options < MAX_ROUNDS
+  pub lines : options.ops + syncs_of options ≤ MAX_LINES
+  pub bytes : longest_text options ≤ MAX_SOURCE_LEN
 
 both : (a b : Bool) → (a && b) ≡ true → (a ≡ true) × (b ≡ true)
 both true true is = (refl, refl)
@@ -63,9 +65,9 @@ gen_facts options is =
     let key = within _ _ _ to_key.1 in
     let value = within _ _ _ to_value.1 in
     let every = within _ _ _ to_every.1 in
-    let to_bytes = both _ (nat_le (longest_text options) 16777216) whole.1 in
-    let to_lines = both _ (nat_le (options.ops + syncs_of options) 100000) to_bytes.0 in
-    let to_rounds = both (nat_le (options.gets + options.dels) 100) (nat_lt (syncs_of options) 4096) to_lines.0 in
+    let to_bytes = both _ (nat_le (longest_text options) MAX_SOURCE_LEN) whole.1 in
+    let to_lines = both _ (nat_le (options.ops + syncs_of options) MAX_LINES) to_bytes.0 in
+    let to_rounds = both (nat_le (options.gets + options.dels) 100) (nat_lt (syncs_of options) MAX_ROUNDS) to_lines.0 in
     record {
       ops_low = ops.0;
       ops_high = ops.1;
@@ -401,7 +403,7 @@ module _ (options : GenOptions) (facts : GenFacts options) where
       subst (λ lines. length (trace_text lines) ≤ suc n * (6 + options.key_len + options.value_len) + 5 * syncs_in lines) (sym (first_more options n)) (omega arith)
 
   -- the text is no longer than a source may be
-  short_text : length (trace_text (generated options)) ≤ 16777216
+  short_text : length (trace_text (generated options)) ≤ MAX_SOURCE_LEN
   short_text =
       let some = facts.ops_low in
       let syncs = (counted_last options facts (options.ops - 1) (omega arith)).syncs_are in
@@ -409,5 +411,5 @@ module _ (options : GenOptions) (facts : GenFacts options) where
       let most = facts.bytes in
       omega arith
 
-pub text_fits : (options : GenOptions) → is_valid options ≡ true → length (trace_text (generated options)) ≤ 16777216
+pub text_fits : (options : GenOptions) → is_valid options ≡ true → length (trace_text (generated options)) ≤ MAX_SOURCE_LEN
 text_fits options valid = short_text options (gen_facts options valid)

@@ -13,7 +13,7 @@ use Rattle.mica_trace.specs.declared.line.TraceLine.{TraceLine}
 use Rattle.mica_trace.specs.declared.report.Line.{Line}
 use Rattle.mica_trace.specs.declared.report.Line.TheVariants.{Wrote, Hit, Miss, Sync}
 use Rattle.mica_trace.specs.Rounds.{partition_in}
-use Rattle.mica_trace.specs.LawfulReport.{StandsFor}
+use Rattle.mica_trace.specs.LawfulReport.{IsLineFor}
 use Rattle.mica_cmd.specs.Summary.{stamps_by, last_stamps, number_line, stamps_text}
 
 pub noted : (options : Options) (stamps : List ℕ) (line : TraceLine) (printed : Line) (op : Op) (outcome : Outcome) (stamp partition : ℕ)
@@ -47,7 +47,7 @@ stamps_whole options trace report i same whole =
     let long = length-zip trace report in
     ap (λ pairs. fold (λ stamps pair. stamps_by options stamps pair.0 pair.1) (replicate options.partitions 0) pairs) (take_all i (zip trace report) (omega arith))
 
-pub one_each : (trace : List TraceLine) (report : List Line) → AllZip StandsFor trace report → length trace ≡ length report
+pub one_each : (trace : List TraceLine) (report : List Line) → AllZip IsLineFor trace report → length trace ≡ length report
 one_each [] [] all = refl
 one_each [] (r ∷ report) all = absurd all
 one_each (l ∷ trace) [] all = absurd all

@@ -9,6 +9,7 @@ use Rattle.std.proofs.Common.{pow-suc}
 use Rattle.std.proofs.lemmas.Option.{none-some}
 use Rattle.std.specs.Int.{is_power_of_two}
 use Rattle.std.specs.Str.Parse.{digits_value}
+use Rattle.mica_model.specs.declared.options.TheConstants.{MAX_WEAR}
 use Rattle.mica_model.specs.declared.options.Options.{Options}
 use Rattle.mica_model.specs.Options.{InRange, IsValid}
 use Rattle.mica_serve.specs.declared.ports.Ports.{Ports}
@@ -95,7 +96,7 @@ replay_valid given options is =
       words = value_bounds words.name 256 1048576 65536 (given words.name) w.0 (omega arith, omega arith) w.1;
       readers = value_bounds readers.name 1 16 4 (given readers.name) r.0 (omega arith, omega arith) r.1;
       tries = value_bounds tries.name 1 1000 100 (given tries.name) t.0 (omega arith, omega arith) t.1;
-      wear = value_bounds wear.name 1 68719476736 68719476736 (given wear.name) e.0 (omega arith, omega arith) e.1;
+      wear = value_bounds wear.name 1 MAX_WEAR MAX_WEAR (given wear.name) e.0 (omega arith, omega arith) e.1;
     })
 
 -- a value that must be given lies in its range

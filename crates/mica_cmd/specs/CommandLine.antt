@@ -3,6 +3,7 @@ use Rattle.std.specs.Prelude.{◌≡◌, ⊤, ℕ, ◌&&◌, Bool, true, false, 
 use Rattle.std.specs.Int.{is_power_of_two, is_in_range}
 use Rattle.std.specs.Str.{all_ascii_digits}
 use Rattle.std.specs.Str.Parse.{digits_value}
+use Rattle.mica_model.specs.declared.options.TheConstants.{MAX_WEAR}
 use Rattle.mica_model.specs.declared.options.Options.{Options}
 use Rattle.mica_model.specs.declared.options.Mode.{Mode}
 use Rattle.mica_model.specs.declared.options.Mode.TheVariants.{Cache, Store}
@@ -85,7 +86,7 @@ abbrev pub tries : Setting ℕ
 tries = number (codes "tries") 1 1000 100
 
 abbrev pub wear : Setting ℕ
-wear = number (codes "wear") 1 68719476736 68719476736
+wear = number (codes "wear") 1 MAX_WEAR MAX_WEAR
 
 -- the options of a server: its first port, how many fronts it has, and how many datagrams each of them takes
 abbrev pub port : Setting ℕ

@@ -6,7 +6,7 @@ ghost use Rattle.mica_cmd.specs.CommandLine.{begins_number, mode, buckets, numbe
 
 use crate::GenOptions;
 use clap::ArgMatches;
-use mica_model::{Mode, Options};
+use mica_model::{MAX_WEAR, Mode, Options};
 use mica_serve::Ports;
 
 fn begins_number(text: &str) -> bool
@@ -95,7 +95,7 @@ pub fn replay_options(found: &ArgMatches<'_>) -> Option<Options>
         words: count(found, "words", 256, 1_048_576, 65_536)?,
         readers: count(found, "readers", 1, 16, 4)?,
         tries: count(found, "tries", 1, 1_000, 100)?,
-        wear: number(found, "wear", 1, 68_719_476_736, 68_719_476_736)?,
+        wear: number(found, "wear", 1, MAX_WEAR, MAX_WEAR)?,
     })
 }
 

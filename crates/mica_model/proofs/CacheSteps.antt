@@ -2,7 +2,7 @@
 use Rattle.std.proofs.Common.{◌≡◌, ℕ, zero, suc, ◌+◌, ◌*◌, ◌≤◌, ◌<◌, List, [], ◌∷◌, ◌++◌, length, get_or, Option, Some, None, Bool, true, false, cond, refl, sym, ap, ◌∙◌, subst, arith, eqb, leb, slice_set, remove, is_some}
 use Rattle.std.specs.List.{find, position, count_by, AllByRecursion as AllOf}
 use Rattle.std.proofs.lemmas.List.Quantifiers.{position-Some}
-use Rattle.std.specs.Prelude.{map, option_map}
+use Rattle.std.specs.Prelude.{map, option_map, IfSome}
 use Rattle.std.proofs.lemmas.Bool.{eq-eqb, ne_eqb, le-leb, lt-leb, and_from, and_left, and_right}
 use Rattle.std.proofs.lemmas.Option.{none-some}
 use Rattle.mica_words.specs.declared.entry.TheConstants.{SLOTS}
@@ -13,7 +13,7 @@ use Rattle.mica_model.specs.Write.{size_of}
 use Rattle.mica_model.specs.Cache.{Record, Cache, has_key, record_of, is_live, value_in}
 use Rattle.mica_model.specs.CacheStep as cs
 use Rattle.mica_model.specs.CacheStep.{is_in_bucket, without_first, kept_record, may_keep, kept_if}
-use Rattle.mica_model.specs.CacheFields.{displaced_at, displaced_record, kept_place, IsUnique}
+use Rattle.mica_model.specs.CacheFields.{displaced_at, displaced_record, kept_place, IsUnique, without_at}
 use Rattle.mica_model.proofs.Places.{removed_at, kept_all, found_at, missed_all}
 use Rattle.mica_model.proofs.CacheKept.{rewritten}
 use Rattle.mica_model.proofs.Found.{missed_all as missed_each}
@@ -28,16 +28,25 @@ module _ (options : Options) (key : List ℕ) (records : List Record) where
   abbrev left : List Record
   left = cond (eqb (count_by here records) (SLOTS + 1)) (without_first here records) records
 
-  pub displaced_goes : (at : ℕ) (d : Record) → displaced_at options key records ≡ Some at → remove records at ≡ cond (eqb (count_by (is_in_bucket options (bucket_of key options.buckets)) records) (SLOTS + 1)) (without_first (is_in_bucket options (bucket_of key options.buckets)) records) records
-  displaced_goes at d is = elim (eqb (count_by here records) (SLOTS + 1)) as (λ b. cond b (position here records) None ≡ Some at → remove records at ≡ cond b (without_first here records) records) [
+  leaves_by : (at : Option ℕ) (d : Record) → displaced_at options key records ≡ at → without_at at records ≡ left
+  leaves_by None d is = elim (eqb (count_by here records) (SLOTS + 1)) as (λ b. cond b (position here records) None ≡ None → records ≡ cond b (without_first here records) records) [
+    | true ↦ λ e. sym (kept_all here records e)
+    | false ↦ λ e. refl
+  ] is
+  leaves_by (Some at) d is = elim (eqb (count_by here records) (SLOTS + 1)) as (λ b. cond b (position here records) None ≡ Some at → remove records at ≡ cond b (without_first here records) records) [
     | true ↦ λ e. sym (removed_at here records at d e)
     | false ↦ λ e. absurd (none-some at e)
   ] is
 
-  pub displaced_none : displaced_at options key records ≡ None → records ≡ cond (eqb (count_by (is_in_bucket options (bucket_of key options.buckets)) records) (SLOTS + 1)) (without_first (is_in_bucket options (bucket_of key options.buckets)) records) records
-  displaced_none is = elim (eqb (count_by here records) (SLOTS + 1)) as (λ b. cond b (position here records) None ≡ None → records ≡ cond b (without_first here records) records) [
-    | true ↦ λ e. sym (kept_all here records e)
-    | false ↦ λ e. refl
+  pub displaced_goes : without_at (displaced_at options key records) records
+      ≡ cond (eqb (count_by (is_in_bucket options (bucket_of key options.buckets)) records) (SLOTS + 1)) (without_first (is_in_bucket options (bucket_of key options.buckets)) records) records
+  displaced_goes = leaves_by (displaced_at options key records) (record { key = key; value = []; offset = 0; room = 0 }) refl
+
+  pub displaced_within : (at : Option ℕ) → at ≡ displaced_at options key records → IfSome at (λ i. i < length records)
+  displaced_within None is = tt
+  displaced_within (Some at) is = elim (eqb (count_by here records) (SLOTS + 1)) as (λ b. Some at ≡ cond b (position here records) None → at < length records) [
+    | true ↦ λ e. (position-Some here records at (record { key = key; value = []; offset = 0; room = 0 }) (sym e)).0
+    | false ↦ λ e. absurd (none-some at (sym e))
   ] is
 
   module _ (bucket : ℕ) (is : bucket ≡ bucket_of key options.buckets) where

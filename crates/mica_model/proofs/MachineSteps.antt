@@ -6,17 +6,22 @@ use Rattle.std.specs.FinMap.{get, insert, remove}
 use Rattle.mica_words.specs.Hash.{fnv1a, bucket_of}
 use Rattle.mica_words.specs.Item.{item_size}
 use Rattle.mica_model.specs.declared.write.Op.{Op}
-use Rattle.mica_model.specs.declared.write.Op.TheVariants.{Del}
+use Rattle.mica_model.specs.declared.write.Op.TheVariants.{Put, Del}
 use Rattle.mica_model.specs.declared.write.Outcome.{Outcome}
 use Rattle.mica_model.specs.declared.write.Outcome.TheVariants.{Stored, Deleted, Absent}
 use Rattle.mica_model.specs.declared.store_machine.StoreMachine.TheInside.{Inside}
-use Rattle.mica_model.specs.Write.{write_of, is_accepted}
+use Rattle.mica_model.specs.Write.{GivesValue, write_of, is_accepted}
 use Rattle.mica_model.specs.Store.{Store, room_of, rooms, spares_in_use}
 use Rattle.mica_model.specs.StoreStep.{Allows, after}
 use Rattle.mica_model.specs.CellTable.{Table, with_cells}
 use Rattle.mica_model.specs.StoreMachineFields.{IsMachine}
 use Rattle.mica_model.specs.History.{IsStep, store_state}
 use Rattle.mica_model.proofs.StoreSteps.{put_state, put_rooms, put_spares, delete_rooms, delete_spares}
+
+-- an operation that gives no value is a delete
+pub gives_none : (op : Op) → ¬ (GivesValue op) → op ≡ Del
+gives_none Put none = absurd (none tt)
+gives_none Del none = refl
 
 -- the machine with another table, after an accepted write
 abbrev pub accepting : Inside → Table → Inside
@@ -61,7 +66,7 @@ module _ (a : Inside) (m : IsMachine a) (op : Op) (key value : List ℕ) where
     deletes : (op ≡ Del) × (is_accepted outcome ≡ true) × (¬ (a.options.wear ≤ a.accepted))
     deletes =
         ⊎_elim (λ is. let there = subst (Allows a.options (store_of a) (write_of op key value)) is allowed in (there.1.0, ap is_accepted is, there.0))
-        (λ is. let there = subst (Allows a.options (store_of a) (write_of op key value)) is allowed in (there.1.0, ap is_accepted is, there.0))
+        (λ is. let there = subst (Allows a.options (store_of a) (write_of op key value)) is allowed in (gives_none op there.1.0, ap is_accepted is, there.0))
         which
 
     pub delete_keeps : IsMachine (accepting a table)

@@ -49,7 +49,7 @@ module _ (options : Options) (s : Store) (key value : List ℕ) (alive : ¬ (IsW
   pub of_absent : get s.cells key ≡ None → (outcome : Outcome) → (outcome ≡ Absent) ↔ Allows options s (write_of Del key value) outcome
   of_absent none Stored = (λ e. cc, λ a. absurd a.1.0.0)
   of_absent none Deleted = (λ e. cc, λ a. absurd (false≢true (subst IsSome none a.1.1)))
-  of_absent none Absent = (λ e. (alive, (refl, none)), λ a. refl)
+  of_absent none Absent = (λ e. (alive, ((λ gives. gives), none)), λ a. refl)
   of_absent none FullSpare = (λ e. cc, λ a. absurd a.1.0)
   of_absent none FullBlock = (λ e. cc, λ a. absurd a.1.0.stores.0)
   of_absent none Worn = (λ e. cc, λ a. absurd (alive a))
@@ -61,7 +61,7 @@ module _ (options : Options) (s : Store) (key value : List ℕ) (alive : ¬ (IsW
   pub of_fit : FitsRoom s (write_of Put key value) → (outcome : Outcome) → (outcome ≡ Stored) ↔ Allows options s (write_of Put key value) outcome
   of_fit fits Stored = (λ e. (alive, ((tt, inl tt), inl fits)), λ a. refl)
   of_fit fits Deleted = (λ e. cc, λ a. let no : Put ≡ Del = a.1.0 in cc)
-  of_fit fits Absent = (λ e. cc, λ a. let no : Put ≡ Del = a.1.0 in cc)
+  of_fit fits Absent = (λ e. cc, λ a. absurd (a.1.0 tt))
   of_fit fits FullSpare = (λ e. cc, λ a. absurd (no_cell _ (get s.cells key) a.1.1.is_new fits))
   of_fit fits FullBlock = (λ e. cc, λ a. absurd (a.1.0.no_room fits))
   of_fit fits Worn = (λ e. cc, λ a. absurd (alive a))
@@ -69,7 +69,7 @@ module _ (options : Options) (s : Store) (key value : List ℕ) (alive : ¬ (IsW
   pub of_lack : NeedsSpare options s key → (outcome : Outcome) → (outcome ≡ FullSpare) ↔ Allows options s (write_of Put key value) outcome
   of_lack lacks Stored = (λ e. cc, λ a. ⊎_elim (λ fits. absurd (no_cell _ (get s.cells key) lacks.is_new fits)) (λ has. absurd (has.0.has_spare lacks)) a.1.1)
   of_lack lacks Deleted = (λ e. cc, λ a. let no : Put ≡ Del = a.1.0 in cc)
-  of_lack lacks Absent = (λ e. cc, λ a. let no : Put ≡ Del = a.1.0 in cc)
+  of_lack lacks Absent = (λ e. cc, λ a. absurd (a.1.0 tt))
   of_lack lacks FullSpare = (λ e. (alive, (tt, lacks)), λ a. refl)
   of_lack lacks FullBlock = (λ e. cc, λ a. absurd (a.1.0.has_spare lacks))
   of_lack lacks Worn = (λ e. cc, λ a. absurd (alive a))
@@ -78,7 +78,7 @@ module _ (options : Options) (s : Store) (key value : List ℕ) (alive : ¬ (IsW
     pub of_others : (outcome : Outcome) → outcome ≢ Stored → outcome ≢ FullBlock → ¬ (Allows options s (write_of Put key value) outcome)
     of_others Stored no_stored no_full a = no_stored refl
     of_others Deleted no_stored no_full a = let no : Put ≡ Del = a.1.0 in cc
-    of_others Absent no_stored no_full a = let no : Put ≡ Del = a.1.0 in cc
+    of_others Absent no_stored no_full a = a.1.0 tt
     of_others FullSpare no_stored no_full a = needs.has_spare a.1.1
     of_others FullBlock no_stored no_full a = no_full refl
     of_others Worn no_stored no_full a = alive a

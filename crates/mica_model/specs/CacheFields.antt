@@ -1,5 +1,6 @@
 -- The fields of the cache machine, as its methods speak of them.
-use Rattle.std.specs.Prelude.{◌≡◌, ℕ, ◌+◌, ◌==◌, Bool, List, [], ◌∷◌, Option, Some, None, is_some, find, map, fold, count_by, position, option_map, unwrap_or, bytes_eq, if◌then◌else◌}
+use Rattle.std.specs.Prelude.{◌≡◌, ℕ, ◌≤◌, ◌+◌, ◌==◌, Bool, List, [], ◌∷◌, Option, Some, None, is_some, find, remove, map, fold, count_by, position, option_map, unwrap_or, bytes_eq, if◌then◌else◌}
+use Rattle.std.specs.List.{AllByRecursion, position_or_len}
 use Rattle.std.specs.Ordering.{nat_cmp}
 use Rattle.std.specs.Cmp.Lexicographic.{slice_cmp}
 use Rattle.std.specs.BTreeMap.{is_at}
@@ -20,6 +21,20 @@ use Rattle.mica_model.specs.CacheStep.{kept_record, is_in_bucket}
 abbrev pub IsUnique : List Record → Type 0
 IsUnique [] = Unit {0}
 IsUnique (r ∷ rs) = (find (has_key r.key) rs ≡ None) × IsUnique rs
+
+-- the records' offsets rise
+abbrev pub AreRising : List Record → Type 0
+AreRising [] = Unit {0}
+AreRising (r ∷ rs) = AllByRecursion (λ later. r.offset ≤ later.offset) rs × AreRising rs
+
+-- how many records at the front a log of this many words has passed
+abbrev pub passed_front : ℕ → ℕ → List Record → ℕ
+passed_front words stamp records = position_or_len (λ held. is_live words stamp held.offset) records
+
+-- the records without the one at a place, if there is a place
+abbrev pub without_at : Option ℕ → List Record → List Record
+without_at None records = records
+without_at (Some at) records = remove records at
 
 -- where the record stands in whose room a put is kept, if it is
 abbrev pub kept_place : Options → Cache → Write → Option ℕ

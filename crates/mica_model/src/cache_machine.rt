@@ -3,7 +3,7 @@ ghost use Rattle.std.specs.Prelude.{◌≡◌, ◌↔◌, IsTrue, IfOk, OnErr, l
 ghost use Rattle.std.specs.List.{AllByRecursion};
 ghost use Rattle.mica_words.specs.Item.{KeyFits};
 ghost use Rattle.mica_model.specs.Answer.{IsAnswer};
-ghost use Rattle.mica_model.specs.CacheFields.{displaced_record, fate_written, marked_displaced, marked_passed, notes_of};
+ghost use Rattle.mica_model.specs.CacheFields.{AreRising, displaced_record, fate_written, marked_displaced, marked_passed, notes_of};
 ghost use Rattle.mica_model.specs.CacheStep.{without_displaced, without_passed};
 ghost use Rattle.mica_model.specs.Fate.{GivesNoValue, fate_of};
 ghost use Rattle.mica_model.specs.History.{MayGive, answer_of, stamp_of};
@@ -159,7 +159,8 @@ fn fate_after(outcome: Outcome, number: u64, before: Fate) -> Fate
 
 // What the log has passed goes, and then what the index displaces. The number is that of the write.
 fn drop_dead(state: &mut CacheState, fates: &mut Fates, options: &Options, key: &[u8], number: u64)
-    requires { IsValid options.now }
+    requires options { IsValid options.now }
+    requires rising { AreRising state.old.records }
     ensures state { state.new
         ≡ without_displaced options.now key.now (without_passed options.now state.old) }
     ensures fates { notes_of fates.new ≡ marked_displaced (Fate.Displaced number)
@@ -167,17 +168,19 @@ fn drop_dead(state: &mut CacheState, fates: &mut Fates, options: &Options, key: 
         (marked_passed (Fate.Passed number) options.now.words state.old.stamp state.old.records
         (notes_of fates.old)) }
 {
+    let passed = state.passed(options);
     mark_passed(
         fates,
-        state.records(),
+        &state.records()[..passed],
         options.words,
         state.stamp(),
         Fate::Passed(number),
     );
-    state.drop_passed(options);
-    if let Some(at) = state.displaced(options, key) {
+    state.drop_first(passed);
+    let displaced = state.displaced(options, key);
+    if let Some(at) = displaced {
         let record = &state.records()[at];
         fates.mark(record.key(), Fate::Displaced(number));
     }
-    state.drop_displaced(options, key);
+    state.remove(displaced);
 }

@@ -1,5 +1,6 @@
 //! A record of the cache machine.
 ghost use Rattle.std.specs.Prelude.{◌≡◌, ◌≤◌};
+ghost use Rattle.mica_words.specs.Hash.{fnv1a};
 ghost use Rattle.mica_model.specs.Cache.{has_key, is_live as is_live_at};
 ghost use Rattle.mica_model.specs.CacheStep.{is_in_bucket as is_in};
 ghost use Rattle.mica_model.specs.Options.{IsValid};
@@ -70,6 +71,13 @@ impl CacheRecord {
         ensures { result ≡ has_key key.now self.now }
     {
         self.key.bytes() == key
+    }
+
+    /// `has_key` where the key's hash is at hand, by which most keys are told apart.
+    pub fn has_key_hashed(&self, key: &[u8], hash: u64) -> bool
+        ensures { hash ≡ fnv1a key.now → result ≡ has_key key.now self.now }
+    {
+        self.hash == hash && self.has_key(key)
     }
 
     /// Whether a log of this many words has not passed it.

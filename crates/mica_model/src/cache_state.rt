@@ -1,9 +1,9 @@
 //! The state of a partition in cache mode, and the rules of a step.
-ghost use Rattle.std.specs.Prelude.{◌≡◌, ◌+◌, ◌≤◌, ◌<◌, [], ◌↔◌, IsTrue, OnOk, OnErr, is_some, option_copied, position, count_by};
+ghost use Rattle.std.specs.Prelude.{◌≡◌, ◌+◌, ◌≤◌, ◌<◌, [], ◌↔◌, IsTrue, IfSome, OnOk, OnErr, length, drop, is_some, option_copied, position, count_by, vec_len, vec_capacity};
 ghost use Rattle.mica_words.specs.Item.{KeyFits, ValueFits};
-ghost use Rattle.mica_model.specs.Cache.{start, has_key, record_of, value_in};
-ghost use Rattle.mica_model.specs.CacheFields.{IsUnique, displaced_at, kept_place};
-ghost use Rattle.mica_model.specs.CacheStep.{after_append, new_record, after_put, after_delete, after_write, reply, kept_record, without_passed, without_displaced, is_in_bucket};
+ghost use Rattle.mica_model.specs.Cache.{start, has_key, is_live, record_of, value_in};
+ghost use Rattle.mica_model.specs.CacheFields.{IsUnique, displaced_at, kept_place, passed_front, without_at};
+ghost use Rattle.mica_model.specs.CacheStep.{after_append, new_record, after_put, after_delete, after_write, reply, kept_record, is_in_bucket};
 ghost use Rattle.mica_model.specs.Limits.{most_stamp};
 ghost use Rattle.mica_model.specs.declared.options.TheConstants.{MAX_WEAR};
 ghost use Rattle.mica_model.specs.Options.{IsValid};
@@ -155,8 +155,9 @@ impl CacheState {
             OnOk result (self.new ≡ after_put (kept_record options.now self.old write) self.old write) }
         ensures err { OnErr result (self.new ≡ self.old) }
     {
-        let Some(at) = self.kept_at(options, key, value) else {
-            return self.append(alloc, key, value);
+        let found = find_record(&self.records, key);
+        let Some(at) = self.kept_at(options, found, key, value) else {
+            return self.append(alloc, found, key, value);
         };
         let value = Bytes::copy(alloc, value)?;
         let record = &mut self.records[at];
@@ -165,14 +166,21 @@ impl CacheState {
         Ok(())
     }
 
-    // The place of the record in whose room a put is kept, if it is.
-    fn kept_at(&self, options: &Options, key: &[u8], value: &[u8]) -> Option<usize>
+    // The place of the record in whose room a put is kept, if it is. The key's record stands where it was found.
+    fn kept_at(
+        &self,
+        options: &Options,
+        found: Option<usize>,
+        key: &[u8],
+        value: &[u8],
+    ) -> Option<usize>
+        requires found { found ≡ position (has_key key.now) self.now.records }
         requires key { KeyFits key.now }
         requires value { ValueFits value.now }
         requires stamp { self.now.stamp ≤ most_stamp }
         ensures { result ≡ kept_place options.now self.now (write_of Op.Put key.now value.now) }
     {
-        let at = find_record(&self.records, key)?;
+        let at = found?;
         let record = &self.records[at];
         if item_size(key.len(), value.len()) <= record.room()
             && record.is_live(options.words, self.stamp + 1)
@@ -184,10 +192,18 @@ impl CacheState {
     }
 
     // Puts a record of the key last, in the place of the one that it may have.
-    fn append(&mut self, alloc: Global, key: &[u8], value: &[u8]) -> Result<(), NoMemory>
+    fn append(
+        &mut self,
+        alloc: Global,
+        found: Option<usize>,
+        key: &[u8],
+        value: &[u8],
+    ) -> Result<(), NoMemory>
+        requires found { found ≡ position (has_key key.now) self.old.records }
         requires key { KeyFits key.now }
         requires value { ValueFits value.now }
         requires stamp { self.old.stamp ≤ most_stamp }
+        requires unique { IsUnique self.old.records }
 
         ensures ok { OnOk result
             (self.new ≡ after_append self.old (new_record self.old key.now value.now)) }
@@ -202,26 +218,38 @@ impl CacheState {
             size,
         );
         self.records.reserve(1)?;
-        self.records.retain(|held| !held.has_key(key));
+        remove_at(&mut self.records, found);
         self.records.push_reserved(record);
         self.stamp += 65536 * u64::from(size);
         Ok(())
     }
 
     fn delete(&mut self, key: &[u8])
-        requires { self.old.stamp ≤ most_stamp }
+        requires stamp { self.old.stamp ≤ most_stamp }
+        requires unique { IsUnique self.old.records }
         ensures { self.new ≡ after_delete self.old (write_of Op.Del key.now []) }
     {
-        self.records.retain(|record| !record.has_key(key));
+        let found = find_record(&self.records, key);
+        remove_at(&mut self.records, found);
         self.stamp += 1;
     }
 
-    pub fn drop_passed(&mut self, options: &Options)
-        ensures { self.new ≡ without_passed options.now self.old }
+    /// How many records the log has passed: the first so many, since their offsets rise.
+    pub fn passed(&self, options: &Options) -> usize
+        ensures { result ≡ passed_front options.now.words self.now.stamp self.now.records }
     {
-        let stamp = self.stamp;
-        self.records
-            .retain(|record| record.is_live(options.words, stamp));
+        match first_live(&self.records, options.words, self.stamp) {
+            Some(at) => at,
+            None => self.records.len(),
+        }
+    }
+
+    /// The first so many records go.
+    pub fn drop_first(&mut self, count: usize)
+        requires { count ≤ length self.old.records }
+        ensures { self.new ≡ record self.old { records = drop count self.old.records } }
+    {
+        drop_front(&mut self.records, count);
     }
 
     /// The place of the record that is displaced, if one is: the first of the key's bucket, where it has more
@@ -237,13 +265,12 @@ impl CacheState {
         first_in_bucket(&self.records, options, bucket)
     }
 
-    pub fn drop_displaced(&mut self, options: &Options, key: &[u8])
-        requires { IsValid options.now }
-        ensures { self.new ≡ without_displaced options.now key.now self.old }
+    /// The record at the place goes, if there is a place.
+    pub fn remove(&mut self, at: Option<usize>)
+        requires { IfSome at (λ at. at < length self.old.records) }
+        ensures { self.new ≡ record self.old { records = without_at at self.old.records } }
     {
-        if let Some(at) = self.displaced(options, key) {
-            self.records.remove(at);
-        }
+        remove_at(&mut self.records, at);
     }
 
     pub fn count(&mut self)
@@ -258,7 +285,41 @@ impl CacheState {
 fn find_record(records: &[CacheRecord], key: &[u8]) -> Option<usize>
     ensures { result ≡ position (has_key key.now) records.now }
 {
-    records.iter().position(|record| record.has_key(key))
+    let hash = key_hash(key);
+    records
+        .iter()
+        .position(|record| record.has_key_hashed(key, hash))
+}
+
+// The place of the first record that a log of this many words has not passed at the stamp.
+fn first_live(records: &[CacheRecord], words: u32, stamp: u64) -> Option<usize>
+    ensures { result ≡ position (λ held. is_live words stamp held.offset) records.now }
+{
+    records
+        .iter()
+        .position(|record| record.is_live(words, stamp))
+}
+
+// The first so many records go.
+fn drop_front(records: &mut Vec<CacheRecord>, count: usize)
+    requires { count ≤ length records.old.items }
+    ensures { records.new.items ≡ drop count records.old.items }
+{
+    for _ in 0..count {
+        records.remove(0);
+    }
+}
+
+// The record at the place goes, if there is a place.
+fn remove_at(records: &mut Vec<CacheRecord>, at: Option<usize>)
+    requires { IfSome at (λ at. at < length records.old.items) }
+    ensures items { records.new.items ≡ without_at at records.old.items }
+    ensures len { vec_len records.new ≤ vec_len records.old }
+    ensures capacity { vec_capacity records.new ≡ vec_capacity records.old }
+{
+    if let Some(at) = at {
+        records.remove(at);
+    }
 }
 
 fn first_in_bucket(records: &[CacheRecord], options: &Options, bucket: u32) -> Option<usize>

@@ -12,7 +12,7 @@ use Rattle.mica_trace.specs.declared.line.TraceLine.{TraceLine}
 use Rattle.mica_trace.specs.declared.report.Line.{Line}
 use Rattle.mica_trace.specs.TraceGrammar.{IsTraceLine}
 use Rattle.mica_trace.specs.Rounds.{is_in_partition, writes_of}
-use Rattle.mica_trace.specs.LawfulReport.{StandsFor, step_in, steps_of}
+use Rattle.mica_trace.specs.LawfulReport.{IsLineFor, step_in, steps_of}
 use Rattle.epoch_core.specs.declared.shape.Shape.{Shape}
 use Rattle.epoch_core.specs.declared.state.OwnerState.{OwnerState}
 use Rattle.epoch_core.specs.Shape.{shape_of, options_of}
@@ -155,7 +155,7 @@ module _ (options : Options) (valid : IsValid options) (before round : List Trac
   -- what is printed leaves the history that the owner has
   history_here : (p : ℕ) (it : Of p) → it.met.history ≡ history_in options p (before ++ round) (report ++ printed)
   history_here p it =
-      let same = length_zip StandsFor before report so_far.lawful.lines in
+      let same = length_zip IsLineFor before report so_far.lawful.lines in
       met_history p it
       ∙ ap (λ s. history_in options p before report ++ history_of s) (sym (merged.writes p it.replies it.is_done))
       ∙ sym (history-append (steps_of options p before report) (steps_of options p round printed))

@@ -7,12 +7,12 @@ use Rattle.mica_trace.specs.declared.line.TraceLine.{TraceLine}
 use Rattle.mica_trace.specs.declared.report.Line.{Line}
 use Rattle.mica_trace.specs.declared.report.Line.TheVariants.{Wrote, Hit, Miss, Sync as SyncLine}
 use Rattle.mica_trace.specs.Rounds.{partition_in}
-use Rattle.mica_trace.specs.LawfulReport.{steps_of, history_after, Answers, stamp_in, LawfulReport}
+use Rattle.mica_trace.specs.LawfulReport.{steps_of, history_after, Answers, printed_stamp, LawfulReport}
 use Rattle.mica_trace.specs.ExactReport.{writes_before, ExactReport}
 use Rattle.mica_trace.proofs.Rounding.{in_round_begin, in_round_end, writes_rise}
 
 module _ (options : Options) where
-  pub stamp_printed : (history : History) (key : List ℕ) (printed : Line) → Answers options history key printed → stamp_in printed ≡ stamp_of options history
+  pub stamp_printed : (history : History) (key : List ℕ) (printed : Line) → Answers options history key printed → printed_stamp printed ≡ stamp_of options history
   stamp_printed history key (Wrote op outcome s) answer = absurd answer
   stamp_printed history key (Hit s value) answer = answer.0
   stamp_printed history key (Miss s) answer = answer.0

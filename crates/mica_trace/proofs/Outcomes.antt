@@ -12,6 +12,7 @@ use Rattle.mica_model.specs.Cache as cache
 use Rattle.mica_model.specs.CacheStep as cs
 use Rattle.mica_model.specs.StoreStep as ss
 use Rattle.mica_model.specs.History.{State, cache_state, store_state, Allows}
+use Rattle.mica_model.proofs.MachineSteps.{gives_none}
 use Rattle.mica_trace.specs.ReportGrammar.{HasOutcome}
 
 cache_outcome : (op : Op) (options : Options) (write : Write) (worn found : Bool) → HasOutcome op (cond worn Worn (cs.reply_of op options write found))
@@ -34,7 +35,7 @@ has_outcome options (store_state s) write Stored allowed = subst (λ op. HasOutc
 has_outcome options (store_state s) write FullSpare allowed = subst (λ op. HasOutcome op FullSpare) (sym (gives_put write.op allowed.1.0)) tt
 has_outcome options (store_state s) write FullBlock allowed = subst (λ op. HasOutcome op FullBlock) (sym (gives_put write.op allowed.1.0.stores.0)) tt
 has_outcome options (store_state s) write Deleted allowed = subst (λ op. HasOutcome op Deleted) (sym allowed.1.0) tt
-has_outcome options (store_state s) write Absent allowed = subst (λ op. HasOutcome op Absent) (sym allowed.1.0) tt
+has_outcome options (store_state s) write Absent allowed = subst (λ op. HasOutcome op Absent) (sym (gives_none write.op allowed.1.0)) tt
 has_outcome options (store_state s) write Worn allowed = worn write.op
   where
     worn : (op : Op) → HasOutcome op Worn

@@ -11,7 +11,7 @@ use Rattle.mica_model.specs.declared.write.Outcome.TheVariants.{Stored, Deleted,
 use Rattle.mica_trace.specs.declared.report.Line.{Line}
 use Rattle.mica_trace.specs.declared.report.Line.TheVariants.{Wrote, Hit, Miss, Sync}
 use Rattle.mica_trace.specs.Lines.{Lacks}
-use Rattle.mica_trace.specs.ReportGrammar.{stamp_in, outcome_words, IsStamp, IsPrintable, report_line_text, report_text, IsReport}
+use Rattle.mica_trace.specs.ReportGrammar.{printed_stamp, outcome_words, IsStamp, IsPrintable, report_line_text, report_text, IsReport}
 use Rattle.mica_trace.proofs.TextLaws.{one_split, Lacks_append}
 
 digits_lack : (byte : ℕ) → byte < 48 → (ds : List ℕ) → AllDigits 10 ds → Lacks byte ds
@@ -87,7 +87,7 @@ line_by first stamp reply =
     cond (eqb first 112) (Wrote Put (outcome_at reply) stamp) (cond (eqb first 100) (Wrote Del (outcome_at reply) stamp)
     (cond (eqb first 115) Sync (cond (eqb (get_or reply 0 0) 104) (Hit stamp (drop 4 reply)) (Miss stamp))))
 
-line_is : (line : Line) → line_by (get_or (report_line_text line) 0 0) (stamp_in line) (reply_in line) ≡ line
+line_is : (line : Line) → line_by (get_or (report_line_text line) 0 0) (printed_stamp line) (reply_in line) ≡ line
 line_is (Wrote Put outcome stamp) = ap (λ o. Wrote Put o stamp) (outcome_is outcome)
 line_is (Wrote Del outcome stamp) = ap (λ o. Wrote Del o stamp) (outcome_is outcome)
 line_is (Hit stamp value) = refl
@@ -96,8 +96,8 @@ line_is Sync = refl
 
 -- the text of a line is a sync's, or has its stamp and reply behind four bytes
 record HasReply (line : Line) : Type 0 where
-  stamp : IsStamp (stamp_in line)
-  rest : drop 4 (report_line_text line) ≡ decimal (stamp_in line) ++ 32 ∷ reply_in line
+  stamp : IsStamp (printed_stamp line)
+  rest : drop 4 (report_line_text line) ≡ decimal (printed_stamp line) ++ 32 ∷ reply_in line
 
 kinds : (line : Line) → IsPrintable line → (line ≡ Sync) ⊎ HasReply line
 kinds (Wrote Put outcome stamp) is = inr (record { stamp = is.1; rest = refl })
@@ -121,10 +121,10 @@ one_text a b left right same = elim (kinds a left) [
     | inl sync ↦ absurd (no_sync a reply (same ∙ ap report_line_text sync))
     | inr reply' ↦
         let first = ap (λ t. get_or t 0 0) same in
-        let parts = one_reply (stamp_in a) (stamp_in b) (reply_in a) (reply_in b) reply.stamp reply'.stamp (sym reply.rest ∙ ap (drop 4) same ∙ reply'.rest) in
+        let parts = one_reply (printed_stamp a) (printed_stamp b) (reply_in a) (reply_in b) reply.stamp reply'.stamp (sym reply.rest ∙ ap (drop 4) same ∙ reply'.rest) in
         let stamps = parts.stamp in
         let replies = parts.reply in
-        let whole : line_by (get_or (report_line_text a) 0 0) (stamp_in a) (reply_in a) ≡ line_by (get_or (report_line_text b) 0 0) (stamp_in b) (reply_in b) = cc in
+        let whole : line_by (get_or (report_line_text a) 0 0) (printed_stamp a) (reply_in a) ≡ line_by (get_or (report_line_text b) 0 0) (printed_stamp b) (reply_in b) = cc in
         sym (line_is a) ∙ whole ∙ line_is b
   ]
 ]

@@ -20,9 +20,9 @@ use Rattle.mica_trace.specs.declared.report.Line.{Line}
 use Rattle.mica_trace.specs.declared.report.Line.TheVariants.{Wrote, Hit, Miss, Sync as SyncLine}
 use Rattle.mica_trace.specs.Lines.{lines_of}
 use Rattle.mica_trace.specs.TraceGrammar.{HasFields, IsTraceLine, IsTextOf, IsTrace}
-use Rattle.mica_trace.specs.ReportGrammar.{IsStamp, IsPrintable, stamp_in, report_text, IsReport}
+use Rattle.mica_trace.specs.ReportGrammar.{IsStamp, IsPrintable, printed_stamp, report_text, IsReport}
 use Rattle.mica_trace.specs.Rounds.{partition_in, is_in_partition, write_by}
-use Rattle.mica_trace.specs.LawfulReport.{IsKindOf, StandsFor, step_by, step_in, steps_of, IsGetAt, LawfulReport}
+use Rattle.mica_trace.specs.LawfulReport.{IsKindOf, IsLineFor, step_by, step_in, steps_of, IsGetAt, LawfulReport}
 use Rattle.mica_trace.proofs.Exact.{stamp_printed}
 use Rattle.mica_trace.proofs.Prefixes.{history_cons}
 
@@ -124,7 +124,7 @@ module _ (options : Options) (valid : IsValid options) where
   all_later (Some step) rest all = all.1
 
   line_small : (op : TraceOp) (key value : List ℕ) (r : Line) (rest : List RunStep) → IsKindOf op r
-      → AllByRecursion (λ step. IsStamp step.stamp) (cons_option (step_by (write_by op key value) r) rest) → (op ≡ Get → IsStamp (stamp_in r)) → IsStamp (stamp_in r)
+      → AllByRecursion (λ step. IsStamp step.stamp) (cons_option (step_by (write_by op key value) r) rest) → (op ≡ Get → IsStamp (printed_stamp r)) → IsStamp (printed_stamp r)
   line_small Put key value (Wrote o outcome s) rest kind steps get = steps.0
   line_small Put key value (Hit s v) rest kind steps get = absurd kind
   line_small Put key value (Miss s) rest kind steps get = absurd kind
@@ -139,9 +139,9 @@ module _ (options : Options) (valid : IsValid options) where
   line_small Sync key value (Miss s) rest kind steps get = absurd kind
   line_small Sync key value SyncLine rest kind steps get = omega arith
 
-  lines_small : (trace : List TraceLine) (report : List Line) → AllZip StandsFor trace report
+  lines_small : (trace : List TraceLine) (report : List Line) → AllZip IsLineFor trace report
       → ((p : ℕ) → p < options.partitions → AllByRecursion (λ step. IsStamp step.stamp) (steps_of options p trace report))
-      → ((n : ℕ) (line : TraceLine) (printed : Line) → IsGetAt trace report n line printed → IsStamp (stamp_in printed))
+      → ((n : ℕ) (line : TraceLine) (printed : Line) → IsGetAt trace report n line printed → IsStamp (printed_stamp printed))
       → AllByRecursion IsPrintable report
   lines_small [] [] all steps gets = tt
   lines_small [] (r ∷ report) all steps gets = absurd all

@@ -17,14 +17,15 @@ use Rattle.mica_trace.specs.declared.report.Line.{Line}
 use Rattle.mica_trace.specs.declared.report.Line.TheVariants.{Wrote, Hit, Miss, Sync as SyncLine}
 use Rattle.mica_trace.specs.TraceGrammar.{syncs_in}
 use Rattle.mica_trace.specs.Rounds.{partition_in, writes_of, lines_before, round_of, round_begin, round_end, reader_of, is_get_op}
-use Rattle.mica_trace.specs.LawfulReport.{StandsFor, step_in, steps_of, history_after, Answers, IsGetAt, IsAnsweredInRound, stamp_in, LawfulReport}
+use Rattle.mica_trace.specs.LawfulReport.{IsLineFor, step_in, steps_of, history_after, Answers, IsGetAt, IsAnsweredInRound, printed_stamp, LawfulReport}
 use Rattle.mica_trace.specs.RoundReport.{EndsRound, IsOneRound, is_get, gets_in, history_in, IsRoundReport}
+use Rattle.mica_model.proofs.Rises.{prefix_rises}
 use Rattle.mica_trace.proofs.ListParts.{same_part, zip-append, zip_at, AllZip-append, length_zip, take_past}
-use Rattle.mica_trace.proofs.Prefixes.{prefix_trans, prefix_between, prefix_rises, history-append, run-append, step_of_prefix}
+use Rattle.mica_trace.proofs.Prefixes.{prefix_trans, prefix_between, history-append, run-append, step_of_prefix}
 use Rattle.mica_trace.proofs.RoundPlaces.{before_old, before_whole, before_all, round_old, round_low, round_new, writes_before_low, steps_count}
 use Rattle.mica_trace.proofs.ReaderAnswers.{gets_to, gets_to-zip, IsMine, find_one, find_two}
 
-stamp_printed : (options : Options) (history : History) (key : List ℕ) (printed : Line) → Answers options history key printed → stamp_in printed ≡ stamp_of options history
+stamp_printed : (options : Options) (history : History) (key : List ℕ) (printed : Line) → Answers options history key printed → printed_stamp printed ≡ stamp_of options history
 stamp_printed options history key (Wrote op outcome s) answer = absurd answer
 stamp_printed options history key (Hit s value) answer = answer.0
 stamp_printed options history key (Miss s) answer = answer.0
@@ -32,7 +33,7 @@ stamp_printed options history key SyncLine answer = absurd answer
 
 -- stamps that are printed after histories of which the first begins the second
 stamps_rise : (options : Options) (a b : History) (key key' : List ℕ) (printed printed' : Line) → Answers options a key printed → Answers options b key' printed' → IsPrefix a b
-    → stamp_in printed ≤ stamp_in printed'
+    → printed_stamp printed ≤ printed_stamp printed'
 stamps_rise options a b key key' printed printed' one two is =
     let from = stamp_printed options a key printed one in
     let to = stamp_printed options b key' printed' two in
@@ -54,10 +55,10 @@ none_lawful options = record {
 module _ (options : Options) (valid : IsValid options) (before : List TraceLine) (report : List Line) (round : List TraceLine) (printed : List Line)
     (so_far : LawfulReport options before report) (ended : EndsRound before) (one : IsOneRound round) (here : IsRoundReport options before report round printed) where
   same_length : length report ≡ length before
-  same_length = length_zip StandsFor before report so_far.lines
+  same_length = length_zip IsLineFor before report so_far.lines
 
   same_here : length printed ≡ length round
-  same_here = length_zip StandsFor round printed here.lines
+  same_here = length_zip IsLineFor round printed here.lines
 
   abbrev steps : ℕ → List RunStep
   steps p = steps_of options p before report
@@ -70,7 +71,7 @@ module _ (options : Options) (valid : IsValid options) (before : List TraceLine)
 
   all_writes : (p : ℕ) → length (writes_of options p (before ++ round)) ≡ length (steps p) + length (steps_here p)
   all_writes p =
-      sym (steps_count options p (before ++ round) (report ++ printed) (AllZip-append StandsFor before round report printed so_far.lines here.lines))
+      sym (steps_count options p (before ++ round) (report ++ printed) (AllZip-append IsLineFor before round report printed so_far.lines here.lines))
       ∙ ap length (all_steps p) ∙ length-append (steps p) (steps_here p)
 
   -- the history after so many of the writes before the round
@@ -229,13 +230,13 @@ module _ (options : Options) (valid : IsValid options) (before : List TraceLine)
   old_begins p i = (history_of (drop i (steps p)), ap history_of (sym (take-append-drop i (steps p))) ∙ history-append (take i (steps p)) (drop i (steps p)))
 
   old_old : (m n : ℕ) (line line' : TraceLine) (r r' : Line) → m < n → m < length before → n < length before → IsGetAt before report m line r → IsGetAt before report n line' r'
-      → reader_of options (before ++ round) m ≡ reader_of options (before ++ round) n → partition_in options line ≡ partition_in options line' → stamp_in r ≤ stamp_in r'
+      → reader_of options (before ++ round) m ≡ reader_of options (before ++ round) n → partition_in options line ≡ partition_in options line' → printed_stamp r ≤ printed_stamp r'
   old_old m n line line' r r' less m_in n_in get get' reader partition =
       so_far.order m n line line' r r' less get get'
       (sym (ap (λ ls. gets_in ls % options.readers) (take-append-le m before round (omega arith))) ∙ reader ∙ ap (λ ls. gets_in ls % options.readers) (take-append-le n before round (omega arith))) partition
 
   old_new : (m k : ℕ) (line line' : TraceLine) (r r' : Line) → IsGetAt before report m line r → IsGetAt round printed k line' r'
-      → partition_in options line ≡ partition_in options line' → stamp_in r ≤ stamp_in r'
+      → partition_in options line ≡ partition_in options line' → printed_stamp r ≤ printed_stamp r'
   old_new m k line line' r r' get get' partition =
       let p = partition_in options line' in
       let was = old_get m line r get in
@@ -246,7 +247,7 @@ module _ (options : Options) (valid : IsValid options) (before : List TraceLine)
 
   new_new : (j k : ℕ) (line line' : TraceLine) (r r' : Line) → j < k → IsGetAt round printed j line r → IsGetAt round printed k line' r'
       → reader_of options (before ++ round) (length before + j) ≡ reader_of options (before ++ round) (length before + k) → partition_in options line ≡ partition_in options line'
-      → stamp_in r ≤ stamp_in r'
+      → printed_stamp r ≤ printed_stamp r'
   new_new j k line line' r r' less get get' reader partition =
       let p = partition_in options line' in
       let q = reader_of options (before ++ round) (length before + k) in
@@ -260,14 +261,14 @@ module _ (options : Options) (valid : IsValid options) (before : List TraceLine)
   in_order : (m n : ℕ) (line line' : TraceLine) (r r' : Line) → m < n
       → IsGetAt (before ++ round) (report ++ printed) m line r → IsGetAt (before ++ round) (report ++ printed) n line' r'
       → reader_of options (before ++ round) m ≡ reader_of options (before ++ round) n → partition_in options line ≡ partition_in options line'
-      → stamp_in r ≤ stamp_in r'
+      → printed_stamp r ≤ printed_stamp r'
   in_order m n line line' r r' less get get' reader partition =
-      elim (split m line r get) as (λ _. stamp_in r ≤ stamp_in r') [
-        | inl old ↦ elim (split n line' r' get') as (λ _. stamp_in r ≤ stamp_in r') [
+      elim (split m line r get) as (λ _. printed_stamp r ≤ printed_stamp r') [
+        | inl old ↦ elim (split n line' r' get') as (λ _. printed_stamp r ≤ printed_stamp r') [
           | inl old' ↦ old_old m n line line' r r' less old.0 old'.0 old.1 old'.1 reader partition
           | inr new' ↦ old_new m new'.0 line line' r r' old.1 new'.2 partition
         ]
-        | inr new ↦ elim (split n line' r' get') as (λ _. stamp_in r ≤ stamp_in r') [
+        | inr new ↦ elim (split n line' r' get') as (λ _. printed_stamp r ≤ printed_stamp r') [
           | inl old' ↦ let a = new.1 in let b = old'.0 in absurd (omega arith)
           | inr new' ↦
               let a = new.1 in
@@ -279,7 +280,7 @@ module _ (options : Options) (valid : IsValid options) (before : List TraceLine)
 
   pub round_lawful : LawfulReport options (before ++ round) (report ++ printed)
   round_lawful = record {
-    lines = AllZip-append StandsFor before round report printed so_far.lines here.lines;
+    lines = AllZip-append IsLineFor before round report printed so_far.lines here.lines;
     writes = runs;
     gets = answered;
     order = in_order;

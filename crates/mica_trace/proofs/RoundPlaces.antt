@@ -13,7 +13,7 @@ use Rattle.mica_trace.specs.declared.report.Line.{Line}
 use Rattle.mica_trace.specs.declared.report.Line.TheVariants.{Wrote, Hit, Miss, Sync as SyncLine}
 use Rattle.mica_trace.specs.TraceGrammar.{is_sync, syncs_in}
 use Rattle.mica_trace.specs.Rounds.{round_of, lines_before, write_by, is_in_partition, write_in, writes_of}
-use Rattle.mica_trace.specs.LawfulReport.{IsKindOf, StandsFor, step_by, steps_of}
+use Rattle.mica_trace.specs.LawfulReport.{IsKindOf, IsLineFor, step_by, steps_of}
 use Rattle.mica_trace.proofs.LineLemmas.{syncs_cons}
 use Rattle.mica_trace.specs.RoundReport.{EndsRound, IsOneRound}
 use Rattle.mica_trace.proofs.ListParts.{take_past, length-cons_option}
@@ -128,7 +128,7 @@ module _ (options : Options) (p : ℕ) where
   count_step Sync key value (Miss s) steps writes kind same = absurd kind
 
   -- a partition has as many steps as writes
-  pub steps_count : (lines : List TraceLine) (report : List Line) → AllZip StandsFor lines report → length (steps_of options p lines report) ≡ length (writes_of options p lines)
+  pub steps_count : (lines : List TraceLine) (report : List Line) → AllZip IsLineFor lines report → length (steps_of options p lines report) ≡ length (writes_of options p lines)
   steps_count [] [] all = refl
   steps_count [] (r ∷ report) all = absurd all
   steps_count (line ∷ lines) [] all = absurd all

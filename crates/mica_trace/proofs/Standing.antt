@@ -17,7 +17,7 @@ use Rattle.mica_trace.specs.declared.report.Line.TheVariants.{Wrote, Hit, Miss, 
 use Rattle.mica_trace.specs.TraceGrammar.{IsValue, HasFields, IsTraceLine}
 use Rattle.mica_trace.specs.ReportGrammar.{HasOutcome, IsReportLine}
 use Rattle.mica_trace.specs.Rounds.{is_in_partition, write_by}
-use Rattle.mica_trace.specs.LawfulReport.{IsKindOf, StandsFor, step_by, step_in, steps_of, Answers}
+use Rattle.mica_trace.specs.LawfulReport.{IsKindOf, IsLineFor, step_by, step_in, steps_of, Answers}
 use Rattle.mica_trace.proofs.Outcomes.{has_outcome}
 use Rattle.mica_trace.specs.RoundReport.{HasKind}
 
@@ -139,7 +139,7 @@ write_stands options p (l ∷ lines) (x ∷ report) history (suc n) line r w kin
 
 -- lines that stand at each place stand for one another
 pub all_stand : (lines : List TraceLine) (report : List Line) → AllZip HasKind lines report
-    → ((n : ℕ) (line : TraceLine) (r : Line) → slice_get lines n ≡ Some line → slice_get report n ≡ Some r → IsReportLine r) → AllZip StandsFor lines report
+    → ((n : ℕ) (line : TraceLine) (r : Line) → slice_get lines n ≡ Some line → slice_get report n ≡ Some r → IsReportLine r) → AllZip IsLineFor lines report
 all_stand [] [] kinds each = tt
 all_stand [] (r ∷ report) kinds each = absurd kinds
 all_stand (line ∷ lines) [] kinds each = absurd kinds

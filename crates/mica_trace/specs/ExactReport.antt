@@ -6,7 +6,7 @@ use Rattle.mica_model.specs.Run.{IsRun}
 use Rattle.mica_trace.specs.declared.line.TraceLine.{TraceLine}
 use Rattle.mica_trace.specs.declared.report.Line.{Line}
 use Rattle.mica_trace.specs.Rounds.{partition_in, writes_of}
-use Rattle.mica_trace.specs.LawfulReport.{StandsFor, steps_of, history_after, Answers, IsGetAt}
+use Rattle.mica_trace.specs.LawfulReport.{IsLineFor, steps_of, history_after, Answers, IsGetAt}
 
 -- how many writes of the partition stand before line n
 abbrev pub writes_before : Options → ℕ → List TraceLine → ℕ → ℕ
@@ -14,7 +14,7 @@ writes_before options partition trace n = length (writes_of options partition (t
 
 pub record ExactReport (options : Options) (trace : List TraceLine) (report : List Line) : Type 0 where
   -- its lines stand one to one for those of the trace
-  pub lines : AllZip StandsFor trace report
+  pub lines : AllZip IsLineFor trace report
   -- each partition's writes, in trace order, with the printed replies and stamps, are a run of its machine
   pub writes : (p : ℕ) → p < options.partitions → IsRun options (steps_of options p trace report)
   -- each get has the machine's answer after the writes that stand before it

@@ -12,7 +12,7 @@ use Rattle.mica_trace.specs.declared.line.TraceLine.{TraceLine}
 use Rattle.mica_trace.specs.declared.report.Line.{Line}
 use Rattle.mica_trace.specs.declared.report.Line.TheVariants.{Wrote, Hit, Miss, Sync as SyncLine}
 use Rattle.mica_trace.specs.ReportGrammar.{IsReportLine}
-pub use Rattle.mica_trace.specs.ReportGrammar.{stamp_in}
+pub use Rattle.mica_trace.specs.ReportGrammar.{printed_stamp}
 use Rattle.mica_trace.specs.Rounds.{partition_in, is_in_partition, op_of, write_by, round_of, round_begin, round_end, reader_of}
 
 abbrev pub IsReplyTo : Option Op → Op → Type 0
@@ -28,8 +28,8 @@ IsKindOf Sync SyncLine = Unit {0}
 IsKindOf _ _ = ⊥
 
 -- the report line stands for the line of the trace
-abbrev pub StandsFor : TraceLine → Line → Type 0
-StandsFor line printed = IsReportLine printed × IsKindOf line.op printed
+abbrev pub IsLineFor : TraceLine → Line → Type 0
+IsLineFor line printed = IsReportLine printed × IsKindOf line.op printed
 
 abbrev pub step_by : Option Write → Line → Option RunStep
 step_by (Some write) (Wrote op outcome stamp) = Some (record { write = write; outcome = outcome; stamp = stamp })
@@ -69,7 +69,7 @@ IsAnsweredInRound options lines report n line printed =
 
 pub record LawfulReport (options : Options) (trace : List TraceLine) (report : List Line) : Type 0 where
   -- its lines stand one to one for those of the trace
-  pub lines : AllZip StandsFor trace report
+  pub lines : AllZip IsLineFor trace report
   -- each partition's writes, in trace order, with the printed replies and stamps, are a run of its machine
   pub writes : (p : ℕ) → p < options.partitions → IsRun options (steps_of options p trace report)
   -- each get has the machine's answer at its stamp, at a moment of its round
@@ -79,4 +79,4 @@ pub record LawfulReport (options : Options) (trace : List TraceLine) (report : L
   pub order : (m n : ℕ) (line line' : TraceLine) (printed printed' : Line) → m < n
       → IsGetAt trace report m line printed → IsGetAt trace report n line' printed'
       → reader_of options trace m ≡ reader_of options trace n → partition_in options line ≡ partition_in options line'
-      → stamp_in printed ≤ stamp_in printed'
+      → printed_stamp printed ≤ printed_stamp printed'

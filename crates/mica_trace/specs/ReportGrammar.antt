@@ -42,11 +42,11 @@ IsReportLine (Hit stamp value) = IsValue value
 IsReportLine (Miss stamp) = Unit {0}
 IsReportLine Sync = Unit {0}
 
-abbrev pub stamp_in : Line → ℕ
-stamp_in (Wrote op outcome stamp) = stamp
-stamp_in (Hit stamp value) = stamp
-stamp_in (Miss stamp) = stamp
-stamp_in Sync = 0
+abbrev pub printed_stamp : Line → ℕ
+printed_stamp (Wrote op outcome stamp) = stamp
+printed_stamp (Hit stamp value) = stamp
+printed_stamp (Miss stamp) = stamp
+printed_stamp Sync = 0
 
 -- a number of 64 bits
 abbrev pub IsStamp : ℕ → Type 0
@@ -54,7 +54,7 @@ IsStamp stamp = stamp < 2 ^ 64
 
 -- a line that a report may have, with a number of 64 bits
 abbrev pub IsPrintable : Line → Type 0
-IsPrintable line = IsReportLine line × IsStamp (stamp_in line)
+IsPrintable line = IsReportLine line × IsStamp (printed_stamp line)
 
 -- the text of a line, without its line feed
 abbrev pub report_line_text : Line → List ℕ

@@ -8,7 +8,7 @@ use Rattle.mica_trace.specs.declared.line.TraceLine.{TraceLine}
 use Rattle.mica_trace.specs.declared.report.Line.{Line}
 use Rattle.mica_trace.specs.TraceGrammar.{is_sync}
 use Rattle.mica_trace.specs.Rounds.{is_get_op, is_in_partition}
-use Rattle.mica_trace.specs.LawfulReport.{IsKindOf, StandsFor, steps_of, Answers}
+use Rattle.mica_trace.specs.LawfulReport.{IsKindOf, IsLineFor, steps_of, Answers}
 
 -- Rounds
 
@@ -76,7 +76,7 @@ history_in options partition lines report = history_of (steps_of options partiti
 
 -- What a report has for a round, behind what it has for the lines before.
 pub record IsRoundReport (options : Options) (before : List TraceLine) (report : List Line) (round : List TraceLine) (printed : List Line) : Type 0 where
-  pub lines : AllZip StandsFor round printed
+  pub lines : AllZip IsLineFor round printed
   -- the writes of a partition are a run that goes on from the history before the round
   pub writes : (p : ℕ) → p < options.partitions
       → IsRunFrom options (history_in options p before report) (steps_of options p round printed)

@@ -41,7 +41,7 @@ module _ (o : OwnerState) (s : Kept o) (index : Index) (blocks : List Block) (pa
 
   may : MayGive (options_in o) o.history (write_of Del key []) Absent
   may = facts.may_give o s index blocks parts key bytes (write_of Del key []) refl unworn Absent
-      (facts.not_worn o s index blocks parts key bytes (write_of Del key []) refl unworn, (refl, facts.has_none o s index blocks parts key bytes none))
+      (facts.not_worn o s index blocks parts key bytes (write_of Del key []) refl unworn, ((λ gives. gives), facts.has_none o s index blocks parts key bytes none))
 
   pub begin_ok : MayBegin o b
   begin_ok = finish.may_begin o s index blocks parts (write_of Del key []) b is unworn

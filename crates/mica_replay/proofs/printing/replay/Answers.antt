@@ -3,10 +3,10 @@ use Rattle.std.specs.List.{AllByRecursion, AllZip}
 use Rattle.mica_trace.specs.declared.line.TraceLine.{TraceLine}
 use Rattle.mica_trace.specs.declared.report.Line.{Line}
 use Rattle.mica_trace.specs.ReportGrammar.{IsReportLine}
-use Rattle.mica_trace.specs.LawfulReport.{StandsFor}
+use Rattle.mica_trace.specs.LawfulReport.{IsLineFor}
 use Rattle.mica_replay.proofs.printing.replay.Goals as goal
 
-are_report_lines : (lines : List TraceLine) (report : List Line) → AllZip StandsFor lines report → AllByRecursion IsReportLine report
+are_report_lines : (lines : List TraceLine) (report : List Line) → AllZip IsLineFor lines report → AllByRecursion IsReportLine report
 are_report_lines [] [] all = tt
 are_report_lines [] (r ∷ report) all = absurd all
 are_report_lines (l ∷ lines) [] all = absurd all

@@ -3,7 +3,7 @@ use Rattle.std.specs.Vec.Iter.{into_iter_items}
 use Rattle.mica_trace.specs.declared.line.TraceLine.{TraceLine}
 use Rattle.mica_trace.specs.declared.report.Line.{Line}
 use Rattle.mica_trace.specs.TraceGrammar.{IsTraceLine}
-use Rattle.mica_trace.specs.LawfulReport.{StandsFor}
+use Rattle.mica_trace.specs.LawfulReport.{IsLineFor}
 use Rattle.mica_replay.specs.declared.worker.OwnerWork.{OwnerWork}
 use Rattle.mica_replay.specs.declared.worker.ReaderWork.{ReaderWork}
 use Rattle.mica_trace.specs.RoundReport.{gets_in}
@@ -88,7 +88,7 @@ print_round-requires-clause-count g c =
     let most = take_most (c.args.to - c.args.from) (drop c.args.from c.lines.result.now) in
     let low = take_most c.args.from trace in
     let some = gets_few before in
-    let long = length_zip StandsFor before c.args.report.now c.requires.so_far.lawful.lines in
+    let long = length_zip IsLineFor before c.args.report.now c.requires.so_far.lawful.lines in
     (omega (arith, c.requires.gets, c.requires.bounds, c.ranges.to.fits), omega (arith, c.requires.bounds, c.ranges.to.fits))
 
 pub returns-clause-gets : goal.returns-clause-gets

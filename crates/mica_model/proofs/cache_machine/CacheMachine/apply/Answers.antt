@@ -1,18 +1,21 @@
 use Rattle.std.proofs.Common.{◌≡◌, ℕ, ◌+◌, List, [], ◌∷◌, ◌++◌, length, cond, true, false, ap, sym, ◌∙◌, subst, arith}
 use Rattle.std.specs.List.{AllByRecursion}
 use Rattle.std.specs.Str.{bytes_eq}
+use Rattle.mica_words.specs.Stamp.{tail_of}
 use Rattle.mica_model.specs.declared.options.Options.{Options}
 use Rattle.mica_model.specs.declared.fate.Fate.TheVariants.{Displaced, Passed}
 use Rattle.mica_model.specs.declared.write.Write.{Write}
 use Rattle.mica_model.specs.declared.write.Outcome.{Outcome}
 use Rattle.mica_model.specs.Cache.{Cache}
-use Rattle.mica_model.specs.CacheFields.{Notes, notes_of, fate_in, fate_written, displaced_record, marked_displaced, marked_passed}
+use Rattle.mica_model.specs.CacheFields.{AreRising, Notes, notes_of, fate_in, fate_written, displaced_record, marked_displaced, marked_passed}
 use Rattle.mica_model.specs.CacheStep as cs
 use Rattle.mica_model.specs.Fate.{fate_of, has_record}
 use Rattle.mica_model.specs.History.{History, IsHistory, state_of, cache_state, accepted_in}
 use Rattle.mica_model.specs.Logged.{Logged, IsLoggedStep}
 use Rattle.mica_model.specs.Write.{IsWrite, is_accepted, write_of}
+use Rattle.mica_model.proofs.CacheKept.{after_write_is}
 use Rattle.mica_model.proofs.CacheLaws.{kept_in, stamp_bound}
+use Rattle.mica_model.proofs.Passed.{laid_rising}
 use Rattle.mica_model.proofs.FateMarks.{written_fates}
 use Rattle.mica_model.proofs.Histories.{within_wear, accepted_is_length, cache_unworn}
 use Rattle.mica_model.proofs.CacheMachineSteps.{refused_step, replied_unworn, accepted_step, later_lawful, later_state, later_writes, later_fates, counted, written_accepted}
@@ -31,6 +34,20 @@ pub write-requires-clause-unique : goal.write-requires-clause-unique
 write-requires-clause-unique c =
     let a = c.self.inside in
     (kept_in a.options a.log.items c.self.invariant.writes a.state c.self.invariant.state).unique
+
+pub drop_dead-requires-clause-rising : goal.drop_dead-requires-clause-rising
+drop_dead-requires-clause-rising c =
+    let a = c.self.inside in
+    let write = write_of c.args.op c.args.key.now c.args.value.now in
+    let is : IsWrite write = record {
+      key = c.requires.key;
+      key_bytes = λ k. omega (arith, c.type_inv.key k);
+      value = c.requires.value;
+      value_bytes = λ k. omega (arith, c.type_inv.value k);
+    } in
+    let written = after_write_is a.options a.state (kept_in a.options a.log.items c.self.invariant.writes a.state c.self.invariant.state) write is in
+    subst (λ (t : Cache). AreRising t.records) (sym c.in_ok-write.ensures.ok)
+    (laid_rising 0 (tail_of (cs.after_write a.options a.state write).stamp) (cs.after_write a.options a.state write).records written.laid)
 
 pub returns-then-not-is_accepted-clause-step : goal.returns-then-not-is_accepted-clause-step
 returns-then-not-is_accepted-clause-step c =

@@ -13,7 +13,7 @@ returns-then-is_live c =
     let s : Cache = record { records = a.records.items; stamp = a.stamp; accepted = a.accepted } in
     let write = write_of Put c.args.key.now c.args.value.now in
     let held = c.index-record.result.now in
-    let place : position (has_key c.args.key.now) a.records.items ≡ Some c.in_ok-at.at = sym (rw c.deref.ensures.value at c.find_record.ensures) ∙ c.in_ok-at.was in
+    let place : position (has_key c.args.key.now) a.records.items ≡ Some c.in_ok-at.at = ap (λ (t : Cache). position (has_key c.args.key.now) t.records) c.self.view_is ∙ sym c.requires.found ∙ c.in_ok-at.was in
     let fits : size_of write ≤ held.room = omega arith in
     sym (kept_yes c.args.options.now s write c.in_ok-at.at place held c.index-record.ensures (may_true c.args.options.now s write held fits (sym c.is_live.ensures ∙ c.if-is_live.true)))
     ∙ ap (λ (t : Cache). kept_place c.args.options.now t write) c.self.view_is
@@ -24,7 +24,7 @@ returns-else-item_size-room c =
     let s : Cache = record { records = a.records.items; stamp = a.stamp; accepted = a.accepted } in
     let write = write_of Put c.args.key.now c.args.value.now in
     let held = c.index-record.result.now in
-    let place : position (has_key c.args.key.now) a.records.items ≡ Some c.in_ok-at.at = sym (rw c.deref.ensures.value at c.find_record.ensures) ∙ c.in_ok-at.was in
+    let place : position (has_key c.args.key.now) a.records.items ≡ Some c.in_ok-at.at = ap (λ (t : Cache). position (has_key c.args.key.now) t.records) c.self.view_is ∙ sym c.requires.found ∙ c.in_ok-at.was in
     sym (kept_no c.args.options.now s write c.in_ok-at.at place held c.index-record.ensures
     (elim c.else-item_size-room.branch [
       | else-item_size-room-via-then-item_size-room+else-is_live w ↦ may_passed c.args.options.now s write held (sym w.is_live.ensures ∙ w.if-is_live.false)

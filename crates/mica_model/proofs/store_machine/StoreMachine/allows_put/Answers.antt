@@ -1,6 +1,5 @@
-use Rattle.std.proofs.Common.{◌≡◌, ◌↔◌, ◌<◌, ◌≤◌, ◌∙◌, IsTrue, refl, sym, subst, arith, inl}
+use Rattle.std.proofs.Common.{◌↔◌, ◌<◌, ◌≤◌, ◌∙◌, IsTrue, refl, sym, subst, arith, inl}
 use Rattle.std.specs.Prelude.{IsSomeAnd}
-use Rattle.std.specs.FinMap.{get}
 use Rattle.std.proofs.lemmas.Bool.{false≢true}
 use Rattle.mica_words.specs.Item.{item_size}
 use Rattle.mica_model.specs.declared.write.Op.TheVariants.{Put}
@@ -8,7 +7,7 @@ use Rattle.mica_model.specs.Write.{write_of}
 use Rattle.mica_model.specs.CellTable.{LacksSpare}
 use Rattle.mica_model.specs.StoreStep.{IsWorn, NeedsSpare, NeedsBlock}
 use Rattle.mica_model.specs.Machine.{Machine}
-use Rattle.mica_model.specs.History.{Allows, accepted_in, store_state}
+use Rattle.mica_model.specs.History.{Allows, accepted_in}
 use Rattle.mica_model.proofs.MachineSteps.{store_of}
 use Rattle.mica_model.proofs.StoreReplies.{of_lack, of_others}
 use Rattle.mica_model.proofs.store_machine.StoreMachine.allows_put.Goals as goal

@@ -1,0 +1,99 @@
+-- The records that a log has passed stand in front, and what it is to drop and to mark them.
+use Rattle.std.proofs.Common.{◌≡◌, ℕ, zero, suc, ◌+◌, ◌≤◌, ◌<◌, List, [], ◌∷◌, length, drop, take, Option, Some, None, Bool, true, false, cond, not, refl, sym, ap, ◌∙◌, arith, position, remove, leb}
+use Rattle.std.specs.Prelude.{IfSome}
+use Rattle.std.specs.List.{find, filter, AllByRecursion as AllOf, position_or_len}
+use Rattle.std.proofs.lemmas.List.Quantifiers.{position-Some}
+use Rattle.std.proofs.lemmas.Bool.{leb-true, le-leb}
+use Rattle.mica_words.specs.Stamp.{tail_of}
+use Rattle.mica_model.specs.declared.fate.Fate.{Fate}
+use Rattle.mica_model.specs.Cache.{Record, has_key, is_live}
+use Rattle.mica_model.specs.CacheStep.{others, without_first}
+use Rattle.mica_model.specs.CacheFields.{AreRising, IsUnique, Notes, marked, marked_passed, passed_front, without_at}
+use Rattle.mica_model.proofs.Laid.{IsLaid, key_is}
+use Rattle.mica_model.proofs.Found.{missed_all}
+use Rattle.mica_model.proofs.Places.{removed_at, kept_all}
+
+-- laid records rise
+
+laid_above : (from upto : ℕ) (rs : List Record) (low : ℕ) → low ≤ from → IsLaid from upto rs → AllOf (λ r. low ≤ r.offset) rs
+laid_above from upto [] low below laid = tt
+laid_above from upto (r ∷ rs) low below laid = let first = laid.0 in (omega arith, laid_above (r.offset + r.room) upto rs low (omega arith) laid.1)
+
+pub laid_rising : (from upto : ℕ) (rs : List Record) → IsLaid from upto rs → AreRising rs
+laid_rising from upto [] laid = tt
+laid_rising from upto (r ∷ rs) laid = (laid_above (r.offset + r.room) upto rs r.offset (omega arith) laid.1, laid_rising (r.offset + r.room) upto rs laid.1)
+
+-- 1 more is the next number, by which lists compute
+next : (n : ℕ) → 1 + n ≡ suc n
+next n = omega arith
+
+module _ (words stamp : ℕ) where
+  abbrev live : Record → Bool
+  live held = is_live words stamp held.offset
+
+  live_later : (r : Record) (rs : List Record) → live r ≡ true → AllOf (λ later. r.offset ≤ later.offset) rs → AllOf (λ later. live later ≡ true) rs
+  live_later r [] is above = tt
+  live_later r (x ∷ rs) is above =
+      let least = leb-true (tail_of stamp) (r.offset + words) is in
+      let first = above.0 in
+      (le-leb (tail_of stamp) (x.offset + words) (omega arith), live_later r rs is above.1)
+
+  all_stay : (rs : List Record) → AllOf (λ r. live r ≡ true) rs → filter live rs ≡ rs
+  all_stay [] all = refl
+  all_stay (r ∷ rs) all = ap (λ b. cond b (r ∷ filter live rs) (filter live rs)) all.0 ∙ ap (λ l. r ∷ l) (all_stay rs all.1)
+
+  none_marked : (fate : Fate) (rs : List Record) (notes : Notes) → AllOf (λ r. live r ≡ true) rs → marked_passed fate words stamp rs notes ≡ notes
+  none_marked fate [] notes all = refl
+  none_marked fate (r ∷ rs) notes all =
+      ap (λ b. marked_passed fate words stamp rs (cond b notes (marked r.key fate notes))) all.0 ∙ none_marked fate rs notes all.1
+
+  -- what is live lies behind what is passed
+
+  pub passed_dropped : (rs : List Record) → AreRising rs → filter (λ held. is_live words stamp held.offset) rs ≡ drop (passed_front words stamp rs) rs
+  passed_dropped [] rising = refl
+  passed_dropped (r ∷ rs) rising =
+      elim (live r) as (λ b. live r ≡ b → cond b (r ∷ filter live rs) (filter live rs) ≡ drop (cond (not b) (1 + passed_front words stamp rs) 0) (r ∷ rs)) [
+        | true ↦ λ is. ap (λ l. r ∷ l) (all_stay rs (live_later r rs is rising.0))
+        | false ↦ λ is. passed_dropped rs rising.1 ∙ ap (λ n. drop n (r ∷ rs)) (sym (next (passed_front words stamp rs)))
+      ] refl
+
+  pub passed_marked : (fate : Fate) (rs : List Record) (notes : Notes) → AreRising rs
+      → marked_passed fate words stamp (take (passed_front words stamp rs) rs) notes ≡ marked_passed fate words stamp rs notes
+  passed_marked fate [] notes rising = refl
+  passed_marked fate (r ∷ rs) notes rising =
+      elim (live r) as (λ b. live r ≡ b → marked_passed fate words stamp (take (cond (not b) (1 + passed_front words stamp rs) 0) (r ∷ rs)) notes ≡ marked_passed fate words stamp rs (cond b notes (marked r.key fate notes))) [
+        | true ↦ λ is. sym (none_marked fate rs notes (live_later r rs is rising.0))
+        | false ↦ λ is.
+            ap (λ n. marked_passed fate words stamp (take n (r ∷ rs)) notes) (next (passed_front words stamp rs))
+            ∙ ap (λ b. marked_passed fate words stamp (take (passed_front words stamp rs) rs) (cond b notes (marked r.key fate notes))) is
+            ∙ passed_marked fate rs (marked r.key fate notes) rising.1
+      ] refl
+
+-- to drop the first record of a key is to drop each, where there is one
+
+all_other : (key : List ℕ) (rs : List Record) → AllOf (λ r. has_key key r ≡ false) rs → others key rs ≡ rs
+all_other key [] all = refl
+all_other key (r ∷ rs) all = ap (λ b. cond (not b) (r ∷ others key rs) (others key rs)) all.0 ∙ ap (λ l. r ∷ l) (all_other key rs all.1)
+
+first_other : (key : List ℕ) (rs : List Record) → IsUnique rs → without_first (has_key key) rs ≡ others key rs
+first_other key [] unique = refl
+first_other key (r ∷ rs) unique =
+    elim (has_key key r) as (λ b. has_key key r ≡ b → cond b rs (r ∷ without_first (has_key key) rs) ≡ cond (not b) (r ∷ others key rs) (others key rs)) [
+      | true ↦ λ here.
+          let none : find (has_key key) rs ≡ None = ap (λ k. find (has_key k) rs) (sym (key_is key r here)) ∙ unique.0 in
+          sym (all_other key rs (missed_all (has_key key) rs none))
+      | false ↦ λ here. ap (λ l. r ∷ l) (first_other key rs unique.1)
+    ] refl
+
+other_by : (key : List ℕ) (rs : List Record) → IsUnique rs → (at : Option ℕ) → position (has_key key) rs ≡ at → without_at at rs ≡ others key rs
+other_by key rs unique None is = sym (kept_all (has_key key) rs is) ∙ first_other key rs unique
+other_by key [] unique (Some at) is = cc
+other_by key (r ∷ rs) unique (Some at) is = sym (removed_at (has_key key) (r ∷ rs) at r is) ∙ first_other key (r ∷ rs) unique
+
+pub found_goes : (key : List ℕ) (rs : List Record) → IsUnique rs → without_at (position (has_key key) rs) rs ≡ others key rs
+found_goes key rs unique = other_by key rs unique (position (has_key key) rs) refl
+
+pub found_within : (key : List ℕ) (rs : List Record) (at : Option ℕ) → at ≡ position (has_key key) rs → IfSome at (λ i. i < length rs)
+found_within key rs None is = tt
+found_within key [] (Some at) is = cc
+found_within key (r ∷ rs) (Some at) is = (position-Some (has_key key) (r ∷ rs) at r (sym is)).0
