@@ -30,7 +30,7 @@ use Rattle.mica_model.specs.CacheStep as cs
 use Rattle.mica_model.specs.CacheStep.{kept_record}
 use Rattle.mica_model.specs.History.{State, start, cache_state, stamp_of, accepted_in, stamp_in as stamp_of_state, after as state_after, Allows, MayGive, IsAcceptedAfter}
 use Rattle.mica_model.proofs.CacheKept.{IsKept, keeps_put, size_at_most}
-use Rattle.mica_model.proofs.CacheLaws.{kept_in}
+use Rattle.mica_model.proofs.CacheLaws.{kept_in, written_own}
 use Rattle.mica_model.proofs.Laid.{found_key}
 use Rattle.mica_model.proofs.Histories.{cached_in, state_snoc, accepted_is_length}
 use Rattle.mica_model.proofs.Stamps.{stamp_small}
@@ -50,7 +50,7 @@ use Rattle.epoch_core.proofs.Inside.{some_words}
 use Rattle.epoch_core.proofs.Log.{room_is}
 use Rattle.epoch_core.proofs.Marked.{bit_same}
 use Rattle.circular_log.specs.LogItem.{room_at}
-use Rattle.circular_log.specs.LogWrite.{IsAppendedAt, IsKeptAt, MayAppend, MayRewrite, with_item}
+use Rattle.circular_log.specs.LogWrite.{MayAppend, MayRewrite, with_item, written_record}
 use Rattle.lossy_index.specs.Slot.{IsSlotOf, HasNoSlot}
 use Rattle.lossy_index.specs.Place.{Takes, GivesWay, empty, passed, oldest}
 use Rattle.cache_partition.specs.Gained.{MayWrite, Gains, marked_with}
@@ -347,24 +347,30 @@ module _ (o : OwnerState) (s : Kept o) (may : MayWrite o) (key value : List ℕ)
   put = write_of Put key value
 
   pub may_append : kept_offset o (write_of Put key value) ≡ None → p ≡ tail_of (stamp_in o) → MayAppend (marked_with o b (write_of Put key value) n) p key value
-  may_append keeps tail = record {
-    marked = refl;
-    at_tail = subst (λ (z : State). IsAppendedAt (options_in o) z (write_of Put key value) p) (sym (at o s may (write_of Put key value) is))
-        (held_none o s may (write_of Put key value) is keeps, tail ∙ ap tail_of (stamp_now o s may (write_of Put key value) is));
-  }
+  may_append keeps tail =
+      let before : Cache = (now o s may (write_of Put key value) is).0 in
+      let none = held_none o s may (write_of Put key value) is keeps in
+      let own = written_own (options_in o) before (write_of Put key value) None none in
+      subst (λ (z : State). written_record (options_in o) z (write_of Put key value) ≡ Some (record { key = key; value = value; offset = p; room = item_size key value })) (sym (at o s may (write_of Put key value) is))
+      (ap (λ (found : Option Record). record_of (cs.after_put found before (write_of Put key value)) key) none ∙ own.1
+      ∙ ap (λ (z : ℕ). Some (record { key = key; value = value; offset = z; room = item_size key value })) (sym (tail ∙ ap tail_of (stamp_now o s may (write_of Put key value) is))))
 
   pub may_rewrite : (slot : ℕ) → b ≡ bucket_in o key → kept_offset o (write_of Put key value) ≡ Some p → IsSlotOf o b key slot → MayRewrite (marked_with o b (write_of Put key value) n) p key value
   may_rewrite slot in_its keeps found =
+      let before : Cache = (now o s may (write_of Put key value) is).0 in
       let held = held_at o s may (write_of Put key value) is p keeps in
-      let before = room_kept o s may (write_of Put key value) is n b p in_its held.0 held.1 held.2 slot found in
+      let room = room_kept o s may (write_of Put key value) is n b p in_its held.0 held.1 held.2 slot found in
       let main : IsMain o.shape b = subst (IsMain o.shape) (sym in_its) (key_main o s key) in
-      let its_key : held.0.key ≡ key = found_key key (now o s may (write_of Put key value) is).0.records held.0 (keeps_put (options_in o) (now o s may (write_of Put key value) is).0 (write_of Put key value) held.0 held.1).is in
+      let its_key : held.0.key ≡ key = found_key key before.records held.0 (keeps_put (options_in o) before (write_of Put key value) held.0 held.1).is in
       let spelt : SpellsItem (marked_with o b (write_of Put key value) n) p key (cell_at held.0).0 = λ i l.
-      effects.marked_item o s.wide (some_words o s) b main (write_of Put key value) n (p + i) ∙ (ap (λ (z : ℕ). item_in o (z + i)) (sym before.1) ∙ before.2.item i l) in
+      effects.marked_item o s.wide (some_words o s) b main (write_of Put key value) n (p + i) ∙ (ap (λ (z : ℕ). item_in o (z + i)) (sym room.1) ∙ room.2.item i l) in
+      let own = written_own (options_in o) before (write_of Put key value) (Some held.0) held.1 in
       record {
-        marked = refl;
-        in_place = subst (λ (z : State). IsKeptAt (marked_with o b (write_of Put key value) n) z (write_of Put key value) p) (sym (at o s may (write_of Put key value) is))
-            (held.0, held.1, held.2, subst (λ (k : List ℕ). SpellsItem (marked_with o b (write_of Put key value) n) p k (cell_at held.0).0) (sym its_key) spelt);
+        cell = (cell_at held.0).0;
+        there = spelt;
+        leaves = subst (λ (z : State). written_record (options_in o) z (write_of Put key value) ≡ Some (record { key = key; value = value; offset = p; room = held.0.room })) (sym (at o s may (write_of Put key value) is))
+            (ap (λ (r : Option Record). record_of (cs.after_put r before (write_of Put key value)) key) held.1 ∙ own.1
+            ∙ (λ j. Some (record { key = its_key j; value = value; offset = held.2 j; room = held.0.room })));
       }
 
 -- what was marked and stored is the history's gain, and other words

@@ -1,3 +1,3 @@
-pub mod MarkedPut
+pub mod MarkedItem
 pub mod InPlace
 pub mod LoadedValue

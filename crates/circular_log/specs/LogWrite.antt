@@ -1,47 +1,38 @@
--- The item that a marked put stores in the log.
-use Rattle.std.specs.Prelude.{◌≡◌, ℕ, List, Some, None}
-use Rattle.mica_words.specs.Stamp.{tail_of}
+-- The item that a marked write stores in the log.
+use Rattle.std.specs.Prelude.{◌≡◌, ℕ, List, Option, Some, None}
+use Rattle.mica_words.specs.Item.{item_size}
 use Rattle.mica_words.specs.Spelling.{item_words}
 use Rattle.mica_model.specs.declared.options.Options.{Options}
-use Rattle.mica_model.specs.declared.write.Op.TheVariants.{Put}
 use Rattle.mica_model.specs.declared.write.Write.{Write}
-use Rattle.mica_model.specs.Write.{write_of}
-use Rattle.mica_model.specs.Cache.{Record}
-use Rattle.mica_model.specs.CacheStep.{kept_record}
+use Rattle.mica_model.specs.Cache.{Record, record_of}
+use Rattle.mica_model.specs.CacheStep.{after_write}
 use Rattle.mica_model.specs.History.{State, cache_state, store_state, state_of}
+use Rattle.mica_model.specs.Store.{Cell}
 use Rattle.epoch_core.specs.declared.state.OwnerState.{OwnerState}
 use Rattle.epoch_core.specs.OwnerState.{options_in}
-use Rattle.epoch_core.specs.StandsFor.{cell_at, SpellsItem}
+use Rattle.epoch_core.specs.StandsFor.{SpellsItem}
 use Rattle.epoch_core.specs.Events.{WhenMarked, plays, puts_from}
 
--- the write is not kept in place, and the tail before it stood at the offset
-abbrev pub IsAppendedAt : Options → State → Write → ℕ → Type 0
-IsAppendedAt options (cache_state before) write p =
-    (kept_record options before write ≡ None) × (p ≡ tail_of before.stamp)
-IsAppendedAt options (store_state before) write p = ⊥
+-- the record that a write leaves its key, before the log passes and the index displaces
+abbrev pub written_record : Options → State → Write → Option Record
+written_record options (cache_state before) write = record_of (after_write options before write) write.key
+written_record options (store_state before) write = None
 
--- the write is kept in place at the offset, whose words spell the record as it was before
-abbrev pub IsKeptAt : OwnerState → State → Write → ℕ → Type 0
-IsKeptAt o (cache_state before) write p =
-    (held : Record) × (kept_record (options_in o) before write ≡ Some held)
-    × (held.offset ≡ p) × SpellsItem o p held.key (cell_at held).0
-IsKeptAt o (store_state before) write p = ⊥
+-- the marked write leaves its key this value, in an item at the offset with this room
+abbrev pub LeavesItem : OwnerState → ℕ → ℕ → List ℕ → List ℕ → Type 0
+LeavesItem o p room key value =
+    WhenMarked o.phase (λ b write before. written_record (options_in o) (state_of (options_in o) before) write
+    ≡ Some (record { key = key; value = value; offset = p; room = room }))
 
--- the marked write puts this value for this key
-abbrev pub HasMarkedPut : OwnerState → List ℕ → List ℕ → Type 0
-HasMarkedPut o key value = WhenMarked o.phase (λ b write before. write ≡ write_of Put key value)
+-- the marked write appends its item at the offset, in a room of the item's size
+abbrev pub MayAppend : OwnerState → ℕ → List ℕ → List ℕ → Type 0
+MayAppend o p key value = LeavesItem o p (item_size key value) key value
 
--- the marked put appends its item at the offset
-pub record MayAppend (o : OwnerState) (p : ℕ) (key value : List ℕ) : Type 0 where
-  pub marked : HasMarkedPut o key value
-  pub at_tail : WhenMarked o.phase
-      (λ b write before. IsAppendedAt (options_in o) (state_of (options_in o) before) write p)
-
--- the marked put writes its value into the room of the item at the offset
+-- an item of the key stands at the offset, and the marked write leaves it there with another value, in the same room
 pub record MayRewrite (o : OwnerState) (p : ℕ) (key value : List ℕ) : Type 0 where
-  pub marked : HasMarkedPut o key value
-  pub in_place : WhenMarked o.phase
-      (λ b write before. IsKeptAt o (state_of (options_in o) before) write p)
+  pub cell : Cell
+  pub there : SpellsItem o p key cell
+  pub leaves : LeavesItem o p cell.room key value
 
 -- the state with an item of this room, key and value stored at the offset
 abbrev pub with_item : OwnerState → ℕ → ℕ → List ℕ → List ℕ → OwnerState

@@ -10,7 +10,7 @@ use epoch_core::{OwnerWords, WordAt, rewrite_item, write_item_hashed};
 use mica_model::ItemBuf;
 use mica_words::{header_key_len, header_room, header_value_len, item_size, key_hash};
 
-/// Writes the marked put's item at the offset, the tail before it, in a room of its own size.
+/// Writes the marked write's item at the offset, in a room of the item's size.
 pub fn append<W: OwnerWords>(words: &mut W, offset: u64, key: &[u8], value: &[u8])
     requires key { KeyFits key.now }
     requires value { ValueFits value.now }
@@ -40,7 +40,7 @@ pub fn append_hashed<W: OwnerWords>(words: &mut W, offset: u64, key: &[u8], hash
     write_item_hashed(words, offset, room, key, hash, value);
 }
 
-/// Writes the marked put's value into the room of the key's item. The room stays, and so do the hash and
+/// Writes the marked write's value into the room of the key's item. The room stays, and so do the hash and
 /// the key, which are not stored again.
 pub fn rewrite<W: OwnerWords>(words: &mut W, offset: u64, key: &[u8], value: &[u8])
     requires key { KeyFits key.now }

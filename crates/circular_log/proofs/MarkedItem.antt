@@ -1,0 +1,72 @@
+-- The words of a marked write's item may be put.
+use Rattle.std.proofs.Common.{◌≡◌, ℕ, ◌+◌, ◌^◌, ◌<◌, ◌≤◌, List, Option, Some, refl, sym, ap, subst, arith}
+use Rattle.std.specs.List.{AllByRecursion}
+use Rattle.std.proofs.lemmas.Option.{none-some}
+use Rattle.mica_words.specs.Item.{item_size}
+use Rattle.mica_words.specs.Spelling.{item_words}
+use Rattle.mica_words.specs.Stamp.{tail_of}
+use Rattle.mica_words.proofs.ItemWords.{length-item_words}
+use Rattle.mica_model.specs.declared.write.Write.{Write}
+use Rattle.mica_model.specs.Write.{IsWrite}
+use Rattle.mica_model.specs.Cache.{Record, has_key}
+use Rattle.mica_model.specs.CacheStep.{IsInItem, after_write}
+use Rattle.mica_model.specs.Limits.{most_stamp}
+use Rattle.mica_model.specs.History.{History, State, cache_state, store_state, state_of, stamp_in, stamp_of}
+use Rattle.mica_model.proofs.CacheKept.{IsRecord, after_write_is}
+use Rattle.mica_model.proofs.CacheLaws.{kept_in}
+use Rattle.mica_model.proofs.Found.{found_has}
+use Rattle.mica_model.proofs.Laid.{laid_found}
+use Rattle.mica_model.proofs.Rises.{stamp_rises}
+use Rattle.mica_model.proofs.Stamps.{stamp_small}
+use Rattle.epoch_core.specs.declared.state.OwnerState.{OwnerState}
+use Rattle.epoch_core.specs.declared.state.Phase.{Phase}
+use Rattle.epoch_core.specs.declared.state.Phase.TheVariants.{Idle, Begun, Marked}
+use Rattle.epoch_core.specs.OwnerState.{options_in}
+use Rattle.epoch_core.specs.Events.{WhenMarked, BelongsTo, CanPlay, puts_from}
+use Rattle.epoch_core.specs.Kept.{PhaseFits, Kept}
+use Rattle.epoch_core.proofs.Machine.{all_parts}
+use Rattle.epoch_core.proofs.Puts.{MayPutWords, can_put}
+use Rattle.circular_log.specs.LogWrite.{LeavesItem, written_record}
+
+module _ (o : OwnerState) (s : Kept o) (p room : ℕ) (key value : List ℕ) where
+  abbrev item : Record
+  item = record { key = key; value = value; offset = p; room = room }
+
+  belongs : (b : ℕ) (write : Write) (now : State) → written_record (options_in o) now write ≡ Some item → (i : ℕ) → i < item_size key value → BelongsTo o b write now (p + i)
+  belongs b write (cache_state now) is i l = subst (λ (r : Option Record). IsInItem r (p + i)) (sym is) (omega arith, omega arith)
+  belongs b write (store_state now) is i l = absurd (none-some item is)
+
+  -- the tail before a marked write is far from the largest offset
+  tail_small : (b : ℕ) (write : Write) (before : History) → o.phase ≡ Marked b write before → stamp_of (options_in o) before ≤ most_stamp
+  tail_small b write before is =
+      let fits = subst (PhaseFits o) is s.phase in
+      let rises = stamp_rises (options_in o) before write in
+      let small = stamp_small (options_in o) s.shape.ranges o.history s.history.accepted s.history.writes in
+      let same = ap (stamp_of (options_in o)) fits.1 in
+      omega arith
+
+  -- the item ends before the tail after it
+  low : (before : History) → AllByRecursion IsWrite before → (write : Write) → IsWrite write → (now : State) → state_of (options_in o) before ≡ now → stamp_in now ≤ most_stamp
+      → written_record (options_in o) now write ≡ Some item → p + item_size key value ≤ 2 ^ 48
+  low before writes write is (cache_state now) at small stored =
+      let written = after_write_is (options_in o) now (kept_in (options_in o) before writes now at) write is in
+      let end = (laid_found (has_key write.key) 0 (tail_of (after_write (options_in o) now write).stamp) (after_write (options_in o) now write).records item written.laid stored).1 in
+      let fits = (found_has IsRecord (has_key write.key) (after_write (options_in o) now write).records item written.are stored).size in
+      let most = written.most in
+      omega arith
+  low before writes write is (store_state now) at small stored = absurd (none-some item stored)
+
+  may_put : (phase : Phase) → o.phase ≡ phase → WhenMarked phase (λ b write before. written_record (options_in o) (state_of (options_in o) before) write ≡ Some item) → MayPutWords o p (item_size key value)
+  may_put Idle is stored = absurd stored
+  may_put (Begun b) is stored = absurd stored
+  may_put (Marked b write before) is stored =
+      let fits = subst (PhaseFits o) is s.phase in
+      let all = all_parts IsWrite before write (subst (AllByRecursion IsWrite) fits.1 s.history.writes) in
+      let end = low before all.0 write all.1 (state_of (options_in o) before) refl (tail_small b write before is) stored in
+      λ i l. record {
+        its_word = subst (λ (z : Phase). WhenMarked z (λ b write before. BelongsTo o b write (state_of (options_in o) before) (p + i))) (sym is) (belongs b write (state_of (options_in o) before) stored i l);
+        low = omega arith;
+      }
+
+  pub can_store : LeavesItem o p room key value → (header_room : ℕ) → CanPlay (puts_from p (item_words header_room key value)) o
+  can_store stored header_room = can_put o s p (item_words header_room key value) (λ i l. may_put o.phase refl stored i (omega (arith, length-item_words header_room key value)))
