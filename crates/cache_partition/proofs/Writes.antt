@@ -23,15 +23,16 @@ use Rattle.mica_model.specs.declared.write.Outcome.{Outcome}
 use Rattle.mica_model.specs.declared.write.Outcome.TheVariants.{Worn}
 use Rattle.mica_model.specs.Limits.{most_stamp}
 use Rattle.mica_model.specs.Write.{IsWrite, write_of, size_of, is_accepted}
-use Rattle.mica_model.specs.Cache.{Cache, Record, record_of, is_live}
+use Rattle.mica_model.specs.Cache.{Cache, Record, has_key, record_of, is_live}
 use Rattle.mica_model.specs.Cache as cache
 use Rattle.mica_model.specs.Store as store
 use Rattle.mica_model.specs.CacheStep as cs
 use Rattle.mica_model.specs.CacheStep.{kept_record}
 use Rattle.mica_model.specs.History.{State, start, cache_state, stamp_of, accepted_in, stamp_in as stamp_of_state, after as state_after, Allows, MayGive, IsAcceptedAfter}
-use Rattle.mica_model.proofs.CacheKept.{IsKept, keeps_put, size_at_most}
-use Rattle.mica_model.proofs.CacheLaws.{kept_in, written_own}
-use Rattle.mica_model.proofs.Laid.{found_key}
+use Rattle.mica_model.proofs.CacheKept.{IsKept, keeps_put, others_lack, rewritten, rewritten_key, size_at_most}
+use Rattle.mica_model.proofs.CacheLaws.{kept_in}
+use Rattle.mica_model.proofs.Found as found
+use Rattle.mica_model.proofs.Laid.{found_key, found_map, has_its_key}
 use Rattle.mica_model.proofs.Histories.{cached_in, state_snoc, accepted_is_length}
 use Rattle.mica_model.proofs.Stamps.{stamp_small}
 use Rattle.epoch_core.specs.declared.state.OwnerState.{OwnerState}
@@ -340,6 +341,21 @@ module _ (o : OwnerState) (s : Kept o) (may : MayWrite o) (w : Write) (is : IsWr
         → Kept (after (PutsEntry (bucket_in o w.key) slot (entry_of (tag_of w.key) (tail_of now.0.stamp))) z) → MayEnd (after (PutsEntry (bucket_in o w.key) slot (entry_of (tag_of w.key) (tail_of now.0.stamp))) z) (bucket_in o w.key))
         (sym (stored_is op keeps stamp)) (by_slot op keeps stamp old slot)))) sought
 
+-- the record that a put leaves its key
+
+appended_record : (m : Cache) (w : Write) → record_of (cs.after_put None m w) w.key ≡ Some (cs.new_record m w.key w.value)
+appended_record m w =
+    let new = cs.new_record m w.key w.value in
+    found.found_append_none (has_key w.key) (cs.others w.key m.records) (new ∷ []) (others_lack w.key m.records)
+    ∙ ap (λ b. cond b (Some new) None) (has_its_key w.key new refl)
+
+rewritten_record : (options : Options) (m : Cache) (w : Write) (held : Record) → kept_record options m w ≡ Some held
+    → record_of (cs.after_put (Some held) m w) w.key ≡ Some (record held { value = w.value })
+rewritten_record options m w held at =
+    let keeps = keeps_put options m w held at in
+    found_map (rewritten w) (rewritten_key w) w.key m.records held keeps.is
+    ∙ ap (λ b. Some (cond b (record held { value = w.value }) held)) (found.found_passes (has_key w.key) m.records held keeps.is)
+
 -- a put's item may be stored
 
 module _ (o : OwnerState) (s : Kept o) (may : MayWrite o) (key value : List ℕ) (is : IsWrite (write_of Put key value)) (b n p : ℕ) where
@@ -350,9 +366,8 @@ module _ (o : OwnerState) (s : Kept o) (may : MayWrite o) (key value : List ℕ)
   may_append keeps tail =
       let before : Cache = (now o s may (write_of Put key value) is).0 in
       let none = held_none o s may (write_of Put key value) is keeps in
-      let own = written_own (options_in o) before (write_of Put key value) None none in
       subst (λ (z : State). written_record (options_in o) z (write_of Put key value) ≡ Some (record { key = key; value = value; offset = p; room = item_size key value })) (sym (at o s may (write_of Put key value) is))
-      (ap (λ (found : Option Record). record_of (cs.after_put found before (write_of Put key value)) key) none ∙ own.1
+      (ap (λ (found : Option Record). record_of (cs.after_put found before (write_of Put key value)) key) none ∙ appended_record before (write_of Put key value)
       ∙ ap (λ (z : ℕ). Some (record { key = key; value = value; offset = z; room = item_size key value })) (sym (tail ∙ ap tail_of (stamp_now o s may (write_of Put key value) is))))
 
   pub may_rewrite : (slot : ℕ) → b ≡ bucket_in o key → kept_offset o (write_of Put key value) ≡ Some p → IsSlotOf o b key slot → MayRewrite (marked_with o b (write_of Put key value) n) p key value
@@ -364,12 +379,11 @@ module _ (o : OwnerState) (s : Kept o) (may : MayWrite o) (key value : List ℕ)
       let its_key : held.0.key ≡ key = found_key key before.records held.0 (keeps_put (options_in o) before (write_of Put key value) held.0 held.1).is in
       let spelt : SpellsItem (marked_with o b (write_of Put key value) n) p key (cell_at held.0).0 = λ i l.
       effects.marked_item o s.wide (some_words o s) b main (write_of Put key value) n (p + i) ∙ (ap (λ (z : ℕ). item_in o (z + i)) (sym room.1) ∙ room.2.item i l) in
-      let own = written_own (options_in o) before (write_of Put key value) (Some held.0) held.1 in
       record {
         cell = (cell_at held.0).0;
         there = spelt;
         leaves = subst (λ (z : State). written_record (options_in o) z (write_of Put key value) ≡ Some (record { key = key; value = value; offset = p; room = held.0.room })) (sym (at o s may (write_of Put key value) is))
-            (ap (λ (r : Option Record). record_of (cs.after_put r before (write_of Put key value)) key) held.1 ∙ own.1
+            (ap (λ (r : Option Record). record_of (cs.after_put r before (write_of Put key value)) key) held.1 ∙ rewritten_record (options_in o) before (write_of Put key value) held.0 held.1
             ∙ (λ j. Some (record { key = its_key j; value = value; offset = held.2 j; room = held.0.room })));
       }
 
