@@ -2,7 +2,7 @@
 use Rattle.std.proofs.Common.{◌≡◌, ℕ, zero, suc, ◌+◌, ◌*◌, ◌≤◌, ◌<◌, List, [], ◌∷◌, ◌++◌, length, get_or, Option, Some, None, Bool, true, false, cond, refl, sym, ap, ◌∙◌, subst, arith, eqb, leb, slice_set, remove, is_some}
 use Rattle.std.specs.List.{find, position, count_by, AllByRecursion as AllOf}
 use Rattle.std.proofs.lemmas.List.Quantifiers.{position-Some}
-use Rattle.std.specs.Prelude.{map, option_map, IfSome}
+use Rattle.std.specs.Prelude.{map, option_map}
 use Rattle.std.proofs.lemmas.Bool.{eq-eqb, ne_eqb, le-leb, lt-leb, and_from, and_left, and_right}
 use Rattle.std.proofs.lemmas.Option.{none-some}
 use Rattle.mica_words.specs.declared.entry.TheConstants.{SLOTS}
@@ -41,13 +41,6 @@ module _ (options : Options) (key : List ℕ) (records : List Record) where
   pub displaced_goes : without_at (displaced_at options key records) records
       ≡ cond (eqb (count_by (is_in_bucket options (bucket_of key options.buckets)) records) (SLOTS + 1)) (without_first (is_in_bucket options (bucket_of key options.buckets)) records) records
   displaced_goes = leaves_by (displaced_at options key records) (record { key = key; value = []; offset = 0; room = 0 }) refl
-
-  pub displaced_within : (at : Option ℕ) → at ≡ displaced_at options key records → IfSome at (λ i. i < length records)
-  displaced_within None is = tt
-  displaced_within (Some at) is = elim (eqb (count_by here records) (SLOTS + 1)) as (λ b. Some at ≡ cond b (position here records) None → at < length records) [
-    | true ↦ λ e. (position-Some here records at (record { key = key; value = []; offset = 0; room = 0 }) (sym e)).0
-    | false ↦ λ e. absurd (none-some at (sym e))
-  ] is
 
   module _ (bucket : ℕ) (is : bucket ≡ bucket_of key options.buckets) where
     pub displaced_full : count_by (is_in_bucket options bucket) records ≡ SLOTS + 1 → position (is_in_bucket options bucket) records ≡ displaced_at options key records
@@ -98,9 +91,6 @@ module _ (options : Options) (s : Cache) (write : Write) where
 
   pub kept_no : (at : ℕ) → position (has_key write.key) s.records ≡ Some at → (held : Record) → held ≡ get_or s.records at held → may_keep options s write held ≡ false → kept_place options s write ≡ None
   kept_no at is held read may = ap place_if (found_place at is held read ∙ ap (λ b. cond b (Some held) None) may)
-
-  pub kept_none : position (has_key write.key) s.records ≡ None → kept_place options s write ≡ None
-  kept_none is = ap (λ o. place_if (kept_if options s write o)) (missed_all (has_key write.key) s.records is)
 
 -- a put that appends
 pub appended_is : (s : Cache) (write : Write) (records : List Record) (new : Record) (size : ℕ) → records ≡ cs.others write.key s.records ++ new ∷ [] → new ≡ cs.new_record s write.key write.value → size ≡ size_of write
