@@ -1,14 +1,19 @@
--- What the calls go by of the owner's fact: how many words there are, and what holds of all chains.
-use Rattle.std.proofs.Common.{◌≡◌, ℕ, zero, suc, ◌<◌, inl, inr, ◌⊎◌, length, sym, ◌∙◌, subst, arith, length-set}
+-- What the calls go by of the owner's fact: how many words there are, and the buckets of all chains.
+use Rattle.std.proofs.Common.{◌≡◌, ℕ, zero, suc, ◌<◌, ◌≤◌, inl, inr, ◌⊎◌, List, length, slice_index, sym, ◌∙◌, subst, arith, length-set}
+use Rattle.mica_model.specs.History.{History}
 use Rattle.epoch_core.specs.declared.state.OwnerState.{OwnerState}
+use Rattle.epoch_core.specs.declared.state.Phase.{Phase}
 use Rattle.epoch_core.specs.declared.event.Event.TheVariants.{PutsEntry}
 use Rattle.epoch_core.specs.Shape.{IsMain, IsSpare, IsBucket}
-use Rattle.epoch_core.specs.Layout.{entry_at, word_count}
+use Rattle.epoch_core.specs.Layout.{entry_at, link_at, word_count}
 use Rattle.epoch_core.specs.OwnerState.{link_in}
-use Rattle.epoch_core.specs.Chain.{IsAmong, EndsWithin, InChain, HasChains}
+use Rattle.epoch_core.specs.Chain.{InChain, HasChains}
 use Rattle.epoch_core.specs.Events.{after}
 use Rattle.epoch_core.specs.Kept.{Kept}
 use Rattle.epoch_core.proofs.EventWords.{link_puts_entry}
+use Rattle.chained_index.specs.ChainEntries.{buckets_of}
+use Rattle.chained_index.proofs.Lists.{at}
+use Rattle.chained_index.proofs.Paths.{IsPath, same_path, path_from, path_is, place_in, in_path, path_ends, few_buckets}
 
 pub record Chained (o : OwnerState) : Type 0 where
   pub wide : length o.words ≡ word_count o.shape
@@ -17,47 +22,100 @@ pub record Chained (o : OwnerState) : Type 0 where
 pub chained : (o : OwnerState) → Kept o → Chained o
 chained o kept = record { wide = kept.wide; chains = kept.chains }
 
--- a chain has buckets alone
+-- The buckets of the chain of a main bucket.
+pub record IsChain (o : OwnerState) (b : ℕ) (cs : List ℕ) : Type 0 where
+  pub main : IsMain o.shape b
+  pub path : IsPath o b cs
+  pub spare : (k : ℕ) → suc k < length cs → IsSpare o.shape (at cs (suc k))
+  pub few : length cs ≤ suc o.shape.spares
 
-among_inside : (o : OwnerState) → HasChains o → (n x y : ℕ) → IsBucket o.shape x → IsAmong o n x y → IsBucket o.shape y
-among_inside o s zero x y l h = absurd h
-among_inside o s (suc n) x y l (inl is) = subst (IsBucket o.shape) is l
-among_inside o s (suc n) x y l (inr h) = elim (s.links x l) [ inl none ↦ absurd (h.0 none) | inr spare ↦ among_inside o s n (link_in o x) y spare.1 h.1 ]
+module _ (o : OwnerState) (b : ℕ) (cs : List ℕ) (chain : IsChain o b cs) where
+  pub chain_is : buckets_of o b ≡ cs
+  chain_is = path_is o b cs chain.path chain.few
+
+  pub inside : (k : ℕ) → k < length cs → IsBucket o.shape (at cs k)
+  inside zero l = let main = chain.main in let first = chain.path.first in omega arith
+  inside (suc k) l = (chain.spare k l).1
+
+  pub in_chain : (k : ℕ) → k < length cs → InChain o b (at cs k)
+  in_chain = in_path o b cs chain.path chain.few
+
+module _ (o : OwnerState) (s : Chained o) (b : ℕ) (main : IsMain o.shape b) where
+  module _ (cs : List ℕ) (path : IsPath o b cs) where
+    spare_behind : (k : ℕ) → suc k < length cs → IsBucket o.shape (at cs k) → IsSpare o.shape (at cs (suc k))
+    spare_behind k l bucket = elim (s.chains.links (at cs k) bucket) [
+      | inl none ↦ absurd (path.linked k l (sym (path.links k (omega arith)) ∙ none))
+      | inr spare ↦ subst (IsSpare o.shape) (path.links k (omega arith)) spare
+    ]
+
+    within : (k : ℕ) → k < length cs → IsBucket o.shape (at cs k)
+    within zero l = let first = path.first in omega arith
+    within (suc k) l = (spare_behind k l (within k (omega arith))).1
+
+    pub chain_of : IsChain o b cs
+    chain_of = record {
+      main = main;
+      path = path;
+      spare = λ k l. spare_behind k l (within k (omega arith));
+      few = few_buckets o b cs path (suc o.shape.spares) (s.chains.end b main);
+    }
+
+  pub chain_there : IsChain o b (buckets_of o b)
+  unfolding buckets_of
+  chain_there = chain_of (buckets_of o b) (path_from o (suc o.shape.spares) b (s.chains.end b main))
 
 pub chain_inside : (o : OwnerState) → Chained o → (b c : ℕ) → IsMain o.shape b → InChain o b c → IsBucket o.shape c
-chain_inside o s b c l h = among_inside o s.chains (suc o.shape.spares) b c (omega arith) h
+chain_inside o s b c main h =
+    let chain = chain_there o s b main in
+    let place = place_in o b (buckets_of o b) chain.path c h in
+    subst (IsBucket o.shape) place.2 (inside o b (buckets_of o b) chain place.0 place.1)
 
--- An entry that was stored changed no chain.
-module _ (o : OwnerState) (c slot x : ℕ) (low : slot < 15) where
+-- A chain whose links are the same has the same buckets.
+module _ (o : OwnerState) (words : List ℕ) (history : History) (phase : Phase) (b : ℕ) (cs : List ℕ) (chain : IsChain o b cs) where
   abbrev p : OwnerState
-  p = after (PutsEntry c slot x) o
+  p = record o { words = words; history = history; phase = phase }
 
-  module _ (s : Chained p) where
-    before_wide : length o.words ≡ word_count o.shape
-    before_wide = sym (length-set o.words (entry_at o.shape c slot) x) ∙ s.wide
+  module _ (same : (k : ℕ) → k < length cs → link_in p (at cs k) ≡ link_in o (at cs k)) where
+    pub same_chain : IsChain p b cs
+    same_chain = record { main = chain.main; path = same_path o p b cs chain.path same; spare = chain.spare; few = chain.few }
 
-    same : (d : ℕ) → link_in p d ≡ link_in o d
-    same d = link_puts_entry o before_wide c slot x d low
+    pub same_on : (c : ℕ) → InChain o b c → InChain p b c
+    same_on c h = let place = place_in o b cs chain.path c h in subst (InChain p b) place.2 (in_chain p b cs same_chain place.0 place.1)
 
-    among_on : (n d e : ℕ) → IsAmong o n d e → IsAmong p n d e
-    among_on zero d e h = absurd h
-    among_on (suc n) d e (inl is) = inl is
-    among_on (suc n) d e (inr h) = inr (
-      λ none. h.0 (sym (same d) ∙ none),
-      subst (λ (z : ℕ). IsAmong p n z e) (sym (same d)) (among_on n (link_in o d) e h.1),
-    )
+    pub same_back : (c : ℕ) → InChain p b c → InChain o b c
+    same_back c h = let place = place_in p b cs same_chain.path c h in subst (InChain o b) place.2 (in_chain o b cs chain place.0 place.1)
 
-    ends_back : (n d : ℕ) → EndsWithin p n d → EndsWithin o n d
-    ends_back zero d h = absurd h
-    ends_back (suc n) d (inl none) = inl (sym (same d) ∙ none)
-    ends_back (suc n) d (inr h) = inr (ends_back n (link_in o d) (subst (EndsWithin p n) (same d) h))
+-- Where the links of all buckets are the same, all chains are.
+module _ (o : OwnerState) (words : List ℕ) (history : History) (phase : Phase) (long : length words ≡ length o.words) (s : Chained o)
+    (same : (d : ℕ) → IsBucket o.shape d → slice_index words (link_at o.shape d) ≡ link_in o d) where
+  abbrev q : OwnerState
+  q = record o { words = words; history = history; phase = phase }
 
-    pub chained_before : Chained o
-    chained_before = record {
-      wide = before_wide;
-      chains = record {
-        links = λ d l. subst (λ (z : ℕ). (z ≡ 0) ⊎ IsSpare o.shape z) (same d) (s.chains.links d l);
-        end = λ b l. ends_back (suc o.shape.spares) b (s.chains.end b l);
-        apart = λ b b' d l l' n h h'. s.chains.apart b b' d l l' n (among_on (suc o.shape.spares) b d h) (among_on (suc o.shape.spares) b' d h');
-      };
-    }
+  module _ (b : ℕ) (main : IsMain o.shape b) where
+    chain : IsChain o b (buckets_of o b)
+    chain = chain_there o s b main
+
+    same_at : (k : ℕ) → k < length (buckets_of o b) → link_in q (at (buckets_of o b) k) ≡ link_in o (at (buckets_of o b) k)
+    same_at k l = same (at (buckets_of o b) k) (inside o b (buckets_of o b) chain k l)
+
+    chain_kept : IsChain q b (buckets_of o b)
+    chain_kept = same_chain o words history phase b (buckets_of o b) chain same_at
+
+    was_in : (d : ℕ) → InChain q b d → InChain o b d
+    was_in = same_back o words history phase b (buckets_of o b) chain same_at
+
+  pub chained_kept : Chained q
+  chained_kept = record {
+    wide = long ∙ s.wide;
+    chains = record {
+      links = λ d l. subst (λ (z : ℕ). (z ≡ 0) ⊎ IsSpare o.shape z) (sym (same d l)) (s.chains.links d l);
+      end = λ b main. let kept = chain_kept b main in path_ends q b (buckets_of o b) kept.path (suc o.shape.spares) kept.few;
+      apart = λ b b' d l l' n h h'. s.chains.apart b b' d l l' n (was_in b l d h) (was_in b' l' d h');
+    };
+  }
+
+-- so before an entry was stored the chains were as they are
+pub chained_before : (o : OwnerState) (c slot x : ℕ) → slot < 15 → Chained (after (PutsEntry c slot x) o) → Chained o
+chained_before o c slot x low s =
+    let long = length-set o.words (entry_at o.shape c slot) x in
+    chained_kept (after (PutsEntry c slot x) o) o.words o.history o.phase (sym long) s (λ d l. sym (link_puts_entry o (sym long ∙ s.wide) c slot x d low))

@@ -1,0 +1,71 @@
+-- When the stores of a call may happen: its bucket is marked, and they go to buckets of its chain or to a free spare.
+use Rattle.std.proofs.Common.{◌≡◌, ◌≢◌, ℕ, ◌<◌, ◌≤◌, inl, inr, ◌⊎◌, refl, sym, ◌∙◌, subst, arith}
+use Rattle.mica_words.specs.Entry.{entry_of}
+use Rattle.epoch_core.specs.declared.state.OwnerState.{OwnerState}
+use Rattle.epoch_core.specs.declared.state.Phase.{Phase}
+use Rattle.epoch_core.specs.declared.state.Phase.TheVariants.{Idle, Begun, Marked}
+use Rattle.epoch_core.specs.declared.event.Event.TheVariants.{PutsEntry}
+use Rattle.epoch_core.specs.Shape.{IsMain}
+use Rattle.epoch_core.specs.OwnerState.{link_in, marked_in}
+use Rattle.epoch_core.specs.Chain.{InChain, IsFreeSpare}
+use Rattle.epoch_core.specs.Events.{WhenMarked, IsItsBucket, MayPutEntry, MayPutLink, after}
+use Rattle.epoch_core.proofs.EventWords.{link_puts_entry}
+use Rattle.epoch_core.proofs.Marked.{bit_is, bit_same}
+use Rattle.chained_index.specs.ChainEntries.{buckets_of}
+use Rattle.chained_index.proofs.Lists.{at}
+use Rattle.chained_index.proofs.Chained.{Chained, chain_there, same_on, same_back}
+
+-- an entry is not 0, as its tag is not
+pub some_entry : (tag offset : ℕ) → 1 ≤ tag → entry_of tag offset ≢ 0
+some_entry tag offset some none = omega arith
+
+when_marked : (phase : Phase) (b : ℕ) (P : ℕ → Type 0) → marked_in phase b ≡ 1 → P b → WhenMarked phase (λ c write before. P c)
+when_marked Idle b P one h = absurd (omega arith)
+when_marked (Begun c) b P one h = absurd (omega arith)
+when_marked (Marked c write before) b P one h = subst P (sym (bit_is c b one)) h
+
+-- what holds of each bucket that may be the marked one holds when a write is marked
+pub marked_part : (phase : Phase) (P Q : ℕ → Type 0) → ((b : ℕ) → marked_in phase b ≡ 1 → P b → Q b)
+    → WhenMarked phase (λ b write before. P b) → WhenMarked phase (λ b write before. Q b)
+marked_part Idle P Q f h = h
+marked_part (Begun b) P Q f h = h
+marked_part (Marked b write before) P Q f h = f b (bit_same b b refl) h
+
+pub marked_any : (phase : Phase) (R : Type 0) → WhenMarked phase (λ b write before. R) → R
+marked_any Idle R h = absurd h
+marked_any (Begun b) R h = absurd h
+marked_any (Marked b write before) R h = h
+
+module _ (o : OwnerState) (b : ℕ) (one : marked_in o.phase b ≡ 1) where
+  its_own : (c : ℕ) → InChain o b c → IsItsBucket o c
+  its_own c h = when_marked o.phase b (λ d. InChain o d c ⊎ IsFreeSpare o c) one (inl h)
+
+  pub may_enter : (c slot : ℕ) → InChain o b c → slot < 15 → MayPutEntry o c slot
+  may_enter c slot h low = record { its_bucket = its_own c h; in_bucket = low }
+
+  pub may_begin : (c : ℕ) → IsFreeSpare o c → MayPutEntry o c 0
+  may_begin c f = record { its_bucket = when_marked o.phase b (λ d. InChain o d c ⊎ IsFreeSpare o c) one (inr f); in_bucket = omega arith }
+
+-- The same after a store of an entry, which changes no chain
+module _ (o : OwnerState) (s : Chained o) (b : ℕ) (main : IsMain o.shape b) (one : marked_in o.phase b ≡ 1) (c slot x : ℕ) (low : slot < 15) where
+  abbrev m : OwnerState
+  m = after (PutsEntry c slot x) o
+
+  links_same : (d : ℕ) → link_in m d ≡ link_in o d
+  links_same d = link_puts_entry o s.wide c slot x d low
+
+  pub still_in : (d : ℕ) → InChain o b d → InChain m b d
+  still_in = same_on o m.words o.history o.phase b (buckets_of o b) (chain_there o s b main) (λ k l. links_same (at (buckets_of o b) k))
+
+  still_free : (d : ℕ) → IsFreeSpare o d → IsFreeSpare m d
+  still_free d f = record {
+    spare = f.spare;
+    free = λ e l h. f.free e l (same_back o m.words o.history o.phase e (buckets_of o e) (chain_there o s e l) (λ k l. links_same (at (buckets_of o e) k)) d h);
+  }
+
+  -- a blank spare may be linked, or a link cut
+  pub may_link : (d next : ℕ) → InChain o b d → IsFreeSpare o next → link_in o next ≡ 0 → MayPutLink m d next
+  may_link d next h f none = record { its_bucket = its_own m b one d (still_in d h); free = inr (still_free next f, links_same next ∙ none) }
+
+  pub may_cut : (d : ℕ) → InChain o b d → MayPutLink m d 0
+  may_cut d h = record { its_bucket = its_own m b one d (still_in d h); free = inl refl }
