@@ -1,17 +1,7 @@
 -- When the stores of a call may happen: its bucket is marked, and they go to buckets of its chain or to a free spare.
-use Rattle.std.proofs.Common.{◌≡◌, ◌≢◌, ℕ, ◌<◌, ◌≤◌, inl, inr, ◌⊎◌, refl, sym, ◌∙◌, subst, arith}
-use Rattle.mica_words.specs.Entry.{entry_of}
-use Rattle.epoch_core.specs.declared.state.OwnerState.{OwnerState}
-use Rattle.epoch_core.specs.declared.state.Phase.{Phase}
-use Rattle.epoch_core.specs.declared.state.Phase.TheVariants.{Idle, Begun, Marked}
-use Rattle.epoch_core.specs.declared.event.Event.TheVariants.{PutsEntry}
-use Rattle.epoch_core.specs.Shape.{IsMain}
-use Rattle.epoch_core.specs.OwnerState.{link_in, marked_in}
-use Rattle.epoch_core.specs.Chain.{InChain, IsFreeSpare}
-use Rattle.epoch_core.specs.Events.{WhenMarked, IsItsBucket, MayPutEntry, MayPutLink, after}
-use Rattle.epoch_core.proofs.EventWords.{link_puts_entry}
-use Rattle.epoch_core.proofs.Marked.{bit_is, bit_same}
-use Rattle.chained_index.specs.ChainEntries.{buckets_of}
+use Rattle.chained_index.proofs.Words.{◌≡◌, ◌≢◌, ℕ, ◌<◌, ◌≤◌, inl, inr, ◌⊎◌, refl, sym, ◌∙◌, subst, arith, entry_of, OwnerState, Phase, Idle, Begun}
+use Rattle.chained_index.proofs.Words.{Marked, PutsEntry, IsMain, link_in, marked_in, InChain, IsFreeSpare, WhenMarked, IsItsBucket, MayPutEntry}
+use Rattle.chained_index.proofs.Words.{MayPutLink, after, link_puts_entry, bit_is, bit_same, buckets_of}
 use Rattle.chained_index.proofs.Lists.{at}
 use Rattle.chained_index.proofs.Chained.{Chained, chain_there, same_on, same_back}
 

@@ -1,23 +1,9 @@
 -- What the stores of each call make of a chain and its index.
-use Rattle.std.proofs.Common.{◌≡◌, ◌≢◌, ℕ, suc, ◌+◌, ◌-◌, ◌*◌, ◌<◌, ◌≤◌, inl, inr, ◌⊎◌, List, [], ◌∷◌, ◌++◌, length, take, set}
-use Rattle.std.proofs.Common.{refl, sym, ap, ◌∙◌, subst, arith, length-set}
-use Rattle.std.specs.Prelude.{Contains, swap_remove}
-use Rattle.std.proofs.lemmas.List.Elements.{Contains-push}
-use Rattle.epoch_core.specs.declared.state.OwnerState.{OwnerState}
-use Rattle.epoch_core.specs.declared.event.Event.TheVariants.{PutsEntry, PutsLink}
-use Rattle.epoch_core.specs.Shape.{IsMain, IsBucket}
-use Rattle.epoch_core.specs.OwnerState.{entry_in, marked_in}
-use Rattle.epoch_core.specs.Chain.{InChain, IsFreeSpare}
-use Rattle.epoch_core.specs.Events.{after}
-use Rattle.epoch_core.specs.Kept.{Kept}
-use Rattle.epoch_core.proofs.EventWords.{link_puts_entry}
-use Rattle.epoch_core.proofs.Marked.{ends_main}
-use Rattle.chained_index.specs.declared.index.Spot.{Spot}
-use Rattle.chained_index.specs.declared.index.ChainEnd.{ChainEnd}
-use Rattle.chained_index.specs.ChainEntries.{buckets_of, entries_of, number_of, entries_without, IsUsed}
-use Rattle.chained_index.specs.ChainShape.{EndsAt}
-use Rattle.chained_index.specs.ChainChange.{ChangesChain}
-use Rattle.chained_index.specs.Index.{Index, IsIndexOf, LacksPlace}
+use Rattle.chained_index.proofs.Words.{◌≡◌, ◌≢◌, ℕ, suc, ◌+◌, ◌-◌, ◌*◌, ◌<◌, ◌≤◌, inl, inr, ◌⊎◌, List, [], ◌∷◌, ◌++◌, length, take, set, refl, sym}
+use Rattle.chained_index.proofs.Words.{ap, ◌∙◌, subst, arith, length-set, Contains, swap_remove, Contains-push, OwnerState, PutsEntry, PutsLink}
+use Rattle.chained_index.proofs.Words.{IsMain, IsBucket, entry_in, marked_in, InChain, IsFreeSpare, after, Kept, link_puts_entry, ends_main, Spot}
+use Rattle.chained_index.proofs.Words.{ChainEnd, buckets_of, entries_of, number_of, entries_without, IsUsed, EndsAt, ChangesChain, Index, IsIndexOf}
+use Rattle.chained_index.proofs.Words.{LacksPlace}
 use Rattle.chained_index.proofs.Lists.{at}
 use Rattle.chained_index.proofs.Paths.{one_place}
 use Rattle.chained_index.proofs.Chained.{Chained, chained, chain_is, inside, in_chain, same_chain, chained_before}

@@ -1,17 +1,7 @@
 -- What the calls go by of the owner's fact: how many words there are, and the buckets of all chains.
-use Rattle.std.proofs.Common.{◌≡◌, ℕ, zero, suc, ◌<◌, ◌≤◌, inl, inr, ◌⊎◌, List, length, slice_index, sym, ◌∙◌, subst, arith, length-set}
-use Rattle.mica_model.specs.History.{History}
-use Rattle.epoch_core.specs.declared.state.OwnerState.{OwnerState}
-use Rattle.epoch_core.specs.declared.state.Phase.{Phase}
-use Rattle.epoch_core.specs.declared.event.Event.TheVariants.{PutsEntry}
-use Rattle.epoch_core.specs.Shape.{IsMain, IsSpare, IsBucket}
-use Rattle.epoch_core.specs.Layout.{entry_at, link_at, word_count}
-use Rattle.epoch_core.specs.OwnerState.{link_in}
-use Rattle.epoch_core.specs.Chain.{InChain, HasChains}
-use Rattle.epoch_core.specs.Events.{after}
-use Rattle.epoch_core.specs.Kept.{Kept}
-use Rattle.epoch_core.proofs.EventWords.{link_puts_entry}
-use Rattle.chained_index.specs.ChainEntries.{buckets_of}
+use Rattle.chained_index.proofs.Words.{◌≡◌, ℕ, zero, suc, ◌<◌, ◌≤◌, inl, inr, ◌⊎◌, List, length, slice_index, sym, ◌∙◌, subst, arith, length-set}
+use Rattle.chained_index.proofs.Words.{History, OwnerState, Phase, PutsEntry, IsMain, IsSpare, IsBucket, entry_at, link_at, word_count, link_in}
+use Rattle.chained_index.proofs.Words.{InChain, HasChains, after, Kept, link_puts_entry, buckets_of}
 use Rattle.chained_index.proofs.Lists.{at}
 use Rattle.chained_index.proofs.Paths.{IsPath, same_path, path_from, path_is, place_in, in_path, path_ends, few_buckets}
 

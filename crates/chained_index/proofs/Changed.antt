@@ -1,14 +1,7 @@
 -- What a change of one chain makes of all chains, and of the index.
-use Rattle.std.proofs.Common.{◌≡◌, ◌≢◌, ℕ, zero, suc, ◌<◌, inl, inr, ◌⊎◌, List, length, sym, ◌∙◌, subst}
-use Rattle.std.specs.Prelude.{Contains, AllPairs}
-use mathlib.Core.Logic.{dite}
-use native.Mathlib.Decide.{ℕ_discrete}
-use Rattle.epoch_core.specs.declared.state.OwnerState.{OwnerState}
-use Rattle.epoch_core.specs.Shape.{IsMain, IsSpare}
-use Rattle.epoch_core.specs.Chain.{InChain, IsDense, IsFreeSpare}
-use Rattle.chained_index.specs.ChainEntries.{buckets_of}
-use Rattle.chained_index.specs.ChainChange.{ChangesOnlyIndex, ChangesChain}
-use Rattle.chained_index.specs.Index.{Index, IsBlank, IsIndexOf}
+use Rattle.chained_index.proofs.Words.{◌≡◌, ◌≢◌, ℕ, zero, suc, ◌<◌, inl, inr, ◌⊎◌, List, length, sym, ◌∙◌, subst, Contains, AllPairs, dite}
+use Rattle.chained_index.proofs.Words.{ℕ_discrete, OwnerState, IsMain, IsSpare, InChain, IsDense, IsFreeSpare, buckets_of, ChangesOnlyIndex}
+use Rattle.chained_index.proofs.Words.{ChangesChain, Index, IsBlank, IsIndexOf}
 use Rattle.chained_index.proofs.Lists.{at, IsOf}
 use Rattle.chained_index.proofs.Paths.{IsPath, place_in}
 use Rattle.chained_index.proofs.Chained.{Chained, IsChain, in_chain, chain_there, chain_of}

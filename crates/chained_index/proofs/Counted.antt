@@ -1,13 +1,8 @@
 -- How many numbers of a range a list has.
-use Rattle.std.proofs.Common.{◌≡◌, ◌≢◌, ℕ, ◌+◌, ◌-◌, ◌<◌, ◌≤◌, inl, inr, List, [], ◌∷◌, ◌++◌, length, eqb-true, ◌∙◌, arith}
-use Rattle.std.specs.Prelude.{Contains, AllPairs}
-use Rattle.std.specs.List.{range_with_len}
-use Rattle.std.specs.Cmp.{nat_eq_equiv}
-use Rattle.std.proofs.lemmas.Bool.Decides.{Decides-eqb}
-use Rattle.std.proofs.lemmas.List.{length_push}
-use Rattle.std.proofs.lemmas.List.FromFn.{length-range_with_len, get_or-range_with_len}
-use Rattle.std.proofs.lemmas.Map.Made.{IsDistinct-from_AllPairs, length-le_from_is_member}
-use Rattle.std.proofs.lemmas.Map.Views.{list_any-from_Contains, Contains-from_any}
+use Rattle.chained_index.proofs.Words.{◌≡◌, ◌≢◌, ℕ, ◌+◌, ◌-◌, ◌<◌, ◌≤◌, inl, inr, List, [], ◌∷◌, ◌++◌, length, eqb-true, ◌∙◌, arith, Contains}
+use Rattle.chained_index.proofs.Words.{AllPairs, range_with_len, nat_eq_equiv, Decides-eqb, length_push, length-range_with_len}
+use Rattle.chained_index.proofs.Words.{get_or-range_with_len, IsDistinct-from_AllPairs, length-le_from_is_member, list_any-from_Contains}
+use Rattle.chained_index.proofs.Words.{Contains-from_any}
 use Rattle.chained_index.proofs.Lists.{contains_split, pairs_more}
 
 -- numbers that all differ are no more than a list that has them has

@@ -1,15 +1,8 @@
 -- What one store of an entry or a link, or one of each, leaves as it was.
-use Rattle.std.proofs.Common.{◌≡◌, ◌≢◌, ℕ, ◌<◌, inl, ◌⊎◌, length, refl, sym, ◌∙◌, arith, length-set}
-use Rattle.epoch_core.specs.declared.state.OwnerState.{OwnerState}
-use Rattle.epoch_core.specs.declared.event.Event.TheVariants.{PutsEntry, PutsLink}
-use Rattle.epoch_core.specs.Shape.{IsBucket}
-use Rattle.epoch_core.specs.Layout.{entry_at, link_at, epoch_at}
-use Rattle.epoch_core.specs.OwnerState.{entry_in, link_in}
-use Rattle.epoch_core.specs.Events.{after}
-use Rattle.epoch_core.proofs.Places.{no_epoch}
-use Rattle.epoch_core.proofs.EventWords.{other, stamp_puts_entry, stamp_puts_link, item_puts_entry, item_puts_link}
-use Rattle.epoch_core.proofs.EventWords.{entry_puts, entry_puts_other, entry_puts_link, link_puts_entry, link_puts, link_puts_other}
-use Rattle.chained_index.specs.ChainChange.{ChangesOnlyIndex}
+use Rattle.chained_index.proofs.Words.{◌≡◌, ◌≢◌, ℕ, ◌<◌, inl, ◌⊎◌, length, refl, sym, ◌∙◌, arith, length-set, OwnerState, PutsEntry, PutsLink}
+use Rattle.chained_index.proofs.Words.{IsBucket, entry_at, link_at, epoch_at, entry_in, link_in, after, no_epoch, other, stamp_puts_entry}
+use Rattle.chained_index.proofs.Words.{stamp_puts_link, item_puts_entry, item_puts_link, entry_puts, entry_puts_other, entry_puts_link}
+use Rattle.chained_index.proofs.Words.{link_puts_entry, link_puts, link_puts_other, ChangesOnlyIndex}
 use Rattle.chained_index.proofs.Chained.{Chained}
 use Rattle.chained_index.proofs.Filled.{SameBucket}
 use Rattle.chained_index.proofs.Frames.{only_then}

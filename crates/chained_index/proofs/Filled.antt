@@ -1,18 +1,9 @@
 -- The entries of a chain as a list: they fill its buckets, one after another.
-use Rattle.std.proofs.Common.{◌≡◌, ◌≢◌, ℕ, zero, suc, ◌+◌, ◌-◌, ◌*◌, ◌/◌, ◌%◌, ◌<◌, ◌≤◌, inl, inr, List, [], ◌∷◌, ◌++◌, length, drop, nat_lt}
-use Rattle.std.proofs.Common.{filter, flat_map, slice_range, refl, sym, ap, ◌∙◌, subst, arith, length-append, length-take, length-drop}
-use mathlib.Core.Logic.{dite}
-use native.Mathlib.Decide.{ℕ_discrete}
-use Rattle.std.proofs.lemmas.Bool.{cases_lt}
-use Rattle.std.proofs.lemmas.List.{get_or-take, get_or-drop, get_or_past, get_or_append_left, get_or-append_right}
-use Rattle.std.proofs.lemmas.List.Elements.{filter-append}
-use Rattle.mica_model.specs.Store.{spares_behind}
-use Rattle.epoch_core.specs.declared.state.OwnerState.{OwnerState}
-use Rattle.epoch_core.specs.Shape.{IsBucket}
-use Rattle.epoch_core.specs.Layout.{entry_at, word_count}
-use Rattle.epoch_core.specs.OwnerState.{entry_in, link_in}
-use Rattle.epoch_core.specs.Chain.{IsDense}
-use Rattle.chained_index.specs.ChainEntries.{buckets_of, entries_in, entries_of}
+use Rattle.chained_index.proofs.Words.{◌≡◌, ◌≢◌, ℕ, zero, suc, ◌+◌, ◌-◌, ◌*◌, ◌/◌, ◌%◌, ◌<◌, ◌≤◌, inl, inr, List, [], ◌∷◌, ◌++◌, length, drop}
+use Rattle.chained_index.proofs.Words.{nat_lt, filter, flat_map, slice_range, refl, sym, ap, ◌∙◌, subst, arith, length-append, length-take}
+use Rattle.chained_index.proofs.Words.{length-drop, dite, ℕ_discrete, cases_lt, get_or-take, get_or-drop, get_or_past, get_or_append_left}
+use Rattle.chained_index.proofs.Words.{get_or-append_right, filter-append, spares_behind, OwnerState, IsBucket, entry_at, word_count, entry_in}
+use Rattle.chained_index.proofs.Words.{link_in, IsDense, buckets_of, entries_in, entries_of}
 use Rattle.chained_index.proofs.Lists.{at, AllUsed, below, same_list, filter_used, at-filter}
 use Rattle.chained_index.proofs.Paths.{step_on, place_in}
 use Rattle.chained_index.proofs.Chained.{IsChain, chain_is, inside, in_chain}

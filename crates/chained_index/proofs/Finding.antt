@@ -1,17 +1,7 @@
 -- A search along a chain.
-use Rattle.std.proofs.Common.{◌≡◌, ◌≢◌, ℕ, suc, ◌+◌, ◌*◌, ◌<◌, ◌≤◌, inl, inr, List, length, sym, ap, ◌∙◌, subst, arith}
-use Rattle.std.proofs.lemmas.Bool.{cases_lt}
-use mathlib.Core.Logic.{dite}
-use native.Mathlib.Decide.{ℕ_discrete}
-use Rattle.mica_words.specs.Hash.{tag_of}
-use Rattle.mica_words.specs.Entry.{entry_tag, entry_offset}
-use Rattle.epoch_core.specs.declared.state.OwnerState.{OwnerState}
-use Rattle.epoch_core.specs.Shape.{IsMain}
-use Rattle.epoch_core.specs.OwnerState.{entry_in}
-use Rattle.epoch_core.specs.Chain.{InChain}
-use Rattle.epoch_core.specs.ItemAt.{HasKey}
-use Rattle.chained_index.specs.ChainEntries.{buckets_of, entries_of, number_of, IsSpotOf, HasNoSpot}
-use Rattle.chained_index.specs.Index.{Index, IsIndexOf}
+use Rattle.chained_index.proofs.Words.{◌≡◌, ◌≢◌, ℕ, suc, ◌+◌, ◌*◌, ◌<◌, ◌≤◌, inl, inr, List, length, sym, ap, ◌∙◌, subst, arith, cases_lt, dite}
+use Rattle.chained_index.proofs.Words.{ℕ_discrete, tag_of, entry_tag, entry_offset, OwnerState, IsMain, entry_in, InChain, HasKey, buckets_of}
+use Rattle.chained_index.proofs.Words.{entries_of, number_of, IsSpotOf, HasNoSpot, Index, IsIndexOf}
 use Rattle.chained_index.proofs.Lists.{at}
 use Rattle.chained_index.proofs.Chained.{Chained, in_chain}
 use Rattle.chained_index.proofs.Numbers.{number_within, number_entry}

@@ -1,13 +1,7 @@
 -- A chain none of whose buckets changed is as it was.
-use Rattle.std.proofs.Common.{◌≡◌, ℕ, ◌<◌, ◌/◌, ◌%◌, List, length, nat_lt, filter, sym, ap, ◌∙◌, subst, arith}
-use Rattle.std.proofs.lemmas.List.{ext_get_or}
-use Rattle.mica_model.specs.History.{History}
-use Rattle.epoch_core.specs.declared.state.OwnerState.{OwnerState}
-use Rattle.epoch_core.specs.declared.state.Phase.{Phase}
-use Rattle.epoch_core.specs.Shape.{IsMain}
-use Rattle.epoch_core.specs.Chain.{InChain, IsDense}
-use Rattle.chained_index.specs.ChainEntries.{buckets_of, entries_of}
-use Rattle.chained_index.specs.ChainChange.{KeepsChain, ChangesOnlyIndex, ChangesChain}
+use Rattle.chained_index.proofs.Words.{◌≡◌, ℕ, ◌<◌, ◌/◌, ◌%◌, List, length, nat_lt, filter, sym, ap, ◌∙◌, subst, arith, ext_get_or, History}
+use Rattle.chained_index.proofs.Words.{OwnerState, Phase, IsMain, InChain, IsDense, buckets_of, entries_of, KeepsChain, ChangesOnlyIndex}
+use Rattle.chained_index.proofs.Words.{ChangesChain}
 use Rattle.chained_index.proofs.Lists.{at}
 use Rattle.chained_index.proofs.Chained.{Chained, IsChain, chain_is, inside, in_chain, chain_there, same_chain, same_on, same_back}
 use Rattle.chained_index.proofs.Filled.{SameBucket, all_slots, length-all_slots, by_place, entries_filtered, dense_there, filled_there, same_filled}

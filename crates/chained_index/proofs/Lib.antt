@@ -1,3 +1,4 @@
+mod Words
 mod Lists
 mod Paths
 pub mod Chained

@@ -1,17 +1,8 @@
 -- The words of a bucket stand for the machine's state, by the list of the chain's entries.
-use Rattle.std.proofs.Common.{◌≡◌, ◌≢◌, ℕ, ◌+◌, ◌*◌, ◌/◌, ◌%◌, ◌<◌, List, length, refl, sym, ap, ◌∙◌, subst, arith}
-use Rattle.mica_words.specs.Entry.{entry_offset}
-use Rattle.mica_model.specs.declared.options.Mode.{Mode}
-use Rattle.mica_model.specs.declared.options.Mode.TheVariants.{Store}
-use Rattle.mica_model.specs.Store.{Cell}
-use Rattle.epoch_core.specs.declared.state.OwnerState.{OwnerState}
-use Rattle.epoch_core.specs.Shape.{IsMain}
-use Rattle.epoch_core.specs.OwnerState.{stamp_in, entry_in, state_in, bucket_in, marked_in}
-use Rattle.epoch_core.specs.LiveEntry.{IsLiveItem, HasLiveEntry}
-use Rattle.epoch_core.specs.StandsFor.{Has, Spells, RoomsApart, HasChain, StandsFor}
-use Rattle.chained_index.specs.ChainEntries.{buckets_of, entries_of}
-use Rattle.chained_index.specs.ChainShape.{bucket_at}
-use Rattle.chained_index.specs.Index.{Index, IsIndexOf}
+use Rattle.chained_index.proofs.Words.{◌≡◌, ◌≢◌, ℕ, ◌+◌, ◌*◌, ◌/◌, ◌%◌, ◌<◌, List, length, refl, sym, ap, ◌∙◌, subst, arith, entry_offset, Mode}
+use Rattle.chained_index.proofs.Words.{Store, Cell, OwnerState, IsMain, stamp_in, entry_in, state_in, bucket_in, marked_in, IsLiveItem}
+use Rattle.chained_index.proofs.Words.{HasLiveEntry, Has, Spells, RoomsApart, HasChain, StandsFor, buckets_of, entries_of, bucket_at, Index}
+use Rattle.chained_index.proofs.Words.{IsIndexOf}
 pub use Rattle.chained_index.proofs.Lists.{at}
 use Rattle.chained_index.proofs.Lists.{below}
 use Rattle.chained_index.proofs.Paths.{one_place, place_in}

@@ -1,13 +1,7 @@
 -- Lists of numbers by their places, where a list has 0 past its end.
-use Rattle.std.proofs.Common.{◌≡◌, ◌≢◌, ℕ, zero, suc, ◌<◌, inl, inr, ◌⊎◌, List, [], ◌∷◌, ◌++◌, length, get_or, true, nat_lt, filter}
-use Rattle.std.proofs.Common.{refl, sym, ap, ◌∙◌, arith}
-use Rattle.std.specs.Prelude.{Contains, AllPairs}
-use mathlib.Core.Logic.{dite}
-use native.Mathlib.Decide.{ℕ_discrete}
-use Rattle.std.proofs.lemmas.Bool.{cases_lt, lt-ltb}
-use Rattle.std.proofs.lemmas.List.{get_or_past, get_or_append_left, get_or_push, get_or_default, length_push}
-use Rattle.std.proofs.lemmas.List.Elements.{Contains-append_cases}
-use Rattle.std.proofs.lemmas.List.Quantifiers.{all_pairs_push}
+use Rattle.chained_index.proofs.Words.{◌≡◌, ◌≢◌, ℕ, zero, suc, ◌<◌, inl, inr, ◌⊎◌, List, [], ◌∷◌, ◌++◌, length, get_or, true, nat_lt, filter, refl}
+use Rattle.chained_index.proofs.Words.{sym, ap, ◌∙◌, arith, Contains, AllPairs, dite, ℕ_discrete, cases_lt, lt-ltb, get_or_past, get_or_append_left}
+use Rattle.chained_index.proofs.Words.{get_or_push, get_or_default, length_push, Contains-append_cases, all_pairs_push}
 
 -- the number at a place
 abbrev pub at : List ℕ → ℕ → ℕ

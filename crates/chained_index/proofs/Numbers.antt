@@ -1,12 +1,6 @@
 -- Where the entry of a used spot stands in the chain's list.
-use Rattle.std.proofs.Common.{◌≡◌, ℕ, ◌+◌, ◌*◌, ◌<◌, length, get_or, Bool, nat_eq, sym, ap, ◌∙◌, arith, eq-eqb, ne_eqb}
-use Rattle.std.proofs.lemmas.List.Sums.{position_or_len_is}
-use Rattle.epoch_core.specs.declared.state.OwnerState.{OwnerState}
-use Rattle.epoch_core.specs.Shape.{IsMain}
-use Rattle.epoch_core.specs.OwnerState.{entry_in}
-use Rattle.chained_index.specs.declared.index.Spot.{Spot}
-use Rattle.chained_index.specs.ChainEntries.{buckets_of, entries_of, number_of, spot_entry, IsUsed}
-use Rattle.chained_index.specs.Index.{Index, IsIndexOf}
+use Rattle.chained_index.proofs.Words.{◌≡◌, ℕ, ◌+◌, ◌*◌, ◌<◌, length, get_or, Bool, nat_eq, sym, ap, ◌∙◌, arith, eq-eqb, ne_eqb, position_or_len_is}
+use Rattle.chained_index.proofs.Words.{OwnerState, IsMain, entry_in, Spot, buckets_of, entries_of, number_of, spot_entry, IsUsed, Index, IsIndexOf}
 use Rattle.chained_index.proofs.Lists.{at, IsOf, below}
 use Rattle.chained_index.proofs.Paths.{one_place, place_in}
 use Rattle.chained_index.proofs.Chained.{Chained}

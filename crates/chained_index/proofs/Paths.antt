@@ -1,14 +1,7 @@
 -- The buckets of a chain as a list: each link leads to the next, and none comes twice.
-use Rattle.std.proofs.Common.{◌≡◌, ◌≢◌, ℕ, zero, suc, ◌+◌, ◌-◌, ◌<◌, ◌≤◌, inl, inr, ◌⊎◌, List, [], ◌∷◌, length, drop, Bool, if◌then◌else◌}
-use Rattle.std.proofs.Common.{refl, sym, ap, ◌∙◌, subst, arith, eq-eqb, ne_eqb, drop-cons}
-use mathlib.Core.Logic.{dite}
-use native.Mathlib.Decide.{ℕ_discrete}
-use Rattle.std.proofs.lemmas.Bool.{cases_lt}
-use Rattle.std.proofs.lemmas.List.{get_or_past, drop_all}
-use Rattle.epoch_core.specs.declared.state.OwnerState.{OwnerState}
-use Rattle.epoch_core.specs.OwnerState.{link_in}
-use Rattle.epoch_core.specs.Chain.{IsAmong, EndsWithin, InChain}
-use Rattle.chained_index.specs.ChainEntries.{buckets_from, buckets_of}
+use Rattle.chained_index.proofs.Words.{◌≡◌, ◌≢◌, ℕ, zero, suc, ◌+◌, ◌-◌, ◌<◌, ◌≤◌, inl, inr, ◌⊎◌, List, [], ◌∷◌, length, drop, Bool, if◌then◌else◌}
+use Rattle.chained_index.proofs.Words.{refl, sym, ap, ◌∙◌, subst, arith, eq-eqb, ne_eqb, drop-cons, dite, ℕ_discrete, cases_lt, get_or_past}
+use Rattle.chained_index.proofs.Words.{drop_all, OwnerState, link_in, IsAmong, EndsWithin, InChain, buckets_from, buckets_of}
 use Rattle.chained_index.proofs.Lists.{at, IsOf}
 
 -- The links lead from b through these buckets, and end.

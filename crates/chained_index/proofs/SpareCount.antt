@@ -1,21 +1,10 @@
 -- All spare buckets are free or behind a main bucket, each in one place.
-use Rattle.std.proofs.Common.{◌≡◌, ◌≢◌, ℕ, zero, suc, ◌+◌, ◌-◌, ◌<◌, ◌≤◌, inl, inr, List, [], ◌++◌, length, get_or, drop}
-use Rattle.std.proofs.Common.{refl, sym, ap, ◌∙◌, subst, arith, eqb, eqb-true, true≢false, length-append, length-drop}
-use Rattle.std.specs.Prelude.{Contains, AllPairs}
-use Rattle.std.specs.Cmp.{nat_eq_equiv}
-use Rattle.std.specs.List.{list_any}
-use Rattle.std.proofs.lemmas.Bool.{cases_lt, cases_Bool}
-use Rattle.std.proofs.lemmas.List.{get_or-drop, get_or_default, get_or_append_left, get_or-append_right}
-use Rattle.std.proofs.lemmas.List.Elements.{Contains-append_left, Contains-append_right, Contains-append_cases}
-use Rattle.std.proofs.lemmas.Map.Views.{list_any-from_Contains, Contains-from_any}
-use mathlib.Core.Logic.{dite}
-use native.Mathlib.Decide.{ℕ_discrete}
-use Rattle.mica_model.specs.Store.{Cells, keys_in, spares_behind, spares_below, spares_in_use}
-use Rattle.epoch_core.specs.declared.state.OwnerState.{OwnerState}
-use Rattle.epoch_core.specs.Shape.{IsMain, IsSpare}
-use Rattle.epoch_core.specs.Chain.{InChain}
-use Rattle.chained_index.specs.ChainEntries.{buckets_of, entries_of}
-use Rattle.chained_index.specs.Index.{Index, IsIndexOf}
+use Rattle.chained_index.proofs.Words.{◌≡◌, ◌≢◌, ℕ, zero, suc, ◌+◌, ◌-◌, ◌<◌, ◌≤◌, inl, inr, List, [], ◌++◌, length, get_or, drop, refl, sym, ap}
+use Rattle.chained_index.proofs.Words.{◌∙◌, subst, arith, eqb, eqb-true, true≢false, length-append, length-drop, Contains, AllPairs, nat_eq_equiv}
+use Rattle.chained_index.proofs.Words.{list_any, cases_lt, cases_Bool, get_or-drop, get_or_default, get_or_append_left, get_or-append_right}
+use Rattle.chained_index.proofs.Words.{Contains-append_left, Contains-append_right, Contains-append_cases, list_any-from_Contains}
+use Rattle.chained_index.proofs.Words.{Contains-from_any, dite, ℕ_discrete, Cells, keys_in, spares_behind, spares_below, spares_in_use, OwnerState}
+use Rattle.chained_index.proofs.Words.{IsMain, IsSpare, InChain, buckets_of, entries_of, Index, IsIndexOf}
 use Rattle.chained_index.proofs.Lists.{at}
 use Rattle.chained_index.proofs.Paths.{one_place, place_in}
 use Rattle.chained_index.proofs.Chained.{Chained, in_chain}

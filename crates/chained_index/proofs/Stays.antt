@@ -1,19 +1,8 @@
 -- What no store of an entry or a link changes: the chains, their entries and the index.
-use Rattle.std.proofs.Common.{◌≡◌, ℕ, ◌+◌, List, [], ◌∷◌, length, refl, ◌∙◌, arith, length-set}
-use Rattle.mica_model.specs.declared.write.Write.{Write}
-use Rattle.mica_model.specs.History.{History}
-use Rattle.epoch_core.specs.declared.state.OwnerState.{OwnerState}
-use Rattle.epoch_core.specs.declared.state.Phase.{Phase}
-use Rattle.epoch_core.specs.declared.event.Event.{Event}
-use Rattle.epoch_core.specs.declared.event.Event.TheVariants.{Begins, Marks, PutsWord, Ends}
-use Rattle.epoch_core.specs.Shape.{IsMain, IsBucket}
-use Rattle.epoch_core.specs.Layout.{entry_at, link_at}
-use Rattle.epoch_core.specs.Chain.{InChain, IsFreeSpare}
-use Rattle.epoch_core.specs.Events.{words_after, history_after, phase_after, after, plays, puts_from}
-use Rattle.epoch_core.proofs.Places.{no_epoch}
-use Rattle.epoch_core.proofs.EventWords.{other, entry_begins, entry_marks, entry_puts_word, link_begins, link_marks, link_puts_word}
-use Rattle.chained_index.specs.ChainEntries.{entries_of}
-use Rattle.chained_index.specs.Index.{Index, IsIndexOf}
+use Rattle.chained_index.proofs.Words.{◌≡◌, ℕ, ◌+◌, List, [], ◌∷◌, length, refl, ◌∙◌, arith, length-set, Write, History, OwnerState, Phase, Event}
+use Rattle.chained_index.proofs.Words.{Begins, Marks, PutsWord, Ends, IsMain, IsBucket, entry_at, link_at, InChain, IsFreeSpare, words_after}
+use Rattle.chained_index.proofs.Words.{history_after, phase_after, after, plays, puts_from, no_epoch, other, entry_begins, entry_marks}
+use Rattle.chained_index.proofs.Words.{entry_puts_word, link_begins, link_marks, link_puts_word, entries_of, Index, IsIndexOf}
 use Rattle.chained_index.proofs.Chained.{Chained, chain_inside, chained_kept}
 use Rattle.chained_index.proofs.Filled.{SameBucket}
 use Rattle.chained_index.proofs.Frames.{chain_back, chain_on, chain_kept, dense_kept}

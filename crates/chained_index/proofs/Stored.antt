@@ -1,30 +1,21 @@
 -- The stores of a call in a chain: an entry is added, changed or dropped, a spare bucket is taken or released.
-use Rattle.std.proofs.Common.{◌≡◌, ◌≢◌, ℕ, suc, ◌+◌, ◌-◌, ◌*◌, ◌<◌, inl, inr, ◌⊎◌, List, [], ◌∷◌, ◌++◌, length, take, set}
-use Rattle.std.proofs.Common.{refl, sym, ap, ◌∙◌, subst, arith, length-set, length-take, get_or-set_same, get_or-set_other}
-use Rattle.std.specs.Prelude.{Contains, AllPairs}
-use mathlib.Core.Logic.{dite}
-use native.Mathlib.Decide.{ℕ_discrete}
-use Rattle.std.proofs.lemmas.Bool.{cases_lt}
-use Rattle.std.proofs.lemmas.List.{get_or-take, get_or_past, get_or_append_left, get_or_push, length_push}
-use Rattle.std.proofs.lemmas.List.Elements.{Contains-push, Contains-append_left}
-use Rattle.mica_model.specs.Store.{spares_behind}
-use Rattle.epoch_core.specs.declared.state.OwnerState.{OwnerState}
-use Rattle.epoch_core.specs.declared.event.Event.TheVariants.{PutsEntry, PutsLink}
-use Rattle.epoch_core.specs.Shape.{IsMain, IsBucket}
-use Rattle.epoch_core.specs.Layout.{entry_at}
-use Rattle.epoch_core.specs.OwnerState.{entry_in, link_in}
-use Rattle.epoch_core.specs.Chain.{InChain, IsFreeSpare}
-use Rattle.epoch_core.specs.Events.{after}
-use Rattle.epoch_core.proofs.EventWords.{entry_puts, entry_puts_other, link_puts_entry}
-use Rattle.chained_index.specs.ChainEntries.{buckets_of, entries_of}
-use Rattle.chained_index.specs.ChainChange.{ChangesChain}
-use Rattle.chained_index.specs.Index.{Index, IsBlank, IsIndexOf}
+use Rattle.chained_index.proofs.Words.{◌≡◌, ◌≢◌, ℕ, suc, ◌+◌, ◌-◌, ◌*◌, ◌<◌, inl, inr, ◌⊎◌, List, [], ◌∷◌, ◌++◌, length, take, set, refl, sym, ap}
+use Rattle.chained_index.proofs.Words.{◌∙◌, subst, arith, length-set, length-take, get_or-set_same, get_or-set_other, Contains, AllPairs, dite}
+use Rattle.chained_index.proofs.Words.{ℕ_discrete, cases_lt, get_or-take, get_or_past, get_or_append_left, get_or_push, length_push, Contains-push}
+use Rattle.chained_index.proofs.Words.{Contains-append_left, spares_behind, OwnerState, PutsEntry, PutsLink, IsMain, IsBucket, entry_at, entry_in}
+use Rattle.chained_index.proofs.Words.{link_in, InChain, IsFreeSpare, after, entry_puts, entry_puts_other, link_puts_entry, buckets_of, entries_of}
+use Rattle.chained_index.proofs.Words.{ChangesChain, Index, IsBlank, IsIndexOf}
 use Rattle.chained_index.proofs.Lists.{at, IsOf, AllUsed, at-push_other, contains_split, pairs_before, not_before, pairs_more}
 use Rattle.chained_index.proofs.Paths.{same_path, one_place}
 use Rattle.chained_index.proofs.Chained.{Chained, IsChain, inside, in_chain, chain_there}
 use Rattle.chained_index.proofs.Filled.{IsFilled, filled_there}
 use Rattle.chained_index.proofs.Effects.{entered_same, entered_only, both_long, both_only, entry_both, entry_put, link_both, link_put, both_same}
 use Rattle.chained_index.proofs.Changed.{Rewrites, changes, index_changes, index_stays}
+
+push_used : (xs : List ℕ) (x : ℕ) → x ≢ 0 → AllUsed xs → AllUsed (xs ++ x ∷ [])
+push_used xs x some used i m none = dite (ℕ_discrete i (length xs))
+    (λ e. some (sym (get_or_push xs x 0 i (sym e)) ∙ none))
+    (λ n. used i (omega (arith, length_push xs x)) (sym (at-push_other xs x i n) ∙ none))
 
 module _ (o : OwnerState) (s : Chained o) (index : Index) (known : IsIndexOf index o) (b : ℕ) (main : IsMain o.shape b) where
   abbrev cs : List ℕ
@@ -76,13 +67,8 @@ module _ (o : OwnerState) (s : Chained o) (index : Index) (known : IsIndexOf ind
         }
 
     pub pushed : x ≢ 0 → 15 * k + slot ≡ length xs → length cs ≡ suc k → ChangesChain o p b (xs ++ x ∷ []) × IsIndexOf index p
-    pushed some end last =
-        entered (xs ++ x ∷ []) (get_or_push xs x 0 (15 * k + slot) (sym end)) (λ i n. at-push_other xs x i (λ e. n (e ∙ sym end))) used (omega (arith, length_push xs x))
-      where
-        used : AllUsed (xs ++ x ∷ [])
-        used i m none = dite (ℕ_discrete i (length xs))
-            (λ e. some (sym (get_or_push xs x 0 i (sym e)) ∙ none))
-            (λ n. filled.used i (omega (arith, length_push xs x)) (sym (at-push_other xs x i n) ∙ none))
+    pushed some end last = entered (xs ++ x ∷ []) (get_or_push xs x 0 (15 * k + slot) (sym end)) (λ i n. at-push_other xs x i (λ e. n (e ∙ sym end)))
+        (push_used xs x some filled.used) (omega (arith, length_push xs x))
 
     pub changed : x ≢ 0 → 15 * k + slot < length xs → ChangesChain o p b (set xs (15 * k + slot) x) × IsIndexOf index p
     changed some less =
@@ -174,7 +160,7 @@ module _ (o : OwnerState) (s : Chained o) (index : Index) (known : IsIndexOf ind
     taken_rewrites = record {
       only = both_only o s next 0 x last next (omega arith) free.spare.1 last_bucket t;
       path = record { first = old 0 (omega arith) ∙ chain.path.first; some = omega (arith, length_push cs next); links = taken_links; linked = taken_linked };
-      filled = record { entries = taken_entries; used = used; size = omega (arith, length_push cs next, length_push xs x) };
+      filled = record { entries = taken_entries; used = push_used xs x some filled.used; size = omega (arith, length_push cs next, length_push xs x) };
       fresh = λ c i. elim (cases_lt i.0 (length cs)) [
         | inl less ↦ inl (i.0, less, sym (old i.0 less) ∙ i.2)
         | inr more ↦ (let e : i.0 ≡ suc n = omega (arith, i.1, length_push cs next) in inr (subst (IsFreeSpare o) (sym new ∙ (ap (at ds) (sym e) ∙ i.2)) free))
@@ -183,11 +169,6 @@ module _ (o : OwnerState) (s : Chained o) (index : Index) (known : IsIndexOf ind
           (λ e. out' (suc n, omega (arith, length_push cs next), new ∙ sym e))
           (λ e. out (n, omega arith, is ∙ sym e));
     }
-      where
-        used : AllUsed (xs ++ x ∷ [])
-        used i m none = dite (ℕ_discrete i (length xs))
-            (λ e. some (sym (get_or_push xs x 0 i (sym e)) ∙ none))
-            (λ differ. filled.used i (omega (arith, length_push xs x)) (sym (at-push_other xs x i differ) ∙ none))
 
     pub taken : (rest : List ℕ) → index.free ≡ rest ++ next ∷ [] → ChangesChain o q b (xs ++ x ∷ []) × IsIndexOf (record { shape = index.shape; free = rest }) q
     taken rest split = (

@@ -1,14 +1,7 @@
 -- A step along a chain, and its end.
-use Rattle.std.proofs.Common.{◌≡◌, ◌≢◌, ℕ, suc, ◌+◌, ◌-◌, ◌*◌, ◌<◌, ◌≤◌, inl, inr, add-one, length, sym, ap, ◌∙◌, subst, arith}
-use Rattle.std.proofs.lemmas.Bool.{cases_lt}
-use mathlib.Core.Logic.{dite}
-use native.Mathlib.Decide.{ℕ_discrete}
-use Rattle.epoch_core.specs.declared.state.OwnerState.{OwnerState}
-use Rattle.epoch_core.specs.Shape.{IsMain, IsBucket}
-use Rattle.epoch_core.specs.OwnerState.{entry_in, link_in}
-use Rattle.chained_index.specs.ChainEntries.{buckets_of, entries_of}
-use Rattle.chained_index.specs.ChainShape.{bucket_at, EndsIn, EndsAt}
-use Rattle.chained_index.specs.Index.{Index, IsIndexOf}
+use Rattle.chained_index.proofs.Words.{◌≡◌, ◌≢◌, ℕ, suc, ◌+◌, ◌-◌, ◌*◌, ◌<◌, ◌≤◌, inl, inr, add-one, length, sym, ap, ◌∙◌, subst, arith, cases_lt}
+use Rattle.chained_index.proofs.Words.{dite, ℕ_discrete, OwnerState, IsMain, IsBucket, entry_in, link_in, buckets_of, entries_of, bucket_at, EndsIn}
+use Rattle.chained_index.proofs.Words.{EndsAt, Index, IsIndexOf}
 use Rattle.chained_index.proofs.Lists.{at, below}
 use Rattle.chained_index.proofs.Paths.{step_on, first_bucket, length-buckets_of}
 use Rattle.chained_index.proofs.Chained.{Chained, inside, chain_there}

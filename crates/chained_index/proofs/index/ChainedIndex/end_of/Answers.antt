@@ -1,8 +1,4 @@
-use Rattle.std.proofs.Common.{◌≡◌, ℕ, ◌<◌, ◌≤◌, ◌≢◌, ◌∙◌, sym, subst}
-use Rattle.epoch_core.specs.declared.state.OwnerState.{OwnerState}
-use Rattle.epoch_core.specs.Shape.{IsBucket}
-use Rattle.epoch_core.specs.OwnerState.{entry_in}
-use Rattle.epoch_core.specs.Kept.{Kept}
+use Rattle.chained_index.proofs.Words.{◌≡◌, ℕ, ◌<◌, ◌≤◌, ◌≢◌, ◌∙◌, sym, subst, OwnerState, IsBucket, entry_in, Kept}
 use Rattle.chained_index.proofs.Chained.{chained}
 use Rattle.chained_index.proofs.Walking.{end_there}
 use Rattle.chained_index.proofs.index.ChainedIndex.end_of.Goals as goal

@@ -1,12 +1,5 @@
-use Rattle.std.proofs.Common.{◌≡◌, ◌≢◌, ℕ, List, ◌+◌, ◌*◌, ◌∙◌, refl, sym, ap, subst, arith, rules, true≢false}
-use Rattle.mica_words.specs.Hash.{tag_of}
-use Rattle.mica_words.specs.Entry.{entry_tag, entry_offset}
-use Rattle.epoch_core.specs.declared.state.OwnerState.{OwnerState}
-use Rattle.epoch_core.specs.declared.shape.Shape.{Shape}
-use Rattle.epoch_core.specs.OwnerState.{entry_in, link_in}
-use Rattle.epoch_core.specs.ItemAt.{HasKey}
-use Rattle.epoch_core.specs.Kept.{Kept}
-use Rattle.chained_index.specs.Index.{Index}
+use Rattle.chained_index.proofs.Words.{◌≡◌, ◌≢◌, ℕ, List, ◌+◌, ◌*◌, ◌∙◌, refl, sym, ap, subst, arith, rules, true≢false, tag_of, entry_tag}
+use Rattle.chained_index.proofs.Words.{entry_offset, OwnerState, Shape, entry_in, link_in, HasKey, Kept, Index}
 use Rattle.chained_index.proofs.Chained.{Chained, chained}
 use Rattle.chained_index.proofs.Walking.{IsAt, at_first, one_further, at_end, at_most}
 use Rattle.chained_index.proofs.Finding.{IsOfKey, NoneBefore, spot_found, none_past_empty, none_at_end, one_more}

@@ -1,5 +1,4 @@
-use Rattle.std.proofs.Common.{◌≡◌, ◌+◌, ◌*◌, ◌<◌}
-use Rattle.epoch_core.specs.Kept.{Kept}
+use Rattle.chained_index.proofs.Words.{◌≡◌, ◌+◌, ◌*◌, ◌<◌, Kept}
 use Rattle.chained_index.proofs.Walking.{IsAt}
 use Rattle.chained_index.proofs.Finding.{NoneBefore}
 use Rattle.chained_index.proofs.index.ChainedIndex.find_hashed.Given as goal

@@ -1,7 +1,4 @@
-use Rattle.std.proofs.Common.{◌≡◌, ◌∙◌, [], sym, ap, arith, length, rules}
-use Rattle.std.proofs.lemmas.Bool.{ltb-false, le-ltb}
-use Rattle.std.proofs.lemmas.List.{nil_from_length}
-use Rattle.chained_index.specs.Index.{Index}
+use Rattle.chained_index.proofs.Words.{◌≡◌, ◌∙◌, [], sym, ap, arith, length, rules, ltb-false, le-ltb, nil_from_length, Index}
 use Rattle.chained_index.proofs.Calls.{call_at, lacks, full_last}
 use Rattle.chained_index.proofs.index.ChainedIndex.has_place.Goals as goal
 

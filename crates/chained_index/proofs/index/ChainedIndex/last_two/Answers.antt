@@ -1,9 +1,4 @@
-use Rattle.std.proofs.Common.{◌≡◌, ◌≢◌, ◌+◌, ◌∙◌, refl, sym, ap, subst, arith, rules}
-use Rattle.epoch_core.specs.declared.state.OwnerState.{OwnerState}
-use Rattle.epoch_core.specs.declared.shape.Shape.{Shape}
-use Rattle.epoch_core.specs.OwnerState.{link_in}
-use Rattle.epoch_core.specs.Kept.{Kept}
-use Rattle.chained_index.specs.Index.{Index}
+use Rattle.chained_index.proofs.Words.{◌≡◌, ◌≢◌, ◌+◌, ◌∙◌, refl, sym, ap, subst, arith, rules, OwnerState, Shape, link_in, Kept, Index}
 use Rattle.chained_index.proofs.Chained.{chained}
 use Rattle.chained_index.proofs.Walking.{IsAt, at_first, one_further, at_end, at_last, behind_further, ends_in}
 use Rattle.chained_index.proofs.index.ChainedIndex.last_two.Goals as goal

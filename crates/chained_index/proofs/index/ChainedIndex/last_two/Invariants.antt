@@ -1,4 +1,4 @@
-use Rattle.std.proofs.Common.{◌≡◌}
+use Rattle.chained_index.proofs.Words.{◌≡◌}
 use Rattle.chained_index.proofs.Walking.{IsAt, IsBehind}
 use Rattle.chained_index.proofs.index.ChainedIndex.last_two.Given as goal
 

@@ -1,10 +1,5 @@
-use Rattle.std.proofs.Common.{◌≡◌, ℕ, ◌∙◌, Option, option_to_list, length, [], ◌∷◌, ◌++◌, sym, ap, subst, arith, rules}
-use Rattle.std.proofs.lemmas.List.{nil_from_length}
-use Rattle.mica_words.specs.Entry.{entry_of}
-use Rattle.epoch_core.specs.declared.state.OwnerState.{OwnerState}
-use Rattle.epoch_core.specs.declared.event.Event.TheVariants.{PutsEntry}
-use Rattle.epoch_core.specs.Events.{MayPutEntry, MayPutLink, after}
-use Rattle.chained_index.specs.Index.{Index, IsIndexOf}
+use Rattle.chained_index.proofs.Words.{◌≡◌, ℕ, ◌∙◌, Option, option_to_list, length, [], ◌∷◌, ◌++◌, sym, ap, subst, arith, rules, nil_from_length}
+use Rattle.chained_index.proofs.Words.{entry_of, OwnerState, PutsEntry, MayPutEntry, MayPutLink, after, Index, IsIndexOf}
 use Rattle.chained_index.proofs.Allowed.{may_enter, may_begin, may_link, some_entry}
 use Rattle.chained_index.proofs.Calls.{Call, call_at, end_in_chain, lacks, last_free, added, added_behind}
 use Rattle.chained_index.proofs.index.ChainedIndex.place.Given.{Over}

@@ -1,12 +1,5 @@
-use Rattle.std.proofs.Common.{◌≡◌, ℕ, ◌-◌, ◌≤◌, rules, ◌∙◌, List, sym, ap, subst, arith, length, vec_len, vec_capacity}
-use Rattle.epoch_core.specs.declared.state.OwnerState.{OwnerState}
-use Rattle.epoch_core.specs.declared.shape.Shape.{Shape}
-use Rattle.epoch_core.specs.declared.event.Event.TheVariants.{PutsEntry}
-use Rattle.epoch_core.specs.Shape.{IsBucket}
-use Rattle.epoch_core.specs.OwnerState.{entry_in}
-use Rattle.epoch_core.specs.Events.{MayPutEntry, MayPutLink, after}
-use Rattle.epoch_core.specs.Kept.{Kept}
-use Rattle.chained_index.specs.Index.{Index, IsIndexOf}
+use Rattle.chained_index.proofs.Words.{◌≡◌, ℕ, ◌-◌, ◌≤◌, rules, ◌∙◌, List, sym, ap, subst, arith, length, vec_len, vec_capacity, OwnerState, Shape}
+use Rattle.chained_index.proofs.Words.{PutsEntry, IsBucket, entry_in, MayPutEntry, MayPutLink, after, Kept, Index, IsIndexOf}
 use Rattle.chained_index.proofs.Chained.{chained}
 use Rattle.chained_index.proofs.Allowed.{may_enter, may_cut, still_in}
 use Rattle.chained_index.proofs.Calls.{Call, call_at, end_in_chain, end_inside, before_in_chain, used_some, release_room, call_then, drop, release, without}

@@ -1,13 +1,5 @@
-use Rattle.std.proofs.Common.{◌≡◌, ℕ, ◌∙◌, set, refl, ap}
-use Rattle.mica_words.specs.Entry.{entry_of}
-use Rattle.epoch_core.specs.declared.state.OwnerState.{OwnerState}
-use Rattle.epoch_core.specs.declared.event.Event.TheVariants.{PutsEntry}
-use Rattle.epoch_core.specs.OwnerState.{marked_in}
-use Rattle.epoch_core.specs.Events.{after}
-use Rattle.chained_index.specs.declared.index.Spot.{Spot}
-use Rattle.chained_index.specs.ChainEntries.{entries_of, number_of, IsUsed}
-use Rattle.chained_index.specs.ChainChange.{ChangesChain}
-use Rattle.chained_index.specs.Index.{Index, IsIndexOf}
+use Rattle.chained_index.proofs.Words.{◌≡◌, ℕ, ◌∙◌, set, refl, ap, entry_of, OwnerState, PutsEntry, marked_in, after, Spot, entries_of, number_of}
+use Rattle.chained_index.proofs.Words.{IsUsed, ChangesChain, Index, IsIndexOf}
 use Rattle.chained_index.proofs.Allowed.{marked_part, marked_any, some_entry}
 use Rattle.chained_index.proofs.Calls.{replaced}
 use Rattle.chained_index.proofs.index.ChainedIndex.replace.Goals as goal
