@@ -1,9 +1,9 @@
 -- When the stores of a call may happen: its bucket is marked, and they go to buckets of its chain or to a free spare.
 use Rattle.chained_index.proofs.Words.{◌≡◌, ◌≢◌, ℕ, ◌<◌, ◌≤◌, inl, inr, ◌⊎◌, refl, sym, ◌∙◌, subst, arith, entry_of, OwnerState, Phase, Idle, Begun}
 use Rattle.chained_index.proofs.Words.{Marked, PutsEntry, IsMain, link_in, marked_in, InChain, IsFreeSpare, WhenMarked, IsItsBucket, MayPutEntry}
-use Rattle.chained_index.proofs.Words.{MayPutLink, after, link_puts_entry, bit_is, bit_same, buckets_of}
-use Rattle.chained_index.proofs.Lists.{at}
-use Rattle.chained_index.proofs.Chained.{Chained, chain_there, same_on, same_back}
+use Rattle.chained_index.proofs.Words.{MayPutLink, after, link_puts_entry, bit_is, bit_same}
+use Rattle.chained_index.proofs.Words.{IsBucket, entry_at, length, length-set}
+use Rattle.chained_index.proofs.Chained.{Chained, all_on, free_on}
 
 -- an entry is not 0, as its tag is not
 pub some_entry : (tag offset : ℕ) → 1 ≤ tag → entry_of tag offset ≢ 0
@@ -41,21 +41,18 @@ module _ (o : OwnerState) (s : Chained o) (b : ℕ) (main : IsMain o.shape b) (o
   abbrev m : OwnerState
   m = after (PutsEntry c slot x) o
 
-  links_same : (d : ℕ) → link_in m d ≡ link_in o d
-  links_same d = link_puts_entry o s.wide c slot x d low
+  links_same : (d : ℕ) → IsBucket o.shape d → link_in m d ≡ link_in o d
+  links_same d l = link_puts_entry o s.wide c slot x d low
+
+  long : length m.words ≡ length o.words
+  long = length-set o.words (entry_at o.shape c slot) x
 
   pub still_in : (d : ℕ) → InChain o b d → InChain m b d
-  still_in = same_on o m.words o.history o.phase b (buckets_of o b) (chain_there o s b main) (λ k l. links_same (at (buckets_of o b) k))
-
-  still_free : (d : ℕ) → IsFreeSpare o d → IsFreeSpare m d
-  still_free d f = record {
-    spare = f.spare;
-    free = λ e l h. f.free e l (same_back o m.words o.history o.phase e (buckets_of o e) (chain_there o s e l) (λ k l. links_same (at (buckets_of o e) k)) d h);
-  }
+  still_in = all_on o m.words o.history o.phase long s links_same b main
 
   -- a blank spare may be linked, or a link cut
   pub may_link : (d next : ℕ) → InChain o b d → IsFreeSpare o next → link_in o next ≡ 0 → MayPutLink m d next
-  may_link d next h f none = record { its_bucket = its_own m b one d (still_in d h); free = inr (still_free next f, links_same next ∙ none) }
+  may_link d next h f none = record { its_bucket = its_own m b one d (still_in d h); free = inr (free_on o m.words o.history o.phase long s links_same next f, links_same next f.spare.1 ∙ none) }
 
   pub may_cut : (d : ℕ) → InChain o b d → MayPutLink m d 0
   may_cut d h = record { its_bucket = its_own m b one d (still_in d h); free = inl refl }

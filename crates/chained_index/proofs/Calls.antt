@@ -6,24 +6,25 @@ use Rattle.chained_index.proofs.Words.{ChainEnd, buckets_of, entries_of, number_
 use Rattle.chained_index.proofs.Words.{LacksPlace}
 use Rattle.chained_index.proofs.Lists.{at}
 use Rattle.chained_index.proofs.Paths.{one_place}
-use Rattle.chained_index.proofs.Chained.{Chained, chained, chain_is, inside, in_chain, same_chain, chained_before}
+use Rattle.chained_index.proofs.Chained.{Chained, chained, chain_is, inside, in_chain, kept_chain, chained_before}
 use Rattle.chained_index.proofs.Counted.{room_for}
+use Rattle.chained_index.proofs.Filled.{View, view}
 use Rattle.chained_index.proofs.Frames.{changes_then}
-use Rattle.chained_index.proofs.Numbers.{place, number_is, number_within}
-use Rattle.chained_index.proofs.Stored.{chain, filled, pushed, changed, dropped, taken, released}
+use Rattle.chained_index.proofs.Numbers.{place, number_is, is_within}
+use Rattle.chained_index.proofs.Stored.{pushed, changed, dropped, taken, released}
 
 -- The entry of a used spot is changed.
-module _ (o : OwnerState) (s : Chained o) (index : Index) (known : IsIndexOf index o) (b : ℕ) (main : IsMain o.shape b) (spot : Spot) (u : IsUsed o b spot)
+module _ (o : OwnerState) (index : Index) (b : ℕ) (v : View o index b) (spot : Spot) (u : IsUsed o b spot)
     (x : ℕ) (some : x ≢ 0) where
   pub spot_set : (p : OwnerState) → Kept p → p ≡ after (PutsEntry spot.bucket spot.slot x) o
       → ChangesChain o p b (set (entries_of o b) (number_of o b spot) x) × IsIndexOf index p
   spot_set p kept is =
-      let here = place o s index known b main spot u in
-      let number = number_is o s index known b main spot u in
-      let less = number_within o s index known b main spot u in
+      let here = place o index b v spot u in
+      let number = number_is o index b v spot u in
+      let less = is_within o index b v spot u in
       subst (λ (z : OwnerState). ChangesChain o z b (set (entries_of o b) (number_of o b spot) x) × IsIndexOf index z) (sym is)
       (subst (λ (z : ℕ). ChangesChain o (after (PutsEntry spot.bucket spot.slot x) o) b (set (entries_of o b) z x) × IsIndexOf index (after (PutsEntry spot.bucket spot.slot x) o)) (sym number)
-      (changed o s index known b main here.0 spot.bucket spot.slot x here.1 here.2 u.in_bucket (subst Chained is (chained p kept)) some (omega arith)))
+      (changed o index b v here.0 spot.bucket spot.slot x here.1 here.2 u.in_bucket (subst Chained is (chained p kept)) some (omega arith)))
 
 -- the same where the owner's fact is known after the store alone
 pub replaced : (o p : OwnerState) → Kept p → (spot : Spot) (x : ℕ) → x ≢ 0 → p ≡ after (PutsEntry spot.bucket spot.slot x) o → (b : ℕ) → marked_in o.phase b ≡ 1
@@ -31,18 +32,16 @@ pub replaced : (o p : OwnerState) → Kept p → (spot : Spot) (x : ℕ) → x �
 replaced o p kept spot x some is b one u index known =
     let stored = subst Kept is kept in
     let s = chained_before o spot.bucket spot.slot x u.in_bucket (chained (after (PutsEntry spot.bucket spot.slot x) o) stored) in
-    spot_set o s index known b (ends_main (after (PutsEntry spot.bucket spot.slot x) o) stored o.phase refl b one) spot u x some p kept is
+    spot_set o index b (view o s index known b (ends_main (after (PutsEntry spot.bucket spot.slot x) o) stored o.phase refl b one)) spot u x some p kept is
 
 -- A call in the chain of a main bucket that ends here.
 pub record Call (o : OwnerState) (index : Index) (b : ℕ) (end : ChainEnd) : Type 0 where
-  pub s : Chained o
-  pub known : IsIndexOf index o
-  pub main : IsMain o.shape b
+  pub v : View o index b
   pub ends : EndsAt o b end
 
 -- as `end_of` leaves it
 pub call_at : (o n : OwnerState) (index : Index) (b : ℕ) (end : ChainEnd) → n ≡ o → Kept n → IsIndexOf index o → IsMain o.shape b → EndsAt o b end → Call o index b end
-call_at o n index b end same kept known main ends = record { s = chained o (subst Kept same kept); known = known; main = main; ends = ends }
+call_at o n index b end same kept known main ends = record { v = view o (chained o (subst Kept same kept)) index known b main; ends = ends }
 
 module _ (o : OwnerState) (index : Index) (b : ℕ) (end : ChainEnd) (call : Call o index b end) where
   abbrev cs : List ℕ
@@ -54,14 +53,14 @@ module _ (o : OwnerState) (index : Index) (b : ℕ) (end : ChainEnd) (call : Cal
   -- the place of the last bucket
   last : (n : ℕ) × (length cs ≡ suc n) × (at cs n ≡ end.bucket)
   last =
-      let some = (chain o call.s index call.known b call.main).path.some in
+      let some = call.v.chain.path.some in
       let size : length cs ≡ suc (length cs - 1) = omega arith in
       (length cs - 1, size, call.ends.buckets.last (length cs - 1) size)
 
   -- and of the one before it
   before : end.bucket ≢ b → (n : ℕ) × (length cs ≡ suc (suc n)) × (at cs n ≡ end.before)
   before n =
-      let first = (chain o call.s index call.known b call.main).path.first in
+      let first = call.v.chain.path.first in
       let more : last.0 ≢ 0 = λ none. n (sym last.2 ∙ (ap (at cs) none ∙ first)) in
       let size : length cs ≡ suc (suc (last.0 - 1)) = omega (arith, last.1) in
       (last.0 - 1, size, call.ends.buckets.before (last.0 - 1) size)
@@ -70,14 +69,14 @@ module _ (o : OwnerState) (index : Index) (b : ℕ) (end : ChainEnd) (call : Cal
   size = call.ends.used
 
   pub end_in_chain : InChain o b end.bucket
-  end_in_chain = subst (InChain o b) last.2 (in_chain o b cs (chain o call.s index call.known b call.main) last.0 (omega (arith, last.1)))
+  end_in_chain = subst (InChain o b) last.2 (in_chain o b cs call.v.chain last.0 (omega (arith, last.1)))
 
   pub end_inside : IsBucket o.shape end.bucket
-  end_inside = subst (IsBucket o.shape) last.2 (inside o b cs (chain o call.s index call.known b call.main) last.0 (omega (arith, last.1)))
+  end_inside = subst (IsBucket o.shape) last.2 (inside o b cs call.v.chain last.0 (omega (arith, last.1)))
 
   pub before_in_chain : end.bucket ≢ b → InChain o b end.before
   before_in_chain n = let at_n = before n in
-      subst (InChain o b) at_n.2 (in_chain o b cs (chain o call.s index call.known b call.main) at_n.0 (omega (arith, at_n.1)))
+      subst (InChain o b) at_n.2 (in_chain o b cs call.v.chain at_n.0 (omega (arith, at_n.1)))
 
   -- the chain lacks a place where the last bucket is full and no spare is free
   pub lacks : 15 ≤ end.used → index.free ≡ [] → LacksPlace index o b
@@ -90,18 +89,18 @@ module _ (o : OwnerState) (index : Index) (b : ℕ) (end : ChainEnd) (call : Cal
       let within = call.ends.within in
       let some = l.some in
       let full = l.full in
-      omega (arith, size, (filled o call.s index call.known b call.main).size)
+      omega (arith, size, call.v.filled.size)
 
   -- An entry is added
 
   pub added : (x : ℕ) → x ≢ 0 → (low : end.used < 15) → (p : OwnerState) → Kept p → p ≡ after (PutsEntry end.bucket end.used x) o
       → ChangesChain o p b (xs ++ x ∷ []) × IsIndexOf index p
   added x some low p kept is = subst (λ (z : OwnerState). ChangesChain o z b (xs ++ x ∷ []) × IsIndexOf index z) (sym is)
-      (pushed o call.s index call.known b call.main last.0 end.bucket end.used x (omega (arith, last.1)) last.2 low (subst Chained is (chained p kept))
+      (pushed o index b call.v last.0 end.bucket end.used x (omega (arith, last.1)) last.2 low (subst Chained is (chained p kept))
       some (omega (arith, last.1, size)) last.1)
 
   pub last_free : (rest : List ℕ) (next : ℕ) → index.free ≡ rest ++ next ∷ [] → IsFreeSpare o next
-  last_free rest next split = (call.known.free next).0 (subst (λ (z : List ℕ). Contains z next) (sym split) (Contains-push rest next))
+  last_free rest next split = (call.v.known.free next).0 (subst (λ (z : List ℕ). Contains z next) (sym split) (Contains-push rest next))
 
   pub added_behind : (x next : ℕ) (rest : List ℕ) → x ≢ 0 → 15 ≤ end.used → index.free ≡ rest ++ next ∷ [] → (m p : OwnerState) → Kept m → Kept p
       → m ≡ after (PutsEntry next 0 x) o → p ≡ after (PutsLink end.bucket next) m
@@ -110,7 +109,7 @@ module _ (o : OwnerState) (index : Index) (b : ℕ) (end : ChainEnd) (call : Cal
       let is = second ∙ ap (after (PutsLink end.bucket next)) first in
       let within = call.ends.within in
       subst (λ (z : OwnerState). ChangesChain o z b (xs ++ x ∷ []) × IsIndexOf (record { shape = index.shape; free = rest }) z) (sym is)
-      (taken o call.s index call.known b call.main last.0 end.bucket next x last.1 last.2 (omega (arith, size)) (last_free rest next split) some
+      (taken o index b call.v last.0 end.bucket next x last.1 last.2 (omega (arith, size)) (last_free rest next split) some
       (subst Chained first (chained m middle)) (subst Chained is (chained p kept)) rest split)
 
   -- The last one is dropped
@@ -119,11 +118,11 @@ module _ (o : OwnerState) (index : Index) (b : ℕ) (end : ChainEnd) (call : Cal
   pub drop : 0 < end.used → ((end.used - 1 ≡ 0) × (end.bucket ≡ b)) ⊎ (end.used - 1 ≢ 0) → (p : OwnerState) → Kept p
       → p ≡ after (PutsEntry end.bucket (end.used - 1) 0) o → ChangesChain o p b (take (length xs - 1) xs) × IsIndexOf index p
   drop some either p kept is = subst (λ (z : OwnerState). ChangesChain o z b (take (length xs - 1) xs) × IsIndexOf index z) (sym is)
-      (dropped o call.s index call.known b call.main last.0 end.bucket (end.used - 1) 0 (omega (arith, last.1)) last.2 (omega (arith, call.ends.within))
+      (dropped o index b call.v last.0 end.bucket (end.used - 1) 0 (omega (arith, last.1)) last.2 (omega (arith, call.ends.within))
       (subst Chained is (chained p kept)) refl (omega (arith, last.1, size)) last.1 (stays either))
     where
       stays : ((end.used - 1 ≡ 0) × (end.bucket ≡ b)) ⊎ (end.used - 1 ≢ 0) → (last.0 ≡ 0) ⊎ (0 < end.used - 1)
-      stays (inl e) = let path = (chain o call.s index call.known b call.main).path in
+      stays (inl e) = let path = call.v.chain.path in
           inl (one_place o b cs path last.0 0 (omega (arith, last.1)) path.some (last.2 ∙ (e.1 ∙ sym path.first)))
       stays (inr n) = inr (omega arith)
 
@@ -135,25 +134,25 @@ module _ (o : OwnerState) (index : Index) (b : ℕ) (end : ChainEnd) (call : Cal
       let is = second ∙ ap (after (PutsLink end.before 0)) empty in
       let at_n = before n in
       subst (λ (z : OwnerState). ChangesChain o z b (take (length xs - 1) xs) × IsIndexOf (record { shape = index.shape; free = index.free ++ end.bucket ∷ [] }) z) (sym is)
-      (released o call.s index call.known b call.main at_n.0 end.before end.bucket at_n.1 (call.ends.buckets.last (suc at_n.0) at_n.1) at_n.2 (omega (arith, at_n.1, size))
+      (released o index b call.v at_n.0 end.before end.bucket at_n.1 (call.ends.buckets.last (suc at_n.0) at_n.1) at_n.2 (omega (arith, at_n.1, size))
       (subst Chained empty (chained m middle)) (subst Chained is (chained p kept)))
 
   -- so there is room for its bucket in the list of free spares
   pub release_room : end.bucket ≢ b → length index.free < o.shape.spares
   release_room n =
       let at_n = before n in
-      let spare = (chain o call.s index call.known b call.main).spare at_n.0 (omega (arith, at_n.1)) in
+      let spare = call.v.chain.spare at_n.0 (omega (arith, at_n.1)) in
       let is = call.ends.buckets.last (suc at_n.0) at_n.1 in
-      room_for index.free end.bucket o.shape.buckets o.shape.spares call.known.once
-      (λ has. ((call.known.free end.bucket).0 has).free b call.main end_in_chain)
-      (λ c has. ((call.known.free c).0 has).spare)
+      room_for index.free end.bucket o.shape.buckets o.shape.spares call.v.known.once
+      (λ has. ((call.v.known.free end.bucket).0 has).free b call.v.main end_in_chain)
+      (λ c has. ((call.v.known.free c).0 has).spare)
       (omega (arith, spare.0)) (omega (arith, spare.1))
 
   -- An entry is removed: the last goes into its spot
 
   module _ (spot : Spot) (u : IsUsed o b spot) where
     pub used_some : 0 < end.used
-    used_some = omega (arith, number_within o call.s index call.known b call.main spot u, size, (filled o call.s index call.known b call.main).size)
+    used_some = omega (arith, is_within o index b call.v spot u, size, call.v.filled.size)
 
     module _ (y : ℕ) (is_last : y ≡ entry_in o end.bucket (end.used - 1)) (m : OwnerState) (t : Kept m) (first : m ≡ after (PutsEntry spot.bucket spot.slot y) o) where
       value : y ≡ at xs (length xs - 1)
@@ -162,19 +161,17 @@ module _ (o : OwnerState) (index : Index) (b : ℕ) (end : ChainEnd) (call : Cal
           let within = call.ends.within in
           let there : 15 * last.0 + (end.used - 1) ≡ length xs - 1 = omega (arith, last.1, size) in
           is_last ∙ (ap (λ (z : ℕ). entry_in o z (end.used - 1)) (sym last.2)
-          ∙ ((filled o call.s index call.known b call.main).entries last.0 (end.used - 1) (omega (arith, last.1)) (omega arith) ∙ ap (at xs) there))
+          ∙ (call.v.filled.entries last.0 (end.used - 1) (omega (arith, last.1)) (omega arith) ∙ ap (at xs) there))
 
       moved : ChangesChain o m b (set xs (number_of o b spot) y) × IsIndexOf index m
-      moved = spot_set o call.s index call.known b call.main spot u y
-          (λ none. let less = number_within o call.s index call.known b call.main spot u in
-          (filled o call.s index call.known b call.main).used (length xs - 1) (omega arith) (sym value ∙ none))
+      moved = spot_set o index b call.v spot u y
+          (λ none. let less = is_within o index b call.v spot u in
+          call.v.filled.used (length xs - 1) (omega arith) (sym value ∙ none))
           m t first
 
       pub call_then : Call m index b end
       call_then = record {
-        s = chained m t;
-        known = moved.1;
-        main = subst (λ (z : OwnerState). IsMain z.shape b) (sym first) call.main;
+        v = view m (chained m t) index moved.1 b (subst (λ (z : OwnerState). IsMain z.shape b) (sym first) call.v.main);
         ends = record {
           buckets = record {
             last = λ k e. ap (λ (z : List ℕ). at z k) same ∙ call.ends.buckets.last k (ap length (sym same) ∙ e);
@@ -188,8 +185,8 @@ module _ (o : OwnerState) (index : Index) (b : ℕ) (end : ChainEnd) (call : Cal
           same : buckets_of m b ≡ cs
           same = ap (λ (z : OwnerState). buckets_of z b) first
               ∙ chain_is (after (PutsEntry spot.bucket spot.slot y) o) b cs
-              (same_chain o (after (PutsEntry spot.bucket spot.slot y) o).words o.history o.phase b cs (chain o call.s index call.known b call.main)
-              (λ k l. link_puts_entry o call.s.wide spot.bucket spot.slot y (at cs k) u.in_bucket))
+              (kept_chain o (after (PutsEntry spot.bucket spot.slot y) o).words o.history o.phase call.v.s b call.v.main
+              (λ c h. link_puts_entry o call.v.s.wide spot.bucket spot.slot y c u.in_bucket))
 
       -- what the chain has once the last is dropped too
       pub without : (p : OwnerState) → ChangesChain m p b (take (length (entries_of m b) - 1) (entries_of m b)) → ChangesChain o p b (entries_without o b spot)

@@ -1,7 +1,7 @@
 -- What the calls go by of the owner's fact: how many words there are, and the buckets of all chains.
 use Rattle.chained_index.proofs.Words.{◌≡◌, ℕ, zero, suc, ◌<◌, ◌≤◌, inl, inr, ◌⊎◌, List, length, slice_index, sym, ◌∙◌, subst, arith, length-set}
 use Rattle.chained_index.proofs.Words.{History, OwnerState, Phase, PutsEntry, IsMain, IsSpare, IsBucket, entry_at, link_at, word_count, link_in}
-use Rattle.chained_index.proofs.Words.{InChain, HasChains, after, Kept, link_puts_entry, buckets_of}
+use Rattle.chained_index.proofs.Words.{InChain, HasChains, IsFreeSpare, after, Kept, link_puts_entry, buckets_of}
 use Rattle.chained_index.proofs.Lists.{at}
 use Rattle.chained_index.proofs.Paths.{IsPath, same_path, path_from, path_is, place_in, in_path, path_ends, few_buckets}
 
@@ -60,47 +60,53 @@ chain_inside o s b c main h =
     let place = place_in o b (buckets_of o b) chain.path c h in
     subst (IsBucket o.shape) place.2 (inside o b (buckets_of o b) chain place.0 place.1)
 
--- A chain whose links are the same has the same buckets.
-module _ (o : OwnerState) (words : List ℕ) (history : History) (phase : Phase) (b : ℕ) (cs : List ℕ) (chain : IsChain o b cs) where
+-- A chain of whose buckets no link changed has the same buckets.
+module _ (o : OwnerState) (words : List ℕ) (history : History) (phase : Phase) (s : Chained o) (b : ℕ) (main : IsMain o.shape b)
+    (same : (c : ℕ) → InChain o b c → slice_index words (link_at o.shape c) ≡ link_in o c) where
   abbrev p : OwnerState
   p = record o { words = words; history = history; phase = phase }
 
-  module _ (same : (k : ℕ) → k < length cs → link_in p (at cs k) ≡ link_in o (at cs k)) where
-    pub same_chain : IsChain p b cs
-    same_chain = record { main = chain.main; path = same_path o p b cs chain.path same; spare = chain.spare; few = chain.few }
+  abbrev cs : List ℕ
+  cs = buckets_of o b
 
-    pub same_on : (c : ℕ) → InChain o b c → InChain p b c
-    same_on c h = let place = place_in o b cs chain.path c h in subst (InChain p b) place.2 (in_chain p b cs same_chain place.0 place.1)
+  pub kept_chain : IsChain p b cs
+  kept_chain = let was = chain_there o s b main in
+      record { main = main; path = same_path o p b cs was.path (λ k l. same (at cs k) (in_chain o b cs was k l)); spare = was.spare; few = was.few }
 
-    pub same_back : (c : ℕ) → InChain p b c → InChain o b c
-    same_back c h = let place = place_in p b cs same_chain.path c h in subst (InChain o b) place.2 (in_chain o b cs chain place.0 place.1)
+  pub chain_on : (c : ℕ) → InChain o b c → InChain p b c
+  chain_on c h = let place = place_in o b cs (chain_there o s b main).path c h in subst (InChain p b) place.2 (in_chain p b cs kept_chain place.0 place.1)
 
--- Where the links of all buckets are the same, all chains are.
+  pub chain_back : (c : ℕ) → InChain p b c → InChain o b c
+  chain_back c h = let place = place_in p b cs kept_chain.path c h in subst (InChain o b) place.2 (in_chain o b cs (chain_there o s b main) place.0 place.1)
+
+-- Where no link changed, all chains and the free spares are the same.
 module _ (o : OwnerState) (words : List ℕ) (history : History) (phase : Phase) (long : length words ≡ length o.words) (s : Chained o)
     (same : (d : ℕ) → IsBucket o.shape d → slice_index words (link_at o.shape d) ≡ link_in o d) where
   abbrev q : OwnerState
   q = record o { words = words; history = history; phase = phase }
 
-  module _ (b : ℕ) (main : IsMain o.shape b) where
-    chain : IsChain o b (buckets_of o b)
-    chain = chain_there o s b main
+  own_same : (b : ℕ) → IsMain o.shape b → (c : ℕ) → InChain o b c → slice_index words (link_at o.shape c) ≡ link_in o c
+  own_same b main c h = same c (chain_inside o s b c main h)
 
-    same_at : (k : ℕ) → k < length (buckets_of o b) → link_in q (at (buckets_of o b) k) ≡ link_in o (at (buckets_of o b) k)
-    same_at k l = same (at (buckets_of o b) k) (inside o b (buckets_of o b) chain k l)
+  back : (b : ℕ) → IsMain o.shape b → (c : ℕ) → InChain q b c → InChain o b c
+  back b main = chain_back o words history phase s b main (own_same b main)
 
-    chain_kept : IsChain q b (buckets_of o b)
-    chain_kept = same_chain o words history phase b (buckets_of o b) chain same_at
+  pub all_on : (b : ℕ) → IsMain o.shape b → (c : ℕ) → InChain o b c → InChain q b c
+  all_on b main = chain_on o words history phase s b main (own_same b main)
 
-    was_in : (d : ℕ) → InChain q b d → InChain o b d
-    was_in = same_back o words history phase b (buckets_of o b) chain same_at
+  pub free_on : (c : ℕ) → IsFreeSpare o c → IsFreeSpare q c
+  free_on c f = record { spare = f.spare; free = λ b main h. f.free b main (back b main c h) }
+
+  pub free_back : (c : ℕ) → IsFreeSpare q c → IsFreeSpare o c
+  free_back c f = record { spare = f.spare; free = λ b main h. f.free b main (all_on b main c h) }
 
   pub chained_kept : Chained q
   chained_kept = record {
     wide = long ∙ s.wide;
     chains = record {
       links = λ d l. subst (λ (z : ℕ). (z ≡ 0) ⊎ IsSpare o.shape z) (sym (same d l)) (s.chains.links d l);
-      end = λ b main. let kept = chain_kept b main in path_ends q b (buckets_of o b) kept.path (suc o.shape.spares) kept.few;
-      apart = λ b b' d l l' n h h'. s.chains.apart b b' d l l' n (was_in b l d h) (was_in b' l' d h');
+      end = λ b main. let kept = kept_chain o words history phase s b main (own_same b main) in path_ends q b (buckets_of o b) kept.path (suc o.shape.spares) kept.few;
+      apart = λ b b' c l l' n h h'. s.chains.apart b b' c l l' n (back b l c h) (back b' l' c h');
     };
   }
 

@@ -4,9 +4,9 @@ use Rattle.chained_index.proofs.Words.{ℕ_discrete, OwnerState, IsMain, IsSpare
 use Rattle.chained_index.proofs.Words.{ChangesChain, Index, IsBlank, IsIndexOf}
 use Rattle.chained_index.proofs.Lists.{at, IsOf}
 use Rattle.chained_index.proofs.Paths.{IsPath, place_in}
-use Rattle.chained_index.proofs.Chained.{Chained, IsChain, in_chain, chain_there, chain_of}
+use Rattle.chained_index.proofs.Chained.{Chained, IsChain, in_chain, chain_there, chain_of, chain_on, chain_back}
 use Rattle.chained_index.proofs.Filled.{SameBucket, IsFilled, entries_are, dense_there}
-use Rattle.chained_index.proofs.Frames.{chain_back, chain_on, chain_kept, dense_kept}
+use Rattle.chained_index.proofs.Frames.{chain_kept, dense_kept}
 
 -- The chain of buckets cs has the buckets ds now, and in them the entries ys. No bucket but those has changed, and what it gained was free.
 pub record Rewrites (o p : OwnerState) (b : ℕ) (cs ds ys : List ℕ) : Type 0 where
@@ -63,7 +63,7 @@ module _ (o : OwnerState) (words : List ℕ) (long : length words ≡ length o.w
       spare = f.spare;
       free = λ d m h. dite (ℕ_discrete d b)
           (λ is. not (place_in o b cs chain.path c (subst (λ (z : ℕ). InChain o z c) is h)))
-          (λ n. f.free d m (chain_on o words o.history o.phase long s d m (other_same d m n) c h));
+          (λ n. f.free d m (chain_on o words o.history o.phase s d m (λ e i. (other_same d m n e i).link) c h));
     }
 
     is_listed : (c : ℕ) → IsFreeSpare p c → Contains free c
@@ -75,7 +75,7 @@ module _ (o : OwnerState) (words : List ℕ) (long : length words ≡ length o.w
       free = λ d m h. dite (ℕ_discrete d b)
           (λ is. (gone c has).0 (place_in p b ds r.path c (subst (λ (z : ℕ). InChain p z c) is h)))
           (λ n.
-          let before = chain_back o words o.history o.phase long s d m (other_same d m n) c h in
+          let before = chain_back o words o.history o.phase s d m (λ e i. (other_same d m n e i).link) c h in
           elim (gone c has).1 [ inl was ↦ ((known.free c).0 was).free d m before | inr cut ↦ s.chains.apart d b c m main n before (own c cut.0) ]);
     }
 

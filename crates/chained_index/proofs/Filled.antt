@@ -1,4 +1,5 @@
 -- The entries of a chain as a list: they fill its buckets, one after another.
+use Rattle.chained_index.proofs.Words.{Index, IsIndexOf, IsMain}
 use Rattle.chained_index.proofs.Words.{◌≡◌, ◌≢◌, ℕ, zero, suc, ◌+◌, ◌-◌, ◌*◌, ◌/◌, ◌%◌, ◌<◌, ◌≤◌, inl, inr, List, [], ◌∷◌, ◌++◌, length, drop}
 use Rattle.chained_index.proofs.Words.{nat_lt, filter, flat_map, slice_range, refl, sym, ap, ◌∙◌, subst, arith, length-append, length-take}
 use Rattle.chained_index.proofs.Words.{length-drop, dite, ℕ_discrete, cases_lt, get_or-take, get_or-drop, get_or_past, get_or_append_left}
@@ -6,7 +7,7 @@ use Rattle.chained_index.proofs.Words.{get_or-append_right, filter-append, spare
 use Rattle.chained_index.proofs.Words.{link_in, IsDense, buckets_of, entries_in, entries_of}
 use Rattle.chained_index.proofs.Lists.{at, AllUsed, below, same_list, filter_used, at-filter}
 use Rattle.chained_index.proofs.Paths.{step_on, place_in}
-use Rattle.chained_index.proofs.Chained.{IsChain, chain_is, inside, in_chain}
+use Rattle.chained_index.proofs.Chained.{Chained, IsChain, chain_is, inside, in_chain, chain_there}
 
 -- a bucket's link and entries are the same
 pub record SameBucket (o p : OwnerState) (d : ℕ) : Type 0 where
@@ -179,3 +180,15 @@ module _ (o : OwnerState) (wide : length o.words ≡ word_count o.shape) (b : �
 
 pub same_filled : (o p : OwnerState) (cs xs : List ℕ) → IsFilled o cs xs → ((k : ℕ) → k < length cs → SameBucket o p (at cs k)) → IsFilled p cs xs
 same_filled o p cs xs f same = record { entries = λ k slot l low. (same k l).entry slot low ∙ f.entries k slot l low; used = f.used; size = f.size }
+
+-- The chain of a main bucket of an index, with its buckets and its entries as lists.
+pub record View (o : OwnerState) (index : Index) (b : ℕ) : Type 0 where
+  pub s : Chained o
+  pub known : IsIndexOf index o
+  pub main : IsMain o.shape b
+  pub chain : IsChain o b (buckets_of o b)
+  pub filled : IsFilled o (buckets_of o b) (entries_of o b)
+
+pub view : (o : OwnerState) → Chained o → (index : Index) → IsIndexOf index o → (b : ℕ) → IsMain o.shape b → View o index b
+view o s index known b main = let chain = chain_there o s b main in
+    record { s = s; known = known; main = main; chain = chain; filled = filled_there o s.wide b (buckets_of o b) chain (known.dense b main) }

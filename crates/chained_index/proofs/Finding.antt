@@ -1,11 +1,11 @@
 -- A search along a chain.
 use Rattle.chained_index.proofs.Words.{◌≡◌, ◌≢◌, ℕ, suc, ◌+◌, ◌*◌, ◌<◌, ◌≤◌, inl, inr, List, length, sym, ap, ◌∙◌, subst, arith, cases_lt, dite}
-use Rattle.chained_index.proofs.Words.{ℕ_discrete, tag_of, entry_tag, entry_offset, OwnerState, IsMain, entry_in, InChain, HasKey, buckets_of}
-use Rattle.chained_index.proofs.Words.{entries_of, number_of, IsSpotOf, HasNoSpot, Index, IsIndexOf}
+use Rattle.chained_index.proofs.Words.{ℕ_discrete, tag_of, entry_tag, entry_offset, OwnerState, entry_in, InChain, HasKey, buckets_of}
+use Rattle.chained_index.proofs.Words.{entries_of, number_of, IsSpotOf, HasNoSpot, Index}
 use Rattle.chained_index.proofs.Lists.{at}
-use Rattle.chained_index.proofs.Chained.{Chained, in_chain}
-use Rattle.chained_index.proofs.Numbers.{number_within, number_entry}
-use Rattle.chained_index.proofs.Stored.{chain, filled}
+use Rattle.chained_index.proofs.Chained.{in_chain}
+use Rattle.chained_index.proofs.Numbers.{is_within, entry_there}
+use Rattle.chained_index.proofs.Filled.{View}
 use Rattle.chained_index.proofs.Walking.{IsAt}
 
 -- the entry has the key's tag, and its item the key
@@ -16,19 +16,19 @@ IsOfKey o key entry = (entry_tag entry ≡ tag_of key) × HasKey o (entry_offset
 abbrev pub NoneBefore : OwnerState → ℕ → List ℕ → ℕ → Type 0
 NoneBefore o b key n = (i : ℕ) → i < n → ¬ (IsOfKey o key (at (entries_of o b) i))
 
-module _ (o : OwnerState) (s : Chained o) (index : Index) (known : IsIndexOf index o) (b : ℕ) (main : IsMain o.shape b) (key : List ℕ) where
+module _ (o : OwnerState) (index : Index) (b : ℕ) (v : View o index b) (key : List ℕ) where
   pub none_at_all : (n : ℕ) → length (entries_of o b) ≤ n → NoneBefore o b key n → HasNoSpot o b key
-  none_at_all n all none spot is = none (number_of o b spot) (omega (arith, number_within o s index known b main spot is.used))
-      (subst (IsOfKey o key) (sym (number_entry o s index known b main spot is.used)) (is.tag, is.item))
+  none_at_all n all none spot is = none (number_of o b spot) (omega (arith, is_within o index b v spot is.used))
+      (subst (IsOfKey o key) (sym (entry_there o index b v spot is.used)) (is.tag, is.item))
 
   module _ (link c : ℕ) (w : IsAt o b link c) where
     entry_here : (slot : ℕ) → slot < 15 → entry_in o c slot ≡ at (entries_of o b) (15 * link + slot)
-    entry_here slot low = ap (λ (z : ℕ). entry_in o z slot) (sym w.here) ∙ (filled o s index known b main).entries link slot w.within low
+    entry_here slot low = ap (λ (z : ℕ). entry_in o z slot) (sym w.here) ∙ v.filled.entries link slot w.within low
 
     pub spot_found : (slot : ℕ) → slot < 15 → entry_in o c slot ≢ 0 → IsOfKey o key (entry_in o c slot) → IsSpotOf o b key (record { bucket = c; slot = slot })
     spot_found slot low some is = record {
       used = record {
-        in_chain = subst (InChain o b) w.here (in_chain o b (buckets_of o b) (chain o s index known b main) link w.within);
+        in_chain = subst (InChain o b) w.here (in_chain o b (buckets_of o b) v.chain link w.within);
         in_bucket = low;
         used = some;
       };
@@ -39,13 +39,13 @@ module _ (o : OwnerState) (s : Chained o) (index : Index) (known : IsIndexOf ind
     -- where a slot is empty, so is all behind it
     pub none_past_empty : (slot : ℕ) → slot < 15 → entry_in o c slot ≡ 0 → NoneBefore o b key (15 * link + slot) → HasNoSpot o b key
     none_past_empty slot low empty = none_at_all (15 * link + slot) (elim (cases_lt (15 * link + slot) (length (entries_of o b))) [
-      | inl less ↦ absurd ((filled o s index known b main).used (15 * link + slot) less (sym (entry_here slot low) ∙ empty))
+      | inl less ↦ absurd (v.filled.used (15 * link + slot) less (sym (entry_here slot low) ∙ empty))
       | inr past ↦ past
     ])
 
     -- where there is no link, there is no other bucket
     pub none_at_end : length (buckets_of o b) ≡ suc link → NoneBefore o b key (15 * link + 15) → HasNoSpot o b key
-    none_at_end last = none_at_all (15 * link + 15) (omega (arith, last, (filled o s index known b main).size))
+    none_at_end last = none_at_all (15 * link + 15) (omega (arith, last, v.filled.size))
 
     pub one_more : (slot : ℕ) → slot < 15 → NoneBefore o b key (15 * link + slot) → ¬ (IsOfKey o key (entry_in o c slot)) → NoneBefore o b key (15 * link + (slot + 1))
     one_more slot low none not i less is = dite (ℕ_discrete i (15 * link + slot))

@@ -3,7 +3,7 @@ use Rattle.chained_index.proofs.Words.{◌≡◌, ℕ, ◌<◌, ◌/◌, ◌%◌
 use Rattle.chained_index.proofs.Words.{OwnerState, Phase, IsMain, InChain, IsDense, buckets_of, entries_of, KeepsChain, ChangesOnlyIndex}
 use Rattle.chained_index.proofs.Words.{ChangesChain}
 use Rattle.chained_index.proofs.Lists.{at}
-use Rattle.chained_index.proofs.Chained.{Chained, IsChain, chain_is, inside, in_chain, chain_there, same_chain, same_on, same_back}
+use Rattle.chained_index.proofs.Chained.{Chained, IsChain, chain_is, inside, in_chain, chain_there, kept_chain}
 use Rattle.chained_index.proofs.Filled.{SameBucket, all_slots, length-all_slots, by_place, entries_filtered, dense_there, filled_there, same_filled}
 
 module _ (o : OwnerState) (words : List ℕ) (history : History) (phase : Phase) (long : length words ≡ length o.words)
@@ -21,30 +21,24 @@ module _ (o : OwnerState) (words : List ℕ) (history : History) (phase : Phase)
     same_at : (k : ℕ) → k < length cs → SameBucket o p (at cs k)
     same_at k l = same (at cs k) (in_chain o b cs chain k l)
 
-    kept_chain : IsChain p b cs
-    kept_chain = same_chain o words history phase b cs chain (λ k l. (same_at k l).link)
-
-    pub chain_on : (c : ℕ) → InChain o b c → InChain p b c
-    chain_on = same_on o words history phase b cs chain (λ k l. (same_at k l).link)
-
-    pub chain_back : (c : ℕ) → InChain p b c → InChain o b c
-    chain_back = same_back o words history phase b cs chain (λ k l. (same_at k l).link)
+    now : IsChain p b cs
+    now = kept_chain o words history phase s b main (λ c h. (same c h).link)
 
     pub chain_kept : KeepsChain o p b
     chain_kept = record {
-      buckets = chain_is p b cs kept_chain;
-      entries = entries_filtered p b cs (chain_is p b cs kept_chain) ∙ (ap (filter (nat_lt 0)) slots_same ∙ sym (entries_filtered o b cs (chain_is o b cs chain)));
+      buckets = chain_is p b cs now;
+      entries = entries_filtered p b cs (chain_is p b cs now) ∙ (ap (filter (nat_lt 0)) slots_same ∙ sym (entries_filtered o b cs (chain_is o b cs chain)));
     }
       where
         slots_same : all_slots p cs ≡ all_slots o cs
         slots_same =
-            let size = length-all_slots p (long ∙ s.wide) cs (inside p b cs kept_chain) in
+            let size = length-all_slots p (long ∙ s.wide) cs (inside p b cs now) in
             ext_get_or 0 (all_slots p cs) (all_slots o cs) (size ∙ sym (length-all_slots o s.wide cs (inside o b cs chain))) (λ i l.
-            by_place p (long ∙ s.wide) cs (inside p b cs kept_chain) i (omega arith)
+            by_place p (long ∙ s.wide) cs (inside p b cs now) i (omega arith)
             ∙ ((same_at (i / 15) (omega arith)).entry (i % 15) (omega arith) ∙ sym (by_place o s.wide cs (inside o b cs chain) i (omega arith))))
 
     pub dense_kept : IsDense o b → IsDense p b
-    dense_kept dense = dense_there p (long ∙ s.wide) b cs kept_chain (entries_of o b)
+    dense_kept dense = dense_there p (long ∙ s.wide) b cs now (entries_of o b)
         (same_filled o p cs (entries_of o b) (filled_there o s.wide b cs chain dense) same_at)
 
 -- One change after another

@@ -7,7 +7,7 @@ pub use Rattle.chained_index.proofs.Lists.{at}
 use Rattle.chained_index.proofs.Lists.{below}
 use Rattle.chained_index.proofs.Paths.{one_place, place_in}
 use Rattle.chained_index.proofs.Chained.{Chained, in_chain}
-use Rattle.chained_index.proofs.Stored.{chain, filled}
+use Rattle.chained_index.proofs.Filled.{View, view}
 
 -- The entries of the bucket stand for the machine's state: as `StandsFor`, by places in the list.
 pub record ListStands (o : OwnerState) (b : ℕ) : Type 0 where
@@ -40,12 +40,15 @@ module _ (o : OwnerState) (s : Chained o) (mode : o.shape.mode ≡ Store) (index
     abbrev xs : List ℕ
     xs = entries_of o b
 
+    v : View o index b
+    v = view o s index known b main
+
     pub place : (c slot entry : ℕ) → HasLiveEntry o b c slot entry → (i : ℕ) × Stands o b c slot entry i
     place c slot entry live =
-        let found = place_in o b (buckets_of o b) (chain o s index known b main).path c live.in_chain in
+        let found = place_in o b (buckets_of o b) v.chain.path c live.in_chain in
         let low = live.in_bucket in
         let i : ℕ = 15 * found.0 + slot in
-        let is : at xs i ≡ entry = sym ((filled o s index known b main).entries found.0 slot found.1 low) ∙ (ap (λ (z : ℕ). entry_in o z slot) found.2 ∙ live.found) in
+        let is : at xs i ≡ entry = sym (v.filled.entries found.0 slot found.1 low) ∙ (ap (λ (z : ℕ). entry_in o z slot) found.2 ∙ live.found) in
         let quotient : i / 15 ≡ found.0 = omega arith in (
           i,
           record {
@@ -59,14 +62,14 @@ module _ (o : OwnerState) (s : Chained o) (mode : o.shape.mode ≡ Store) (index
 
     pub spot : (i : ℕ) → i < length xs → Stands o b (bucket_at o (i / 15) b) (i % 15) (at xs i) i
     spot i less =
-        let low : i / 15 < length (buckets_of o b) = omega (arith, (filled o s index known b main).size) in
+        let low : i / 15 < length (buckets_of o b) = omega (arith, v.filled.size) in
         let split : 15 * (i / 15) + i % 15 ≡ i = omega arith in record {
           live = record {
-            in_chain = in_chain o b (buckets_of o b) (chain o s index known b main) (i / 15) low;
+            in_chain = in_chain o b (buckets_of o b) v.chain (i / 15) low;
             in_bucket = omega arith;
-            found = (filled o s index known b main).entries (i / 15) (i % 15) low (omega arith) ∙ ap (at xs) split;
+            found = v.filled.entries (i / 15) (i % 15) low (omega arith) ∙ ap (at xs) split;
             live = (
-              (filled o s index known b main).used i less,
+              v.filled.used i less,
               subst (λ (z : Mode). IsLiveItem z o.shape.words (stamp_in o) (entry_offset (at xs i))) (sym mode) tt,
             );
           };
@@ -79,9 +82,8 @@ module _ (o : OwnerState) (s : Chained o) (mode : o.shape.mode ≡ Store) (index
     -- two places with one spot are one place
     same_place : (c slot c' slot' entry entry' i j : ℕ) → Stands o b c slot entry i → Stands o b c' slot' entry' j → c ≡ c' → slot ≡ slot' → i ≡ j
     same_place c slot c' slot' entry entry' i j one two same_bucket same_slot =
-        let first : i / 15 < length (buckets_of o b) = omega (arith, one.inside, (filled o s index known b main).size) in
-        let second : j / 15 < length (buckets_of o b) = omega (arith, two.inside, (filled o s index known b main).size) in
-        let step = one_place o b (buckets_of o b) (chain o s index known b main).path (i / 15) (j / 15) first second (one.bucket ∙ (same_bucket ∙ sym two.bucket)) in
+        let step = one_place o b (buckets_of o b) v.chain.path (i / 15) (j / 15)
+        (omega (arith, one.inside, v.filled.size)) (omega (arith, two.inside, v.filled.size)) (one.bucket ∙ (same_bucket ∙ sym two.bucket)) in
         let slots : i % 15 ≡ j % 15 = sym one.in_slot ∙ (same_slot ∙ two.in_slot) in
         omega arith
 

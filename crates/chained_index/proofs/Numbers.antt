@@ -4,11 +4,11 @@ use Rattle.chained_index.proofs.Words.{OwnerState, IsMain, entry_in, Spot, bucke
 use Rattle.chained_index.proofs.Lists.{at, IsOf, below}
 use Rattle.chained_index.proofs.Paths.{one_place, place_in}
 use Rattle.chained_index.proofs.Chained.{Chained}
-use Rattle.chained_index.proofs.Stored.{chain, filled}
+use Rattle.chained_index.proofs.Filled.{View, view}
 
-module _ (o : OwnerState) (s : Chained o) (index : Index) (known : IsIndexOf index o) (b : ℕ) (main : IsMain o.shape b) (spot : Spot) (u : IsUsed o b spot) where
+module _ (o : OwnerState) (index : Index) (b : ℕ) (v : View o index b) (spot : Spot) (u : IsUsed o b spot) where
   pub place : IsOf (buckets_of o b) spot.bucket
-  place = place_in o b (buckets_of o b) (chain o s index known b main).path spot.bucket u.in_chain
+  place = place_in o b (buckets_of o b) v.chain.path spot.bucket u.in_chain
 
   pub number_is : number_of o b spot ≡ 15 * place.0 + spot.slot
   unfolding number_of
@@ -17,12 +17,18 @@ module _ (o : OwnerState) (s : Chained o) (index : Index) (known : IsIndexOf ind
       let test : ℕ → Bool = λ c. nat_eq c spot.bucket in
       ap (λ (z : ℕ). 15 * z + spot.slot) (position_or_len_is test (buckets_of o b) place.0 0 (omega arith)
       (λ j below. ne_eqb (at (buckets_of o b) j) spot.bucket (λ same.
-      let is = one_place o b (buckets_of o b) (chain o s index known b main).path j place.0 (omega arith) place.1 (same ∙ sym place.2) in omega arith))
+      let is = one_place o b (buckets_of o b) v.chain.path j place.0 (omega arith) place.1 (same ∙ sym place.2) in omega arith))
       (λ within. eq-eqb (at (buckets_of o b) place.0) spot.bucket place.2))
 
-  pub number_entry : get_or (entries_of o b) (number_of o b spot) 0 ≡ spot_entry o spot
-  number_entry = ap (at (entries_of o b)) number_is
-      ∙ (sym ((filled o s index known b main).entries place.0 spot.slot place.1 u.in_bucket) ∙ ap (λ (z : ℕ). entry_in o z spot.slot) place.2)
+  pub entry_there : at (entries_of o b) (number_of o b spot) ≡ spot_entry o spot
+  entry_there = ap (at (entries_of o b)) number_is ∙ (sym (v.filled.entries place.0 spot.slot place.1 u.in_bucket) ∙ ap (λ (z : ℕ). entry_in o z spot.slot) place.2)
 
+  pub is_within : number_of o b spot < length (entries_of o b)
+  is_within = below (entries_of o b) (number_of o b spot) (λ none. u.used (sym entry_there ∙ none))
+
+module _ (o : OwnerState) (s : Chained o) (index : Index) (known : IsIndexOf index o) (b : ℕ) (main : IsMain o.shape b) (spot : Spot) (u : IsUsed o b spot) where
   pub number_within : number_of o b spot < length (entries_of o b)
-  number_within = below (entries_of o b) (number_of o b spot) (λ none. u.used (sym number_entry ∙ none))
+  number_within = is_within o index b (view o s index known b main) spot u
+
+  pub number_entry : get_or (entries_of o b) (number_of o b spot) 0 ≡ spot_entry o spot
+  number_entry = entry_there o index b (view o s index known b main) spot u

@@ -1,11 +1,12 @@
 -- What no store of an entry or a link changes: the chains, their entries and the index.
+use Rattle.chained_index.proofs.Words.{link_in}
 use Rattle.chained_index.proofs.Words.{◌≡◌, ℕ, ◌+◌, List, [], ◌∷◌, length, refl, ◌∙◌, arith, length-set, Write, History, OwnerState, Phase, Event}
-use Rattle.chained_index.proofs.Words.{Begins, Marks, PutsWord, Ends, IsMain, IsBucket, entry_at, link_at, InChain, IsFreeSpare, words_after}
+use Rattle.chained_index.proofs.Words.{Begins, Marks, PutsWord, Ends, IsMain, IsBucket, entry_at, link_at, InChain, words_after}
 use Rattle.chained_index.proofs.Words.{history_after, phase_after, after, plays, puts_from, no_epoch, other, entry_begins, entry_marks}
 use Rattle.chained_index.proofs.Words.{entry_puts_word, link_begins, link_marks, link_puts_word, entries_of, Index, IsIndexOf}
-use Rattle.chained_index.proofs.Chained.{Chained, chain_inside, chained_kept}
+use Rattle.chained_index.proofs.Chained.{Chained, chain_inside, free_on, free_back, chained_kept}
 use Rattle.chained_index.proofs.Filled.{SameBucket}
-use Rattle.chained_index.proofs.Frames.{chain_back, chain_on, chain_kept, dense_kept}
+use Rattle.chained_index.proofs.Frames.{chain_kept, dense_kept}
 
 -- where all buckets are the same
 module _ (o : OwnerState) (s : Chained o) (words : List ℕ) (history : History) (phase : Phase) (long : length words ≡ length o.words)
@@ -16,23 +17,20 @@ module _ (o : OwnerState) (s : Chained o) (words : List ℕ) (history : History)
   in_chain : (b : ℕ) → IsMain o.shape b → (d : ℕ) → InChain o b d → SameBucket o p d
   in_chain b main d h = same d (chain_inside o s b d main h)
 
+  links : (d : ℕ) → IsBucket o.shape d → link_in p d ≡ link_in o d
+  links d l = (same d l).link
+
   pub entries_stay : (b : ℕ) → IsMain o.shape b → entries_of p b ≡ entries_of o b
   entries_stay b main = (chain_kept o words history phase long s b main (in_chain b main)).entries
-
-  free_on : (d : ℕ) → IsFreeSpare o d → IsFreeSpare p d
-  free_on d f = record { spare = f.spare; free = λ b main h. f.free b main (chain_back o words history phase long s b main (in_chain b main) d h) }
-
-  free_back : (d : ℕ) → IsFreeSpare p d → IsFreeSpare o d
-  free_back d f = record { spare = f.spare; free = λ b main h. f.free b main (chain_on o words history phase long s b main (in_chain b main) d h) }
 
   pub index_stays : (index : Index) → IsIndexOf index o → IsIndexOf index p
   index_stays index is = record {
     shape = is.shape;
     dense = λ b main. dense_kept o words history phase long s b main (in_chain b main) (is.dense b main);
-    free = λ d. (λ has. free_on d ((is.free d).0 has), λ f. (is.free d).1 (free_back d f));
+    free = λ d. (λ has. free_on o words history phase long s links d ((is.free d).0 has), λ f. (is.free d).1 (free_back o words history phase long s links d f));
     once = is.once;
     blank = λ d f.
-        let before = is.blank d (free_back d f) in
+        let before = is.blank d (free_back o words history phase long s links d f) in
         let one = same d f.spare.1 in record {
           no_link = one.link ∙ before.no_link;
           no_entry = λ slot low. one.entry slot low ∙ before.no_entry slot low;

@@ -57,3 +57,4 @@ pub use Rattle.std.specs.List.{range_with_len, list_any}
 pub use Rattle.std.specs.Prelude.{Contains, AllPairs, swap_remove}
 pub use mathlib.Core.Logic.{dite}
 pub use native.Mathlib.Decide.{ℕ_discrete}
+pub use Rattle.std.specs.Prelude.{◌↔◌}

@@ -1,6 +1,7 @@
 use Rattle.chained_index.proofs.Words.{◌≡◌, ◌≢◌, ℕ, List, ◌+◌, ◌*◌, ◌∙◌, refl, sym, ap, subst, arith, rules, true≢false, tag_of, entry_tag}
 use Rattle.chained_index.proofs.Words.{entry_offset, OwnerState, Shape, entry_in, link_in, HasKey, Kept, Index}
-use Rattle.chained_index.proofs.Chained.{Chained, chained}
+use Rattle.chained_index.proofs.Chained.{chained}
+use Rattle.chained_index.proofs.Filled.{View, view}
 use Rattle.chained_index.proofs.Walking.{IsAt, at_first, one_further, at_end, at_most}
 use Rattle.chained_index.proofs.Finding.{IsOfKey, NoneBefore, spot_found, none_past_empty, none_at_end, one_more}
 use Rattle.chained_index.proofs.index.ChainedIndex.find_hashed.Given.{Over}
@@ -26,8 +27,8 @@ loop-slot-init g c = record {
 
 -- an entry was read
 
-kept : (g : Over) (c : After-read-entry g) → Chained (g.W.OwnerWords.owner c.args.words.now)
-kept g c = chained _ (subst Kept (c.read-entry.ensures.same ∙ c.loop-slot.invariant.owner) c.read-entry.ensures.kept)
+seen : (g : Over) (c : After-read-entry g) → View (g.W.OwnerWords.owner c.args.words.now) c.args.self.now c.args.bucket
+seen g c = view _ (chained _ (subst Kept (c.read-entry.ensures.same ∙ c.loop-slot.invariant.owner) c.read-entry.ensures.kept)) _ c.requires.index _ c.requires.bucket
 
 value : (g : Over) (c : After-read-entry g) → c.read-entry.result ≡ entry_in (g.W.OwnerWords.owner c.args.words.now) c.loop-link.at c.loop-slot.slot
 value g c = c.read-entry.ensures.value ∙ ap (λ (z : OwnerState). entry_in z c.loop-link.at c.loop-slot.slot) c.loop-slot.invariant.owner
@@ -35,7 +36,7 @@ value g c = c.read-entry.ensures.value ∙ ap (λ (z : OwnerState). entry_in z c
 pub returns-then-entry-eq0-clause-found : goal.returns-then-entry-eq0-clause-found
 returns-then-entry-eq0-clause-found g c =
     let a = (goal.at.returns-then-entry-eq0-clause-found g c).After-read-entry in
-    none_past_empty _ (kept g a) _ c.requires.index c.args.bucket c.requires.bucket c.args.key.now _ _ c.loop-link.invariant.walk
+    none_past_empty _ _ _ (seen g a) c.args.key.now _ _ c.loop-link.invariant.walk
     c.loop-slot.slot c.loop-slot-test.true (sym (value g a) ∙ c.if-entry-eq0.true) c.loop-slot.invariant.none
 
 -- whether it is of the key, as the words are and as they were
@@ -47,7 +48,7 @@ unfolding tag_of
 returns-then-names_key-clause-found g c =
     let a = (goal.at.returns-then-names_key-clause-found g c).After-read-entry in
     let tag : c.tag_of-tag.result ≡ tag_of c.args.key.now = search rules in
-    spot_found _ (kept g a) _ c.requires.index c.args.bucket c.requires.bucket c.args.key.now _ _ c.loop-link.invariant.walk
+    spot_found _ _ _ (seen g a) c.args.key.now _ _ c.loop-link.invariant.walk
     c.loop-slot.slot c.loop-slot-test.true (λ none. c.if-entry-eq0.false (value g a ∙ none))
     (of_key _ _ (c.read-entry.ensures.same ∙ c.loop-slot.invariant.owner) _ _ _ _ (value g a) tag (c.names_key.ensures.names.0 c.if-names_key.true))
 
@@ -60,7 +61,7 @@ loop-slot-preserved g c =
       owner = c.names_key.ensures.same ∙ same;
       home = c.names_key.ensures.home ∙ (c.read-entry.ensures.home ∙ c.loop-slot.invariant.home);
       kept = λ some. subst Kept same c.read-entry.ensures.kept;
-      none = one_more _ (kept g a) _ c.requires.index c.args.bucket c.requires.bucket c.args.key.now _ _ c.loop-link.invariant.walk
+      none = one_more _ _ _ (seen g a) c.args.key.now _ _ c.loop-link.invariant.walk
           c.loop-slot.slot c.loop-slot-test.true c.loop-slot.invariant.none
           (λ is. true≢false (sym (c.names_key.ensures.names.1 (
             ap entry_tag (value g a) ∙ (is.0 ∙ sym tag),
@@ -71,8 +72,8 @@ loop-slot-preserved g c =
 
 -- a link was read
 
-linked : (g : Over) (c : After-read-next g) → Chained (g.W.OwnerWords.owner c.args.words.now)
-linked g c = chained _ (subst Kept (c.read-next.ensures.same ∙ c.loop-slot.invariant.owner) c.read-next.ensures.kept)
+linked : (g : Over) (c : After-read-next g) → View (g.W.OwnerWords.owner c.args.words.now) c.args.self.now c.args.bucket
+linked g c = view _ (chained _ (subst Kept (c.read-next.ensures.same ∙ c.loop-slot.invariant.owner) c.read-next.ensures.kept)) _ c.requires.index _ c.requires.bucket
 
 link : (g : Over) (c : After-read-next g) → c.read-next.result ≡ link_in (g.W.OwnerWords.owner c.args.words.now) c.loop-link.at
 link g c = c.read-next.ensures.value ∙ ap (λ (z : OwnerState). link_in z c.loop-link.at) c.loop-slot.invariant.owner
@@ -84,12 +85,12 @@ pub returns-then-next-eq0-clause-found : goal.returns-then-next-eq0-clause-found
 returns-then-next-eq0-clause-found g c =
     let a = (goal.at.returns-then-next-eq0-clause-found g c).After-read-next in
     let none : c.read-next.result ≡ 0 = search rules in
-    none_at_end _ (linked g a) _ c.requires.index c.args.bucket c.requires.bucket c.args.key.now _ _ c.loop-link.invariant.walk
-    (at_end _ (linked g a) _ c.requires.bucket _ _ c.loop-link.invariant.walk (sym (link g a) ∙ none)) (all_here g a)
+    none_at_end _ _ _ (linked g a) c.args.key.now _ _ c.loop-link.invariant.walk
+    (at_end _ _ _ (linked g a) _ _ c.loop-link.invariant.walk (sym (link g a) ∙ none)) (all_here g a)
 
 further : (g : Over) (c : After-read-next g) → c.read-next.result ≢ 0 → IsAt (g.W.OwnerWords.owner c.args.words.now) c.args.bucket (c.loop-link._link + 1) c.read-next.result
 further g c some = subst (IsAt _ c.args.bucket (c.loop-link._link + 1)) (sym (link g c))
-    (one_further _ (linked g c) _ c.requires.bucket _ _ c.loop-link.invariant.walk (λ none. some (link g c ∙ none)))
+    (one_further _ _ _ (linked g c) _ _ c.loop-link.invariant.walk (λ none. some (link g c ∙ none)))
 
 pub loop-link-preserved : goal.loop-link-preserved
 loop-link-preserved g c =

@@ -50,8 +50,8 @@ put_link-requires g c =
     let free = last_free _ _ _ _ call _ _ (popped g i) in
     subst (λ (z : OwnerState). MayPutLink z c.end_of-end.result.bucket c.in-Some.next)
     (sym (c.put_entry-in-Some.ensures.event ∙ ap (after (PutsEntry c.in-Some.next 0 c.entry_of-entry.result)) c.end_of-end.ensures.same))
-    (may_link _ call.s c.args.bucket call.main c.requires.marked c.in-Some.next 0 c.entry_of-entry.result (omega arith) _ c.in-Some.next
-    (end_in_chain _ _ _ _ call) free (call.known.blank c.in-Some.next free).no_link)
+    (may_link _ call.v.s c.args.bucket call.v.main c.requires.marked c.in-Some.next 0 c.entry_of-entry.result (omega arith) _ c.in-Some.next
+    (end_in_chain _ _ _ _ call) free (call.v.known.blank c.in-Some.next free).no_link)
 
 pub returns-in-Some : goal.returns-in-Some
 returns-in-Some g c =

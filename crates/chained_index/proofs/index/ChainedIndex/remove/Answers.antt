@@ -36,7 +36,7 @@ put_entry-requires-2 g c =
     let some = used_some _ _ _ _ call c.args.spot c.requires.spot in
     subst (λ (z : OwnerState). MayPutEntry z c.end_of-end.result.bucket (c.end_of-end.result.used - 1)) (sym (first g (goal.at.put_entry-requires-2 g c).After-put_entry))
     (may_enter _ c.args.bucket c.requires.marked _ _
-    (still_in _ call.s _ call.main c.requires.marked c.args.spot.bucket c.args.spot.slot c.read-entry.result c.requires.spot.in_bucket _ (end_in_chain _ _ _ _ call))
+    (still_in _ call.v.s _ call.v.main c.requires.marked c.args.spot.bucket c.args.spot.slot c.read-entry.result c.requires.spot.in_bucket _ (end_in_chain _ _ _ _ call))
     (omega arith))
 
 pub put_link-requires : goal.put_link-requires
@@ -49,8 +49,8 @@ put_link-requires g c =
     let store : OwnerState → OwnerState = after (PutsEntry c.args.spot.bucket c.args.spot.slot c.read-entry.result) in
     let m : OwnerState = store (g.W.OwnerWords.owner c.args.words.now) in
     subst (λ (z : OwnerState). MayPutLink z end.before 0) (sym (c.put_entry-2.ensures.event ∙ ap (after (PutsEntry end.bucket (end.used - 1) 0)) is))
-    (may_cut m (chained m (subst Kept is c.put_entry.ensures.kept)) c.args.bucket call.main c.requires.marked end.bucket (end.used - 1) 0 (omega arith) _
-    (still_in _ call.s _ call.main c.requires.marked c.args.spot.bucket c.args.spot.slot c.read-entry.result c.requires.spot.in_bucket _
+    (may_cut m (chained m (subst Kept is c.put_entry.ensures.kept)) c.args.bucket call.v.main c.requires.marked end.bucket (end.used - 1) 0 (omega arith) _
+    (still_in _ call.v.s _ call.v.main c.requires.marked c.args.spot.bucket c.args.spot.slot c.read-entry.result c.requires.spot.in_bucket _
     (before_in_chain _ _ _ _ call c.if-end-bucket.true)))
 
 pub push_reserved-requires : goal.push_reserved-requires
