@@ -1,9 +1,9 @@
 -- How many numbers of a range a list has.
-use Rattle.chained_index.proofs.Words.{◌≡◌, ◌≢◌, ℕ, ◌+◌, ◌-◌, ◌<◌, ◌≤◌, inl, inr, List, [], ◌∷◌, ◌++◌, length, eqb-true, ◌∙◌, arith, Contains}
+use Rattle.chained_index.proofs.Words.{Contains-push_cases, ◌≡◌, ◌≢◌, ℕ, ◌+◌, ◌-◌, ◌<◌, ◌≤◌, inl, inr, List, [], ◌∷◌, ◌++◌, length, eqb-true, ◌∙◌, arith, Contains}
 use Rattle.chained_index.proofs.Words.{AllPairs, range_with_len, nat_eq_equiv, Decides-eqb, length_push, length-range_with_len}
 use Rattle.chained_index.proofs.Words.{get_or-range_with_len, IsDistinct-from_AllPairs, length-le_from_is_member, list_any-from_Contains}
 use Rattle.chained_index.proofs.Words.{Contains-from_any}
-use Rattle.chained_index.proofs.Lists.{contains_split, pairs_more}
+use Rattle.chained_index.proofs.Lists.{pairs_more}
 
 -- numbers that all differ are no more than a list that has them has
 no_longer : (xs ys : List ℕ) → AllPairs (λ c d. c ≢ d) xs → ((c : ℕ) → Contains xs c → Contains ys c) → length xs ≤ length ys
@@ -35,7 +35,7 @@ as_many_as xs low n pairs inside all =
 pub room_for : (xs : List ℕ) (x low n : ℕ) → AllPairs (λ c d. c ≢ d) xs → ¬ (Contains xs x) → ((c : ℕ) → Contains xs c → (low ≤ c) × (c < low + n))
     → low ≤ x → x < low + n → length xs < n
 room_for xs x low n pairs none inside least most =
-    let few = no_longer (xs ++ x ∷ []) (range_with_len low n) (pairs_more xs x pairs none) (λ c has. elim (contains_split xs x c has) [
+    let few = no_longer (xs ++ x ∷ []) (range_with_len low n) (pairs_more xs x pairs none) (λ c has. elim (Contains-push_cases xs x c has) [
       | inl was ↦ (let is = inside c was in in_range low n c is.0 is.1)
       | inr same ↦ in_range low n c (omega arith) (omega arith)
     ]) in

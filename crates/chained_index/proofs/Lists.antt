@@ -1,7 +1,7 @@
 -- Lists of numbers by their places, where a list has 0 past its end.
-use Rattle.chained_index.proofs.Words.{◌≡◌, ◌≢◌, ℕ, zero, suc, ◌<◌, inl, inr, ◌⊎◌, List, [], ◌∷◌, ◌++◌, length, get_or, true, nat_lt, filter, refl}
-use Rattle.chained_index.proofs.Words.{sym, ap, ◌∙◌, arith, Contains, AllPairs, dite, ℕ_discrete, cases_lt, lt-ltb, get_or_past, get_or_append_left}
-use Rattle.chained_index.proofs.Words.{get_or_push, get_or_default, length_push, Contains-append_cases, all_pairs_push}
+use Rattle.chained_index.proofs.Words.{◌≡◌, ◌≢◌, ℕ, zero, suc, ◌<◌, inl, inr, List, [], ◌∷◌, ◌++◌, length, get_or, true, nat_lt, filter, refl}
+use Rattle.chained_index.proofs.Words.{sym, ◌∙◌, arith, Contains, AllPairs, dite, ℕ_discrete, cases_lt, lt-ltb, get_or_past, get_or_append_left}
+use Rattle.chained_index.proofs.Words.{get_or_push, get_or_default, length_push, all_pairs_push}
 
 -- the number at a place
 abbrev pub at : List ℕ → ℕ → ℕ
@@ -65,12 +65,6 @@ module _ (xs : List ℕ) (x : ℕ) where
   at-push_other i n = elim (cases_lt i (length xs)) [
     | inl less ↦ get_or_append_left xs (x ∷ []) 0 i less
     | inr more ↦ get_or_past (xs ++ x ∷ []) i 0 (omega (arith, length_push xs x)) ∙ sym (get_or_past xs i 0 more)
-  ]
-
-  pub contains_split : (y : ℕ) → Contains (xs ++ x ∷ []) y → Contains xs y ⊎ (y ≡ x)
-  contains_split y h = elim (Contains-append_cases xs (x ∷ []) y h) [
-    | inl has ↦ inl has
-    | inr last ↦ (let first : last.0 ≡ 0 = omega (arith, last.1) in inr (sym last.2 ∙ ap (λ (z : ℕ). get_or (x ∷ []) z y) first))
   ]
 
   pub pairs_before : AllPairs (λ c d. c ≢ d) (xs ++ x ∷ []) → AllPairs (λ c d. c ≢ d) xs

@@ -2,10 +2,10 @@
 use Rattle.chained_index.proofs.Words.{◌≡◌, ◌≢◌, ℕ, suc, ◌+◌, ◌-◌, ◌*◌, ◌<◌, inl, inr, ◌⊎◌, List, [], ◌∷◌, ◌++◌, length, take, set, refl, sym, ap}
 use Rattle.chained_index.proofs.Words.{◌∙◌, subst, arith, length-set, length-take, get_or-set_same, get_or-set_other, Contains, AllPairs, dite}
 use Rattle.chained_index.proofs.Words.{ℕ_discrete, cases_lt, get_or-take, get_or_past, get_or_append_left, get_or_push, length_push, Contains-push}
-use Rattle.chained_index.proofs.Words.{Contains-append_left, spares_behind, OwnerState, PutsEntry, PutsLink, IsBucket, entry_at, entry_in}
+use Rattle.chained_index.proofs.Words.{Contains-append_left, Contains-push_cases, spares_behind, OwnerState, PutsEntry, PutsLink, IsBucket, entry_at, entry_in}
 use Rattle.chained_index.proofs.Words.{link_in, InChain, IsFreeSpare, after, entry_puts, entry_puts_other, link_puts_entry, buckets_of, entries_of}
 use Rattle.chained_index.proofs.Words.{ChangesChain, Index, IsBlank, IsIndexOf}
-use Rattle.chained_index.proofs.Lists.{at, IsOf, AllUsed, at-push_other, contains_split, pairs_before, not_before, pairs_more}
+use Rattle.chained_index.proofs.Lists.{at, IsOf, AllUsed, at-push_other, pairs_before, not_before, pairs_more}
 use Rattle.chained_index.proofs.Paths.{same_path, one_place}
 use Rattle.chained_index.proofs.Chained.{Chained, inside, in_chain}
 use Rattle.chained_index.proofs.Filled.{View}
@@ -191,9 +191,9 @@ module _ (o : OwnerState) (index : Index) (b : ℕ) (v : View o index b) where
         back : (c : ℕ) → ¬ (IsOf ds c) → (¬ (IsOf cs c) → Contains index.free c) → Contains rest c
         back c out from =
             let has = from (λ i. out (i.0, omega (arith, i.1, length_push cs next), old i.0 i.1 ∙ i.2)) in
-            elim (contains_split rest next c (subst (λ (z : List ℕ). Contains z c) split has)) [
+            elim (Contains-push_cases rest next c (subst (λ (z : List ℕ). Contains z c) split has)) [
               | inl is ↦ is
-              | inr e ↦ absurd (out (suc n, omega (arith, length_push cs next), new ∙ sym e))
+              | inr e ↦ absurd (out (suc n, omega (arith, length_push cs next), new ∙ e))
             ]
 
   -- the last bucket is released with its only entry
@@ -279,11 +279,11 @@ module _ (o : OwnerState) (index : Index) (b : ℕ) (v : View o index b) where
         not_own c has i = ((v.known.free c).0 has).free b v.main (subst (InChain o b) i.2 (in_chain o b cs v.chain i.0 i.1))
 
         gone : (c : ℕ) → Contains (index.free ++ last ∷ []) c → ¬ (IsOf es c) × (Contains index.free c ⊎ IsOf cs c × IsBlank r c)
-        gone c has = elim (contains_split index.free last c has) [
+        gone c has = elim (Contains-push_cases index.free last c has) [
           | inl was ↦ (λ i. not_own c was (i.0, omega (arith, i.1, long), sym (left i.0 (omega (arith, i.1, long))) ∙ i.2), inl was)
           | inr e ↦ (
-            λ i. differ i.0 (suc n) (omega (arith, i.1, long)) (omega arith) (λ z. omega (arith, i.1, long)) (sym (left i.0 (omega (arith, i.1, long))) ∙ (i.2 ∙ (e ∙ sym is))),
-            inr ((suc n, omega arith, is ∙ sym e), subst (IsBlank r) (sym e) last_blank),
+            λ i. differ i.0 (suc n) (omega (arith, i.1, long)) (omega arith) (λ z. omega (arith, i.1, long)) (sym (left i.0 (omega (arith, i.1, long))) ∙ (i.2 ∙ (sym e ∙ sym is))),
+            inr ((suc n, omega arith, is ∙ e), subst (IsBlank r) e last_blank),
           )
         ]
 

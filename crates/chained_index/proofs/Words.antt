@@ -46,7 +46,7 @@ pub use Rattle.std.proofs.lemmas.Bool.{cases_lt, lt-ltb, cases_Bool, ltb-false, 
 pub use Rattle.std.proofs.lemmas.Bool.Decides.{Decides-eqb}
 pub use Rattle.std.proofs.lemmas.List.{get_or-take, get_or_past, get_or_append_left, get_or_push, length_push, get_or-drop, get_or-append_right}
 pub use Rattle.std.proofs.lemmas.List.{get_or_default, ext_get_or, drop_all, get_or-replicate, length-replicate, nil_from_length}
-pub use Rattle.std.proofs.lemmas.List.Elements.{Contains-push, Contains-append_left, filter-append, Contains-append_cases, Contains-append_right}
+pub use Rattle.std.proofs.lemmas.List.Elements.{Contains-push, Contains-append_left, filter-append, Contains-append_cases, Contains-push_cases, Contains-append_right}
 pub use Rattle.std.proofs.lemmas.List.FromFn.{length-range_with_len, get_or-range_with_len}
 pub use Rattle.std.proofs.lemmas.List.Quantifiers.{all_pairs_push}
 pub use Rattle.std.proofs.lemmas.List.Sums.{position_or_len_is}
