@@ -1,13 +1,7 @@
 -- The index of words as made.
-use Rattle.std.proofs.Common.{◌≡◌, ℕ, ◌+◌, ◌-◌, ◌<◌, inl, inr, List, length, get_or, replicate, refl, sym, ◌∙◌, arith}
-use Rattle.std.proofs.lemmas.Bool.{cases_lt}
-use Rattle.std.proofs.lemmas.List.{get_or-replicate, get_or_past, get_or_default, length-replicate}
-use Rattle.epoch_core.specs.declared.shape.Shape.{Shape}
-use Rattle.epoch_core.specs.declared.state.OwnerState.{OwnerState}
-use Rattle.epoch_core.specs.Layout.{entry_at, link_at, word_count}
-use Rattle.epoch_core.specs.OwnerState.{entry_in, link_in, as_made}
-use Rattle.epoch_core.specs.Chain.{InChain}
-use Rattle.chained_index.specs.Index.{IsIndexOf}
+use Rattle.chained_index.proofs.Words.{◌≡◌, ℕ, ◌+◌, ◌-◌, ◌<◌, inl, inr, List, length, get_or, replicate, refl, sym, ◌∙◌, arith, cases_lt}
+use Rattle.chained_index.proofs.Words.{get_or-replicate, get_or_past, get_or_default, length-replicate, Shape, OwnerState, entry_at, link_at}
+use Rattle.chained_index.proofs.Words.{word_count, entry_in, link_in, as_made, InChain, IsIndexOf}
 
 all_zero : (n i : ℕ) → get_or {A = ℕ} (replicate n 0) i 0 ≡ 0
 all_zero n i = elim (cases_lt i n) [

@@ -1,19 +1,19 @@
+mod Words
+mod Lists
+mod Paths
 pub mod Chained
-mod Walk
-mod ChainLists
-mod Effects
+mod Filled
 mod Frames
-mod Pushes
-mod Entered
-mod Linked
-mod Walking
-mod Full
-mod FreeList
+mod Effects
+mod Changed
+mod Stored
+pub mod Numbers
+mod Counted
+mod Allowed
 mod Calls
-pub mod Counted
+mod Walking
 mod Finding
 mod AsMade
 pub mod Stays
 pub mod Listed
-pub mod Numbers
 pub mod SpareCount

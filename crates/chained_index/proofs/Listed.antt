@@ -1,27 +1,13 @@
 -- The words of a bucket stand for the machine's state, by the list of the chain's entries.
-use Rattle.std.proofs.Common.{◌≡◌, ℕ, ◌+◌, ◌*◌, ◌/◌, ◌%◌, ◌<◌, ◌≤◌, ◌≢◌, inl, inr, List, length, get_or, refl, sym, ap, ◌∙◌, subst, arith}
-use mathlib.Core.Logic.{dite}
-use native.Mathlib.Decide.{ℕ_discrete}
-use Rattle.std.proofs.lemmas.Bool.{cases_lt}
-use Rattle.mica_words.specs.Entry.{entry_offset}
-use Rattle.mica_model.specs.declared.options.Mode.{Mode}
-use Rattle.mica_model.specs.declared.options.Mode.TheVariants.{Store}
-use Rattle.mica_model.specs.Store.{Cell}
-use Rattle.epoch_core.specs.declared.state.OwnerState.{OwnerState}
-use Rattle.epoch_core.specs.Shape.{IsMain}
-use Rattle.epoch_core.specs.OwnerState.{stamp_in, entry_in, state_in, bucket_in, marked_in}
-use Rattle.epoch_core.specs.LiveEntry.{IsLiveItem, IsLive, HasLiveEntry}
-use Rattle.epoch_core.specs.StandsFor.{Has, Spells, RoomsApart, HasChain, StandsFor}
-use Rattle.chained_index.specs.ChainEntries.{entries_of}
-use Rattle.chained_index.specs.ChainShape.{bucket_at, HasChainShape}
-use Rattle.chained_index.specs.Index.{Index, IsIndexOf}
-use Rattle.chained_index.proofs.Chained.{Chained}
-use Rattle.chained_index.proofs.Walk.{walk_of, in_chain, of_chain, same_step, shape_there}
-use Rattle.chained_index.proofs.ChainLists.{length-entries_of, get_or-entries_of}
-
--- the entry at a place of the list
-abbrev pub at : List ℕ → ℕ → ℕ
-at xs i = get_or xs i 0
+use Rattle.chained_index.proofs.Words.{◌≡◌, ◌≢◌, ℕ, ◌+◌, ◌*◌, ◌/◌, ◌%◌, ◌<◌, List, length, refl, sym, ap, ◌∙◌, subst, arith, entry_offset, Mode}
+use Rattle.chained_index.proofs.Words.{Store, Cell, OwnerState, IsMain, stamp_in, entry_in, state_in, bucket_in, marked_in, IsLiveItem}
+use Rattle.chained_index.proofs.Words.{HasLiveEntry, Has, Spells, RoomsApart, HasChain, StandsFor, buckets_of, entries_of, bucket_at, Index}
+use Rattle.chained_index.proofs.Words.{IsIndexOf}
+pub use Rattle.chained_index.proofs.Lists.{at}
+use Rattle.chained_index.proofs.Lists.{below}
+use Rattle.chained_index.proofs.Paths.{one_place, place_in}
+use Rattle.chained_index.proofs.Chained.{Chained, in_chain}
+use Rattle.chained_index.proofs.Filled.{View, view}
 
 -- The entries of the bucket stand for the machine's state: as `StandsFor`, by places in the list.
 pub record ListStands (o : OwnerState) (b : ℕ) : Type 0 where
@@ -43,71 +29,6 @@ pub record Stands (o : OwnerState) (b c slot entry i : ℕ) : Type 0 where
   pub bucket : bucket_at o (i / 15) b ≡ c
   pub in_slot : slot ≡ i % 15
 
-module _ (o : OwnerState) (s : Chained o) (mode : o.shape.mode ≡ Store) (b : ℕ) (main : IsMain o.shape b) (links used : ℕ) (h : HasChainShape o b links used) where
-  always : (entry : ℕ) → entry ≢ 0 → IsLive o.shape (stamp_in o) entry
-  always entry some = (some, subst (λ (z : Mode). IsLiveItem z o.shape.words (stamp_in o) (entry_offset entry)) (sym mode) tt)
-
-  pub place_of : (c slot entry : ℕ) → HasLiveEntry o b c slot entry → (i : ℕ) × Stands o b c slot entry i
-  place_of c slot entry live =
-      let found = of_chain o b links (walk_of o b links used h) c live.in_chain in
-      let near = found.1 in
-      let low = live.in_bucket in
-      let size = length-entries_of o s b main links used h in
-      let less : 15 * found.0 + slot < 15 * links + used = dite (ℕ_discrete found.0 links)
-      (λ is. elim (cases_lt slot used) [
-        | inl l ↦ omega arith
-        | inr m ↦ absurd (live.live.0 (sym live.found ∙ (ap (λ (z : ℕ). entry_in o z slot) (sym found.2 ∙ ap (λ (z : ℕ). bucket_at o z b) is) ∙ h.empty slot m low)))
-      ])
-      (λ n. omega arith) in
-      let quotient : (15 * found.0 + slot) / 15 ≡ found.0 = omega arith in (
-        15 * found.0 + slot,
-        record {
-          live = live;
-          inside = omega arith;
-          is = get_or-entries_of o s b main links used h found.0 slot low less ∙ (ap (λ (z : ℕ). entry_in o z slot) found.2 ∙ live.found);
-          bucket = ap (λ (z : ℕ). bucket_at o z b) quotient ∙ found.2;
-          in_slot = omega arith;
-        },
-      )
-
-  pub spot_of : (i : ℕ) → i < length (entries_of o b) → Stands o b (bucket_at o (i / 15) b) (i % 15) (at (entries_of o b) i) i
-  spot_of i less =
-      let size = length-entries_of o s b main links used h in
-      let k : ℕ = i / 15 in
-      let slot : ℕ = i % 15 in
-      let within = h.within in
-      let split : 15 * k + slot ≡ i = omega arith in
-      let low : slot < 15 = omega arith in
-      let near : k ≤ links = omega arith in
-      let is : at (entries_of o b) i ≡ entry_in o (bucket_at o k b) slot =
-      ap (at (entries_of o b)) (sym split) ∙ get_or-entries_of o s b main links used h k slot low (omega arith) in
-      let some : entry_in o (bucket_at o k b) slot ≢ 0 = dite (ℕ_discrete k links)
-      (λ same. subst (λ (z : ℕ). entry_in o (bucket_at o z b) slot ≢ 0) (sym same) (h.not_empty slot (omega arith)))
-      (λ n. h.full k slot (omega arith) low) in
-      record {
-        live = record {
-          in_chain = in_chain o b links (walk_of o b links used h) h.few k near;
-          in_bucket = low;
-          found = sym is;
-          live = always (at (entries_of o b) i) (λ none. some (sym is ∙ none));
-        };
-        inside = less;
-        is = refl;
-        bucket = refl;
-        in_slot = refl;
-      }
-
-  -- two places with one spot are one place
-  pub same_place : (c slot c' slot' entry entry' i j : ℕ) → Stands o b c slot entry i → Stands o b c' slot' entry' j → c ≡ c' → slot ≡ slot' → i ≡ j
-  same_place c slot c' slot' entry entry' i j one two same_bucket same_slot =
-      let size = length-entries_of o s b main links used h in
-      let within = h.within in
-      let first = one.inside in
-      let second = two.inside in
-      let step = same_step o b links (walk_of o b links used h) (i / 15) (j / 15) (omega arith) (omega arith) (one.bucket ∙ (same_bucket ∙ sym two.bucket)) in
-      let slots : i % 15 ≡ j % 15 = sym one.in_slot ∙ (same_slot ∙ two.in_slot) in
-      omega arith
-
 same_spot : (o : OwnerState) (b c slot c' slot' entry entry' i j : ℕ) → Stands o b c slot entry i → Stands o b c' slot' entry' j → i ≡ j → (c ≡ c') × (slot ≡ slot')
 same_spot o b c slot c' slot' entry entry' i j one two same = (
   sym one.bucket ∙ (ap (λ (z : ℕ). bucket_at o (z / 15) b) same ∙ two.bucket),
@@ -115,40 +36,72 @@ same_spot o b c slot c' slot' entry entry' i j one two same = (
 )
 
 module _ (o : OwnerState) (s : Chained o) (mode : o.shape.mode ≡ Store) (index : Index) (known : IsIndexOf index o) where
-  shape_in : (b : ℕ) → IsMain o.shape b → (links : ℕ) × (used : ℕ) × HasChainShape o b links used
-  shape_in b main = shape_there o b (s.chains.end b main) (known.dense b main)
+  module _ (b : ℕ) (main : IsMain o.shape b) where
+    abbrev xs : List ℕ
+    xs = entries_of o b
 
-  pub place : (b : ℕ) → IsMain o.shape b → (c slot entry : ℕ) → HasLiveEntry o b c slot entry → (i : ℕ) × Stands o b c slot entry i
-  place b main = place_of o s mode b main (shape_in b main).0 (shape_in b main).1 (shape_in b main).2
+    v : View o index b
+    v = view o s index known b main
 
-  pub spot : (b : ℕ) → IsMain o.shape b → (i : ℕ) → i < length (entries_of o b) → Stands o b (bucket_at o (i / 15) b) (i % 15) (at (entries_of o b) i) i
-  spot b main = spot_of o s mode b main (shape_in b main).0 (shape_in b main).1 (shape_in b main).2
+    pub place : (c slot entry : ℕ) → HasLiveEntry o b c slot entry → (i : ℕ) × Stands o b c slot entry i
+    place c slot entry live =
+        let found = place_in o b (buckets_of o b) v.chain.path c live.in_chain in
+        let low = live.in_bucket in
+        let i : ℕ = 15 * found.0 + slot in
+        let is : at xs i ≡ entry = sym (v.filled.entries found.0 slot found.1 low) ∙ (ap (λ (z : ℕ). entry_in o z slot) found.2 ∙ live.found) in
+        let quotient : i / 15 ≡ found.0 = omega arith in (
+          i,
+          record {
+            live = live;
+            inside = below xs i (λ none. live.live.0 (sym is ∙ none));
+            is = is;
+            bucket = ap (at (buckets_of o b)) quotient ∙ found.2;
+            in_slot = omega arith;
+          },
+        )
+
+    pub spot : (i : ℕ) → i < length xs → Stands o b (bucket_at o (i / 15) b) (i % 15) (at xs i) i
+    spot i less =
+        let low : i / 15 < length (buckets_of o b) = omega (arith, v.filled.size) in
+        let split : 15 * (i / 15) + i % 15 ≡ i = omega arith in record {
+          live = record {
+            in_chain = in_chain o b (buckets_of o b) v.chain (i / 15) low;
+            in_bucket = omega arith;
+            found = v.filled.entries (i / 15) (i % 15) low (omega arith) ∙ ap (at xs) split;
+            live = (
+              v.filled.used i less,
+              subst (λ (z : Mode). IsLiveItem z o.shape.words (stamp_in o) (entry_offset (at xs i))) (sym mode) tt,
+            );
+          };
+          inside = less;
+          is = refl;
+          bucket = refl;
+          in_slot = refl;
+        }
+
+    -- two places with one spot are one place
+    same_place : (c slot c' slot' entry entry' i j : ℕ) → Stands o b c slot entry i → Stands o b c' slot' entry' j → c ≡ c' → slot ≡ slot' → i ≡ j
+    same_place c slot c' slot' entry entry' i j one two same_bucket same_slot =
+        let step = one_place o b (buckets_of o b) v.chain.path (i / 15) (j / 15)
+        (omega (arith, one.inside, v.filled.size)) (omega (arith, two.inside, v.filled.size)) (one.bucket ∙ (same_bucket ∙ sym two.bucket)) in
+        let slots : i % 15 ≡ j % 15 = sym one.in_slot ∙ (same_slot ∙ two.in_slot) in
+        omega arith
 
   module _ (b : ℕ) (main : IsMain o.shape b) where
     -- what the words stand for, told by the list
     pub listed : StandsFor o b → ListStands o b
     listed f = record {
-      nothing_else = λ i l. let one = spot b main i l in f.nothing_else (bucket_at o (i / 15) b) (i % 15) (at (entries_of o b) i) one.live;
+      nothing_else = λ i l. f.nothing_else _ _ _ (spot b main i l).live;
       each = λ key cell p is has.
           let found = f.each key cell p is has in
           let one = place b main found.0 found.1 found.2 found.3 in
           (one.0, one.1.inside, subst (λ (z : ℕ). Spells o b z key cell) (sym one.1.is) found.4);
       once = λ i j key cell l m sp sp'.
-          let one = spot b main i l in
-          let two = spot b main j m in
-          let same = f.once (bucket_at o (i / 15) b) (i % 15) (at (entries_of o b) i) (bucket_at o (j / 15) b) (j % 15) (at (entries_of o b) j) key cell one.live two.live sp sp' in
-          same_place o s mode b main (shape_in b main).0 (shape_in b main).1 (shape_in b main).2
-          (bucket_at o (i / 15) b) (i % 15) (bucket_at o (j / 15) b) (j % 15) (at (entries_of o b) i) (at (entries_of o b) j) i j one two same.0 same.1;
-      rooms = λ i j l m n.
-          let one = spot b main i l in
-          let two = spot b main j m in
-          f.rooms (bucket_at o (i / 15) b) (i % 15) (at (entries_of o b) i) (bucket_at o (j / 15) b) (j % 15) (at (entries_of o b) j) one.live two.live
-          (λ same. n (same_place o s mode b main (shape_in b main).0 (shape_in b main).1 (shape_in b main).2
-          (bucket_at o (i / 15) b) (i % 15) (bucket_at o (j / 15) b) (j % 15) (at (entries_of o b) i) (at (entries_of o b) j) i j one two same.0 same.1));
-      apart = λ other i j l n unmarked less more.
-          let one = spot b main i less in
-          let two = spot other l j more in
-          f.apart other (bucket_at o (i / 15) b) (i % 15) (at (entries_of o b) i) (bucket_at o (j / 15) other) (j % 15) (at (entries_of o other) j) l n unmarked one.live two.live;
+          let same = f.once _ _ _ _ _ _ key cell (spot b main i l).live (spot b main j m).live sp sp' in
+          same_place b main _ _ _ _ _ _ i j (spot b main i l) (spot b main j m) same.0 same.1;
+      rooms = λ i j l m n. f.rooms _ _ _ _ _ _ (spot b main i l).live (spot b main j m).live
+          (λ same. n (same_place b main _ _ _ _ _ _ i j (spot b main i l) (spot b main j m) same.0 same.1));
+      apart = λ other i j l n unmarked less more. f.apart other _ _ _ _ _ _ l n unmarked (spot b main i less).live (spot other l j more).live;
     }
 
     -- and back: what `end_write` asks
@@ -160,8 +113,7 @@ module _ (o : OwnerState) (s : Chained o) (mode : o.shape.mode ≡ Store) (index
           (some.0, some.1, subst (λ (z : ℕ). Spells o b z some.0 some.1) one.1.is some.2);
       each = λ key cell p is has.
           let found = f.each key cell p is has in
-          let one = spot b main found.0 found.1 in
-          (bucket_at o (found.0 / 15) b, found.0 % 15, at (entries_of o b) found.0, one.live, found.2);
+          (_, _, _, (spot b main found.0 found.1).live, found.2);
       once = λ c slot entry c' slot' entry' key cell live live' sp sp'.
           let one = place b main c slot entry live in
           let two = place b main c' slot' entry' live' in
@@ -171,15 +123,16 @@ module _ (o : OwnerState) (s : Chained o) (mode : o.shape.mode ≡ Store) (index
       rooms = λ c slot entry c' slot' entry' live live' n.
           let one = place b main c slot entry live in
           let two = place b main c' slot' entry' live' in
-          subst (λ (z : ℕ). RoomsApart o z entry') one.1.is (subst (RoomsApart o (at (entries_of o b) one.0)) two.1.is
-          (f.rooms one.0 two.0 one.1.inside two.1.inside (λ same. n (same_spot o b c slot c' slot' entry entry' one.0 two.0 one.1 two.1 same))));
+          both _ _ _ _ one.1.is two.1.is (f.rooms one.0 two.0 one.1.inside two.1.inside (λ same. n (same_spot o b c slot c' slot' entry entry' one.0 two.0 one.1 two.1 same)));
       apart = λ other c slot entry c' slot' entry' l n unmarked live live'.
           let one = place b main c slot entry live in
           let two = place other l c' slot' entry' live' in
-          subst (λ (z : ℕ). RoomsApart o z entry') one.1.is (subst (RoomsApart o (at (entries_of o b) one.0)) two.1.is
-          (f.apart other one.0 two.0 l n unmarked one.1.inside two.1.inside));
+          both _ _ _ _ one.1.is two.1.is (f.apart other one.0 two.0 l n unmarked one.1.inside two.1.inside);
       chain = subst (λ (z : Mode). HasChain z o b) (sym mode) (
         known.dense b main,
         λ c d l n i j. s.chains.apart b c d main l (λ same. n (sym same)) i j,
       );
     }
+      where
+        both : (x x' y y' : ℕ) → x ≡ x' → y ≡ y' → RoomsApart o x y → RoomsApart o x' y'
+        both x x' y y' e e' apart = subst (RoomsApart o x') e' (subst (λ (z : ℕ). RoomsApart o z y) e apart)

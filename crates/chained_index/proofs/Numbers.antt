@@ -1,21 +1,34 @@
 -- Where the entry of a used spot stands in the chain's list.
-use Rattle.std.proofs.Common.{◌≡◌, ℕ, ◌<◌, length, get_or}
-use Rattle.epoch_core.specs.declared.state.OwnerState.{OwnerState}
-use Rattle.epoch_core.specs.Shape.{IsMain}
-use Rattle.chained_index.specs.declared.index.Spot.{Spot}
-use Rattle.chained_index.specs.ChainEntries.{entries_of, number_of, spot_entry, IsUsed}
-use Rattle.chained_index.specs.ChainShape.{HasChainShape}
-use Rattle.chained_index.specs.Index.{Index, IsIndexOf}
+use Rattle.chained_index.proofs.Words.{◌≡◌, ℕ, ◌+◌, ◌*◌, ◌<◌, length, get_or, Bool, nat_eq, sym, ap, ◌∙◌, arith, eq-eqb, ne_eqb, position_or_len_is}
+use Rattle.chained_index.proofs.Words.{OwnerState, IsMain, entry_in, Spot, buckets_of, entries_of, number_of, spot_entry, IsUsed, Index, IsIndexOf}
+use Rattle.chained_index.proofs.Lists.{at, IsOf, below}
+use Rattle.chained_index.proofs.Paths.{one_place, place_in}
 use Rattle.chained_index.proofs.Chained.{Chained}
-use Rattle.chained_index.proofs.Walk.{shape_there}
-use Rattle.chained_index.proofs.Calls as calls
+use Rattle.chained_index.proofs.Filled.{View, view}
+
+module _ (o : OwnerState) (index : Index) (b : ℕ) (v : View o index b) (spot : Spot) (u : IsUsed o b spot) where
+  pub place : IsOf (buckets_of o b) spot.bucket
+  place = place_in o b (buckets_of o b) v.chain.path spot.bucket u.in_chain
+
+  pub number_is : number_of o b spot ≡ 15 * place.0 + spot.slot
+  unfolding number_of
+  number_is =
+      let less = place.1 in
+      let test : ℕ → Bool = λ c. nat_eq c spot.bucket in
+      ap (λ (z : ℕ). 15 * z + spot.slot) (position_or_len_is test (buckets_of o b) place.0 0 (omega arith)
+      (λ j below. ne_eqb (at (buckets_of o b) j) spot.bucket (λ same.
+      let is = one_place o b (buckets_of o b) v.chain.path j place.0 (omega arith) place.1 (same ∙ sym place.2) in omega arith))
+      (λ within. eq-eqb (at (buckets_of o b) place.0) spot.bucket place.2))
+
+  pub entry_there : at (entries_of o b) (number_of o b spot) ≡ spot_entry o spot
+  entry_there = ap (at (entries_of o b)) number_is ∙ (sym (v.filled.entries place.0 spot.slot place.1 u.in_bucket) ∙ ap (λ (z : ℕ). entry_in o z spot.slot) place.2)
+
+  pub is_within : number_of o b spot < length (entries_of o b)
+  is_within = below (entries_of o b) (number_of o b spot) (λ none. u.used (sym entry_there ∙ none))
 
 module _ (o : OwnerState) (s : Chained o) (index : Index) (known : IsIndexOf index o) (b : ℕ) (main : IsMain o.shape b) (spot : Spot) (u : IsUsed o b spot) where
-  shape : (links : ℕ) × (used : ℕ) × HasChainShape o b links used
-  shape = shape_there o b (s.chains.end b main) (known.dense b main)
-
   pub number_within : number_of o b spot < length (entries_of o b)
-  number_within = calls.number_within o s b main shape.0 shape.1 shape.2 spot u
+  number_within = is_within o index b (view o s index known b main) spot u
 
   pub number_entry : get_or (entries_of o b) (number_of o b spot) 0 ≡ spot_entry o spot
-  number_entry = calls.number_entry o s b main shape.0 shape.1 shape.2 spot u
+  number_entry = entry_there o index b (view o s index known b main) spot u

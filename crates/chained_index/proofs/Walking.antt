@@ -1,73 +1,85 @@
 -- A step along a chain, and its end.
-use Rattle.std.proofs.Common.{◌≡◌, ℕ, suc, subst, add-one, ◌+◌, ◌<◌, ◌≤◌, ◌≢◌, inl, inr, sym, ap, ◌∙◌, arith}
-use mathlib.Core.Logic.{dite}
-use native.Mathlib.Decide.{ℕ_discrete}
-use Rattle.epoch_core.specs.declared.state.OwnerState.{OwnerState}
-use Rattle.epoch_core.specs.Shape.{IsMain, IsBucket}
-use Rattle.epoch_core.specs.OwnerState.{entry_in, link_in}
-use Rattle.epoch_core.specs.Chain.{IsDense}
-use Rattle.chained_index.proofs.Chained.{Chained}
-use Rattle.chained_index.specs.ChainShape.{bucket_at, HasChainShape, EndsAt}
-use Rattle.chained_index.proofs.Walk.{bucket_at-suc, walk_of, shape_of_walk, shape_there}
+use Rattle.chained_index.proofs.Words.{◌≡◌, ◌≢◌, ℕ, suc, ◌+◌, ◌-◌, ◌*◌, ◌<◌, ◌≤◌, inl, inr, add-one, length, sym, ap, ◌∙◌, subst, arith, cases_lt}
+use Rattle.chained_index.proofs.Words.{dite, ℕ_discrete, OwnerState, IsMain, IsBucket, entry_in, link_in, buckets_of, entries_of, bucket_at, EndsIn}
+use Rattle.chained_index.proofs.Words.{EndsAt, Index}
+use Rattle.chained_index.proofs.Lists.{at, below}
+use Rattle.chained_index.proofs.Paths.{step_on, first_bucket, length-buckets_of}
+use Rattle.chained_index.proofs.Chained.{inside}
+use Rattle.chained_index.proofs.Filled.{View}
 
-module _ (o : OwnerState) (b links used : ℕ) (h : HasChainShape o b links used) where
-  pub at_end : (k : ℕ) → k ≤ links → link_in o (bucket_at o k b) ≡ 0 → k ≡ links
-  at_end k few none = dite (ℕ_discrete k links) (λ is. is) (λ n. absurd (h.linked k (omega arith) none))
+-- where a walk stands: at the bucket that so many links lead to
+pub record IsAt (o : OwnerState) (b link c : ℕ) : Type 0 where
+  pub inside : IsBucket o.shape c
+  pub within : link < length (buckets_of o b)
+  pub here : bucket_at o link b ≡ c
 
-  pub further : (k : ℕ) → k ≤ links → link_in o (bucket_at o k b) ≢ 0 → k < links
-  further k few some = dite (ℕ_discrete k links) (λ is. absurd (some (ap (λ (z : ℕ). link_in o (bucket_at o z b)) is ∙ h.last))) (λ n. omega arith)
+pub at_first : (o : OwnerState) (b : ℕ) → IsMain o.shape b → IsAt o b 0 b
+at_first o b main = let first = first_bucket o b in record { inside = omega arith; within = first.0; here = first.1 }
 
--- a walk that came to the end was at the last bucket
-pub end_found : (m o : OwnerState) → m ≡ o → (b link at before : ℕ) → bucket_at m link b ≡ at
-    → ((k : ℕ) → suc k ≡ link → bucket_at m k b ≡ before) → ((links used : ℕ) → HasChainShape m b links used → link ≡ links)
-    → (links used : ℕ) → HasChainShape o b links used → (bucket_at o links b ≡ at) × ((k : ℕ) → suc k ≡ links → bucket_at o k b ≡ before)
-end_found m o is b link at before here there ends links used h =
-    let same : link ≡ links = ends links used (subst (λ (z : OwnerState). HasChainShape z b links used) (sym is) h) in (
-      subst (λ (z : OwnerState). bucket_at z links b ≡ at) is (ap (λ (z : ℕ). bucket_at m z b) (sym same) ∙ here),
-      λ k e. subst (λ (z : OwnerState). bucket_at z k b ≡ before) is (there k (e ∙ sym same)),
-    )
+module _ (o : OwnerState) (index : Index) (b : ℕ) (v : View o index b) (link c : ℕ) (w : IsAt o b link c) where
+  -- one link further
+  pub one_further : link_in o c ≢ 0 → IsAt o b (link + 1) (link_in o c)
+  one_further some = elim (step_on o b (buckets_of o b) v.chain.path link w.within) [
+    | inl more ↦
+        let to : bucket_at o (link + 1) b ≡ link_in o c = ap (at (buckets_of o b)) (add-one link)
+        ∙ (sym (v.chain.path.links link w.within) ∙ ap (link_in o) w.here) in
+        let less : link + 1 < length (buckets_of o b) = omega (arith, more.0) in
+        record { inside = subst (IsBucket o.shape) to (inside o b (buckets_of o b) v.chain (link + 1) less); within = less; here = to }
+    | inr last ↦ absurd (some (ap (link_in o) (sym w.here) ∙ last.1))
+  ]
 
--- where a walk stands: at the bucket that so many links lead to, no further than the chain's last
-pub record IsAt (o : OwnerState) (b link at : ℕ) : Type 0 where
-  pub inside : IsBucket o.shape at
-  pub here : bucket_at o link b ≡ at
-  pub near : (links used : ℕ) → HasChainShape o b links used → link ≤ links
+  pub at_end : link_in o c ≡ 0 → length (buckets_of o b) ≡ suc link
+  at_end none = elim (step_on o b (buckets_of o b) v.chain.path link w.within) [
+    | inl more ↦ absurd (more.1 (ap (link_in o) w.here ∙ none))
+    | inr last ↦ last.0
+  ]
+
+-- no walk goes past all spares
+pub at_most : (o : OwnerState) (b link c : ℕ) → IsAt o b link c → link ≤ o.shape.spares
+at_most o b link c w = let few = length-buckets_of o b in let within = w.within in omega arith
+
+pub at_last : (o : OwnerState) (b link c : ℕ) → IsAt o b link c → o.shape.spares ≤ link → length (buckets_of o b) ≡ suc link
+at_last o b link c w far = let few = length-buckets_of o b in let within = w.within in omega arith
 
 -- the bucket one link before
 abbrev pub IsBehind : OwnerState → ℕ → ℕ → ℕ → Type 0
-IsBehind o b link before = (k : ℕ) → suc k ≡ link → bucket_at o k b ≡ before
+IsBehind o b link c = (k : ℕ) → suc k ≡ link → bucket_at o k b ≡ c
 
-module _ (m n : OwnerState) (is : n ≡ m) (b link at : ℕ) (w : IsAt m b link at) where
-  -- one link further
-  pub one_further : Chained n → (next : ℕ) → next ≡ link_in m at → next ≢ 0 → IsAt n b (link + 1) next
-  one_further s next value some =
-      let t : Chained m = subst Chained is s in
-      subst (λ (z : OwnerState). IsAt z b (link + 1) next) (sym is) record {
-        inside = subst (IsBucket m.shape) (sym value) (elim (t.chains.links at w.inside) [ inl none ↦ absurd (some (value ∙ none)) | inr spare ↦ spare.1 ]);
-        here = ap (λ (z : ℕ). bucket_at m z b) (add-one link) ∙ (bucket_at-suc m link b ∙ (ap (link_in m) w.here ∙ sym value));
-        near = λ links used h.
-            let more = further m b links used h link (w.near links used h) (λ none. some (value ∙ (ap (link_in m) (sym w.here) ∙ none))) in omega arith;
-      }
+pub behind_further : (o : OwnerState) (b link c : ℕ) → IsAt o b link c → IsBehind o b (link + 1) c
+behind_further o b link c w k e = let same : k ≡ link = omega arith in ap (at (buckets_of o b)) same ∙ w.here
 
-  pub behind_further : IsBehind n b (link + 1) at
-  behind_further = subst (λ (z : OwnerState). IsBehind z b (link + 1) at) (sym is)
-      (λ k e. let same : k ≡ link = omega arith in ap (λ (z : ℕ). bucket_at m z b) same ∙ w.here)
+-- a walk that came to the end has the last two
+pub ends_in : (o : OwnerState) (b link before c : ℕ) → IsAt o b link c → IsBehind o b link before → length (buckets_of o b) ≡ suc link → EndsIn o b before c
+ends_in o b link before c w behind size = record {
+  last = λ k e. let same : k ≡ link = omega arith in ap (at (buckets_of o b)) same ∙ w.here;
+  before = λ k e. behind k (omega arith);
+}
 
 -- the end of a chain, from its last two buckets and the used slots of the last
-pub end_there : (o : OwnerState) → Chained o → (b : ℕ) → IsMain o.shape b → IsDense o b → (before last used : ℕ)
-    → ((links used : ℕ) → HasChainShape o b links used → (bucket_at o links b ≡ last) × ((k : ℕ) → suc k ≡ links → bucket_at o k b ≡ before))
+pub end_there : (o : OwnerState) (index : Index) (b : ℕ) (v : View o index b) (before last used : ℕ) → EndsIn o b before last
     → (used ≤ 15) × ((slot : ℕ) → slot < used → entry_in o last slot ≢ 0) × (used < 15 → entry_in o last used ≡ 0)
-    → (links : ℕ) × EndsAt o b links (record { before = before; bucket = last; used = used })
-end_there o s b main dense before last used found slots =
-    let at = shape_there o b (s.chains.end b main) dense in
-    let is = found at.0 at.1 at.2 in
-    let w = walk_of o b at.0 at.1 at.2 in (
-      at.0,
-      record {
-        shape = shape_of_walk o b at.0 used w at.2.few dense slots.0
-            (λ slot less none. slots.1 slot less (ap (λ (z : ℕ). entry_in o z slot) (sym is.0) ∙ none))
-            (λ less. ap (λ (z : ℕ). entry_in o z used) is.0 ∙ slots.2 less);
-        last = is.0;
-        before = is.1;
-      },
-    )
+    → EndsAt o b (record { before = before; bucket = last; used = used })
+end_there o index b v before last used ends slots = record { buckets = ends; within = slots.0; used = used_is }
+  where
+    n : ℕ
+    n = length (buckets_of o b) - 1
+
+    size : length (buckets_of o b) ≡ suc n
+    size = let first = first_bucket o b in let some = first.0 in omega arith
+
+    entry : (slot : ℕ) → slot < 15 → at (entries_of o b) (15 * n + slot) ≡ entry_in o last slot
+    entry slot low = sym (v.filled.entries n slot (omega (arith, size)) low) ∙ ap (λ (z : ℕ). entry_in o z slot) (ends.last n size)
+
+    used_is : length (entries_of o b) + 15 ≡ 15 * length (buckets_of o b) + used
+    used_is =
+        let full = v.filled.size in
+        let within = slots.0 in
+        let least : 15 * n + used ≤ length (entries_of o b) = dite (ℕ_discrete used 0)
+        (λ none. omega (arith, size))
+        (λ some. let more = below (entries_of o b) (15 * n + (used - 1)) (λ e. slots.1 (used - 1) (omega arith) (sym (entry (used - 1) (omega arith)) ∙ e)) in omega arith) in
+        let most : length (entries_of o b) ≤ 15 * n + used = elim (cases_lt (15 * n + used) (length (entries_of o b))) [
+          | inl less ↦ absurd (v.filled.used (15 * n + used) less
+              (entry used (omega (arith, size)) ∙ slots.2 (omega (arith, size))))
+          | inr few ↦ few
+        ] in
+        omega (arith, size)

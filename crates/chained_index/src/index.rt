@@ -1,5 +1,5 @@
 //! The chained index, after the MICA paper's store mode.
-ghost use Rattle.std.specs.Prelude.{◌≡◌, ◌≢◌, ℕ, suc, ◌+◌, ◌<◌, ◌≤◌, ◌^◌, ◌↔◌, ◌++◌, ◌∷◌, [], IsTrue, IsFalse, IfOk, MatchOption};
+ghost use Rattle.std.specs.Prelude.{◌≡◌, ◌≢◌, ℕ, ◌+◌, ◌<◌, ◌≤◌, ◌^◌, ◌↔◌, ◌++◌, ◌∷◌, [], IsTrue, IsFalse, IfOk, MatchOption};
 ghost use Rattle.mica_words.specs.declared.entry.TheConstants.{SLOTS};
 ghost use Rattle.mica_words.specs.Entry.{entry_of, entry_tag as entry_tag_of, entry_offset as entry_offset_of};
 ghost use Rattle.mica_words.specs.Hash.{fnv1a};
@@ -11,7 +11,7 @@ ghost use Rattle.epoch_core.specs.ItemAt.{HasKey};
 ghost use Rattle.epoch_core.specs.Kept.{Kept};
 ghost use Rattle.chained_index.specs.ChainEntries.{entries_of, entries_with, entries_without, IsUsed, IsSpotOf, HasNoSpot};
 ghost use Rattle.chained_index.specs.ChainChange.{ChangesChain};
-ghost use Rattle.chained_index.specs.ChainShape.{bucket_at, HasChainShape, EndsAt};
+ghost use Rattle.chained_index.specs.ChainShape.{EndsIn, EndsAt};
 ghost use Rattle.chained_index.specs.Index.{IsIndexOf, LacksPlace};
 
 use epoch_core::{OwnerWords, Shape, WordAt, holds_key_hashed};
@@ -202,7 +202,7 @@ impl ChainedIndex {
     fn end_of<W: OwnerWords>(&self, words: &mut W, bucket: u32) -> ChainEnd
         requires index { IsIndexOf self.now (W.owner words.old) }
         requires bucket { IsMain (W.owner words.old).shape bucket }
-        ensures end { (links : ℕ) × EndsAt (W.owner words.old) bucket links result }
+        ensures end { EndsAt (W.owner words.old) bucket result }
         ensures same { W.owner words.new ≡ W.owner words.old }
         ensures home { W.home words.new ≡ W.home words.old }
         ensures kept { Kept (W.owner words.new) }
@@ -219,9 +219,7 @@ impl ChainedIndex {
     fn last_two<W: OwnerWords>(&self, words: &mut W, bucket: u32) -> (u32, u32)
         requires index { IsIndexOf self.now (W.owner words.old) }
         requires bucket { IsMain (W.owner words.old).shape bucket }
-        ensures last { (links used : ℕ) → HasChainShape (W.owner words.old) bucket links used
-            → (bucket_at (W.owner words.old) links bucket ≡ result.1)
-            × ((k : ℕ) → suc k ≡ links → bucket_at (W.owner words.old) k bucket ≡ result.0) }
+        ensures last { EndsIn (W.owner words.old) bucket result.0 result.1 }
         ensures inside { IsBucket (W.owner words.old).shape result.1 }
         ensures same { W.owner words.new ≡ W.owner words.old }
         ensures home { W.home words.new ≡ W.home words.old }

@@ -1,6 +1,4 @@
-use Rattle.std.proofs.Common.{◌≡◌, ◌≢◌, ℕ, ◌<◌}
-use Rattle.epoch_core.specs.OwnerState.{entry_in}
-use Rattle.epoch_core.specs.Kept.{Kept}
+use Rattle.chained_index.proofs.Words.{◌≡◌, ◌≢◌, ℕ, ◌<◌, entry_in, Kept}
 use Rattle.chained_index.proofs.index.used_slots.Given as goal
 
 abbrev pub invariant-loop-slot : goal.invariant-loop-slot

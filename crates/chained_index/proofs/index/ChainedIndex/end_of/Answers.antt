@@ -1,9 +1,6 @@
-use Rattle.std.proofs.Common.{◌≡◌, ℕ, ◌<◌, ◌≤◌, ◌≢◌, ◌∙◌, sym, subst}
-use Rattle.epoch_core.specs.declared.state.OwnerState.{OwnerState}
-use Rattle.epoch_core.specs.Shape.{IsBucket}
-use Rattle.epoch_core.specs.OwnerState.{entry_in}
-use Rattle.epoch_core.specs.Kept.{Kept}
+use Rattle.chained_index.proofs.Words.{◌≡◌, ℕ, ◌<◌, ◌≤◌, ◌≢◌, ◌∙◌, sym, subst, OwnerState, IsBucket, entry_in, Kept}
 use Rattle.chained_index.proofs.Chained.{chained}
+use Rattle.chained_index.proofs.Filled.{view}
 use Rattle.chained_index.proofs.Walking.{end_there}
 use Rattle.chained_index.proofs.index.ChainedIndex.end_of.Goals as goal
 
@@ -13,11 +10,10 @@ used_slots-requires g c =
 
 pub returns-clause-end : goal.returns-clause-end
 returns-clause-end g c =
-    let o : OwnerState = g.W.OwnerWords.owner c.args.words.now in
     let same = c.used_slots.ensures.same ∙ c.last_two-before.ensures.same in
     let used : ℕ = c.used_slots.result in
     let last : ℕ = c.last_two-before.result.1 in
-    end_there o (chained o (subst Kept same c.used_slots.ensures.kept)) c.args.bucket c.requires.bucket (c.requires.index.dense c.args.bucket c.requires.bucket)
+    end_there _ _ _ (view _ (chained _ (subst Kept same c.used_slots.ensures.kept)) _ c.requires.index c.args.bucket c.requires.bucket)
     c.last_two-before.result.0 last used c.last_two-before.ensures.last
     (subst (λ (z : OwnerState). (used ≤ 15) × ((slot : ℕ) → slot < used → entry_in z last slot ≢ 0) × (used < 15 → entry_in z last used ≡ 0))
     c.last_two-before.ensures.same c.used_slots.ensures.used)

@@ -1,41 +1,36 @@
-use Rattle.std.proofs.Common.{◌≡◌, ◌∙◌, sym, ap, arith, rules}
-use Rattle.epoch_core.specs.declared.state.OwnerState.{OwnerState}
-use Rattle.epoch_core.specs.declared.shape.Shape.{Shape}
-use Rattle.epoch_core.specs.OwnerState.{link_in}
-use Rattle.chained_index.specs.Index.{Index}
+use Rattle.chained_index.proofs.Words.{◌≡◌, ◌≢◌, ◌+◌, ◌∙◌, refl, sym, ap, subst, arith, rules, OwnerState, Shape, link_in, Kept, Index}
 use Rattle.chained_index.proofs.Chained.{chained}
-use Rattle.chained_index.proofs.Walking.{at_end, end_found, one_further, behind_further}
+use Rattle.chained_index.proofs.Filled.{view}
+use Rattle.chained_index.proofs.Walking.{IsAt, at_first, one_further, at_end, at_last, behind_further, ends_in}
 use Rattle.chained_index.proofs.index.ChainedIndex.last_two.Goals as goal
+
+pub loop-link-init : goal.loop-link-init
+loop-link-init g c = record { owner = refl; home = refl; walk = at_first _ c.args.bucket c.requires.bucket; behind = λ k e. absurd (omega arith) }
 
 pub returns-then-next-eq0-clause-last : goal.returns-then-next-eq0-clause-last
 returns-then-next-eq0-clause-last g c =
-    let m : OwnerState = g.W.OwnerWords.owner c.loop-link.words in
-    let w = c.loop-link.invariant.walk in
+    let l = c.loop-link in
+    let v = view _ (chained _ (subst Kept (c.read-next.ensures.same ∙ l.invariant.owner) c.read-next.ensures.kept)) _ c.requires.index _ c.requires.bucket in
+    let value = c.read-next.ensures.value ∙ ap (λ (z : OwnerState). link_in z l.at) l.invariant.owner in
     let none : c.read-next.result ≡ 0 = search rules in
-    end_found m (g.W.OwnerWords.owner c.args.words.now) c.loop-link.invariant.owner c.args.bucket c.loop-link._link c.loop-link.at c.loop-link.before w.here c.loop-link.invariant.behind
-    (λ links used h. at_end m c.args.bucket links used h c.loop-link._link (w.near links used h)
-    (ap (link_in m) w.here ∙ (sym c.read-next.ensures.value ∙ none)))
+    ends_in _ _ _ _ _ l.invariant.walk l.invariant.behind (at_end _ _ _ v _ _ l.invariant.walk (sym value ∙ none))
 
 pub loop-link-preserved : goal.loop-link-preserved
 loop-link-preserved g c =
-    let m : OwnerState = g.W.OwnerWords.owner c.loop-link.words in
-    let n : OwnerState = g.W.OwnerWords.owner c.read-next.new.self in record {
-      owner = c.read-next.ensures.same ∙ c.loop-link.invariant.owner;
-      home = c.read-next.ensures.home ∙ c.loop-link.invariant.home;
-      walk = one_further m n c.read-next.ensures.same c.args.bucket c.loop-link._link c.loop-link.at c.loop-link.invariant.walk (chained n c.read-next.ensures.kept)
-          c.read-next.result c.read-next.ensures.value (search rules);
-      behind = behind_further m n c.read-next.ensures.same c.args.bucket c.loop-link._link c.loop-link.at c.loop-link.invariant.walk;
+    let l = c.loop-link in
+    let same = c.read-next.ensures.same ∙ l.invariant.owner in
+    let value = c.read-next.ensures.value ∙ ap (λ (z : OwnerState). link_in z l.at) l.invariant.owner in
+    let some : c.read-next.result ≢ 0 = search rules in record {
+      owner = same;
+      home = c.read-next.ensures.home ∙ l.invariant.home;
+      walk = subst (IsAt _ c.args.bucket (l._link + 1)) (sym value)
+          (one_further _ _ _ (view _ (chained _ (subst Kept same c.read-next.ensures.kept)) _ c.requires.index _ c.requires.bucket) _ _ l.invariant.walk (λ none. some (value ∙ none)));
+      behind = behind_further _ _ _ _ l.invariant.walk;
     }
 
 pub returns-clause-last : goal.returns-clause-last
 returns-clause-last g c =
-    let m : OwnerState = g.W.OwnerWords.owner c.loop-link.words in
-    let w = c.loop-link.invariant.walk in
-    end_found m (g.W.OwnerWords.owner c.args.words.now) c.loop-link.invariant.owner c.args.bucket c.loop-link._link c.loop-link.at c.loop-link.before w.here c.loop-link.invariant.behind
-    (λ links used h.
-    let few = h.few in
-    let near = w.near links used h in
-    let same = ap (λ (z : OwnerState). z.shape.spares) c.loop-link.invariant.owner in
+    let l = c.loop-link in
     let known = ap (λ (z : Shape). z.spares) c.requires.index.shape in
     let seen = ap (λ (z : Index). z.shape.spares) c.self.view_is in
-    omega arith)
+    ends_in _ _ _ _ _ l.invariant.walk l.invariant.behind (at_last _ _ _ _ l.invariant.walk (omega arith))

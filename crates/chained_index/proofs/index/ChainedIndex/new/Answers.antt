@@ -1,4 +1,4 @@
-use Rattle.std.proofs.Common.{◌≡◌, ◌∙◌, arith}
+use Rattle.chained_index.proofs.Words.{◌≡◌, ◌∙◌, arith}
 use Rattle.chained_index.proofs.AsMade.{index_as_made}
 use Rattle.chained_index.proofs.index.ChainedIndex.new.Goals as goal
 

@@ -1,4 +1,4 @@
-use Rattle.std.proofs.Common.{◌≡◌, ℕ, ◌+◌, ◌<◌, ◌≤◌, length, get_or, vec_capacity}
+use Rattle.chained_index.proofs.Words.{◌≡◌, ℕ, ◌+◌, ◌<◌, ◌≤◌, length, get_or, vec_capacity}
 use Rattle.chained_index.proofs.index.ChainedIndex.new.Given as goal
 
 abbrev pub invariant-loop-spare : goal.invariant-loop-spare

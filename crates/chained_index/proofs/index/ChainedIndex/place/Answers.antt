@@ -1,121 +1,74 @@
-use Rattle.std.proofs.Common.{◌≡◌, ℕ, ◌≢◌, ◌∙◌, length, [], ◌∷◌, ◌++◌, sym, ap, subst, arith, rules}
-use Rattle.std.proofs.lemmas.List.{nil_from_length}
-use Rattle.mica_words.specs.Entry.{entry_of}
-use Rattle.epoch_core.specs.declared.state.OwnerState.{OwnerState}
-use Rattle.epoch_core.specs.declared.event.Event.TheVariants.{PutsEntry}
-use Rattle.epoch_core.specs.Events.{MayPutEntry, MayPutLink, after}
-use Rattle.epoch_core.specs.Kept.{Kept}
-use Rattle.chained_index.specs.ChainEntries.{entries_of}
-use Rattle.chained_index.specs.ChainChange.{ChangesChain}
-use Rattle.chained_index.specs.Index.{Index, IsIndexOf}
-use Rattle.chained_index.proofs.Chained.{Chained, chained}
-use Rattle.chained_index.proofs.Full.{lacks}
-use Rattle.chained_index.proofs.Calls.{its_own, its_spare, some_entry, end_in_chain, pushed_by, index_pushed_by, popped_last, last_is_free, taken_by, index_taken_by, may_link}
+use Rattle.chained_index.proofs.Words.{◌≡◌, ℕ, ◌∙◌, Option, option_to_list, length, [], ◌∷◌, ◌++◌, sym, ap, subst, arith, rules, nil_from_length}
+use Rattle.chained_index.proofs.Words.{entry_of, OwnerState, PutsEntry, MayPutEntry, MayPutLink, after, Index, IsIndexOf}
+use Rattle.chained_index.proofs.Allowed.{may_enter, may_begin, may_link, some_entry}
+use Rattle.chained_index.proofs.Calls.{Call, call_at, end_in_chain, lacks, last_free, added, added_behind}
 use Rattle.chained_index.proofs.index.ChainedIndex.place.Given.{Over}
 use Rattle.chained_index.proofs.index.ChainedIndex.place.Goals as goal
+use Rattle.chained_index.proofs.index.ChainedIndex.place.Goals.{After-end_of-end, In-Some}
+
+call : (g : Over) (c : After-end_of-end g) → Call (g.W.OwnerWords.owner c.args.words.now) c.args.self.now c.args.bucket c.end_of-end.result
+call g c = call_at _ _ _ _ _ c.end_of-end.ensures.same c.end_of-end.ensures.kept c.requires.index c.requires.bucket c.end_of-end.ensures.end
 
 pub put_entry-requires : goal.put_entry-requires
-put_entry-requires g c =
-    let o : OwnerState = g.W.OwnerWords.owner c.args.words.now in
-    let s : Chained o = chained o (subst Kept c.end_of-end.ensures.same c.end_of-end.ensures.kept) in
-    let e = c.end_of-end.ensures.end in
-    subst (λ (z : OwnerState). MayPutEntry z c.end_of-end.result.bucket c.end_of-end.result.used) (sym c.end_of-end.ensures.same) record {
-      its_bucket = its_own o c.args.bucket c.end_of-end.result.bucket c.requires.marked (end_in_chain o s c.args.bucket c.requires.bucket e.0 c.end_of-end.result e.1);
-      in_bucket = c.if-end-lt-SLOTS.true;
-    }
+put_entry-requires g c = subst (λ (z : OwnerState). MayPutEntry z c.end_of-end.result.bucket c.end_of-end.result.used) (sym c.end_of-end.ensures.same)
+    (may_enter _ c.args.bucket c.requires.marked _ _ (end_in_chain _ _ _ _ (call g (goal.at.put_entry-requires g c).After-end_of-end)) c.if-end-lt-SLOTS.true)
 
 -- the entry went into the last bucket
-pushed : (g : Over) (c : goal.After-put_entry g)
-    → ChangesChain (g.W.OwnerWords.owner c.args.words.now) (g.W.OwnerWords.owner c.put_entry.new.self) c.args.bucket
-    (entries_of (g.W.OwnerWords.owner c.args.words.now) c.args.bucket ++ entry_of c.args.tag c.args.offset ∷ [])
-    × IsIndexOf c.args.self.now (g.W.OwnerWords.owner c.put_entry.new.self)
-pushed g c =
-    let o : OwnerState = g.W.OwnerWords.owner c.args.words.now in
-    let p : OwnerState = g.W.OwnerWords.owner c.put_entry.new.self in
-    let s : Chained o = chained o (subst Kept c.end_of-end.ensures.same c.end_of-end.ensures.kept) in
-    let e = c.end_of-end.ensures.end in
-    let x : ℕ = entry_of c.args.tag c.args.offset in
-    let some : x ≢ 0 = some_entry c.args.tag c.args.offset c.requires.tag in
-    let is : p ≡ after (PutsEntry c.end_of-end.result.bucket c.end_of-end.result.used x) o = c.put_entry.ensures.event
-    ∙ (ap (after (PutsEntry c.end_of-end.result.bucket c.end_of-end.result.used c.entry_of-entry.result)) c.end_of-end.ensures.same
-    ∙ ap (λ (z : ℕ). after (PutsEntry c.end_of-end.result.bucket c.end_of-end.result.used z) o) c.entry_of-entry.ensures) in (
-      pushed_by o s c.args.bucket c.requires.bucket e.0 c.end_of-end.result e.1 x some p (chained p c.put_entry.ensures.kept) c.if-end-lt-SLOTS.true is,
-      index_pushed_by o s c.args.bucket c.requires.bucket e.0 c.end_of-end.result e.1 x some p (chained p c.put_entry.ensures.kept) c.if-end-lt-SLOTS.true is
-          c.args.self.now c.requires.index,
-    )
+pub returns-then-end-lt-SLOTS : goal.returns-then-end-lt-SLOTS
+returns-then-end-lt-SLOTS g c =
+    let end = c.end_of-end.result in
+    let is = c.put_entry.ensures.event ∙ (ap (after (PutsEntry end.bucket end.used c.entry_of-entry.result)) c.end_of-end.ensures.same
+    ∙ ap (λ (z : ℕ). after (PutsEntry end.bucket end.used z) (g.W.OwnerWords.owner c.args.words.now)) c.entry_of-entry.ensures) in
+    let pushed = added _ _ _ _ (call g (goal.at.returns-then-end-lt-SLOTS g c).After-end_of-end)
+    (entry_of c.args.tag c.args.offset) (some_entry c.args.tag c.args.offset c.requires.tag) c.if-end-lt-SLOTS.true _ c.put_entry.ensures.kept is in record {
+      entries = pushed.0;
+      index = pushed.1;
+      kept = c.put_entry.ensures.kept;
+      home = c.put_entry.ensures.home ∙ c.end_of-end.ensures.home;
+    }
 
-pub returns-then-end-lt-SLOTS-clause-entries : goal.returns-then-end-lt-SLOTS-clause-entries
-returns-then-end-lt-SLOTS-clause-entries g c = (pushed g c).0
+-- a free spare, the last in the list, is taken
 
-pub returns-then-end-lt-SLOTS-clause-index : goal.returns-then-end-lt-SLOTS-clause-index
-returns-then-end-lt-SLOTS-clause-index g c = (pushed g c).1
+free_call : (g : Over) (c : In-Some g)
+    → Call (g.W.OwnerWords.owner c.args.words.now) (record { shape = c.self.inside.shape; free = c.self.inside.free.items }) c.args.bucket c.end_of-end.result
+free_call g c = call_at _ _ _ _ _ c.end_of-end.ensures.same c.end_of-end.ensures.kept
+    (subst (λ (z : Index). IsIndexOf z (g.W.OwnerWords.owner c.args.words.now)) (sym c.self.view_is) c.requires.index) c.requires.bucket c.end_of-end.ensures.end
+
+popped : (g : Over) (c : In-Some g) → c.self.inside.free.items ≡ c.pop.new.self.items ++ c.in-Some.next ∷ []
+popped g c = c.pop.ensures.items ∙ ap (λ (z : Option ℕ). c.pop.new.self.items ++ option_to_list z) c.in-Some.is
 
 pub put_entry-requires-in-Some : goal.put_entry-requires-in-Some
 put_entry-requires-in-Some g c =
-    let o : OwnerState = g.W.OwnerWords.owner c.args.words.now in
-    let known = popped_last o c.self.inside.shape c.args.self.now c.self.inside.free.items c.pop.new.self.items c.pop.result c.in-Some.next
-    c.self.view_is c.pop.ensures.items c.in-Some.is c.requires.index in
-    let free = last_is_free o c.self.inside.shape c.pop.new.self.items c.in-Some.next known in
-    subst (λ (z : OwnerState). MayPutEntry z c.in-Some.next 0) (sym c.end_of-end.ensures.same) record {
-      its_bucket = its_spare o c.args.bucket c.in-Some.next c.requires.marked free;
-      in_bucket = omega arith;
-    }
+    let i = (goal.at.put_entry-requires-in-Some g c).In-Some in
+    subst (λ (z : OwnerState). MayPutEntry z c.in-Some.next 0) (sym c.end_of-end.ensures.same)
+    (may_begin _ c.args.bucket c.requires.marked _ (last_free _ _ _ _ (free_call g i) _ _ (popped g i)))
 
 pub put_link-requires : goal.put_link-requires
 put_link-requires g c =
-    let o : OwnerState = g.W.OwnerWords.owner c.args.words.now in
-    let s : Chained o = chained o (subst Kept c.end_of-end.ensures.same c.end_of-end.ensures.kept) in
-    let e = c.end_of-end.ensures.end in
-    let next : ℕ = c.in-Some.next in
-    let x : ℕ = c.entry_of-entry.result in
-    let known = popped_last o c.self.inside.shape c.args.self.now c.self.inside.free.items c.pop.new.self.items c.pop.result c.in-Some.next
-    c.self.view_is c.pop.ensures.items c.in-Some.is c.requires.index in
-    let free = last_is_free o c.self.inside.shape c.pop.new.self.items c.in-Some.next known in
-    subst (λ (z : OwnerState). MayPutLink z c.end_of-end.result.bucket next) (sym (c.put_entry-in-Some.ensures.event ∙ ap (after (PutsEntry next 0 x)) c.end_of-end.ensures.same))
-    (may_link o s next 0 x (omega arith) c.args.bucket c.end_of-end.result.bucket next c.requires.marked
-    (end_in_chain o s c.args.bucket c.requires.bucket e.0 c.end_of-end.result e.1) free (known.blank next free).no_link)
+    let i = (goal.at.put_link-requires g c).In-Some in
+    let call = free_call g i in
+    let free = last_free _ _ _ _ call _ _ (popped g i) in
+    subst (λ (z : OwnerState). MayPutLink z c.end_of-end.result.bucket c.in-Some.next)
+    (sym (c.put_entry-in-Some.ensures.event ∙ ap (after (PutsEntry c.in-Some.next 0 c.entry_of-entry.result)) c.end_of-end.ensures.same))
+    (may_link _ call.v.s c.args.bucket call.v.main c.requires.marked c.in-Some.next 0 c.entry_of-entry.result (omega arith) _ c.in-Some.next
+    (end_in_chain _ _ _ _ call) free (call.v.known.blank c.in-Some.next free).no_link)
 
--- the entry went into a spare bucket
-taken : (g : Over) (c : goal.After-put_link g)
-    → ChangesChain (g.W.OwnerWords.owner c.args.words.now) (g.W.OwnerWords.owner c.put_link.new.self) c.args.bucket
-    (entries_of (g.W.OwnerWords.owner c.args.words.now) c.args.bucket ++ entry_of c.args.tag c.args.offset ∷ [])
-    × IsIndexOf (record { shape = c.self.inside.shape; free = c.pop.new.self.items }) (g.W.OwnerWords.owner c.put_link.new.self)
-taken g c =
-    let o : OwnerState = g.W.OwnerWords.owner c.args.words.now in
-    let m : OwnerState = g.W.OwnerWords.owner c.put_entry-in-Some.new.self in
-    let p : OwnerState = g.W.OwnerWords.owner c.put_link.new.self in
-    let s : Chained o = chained o (subst Kept c.end_of-end.ensures.same c.end_of-end.ensures.kept) in
-    let e = c.end_of-end.ensures.end in
-    let next : ℕ = c.in-Some.next in
-    let x : ℕ = entry_of c.args.tag c.args.offset in
-    let some : x ≢ 0 = some_entry c.args.tag c.args.offset c.requires.tag in
-    let known = popped_last o c.self.inside.shape c.args.self.now c.self.inside.free.items c.pop.new.self.items c.pop.result c.in-Some.next
-    c.self.view_is c.pop.ensures.items c.in-Some.is c.requires.index in
-    let free = last_is_free o c.self.inside.shape c.pop.new.self.items c.in-Some.next known in
-    let blank = known.blank next free in
-    let within = e.1.shape.within in
-    let full : c.end_of-end.result.used ≡ 15 = omega arith in
-    let first : m ≡ after (PutsEntry next 0 x) o = c.put_entry-in-Some.ensures.event
-    ∙ (ap (after (PutsEntry next 0 c.entry_of-entry.result)) c.end_of-end.ensures.same
-    ∙ ap (λ (z : ℕ). after (PutsEntry next 0 z) o) c.entry_of-entry.ensures) in
-    let middle = chained m c.put_entry-in-Some.ensures.kept in
-    let last = chained p c.put_link.ensures.kept in (
-      taken_by o s c.args.bucket c.requires.bucket e.0 c.end_of-end.result e.1 x some next free blank full m p middle last first c.put_link.ensures.event,
-      index_taken_by o s c.args.bucket c.requires.bucket e.0 c.end_of-end.result e.1 x some next free blank full m p middle last first c.put_link.ensures.event
-          c.self.inside.shape c.pop.new.self.items known,
-    )
-
-pub returns-in-Some-clause-entries : goal.returns-in-Some-clause-entries
-returns-in-Some-clause-entries g c = (taken g c).0
-
-pub returns-in-Some-clause-index : goal.returns-in-Some-clause-index
-returns-in-Some-clause-index g c = (taken g c).1
+pub returns-in-Some : goal.returns-in-Some
+returns-in-Some g c =
+    let i = (goal.at.returns-in-Some g c).In-Some in
+    let first = c.put_entry-in-Some.ensures.event ∙ (ap (after (PutsEntry c.in-Some.next 0 c.entry_of-entry.result)) c.end_of-end.ensures.same
+    ∙ ap (λ (z : ℕ). after (PutsEntry c.in-Some.next 0 z) (g.W.OwnerWords.owner c.args.words.now)) c.entry_of-entry.ensures) in
+    let taken = added_behind _ _ _ _ (free_call g i) (entry_of c.args.tag c.args.offset) c.in-Some.next c.pop.new.self.items
+    (some_entry c.args.tag c.args.offset c.requires.tag) c.if-end-lt-SLOTS.false (popped g i) _ _ c.put_entry-in-Some.ensures.kept c.put_link.ensures.kept
+    first c.put_link.ensures.event in record {
+      entries = taken.0;
+      index = taken.1;
+      kept = c.put_link.ensures.kept;
+      home = c.put_link.ensures.home ∙ (c.put_entry-in-Some.ensures.home ∙ c.end_of-end.ensures.home);
+    }
 
 pub returns-in_default-clause-entries : goal.returns-in_default-clause-entries
 returns-in_default-clause-entries g c =
-    let o : OwnerState = g.W.OwnerWords.owner c.args.words.now in
-    let s : Chained o = chained o (subst Kept c.end_of-end.ensures.same c.end_of-end.ensures.kept) in
-    let e = c.end_of-end.ensures.end in
     let empty : length c.self.inside.free.items ≡ 0 = search rules in
     let none : c.args.self.now.free ≡ [] = sym (ap (λ (z : Index). z.free) c.self.view_is) ∙ nil_from_length c.self.inside.free.items empty in
-    absurd (c.requires.place (lacks o s c.args.bucket c.requires.bucket e.0 c.end_of-end.result.used e.1.shape c.args.self.now c.if-end-lt-SLOTS.false none))
+    absurd (c.requires.place (lacks _ _ _ _ (call g (goal.at.returns-in_default-clause-entries g c).After-end_of-end) c.if-end-lt-SLOTS.false none))
