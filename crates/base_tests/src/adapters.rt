@@ -87,8 +87,8 @@ fn a_reader_fails_once(rt: HostRuntime) {
 fn a_sink_writes_to_the_writer(rt: HostRuntime) {
     let mut written = Vec::new(rt.alloc());
     let mut sink = StdSink::new(&mut written);
-    let is_taken =
-        write_all(&mut sink, b"put 1 ").is_ok() && write_all(&mut sink, b"stored\n").is_ok();
+    let is_taken = write_all(&mut sink, b"put 1 ").is_ok()
+        && write_all(&mut sink, b"stored\n").is_ok();
     assert!(rt; is_taken && written.as_slice() == b"put 1 stored\n".as_slice());
 }
 

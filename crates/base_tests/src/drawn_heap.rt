@@ -9,7 +9,7 @@ use block_heap::Heap;
 use std::alloc::Global;
 use std::test::Fail;
 
-const WORDS: u32 = 4096;
+const WORDS: u32 = 1024;
 
 // The most free words side by side, where each used block has its size at its place. `None` where two overlap or one passes
 // the end.
@@ -30,7 +30,6 @@ fn most_free(sizes: &[u32]) -> Option<u32> {
 }
 
 // Takes a block, and tells whether none was used there, or none has so many words.
-#[tactic(auto, using(crate::proofs::Held::held_taken))]
 fn take_block(heap: &mut Heap, sizes: &mut Vec<u32>, need: u32) -> bool
     requires need { 1 ≤ need }
     requires held { (place : ℕ) → 0 < slice_index_or sizes.old.items place 0 → HasUsed heap.old place }
@@ -48,7 +47,6 @@ fn take_block(heap: &mut Heap, sizes: &mut Vec<u32>, need: u32) -> bool
 }
 
 // Gives the next used block back.
-#[tactic(auto, using(crate::proofs::Held::held_given))]
 fn give_block(heap: &mut Heap, sizes: &mut Vec<u32>, from: u32) -> bool
     requires { (place : ℕ) → 0 < slice_index_or sizes.old.items place 0 → HasUsed heap.old place }
     ensures { (place : ℕ) → 0 < slice_index_or sizes.new.items place 0 → HasUsed heap.new place }

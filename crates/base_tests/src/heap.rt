@@ -7,7 +7,6 @@ use block_heap::Heap;
 use std::process::Abort;
 use std::test::Fail;
 
-#[tactic(auto, using(crate::proofs::Held::used_by_take))]
 fn expect_taken(rt: &impl Abort, heap: &mut Heap, need: u32, place: u32)
     requires { 1 ≤ need }
     ensures used { HasUsed heap.new place }

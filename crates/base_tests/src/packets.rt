@@ -44,7 +44,8 @@ fn is_worked_batch(batch: &Batch) -> bool {
     batch.number == 7
         && match batch.requests.as_slice() {
             [put, get] => {
-                is_request(put, Want::Put, 1, b"a", b"1") && is_request(get, Want::Get, 2, b"a", b"")
+                is_request(put, Want::Put, 1, b"a", b"1")
+                    && is_request(get, Want::Get, 2, b"a", b"")
             }
             _ => false,
         }

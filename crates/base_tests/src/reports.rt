@@ -44,7 +44,10 @@ static REPORTS: [(&str, u32); 4] = [
 #[test]
 fn reports_are_read_and_printed_again(rt: HostRuntime) -> Result<(), Fail> {
     for (text, lines) in &REPORTS {
-        assert!(rt; is_printed_again(rt.alloc(), text.as_bytes(), *lines)?, "{text}");
+        assert!(rt;
+            is_printed_again(rt.alloc(), text.as_bytes(), *lines)?,
+            "{text}"
+        );
     }
     Ok(())
 }
@@ -70,6 +73,9 @@ static BAD_LINES: [(&str, u32); 5] = [
 #[test]
 fn the_first_bad_line_of_a_report_is_told(rt: HostRuntime) {
     for (text, line) in &BAD_LINES {
-        assert!(rt; bad_line(rt.alloc(), text.as_bytes()) == Some(*line), "{text}");
+        assert!(rt;
+            bad_line(rt.alloc(), text.as_bytes()) == Some(*line),
+            "{text}"
+        );
     }
 }

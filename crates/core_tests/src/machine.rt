@@ -5,9 +5,7 @@ ghost use Rattle.mica_model.specs.Options.{IsValid};
 ghost use Rattle.mica_model.specs.Write.{HasValueOf};
 
 use mica_io::NoMemory;
-use mica_model::{
-    Answer, CacheMachine, Fate, ItemBuf, Mode, Op, Options, Outcome, StoreMachine,
-};
+use mica_model::{Answer, CacheMachine, Fate, ItemBuf, Mode, Op, Options, Outcome, StoreMachine};
 use std::alloc::Global;
 
 /// The machine of a mode.

@@ -217,7 +217,10 @@ static WORN: [Step; 5] = [
     Step::Hit("a", "1", 1),
 ];
 
-const SMALL_CACHE: Options = Options { words: 256, ..CACHE };
+const SMALL_CACHE: Options = Options {
+    words: 256,
+    ..CACHE
+};
 
 #[test]
 fn steps_of_the_cache_machine(rt: HostRuntime) -> Result<(), Fail> {
@@ -228,7 +231,10 @@ fn steps_of_the_cache_machine(rt: HostRuntime) -> Result<(), Fail> {
     expect_steps(&rt, &CACHE, &EMPTY)
 }
 
-const SMALL_STORE: Options = Options { words: 256, ..STORE };
+const SMALL_STORE: Options = Options {
+    words: 256,
+    ..STORE
+};
 
 #[test]
 fn steps_of_the_store_machine(rt: HostRuntime) -> Result<(), Fail> {

@@ -129,6 +129,12 @@ fn is_change(event: &OwnerEvent) -> bool {
 #[test]
 fn the_last_entry_moves_and_the_spare_is_taken_again(rt: HostRuntime) -> Result<(), Fail> {
     let words = words_after_steps(&rt)?;
-    assert!(rt; words.events().iter().filter(|event| is_change(event)).eq(CHANGES.iter()));
+    assert!(rt;
+        words
+            .events()
+            .iter()
+            .filter(|event| is_change(event))
+            .eq(CHANGES.iter())
+    );
     Ok(())
 }

@@ -22,10 +22,7 @@ static BAD_LINES: [Run; 20] = [
         output: "bad line 2\n",
         ..BAD
     },
-    Run {
-        input: "\n",
-        ..BAD
-    },
+    Run { input: "\n", ..BAD },
     Run {
         input: "put",
         ..BAD

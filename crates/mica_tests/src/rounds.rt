@@ -126,10 +126,8 @@ impl Gate for Counts {
 
 impl Counts {
     fn has_counted(&self, calls: [u64; 4]) -> bool {
-        self.calls
-            .iter()
-            .zip(calls.iter())
-            .all(|(counted, wanted)| counted.load(Ordering::SeqCst) == *wanted)
+        self.calls.iter().zip(calls.iter()).all(|(counted, wanted)| counted.load(Ordering::SeqCst)
+            == *wanted)
     }
 }
 

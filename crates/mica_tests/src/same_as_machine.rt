@@ -131,27 +131,24 @@ fn drawn_texts(
     Ok(texts)
 }
 
+const OPTIONS: Options = Options {
+    mode: Mode::Cache,
+    partitions: 1,
+    buckets: 2,
+    spares: 0,
+    words: 256,
+    readers: 1,
+    tries: 1,
+    wear: 1900,
+};
+
+const WORDS: &str =
+    "replay --mode cache --partitions 1 --buckets 2 --spares 0 --words 256 --readers 1 --tries 1 --wear 1900";
+
 #[test]
 fn a_replay_says_what_the_machine_says(rt: HostRuntime) -> Result<(), Fail> {
-    let options = Options {
-        mode: Mode::Cache,
-        partitions: 1,
-        buckets: 2,
-        spares: 0,
-        words: 256,
-        readers: 1,
-        tries: 1,
-        wear: 1900,
-    };
-    let words =
-        "replay --mode cache --partitions 1 --buckets 2 --spares 0 --words 256 --readers 1 --tries 1 --wear 1900";
-    let mut machine = CacheMachine::new(rt.alloc(), &options)?;
+    let mut machine = CacheMachine::new(rt.alloc(), &OPTIONS)?;
     let texts = drawn_texts(&rt, &mut machine, 4000)?;
-    expect_output(
-        &rt,
-        words,
-        texts.trace.as_bytes(),
-        Status::Done,
-        texts.report.as_bytes(),
-    )
+    let (trace, report) = (texts.trace.as_bytes(), texts.report.as_bytes());
+    expect_output(&rt, WORDS, trace, Status::Done, report)
 }

@@ -60,8 +60,14 @@ static SERVED: [Served; 7] = [
     Served { bind: 1, ..FAILED },
     Served { recv: 1, ..FAILED },
     Served { reply: 1, ..FAILED },
-    Served { bind: 2, ..ANSWERED },
-    Served { recv: 2, ..ANSWERED },
+    Served {
+        bind: 2,
+        ..ANSWERED
+    },
+    Served {
+        recv: 2,
+        ..ANSWERED
+    },
     Served {
         reply: 2,
         ..ANSWERED
