@@ -69,18 +69,25 @@ fn put_item_word<W: OwnerWords>(words: &mut W, offset: u64, word: u64)
     words.put_word(offset, word);
 }
 
+fn has_words_of_the_put<W: OwnerWords>(words: &mut W) -> bool
+    requires { (W.owner words.old).shape ≡ one_bucket }
+    ensures { W.owner words.new ≡ W.owner words.old }
+{
+    words.read(WordAt::Stamp) == STAMP
+        && words.read(WordAt::Epoch(0)) == 2
+        && words.read(WordAt::Entry(0, 0)) == ENTRY_OF_A
+        && words.read(WordAt::Item(0)) == HEADER
+        && words.read(WordAt::Item(1)) == HASH_OF_A
+        && words.read(WordAt::Item(2)) == 0x61
+        && words.read(WordAt::Item(3)) == 0x31
+}
+
 #[test]
 fn the_words_and_events_of_a_put(rt: HostRuntime) -> Result<(), Fail> {
     let mut words = PlainWords::new(rt.alloc(), &ONE_BUCKET, 8)?;
     mark_put(&mut words);
     finish_put(&mut words);
-    assert_eq!(rt; words.read(WordAt::Stamp), STAMP);
-    assert_eq!(rt; words.read(WordAt::Epoch(0)), 2);
-    assert_eq!(rt; words.read(WordAt::Entry(0, 0)), ENTRY_OF_A);
-    assert_eq!(rt; words.read(WordAt::Item(0)), HEADER);
-    assert_eq!(rt; words.read(WordAt::Item(1)), HASH_OF_A);
-    assert_eq!(rt; words.read(WordAt::Item(2)), 0x61);
-    assert_eq!(rt; words.read(WordAt::Item(3)), 0x31);
+    assert!(rt; has_words_of_the_put(&mut words));
     assert!(rt; words.events() == EVENTS.as_slice());
     assert!(rt; holds_key(&mut words, 0, b"a"));
     assert!(rt; !holds_key(&mut words, 0, b"b"));

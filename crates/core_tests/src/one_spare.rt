@@ -6,6 +6,7 @@ ghost use Rattle.epoch_core.specs.OwnerState.{as_made};
 use epoch_core::{OwnerEvent, Partition, PlainWords, Shape};
 use mica_model::{Answer, ItemBuf, Mode, Outcome};
 use mica_words::{key_fits, value_fits};
+use std::alloc::AllocGlobal;
 use std::process::Abort;
 use std::test::Fail;
 use store_partition::StorePartition;
@@ -31,6 +32,14 @@ enum Step {
     Del(&'static str),
     Hit(&'static str, &'static str),
     Miss(&'static str),
+}
+
+impl Step {
+    fn key(&self) -> &'static str {
+        match self {
+            Step::Put(key, _) | Step::Hit(key, _) | Step::Del(key) | Step::Miss(key) => key,
+        }
+    }
 }
 
 static STEPS: [Step; 22] = [
@@ -73,59 +82,59 @@ static CHANGES: [OwnerEvent; 11] = [
     OwnerEvent::PutLink(0, 0),
 ];
 
-fn expect_step<P: Partition>(rt: &impl Abort, partition: &mut P, step: &Step, out: &mut ItemBuf) {
-    match step {
-        Step::Put(key, value) => {
-            assert!(rt; key_fits(key.as_bytes()) && value_fits(value.as_bytes()));
-            let outcome = partition.put(key.as_bytes(), value.as_bytes());
-            assert_eq!(rt; outcome, Outcome::Stored, "put {key}");
-        }
-        Step::Del(key) => {
-            assert!(rt; key_fits(key.as_bytes()));
-            assert_eq!(rt;
-                partition.del(key.as_bytes()),
-                Outcome::Deleted,
-                "del {key}"
-            );
-        }
-        Step::Hit(key, value) => {
-            assert!(rt; key_fits(key.as_bytes()));
-            assert_eq!(rt;
-                partition.get(key.as_bytes(), out),
-                Answer::Hit,
-                "get {key}"
-            );
-            assert_eq!(rt; out.value(), value.as_bytes(), "get {key}");
-        }
-        Step::Miss(key) => {
-            assert!(rt; key_fits(key.as_bytes()));
-            assert_eq!(rt;
-                partition.get(key.as_bytes(), out),
-                Answer::Miss,
-                "get {key}"
-            );
-        }
+// Makes the call, and tells whether it answers so.
+fn holds<P: Partition>(partition: &mut P, step: &Step, out: &mut ItemBuf) -> bool {
+    let key = step.key().as_bytes();
+    if !key_fits(key) {
+        return false;
     }
+    match step {
+        Step::Put(_, value) => {
+            value_fits(value.as_bytes()) && partition.put(key, value.as_bytes()) == Outcome::Stored
+        }
+        Step::Del(_) => partition.del(key) == Outcome::Deleted,
+        Step::Hit(_, value) => {
+            partition.get(key, out) == Answer::Hit && out.value() == value.as_bytes()
+        }
+        Step::Miss(_) => partition.get(key, out) == Answer::Miss,
+    }
+}
+
+fn expect_steps<P: Partition>(
+    rt: &(impl Abort + AllocGlobal),
+    partition: &mut P,
+) -> Result<(), Fail> {
+    let mut out = ItemBuf::new(rt.alloc())?;
+    for (number, step) in STEPS.iter().enumerate() {
+        assert!(rt; holds(partition, step, &mut out), "step {number}");
+    }
+    Ok(())
+}
+
+// The partition's words after the steps.
+fn words_after_steps(rt: &(impl Abort + AllocGlobal)) -> Result<PlainWords, Fail> {
+    let words = PlainWords::new(rt.alloc(), &ONE_SPARE, 256)?;
+    let mut partition = StorePartition::new(rt.alloc(), words)?;
+    expect_steps(rt, &mut partition)?;
+    Ok(partition.into_words())
+}
+
+fn is_change(event: &OwnerEvent) -> bool {
+    matches!(
+        event,
+        OwnerEvent::PutLink(..) | OwnerEvent::PutEntry(0, 2, _) | OwnerEvent::PutEntry(1, ..)
+    )
 }
 
 #[test]
 fn the_last_entry_moves_and_the_spare_is_taken_again(rt: HostRuntime) -> Result<(), Fail> {
-    let words = PlainWords::new(rt.alloc(), &ONE_SPARE, 256)?;
-    let mut partition = StorePartition::new(rt.alloc(), words)?;
-    let mut out = ItemBuf::new(rt.alloc())?;
-    for step in &STEPS {
-        expect_step(&rt, &mut partition, step, &mut out);
-    }
-    let words = partition.into_words();
-    let mut changes = Vec::new(rt.alloc());
-    for event in words.events() {
-        if matches!(
-            event,
-            OwnerEvent::PutLink(..) | OwnerEvent::PutEntry(0, 2, _) | OwnerEvent::PutEntry(1, ..)
-        ) {
-            changes.push(*event)?;
-        }
-    }
-    assert_eq!(rt; changes.as_slice(), CHANGES.as_slice());
+    let words = words_after_steps(&rt)?;
+    assert!(rt;
+        words
+            .events()
+            .iter()
+            .filter(|event| is_change(event))
+            .eq(CHANGES.iter())
+    );
     Ok(())
 }

@@ -1,13 +1,15 @@
 //! An owner's writes between the loads of a get with one try, judged by the plain machine at the carried stamp.
 
 ghost use Rattle.std.specs.Prelude.{◌≤◌, length, IfOk};
+ghost use Rattle.mica_words.specs.Item.{KeyFits, ValueFits};
 ghost use Rattle.epoch_core.specs.Script.{Rises, NoneAbove};
 
+use crate::machine::Machine;
 use cache_partition::CachePartition;
 use epoch_core::{OwnerEvent, Partition, PlainWords, Scripted, Shape};
 use mica_io::NoMemory;
-use mica_model::{Answer, CacheMachine, ItemBuf, Mode, Op, Options, StoreMachine, write_fits};
-use mica_words::key_fits;
+use mica_model::{Answer, ItemBuf, Mode, Op, Options, Outcome, write_fits};
+use mica_words::{key_fits, value_fits};
 use optimistic_get::{Got, get};
 use std::alloc::{AllocGlobal, Global};
 use std::process::Abort;
@@ -48,6 +50,16 @@ const ROOM: u32 = 512;
 /// More than the events of any script here.
 pub(crate) const MOST_EVENTS: usize = 1_000;
 
+pub(crate) fn write<P: Partition>(partition: &mut P, op: Op, key: &[u8], value: &[u8]) -> Outcome
+    requires key { KeyFits key.now }
+    requires value { ValueFits value.now }
+{
+    match op {
+        Op::Put => partition.put(key, value),
+        Op::Del => partition.del(key),
+    }
+}
+
 fn apply<P: Partition>(
     rt: &impl Abort,
     alloc: Global,
@@ -56,11 +68,20 @@ fn apply<P: Partition>(
 ) -> Result<(), NoMemory> {
     let (op, key, value, times) = written;
     let value = value.repeat(alloc, times)?;
-    assert!(rt; write_fits(op, key.as_bytes(), value.as_bytes()));
-    match op {
-        Op::Put => partition.put(key.as_bytes(), value.as_bytes()),
-        Op::Del => partition.del(key.as_bytes()),
-    };
+    assert!(rt; key_fits(key.as_bytes()) && value_fits(value.as_bytes()));
+    write(partition, op, key.as_bytes(), value.as_bytes());
+    Ok(())
+}
+
+fn apply_all<P: Partition>(
+    rt: &impl Abort,
+    alloc: Global,
+    partition: &mut P,
+    writes: &[Written],
+) -> Result<(), NoMemory> {
+    for written in writes {
+        apply(rt, alloc, partition, *written)?;
+    }
     Ok(())
 }
 
@@ -72,64 +93,51 @@ fn stored_words(rt: &(impl Abort + AllocGlobal), script: Script<'_>) -> Result<P
     match script.options.mode {
         Mode::Cache => {
             let mut partition = CachePartition::new(words);
-            for written in script.writes {
-                apply(rt, alloc, &mut partition, *written)?;
-            }
+            apply_all(rt, alloc, &mut partition, script.writes)?;
             Ok(partition.into_words())
         }
         Mode::Store => {
             let mut partition = StorePartition::new(alloc, words)?;
-            for written in script.writes {
-                apply(rt, alloc, &mut partition, *written)?;
-            }
+            apply_all(rt, alloc, &mut partition, script.writes)?;
             Ok(partition.into_words())
         }
     }
 }
 
-fn known_at(alloc: Global, stamp: u64, answer: Answer, out: &ItemBuf) -> Result<Known, NoMemory> {
-    let value = Vec::from_slice(alloc, out.value())?;
+// What the machine answers to the key.
+fn known_by(alloc: Global, machine: &Machine, key: &str) -> Result<Known, NoMemory> {
+    let mut out = ItemBuf::new(alloc)?;
+    let answer = machine.answer(key.as_bytes(), &mut out);
     Ok(Known {
-        stamp,
+        stamp: machine.stamp(),
         answer,
-        value,
+        value: Vec::from_slice(alloc, out.value())?,
     })
 }
 
-// What the machine of cache mode answers after each of the writes.
-fn cache_answers(rt: &(impl Abort + AllocGlobal), script: Script<'_>) -> Result<Vec<Known>, Fail> {
-    let alloc = rt.alloc();
-    assert!(rt; script.options.is_valid() && script.options.mode == Mode::Cache);
-    let mut machine = CacheMachine::new(alloc, &script.options)?;
-    let mut out = ItemBuf::new(alloc)?;
-    let mut all = Vec::new(alloc);
-    let answer = machine.answer(script.key.as_bytes(), &mut out);
-    all.push(known_at(alloc, machine.stamp(), answer, &out)?)?;
-    for (op, key, value, times) in script.writes {
-        let value = value.repeat(alloc, *times)?;
-        assert!(rt; write_fits(*op, key.as_bytes(), value.as_bytes()));
-        machine.apply(alloc, *op, key.as_bytes(), value.as_bytes())?;
-        let answer = machine.answer(script.key.as_bytes(), &mut out);
-        all.push(known_at(alloc, machine.stamp(), answer, &out)?)?;
-    }
-    Ok(all)
+fn apply_to_machine(
+    rt: &impl Abort,
+    alloc: Global,
+    machine: &mut Machine,
+    written: Written,
+) -> Result<(), NoMemory> {
+    let (op, key, value, times) = written;
+    let value = value.repeat(alloc, times)?;
+    assert!(rt; write_fits(op, key.as_bytes(), value.as_bytes()));
+    machine.apply(alloc, op, key.as_bytes(), value.as_bytes())?;
+    Ok(())
 }
 
-// What the machine of store mode answers after each of the writes.
-fn store_answers(rt: &(impl Abort + AllocGlobal), script: Script<'_>) -> Result<Vec<Known>, Fail> {
+// What the machine answers before the writes, and after each.
+fn known_answers(rt: &(impl Abort + AllocGlobal), script: Script<'_>) -> Result<Vec<Known>, Fail> {
     let alloc = rt.alloc();
-    assert!(rt; script.options.is_valid() && script.options.mode == Mode::Store);
-    let mut machine = StoreMachine::new(alloc, &script.options)?;
-    let mut out = ItemBuf::new(alloc)?;
+    assert!(rt; script.options.is_valid());
+    let mut machine = Machine::new(alloc, &script.options)?;
     let mut all = Vec::new(alloc);
-    let answer = machine.answer(script.key.as_bytes(), &mut out);
-    all.push(known_at(alloc, machine.stamp(), answer, &out)?)?;
-    for (op, key, value, times) in script.writes {
-        let value = value.repeat(alloc, *times)?;
-        assert!(rt; write_fits(*op, key.as_bytes(), value.as_bytes()));
-        machine.apply(alloc, *op, key.as_bytes(), value.as_bytes())?;
-        let answer = machine.answer(script.key.as_bytes(), &mut out);
-        all.push(known_at(alloc, machine.stamp(), answer, &out)?)?;
+    all.push(known_by(alloc, &machine, script.key)?)?;
+    for written in script.writes {
+        apply_to_machine(rt, alloc, &mut machine, *written)?;
+        all.push(known_by(alloc, &machine, script.key)?)?;
     }
     Ok(all)
 }
@@ -144,12 +152,8 @@ fn is_known(known: &[Known], stamp: u64, answer: Answer, value: &[u8]) -> bool {
 impl Judge {
     /// The answers of the plain machine, and no answer that came.
     pub(crate) fn new(rt: &(impl Abort + AllocGlobal), script: Script<'_>) -> Result<Judge, Fail> {
-        let known = match script.options.mode {
-            Mode::Cache => cache_answers(rt, script)?,
-            Mode::Store => store_answers(rt, script)?,
-        };
         Ok(Judge {
-            known,
+            known: known_answers(rt, script)?,
             hits: 0,
             misses: 0,
             agains: 0,
@@ -207,6 +211,20 @@ pub(crate) fn count_events(
     Ok(count)
 }
 
+// The words after the writes, where so many events happen before each of so many loads, and then so many.
+fn scripted(
+    rt: &(impl Abort + AllocGlobal),
+    script: Script<'_>,
+    cuts: (usize, usize, usize),
+) -> Result<Scripted, Fail> {
+    let (first, loads, then) = cuts;
+    let words = stored_words(rt, script)?;
+    let events = words.events();
+    assert!(rt; first <= then && then <= events.len() && events.len() < ROOM as usize);
+    let cuts = two_cuts(rt.alloc(), first as u32, loads, then as u32, events)?;
+    Ok(Scripted::new(rt.alloc(), words, cuts.as_slice())?)
+}
+
 /// A get with one try, where so many events happen before each of so many loads, and then so many.
 pub(crate) fn expect_at_cuts(
     rt: &(impl Abort + AllocGlobal),
@@ -214,16 +232,11 @@ pub(crate) fn expect_at_cuts(
     judge: &mut Judge,
     cuts: (usize, usize, usize),
 ) -> Result<(), Fail> {
-    let alloc = rt.alloc();
-    let (first, loads, then) = cuts;
-    let words = stored_words(rt, script)?;
-    let events = words.events();
-    assert!(rt; first <= then && then <= events.len() && events.len() < ROOM as usize);
-    let cuts = two_cuts(alloc, first as u32, loads, then as u32, events)?;
-    let mut seat = Scripted::new(alloc, words, cuts.as_slice())?;
-    let mut out = ItemBuf::new(alloc)?;
-    assert!(rt; key_fits(script.key.as_bytes()));
-    let got = get(&mut seat, script.key.as_bytes(), 1, &mut out);
+    let key = script.key.as_bytes();
+    assert!(rt; key_fits(key));
+    let mut seat = scripted(rt, script, cuts)?;
+    let mut out = ItemBuf::new(rt.alloc())?;
+    let got = get(&mut seat, key, 1, &mut out);
     assert!(rt; judge.is_lawful(got, &out));
     Ok(())
 }

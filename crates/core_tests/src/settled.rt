@@ -17,7 +17,7 @@ const ONE_BUCKET: Shape = Shape {
 };
 
 /// The words after a put of `a` with `1`, whose eight events are kept.
-fn put_words(rt: &(impl Abort + AllocGlobal)) -> Result<PlainWords, Fail> {
+pub(crate) fn put_words(rt: &(impl Abort + AllocGlobal)) -> Result<PlainWords, Fail> {
     let words = PlainWords::new(rt.alloc(), &ONE_BUCKET, 64)?;
     let mut partition = StorePartition::new(rt.alloc(), words)?;
     assert!(rt; partition.put(b"a", b"1") == Outcome::Stored);

@@ -3,6 +3,7 @@
 use crate::runs::{Run, expect_output, expect_runs};
 use mica_cmd::Status;
 use std::alloc::Global;
+use std::fmt::Write;
 use std::test::Fail;
 
 const ONE: &str =
@@ -140,6 +141,100 @@ get 524288 hit 1
 ",
 }];
 
+// A value and a key that are as short or as long as may be: the longest item has 162 words.
+static EXTREMES: [Run; 2] = [
+    Run {
+        words: ONE,
+        input: "put a \nsync\nget a\n",
+        status: Status::Done,
+        output: "put 196608 stored\nsync\nget 196608 hit \n",
+    },
+    Run {
+        words: ONE,
+        input: "put V(255) V(1024)\n",
+        status: Status::Done,
+        output: "put 10616832 stored\n",
+    },
+];
+
+// At tail 256 the item at 0 is live, at tail 260 it is passed.
+static PASSED: [Run; 1] = [Run {
+    words: SHORT,
+    input: "\
+put a V(1000)
+put b V(1000)
+sync
+get a
+sync
+put c 1
+sync
+get a
+get b
+",
+    status: Status::Done,
+    output: "\
+put 8388608 stored
+put 16777216 stored
+sync
+get 16777216 hit V(1000)
+sync
+put 17039360 stored
+sync
+get 17039360 miss
+get 17039360 hit V(1000)
+",
+}];
+
+// The sixteenth record goes in as the log passes the first, so none is displaced.
+static DEAD_FIRST: [Run; 1] = [Run {
+    words: SHORT,
+    input: "\
+put a V(1024)
+put b V(560)
+put k01 1
+put k02 1
+put k03 1
+put k04 1
+put k05 1
+put k06 1
+put k07 1
+put k08 1
+put k09 1
+put k10 1
+put k11 1
+put k12 1
+put k13 1
+put z 1
+sync
+get a
+get b
+get k01
+",
+    status: Status::Done,
+    output: "\
+put 8585216 stored
+put 13369344 stored
+put 13631488 stored
+put 13893632 stored
+put 14155776 stored
+put 14417920 stored
+put 14680064 stored
+put 14942208 stored
+put 15204352 stored
+put 15466496 stored
+put 15728640 stored
+put 15990784 stored
+put 16252928 stored
+put 16515072 stored
+put 16777216 stored
+put 17039360 stored
+sync
+get 17039360 miss
+get 17039360 hit V(560)
+get 17039360 hit 1
+",
+}];
+
 #[test]
 fn a_value_is_kept_in_its_room_or_appended(rt: HostRuntime) -> Result<(), Fail> {
     expect_runs(&rt, &ROOMS)
@@ -156,92 +251,52 @@ fn a_worn_log_takes_no_write(rt: HostRuntime) -> Result<(), Fail> {
 }
 
 #[test]
-fn an_empty_value_is_hit(rt: HostRuntime) -> Result<(), Fail> {
-    let output = b"put 196608 stored\nsync\nget 196608 hit \n";
-    expect_output(&rt, ONE, b"put a \nsync\nget a\n", Status::Done, output)
+fn the_shortest_and_the_longest_item(rt: HostRuntime) -> Result<(), Fail> {
+    expect_runs(&rt, &EXTREMES)
 }
 
-// At tail 256 the item at 0 is live, at tail 260 it is passed.
 #[test]
 fn the_log_passes_its_oldest_item(rt: HostRuntime) -> Result<(), Fail> {
-    let value = "x".repeat(rt.alloc(), 1000)?;
-    let input = format!(in rt.alloc();
-        "put a {value}\nput b {value}\nsync\nget a\nsync\nput c 1\nsync\nget a\nget b\n"
-    )?;
-    let puts = "put 8388608 stored\nput 16777216 stored\n";
-    let output = format!(in rt.alloc();
-        "{puts}sync\nget 16777216 hit {value}\nsync\nput 17039360 stored\nsync\nget 17039360 miss\nget 17039360 hit {value}\n"
-    )?;
-    expect_output(
-        &rt,
-        SHORT,
-        input.as_bytes(),
-        Status::Done,
-        output.as_bytes(),
-    )
+    expect_runs(&rt, &PASSED)
 }
 
-// The sixteenth record goes in as the log passes the first, so none is displaced.
 #[test]
 fn a_dead_entry_gives_way_first(rt: HostRuntime) -> Result<(), Fail> {
-    let long = "x".repeat(rt.alloc(), 1024)?;
-    let value = "x".repeat(rt.alloc(), 560)?;
-    let puts =
-        "put k01 1\nput k02 1\nput k03 1\nput k04 1\nput k05 1\nput k06 1\nput k07 1\nput k08 1\nput k09 1\nput k10 1\nput k11 1\nput k12 1\nput k13 1\n";
-    let input = format!(in rt.alloc();
-        "put a {long}\nput b {value}\n{puts}put z 1\nsync\nget a\nget b\nget k01\n"
-    )?;
-    let stamps =
-        "put 13631488 stored\nput 13893632 stored\nput 14155776 stored\nput 14417920 stored\nput 14680064 stored\nput 14942208 stored\nput 15204352 stored\nput 15466496 stored\nput 15728640 stored\nput 15990784 stored\nput 16252928 stored\nput 16515072 stored\nput 16777216 stored\nput 17039360 stored\n";
-    let gets = "get 17039360 hit 1\n";
-    let output = format!(in rt.alloc();
-        "put 8585216 stored\nput 13369344 stored\n{stamps}sync\nget 17039360 miss\nget 17039360 hit {value}\n{gets}"
-    )?;
-    expect_output(
-        &rt,
-        SHORT,
-        input.as_bytes(),
-        Status::Done,
-        output.as_bytes(),
-    )
+    expect_runs(&rt, &DEAD_FIRST)
 }
 
-#[test]
-fn the_longest_item_has_162_words(rt: HostRuntime) -> Result<(), Fail> {
-    let key = "k".repeat(rt.alloc(), 255)?;
-    let value = "x".repeat(rt.alloc(), 1024)?;
-    let input = format!(in rt.alloc(); "put {key} {value}\n")?;
-    expect_output(
-        &rt,
-        ONE,
-        input.as_bytes(),
-        Status::Done,
-        b"put 10616832 stored\n",
-    )
-}
-
-// The line of each of so many puts that are kept in place, from this stamp on.
-fn kept_puts(alloc: Global, from: u64, count: u64) -> Result<String, Fail> {
+// A line for each of so many puts that are kept in place, from this stamp on.
+fn kept_lines(alloc: Global, from: u64, count: u64) -> Result<String, Fail> {
     let mut text = String::new(alloc);
     for i in 0..count {
         let stamp = from.wrapping_add(i);
-        let line = format!(in alloc; "put {stamp} stored\n")?;
-        text.push_str(line.as_str())?;
+        writeln!(text, "put {stamp} stored")?;
     }
     Ok(text)
+}
+
+// Two long values, so many puts that are kept, one that is not, and a delete.
+fn worn_input(alloc: Global, kept: usize) -> Result<String, Fail> {
+    let value = "x".repeat(alloc, 1000)?;
+    let value = value.as_str();
+    let kept = "put b 1\n".repeat(alloc, kept)?;
+    let kept = kept.as_str();
+    Ok(format!(in alloc; "put a {value}\nput b {value}\n{kept}put a 1\ndel b\n")?)
+}
+
+fn worn_output(alloc: Global, kept: u64) -> Result<String, Fail> {
+    let lines = kept_lines(alloc, 16_777_217, kept)?;
+    let lines = lines.as_str();
+    Ok(format!(in alloc;
+        "put 8388608 stored\nput 16777216 stored\n{lines}put 17104895 stored\ndel 17104896 deleted\n"
+    )?)
 }
 
 // At the next multiple of 65,536 a kept put would be passed at once, so it is appended.
 #[test]
 fn stamps_wear_the_tail(rt: HostRuntime) -> Result<(), Fail> {
-    let value = "x".repeat(rt.alloc(), 1000)?;
-    let kept = "put b 1\n".repeat(rt.alloc(), 65_535)?;
-    let input = format!(in rt.alloc(); "put a {value}\nput b {value}\n{kept}put a 1\ndel b\n")?;
-    let lines = kept_puts(rt.alloc(), 16_777_217, 65_535)?;
-    let first = "put 8388608 stored\nput 16777216 stored\n";
-    let output = format!(in rt.alloc();
-        "{first}{lines}put 17104895 stored\ndel 17104896 deleted\n"
-    )?;
+    let input = worn_input(rt.alloc(), 65_535)?;
+    let output = worn_output(rt.alloc(), 65_535)?;
     expect_output(
         &rt,
         SHORT,

@@ -11,126 +11,119 @@ use std::thread::Threads;
 #[derive(Clone, Copy)]
 struct Fault {
     words: &'static str,
+    input: &'static [u8],
     read: u32,
     write: u32,
     piece: u32,
     room: u32,
     status: Status,
-    output: &'static str,
+    output: &'static [u8],
 }
-
-const STORE: &str = "replay --mode store";
 
 // No call of this number is made.
 const NONE: u32 = 1_000_000;
 
+const REPORT: &[u8; 30] = b"put 1 stored\nsync\nget 1 hit 1\n";
+
+/// A run whose writes take a byte each too. Nothing fails.
+const SOUND: Fault = Fault {
+    words: "replay --mode store",
+    input: b"put a 1\nsync\nget a\n",
+    read: NONE,
+    write: NONE,
+    piece: 1,
+    room: 100,
+    status: Status::Done,
+    output: REPORT,
+};
+
 static FAULTS: [Fault; 11] = [
     Fault {
-        words: STORE,
-        read: 3,
-        write: NONE,
-        piece: 4,
-        room: 100,
-        status: Status::ReadFault,
-        output: "read fault\n",
-    },
-    Fault {
-        words: STORE,
-        read: 1,
-        write: NONE,
-        piece: 4,
-        room: 100,
-        status: Status::ReadFault,
-        output: "read fault\n",
-    },
-    Fault {
-        words: STORE,
-        read: 20,
-        write: NONE,
-        piece: 4,
-        room: 100,
-        status: Status::ReadFault,
-        output: "read fault\n",
-    },
-    Fault {
-        words: STORE,
-        read: 21,
-        write: NONE,
-        piece: 4,
-        room: 100,
-        status: Status::Done,
-        output: "put 1 stored\nsync\nget 1 hit 1\n",
-    },
-    Fault {
-        words: STORE,
-        read: NONE,
         write: 1,
         piece: 4,
-        room: 100,
         status: Status::WriteFault,
-        output: "",
+        output: b"",
+        ..SOUND
     },
     Fault {
-        words: STORE,
-        read: NONE,
         write: 2,
         piece: 4,
-        room: 100,
         status: Status::WriteFault,
-        output: "put ",
+        output: b"put ",
+        ..SOUND
     },
     Fault {
-        words: STORE,
-        read: NONE,
         write: 3,
         piece: 10,
-        room: 100,
         status: Status::WriteFault,
-        output: "put 1 stored\nsync\nge",
+        output: b"put 1 stored\nsync\nge",
+        ..SOUND
     },
+    // The room ends before the report.
     Fault {
-        words: STORE,
-        read: NONE,
-        write: NONE,
         piece: 4,
         room: 29,
         status: Status::WriteFault,
-        output: "put 1 stored\nsync\nget 1 hit 1",
+        output: b"put 1 stored\nsync\nget 1 hit 1",
+        ..SOUND
     },
+    // The line of a fault is not written.
     Fault {
-        words: STORE,
         read: 3,
         write: 2,
         piece: 4,
-        room: 100,
         status: Status::WriteFault,
-        output: "read",
+        output: b"read",
+        ..SOUND
+    },
+    // Nor is that of a refusal.
+    Fault {
+        words: "",
+        write: 1,
+        status: Status::WriteFault,
+        output: b"",
+        ..SOUND
     },
     Fault {
         words: "repla",
-        read: NONE,
         write: 1,
         piece: 4,
-        room: 100,
         status: Status::WriteFault,
-        output: "",
+        output: b"",
+        ..SOUND
     },
     Fault {
         words: "repla",
         read: 1,
         write: 2,
         piece: 4,
-        room: 100,
         status: Status::WriteFault,
-        output: "usag",
+        output: b"usag",
+        ..SOUND
     },
+    Fault {
+        input: b"sync\nsyn\n",
+        write: 2,
+        piece: 7,
+        status: Status::WriteFault,
+        output: b"bad lin",
+        ..SOUND
+    },
+    // The report is empty, so nothing is to be written.
+    Fault {
+        input: b"",
+        write: 1,
+        room: 0,
+        output: b"",
+        ..SOUND
+    },
+    SOUND,
 ];
 
 /// The status of a run with this fault, and what was written until then.
 fn expect_fault(
     rt: &(impl Abort + AllocGlobal + Threads + Wait + Sync),
     fault: &Fault,
-    input: &str,
 ) -> Result<(), Fail> {
     let outside = Outside {
         source_piece: 1,
@@ -139,44 +132,50 @@ fn expect_fault(
         sink_fails: &[fault.write],
         room: fault.room,
     };
-    let input = input.as_bytes();
-    let output = fault.output.as_bytes();
-    expect_between(rt, &outside, fault.words, input, fault.status, output)
+    expect_between(
+        rt,
+        &outside,
+        fault.words,
+        fault.input,
+        fault.status,
+        fault.output,
+    )
 }
 
 #[test]
 fn a_read_or_a_write_fails(rt: HostRuntime) -> Result<(), Fail> {
     for fault in &FAULTS {
-        expect_fault(&rt, fault, "put a 1\nsync\nget a\n")?;
+        expect_fault(&rt, fault)?;
     }
     Ok(())
 }
 
+// Each of the 19 bytes is a read, and so is the end.
 #[test]
-fn the_line_of_a_refusal_is_not_written(rt: HostRuntime) -> Result<(), Fail> {
-    let fault = Fault {
-        words: STORE,
-        read: NONE,
-        write: 2,
-        piece: 7,
-        room: 100,
-        status: Status::WriteFault,
-        output: "bad lin",
-    };
-    expect_fault(&rt, &fault, "sync\nsyn\n")
+fn each_read_fails_in_turn(rt: HostRuntime) -> Result<(), Fail> {
+    for read in 1..21 {
+        let fault = Fault {
+            read,
+            status: Status::ReadFault,
+            output: b"read fault\n",
+            ..SOUND
+        };
+        expect_fault(&rt, &fault)?;
+    }
+    expect_fault(&rt, &Fault { read: 21, ..SOUND })
 }
 
-// The report is empty, so nothing is to be written.
+// Each of the 30 bytes is a write. The bytes before the one that fails are taken.
 #[test]
-fn nothing_is_written_that_could_fail(rt: HostRuntime) -> Result<(), Fail> {
-    let fault = Fault {
-        words: STORE,
-        read: NONE,
-        write: 1,
-        piece: 4,
-        room: 0,
-        status: Status::Done,
-        output: "",
-    };
-    expect_fault(&rt, &fault, "")
+fn each_write_fails_in_turn(rt: HostRuntime) -> Result<(), Fail> {
+    for taken in 0..30u32 {
+        let fault = Fault {
+            write: taken + 1,
+            status: Status::WriteFault,
+            output: &REPORT[..taken as usize],
+            ..SOUND
+        };
+        expect_fault(&rt, &fault)?;
+    }
+    expect_fault(&rt, &Fault { write: 31, ..SOUND })
 }

@@ -1,6 +1,6 @@
 //! Inputs that are no trace, and inputs at the limits of a trace.
 
-use crate::runs::expect_output;
+use crate::runs::{Run, expect_output, expect_runs};
 use mica_cmd::Status;
 use std::process::Abort;
 use std::sync::Wait;
@@ -9,143 +9,135 @@ use std::thread::Threads;
 
 const STORE: &str = "replay --mode=store";
 
-/// A refusal: the input and the line that names it.
-struct Refusal {
-    input: &'static str,
-    line: &'static str,
-}
+const BAD: Run = Run {
+    words: STORE,
+    input: "",
+    status: Status::TraceRefused,
+    output: "bad line 1\n",
+};
 
-static REFUSALS: [Refusal; 20] = [
-    Refusal {
+static BAD_LINES: [Run; 20] = [
+    Run {
         input: "get a\n\n",
-        line: "bad line 2\n",
+        output: "bad line 2\n",
+        ..BAD
     },
-    Refusal {
-        input: "\n",
-        line: "bad line 1\n",
-    },
-    Refusal {
+    Run { input: "\n", ..BAD },
+    Run {
         input: "put",
-        line: "bad line 1\n",
+        ..BAD
     },
-    Refusal {
+    Run {
         input: "put a",
-        line: "bad line 1\n",
+        ..BAD
     },
-    Refusal {
+    Run {
         input: "put  1",
-        line: "bad line 1\n",
+        ..BAD
     },
-    Refusal {
+    Run {
         input: "put a \t",
-        line: "bad line 1\n",
+        ..BAD
     },
-    Refusal {
+    Run {
         input: "put a \x7f",
-        line: "bad line 1\n",
+        ..BAD
     },
-    Refusal {
+    Run {
         input: "put a é",
-        line: "bad line 1\n",
+        ..BAD
     },
-    Refusal {
+    Run {
         input: "get",
-        line: "bad line 1\n",
+        ..BAD
     },
-    Refusal {
+    Run {
         input: "get ",
-        line: "bad line 1\n",
+        ..BAD
     },
-    Refusal {
+    Run {
         input: "get a b",
-        line: "bad line 1\n",
+        ..BAD
     },
-    Refusal {
+    Run {
         input: "get a\r\n",
-        line: "bad line 1\n",
+        ..BAD
     },
-    Refusal {
+    Run {
         input: "del ",
-        line: "bad line 1\n",
+        ..BAD
     },
-    Refusal {
+    Run {
         input: "del a ",
-        line: "bad line 1\n",
+        ..BAD
     },
-    Refusal {
+    Run {
         input: "sync ",
-        line: "bad line 1\n",
+        ..BAD
     },
-    Refusal {
+    Run {
         input: "Sync",
-        line: "bad line 1\n",
+        ..BAD
     },
-    Refusal {
+    Run {
         input: " sync",
-        line: "bad line 1\n",
+        ..BAD
     },
-    Refusal {
+    Run {
         input: "sync\nsyn",
-        line: "bad line 2\n",
+        output: "bad line 2\n",
+        ..BAD
     },
-    Refusal {
+    Run {
         input: "put a 1\nsync\ngot a\nget a\nnothing\n",
-        line: "bad line 3\n",
+        output: "bad line 3\n",
+        ..BAD
     },
-    Refusal {
+    Run {
         input: "get a\nget b\nget c\nget d\nget e\nget f\nget g\nget h\nget i\nget\n",
-        line: "bad line 10\n",
+        output: "bad line 10\n",
+        ..BAD
+    },
+];
+
+static LONG_LINES: [Run; 6] = [
+    Run {
+        input: "put a V(1025)\nget\n",
+        ..BAD
+    },
+    Run {
+        input: "put a V(1278)\nget\n",
+        ..BAD
+    },
+    Run {
+        input: "put a V(1279)\nget\n",
+        output: "long line 1\n",
+        ..BAD
+    },
+    Run {
+        input: "get V(256)\nget\n",
+        ..BAD
+    },
+    Run {
+        input: "get V(1281)\nget\n",
+        output: "long line 1\n",
+        ..BAD
+    },
+    Run {
+        input: "V(2000)\nget\n",
+        output: "long line 1\n",
+        ..BAD
     },
 ];
 
 #[test]
 fn bad_lines(rt: HostRuntime) -> Result<(), Fail> {
-    for refusal in &REFUSALS {
-        let input = refusal.input.as_bytes();
-        expect_output(
-            &rt,
-            STORE,
-            input,
-            Status::TraceRefused,
-            refusal.line.as_bytes(),
-        )?;
-    }
-    Ok(())
-}
-
-/// The first line is refused, by its length or by what it says.
-fn expect_refused_line(
-    rt: &(impl Abort + AllocGlobal + Threads + Wait + Sync),
-    start: &str,
-    more: usize,
-    refusal: &str,
-) -> Result<(), Fail> {
-    let alloc = rt.alloc();
-    let text = "x".repeat(alloc, more)?;
-    let input = format!(in alloc; "{start}{text}\nget\n")?;
-    let output = format!(in alloc; "{refusal} 1\n")?;
-    expect_output(
-        rt,
-        STORE,
-        input.as_bytes(),
-        Status::TraceRefused,
-        output.as_bytes(),
-    )
+    expect_runs(&rt, &BAD_LINES)
 }
 
 #[test]
 fn long_lines(rt: HostRuntime) -> Result<(), Fail> {
-    for (start, more, refusal) in [
-        ("put a ", 1025, "bad line"),
-        ("put a ", 1278, "bad line"),
-        ("put a ", 1279, "long line"),
-        ("get ", 256, "bad line"),
-        ("get ", 1281, "long line"),
-        ("", 2000, "long line"),
-    ] {
-        expect_refused_line(&rt, start, more, refusal)?;
-    }
-    Ok(())
+    expect_runs(&rt, &LONG_LINES)
 }
 
 /// So many like lines give this.
@@ -201,4 +193,28 @@ fn expect_bytes(
 fn bytes_at_their_limit(rt: HostRuntime) -> Result<(), Fail> {
     expect_bytes(&rt, 16_777_216, Status::TraceRefused, b"long line 1\n")?;
     expect_bytes(&rt, 16_777_217, Status::TraceLong, b"trace too long\n")
+}
+
+const WHOLE: &[u8; 19] = b"put a 1\nsync\nget a\n";
+
+/// How a run of the trace ends that is cut to this length. A line may lack its feed at the end.
+fn end_of_prefix(len: usize) -> (Status, &'static str) {
+    match len {
+        0 => (Status::Done, ""),
+        1..=5 => (Status::TraceRefused, "bad line 1\n"),
+        6..=8 => (Status::Done, "put 1 stored\n"),
+        9..=11 => (Status::TraceRefused, "bad line 2\n"),
+        12..=13 => (Status::Done, "put 1 stored\nsync\n"),
+        14..=17 => (Status::TraceRefused, "bad line 3\n"),
+        _ => (Status::Done, "put 1 stored\nsync\nget 1 hit 1\n"),
+    }
+}
+
+#[test]
+fn a_trace_is_cut_at_each_byte(rt: HostRuntime) -> Result<(), Fail> {
+    for len in 0..20usize {
+        let (status, output) = end_of_prefix(len);
+        expect_output(&rt, STORE, &WHOLE[..len], status, output.as_bytes())?;
+    }
+    Ok(())
 }

@@ -1,9 +1,10 @@
 //! One datagram through the top call, over a net in memory.
 
-use crate::runs::words_of;
-use mica_cmd::{Status, mica};
-use mica_io::{FreeGate, MemNet, MemSink, MemSource};
-use partition_table::Tables;
+ghost use Rattle.std.specs.Prelude.{◌≡◌};
+
+use crate::runs::{Outside, expect_end, run_over};
+use mica_cmd::Status;
+use mica_io::{FreeGate, MemNet};
 use std::process::Abort;
 use std::sync::Wait;
 use std::test::Fail;
@@ -16,7 +17,7 @@ struct Served {
     recv: u32,
     reply: u32,
     status: Status,
-    output: &'static str,
+    output: &'static [u8],
     is_replied: bool,
 }
 
@@ -38,58 +39,56 @@ static REPLIES: [u8; 43] = [
 // No call of this number is made.
 const NONE: u32 = 1_000_000;
 
-const TOTALS: &str = "batches 1 requests 2 bad 0\n";
+const ANSWERED: Served = Served {
+    bind: NONE,
+    recv: NONE,
+    reply: NONE,
+    status: Status::Done,
+    output: b"batches 1 requests 2 bad 0\n",
+    is_replied: true,
+};
 
-static SERVED: [Served; 6] = [
-    Served {
-        bind: NONE,
-        recv: NONE,
-        reply: NONE,
-        status: Status::Done,
-        output: TOTALS,
-        is_replied: true,
-    },
-    Served {
-        bind: 1,
-        recv: NONE,
-        reply: NONE,
-        status: Status::NetFault,
-        output: "net fault\n",
-        is_replied: false,
-    },
-    Served {
-        bind: NONE,
-        recv: 1,
-        reply: NONE,
-        status: Status::NetFault,
-        output: "net fault\n",
-        is_replied: false,
-    },
-    Served {
-        bind: NONE,
-        recv: NONE,
-        reply: 1,
-        status: Status::NetFault,
-        output: "net fault\n",
-        is_replied: false,
-    },
+const FAILED: Served = Served {
+    status: Status::NetFault,
+    output: b"net fault\n",
+    is_replied: false,
+    ..ANSWERED
+};
+
+static SERVED: [Served; 7] = [
+    ANSWERED,
+    Served { bind: 1, ..FAILED },
+    Served { recv: 1, ..FAILED },
+    Served { reply: 1, ..FAILED },
     Served {
         bind: 2,
-        recv: 2,
-        reply: NONE,
-        status: Status::Done,
-        output: TOTALS,
-        is_replied: true,
+        ..ANSWERED
     },
     Served {
-        bind: NONE,
-        recv: NONE,
+        recv: 2,
+        ..ANSWERED
+    },
+    Served {
         reply: 2,
-        status: Status::Done,
-        output: TOTALS,
-        is_replied: true,
+        ..ANSWERED
     },
 ];
+
+const OUTSIDE: Outside<'static> = Outside {
+    source_piece: 1,
+    source_fails: &[],
+    sink_piece: 7,
+    sink_fails: &[],
+    room: 100,
+};
+
+/// Whether the replies were sent, or nothing was.
+fn has_sent(net: &MemNet, is_replied: bool) -> bool {
+    match net.sent(9_000, 0) {
+        Some(bytes) => is_replied && bytes == REPLIES.as_slice(),
+        None => !is_replied,
+    }
+}
 
 /// The port waits with the batch. Compares the status, all that was written, and the reply.
 fn expect_served(
@@ -97,28 +96,13 @@ fn expect_served(
     served: &Served,
 ) -> Result<(), Fail> {
     let alloc = rt.alloc();
-    let words = words_of(alloc, "serve --mode store --port 9000 --batches 1")?;
-    let mut source = MemSource::new(alloc, &[], 1, &[])?;
-    let mut sink = MemSink::new(alloc, 100, 7, &[])?;
+    let words = "serve --mode store --port 9000 --batches 1";
     let mut net = MemNet::new(alloc, &[served.bind])?;
     net.add_port(alloc, 9_000, 100, &[served.recv], &[served.reply])?;
     net.add_datagram(alloc, 9_000, BATCH.as_slice())?;
-    let status = mica(
-        rt,
-        alloc,
-        words.as_slice(),
-        &mut source,
-        &mut sink,
-        &mut net,
-        &FreeGate,
-        &mut Tables::new(),
-    );
-    assert!(rt; status == served.status);
-    assert!(rt; sink.taken() == served.output.as_bytes());
-    match net.sent(9_000, 0) {
-        Some(bytes) => assert!(rt; served.is_replied && bytes == REPLIES.as_slice()),
-        None => assert!(rt; !served.is_replied),
-    }
+    let end = run_over(rt, &OUTSIDE, &FreeGate, &mut net, words, b"")?;
+    expect_end(rt, words, &end, served.status, served.output);
+    assert!(rt; has_sent(&net, served.is_replied));
     Ok(())
 }
 

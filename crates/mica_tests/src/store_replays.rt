@@ -1,6 +1,6 @@
 //! Replays of traces in store mode.
 
-use crate::runs::{Run, expect_output, expect_runs};
+use crate::runs::{Run, expect_runs};
 use mica_cmd::Status;
 use std::test::Fail;
 
@@ -368,6 +368,52 @@ get 2 hit 8
 ",
 }];
 
+const SMALL: &str =
+    "replay --mode store --partitions 1 --buckets 1 --spares 4 --words 256 --readers 1 --tries 1000";
+
+// Of 256 words, items of 131 words each; and four of 64 words each. Of these, two that do not touch are deleted: 128 words are free,
+// and no block has more than 64.
+static FULL: [Run; 2] = [
+    Run {
+        words: SMALL,
+        input: "\
+put a V(1024)
+put b V(1024)
+sync
+get b
+",
+        status: Status::Done,
+        output: "\
+put 1 stored
+put 1 full block
+sync
+get 1 miss
+",
+    },
+    Run {
+        words: SMALL,
+        input: "\
+put a V(488)
+put b V(488)
+put c V(488)
+put d V(488)
+del a
+del c
+put e V(700)
+",
+        status: Status::Done,
+        output: "\
+put 1 stored
+put 2 stored
+put 3 stored
+put 4 stored
+del 5 deleted
+del 6 deleted
+put 6 full block
+",
+    },
+];
+
 #[test]
 fn a_put_is_found(rt: HostRuntime) -> Result<(), Fail> {
     expect_runs(&rt, &RETURNS)
@@ -403,28 +449,7 @@ fn partitions_have_their_own_stamps(rt: HostRuntime) -> Result<(), Fail> {
     expect_runs(&rt, &FOUR_PARTITIONS)
 }
 
-// Items of 131 words each, where there are 256.
 #[test]
 fn a_full_heap_refuses_a_put(rt: HostRuntime) -> Result<(), Fail> {
-    let value = "x".repeat(rt.alloc(), 1024)?;
-    let input = format!(in rt.alloc(); "put a {value}\nput b {value}\nsync\nget b\n")?;
-    let words =
-        "replay --mode store --partitions 1 --buckets 1 --spares 4 --words 256 --readers 1 --tries 1000";
-    let output = b"put 1 stored\nput 1 full block\nsync\nget 1 miss\n";
-    expect_output(&rt, words, input.as_bytes(), Status::Done, output)
-}
-
-// Items of 64 words each, where there are 256. Two that do not touch are deleted: 128 words are free, and no block has more than 64.
-#[test]
-fn fragments_refuse_a_put(rt: HostRuntime) -> Result<(), Fail> {
-    let small = "x".repeat(rt.alloc(), 488)?;
-    let large = "y".repeat(rt.alloc(), 700)?;
-    let input = format!(in rt.alloc();
-        "put a {small}\nput b {small}\nput c {small}\nput d {small}\ndel a\ndel c\nput e {large}\n"
-    )?;
-    let words =
-        "replay --mode store --partitions 1 --buckets 1 --spares 4 --words 256 --readers 1 --tries 1000";
-    let output =
-        b"put 1 stored\nput 2 stored\nput 3 stored\nput 4 stored\ndel 5 deleted\ndel 6 deleted\nput 6 full block\n";
-    expect_output(&rt, words, input.as_bytes(), Status::Done, output)
+    expect_runs(&rt, &FULL)
 }

@@ -1,0 +1,95 @@
+//! The plain machine of either mode.
+
+ghost use Rattle.mica_words.specs.Item.{KeyFits};
+ghost use Rattle.mica_model.specs.Options.{IsValid};
+ghost use Rattle.mica_model.specs.Write.{HasValueOf};
+
+use mica_io::NoMemory;
+use mica_model::{Answer, CacheMachine, Fate, ItemBuf, Mode, Op, Options, Outcome, StoreMachine};
+use std::alloc::Global;
+
+/// The machine of a mode.
+#[derive(Drop)]
+pub(crate) enum Machine {
+    Cache(CacheMachine),
+    Store(StoreMachine),
+}
+
+impl Machine {
+    /// An empty partition.
+    pub(crate) fn new(alloc: Global, options: &Options) -> Result<Self, NoMemory>
+        requires { IsValid options.now }
+    {
+        match options.mode {
+            Mode::Cache => Ok(Machine::Cache(CacheMachine::new(alloc, options)?)),
+            Mode::Store => Ok(Machine::Store(StoreMachine::new(alloc, options)?)),
+        }
+    }
+
+    /// Whether it may reply this to the write.
+    pub(crate) fn allows(&self, op: Op, key: &[u8], value: &[u8], outcome: Outcome) -> bool
+        requires key { KeyFits key.now }
+        requires value { HasValueOf op value.now }
+    {
+        match self {
+            Machine::Cache(machine) => machine.allows(op, key, value, outcome),
+            Machine::Store(machine) => machine.allows(op, key, value, outcome),
+        }
+    }
+
+    /// One step.
+    pub(crate) fn apply(
+        &mut self,
+        alloc: Global,
+        op: Op,
+        key: &[u8],
+        value: &[u8],
+    ) -> Result<Outcome, NoMemory>
+        requires key { KeyFits key.now }
+        requires value { HasValueOf op value.now }
+    {
+        match self {
+            Machine::Cache(machine) => machine.apply(alloc, op, key, value),
+            Machine::Store(machine) => machine.apply(alloc, op, key, value),
+        }
+    }
+
+    pub(crate) fn stamp(&self) -> u64 {
+        match self {
+            Machine::Cache(machine) => machine.stamp(),
+            Machine::Store(machine) => machine.stamp(),
+        }
+    }
+
+    /// The number of accepted writes.
+    pub(crate) fn accepted(&self) -> u64 {
+        match self {
+            Machine::Cache(machine) => machine.accepted(),
+            Machine::Store(machine) => machine.accepted(),
+        }
+    }
+
+    /// Whether the stamp of store mode is the number of accepted writes.
+    pub(crate) fn is_counted(&self) -> bool {
+        match self {
+            Machine::Cache(_) => true,
+            Machine::Store(_) => self.accepted() == self.stamp(),
+        }
+    }
+
+    /// The value of the key, which the buffer then has, or a miss.
+    pub(crate) fn answer(&self, key: &[u8], out: &mut ItemBuf) -> Answer {
+        match self {
+            Machine::Cache(machine) => machine.answer(key, out),
+            Machine::Store(machine) => machine.answer(key, out),
+        }
+    }
+
+    /// What became of the key, where the machine tells it.
+    pub(crate) fn fate(&self, key: &[u8]) -> Option<Fate> {
+        match self {
+            Machine::Cache(machine) => Some(machine.fate(key)),
+            Machine::Store(_) => None,
+        }
+    }
+}

@@ -1,5 +1,0 @@
-use Rattle.mica_tests.proofs.Held.{used_after_take}
-use Rattle.mica_tests.proofs.drawn_heap.take_both.Goals as goal
-
-pub returns-then-place-len : goal.returns-then-place-len
-returns-then-place-len c = λ other is. used_after_take c.args.heap.now c.take.new.self c.in-Some.place c.args.need other c.in-Some.ensures.taken (c.requires.held other is)
