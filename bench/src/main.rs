@@ -1,8 +1,10 @@
 //! Plain Rust of the same rules as `mica`, to measure beside it: `replay` answers each line at its place on one
 //! thread, `rounds` and `queues` run owners and readers in threads over tables of atomic words,
-//! `gen` prints a trace, `serve` answers datagrams and `load` sends them.
+//! `gen` prints a trace, `serve` answers datagrams on one thread, `fronts` at many ports with owners in threads, and
+//! `load` sends them.
 
 mod cache;
+mod fronts;
 mod generate;
 mod hash;
 mod machine;
@@ -145,13 +147,14 @@ fn report(command: &str, options: &Options) -> Result<Vec<u8>, Box<dyn Error>> {
 }
 
 fn run(words: &[String]) -> Result<(), Box<dyn Error>> {
-    const COMMANDS: &str = "replay, rounds, queues, gen, serve or load";
+    const COMMANDS: &str = "replay, rounds, queues, gen, serve, fronts or load";
     let (command, rest) = words.split_first().ok_or(COMMANDS)?;
     let words = read_options(rest)?;
     let out = match command.as_str() {
         "gen" => generate::trace_of(&words)?,
         "load" => server::load(&words)?,
         "replay" | "rounds" | "queues" => report(command, &options_of(&words)?)?,
+        "fronts" => fronts::serve(&words, &options_of(&words)?)?,
         "serve" => {
             let options = options_of(&words)?;
             match options.mode {

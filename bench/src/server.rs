@@ -8,6 +8,7 @@ use crate::packets::{MOST, Replies, Request, batch_of, read_batch, status_of};
 use std::collections::HashMap;
 use std::error::Error;
 use std::net::UdpSocket;
+use std::thread;
 use std::time::{Duration, Instant};
 
 type Words<'a> = HashMap<&'a str, &'a str>;
@@ -59,15 +60,19 @@ fn request_of(draws: &mut Pcg, gets: u64, keys: u64, value_len: usize) -> (u8, V
     if kind < gets { (0, key, Vec::new()) } else { (1, key, vec![b'v'; value_len]) }
 }
 
-/// Sends so many batches to a port, with a few on their way at a time, and says how many requests were answered in a second.
+/// The most batches that are made before the first is sent. Then they come again.
+const MADE: u64 = 20_000;
+
+/// Sends so many batches to a port, with a few on their way at a time and no more than `--rate` in a second where it is
+/// given, and says how many requests were answered in a second.
 pub fn load(words: &Words<'_>) -> Result<Vec<u8>, Box<dyn Error>> {
     let port = number_of(words, "port", 9_000)? as u16;
     let (batches, size) = (number_of(words, "batches", 10_000)?, number_of(words, "size", 32)?);
     let (gets, keys) = (number_of(words, "gets", 95)?, number_of(words, "keys", 1_000)?);
     let value_len = number_of(words, "value-len", 8)? as usize;
-    let window = number_of(words, "window", 8)?;
+    let (window, rate) = (number_of(words, "window", 8)?, number_of(words, "rate", 0)?);
     let mut draws = Pcg::new(number_of(words, "seed", 1)?);
-    let datagrams: Vec<Vec<u8>> = (0..batches)
+    let datagrams: Vec<Vec<u8>> = (0..batches.min(MADE))
         .map(|number| {
             let requests: Vec<_> = (0..size).map(|_| request_of(&mut draws, gets, keys, value_len)).collect();
             batch_of(number as u32, &requests)
@@ -79,8 +84,11 @@ pub fn load(words: &Words<'_>) -> Result<Vec<u8>, Box<dyn Error>> {
     let mut room = [0; MOST];
     let begin = Instant::now();
     let mut answered = 0;
-    for (sent, datagram) in datagrams.iter().enumerate() {
-        while sent as u64 * size - answered >= window * size {
+    for (sent, datagram) in (0..batches).zip(datagrams.iter().cycle()) {
+        if let Some(due) = (1_000_000 * sent).checked_div(rate) {
+            thread::sleep(Duration::from_micros(due).saturating_sub(begin.elapsed()));
+        }
+        while sent * size - answered >= window * size {
             answered += read_count(&socket, &mut room)?;
         }
         socket.send(datagram)?;

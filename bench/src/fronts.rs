@@ -1,0 +1,113 @@
+//! A server of many ports: each front and each partition's owner is a thread of its own, with queues between them.
+
+use crate::hash::{key_hash, partition_of};
+use crate::machine::{Options, Outcome};
+use crate::number_of;
+use crate::packets::{MOST, Replies, Request, read_batch, status_of};
+use crate::table::{Owner, Table};
+use std::collections::HashMap;
+use std::error::Error;
+use std::io;
+use std::net::UdpSocket;
+use std::sync::mpsc::{Receiver, SyncSender, sync_channel};
+use std::thread;
+
+/// How many messages may wait in a queue.
+const WAITING: usize = 64;
+
+struct Job {
+    front: usize,
+    hash: u64,
+    key: Vec<u8>,
+    /// Nothing where the key is deleted.
+    value: Option<Vec<u8>>,
+}
+
+type Ack = (Outcome, u64);
+
+/// What a front has of each partition.
+struct Part<'a> {
+    table: &'a Table,
+    jobs: SyncSender<Job>,
+    acks: Receiver<Ack>,
+}
+
+fn run_owner(mut owner: Owner<'_>, jobs: &Receiver<Job>, acks: &[SyncSender<Ack>]) {
+    for Job { front, hash, key, value } in jobs {
+        let outcome = match value {
+            Some(value) => owner.put(hash, &key, &value),
+            None => owner.del(hash, &key),
+        };
+        acks[front].send((outcome, owner.stamp())).expect("a front");
+    }
+}
+
+fn replies_to(front: usize, parts: &[Part<'_>], datagram: &[u8], value: &mut Vec<u8>) -> Replies {
+    let mut replies = Replies::default();
+    let Some((number, requests)) = read_batch(datagram) else {
+        replies.push(0, 9, 0, 0, b"");
+        return replies;
+    };
+    for (ticket, request) in requests {
+        let (Request::Get { key } | Request::Put { key, .. } | Request::Del { key }) = request;
+        let hash = key_hash(key);
+        let part = &parts[partition_of(hash, parts.len())];
+        let written = match request {
+            Request::Get { .. } => {
+                value.clear();
+                let (stamp, is_hit) = part.table.get(hash, key, value);
+                replies.push(number, u8::from(!is_hit), ticket, stamp, if is_hit { value } else { b"" });
+                continue;
+            }
+            Request::Put { value, .. } => Some(value.to_vec()),
+            Request::Del { .. } => None,
+        };
+        part.jobs.send(Job { front, hash, key: key.to_vec(), value: written }).expect("an owner");
+        let (outcome, stamp) = part.acks.recv().expect("an owner");
+        replies.push(number, status_of(outcome), ticket, stamp, b"");
+    }
+    replies
+}
+
+fn run_front(front: usize, parts: &[Part<'_>], socket: &UdpSocket, batches: u64) -> io::Result<()> {
+    let mut room = [0; MOST + 1];
+    let mut value = Vec::with_capacity(1_024);
+    for _ in 0..batches {
+        let (len, peer) = socket.recv_from(&mut room)?;
+        for reply in replies_to(front, parts, &room[..len], &mut value).datagrams {
+            socket.send_to(&reply, peer)?;
+        }
+    }
+    Ok(())
+}
+
+/// Answers so many datagrams at each of some ports.
+pub fn serve(words: &HashMap<&str, &str>, options: &Options) -> Result<Vec<u8>, Box<dyn Error>> {
+    let port = number_of(words, "port", 9_000)? as u16;
+    let (batches, fronts) = (number_of(words, "batches", 1)?, number_of(words, "fronts", 2)? as usize);
+    let sockets: Vec<UdpSocket> =
+        (0..fronts).map(|front| UdpSocket::bind(("127.0.0.1", port + front as u16))).collect::<io::Result<_>>()?;
+    let tables: Vec<Table> = (0..options.partitions).map(|_| Table::new(options)).collect();
+    let mut hands: Vec<Vec<Part<'_>>> = sockets.iter().map(|_| Vec::new()).collect();
+    let served: io::Result<Vec<()>> = thread::scope(|scope| {
+        for table in &tables {
+            let (jobs, queue) = sync_channel(WAITING);
+            let mut answers = Vec::new();
+            for hand in &mut hands {
+                let (answer, acks) = sync_channel(WAITING);
+                answers.push(answer);
+                hand.push(Part { table, jobs: jobs.clone(), acks });
+            }
+            scope.spawn(move || run_owner(Owner::new(table, options), &queue, &answers));
+        }
+        let fronts: Vec<_> = hands
+            .into_iter()
+            .zip(&sockets)
+            .enumerate()
+            .map(|(front, (parts, socket))| scope.spawn(move || run_front(front, &parts, socket, batches)))
+            .collect();
+        fronts.into_iter().map(|front| front.join().expect("a front")).collect()
+    });
+    served?;
+    Ok(format!("batches {}\n", batches * fronts as u64).into_bytes())
+}
