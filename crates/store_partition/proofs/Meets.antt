@@ -1,18 +1,13 @@
 -- What an owner has met changes nothing of how the index and the heap go with its words.
-use Rattle.std.proofs.Common.{◌≡◌, ℕ, zero, suc, ◌<◌, ◌==◌, if◌then◌else◌, List, [], ◌∷◌, length, Contains, slice_index, refl, sym, ap, ◌∙◌, subst}
-use Rattle.std.specs.Prelude.{flat_map}
-use Rattle.mica_words.specs.Entry.{entry_offset}
-use Rattle.epoch_core.specs.declared.state.OwnerState.{OwnerState}
-use Rattle.epoch_core.specs.declared.state.Met.{Met}
-use Rattle.epoch_core.specs.OwnerState.{link_in}
-use Rattle.epoch_core.specs.Chain.{IsFreeSpare}
-use Rattle.epoch_core.specs.StandsFor.{room_in}
-use Rattle.epoch_core.proofs.Meeting.{chain_on, chain_back, dense_on}
-use Rattle.block_heap.specs.declared.block.Block.{Block}
-use Rattle.block_heap.specs.Blocks.{used_block, used_blocks}
-use Rattle.chained_index.specs.ChainEntries.{buckets_from, buckets_of, entries_in, entries_of}
-use Rattle.chained_index.specs.Index.{Index, IsIndexOf}
-use Rattle.store_partition.specs.Parts.{AreParts}
+use Rattle.chained_index.specs.ChainEntries.{buckets_from}
+use Rattle.chained_index.specs.ChainEntries.{buckets_of}
+use Rattle.chained_index.specs.ChainEntries.{entries_in}
+use Rattle.chained_index.specs.ChainEntries.{entries_of}
+use Rattle.store_partition.proofs.Words.{AreParts, Block, Contains, Index, IsFreeSpare, IsIndexOf, List, Met, OwnerState, [], ap, chain_back}
+use Rattle.store_partition.proofs.Words.{chain_on, dense_on, entry_offset, flat_map, if◌then◌else◌, length, link_in, refl, room_in, slice_index}
+use Rattle.store_partition.proofs.Words.{subst, suc, sym, used_block, used_blocks, zero, ℕ, ◌<◌, ◌==◌, ◌∙◌, ◌∷◌, ◌≡◌}
+use Rattle.store_partition.proofs.Held.{once, used}
+use Rattle.store_partition.proofs.Deletes.{known}
 
 module _ (o : OwnerState) (met : Met) (closed : ℕ) where
   abbrev p : OwnerState
