@@ -3,17 +3,18 @@
 use Rattle.mica_model.specs.StoreStep as ss
 use Rattle.store_partition.proofs.Words.{AreParts, Block, Cell, Cells, Contains, Contains-append_cases, Contains-append_left, Contains-append_right}
 use Rattle.store_partition.proofs.Words.{Contains-get_or, Contains-permutation, Ends, Has, Index, IsBlockList, IsDistinct, IsGiven, IsIndexOf, IsMain}
-use Rattle.store_partition.proofs.Words.{IsPermutation, IsPermutation-sym, Kept, List, ListStands, OwnerState, Some, Spells, StandsFor, State}
+use Rattle.store_partition.proofs.Words.{IsPermutation, IsPermutation-sym, Kept, List, ListStands, Option, OwnerState, Some, Spells, StandsFor, State}
 use Rattle.store_partition.proofs.Words.{add-zero, after, after_event, ap, arith, at, bucket_in, bytes_eq, bytes_eq-Decides, cases_Bool, cells_of}
-use Rattle.store_partition.proofs.Words.{chained, dite, entries_of, entry_offset, eqb, get, get_or_default, header_room, index_ends, inl, inr}
-use Rattle.store_partition.proofs.Words.{item_in, keys_in, len, length, length-append, length_permutation, listed, options_in, others_same, refl}
-use Rattle.store_partition.proofs.Words.{room_in, rooms, same_Some, stands_by, state_in, state_snoc, store_state, subst, subst₂, sym, true≢false}
-use Rattle.store_partition.proofs.Words.{used_block, used_blocks, used_blocks-given, words_of, ℕ, ℕ_discrete, ◌++◌, ◌+◌, ◌<◌, ◌∙◌, ◌≡◌, ◌≢◌, ◌≤◌, ◌⊎◌}
+use Rattle.store_partition.proofs.Words.{chained, cond, dite, entries_of, entry_offset, eqb, get, get_or_default, header_room, index_ends, inl, inr}
+use Rattle.store_partition.proofs.Words.{insert, is_some, item_in, keys_in, keys_over, len, len-insert, length, length-append, length_permutation}
+use Rattle.store_partition.proofs.Words.{listed, nat_list_cmp_total, options_in, others_same, refl, room_in, room_of, rooms, rooms_insert, same_Some}
+use Rattle.store_partition.proofs.Words.{stands_by, state_in, state_snoc, store_state, subst, subst₂, sym, true≢false, used_block, used_blocks}
+use Rattle.store_partition.proofs.Words.{used_blocks-given, words_of, ℕ, ℕ_discrete, ◌++◌, ◌+◌, ◌<◌, ◌∙◌, ◌≡◌, ◌≢◌, ◌≤◌, ◌⊎◌}
 use Rattle.store_partition.proofs.Once.{in_one, once_at, once_front, once_moved, once_rest}
 use Rattle.store_partition.proofs.Blocks.{list_on, other_used}
-use Rattle.store_partition.proofs.Held.{HasBlock, Held, IsOther, Split, as_keys, before, each, elsewhere, has_cell, m, main_of, once, one_entry}
-use Rattle.store_partition.proofs.Held.{only_key, other_bucket, own, rooms_apart, some_room, spelt, split, stood, used}
-use Rattle.store_partition.proofs.Events.{Accepted, entries_ends, room_ends, written}
+use Rattle.store_partition.proofs.Held.{HasBlock, Held, IsOther, Split, as_cells, as_keys, as_rooms, before, each, elsewhere, has_cell, m, main, once}
+use Rattle.store_partition.proofs.Held.{one_entry, only_key, other_bucket, own, rooms_apart, some_room, spelt, stood}
+use Rattle.store_partition.proofs.Events.{Accepted, Closes, closes, entries_ends, room_ends, written}
 
 same_or_not : (key key' : List ℕ) → (key ≡ key') ⊎ (key ≢ key')
 same_or_not key key' = elim (cases_Bool (bytes_eq key key')) [
@@ -86,6 +87,23 @@ module _ (h : Held) (a : Accepted h) (words : List ℕ) where
     pub count : length (used_blocks blocks) ≡ len later
     pub total : words_of (used_blocks blocks) ≡ rooms later
 
+  -- where a key that had a cell has another
+  pub counts_over : (own news : List ℕ) (blocks : List Block) (old cell : Cell) → length own ≡ length news → get (m h).cells a.w.key ≡ Some old
+      → cells ≡ insert (m h).cells a.w.key cell → length (used_blocks blocks) ≡ length (used_blocks h.blocks)
+      → words_of (used_blocks blocks) + old.room ≡ words_of (used_blocks h.blocks) + cell.room → Counts own news blocks (insert (m h).cells a.w.key cell)
+  counts_over own news blocks old cell long has is count total =
+      let keys = keys_over h.o.shape.buckets b (m h).cells a.w.key old cell has in
+      let room = rooms_insert (m h).cells a.w.key cell in
+      let had = ap room_of has in
+      let all = as_rooms h in record {
+        is = is;
+        here = omega arith;
+        there = λ c other. keys_over h.o.shape.buckets c (m h).cells a.w.key old cell has;
+        count = count ∙ (as_cells h ∙ sym (len-insert nat_list_cmp_total (m h).cells a.w.key cell
+            ∙ ap (λ (z : Option Cell). cond (is_some z) (len (m h).cells) (len (m h).cells + 1)) has));
+        total = omega arith;
+      }
+
   -- a block that no entry has may be given back
   pub given_back : (news : List ℕ) (blocks bs : List Block) (place : ℕ) → Houses news blocks → IsGiven blocks bs place → IsBlockList (words_of blocks) bs
       → ((c x : ℕ) → IsMain h.o.shape c → Contains (entries_of h.o c) x → IsOther h a.w.key c x → place ≢ entry_offset x)
@@ -103,11 +121,8 @@ module _ (h : Held) (a : Accepted h) (words : List ℕ) where
     abbrev zs : List ℕ
     zs = entries_of p b
 
-    main : IsMain h.o.shape b
-    main = main_of h.o h.kept a.w.key
-
     list : ListStands h.o b
-    list = stood h b main
+    list = stood h b (main h a.w.key)
 
     comes : (x : ℕ) → Contains zs x → Contains news x ⊎ Contains rest x
     comes x has = Contains-append_cases news rest x (Contains-permutation zs (news ++ rest) x z.lists has)
@@ -124,7 +139,7 @@ module _ (h : Held) (a : Accepted h) (words : List ℕ) where
         let some = spelt h.o b list x (stayed x has) in
         let other = z.split.others x has in
         let differs = other some.0 some.1 some.2 in
-        (some.0, some.1, some.2, differs, spells_on b x (z.keeps b x main (stayed x has) other) some.0 some.1 differs some.2)
+        (some.0, some.1, some.2, differs, spells_on b x (z.keeps b x (main h a.w.key) (stayed x has) other) some.0 some.1 differs some.2)
 
     old_key : (x : ℕ) (has : Contains rest x) (key : List ℕ) (cell : Cell) → Spells p b x key cell → (old x has).0 ≡ key
     old_key x has key cell sp = let was = old x has in only_key p z.kept b b x x was.0 key was.1 cell was.4 sp refl
@@ -149,7 +164,7 @@ module _ (h : Held) (a : Accepted h) (words : List ℕ) where
           | inl own ↦ absurd (z.split.its found.0 own its)
           | inr stays ↦ stays
         ] in
-        (found.0, goes found.0 (Contains-append_right news rest found.0 stays), spells_on b found.0 (z.keeps b found.0 main found.1 its) key cell other found.2)
+        (found.0, goes found.0 (Contains-append_right news rest found.0 stays), spells_on b found.0 (z.keeps b found.0 (main h a.w.key) found.1 its) key cell other found.2)
 
     differ : (x y : ℕ) (new : Contains news x) (has : Contains rest y) (key : List ℕ) (cell cell' : Cell) → Spells p b x key cell → Spells p b y key cell' → ⊥
     differ x y new has key cell cell' sp sp' =
@@ -182,7 +197,7 @@ module _ (h : Held) (a : Accepted h) (words : List ℕ) where
 
       block_at : (x : ℕ) → Contains news x ⊎ Contains rest x → HasBlock p blocks x
       block_at x (inl new) = y.new x new
-      block_at x (inr has) = stays b x main (stayed x has) (z.split.others x has)
+      block_at x (inr has) = stays b x (main h a.w.key) (stayed x has) (z.split.others x has)
 
       block_there : (c x : ℕ) → IsMain h.o.shape c → c ≢ b → Contains (entries_of p c) x → HasBlock p blocks x
       block_there c x l n has = stays c x l (subst (λ (xs : List ℕ). Contains xs x) (z.others c l n) has) (other_bucket h a.w.key c x n)
@@ -195,8 +210,8 @@ module _ (h : Held) (a : Accepted h) (words : List ℕ) where
       from : (i : ℕ) → i < length zs → Contains news (at zs i) ⊎ Contains rest (at zs i)
       from i l = comes (at zs i) (Contains-get_or zs i 0 l)
 
-      pub stands : StandsFor p b
-      stands = stands_by p (chained p z.kept) h.parts.mode index z.known b main record {
+      stands : StandsFor p b
+      stands = stands_by p (chained p z.kept) h.parts.mode index z.known b (main h a.w.key) record {
         nothing_else = λ i l. spelt_at (at zs i) (from i l);
         each = λ key cell q is has.
             let found = each_at key cell q is has (same_or_not key a.w.key) in
@@ -218,17 +233,17 @@ module _ (h : Held) (a : Accepted h) (words : List ℕ) where
       }
 
       -- the index and the blocks are the partition's, once the write has ended
-      pub parts_end : (later : Cells) → Counts own news blocks later → AreParts index blocks (after_event (Ends b) p)
+      parts_end : (later : Cells) → Counts own news blocks later → AreParts index blocks (after_event (Ends b) p)
       parts_end later n = record {
         mode = h.parts.mode;
         idle = refl;
-        known = index_ends p (chained p z.kept) index z.known b main;
-        entries = λ c l. ap length (entries_ends p z.kept b main c l) ∙ (keys c l ∙ ap (keys_in h.o.shape.buckets c) (sym (ap cells_of now ∙ n.is)));
+        known = index_ends p (chained p z.kept) index z.known b (main h a.w.key);
+        entries = λ c l. ap length (entries_ends p z.kept b (main h a.w.key) c l) ∙ (keys c l ∙ ap (keys_in h.o.shape.buckets c) (sym (ap cells_of now ∙ n.is)));
         list = y.list;
         used = λ c l i less.
             let x = at (entries_of (after_event (Ends b) p) c) i in
-            let has = subst (λ (xs : List ℕ). Contains xs x) (entries_ends p z.kept b main c l) (Contains-get_or (entries_of (after_event (Ends b) p) c) i 0 less) in
-            subst (λ (k : ℕ). Contains (used_blocks blocks) (used_block (entry_offset x) k)) (sym (room_ends p z.kept b main x)) (block_in c x l has);
+            let has = subst (λ (xs : List ℕ). Contains xs x) (entries_ends p z.kept b (main h a.w.key) c l) (Contains-get_or (entries_of (after_event (Ends b) p) c) i 0 less) in
+            subst (λ (k : ℕ). Contains (used_blocks blocks) (used_block (entry_offset x) k)) (sym (room_ends p z.kept b (main h a.w.key) x)) (block_in c x l has);
         count = n.count ∙ ap len (sym (ap cells_of now ∙ n.is));
         words = n.total ∙ ap rooms (sym (ap cells_of now ∙ n.is));
       }
@@ -236,9 +251,20 @@ module _ (h : Held) (a : Accepted h) (words : List ℕ) where
           keys : (c : ℕ) → IsMain h.o.shape c → length (entries_of p c) ≡ keys_in h.o.shape.buckets c later
           keys c l = dite (ℕ_discrete c b)
               (λ same. subst (λ (d : ℕ). length (entries_of p d) ≡ keys_in h.o.shape.buckets d later) (sym same)
-              (let had = as_keys h b main in
+              (let had = as_keys h b (main h a.w.key) in
               let more = n.here in
               let was = length_permutation _ _ z.split.lists in
               let are = length_permutation _ _ z.lists in
               omega (arith, length-append own rest, length-append news rest)))
               (λ other. ap length (z.others c l other) ∙ (as_keys h c l ∙ sym (n.there c other)))
+
+    -- so the write may end, whatever the heap gives back after it
+    module _ (blocks : List Block) (y : Houses news blocks) where
+      pub finished : (Becomes : List Block → Type 0) (later : Cells) → ((bs : List Block) → Becomes bs → Houses news bs × Counts own news bs later)
+          → (o4 : OwnerState) → o4 ≡ p → Closes h.o a.w a.outcome b a.t index Becomes o4
+      finished Becomes later heap = closes h a words index Becomes (stands blocks y) (λ bs becomes. parts_end bs (heap bs becomes).0 later (heap bs becomes).1)
+
+    pub finished_same : (blocks : List Block) → Houses news blocks → (later : Cells) → Counts own news blocks later → (o4 : OwnerState) → o4 ≡ p
+        → Closes h.o a.w a.outcome b a.t index (λ bs. bs ≡ blocks) o4
+    finished_same blocks y later n = finished blocks y (λ bs. bs ≡ blocks) later
+        (λ bs same. (subst (Houses news) (sym same) y, subst (λ (z : List Block). Counts own news z later) (sym same) n))

@@ -3,19 +3,19 @@ use Rattle.mica_model.specs.StoreStep as ss
 use Rattle.store_partition.proofs.Words.{AreParts, Begins, Block, Chained, ChangesChain, Ends, Index, IsAmong, IsBucket, IsIndexOf, IsMain}
 use Rattle.store_partition.proofs.Words.{IsOwnerStep, IsUsed, IsWrite, Kept, List, Marked, Marks, MayBegin, MayEnd, MayGive, MayMark, Outcome}
 use Rattle.store_partition.proofs.Words.{OwnerState, Phase, Put, Spot, StandsFor, State, Stored, Write, [], after, after_event, all_more, ap, arith}
-use Rattle.store_partition.proofs.Words.{at, bit_same, bucket_in, chain_inside, chained, cond, empty, entries_begins, entries_marks, entries_of}
+use Rattle.store_partition.proofs.Words.{at, bit_same, bucket_in, chain_inside, chained, cond, entries_begins, entries_marks, entries_of}
 use Rattle.store_partition.proofs.Words.{entries_stay, entry_at, entry_begins, entry_in, entry_marks, entry_offset, header_room, history_after}
 use Rattle.store_partition.proofs.Words.{index_begins, index_marks, inl, inr, is_accepted, item_at, item_begins, item_in, item_marks, item_no_epoch}
 use Rattle.store_partition.proofs.Words.{kept_after, length, length-set, length_push, link_at, link_begins, link_in, link_marks, marked_in}
 use Rattle.store_partition.proofs.Words.{marked_in_bucket, no_epoch, number_entry, number_of, number_within, options_in, other_word, phase_after}
 use Rattle.store_partition.proofs.Words.{refl, room_in, spot_entry, stamp_in, stamp_is_length, stamp_of, state_snoc, subst, subst₂, suc, sym, true}
 use Rattle.store_partition.proofs.Words.{words_after, write_of, zero, ℕ, ◌++◌, ◌+◌, ◌<◌, ◌∙◌, ◌∷◌, ◌≡◌}
-use Rattle.store_partition.proofs.Held.{Held, before, m, main_of, not_worn, used}
+use Rattle.store_partition.proofs.Held.{Held, before, m, main}
 
 -- what a write has made of the partition once it has ended
-pub record Ended (o new : OwnerState) (index : Index) (blocks : List Block) (w : Write) (outcome : Outcome) : Type 0 where
-  pub count : length new.history ≡ length o.history + 1
-  pub stamp : length o.history + 1 ≡ stamp_of (options_in new) new.history
+pub record Ended (o new : OwnerState) (index : Index) (blocks : List Block) (w : Write) (outcome : Outcome) (t : ℕ) : Type 0 where
+  pub count : t ≡ length new.history
+  pub stamp : t ≡ stamp_of (options_in new) new.history
   pub step : IsOwnerStep o new w outcome
   pub parts : AreParts index blocks new
 
@@ -36,9 +36,9 @@ pub record Opens (o : OwnerState) (w : Write) (b t : ℕ) : Type 0 where
   pub mark : (o' : OwnerState) → o' ≡ o → MayMark (after_event (Begins b) o') w t
 
 -- so may its last, and what it leaves, whichever heap that is
-pub record Closes (o : OwnerState) (w : Write) (outcome : Outcome) (b : ℕ) (index : Index) (Becomes : List Block → Type 0) (o4 : OwnerState) : Type 0 where
+pub record Closes (o : OwnerState) (w : Write) (outcome : Outcome) (b t : ℕ) (index : Index) (Becomes : List Block → Type 0) (o4 : OwnerState) : Type 0 where
   pub end : MayEnd o4 b
-  pub ended : (o5 : OwnerState) (blocks : List Block) → o5 ≡ after_event (Ends b) o4 → Becomes blocks → Ended o o5 index blocks w outcome
+  pub ended : (o5 : OwnerState) (blocks : List Block) → o5 ≡ after_event (Ends b) o4 → Becomes blocks → Ended o o5 index blocks w outcome t
 
 -- the bucket's link and entries are the same
 abbrev pub SameWords : OwnerState → OwnerState → ℕ → Type 0
@@ -72,11 +72,8 @@ module _ (h : Held) (a : Accepted h) where
   abbrev b : ℕ
   b = bucket_in h.o a.w.key
 
-  main : IsMain h.o.shape b
-  main = main_of h.o h.kept a.w.key
-
   may_begin : MayBegin h.o b
-  may_begin = record { idle = h.parts.idle; main = main; not_worn = a.unworn }
+  may_begin = record { idle = h.parts.idle; main = (main h a.w.key); not_worn = a.unworn }
 
   stamp_after : length h.o.history + 1 ≡ stamp_of (options_in h.o) (h.o.history ++ a.w ∷ [])
   stamp_after =
@@ -111,48 +108,53 @@ module _ (h : Held) (a : Accepted h) where
   marked_long = length-set (after_event (Begins b) h.o).words _ _ ∙ length-set h.o.words _ _
 
   pub marked_item : (q : ℕ) → item_in marked q ≡ item_in h.o q
-  marked_item q = item_marks (after_event (Begins b) h.o) begun.wide a.w a.t q ∙ item_begins h.o h.kept.wide b q main
+  marked_item q = item_marks (after_event (Begins b) h.o) begun.wide a.w a.t q ∙ item_begins h.o h.kept.wide b q (main h a.w.key)
 
   pub marked_same : (d : ℕ) → IsBucket h.o.shape d → SameWords h.o marked d
   marked_same d l = (
-    link_marks (after_event (Begins b) h.o) begun.wide a.w a.t d ∙ link_begins h.o h.kept.wide b d main,
-    λ slot low. entry_marks (after_event (Begins b) h.o) begun.wide a.w a.t d slot ∙ entry_begins h.o h.kept.wide b d slot main low,
+    link_marks (after_event (Begins b) h.o) begun.wide a.w a.t d ∙ link_begins h.o h.kept.wide b d (main h a.w.key),
+    λ slot low. entry_marks (after_event (Begins b) h.o) begun.wide a.w a.t d slot ∙ entry_begins h.o h.kept.wide b d slot (main h a.w.key) low,
   )
 
   pub marked_entries : (c : ℕ) → IsMain h.o.shape c → entries_of marked c ≡ entries_of h.o c
-  marked_entries c l = entries_marks (after_event (Begins b) h.o) begun a.w a.t c l ∙ entries_begins h.o (chained h.o h.kept) b main c l
+  marked_entries c l = entries_marks (after_event (Begins b) h.o) begun a.w a.t c l ∙ entries_begins h.o (chained h.o h.kept) b (main h a.w.key) c l
 
   pub marked_index : IsIndexOf h.index marked
-  marked_index = index_marks (after_event (Begins b) h.o) begun h.index (index_begins h.o (chained h.o h.kept) h.index h.parts.known b main) a.w a.t
+  marked_index = index_marks (after_event (Begins b) h.o) begun h.index (index_begins h.o (chained h.o h.kept) h.index h.parts.known b (main h a.w.key)) a.w a.t
 
   -- with these words, before the end
   abbrev pub written : List ℕ → OwnerState
   written words = record h.o { words = words; history = h.o.history ++ a.w ∷ []; phase = Marked b a.w h.o.history }
 
-  -- what a call on the index asks of a spot, and where its entry stands
-  module _ (words : List ℕ) (same : (d : ℕ) → IsBucket h.o.shape d → SameWords h.o (written words) d) (kept : Kept (written words))
-      (known : IsIndexOf h.index (written words)) (entries : entries_of (written words) b ≡ entries_of h.o b) (spot : Spot) (is : IsUsed h.o b spot) where
-    same_entry : spot_entry (written words) spot ≡ spot_entry h.o spot
-    same_entry = (same spot.bucket (chain_inside h.o (chained h.o h.kept) b spot.bucket main is.in_chain)).1 spot.slot is.in_bucket
+  -- a used spot is one still, and this is where its entry stands
+  pub record Stays (words : List ℕ) (spot : Spot) : Type 0 where
+    pub used : IsUsed (written words) b spot
+    pub inside : number_of (written words) b spot < length (entries_of h.o b)
+    pub is : at (entries_of h.o b) (number_of (written words) b spot) ≡ spot_entry h.o spot
 
-    pub used_on : IsUsed (written words) b spot
-    used_on = record {
-      in_chain = among_on h.o (written words) (chained h.o h.kept) same (suc h.o.shape.spares) b spot.bucket (let low = main in omega arith) is.in_chain;
-      in_bucket = is.in_bucket;
-      used = λ empty. is.used (sym same_entry ∙ empty);
-    }
+  pub stays : (words : List ℕ) → ((d : ℕ) → IsBucket h.o.shape d → SameWords h.o (written words) d) → Kept (written words) → IsIndexOf h.index (written words)
+      → entries_of (written words) b ≡ entries_of h.o b → (spot : Spot) → IsUsed h.o b spot → Stays words spot
+  stays words same kept known entries spot is = record {
+    used = used;
+    inside = subst (λ (xs : List ℕ). number_of (written words) b spot < length xs) entries
+        (number_within (written words) (chained (written words) kept) h.index known b (main h a.w.key) spot used);
+    is = ap (λ (xs : List ℕ). at xs (number_of (written words) b spot)) (sym entries)
+        ∙ (number_entry (written words) (chained (written words) kept) h.index known b (main h a.w.key) spot used ∙ entry);
+  }
+    where
+      entry : spot_entry (written words) spot ≡ spot_entry h.o spot
+      entry = (same spot.bucket (chain_inside h.o (chained h.o h.kept) b spot.bucket (main h a.w.key) is.in_chain)).1 spot.slot is.in_bucket
 
-    pub number_on : number_of (written words) b spot < length (entries_of h.o b)
-    number_on = subst (λ (xs : List ℕ). number_of (written words) b spot < length xs) entries
-        (number_within (written words) (chained (written words) kept) h.index known b main spot used_on)
-
-    pub entry_on : at (entries_of h.o b) (number_of (written words) b spot) ≡ spot_entry h.o spot
-    entry_on = ap (λ (xs : List ℕ). at xs (number_of (written words) b spot)) (sym entries)
-        ∙ (number_entry (written words) (chained (written words) kept) h.index known b main spot used_on ∙ same_entry)
+      used : IsUsed (written words) b spot
+      used = record {
+        in_chain = among_on h.o (written words) (chained h.o h.kept) same (suc h.o.shape.spares) b spot.bucket (let low = (main h a.w.key) in omega arith) is.in_chain;
+        in_bucket = is.in_bucket;
+        used = λ empty. is.used (sym entry ∙ empty);
+      }
 
   -- and of the phase and the bucket
   pub ready : (words : List ℕ) (o3 : OwnerState) → o3 ≡ written words → (marked_in o3.phase b ≡ 1) × IsMain o3.shape b
-  ready words o3 is = subst (λ (z : OwnerState). (marked_in z.phase b ≡ 1) × IsMain z.shape b) (sym is) (bit_same b b refl, main)
+  ready words o3 is = subst (λ (z : OwnerState). (marked_in z.phase b ≡ 1) × IsMain z.shape b) (sym is) (bit_same b b refl, (main h a.w.key))
 
   -- and what it leaves
   module _ (words ys : List ℕ) (o3 o4 : OwnerState) (at_words : o3 ≡ written words) (change : ChangesChain o3 o4 b ys) where
@@ -169,10 +171,10 @@ module _ (h : Held) (a : Accepted h) where
     abbrev last : OwnerState
     last = after_event (Ends b) (written words)
 
-    ended : (blocks : List Block) → Becomes blocks → Ended h.o last index blocks a.w a.outcome
+    ended : (blocks : List Block) → Becomes blocks → Ended h.o last index blocks a.w a.outcome a.t
     ended blocks becomes = record {
-      count = length_push h.o.history a.w;
-      stamp = stamp_after;
+      count = a.counted ∙ sym (length_push h.o.history a.w);
+      stamp = a.counted ∙ stamp_after;
       step = record {
         allowed = a.may;
         gained = ap (λ (z : Phase). record h.o { words = last.words; history = h.o.history ++ a.w ∷ []; phase = z }) (sym h.parts.idle)
@@ -182,10 +184,10 @@ module _ (h : Held) (a : Accepted h) where
       parts = parts blocks becomes;
     }
 
-    pub closes : (o4 : OwnerState) → o4 ≡ written words → Closes h.o a.w a.outcome b index Becomes o4
-    closes o4 is = subst (Closes h.o a.w a.outcome b index Becomes) (sym is) record {
+    pub closes : (o4 : OwnerState) → o4 ≡ written words → Closes h.o a.w a.outcome b a.t index Becomes o4
+    closes o4 is = subst (Closes h.o a.w a.outcome b a.t index Becomes) (sym is) record {
       end = record { marked = bit_same b b refl; stands_for = stands };
-      ended = λ o5 blocks e5 becomes. subst (λ (z : OwnerState). Ended h.o z index blocks a.w a.outcome) (sym e5) (ended blocks becomes);
+      ended = λ o5 blocks e5 becomes. subst (λ (z : OwnerState). Ended h.o z index blocks a.w a.outcome a.t) (sym e5) (ended blocks becomes);
     }
 
 -- a put that is stored

@@ -4,12 +4,12 @@ use Rattle.store_partition.proofs.Words.{All-contains, Allows, AreBytes, ArePart
 use Rattle.store_partition.proofs.Words.{Contains-permutation, Has, HasKey, HasNoSpot, HasUsed, Index, IsBlockList, IsBucket, IsDistinct, IsMain}
 use Rattle.store_partition.proofs.Words.{IsPermutation, IsPermutation-refl, IsPermutation-sym, IsSpotOf, Kept, List, ListStands, MayGive, None}
 use Rattle.store_partition.proofs.Words.{Option, Outcome, OwnerState, Phase, RoomsApart, Some, Spells, Spot, State, Store, Write, [], accepted_in}
-use Rattle.store_partition.proofs.Words.{accepted_is_length, add-zero, ap, arith, at, bucket_at, bucket_in, cells_in, cells_of, chain_inside, chained}
-use Rattle.store_partition.proofs.Words.{empty, entries_of, entry_offset, entry_tag, eqb, fnv1a, get, get_or_default, has_fits, has_its_key}
-use Rattle.store_partition.proofs.Words.{has_no_other, header_room, header_room-header_of, header_word, inl, inr, item_in, keys_in, len, length}
-use Rattle.store_partition.proofs.Words.{listed, marked_in, mod-eq_of_lt, mod-lt, number_entry, number_of, number_within, options_in, pow_pos, refl}
-use Rattle.store_partition.proofs.Words.{room_in, rooms, same_Some, spot_at, spot_entry, state_in, store_state, stored_in, subst, sym, used_block}
-use Rattle.store_partition.proofs.Words.{used_blocks, used_within, words_of, ℕ, ◌%◌, ◌++◌, ◌+◌, ◌/◌, ◌<◌, ◌^◌, ◌∙◌, ◌∷◌, ◌≡◌, ◌≢◌, ◌≤◌}
+use Rattle.store_partition.proofs.Words.{accepted_is_length, add-zero, ap, arith, at, bucket_at, bucket_in, cells_of, chain_inside, chained}
+use Rattle.store_partition.proofs.Words.{entries_of, entry_offset, entry_tag, eqb, fnv1a, get, get_or_default, has_fits, has_its_key, has_no_other}
+use Rattle.store_partition.proofs.Words.{header_room, header_room-header_of, header_word, inl, inr, item_in, keys_in, len, length, listed, marked_in}
+use Rattle.store_partition.proofs.Words.{mod-eq_of_lt, mod-lt, number_entry, number_of, number_within, options_in, pow_pos, refl, room_in, rooms}
+use Rattle.store_partition.proofs.Words.{same_Some, spot_at, spot_entry, state_in, store_state, stored_in, subst, sym, used_block, used_blocks}
+use Rattle.store_partition.proofs.Words.{used_within, words_of, ℕ, ◌%◌, ◌++◌, ◌+◌, ◌/◌, ◌<◌, ◌^◌, ◌∙◌, ◌∷◌, ◌≡◌, ◌≢◌, ◌≤◌}
 use Rattle.store_partition.proofs.Once.{not_among, once_by, once_moved, single}
 use Rattle.store_partition.proofs.Blocks.{same_or_apart}
 
@@ -109,9 +109,6 @@ module _ (h : Held) where
   pub before : state_in h.o ≡ store_state m
   before = store_at.1
 
-  cells_are : cells_in h.o ≡ m.cells
-  cells_are = ap cells_of before
-
   pub has_cell : (key : List ℕ) (cell : Cell) (q : ℕ) → Has (state_in h.o) key cell q → get m.cells key ≡ Some cell
   has_cell key cell q has = subst (λ (z : State). Has z key cell q) before has
 
@@ -132,13 +129,13 @@ module _ (h : Held) where
   -- The numbers of keys and blocks
 
   pub as_keys : (c : ℕ) → IsMain h.o.shape c → length (entries_of h.o c) ≡ keys_in h.o.shape.buckets c m.cells
-  as_keys c l = h.parts.entries c l ∙ ap (keys_in h.o.shape.buckets c) cells_are
+  as_keys c l = h.parts.entries c l ∙ ap (keys_in h.o.shape.buckets c) (ap cells_of before)
 
   pub as_cells : length (used_blocks h.blocks) ≡ len m.cells
-  as_cells = h.parts.count ∙ ap len cells_are
+  as_cells = h.parts.count ∙ ap len (ap cells_of before)
 
   pub as_rooms : words_of (used_blocks h.blocks) ≡ rooms m.cells
-  as_rooms = h.parts.words ∙ ap rooms cells_are
+  as_rooms = h.parts.words ∙ ap rooms (ap cells_of before)
 
   -- Outcomes
 
@@ -159,7 +156,7 @@ module _ (h : Held) where
     abbrev xs : List ℕ
     xs = entries_of h.o (bucket_in h.o key)
 
-    main : IsMain h.o.shape b
+    pub main : IsMain h.o.shape b
     main = main_of h.o h.kept key
 
     pub other_bucket : (c x : ℕ) → c ≢ b → IsOther h key c x

@@ -2,11 +2,11 @@
 use Rattle.mica_model.specs.StoreStep as ss
 use Rattle.store_partition.proofs.Words.{Allows, AreBytes, Cell, FullBlock, FullSpare, HasNoSpot, Idle, IsOwnerStep, IsSomeAnd, IsSpotOf, LacksPlace}
 use Rattle.store_partition.proofs.Words.{List, MayGive, MayLack, Option, Outcome, OwnerState, Put, Spot, State, StoreMode, Worn, Write, []}
-use Rattle.store_partition.proofs.Words.{accepted_in, accepted_is_length, ap, arith, at, bucket_in, chained, cond, entries_of, false, free_spares}
-use Rattle.store_partition.proofs.Words.{inl, is_accepted, item_size, keys_in, length, nil_from_length, options_in, refl, room_in, spares_in_use}
+use Rattle.store_partition.proofs.Words.{accepted_in, accepted_is_length, ap, arith, bucket_in, chained, cond, entries_of, false, free_spares, inl}
+use Rattle.store_partition.proofs.Words.{is_accepted, item_size, keys_in, length, nil_from_length, options_in, refl, room_in, spares_in_use}
 use Rattle.store_partition.proofs.Words.{spot_entry, stored_in, subst, subst₂, sym, used_blocks, words_of, words_of-fills, write_of, ℕ, ◌%◌, ◌*◌}
 use Rattle.store_partition.proofs.Words.{◌++◌, ◌+◌, ◌-◌, ◌<◌, ◌∙◌, ◌∷◌, ◌≡◌, ◌≤◌}
-use Rattle.store_partition.proofs.Held.{Held, as_cells, as_keys, as_rooms, has_found, has_none, m, main_of, may_give, not_worn, room_found}
+use Rattle.store_partition.proofs.Held.{Held, as_cells, as_keys, as_rooms, has_found, has_none, m, main, may_give, not_worn, room_found}
 
 pub worn : (o : OwnerState) → o.shape.mode ≡ StoreMode → o.phase ≡ Idle → (w : Write) → o.shape.wear ≤ length o.history → IsOwnerStep o o w Worn
 worn o mode idle w full =
@@ -32,7 +32,7 @@ module _ (h : Held) (key value : List ℕ) where
   counted = free_spares h.o (chained h.o h.kept) h.index h.parts.known (m h).cells (as_keys h)
 
   own_keys : length (entries_of h.o b) ≡ keys_in h.o.shape.buckets b (m h).cells
-  own_keys = as_keys h b (main_of h.o h.kept key)
+  own_keys = as_keys h b (main h key)
 
   lacks_place : ss.NeedsSpare (options_in h.o) (m h) key → LacksPlace h.index h.o b
   lacks_place needs = record {
@@ -42,18 +42,12 @@ module _ (h : Held) (key value : List ℕ) where
   }
 
   pub full_spare : length h.o.history < h.o.shape.wear → HasNoSpot h.o b key → LacksPlace h.index h.o b → IsOwnerStep h.o h.o (write_of Put key value) FullSpare
-  full_spare unworn none lacks = refused FullSpare refl (may_give h (write_of Put key value) FullSpare (
-    not_worn h unworn,
-    (
-      tt,
-      record {
-        is_new = has_none h key none;
-        some = (let some = lacks.some in let same = own_keys in omega arith);
-        full = ap (λ (n : ℕ). n % 15) (sym own_keys) ∙ lacks.full;
-        none_left = (let free = ap length lacks.none_free in let all = counted in omega arith);
-      },
-    ),
-  ))
+  full_spare unworn none lacks = refused FullSpare refl (may_give h (write_of Put key value) FullSpare (not_worn h unworn, (tt, record {
+    is_new = has_none h key none;
+    some = (let some = lacks.some in let same = own_keys in omega arith);
+    full = ap (λ (n : ℕ). n % 15) (sym own_keys) ∙ lacks.full;
+    none_left = (let free = ap length lacks.none_free in let all = counted in omega arith);
+  })))
 
   -- which puts need a block
 
@@ -78,11 +72,6 @@ module _ (h : Held) (key value : List ℕ) where
       → IsOwnerStep h.o h.o (write_of Put key value) FullBlock
   full_block unworn needs lack =
       let words = words_of-fills 0 h.o.shape.words h.blocks h.parts.list.fills in
-      refused FullBlock refl (may_give h (write_of Put key value) FullBlock (
-        not_worn h unworn,
-        (
-          needs,
-          subst₂ (λ (k l : ℕ). h.o.shape.words ≤ (k + 1) * (item_size key value - 1) + l) (as_cells h) (as_rooms h)
-              (subst (λ (z : ℕ). z ≤ (length (used_blocks h.blocks) + 1) * (item_size key value - 1) + words_of (used_blocks h.blocks)) (omega arith) lack),
-        ),
-      ))
+      refused FullBlock refl (may_give h (write_of Put key value) FullBlock (not_worn h unworn, (needs,
+      subst₂ (λ (k l : ℕ). h.o.shape.words ≤ (k + 1) * (item_size key value - 1) + l) (as_cells h) (as_rooms h)
+      (subst (λ (z : ℕ). z ≤ (length (used_blocks h.blocks) + 1) * (item_size key value - 1) + words_of (used_blocks h.blocks)) (omega arith) lack))))

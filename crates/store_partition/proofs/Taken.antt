@@ -1,22 +1,21 @@
 -- A put that takes a block: of a key whose room is too small, and of a new key.
 use Rattle.mica_model.specs.StoreStep as ss
-use Rattle.store_partition.proofs.Words.{AddsBlock, All-contains, Block, CanPlay, Cell, Cells, ChangesChain, Contains, HasNoSpot, HasUsed, Index}
+use Rattle.store_partition.proofs.Words.{AddsBlock, All-contains, Block, CanPlay, Cell, ChangesChain, Contains, HasNoSpot, HasUsed, Index}
 use Rattle.store_partition.proofs.Words.{IsBlockList, IsGiven, IsIndexOf, IsMain, IsPermutation, IsPermutation-to_front, IsSpotOf, IsTaken, IsUsed}
-use Rattle.store_partition.proofs.Words.{IsWrite, Kept, LacksPlace, List, MayGive, None, OwnerState, Put, Some, Spot, Stored, WhenMarked, Write, []}
-use Rattle.store_partition.proofs.Words.{ap, arith, at, bucket_in, entries_of, entry_of, entry_offset, entry_offset-entry_of, entry_tag}
-use Rattle.store_partition.proofs.Words.{entry_tag-entry_of, get, inl, inr, insert, item_events, item_in, item_size, keys_over, length}
-use Rattle.store_partition.proofs.Words.{length-AddsBlock, marked_in, marked_in_bucket, new_here, new_others, number_of, options_in, plays, refl}
-use Rattle.store_partition.proofs.Words.{room_in, size_at_most, size_of, slice_set, spot_entry, subst, sym, tag_of, taken_apart, taken_within}
-use Rattle.store_partition.proofs.Words.{used_block, used_blocks, used_blocks-given, used_blocks-taken, words_of, words_of-AddsBlock, words_of-fills}
-use Rattle.store_partition.proofs.Words.{words_parted, write_of, ℕ, ◌%◌, ◌++◌, ◌+◌, ◌<◌, ◌^◌, ◌∙◌, ◌∷◌, ◌≡◌, ◌≤◌, ◌⊎◌}
+use Rattle.store_partition.proofs.Words.{IsWrite, Kept, LacksPlace, List, MayGive, None, Option, OwnerState, Put, Some, Spot, Stored, WhenMarked}
+use Rattle.store_partition.proofs.Words.{Write, [], ap, arith, bucket_in, cond, cond-false, entries_of, entry_of, entry_offset, entry_offset-entry_of}
+use Rattle.store_partition.proofs.Words.{entry_tag, entry_tag-entry_of, get, inl, inr, insert, is_some, item_events, item_size, leb, len, len-insert}
+use Rattle.store_partition.proofs.Words.{length, length-AddsBlock, lt-leb, marked_in, marked_in_bucket, nat_list_cmp_total, new_here, new_others}
+use Rattle.store_partition.proofs.Words.{number_of, options_in, plays, refl, room_in, room_of, rooms_insert, size_at_most, size_of, slice_set}
+use Rattle.store_partition.proofs.Words.{spot_entry, subst, sym, tag_of, taken_apart, taken_within, used_block, used_blocks, used_blocks-given}
+use Rattle.store_partition.proofs.Words.{used_blocks-taken, words_of, words_of-AddsBlock, words_of-fills, words_parted, write_of, ℕ, ◌%◌, ◌++◌, ◌+◌}
+use Rattle.store_partition.proofs.Words.{◌<◌, ◌^◌, ◌∙◌, ◌∷◌, ◌≡◌, ◌≤◌, ◌⊎◌}
 use Rattle.store_partition.proofs.Once.{removed, set_moved, single}
 use Rattle.store_partition.proofs.Blocks.{given_size, list_on, new_used, still_used}
-use Rattle.store_partition.proofs.Counts.{len_new, len_over, room_grown, rooms_new, rooms_over}
-use Rattle.store_partition.proofs.Held.{Held, Split, among, as_cells, as_rooms, before, elsewhere, has_found, has_none, m, main_of, may_give}
-use Rattle.store_partition.proofs.Held.{not_worn, own, room_found, some_room, split, split_none, used}
-use Rattle.store_partition.proofs.Events.{Accepted, Closes, Opens, at_last, changed, closes, entry_on, marked, number_on, opens, ready, stored}
-use Rattle.store_partition.proofs.Events.{used_on, written}
-use Rattle.store_partition.proofs.After.{Changes, Counts, Houses, cells, given_back, parts_end, stands}
+use Rattle.store_partition.proofs.Held.{Held, Split, among, as_cells, as_rooms, before, elsewhere, has_found, has_none, m, main, may_give, not_worn}
+use Rattle.store_partition.proofs.Held.{own, room_found, some_room, split, split_none, used}
+use Rattle.store_partition.proofs.Events.{Accepted, Closes, Opens, Stays, at_last, changed, marked, opens, ready, stays, stored, written}
+use Rattle.store_partition.proofs.After.{Changes, Counts, Houses, cells, counts_over, finished, finished_same, given_back}
 use Rattle.store_partition.proofs.Putting.{Room, at_put, can_item, cells_are, changes, kept_put, own_block, put_entries, put_index, put_same}
 use Rattle.store_partition.proofs.Putting.{put_words}
 
@@ -31,7 +30,7 @@ pub record PutGrown (o : OwnerState) (index : Index) (blocks : List Block) (w : 
   pub replaces : (o3 : OwnerState) → HasPut o w b t place o3 → IsIndexOf index o3 × WhenMarked o3.phase (λ c write before. IsUsed o3 c spot)
   pub closes : (o3 o4 : OwnerState) (tag : ℕ) (index' : Index) → HasPut o w b t place o3 → tag ≡ tag_of w.key → Kept o4 → IsIndexOf index' o4
       → WhenMarked o3.phase (λ c write before. ChangesChain o3 o4 c (slice_set (entries_of o3 c) (number_of o3 c spot) (entry_of tag place)))
-      → Closes o w Stored b index' (λ bs. IsGiven blocks bs old × IsBlockList (words_of blocks) bs) o4
+      → Closes o w Stored b t index' (λ bs. IsGiven blocks bs old × IsBlockList (words_of blocks) bs) o4
   pub gives : HasUsed blocks old
 
 -- and of a put of a new key
@@ -42,7 +41,7 @@ pub record PutNew (o : OwnerState) (index : Index) (blocks : List Block) (w : Wr
       → IsIndexOf index o3 × (marked_in o3.phase b ≡ 1) × IsMain o3.shape b × ¬ (LacksPlace index o3 b)
   pub closes : (o3 o4 : OwnerState) (tag : ℕ) (index' : Index) → HasPut o w b t place o3 → tag ≡ tag_of w.key → Kept o4 → IsIndexOf index' o4
       → ChangesChain o3 o4 b (entries_of o3 b ++ entry_of tag place ∷ [])
-      → Closes o w Stored b index' (λ bs. bs ≡ blocks) o4
+      → Closes o w Stored b t index' (λ bs. bs ≡ blocks) o4
 
 module _ (h : Held) (key value : List ℕ) (w_is : IsWrite (write_of Put key value)) (unworn : length h.o.history < h.o.shape.wear)
     (n : ℕ) (counted : n ≡ length h.o.history) (needs : ss.NeedsBlock (options_in h.o) (m h) (write_of Put key value))
@@ -55,9 +54,6 @@ module _ (h : Held) (key value : List ℕ) (w_is : IsWrite (write_of Put key val
 
   abbrev cell : Cell
   cell = record { value = value; room = size }
-
-  main : IsMain h.o.shape b
-  main = main_of h.o h.kept key
 
   list : IsBlockList h.o.shape.words blocks1
   list = list_on h.o.shape.words h.blocks blocks1 h.parts.list list1
@@ -108,17 +104,11 @@ module _ (h : Held) (key value : List ℕ) (w_is : IsWrite (write_of Put key val
       abbrev entry : ℕ
       entry = entry_of tag place
 
-      abbrev words : List ℕ
-      words = o4.words
-
-      at4 : o4 ≡ written h a words
+      at4 : o4 ≡ written h a o4.words
       at4 = at_last h a put ys o3 o4 at3 change
 
-      chain : ChangesChain (written h a put) (written h a words) b ys
+      chain : ChangesChain (written h a put) (written h a o4.words) b ys
       chain = changed h a put ys o3 o4 at3 change
-
-      items : (q : ℕ) → item_in (written h a words) q ≡ item_in (written h a put) q
-      items = chain.rest.items
 
       offset : entry_offset entry ≡ place
       offset = entry_offset-entry_of tag place low
@@ -126,23 +116,27 @@ module _ (h : Held) (key value : List ℕ) (w_is : IsWrite (write_of Put key val
       tags : entry_tag entry ≡ tag_of key
       tags = entry_tag-entry_of tag place low ∙ tag_is
 
-      lists : Changes h a words own rest (entry ∷ []) index'
-      lists = changes h a place size r words items entry offset tags own rest index' split_is
+      lists : Changes h a o4.words own rest (entry ∷ []) index'
+      lists = changes h a place size r o4.words chain.rest.items entry offset tags own rest index' split_is
           (subst (λ (xs : List ℕ). IsPermutation xs (entry ∷ rest)) (sym chain.entries) ys_are)
           (λ c l other. (chain.others c l other).entries ∙ put_entries h a place size r c l) (subst Kept at4 kept4) (subst (IsIndexOf index') at4 known)
 
-      houses : Houses h a words (entry ∷ []) blocks1
+      houses : Houses h a o4.words (entry ∷ []) blocks1
       houses = record {
         list = list;
         old = λ c x l among other. still_used _ _ _ adds (used_block (entry_offset x) (room_in h.o x)) (used h c l x among);
-        new = own_block h a place size r words items entry offset tags blocks1 (new_used _ _ _ adds);
+        new = own_block h a place size r o4.words chain.rest.items entry offset tags blocks1 (new_used _ _ _ adds);
       }
 
-      -- the heap may give back a block after the end
-      closed : (Becomes : List Block → Type 0) → ((bs : List Block) → Becomes bs → Houses h a words (entry ∷ []) blocks1 → cells h a words ≡ insert (m h).cells key cell
-          → Houses h a words (entry ∷ []) bs × Counts h a words own (entry ∷ []) bs (insert (m h).cells key cell)) → Closes h.o (write_of Put key value) Stored b index' Becomes o4
-      closed Becomes heap = closes h a words index' Becomes (stands h a words own rest (entry ∷ []) index' lists blocks1 houses)
-          (λ bs becomes. let both = heap bs becomes houses (cells_are h a place size r words items) in parts_end h a words own rest (entry ∷ []) index' lists bs both.0 _ both.1) o4 at4
+      -- with the same heap, and with one that gave a block back
+      same_heap : (cells h a o4.words ≡ insert (m h).cells key cell → Counts h a o4.words own (entry ∷ []) blocks1 (insert (m h).cells key cell))
+          → Closes h.o (write_of Put key value) Stored b (n + 1) index' (λ bs. bs ≡ blocks1) o4
+      same_heap counts = finished_same h a o4.words own rest (entry ∷ []) index' lists blocks1 houses _ (counts (cells_are h a place size r o4.words chain.rest.items)) o4 at4
+
+      other_heap : (Becomes : List Block → Type 0) → ((bs : List Block) → Becomes bs → Houses h a o4.words (entry ∷ []) blocks1 → cells h a o4.words ≡ insert (m h).cells key cell
+          → Houses h a o4.words (entry ∷ []) bs × Counts h a o4.words own (entry ∷ []) bs (insert (m h).cells key cell))
+          → Closes h.o (write_of Put key value) Stored b (n + 1) index' Becomes o4
+      other_heap Becomes heap = finished h a o4.words own rest (entry ∷ []) index' lists blocks1 houses Becomes _ (λ bs becomes. heap bs becomes houses (cells_are h a place size r o4.words chain.rest.items)) o4 at4
 
   -- A key that has an item
 
@@ -160,13 +154,13 @@ module _ (h : Held) (key value : List ℕ) (w_is : IsWrite (write_of Put key val
     old_room = room_found h key w_is.key_bytes spot found
 
     takes : size ≡ ss.room_after (get (m h).cells key) size
-    takes = sym (room_grown (get (m h).cells key) was size has (let same = old_room in omega arith))
+    takes = sym (ap (λ z. ss.room_after z size) has ∙ cond-false (leb size was.room) was.room size (lt-leb size was.room (let same = old_room in omega arith)))
 
     its : Contains (used_blocks h.blocks) (used_block old (room_in h.o e))
-    its = subst (λ (p : ℕ). Contains (used_blocks h.blocks) (used_block p (room_in h.o e))) (sym old_is) (used h b main e (among h key w_is.key_bytes spot found))
+    its = subst (λ (p : ℕ). Contains (used_blocks h.blocks) (used_block p (room_in h.o e))) (sym old_is) (used h b (main h key) e (among h key w_is.key_bytes spot found))
 
     some : 0 < room_in h.o e
-    some = some_room h b main e (among h key w_is.key_bytes spot found)
+    some = some_room h b (main h key) e (among h key w_is.key_bytes spot found)
 
     abbrev now : OwnerState
     now = written h a (put takes)
@@ -174,17 +168,9 @@ module _ (h : Held) (key value : List ℕ) (w_is : IsWrite (write_of Put key val
     abbrev place_now : ℕ
     place_now = number_of now b spot
 
-    is_used : IsUsed now b spot
-    is_used = used_on h a (put takes) (put_same h a place size (r takes)) (kept_put h a place size (r takes)) (put_index h a place size (r takes))
-        (put_entries h a place size (r takes) b main) spot found.used
-
-    inside : place_now < length (entries_of h.o b)
-    inside = number_on h a (put takes) (put_same h a place size (r takes)) (kept_put h a place size (r takes)) (put_index h a place size (r takes))
-        (put_entries h a place size (r takes) b main) spot found.used
-
-    stands_there : at (entries_of h.o b) place_now ≡ e
-    stands_there = entry_on h a (put takes) (put_same h a place size (r takes)) (kept_put h a place size (r takes)) (put_index h a place size (r takes))
-        (put_entries h a place size (r takes) b main) spot found.used
+    on : Stays h a (put takes) spot
+    on = stays h a (put takes) (put_same h a place size (r takes)) (kept_put h a place size (r takes)) (put_index h a place size (r takes))
+        (put_entries h a place size (r takes) b (main h key)) spot found.used
 
     replaced : (o3 o4 : OwnerState) (tag : ℕ) → o3 ≡ now
         → WhenMarked o3.phase (λ c write before. ChangesChain o3 o4 c (slice_set (entries_of o3 c) (number_of o3 c spot) (entry_of tag place)))
@@ -193,7 +179,7 @@ module _ (h : Held) (key value : List ℕ) (w_is : IsWrite (write_of Put key val
         let from = subst (λ (z : OwnerState). WhenMarked z.phase (λ c write before.
         ChangesChain z o4 c (slice_set (entries_of z c) (number_of z c spot) (entry_of tag place)))) at3 change in
         subst (λ (z : OwnerState). ChangesChain z o4 b (slice_set (entries_of h.o b) place_now (entry_of tag place))) (sym at3)
-        (subst (λ (xs : List ℕ). ChangesChain now o4 b (slice_set xs place_now (entry_of tag place))) (put_entries h a place size (r takes) b main) from)
+        (subst (λ (xs : List ℕ). ChangesChain now o4 b (slice_set xs place_now (entry_of tag place))) (put_entries h a place size (r takes) b (main h key)) from)
 
     counts : (words new : List ℕ) (bs : List Block) → IsGiven blocks1 bs old → length new ≡ 1 → cells h a words ≡ insert (m h).cells key cell
         → Counts h a words (e ∷ []) new bs (insert (m h).cells key cell)
@@ -203,17 +189,7 @@ module _ (h : Held) (key value : List ℕ) (w_is : IsWrite (write_of Put key val
         let one_more = length-AddsBlock _ _ _ adds in
         let one_fewer = length-AddsBlock _ _ _ (used_blocks-given blocks1 bs old given) in
         let size_is = given_size h.o.shape.words blocks1 bs old (room_in h.o e) list given some (still_used _ _ _ adds (used_block old (room_in h.o e)) its) ∙ old_room in
-        let same = len_over (m h).cells key was has cell in
-        let room = rooms_over (m h).cells key was has cell in
-        let keys = keys_over h.o.shape.buckets b (m h).cells key was cell has in
-        let all = as_cells h in
-        let total = as_rooms h in record {
-          is = is;
-          here = omega arith;
-          there = λ c other. keys_over h.o.shape.buckets c (m h).cells key was cell has;
-          count = omega arith;
-          total = omega arith;
-        }
+        counts_over h a words (e ∷ []) new bs was cell (sym one) has is (omega arith) (omega arith)
 
     pub grown : (b' : ℕ) → b' ≡ b → PutGrown h.o h.index blocks1 (write_of Put key value) b' (n + 1) place spot old
     grown b' is = subst (λ (c : ℕ). PutGrown h.o h.index blocks1 (write_of Put key value) c (n + 1) place spot old) (sym is) record {
@@ -221,12 +197,12 @@ module _ (h : Held) (key value : List ℕ) (w_is : IsWrite (write_of Put key val
       item = can_item h a place size (r takes);
       replaces = λ o3 events.
           let at3 = at_put h a place size (r takes) (marked h a) o3 refl events in
-          subst (λ (z : OwnerState). IsIndexOf h.index z × WhenMarked z.phase (λ c write before. IsUsed z c spot)) (sym at3) (put_index h a place size (r takes), is_used);
+          subst (λ (z : OwnerState). IsIndexOf h.index z × WhenMarked z.phase (λ c write before. IsUsed z c spot)) (sym at3) (put_index h a place size (r takes), on.used);
       closes = λ o3 o4 tag index' events tag_is kept4 known change.
           let at3 = at_put h a place size (r takes) (marked h a) o3 refl events in
-          let moved = removed (entries_of h.o b) place_now e inside stands_there in
-          closed takes tag tag_is o3 o4 _ at3 (replaced o3 o4 tag at3 change) kept4 index' known (e ∷ []) _ (split h key w_is.key_bytes spot found _ moved)
-          (set_moved (entries_of h.o b) place_now (entry_of tag place) inside) (λ bs. IsGiven blocks1 bs old × IsBlockList (words_of blocks1) bs)
+          let moved = removed (entries_of h.o b) place_now e on.inside on.is in
+          other_heap takes tag tag_is o3 o4 _ at3 (replaced o3 o4 tag at3 change) kept4 index' known (e ∷ []) _ (split h key w_is.key_bytes spot found _ moved)
+          (set_moved (entries_of h.o b) place_now (entry_of tag place) on.inside) (λ bs. IsGiven blocks1 bs old × IsBlockList (words_of blocks1) bs)
           (λ bs becomes houses cells_are_now. (
             given_back h a o4.words (entry_of tag place ∷ []) blocks1 bs old houses becomes.0 becomes.1
                 (λ c x l among_c other same. elsewhere h key w_is.key_bytes spot found c x l among_c other (sym old_is ∙ same))
@@ -248,11 +224,8 @@ module _ (h : Held) (key value : List ℕ) (w_is : IsWrite (write_of Put key val
     own_room : size ≡ ss.room_after (get (m h).cells key) size
     own_room = ap (λ z. ss.room_after z size) (sym no_cell)
 
-    abbrev later : Cells
-    later = insert (m h).cells key cell
-
     same_entries : (o3 : OwnerState) → o3 ≡ written h a (put own_room) → entries_of o3 b ≡ entries_of h.o b
-    same_entries o3 at3 = ap (λ (z : OwnerState). entries_of z b) at3 ∙ put_entries h a place size (r own_room) b main
+    same_entries o3 at3 = ap (λ (z : OwnerState). entries_of z b) at3 ∙ put_entries h a place size (r own_room) b (main h key)
 
     pub new : (b' : ℕ) → b' ≡ b → PutNew h.o h.index blocks1 (write_of Put key value) b' (n + 1) place
     new b' is = subst (λ (c : ℕ). PutNew h.o h.index blocks1 (write_of Put key value) c (n + 1) place) (sym is) record {
@@ -273,22 +246,21 @@ module _ (h : Held) (key value : List ℕ) (w_is : IsWrite (write_of Put key val
       closes = λ o3 o4 tag index' events tag_is kept4 known change.
           let at3 = at_put h a place size (r own_room) (marked h a) o3 refl events in
           let adds_entry = subst (λ (xs : List ℕ). ChangesChain o3 o4 b (xs ++ entry_of tag place ∷ [])) (same_entries o3 at3) change in
-          closed own_room tag tag_is o3 o4 _ at3 adds_entry kept4 index' known [] _ (split_none h key none) (IsPermutation-to_front (entries_of h.o b) (entry_of tag place))
-          (λ bs. bs ≡ blocks1) (λ bs same houses cells_are_now. (
-            subst (Houses h a o4.words (entry_of tag place ∷ [])) (sym same) houses,
-            subst (λ (z : List Block). Counts h a o4.words [] (entry_of tag place ∷ []) z later) (sym same)
-                (let one = length-AddsBlock _ _ _ adds in
-                let more = words_of-AddsBlock _ _ _ adds in
-                let keys = new_here h.o.shape.buckets b (m h).cells key refl main cell no_cell in
-                let count = len_new (m h).cells key cell no_cell in
-                let room = rooms_new (m h).cells key cell no_cell in
-                let all = as_cells h in
-                let total = as_rooms h in record {
-                  is = cells_are_now;
-                  here = omega arith;
-                  there = λ c other. new_others h.o.shape.buckets b (m h).cells key refl main cell no_cell c other;
-                  count = omega arith;
-                  total = omega arith;
-                }),
-          ));
+          same_heap own_room tag tag_is o3 o4 _ at3 adds_entry kept4 index' known [] _ (split_none h key none)
+          (IsPermutation-to_front (entries_of h.o b) (entry_of tag place)) (λ is.
+          let one = length-AddsBlock _ _ _ adds in
+          let more = words_of-AddsBlock _ _ _ adds in
+          let keys = new_here h.o.shape.buckets b (m h).cells key refl (main h key) cell no_cell in
+          let count = len-insert nat_list_cmp_total (m h).cells key cell
+          ∙ ap (λ (z : Option Cell). cond (is_some z) (len (m h).cells) (len (m h).cells + 1)) no_cell in
+          let room = rooms_insert (m h).cells key cell in
+          let none_had = ap room_of no_cell in
+          let all = as_cells h in
+          let total = as_rooms h in record {
+            is = is;
+            here = omega arith;
+            there = λ c other. new_others h.o.shape.buckets b (m h).cells key refl (main h key) cell no_cell c other;
+            count = omega arith;
+            total = omega arith;
+          });
     }

@@ -44,7 +44,6 @@ pub use Rattle.mica_model.proofs.StoreLaws.{others_same, stamp_is_length}
 pub use Rattle.mica_model.proofs.TableSteps.{less_here, less_others, new_here, new_others}
 pub use Rattle.mica_model.specs.History.{Allows, MayGive, State, accepted_in, after, answer_of, stamp_in, stamp_of, start, store_state, value_in}
 pub use Rattle.mica_model.specs.Store.{Cell, Cells, Store, keys_in, room_of, rooms, spares_in_use}
-pub use Rattle.mica_model.specs.StoreStep.{room_after}
 pub use Rattle.mica_model.specs.Write.{IsWrite, is_accepted, size_of, write_of}
 pub use Rattle.mica_model.specs.declared.options.Mode.{Mode}
 pub use Rattle.mica_model.specs.declared.options.Mode.TheVariants.{Cache as CacheMode, Store as StoreMode}
@@ -99,4 +98,4 @@ pub use Rattle.chained_index.specs.ChainEntries.{HasNoSpot, IsSpotOf, IsUsed, en
 pub use Rattle.chained_index.specs.ChainShape.{bucket_at}
 pub use Rattle.chained_index.specs.Index.{Index, IsIndexOf, LacksPlace}
 pub use Rattle.chained_index.specs.declared.index.Spot.{Spot}
-pub use Rattle.store_partition.specs.Parts.{AreParts, cells_in, cells_of, marked_in_bucket}
+pub use Rattle.store_partition.specs.Parts.{AreParts, cells_of, marked_in_bucket}

@@ -1,9 +1,9 @@
 use Rattle.store_partition.proofs.Words.{AreBytes, IsSpotOf, Put, Stored, ap, arith, item_events, plays, refl, subst, write_of, ℕ, ◌+◌, ◌∙◌, ◌≡◌}
-use Rattle.store_partition.proofs.Events.{Closes, closes}
+use Rattle.store_partition.proofs.Events.{Closes}
 use Rattle.store_partition.proofs.InRoom.{PutInRoom, in_room}
 use Rattle.store_partition.proofs.Whole.{held}
 use Rattle.store_partition.proofs.partition.StorePartition.put_in_room.Given.{Over}
-use Rattle.store_partition.proofs.partition.StorePartition.put_in_room.Goals.{Start, After-rewrite_item}
+use Rattle.store_partition.proofs.partition.StorePartition.put_in_room.Goals.{After-rewrite_item, Start}
 use Rattle.store_partition.proofs.partition.StorePartition.put_in_room.Goals as goal
 
 steps : (g : Over) (c : Start g) → AreBytes c.args.key.now → AreBytes c.args.value.now
@@ -21,7 +21,7 @@ steps g c key_bytes value_bytes =
 closed : (g : Over) (c : After-rewrite_item g)
     → PutInRoom (g.W.OwnerWords.owner c.args.self.now.words) c.args.self.now.index c.args.self.now.heap (write_of Put c.args.key.now c.args.value.now)
     c.args.bucket (c.args.self.now.accepted + 1) c.args.block.offset c.args.block.room
-    → Closes (g.W.OwnerWords.owner c.args.self.now.words) (write_of Put c.args.key.now c.args.value.now) Stored c.args.bucket c.args.self.now.index
+    → Closes (g.W.OwnerWords.owner c.args.self.now.words) (write_of Put c.args.key.now c.args.value.now) Stored c.args.bucket (c.args.self.now.accepted + 1) c.args.self.now.index
     (λ bs. bs ≡ c.args.self.now.heap) (g.W.OwnerWords.owner c.rewrite_item.new.words)
 closed g c steps = steps.closes _
     (c.rewrite_item.ensures.events ∙ ap (plays (item_events c.args.block.offset c.args.block.room c.args.key.now c.args.value.now)) c.begin_marked.ensures.events)
@@ -56,10 +56,7 @@ invariant_of-self g c =
     let z = goal.at.invariant_of-self g c in
     let closes = closed g z.After-rewrite_item (steps g z.Start (λ k. omega (arith, c.type_inv.key k)) (λ k. omega (arith, c.type_inv.value k))) in
     let ended = closes.ended _ _ c.end_write.ensures.event refl in
-    let counted = c.args.self.now.counted in
-    let count = ended.count in
-    let stamp = ended.stamp in
-    record { parts = ∣ ended.parts ∣₁; counted = omega arith; stamped = omega arith }
+    record { parts = ∣ ended.parts ∣₁; counted = ended.count; stamped = ended.stamp }
 
 pub returns-clause-step : goal.returns-clause-step
 returns-clause-step g c =

@@ -8,7 +8,7 @@ use Rattle.store_partition.proofs.Taken.{HasPut, PutNew, new}
 use Rattle.store_partition.proofs.Refusals.{full_block, full_spare, new_needs}
 use Rattle.store_partition.proofs.Whole.{held}
 use Rattle.store_partition.proofs.partition.StorePartition.put_new.Given.{Over}
-use Rattle.store_partition.proofs.partition.StorePartition.put_new.Goals.{Start, In-Some, After-write_item_hashed, After-place}
+use Rattle.store_partition.proofs.partition.StorePartition.put_new.Goals.{After-place, After-write_item_hashed, In-Some, Start}
 use Rattle.store_partition.proofs.partition.StorePartition.put_new.Goals as goal
 
 module _ (g : Over) (c : Start g) where
@@ -42,17 +42,17 @@ steps g c =
 -- its item is put
 put : (g : Over) (c : After-write_item_hashed g) → HasPut (g.W.OwnerWords.owner c.args.self.now.words) (write_of Put c.args.key.now c.args.value.now)
     c.args.bucket (c.args.self.now.accepted + 1) c.in-Some.place (g.W.OwnerWords.owner c.write_item_hashed.new.words)
-put g c =
-    let w = write_of Put c.args.key.now c.args.value.now in
-    let begun = c.begin_marked.ensures.events ∙ ap (λ (z : OwnerState). marked_in_bucket z c.args.bucket w (c.args.self.now.accepted + 1)) c.has_place.ensures.same in
-    c.write_item_hashed.ensures.events ∙ (λ i. plays (item_events (c.from.ensures i) (c.item_size-size.ensures i) c.args.key.now c.args.value.now) (begun i))
+put g c = c.write_item_hashed.ensures.events
+    ∙ (λ i. plays (item_events (c.from.ensures i) (c.item_size-size.ensures i) c.args.key.now c.args.value.now)
+    ((c.begin_marked.ensures.events ∙ ap (λ (z : OwnerState). marked_in_bucket z c.args.bucket (write_of Put c.args.key.now c.args.value.now) (c.args.self.now.accepted + 1))
+    c.has_place.ensures.same) i))
 
 -- and its entry
 closed : (g : Over) (c : After-place g) → PutNew (g.W.OwnerWords.owner c.args.self.now.words) c.args.self.now.index c.take.new.self
     (write_of Put c.args.key.now c.args.value.now) c.args.bucket (c.args.self.now.accepted + 1) c.in-Some.place
     → HasPut (g.W.OwnerWords.owner c.args.self.now.words) (write_of Put c.args.key.now c.args.value.now)
     c.args.bucket (c.args.self.now.accepted + 1) c.in-Some.place (g.W.OwnerWords.owner c.write_item_hashed.new.words)
-    → Closes (g.W.OwnerWords.owner c.args.self.now.words) (write_of Put c.args.key.now c.args.value.now) Stored c.args.bucket c.place.new.self
+    → Closes (g.W.OwnerWords.owner c.args.self.now.words) (write_of Put c.args.key.now c.args.value.now) Stored c.args.bucket (c.args.self.now.accepted + 1) c.place.new.self
     (λ bs. bs ≡ c.take.new.self) (g.W.OwnerWords.owner c.place.new.words)
 closed g c steps put =
     let entry = subst (λ (p : ℕ). ChangesChain (g.W.OwnerWords.owner c.write_item_hashed.new.words) (g.W.OwnerWords.owner c.place.new.words) c.args.bucket
@@ -115,10 +115,7 @@ pub invariant_of-self-2 : goal.invariant_of-self-2
 invariant_of-self-2 g c =
     let z = goal.at.invariant_of-self-2 g c in
     let ended = (closed g z.After-place (steps g z.In-Some) (put g z.After-write_item_hashed)).ended _ _ c.end_write.ensures.event refl in
-    let counted = c.args.self.now.counted in
-    let count = ended.count in
-    let stamp = ended.stamp in
-    record { parts = ∣ ended.parts ∣₁; counted = omega arith; stamped = omega arith }
+    record { parts = ∣ ended.parts ∣₁; counted = ended.count; stamped = ended.stamp }
 
 pub returns-clause-step : goal.returns-clause-step
 returns-clause-step g c =
