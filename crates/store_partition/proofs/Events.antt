@@ -8,7 +8,7 @@ use Rattle.store_partition.proofs.Words.{entries_stay, entry_at, entry_begins, e
 use Rattle.store_partition.proofs.Words.{index_begins, index_marks, inl, inr, is_accepted, item_at, item_begins, item_in, item_marks, item_no_epoch}
 use Rattle.store_partition.proofs.Words.{kept_after, length, length-set, length_push, link_at, link_begins, link_in, link_marks, marked_in}
 use Rattle.store_partition.proofs.Words.{marked_in_bucket, no_epoch, number_entry, number_of, number_within, options_in, other_word, phase_after}
-use Rattle.store_partition.proofs.Words.{refl, room_in, spot_entry, stamp_in, stamp_is_length, stamp_of, state_snoc, subst, subst₂, suc, sym, true}
+use Rattle.store_partition.proofs.Words.{refl, room_in, spot_entry, stamp_in, stamp_is_length, stamp_of, state_snoc, subst, suc, sym, true}
 use Rattle.store_partition.proofs.Words.{words_after, write_of, zero, ℕ, ◌++◌, ◌+◌, ◌<◌, ◌∙◌, ◌∷◌, ◌≡◌}
 use Rattle.store_partition.proofs.Held.{Held, before, m, main}
 
@@ -157,12 +157,12 @@ module _ (h : Held) (a : Accepted h) where
   ready words o3 is = subst (λ (z : OwnerState). (marked_in z.phase b ≡ 1) × IsMain z.shape b) (sym is) (bit_same b b refl, (main h a.w.key))
 
   -- and what it leaves
-  module _ (words ys : List ℕ) (o3 o4 : OwnerState) (at_words : o3 ≡ written words) (change : ChangesChain o3 o4 b ys) where
+  module _ (words ys : List ℕ) (o4 : OwnerState) (change : ChangesChain (written words) o4 b ys) where
     pub at_last : o4 ≡ written o4.words
-    at_last = (subst (λ (z : OwnerState). ChangesChain z o4 b ys) at_words change).rest.same
+    at_last = change.rest.same
 
     pub changed : ChangesChain (written words) (written o4.words) b ys
-    changed = subst₂ (λ (z z' : OwnerState). ChangesChain z z' b ys) at_words at_last change
+    changed = subst (λ (z : OwnerState). ChangesChain (written words) z b ys) at_last change
 
   -- The end
 

@@ -42,12 +42,18 @@ module _ (h : Held) (key value : List ℕ) where
   }
 
   pub full_spare : length h.o.history < h.o.shape.wear → HasNoSpot h.o b key → LacksPlace h.index h.o b → IsOwnerStep h.o h.o (write_of Put key value) FullSpare
-  full_spare unworn none lacks = refused FullSpare refl (may_give h (write_of Put key value) FullSpare (not_worn h unworn, (tt, record {
-    is_new = has_none h key none;
-    some = (let some = lacks.some in let same = own_keys in omega arith);
-    full = ap (λ (n : ℕ). n % 15) (sym own_keys) ∙ lacks.full;
-    none_left = (let free = ap length lacks.none_free in let all = counted in omega arith);
-  })))
+  full_spare unworn none lacks = refused FullSpare refl (may_give h (write_of Put key value) FullSpare (
+    not_worn h unworn,
+    (
+      tt,
+      record {
+        is_new = has_none h key none;
+        some = (let some = lacks.some in let same = own_keys in omega arith);
+        full = ap (λ (n : ℕ). n % 15) (sym own_keys) ∙ lacks.full;
+        none_left = (let free = ap length lacks.none_free in let all = counted in omega arith);
+      },
+    ),
+  ))
 
   -- which puts need a block
 
@@ -72,6 +78,11 @@ module _ (h : Held) (key value : List ℕ) where
       → IsOwnerStep h.o h.o (write_of Put key value) FullBlock
   full_block unworn needs lack =
       let words = words_of-fills 0 h.o.shape.words h.blocks h.parts.list.fills in
-      refused FullBlock refl (may_give h (write_of Put key value) FullBlock (not_worn h unworn, (needs,
-      subst₂ (λ (k l : ℕ). h.o.shape.words ≤ (k + 1) * (item_size key value - 1) + l) (as_cells h) (as_rooms h)
-      (subst (λ (z : ℕ). z ≤ (length (used_blocks h.blocks) + 1) * (item_size key value - 1) + words_of (used_blocks h.blocks)) (omega arith) lack))))
+      refused FullBlock refl (may_give h (write_of Put key value) FullBlock (
+        not_worn h unworn,
+        (
+          needs,
+          subst₂ (λ (k l : ℕ). h.o.shape.words ≤ (k + 1) * (item_size key value - 1) + l) (as_cells h) (as_rooms h)
+              (subst (λ (z : ℕ). z ≤ (length (used_blocks h.blocks) + 1) * (item_size key value - 1) + words_of (used_blocks h.blocks)) (omega arith) lack),
+        ),
+      ))

@@ -98,17 +98,17 @@ module _ (h : Held) (key value : List ℕ) (w_is : IsWrite (write_of Put key val
     put = put_words h a place size r
 
     -- the entry that names the block
-    module _ (tag : ℕ) (tag_is : tag ≡ tag_of key) (o3 o4 : OwnerState) (ys : List ℕ) (at3 : o3 ≡ written h a put) (change : ChangesChain o3 o4 b ys)
+    module _ (tag : ℕ) (tag_is : tag ≡ tag_of key) (o4 : OwnerState) (ys : List ℕ) (change : ChangesChain (written h a put) o4 b ys)
         (kept4 : Kept o4) (index' : Index) (known : IsIndexOf index' o4) (own rest : List ℕ) (split_is : Split h key own rest)
         (ys_are : IsPermutation ys (entry_of tag place ∷ rest)) where
       abbrev entry : ℕ
       entry = entry_of tag place
 
       at4 : o4 ≡ written h a o4.words
-      at4 = at_last h a put ys o3 o4 at3 change
+      at4 = at_last h a put ys o4 change
 
       chain : ChangesChain (written h a put) (written h a o4.words) b ys
-      chain = changed h a put ys o3 o4 at3 change
+      chain = changed h a put ys o4 change
 
       offset : entry_offset entry ≡ place
       offset = entry_offset-entry_of tag place low
@@ -172,15 +172,6 @@ module _ (h : Held) (key value : List ℕ) (w_is : IsWrite (write_of Put key val
     on = stays h a (put takes) (put_same h a place size (r takes)) (kept_put h a place size (r takes)) (put_index h a place size (r takes))
         (put_entries h a place size (r takes) b (main h key)) spot found.used
 
-    replaced : (o3 o4 : OwnerState) (tag : ℕ) → o3 ≡ now
-        → WhenMarked o3.phase (λ c write before. ChangesChain o3 o4 c (slice_set (entries_of o3 c) (number_of o3 c spot) (entry_of tag place)))
-        → ChangesChain o3 o4 b (slice_set (entries_of h.o b) place_now (entry_of tag place))
-    replaced o3 o4 tag at3 change =
-        let from = subst (λ (z : OwnerState). WhenMarked z.phase (λ c write before.
-        ChangesChain z o4 c (slice_set (entries_of z c) (number_of z c spot) (entry_of tag place)))) at3 change in
-        subst (λ (z : OwnerState). ChangesChain z o4 b (slice_set (entries_of h.o b) place_now (entry_of tag place))) (sym at3)
-        (subst (λ (xs : List ℕ). ChangesChain now o4 b (slice_set xs place_now (entry_of tag place))) (put_entries h a place size (r takes) b (main h key)) from)
-
     counts : (words new : List ℕ) (bs : List Block) → IsGiven blocks1 bs old → length new ≡ 1 → cells h a words ≡ insert (m h).cells key cell
         → Counts h a words (e ∷ []) new bs (insert (m h).cells key cell)
     counts words new bs given one is =
@@ -201,7 +192,10 @@ module _ (h : Held) (key value : List ℕ) (w_is : IsWrite (write_of Put key val
       closes = λ o3 o4 tag index' events tag_is kept4 known change.
           let at3 = at_put h a place size (r takes) (marked h a) o3 refl events in
           let moved = removed (entries_of h.o b) place_now e on.inside on.is in
-          other_heap takes tag tag_is o3 o4 _ at3 (replaced o3 o4 tag at3 change) kept4 index' known (e ∷ []) _ (split h key w_is.key_bytes spot found _ moved)
+          let from = subst (λ (z : OwnerState). WhenMarked z.phase (λ c write before.
+          ChangesChain z o4 c (slice_set (entries_of z c) (number_of z c spot) (entry_of tag place)))) at3 change in
+          let to = subst (λ (xs : List ℕ). ChangesChain now o4 b (slice_set xs place_now (entry_of tag place))) (put_entries h a place size (r takes) b (main h key)) from in
+          other_heap takes tag tag_is o4 _ to kept4 index' known (e ∷ []) _ (split h key w_is.key_bytes spot found _ moved)
           (set_moved (entries_of h.o b) place_now (entry_of tag place) on.inside) (λ bs. IsGiven blocks1 bs old × IsBlockList (words_of blocks1) bs)
           (λ bs becomes houses cells_are_now. (
             given_back h a o4.words (entry_of tag place ∷ []) blocks1 bs old houses becomes.0 becomes.1
@@ -224,8 +218,8 @@ module _ (h : Held) (key value : List ℕ) (w_is : IsWrite (write_of Put key val
     own_room : size ≡ ss.room_after (get (m h).cells key) size
     own_room = ap (λ z. ss.room_after z size) (sym no_cell)
 
-    same_entries : (o3 : OwnerState) → o3 ≡ written h a (put own_room) → entries_of o3 b ≡ entries_of h.o b
-    same_entries o3 at3 = ap (λ (z : OwnerState). entries_of z b) at3 ∙ put_entries h a place size (r own_room) b (main h key)
+    entries : entries_of (written h a (put own_room)) b ≡ entries_of h.o b
+    entries = put_entries h a place size (r own_room) b (main h key)
 
     pub new : (b' : ℕ) → b' ≡ b → PutNew h.o h.index blocks1 (write_of Put key value) b' (n + 1) place
     new b' is = subst (λ (c : ℕ). PutNew h.o h.index blocks1 (write_of Put key value) c (n + 1) place) (sym is) record {
@@ -237,16 +231,15 @@ module _ (h : Held) (key value : List ℕ) (w_is : IsWrite (write_of Put key val
             subst (IsIndexOf h.index) (sym at3) (put_index h a place size (r own_room)),
             ready_now.0,
             ready_now.1,
-            λ lacks. places record {
-              some = subst (λ (xs : List ℕ). 0 < length xs) (same_entries o3 at3) lacks.some;
-              full = subst (λ (xs : List ℕ). length xs % 15 ≡ 0) (same_entries o3 at3) lacks.full;
-              none_free = lacks.none_free;
-            },
+            λ lacks.
+                let there = subst (λ (z : OwnerState). LacksPlace h.index z b) at3 lacks in
+                places (record { some = subst (λ (xs : List ℕ). 0 < length xs) entries there.some; full = ap (λ (xs : List ℕ). length xs % 15) (sym entries) ∙ there.full; none_free = there.none_free }),
           );
       closes = λ o3 o4 tag index' events tag_is kept4 known change.
           let at3 = at_put h a place size (r own_room) (marked h a) o3 refl events in
-          let adds_entry = subst (λ (xs : List ℕ). ChangesChain o3 o4 b (xs ++ entry_of tag place ∷ [])) (same_entries o3 at3) change in
-          same_heap own_room tag tag_is o3 o4 _ at3 adds_entry kept4 index' known [] _ (split_none h key none)
+          let from = subst (λ (z : OwnerState). ChangesChain z o4 b (entries_of z b ++ entry_of tag place ∷ [])) at3 change in
+          let to = subst (λ (xs : List ℕ). ChangesChain (written h a (put own_room)) o4 b (xs ++ entry_of tag place ∷ [])) entries from in
+          same_heap own_room tag tag_is o4 _ to kept4 index' known [] _ (split_none h key none)
           (IsPermutation-to_front (entries_of h.o b) (entry_of tag place)) (λ is.
           let one = length-AddsBlock _ _ _ adds in
           let more = words_of-AddsBlock _ _ _ adds in
