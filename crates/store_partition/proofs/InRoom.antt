@@ -1,184 +1,104 @@
 -- A put whose item fits the room of the key's item.
-use Rattle.std.proofs.Common.{◌≡◌, ◌≢◌, ℕ, ◌+◌, ◌<◌, ◌≤◌, ◌⊎◌, inl, inr, List, length, Some, refl, sym, ap, ◌∙◌, subst, subst₂, arith}
-use Rattle.std.specs.Prelude.{IsSomeAnd, Contains}
-use Rattle.std.specs.FinMap.{get, len, insert}
-use Rattle.mica_words.specs.Entry.{entry_offset}
-use Rattle.mica_words.specs.Item.{item_size}
-use Rattle.mica_words.specs.Packing.{AreBytes}
-use Rattle.mica_model.specs.declared.write.Op.TheVariants.{Put}
-use Rattle.mica_model.specs.declared.write.Outcome.TheVariants.{Stored}
-use Rattle.mica_model.specs.Write.{IsWrite, write_of}
-use Rattle.mica_model.specs.Store.{Store, Cell, rooms, keys_in}
 use Rattle.mica_model.specs.StoreStep as ss
-use Rattle.mica_model.specs.History.{MayGive, stamp_of}
-use Rattle.mica_model.proofs.CellSums.{keys_over}
-use Rattle.epoch_core.specs.declared.state.OwnerState.{OwnerState}
-use Rattle.epoch_core.specs.declared.event.Event.TheVariants.{Begins, Ends}
-use Rattle.epoch_core.specs.Shape.{IsMain}
-use Rattle.epoch_core.specs.ItemAt.{HasKey, HasKeyWords}
-use Rattle.epoch_core.specs.OwnerState.{item_in, options_in, bucket_in}
-use Rattle.epoch_core.specs.OwnerStep.{IsOwnerStep}
-use Rattle.epoch_core.specs.StandsFor.{Spells, room_in}
-use Rattle.epoch_core.specs.Events.{MayBegin, MayMark, MayEnd, CanPlay, plays, item_events, after as after_event}
-use Rattle.epoch_core.specs.Kept.{Kept}
-use Rattle.block_heap.specs.declared.block.Block.{Block}
-use Rattle.block_heap.specs.Blocks.{used_block, used_blocks}
-use Rattle.chained_index.specs.declared.index.Spot.{Spot}
-use Rattle.chained_index.specs.ChainEntries.{entries_of, number_of, spot_entry, IsSpotOf}
-use Rattle.chained_index.specs.Index.{Index}
-use Rattle.chained_index.proofs.Listed.{at}
-use Rattle.store_partition.specs.Parts.{AreParts, marked_in_bucket}
-use Rattle.store_partition.proofs.Entries.{main_of, store_at, stood, inside, clear, unmarked}
-use Rattle.store_partition.proofs.Counts.{len_over, rooms_over, room_kept}
-use Rattle.store_partition.proofs.Effects as effects
-use Rattle.store_partition.proofs.Facts as facts
-use Rattle.store_partition.proofs.Storing as storing
+use Rattle.store_partition.proofs.Words.{Block, CanPlay, Cell, Contains, HasKey, HasKeyWords, Index, IsPermutation, IsSomeAnd, IsSpotOf, IsWrite}
+use Rattle.store_partition.proofs.Words.{List, MayGive, OwnerState, Put, Some, Spot, Stored, Write, [], ap, arith, bucket_in, cond-true, entries_of}
+use Rattle.store_partition.proofs.Words.{entry_offset, get, inl, inr, insert, item_events, item_size, le-leb, leb, length, list_remove}
+use Rattle.store_partition.proofs.Words.{marked_in_bucket, number_of, options_in, plays, refl, room_in, spot_entry, subst, subst₂, sym, used_block}
+use Rattle.store_partition.proofs.Words.{used_blocks, write_of, ℕ, ◌+◌, ◌<◌, ◌∙◌, ◌∷◌, ◌≡◌, ◌≤◌}
+use Rattle.store_partition.proofs.Once.{removed}
+use Rattle.store_partition.proofs.Blocks.{same_or_apart}
+use Rattle.store_partition.proofs.Held.{Held, among, elsewhere, has_found, m, main, may_give, not_worn, own, place_entry, place_within, room_found}
+use Rattle.store_partition.proofs.Held.{split, used, within}
+use Rattle.store_partition.proofs.Events.{Accepted, Closes, Opens, marked, marked_item, opens, stored}
+use Rattle.store_partition.proofs.After.{Changes, Counts, Houses, counts_over, finished_same}
+use Rattle.store_partition.proofs.Putting.{Room, at_put, can_item, cells_are, changes, kept_put, own_block, put_entries, put_index, put_words}
 
-module _ (o : OwnerState) (s : Kept o) (index : Index) (blocks : List Block) (parts : AreParts index blocks o) (key value : List ℕ)
-    (w_is : IsWrite (write_of Put key value)) (bytes : AreBytes key) (b : ℕ) (is : b ≡ bucket_in o key) (unworn : length o.history < o.shape.wear)
-    (spot : Spot) (found : IsSpotOf o (bucket_in o key) key spot) (offset room : ℕ) (offset_is : offset ≡ entry_offset (spot_entry o spot))
-    (room_is : room ≡ room_in o (spot_entry o spot)) (fits : item_size key value ≤ room) where
-  abbrev xs : List ℕ
-  xs = entries_of o (bucket_in o key)
+-- each event may happen, and they make of the partition what the machine makes of its state
+pub record PutInRoom (o : OwnerState) (index : Index) (blocks : List Block) (w : Write) (b t offset room : ℕ) : Type 0 where
+  pub opens : Opens o w b t
+  pub item : (o2 : OwnerState) → o2 ≡ marked_in_bucket o b w t → CanPlay (item_events offset room w.key w.value) o2
+  pub there : (o2 : OwnerState) → o2 ≡ marked_in_bucket o b w t → HasKeyWords o2 offset w.key
+  pub closes : (o3 : OwnerState) → o3 ≡ plays (item_events offset room w.key w.value) (marked_in_bucket o b w t)
+      → Closes o w Stored b t index (λ bs. bs ≡ blocks) o3
 
-  abbrev n : ℕ
-  n = number_of o (bucket_in o key) spot
+module _ (h : Held) (key value : List ℕ) (w_is : IsWrite (write_of Put key value)) (unworn : length h.o.history < h.o.shape.wear)
+    (n : ℕ) (counted : n ≡ length h.o.history) (spot : Spot) (found : IsSpotOf h.o (bucket_in h.o key) key spot)
+    (offset room : ℕ) (offset_is : offset ≡ entry_offset (spot_entry h.o spot)) (room_is : room ≡ room_in h.o (spot_entry h.o spot))
+    (fits : item_size key value ≤ room) where
+  abbrev b : ℕ
+  b = bucket_in h.o key
 
-  main : IsMain o.shape (bucket_in o key)
-  main = main_of o s key
-
-  within : n < length xs
-  within = facts.place_within o s index blocks parts key bytes spot found.used
-
-  entry_is : at xs n ≡ spot_entry o spot
-  entry_is = facts.place_entry o s index blocks parts key bytes spot found.used
-
-  abbrev m : Store
-  m = (store_at o s index blocks parts).0
+  abbrev e : ℕ
+  e = spot_entry h.o spot
 
   abbrev old : Cell
-  old = (facts.cell_found o s index blocks parts key bytes spot found n within entry_is).0
+  old = (own h key w_is.key_bytes spot found).0
 
-  has : get m.cells key ≡ Some old
-  has = facts.has_found o s index blocks parts key bytes spot found n within entry_is
+  has : get (m h).cells key ≡ Some old
+  has = has_found h key w_is.key_bytes spot found
 
-  old_room : room ≡ old.room
-  old_room = room_is ∙ facts.room_found o s index blocks parts key bytes spot found n within entry_is
+  same_room : room ≡ old.room
+  same_room = room_is ∙ room_found h key w_is.key_bytes spot found
 
-  may : MayGive (options_in o) o.history (write_of Put key value) Stored
-  may = facts.may_give o s index blocks parts key bytes (write_of Put key value) refl unworn Stored (
-    facts.not_worn o s index blocks parts key bytes (write_of Put key value) refl unworn,
-    ((tt, inl tt), inl (subst (λ z. IsSomeAnd z (λ cell. item_size key value ≤ cell.room)) (sym has) (let same = old_room in omega arith))),
+  may : MayGive (options_in h.o) h.o.history (write_of Put key value) Stored
+  may = may_give h (write_of Put key value) Stored (
+    not_worn h unworn,
+    ((tt, inl tt), inl (subst (λ z. IsSomeAnd z (λ cell. item_size key value ≤ cell.room)) (sym has) (let same = same_room in omega arith))),
   )
 
-  there_offset : entry_offset (at xs n) ≡ offset
-  there_offset = ap entry_offset entry_is ∙ sym offset_is
+  abbrev a : Accepted h
+  a = stored h key value w_is unworn may n counted
 
-  there_room : room_in o (at xs n) ≡ room
-  there_room = ap (room_in o) entry_is ∙ sym room_is
+  own_room : Contains (used_blocks h.blocks) (used_block offset room)
+  own_room = subst₂ (λ (p n : ℕ). Contains (used_blocks h.blocks) (used_block p n)) (sym offset_is) (sym room_is)
+      (used h b (main h key) e (among h key w_is.key_bytes spot found))
 
-  block : offset + room ≤ o.shape.words
-  block = let all = inside o s index blocks parts (bucket_in o key) n main within in let p = there_offset in let r = there_room in omega arith
+  r : Room h a offset room
+  r = record {
+    put = refl;
+    few = fits;
+    small = omega (arith, room_is);
+    block = let all = within h b (main h key) e (among h key w_is.key_bytes spot found) in omega arith;
+    takes = same_room ∙ sym (ap (λ z. ss.room_after z (item_size key value)) has
+        ∙ cond-true (leb (item_size key value) old.room) old.room (item_size key value) (le-leb (item_size key value) old.room (let same = same_room in omega arith)));
+    apart = λ c x l among_c other.
+        let differs = elsewhere h key w_is.key_bytes spot found c x l among_c other in
+        elim (same_or_apart h.o.shape.words h.blocks h.parts.list (used_block offset room) (used_block (entry_offset x) (room_in h.o x)) own_room (used h c l x among_c)) [
+          | inl same ↦ absurd (differs (sym offset_is ∙ ap (λ (z : Block). z.place) same))
+          | inr apart ↦ apart
+        ];
+  }
 
-  others_apart : (c j : ℕ) → IsMain o.shape c → c ≢ bucket_in o key → j < length (entries_of o c)
-      → (entry_offset (at (entries_of o c) j) + room_in o (at (entries_of o c) j) ≤ offset) ⊎ (offset + room ≤ entry_offset (at (entries_of o c) j))
-  others_apart c j l other less =
-      let p = there_offset in
-      let r = there_room in
-      elim (clear o s index blocks parts (bucket_in o key) n c j main l within less
-      ((stood o s index blocks parts (bucket_in o key) main).apart c n j l other (unmarked o s index blocks parts c) within less)) [
-        | inl before ↦ inr (omega arith)
-        | inr behind ↦ inl (omega arith)
-      ]
+  abbrev words : List ℕ
+  words = put_words h a offset room r
 
-  apart : (j : ℕ) → j < length xs → j ≢ n → (entry_offset (at xs j) + room_in o (at xs j) ≤ offset) ⊎ (offset + room ≤ entry_offset (at xs j))
-  apart j less other =
-      let p = there_offset in
-      let r = there_room in
-      elim (clear o s index blocks parts (bucket_in o key) j (bucket_in o key) n main main less within
-      ((stood o s index blocks parts (bucket_in o key) main).rooms j n less within other)) [
-        | inl before ↦ inl (omega arith)
-        | inr behind ↦ inr (omega arith)
-      ]
+  changed_lists : Changes h a words (e ∷ []) (list_remove (entries_of h.o b) (number_of h.o b spot)) (e ∷ []) h.index
+  changed_lists =
+      let moved = removed (entries_of h.o b) (number_of h.o b spot) e (place_within h key w_is.key_bytes spot found) (place_entry h key w_is.key_bytes spot found) in
+      changes h a offset room r words (λ q. refl) e (sym offset_is) found.tag (e ∷ []) _ h.index (split h key w_is.key_bytes spot found _ moved)
+      (subst (λ (xs : List ℕ). IsPermutation xs (e ∷ list_remove (entries_of h.o b) (number_of h.o b spot))) (sym (put_entries h a offset room r b (main h key))) moved)
+      (λ c l other. put_entries h a offset room r c l) (kept_put h a offset room r) (put_index h a offset room r)
 
-  takes : room ≡ ss.room_after (get m.cells key) (item_size key value)
-  takes = old_room ∙ sym (room_kept (get m.cells key) old (item_size key value) has (let same = old_room in omega arith))
+  houses : Houses h a words (e ∷ []) h.blocks
+  houses = record {
+    list = h.parts.list;
+    old = λ c x l among_c other. used h c l x among_c;
+    new = own_block h a offset room r words (λ q. refl) e (sym offset_is) found.tag h.blocks own_room;
+  }
 
-  small : room < 65536
-  small = omega (arith, room_is)
+  counts : Counts h a words (e ∷ []) (e ∷ []) h.blocks (insert (m h).cells key (record { value = value; room = room }))
+  counts = counts_over h a words (e ∷ []) (e ∷ []) h.blocks old (record { value = value; room = room }) refl has
+      (cells_are h a offset room r words (λ q. refl)) refl (let same = same_room in omega arith)
 
-  not_n : (j : ℕ) → j < length xs → ((k : List ℕ) (cell : Cell) → Spells o (bucket_in o key) (at xs j) k cell → k ≢ key) → j ≢ n
-  not_n j less other same =
-      let its = (facts.cell_found o s index blocks parts key bytes spot found n within entry_is).1 in
-      other key old (subst (λ (z : ℕ). Spells o (bucket_in o key) (at xs z) key old) (sym same) its) refl
-
-  pub begin_ok : MayBegin o b
-  begin_ok = storing.begin_ok o s index blocks parts key value w_is b is unworn may
-
-  pub mark_ok : (t : ℕ) → t ≡ length o.history → MayMark (after_event (Begins b) o) (write_of Put key value) (t + 1)
-  mark_ok = storing.mark_ok o s index blocks parts key value w_is b is unworn may
-
-  module _ (t : ℕ) (o2 : OwnerState) (e2 : o2 ≡ marked_in_bucket o b (write_of Put key value) t) (k2 : Kept o2) where
-    item_same : (q : ℕ) → item_in o2 q ≡ item_in o q
-    item_same q =
-        (λ j. item_in ((e2 ∙ ap (λ (z : ℕ). marked_in_bucket o z (write_of Put key value) t) is) j) q)
-        ∙ effects.marked_item o s index blocks parts (write_of Put key value) t q
-
-    -- the key's words stand in the room
-    pub there : HasKeyWords o2 offset key
-    there =
-        let has = subst (λ (p : ℕ). HasKey o p key) (sym offset_is) found.item in record {
-          hash = item_same (offset + 1) ∙ has.hash;
-          words = λ i l. item_same (offset + 2 + i) ∙ has.words i l;
-        }
-
-    pub can_ok : CanPlay (item_events offset room key value) o2
-    can_ok = storing.can_ok o s index blocks parts key value w_is b is unworn may t o2 e2 k2 offset room fits block others_apart
-
-    module _ (o3 : OwnerState) (e3 : o3 ≡ plays (item_events offset room key value) o2) (k3 : Kept o3) where
-      pub end_ok : MayEnd o3 b
-      end_ok = storing.end_ok o s index blocks parts key value w_is b is unworn may t o2 e2 k2 offset room fits block others_apart o3 e3 o3 k3 xs
-          (storing.no_change o s index blocks parts key value w_is b is unworn may t o2 e2 k2 offset room fits block others_apart o3 e3) index
-          (storing.index_ok o s index blocks parts key value w_is b is unworn may t o2 e2 k2 offset room fits block others_apart o3 e3)
-          takes small (spot_entry o spot) n (sym offset_is) found.tag within entry_is (λ i l other. (l, refl)) (λ j l other. l)
-          (facts.others_differ o s index blocks parts key bytes spot found n within entry_is) not_n apart
-
-      module _ (o5 : OwnerState) (e5 : o5 ≡ after_event (Ends b) o3) where
-        pub count : length o5.history ≡ length o.history + 1
-        count = storing.count o s index blocks parts key value w_is b is unworn may t o2 e2 k2 offset room fits block others_apart o3 e3 o3 k3 xs
-            (storing.no_change o s index blocks parts key value w_is b is unworn may t o2 e2 k2 offset room fits block others_apart o3 e3) index
-            (storing.index_ok o s index blocks parts key value w_is b is unworn may t o2 e2 k2 offset room fits block others_apart o3 e3)
-            takes small (spot_entry o spot) n (sym offset_is) found.tag within entry_is (λ i l other. (l, refl)) (λ j l other. l)
-            (facts.others_differ o s index blocks parts key bytes spot found n within entry_is) not_n apart o5 e5
-
-        pub stamp : length o.history + 1 ≡ stamp_of (options_in o5) o5.history
-        stamp = storing.stamp o s index blocks parts key value w_is b is unworn may t o2 e2 k2 offset room fits block others_apart o3 e3 o3 k3 xs
-            (storing.no_change o s index blocks parts key value w_is b is unworn may t o2 e2 k2 offset room fits block others_apart o3 e3) index
-            (storing.index_ok o s index blocks parts key value w_is b is unworn may t o2 e2 k2 offset room fits block others_apart o3 e3)
-            takes small (spot_entry o spot) n (sym offset_is) found.tag within entry_is (λ i l other. (l, refl)) (λ j l other. l)
-            (facts.others_differ o s index blocks parts key bytes spot found n within entry_is) not_n apart o5 e5
-
-        pub step : IsOwnerStep o o5 (write_of Put key value) Stored
-        step = storing.step o s index blocks parts key value w_is b is unworn may t o2 e2 k2 offset room fits block others_apart o3 e3 o3 k3 xs
-            (storing.no_change o s index blocks parts key value w_is b is unworn may t o2 e2 k2 offset room fits block others_apart o3 e3) index
-            (storing.index_ok o s index blocks parts key value w_is b is unworn may t o2 e2 k2 offset room fits block others_apart o3 e3)
-            takes small (spot_entry o spot) n (sym offset_is) found.tag within entry_is (λ i l other. (l, refl)) (λ j l other. l)
-            (facts.others_differ o s index blocks parts key bytes spot found n within entry_is) not_n apart o5 e5
-
-        cells_now : (c : ℕ) → IsMain o.shape c → length (entries_of o c) ≡ keys_in o.shape.buckets c (insert m.cells key (record { value = value; room = room }))
-        cells_now c l = parts.entries c l ∙ (ap (keys_in o.shape.buckets c) (facts.cells_are o s index blocks parts key bytes)
-            ∙ sym (keys_over o.shape.buckets c m.cells key old (record { value = value; room = room }) has))
-
-        pub parts_ok : AreParts index blocks o5
-        parts_ok = storing.parts_ok o s index blocks parts key value w_is b is unworn may t o2 e2 k2 offset room fits block others_apart o3 e3 o3 k3 xs
-            (storing.no_change o s index blocks parts key value w_is b is unworn may t o2 e2 k2 offset room fits block others_apart o3 e3) index
-            (storing.index_ok o s index blocks parts key value w_is b is unworn may t o2 e2 k2 offset room fits block others_apart o3 e3)
-            takes small (spot_entry o spot) n (sym offset_is) found.tag within entry_is (λ i l other. (l, refl)) (λ j l other. l)
-            (facts.others_differ o s index blocks parts key bytes spot found n within entry_is) not_n apart o5 e5
-            blocks parts.list
-            (subst₂ (λ (p r : ℕ). Contains (used_blocks blocks) (used_block p r)) there_offset there_room (parts.used (bucket_in o key) main n within))
-            (λ j l other. parts.used (bucket_in o key) main j l) (λ c j l other less. parts.used c l j less)
-            (cells_now (bucket_in o key) main) (λ c l other. cells_now c l)
-            (parts.count ∙ (ap len (facts.cells_are o s index blocks parts key bytes) ∙ sym (len_over m.cells key old (record { value = value; room = room }) has)))
-            (let total = parts.words ∙ ap rooms (facts.cells_are o s index blocks parts key bytes) in
-            let step = rooms_over m.cells key old (record { value = value; room = room }) has in let same = old_room in omega arith)
+  pub in_room : (b' : ℕ) → b' ≡ b → PutInRoom h.o h.index h.blocks (write_of Put key value) b' (n + 1) offset room
+  in_room b' is = subst (λ (c : ℕ). PutInRoom h.o h.index h.blocks (write_of Put key value) c (n + 1) offset room) (sym is) record {
+    opens = opens h a;
+    item = can_item h a offset room r;
+    there = λ o2 at.
+        let key_there = subst (λ (p : ℕ). HasKey h.o p key) (sym offset_is) found.item in
+        subst (λ (z : OwnerState). HasKeyWords z offset key) (sym at) record {
+          hash = marked_item h a (offset + 1) ∙ key_there.hash;
+          words = λ i l. marked_item h a (offset + 2 + i) ∙ key_there.words i l;
+        };
+    closes = λ o3 events. finished_same h a words _ _ _ h.index changed_lists h.blocks houses _ counts o3 (at_put h a offset room r (marked h a) o3 refl events);
+  }

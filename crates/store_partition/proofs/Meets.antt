@@ -1,18 +1,8 @@
 -- What an owner has met changes nothing of how the index and the heap go with its words.
-use Rattle.std.proofs.Common.{◌≡◌, ℕ, zero, suc, ◌<◌, ◌==◌, if◌then◌else◌, List, [], ◌∷◌, length, Contains, slice_index, refl, sym, ap, ◌∙◌, subst}
-use Rattle.std.specs.Prelude.{flat_map}
-use Rattle.mica_words.specs.Entry.{entry_offset}
-use Rattle.epoch_core.specs.declared.state.OwnerState.{OwnerState}
-use Rattle.epoch_core.specs.declared.state.Met.{Met}
-use Rattle.epoch_core.specs.OwnerState.{link_in}
-use Rattle.epoch_core.specs.Chain.{IsFreeSpare}
-use Rattle.epoch_core.specs.StandsFor.{room_in}
-use Rattle.epoch_core.proofs.Meeting.{chain_on, chain_back, dense_on}
-use Rattle.block_heap.specs.declared.block.Block.{Block}
-use Rattle.block_heap.specs.Blocks.{used_block, used_blocks}
 use Rattle.chained_index.specs.ChainEntries.{buckets_from, buckets_of, entries_in, entries_of}
-use Rattle.chained_index.specs.Index.{Index, IsIndexOf}
-use Rattle.store_partition.specs.Parts.{AreParts}
+use Rattle.store_partition.proofs.Words.{AreParts, Block, Contains, Index, IsFreeSpare, List, Met, OwnerState, [], ap, chain_back, chain_on, dense_on}
+use Rattle.store_partition.proofs.Words.{entry_offset, flat_map, if◌then◌else◌, length, link_in, refl, room_in, slice_index, subst, suc, sym}
+use Rattle.store_partition.proofs.Words.{used_block, used_blocks, zero, ℕ, ◌<◌, ◌==◌, ◌∙◌, ◌∷◌, ◌≡◌}
 
 module _ (o : OwnerState) (met : Met) (closed : ℕ) where
   abbrev p : OwnerState
@@ -33,20 +23,17 @@ module _ (o : OwnerState) (met : Met) (closed : ℕ) where
   free_back : (c : ℕ) → IsFreeSpare p c → IsFreeSpare o c
   free_back c f = record { spare = f.spare; free = λ b main h. f.free b main (chain_on o met closed b c h) }
 
-  index_met : (index : Index) → IsIndexOf index o → IsIndexOf index p
-  index_met index k = record {
-    shape = k.shape;
-    dense = λ b main. dense_on o met closed b (k.dense b main);
-    free = λ c. (λ has. free_on c ((k.free c).0 has), λ f. (k.free c).1 (free_back c f));
-    once = k.once;
-    blank = λ c f. let blank = k.blank c (free_back c f) in record { no_link = blank.no_link; no_entry = blank.no_entry };
-  }
-
   pub parts_met : (index : Index) (blocks : List Block) → AreParts index blocks o → AreParts index blocks p
   parts_met index blocks k = record {
     mode = k.mode;
     idle = k.idle;
-    known = index_met index k.known;
+    known = record {
+      shape = k.known.shape;
+      dense = λ b main. dense_on o met closed b (k.known.dense b main);
+      free = λ c. (λ has. free_on c ((k.known.free c).0 has), λ f. (k.known.free c).1 (free_back c f));
+      once = k.known.once;
+      blank = λ c f. let blank = k.known.blank c (free_back c f) in record { no_link = blank.no_link; no_entry = blank.no_entry };
+    };
     entries = λ b main. ap (length {A = ℕ}) (entries_same b) ∙ k.entries b main;
     list = k.list;
     used = λ b main.

@@ -1,151 +1,65 @@
-use Rattle.std.proofs.Common.{ℕ, ◌+◌, subst, arith}
-use Rattle.mica_model.specs.declared.write.Op.TheVariants.{Put}
-use Rattle.mica_model.specs.Write.{IsWrite, write_of}
-use Rattle.chained_index.specs.ChainEntries.{IsSpotOf}
-use Rattle.store_partition.proofs.Whole.{whole}
-use Rattle.store_partition.proofs.InRoom as in_room
+use Rattle.store_partition.proofs.Words.{AreBytes, IsSpotOf, Put, Stored, ap, arith, item_events, plays, refl, subst, write_of, ℕ, ◌+◌, ◌∙◌, ◌≡◌}
+use Rattle.store_partition.proofs.Events.{Closes}
+use Rattle.store_partition.proofs.InRoom.{PutInRoom, in_room}
+use Rattle.store_partition.proofs.Whole.{held}
+use Rattle.store_partition.proofs.partition.StorePartition.put_in_room.Given.{Over}
+use Rattle.store_partition.proofs.partition.StorePartition.put_in_room.Goals.{After-rewrite_item, Start}
 use Rattle.store_partition.proofs.partition.StorePartition.put_in_room.Goals as goal
+
+steps : (g : Over) (c : Start g) → AreBytes c.args.key.now → AreBytes c.args.value.now
+    → PutInRoom (g.W.OwnerWords.owner c.args.self.now.words) c.args.self.now.index c.args.self.now.heap (write_of Put c.args.key.now c.args.value.now)
+    c.args.bucket (c.args.self.now.accepted + 1) c.args.block.offset c.args.block.room
+steps g c key_bytes value_bytes =
+    let a = c.args.self.now in
+    let r = c.requires in
+    let o = g.W.OwnerWords.owner a.words in
+    in_room (held o r.kept a.index a.heap a.parts) c.args.key.now c.args.value.now
+    (record { key = r.key; key_bytes = key_bytes; value = r.value; value_bytes = value_bytes }) r.unworn a.accepted a.counted
+    c.args.spot (subst (λ (b : ℕ). IsSpotOf o b c.args.key.now c.args.spot) r.sought.bucket r.sought.found)
+    c.args.block.offset c.args.block.room r.offset r.room r.fits c.args.bucket r.sought.bucket
+
+closed : (g : Over) (c : After-rewrite_item g)
+    → PutInRoom (g.W.OwnerWords.owner c.args.self.now.words) c.args.self.now.index c.args.self.now.heap (write_of Put c.args.key.now c.args.value.now)
+    c.args.bucket (c.args.self.now.accepted + 1) c.args.block.offset c.args.block.room
+    → Closes (g.W.OwnerWords.owner c.args.self.now.words) (write_of Put c.args.key.now c.args.value.now) Stored c.args.bucket (c.args.self.now.accepted + 1) c.args.self.now.index
+    (λ bs. bs ≡ c.args.self.now.heap) (g.W.OwnerWords.owner c.rewrite_item.new.words)
+closed g c steps = steps.closes _
+    (c.rewrite_item.ensures.events ∙ ap (plays (item_events c.args.block.offset c.args.block.room c.args.key.now c.args.value.now)) c.begin_marked.ensures.events)
 
 pub begin_marked-requires-clause-begin : goal.begin_marked-requires-clause-begin
 begin_marked-requires-clause-begin g c =
-    let o = g.W.OwnerWords.owner c.args.self.now.words in
-    let index = c.args.self.now.index in
-    let heap = c.args.self.now.heap in
-    let parts = whole c.args.self.now.index c.args.self.now.heap o c.args.self.now.parts in
-    let sought = c.requires.sought in
-    let found = subst (λ (b : ℕ). IsSpotOf o b c.args.key.now c.args.spot) sought.bucket sought.found in
-    let w_is : IsWrite (write_of Put c.args.key.now c.args.value.now) = record {
-      key = c.requires.key;
-      key_bytes = λ k. omega (arith, c.type_inv.key k);
-      value = c.requires.value;
-      value_bytes = λ k. omega (arith, c.type_inv.value k);
-    } in
-    in_room.begin_ok o c.requires.kept index heap parts c.args.key.now c.args.value.now w_is (λ k. omega (arith, c.type_inv.key k))
-    c.args.bucket sought.bucket c.requires.unworn c.args.spot found c.args.block.offset c.args.block.room c.requires.offset c.requires.room c.requires.fits
+    let z = goal.at.begin_marked-requires-clause-begin g c in
+    (steps g z.Start (λ k. omega (arith, c.type_inv.key k)) (λ k. omega (arith, c.type_inv.value k))).opens.begin _ refl
 
 pub begin_marked-requires-clause-mark : goal.begin_marked-requires-clause-mark
 begin_marked-requires-clause-mark g c =
-    let o = g.W.OwnerWords.owner c.args.self.now.words in
-    let index = c.args.self.now.index in
-    let heap = c.args.self.now.heap in
-    let parts = whole c.args.self.now.index c.args.self.now.heap o c.args.self.now.parts in
-    let sought = c.requires.sought in
-    let found = subst (λ (b : ℕ). IsSpotOf o b c.args.key.now c.args.spot) sought.bucket sought.found in
-    let w_is : IsWrite (write_of Put c.args.key.now c.args.value.now) = record {
-      key = c.requires.key;
-      key_bytes = λ k. omega (arith, c.type_inv.key k);
-      value = c.requires.value;
-      value_bytes = λ k. omega (arith, c.type_inv.value k);
-    } in
-    in_room.mark_ok o c.requires.kept index heap parts c.args.key.now c.args.value.now w_is (λ k. omega (arith, c.type_inv.key k))
-    c.args.bucket sought.bucket c.requires.unworn c.args.spot found c.args.block.offset c.args.block.room c.requires.offset c.requires.room c.requires.fits c.args.self.now.accepted c.args.self.now.counted
+    let z = goal.at.begin_marked-requires-clause-mark g c in
+    (steps g z.Start (λ k. omega (arith, c.type_inv.key k)) (λ k. omega (arith, c.type_inv.value k))).opens.mark _ refl
 
 pub rewrite_item-requires-clause-allowed : goal.rewrite_item-requires-clause-allowed
 rewrite_item-requires-clause-allowed g c =
-    let o = g.W.OwnerWords.owner c.args.self.now.words in
-    let index = c.args.self.now.index in
-    let heap = c.args.self.now.heap in
-    let parts = whole c.args.self.now.index c.args.self.now.heap o c.args.self.now.parts in
-    let sought = c.requires.sought in
-    let found = subst (λ (b : ℕ). IsSpotOf o b c.args.key.now c.args.spot) sought.bucket sought.found in
-    let w_is : IsWrite (write_of Put c.args.key.now c.args.value.now) = record {
-      key = c.requires.key;
-      key_bytes = λ k. omega (arith, c.type_inv.key k);
-      value = c.requires.value;
-      value_bytes = λ k. omega (arith, c.type_inv.value k);
-    } in
-    in_room.can_ok o c.requires.kept index heap parts c.args.key.now c.args.value.now w_is (λ k. omega (arith, c.type_inv.key k))
-    c.args.bucket sought.bucket c.requires.unworn c.args.spot found c.args.block.offset c.args.block.room c.requires.offset c.requires.room c.requires.fits (c.args.self.now.accepted + 1)
-    (g.W.OwnerWords.owner c.begin_marked.new.words) c.begin_marked.ensures.events c.begin_marked.ensures.kept
+    let z = goal.at.rewrite_item-requires-clause-allowed g c in
+    (steps g z.Start (λ k. omega (arith, c.type_inv.key k)) (λ k. omega (arith, c.type_inv.value k))).item _ c.begin_marked.ensures.events
 
 pub rewrite_item-requires-clause-there : goal.rewrite_item-requires-clause-there
 rewrite_item-requires-clause-there g c =
-    let o = g.W.OwnerWords.owner c.args.self.now.words in
-    let index = c.args.self.now.index in
-    let heap = c.args.self.now.heap in
-    let parts = whole c.args.self.now.index c.args.self.now.heap o c.args.self.now.parts in
-    let sought = c.requires.sought in
-    let found = subst (λ (b : ℕ). IsSpotOf o b c.args.key.now c.args.spot) sought.bucket sought.found in
-    let w_is : IsWrite (write_of Put c.args.key.now c.args.value.now) = record {
-      key = c.requires.key;
-      key_bytes = λ k. omega (arith, c.type_inv.key k);
-      value = c.requires.value;
-      value_bytes = λ k. omega (arith, c.type_inv.value k);
-    } in
-    in_room.there o c.requires.kept index heap parts c.args.key.now c.args.value.now w_is (λ k. omega (arith, c.type_inv.key k))
-    c.args.bucket sought.bucket c.requires.unworn c.args.spot found c.args.block.offset c.args.block.room c.requires.offset c.requires.room c.requires.fits (c.args.self.now.accepted + 1)
-    (g.W.OwnerWords.owner c.begin_marked.new.words) c.begin_marked.ensures.events c.begin_marked.ensures.kept
+    let z = goal.at.rewrite_item-requires-clause-there g c in
+    (steps g z.Start (λ k. omega (arith, c.type_inv.key k)) (λ k. omega (arith, c.type_inv.value k))).there _ c.begin_marked.ensures.events
 
 pub end_write-requires : goal.end_write-requires
 end_write-requires g c =
-    let o = g.W.OwnerWords.owner c.args.self.now.words in
-    let index = c.args.self.now.index in
-    let heap = c.args.self.now.heap in
-    let parts = whole c.args.self.now.index c.args.self.now.heap o c.args.self.now.parts in
-    let sought = c.requires.sought in
-    let found = subst (λ (b : ℕ). IsSpotOf o b c.args.key.now c.args.spot) sought.bucket sought.found in
-    let w_is : IsWrite (write_of Put c.args.key.now c.args.value.now) = record {
-      key = c.requires.key;
-      key_bytes = λ k. omega (arith, c.type_inv.key k);
-      value = c.requires.value;
-      value_bytes = λ k. omega (arith, c.type_inv.value k);
-    } in
-    in_room.end_ok o c.requires.kept index heap parts c.args.key.now c.args.value.now w_is (λ k. omega (arith, c.type_inv.key k))
-    c.args.bucket sought.bucket c.requires.unworn c.args.spot found c.args.block.offset c.args.block.room c.requires.offset c.requires.room c.requires.fits (c.args.self.now.accepted + 1)
-    (g.W.OwnerWords.owner c.begin_marked.new.words) c.begin_marked.ensures.events c.begin_marked.ensures.kept
-    (g.W.OwnerWords.owner c.rewrite_item.new.words) c.rewrite_item.ensures.events c.rewrite_item.ensures.kept
+    let z = goal.at.end_write-requires g c in
+    (closed g z.After-rewrite_item (steps g z.Start (λ k. omega (arith, c.type_inv.key k)) (λ k. omega (arith, c.type_inv.value k)))).end
 
 pub invariant_of-self : goal.invariant_of-self
 invariant_of-self g c =
-    let o = g.W.OwnerWords.owner c.args.self.now.words in
-    let index = c.args.self.now.index in
-    let heap = c.args.self.now.heap in
-    let parts = whole c.args.self.now.index c.args.self.now.heap o c.args.self.now.parts in
-    let sought = c.requires.sought in
-    let found = subst (λ (b : ℕ). IsSpotOf o b c.args.key.now c.args.spot) sought.bucket sought.found in
-    let w_is : IsWrite (write_of Put c.args.key.now c.args.value.now) = record {
-      key = c.requires.key;
-      key_bytes = λ k. omega (arith, c.type_inv.key k);
-      value = c.requires.value;
-      value_bytes = λ k. omega (arith, c.type_inv.value k);
-    } in
-    let counted = c.args.self.now.counted in
-    let count = in_room.count o c.requires.kept index heap parts c.args.key.now c.args.value.now w_is (λ k. omega (arith, c.type_inv.key k))
-    c.args.bucket sought.bucket c.requires.unworn c.args.spot found c.args.block.offset c.args.block.room c.requires.offset c.requires.room c.requires.fits (c.args.self.now.accepted + 1)
-    (g.W.OwnerWords.owner c.begin_marked.new.words) c.begin_marked.ensures.events c.begin_marked.ensures.kept
-    (g.W.OwnerWords.owner c.rewrite_item.new.words) c.rewrite_item.ensures.events c.rewrite_item.ensures.kept
-    (g.W.OwnerWords.owner c.end_write.new.self) c.end_write.ensures.event in
-    let stamp = in_room.stamp o c.requires.kept index heap parts c.args.key.now c.args.value.now w_is (λ k. omega (arith, c.type_inv.key k))
-    c.args.bucket sought.bucket c.requires.unworn c.args.spot found c.args.block.offset c.args.block.room c.requires.offset c.requires.room c.requires.fits (c.args.self.now.accepted + 1)
-    (g.W.OwnerWords.owner c.begin_marked.new.words) c.begin_marked.ensures.events c.begin_marked.ensures.kept
-    (g.W.OwnerWords.owner c.rewrite_item.new.words) c.rewrite_item.ensures.events c.rewrite_item.ensures.kept
-    (g.W.OwnerWords.owner c.end_write.new.self) c.end_write.ensures.event in
-    record {
-      parts = ∣ in_room.parts_ok o c.requires.kept index heap parts c.args.key.now c.args.value.now w_is (λ k. omega (arith, c.type_inv.key k))
-          c.args.bucket sought.bucket c.requires.unworn c.args.spot found c.args.block.offset c.args.block.room c.requires.offset c.requires.room c.requires.fits (c.args.self.now.accepted + 1)
-          (g.W.OwnerWords.owner c.begin_marked.new.words) c.begin_marked.ensures.events c.begin_marked.ensures.kept
-          (g.W.OwnerWords.owner c.rewrite_item.new.words) c.rewrite_item.ensures.events c.rewrite_item.ensures.kept
-          (g.W.OwnerWords.owner c.end_write.new.self) c.end_write.ensures.event ∣₁;
-      counted = omega arith;
-      stamped = omega arith;
-    }
+    let z = goal.at.invariant_of-self g c in
+    let closes = closed g z.After-rewrite_item (steps g z.Start (λ k. omega (arith, c.type_inv.key k)) (λ k. omega (arith, c.type_inv.value k))) in
+    let ended = closes.ended _ _ c.end_write.ensures.event refl in
+    record { parts = ∣ ended.parts ∣₁; counted = ended.count; stamped = ended.stamp }
 
 pub returns-clause-step : goal.returns-clause-step
 returns-clause-step g c =
-    let o = g.W.OwnerWords.owner c.args.self.now.words in
-    let index = c.args.self.now.index in
-    let heap = c.args.self.now.heap in
-    let parts = whole c.args.self.now.index c.args.self.now.heap o c.args.self.now.parts in
-    let sought = c.requires.sought in
-    let found = subst (λ (b : ℕ). IsSpotOf o b c.args.key.now c.args.spot) sought.bucket sought.found in
-    let w_is : IsWrite (write_of Put c.args.key.now c.args.value.now) = record {
-      key = c.requires.key;
-      key_bytes = λ k. omega (arith, c.type_inv.key k);
-      value = c.requires.value;
-      value_bytes = λ k. omega (arith, c.type_inv.value k);
-    } in
-    in_room.step o c.requires.kept index heap parts c.args.key.now c.args.value.now w_is (λ k. omega (arith, c.type_inv.key k))
-    c.args.bucket sought.bucket c.requires.unworn c.args.spot found c.args.block.offset c.args.block.room c.requires.offset c.requires.room c.requires.fits (c.args.self.now.accepted + 1)
-    (g.W.OwnerWords.owner c.begin_marked.new.words) c.begin_marked.ensures.events c.begin_marked.ensures.kept
-    (g.W.OwnerWords.owner c.rewrite_item.new.words) c.rewrite_item.ensures.events c.rewrite_item.ensures.kept
-    (g.W.OwnerWords.owner c.end_write.new.self) c.end_write.ensures.event
+    let z = goal.at.returns-clause-step g c in
+    let closes = closed g z.After-rewrite_item (steps g z.Start (λ k. omega (arith, c.type_inv.key k)) (λ k. omega (arith, c.type_inv.value k))) in
+    (closes.ended _ _ c.end_write.ensures.event refl).step

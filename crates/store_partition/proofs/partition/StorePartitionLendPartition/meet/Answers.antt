@@ -1,9 +1,4 @@
-use Rattle.std.proofs.Common.{sym, ap, ◌∙◌, subst, length}
-use Rattle.epoch_core.specs.declared.state.OwnerState.{OwnerState}
-use Rattle.mica_model.specs.History.{stamp_of}
-use Rattle.epoch_core.specs.OwnerState.{options_in}
-use Rattle.epoch_core.specs.Joins.{met_by}
-use Rattle.store_partition.specs.Parts.{AreParts}
+use Rattle.store_partition.proofs.Words.{AreParts, OwnerState, ap, length, met_by, options_in, stamp_of, subst, sym, ◌∙◌}
 use Rattle.store_partition.proofs.Whole.{whole}
 use Rattle.store_partition.proofs.Meets.{parts_met}
 use Rattle.store_partition.proofs.partition.StorePartitionLendPartition.meet.Goals as goal
