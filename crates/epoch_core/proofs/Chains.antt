@@ -15,7 +15,7 @@ use Rattle.epoch_core.specs.Events.{WhenMarked, MayPutLink, IsAllowed, place_of,
 use Rattle.epoch_core.specs.Kept.{Kept}
 use Rattle.epoch_core.proofs.Places.{same_bucket, same_slot, no_epoch, no_stamp, no_item}
 use Rattle.epoch_core.proofs.Marked.{marked_main, its_inside, ends_main}
-use Rattle.epoch_core.proofs.Walks.{IsBehind, behind_of_among, among_more, ends_more, free_counts}
+use Rattle.epoch_core.proofs.Walks.{IsBehind, behind_of_among, ends_more, free_counts}
 
 -- Where no link of a bucket changes, no chain does.
 module _ (o p : OwnerState) (shape : p.shape ≡ o.shape) where
@@ -214,86 +214,6 @@ module _ (o : OwnerState) (s : Kept o) where
     link_chains (Begun b) is h = absurd h
     link_chains (Marked b write before) is (inl own) = with_own b (marked_main o s b write before is) own
     link_chains (Marked b write before) is (inr free) = with_free free
-
-    -- for the calls that put links: what the chains are then
-
-    without_on : (n x y : ℕ) → ((z : ℕ) → IsAmong o n x z → z ≢ c) → IsAmong o n x y → IsAmong p n x y
-    without_on zero x y not h = absurd h
-    without_on (suc n) x y not (inl is) = inl is
-    without_on (suc n) x y not (inr h) =
-        let same = link_else x (not x (inl refl)) in
-        inr (
-          λ none. h.0 (sym same ∙ none),
-          subst (λ (z : ℕ). IsAmong p n z y) (sym same) (without_on n (link_in o x) y (λ z among. not z (inr (h.0, among))) h.1),
-        )
-
-    -- a chain without the changed bucket stays
-    pub chain_stays : (b y : ℕ) → ((z : ℕ) → InChain o b z → z ≢ c) → InChain o b y → InChain p b y
-    chain_stays b y not h = without_on (suc o.shape.spares) b y not h
-
-    -- where the changed bucket had no link, its chain keeps all, and gains the next
-
-    last_on : link_in o c ≡ 0 → (n x y : ℕ) → IsAmong o n x y → IsAmong p n x y
-    last_on end zero x y h = absurd h
-    last_on end (suc n) x y (inl is) = inl is
-    last_on end (suc n) x y (inr h) =
-        let same = link_else x (λ is. h.0 (ap (link_in o) is ∙ end)) in
-        inr (λ none. h.0 (sym same ∙ none), subst (λ (z : ℕ). IsAmong p n z y) (sym same) (last_on end n (link_in o x) y h.1))
-
-    pub chain_grows : (b y : ℕ) → link_in o c ≡ 0 → InChain o b y → InChain p b y
-    chain_grows b y end h = last_on end (suc o.shape.spares) b y h
-
-    next_on : (k x : ℕ) → next ≢ 0 → IsBehind o k x c → IsAmong p (suc (suc k)) x next
-    next_on zero x some is =
-        let to : link_in p x ≡ next = ap (link_in p) is ∙ link_here in
-        inr (λ none. some (sym to ∙ none), inl to)
-    next_on (suc k) x some h = dite (ℕ_discrete x c)
-        (λ is.
-        let to : link_in p x ≡ next = ap (link_in p) is ∙ link_here in
-        inr (λ none. some (sym to ∙ none), inl to))
-        (λ other.
-        let same = link_else x other in
-        inr (λ none. h.0 (sym same ∙ none), subst (λ (z : ℕ). IsAmong p (suc (suc k)) z next) (sym same) (next_on k (link_in o x) some h.1)))
-
-    pub chain_gains : (b : ℕ) → IsMain o.shape b → InChain o b c → IsFreeSpare o next → next ≢ 0 → InChain p b next
-    chain_gains b l own free some =
-        let walk = behind_of_among o (suc o.shape.spares) b c own in
-        let few = free_counts o s.chains walk.0 b c next l walk.2 free in
-        among_more p (suc (suc walk.0)) (suc o.shape.spares) b next (omega arith) (next_on walk.0 b some walk.2)
-
-    -- where the link to the last bucket goes, the chain loses that one alone
-
-    module _ (cut : next ≡ 0) (last : link_in o (link_in o c) ≡ 0) where
-      cut_on : (n x y : ℕ) → y ≢ link_in o c → IsAmong o n x y → IsAmong p n x y
-      cut_on zero x y other h = absurd h
-      cut_on (suc n) x y other (inl is) = inl is
-      cut_on (suc n) x y other (inr h) = dite (ℕ_discrete x c)
-          (λ is. absurd (behind_last n (subst (λ (z : ℕ). IsAmong o n z y) (ap (link_in o) is) h.1)))
-          (λ n'.
-          let same = link_else x n' in
-          inr (λ none. h.0 (sym same ∙ none), subst (λ (z : ℕ). IsAmong p n z y) (sym same) (cut_on n (link_in o x) y other h.1)))
-        where
-          behind_last : (m : ℕ) → ¬ (IsAmong o m (link_in o c) y)
-          behind_last zero k = k
-          behind_last (suc m) (inl is) = other (sym is)
-          behind_last (suc m) (inr k) = k.0 last
-
-      pub chain_keeps : (b y : ℕ) → y ≢ link_in o c → InChain o b y → InChain p b y
-      chain_keeps b y other h = cut_on (suc o.shape.spares) b y other h
-
-      cut_gone : (k n x y : ℕ) → link_in o c ≢ 0 → IsBehind o k x c → IsAmong p n x y → y ≢ link_in o c
-      cut_gone k zero x y some h among is = among
-      cut_gone zero (suc n) x y some h (inl at) is = some (ap (link_in o) (sym h ∙ (at ∙ is)) ∙ last)
-      cut_gone zero (suc n) x y some h (inr among) is = among.0 (ap (link_in p) h ∙ (link_here ∙ cut))
-      cut_gone (suc k) (suc n) x y some h (inl at) is = h.0 (ap (link_in o) (at ∙ is) ∙ last)
-      cut_gone (suc k) (suc n) x y some h (inr among) is = dite (ℕ_discrete x c)
-          (λ here. among.0 (ap (link_in p) here ∙ (link_here ∙ cut)))
-          (λ n'. cut_gone k n (link_in o x) y some h.1 (subst (λ (z : ℕ). IsAmong p n z y) (link_else x n') among.1) is)
-
-      pub chain_loses : (b : ℕ) → InChain o b c → link_in o c ≢ 0 → ¬ (InChain p b (link_in o c))
-      chain_loses b own some h =
-          let walk = behind_of_among o (suc o.shape.spares) b c own in
-          cut_gone walk.0 (suc o.shape.spares) b (link_in o c) some walk.2 h refl
 
   pub chains_after : (e : Event) → IsAllowed e o → HasChains (after e o)
   chains_after (Begins b) a = same_links (Begins b) (λ c l. other_word (Begins b) (link_at o.shape c) (no_epoch o.shape b c 15 a.main (omega arith)))

@@ -26,12 +26,6 @@ among_of_behind o k zero x y less h = absurd (omega arith)
 among_of_behind o zero (suc n) x y less h = inl h
 among_of_behind o (suc k) (suc n) x y less h = inr (h.0, among_of_behind o k n (link_in o x) y (omega arith) h.1)
 
-pub among_more : (o : OwnerState) (n m x y : ℕ) → n ≤ m → IsAmong o n x y → IsAmong o m x y
-among_more o zero m x y less h = absurd h
-among_more o (suc n) zero x y less h = absurd (omega arith)
-among_more o (suc n) (suc m) x y less (inl is) = inl is
-among_more o (suc n) (suc m) x y less (inr h) = inr (h.0, among_more o n m (link_in o x) y (omega arith) h.1)
-
 pub ends_more : (o : OwnerState) (n m x : ℕ) → n ≤ m → EndsWithin o n x → EndsWithin o m x
 ends_more o zero m x less h = absurd h
 ends_more o (suc n) zero x less h = absurd (omega arith)
