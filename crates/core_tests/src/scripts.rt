@@ -50,6 +50,7 @@ const ROOM: u32 = 512;
 /// More than the events of any script here.
 pub(crate) const MOST_EVENTS: usize = 1_000;
 
+/// Makes the write. A delete leaves the value unread.
 pub(crate) fn write<P: Partition>(partition: &mut P, op: Op, key: &[u8], value: &[u8]) -> Outcome
     requires key { KeyFits key.now }
     requires value { ValueFits value.now }

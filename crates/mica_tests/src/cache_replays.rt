@@ -6,8 +6,13 @@ use std::alloc::Global;
 use std::fmt::Write;
 use std::test::Fail;
 
-const ONE: &str =
-    "replay --mode cache --partitions 1 --buckets 1 --spares 4 --words 1024 --readers 1 --tries 1000";
+// An empty trace, and one bucket with room for all that the rows put.
+const EMPTY: Run = Run {
+    words: "replay --mode cache --partitions 1 --buckets 1 --spares 4 --words 1024 --readers 1 --tries 1000",
+    input: "",
+    status: Status::Done,
+    output: "",
+};
 
 const SHORT: &str =
     "replay --mode cache --partitions 1 --buckets 1 --spares 4 --words 256 --readers 1 --tries 1000";
@@ -15,66 +20,61 @@ const SHORT: &str =
 // The log appends a value, keeps a shorter one in its room, and appends a longer one; a delete of nothing.
 static ROOMS: [Run; 4] = [
     Run {
-        words: ONE,
         input: "\
 put a 1
 sync
 get a
 ",
-        status: Status::Done,
         output: "\
 put 262144 stored
 sync
 get 262144 hit 1
 ",
+        ..EMPTY
     },
     Run {
-        words: ONE,
         input: "\
 put a 1
 put a 2
 sync
 get a
 ",
-        status: Status::Done,
         output: "\
 put 262144 stored
 put 262145 stored
 sync
 get 262145 hit 2
 ",
+        ..EMPTY
     },
     Run {
-        words: ONE,
         input: "\
 put a 1
 put a 123456789
 sync
 get a
 ",
-        status: Status::Done,
         output: "\
 put 262144 stored
 put 589824 stored
 sync
 get 589824 hit 123456789
 ",
+        ..EMPTY
     },
     Run {
-        words: ONE,
         input: "\
 del a
 ",
-        status: Status::Done,
         output: "\
 del 1 absent
 ",
+        ..EMPTY
     },
 ];
 
 // The sixteenth key of a bucket displaces the first.
 static DISPLACED: [Run; 1] = [Run {
-    words: ONE,
     input: "\
 put k01 1
 put k02 1
@@ -96,7 +96,6 @@ sync
 get k01
 get k02
 ",
-    status: Status::Done,
     output: "\
 put 262144 stored
 put 524288 stored
@@ -118,6 +117,7 @@ sync
 get 4194304 miss
 get 4194304 hit 1
 ",
+    ..EMPTY
 }];
 
 static WORN: [Run; 1] = [Run {
@@ -130,7 +130,6 @@ del a
 sync
 get a
 ",
-    status: Status::Done,
     output: "\
 put 262144 stored
 put 524288 stored
@@ -139,21 +138,20 @@ del 524288 worn
 sync
 get 524288 hit 1
 ",
+    ..EMPTY
 }];
 
 // A value and a key that are as short or as long as may be: the longest item has 162 words.
 static EXTREMES: [Run; 2] = [
     Run {
-        words: ONE,
         input: "put a \nsync\nget a\n",
-        status: Status::Done,
         output: "put 196608 stored\nsync\nget 196608 hit \n",
+        ..EMPTY
     },
     Run {
-        words: ONE,
         input: "put V(255) V(1024)\n",
-        status: Status::Done,
         output: "put 10616832 stored\n",
+        ..EMPTY
     },
 ];
 
@@ -171,7 +169,6 @@ sync
 get a
 get b
 ",
-    status: Status::Done,
     output: "\
 put 8388608 stored
 put 16777216 stored
@@ -183,6 +180,7 @@ sync
 get 17039360 miss
 get 17039360 hit V(1000)
 ",
+    ..EMPTY
 }];
 
 // The sixteenth record goes in as the log passes the first, so none is displaced.
@@ -210,7 +208,6 @@ get a
 get b
 get k01
 ",
-    status: Status::Done,
     output: "\
 put 8585216 stored
 put 13369344 stored
@@ -233,6 +230,7 @@ get 17039360 miss
 get 17039360 hit V(560)
 get 17039360 hit 1
 ",
+    ..EMPTY
 }];
 
 #[test]

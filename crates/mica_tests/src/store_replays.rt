@@ -4,88 +4,50 @@ use crate::runs::{Run, expect_runs};
 use mica_cmd::Status;
 use std::test::Fail;
 
-const ONE: &str =
-    "replay --mode store --partitions 1 --buckets 1 --spares 4 --words 1024 --readers 1 --tries 1000";
+// An empty trace, and one bucket with room for all that the rows put.
+const EMPTY: Run = Run {
+    words: "replay --mode store --partitions 1 --buckets 1 --spares 4 --words 1024 --readers 1 --tries 1000",
+    input: "",
+    status: Status::Done,
+    output: "",
+};
+
+const FOUND: Run = Run {
+    input: "put a 1\nsync\nget a\n",
+    output: "put 1 stored\nsync\nget 1 hit 1\n",
+    ..EMPTY
+};
 
 // What a put leaves for a get, with one partition and with the defaults.
 static RETURNS: [Run; 5] = [
+    EMPTY,
+    FOUND,
     Run {
-        words: ONE,
-        input: "",
-        status: Status::Done,
-        output: "",
-    },
-    Run {
-        words: ONE,
-        input: "\
-put a 1
-sync
-get a
-",
-        status: Status::Done,
-        output: "\
-put 1 stored
-sync
-get 1 hit 1
-",
-    },
-    Run {
-        words: ONE,
-        input: "\
-put a 1
-sync
-get a",
-        status: Status::Done,
-        output: "\
-put 1 stored
-sync
-get 1 hit 1
-",
+        input: "put a 1\nsync\nget a",
+        ..FOUND
     },
     Run {
         words: "replay --mode store",
-        input: "\
-put a 1
-sync
-get a
-",
-        status: Status::Done,
-        output: "\
-put 1 stored
-sync
-get 1 hit 1
-",
+        ..FOUND
     },
     Run {
         words: "replay --mode=store",
-        input: "\
-put a 1
-sync
-get a
-",
-        status: Status::Done,
-        output: "\
-put 1 stored
-sync
-get 1 hit 1
-",
+        ..FOUND
     },
 ];
 
 // Deletes, and values that are empty or have spaces.
 static DELETES: [Run; 3] = [
     Run {
-        words: ONE,
         input: "\
 del a
 ",
-        status: Status::Done,
         output: "\
 del 1 absent
 ",
+        ..EMPTY
     },
     Run {
-        words: ONE,
         input: "\
 put a 1
 del a
@@ -97,7 +59,6 @@ put a 2
 sync
 get a
 ",
-        status: Status::Done,
         output: "\
 put 1 stored
 del 2 deleted
@@ -109,9 +70,9 @@ put 4 stored
 sync
 get 4 hit 2
 ",
+        ..EMPTY
     },
     Run {
-        words: ONE,
         input: "\
 put a 
 sync
@@ -125,7 +86,6 @@ put b a b
 sync
 get b
 ",
-        status: Status::Done,
         output: "\
 put 1 stored
 sync
@@ -139,6 +99,7 @@ put 3 stored
 sync
 get 3 hit a b
 ",
+        ..EMPTY
     },
 ];
 
@@ -165,7 +126,6 @@ put k16 1
 del k01
 put k16 1
 ",
-    status: Status::Done,
     output: "\
 put 1 stored
 put 2 stored
@@ -186,6 +146,7 @@ put 15 full spare
 del 16 deleted
 put 17 stored
 ",
+    ..EMPTY
 }];
 
 // A spare that was given back is used again, and nothing that stood in it is found.
@@ -218,7 +179,6 @@ del k16
 sync
 get k16
 ",
-    status: Status::Done,
     output: "\
 put 1 stored
 put 2 stored
@@ -246,6 +206,7 @@ del 19 deleted
 sync
 get 19 miss
 ",
+    ..EMPTY
 }];
 
 // A partition that may bear two writes.
@@ -259,7 +220,6 @@ del a
 sync
 get a
 ",
-    status: Status::Done,
     output: "\
 put 1 stored
 put 2 stored
@@ -268,6 +228,7 @@ del 2 worn
 sync
 get 2 hit 1
 ",
+    ..EMPTY
 }];
 
 // The hashes of the first 16 keys are odd, that of `k02` is even. So one bucket is full, and the other is not.
@@ -295,7 +256,6 @@ sync
 get k02
 get k30
 ",
-    status: Status::Done,
     output: "\
 put 1 stored
 put 2 stored
@@ -318,6 +278,7 @@ sync
 get 16 hit 2
 get 16 miss
 ",
+    ..EMPTY
 }];
 
 // The partitions by FNV-1a: 0 of `log` and `plum`, 1 of `mica` and `pear`, 2 of `apple` and `fig`, 3 of `index` and `heap`.
@@ -344,7 +305,6 @@ get fig
 get heap
 get pear
 ",
-    status: Status::Done,
     output: "\
 put 1 stored
 put 1 stored
@@ -366,6 +326,7 @@ get 3 miss
 get 2 hit 7
 get 2 hit 8
 ",
+    ..EMPTY
 }];
 
 const SMALL: &str =
@@ -382,13 +343,13 @@ put b V(1024)
 sync
 get b
 ",
-        status: Status::Done,
         output: "\
 put 1 stored
 put 1 full block
 sync
 get 1 miss
 ",
+        ..EMPTY
     },
     Run {
         words: SMALL,
@@ -401,7 +362,6 @@ del a
 del c
 put e V(700)
 ",
-        status: Status::Done,
         output: "\
 put 1 stored
 put 2 stored
@@ -411,6 +371,7 @@ del 5 deleted
 del 6 deleted
 put 6 full block
 ",
+        ..EMPTY
     },
 ];
 
