@@ -72,4 +72,5 @@ loop-number-preserved g c =
           c.index-requests-number.result c.loop-number.replies.items c.in_ok-reply_to.field-0 inv.2 c.loop-number-test.true c.index-requests-number.is c.reply_to.ensures.left inv.0 c.in_ok-reply_to.ensures.replied),
       omega (arith, few, inv.1, c.reply_to.ensures.left),
       c.reply_to.ensures.options ∙ inv.2,
+      c.reply_to.ensures.stands ∙ inv.3,
     )

@@ -2,8 +2,6 @@ use Rattle.std.proofs.Common.{◌≡◌, rules, ◌≤◌, length, vec_len, map,
 use Rattle.std.specs.Prelude.{is_some}
 use Rattle.std.proofs.lemmas.List.{length-map}
 use Rattle.mica_serve.specs.Ends.{EndFacts}
-use Rattle.mica_serve.specs.Solo.{sessions_in}
-use Rattle.mica_serve.specs.Owners.{solo_of}
 use Rattle.mica_serve.proofs.Whole.{run_served}
 use Rattle.mica_serve.proofs.run.bind_and_serve.Goals as goal
 
@@ -19,12 +17,11 @@ returns g c =
       has_ended = g.N.End.Datagrams.has_ended e;
       has_script = is_some (g.N.End.Datagrams.script e);
     } in
-    let solo = solo_of c.args.front.now.owners in
     let bound = c.bind_all.ensures in
     let olds = map facts c.bind_all.new.ends.items in
     let many = length-map c.bind_all.new.ends.items facts in
     let size : vec_len c.bind_all.new.ends ≡ length c.bind_all.new.ends.items = search rules in
-    run_served solo.options c.args.ports.now (record {
+    run_served c.args.ports.now (record {
       faults = g.N.Net.faults c.args.net.now;
       binds = g.N.Net.binds c.args.net.now;
       first = g.N.Net.first c.args.net.now;
@@ -39,5 +36,5 @@ returns g c =
       ports = g.N.Net.ports c.bind_all.new.net;
       fails = g.N.Net.fails c.bind_all.new.net;
     }) olds bound.new bound.bound (omega (arith, bound.few, many, size)) bound.never_fall bound.fails bound.binds bound.first
-    (sessions_in solo) (sessions_in (solo_of c.serve_all.new.front.owners)) c.serve_all.result (map facts c.serve_all.new.ends.items) (many ∙ sym size ∙ c.in_ok-bind_all.ensures.all) c.in_ok-bind_all.ensures.steady
-    c.serve_all.ensures.served
+    c.args.options.now c.serve_all.result c.serve_all.new.tables (map facts c.serve_all.new.ends.items) (many ∙ sym size ∙ c.in_ok-bind_all.ensures.all) c.in_ok-bind_all.ensures.steady
+    c.serve_all.ensures

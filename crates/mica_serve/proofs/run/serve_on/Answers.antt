@@ -1,15 +1,12 @@
-use Rattle.std.proofs.Common.{rules, ◌≡◌, ◌+◌, ◌<◌, [], ℕ, length, vec_len, map, sym, ap, ◌∙◌, subst, arith}
+use Rattle.std.proofs.Common.{rules, ◌≡◌, ◌+◌, ◌<◌, ◌≤◌, [], ℕ, List, length, vec_len, map, sym, ap, ◌∙◌, subst, arith}
 use Rattle.std.specs.Prelude.{is_some, IfSome}
-use Rattle.mica_io.specs.Ports.{out}
 use Rattle.std.proofs.lemmas.List.{length-map}
-use Rattle.mica_model.specs.declared.options.Options.{Options}
-use Rattle.mica_serve.specs.Session.{Session}
-use Rattle.mica_serve.specs.Solo.{sessions_in}
-use Rattle.mica_serve.specs.Owners.{solo_of}
+use Rattle.mica_io.specs.Ports.{out}
+use Rattle.partition_table.specs.declared.tables.Entry.{Entry}
 use Rattle.mica_serve.specs.Ends.{EndFacts}
-use Rattle.mica_serve.specs.NetRun.{NetFacts, BindsAndServes}
+use Rattle.mica_serve.specs.NetRun.{NetFacts}
 use Rattle.mica_serve.proofs.Whole.{kept_at, out_until, tell_until, keeps, cause}
-use Rattle.mica_serve.proofs.run.serve.Goals as goal
+use Rattle.mica_serve.proofs.run.serve_on.Goals as goal
 
 pub release_all-requires-clause-ports : goal.release_all-requires-clause-ports
 release_all-requires-clause-ports g c _ _ =
@@ -21,7 +18,7 @@ release_all-requires-clause-ports g c _ _ =
       has_script = is_some (g.N.End.Datagrams.script e);
     } in
     let run = c.bind_and_serve-answer.ensures in
-    kept_at c.args.ports.now.port run.olds (map facts c.bind_and_serve-answer.new.ends.items) run.many run.are_new run.kept
+    kept_at c.args.ports.now.port run.olds (map facts c.bind_and_serve-answer.new.ends.items) run.many run.are_new run.keeps
 
 pub release_all-requires-clause-out : goal.release_all-requires-clause-out
 release_all-requires-clause-out g c _ _ =
@@ -48,7 +45,7 @@ release_all-requires-clause-tell g c _ _ =
       has_script = is_some (g.N.End.Datagrams.script e);
     } in
     let run = c.bind_and_serve-answer.ensures in
-    tell_until c.args.ports.now.port run.olds (map facts c.bind_and_serve-answer.new.ends.items) (g.N.Net.ports c.args.net.now) (g.N.Net.ports c.bind_and_serve-answer.new.net) run.many run.kept run.bound
+    tell_until c.args.ports.now.port run.olds (map facts c.bind_and_serve-answer.new.ends.items) (g.N.Net.ports c.args.net.now) (g.N.Net.ports c.bind_and_serve-answer.new.net) run.many run.keeps run.bound
 
 pub returns-clause-cause : goal.returns-clause-cause
 returns-clause-cause g c =
@@ -59,36 +56,29 @@ returns-clause-cause g c =
       has_ended = g.N.End.Datagrams.has_ended e;
       has_script = is_some (g.N.End.Datagrams.script e);
     } in
-    let before : NetFacts = (record {
+    cause c.args.options.now c.requires.options.partitions.0 c.args.ports.now c.bind_and_serve-answer.new.tables (record {
       faults = g.N.Net.faults c.args.net.now;
       binds = g.N.Net.binds c.args.net.now;
       first = g.N.Net.first c.args.net.now;
       refused = g.N.Net.refused c.args.net.now;
       ports = g.N.Net.ports c.args.net.now;
       fails = g.N.Net.fails c.args.net.now;
-    }) in
-    let mid : NetFacts = (record {
+    }) (record {
       faults = g.N.Net.faults c.bind_and_serve-answer.new.net;
       binds = g.N.Net.binds c.bind_and_serve-answer.new.net;
       first = g.N.Net.first c.bind_and_serve-answer.new.net;
       refused = g.N.Net.refused c.bind_and_serve-answer.new.net;
       ports = g.N.Net.ports c.bind_and_serve-answer.new.net;
       fails = g.N.Net.fails c.bind_and_serve-answer.new.net;
-    }) in
-    let after : NetFacts = (record {
+    }) (record {
       faults = g.N.Net.faults c.release_all.new.net;
       binds = g.N.Net.binds c.release_all.new.net;
       first = g.N.Net.first c.release_all.new.net;
       refused = g.N.Net.refused c.release_all.new.net;
       ports = g.N.Net.ports c.release_all.new.net;
       fails = g.N.Net.fails c.release_all.new.net;
-    }) in
-    let front = c.in_ok-front.ensures in
-    let old = sessions_in (solo_of c.in_ok-front.front.owners) in
-    let new = sessions_in (solo_of c.bind_and_serve-answer.new.front.owners) in
-    let news = map facts c.bind_and_serve-answer.new.ends.items in
-    let run = subst (λ (o : Options). BindsAndServes o old c.args.ports.now c.bind_and_serve-answer.result new before mid news) front.options c.bind_and_serve-answer.ensures in
-    cause c.args.options.now c.args.ports.now old new (λ q. ap (λ (s : Session). s.seen) (front.sessions q)) before mid after news c.release_all.ensures c.bind_and_serve-answer.result run
+    })
+    (map facts c.bind_and_serve-answer.new.ends.items) c.release_all.ensures c.bind_and_serve-answer.result c.bind_and_serve-answer.ensures
 
 pub returns-clause-kept : goal.returns-clause-kept
 returns-clause-kept g c =
@@ -99,33 +89,26 @@ returns-clause-kept g c =
       has_ended = g.N.End.Datagrams.has_ended e;
       has_script = is_some (g.N.End.Datagrams.script e);
     } in
-    let before : NetFacts = (record {
+    keeps c.args.options.now c.requires.options.partitions.0 c.args.ports.now c.bind_and_serve-answer.new.tables (record {
       faults = g.N.Net.faults c.args.net.now;
       binds = g.N.Net.binds c.args.net.now;
       first = g.N.Net.first c.args.net.now;
       refused = g.N.Net.refused c.args.net.now;
       ports = g.N.Net.ports c.args.net.now;
       fails = g.N.Net.fails c.args.net.now;
-    }) in
-    let mid : NetFacts = (record {
+    }) (record {
       faults = g.N.Net.faults c.bind_and_serve-answer.new.net;
       binds = g.N.Net.binds c.bind_and_serve-answer.new.net;
       first = g.N.Net.first c.bind_and_serve-answer.new.net;
       refused = g.N.Net.refused c.bind_and_serve-answer.new.net;
       ports = g.N.Net.ports c.bind_and_serve-answer.new.net;
       fails = g.N.Net.fails c.bind_and_serve-answer.new.net;
-    }) in
-    let after : NetFacts = (record {
+    }) (record {
       faults = g.N.Net.faults c.release_all.new.net;
       binds = g.N.Net.binds c.release_all.new.net;
       first = g.N.Net.first c.release_all.new.net;
       refused = g.N.Net.refused c.release_all.new.net;
       ports = g.N.Net.ports c.release_all.new.net;
       fails = g.N.Net.fails c.release_all.new.net;
-    }) in
-    let front = c.in_ok-front.ensures in
-    let old = sessions_in (solo_of c.in_ok-front.front.owners) in
-    let new = sessions_in (solo_of c.bind_and_serve-answer.new.front.owners) in
-    let news = map facts c.bind_and_serve-answer.new.ends.items in
-    let run = subst (λ (o : Options). BindsAndServes o old c.args.ports.now c.bind_and_serve-answer.result new before mid news) front.options c.bind_and_serve-answer.ensures in
-    keeps c.args.options.now c.args.ports.now old new (λ q. ap (λ (s : Session). s.seen) (front.sessions q)) before mid after news c.release_all.ensures c.bind_and_serve-answer.result run
+    })
+    (map facts c.bind_and_serve-answer.new.ends.items) c.release_all.ensures c.bind_and_serve-answer.result c.bind_and_serve-answer.ensures
