@@ -8,14 +8,16 @@ use Rattle.mica_model.specs.declared.options.Options.{Options}
 use Rattle.epoch_core.specs.declared.state.OwnerState.{OwnerState}
 use Rattle.epoch_core.specs.declared.reader.ReaderState.{ReaderState}
 use Rattle.epoch_core.specs.Joins.{lent}
+use Rattle.epoch_core.specs.Shape.{shape_of}
+use Rattle.epoch_core.specs.OwnerState.{as_made}
 use Rattle.partition_table.specs.Seats.{reader_state, reader_home}
-use Rattle.owner_queue.specs.JobEnds.{Outbox, outbox, Inbox}
+use Rattle.owner_queue.specs.JobEnds.{Outbox, outbox, Inbox, inbox}
 use Rattle.owner_queue.specs.AckEnds.{AckBox, ack_box}
 use Rattle.mica_serve.specs.declared.queue_front.FrontPart.{FrontPart}
 use Rattle.mica_serve.specs.QueueFront.{QueueView, IsNewPart, queue_view}
-use Rattle.mica_serve.specs.Hands.{OwnerEnd, AreLent, LendsOneMore, AreFrontsOf}
+use Rattle.mica_serve.specs.Hands.{OwnerEnd, IsLentBy, LendsPart, AreSendersOf, LendsEach, AreLent, LendsOneMore, AreFrontsOf}
 use Rattle.mica_serve.proofs.Binding.{at_snoc, place_below}
-use Rattle.mica_serve.proofs.LentParts.{LendsTo, lends_one, lends_all, hands_none, hands_more, new_parts}
+use Rattle.mica_serve.proofs.LentParts.{LendsTo, lends_none, lends_one, hands_none, hands_more, new_parts}
 
 same_some : {X : Type 0} {x y : X} → Some x ≡ Some y → x ≡ y
 same_some is = cc
@@ -30,42 +32,92 @@ rows hands = map (λ (own : Vec FrontPart Global). own.items) hands
 abbrev pub parts_of : List QueueView → List (List FrontPart)
 parts_of made = map (λ (front : QueueView). front.parts) made
 
+-- a fresh queue's senders are those of its owner
+pub senders_of : (owner : OwnerEnd) (n most : ℕ) (senders : List Outbox) → owner.jobs ≡ inbox owner.jobs.queue n most [] → length senders ≡ n
+    → ((p : ℕ) → p < n → slice_get senders p ≡ Some (outbox owner.jobs.queue p most [])) → AreSendersOf owner senders
+senders_of owner n most senders fresh many each f sender at =
+    same_some (sym at ∙ each f (omega (arith, place_below senders f sender at, many))) ∙ ap (λ m. outbox owner.jobs.queue f m []) (sym (ap (λ (b : Inbox). b.jobs) fresh))
+
 -- the senders that are left, from a place on
-abbrev pub AreSendersFrom : Inbox → ℕ → ℕ → List Outbox → Type 0
-AreSendersFrom jobs most at left = (p : ℕ) (sender : Outbox) → slice_get left p ≡ Some sender → sender ≡ outbox jobs.queue (at + p) most []
+abbrev AreSendersFrom : OwnerEnd → ℕ → List Outbox → Type 0
+AreSendersFrom owner at left = (p : ℕ) (sender : Outbox) → slice_get left p ≡ Some sender → sender ≡ outbox owner.jobs.queue (at + p) owner.jobs.jobs []
 
-pub senders_all : (jobs : Inbox) (most n : ℕ) (all left : List Outbox) → left ≡ all → length all ≡ n → ((p : ℕ) → p < n → slice_get all p ≡ Some (outbox jobs.queue p most []))
-    → AreSendersFrom jobs most 0 left
-senders_all jobs most n all left is many each p sender at =
-    let at_all : slice_get all p ≡ Some sender = ap (λ (l : List Outbox). slice_get l p) (sym is) ∙ at in
-    let low = place_below all p sender at_all in
-    same_some (sym at_all ∙ each p (omega (arith, low, many))) ∙ ap (λ n. outbox jobs.queue n most []) (omega arith)
+-- the owner lent the first k fronts a part, and these senders are left
+pub record LendsSome (first now : OwnerEnd) (k : ℕ) (left : List Outbox) (before after : List (List FrontPart)) : Type 0 where
+  pub same : now ≡ record first { acks = now.acks }
+  pub left_are : AreSendersFrom first k left
+  pub left_many : length left + k ≡ length before
+  pub lends : LendsTo first.jobs.jobs first.state first.table first.jobs k now.acks before after
 
-pub sender_next : (jobs : Inbox) (most at : ℕ) (left rest : List Outbox) (sender : Outbox) → left ≡ sender ∷ rest → AreSendersFrom jobs most at left → sender ≡ outbox jobs.queue at most []
-sender_next jobs most at left rest sender head are =
-    are 0 sender (ap (λ (l : List Outbox). slice_get l 0) head) ∙ ap (λ n. outbox jobs.queue n most []) (omega arith)
-
-pub senders_next : (jobs : Inbox) (most at : ℕ) (left rest : List Outbox) (sender : Outbox) → left ≡ sender ∷ rest → AreSendersFrom jobs most at left
-    → AreSendersFrom jobs most (at + 1) rest
-senders_next jobs most at left rest sender head are p next is =
-    are (suc p) next (ap (λ (l : List Outbox). slice_get l (suc p)) head ∙ is) ∙ ap (λ n. outbox jobs.queue n most []) (omega arith)
+pub lends_first : (first : OwnerEnd) (senders left : List Outbox) (before : List (List FrontPart)) → first.acks ≡ [] → AreSendersOf first senders → length senders ≡ length before
+    → left ≡ senders → LendsSome first first 0 left before before
+lends_first first senders left before none are many is = record {
+  same = refl;
+  left_are = λ p sender at.
+      are p sender (ap (λ (l : List Outbox). slice_get l p) (sym is) ∙ at) ∙ ap (λ n. outbox first.jobs.queue n first.jobs.jobs []) (omega arith);
+  left_many = omega (arith, ap length is, many);
+  lends = subst (λ (l : List AckBox). LendsTo first.jobs.jobs first.state first.table first.jobs 0 l before before) (sym none)
+      (lends_none first.jobs.jobs first.state first.table first.jobs before);
+}
 
 -- the next front was lent a part
-module _ (most : ℕ) (state : OwnerState) (table : TableId) (jobs : Inbox) (k : ℕ) (before : List (List FrontPart)) where
-  pub lent_next : (acks after_acks : List AckBox) (hands after : List (Vec FrontPart Global)) (hand new : Vec FrontPart Global) (part : FrontPart) (answers : AckBox)
-      → LendsTo most state table jobs k acks before (rows hands) → slice_get hands k ≡ Some hand → reader_state part.seat ≡ lent state → reader_home part.seat ≡ table
-      → part.jobs ≡ outbox jobs.queue k most [] → answers ≡ ack_box part.acks.queue (reader_home part.seat) (reader_state part.seat).shape []
-      → part.acks ≡ ack_box part.acks.queue (reader_home part.seat) (reader_state part.seat).shape [] → after_acks ≡ acks ++ answers ∷ []
-      → new.items ≡ hand.items ++ part ∷ [] → after ≡ slice_set hands k new → LendsTo most state table jobs (k + 1) after_acks before (rows after)
-  lent_next acks after_acks hands after hand new part answers so_far at seat home sends sender receiver pushed more set =
-      let items = λ (own : Vec FrontPart Global). own.items in
-      let here : slice_get (rows hands) k ≡ Some hand.items = slice_get-map items hands k ∙ ap (option_map items) at in
-      let all : rows after ≡ slice_set (rows hands) k (hand.items ++ part ∷ []) = ap rows set ∙ map-set items hands k new ∙ ap (slice_set (rows hands) k) more in
-      let box : part.acks ≡ ack_box part.acks.queue table state.shape [] = receiver ∙ (λ i. ack_box part.acks.queue (home i) (ap (λ (r : ReaderState). r.shape) seat i) []) in
-      subst (λ (l : List (List FrontPart)). LendsTo most state table jobs (k + 1) after_acks before l) (sym all)
-      (subst (λ (l : List AckBox). LendsTo most state table jobs (k + 1) l before (slice_set (rows hands) k (hand.items ++ part ∷ [])))
-      (sym (pushed ∙ ap (λ (b : AckBox). acks ++ b ∷ []) (sender ∙ sym receiver)))
-      (lends_one most state table jobs k acks before (rows hands) hand.items part so_far here seat home sends box))
+pub lends_next : (first now next : OwnerEnd) (k : ℕ) (left rest : List Outbox) (before : List (List FrontPart)) (hands after : List (Vec FrontPart Global)) (sender : Outbox) (part : FrontPart)
+    (hand pushed : Vec FrontPart Global) → LendsSome first now k left before (rows hands) → left ≡ sender ∷ rest → LendsPart sender now next part → slice_get hands k ≡ Some hand
+    → pushed.items ≡ hand.items ++ part ∷ [] → after ≡ slice_set hands k pushed → LendsSome first next (k + 1) rest before (rows after)
+lends_next first now next k left rest before hands after sender part hand pushed so_far head lends at more set =
+    let items = λ (own : Vec FrontPart Global). own.items in
+    let here : slice_get (rows hands) k ≡ Some hand.items = slice_get-map items hands k ∙ ap (option_map items) at in
+    let all : rows after ≡ slice_set (rows hands) k (hand.items ++ part ∷ []) = ap rows set ∙ map-set items hands k pushed ∙ ap (slice_set (rows hands) k) more in
+    let state = ap (λ (o : OwnerEnd). o.state) so_far.same in
+    let table = ap (λ (o : OwnerEnd). o.table) so_far.same in
+    let jobs = ap (λ (o : OwnerEnd). o.jobs) so_far.same in
+    let is_sender : sender ≡ outbox first.jobs.queue k first.jobs.jobs [] =
+        so_far.left_are 0 sender (ap (λ (l : List Outbox). slice_get l 0) head) ∙ ap (λ n. outbox first.jobs.queue n first.jobs.jobs []) (omega arith) in
+    record {
+      same = λ i. record {
+        state = (ap (λ (o : OwnerEnd). o.state) lends.same ∙ state) i;
+        table = (ap (λ (o : OwnerEnd). o.table) lends.same ∙ table) i;
+        jobs = (ap (λ (o : OwnerEnd). o.jobs) lends.same ∙ jobs) i;
+        acks = next.acks;
+      };
+      left_are = λ p other is.
+          so_far.left_are (suc p) other (ap (λ (l : List Outbox). slice_get l (suc p)) head ∙ is) ∙ ap (λ n. outbox first.jobs.queue n first.jobs.jobs []) (omega arith);
+      left_many = omega (arith, ap length head, so_far.left_many);
+      lends = subst (λ (l : List (List FrontPart)). LendsTo first.jobs.jobs first.state first.table first.jobs (k + 1) next.acks before l) (sym all)
+          (subst (λ (l : List AckBox). LendsTo first.jobs.jobs first.state first.table first.jobs (k + 1) l before (slice_set (rows hands) k (hand.items ++ part ∷ [])))
+          (sym (ap (λ (o : OwnerEnd). o.acks) lends.same))
+          (lends_one first.jobs.jobs first.state first.table first.jobs k now.acks before (rows hands) hand.items part so_far.lends here
+          (lends.seat ∙ ap lent state) (lends.table ∙ table) (lends.jobs ∙ is_sender)
+          (lends.acks ∙ (λ i. ack_box part.acks.queue (table i) (ap (λ (s : OwnerState). s.shape) state i) []))));
+    }
+
+pub lends_last : (first now : OwnerEnd) (k : ℕ) (left : List Outbox) (before after : List (List FrontPart)) → length left ≡ 0 → LendsSome first now k left before after → LendsEach first now before after
+lends_last first now k left before after none so_far =
+    let l = so_far.lends in
+    let whole : k ≡ length before = omega (arith, none, so_far.left_many) in
+    subst (λ (o : OwnerEnd). LendsEach first o before after) (sym so_far.same) (record {
+      many = l.many;
+      same = refl;
+      acks = l.acks_many ∙ whole;
+      unsent = l.unsent;
+      each = λ f was own was_at own_at. l.lent f was own (let low = place_below before f was was_at in omega arith) was_at own_at;
+    })
+
+pub lends_more : (options : Options) (most : ℕ) (old new : OwnerEnd) (before after : List (List FrontPart)) → old.state ≡ as_made (shape_of options)
+    → old.jobs ≡ inbox old.jobs.queue (length before) most [] → LendsEach old new before after → LendsOneMore options most new before after
+lends_more options most old new before after made fresh lends =
+    let jobs = ap (λ (o : OwnerEnd). o.jobs) lends.same in
+    let limit : new.jobs.jobs ≡ most = ap (λ (b : Inbox). b.jobs) (jobs ∙ fresh) in
+    record {
+      many = lends.many;
+      made = record {
+        state = ap (λ (o : OwnerEnd). o.state) lends.same ∙ made;
+        jobs = jobs ∙ fresh ∙ ap (λ (b : Inbox). inbox b.queue (length before) most []) (sym jobs);
+        acks = lends.acks;
+        unsent = lends.unsent;
+      };
+      each = λ f was own was_at own_at. let p = lends.each f was own was_at own_at in (p.0, p.1, subst (λ (n : ℕ). IsLentBy f n new p.0) limit p.2);
+    }
 
 -- one front more with nothing in hand
 pub none_pushed : (hands after : List (Vec FrontPart Global)) (new : Vec FrontPart Global) → after ≡ hands ++ new ∷ [] → new.items ≡ []

@@ -78,4 +78,4 @@ sum_of_totals all = record { batches = sum_by (λ t. t.batches) all; requests = 
 abbrev pub SumsUp : List (Result Totals ServeFault) → Result Totals ServeFault → Type 0
 SumsUp answers (Ok totals) = (all : List Totals) × (answers ≡ map Ok all) × (totals ≡ sum_of_totals all)
 SumsUp answers (Err Net) = (f : ℕ) × (slice_get answers f ≡ Some (Err Net)) × ((i : ℕ) → slice_get answers i ≢ Some (Err NoMemory))
-SumsUp answers (Err NoMemory) = ⊤
+SumsUp answers (Err NoMemory) = (f : ℕ) × (slice_get answers f ≡ Some (Err NoMemory))

@@ -9,7 +9,7 @@ use Rattle.epoch_core.specs.OwnerState.{as_made}
 use Rattle.epoch_core.specs.Joins.{lent}
 use Rattle.partition_table.specs.Seats.{reader_state, reader_home}
 use Rattle.owner_queue.specs.Messages.{sent_by, has_end}
-use Rattle.owner_queue.specs.JobEnds.{outbox, Inbox, inbox}
+use Rattle.owner_queue.specs.JobEnds.{Outbox, outbox, Inbox, inbox}
 use Rattle.owner_queue.specs.AckEnds.{AckBox, ack_box, BeginsAcks}
 use Rattle.mica_serve.specs.declared.queue_front.FrontPart.{FrontPart}
 use Rattle.mica_serve.specs.QueueFront.{QueueView, queue_view}
@@ -46,6 +46,27 @@ pub record AreLent (options : Options) (fronts most : ℕ) (owners : List OwnerE
   pub each_many : (f : ℕ) (own : List FrontPart) → slice_get hands f ≡ Some own → length own ≡ length owners
   pub each : (f p : ℕ) (own : List FrontPart) (part : FrontPart) (owner : OwnerEnd) → slice_get hands f ≡ Some own → slice_get own p ≡ Some part
       → slice_get owners p ≡ Some owner → IsLentBy f most owner part
+
+-- the senders of a fresh queue of the owner, one for each front, in order
+abbrev pub AreSendersOf : OwnerEnd → List Outbox → Type 0
+AreSendersOf owner senders = (f : ℕ) (sender : Outbox) → slice_get senders f ≡ Some sender → sender ≡ outbox owner.jobs.queue f owner.jobs.jobs []
+
+-- the owner lent a front this part with its sender, and has an end of a queue more, to that front
+pub record LendsPart (sender : Outbox) (old new : OwnerEnd) (part : FrontPart) : Type 0 where
+  pub same : new ≡ record old { acks = old.acks ++ part.acks ∷ [] }
+  pub seat : reader_state part.seat ≡ lent old.state
+  pub table : reader_home part.seat ≡ old.table
+  pub jobs : part.jobs ≡ sender
+  pub acks : part.acks ≡ ack_box part.acks.queue old.table old.state.shape []
+
+-- the owner has an end of a queue to each front, which has one part more, of this owner
+pub record LendsEach (old new : OwnerEnd) (before after : List (List FrontPart)) : Type 0 where
+  pub many : length after ≡ length before
+  pub same : new ≡ record old { acks = new.acks }
+  pub acks : length new.acks ≡ length before
+  pub unsent : (f : ℕ) (a : AckBox) → slice_get new.acks f ≡ Some a → a ≡ ack_box a.queue new.table new.state.shape []
+  pub each : (f : ℕ) (was own : List FrontPart) → slice_get before f ≡ Some was → slice_get after f ≡ Some own
+      → (part : FrontPart) × (own ≡ was ++ part ∷ []) × IsLentBy f new.jobs.jobs new part
 
 -- the owner was made, and each front has one part more, of this owner
 pub record LendsOneMore (options : Options) (most : ℕ) (owner : OwnerEnd) (before after : List (List FrontPart)) : Type 0 where

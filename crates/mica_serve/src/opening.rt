@@ -4,7 +4,7 @@ ghost use Rattle.mica_model.specs.Options.{IsValid};
 ghost use Rattle.epoch_core.specs.Shape.{shape_of};
 ghost use Rattle.epoch_core.specs.OwnerState.{as_made};
 ghost use Rattle.mica_serve.specs.PortOptions.{IsValidPorts};
-ghost use Rattle.mica_serve.specs.Hands.{AreLent, LendsOneMore, AreFrontsOf};
+ghost use Rattle.mica_serve.specs.Hands.{LendsPart, AreSendersOf, LendsEach, AreLent, LendsOneMore, AreFrontsOf};
 ghost use Rattle.mica_serve.specs.Tasks.{owner_end};
 
 use crate::ports::Ports;
@@ -14,11 +14,51 @@ use crate::worker::OwnerTask;
 use epoch_core::{LendPartition, Partition};
 use mica_io::NoMemory;
 use mica_model::Options;
-use owner_queue::{ack_queue, job_queue};
+use owner_queue::{JobSender, ack_queue, job_queue};
 use partition_table::{Note, ReaderSeat};
 use std::alloc::Global;
 
-// Makes the owner of one more partition. Each front gets a part of it: a seat, and its ends of the queues to the owner and back.
+impl<P: LendPartition<Reader = ReaderSeat, Note = Note>> OwnerTask<P> {
+    // Lends one more front a part: a seat, its sender to the owner, and an end of a queue of answers from there.
+    fn lend(&mut self, alloc: Global, sender: JobSender) -> Result<FrontPart, NoMemory>
+        ensures { IfOk result (LendsPart sender (owner_end P.owner P.home self.old) (owner_end P.owner P.home self.new)) }
+    {
+        let seat = self.part.lend()?;
+        let (answers, answered) = ack_queue(alloc, &seat)?;
+        self.acks.push(answers)?;
+        Ok(FrontPart {
+            seat,
+            jobs: sender,
+            acks: answered,
+        })
+    }
+}
+
+// Lends each front a part, with its sender.
+fn lend_all<P: LendPartition<Reader = ReaderSeat, Note = Note>>(
+    alloc: Global,
+    owner: &mut OwnerTask<P>,
+    senders: Vec<JobSender>,
+    hands: &mut Vec<Vec<FrontPart>>,
+) -> Result<(), NoMemory>
+    requires none { owner.old.acks.items ≡ [] }
+    requires senders { AreSendersOf (owner_end P.owner P.home owner.old) senders.items }
+    requires many { length senders.items ≡ length hands.old.items }
+    requires few { vec_len hands.old ≤ 16 }
+    ensures { OnOk result (LendsEach (owner_end P.owner P.home owner.old) (owner_end P.owner P.home owner.new)
+        (map (λ own. own.items) hands.old.items) (map (λ own. own.items) hands.new.items)) }
+{
+    let mut at = 0;
+    for sender in senders {
+        let part = owner.lend(alloc, sender)?;
+        let hand = &mut hands[at];
+        hand.push(part)?;
+        at += 1;
+    }
+    Ok(())
+}
+
+// Makes the owner of one more partition, which lends each front a part.
 fn open_owner<P: OnTable + LendPartition<Reader = ReaderSeat, Note = Note>>(
     alloc: Global,
     options: &Options,
@@ -33,29 +73,17 @@ fn open_owner<P: OnTable + LendPartition<Reader = ReaderSeat, Note = Note>>(
     ensures { IfOk result (λ task. LendsOneMore options.now most (owner_end P.owner P.home task)
         (map (λ own. own.items) hands.old.items) (map (λ own. own.items) hands.new.items)) }
 {
-    let mut part = P::new(alloc, options)?;
+    let part = P::new(alloc, options)?;
     let (senders, jobs) = job_queue(alloc, hands.len() as u32, most)?;
-    let mut acks = Vec::with_capacity(alloc, hands.len())?;
-    let mut at = 0;
-    let list = senders.list;
-    for sender in list {
-        let seat = part.lend()?;
-        let (answers, answered) = ack_queue(alloc, &seat)?;
-        acks.push(answers)?;
-        let hand = &mut hands[at];
-        hand.push(FrontPart {
-            seat,
-            jobs: sender,
-            acks: answered,
-        })?;
-        at += 1;
-    }
-    Ok(OwnerTask {
+    let acks = Vec::with_capacity(alloc, hands.len())?;
+    let mut owner = OwnerTask {
         part,
         worker,
         jobs,
         acks,
-    })
+    };
+    lend_all(alloc, &mut owner, senders.list, hands)?;
+    Ok(owner)
 }
 
 // The owners of all partitions, and in each front's hands a part of each.

@@ -38,7 +38,7 @@ loop-hand-init g c =
     let none = c.requires.none in
     record {
       lent = subst (λ (l : List (List FrontPart)). AreLent c.args.options.now c.args.ports.now.fronts (255 * c.args.ports.now.batches) (map f c.in_ok-owners.owners.items) l)
-          (sym (ap (λ (l : List QueueView). parts_of l ++ rows left) none ∙ ap rows c.into_iter-hand-iterator.ensures.rest)) c.in_ok-owners.ensures.lent;
+          (sym (ap (λ (l : List QueueView). parts_of l ++ rows left) none ∙ ap rows c.into_iter-hand-iterator.ensures.into_iter_gives.0)) c.in_ok-owners.ensures.lent;
       number = sym (ap length none);
       each = λ n front at. absurd (let low = place_below c.args.fronts.now.items n front at in let long = ap length none in omega arith);
     }
