@@ -1,6 +1,6 @@
 -- What a front came to at its end.
 use Rattle.std.proofs.Common.{◌≡◌, ℕ, true, refl, List, [], map, Some, None, Option, subst, sym, ap, ◌∙◌, slice_get, length, arith}
-use Rattle.std.specs.Prelude.{is_some, false, IfOk, OnOk, IsErrOf, Result, Ok, Err, IfSome, ◌*◌, ◌≤◌}
+use Rattle.std.specs.Prelude.{is_some, false, IfOk, OnOk, IsErrOf, Result, Ok, Err, IfSome, ⊤, ◌*◌, ◌≤◌}
 use Rattle.std.proofs.lemmas.Bool.{true≢false}
 use Rattle.mica_io.specs.Faults.{Rose}
 use Rattle.mica_io.specs.Traffic.{Traffic}

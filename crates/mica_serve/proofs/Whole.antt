@@ -246,7 +246,7 @@ module _ (options : Options) (some : 1 ≤ options.partitions) (ports : PortOpti
   }
   cause (Err Net) run = (unkept run.means, stops run)
     where
-      unkept : {A B : Type 0} → (A × (kept ≡ [])) ⊎ ((kept ≡ []) × B) → kept ≡ []
+      unkept : {A B C : Type 0} → (A × (kept ≡ [])) ⊎ ((kept ≡ []) × B × C) → kept ≡ []
       unkept (inl h) = h.1
       unkept (inr h) = h.0
   cause (Err NoMemory) run = run.means
@@ -255,8 +255,9 @@ module _ (options : Options) (some : 1 ≤ options.partitions) (ports : PortOpti
 module _ (ports : PortOptions) (before mid : NetFacts) (olds : List EndFacts) (are_new : AreNewEnds ports.port olds)
     (bound : OnPorts (BindsEnds ports.port olds) before.ports mid.ports) (within : length olds ≤ ports.fronts) (never_fall : before.faults ≤ mid.faults)
     (fails : mid.fails ≡ before.fails) (binds : mid.binds ≤ ports.fronts) (first : 0 < mid.binds → mid.first ≡ ports.port) where
-  pub run_failed : (options : Options) → Rose before.faults mid.faults → before.refused < mid.refused → BindsAndServes options ports (Err Net) [] before mid olds
-  run_failed options rose refused = record {
+  pub run_failed : (options : Options) (answer : Result Totals ServeFault) (kept : List Entry) → answer ≡ Err Net → kept ≡ [] → Rose before.faults mid.faults → before.refused < mid.refused
+      → BindsAndServes options ports answer kept before mid olds
+  run_failed options answer kept is none rose refused = record {
     olds = olds;
     are_new = are_new;
     bound = bound;
@@ -267,7 +268,7 @@ module _ (ports : PortOptions) (before mid : NetFacts) (olds : List EndFacts) (a
     fails = fails;
     binds = binds;
     first = first;
-    means = inl (record { rose = rose; refused = refused; untouched = refl }, refl);
+    means = subst (λ (r : Result Totals ServeFault). MeansForRun r options ports kept before mid olds olds) (sym is) (inl (record { rose = rose; refused = refused; untouched = refl }, none));
   }
 
   pub run_served : (options : Options) (answer : Result Totals ServeFault) (kept : List Entry) (news : List EndFacts) → length olds ≡ ports.fronts
