@@ -1,13 +1,14 @@
 use Rattle.std.proofs.Common.{◌≡◌, ◌+◌, ◌≤◌, ◌++◌, ℕ, List, length, map, slice_get, Some, sym, ap, ◌∙◌, subst, arith}
-use Rattle.std.specs.Prelude.{is_some, Result, Ok}
+use Rattle.std.specs.Prelude.{is_some, Result, Ok, Err}
 use Rattle.std.proofs.lemmas.List.{length-map}
+use Rattle.std.proofs.lemmas.Result.{err_from_is_err_and}
 use Rattle.partition_table.specs.declared.tables.Entry.{Entry}
 use Rattle.partition_table.specs.Tabled.{entry_in}
 use Rattle.mica_serve.specs.declared.ports.Totals.{Totals}
 use Rattle.mica_serve.specs.declared.ports.ServeFault.{ServeFault}
 use Rattle.mica_serve.specs.declared.worker.OwnerTask.{OwnerTask}
-use Rattle.mica_serve.specs.Ends.{EndFacts, IsUpTo}
-use Rattle.mica_serve.specs.FrontRuns.{SumsUp, RanAll}
+use Rattle.mica_serve.specs.Ends.{EndFacts, IsUpTo, ServesFronts}
+use Rattle.mica_serve.specs.FrontRuns.{SumsUp}
 use Rattle.mica_serve.proofs.Gathered.{all_ran, few_answers, small_answers}
 use Rattle.mica_serve.proofs.run.serve_all.Given as given
 use Rattle.mica_serve.proofs.run.serve_all.Goals as goal
@@ -53,7 +54,12 @@ keep_all-requires-clause-room g c =
     )
 
 pub returns-in_err-totals : goal.returns-in_err-totals
-returns-in_err-totals g c = let h = c.from_residual.ensures in let k = c.in_err-totals in let b = c.branch-totals in ?
+returns-in_err-totals g c =
+    let is = err_from_is_err_and c.from_residual.result c.from_residual.ensures.1 in
+    let same : c.from_residual.result ≡ Err c.in_err-totals.field-0.0 = is.1 ∙ ap Err is.2 in
+    subst (λ (r : Result Totals ServeFault). ServesFronts c.args.options.now c.args.ports.now.batches r c.args.tables.now (map (facts g) c.args.ends.now.items) (map (facts g) c.run_all-owners.new.ends.items)) (sym same)
+    (all_ran _ _ c.requires.options.partitions.0 _ c.args.tables.now _ _ _ c.run_all-owners.ensures.ran (Err c.in_err-totals.field-0.0)
+    (subst (λ (l : List (Result Totals ServeFault)). SumsUp l (Err c.in_err-totals.field-0.0)) c.as_slice.ensures.value c.in_err-totals.ensures) c.requires.tables)
 
 pub returns : goal.returns
 returns g c =
