@@ -1,10 +1,10 @@
 -- The answers of fronts, added one after another.
-use Rattle.std.proofs.Common.{◌≡◌, ℕ, ◌+◌, ◌*◌, ◌<◌, ◌≤◌, ◌⊎◌, inl, inr, Bool, true, false, List, [], ◌∷◌, ◌++◌, length, map, take, Some, refl, sym, ap, ◌∙◌, subst, slice_get, slice_index_or, arith}
+use Rattle.std.proofs.Common.{◌≡◌, ℕ, ◌+◌, ◌*◌, ◌<◌, ◌≤◌, ◌⊎◌, inl, inr, Bool, true, false, List, [], ◌∷◌, ◌++◌, length, map, take, Some, refl, sym, ap, ◌∙◌, subst, slice_get, get_or, arith}
 use Rattle.std.specs.Prelude.{◌≢◌, sum_by, Result, Ok, Err}
 use Rattle.std.proofs.lemmas.Bool.{cases_lt, true≢false}
 use Rattle.std.proofs.lemmas.List.{map-append, take_more, take_all}
 use Rattle.std.proofs.lemmas.List.Sums.{sum_by_push}
-use Rattle.std.proofs.lemmas.Option.{get_or_from_slice_get}
+use Rattle.std.proofs.lemmas.Option.{slice_get-get_or, get_or_from_slice_get}
 use Rattle.mica_serve.specs.declared.ports.Totals.{Totals}
 use Rattle.mica_serve.specs.declared.ports.ServeFault.{ServeFault}
 use Rattle.mica_serve.specs.declared.ports.ServeFault.TheVariants.{Net, NoMemory}
@@ -41,6 +41,9 @@ sums_none answers = record {
   requests = omega arith;
   refused = omega arith;
 }
+
+pub answer_at : (answers : List Answer) (k : ℕ) {answer : Answer} → get_or answers k (Ok none_counted) ≡ answer → k < length answers → slice_get answers k ≡ Some answer
+answer_at answers k is less = slice_get-get_or answers k (Ok none_counted) less ∙ ap Some is
 
 taken : (k : ℕ) (answers : List Answer) (answer : Answer) → slice_get answers k ≡ Some answer → take (k + 1) answers ≡ take k answers ++ answer ∷ []
 taken k answers answer is =

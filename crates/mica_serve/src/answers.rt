@@ -13,9 +13,9 @@ pub(crate) fn sum_up(answers: &[Result<Totals, ServeFault>]) -> Result<Totals, S
 {
     let mut totals = Totals::none();
     let mut failed = false;
-    for f in 0..answers.len() {
-        match answers[f] {
-            Ok(one) => totals.add(one),
+    for answer in answers {
+        match answer {
+            Ok(one) => totals.add(*one),
             Err(ServeFault::Net) => failed = true,
             Err(ServeFault::NoMemory) => return Err(ServeFault::NoMemory),
         }

@@ -21,7 +21,7 @@ returns g c =
     let served = c.serve_end-self.ensures in
     record {
       front = old;
-      front_is = c.in-Some.is;
+      front_is = sym c.take.ensures.value ∙ c.in-Some.is;
       ran = record {
         new = new;
         is = c.end.ensures.front;
