@@ -42,8 +42,8 @@ sums_none answers = record {
   refused = omega arith;
 }
 
-pub answer_at : (answers : List Answer) (k : ℕ) {answer : Answer} → get_or answers k (Ok none_counted) ≡ answer → k < length answers → slice_get answers k ≡ Some answer
-answer_at answers k is less = slice_get-get_or answers k (Ok none_counted) less ∙ ap Some is
+pub answer_at : (answers : List Answer) (k : ℕ) (answer : Answer) → get_or answers k (Ok none_counted) ≡ answer → k < length answers → slice_get answers k ≡ Some answer
+answer_at answers k answer is less = slice_get-get_or answers k (Ok none_counted) less ∙ ap Some is
 
 taken : (k : ℕ) (answers : List Answer) (answer : Answer) → slice_get answers k ≡ Some answer → take (k + 1) answers ≡ take k answers ++ answer ∷ []
 taken k answers answer is =

@@ -161,7 +161,7 @@ pub(crate) fn run_workers<
     let threads = workers.len();
     for_each_mut(
         rt,
-        workers,
+        workers.as_mut_slice(),
         threads,
         &|_, worker|
             requires { ((n : Note) → (P.noted n ≡ note_state n) × (P.note_home n ≡ note_home n))

@@ -1,6 +1,8 @@
-use Rattle.std.proofs.Common.{◌≡◌, ◌+◌, ◌<◌, ℕ, Bool, true, false, length, sym, ap, ◌∙◌, subst, arith}
-use Rattle.std.specs.Prelude.{Err}
+use Rattle.std.proofs.Common.{◌≡◌, ◌+◌, ◌<◌, ℕ, Bool, true, false, length, get_or, sym, ap, ◌∙◌, subst, arith}
+use Rattle.std.specs.Prelude.{Ok, Err}
 use Rattle.mica_serve.specs.declared.ports.Totals.{Totals}
+use Rattle.mica_serve.specs.declared.ports.ServeFault.TheVariants.{Net}
+use Rattle.mica_serve.specs.Ends.{none_counted}
 use Rattle.mica_serve.proofs.SumsUp.{SumsTo, answer_at, sums_none, sums_one, sums_failed, sums_all, sums_fault}
 use Rattle.mica_serve.proofs.answers.sum_up.Goals as goal
 use Rattle.mica_serve.proofs.answers.sum_up.Goals.{in-Ok, in-Err-Net}
@@ -12,7 +14,7 @@ pub add-requires : goal.add-requires
 add-requires c =
     let k = c.loop-answer.answer-index in
     let less : k < length c.args.answers.now = omega (arith, c.loop-answer-test.true) in
-    let small = c.requires.small k c.in-Ok.one (answer_at c.args.answers.now k c.in-Ok.is less) in
+    let small = c.requires.small k c.in-Ok.one (answer_at c.args.answers.now k (Ok c.in-Ok.one) c.in-Ok.is less) in
     record {
       batches = omega (arith, c.loop-answer.invariant.batches, small.datagrams, c.requires.few, less);
       requests = omega (arith, c.loop-answer.invariant.requests, small.requests, c.requires.few, less);
@@ -27,14 +29,16 @@ loop-answer-preserved c =
     let s = c.loop-answer.invariant in
     elim c.match-answer.branch [
       | in-Ok w ↦
-          let here = answer_at answers k w.in-Ok.is less in
+          let here = answer_at answers k (Ok w.in-Ok.one) w.in-Ok.is less in
           subst (λ (b : Bool). SumsTo (k + 1) answers b c.match-answer.totals) (sym w.failed-is)
           (subst (λ (t : Totals). SumsTo (k + 1) answers c.loop-answer.failed t) (sym (w.totals-is ∙ w.add.ensures))
           (sums_one k answers c.loop-answer.failed c.loop-answer.totals w.in-Ok.one s here (c.requires.small k w.in-Ok.one here)))
       | in-Err-Net w ↦
+          let is : get_or answers k (Ok none_counted) ≡ Err w.in-Err-Net.field-0 = w.in-Err-Net.is in
+          let here : get_or answers k (Ok none_counted) ≡ Err Net = is ∙ ap Err (rw is at w.in-Err-Net.field-0-is) in
           subst (λ (b : Bool). SumsTo (k + 1) answers b c.match-answer.totals) (sym w.failed-is)
           (subst (λ (t : Totals). SumsTo (k + 1) answers true t) (sym w.totals-is)
-          (sums_failed k answers c.loop-answer.failed c.loop-answer.totals s (answer_at answers k (w.in-Err-Net.is ∙ ap Err w.in-Err-Net.field-0-is) less)))
+          (sums_failed k answers c.loop-answer.failed c.loop-answer.totals s (answer_at answers k (Err Net) here less)))
     ]
 
 pub returns-then-failed : goal.returns-then-failed
