@@ -1,3 +1,4 @@
+use denote.Param.Send.{sendable}
 use Rattle.std.proofs.Common.{arith, sym, ap, subst, ◌∙◌, ◌≡◌, ◌<◌, ◌++◌, length, take, drop, slice_index_or}
 use Rattle.std.specs.Prelude.{is_some}
 use Rattle.std.proofs.Math.Seq.{take-append_seam}
@@ -21,7 +22,7 @@ for_each_mut-requires-clause-accepts g c κs within i p low is =
     let value = c.as_mut_slice.ensures.value in
     let here : i < length items = omega (arith, low, ap length value) in (
       (c.requires.notes, subst Ready (sym (is ∙ ap (λ l. slice_index_or l i p.now) value)) (All-get_or Ready items i p.now here c.requires.ready)),
-      (c.type_bounds.send-P, c.type_bounds.send-D, c.type_bounds.sync-W, c.type_bounds.sync-G),
+      (search sendable depth 20, search sendable depth 20, search sendable depth 20, search sendable depth 20),
     )
 
 pub returns : goal.returns
