@@ -1,6 +1,6 @@
 -- What a front came to at its end.
-use Rattle.std.proofs.Common.{◌≡◌, ℕ, true, refl, List, [], map, Some, None, Option, subst, sym, ap, ◌∙◌, slice_get, length, arith}
-use Rattle.std.specs.Prelude.{is_some, false, IfOk, OnOk, IsErrOf, Result, Ok, Err, IfSome, ⊤, ◌*◌, ◌≤◌}
+use Rattle.std.proofs.Common.{◌≡◌, ℕ, true, refl, Some, None, Option, sym}
+use Rattle.std.specs.Prelude.{is_some, false, IfOk, OnOk, IsErrOf, Result, Ok, Err, ⊤}
 use Rattle.std.proofs.lemmas.Bool.{true≢false}
 use Rattle.mica_io.specs.Faults.{Rose}
 use Rattle.mica_io.specs.Traffic.{Traffic}
@@ -8,7 +8,6 @@ use Rattle.mica_model.specs.declared.options.Options.{Options}
 use Rattle.mica_serve.specs.declared.ports.Totals.{Totals}
 use Rattle.mica_serve.specs.declared.ports.ServeFault.{ServeFault}
 use Rattle.mica_serve.specs.declared.ports.ServeFault.TheVariants.{Net, NoMemory}
-use Rattle.mica_serve.specs.Session.{Sessions}
 use Rattle.mica_serve.specs.Ends.{EndFacts, OnTraffic, ServesEnd, LeavesEnd, KeepsEnd, IsUpTo}
 use Rattle.mica_serve.specs.FrontRuns.{FrontRun, MeansForFront, RunsFront}
 

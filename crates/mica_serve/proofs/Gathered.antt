@@ -1,5 +1,5 @@
 -- What each front came to is what all of them come to.
-use Rattle.std.proofs.Common.{◌≡◌, ℕ, zero, suc, ◌+◌, ◌<◌, ◌≤◌, Bool, true, false, List, [], ◌∷◌, ◌++◌, length, map, Option, Some, None, refl, sym, ap, ◌∙◌, subst, slice_get, take, drop, arith}
+use Rattle.std.proofs.Common.{◌≡◌, ℕ, zero, suc, ◌+◌, ◌<◌, ◌≤◌, Bool, true, false, List, [], ◌∷◌, ◌++◌, length, map, Option, Some, None, refl, sym, ap, ◌∙◌, subst, slice_get, take, arith}
 use Rattle.std.specs.Prelude.{◌≢◌, is_some, sum_by, option_map, Result, Ok, Err}
 use Rattle.std.specs.List.{filter, All}
 use Rattle.std.proofs.lemmas.List.{append-nil, length-map, length-take, take-append-drop}
@@ -13,13 +13,13 @@ use Rattle.partition_table.specs.declared.tables.Entry.{Entry}
 use Rattle.mica_serve.specs.declared.ports.Totals.{Totals}
 use Rattle.mica_serve.specs.declared.ports.ServeFault.{ServeFault}
 use Rattle.mica_serve.specs.declared.ports.ServeFault.TheVariants.{Net, NoMemory}
-use Rattle.mica_serve.specs.Turn.{Turn, gets_of}
+use Rattle.mica_serve.specs.Turn.{gets_of}
 use Rattle.mica_serve.specs.Dealing.{Dealing, turns_in}
 use Rattle.mica_serve.specs.Session.{Sessions, AnswersInOrder, count_of_writes}
-use Rattle.mica_serve.specs.Served.{Placed, Counts, has_no_turns}
-use Rattle.mica_serve.specs.Beside.{AnsweredBeside, AreServedTables}
-use Rattle.mica_serve.specs.Ends.{OnTraffic, EndFacts, KeepsEnd, TellAll, DealsWithEnd, DealsInPartWithEnd, DealsInPartWithAll, StopsEnd, StopsSome, HasNoEndFault, MeansForEnds, ServesAll, ServesFronts, ServesEnd, LeavesEnd, BeginsEnd, IsUpTo}
-use Rattle.mica_serve.specs.FrontRuns.{FrontRun, MeansForFront, RunsFront, RunFronts, IsTakenIn, AreTakenIn, closed_in, RanAll, sum_of_totals, SumsUp}
+use Rattle.mica_serve.specs.Served.{Counts, has_no_turns}
+use Rattle.mica_serve.specs.Beside.{AnsweredBeside}
+use Rattle.mica_serve.specs.Ends.{OnTraffic, EndFacts, KeepsEnd, TellAll, DealsWithEnd, DealsInPartWithEnd, MeansForEnds, ServesAll, ServesFronts, ServesEnd, BeginsEnd, IsUpTo}
+use Rattle.mica_serve.specs.FrontRuns.{FrontRun, MeansForFront, RunsFront, RunFronts, AreTakenIn, closed_in, RanAll, sum_of_totals, SumsUp}
 use Rattle.mica_serve.proofs.Binding.{place_below}
 use Rattle.mica_serve.proofs.ServedBeside.{closed_gets}
 

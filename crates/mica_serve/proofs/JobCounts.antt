@@ -1,7 +1,7 @@
 -- Each job that a front sent was answered once.
-use Rattle.std.proofs.Common.{◌≡◌, ℕ, zero, suc, ◌+◌, ◌<◌, ◌≤◌, Bool, true, false, cond, eqb, List, [], ◌∷◌, ◌++◌, length, map, take, Option, Some, None, refl, sym, ap, ◌∙◌, subst, slice_get, arith, length-append}
+use Rattle.std.proofs.Common.{◌≡◌, ℕ, zero, suc, ◌+◌, ◌≤◌, Bool, true, false, cond, eqb, List, [], ◌∷◌, ◌++◌, length, map, take, Some, None, refl, ap, subst, slice_get, arith}
 use Rattle.std.specs.Prelude.{sum_by}
-use Rattle.std.specs.List.{cons_option, filter, filter_map}
+use Rattle.std.specs.List.{cons_option, filter}
 use Rattle.std.proofs.lemmas.List.{take_all}
 use Rattle.std.proofs.lemmas.List.Sums.{sum_by_more}
 use Rattle.std.proofs.lemmas.Option.{get_or_from_slice_get}
@@ -9,9 +9,9 @@ use Rattle.mica_model.specs.Run.{RunStep}
 use Rattle.owner_queue.specs.declared.message.Job.{Job}
 use Rattle.owner_queue.specs.declared.message.Message.{Message}
 use Rattle.owner_queue.specs.declared.message.Message.TheVariants as message
-use Rattle.owner_queue.specs.Messages.{sender_of, sent_by}
+use Rattle.owner_queue.specs.Messages.{sent_by}
 use Rattle.mica_serve.specs.Session.{Acknowledged}
-use Rattle.mica_serve.specs.Served.{Placed, steps_by}
+use Rattle.mica_serve.specs.Served.{steps_by}
 use Rattle.mica_serve.specs.OwnerWork.{DoneJob, jobs_in, job_of, placed_in, answers_to}
 use Rattle.mica_serve.specs.Beside.{total_below}
 use Rattle.mica_serve.proofs.Gathered.{some_at}

@@ -1,9 +1,9 @@
 -- Owners that lend each front a part, one after another.
-use Rattle.std.proofs.Common.{◌≡◌, ℕ, zero, suc, ◌+◌, ◌<◌, ◌≤◌, ◌⊎◌, inl, inr, List, [], ◌∷◌, ◌++◌, length, map, Option, Some, None, refl, sym, ap, ◌∙◌, subst, slice_get, slice_set, arith, length-append, All}
+use Rattle.std.proofs.Common.{◌≡◌, ℕ, zero, suc, ◌+◌, ◌<◌, ◌≤◌, ◌⊎◌, inl, inr, List, [], ◌∷◌, ◌++◌, length, Some, refl, sym, ap, ◌∙◌, subst, slice_get, slice_set, arith, All}
 use Rattle.std.specs.Prelude.{◌≢◌}
 use Rattle.std.specs.List.{AllByRecursion}
 use Rattle.std.proofs.lemmas.Bool.{cases_lt}
-use Rattle.std.proofs.lemmas.List.{length-map, length-set, length_push}
+use Rattle.std.proofs.lemmas.List.{length-set, length_push}
 use Rattle.std.proofs.lemmas.List.Elements.{All-from_recursion}
 use Rattle.atomic_table.specs.Seated.{TableId}
 use Rattle.mica_model.specs.declared.options.Options.{Options}
@@ -16,8 +16,8 @@ use Rattle.partition_table.specs.Seats.{reader_state, reader_home}
 use Rattle.owner_queue.specs.JobEnds.{Outbox, outbox, Inbox, inbox}
 use Rattle.owner_queue.specs.AckEnds.{AckBox, ack_box}
 use Rattle.mica_serve.specs.declared.queue_front.FrontPart.{FrontPart}
-use Rattle.mica_serve.specs.QueueFront.{QueueView, IsNewPart, queue_view}
-use Rattle.mica_serve.specs.Hands.{OwnerEnd, IsNewOwner, IsLentBy, AreLent, LendsOneMore, AreFrontsOf}
+use Rattle.mica_serve.specs.QueueFront.{IsNewPart}
+use Rattle.mica_serve.specs.Hands.{OwnerEnd, IsNewOwner, IsLentBy, AreLent, LendsOneMore}
 use Rattle.mica_serve.proofs.Binding.{place_below, at_snoc}
 use Rattle.mica_serve.proofs.Gathered.{some_at}
 

@@ -1,19 +1,15 @@
 -- Owners take in what fronts have in hand: part by part, and front by front, the last first.
-use Rattle.std.proofs.Common.{◌≡◌, ℕ, zero, suc, ◌+◌, ◌<◌, ◌≤◌, ◌⊎◌, inl, inr, List, [], ◌∷◌, ◌++◌, length, map, take, drop, Option, Some, None, refl, sym, ap, ◌∙◌, subst, slice_get, slice_set, arith, append_assoc, length-append}
-use Rattle.std.specs.Prelude.{◌≢◌, sum_by, option_map}
+use Rattle.std.proofs.Common.{◌≡◌, ℕ, zero, suc, ◌+◌, ◌<◌, ◌≤◌, ◌⊎◌, inl, inr, List, [], ◌∷◌, ◌++◌, length, take, drop, Some, refl, sym, ap, ◌∙◌, subst, slice_get, slice_set, arith, append_assoc}
+use Rattle.std.specs.Prelude.{◌≢◌, sum_by}
 use Rattle.std.proofs.lemmas.Bool.{cases_lt}
-use Rattle.std.proofs.lemmas.List.{length-map, length-set, length-take, append-nil, take-append-drop, length_push, take_all, take-append-le, drop_all}
+use Rattle.std.proofs.lemmas.List.{length-set, take-append-drop, length_push, take_all, take-append-le}
 use Rattle.std.proofs.lemmas.List.Sums.{sum_by-cons}
-use Rattle.std.proofs.Math.Nat.{min-le_left}
 use Rattle.partition_table.specs.Seats.{reader_state}
 use Rattle.mica_model.specs.History.{History, IsPrefix}
-use Rattle.epoch_core.specs.declared.state.OwnerState.{OwnerState}
-use Rattle.owner_queue.specs.JobEnds.{Inbox}
 use Rattle.owner_queue.specs.Messages.{sent_by, has_end}
-use Rattle.owner_queue.specs.AckEnds.{AckBox, BeginsAcks}
 use Rattle.mica_serve.specs.declared.queue_front.FrontPart.{FrontPart}
-use Rattle.mica_serve.specs.Hands.{OwnerEnd, MayMeet, HasMet, MeetsPart, MayMeetHand, MeetsHand, MayMeetAll, HaveMetAll, closed_by, closed_at, met_after}
-use Rattle.mica_serve.proofs.Binding.{place_below, at_snoc}
+use Rattle.mica_serve.specs.Hands.{OwnerEnd, MayMeet, HasMet, MeetsPart, MayMeetHand, MeetsHand, MayMeetAll, HaveMetAll, closed_by, closed_at}
+use Rattle.mica_serve.proofs.Binding.{place_below}
 use Rattle.mica_serve.proofs.Gathered.{some_at}
 
 pub same_some : {X : Type 0} {x y : X} → Some x ≡ Some y → x ≡ y

@@ -1,23 +1,20 @@
 -- What the loops over the owners and the fronts of a server have made so far.
-use Rattle.std.proofs.Common.{◌≡◌, ℕ, zero, suc, ◌+◌, ◌<◌, ◌≤◌, ◌⊎◌, inl, inr, List, [], ◌∷◌, ◌++◌, length, map, Option, Some, refl, sym, ap, ◌∙◌, subst, slice_get, slice_set, arith, append_assoc, All, Vec, Global}
-use Rattle.std.proofs.lemmas.List.{length-map, length_push, map_push, map-set}
+use Rattle.std.proofs.Common.{◌≡◌, ℕ, suc, ◌+◌, ◌<◌, inl, inr, List, [], ◌∷◌, ◌++◌, length, map, Some, refl, sym, ap, ◌∙◌, subst, slice_get, slice_set, arith, append_assoc, All, Vec, Global}
+use Rattle.std.proofs.lemmas.List.{length-map, map_push, map-set}
 use Rattle.std.proofs.lemmas.Option.{slice_get-map}
 use Rattle.std.specs.Prelude.{option_map}
-use Rattle.atomic_table.specs.Seated.{TableId}
 use Rattle.mica_model.specs.declared.options.Options.{Options}
 use Rattle.epoch_core.specs.declared.state.OwnerState.{OwnerState}
-use Rattle.epoch_core.specs.declared.reader.ReaderState.{ReaderState}
 use Rattle.epoch_core.specs.Joins.{lent}
 use Rattle.epoch_core.specs.Shape.{shape_of}
 use Rattle.epoch_core.specs.OwnerState.{as_made}
-use Rattle.partition_table.specs.Seats.{reader_state, reader_home}
 use Rattle.owner_queue.specs.JobEnds.{Outbox, outbox, Inbox, inbox}
 use Rattle.owner_queue.specs.AckEnds.{AckBox, ack_box}
 use Rattle.mica_serve.specs.declared.queue_front.FrontPart.{FrontPart}
 use Rattle.mica_serve.specs.QueueFront.{QueueView, IsNewPart, queue_view}
-use Rattle.mica_serve.specs.Hands.{OwnerEnd, IsLentBy, LendsPart, AreSendersOf, LendsEach, AreLent, LendsOneMore, AreFrontsOf}
+use Rattle.mica_serve.specs.Hands.{OwnerEnd, IsLentBy, LendsPart, AreSendersOf, LendsEach, AreLent, LendsOneMore}
 use Rattle.mica_serve.proofs.Binding.{at_snoc, place_below}
-use Rattle.mica_serve.proofs.LentParts.{LendsTo, lends_none, lends_one, hands_none, hands_more, new_parts}
+use Rattle.mica_serve.proofs.LentParts.{LendsTo, lends_none, lends_one, hands_more, new_parts}
 
 same_some : {X : Type 0} {x y : X} → Some x ≡ Some y → x ≡ y
 same_some is = cc
@@ -72,7 +69,7 @@ lends_next first now next k left rest before hands after sender part hand pushed
     let table = ap (λ (o : OwnerEnd). o.table) so_far.same in
     let jobs = ap (λ (o : OwnerEnd). o.jobs) so_far.same in
     let is_sender : sender ≡ outbox first.jobs.queue k first.jobs.jobs [] =
-        so_far.left_are 0 sender (ap (λ (l : List Outbox). slice_get l 0) head) ∙ ap (λ n. outbox first.jobs.queue n first.jobs.jobs []) (omega arith) in
+    so_far.left_are 0 sender (ap (λ (l : List Outbox). slice_get l 0) head) ∙ ap (λ n. outbox first.jobs.queue n first.jobs.jobs []) (omega arith) in
     record {
       same = λ i. record {
         state = (ap (λ (o : OwnerEnd). o.state) lends.same ∙ state) i;

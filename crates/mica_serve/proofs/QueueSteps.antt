@@ -1,5 +1,5 @@
 -- What a front before owners makes of itself with one request.
-use Rattle.std.proofs.Common.{◌≡◌, ◌≢◌, ℕ, zero, suc, ◌+◌, ◌-◌, ◌<◌, ◌≤◌, Bool, false, true, List, [], ◌∷◌, ◌++◌, length, map, take, drop, Option, Some, None, slice_get, slice_set, get_or, length-set, refl, sym, ap, ◌∙◌, subst, arith, ◌||◌}
+use Rattle.std.proofs.Common.{◌≡◌, ℕ, zero, suc, ◌+◌, ◌-◌, ◌<◌, ◌≤◌, Bool, false, List, [], ◌∷◌, ◌++◌, length, map, take, drop, Option, Some, slice_get, slice_set, get_or, length-set, refl, sym, ap, ◌∙◌, subst, arith, ◌||◌}
 use Rattle.std.specs.List.{All, AllByRecursion, sum_by, list_any}
 use Rattle.std.proofs.lemmas.Bool.{true≢false}
 use Rattle.std.proofs.lemmas.Option.{slice_get_within, slice_get_read, get_or_from_slice_get}
@@ -14,18 +14,15 @@ use Rattle.mica_model.specs.declared.write.Outcome.{Outcome}
 use Rattle.mica_model.specs.declared.write.Answer.{Answer}
 use Rattle.mica_model.specs.Answer.{IsAnswer}
 use Rattle.mica_model.specs.Write.{IsWrite}
-use Rattle.epoch_core.specs.Shape.{shape_of}
-use Rattle.partition_table.specs.Seats.{reader_state, reader_home}
 use Rattle.owner_queue.specs.declared.message.Job.{Job}
-use Rattle.owner_queue.specs.declared.message.Message.{Message}
 use Rattle.owner_queue.specs.declared.message.Message.TheVariants as message
 use Rattle.owner_queue.specs.Messages.{ticket_of, is_end, MayFollow}
 use Rattle.owner_queue.specs.AckEnds.{AckBox}
 use Rattle.owner_queue.specs.JobEnds.{Outbox}
 use Rattle.owner_queue.proofs.Lists.{all_at, set_here, set_elsewhere}
 use Rattle.mica_serve.specs.declared.queue_front.FrontPart.{FrontPart}
-use Rattle.mica_serve.specs.Session.{Session, Sessions, ChangesOnly, Writes, Reads}
-use Rattle.mica_serve.specs.QueueFront.{QueueView, queue_view, IsWhole, IsFrontPart, IsNewPart, IsQueueFront, StaysPart, PartWrites, PartReads, ended_part, stand_of, session_of, session_or_none, sessions_of}
+use Rattle.mica_serve.specs.Session.{Session, ChangesOnly, Writes, Reads}
+use Rattle.mica_serve.specs.QueueFront.{QueueView, queue_view, IsWhole, IsFrontPart, IsNewPart, IsQueueFront, StaysPart, PartWrites, PartReads, stand_of, session_of, session_or_none, sessions_of}
 
 any_push : {X : Type 0} (p : X → Bool) (xs : List X) (x : X) → list_any p xs ≡ false → p x ≡ false → list_any p (xs ++ x ∷ []) ≡ false
 any_push p xs x all one = list_any-append p xs (x ∷ []) ∙ ap (λ b. b || list_any p (x ∷ [])) all ∙ ap (λ b. b || false) one

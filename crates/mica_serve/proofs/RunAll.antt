@@ -1,5 +1,5 @@
 -- The workers of a server: that they may run and meet, and what they came to.
-use Rattle.std.proofs.Common.{◌≡◌, ℕ, zero, suc, ◌+◌, ◌*◌, ◌<◌, ◌≤◌, List, [], ◌∷◌, ◌++◌, length, map, Option, Some, None, refl, sym, ap, ◌∙◌, subst, slice_get, arith, All}
+use Rattle.std.proofs.Common.{◌≡◌, ℕ, suc, ◌*◌, ◌≤◌, List, [], ◌∷◌, ◌++◌, length, map, Some, refl, sym, ap, ◌∙◌, subst, slice_get, arith, All}
 use Rattle.std.specs.List.{AllZip, AllByRecursion}
 use Rattle.std.proofs.lemmas.List.{length-map}
 use Rattle.std.proofs.lemmas.List.Elements.{All-from_recursion}
@@ -26,7 +26,7 @@ use Rattle.mica_serve.specs.Tasks.{owner_end, IsReadyFront, IsReadyWorker, Front
 use Rattle.mica_serve.proofs.Binding.{place_below}
 use Rattle.mica_serve.proofs.Gathered.{some_at}
 use Rattle.mica_serve.proofs.WorkerParts.{all_ready, owners_ran, fronts_ran}
-use Rattle.mica_serve.proofs.TakenIn.{may_meet, ran_all, zip_long, zip_at, map_at, at_map, same_some}
+use Rattle.mica_serve.proofs.TakenIn.{may_meet, ran_all, zip_long, zip_at, map_at, at_map}
 
 -- what each place has, all have
 all_places : {X : Type 0} (Q : X → Type 0) (xs : List X) → ((i : ℕ) (x : X) → slice_get xs i ≡ Some x → Q x) → AllByRecursion Q xs

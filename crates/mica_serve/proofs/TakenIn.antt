@@ -1,19 +1,17 @@
 -- What owners and fronts came to, once they met, is what is known of fronts beside each other.
-use Rattle.std.proofs.Common.{◌≡◌, ℕ, zero, suc, ◌+◌, ◌*◌, ◌<◌, ◌≤◌, true, List, [], ◌∷◌, ◌++◌, length, map, Option, Some, None, refl, sym, ap, ◌∙◌, subst, slice_get, arith, All, length-append}
+use Rattle.std.proofs.Common.{◌≡◌, ℕ, zero, suc, ◌+◌, ◌<◌, ◌≤◌, List, [], ◌∷◌, ◌++◌, length, map, Option, Some, None, refl, sym, ap, ◌∙◌, subst, slice_get, arith, All}
 use Rattle.std.specs.Prelude.{sum_by, option_map}
 use Rattle.std.specs.List.{AllZip, AllByRecursion}
 use Rattle.std.proofs.lemmas.List.{length-map, map-append}
 use Rattle.std.proofs.lemmas.List.Sums.{sum_by-cons}
 use Rattle.std.proofs.lemmas.List.Elements.{All-from_recursion, recursion_from_All}
 use Rattle.std.proofs.lemmas.Option.{slice_get-map}
-use Rattle.atomic_table.specs.Seated.{TableId}
 use Rattle.mica_model.specs.declared.options.Options.{Options}
 use Rattle.mica_model.specs.History.{History, IsPrefix, stamp_in}
 use Rattle.mica_model.specs.Run.{RunStep, IsRun, IsRunFrom, history_of}
-use Rattle.epoch_core.specs.declared.shape.Shape.{Shape}
 use Rattle.epoch_core.specs.declared.state.OwnerState.{OwnerState}
 use Rattle.epoch_core.specs.Shape.{shape_of, options_of}
-use Rattle.epoch_core.specs.OwnerState.{as_made, options_in}
+use Rattle.epoch_core.specs.OwnerState.{options_in}
 use Rattle.epoch_core.proofs.SameMachine.{same_state, same_may_give}
 use Rattle.partition_table.specs.declared.tables.Entry.{Entry}
 use Rattle.partition_table.specs.Tabled.{entry_in}
@@ -22,22 +20,20 @@ use Rattle.owner_queue.specs.declared.ack.Ack.{Ack}
 use Rattle.owner_queue.specs.declared.message.Message.{Message}
 use Rattle.owner_queue.specs.declared.message.Message.TheVariants as message
 use Rattle.owner_queue.specs.declared.message.Job.{Job}
-use Rattle.owner_queue.specs.Messages.{sender_of, sent_by, has_end}
+use Rattle.owner_queue.specs.Messages.{sender_of, sent_by}
 use Rattle.owner_queue.specs.JobEnds.{Outbox, Inbox}
 use Rattle.owner_queue.specs.AckEnds.{AckBox}
-use Rattle.mica_serve.specs.declared.ports.Totals.{Totals}
-use Rattle.mica_serve.specs.declared.ports.ServeFault.{ServeFault}
 use Rattle.mica_serve.specs.declared.queue_front.FrontPart.{FrontPart}
 use Rattle.mica_serve.specs.declared.worker.FrontTask.{FrontTask}
 use Rattle.mica_serve.specs.Session.{Acknowledged, Stand, Told, Session}
 use Rattle.mica_serve.specs.Served.{Placed, steps_in, steps_by, history_in}
 use Rattle.mica_serve.specs.Beside.{closed_of, total_below}
-use Rattle.mica_serve.specs.QueueFront.{QueueView, IsQueueFront, IsFrontPart, queue_view, stand_of, told_by, session_of, session_or_none, sessions_of, ended_part, acknowledged_by}
-use Rattle.mica_serve.specs.OwnerWork.{DoneJob, jobs_in, job_of, placed_in, answers_to, HasServed}
+use Rattle.mica_serve.specs.QueueFront.{QueueView, IsFrontPart, queue_view, stand_of, told_by, session_or_none, sessions_of, ended_part, acknowledged_by}
+use Rattle.mica_serve.specs.OwnerWork.{DoneJob, jobs_in, job_of, placed_in}
 use Rattle.mica_serve.specs.Ends.{EndFacts}
 use Rattle.mica_serve.specs.FrontRuns.{FrontRun, RunsFront, RunFronts, RanAll, IsTakenIn, AreTakenIn, closed_in}
-use Rattle.mica_serve.specs.Hands.{OwnerEnd, IsNewOwner, IsLentBy, AreFrontsOf, RanOwner, MayMeet, HasMet, MayMeetAll, HaveMetAll, closed_by, closed_at, met_after}
-use Rattle.mica_serve.specs.Tasks.{RanFront, FrontRan}
+use Rattle.mica_serve.specs.Hands.{OwnerEnd, IsLentBy, AreFrontsOf, RanOwner, MayMeet, HasMet, MayMeetAll, HaveMetAll, closed_by, closed_at, met_after}
+use Rattle.mica_serve.specs.Tasks.{FrontRan}
 use Rattle.mica_serve.proofs.Binding.{place_below}
 use Rattle.mica_serve.proofs.Gathered.{some_at}
 use Rattle.mica_serve.proofs.JobCounts.{steps_answered, few_answered, total_few}

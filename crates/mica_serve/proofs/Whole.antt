@@ -1,23 +1,22 @@
 -- What a whole run makes of the ports: bound, served, released.
-use Rattle.std.proofs.Common.{◌≡◌, ℕ, zero, suc, ◌+◌, ◌-◌, ◌<◌, ◌≤◌, ◌⊎◌, inl, inr, Bool, true, false, List, [], ◌∷◌, ◌++◌, length, map, take, drop, Option, Some, None, refl, sym, ap, ◌∙◌, subst, slice_get, arith}
+use Rattle.std.proofs.Common.{◌≡◌, ℕ, ◌+◌, ◌-◌, ◌<◌, ◌≤◌, ◌⊎◌, inl, inr, true, List, [], length, take, drop, Option, Some, None, refl, sym, ap, ◌∙◌, subst, slice_get, arith}
 use Rattle.std.specs.Prelude.{◌≢◌, is_some, nat_lt, Result, Ok, Err, IfSome}
-use Rattle.std.specs.List.{All}
 use Rattle.std.proofs.lemmas.Bool.{cases_lt}
 use Rattle.std.proofs.lemmas.List.Elements.{All-from_recursion}
-use Rattle.mica_io.specs.Traffic.{Datagram, Traffic, EndScript, new_traffic}
-use Rattle.mica_io.specs.Ports.{Port, Ports, waiting, out, back, is_waiting}
+use Rattle.mica_io.specs.Traffic.{Datagram, Traffic, new_traffic}
+use Rattle.mica_io.specs.Ports.{Port, Ports, out, back, is_waiting}
 use Rattle.mica_model.specs.declared.options.Options.{Options}
 use Rattle.mica_serve.specs.declared.ports.Ports.{Ports as PortOptions}
 use Rattle.mica_serve.specs.declared.ports.Totals.{Totals}
 use Rattle.mica_serve.specs.Dealing.{Dealing, IsDealing, due_to}
 use Rattle.partition_table.specs.declared.tables.Entry.{Entry}
 use Rattle.mica_serve.specs.Beside.{ServesOnTables}
-use Rattle.mica_serve.specs.Served.{ServesPort, BeginsPort, LeavesPort, IsCutShort, IsStopped, StopsShort}
+use Rattle.mica_serve.specs.Served.{ServesPort, LeavesPort, IsCutShort, IsStopped, StopsShort}
 use Rattle.mica_io.specs.Faults.{Rose}
 use Rattle.mica_serve.specs.declared.ports.ServeFault.{ServeFault}
 use Rattle.mica_serve.specs.declared.ports.ServeFault.TheVariants.{Net, NoMemory}
 use Rattle.mica_serve.specs.NetRun.{NetFacts, OnPorts, ReleasesAll, ReleasesNet, KeepsNet, BindsAndServes, FailsToBind, MeansForRun, HasNoFault, HasStopped, IsCauseOf}
-use Rattle.mica_serve.specs.Ends.{EndFacts, TellAll, AreNewEnds, AreAtPorts, BindsEnds, ReleasesEnds, WaitedAt, DealsWithEnd, DealsInPartWithEnd, DealsInPartWithAll, StopsSome, ServesAll, ServesFronts, MeansForEnds, BeginsEnd, KeepsEnd}
+use Rattle.mica_serve.specs.Ends.{EndFacts, TellAll, AreNewEnds, AreAtPorts, BindsEnds, ReleasesEnds, DealsWithEnd, DealsInPartWithEnd, DealsInPartWithAll, StopsSome, ServesAll, ServesFronts, MeansForEnds, KeepsEnd}
 use Rattle.mica_serve.proofs.Binding.{place_below, rose_on, rose_before}
 use Rattle.mica_serve.proofs.Gathered.{same_kept, some_at}
 use Rattle.mica_serve.proofs.ServedBeside.{served_beside}

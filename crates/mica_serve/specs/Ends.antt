@@ -1,7 +1,7 @@
 -- The ends behind which the fronts stand, as contracts see them.
-use Rattle.std.specs.Prelude.{◌≡◌, ◌*◌, ◌≢◌, ◌+◌, ◌<◌, ◌≤◌, ◌⊎◌, ◌==◌, ℕ, suc, Bool, true, false, List, [], ◌∷◌, ◌++◌, take, drop, map, length, slice_get, nat_lt, Option, Some, None, is_some, IfSome, All, ⊤, Result, Ok, Err, if◌then◌else◌}
+use Rattle.std.specs.Prelude.{◌≡◌, ◌*◌, ◌≢◌, ◌+◌, ◌<◌, ◌≤◌, ◌⊎◌, ◌==◌, ℕ, Bool, true, false, List, [], ◌∷◌, ◌++◌, take, drop, map, length, slice_get, nat_lt, Option, Some, None, is_some, IfSome, All, ⊤, Result, Ok, Err, if◌then◌else◌}
 use Rattle.mica_io.specs.Faults.{Rose}
-use Rattle.mica_io.specs.Traffic.{Datagram, Traffic, EndScript, Sent, new_traffic}
+use Rattle.mica_io.specs.Traffic.{Datagram, Traffic, EndScript, new_traffic}
 use Rattle.mica_io.specs.Ports.{Ports, waiting, out, back}
 use Rattle.mica_model.specs.declared.options.Options.{Options}
 use Rattle.mica_serve.specs.declared.ports.Totals.{Totals}

@@ -1,5 +1,5 @@
 -- What the fronts of a server came to, each beside the others, and what their owners took in of them.
-use Rattle.std.specs.Prelude.{false, ◌≡◌, ◌≢◌, ◌+◌, ◌<◌, ◌≤◌, ℕ, Bool, true, List, [], ◌++◌, map, length, slice_get, Option, Some, None, sum_by, ⊤, Result, Ok, Err}
+use Rattle.std.specs.Prelude.{false, ◌≡◌, ◌≢◌, ◌+◌, ◌<◌, ◌≤◌, ℕ, true, List, ◌++◌, map, length, slice_get, Some, sum_by, ⊤, Result, Ok, Err}
 use Rattle.mica_io.specs.Faults.{Rose}
 use Rattle.mica_model.specs.declared.options.Options.{Options}
 use Rattle.mica_model.specs.History.{IsPrefix}
@@ -8,7 +8,7 @@ use Rattle.partition_table.specs.declared.tables.Entry.{Entry}
 use Rattle.mica_serve.specs.declared.ports.Totals.{Totals}
 use Rattle.mica_serve.specs.declared.ports.ServeFault.{ServeFault}
 use Rattle.mica_serve.specs.declared.ports.ServeFault.TheVariants.{Net, NoMemory}
-use Rattle.mica_serve.specs.Session.{Told, Session, Sessions}
+use Rattle.mica_serve.specs.Session.{Told, Sessions}
 use Rattle.mica_serve.specs.Served.{Placed, steps_by, history_in}
 use Rattle.mica_serve.specs.Beside.{closed_of, total_below, IsUntold, RunsPartitions, HaveShapes}
 use Rattle.mica_serve.specs.Ends.{EndFacts, OnTraffic, ServesEnd, LeavesEnd, KeepsEnd, IsUpTo}

@@ -1,5 +1,5 @@
 -- What owners and fronts have in hand of each other: before they run, afterwards, and once they met.
-use Rattle.std.specs.Prelude.{◌≡◌, ◌+◌, ◌<◌, ◌≤◌, ℕ, true, List, [], ◌∷◌, ◌++◌, map, length, take, drop, slice_get, Option, Some, None, sum_by, All}
+use Rattle.std.specs.Prelude.{◌≡◌, ◌+◌, ◌<◌, ℕ, true, List, [], ◌∷◌, ◌++◌, map, length, slice_get, Option, Some, None, sum_by, All}
 use Rattle.atomic_table.specs.Seated.{TableId}
 use Rattle.mica_model.specs.declared.options.Options.{Options}
 use Rattle.mica_model.specs.History.{IsPrefix}

@@ -1,5 +1,5 @@
 -- What the workers of a server have to do, and what each makes of it.
-use Rattle.std.specs.Prelude.{◌≡◌, ◌*◌, ◌+◌, ◌<◌, ◌≤◌, ℕ, false, List, [], ◌∷◌, ◌++◌, map, length, All, slice_index_or, Option, Some, None, IfSome, vec_capacity, Result}
+use Rattle.std.specs.Prelude.{◌≡◌, ◌*◌, ◌+◌, ◌<◌, ◌≤◌, ℕ, false, List, [], ◌∷◌, map, length, slice_index_or, Some, IfSome, vec_capacity, Result}
 use Rattle.atomic_table.specs.Seated.{TableId}
 use Rattle.mica_io.specs.Traffic.{new_traffic}
 use Rattle.epoch_core.specs.declared.state.OwnerState.{OwnerState}
@@ -14,10 +14,9 @@ use Rattle.mica_serve.specs.declared.running.Room.{Room}
 use Rattle.mica_serve.specs.declared.running.Server.{Server}
 use Rattle.mica_serve.specs.declared.ports.Ports.{Ports}
 use Rattle.mica_model.specs.declared.options.Options.{Options}
-use Rattle.mica_serve.specs.Session.{Sessions}
 use Rattle.mica_serve.specs.QueueFront.{QueueView, IsQueueFront, stand_of, sessions_of, ended_part}
 use Rattle.mica_serve.specs.Ends.{EndFacts}
-use Rattle.mica_serve.specs.FrontRuns.{FrontRun, RunsFront}
+use Rattle.mica_serve.specs.FrontRuns.{RunsFront}
 use Rattle.mica_serve.specs.Hands.{OwnerEnd, IsReadyOwner, RanOwner, AreFrontsOf}
 
 abbrev pub owner_end : {P : Type 0} → (P → OwnerState) → (P → TableId) → OwnerTask P → OwnerEnd

@@ -1,4 +1,4 @@
-use Rattle.std.proofs.Common.{◌≡◌, ◌+◌, ◌<◌, ◌≤◌, ◌⊎◌, inl, inr, Bool, ◌++◌, ◌∷◌, [], ℕ, List, length, slice_index_or, take, drop, sym, ap, ◌∙◌, subst, arith}
+use Rattle.std.proofs.Common.{◌≡◌, ◌+◌, ◌<◌, ◌≤◌, inl, inr, Bool, ◌++◌, ◌∷◌, [], ℕ, List, length, slice_index_or, take, drop, sym, ap, ◌∙◌, subst, arith}
 use Rattle.std.proofs.lemmas.List.{take_more, take-append-drop}
 use Rattle.mica_model.specs.declared.options.Options.{Options}
 use Rattle.batch_packets.specs.declared.batch.Request.{Request}

@@ -1,8 +1,8 @@
-use Rattle.std.proofs.Common.{rules, ◌≡◌, ◌<◌, ◌≤◌, ◌+◌, ℕ, Bool, true, false, cond, eqb, Option, Some, sym, ap, ◌∙◌, subst, arith}
+use Rattle.std.proofs.Common.{rules, ◌≡◌, ◌≤◌, ◌+◌, ℕ, Bool, true, false, cond, eqb, Option, sym, ap, ◌∙◌, subst, arith}
 use Rattle.std.specs.Prelude.{IfSome}
 use Rattle.mica_model.specs.declared.options.Options.{Options}
 use Rattle.mica_serve.specs.declared.ports.Totals.{Totals}
-use Rattle.mica_serve.specs.Ends.{OnTraffic, StopsOne, ServesOne, ServesSome, LeavesEnd, counted}
+use Rattle.mica_serve.specs.Ends.{OnTraffic, StopsOne, ServesOne, ServesSome, LeavesEnd}
 use Rattle.mica_serve.proofs.Serving.{on_traffic_then, serves_more, stops_at}
 use Rattle.mica_serve.proofs.end.serve_end.Goals as goal
 

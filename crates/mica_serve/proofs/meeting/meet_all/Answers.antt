@@ -1,10 +1,9 @@
-use Rattle.std.proofs.Common.{rules, ◌≡◌, ℕ, List, [], ◌∷◌, ◌++◌, map, length, take, slice_get, Some, sym, ap, ◌∙◌, subst, arith}
+use Rattle.std.proofs.Common.{rules, ◌≡◌, ℕ, [], ◌∷◌, ◌++◌, map, length, slice_get, Some, sym, ap, ◌∙◌, subst, arith}
 use Rattle.std.specs.Option.{option_to_list}
 use Rattle.std.specs.Prelude.{option_map}
 use Rattle.std.proofs.lemmas.List.{length-map, take_all}
 use Rattle.std.proofs.lemmas.Option.{slice_get-map}
 use Rattle.mica_serve.specs.declared.worker.OwnerTask.{OwnerTask}
-use Rattle.mica_serve.specs.declared.queue_front.FrontPart.{FrontPart}
 use Rattle.mica_serve.specs.Tasks.{owner_end}
 use Rattle.mica_serve.proofs.Meetings.{FrontsMetFrom, popped, fronts_none, fronts_one, fronts_all, hand_may}
 use Rattle.mica_serve.proofs.meeting.meet_all.Goals as goal

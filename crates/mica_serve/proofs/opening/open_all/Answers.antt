@@ -1,8 +1,8 @@
-use Rattle.std.proofs.Common.{◌≡◌, ℕ, ◌+◌, ◌*◌, [], ◌∷◌, ◌++◌, List, length, map, slice_get, Some, refl, sym, ap, ◌∙◌, subst, arith, append-nil}
+use Rattle.std.proofs.Common.{◌+◌, ◌*◌, ◌++◌, List, length, map, sym, ap, ◌∙◌, subst, arith, append-nil}
 use Rattle.std.specs.Vec.Iter.{into_iter_items}
 use Rattle.std.proofs.lemmas.List.{length-map, length_push}
 use Rattle.mica_serve.specs.declared.worker.OwnerTask.{OwnerTask}
-use Rattle.mica_serve.specs.Hands.{OwnerEnd, AreLent}
+use Rattle.mica_serve.specs.Hands.{AreLent}
 use Rattle.mica_serve.specs.QueueFront.{QueueView, queue_view}
 use Rattle.mica_serve.specs.Tasks.{owner_end}
 use Rattle.mica_serve.specs.declared.queue_front.FrontPart.{FrontPart}

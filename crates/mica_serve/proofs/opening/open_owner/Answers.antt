@@ -1,4 +1,4 @@
-use Rattle.std.proofs.Common.{◌≡◌, [], refl, sym, ap, ◌∙◌, arith, length}
+use Rattle.std.proofs.Common.{[], sym, ap, ◌∙◌, arith, length}
 use Rattle.std.proofs.lemmas.List.{length-map}
 use Rattle.owner_queue.specs.JobEnds.{inbox}
 use Rattle.mica_serve.specs.Tasks.{owner_end}

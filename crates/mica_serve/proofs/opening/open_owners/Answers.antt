@@ -1,7 +1,7 @@
-use Rattle.std.proofs.Common.{◌≡◌, ℕ, ◌+◌, ◌*◌, [], ◌∷◌, ◌++◌, List, length, map, slice_get, Some, refl, sym, ap, ◌∙◌, subst, arith}
+use Rattle.std.proofs.Common.{◌≡◌, ◌+◌, ◌*◌, [], List, length, map, sym, ap, ◌∙◌, subst, arith}
 use Rattle.std.proofs.lemmas.List.{length-map, length_push}
 use Rattle.mica_serve.specs.declared.worker.OwnerTask.{OwnerTask}
-use Rattle.mica_serve.specs.Hands.{OwnerEnd, AreLent}
+use Rattle.mica_serve.specs.Hands.{AreLent}
 use Rattle.mica_serve.specs.Tasks.{owner_end}
 use Rattle.mica_serve.proofs.LentParts.{hands_none}
 use Rattle.mica_serve.proofs.Opened.{rows, none_pushed, owners_pushed}

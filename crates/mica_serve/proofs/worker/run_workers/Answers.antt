@@ -40,7 +40,7 @@ returns g c =
     let value = c.as_mut_slice.ensures.value in
     let long : length s ≡ length workers.items = c.for_each_mut.auto.s ∙ ap length value in
     let whole : take workers.len (s ++ drop (length s) workers.items) ≡ s =
-        ap (λ n. take n (s ++ drop (length s) workers.items)) (omega (arith, workers.ok, long)) ∙ take-append_seam s (drop (length s) workers.items) in (
+    ap (λ n. take n (s ++ drop (length s) workers.items)) (omega (arith, workers.ok, long)) ∙ take-append_seam s (drop (length s) workers.items) in (
       ap length whole ∙ long,
       λ i d low.
           let one = c.for_each_mut.ensures i d (omega (arith, low, ap length value)) in

@@ -1,6 +1,6 @@
-use Rattle.std.proofs.Common.{◌≡◌, ℕ, Some, sym, ap, ◌∙◌, subst}
+use Rattle.std.proofs.Common.{sym, ◌∙◌}
 use Rattle.std.specs.Prelude.{is_some}
-use Rattle.mica_serve.specs.QueueFront.{QueueView, sessions_of}
+use Rattle.mica_serve.specs.QueueFront.{sessions_of}
 use Rattle.mica_serve.specs.Ends.{EndFacts}
 use Rattle.mica_serve.proofs.FrontEnds.{runs_front, tells_still}
 use Rattle.mica_serve.proofs.worker.FrontTask.run.Goals as goal
