@@ -14,7 +14,8 @@ use Rattle.mica_serve.specs.declared.ports.Ports.{Ports}
 use Rattle.mica_serve.specs.declared.ports.Totals.{Totals}
 use Rattle.mica_serve.specs.declared.ports.ServeFault.{ServeFault}
 use Rattle.mica_serve.specs.declared.ports.ServeFault.TheVariants.{Net}
-use Rattle.mica_serve.specs.NetRun.{NetFacts, OnPorts, HasServed, IsCauseOf, ReleasesAll, KeepsNet}
+use Rattle.mica_serve.specs.NetRun.{NetFacts, OnPorts, HasServedOnTables, IsCauseOf, ReleasesAll, KeepsNet}
+use Rattle.mica_serve.proofs.Tabled.{has_served}
 use Rattle.mica_cmd.specs.declared.top.TheConstants.{MAX_SOURCE_LEN}
 use Rattle.mica_cmd.specs.declared.command.Command.{Command}
 use Rattle.mica_cmd.specs.declared.command.Command.TheVariants.{Replay, Serve, Gen, Bench}
@@ -182,34 +183,36 @@ kept_itself None = tt
 kept_itself (Some bytes) = refl
 
 -- a server that served, and whose totals were printed
-pub totals_promises : (options : Options) (ports : Ports) (totals : Totals) (source : SourceFacts) (old new : SinkFacts) (net next : NetFacts) (kept : List Entry) (result : Status)
-    → HasServed options ports totals net next → KeepsNet ports net next → IsPrinted (totals_text totals) old new result
-    → KeepsPromises (Some (Serve options ports)) (record { source = source; sink = old; net = net; tables = kept }) (record { source = source; sink = new; net = next; tables = kept }) result
-totals_promises options ports totals source old new net next kept result served kept_net printed =
-    let before : Outside = record { source = source; sink = old; net = net; tables = kept } in
+pub totals_promises : (options : Options) (ports : Ports) (totals : Totals) (source : SourceFacts) (old new : SinkFacts) (net next : NetFacts) (was kept : List Entry) (result : Status)
+    → HasServedOnTables options ports totals kept net next → KeepsNet ports net next → IsPrinted (totals_text totals) old new result
+    → KeepsPromises (Some (Serve options ports)) (record { source = source; sink = old; net = net; tables = was }) (record { source = source; sink = new; net = next; tables = kept }) result
+totals_promises options ports totals source old new net next was kept result served kept_net printed =
+    let before : Outside = record { source = source; sink = old; net = net; tables = was } in
     let after : Outside = record { source = source; sink = new; net = next; tables = kept } in
+    let without = has_served options ports totals kept net next served in
     elim printed as (λ _. KeepsPromises (Some (Serve options ports)) before after result) [
-      | inl memory ↦ subst (KeepsPromises (Some (Serve options ports)) before after) (sym memory.0) (keeps_promises (Some (Serve options ports)) before after NoMemory memory.1 refl kept_net (λ _. tt))
-      | inr written ↦ output_promises (Serve options ports) source old new net next kept kept (totals_text totals) result (totals, served, refl)
-          (λ taken. (record { totals = totals; served = served; printed = taken }, tt)) refl kept_net written
+      | inl memory ↦ subst (KeepsPromises (Some (Serve options ports)) before after) (sym memory.0)
+          (keeps_promises (Some (Serve options ports)) before after NoMemory memory.1 refl kept_net (λ never. let no : NoMemory ≡ Done = never in absurd (cc)))
+      | inr written ↦ output_promises (Serve options ports) source old new net next was kept (totals_text totals) result (totals, without, refl)
+          (λ taken. (record { totals = totals; served = without; printed = taken }, record { totals = totals; served = served; printed = taken })) refl kept_net written
     ]
 
 -- a server that a fault of the net stopped
-pub fault_promises : (options : Options) (ports : Ports) (source : SourceFacts) (old new : SinkFacts) (net next : NetFacts) (kept : List Entry) (fault : ServeFault) (result : Status)
-    → fault ≡ Net → IsCauseOf (Err fault) options ports net next → KeepsNet ports net next → IsWritten NetFault (line_of (codes "net fault")) old new result
-    → KeepsPromises (Some (Serve options ports)) (record { source = source; sink = old; net = net; tables = kept }) (record { source = source; sink = new; net = next; tables = kept }) result
-fault_promises options ports source old new net next kept fault result is cause kept_net written =
-    let stopped = subst (λ e. IsCauseOf (Err e) options ports net next) is cause in
-    line_promises (Some (Serve options ports)) (record { source = source; sink = old; net = net; tables = kept }) (record { source = source; sink = new; net = next; tables = kept })
-    NetFault (line_of (codes "net fault")) result (λ no. cc) (stopped, refl) (λ line. line) written refl kept_net
+pub fault_promises : (options : Options) (ports : Ports) (source : SourceFacts) (old new : SinkFacts) (net next : NetFacts) (was kept : List Entry) (fault : ServeFault) (result : Status)
+    → fault ≡ Net → IsCauseOf (Err fault) options ports kept net next → KeepsNet ports net next → IsWritten NetFault (line_of (codes "net fault")) old new result
+    → KeepsPromises (Some (Serve options ports)) (record { source = source; sink = old; net = net; tables = was }) (record { source = source; sink = new; net = next; tables = kept }) result
+fault_promises options ports source old new net next was kept fault result is cause kept_net written =
+    let stopped = subst (λ e. IsCauseOf (Err e) options ports kept net next) is cause in
+    line_promises (Some (Serve options ports)) (record { source = source; sink = old; net = net; tables = was }) (record { source = source; sink = new; net = next; tables = kept })
+    NetFault (line_of (codes "net fault")) result (λ no. cc) (stopped.1, refl) (λ line. line) written refl kept_net
 
 -- a server that found no memory
-pub unserved_promises : (options : Options) (ports : Ports) (source : SourceFacts) (sink : SinkFacts) (net next : NetFacts) (kept : List Entry)
+pub unserved_promises : (options : Options) (ports : Ports) (source : SourceFacts) (sink : SinkFacts) (net next : NetFacts) (was kept : List Entry)
     → KeepsNet ports net next
-    → KeepsPromises (Some (Serve options ports)) (record { source = source; sink = sink; net = net; tables = kept }) (record { source = source; sink = sink; net = next; tables = kept }) NoMemory
-unserved_promises options ports source sink net next kept kept_net =
-    keeps_promises (Some (Serve options ports)) (record { source = source; sink = sink; net = net; tables = kept }) (record { source = source; sink = sink; net = next; tables = kept })
-    NoMemory (kept_itself sink.taken) refl kept_net (λ _. tt)
+    → KeepsPromises (Some (Serve options ports)) (record { source = source; sink = sink; net = net; tables = was }) (record { source = source; sink = sink; net = next; tables = kept }) NoMemory
+unserved_promises options ports source sink net next was kept kept_net =
+    keeps_promises (Some (Serve options ports)) (record { source = source; sink = sink; net = net; tables = was }) (record { source = source; sink = sink; net = next; tables = kept })
+    NoMemory (kept_itself sink.taken) refl kept_net (λ never. let no : NoMemory ≡ Done = never in absurd (cc))
 
 -- the command that words give is this one
 pub given_promises : (given : Option Command) (read command : Command) (old new : Outside) (result : Status) → given ≡ Some read → read ≡ command

@@ -16,7 +16,7 @@ use Rattle.partition_table.specs.declared.tables.Entry.{Entry}
 use Rattle.mica_replay.specs.Replayed.{IsReplayed}
 use Rattle.mica_serve.specs.declared.ports.Ports.{Ports}
 use Rattle.mica_serve.specs.declared.ports.Totals.{Totals}
-use Rattle.mica_serve.specs.NetRun.{NetFacts, HasServed, HasStopped, KeepsNet}
+use Rattle.mica_serve.specs.NetRun.{NetFacts, HasServed, HasServedOnTables, HasStopped, KeepsNet}
 use Rattle.mica_cmd.specs.declared.top.TheConstants.{MAX_SOURCE_LEN}
 use Rattle.mica_cmd.specs.declared.command.Command.{Command}
 use Rattle.mica_cmd.specs.declared.command.Command.TheVariants.{Replay, Serve, Gen, Bench}
@@ -192,9 +192,16 @@ pub record KeepsGeneratedSeats (options : Options) (generator : GenOptions) (old
   pub replayed : IsReplayed options (generated generator) report new.tables
   pub printed : Appends old.sink.taken new.sink.taken (summary_text options (generated generator) report)
 
+-- the totals that the sink took are those of a server whose owners' seats the tables keep
+pub record KeepsServedSeats (options : Options) (ports : Ports) (old new : Outside) : Type 0 where
+  pub totals : Totals
+  pub served : HasServedOnTables options ports totals new.tables old.net new.net
+  pub printed : Appends old.sink.taken new.sink.taken (totals_text totals)
+
 -- what the tables keep once a command was carried out
 abbrev pub KeepsTables : Option Command → Outside → Outside → Type 0
 KeepsTables (Some (Replay options)) old new = KeepsSeats options old new
+KeepsTables (Some (Serve options ports)) old new = KeepsServedSeats options ports old new
 KeepsTables (Some (Bench options generator)) old new = KeepsGeneratedSeats options generator old new
 KeepsTables _ old new = Unit {0}
 

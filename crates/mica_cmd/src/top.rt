@@ -191,11 +191,13 @@ fn serve_command<W: Threads + Wait + Sync, K: Sink, N: Net, G: Gate>(
     sink: &mut K,
     net: &mut N,
     gate: &G,
+    tables: &mut Tables,
 ) -> Status
     requires options { IsValid options.now }
     requires ports { IsValidPorts ports.now }
     requires unbound { N.binds net.old ≡ 0 }
-    ensures { (source : SourceFacts) → (kept : List Entry) → KeepsPromises (Some (Serve options.now ports.now))
+    requires tables { tables.old ≡ [] }
+    ensures { (source : SourceFacts) → KeepsPromises (Some (Serve options.now ports.now))
         (record {
           source = source;
           sink = record { taken = K.taken sink.old; faults = K.faults sink.old };
@@ -207,7 +209,7 @@ fn serve_command<W: Threads + Wait + Sync, K: Sink, N: Net, G: Gate>(
             ports = N.ports net.old;
             fails = N.fails net.old;
           };
-          tables = kept;
+          tables = tables.old;
         })
         (record {
           source = source;
@@ -220,10 +222,10 @@ fn serve_command<W: Threads + Wait + Sync, K: Sink, N: Net, G: Gate>(
             ports = N.ports net.new;
             fails = N.fails net.new;
           };
-          tables = kept;
+          tables = tables.new;
         }) result }
 {
-    match serve(rt, alloc, options, ports, net, gate) {
+    match serve(rt, alloc, options, ports, net, gate, tables) {
         Ok(totals) => print_totals(alloc, totals, sink),
         Err(ServeFault::Net) => write_due(sink, b"net fault\n", Status::NetFault),
         Err(ServeFault::NoMemory) => Status::NoMemory,
@@ -296,7 +298,7 @@ pub fn mica<W: Threads + Wait + Sync, S: Source, K: Sink, N: Net, G: Gate>(
             replay_source(rt, alloc, &options, source, sink, gate, tables)
         }
         Ok(Command::Serve(options, ports)) => {
-            serve_command(rt, alloc, &options, &ports, sink, net, gate)
+            serve_command(rt, alloc, &options, &ports, sink, net, gate, tables)
         }
         Ok(Command::Gen(generator)) => print_trace(alloc, &generator, sink),
         Ok(Command::Bench(options, generator)) => {

@@ -1,5 +1,5 @@
 -- Writes whose replies stand, in order, among the steps of a machine.
-use Rattle.std.proofs.Common.{◌≡◌, ◌≤◌, ◌⊎◌, inl, inr, List, [], ◌∷◌, ◌++◌, length, arith}
+use Rattle.std.proofs.Common.{◌≤◌, ◌⊎◌, inl, inr, List, [], ◌∷◌, ◌++◌, length, arith}
 use Rattle.std.specs.List.{AllZip}
 use Rattle.mica_model.specs.Run.{RunStep}
 use Rattle.mica_serve.specs.Turn.{Turn}

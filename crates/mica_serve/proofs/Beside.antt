@@ -1,14 +1,13 @@
 -- What a front beside others makes of a partition: its writes stand among the answers that it took, and each get is one of what it has seen.
-use Rattle.std.proofs.Common.{◌≡◌, ℕ, zero, suc, ◌+◌, ◌<◌, ◌≤◌, ◌⊎◌, inl, inr, Bool, true, false, cond, List, [], ◌∷◌, ◌++◌, length, map, Option, Some, None, refl, sym, ap, ◌∙◌, subst, append_assoc, slice_get, eqb, eqb-true, arith, length-append}
+use Rattle.std.proofs.Common.{◌≡◌, ℕ, zero, suc, ◌+◌, ◌<◌, ◌≤◌, inl, Bool, true, false, cond, List, [], ◌∷◌, ◌++◌, length, map, Option, Some, None, refl, sym, ap, ◌∙◌, subst, append_assoc, slice_get, eqb, eqb-true, arith, length-append}
 use Rattle.std.specs.Prelude.{is_some, is_none, ◌&&◌}
-use Rattle.std.specs.List.{filter}
 use Rattle.std.proofs.lemmas.Bool.{true≢false, eq-eqb}
 use Rattle.std.proofs.lemmas.List.{append-nil, map-append}
 use Rattle.mica_model.specs.declared.options.Options.{Options}
 use Rattle.mica_model.specs.declared.write.Write.{Write}
 use Rattle.mica_model.specs.History.{History, IsPrefix, stamp_of, answer_of}
 use Rattle.mica_model.specs.Run.{RunStep}
-use Rattle.epoch_core.proofs.Prefixes.{prefix_same, prefix_then}
+use Rattle.epoch_core.proofs.Prefixes.{prefix_then}
 use Rattle.mica_serve.specs.Turn.{Turn, write_in, partition_in, writes_of, gets_of, get_reply}
 use Rattle.mica_serve.specs.Session.{Acknowledged, Told, Session, Sessions, TellsWrite, TellsRead, Answers, AnswersBy, AnswersInOrder}
 use Rattle.mica_serve.specs.Served.{ServesGet, IsGetAt}

@@ -1,10 +1,10 @@
 -- Ends that are bound one after another, and come back one after another.
-use Rattle.std.proofs.Common.{◌≡◌, ℕ, zero, suc, ◌+◌, ◌<◌, ◌≤◌, ◌⊎◌, inl, inr, Bool, true, false, cond, List, [], ◌∷◌, ◌++◌, length, map, Option, Some, None, refl, sym, ap, ◌∙◌, subst, append_assoc, take, drop, slice_get, slice_index_or, eqb, eqb-true, arith, length-append}
+use Rattle.std.proofs.Common.{◌≡◌, ℕ, zero, suc, ◌+◌, ◌<◌, ◌≤◌, ◌⊎◌, inl, inr, true, false, cond, List, [], ◌∷◌, ◌++◌, length, map, Option, Some, None, refl, sym, ap, ◌∙◌, subst, append_assoc, take, drop, slice_get, slice_index_or, eqb, eqb-true, arith, length-append}
 use Rattle.std.specs.Prelude.{◌≢◌, IfSome, IfNone, is_some, option_map}
 use Rattle.std.proofs.lemmas.Option.{slice_get-map, slice_get_read}
 use Rattle.std.proofs.lemmas.Bool.{eq-eqb, ne_eqb, true≢false, cases_lt}
-use Rattle.mica_io.specs.Traffic.{Datagram, Traffic, EndScript, new_traffic}
-use Rattle.mica_io.specs.Ports.{Port, Ports, waiting, out, back, with_port, BindsEnd}
+use Rattle.mica_io.specs.Traffic.{Traffic, EndScript}
+use Rattle.mica_io.specs.Ports.{Port, Ports, out, back, with_port, BindsEnd}
 use Rattle.mica_serve.specs.Ends.{EndFacts, IsNewEnd, AreNewEnds, WaitedAt, BindsEnds, ReleasesEnds, TellAll}
 use Rattle.mica_io.specs.Faults.{Rose, LAST_COUNT}
 use Rattle.std.proofs.lemmas.List.{take_at, take-append-drop}

@@ -1,16 +1,13 @@
 -- What is made of one end: datagram by datagram.
-use Rattle.std.proofs.Common.{◌≡◌, ℕ, zero, suc, ◌+◌, ◌*◌, ◌<◌, ◌≤◌, ◌⊎◌, inl, inr, Bool, true, false, cond, List, [], ◌∷◌, ◌++◌, length, map, take, drop, Option, Some, None, refl, sym, ap, ◌∙◌, subst, append_assoc, arith, length-append}
-use Rattle.std.specs.Prelude.{option_map, IfSome, nat_lt, sum_by, count_by, ◌==◌}
-use Rattle.std.specs.List.{All, AllByRecursion, flat_map}
-use Rattle.std.proofs.lemmas.List.{append-nil, map-append, length-map}
-use Rattle.std.proofs.lemmas.List.Elements.{All-append, All-from_recursion}
-use Rattle.mica_io.specs.Traffic.{Datagram, Traffic, Sent, ReceivesNext, sent_one, new_traffic}
+use Rattle.std.proofs.Common.{◌≡◌, ℕ, ◌<◌, inl, inr, Bool, List, [], ◌∷◌, ◌++◌, length, map, take, Option, Some, None, refl, sym, ap, ◌∙◌, subst, append_assoc}
+use Rattle.std.specs.Prelude.{option_map, IfSome}
+use Rattle.std.proofs.lemmas.List.{append-nil, map-append}
+use Rattle.mica_io.specs.Traffic.{Datagram, Traffic, Sent, ReceivesNext, sent_one}
 use Rattle.mica_model.specs.declared.options.Options.{Options}
-use Rattle.mica_serve.specs.declared.ports.Totals.{Totals}
 use Rattle.mica_serve.specs.Turn.{Turn}
-use Rattle.mica_serve.specs.Dealing.{Dealing, IsDealing, turns_in, due_after, due_to}
-use Rattle.mica_serve.specs.Session.{Sessions, DealsWith, AnswersInOrder, count_of_writes}
-use Rattle.mica_serve.specs.Ends.{OnTraffic, SendsAll, SendsPart, sent_all, IsAtEnd, received_one, ServesOne, SendsShort, StopsOne}
+use Rattle.mica_serve.specs.Dealing.{IsDealing}
+use Rattle.mica_serve.specs.Session.{Sessions, DealsWith}
+use Rattle.mica_serve.specs.Ends.{OnTraffic, SendsAll, SendsPart, sent_all, IsAtEnd, received_one, ServesOne, StopsOne}
 use Rattle.mica_serve.proofs.Cut.{cut_dealing}
 
 -- the replies to one datagram, one after another

@@ -1,8 +1,8 @@
 -- What an owner makes of one message more.
-use Rattle.std.proofs.Common.{◌≡◌, ◌≢◌, ℕ, zero, suc, ◌+◌, ◌<◌, ◌≤◌, ◌==◌, ◌⊎◌, inl, inr, Bool, true, false, List, [], ◌∷◌, ◌++◌, length, map, Option, Some, None, slice_get, slice_set, length-set, refl, sym, ap, ◌∙◌, subst, arith, cond, append-nil, append_assoc, eq-eqb, ne_eqb}
-use Rattle.std.specs.List.{All, AllByRecursion, cons_option, filter_map}
-use Rattle.std.proofs.lemmas.List.{map-append, map-set}
-use Rattle.std.proofs.lemmas.List.Elements.{filter_map-append, filter-append, All-nil, All-same, All-tail, All-push, All-weaker, All-from_recursion, recursion_from_All}
+use Rattle.std.proofs.Common.{◌≡◌, ◌≢◌, ℕ, ◌<◌, ◌≤◌, ◌==◌, inl, inr, Bool, true, false, List, [], ◌∷◌, ◌++◌, length, map, Some, None, slice_get, slice_set, length-set, refl, sym, ap, ◌∙◌, subst, arith, cond, append-nil, append_assoc, eq-eqb, ne_eqb}
+use Rattle.std.specs.List.{All, cons_option}
+use Rattle.std.proofs.lemmas.List.{map-append}
+use Rattle.std.proofs.lemmas.List.Elements.{filter_map-append, filter-append, All-nil, All-same, All-push, All-weaker, recursion_from_All}
 use Rattle.std.proofs.lemmas.Bool.{true≢false}
 use Rattle.atomic_table.specs.Seated.{TableId}
 use Rattle.mica_model.specs.declared.options.Options.{Options}
@@ -27,14 +27,13 @@ use Rattle.owner_queue.specs.declared.ack.Ack.{Ack}
 use Rattle.owner_queue.specs.declared.message.Job.{Job}
 use Rattle.owner_queue.specs.declared.message.Message.{Message}
 use Rattle.owner_queue.specs.declared.message.Message.TheVariants as kind
-use Rattle.owner_queue.specs.Messages.{sender_of, ticket_of, is_end, sent_by, MayFollow}
+use Rattle.owner_queue.specs.Messages.{sender_of, ticket_of, sent_by, MayFollow}
 use Rattle.owner_queue.specs.Acked.{IsReplyAt, IsAcked}
 use Rattle.owner_queue.specs.AckOrder.{AckMayFollow}
 use Rattle.owner_queue.specs.AckEnds.{AckBox, ack_box}
 use Rattle.owner_queue.specs.JobEnds.{Inbox, inbox}
 use Rattle.owner_queue.proofs.Gains.{step_gains}
 use Rattle.owner_queue.proofs.Lists.{All-before, All-after, all_at, set_cases}
-use Rattle.mica_serve.specs.Session.{Acknowledged}
 use Rattle.mica_serve.specs.Served.{Placed, steps_in, history_in}
 use Rattle.mica_serve.specs.QueueFront.{acknowledged_by}
 use Rattle.mica_serve.specs.OwnerWork.{DoneJob, job_in, jobs_in, job_of, placed_in, answers_to, IsAckBoxOf, IsNewAckBox, IsSent, HasDone, HasServed}

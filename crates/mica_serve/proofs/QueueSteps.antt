@@ -1,5 +1,5 @@
 -- What a front before owners makes of itself with one request.
-use Rattle.std.proofs.Common.{◌≡◌, ◌≢◌, ℕ, zero, suc, ◌+◌, ◌-◌, ◌<◌, ◌≤◌, Bool, false, true, List, [], ◌∷◌, ◌++◌, length, map, take, drop, Option, Some, None, slice_get, slice_set, get_or, length-set, refl, sym, ap, ◌∙◌, subst, arith, ◌||◌}
+use Rattle.std.proofs.Common.{◌≡◌, ℕ, zero, suc, ◌+◌, ◌-◌, ◌<◌, ◌≤◌, Bool, false, List, [], ◌∷◌, ◌++◌, length, map, take, drop, Option, Some, slice_get, slice_set, get_or, length-set, refl, sym, ap, ◌∙◌, subst, arith, ◌||◌}
 use Rattle.std.specs.List.{All, AllByRecursion, sum_by, list_any}
 use Rattle.std.proofs.lemmas.Bool.{true≢false}
 use Rattle.std.proofs.lemmas.Option.{slice_get_within, slice_get_read, get_or_from_slice_get}
@@ -14,18 +14,15 @@ use Rattle.mica_model.specs.declared.write.Outcome.{Outcome}
 use Rattle.mica_model.specs.declared.write.Answer.{Answer}
 use Rattle.mica_model.specs.Answer.{IsAnswer}
 use Rattle.mica_model.specs.Write.{IsWrite}
-use Rattle.epoch_core.specs.Shape.{shape_of}
-use Rattle.partition_table.specs.Seats.{reader_state, reader_home}
 use Rattle.owner_queue.specs.declared.message.Job.{Job}
-use Rattle.owner_queue.specs.declared.message.Message.{Message}
 use Rattle.owner_queue.specs.declared.message.Message.TheVariants as message
 use Rattle.owner_queue.specs.Messages.{ticket_of, is_end, MayFollow}
 use Rattle.owner_queue.specs.AckEnds.{AckBox}
 use Rattle.owner_queue.specs.JobEnds.{Outbox}
 use Rattle.owner_queue.proofs.Lists.{all_at, set_here, set_elsewhere}
 use Rattle.mica_serve.specs.declared.queue_front.FrontPart.{FrontPart}
-use Rattle.mica_serve.specs.Session.{Session, Sessions, ChangesOnly, Writes, Reads}
-use Rattle.mica_serve.specs.QueueFront.{QueueView, queue_view, IsWhole, IsFrontPart, IsNewPart, IsQueueFront, StaysPart, PartWrites, PartReads, ended_part, session_of, session_or_none, sessions_of}
+use Rattle.mica_serve.specs.Session.{Session, ChangesOnly, Writes, Reads}
+use Rattle.mica_serve.specs.QueueFront.{QueueView, queue_view, IsWhole, IsFrontPart, IsNewPart, IsQueueFront, StaysPart, PartWrites, PartReads, stand_of, session_of, session_or_none, sessions_of}
 
 any_push : {X : Type 0} (p : X → Bool) (xs : List X) (x : X) → list_any p xs ≡ false → p x ≡ false → list_any p (xs ++ x ∷ []) ≡ false
 any_push p xs x all one = list_any-append p xs (x ∷ []) ∙ ap (λ b. b || list_any p (x ∷ [])) all ∙ ap (λ b. b || false) one
@@ -35,6 +32,27 @@ stays_whole old new stays whole = record {
   home = ap (λ (b : AckBox). b.table) stays.acks ∙ whole.home ∙ sym stays.home;
   shape = ap (λ (b : AckBox). b.shape) stays.acks ∙ whole.shape ∙ sym stays.shape;
 }
+
+-- a part that stays stands where it stood, and so do all where it was set
+stand_same : (old new : FrontPart) → StaysPart old new → new.jobs.queue ≡ old.jobs.queue → new.jobs.number ≡ old.jobs.number → new.jobs.jobs ≡ old.jobs.jobs → stand_of new ≡ stand_of old
+stand_same old new stays queue number most = λ i. record {
+  jobs = queue i;
+  number = number i;
+  most = most i;
+  acks = ap (λ (b : AckBox). b.queue) stays.acks i;
+  table = ap (λ (b : AckBox). b.table) stays.acks i;
+}
+
+set_stands : (parts : List FrontPart) (at : ℕ) (part new : FrontPart) → slice_get parts at ≡ Some part → stand_of new ≡ stand_of part
+    → map stand_of (slice_set parts at new) ≡ map stand_of parts
+set_stands [] at part new here same = refl
+set_stands (x ∷ parts) zero part new here same =
+    let is : part ≡ x = same_some (sym here) in
+    ap (λ s. s ∷ map stand_of parts) (same ∙ ap stand_of is)
+  where
+    same_some : {X : Type 0} {a b : X} → Some a ≡ Some b → a ≡ b
+    same_some eq = cc
+set_stands (x ∷ parts) (suc at) part new here same = ap (λ l. stand_of x ∷ l) (set_stands parts at part new here same)
 
 -- the part that a loop over all comes to next
 pub next_part : {X : Type 0} (f : X → X) (all now : List X) (i : ℕ) (x : X) → i < length all → now ≡ map f (take i all) ++ drop i all → x ≡ get_or now i x → slice_get all i ≡ Some x
@@ -168,6 +186,20 @@ module _ (front : QueueView) (lawful : IsQueueFront front) (at : ℕ) (part : Fr
       writes_at job write outcome stamp same did =
           subst (λ (y : QueueView × ℕ × Write). Writes y.0.options false (sessions_of y.0.parts y.1) (record { write = y.2; outcome = outcome; stamp = stamp }) (sessions_of (slice_set front.parts at new) y.1))
           (λ i. (view_is i, at_is i, same i)) (writes_here job outcome stamp did)
+
+      pub stands_write : (job : Job) (outcome : Outcome) (stamp : ℕ) → PartWrites part job outcome stamp new
+          → map stand_of (slice_set front.parts at new) ≡ map stand_of view.parts
+      stands_write job outcome stamp did =
+          set_stands front.parts at part new here (stand_same part new did.stays
+          (ap (λ (o : Outbox). o.queue) did.jobs) (ap (λ (o : Outbox). o.number) did.jobs) (ap (λ (o : Outbox). o.jobs) did.jobs))
+          ∙ ap (λ (v : QueueView). map stand_of v.parts) view_is
+
+      pub stands_read : (answer : Answer) (stamp : ℕ) (buffer : List ℕ) → PartReads part key answer stamp buffer new
+          → map stand_of (slice_set front.parts at new) ≡ map stand_of view.parts
+      stands_read answer stamp buffer did =
+          set_stands front.parts at part new here (stand_same part new did.stays
+          (ap (λ (o : Outbox). o.queue) did.jobs) (ap (λ (o : Outbox). o.number) did.jobs) (ap (λ (o : Outbox). o.jobs) did.jobs))
+          ∙ ap (λ (v : QueueView). map stand_of v.parts) view_is
 
       pub reads_at : (answer : Answer) (stamp : ℕ) (buffer : List ℕ) → PartReads part key answer stamp buffer new
           → (value : Option (List ℕ)) × IsAnswer answer buffer value

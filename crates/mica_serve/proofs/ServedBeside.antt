@@ -1,5 +1,5 @@
 -- Fronts that were served beside each other, served.
-use Rattle.std.proofs.Common.{◌≡◌, ℕ, ◌+◌, ◌<◌, ◌≤◌, List, [], ◌∷◌, ◌++◌, length, map, Option, Some, None, refl, sym, ap, ◌∙◌, subst, slice_get, arith, length-append}
+use Rattle.std.proofs.Common.{◌≡◌, ℕ, ◌+◌, ◌<◌, ◌≤◌, List, [], ◌++◌, length, map, Option, Some, None, refl, sym, ap, ◌∙◌, subst, slice_get, arith}
 use Rattle.std.specs.List.{AllZip, All}
 use Rattle.std.proofs.lemmas.List.{append-nil, length-map}
 use Rattle.std.proofs.lemmas.Option.{slice_get-map}
@@ -11,11 +11,11 @@ use Rattle.mica_serve.specs.declared.ports.Ports.{Ports as PortOptions}
 use Rattle.mica_serve.specs.Turn.{Turn, writes_of, gets_of}
 use Rattle.mica_serve.specs.Dealing.{Dealing, turns_in}
 use Rattle.mica_serve.specs.Session.{Acknowledged, Told, Sessions}
-use Rattle.mica_serve.specs.Served.{Placed, ServesPort, ServesGet, IsGetAt, RepliesStep, Served, steps_in, steps_by, history_in}
-use Rattle.mica_serve.specs.Beside.{closed_of, total_below, AnsweredBeside, RunsPartitions}
+use Rattle.mica_serve.specs.Served.{Placed, ServesPort, ServesGet, IsGetAt, RepliesStep, Served, steps_by, history_in}
+use Rattle.mica_serve.specs.Beside.{closed_of, AnsweredBeside, RunsPartitions}
 use Rattle.mica_serve.proofs.Fronts.{order_of}
 use Rattle.mica_serve.proofs.Among.{StandAmong, stand_few, stand_all, stand_append}
-use Rattle.mica_serve.proofs.Beside.{TellsTurns, Beside, beside_of, get_served}
+use Rattle.mica_serve.proofs.Beside.{TellsTurns, beside_of, get_served}
 use Rattle.mica_serve.proofs.PartitionTotals.{total_all, writes_total}
 
 module _ (options : Options) (some : 1 ≤ options.partitions) (runs : ℕ → List Placed) (f : ℕ) (turns : List Turn) (old new : Sessions)

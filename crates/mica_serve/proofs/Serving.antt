@@ -1,7 +1,7 @@
 -- The datagrams of one end, one after another.
-use Rattle.std.proofs.Common.{◌≡◌, ℕ, zero, suc, ◌+◌, ◌*◌, ◌<◌, ◌≤◌, ◌⊎◌, inl, inr, Bool, true, false, cond, List, [], ◌∷◌, ◌++◌, length, map, take, drop, Option, Some, None, refl, sym, ap, ◌∙◌, subst, append_assoc, eqb, ltb-true, ltb-false, arith, length-append}
-use Rattle.std.specs.Prelude.{IfSome, nat_lt, sum_by, count_by, ◌==◌}
-use Rattle.std.specs.List.{All, AllByRecursion, flat_map, filter}
+use Rattle.std.proofs.Common.{◌≡◌, ℕ, suc, ◌+◌, ◌<◌, ◌≤◌, inl, inr, Bool, true, false, cond, List, [], ◌∷◌, ◌++◌, length, map, take, drop, Option, Some, None, refl, sym, ap, ◌∙◌, subst, append_assoc, eqb, ltb-true, ltb-false, arith, length-append}
+use Rattle.std.specs.Prelude.{IfSome, nat_lt, sum_by}
+use Rattle.std.specs.List.{filter}
 use Rattle.std.proofs.lemmas.List.{append-nil, map-append, length-map, length-drop, take_at, drop_at, take_all, drop_all, take-append-drop}
 use Rattle.std.proofs.lemmas.Grind.{flat_map-append}
 use Rattle.std.proofs.lemmas.List.Sums.{sum_by-cons}
@@ -12,8 +12,8 @@ use Rattle.mica_serve.specs.declared.ports.Totals.{Totals}
 use Rattle.mica_serve.specs.Turn.{Turn}
 use Rattle.mica_serve.specs.Dealing.{Dealing, IsDealing, turns_in, due_after, due_to}
 use Rattle.mica_serve.specs.Session.{Sessions, AnswersInOrder, count_of_writes}
-use Rattle.mica_serve.specs.Served.{Counts, has_no_turns, BeginsAs}
-use Rattle.mica_serve.specs.Ends.{OnTraffic, sent_all, received_one, IsAtEnd, ServesOne, SendsShort, StopsOne, ServesSome, ServesEnd, BeginsEnd, IsShort, LeavesEnd, counted, none_counted}
+use Rattle.mica_serve.specs.Served.{Counts, has_no_turns}
+use Rattle.mica_serve.specs.Ends.{OnTraffic, IsAtEnd, ServesOne, StopsOne, ServesSome, ServesEnd, LeavesEnd, counted, none_counted}
 use Rattle.mica_serve.proofs.InOrder.{answers_append, count_append}
 
 -- two facts, one after the other

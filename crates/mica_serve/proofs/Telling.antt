@@ -11,8 +11,7 @@ use Rattle.mica_model.specs.declared.write.Outcome.{Outcome}
 use Rattle.mica_model.specs.declared.write.Write.{Write}
 use Rattle.mica_model.specs.Answer.{IsAnswer}
 use Rattle.mica_model.specs.Write.{is_accepted}
-use Rattle.mica_model.specs.History.{History, State, IsPrefix, IsCut, MayGive, stamp_in, stamp_of, value_in}
-use Rattle.mica_model.specs.Run.{RunStep, IsAnswerAt}
+use Rattle.mica_model.specs.History.{History, IsPrefix, stamp_in, stamp_of}
 use Rattle.mica_model.proofs.Rises.{stamp_rises}
 use Rattle.epoch_core.specs.declared.shape.Shape.{Shape}
 use Rattle.epoch_core.specs.declared.reader.ReaderState.{ReaderState}
@@ -24,7 +23,7 @@ use Rattle.epoch_core.proofs.Prefixes.{prefix_then}
 use Rattle.partition_table.specs.Seats.{reader_state, reader_home, note_state}
 use Rattle.optimistic_get.specs.declared.getting.Got.{Got}
 use Rattle.optimistic_get.specs.declared.getting.Got.TheVariants.{Hit as GotHit, Miss as GotMiss, Again}
-use Rattle.optimistic_get.specs.Asked.{SeatAnswers, IsReadAt, IsRead}
+use Rattle.optimistic_get.specs.Asked.{IsReadAt, IsRead}
 use Rattle.optimistic_get.proofs.Repeated.{same_answer}
 use Rattle.owner_queue.specs.declared.ack.Ack.{Ack}
 use Rattle.owner_queue.specs.declared.message.Job.{Job}
@@ -35,8 +34,8 @@ use Rattle.owner_queue.specs.AckEnds.{AckBox, ack_box}
 use Rattle.owner_queue.specs.JobEnds.{Outbox, outbox}
 use Rattle.owner_queue.proofs.Lists.{before_all}
 use Rattle.mica_serve.specs.declared.queue_front.FrontPart.{FrontPart}
-use Rattle.mica_serve.specs.Session.{Told, Session, Stand, Writes, Reads, TellsStep}
-use Rattle.mica_serve.specs.QueueFront.{IsWhole, HasTakenMore, HasAwaited, StaysPart, PartWrites, PartReads, acknowledged_by, last_stamp, told_by, session_of}
+use Rattle.mica_serve.specs.Session.{Writes, Reads, TellsStep}
+use Rattle.mica_serve.specs.QueueFront.{IsWhole, HasTakenMore, HasAwaited, PartWrites, PartReads, acknowledged_by, last_stamp, told_by, session_of}
 
 -- The last stamp
 

@@ -1,31 +1,26 @@
 -- What a whole run makes of the ports: bound, served, released.
-use Rattle.std.proofs.Common.{◌≡◌, ℕ, zero, suc, ◌+◌, ◌-◌, ◌<◌, ◌≤◌, ◌⊎◌, inl, inr, Bool, true, false, List, [], ◌∷◌, ◌++◌, length, map, take, drop, Option, Some, None, refl, sym, ap, ◌∙◌, subst, slice_get, arith}
+use Rattle.std.proofs.Common.{◌≡◌, ℕ, ◌+◌, ◌-◌, ◌<◌, ◌≤◌, ◌⊎◌, inl, inr, true, List, [], length, take, drop, Option, Some, None, refl, sym, ap, ◌∙◌, subst, slice_get, arith}
 use Rattle.std.specs.Prelude.{◌≢◌, is_some, nat_lt, Result, Ok, Err, IfSome}
-use Rattle.std.specs.List.{All}
 use Rattle.std.proofs.lemmas.Bool.{cases_lt}
 use Rattle.std.proofs.lemmas.List.Elements.{All-from_recursion}
-use Rattle.mica_io.specs.Traffic.{Datagram, Traffic, EndScript, new_traffic}
-use Rattle.mica_io.specs.Ports.{Port, Ports, waiting, out, back, is_waiting}
+use Rattle.mica_io.specs.Traffic.{Datagram, Traffic, new_traffic}
+use Rattle.mica_io.specs.Ports.{Port, Ports, out, back, is_waiting}
 use Rattle.mica_model.specs.declared.options.Options.{Options}
 use Rattle.mica_serve.specs.declared.ports.Ports.{Ports as PortOptions}
 use Rattle.mica_serve.specs.declared.ports.Totals.{Totals}
 use Rattle.mica_serve.specs.Dealing.{Dealing, IsDealing, due_to}
-use Rattle.mica_serve.specs.Session.{Sessions}
-use Rattle.mica_serve.specs.Served.{Serves, ServesPort, BeginsPort, LeavesPort, IsCutShort, IsStopped, StopsShort}
+use Rattle.partition_table.specs.declared.tables.Entry.{Entry}
+use Rattle.mica_serve.specs.Beside.{ServesOnTables}
+use Rattle.mica_serve.specs.Served.{ServesPort, LeavesPort, IsCutShort, IsStopped, StopsShort}
 use Rattle.mica_io.specs.Faults.{Rose}
 use Rattle.mica_serve.specs.declared.ports.ServeFault.{ServeFault}
 use Rattle.mica_serve.specs.declared.ports.ServeFault.TheVariants.{Net, NoMemory}
 use Rattle.mica_serve.specs.NetRun.{NetFacts, OnPorts, ReleasesAll, ReleasesNet, KeepsNet, BindsAndServes, FailsToBind, MeansForRun, HasNoFault, HasStopped, IsCauseOf}
-use Rattle.mica_serve.specs.Ends.{EndFacts, TellAll, AreNewEnds, AreAtPorts, BindsEnds, ReleasesEnds, WaitedAt, DealsWithEnd, DealsInPartWithEnd, DealsInPartWithAll, StopsSome, ServesAll, ServesFronts, MeansForEnds, BeginsEnd, KeepsEnd}
+use Rattle.mica_serve.specs.Ends.{EndFacts, TellAll, AreNewEnds, AreAtPorts, BindsEnds, ReleasesEnds, DealsWithEnd, DealsInPartWithEnd, DealsInPartWithAll, StopsSome, ServesAll, ServesFronts, MeansForEnds, KeepsEnd}
 use Rattle.mica_serve.proofs.Binding.{place_below, rose_on, rose_before}
-use Rattle.mica_serve.proofs.Serial.{same_kept}
-use Rattle.mica_serve.proofs.ServedAlone.{runs, served}
+use Rattle.mica_serve.proofs.Gathered.{same_kept, some_at}
+use Rattle.mica_serve.proofs.ServedBeside.{served_beside}
 use Rattle.mica_serve.proofs.Through.{cut_short}
-
-some_at : {X : Type 0} (xs : List X) (i : ℕ) → i < length xs → (x : X) × (slice_get xs i ≡ Some x)
-some_at [] i lt = absurd (omega arith)
-some_at (x ∷ xs) zero lt = (x, refl)
-some_at (x ∷ xs) (suc i) lt = some_at xs i (omega arith)
 
 -- ends that were bound where a net tells its ports tell their traffic
 pub bound_tell : (first : ℕ) (ends : List EndFacts) (before mid : Ports) → BindsEnds first ends before mid → TellAll ends
@@ -135,18 +130,20 @@ module _ (ports : PortOptions) (olds news : List EndFacts) (before mid after : P
         (ap is_waiting w.waited, subst (λ (p : Port). IsCutShort batches p) (sym (released.each s.front s.new stops.has s.is stops.has_is)) cut),
       )
 
-  pub all_served : (options : Options) (old new : Sessions) (totals : Totals) → ((q : ℕ) → (old q).seen ≡ []) → length olds ≡ ports.fronts
-      → ServesAll options old ports.batches totals new olds news → Serves options ports totals before after
-  all_served options old new totals starts full all = record {
+  pub all_served : (options : Options) (totals : Totals) (kept : List Entry) → 1 ≤ options.partitions → length olds ≡ ports.fronts
+      → ServesAll options ports.batches totals kept olds news → ServesOnTables options ports totals kept before after
+  all_served options totals kept some full all = record {
     fronts = all.fronts;
-    runs = runs options old new all.fronts starts all.in_order;
-    served = served options old new all.fronts starts all.in_order ports before after (all.many ∙ full)
+    runs = all.runs;
+    served = served_beside options some all.runs all.fronts ports before after (all.many ∙ full) all.ran
         (λ f dealings is.
         let lt = place_below all.fronts f dealings is in
         let b = some_at olds f (omega (arith, lt, all.many)) in
         let a = some_at news f (omega (arith, lt, all.many, many)) in
-        port_served ports.batches f dealings b.0 a.0 b.1 a.1 (all.each f dealings b.0 a.0 is b.1 a.1));
+        port_served ports.batches f dealings b.0 a.0 b.1 a.1 (all.each f dealings b.0 a.0 is b.1 a.1))
+        all.answered;
     counted = all.counted;
+    tables = all.tables;
   }
 
 -- ends that were bound and not served were left at their beginning
@@ -182,19 +179,19 @@ on_ports_then P Q R f (Some a) None c p q = absurd p
 on_ports_then P Q R f (Some a) (Some b) None p q = absurd q
 on_ports_then P Q R f (Some a) (Some b) (Some c) p q = f a b c p q
 
-module _ (options : Options) (ports : PortOptions) (old new : Sessions) (starts : (q : ℕ) → (old q).seen ≡ []) (before mid after : NetFacts) (news : List EndFacts)
+module _ (options : Options) (some : 1 ≤ options.partitions) (ports : PortOptions) (kept : List Entry) (before mid after : NetFacts) (news : List EndFacts)
     (rel : ReleasesNet ports.port news mid after) where
-  pub keeps : (answer : Result Totals ServeFault) → BindsAndServes options old ports answer new before mid news → KeepsNet ports before after
+  pub keeps : (answer : Result Totals ServeFault) → BindsAndServes options ports answer kept before mid news → KeepsNet ports before after
   keeps answer run = record {
     binds = omega (arith, rel.binds, run.binds);
     first = λ some. rel.first_is ∙ run.first (omega (arith, rel.binds));
     never_fall = omega (arith, run.never_fall, rel.never_fall);
     released = on_ports_then _ _ (ReleasesAll ports)
-        (λ x y z b r. all_back ports run.olds news x y z run.many run.within b r (kept_tell run.olds news run.many run.kept (bound_tell ports.port run.olds x y b)))
+        (λ x y z b r. all_back ports run.olds news x y z run.many run.within b r (kept_tell run.olds news run.many run.keeps (bound_tell ports.port run.olds x y b)))
         before.ports mid.ports after.ports run.bound rel.told;
   }
 
-  no_faults : (totals : Totals) (run : BindsAndServes options old ports (Ok totals) new before mid news) → HasNoFault before after
+  no_faults : (totals : Totals) (run : BindsAndServes options ports (Ok totals) kept before mid news) → HasNoFault before after
   no_faults totals run = by before.ports mid.ports before.fails refl run.bound
     where
       by : (x y : Option Ports) (l : Option (List ℕ)) → before.fails ≡ l → OnPorts (BindsEnds ports.port run.olds) x y
@@ -206,76 +203,83 @@ module _ (options : Options) (ports : PortOptions) (old new : Sessions) (starts 
           rel.steady (ap is_some (run.fails ∙ is))
           (λ i a at.
           let o = some_at run.olds i (omega (arith, run.many, place_below news i a at)) in
-          run.means.2.0 i o.0 a o.1 at (b.each i o.0 o.1).scripted ∙ (run.are_new i o.0 o.1).no_faults)
+          run.means.2.1 i o.0 a o.1 at (b.each i o.0 o.1).scripted ∙ (run.are_new i o.0 o.1).no_faults)
           ∙ run.means.1 (ap is_some is)
 
-  stops : (run : BindsAndServes options old ports (Err Net) new before mid news) → HasStopped ports before after
+  stops : (run : BindsAndServes options ports (Err Net) kept before mid news) → HasStopped ports before after
   stops run = by run.means
     where
-      by : FailsToBind before mid run.olds news ⊎ (StopsSome ports.batches run.olds news × (TellAll run.olds → DealsInPartWithAll ports.batches run.olds news)) → HasStopped ports before after
-      by (inl failed) = record {
-        rose = rose_before before.faults mid.faults after.faults run.never_fall failed.rose rel.never_fall;
+      by : (FailsToBind before mid run.olds news × (kept ≡ []))
+          ⊎ ((kept ≡ []) × StopsSome ports.batches run.olds news × (TellAll run.olds → DealsInPartWithAll ports.batches run.olds news)) → HasStopped ports before after
+      by (inl h) = record {
+        rose = rose_before before.faults mid.faults after.faults run.never_fall h.0.rose rel.never_fall;
         stopped = on_ports_then _ _ (StopsShort ports (before.refused < after.refused))
             (λ x y z b r. record {
               each = each_left ports run.olds news x y z run.many run.within b r ports.batches
-                  (subst (λ (n : List EndFacts). DealsInPartWithAll ports.batches run.olds n) (sym failed.untouched) (none_served ports.batches ports.port run.olds x y b));
-              some = inl (omega (arith, failed.refused, rel.refused));
+                  (subst (λ (n : List EndFacts). DealsInPartWithAll ports.batches run.olds n) (sym h.0.untouched) (none_served ports.batches ports.port run.olds x y b));
+              some = inl (omega (arith, h.0.refused, rel.refused));
             })
             before.ports mid.ports after.ports run.bound rel.told;
       }
-      by (inr s) =
-          let zero_is : s.0.old.faults ≡ 0 = (run.are_new s.0.front s.0.old s.0.was).no_faults in
-          let some : 0 < s.0.new.faults = elim s.0.rose as (λ _. 0 < s.0.new.faults) [ inl lt ↦ omega (arith, zero_is) | inr last ↦ omega (arith, last) ] in
+      by (inr h) =
+          let zero_is : h.1.old.faults ≡ 0 = (run.are_new h.1.front h.1.old h.1.was).no_faults in
+          let some : 0 < h.1.new.faults = elim h.1.rose as (λ _. 0 < h.1.new.faults) [ inl lt ↦ omega (arith, zero_is) | inr last ↦ omega (arith, last) ] in
           record {
-            rose = rose_on before.faults mid.faults after.faults run.never_fall (rel.cause s.0.front s.0.new s.0.is some);
+            rose = rose_on before.faults mid.faults after.faults run.never_fall (rel.cause h.1.front h.1.new h.1.is some);
             stopped = on_ports_then _ _ (StopsShort ports (before.refused < after.refused))
                 (λ x y z b r. record {
-                  each = each_left ports run.olds news x y z run.many run.within b r ports.batches (s.1 (bound_tell ports.port run.olds x y b));
-                  some = inr (stopped_some ports run.olds news x y z run.many run.within b r ports.batches s.0);
+                  each = each_left ports run.olds news x y z run.many run.within b r ports.batches (h.2 (bound_tell ports.port run.olds x y b));
+                  some = inr (stopped_some ports run.olds news x y z run.many run.within b r ports.batches h.1);
                 })
                 before.ports mid.ports after.ports run.bound rel.told;
           }
 
-  pub cause : (answer : Result Totals ServeFault) → BindsAndServes options old ports answer new before mid news → IsCauseOf answer options ports before after
+  pub cause : (answer : Result Totals ServeFault) → BindsAndServes options ports answer kept before mid news → IsCauseOf answer options ports kept before after
   cause (Ok totals) run = record {
-    served = on_ports_then _ _ (Serves options ports totals)
-        (λ x y z b r. all_served ports run.olds news x y z run.many run.within b r options old new totals starts run.means.0
-        (run.means.2.1 (bound_tell ports.port run.olds x y b)))
+    served = on_ports_then _ _ (ServesOnTables options ports totals kept)
+        (λ x y z b r. all_served ports run.olds news x y z run.many run.within b r options totals kept some run.means.0
+        (run.means.2.2 (bound_tell ports.port run.olds x y b)))
         before.ports mid.ports after.ports run.bound rel.told;
     no_fault = no_faults totals run;
+    shapes = run.means.2.0;
   }
-  cause (Err Net) run = stops run
-  cause (Err NoMemory) run = tt
+  cause (Err Net) run = (unkept run.means, stops run)
+    where
+      unkept : {A B C : Type 0} → (A × (kept ≡ [])) ⊎ ((kept ≡ []) × B × C) → kept ≡ []
+      unkept (inl h) = h.1
+      unkept (inr h) = h.0
+  cause (Err NoMemory) run = run.means
 
 -- the run up to the release
-module _ (options : Options) (ports : PortOptions) (before mid : NetFacts) (olds : List EndFacts) (are_new : AreNewEnds ports.port olds)
+module _ (ports : PortOptions) (before mid : NetFacts) (olds : List EndFacts) (are_new : AreNewEnds ports.port olds)
     (bound : OnPorts (BindsEnds ports.port olds) before.ports mid.ports) (within : length olds ≤ ports.fronts) (never_fall : before.faults ≤ mid.faults)
     (fails : mid.fails ≡ before.fails) (binds : mid.binds ≤ ports.fronts) (first : 0 < mid.binds → mid.first ≡ ports.port) where
-  pub run_failed : (sessions : Sessions) → Rose before.faults mid.faults → before.refused < mid.refused → BindsAndServes options sessions ports (Err Net) sessions before mid olds
-  run_failed sessions rose refused = record {
+  pub run_failed : (options : Options) (answer : Result Totals ServeFault) (kept : List Entry) → answer ≡ Err Net → kept ≡ [] → Rose before.faults mid.faults → before.refused < mid.refused
+      → BindsAndServes options ports answer kept before mid olds
+  run_failed options answer kept is none rose refused = record {
     olds = olds;
     are_new = are_new;
     bound = bound;
     within = within;
     many = refl;
-    kept = λ i b a is is'. same_kept b a (cc);
+    keeps = λ i b a is is'. same_kept b a (cc);
     never_fall = never_fall;
     fails = fails;
     binds = binds;
     first = first;
-    means = inl (record { rose = rose; refused = refused; untouched = refl });
+    means = subst (λ (r : Result Totals ServeFault). MeansForRun r options ports kept before mid olds olds) (sym is) (inl (record { rose = rose; refused = refused; untouched = refl }, none));
   }
 
-  pub run_served : (old new : Sessions) (answer : Result Totals ServeFault) (news : List EndFacts) → length olds ≡ ports.fronts
-      → (is_some before.fails ≡ true → mid.faults ≡ before.faults) → ServesFronts options old ports.batches answer new olds news
-      → BindsAndServes options old ports answer new before mid news
-  run_served old new answer news full steady s = record {
+  pub run_served : (options : Options) (answer : Result Totals ServeFault) (kept : List Entry) (news : List EndFacts) → length olds ≡ ports.fronts
+      → (is_some before.fails ≡ true → mid.faults ≡ before.faults) → ServesFronts options ports.batches answer kept olds news
+      → BindsAndServes options ports answer kept before mid news
+  run_served options answer kept news full steady s = record {
     olds = olds;
     are_new = are_new;
     bound = bound;
     within = within;
     many = s.many;
-    kept = s.kept;
+    keeps = s.keeps;
     never_fall = never_fall;
     fails = fails;
     binds = binds;
@@ -283,10 +287,10 @@ module _ (options : Options) (ports : PortOptions) (before mid : NetFacts) (olds
     means = by answer s.means;
   }
     where
-      by : (answer : Result Totals ServeFault) → MeansForEnds answer options old ports.batches new olds news → MeansForRun answer options old ports new before mid olds news
+      by : (answer : Result Totals ServeFault) → MeansForEnds answer options ports.batches kept olds news → MeansForRun answer options ports kept before mid olds news
       by (Ok totals) m = (full, steady, m)
       by (Err Net) m = inr m
-      by (Err NoMemory) m = tt
+      by (Err NoMemory) m = m
 
 -- the ports of the ends are out until they are released, and the ends tell what they did
 pub out_until : (first : ℕ) (olds news : List EndFacts) (a b : Option Ports) → length news ≡ length olds → OnPorts (BindsEnds first olds) a b

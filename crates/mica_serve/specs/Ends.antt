@@ -1,16 +1,17 @@
 -- The ends behind which the fronts stand, as contracts see them.
-use Rattle.std.specs.Prelude.{◌≡◌, ◌*◌, ◌≢◌, ◌+◌, ◌<◌, ◌≤◌, ◌⊎◌, ◌==◌, ℕ, suc, Bool, true, false, List, [], ◌∷◌, ◌++◌, take, drop, map, length, slice_get, nat_lt, Option, Some, None, is_some, IfSome, All, ⊤, Result, Ok, Err, if◌then◌else◌}
+use Rattle.std.specs.Prelude.{◌≡◌, ◌*◌, ◌≢◌, ◌+◌, ◌<◌, ◌≤◌, ◌⊎◌, ◌==◌, ℕ, Bool, true, false, List, [], ◌∷◌, ◌++◌, take, drop, map, length, slice_get, nat_lt, Option, Some, None, is_some, IfSome, All, ⊤, Result, Ok, Err, if◌then◌else◌}
 use Rattle.mica_io.specs.Faults.{Rose}
-use Rattle.mica_io.specs.Traffic.{Datagram, Traffic, EndScript, Sent, new_traffic}
+use Rattle.mica_io.specs.Traffic.{Datagram, Traffic, EndScript, new_traffic}
 use Rattle.mica_io.specs.Ports.{Ports, waiting, out, back}
 use Rattle.mica_model.specs.declared.options.Options.{Options}
 use Rattle.mica_serve.specs.declared.ports.Totals.{Totals}
 use Rattle.mica_serve.specs.declared.ports.ServeFault.{ServeFault}
 use Rattle.mica_serve.specs.declared.ports.ServeFault.TheVariants.{Net, NoMemory}
-use Rattle.mica_serve.specs.Turn.{Turn}
+use Rattle.partition_table.specs.declared.tables.Entry.{Entry}
 use Rattle.mica_serve.specs.Dealing.{Dealing, IsDealing, turns_in, due_to}
 use Rattle.mica_serve.specs.Session.{Sessions, AnswersInOrder, count_of_writes}
-use Rattle.mica_serve.specs.Served.{BeginsAs, Counts}
+use Rattle.mica_serve.specs.Served.{Placed, BeginsAs, Counts}
+use Rattle.mica_serve.specs.Beside.{AnsweredBeside, RunsPartitions, AreServedTables, HaveShapes}
 
 -- One end
 
@@ -213,19 +214,18 @@ pub record KeepsEnd (before after : EndFacts) : Type 0 where
 abbrev pub TellAll : List EndFacts → Type 0
 TellAll ends = (i : ℕ) (end : EndFacts) → slice_get ends i ≡ Some end → is_some end.traffic ≡ true
 
--- the fronts answered their requests one front after another, alone
-abbrev pub FrontsInOrder : Options → Sessions → List (List Turn) → Sessions → Type 0
-FrontsInOrder options old [] new = (q : ℕ) → new q ≡ old q
-FrontsInOrder options old (turns ∷ later) new = (between : Sessions) × AnswersInOrder options true old turns between × FrontsInOrder options between later new
-
--- each front dealt with its end, one front after another
-pub record ServesAll (options : Options) (old : Sessions) (batches : ℕ) (totals : Totals) (new : Sessions) (before after : List EndFacts) : Type 0 where
+-- each front dealt with its end, beside the others, and these are the tables of their partitions
+pub record ServesAll (options : Options) (batches : ℕ) (totals : Totals) (kept : List Entry) (before after : List EndFacts) : Type 0 where
   pub fronts : List (List Dealing)
+  pub runs : ℕ → List Placed
   pub many : length fronts ≡ length before
   pub each : (f : ℕ) (dealings : List Dealing) (b a : EndFacts) → slice_get fronts f ≡ Some dealings → slice_get before f ≡ Some b → slice_get after f ≡ Some a
       → DealsWithEnd batches dealings b a
-  pub in_order : FrontsInOrder options old (map turns_in fronts) new
+  pub ran : RunsPartitions options (length fronts) runs
+  pub answered : (f : ℕ) (dealings : List Dealing) → slice_get fronts f ≡ Some dealings
+      → (old : Sessions) × (new : Sessions) × AnsweredBeside options runs f (turns_in dealings) old new
   pub counted : Counts fronts totals
+  pub tables : AreServedTables options fronts runs kept
 
 -- one of the fronts stopped at a fault
 pub record StopsSome (batches : ℕ) (before after : List EndFacts) : Type 0 where
@@ -247,16 +247,17 @@ abbrev pub DealsInPartWithAll : ℕ → List EndFacts → List EndFacts → Type
 DealsInPartWithAll batches before after = (i : ℕ) (old new : EndFacts) → slice_get before i ≡ Some old → slice_get after i ≡ Some new
     → DealsInPartWithEnd batches old new
 
--- what each answer says of the ends; want of memory says nothing
-abbrev pub MeansForEnds : Result Totals ServeFault → Options → Sessions → ℕ → Sessions → List EndFacts → List EndFacts → Type 0
-MeansForEnds (Ok totals) options old batches new before after =
-    HasNoEndFault before after × (TellAll before → ServesAll options old batches totals new before after)
-MeansForEnds (Err Net) options old batches new before after = StopsSome batches before after × (TellAll before → DealsInPartWithAll batches before after)
-MeansForEnds (Err NoMemory) options old batches new before after = ⊤
+-- What each answer says of the ends and of the tables that are kept. Want of memory says nothing of the ends.
+abbrev pub MeansForEnds : Result Totals ServeFault → Options → ℕ → List Entry → List EndFacts → List EndFacts → Type 0
+MeansForEnds (Ok totals) options batches kept before after =
+    HaveShapes options kept × HasNoEndFault before after × (TellAll before → ServesAll options batches totals kept before after)
+MeansForEnds (Err Net) options batches kept before after =
+    (kept ≡ []) × StopsSome batches before after × (TellAll before → DealsInPartWithAll batches before after)
+MeansForEnds (Err NoMemory) options batches kept before after = kept ≡ []
 
--- the fronts were served, one after another
-pub record ServesFronts (options : Options) (old : Sessions) (batches : ℕ) (answer : Result Totals ServeFault) (new : Sessions) (before after : List EndFacts)
+-- the fronts were served, beside each other
+pub record ServesFronts (options : Options) (batches : ℕ) (answer : Result Totals ServeFault) (kept : List Entry) (before after : List EndFacts)
     : Type 0 where
   pub many : length after ≡ length before
-  pub kept : (i : ℕ) (b a : EndFacts) → slice_get before i ≡ Some b → slice_get after i ≡ Some a → KeepsEnd b a
-  pub means : MeansForEnds answer options old batches new before after
+  pub keeps : (i : ℕ) (b a : EndFacts) → slice_get before i ≡ Some b → slice_get after i ≡ Some a → KeepsEnd b a
+  pub means : MeansForEnds answer options batches kept before after

@@ -11,3 +11,6 @@ pub mod Solo
 pub mod Owners
 pub mod Ends
 pub mod NetRun
+pub mod FrontRuns
+pub mod Hands
+pub mod Tasks

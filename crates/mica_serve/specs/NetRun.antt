@@ -1,5 +1,5 @@
 -- What a net tells before and after a call.
-use Rattle.std.specs.Prelude.{◌≡◌, ◌≢◌, ◌+◌, ◌⊎◌, ℕ, ◌<◌, ◌≤◌, true, List, length, slice_get, Option, Some, None, is_some, ⊤, IfSome, Result, Ok, Err}
+use Rattle.std.specs.Prelude.{◌≡◌, ◌≢◌, ◌+◌, ◌⊎◌, ℕ, ◌<◌, ◌≤◌, true, List, [], length, slice_get, Option, Some, None, is_some, IfSome, Result, Ok, Err}
 use Rattle.mica_io.specs.Ports.{Ports, out}
 use Rattle.mica_io.specs.Faults.{Rose}
 use Rattle.mica_model.specs.declared.options.Options.{Options}
@@ -7,8 +7,9 @@ use Rattle.mica_serve.specs.declared.ports.Ports.{Ports as PortOptions}
 use Rattle.mica_serve.specs.declared.ports.Totals.{Totals}
 use Rattle.mica_serve.specs.declared.ports.ServeFault.{ServeFault}
 use Rattle.mica_serve.specs.declared.ports.ServeFault.TheVariants.{Net, NoMemory}
-use Rattle.mica_serve.specs.Session.{Sessions}
+use Rattle.partition_table.specs.declared.tables.Entry.{Entry}
 use Rattle.mica_serve.specs.Served.{Serves, StopsShort}
+use Rattle.mica_serve.specs.Beside.{ServesOnTables, HaveShapes}
 use Rattle.mica_serve.specs.Ends.{EndFacts, AreNewEnds, BindsEnds, ReleasesEnds, KeepsEnd, MeansForEnds}
 
 -- what contracts see of a net at one moment
@@ -40,11 +41,17 @@ pub record HasStopped (ports : PortOptions) (before after : NetFacts) : Type 0 w
   pub rose : Rose before.faults after.faults
   pub stopped : OnPorts (StopsShort ports (before.refused < after.refused)) before.ports after.ports
 
--- what each answer says; want of memory says nothing
-abbrev pub IsCauseOf : Result Totals ServeFault → Options → PortOptions → NetFacts → NetFacts → Type 0
-IsCauseOf (Ok totals) options ports before after = HasServed options ports totals before after
-IsCauseOf (Err Net) options ports before after = HasStopped ports before after
-IsCauseOf (Err NoMemory) options ports before after = ⊤
+-- the fronts served, the totals count what they did, and these are the tables of their partitions
+pub record HasServedOnTables (options : Options) (ports : PortOptions) (totals : Totals) (kept : List Entry) (before after : NetFacts) : Type 0 where
+  pub served : OnPorts (ServesOnTables options ports totals kept) before.ports after.ports
+  pub no_fault : HasNoFault before after
+  pub shapes : HaveShapes options kept
+
+-- What each answer says of the net and of the tables that are kept. Want of memory says nothing of the net.
+abbrev pub IsCauseOf : Result Totals ServeFault → Options → PortOptions → List Entry → NetFacts → NetFacts → Type 0
+IsCauseOf (Ok totals) options ports kept before after = HasServedOnTables options ports totals kept before after
+IsCauseOf (Err Net) options ports kept before after = (kept ≡ []) × HasStopped ports before after
+IsCauseOf (Err NoMemory) options ports kept before after = kept ≡ []
 
 -- no end is out that was not out before, and only ports of fronts changed
 pub record ReleasesAll (ports : PortOptions) (before after : Ports) : Type 0 where
@@ -64,29 +71,29 @@ pub record FailsToBind (before after : NetFacts) (olds news : List EndFacts) : T
   pub refused : before.refused < after.refused
   pub untouched : news ≡ olds
 
--- what each answer says, once the ends were bound; want of memory says nothing
-abbrev pub MeansForRun : Result Totals ServeFault → Options → Sessions → PortOptions → Sessions → NetFacts → NetFacts → List EndFacts → List EndFacts → Type 0
-MeansForRun (Ok totals) options old ports new before after olds news =
+-- what each answer says, once the ends were bound; want of memory says nothing but that no table is kept
+abbrev pub MeansForRun : Result Totals ServeFault → Options → PortOptions → List Entry → NetFacts → NetFacts → List EndFacts → List EndFacts → Type 0
+MeansForRun (Ok totals) options ports kept before after olds news =
     (length olds ≡ ports.fronts) × (is_some before.fails ≡ true → after.faults ≡ before.faults)
-    × MeansForEnds (Ok totals) options old ports.batches new olds news
-MeansForRun (Err Net) options old ports new before after olds news =
-    FailsToBind before after olds news ⊎ MeansForEnds (Err Net) options old ports.batches new olds news
-MeansForRun (Err NoMemory) options old ports new before after olds news = ⊤
+    × MeansForEnds (Ok totals) options ports.batches kept olds news
+MeansForRun (Err Net) options ports kept before after olds news =
+    (FailsToBind before after olds news × (kept ≡ [])) ⊎ MeansForEnds (Err Net) options ports.batches kept olds news
+MeansForRun (Err NoMemory) options ports kept before after olds news = kept ≡ []
 
 -- The ports were bound, up to the first bind that failed, and the fronts served; these ends are left to be released.
-pub record BindsAndServes (options : Options) (old : Sessions) (ports : PortOptions) (answer : Result Totals ServeFault) (new : Sessions)
+pub record BindsAndServes (options : Options) (ports : PortOptions) (answer : Result Totals ServeFault) (kept : List Entry)
     (before after : NetFacts) (news : List EndFacts) : Type 0 where
   pub olds : List EndFacts
   pub are_new : AreNewEnds ports.port olds
   pub bound : OnPorts (BindsEnds ports.port olds) before.ports after.ports
   pub within : length olds ≤ ports.fronts
   pub many : length news ≡ length olds
-  pub kept : (i : ℕ) (b a : EndFacts) → slice_get olds i ≡ Some b → slice_get news i ≡ Some a → KeepsEnd b a
+  pub keeps : (i : ℕ) (b a : EndFacts) → slice_get olds i ≡ Some b → slice_get news i ≡ Some a → KeepsEnd b a
   pub never_fall : before.faults ≤ after.faults
   pub fails : after.fails ≡ before.fails
   pub binds : after.binds ≤ ports.fronts
   pub first : 0 < after.binds → after.first ≡ ports.port
-  pub means : MeansForRun answer options old ports new before after olds news
+  pub means : MeansForRun answer options ports kept before after olds news
 
 -- the ends were released, and the net tells what they tell
 pub record ReleasesNet (first : ℕ) (ends : List EndFacts) (before after : NetFacts) : Type 0 where

@@ -29,6 +29,7 @@ pub fn serve_batch<R: Threads + Wait + Sync, F: Front, G: Gate>(
     ensures partly { OnErr result (DealsInPart (F.options front.old) F.is_alone
         (F.sessions front.old) (F.left front.old) from.now (F.sessions front.new) (F.left front.new)) }
     ensures options { F.options front.new ≡ F.options front.old }
+    ensures stands { F.stands front.new ≡ F.stands front.old }
 {
     let mut out = ItemBuf::new(alloc)?;
     let dealt = deal(rt, alloc, front, from, gate, &mut out)?;

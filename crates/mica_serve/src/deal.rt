@@ -64,6 +64,7 @@ fn written<R: Threads + Wait + Sync, F: Front>(
     ensures err { OnErr result (front.new ≡ front.old) }
     ensures left { F.left front.old ≤ F.left front.new + 1 }
     ensures options { F.options front.new ≡ F.options front.old }
+    ensures stands { F.stands front.new ≡ F.stands front.old }
 {
     let (outcome, stamp) = front.write(rt, alloc, op, request.key.bytes(), request.value.bytes())?;
     Ok(Reply {
@@ -89,6 +90,7 @@ fn got<R: Threads + Wait + Sync, F: Front>(
         × RepliesTo (F.options front.old) F.is_alone (F.sessions front.old) request.now (F.sessions front.new) reply) }
     ensures left { F.left front.new ≡ F.left front.old }
     ensures options { F.options front.new ≡ F.options front.old }
+    ensures stands { F.stands front.new ≡ F.stands front.old }
 {
     let (answer, stamp) = front.read(rt, request.key.bytes(), out);
     let value = Bytes::copy(alloc, out.value())?;
@@ -115,6 +117,7 @@ fn reply_to<R: Threads + Wait + Sync, F: Front>(
         × RepliesTo (F.options front.old) F.is_alone (F.sessions front.old) request.now (F.sessions front.new) reply)) }
     ensures left { F.left front.old ≤ F.left front.new + writes_of_one request.now }
     ensures options { F.options front.new ≡ F.options front.old }
+    ensures stands { F.stands front.new ≡ F.stands front.old }
 {
     match request.want {
         Want::Get => got(rt, alloc, front, request, out),
@@ -141,6 +144,7 @@ fn reply_to_all<R: Threads + Wait + Sync, F: Front, G: Gate>(
         requests.now (F.sessions front.new) (F.left front.new)) }
     ensures left { F.left front.old ≤ F.left front.new + 255 }
     ensures options { F.options front.new ≡ F.options front.old }
+    ensures stands { F.stands front.new ≡ F.stands front.old }
 {
     let mut replies = Vec::with_capacity(alloc, requests.len())?;
     for (number, request) in requests.iter().enumerate() {
@@ -196,6 +200,7 @@ fn answer<R: Threads + Wait + Sync, F: Front, G: Gate>(
         batch.now.requests (F.sessions front.new) (F.left front.new)) }
     ensures left { F.left front.old ≤ F.left front.new + 255 }
     ensures options { F.options front.new ≡ F.options front.old }
+    ensures stands { F.stands front.new ≡ F.stands front.old }
 {
     let requests = batch.requests.as_slice();
     let replies = reply_to_all(rt, alloc, front, requests, gate, out)?;
@@ -224,6 +229,7 @@ pub(crate) fn deal<R: Threads + Wait + Sync, F: Front, G: Gate>(
     ensures few { IfOk result (λ dealt. dealt.requests ≤ 255) }
     ensures left { F.left front.old ≤ F.left front.new + 255 }
     ensures options { F.options front.new ≡ F.options front.old }
+    ensures stands { F.stands front.new ≡ F.stands front.old }
 {
     match read_batch(alloc, from) {
         Ok(batch) => answer(rt, alloc, front, &batch, gate, out),

@@ -6,7 +6,7 @@ ghost use Rattle.mica_model.specs.declared.options.Options.{Options};
 ghost use Rattle.mica_model.specs.Options.{IsValid};
 ghost use Rattle.mica_model.specs.Answer.{IsAnswer};
 ghost use Rattle.mica_model.specs.Write.{HasValueOf, write_of};
-ghost use Rattle.mica_serve.specs.Session.{Sessions, ChangesOnly, Writes, Reads};
+ghost use Rattle.mica_serve.specs.Session.{Stand, Sessions, ChangesOnly, Writes, Reads};
 
 use mica_io::NoMemory;
 use mica_model::{Answer, ItemBuf, Op, Outcome};
@@ -18,6 +18,9 @@ use std::thread::Threads;
 pub trait Front {
     /// The options of its partitions. No call changes them.
     ghost options: { Self → Options };
+
+    /// Where it stands before each owner in another thread, by their partitions. No call changes it.
+    ghost stands: { Self → List Stand };
 
     /// What it has seen of each partition.
     ghost sessions: { Self → Sessions };
@@ -48,7 +51,8 @@ pub trait Front {
             ChangesOnly (partition_of key.entry.now (options self.old).partitions) (sessions self.old) (sessions self.new)) }
         ensures err { OnErr result (self.new ≡ self.old) }
         ensures left { left self.old ≤ left self.new + 1 }
-        ensures options { options self.new ≡ options self.old };
+        ensures options { options self.new ≡ options self.old }
+        ensures stands { stands self.new ≡ stands self.old };
 
     /// The machine's answer, and its stamp. The buffer has the value of a hit, and is empty at a miss.
     fn read<R: Threads + Wait + Sync>(
@@ -64,5 +68,6 @@ pub trait Front {
             × Reads (options self.old) is_alone (sessions self.old p) key.entry.now result.1 value (sessions self.new p) }
         ensures others { ChangesOnly (partition_of key.entry.now (options self.old).partitions) (sessions self.old) (sessions self.new) }
         ensures left { left self.new ≡ left self.old }
-        ensures options { options self.new ≡ options self.old };
+        ensures options { options self.new ≡ options self.old }
+        ensures stands { stands self.new ≡ stands self.old };
 }

@@ -5,16 +5,22 @@
 //! machine, and each get is its answer at the replied stamp.
 #![tactic(auto)]
 
+mod answers;
 mod batch;
 mod deal;
 mod end;
 mod front;
 mod gate;
+mod meeting;
+mod opening;
 mod owner_work;
 mod ports;
 mod queue_front;
 mod run;
+mod running;
 mod solo;
+mod tables;
+mod worker;
 
 pub use batch::serve_batch;
 pub use front::Front;

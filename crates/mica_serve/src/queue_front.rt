@@ -166,10 +166,12 @@ impl QueueFront {
 }
 
 impl Front for QueueFront {
-    ghost use Rattle.std.specs.Prelude.{false};
-    ghost use Rattle.mica_serve.specs.QueueFront.{sessions_of};
+    ghost use Rattle.std.specs.Prelude.{false, map};
+    ghost use Rattle.mica_serve.specs.QueueFront.{sessions_of, stand_of};
 
     ghost options = { λ f. f.options };
+
+    ghost stands = { λ f. map stand_of f.parts };
 
     ghost sessions = { λ f. sessions_of f.parts };
 

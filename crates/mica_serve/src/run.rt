@@ -1,21 +1,28 @@
-//! The server: its ports bound, its fronts served one after another, its ends released.
+//! The server: its ports bound, its fronts and owners run side by side, its ends released and its tables kept.
 ghost use Rattle.std.specs.Prelude.{◌≡◌, ◌+◌, ◌<◌, ◌≤◌, ℕ, [], true, map, length, vec_len, vec_capacity, slice_get, is_some, Some, IfOk, IfSome, OnOk, OnErr, IsErrOf};
 ghost use Rattle.mica_io.specs.Faults.{Rose};
 ghost use Rattle.mica_io.specs.Ports.{out};
 ghost use Rattle.mica_model.specs.Options.{IsValid};
+ghost use Rattle.partition_table.specs.declared.reader.Note.{Note};
+ghost use Rattle.partition_table.specs.Seats.{note_state, note_home};
 ghost use Rattle.mica_serve.specs.PortOptions.{IsValidPorts};
 ghost use Rattle.mica_serve.specs.Ends.{AreNewEnds, AreAtPorts, AreOpen, BindsEnds, TellAll, ServesFronts};
+ghost use Rattle.mica_serve.specs.Tasks.{IsServer};
 ghost use Rattle.mica_serve.specs.NetRun.{OnPorts, ReleasesNet, BindsAndServes, IsCauseOf, KeepsNet};
 
-use crate::end::serve_end;
-use crate::front::Front;
+use crate::answers::sum_up;
 use crate::ports::{Ports, ServeFault, Totals};
-use crate::solo::SoloFront;
+use crate::running::{Server, run_all};
+use crate::tables::{OnTable, keep_all};
+use cache_partition::CachePartition;
+use epoch_core::LendPartition;
 use mica_io::{Datagrams, Failed, Gate, Net};
-use mica_model::Options;
+use mica_model::{Mode, Options};
+use partition_table::{Note, OwnerSeat, ReaderSeat, Tables};
 use std::alloc::Global;
 use std::sync::Wait;
 use std::thread::Threads;
+use store_partition::StorePartition;
 
 /// Binds a port for each front, in order, up to the first bind that fails.
 fn bind_all<N: Net>(net: &mut N, ports: &Ports, ends: &mut Vec<N::End>) -> Result<(), Failed>
@@ -101,16 +108,28 @@ fn release_all<N: Net>(net: &mut N, ends: Vec<N::End>, first: u16)
     }
 }
 
-/// Serves the fronts, one to its end and then the next. A fault stops its own front alone.
-fn serve_all<R: Threads + Wait + Sync, D: Datagrams, G: Gate>(
-    rt: &R,
+/// Serves the fronts side by side, and keeps the owners' seats where no front failed.
+fn serve_all<
+    W: Threads + Wait + Sync,
+    P: OnTable + LendPartition<Reader = ReaderSeat, Note = Note> + Send,
+    D: Datagrams + Drop + Send,
+    G: Gate,
+>(
+    rt: &W,
     alloc: Global,
-    front: &mut SoloFront,
+    options: &Options,
+    ports: &Ports,
+    server: Server<P, D>,
     ends: &mut Vec<D>,
-    batches: u32,
     gate: &G,
-    first_worker: u32,
+    tables: &mut Tables,
 ) -> Result<Totals, ServeFault>
+    requires same { (p : P) → P.state p ≡ P.owner p }
+    requires notes { (n : Note) → (P.noted n ≡ note_state n) × (P.note_home n ≡ note_home n) }
+    requires options { IsValid options.now }
+    requires ports { IsValidPorts ports.now }
+    requires server { IsServer P.owner P.home options.now ports.now server }
+    requires tables { tables.old ≡ [] }
     requires open { AreOpen (map (λ e. record {
       port = D.port e;
       traffic = D.traffic e;
@@ -118,11 +137,8 @@ fn serve_all<R: Threads + Wait + Sync, D: Datagrams, G: Gate>(
       has_ended = D.has_ended e;
       has_script = is_some (D.script e);
     }) ends.old.items) }
-    requires few { vec_len ends.old ≤ 16 }
-    requires batches { batches ≤ 1000000 }
-    requires workers { first_worker ≤ 16 }
-    ensures served { ServesFronts (⟦<SoloFront as Front>⟧.options front.old) (⟦<SoloFront as Front>⟧.sessions front.old) batches result
-        (⟦<SoloFront as Front>⟧.sessions front.new)
+    requires many { vec_len ends.old ≡ ports.now.fronts }
+    ensures { ServesFronts options.now ports.now.batches result tables.new
         (map (λ e. record {
           port = D.port e;
           traffic = D.traffic e;
@@ -138,41 +154,39 @@ fn serve_all<R: Threads + Wait + Sync, D: Datagrams, G: Gate>(
           has_script = is_some (D.script e);
         }) ends.new.items) }
 {
-    let mut totals = Totals::none();
-    let mut failed = false;
-    for f in 0..ends.len() {
-        let worker = first_worker + f as u32;
-        match serve_end(rt, alloc, front, &mut ends[f], batches, gate, worker) {
-            Ok(one) => totals.add(one),
-            Err(ServeFault::Net) => failed = true,
-            Err(ServeFault::NoMemory) => return Err(ServeFault::NoMemory),
-        }
-    }
-    if failed {
-        Err(ServeFault::Net)
-    } else {
-        Ok(totals)
-    }
+    let (owners, answers) = run_all(rt, alloc, options, ports, server, ends, gate);
+    let totals = sum_up(answers.as_slice())?;
+    keep_all(owners, tables);
+    Ok(totals)
 }
 
 /// Binds the ports, and serves the fronts where all were bound.
-fn bind_and_serve<R: Threads + Wait + Sync, N: Net, G: Gate>(
-    rt: &R,
+fn bind_and_serve<
+    W: Threads + Wait + Sync,
+    P: OnTable + LendPartition<Reader = ReaderSeat, Note = Note> + Send,
+    N: Net,
+    G: Gate,
+>(
+    rt: &W,
     alloc: Global,
-    front: &mut SoloFront,
     options: &Options,
     ports: &Ports,
+    server: Server<P, N::End>,
     net: &mut N,
     ends: &mut Vec<N::End>,
     gate: &G,
+    tables: &mut Tables,
 ) -> Result<Totals, ServeFault>
+    requires same { (p : P) → P.state p ≡ P.owner p }
+    requires notes { (n : Note) → (P.noted n ≡ note_state n) × (P.note_home n ≡ note_home n) }
     requires options { IsValid options.now }
     requires ports { IsValidPorts ports.now }
+    requires server { IsServer P.owner P.home options.now ports.now server }
+    requires tables { tables.old ≡ [] }
     requires unbound { N.binds net.old ≡ 0 }
     requires none { ends.old.items ≡ [] }
     requires room { ports.now.fronts ≤ vec_capacity ends.old }
-    ensures { BindsAndServes (⟦<SoloFront as Front>⟧.options front.old) (⟦<SoloFront as Front>⟧.sessions front.old) ports.now result
-        (⟦<SoloFront as Front>⟧.sessions front.new)
+    ensures { BindsAndServes options.now ports.now result tables.new
         (record {
           faults = N.faults net.old;
           binds = N.binds net.old;
@@ -198,31 +212,32 @@ fn bind_and_serve<R: Threads + Wait + Sync, N: Net, G: Gate>(
         }) ends.new.items) }
 {
     bind_all(net, ports, ends)?;
-    serve_all(
-        rt,
-        alloc,
-        front,
-        ends,
-        ports.batches,
-        gate,
-        options.partitions,
-    )
+    serve_all(rt, alloc, options, ports, server, ends, gate, tables)
 }
 
-/// Binds a port for each front, in order, and serves the fronts, one to its end and then the next. All ends are released.
-pub fn serve<R: Threads + Wait + Sync, N: Net, G: Gate>(
-    rt: &R,
+/// Serves the ports before partitions of one mode.
+fn serve_on<
+    W: Threads + Wait + Sync,
+    P: OnTable + LendPartition<Reader = ReaderSeat, Note = Note> + Send,
+    N: Net,
+    G: Gate,
+>(
+    rt: &W,
     alloc: Global,
     options: &Options,
     ports: &Ports,
     net: &mut N,
     gate: &G,
+    tables: &mut Tables,
 ) -> Result<Totals, ServeFault>
+    requires notes { (n : Note) → (P.noted n ≡ note_state n) × (P.note_home n ≡ note_home n) }
     requires options { IsValid options.now }
+    requires mode { options.now.mode ≡ P.mode }
+    requires same { (p : P) → P.state p ≡ P.owner p }
     requires ports { IsValidPorts ports.now }
     requires unbound { N.binds net.old ≡ 0 }
-
-    ensures cause { IsCauseOf result options.now ports.now
+    requires tables { tables.old ≡ [] }
+    ensures cause { IsCauseOf result options.now ports.now tables.new
         (record {
           faults = N.faults net.old;
           binds = N.binds net.old;
@@ -257,9 +272,72 @@ pub fn serve<R: Threads + Wait + Sync, N: Net, G: Gate>(
           fails = N.fails net.new;
         }) }
 {
-    let mut front = SoloFront::new(alloc, options)?;
+    let server = Server::<P, N::End>::open(alloc, options, ports)?;
     let mut ends = Vec::with_capacity(alloc, ports.fronts as usize)?;
-    let answer = bind_and_serve(rt, alloc, &mut front, options, ports, net, &mut ends, gate);
+    let answer = bind_and_serve(
+        rt, alloc, options, ports, server, net, &mut ends, gate, tables,
+    );
     release_all(net, ends, ports.port);
     answer
+}
+
+/// Binds a port for each front, in order, and serves the fronts and the owners of the partitions side by side, each in a thread of its own.
+/// All ends are released. The owners' seats are kept, in the order of the partitions, where no front failed.
+pub fn serve<W: Threads + Wait + Sync, N: Net, G: Gate>(
+    rt: &W,
+    alloc: Global,
+    options: &Options,
+    ports: &Ports,
+    net: &mut N,
+    gate: &G,
+    tables: &mut Tables,
+) -> Result<Totals, ServeFault>
+    requires options { IsValid options.now }
+    requires ports { IsValidPorts ports.now }
+    requires unbound { N.binds net.old ≡ 0 }
+    requires tables { tables.old ≡ [] }
+
+    ensures cause { IsCauseOf result options.now ports.now tables.new
+        (record {
+          faults = N.faults net.old;
+          binds = N.binds net.old;
+          first = N.first net.old;
+          refused = N.refused net.old;
+          ports = N.ports net.old;
+          fails = N.fails net.old;
+        })
+        (record {
+          faults = N.faults net.new;
+          binds = N.binds net.new;
+          first = N.first net.new;
+          refused = N.refused net.new;
+          ports = N.ports net.new;
+          fails = N.fails net.new;
+        }) }
+    ensures kept { KeepsNet ports.now
+        (record {
+          faults = N.faults net.old;
+          binds = N.binds net.old;
+          first = N.first net.old;
+          refused = N.refused net.old;
+          ports = N.ports net.old;
+          fails = N.fails net.old;
+        })
+        (record {
+          faults = N.faults net.new;
+          binds = N.binds net.new;
+          first = N.first net.new;
+          refused = N.refused net.new;
+          ports = N.ports net.new;
+          fails = N.fails net.new;
+        }) }
+{
+    match options.mode {
+        Mode::Cache => serve_on::<W, CachePartition<OwnerSeat>, N, G>(
+            rt, alloc, options, ports, net, gate, tables,
+        ),
+        Mode::Store => serve_on::<W, StorePartition<OwnerSeat>, N, G>(
+            rt, alloc, options, ports, net, gate, tables,
+        ),
+    }
 }

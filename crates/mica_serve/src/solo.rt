@@ -209,11 +209,13 @@ impl SoloFront {
 }
 
 impl Front for SoloFront {
-    ghost use Rattle.std.specs.Prelude.{true};
+    ghost use Rattle.std.specs.Prelude.{true, []};
     ghost use Rattle.mica_serve.specs.Solo.{sessions_in};
     ghost use Rattle.mica_serve.specs.Owners.{solo_of};
 
     ghost options = { λ f. (solo_of f.owners).options };
+
+    ghost stands = { λ _. [] };
 
     ghost sessions = { λ f. sessions_in (solo_of f.owners) };
 

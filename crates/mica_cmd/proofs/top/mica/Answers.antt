@@ -27,7 +27,7 @@ returns-in-Ok-Replay g c =
 pub returns-in-Ok-Serve : goal.returns-in-Ok-Serve
 returns-in-Ok-Serve g c =
     given_promises _ _ _ _ _ _ c.in-Ok-Serve.ensures.0 c.in-Ok-Serve.field-0-is
-    (c.serve_command.ensures (record { left = g.S.Source.left c.args.source.now; has_ended = g.S.Source.has_ended c.args.source.now; faults = g.S.Source.faults c.args.source.now }) c.args.tables.now)
+    (c.serve_command.ensures (record { left = g.S.Source.left c.args.source.now; has_ended = g.S.Source.has_ended c.args.source.now; faults = g.S.Source.faults c.args.source.now }))
 
 pub returns-in-Ok-Gen : goal.returns-in-Ok-Gen
 returns-in-Ok-Gen g c =

@@ -1,4 +1,4 @@
-use Rattle.std.proofs.Common.{◌≡◌, [], ◌∙◌}
+use Rattle.std.proofs.Common.{[]}
 use Rattle.std.proofs.lemmas.Result.{IfOk-weaker}
 use Rattle.mica_serve.proofs.Replying.{refuses}
 use Rattle.mica_serve.proofs.deal.deal.Goals as goal

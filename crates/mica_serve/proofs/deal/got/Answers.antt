@@ -1,4 +1,4 @@
-use Rattle.std.proofs.Common.{◌≡◌, ◌≤◌, List, length, sym, ap, ◌∙◌, subst}
+use Rattle.std.proofs.Common.{◌≤◌, List, length, sym, ap, ◌∙◌, subst}
 use Rattle.batch_packets.specs.declared.replies.Reply.{Reply}
 use Rattle.mica_serve.specs.Turn.{status_at}
 use Rattle.mica_serve.specs.Answering.{RepliesTo}

@@ -1,4 +1,4 @@
-use Rattle.std.proofs.Common.{◌≡◌, ◌+◌, ◌<◌, ◌≤◌, ◌⊎◌, inl, inr, Bool, ◌++◌, ◌∷◌, [], ℕ, List, length, slice_index_or, take, drop, sym, ap, ◌∙◌, subst, arith}
+use Rattle.std.proofs.Common.{◌≡◌, ◌+◌, ◌<◌, ◌≤◌, inl, inr, Bool, ◌++◌, ◌∷◌, [], ℕ, List, length, slice_index_or, take, drop, sym, ap, ◌∙◌, subst, arith}
 use Rattle.std.proofs.lemmas.List.{take_more, take-append-drop}
 use Rattle.mica_model.specs.declared.options.Options.{Options}
 use Rattle.batch_packets.specs.declared.batch.Request.{Request}
@@ -72,4 +72,5 @@ loop-number-preserved g c =
           c.index-requests-number.result c.loop-number.replies.items c.in_ok-reply_to.field-0 inv.2 c.loop-number-test.true c.index-requests-number.is c.reply_to.ensures.left inv.0 c.in_ok-reply_to.ensures.replied),
       omega (arith, few, inv.1, c.reply_to.ensures.left),
       c.reply_to.ensures.options ∙ inv.2,
+      c.reply_to.ensures.stands ∙ inv.3,
     )

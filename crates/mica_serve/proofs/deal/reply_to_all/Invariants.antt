@@ -8,3 +8,4 @@ invariant-loop-number g l =
     (take l.number l.requests) (g.F.Front.sessions l.front) (g.F.Front.left l.front) l.replies.items
     × (g.F.Front.left l.initial.front ≤ g.F.Front.left l.front + l.number)
     × (g.F.Front.options l.front ≡ g.F.Front.options l.initial.front)
+    × (g.F.Front.stands l.front ≡ g.F.Front.stands l.initial.front)

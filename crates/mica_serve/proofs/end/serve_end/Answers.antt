@@ -1,8 +1,8 @@
-use Rattle.std.proofs.Common.{rules, ◌≡◌, ◌<◌, ◌≤◌, ◌+◌, ℕ, Bool, true, false, cond, eqb, Option, Some, sym, ap, ◌∙◌, subst, arith}
+use Rattle.std.proofs.Common.{rules, ◌≡◌, ◌≤◌, ◌+◌, ℕ, Bool, true, false, cond, eqb, Option, sym, ap, ◌∙◌, subst, arith}
 use Rattle.std.specs.Prelude.{IfSome}
 use Rattle.mica_model.specs.declared.options.Options.{Options}
 use Rattle.mica_serve.specs.declared.ports.Totals.{Totals}
-use Rattle.mica_serve.specs.Ends.{OnTraffic, StopsOne, ServesOne, ServesSome, LeavesEnd, counted}
+use Rattle.mica_serve.specs.Ends.{OnTraffic, StopsOne, ServesOne, ServesSome, LeavesEnd}
 use Rattle.mica_serve.proofs.Serving.{on_traffic_then, serves_more, stops_at}
 use Rattle.mica_serve.proofs.end.serve_end.Goals as goal
 
@@ -41,14 +41,15 @@ loop-preserved g c =
           a b after inv.0 same),
       search rules,
       c.serve_one.ensures.options ∙ inv.2,
-      omega (arith, inv.3, c.serve_one.ensures.left),
-      omega (arith, ap (λ (t : Totals). t.batches) totals, inv.4),
-      omega (arith, ap (λ (t : Totals). t.requests) totals, inv.5, few),
-      omega (arith, ap (λ (t : Totals). t.bad) totals, inv.6, one_at_most requests),
-      omega (arith, inv.7, c.serve_one.ensures.never_fall),
+      c.serve_one.ensures.stands ∙ inv.3,
+      omega (arith, inv.4, c.serve_one.ensures.left),
+      omega (arith, ap (λ (t : Totals). t.batches) totals, inv.5),
+      omega (arith, ap (λ (t : Totals). t.requests) totals, inv.6, few),
+      omega (arith, ap (λ (t : Totals). t.bad) totals, inv.7, one_at_most requests),
+      omega (arith, inv.8, c.serve_one.ensures.never_fall),
       search rules,
-      c.serve_one.ensures.script ∙ inv.9,
-      c.serve_one.ensures.port ∙ inv.10,
+      c.serve_one.ensures.script ∙ inv.10,
+      c.serve_one.ensures.port ∙ inv.11,
     )
   where
     one_at_most : (n : ℕ) → cond (eqb n 0) 1 0 ≤ 1

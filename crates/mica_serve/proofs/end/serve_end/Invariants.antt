@@ -9,6 +9,7 @@ invariant-loop g l =
     l.counter l.totals (g.F.Front.sessions l.front) (g.F.Front.left l.front)) (g.D.Datagrams.traffic l.initial.end) (g.D.Datagrams.traffic l.end)
     × (g.D.Datagrams.has_ended l.end ≡ false)
     × (g.F.Front.options l.front ≡ g.F.Front.options l.initial.front)
+    × (g.F.Front.stands l.front ≡ g.F.Front.stands l.initial.front)
     × (g.F.Front.left l.initial.front ≤ g.F.Front.left l.front + 255 * l.counter)
     × (l.totals.batches ≡ l.counter)
     × (l.totals.requests ≤ 255 * l.counter)

@@ -1,8 +1,7 @@
-use Rattle.std.proofs.Common.{◌≡◌, [], ◌∷◌, ◌∙◌, refl, sym, ap, subst, arith, length}
+use Rattle.std.proofs.Common.{◌≡◌, [], ◌∷◌, refl, ap, arith, length}
 use Rattle.std.proofs.lemmas.Option.{slice_get_read}
 use Rattle.owner_queue.specs.declared.message.Message.{Message}
-use Rattle.owner_queue.specs.JobEnds.{Inbox}
-use Rattle.mica_serve.specs.OwnerWork.{jobs_in, HasServed}
+use Rattle.mica_serve.specs.OwnerWork.{jobs_in}
 use Rattle.mica_serve.proofs.OwnerSteps.{serves_none, serves_end, serves_job, front_below, job_fits, box_of, ticket_above}
 use Rattle.mica_serve.proofs.owner_work.serve_owner.Goals as goal
 

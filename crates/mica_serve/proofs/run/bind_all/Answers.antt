@@ -1,4 +1,4 @@
-use Rattle.std.proofs.Common.{rules, ◌≡◌, ◌+◌, ◌<◌, ◌≤◌, ◌++◌, ◌∷◌, [], ℕ, true, List, length, vec_len, map, refl, sym, ap, ◌∙◌, subst, arith}
+use Rattle.std.proofs.Common.{rules, ◌≡◌, ◌+◌, ◌++◌, ◌∷◌, [], ℕ, List, length, vec_len, map, refl, sym, ap, ◌∙◌, subst, arith}
 use Rattle.std.specs.Prelude.{is_some, IfSome}
 use Rattle.std.proofs.lemmas.List.{length-map, map-append}
 use Rattle.mica_io.specs.Ports.{BindsEnd}

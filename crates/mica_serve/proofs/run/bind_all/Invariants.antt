@@ -1,6 +1,6 @@
 use Rattle.std.proofs.Common.{◌≡◌, ◌≤◌, ◌<◌, true, map, vec_len, vec_capacity}
 use Rattle.std.specs.Prelude.{is_some}
-use Rattle.mica_serve.specs.Ends.{EndFacts, AreNewEnds, BindsEnds}
+use Rattle.mica_serve.specs.Ends.{AreNewEnds, BindsEnds}
 use Rattle.mica_serve.specs.NetRun.{OnPorts}
 use Rattle.mica_serve.proofs.run.bind_all.Given as goal
 

@@ -1,43 +1,52 @@
-use Rattle.std.proofs.Common.{◌≡◌, rules, ◌≤◌, length, vec_len, map, sym, ap, ◌∙◌, subst, arith}
-use Rattle.std.specs.Prelude.{is_some}
+use Rattle.std.proofs.Common.{◌≡◌, rules, length, vec_len, map, sym, ap, ◌∙◌, arith}
+use Rattle.std.specs.Prelude.{is_some, Err}
 use Rattle.std.proofs.lemmas.List.{length-map}
+use Rattle.std.proofs.lemmas.Result.{err_from_is_err_and}
 use Rattle.mica_serve.specs.Ends.{EndFacts}
-use Rattle.mica_serve.specs.Solo.{sessions_in}
-use Rattle.mica_serve.specs.Owners.{solo_of}
-use Rattle.mica_serve.proofs.Whole.{run_served}
+use Rattle.mica_serve.specs.NetRun.{NetFacts}
+use Rattle.mica_serve.proofs.Whole.{run_failed, run_served}
+use Rattle.mica_serve.proofs.run.bind_and_serve.Given as given
 use Rattle.mica_serve.proofs.run.bind_and_serve.Goals as goal
+
+abbrev facts : (g : given.Over) → g.row.N-End.Denot → EndFacts
+facts g e = record {
+  port = g.N.End.Datagrams.port e;
+  traffic = g.N.End.Datagrams.traffic e;
+  faults = g.N.End.Datagrams.faults e;
+  has_ended = g.N.End.Datagrams.has_ended e;
+  has_script = is_some (g.N.End.Datagrams.script e);
+}
+
+abbrev net_facts : (g : given.Over) → g.row.N.Denot → NetFacts
+net_facts g n = record {
+  faults = g.N.Net.faults n;
+  binds = g.N.Net.binds n;
+  first = g.N.Net.first n;
+  refused = g.N.Net.refused n;
+  ports = g.N.Net.ports n;
+  fails = g.N.Net.fails n;
+}
 
 pub serve_all-requires-clause-open : goal.serve_all-requires-clause-open
 serve_all-requires-clause-open g c _ _ i e is = let new = c.bind_all.ensures.new i e is in (new.unended, new.fresh)
 
+pub returns-in_err-bind_all : goal.returns-in_err-bind_all
+returns-in_err-bind_all g c =
+    let bound = c.bind_all.ensures in
+    let failed = c.in_err-bind_all.ensures in
+    let many = length-map c.bind_all.new.ends.items (facts g) in
+    let size : vec_len c.bind_all.new.ends ≡ length c.bind_all.new.ends.items = search rules in
+    let is = err_from_is_err_and c.from_residual.result c.from_residual.ensures.1 in
+    run_failed c.args.ports.now (net_facts g c.args.net.now) (net_facts g c.bind_all.new.net) (map (facts g) c.bind_all.new.ends.items)
+    bound.new bound.bound (omega (arith, bound.few, many, size)) bound.never_fall bound.fails bound.binds bound.first
+    c.args.options.now c.from_residual.result c.args.tables.now (is.1 ∙ ap Err is.2) c.requires.tables failed.cause failed.refused
+
 pub returns : goal.returns
 returns g c =
-    let facts : g.row.N-End.Denot → EndFacts = λ e. record {
-      port = g.N.End.Datagrams.port e;
-      traffic = g.N.End.Datagrams.traffic e;
-      faults = g.N.End.Datagrams.faults e;
-      has_ended = g.N.End.Datagrams.has_ended e;
-      has_script = is_some (g.N.End.Datagrams.script e);
-    } in
-    let solo = solo_of c.args.front.now.owners in
     let bound = c.bind_all.ensures in
-    let olds = map facts c.bind_all.new.ends.items in
-    let many = length-map c.bind_all.new.ends.items facts in
+    let many = length-map c.bind_all.new.ends.items (facts g) in
     let size : vec_len c.bind_all.new.ends ≡ length c.bind_all.new.ends.items = search rules in
-    run_served solo.options c.args.ports.now (record {
-      faults = g.N.Net.faults c.args.net.now;
-      binds = g.N.Net.binds c.args.net.now;
-      first = g.N.Net.first c.args.net.now;
-      refused = g.N.Net.refused c.args.net.now;
-      ports = g.N.Net.ports c.args.net.now;
-      fails = g.N.Net.fails c.args.net.now;
-    }) (record {
-      faults = g.N.Net.faults c.bind_all.new.net;
-      binds = g.N.Net.binds c.bind_all.new.net;
-      first = g.N.Net.first c.bind_all.new.net;
-      refused = g.N.Net.refused c.bind_all.new.net;
-      ports = g.N.Net.ports c.bind_all.new.net;
-      fails = g.N.Net.fails c.bind_all.new.net;
-    }) olds bound.new bound.bound (omega (arith, bound.few, many, size)) bound.never_fall bound.fails bound.binds bound.first
-    (sessions_in solo) (sessions_in (solo_of c.serve_all.new.front.owners)) c.serve_all.result (map facts c.serve_all.new.ends.items) (many ∙ sym size ∙ c.in_ok-bind_all.ensures.all) c.in_ok-bind_all.ensures.steady
-    c.serve_all.ensures.served
+    run_served c.args.ports.now (net_facts g c.args.net.now) (net_facts g c.bind_all.new.net) (map (facts g) c.bind_all.new.ends.items)
+    bound.new bound.bound (omega (arith, bound.few, many, size)) bound.never_fall bound.fails bound.binds bound.first
+    c.args.options.now c.serve_all.result c.serve_all.new.tables (map (facts g) c.serve_all.new.ends.items) (many ∙ sym size ∙ c.in_ok-bind_all.ensures.all) c.in_ok-bind_all.ensures.steady
+    c.serve_all.ensures

@@ -1,5 +1,5 @@
-use Rattle.std.proofs.Common.{rules, ◌≡◌, ◌+◌, ◌<◌, ◌≤◌, ◌⊎◌, inl, inr, ◌++◌, ◌∷◌, [], ℕ, zero, suc, true, List, length, map, slice_get, Option, Some, refl, sym, ap, ◌∙◌, subst, arith, length-append}
-use Rattle.std.specs.Prelude.{is_some, option_map, IfSome}
+use Rattle.std.proofs.Common.{rules, ◌≡◌, ◌<◌, inl, inr, ◌++◌, ◌∷◌, [], ℕ, suc, length, map, slice_get, Some, sym, ap, ◌∙◌, subst, arith, length-append}
+use Rattle.std.specs.Prelude.{is_some, option_map}
 use Rattle.std.specs.Option.{option_to_list}
 use Rattle.std.proofs.lemmas.Option.{slice_get-map}
 use Rattle.std.proofs.lemmas.Bool.{cases_lt}

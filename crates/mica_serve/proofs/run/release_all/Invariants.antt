@@ -1,7 +1,6 @@
-use Rattle.std.proofs.Common.{◌≡◌, ◌≤◌, ◌<◌, ◌+◌, ℕ, true, map, length, take, slice_get, Some}
+use Rattle.std.proofs.Common.{◌≡◌, ◌≤◌, ◌<◌, ℕ, true, map, length, take, slice_get, Some}
 use Rattle.std.specs.Prelude.{is_some}
 use Rattle.mica_io.specs.Faults.{Rose}
-use Rattle.mica_serve.specs.Ends.{EndFacts}
 use Rattle.mica_serve.specs.NetRun.{OnPorts}
 use Rattle.mica_serve.proofs.Binding.{Releasing}
 use Rattle.mica_serve.proofs.run.release_all.Given as goal

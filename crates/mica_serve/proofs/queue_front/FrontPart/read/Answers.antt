@@ -1,5 +1,5 @@
 use Rattle.std.proofs.Common.{refl}
-use Rattle.mica_serve.proofs.Telling.{reads_hit, reads_miss, never_again}
+use Rattle.mica_serve.proofs.Telling.{reads_hit, reads_miss}
 use Rattle.mica_serve.proofs.queue_front.FrontPart.read.Goals as goal
 
 pub returns-in-Hit : goal.returns-in-Hit

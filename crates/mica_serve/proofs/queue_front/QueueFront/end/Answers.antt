@@ -1,4 +1,4 @@
-use Rattle.std.proofs.Common.{◌∙◌, sym, ap, arith, slice_set, get_or}
+use Rattle.std.proofs.Common.{◌∙◌, sym, ap, arith, slice_set}
 use Rattle.std.proofs.lemmas.List.Edits.{map_over_more}
 use Rattle.mica_serve.specs.QueueFront.{ended_part}
 use Rattle.mica_serve.proofs.queue_front.QueueFront.end.Goals as goal

@@ -1,0 +1,295 @@
+-- What each front came to is what all of them come to.
+use Rattle.std.proofs.Common.{◌≡◌, ℕ, zero, suc, ◌+◌, ◌<◌, ◌≤◌, Bool, true, false, List, [], ◌∷◌, ◌++◌, length, map, Option, Some, None, refl, sym, ap, ◌∙◌, subst, slice_get, take, arith}
+use Rattle.std.specs.Prelude.{◌≢◌, is_some, sum_by, option_map, Result, Ok, Err}
+use Rattle.std.specs.List.{filter, All}
+use Rattle.std.proofs.lemmas.List.{append-nil, length-map, length-take, take-append-drop}
+use Rattle.std.proofs.Math.Nat.{min-le_left}
+use Rattle.std.proofs.lemmas.List.Sums.{sum_by-cons}
+use Rattle.std.proofs.lemmas.Bool.{true≢false}
+use Rattle.std.proofs.lemmas.Option.{slice_get-map}
+use Rattle.mica_io.specs.Traffic.{Traffic}
+use Rattle.mica_model.specs.declared.options.Options.{Options}
+use Rattle.partition_table.specs.declared.tables.Entry.{Entry}
+use Rattle.mica_serve.specs.declared.ports.Totals.{Totals}
+use Rattle.mica_serve.specs.declared.ports.ServeFault.{ServeFault}
+use Rattle.mica_serve.specs.declared.ports.ServeFault.TheVariants.{Net, NoMemory}
+use Rattle.mica_serve.specs.Turn.{gets_of}
+use Rattle.mica_serve.specs.Dealing.{Dealing, turns_in}
+use Rattle.mica_serve.specs.Session.{Sessions, AnswersInOrder, count_of_writes}
+use Rattle.mica_serve.specs.Served.{Counts, has_no_turns}
+use Rattle.mica_serve.specs.Beside.{AnsweredBeside}
+use Rattle.mica_serve.specs.Ends.{OnTraffic, EndFacts, KeepsEnd, TellAll, DealsWithEnd, DealsInPartWithEnd, MeansForEnds, ServesAll, ServesFronts, ServesEnd, BeginsEnd, IsUpTo}
+use Rattle.mica_serve.specs.FrontRuns.{FrontRun, MeansForFront, RunsFront, RunFronts, AreTakenIn, closed_in, RanAll, sum_of_totals, SumsUp}
+use Rattle.mica_serve.proofs.Binding.{place_below}
+use Rattle.mica_serve.proofs.ServedBeside.{closed_gets}
+
+pub same_kept : (b a : EndFacts) → b ≡ a → KeepsEnd b a
+same_kept b a same = subst (λ (e : EndFacts). KeepsEnd b e) same (record { port = refl; never_fall = omega arith; tells = λ h. h; scripted = refl })
+
+-- an end that tells goes on telling
+pub tells_on : (a b : Option Traffic) → OnTraffic (λ x y. Unit {0}) a b → is_some a ≡ true → is_some b ≡ true
+tells_on None b h never = absurd (true≢false (sym never))
+tells_on (Some a) None h tells = absurd h
+tells_on (Some a) (Some b) h tells = refl
+
+-- what a told end tells after a call
+told_of : (P : Traffic → Traffic → Type 0) (before after : Option Traffic) → is_some before ≡ true → OnTraffic P before after
+    → (had : Traffic) × (has : Traffic) × (before ≡ Some had) × (after ≡ Some has) × P had has
+told_of P None after never h = absurd (true≢false (sym never))
+told_of P (Some had) None tells h = absurd h
+told_of P (Some had) (Some has) tells h = (had, has, refl, refl, h)
+
+pub some_at : {X : Type 0} (xs : List X) (i : ℕ) → i < length xs → (x : X) × (slice_get xs i ≡ Some x)
+some_at [] i lt = absurd (omega arith)
+some_at (x ∷ xs) zero lt = (x, refl)
+some_at (x ∷ xs) (suc i) lt = some_at xs i (omega arith)
+
+abbrev as_ok : Totals → Result Totals ServeFault
+as_ok totals = Ok totals
+
+same_answer : {x y : Result Totals ServeFault} → Some x ≡ Some y → x ≡ y
+same_answer is = cc
+
+counts_cons : (dealings : List Dealing) (fronts : List (List Dealing)) (one totals : Totals) → Counts (dealings ∷ []) one → Counts fronts totals
+    → Counts (dealings ∷ fronts) (record { batches = one.batches + totals.batches; requests = one.requests + totals.requests; bad = one.bad + totals.bad })
+counts_cons dealings fronts one totals c d = record {
+  batches = omega (arith, c.batches, d.batches, sum_by-cons length dealings [], sum_by-cons length dealings fronts);
+  requests = omega (arith, c.requests, d.requests, sum_by-cons (λ x. length (turns_in x)) dealings [], sum_by-cons (λ x. length (turns_in x)) dealings fronts);
+  bad = omega (arith, c.bad, d.bad, sum_by-cons (λ x. length (filter has_no_turns x)) dealings [], sum_by-cons (λ x. length (filter has_no_turns x)) dealings fronts);
+}
+
+sum_of_cons : (t : Totals) (all : List Totals)
+    → record { batches = t.batches + (sum_of_totals all).batches; requests = t.requests + (sum_of_totals all).requests; bad = t.bad + (sum_of_totals all).bad } ≡ sum_of_totals (t ∷ all)
+sum_of_cons t all = λ i. record {
+  batches = sym (sum_by-cons (λ (x : Totals). x.batches) t all) i;
+  requests = sym (sum_by-cons (λ (x : Totals). x.requests) t all) i;
+  bad = sym (sum_by-cons (λ (x : Totals). x.bad) t all) i;
+}
+
+-- an end that was served was also dealt with in part
+begins : (options : Options) (now next : Sessions) (left left_after batches : ℕ) (ended : Bool) (totals : Totals) (had has : Traffic)
+    → (s : ServesEnd options false now left batches ended totals next left_after had has) → BeginsEnd batches s.dealings had has
+begins options now next left left_after batches ended totals had has s =
+    let got : has.received ≡ take batches had.left = ap (λ (t : Traffic). t.received) s.told in
+    record {
+      in_order = sym (take-append-drop batches had.left) ∙ ap (λ (t : Traffic). t.received ++ t.left) (sym s.told);
+      few = subst (λ (n : ℕ). n ≤ batches) (sym (ap length got ∙ length-take batches had.left)) (min-le_left batches (length had.left));
+      asked = s.asked ∙ sym got;
+      each = s.each;
+      sent = ([], ap (λ (t : Traffic). t.sent) (sym s.told) ∙ sym (append-nil has.sent));
+    }
+
+module _ (options : Options) (batches : ℕ) where
+  -- what the fronts made of ends that tell, where all were served
+  record Built (rs : List FrontRun) (totals : Totals) (bs es : List EndFacts) : Type 0 where
+    pub fronts : List (List Dealing)
+    pub many : length fronts ≡ length rs
+    pub each : (f : ℕ) (d : List Dealing) (b a : EndFacts) → slice_get fronts f ≡ Some d → slice_get bs f ≡ Some b → slice_get es f ≡ Some a → DealsWithEnd batches d b a
+    pub answers : (f : ℕ) (r : FrontRun) (d : List Dealing) → slice_get rs f ≡ Some r → slice_get fronts f ≡ Some d
+        → AnswersInOrder options false r.old (turns_in d) r.new × (r.left ≤ r.left_after + count_of_writes (turns_in d))
+    pub counted : Counts fronts totals
+
+  abbrev Each : List FrontRun → List EndFacts → List EndFacts → Type 0
+  Each rs bs es = (f : ℕ) (r : FrontRun) (b a : EndFacts) → slice_get rs f ≡ Some r → slice_get bs f ≡ Some b → slice_get es f ≡ Some a → RunsFront options batches r b a
+
+  built : (rs : List FrontRun) (all : List Totals) (bs es : List EndFacts) → map (λ (r : FrontRun). r.answer) rs ≡ map (λ (t : Totals). Ok t) all → length bs ≡ length rs → length es ≡ length rs
+      → Each rs bs es → TellAll bs → Built rs (sum_of_totals all) bs es
+  built [] [] bs es same many many' each tell = record {
+    fronts = [];
+    many = refl;
+    each = λ f d b a is. absurd (cc);
+    answers = λ f r d is. absurd (cc);
+    counted = record { batches = refl; requests = refl; bad = refl };
+  }
+  built [] (t ∷ all) bs es same many many' each tell = absurd (cc)
+  built (r ∷ rs) [] bs es same many many' each tell = absurd (cc)
+  built (r ∷ rs) (t ∷ all) [] es same many many' each tell = absurd (omega arith)
+  built (r ∷ rs) (t ∷ all) (b ∷ bs) [] same many many' each tell = absurd (omega arith)
+  built (r ∷ rs) (t ∷ all) (b ∷ bs) (a ∷ es) same many many' each tell =
+      let answer : r.answer ≡ Ok t = cc in
+      let later : map (λ (r : FrontRun). r.answer) rs ≡ map (λ (t : Totals). Ok t) all = cc in
+      let rest = built rs all bs es later (omega arith) (omega arith) (λ f. each (suc f)) (λ i. tell (suc i)) in
+      let one = each 0 r b a refl refl refl in
+      let means = subst (λ x. MeansForFront x options batches r b a) answer one.means in
+      joined rest (told_of _ b.traffic a.traffic (tell 0 b refl) means.2)
+    where
+      joined : Built rs (sum_of_totals all) bs es
+          → ((had : Traffic) × (has : Traffic) × (b.traffic ≡ Some had) × (a.traffic ≡ Some has) × ServesEnd options false r.old r.left batches a.has_ended t r.new r.left_after had has)
+          → Built (r ∷ rs) (sum_of_totals (t ∷ all)) (b ∷ bs) (a ∷ es)
+      joined rest told =
+          let s = told.4 in
+          record {
+            fronts = s.dealings ∷ rest.fronts;
+            many = ap suc rest.many;
+            each = each_of rest told;
+            answers = answers_of rest told;
+            counted = subst (Counts (s.dealings ∷ rest.fronts)) (sum_of_cons t all) (counts_cons s.dealings rest.fronts t (sum_of_totals all) s.counts rest.counted);
+          }
+        where
+          each_of : (rest : Built rs (sum_of_totals all) bs es)
+              (told : (had : Traffic) × (has : Traffic) × (b.traffic ≡ Some had) × (a.traffic ≡ Some has) × ServesEnd options false r.old r.left batches a.has_ended t r.new r.left_after had has)
+              → (f : ℕ) (d : List Dealing) (x y : EndFacts) → slice_get (told.4.dealings ∷ rest.fronts) f ≡ Some d → slice_get (b ∷ bs) f ≡ Some x → slice_get (a ∷ es) f ≡ Some y → DealsWithEnd batches d x y
+          each_of rest told zero d x y is is' is'' =
+              let s = told.4 in
+              let same : s.dealings ≡ d = cc in
+              let first : b ≡ x = cc in
+              let second : a ≡ y = cc in
+              subst (λ (z : EndFacts). DealsWithEnd batches d z y) first (subst (λ (z : EndFacts). DealsWithEnd batches d b z) second
+              (subst (λ (ds : List Dealing). DealsWithEnd batches ds b a) same (record {
+                had = told.0;
+                had_is = told.2;
+                each = s.each;
+                asked = s.asked;
+                told = told.3 ∙ ap Some s.told;
+                at_end = s.at_end;
+              })))
+          each_of rest told (suc f) d x y is is' is'' = rest.each f d x y is is' is''
+
+          answers_of : (rest : Built rs (sum_of_totals all) bs es)
+              (told : (had : Traffic) × (has : Traffic) × (b.traffic ≡ Some had) × (a.traffic ≡ Some has) × ServesEnd options false r.old r.left batches a.has_ended t r.new r.left_after had has)
+              → (f : ℕ) (x : FrontRun) (d : List Dealing) → slice_get (r ∷ rs) f ≡ Some x → slice_get (told.4.dealings ∷ rest.fronts) f ≡ Some d
+              → AnswersInOrder options false x.old (turns_in d) x.new × (x.left ≤ x.left_after + count_of_writes (turns_in d))
+          answers_of rest told zero x d is is' =
+              let s = told.4 in
+              let same : s.dealings ≡ d = cc in
+              let first : r ≡ x = cc in
+              subst (λ (z : FrontRun). AnswersInOrder options false z.old (turns_in d) z.new × (z.left ≤ z.left_after + count_of_writes (turns_in d))) first
+              (subst (λ (ds : List Dealing). AnswersInOrder options false r.old (turns_in ds) r.new × (r.left ≤ r.left_after + count_of_writes (turns_in ds))) same (s.answers, s.few))
+          answers_of rest told (suc f) x d is is' = rest.answers f x d is is'
+
+  -- a sum over one list is that over another of the same length, place by place
+  same_sums : {X Y : Type 0} (g : X → ℕ) (h : Y → ℕ) (xs : List X) (ys : List Y) → length ys ≡ length xs
+      → ((i : ℕ) (x : X) (y : Y) → slice_get xs i ≡ Some x → slice_get ys i ≡ Some y → g x ≡ h y) → sum_by g xs ≡ sum_by h ys
+  same_sums g h [] [] many same = refl
+  same_sums g h [] (y ∷ ys) many same = absurd (omega arith)
+  same_sums g h (x ∷ xs) [] many same = absurd (omega arith)
+  same_sums g h (x ∷ xs) (y ∷ ys) many same =
+      omega (arith, sum_by-cons g x xs, sum_by-cons h y ys, same 0 x y refl refl, same_sums g h xs ys (omega arith) (λ i. same (suc i)))
+
+  all_served : (some : 1 ≤ options.partitions) (rs : List FrontRun) (totals : Totals) (kept : List Entry) (olds news : List EndFacts) → length olds ≡ length rs
+      → AreTakenIn options rs kept → Built rs totals olds news → ServesAll options batches totals kept olds news
+  all_served some rs totals kept olds news many taken b =
+      record {
+        fronts = b.fronts;
+        runs = taken.runs;
+        many = b.many ∙ sym many;
+        each = b.each;
+        ran = record { run = taken.ran.run; no_others = λ p lt. subst (λ (n : ℕ). All (λ q. q.front < n) (taken.runs p)) (sym b.many) (taken.ran.no_others p lt) };
+        answered = answered taken b;
+        counted = b.counted;
+        tables = record {
+          each = λ p entry is. record {
+            history = taken.history p entry is;
+            closed = taken.closed p entry is ∙ same_sums (closed_in p) (λ (d : List Dealing). length (gets_of options p (turns_in d))) rs b.fronts b.many
+                (λ f r d at at'. closed_gets options some taken.runs f (turns_in d) r.old r.new (one taken b f r d at at') p (omega (arith, place_below kept p entry is, taken.shapes.many)));
+          };
+        };
+      }
+    where
+      one : (taken : AreTakenIn options rs kept) (b : Built rs totals olds news) (f : ℕ) (r : FrontRun) (d : List Dealing) → slice_get rs f ≡ Some r → slice_get b.fronts f ≡ Some d
+          → AnsweredBeside options taken.runs f (turns_in d) r.old r.new
+      one taken b f r d at at' =
+          let t = taken.each f r at in
+          let a = b.answers f r d at at' in
+          record { answers = a.0; starts = t.starts; seen = t.seen; took = t.took; few = omega (arith, t.sent, a.1) }
+
+      answered : (taken : AreTakenIn options rs kept) (b : Built rs totals olds news) (f : ℕ) (d : List Dealing) → slice_get b.fronts f ≡ Some d
+          → (old : Sessions) × (new : Sessions) × AnsweredBeside options taken.runs f (turns_in d) old new
+      answered taken b f d is =
+          let r = some_at rs f (omega (arith, place_below b.fronts f d is, b.many)) in
+          (r.0.old, r.0.new, one taken b f r.0 d r.1 is)
+
+  answer_at : (rs : List FrontRun) (f : ℕ) (answer : Result Totals ServeFault) → slice_get (map (λ (r : FrontRun). r.answer) rs) f ≡ Some answer
+      → (r : FrontRun) × (slice_get rs f ≡ Some r) × (r.answer ≡ answer)
+  answer_at [] zero answer is = absurd (cc)
+  answer_at [] (suc f) answer is = absurd (cc)
+  answer_at (r ∷ rs) zero answer is = (r, refl, cc)
+  answer_at (r ∷ rs) (suc f) answer is = answer_at rs f answer is
+
+  in_part : (r : FrontRun) (b a : EndFacts) (answer : Result Totals ServeFault) → r.answer ≡ answer → answer ≢ Err NoMemory → MeansForFront answer options batches r b a → is_some b.traffic ≡ true
+      → DealsInPartWithEnd batches b a
+  in_part r b a (Ok t) is other means tells =
+      let told = told_of _ b.traffic a.traffic tells means.2 in
+      (told.0, told.1, told.4.dealings, told.2, told.3, begins options r.old r.new r.left r.left_after batches a.has_ended t told.0 told.1 told.4)
+  in_part r b a (Err Net) is other means tells =
+      let told = told_of _ b.traffic a.traffic tells means.1 in
+      (told.0, told.1, told.4.dealings, told.2, told.3, told.4.begins)
+  in_part r b a (Err NoMemory) is other means tells = absurd (other refl)
+
+  -- what is kept: the seats where all were served, and else nothing
+  abbrev pub KeepsWhere : Result Totals ServeFault → List FrontRun → List Entry → Type 0
+  KeepsWhere (Ok totals) rs kept = AreTakenIn options rs kept
+  KeepsWhere (Err fault) rs kept = kept ≡ []
+
+  pub gathered : (some : 1 ≤ options.partitions) (rs : List FrontRun) (kept : List Entry) (olds news : List EndFacts) (run : RunFronts options batches rs olds news)
+      (answer : Result Totals ServeFault) → SumsUp (map (λ (r : FrontRun). r.answer) rs) answer → KeepsWhere answer rs kept → ServesFronts options batches answer kept olds news
+  gathered some rs kept olds news run answer sums keeps = record {
+    many = run.many_after ∙ sym run.many_before;
+    keeps = λ i b a is is'.
+        let r = some_at rs i (omega (arith, place_below olds i b is, run.many_before)) in
+        (run.each i r.0 b a r.1 is is').keeps;
+    means = means answer sums keeps;
+  }
+    where
+      means : (answer : Result Totals ServeFault) → SumsUp (map (λ (r : FrontRun). r.answer) rs) answer → KeepsWhere answer rs kept → MeansForEnds answer options batches kept olds news
+      means (Ok totals) sums taken = (
+        taken.shapes,
+        λ i b a is is' scripted.
+            let r = some_at rs i (omega (arith, place_below olds i b is, run.many_before)) in
+            let t = some_at sums.0 i (omega (arith, place_below olds i b is, run.many_before, ap length sums.1, length-map rs (λ (r : FrontRun). r.answer), length-map {B = Result Totals ServeFault} sums.0 (λ (t : Totals). Ok t))) in
+            let at : slice_get (map (λ (r : FrontRun). r.answer) rs) i ≡ Some r.0.answer = slice_get-map (λ (r : FrontRun). r.answer) rs i ∙ ap (option_map (λ (r : FrontRun). r.answer)) r.1 in
+            let at' : slice_get (map as_ok sums.0) i ≡ Some (as_ok t.0) = slice_get-map as_ok sums.0 i ∙ ap (option_map as_ok) t.1 in
+            let both = ap (λ (l : List (Result Totals ServeFault)). slice_get l i) sums.1 in
+            let answer : r.0.answer ≡ as_ok t.0 = same_answer (sym at ∙ both ∙ at') in
+            (subst (λ x. MeansForFront x options batches r.0 b a) answer (run.each i r.0 b a r.1 is is').means).1 scripted,
+        λ tell. all_served some rs totals kept olds news run.many_before taken
+            (subst (λ (t : Totals). Built rs t olds news) (sym sums.2) (built rs sums.0 olds news sums.1 run.many_before run.many_after run.each tell)),
+      )
+      means (Err Net) sums none =
+          let r = answer_at rs sums.0 (Err Net) sums.1 in
+          let b = some_at olds sums.0 (omega (arith, place_below rs sums.0 r.0 r.1, run.many_before)) in
+          let a = some_at news sums.0 (omega (arith, place_below rs sums.0 r.0 r.1, run.many_after)) in
+          let m = subst (λ x. MeansForFront x options batches r.0 b.0 a.0) r.2 (run.each sums.0 r.0 b.0 a.0 r.1 b.1 a.1).means in (
+            none,
+            record {
+              front = sums.0;
+              old = b.0;
+              new = a.0;
+              was = b.1;
+              is = a.1;
+              rose = m.0;
+              stops = λ tell. let t = told_of _ b.0.traffic a.0.traffic (tell sums.0 b.0 b.1) m.1 in record { had = t.0; has = t.1; had_is = t.2; has_is = t.3; leaves = t.4 };
+            },
+            λ tell i x y is is'.
+                let q = some_at rs i (omega (arith, place_below olds i x is, run.many_before)) in
+                let at : slice_get (map (λ (r : FrontRun). r.answer) rs) i ≡ Some q.0.answer = slice_get-map (λ (r : FrontRun). r.answer) rs i ∙ ap (option_map (λ (r : FrontRun). r.answer)) q.1 in
+                in_part q.0 x y q.0.answer refl (λ e. sums.2 i (at ∙ ap Some e)) (run.each i q.0 x y q.1 is is').means (tell i x is),
+          )
+      means (Err NoMemory) sums none = none
+
+  -- what is kept of the seats that the owners may leave
+  abbrev pub KeepsOf : Result Totals ServeFault → List Entry → List Entry → Type 0
+  KeepsOf (Ok totals) left kept = kept ≡ left
+  KeepsOf (Err fault) left kept = kept ≡ []
+
+  pub all_ran : (some : 1 ≤ options.partitions) (left kept : List Entry) (answers : List (Result Totals ServeFault)) (olds news : List EndFacts) (ran : RanAll options batches left answers olds news)
+      (answer : Result Totals ServeFault) → SumsUp answers answer → KeepsOf answer left kept → ServesFronts options batches answer kept olds news
+  all_ran some left kept answers olds news ran answer sums keeps =
+      gathered some ran.fronts kept olds news ran.run answer (subst (λ (l : List (Result Totals ServeFault)). SumsUp l answer) ran.answers_are sums) (by answer keeps)
+    where
+      by : (answer : Result Totals ServeFault) → KeepsOf answer left kept → KeepsWhere answer ran.fronts kept
+      by (Ok totals) same = subst (AreTakenIn options ran.fronts) (sym same) ran.taken
+      by (Err fault) none = none
+
+  -- as many answers as ends, and each that counts counts no more than its front was given
+  pub few_answers : (left : List Entry) (answers : List (Result Totals ServeFault)) (olds news : List EndFacts) → RanAll options batches left answers olds news → length answers ≡ length olds
+  few_answers left answers olds news ran = ap length ran.answers_are ∙ length-map ran.fronts (λ (r : FrontRun). r.answer) ∙ sym ran.run.many_before
+
+  pub small_answers : (left : List Entry) (answers : List (Result Totals ServeFault)) (olds news : List EndFacts) → RanAll options batches left answers olds news → batches ≤ 1000000
+      → (f : ℕ) (totals : Totals) → slice_get answers f ≡ Some (Ok totals) → IsUpTo 1000000 totals
+  small_answers left answers olds news ran few f totals is =
+      let r = answer_at ran.fronts f (Ok totals) (ap (λ l. slice_get l f) (sym ran.answers_are) ∙ is) in
+      let b = some_at olds f (omega (arith, place_below ran.fronts f r.0 r.1, ran.run.many_before)) in
+      let a = some_at news f (omega (arith, place_below ran.fronts f r.0 r.1, ran.run.many_after)) in
+      let up = (subst (λ x. MeansForFront x options batches r.0 b.0 a.0) r.2 (ran.run.each f r.0 b.0 a.0 r.1 b.1 a.1).means).0 in
+      record { datagrams = omega (arith, up.datagrams, few); requests = omega (arith, up.requests, few); refused = omega (arith, up.refused, few) }

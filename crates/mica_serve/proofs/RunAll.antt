@@ -1,0 +1,157 @@
+-- The workers of a server: that they may run and meet, and what they came to.
+use Rattle.std.proofs.Common.{◌≡◌, ℕ, suc, ◌*◌, ◌≤◌, List, [], ◌∷◌, ◌++◌, length, map, Some, refl, sym, ap, ◌∙◌, subst, slice_get, arith, All}
+use Rattle.std.specs.List.{AllZip, AllByRecursion}
+use Rattle.std.proofs.lemmas.List.{length-map}
+use Rattle.std.proofs.lemmas.List.Elements.{All-from_recursion}
+use Rattle.atomic_table.specs.Seated.{TableId}
+use Rattle.mica_model.specs.declared.options.Options.{Options}
+use Rattle.epoch_core.specs.declared.state.OwnerState.{OwnerState}
+use Rattle.epoch_core.specs.declared.state.Phase.TheVariants.{Idle}
+use Rattle.partition_table.specs.Tabled.{entry_in}
+use Rattle.partition_table.specs.declared.tables.Entry.{Entry}
+use Rattle.owner_queue.specs.JobEnds.{Inbox}
+use Rattle.owner_queue.specs.AckEnds.{AckBox}
+use Rattle.mica_serve.specs.declared.ports.Ports.{Ports}
+use Rattle.mica_serve.specs.declared.queue_front.FrontPart.{FrontPart}
+use Rattle.mica_serve.specs.declared.worker.OwnerTask.{OwnerTask}
+use Rattle.mica_serve.specs.declared.worker.FrontTask.{FrontTask}
+use Rattle.mica_serve.specs.declared.worker.Worker.{Worker}
+use Rattle.mica_serve.specs.declared.worker.Worker.TheVariants.{Owner, Front}
+use Rattle.mica_serve.specs.Ends.{EndFacts, AreOpen}
+use Rattle.mica_serve.specs.FrontRuns.{RanAll}
+use Rattle.mica_serve.specs.Hands.{OwnerEnd, IsReadyOwner, IsNewOwner, AreFrontsOf, RanOwner, MayMeetAll, HaveMetAll}
+use Rattle.mica_serve.specs.OwnerWork.{IsNewAckBox}
+use Rattle.mica_serve.specs.QueueFront.{QueueView}
+use Rattle.mica_serve.specs.Tasks.{owner_end, IsReadyFront, IsReadyWorker, FrontRan, WorkersRan, owners_in, fronts_in}
+use Rattle.mica_serve.proofs.Binding.{place_below}
+use Rattle.mica_serve.proofs.Gathered.{some_at}
+use Rattle.mica_serve.proofs.WorkerParts.{all_ready, owners_ran, fronts_ran}
+use Rattle.mica_serve.proofs.TakenIn.{may_meet, ran_all, zip_long, zip_at, map_at, at_map}
+
+-- what each place has, all have
+all_places : {X : Type 0} (Q : X → Type 0) (xs : List X) → ((i : ℕ) (x : X) → slice_get xs i ≡ Some x → Q x) → AllByRecursion Q xs
+all_places Q [] each = tt
+all_places Q (x ∷ xs) each = (each 0 x refl, all_places Q xs (λ i. each (suc i)))
+
+pub maps : {X Y Z : Type 0} (f : Y → Z) (g : X → Y) (xs : List X) → map f (map g xs) ≡ map (λ x. f (g x)) xs
+maps f g [] = refl
+maps f g (x ∷ xs) = ap (λ l. f (g x) ∷ l) (maps f g xs)
+
+zip_maps : {X Y : Type 0} (Q : Y → Y → Type 0) (g : X → Y) (xs ys : List X) → AllZip (λ x y. Q (g x) (g y)) xs ys → AllZip Q (map g xs) (map g ys)
+zip_maps Q g [] [] z = tt
+zip_maps Q g [] (y ∷ ys) z = absurd z
+zip_maps Q g (x ∷ xs) [] z = absurd z
+zip_maps Q g (x ∷ xs) (y ∷ ys) z = (z.0, zip_maps Q g xs ys z.1)
+
+ready_owner : (options : Options) (fronts most : ℕ) (owner : OwnerEnd) → IsNewOwner options fronts most owner → IsReadyOwner owner
+ready_owner options fronts most owner new = record {
+  fresh = ap (λ (b : Inbox). b.taken) new.jobs;
+  many = new.acks ∙ sym (ap (λ (b : Inbox). b.senders) new.jobs);
+  unsent = All-from_recursion (IsNewAckBox owner.table owner.state) owner.acks (all_places (IsNewAckBox owner.table owner.state) owner.acks
+      (λ f a at. let is = new.unsent f a at in
+      record { table = ap (λ (b : AckBox). b.table) is; shape = ap (λ (b : AckBox). b.shape) is; none = ap (λ (b : AckBox). b.list) is }));
+}
+
+module _ {P D : Type 0} (owner : P → OwnerState) (home : P → TableId) (facts : D → EndFacts) (options : Options) (ports : Ports) where
+  abbrev end_of_owner : OwnerTask P → OwnerEnd
+  end_of_owner t = owner_end owner home t
+
+  -- owners and fronts as made, and each front with its end
+  pub record Paired (os : List (OwnerTask P)) (views : List QueueView) (tasks : List (FrontTask D)) (ends : List D) : Type 0 where
+    pub some : 1 ≤ options.partitions
+    pub opened : AreFrontsOf options ports.fronts (255 * ports.batches) (map end_of_owner os) views
+    pub fronts : map (λ (t : FrontTask D). t.front) tasks ≡ map (λ (v : QueueView). Some v) views
+    pub own_ends : map (λ (t : FrontTask D). t.end) tasks ≡ ends
+
+  -- and these they are after all of them ran as workers
+  pub record Ran (os : List (OwnerTask P)) (views : List QueueView) (tasks : List (FrontTask D)) (ends : List D) (owners : List (OwnerTask P)) (served : List (FrontTask D)) : Type 0 where
+    pub paired : Paired os views tasks ends
+    pub ws : List (Worker P D)
+    pub vs : List (Worker P D)
+    pub gathered : ws ≡ map Owner os ++ map Front tasks
+    pub ran : WorkersRan owner home ports.batches facts ws vs
+    pub owners_are : owners ≡ owners_in vs
+    pub served_are : served ≡ fronts_in vs
+
+  module _ {os : List (OwnerTask P)} {views : List QueueView} {tasks : List (FrontTask D)} {ends : List D} where
+    -- all may run
+    pub ready : Paired os views tasks ends → AreOpen (map facts ends) → (ws : List (Worker P D)) → ws ≡ map Owner os ++ map Front tasks → All (IsReadyWorker owner home ports.batches facts) ws
+    ready paired opens ws are =
+        subst (All (IsReadyWorker owner home ports.batches facts)) (sym are)
+        (all_ready owner home ports.batches facts os tasks
+        (All-from_recursion (λ (t : OwnerTask P). IsReadyOwner (end_of_owner t)) os (all_places (λ (t : OwnerTask P). IsReadyOwner (end_of_owner t)) os
+        (λ p t at. ready_owner options ports.fronts (255 * ports.batches) (end_of_owner t) (paired.opened.lent.fresh p (end_of_owner t) (at_map end_of_owner os p t at)))))
+        (All-from_recursion (IsReadyFront ports.batches facts) tasks (all_places (IsReadyFront ports.batches facts) tasks (front_ready paired opens))))
+      where
+        front_ready : Paired os views tasks ends → AreOpen (map facts ends) → (f : ℕ) (t : FrontTask D) → slice_get tasks f ≡ Some t → IsReadyFront ports.batches facts t
+        front_ready paired opens f t at =
+            let here : slice_get (map (λ (v : QueueView). Some v) views) f ≡ Some t.front = ap (λ l. slice_get l f) (sym paired.fronts) ∙ at_map (λ (t : FrontTask D). t.front) tasks f t at in
+            let v = map_at (λ (v : QueueView). Some v) views f t.front here in
+            let own : slice_get (map facts ends) f ≡ Some (facts t.end) =
+            at_map facts ends f t.end (ap (λ l. slice_get l f) (sym paired.own_ends) ∙ at_map (λ (t : FrontTask D). t.end) tasks f t at) in
+            let is = opens f (facts t.end) own in
+            let left : v.0.left ≡ 255 * ports.batches = ap (λ (w : QueueView). w.left) (paired.opened.each f v.0 v.1) in
+            record { front = v.0; front_is = sym v.2; left = omega (arith, left); unended = is.0; fresh = is.1 }
+
+    pub has_ran : 1 ≤ options.partitions → AreFrontsOf options ports.fronts (255 * ports.batches) (map end_of_owner os) views → map (λ (t : FrontTask D). t.front) tasks ≡ map (λ (v : QueueView). Some v) views
+        → map (λ (t : FrontTask D). t.end) tasks ≡ ends → {ws : List (Worker P D)} (vs : List (Worker P D)) {owners : List (OwnerTask P)} {served : List (FrontTask D)} → ws ≡ map Owner os ++ map Front tasks
+        → WorkersRan owner home ports.batches facts ws vs → owners ≡ owners_in vs → served ≡ fronts_in vs → Ran os views tasks ends owners served
+    has_ran some opened fronts own_ends {ws} vs gathered ran owners_are served_are = record {
+      paired = record { some = some; opened = opened; fronts = fronts; own_ends = own_ends };
+      ws = ws;
+      vs = vs;
+      gathered = gathered;
+      ran = ran;
+      owners_are = owners_are;
+      served_are = served_are;
+    }
+
+    module _ {owners : List (OwnerTask P)} {served : List (FrontTask D)} (r : Ran os views tasks ends owners served) where
+      owners_zip : AllZip RanOwner (map end_of_owner os) (map end_of_owner owners)
+      owners_zip = zip_maps RanOwner end_of_owner os owners
+          (subst (λ (l : List (OwnerTask P)). AllZip (λ o v. RanOwner (end_of_owner o) (end_of_owner v)) os l) (sym r.owners_are) (owners_ran owner home ports.batches facts os tasks r.ws r.vs r.gathered r.ran))
+
+      fronts_zip : AllZip (FrontRan ports.batches facts) tasks served
+      fronts_zip = subst (λ (l : List (FrontTask D)). AllZip (FrontRan ports.batches facts) tasks l) (sym r.served_are) (fronts_ran owner home ports.batches facts os tasks r.ws r.vs r.gathered r.ran)
+
+      -- as many fronts as before
+      pub served_long : length served ≡ length views
+      served_long = zip_long (FrontRan ports.batches facts) tasks served fronts_zip ∙ sym (length-map tasks (λ (t : FrontTask D). t.front)) ∙ ap length r.paired.fronts ∙ length-map views (λ (v : QueueView). Some v)
+
+      -- the owners may meet the fronts
+      pub meeting : (parts : List (List FrontPart)) → parts ≡ map (λ (t : FrontTask D). t.parts.items) served → MayMeetAll (map end_of_owner owners) parts
+      meeting parts are =
+          subst (λ (l : List (List FrontPart)). MayMeetAll (map end_of_owner owners) l) (sym are)
+          (may_meet ports.batches facts options ports.fronts (255 * ports.batches) r.paired.some (map end_of_owner os) (map end_of_owner owners) views r.paired.opened owners_zip tasks served fronts_zip r.paired.fronts)
+
+      module _ (parts : List (List FrontPart)) (parts_are : parts ≡ map (λ (t : FrontTask D). t.parts.items) served) (after : List (OwnerTask P))
+          (met : HaveMetAll (map end_of_owner owners) (map end_of_owner after) parts) where
+        here : HaveMetAll (map end_of_owner owners) (map end_of_owner after) (map (λ (t : FrontTask D). t.parts.items) served)
+        here = subst (λ (l : List (List FrontPart)). HaveMetAll (map end_of_owner owners) (map end_of_owner after) l) parts_are met
+
+        -- what all came to
+        pub all_came : (news : List D) → news ≡ map (λ (t : FrontTask D). t.end) served
+            → RanAll options ports.batches (map (λ (t : OwnerTask P). entry_in (owner t.part)) after) (map (λ (t : FrontTask D). t.answer) served) (map facts ends) (map facts news)
+        all_came news news_are =
+            let it = ran_all ports.batches facts options ports.fronts (255 * ports.batches) r.paired.some (map end_of_owner os) (map end_of_owner owners) views r.paired.opened owners_zip tasks served fronts_zip
+            r.paired.fronts (map end_of_owner after) here in
+            let kept = maps (λ (o : OwnerEnd). entry_in o.state) end_of_owner after in
+            let one : map (λ (t : FrontTask D). facts t.end) tasks ≡ map facts ends = sym (maps facts (λ (t : FrontTask D). t.end) tasks) ∙ ap (map facts) r.paired.own_ends in
+            let two : map (λ (t : FrontTask D). facts t.end) served ≡ map facts news = sym (maps facts (λ (t : FrontTask D). t.end) served) ∙ ap (map facts) (sym news_are) in
+            let left = map (λ (o : OwnerEnd). entry_in o.state) (map end_of_owner after) in
+            let answers = map (λ (t : FrontTask D). t.answer) served in
+            subst (λ (k : List Entry). RanAll options ports.batches k answers (map facts ends) (map facts news)) kept
+            (subst (λ (b : List EndFacts). RanAll options ports.batches left answers b (map facts news)) one
+            (subst (λ (a : List EndFacts). RanAll options ports.batches left answers (map (λ (t : FrontTask D). facts t.end) tasks) a) two it))
+
+        -- the owners are idle
+        pub idle : (p : ℕ) (task : OwnerTask P) → slice_get after p ≡ Some task → (owner task.part).phase ≡ Idle
+        idle p task at =
+            let one = length-map after end_of_owner in
+            let two = length-map owners end_of_owner in
+            let many = zip_long RanOwner (map end_of_owner os) (map end_of_owner owners) owners_zip in
+            let now = some_at (map end_of_owner owners) p (omega (arith, place_below after p task at, met.many)) in
+            let old = some_at (map end_of_owner os) p (omega (arith, place_below (map end_of_owner owners) p now.0 now.1)) in
+            let z = zip_at RanOwner (map end_of_owner os) (map end_of_owner owners) p old.0 now.0 owners_zip old.1 now.1 in
+            let same = met.same p now.0 (end_of_owner task) now.1 (at_map end_of_owner after p task at) in
+            ap (λ (o : OwnerEnd). o.state.phase) same ∙ ap (λ (s : OwnerState). s.phase) z.served.gained ∙ ap (λ (s : OwnerState). s.phase) (r.paired.opened.lent.fresh p old.0 old.1).state

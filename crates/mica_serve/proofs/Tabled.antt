@@ -1,0 +1,23 @@
+-- A server with its tables is one that served.
+use Rattle.std.proofs.Common.{Option, Some, None, List}
+use Rattle.mica_io.specs.Ports.{Ports}
+use Rattle.mica_model.specs.declared.options.Options.{Options}
+use Rattle.partition_table.specs.declared.tables.Entry.{Entry}
+use Rattle.mica_serve.specs.declared.ports.Ports.{Ports as PortOptions}
+use Rattle.mica_serve.specs.declared.ports.Totals.{Totals}
+use Rattle.mica_serve.specs.Served.{Serves}
+use Rattle.mica_serve.specs.Beside.{ServesOnTables}
+use Rattle.mica_serve.specs.NetRun.{NetFacts, OnPorts, HasServed, HasServedOnTables}
+
+on_ports_as : (P Q : Ports → Ports → Type 0) → ((a b : Ports) → P a b → Q a b) → (a b : Option Ports) → OnPorts P a b → OnPorts Q a b
+on_ports_as P Q f None b p = p
+on_ports_as P Q f (Some a) None p = absurd p
+on_ports_as P Q f (Some a) (Some b) p = f a b p
+
+pub has_served : (options : Options) (ports : PortOptions) (totals : Totals) (kept : List Entry) (before after : NetFacts)
+    → HasServedOnTables options ports totals kept before after → HasServed options ports totals before after
+has_served options ports totals kept before after h = record {
+  served = on_ports_as (ServesOnTables options ports totals kept) (Serves options ports totals)
+      (λ a b s. record { fronts = s.fronts; runs = s.runs; served = s.served; counted = s.counted }) before.ports after.ports h.served;
+  no_fault = h.no_fault;
+}

@@ -1,0 +1,56 @@
+use Rattle.std.proofs.Common.{rules, ◌≡◌, ◌+◌, ◌<◌, ℕ, length, vec_len, map, ◌∙◌, subst}
+use Rattle.std.specs.Prelude.{is_some, IfSome}
+use Rattle.std.proofs.lemmas.List.{length-map}
+use Rattle.mica_io.specs.Ports.{out}
+use Rattle.mica_serve.specs.Ends.{EndFacts}
+use Rattle.mica_serve.specs.NetRun.{NetFacts}
+use Rattle.mica_serve.proofs.Whole.{kept_at, out_until, tell_until, keeps, cause}
+use Rattle.mica_serve.proofs.run.serve_on.Given as given
+use Rattle.mica_serve.proofs.run.serve_on.Goals as goal
+
+abbrev facts : (g : given.Over) → g.row.N-End.Denot → EndFacts
+facts g e = record {
+  port = g.N.End.Datagrams.port e;
+  traffic = g.N.End.Datagrams.traffic e;
+  faults = g.N.End.Datagrams.faults e;
+  has_ended = g.N.End.Datagrams.has_ended e;
+  has_script = is_some (g.N.End.Datagrams.script e);
+}
+
+abbrev net_facts : (g : given.Over) → g.row.N.Denot → NetFacts
+net_facts g n = record {
+  faults = g.N.Net.faults n;
+  binds = g.N.Net.binds n;
+  first = g.N.Net.first n;
+  refused = g.N.Net.refused n;
+  ports = g.N.Net.ports n;
+  fails = g.N.Net.fails n;
+}
+
+pub release_all-requires-clause-ports : goal.release_all-requires-clause-ports
+release_all-requires-clause-ports g c _ _ =
+    let run = c.bind_and_serve-answer.ensures in
+    kept_at c.args.ports.now.port run.olds (map (facts g) c.bind_and_serve-answer.new.ends.items) run.many run.are_new run.keeps
+
+pub release_all-requires-clause-out : goal.release_all-requires-clause-out
+release_all-requires-clause-out g c _ _ =
+    let run = c.bind_and_serve-answer.ensures in
+    let items = c.bind_and_serve-answer.new.ends.items in
+    let size : length (map (facts g) items) ≡ vec_len c.bind_and_serve-answer.new.ends = length-map items (facts g) ∙ (search rules) in
+    subst (λ (n : ℕ). IfSome (g.N.Net.ports c.bind_and_serve-answer.new.net) (λ all. (i : ℕ) → i < n → all (c.args.ports.now.port + i) ≡ out)) size
+    (out_until c.args.ports.now.port run.olds (map (facts g) items) (g.N.Net.ports c.args.net.now) (g.N.Net.ports c.bind_and_serve-answer.new.net) run.many run.bound)
+
+pub release_all-requires-clause-tell : goal.release_all-requires-clause-tell
+release_all-requires-clause-tell g c _ _ =
+    let run = c.bind_and_serve-answer.ensures in
+    tell_until c.args.ports.now.port run.olds (map (facts g) c.bind_and_serve-answer.new.ends.items) (g.N.Net.ports c.args.net.now) (g.N.Net.ports c.bind_and_serve-answer.new.net) run.many run.keeps run.bound
+
+pub returns-clause-cause : goal.returns-clause-cause
+returns-clause-cause g c =
+    cause c.args.options.now c.requires.options.partitions.0 c.args.ports.now c.bind_and_serve-answer.new.tables (net_facts g c.args.net.now) (net_facts g c.bind_and_serve-answer.new.net) (net_facts g c.release_all.new.net)
+    (map (facts g) c.bind_and_serve-answer.new.ends.items) c.release_all.ensures c.bind_and_serve-answer.result c.bind_and_serve-answer.ensures
+
+pub returns-clause-kept : goal.returns-clause-kept
+returns-clause-kept g c =
+    keeps c.args.options.now c.requires.options.partitions.0 c.args.ports.now c.bind_and_serve-answer.new.tables (net_facts g c.args.net.now) (net_facts g c.bind_and_serve-answer.new.net) (net_facts g c.release_all.new.net)
+    (map (facts g) c.bind_and_serve-answer.new.ends.items) c.release_all.ensures c.bind_and_serve-answer.result c.bind_and_serve-answer.ensures

@@ -1,0 +1,35 @@
+use Rattle.std.proofs.Common.{sym, ◌∙◌}
+use Rattle.std.specs.Prelude.{is_some}
+use Rattle.mica_serve.specs.QueueFront.{sessions_of}
+use Rattle.mica_serve.specs.Ends.{EndFacts}
+use Rattle.mica_serve.proofs.FrontEnds.{runs_front, tells_still}
+use Rattle.mica_serve.proofs.worker.FrontTask.run.Goals as goal
+
+pub returns : goal.returns
+returns g c =
+    let facts : g.row.D.Denot → EndFacts = λ e. record {
+      port = g.D.Datagrams.port e;
+      traffic = g.D.Datagrams.traffic e;
+      faults = g.D.Datagrams.faults e;
+      has_ended = g.D.Datagrams.has_ended e;
+      has_script = is_some (g.D.Datagrams.script e);
+    } in
+    let old = c.in-Some.front in
+    let new = c.serve_end-self.new.front in
+    let b = facts c.args.self.now.end in
+    let a = facts c.serve_end-self.new.end in
+    let served = c.serve_end-self.ensures in
+    record {
+      front = old;
+      front_is = sym c.take.ensures.value ∙ c.in-Some.is;
+      ran = record {
+        new = new;
+        is = c.end.ensures.front;
+        options_are = served.options;
+        stands = served.stands;
+        ended = c.end.ensures.ended;
+        run = runs_front old.options c.args.batches (record { answer = c.serve_end-self.result; old = sessions_of old.parts; new = sessions_of new.parts; left = old.left; left_after = new.left }) b a
+            (record { port = served.port; never_fall = served.never_fall; tells = tells_still b.traffic a.traffic served.tells; scripted = served.script })
+            served.served served.stopped served.cause served.small served.steady;
+      };
+    }

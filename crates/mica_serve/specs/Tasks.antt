@@ -1,0 +1,88 @@
+-- What the workers of a server have to do, and what each makes of it.
+use Rattle.std.specs.Prelude.{◌≡◌, ◌*◌, ◌+◌, ◌<◌, ◌≤◌, ℕ, false, List, [], ◌∷◌, map, length, slice_index_or, Some, IfSome, vec_capacity, Result}
+use Rattle.atomic_table.specs.Seated.{TableId}
+use Rattle.mica_io.specs.Traffic.{new_traffic}
+use Rattle.epoch_core.specs.declared.state.OwnerState.{OwnerState}
+use Rattle.mica_serve.specs.declared.queue_front.FrontPart.{FrontPart}
+use Rattle.mica_serve.specs.declared.ports.Totals.{Totals}
+use Rattle.mica_serve.specs.declared.ports.ServeFault.{ServeFault}
+use Rattle.mica_serve.specs.declared.worker.OwnerTask.{OwnerTask}
+use Rattle.mica_serve.specs.declared.worker.FrontTask.{FrontTask}
+use Rattle.mica_serve.specs.declared.worker.Worker.{Worker}
+use Rattle.mica_serve.specs.declared.worker.Worker.TheVariants.{Owner, Front}
+use Rattle.mica_serve.specs.declared.running.Room.{Room}
+use Rattle.mica_serve.specs.declared.running.Server.{Server}
+use Rattle.mica_serve.specs.declared.ports.Ports.{Ports}
+use Rattle.mica_model.specs.declared.options.Options.{Options}
+use Rattle.mica_serve.specs.QueueFront.{QueueView, IsQueueFront, stand_of, sessions_of, ended_part}
+use Rattle.mica_serve.specs.Ends.{EndFacts}
+use Rattle.mica_serve.specs.FrontRuns.{RunsFront}
+use Rattle.mica_serve.specs.Hands.{OwnerEnd, IsReadyOwner, RanOwner, AreFrontsOf}
+
+abbrev pub owner_end : {P : Type 0} → (P → OwnerState) → (P → TableId) → OwnerTask P → OwnerEnd
+owner_end owner home task = record { state = owner task.part; table = home task.part; jobs = task.jobs; acks = task.acks.items }
+
+-- A front was served at the end of its place by a front that had these parts, and has these once it ended.
+pub record RanFront (batches : ℕ) (old : QueueView) (answer : Result Totals ServeFault) (parts : List FrontPart) (before after : EndFacts) : Type 0 where
+  pub new : QueueView
+  pub is : IsQueueFront new
+  pub options_are : new.options ≡ old.options
+  pub stands : map stand_of new.parts ≡ map stand_of old.parts
+  pub ended : parts ≡ map (ended_part new.number) new.parts
+  pub run : RunsFront old.options batches
+      (record { answer = answer; old = sessions_of old.parts; new = sessions_of new.parts; left = old.left; left_after = new.left }) before after
+
+module _ {D : Type 0} where
+  -- a front with a new end
+  pub record IsReadyFront (batches : ℕ) (facts : D → EndFacts) (task : FrontTask D) : Type 0 where
+    pub front : QueueView
+    pub front_is : task.front ≡ Some front
+    pub left : 255 * batches ≤ front.left
+    pub unended : (facts task.end).has_ended ≡ false
+    pub fresh : IfSome (facts task.end).traffic (λ t. t ≡ new_traffic t.left)
+
+  pub record FrontRan (batches : ℕ) (facts : D → EndFacts) (old new : FrontTask D) : Type 0 where
+    pub front : QueueView
+    pub front_is : old.front ≡ Some front
+    pub ran : RanFront batches front new.answer new.parts.items (facts old.end) (facts new.end)
+
+module _ {P D : Type 0} where
+  module _ (owner : P → OwnerState) (home : P → TableId) (batches : ℕ) (facts : D → EndFacts) where
+    abbrev pub IsReadyWorker : Worker P D → Type 0
+    IsReadyWorker (Owner task) = IsReadyOwner (owner_end owner home task)
+    IsReadyWorker (Front task) = IsReadyFront batches facts task
+
+    abbrev pub WorkerRan : Worker P D → Worker P D → Type 0
+    WorkerRan (Owner old) (Owner new) = RanOwner (owner_end owner home old) (owner_end owner home new)
+    WorkerRan (Front old) (Front new) = FrontRan batches facts old new
+    WorkerRan _ _ = ⊥
+
+    abbrev pub WorkersRan : List (Worker P D) → List (Worker P D) → Type 0
+    WorkersRan xs ys = (length ys ≡ length xs) × ((i : ℕ) (d : Worker P D) → i < length xs → WorkerRan (slice_index_or xs i d) (slice_index_or ys i d))
+
+  -- the owners among the workers, in order
+  abbrev pub owners_in : List (Worker P D) → List (OwnerTask P)
+  owners_in [] = []
+  owners_in (Owner task ∷ workers) = task ∷ owners_in workers
+  owners_in (Front task ∷ workers) = owners_in workers
+
+  -- the fronts among them
+  abbrev pub fronts_in : List (Worker P D) → List (FrontTask D)
+  fronts_in [] = []
+  fronts_in (Owner task ∷ workers) = fronts_in workers
+  fronts_in (Front task ∷ workers) = task ∷ fronts_in workers
+
+  -- empty rows with room for so many workers, and for what they come to
+  pub record IsRoom (owners fronts : ℕ) (room : Room P D) : Type 0 where
+    pub workers : (room.workers.items ≡ []) × (owners + fronts ≤ vec_capacity room.workers)
+    pub served_owners : (room.served_owners.items ≡ []) × (owners + fronts ≤ vec_capacity room.served_owners)
+    pub paired : (room.paired.items ≡ []) × (fronts ≤ vec_capacity room.paired)
+    pub served_fronts : (room.served_fronts.items ≡ []) × (owners + fronts ≤ vec_capacity room.served_fronts)
+    pub ends : (room.ends.items ≡ []) × (fronts ≤ vec_capacity room.ends)
+    pub hands : (room.hands.items ≡ []) × (fronts ≤ vec_capacity room.hands)
+    pub answers : (room.answers.items ≡ []) × (fronts ≤ vec_capacity room.answers)
+
+  -- the owners as made, a front before them for each port, and room for all
+  pub record IsServer (owner : P → OwnerState) (home : P → TableId) (options : Options) (ports : Ports) (server : Server P D) : Type 0 where
+    pub made : AreFrontsOf options ports.fronts (255 * ports.batches) (map (owner_end owner home) server.owners.items) server.fronts.items
+    pub room : IsRoom (length server.owners.items) (length server.fronts.items) server.room

@@ -1,0 +1,28 @@
+//! The answers of all fronts as one.
+ghost use Rattle.std.specs.Prelude.{◌≡◌, ◌≤◌, ℕ, Some, length, slice_get, Ok};
+ghost use Rattle.mica_serve.specs.Ends.{IsUpTo};
+ghost use Rattle.mica_serve.specs.FrontRuns.{SumsUp};
+
+use crate::ports::{ServeFault, Totals};
+
+/// The sum of the totals, or the fault of a front: want of memory of any is that of all.
+pub(crate) fn sum_up(answers: &[Result<Totals, ServeFault>]) -> Result<Totals, ServeFault>
+    requires few { length answers.now ≤ 16 }
+    requires small { (f : ℕ) (totals : Totals) → slice_get answers.now f ≡ Some (Ok totals) → IsUpTo 1000000 totals }
+    ensures { SumsUp answers.now result }
+{
+    let mut totals = Totals::none();
+    let mut failed = false;
+    for answer in answers {
+        match answer {
+            Ok(one) => totals.add(*one),
+            Err(ServeFault::Net) => failed = true,
+            Err(ServeFault::NoMemory) => return Err(ServeFault::NoMemory),
+        }
+    }
+    if failed {
+        Err(ServeFault::Net)
+    } else {
+        Ok(totals)
+    }
+}

@@ -1,0 +1,160 @@
+//! All workers of a server, from their room to the last meeting.
+ghost use Rattle.std.specs.Prelude.{◌≡◌, ◌*◌, ◌+◌, ◌≤◌, [], ℕ, IfOk, length, map, slice_get, is_some, Some};
+ghost use Rattle.mica_model.specs.Options.{IsValid};
+ghost use Rattle.epoch_core.specs.declared.state.Phase.TheVariants.{Idle};
+ghost use Rattle.partition_table.specs.Tabled.{entry_in};
+ghost use Rattle.partition_table.specs.declared.reader.Note.{Note};
+ghost use Rattle.partition_table.specs.Seats.{note_state, note_home};
+ghost use Rattle.mica_serve.specs.PortOptions.{IsValidPorts};
+ghost use Rattle.mica_serve.specs.Ends.{AreOpen};
+ghost use Rattle.mica_serve.specs.FrontRuns.{RanAll};
+ghost use Rattle.mica_serve.specs.Tasks.{owner_end, IsRoom, IsServer};
+
+use crate::meeting::meet_all;
+use crate::opening::open_all;
+use crate::ports::{Ports, ServeFault, Totals};
+use crate::queue_front::{FrontPart, QueueFront};
+use crate::tables::OnTable;
+use crate::worker::{
+    FrontTask, OwnerTask, Worker, gather, pair_up, part_fronts, run_workers, take_apart,
+};
+use epoch_core::LendPartition;
+use mica_io::{Datagrams, Gate, NoMemory};
+use mica_model::Options;
+use partition_table::{Note, ReaderSeat};
+use std::alloc::Global;
+use std::mem;
+use std::sync::Wait;
+use std::thread::Threads;
+
+/// The room for all workers and for what they come to.
+#[derive(Drop)]
+pub(crate) struct Room<P, D> {
+    workers: Vec<Worker<P, D>>,
+    served_owners: Vec<OwnerTask<P>>,
+    paired: Vec<FrontTask<D>>,
+    served_fronts: Vec<FrontTask<D>>,
+    ends: Vec<D>,
+    hands: Vec<Vec<FrontPart>>,
+    answers: Vec<Result<Totals, ServeFault>>,
+}
+
+impl<P: Drop, D: Drop> Room<P, D> {
+    pub fn new(alloc: Global, owners: usize, fronts: usize) -> Result<Room<P, D>, NoMemory>
+        requires { owners + fronts ≤ 32 }
+        ensures { IfOk result (IsRoom owners fronts) }
+    {
+        let count = owners + fronts;
+        Ok(Room {
+            workers: Vec::with_capacity(alloc, count)?,
+            served_owners: Vec::with_capacity(alloc, count)?,
+            paired: Vec::with_capacity(alloc, fronts)?,
+            served_fronts: Vec::with_capacity(alloc, count)?,
+            ends: Vec::with_capacity(alloc, fronts)?,
+            hands: Vec::with_capacity(alloc, fronts)?,
+            answers: Vec::with_capacity(alloc, fronts)?,
+        })
+    }
+}
+
+/// The owners and the fronts as made, with the room for them to run.
+#[derive(Drop)]
+pub(crate) struct Server<P, D> {
+    owners: Vec<OwnerTask<P>>,
+    fronts: Vec<QueueFront>,
+    room: Room<P, D>,
+}
+
+impl<P: OnTable + LendPartition<Reader = ReaderSeat, Note = Note>, D: Drop> Server<P, D> {
+    pub fn open(alloc: Global, options: &Options, ports: &Ports) -> Result<Server<P, D>, NoMemory>
+        requires valid { IsValid options.now }
+        requires mode { options.now.mode ≡ P.mode }
+        requires same { (p : P) → P.state p ≡ P.owner p }
+        requires ports { IsValidPorts ports.now }
+        ensures { IfOk result (IsServer P.owner P.home options.now ports.now) }
+    {
+        let mut fronts = Vec::with_capacity(alloc, ports.fronts as usize)?;
+        let owners = open_all(alloc, options, ports, &mut fronts)?;
+        let room = Room::new(alloc, owners.len(), fronts.len())?;
+        Ok(Server {
+            owners,
+            fronts,
+            room,
+        })
+    }
+}
+
+/// Runs all owners and all fronts side by side, each in a thread of its own, and then the owners take in what the fronts have in hand.
+/// Gives the owners and the fronts' answers. It takes no memory.
+pub(crate) fn run_all<
+    W: Threads + Wait + Sync,
+    P: LendPartition<Reader = ReaderSeat, Note = Note> + Drop + Send,
+    D: Datagrams + Drop + Send,
+    G: Gate,
+>(
+    rt: &W,
+    alloc: Global,
+    options: &Options,
+    ports: &Ports,
+    server: Server<P, D>,
+    ends: &mut Vec<D>,
+    gate: &G,
+) -> (Vec<OwnerTask<P>>, Vec<Result<Totals, ServeFault>>)
+    requires notes { (n : Note) → (P.noted n ≡ note_state n) × (P.note_home n ≡ note_home n) }
+    requires options { IsValid options.now }
+    requires ports { IsValidPorts ports.now }
+    requires server { IsServer P.owner P.home options.now ports.now server }
+    requires open { AreOpen (map (λ e. record {
+      port = D.port e;
+      traffic = D.traffic e;
+      faults = D.faults e;
+      has_ended = D.has_ended e;
+      has_script = is_some (D.script e);
+    }) ends.old.items) }
+    requires many { length ends.old.items ≡ ports.now.fronts }
+    ensures ran { RanAll options.now ports.now.batches (map (λ task. entry_in (P.owner task.part)) result.0.items) result.1.items
+        (map (λ e. record {
+          port = D.port e;
+          traffic = D.traffic e;
+          faults = D.faults e;
+          has_ended = D.has_ended e;
+          has_script = is_some (D.script e);
+        }) ends.old.items) (map (λ e. record {
+          port = D.port e;
+          traffic = D.traffic e;
+          faults = D.faults e;
+          has_ended = D.has_ended e;
+          has_script = is_some (D.script e);
+        }) ends.new.items) }
+    ensures idle { (p : ℕ) (task : OwnerTask P) → slice_get result.0.items p ≡ Some task → (P.owner task.part).phase ≡ Idle }
+{
+    let Room {
+        workers,
+        served_owners,
+        paired,
+        served_fronts,
+        ends: room_of_ends,
+        hands,
+        answers,
+    } = server.room;
+    let mut workers = workers;
+    let mut served_owners = served_owners;
+    let mut paired = paired;
+    let mut served_fronts = served_fronts;
+    let mut hands = hands;
+    let mut answers = answers;
+    let ends_before = mem::replace(ends, room_of_ends);
+    pair_up(
+        alloc,
+        server.fronts,
+        ends_before,
+        options.partitions,
+        &mut paired,
+    );
+    gather(server.owners, paired, &mut workers);
+    run_workers(rt, alloc, ports.batches, gate, &mut workers);
+    take_apart(workers, &mut served_owners, &mut served_fronts);
+    part_fronts(served_fronts, ends, &mut hands, &mut answers);
+    meet_all(&mut served_owners, hands);
+    (served_owners, answers)
+}
