@@ -1,17 +1,8 @@
 -- What the events of a write make of the entries of its bucket and of the item words.
-use Rattle.std.proofs.Common.{◌≡◌, ◌≢◌, ℕ, ◌+◌, ◌<◌, ◌≤◌, inr, List, [], ◌∷◌, ◌++◌, length, get_or, ◌∙◌, arith, length-set}
-use Rattle.mica_model.specs.declared.write.Write.{Write}
-use Rattle.epoch_core.specs.declared.state.OwnerState.{OwnerState}
-use Rattle.epoch_core.specs.declared.state.Phase.TheVariants.{Marked}
-use Rattle.epoch_core.specs.declared.event.Event.TheVariants.{Begins, Marks, PutsEntry}
-use Rattle.epoch_core.specs.Shape.{IsMain}
-use Rattle.epoch_core.specs.Layout.{entry_at, item_at, word_count}
-use Rattle.epoch_core.specs.OwnerState.{stamp_in, entry_in, item_in, bucket_in}
-use Rattle.epoch_core.specs.Events.{after, plays, puts_from}
-use Rattle.epoch_core.proofs.Carried.{changed}
-use Rattle.epoch_core.proofs.EventWords.{entry_begins, entry_marks, item_begins, item_marks, stamp_marks, entry_puts, entry_puts_other, item_puts_entry, stamp_puts_entry}
-use Rattle.epoch_core.proofs.Places.{no_item}
-use Rattle.epoch_core.proofs.Puts.{PutsWords, puts_words}
+use Rattle.cache_partition.proofs.Words.{Begins, IsMain, List, Marked, Marks, OwnerState, PutsEntry, PutsWords, Write, [], after, arith, bucket_in}
+use Rattle.cache_partition.proofs.Words.{changed, entry_at, entry_begins, entry_in, entry_marks, entry_puts, entry_puts_other, get_or, inr, item_at}
+use Rattle.cache_partition.proofs.Words.{item_begins, item_in, item_marks, item_puts_entry, length, length-set, no_item, plays, puts_from, puts_words}
+use Rattle.cache_partition.proofs.Words.{stamp_in, stamp_marks, stamp_puts_entry, word_count, ℕ, ◌++◌, ◌+◌, ◌<◌, ◌∙◌, ◌∷◌, ◌≡◌, ◌≢◌, ◌≤◌}
 
 -- The words from the offset on are these, and no other item word has changed, nor an entry of the bucket but that of
 -- the slot.

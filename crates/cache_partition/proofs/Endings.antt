@@ -1,48 +1,20 @@
 -- The ways in which a write ends, each with what it leaves of its bucket.
-use Rattle.std.proofs.Common.{◌≡◌, ◌≢◌, ℕ, ◌+◌, ◌*◌, ◌^◌, ◌<◌, ◌≤◌, inl, inr, List, [], ◌∷◌, ◌++◌, length, get_or, Option, Some, None, refl, sym, ap, ◌∙◌, subst, arith, add-zero, ⊎_elim}
-use Rattle.std.specs.List.{find, count_by}
-use Rattle.std.proofs.lemmas.Bool.{cases_lt}
-use Rattle.std.proofs.lemmas.Nat.{pow_pos}
-use Rattle.std.proofs.lemmas.Option.{same_Some}
-use Rattle.mica_words.specs.Hash.{tag_of}
-use Rattle.mica_words.specs.Entry.{entry_of, entry_tag, entry_offset}
-use Rattle.mica_words.specs.Header.{header_room}
-use Rattle.mica_words.specs.Item.{item_size}
-use Rattle.mica_words.specs.Spelling.{item_words}
-use Rattle.mica_words.specs.Stamp.{tail_of}
-use Rattle.mica_words.proofs.Fields.{entry_tag-entry_of, entry_offset-entry_of, entry_not_empty, header_room-header_of}
-use Rattle.mica_words.proofs.Hashes.{bucket_of-below, tag_of-range}
-use Rattle.mica_words.proofs.ItemWords.{length-item_words, header_word}
-use Rattle.mica_model.specs.declared.options.Mode.{Mode}
-use Rattle.mica_model.specs.declared.options.Mode.TheVariants.{Cache as CacheMode}
-use Rattle.mica_model.specs.declared.write.Op.TheVariants.{Put, Del}
-use Rattle.mica_model.specs.declared.write.Write.{Write}
-use Rattle.mica_model.specs.Write.{IsWrite}
-use Rattle.mica_model.specs.Cache.{Cache, Record, record_of}
 use Rattle.mica_model.specs.CacheStep as cs
-use Rattle.mica_model.specs.CacheStep.{kept_record, new_record}
-use Rattle.mica_model.specs.Store.{Cell}
-use Rattle.mica_model.specs.History.{cache_state, stamp_in as stamp_of_state}
-use Rattle.mica_model.proofs.CacheKept.{IsKept, begin_of, offset_of, keeps_put, here_of}
-use Rattle.mica_model.proofs.CacheLaws.{kept_in, window_kept, fits_kept, apart_kept, put_item}
-use Rattle.mica_model.proofs.Stamps.{stamp_small}
-use Rattle.epoch_core.specs.declared.state.OwnerState.{OwnerState}
-use Rattle.epoch_core.specs.declared.state.Phase.{Phase}
-use Rattle.epoch_core.specs.declared.state.Phase.TheVariants.{Idle, Marked}
-use Rattle.epoch_core.specs.Shape.{IsMain}
-use Rattle.epoch_core.specs.OwnerState.{stamp_in, entry_in, item_in, options_in, state_in, bucket_in, marked_in}
-use Rattle.epoch_core.specs.LiveEntry.{HasLiveEntry}
-use Rattle.epoch_core.specs.StandsFor.{cell_at, Has, IsOffset, Spells, room_in, StandsFor}
-use Rattle.epoch_core.specs.Kept.{Kept}
-use Rattle.epoch_core.proofs.Carried.{changed}
-use Rattle.epoch_core.proofs.Log.{other_rooms}
-use Rattle.lossy_index.specs.Slot.{IsSlotOf, HasNoSlot, IsEmpty, IsPassed, offset_in}
-use Rattle.lossy_index.specs.Place.{GivesWay, HoldsOfNone, empty, passed, oldest}
+use Rattle.cache_partition.proofs.Words.{Cache, CacheMode, Cell, Del, GivesWay, Has, HasLiveEntry, HasNoSlot, HoldsOfNone, Idle, IsEmpty, IsKept}
+use Rattle.cache_partition.proofs.Words.{IsMain, IsOffset, IsPassed, IsSlotOf, IsWrite, Kept, List, Marked, Mode, None, Option, OwnerState, Phase}
+use Rattle.cache_partition.proofs.Words.{Put, Record, Some, Spells, StandsFor, Write, [], add-zero, ap, apart_kept, arith, begin_of, bucket_in}
+use Rattle.cache_partition.proofs.Words.{bucket_of-below, cache_state, cases_lt, cell_at, changed, count_by, empty, entry_in, entry_not_empty}
+use Rattle.cache_partition.proofs.Words.{entry_of, entry_offset, entry_offset-entry_of, entry_tag, entry_tag-entry_of, find, fits_kept, get_or}
+use Rattle.cache_partition.proofs.Words.{header_room, header_room-header_of, header_word, here_of, inl, inr, item_in, item_size, item_words}
+use Rattle.cache_partition.proofs.Words.{keeps_put, kept_in, kept_record, length, length-item_words, marked_in, new_record, offset_in, offset_of}
+use Rattle.cache_partition.proofs.Words.{oldest, options_in, other_rooms, passed, pow_pos, put_item, record_of, refl, room_in, same_Some, stamp_in}
+use Rattle.cache_partition.proofs.Words.{stamp_of_state, stamp_small, state_in, subst, sym, tag_of, tag_of-range, tail_of, window_kept, ℕ, ⊎_elim}
+use Rattle.cache_partition.proofs.Words.{◌*◌, ◌++◌, ◌+◌, ◌<◌, ◌^◌, ◌∙◌, ◌∷◌, ◌≡◌, ◌≢◌, ◌≤◌}
 use Rattle.cache_partition.proofs.Slots as slots
-use Rattle.cache_partition.proofs.Displaced.{some_found}
 use Rattle.cache_partition.proofs.Leaves as leaves
-use Rattle.cache_partition.proofs.Leaves.{Leaves, Nothing}
 use Rattle.cache_partition.proofs.Counts as counts
+use Rattle.cache_partition.proofs.Displaced.{some_found}
+use Rattle.cache_partition.proofs.Leaves.{Leaves, Nothing}
 use Rattle.cache_partition.proofs.Effects.{Effect}
 use Rattle.cache_partition.proofs.Stands.{same_bytes, HasMine, Written, state_is, stands}
 

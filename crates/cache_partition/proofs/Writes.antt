@@ -1,66 +1,26 @@
 -- A write from its begin to its end: when its events may happen, and what it makes of the state.
-use Rattle.std.proofs.Common.{◌≡◌, ℕ, ◌+◌, ◌*◌, ◌<◌, ◌≤◌, List, [], ◌∷◌, ◌++◌, length, Option, Some, None, Bool, true, false, cond, refl, sym, ap, ◌∙◌, subst, arith}
-use Rattle.std.specs.Prelude.{is_some, option_map, MatchOption, nat_le, ◌&&◌}
-use Rattle.std.specs.Bool.{then_some}
-use Rattle.std.proofs.lemmas.Bool.{lt-leb, le-leb}
-use Rattle.std.proofs.lemmas.Option.{same_Some}
-use Rattle.mica_model.specs.Store.{Cell}
-use Rattle.mica_words.specs.Hash.{tag_of}
-use Rattle.mica_words.specs.Entry.{entry_of, entry_offset}
-use Rattle.mica_words.specs.Header.{header_room}
-use Rattle.mica_words.specs.Item.{KeyFits, ValueFits, item_size, largest_item}
-use Rattle.mica_words.specs.Packing.{AreBytes}
-use Rattle.mica_words.specs.Spelling.{item_words}
-use Rattle.mica_words.specs.Stamp.{tail_of}
-use Rattle.mica_words.proofs.ItemWords.{length-item_words}
-use Rattle.mica_model.specs.declared.options.Options.{Options}
-use Rattle.mica_model.specs.declared.options.Mode.{Mode}
-use Rattle.mica_model.specs.declared.options.Mode.TheVariants.{Cache as CacheMode, Store as StoreMode}
-use Rattle.mica_model.specs.declared.write.Op.{Op}
-use Rattle.mica_model.specs.declared.write.Op.TheVariants.{Put, Del}
-use Rattle.mica_model.specs.declared.write.Write.{Write}
-use Rattle.mica_model.specs.declared.write.Outcome.{Outcome}
-use Rattle.mica_model.specs.declared.write.Outcome.TheVariants.{Worn}
-use Rattle.mica_model.specs.Limits.{most_stamp}
-use Rattle.mica_model.specs.Write.{IsWrite, write_of, size_of, is_accepted}
-use Rattle.mica_model.specs.Cache.{Cache, Record, has_key, record_of, is_live}
 use Rattle.mica_model.specs.Cache as cache
 use Rattle.mica_model.specs.Store as store
 use Rattle.mica_model.specs.CacheStep as cs
-use Rattle.mica_model.specs.CacheStep.{kept_record}
-use Rattle.mica_model.specs.History.{State, start, cache_state, stamp_of, accepted_in, stamp_in as stamp_of_state, after as state_after, Allows, MayGive, IsAcceptedAfter}
-use Rattle.mica_model.proofs.CacheKept.{IsKept, keeps_put, others_lack, rewritten, rewritten_key, size_at_most}
-use Rattle.mica_model.proofs.CacheLaws.{kept_in}
 use Rattle.mica_model.proofs.Found as found
-use Rattle.mica_model.proofs.Laid.{found_key, found_map, has_its_key}
-use Rattle.mica_model.proofs.Histories.{cached_in, state_snoc, accepted_is_length}
-use Rattle.mica_model.proofs.Stamps.{stamp_small}
-use Rattle.epoch_core.specs.declared.state.OwnerState.{OwnerState}
-use Rattle.epoch_core.specs.declared.state.Phase.{Phase}
-use Rattle.epoch_core.specs.declared.state.Phase.TheVariants.{Idle, Begun, Marked}
-use Rattle.epoch_core.specs.declared.event.Event.TheVariants.{Begins, PutsEntry, Ends}
-use Rattle.epoch_core.specs.Shape.{IsMain}
-use Rattle.epoch_core.specs.Layout.{word_count}
-use Rattle.epoch_core.specs.OwnerState.{stamp_in, entry_in, item_in, options_in, state_in, bucket_in, marked_in, as_made}
-use Rattle.epoch_core.specs.Events.{MayBegin, MayMark, MayEnd, after}
-use Rattle.epoch_core.specs.StandsFor.{cell_at, Spells, SpellsItem, room_in, StandsFor}
-use Rattle.epoch_core.specs.Kept.{Kept}
-use Rattle.epoch_core.specs.OwnerStep.{IsOwnerStep}
-use Rattle.epoch_core.proofs.Carried.{changed}
-use Rattle.epoch_core.proofs.Inside.{some_words}
-use Rattle.epoch_core.proofs.Log.{room_is}
-use Rattle.epoch_core.proofs.Marked.{bit_same}
-use Rattle.circular_log.specs.LogItem.{room_at}
-use Rattle.circular_log.specs.LogWrite.{MayAppend, MayRewrite, with_item, written_record}
-use Rattle.lossy_index.specs.Slot.{IsSlotOf, HasNoSlot}
-use Rattle.lossy_index.specs.Place.{Takes, GivesWay, empty, passed, oldest}
-use Rattle.cache_partition.specs.Gained.{MayWrite, Gains, marked_with}
-use Rattle.cache_partition.specs.Sought.{kept_offset, kept_offset_by, had_record, had_record_by}
+use Rattle.cache_partition.proofs.Words.{Allows, AreBytes, Begins, Begun, Bool, Cache, CacheMode, Cell, Del, Ends, Gains, GivesWay, HasNoSlot, Idle}
+use Rattle.cache_partition.proofs.Words.{IsAcceptedAfter, IsKept, IsMain, IsOwnerStep, IsSlotOf, IsWrite, Kept, KeyFits, List, Marked, MatchOption}
+use Rattle.cache_partition.proofs.Words.{MayAppend, MayBegin, MayEnd, MayGive, MayMark, MayRewrite, MayWrite, Mode, None, Op, Option, Options}
+use Rattle.cache_partition.proofs.Words.{Outcome, OwnerState, Phase, Put, PutsEntry, Record, Some, Spells, SpellsItem, StandsFor, State, StoreMode}
+use Rattle.cache_partition.proofs.Words.{Takes, ValueFits, Worn, Write, [], accepted_in, accepted_is_length, after, ap, arith, as_made, bit_same}
+use Rattle.cache_partition.proofs.Words.{bucket_in, cache_state, cached_in, cell_at, changed, cond, empty, entry_in, entry_of, entry_offset, false}
+use Rattle.cache_partition.proofs.Words.{found_key, found_map, had_record, had_record_by, has_key, header_room, is_accepted, is_its_key, is_live}
+use Rattle.cache_partition.proofs.Words.{is_some, item_in, item_size, item_words, keeps_put, kept_in, kept_offset, kept_offset_by, kept_record}
+use Rattle.cache_partition.proofs.Words.{largest_item, le-leb, length, length-item_words, lt-leb, marked_in, marked_with, most_stamp, nat_le, oldest}
+use Rattle.cache_partition.proofs.Words.{option_map, options_in, others_lack, passed, record_of, refl, rewritten, rewritten_key, room_at, room_in}
+use Rattle.cache_partition.proofs.Words.{room_is, same_Some, size_at_most, size_of, some_words, stamp_in, stamp_of, stamp_of_state, stamp_small}
+use Rattle.cache_partition.proofs.Words.{start, state_after, state_in, state_snoc, subst, sym, tag_of, tail_of, then_some, true, with_item}
+use Rattle.cache_partition.proofs.Words.{word_count, write_of, written_record, ℕ, ◌&&◌, ◌*◌, ◌++◌, ◌+◌, ◌<◌, ◌∙◌, ◌∷◌, ◌≡◌, ◌≤◌}
 use Rattle.cache_partition.proofs.Slots as slots
 use Rattle.cache_partition.proofs.Leaves as leaves
 use Rattle.cache_partition.proofs.Effects as effects
-use Rattle.cache_partition.proofs.Effects.{Effect}
 use Rattle.cache_partition.proofs.Endings as endings
+use Rattle.cache_partition.proofs.Effects.{Effect}
 use Rattle.cache_partition.proofs.Endings.{key_main}
 
 -- what keeps a put
@@ -347,7 +307,7 @@ appended_record : (m : Cache) (w : Write) → record_of (cs.after_put None m w) 
 appended_record m w =
     let new = cs.new_record m w.key w.value in
     found.found_append_none (has_key w.key) (cs.others w.key m.records) (new ∷ []) (others_lack w.key m.records)
-    ∙ ap (λ b. cond b (Some new) None) (has_its_key w.key new refl)
+    ∙ ap (λ b. cond b (Some new) None) (is_its_key w.key new refl)
 
 rewritten_record : (options : Options) (m : Cache) (w : Write) (held : Record) → kept_record options m w ≡ Some held
     → record_of (cs.after_put (Some held) m w) w.key ≡ Some (record held { value = w.value })

@@ -1,15 +1,5 @@
-use Rattle.std.proofs.Common.{◌≡◌, ℕ, [], ◌+◌, refl, sym, ap, ◌∙◌, subst, arith, Option}
-use Rattle.std.specs.Prelude.{MatchOption}
-use Rattle.mica_model.specs.declared.write.Op.TheVariants.{Del}
-use Rattle.mica_model.specs.Write.{write_of}
-use Rattle.epoch_core.specs.declared.state.OwnerState.{OwnerState}
-use Rattle.epoch_core.specs.declared.event.Event.TheVariants.{PutsEntry}
-use Rattle.epoch_core.specs.OwnerState.{stamp_in}
-use Rattle.epoch_core.specs.Events.{MayEnd, after}
-use Rattle.epoch_core.specs.Kept.{Kept}
-use Rattle.lossy_index.specs.Slot.{IsSlotOf, HasNoSlot}
-use Rattle.cache_partition.specs.Gained.{MayWrite}
-use Rattle.cache_partition.specs.Sought.{IsSought, had_record}
+use Rattle.cache_partition.proofs.Words.{Del, HasNoSlot, IsSlotOf, IsSought, Kept, MatchOption, MayEnd, MayWrite, Option, OwnerState, PutsEntry, []}
+use Rattle.cache_partition.proofs.Words.{after, ap, arith, had_record, refl, stamp_in, subst, sym, write_of, ℕ, ◌+◌, ◌∙◌, ◌≡◌}
 use Rattle.cache_partition.proofs.Writes.{stamp_limit, stamp_deleted, delete_is, end_cleared, end_absent, found_had}
 use Rattle.cache_partition.proofs.removing.remove.Goals as goal
 use Rattle.cache_partition.proofs.removing.remove.Goals.{in-Some, in_default}

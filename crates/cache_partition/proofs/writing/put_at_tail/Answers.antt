@@ -1,21 +1,6 @@
-use Rattle.std.proofs.Common.{◌+◌, ◌*◌, refl, sym, ap, ◌∙◌, subst, arith}
-use Rattle.mica_words.specs.Entry.{entry_of}
-use Rattle.mica_words.specs.Hash.{hash_tag}
-use Rattle.mica_words.specs.Item.{item_size}
-use Rattle.mica_words.specs.Stamp.{tail_of}
-use Rattle.mica_words.proofs.Hashes.{tag_of_hash}
-use Rattle.mica_words.proofs.Sizes.{item_size-most}
-use Rattle.mica_model.specs.declared.write.Op.TheVariants.{Put}
-use Rattle.mica_model.specs.Write.{write_of}
-use Rattle.epoch_core.specs.declared.state.OwnerState.{OwnerState}
-use Rattle.epoch_core.specs.declared.event.Event.TheVariants.{PutsEntry}
-use Rattle.epoch_core.specs.Shape.{IsMain}
-use Rattle.epoch_core.specs.OwnerState.{bucket_in, marked_in}
-use Rattle.epoch_core.specs.Events.{MayEnd, after}
-use Rattle.epoch_core.specs.Kept.{Kept}
-use Rattle.epoch_core.proofs.Marked.{bit_same}
-use Rattle.circular_log.specs.LogWrite.{MayAppend, with_item}
-use Rattle.lossy_index.specs.Place.{Takes}
+use Rattle.cache_partition.proofs.Words.{IsMain, Kept, MayAppend, MayEnd, OwnerState, Put, PutsEntry, Takes, after, ap, arith, bit_same, bucket_in}
+use Rattle.cache_partition.proofs.Words.{entry_of, hash_tag, item_size, item_size-most, marked_in, refl, subst, sym, tag_of_hash, tail_of, with_item}
+use Rattle.cache_partition.proofs.Words.{write_of, ◌*◌, ◌+◌, ◌∙◌}
 use Rattle.cache_partition.proofs.Endings.{key_main}
 use Rattle.cache_partition.proofs.Writes.{stamp_limit, stamp_appended, item_gained, gains, end_at_tail, may_append, stamp_gained}
 use Rattle.cache_partition.proofs.writing.put_at_tail.Goals as goal

@@ -1,11 +1,5 @@
-use Rattle.std.proofs.Common.{ℕ, ◌+◌, refl, sym, ap, ◌∙◌, subst, arith}
-use Rattle.mica_model.specs.declared.write.Op.TheVariants.{Put}
-use Rattle.mica_model.specs.Write.{write_of}
-use Rattle.epoch_core.specs.declared.state.OwnerState.{OwnerState}
-use Rattle.epoch_core.specs.Events.{MayEnd}
-use Rattle.epoch_core.specs.Kept.{Kept}
-use Rattle.circular_log.specs.LogItem.{room_at}
-use Rattle.circular_log.specs.LogWrite.{MayRewrite, with_item}
+use Rattle.cache_partition.proofs.Words.{Kept, MayEnd, MayRewrite, OwnerState, Put, ap, arith, refl, room_at, subst, sym, with_item, write_of, ℕ, ◌+◌}
+use Rattle.cache_partition.proofs.Words.{◌∙◌}
 use Rattle.cache_partition.proofs.Writes.{stamp_limit, stamp_rewritten, item_gained, gains, end_in_place, may_rewrite, kept_slot, stamp_gained}
 use Rattle.cache_partition.proofs.writing.put_in_place.Goals as goal
 
