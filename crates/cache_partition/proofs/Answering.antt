@@ -1,13 +1,13 @@
 -- What the key's slot tells of the answer to a get.
-use Rattle.cache_partition.proofs.Words.{AreBytes, CacheMode, Cell, HasNoSlot, Idle, IsItem, IsMain, IsSlotOf, Kept, List, None, OwnerState, Phase}
-use Rattle.cache_partition.proofs.Words.{Record, Some, Spells, StandsFor, State, answer_of, ap, bucket_in, cached_in, entry_in, entry_offset}
-use Rattle.cache_partition.proofs.Words.{has_fits, marked_in, option_map, options_in, subst, sym, value_in, ℕ, ◌∙◌, ◌≡◌}
+use Rattle.cache_partition.proofs.Words.{AreBytes, CacheMode, Cell, HasNoSlot, Idle, IsItem, IsSlotOf, Kept, List, None, OwnerState, Record, Some}
+use Rattle.cache_partition.proofs.Words.{Spells, StandsFor, State, answer_of, ap, bucket_in, cached_in, entry_in, entry_offset, has_fits, option_map}
+use Rattle.cache_partition.proofs.Words.{options_in, subst, sym, value_in, ℕ, ◌∙◌, ◌≡◌}
 use Rattle.cache_partition.proofs.Slots as slots
-use Rattle.cache_partition.proofs.Endings.{key_main}
+use Rattle.cache_partition.proofs.Endings.{stands_at}
 
 module _ (o : OwnerState) (s : Kept o) (idle : o.phase ≡ Idle) (mode : o.shape.mode ≡ CacheMode) (key : List ℕ) (bytes : AreBytes key) (b : ℕ) (here : b ≡ bucket_in o key) where
   stood : StandsFor o b
-  stood = s.state b (subst (IsMain o.shape) (sym here) (key_main o s key)) (ap (λ (z : Phase). marked_in z b) idle)
+  stood = stands_at o s key idle b here
 
   -- without a slot there is none
   pub missed : HasNoSlot o b key → answer_of (options_in o) o.history key ≡ None

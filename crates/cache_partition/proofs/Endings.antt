@@ -7,9 +7,9 @@ use Rattle.cache_partition.proofs.Words.{bucket_of-below, cache_state, cases_lt,
 use Rattle.cache_partition.proofs.Words.{entry_of, entry_offset, entry_offset-entry_of, entry_tag, entry_tag-entry_of, find, fits_kept, get_or}
 use Rattle.cache_partition.proofs.Words.{header_room, header_room-header_of, header_word, here_of, inl, inr, item_in, item_size, item_words}
 use Rattle.cache_partition.proofs.Words.{keeps_put, kept_in, kept_record, length, length-item_words, marked_in, new_record, offset_in, offset_of}
-use Rattle.cache_partition.proofs.Words.{oldest, options_in, other_rooms, passed, pow_pos, put_item, record_of, refl, room_in, same_Some, stamp_in}
-use Rattle.cache_partition.proofs.Words.{stamp_of_state, stamp_small, state_in, subst, sym, tag_of, tag_of-range, tail_of, window_kept, ℕ, ⊎_elim}
-use Rattle.cache_partition.proofs.Words.{◌*◌, ◌++◌, ◌+◌, ◌<◌, ◌^◌, ◌∙◌, ◌∷◌, ◌≡◌, ◌≢◌, ◌≤◌}
+use Rattle.cache_partition.proofs.Words.{oldest, options_in, other_rooms, passed, pow_pos, put_item, record_of, refl, room_in, same_Some}
+use Rattle.cache_partition.proofs.Words.{stamp_in, stamp_of_state, stamp_small, state_in, subst, sym, tag_of, tag_of-range, tail_of, window_kept, ℕ}
+use Rattle.cache_partition.proofs.Words.{⊎_elim, ◌*◌, ◌++◌, ◌+◌, ◌<◌, ◌^◌, ◌∙◌, ◌∷◌, ◌≡◌, ◌≢◌, ◌≤◌}
 use Rattle.cache_partition.proofs.Slots as slots
 use Rattle.cache_partition.proofs.Leaves as leaves
 use Rattle.cache_partition.proofs.Counts as counts
@@ -18,11 +18,15 @@ use Rattle.cache_partition.proofs.Leaves.{Leaves, Nothing}
 use Rattle.cache_partition.proofs.Effects.{Effect}
 use Rattle.cache_partition.proofs.Stands.{same_bytes, HasMine, Written, state_is, stands}
 
--- a key's bucket is a main one
-pub key_main : (o : OwnerState) → Kept o → (key : List ℕ) → IsMain o.shape (bucket_in o key)
-key_main o s key =
-    let some : 0 < o.shape.buckets = subst (λ (z : ℕ). 0 < z) (sym s.shape.ranges.buckets.2) (pow_pos s.shape.ranges.buckets.0) in
-    bucket_of-below key o.shape.buckets some
+-- a key's bucket is a main one, and stands between writes
+module _ (o : OwnerState) (s : Kept o) (key : List ℕ) where
+  pub key_main : IsMain o.shape (bucket_in o key)
+  key_main =
+      let some : 0 < o.shape.buckets = subst (λ (z : ℕ). 0 < z) (sym s.shape.ranges.buckets.2) (pow_pos s.shape.ranges.buckets.0) in
+      bucket_of-below key o.shape.buckets some
+
+  pub stands_at : o.phase ≡ Idle → (b : ℕ) → b ≡ bucket_in o key → StandsFor o b
+  stands_at idle b here = s.state b (subst (IsMain o.shape) (sym here) key_main) (ap (λ (z : Phase). marked_in z b) idle)
 
 module _ (o : OwnerState) (s : Kept o) (idle : o.phase ≡ Idle) (mode : o.shape.mode ≡ CacheMode) (m : Cache) (at : state_in o ≡ cache_state m) (w : Write) (is : IsWrite w)
     (words : List ℕ) where

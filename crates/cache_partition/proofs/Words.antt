@@ -24,7 +24,7 @@ pub use Rattle.mica_words.proofs.Sizes.{item_size-most}
 pub use Rattle.mica_words.specs.Entry.{entry_of, entry_offset, entry_tag}
 pub use Rattle.mica_words.specs.Hash.{bucket_of, fnv1a, hash_bucket, hash_tag, tag_of}
 pub use Rattle.mica_words.specs.Header.{header_room}
-pub use Rattle.mica_words.specs.Item.{KeyFits, ValueFits, item_size, largest_item}
+pub use Rattle.mica_words.specs.Item.{KeyFits, item_size, largest_item}
 pub use Rattle.mica_words.specs.Packing.{AreBytes}
 pub use Rattle.mica_words.specs.Spelling.{item_words}
 pub use Rattle.mica_words.specs.Stamp.{tail_of}
@@ -58,7 +58,7 @@ pub use Rattle.mica_model.specs.declared.write.Outcome.TheVariants.{Absent, Dele
 pub use Rattle.mica_model.specs.declared.write.Write.{Write}
 pub use Rattle.epoch_core.proofs.Carried.{changed}
 pub use Rattle.epoch_core.proofs.EventWords.{entry_begins, entry_marks, entry_puts, entry_puts_other, item_begins, item_marks, item_puts_entry}
-pub use Rattle.epoch_core.proofs.EventWords.{stamp_marks, stamp_puts_entry}
+pub use Rattle.epoch_core.proofs.EventWords.{stamp_marks}
 pub use Rattle.epoch_core.proofs.Inside.{some_words}
 pub use Rattle.epoch_core.proofs.Keys.{has_its_key, has_no_other}
 pub use Rattle.epoch_core.proofs.Log.{not_below, other_rooms, room_is}

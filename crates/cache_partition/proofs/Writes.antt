@@ -7,33 +7,30 @@ use Rattle.cache_partition.proofs.Words.{Allows, AreBytes, Begins, Begun, Bool, 
 use Rattle.cache_partition.proofs.Words.{IsAcceptedAfter, IsKept, IsMain, IsOwnerStep, IsSlotOf, IsWrite, Kept, KeyFits, List, Marked, MatchOption}
 use Rattle.cache_partition.proofs.Words.{MayAppend, MayBegin, MayEnd, MayGive, MayMark, MayRewrite, MayWrite, Mode, None, Op, Option, Options}
 use Rattle.cache_partition.proofs.Words.{Outcome, OwnerState, Phase, Put, PutsEntry, Record, Some, Spells, SpellsItem, StandsFor, State, StoreMode}
-use Rattle.cache_partition.proofs.Words.{Takes, ValueFits, Worn, Write, [], accepted_in, accepted_is_length, after, ap, arith, as_made, bit_same}
-use Rattle.cache_partition.proofs.Words.{bucket_in, cache_state, cached_in, cell_at, changed, cond, empty, entry_in, entry_of, entry_offset, false}
-use Rattle.cache_partition.proofs.Words.{found_key, found_map, had_record, had_record_by, has_key, header_room, is_accepted, is_its_key, is_live}
-use Rattle.cache_partition.proofs.Words.{is_some, item_in, item_size, item_words, keeps_put, kept_in, kept_offset, kept_offset_by, kept_record}
-use Rattle.cache_partition.proofs.Words.{largest_item, le-leb, length, length-item_words, lt-leb, marked_in, marked_with, most_stamp, nat_le, oldest}
-use Rattle.cache_partition.proofs.Words.{option_map, options_in, others_lack, passed, record_of, refl, rewritten, rewritten_key, room_at, room_in}
-use Rattle.cache_partition.proofs.Words.{room_is, same_Some, size_at_most, size_of, some_words, stamp_in, stamp_of, stamp_of_state, stamp_small}
-use Rattle.cache_partition.proofs.Words.{start, state_after, state_in, state_snoc, subst, sym, tag_of, tail_of, then_some, true, with_item}
-use Rattle.cache_partition.proofs.Words.{word_count, write_of, written_record, ℕ, ◌&&◌, ◌*◌, ◌++◌, ◌+◌, ◌<◌, ◌∙◌, ◌∷◌, ◌≡◌, ◌≤◌}
+use Rattle.cache_partition.proofs.Words.{Takes, Worn, Write, [], accepted_in, accepted_is_length, after, ap, arith, as_made, bit_same, bucket_in}
+use Rattle.cache_partition.proofs.Words.{cache_state, cached_in, cell_at, changed, cond, empty, entry_in, entry_of, entry_offset, false, found_key}
+use Rattle.cache_partition.proofs.Words.{found_map, had_record, had_record_by, has_key, header_room, is_accepted, is_its_key, is_live, is_some}
+use Rattle.cache_partition.proofs.Words.{item_in, item_size, item_words, keeps_put, kept_in, kept_offset, kept_offset_by, kept_record, largest_item}
+use Rattle.cache_partition.proofs.Words.{le-leb, length, length-item_words, lt-leb, marked_with, most_stamp, nat_le, oldest, option_map, options_in}
+use Rattle.cache_partition.proofs.Words.{others_lack, passed, record_of, refl, rewritten, rewritten_key, room_at, room_in, room_is, same_Some}
+use Rattle.cache_partition.proofs.Words.{size_at_most, size_of, stamp_in, stamp_of, stamp_of_state, stamp_small, start, state_after, state_in}
+use Rattle.cache_partition.proofs.Words.{state_snoc, subst, sym, tag_of, tail_of, then_some, true, with_item, write_of, written_record, ℕ, ◌&&◌, ◌*◌}
+use Rattle.cache_partition.proofs.Words.{◌++◌, ◌+◌, ◌<◌, ◌∙◌, ◌∷◌, ◌≡◌, ◌≤◌}
 use Rattle.cache_partition.proofs.Slots as slots
 use Rattle.cache_partition.proofs.Leaves as leaves
 use Rattle.cache_partition.proofs.Effects as effects
 use Rattle.cache_partition.proofs.Endings as endings
-use Rattle.cache_partition.proofs.Effects.{Effect}
-use Rattle.cache_partition.proofs.Endings.{key_main}
+use Rattle.cache_partition.proofs.Endings.{key_main, stands_at}
 
 -- what keeps a put
 
-kept_some : (options : Options) (m : Cache) (w : Write) (found : Option Record) (p : ℕ) → kept_record options m w ≡ found
-    → option_map (λ (held : Record). held.offset) found ≡ Some p → (held : Record) × (kept_record options m w ≡ Some held) × (held.offset ≡ p)
-kept_some options m w None p is e = cc
-kept_some options m w (Some held) p is e = (held, is, cc)
+kept_some : (found : Option Record) (p : ℕ) → option_map (λ (held : Record). held.offset) found ≡ Some p → (held : Record) × (found ≡ Some held) × (held.offset ≡ p)
+kept_some None p e = cc
+kept_some (Some held) p e = (held, refl, cc)
 
-kept_none : (options : Options) (m : Cache) (w : Write) (found : Option Record) → kept_record options m w ≡ found
-    → option_map (λ (held : Record). held.offset) found ≡ None → kept_record options m w ≡ None
-kept_none options m w None is e = is
-kept_none options m w (Some held) is e = cc
+kept_none : (found : Option Record) → option_map (λ (held : Record). held.offset) found ≡ None → found ≡ None
+kept_none None e = refl
+kept_none (Some held) e = cc
 
 reply_accepted : (op : Op) (options : Options) (w : Write) (found : Bool) → is_accepted (cs.reply_of op options w found) ≡ true
 reply_accepted Put options w found = refl
@@ -117,10 +114,10 @@ module _ (o : OwnerState) (s : Kept o) (may : MayWrite o) (w : Write) (is : IsWr
   stamp_deleted op = stamp_next ∙ (leaves.deleted_stamp (options_in o) now.0 kept w op ∙ ap (λ (z : ℕ). z + 1) (sym stamp_now))
 
   held_at : (p : ℕ) → kept_offset o w ≡ Some p → (held : Record) × (kept_record (options_in o) now.0 w ≡ Some held) × (held.offset ≡ p)
-  held_at p keeps = kept_some (options_in o) now.0 w (kept_record (options_in o) now.0 w) p refl (subst (λ (z : State). kept_offset_by (options_in o) z w ≡ Some p) now.1 keeps)
+  held_at p keeps = kept_some (kept_record (options_in o) now.0 w) p (subst (λ (z : State). kept_offset_by (options_in o) z w ≡ Some p) now.1 keeps)
 
   held_none : kept_offset o w ≡ None → kept_record (options_in o) now.0 w ≡ None
-  held_none keeps = kept_none (options_in o) now.0 w (kept_record (options_in o) now.0 w) refl (subst (λ (z : State). kept_offset_by (options_in o) z w ≡ None) now.1 keeps)
+  held_none keeps = kept_none (kept_record (options_in o) now.0 w) (subst (λ (z : State). kept_offset_by (options_in o) z w ≡ None) now.1 keeps)
 
   pub stamp_rewritten : (p : ℕ) → w.op ≡ Put → kept_offset o w ≡ Some p → stamp_of (options_in o) (o.history ++ w ∷ []) ≡ stamp_in o + 1
   stamp_rewritten p op keeps =
@@ -134,33 +131,35 @@ module _ (o : OwnerState) (s : Kept o) (may : MayWrite o) (w : Write) (is : IsWr
   -- what the bucket is at the end
 
   module _ (n : ℕ) where
+    abbrev here : ℕ
+    here = bucket_in o w.key
+
+    main : IsMain o.shape (bucket_in o w.key)
+    main = key_main o s w.key
+
+    abbrev with_words : List ℕ → OwnerState
+    with_words words = changed o words (o.history ++ w ∷ []) (Marked (bucket_in o w.key) w o.history)
+
+    ends : (words : List ℕ) → StandsFor (with_words words) here → MayEnd (with_words words) here
+    ends words stands = record { marked = bit_same (bucket_in o w.key) (bucket_in o w.key) refl; stands_for = stands }
+
     -- a delete
 
-    pub end_cleared : w.op ≡ Del → (b slot : ℕ) → b ≡ bucket_in o w.key → IsSlotOf o b w.key slot
-        → Kept (after (PutsEntry b slot 0) (marked_with o b w n)) → MayEnd (after (PutsEntry b slot 0) (marked_with o b w n)) b
-    end_cleared op b slot here =
-        subst (λ (z : ℕ). IsSlotOf o z w.key slot → Kept (after (PutsEntry z slot 0) (marked_with o z w n)) → MayEnd (after (PutsEntry z slot 0) (marked_with o z w n)) z)
-        (sym here) (λ found t.
-        let main = key_main o s w.key in
-        let words : List ℕ = (marked_with o (bucket_in o w.key) w n).words in
-        let long = effects.length-marked o s.wide (some_words o s) (bucket_in o w.key) main w n in
-        let same = effects.marked_entry o s.wide (some_words o s) (bucket_in o w.key) main w n in
-        let effect = effects.marked_effect o s.wide (some_words o s) (bucket_in o w.key) main w n slot in
-        record {
-          marked = bit_same (bucket_in o w.key) (bucket_in o w.key) refl;
-          stands_for = endings.delete_of_slot o s may.idle may.cached now.0 now.1 w is (after (PutsEntry (bucket_in o w.key) slot 0) (marked_with o (bucket_in o w.key) w n)).words t op slot found
-              (effects.entry_here o s.wide (some_words o s) (bucket_in o w.key) main w n words long slot found.in_bucket 0 0 [] same effect)
-              (effects.entry_effect o s.wide (some_words o s) (bucket_in o w.key) main w n words long slot found.in_bucket 0 0 [] same effect);
-        })
+    pub record EndsDelete (b : ℕ) : Type 0 where
+      pub cleared : (slot : ℕ) → IsSlotOf o b w.key slot → Kept (after (PutsEntry b slot 0) (marked_with o b w n))
+          → MayEnd (after (PutsEntry b slot 0) (marked_with o b w n)) b
+      pub absent : HasNoSlot o b w.key → Kept (marked_with o b w n) → MayEnd (marked_with o b w n) b
 
-    pub end_absent : w.op ≡ Del → (b : ℕ) → b ≡ bucket_in o w.key → HasNoSlot o b w.key → Kept (marked_with o b w n) → MayEnd (marked_with o b w n) b
-    end_absent op b here =
-        subst (λ (z : ℕ). HasNoSlot o z w.key → Kept (marked_with o z w n) → MayEnd (marked_with o z w n) z)
-        (sym here) (λ none t. record {
-          marked = bit_same (bucket_in o w.key) (bucket_in o w.key) refl;
-          stands_for = endings.delete_of_none o s may.idle may.cached now.0 now.1 w is (marked_with o (bucket_in o w.key) w n).words t op none
-              (effects.marked_effect o s.wide (some_words o s) (bucket_in o w.key) (key_main o s w.key) w n 15);
-        })
+    pub end_delete : w.op ≡ Del → (b : ℕ) → b ≡ bucket_in o w.key → EndsDelete b
+    end_delete op b in_its =
+        let no_words : length {A = ℕ} [] ≤ o.shape.words = omega arith in
+        subst EndsDelete (sym in_its) record {
+          cleared = λ slot found t. ends (after (PutsEntry here slot 0) (marked_with o here w n)).words
+              (endings.delete_of_slot o s may.idle may.cached now.0 now.1 w is (after (PutsEntry here slot 0) (marked_with o here w n)).words t op slot found
+              (effects.entry_here o s here main w n 0 [] no_words slot found.in_bucket 0) (effects.entry_effect o s here main w n 0 [] no_words slot found.in_bucket 0));
+          absent = λ none t. ends (marked_with o here w n).words
+              (endings.delete_of_none o s may.idle may.cached now.0 now.1 w is (marked_with o here w n).words t op none (effects.put_effect o s here main w n 0 [] no_words 15));
+        }
 
     -- a put
 
@@ -171,13 +170,18 @@ module _ (o : OwnerState) (s : Kept o) (may : MayWrite o) (w : Write) (is : IsWr
         let least = s.shape.ranges.words.0 in
         omega arith
 
+    abbrev pub with_its_item : ℕ → ℕ → ℕ → OwnerState
+    with_its_item b p room = with_item (marked_with o b w n) p room w.key w.value
+
+    item_is : (p room : ℕ) → with_its_item here p room ≡ with_words (with_its_item here p room).words
+    item_is p room = effects.put_same o s here main w n p (item_words room w.key w.value) (few_words room)
+
     -- in place
 
     room_kept : (b p : ℕ) → b ≡ bucket_in o w.key → (held : Record) → kept_record (options_in o) now.0 w ≡ Some held → held.offset ≡ p
         → (slot : ℕ) → IsSlotOf o b w.key slot → (room_in o (entry_in o b slot) ≡ held.room) × (entry_offset (entry_in o b slot) ≡ p) × Spells o b (entry_in o b slot) w.key (cell_at held).0
     room_kept b p here held at_held offset slot found =
-        let main : IsMain o.shape b = subst (IsMain o.shape) (sym here) (key_main o s w.key) in
-        let stood = s.state b main (ap (λ (z : Phase). marked_in z b) may.idle) in
+        let stood = stands_at o s w.key may.idle b here in
         let spelt = slots.slot_spells o s may.cached b slot w.key is.key_bytes stood found in
         let record_there = slots.record_spelt o s now.0 now.1 b (entry_in o b slot) w.key spelt.0 spelt.1 in
         let same : record_there.0 ≡ held = same_Some record_there.0 held (sym record_there.1 ∙ (keeps_put (options_in o) now.0 w held at_held).is) in
@@ -193,30 +197,23 @@ module _ (o : OwnerState) (s : Kept o) (may : MayWrite o) (w : Write) (is : IsWr
     room_now b p here held at_held offset slot found =
         let main : IsMain o.shape b = subst (IsMain o.shape) (sym here) (key_main o s w.key) in
         let before = room_kept b p here held at_held offset slot found in
-        ap header_room (effects.marked_item o s.wide (some_words o s) b main w n p ∙ ap (item_in o) (sym before.1)) ∙ before.0
+        ap header_room (effects.marked_item o s b main w n p ∙ ap (item_in o) (sym before.1)) ∙ before.0
+
+    abbrev EndsInPlace : ℕ × ℕ × ℕ → Type 0
+    EndsInPlace z = Kept (with_its_item z.0 z.1 z.2) → MayEnd (with_its_item z.0 z.1 z.2) z.0
 
     pub end_in_place : w.op ≡ Put → (b p slot : ℕ) → b ≡ bucket_in o w.key → kept_offset o w ≡ Some p → IsSlotOf o b w.key slot
-        → Kept (with_item (marked_with o b w n) p (room_at (marked_with o b w n) p) w.key w.value)
-        → MayEnd (with_item (marked_with o b w n) p (room_at (marked_with o b w n) p) w.key w.value) b
-    end_in_place op b p slot here keeps =
-        subst (λ (z : ℕ). IsSlotOf o z w.key slot → Kept (with_item (marked_with o z w n) p (room_at (marked_with o z w n) p) w.key w.value)
-        → MayEnd (with_item (marked_with o z w n) p (room_at (marked_with o z w n) p) w.key w.value) z) (sym here) (λ found t.
+        → Kept (with_its_item b p (room_at (marked_with o b w n) p)) → MayEnd (with_its_item b p (room_at (marked_with o b w n) p)) b
+    end_in_place op b p slot in_its keeps found =
         let held = held_at p keeps in
-        let main = key_main o s w.key in
-        let room = room_now (bucket_in o w.key) p refl held.0 held.1 held.2 slot found in
-        subst (λ (r : ℕ). Kept (with_item (marked_with o (bucket_in o w.key) w n) p r w.key w.value) → MayEnd (with_item (marked_with o (bucket_in o w.key) w n) p r w.key w.value) (bucket_in o w.key)) (sym room)
-        (subst (λ (z : ℕ). Kept (with_item (marked_with o (bucket_in o w.key) w n) z held.0.room w.key w.value)
-        → MayEnd (with_item (marked_with o (bucket_in o w.key) w n) z held.0.room w.key w.value) (bucket_in o w.key)) held.2
-        (λ t'.
         let few = few_words held.0.room in
-        let whole = effects.put_same o s.wide (some_words o s) (bucket_in o w.key) main w n held.0.offset (item_words held.0.room w.key w.value) few in
-        subst (λ (z : OwnerState). MayEnd z (bucket_in o w.key)) (sym whole) (record {
-          marked = bit_same (bucket_in o w.key) (bucket_in o w.key) refl;
-          stands_for = endings.put_in_place o s may.idle may.cached now.0 now.1 w is (with_item (marked_with o (bucket_in o w.key) w n) held.0.offset held.0.room w.key w.value).words
-              (subst Kept whole t') op held.0 held.1 slot found
-              (effects.put_entry_same o s.wide (some_words o s) (bucket_in o w.key) main w n held.0.offset (item_words held.0.room w.key w.value) few slot found.in_bucket)
-              (effects.put_effect o s.wide (some_words o s) (bucket_in o w.key) main w n held.0.offset (item_words held.0.room w.key w.value) few slot);
-        }))) t)
+        let slot_is : IsSlotOf o here w.key slot = subst (λ (z : ℕ). IsSlotOf o z w.key slot) in_its found in
+        subst EndsInPlace (λ j. (sym in_its j, held.2 j, sym (room_now b p in_its held.0 held.1 held.2 slot found) j))
+        (λ t. subst (λ (z : OwnerState). MayEnd z here) (sym (item_is held.0.offset held.0.room)) (ends (with_its_item here held.0.offset held.0.room).words
+        (endings.put_in_place o s may.idle may.cached now.0 now.1 w is (with_its_item here held.0.offset held.0.room).words
+        (subst Kept (item_is held.0.offset held.0.room) t) op held.0 held.1 slot slot_is
+        (effects.put_entry_same o s here main w n held.0.offset (item_words held.0.room w.key w.value) few slot slot_is.in_bucket)
+        (effects.put_effect o s here main w n held.0.offset (item_words held.0.room w.key w.value) few slot))))
 
     -- at the tail
 
@@ -225,81 +222,52 @@ module _ (o : OwnerState) (s : Kept o) (may : MayWrite o) (w : Write) (is : IsWr
     in_bucket p b slot (passed full is) = is.in_bucket
     in_bucket p b slot (oldest full all is) = is.in_bucket
 
+    -- the state once the item is stored
+    abbrev pub stored : ℕ → ℕ → OwnerState
+    stored b p = with_its_item b p (item_size w.key w.value)
+
+    -- and once the slot names it
+    abbrev pub EndsAtTail : OwnerState → ℕ → ℕ → Option ℕ → ℕ → Type 0
+    EndsAtTail q b entry old slot = MatchOption old (HasNoSlot o b w.key) (IsSlotOf o b w.key) → Takes q b old slot
+        → Kept (after (PutsEntry b slot entry) q) → MayEnd (after (PutsEntry b slot entry) q) b
+
     module _ (op : w.op ≡ Put) (keeps : kept_offset o w ≡ None) (stamp : n ≡ stamp_of (options_in o) (o.history ++ w ∷ [])) where
-      abbrev here : ℕ
-      here = bucket_in o w.key
+      abbrev xs : List ℕ
+      xs = item_words (item_size w.key w.value) w.key w.value
 
-      -- the words with the item stored
-      abbrev stored : List ℕ
-      stored = (with_item (marked_with o (bucket_in o w.key) w n) (tail_of now.0.stamp) (item_size w.key w.value) w.key w.value).words
+      few : length xs ≤ o.shape.words
+      few = few_words (item_size w.key w.value)
 
-      abbrev with_stored : OwnerState
-      with_stored = changed o stored (o.history ++ w ∷ []) (Marked (bucket_in o w.key) w o.history)
-
-      stored_is : with_item (marked_with o (bucket_in o w.key) w n) (tail_of now.0.stamp) (item_size w.key w.value) w.key w.value ≡ with_stored
-      stored_is = effects.put_same o s.wide (some_words o s) (bucket_in o w.key) (key_main o s w.key) w n (tail_of now.0.stamp) (item_words (item_size w.key w.value) w.key w.value) (few_words (item_size w.key w.value))
-
-      stored_same : (i : ℕ) → i < 15 → entry_in with_stored here i ≡ entry_in o here i
-      stored_same = effects.put_entry_same o s.wide (some_words o s) (bucket_in o w.key) (key_main o s w.key) w n (tail_of now.0.stamp) (item_words (item_size w.key w.value) w.key w.value) (few_words (item_size w.key w.value))
-
-      stored_stamp : stamp_in with_stored ≡ now.0.stamp + 65536 * item_size w.key w.value
-      stored_stamp =
-          effects.put_stamp o s.wide (some_words o s) (bucket_in o w.key) (key_main o s w.key) w n (tail_of now.0.stamp) (item_words (item_size w.key w.value) w.key w.value) (few_words (item_size w.key w.value))
-          ∙ (stamp ∙ (stamp_next ∙ leaves.appended_stamp (options_in o) now.0 kept w op (held_none keeps)))
-
-      stored_long : length stored ≡ word_count o.shape
-      stored_long = effects.length-put o s.wide (some_words o s) (bucket_in o w.key) (key_main o s w.key) w n (tail_of now.0.stamp) (item_words (item_size w.key w.value) w.key w.value) (few_words (item_size w.key w.value))
+      abbrev tail : ℕ
+      tail = tail_of now.0.stamp
 
       abbrev entry : ℕ
       entry = entry_of (tag_of w.key) (tail_of now.0.stamp)
 
-      module _ (slot : ℕ) (below : slot < 15) (t : Kept (after (PutsEntry here slot entry) with_stored)) where
-        named : entry_in (after (PutsEntry here slot entry) with_stored) here slot ≡ entry
-        named = effects.entry_here o s.wide (some_words o s) (bucket_in o w.key) (key_main o s w.key) w n stored stored_long slot below entry
-            (tail_of now.0.stamp) (item_words (item_size w.key w.value) w.key w.value) stored_same
-            (effects.put_effect o s.wide (some_words o s) (bucket_in o w.key) (key_main o s w.key) w n (tail_of now.0.stamp) (item_words (item_size w.key w.value) w.key w.value) (few_words (item_size w.key w.value)) slot)
+      abbrev with_stored : OwnerState
+      with_stored = with_words (with_its_item (bucket_in o w.key) (tail_of now.0.stamp) (item_size w.key w.value)).words
 
-        effect : Effect o (after (PutsEntry here slot entry) with_stored) here slot (tail_of now.0.stamp) (item_words (item_size w.key w.value) w.key w.value)
-        effect = effects.entry_effect o s.wide (some_words o s) (bucket_in o w.key) (key_main o s w.key) w n stored stored_long slot below entry
-            (tail_of now.0.stamp) (item_words (item_size w.key w.value) w.key w.value) stored_same
-            (effects.put_effect o s.wide (some_words o s) (bucket_in o w.key) (key_main o s w.key) w n (tail_of now.0.stamp) (item_words (item_size w.key w.value) w.key w.value) (few_words (item_size w.key w.value)) slot)
+      stored_stamp : stamp_in with_stored ≡ now.0.stamp + 65536 * item_size w.key w.value
+      stored_stamp = effects.put_stamp o s here main w n tail xs few ∙ (stamp ∙ (stamp_next ∙ leaves.appended_stamp (options_in o) now.0 kept w op (held_none keeps)))
 
-        over_slot : IsSlotOf o here w.key slot → MayEnd (after (PutsEntry here slot entry) with_stored) here
-        over_slot found = record {
-          marked = bit_same (bucket_in o w.key) (bucket_in o w.key) refl;
-          stands_for = endings.put_over_slot o s may.idle may.cached now.0 now.1 w is (after (PutsEntry here slot entry) with_stored).words t op (held_none keeps) slot below named effect found;
-        }
-
-        over_none : HasNoSlot o here w.key → GivesWay with_stored here slot → MayEnd (after (PutsEntry here slot entry) with_stored) here
-        over_none none gives = record {
-          marked = bit_same (bucket_in o w.key) (bucket_in o w.key) refl;
-          stands_for = endings.put_over_none o s may.idle may.cached now.0 now.1 w is (after (PutsEntry here slot entry) with_stored).words t op (held_none keeps) slot below named effect none stored stored_same stored_stamp gives;
-        }
-
-      by_slot : (old : Option ℕ) (slot : ℕ) → MatchOption old (HasNoSlot o here w.key) (IsSlotOf o here w.key) → Takes with_stored here old slot
-          → Kept (after (PutsEntry here slot entry) with_stored) → MayEnd (after (PutsEntry here slot entry) with_stored) here
-      by_slot None slot none gives t = over_none slot (in_bucket with_stored here slot gives) t none gives
+      by_slot : (old : Option ℕ) (slot : ℕ) → EndsAtTail with_stored here entry old slot
+      by_slot None slot none gives t =
+          let below = in_bucket with_stored here slot gives in
+          ends (after (PutsEntry here slot entry) with_stored).words
+          (endings.put_over_none o s may.idle may.cached now.0 now.1 w is (after (PutsEntry here slot entry) with_stored).words t op (held_none keeps) slot below
+          (effects.entry_here o s here main w n tail xs few slot below entry) (effects.entry_effect o s here main w n tail xs few slot below entry)
+          none with_stored.words (effects.put_entry_same o s here main w n tail xs few) stored_stamp gives)
       by_slot (Some old) slot found same t =
           let is_slot : IsSlotOf o here w.key slot = subst (IsSlotOf o here w.key) (sym same) found in
-          over_slot slot is_slot.in_bucket t is_slot
+          ends (after (PutsEntry here slot entry) with_stored).words
+          (endings.put_over_slot o s may.idle may.cached now.0 now.1 w is (after (PutsEntry here slot entry) with_stored).words t op (held_none keeps) slot is_slot.in_bucket
+          (effects.entry_here o s here main w n tail xs few slot is_slot.in_bucket entry) (effects.entry_effect o s here main w n tail xs few slot is_slot.in_bucket entry) is_slot)
 
-    -- the state once the item is stored and the slot names it
-    abbrev pub placed : ℕ → ℕ → ℕ → ℕ → OwnerState
-    placed b slot tag p = after (PutsEntry b slot (entry_of tag p)) (with_item (marked_with o b w n) p (item_size w.key w.value) w.key w.value)
-
-    pub end_at_tail : w.op ≡ Put → kept_offset o w ≡ None → n ≡ stamp_of (options_in o) (o.history ++ w ∷ []) → (b slot tag p : ℕ) (old : Option ℕ) → b ≡ bucket_in o w.key → MatchOption old (HasNoSlot o b w.key) (IsSlotOf o b w.key)
-        → tag ≡ tag_of w.key → p ≡ tail_of (stamp_in o) → Takes (with_item (marked_with o b w n) p (item_size w.key w.value) w.key w.value) b old slot
-        → Kept (placed b slot tag p) → MayEnd (placed b slot tag p) b
-    end_at_tail op keeps stamp b slot tag p old in_its sought tag_is p_is =
-        subst (λ (z : ℕ). MatchOption old (HasNoSlot o z w.key) (IsSlotOf o z w.key) → Takes (with_item (marked_with o z w n) p (item_size w.key w.value) w.key w.value) z old slot
-        → Kept (placed z slot tag p) → MayEnd (placed z slot tag p) z) (sym in_its)
-        (subst (λ (z : ℕ). MatchOption old (HasNoSlot o (bucket_in o w.key) w.key) (IsSlotOf o (bucket_in o w.key) w.key) → Takes (with_item (marked_with o (bucket_in o w.key) w n) p (item_size w.key w.value) w.key w.value) (bucket_in o w.key) old slot
-        → Kept (placed (bucket_in o w.key) slot z p) → MayEnd (placed (bucket_in o w.key) slot z p) (bucket_in o w.key)) (sym tag_is)
-        (subst (λ (z : ℕ). MatchOption old (HasNoSlot o (bucket_in o w.key) w.key) (IsSlotOf o (bucket_in o w.key) w.key) → Takes (with_item (marked_with o (bucket_in o w.key) w n) z (item_size w.key w.value) w.key w.value) (bucket_in o w.key) old slot
-        → Kept (placed (bucket_in o w.key) slot (tag_of w.key) z) → MayEnd (placed (bucket_in o w.key) slot (tag_of w.key) z) (bucket_in o w.key)) (sym (p_is ∙ ap tail_of stamp_now))
-        (subst (λ (z : OwnerState). MatchOption old (HasNoSlot o (bucket_in o w.key) w.key) (IsSlotOf o (bucket_in o w.key) w.key) → Takes z (bucket_in o w.key) old slot
-        → Kept (after (PutsEntry (bucket_in o w.key) slot (entry_of (tag_of w.key) (tail_of now.0.stamp))) z) → MayEnd (after (PutsEntry (bucket_in o w.key) slot (entry_of (tag_of w.key) (tail_of now.0.stamp))) z) (bucket_in o w.key))
-        (sym (stored_is op keeps stamp)) (by_slot op keeps stamp old slot)))) sought
+      pub end_at_tail : (b slot tag p : ℕ) (old : Option ℕ) → b ≡ bucket_in o w.key → tag ≡ tag_of w.key → p ≡ tail_of (stamp_in o)
+          → EndsAtTail (stored b p) b (entry_of tag p) old slot
+      end_at_tail b slot tag p old in_its tag_is p_is =
+          subst (λ (z : ℕ × ℕ × ℕ). EndsAtTail (stored z.0 z.1) z.0 (entry_of z.2 z.1) old slot) (λ j. (sym in_its j, sym (p_is ∙ ap tail_of stamp_now) j, sym tag_is j))
+          (subst (λ (z : OwnerState). EndsAtTail z here entry old slot) (sym (item_is tail (item_size w.key w.value))) (by_slot old slot))
 
 -- the record that a put leaves its key
 
@@ -338,7 +306,7 @@ module _ (o : OwnerState) (s : Kept o) (may : MayWrite o) (key value : List ℕ)
       let main : IsMain o.shape b = subst (IsMain o.shape) (sym in_its) (key_main o s key) in
       let its_key : held.0.key ≡ key = found_key key before.records held.0 (keeps_put (options_in o) before (write_of Put key value) held.0 held.1).is in
       let spelt : SpellsItem (marked_with o b (write_of Put key value) n) p key (cell_at held.0).0 = λ i l.
-      effects.marked_item o s.wide (some_words o s) b main (write_of Put key value) n (p + i) ∙ (ap (λ (z : ℕ). item_in o (z + i)) (sym room.1) ∙ room.2.item i l) in
+      effects.marked_item o s b main (write_of Put key value) n (p + i) ∙ (ap (λ (z : ℕ). item_in o (z + i)) (sym room.1) ∙ room.2.item i l) in
       record {
         cell = (cell_at held.0).0;
         there = spelt;
@@ -356,7 +324,7 @@ item_gained o s w is b n p room here =
     let long = length-item_words room w.key w.value in
     let size : size_of w ≤ largest_item = size_at_most w is in
     let least = s.shape.ranges.words.0 in
-    effects.put_same o s.wide (some_words o s) b (subst (IsMain o.shape) (sym here) (key_main o s w.key)) w n p (item_words room w.key w.value) (omega arith)
+    effects.put_same o s b (subst (IsMain o.shape) (sym here) (key_main o s w.key)) w n p (item_words room w.key w.value) (omega arith)
 
 pub gains : (o q new : OwnerState) (w : Write) (b : ℕ) (words : List ℕ) (phase : Phase) → o.phase ≡ Idle
     → q ≡ changed o words (o.history ++ w ∷ []) phase → new ≡ after (Ends b) q → Gains o new w
@@ -376,9 +344,6 @@ stamp_limit o s =
 
 -- writes of keys and values that fit
 
-pub put_is : (key value : List ℕ) → KeyFits key → AreBytes key → ValueFits value → AreBytes value → IsWrite (write_of Put key value)
-put_is key value key_fits key_bytes value_fits value_bytes = record { key = key_fits; key_bytes = key_bytes; value = value_fits; value_bytes = value_bytes }
-
 pub delete_is : (key : List ℕ) → KeyFits key → AreBytes key → IsWrite (write_of Del key [])
 delete_is key key_fits key_bytes = record { key = key_fits; key_bytes = key_bytes; value = refl; value_bytes = λ k. omega arith }
 
@@ -387,8 +352,7 @@ pub found_had : (o : OwnerState) → Kept o → MayWrite o → (key : List ℕ) 
     → MatchOption slot (HasNoSlot o b key) (IsSlotOf o b key) → is_some slot ≡ had_record o key
 found_had o s may key bytes b here slot found =
     let now = cached_in (options_in o) may.cached o.history in
-    let main : IsMain o.shape b = subst (IsMain o.shape) (sym here) (key_main o s key) in
-    let stood = s.state b main (ap (λ (z : Phase). marked_in z b) may.idle) in
+    let stood = stands_at o s key may.idle b here in
     subst (λ (z : State). is_some slot ≡ had_record_by z key) (sym now.1) (by_slot now.0 now.1 stood slot found)
   where
     by_slot : (m : Cache) → state_in o ≡ cache_state m → StandsFor o b → (slot : Option ℕ) → MatchOption slot (HasNoSlot o b key) (IsSlotOf o b key)
@@ -403,8 +367,7 @@ pub kept_slot : (o : OwnerState) → Kept o → (may : MayWrite o) → (w : Writ
     → MatchOption slot (HasNoSlot o b w.key) (IsSlotOf o b w.key) → (i : ℕ) × IsSlotOf o b w.key i
 kept_slot o s may w is p b keeps here (Some slot) found = (slot, found)
 kept_slot o s may w is p b keeps here None none =
-    let main : IsMain o.shape b = subst (IsMain o.shape) (sym here) (key_main o s w.key) in
-    let stood = s.state b main (ap (λ (z : Phase). marked_in z b) may.idle) in
+    let stood = stands_at o s w.key may.idle b here in
     let absent : record_of (now o s may w is).0 w.key ≡ None = slots.no_record o s (now o s may w is).0 (now o s may w is).1 may.cached b w.key stood (sym here) none in
     let held = held_at o s may w is p keeps in
     let not_kept : kept_record (options_in o) (now o s may w is).0 w ≡ None = ap (cs.kept_if (options_in o) (now o s may w is).0 w) absent in
@@ -424,8 +387,7 @@ kept_if_is false r = refl
 
 pub no_slot_keeps : (o : OwnerState) → Kept o → (may : MayWrite o) → (w : Write) → (b : ℕ) → b ≡ bucket_in o w.key → HasNoSlot o b w.key → kept_offset o w ≡ None
 no_slot_keeps o s may w b here none =
-    let main : IsMain o.shape b = subst (IsMain o.shape) (sym here) (key_main o s w.key) in
-    let stood = s.state b main (ap (λ (z : Phase). marked_in z b) may.idle) in
+    let stood = stands_at o s w.key may.idle b here in
     let there = cached_in (options_in o) may.cached o.history in
     subst (λ (z : State). kept_offset_by (options_in o) z w ≡ None) (sym there.1)
     (none_kept (options_in o) there.0 w (slots.no_record o s there.0 there.1 may.cached b w.key stood (sym here) none))
@@ -434,8 +396,7 @@ pub slot_keeps : (o : OwnerState) → Kept o → (may : MayWrite o) → (w : Wri
     → (stamp offset room : ℕ) → stamp ≡ stamp_in o → offset ≡ entry_offset (entry_in o b slot) → room ≡ room_in o (entry_in o b slot)
     → (fits : Bool) → fits ≡ (nat_le (size_of w) room && is_live o.shape.words (stamp + 1) offset) → then_some fits offset ≡ kept_offset o w
 slot_keeps o s may w is b slot here found stamp offset room stamp_is offset_is room_is_now fits fits_is =
-    let main : IsMain o.shape b = subst (IsMain o.shape) (sym here) (key_main o s w.key) in
-    let stood = s.state b main (ap (λ (z : Phase). marked_in z b) may.idle) in
+    let stood = stands_at o s w.key may.idle b here in
     let there = cached_in (options_in o) may.cached o.history in
     let spelt = slots.slot_spells o s may.cached b slot w.key is.key_bytes stood found in
     let held = slots.record_spelt o s there.0 there.1 b (entry_in o b slot) w.key spelt.0 spelt.1 in

@@ -50,9 +50,9 @@ end_write-requires g c =
     ∙ sym (stamp_appended o c.requires.kept c.requires.may (write_of Put c.args.key.now c.args.value.now) c.requires.write refl c.requires.at_tail) in
     subst (λ (z : OwnerState). MayEnd z c.args.sought.now.bucket) (sym whole)
     (end_at_tail o c.requires.kept c.requires.may (write_of Put c.args.key.now c.args.value.now) c.requires.write (c.args.sought.now.stamp + 65536 * c.from.result) refl c.requires.at_tail stamp
-    c.args.sought.now.bucket c.place.result c.tag_of.result c.tail_of-tail.result c.args.sought.now.slot c.requires.sought.bucket c.requires.sought.found
+    c.args.sought.now.bucket c.place.result c.tag_of.result c.tail_of-tail.result c.args.sought.now.slot c.requires.sought.bucket
     (c.tag_of.ensures ∙ (ap hash_tag c.requires.sought.hash ∙ sym (tag_of_hash c.args.key.now)))
-    (c.tail_of-tail.ensures ∙ ap tail_of c.requires.sought.stamp)
+    (c.tail_of-tail.ensures ∙ ap tail_of c.requires.sought.stamp) c.requires.sought.found
     (subst (λ (z : OwnerState). Takes z c.args.sought.now.bucket c.args.sought.now.slot c.place.result) event c.place.ensures.slot)
     (subst Kept whole c.place.ensures.kept))
 
