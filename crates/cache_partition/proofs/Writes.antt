@@ -3,11 +3,11 @@ use Rattle.mica_model.specs.Cache as cache
 use Rattle.mica_model.specs.Store as store
 use Rattle.mica_model.specs.CacheStep as cs
 use Rattle.mica_model.proofs.Found as found
-use Rattle.cache_partition.proofs.Words.{Allows, AreBytes, Begins, Begun, Bool, Cache, CacheMode, Cell, Del, Ends, Gains, GivesWay, HasNoSlot, Idle}
+use Rattle.cache_partition.proofs.Words.{marked_in, Allows, AreBytes, Begins, Begun, Bool, Cache, CacheMode, Cell, Del, Ends, Gains, GivesWay, HasNoSlot, Idle}
 use Rattle.cache_partition.proofs.Words.{IsAcceptedAfter, IsKept, IsMain, IsOwnerStep, IsSlotOf, IsWrite, Kept, KeyFits, List, Marked, MatchOption}
 use Rattle.cache_partition.proofs.Words.{MayAppend, MayBegin, MayEnd, MayGive, MayMark, MayRewrite, MayWrite, Mode, None, Op, Option, Options}
-use Rattle.cache_partition.proofs.Words.{Outcome, OwnerState, Phase, Put, PutsEntry, Record, Some, Spells, SpellsItem, StandsFor, State, StoreMode}
-use Rattle.cache_partition.proofs.Words.{Takes, Worn, Write, [], accepted_in, accepted_is_length, after, ap, arith, as_made, bit_same, bucket_in}
+use Rattle.cache_partition.proofs.Words.{Outcome, OwnerState, Put, PutsEntry, Record, Some, Spells, SpellsItem, StandsFor, State, StoreMode, Takes}
+use Rattle.cache_partition.proofs.Words.{Worn, Write, [], accepted_in, accepted_is_length, after, ap, arith, as_made, bit_same, bucket_in}
 use Rattle.cache_partition.proofs.Words.{cache_state, cached_in, cell_at, changed, cond, empty, entry_in, entry_of, entry_offset, false, found_key}
 use Rattle.cache_partition.proofs.Words.{found_map, had_record, had_record_by, has_key, header_room, is_accepted, is_its_key, is_live, is_some}
 use Rattle.cache_partition.proofs.Words.{item_in, item_size, item_words, keeps_put, kept_in, kept_offset, kept_offset_by, kept_record, largest_item}
@@ -315,25 +315,31 @@ module _ (o : OwnerState) (s : Kept o) (may : MayWrite o) (key value : List ℕ)
             ∙ (λ j. Some (record { key = its_key j; value = value; offset = held.2 j; room = held.0.room })));
       }
 
--- what was marked and stored is the history's gain, and other words
+-- the history has the write already, which is marked, and beside it words alone have changed
+abbrev pub HasGained : OwnerState → OwnerState → Write → Type 0
+HasGained o q w = q ≡ changed o q.words (o.history ++ w ∷ []) (Marked (bucket_in o w.key) w o.history)
 
 pub item_gained : (o : OwnerState) → Kept o → (w : Write) → IsWrite w → (b n p room : ℕ) → b ≡ bucket_in o w.key
-    → with_item (marked_with o b w n) p room w.key w.value
-    ≡ changed o (with_item (marked_with o b w n) p room w.key w.value).words (o.history ++ w ∷ []) (Marked (bucket_in o w.key) w o.history)
-item_gained o s w is b n p room here =
+    → (q : OwnerState) → q ≡ with_item (marked_with o b w n) p room w.key w.value → HasGained o q w
+item_gained o s w is b n p room here q stored =
     let long = length-item_words room w.key w.value in
     let size : size_of w ≤ largest_item = size_at_most w is in
     let least = s.shape.ranges.words.0 in
-    effects.put_same o s b (subst (IsMain o.shape) (sym here) (key_main o s w.key)) w n p (item_words room w.key w.value) (omega arith)
+    subst (λ (z : OwnerState). HasGained o z w) (sym stored)
+    (effects.put_same o s b (subst (IsMain o.shape) (sym here) (key_main o s w.key)) w n p (item_words room w.key w.value) (omega arith))
 
-pub gains : (o q new : OwnerState) (w : Write) (b : ℕ) (words : List ℕ) (phase : Phase) → o.phase ≡ Idle
-    → q ≡ changed o words (o.history ++ w ∷ []) phase → new ≡ after (Ends b) q → Gains o new w
-gains o q new w b words phase idle gained is =
-    let ended : List ℕ = (after (Ends b) (changed o words (o.history ++ w ∷ []) phase)).words in
-    let whole : new ≡ after (Ends b) (changed o words (o.history ++ w ∷ []) phase) = is ∙ ap (after (Ends b)) gained in
-    let between : after (Ends b) (changed o words (o.history ++ w ∷ []) phase) ≡ record o { words = ended; history = o.history ++ w ∷ [] } =
-    (λ j. record o { words = ended; history = o.history ++ w ∷ []; phase = sym idle j }) in
-    whole ∙ (between ∙ ap (λ (z : OwnerState). record o { words = z.words; history = o.history ++ w ∷ [] }) (sym whole))
+module _ (o q : OwnerState) (w : Write) (gained : HasGained o q w) (b : ℕ) where
+  pub gained_marked : Kept o → b ≡ bucket_in o w.key → (marked_in q.phase b ≡ 1) × IsMain q.shape b
+  gained_marked s here = subst (λ (z : OwnerState). (marked_in z.phase b ≡ 1) × IsMain z.shape b) (sym gained)
+      (bit_same (bucket_in o w.key) b (sym here), subst (IsMain o.shape) (sym here) (key_main o s w.key))
+
+  pub gained_entry : (slot x : ℕ) (q' : OwnerState) → q' ≡ after (PutsEntry b slot x) q → HasGained o q' w
+  gained_entry slot x q' is = subst (λ (z : OwnerState). HasGained o z w) (sym (is ∙ ap (after (PutsEntry b slot x)) gained)) refl
+
+  pub gains : (new : OwnerState) → o.phase ≡ Idle → new ≡ after (Ends b) q → Gains o new w
+  gains new idle is =
+      let ended : List ℕ = (after (Ends b) (changed o q.words (o.history ++ w ∷ []) (Marked (bucket_in o w.key) w o.history))).words in
+      subst (λ (z : OwnerState). Gains o z w) (sym (is ∙ ap (after (Ends b)) gained)) (λ j. record o { words = ended; history = o.history ++ w ∷ []; phase = sym idle j })
 
 -- the stamp stays far below the limit of a word
 pub stamp_limit : (o : OwnerState) → Kept o → stamp_in o ≤ most_stamp
