@@ -1,29 +1,13 @@
 -- What the key's slot tells of the answer to a get.
-use Rattle.std.proofs.Common.{◌≡◌, ℕ, List, Some, None, sym, ap, ◌∙◌, subst}
-use Rattle.std.specs.Prelude.{option_map}
-use Rattle.mica_words.specs.Entry.{entry_offset}
-use Rattle.mica_words.specs.Packing.{AreBytes}
-use Rattle.mica_model.specs.declared.options.Mode.TheVariants.{Cache as CacheMode}
-use Rattle.mica_model.specs.Cache.{Record}
-use Rattle.mica_model.specs.Store.{Cell}
-use Rattle.mica_model.specs.History.{State, value_in, answer_of}
-use Rattle.mica_model.proofs.Histories.{cached_in}
-use Rattle.epoch_core.specs.declared.state.OwnerState.{OwnerState}
-use Rattle.epoch_core.specs.declared.state.Phase.{Phase}
-use Rattle.epoch_core.specs.declared.state.Phase.TheVariants.{Idle}
-use Rattle.epoch_core.specs.Shape.{IsMain}
-use Rattle.epoch_core.specs.OwnerState.{entry_in, options_in, bucket_in, marked_in}
-use Rattle.epoch_core.specs.StandsFor.{Spells, StandsFor}
-use Rattle.epoch_core.specs.Kept.{Kept}
-use Rattle.epoch_core.proofs.Machine.{has_fits}
-use Rattle.circular_log.specs.LogItem.{IsItem}
-use Rattle.lossy_index.specs.Slot.{IsSlotOf, HasNoSlot}
+use Rattle.cache_partition.proofs.Words.{AreBytes, CacheMode, Cell, HasNoSlot, Idle, IsItem, IsSlotOf, Kept, List, None, OwnerState, Record, Some}
+use Rattle.cache_partition.proofs.Words.{Spells, StandsFor, State, answer_of, ap, bucket_in, cached_in, entry_in, entry_offset, has_fits, option_map}
+use Rattle.cache_partition.proofs.Words.{options_in, subst, sym, value_in, ℕ, ◌∙◌, ◌≡◌}
 use Rattle.cache_partition.proofs.Slots as slots
-use Rattle.cache_partition.proofs.Endings.{key_main}
+use Rattle.cache_partition.proofs.Endings.{stands_at}
 
 module _ (o : OwnerState) (s : Kept o) (idle : o.phase ≡ Idle) (mode : o.shape.mode ≡ CacheMode) (key : List ℕ) (bytes : AreBytes key) (b : ℕ) (here : b ≡ bucket_in o key) where
   stood : StandsFor o b
-  stood = s.state b (subst (IsMain o.shape) (sym here) (key_main o s key)) (ap (λ (z : Phase). marked_in z b) idle)
+  stood = stands_at o s key idle b here
 
   -- without a slot there is none
   pub missed : HasNoSlot o b key → answer_of (options_in o) o.history key ≡ None

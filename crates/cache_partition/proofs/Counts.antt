@@ -1,33 +1,14 @@
 -- How many of the log's records the live slots of a bucket have, where a put's key has no record yet.
-use Rattle.std.proofs.Common.{◌≡◌, ◌≢◌, ℕ, suc, ◌+◌, ◌<◌, ◌≤◌, inl, List, [], ◌∷◌, length, eqb, Some, None, Bool, true, false, cond, not, refl, sym, ap, ◌∙◌, subst, arith, ⊎_elim}
-use Rattle.std.specs.List.{find, filter, count_by, list_any, IsDistinct, AllByRecursion as AllOf}
-use Rattle.std.proofs.lemmas.Bool.{true≢false, cases_Bool, leb-true, eqb-true, eq-eqb, ne_eqb}
-use Rattle.std.proofs.lemmas.Bool.Decides.{nat_tests}
-use Rattle.std.proofs.lemmas.Option.{same_Some}
-use Rattle.std.proofs.lemmas.List.Sums.{length-filter}
-use Rattle.std.proofs.lemmas.Map.Keys.{IsDistinct-cons}
-use Rattle.std.proofs.lemmas.Map.Steps.{length-le_from_distinct_below, le-length_from_below}
-use Rattle.mica_words.specs.Entry.{entry_offset}
-use Rattle.mica_words.specs.Stamp.{tail_of}
-use Rattle.mica_model.specs.declared.options.Mode.TheVariants.{Cache as CacheMode}
-use Rattle.mica_model.specs.declared.write.Op.TheVariants.{Put}
-use Rattle.mica_model.specs.declared.write.Write.{Write}
-use Rattle.mica_model.specs.Options.{IsValid}
-use Rattle.mica_model.specs.Store.{Cell}
-use Rattle.mica_model.specs.Write.{IsWrite}
-use Rattle.mica_model.specs.Cache.{Cache, Record, has_key, record_of, is_live}
-use Rattle.mica_model.specs.CacheFields.{IsUnique}
 use Rattle.mica_model.specs.CacheStep as cs
-use Rattle.mica_model.specs.CacheStep.{others, kept_record}
-use Rattle.mica_model.specs.History.{cache_state, stamp_in as stamp_of_state}
-use Rattle.mica_model.proofs.CacheKept.{IsKept, here_of}
 use Rattle.mica_model.proofs.Found as found
 use Rattle.mica_model.proofs.Laid as laid
-use Rattle.epoch_core.specs.declared.state.OwnerState.{OwnerState}
-use Rattle.epoch_core.specs.OwnerState.{stamp_in, entry_in, options_in, state_in, bucket_in}
-use Rattle.epoch_core.specs.LiveEntry.{HasLiveEntry}
-use Rattle.epoch_core.specs.StandsFor.{cell_at, Spells, StandsFor}
-use Rattle.epoch_core.specs.Kept.{Kept}
+use Rattle.cache_partition.proofs.Words.{AllOf, Bool, Cache, CacheMode, Cell, HasLiveEntry, IsDistinct, IsDistinct-cons, IsKept, IsUnique, IsValid}
+use Rattle.cache_partition.proofs.Words.{IsWrite, Kept, List, None, OwnerState, Put, Record, Some, Spells, StandsFor, Write, [], ap, arith, bucket_in}
+use Rattle.cache_partition.proofs.Words.{cache_state, cases_Bool, cell_at, cond, count_by, entry_in, entry_offset, eq-eqb, eqb, eqb-true, false}
+use Rattle.cache_partition.proofs.Words.{filter, find, has_key, here_of, inl, is_live, kept_record, le-length_from_below, leb-true, length}
+use Rattle.cache_partition.proofs.Words.{length-filter, length-le_from_distinct_below, list_any, nat_tests, ne_eqb, not, options_in, others}
+use Rattle.cache_partition.proofs.Words.{record_of, refl, same_Some, stamp_in, stamp_of_state, state_in, subst, suc, sym, tail_of, true, true≢false}
+use Rattle.cache_partition.proofs.Words.{ℕ, ⊎_elim, ◌+◌, ◌<◌, ◌∙◌, ◌∷◌, ◌≡◌, ◌≢◌, ◌≤◌}
 use Rattle.cache_partition.proofs.Slots.{is_live_item, only_key, alone, record_spelt, has_record}
 use Rattle.cache_partition.proofs.Displaced.{all_both, each_found}
 use Rattle.cache_partition.proofs.Leaves.{live_others, live_others_on}

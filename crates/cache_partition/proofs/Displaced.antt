@@ -1,13 +1,7 @@
 -- Lists of the log's records: which one is displaced, and what is left.
-use Rattle.std.proofs.Common.{◌≡◌, ◌≢◌, ℕ, ◌+◌, ◌≤◌, ◌<◌, List, [], ◌∷◌, Some, None, Bool, true, false, cond, refl, sym, ap, ◌∙◌, arith}
-use Rattle.std.specs.List.{find, count_by, AllByRecursion as AllOf}
-use Rattle.std.proofs.lemmas.Bool.{true≢false}
-use Rattle.std.proofs.lemmas.Option.{same_Some}
-use Rattle.mica_model.specs.Cache.{Record, has_key}
-use Rattle.mica_model.specs.CacheFields.{IsUnique}
-use Rattle.mica_model.specs.CacheStep.{without_first}
-use Rattle.mica_model.proofs.Found.{found_has, missed_all, all_weaker, count_cons}
-use Rattle.mica_model.proofs.Laid.{has_its_key, has_other_key, IsLaid, laid_found}
+use Rattle.cache_partition.proofs.Words.{AllOf, Bool, IsLaid, IsUnique, List, None, Record, Some, [], all_weaker, ap, arith, cond, count_by}
+use Rattle.cache_partition.proofs.Words.{count_cons, false, find, found_has, has_key, has_other_key, is_its_key, laid_found, missed_all, refl}
+use Rattle.cache_partition.proofs.Words.{same_Some, sym, true, true≢false, without_first, ℕ, ◌+◌, ◌<◌, ◌∙◌, ◌∷◌, ◌≡◌, ◌≢◌, ◌≤◌}
 
 pub all_both : {X : Type 0} (P Q : X → Type 0) (xs : List X) → AllOf P xs → AllOf Q xs → AllOf (λ x. P x × Q x) xs
 all_both P Q [] ps qs = tt
@@ -26,15 +20,15 @@ some_found p (x ∷ xs) some =
 -- a key that another, found record has
 apart_key : (here : Record → Bool) (x f : Record) (xs : List Record) → find (has_key x.key) xs ≡ None → find here xs ≡ Some f → x.key ≢ f.key
 apart_key here x f xs none is same =
-    true≢false (sym (has_its_key x.key f (sym same)) ∙ found_has (λ r. has_key x.key r ≡ false) here xs f (missed_all (has_key x.key) xs none) is)
+    true≢false (sym (is_its_key x.key f (sym same)) ∙ found_has (λ r. has_key x.key r ≡ false) here xs f (missed_all (has_key x.key) xs none) is)
 
 -- each of unique records is the one of its key
 pub each_found : (rs : List Record) → IsUnique rs → AllOf (λ r. find (has_key r.key) rs ≡ Some r) rs
 each_found [] unique = tt
 each_found (x ∷ rs) unique = (
-  ap (λ b. cond b (Some x) (find (has_key x.key) rs)) (has_its_key x.key x refl),
+  ap (λ b. cond b (Some x) (find (has_key x.key) rs)) (is_its_key x.key x refl),
   all_weaker (λ r. (find (has_key r.key) rs ≡ Some r) × (has_key x.key r ≡ false)) (λ r. cond (has_key r.key x) (Some x) (find (has_key r.key) rs) ≡ Some r)
-      (λ r h. ap (λ b. cond b (Some x) (find (has_key r.key) rs)) (has_other_key r.key x (λ same. true≢false (sym (has_its_key x.key r (sym same)) ∙ h.1))) ∙ h.0) rs
+      (λ r h. ap (λ b. cond b (Some x) (find (has_key r.key) rs)) (has_other_key r.key x (λ same. true≢false (sym (is_its_key x.key r (sym same)) ∙ h.1))) ∙ h.0) rs
       (all_both (λ r. find (has_key r.key) rs ≡ Some r) (λ r. has_key x.key r ≡ false) rs (each_found rs unique.1) (missed_all (has_key x.key) rs unique.0)),
 )
 

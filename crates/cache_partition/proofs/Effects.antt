@@ -1,17 +1,8 @@
 -- What the events of a write make of the entries of its bucket and of the item words.
-use Rattle.std.proofs.Common.{◌≡◌, ◌≢◌, ℕ, ◌+◌, ◌<◌, ◌≤◌, inr, List, [], ◌∷◌, ◌++◌, length, get_or, ◌∙◌, arith, length-set}
-use Rattle.mica_model.specs.declared.write.Write.{Write}
-use Rattle.epoch_core.specs.declared.state.OwnerState.{OwnerState}
-use Rattle.epoch_core.specs.declared.state.Phase.TheVariants.{Marked}
-use Rattle.epoch_core.specs.declared.event.Event.TheVariants.{Begins, Marks, PutsEntry}
-use Rattle.epoch_core.specs.Shape.{IsMain}
-use Rattle.epoch_core.specs.Layout.{entry_at, item_at, word_count}
-use Rattle.epoch_core.specs.OwnerState.{stamp_in, entry_in, item_in, bucket_in}
-use Rattle.epoch_core.specs.Events.{after, plays, puts_from}
-use Rattle.epoch_core.proofs.Carried.{changed}
-use Rattle.epoch_core.proofs.EventWords.{entry_begins, entry_marks, item_begins, item_marks, stamp_marks, entry_puts, entry_puts_other, item_puts_entry, stamp_puts_entry}
-use Rattle.epoch_core.proofs.Places.{no_item}
-use Rattle.epoch_core.proofs.Puts.{PutsWords, puts_words}
+use Rattle.cache_partition.proofs.Words.{Begins, IsMain, Kept, List, Marked, Marks, OwnerState, PutsEntry, PutsWords, Write, [], after, arith}
+use Rattle.cache_partition.proofs.Words.{bucket_in, changed, entry_at, entry_begins, entry_in, entry_marks, entry_puts, entry_puts_other, get_or, inr}
+use Rattle.cache_partition.proofs.Words.{item_at, item_begins, item_in, item_marks, item_puts_entry, length, length-set, no_item, plays, puts_from}
+use Rattle.cache_partition.proofs.Words.{puts_words, some_words, stamp_in, stamp_marks, word_count, ℕ, ◌++◌, ◌+◌, ◌<◌, ◌∙◌, ◌∷◌, ◌≡◌, ◌≢◌, ◌≤◌}
 
 -- The words from the offset on are these, and no other item word has changed, nor an entry of the bucket but that of
 -- the slot.
@@ -20,7 +11,7 @@ pub record Effect (o q : OwnerState) (b slot p : ℕ) (xs : List ℕ) : Type 0 w
   pub items : (i : ℕ) → i < length xs → item_in q (p + i) ≡ get_or xs i 0
   pub others : (z : ℕ) → ((i : ℕ) → i < length xs → item_at o.shape z ≢ item_at o.shape (p + i)) → item_in q z ≡ item_in o z
 
-module _ (o : OwnerState) (wide : length o.words ≡ word_count o.shape) (some : 0 < o.shape.words) (b : ℕ) (main : IsMain o.shape b) (w : Write) (n : ℕ) where
+module _ (o : OwnerState) (s : Kept o) (b : ℕ) (main : IsMain o.shape b) (w : Write) (n : ℕ) where
   abbrev marked : OwnerState
   marked = after (Marks w n) (after (Begins b) o)
 
@@ -29,45 +20,32 @@ module _ (o : OwnerState) (wide : length o.words ≡ word_count o.shape) (some :
   with_words words = changed o words (o.history ++ w ∷ []) (Marked (bucket_in o w.key) w o.history)
 
   length-begun : length (after (Begins b) o).words ≡ word_count o.shape
-  length-begun = length-set o.words _ _ ∙ wide
+  length-begun = length-set o.words _ _ ∙ s.wide
 
-  pub length-marked : length (after (Marks w n) (after (Begins b) o)).words ≡ word_count o.shape
+  length-marked : length (after (Marks w n) (after (Begins b) o)).words ≡ word_count o.shape
   length-marked = length-set (after (Begins b) o).words _ _ ∙ length-begun
 
-  pub marked_stamp : stamp_in (after (Marks w n) (after (Begins b) o)) ≡ n
-  marked_stamp = stamp_marks (after (Begins b) o) length-begun w n
-
   -- begin and mark change no entry and no item word
-  pub marked_entry : (i : ℕ) → i < 15 → entry_in (after (Marks w n) (after (Begins b) o)) b i ≡ entry_in o b i
-  marked_entry i l = entry_marks (after (Begins b) o) length-begun w n b i ∙ entry_begins o wide b b i main l
+  marked_entry : (i : ℕ) → i < 15 → entry_in (after (Marks w n) (after (Begins b) o)) b i ≡ entry_in o b i
+  marked_entry i l = entry_marks (after (Begins b) o) length-begun w n b i ∙ entry_begins o s.wide b b i main l
 
   pub marked_item : (z : ℕ) → item_in (after (Marks w n) (after (Begins b) o)) z ≡ item_in o z
-  marked_item z = item_marks (after (Begins b) o) length-begun w n z ∙ item_begins o wide b z main
-
-  pub marked_effect : (slot : ℕ) → Effect o (after (Marks w n) (after (Begins b) o)) b slot 0 []
-  marked_effect slot = record {
-    entries = λ i l other. marked_entry i l;
-    items = λ i l. absurd (omega arith);
-    others = λ z none. marked_item z;
-  }
+  marked_item z = item_marks (after (Begins b) o) length-begun w n z ∙ item_begins o s.wide b z main
 
   -- item words
 
   module _ (p : ℕ) (xs : List ℕ) (few : length xs ≤ o.shape.words) where
     put : PutsWords (after (Marks w n) (after (Begins b) o)) (plays (puts_from p xs) (after (Marks w n) (after (Begins b) o))) p xs
-    put = puts_words (after (Marks w n) (after (Begins b) o)) p xs length-marked some few
+    put = puts_words (after (Marks w n) (after (Begins b) o)) p xs length-marked (some_words o s) few
 
-    abbrev put_words : List ℕ
+    abbrev pub put_words : List ℕ
     put_words = (plays (puts_from p xs) (after (Marks w n) (after (Begins b) o))).words
 
-    pub put_same : plays (puts_from p xs) (after (Marks w n) (after (Begins b) o)) ≡ with_words (plays (puts_from p xs) (after (Marks w n) (after (Begins b) o))).words
+    pub put_same : plays (puts_from p xs) (after (Marks w n) (after (Begins b) o)) ≡ with_words put_words
     put_same = put.same
 
-    pub length-put : length (plays (puts_from p xs) (after (Marks w n) (after (Begins b) o))).words ≡ word_count o.shape
-    length-put = put.wide ∙ length-marked
-
     pub put_stamp : stamp_in (with_words put_words) ≡ n
-    put_stamp = put.others 0 (λ i l is. omega arith) ∙ marked_stamp
+    put_stamp = put.others 0 (λ i l is. omega arith) ∙ stamp_marks (after (Begins b) o) length-begun w n
 
     pub put_entry_same : (i : ℕ) → i < 15 → entry_in (with_words put_words) b i ≡ entry_in o b i
     put_entry_same i l =
@@ -80,19 +58,18 @@ module _ (o : OwnerState) (wide : length o.words ≡ word_count o.shape) (some :
       others = λ z none. put.others (item_at o.shape z) none ∙ marked_item z;
     }
 
-  -- an entry
+    -- and an entry
 
-  module _ (words : List ℕ) (long : length words ≡ word_count o.shape) (slot : ℕ) (below : slot < 15) (x p : ℕ) (xs : List ℕ)
-      (same : (i : ℕ) → i < 15 → entry_in (with_words words) b i ≡ entry_in o b i) (effect : Effect o (with_words words) b slot p xs) where
-    pub entry_here : entry_in (after (PutsEntry b slot x) (with_words words)) b slot ≡ x
-    entry_here = entry_puts (with_words words) long b slot x (omega arith) below
+    module _ (slot : ℕ) (below : slot < 15) (x : ℕ) where
+      long : length put_words ≡ word_count o.shape
+      long = put.wide ∙ length-marked
 
-    pub entry_stamp : stamp_in (after (PutsEntry b slot x) (with_words words)) ≡ stamp_in (with_words words)
-    entry_stamp = stamp_puts_entry (with_words words) long b slot x
+      pub entry_here : entry_in (after (PutsEntry b slot x) (with_words put_words)) b slot ≡ x
+      entry_here = entry_puts (with_words put_words) long b slot x (omega arith) below
 
-    pub entry_effect : Effect o (after (PutsEntry b slot x) (with_words words)) b slot p xs
-    entry_effect = record {
-      entries = λ i l other. entry_puts_other (with_words words) long b slot x b i below l (inr other) ∙ same i l;
-      items = λ i l. item_puts_entry (with_words words) long b slot x (p + i) (omega arith) below ∙ effect.items i l;
-      others = λ z none. item_puts_entry (with_words words) long b slot x z (omega arith) below ∙ effect.others z none;
-    }
+      pub entry_effect : Effect o (after (PutsEntry b slot x) (with_words put_words)) b slot p xs
+      entry_effect = record {
+        entries = λ i l other. entry_puts_other (with_words put_words) long b slot x b i below l (inr other) ∙ put_entry_same i l;
+        items = λ i l. item_puts_entry (with_words put_words) long b slot x (p + i) (omega arith) below ∙ put.put i l;
+        others = λ z none. item_puts_entry (with_words put_words) long b slot x z (omega arith) below ∙ (put_effect slot).others z none;
+      }

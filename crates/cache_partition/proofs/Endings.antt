@@ -1,56 +1,32 @@
 -- The ways in which a write ends, each with what it leaves of its bucket.
-use Rattle.std.proofs.Common.{◌≡◌, ◌≢◌, ℕ, ◌+◌, ◌*◌, ◌^◌, ◌<◌, ◌≤◌, inl, inr, List, [], ◌∷◌, ◌++◌, length, get_or, Option, Some, None, refl, sym, ap, ◌∙◌, subst, arith, add-zero, ⊎_elim}
-use Rattle.std.specs.List.{find, count_by}
-use Rattle.std.proofs.lemmas.Bool.{cases_lt}
-use Rattle.std.proofs.lemmas.Nat.{pow_pos}
-use Rattle.std.proofs.lemmas.Option.{same_Some}
-use Rattle.mica_words.specs.Hash.{tag_of}
-use Rattle.mica_words.specs.Entry.{entry_of, entry_tag, entry_offset}
-use Rattle.mica_words.specs.Header.{header_room}
-use Rattle.mica_words.specs.Item.{item_size}
-use Rattle.mica_words.specs.Spelling.{item_words}
-use Rattle.mica_words.specs.Stamp.{tail_of}
-use Rattle.mica_words.proofs.Fields.{entry_tag-entry_of, entry_offset-entry_of, entry_not_empty, header_room-header_of}
-use Rattle.mica_words.proofs.Hashes.{bucket_of-below, tag_of-range}
-use Rattle.mica_words.proofs.ItemWords.{length-item_words, header_word}
-use Rattle.mica_model.specs.declared.options.Mode.{Mode}
-use Rattle.mica_model.specs.declared.options.Mode.TheVariants.{Cache as CacheMode}
-use Rattle.mica_model.specs.declared.write.Op.TheVariants.{Put, Del}
-use Rattle.mica_model.specs.declared.write.Write.{Write}
-use Rattle.mica_model.specs.Write.{IsWrite}
-use Rattle.mica_model.specs.Cache.{Cache, Record, record_of}
 use Rattle.mica_model.specs.CacheStep as cs
-use Rattle.mica_model.specs.CacheStep.{kept_record, new_record}
-use Rattle.mica_model.specs.Store.{Cell}
-use Rattle.mica_model.specs.History.{cache_state, stamp_in as stamp_of_state}
-use Rattle.mica_model.proofs.CacheKept.{IsKept, begin_of, offset_of, keeps_put, here_of}
-use Rattle.mica_model.proofs.CacheLaws.{kept_in, window_kept, fits_kept, apart_kept, put_item}
-use Rattle.mica_model.proofs.Stamps.{stamp_small}
-use Rattle.epoch_core.specs.declared.state.OwnerState.{OwnerState}
-use Rattle.epoch_core.specs.declared.state.Phase.{Phase}
-use Rattle.epoch_core.specs.declared.state.Phase.TheVariants.{Idle, Marked}
-use Rattle.epoch_core.specs.Shape.{IsMain}
-use Rattle.epoch_core.specs.OwnerState.{stamp_in, entry_in, item_in, options_in, state_in, bucket_in, marked_in}
-use Rattle.epoch_core.specs.LiveEntry.{HasLiveEntry}
-use Rattle.epoch_core.specs.StandsFor.{cell_at, Has, IsOffset, Spells, room_in, StandsFor}
-use Rattle.epoch_core.specs.Kept.{Kept}
-use Rattle.epoch_core.proofs.Carried.{changed}
-use Rattle.epoch_core.proofs.Log.{other_rooms}
-use Rattle.lossy_index.specs.Slot.{IsSlotOf, HasNoSlot, IsEmpty, IsPassed, offset_in}
-use Rattle.lossy_index.specs.Place.{GivesWay, HoldsOfNone, empty, passed, oldest}
+use Rattle.cache_partition.proofs.Words.{Cache, CacheMode, Cell, Del, GivesWay, Has, HasLiveEntry, HasNoSlot, HoldsOfNone, Idle, IsEmpty, IsKept}
+use Rattle.cache_partition.proofs.Words.{IsMain, IsOffset, IsPassed, IsSlotOf, IsWrite, Kept, List, Marked, Mode, None, Option, OwnerState, Phase}
+use Rattle.cache_partition.proofs.Words.{Put, Record, Some, Spells, StandsFor, Write, [], add-zero, ap, apart_kept, arith, begin_of, bucket_in}
+use Rattle.cache_partition.proofs.Words.{bucket_of-below, cache_state, cases_lt, cell_at, changed, count_by, empty, entry_in, entry_not_empty}
+use Rattle.cache_partition.proofs.Words.{entry_of, entry_offset, entry_offset-entry_of, entry_tag, entry_tag-entry_of, find, fits_kept, get_or}
+use Rattle.cache_partition.proofs.Words.{header_room, header_room-header_of, header_word, here_of, inl, inr, item_in, item_size, item_words}
+use Rattle.cache_partition.proofs.Words.{keeps_put, kept_in, kept_record, length, length-item_words, marked_in, new_record, offset_in, offset_of}
+use Rattle.cache_partition.proofs.Words.{oldest, options_in, other_rooms, passed, pow_pos, put_item, record_of, refl, room_in, same_Some}
+use Rattle.cache_partition.proofs.Words.{stamp_in, stamp_of_state, stamp_small, state_in, subst, sym, tag_of, tag_of-range, tail_of, window_kept, ℕ}
+use Rattle.cache_partition.proofs.Words.{⊎_elim, ◌*◌, ◌++◌, ◌+◌, ◌<◌, ◌^◌, ◌∙◌, ◌∷◌, ◌≡◌, ◌≢◌, ◌≤◌, ◌⊎◌}
 use Rattle.cache_partition.proofs.Slots as slots
-use Rattle.cache_partition.proofs.Displaced.{some_found}
 use Rattle.cache_partition.proofs.Leaves as leaves
-use Rattle.cache_partition.proofs.Leaves.{Leaves, Nothing}
 use Rattle.cache_partition.proofs.Counts as counts
+use Rattle.cache_partition.proofs.Displaced.{some_found}
+use Rattle.cache_partition.proofs.Leaves.{Leaves, Nothing}
 use Rattle.cache_partition.proofs.Effects.{Effect}
-use Rattle.cache_partition.proofs.Stands.{same_bytes, HasMine, Written, state_is, stands}
+use Rattle.cache_partition.proofs.Stands.{same_bytes, HasMine, HasNone, state_is, stands}
 
--- a key's bucket is a main one
-pub key_main : (o : OwnerState) → Kept o → (key : List ℕ) → IsMain o.shape (bucket_in o key)
-key_main o s key =
-    let some : 0 < o.shape.buckets = subst (λ (z : ℕ). 0 < z) (sym s.shape.ranges.buckets.2) (pow_pos s.shape.ranges.buckets.0) in
-    bucket_of-below key o.shape.buckets some
+-- a key's bucket is a main one, and stands between writes
+module _ (o : OwnerState) (s : Kept o) (key : List ℕ) where
+  pub key_main : IsMain o.shape (bucket_in o key)
+  key_main =
+      let some : 0 < o.shape.buckets = subst (λ (z : ℕ). 0 < z) (sym s.shape.ranges.buckets.2) (pow_pos s.shape.ranges.buckets.0) in
+      bucket_of-below key o.shape.buckets some
+
+  pub stands_at : o.phase ≡ Idle → (b : ℕ) → b ≡ bucket_in o key → StandsFor o b
+  stands_at idle b here = s.state b (subst (IsMain o.shape) (sym here) key_main) (ap (λ (z : Phase). marked_in z b) idle)
 
 module _ (o : OwnerState) (s : Kept o) (idle : o.phase ≡ Idle) (mode : o.shape.mode ≡ CacheMode) (m : Cache) (at : state_in o ≡ cache_state m) (w : Write) (is : IsWrite w)
     (words : List ℕ) where
@@ -148,36 +124,54 @@ module _ (o : OwnerState) (s : Kept o) (idle : o.phase ≡ Idle) (mode : o.shape
         )
 
     -- what the events make of the bucket is what the machine makes of it
-    ends_with : (slot : ℕ) (Lost : List ℕ → Type 0) → Written o q m w slot Lost → StandsFor q b
-    ends_with slot Lost k = stands o s mode m at w words t main unmarked slot Lost k
+
+    module _ (slot p : ℕ) (xs : List ℕ) (effect : Effect o q b slot p xs) (belongs : (j : ℕ) → j < length xs → cs.IsOfItem (options_in o) m w (p + j))
+        (mine : HasMine q w slot ⊎ HasNone q new w slot) where
+      -- in the key's slot
+      over_slot : Leaves (options_in o) m w Nothing → IsSlotOf o b w.key slot → StandsFor q b
+      over_slot left slot_is = stands o s mode m at w words t main unmarked slot Nothing record {
+        leaves = left;
+        entries = effect.entries;
+        others = λ i entry key cell other h live sp. (slot_others slot slot_is i entry key cell other h sp, λ lost. lost);
+        gone = λ entry key cell h live sp. inl (slot_gone slot slot_is entry key cell h sp);
+        items = items_stay slot p xs effect belongs;
+        mine = mine;
+      }
+
+      -- where it had none
+      over_other : (Lost : List ℕ → Type 0) → Leaves (options_in o) m w Lost → HasNoSlot o b w.key
+          → ((i entry : ℕ) (key : List ℕ) (cell : Cell) → i ≢ slot → HasLiveEntry o b b i entry → Spells o b entry key cell → ¬ (Lost key))
+          → ((entry : ℕ) (key : List ℕ) (cell : Cell) → HasLiveEntry o b b slot entry → tail_of (stamp_in q) ≤ entry_offset entry + o.shape.words
+          → Spells o b entry key cell → (key ≡ w.key) ⊎ Lost key)
+          → StandsFor q b
+      over_other Lost left none not_lost gone = stands o s mode m at w words t main unmarked slot Lost record {
+        leaves = left;
+        entries = effect.entries;
+        others = λ i entry key cell other h live sp. (none_others none i entry key cell h sp, not_lost i entry key cell other h sp);
+        gone = gone;
+        items = items_stay slot p xs effect belongs;
+        mine = mine;
+      }
 
     -- a delete
 
-    deleted : w.op ≡ Del → Leaves (options_in o) m w Nothing
-    deleted op = leaves.none_lost (options_in o) m kept w is (leaves.few_deleted (options_in o) m kept w op)
+    module _ (op : w.op ≡ Del) where
+      deleted : Leaves (options_in o) m w Nothing
+      deleted = leaves.none_lost (options_in o) m kept w is (leaves.few_deleted (options_in o) m kept w op)
 
-    no_item : (j p : ℕ) → j < length {A = ℕ} [] → cs.IsOfItem (options_in o) m w (p + j)
-    no_item j p less = absurd (omega arith)
+      none_belong : (j : ℕ) → j < length {A = ℕ} [] → cs.IsOfItem (options_in o) m w (0 + j)
+      none_belong j less = absurd (omega arith)
 
-    pub delete_of_slot : w.op ≡ Del → (slot : ℕ) → IsSlotOf o b w.key slot → entry_in q b slot ≡ 0 → Effect o q b slot 0 [] → StandsFor q b
-    delete_of_slot op slot slot_is here effect = ends_with slot Nothing (record {
-      leaves = deleted op;
-      entries = effect.entries;
-      others = λ i entry key cell other h live sp. (slot_others slot slot_is i entry key cell other h sp, λ lost. lost);
-      gone = λ entry key cell h live sp. inl (slot_gone slot slot_is entry key cell h sp);
-      items = items_stay slot 0 [] effect (λ j less. no_item j 0 less);
-      mine = inr (λ entry h. h.live.0 (sym h.found ∙ here), leaves.deleted_none (options_in o) m kept w op);
-    })
+      pub delete_of_slot : (slot : ℕ) → IsSlotOf o b w.key slot → entry_in q b slot ≡ 0 → Effect o q b slot 0 [] → StandsFor q b
+      delete_of_slot slot slot_is here effect = over_slot slot 0 [] effect none_belong
+          (inr (λ entry h. h.live.0 (sym h.found ∙ here), leaves.deleted_none (options_in o) m kept w op)) deleted slot_is
 
-    pub delete_of_none : w.op ≡ Del → HasNoSlot o b w.key → Effect o q b 15 0 [] → StandsFor q b
-    delete_of_none op none effect = ends_with 15 Nothing (record {
-      leaves = deleted op;
-      entries = effect.entries;
-      others = λ i entry key cell other h live sp. (none_others none i entry key cell h sp, λ lost. lost);
-      gone = λ entry key cell h live sp. let below = h.in_bucket in absurd (omega arith);
-      items = items_stay 15 0 [] effect (λ j less. no_item j 0 less);
-      mine = inr (λ entry h. (let below = h.in_bucket in absurd (omega arith)), leaves.deleted_none (options_in o) m kept w op);
-    })
+      pub delete_of_none : HasNoSlot o b w.key → Effect o q b 15 0 [] → StandsFor q b
+      delete_of_none none effect = over_other 15 0 [] effect none_belong
+          (inr (λ entry h. (let below = h.in_bucket in absurd (omega arith)), leaves.deleted_none (options_in o) m kept w op))
+          Nothing deleted none (λ i entry key cell other h sp lost. lost) (λ entry key cell h live sp. let below = h.in_bucket in absurd (omega arith))
+
+    -- a put
 
     module _ (op : w.op ≡ Put) where
       its_item : (p : ℕ) → offset_of (options_in o) m w ≡ p → (j : ℕ) → j < item_size w.key w.value → cs.IsOfItem (options_in o) m w (p + j)
@@ -193,15 +187,10 @@ module _ (o : OwnerState) (s : Kept o) (idle : o.phase ≡ Idle) (mode : o.shape
           let offset : entry_offset (entry_in o b slot) ≡ held.offset = sym before.2 ∙ ap (λ (r : Record). r.offset) (same_Some before.0 held (sym before.1 ∙ keeps.is)) in
           let begin : offset_of (options_in o) m w ≡ held.offset = ap (λ (z : Option Record). begin_of z m) at_held in
           let long = length-item_words held.room w.key w.value in
-          ends_with slot Nothing (record {
-            leaves = leaves.none_lost (options_in o) m kept w is (leaves.few_rewritten (options_in o) m kept w held op at_held);
-            entries = effect.entries;
-            others = λ i entry key cell other h live sp. (slot_others slot slot_is i entry key cell other h sp, λ lost. lost);
-            gone = λ entry key cell h live sp. inl (slot_gone slot slot_is entry key cell h sp);
-            items = items_stay slot held.offset (item_words held.room w.key w.value) effect (λ j less. its_item held.offset begin j (omega arith));
-            mine = inl (has_mine slot slot_is.in_bucket (record held { value = w.value }) (leaves.rewritten_own (options_in o) m kept w held op at_held) refl
-                (entry_in o b slot) here entry.live.0 offset slot_is.tag effect);
-          })
+          over_slot slot held.offset (item_words held.room w.key w.value) effect (λ j less. its_item held.offset begin j (omega arith))
+          (inl (has_mine slot slot_is.in_bucket (record held { value = w.value }) (leaves.rewritten_own (options_in o) m kept w held op at_held) refl
+          (entry_in o b slot) here entry.live.0 offset slot_is.tag effect))
+          (leaves.none_lost (options_in o) m kept w is (leaves.few_rewritten (options_in o) m kept w held op at_held)) slot_is
 
       -- a put that is not
       module _ (appended : kept_record (options_in o) m w ≡ None) (slot : ℕ) (below : slot < 15)
@@ -218,37 +207,31 @@ module _ (o : OwnerState) (s : Kept o) (idle : o.phase ≡ Idle) (mode : o.shape
             (entry_of (tag_of w.key) (tail_of m.stamp)) here (entry_not_empty (tag_of w.key) (tail_of m.stamp) (tag_of-range w.key).0)
             (entry_offset-entry_of (tag_of w.key) (tail_of m.stamp) tail_small) (entry_tag-entry_of (tag_of w.key) (tail_of m.stamp) tail_small) effect
 
-        stays : (key : List ℕ) (r : Record) → key ≢ w.key → record_of new key ≡ Some r → (i : ℕ) → i < r.room → item_in q (r.offset + i) ≡ item_in o (r.offset + i)
-        stays =
+        abbrev xs : List ℕ
+        xs = item_words (item_size w.key w.value) w.key w.value
+
+        belongs : (j : ℕ) → j < length xs → cs.IsOfItem (options_in o) m w (tail_of m.stamp + j)
+        belongs j less =
             let begin : offset_of (options_in o) m w ≡ tail_of m.stamp = ap (λ (z : Option Record). begin_of z m) appended in
             let long = length-item_words (item_size w.key w.value) w.key w.value in
-            items_stay slot (tail_of m.stamp) (item_words (item_size w.key w.value) w.key w.value) effect (λ j less. its_item (tail_of m.stamp) begin j (omega arith))
+            its_item (tail_of m.stamp) begin j (omega arith)
 
         pub put_over_slot : IsSlotOf o b w.key slot → StandsFor q b
-        put_over_slot slot_is = ends_with slot Nothing (record {
-          leaves = leaves.none_lost (options_in o) m kept w is
-              (let before = slot_record slot slot_is in leaves.few_replaced (options_in o) m kept w op appended before.0 before.1);
-          entries = effect.entries;
-          others = λ i entry key cell other h live sp. (slot_others slot slot_is i entry key cell other h sp, λ lost. lost);
-          gone = λ entry key cell h live sp. inl (slot_gone slot slot_is entry key cell h sp);
-          items = stays;
-          mine = inl mine_there;
-        })
+        put_over_slot slot_is =
+            let before = slot_record slot slot_is in
+            over_slot slot (tail_of m.stamp) xs effect belongs (inl mine_there)
+            (leaves.none_lost (options_in o) m kept w is (leaves.few_replaced (options_in o) m kept w op appended before.0 before.1)) slot_is
 
         tail_is : tail_of (stamp_in q) ≡ tail_of (cs.after_append m (new_record m w.key w.value)).stamp
         tail_is = ap tail_of (later ∙ leaves.appended_stamp (options_in o) m kept w op appended)
 
         -- into a slot that is empty or whose item the log has passed by then
         into_dead : HasNoSlot o b w.key → (entry_in o b slot ≢ 0 → tail_of (cs.after_append m (new_record m w.key w.value)).stamp ≤ entry_offset (entry_in o b slot) + o.shape.words → ⊥) → StandsFor q b
-        into_dead none dead = ends_with slot Nothing (record {
-          leaves = leaves.none_lost (options_in o) m kept w is
-              (leaves.few_added (options_in o) m kept w s.shape.ranges is op appended (counts.few o s mode m at kept w stood slot below dead));
-          entries = effect.entries;
-          others = λ i entry key cell other h live sp. (none_others none i entry key cell h sp, λ lost. lost);
-          gone = λ entry key cell h live sp. absurd (dead (λ zero. h.live.0 (sym h.found ∙ zero)) (let same = ap entry_offset h.found in let tails = tail_is in omega arith));
-          items = stays;
-          mine = inl mine_there;
-        })
+        into_dead none dead = over_other slot (tail_of m.stamp) xs effect belongs (inl mine_there) Nothing
+            (leaves.none_lost (options_in o) m kept w is
+            (leaves.few_added (options_in o) m kept w s.shape.ranges is op appended (counts.few o s mode m at kept w stood slot below dead)))
+            none (λ i entry key cell other h sp lost. lost)
+            (λ entry key cell h live sp. absurd (dead (λ zero. h.live.0 (sym h.found ∙ zero)) (let same = ap entry_offset h.found in let tails = tail_is in omega arith)))
 
         -- into the slot of least offset, where all are live: its item is the bucket's oldest, which the machine displaces
         module _ (none : HasNoSlot o b w.key) (used : (i : ℕ) → i < 15 → entry_in o b i ≢ 0)
@@ -298,21 +281,14 @@ module _ (o : OwnerState) (s : Kept o) (idle : o.phase ≡ Idle) (mode : o.shape
               (same_bytes names.0 first.0.key)
 
           into_oldest : StandsFor q b
-          into_oldest = ends_with slot (λ key. key ≡ first.0.key) (record {
-            leaves = leaves.first_lost (options_in o) m kept w s.shape.ranges is op appended many first.0 first.1;
-            entries = effect.entries;
-            others = λ i entry key cell other h alive sp. (
-              none_others none i entry key cell h sp,
-              λ same.
-                  let sp' : Spells o b entry names.0 cell = subst (λ (k : List ℕ). Spells o b entry k cell) (same ∙ sym names_lost) sp in
-                  let cells = slots.only_cell o s m at b b entry (entry_in o b slot) names.0 cell names.1 sp' names.2 in
-                  other (stood.once b i entry b slot (entry_in o b slot) names.0 names.1 h slot_live (subst (λ (c : Cell). Spells o b entry names.0 c) cells.0 sp') names.2).1,
-            );
-            gone = λ entry key cell h alive sp.
-                inr (slots.only_key o s b b entry key names.0 cell names.1 sp (subst (λ (z : ℕ). Spells o b z names.0 names.1) h.found names.2) ∙ names_lost);
-            items = stays;
-            mine = inl mine_there;
-          })
+          into_oldest = over_other slot (tail_of m.stamp) xs effect belongs (inl mine_there) (λ key. key ≡ first.0.key)
+              (leaves.first_lost (options_in o) m kept w s.shape.ranges is op appended many first.0 first.1) none
+              (λ i entry key cell other h sp same.
+              let sp' : Spells o b entry names.0 cell = subst (λ (k : List ℕ). Spells o b entry k cell) (same ∙ sym names_lost) sp in
+              let cells = slots.only_cell o s m at b b entry (entry_in o b slot) names.0 cell names.1 sp' names.2 in
+              other (stood.once b i entry b slot (entry_in o b slot) names.0 names.1 h slot_live (subst (λ (c : Cell). Spells o b entry names.0 c) cells.0 sp') names.2).1)
+              (λ entry key cell h alive sp.
+              inr (slots.only_key o s b b entry key names.0 cell names.1 sp (subst (λ (z : ℕ). Spells o b z names.0 names.1) h.found names.2) ∙ names_lost))
 
         -- into the slot that gives way once the item is stored
         module _ (none : HasNoSlot o b w.key) (stored : List ℕ) (same : (i : ℕ) → i < 15 → entry_in (changed o stored (o.history ++ w ∷ []) (Marked (bucket_in o w.key) w o.history)) b i ≡ entry_in o b i)

@@ -1,27 +1,13 @@
 -- What a step of the cache machine leaves of the records of other keys.
-use Rattle.std.proofs.Common.{◌≡◌, ◌≢◌, ℕ, ◌+◌, ◌*◌, ◌≤◌, List, [], ◌∷◌, ◌++◌, Option, Some, None, Bool, true, false, cond, not, eqb, refl, sym, ap, ◌∙◌, subst, arith}
-use Rattle.std.specs.List.{find, filter, count_by}
-use Rattle.std.specs.Prelude.{map}
-use Rattle.std.proofs.lemmas.Bool.{true≢false, leb-true, le-leb, ne_eqb, eq-eqb, eqb-true}
-use Rattle.std.proofs.lemmas.List.Elements.{filter-append}
-use Rattle.std.proofs.lemmas.List.Sums.{sum_by_push}
-use Rattle.mica_words.specs.Hash.{bucket_of}
-use Rattle.mica_words.specs.Item.{largest_item}
-use Rattle.mica_words.specs.Stamp.{tail_of}
-use Rattle.mica_model.specs.declared.options.Options.{Options}
-use Rattle.mica_model.specs.declared.write.Write.{Write}
-use Rattle.mica_model.specs.declared.write.Op.{Op}
-use Rattle.mica_model.specs.declared.write.Op.TheVariants.{Put, Del}
-use Rattle.mica_model.specs.Options.{IsValid}
-use Rattle.mica_model.specs.Write.{IsWrite, size_of}
-use Rattle.mica_model.specs.Cache.{Cache, Record, has_key, record_of, is_live}
-use Rattle.mica_model.specs.CacheFields.{IsUnique}
 use Rattle.mica_model.specs.CacheStep as cs
-use Rattle.mica_model.specs.CacheStep.{others, new_record, kept_record, without_first}
 use Rattle.mica_model.proofs.Found as found
 use Rattle.mica_model.proofs.Laid as laid
-use Rattle.mica_model.proofs.CacheKept.{IsKept, keeps_put, after_write_is, rewritten, rewritten_key, left_of, live_of, here_of, size_at_most, tail_past}
-use Rattle.mica_model.proofs.CacheLaws.{written_same}
+use Rattle.cache_partition.proofs.Words.{Bool, Cache, Del, IsKept, IsUnique, IsValid, IsWrite, List, None, Op, Option, Options, Put, Record, Some}
+use Rattle.cache_partition.proofs.Words.{Write, [], after_write_is, ap, arith, bucket_of, cond, count_by, eq-eqb, eqb, eqb-true, false, filter}
+use Rattle.cache_partition.proofs.Words.{filter-append, find, has_key, here_of, is_live, keeps_put, kept_record, largest_item, le-leb, leb-true}
+use Rattle.cache_partition.proofs.Words.{left_of, live_of, map, ne_eqb, new_record, not, others, record_of, refl, rewritten, rewritten_key}
+use Rattle.cache_partition.proofs.Words.{size_at_most, size_of, subst, sum_by_push, sym, tail_of, tail_past, true, true≢false, without_first}
+use Rattle.cache_partition.proofs.Words.{written_same, ℕ, ◌*◌, ◌++◌, ◌+◌, ◌∙◌, ◌∷◌, ◌≡◌, ◌≢◌, ◌≤◌}
 use Rattle.cache_partition.proofs.Displaced.{found_other, found_gone, first_found, first_least}
 
 -- the records of all other keys that the log has not passed, but for those that are lost

@@ -1,17 +1,7 @@
 -- In cache mode the rooms of two keys' live items share no word.
-use Rattle.std.proofs.Common.{◌≡◌, ◌≢◌, ℕ, ◌+◌, ◌%◌, ◌<◌, ◌≤◌, List, sym, ap, arith, ⊎_elim}
-use Rattle.std.proofs.lemmas.Bool.{cases_lt}
-use Rattle.mica_words.specs.Entry.{entry_offset}
-use Rattle.mica_words.specs.Stamp.{tail_of}
-use Rattle.mica_model.specs.Cache.{Cache}
-use Rattle.mica_model.specs.Store.{Cell}
-use Rattle.mica_model.specs.History.{cache_state}
-use Rattle.mica_model.proofs.CacheLaws.{kept_in, window_kept, apart_kept}
-use Rattle.epoch_core.specs.declared.state.OwnerState.{OwnerState}
-use Rattle.epoch_core.specs.OwnerState.{options_in, state_in}
-use Rattle.epoch_core.specs.StandsFor.{Spells, RoomsApart}
-use Rattle.epoch_core.specs.Kept.{Kept}
-use Rattle.epoch_core.proofs.Log.{not_below, room_is}
+use Rattle.cache_partition.proofs.Words.{Cache, Cell, Kept, List, OwnerState, RoomsApart, Spells, ap, apart_kept, arith, cache_state, cases_lt}
+use Rattle.cache_partition.proofs.Words.{entry_offset, kept_in, not_below, options_in, room_is, state_in, sym, tail_of, window_kept, ℕ, ⊎_elim, ◌%◌}
+use Rattle.cache_partition.proofs.Words.{◌+◌, ◌<◌, ◌≡◌, ◌≢◌, ◌≤◌}
 use Rattle.cache_partition.proofs.Slots.{record_spelt}
 
 -- two places inside one window are one where they are one in the log

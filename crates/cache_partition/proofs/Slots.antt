@@ -1,26 +1,9 @@
 -- What a live slot of a bucket tells of the log's records, in cache mode.
-use Rattle.std.proofs.Common.{◌≡◌, ◌≢◌, ℕ, suc, ◌+◌, ◌≤◌, inl, inr, List, Option, Some, None, refl, sym, ap, ◌∙◌, subst, arith}
-use Rattle.std.specs.Prelude.{option_map}
-use Rattle.std.proofs.lemmas.Option.{same_Some}
-use Rattle.mica_words.specs.Entry.{entry_tag, entry_offset}
-use Rattle.mica_words.specs.Packing.{AreBytes}
-use Rattle.mica_words.specs.Stamp.{tail_of}
-use Rattle.mica_words.proofs.Hashes.{tag_of-range}
-use Rattle.mica_model.specs.declared.options.Mode.{Mode}
-use Rattle.mica_model.specs.declared.options.Mode.TheVariants.{Cache as CacheMode}
-use Rattle.mica_model.specs.Cache.{Cache, Record, record_of}
-use Rattle.mica_model.specs.Store.{Cell}
-use Rattle.mica_model.specs.History.{State, cache_state}
-use Rattle.epoch_core.specs.declared.state.OwnerState.{OwnerState}
-use Rattle.epoch_core.specs.OwnerState.{stamp_in, entry_in, options_in, state_in, bucket_in}
-use Rattle.epoch_core.specs.Chain.{IsAmong, InChain}
-use Rattle.epoch_core.specs.LiveEntry.{IsLiveItem, HasLiveEntry}
-use Rattle.epoch_core.specs.ItemAt.{HasKey}
-use Rattle.epoch_core.specs.StandsFor.{cell_at, Has, Spells, StandsFor}
-use Rattle.epoch_core.specs.Kept.{Kept}
-use Rattle.epoch_core.proofs.Machine.{has_fits, found_record}
-use Rattle.epoch_core.proofs.Keys.{has_its_key, has_no_other}
-use Rattle.lossy_index.specs.Slot.{IsSlotOf, HasNoSlot}
+use Rattle.cache_partition.proofs.Words.{AreBytes, Cache, CacheMode, Cell, Has, HasKey, HasLiveEntry, HasNoSlot, InChain, IsAmong, IsLiveItem}
+use Rattle.cache_partition.proofs.Words.{IsSlotOf, Kept, List, Mode, None, Option, OwnerState, Record, Some, Spells, StandsFor, State, ap, arith}
+use Rattle.cache_partition.proofs.Words.{bucket_in, cache_state, cell_at, entry_in, entry_offset, entry_tag, found_record, has_fits, has_its_key}
+use Rattle.cache_partition.proofs.Words.{has_no_other, inl, inr, option_map, options_in, record_of, refl, same_Some, stamp_in, state_in, subst, suc}
+use Rattle.cache_partition.proofs.Words.{sym, tag_of-range, tail_of, ℕ, ◌+◌, ◌∙◌, ◌≡◌, ◌≢◌, ◌≤◌}
 
 pub live_is : (mode : Mode) (words stamp p : ℕ) → mode ≡ CacheMode → IsLiveItem mode words stamp p → tail_of stamp ≤ p + words
 live_is mode words stamp p is live = subst (λ (z : Mode). IsLiveItem z words stamp p) is live

@@ -1,35 +1,11 @@
 -- After the events of a write the words stand for the machine's state in the written bucket.
-use Rattle.std.proofs.Common.{◌≡◌, ◌≢◌, ℕ, ◌+◌, ◌<◌, ◌≤◌, ◌⊎◌, inl, inr, List, [], ◌∷◌, ◌++◌, Some, None, refl, sym, ap, ◌∙◌, subst, arith, add-zero, ⊎_elim}
-use Rattle.std.specs.Prelude.{option_map}
-use Rattle.std.proofs.lemmas.Option.{same_Some}
-use Rattle.std.proofs.lemmas.Bool.{true≢false, cases_Bool}
-use Rattle.std.proofs.lemmas.Slice.Eq.{bytes_eq-Decides}
-use Rattle.std.specs.Str.{bytes_eq}
-use mathlib.Core.Logic.{dite}
-use native.Mathlib.Decide.{ℕ_discrete}
-use Rattle.mica_words.specs.Entry.{entry_offset}
-use Rattle.mica_words.specs.Header.{header_room}
-use Rattle.mica_words.specs.Stamp.{tail_of}
-use Rattle.mica_model.specs.declared.options.Mode.{Mode}
-use Rattle.mica_model.specs.declared.options.Mode.TheVariants.{Cache as CacheMode}
-use Rattle.mica_model.specs.declared.write.Write.{Write}
-use Rattle.mica_model.specs.Cache.{Cache, Record, record_of}
 use Rattle.mica_model.specs.CacheStep as cs
-use Rattle.mica_model.specs.Store.{Cell}
-use Rattle.mica_model.specs.History.{State, cache_state, after, stamp_in as stamp_of_state}
-use Rattle.mica_model.proofs.CacheLaws.{kept_in, window_kept}
-use Rattle.mica_model.proofs.Histories.{state_snoc}
-use Rattle.mica_model.proofs.Rises.{stamp_rises}
-use Rattle.epoch_core.specs.declared.state.OwnerState.{OwnerState}
-use Rattle.epoch_core.specs.declared.state.Phase.TheVariants.{Marked}
-use Rattle.epoch_core.specs.Shape.{IsMain}
-use Rattle.epoch_core.specs.OwnerState.{stamp_in, entry_in, item_in, options_in, state_in, bucket_in, marked_in}
-use Rattle.epoch_core.specs.LiveEntry.{HasLiveEntry}
-use Rattle.epoch_core.specs.StandsFor.{cell_at, Has, Spells, room_in, RoomsApart, HasChain, StandsFor}
-use Rattle.epoch_core.specs.Kept.{Kept}
-use Rattle.epoch_core.proofs.Carried.{changed}
-use Rattle.epoch_core.proofs.Log.{room_is}
-use Rattle.epoch_core.proofs.Machine.{found_record}
+use Rattle.cache_partition.proofs.Words.{Cache, CacheMode, Cell, Has, HasChain, HasLiveEntry, IsMain, Kept, List, Marked, Mode, None, OwnerState}
+use Rattle.cache_partition.proofs.Words.{Record, RoomsApart, Some, Spells, StandsFor, State, Write, [], add-zero, ap, arith, bucket_in, bytes_eq}
+use Rattle.cache_partition.proofs.Words.{bytes_eq-Decides, cache_state, cases_Bool, cell_at, changed, dite, entry_in, entry_offset, found_record}
+use Rattle.cache_partition.proofs.Words.{header_room, inl, inr, item_in, kept_in, marked_in, option_map, options_in, record_of, refl, room_in}
+use Rattle.cache_partition.proofs.Words.{room_is, same_Some, stamp_in, stamp_of_state, stamp_rises, state_after, state_in, state_snoc, subst, sym}
+use Rattle.cache_partition.proofs.Words.{tail_of, true≢false, window_kept, ℕ, ℕ_discrete, ⊎_elim, ◌++◌, ◌+◌, ◌<◌, ◌∙◌, ◌∷◌, ◌≡◌, ◌≢◌, ◌≤◌, ◌⊎◌}
 use Rattle.cache_partition.proofs.Slots.{live_is, is_live_item, only_key, alone, record_spelt, has_record, only_cell}
 use Rattle.cache_partition.proofs.Rooms.{rooms_apart}
 use Rattle.cache_partition.proofs.Leaves.{Leaves}
@@ -76,7 +52,7 @@ module _ (o : OwnerState) (s : Kept o) (mode : o.shape.mode ≡ CacheMode) (m : 
   new = cs.after (options_in o) m w
 
   pub state_is : state_in q ≡ cache_state (cs.after (options_in o) m w)
-  state_is = state_snoc (options_in o) o.history w ∙ ap (λ (z : State). after (options_in o) z w) at
+  state_is = state_snoc (options_in o) o.history w ∙ ap (λ (z : State). state_after (options_in o) z w) at
 
   module _ (t : Kept q) (main : IsMain o.shape b) (unmarked : marked_in o.phase b ≡ 0) (slot : ℕ) (Lost : List ℕ → Type 0) (k : Written o q m w slot Lost) where
     stood : StandsFor o b

@@ -1,79 +1,36 @@
 -- A write from its begin to its end: when its events may happen, and what it makes of the state.
-use Rattle.std.proofs.Common.{◌≡◌, ℕ, ◌+◌, ◌*◌, ◌<◌, ◌≤◌, List, [], ◌∷◌, ◌++◌, length, Option, Some, None, Bool, true, false, cond, refl, sym, ap, ◌∙◌, subst, arith}
-use Rattle.std.specs.Prelude.{is_some, option_map, MatchOption, nat_le, ◌&&◌}
-use Rattle.std.specs.Bool.{then_some}
-use Rattle.std.proofs.lemmas.Bool.{lt-leb, le-leb}
-use Rattle.std.proofs.lemmas.Option.{same_Some}
-use Rattle.mica_model.specs.Store.{Cell}
-use Rattle.mica_words.specs.Hash.{tag_of}
-use Rattle.mica_words.specs.Entry.{entry_of, entry_offset}
-use Rattle.mica_words.specs.Header.{header_room}
-use Rattle.mica_words.specs.Item.{KeyFits, ValueFits, item_size, largest_item}
-use Rattle.mica_words.specs.Packing.{AreBytes}
-use Rattle.mica_words.specs.Spelling.{item_words}
-use Rattle.mica_words.specs.Stamp.{tail_of}
-use Rattle.mica_words.proofs.ItemWords.{length-item_words}
-use Rattle.mica_model.specs.declared.options.Options.{Options}
-use Rattle.mica_model.specs.declared.options.Mode.{Mode}
-use Rattle.mica_model.specs.declared.options.Mode.TheVariants.{Cache as CacheMode, Store as StoreMode}
-use Rattle.mica_model.specs.declared.write.Op.{Op}
-use Rattle.mica_model.specs.declared.write.Op.TheVariants.{Put, Del}
-use Rattle.mica_model.specs.declared.write.Write.{Write}
-use Rattle.mica_model.specs.declared.write.Outcome.{Outcome}
-use Rattle.mica_model.specs.declared.write.Outcome.TheVariants.{Worn}
-use Rattle.mica_model.specs.Limits.{most_stamp}
-use Rattle.mica_model.specs.Write.{IsWrite, write_of, size_of, is_accepted}
-use Rattle.mica_model.specs.Cache.{Cache, Record, has_key, record_of, is_live}
 use Rattle.mica_model.specs.Cache as cache
 use Rattle.mica_model.specs.Store as store
 use Rattle.mica_model.specs.CacheStep as cs
-use Rattle.mica_model.specs.CacheStep.{kept_record}
-use Rattle.mica_model.specs.History.{State, start, cache_state, stamp_of, accepted_in, stamp_in as stamp_of_state, after as state_after, Allows, MayGive, IsAcceptedAfter}
-use Rattle.mica_model.proofs.CacheKept.{IsKept, keeps_put, others_lack, rewritten, rewritten_key, size_at_most}
-use Rattle.mica_model.proofs.CacheLaws.{kept_in}
 use Rattle.mica_model.proofs.Found as found
-use Rattle.mica_model.proofs.Laid.{found_key, found_map, has_its_key}
-use Rattle.mica_model.proofs.Histories.{cached_in, state_snoc, accepted_is_length}
-use Rattle.mica_model.proofs.Stamps.{stamp_small}
-use Rattle.epoch_core.specs.declared.state.OwnerState.{OwnerState}
-use Rattle.epoch_core.specs.declared.state.Phase.{Phase}
-use Rattle.epoch_core.specs.declared.state.Phase.TheVariants.{Idle, Begun, Marked}
-use Rattle.epoch_core.specs.declared.event.Event.TheVariants.{Begins, PutsEntry, Ends}
-use Rattle.epoch_core.specs.Shape.{IsMain}
-use Rattle.epoch_core.specs.Layout.{word_count}
-use Rattle.epoch_core.specs.OwnerState.{stamp_in, entry_in, item_in, options_in, state_in, bucket_in, marked_in, as_made}
-use Rattle.epoch_core.specs.Events.{MayBegin, MayMark, MayEnd, after}
-use Rattle.epoch_core.specs.StandsFor.{cell_at, Spells, SpellsItem, room_in, StandsFor}
-use Rattle.epoch_core.specs.Kept.{Kept}
-use Rattle.epoch_core.specs.OwnerStep.{IsOwnerStep}
-use Rattle.epoch_core.proofs.Carried.{changed}
-use Rattle.epoch_core.proofs.Inside.{some_words}
-use Rattle.epoch_core.proofs.Log.{room_is}
-use Rattle.epoch_core.proofs.Marked.{bit_same}
-use Rattle.circular_log.specs.LogItem.{room_at}
-use Rattle.circular_log.specs.LogWrite.{MayAppend, MayRewrite, with_item, written_record}
-use Rattle.lossy_index.specs.Slot.{IsSlotOf, HasNoSlot}
-use Rattle.lossy_index.specs.Place.{Takes, GivesWay, empty, passed, oldest}
-use Rattle.cache_partition.specs.Gained.{MayWrite, Gains, marked_with}
-use Rattle.cache_partition.specs.Sought.{kept_offset, kept_offset_by, had_record, had_record_by}
+use Rattle.cache_partition.proofs.Words.{marked_in, Allows, AreBytes, Begins, Begun, Bool, Cache, CacheMode, Cell, Del, Ends, Gains, GivesWay, HasNoSlot, Idle}
+use Rattle.cache_partition.proofs.Words.{IsAcceptedAfter, IsKept, IsMain, IsOwnerStep, IsSlotOf, IsWrite, Kept, KeyFits, List, Marked, MatchOption}
+use Rattle.cache_partition.proofs.Words.{MayAppend, MayBegin, MayEnd, MayGive, MayMark, MayRewrite, MayWrite, Mode, None, Op, Option, Options}
+use Rattle.cache_partition.proofs.Words.{Outcome, OwnerState, Put, PutsEntry, Record, Some, Spells, SpellsItem, StandsFor, State, StoreMode, Takes}
+use Rattle.cache_partition.proofs.Words.{Worn, Write, [], accepted_in, accepted_is_length, after, ap, arith, as_made, bit_same, bucket_in}
+use Rattle.cache_partition.proofs.Words.{cache_state, cached_in, cell_at, changed, cond, empty, entry_in, entry_of, entry_offset, false, found_key}
+use Rattle.cache_partition.proofs.Words.{found_map, had_record, had_record_by, has_key, header_room, is_accepted, is_its_key, is_live, is_some}
+use Rattle.cache_partition.proofs.Words.{item_in, item_size, item_words, keeps_put, kept_in, kept_offset, kept_offset_by, kept_record, largest_item}
+use Rattle.cache_partition.proofs.Words.{le-leb, length, length-item_words, lt-leb, marked_with, most_stamp, nat_le, oldest, option_map, options_in}
+use Rattle.cache_partition.proofs.Words.{others_lack, passed, record_of, refl, rewritten, rewritten_key, room_at, room_in, room_is, same_Some}
+use Rattle.cache_partition.proofs.Words.{size_at_most, size_of, stamp_in, stamp_of, stamp_of_state, stamp_small, start, state_after, state_in}
+use Rattle.cache_partition.proofs.Words.{state_snoc, subst, sym, tag_of, tail_of, then_some, true, with_item, write_of, written_record, ℕ, ◌&&◌, ◌*◌}
+use Rattle.cache_partition.proofs.Words.{◌++◌, ◌+◌, ◌<◌, ◌∙◌, ◌∷◌, ◌≡◌, ◌≤◌}
 use Rattle.cache_partition.proofs.Slots as slots
 use Rattle.cache_partition.proofs.Leaves as leaves
 use Rattle.cache_partition.proofs.Effects as effects
-use Rattle.cache_partition.proofs.Effects.{Effect}
 use Rattle.cache_partition.proofs.Endings as endings
-use Rattle.cache_partition.proofs.Endings.{key_main}
+use Rattle.cache_partition.proofs.Endings.{key_main, stands_at}
 
 -- what keeps a put
 
-kept_some : (options : Options) (m : Cache) (w : Write) (found : Option Record) (p : ℕ) → kept_record options m w ≡ found
-    → option_map (λ (held : Record). held.offset) found ≡ Some p → (held : Record) × (kept_record options m w ≡ Some held) × (held.offset ≡ p)
-kept_some options m w None p is e = cc
-kept_some options m w (Some held) p is e = (held, is, cc)
+kept_some : (found : Option Record) (p : ℕ) → option_map (λ (held : Record). held.offset) found ≡ Some p → (held : Record) × (found ≡ Some held) × (held.offset ≡ p)
+kept_some None p e = cc
+kept_some (Some held) p e = (held, refl, cc)
 
-kept_none : (options : Options) (m : Cache) (w : Write) (found : Option Record) → kept_record options m w ≡ found
-    → option_map (λ (held : Record). held.offset) found ≡ None → kept_record options m w ≡ None
-kept_none options m w None is e = is
-kept_none options m w (Some held) is e = cc
+kept_none : (found : Option Record) → option_map (λ (held : Record). held.offset) found ≡ None → found ≡ None
+kept_none None e = refl
+kept_none (Some held) e = cc
 
 reply_accepted : (op : Op) (options : Options) (w : Write) (found : Bool) → is_accepted (cs.reply_of op options w found) ≡ true
 reply_accepted Put options w found = refl
@@ -157,10 +114,10 @@ module _ (o : OwnerState) (s : Kept o) (may : MayWrite o) (w : Write) (is : IsWr
   stamp_deleted op = stamp_next ∙ (leaves.deleted_stamp (options_in o) now.0 kept w op ∙ ap (λ (z : ℕ). z + 1) (sym stamp_now))
 
   held_at : (p : ℕ) → kept_offset o w ≡ Some p → (held : Record) × (kept_record (options_in o) now.0 w ≡ Some held) × (held.offset ≡ p)
-  held_at p keeps = kept_some (options_in o) now.0 w (kept_record (options_in o) now.0 w) p refl (subst (λ (z : State). kept_offset_by (options_in o) z w ≡ Some p) now.1 keeps)
+  held_at p keeps = kept_some (kept_record (options_in o) now.0 w) p (subst (λ (z : State). kept_offset_by (options_in o) z w ≡ Some p) now.1 keeps)
 
   held_none : kept_offset o w ≡ None → kept_record (options_in o) now.0 w ≡ None
-  held_none keeps = kept_none (options_in o) now.0 w (kept_record (options_in o) now.0 w) refl (subst (λ (z : State). kept_offset_by (options_in o) z w ≡ None) now.1 keeps)
+  held_none keeps = kept_none (kept_record (options_in o) now.0 w) (subst (λ (z : State). kept_offset_by (options_in o) z w ≡ None) now.1 keeps)
 
   pub stamp_rewritten : (p : ℕ) → w.op ≡ Put → kept_offset o w ≡ Some p → stamp_of (options_in o) (o.history ++ w ∷ []) ≡ stamp_in o + 1
   stamp_rewritten p op keeps =
@@ -174,33 +131,35 @@ module _ (o : OwnerState) (s : Kept o) (may : MayWrite o) (w : Write) (is : IsWr
   -- what the bucket is at the end
 
   module _ (n : ℕ) where
+    abbrev here : ℕ
+    here = bucket_in o w.key
+
+    main : IsMain o.shape (bucket_in o w.key)
+    main = key_main o s w.key
+
+    abbrev with_words : List ℕ → OwnerState
+    with_words words = changed o words (o.history ++ w ∷ []) (Marked (bucket_in o w.key) w o.history)
+
+    ends : (words : List ℕ) → StandsFor (with_words words) here → MayEnd (with_words words) here
+    ends words stands = record { marked = bit_same (bucket_in o w.key) (bucket_in o w.key) refl; stands_for = stands }
+
     -- a delete
 
-    pub end_cleared : w.op ≡ Del → (b slot : ℕ) → b ≡ bucket_in o w.key → IsSlotOf o b w.key slot
-        → Kept (after (PutsEntry b slot 0) (marked_with o b w n)) → MayEnd (after (PutsEntry b slot 0) (marked_with o b w n)) b
-    end_cleared op b slot here =
-        subst (λ (z : ℕ). IsSlotOf o z w.key slot → Kept (after (PutsEntry z slot 0) (marked_with o z w n)) → MayEnd (after (PutsEntry z slot 0) (marked_with o z w n)) z)
-        (sym here) (λ found t.
-        let main = key_main o s w.key in
-        let words : List ℕ = (marked_with o (bucket_in o w.key) w n).words in
-        let long = effects.length-marked o s.wide (some_words o s) (bucket_in o w.key) main w n in
-        let same = effects.marked_entry o s.wide (some_words o s) (bucket_in o w.key) main w n in
-        let effect = effects.marked_effect o s.wide (some_words o s) (bucket_in o w.key) main w n slot in
-        record {
-          marked = bit_same (bucket_in o w.key) (bucket_in o w.key) refl;
-          stands_for = endings.delete_of_slot o s may.idle may.cached now.0 now.1 w is (after (PutsEntry (bucket_in o w.key) slot 0) (marked_with o (bucket_in o w.key) w n)).words t op slot found
-              (effects.entry_here o s.wide (some_words o s) (bucket_in o w.key) main w n words long slot found.in_bucket 0 0 [] same effect)
-              (effects.entry_effect o s.wide (some_words o s) (bucket_in o w.key) main w n words long slot found.in_bucket 0 0 [] same effect);
-        })
+    pub record EndsDelete (b : ℕ) : Type 0 where
+      pub cleared : (slot : ℕ) → IsSlotOf o b w.key slot → Kept (after (PutsEntry b slot 0) (marked_with o b w n))
+          → MayEnd (after (PutsEntry b slot 0) (marked_with o b w n)) b
+      pub absent : HasNoSlot o b w.key → Kept (marked_with o b w n) → MayEnd (marked_with o b w n) b
 
-    pub end_absent : w.op ≡ Del → (b : ℕ) → b ≡ bucket_in o w.key → HasNoSlot o b w.key → Kept (marked_with o b w n) → MayEnd (marked_with o b w n) b
-    end_absent op b here =
-        subst (λ (z : ℕ). HasNoSlot o z w.key → Kept (marked_with o z w n) → MayEnd (marked_with o z w n) z)
-        (sym here) (λ none t. record {
-          marked = bit_same (bucket_in o w.key) (bucket_in o w.key) refl;
-          stands_for = endings.delete_of_none o s may.idle may.cached now.0 now.1 w is (marked_with o (bucket_in o w.key) w n).words t op none
-              (effects.marked_effect o s.wide (some_words o s) (bucket_in o w.key) (key_main o s w.key) w n 15);
-        })
+    pub end_delete : w.op ≡ Del → (b : ℕ) → b ≡ bucket_in o w.key → EndsDelete b
+    end_delete op b in_its =
+        let no_words : length {A = ℕ} [] ≤ o.shape.words = omega arith in
+        subst EndsDelete (sym in_its) record {
+          cleared = λ slot found t. ends (after (PutsEntry here slot 0) (marked_with o here w n)).words
+              (endings.delete_of_slot o s may.idle may.cached now.0 now.1 w is (after (PutsEntry here slot 0) (marked_with o here w n)).words t op slot found
+              (effects.entry_here o s here main w n 0 [] no_words slot found.in_bucket 0) (effects.entry_effect o s here main w n 0 [] no_words slot found.in_bucket 0));
+          absent = λ none t. ends (marked_with o here w n).words
+              (endings.delete_of_none o s may.idle may.cached now.0 now.1 w is (marked_with o here w n).words t op none (effects.put_effect o s here main w n 0 [] no_words 15));
+        }
 
     -- a put
 
@@ -211,13 +170,18 @@ module _ (o : OwnerState) (s : Kept o) (may : MayWrite o) (w : Write) (is : IsWr
         let least = s.shape.ranges.words.0 in
         omega arith
 
+    abbrev pub with_its_item : ℕ → ℕ → ℕ → OwnerState
+    with_its_item b p room = with_item (marked_with o b w n) p room w.key w.value
+
+    item_is : (p room : ℕ) → with_its_item here p room ≡ with_words (with_its_item here p room).words
+    item_is p room = effects.put_same o s here main w n p (item_words room w.key w.value) (few_words room)
+
     -- in place
 
     room_kept : (b p : ℕ) → b ≡ bucket_in o w.key → (held : Record) → kept_record (options_in o) now.0 w ≡ Some held → held.offset ≡ p
         → (slot : ℕ) → IsSlotOf o b w.key slot → (room_in o (entry_in o b slot) ≡ held.room) × (entry_offset (entry_in o b slot) ≡ p) × Spells o b (entry_in o b slot) w.key (cell_at held).0
     room_kept b p here held at_held offset slot found =
-        let main : IsMain o.shape b = subst (IsMain o.shape) (sym here) (key_main o s w.key) in
-        let stood = s.state b main (ap (λ (z : Phase). marked_in z b) may.idle) in
+        let stood = stands_at o s w.key may.idle b here in
         let spelt = slots.slot_spells o s may.cached b slot w.key is.key_bytes stood found in
         let record_there = slots.record_spelt o s now.0 now.1 b (entry_in o b slot) w.key spelt.0 spelt.1 in
         let same : record_there.0 ≡ held = same_Some record_there.0 held (sym record_there.1 ∙ (keeps_put (options_in o) now.0 w held at_held).is) in
@@ -233,30 +197,23 @@ module _ (o : OwnerState) (s : Kept o) (may : MayWrite o) (w : Write) (is : IsWr
     room_now b p here held at_held offset slot found =
         let main : IsMain o.shape b = subst (IsMain o.shape) (sym here) (key_main o s w.key) in
         let before = room_kept b p here held at_held offset slot found in
-        ap header_room (effects.marked_item o s.wide (some_words o s) b main w n p ∙ ap (item_in o) (sym before.1)) ∙ before.0
+        ap header_room (effects.marked_item o s b main w n p ∙ ap (item_in o) (sym before.1)) ∙ before.0
+
+    abbrev EndsInPlace : ℕ × ℕ × ℕ → Type 0
+    EndsInPlace z = Kept (with_its_item z.0 z.1 z.2) → MayEnd (with_its_item z.0 z.1 z.2) z.0
 
     pub end_in_place : w.op ≡ Put → (b p slot : ℕ) → b ≡ bucket_in o w.key → kept_offset o w ≡ Some p → IsSlotOf o b w.key slot
-        → Kept (with_item (marked_with o b w n) p (room_at (marked_with o b w n) p) w.key w.value)
-        → MayEnd (with_item (marked_with o b w n) p (room_at (marked_with o b w n) p) w.key w.value) b
-    end_in_place op b p slot here keeps =
-        subst (λ (z : ℕ). IsSlotOf o z w.key slot → Kept (with_item (marked_with o z w n) p (room_at (marked_with o z w n) p) w.key w.value)
-        → MayEnd (with_item (marked_with o z w n) p (room_at (marked_with o z w n) p) w.key w.value) z) (sym here) (λ found t.
+        → Kept (with_its_item b p (room_at (marked_with o b w n) p)) → MayEnd (with_its_item b p (room_at (marked_with o b w n) p)) b
+    end_in_place op b p slot in_its keeps found =
         let held = held_at p keeps in
-        let main = key_main o s w.key in
-        let room = room_now (bucket_in o w.key) p refl held.0 held.1 held.2 slot found in
-        subst (λ (r : ℕ). Kept (with_item (marked_with o (bucket_in o w.key) w n) p r w.key w.value) → MayEnd (with_item (marked_with o (bucket_in o w.key) w n) p r w.key w.value) (bucket_in o w.key)) (sym room)
-        (subst (λ (z : ℕ). Kept (with_item (marked_with o (bucket_in o w.key) w n) z held.0.room w.key w.value)
-        → MayEnd (with_item (marked_with o (bucket_in o w.key) w n) z held.0.room w.key w.value) (bucket_in o w.key)) held.2
-        (λ t'.
         let few = few_words held.0.room in
-        let whole = effects.put_same o s.wide (some_words o s) (bucket_in o w.key) main w n held.0.offset (item_words held.0.room w.key w.value) few in
-        subst (λ (z : OwnerState). MayEnd z (bucket_in o w.key)) (sym whole) (record {
-          marked = bit_same (bucket_in o w.key) (bucket_in o w.key) refl;
-          stands_for = endings.put_in_place o s may.idle may.cached now.0 now.1 w is (with_item (marked_with o (bucket_in o w.key) w n) held.0.offset held.0.room w.key w.value).words
-              (subst Kept whole t') op held.0 held.1 slot found
-              (effects.put_entry_same o s.wide (some_words o s) (bucket_in o w.key) main w n held.0.offset (item_words held.0.room w.key w.value) few slot found.in_bucket)
-              (effects.put_effect o s.wide (some_words o s) (bucket_in o w.key) main w n held.0.offset (item_words held.0.room w.key w.value) few slot);
-        }))) t)
+        let slot_is : IsSlotOf o here w.key slot = subst (λ (z : ℕ). IsSlotOf o z w.key slot) in_its found in
+        subst EndsInPlace (λ j. (sym in_its j, held.2 j, sym (room_now b p in_its held.0 held.1 held.2 slot found) j))
+        (λ t. subst (λ (z : OwnerState). MayEnd z here) (sym (item_is held.0.offset held.0.room)) (ends (with_its_item here held.0.offset held.0.room).words
+        (endings.put_in_place o s may.idle may.cached now.0 now.1 w is (with_its_item here held.0.offset held.0.room).words
+        (subst Kept (item_is held.0.offset held.0.room) t) op held.0 held.1 slot slot_is
+        (effects.put_entry_same o s here main w n held.0.offset (item_words held.0.room w.key w.value) few slot slot_is.in_bucket)
+        (effects.put_effect o s here main w n held.0.offset (item_words held.0.room w.key w.value) few slot))))
 
     -- at the tail
 
@@ -265,81 +222,52 @@ module _ (o : OwnerState) (s : Kept o) (may : MayWrite o) (w : Write) (is : IsWr
     in_bucket p b slot (passed full is) = is.in_bucket
     in_bucket p b slot (oldest full all is) = is.in_bucket
 
+    -- the state once the item is stored
+    abbrev pub stored : ℕ → ℕ → OwnerState
+    stored b p = with_its_item b p (item_size w.key w.value)
+
+    -- and once the slot names it
+    abbrev pub EndsAtTail : OwnerState → ℕ → ℕ → Option ℕ → ℕ → Type 0
+    EndsAtTail q b entry old slot = MatchOption old (HasNoSlot o b w.key) (IsSlotOf o b w.key) → Takes q b old slot
+        → Kept (after (PutsEntry b slot entry) q) → MayEnd (after (PutsEntry b slot entry) q) b
+
     module _ (op : w.op ≡ Put) (keeps : kept_offset o w ≡ None) (stamp : n ≡ stamp_of (options_in o) (o.history ++ w ∷ [])) where
-      abbrev here : ℕ
-      here = bucket_in o w.key
+      abbrev xs : List ℕ
+      xs = item_words (item_size w.key w.value) w.key w.value
 
-      -- the words with the item stored
-      abbrev stored : List ℕ
-      stored = (with_item (marked_with o (bucket_in o w.key) w n) (tail_of now.0.stamp) (item_size w.key w.value) w.key w.value).words
+      few : length xs ≤ o.shape.words
+      few = few_words (item_size w.key w.value)
 
-      abbrev with_stored : OwnerState
-      with_stored = changed o stored (o.history ++ w ∷ []) (Marked (bucket_in o w.key) w o.history)
-
-      stored_is : with_item (marked_with o (bucket_in o w.key) w n) (tail_of now.0.stamp) (item_size w.key w.value) w.key w.value ≡ with_stored
-      stored_is = effects.put_same o s.wide (some_words o s) (bucket_in o w.key) (key_main o s w.key) w n (tail_of now.0.stamp) (item_words (item_size w.key w.value) w.key w.value) (few_words (item_size w.key w.value))
-
-      stored_same : (i : ℕ) → i < 15 → entry_in with_stored here i ≡ entry_in o here i
-      stored_same = effects.put_entry_same o s.wide (some_words o s) (bucket_in o w.key) (key_main o s w.key) w n (tail_of now.0.stamp) (item_words (item_size w.key w.value) w.key w.value) (few_words (item_size w.key w.value))
-
-      stored_stamp : stamp_in with_stored ≡ now.0.stamp + 65536 * item_size w.key w.value
-      stored_stamp =
-          effects.put_stamp o s.wide (some_words o s) (bucket_in o w.key) (key_main o s w.key) w n (tail_of now.0.stamp) (item_words (item_size w.key w.value) w.key w.value) (few_words (item_size w.key w.value))
-          ∙ (stamp ∙ (stamp_next ∙ leaves.appended_stamp (options_in o) now.0 kept w op (held_none keeps)))
-
-      stored_long : length stored ≡ word_count o.shape
-      stored_long = effects.length-put o s.wide (some_words o s) (bucket_in o w.key) (key_main o s w.key) w n (tail_of now.0.stamp) (item_words (item_size w.key w.value) w.key w.value) (few_words (item_size w.key w.value))
+      abbrev tail : ℕ
+      tail = tail_of now.0.stamp
 
       abbrev entry : ℕ
       entry = entry_of (tag_of w.key) (tail_of now.0.stamp)
 
-      module _ (slot : ℕ) (below : slot < 15) (t : Kept (after (PutsEntry here slot entry) with_stored)) where
-        named : entry_in (after (PutsEntry here slot entry) with_stored) here slot ≡ entry
-        named = effects.entry_here o s.wide (some_words o s) (bucket_in o w.key) (key_main o s w.key) w n stored stored_long slot below entry
-            (tail_of now.0.stamp) (item_words (item_size w.key w.value) w.key w.value) stored_same
-            (effects.put_effect o s.wide (some_words o s) (bucket_in o w.key) (key_main o s w.key) w n (tail_of now.0.stamp) (item_words (item_size w.key w.value) w.key w.value) (few_words (item_size w.key w.value)) slot)
+      abbrev with_stored : OwnerState
+      with_stored = with_words (with_its_item (bucket_in o w.key) (tail_of now.0.stamp) (item_size w.key w.value)).words
 
-        effect : Effect o (after (PutsEntry here slot entry) with_stored) here slot (tail_of now.0.stamp) (item_words (item_size w.key w.value) w.key w.value)
-        effect = effects.entry_effect o s.wide (some_words o s) (bucket_in o w.key) (key_main o s w.key) w n stored stored_long slot below entry
-            (tail_of now.0.stamp) (item_words (item_size w.key w.value) w.key w.value) stored_same
-            (effects.put_effect o s.wide (some_words o s) (bucket_in o w.key) (key_main o s w.key) w n (tail_of now.0.stamp) (item_words (item_size w.key w.value) w.key w.value) (few_words (item_size w.key w.value)) slot)
+      stored_stamp : stamp_in with_stored ≡ now.0.stamp + 65536 * item_size w.key w.value
+      stored_stamp = effects.put_stamp o s here main w n tail xs few ∙ (stamp ∙ (stamp_next ∙ leaves.appended_stamp (options_in o) now.0 kept w op (held_none keeps)))
 
-        over_slot : IsSlotOf o here w.key slot → MayEnd (after (PutsEntry here slot entry) with_stored) here
-        over_slot found = record {
-          marked = bit_same (bucket_in o w.key) (bucket_in o w.key) refl;
-          stands_for = endings.put_over_slot o s may.idle may.cached now.0 now.1 w is (after (PutsEntry here slot entry) with_stored).words t op (held_none keeps) slot below named effect found;
-        }
-
-        over_none : HasNoSlot o here w.key → GivesWay with_stored here slot → MayEnd (after (PutsEntry here slot entry) with_stored) here
-        over_none none gives = record {
-          marked = bit_same (bucket_in o w.key) (bucket_in o w.key) refl;
-          stands_for = endings.put_over_none o s may.idle may.cached now.0 now.1 w is (after (PutsEntry here slot entry) with_stored).words t op (held_none keeps) slot below named effect none stored stored_same stored_stamp gives;
-        }
-
-      by_slot : (old : Option ℕ) (slot : ℕ) → MatchOption old (HasNoSlot o here w.key) (IsSlotOf o here w.key) → Takes with_stored here old slot
-          → Kept (after (PutsEntry here slot entry) with_stored) → MayEnd (after (PutsEntry here slot entry) with_stored) here
-      by_slot None slot none gives t = over_none slot (in_bucket with_stored here slot gives) t none gives
+      by_slot : (old : Option ℕ) (slot : ℕ) → EndsAtTail with_stored here entry old slot
+      by_slot None slot none gives t =
+          let below = in_bucket with_stored here slot gives in
+          ends (after (PutsEntry here slot entry) with_stored).words
+          (endings.put_over_none o s may.idle may.cached now.0 now.1 w is (after (PutsEntry here slot entry) with_stored).words t op (held_none keeps) slot below
+          (effects.entry_here o s here main w n tail xs few slot below entry) (effects.entry_effect o s here main w n tail xs few slot below entry)
+          none with_stored.words (effects.put_entry_same o s here main w n tail xs few) stored_stamp gives)
       by_slot (Some old) slot found same t =
           let is_slot : IsSlotOf o here w.key slot = subst (IsSlotOf o here w.key) (sym same) found in
-          over_slot slot is_slot.in_bucket t is_slot
+          ends (after (PutsEntry here slot entry) with_stored).words
+          (endings.put_over_slot o s may.idle may.cached now.0 now.1 w is (after (PutsEntry here slot entry) with_stored).words t op (held_none keeps) slot is_slot.in_bucket
+          (effects.entry_here o s here main w n tail xs few slot is_slot.in_bucket entry) (effects.entry_effect o s here main w n tail xs few slot is_slot.in_bucket entry) is_slot)
 
-    -- the state once the item is stored and the slot names it
-    abbrev pub placed : ℕ → ℕ → ℕ → ℕ → OwnerState
-    placed b slot tag p = after (PutsEntry b slot (entry_of tag p)) (with_item (marked_with o b w n) p (item_size w.key w.value) w.key w.value)
-
-    pub end_at_tail : w.op ≡ Put → kept_offset o w ≡ None → n ≡ stamp_of (options_in o) (o.history ++ w ∷ []) → (b slot tag p : ℕ) (old : Option ℕ) → b ≡ bucket_in o w.key → MatchOption old (HasNoSlot o b w.key) (IsSlotOf o b w.key)
-        → tag ≡ tag_of w.key → p ≡ tail_of (stamp_in o) → Takes (with_item (marked_with o b w n) p (item_size w.key w.value) w.key w.value) b old slot
-        → Kept (placed b slot tag p) → MayEnd (placed b slot tag p) b
-    end_at_tail op keeps stamp b slot tag p old in_its sought tag_is p_is =
-        subst (λ (z : ℕ). MatchOption old (HasNoSlot o z w.key) (IsSlotOf o z w.key) → Takes (with_item (marked_with o z w n) p (item_size w.key w.value) w.key w.value) z old slot
-        → Kept (placed z slot tag p) → MayEnd (placed z slot tag p) z) (sym in_its)
-        (subst (λ (z : ℕ). MatchOption old (HasNoSlot o (bucket_in o w.key) w.key) (IsSlotOf o (bucket_in o w.key) w.key) → Takes (with_item (marked_with o (bucket_in o w.key) w n) p (item_size w.key w.value) w.key w.value) (bucket_in o w.key) old slot
-        → Kept (placed (bucket_in o w.key) slot z p) → MayEnd (placed (bucket_in o w.key) slot z p) (bucket_in o w.key)) (sym tag_is)
-        (subst (λ (z : ℕ). MatchOption old (HasNoSlot o (bucket_in o w.key) w.key) (IsSlotOf o (bucket_in o w.key) w.key) → Takes (with_item (marked_with o (bucket_in o w.key) w n) z (item_size w.key w.value) w.key w.value) (bucket_in o w.key) old slot
-        → Kept (placed (bucket_in o w.key) slot (tag_of w.key) z) → MayEnd (placed (bucket_in o w.key) slot (tag_of w.key) z) (bucket_in o w.key)) (sym (p_is ∙ ap tail_of stamp_now))
-        (subst (λ (z : OwnerState). MatchOption old (HasNoSlot o (bucket_in o w.key) w.key) (IsSlotOf o (bucket_in o w.key) w.key) → Takes z (bucket_in o w.key) old slot
-        → Kept (after (PutsEntry (bucket_in o w.key) slot (entry_of (tag_of w.key) (tail_of now.0.stamp))) z) → MayEnd (after (PutsEntry (bucket_in o w.key) slot (entry_of (tag_of w.key) (tail_of now.0.stamp))) z) (bucket_in o w.key))
-        (sym (stored_is op keeps stamp)) (by_slot op keeps stamp old slot)))) sought
+      pub end_at_tail : (b slot tag p : ℕ) (old : Option ℕ) → b ≡ bucket_in o w.key → tag ≡ tag_of w.key → p ≡ tail_of (stamp_in o)
+          → EndsAtTail (stored b p) b (entry_of tag p) old slot
+      end_at_tail b slot tag p old in_its tag_is p_is =
+          subst (λ (z : ℕ × ℕ × ℕ). EndsAtTail (stored z.0 z.1) z.0 (entry_of z.2 z.1) old slot) (λ j. (sym in_its j, sym (p_is ∙ ap tail_of stamp_now) j, sym tag_is j))
+          (subst (λ (z : OwnerState). EndsAtTail z here entry old slot) (sym (item_is tail (item_size w.key w.value))) (by_slot old slot))
 
 -- the record that a put leaves its key
 
@@ -347,7 +275,7 @@ appended_record : (m : Cache) (w : Write) → record_of (cs.after_put None m w) 
 appended_record m w =
     let new = cs.new_record m w.key w.value in
     found.found_append_none (has_key w.key) (cs.others w.key m.records) (new ∷ []) (others_lack w.key m.records)
-    ∙ ap (λ b. cond b (Some new) None) (has_its_key w.key new refl)
+    ∙ ap (λ b. cond b (Some new) None) (is_its_key w.key new refl)
 
 rewritten_record : (options : Options) (m : Cache) (w : Write) (held : Record) → kept_record options m w ≡ Some held
     → record_of (cs.after_put (Some held) m w) w.key ≡ Some (record held { value = w.value })
@@ -378,7 +306,7 @@ module _ (o : OwnerState) (s : Kept o) (may : MayWrite o) (key value : List ℕ)
       let main : IsMain o.shape b = subst (IsMain o.shape) (sym in_its) (key_main o s key) in
       let its_key : held.0.key ≡ key = found_key key before.records held.0 (keeps_put (options_in o) before (write_of Put key value) held.0 held.1).is in
       let spelt : SpellsItem (marked_with o b (write_of Put key value) n) p key (cell_at held.0).0 = λ i l.
-      effects.marked_item o s.wide (some_words o s) b main (write_of Put key value) n (p + i) ∙ (ap (λ (z : ℕ). item_in o (z + i)) (sym room.1) ∙ room.2.item i l) in
+      effects.marked_item o s b main (write_of Put key value) n (p + i) ∙ (ap (λ (z : ℕ). item_in o (z + i)) (sym room.1) ∙ room.2.item i l) in
       record {
         cell = (cell_at held.0).0;
         there = spelt;
@@ -387,25 +315,31 @@ module _ (o : OwnerState) (s : Kept o) (may : MayWrite o) (key value : List ℕ)
             ∙ (λ j. Some (record { key = its_key j; value = value; offset = held.2 j; room = held.0.room })));
       }
 
--- what was marked and stored is the history's gain, and other words
+-- the history has the write already, which is marked, and beside it words alone have changed
+abbrev pub HasGained : OwnerState → OwnerState → Write → Type 0
+HasGained o q w = q ≡ changed o q.words (o.history ++ w ∷ []) (Marked (bucket_in o w.key) w o.history)
 
 pub item_gained : (o : OwnerState) → Kept o → (w : Write) → IsWrite w → (b n p room : ℕ) → b ≡ bucket_in o w.key
-    → with_item (marked_with o b w n) p room w.key w.value
-    ≡ changed o (with_item (marked_with o b w n) p room w.key w.value).words (o.history ++ w ∷ []) (Marked (bucket_in o w.key) w o.history)
-item_gained o s w is b n p room here =
+    → (q : OwnerState) → q ≡ with_item (marked_with o b w n) p room w.key w.value → HasGained o q w
+item_gained o s w is b n p room here q stored =
     let long = length-item_words room w.key w.value in
     let size : size_of w ≤ largest_item = size_at_most w is in
     let least = s.shape.ranges.words.0 in
-    effects.put_same o s.wide (some_words o s) b (subst (IsMain o.shape) (sym here) (key_main o s w.key)) w n p (item_words room w.key w.value) (omega arith)
+    subst (λ (z : OwnerState). HasGained o z w) (sym stored)
+    (effects.put_same o s b (subst (IsMain o.shape) (sym here) (key_main o s w.key)) w n p (item_words room w.key w.value) (omega arith))
 
-pub gains : (o q new : OwnerState) (w : Write) (b : ℕ) (words : List ℕ) (phase : Phase) → o.phase ≡ Idle
-    → q ≡ changed o words (o.history ++ w ∷ []) phase → new ≡ after (Ends b) q → Gains o new w
-gains o q new w b words phase idle gained is =
-    let ended : List ℕ = (after (Ends b) (changed o words (o.history ++ w ∷ []) phase)).words in
-    let whole : new ≡ after (Ends b) (changed o words (o.history ++ w ∷ []) phase) = is ∙ ap (after (Ends b)) gained in
-    let between : after (Ends b) (changed o words (o.history ++ w ∷ []) phase) ≡ record o { words = ended; history = o.history ++ w ∷ [] } =
-    (λ j. record o { words = ended; history = o.history ++ w ∷ []; phase = sym idle j }) in
-    whole ∙ (between ∙ ap (λ (z : OwnerState). record o { words = z.words; history = o.history ++ w ∷ [] }) (sym whole))
+module _ (o q : OwnerState) (w : Write) (gained : HasGained o q w) (b : ℕ) where
+  pub gained_marked : Kept o → b ≡ bucket_in o w.key → (marked_in q.phase b ≡ 1) × IsMain q.shape b
+  gained_marked s here = subst (λ (z : OwnerState). (marked_in z.phase b ≡ 1) × IsMain z.shape b) (sym gained)
+      (bit_same (bucket_in o w.key) b (sym here), subst (IsMain o.shape) (sym here) (key_main o s w.key))
+
+  pub gained_entry : (slot x : ℕ) (q' : OwnerState) → q' ≡ after (PutsEntry b slot x) q → HasGained o q' w
+  gained_entry slot x q' is = subst (λ (z : OwnerState). HasGained o z w) (sym (is ∙ ap (after (PutsEntry b slot x)) gained)) refl
+
+  pub gains : (new : OwnerState) → o.phase ≡ Idle → new ≡ after (Ends b) q → Gains o new w
+  gains new idle is =
+      let ended : List ℕ = (after (Ends b) (changed o q.words (o.history ++ w ∷ []) (Marked (bucket_in o w.key) w o.history))).words in
+      subst (λ (z : OwnerState). Gains o z w) (sym (is ∙ ap (after (Ends b)) gained)) (λ j. record o { words = ended; history = o.history ++ w ∷ []; phase = sym idle j })
 
 -- the stamp stays far below the limit of a word
 pub stamp_limit : (o : OwnerState) → Kept o → stamp_in o ≤ most_stamp
@@ -416,9 +350,6 @@ stamp_limit o s =
 
 -- writes of keys and values that fit
 
-pub put_is : (key value : List ℕ) → KeyFits key → AreBytes key → ValueFits value → AreBytes value → IsWrite (write_of Put key value)
-put_is key value key_fits key_bytes value_fits value_bytes = record { key = key_fits; key_bytes = key_bytes; value = value_fits; value_bytes = value_bytes }
-
 pub delete_is : (key : List ℕ) → KeyFits key → AreBytes key → IsWrite (write_of Del key [])
 delete_is key key_fits key_bytes = record { key = key_fits; key_bytes = key_bytes; value = refl; value_bytes = λ k. omega arith }
 
@@ -427,8 +358,7 @@ pub found_had : (o : OwnerState) → Kept o → MayWrite o → (key : List ℕ) 
     → MatchOption slot (HasNoSlot o b key) (IsSlotOf o b key) → is_some slot ≡ had_record o key
 found_had o s may key bytes b here slot found =
     let now = cached_in (options_in o) may.cached o.history in
-    let main : IsMain o.shape b = subst (IsMain o.shape) (sym here) (key_main o s key) in
-    let stood = s.state b main (ap (λ (z : Phase). marked_in z b) may.idle) in
+    let stood = stands_at o s key may.idle b here in
     subst (λ (z : State). is_some slot ≡ had_record_by z key) (sym now.1) (by_slot now.0 now.1 stood slot found)
   where
     by_slot : (m : Cache) → state_in o ≡ cache_state m → StandsFor o b → (slot : Option ℕ) → MatchOption slot (HasNoSlot o b key) (IsSlotOf o b key)
@@ -443,8 +373,7 @@ pub kept_slot : (o : OwnerState) → Kept o → (may : MayWrite o) → (w : Writ
     → MatchOption slot (HasNoSlot o b w.key) (IsSlotOf o b w.key) → (i : ℕ) × IsSlotOf o b w.key i
 kept_slot o s may w is p b keeps here (Some slot) found = (slot, found)
 kept_slot o s may w is p b keeps here None none =
-    let main : IsMain o.shape b = subst (IsMain o.shape) (sym here) (key_main o s w.key) in
-    let stood = s.state b main (ap (λ (z : Phase). marked_in z b) may.idle) in
+    let stood = stands_at o s w.key may.idle b here in
     let absent : record_of (now o s may w is).0 w.key ≡ None = slots.no_record o s (now o s may w is).0 (now o s may w is).1 may.cached b w.key stood (sym here) none in
     let held = held_at o s may w is p keeps in
     let not_kept : kept_record (options_in o) (now o s may w is).0 w ≡ None = ap (cs.kept_if (options_in o) (now o s may w is).0 w) absent in
@@ -464,8 +393,7 @@ kept_if_is false r = refl
 
 pub no_slot_keeps : (o : OwnerState) → Kept o → (may : MayWrite o) → (w : Write) → (b : ℕ) → b ≡ bucket_in o w.key → HasNoSlot o b w.key → kept_offset o w ≡ None
 no_slot_keeps o s may w b here none =
-    let main : IsMain o.shape b = subst (IsMain o.shape) (sym here) (key_main o s w.key) in
-    let stood = s.state b main (ap (λ (z : Phase). marked_in z b) may.idle) in
+    let stood = stands_at o s w.key may.idle b here in
     let there = cached_in (options_in o) may.cached o.history in
     subst (λ (z : State). kept_offset_by (options_in o) z w ≡ None) (sym there.1)
     (none_kept (options_in o) there.0 w (slots.no_record o s there.0 there.1 may.cached b w.key stood (sym here) none))
@@ -474,8 +402,7 @@ pub slot_keeps : (o : OwnerState) → Kept o → (may : MayWrite o) → (w : Wri
     → (stamp offset room : ℕ) → stamp ≡ stamp_in o → offset ≡ entry_offset (entry_in o b slot) → room ≡ room_in o (entry_in o b slot)
     → (fits : Bool) → fits ≡ (nat_le (size_of w) room && is_live o.shape.words (stamp + 1) offset) → then_some fits offset ≡ kept_offset o w
 slot_keeps o s may w is b slot here found stamp offset room stamp_is offset_is room_is_now fits fits_is =
-    let main : IsMain o.shape b = subst (IsMain o.shape) (sym here) (key_main o s w.key) in
-    let stood = s.state b main (ap (λ (z : Phase). marked_in z b) may.idle) in
+    let stood = stands_at o s w.key may.idle b here in
     let there = cached_in (options_in o) may.cached o.history in
     let spelt = slots.slot_spells o s may.cached b slot w.key is.key_bytes stood found in
     let held = slots.record_spelt o s there.0 there.1 b (entry_in o b slot) w.key spelt.0 spelt.1 in

@@ -1,9 +1,4 @@
-use Rattle.std.proofs.Common.{ℕ, sym, ap, ◌∙◌, subst, arith, Some}
-use Rattle.mica_words.specs.Packing.{AreBytes}
-use Rattle.epoch_core.specs.declared.state.OwnerState.{OwnerState}
-use Rattle.epoch_core.specs.Kept.{Kept}
-use Rattle.circular_log.specs.LogItem.{IsItem}
-use Rattle.lossy_index.specs.Slot.{IsFoundAt, HasNoSlot}
+use Rattle.cache_partition.proofs.Words.{AreBytes, HasNoSlot, IsFoundAt, IsItem, Kept, OwnerState, Some, ap, arith, subst, sym, ℕ, ◌∙◌}
 use Rattle.cache_partition.proofs.Answering.{spelt, item, hit, missed}
 use Rattle.cache_partition.proofs.reading.value_of.Goals as goal
 

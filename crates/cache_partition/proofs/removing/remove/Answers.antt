@@ -1,16 +1,6 @@
-use Rattle.std.proofs.Common.{◌≡◌, ℕ, [], ◌+◌, refl, sym, ap, ◌∙◌, subst, arith, Option}
-use Rattle.std.specs.Prelude.{MatchOption}
-use Rattle.mica_model.specs.declared.write.Op.TheVariants.{Del}
-use Rattle.mica_model.specs.Write.{write_of}
-use Rattle.epoch_core.specs.declared.state.OwnerState.{OwnerState}
-use Rattle.epoch_core.specs.declared.event.Event.TheVariants.{PutsEntry}
-use Rattle.epoch_core.specs.OwnerState.{stamp_in}
-use Rattle.epoch_core.specs.Events.{MayEnd, after}
-use Rattle.epoch_core.specs.Kept.{Kept}
-use Rattle.lossy_index.specs.Slot.{IsSlotOf, HasNoSlot}
-use Rattle.cache_partition.specs.Gained.{MayWrite}
-use Rattle.cache_partition.specs.Sought.{IsSought, had_record}
-use Rattle.cache_partition.proofs.Writes.{stamp_limit, stamp_deleted, delete_is, end_cleared, end_absent, found_had}
+use Rattle.cache_partition.proofs.Words.{Del, HasNoSlot, IsSlotOf, IsSought, Kept, MatchOption, MayEnd, MayWrite, Option, OwnerState, PutsEntry, []}
+use Rattle.cache_partition.proofs.Words.{after, ap, arith, had_record, refl, stamp_in, subst, sym, write_of, ℕ, ◌+◌, ◌∙◌, ◌≡◌}
+use Rattle.cache_partition.proofs.Writes.{stamp_limit, stamp_deleted, delete_is, end_delete, found_had}
 use Rattle.cache_partition.proofs.removing.remove.Goals as goal
 use Rattle.cache_partition.proofs.removing.remove.Goals.{in-Some, in_default}
 
@@ -35,16 +25,17 @@ end_write-requires g c =
     let may = subst MayWrite (sym c.seek-sought.ensures.same.0) c.requires.may in
     let sought = subst (λ (z : OwnerState). IsSought z c.args.key.now c.seek-sought.result) (sym c.seek-sought.ensures.same.0) c.seek-sought.ensures.sought in
     let is = delete_is c.args.key.now c.requires.key (λ k. omega (arith, c.type_inv.key k)) in
+    let ends = end_delete o c.seek-sought.ensures.kept may (write_of Del c.args.key.now []) is (c.seek-sought.result.stamp + 1) refl c.seek-sought.result.bucket sought.bucket in
     elim c.match-sought.branch [
       | in-Some w ↦
           let event = w.clear.ensures.entry ∙ ap (after (PutsEntry c.seek-sought.result.bucket w.in-Some.slot 0)) c.begin.ensures.marked in
           subst (λ (z : OwnerState). MayEnd z c.seek-sought.result.bucket) (sym (ap owner w.words-is ∙ event))
-          (end_cleared (owner c.seek-sought.new.words) c.seek-sought.ensures.kept may (write_of Del c.args.key.now []) is (c.seek-sought.result.stamp + 1) refl c.seek-sought.result.bucket w.in-Some.slot sought.bucket
+          (ends.cleared w.in-Some.slot
           (subst (λ (z : Option ℕ). MatchOption z (HasNoSlot o c.seek-sought.result.bucket c.args.key.now) (IsSlotOf o c.seek-sought.result.bucket c.args.key.now)) w.in-Some.is sought.found)
           (subst Kept event w.clear.ensures.kept))
       | in_default w ↦
           subst (λ (z : OwnerState). MayEnd z c.seek-sought.result.bucket) (sym (ap owner w.words-is ∙ c.begin.ensures.marked))
-          (end_absent (owner c.seek-sought.new.words) c.seek-sought.ensures.kept may (write_of Del c.args.key.now []) is (c.seek-sought.result.stamp + 1) refl c.seek-sought.result.bucket sought.bucket
+          (ends.absent
           (subst (λ (z : Option ℕ). MatchOption z (HasNoSlot o c.seek-sought.result.bucket c.args.key.now) (IsSlotOf o c.seek-sought.result.bucket c.args.key.now)) w.in_default.is sought.found)
           (subst Kept c.begin.ensures.marked c.begin.ensures.kept))
     ]

@@ -1,7 +1,4 @@
-use Rattle.std.proofs.Common.{sym, subst}
-use Rattle.epoch_core.specs.declared.state.OwnerState.{OwnerState}
-use Rattle.epoch_core.specs.Events.{MayMark}
-use Rattle.mica_model.specs.Write.{write_of}
+use Rattle.cache_partition.proofs.Words.{MayMark, OwnerState, subst, sym, write_of}
 use Rattle.cache_partition.proofs.Writes.{may_begin, may_mark}
 use Rattle.cache_partition.proofs.seeking.begin.Goals as goal
 

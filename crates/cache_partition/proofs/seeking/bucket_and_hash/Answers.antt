@@ -1,9 +1,4 @@
-use Rattle.std.proofs.Common.{ℕ, ◌<◌, sym, ap, ◌∙◌, subst}
-use Rattle.std.proofs.lemmas.Nat.{pow_pos}
-use Rattle.mica_words.specs.Hash.{fnv1a, hash_bucket}
-use Rattle.mica_words.proofs.Hashes.{bucket_of_hash, hash_bucket-below}
-use Rattle.epoch_core.specs.declared.shape.Shape.{Shape}
-use Rattle.epoch_core.specs.Shape.{IsMain}
+use Rattle.cache_partition.proofs.Words.{IsMain, Shape, ap, bucket_of_hash, fnv1a, hash_bucket, hash_bucket-below, pow_pos, subst, sym, ℕ, ◌<◌, ◌∙◌}
 use Rattle.cache_partition.proofs.seeking.bucket_and_hash.Goals as goal
 
 pub returns-clause-bucket : goal.returns-clause-bucket

@@ -1,6 +1,4 @@
-use Rattle.std.proofs.Common.{subst}
-use Rattle.epoch_core.specs.declared.state.OwnerState.{OwnerState}
-use Rattle.lossy_index.specs.Slot.{IsFoundAt, HasNoSlot}
+use Rattle.cache_partition.proofs.Words.{HasNoSlot, IsFoundAt, OwnerState, subst}
 use Rattle.cache_partition.proofs.seeking.seek.Goals as goal
 
 pub returns-in-Some-clause-sought : goal.returns-in-Some-clause-sought

@@ -1,15 +1,6 @@
-use Rattle.std.proofs.Common.{◌≡◌, ℕ, ◌+◌, Bool, false, sym, ap, ◌∙◌, subst, arith, Option}
-use Rattle.std.specs.Prelude.{IfSome, MatchOption, nat_le, ◌&&◌}
-use Rattle.std.proofs.lemmas.Bool.{le-leb, lt-leb}
-use Rattle.mica_words.specs.Header.{header_room}
-use Rattle.mica_words.specs.Item.{item_size}
-use Rattle.mica_model.specs.declared.write.Op.TheVariants.{Put}
-use Rattle.mica_model.specs.Write.{write_of}
-use Rattle.mica_model.specs.Cache.{is_live}
-use Rattle.epoch_core.specs.declared.state.OwnerState.{OwnerState}
-use Rattle.epoch_core.specs.declared.shape.Shape.{Shape}
-use Rattle.epoch_core.specs.OwnerState.{item_in}
-use Rattle.lossy_index.specs.Slot.{offset_in, IsSlotOf, HasNoSlot}
+use Rattle.cache_partition.proofs.Words.{Bool, HasNoSlot, IfSome, IsSlotOf, MatchOption, Option, OwnerState, Put, Shape, ap, arith, false}
+use Rattle.cache_partition.proofs.Words.{header_room, is_live, item_in, item_size, le-leb, lt-leb, nat_le, offset_in, subst, sym, write_of, ℕ, ◌&&◌}
+use Rattle.cache_partition.proofs.Words.{◌+◌, ◌∙◌, ◌≡◌}
 use Rattle.cache_partition.proofs.Writes.{stamp_limit, no_slot_keeps, slot_keeps}
 use Rattle.cache_partition.proofs.writing.offset_that_keeps.Goals as goal
 use Rattle.cache_partition.proofs.writing.offset_that_keeps.Goals.{then-fits, else-fits}

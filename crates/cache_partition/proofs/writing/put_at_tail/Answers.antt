@@ -1,23 +1,9 @@
-use Rattle.std.proofs.Common.{◌+◌, ◌*◌, refl, sym, ap, ◌∙◌, subst, arith}
-use Rattle.mica_words.specs.Entry.{entry_of}
-use Rattle.mica_words.specs.Hash.{hash_tag}
-use Rattle.mica_words.specs.Item.{item_size}
-use Rattle.mica_words.specs.Stamp.{tail_of}
-use Rattle.mica_words.proofs.Hashes.{tag_of_hash}
-use Rattle.mica_words.proofs.Sizes.{item_size-most}
-use Rattle.mica_model.specs.declared.write.Op.TheVariants.{Put}
-use Rattle.mica_model.specs.Write.{write_of}
-use Rattle.epoch_core.specs.declared.state.OwnerState.{OwnerState}
-use Rattle.epoch_core.specs.declared.event.Event.TheVariants.{PutsEntry}
-use Rattle.epoch_core.specs.Shape.{IsMain}
-use Rattle.epoch_core.specs.OwnerState.{bucket_in, marked_in}
-use Rattle.epoch_core.specs.Events.{MayEnd, after}
-use Rattle.epoch_core.specs.Kept.{Kept}
-use Rattle.epoch_core.proofs.Marked.{bit_same}
-use Rattle.circular_log.specs.LogWrite.{MayAppend, with_item}
-use Rattle.lossy_index.specs.Place.{Takes}
-use Rattle.cache_partition.proofs.Endings.{key_main}
-use Rattle.cache_partition.proofs.Writes.{stamp_limit, stamp_appended, item_gained, gains, end_at_tail, may_append, stamp_gained}
+use Rattle.cache_partition.proofs.Words.{options_in, marked_with, IsMain, Kept, MayAppend, MayEnd, OwnerState, Put, PutsEntry, Takes, [], after, ap, arith, entry_of, hash_tag}
+use Rattle.cache_partition.proofs.Words.{item_size, item_size-most, marked_in, refl, stamp_of, subst, sym, tag_of_hash, tail_of, with_item, write_of}
+use Rattle.cache_partition.proofs.Words.{◌*◌, ◌++◌, ◌+◌, ◌∙◌, ◌∷◌, ◌≡◌}
+use Rattle.cache_partition.proofs.Writes.{HasGained, end_at_tail, gained_entry, gained_marked, gains, item_gained, may_append, stamp_appended, stamp_gained, stamp_limit}
+use Rattle.cache_partition.proofs.writing.put_at_tail.Given.{Over}
+use Rattle.cache_partition.proofs.writing.put_at_tail.Goals.{After-append_hashed, After-from}
 use Rattle.cache_partition.proofs.writing.put_at_tail.Goals as goal
 
 pub overflow_add-stamp : goal.overflow_add-stamp
@@ -27,47 +13,54 @@ overflow_add-stamp g c =
     let most = item_size-most c.args.key.now c.args.value.now c.requires.write.key c.requires.write.value in
     omega arith
 
+-- the stamp after the write
+stamp : (g : Over) (c : After-from g) → c.args.sought.now.stamp + 65536 * c.from.result
+    ≡ stamp_of (options_in (g.W.OwnerWords.owner c.args.words.now)) ((g.W.OwnerWords.owner c.args.words.now).history ++ write_of Put c.args.key.now c.args.value.now ∷ [])
+stamp g c = (λ j. c.requires.sought.stamp j + 65536 * (c.from.ensures ∙ c.item_size.ensures) j)
+    ∙ sym (stamp_appended (g.W.OwnerWords.owner c.args.words.now) c.requires.kept c.requires.may (write_of Put c.args.key.now c.args.value.now) c.requires.write refl c.requires.at_tail)
+
+-- the item is stored
+stored : (g : Over) (c : After-append_hashed g) → g.W.OwnerWords.owner c.append_hashed.new.words
+    ≡ with_item (marked_with (g.W.OwnerWords.owner c.args.words.now) c.args.sought.now.bucket (write_of Put c.args.key.now c.args.value.now) (c.args.sought.now.stamp + 65536 * c.from.result))
+    c.tail_of-tail.result (item_size c.args.key.now c.args.value.now) c.args.key.now c.args.value.now
+stored g c = c.append_hashed.ensures.item
+    ∙ ap (λ (z : OwnerState). with_item z c.tail_of-tail.result (item_size c.args.key.now c.args.value.now) c.args.key.now c.args.value.now) c.begin.ensures.marked
+
+gained : (g : Over) (c : After-append_hashed g)
+    → HasGained (g.W.OwnerWords.owner c.args.words.now) (g.W.OwnerWords.owner c.append_hashed.new.words) (write_of Put c.args.key.now c.args.value.now)
+gained g c = item_gained (g.W.OwnerWords.owner c.args.words.now) c.requires.kept (write_of Put c.args.key.now c.args.value.now) c.requires.write c.args.sought.now.bucket
+    (c.args.sought.now.stamp + 65536 * c.from.result) c.tail_of-tail.result (item_size c.args.key.now c.args.value.now) c.requires.sought.bucket _ (stored g c)
+
+marked : (g : Over) (c : After-append_hashed g) → (marked_in (g.W.OwnerWords.owner c.append_hashed.new.words).phase c.args.sought.now.bucket ≡ 1)
+    × IsMain (g.W.OwnerWords.owner c.append_hashed.new.words).shape c.args.sought.now.bucket
+marked g c = gained_marked (g.W.OwnerWords.owner c.args.words.now) _ (write_of Put c.args.key.now c.args.value.now) (gained g c) c.args.sought.now.bucket c.requires.kept c.requires.sought.bucket
+
 pub begin-requires-clause-stamp : goal.begin-requires-clause-stamp
-begin-requires-clause-stamp g c =
-    let o = g.W.OwnerWords.owner c.args.words.now in
-    (λ j. c.requires.sought.stamp j + 65536 * (c.from.ensures ∙ c.item_size.ensures) j)
-    ∙ sym (stamp_appended o c.requires.kept c.requires.may (write_of Put c.args.key.now c.args.value.now) c.requires.write refl c.requires.at_tail)
+begin-requires-clause-stamp g c = stamp g (goal.at.begin-requires-clause-stamp g c).After-from
 
 pub append_hashed-requires-clause-marked : goal.append_hashed-requires-clause-marked
 append_hashed-requires-clause-marked g c =
-    let o = g.W.OwnerWords.owner c.args.words.now in
     subst (λ (z : OwnerState). MayAppend z c.tail_of-tail.result c.args.key.now c.args.value.now) (sym c.begin.ensures.marked)
-    (may_append o c.requires.kept c.requires.may c.args.key.now c.args.value.now c.requires.write c.args.sought.now.bucket (c.args.sought.now.stamp + 65536 * c.from.result) c.tail_of-tail.result c.requires.at_tail
-    (c.tail_of-tail.ensures ∙ ap tail_of c.requires.sought.stamp))
+    (may_append (g.W.OwnerWords.owner c.args.words.now) c.requires.kept c.requires.may c.args.key.now c.args.value.now c.requires.write c.args.sought.now.bucket
+    (c.args.sought.now.stamp + 65536 * c.from.result) c.tail_of-tail.result c.requires.at_tail (c.tail_of-tail.ensures ∙ ap tail_of c.requires.sought.stamp))
 
 pub place-requires-clause-marked : goal.place-requires-clause-marked
-place-requires-clause-marked g c =
-    let o = g.W.OwnerWords.owner c.args.words.now in
-    let event = c.append_hashed.ensures.item ∙ ap (λ (z : OwnerState). with_item z c.tail_of-tail.result (item_size c.args.key.now c.args.value.now) c.args.key.now c.args.value.now) c.begin.ensures.marked in
-    let gained = event ∙ item_gained o c.requires.kept (write_of Put c.args.key.now c.args.value.now) c.requires.write c.args.sought.now.bucket (c.args.sought.now.stamp + 65536 * c.from.result) c.tail_of-tail.result (item_size c.args.key.now c.args.value.now) c.requires.sought.bucket in
-    ap (λ (z : OwnerState). marked_in z.phase c.args.sought.now.bucket) gained ∙ bit_same (bucket_in o c.args.key.now) c.args.sought.now.bucket (sym c.requires.sought.bucket)
+place-requires-clause-marked g c = (marked g (goal.at.place-requires-clause-marked g c).After-append_hashed).0
 
 pub place-requires-clause-bucket : goal.place-requires-clause-bucket
-place-requires-clause-bucket g c =
-    let o = g.W.OwnerWords.owner c.args.words.now in
-    let event = c.append_hashed.ensures.item ∙ ap (λ (z : OwnerState). with_item z c.tail_of-tail.result (item_size c.args.key.now c.args.value.now) c.args.key.now c.args.value.now) c.begin.ensures.marked in
-    let gained = event ∙ item_gained o c.requires.kept (write_of Put c.args.key.now c.args.value.now) c.requires.write c.args.sought.now.bucket (c.args.sought.now.stamp + 65536 * c.from.result) c.tail_of-tail.result (item_size c.args.key.now c.args.value.now) c.requires.sought.bucket in
-    subst (λ (z : OwnerState). IsMain z.shape c.args.sought.now.bucket) (sym gained)
-    (subst (IsMain o.shape) (sym c.requires.sought.bucket) (key_main o c.requires.kept c.args.key.now))
+place-requires-clause-bucket g c = (marked g (goal.at.place-requires-clause-bucket g c).After-append_hashed).1
 
 pub end_write-requires : goal.end_write-requires
 end_write-requires g c =
-    let owner = g.W.OwnerWords.owner in
-    let o = owner c.args.words.now in
-    let event = c.append_hashed.ensures.item ∙ ap (λ (z : OwnerState). with_item z c.tail_of-tail.result (item_size c.args.key.now c.args.value.now) c.args.key.now c.args.value.now) c.begin.ensures.marked in
+    let z = goal.at.end_write-requires g c in
+    let event = stored g z.After-append_hashed in
     let whole = c.place.ensures.entry ∙ ap (after (PutsEntry c.args.sought.now.bucket c.place.result (entry_of c.tag_of.result c.tail_of-tail.result))) event in
-    let stamp = (λ j. c.requires.sought.stamp j + 65536 * (c.from.ensures ∙ c.item_size.ensures) j)
-    ∙ sym (stamp_appended o c.requires.kept c.requires.may (write_of Put c.args.key.now c.args.value.now) c.requires.write refl c.requires.at_tail) in
     subst (λ (z : OwnerState). MayEnd z c.args.sought.now.bucket) (sym whole)
-    (end_at_tail o c.requires.kept c.requires.may (write_of Put c.args.key.now c.args.value.now) c.requires.write (c.args.sought.now.stamp + 65536 * c.from.result) refl c.requires.at_tail stamp
-    c.args.sought.now.bucket c.place.result c.tag_of.result c.tail_of-tail.result c.args.sought.now.slot c.requires.sought.bucket c.requires.sought.found
+    (end_at_tail (g.W.OwnerWords.owner c.args.words.now) c.requires.kept c.requires.may (write_of Put c.args.key.now c.args.value.now) c.requires.write
+    (c.args.sought.now.stamp + 65536 * c.from.result) refl c.requires.at_tail (stamp g z.After-from)
+    c.args.sought.now.bucket c.place.result c.tag_of.result c.tail_of-tail.result c.args.sought.now.slot c.requires.sought.bucket
     (c.tag_of.ensures ∙ (ap hash_tag c.requires.sought.hash ∙ sym (tag_of_hash c.args.key.now)))
-    (c.tail_of-tail.ensures ∙ ap tail_of c.requires.sought.stamp)
+    (c.tail_of-tail.ensures ∙ ap tail_of c.requires.sought.stamp) c.requires.sought.found
     (subst (λ (z : OwnerState). Takes z c.args.sought.now.bucket c.args.sought.now.slot c.place.result) event c.place.ensures.slot)
     (subst Kept whole c.place.ensures.kept))
 
@@ -75,15 +68,10 @@ pub returns-clause-gains : goal.returns-clause-gains
 returns-clause-gains g c =
     let owner = g.W.OwnerWords.owner in
     let o = owner c.args.words.now in
-    let event = c.append_hashed.ensures.item ∙ ap (λ (z : OwnerState). with_item z c.tail_of-tail.result (item_size c.args.key.now c.args.value.now) c.args.key.now c.args.value.now) c.begin.ensures.marked in
-    let gained = event ∙ item_gained o c.requires.kept (write_of Put c.args.key.now c.args.value.now) c.requires.write c.args.sought.now.bucket (c.args.sought.now.stamp + 65536 * c.from.result) c.tail_of-tail.result (item_size c.args.key.now c.args.value.now) c.requires.sought.bucket in
-    let placed = c.place.ensures.entry ∙ ap (after (PutsEntry c.args.sought.now.bucket c.place.result (entry_of c.tag_of.result c.tail_of-tail.result))) gained in
-    gains o (owner c.place.new.words) (owner c.end_write.new.self) (write_of Put c.args.key.now c.args.value.now) c.args.sought.now.bucket _ _ c.requires.may.idle placed c.end_write.ensures.event
+    let w = write_of Put c.args.key.now c.args.value.now in
+    let gained = gained_entry o (owner c.append_hashed.new.words) w (gained g (goal.at.returns-clause-gains g c).After-append_hashed) c.args.sought.now.bucket _ _ _ c.place.ensures.entry in
+    gains o (owner c.place.new.words) w gained c.args.sought.now.bucket (owner c.end_write.new.self) c.requires.may.idle c.end_write.ensures.event
 
 pub returns-clause-stamp : goal.returns-clause-stamp
-returns-clause-stamp g c =
-    let owner = g.W.OwnerWords.owner in
-    let o = owner c.args.words.now in
-    stamp_gained o (owner c.end_write.new.self) (write_of Put c.args.key.now c.args.value.now) (c.args.sought.now.stamp + 65536 * c.from.result) (returns-clause-gains g c)
-    ((λ j. c.requires.sought.stamp j + 65536 * (c.from.ensures ∙ c.item_size.ensures) j)
-    ∙ sym (stamp_appended o c.requires.kept c.requires.may (write_of Put c.args.key.now c.args.value.now) c.requires.write refl c.requires.at_tail))
+returns-clause-stamp g c = stamp_gained (g.W.OwnerWords.owner c.args.words.now) _ (write_of Put c.args.key.now c.args.value.now)
+    (c.args.sought.now.stamp + 65536 * c.from.result) (returns-clause-gains g c) (stamp g (goal.at.returns-clause-stamp g c).After-from)

@@ -1,11 +1,5 @@
-use Rattle.std.proofs.Common.{ℕ, ◌+◌, refl, sym, ap, ◌∙◌, subst, arith}
-use Rattle.mica_model.specs.declared.write.Op.TheVariants.{Put}
-use Rattle.mica_model.specs.Write.{write_of}
-use Rattle.epoch_core.specs.declared.state.OwnerState.{OwnerState}
-use Rattle.epoch_core.specs.Events.{MayEnd}
-use Rattle.epoch_core.specs.Kept.{Kept}
-use Rattle.circular_log.specs.LogItem.{room_at}
-use Rattle.circular_log.specs.LogWrite.{MayRewrite, with_item}
+use Rattle.cache_partition.proofs.Words.{Kept, MayEnd, MayRewrite, OwnerState, Put, ap, arith, refl, room_at, subst, sym, with_item, write_of, ℕ, ◌+◌}
+use Rattle.cache_partition.proofs.Words.{◌∙◌}
 use Rattle.cache_partition.proofs.Writes.{stamp_limit, stamp_rewritten, item_gained, gains, end_in_place, may_rewrite, kept_slot, stamp_gained}
 use Rattle.cache_partition.proofs.writing.put_in_place.Goals as goal
 
@@ -43,9 +37,10 @@ pub returns-clause-gains : goal.returns-clause-gains
 returns-clause-gains g c =
     let owner = g.W.OwnerWords.owner in
     let o = owner c.args.words.now in
+    let w = write_of Put c.args.key.now c.args.value.now in
     let event = c.rewrite.ensures.item ∙ ap (λ (z : OwnerState). with_item z c.args.offset (room_at z c.args.offset) c.args.key.now c.args.value.now) c.begin.ensures.marked in
-    let gained = event ∙ item_gained o c.requires.kept (write_of Put c.args.key.now c.args.value.now) c.requires.write c.args.sought.now.bucket (c.args.sought.now.stamp + 1) c.args.offset _ c.requires.sought.bucket in
-    gains o (owner c.rewrite.new.words) (owner c.end_write.new.self) (write_of Put c.args.key.now c.args.value.now) c.args.sought.now.bucket _ _ c.requires.may.idle gained c.end_write.ensures.event
+    let gained = item_gained o c.requires.kept w c.requires.write c.args.sought.now.bucket (c.args.sought.now.stamp + 1) c.args.offset _ c.requires.sought.bucket _ event in
+    gains o (owner c.rewrite.new.words) w gained c.args.sought.now.bucket (owner c.end_write.new.self) c.requires.may.idle c.end_write.ensures.event
 
 pub returns-clause-stamp : goal.returns-clause-stamp
 returns-clause-stamp g c =

@@ -1,5 +1,4 @@
-use Rattle.std.proofs.Common.{length, sym, ap}
-use Rattle.epoch_core.specs.declared.state.OwnerState.{OwnerState}
+use Rattle.cache_partition.proofs.Words.{OwnerState, ap, length, sym}
 use Rattle.cache_partition.proofs.Writes.{new_stamp}
 use Rattle.cache_partition.proofs.partition.CachePartition.new.Goals as goal
 

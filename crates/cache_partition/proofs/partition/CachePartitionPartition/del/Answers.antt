@@ -1,11 +1,5 @@
-use Rattle.std.proofs.Common.{[], length, sym, ap, ◌∙◌, arith}
-use Rattle.std.proofs.lemmas.Bool.{leb-true, leb-false}
-use Rattle.mica_model.specs.declared.write.Op.TheVariants.{Del}
-use Rattle.mica_model.specs.declared.write.Outcome.TheVariants.{Deleted, Absent}
-use Rattle.mica_model.specs.Write.{write_of}
-use Rattle.mica_model.specs.CacheStep.{reply_of}
-use Rattle.epoch_core.specs.OwnerState.{options_in}
-use Rattle.cache_partition.specs.Gained.{MayWrite}
+use Rattle.cache_partition.proofs.Words.{Absent, Del, Deleted, MayWrite, [], ap, arith, leb-false, leb-true, length, options_in, reply_of, sym}
+use Rattle.cache_partition.proofs.Words.{write_of, ◌∙◌}
 use Rattle.cache_partition.proofs.Writes.{worn_step, accepted_step}
 use Rattle.cache_partition.proofs.partition.CachePartitionPartition.del.Goals as goal
 

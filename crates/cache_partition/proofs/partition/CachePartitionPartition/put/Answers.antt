@@ -1,9 +1,4 @@
-use Rattle.std.proofs.Common.{length, refl, sym, ◌∙◌, arith}
-use Rattle.std.proofs.lemmas.Bool.{leb-true, leb-false}
-use Rattle.mica_model.specs.declared.write.Op.TheVariants.{Put}
-use Rattle.mica_model.specs.declared.write.Outcome.TheVariants.{Stored}
-use Rattle.mica_model.specs.Write.{write_of}
-use Rattle.cache_partition.specs.Gained.{MayWrite}
+use Rattle.cache_partition.proofs.Words.{MayWrite, Put, Stored, arith, leb-false, leb-true, length, refl, sym, write_of, ◌∙◌}
 use Rattle.cache_partition.proofs.Writes.{worn_step, accepted_step}
 use Rattle.cache_partition.proofs.partition.CachePartitionPartition.put.Goals as goal
 
