@@ -3,6 +3,7 @@ ghost use Rattle.std.specs.Prelude.{◌≡◌, [], false};
 ghost use Rattle.std.specs.Process.{exit_status};
 ghost use Rattle.mica_cmd.specs.Outside.{Outside, SourceFacts, SinkFacts};
 ghost use Rattle.mica_cmd.specs.Exit.{exit_number, Exits};
+ghost use Rattle.mica_serve.specs.NetRun.{net_facts};
 
 use crate::{Status, mica};
 use mica_io::{Gate, Net, NoMemory, Sink, Source};
@@ -55,27 +56,13 @@ pub fn run_program<W: Threads + Wait + Sync, S: Source, K: Sink, N: Net, G: Gate
         (record {
           source = record { left = S.left source.old; has_ended = S.has_ended source.old; faults = S.faults source.old };
           sink = record { taken = K.taken sink.old; faults = K.faults sink.old };
-          net = record {
-            faults = N.faults net.old;
-            binds = N.binds net.old;
-            first = N.first net.old;
-            refused = N.refused net.old;
-            ports = N.ports net.old;
-            fails = N.fails net.old;
-          };
+          net = net_facts N.faults N.binds N.first N.refused N.ports N.fails net.old;
           tables = tables.old;
         })
         (record {
           source = record { left = S.left source.new; has_ended = S.has_ended source.new; faults = S.faults source.new };
           sink = record { taken = K.taken sink.new; faults = K.faults sink.new };
-          net = record {
-            faults = N.faults net.new;
-            binds = N.binds net.new;
-            first = N.first net.new;
-            refused = N.refused net.new;
-            ports = N.ports net.new;
-            fails = N.fails net.new;
-          };
+          net = net_facts N.faults N.binds N.first N.refused N.ports N.fails net.new;
           tables = tables.new;
         }) (exit_status result) }
 {

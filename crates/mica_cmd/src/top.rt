@@ -4,7 +4,7 @@ ghost use Rattle.mica_model.specs.Options.{IsValid};
 ghost use Rattle.mica_cmd.specs.declared.command.Command.TheVariants.{Replay, Serve, Gen, Bench};
 ghost use Rattle.mica_trace.specs.TraceGrammar.{trace_text};
 ghost use Rattle.mica_serve.specs.PortOptions.{IsValidPorts};
-ghost use Rattle.mica_serve.specs.NetRun.{NetFacts};
+ghost use Rattle.mica_serve.specs.NetRun.{NetFacts, net_facts};
 ghost use Rattle.partition_table.specs.declared.tables.Entry.{Entry};
 ghost use Rattle.mica_cmd.specs.GenOptions.{is_valid};
 ghost use Rattle.mica_cmd.specs.Generator.{generated};
@@ -201,27 +201,13 @@ fn serve_command<W: Threads + Wait + Sync, K: Sink, N: Net, G: Gate>(
         (record {
           source = source;
           sink = record { taken = K.taken sink.old; faults = K.faults sink.old };
-          net = record {
-            faults = N.faults net.old;
-            binds = N.binds net.old;
-            first = N.first net.old;
-            refused = N.refused net.old;
-            ports = N.ports net.old;
-            fails = N.fails net.old;
-          };
+          net = net_facts N.faults N.binds N.first N.refused N.ports N.fails net.old;
           tables = tables.old;
         })
         (record {
           source = source;
           sink = record { taken = K.taken sink.new; faults = K.faults sink.new };
-          net = record {
-            faults = N.faults net.new;
-            binds = N.binds net.new;
-            first = N.first net.new;
-            refused = N.refused net.new;
-            ports = N.ports net.new;
-            fails = N.fails net.new;
-          };
+          net = net_facts N.faults N.binds N.first N.refused N.ports N.fails net.new;
           tables = tables.new;
         }) result }
 {
@@ -269,27 +255,13 @@ pub fn mica<W: Threads + Wait + Sync, S: Source, K: Sink, N: Net, G: Gate>(
         (record {
           source = record { left = S.left source.old; has_ended = S.has_ended source.old; faults = S.faults source.old };
           sink = record { taken = K.taken sink.old; faults = K.faults sink.old };
-          net = record {
-            faults = N.faults net.old;
-            binds = N.binds net.old;
-            first = N.first net.old;
-            refused = N.refused net.old;
-            ports = N.ports net.old;
-            fails = N.fails net.old;
-          };
+          net = net_facts N.faults N.binds N.first N.refused N.ports N.fails net.old;
           tables = tables.old;
         })
         (record {
           source = record { left = S.left source.new; has_ended = S.has_ended source.new; faults = S.faults source.new };
           sink = record { taken = K.taken sink.new; faults = K.faults sink.new };
-          net = record {
-            faults = N.faults net.new;
-            binds = N.binds net.new;
-            first = N.first net.new;
-            refused = N.refused net.new;
-            ports = N.ports net.new;
-            fails = N.fails net.new;
-          };
+          net = net_facts N.faults N.binds N.first N.refused N.ports N.fails net.new;
           tables = tables.new;
         }) result }
 {

@@ -7,7 +7,7 @@ use Rattle.mica_io.specs.Traffic.{Traffic, EndScript}
 use Rattle.mica_io.specs.Ports.{Port, Ports, out, back, with_port, BindsEnd}
 use Rattle.mica_serve.specs.Ends.{EndFacts, IsNewEnd, AreNewEnds, WaitedAt, BindsEnds, ReleasesEnds, TellAll}
 use Rattle.mica_io.specs.Faults.{Rose, LAST_COUNT}
-use Rattle.std.proofs.lemmas.List.{take_at, take-append-drop}
+use Rattle.std.proofs.lemmas.List.{take_at, take-append-drop, length_push}
 use Rattle.mica_serve.specs.NetRun.{OnPorts}
 
 -- what stands at a place of a list with one more element
@@ -188,13 +188,14 @@ at_seam (z ∷ xs) x ys = at_seam xs x ys
 
 -- the last of a beginning was popped
 pub popped : {X : Type 0} (initial old new : List X) (end : X) → old ≡ take (length old) initial → old ≡ new ++ end ∷ []
-    → (new ≡ take (length new) initial) × (slice_get initial (length new) ≡ Some end)
+    → (new ≡ take (length new) initial) × (slice_get initial (length new) ≡ Some end) × (length old ≡ length new + 1)
 popped initial old new end begins last =
     let rest = drop (length old) initial in
     let whole : initial ≡ new ++ end ∷ rest =
     sym (take-append-drop (length old) initial) ∙ ap (λ t. t ++ rest) (sym begins ∙ last) ∙ append_assoc new (end ∷ []) rest in (
       sym (ap (take (length new)) whole ∙ take_at new (end ∷ rest) (length new) refl),
       ap (λ l. slice_get l (length new)) whole ∙ at_seam new end rest,
+      ap length last ∙ length_push new end,
     )
 
 pub still_out : (first : ℕ) (ends : List EndFacts) (n j port : ℕ) (a b : Option Ports) → OnPorts (Releasing first ends n) a b → j < n → port ≡ first + j

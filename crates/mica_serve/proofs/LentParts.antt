@@ -15,6 +15,7 @@ use Rattle.epoch_core.specs.Joins.{lent}
 use Rattle.partition_table.specs.Seats.{reader_state, reader_home}
 use Rattle.owner_queue.specs.JobEnds.{Outbox, outbox, Inbox, inbox}
 use Rattle.owner_queue.specs.AckEnds.{AckBox, ack_box}
+use Rattle.owner_queue.proofs.Lists.{set_cases}
 use Rattle.mica_serve.specs.declared.queue_front.FrontPart.{FrontPart}
 use Rattle.mica_serve.specs.QueueFront.{IsNewPart}
 use Rattle.mica_serve.specs.Hands.{OwnerEnd, IsNewOwner, IsLentBy, AreLent, LendsOneMore}
@@ -23,17 +24,6 @@ use Rattle.mica_serve.proofs.Gathered.{some_at}
 
 same_some : {X : Type 0} {x y : X} → Some x ≡ Some y → x ≡ y
 same_some is = cc
-
-set_cases : {X : Type 0} (xs : List X) (p : ℕ) (x : X) (q : ℕ) (y : X) → slice_get (slice_set xs p x) q ≡ Some y → ((p ≡ q) × (x ≡ y)) ⊎ ((p ≢ q) × (slice_get xs q ≡ Some y))
-set_cases [] p x q y is = absurd (cc)
-set_cases (z ∷ xs) zero x zero y is = inl (refl, cc)
-set_cases (z ∷ xs) zero x (suc q) y is = inr ((λ same. omega arith), is)
-set_cases (z ∷ xs) (suc p) x zero y is = inr ((λ same. omega arith), is)
-set_cases (z ∷ xs) (suc p) x (suc q) y is =
-    elim (set_cases xs p x q y is) as (λ _. ((suc p ≡ suc q) × (x ≡ y)) ⊎ ((suc p ≢ suc q) × (slice_get xs q ≡ Some y))) [
-      | inl same ↦ inl (ap suc same.0, same.1)
-      | inr other ↦ inr ((λ same. other.0 (omega arith)), other.1)
-    ]
 
 get_left : {X : Type 0} (xs : List X) (y x : X) (i : ℕ) → slice_get xs i ≡ Some x → slice_get (xs ++ y ∷ []) i ≡ Some x
 get_left [] y x zero is = absurd (cc)

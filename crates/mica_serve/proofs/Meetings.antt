@@ -9,36 +9,12 @@ use Rattle.mica_model.specs.History.{History, IsPrefix}
 use Rattle.owner_queue.specs.Messages.{sent_by, has_end}
 use Rattle.mica_serve.specs.declared.queue_front.FrontPart.{FrontPart}
 use Rattle.mica_serve.specs.Hands.{OwnerEnd, MayMeet, HasMet, MeetsPart, MayMeetHand, MeetsHand, MayMeetAll, HaveMetAll, closed_by, closed_at}
+use Rattle.owner_queue.proofs.Lists.{set_cases}
 use Rattle.mica_serve.proofs.Binding.{place_below}
 use Rattle.mica_serve.proofs.Gathered.{some_at}
 
 pub same_some : {X : Type 0} {x y : X} → Some x ≡ Some y → x ≡ y
 same_some is = cc
-
-set_cases : {X : Type 0} (xs : List X) (p : ℕ) (x : X) (q : ℕ) (y : X) → slice_get (slice_set xs p x) q ≡ Some y → ((p ≡ q) × (x ≡ y)) ⊎ ((p ≢ q) × (slice_get xs q ≡ Some y))
-set_cases [] p x q y is = absurd (cc)
-set_cases (z ∷ xs) zero x zero y is = inl (refl, cc)
-set_cases (z ∷ xs) zero x (suc q) y is = inr ((λ same. omega arith), is)
-set_cases (z ∷ xs) (suc p) x zero y is = inr ((λ same. omega arith), is)
-set_cases (z ∷ xs) (suc p) x (suc q) y is =
-    elim (set_cases xs p x q y is) as (λ _. ((suc p ≡ suc q) × (x ≡ y)) ⊎ ((suc p ≢ suc q) × (slice_get xs q ≡ Some y))) [
-      | inl same ↦ inl (ap suc same.0, same.1)
-      | inr other ↦ inr ((λ same. other.0 (omega arith)), other.1)
-    ]
-
--- the first n of a list, where one was taken off its end
-pub popped : {X : Type 0} (all now rest : List X) (x : X) → now ≡ take (length now) all → now ≡ rest ++ x ∷ [] → (rest ≡ take (length rest) all) × (slice_get all (length rest) ≡ Some x) × (length now ≡ length rest + 1)
-popped all now rest x front is =
-    let n : length now ≡ length rest + 1 = ap length is ∙ length_push rest x in
-    let whole : rest ++ x ∷ drop (length now) all ≡ all = sym (append_assoc rest (x ∷ []) (drop (length now) all)) ∙ ap (λ l. l ++ drop (length now) all) (sym is ∙ front) ∙ take-append-drop (length now) all in (
-      sym (ap (take (length rest)) (sym whole) ∙ take-append-le (length rest) rest (x ∷ drop (length now) all) (omega arith) ∙ take_all (length rest) rest (omega arith)),
-      ap (λ l. slice_get l (length rest)) (sym whole) ∙ at_end rest x (drop (length now) all),
-      n,
-    )
-  where
-    at_end : {X : Type 0} (xs : List X) (x : X) (ys : List X) → slice_get (xs ++ x ∷ ys) (length xs) ≡ Some x
-    at_end [] x ys = refl
-    at_end (y ∷ xs) x ys = at_end xs x ys
 
 -- the owners from a place on took in their parts, and those before it are as they were
 pub record PartsMetFrom (from : ℕ) (parts : List FrontPart) (olds news : List OwnerEnd) : Type 0 where

@@ -142,6 +142,16 @@ pub record EndFacts : Type 0 where
   pub has_ended : Bool
   pub has_script : Bool
 
+-- by what an end tells
+abbrev pub end_facts : {D : Type 0} → (D → ℕ) → (D → Option Traffic) → (D → ℕ) → (D → Bool) → (D → Option EndScript) → D → EndFacts
+end_facts port traffic faults has_ended script = λ e. record {
+  port = port e;
+  traffic = traffic e;
+  faults = faults e;
+  has_ended = has_ended e;
+  has_script = is_some (script e);
+}
+
 -- an end that was just bound to this port
 pub record IsNewEnd (port : ℕ) (end : EndFacts) : Type 0 where
   pub port_is : end.port ≡ port

@@ -21,6 +21,17 @@ pub record NetFacts : Type 0 where
   pub ports : Option Ports
   pub fails : Option (List ℕ)
 
+-- by what a net tells
+abbrev pub net_facts : {N : Type 0} → (N → ℕ) → (N → ℕ) → (N → ℕ) → (N → ℕ) → (N → Option Ports) → (N → Option (List ℕ)) → N → NetFacts
+net_facts faults binds first refused ports fails = λ n. record {
+  faults = faults n;
+  binds = binds n;
+  first = first n;
+  refused = refused n;
+  ports = ports n;
+  fails = fails n;
+}
+
 -- a fact of the ports before and after, where the net tells them; it goes on telling them, or telling nothing
 abbrev pub OnPorts : (Ports → Ports → Type 0) → Option Ports → Option Ports → Type 0
 OnPorts P None after = after ≡ None

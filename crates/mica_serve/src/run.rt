@@ -6,9 +6,9 @@ ghost use Rattle.mica_model.specs.Options.{IsValid};
 ghost use Rattle.partition_table.specs.declared.reader.Note.{Note};
 ghost use Rattle.partition_table.specs.Seats.{note_state, note_home};
 ghost use Rattle.mica_serve.specs.PortOptions.{IsValidPorts};
-ghost use Rattle.mica_serve.specs.Ends.{AreNewEnds, AreAtPorts, AreOpen, BindsEnds, TellAll, ServesFronts};
+ghost use Rattle.mica_serve.specs.Ends.{AreNewEnds, AreAtPorts, AreOpen, BindsEnds, TellAll, ServesFronts, end_facts};
 ghost use Rattle.mica_serve.specs.Tasks.{IsServer};
-ghost use Rattle.mica_serve.specs.NetRun.{OnPorts, ReleasesNet, BindsAndServes, IsCauseOf, KeepsNet};
+ghost use Rattle.mica_serve.specs.NetRun.{OnPorts, ReleasesNet, BindsAndServes, IsCauseOf, KeepsNet, net_facts};
 
 use crate::answers::sum_up;
 use crate::ports::{Ports, ServeFault, Totals};
@@ -30,20 +30,8 @@ fn bind_all<N: Net>(net: &mut N, ports: &Ports, ends: &mut Vec<N::End>) -> Resul
     requires unbound { N.binds net.old ≡ 0 }
     requires none { ends.old.items ≡ [] }
     requires room { ports.now.fronts ≤ vec_capacity ends.old }
-    ensures new { AreNewEnds ports.now.port (map (λ e. record {
-      port = N.End.port e;
-      traffic = N.End.traffic e;
-      faults = N.End.faults e;
-      has_ended = N.End.has_ended e;
-      has_script = is_some (N.End.script e);
-    }) ends.new.items) }
-    ensures bound { OnPorts (BindsEnds ports.now.port (map (λ e. record {
-      port = N.End.port e;
-      traffic = N.End.traffic e;
-      faults = N.End.faults e;
-      has_ended = N.End.has_ended e;
-      has_script = is_some (N.End.script e);
-    }) ends.new.items)) (N.ports net.old) (N.ports net.new) }
+    ensures new { AreNewEnds ports.now.port (map (end_facts N.End.port N.End.traffic N.End.faults N.End.has_ended N.End.script) ends.new.items) }
+    ensures bound { OnPorts (BindsEnds ports.now.port (map (end_facts N.End.port N.End.traffic N.End.faults N.End.has_ended N.End.script) ends.new.items)) (N.ports net.old) (N.ports net.new) }
     ensures all { OnOk result (vec_len ends.new ≡ ports.now.fronts) }
     ensures few { vec_len ends.new ≤ ports.now.fronts }
     ensures steady { OnOk result (is_some (N.fails net.old) ≡ true → N.faults net.new ≡ N.faults net.old) }
@@ -63,44 +51,12 @@ fn bind_all<N: Net>(net: &mut N, ports: &Ports, ends: &mut Vec<N::End>) -> Resul
 
 /// Releases the ends, the last one first.
 fn release_all<N: Net>(net: &mut N, ends: Vec<N::End>, first: u16)
-    requires ports { AreAtPorts first (map (λ e. record {
-      port = N.End.port e;
-      traffic = N.End.traffic e;
-      faults = N.End.faults e;
-      has_ended = N.End.has_ended e;
-      has_script = is_some (N.End.script e);
-    }) ends.items) }
+    requires ports { AreAtPorts first (map (end_facts N.End.port N.End.traffic N.End.faults N.End.has_ended N.End.script) ends.items) }
     requires out { IfSome (N.ports net.old) (λ all. (i : ℕ) → i < vec_len ends → all (first + i) ≡ out) }
-    requires tell { IfSome (N.ports net.old) (λ all. TellAll (map (λ e. record {
-      port = N.End.port e;
-      traffic = N.End.traffic e;
-      faults = N.End.faults e;
-      has_ended = N.End.has_ended e;
-      has_script = is_some (N.End.script e);
-    }) ends.items)) }
-    ensures { ReleasesNet first (map (λ e. record {
-      port = N.End.port e;
-      traffic = N.End.traffic e;
-      faults = N.End.faults e;
-      has_ended = N.End.has_ended e;
-      has_script = is_some (N.End.script e);
-    }) ends.items)
-        (record {
-          faults = N.faults net.old;
-          binds = N.binds net.old;
-          first = N.first net.old;
-          refused = N.refused net.old;
-          ports = N.ports net.old;
-          fails = N.fails net.old;
-        })
-        (record {
-          faults = N.faults net.new;
-          binds = N.binds net.new;
-          first = N.first net.new;
-          refused = N.refused net.new;
-          ports = N.ports net.new;
-          fails = N.fails net.new;
-        }) }
+    requires tell { IfSome (N.ports net.old) (λ all. TellAll (map (end_facts N.End.port N.End.traffic N.End.faults N.End.has_ended N.End.script) ends.items)) }
+    ensures { ReleasesNet first (map (end_facts N.End.port N.End.traffic N.End.faults N.End.has_ended N.End.script) ends.items)
+        (net_facts N.faults N.binds N.first N.refused N.ports N.fails net.old)
+        (net_facts N.faults N.binds N.first N.refused N.ports N.fails net.new) }
 {
     let mut ends = ends;
     while let Some(end) = ends.pop() {
@@ -130,29 +86,11 @@ fn serve_all<
     requires ports { IsValidPorts ports.now }
     requires server { IsServer P.owner P.home options.now ports.now server }
     requires tables { tables.old ≡ [] }
-    requires open { AreOpen (map (λ e. record {
-      port = D.port e;
-      traffic = D.traffic e;
-      faults = D.faults e;
-      has_ended = D.has_ended e;
-      has_script = is_some (D.script e);
-    }) ends.old.items) }
+    requires open { AreOpen (map (end_facts D.port D.traffic D.faults D.has_ended D.script) ends.old.items) }
     requires many { vec_len ends.old ≡ ports.now.fronts }
     ensures { ServesFronts options.now ports.now.batches result tables.new
-        (map (λ e. record {
-          port = D.port e;
-          traffic = D.traffic e;
-          faults = D.faults e;
-          has_ended = D.has_ended e;
-          has_script = is_some (D.script e);
-        }) ends.old.items)
-        (map (λ e. record {
-          port = D.port e;
-          traffic = D.traffic e;
-          faults = D.faults e;
-          has_ended = D.has_ended e;
-          has_script = is_some (D.script e);
-        }) ends.new.items) }
+        (map (end_facts D.port D.traffic D.faults D.has_ended D.script) ends.old.items)
+        (map (end_facts D.port D.traffic D.faults D.has_ended D.script) ends.new.items) }
 {
     let (owners, answers) = run_all(rt, alloc, options, ports, server, ends, gate);
     let totals = sum_up(answers.as_slice())?;
@@ -187,29 +125,9 @@ fn bind_and_serve<
     requires none { ends.old.items ≡ [] }
     requires room { ports.now.fronts ≤ vec_capacity ends.old }
     ensures { BindsAndServes options.now ports.now result tables.new
-        (record {
-          faults = N.faults net.old;
-          binds = N.binds net.old;
-          first = N.first net.old;
-          refused = N.refused net.old;
-          ports = N.ports net.old;
-          fails = N.fails net.old;
-        })
-        (record {
-          faults = N.faults net.new;
-          binds = N.binds net.new;
-          first = N.first net.new;
-          refused = N.refused net.new;
-          ports = N.ports net.new;
-          fails = N.fails net.new;
-        })
-        (map (λ e. record {
-          port = N.End.port e;
-          traffic = N.End.traffic e;
-          faults = N.End.faults e;
-          has_ended = N.End.has_ended e;
-          has_script = is_some (N.End.script e);
-        }) ends.new.items) }
+        (net_facts N.faults N.binds N.first N.refused N.ports N.fails net.old)
+        (net_facts N.faults N.binds N.first N.refused N.ports N.fails net.new)
+        (map (end_facts N.End.port N.End.traffic N.End.faults N.End.has_ended N.End.script) ends.new.items) }
 {
     bind_all(net, ports, ends)?;
     serve_all(rt, alloc, options, ports, server, ends, gate, tables)
@@ -238,39 +156,11 @@ fn serve_on<
     requires unbound { N.binds net.old ≡ 0 }
     requires tables { tables.old ≡ [] }
     ensures cause { IsCauseOf result options.now ports.now tables.new
-        (record {
-          faults = N.faults net.old;
-          binds = N.binds net.old;
-          first = N.first net.old;
-          refused = N.refused net.old;
-          ports = N.ports net.old;
-          fails = N.fails net.old;
-        })
-        (record {
-          faults = N.faults net.new;
-          binds = N.binds net.new;
-          first = N.first net.new;
-          refused = N.refused net.new;
-          ports = N.ports net.new;
-          fails = N.fails net.new;
-        }) }
+        (net_facts N.faults N.binds N.first N.refused N.ports N.fails net.old)
+        (net_facts N.faults N.binds N.first N.refused N.ports N.fails net.new) }
     ensures kept { KeepsNet ports.now
-        (record {
-          faults = N.faults net.old;
-          binds = N.binds net.old;
-          first = N.first net.old;
-          refused = N.refused net.old;
-          ports = N.ports net.old;
-          fails = N.fails net.old;
-        })
-        (record {
-          faults = N.faults net.new;
-          binds = N.binds net.new;
-          first = N.first net.new;
-          refused = N.refused net.new;
-          ports = N.ports net.new;
-          fails = N.fails net.new;
-        }) }
+        (net_facts N.faults N.binds N.first N.refused N.ports N.fails net.old)
+        (net_facts N.faults N.binds N.first N.refused N.ports N.fails net.new) }
 {
     let server = Server::<P, N::End>::open(alloc, options, ports)?;
     let mut ends = Vec::with_capacity(alloc, ports.fronts as usize)?;
@@ -298,39 +188,11 @@ pub fn serve<W: Threads + Wait + Sync, N: Net, G: Gate>(
     requires tables { tables.old ≡ [] }
 
     ensures cause { IsCauseOf result options.now ports.now tables.new
-        (record {
-          faults = N.faults net.old;
-          binds = N.binds net.old;
-          first = N.first net.old;
-          refused = N.refused net.old;
-          ports = N.ports net.old;
-          fails = N.fails net.old;
-        })
-        (record {
-          faults = N.faults net.new;
-          binds = N.binds net.new;
-          first = N.first net.new;
-          refused = N.refused net.new;
-          ports = N.ports net.new;
-          fails = N.fails net.new;
-        }) }
+        (net_facts N.faults N.binds N.first N.refused N.ports N.fails net.old)
+        (net_facts N.faults N.binds N.first N.refused N.ports N.fails net.new) }
     ensures kept { KeepsNet ports.now
-        (record {
-          faults = N.faults net.old;
-          binds = N.binds net.old;
-          first = N.first net.old;
-          refused = N.refused net.old;
-          ports = N.ports net.old;
-          fails = N.fails net.old;
-        })
-        (record {
-          faults = N.faults net.new;
-          binds = N.binds net.new;
-          first = N.first net.new;
-          refused = N.refused net.new;
-          ports = N.ports net.new;
-          fails = N.fails net.new;
-        }) }
+        (net_facts N.faults N.binds N.first N.refused N.ports N.fails net.old)
+        (net_facts N.faults N.binds N.first N.refused N.ports N.fails net.new) }
 {
     match options.mode {
         Mode::Cache => serve_on::<W, CachePartition<OwnerSeat>, N, G>(

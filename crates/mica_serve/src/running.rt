@@ -1,12 +1,12 @@
 //! All workers of a server, from their room to the last meeting.
-ghost use Rattle.std.specs.Prelude.{◌≡◌, ◌*◌, ◌+◌, ◌≤◌, [], ℕ, IfOk, length, map, slice_get, is_some, Some};
+ghost use Rattle.std.specs.Prelude.{◌≡◌, ◌*◌, ◌+◌, ◌≤◌, [], ℕ, IfOk, length, map, slice_get, Some};
 ghost use Rattle.mica_model.specs.Options.{IsValid};
 ghost use Rattle.epoch_core.specs.declared.state.Phase.TheVariants.{Idle};
 ghost use Rattle.partition_table.specs.Tabled.{entry_in};
 ghost use Rattle.partition_table.specs.declared.reader.Note.{Note};
 ghost use Rattle.partition_table.specs.Seats.{note_state, note_home};
 ghost use Rattle.mica_serve.specs.PortOptions.{IsValidPorts};
-ghost use Rattle.mica_serve.specs.Ends.{AreOpen};
+ghost use Rattle.mica_serve.specs.Ends.{AreOpen, end_facts};
 ghost use Rattle.mica_serve.specs.FrontRuns.{RanAll};
 ghost use Rattle.mica_serve.specs.Tasks.{owner_end, IsRoom, IsServer};
 
@@ -104,28 +104,10 @@ pub(crate) fn run_all<
     requires options { IsValid options.now }
     requires ports { IsValidPorts ports.now }
     requires server { IsServer P.owner P.home options.now ports.now server }
-    requires open { AreOpen (map (λ e. record {
-      port = D.port e;
-      traffic = D.traffic e;
-      faults = D.faults e;
-      has_ended = D.has_ended e;
-      has_script = is_some (D.script e);
-    }) ends.old.items) }
+    requires open { AreOpen (map (end_facts D.port D.traffic D.faults D.has_ended D.script) ends.old.items) }
     requires many { length ends.old.items ≡ ports.now.fronts }
     ensures ran { RanAll options.now ports.now.batches (map (λ task. entry_in (P.owner task.part)) result.0.items) result.1.items
-        (map (λ e. record {
-          port = D.port e;
-          traffic = D.traffic e;
-          faults = D.faults e;
-          has_ended = D.has_ended e;
-          has_script = is_some (D.script e);
-        }) ends.old.items) (map (λ e. record {
-          port = D.port e;
-          traffic = D.traffic e;
-          faults = D.faults e;
-          has_ended = D.has_ended e;
-          has_script = is_some (D.script e);
-        }) ends.new.items) }
+        (map (end_facts D.port D.traffic D.faults D.has_ended D.script) ends.old.items) (map (end_facts D.port D.traffic D.faults D.has_ended D.script) ends.new.items) }
     ensures idle { (p : ℕ) (task : OwnerTask P) → slice_get result.0.items p ≡ Some task → (P.owner task.part).phase ≡ Idle }
 {
     let Room {

@@ -1,9 +1,10 @@
 //! The workers of a server: each owner and each front, in a thread of its own.
-ghost use Rattle.std.specs.Prelude.{◌≡◌, ◌*◌, ◌+◌, ◌<◌, ◌≤◌, ◌++◌, [], ℕ, All, length, map, vec_len, vec_capacity, is_some, Some};
+ghost use Rattle.std.specs.Prelude.{◌≡◌, ◌*◌, ◌+◌, ◌<◌, ◌≤◌, ◌++◌, [], ℕ, All, length, map, vec_len, vec_capacity, Some};
 ghost use Rattle.partition_table.specs.declared.reader.Note.{Note};
 ghost use Rattle.partition_table.specs.Seats.{note_state, note_home};
 ghost use Rattle.mica_serve.specs.Hands.{IsReadyOwner, RanOwner};
 ghost use Rattle.mica_serve.specs.Tasks.{owner_end, IsReadyFront, FrontRan, IsReadyWorker, WorkerRan, WorkersRan, owners_in, fronts_in};
+ghost use Rattle.mica_serve.specs.Ends.{end_facts};
 
 use crate::end::serve_end;
 use crate::owner_work::serve_owner;
@@ -72,20 +73,8 @@ impl<D: Datagrams> FrontTask<D> {
         batches: u32,
         gate: &G,
     )
-        requires { IsReadyFront batches (λ e. record {
-          port = D.port e;
-          traffic = D.traffic e;
-          faults = D.faults e;
-          has_ended = D.has_ended e;
-          has_script = is_some (D.script e);
-        }) self.old }
-        ensures { FrontRan batches (λ e. record {
-          port = D.port e;
-          traffic = D.traffic e;
-          faults = D.faults e;
-          has_ended = D.has_ended e;
-          has_script = is_some (D.script e);
-        }) self.old self.new }
+        requires { IsReadyFront batches (end_facts D.port D.traffic D.faults D.has_ended D.script) self.old }
+        ensures { FrontRan batches (end_facts D.port D.traffic D.faults D.has_ended D.script) self.old self.new }
     {
         let Some(mut front) = self.front.take() else {
             unreachable!()
@@ -112,20 +101,8 @@ impl<P: LendPartition<Reader = ReaderSeat, Note = Note>, D: Datagrams> Worker<P,
         gate: &G,
     )
         requires notes { (n : Note) → (P.noted n ≡ note_state n) × (P.note_home n ≡ note_home n) }
-        requires ready { IsReadyWorker P.owner P.home batches (λ e. record {
-          port = D.port e;
-          traffic = D.traffic e;
-          faults = D.faults e;
-          has_ended = D.has_ended e;
-          has_script = is_some (D.script e);
-        }) self.old }
-        ensures { WorkerRan P.owner P.home batches (λ e. record {
-          port = D.port e;
-          traffic = D.traffic e;
-          faults = D.faults e;
-          has_ended = D.has_ended e;
-          has_script = is_some (D.script e);
-        }) self.old self.new }
+        requires ready { IsReadyWorker P.owner P.home batches (end_facts D.port D.traffic D.faults D.has_ended D.script) self.old }
+        ensures { WorkerRan P.owner P.home batches (end_facts D.port D.traffic D.faults D.has_ended D.script) self.old self.new }
     {
         match self {
             Worker::Owner(owner) => owner.run(rt, gate),
@@ -143,20 +120,8 @@ pub(crate) fn run_workers<
 >(rt: &W, alloc: Global, batches: u32, gate: &G, workers: &mut Vec<Worker<P, D>>)
     requires notes { (n : Note) → (P.noted n ≡ note_state n) × (P.note_home n ≡ note_home n) }
     requires some { 0 < length workers.old.items }
-    requires ready { All (IsReadyWorker P.owner P.home batches (λ e. record {
-      port = D.port e;
-      traffic = D.traffic e;
-      faults = D.faults e;
-      has_ended = D.has_ended e;
-      has_script = is_some (D.script e);
-    })) workers.old.items }
-    ensures { WorkersRan P.owner P.home batches (λ e. record {
-      port = D.port e;
-      traffic = D.traffic e;
-      faults = D.faults e;
-      has_ended = D.has_ended e;
-      has_script = is_some (D.script e);
-    }) workers.old.items workers.new.items }
+    requires ready { All (IsReadyWorker P.owner P.home batches (end_facts D.port D.traffic D.faults D.has_ended D.script)) workers.old.items }
+    ensures { WorkersRan P.owner P.home batches (end_facts D.port D.traffic D.faults D.has_ended D.script) workers.old.items workers.new.items }
 {
     let threads = workers.len();
     for_each_mut(
@@ -165,20 +130,8 @@ pub(crate) fn run_workers<
         threads,
         &|_, worker|
             requires { ((n : Note) → (P.noted n ≡ note_state n) × (P.note_home n ≡ note_home n))
-                × IsReadyWorker P.owner P.home batches (λ e. record {
-                  port = D.port e;
-                  traffic = D.traffic e;
-                  faults = D.faults e;
-                  has_ended = D.has_ended e;
-                  has_script = is_some (D.script e);
-                }) worker.now }
-            ensures { WorkerRan P.owner P.home batches (λ e. record {
-              port = D.port e;
-              traffic = D.traffic e;
-              faults = D.faults e;
-              has_ended = D.has_ended e;
-              has_script = is_some (D.script e);
-            }) worker.entry.now worker.exit.now }
+                × IsReadyWorker P.owner P.home batches (end_facts D.port D.traffic D.faults D.has_ended D.script) worker.now }
+            ensures { WorkerRan P.owner P.home batches (end_facts D.port D.traffic D.faults D.has_ended D.script) worker.entry.now worker.exit.now }
         { worker.run(rt, alloc, batches, gate) },
     );
 }

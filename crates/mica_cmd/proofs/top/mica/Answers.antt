@@ -2,6 +2,7 @@ use Rattle.std.proofs.Common.{Err, refl, subst, map, string_bytes}
 use Rattle.mica_cmd.specs.CommandLine.{command_of, IsValidCommand, IsReadingOf}
 use Rattle.mica_cmd.proofs.Endings.{given_promises, memory_promises, usage_promises}
 use Rattle.mica_cmd.proofs.top.mica.Goals as goal
+use Rattle.mica_serve.specs.NetRun.{net_facts}
 
 pub replay_source-requires-clause-valid : goal.replay_source-requires-clause-valid
 replay_source-requires-clause-valid g c κs within = subst IsValidCommand c.in-Ok-Replay.field-0-is c.in-Ok-Replay.ensures.1
@@ -15,14 +16,7 @@ serve_command-requires-clause-ports g c κs within = (subst IsValidCommand c.in-
 pub returns-in-Ok-Replay : goal.returns-in-Ok-Replay
 returns-in-Ok-Replay g c =
     given_promises _ _ _ _ _ _ c.in-Ok-Replay.ensures.0 c.in-Ok-Replay.field-0-is
-    (c.replay_source.ensures (record {
-      faults = g.N.Net.faults c.args.net.now;
-      binds = g.N.Net.binds c.args.net.now;
-      first = g.N.Net.first c.args.net.now;
-      refused = g.N.Net.refused c.args.net.now;
-      ports = g.N.Net.ports c.args.net.now;
-      fails = g.N.Net.fails c.args.net.now;
-    }))
+    (c.replay_source.ensures (net_facts g.N.Net.faults g.N.Net.binds g.N.Net.first g.N.Net.refused g.N.Net.ports g.N.Net.fails c.args.net.now))
 
 pub returns-in-Ok-Serve : goal.returns-in-Ok-Serve
 returns-in-Ok-Serve g c =
@@ -32,26 +26,12 @@ returns-in-Ok-Serve g c =
 pub returns-in-Ok-Gen : goal.returns-in-Ok-Gen
 returns-in-Ok-Gen g c =
     given_promises _ _ _ _ _ _ c.in-Ok-Gen.ensures.0 c.in-Ok-Gen.field-0-is
-    (c.print_trace.ensures (record { left = g.S.Source.left c.args.source.now; has_ended = g.S.Source.has_ended c.args.source.now; faults = g.S.Source.faults c.args.source.now }) (record {
-      faults = g.N.Net.faults c.args.net.now;
-      binds = g.N.Net.binds c.args.net.now;
-      first = g.N.Net.first c.args.net.now;
-      refused = g.N.Net.refused c.args.net.now;
-      ports = g.N.Net.ports c.args.net.now;
-      fails = g.N.Net.fails c.args.net.now;
-    }) c.args.tables.now)
+    (c.print_trace.ensures (record { left = g.S.Source.left c.args.source.now; has_ended = g.S.Source.has_ended c.args.source.now; faults = g.S.Source.faults c.args.source.now }) (net_facts g.N.Net.faults g.N.Net.binds g.N.Net.first g.N.Net.refused g.N.Net.ports g.N.Net.fails c.args.net.now) c.args.tables.now)
 
 pub returns-in-Ok-Bench : goal.returns-in-Ok-Bench
 returns-in-Ok-Bench g c =
     given_promises _ _ _ _ _ _ c.in-Ok-Bench.ensures.0 c.in-Ok-Bench.field-0-is
-    (c.print_summary.ensures (record { left = g.S.Source.left c.args.source.now; has_ended = g.S.Source.has_ended c.args.source.now; faults = g.S.Source.faults c.args.source.now }) (record {
-      faults = g.N.Net.faults c.args.net.now;
-      binds = g.N.Net.binds c.args.net.now;
-      first = g.N.Net.first c.args.net.now;
-      refused = g.N.Net.refused c.args.net.now;
-      ports = g.N.Net.ports c.args.net.now;
-      fails = g.N.Net.fails c.args.net.now;
-    }))
+    (c.print_summary.ensures (record { left = g.S.Source.left c.args.source.now; has_ended = g.S.Source.has_ended c.args.source.now; faults = g.S.Source.faults c.args.source.now }) (net_facts g.N.Net.faults g.N.Net.binds g.N.Net.first g.N.Net.refused g.N.Net.ports g.N.Net.fails c.args.net.now))
 
 pub returns-in-Err-Usage : goal.returns-in-Err-Usage
 returns-in-Err-Usage g c =

@@ -2,20 +2,14 @@ use Rattle.std.proofs.Common.{rules, ◌≡◌, ◌+◌, ◌++◌, ◌∷◌, []
 use Rattle.std.specs.Prelude.{is_some, IfSome}
 use Rattle.std.proofs.lemmas.List.{length-map, map-append}
 use Rattle.mica_io.specs.Ports.{BindsEnd}
-use Rattle.mica_serve.specs.Ends.{EndFacts, AreNewEnds, BindsEnds}
+use Rattle.mica_serve.specs.Ends.{EndFacts, AreNewEnds, BindsEnds, end_facts}
 use Rattle.mica_serve.specs.NetRun.{OnPorts}
 use Rattle.mica_serve.proofs.Binding.{new_more, bound_more, when_some, first_kept}
 use Rattle.mica_serve.proofs.run.bind_all.Goals as goal
 
 pub loop-f-preserved : goal.loop-f-preserved
 loop-f-preserved g c =
-    let facts : g.row.N-End.Denot → EndFacts = λ e. record {
-      port = g.N.End.Datagrams.port e;
-      traffic = g.N.End.Datagrams.traffic e;
-      faults = g.N.End.Datagrams.faults e;
-      has_ended = g.N.End.Datagrams.has_ended e;
-      has_script = is_some (g.N.End.Datagrams.script e);
-    } in
+    let facts : g.row.N-End.Denot → EndFacts = end_facts g.N.End.Datagrams.port g.N.End.Datagrams.traffic g.N.End.Datagrams.faults g.N.End.Datagrams.has_ended g.N.End.Datagrams.script in
     let end = c.in_ok-end.end in
     let items = c.loop-f.ends.items in
     let inv = c.loop-f.invariant in

@@ -2,30 +2,17 @@ use Rattle.std.proofs.Common.{◌≡◌, rules, length, vec_len, map, sym, ap, �
 use Rattle.std.specs.Prelude.{is_some, Err}
 use Rattle.std.proofs.lemmas.List.{length-map}
 use Rattle.std.proofs.lemmas.Result.{err_from_is_err_and}
-use Rattle.mica_serve.specs.Ends.{EndFacts}
-use Rattle.mica_serve.specs.NetRun.{NetFacts}
+use Rattle.mica_serve.specs.Ends.{EndFacts, end_facts}
+use Rattle.mica_serve.specs.NetRun.{NetFacts, net_facts}
 use Rattle.mica_serve.proofs.Whole.{run_failed, run_served}
 use Rattle.mica_serve.proofs.run.bind_and_serve.Given as given
 use Rattle.mica_serve.proofs.run.bind_and_serve.Goals as goal
 
 abbrev facts : (g : given.Over) → g.row.N-End.Denot → EndFacts
-facts g e = record {
-  port = g.N.End.Datagrams.port e;
-  traffic = g.N.End.Datagrams.traffic e;
-  faults = g.N.End.Datagrams.faults e;
-  has_ended = g.N.End.Datagrams.has_ended e;
-  has_script = is_some (g.N.End.Datagrams.script e);
-}
+facts g = end_facts g.N.End.Datagrams.port g.N.End.Datagrams.traffic g.N.End.Datagrams.faults g.N.End.Datagrams.has_ended g.N.End.Datagrams.script
 
-abbrev net_facts : (g : given.Over) → g.row.N.Denot → NetFacts
-net_facts g n = record {
-  faults = g.N.Net.faults n;
-  binds = g.N.Net.binds n;
-  first = g.N.Net.first n;
-  refused = g.N.Net.refused n;
-  ports = g.N.Net.ports n;
-  fails = g.N.Net.fails n;
-}
+abbrev net_at : (g : given.Over) → g.row.N.Denot → NetFacts
+net_at g = net_facts g.N.Net.faults g.N.Net.binds g.N.Net.first g.N.Net.refused g.N.Net.ports g.N.Net.fails
 
 pub serve_all-requires-clause-open : goal.serve_all-requires-clause-open
 serve_all-requires-clause-open g c _ _ i e is = let new = c.bind_all.ensures.new i e is in (new.unended, new.fresh)
@@ -37,7 +24,7 @@ returns-in_err-bind_all g c =
     let many = length-map c.bind_all.new.ends.items (facts g) in
     let size : vec_len c.bind_all.new.ends ≡ length c.bind_all.new.ends.items = search rules in
     let is = err_from_is_err_and c.from_residual.result c.from_residual.ensures.1 in
-    run_failed c.args.ports.now (net_facts g c.args.net.now) (net_facts g c.bind_all.new.net) (map (facts g) c.bind_all.new.ends.items)
+    run_failed c.args.ports.now (net_at g c.args.net.now) (net_at g c.bind_all.new.net) (map (facts g) c.bind_all.new.ends.items)
     bound.new bound.bound (omega (arith, bound.few, many, size)) bound.never_fall bound.fails bound.binds bound.first
     c.args.options.now c.from_residual.result c.args.tables.now (is.1 ∙ ap Err is.2) c.requires.tables failed.cause failed.refused
 
@@ -46,7 +33,7 @@ returns g c =
     let bound = c.bind_all.ensures in
     let many = length-map c.bind_all.new.ends.items (facts g) in
     let size : vec_len c.bind_all.new.ends ≡ length c.bind_all.new.ends.items = search rules in
-    run_served c.args.ports.now (net_facts g c.args.net.now) (net_facts g c.bind_all.new.net) (map (facts g) c.bind_all.new.ends.items)
+    run_served c.args.ports.now (net_at g c.args.net.now) (net_at g c.bind_all.new.net) (map (facts g) c.bind_all.new.ends.items)
     bound.new bound.bound (omega (arith, bound.few, many, size)) bound.never_fall bound.fails bound.binds bound.first
     c.args.options.now c.serve_all.result c.serve_all.new.tables (map (facts g) c.serve_all.new.ends.items) (many ∙ sym size ∙ c.in_ok-bind_all.ensures.all) c.in_ok-bind_all.ensures.steady
     c.serve_all.ensures

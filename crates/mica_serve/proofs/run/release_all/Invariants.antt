@@ -2,19 +2,14 @@ use Rattle.std.proofs.Common.{◌≡◌, ◌≤◌, ◌<◌, ℕ, true, map, len
 use Rattle.std.specs.Prelude.{is_some}
 use Rattle.mica_io.specs.Faults.{Rose}
 use Rattle.mica_serve.specs.NetRun.{OnPorts}
+use Rattle.mica_serve.specs.Ends.{end_facts}
 use Rattle.mica_serve.proofs.Binding.{Releasing}
 use Rattle.mica_serve.proofs.run.release_all.Given as goal
 
 abbrev pub invariant-loop-end : goal.invariant-loop-end
 invariant-loop-end g l =
     (l.ends.items ≡ take (length l.ends.items) l.initial.ends.items)
-    × OnPorts (Releasing l.first (map (λ e. record {
-      port = g.N.End.Datagrams.port e;
-      traffic = g.N.End.Datagrams.traffic e;
-      faults = g.N.End.Datagrams.faults e;
-      has_ended = g.N.End.Datagrams.has_ended e;
-      has_script = is_some (g.N.End.Datagrams.script e);
-    }) l.initial.ends.items) (length l.ends.items)) (g.N.Net.ports l.initial.net) (g.N.Net.ports l.net)
+    × OnPorts (Releasing l.first (map (end_facts g.N.End.Datagrams.port g.N.End.Datagrams.traffic g.N.End.Datagrams.faults g.N.End.Datagrams.has_ended g.N.End.Datagrams.script) l.initial.ends.items) (length l.ends.items)) (g.N.Net.ports l.initial.net) (g.N.Net.ports l.net)
     × (g.N.Net.faults l.initial.net ≤ g.N.Net.faults l.net)
     × (g.N.Net.fails l.net ≡ g.N.Net.fails l.initial.net)
     × (g.N.Net.binds l.net ≡ g.N.Net.binds l.initial.net)

@@ -7,20 +7,14 @@ use Rattle.partition_table.specs.Tabled.{entry_in}
 use Rattle.mica_serve.specs.declared.ports.Totals.{Totals}
 use Rattle.mica_serve.specs.declared.ports.ServeFault.{ServeFault}
 use Rattle.mica_serve.specs.declared.worker.OwnerTask.{OwnerTask}
-use Rattle.mica_serve.specs.Ends.{EndFacts, IsUpTo, ServesFronts}
+use Rattle.mica_serve.specs.Ends.{EndFacts, IsUpTo, ServesFronts, end_facts}
 use Rattle.mica_serve.specs.FrontRuns.{SumsUp}
 use Rattle.mica_serve.proofs.Gathered.{all_ran, few_answers, small_answers}
 use Rattle.mica_serve.proofs.run.serve_all.Given as given
 use Rattle.mica_serve.proofs.run.serve_all.Goals as goal
 
 abbrev facts : (g : given.Over) → g.row.D.Denot → EndFacts
-facts g e = record {
-  port = g.D.Datagrams.port e;
-  traffic = g.D.Datagrams.traffic e;
-  faults = g.D.Datagrams.faults e;
-  has_ended = g.D.Datagrams.has_ended e;
-  has_script = is_some (g.D.Datagrams.script e);
-}
+facts g = end_facts g.D.Datagrams.port g.D.Datagrams.traffic g.D.Datagrams.faults g.D.Datagrams.has_ended g.D.Datagrams.script
 
 -- the seats that the owners may leave
 abbrev entry : (g : given.Over) → OwnerTask g.row.P.Denot → Entry

@@ -2,30 +2,17 @@ use Rattle.std.proofs.Common.{rules, ◌≡◌, ◌+◌, ◌<◌, ℕ, length, v
 use Rattle.std.specs.Prelude.{is_some, IfSome}
 use Rattle.std.proofs.lemmas.List.{length-map}
 use Rattle.mica_io.specs.Ports.{out}
-use Rattle.mica_serve.specs.Ends.{EndFacts}
-use Rattle.mica_serve.specs.NetRun.{NetFacts}
+use Rattle.mica_serve.specs.Ends.{EndFacts, end_facts}
+use Rattle.mica_serve.specs.NetRun.{NetFacts, net_facts}
 use Rattle.mica_serve.proofs.Whole.{kept_at, out_until, tell_until, keeps, cause}
 use Rattle.mica_serve.proofs.run.serve_on.Given as given
 use Rattle.mica_serve.proofs.run.serve_on.Goals as goal
 
 abbrev facts : (g : given.Over) → g.row.N-End.Denot → EndFacts
-facts g e = record {
-  port = g.N.End.Datagrams.port e;
-  traffic = g.N.End.Datagrams.traffic e;
-  faults = g.N.End.Datagrams.faults e;
-  has_ended = g.N.End.Datagrams.has_ended e;
-  has_script = is_some (g.N.End.Datagrams.script e);
-}
+facts g = end_facts g.N.End.Datagrams.port g.N.End.Datagrams.traffic g.N.End.Datagrams.faults g.N.End.Datagrams.has_ended g.N.End.Datagrams.script
 
-abbrev net_facts : (g : given.Over) → g.row.N.Denot → NetFacts
-net_facts g n = record {
-  faults = g.N.Net.faults n;
-  binds = g.N.Net.binds n;
-  first = g.N.Net.first n;
-  refused = g.N.Net.refused n;
-  ports = g.N.Net.ports n;
-  fails = g.N.Net.fails n;
-}
+abbrev net_at : (g : given.Over) → g.row.N.Denot → NetFacts
+net_at g = net_facts g.N.Net.faults g.N.Net.binds g.N.Net.first g.N.Net.refused g.N.Net.ports g.N.Net.fails
 
 pub release_all-requires-clause-ports : goal.release_all-requires-clause-ports
 release_all-requires-clause-ports g c _ _ =
@@ -47,10 +34,10 @@ release_all-requires-clause-tell g c _ _ =
 
 pub returns-clause-cause : goal.returns-clause-cause
 returns-clause-cause g c =
-    cause c.args.options.now c.requires.options.partitions.0 c.args.ports.now c.bind_and_serve-answer.new.tables (net_facts g c.args.net.now) (net_facts g c.bind_and_serve-answer.new.net) (net_facts g c.release_all.new.net)
+    cause c.args.options.now c.requires.options.partitions.0 c.args.ports.now c.bind_and_serve-answer.new.tables (net_at g c.args.net.now) (net_at g c.bind_and_serve-answer.new.net) (net_at g c.release_all.new.net)
     (map (facts g) c.bind_and_serve-answer.new.ends.items) c.release_all.ensures c.bind_and_serve-answer.result c.bind_and_serve-answer.ensures
 
 pub returns-clause-kept : goal.returns-clause-kept
 returns-clause-kept g c =
-    keeps c.args.options.now c.requires.options.partitions.0 c.args.ports.now c.bind_and_serve-answer.new.tables (net_facts g c.args.net.now) (net_facts g c.bind_and_serve-answer.new.net) (net_facts g c.release_all.new.net)
+    keeps c.args.options.now c.requires.options.partitions.0 c.args.ports.now c.bind_and_serve-answer.new.tables (net_at g c.args.net.now) (net_at g c.bind_and_serve-answer.new.net) (net_at g c.release_all.new.net)
     (map (facts g) c.bind_and_serve-answer.new.ends.items) c.release_all.ensures c.bind_and_serve-answer.result c.bind_and_serve-answer.ensures

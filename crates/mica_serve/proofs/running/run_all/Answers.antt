@@ -2,20 +2,14 @@ use Rattle.std.proofs.Common.{map, vec_capacity, sym, ap, ◌∙◌, subst, arit
 use Rattle.std.specs.Prelude.{is_some}
 use Rattle.partition_table.specs.Tabled.{entry_in}
 use Rattle.mica_serve.specs.declared.worker.FrontTask.{FrontTask}
-use Rattle.mica_serve.specs.Ends.{EndFacts}
+use Rattle.mica_serve.specs.Ends.{EndFacts, end_facts}
 use Rattle.mica_serve.specs.FrontRuns.{RanAll}
 use Rattle.mica_serve.proofs.RunAll.{Paired, has_ran, ready, served_long, meeting, all_came, idle, maps}
 use Rattle.mica_serve.proofs.running.run_all.Given as given
 use Rattle.mica_serve.proofs.running.run_all.Goals as goal
 
 abbrev facts : (g : given.Over) → g.row.D.Denot → EndFacts
-facts g e = record {
-  port = g.D.Datagrams.port e;
-  traffic = g.D.Datagrams.traffic e;
-  faults = g.D.Datagrams.faults e;
-  has_ended = g.D.Datagrams.has_ended e;
-  has_script = is_some (g.D.Datagrams.script e);
-}
+facts g = end_facts g.D.Datagrams.port g.D.Datagrams.traffic g.D.Datagrams.faults g.D.Datagrams.has_ended g.D.Datagrams.script
 
 pub run_workers-requires-clause-ready : goal.run_workers-requires-clause-ready
 run_workers-requires-clause-ready g c κs within =

@@ -4,19 +4,13 @@ use Rattle.std.specs.Prelude.{is_some}
 use Rattle.std.proofs.Math.Seq.{take-append_seam}
 use Rattle.std.proofs.lemmas.List.Elements.{All-get_or}
 use Rattle.mica_serve.specs.declared.worker.Worker.{Worker}
-use Rattle.mica_serve.specs.Ends.{EndFacts}
+use Rattle.mica_serve.specs.Ends.{EndFacts, end_facts}
 use Rattle.mica_serve.specs.Tasks.{IsReadyWorker, WorkerRan}
 use Rattle.mica_serve.proofs.worker.run_workers.Goals as goal
 
 pub for_each_mut-requires-clause-accepts : goal.for_each_mut-requires-clause-accepts
 for_each_mut-requires-clause-accepts g c κs within i p low is =
-    let facts : g.row.D.Denot → EndFacts = λ e. record {
-      port = g.D.Datagrams.port e;
-      traffic = g.D.Datagrams.traffic e;
-      faults = g.D.Datagrams.faults e;
-      has_ended = g.D.Datagrams.has_ended e;
-      has_script = is_some (g.D.Datagrams.script e);
-    } in
+    let facts : g.row.D.Denot → EndFacts = end_facts g.D.Datagrams.port g.D.Datagrams.traffic g.D.Datagrams.faults g.D.Datagrams.has_ended g.D.Datagrams.script in
     let Ready : Worker g.row.P.Denot g.row.D.Denot → Type 0 = IsReadyWorker g.P.Partition.owner g.P.Partition.home c.args.batches facts in
     let items = c.args.workers.now.items in
     let value = c.as_mut_slice.ensures.value in
@@ -27,13 +21,7 @@ for_each_mut-requires-clause-accepts g c κs within i p low is =
 
 pub returns : goal.returns
 returns g c =
-    let facts : g.row.D.Denot → EndFacts = λ e. record {
-      port = g.D.Datagrams.port e;
-      traffic = g.D.Datagrams.traffic e;
-      faults = g.D.Datagrams.faults e;
-      has_ended = g.D.Datagrams.has_ended e;
-      has_script = is_some (g.D.Datagrams.script e);
-    } in
+    let facts : g.row.D.Denot → EndFacts = end_facts g.D.Datagrams.port g.D.Datagrams.traffic g.D.Datagrams.faults g.D.Datagrams.has_ended g.D.Datagrams.script in
     let Ran : Worker g.row.P.Denot g.row.D.Denot → Worker g.row.P.Denot g.row.D.Denot → Type 0 = WorkerRan g.P.Partition.owner g.P.Partition.home c.args.batches facts in
     let s = c.for_each_mut.new.s in
     let workers = c.args.workers.now in

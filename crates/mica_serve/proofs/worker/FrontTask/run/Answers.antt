@@ -1,19 +1,13 @@
 use Rattle.std.proofs.Common.{sym, ◌∙◌}
 use Rattle.std.specs.Prelude.{is_some}
 use Rattle.mica_serve.specs.QueueFront.{sessions_of}
-use Rattle.mica_serve.specs.Ends.{EndFacts}
+use Rattle.mica_serve.specs.Ends.{EndFacts, end_facts}
 use Rattle.mica_serve.proofs.FrontEnds.{runs_front, tells_still}
 use Rattle.mica_serve.proofs.worker.FrontTask.run.Goals as goal
 
 pub returns : goal.returns
 returns g c =
-    let facts : g.row.D.Denot → EndFacts = λ e. record {
-      port = g.D.Datagrams.port e;
-      traffic = g.D.Datagrams.traffic e;
-      faults = g.D.Datagrams.faults e;
-      has_ended = g.D.Datagrams.has_ended e;
-      has_script = is_some (g.D.Datagrams.script e);
-    } in
+    let facts : g.row.D.Denot → EndFacts = end_facts g.D.Datagrams.port g.D.Datagrams.traffic g.D.Datagrams.faults g.D.Datagrams.has_ended g.D.Datagrams.script in
     let old = c.in-Some.front in
     let new = c.serve_end-self.new.front in
     let b = facts c.args.self.now.end in
