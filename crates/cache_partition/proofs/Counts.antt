@@ -5,11 +5,11 @@ use Rattle.mica_model.proofs.Laid as laid
 use Rattle.cache_partition.proofs.Words.{AllOf, Bool, Cache, CacheMode, Cell, HasLiveEntry, IsDistinct, IsDistinct-cons, IsKept, IsUnique, IsValid}
 use Rattle.cache_partition.proofs.Words.{IsWrite, Kept, List, None, OwnerState, Put, Record, Some, Spells, StandsFor, Write, [], ap, arith, bucket_in}
 use Rattle.cache_partition.proofs.Words.{cache_state, cases_Bool, cell_at, cond, count_by, entry_in, entry_offset, eq-eqb, eqb, eqb-true, false}
-use Rattle.cache_partition.proofs.Words.{filter, find, has_key, here_of, inl, is_live, kept_record, le-length_from_below, leb-true, length}
-use Rattle.cache_partition.proofs.Words.{length-filter, length-le_from_distinct_below, list_any, nat_tests, ne_eqb, not, options_in, others}
-use Rattle.cache_partition.proofs.Words.{record_of, refl, same_Some, stamp_in, stamp_of_state, state_in, subst, suc, sym, tail_of, true, true≢false}
-use Rattle.cache_partition.proofs.Words.{ℕ, ⊎_elim, ◌+◌, ◌<◌, ◌∙◌, ◌∷◌, ◌≡◌, ◌≢◌, ◌≤◌}
-use Rattle.cache_partition.proofs.Slots.{is_live_item, only_key, alone, record_spelt, has_record}
+use Rattle.cache_partition.proofs.Words.{filter, find, has_key, here_of, is_live, kept_record, le-length_from_below, leb-true, length, length-filter}
+use Rattle.cache_partition.proofs.Words.{length-le_from_distinct_below, list_any, nat_tests, ne_eqb, not, options_in, others, record_of, refl}
+use Rattle.cache_partition.proofs.Words.{same_Some, stamp_of_state, state_in, subst, suc, sym, tail_of, true, true≢false, ℕ, ⊎_elim, ◌+◌, ◌<◌, ◌∙◌}
+use Rattle.cache_partition.proofs.Words.{◌∷◌, ◌≡◌, ◌≢◌, ◌≤◌}
+use Rattle.cache_partition.proofs.Slots.{live_entry, only_key, alone, record_spelt, has_record}
 use Rattle.cache_partition.proofs.Displaced.{all_both, each_found}
 use Rattle.cache_partition.proofs.Leaves.{live_others, live_others_on}
 
@@ -149,12 +149,7 @@ module _ (o : OwnerState) (s : Kept o) (mode : o.shape.mode ≡ CacheMode) (m : 
           let live = all_live i below in
           let later = live.1 in
           let stamp = s.stamp ∙ ap stamp_of_state at in
-          let h : HasLiveEntry o b b i (entry_in o b i) = record {
-            in_chain = inl refl;
-            in_bucket = below;
-            found = refl;
-            live = (live.0, is_live_item o.shape.mode o.shape.words (stamp_in o) (entry_offset (entry_in o b i)) mode (omega arith));
-          } in
+          let h : HasLiveEntry o b b i (entry_in o b i) = live_entry o mode b i (entry_in o b i) below refl live.0 (omega arith) in
           let some = stood.nothing_else b i (entry_in o b i) h in
           let spelt = record_spelt o s m at b (entry_in o b i) some.0 some.1 some.2 in
           let other : some.0 ≢ w.key = λ same. (let gone : record_of m some.0 ≡ None = ap (record_of m) same ∙ absent in cc (sym gone ∙ spelt.1)) in
