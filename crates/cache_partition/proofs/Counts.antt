@@ -5,11 +5,11 @@ use Rattle.mica_model.proofs.Laid as laid
 use Rattle.cache_partition.proofs.Words.{AllOf, Bool, Cache, CacheMode, Cell, HasLiveEntry, IsDistinct, IsDistinct-cons, IsKept, IsUnique, IsValid}
 use Rattle.cache_partition.proofs.Words.{IsWrite, Kept, List, None, OwnerState, Put, Record, Some, Spells, StandsFor, Write, [], ap, arith, bucket_in}
 use Rattle.cache_partition.proofs.Words.{cache_state, cases_Bool, cell_at, cond, count_by, entry_in, entry_offset, eq-eqb, eqb, eqb-true, false}
-use Rattle.cache_partition.proofs.Words.{filter, find, has_key, here_of, inl, is_live, kept_record, le-length_from_below, leb-true, length}
-use Rattle.cache_partition.proofs.Words.{length-filter, length-le_from_distinct_below, list_any, nat_tests, ne_eqb, not, options_in, others}
-use Rattle.cache_partition.proofs.Words.{record_of, refl, same_Some, stamp_in, stamp_of_state, state_in, subst, suc, sym, tail_of, true, true≢false}
-use Rattle.cache_partition.proofs.Words.{ℕ, ⊎_elim, ◌+◌, ◌<◌, ◌∙◌, ◌∷◌, ◌≡◌, ◌≢◌, ◌≤◌}
-use Rattle.cache_partition.proofs.Slots.{is_live_item, only_key, alone, record_spelt, has_record}
+use Rattle.cache_partition.proofs.Words.{filter, find, has_key, here_of, is_live, kept_record, le-length_from_below, leb-true, length, length-filter}
+use Rattle.cache_partition.proofs.Words.{length-le_from_distinct_below, list_any, nat_tests, ne_eqb, not, options_in, others, record_of, refl}
+use Rattle.cache_partition.proofs.Words.{same_Some, stamp_of_state, state_in, subst, suc, sym, tail_of, true, true≢false, ℕ, ⊎_elim, ◌+◌, ◌<◌, ◌∙◌}
+use Rattle.cache_partition.proofs.Words.{◌∷◌, ◌≡◌, ◌≢◌, ◌≤◌}
+use Rattle.cache_partition.proofs.Slots.{live_entry, only_key, alone, record_spelt, has_record}
 use Rattle.cache_partition.proofs.Displaced.{all_both, each_found}
 use Rattle.cache_partition.proofs.Leaves.{live_others, live_others_on}
 
@@ -78,16 +78,15 @@ module _ (o : OwnerState) (s : Kept o) (mode : o.shape.mode ≡ CacheMode) (m : 
   length-numbers [] all = refl
   length-numbers (r ∷ rs) all = ap suc (length-numbers rs all.1)
 
-  numbers_below : (rs : List Record) (all : AllOf SlotOf rs) → AllOf (λ i. i < 15) (numbers rs all)
+  numbers_all : (P : ℕ → Type 0) (rs : List Record) (all : AllOf SlotOf rs) → AllOf (λ r. (is : SlotOf r) → P is.0) rs → AllOf P (numbers rs all)
   unfolding numbers
-  numbers_below [] all = tt
-  numbers_below (r ∷ rs) all = (all.0.1, numbers_below rs all.1)
+  numbers_all P [] all ps = tt
+  numbers_all P (r ∷ rs) all ps = (ps.0 all.0, numbers_all P rs all.1 ps.1)
 
-  -- a slot that has none of these records
-  numbers_not : (j : ℕ) (rs : List Record) (all : AllOf SlotOf rs) → AllOf (λ r. (is : SlotOf r) → j ≢ is.0) rs → AllOf (λ i. eqb j i ≡ false) (numbers rs all)
+  numbers_each : (P : ℕ → Type 0) → ((r : Record) (is : SlotOf r) → P is.0) → (rs : List Record) (all : AllOf SlotOf rs) → AllOf P (numbers rs all)
   unfolding numbers
-  numbers_not j [] all none = tt
-  numbers_not j (r ∷ rs) all none = (ne_eqb j all.0.0 (none.0 all.0), numbers_not j rs all.1 none.1)
+  numbers_each P each [] all = tt
+  numbers_each P each (r ∷ rs) all = (each r all.0, numbers_each P each rs all.1)
 
   -- the slots of two keys' records differ
   slots_differ : (r r' : Record) → has_key r.key r' ≡ false → (one : SlotOf r) (two : SlotOf r') → one.0 ≢ two.0
@@ -99,27 +98,24 @@ module _ (o : OwnerState) (s : Kept o) (mode : o.shape.mode ≡ CacheMode) (m : 
   unfolding numbers IsDistinct
   numbers_distinct [] all unique = tt
   numbers_distinct (r ∷ rs) all unique = (
-    numbers_not all.0.0 rs all.1 (found.all_weaker (λ r'. has_key r.key r' ≡ false) (λ r'. (is : SlotOf r') → all.0.0 ≢ is.0) (λ r' other is. slots_differ r r' other all.0 is) rs
-        (found.missed_all (has_key r.key) rs unique.0)),
+    numbers_all (λ i. eqb all.0.0 i ≡ false) rs all.1 (found.all_weaker (λ r'. has_key r.key r' ≡ false) (λ r'. (is : SlotOf r') → eqb all.0.0 is.0 ≡ false)
+        (λ r' other is. ne_eqb all.0.0 is.0 (slots_differ r r' other all.0 is)) rs (found.missed_all (has_key r.key) rs unique.0)),
     numbers_distinct rs all.1 unique.1,
   )
 
   counted_unique : IsUnique (filter here lives)
   counted_unique = laid.unique_filter here lives (laid.unique_filter _ (others w.key m.records) (laid.unique_filter (λ r. not (has_key w.key r)) m.records kept.unique))
 
-  each_not : (j : ℕ) (rs : List Record) → ((r : Record) (is : SlotOf r) → j ≢ is.0) → AllOf (λ r. (is : SlotOf r) → j ≢ is.0) rs
-  each_not j [] none = tt
-  each_not j (r ∷ rs) none = (none r, each_not j rs none)
-
   -- a slot that is empty or passed leaves at most 14 records
   pub few : (j : ℕ) → j < 15 → (entry_in o b j ≢ 0 → tail ≤ entry_offset (entry_in o b j) + o.shape.words → ⊥) → count_by here lives ≤ 14
   few j below dead =
       let all = all_slots in
-      let none : AllOf (λ r. (is : SlotOf r) → j ≢ is.0) (filter here lives) = each_not j (filter here lives)
-      (λ r is same. dead (λ empty. is.2.live.0 (ap (entry_in o b) (sym same) ∙ empty)) (subst (λ (z : ℕ). tail ≤ entry_offset (entry_in o b z) + o.shape.words) (sym same) is.4)) in
+      let none : AllOf (λ i. eqb j i ≡ false) (numbers (filter here lives) all) = numbers_each (λ i. eqb j i ≡ false)
+      (λ r is. ne_eqb j is.0 (λ same. dead (λ empty. is.2.live.0 (ap (entry_in o b) (sym same) ∙ empty))
+      (subst (λ (z : ℕ). tail ≤ entry_offset (entry_in o b z) + o.shape.words) (sym same) is.4))) (filter here lives) all in
       let most = length-le_from_distinct_below (j ∷ numbers (filter here lives) all) 15
-      (IsDistinct-cons eqb j (numbers (filter here lives) all) (numbers_not j (filter here lives) all none) (numbers_distinct (filter here lives) all counted_unique))
-      (below_all 15 (j ∷ numbers (filter here lives) all) (below, numbers_below (filter here lives) all)) in
+      (IsDistinct-cons eqb j (numbers (filter here lives) all) none (numbers_distinct (filter here lives) all counted_unique))
+      (below_all 15 (j ∷ numbers (filter here lives) all) (below, numbers_each (λ i. i < 15) (λ r is. is.1) (filter here lives) all)) in
       let long = length-numbers (filter here lives) all in
       let count = length-filter here lives in
       omega arith
@@ -153,12 +149,7 @@ module _ (o : OwnerState) (s : Kept o) (mode : o.shape.mode ≡ CacheMode) (m : 
           let live = all_live i below in
           let later = live.1 in
           let stamp = s.stamp ∙ ap stamp_of_state at in
-          let h : HasLiveEntry o b b i (entry_in o b i) = record {
-            in_chain = inl refl;
-            in_bucket = below;
-            found = refl;
-            live = (live.0, is_live_item o.shape.mode o.shape.words (stamp_in o) (entry_offset (entry_in o b i)) mode (omega arith));
-          } in
+          let h : HasLiveEntry o b b i (entry_in o b i) = live_entry o mode b i (entry_in o b i) below refl live.0 (omega arith) in
           let some = stood.nothing_else b i (entry_in o b i) h in
           let spelt = record_spelt o s m at b (entry_in o b i) some.0 some.1 some.2 in
           let other : some.0 ≢ w.key = λ same. (let gone : record_of m some.0 ≡ None = ap (record_of m) same ∙ absent in cc (sym gone ∙ spelt.1)) in

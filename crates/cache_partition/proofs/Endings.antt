@@ -107,12 +107,7 @@ module _ (o : OwnerState) (s : Kept o) (idle : o.phase ≡ Idle) (mode : o.shape
         ap header_room (ap (item_in q) (sym (add-zero (entry_offset (entry_in q b slot)))) ∙ (word 0 (omega arith) ∙ header_word r.room w.key r.value))
         ∙ header_room-header_of r.room (length w.key) (length r.value) narrow in (
           (cell_at r).0,
-          record {
-            in_chain = inl refl;
-            in_bucket = below;
-            found = refl;
-            live = (λ none. some (sym here ∙ none), slots.is_live_item o.shape.mode o.shape.words (stamp_in q) (entry_offset (entry_in q b slot)) mode (omega arith));
-          },
+          slots.live_entry q mode b slot (entry_in q b slot) below refl (λ none. some (sym here ∙ none)) (omega arith),
           record {
             bucket = refl;
             has = subst (λ (z : ℕ). Has (state_in q) w.key (cell_at r).0 z) (sym its_offset) (slots.has_record q t new (state_is o s mode m at w words) w.key r found);
@@ -246,12 +241,8 @@ module _ (o : OwnerState) (s : Kept o) (idle : o.phase ≡ Idle) (mode : o.shape
           slot_live : HasLiveEntry o b b slot (entry_in o b slot)
           slot_live =
               let stamp = s.stamp ∙ ap stamp_of_state at in
-              let tails = live slot below in record {
-                in_chain = inl refl;
-                in_bucket = below;
-                found = refl;
-                live = (used slot below, slots.is_live_item o.shape.mode o.shape.words (stamp_in o) (entry_offset (entry_in o b slot)) mode (omega arith));
-              }
+              let tails = live slot below in
+              slots.live_entry o mode b slot (entry_in o b slot) below refl (used slot below) (omega arith)
 
           names : (key : List ℕ) × (cell : Cell) × Spells o b (entry_in o b slot) key cell
           names = stood.nothing_else b slot (entry_in o b slot) slot_live

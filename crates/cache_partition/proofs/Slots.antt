@@ -3,13 +3,22 @@ use Rattle.cache_partition.proofs.Words.{AreBytes, Cache, CacheMode, Cell, Has, 
 use Rattle.cache_partition.proofs.Words.{IsSlotOf, Kept, List, Mode, None, Option, OwnerState, Record, Some, Spells, StandsFor, State, ap, arith}
 use Rattle.cache_partition.proofs.Words.{bucket_in, cache_state, cell_at, entry_in, entry_offset, entry_tag, found_record, has_fits, has_its_key}
 use Rattle.cache_partition.proofs.Words.{has_no_other, inl, inr, option_map, options_in, record_of, refl, same_Some, stamp_in, state_in, subst, suc}
-use Rattle.cache_partition.proofs.Words.{sym, tag_of-range, tail_of, ℕ, ◌+◌, ◌∙◌, ◌≡◌, ◌≢◌, ◌≤◌}
+use Rattle.cache_partition.proofs.Words.{sym, tag_of-range, tail_of, ℕ, ◌+◌, ◌<◌, ◌∙◌, ◌≡◌, ◌≢◌, ◌≤◌}
 
 pub live_is : (mode : Mode) (words stamp p : ℕ) → mode ≡ CacheMode → IsLiveItem mode words stamp p → tail_of stamp ≤ p + words
 live_is mode words stamp p is live = subst (λ (z : Mode). IsLiveItem z words stamp p) is live
 
-pub is_live_item : (mode : Mode) (words stamp p : ℕ) → mode ≡ CacheMode → tail_of stamp ≤ p + words → IsLiveItem mode words stamp p
+is_live_item : (mode : Mode) (words stamp p : ℕ) → mode ≡ CacheMode → tail_of stamp ≤ p + words → IsLiveItem mode words stamp p
 is_live_item mode words stamp p is live = subst (λ (z : Mode). IsLiveItem z words stamp p) (sym is) live
+
+pub live_entry : (q : OwnerState) → q.shape.mode ≡ CacheMode → (b slot entry : ℕ) → slot < 15 → entry_in q b slot ≡ entry → entry ≢ 0
+    → tail_of (stamp_in q) ≤ entry_offset entry + q.shape.words → HasLiveEntry q b b slot entry
+live_entry q mode b slot entry below found some live = record {
+  in_chain = inl refl;
+  in_bucket = below;
+  found = found;
+  live = (some, is_live_item q.shape.mode q.shape.words (stamp_in q) (entry_offset entry) mode live);
+}
 
 module _ (o : OwnerState) (s : Kept o) where
   -- an entry spells one key, with one value and room
@@ -37,12 +46,8 @@ module _ (o : OwnerState) (s : Kept o) where
     entry_is b slot key is =
         let tag = is.tag in
         let some = (tag_of-range key).0 in
-        let none : entry_in o b slot ≢ 0 = λ empty. let zero : entry_tag (entry_in o b slot) ≡ 0 = ap entry_tag empty in omega arith in record {
-          in_chain = inl refl;
-          in_bucket = is.in_bucket;
-          found = refl;
-          live = (none, is_live_item o.shape.mode o.shape.words (stamp_in o) (entry_offset (entry_in o b slot)) mode is.live);
-        }
+        let none : entry_in o b slot ≢ 0 = λ empty. let zero : entry_tag (entry_in o b slot) ≡ 0 = ap entry_tag empty in omega arith in
+        live_entry o mode b slot (entry_in o b slot) is.in_bucket refl none is.live
 
     -- the key's slot spells what the machine has of the key
     pub slot_spells : (b slot : ℕ) (key : List ℕ) → AreBytes key → StandsFor o b → IsSlotOf o b key slot

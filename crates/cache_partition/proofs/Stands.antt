@@ -6,7 +6,7 @@ use Rattle.cache_partition.proofs.Words.{bytes_eq-Decides, cache_state, cases_Bo
 use Rattle.cache_partition.proofs.Words.{header_room, inl, inr, item_in, kept_in, marked_in, option_map, options_in, record_of, refl, room_in}
 use Rattle.cache_partition.proofs.Words.{room_is, same_Some, stamp_in, stamp_of_state, stamp_rises, state_after, state_in, state_snoc, subst, sym}
 use Rattle.cache_partition.proofs.Words.{tail_of, true≢false, window_kept, ℕ, ℕ_discrete, ⊎_elim, ◌++◌, ◌+◌, ◌<◌, ◌∙◌, ◌∷◌, ◌≡◌, ◌≢◌, ◌≤◌, ◌⊎◌}
-use Rattle.cache_partition.proofs.Slots.{live_is, is_live_item, only_key, alone, record_spelt, has_record, only_cell}
+use Rattle.cache_partition.proofs.Slots.{live_is, live_entry, only_key, alone, record_spelt, has_record, only_cell}
 use Rattle.cache_partition.proofs.Rooms.{rooms_apart}
 use Rattle.cache_partition.proofs.Leaves.{Leaves}
 
@@ -70,24 +70,11 @@ module _ (o : OwnerState) (s : Kept o) (mode : o.shape.mode ≡ CacheMode) (m : 
 
     -- a live entry of another slot was one before
     back : (i entry : ℕ) → i ≢ slot → HasLiveEntry q b b i entry → HasLiveEntry o b b i entry
-    back i entry other h = record {
-      in_chain = inl refl;
-      in_bucket = h.in_bucket;
-      found = sym (k.entries i h.in_bucket other) ∙ h.found;
-      live = (
-        h.live.0,
-        is_live_item o.shape.mode o.shape.words (stamp_in o) (entry_offset entry) mode
-            (live_before (entry_offset entry) (live_is o.shape.mode o.shape.words (stamp_in q) (entry_offset entry) mode h.live.1)),
-      );
-    }
+    back i entry other h = live_entry o mode b i entry h.in_bucket (sym (k.entries i h.in_bucket other) ∙ h.found) h.live.0
+        (live_before (entry_offset entry) (live_is o.shape.mode o.shape.words (stamp_in q) (entry_offset entry) mode h.live.1))
 
     on : (i entry : ℕ) → i ≢ slot → HasLiveEntry o b b i entry → tail_of (stamp_in q) ≤ entry_offset entry + o.shape.words → HasLiveEntry q b b i entry
-    on i entry other h live = record {
-      in_chain = inl refl;
-      in_bucket = h.in_bucket;
-      found = k.entries i h.in_bucket other ∙ h.found;
-      live = (h.live.0, is_live_item o.shape.mode o.shape.words (stamp_in q) (entry_offset entry) mode live);
-    }
+    on i entry other h live = live_entry q mode b i entry h.in_bucket (k.entries i h.in_bucket other ∙ h.found) h.live.0 live
 
     -- and it spells what it spelt
     spells_on : (entry : ℕ) (key : List ℕ) (cell : Cell) → key ≢ w.key → tail_of (stamp_in q) ≤ entry_offset entry + o.shape.words → ¬ (Lost key)

@@ -3,7 +3,7 @@ use Rattle.mica_model.specs.Cache as cache
 use Rattle.mica_model.specs.Store as store
 use Rattle.mica_model.specs.CacheStep as cs
 use Rattle.mica_model.proofs.Found as found
-use Rattle.cache_partition.proofs.Words.{marked_in, Allows, AreBytes, Begins, Begun, Bool, Cache, CacheMode, Cell, Del, Ends, Gains, GivesWay, HasNoSlot, Idle}
+use Rattle.cache_partition.proofs.Words.{Allows, AreBytes, Begins, Begun, Bool, Cache, CacheMode, Cell, Del, Ends, Gains, GivesWay, HasNoSlot, Idle}
 use Rattle.cache_partition.proofs.Words.{IsAcceptedAfter, IsKept, IsMain, IsOwnerStep, IsSlotOf, IsWrite, Kept, KeyFits, List, Marked, MatchOption}
 use Rattle.cache_partition.proofs.Words.{MayAppend, MayBegin, MayEnd, MayGive, MayMark, MayRewrite, MayWrite, Mode, None, Op, Option, Options}
 use Rattle.cache_partition.proofs.Words.{Outcome, OwnerState, Put, PutsEntry, Record, Some, Spells, SpellsItem, StandsFor, State, StoreMode, Takes}
@@ -11,16 +11,16 @@ use Rattle.cache_partition.proofs.Words.{Worn, Write, [], accepted_in, accepted_
 use Rattle.cache_partition.proofs.Words.{cache_state, cached_in, cell_at, changed, cond, empty, entry_in, entry_of, entry_offset, false, found_key}
 use Rattle.cache_partition.proofs.Words.{found_map, had_record, had_record_by, has_key, header_room, is_accepted, is_its_key, is_live, is_some}
 use Rattle.cache_partition.proofs.Words.{item_in, item_size, item_words, keeps_put, kept_in, kept_offset, kept_offset_by, kept_record, largest_item}
-use Rattle.cache_partition.proofs.Words.{le-leb, length, length-item_words, lt-leb, marked_with, most_stamp, nat_le, oldest, option_map, options_in}
-use Rattle.cache_partition.proofs.Words.{others_lack, passed, record_of, refl, rewritten, rewritten_key, room_at, room_in, room_is, same_Some}
-use Rattle.cache_partition.proofs.Words.{size_at_most, size_of, stamp_in, stamp_of, stamp_of_state, stamp_small, start, state_after, state_in}
-use Rattle.cache_partition.proofs.Words.{state_snoc, subst, sym, tag_of, tail_of, then_some, true, with_item, write_of, written_record, ℕ, ◌&&◌, ◌*◌}
-use Rattle.cache_partition.proofs.Words.{◌++◌, ◌+◌, ◌<◌, ◌∙◌, ◌∷◌, ◌≡◌, ◌≤◌}
-use Rattle.cache_partition.proofs.Slots as slots
+use Rattle.cache_partition.proofs.Words.{le-leb, leb-false, length, length-item_words, lt-leb, marked_in, marked_with, most_stamp, nat_le, oldest}
+use Rattle.cache_partition.proofs.Words.{option_map, options_in, others_lack, passed, record_of, refl, rewritten, rewritten_key, room_at, room_in}
+use Rattle.cache_partition.proofs.Words.{room_is, same_Some, size_at_most, size_of, stamp_in, stamp_of, stamp_of_state, stamp_small, start}
+use Rattle.cache_partition.proofs.Words.{state_after, state_in, state_snoc, subst, sym, tag_of, tail_of, then_some, true, with_item, write_of}
+use Rattle.cache_partition.proofs.Words.{written_record, ℕ, ◌&&◌, ◌*◌, ◌++◌, ◌+◌, ◌<◌, ◌∙◌, ◌∷◌, ◌≡◌, ◌≤◌}
+use Rattle.cache_partition.proofs.Answering as answering
 use Rattle.cache_partition.proofs.Leaves as leaves
 use Rattle.cache_partition.proofs.Effects as effects
 use Rattle.cache_partition.proofs.Endings as endings
-use Rattle.cache_partition.proofs.Endings.{key_main, stands_at}
+use Rattle.cache_partition.proofs.Endings.{key_main}
 
 -- what keeps a put
 
@@ -68,6 +68,10 @@ worn_step o idle mode full w =
       idle = idle;
     }
 
+-- where the state is not worn
+pub may_write : (o : OwnerState) → o.phase ≡ Idle → o.shape.mode ≡ CacheMode → nat_le o.shape.wear (length o.history) ≡ false → MayWrite o
+may_write o idle mode few = record { idle = idle; cached = mode; not_worn = leb-false o.shape.wear (length o.history) few }
+
 -- a step that gains the write
 pub accepted_step : (o new : OwnerState) → MayWrite o → (w : Write) (outcome : Outcome) → Gains o new w → outcome ≡ cs.reply_of w.op (options_in o) w (had_record o w.key) → IsOwnerStep o new w outcome
 accepted_step o new may w outcome gained is = record {
@@ -86,7 +90,7 @@ pub new_stamp : (o : OwnerState) → o ≡ as_made o.shape → 0 ≡ stamp_of (o
 new_stamp o made = sym (ap (stamp_of (options_in o)) (ap (λ (z : OwnerState). z.history) made) ∙ start_stamp o.shape.mode)
 
 module _ (o : OwnerState) (s : Kept o) (may : MayWrite o) (w : Write) (is : IsWrite w) where
-  now : (m : Cache) × (state_in o ≡ cache_state m)
+  abbrev now : (m : Cache) × (state_in o ≡ cache_state m)
   now = cached_in (options_in o) may.cached o.history
 
   at : state_in o ≡ cache_state now.0
@@ -181,9 +185,8 @@ module _ (o : OwnerState) (s : Kept o) (may : MayWrite o) (w : Write) (is : IsWr
     room_kept : (b p : ℕ) → b ≡ bucket_in o w.key → (held : Record) → kept_record (options_in o) now.0 w ≡ Some held → held.offset ≡ p
         → (slot : ℕ) → IsSlotOf o b w.key slot → (room_in o (entry_in o b slot) ≡ held.room) × (entry_offset (entry_in o b slot) ≡ p) × Spells o b (entry_in o b slot) w.key (cell_at held).0
     room_kept b p here held at_held offset slot found =
-        let stood = stands_at o s w.key may.idle b here in
-        let spelt = slots.slot_spells o s may.cached b slot w.key is.key_bytes stood found in
-        let record_there = slots.record_spelt o s now.0 now.1 b (entry_in o b slot) w.key spelt.0 spelt.1 in
+        let spelt = answering.spelt o s may.idle may.cached w.key is.key_bytes b here slot found in
+        let record_there = answering.held o s may.idle may.cached w.key is.key_bytes b here slot found in
         let same : record_there.0 ≡ held = same_Some record_there.0 held (sym record_there.1 ∙ (keeps_put (options_in o) now.0 w held at_held).is) in
         let cell : spelt.0 ≡ (cell_at held).0 = record_there.3 ∙ ap (λ (r : Record). (cell_at r).0) same in (
           room_is o s b (entry_in o b slot) w.key spelt.0 spelt.1 ∙ ap (λ (c : Cell). c.room) cell,
@@ -353,28 +356,12 @@ stamp_limit o s =
 pub delete_is : (key : List ℕ) → KeyFits key → AreBytes key → IsWrite (write_of Del key [])
 delete_is key key_fits key_bytes = record { key = key_fits; key_bytes = key_bytes; value = refl; value_bytes = λ k. omega arith }
 
--- whether a slot was found is whether there was a record
-pub found_had : (o : OwnerState) → Kept o → MayWrite o → (key : List ℕ) → AreBytes key → (b : ℕ) → b ≡ bucket_in o key → (slot : Option ℕ)
-    → MatchOption slot (HasNoSlot o b key) (IsSlotOf o b key) → is_some slot ≡ had_record o key
-found_had o s may key bytes b here slot found =
-    let now = cached_in (options_in o) may.cached o.history in
-    let stood = stands_at o s key may.idle b here in
-    subst (λ (z : State). is_some slot ≡ had_record_by z key) (sym now.1) (by_slot now.0 now.1 stood slot found)
-  where
-    by_slot : (m : Cache) → state_in o ≡ cache_state m → StandsFor o b → (slot : Option ℕ) → MatchOption slot (HasNoSlot o b key) (IsSlotOf o b key)
-        → is_some slot ≡ is_some (record_of m key)
-    by_slot m at stood None none = ap is_some (sym (slots.no_record o s m at may.cached b key stood (sym here) none))
-    by_slot m at stood (Some slot) found =
-        let spelt = slots.slot_spells o s may.cached b slot key bytes stood found in
-        ap is_some (sym (slots.record_spelt o s m at b (entry_in o b slot) key spelt.0 spelt.1).1)
-
 -- a put that is kept in place has a slot
 pub kept_slot : (o : OwnerState) → Kept o → (may : MayWrite o) → (w : Write) → IsWrite w → (p b : ℕ) → kept_offset o w ≡ Some p → b ≡ bucket_in o w.key → (slot : Option ℕ)
     → MatchOption slot (HasNoSlot o b w.key) (IsSlotOf o b w.key) → (i : ℕ) × IsSlotOf o b w.key i
 kept_slot o s may w is p b keeps here (Some slot) found = (slot, found)
 kept_slot o s may w is p b keeps here None none =
-    let stood = stands_at o s w.key may.idle b here in
-    let absent : record_of (now o s may w is).0 w.key ≡ None = slots.no_record o s (now o s may w is).0 (now o s may w is).1 may.cached b w.key stood (sym here) none in
+    let absent = answering.absent o s may.idle may.cached w.key is.key_bytes b here none in
     let held = held_at o s may w is p keeps in
     let not_kept : kept_record (options_in o) (now o s may w is).0 w ≡ None = ap (cs.kept_if (options_in o) (now o s may w is).0 w) absent in
     cc (sym not_kept ∙ held.1)
@@ -391,21 +378,19 @@ kept_if_is : (fits : Bool) (r : Record) → then_some fits r.offset ≡ option_m
 kept_if_is true r = refl
 kept_if_is false r = refl
 
-pub no_slot_keeps : (o : OwnerState) → Kept o → (may : MayWrite o) → (w : Write) → (b : ℕ) → b ≡ bucket_in o w.key → HasNoSlot o b w.key → kept_offset o w ≡ None
-no_slot_keeps o s may w b here none =
-    let stood = stands_at o s w.key may.idle b here in
+pub no_slot_keeps : (o : OwnerState) → Kept o → (may : MayWrite o) → (w : Write) → IsWrite w → (b : ℕ) → b ≡ bucket_in o w.key → HasNoSlot o b w.key → kept_offset o w ≡ None
+no_slot_keeps o s may w is b here none =
     let there = cached_in (options_in o) may.cached o.history in
     subst (λ (z : State). kept_offset_by (options_in o) z w ≡ None) (sym there.1)
-    (none_kept (options_in o) there.0 w (slots.no_record o s there.0 there.1 may.cached b w.key stood (sym here) none))
+    (none_kept (options_in o) there.0 w (answering.absent o s may.idle may.cached w.key is.key_bytes b here none))
 
 pub slot_keeps : (o : OwnerState) → Kept o → (may : MayWrite o) → (w : Write) → IsWrite w → (b slot : ℕ) → b ≡ bucket_in o w.key → IsSlotOf o b w.key slot
     → (stamp offset room : ℕ) → stamp ≡ stamp_in o → offset ≡ entry_offset (entry_in o b slot) → room ≡ room_in o (entry_in o b slot)
     → (fits : Bool) → fits ≡ (nat_le (size_of w) room && is_live o.shape.words (stamp + 1) offset) → then_some fits offset ≡ kept_offset o w
 slot_keeps o s may w is b slot here found stamp offset room stamp_is offset_is room_is_now fits fits_is =
-    let stood = stands_at o s w.key may.idle b here in
     let there = cached_in (options_in o) may.cached o.history in
-    let spelt = slots.slot_spells o s may.cached b slot w.key is.key_bytes stood found in
-    let held = slots.record_spelt o s there.0 there.1 b (entry_in o b slot) w.key spelt.0 spelt.1 in
+    let spelt = answering.spelt o s may.idle may.cached w.key is.key_bytes b here slot found in
+    let held = answering.held o s may.idle may.cached w.key is.key_bytes b here slot found in
     let offset_held : offset ≡ held.0.offset = offset_is ∙ sym held.2 in
     let room_held : room ≡ held.0.room = room_is_now ∙ (room_is o s b (entry_in o b slot) w.key spelt.0 spelt.1 ∙ ap (λ (c : Cell). c.room) held.3) in
     let stamp_held : stamp ≡ there.0.stamp = stamp_is ∙ (s.stamp ∙ ap stamp_of_state there.1) in

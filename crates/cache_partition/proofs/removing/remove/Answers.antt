@@ -1,6 +1,7 @@
 use Rattle.cache_partition.proofs.Words.{Del, HasNoSlot, IsSlotOf, IsSought, Kept, MatchOption, MayEnd, MayWrite, Option, OwnerState, PutsEntry, []}
 use Rattle.cache_partition.proofs.Words.{after, ap, arith, had_record, refl, stamp_in, subst, sym, write_of, ℕ, ◌+◌, ◌∙◌, ◌≡◌}
-use Rattle.cache_partition.proofs.Writes.{stamp_limit, stamp_deleted, delete_is, end_delete, found_had}
+use Rattle.cache_partition.proofs.Answering.{found_had}
+use Rattle.cache_partition.proofs.Writes.{stamp_limit, stamp_deleted, delete_is, end_delete}
 use Rattle.cache_partition.proofs.removing.remove.Goals as goal
 use Rattle.cache_partition.proofs.removing.remove.Goals.{in-Some, in_default}
 
@@ -46,5 +47,5 @@ returns-clause-found g c =
     let may = subst MayWrite (sym c.seek-sought.ensures.same.0) c.requires.may in
     let sought = subst (λ (z : OwnerState). IsSought z c.args.key.now c.seek-sought.result) (sym c.seek-sought.ensures.same.0) c.seek-sought.ensures.sought in
     c.is_some.ensures
-    ∙ (found_had o c.seek-sought.ensures.kept may c.args.key.now (λ k. omega (arith, c.type_inv.key k)) c.seek-sought.result.bucket sought.bucket c.seek-sought.result.slot sought.found
+    ∙ (found_had o c.seek-sought.ensures.kept may.idle may.cached c.args.key.now (λ k. omega (arith, c.type_inv.key k)) c.seek-sought.result.bucket sought.bucket c.seek-sought.result.slot sought.found
     ∙ ap (λ (z : OwnerState). had_record z c.args.key.now) c.seek-sought.ensures.same.0)

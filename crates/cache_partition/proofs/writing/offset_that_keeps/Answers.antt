@@ -9,7 +9,7 @@ pub returns-in_err-sought-clause-kept_offset : goal.returns-in_err-sought-clause
 returns-in_err-sought-clause-kept_offset g c =
     let o = g.W.OwnerWords.owner c.args.words.now in
     c.from_residual.ensures
-    ∙ sym (no_slot_keeps o c.requires.kept c.requires.may (write_of Put c.args.key.now c.args.value.now) c.args.sought.now.bucket c.requires.sought.bucket
+    ∙ sym (no_slot_keeps o c.requires.kept c.requires.may (write_of Put c.args.key.now c.args.value.now) c.requires.write c.args.sought.now.bucket c.requires.sought.bucket
     (subst (λ (z : Option ℕ). MatchOption z (HasNoSlot o c.args.sought.now.bucket c.args.key.now) (IsSlotOf o c.args.sought.now.bucket c.args.key.now)) c.in_err-sought.was c.requires.sought.found))
 
 pub overflow_add-sought : goal.overflow_add-sought

@@ -1,6 +1,6 @@
-use Rattle.cache_partition.proofs.Words.{options_in, marked_with, IsMain, Kept, MayAppend, MayEnd, OwnerState, Put, PutsEntry, Takes, [], after, ap, arith, entry_of, hash_tag}
-use Rattle.cache_partition.proofs.Words.{item_size, item_size-most, marked_in, refl, stamp_of, subst, sym, tag_of_hash, tail_of, with_item, write_of}
-use Rattle.cache_partition.proofs.Words.{◌*◌, ◌++◌, ◌+◌, ◌∙◌, ◌∷◌, ◌≡◌}
+use Rattle.cache_partition.proofs.Words.{IsMain, Kept, MayAppend, MayEnd, OwnerState, Put, PutsEntry, Takes, [], after, ap, arith, entry_of, hash_tag}
+use Rattle.cache_partition.proofs.Words.{item_size, item_size-most, marked_in, marked_with, options_in, refl, stamp_of, subst, sym, tag_of_hash}
+use Rattle.cache_partition.proofs.Words.{tail_of, with_item, write_of, ◌*◌, ◌++◌, ◌+◌, ◌∙◌, ◌∷◌, ◌≡◌}
 use Rattle.cache_partition.proofs.Writes.{HasGained, end_at_tail, gained_entry, gained_marked, gains, item_gained, may_append, stamp_appended, stamp_gained, stamp_limit}
 use Rattle.cache_partition.proofs.writing.put_at_tail.Given.{Over}
 use Rattle.cache_partition.proofs.writing.put_at_tail.Goals.{After-append_hashed, After-from}

@@ -1,6 +1,5 @@
-use Rattle.cache_partition.proofs.Words.{Absent, Del, Deleted, MayWrite, [], ap, arith, leb-false, leb-true, length, options_in, reply_of, sym}
-use Rattle.cache_partition.proofs.Words.{write_of, ◌∙◌}
-use Rattle.cache_partition.proofs.Writes.{worn_step, accepted_step}
+use Rattle.cache_partition.proofs.Words.{Absent, Del, Deleted, [], ap, arith, leb-false, leb-true, length, options_in, reply_of, sym, write_of, ◌∙◌}
+use Rattle.cache_partition.proofs.Writes.{accepted_step, may_write, worn_step}
 use Rattle.cache_partition.proofs.partition.CachePartitionPartition.del.Goals as goal
 
 pub returns-then-is_worn-clause-step : goal.returns-then-is_worn-clause-step
@@ -20,11 +19,7 @@ pub returns-then-removed-clause-step : goal.returns-then-removed-clause-step
 returns-then-removed-clause-step g c =
     let owner = g.W.OwnerWords.owner in
     let o = owner c.args.self.now.words in
-    let may : MayWrite o = record {
-      idle = c.args.self.now.idle;
-      cached = c.args.self.now.cached;
-      not_worn = leb-false o.shape.wear (length o.history) (sym c.is_worn.ensures.worn ∙ c.if-is_worn.false);
-    } in
+    let may = may_write o c.args.self.now.idle c.args.self.now.cached (sym c.is_worn.ensures.worn ∙ c.if-is_worn.false) in
     accepted_step o (owner c.remove-removed.new.words) may (write_of Del c.args.key.now []) Deleted c.remove-removed.ensures.gains
     (ap (reply_of Del (options_in o) (write_of Del c.args.key.now [])) (sym c.if-removed.true ∙ c.remove-removed.ensures.found))
 
@@ -32,10 +27,6 @@ pub returns-else-removed-clause-step : goal.returns-else-removed-clause-step
 returns-else-removed-clause-step g c =
     let owner = g.W.OwnerWords.owner in
     let o = owner c.args.self.now.words in
-    let may : MayWrite o = record {
-      idle = c.args.self.now.idle;
-      cached = c.args.self.now.cached;
-      not_worn = leb-false o.shape.wear (length o.history) (sym c.is_worn.ensures.worn ∙ c.if-is_worn.false);
-    } in
+    let may = may_write o c.args.self.now.idle c.args.self.now.cached (sym c.is_worn.ensures.worn ∙ c.if-is_worn.false) in
     accepted_step o (owner c.remove-removed.new.words) may (write_of Del c.args.key.now []) Absent c.remove-removed.ensures.gains
     (ap (reply_of Del (options_in o) (write_of Del c.args.key.now [])) (sym c.if-removed.false ∙ c.remove-removed.ensures.found))

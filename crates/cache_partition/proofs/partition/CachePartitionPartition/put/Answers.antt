@@ -1,5 +1,5 @@
-use Rattle.cache_partition.proofs.Words.{MayWrite, Put, Stored, arith, leb-false, leb-true, length, refl, sym, write_of, ◌∙◌}
-use Rattle.cache_partition.proofs.Writes.{worn_step, accepted_step}
+use Rattle.cache_partition.proofs.Words.{Put, Stored, arith, leb-false, leb-true, length, refl, sym, write_of, ◌∙◌}
+use Rattle.cache_partition.proofs.Writes.{accepted_step, may_write, worn_step}
 use Rattle.cache_partition.proofs.partition.CachePartitionPartition.put.Goals as goal
 
 pub returns-then-is_worn-clause-step : goal.returns-then-is_worn-clause-step
@@ -19,9 +19,5 @@ pub returns-clause-step : goal.returns-clause-step
 returns-clause-step g c =
     let owner = g.W.OwnerWords.owner in
     let o = owner c.args.self.now.words in
-    let may : MayWrite o = record {
-      idle = c.args.self.now.idle;
-      cached = c.args.self.now.cached;
-      not_worn = leb-false o.shape.wear (length o.history) (sym c.is_worn.ensures.worn ∙ c.if-is_worn.false);
-    } in
+    let may = may_write o c.args.self.now.idle c.args.self.now.cached (sym c.is_worn.ensures.worn ∙ c.if-is_worn.false) in
     accepted_step o (owner c.put-self.new.words) may (write_of Put c.args.key.now c.args.value.now) Stored c.put-self.ensures.gains refl
