@@ -1,6 +1,6 @@
 //! The partition of store mode and the plain machine, on the same drawn writes and gets.
 
-ghost use Rattle.mica_words.specs.Item.{KeyFits};
+ghost use Rattle.mica_words.specs.Item.{KeyFits, ValueFits};
 
 use crate::machine::Machine;
 use crate::scripts::write;
@@ -53,14 +53,15 @@ fn agree_on_put<P: Partition>(
     value: &[u8],
     refused: &mut Refused,
 ) -> Result<bool, NoMemory>
-    requires { KeyFits key.now }
+    requires key { KeyFits key.now }
+    requires value { ValueFits value.now }
 {
-    if !value_fits(value) {
-        return Ok(false);
-    }
     let outcome = write(partition, Op::Put, key, value);
     refused.count(outcome);
-    Ok(outcome == Outcome::FullBlock || outcome == machine.apply(alloc, Op::Put, key, value)?)
+    if outcome == Outcome::FullBlock {
+        return Ok(true);
+    }
+    Ok(outcome == machine.apply(alloc, Op::Put, key, value)?)
 }
 
 fn agree_on_get<P: Partition>(
@@ -95,7 +96,7 @@ fn agree<P: Partition>(
         0 | 1 | 2 | 3 => {
             let value = "x".repeat(alloc, (draw / 480 % 90) as usize)?;
             let value = value.as_bytes();
-            Ok(agree_on_put(alloc, partition, machine, key, value, refused)?)
+            Ok(value_fits(value) && agree_on_put(alloc, partition, machine, key, value, refused)?)
         }
         4 | 5 => {
             let outcome = write(partition, Op::Del, key, b"");

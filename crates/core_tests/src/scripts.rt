@@ -55,10 +55,10 @@ pub(crate) fn write<P: Partition>(partition: &mut P, op: Op, key: &[u8], value: 
     requires key { KeyFits key.now }
     requires value { ValueFits value.now }
 {
-    match op {
-        Op::Put => partition.put(key, value),
-        Op::Del => partition.del(key),
+    if op == Op::Del {
+        return partition.del(key);
     }
+    partition.put(key, value)
 }
 
 fn apply<P: Partition>(
