@@ -1,83 +1,90 @@
 -- What the words stand for in a bucket stays where the words in its reach do, and the machine has the same of its keys.
-use Rattle.std.proofs.Common.{◌≡◌, ℕ, zero, suc, ◌+◌, ◌<◌, ◌≢◌, inl, inr, List, get_or, refl, sym, ap, ◌∙◌, subst, arith, add-zero}
+use Rattle.std.proofs.Common.{◌≡◌, ℕ, zero, suc, ◌+◌, ◌<◌, ◌≢◌, inl, inr, ◌⊎◌, List, get_or, refl, sym, ap, ◌∙◌, subst, arith, add-zero}
+use mathlib.Core.Logic.{dite}
+use native.Mathlib.Decide.{ℕ_discrete}
 use Rattle.mica_words.specs.Entry.{entry_offset}
 use Rattle.mica_words.specs.Header.{header_room}
 use Rattle.mica_model.specs.declared.options.Mode.{Mode}
 use Rattle.mica_model.specs.declared.options.Mode.TheVariants.{Cache, Store}
 use Rattle.mica_model.specs.Store.{Cell}
-use Rattle.mica_model.specs.History.{History}
+use Rattle.mica_model.specs.History.{History, stamp_of}
 use Rattle.epoch_core.specs.declared.state.OwnerState.{OwnerState}
 use Rattle.epoch_core.specs.declared.state.Phase.{Phase}
+use Rattle.epoch_core.specs.declared.state.Phase.TheVariants.{Idle, Begun, Marked}
 use Rattle.epoch_core.specs.Shape.{IsMain}
 use Rattle.epoch_core.specs.Layout.{entry_at, link_at, item_at}
-use Rattle.epoch_core.specs.OwnerState.{stamp_in, link_in, state_in, bucket_in, marked_in}
+use Rattle.epoch_core.specs.OwnerState.{stamp_in, link_in, options_in, marked_in}
 use Rattle.epoch_core.specs.Chain.{IsAmong, InChain, IsDense, HasChains}
 use Rattle.epoch_core.specs.LiveEntry.{IsLiveItem, HasLiveEntry}
-use Rattle.epoch_core.specs.StandsFor.{Has, Spells, room_in, IsInRoom, RoomsApart, HasChain, StandsFor}
+use Rattle.epoch_core.specs.StandsFor.{Spells, room_in, IsInRoom, RoomsApart, HasChain, StandsFor}
 use Rattle.epoch_core.specs.Reach.{IsReached, by_entry, by_link, by_item}
+use Rattle.epoch_core.proofs.Machine.{HasStill}
+use Rattle.epoch_core.proofs.Marked.{bit_else}
 
 -- the state with other words, another history and another phase
 abbrev pub changed : OwnerState → List ℕ → History → Phase → OwnerState
 changed o words history phase = record o { words = words; history = history; phase = phase }
 
 -- what has to be known of a bucket
-pub record Carries (o : OwnerState) (words : List ℕ) (history : History) (phase : Phase) (b : ℕ) : Type 0 where
+pub record Carries (o new : OwnerState) (b : ℕ) : Type 0 where
   pub stands : StandsFor o b
-  pub word : (i : ℕ) → IsReached o b i → get_or words i 0 ≡ get_or o.words i 0
-  pub live : (q : ℕ) → IsLiveItem o.shape.mode o.shape.words (stamp_in (changed o words history phase)) q
-      → IsLiveItem o.shape.mode o.shape.words (stamp_in o) q
-  pub has_back : (key : List ℕ) (cell : Cell) (q : ℕ) → bucket_in o key ≡ b
-      → Has (state_in (changed o words history phase)) key cell q → Has (state_in o) key cell q
-  pub has_on : (key : List ℕ) (cell : Cell) (q : ℕ) → bucket_in o key ≡ b → Has (state_in o) key cell q
-      → IsLiveItem o.shape.mode o.shape.words (stamp_in (changed o words history phase)) q
-      → Has (state_in (changed o words history phase)) key cell q
-  -- an item of which the machine still has something is live still
-  pub live_on : (key : List ℕ) (cell : Cell) (q q' : ℕ) → bucket_in o key ≡ b
-      → Has (state_in (changed o words history phase)) key cell q → Has (state_in o) key cell q'
-      → IsLiveItem o.shape.mode o.shape.words (stamp_in o) q'
-      → IsLiveItem o.shape.mode o.shape.words (stamp_in (changed o words history phase)) q'
+  pub word : (i : ℕ) → IsReached o b i → get_or new.words i 0 ≡ get_or o.words i 0
+  pub stamp : stamp_in o ≡ stamp_of (options_in o) o.history
+  pub stamp_now : stamp_in new ≡ stamp_of (options_in o) new.history
+  pub has : HasStill o.shape.mode (options_in o) o.history new.history b
 
-module _ (o : OwnerState) (words : List ℕ) (history : History) (phase : Phase) where
+-- of two buckets one has no marked write
+one_unmarked : (phase : Phase) (b c : ℕ) → b ≢ c → (marked_in phase b ≡ 0) ⊎ (marked_in phase c ≡ 0)
+one_unmarked Idle b c n = inl refl
+one_unmarked (Begun d) b c n = inl refl
+one_unmarked (Marked d write before) b c n = dite (ℕ_discrete d b) (λ is. inr (bit_else d c (λ same. n (sym is ∙ same)))) (λ not. inl (bit_else d b not))
+
+-- so the rooms of their live items share no word
+rooms_apart : (o : OwnerState) (b other c slot entry c' slot' entry' : ℕ) → IsMain o.shape b → IsMain o.shape other → other ≢ b → StandsFor o b → StandsFor o other
+    → HasLiveEntry o b c slot entry → HasLiveEntry o other c' slot' entry' → RoomsApart o entry entry'
+rooms_apart o b other c slot entry c' slot' entry' l m n f f' h h' q i i' = elim (one_unmarked o.phase other b n) [
+  | inl none ↦ f.apart other c slot entry c' slot' entry' m n none h h' q i i'
+  | inr none ↦ f'.apart b c' slot' entry' c slot entry l (λ same. n (sym same)) none h' h q i' i
+]
+
+module _ (o new : OwnerState) where
   abbrev p : OwnerState
-  p = changed o words history phase
+  p = record new { shape = o.shape }
 
-  module _ (b : ℕ) (k : Carries o words history phase b) where
+  module _ (b : ℕ) (k : Carries o new b) where
     -- the chain
+
+    link_same : (c : ℕ) → InChain o b c → link_in p c ≡ link_in o c
+    link_same c h = k.word (link_at o.shape c) (by_link c h refl)
 
     among_back : (n d c : ℕ) → ((x : ℕ) → IsAmong o n d x → InChain o b x) → IsAmong p n d c → IsAmong o n d c
     among_back zero d c up h = absurd h
     among_back (suc n) d c up (inl is) = inl is
     among_back (suc n) d c up (inr h) =
-        let same : link_in p d ≡ link_in o d = k.word (link_at o.shape d) (by_link d (up d (inl refl)) refl) in
+        let same = link_same d (up d (inl refl)) in
         let linked : link_in o d ≢ 0 = λ none. h.0 (same ∙ none) in
-        inr (
-          linked,
-          among_back n (link_in o d) c (λ x among. up x (inr (linked, among))) (subst (λ (z : ℕ). IsAmong p n z c) same h.1),
-        )
+        inr (linked, among_back n (link_in o d) c (λ x among. up x (inr (linked, among))) (subst (λ (z : ℕ). IsAmong p n z c) same h.1))
 
     among_on : (n d c : ℕ) → ((x : ℕ) → IsAmong o n d x → InChain o b x) → IsAmong o n d c → IsAmong p n d c
     among_on zero d c up h = absurd h
     among_on (suc n) d c up (inl is) = inl is
     among_on (suc n) d c up (inr h) =
-        let same : link_in p d ≡ link_in o d = k.word (link_at o.shape d) (by_link d (up d (inl refl)) refl) in
+        let same = link_same d (up d (inl refl)) in
         inr (
           λ none. h.0 (sym same ∙ none),
           subst (λ (z : ℕ). IsAmong p n z c) (sym same) (among_on n (link_in o d) c (λ x among. up x (inr (h.0, among))) h.1),
         )
 
-    pub chain_back : (c : ℕ) → InChain p b c → InChain o b c
+    chain_back : (c : ℕ) → InChain p b c → InChain o b c
     chain_back c h = among_back (suc o.shape.spares) b c (λ x among. among) h
 
-    pub chain_on : (c : ℕ) → InChain o b c → InChain p b c
-    chain_on c h = among_on (suc o.shape.spares) b c (λ x among. among) h
-
-    pub entry_same : (c slot : ℕ) → InChain o b c → slot < 15 → get_or words (entry_at o.shape c slot) 0 ≡ get_or o.words (entry_at o.shape c slot) 0
+    entry_same : (c slot : ℕ) → InChain o b c → slot < 15 → get_or new.words (entry_at o.shape c slot) 0 ≡ get_or o.words (entry_at o.shape c slot) 0
     entry_same c slot h x = k.word (entry_at o.shape c slot) (by_entry c slot h x refl)
 
     dense_on : IsDense o b → IsDense p b
     dense_on d = record {
       full = λ c slot h linked x none. let before = chain_back c h in
-          d.full c slot before (λ end. linked (k.word (link_at o.shape c) (by_link c before refl) ∙ end)) x (sym (entry_same c slot before x) ∙ none);
+          d.full c slot before (λ end. linked (link_same c before ∙ end)) x (sym (entry_same c slot before x) ∙ none);
       in_order = λ c slot later h less x used none. let before = chain_back c h in
           d.in_order c slot later before less x (λ empty. used (entry_same c later before x ∙ empty)) (sym (entry_same c slot before (omega arith)) ∙ none);
       some = λ c h other none. let before = chain_back c h in d.some c before other (sym (entry_same c 0 before (omega arith)) ∙ none);
@@ -90,48 +97,46 @@ module _ (o : OwnerState) (words : List ℕ) (history : History) (phase : Phase)
       in_chain = before;
       in_bucket = h.in_bucket;
       found = sym (entry_same c slot before h.in_bucket) ∙ h.found;
-      live = (h.live.0, k.live (entry_offset entry) h.live.1);
+      live = (h.live.0, rw k.stamp (k.has.live (entry_offset entry) (rw (sym k.stamp_now) h.live.1)));
     }
 
-    pub on : (c slot entry : ℕ) → HasLiveEntry o b c slot entry → IsLiveItem o.shape.mode o.shape.words (stamp_in p) (entry_offset entry)
+    on : (c slot entry : ℕ) → HasLiveEntry o b c slot entry → IsLiveItem o.shape.mode o.shape.words (stamp_in p) (entry_offset entry)
         → HasLiveEntry p b c slot entry
     on c slot entry h live = record {
-      in_chain = chain_on c h.in_chain;
+      in_chain = among_on (suc o.shape.spares) b c (λ x among. among) h.in_chain;
       in_bucket = h.in_bucket;
       found = entry_same c slot h.in_chain h.in_bucket ∙ h.found;
       live = (h.live.0, live);
     }
 
-    some_room : (c slot entry : ℕ) → HasLiveEntry o b c slot entry → 0 < room_in o entry
-    some_room c slot entry h = let some = k.stands.nothing_else c slot entry h in let fits = some.2.in_room in omega arith
+    item_same : (c slot entry i : ℕ) → HasLiveEntry o b c slot entry → i < room_in o entry
+        → get_or new.words (item_at o.shape (entry_offset entry + i)) 0 ≡ get_or o.words (item_at o.shape (entry_offset entry + i)) 0
+    item_same c slot entry i h x = k.word (item_at o.shape (entry_offset entry + i)) (by_item c slot entry i h x refl)
 
-    pub room : (c slot entry : ℕ) → HasLiveEntry o b c slot entry → room_in p entry ≡ room_in o entry
+    room : (c slot entry : ℕ) → HasLiveEntry o b c slot entry → room_in p entry ≡ room_in o entry
     room c slot entry h =
+        let fits = (k.stands.nothing_else c slot entry h).2.in_room in
         let first = ap (item_at o.shape) (sym (add-zero (entry_offset entry))) in
-        ap header_room (k.word (item_at o.shape (entry_offset entry)) (by_item c slot entry 0 h (some_room c slot entry h) first))
+        ap header_room (k.word (item_at o.shape (entry_offset entry)) (by_item c slot entry 0 h (omega arith) first))
 
     pub in_room : (c slot entry q : ℕ) → HasLiveEntry o b c slot entry → IsInRoom p entry q → IsInRoom o entry q
     in_room c slot entry q h i = let same = room c slot entry h in (i.0, let below = i.1 in omega arith, i.2)
 
-    pub item_same : (c slot entry i : ℕ) → HasLiveEntry o b c slot entry → i < room_in o entry
-        → get_or words (item_at o.shape (entry_offset entry + i)) 0 ≡ get_or o.words (item_at o.shape (entry_offset entry + i)) 0
-    item_same c slot entry i h x = k.word (item_at o.shape (entry_offset entry + i)) (by_item c slot entry i h x refl)
-
-    pub spells_on : (c slot entry : ℕ) (key : List ℕ) (cell : Cell) → HasLiveEntry o b c slot entry
+    spells_on : (c slot entry : ℕ) (key : List ℕ) (cell : Cell) → HasLiveEntry o b c slot entry
         → IsLiveItem o.shape.mode o.shape.words (stamp_in p) (entry_offset entry) → Spells o b entry key cell → Spells p b entry key cell
     spells_on c slot entry key cell h live sp = let fits = sp.in_room in let same = room c slot entry h in record {
       bucket = sp.bucket;
-      has = k.has_on key cell (entry_offset entry) sp.bucket sp.has live;
+      has = k.has.on key cell (entry_offset entry) sp.bucket sp.has (rw (sym k.stamp_now) live);
       offset = sp.offset;
       tag = sp.tag;
       item = λ i x. item_same c slot entry i h (omega arith) ∙ sp.item i x;
       in_room = omega arith;
     }
 
-    pub spells_back : (c slot entry : ℕ) (key : List ℕ) (cell : Cell) → HasLiveEntry o b c slot entry → Spells p b entry key cell → Spells o b entry key cell
+    spells_back : (c slot entry : ℕ) (key : List ℕ) (cell : Cell) → HasLiveEntry o b c slot entry → Spells p b entry key cell → Spells o b entry key cell
     spells_back c slot entry key cell h sp = let fits = sp.in_room in let same = room c slot entry h in record {
       bucket = sp.bucket;
-      has = k.has_back key cell (entry_offset entry) sp.bucket sp.has;
+      has = k.has.back key cell (entry_offset entry) sp.bucket sp.has;
       offset = sp.offset;
       tag = sp.tag;
       item = λ i x. sym (item_same c slot entry i h (omega arith)) ∙ sp.item i x;
@@ -148,23 +153,22 @@ module _ (o : OwnerState) (words : List ℕ) (history : History) (phase : Phase)
         by_item c slot entry j before (omega arith) is
 
   -- Chains of other buckets may grow, but not by a spare of this one: the fact on all chains says so.
-  has_chain_on : (mode : Mode) (b : ℕ) → Carries o words history phase b → IsMain o.shape b → HasChains p → HasChain mode o b → HasChain mode p b
+  has_chain_on : (mode : Mode) (b : ℕ) → Carries o new b → IsMain o.shape b → HasChains p → HasChain mode o b → HasChain mode p b
   has_chain_on Cache b k l chains h = tt
   has_chain_on Store b k l chains h = (dense_on b k h.0, λ c d main other i j. chains.apart b c d l main (λ same. other (sym same)) i j)
 
-  pub stands_on : (b : ℕ) → IsMain o.shape b → HasChains p → Carries o words history phase b
-      → ((other : ℕ) → IsMain o.shape other → other ≢ b → marked_in phase other ≡ 0
-      → Carries o words history phase other
-      × ((c slot entry c' slot' entry' : ℕ) → HasLiveEntry o b c slot entry → HasLiveEntry o other c' slot' entry' → RoomsApart o entry entry'))
-      → StandsFor p b
-  stands_on b l chains k others = record {
+  -- where each bucket with no marked write is carried
+  pub stands_on : HasChains p → ((b : ℕ) → IsMain o.shape b → marked_in new.phase b ≡ 0 → Carries o new b)
+      → (b : ℕ) → IsMain o.shape b → marked_in new.phase b ≡ 0 → StandsFor p b
+  stands_on chains carries b l none = let k = carries b l none in record {
     nothing_else = λ c slot entry h.
         let before = back b k c slot entry h in
         let some = k.stands.nothing_else c slot entry before in
         (some.0, some.1, spells_on b k c slot entry some.0 some.1 before h.live.1 some.2);
     each = λ key cell q is has.
-        let at = k.stands.each key cell q is (k.has_back key cell q is has) in
-        let live = k.live_on key cell q (entry_offset at.2) is has at.4.has at.3.live.1 in
+        let at = k.stands.each key cell q is (k.has.back key cell q is has) in
+        let live : IsLiveItem o.shape.mode o.shape.words (stamp_in new) (entry_offset at.2) =
+        rw k.stamp_now (k.has.live_on key cell q (entry_offset at.2) is has at.4.has (rw (sym k.stamp) at.3.live.1)) in
         (at.0, at.1, at.2, on b k at.0 at.1 at.2 at.3 live, spells_on b k at.0 at.1 at.2 key cell at.3 live at.4);
     once = λ c slot entry c' slot' entry' key cell h h' sp sp'.
         let before = back b k c slot entry h in
@@ -177,10 +181,10 @@ module _ (o : OwnerState) (words : List ℕ) (history : History) (phase : Phase)
         k.stands.rooms c slot entry c' slot' entry' before before' other q
         (in_room b k c slot entry q before i) (in_room b k c' slot' entry' q before' i');
     apart = λ other c slot entry c' slot' entry' main differs unmarked h h' q i i'.
-        let of_other = others other main differs unmarked in
+        let k' = carries other main unmarked in
         let before = back b k c slot entry h in
-        let before' = back other of_other.0 c' slot' entry' h' in
-        of_other.1 c slot entry c' slot' entry' before before' q
-        (in_room b k c slot entry q before i) (in_room other of_other.0 c' slot' entry' q before' i');
+        let before' = back other k' c' slot' entry' h' in
+        rooms_apart o b other c slot entry c' slot' entry' l main differs k.stands k'.stands before before' q
+        (in_room b k c slot entry q before i) (in_room other k' c' slot' entry' q before' i');
     chain = has_chain_on o.shape.mode b k l chains k.stands.chain;
   }

@@ -1,33 +1,24 @@
 -- The central law: an event leaves the words in reach of a bucket whose even epoch stands still. So whatever is kept of a reader
 -- is kept past it.
 use Rattle.std.specs.Prelude.{IfSome}
-use Rattle.std.proofs.Common.{◌≡◌, ℕ, ◌*◌, ◌%◌, ◌≤◌, [], ◌∷◌, refl, sym, ap, ◌∙◌, subst, arith, Option, Some, None}
-use Rattle.mica_model.specs.History.{History, IsPrefix, writes_to_bucket}
+use Rattle.std.proofs.Common.{◌≡◌, ℕ, ◌*◌, ◌%◌, ◌≤◌, refl, sym, ap, ◌∙◌, subst, arith, Option, Some, None}
+use Rattle.mica_model.specs.History.{writes_to_bucket}
 use Rattle.epoch_core.specs.declared.shape.Shape.{Shape}
 use Rattle.epoch_core.specs.declared.state.OwnerState.{OwnerState}
 use Rattle.epoch_core.specs.declared.reader.Cut.{Cut}
 use Rattle.epoch_core.specs.declared.reader.Try.{Try}
 use Rattle.epoch_core.specs.declared.reader.ReaderState.{ReaderState}
 use Rattle.epoch_core.specs.declared.event.Event.{Event}
-use Rattle.epoch_core.specs.declared.event.Event.TheVariants.{Begins, Marks, PutsWord, PutsEntry, PutsLink, Ends}
 use Rattle.epoch_core.specs.Shape.{options_of, IsMain}
 use Rattle.epoch_core.specs.OwnerState.{epoch_in}
-use Rattle.epoch_core.specs.Events.{IsAllowed, words_after, history_after, phase_after, after}
+use Rattle.epoch_core.specs.Events.{IsAllowed, after}
 use Rattle.epoch_core.specs.Kept.{Kept}
 use Rattle.epoch_core.specs.Grows.{Grows}
 use Rattle.epoch_core.specs.ReaderKept.{IsSpelt, CutKept, TryKept, ReaderKept}
-use Rattle.epoch_core.proofs.Prefixes.{prefix_same, prefix_then}
+use Rattle.epoch_core.proofs.Prefixes.{prefix_then}
 use Rattle.epoch_core.proofs.Failing.{fails_rise}
 use Rattle.epoch_core.proofs.Carried.{reach_back}
-use Rattle.epoch_core.proofs.Keeps.{rises, carries}
-
-goes_on : (e : Event) (history : History) → IsPrefix history (history_after e history)
-goes_on (Begins b) history = prefix_same history
-goes_on (Marks write n) history = (write ∷ [], refl)
-goes_on (PutsWord p x) history = prefix_same history
-goes_on (PutsEntry c slot entry) history = prefix_same history
-goes_on (PutsLink c next) history = prefix_same history
-goes_on (Ends b) history = prefix_same history
+use Rattle.epoch_core.proofs.Keeps.{goes_on, rises, carries, calm_after}
 
 pub grows : (o : OwnerState) → Kept o → (e : Event) → IsAllowed e o → Grows o (after e o)
 grows o s e a = record {
@@ -35,8 +26,8 @@ grows o s e a = record {
   history = goes_on e o.history;
   rises = rises o s e a;
   still = λ b l even same place reached.
-      let k = carries o s e a b l even in
-      let before = reach_back o (words_after e o) (history_after e o.history) (phase_after e o) b k place reached in
+      let k = carries o s e a b l (calm_after o s e a b l even) in
+      let before = reach_back o (after e o) b k place reached in
       (before, k.word place before);
 }
 

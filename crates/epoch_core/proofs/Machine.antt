@@ -2,6 +2,7 @@
 use Rattle.std.proofs.Common.{◌≡◌, ℕ, ◌<◌, ◌≤◌, ◌≢◌, List, [], ◌∷◌, ◌++◌, Option, Some, None, refl, sym, ap, ◌∙◌, subst, arith}
 use Rattle.std.specs.List.{AllByRecursion}
 use Rattle.std.specs.Prelude.{option_map, unwrap_or}
+use Rattle.std.specs.FinMap.{get}
 use Rattle.mica_words.specs.Hash.{bucket_of}
 use Rattle.mica_words.specs.Item.{KeyFits, ValueFits, item_size}
 use Rattle.mica_words.specs.Packing.{AreBytes}
@@ -11,12 +12,13 @@ use Rattle.mica_model.specs.declared.options.Mode.TheVariants.{Cache as CacheMod
 use Rattle.mica_model.specs.declared.write.Write.{Write}
 use Rattle.mica_model.specs.Write.{IsWrite}
 use Rattle.mica_model.specs.Cache.{Cache, Record, record_of}
-use Rattle.mica_model.specs.Store.{Store, Cell}
+use Rattle.mica_model.specs.Store.{Cell}
 use Rattle.mica_model.specs.CacheStep as cs
 use Rattle.mica_model.specs.StoreStep as ss
 use Rattle.mica_model.specs.History.{History, State, cache_state, store_state, after, state_of, stamp_in, stamp_of}
 use Rattle.mica_model.proofs.CacheLaws.{record_fits, others_back, others_on}
 use Rattle.mica_model.proofs.Histories.{state_snoc, cached_in, stored_in}
+use Rattle.mica_model.proofs.Rises.{stamp_rises}
 use Rattle.mica_model.proofs.StoreLaws.{cell_fits, others_same}
 use Rattle.epoch_core.specs.LiveEntry.{IsLiveItem}
 use Rattle.epoch_core.specs.StandsFor.{cell_at, Has}
@@ -65,68 +67,69 @@ same_offset options history is key cell p q h i =
     let two = found_record (record_of at.0 key) cell q (subst (λ (z : State). Has z key cell q) at.1 i) in
     sym one.2 ∙ (ap (λ (z : Option Record). unwrap_or (option_map (λ (r : Record). r.offset) z) 0) (sym one.1 ∙ two.1) ∙ two.2)
 
--- What the machine has of the keys of other buckets after a write: what it had, where the new stamp has not passed it.
+-- What the machine has of a bucket's keys stays as a history goes on: where the log has not passed it, it has the same.
+pub record HasStill (mode : Mode) (options : Options) (old new : History) (b : ℕ) : Type 0 where
+  pub live : (p : ℕ) → IsLiveItem mode options.words (stamp_of options new) p → IsLiveItem mode options.words (stamp_of options old) p
+  pub back : (key : List ℕ) (cell : Cell) (p : ℕ) → bucket_of key options.buckets ≡ b → Has (state_of options new) key cell p
+      → Has (state_of options old) key cell p
+  pub on : (key : List ℕ) (cell : Cell) (p : ℕ) → bucket_of key options.buckets ≡ b → Has (state_of options old) key cell p
+      → IsLiveItem mode options.words (stamp_of options new) p → Has (state_of options new) key cell p
+  -- an item of which the machine still has something is live still
+  pub live_on : (key : List ℕ) (cell : Cell) (p q : ℕ) → bucket_of key options.buckets ≡ b → Has (state_of options new) key cell p
+      → Has (state_of options old) key cell q → IsLiveItem mode options.words (stamp_of options old) q → IsLiveItem mode options.words (stamp_of options new) q
+
+-- with no more writes
+pub none_more : (mode : Mode) (options : Options) (history : History) (b : ℕ) → HasStill mode options history history b
+none_more mode options history b =
+    record { live = λ p h. h; back = λ key cell p is h. h; on = λ key cell p is h live. h; live_on = λ key cell p q is h i live. live }
+
+-- and after a write to another bucket's key
 module _ (options : Options) (history : History) (writes : AllByRecursion IsWrite history) (write : Write) (is : IsWrite write)
-    (key : List ℕ) (apart : bucket_of key options.buckets ≢ bucket_of write.key options.buckets) where
+    (b : ℕ) (apart : b ≢ bucket_of write.key options.buckets) where
   abbrev more : History
   more = history ++ write ∷ []
 
-  cache_after : (s : Cache) → state_of options history ≡ cache_state s → state_of options more ≡ cache_state (cs.after options s write)
-  cache_after s at = state_snoc options history write ∙ ap (λ (z : State). after options z write) at
+  by_mode : (mode : Mode) → options.mode ≡ mode → HasStill mode options history more b
+  by_mode CacheMode mode = record {
+    live = λ p h. let rise = stamp_rises options history write in omega arith;
+    back = λ key cell p same h. (had key cell p same h).0;
+    on = λ key cell p same h live.
+        let found = found_record (record_of at.0 key) cell p (subst (λ (z : State). Has z key cell p) at.1 h) in
+        let stamp = ap stamp_in now in
+        let offset = found.2 in
+        let there = others_on options history writes write is at.0 at.1 key (λ e. apart (sym same ∙ e)) found.0 found.1 (omega arith) in
+        subst (λ (z : State). Has z key cell p) (sym now) (ap (option_map cell_at) (there ∙ sym found.1) ∙ subst (λ (z : State). Has z key cell p) at.1 h);
+    live_on = λ key cell p q same h i live.
+        let before = had key cell p same h in
+        subst (IsLiveItem CacheMode options.words (stamp_of options more)) (same_offset options history mode key cell p q before.0 i) before.1;
+  }
+    where
+      at : (s : Cache) × (state_of options history ≡ cache_state s)
+      at = cached_in options mode history
 
-  store_after : (s : Store) → state_of options history ≡ store_state s → state_of options more ≡ store_state (ss.after s write)
-  store_after s at = state_snoc options history write ∙ ap (λ (z : State). after options z write) at
+      now : state_of options more ≡ cache_state (cs.after options at.0 write)
+      now = state_snoc options history write ∙ ap (λ (z : State). after options z write) at.1
 
-  other_key : key ≢ write.key
-  other_key same = apart (ap (λ (z : List ℕ). bucket_of z options.buckets) same)
-
-  back_by : (mode : Mode) → options.mode ≡ mode → (cell : Cell) (p : ℕ) → Has (state_of options more) key cell p
-      → Has (state_of options history) key cell p × IsLiveItem mode options.words (stamp_of options more) p
-  back_by CacheMode mode cell p h =
-      let at = cached_in options mode history in
-      let now = cache_after at.0 at.1 in
-      let had = subst (λ (z : State). Has z key cell p) now h in
-      let found = found_record (record_of (cs.after options at.0 write) key) cell p had in
-      let before = others_back options history writes write is at.0 at.1 key apart found.0 found.1 in
-      let stamp = ap stamp_in now in
-      let offset = found.2 in
-      let live = before.1 in
-      (subst (λ (z : State). Has z key cell p) (sym at.1) (ap (option_map cell_at) (before.0 ∙ sym found.1) ∙ had), omega arith)
-  back_by StoreMode mode cell p h =
+      had : (key : List ℕ) (cell : Cell) (p : ℕ) → bucket_of key options.buckets ≡ b → Has (state_of options more) key cell p
+          → Has (state_of options history) key cell p × IsLiveItem CacheMode options.words (stamp_of options more) p
+      had key cell p same h =
+          let has = subst (λ (z : State). Has z key cell p) now h in
+          let found = found_record (record_of (cs.after options at.0 write) key) cell p has in
+          let before = others_back options history writes write is at.0 at.1 key (λ e. apart (sym same ∙ e)) found.0 found.1 in
+          let stamp = ap stamp_in now in
+          let offset = found.2 in
+          let live = before.1 in
+          (subst (λ (z : State). Has z key cell p) (sym at.1) (ap (option_map cell_at) (before.0 ∙ sym found.1) ∙ has), omega arith)
+  by_mode StoreMode mode =
       let at = stored_in options mode history in
-      let had = subst (λ (z : State). Has z key cell p) (store_after at.0 at.1) h in
-      (subst (λ (z : State). Has z key cell p) (sym at.1) (sym (others_same at.0 write key other_key) ∙ had), tt)
+      let now : state_of options more ≡ store_state (ss.after at.0 write) = state_snoc options history write ∙ ap (λ (z : State). after options z write) at.1 in
+      let same : (key : List ℕ) → bucket_of key options.buckets ≡ b → get (ss.after at.0 write).cells key ≡ get at.0.cells key =
+      λ key is. others_same at.0 write key (λ e. apart (sym is ∙ ap (λ (z : List ℕ). bucket_of z options.buckets) e)) in record {
+        live = λ p h. tt;
+        back = λ key cell p is h. rw at.1 (sym (same key is) ∙ subst (λ (z : State). Has z key cell p) now h);
+        on = λ key cell p is h live. rw now (same key is ∙ subst (λ (z : State). Has z key cell p) at.1 h);
+        live_on = λ key cell p q is h i live. tt;
+      }
 
-  on_by : (mode : Mode) → options.mode ≡ mode → (cell : Cell) (p : ℕ) → Has (state_of options history) key cell p
-      → IsLiveItem mode options.words (stamp_of options more) p → Has (state_of options more) key cell p
-  on_by CacheMode mode cell p h live =
-      let at = cached_in options mode history in
-      let now = cache_after at.0 at.1 in
-      let had = subst (λ (z : State). Has z key cell p) at.1 h in
-      let found = found_record (record_of at.0 key) cell p had in
-      let stamp = ap stamp_in now in
-      let offset = found.2 in
-      let there = others_on options history writes write is at.0 at.1 key apart found.0 found.1 (omega arith) in
-      subst (λ (z : State). Has z key cell p) (sym now) (ap (option_map cell_at) (there ∙ sym found.1) ∙ had)
-  on_by StoreMode mode cell p h live =
-      let at = stored_in options mode history in
-      let had = subst (λ (z : State). Has z key cell p) at.1 h in
-      subst (λ (z : State). Has z key cell p) (sym (store_after at.0 at.1)) (others_same at.0 write key other_key ∙ had)
-
-  live_by : (mode : Mode) → options.mode ≡ mode → (cell : Cell) (p q : ℕ) → Has (state_of options more) key cell p
-      → Has (state_of options history) key cell q → IsLiveItem mode options.words (stamp_of options more) q
-  live_by CacheMode mode cell p q h i =
-      let before = back_by CacheMode mode cell p h in
-      subst (IsLiveItem CacheMode options.words (stamp_of options more)) (same_offset options history mode key cell p q before.0 i) before.1
-  live_by StoreMode mode cell p q h i = tt
-
-  pub marked_back : (cell : Cell) (p : ℕ) → Has (state_of options more) key cell p → Has (state_of options history) key cell p
-  marked_back cell p h = (back_by options.mode refl cell p h).0
-
-  pub marked_on : (cell : Cell) (p : ℕ) → Has (state_of options history) key cell p
-      → IsLiveItem options.mode options.words (stamp_of options more) p → Has (state_of options more) key cell p
-  marked_on cell p h live = on_by options.mode refl cell p h live
-
-  pub marked_live : (cell : Cell) (p q : ℕ) → Has (state_of options more) key cell p → Has (state_of options history) key cell q
-      → IsLiveItem options.mode options.words (stamp_of options more) q
-  marked_live cell p q h i = live_by options.mode refl cell p q h i
+  pub marked_still : HasStill options.mode options history more b
+  marked_still = by_mode options.mode refl

@@ -11,15 +11,14 @@ use Rattle.epoch_core.specs.declared.state.Phase.{Phase}
 use Rattle.epoch_core.specs.declared.state.Phase.TheVariants.{Idle, Begun, Marked}
 use Rattle.epoch_core.specs.declared.event.Event.{Event}
 use Rattle.epoch_core.specs.declared.event.Event.TheVariants.{PutsWord}
-use Rattle.epoch_core.specs.Layout.{stamp_at, item_at, word_count}
-use Rattle.epoch_core.specs.OwnerState.{stamp_in, options_in, marked_in}
-use Rattle.epoch_core.specs.Events.{WhenMarked, SparesOthers, BelongsTo, MayPutWord, words_after, history_after, phase_after, after, CanPlay, plays, puts_from}
+use Rattle.epoch_core.specs.Layout.{item_at, word_count}
+use Rattle.epoch_core.specs.OwnerState.{options_in, marked_in}
+use Rattle.epoch_core.specs.Events.{WhenMarked, SparesOthers, BelongsTo, MayPutWord, after, CanPlay, plays, puts_from}
 use Rattle.epoch_core.specs.Kept.{Kept}
 use Rattle.epoch_core.proofs.Log.{not_below}
 use Rattle.epoch_core.proofs.Marked.{bit_else}
 use Rattle.epoch_core.proofs.Carried.{back, in_room}
-use Rattle.epoch_core.proofs.Chains.{other_word}
-use Rattle.epoch_core.proofs.Keeps.{still, kept_after}
+use Rattle.epoch_core.proofs.Keeps.{carries, kept_after}
 
 -- the words from the offset on, this many, may be put
 abbrev pub MayPutWords : OwnerState → ℕ → ℕ → Type 0
@@ -34,14 +33,11 @@ module _ (o : OwnerState) (s : Kept o) (p x : ℕ) (a : MayPutWord o p) where
   abbrev next : OwnerState
   next = after (PutsWord p x) o
 
-  same_stamp : stamp_in next ≡ stamp_in o
-  same_stamp = other_word o s (PutsWord p x) stamp_at (λ is. omega arith)
-
   spares_still : (b q : ℕ) → ((other : ℕ) → other ≢ b → marked_in o.phase other ≡ 0) → SparesOthers o b q → SparesOthers next b q
   spares_still b q unmarked spares other c slot entry l n h i =
-      let carries = still o s (PutsWord p x) a refl same_stamp other l (unmarked other n) in
-      let before = back o (words_after e o) (history_after e o.history) (phase_after e o) other carries c slot entry h in
-      spares other c slot entry l n before (in_room o (words_after e o) (history_after e o.history) (phase_after e o) other carries c slot entry q before i)
+      let k = carries o s (PutsWord p x) a other l (unmarked other n) in
+      let before = back o next other k c slot entry h in
+      spares other c slot entry l n before (in_room o next other k c slot entry q before i)
 
   its_word_still : (q : ℕ) → (phase : Phase) → o.phase ≡ phase → WhenMarked phase (λ b write before. BelongsTo o b write (state_of (options_in o) before) q)
       → WhenMarked phase (λ b write before. BelongsTo next b write (state_of (options_in o) before) q)

@@ -1,5 +1,5 @@
 -- The machine of options is that of their shape: it reads no other option, and in cache mode no spares.
-use Rattle.std.proofs.Common.{◌≡◌, ℕ, Bool, true, false, cond, is_some, inl, inr, [], ◌∷◌, Option, Some, None, refl, sym, ap, ◌∙◌, subst, arith, ◌+◌}
+use Rattle.std.proofs.Common.{◌≡◌, ℕ, Bool, true, false, cond, is_some, inl, inr, refl, sym, ap, ◌∙◌, subst, arith, ◌+◌}
 use Rattle.std.specs.List.{fold}
 use Rattle.mica_model.specs.declared.options.Options.{Options}
 use Rattle.mica_model.specs.declared.options.Mode.{Mode}
@@ -8,7 +8,7 @@ use Rattle.mica_model.specs.declared.write.Write.{Write}
 use Rattle.mica_model.specs.declared.write.Op.{Op}
 use Rattle.mica_model.specs.declared.write.Op.TheVariants.{Put, Del}
 use Rattle.mica_model.specs.declared.write.Outcome.{Outcome}
-use Rattle.mica_model.specs.declared.write.Outcome.TheVariants.{Stored, Deleted, Absent, FullSpare, FullBlock, Worn}
+use Rattle.mica_model.specs.declared.write.Outcome.TheVariants.{Stored, FullSpare, FullBlock, Worn}
 use Rattle.mica_model.specs.Options.{InRange, IsValid}
 use Rattle.mica_model.specs.Cache as cache
 use Rattle.mica_model.specs.CacheStep as cs
@@ -18,33 +18,20 @@ use Rattle.mica_model.specs.History.{History, State, cache_state, store_state, a
 use Rattle.mica_model.proofs.Histories.{cached_in, stored_in}
 use Rattle.epoch_core.specs.Shape.{spares_in, shape_of, options_of, IsValidShape}
 
-few : (mode : Mode) (spares : ℕ) → (mode ≡ CacheMode → spares_in mode spares ≡ 0)
-few CacheMode spares is = refl
-few StoreMode spares is = cc
-
-within : (mode : Mode) (spares : ℕ) (P : ℕ → Type 0) → P 0 → P spares → P (spares_in mode spares)
-within CacheMode spares P none some = none
-within StoreMode spares P none some = some
+spares_fit : (mode : Mode) (spares : ℕ) → InRange 0 65536 spares → InRange 0 65536 (spares_in mode spares) × (mode ≡ CacheMode → spares_in mode spares ≡ 0)
+spares_fit CacheMode spares range = ((omega arith, omega arith), λ is. refl)
+spares_fit StoreMode spares range = (range, λ is. cc)
 
 all_spares : (mode : Mode) (spares : ℕ) → mode ≡ StoreMode → spares_in mode spares ≡ spares
 all_spares CacheMode spares is = cc
 all_spares StoreMode spares is = refl
 
-same_reply_of : (op : Op) (options options' : Options) (write : Write) (found : Bool) → cs.reply_of op options write found ≡ cs.reply_of op options' write found
-same_reply_of Put options options' write found = refl
-same_reply_of Del options options' write true = refl
-same_reply_of Del options options' write false = refl
-
 module _ (options : Options) where
   abbrev shaped : Options
   shaped = options_of (shape_of options)
 
-  same_kept : (s : cache.Cache) (write : Write) (found : Option cache.Record) → cs.kept_if shaped s write found ≡ cs.kept_if options s write found
-  same_kept s write None = refl
-  same_kept s write (Some held) = refl
-
   same_op : (op : Op) (s : cache.Cache) (write : Write) → cs.after_op op shaped s write ≡ cs.after_op op options s write
-  same_op Put s write = ap (λ (z : Option cache.Record). cs.after_put z s write) (same_kept s write (cache.record_of s write.key))
+  same_op Put s write = refl
   same_op Del s write = refl
 
   same_after : (now : State) (write : Write) → after shaped now write ≡ after options now write
@@ -54,64 +41,61 @@ module _ (options : Options) where
       (same_op write.op s write)
   same_after (store_state s) write = refl
 
-  same_from : (now : State) (history : History) → fold (after shaped) now history ≡ fold (after options) now history
-  same_from now [] = refl
-  same_from now (write ∷ history) =
-      ap (λ (z : State). fold (after shaped) z history) (same_after now write) ∙ same_from (after options now write) history
-
   pub same_state : (history : History) → state_of (options_of (shape_of options)) history ≡ state_of options history
-  same_state history = same_from (start options.mode) history
+  same_state history = ap (λ (step : State → Write → State). fold step (start options.mode) history) (λ i now write. same_after now write i)
 
-  same_reply : (s : cache.Cache) (write : Write) → cs.reply shaped s write ≡ cs.reply options s write
-  unfolding cs.reply
-  same_reply s write = ap (λ (reply : Outcome). cond (cs.is_worn options s) Worn reply) (same_reply_of write.op shaped options write (is_some (cache.record_of s write.key)))
+  same_reply : (op : Op) (write : Write) (found : Bool) → cs.reply_of op shaped write found ≡ cs.reply_of op options write found
+  same_reply Put write found = refl
+  same_reply Del write true = refl
+  same_reply Del write false = refl
 
   module _ (mode : options.mode ≡ StoreMode) (s : store.Store) (write : Write) where
     spares : spares_in options.mode options.spares ≡ options.spares
     spares = all_spares options.mode options.spares mode
 
-    spare_on : ss.NeedsSpare options s write.key → ss.NeedsSpare shaped s write.key
-    spare_on h = record { is_new = h.is_new; some = h.some; full = h.full; none_left = h.none_left ∙ sym spares }
-
     spare_back : ss.NeedsSpare shaped s write.key → ss.NeedsSpare options s write.key
     spare_back h = record { is_new = h.is_new; some = h.some; full = h.full; none_left = h.none_left ∙ spares }
 
     block_back : ss.NeedsBlock shaped s write → ss.NeedsBlock options s write
-    block_back h = record { stores = h.stores; no_room = h.no_room; has_spare = λ needs. h.has_spare (spare_on needs) }
+    block_back h = record {
+      stores = h.stores;
+      no_room = h.no_room;
+      has_spare = λ needs. h.has_spare record { is_new = needs.is_new; some = needs.some; full = needs.full; none_left = needs.none_left ∙ sym spares };
+    }
 
     allows_back : (outcome : Outcome) → ss.Allows shaped s write outcome → ss.Allows options s write outcome
-    allows_back Worn h = h
     allows_back Stored h = (h.0, (h.1.0, elim h.1.1 [ inl fits ↦ inl fits | inr block ↦ inr (block_back block.0, block.1) ]))
-    allows_back Deleted h = h
-    allows_back Absent h = h
     allows_back FullSpare h = (h.0, (h.1.0, spare_back h.1.1))
     allows_back FullBlock h = (h.0, (block_back h.1.0, h.1.1))
+    allows_back outcome h = h
 
   -- what the machine of the shape may give, that of the options may
   pub same_may_give : (history : History) (write : Write) (outcome : Outcome)
       → MayGive (options_of (shape_of options)) history write outcome → MayGive options history write outcome
+  unfolding cs.reply
   same_may_give history write outcome h = by_mode options.mode refl
     where
       by_mode : (mode : Mode) → options.mode ≡ mode → MayGive options history write outcome
       by_mode CacheMode mode =
           let at = cached_in options mode history in
-          let reply = subst (λ (z : State). Allows (options_of (shape_of options)) z write outcome) (same_state history ∙ at.1) h in
-          subst (λ (z : State). Allows options z write outcome) (sym at.1) (reply ∙ same_reply at.0 write)
+          let reply = subst (λ (z : State). Allows shaped z write outcome) (same_state history ∙ at.1) h in
+          subst (λ (z : State). Allows options z write outcome) (sym at.1)
+          (reply ∙ ap (cond (cs.is_worn options at.0) Worn) (same_reply write.op write (is_some (cache.record_of at.0 write.key))))
       by_mode StoreMode mode =
           let at = stored_in options mode history in
-          let allowed = subst (λ (z : State). Allows (options_of (shape_of options)) z write outcome) (same_state history ∙ at.1) h in
-          subst (λ (z : State). Allows options z write outcome) (sym at.1) (allows_back mode at.0 write outcome allowed)
+          subst (λ (z : State). Allows options z write outcome) (sym at.1)
+          (allows_back mode at.0 write outcome (subst (λ (z : State). Allows shaped z write outcome) (same_state history ∙ at.1) h))
 
 pub shape_valid : (options : Options) → IsValid options → IsValidShape (shape_of options)
 shape_valid options valid = record {
   ranges = record {
     partitions = (omega arith, omega arith);
     buckets = valid.buckets;
-    spares = within options.mode options.spares (InRange 0 65536) (omega arith, omega arith) valid.spares;
+    spares = (spares_fit options.mode options.spares valid.spares).0;
     words = valid.words;
     readers = (omega arith, omega arith);
     tries = (omega arith, omega arith);
     wear = valid.wear;
   };
-  no_spares = few options.mode options.spares;
+  no_spares = (spares_fit options.mode options.spares valid.spares).1;
 }

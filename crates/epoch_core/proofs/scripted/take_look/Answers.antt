@@ -1,9 +1,6 @@
 use Rattle.std.proofs.Common.{rules}
-use Rattle.epoch_core.proofs.ScriptKeeps.{owner_then, looks_at}
+use Rattle.epoch_core.proofs.ScriptKeeps.{looks_at}
 use Rattle.epoch_core.proofs.scripted.take_look.Goals as goal
 
 pub store-requires : goal.store-requires
 store-requires g c = (search rules, search rules, looks_at c.args.book.now.key _ _ c.args.seat.now.me _ 0 0 c.requires.may c.requires.time)
-
-pub returns-clause-planned : goal.returns-clause-planned
-returns-clause-planned g c = owner_then c.args.seat.now.me.0 c.store.ensures.2.1 c.requires.time

@@ -1,10 +1,6 @@
 use Rattle.std.proofs.Common.{ℕ, get_or, sym, ap, ◌∙◌, subst}
-use Rattle.epoch_core.specs.declared.state.OwnerState.{OwnerState}
-use Rattle.epoch_core.specs.OwnerState.{epoch_in}
-use Rattle.epoch_core.specs.Script.{owner_found}
 use Rattle.epoch_core.specs.ReaderKept.{Tells}
 use Rattle.epoch_core.proofs.LoadKeeps.{tells}
-use Rattle.epoch_core.proofs.ScriptKeeps.{ends_at}
 use Rattle.epoch_core.proofs.scripted.ScriptedReaderWords.last_epoch.Goals as goal
 
 pub returns-clause-tells : goal.returns-clause-tells
@@ -15,11 +11,3 @@ returns-clause-tells c =
     let e = c.load.ensures in
     let found = e.value ∙ ap (λ (z : ℕ). get_or owner.words z 0) c.place-place.ensures in
     subst (λ (z : ℕ). Tells z reader) (sym found) (tells owner e.owner reader e.reader self.bucket (λ t is. (self.tries t is).0))
-
-pub returns-clause-planned : goal.returns-clause-planned
-returns-clause-planned c =
-    let self = c.args.self.now in
-    let owner = c.load.new.self.stage.seat.me.0.owner in
-    let e = c.load.ensures in
-    let found = e.value ∙ ap (λ (z : ℕ). get_or owner.words z 0) c.place-place.ensures in
-    ends_at (owner_found self.stage.seat.me.0.plan self.stage.seat.me.0.reader) self.stage.seat.me.0.reader.current _ self.bucket (found ∙ ap (λ (z : OwnerState). epoch_in z self.bucket) e.planned) (λ t is. (self.tries t is).0)
