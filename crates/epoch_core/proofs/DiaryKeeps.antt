@@ -39,21 +39,25 @@ diary_fits e d f a =
       | false ↦ λ is. record { owner = now; kept = f.kept; whole = λ less. absurd (let full = ltb-false (length d.kept) d.room is in omega arith) }
     ] refl
 
-module _ (slots id : ℕ) (me : Me (Unit {0}) Diary) where
-  all_fit : (vs : List Diary) (now : Diary) → DiaryFits now → ((j : ℕ) (d : Diary) → get_elem? vs j ≡ some d → DiaryFits d)
-      → (j : ℕ) (d : Diary) → get_elem? (set vs id now) j ≡ some d → DiaryFits d
-  all_fit vs now fit all j d at = ⊎_elim (λ (t : (j ≡ id) × (now ≡ d)). subst DiaryFits t.1 fit) (λ t. all j d t.1) (at_set vs id j now d at)
+-- what each view has, each has once one is changed
+pub set_fit : {V : Type 0} (P : V → Type 0) (views : List V) (id : ℕ) (now : V) → P now → ((j : ℕ) (v : V) → get_elem? views j ≡ some v → P v)
+    → (j : ℕ) (v : V) → get_elem? (set views id now) j ≡ some v → P v
+set_fit {V} P views id now fit all j v at = ⊎_elim (λ (t : (j ≡ id) × (now ≡ v)). subst P t.1 fit) (λ t. all j v t.1) (at_set views id j now v at)
 
+pub one_fits : {V : Type 0} (P : V → Type 0) (view : V) → P view → (j : ℕ) (v : V) → get_elem? (view ∷ []) j ≡ some v → P v
+one_fits P view fit zero v at = subst P (some-injective _ _ at) fit
+one_fits P view fit (suc j) v at = absurd (cc at)
+
+module _ (slots id : ℕ) (me : Me (Unit {0}) Diary) where
   pub knows_at : (i : ℕ) → Allows AllFit slots id me i (λ n. n) (knows (step slots i 0 0 none) me)
-  knows_at i s all _ at _ = let f = all id me.0 at in (me.0, keeps, tt, all_fit s.views me.0 f all, (refl, f))
+  knows_at i s all _ at _ = let f = all id me.0 at in (me.0, keeps, tt, set_fit DiaryFits s.views id me.0 f all, (refl, f))
 
   pub happens_at : (e : Event) (i n : ℕ) → IsAllowed e me.0.owner → Allows AllFit slots id me i (λ _. n) (λ _. happened e (step slots i n 0 none) me n)
   happens_at e i n allowed s all _ at _ =
       let f = all id me.0 at in
       let now : Diary = diary_after e me.0 in
-      (now, keeps, tt, all_fit s.views now (diary_fits e me.0 f allowed) all, (refl, f.owner, kept_after me.0.owner f.owner e allowed))
+      (now, keeps, tt, set_fit DiaryFits s.views id now (diary_fits e me.0 f allowed) all, (refl, f.owner, kept_after me.0.owner f.owner e allowed))
 
 pub starts : (blank : Blank) (words : List ℕ) → IsValidShape blank.shape → AllFit (opening words [] (blank_diary blank))
-starts blank words valid zero d at =
-    subst DiaryFits (some-injective _ _ at) record { owner = kept_as_made blank.shape valid; kept = tt; whole = λ less. refl }
-starts blank words valid (suc j) d at = absurd (cc at)
+starts blank words valid =
+    one_fits DiaryFits (blank_diary blank) record { owner = kept_as_made blank.shape valid; kept = tt; whole = λ less. refl }

@@ -1,6 +1,5 @@
 -- What each event makes of the words by their meaning.
 use Rattle.std.proofs.Common.{◌≡◌, ℕ, ◌<◌, ◌≢◌, ◌⊎◌, inl, inr, length, get_or, sym, arith, get_or-set_other, get_or-set_same}
-use Rattle.std.proofs.Math.Nat.{mod-lt}
 use Rattle.mica_model.specs.declared.write.Write.{Write}
 use Rattle.epoch_core.specs.declared.state.OwnerState.{OwnerState}
 use Rattle.epoch_core.specs.declared.event.Event.{Event}
@@ -24,12 +23,6 @@ module _ (o : OwnerState) (wide : length o.words ≡ word_count o.shape) where
 
   pub stamp_marks : (write : Write) (n : ℕ) → stamp_in (after (Marks write n) o) ≡ n
   stamp_marks write n = here o (Marks write n) (omega arith)
-
-  pub stamp_begins : (b : ℕ) → stamp_in (after (Begins b) o) ≡ stamp_in o
-  stamp_begins b = other o (Begins b) stamp_at (λ is. omega arith)
-
-  pub stamp_puts_word : (p x : ℕ) → stamp_in (after (PutsWord p x) o) ≡ stamp_in o
-  stamp_puts_word p x = other o (PutsWord p x) stamp_at (λ is. omega arith)
 
   pub stamp_puts_entry : (c slot x : ℕ) → stamp_in (after (PutsEntry c slot x) o) ≡ stamp_in o
   stamp_puts_entry c slot x = other o (PutsEntry c slot x) stamp_at (λ is. omega arith)
@@ -90,9 +83,6 @@ module _ (o : OwnerState) (wide : length o.words ≡ word_count o.shape) where
 
   pub item_marks : (write : Write) (n p : ℕ) → item_in (after (Marks write n) o) p ≡ item_in o p
   item_marks write n p = other o (Marks write n) (item_at o.shape p) (λ is. omega arith)
-
-  pub item_puts : (p x : ℕ) → 0 < o.shape.words → item_in (after (PutsWord p x) o) p ≡ x
-  item_puts p x some = let less = mod-lt p some in here o (PutsWord p x) (omega arith)
 
   pub item_puts_other : (p x q : ℕ) → item_at o.shape q ≢ item_at o.shape p → item_in (after (PutsWord p x) o) q ≡ item_in o q
   item_puts_other p x q n = other o (PutsWord p x) (item_at o.shape q) n

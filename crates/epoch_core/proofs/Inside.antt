@@ -1,28 +1,19 @@
 -- The words that events change are there, and an epoch never comes to its type's end.
-use Rattle.std.proofs.Common.{◌≡◌, ℕ, ◌+◌, ◌%◌, ◌^◌, ◌<◌, ◌≤◌, List, length, get_or, refl, ap, ◌∙◌, arith, nat_eq}
+use Rattle.std.proofs.Common.{◌≡◌, ℕ, ◌+◌, ◌%◌, ◌^◌, ◌<◌, List, length, get_or, refl, ap, ◌∙◌, arith, nat_eq}
 use Rattle.std.proofs.Math.Nat.{mod-lt}
 use Rattle.std.proofs.lemmas.List.{get_or_read}
 use Rattle.std.proofs.lemmas.List.Sums.{count_by-le-length}
 use Rattle.mica_words.specs.Hash.{bucket_of}
 use Rattle.mica_model.specs.declared.write.Write.{Write}
 use Rattle.epoch_core.specs.declared.state.OwnerState.{OwnerState}
-use Rattle.epoch_core.specs.declared.state.Phase.{Phase}
-use Rattle.epoch_core.specs.declared.state.Phase.TheVariants.{Idle, Begun, Marked}
-use Rattle.epoch_core.specs.declared.shape.WordAt.{WordAt}
-use Rattle.epoch_core.specs.declared.shape.WordAt.TheVariants.{Stamp, Epoch, Entry, Link, Item}
 use Rattle.epoch_core.specs.declared.event.Event.{Event}
-use Rattle.epoch_core.specs.declared.event.Event.TheVariants.{Begins, Marks, PutsWord, PutsEntry, PutsLink, Ends}
+use Rattle.epoch_core.specs.declared.event.Event.TheVariants.{PutsEntry, PutsLink, Ends}
 use Rattle.epoch_core.specs.Shape.{IsMain}
-use Rattle.epoch_core.specs.Layout.{epoch_at, place_at, IsInside}
-use Rattle.epoch_core.specs.OwnerState.{epoch_in, begun_in}
+use Rattle.epoch_core.specs.Layout.{epoch_at}
+use Rattle.epoch_core.specs.OwnerState.{epoch_in}
 use Rattle.epoch_core.specs.Events.{IsAllowed, place_of}
 use Rattle.epoch_core.specs.Kept.{Kept}
-use Rattle.epoch_core.proofs.Marked.{bit_le, ends_main, its_inside}
-
-begun_le : (phase : Phase) (b : ℕ) → begun_in phase b ≤ 1
-begun_le Idle b = omega arith
-begun_le (Begun c) b = bit_le c b
-begun_le (Marked c write before) b = omega arith
+use Rattle.epoch_core.proofs.Marked.{begun_le, ends_main, its_inside}
 
 module _ (o : OwnerState) (s : Kept o) where
   pub some_words : 0 < o.shape.words
@@ -31,21 +22,12 @@ module _ (o : OwnerState) (s : Kept o) where
   item_inside : (p : ℕ) → p % o.shape.words < o.shape.words
   item_inside p = mod-lt p some_words
 
-  pub word_inside : (at : WordAt) → IsInside o.shape at → place_at o.shape at < length o.words
-  word_inside Stamp is = let wide = s.wide in omega arith
-  word_inside (Epoch b) is = let wide = s.wide in omega arith
-  word_inside (Entry c slot) is = let wide = s.wide in let bucket = is.0 in let small = is.1 in omega arith
-  word_inside (Link c) is = let wide = s.wide in omega arith
-  word_inside (Item p) is = let wide = s.wide in let less = item_inside p in omega arith
-
   pub event_inside : (e : Event) → IsAllowed e o → place_of o.shape e < length o.words
-  event_inside (Begins b) a = let wide = s.wide in let main = a.main in omega arith
-  event_inside (Marks write n) a = let wide = s.wide in omega arith
-  event_inside (PutsWord p x) a = let wide = s.wide in let less = item_inside p in omega arith
   event_inside (PutsEntry c slot entry) a =
       let wide = s.wide in let bucket = its_inside o s o.phase refl c a.its_bucket in let small = a.in_bucket in omega arith
   event_inside (PutsLink c next) a = let wide = s.wide in let bucket = its_inside o s o.phase refl c a.its_bucket in omega arith
   event_inside (Ends b) a = let wide = s.wide in let main = ends_main o s o.phase refl b a.marked in omega arith
+  event_inside e a = let wide = s.wide in omega (arith, item_inside)
 
   -- an epoch is at most twice the wear and one
   pub epoch_small : (b : ℕ) → IsMain o.shape b → epoch_in o b + 1 < 2 ^ 64

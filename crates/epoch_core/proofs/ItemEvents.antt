@@ -1,57 +1,77 @@
 -- The words of an item put in four parts: its header, its hash, its key and its value.
-use Rattle.std.proofs.Common.{◌≡◌, ℕ, ◌+◌, List, ◌++◌, length, sym, ap, ◌∙◌, subst, arith}
+use Rattle.std.proofs.Common.{◌≡◌, ℕ, zero, suc, ◌+◌, ◌<◌, List, [], ◌∷◌, ◌++◌, length, get_or, refl, sym, ap, ◌∙◌, subst, arith}
+use Rattle.std.proofs.lemmas.List.{set-get_or}
 use Rattle.mica_words.specs.Hash.{fnv1a}
 use Rattle.mica_words.specs.Header.{header_of}
-use Rattle.mica_words.specs.Item.{words_for}
+use Rattle.mica_words.specs.Item.{KeyFits}
 use Rattle.mica_words.specs.Packing.{packed}
 use Rattle.mica_words.specs.Spelling.{item_words}
 use Rattle.mica_words.proofs.PackedBytes.{length-packed}
 use Rattle.epoch_core.specs.declared.state.OwnerState.{OwnerState}
 use Rattle.epoch_core.specs.declared.event.Event.TheVariants.{PutsWord}
+use Rattle.epoch_core.specs.ItemAt.{HasKeyWords}
+use Rattle.epoch_core.specs.Layout.{item_at}
+use Rattle.epoch_core.specs.OwnerState.{item_in}
 use Rattle.epoch_core.specs.Events.{MayPutWord, after, CanPlay, plays, puts_from, item_events}
+use Rattle.epoch_core.specs.Kept.{Kept}
+use Rattle.epoch_core.proofs.EventWords.{item_puts_other}
+use Rattle.epoch_core.proofs.Log.{not_below}
 use Rattle.epoch_core.proofs.Puts.{can_play-append, plays-append}
 
-module _ (o : OwnerState) (p room : ℕ) (key value : List ℕ) (can : CanPlay (item_events p room key value) o) where
-  pub header_can : MayPutWord o p
+-- the state once the header is put, once the hash is too, and once the key is too
+
+abbrev pub headed : OwnerState → ℕ → ℕ → List ℕ → List ℕ → OwnerState
+headed o p room key value = after (PutsWord p (header_of room (length key) (length value))) o
+
+abbrev pub hashed : OwnerState → ℕ → ℕ → List ℕ → List ℕ → OwnerState
+hashed o p room key value = after (PutsWord (p + 1) (fnv1a key)) (headed o p room key value)
+
+abbrev pub keyed : OwnerState → ℕ → ℕ → List ℕ → List ℕ → OwnerState
+keyed o p room key value = plays (puts_from (p + 2) (packed key)) (hashed o p room key value)
+
+-- each part may be put where the whole may
+pub record CanPut (o : OwnerState) (p room : ℕ) (key value : List ℕ) : Type 0 where
+  pub header : MayPutWord o p
+  pub hash : MayPutWord (headed o p room key value) (p + 1)
+  pub key_words : CanPlay (puts_from (p + 2) (packed key)) (hashed o p room key value)
+  pub value_words : CanPlay (puts_from (p + 2 + length (packed key)) (packed value)) (keyed o p room key value)
+
+-- words that are there already change nothing
+there_already : (o : OwnerState) (p : ℕ) (xs : List ℕ) → ((i : ℕ) → i < length xs → item_in o (p + i) ≡ get_or xs i 0) → plays (puts_from p xs) o ≡ o
+there_already o p [] same = refl
+there_already o p (x ∷ xs) same =
+    let first : x ≡ item_in o p = sym (same 0 (omega arith)) ∙ ap (item_in o) (omega arith) in
+    let stays : after (PutsWord p x) o ≡ o =
+    ap (λ (z : ℕ). after (PutsWord p z) o) first
+    ∙ ap (λ (z : List ℕ). record o { words = z }) (set-get_or o.words (item_at o.shape p) 0) in
+    ap (plays (puts_from (p + 1) xs)) stays
+    ∙ there_already o (p + 1) xs (λ i l. ap (item_in o) (omega arith) ∙ same (suc i) (omega arith))
+
+module _ (o : OwnerState) (p room : ℕ) (key value : List ℕ) where
+  pub can_put_parts : CanPlay (item_events p room key value) o → CanPut o p room key value
   unfolding item_words
-  header_can = can.0
+  can_put_parts can =
+      let after_hash : OwnerState = hashed o p room key value in
+      let rest = can_play-append after_hash (p + 2) (packed key) (packed value)
+      (subst (λ (z : ℕ). CanPlay (puts_from z (packed key ++ packed value)) after_hash) (omega arith) can.1.1) in
+      record { header = can.0; hash = can.1.0; key_words = rest.0; value_words = rest.1 }
 
-  module _ (header : ℕ) (header_is : header ≡ header_of room (length key) (length value)) (o1 : OwnerState) (one : o1 ≡ after (PutsWord p header) o) where
-    one_is : o1 ≡ after (PutsWord p (header_of room (length key) (length value))) o
-    one_is = one ∙ ap (λ (z : ℕ). after (PutsWord p z) o) header_is
+  pub all_put : plays (puts_from (p + 2 + length (packed key)) (packed value)) (keyed o p room key value) ≡ plays (item_events p room key value) o
+  unfolding item_words
+  all_put =
+      sym (plays-append (hashed o p room key value) (p + 2) (packed key) (packed value))
+      ∙ ap (λ (z : ℕ). plays (puts_from z (packed key ++ packed value)) (hashed o p room key value)) (omega arith)
 
-    pub hash_can : MayPutWord o1 (p + 1)
-    unfolding item_words
-    hash_can = subst (λ (z : OwnerState). MayPutWord z (p + 1)) (sym one_is) can.1.0
-
-    module _ (hash : ℕ) (hash_is : hash ≡ fnv1a key) (o2 : OwnerState) (two : o2 ≡ after (PutsWord (p + 1) hash) o1) where
-      two_is : o2 ≡ after (PutsWord (p + 1) (fnv1a key)) (after (PutsWord p (header_of room (length key) (length value))) o)
-      two_is = two ∙ (λ j. after (PutsWord (p + 1) (hash_is j)) (one_is j))
-
-      rest_can : CanPlay (puts_from (p + 2) (packed key ++ packed value)) o2
-      unfolding item_words
-      rest_can =
-          subst (λ (z : OwnerState). CanPlay (puts_from (p + 2) (packed key ++ packed value)) z) (sym two_is)
-          (subst (λ (z : ℕ). CanPlay (puts_from z (packed key ++ packed value)) (after (PutsWord (p + 1) (fnv1a key)) (after (PutsWord p (header_of room (length key) (length value))) o))) (omega arith) can.1.1)
-
-      pub key_can : CanPlay (puts_from (p + 2) (packed key)) o2
-      key_can = (can_play-append o2 (p + 2) (packed key) (packed value) rest_can).0
-
-      module _ (o3 : OwnerState) (three : o3 ≡ plays (puts_from (p + 2) (packed key)) o2) (size : ℕ) (size_is : size ≡ 2 + words_for (length key) + words_for 0) where
-        place : p + 2 + length (packed key) ≡ p + size
-        place = omega (arith, length-packed key)
-
-        pub value_can : CanPlay (puts_from (p + size) (packed value)) o3
-        value_can =
-            subst (λ (z : ℕ). CanPlay (puts_from z (packed value)) o3) place
-            (subst (λ (z : OwnerState). CanPlay (puts_from (p + 2 + length (packed key)) (packed value)) z) (sym three)
-            (can_play-append o2 (p + 2) (packed key) (packed value) rest_can).1)
-
-        pub all_put : plays (puts_from (p + size) (packed value)) o3 ≡ plays (item_events p room key value) o
-        unfolding item_words
-        all_put =
-            ap (λ (z : ℕ). plays (puts_from z (packed value)) o3) (sym place)
-            ∙ (ap (plays (puts_from (p + 2 + length (packed key)) (packed value))) three
-            ∙ (sym (plays-append o2 (p + 2) (packed key) (packed value))
-            ∙ (ap (plays (puts_from (p + 2) (packed key ++ packed value))) two_is
-            ∙ ap (λ (z : ℕ). plays (puts_from z (packed key ++ packed value)) (after (PutsWord (p + 1) (fnv1a key)) (after (PutsWord p (header_of room (length key) (length value))) o))) (omega arith))))
+  -- where the hash and the key are there, the header and the value are all that has to be put
+  pub key_stays : Kept o → KeyFits key → HasKeyWords o p key → keyed o p room key value ≡ headed o p room key value
+  key_stays s fits there =
+      ap (λ (z : ℕ). plays (puts_from z (packed key)) (hashed o p room key value)) (omega arith)
+      ∙ there_already (headed o p room key value) (p + 1) (fnv1a key ∷ packed key) (λ i l.
+      let wide = length-packed key in
+      let short = fits.1 in
+      let many = s.shape.ranges.words.0 in
+      item_puts_other o s.wide p _ (p + 1 + i) (λ same. not_below o.shape.words p (p + 1 + i) (omega arith) (omega arith) (omega arith)) ∙ is_there i l)
+    where
+      is_there : (i : ℕ) → i < length (fnv1a key ∷ packed key) → item_in o (p + 1 + i) ≡ get_or (fnv1a key ∷ packed key) i 0
+      is_there zero l = ap (item_in o) (omega arith) ∙ there.hash
+      is_there (suc i) l = ap (item_in o) (omega arith) ∙ there.words i (omega (arith, length-packed key))

@@ -1,63 +1,63 @@
 -- Splits and joins keep what is kept of owners and readers.
-use Rattle.std.proofs.Common.{◌≡◌, ℕ, ◌+◌, ◌*◌, ◌≤◌, inl, inr, [], ◌∷◌, refl, sym, ap, ◌∙◌, subst, arith}
+use Rattle.std.proofs.Common.{◌≡◌, ℕ, ◌+◌, ◌*◌, ◌≤◌, [], ◌∷◌, refl, sym, ap, ◌∙◌, arith}
 use Rattle.mica_words.specs.Hash.{bucket_of}
 use Rattle.std.specs.Prelude.{nat_eq}
 use Rattle.mica_model.specs.declared.write.Write.{Write}
 use Rattle.mica_model.specs.History.{History, IsPrefix, writes_to_bucket}
+use Rattle.std.proofs.lemmas.List.Elements.{All-contains, All-from_recursion}
+use Rattle.epoch_core.specs.declared.shape.Shape.{Shape}
 use Rattle.epoch_core.specs.declared.state.OwnerState.{OwnerState}
 use Rattle.epoch_core.specs.declared.state.Met.{Met}
 use Rattle.epoch_core.specs.declared.state.Phase.{Phase}
-use Rattle.epoch_core.specs.declared.state.Phase.TheVariants.{Idle, Begun, Marked}
+use Rattle.epoch_core.specs.declared.state.Phase.TheVariants.{Marked}
 use Rattle.epoch_core.specs.declared.reader.Known.{Known}
 use Rattle.epoch_core.specs.declared.reader.ReaderState.{ReaderState}
 use Rattle.epoch_core.specs.OwnerState.{epoch_in, options_in, bucket_in, writes_in, begun_in, marked_in}
+use Rattle.epoch_core.specs.Shape.{IsMain}
 use Rattle.epoch_core.specs.Kept.{PhaseFits, Kept}
+use Rattle.epoch_core.specs.ReaderState.{newcomer}
 use Rattle.epoch_core.specs.Grows.{Grows}
-use Rattle.epoch_core.specs.ReaderKept.{MetKept, ReaderKept}
+use Rattle.epoch_core.specs.ReaderKept.{ReaderKept}
 use Rattle.epoch_core.specs.Joins.{ended_in, lent, note_of, met_by, longer, known, told}
 use Rattle.epoch_core.proofs.Prefixes.{prefix_same, prefix_then, longer_as, longer_both}
-use Rattle.epoch_core.proofs.Failing.{in_cons, in_none, fails_both}
+use Rattle.epoch_core.proofs.Failing.{in_none, fails_both}
 use Rattle.epoch_core.proofs.Keeps.{count_more}
 use Rattle.epoch_core.proofs.Marked.{bit, bit_le}
 use Rattle.epoch_core.proofs.Meeting.{met_grows, met_kept}
 
 ended_begins : (o : OwnerState) (phase : Phase) → PhaseFits o phase → IsPrefix (ended_in phase o.history) o.history
-ended_begins o Idle fits = prefix_same o.history
-ended_begins o (Begun b) fits = prefix_same o.history
 ended_begins o (Marked b write before) fits = (write ∷ [], fits.1)
+ended_begins o phase fits = prefix_same o.history
 
 ended_below : (o : OwnerState) (phase : Phase) → PhaseFits o phase → (b : ℕ) → epoch_in o b + marked_in phase b ≡ 2 * writes_in o b + begun_in phase b
     → 2 * writes_to_bucket (options_in o) (ended_in phase o.history) b ≤ epoch_in o b
-ended_below o Idle fits b e = omega arith
-ended_below o (Begun c) fits b e = omega arith
 ended_below o (Marked c write before) fits b e =
     let more = ap (λ (z : History). writes_to_bucket (options_in o) z b) fits.1
     ∙ count_more (λ (w : Write). nat_eq (bucket_of w.key o.shape.buckets) b) before write in
     let same : bit (bucket_in o write.key) b ≡ bit c b = ap (λ (z : ℕ). bit z b) (sym fits.0) in
     let one = bit_le c b in
     omega arith
+ended_below o phase fits b e = omega arith
+
+-- one that has loaded nothing
+fresh : (o : OwnerState) (shape : Shape) (seen done : History) → shape ≡ o.shape → IsPrefix seen o.history → IsPrefix done seen
+    → ((b : ℕ) → IsMain o.shape b → 2 * writes_to_bucket (options_in o) done b ≤ epoch_in o b) → ReaderKept o (newcomer shape seen done)
+fresh o shape seen done same begins ended_first ended = record {
+  shape = same;
+  seen = begins;
+  done = ended_first;
+  met = λ m has. absurd (in_none m has);
+  ended = ended;
+  fails = λ f has. absurd (in_none f has);
+  current = tt;
+}
 
 pub lends : (o : OwnerState) → Kept o → ReaderKept o (lent o)
-lends o s = record {
-  shape = refl;
-  seen = prefix_same o.history;
-  done = ended_begins o o.phase s.phase;
-  met = λ m has. absurd (in_none m has);
-  ended = λ b main. ended_below o o.phase s.phase b (s.epochs b main);
-  fails = λ f has. absurd (in_none f has);
-  current = tt;
-}
+lends o s = fresh o o.shape o.history (ended_in o.phase o.history) refl (prefix_same o.history) (ended_begins o o.phase s.phase)
+    (λ b main. ended_below o o.phase s.phase b (s.epochs b main))
 
 pub notes : (o : OwnerState) (r : ReaderState) → ReaderKept o r → ReaderKept o (note_of r)
-notes o r k = record {
-  shape = k.shape;
-  seen = k.seen;
-  done = k.done;
-  met = λ m has. absurd (in_none m has);
-  ended = k.ended;
-  fails = λ f has. absurd (in_none f has);
-  current = tt;
-}
+notes o r k = fresh o r.shape r.seen r.done k.shape k.seen k.done k.ended
 
 -- an owner takes in what a seat knows
 
@@ -72,33 +72,22 @@ meets o r s k = met_kept o (met_of r) (o.closed + r.closed) s k.seen k.fails
 
 -- a reader takes in what a note knows
 
-abbrev Knows : History → History → Known → Type 0
-Knows seen done m = IsPrefix m.seen seen × IsPrefix m.done done
-
 pub tells_of : (o : OwnerState) (r note : ReaderState) → ReaderKept o r → ReaderKept o note → ReaderKept o (told r note)
 tells_of o r note k k' =
     let first = prefix_then r.done r.seen o.history k.done k.seen in
     let second = prefix_then note.done note.seen o.history k'.done k'.seen in
     let seens = longer_both o.history r.seen note.seen k.seen k'.seen in
     let dones = longer_both o.history r.done note.done first second in
-    let seen : History = longer r.seen note.seen in record {
+    let seen : History = longer r.seen note.seen in
+    let knows : Known → Type 0 = λ m. IsPrefix m.seen seen × IsPrefix m.done (longer r.done note.done) in record {
       shape = k.shape;
       seen = seens.0;
       done = longer_as (λ (z : History). IsPrefix z seen) o.history r.done note.done first second
           (λ _. prefix_then r.done r.seen seen k.done seens.1) (λ _. prefix_then note.done note.seen seen k'.done seens.2);
-      met = both_met seens dones;
+      met = λ m has. All-contains knows (known r ∷ known note ∷ []) m
+          (All-from_recursion knows (known r ∷ known note ∷ []) ((seens.1, dones.1), ((seens.2, dones.2), tt))) has;
       ended = λ b main. longer_as (λ (z : History). 2 * writes_to_bucket (options_in o) z b ≤ epoch_in o b) o.history r.done note.done first second
           (λ _. k.ended b main) (λ _. k'.ended b main);
       fails = fails_both o r.fails note.fails k.fails k'.fails;
       current = tt;
     }
-  where
-    both_met : IsPrefix (longer r.seen note.seen) o.history × IsPrefix r.seen (longer r.seen note.seen) × IsPrefix note.seen (longer r.seen note.seen)
-        → IsPrefix (longer r.done note.done) o.history × IsPrefix r.done (longer r.done note.done) × IsPrefix note.done (longer r.done note.done) → MetKept (told r note)
-    both_met seens dones m has = elim (in_cons (known r) m (known note ∷ []) has) [
-      | inl is ↦ subst (Knows (longer r.seen note.seen) (longer r.done note.done)) is (seens.1, dones.1)
-      | inr rest ↦ elim (in_cons (known note) m [] rest) [
-        | inl is ↦ subst (Knows (longer r.seen note.seen) (longer r.done note.done)) is (seens.2, dones.2)
-        | inr none ↦ absurd (in_none m none)
-      ]
-    ]

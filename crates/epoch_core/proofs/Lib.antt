@@ -14,7 +14,6 @@ pub mod Inside
 pub mod DiaryKeeps
 pub mod Puts
 pub mod ItemEvents
-pub mod Rewriting
 pub mod SameMachine
 pub mod Keys
 pub mod EventWords

@@ -1,8 +1,7 @@
 -- Each load of a reader keeps what is kept of it.
 use Rattle.std.specs.Prelude.{IfSome}
-use Rattle.std.proofs.Common.{◌≡◌, ℕ, ◌*◌, ◌%◌, ◌≤◌, Bool, List, [], ◌∷◌, ◌++◌, inl, inr, get_or, refl, sym, ap, ◌∙◌, subst, arith, le_refl, eq-eqb, ne_eqb, Option, Some, None, if◌then◌else◌}
-use mathlib.Core.Logic.{dite}
-use native.Mathlib.Decide.{ℕ_discrete}
+use Rattle.std.proofs.Common.{◌≡◌, ℕ, ◌*◌, ◌%◌, ◌≤◌, Bool, List, [], ◌∷◌, ◌++◌, inl, inr, get_or, refl, sym, ap, ◌∙◌, subst, arith, le_refl, Option, Some, None, if◌then◌else◌}
+use Rattle.std.proofs.lemmas.List.Elements.{Contains-push_cases}
 use Rattle.mica_model.specs.History.{writes_to_bucket}
 use Rattle.epoch_core.specs.declared.shape.Shape.{Shape}
 use Rattle.epoch_core.specs.declared.state.Failure.{Failure}
@@ -17,8 +16,8 @@ use Rattle.epoch_core.specs.Failures.{failure, FailsFit}
 use Rattle.epoch_core.specs.ReaderState.{new_try, opened, with_load, loaded, with_cut, stamped, fails_after, shut}
 use Rattle.epoch_core.specs.ReaderKept.{IsSpelt, CutKept, TryKept, ReaderKept, TellsTry, Tells}
 use Rattle.epoch_core.proofs.Prefixes.{prefix_same, prefix_then}
-use Rattle.epoch_core.proofs.Failing.{in_cons, in_none, in_both, fails_more}
-use Rattle.epoch_core.proofs.Marked.{calm}
+use Rattle.epoch_core.proofs.Failing.{in_none, fails_more}
+use Rattle.epoch_core.proofs.Marked.{tested, calm}
 use Rattle.epoch_core.proofs.Spelling.{spells}
 
 module _ (o : OwnerState) (s : Kept o) (r : ReaderState) (k : ReaderKept o r) where
@@ -28,27 +27,24 @@ module _ (o : OwnerState) (s : Kept o) (r : ReaderState) (k : ReaderKept o r) wh
       subst (λ (z : Shape). 2 * writes_to_bucket (options_of z) r.done b ≤ epoch_in o b) (sym k.shape)
       (k.ended b (subst (λ (z : Shape). IsMain z b) k.shape main))
 
+  -- a load leaves what was seen
+  loaded_keeps : (loads tried closed : ℕ) (fails : List Failure) (current : Option Try) → FailsFit o fails → IfSome current (TryKept o)
+      → ReaderKept o (record r { loads = loads; tried = tried; fails = fails; closed = closed; current = current })
+  loaded_keeps loads tried closed fails current fit kept =
+      record { shape = k.shape; seen = k.seen; done = k.done; met = k.met; ended = k.ended; fails = fit; current = kept }
+
   -- the first epoch
 
   pub opens : (b : ℕ) → IsMain r.shape b → ReaderKept o (opened b (epoch_in o b) r)
   opens b l =
       let n : ℕ = epoch_in o b in
       let main : IsMain o.shape b = subst (λ (z : Shape). IsMain z b) k.shape l in
-      let more : List Failure = r.fails ++ failure b n n ∷ [] in record {
-        shape = k.shape;
-        seen = k.seen;
-        done = k.done;
-        met = k.met;
-        ended = k.ended;
-        fails = dite (ℕ_discrete (n % 2) 0)
-            (λ even. subst (λ (z : Bool). FailsFit o (if z then r.fails else more)) (sym (eq-eqb (n % 2) 0 even)) k.fails)
-            (λ odd. subst (λ (z : Bool). FailsFit o (if z then r.fails else more)) (sym (ne_eqb (n % 2) 0 odd))
-            (fails_more o r.fails (failure b n n) k.fails (main, le_refl n, (le_refl n, inl (omega arith)))));
-        current = dite (ℕ_discrete (n % 2) 0)
-            (λ even. subst (λ (z : Bool). IfSome (if z then Some (new_try b n) else None) (TryKept o)) (sym (eq-eqb (n % 2) 0 even))
-            record { main = main; even = even; first = le_refl n; loads = λ _ place x has. absurd (in_none (place, x) has); at = tt })
-            (λ odd. subst (λ (z : Bool). IfSome (if z then Some (new_try b n) else None) (TryKept o)) (sym (ne_eqb (n % 2) 0 odd)) tt);
-      }
+      let more : List Failure = r.fails ++ failure b n n ∷ [] in
+      loaded_keeps _ _ _ _ _
+      (tested (λ (z : Bool). FailsFit o (if z then r.fails else more)) (n % 2) 0 (λ even. k.fails)
+      (λ odd. fails_more o r.fails (failure b n n) k.fails (main, le_refl n, (le_refl n, inl (omega arith)))))
+      (tested (λ (z : Bool). IfSome (if z then Some (new_try b n) else None) (TryKept o)) (n % 2) 0
+      (λ even. record { main = main; even = even; first = le_refl n; loads = λ _ place x has. absurd (in_none (place, x) has); at = tt }) (λ odd. tt))
 
   -- an entry, a link or an item word
 
@@ -58,30 +54,19 @@ module _ (o : OwnerState) (s : Kept o) (r : ReaderState) (k : ReaderKept o r) wh
     main = g.main;
     even = g.even;
     first = g.first;
-    loads = λ is at x has reached. elim (in_both t.loads ((place, get_or o.words place 0) ∷ []) (at, x) has) [
+    loads = λ is at x has reached. elim (Contains-push_cases t.loads (place, get_or o.words place 0) (at, x) has) [
       | inl old ↦ g.loads is at x old reached
-      | inr new ↦ elim (in_cons (place, get_or o.words place 0) (at, x) [] new) [
-        | inl same ↦ ap (λ (z : ℕ). get_or o.words z 0) (sym (ap (λ (z : ℕ × ℕ). z.0) same)) ∙ ap (λ (z : ℕ × ℕ). z.1) same
-        | inr none ↦ absurd (in_none (at, x) none)
-      ]
+      | inr same ↦ ap (λ (z : ℕ × ℕ). get_or o.words z.0 0) (sym same) ∙ ap (λ (z : ℕ × ℕ). z.1) same
     ];
     at = cut_same t.at g.at;
   }
     where
       cut_same : (at : Option Cut) → IfSome at (CutKept o t) → IfSome at (CutKept o (record t { loads = t.loads ++ (place, get_or o.words place 0) ∷ [] }))
       cut_same None c = tt
-      cut_same (Some at) c = record { seen = c.seen; spelt = c.spelt }
+      cut_same (Some at) c = assumption
 
   pub loads : (place : ℕ) → ReaderKept o (loaded place (get_or o.words place 0) r)
-  loads place = record {
-    shape = k.shape;
-    seen = k.seen;
-    done = k.done;
-    met = k.met;
-    ended = k.ended;
-    fails = k.fails;
-    current = load_current place r.current k.current;
-  }
+  loads place = loaded_keeps _ _ _ _ _ k.fails (load_current place r.current k.current)
 
   -- the stamp
 
@@ -118,24 +103,14 @@ module _ (o : OwnerState) (s : Kept o) (r : ReaderState) (k : ReaderKept o r) wh
   shut_fails None b g is = k.fails
   shut_fails (Some t) b g is =
       let n : ℕ = epoch_in o b in
-      let here : t.bucket ≡ b = is t refl in
-      let same = ap (epoch_in o) here in
+      let same = ap (epoch_in o) (is t refl) in
       let first = g.first in
-      let more : List Failure = r.fails ++ failure t.bucket t.first n ∷ [] in dite (ℕ_discrete n t.first)
-      (λ still. subst (λ (z : Bool). FailsFit o (if z then r.fails else more)) (sym (eq-eqb n t.first still)) k.fails)
-      (λ moved. subst (λ (z : Bool). FailsFit o (if z then r.fails else more)) (sym (ne_eqb n t.first moved))
-      (fails_more o r.fails (failure t.bucket t.first n) k.fails (g.main, omega arith, (omega arith, inr (omega arith)))))
+      let more : List Failure = r.fails ++ failure t.bucket t.first n ∷ [] in
+      tested (λ (z : Bool). FailsFit o (if z then r.fails else more)) n t.first (λ still. k.fails)
+      (λ moved. fails_more o r.fails (failure t.bucket t.first n) k.fails (g.main, omega arith, (omega arith, inr (omega arith))))
 
   pub shuts : (b : ℕ) → ((t : Try) → r.current ≡ Some t → t.bucket ≡ b) → ReaderKept o (shut (epoch_in o b) r)
-  shuts b is = record {
-    shape = k.shape;
-    seen = k.seen;
-    done = k.done;
-    met = k.met;
-    ended = k.ended;
-    fails = shut_fails r.current b k.current is;
-    current = tt;
-  }
+  shuts b is = loaded_keeps _ _ _ _ _ (shut_fails r.current b k.current is) tt
 
   -- and what it tells
 

@@ -1,10 +1,9 @@
 -- The bucket whose write is marked, and the buckets that its write may change.
-use Rattle.std.proofs.Common.{◌≡◌, ℕ, zero, suc, ◌%◌, ◌<◌, ◌≤◌, ◌≢◌, inl, inr, ◌⊎◌, List, Bool, true, false, if◌then◌else◌, nat_eq, eq-eqb, ne_eqb, refl, sym, ap, subst, arith}
-use Rattle.std.proofs.Math.Nat.{mod-lt}
+use Rattle.std.proofs.Common.{◌≡◌, ℕ, zero, suc, ◌+◌, ◌*◌, ◌%◌, ◌<◌, ◌≤◌, ◌≢◌, inl, inr, ◌⊎◌, List, Bool, true, false, if◌then◌else◌, nat_eq, eq-eqb, ne_eqb, refl, sym, ap, subst, arith}
+use Rattle.mica_words.proofs.Hashes.{bucket_of-below}
 use Rattle.std.proofs.lemmas.Nat.{pow_pos}
 use native.Mathlib.Decide.{ℕ_discrete}
 use mathlib.Core.Logic.{dite}
-use Rattle.mica_words.specs.Hash.{fnv1a, bucket_of}
 use Rattle.mica_model.specs.declared.write.Write.{Write}
 use Rattle.epoch_core.specs.declared.state.OwnerState.{OwnerState}
 use Rattle.epoch_core.specs.declared.state.Phase.{Phase}
@@ -30,31 +29,24 @@ bit_le c b = elim (nat_eq c b) as (λ (z : Bool). (if z then 1 else 0) ≤ 1) [ 
 pub bit_is : (c b : ℕ) → bit c b ≡ 1 → c ≡ b
 bit_is c b e = dite (ℕ_discrete c b) (λ is. is) (λ n. let zero = bit_else c b n in absurd (omega arith))
 
-begun_le : (phase : Phase) (b : ℕ) → begun_in phase b ≤ 1
-begun_le Idle b = omega arith
+-- what holds whether or not two numbers are the same
+pub tested : (P : Bool → Type 0) (a b : ℕ) → (a ≡ b → P true) → (a ≢ b → P false) → P (nat_eq a b)
+tested P a b same other = dite (ℕ_discrete a b) (λ is. subst P (sym (eq-eqb a b is)) (same is)) (λ n. subst P (sym (ne_eqb a b n)) (other n))
+
+pub begun_le : (phase : Phase) (b : ℕ) → begun_in phase b ≤ 1
 begun_le (Begun c) b = bit_le c b
-begun_le (Marked c write before) b = omega arith
+begun_le phase b = omega arith
 
-marked_le : (phase : Phase) (b : ℕ) → marked_in phase b ≤ 1
-marked_le Idle b = omega arith
-marked_le (Begun c) b = omega arith
-marked_le (Marked c write before) b = bit_le c b
-
-one_only : (phase : Phase) (b : ℕ) → marked_in phase b ≡ 1 → begun_in phase b ≡ 0
-one_only Idle b one = refl
-one_only (Begun c) b one = absurd (omega arith)
-one_only (Marked c write before) b one = refl
+calm_in : (phase : Phase) (b epoch writes : ℕ) → epoch + marked_in phase b ≡ 2 * writes + begun_in phase b → epoch % 2 ≡ 0
+    → (begun_in phase b ≡ 0) × (marked_in phase b ≡ 0)
+calm_in Idle b epoch writes is even = (refl, refl)
+calm_in (Begun c) b epoch writes is even = let one = bit_le c b in (omega arith, refl)
+calm_in (Marked c write before) b epoch writes is even = let one = bit_le c b in (refl, omega arith)
 
 module _ (o : OwnerState) (s : Kept o) where
   -- at an even epoch no write is begun or marked in the bucket
   pub calm : (b : ℕ) → IsMain o.shape b → epoch_in o b % 2 ≡ 0 → (begun_in o.phase b ≡ 0) × (marked_in o.phase b ≡ 0)
-  calm b l even =
-      let e = s.epochs b l in
-      let begun = begun_le o.phase b in
-      let marked = marked_le o.phase b in
-      dite (ℕ_discrete (marked_in o.phase b) 1)
-      (λ one. let none = one_only o.phase b one in absurd (omega arith))
-      (λ not. (omega arith, omega arith))
+  calm b l even = calm_in o.phase b (epoch_in o b) _ (s.epochs b l) even
 
   pub among_bucket : (n b c : ℕ) → IsBucket o.shape b → IsAmong o n b c → IsBucket o.shape c
   among_bucket zero b c l h = absurd h
@@ -74,29 +66,25 @@ module _ (o : OwnerState) (s : Kept o) where
       omega arith
 
   pub marked_main : (b : ℕ) (write : Write) (history : List Write) → o.phase ≡ Marked b write history → IsMain o.shape b
-  unfolding bucket_of
   marked_main b write history is =
       let fits = subst (PhaseFits o) is s.phase in
-      let some : 0 < o.shape.buckets = subst (λ (z : ℕ). 0 < z) (sym s.shape.ranges.buckets.2) (pow_pos s.shape.ranges.buckets.0) in
-      subst (λ (z : ℕ). z < o.shape.buckets) (sym fits.0) (mod-lt (fnv1a write.key) some)
+      let some = subst (λ (z : ℕ). 0 < z) (sym s.shape.ranges.buckets.2) (pow_pos s.shape.ranges.buckets.0) in
+      subst (IsMain o.shape) (sym fits.0) (bucket_of-below write.key o.shape.buckets some)
 
   pub ends_main : (phase : Phase) → o.phase ≡ phase → (b : ℕ) → marked_in phase b ≡ 1 → IsMain o.shape b
-  ends_main Idle is b one = absurd (omega arith)
-  ends_main (Begun c) is b one = absurd (omega arith)
   ends_main (Marked c write before) is b one = subst (IsMain o.shape) (bit_is c b one) (marked_main c write before is)
+  ends_main phase is b one = absurd (omega arith)
 
   -- a bucket that the marked write may change is in no chain of an unmarked one
   pub its_bucket : (phase : Phase) → o.phase ≡ phase → (c : ℕ) → WhenMarked phase (λ b write before. InChain o b c ⊎ IsFreeSpare o c)
       → (other : ℕ) → IsMain o.shape other → marked_in o.phase other ≡ 0 → ¬ (InChain o other c)
-  its_bucket Idle is c h other l none = absurd h
-  its_bucket (Begun b) is c h other l none = absurd h
   its_bucket (Marked b write before) is c (inl own) other l none =
       s.chains.apart b other c (marked_main b write before is) l (λ same. marked_not b other write before is none (sym same)) own
   its_bucket (Marked b write before) is c (inr free) other l none = free.free other l
+  its_bucket phase is c h other l none = absurd h
 
   -- it is a bucket
   pub its_inside : (phase : Phase) → o.phase ≡ phase → (c : ℕ) → WhenMarked phase (λ b write before. InChain o b c ⊎ IsFreeSpare o c) → IsBucket o.shape c
-  its_inside Idle is c h = absurd h
-  its_inside (Begun b) is c h = absurd h
   its_inside (Marked b write before) is c (inl own) = chain_bucket b c (marked_main b write before is) own
   its_inside (Marked b write before) is c (inr free) = free.spare.1
+  its_inside phase is c h = absurd h

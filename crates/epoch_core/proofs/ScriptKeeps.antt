@@ -1,18 +1,14 @@
 -- Each step of a script keeps the rule of the one-word table whose seat has a book.
-use Rattle.std.proofs.Common.{◌≡◌, ℕ, zero, suc, ◌+◌, ◌<◌, ◌^◌, List, [], ◌∷◌, ◌++◌, map, drop, length, get_or, set, refl, sym, ap, ◌∙◌, subst, ⊎_elim, arith, drop-cons, take, append_assoc, Option, Some, None}
-use Rattle.std.specs.Prelude.{IfSome}
+use Rattle.std.proofs.Common.{◌≡◌, ℕ, suc, ◌+◌, ◌<◌, ◌^◌, List, [], ◌∷◌, ◌++◌, map, drop, length, get_or, refl, sym, ap, ◌∙◌, subst, arith, drop-cons, take, append_assoc}
 use Rattle.std.proofs.lemmas.List.{append-nil}
 use Rattle.std.proofs.Math.Seq.{take-append_seam}
-use mathlib.Core.Option.{some, none, some-injective}
-use lib.ListN.{get_elem?}
+use mathlib.Core.Option.{none}
 use Rattle.atomic_table.specs.Table.{step, keeps, opening, Allows}
-use Rattle.atomic_table.proofs.Lists.{at_set}
 use Rattle.epoch_core.specs.declared.shape.Shape.{Shape}
 use Rattle.epoch_core.specs.declared.event.Event.{Event}
-use Rattle.epoch_core.specs.declared.event.Event.TheVariants.{Begins, Marks, PutsWord, PutsEntry, PutsLink, Ends}
+use Rattle.epoch_core.specs.declared.event.Event.TheVariants.{Begins, Ends}
 use Rattle.epoch_core.specs.declared.event.OwnerEvent.{OwnerEvent}
 use Rattle.epoch_core.specs.declared.state.OwnerState.{OwnerState}
-use Rattle.epoch_core.specs.declared.reader.Try.{Try}
 use Rattle.epoch_core.specs.declared.reader.ReaderState.{ReaderState}
 use Rattle.epoch_core.specs.declared.plain.Script.{Script}
 use Rattle.epoch_core.specs.declared.scripted.Plan.{Plan}
@@ -20,8 +16,8 @@ use Rattle.epoch_core.specs.declared.scripted.Look.{Look}
 use Rattle.epoch_core.specs.declared.scripted.Look.TheVariants.{FirstEpoch, Word, Stamp, LastEpoch}
 use Rattle.epoch_core.specs.declared.scripted.Book.{Book}
 use Rattle.epoch_core.specs.Shape.{IsValidShape}
-use Rattle.epoch_core.specs.OwnerState.{as_made, epoch_in}
-use Rattle.epoch_core.specs.Events.{IsAllowed, place_of, after, CanPlay, plays}
+use Rattle.epoch_core.specs.OwnerState.{as_made}
+use Rattle.epoch_core.specs.Events.{IsAllowed, after, CanPlay, plays}
 use Rattle.epoch_core.specs.Diary.{owner_event}
 use Rattle.epoch_core.specs.Kept.{Kept}
 use Rattle.epoch_core.specs.ReaderState.{newcomer}
@@ -34,7 +30,7 @@ use Rattle.epoch_core.proofs.Inside.{event_inside, epoch_small}
 use Rattle.epoch_core.proofs.Growing.{grows, reader_grows}
 use Rattle.epoch_core.proofs.LoadKeeps.{opens, loads, stamps, shuts}
 use Rattle.epoch_core.proofs.JoinKeeps.{lends}
-use Rattle.epoch_core.proofs.DiaryKeeps.{plays_more}
+use Rattle.epoch_core.proofs.DiaryKeeps.{plays_more, set_fit, one_fits}
 
 next_fits : (b : Book) → BookFits b → BookFits (play_next b)
 next_fits b f = by_rest b.rest f.script f.rest
@@ -70,12 +66,6 @@ more_loads (Word place) o r = refl
 more_loads Stamp o r = refl
 more_loads (LastEpoch b) o r = refl
 
-pub same_shape : (look : Look) (o : OwnerState) (r : ReaderState) → (look_at look o r).shape ≡ r.shape
-same_shape (FirstEpoch b) o r = refl
-same_shape (Word place) o r = refl
-same_shape Stamp o r = refl
-same_shape (LastEpoch b) o r = refl
-
 -- The numbers of the loads
 
 loads_on : (plan : Plan) (n : ℕ) (looks : List Look) (r : ReaderState) → (reads_on plan n looks r).loads ≡ r.loads + length looks
@@ -100,11 +90,6 @@ pub owner_then : (b : Book) → BookFits b → IsTime b → b.owner ≡ owner_at
 owner_then b f time = f.played ∙ ap (λ (z : List Event). plays z (as_made b.plan.shape))
     (sym (take-append_seam b.played b.rest) ∙ (ap (take (length b.played)) f.script ∙ ap (λ (z : ℕ). take z b.plan.events) time))
 
--- the epoch of the open try's bucket
-pub ends_at : (o : OwnerState) (current : Option Try) (n b : ℕ) → n ≡ epoch_in o b → ((t : Try) → current ≡ Some t → t.bucket ≡ b) → IfSome current (λ t. n ≡ epoch_in o t.bucket)
-ends_at o None n b is same = tt
-ends_at o (Some t) n b is same = is ∙ ap (epoch_in o) (sym (same t refl))
-
 book_looks : (look : Look) (b : Book) → BookFits b → MayLook look b.reader → IsTime b → BookFits (look_next look b)
 book_looks look b f may time = let count = loads_counted b f in let number : b.reader.loads + 1 ≡ 0 + length b.looks + 1 = omega arith in record {
   owner = f.owner;
@@ -116,62 +101,42 @@ book_looks look b f may time = let count = loads_counted b f in let number : b.r
       ∙ sym (reads_more b.plan 0 b.looks look (newcomer b.plan.shape [] []));
 }
 
-module _ (script : Script) (slots id : ℕ) (me : Reading) where
-  all_fit : (vs : List Book) (p : Book) → (p.plan ≡ plan_of script) × BookFits p → ((j : ℕ) (b : Book) → get_elem? vs j ≡ some b → (b.plan ≡ plan_of script) × BookFits b)
-      → (j : ℕ) (b : Book) → get_elem? (set vs id p) j ≡ some b → (b.plan ≡ plan_of script) × BookFits b
-  all_fit vs p fit all j b at =
-      ⊎_elim (λ (t : (j ≡ id) × (p ≡ b)). subst (λ (z : Book). (z.plan ≡ plan_of script) × BookFits z) t.1 fit) (λ t. all j b t.1) (at_set vs id j p b at)
+module _ (script : Script) where
+  abbrev Fit : Book → Type 0
+  Fit b = (b.plan ≡ plan_of script) × BookFits b
 
-  pub plays_at : (i n : ℕ) → Allows (AllFit script) slots id me i (λ _. n) (λ _. played (step slots i n 0 none) me n)
-  plays_at i n s all _ at _ =
-      let f = all id me.0 at in
-      (play_next me.0, keeps, tt, all_fit s.views (play_next me.0) (f.0, next_fits me.0 f.1) all, (refl, f.1))
+  module _ (slots id : ℕ) (me : Reading) where
+    pub plays_at : (i n : ℕ) → Allows (AllFit script) slots id me i (λ _. n) (λ _. played (step slots i n 0 none) me n)
+    plays_at i n s all _ at _ =
+        let f = all id me.0 at in
+        (play_next me.0, keeps, tt, set_fit Fit s.views id (play_next me.0) (f.0, next_fits me.0 f.1) all, (refl, f.1))
 
-  pub looks_at : (look : Look) (i n : ℕ) → MayLook look me.0.reader → IsTime me.0 → Allows (AllFit script) slots id me i (λ _. n) (λ _. looked look (step slots i n 0 none) me n)
-  looks_at look i n may time s all _ at _ =
-      let f = all id me.0 at in
-      let fits = book_looks look me.0 f.1 may time in
-      (look_next look me.0, keeps, tt, all_fit s.views (look_next look me.0) (f.0, fits) all, (refl, f.1, fits))
+    pub looks_at : (look : Look) (i n : ℕ) → MayLook look me.0.reader → IsTime me.0 → Allows (AllFit script) slots id me i (λ _. n) (λ _. looked look (step slots i n 0 none) me n)
+    looks_at look i n may time s all _ at _ =
+        let f = all id me.0 at in
+        let fits = book_looks look me.0 f.1 may time in
+        (look_next look me.0, keeps, tt, set_fit Fit s.views id (look_next look me.0) (f.0, fits) all, (refl, f.1, fits))
 
-pub starts : (script : Script) (words : List ℕ) → IsValidShape script.shape → CanPlay script.token.me.0.kept (as_made script.shape)
-    → AllFit script (opening words [] (opening_book (plan_of script)))
-starts script words valid can zero b at =
-    let plan : Plan = plan_of script in
-    let s = kept_as_made plan.shape valid in
-    subst (λ (z : Book). (z.plan ≡ plan) × BookFits z) (some-injective _ _ at)
-    (refl, record { owner = s; reader = lends (as_made plan.shape) s; script = refl; played = refl; rest = can; looks = refl })
-starts script words valid can (suc j) b at = absurd (cc at)
+  pub starts : (words : List ℕ) → IsValidShape script.shape → CanPlay script.token.me.0.kept (as_made script.shape)
+      → AllFit script (opening words [] (opening_book (plan_of script)))
+  starts words valid can =
+      let s = kept_as_made script.shape valid in
+      one_fits Fit (opening_book (plan_of script))
+      (refl, record { owner = s; reader = lends (as_made script.shape) s; script = refl; played = refl; rest = can; looks = refl })
 
 -- the next event of a script, by what is in memory of it
-
-same_place : (shape : Shape) (e : Event) → owner_place shape (owner_event e) ≡ place_of shape e
-same_place shape (Begins b) = refl
-same_place shape (Marks write n) = refl
-same_place shape (PutsWord p x) = refl
-same_place shape (PutsEntry c slot entry) = refl
-same_place shape (PutsLink c next) = refl
-same_place shape (Ends b) = refl
-
-sum_small : (e : Event) (o : OwnerState) → Kept o → IsAllowed e o → owner_sum (owner_event e) (get_or o.words (place_of o.shape e) 0) < 2 ^ 64
-sum_small (Begins b) o s a = epoch_small o s b a.main
-sum_small (Marks write n) o s a = omega arith
-sum_small (PutsWord p x) o s a = omega arith
-sum_small (PutsEntry c slot entry) o s a = omega arith
-sum_small (PutsLink c next) o s a = omega arith
-sum_small (Ends b) o s a = epoch_small o s b (ends_main o s o.phase refl b a.marked)
 
 abbrev Fits : OwnerEvent → Shape → List ℕ → Type 0
 Fits x shape items = (owner_place shape x < length items) × (owner_sum x (get_or items (owner_place shape x) 0) < 2 ^ 64)
 
+event_fits : (e : Event) (o : OwnerState) → Kept o → IsAllowed e o → Fits (owner_event e) o.shape o.words
+event_fits (Begins b) o s a = (event_inside o s (Begins b) a, epoch_small o s b a.main)
+event_fits (Ends b) o s a = (event_inside o s (Ends b) a, epoch_small o s b (ends_main o s o.phase refl b a.marked))
+event_fits e o s a = (event_inside o s e a, omega arith)
+
 head_fits : (rest : List Event) (xs : List OwnerEvent) (x : OwnerEvent) (o : OwnerState) → x ∷ xs ≡ map owner_event rest → Kept o → CanPlay rest o → Fits x o.shape o.words
 head_fits [] xs x o is s can = absurd (cc is)
-head_fits (e ∷ es) xs x o is s can =
-    let same : owner_event e ≡ x = cc in
-    let place = same_place o.shape e in
-    subst (λ (z : OwnerEvent). Fits z o.shape o.words) same (
-      subst (λ (z : ℕ). z < length o.words) (sym place) (event_inside o s e can.0),
-      subst (λ (z : ℕ). owner_sum (owner_event e) (get_or o.words z 0) < 2 ^ 64) (sym place) (sum_small e o s can.0),
-    )
+head_fits (e ∷ es) xs x o is s can = let same : owner_event e ≡ x = cc in subst (λ (z : OwnerEvent). Fits z o.shape o.words) same (event_fits e o s can.0)
 
 pub next_fits_memory : (b : Book) (events : List OwnerEvent) (done : ℕ) (x : OwnerEvent) (shape : Shape) (items : List ℕ) → drop done events ≡ map owner_event b.rest → done < length events
     → x ≡ get_or events done x → BookFits b → b.owner.shape ≡ shape → items ≡ b.owner.words → Fits x shape items

@@ -1,33 +1,44 @@
-use Rattle.std.proofs.Common.{◌∙◌, arith}
-use Rattle.epoch_core.proofs.ItemEvents.{header_can}
-use Rattle.epoch_core.proofs.Rewriting.{value_can, all_stored}
+use Rattle.std.proofs.Common.{◌≡◌, ◌+◌, length, sym, ◌∙◌, arith}
+use Rattle.mica_words.specs.Packing.{packed}
+use Rattle.mica_words.proofs.PackedBytes.{length-packed}
+use Rattle.epoch_core.specs.Events.{plays, puts_from}
+use Rattle.epoch_core.proofs.ItemEvents.{CanPut, keyed, can_put_parts, all_put, key_stays}
+use Rattle.epoch_core.proofs.item.rewrite_item.Given.{Over}
+use Rattle.epoch_core.proofs.item.rewrite_item.Goals.{Start, After-from}
 use Rattle.epoch_core.proofs.item.rewrite_item.Goals as goal
 
+can : (g : Over) (c : Start g) → CanPut (g.W.OwnerWords.owner c.args.words.now) c.args.offset c.args.room c.args.key.now c.args.value.now
+can g c = can_put_parts (g.W.OwnerWords.owner c.args.words.now) c.args.offset c.args.room c.args.key.now c.args.value.now c.requires.allowed
+
+-- where the value goes
+place : (g : Over) (c : After-from g) → c.args.offset + c.from.result ≡ c.args.offset + 2 + length (packed c.args.key.now)
+place g c = omega (arith, length-packed c.args.key.now, c.from.ensures, c.item_size.ensures)
+
+-- once the header is put, all in front of the value is there
+there : (g : Over) (c : After-from g) → g.W.OwnerWords.owner c.put_word.new.self ≡ keyed (g.W.OwnerWords.owner c.args.words.now) c.args.offset c.args.room c.args.key.now c.args.value.now
+there g c =
+    let o = g.W.OwnerWords.owner c.args.words.now in
+    simp (c.put_word.ensures.event, c.header_of-header.ensures)
+    (sym (key_stays o c.args.offset c.args.room c.args.key.now c.args.value.now c.requires.kept c.requires.key c.requires.there))
+
 pub put_word-requires : goal.put_word-requires
-put_word-requires g c = header_can (g.W.OwnerWords.owner c.args.words.now) c.args.offset c.args.room c.args.key.now c.args.value.now c.requires.allowed
+put_word-requires g c = (can g (goal.at.put_word-requires g c).Start).header
 
 pub overflow_add-offset : goal.overflow_add-offset
-overflow_add-offset g c =
-    let low = (header_can (g.W.OwnerWords.owner c.args.words.now) c.args.offset c.args.room c.args.key.now c.args.value.now c.requires.allowed).low in
-    let short = c.requires.key.1 in
-    omega (arith, c.from.ensures, c.item_size.ensures)
+overflow_add-offset g c = omega (arith, (can g (goal.at.overflow_add-offset g c).Start).header.low, c.requires.key, c.from.ensures, c.item_size.ensures)
 
 pub put_packed-requires-clause-low : goal.put_packed-requires-clause-low
 put_packed-requires-clause-low g c =
-    let low = (header_can (g.W.OwnerWords.owner c.args.words.now) c.args.offset c.args.room c.args.key.now c.args.value.now c.requires.allowed).low in
-    let short = c.requires.key.1 in
-    let few = c.requires.value in
-    omega (arith, c.from.ensures, c.item_size.ensures)
+    omega (arith, (can g (goal.at.put_packed-requires-clause-low g c).Start).header.low, c.requires.key, c.requires.value, c.from.ensures, c.item_size.ensures)
 
 pub put_packed-requires-clause-allowed : goal.put_packed-requires-clause-allowed
 put_packed-requires-clause-allowed g c =
-    value_can (g.W.OwnerWords.owner c.args.words.now) c.requires.kept c.args.offset c.args.room c.args.key.now c.args.value.now c.requires.key c.requires.there
-    c.requires.allowed c.header_of-header.result c.header_of-header.ensures (g.W.OwnerWords.owner c.put_word.new.self) c.put_word.ensures.event
-    c.from.result (c.from.ensures ∙ c.item_size.ensures)
+    let at = goal.at.put_packed-requires-clause-allowed g c in
+    rw (there g at.After-from) (rw (place g at.After-from) (can g at.Start).value_words)
 
 pub returns-clause-events : goal.returns-clause-events
 returns-clause-events g c =
+    let at = (goal.at.returns-clause-events g c).After-from in
     c.put_packed.ensures.events
-    ∙ all_stored (g.W.OwnerWords.owner c.args.words.now) c.requires.kept c.args.offset c.args.room c.args.key.now c.args.value.now c.requires.key c.requires.there
-    c.requires.allowed c.header_of-header.result c.header_of-header.ensures (g.W.OwnerWords.owner c.put_word.new.self) c.put_word.ensures.event
-    c.from.result (c.from.ensures ∙ c.item_size.ensures)
+    ∙ (λ i. plays (puts_from (place g at i) (packed c.args.value.now)) (there g at i))
+    ∙ all_put (g.W.OwnerWords.owner c.args.words.now) c.args.offset c.args.room c.args.key.now c.args.value.now
