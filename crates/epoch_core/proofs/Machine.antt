@@ -58,15 +58,6 @@ pub has_fits : (options : Options) (history : History) → AllByRecursion IsWrit
     → (key : List ℕ) (cell : Cell) (p : ℕ) → Has (state_of options history) key cell p → Fits key cell
 has_fits options history writes key cell p h = fits_by options history writes (state_of options history) refl key cell p h
 
--- the offset of what the machine has is the key's alone, in cache mode
-same_offset : (options : Options) (history : History) → options.mode ≡ CacheMode → (key : List ℕ) (cell : Cell) (p q : ℕ)
-    → Has (state_of options history) key cell p → Has (state_of options history) key cell q → p ≡ q
-same_offset options history is key cell p q h i =
-    let at = cached_in options is history in
-    let one = found_record (record_of at.0 key) cell p (subst (λ (z : State). Has z key cell p) at.1 h) in
-    let two = found_record (record_of at.0 key) cell q (subst (λ (z : State). Has z key cell q) at.1 i) in
-    sym one.2 ∙ (ap (λ (z : Option Record). unwrap_or (option_map (λ (r : Record). r.offset) z) 0) (sym one.1 ∙ two.1) ∙ two.2)
-
 -- What the machine has of a bucket's keys stays as a history goes on: where the log has not passed it, it has the same.
 pub record HasStill (mode : Mode) (options : Options) (old new : History) (b : ℕ) : Type 0 where
   pub live : (p : ℕ) → IsLiveItem mode options.words (stamp_of options new) p → IsLiveItem mode options.words (stamp_of options old) p
@@ -92,16 +83,20 @@ module _ (options : Options) (history : History) (writes : AllByRecursion IsWrit
   by_mode : (mode : Mode) → options.mode ≡ mode → HasStill mode options history more b
   by_mode CacheMode mode = record {
     live = λ p h. let rise = stamp_rises options history write in omega arith;
-    back = λ key cell p same h. (had key cell p same h).0;
+    back = λ key cell p same h. rw at.1 (had key cell p same (rw now at h)).0;
     on = λ key cell p same h live.
-        let found = found_record (record_of at.0 key) cell p (subst (λ (z : State). Has z key cell p) at.1 h) in
+        let has = rw at.1 at h in
+        let found = found_record (record_of at.0 key) cell p has in
         let stamp = ap stamp_in now in
         let offset = found.2 in
         let there = others_on options history writes write is at.0 at.1 key (λ e. apart (sym same ∙ e)) found.0 found.1 (omega arith) in
-        subst (λ (z : State). Has z key cell p) (sym now) (ap (option_map cell_at) (there ∙ sym found.1) ∙ subst (λ (z : State). Has z key cell p) at.1 h);
+        rw now (ap (option_map cell_at) (there ∙ sym found.1) ∙ has);
     live_on = λ key cell p q same h i live.
-        let before = had key cell p same h in
-        subst (IsLiveItem CacheMode options.words (stamp_of options more)) (same_offset options history mode key cell p q before.0 i) before.1;
+        let before = had key cell p same (rw now at h) in
+        let has = rw at.1 at i in
+        let one : p ≡ q = ap (λ (z : Option (Cell × ℕ)). unwrap_or (option_map (λ (r : Cell × ℕ). r.1) z) 0) (sym before.0 ∙ has) in
+        let live = before.1 in
+        omega arith;
   }
     where
       at : (s : Cache) × (state_of options history ≡ cache_state s)
@@ -110,24 +105,20 @@ module _ (options : Options) (history : History) (writes : AllByRecursion IsWrit
       now : state_of options more ≡ cache_state (cs.after options at.0 write)
       now = state_snoc options history write ∙ ap (λ (z : State). after options z write) at.1
 
-      had : (key : List ℕ) (cell : Cell) (p : ℕ) → bucket_of key options.buckets ≡ b → Has (state_of options more) key cell p
-          → Has (state_of options history) key cell p × IsLiveItem CacheMode options.words (stamp_of options more) p
+      had : (key : List ℕ) (cell : Cell) (p : ℕ) → bucket_of key options.buckets ≡ b → Has (cache_state (cs.after options at.0 write)) key cell p
+          → Has (cache_state at.0) key cell p × IsLiveItem CacheMode options.words (stamp_of options more) p
       had key cell p same h =
-          let has = subst (λ (z : State). Has z key cell p) now h in
-          let found = found_record (record_of (cs.after options at.0 write) key) cell p has in
+          let found = found_record (record_of (cs.after options at.0 write) key) cell p h in
           let before = others_back options history writes write is at.0 at.1 key (λ e. apart (sym same ∙ e)) found.0 found.1 in
-          let stamp = ap stamp_in now in
-          let offset = found.2 in
-          let live = before.1 in
-          (subst (λ (z : State). Has z key cell p) (sym at.1) (ap (option_map cell_at) (before.0 ∙ sym found.1) ∙ has), omega arith)
+          (ap (option_map cell_at) (before.0 ∙ sym found.1) ∙ h, omega (arith, ap stamp_in now, found.2, before.1))
   by_mode StoreMode mode =
       let at = stored_in options mode history in
       let now : state_of options more ≡ store_state (ss.after at.0 write) = state_snoc options history write ∙ ap (λ (z : State). after options z write) at.1 in
       let same : (key : List ℕ) → bucket_of key options.buckets ≡ b → get (ss.after at.0 write).cells key ≡ get at.0.cells key =
       λ key is. others_same at.0 write key (λ e. apart (sym is ∙ ap (λ (z : List ℕ). bucket_of z options.buckets) e)) in record {
         live = λ p h. tt;
-        back = λ key cell p is h. rw at.1 (sym (same key is) ∙ subst (λ (z : State). Has z key cell p) now h);
-        on = λ key cell p is h live. rw now (same key is ∙ subst (λ (z : State). Has z key cell p) at.1 h);
+        back = λ key cell p is h. rw at.1 (sym (same key is) ∙ rw now at h);
+        on = λ key cell p is h live. rw now (same key is ∙ rw at.1 at h);
         live_on = λ key cell p q is h i live. tt;
       }
 

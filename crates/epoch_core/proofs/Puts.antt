@@ -81,29 +81,12 @@ can_play-append o p (x ∷ xs) ys can =
     )
 
 -- one of several words, and those behind it
-module _ (o : OwnerState) (p i : ℕ) (xs : List ℕ) (word : ℕ) (below : i < length xs) (is : word ≡ get_or xs i 0) where
-  next_at : p + i + 1 ≡ p + (i + 1)
-  next_at = omega arith
-
-  more : suc i ≡ i + 1
-  more = omega arith
-
-  pub can_play_at : CanPlay (puts_from (p + i) (drop i xs)) o → MayPutWord o (p + i) × CanPlay (puts_from (p + (i + 1)) (drop (i + 1) xs)) (after (PutsWord (p + i) word) o)
-  can_play_at can =
-      let both : MayPutWord o (p + i) × CanPlay (puts_from (p + i + 1) (drop (suc i) xs)) (after (PutsWord (p + i) (get_or xs i 0)) o) =
-      subst (λ (zs : List ℕ). CanPlay (puts_from (p + i) zs) o) (drop-cons xs i 0 below) can in (
-        both.0,
-        subst (λ (z : ℕ). CanPlay (puts_from (p + (i + 1)) (drop (i + 1) xs)) (after (PutsWord (p + i) z) o)) (sym is)
-            (subst (λ (n : ℕ). CanPlay (puts_from (p + (i + 1)) (drop n xs)) (after (PutsWord (p + i) (get_or xs i 0)) o)) more
-            (subst (λ (z : ℕ). CanPlay (puts_from z (drop (suc i) xs)) (after (PutsWord (p + i) (get_or xs i 0)) o)) next_at both.1)),
-      )
-
-  pub plays_at : plays (puts_from (p + (i + 1)) (drop (i + 1) xs)) (after (PutsWord (p + i) word) o) ≡ plays (puts_from (p + i) (drop i xs)) o
-  plays_at =
-      ap (λ (z : ℕ). plays (puts_from (p + (i + 1)) (drop (i + 1) xs)) (after (PutsWord (p + i) z) o)) is
-      ∙ (ap (λ (n : ℕ). plays (puts_from (p + (i + 1)) (drop n xs)) (after (PutsWord (p + i) (get_or xs i 0)) o)) (sym more)
-      ∙ ap (λ (z : ℕ). plays (puts_from z (drop (suc i) xs)) (after (PutsWord (p + i) (get_or xs i 0)) o)) (sym next_at)
-      ∙ ap (λ (zs : List ℕ). plays (puts_from (p + i) zs) o) (sym (drop-cons xs i 0 below)))
+pub next_put : (p i : ℕ) (xs : List ℕ) (word : ℕ) → i < length xs → word ≡ get_or xs i 0
+    → puts_from (p + i) (drop i xs) ≡ PutsWord (p + i) word ∷ puts_from (p + (i + 1)) (drop (i + 1) xs)
+next_put p i xs word below is =
+    let place : p + i + 1 ≡ p + (i + 1) = omega arith in
+    let more : suc i ≡ i + 1 = omega arith in
+    ap (puts_from (p + i)) (drop-cons xs i 0 below) ∙ (λ j. PutsWord (p + i) (sym is j) ∷ puts_from (place j) (drop (more j) xs))
 
 -- in cache mode whatever the words are
 module _ (o : OwnerState) (mode : o.shape.mode ≡ Cache) where

@@ -5,12 +5,8 @@ use Rattle.epoch_core.proofs.scripted.Stage.play.Goals as goal
 pub store-requires : goal.store-requires
 store-requires c = (search rules, search rules, plays_at c.args.self.now.book.shared.key _ _ c.args.self.now.seat.me 0 0)
 
-pub apply-requires-clause-inside : goal.apply-requires-clause-inside
-apply-requires-clause-inside c =
+pub apply-requires : goal.apply-requires
+apply-requires c =
     let self = c.args.self.now in
-    (next_fits_memory self.seat.me.0 self.events.items self.played c.index-event.result.now self.shape self.words.items self.script c.requires c.index-event.ensures c.store.ensures.2.1 self.shaped self.same).0
-
-pub apply-requires-clause-fits : goal.apply-requires-clause-fits
-apply-requires-clause-fits c =
-    let self = c.args.self.now in
-    (next_fits_memory self.seat.me.0 self.events.items self.played c.index-event.result.now self.shape self.words.items self.script c.requires c.index-event.ensures c.store.ensures.2.1 self.shaped self.same).1
+    let fits = next_fits_memory self.seat.me.0 self.events.items self.played c.index-event.result.now self.shape self.words.items self.script c.requires c.index-event.ensures c.store.ensures.2.1 self.shaped self.same in
+    record { some = self.some_words; inside = fits.0; fits = fits.1 }
