@@ -1,23 +1,10 @@
 -- What the words stand for in a bucket stays where the words in its reach do, and the machine has the same of its keys.
-use Rattle.std.proofs.Common.{◌≡◌, ℕ, zero, suc, ◌+◌, ◌<◌, ◌≢◌, inl, inr, ◌⊎◌, List, get_or, refl, sym, ap, ◌∙◌, subst, arith, add-zero}
-use mathlib.Core.Logic.{dite}
-use native.Mathlib.Decide.{ℕ_discrete}
+use Rattle.epoch_core.proofs.Vocabulary.{Begun, Cache, Cell, HasChain, HasChains, HasLiveEntry, History, Idle, InChain, IsAmong, IsDense, IsInRoom}
+use Rattle.epoch_core.proofs.Vocabulary.{IsLiveItem, IsMain, IsReached, List, Marked, Mode, OwnerState, Phase, RoomsApart, Spells, StandsFor, Store}
+use Rattle.epoch_core.proofs.Vocabulary.{add-zero, ap, arith, by_entry, by_item, by_link, dite, entry_at, get_or, header_room, inl, inr, item_at}
+use Rattle.epoch_core.proofs.Vocabulary.{link_at, link_in, marked_in, options_in, refl, room_in, stamp_in, stamp_of, subst, suc, sym, zero, ℕ}
+use Rattle.epoch_core.proofs.Vocabulary.{ℕ_discrete, ◌+◌, ◌<◌, ◌∙◌, ◌≡◌, ◌≢◌, ◌⊎◌}
 use Rattle.mica_words.specs.Entry.{entry_offset}
-use Rattle.mica_words.specs.Header.{header_room}
-use Rattle.mica_model.specs.declared.options.Mode.{Mode}
-use Rattle.mica_model.specs.declared.options.Mode.TheVariants.{Cache, Store}
-use Rattle.mica_model.specs.Store.{Cell}
-use Rattle.mica_model.specs.History.{History, stamp_of}
-use Rattle.epoch_core.specs.declared.state.OwnerState.{OwnerState}
-use Rattle.epoch_core.specs.declared.state.Phase.{Phase}
-use Rattle.epoch_core.specs.declared.state.Phase.TheVariants.{Idle, Begun, Marked}
-use Rattle.epoch_core.specs.Shape.{IsMain}
-use Rattle.epoch_core.specs.Layout.{entry_at, link_at, item_at}
-use Rattle.epoch_core.specs.OwnerState.{stamp_in, link_in, options_in, marked_in}
-use Rattle.epoch_core.specs.Chain.{IsAmong, InChain, IsDense, HasChains}
-use Rattle.epoch_core.specs.LiveEntry.{IsLiveItem, HasLiveEntry}
-use Rattle.epoch_core.specs.StandsFor.{Spells, room_in, IsInRoom, RoomsApart, HasChain, StandsFor}
-use Rattle.epoch_core.specs.Reach.{IsReached, by_entry, by_link, by_item}
 use Rattle.epoch_core.proofs.Machine.{HasStill}
 use Rattle.epoch_core.proofs.Marked.{bit_else}
 

@@ -1,8 +1,6 @@
 -- How many events are played after so many loads.
-use Rattle.std.proofs.Common.{◌≡◌, ℕ, zero, suc, ◌+◌, ◌-◌, ◌<◌, ◌≤◌, inl, inr, List, length, min, get_or, sym, ap, ◌∙◌, arith}
-use Rattle.std.proofs.lemmas.List.{get_or_past, get_or_default}
-use Rattle.std.proofs.lemmas.Bool.{cases_lt}
-use Rattle.epoch_core.specs.Script.{Rises, NoneAbove, cut_at}
+use Rattle.epoch_core.proofs.Vocabulary.{List, NoneAbove, Rises, ap, arith, cases_lt, cut_at, get_or, get_or_default, get_or_past, inl, inr, length}
+use Rattle.epoch_core.proofs.Vocabulary.{min, suc, sym, zero, ℕ, ◌+◌, ◌-◌, ◌<◌, ◌∙◌, ◌≡◌, ◌≤◌}
 
 abbrev last : List ℕ → ℕ
 last cuts = get_or cuts (length cuts - 1) 0

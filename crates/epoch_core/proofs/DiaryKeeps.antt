@@ -1,17 +1,13 @@
 -- Each event keeps the rule of the one-word table whose seat has a diary.
-use Rattle.std.proofs.Common.{◌≡◌, ℕ, zero, suc, true, false, cond, nat_lt, List, [], ◌∷◌, ◌++◌, length, set, refl, sym, ap, ◌∙◌, subst, arith, ⊎_elim}
-use Rattle.std.proofs.lemmas.Bool.{ltb-true, ltb-false}
+use Rattle.epoch_core.proofs.Vocabulary.{CanPlay, Event, IsAllowed, IsValidShape, List, OwnerState, [], after, ap, arith, as_made, cond, false}
+use Rattle.epoch_core.proofs.Vocabulary.{length, ltb-false, ltb-true, nat_lt, plays, refl, set, subst, suc, sym, true, zero, ℕ, ⊎_elim, ◌++◌, ◌∙◌}
+use Rattle.epoch_core.proofs.Vocabulary.{◌∷◌, ◌≡◌}
 use mathlib.Core.Option.{some, none, some-injective}
 use lib.ListN.{get_elem?}
 use Rattle.atomic_table.specs.Table.{Me, step, keeps, opening, Allows}
 use Rattle.atomic_table.proofs.Lists.{at_set}
-use Rattle.epoch_core.specs.declared.event.Event.{Event}
-use Rattle.epoch_core.specs.declared.state.OwnerState.{OwnerState}
 use Rattle.epoch_core.specs.declared.plain.Diary.{Diary}
 use Rattle.epoch_core.specs.declared.plain.Blank.{Blank}
-use Rattle.epoch_core.specs.Shape.{IsValidShape}
-use Rattle.epoch_core.specs.OwnerState.{as_made}
-use Rattle.epoch_core.specs.Events.{IsAllowed, after, CanPlay, plays}
 use Rattle.epoch_core.specs.Diary.{blank_diary, diary_after, DiaryFits, AllFit, knows, happened}
 use Rattle.epoch_core.proofs.Made.{kept_as_made}
 use Rattle.epoch_core.proofs.Keeps.{kept_after}

@@ -1,13 +1,7 @@
 -- What each event makes of the words by their meaning.
-use Rattle.std.proofs.Common.{◌≡◌, ℕ, ◌<◌, ◌≢◌, ◌⊎◌, inl, inr, length, get_or, sym, arith, get_or-set_other, get_or-set_same}
-use Rattle.mica_model.specs.declared.write.Write.{Write}
-use Rattle.epoch_core.specs.declared.state.OwnerState.{OwnerState}
-use Rattle.epoch_core.specs.declared.event.Event.{Event}
-use Rattle.epoch_core.specs.declared.event.Event.TheVariants.{Begins, Marks, PutsWord, PutsEntry, PutsLink}
-use Rattle.epoch_core.specs.Shape.{IsMain, IsBucket}
-use Rattle.epoch_core.specs.Layout.{stamp_at, entry_at, link_at, item_at, word_count}
-use Rattle.epoch_core.specs.OwnerState.{stamp_in, entry_in, link_in, item_in}
-use Rattle.epoch_core.specs.Events.{place_of, word_after, after}
+use Rattle.epoch_core.proofs.Vocabulary.{Begins, Event, IsBucket, IsMain, Marks, OwnerState, PutsEntry, PutsLink, PutsWord, Write, after, arith}
+use Rattle.epoch_core.proofs.Vocabulary.{entry_at, entry_in, get_or, get_or-set_other, get_or-set_same, inl, inr, item_at, item_in, length, link_at}
+use Rattle.epoch_core.proofs.Vocabulary.{link_in, place_of, stamp_at, stamp_in, sym, word_after, word_count, ℕ, ◌<◌, ◌≡◌, ◌≢◌, ◌⊎◌}
 use Rattle.epoch_core.proofs.Places.{same_bucket, same_slot, no_epoch, no_stamp, no_item, item_no_epoch}
 
 -- a word at another place than the event's is as it was

@@ -1,14 +1,8 @@
 -- Failures of tries fit while epochs rise.
-use Rattle.std.proofs.Common.{◌≡◌, ℕ, zero, suc, ◌≤◌, ◌⊎◌, inl, inr, List, [], ◌∷◌, ◌++◌, refl, sym, subst, arith}
-use Rattle.std.specs.Prelude.{Contains}
-use Rattle.std.proofs.lemmas.List.Elements.{Contains-append_cases, Contains-push_cases}
+use Rattle.epoch_core.proofs.Vocabulary.{Contains, Contains-append_cases, Contains-push_cases, FailsFit, IsFailure, IsMain, List, OwnerState, Shape}
+use Rattle.epoch_core.proofs.Vocabulary.{[], arith, epoch_in, inl, inr, refl, subst, suc, sym, zero, ℕ, ◌++◌, ◌∷◌, ◌≡◌, ◌≤◌, ◌⊎◌}
 pub use Rattle.std.proofs.lemmas.List.Elements.{Contains-append_cases as in_both, Contains-append_left as in_left, Contains-push as in_last}
-use Rattle.epoch_core.specs.declared.shape.Shape.{Shape}
-use Rattle.epoch_core.specs.declared.state.OwnerState.{OwnerState}
 use Rattle.epoch_core.specs.declared.state.Failure.{Failure}
-use Rattle.epoch_core.specs.Shape.{IsMain}
-use Rattle.epoch_core.specs.OwnerState.{epoch_in}
-use Rattle.epoch_core.specs.Failures.{IsFailure, FailsFit}
 
 -- what stands in a list
 

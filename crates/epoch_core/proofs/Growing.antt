@@ -1,20 +1,10 @@
 -- The central law: an event leaves the words in reach of a bucket whose even epoch stands still. So whatever is kept of a reader
 -- is kept past it.
-use Rattle.std.specs.Prelude.{IfSome}
-use Rattle.std.proofs.Common.{◌≡◌, ℕ, ◌*◌, ◌%◌, ◌≤◌, refl, sym, ap, ◌∙◌, subst, arith, Option, Some, None}
-use Rattle.mica_model.specs.History.{writes_to_bucket}
-use Rattle.epoch_core.specs.declared.shape.Shape.{Shape}
-use Rattle.epoch_core.specs.declared.state.OwnerState.{OwnerState}
+use Rattle.epoch_core.proofs.Vocabulary.{CutKept, Event, Grows, IfSome, IsAllowed, IsMain, IsSpelt, Kept, None, Option, OwnerState, ReaderKept}
+use Rattle.epoch_core.proofs.Vocabulary.{ReaderState, Shape, Some, TryKept, after, ap, arith, epoch_in, options_of, refl, subst, sym}
+use Rattle.epoch_core.proofs.Vocabulary.{writes_to_bucket, ℕ, ◌%◌, ◌*◌, ◌∙◌, ◌≡◌, ◌≤◌}
 use Rattle.epoch_core.specs.declared.reader.Cut.{Cut}
 use Rattle.epoch_core.specs.declared.reader.Try.{Try}
-use Rattle.epoch_core.specs.declared.reader.ReaderState.{ReaderState}
-use Rattle.epoch_core.specs.declared.event.Event.{Event}
-use Rattle.epoch_core.specs.Shape.{options_of, IsMain}
-use Rattle.epoch_core.specs.OwnerState.{epoch_in}
-use Rattle.epoch_core.specs.Events.{IsAllowed, after}
-use Rattle.epoch_core.specs.Kept.{Kept}
-use Rattle.epoch_core.specs.Grows.{Grows}
-use Rattle.epoch_core.specs.ReaderKept.{IsSpelt, CutKept, TryKept, ReaderKept}
 use Rattle.epoch_core.proofs.Prefixes.{prefix_then}
 use Rattle.epoch_core.proofs.Failing.{fails_rise}
 use Rattle.epoch_core.proofs.Carried.{reach_back}

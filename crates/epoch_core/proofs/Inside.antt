@@ -1,18 +1,8 @@
 -- The words that events change are there, and an epoch never comes to its type's end.
-use Rattle.std.proofs.Common.{◌≡◌, ℕ, ◌+◌, ◌%◌, ◌^◌, ◌<◌, List, length, get_or, refl, ap, ◌∙◌, arith, nat_eq}
+use Rattle.epoch_core.proofs.Vocabulary.{Ends, Event, IsAllowed, IsMain, Kept, List, OwnerState, PutsEntry, PutsLink, Write, ap, arith, bucket_of}
+use Rattle.epoch_core.proofs.Vocabulary.{epoch_at, epoch_in, get_or, get_or_read, length, nat_eq, place_of, refl, ℕ, ◌%◌, ◌+◌, ◌<◌, ◌^◌, ◌∙◌, ◌≡◌}
 use Rattle.std.proofs.Math.Nat.{mod-lt}
-use Rattle.std.proofs.lemmas.List.{get_or_read}
 use Rattle.std.proofs.lemmas.List.Sums.{count_by-le-length}
-use Rattle.mica_words.specs.Hash.{bucket_of}
-use Rattle.mica_model.specs.declared.write.Write.{Write}
-use Rattle.epoch_core.specs.declared.state.OwnerState.{OwnerState}
-use Rattle.epoch_core.specs.declared.event.Event.{Event}
-use Rattle.epoch_core.specs.declared.event.Event.TheVariants.{PutsEntry, PutsLink, Ends}
-use Rattle.epoch_core.specs.Shape.{IsMain}
-use Rattle.epoch_core.specs.Layout.{epoch_at}
-use Rattle.epoch_core.specs.OwnerState.{epoch_in}
-use Rattle.epoch_core.specs.Events.{IsAllowed, place_of}
-use Rattle.epoch_core.specs.Kept.{Kept}
 use Rattle.epoch_core.proofs.Marked.{begun_le, ends_main, its_inside}
 
 module _ (o : OwnerState) (s : Kept o) where

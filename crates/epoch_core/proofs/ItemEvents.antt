@@ -1,19 +1,10 @@
 -- The words of an item put in four parts: its header, its hash, its key and its value.
-use Rattle.std.proofs.Common.{◌≡◌, ℕ, zero, suc, ◌+◌, ◌<◌, List, [], ◌∷◌, ◌++◌, length, get_or, refl, sym, ap, ◌∙◌, subst, arith}
-use Rattle.std.proofs.lemmas.List.{set-get_or}
-use Rattle.mica_words.specs.Hash.{fnv1a}
-use Rattle.mica_words.specs.Header.{header_of}
-use Rattle.mica_words.specs.Item.{KeyFits}
-use Rattle.mica_words.specs.Packing.{packed}
+use Rattle.epoch_core.proofs.Vocabulary.{CanPlay, Kept, KeyFits, List, MayPutWord, OwnerState, PutsWord, [], after, ap, arith, fnv1a, get_or}
+use Rattle.epoch_core.proofs.Vocabulary.{header_of, item_at, item_events, item_in, length, packed, plays, puts_from, refl, set-get_or, subst, suc}
+use Rattle.epoch_core.proofs.Vocabulary.{sym, zero, ℕ, ◌++◌, ◌+◌, ◌<◌, ◌∙◌, ◌∷◌, ◌≡◌}
 use Rattle.mica_words.specs.Spelling.{item_words}
 use Rattle.mica_words.proofs.PackedBytes.{length-packed}
-use Rattle.epoch_core.specs.declared.state.OwnerState.{OwnerState}
-use Rattle.epoch_core.specs.declared.event.Event.TheVariants.{PutsWord}
 use Rattle.epoch_core.specs.ItemAt.{HasKeyWords}
-use Rattle.epoch_core.specs.Layout.{item_at}
-use Rattle.epoch_core.specs.OwnerState.{item_in}
-use Rattle.epoch_core.specs.Events.{MayPutWord, after, CanPlay, plays, puts_from, item_events}
-use Rattle.epoch_core.specs.Kept.{Kept}
 use Rattle.epoch_core.proofs.EventWords.{item_puts_other}
 use Rattle.epoch_core.proofs.Log.{not_below}
 use Rattle.epoch_core.proofs.Puts.{can_play-append, plays-append}

@@ -1,23 +1,10 @@
 -- Splits and joins keep what is kept of owners and readers.
-use Rattle.std.proofs.Common.{◌≡◌, ℕ, ◌+◌, ◌*◌, ◌≤◌, [], ◌∷◌, refl, sym, ap, ◌∙◌, arith}
-use Rattle.mica_words.specs.Hash.{bucket_of}
+use Rattle.epoch_core.proofs.Vocabulary.{All-contains, All-from_recursion, Grows, History, IsMain, IsPrefix, Kept, Marked, OwnerState, Phase}
+use Rattle.epoch_core.proofs.Vocabulary.{PhaseFits, ReaderKept, ReaderState, Shape, Write, [], ap, arith, begun_in, bucket_in, bucket_of, epoch_in}
+use Rattle.epoch_core.proofs.Vocabulary.{marked_in, newcomer, options_in, refl, sym, writes_in, writes_to_bucket, ℕ, ◌*◌, ◌+◌, ◌∙◌, ◌∷◌, ◌≡◌, ◌≤◌}
 use Rattle.std.specs.Prelude.{nat_eq}
-use Rattle.mica_model.specs.declared.write.Write.{Write}
-use Rattle.mica_model.specs.History.{History, IsPrefix, writes_to_bucket}
-use Rattle.std.proofs.lemmas.List.Elements.{All-contains, All-from_recursion}
-use Rattle.epoch_core.specs.declared.shape.Shape.{Shape}
-use Rattle.epoch_core.specs.declared.state.OwnerState.{OwnerState}
 use Rattle.epoch_core.specs.declared.state.Met.{Met}
-use Rattle.epoch_core.specs.declared.state.Phase.{Phase}
-use Rattle.epoch_core.specs.declared.state.Phase.TheVariants.{Marked}
 use Rattle.epoch_core.specs.declared.reader.Known.{Known}
-use Rattle.epoch_core.specs.declared.reader.ReaderState.{ReaderState}
-use Rattle.epoch_core.specs.OwnerState.{epoch_in, options_in, bucket_in, writes_in, begun_in, marked_in}
-use Rattle.epoch_core.specs.Shape.{IsMain}
-use Rattle.epoch_core.specs.Kept.{PhaseFits, Kept}
-use Rattle.epoch_core.specs.ReaderState.{newcomer}
-use Rattle.epoch_core.specs.Grows.{Grows}
-use Rattle.epoch_core.specs.ReaderKept.{ReaderKept}
 use Rattle.epoch_core.specs.Joins.{ended_in, lent, note_of, met_by, longer, known, told}
 use Rattle.epoch_core.proofs.Prefixes.{prefix_same, prefix_then, longer_as, longer_both}
 use Rattle.epoch_core.proofs.Failing.{in_none, fails_both}

@@ -1,25 +1,12 @@
 -- Each event of an owner keeps the owner's fact.
-use Rattle.std.proofs.Common.{◌≡◌, ℕ, ◌+◌, ◌*◌, ◌%◌, ◌≤◌, ◌≢◌, Bool, cond, if◌then◌else◌, nat_eq, List, [], ◌∷◌, ◌++◌, count_by, refl, sym, ap, ◌∙◌, subst, arith, length-set, get_or-set_same, length-append}
-use mathlib.Core.Logic.{dite}
-use native.Mathlib.Decide.{ℕ_discrete}
+use Rattle.epoch_core.proofs.Vocabulary.{Begins, Begun, Bool, Ends, Event, History, Idle, IsAllowed, IsLawfulHistory, IsMain, IsPrefix, IsReached}
+use Rattle.epoch_core.proofs.Vocabulary.{Kept, List, Marked, Marks, OwnerState, Phase, PhaseFits, StandsFor, Write, [], after, ap, arith, begun_in}
+use Rattle.epoch_core.proofs.Vocabulary.{bucket_of, by_entry, by_item, by_link, cond, count_by, dite, epoch_at, epoch_in, get_or-set_same}
+use Rattle.epoch_core.proofs.Vocabulary.{history_after, history_snoc, if◌then◌else◌, length-append, length-set, marked_in, nat_eq, options_in}
+use Rattle.epoch_core.proofs.Vocabulary.{phase_after, place_of, refl, stamp_at, stamp_in, stamp_of, subst, sym, writes_in, ℕ, ℕ_discrete, ◌%◌, ◌*◌}
+use Rattle.epoch_core.proofs.Vocabulary.{◌++◌, ◌+◌, ◌∙◌, ◌∷◌, ◌≡◌, ◌≢◌, ◌≤◌}
 use Rattle.std.proofs.lemmas.List.Sums.{sum_by_push}
-use Rattle.mica_words.specs.Hash.{bucket_of}
-use Rattle.mica_model.specs.declared.write.Write.{Write}
 use Rattle.mica_model.specs.Write.{IsWrite}
-use Rattle.mica_model.specs.History.{History, IsPrefix, stamp_of}
-use Rattle.mica_model.proofs.Histories.{history_snoc}
-use Rattle.epoch_core.specs.declared.state.OwnerState.{OwnerState}
-use Rattle.epoch_core.specs.declared.state.Phase.{Phase}
-use Rattle.epoch_core.specs.declared.state.Phase.TheVariants.{Idle, Begun, Marked}
-use Rattle.epoch_core.specs.declared.event.Event.{Event}
-use Rattle.epoch_core.specs.declared.event.Event.TheVariants.{Begins, Marks, Ends}
-use Rattle.epoch_core.specs.Shape.{IsMain}
-use Rattle.epoch_core.specs.Layout.{stamp_at, epoch_at}
-use Rattle.epoch_core.specs.OwnerState.{stamp_in, epoch_in, options_in, writes_in, begun_in, marked_in}
-use Rattle.epoch_core.specs.StandsFor.{StandsFor}
-use Rattle.epoch_core.specs.Events.{IsAllowed, place_of, history_after, phase_after, after}
-use Rattle.epoch_core.specs.Kept.{IsLawfulHistory, PhaseFits, Kept}
-use Rattle.epoch_core.specs.Reach.{IsReached, by_entry, by_link, by_item}
 use Rattle.epoch_core.proofs.Places.{no_epoch, item_no_epoch}
 use Rattle.epoch_core.proofs.Prefixes.{prefix_same, prefix_then}
 use Rattle.epoch_core.proofs.Marked.{bit, bit_same, bit_else, bit_is, calm, ends_main}

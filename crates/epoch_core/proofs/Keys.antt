@@ -1,19 +1,12 @@
 -- The words of an item that spells a key hold that key, and no other.
-use Rattle.std.proofs.Common.{◌≡◌, ℕ, ◌+◌, ◌<◌, List, length, slice_index, sym, ap, ◌∙◌, subst, arith, add-zero}
+use Rattle.epoch_core.proofs.Vocabulary.{AreBytes, Cell, Kept, List, OwnerState, Spells, add-zero, ap, arith, header_key_len, header_of, item_in}
+use Rattle.epoch_core.proofs.Vocabulary.{length, options_in, packed, slice_index, subst, sym, words_for, ℕ, ◌+◌, ◌<◌, ◌∙◌, ◌≡◌}
 use Rattle.std.proofs.lemmas.Grind.{same_number_lists}
 use Rattle.mica_words.specs.Entry.{entry_offset}
-use Rattle.mica_words.specs.Header.{header_of, header_key_len}
-use Rattle.mica_words.specs.Item.{words_for}
-use Rattle.mica_words.specs.Packing.{AreBytes, packed}
 use Rattle.mica_words.proofs.Fields.{header_key_len-header_of}
 use Rattle.mica_words.proofs.ItemWords.{header_word, hash_word, packed_key_word}
 use Rattle.mica_words.proofs.PackedBytes.{length-packed, same_from_words}
-use Rattle.mica_model.specs.Store.{Cell}
-use Rattle.epoch_core.specs.declared.state.OwnerState.{OwnerState}
-use Rattle.epoch_core.specs.OwnerState.{item_in, options_in}
-use Rattle.epoch_core.specs.StandsFor.{Spells}
 use Rattle.epoch_core.specs.ItemAt.{HasKey}
-use Rattle.epoch_core.specs.Kept.{Kept}
 use Rattle.epoch_core.proofs.Machine.{has_fits}
 
 module _ (o : OwnerState) (s : Kept o) (b entry : ℕ) (key : List ℕ) (cell : Cell) (sp : Spells o b entry key cell) where

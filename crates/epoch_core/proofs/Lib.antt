@@ -1,3 +1,4 @@
+pub mod Vocabulary
 pub mod Shapes
 pub mod Places
 pub mod Made

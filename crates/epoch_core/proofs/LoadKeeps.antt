@@ -1,20 +1,11 @@
 -- Each load of a reader keeps what is kept of it.
-use Rattle.std.specs.Prelude.{IfSome}
-use Rattle.std.proofs.Common.{◌≡◌, ℕ, ◌*◌, ◌%◌, ◌≤◌, Bool, List, [], ◌∷◌, ◌++◌, inl, inr, get_or, refl, sym, ap, ◌∙◌, subst, arith, le_refl, Option, Some, None, if◌then◌else◌}
-use Rattle.std.proofs.lemmas.List.Elements.{Contains-push_cases}
-use Rattle.mica_model.specs.History.{writes_to_bucket}
-use Rattle.epoch_core.specs.declared.shape.Shape.{Shape}
+use Rattle.epoch_core.proofs.Vocabulary.{Bool, Contains-push_cases, CutKept, FailsFit, IfSome, IsMain, IsSpelt, Kept, List, None, Option, OwnerState}
+use Rattle.epoch_core.proofs.Vocabulary.{ReaderKept, ReaderState, Shape, Some, Tells, TellsTry, TryKept, [], ap, arith, epoch_in, fails_after}
+use Rattle.epoch_core.proofs.Vocabulary.{failure, get_or, if◌then◌else◌, inl, inr, le_refl, loaded, new_try, opened, options_of, refl, shut, stamped}
+use Rattle.epoch_core.proofs.Vocabulary.{subst, sym, with_cut, with_load, writes_to_bucket, ℕ, ◌%◌, ◌*◌, ◌++◌, ◌∙◌, ◌∷◌, ◌≡◌, ◌≤◌}
 use Rattle.epoch_core.specs.declared.state.Failure.{Failure}
-use Rattle.epoch_core.specs.declared.state.OwnerState.{OwnerState}
 use Rattle.epoch_core.specs.declared.reader.Cut.{Cut}
 use Rattle.epoch_core.specs.declared.reader.Try.{Try}
-use Rattle.epoch_core.specs.declared.reader.ReaderState.{ReaderState}
-use Rattle.epoch_core.specs.Shape.{options_of, IsMain}
-use Rattle.epoch_core.specs.OwnerState.{epoch_in}
-use Rattle.epoch_core.specs.Kept.{Kept}
-use Rattle.epoch_core.specs.Failures.{failure, FailsFit}
-use Rattle.epoch_core.specs.ReaderState.{new_try, opened, with_load, loaded, with_cut, stamped, fails_after, shut}
-use Rattle.epoch_core.specs.ReaderKept.{IsSpelt, CutKept, TryKept, ReaderKept, TellsTry, Tells}
 use Rattle.epoch_core.proofs.Prefixes.{prefix_same, prefix_then}
 use Rattle.epoch_core.proofs.Failing.{in_none, fails_more}
 use Rattle.epoch_core.proofs.Marked.{tested, calm}

@@ -1,27 +1,19 @@
 -- What the machine has, in both modes.
-use Rattle.std.proofs.Common.{◌≡◌, ℕ, ◌<◌, ◌≤◌, ◌≢◌, List, [], ◌∷◌, ◌++◌, Option, Some, None, refl, sym, ap, ◌∙◌, subst, arith}
+use Rattle.epoch_core.proofs.Vocabulary.{AreBytes, Cache as CacheMode, Cell, Has, History, IsLiveItem, KeyFits, List, Mode, None, Option, Some, State}
+use Rattle.epoch_core.proofs.Vocabulary.{Store as StoreMode, ValueFits, Write, [], ap, arith, bucket_of, cache_state, cached_in, cell_at, item_size}
+use Rattle.epoch_core.proofs.Vocabulary.{option_map, refl, stamp_of, state_of, state_snoc, store_state, stored_in, subst, sym, unwrap_or, ℕ, ◌++◌}
+use Rattle.epoch_core.proofs.Vocabulary.{◌<◌, ◌∙◌, ◌∷◌, ◌≡◌, ◌≢◌, ◌≤◌}
 use Rattle.std.specs.List.{AllByRecursion}
-use Rattle.std.specs.Prelude.{option_map, unwrap_or}
 use Rattle.std.specs.FinMap.{get}
-use Rattle.mica_words.specs.Hash.{bucket_of}
-use Rattle.mica_words.specs.Item.{KeyFits, ValueFits, item_size}
-use Rattle.mica_words.specs.Packing.{AreBytes}
 use Rattle.mica_model.specs.declared.options.Options.{Options}
-use Rattle.mica_model.specs.declared.options.Mode.{Mode}
-use Rattle.mica_model.specs.declared.options.Mode.TheVariants.{Cache as CacheMode, Store as StoreMode}
-use Rattle.mica_model.specs.declared.write.Write.{Write}
 use Rattle.mica_model.specs.Write.{IsWrite}
 use Rattle.mica_model.specs.Cache.{Cache, Record, record_of}
-use Rattle.mica_model.specs.Store.{Cell}
 use Rattle.mica_model.specs.CacheStep as cs
 use Rattle.mica_model.specs.StoreStep as ss
-use Rattle.mica_model.specs.History.{History, State, cache_state, store_state, after, state_of, stamp_in, stamp_of}
+use Rattle.mica_model.specs.History.{after, stamp_in}
 use Rattle.mica_model.proofs.CacheLaws.{record_fits, others_back, others_on}
-use Rattle.mica_model.proofs.Histories.{state_snoc, cached_in, stored_in}
 use Rattle.mica_model.proofs.Rises.{stamp_rises}
 use Rattle.mica_model.proofs.StoreLaws.{cell_fits, others_same}
-use Rattle.epoch_core.specs.LiveEntry.{IsLiveItem}
-use Rattle.epoch_core.specs.StandsFor.{cell_at, Has}
 
 -- what all of a list have, its front and its last have
 pub all_parts : {X : Type 0} (P : X → Type 0) (xs : List X) (x : X) → AllByRecursion P (xs ++ x ∷ []) → AllByRecursion P xs × P x

@@ -1,23 +1,13 @@
 -- The owner's fact holds before any event.
-use Rattle.std.proofs.Common.{◌≡◌, ℕ, zero, suc, replicate, inl, inr, List, [], get_or, refl, sym, ◌∙◌, arith}
-use Rattle.std.proofs.lemmas.List.{length-replicate}
+use Rattle.epoch_core.proofs.Vocabulary.{Cache, Has, HasChain, HasLiveEntry, InChain, IsValidShape, Kept, List, Mode, OwnerState, Shape, StandsFor}
+use Rattle.epoch_core.proofs.Vocabulary.{Store, [], arith, as_made, entry_at, epoch_at, get_or, inl, inr, length-replicate, link_at, refl, replicate}
+use Rattle.epoch_core.proofs.Vocabulary.{start, suc, sym, word_count, zero, ℕ, ◌∙◌, ◌≡◌}
 use Rattle.std.specs.FinMap.{get-empty}
 use Rattle.std.specs.Ordering.{nat_cmp}
 use Rattle.std.specs.Cmp.Lexicographic.{slice_cmp}
-use Rattle.mica_model.specs.declared.options.Mode.{Mode}
-use Rattle.mica_model.specs.declared.options.Mode.TheVariants.{Cache, Store}
 use Rattle.mica_model.specs.Cache as cache
 use Rattle.mica_model.specs.Store as store
-use Rattle.mica_model.specs.History.{start, stamp_in}
-use Rattle.epoch_core.specs.declared.shape.Shape.{Shape}
-use Rattle.epoch_core.specs.declared.state.OwnerState.{OwnerState}
-use Rattle.epoch_core.specs.Shape.{IsValidShape}
-use Rattle.epoch_core.specs.Layout.{word_count, epoch_at, entry_at, link_at}
-use Rattle.epoch_core.specs.OwnerState.{as_made}
-use Rattle.epoch_core.specs.Chain.{InChain}
-use Rattle.epoch_core.specs.LiveEntry.{HasLiveEntry}
-use Rattle.epoch_core.specs.StandsFor.{Has, HasChain, StandsFor}
-use Rattle.epoch_core.specs.Kept.{Kept}
+use Rattle.mica_model.specs.History.{stamp_in}
 use Rattle.epoch_core.proofs.Failing.{in_none}
 
 zeros : (n i : ℕ) → ◌≡◌ {A = ℕ} (get_or (replicate n 0) i 0) 0

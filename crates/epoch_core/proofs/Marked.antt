@@ -1,18 +1,10 @@
 -- The bucket whose write is marked, and the buckets that its write may change.
-use Rattle.std.proofs.Common.{◌≡◌, ℕ, zero, suc, ◌+◌, ◌*◌, ◌%◌, ◌<◌, ◌≤◌, ◌≢◌, inl, inr, ◌⊎◌, List, Bool, true, false, if◌then◌else◌, nat_eq, eq-eqb, ne_eqb, refl, sym, ap, subst, arith}
+use Rattle.epoch_core.proofs.Vocabulary.{Begun, Bool, Idle, InChain, IsAmong, IsBucket, IsFreeSpare, IsMain, Kept, List, Marked, OwnerState, Phase}
+use Rattle.epoch_core.proofs.Vocabulary.{PhaseFits, WhenMarked, Write, ap, arith, begun_in, dite, epoch_in, eq-eqb, false, if◌then◌else◌, inl, inr}
+use Rattle.epoch_core.proofs.Vocabulary.{link_in, marked_in, nat_eq, ne_eqb, refl, subst, suc, sym, true, zero, ℕ, ℕ_discrete, ◌%◌, ◌*◌, ◌+◌, ◌<◌}
+use Rattle.epoch_core.proofs.Vocabulary.{◌≡◌, ◌≢◌, ◌≤◌, ◌⊎◌}
 use Rattle.mica_words.proofs.Hashes.{bucket_of-below}
 use Rattle.std.proofs.lemmas.Nat.{pow_pos}
-use native.Mathlib.Decide.{ℕ_discrete}
-use mathlib.Core.Logic.{dite}
-use Rattle.mica_model.specs.declared.write.Write.{Write}
-use Rattle.epoch_core.specs.declared.state.OwnerState.{OwnerState}
-use Rattle.epoch_core.specs.declared.state.Phase.{Phase}
-use Rattle.epoch_core.specs.declared.state.Phase.TheVariants.{Idle, Begun, Marked}
-use Rattle.epoch_core.specs.Shape.{IsMain, IsBucket}
-use Rattle.epoch_core.specs.OwnerState.{epoch_in, link_in, begun_in, marked_in}
-use Rattle.epoch_core.specs.Chain.{IsAmong, InChain, IsFreeSpare}
-use Rattle.epoch_core.specs.Events.{WhenMarked}
-use Rattle.epoch_core.specs.Kept.{PhaseFits, Kept}
 
 abbrev pub bit : ℕ → ℕ → ℕ
 bit c b = if nat_eq c b then 1 else 0

@@ -1,16 +1,7 @@
 -- What an owner has met changes nothing else of what is kept of it.
-use Rattle.std.proofs.Common.{ℕ, refl, le_refl}
-use Rattle.mica_model.specs.declared.options.Mode.{Mode}
-use Rattle.mica_model.specs.declared.options.Mode.TheVariants.{Cache, Store}
-use Rattle.mica_model.specs.History.{IsPrefix}
-use Rattle.epoch_core.specs.declared.state.OwnerState.{OwnerState}
+use Rattle.epoch_core.proofs.Vocabulary.{Cache, FailsFit, Grows, HasChain, InChain, IsDense, IsPrefix, IsReached, Kept, Mode, OwnerState, StandsFor}
+use Rattle.epoch_core.proofs.Vocabulary.{Store, by_entry, by_item, by_link, le_refl, refl, ℕ}
 use Rattle.epoch_core.specs.declared.state.Met.{Met}
-use Rattle.epoch_core.specs.Chain.{InChain, IsDense}
-use Rattle.epoch_core.specs.StandsFor.{HasChain, StandsFor}
-use Rattle.epoch_core.specs.Reach.{IsReached, by_entry, by_link, by_item}
-use Rattle.epoch_core.specs.Failures.{FailsFit}
-use Rattle.epoch_core.specs.Kept.{Kept}
-use Rattle.epoch_core.specs.Grows.{Grows}
 use Rattle.epoch_core.proofs.Prefixes.{prefix_same}
 
 module _ (o : OwnerState) (met : Met) (closed : ℕ) where

@@ -1,8 +1,6 @@
 -- Prefixes of histories.
-use Rattle.std.proofs.Common.{◌≡◌, ◌≤◌, [], ◌∷◌, ◌++◌, Bool, true, false, nat_lt, if◌then◌else◌, length, refl, sym, ap, ◌∙◌, arith, append_assoc}
-use Rattle.std.proofs.lemmas.Bool.{ltb-true, ltb-false}
-use Rattle.std.proofs.lemmas.List.{append-nil}
-use Rattle.mica_model.specs.History.{History, IsPrefix}
+use Rattle.epoch_core.proofs.Vocabulary.{Bool, History, IsPrefix, [], ap, append-nil, append_assoc, arith, false, if◌then◌else◌, length, ltb-false}
+use Rattle.epoch_core.proofs.Vocabulary.{ltb-true, nat_lt, refl, sym, true, ◌++◌, ◌∙◌, ◌∷◌, ◌≡◌, ◌≤◌}
 use Rattle.epoch_core.specs.Joins.{longer}
 
 pub prefix_same : (h : History) → IsPrefix h h

@@ -1,10 +1,9 @@
 -- The machine of options is that of their shape: it reads no other option, and in cache mode no spares.
-use Rattle.std.proofs.Common.{◌≡◌, ℕ, Bool, true, false, cond, is_some, inl, inr, refl, sym, ap, ◌∙◌, subst, arith, ◌+◌}
+use Rattle.epoch_core.proofs.Vocabulary.{Bool, Cache as CacheMode, History, IsValidShape, MayGive, Mode, State, Store as StoreMode, Write, ap, arith}
+use Rattle.epoch_core.proofs.Vocabulary.{cache_state, cached_in, cond, false, inl, inr, is_some, options_of, refl, shape_of, spares_in, start}
+use Rattle.epoch_core.proofs.Vocabulary.{state_of, store_state, stored_in, subst, sym, true, ℕ, ◌+◌, ◌∙◌, ◌≡◌}
 use Rattle.std.specs.List.{fold}
 use Rattle.mica_model.specs.declared.options.Options.{Options}
-use Rattle.mica_model.specs.declared.options.Mode.{Mode}
-use Rattle.mica_model.specs.declared.options.Mode.TheVariants.{Cache as CacheMode, Store as StoreMode}
-use Rattle.mica_model.specs.declared.write.Write.{Write}
 use Rattle.mica_model.specs.declared.write.Op.{Op}
 use Rattle.mica_model.specs.declared.write.Op.TheVariants.{Put, Del}
 use Rattle.mica_model.specs.declared.write.Outcome.{Outcome}
@@ -14,9 +13,7 @@ use Rattle.mica_model.specs.Cache as cache
 use Rattle.mica_model.specs.CacheStep as cs
 use Rattle.mica_model.specs.Store as store
 use Rattle.mica_model.specs.StoreStep as ss
-use Rattle.mica_model.specs.History.{History, State, cache_state, store_state, after, start, state_of, Allows, MayGive}
-use Rattle.mica_model.proofs.Histories.{cached_in, stored_in}
-use Rattle.epoch_core.specs.Shape.{spares_in, shape_of, options_of, IsValidShape}
+use Rattle.mica_model.specs.History.{after, Allows}
 
 spares_fit : (mode : Mode) (spares : ℕ) → InRange 0 65536 spares → InRange 0 65536 (spares_in mode spares) × (mode ≡ CacheMode → spares_in mode spares ≡ 0)
 spares_fit CacheMode spares range = ((omega arith, omega arith), λ is. refl)

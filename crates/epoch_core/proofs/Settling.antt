@@ -1,14 +1,8 @@
 -- When a script is settled: by its last cut, and whether a write is under way.
-use Rattle.std.proofs.Common.{◌≡◌, ℕ, ◌-◌, ◌<◌, take, arith, Bool, not, List, true, false, length, get_or, refl, sym, ap, ◌∙◌}
-use Rattle.std.specs.Prelude.{IsTrue}
-use Rattle.epoch_core.specs.declared.state.OwnerState.{OwnerState}
-use Rattle.epoch_core.specs.declared.state.Phase.{Phase}
-use Rattle.epoch_core.specs.declared.state.Phase.TheVariants.{Idle, Begun, Marked}
+use Rattle.epoch_core.proofs.Vocabulary.{Begun, Bool, Idle, IsSettled, IsTrue, List, Marked, OwnerState, Phase, Rests, ap, arith, as_made, cut_at}
+use Rattle.epoch_core.proofs.Vocabulary.{false, get_or, is_writing, length, not, owner_at, plays, refl, sym, take, true, ℕ, ◌-◌, ◌<◌, ◌∙◌, ◌≡◌}
 use Rattle.epoch_core.specs.declared.scripted.Scripted.{Scripted}
 use Rattle.epoch_core.specs.declared.scripted.Plan.{Plan}
-use Rattle.epoch_core.specs.OwnerState.{as_made}
-use Rattle.epoch_core.specs.Events.{plays}
-use Rattle.epoch_core.specs.Script.{cut_at, owner_at, Rests, IsSettled, is_writing}
 use Rattle.epoch_core.specs.Seats.{book_of}
 use Rattle.epoch_core.proofs.Cuts.{still_at_last, last_of_still}
 

@@ -1,13 +1,9 @@
 -- Whether a shape's fields are in their ranges, as a fact and as a test.
-use Rattle.std.proofs.Common.{◌≡◌, ℕ, ◌≤◌, true, refl, arith}
+use Rattle.epoch_core.proofs.Vocabulary.{Cache, IsValidShape, Mode, Shape, Store, arith, is_in_range, refl, spares_in, true, ℕ, ◌≡◌, ◌≤◌}
 use Rattle.std.proofs.lemmas.Bool.Decides.{nat_tests}
 use Rattle.std.proofs.lemmas.Grind.{common_steps}
 use Rattle.std.specs.Int.{is_power_of_two}
-use Rattle.mica_model.specs.declared.options.Mode.{Mode}
-use Rattle.mica_model.specs.declared.options.Mode.TheVariants.{Cache, Store}
 use Rattle.mica_model.proofs.PowersOfTwo.{small_power_of_two, power_is_small}
-use Rattle.epoch_core.specs.declared.shape.Shape.{Shape}
-use Rattle.epoch_core.specs.Shape.{spares_in, IsValidShape, is_in_range}
 
 few_spares : (mode : Mode) (spares : ℕ) → spares ≤ spares_in mode 65536 → (spares ≤ 65536) × (mode ≡ Cache → spares ≡ 0)
 few_spares Cache spares less = (omega arith, λ is. omega arith)

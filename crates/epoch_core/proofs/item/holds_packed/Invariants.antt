@@ -1,6 +1,4 @@
-use Rattle.std.proofs.Common.{◌≡◌, ℕ, ◌+◌, ◌<◌, slice_index}
-use Rattle.mica_words.specs.Packing.{packed}
-use Rattle.epoch_core.specs.OwnerState.{item_in}
+use Rattle.epoch_core.proofs.Vocabulary.{item_in, packed, slice_index, ℕ, ◌+◌, ◌<◌, ◌≡◌}
 use Rattle.epoch_core.proofs.item.holds_packed.Given as goal
 
 abbrev pub invariant-loop-i : goal.invariant-loop-i

@@ -1,10 +1,5 @@
-use Rattle.std.proofs.Common.{◌≡◌, ◌+◌, ◌∷◌, List, [], drop, sym, ap, ◌∙◌, arith}
-use Rattle.std.proofs.lemmas.List.{drop_all}
-use Rattle.mica_words.specs.Packing.{packed}
+use Rattle.epoch_core.proofs.Vocabulary.{Event, List, PutsWord, [], ap, arith, drop, drop_all, packed, plays, puts_from, sym, ◌+◌, ◌∙◌, ◌∷◌, ◌≡◌}
 use Rattle.mica_words.proofs.PackedBytes.{length-packed}
-use Rattle.epoch_core.specs.declared.event.Event.{Event}
-use Rattle.epoch_core.specs.declared.event.Event.TheVariants.{PutsWord}
-use Rattle.epoch_core.specs.Events.{plays, puts_from}
 use Rattle.epoch_core.proofs.Puts.{next_put}
 use Rattle.epoch_core.proofs.item.put_packed.Given.{Over}
 use Rattle.epoch_core.proofs.item.put_packed.Goals.{After-packed_word}

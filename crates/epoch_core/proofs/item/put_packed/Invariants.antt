@@ -1,7 +1,4 @@
-use Rattle.std.proofs.Common.{◌≡◌, ◌+◌, drop}
-use Rattle.mica_words.specs.Packing.{packed}
-use Rattle.epoch_core.specs.Events.{CanPlay, plays, puts_from}
-use Rattle.epoch_core.specs.Kept.{Kept}
+use Rattle.epoch_core.proofs.Vocabulary.{CanPlay, Kept, drop, packed, plays, puts_from, ◌+◌, ◌≡◌}
 use Rattle.epoch_core.proofs.item.put_packed.Given as goal
 
 -- what is left to store may be stored, and leads to the end

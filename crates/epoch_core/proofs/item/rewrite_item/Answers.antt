@@ -1,7 +1,5 @@
-use Rattle.std.proofs.Common.{◌≡◌, ◌+◌, length, sym, ◌∙◌, arith}
-use Rattle.mica_words.specs.Packing.{packed}
+use Rattle.epoch_core.proofs.Vocabulary.{arith, length, packed, plays, puts_from, sym, ◌+◌, ◌∙◌, ◌≡◌}
 use Rattle.mica_words.proofs.PackedBytes.{length-packed}
-use Rattle.epoch_core.specs.Events.{plays, puts_from}
 use Rattle.epoch_core.proofs.ItemEvents.{CanPut, keyed, can_put_parts, all_put, key_stays}
 use Rattle.epoch_core.proofs.item.rewrite_item.Given.{Over}
 use Rattle.epoch_core.proofs.item.rewrite_item.Goals.{Start, After-from}

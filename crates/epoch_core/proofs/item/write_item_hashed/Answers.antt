@@ -1,5 +1,4 @@
-use Rattle.std.proofs.Common.{◌≡◌, ◌+◌, length, ◌∙◌, arith}
-use Rattle.mica_words.specs.Packing.{packed}
+use Rattle.epoch_core.proofs.Vocabulary.{arith, length, packed, ◌+◌, ◌∙◌, ◌≡◌}
 use Rattle.mica_words.proofs.PackedBytes.{length-packed}
 use Rattle.epoch_core.proofs.ItemEvents.{CanPut, can_put_parts, all_put}
 use Rattle.epoch_core.proofs.item.write_item_hashed.Given.{Over}

@@ -1,5 +1,4 @@
-use Rattle.std.proofs.Common.{not, ap}
-use Rattle.std.proofs.lemmas.Bool.{eqb-true}
+use Rattle.epoch_core.proofs.Vocabulary.{ap, eqb-true, not}
 use Rattle.epoch_core.proofs.Settling.{settled, at_end, calm, quiet_is}
 use Rattle.epoch_core.proofs.scripted.Scripted.is_settled.Goals as goal
 

@@ -1,8 +1,6 @@
-use Rattle.std.proofs.Common.{◌≡◌, ℕ, ◌+◌, length, sym, ap, ◌∙◌, subst, arith}
-use Rattle.epoch_core.specs.declared.reader.ReaderState.{ReaderState}
+use Rattle.epoch_core.proofs.Vocabulary.{NoneAbove, ReaderState, ap, arith, cut_at, length, look_at, owner_at, subst, sym, ℕ, ◌+◌, ◌∙◌, ◌≡◌}
 use Rattle.epoch_core.specs.declared.scripted.Plan.{Plan}
 use Rattle.epoch_core.specs.declared.scripted.Book.{Book}
-use Rattle.epoch_core.specs.Script.{NoneAbove, cut_at, owner_at, look_at}
 use Rattle.epoch_core.proofs.ScriptKeeps.{more_loads}
 use Rattle.epoch_core.proofs.Cuts.{cut_min, cut_rises, cut_few}
 use Rattle.epoch_core.proofs.scripted.Scripted.load.Given.{Over}

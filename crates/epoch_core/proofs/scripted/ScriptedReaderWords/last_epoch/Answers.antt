@@ -1,5 +1,4 @@
-use Rattle.std.proofs.Common.{ℕ, get_or, sym, ap, ◌∙◌, subst}
-use Rattle.epoch_core.specs.ReaderKept.{Tells}
+use Rattle.epoch_core.proofs.Vocabulary.{Tells, ap, get_or, subst, sym, ℕ, ◌∙◌}
 use Rattle.epoch_core.proofs.LoadKeeps.{tells}
 use Rattle.epoch_core.proofs.scripted.ScriptedReaderWords.last_epoch.Goals as goal
 
