@@ -1,8 +1,8 @@
 -- Splits and joins keep what is kept of owners and readers.
 use Rattle.epoch_core.proofs.Vocabulary.{All-contains, All-from_recursion, Grows, History, IsMain, IsPrefix, Kept, Marked, OwnerState, Phase}
 use Rattle.epoch_core.proofs.Vocabulary.{PhaseFits, ReaderKept, ReaderState, Shape, Write, [], ap, arith, begun_in, bucket_in, bucket_of, epoch_in}
-use Rattle.epoch_core.proofs.Vocabulary.{marked_in, newcomer, options_in, refl, sym, writes_in, writes_to_bucket, ℕ, ◌*◌, ◌+◌, ◌∙◌, ◌∷◌, ◌≡◌, ◌≤◌}
-use Rattle.std.specs.Prelude.{nat_eq}
+use Rattle.epoch_core.proofs.Vocabulary.{marked_in, nat_eq, newcomer, options_in, refl, sym, writes_in, writes_to_bucket, ℕ, ◌*◌, ◌+◌, ◌∙◌, ◌∷◌, ◌≡◌}
+use Rattle.epoch_core.proofs.Vocabulary.{◌≤◌}
 use Rattle.epoch_core.specs.declared.state.Met.{Met}
 use Rattle.epoch_core.specs.declared.reader.Known.{Known}
 use Rattle.epoch_core.specs.Joins.{ended_in, lent, note_of, met_by, longer, known, told}

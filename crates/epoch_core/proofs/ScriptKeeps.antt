@@ -53,9 +53,7 @@ look_fits (LastEpoch b) o r s k may = shuts o s r k b may
 
 pub more_loads : (look : Look) (o : OwnerState) (r : ReaderState) → (look_at look o r).loads ≡ r.loads + 1
 more_loads (FirstEpoch b) o r = refl
-more_loads (Word place) o r = refl
-more_loads Stamp o r = refl
-more_loads (LastEpoch b) o r = refl
+more_loads look o r = refl
 
 -- The numbers of the loads
 

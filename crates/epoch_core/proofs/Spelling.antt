@@ -1,56 +1,39 @@
 -- What a try's loads spell, while its bucket's epoch has not moved, is the machine's answer.
-use Rattle.std.proofs.Common.{◌≡◌, ℕ, zero, suc, ◌+◌, ◌<◌, inl, inr, List, [], ◌∷◌, length, slice_index, refl, sym, ap, ◌∙◌, subst, arith, add-zero, Option, Some, None}
-use Rattle.std.specs.Prelude.{Contains, option_map}
+use Rattle.epoch_core.proofs.Vocabulary.{AreBytes, Cell, Contains, Has, HasLiveEntry, InChain, IsAmong, IsLive, IsSpelt, Kept, List, None, Option}
+use Rattle.epoch_core.proofs.Vocabulary.{OwnerState, Some, Spells, StandsFor, State, TryKept, [], add-zero, answer_of, ap, arith, bucket_in, by_entry}
+use Rattle.epoch_core.proofs.Vocabulary.{by_item, by_link, cache_state, cell_at, entry_at, entry_in, epoch_in, fnv1a, header_key_len}
+use Rattle.epoch_core.proofs.Vocabulary.{header_value_len, inl, inr, item_at, item_in, item_size, length, link_at, link_in, option_map, options_in}
+use Rattle.epoch_core.proofs.Vocabulary.{packed, refl, slice_index, stamp_in, stamp_of, state_in, store_state, subst, suc, sym, unpacked, value_in}
+use Rattle.epoch_core.proofs.Vocabulary.{words_for, zero, ℕ, ◌+◌, ◌<◌, ◌∙◌, ◌∷◌, ◌≡◌, ◌≢◌}
 use Rattle.std.specs.FinMap.{get}
-use Rattle.std.proofs.lemmas.Grind.{same_number_lists}
-use Rattle.mica_words.specs.Hash.{fnv1a}
 use Rattle.mica_words.specs.Entry.{entry_offset}
-use Rattle.mica_words.specs.Header.{header_of, header_key_len, header_value_len}
-use Rattle.mica_words.specs.Item.{words_for, item_size}
-use Rattle.mica_words.specs.Packing.{AreBytes, packed, unpacked}
-use Rattle.mica_words.specs.Spelling.{item_words}
-use Rattle.mica_words.proofs.Fields.{header_key_len-header_of, header_value_len-header_of}
-use Rattle.mica_words.proofs.ItemWords.{header_word, hash_word, packed_key_word, value_word, same_value}
-use Rattle.mica_words.proofs.PackedBytes.{length-packed, same_from_words}
+use Rattle.mica_words.proofs.Fields.{header_value_len-header_of}
+use Rattle.mica_words.proofs.ItemWords.{header_word, value_word, same_value}
 use Rattle.mica_model.specs.Cache.{Record, record_of}
-use Rattle.mica_model.specs.Store.{Cell}
-use Rattle.mica_model.specs.History.{State, cache_state, store_state, value_in, stamp_of, answer_of}
-use Rattle.epoch_core.specs.declared.state.OwnerState.{OwnerState}
 use Rattle.epoch_core.specs.declared.reader.Try.{Try}
-use Rattle.epoch_core.specs.Layout.{entry_at, link_at, item_at}
-use Rattle.epoch_core.specs.OwnerState.{stamp_in, epoch_in, entry_in, link_in, options_in, state_in, bucket_in}
-use Rattle.epoch_core.specs.Chain.{IsAmong, InChain}
-use Rattle.epoch_core.specs.LiveEntry.{IsLive, HasLiveEntry}
-use Rattle.epoch_core.specs.StandsFor.{cell_at, Has, Spells, StandsFor}
-use Rattle.epoch_core.specs.Reach.{by_entry, by_link, by_item}
 use Rattle.epoch_core.specs.Spelt.{HasLoad, HasLinks, ShowsOther, by_offset, by_key_len, by_value_len, by_hash, by_key_word, ShowsItem, IsNoEntryOf, by_tag, by_stamp, by_item as by_other, SpellsAnswer}
-use Rattle.epoch_core.specs.Kept.{Kept}
-use Rattle.epoch_core.specs.ReaderKept.{IsSpelt, TryKept}
-use Rattle.epoch_core.proofs.Machine.{Fits, has_fits}
-use Rattle.epoch_core.proofs.Failing.{in_cons, in_head, in_tail}
+use Rattle.epoch_core.specs.ItemAt.{HasKey}
+use Rattle.epoch_core.proofs.Machine.{Fits, found_record, has_fits}
+use Rattle.epoch_core.proofs.Keys.{has_its_key, has_no_other}
+use Rattle.epoch_core.proofs.Failing.{in_cons, in_none, in_head, in_tail}
 
 -- what the machine has is its answer, and the other way round
 
 value_has : (now : State) (key : List ℕ) (cell : Cell) (p : ℕ) → Has now key cell p → value_in now key ≡ Some cell.value
-value_has (cache_state s) key cell p h = by_record (record_of s key) h
-  where
-    by_record : (found : Option Record) → option_map cell_at found ≡ Some (cell, p) → option_map (λ (r : Record). r.value) found ≡ Some cell.value
-    by_record None e = cc e
-    by_record (Some r) e = ap (option_map (λ (z : Cell × ℕ). z.0.value)) e
+value_has (cache_state s) key cell p h =
+    let found = found_record (record_of s key) cell p h in
+    ap (option_map (λ (r : Record). r.value)) found.1 ∙ ap (λ (z : Cell). Some z.value) (sym found.3)
 value_has (store_state s) key cell p h = ap (option_map (λ (z : Cell). z.value)) h
 
-record_has : (found : Option Record) (value : List ℕ) → option_map (λ (r : Record). r.value) found ≡ Some value
-    → (cell : Cell) × (p : ℕ) × (option_map cell_at found ≡ Some (cell, p))
-record_has None value e = cc e
-record_has (Some r) value e = (record { value = r.value; room = r.room }, r.offset, refl)
-
-cell_has : (found : Option Cell) (value : List ℕ) → option_map (λ (z : Cell). z.value) found ≡ Some value → (cell : Cell) × (p : ℕ) × (found ≡ Some cell)
-cell_has None value e = cc e
-cell_has (Some cell) value e = (cell, 0, refl)
+found_some : {X : Type 0} (value_of : X → List ℕ) (found : Option X) (value : List ℕ) → option_map value_of found ≡ Some value → (x : X) × (found ≡ Some x)
+found_some value_of None value e = cc e
+found_some value_of (Some x) value e = (x, refl)
 
 has_value : (now : State) (key value : List ℕ) → value_in now key ≡ Some value → (cell : Cell) × (p : ℕ) × Has now key cell p
-has_value (cache_state s) key value e = record_has (record_of s key) value e
-has_value (store_state s) key value e = cell_has (get s.cells key) value e
+has_value (cache_state s) key value e =
+    let r = found_some (λ (r : Record). r.value) (record_of s key) value e in
+    (record { value = r.0.value; room = r.0.room }, r.0.offset, ap (option_map cell_at) r.1)
+has_value (store_state s) key value e = let cell = found_some (λ (z : Cell). z.value) (get s.cells key) value e in (cell.0, 0, cell.1)
 
 module _ (o : OwnerState) (s : Kept o) (t : Try) (k : TryKept o t) (still : epoch_in o t.bucket ≡ t.first) (f : StandsFor o t.bucket) where
   -- the walk over the links that were loaded is the chain
@@ -61,15 +44,15 @@ module _ (o : OwnerState) (s : Kept o) (t : Try) (k : TryKept o t) (still : epoc
   entry_now : (c slot entry : ℕ) → InChain o t.bucket c → slot < 15 → HasLoad t.loads (entry_at o.shape c slot) entry → entry_in o c slot ≡ entry
   entry_now c slot entry h x load = k.loads still (entry_at o.shape c slot) entry load (by_entry c slot h x refl)
 
+  among_more : (n b d : ℕ) → link_in o b ≡ d → d ≢ 0 → (e : ℕ) → IsAmong o n d e → IsAmong o (suc n) b e
+  among_more n b d is some e among = inr (λ none. some (sym is ∙ none), subst (λ (z : ℕ). IsAmong o n z e) (sym is) among)
+
   walk : (n b : ℕ) (cs : List ℕ) → ((d : ℕ) → IsAmong o (suc n) b d → InChain o t.bucket d) → HasLinks o.shape t.loads n b cs
       → (c : ℕ) → Contains (b ∷ cs) c → IsAmong o (suc n) b c
-  walk zero b [] up h c i = elim (in_cons b c [] i) [ inl e ↦ inl e | inr i' ↦ absurd (omega (arith, i'.1)) ]
+  walk n b [] up h c i = elim (in_cons b c [] i) [ inl e ↦ inl e | inr none ↦ absurd (in_none c none) ]
   walk zero b (d ∷ cs) up h c i = absurd h
-  walk (suc n) b [] up h c i = elim (in_cons b c [] i) [ inl e ↦ inl e | inr i' ↦ absurd (omega (arith, i'.1)) ]
   walk (suc n) b (d ∷ cs) up h c i =
-      let is : link_in o b ≡ d = link_now b d (up b (inl refl)) h.1 in
-      let more : (e : ℕ) → IsAmong o (suc n) d e → IsAmong o (suc (suc n)) b e =
-      λ e among. inr (λ none. h.0 (sym is ∙ none), subst (λ (z : ℕ). IsAmong o (suc n) z e) (sym is) among) in
+      let more = among_more (suc n) b d (link_now b d (up b (inl refl)) h.1) h.0 in
       elim (in_cons b c (d ∷ cs) i) [ inl e ↦ inl e | inr i' ↦ more c (walk n d cs (λ e among. up e (more e among)) h.2 c i') ]
 
   meets : (n b : ℕ) (cs : List ℕ) → ((d : ℕ) → IsAmong o (suc n) b d → InChain o t.bucket d) → HasLinks o.shape t.loads n b cs
@@ -78,13 +61,8 @@ module _ (o : OwnerState) (s : Kept o) (t : Try) (k : TryKept o t) (still : epoc
   meets zero b cs up h c (inr i) = absurd i.1
   meets (suc n) b [] up h c (inr i) = absurd (i.0 (link_now b 0 (up b (inl refl)) h))
   meets (suc n) b (d ∷ cs) up h c (inr i) =
-      let is : link_in o b ≡ d = link_now b d (up b (inl refl)) h.1 in
-      let more : (e : ℕ) → IsAmong o (suc n) d e → IsAmong o (suc (suc n)) b e =
-      λ e among. inr (λ none. h.0 (sym is ∙ none), subst (λ (z : ℕ). IsAmong o (suc n) z e) (sym is) among) in
-      in_tail b c (d ∷ cs) (meets n d cs (λ e among. up e (more e among)) h.2 c (subst (λ (z : ℕ). IsAmong o (suc n) z c) is i.1))
-
-  whole : (c : ℕ) → IsAmong o (suc o.shape.spares) t.bucket c → InChain o t.bucket c
-  whole c h = h
+      let is = link_now b d (up b (inl refl)) h.1 in
+      in_tail b c (d ∷ cs) (meets n d cs (λ e among. up e (among_more (suc n) b d is h.0 e among)) h.2 c (subst (λ (z : ℕ). IsAmong o (suc n) z c) is i.1))
 
   -- the words of a live entry's item that were loaded are the item's
 
@@ -92,65 +70,58 @@ module _ (o : OwnerState) (s : Kept o) (t : Try) (k : TryKept o t) (still : epoc
     fits : Fits key cell
     fits = has_fits (options_in o) o.history s.history.writes key cell (entry_offset entry) sp.has
 
-    word_now : (i x : ℕ) → i < item_size key cell.value → HasLoad t.loads (item_at o.shape (entry_offset entry + i)) x
-        → slice_index (item_words cell.room key cell.value) i ≡ x
-    word_now i x l load =
-        let room = sp.in_room in
-        sym (sp.item i l) ∙ k.loads still (item_at o.shape (entry_offset entry + i)) x load (by_item c slot entry i h (omega arith) refl)
+    its_key : HasKey o (entry_offset entry) key
+    its_key = has_its_key o s t.bucket entry key cell sp
 
-    header_is : (x : ℕ) → HasLoad t.loads (item_at o.shape (entry_offset entry)) x → header_of cell.room (length key) (length cell.value) ≡ x
-    header_is x load =
-        sym (header_word cell.room key cell.value)
-        ∙ word_now 0 x (omega arith) (subst (λ (z : ℕ). HasLoad t.loads (item_at o.shape z) x) (sym (add-zero (entry_offset entry))) load)
+    word_now : (i p x : ℕ) → p ≡ entry_offset entry + i → i < item_size key cell.value → HasLoad t.loads (item_at o.shape p) x → item_in o p ≡ x
+    word_now i p x at l load = let room = sp.in_room in k.loads still (item_at o.shape p) x load (by_item c slot entry i h (omega arith) (ap (item_at o.shape) at))
 
-    key_len_is : (x : ℕ) → HasLoad t.loads (item_at o.shape (entry_offset entry)) x → header_key_len x ≡ length key
-    key_len_is x load =
-        let key_fits = fits.0 in
-        ap header_key_len (sym (header_is x load)) ∙ header_key_len-header_of cell.room (length key) (length cell.value) fits.5 (omega arith)
+    header_now : (x : ℕ) → HasLoad t.loads (item_at o.shape (entry_offset entry)) x → item_in o (entry_offset entry) ≡ x
+    header_now x load = word_now 0 (entry_offset entry) x (omega arith) (omega arith) load
+
+    hash_now : (x : ℕ) → HasLoad t.loads (item_at o.shape (entry_offset entry + 1)) x → item_in o (entry_offset entry + 1) ≡ x
+    hash_now x load = word_now 1 (entry_offset entry + 1) x refl (omega arith) load
+
+    key_now : (i x : ℕ) → i < words_for (length key) → HasLoad t.loads (item_at o.shape (entry_offset entry + 2 + i)) x → item_in o (entry_offset entry + 2 + i) ≡ x
+    key_now i x l load = word_now (2 + i) (entry_offset entry + 2 + i) x (omega arith) (omega arith) load
 
     value_len_is : (x : ℕ) → HasLoad t.loads (item_at o.shape (entry_offset entry)) x → header_value_len x ≡ length cell.value
     value_len_is x load =
         let key_fits = fits.0 in
-        ap header_value_len (sym (header_is x load)) ∙ header_value_len-header_of cell.room (length key) (length cell.value) fits.5 (omega arith)
-
-    hash_is : (x : ℕ) → HasLoad t.loads (item_at o.shape (entry_offset entry + 1)) x → fnv1a key ≡ x
-    hash_is x load = sym (hash_word cell.room key cell.value) ∙ word_now 1 x (omega arith) load
-
-    key_word_is : (i x : ℕ) → i < words_for (length key) → HasLoad t.loads (item_at o.shape (entry_offset entry + 2 + i)) x → slice_index (packed key) i ≡ x
-    key_word_is i x l load =
-        let place : entry_offset entry + 2 + i ≡ entry_offset entry + (2 + i) = omega arith in
-        sym (packed_key_word cell.room key cell.value i l)
-        ∙ word_now (2 + i) x (omega arith) (subst (λ (z : ℕ). HasLoad t.loads (item_at o.shape z) x) place load)
+        ap header_value_len (sym (header_now x load) ∙ ap (item_in o) (sym (add-zero (entry_offset entry))) ∙ sp.item 0 (omega arith) ∙ header_word cell.room key cell.value)
+        ∙ header_value_len-header_of cell.room (length key) (length cell.value) fits.5 (omega arith)
 
     value_word_is : (i x n : ℕ) → n ≡ words_for (length key) → i < words_for (length cell.value)
         → HasLoad t.loads (item_at o.shape (entry_offset entry + 2 + n + i)) x → slice_index (packed cell.value) i ≡ x
     value_word_is i x n same l load =
         let place : entry_offset entry + 2 + n + i ≡ entry_offset entry + (2 + words_for (length key) + i) = omega arith in
-        sym (value_word cell.room key cell.value i l)
-        ∙ word_now (2 + words_for (length key) + i) x (omega arith) (subst (λ (z : ℕ). HasLoad t.loads (item_at o.shape z) x) place load)
+        sym (value_word cell.room key cell.value i l) ∙ sym (sp.item (2 + words_for (length key) + i) (omega arith))
+        ∙ ap (item_in o) (sym place) ∙ word_now (2 + words_for (length key) + i) (entry_offset entry + 2 + n + i) x place (omega arith) load
 
     -- they do not tell that it is another key's
     not_other : ¬ (ShowsOther o.shape t.loads (entry_offset entry) key)
     not_other (by_offset out) = out sp.offset
-    not_other (by_key_len x load other) = other (key_len_is x load)
+    not_other (by_key_len x load other) = other (ap header_key_len (sym (header_now x load)) ∙ its_key.len)
     not_other (by_value_len x load long) = let short = fits.2 in let is = value_len_is x load in omega arith
-    not_other (by_hash x load other) = other (sym (hash_is x load))
-    not_other (by_key_word i x l load other) = other (sym (key_word_is i x l load))
+    not_other (by_hash x load other) = other (sym (hash_now x load) ∙ its_key.hash)
+    not_other (by_key_word i x l load other) = other (sym (key_now i x l load) ∙ its_key.words i l)
 
     -- where they tell that it is a key's, it is, with that value
     is_item : (key' value : List ℕ) → AreBytes key' → ShowsItem o.shape t.loads (entry_offset entry) key' value → (key ≡ key') × (cell.value ≡ value)
     is_item key' value bytes shows =
-        let one : length key ≡ length key' = sym (key_len_is shows.header shows.header_load) ∙ shows.key_len in
+        let len : header_key_len (item_in o (entry_offset entry)) ≡ length key' = ap header_key_len (header_now shows.header shows.header_load) ∙ shows.key_len in
+        let one : length key ≡ length key' = sym its_key.len ∙ len in
         let two : length cell.value ≡ length value = sym (value_len_is shows.header shows.header_load) ∙ shows.value_len in
-        let words : packed key ≡ packed key' = same_number_lists (packed key) (packed key')
-        (length-packed key ∙ (ap words_for one ∙ sym (length-packed key')))
-        (λ i l.
-        let below : i < words_for (length key) = omega (arith, length-packed key) in
-        key_word_is i (slice_index (packed key') i) below (shows.key_words i (subst (λ (z : ℕ). i < words_for z) one below))) in
         let long : length shows.words ≡ words_for (length cell.value) = shows.words_len ∙ ap words_for (sym two) in
         let held : unpacked (length cell.value) shows.words ≡ cell.value = same_value cell.value shows.words fits.3 long
-        (λ i l. sym (value_word_is i (slice_index shows.words i) (words_for (length key')) (ap words_for (sym one)) (subst (λ (z : ℕ). i < z) long l) (shows.value_words i l))) in
-        (same_from_words key key' fits.1 bytes one words, sym held ∙ (ap (λ (z : ℕ). unpacked z shows.words) two ∙ shows.held))
+        (λ i l. sym (value_word_is i (slice_index shows.words i) (words_for (length key')) (ap words_for (sym one)) (subst (λ (z : ℕ). i < z) long l) (shows.value_words i l))) in (
+          has_no_other o s t.bucket entry key cell sp key' bytes record {
+            len = len;
+            hash = hash_now (fnv1a key') shows.hash;
+            words = λ i l. key_now i (slice_index (packed key') i) (subst (λ (z : ℕ). i < words_for z) (sym one) l) (shows.key_words i l);
+          },
+          sym held ∙ (ap (λ (z : ℕ). unpacked z shows.words) two ∙ shows.held),
+        )
 
   live_now : (entry : ℕ) → IsLive o.shape (stamp_in o) entry → IsLive o.shape (stamp_of (options_in o) o.history) entry
   live_now entry live = subst (λ (z : ℕ). IsLive o.shape z entry) s.stamp live
@@ -170,14 +141,14 @@ module _ (o : OwnerState) (s : Kept o) (t : Try) (k : TryKept o t) (still : epoc
       let has = has_value (state_in o) key v is in
       let at = f.each key has.0 has.1 bucket has.2 in
       let h = at.3 in
-      let shows = spell.shows at.0 at.1 (meets o.shape.spares t.bucket spell.behind whole spell.links at.0 h.in_chain) h.in_bucket in
+      let shows = spell.shows at.0 at.1 (meets o.shape.spares t.bucket spell.behind (λ c h. h) spell.links at.0 h.in_chain) h.in_bucket in
       let same : shows.0 ≡ at.2 = sym (entry_now at.0 at.1 shows.0 h.in_chain h.in_bucket shows.1) ∙ h.found in
       absurd (is_one at.0 at.1 at.2 h key has.0 at.4
       (subst (IsNoEntryOf o.shape t.loads (stamp_of (options_in o) o.history) key) same shows.2))
   told_answer key bytes bucket (Some value) spell now is =
       let entry = spell.shows.0 in
       let at = spell.shows.1 in
-      let among = walk o.shape.spares t.bucket spell.behind whole spell.links at.bucket at.in_chain in
+      let among = walk o.shape.spares t.bucket spell.behind (λ c h. h) spell.links at.bucket at.in_chain in
       let h : HasLiveEntry o t.bucket at.bucket at.slot entry = record {
         in_chain = among;
         in_bucket = at.in_bucket;

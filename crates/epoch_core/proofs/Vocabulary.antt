@@ -10,11 +10,12 @@ pub use Rattle.std.proofs.lemmas.List.{append-nil, drop_all, get_or_default, get
 pub use Rattle.std.proofs.lemmas.List.Elements.{All-contains, All-from_recursion, Contains-append_cases, Contains-push_cases}
 pub use Rattle.std.specs.Prelude.{Contains, IfSome, IsTrue, option_map, unwrap_or}
 pub use Rattle.mica_words.specs.Hash.{bucket_of, fnv1a}
-pub use Rattle.mica_words.specs.Header.{header_key_len, header_of, header_room}
+pub use Rattle.mica_words.specs.Header.{header_key_len, header_of, header_room, header_value_len}
 pub use Rattle.mica_words.specs.Item.{KeyFits, ValueFits, item_size, words_for}
-pub use Rattle.mica_words.specs.Packing.{AreBytes, packed}
+pub use Rattle.mica_words.specs.Packing.{AreBytes, packed, unpacked}
 pub use Rattle.mica_model.proofs.Histories.{cached_in, history_snoc, state_snoc, stored_in}
-pub use Rattle.mica_model.specs.History.{History, IsPrefix, MayGive, State, cache_state, stamp_of, start, state_of, store_state, writes_to_bucket}
+pub use Rattle.mica_model.specs.History.{History, IsPrefix, MayGive, State, answer_of, cache_state, stamp_of, start, state_of, store_state, value_in}
+pub use Rattle.mica_model.specs.History.{writes_to_bucket}
 pub use Rattle.mica_model.specs.Store.{Cell}
 pub use Rattle.mica_model.specs.declared.options.Mode.{Mode}
 pub use Rattle.mica_model.specs.declared.options.Mode.TheVariants.{Cache, Store}
@@ -26,9 +27,9 @@ pub use Rattle.epoch_core.specs.Failures.{FailsFit, IsFailure, failure}
 pub use Rattle.epoch_core.specs.Grows.{Grows}
 pub use Rattle.epoch_core.specs.Kept.{IsLawfulHistory, Kept, PhaseFits}
 pub use Rattle.epoch_core.specs.Layout.{entry_at, epoch_at, item_at, link_at, stamp_at, word_count}
-pub use Rattle.epoch_core.specs.LiveEntry.{HasLiveEntry, IsLiveItem}
+pub use Rattle.epoch_core.specs.LiveEntry.{HasLiveEntry, IsLive, IsLiveItem}
 pub use Rattle.epoch_core.specs.OwnerState.{as_made, begun_in, bucket_in, entry_in, epoch_in, item_in, link_in, marked_in, options_in, stamp_in}
-pub use Rattle.epoch_core.specs.OwnerState.{writes_in}
+pub use Rattle.epoch_core.specs.OwnerState.{state_in, writes_in}
 pub use Rattle.epoch_core.specs.Reach.{IsReached, by_entry, by_item, by_link}
 pub use Rattle.epoch_core.specs.ReaderKept.{CutKept, IsSpelt, ReaderKept, Tells, TellsTry, TryKept}
 pub use Rattle.epoch_core.specs.ReaderState.{fails_after, loaded, new_try, newcomer, opened, shut, stamped, with_cut, with_load}
