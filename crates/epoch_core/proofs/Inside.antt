@@ -1,6 +1,6 @@
 -- The words that events change are there, and an epoch never comes to its type's end.
-use Rattle.epoch_core.proofs.Vocabulary.{Ends, Event, IsAllowed, IsMain, Kept, List, OwnerState, PutsEntry, PutsLink, Write, ap, arith, bucket_of}
-use Rattle.epoch_core.proofs.Vocabulary.{epoch_at, epoch_in, get_or, get_or_read, length, nat_eq, place_of, refl, ℕ, ◌%◌, ◌+◌, ◌<◌, ◌^◌, ◌∙◌, ◌≡◌}
+use Rattle.epoch_core.proofs.Vocabulary.{Ends, Event, IsAllowed, IsMain, Kept, OwnerState, PutsEntry, PutsLink, Write, arith, bucket_of}
+use Rattle.epoch_core.proofs.Vocabulary.{epoch_in, length, nat_eq, place_of, refl, ℕ, ◌%◌, ◌+◌, ◌<◌, ◌^◌}
 use Rattle.std.proofs.Math.Nat.{mod-lt}
 use Rattle.std.proofs.lemmas.List.Sums.{count_by-le-length}
 use Rattle.epoch_core.proofs.Marked.{begun_le, ends_main, its_inside}
@@ -27,13 +27,4 @@ module _ (o : OwnerState) (s : Kept o) where
       let few = count_by-le-length (λ (w : Write). nat_eq (bucket_of w.key o.shape.buckets) b) o.history in
       let room = s.history.not_above_wear in
       let wear = s.shape.ranges.wear.1 in
-      omega arith
-
-  -- the same of what is found at its place in a list of the words
-  pub found_small : (b : ℕ) (items : List ℕ) (i found : ℕ) → IsMain o.shape b → items ≡ o.words → i ≡ epoch_at b → found ≡ get_or items i found → found + 1 < 2 ^ 64
-  found_small b items i found l same place is =
-      let small = epoch_small b l in
-      let wide = s.wide in
-      let long : i < length items = omega (arith, ap length same) in
-      let value : found ≡ epoch_in o b = get_or_read items i found long is 0 ∙ (λ j. get_or (same j) (place j) 0) in
       omega arith

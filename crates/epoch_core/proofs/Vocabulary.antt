@@ -6,7 +6,7 @@ pub use Rattle.std.proofs.Common.{false, get_or, get_or-set_other, get_or-set_sa
 pub use Rattle.std.proofs.Common.{length-set, map, min, nat_eq, nat_lt, ne_eqb, not, refl, replicate, set, slice_index, subst, suc, sym, take, true}
 pub use Rattle.std.proofs.Common.{zero, ℕ, ⊎_elim, ◌%◌, ◌*◌, ◌++◌, ◌+◌, ◌-◌, ◌<◌, ◌^◌, ◌∙◌, ◌∷◌, ◌≡◌, ◌≢◌, ◌≤◌, ◌⊎◌}
 pub use Rattle.std.proofs.lemmas.Bool.{cases_lt, eqb-true, ltb-false, ltb-true}
-pub use Rattle.std.proofs.lemmas.List.{append-nil, drop_all, get_or_default, get_or_past, get_or_read, length-replicate, set-get_or}
+pub use Rattle.std.proofs.lemmas.List.{append-nil, drop_all, get_or_default, get_or_past, length-replicate, set-get_or}
 pub use Rattle.std.proofs.lemmas.List.Elements.{All-contains, All-from_recursion, Contains-append_cases, Contains-push_cases}
 pub use Rattle.std.specs.Prelude.{Contains, IfSome, IsTrue, option_map, unwrap_or}
 pub use Rattle.mica_words.specs.Hash.{bucket_of, fnv1a}

@@ -1,4 +1,5 @@
-use Rattle.epoch_core.proofs.Vocabulary.{NoneAbove, ReaderState, ap, arith, cut_at, length, look_at, owner_at, subst, sym, ℕ, ◌+◌, ◌∙◌, ◌≡◌}
+use Rattle.epoch_core.proofs.Vocabulary.{IsMain, NoneAbove, ReaderState, Shape, ap, arith, cut_at, length, look_at, owner_at, subst, sym, ℕ, ◌+◌, ◌∙◌}
+use Rattle.epoch_core.proofs.Vocabulary.{◌≡◌}
 use Rattle.epoch_core.specs.declared.scripted.Plan.{Plan}
 use Rattle.epoch_core.specs.declared.scripted.Book.{Book}
 use Rattle.epoch_core.proofs.ScriptKeeps.{more_loads}
@@ -14,12 +15,14 @@ until g c =
     let self = c.args.self.now in
     c.next_cut-until.ensures ∙ ap (λ (z : ℕ). cut_at self.cuts.items (z + 1)) self.counted ∙ cut_min self.cuts.items self.stage.seat.me.0.reader.loads
 
--- the load is one more
+-- what the load makes of the reader, which has one load more
+read : (g : Over) (c : After-take_look g)
+    → c.take_look.new.seat.me.0.reader ≡ look_at g.K.Looks.look c.play_to.new.self.seat.me.0.owner c.args.self.now.stage.seat.me.0.reader
+read g c = ap (λ (z : Book). z.reader) c.take_look.ensures.book ∙ ap (look_at g.K.Looks.look c.play_to.new.self.seat.me.0.owner) c.play_to.ensures.reader
+
 loads : (g : Over) (c : After-take_look g) → c.take_look.new.seat.me.0.reader.loads ≡ c.args.self.now.stage.seat.me.0.reader.loads + 1
 loads g c =
-    let owner = c.play_to.new.self.seat.me.0.owner in
-    ap (λ (z : Book). z.reader.loads) c.take_look.ensures.book ∙ ap (λ (z : ReaderState). (look_at g.K.Looks.look owner z).loads) c.play_to.ensures.reader
-    ∙ more_loads g.K.Looks.look owner c.args.self.now.stage.seat.me.0.reader
+    ap (λ (z : ReaderState). z.loads) (read g c) ∙ more_loads g.K.Looks.look c.play_to.new.self.seat.me.0.owner c.args.self.now.stage.seat.me.0.reader
 
 pub play_to-requires-clause-later : goal.play_to-requires-clause-later
 play_to-requires-clause-later g c =
@@ -53,3 +56,9 @@ pub invariant_of-self-2-clause-at : goal.invariant_of-self-2-clause-at
 invariant_of-self-2-clause-at g c =
     let at = goal.at.invariant_of-self-2-clause-at g c in
     c.play_to.ensures.played ∙ until g at.After-next_cut-until ∙ ap (cut_at c.args.self.now.cuts.items) (sym (loads g at.After-take_look))
+
+pub invariant_of-self-2-clause-tries : goal.invariant_of-self-2-clause-tries
+invariant_of-self-2-clause-tries g c = λ t is.
+    let same = ap (λ (z : ReaderState). z.current) (read g (goal.at.invariant_of-self-2-clause-tries g c).After-take_look) in
+    let has = c.requires.tries c.play_to.new.self.seat.me.0.owner t (sym same ∙ is) in
+    (has.0, subst (λ (z : Shape). IsMain z c.args.bucket) (sym c.play_to.ensures.same.1) has.1)
