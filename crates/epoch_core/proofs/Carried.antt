@@ -1,9 +1,9 @@
 -- What the words stand for in a bucket stays where the words in its reach do, and the machine has the same of its keys.
-use Rattle.epoch_core.proofs.Vocabulary.{Begun, Cache, Cell, HasChain, HasChains, HasLiveEntry, History, Idle, InChain, IsAmong, IsDense, IsInRoom}
-use Rattle.epoch_core.proofs.Vocabulary.{IsLiveItem, IsMain, IsReached, List, Marked, Mode, OwnerState, Phase, RoomsApart, Spells, StandsFor, Store}
-use Rattle.epoch_core.proofs.Vocabulary.{add-zero, ap, arith, by_entry, by_item, by_link, dite, entry_at, get_or, header_room, inl, inr, item_at}
-use Rattle.epoch_core.proofs.Vocabulary.{link_at, link_in, marked_in, options_in, refl, room_in, stamp_in, stamp_of, subst, suc, sym, zero, ℕ}
-use Rattle.epoch_core.proofs.Vocabulary.{ℕ_discrete, ◌+◌, ◌<◌, ◌∙◌, ◌≡◌, ◌≢◌, ◌⊎◌}
+use Rattle.epoch_core.proofs.Vocabulary.{Cache, Cell, HasChain, HasChains, HasLiveEntry, History, InChain, IsAmong, IsDense, IsInRoom, IsLiveItem}
+use Rattle.epoch_core.proofs.Vocabulary.{IsMain, IsReached, List, Marked, Mode, OwnerState, Phase, RoomsApart, Spells, StandsFor, Store, add-zero, ap}
+use Rattle.epoch_core.proofs.Vocabulary.{arith, by_entry, by_item, by_link, dite, entry_at, get_or, header_room, inl, inr, item_at, link_at, link_in}
+use Rattle.epoch_core.proofs.Vocabulary.{marked_in, options_in, refl, room_in, stamp_in, stamp_of, subst, suc, sym, zero, ℕ, ℕ_discrete, ◌+◌, ◌<◌}
+use Rattle.epoch_core.proofs.Vocabulary.{◌∙◌, ◌≡◌, ◌≢◌, ◌⊎◌}
 use Rattle.mica_words.specs.Entry.{entry_offset}
 use Rattle.epoch_core.proofs.Machine.{HasStill}
 use Rattle.epoch_core.proofs.Marked.{bit_else}
@@ -22,13 +22,13 @@ pub record Carries (o new : OwnerState) (b : ℕ) : Type 0 where
 
 -- of two buckets one has no marked write
 one_unmarked : (phase : Phase) (b c : ℕ) → b ≢ c → (marked_in phase b ≡ 0) ⊎ (marked_in phase c ≡ 0)
-one_unmarked Idle b c n = inl refl
-one_unmarked (Begun d) b c n = inl refl
-one_unmarked (Marked d write before) b c n = dite (ℕ_discrete d b) (λ is. inr (bit_else d c (λ same. n (sym is ∙ same)))) (λ not. inl (bit_else d b not))
+one_unmarked (Marked d write before) b c n =
+    dite (ℕ_discrete d b) (λ is. inr (bit_else d c (λ same. n (sym is ∙ same)))) (λ not. inl (bit_else d b not))
+one_unmarked phase b c n = inl refl
 
 -- so the rooms of their live items share no word
-rooms_apart : (o : OwnerState) (b other c slot entry c' slot' entry' : ℕ) → IsMain o.shape b → IsMain o.shape other → other ≢ b → StandsFor o b → StandsFor o other
-    → HasLiveEntry o b c slot entry → HasLiveEntry o other c' slot' entry' → RoomsApart o entry entry'
+rooms_apart : (o : OwnerState) (b other c slot entry c' slot' entry' : ℕ) → IsMain o.shape b → IsMain o.shape other → other ≢ b
+    → StandsFor o b → StandsFor o other → HasLiveEntry o b c slot entry → HasLiveEntry o other c' slot' entry' → RoomsApart o entry entry'
 rooms_apart o b other c slot entry c' slot' entry' l m n f f' h h' q i i' = elim (one_unmarked o.phase other b n) [
   | inl none ↦ f.apart other c slot entry c' slot' entry' m n none h h' q i i'
   | inr none ↦ f'.apart b c' slot' entry' c slot entry l (λ same. n (sym same)) none h' h q i' i
@@ -120,7 +120,8 @@ module _ (o new : OwnerState) where
       in_room = omega arith;
     }
 
-    spells_back : (c slot entry : ℕ) (key : List ℕ) (cell : Cell) → HasLiveEntry o b c slot entry → Spells p b entry key cell → Spells o b entry key cell
+    spells_back : (c slot entry : ℕ) (key : List ℕ) (cell : Cell) → HasLiveEntry o b c slot entry
+        → Spells p b entry key cell → Spells o b entry key cell
     spells_back c slot entry key cell h sp = let fits = sp.in_room in let same = room c slot entry h in record {
       bucket = sp.bucket;
       has = k.has.back key cell (entry_offset entry) sp.bucket sp.has;

@@ -61,7 +61,8 @@ module _ (o : OwnerState) (p room : ℕ) (key value : List ℕ) where
       let wide = length-packed key in
       let short = fits.1 in
       let many = s.shape.ranges.words.0 in
-      item_puts_other o s.wide p _ (p + 1 + i) (λ same. not_below o.shape.words p (p + 1 + i) (omega arith) (omega arith) (omega arith)) ∙ is_there i l)
+      item_puts_other o s.wide p _ (p + 1 + i) (λ same. not_below o.shape.words p (p + 1 + i) (omega arith) (omega arith) (omega arith))
+      ∙ is_there i l)
     where
       is_there : (i : ℕ) → i < length (fnv1a key ∷ packed key) → item_in o (p + 1 + i) ≡ get_or (fnv1a key ∷ packed key) i 0
       is_there zero l = ap (item_in o) (omega arith) ∙ there.hash

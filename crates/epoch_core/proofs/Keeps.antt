@@ -1,10 +1,10 @@
 -- Each event of an owner keeps the owner's fact.
-use Rattle.epoch_core.proofs.Vocabulary.{Begins, Begun, Bool, Ends, Event, History, Idle, IsAllowed, IsLawfulHistory, IsMain, IsPrefix, IsReached}
-use Rattle.epoch_core.proofs.Vocabulary.{Kept, List, Marked, Marks, OwnerState, Phase, PhaseFits, StandsFor, Write, [], after, ap, arith, begun_in}
-use Rattle.epoch_core.proofs.Vocabulary.{bucket_of, by_entry, by_item, by_link, cond, count_by, dite, epoch_at, epoch_in, get_or-set_same}
-use Rattle.epoch_core.proofs.Vocabulary.{history_after, history_snoc, if◌then◌else◌, length-append, length-set, marked_in, nat_eq, options_in}
-use Rattle.epoch_core.proofs.Vocabulary.{phase_after, place_of, refl, stamp_at, stamp_in, stamp_of, subst, sym, writes_in, ℕ, ℕ_discrete, ◌%◌, ◌*◌}
-use Rattle.epoch_core.proofs.Vocabulary.{◌++◌, ◌+◌, ◌∙◌, ◌∷◌, ◌≡◌, ◌≢◌, ◌≤◌}
+use Rattle.epoch_core.proofs.Vocabulary.{Begins, Bool, Ends, Event, History, IsAllowed, IsLawfulHistory, IsMain, IsPrefix, IsReached, Kept, List}
+use Rattle.epoch_core.proofs.Vocabulary.{Marked, Marks, OwnerState, Phase, PhaseFits, StandsFor, Write, [], after, ap, arith, begun_in, bucket_of}
+use Rattle.epoch_core.proofs.Vocabulary.{by_entry, by_item, by_link, cond, count_by, dite, epoch_at, epoch_in, get_or-set_same, history_after}
+use Rattle.epoch_core.proofs.Vocabulary.{history_snoc, if◌then◌else◌, length-append, length-set, marked_in, nat_eq, options_in, phase_after, place_of}
+use Rattle.epoch_core.proofs.Vocabulary.{refl, stamp_at, stamp_in, stamp_of, subst, sym, writes_in, ℕ, ℕ_discrete, ◌%◌, ◌*◌, ◌++◌, ◌+◌, ◌∙◌, ◌∷◌, ◌≡◌}
+use Rattle.epoch_core.proofs.Vocabulary.{◌≢◌, ◌≤◌}
 use Rattle.std.proofs.lemmas.List.Sums.{sum_by_push}
 use Rattle.mica_model.specs.Write.{IsWrite}
 use Rattle.epoch_core.proofs.Places.{no_epoch, item_no_epoch}
@@ -21,9 +21,8 @@ pub count_more : {X : Type 0} (p : X → Bool) (xs : List X) (x : X) → count_b
 count_more p xs x = sum_by_push (λ y. cond (p y) 1 0) xs x
 
 marked_is : (phase : Phase) (b : ℕ) → marked_in phase b ≡ 1 → (write : Write) × (before : History) × (phase ≡ Marked b write before)
-marked_is Idle b one = absurd (omega arith)
-marked_is (Begun c) b one = absurd (omega arith)
 marked_is (Marked c write before) b one = (write, before, ap (λ (z : ℕ). Marked z write before) (bit_is c b one))
+marked_is phase b one = absurd (omega arith)
 
 -- the history goes on
 pub goes_on : (e : Event) (history : History) → IsPrefix history (history_after e history)
@@ -110,7 +109,8 @@ module _ (o : OwnerState) (s : Kept o) where
   )
   stood e a b l none = unmarked e a b l none
 
-  has_still : (e : Event) → IsAllowed e o → (b : ℕ) → marked_in (phase_after e o) b ≡ 0 → HasStill o.shape.mode (options_in o) o.history (history_after e o.history) b
+  has_still : (e : Event) → IsAllowed e o → (b : ℕ) → marked_in (phase_after e o) b ≡ 0
+      → HasStill o.shape.mode (options_in o) o.history (history_after e o.history) b
   has_still (Marks write n) a b none =
       marked_still (options_in o) o.history s.history.writes write a.fits b (λ same. let one = bit_same _ b (sym same) in omega arith)
   has_still e a b none = none_more o.shape.mode (options_in o) o.history b

@@ -59,7 +59,8 @@ pub record HasStill (mode : Mode) (options : Options) (old new : History) (b : �
       → IsLiveItem mode options.words (stamp_of options new) p → Has (state_of options new) key cell p
   -- an item of which the machine still has something is live still
   pub live_on : (key : List ℕ) (cell : Cell) (p q : ℕ) → bucket_of key options.buckets ≡ b → Has (state_of options new) key cell p
-      → Has (state_of options old) key cell q → IsLiveItem mode options.words (stamp_of options old) q → IsLiveItem mode options.words (stamp_of options new) q
+      → Has (state_of options old) key cell q → IsLiveItem mode options.words (stamp_of options old) q
+      → IsLiveItem mode options.words (stamp_of options new) q
 
 -- with no more writes
 pub none_more : (mode : Mode) (options : Options) (history : History) (b : ℕ) → HasStill mode options history history b
@@ -105,7 +106,8 @@ module _ (options : Options) (history : History) (writes : AllByRecursion IsWrit
           (ap (option_map cell_at) (before.0 ∙ sym found.1) ∙ h, omega (arith, ap stamp_in now, found.2, before.1))
   by_mode StoreMode mode =
       let at = stored_in options mode history in
-      let now : state_of options more ≡ store_state (ss.after at.0 write) = state_snoc options history write ∙ ap (λ (z : State). after options z write) at.1 in
+      let now : state_of options more ≡ store_state (ss.after at.0 write) =
+      state_snoc options history write ∙ ap (λ (z : State). after options z write) at.1 in
       let same : (key : List ℕ) → bucket_of key options.buckets ≡ b → get (ss.after at.0 write).cells key ≡ get at.0.cells key =
       λ key is. others_same at.0 write key (λ e. apart (sym is ∙ ap (λ (z : List ℕ). bucket_of z options.buckets) e)) in record {
         live = λ p h. tt;

@@ -25,9 +25,11 @@ module _ (o : OwnerState) (met : Met) (closed : ℕ) where
   stands_on b f = record {
     nothing_else = λ c slot entry h. let some = f.nothing_else c slot entry (assumption) in (some.0, some.1, assumption some.2);
     each = λ key cell q is has. let at = f.each key cell q is has in (at.0, at.1, at.2, assumption at.3, assumption at.4);
-    once = λ c slot entry c' slot' entry' key cell h h' sp sp'. f.once c slot entry c' slot' entry' key cell (assumption) (assumption) (assumption) (assumption);
+    once = λ c slot entry c' slot' entry' key cell h h' sp sp'.
+        f.once c slot entry c' slot' entry' key cell (assumption) (assumption) (assumption) (assumption);
     rooms = λ c slot entry c' slot' entry' h h'. f.rooms c slot entry c' slot' entry' (assumption) (assumption);
-    apart = λ other c slot entry c' slot' entry' main n unmarked h h'. f.apart other c slot entry c' slot' entry' main n unmarked (assumption) (assumption);
+    apart = λ other c slot entry c' slot' entry' main n unmarked h h'.
+        f.apart other c slot entry c' slot' entry' main n unmarked (assumption) (assumption);
     chain = has_chain o.shape.mode b f.chain;
   }
 

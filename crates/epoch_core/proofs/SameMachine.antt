@@ -15,7 +15,8 @@ use Rattle.mica_model.specs.Store as store
 use Rattle.mica_model.specs.StoreStep as ss
 use Rattle.mica_model.specs.History.{after, Allows}
 
-spares_fit : (mode : Mode) (spares : ℕ) → InRange 0 65536 spares → InRange 0 65536 (spares_in mode spares) × (mode ≡ CacheMode → spares_in mode spares ≡ 0)
+spares_fit : (mode : Mode) (spares : ℕ) → InRange 0 65536 spares
+    → InRange 0 65536 (spares_in mode spares) × (mode ≡ CacheMode → spares_in mode spares ≡ 0)
 spares_fit CacheMode spares range = ((omega arith, omega arith), λ is. refl)
 spares_fit StoreMode spares range = (range, λ is. cc)
 
@@ -57,7 +58,8 @@ module _ (options : Options) where
     block_back h = record {
       stores = h.stores;
       no_room = h.no_room;
-      has_spare = λ needs. h.has_spare record { is_new = needs.is_new; some = needs.some; full = needs.full; none_left = needs.none_left ∙ sym spares };
+      has_spare = λ needs. h.has_spare
+          record { is_new = needs.is_new; some = needs.some; full = needs.full; none_left = needs.none_left ∙ sym spares };
     }
 
     allows_back : (outcome : Outcome) → ss.Allows shaped s write outcome → ss.Allows options s write outcome

@@ -100,7 +100,8 @@ module _ (script : Script) where
         let f = all id me.0 at in
         (play_next me.0, keeps, tt, set_fit Fit s.views id (play_next me.0) (f.0, next_fits me.0 f.1) all, (refl, f.1))
 
-    pub looks_at : (look : Look) (i n : ℕ) → MayLook look me.0.reader → IsTime me.0 → Allows (AllFit script) slots id me i (λ _. n) (λ _. looked look (step slots i n 0 none) me n)
+    pub looks_at : (look : Look) (i n : ℕ) → MayLook look me.0.reader → IsTime me.0
+        → Allows (AllFit script) slots id me i (λ _. n) (λ _. looked look (step slots i n 0 none) me n)
     looks_at look i n may time s all _ at _ =
         let f = all id me.0 at in
         let fits = book_looks look me.0 f.1 may time in
@@ -125,7 +126,8 @@ event_fits e o s a = (event_inside o s e a, omega arith)
 
 head_fits : (rest : List Event) (xs : List OwnerEvent) (x : OwnerEvent) (o : OwnerState) → x ∷ xs ≡ map owner_event rest → Kept o → CanPlay rest o → Fits x o.shape o.words
 head_fits [] xs x o is s can = absurd (cc is)
-head_fits (e ∷ es) xs x o is s can = let same : owner_event e ≡ x = cc in subst (λ (z : OwnerEvent). Fits z o.shape o.words) same (event_fits e o s can.0)
+head_fits (e ∷ es) xs x o is s can =
+    let same : owner_event e ≡ x = cc in subst (λ (z : OwnerEvent). Fits z o.shape o.words) same (event_fits e o s can.0)
 
 pub next_fits_memory : (b : Book) (events : List OwnerEvent) (done : ℕ) (x : OwnerEvent) (shape : Shape) (items : List ℕ) → drop done events ≡ map owner_event b.rest → done < length events
     → x ≡ get_or events done x → BookFits b → b.owner.shape ≡ shape → items ≡ b.owner.words → Fits x shape items

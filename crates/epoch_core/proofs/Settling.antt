@@ -1,6 +1,6 @@
 -- When a script is settled: by its last cut, and whether a write is under way.
-use Rattle.epoch_core.proofs.Vocabulary.{Begun, Bool, Idle, IsSettled, IsTrue, List, Marked, OwnerState, Phase, Rests, ap, arith, as_made, cut_at}
-use Rattle.epoch_core.proofs.Vocabulary.{false, get_or, is_writing, length, not, owner_at, plays, refl, sym, take, true, ℕ, ◌-◌, ◌<◌, ◌∙◌, ◌≡◌}
+use Rattle.epoch_core.proofs.Vocabulary.{Bool, Idle, IsSettled, IsTrue, List, OwnerState, Phase, Rests, ap, arith, as_made, cut_at, false, get_or}
+use Rattle.epoch_core.proofs.Vocabulary.{is_writing, length, not, owner_at, plays, refl, sym, take, true, ℕ, ◌-◌, ◌<◌, ◌∙◌, ◌≡◌}
 use Rattle.epoch_core.specs.declared.scripted.Scripted.{Scripted}
 use Rattle.epoch_core.specs.declared.scripted.Plan.{Plan}
 use Rattle.epoch_core.specs.Seats.{book_of}
@@ -8,8 +8,7 @@ use Rattle.epoch_core.proofs.Cuts.{still_at_last, last_of_still}
 
 idle_is : (phase : Phase) → is_writing phase ≡ false → phase ≡ Idle
 idle_is Idle e = refl
-idle_is (Begun b) e = absurd (cc e)
-idle_is (Marked b write before) e = absurd (cc e)
+idle_is phase e = absurd (cc e)
 
 module _ (s : Scripted) (last : ℕ) (is : last ≡ get_or s.cuts.items (length s.cuts.items - 1) 0) where
   pub settled : s.stage.played ≡ last → s.stage.writing ≡ false → IsSettled (book_of s)

@@ -25,7 +25,8 @@ value_has (cache_state s) key cell p h =
     ap (option_map (λ (r : Record). r.value)) found.1 ∙ ap (λ (z : Cell). Some z.value) (sym found.3)
 value_has (store_state s) key cell p h = ap (option_map (λ (z : Cell). z.value)) h
 
-found_some : {X : Type 0} (value_of : X → List ℕ) (found : Option X) (value : List ℕ) → option_map value_of found ≡ Some value → (x : X) × (found ≡ Some x)
+found_some : {X : Type 0} (value_of : X → List ℕ) (found : Option X) (value : List ℕ) → option_map value_of found ≡ Some value
+    → (x : X) × (found ≡ Some x)
 found_some value_of None value e = cc e
 found_some value_of (Some x) value e = (x, refl)
 
@@ -62,7 +63,8 @@ module _ (o : OwnerState) (s : Kept o) (t : Try) (k : TryKept o t) (still : epoc
   meets (suc n) b [] up h c (inr i) = absurd (i.0 (link_now b 0 (up b (inl refl)) h))
   meets (suc n) b (d ∷ cs) up h c (inr i) =
       let is = link_now b d (up b (inl refl)) h.1 in
-      in_tail b c (d ∷ cs) (meets n d cs (λ e among. up e (among_more (suc n) b d is h.0 e among)) h.2 c (subst (λ (z : ℕ). IsAmong o (suc n) z c) is i.1))
+      in_tail b c (d ∷ cs) (meets n d cs (λ e among. up e (among_more (suc n) b d is h.0 e among)) h.2 c
+      (subst (λ (z : ℕ). IsAmong o (suc n) z c) is i.1))
 
   -- the words of a live entry's item that were loaded are the item's
 
@@ -74,7 +76,8 @@ module _ (o : OwnerState) (s : Kept o) (t : Try) (k : TryKept o t) (still : epoc
     its_key = has_its_key o s t.bucket entry key cell sp
 
     word_now : (i p x : ℕ) → p ≡ entry_offset entry + i → i < item_size key cell.value → HasLoad t.loads (item_at o.shape p) x → item_in o p ≡ x
-    word_now i p x at l load = let room = sp.in_room in k.loads still (item_at o.shape p) x load (by_item c slot entry i h (omega arith) (ap (item_at o.shape) at))
+    word_now i p x at l load =
+        let room = sp.in_room in k.loads still (item_at o.shape p) x load (by_item c slot entry i h (omega arith) (ap (item_at o.shape) at))
 
     header_now : (x : ℕ) → HasLoad t.loads (item_at o.shape (entry_offset entry)) x → item_in o (entry_offset entry) ≡ x
     header_now x load = word_now 0 (entry_offset entry) x (omega arith) (omega arith) load
@@ -82,13 +85,15 @@ module _ (o : OwnerState) (s : Kept o) (t : Try) (k : TryKept o t) (still : epoc
     hash_now : (x : ℕ) → HasLoad t.loads (item_at o.shape (entry_offset entry + 1)) x → item_in o (entry_offset entry + 1) ≡ x
     hash_now x load = word_now 1 (entry_offset entry + 1) x refl (omega arith) load
 
-    key_now : (i x : ℕ) → i < words_for (length key) → HasLoad t.loads (item_at o.shape (entry_offset entry + 2 + i)) x → item_in o (entry_offset entry + 2 + i) ≡ x
+    key_now : (i x : ℕ) → i < words_for (length key) → HasLoad t.loads (item_at o.shape (entry_offset entry + 2 + i)) x
+        → item_in o (entry_offset entry + 2 + i) ≡ x
     key_now i x l load = word_now (2 + i) (entry_offset entry + 2 + i) x (omega arith) (omega arith) load
 
     value_len_is : (x : ℕ) → HasLoad t.loads (item_at o.shape (entry_offset entry)) x → header_value_len x ≡ length cell.value
     value_len_is x load =
         let key_fits = fits.0 in
-        ap header_value_len (sym (header_now x load) ∙ ap (item_in o) (sym (add-zero (entry_offset entry))) ∙ sp.item 0 (omega arith) ∙ header_word cell.room key cell.value)
+        ap header_value_len (sym (header_now x load) ∙ ap (item_in o) (sym (add-zero (entry_offset entry)))
+        ∙ sp.item 0 (omega arith) ∙ header_word cell.room key cell.value)
         ∙ header_value_len-header_of cell.room (length key) (length cell.value) fits.5 (omega arith)
 
     value_word_is : (i x n : ℕ) → n ≡ words_for (length key) → i < words_for (length cell.value)
@@ -109,12 +114,14 @@ module _ (o : OwnerState) (s : Kept o) (t : Try) (k : TryKept o t) (still : epoc
     -- where they tell that it is a key's, it is, with that value
     is_item : (key' value : List ℕ) → AreBytes key' → ShowsItem o.shape t.loads (entry_offset entry) key' value → (key ≡ key') × (cell.value ≡ value)
     is_item key' value bytes shows =
-        let len : header_key_len (item_in o (entry_offset entry)) ≡ length key' = ap header_key_len (header_now shows.header shows.header_load) ∙ shows.key_len in
+        let len : header_key_len (item_in o (entry_offset entry)) ≡ length key' =
+        ap header_key_len (header_now shows.header shows.header_load) ∙ shows.key_len in
         let one : length key ≡ length key' = sym its_key.len ∙ len in
         let two : length cell.value ≡ length value = sym (value_len_is shows.header shows.header_load) ∙ shows.value_len in
         let long : length shows.words ≡ words_for (length cell.value) = shows.words_len ∙ ap words_for (sym two) in
         let held : unpacked (length cell.value) shows.words ≡ cell.value = same_value cell.value shows.words fits.3 long
-        (λ i l. sym (value_word_is i (slice_index shows.words i) (words_for (length key')) (ap words_for (sym one)) (subst (λ (z : ℕ). i < z) long l) (shows.value_words i l))) in (
+        (λ i l. sym (value_word_is i (slice_index shows.words i) (words_for (length key')) (ap words_for (sym one))
+        (subst (λ (z : ℕ). i < z) long l) (shows.value_words i l))) in (
           has_no_other o s t.bucket entry key cell sp key' bytes record {
             len = len;
             hash = hash_now (fnv1a key') shows.hash;

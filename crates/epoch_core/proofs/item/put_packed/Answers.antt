@@ -7,7 +7,8 @@ use Rattle.epoch_core.proofs.item.put_packed.Goals as goal
 
 -- what is left to store begins with this word
 next : (g : Over) (c : After-packed_word g) → puts_from (c.args.offset + c.loop-i.i) (drop c.loop-i.i (packed c.args.bytes.now))
-    ≡ PutsWord (c.args.offset + c.loop-i.i) c.packed_word.result ∷ puts_from (c.args.offset + (c.loop-i.i + 1)) (drop (c.loop-i.i + 1) (packed c.args.bytes.now))
+    ≡ PutsWord (c.args.offset + c.loop-i.i) c.packed_word.result
+    ∷ puts_from (c.args.offset + (c.loop-i.i + 1)) (drop (c.loop-i.i + 1) (packed c.args.bytes.now))
 next g c = next_put c.args.offset c.loop-i.i (packed c.args.bytes.now) c.packed_word.result
     (omega (arith, length-packed c.args.bytes.now, c.loop-i-test.true, c.div_ceil-i-end.ensures)) c.packed_word.ensures
 
@@ -28,5 +29,6 @@ loop-i-preserved g c =
 pub returns-clause-events : goal.returns-clause-events
 returns-clause-events g c =
     let xs = packed c.args.bytes.now in
-    let none : drop c.loop-i.i xs ≡ [] = drop_all c.loop-i.i xs (omega (arith, length-packed c.args.bytes.now, c.loop-i-test.false, c.div_ceil-i-end.ensures)) in
+    let none : drop c.loop-i.i xs ≡ [] =
+    drop_all c.loop-i.i xs (omega (arith, length-packed c.args.bytes.now, c.loop-i-test.false, c.div_ceil-i-end.ensures)) in
     sym (ap (λ ys. plays (puts_from (c.args.offset + c.loop-i.i) ys) (g.W.OwnerWords.owner c.loop-i.words)) none) ∙ c.loop-i.invariant.leads

@@ -13,7 +13,8 @@ place : (g : Over) (c : After-from g) → c.args.offset + c.from.result ≡ c.ar
 place g c = omega (arith, length-packed c.args.key.now, c.from.ensures, c.item_size.ensures)
 
 -- once the header is put, all in front of the value is there
-there : (g : Over) (c : After-from g) → g.W.OwnerWords.owner c.put_word.new.self ≡ keyed (g.W.OwnerWords.owner c.args.words.now) c.args.offset c.args.room c.args.key.now c.args.value.now
+there : (g : Over) (c : After-from g) → g.W.OwnerWords.owner c.put_word.new.self
+    ≡ keyed (g.W.OwnerWords.owner c.args.words.now) c.args.offset c.args.room c.args.key.now c.args.value.now
 there g c =
     let o = g.W.OwnerWords.owner c.args.words.now in
     simp (c.put_word.ensures.event, c.header_of-header.ensures)
@@ -23,11 +24,13 @@ pub put_word-requires : goal.put_word-requires
 put_word-requires g c = (can g (goal.at.put_word-requires g c).Start).header
 
 pub overflow_add-offset : goal.overflow_add-offset
-overflow_add-offset g c = omega (arith, (can g (goal.at.overflow_add-offset g c).Start).header.low, c.requires.key, c.from.ensures, c.item_size.ensures)
+overflow_add-offset g c =
+    omega (arith, (can g (goal.at.overflow_add-offset g c).Start).header.low, c.requires.key, c.from.ensures, c.item_size.ensures)
 
 pub put_packed-requires-clause-low : goal.put_packed-requires-clause-low
 put_packed-requires-clause-low g c =
-    omega (arith, (can g (goal.at.put_packed-requires-clause-low g c).Start).header.low, c.requires.key, c.requires.value, c.from.ensures, c.item_size.ensures)
+    let low = (can g (goal.at.put_packed-requires-clause-low g c).Start).header.low in
+    omega (arith, low, c.requires.key, c.requires.value, c.from.ensures, c.item_size.ensures)
 
 pub put_packed-requires-clause-allowed : goal.put_packed-requires-clause-allowed
 put_packed-requires-clause-allowed g c =

@@ -18,7 +18,8 @@ until g c =
 -- what the load makes of the reader, which has one load more
 read : (g : Over) (c : After-take_look g)
     → c.take_look.new.seat.me.0.reader ≡ look_at g.K.Looks.look c.play_to.new.self.seat.me.0.owner c.args.self.now.stage.seat.me.0.reader
-read g c = ap (λ (z : Book). z.reader) c.take_look.ensures.book ∙ ap (look_at g.K.Looks.look c.play_to.new.self.seat.me.0.owner) c.play_to.ensures.reader
+read g c =
+    ap (λ (z : Book). z.reader) c.take_look.ensures.book ∙ ap (look_at g.K.Looks.look c.play_to.new.self.seat.me.0.owner) c.play_to.ensures.reader
 
 loads : (g : Over) (c : After-take_look g) → c.take_look.new.seat.me.0.reader.loads ≡ c.args.self.now.stage.seat.me.0.reader.loads + 1
 loads g c =
@@ -45,7 +46,8 @@ take_look-requires-clause-time g c =
 pub invariant_of-self-2-clause-finds : goal.invariant_of-self-2-clause-finds
 invariant_of-self-2-clause-finds g c =
     let book = c.take_look.ensures.book in
-    let one = ap (λ (z : ReaderState). z.loads + 1) c.play_to.ensures.reader ∙ sym (loads g (goal.at.invariant_of-self-2-clause-finds g c).After-take_look) in
+    let after = (goal.at.invariant_of-self-2-clause-finds g c).After-take_look in
+    let one = ap (λ (z : ReaderState). z.loads + 1) c.play_to.ensures.reader ∙ sym (loads g after) in
     ap (λ (z : Book). z.owner) book ∙ c.take_look.ensures.planned ∙ (λ i. owner_at ((ap (λ (z : Book). z.plan) (sym book)) i) (one i))
 
 pub invariant_of-self-2-clause-few : goal.invariant_of-self-2-clause-few
