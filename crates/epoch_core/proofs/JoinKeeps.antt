@@ -3,7 +3,6 @@ use Rattle.epoch_core.proofs.Vocabulary.{All-contains, All-from_recursion, Grows
 use Rattle.epoch_core.proofs.Vocabulary.{PhaseFits, ReaderKept, ReaderState, Shape, Write, [], ap, arith, begun_in, bucket_in, bucket_of, epoch_in}
 use Rattle.epoch_core.proofs.Vocabulary.{marked_in, nat_eq, newcomer, options_in, refl, sym, writes_in, writes_to_bucket, ℕ, ◌*◌, ◌+◌, ◌∙◌, ◌∷◌, ◌≡◌}
 use Rattle.epoch_core.proofs.Vocabulary.{◌≤◌}
-use Rattle.epoch_core.specs.declared.state.Met.{Met}
 use Rattle.epoch_core.specs.declared.reader.Known.{Known}
 use Rattle.epoch_core.specs.Joins.{ended_in, lent, note_of, met_by, longer, known, told}
 use Rattle.epoch_core.proofs.Prefixes.{prefix_same, prefix_then, longer_as, longer_both}
@@ -48,14 +47,11 @@ notes o r k = fresh o r.shape r.seen r.done k.shape k.seen k.done k.ended
 
 -- an owner takes in what a seat knows
 
-abbrev met_of : ReaderState → Met
-met_of r = record { seen = r.seen; fails = r.fails }
-
 pub meet_grows : (o : OwnerState) (r : ReaderState) → Grows o (met_by o r)
-meet_grows o r = met_grows o (met_of r) (o.closed + r.closed)
+meet_grows o r = met_grows o _ _
 
 pub meets : (o : OwnerState) (r : ReaderState) → Kept o → ReaderKept o r → Kept (met_by o r)
-meets o r s k = met_kept o (met_of r) (o.closed + r.closed) s k.seen k.fails
+meets o r s k = met_kept o _ _ s k.seen k.fails
 
 -- a reader takes in what a note knows
 

@@ -10,9 +10,6 @@ use Rattle.epoch_core.specs.ItemAt.{HasKey}
 use Rattle.epoch_core.proofs.Machine.{has_fits}
 
 module _ (o : OwnerState) (s : Kept o) (b entry : ℕ) (key : List ℕ) (cell : Cell) (sp : Spells o b entry key cell) where
-  abbrev p : ℕ
-  p = entry_offset entry
-
   key_len : header_key_len (item_in o (entry_offset entry)) ≡ length key
   key_len =
       let fits = has_fits (options_in o) o.history s.history.writes key cell (entry_offset entry) sp.has in

@@ -20,16 +20,13 @@ tails (v ∷ a) (w ∷ b) x y e l =
     let t = tails a b x y rest (omega arith) in
     (t.0, λ i. head i ∷ t.1 i)
 
-pub shorter_begins : (h a b : History) → IsPrefix a h → IsPrefix b h → length b ≤ length a → IsPrefix b a
-shorter_begins h a b s t l = tails a b s.0 t.0 (sym s.1 ∙ t.1) l
-
 -- whatever holds of the longer one where both begin it
 pub longer_as : (P : History → Type 0) (h a b : History) → IsPrefix a h → IsPrefix b h → (IsPrefix b a → P a) → (IsPrefix a b → P b) → P (longer a b)
 longer_as P h a b s t first second = by_test (nat_lt (length a) (length b)) refl
   where
     by_test : (z : Bool) → nat_lt (length a) (length b) ≡ z → P (if z then b else a)
-    by_test true e = second (shorter_begins h b a t s (omega (arith, ltb-true _ _ e)))
-    by_test false e = first (shorter_begins h a b s t (omega (arith, ltb-false _ _ e)))
+    by_test true e = second (tails b a t.0 s.0 (sym t.1 ∙ s.1) (omega (arith, ltb-true _ _ e)))
+    by_test false e = first (tails a b s.0 t.0 (sym s.1 ∙ t.1) (omega (arith, ltb-false _ _ e)))
 
 pub longer_both : (h a b : History) → IsPrefix a h → IsPrefix b h → IsPrefix (longer a b) h × IsPrefix a (longer a b) × IsPrefix b (longer a b)
 longer_both h a b s t = longer_as (λ (z : History). IsPrefix z h × IsPrefix a z × IsPrefix b z) h a b s t (λ c. (s, prefix_same a, c)) (λ c. (t, c, prefix_same b))

@@ -15,14 +15,9 @@ use Rattle.mica_model.specs.Store as store
 use Rattle.mica_model.specs.StoreStep as ss
 use Rattle.mica_model.specs.History.{after, Allows}
 
-spares_fit : (mode : Mode) (spares : ℕ) → InRange 0 65536 spares
-    → InRange 0 65536 (spares_in mode spares) × (mode ≡ CacheMode → spares_in mode spares ≡ 0)
-spares_fit CacheMode spares range = ((omega arith, omega arith), λ is. refl)
-spares_fit StoreMode spares range = (range, λ is. cc)
-
-all_spares : (mode : Mode) (spares : ℕ) → mode ≡ StoreMode → spares_in mode spares ≡ spares
-all_spares CacheMode spares is = cc
-all_spares StoreMode spares is = refl
+spares_in_range : (mode : Mode) (spares : ℕ) → InRange 0 65536 spares → InRange 0 65536 (spares_in mode spares)
+spares_in_range CacheMode spares range = (omega arith, omega arith)
+spares_in_range StoreMode spares range = range
 
 module _ (options : Options) where
   abbrev shaped : Options
@@ -49,7 +44,7 @@ module _ (options : Options) where
 
   module _ (mode : options.mode ≡ StoreMode) (s : store.Store) (write : Write) where
     spares : spares_in options.mode options.spares ≡ options.spares
-    spares = all_spares options.mode options.spares mode
+    spares = ap (λ (m : Mode). spares_in m options.spares) mode
 
     spare_back : ss.NeedsSpare shaped s write.key → ss.NeedsSpare options s write.key
     spare_back h = record { is_new = h.is_new; some = h.some; full = h.full; none_left = h.none_left ∙ spares }
@@ -90,11 +85,11 @@ shape_valid options valid = record {
   ranges = record {
     partitions = (omega arith, omega arith);
     buckets = valid.buckets;
-    spares = (spares_fit options.mode options.spares valid.spares).0;
+    spares = spares_in_range options.mode options.spares valid.spares;
     words = valid.words;
     readers = (omega arith, omega arith);
     tries = (omega arith, omega arith);
     wear = valid.wear;
   };
-  no_spares = (spares_fit options.mode options.spares valid.spares).1;
+  no_spares = λ is. ap (λ (m : Mode). spares_in m options.spares) is;
 }
