@@ -1,8 +1,7 @@
 -- What each event makes of the words by their meaning.
 use Rattle.epoch_core.proofs.Vocabulary.{Begins, Event, IsBucket, IsMain, Marks, OwnerState, PutsEntry, PutsLink, PutsWord, Write, after, arith}
-use Rattle.epoch_core.proofs.Vocabulary.{entry_at, entry_in, get_or, get_or-set_other, get_or-set_same, inl, inr, item_at, item_in, length, link_at}
-use Rattle.epoch_core.proofs.Vocabulary.{link_in, place_of, stamp_at, stamp_in, sym, word_after, word_count, ℕ, ◌<◌, ◌≡◌, ◌≢◌, ◌⊎◌}
-use Rattle.epoch_core.proofs.Places.{same_bucket, same_slot, no_epoch, no_stamp, no_item, item_no_epoch}
+use Rattle.epoch_core.proofs.Vocabulary.{entry_at, entry_in, get_or, get_or-set_other, get_or-set_same, item_at, item_in, length, link_at}
+use Rattle.epoch_core.proofs.Vocabulary.{link_in, place_of, stamp_at, stamp_in, word_after, word_count, ℕ, ◌<◌, ◌≡◌, ◌≢◌, ◌⊎◌}
 
 -- a word at another place than the event's is as it was
 pub other : (o : OwnerState) (e : Event) (i : ℕ) → i ≢ place_of o.shape e → get_or (after e o).words i 0 ≡ get_or o.words i 0
@@ -27,53 +26,47 @@ module _ (o : OwnerState) (wide : length o.words ≡ word_count o.shape) where
   -- entries
 
   pub entry_begins : (b c slot : ℕ) → IsMain o.shape b → slot < 15 → entry_in (after (Begins b) o) c slot ≡ entry_in o c slot
-  entry_begins b c slot l x = other o (Begins b) (entry_at o.shape c slot) (no_epoch o.shape b c slot l (omega arith))
+  entry_begins b c slot l x = other o (Begins b) (entry_at o.shape c slot) (λ is. omega arith)
 
   pub entry_marks : (write : Write) (n c slot : ℕ) → entry_in (after (Marks write n) o) c slot ≡ entry_in o c slot
-  entry_marks write n c slot = other o (Marks write n) (entry_at o.shape c slot) (no_stamp o.shape c slot)
+  entry_marks write n c slot = other o (Marks write n) (entry_at o.shape c slot) (λ is. omega arith)
 
   pub entry_puts_word : (p x c slot : ℕ) → IsBucket o.shape c → slot < 15 → entry_in (after (PutsWord p x) o) c slot ≡ entry_in o c slot
-  entry_puts_word p x c slot l y = other o (PutsWord p x) (entry_at o.shape c slot) (no_item o.shape c slot p l (omega arith))
+  entry_puts_word p x c slot l y = other o (PutsWord p x) (entry_at o.shape c slot) (λ is. omega arith)
 
   pub entry_puts : (c slot x : ℕ) → IsBucket o.shape c → slot < 15 → entry_in (after (PutsEntry c slot x) o) c slot ≡ x
   entry_puts c slot x l y = here o (PutsEntry c slot x) (omega arith)
 
   pub entry_puts_other : (c slot x d t : ℕ) → slot < 15 → t < 15 → (d ≢ c) ⊎ (t ≢ slot) → entry_in (after (PutsEntry c slot x) o) d t ≡ entry_in o d t
-  entry_puts_other c slot x d t y z (inl n) =
-      other o (PutsEntry c slot x) (entry_at o.shape d t) (λ is. n (same_bucket o.shape d c t slot (omega arith) (omega arith) is))
-  entry_puts_other c slot x d t y z (inr n) =
-      other o (PutsEntry c slot x) (entry_at o.shape d t) (λ is. n (same_slot o.shape d c t slot (omega arith) (omega arith) is))
+  entry_puts_other c slot x d t y z n = other o (PutsEntry c slot x) (entry_at o.shape d t) (λ is. omega arith)
 
   pub entry_puts_link : (c next d t : ℕ) → t < 15 → entry_in (after (PutsLink c next) o) d t ≡ entry_in o d t
-  entry_puts_link c next d t z =
-      other o (PutsLink c next) (entry_at o.shape d t) (λ is. let same = same_slot o.shape d c t 15 (omega arith) (omega arith) is in omega arith)
+  entry_puts_link c next d t z = other o (PutsLink c next) (entry_at o.shape d t) (λ is. omega arith)
 
   -- links
 
   pub link_begins : (b c : ℕ) → IsMain o.shape b → link_in (after (Begins b) o) c ≡ link_in o c
-  link_begins b c l = other o (Begins b) (link_at o.shape c) (no_epoch o.shape b c 15 l (omega arith))
+  link_begins b c l = other o (Begins b) (link_at o.shape c) (λ is. omega arith)
 
   pub link_marks : (write : Write) (n c : ℕ) → link_in (after (Marks write n) o) c ≡ link_in o c
-  link_marks write n c = other o (Marks write n) (link_at o.shape c) (no_stamp o.shape c 15)
+  link_marks write n c = other o (Marks write n) (link_at o.shape c) (λ is. omega arith)
 
   pub link_puts_word : (p x c : ℕ) → IsBucket o.shape c → link_in (after (PutsWord p x) o) c ≡ link_in o c
-  link_puts_word p x c l = other o (PutsWord p x) (link_at o.shape c) (no_item o.shape c 15 p l (omega arith))
+  link_puts_word p x c l = other o (PutsWord p x) (link_at o.shape c) (λ is. omega arith)
 
   pub link_puts_entry : (c slot x d : ℕ) → slot < 15 → link_in (after (PutsEntry c slot x) o) d ≡ link_in o d
-  link_puts_entry c slot x d y =
-      other o (PutsEntry c slot x) (link_at o.shape d) (λ is. let same = same_slot o.shape d c 15 slot (omega arith) (omega arith) is in omega arith)
+  link_puts_entry c slot x d y = other o (PutsEntry c slot x) (link_at o.shape d) (λ is. omega arith)
 
   pub link_puts : (c next : ℕ) → IsBucket o.shape c → link_in (after (PutsLink c next) o) c ≡ next
   link_puts c next l = here o (PutsLink c next) (omega arith)
 
   pub link_puts_other : (c next d : ℕ) → d ≢ c → link_in (after (PutsLink c next) o) d ≡ link_in o d
-  link_puts_other c next d n =
-      other o (PutsLink c next) (link_at o.shape d) (λ is. n (same_bucket o.shape d c 15 15 (omega arith) (omega arith) is))
+  link_puts_other c next d n = other o (PutsLink c next) (link_at o.shape d) (λ is. omega arith)
 
   -- item words
 
   pub item_begins : (b p : ℕ) → IsMain o.shape b → item_in (after (Begins b) o) p ≡ item_in o p
-  item_begins b p l = other o (Begins b) (item_at o.shape p) (item_no_epoch o.shape b p l)
+  item_begins b p l = other o (Begins b) (item_at o.shape p) (λ is. omega arith)
 
   pub item_marks : (write : Write) (n p : ℕ) → item_in (after (Marks write n) o) p ≡ item_in o p
   item_marks write n p = other o (Marks write n) (item_at o.shape p) (λ is. omega arith)
@@ -82,7 +75,7 @@ module _ (o : OwnerState) (wide : length o.words ≡ word_count o.shape) where
   item_puts_other p x q n = other o (PutsWord p x) (item_at o.shape q) n
 
   pub item_puts_entry : (c slot x p : ℕ) → IsBucket o.shape c → slot < 15 → item_in (after (PutsEntry c slot x) o) p ≡ item_in o p
-  item_puts_entry c slot x p l y = other o (PutsEntry c slot x) (item_at o.shape p) (λ is. no_item o.shape c slot p l (omega arith) (sym is))
+  item_puts_entry c slot x p l y = other o (PutsEntry c slot x) (item_at o.shape p) (λ is. omega arith)
 
   pub item_puts_link : (c next p : ℕ) → IsBucket o.shape c → item_in (after (PutsLink c next) o) p ≡ item_in o p
-  item_puts_link c next p l = other o (PutsLink c next) (item_at o.shape p) (λ is. no_item o.shape c 15 p l (omega arith) (sym is))
+  item_puts_link c next p l = other o (PutsLink c next) (item_at o.shape p) (λ is. omega arith)

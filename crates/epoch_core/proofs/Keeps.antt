@@ -7,7 +7,6 @@ use Rattle.epoch_core.proofs.Vocabulary.{refl, stamp_at, stamp_in, stamp_of, sub
 use Rattle.epoch_core.proofs.Vocabulary.{◌≢◌, ◌≤◌}
 use Rattle.std.proofs.lemmas.List.Sums.{sum_by_push}
 use Rattle.mica_model.specs.Write.{IsWrite}
-use Rattle.epoch_core.proofs.Places.{no_epoch, item_no_epoch}
 use Rattle.epoch_core.proofs.Prefixes.{prefix_same, prefix_then}
 use Rattle.epoch_core.proofs.Marked.{bit, bit_same, bit_else, bit_is, calm, ends_main}
 use Rattle.epoch_core.proofs.Failing.{fails_rise}
@@ -88,9 +87,9 @@ module _ (o : OwnerState) (s : Kept o) where
 
   -- no get needs an epoch
   reached_no_epoch : (b c i : ℕ) → IsMain o.shape b → IsReached o c i → i ≢ epoch_at b
-  reached_no_epoch b c i l (by_entry d slot h x at) is = no_epoch o.shape b d slot l (omega arith) (sym at ∙ is)
-  reached_no_epoch b c i l (by_link d h at) is = no_epoch o.shape b d 15 l (omega arith) (sym at ∙ is)
-  reached_no_epoch b c i l (by_item d slot entry j h x at) is = item_no_epoch o.shape b _ l (sym at ∙ is)
+  reached_no_epoch b c i l (by_entry d slot h x at) is = omega arith
+  reached_no_epoch b c i l (by_link d h at) is = omega arith
+  reached_no_epoch b c i l (by_item d slot entry j h x at) is = omega arith
 
   -- a bucket without a marked write keeps the words in its reach
   abbrev Stood : Event → ℕ → Type 0
