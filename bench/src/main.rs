@@ -1,7 +1,7 @@
 //! Plain Rust of the same rules as `mica`, to measure beside it: `replay` answers each line at its place on one
-//! thread, `rounds` and `queues` run owners and readers in threads over tables of atomic words, `values` does so over lines that own their bytes,
-//! `gen` prints a trace, `serve` answers datagrams on one thread, `fronts` at many ports with owners in threads, and
-//! `load` sends them.
+//! thread, `rounds` and `queues` run owners and readers in threads over tables of atomic words, `values` does so over
+//! lines that own their bytes, `gen` prints a trace, `serve` answers datagrams on one thread, `fronts` at many ports
+//! with owners in threads, and `load` sends them.
 
 mod cache;
 mod fronts;
