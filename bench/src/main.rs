@@ -1,7 +1,7 @@
 //! Plain Rust of the same rules as `mica`, to measure beside it: `replay` answers each line at its place on one
-//! thread, `rounds` and `queues` run owners and readers in threads over tables of atomic words,
-//! `gen` prints a trace, `serve` answers datagrams on one thread, `fronts` at many ports with owners in threads, and
-//! `load` sends them.
+//! thread, `rounds` and `queues` run owners and readers in threads over tables of atomic words, `values` does so over
+//! lines that own their bytes, `gen` prints a trace, `serve` answers datagrams on one thread, `fronts` at many ports
+//! with owners in threads, and `load` sends them.
 
 mod cache;
 mod fronts;
@@ -14,6 +14,7 @@ mod server;
 mod store;
 mod table;
 mod trace;
+mod values;
 
 use cache::Cache;
 use hash::{key_hash, partition_of};
@@ -141,19 +142,20 @@ fn report(command: &str, options: &Options) -> Result<Vec<u8>, Box<dyn Error>> {
     Ok(match (command, options.mode) {
         ("rounds", _) => rounds::run(options, &lines, Feed::Lists),
         ("queues", _) => rounds::run(options, &lines, Feed::Queues),
+        ("values", _) => values::run(options, &lines),
         (_, Mode::Cache) => replay(&mut make(options, Cache::new), &lines),
         (_, Mode::Store) => replay(&mut make(options, Store::new), &lines),
     })
 }
 
 fn run(words: &[String]) -> Result<(), Box<dyn Error>> {
-    const COMMANDS: &str = "replay, rounds, queues, gen, serve, fronts or load";
+    const COMMANDS: &str = "replay, rounds, queues, values, gen, serve, fronts or load";
     let (command, rest) = words.split_first().ok_or(COMMANDS)?;
     let words = read_options(rest)?;
     let out = match command.as_str() {
         "gen" => generate::trace_of(&words)?,
         "load" => server::load(&words)?,
-        "replay" | "rounds" | "queues" => report(command, &options_of(&words)?)?,
+        "replay" | "rounds" | "queues" | "values" => report(command, &options_of(&words)?)?,
         "fronts" => fronts::serve(&words, &options_of(&words)?)?,
         "serve" => {
             let options = options_of(&words)?;

@@ -9,7 +9,7 @@ use std::sync::mpsc::{Receiver, SyncSender, sync_channel};
 use std::thread;
 
 /// How many writes may wait in a queue.
-const WAITING: usize = 64;
+pub const WAITING: usize = 64;
 
 /// How the owners get their writes.
 #[derive(Clone, Copy, PartialEq, Eq)]

@@ -17,3 +17,4 @@ pub mod RoundJobs
 pub mod JobOrder
 pub mod QueueSteps
 pub mod FedRound
+pub mod TextParts

@@ -1,5 +1,5 @@
 -- What a reader's gets come to: of its seats, one for each partition, and of its lines, one for each get.
-use Rattle.std.specs.Prelude.{◌≡◌, ℕ, ◌+◌, List, ◌++◌, length, zip, slice_get, Some}
+use Rattle.std.specs.Prelude.{◌≡◌, ℕ, List, length, zip, slice_get, Some}
 use Rattle.std.specs.List.{AllZip}
 use Rattle.mica_model.specs.declared.options.Options.{Options}
 use Rattle.mica_model.specs.History.{IsPrefix}

@@ -1,5 +1,5 @@
 //! A trace from its owners' making to the keeping of their seats.
-ghost use Rattle.std.specs.Prelude.{◌≡◌, ◌≤◌, ◌+◌, ◌++◌, [], ℕ, Some, IfOk, OnErr, map, length, slice_get};
+ghost use Rattle.std.specs.Prelude.{◌≡◌, ◌≤◌, ◌+◌, ◌++◌, [], ℕ, Some, All, IfOk, IfSome, OnErr, map, length, slice_get};
 ghost use Rattle.mica_model.specs.declared.options.Mode.{Mode};
 ghost use Rattle.mica_model.specs.Options.{IsValid};
 ghost use Rattle.epoch_core.specs.declared.state.Phase.TheVariants.{Idle};
@@ -23,7 +23,7 @@ use owner_queue::job_queue;
 use partition_table::{Note, OwnerSeat, ReaderSeat, Tables, make};
 use std::alloc::Global;
 use std::sync::Wait;
-use std::thread::Threads;
+use std::thread::{Threads, for_each_mut};
 use store_partition::StorePartition;
 
 // A partition over an owner's seat, which can be kept when the run has ended.
@@ -76,8 +76,39 @@ impl OnTable for StorePartition<OwnerSeat> {
     }
 }
 
+// The partitions, each made in a thread of its own. Nothing is made where there was no memory.
+fn make_parts<W: Threads + Wait + Sync, P: OnTable + Partition + Send>(
+    rt: &W,
+    alloc: Global,
+    options: &Options,
+) -> Result<Vec<Option<P>>, NoMemory>
+    requires valid { IsValid options.now }
+    requires mode { options.now.mode ≡ P.mode }
+    ensures many { IfOk result (λ parts. length parts.items ≡ options.now.partitions) }
+    ensures made { IfOk result (λ parts. All (λ part. IfSome part (λ p. P.state p ≡ as_made (shape_of options.now))) parts.items) }
+{
+    let threads = options.partitions as usize;
+    let mut parts = Vec::with_capacity(alloc, threads)?;
+    for _ in 0..threads {
+        parts.push_reserved(None);
+    }
+    for_each_mut(
+        rt,
+        parts.as_mut_slice(),
+        threads,
+        &|_, part|
+            requires { IsValid options.now × (options.now.mode ≡ P.mode) }
+            ensures { IfSome part.exit.now (λ p. P.state p ≡ as_made (shape_of options.entry.now)) }
+        {
+            *part = P::new(alloc, options).ok();
+        },
+    );
+    Ok(parts)
+}
+
 // One owner for each partition.
-fn make_owners<P: OnTable + Partition>(
+fn make_owners<W: Threads + Wait + Sync, P: OnTable + Partition + Send>(
+    rt: &W,
     alloc: Global,
     options: &Options,
 ) -> Result<Vec<OwnerWork<P>>, NoMemory>
@@ -87,12 +118,14 @@ fn make_owners<P: OnTable + Partition>(
     ensures { IfOk result (λ owners. AreMade options.now (map (λ w. owner_part P.owner P.home w) owners.items)) }
 {
     let mut owners = Vec::with_capacity(alloc, options.partitions as usize)?;
-    for p in 0..options.partitions {
-        let part = P::new(alloc, options)?;
+    for made in make_parts::<W, P>(rt, alloc, options)? {
+        let Some(part) = made else {
+            return Err(NoMemory);
+        };
         let (_, jobs) = job_queue(alloc, 1, 0)?;
         owners.push(OwnerWork {
             part,
-            worker: options.readers + p,
+            worker: options.readers + owners.len() as u32,
             writes: Vec::new(alloc),
             jobs,
             done: Done::new(alloc, 0)?,
@@ -154,7 +187,7 @@ fn run_on<
     ensures ok { IfOk result (λ report. IsReplayed options.now trace.now report tables.new) }
     ensures none { OnErr result (tables.new ≡ []) }
 {
-    let mut owners = make_owners::<P>(alloc, options)?;
+    let mut owners = make_owners::<W, P>(rt, alloc, options)?;
     let mut readers = make_readers::<ReaderSeat>(alloc, options)?;
     let report = run_rounds(rt, alloc, options, trace, gate, &mut owners, &mut readers)?;
     keep_all(owners, tables);

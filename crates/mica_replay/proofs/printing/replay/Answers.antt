@@ -12,5 +12,5 @@ are_report_lines [] (r ∷ report) all = absurd all
 are_report_lines (l ∷ lines) [] all = absurd all
 are_report_lines (l ∷ lines) (r ∷ report) all = (all.0.0, are_report_lines lines report all.1)
 
-pub text_of-requires : goal.text_of-requires
-text_of-requires g c = are_report_lines c.args.trace.now c.in_ok-report.report c.in_ok-report.ensures.ok.lawful.lines
+pub texts_of-requires-clause-lines : goal.texts_of-requires-clause-lines
+texts_of-requires-clause-lines g c _ _ = are_report_lines c.args.trace.now c.in_ok-report.report c.in_ok-report.ensures.ok.lawful.lines
