@@ -31,7 +31,7 @@ use Rattle.epoch_core.specs.declared.state.Phase.{Phase}
 use Rattle.epoch_core.specs.declared.state.Phase.TheVariants.{Idle, Marked}
 use Rattle.epoch_core.specs.declared.event.Event.TheVariants.{Begins, Marks, Ends}
 use Rattle.epoch_core.specs.Shape.{IsBucket, IsMain}
-use Rattle.epoch_core.specs.Layout.{entry_at, item_at, link_at}
+use Rattle.epoch_core.specs.Layout.{entry_at, item_at, link_at, word_count}
 use Rattle.epoch_core.specs.OwnerState.{as_made, bucket_in, entry_in, item_in, link_in, marked_in, options_in, stamp_in, state_in}
 use Rattle.epoch_core.specs.StandsFor.{Has, IsOffset, Spells, SpellsItem, StandsFor, room_in}
 use Rattle.epoch_core.specs.ItemAt.{HasKey}
@@ -206,6 +206,9 @@ module _ (o : OwnerState) (a : AcceptedWrite o) where
     -- the words once these are put from the offset on
     abbrev pub put_words : List ℕ
     put_words = (plays (puts_from p xs) marked).words
+
+    pub put_long : length put_words ≡ word_count o.shape
+    put_long = puts.wide ∙ kept_marked.wide
 
     pub put_same : plays (puts_from p xs) marked ≡ written put_words
     put_same = puts.same
