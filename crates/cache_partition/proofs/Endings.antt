@@ -1,18 +1,19 @@
 -- The kinds of writes, each with what its events leave of its bucket.
 use Rattle.mica_model.specs.CacheStep as cs
-use Rattle.cache_partition.proofs.Words.{AcceptedWrite, Cell, Del, GivesWay, HasLiveEntry, HasNoSlot, HoldsOfNone, IsEmpty, IsPassed, Kept, List, None, Option}
-use Rattle.cache_partition.proofs.Words.{OwnerState, Put, PutsEntry, Record, Some, Spells, StandsFor, [], after, ap, apart_kept, arith, begin_of}
-use Rattle.cache_partition.proofs.Words.{bucket_in, cases_lt, cell_at, count_by, empty, entry_in, entry_not_empty, entry_of, entry_offset}
-use Rattle.cache_partition.proofs.Words.{entry_offset-entry_of, entry_puts, entry_puts_other, entry_tag, entry_tag-entry_of, find, fits_kept, get_or}
-use Rattle.cache_partition.proofs.Words.{here_of, inl, inr, item_at, item_in, item_put, item_puts_entry, item_size, item_words, put_long, Has, Mode, IsOffset, IsSlotOf}
-use Rattle.cache_partition.proofs.Words.{kept_record, length, length-item_words, main, new_record, offset_of, oldest}
-use Rattle.cache_partition.proofs.Words.{only_key, options_in, other_rooms, passed, put_entry, put_item, put_others, put_words, record_of, refl}
-use Rattle.cache_partition.proofs.Words.{same_or_other, spells_item, stamp_in, stamp_small, state_in, stood, subst, sym, tag_of, tag_of-range, tail_of}
-use Rattle.cache_partition.proofs.Words.{window_kept, written, ℕ, ⊎_elim, ◌+◌, ◌<◌, ◌^◌, ◌∙◌, ◌≡◌, ◌≢◌, ◌≤◌, ◌⊎◌}
+use Rattle.cache_partition.proofs.Words.{AcceptedWrite, Cache, Cell, Del, GivesWay, Has, HasLiveEntry, HasNoSlot, HoldsOfNone, IsEmpty, IsOffset}
+use Rattle.cache_partition.proofs.Words.{IsPassed, IsSlotOf, Kept, List, Mode, None, Option, OwnerState, Put, PutsEntry, Record, Some, Spells}
+use Rattle.cache_partition.proofs.Words.{StandsFor, [], after, ap, arith, begin_of, bucket_in, cases_lt, cell_at, count_by, empty, entry_in}
+use Rattle.cache_partition.proofs.Words.{entry_not_empty, entry_of, entry_offset, entry_offset-entry_of, entry_puts, entry_puts_other, entry_tag}
+use Rattle.cache_partition.proofs.Words.{entry_tag-entry_of, find, fits_kept, get_or, inl, inr, item_at, item_in, item_put, item_puts_entry}
+use Rattle.cache_partition.proofs.Words.{item_size, item_words, keeps_put, kept_record, largest_item, length, length-item_words, main, new_record}
+use Rattle.cache_partition.proofs.Words.{offset_of, oldest, only_key, options_in, other_rooms, passed, put_entry, put_item, put_long, put_others}
+use Rattle.cache_partition.proofs.Words.{put_words, record_of, refl, same_Some, size_at_most, size_of, spells_item, stamp_in, stamp_small, state_in}
+use Rattle.cache_partition.proofs.Words.{stood, subst, sym, tag_of, tag_of-range, tail_of, tail_past, window_kept, written, written_same, ℕ, ⊎_elim}
+use Rattle.cache_partition.proofs.Words.{◌+◌, ◌<◌, ◌^◌, ◌∙◌, ◌≡◌, ◌≢◌, ◌≤◌, ◌⊎◌}
 use Rattle.cache_partition.proofs.Counts as counts
 use Rattle.cache_partition.proofs.Leaves as leaves
 use Rattle.cache_partition.proofs.Displaced.{some_found}
-use Rattle.cache_partition.proofs.Held.{HasSlot, Held, has_in, live_entry, machine, no_record, one_slot, record_in, slot_is, slot_of, stamp_is}
+use Rattle.cache_partition.proofs.Held.{HasRecord, HasSlot, Held, has_in, live_entry, machine, one_slot, record_in, slot_is, slot_of, stamp_is}
 use Rattle.cache_partition.proofs.Leaves.{Leaves, Nothing}
 use Rattle.cache_partition.proofs.OneSlot.{HasMine, HasNone, later, stands}
 
@@ -53,6 +54,18 @@ module _ (h : Held) (a : AcceptedWrite h.o) where
   none_others : HasNoSlot h.o b a.w.key → (i y : ℕ) (key : List ℕ) (cell : Cell) → HasLiveEntry h.o b b i y → Spells h.o b y key cell → key ≢ a.w.key
   none_others none i y key cell e sp same = none i (subst (λ (k : List ℕ). IsSlotOf h.o b k i) same (slot_is h b i y key cell e sp))
 
+  -- where a number is no record's, none is lost; so it is with that of the key's own slot
+  none_lost : (j : ℕ) → j < 16 → ((r : Record) → record_of (cs.after_write (options_in h.o) h.m a.w) r.key ≡ Some r
+      → tail_of (cs.after_write (options_in h.o) h.m a.w).stamp ≤ r.offset + h.o.shape.words → ¬ (counts.IsNumber h a.w a.is (stood h.o a) r j)) → Leaves (options_in h.o) h.m a.w Nothing
+  none_lost j low free = leaves.none_lost (options_in h.o) h.m (machine h) a.w a.is (counts.few h a.w a.is (stood h.o a) j low free)
+
+  own_slot : (slot : ℕ) (r : Record) → HasSlot h b a.w.key r slot → Leaves (options_in h.o) h.m a.w Nothing
+  own_slot slot r at =
+      let below = at.entry.in_bucket in
+      none_lost slot (omega arith) (λ r' found live. ⊎_elim
+      (λ (mine : (r'.key ≡ a.w.key) × (slot ≡ 15)). let last = mine.1 in absurd (omega arith))
+      (λ (other : (r'.key ≢ a.w.key) × HasSlot h b r'.key r' slot). other.0 (only_key h.o h.kept b b _ _ r'.key a.w.key _ _ other.1.spelt at.spelt refl)))
+
   module _ (words : List ℕ) (t : Kept (written h.o a words)) where
     abbrev q : OwnerState
     q = written h.o a words
@@ -86,9 +99,9 @@ module _ (h : Held) (a : AcceptedWrite h.o) where
           other_rooms (options_in h.o) h.kept.shape.ranges h.o.history h.kept.history.writes a.w a.is h.m h.before (p + j) (belongs j less) key other r found i below (omega arith))
 
       -- in the key's slot
-      over_slot : Leaves (options_in h.o) h.m a.w Nothing → (r : Record) → HasSlot h b a.w.key r slot → StandsFor q b
-      over_slot left r at = stands h a words t slot Nothing record {
-        leaves = left;
+      over_slot : (r : Record) → HasSlot h b a.w.key r slot → StandsFor q b
+      over_slot r at = stands h a words t slot Nothing record {
+        leaves = own_slot slot r at;
         entries = effect.entries;
         others = λ i y key cell other e sp. (
           λ same. other (one_slot h b (stood h.o a) i slot y (entry_in h.o b slot) a.w.key cell (cell_at r).0 e at.entry (subst (λ (k : List ℕ). Spells h.o b y k cell) same sp) at.spelt),
@@ -102,7 +115,7 @@ module _ (h : Held) (a : AcceptedWrite h.o) where
       -- where it had none
       over_other : (Lost : List ℕ → Type 0) → Leaves (options_in h.o) h.m a.w Lost → HasNoSlot h.o b a.w.key
           → ((i y : ℕ) (key : List ℕ) (cell : Cell) → i ≢ slot → HasLiveEntry h.o b b i y → Spells h.o b y key cell → ¬ (Lost key))
-          → ((y : ℕ) (key : List ℕ) (cell : Cell) → HasLiveEntry h.o b b slot y → tail_of n.m.stamp ≤ entry_offset y + h.o.shape.words
+          → ((y : ℕ) (key : List ℕ) (cell : Cell) → HasLiveEntry h.o b b slot y → tail_of (cs.after_write (options_in h.o) h.m a.w).stamp ≤ entry_offset y + h.o.shape.words
           → Spells h.o b y key cell → (key ≡ a.w.key) ⊎ Lost key)
           → StandsFor q b
       over_other Lost left none not_lost gone = stands h a words t slot Lost record {
@@ -117,20 +130,21 @@ module _ (h : Held) (a : AcceptedWrite h.o) where
     -- A delete
 
     module _ (op : a.w.op ≡ Del) where
-      deleted : Leaves (options_in h.o) h.m a.w Nothing
-      deleted = leaves.none_lost (options_in h.o) h.m (machine h) a.w a.is (leaves.few_deleted (options_in h.o) h.m (machine h) a.w op)
-
       no_words : (j : ℕ) → j < length {A = ℕ} [] → cs.IsOfItem (options_in h.o) h.m a.w (0 + j)
       no_words j less = absurd (omega arith)
 
+      no_record_left : record_of (cs.after_write (options_in h.o) h.m a.w) a.w.key ≡ None
+      no_record_left = leaves.deleted_none (options_in h.o) h.m (machine h) a.w op
+
       pub delete_of_slot : (slot : ℕ) (r : Record) → HasSlot h b a.w.key r slot → Effect words slot 0 0 [] → StandsFor q b
-      delete_of_slot slot r at effect = over_slot slot 0 0 [] effect no_words
-          (inr (λ x e. e.live.0 (sym e.found ∙ effect.here), leaves.deleted_none (options_in h.o) h.m (machine h) a.w op)) deleted r at
+      delete_of_slot slot r at effect = over_slot slot 0 0 [] effect no_words (inr (λ x e. e.live.0 (sym e.found ∙ effect.here), no_record_left)) r at
 
       pub delete_of_none : HasNoSlot h.o b a.w.key → (x : ℕ) → Effect words 15 x 0 [] → StandsFor q b
-      delete_of_none none x effect = over_other 15 x 0 [] effect no_words
-          (inr (λ y e. (let below = e.in_bucket in absurd (omega arith)), leaves.deleted_none (options_in h.o) h.m (machine h) a.w op))
-          Nothing deleted none (λ i y key cell other e sp lost. lost) (λ y key cell e live sp. let below = e.in_bucket in absurd (omega arith))
+      delete_of_none none x effect = over_other 15 x 0 [] effect no_words (inr (λ y e. (let below = e.in_bucket in absurd (omega arith)), no_record_left)) Nothing
+          (none_lost 15 (omega arith) (λ r found live. ⊎_elim
+          (λ (mine : (r.key ≡ a.w.key) × (15 ≡ 15)). cc (sym no_record_left ∙ (ap (record_of (cs.after_write (options_in h.o) h.m a.w)) (sym mine.0) ∙ found)))
+          (λ (slot : (r.key ≢ a.w.key) × HasSlot h b r.key r 15). let below = slot.1.entry.in_bucket in absurd (omega arith))))
+          none (λ i y key cell other e sp lost. lost) (λ y key cell e live sp. let below = e.in_bucket in absurd (omega arith))
 
     -- A put
 
@@ -146,9 +160,11 @@ module _ (h : Held) (a : AcceptedWrite h.o) where
       put_in_place held kept slot at effect =
           over_slot slot (entry_in h.o b slot) held.offset (item_words held.room a.w.key a.w.value) effect
           (its_item held.offset held.room (ap (λ (z : Option Record). begin_of z h.m) kept))
-          (inl (has_mine slot (entry_in h.o b slot) at.entry.in_bucket held (leaves.rewritten_own (options_in h.o) h.m (machine h) a.w held op kept)
-          at.entry.live.0 (sym at.offset) at.spelt.tag effect))
-          (leaves.none_lost (options_in h.o) h.m (machine h) a.w a.is (leaves.few_rewritten (options_in h.o) h.m (machine h) a.w held op kept)) held at
+          (inl (has_mine slot (entry_in h.o b slot) at.entry.in_bucket held
+          ((own_slot slot held at).on a.w.key (record held { value = a.w.value }) (leaves.rewritten_own (options_in h.o) h.m (machine h) a.w held op kept)
+          (let live = (keeps_put (options_in h.o) h.m a.w held kept).live in
+          let stamp = ap (λ (z : Cache). tail_of z.stamp) (leaves.is_rewritten (options_in h.o) h.m (machine h) a.w held op kept) in omega arith) (λ lost. lost))
+          at.entry.live.0 (sym at.offset) at.spelt.tag effect)) held at
 
       -- one that is not
       module _ (none_kept : kept_record (options_in h.o) h.m a.w ≡ None) (slot : ℕ) (below : slot < 15)
@@ -166,8 +182,22 @@ module _ (h : Held) (a : AcceptedWrite h.o) where
             let is = stamp_is h in
             omega arith
 
-        mine : HasMine h a words slot
-        mine = has_mine slot x below (new_record h.m a.w.key a.w.value) (leaves.appended_own (options_in h.o) h.m (machine h) a.w h.kept.shape.ranges a.is op none_kept)
+        abbrev own : Record
+        own = new_record h.m a.w.key a.w.value
+
+        its_own : record_of (cs.after_write (options_in h.o) h.m a.w) a.w.key ≡ Some own
+        its_own = leaves.appended_own (options_in h.o) h.m (machine h) a.w op none_kept
+
+        own_live : tail_of (cs.after_write (options_in h.o) h.m a.w).stamp ≤ tail_of h.m.stamp + h.o.shape.words
+        own_live =
+            let size : size_of a.w ≤ largest_item = size_at_most a.w a.is in
+            let least = h.kept.shape.ranges.words.0 in
+            let stamp = ap (λ (z : Cache). tail_of z.stamp) (leaves.is_appended (options_in h.o) h.m (machine h) a.w op none_kept) in
+            let past = tail_past h.m.stamp (size_of a.w) in
+            omega arith
+
+        mine : (Lost : List ℕ → Type 0) → Leaves (options_in h.o) h.m a.w Lost → ¬ (Lost a.w.key) → HasMine h a words slot
+        mine Lost left kept = has_mine slot x below own (left.on a.w.key own its_own own_live kept)
             (entry_not_empty (tag_of a.w.key) (tail_of h.m.stamp) (tag_of-range a.w.key).0)
             (entry_offset-entry_of (tag_of a.w.key) (tail_of h.m.stamp) tail_small) (entry_tag-entry_of (tag_of a.w.key) (tail_of h.m.stamp) tail_small) effect
 
@@ -175,66 +205,79 @@ module _ (h : Held) (a : AcceptedWrite h.o) where
         belongs = its_item (tail_of h.m.stamp) (item_size a.w.key a.w.value) (ap (λ (z : Option Record). begin_of z h.m) none_kept)
 
         pub put_over_slot : (r : Record) → HasSlot h b a.w.key r slot → StandsFor q b
-        put_over_slot r at =
-            over_slot slot x (tail_of h.m.stamp) xs effect belongs (inl mine)
-            (leaves.none_lost (options_in h.o) h.m (machine h) a.w a.is (leaves.few_replaced (options_in h.o) h.m (machine h) a.w op none_kept r at.is)) r at
+        put_over_slot r at = over_slot slot x (tail_of h.m.stamp) xs effect belongs (inl (mine Nothing (own_slot slot r at) (λ lost. lost))) r at
 
         -- Where the key had no slot
 
         module _ (none : HasNoSlot h.o b a.w.key) where
           abbrev tail : ℕ
-          tail = counts.tail h a.w (stood h.o a)
-
-          tail_is : tail_of n.m.stamp ≡ tail
-          tail_is = ap tail_of (leaves.stamp_by (options_in h.o) h.m (machine h) a.w _ (leaves.is_appended (options_in h.o) h.m (machine h) a.w op none_kept))
+          tail = tail_of (cs.after_write (options_in h.o) h.m a.w).stamp
 
           -- into a slot that is empty or whose item the log has passed by then
           into_dead : (entry_in h.o b slot ≢ 0 → tail ≤ entry_offset (entry_in h.o b slot) + h.o.shape.words → ⊥) → StandsFor q b
-          into_dead dead = over_other slot x (tail_of h.m.stamp) xs effect belongs (inl mine) Nothing
-              (leaves.none_lost (options_in h.o) h.m (machine h) a.w a.is
-              (leaves.few_added (options_in h.o) h.m (machine h) a.w h.kept.shape.ranges a.is op none_kept (counts.few h a.w (stood h.o a) slot below dead)))
-              none (λ i y key cell other e sp lost. lost)
-              (λ y key cell e live sp. absurd (dead (λ zero. e.live.0 (sym e.found ∙ zero)) (let same = ap entry_offset e.found in let tails = tail_is in omega arith)))
+          into_dead dead =
+              let left = none_lost slot (omega arith) (λ r found live. ⊎_elim
+              (λ (mine : (r.key ≡ a.w.key) × (slot ≡ 15)). let last = mine.1 in absurd (omega arith))
+              (λ (at : (r.key ≢ a.w.key) × HasSlot h b r.key r slot). dead at.1.entry.live.0 (let offset = at.1.offset in omega arith))) in
+              over_other slot x (tail_of h.m.stamp) xs effect belongs (inl (mine Nothing left (λ lost. lost))) Nothing left none (λ i y key cell other e sp lost. lost)
+              (λ y key cell e live sp. absurd (dead (λ zero. e.live.0 (sym e.found ∙ zero)) (let same = ap entry_offset e.found in omega arith)))
 
           -- into the slot of least offset, where all are live: its item is the bucket's oldest, which the machine displaces
           module _ (live : (i : ℕ) → i < 15 → (entry_in h.o b i ≢ 0) × (tail ≤ entry_offset (entry_in h.o b i) + h.o.shape.words))
               (least : (i : ℕ) → i < 15 → entry_offset (entry_in h.o b slot) ≤ entry_offset (entry_in h.o b i)) where
-            many : 15 ≤ count_by (here_of (options_in h.o) a.w) (counts.lives h a.w (stood h.o a))
-            many = counts.many h a.w (stood h.o a) h.kept.shape.ranges a.is op none_kept (no_record h b (stood h.o a) a.w.key refl none) live
+            many : count_by (counts.here h a.w a.is (stood h.o a)) (counts.alive h a.w a.is (stood h.o a)) ≡ 16
+            many = counts.many h a.w a.is (stood h.o a) own its_own own_live none live
 
-            first : (f : Record) × (find (here_of (options_in h.o) a.w) (counts.lives h a.w (stood h.o a)) ≡ Some f)
-            first = let all = many in some_found (here_of (options_in h.o) a.w) (counts.lives h a.w (stood h.o a)) (omega arith)
+            first : (f : Record) × (find (counts.here h a.w a.is (stood h.o a)) (counts.alive h a.w a.is (stood h.o a)) ≡ Some f)
+            first = let all = many in some_found (counts.here h a.w a.is (stood h.o a)) (counts.alive h a.w a.is (stood h.o a)) (omega arith)
 
             slot_live : HasLiveEntry h.o b b slot (entry_in h.o b slot)
-            slot_live = let stamp = stamp_is h in let tails = (live slot below).1 in live_entry h b slot (entry_in h.o b slot) below refl (live slot below).0 (omega arith)
+            slot_live =
+                let stamp = stamp_is h in
+                let more = (leaves.written (options_in h.o) h.m (machine h) a.w a.is).least in
+                let later = (live slot below).1 in
+                live_entry h b slot (entry_in h.o b slot) below refl (live slot below).0 (omega arith)
 
             names : (key : List ℕ) × (cell : Cell) × Spells h.o b (entry_in h.o b slot) key cell
             names = (stood h.o a).nothing_else b slot (entry_in h.o b slot) slot_live
 
+            names_other : names.0 ≢ a.w.key
+            names_other = none_others none slot (entry_in h.o b slot) names.0 names.1 slot_live names.2
+
+            its : HasRecord h names.0 names.1 (entry_offset (entry_in h.o b slot))
+            its = record_in h names.0 names.1 (entry_offset (entry_in h.o b slot)) names.2.has
+
+            first_begins : first.0.offset ≤ its.r.offset
+            first_begins =
+                let offset = its.offset in
+                let later = (live slot below).1 in
+                leaves.first_begins (options_in h.o) h.m (machine h) a.w a.is first.0 first.1 names.0 its.r
+                (written_same (options_in h.o) h.m a.w names.0 names_other ∙ its.is) (omega arith) names.2.bucket
+
+            -- the written key's record is not the first, as it begins behind the others
+            first_other : first.0.key ≢ a.w.key
+            first_other same =
+                let found = (leaves.first_is (options_in h.o) h.m (machine h) a.w a.is first.0 first.1).0 in
+                let is : first.0.offset ≡ tail_of h.m.stamp = ap (λ (r : Record). r.offset) (same_Some first.0 own (sym found ∙ (ap (record_of (cs.after_write (options_in h.o) h.m a.w)) same ∙ its_own))) in
+                let before = first_begins in
+                let end = (window_kept (options_in h.o) h.m (machine h) names.0 its.r its.is).1 in
+                let room = (fits_kept (options_in h.o) h.m (machine h) names.0 its.r its.is).4 in
+                omega arith
+
             names_first : names.0 ≡ first.0.key
             names_first =
-                let facts = leaves.first_is (options_in h.o) h.m (machine h) a.w h.kept.shape.ranges a.is op none_kept first.0 first.1 in
-                let its = record_in h names.0 names.1 (entry_offset (entry_in h.o b slot)) names.2.has in
+                let facts = leaves.first_is (options_in h.o) h.m (machine h) a.w a.is first.0 first.1 in
+                let there = slot_of h b (stood h.o a) first.0.key first.0 facts.1 (sym (written_same (options_in h.o) h.m a.w first.0.key first_other) ∙ facts.0) in
+                let before = first_begins in
                 let offset = its.offset in
-                let its_live = (live slot below).1 in
-                let after = leaves.first_begins (options_in h.o) h.m (machine h) a.w h.kept.shape.ranges a.is op none_kept first.0 first.1 names.0 its.r
-                (none_others none slot (entry_in h.o b slot) names.0 names.1 slot_live names.2) its.is (omega arith) names.2.bucket in
-                let there = slot_of h b (stood h.o a) first.0.key first.0 facts.1 facts.0 in
                 let its_offset = there.1.offset in
-                let before = least there.0 there.1.entry.in_bucket in
-                let room = (fits_kept (options_in h.o) h.m (machine h) names.0 its.r its.is).4 in
-                let room' = (fits_kept (options_in h.o) h.m (machine h) first.0.key first.0 facts.0).4 in
-                elim (same_or_other names.0 first.0.key) [
-                  | inl same ↦ same
-                  | inr differ ↦ ⊎_elim
-                      (λ (one : its.r.offset + its.r.room ≤ first.0.offset). absurd (omega arith))
-                      (λ (two : first.0.offset + first.0.room ≤ its.r.offset). absurd (omega arith))
-                      (apart_kept (options_in h.o) h.m (machine h) names.0 first.0.key its.r first.0 its.is facts.0 differ)
-                ]
+                let low = least there.0 there.1.entry.in_bucket in
+                only_key h.o h.kept b b (entry_in h.o b slot) (entry_in h.o b there.0) names.0 first.0.key names.1 (cell_at first.0).0 names.2 there.1.spelt (omega arith)
 
             into_oldest : StandsFor q b
-            into_oldest = over_other slot x (tail_of h.m.stamp) xs effect belongs (inl mine) (λ key. key ≡ first.0.key)
-                (leaves.first_lost (options_in h.o) h.m (machine h) a.w h.kept.shape.ranges a.is op none_kept first.0 first.1 many) none
+            into_oldest =
+                let left = leaves.first_lost (options_in h.o) h.m (machine h) a.w a.is first.0 first.1 many in
+                over_other slot x (tail_of h.m.stamp) xs effect belongs (inl (mine (λ key. key ≡ first.0.key) left (λ same. first_other (sym same)))) (λ key. key ≡ first.0.key) left none
                 (λ i y key cell other e sp same. other (one_slot h b (stood h.o a) i slot y (entry_in h.o b slot) names.0 cell names.1 e slot_live
                 (subst (λ (k : List ℕ). Spells h.o b y k cell) (same ∙ sym names_first) sp) names.2))
                 (λ y key cell e alive sp.

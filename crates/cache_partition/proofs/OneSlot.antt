@@ -1,12 +1,12 @@
 -- Where a write changes one slot of its bucket, the words stand for the machine's state after it.
 use Rattle.mica_model.specs.CacheStep as cs
-use Rattle.cache_partition.proofs.Words.{AcceptedWrite, Cache, Cell, Has, HasLiveEntry, Keeps, Kept, List, None, OwnerState, Record, Some, Spells, StandsFor, State}
-use Rattle.cache_partition.proofs.Words.{ap, arith, bucket_in, alone, cache_state, cell_at, dite, entry_in, entry_offset, inl, inr, item_in, main, only_key}
-use Rattle.cache_partition.proofs.Words.{options_in, record_of, refl, room_in, room_is, same_cell, same_or_other, spells_on, stamp_in}
-use Rattle.cache_partition.proofs.Words.{stamp_rises, stands_cached, state_after, state_in, stood, subst, sym, tail_of, window_kept, written}
-use Rattle.cache_partition.proofs.Words.{written_state, ℕ, ℕ_discrete, ◌+◌, ◌<◌, ◌∙◌, ◌≡◌, ◌≢◌, ◌≤◌, ◌⊎◌}
+use Rattle.cache_partition.proofs.Words.{AcceptedWrite, Cache, Cell, Has, HasLiveEntry, Keeps, Kept, List, None, OwnerState, Record, Some, Spells}
+use Rattle.cache_partition.proofs.Words.{StandsFor, State, alone, ap, arith, bucket_in, cache_state, cell_at, dite, entry_in, entry_offset, inl, inr}
+use Rattle.cache_partition.proofs.Words.{item_in, main, only_key, options_in, record_of, refl, room_in, room_is, same_cell, same_or_other, spells_on}
+use Rattle.cache_partition.proofs.Words.{stamp_in, stamp_rises, stands_cached, state_after, state_in, stood, subst, sym, tail_of, window_kept}
+use Rattle.cache_partition.proofs.Words.{written, written_same, written_state, ℕ, ℕ_discrete, ◌+◌, ◌<◌, ◌∙◌, ◌≡◌, ◌≢◌, ◌≤◌, ◌⊎◌}
 use Rattle.cache_partition.proofs.Held.{Held, has_in, in_main, live_entry, live_is, machine, one_slot, record_in, slot_of, stamp_is}
-use Rattle.cache_partition.proofs.Leaves.{Leaves}
+use Rattle.cache_partition.proofs.Leaves.{Leaves, step_stamp}
 
 -- the partition before the write's end, with these words
 module _ (h : Held) (a : AcceptedWrite h.o) (words : List ℕ) where
@@ -28,7 +28,7 @@ module _ (h : Held) (a : AcceptedWrite h.o) (words : List ℕ) where
   -- the machine has no record of the written key, and the slot no live entry
   abbrev pub HasNone : ℕ → Type 0
   HasNone slot =
-      ((x : ℕ) → ¬ (HasLiveEntry (written h.o a words) (bucket_in h.o a.w.key) (bucket_in h.o a.w.key) slot x)) × (record_of new a.w.key ≡ None)
+      ((x : ℕ) → ¬ (HasLiveEntry (written h.o a words) (bucket_in h.o a.w.key) (bucket_in h.o a.w.key) slot x)) × (record_of (cs.after_write (options_in h.o) h.m a.w) a.w.key ≡ None)
 
   -- The other slots stay as they were, and what they spell is of other keys, which the machine leaves. What the slot
   -- spelt is of the written key, or lost.
@@ -38,7 +38,7 @@ module _ (h : Held) (a : AcceptedWrite h.o) (words : List ℕ) where
     pub others : (i x : ℕ) (key : List ℕ) (cell : Cell) → i ≢ slot → HasLiveEntry h.o (bucket_in h.o a.w.key) (bucket_in h.o a.w.key) i x
         → Spells h.o (bucket_in h.o a.w.key) x key cell → (key ≢ a.w.key) × ¬ (Lost key)
     pub gone : (x : ℕ) (key : List ℕ) (cell : Cell) → HasLiveEntry h.o (bucket_in h.o a.w.key) (bucket_in h.o a.w.key) slot x
-        → tail_of new.stamp ≤ entry_offset x + h.o.shape.words → Spells h.o (bucket_in h.o a.w.key) x key cell → (key ≡ a.w.key) ⊎ Lost key
+        → tail_of (cs.after_write (options_in h.o) h.m a.w).stamp ≤ entry_offset x + h.o.shape.words → Spells h.o (bucket_in h.o a.w.key) x key cell → (key ≡ a.w.key) ⊎ Lost key
     pub items : (key : List ℕ) (r : Record) → key ≢ a.w.key → record_of new key ≡ Some r
         → (i : ℕ) → i < r.room → item_in (written h.o a words) (r.offset + i) ≡ item_in h.o (r.offset + i)
     pub mine : HasMine slot ⊎ HasNone slot
@@ -56,6 +56,9 @@ module _ (h : Held) (a : AcceptedWrite h.o) (words : List ℕ) where
     was : StandsFor h.o b
     was = stood h.o a
 
+    stamp_now : stamp_in q ≡ (cs.after_write (options_in h.o) h.m a.w).stamp
+    stamp_now = stamp_is n ∙ step_stamp (options_in h.o) h.m (machine h) a.w
+
     -- what a live entry spells: the written key in the slot, and in another one the key that it spelt
     record Now (i x : ℕ) : Type 0 where
       pub key : List ℕ
@@ -69,8 +72,8 @@ module _ (h : Held) (a : AcceptedWrite h.o) (words : List ℕ) where
     stays x key cell other live kept sp =
         let named = record_in h key cell (entry_offset x) sp.has in
         let offset = named.offset in
-        let stamp = stamp_is n in
-        let left = k.leaves.on key named.r other named.is (omega arith) kept in
+        let stamp = stamp_now in
+        let left = k.leaves.on key named.r (written_same (options_in h.o) h.m a.w key other ∙ named.is) (omega arith) kept in
         let room : room_in h.o x ≡ named.r.room = room_is h.o h.kept b x key cell sp ∙ ap (λ (z : Cell). z.room) named.cell_is in
         let keeps : Keeps h.o a words x = λ i l.
         subst (λ (z : ℕ). item_in q (z + i) ≡ item_in h.o (z + i)) offset (k.items key named.r other left i (omega arith)) in
@@ -128,17 +131,18 @@ module _ (h : Held) (a : AcceptedWrite h.o) (words : List ℕ) where
           (b, slot, entry_in q b slot, mine.1, subst (λ (z : Cell). Spells q b (entry_in q b slot) key z) same sp)
       | inr none ↦
           let found = record_in n key cell p has in
-          cc (sym found.is ∙ (ap (record_of new) is ∙ none.1))
+          cc (sym none.1 ∙ (ap (record_of (cs.after_write (options_in h.o) h.m a.w)) (sym is) ∙ (k.leaves.back key found.r found.is).0))
     ]
 
     each_other : (key : List ℕ) (cell : Cell) (p : ℕ) → bucket_in h.o key ≡ b → Has (state_in q) key cell p → key ≢ a.w.key
         → (c : ℕ) × (i : ℕ) × (x : ℕ) × HasLiveEntry q b c i x × Spells q b x key cell
     each_other key cell p here has other =
         let found = record_in n key cell p has in
-        let before = k.leaves.back key found.r other found.is in
-        let at = slot_of h b was key found.r here before.0 in
+        let before = k.leaves.back key found.r found.is in
+        let at = slot_of h b was key found.r here (sym (written_same (options_in h.o) h.m a.w key other) ∙ before.0) in
         let offset = at.1.offset in
         let stamp = stamp_is n in
+        let now = stamp_now in
         let window = (window_kept (options_in h.o) new (machine n) key found.r found.is).0 in
         let not_slot : at.0 ≢ slot = λ is. elim (k.gone (entry_in h.o b at.0) key (cell_at found.r).0
         (subst (λ (z : ℕ). HasLiveEntry h.o b b z (entry_in h.o b at.0)) is at.1.entry) (omega arith) at.1.spelt) [ inl mine ↦ other mine | inr lost ↦ before.1 lost ] in (

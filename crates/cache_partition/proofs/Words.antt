@@ -1,12 +1,11 @@
 -- The words that the proofs of this crate speak in, passed on once.
 pub use mathlib.Core.Logic.{dite}
 pub use native.Mathlib.Decide.{ℕ_discrete}
-pub use Rattle.std.proofs.Common.{Bool, List, None, Option, Some, [], ap, arith, cond, eqb, false, get_or, inl, inr, length, not, refl, subst, suc}
-pub use Rattle.std.proofs.Common.{sym, true, ℕ, ⊎_elim, ◌*◌, ◌++◌, ◌+◌, ◌<◌, ◌^◌, ◌∙◌, ◌∷◌, ◌≡◌, ◌≢◌, ◌≤◌, ◌⊎◌}
+pub use Rattle.std.proofs.Common.{Bool, List, None, Option, Some, [], ap, arith, cond, eqb, false, get_or, inl, inr, length, refl, subst, suc, sym}
+pub use Rattle.std.proofs.Common.{true, ℕ, ⊎_elim, ◌*◌, ◌++◌, ◌+◌, ◌<◌, ◌^◌, ◌∙◌, ◌∷◌, ◌≡◌, ◌≢◌, ◌≤◌, ◌⊎◌}
 pub use Rattle.std.proofs.lemmas.Bool.{cases_Bool, cases_lt, eq-eqb, eqb-true, le-leb, leb-false, leb-true, lt-leb, ne_eqb, true≢false}
 pub use Rattle.std.proofs.lemmas.Bool.Decides.{nat_tests}
-pub use Rattle.std.proofs.lemmas.List.Elements.{filter-append}
-pub use Rattle.std.proofs.lemmas.List.Sums.{length-filter, sum_by_push}
+pub use Rattle.std.proofs.lemmas.List.Sums.{length-filter}
 pub use Rattle.std.proofs.lemmas.Map.Keys.{IsDistinct-cons}
 pub use Rattle.std.proofs.lemmas.Map.Steps.{le-length_from_below, length-le_from_distinct_below}
 pub use Rattle.std.proofs.lemmas.Nat.{pow_pos}
@@ -14,7 +13,7 @@ pub use Rattle.std.proofs.lemmas.Option.{same_Some}
 pub use Rattle.std.specs.Bool.{then_some}
 pub use Rattle.std.specs.List.{AllByRecursion as AllOf, count_by, filter, find, list_any}
 unfoldable pub use Rattle.std.specs.List.{IsDistinct}
-pub use Rattle.std.specs.Prelude.{IfSome, MatchOption, is_some, map, nat_le, option_map, ◌&&◌}
+pub use Rattle.std.specs.Prelude.{IfSome, MatchOption, is_some, nat_le, option_map, ◌&&◌}
 pub use Rattle.mica_words.proofs.Fields.{entry_not_empty, entry_offset-entry_of, entry_tag-entry_of}
 pub use Rattle.mica_words.proofs.Hashes.{bucket_of_hash, hash_bucket-below, tag_of-range, tag_of_hash}
 pub use Rattle.mica_words.proofs.ItemWords.{length-item_words}
@@ -26,9 +25,9 @@ pub use Rattle.mica_words.specs.Item.{KeyFits, item_size, largest_item}
 pub use Rattle.mica_words.specs.Packing.{AreBytes}
 pub use Rattle.mica_words.specs.Spelling.{item_words}
 pub use Rattle.mica_words.specs.Stamp.{tail_of}
-pub use Rattle.mica_model.proofs.CacheKept.{IsKept, after_write_is, begin_of, here_of, keeps_put, left_of, live_of, offset_of, others_lack, rewritten}
-pub use Rattle.mica_model.proofs.CacheKept.{rewritten_key, size_at_most, tail_past}
-pub use Rattle.mica_model.proofs.CacheLaws.{apart_kept, fits_kept, kept_in, put_item, window_kept, written_same}
+pub use Rattle.mica_model.proofs.CacheKept.{IsKept, IsWritten, after_write_is, begin_of, here_of, keeps_put, left_of, live_of, offset_of, others_lack}
+pub use Rattle.mica_model.proofs.CacheKept.{rewritten, rewritten_key, size_at_most, tail_past}
+pub use Rattle.mica_model.proofs.CacheLaws.{fits_kept, kept_in, put_item, window_kept, written_same}
 pub use Rattle.mica_model.proofs.FateLaws.{miss_is_not_held}
 pub use Rattle.mica_model.proofs.Found.{all_filter, all_passes, all_weaker, count_cons, found_has, missed_all}
 pub use Rattle.mica_model.proofs.Histories.{accepted_is_length, cached_in, state_snoc}
@@ -42,7 +41,6 @@ pub use Rattle.mica_model.specs.CacheStep.{kept_record, new_record, others, repl
 pub use Rattle.mica_model.specs.History.{Allows, MayGive, State, accepted_in, after as state_after, answer_of, cache_state}
 pub use Rattle.mica_model.specs.History.{stamp_in as stamp_of_state, stamp_of, value_in}
 pub use Rattle.mica_model.specs.Limits.{most_stamp}
-pub use Rattle.mica_model.specs.Options.{IsValid}
 pub use Rattle.mica_model.specs.Store.{Cell}
 pub use Rattle.mica_model.specs.Write.{IsWrite, is_accepted, size_of, write_of}
 pub use Rattle.mica_model.specs.declared.options.Mode.{Mode}

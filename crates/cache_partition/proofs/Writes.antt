@@ -113,7 +113,7 @@ module _ (o : OwnerState) (s : Kept o) (may : MayWrite o) (w : Write) (is : IsWr
   stamp_after : (t : Cache) → cs.after_write (options_in o) h.m w ≡ t → stamp_of (options_in o) (o.history ++ w ∷ []) ≡ t.stamp
   stamp_after t written =
       ap stamp_of_state (state_snoc (options_in o) o.history w ∙ ap (λ (z : State). state_after (options_in o) z w) h.before)
-      ∙ leaves.stamp_by (options_in o) h.m (machine h) w t written
+      ∙ (leaves.step_stamp (options_in o) h.m (machine h) w ∙ ap (λ (z : Cache). z.stamp) written)
 
   pub stamp_deleted : w.op ≡ Del → stamp_in o + 1 ≡ stamp_of (options_in o) (o.history ++ w ∷ [])
   stamp_deleted op = ap (λ (n : ℕ). n + 1) (stamp_is h) ∙ sym (stamp_after _ (leaves.is_deleted (options_in o) h.m (machine h) w op))
@@ -176,12 +176,11 @@ module _ (o : OwnerState) (s : Kept o) (may : MayWrite o) (w : Write) (is : IsWr
         let least = s.shape.ranges.words.0 in
         omega arith
 
-    -- it leaves its key this record, where the machine has written it
-    leaves_item : (c : Cache) → cs.after_write (options_in o) h.m w ≡ c → (p room : ℕ)
-        → record_of c w.key ≡ Some (record { key = w.key; value = w.value; offset = p; room = room }) → LeavesItem (marked o accepted) p room w.key w.value
-    leaves_item c written p room found =
-        subst (λ (z : State). written_record (options_in o) z w ≡ Some (record { key = w.key; value = w.value; offset = p; room = room })) (sym h.before)
-        (ap (λ (z : Cache). record_of z w.key) written ∙ found)
+    -- it leaves its key this record
+    leaves_item : (p room : ℕ) → record_of (cs.after_write (options_in o) h.m w) w.key ≡ Some (record { key = w.key; value = w.value; offset = p; room = room })
+        → LeavesItem (marked o accepted) p room w.key w.value
+    leaves_item p room found =
+        subst (λ (z : State). written_record (options_in o) z w ≡ Some (record { key = w.key; value = w.value; offset = p; room = room })) (sym h.before) found
 
     pub rewrites : w.op ≡ Put → (c p : ℕ) → c ≡ b → kept_offset o w ≡ Some p → Rewrites o w c t p
     rewrites op c p here keeps =
@@ -198,8 +197,8 @@ module _ (o : OwnerState) (s : Kept o) (may : MayWrite o) (w : Write) (is : IsWr
           may = record {
             cell = (cell_at r.0).0;
             there = there;
-            leaves = leaves_item (cs.after_rewrite h.m w) (leaves.is_rewritten (options_in o) h.m (machine h) w r.0 op r.1) r.0.offset r.0.room
-                (leaves.rewritten_found (options_in o) h.m (machine h) w r.0 r.1 ∙ ap (λ (k : List ℕ). Some (record r.0 { key = k; value = w.value })) its_key);
+            leaves = leaves_item r.0.offset r.0.room
+                (leaves.rewritten_own (options_in o) h.m (machine h) w r.0 op r.1 ∙ ap (λ (k : List ℕ). Some (record r.0 { key = k; value = w.value })) its_key);
           };
           closes = λ q at_q k.
               let is = at_q ∙ (ap (λ (n : ℕ). with_item (marked o accepted) r.0.offset n w.key w.value) room ∙ put_same o accepted r.0.offset xs (few_words r.0.room)) in
@@ -221,8 +220,8 @@ module _ (o : OwnerState) (s : Kept o) (may : MayWrite o) (w : Write) (is : IsWr
       abbrev stored : OwnerState
       stored = written o accepted (put_words o accepted p xs few)
 
-      stored_stamp : tail_of (stamp_in stored) ≡ tail_of (leaves.appended (options_in o) h.m (machine h) w).stamp
-      stored_stamp = ap tail_of (put_stamp o accepted p xs few ∙ (stamp ∙ stamp_after _ (leaves.is_appended (options_in o) h.m (machine h) w op (held_none keeps))))
+      stored_stamp : tail_of (stamp_in stored) ≡ tail_of (cs.after_write (options_in o) h.m w).stamp
+      stored_stamp = ap tail_of (put_stamp o accepted p xs few ∙ (stamp ∙ stamp_after (cs.after_write (options_in o) h.m w) refl))
 
       in_bucket : (slot : ℕ) → GivesWay stored b slot → slot < 15
       in_bucket slot (empty is) = is.in_bucket
@@ -244,8 +243,7 @@ module _ (o : OwnerState) (s : Kept o) (may : MayWrite o) (w : Write) (is : IsWr
 
       appends_here : Appends o w b t p
       appends_here = record {
-        may = leaves_item (leaves.appended (options_in o) h.m (machine h) w) (leaves.is_appended (options_in o) h.m (machine h) w op (held_none keeps)) p (item_size w.key w.value)
-            (leaves.appended_found (options_in o) h.m (machine h) w);
+        may = leaves_item p (item_size w.key w.value) (leaves.appended_own (options_in o) h.m (machine h) w op (held_none keeps));
         ready = λ q at. subst (λ (z : OwnerState). (marked_in z.phase b ≡ 1) × IsMain z.shape b) (sym (at ∙ put_same o accepted p xs few))
             (written_marked o accepted (put_words o accepted p xs few), main o accepted);
         closes = λ old found q q' slot tag at takes tag_is entry k.
