@@ -2,22 +2,22 @@
 use Rattle.mica_model.specs.CacheStep as cs
 use Rattle.mica_model.proofs.Found as found
 use Rattle.mica_model.proofs.Laid as laid
-use Rattle.cache_partition.proofs.Words.{Bool, Cache, Del, IsKept, IsUnique, IsWrite, IsWritten, List, None, Op, Option, Options, Put, Record, Some}
-use Rattle.cache_partition.proofs.Words.{Write, [], after_write_is, ap, bucket_of, cond, count_by, eq-eqb, eqb-true, find, has_key, here_of}
-use Rattle.cache_partition.proofs.Words.{is_its_key, is_live, keeps_put, kept_record, le-leb, left_of, live_of, ne_eqb, new_record, others}
+use Rattle.cache_partition.proofs.Words.{Bool, Cache, Del, IsKept, IsUnique, IsWrite, IsWritten, List, MatchOption, None, Op, Option, Options, Put}
+use Rattle.cache_partition.proofs.Words.{Record, Some, Write, [], after_write_is, ap, bucket_of, cond, count_by, eq-eqb, eqb-true, find, has_key}
+use Rattle.cache_partition.proofs.Words.{here_of, is_its_key, is_live, keeps_put, kept_record, le-leb, left_of, live_of, ne_eqb, new_record, others}
 use Rattle.cache_partition.proofs.Words.{others_lack, record_of, refl, rewritten, rewritten_key, sym, tail_of, true, without_first, ℕ, ◌+◌, ◌∙◌, ◌∷◌}
 use Rattle.cache_partition.proofs.Words.{◌≡◌, ◌≢◌, ◌≤◌}
 use Rattle.cache_partition.proofs.Displaced.{found_other, found_gone, first_found, first_least}
 
--- they are all but for those that are lost
-pub record Leaves (options : Options) (m : Cache) (write : Write) (Lost : List ℕ → Type 0) : Type 0 where
-  pub back : (key : List ℕ) (r : Record) → record_of (cs.after options m write) key ≡ Some r → (record_of (cs.after_write options m write) key ≡ Some r) × ¬ (Lost key)
-  pub on : (key : List ℕ) (r : Record) → record_of (cs.after_write options m write) key ≡ Some r
-      → tail_of (cs.after_write options m write).stamp ≤ r.offset + options.words → ¬ (Lost key) → record_of (cs.after options m write) key ≡ Some r
+-- the key is the one that is lost, if there is one
+abbrev pub IsLost : Option (List ℕ) → List ℕ → Type 0
+IsLost lost key = MatchOption lost ⊥ (λ k. key ≡ k)
 
--- nothing is lost
-abbrev pub Nothing : List ℕ → Type 0
-Nothing key = ⊥
+-- they are all but for that one
+pub record Leaves (options : Options) (m : Cache) (write : Write) (lost : Option (List ℕ)) : Type 0 where
+  pub back : (key : List ℕ) (r : Record) → record_of (cs.after options m write) key ≡ Some r → (record_of (cs.after_write options m write) key ≡ Some r) × ¬ (IsLost lost key)
+  pub on : (key : List ℕ) (r : Record) → record_of (cs.after_write options m write) key ≡ Some r
+      → tail_of (cs.after_write options m write).stamp ≤ r.offset + options.words → ¬ (IsLost lost key) → record_of (cs.after options m write) key ≡ Some r
 
 module _ (options : Options) (m : Cache) (kept : IsKept options m) (write : Write) where
   -- The write itself
@@ -79,7 +79,7 @@ module _ (options : Options) (m : Cache) (kept : IsKept options m) (write : Writ
     live_back key r at = laid.found_before_filter key is_living (cs.after_write options m write).records r written.unique at
 
     -- and where the bucket has no more records than slots, no other is lost
-    pub none_lost : count_by here lives ≢ 16 → Leaves options m write Nothing
+    pub none_lost : count_by here lives ≢ 16 → Leaves options m write None
     unfolding cs.after
     none_lost few =
         let left : left_of options write lives ≡ lives = ap (λ b. cond b (without_first here lives) lives) (ne_eqb (count_by here lives) 16 few) in record {
@@ -106,7 +106,7 @@ module _ (options : Options) (m : Cache) (kept : IsKept options m) (write : Writ
           (eq-eqb (bucket_of r.key options.buckets) (bucket_of write.key options.buckets)
           (ap (λ (k : List ℕ). bucket_of k options.buckets) (laid.found_key key (cs.after_write options m write).records r at) ∙ there))
 
-      pub first_lost : count_by here lives ≡ 16 → Leaves options m write (λ key. key ≡ f.key)
+      pub first_lost : count_by here lives ≡ 16 → Leaves options m write (Some f.key)
       unfolding cs.after
       first_lost full =
           let left : left_of options write lives ≡ without_first here lives = ap (λ b. cond b (without_first here lives) lives) (eq-eqb (count_by here lives) 16 full) in record {

@@ -4,5 +4,6 @@ pub mod Displaced
 pub mod Leaves
 pub mod Counts
 pub mod OneSlot
+pub mod Before
 pub mod Endings
 pub mod Writes

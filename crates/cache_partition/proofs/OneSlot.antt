@@ -1,166 +1,171 @@
 -- Where a write changes one slot of its bucket, the words stand for the machine's state after it.
 use Rattle.mica_model.specs.CacheStep as cs
-use Rattle.cache_partition.proofs.Words.{AcceptedWrite, Cache, Cell, Has, HasLiveEntry, Keeps, Kept, List, None, OwnerState, Record, Some, Spells}
-use Rattle.cache_partition.proofs.Words.{StandsFor, State, alone, ap, arith, bucket_in, cache_state, cell_at, dite, entry_in, entry_offset, inl, inr}
-use Rattle.cache_partition.proofs.Words.{item_in, main, only_key, options_in, record_of, refl, room_in, room_is, same_cell, same_or_other, spells_on}
-use Rattle.cache_partition.proofs.Words.{stamp_in, stamp_rises, stands_cached, state_after, state_in, stood, subst, sym, tail_of, window_kept}
-use Rattle.cache_partition.proofs.Words.{written, written_same, written_state, ℕ, ℕ_discrete, ◌+◌, ◌<◌, ◌∙◌, ◌≡◌, ◌≢◌, ◌≤◌, ◌⊎◌}
+use Rattle.cache_partition.proofs.Words.{AcceptedWrite, Cache, Cell, Has, HasLiveEntry, Keeps, Kept, List, None, Option, OwnerState, Record, Some}
+use Rattle.cache_partition.proofs.Words.{Spells, StandsFor, State, alone, ap, arith, bucket_in, cache_state, cell_at, dite, entry_in}
+use Rattle.cache_partition.proofs.Words.{entry_offset, inl, inr, item_in, main, only_key, options_in, record_of, refl, room_in, room_is, same_cell}
+use Rattle.cache_partition.proofs.Words.{same_or_other, spells_on, stamp_in, stamp_rises, stands_cached, state_after, state_in, stood, subst, sym}
+use Rattle.cache_partition.proofs.Words.{tail_of, window_kept, written, written_same, written_state, ℕ, ℕ_discrete, ◌+◌, ◌<◌, ◌∙◌, ◌≡◌, ◌≢◌, ◌≤◌, ◌⊎◌}
 use Rattle.cache_partition.proofs.Held.{Held, has_in, in_main, live_entry, live_is, machine, one_slot, record_in, slot_of, stamp_is}
-use Rattle.cache_partition.proofs.Leaves.{Leaves, step_stamp}
+use Rattle.cache_partition.proofs.Leaves.{IsLost, Leaves, step_stamp}
 
--- the partition before the write's end, with these words
-module _ (h : Held) (a : AcceptedWrite h.o) (words : List ℕ) where
-  abbrev pub new : Cache
+module _ (h : Held) (a : AcceptedWrite h.o) where
+  abbrev b : ℕ
+  b = bucket_in h.o a.w.key
+
+  -- what the machine has once the write is made, and after its step
+  abbrev made : Cache
+  made = cs.after_write (options_in h.o) h.m a.w
+
+  abbrev new : Cache
   new = cs.after (options_in h.o) h.m a.w
 
-  pub state_is : state_in (written h.o a words) ≡ cache_state new
-  state_is = written_state h.o a words ∙ ap (λ (z : State). state_after (options_in h.o) z a.w) h.before
+  -- What the slots spelt before: the slot what is of the written key, or lost, and the others what is of other keys that the machine leaves.
+  pub record Before (slot : ℕ) : Type 0 where
+    pub lost : Option (List ℕ)
+    pub leaves : Leaves (options_in h.o) h.m a.w lost
+    pub own : ¬ (IsLost lost a.w.key)
+    pub others : (i x : ℕ) (key : List ℕ) (cell : Cell) → i ≢ slot → HasLiveEntry h.o b b i x → Spells h.o b x key cell → (key ≢ a.w.key) × ¬ (IsLost lost key)
+    pub gone : (x : ℕ) (key : List ℕ) (cell : Cell) → HasLiveEntry h.o b b slot x → tail_of made.stamp ≤ entry_offset x + h.o.shape.words
+        → Spells h.o b x key cell → (key ≡ a.w.key) ⊎ IsLost lost key
 
-  abbrev pub later : Kept (written h.o a words) → Held
-  later t = record { o = written h.o a words; kept = t; mode = h.mode; m = new; before = state_is }
-
-  -- the slot has the written key's live entry
-  abbrev pub HasMine : ℕ → Type 0
-  HasMine slot =
-      (cell : Cell) × HasLiveEntry (written h.o a words) (bucket_in h.o a.w.key) (bucket_in h.o a.w.key) slot (entry_in (written h.o a words) (bucket_in h.o a.w.key) slot)
-      × Spells (written h.o a words) (bucket_in h.o a.w.key) (entry_in (written h.o a words) (bucket_in h.o a.w.key) slot) a.w.key cell
-
-  -- the machine has no record of the written key, and the slot no live entry
-  abbrev pub HasNone : ℕ → Type 0
-  HasNone slot =
-      ((x : ℕ) → ¬ (HasLiveEntry (written h.o a words) (bucket_in h.o a.w.key) (bucket_in h.o a.w.key) slot x)) × (record_of (cs.after_write (options_in h.o) h.m a.w) a.w.key ≡ None)
-
-  -- The other slots stay as they were, and what they spell is of other keys, which the machine leaves. What the slot
-  -- spelt is of the written key, or lost.
-  pub record OneSlot (slot : ℕ) (Lost : List ℕ → Type 0) : Type 0 where
-    pub leaves : Leaves (options_in h.o) h.m a.w Lost
-    pub entries : (i : ℕ) → i < 15 → i ≢ slot → entry_in (written h.o a words) (bucket_in h.o a.w.key) i ≡ entry_in h.o (bucket_in h.o a.w.key) i
-    pub others : (i x : ℕ) (key : List ℕ) (cell : Cell) → i ≢ slot → HasLiveEntry h.o (bucket_in h.o a.w.key) (bucket_in h.o a.w.key) i x
-        → Spells h.o (bucket_in h.o a.w.key) x key cell → (key ≢ a.w.key) × ¬ (Lost key)
-    pub gone : (x : ℕ) (key : List ℕ) (cell : Cell) → HasLiveEntry h.o (bucket_in h.o a.w.key) (bucket_in h.o a.w.key) slot x
-        → tail_of (cs.after_write (options_in h.o) h.m a.w).stamp ≤ entry_offset x + h.o.shape.words → Spells h.o (bucket_in h.o a.w.key) x key cell → (key ≡ a.w.key) ⊎ Lost key
-    pub items : (key : List ℕ) (r : Record) → key ≢ a.w.key → record_of new key ≡ Some r
-        → (i : ℕ) → i < r.room → item_in (written h.o a words) (r.offset + i) ≡ item_in h.o (r.offset + i)
-    pub mine : HasMine slot ⊎ HasNone slot
-
-  module _ (t : Kept (written h.o a words)) (slot : ℕ) (Lost : List ℕ → Type 0) (k : OneSlot slot Lost) where
-    abbrev b : ℕ
-    b = bucket_in h.o a.w.key
-
-    abbrev n : Held
-    n = later t
-
+  -- the partition before the write's end, with these words
+  module _ (words : List ℕ) where
     abbrev q : OwnerState
     q = written h.o a words
 
-    was : StandsFor h.o b
-    was = stood h.o a
+    pub state_is : state_in q ≡ cache_state new
+    state_is = written_state h.o a words ∙ ap (λ (z : State). state_after (options_in h.o) z a.w) h.before
 
-    stamp_now : stamp_in q ≡ (cs.after_write (options_in h.o) h.m a.w).stamp
-    stamp_now = stamp_is n ∙ step_stamp (options_in h.o) h.m (machine h) a.w
+    abbrev pub later : Kept (written h.o a words) → Held
+    later t = record { o = written h.o a words; kept = t; mode = h.mode; m = new; before = state_is }
 
-    -- what a live entry spells: the written key in the slot, and in another one the key that it spelt
-    record Now (i x : ℕ) : Type 0 where
-      pub key : List ℕ
-      pub cell : Cell
-      pub now : Spells q b x key cell
-      pub whose : ((i ≡ slot) × (key ≡ a.w.key)) ⊎ ((i ≢ slot) × (key ≢ a.w.key) × HasLiveEntry h.o b b i x × Spells h.o b x key cell)
+    -- the slot has the written key's live entry
+    abbrev pub HasMine : ℕ → Type 0
+    HasMine slot = (cell : Cell) × HasLiveEntry q b b slot (entry_in q b slot) × Spells q b (entry_in q b slot) a.w.key cell
 
-    -- an entry of another key that the machine leaves spells what it spelt
-    stays : (x : ℕ) (key : List ℕ) (cell : Cell) → key ≢ a.w.key → tail_of (stamp_in q) ≤ entry_offset x + h.o.shape.words → ¬ (Lost key)
-        → Spells h.o b x key cell → Spells q b x key cell
-    stays x key cell other live kept sp =
-        let named = record_in h key cell (entry_offset x) sp.has in
-        let offset = named.offset in
-        let stamp = stamp_now in
-        let left = k.leaves.on key named.r (written_same (options_in h.o) h.m a.w key other ∙ named.is) (omega arith) kept in
-        let room : room_in h.o x ≡ named.r.room = room_is h.o h.kept b x key cell sp ∙ ap (λ (z : Cell). z.room) named.cell_is in
-        let keeps : Keeps h.o a words x = λ i l.
-        subst (λ (z : ℕ). item_in q (z + i) ≡ item_in h.o (z + i)) offset (k.items key named.r other left i (omega arith)) in
-        spells_on h.o a words b x keeps key cell
-        (subst (λ (c : Cell). Has (state_in q) key c (entry_offset x)) (sym named.cell_is)
-        (subst (λ (z : ℕ). Has (state_in q) key (cell_at named.r).0 z) offset (has_in n key named.r left))) sp
+    -- it has no live entry, and the write leaves the key no record
+    abbrev pub HasNone : ℕ → Type 0
+    HasNone slot = ((x : ℕ) → ¬ (HasLiveEntry q b b slot x)) × (record_of made a.w.key ≡ None)
 
-    now_other : (i x : ℕ) → HasLiveEntry q b b i x → i ≢ slot → Now i x
-    now_other i x e other =
-        let live = live_is n b b i x e in
-        let stamp = h.kept.stamp in
-        let later = t.stamp in
-        let more = stamp_rises (options_in h.o) h.o.history a.w in
-        let before = live_entry h b i x e.in_bucket (sym (k.entries i e.in_bucket other) ∙ e.found) e.live.0 (omega arith) in
-        let some = was.nothing_else b i x before in
-        let differs = k.others i x some.0 some.1 other before some.2 in
-        record { key = some.0; cell = some.1; now = stays x some.0 some.1 differs.0 live differs.1 some.2; whose = inr (other, differs.0, before, some.2) }
+    -- The slot has the written key's entry, or none, the other slots stay as they were, and so do the items of other keys.
+    pub record OneSlot (slot : ℕ) : Type 0 where
+      pub before : Before slot
+      pub entries : (i : ℕ) → i < 15 → i ≢ slot → entry_in q b i ≡ entry_in h.o b i
+      pub items : (key : List ℕ) (r : Record) → key ≢ a.w.key → record_of new key ≡ Some r → (i : ℕ) → i < r.room → item_in q (r.offset + i) ≡ item_in h.o (r.offset + i)
+      pub mine : HasMine slot ⊎ HasNone slot
 
-    now_mine : (i x : ℕ) → HasLiveEntry q b b i x → i ≡ slot → Now i x
-    now_mine i x e is = elim k.mine [
-      | inl mine ↦ record {
-        key = a.w.key;
-        cell = mine.0;
-        now = subst (λ (z : ℕ). Spells q b z a.w.key mine.0) (ap (entry_in q b) (sym is) ∙ e.found) mine.2;
-        whose = inl (is, refl);
-      }
-      | inr none ↦ absurd (none.0 x (subst (λ (z : ℕ). HasLiveEntry q b b z x) is e))
-    ]
+    module _ (t : Kept q) (slot : ℕ) (k : OneSlot slot) where
+      abbrev n : Held
+      n = later t
 
-    now : (c i x : ℕ) → HasLiveEntry q b c i x → Now i x
-    now c i x e = dite (ℕ_discrete i slot) (now_mine i x (in_main n b c i x e)) (now_other i x (in_main n b c i x e))
+      was : StandsFor h.o b
+      was = stood h.o a
 
-    -- a key is spelt once
+      stamp_now : stamp_in q ≡ made.stamp
+      stamp_now = stamp_is n ∙ step_stamp (options_in h.o) h.m (machine h) a.w
 
-    one : (i x i' x' : ℕ) (z : Now i x) (z' : Now i' x') → z.key ≡ z'.key → i ≡ i'
-    one i x i' x' z z' same = elim z.whose [
-      | inl mine ↦ elim z'.whose [
-        | inl mine' ↦ mine.0 ∙ sym mine'.0
-        | inr other' ↦ absurd (other'.1 (sym same ∙ mine.1))
+      -- what a live entry spells: the written key in the slot, and in another one the key that it spelt
+      record Now (i x : ℕ) : Type 0 where
+        pub key : List ℕ
+        pub cell : Cell
+        pub now : Spells q b x key cell
+        pub whose : ((i ≡ slot) × (key ≡ a.w.key)) ⊎ ((i ≢ slot) × (key ≢ a.w.key) × HasLiveEntry h.o b b i x × Spells h.o b x key cell)
+
+      -- an entry of another key that the machine leaves spells what it spelt
+      stays : (x : ℕ) (key : List ℕ) (cell : Cell) → key ≢ a.w.key → tail_of (stamp_in q) ≤ entry_offset x + h.o.shape.words → ¬ (IsLost k.before.lost key)
+          → Spells h.o b x key cell → Spells q b x key cell
+      stays x key cell other live kept sp =
+          let named = record_in h key cell (entry_offset x) sp.has in
+          let offset = named.offset in
+          let stamp = stamp_now in
+          let left = k.before.leaves.on key named.r (written_same (options_in h.o) h.m a.w key other ∙ named.is) (omega arith) kept in
+          let room : room_in h.o x ≡ named.r.room = room_is h.o h.kept b x key cell sp ∙ ap (λ (z : Cell). z.room) named.cell_is in
+          let keeps : Keeps h.o a words x = λ i l.
+          subst (λ (z : ℕ). item_in q (z + i) ≡ item_in h.o (z + i)) offset (k.items key named.r other left i (omega arith)) in
+          spells_on h.o a words b x keeps key cell
+          (subst (λ (c : Cell). Has (state_in q) key c (entry_offset x)) (sym named.cell_is)
+          (subst (λ (z : ℕ). Has (state_in q) key (cell_at named.r).0 z) offset (has_in n key named.r left))) sp
+
+      now_other : (i x : ℕ) → HasLiveEntry q b b i x → i ≢ slot → Now i x
+      now_other i x e other =
+          let live = live_is n b b i x e in
+          let stamp = h.kept.stamp in
+          let later = t.stamp in
+          let more = stamp_rises (options_in h.o) h.o.history a.w in
+          let before = live_entry h b i x e.in_bucket (sym (k.entries i e.in_bucket other) ∙ e.found) e.live.0 (omega arith) in
+          let some = was.nothing_else b i x before in
+          let differs = k.before.others i x some.0 some.1 other before some.2 in
+          record { key = some.0; cell = some.1; now = stays x some.0 some.1 differs.0 live differs.1 some.2; whose = inr (other, differs.0, before, some.2) }
+
+      now_mine : (i x : ℕ) → HasLiveEntry q b b i x → i ≡ slot → Now i x
+      now_mine i x e is = elim k.mine [
+        | inl mine ↦ record {
+          key = a.w.key;
+          cell = mine.0;
+          now = subst (λ (z : ℕ). Spells q b z a.w.key mine.0) (ap (entry_in q b) (sym is) ∙ e.found) mine.2;
+          whose = inl (is, refl);
+        }
+        | inr none ↦ absurd (none.0 x (subst (λ (z : ℕ). HasLiveEntry q b b z x) is e))
       ]
-      | inr other ↦ elim z'.whose [
-        | inl mine' ↦ absurd (other.1 (same ∙ mine'.1))
-        | inr other' ↦ one_slot h b was i i' x x' z.key z.cell z'.cell other.2 other'.2 other.3 (subst (λ (key : List ℕ). Spells h.o b x' key z'.cell) (sym same) other'.3)
+
+      now : (c i x : ℕ) → HasLiveEntry q b c i x → Now i x
+      now c i x e = dite (ℕ_discrete i slot) (now_mine i x (in_main n b c i x e)) (now_other i x (in_main n b c i x e))
+
+      -- a key is spelt once
+
+      one : (i x i' x' : ℕ) (z : Now i x) (z' : Now i' x') → z.key ≡ z'.key → i ≡ i'
+      one i x i' x' z z' same = elim z.whose [
+        | inl mine ↦ elim z'.whose [
+          | inl mine' ↦ mine.0 ∙ sym mine'.0
+          | inr other' ↦ absurd (other'.1 (sym same ∙ mine.1))
+        ]
+        | inr other ↦ elim z'.whose [
+          | inl mine' ↦ absurd (other.1 (same ∙ mine'.1))
+          | inr other' ↦ one_slot h b was i i' x x' z.key z.cell z'.cell other.2 other'.2 other.3 (subst (λ (key : List ℕ). Spells h.o b x' key z'.cell) (sym same) other'.3)
+        ]
       ]
-    ]
 
-    -- and each that has a record is
+      -- and each that has a record is
 
-    each_mine : (key : List ℕ) (cell : Cell) (p : ℕ) → Has (state_in q) key cell p → key ≡ a.w.key
-        → (c : ℕ) × (i : ℕ) × (x : ℕ) × HasLiveEntry q b c i x × Spells q b x key cell
-    each_mine key cell p has is = elim k.mine [
-      | inl mine ↦
-          let sp : Spells q b (entry_in q b slot) key mine.0 = subst (λ (z : List ℕ). Spells q b (entry_in q b slot) z mine.0) (sym is) mine.2 in
-          let same = same_cell (state_in q) key mine.0 cell (entry_offset (entry_in q b slot)) p sp.has has in
-          (b, slot, entry_in q b slot, mine.1, subst (λ (z : Cell). Spells q b (entry_in q b slot) key z) same sp)
-      | inr none ↦
+      each_mine : (key : List ℕ) (cell : Cell) (p : ℕ) → Has (state_in q) key cell p → key ≡ a.w.key
+          → (c : ℕ) × (i : ℕ) × (x : ℕ) × HasLiveEntry q b c i x × Spells q b x key cell
+      each_mine key cell p has is = elim k.mine [
+        | inl mine ↦
+            let sp : Spells q b (entry_in q b slot) key mine.0 = subst (λ (z : List ℕ). Spells q b (entry_in q b slot) z mine.0) (sym is) mine.2 in
+            let same = same_cell (state_in q) key mine.0 cell (entry_offset (entry_in q b slot)) p sp.has has in
+            (b, slot, entry_in q b slot, mine.1, subst (λ (z : Cell). Spells q b (entry_in q b slot) key z) same sp)
+        | inr none ↦
+            let found = record_in n key cell p has in
+            cc (sym none.1 ∙ (ap (record_of made) (sym is) ∙ (k.before.leaves.back key found.r found.is).0))
+      ]
+
+      each_other : (key : List ℕ) (cell : Cell) (p : ℕ) → bucket_in h.o key ≡ b → Has (state_in q) key cell p → key ≢ a.w.key
+          → (c : ℕ) × (i : ℕ) × (x : ℕ) × HasLiveEntry q b c i x × Spells q b x key cell
+      each_other key cell p here has other =
           let found = record_in n key cell p has in
-          cc (sym none.1 ∙ (ap (record_of (cs.after_write (options_in h.o) h.m a.w)) (sym is) ∙ (k.leaves.back key found.r found.is).0))
-    ]
+          let before = k.before.leaves.back key found.r found.is in
+          let at = slot_of h b was key found.r here (sym (written_same (options_in h.o) h.m a.w key other) ∙ before.0) in
+          let offset = at.1.offset in
+          let stamp = stamp_is n in
+          let now = stamp_now in
+          let window = (window_kept (options_in h.o) new (machine n) key found.r found.is).0 in
+          let not_slot : at.0 ≢ slot = λ is. elim (k.before.gone (entry_in h.o b at.0) key (cell_at found.r).0
+          (subst (λ (z : ℕ). HasLiveEntry h.o b b z (entry_in h.o b at.0)) is at.1.entry) (omega arith) at.1.spelt) [ inl mine ↦ other mine | inr lost ↦ before.1 lost ] in (
+            b,
+            at.0,
+            entry_in h.o b at.0,
+            live_entry n b at.0 (entry_in h.o b at.0) at.1.entry.in_bucket (k.entries at.0 at.1.entry.in_bucket not_slot) at.1.entry.live.0 (omega arith),
+            subst (λ (z : Cell). Spells q b (entry_in h.o b at.0) key z) (sym found.cell_is)
+                (stays (entry_in h.o b at.0) key (cell_at found.r).0 other (omega arith) before.1 at.1.spelt),
+          )
 
-    each_other : (key : List ℕ) (cell : Cell) (p : ℕ) → bucket_in h.o key ≡ b → Has (state_in q) key cell p → key ≢ a.w.key
-        → (c : ℕ) × (i : ℕ) × (x : ℕ) × HasLiveEntry q b c i x × Spells q b x key cell
-    each_other key cell p here has other =
-        let found = record_in n key cell p has in
-        let before = k.leaves.back key found.r found.is in
-        let at = slot_of h b was key found.r here (sym (written_same (options_in h.o) h.m a.w key other) ∙ before.0) in
-        let offset = at.1.offset in
-        let stamp = stamp_is n in
-        let now = stamp_now in
-        let window = (window_kept (options_in h.o) new (machine n) key found.r found.is).0 in
-        let not_slot : at.0 ≢ slot = λ is. elim (k.gone (entry_in h.o b at.0) key (cell_at found.r).0
-        (subst (λ (z : ℕ). HasLiveEntry h.o b b z (entry_in h.o b at.0)) is at.1.entry) (omega arith) at.1.spelt) [ inl mine ↦ other mine | inr lost ↦ before.1 lost ] in (
-          b,
-          at.0,
-          entry_in h.o b at.0,
-          live_entry n b at.0 (entry_in h.o b at.0) at.1.entry.in_bucket (k.entries at.0 at.1.entry.in_bucket not_slot) at.1.entry.live.0 (omega arith),
-          subst (λ (z : Cell). Spells q b (entry_in h.o b at.0) key z) (sym found.cell_is)
-              (stays (entry_in h.o b at.0) key (cell_at found.r).0 other (omega arith) before.1 at.1.spelt),
-        )
-
-    pub stands : StandsFor q b
-    stands = stands_cached q t h.mode b (main h.o a)
-        (λ c i x e. let z = now c i x e in (z.key, z.cell, z.now))
-        (λ key cell p here has. elim (same_or_other key a.w.key) [ inl mine ↦ each_mine key cell p has mine | inr other ↦ each_other key cell p here has other ])
-        (λ c i x c' i' x' key cell e e' sp sp'.
-        let z = now c i x e in
-        let z' = now c' i' x' e' in
-        let keys = only_key q t b b x x z.key key z.cell cell z.now sp refl in
-        let keys' = only_key q t b b x' x' z'.key key z'.cell cell z'.now sp' refl in
-        (sym (alone q t h.mode b c e.in_chain) ∙ alone q t h.mode b c' e'.in_chain, one i x i' x' z z' (keys ∙ sym keys')))
+      pub stands : StandsFor q b
+      stands = stands_cached q t h.mode b (main h.o a)
+          (λ c i x e. let z = now c i x e in (z.key, z.cell, z.now))
+          (λ key cell p here has. elim (same_or_other key a.w.key) [ inl mine ↦ each_mine key cell p has mine | inr other ↦ each_other key cell p here has other ])
+          (λ c i x c' i' x' key cell e e' sp sp'.
+          let z = now c i x e in
+          let z' = now c' i' x' e' in
+          let keys = only_key q t b b x x z.key key z.cell cell z.now sp refl in
+          let keys' = only_key q t b b x' x' z'.key key z'.cell cell z'.now sp' refl in
+          (sym (alone q t h.mode b c e.in_chain) ∙ alone q t h.mode b c' e'.in_chain, one i x i' x' z z' (keys ∙ sym keys')))

@@ -8,14 +8,13 @@ pub use Rattle.std.proofs.lemmas.Bool.Decides.{nat_tests}
 pub use Rattle.std.proofs.lemmas.List.Sums.{length-filter}
 pub use Rattle.std.proofs.lemmas.Map.Keys.{IsDistinct-cons}
 pub use Rattle.std.proofs.lemmas.Map.Steps.{le-length_from_below, length-le_from_distinct_below}
-pub use Rattle.std.proofs.lemmas.Nat.{pow_pos}
 pub use Rattle.std.proofs.lemmas.Option.{same_Some}
 pub use Rattle.std.specs.Bool.{then_some}
 pub use Rattle.std.specs.List.{AllByRecursion as AllOf, count_by, filter, find, list_any}
 unfoldable pub use Rattle.std.specs.List.{IsDistinct}
 pub use Rattle.std.specs.Prelude.{IfSome, MatchOption, is_some, nat_le, option_map, ◌&&◌}
 pub use Rattle.mica_words.proofs.Fields.{entry_not_empty, entry_offset-entry_of, entry_tag-entry_of}
-pub use Rattle.mica_words.proofs.Hashes.{bucket_of_hash, hash_bucket-below, tag_of-range, tag_of_hash}
+pub use Rattle.mica_words.proofs.Hashes.{bucket_of_hash, tag_of-range, tag_of_hash}
 pub use Rattle.mica_words.proofs.ItemWords.{length-item_words}
 pub use Rattle.mica_words.proofs.Sizes.{item_size-most}
 pub use Rattle.mica_words.specs.Entry.{entry_of, entry_offset, entry_tag}
@@ -78,6 +77,6 @@ pub use Rattle.circular_log.proofs.SpeltItem.{spelt_item}
 pub use Rattle.circular_log.specs.LogItem.{IsItem, room_at}
 pub use Rattle.circular_log.specs.LogWrite.{LeavesItem, MayAppend, MayRewrite, with_item, written_record}
 pub use Rattle.lossy_index.specs.Place.{GivesWay, HoldsOfNone, Takes, empty, oldest, passed}
-pub use Rattle.lossy_index.specs.Slot.{HasNoSlot, IsEmpty, IsFoundAt, IsPassed, IsSlotOf, offset_in}
+pub use Rattle.lossy_index.specs.Slot.{HasNoSlot, IsFoundAt, IsPassed, IsSlotOf, offset_in}
 pub use Rattle.cache_partition.specs.Gained.{Gains, MayWrite, marked_with}
 pub use Rattle.cache_partition.specs.Sought.{IsSought, had_record, had_record_by, kept_offset, kept_offset_by}

@@ -1,21 +1,24 @@
 -- A write from its begin to its end: when its events may happen, and what it has made of the partition.
 use Rattle.mica_model.specs.CacheStep as cs
-use Rattle.cache_partition.proofs.Words.{AcceptedWrite, Allows, AreBytes, Begins, Bool, Cache, CacheMode, Del, Ends, Gains, GivesWay, HasNoSlot, Idle}
-use Rattle.cache_partition.proofs.Words.{IsMain, IsOwnerStep, IsSlotOf, IsWrite, Kept, KeyFits, LeavesItem, List, MatchOption, MayAppend, MayBegin}
-use Rattle.cache_partition.proofs.Words.{MayEnd, MayGive, MayMark, MayRewrite, MayWrite, None, Op, Option, Options, Outcome, OwnerState, Put}
-use Rattle.cache_partition.proofs.Words.{PutsEntry, Record, Some, SpellsItem, StandsFor, State, Takes, Worn, Write, [], accepted_in}
-use Rattle.cache_partition.proofs.Words.{accepted_is_length, accepted_step, after, ap, arith, bucket_in, cached_in, cell_at, cond, empty, ended_gains}
-use Rattle.cache_partition.proofs.Words.{entry_in, entry_of, entry_offset, false, fits_kept, found_key, had_record, had_record_by, is_accepted}
-use Rattle.cache_partition.proofs.Words.{is_live, is_some, item_in, item_room, item_size, item_words, keeps_put, kept_offset, kept_offset_by}
-use Rattle.cache_partition.proofs.Words.{kept_record, largest_item, leb-false, length, length-item_words, lt-leb, main, marked, marked_in}
-use Rattle.cache_partition.proofs.Words.{marked_item, marked_with, may_begin, may_end, may_mark, most_stamp, nat_le, oldest, option_map, options_in}
-use Rattle.cache_partition.proofs.Words.{passed, put_entry, put_same, put_stamp, put_words, record_of, refl, room_at, room_in, room_is, size_at_most}
-use Rattle.cache_partition.proofs.Words.{size_of, stamp_in, stamp_of, stamp_of_state, stamp_small, state_after, state_snoc, stood, subst, sym, tag_of}
-use Rattle.cache_partition.proofs.Words.{tail_of, then_some, true, with_item, write_of, written, written_marked, written_record, ℕ, ◌&&◌, ◌*◌, ◌++◌}
-use Rattle.cache_partition.proofs.Words.{◌+◌, ◌<◌, ◌∙◌, ◌∷◌, ◌≡◌, ◌≤◌}
+use Rattle.cache_partition.proofs.Words.{AcceptedWrite, Allows, AreBytes, Begins, Bool, Cache, CacheMode, Del, Ends, Gains, HasNoSlot, Idle, IsMain}
+use Rattle.cache_partition.proofs.Words.{IsOwnerStep, IsSlotOf, IsWrite, Kept, KeyFits, LeavesItem, List, MatchOption, MayAppend, MayBegin, MayEnd}
+use Rattle.cache_partition.proofs.Words.{MayGive, MayMark, MayRewrite, MayWrite, None, Op, Option, Options, Outcome, OwnerState, Put, PutsEntry}
+use Rattle.cache_partition.proofs.Words.{Record, Some, SpellsItem, StandsFor, State, Takes, Worn, Write, [], accepted_in, accepted_is_length}
+use Rattle.cache_partition.proofs.Words.{accepted_step, after, ap, arith, begin_of, bucket_in, cached_in, cell_at, cond, ended_gains, entry_in}
+use Rattle.cache_partition.proofs.Words.{entry_not_empty, entry_of, entry_offset, entry_offset-entry_of, entry_tag-entry_of, false, fits_kept}
+use Rattle.cache_partition.proofs.Words.{found_key, had_record, had_record_by, is_accepted, is_live, is_some, item_in, item_room, item_size}
+use Rattle.cache_partition.proofs.Words.{item_words, keeps_put, kept_offset, kept_offset_by, kept_record, largest_item, leb-false, length}
+use Rattle.cache_partition.proofs.Words.{length-item_words, lt-leb, main, marked, marked_in, marked_item, marked_with, may_begin, may_end, may_mark}
+use Rattle.cache_partition.proofs.Words.{most_stamp, nat_le, new_record, option_map, options_in, put_entry, put_same, put_stamp, put_words, record_of}
+use Rattle.cache_partition.proofs.Words.{refl, room_at, room_in, room_is, size_at_most, size_of, stamp_in, stamp_of, stamp_of_state, stamp_small}
+use Rattle.cache_partition.proofs.Words.{state_after, state_snoc, stood, subst, sym, tag_of, tag_of-range, tail_of, tail_past, then_some, true}
+use Rattle.cache_partition.proofs.Words.{with_item, write_of, written, written_marked, written_record, ℕ, ◌&&◌, ◌*◌, ◌++◌, ◌+◌, ◌<◌, ◌^◌, ◌∙◌, ◌∷◌}
+use Rattle.cache_partition.proofs.Words.{◌≡◌, ◌≤◌}
 use Rattle.cache_partition.proofs.Leaves as leaves
 use Rattle.cache_partition.proofs.Held.{Held, found_slot, held, machine, no_record, slot_of, stamp_is, stands_at}
-use Rattle.cache_partition.proofs.Endings.{delete_of_none, delete_of_slot, entry_effect, put_effect, put_in_place, put_over_none, put_over_slot}
+use Rattle.cache_partition.proofs.Before.{no_slot, own_slot, slot_that_gives_way}
+use Rattle.cache_partition.proofs.Endings.{deleted, entry_effect, put, put_effect}
+use Rattle.cache_partition.proofs.OneSlot.{Before}
 
 -- Replies
 
@@ -160,11 +163,14 @@ module _ (o : OwnerState) (s : Kept o) (may : MayWrite o) (w : Write) (is : IsWr
         let none : length {A = ℕ} [] ≤ o.shape.words = omega arith in
         subst (λ (z : ℕ). Deletes o w z t) (sym here) record {
           cleared = λ slot found q at k.
-              let words = (after (PutsEntry b slot 0) (marked o accepted)).words in
               let own = found_slot h b (stood o accepted) w.key refl is.key_bytes slot found in
-              closes words (delete_of_slot h accepted words (subst Kept at k) op slot own.0 own.1 (entry_effect h accepted 0 [] none slot 0 found.in_bucket)) q at;
+              let effect = entry_effect h accepted 0 [] none slot 0 found.in_bucket in
+              closes (after (PutsEntry b slot 0) (marked o accepted)).words
+              (deleted h accepted (after (PutsEntry b slot 0) (marked o accepted)).words (subst Kept at k) op slot 0 (own_slot h accepted slot own.0 own.1) effect
+              (λ y e. e.live.0 (sym e.found ∙ effect.here))) q at;
           absent = λ lacks q at k. closes (marked o accepted).words
-              (delete_of_none h accepted (marked o accepted).words (subst Kept at k) op lacks _ (put_effect h accepted 0 [] none 15 _ refl)) q at;
+              (deleted h accepted (marked o accepted).words (subst Kept at k) op 15 _ (no_slot h accepted lacks (leaves.deleted_none (options_in o) h.m (machine h) w op))
+              (put_effect h accepted 0 [] none 15 _ refl) (λ y e. let below = e.in_bucket in absurd (omega arith))) q at;
         }
 
     -- A put
@@ -202,7 +208,10 @@ module _ (o : OwnerState) (s : Kept o) (may : MayWrite o) (w : Write) (is : IsWr
           };
           closes = λ q at_q k.
               let is = at_q ∙ (ap (λ (n : ℕ). with_item (marked o accepted) r.0.offset n w.key w.value) room ∙ put_same o accepted r.0.offset xs (few_words r.0.room)) in
-              closes words (put_in_place h accepted words (subst Kept is k) op r.0 r.1 at.0 at.1
+              let stamp = ap (λ (z : Cache). tail_of z.stamp) (leaves.is_rewritten (options_in o) h.m (machine h) w r.0 op r.1) in
+              let live = kept.live in
+              closes words (put h accepted words (subst Kept is k) op at.0 (entry_in o b at.0) (own_slot h accepted at.0 r.0 at.1) at.1.entry.in_bucket r.0
+              (leaves.rewritten_own (options_in o) h.m (machine h) w r.0 op r.1) (ap (λ (z : Option Record). begin_of z h.m) r.1) (omega arith) at.1.entry.live.0 (sym at.1.offset) at.1.spelt.tag
               (put_effect h accepted r.0.offset xs (few_words r.0.room) at.0 (entry_in o b at.0)
               (put_entry o accepted r.0.offset xs (few_words r.0.room) b at.0 (let main = main o accepted in omega arith) at.1.entry.in_bucket))) q is;
         })
@@ -223,34 +232,45 @@ module _ (o : OwnerState) (s : Kept o) (may : MayWrite o) (w : Write) (is : IsWr
       stored_stamp : tail_of (stamp_in stored) ≡ tail_of (cs.after_write (options_in o) h.m w).stamp
       stored_stamp = ap tail_of (put_stamp o accepted p xs few ∙ (stamp ∙ stamp_after (cs.after_write (options_in o) h.m w) refl))
 
-      in_bucket : (slot : ℕ) → GivesWay stored b slot → slot < 15
-      in_bucket slot (empty is) = is.in_bucket
-      in_bucket slot (passed full is) = is.in_bucket
-      in_bucket slot (oldest full all is) = is.in_bucket
+      its_own : record_of (cs.after_write (options_in o) h.m w) w.key ≡ Some (new_record h.m w.key w.value)
+      its_own = leaves.appended_own (options_in o) h.m (machine h) w op (held_none keeps)
 
-      stands : (old : Option ℕ) (slot : ℕ) → MatchOption old (HasNoSlot o b w.key) (IsSlotOf o b w.key) → Takes stored b old slot
-          → Kept (after (PutsEntry b slot (entry_of (tag_of w.key) p)) stored) → StandsFor (after (PutsEntry b slot (entry_of (tag_of w.key) p)) stored) b
-      stands None slot none gives k =
-          let below = in_bucket slot gives in
-          put_over_none h accepted (after (PutsEntry b slot (entry_of (tag_of w.key) p)) stored).words k op (held_none keeps) slot below
-          (entry_effect h accepted p xs few slot (entry_of (tag_of w.key) p) below) none stored refl
-          (λ i l. put_entry o accepted p xs few b i (let main = main o accepted in omega arith) l) stored_stamp gives
-      stands (Some old) slot found same k =
+      own_live : tail_of (cs.after_write (options_in o) h.m w).stamp ≤ p + o.shape.words
+      own_live =
+          let size : size_of w ≤ largest_item = size_at_most w is in
+          let least = s.shape.ranges.words.0 in
+          let stamp = ap (λ (z : Cache). tail_of z.stamp) (leaves.is_appended (options_in o) h.m (machine h) w op (held_none keeps)) in
+          let past = tail_past h.m.stamp (size_of w) in
+          omega arith
+
+      before : (old : Option ℕ) (slot : ℕ) → MatchOption old (HasNoSlot o b w.key) (IsSlotOf o b w.key) → Takes stored b old slot → (slot < 15) × Before h accepted slot
+      before None slot none gives = slot_that_gives_way h accepted none stored refl
+          (λ i l. put_entry o accepted p xs few b i (let main = main o accepted in omega arith) l) stored_stamp (new_record h.m w.key w.value) its_own refl own_live slot gives
+      before (Some old) slot found same =
           let its : IsSlotOf o b w.key slot = subst (IsSlotOf o b w.key) (sym same) found in
           let own = found_slot h b (stood o accepted) w.key refl is.key_bytes slot its in
-          put_over_slot h accepted (after (PutsEntry b slot (entry_of (tag_of w.key) p)) stored).words k op (held_none keeps) slot its.in_bucket
-          (entry_effect h accepted p xs few slot (entry_of (tag_of w.key) p) its.in_bucket) own.0 own.1
+          (its.in_bucket, own_slot h accepted slot own.0 own.1)
+
+      stands : (slot : ℕ) → (slot < 15) × Before h accepted slot → Kept (after (PutsEntry b slot (entry_of (tag_of w.key) p)) stored)
+          → StandsFor (after (PutsEntry b slot (entry_of (tag_of w.key) p)) stored) b
+      stands slot spelt k =
+          let small = stamp_limit o s in
+          let now = stamp_is h in
+          let low : p < 2 ^ 48 = omega arith in
+          put h accepted (after (PutsEntry b slot (entry_of (tag_of w.key) p)) stored).words k op slot (entry_of (tag_of w.key) p) spelt.1 spelt.0 (new_record h.m w.key w.value)
+          its_own (ap (λ (z : Option Record). begin_of z h.m) (held_none keeps)) own_live (entry_not_empty (tag_of w.key) p (tag_of-range w.key).0)
+          (entry_offset-entry_of (tag_of w.key) p low) (entry_tag-entry_of (tag_of w.key) p low) (entry_effect h accepted p xs few slot (entry_of (tag_of w.key) p) spelt.0)
 
       appends_here : Appends o w b t p
       appends_here = record {
-        may = leaves_item p (item_size w.key w.value) (leaves.appended_own (options_in o) h.m (machine h) w op (held_none keeps));
+        may = leaves_item p (item_size w.key w.value) its_own;
         ready = λ q at. subst (λ (z : OwnerState). (marked_in z.phase b ≡ 1) × IsMain z.shape b) (sym (at ∙ put_same o accepted p xs few))
             (written_marked o accepted (put_words o accepted p xs few), main o accepted);
         closes = λ old found q q' slot tag at takes tag_is entry k.
             let is = at ∙ put_same o accepted p xs few in
             let entry_is = entry ∙ (λ j. after (PutsEntry b slot (entry_of (tag_is j) p)) (is j)) in
             closes (after (PutsEntry b slot (entry_of (tag_of w.key) p)) stored).words
-            (stands old slot found (subst (λ (z : OwnerState). Takes z b old slot) is takes) (subst Kept entry_is k)) q' entry_is;
+            (stands slot (before old slot found (subst (λ (z : OwnerState). Takes z b old slot) is takes)) (subst Kept entry_is k)) q' entry_is;
       }
 
       pub appends : (c at : ℕ) → c ≡ b → at ≡ tail_of (stamp_in o) → Appends o w c t at

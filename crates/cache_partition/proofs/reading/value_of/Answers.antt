@@ -5,9 +5,6 @@ use Rattle.cache_partition.proofs.reading.value_of.Given.{Over}
 use Rattle.cache_partition.proofs.reading.value_of.Goals as goal
 use Rattle.cache_partition.proofs.reading.value_of.Goals.{In-Some}
 
-pub item_at-requires-clause-offset : goal.item_at-requires-clause-offset
-item_at-requires-clause-offset g c = omega (arith, c.in-Some.ensures.found.offset)
-
 -- the item that was found, and its value is the answer
 found : (g : Over) (c : In-Some g) → (r : Record) × IsItem (g.W.OwnerWords.owner c.find_hashed.new.words) c.in-Some.found.offset c.args.key.now (cell_at r).0
     × (answer_of (options_in (g.W.OwnerWords.owner c.args.words.now)) (g.W.OwnerWords.owner c.args.words.now).history c.args.key.now ≡ Some r.value)

@@ -18,13 +18,6 @@ overflow_add-sought g c =
     let old = c.requires.sought.stamp in
     omega arith
 
-pub is_live-requires : goal.is_live-requires
-is_live-requires g c =
-    let o = g.W.OwnerWords.owner c.args.words.now in
-    let offset : c.args.sought.now.offset ≡ offset_in o c.args.sought.now.bucket c.in_ok-sought.field-0 =
-    subst (λ (z : Option ℕ). IfSome z (λ slot. c.args.sought.now.offset ≡ offset_in o c.args.sought.now.bucket slot)) c.in_ok-sought.was c.requires.sought.offset in
-    omega arith
-
 pub returns-clause-kept_offset : goal.returns-clause-kept_offset
 returns-clause-kept_offset g c =
     let owner = g.W.OwnerWords.owner in

@@ -1,4 +1,4 @@
-use Rattle.cache_partition.proofs.Words.{Absent, Del, Deleted, [], ap, arith, leb-false, leb-true, length, options_in, reply_of, sym, worn_step}
+use Rattle.cache_partition.proofs.Words.{Absent, Del, Deleted, [], ap, leb-true, length, options_in, reply_of, sym, worn_step}
 use Rattle.cache_partition.proofs.Words.{write_of, ◌∙◌}
 use Rattle.cache_partition.proofs.Writes.{gained_step, may_write}
 use Rattle.cache_partition.proofs.partition.CachePartitionPartition.del.Goals as goal
@@ -7,14 +7,6 @@ pub returns-then-is_worn-clause-step : goal.returns-then-is_worn-clause-step
 returns-then-is_worn-clause-step g c =
     let o = g.W.OwnerWords.owner c.args.self.now.words in
     worn_step o c.args.self.now.idle (leb-true o.shape.wear (length o.history) (sym c.is_worn.ensures.worn ∙ c.if-is_worn.true)) (write_of Del c.args.key.now [])
-
-pub overflow_add-self : goal.overflow_add-self
-overflow_add-self g c =
-    let o = g.W.OwnerWords.owner c.args.self.now.words in
-    let few = leb-false o.shape.wear (length o.history) (sym c.is_worn.ensures.worn ∙ c.if-is_worn.false) in
-    let most = c.is_worn.ensures.valid.ranges.wear.1 in
-    let count = c.args.self.now.counted in
-    omega arith
 
 pub returns-then-removed-clause-step : goal.returns-then-removed-clause-step
 returns-then-removed-clause-step g c =
