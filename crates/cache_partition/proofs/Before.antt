@@ -1,6 +1,5 @@
 -- What the slots of the written bucket spelt, by the slot that the write changes.
-use Rattle.mica_model.specs.CacheStep as cs
-use Rattle.cache_partition.proofs.Words.{AcceptedWrite, Cache, Cell, GivesWay, HasLiveEntry, HasNoSlot, HoldsOfNone, IsPassed, IsSlotOf, List, None}
+use Rattle.cache_partition.proofs.Words.{AcceptedWrite, Cell, GivesWay, HasLiveEntry, HasNoSlot, HoldsOfNone, IsPassed, IsSlotOf, List, None}
 use Rattle.cache_partition.proofs.Words.{OwnerState, Record, Some, Spells, ap, arith, bucket_in, cases_lt, cell_at, count_by, empty, entry_in}
 use Rattle.cache_partition.proofs.Words.{entry_offset, find, fits_kept, here_of, inl, inr, oldest, only_key, options_in, passed, record_of}
 use Rattle.cache_partition.proofs.Words.{refl, same_Some, stamp_in, stood, subst, sym, tail_of, window_kept, written_same, ℕ, ⊎_elim, ◌+◌}
@@ -9,25 +8,22 @@ use Rattle.cache_partition.proofs.Counts as counts
 use Rattle.cache_partition.proofs.Leaves as leaves
 use Rattle.cache_partition.proofs.Displaced.{some_found}
 use Rattle.cache_partition.proofs.Held.{HasRecord, HasSlot, Held, live_entry, machine, one_slot, record_in, slot_is, slot_of, stamp_is}
+use Rattle.cache_partition.proofs.Leaves.{made}
 use Rattle.cache_partition.proofs.OneSlot.{Before}
 
 module _ (h : Held) (a : AcceptedWrite h.o) where
   abbrev b : ℕ
   b = bucket_in h.o a.w.key
 
-  -- what the machine has once the write is made
-  abbrev made : Cache
-  made = cs.after_write (options_in h.o) h.m a.w
-
   abbrev lives : List Record
-  lives = leaves.lives (options_in h.o) h.m (machine h) a.w a.is
+  lives = leaves.lives h a.w a.is
 
   -- no record that the log does not pass has this number
   abbrev IsFree : ℕ → Type 0
-  IsFree j = (r : Record) → record_of made r.key ≡ Some r → tail_of made.stamp ≤ r.offset + h.o.shape.words → ¬ (counts.IsNumber h a.w a.is (stood h.o a) r j)
+  IsFree j = (r : Record) → record_of (made h a.w) r.key ≡ Some r → tail_of (made h a.w).stamp ≤ r.offset + h.o.shape.words → ¬ (counts.IsNumber h a.w a.is (stood h.o a) r j)
 
-  none_lost : (j : ℕ) → j < 16 → IsFree j → leaves.Leaves (options_in h.o) h.m a.w None
-  none_lost j low free = leaves.none_lost (options_in h.o) h.m (machine h) a.w a.is (counts.few h a.w a.is (stood h.o a) j low free)
+  none_lost : (j : ℕ) → j < 16 → IsFree j → leaves.Leaves h a.w None
+  none_lost j low free = leaves.none_lost h a.w a.is (counts.few h a.w a.is (stood h.o a) j low free)
 
   -- the key's own slot
   pub own_slot : (slot : ℕ) (r : Record) → HasSlot h b a.w.key r slot → Before h a slot
@@ -51,7 +47,7 @@ module _ (h : Held) (a : AcceptedWrite h.o) where
     spell_others : (i y : ℕ) (key : List ℕ) (cell : Cell) → HasLiveEntry h.o b b i y → Spells h.o b y key cell → key ≢ a.w.key
     spell_others i y key cell e sp same = none i (subst (λ (k : List ℕ). IsSlotOf h.o b k i) same (slot_is h b i y key cell e sp))
 
-    free_slot : (slot : ℕ) → slot < 16 → IsFree slot → ((y : ℕ) → HasLiveEntry h.o b b slot y → tail_of made.stamp ≤ entry_offset y + h.o.shape.words → ⊥) → Before h a slot
+    free_slot : (slot : ℕ) → slot < 16 → IsFree slot → ((y : ℕ) → HasLiveEntry h.o b b slot y → tail_of (made h a.w).stamp ≤ entry_offset y + h.o.shape.words → ⊥) → Before h a slot
     free_slot slot low free dead = record {
       lost = None;
       leaves = none_lost slot low free;
@@ -61,16 +57,16 @@ module _ (h : Held) (a : AcceptedWrite h.o) where
     }
 
     -- none of them, where the write leaves the key no record
-    pub no_slot : record_of made a.w.key ≡ None → Before h a 15
+    pub no_slot : record_of (made h a.w) a.w.key ≡ None → Before h a 15
     no_slot no_record = free_slot 15 (omega arith)
         (λ r found live. ⊎_elim
-        (λ (mine : (r.key ≡ a.w.key) × (15 ≡ 15)). cc (sym no_record ∙ (ap (record_of made) (sym mine.0) ∙ found)))
+        (λ (mine : (r.key ≡ a.w.key) × (15 ≡ 15)). cc (sym no_record ∙ (ap (record_of (made h a.w)) (sym mine.0) ∙ found)))
         (λ (slot : (r.key ≢ a.w.key) × HasSlot h b r.key r 15). let below = slot.1.entry.in_bucket in absurd (omega arith)))
         (λ y e live. let below = e.in_bucket in absurd (omega arith))
 
     module _ (slot : ℕ) (below : slot < 15) where
       -- one that is empty or whose item the log passes
-      dead_slot : (entry_in h.o b slot ≢ 0 → tail_of made.stamp ≤ entry_offset (entry_in h.o b slot) + h.o.shape.words → ⊥) → Before h a slot
+      dead_slot : (entry_in h.o b slot ≢ 0 → tail_of (made h a.w).stamp ≤ entry_offset (entry_in h.o b slot) + h.o.shape.words → ⊥) → Before h a slot
       dead_slot dead = free_slot slot (omega arith)
           (λ r found live. ⊎_elim
           (λ (mine : (r.key ≡ a.w.key) × (slot ≡ 15)). let last = mine.1 in absurd (omega arith))
@@ -78,8 +74,8 @@ module _ (h : Held) (a : AcceptedWrite h.o) where
           (λ y e live. dead (λ zero. e.live.0 (sym e.found ∙ zero)) (let same = ap entry_offset e.found in omega arith))
 
       -- the one of least offset, where all are live: its item is the bucket's oldest, which is displaced, as the write appends one
-      module _ (own : Record) (its_own : record_of made a.w.key ≡ Some own) (at_tail : own.offset ≡ tail_of h.m.stamp) (own_live : tail_of made.stamp ≤ own.offset + h.o.shape.words)
-          (live : (i : ℕ) → i < 15 → (entry_in h.o b i ≢ 0) × (tail_of made.stamp ≤ entry_offset (entry_in h.o b i) + h.o.shape.words))
+      module _ (own : Record) (its_own : record_of (made h a.w) a.w.key ≡ Some own) (at_tail : own.offset ≡ tail_of h.m.stamp) (own_live : tail_of (made h a.w).stamp ≤ own.offset + h.o.shape.words)
+          (live : (i : ℕ) → i < 15 → (entry_in h.o b i ≢ 0) × (tail_of (made h a.w).stamp ≤ entry_offset (entry_in h.o b i) + h.o.shape.words))
           (least : (i : ℕ) → i < 15 → entry_offset (entry_in h.o b slot) ≤ entry_offset (entry_in h.o b i)) where
         many : count_by (here_of (options_in h.o) a.w) lives ≡ 16
         many = counts.many h a.w a.is (stood h.o a) own its_own own_live none live
@@ -90,7 +86,7 @@ module _ (h : Held) (a : AcceptedWrite h.o) where
         slot_live : HasLiveEntry h.o b b slot (entry_in h.o b slot)
         slot_live =
             let stamp = stamp_is h in
-            let more = (leaves.written (options_in h.o) h.m (machine h) a.w a.is).least in
+            let more = (leaves.written h a.w a.is).least in
             let later = (live slot below).1 in
             live_entry h b slot (entry_in h.o b slot) below refl (live slot below).0 (omega arith)
 
@@ -104,14 +100,14 @@ module _ (h : Held) (a : AcceptedWrite h.o) where
         first_begins =
             let offset = its.offset in
             let later = (live slot below).1 in
-            leaves.first_begins (options_in h.o) h.m (machine h) a.w a.is first.0 first.1 names.0 its.r
+            leaves.first_begins h a.w a.is first.0 first.1 names.0 its.r
             (written_same (options_in h.o) h.m a.w names.0 (spell_others slot (entry_in h.o b slot) names.0 names.1 slot_live names.2) ∙ its.is) (omega arith) names.2.bucket
 
         -- the written key's record begins behind the others
         first_other : first.0.key ≢ a.w.key
         first_other same =
-            let found = (leaves.first_is (options_in h.o) h.m (machine h) a.w a.is first.0 first.1).0 in
-            let is = ap (λ (r : Record). r.offset) (same_Some first.0 own (sym found ∙ (ap (record_of made) same ∙ its_own))) in
+            let found = (leaves.first_is h a.w a.is first.0 first.1).0 in
+            let is = ap (λ (r : Record). r.offset) (same_Some first.0 own (sym found ∙ (ap (record_of (made h a.w)) same ∙ its_own))) in
             let before = first_begins in
             let end = (window_kept (options_in h.o) h.m (machine h) names.0 its.r its.is).1 in
             let room = (fits_kept (options_in h.o) h.m (machine h) names.0 its.r its.is).4 in
@@ -119,7 +115,7 @@ module _ (h : Held) (a : AcceptedWrite h.o) where
 
         names_first : names.0 ≡ first.0.key
         names_first =
-            let facts = leaves.first_is (options_in h.o) h.m (machine h) a.w a.is first.0 first.1 in
+            let facts = leaves.first_is h a.w a.is first.0 first.1 in
             let there = slot_of h b (stood h.o a) first.0.key first.0 facts.1 (sym (written_same (options_in h.o) h.m a.w first.0.key first_other) ∙ facts.0) in
             let before = first_begins in
             let offset = its.offset in
@@ -130,7 +126,7 @@ module _ (h : Held) (a : AcceptedWrite h.o) where
         oldest_slot : Before h a slot
         oldest_slot = record {
           lost = Some first.0.key;
-          leaves = leaves.first_lost (options_in h.o) h.m (machine h) a.w a.is first.0 first.1 many;
+          leaves = leaves.first_lost h a.w a.is first.0 first.1 many;
           own = λ same. first_other (sym same);
           others = λ i y key cell other e sp. (
             spell_others i y key cell e sp,
@@ -141,10 +137,10 @@ module _ (h : Held) (a : AcceptedWrite h.o) where
         }
 
     -- the one that gives way, in a state with the same entries and the new stamp
-    module _ (p : OwnerState) (words_are : p.shape.words ≡ h.o.shape.words) (same : (i : ℕ) → i < 15 → entry_in p b i ≡ entry_in h.o b i) (stamp : tail_of (stamp_in p) ≡ tail_of made.stamp)
-        (own : Record) (its_own : record_of made a.w.key ≡ Some own) (at_tail : own.offset ≡ tail_of h.m.stamp) (own_live : tail_of made.stamp ≤ own.offset + h.o.shape.words) where
-      live_in : HoldsOfNone (IsPassed p b) → (i : ℕ) → i < 15 → tail_of made.stamp ≤ entry_offset (entry_in h.o b i) + h.o.shape.words
-      live_in all i l = elim (cases_lt (entry_offset (entry_in h.o b i) + h.o.shape.words) (tail_of made.stamp)) [
+    module _ (p : OwnerState) (words_are : p.shape.words ≡ h.o.shape.words) (same : (i : ℕ) → i < 15 → entry_in p b i ≡ entry_in h.o b i) (stamp : tail_of (stamp_in p) ≡ tail_of (made h a.w).stamp)
+        (own : Record) (its_own : record_of (made h a.w) a.w.key ≡ Some own) (at_tail : own.offset ≡ tail_of h.m.stamp) (own_live : tail_of (made h a.w).stamp ≤ own.offset + h.o.shape.words) where
+      live_in : HoldsOfNone (IsPassed p b) → (i : ℕ) → i < 15 → tail_of (made h a.w).stamp ≤ entry_offset (entry_in h.o b i) + h.o.shape.words
+      live_in all i l = elim (cases_lt (entry_offset (entry_in h.o b i) + h.o.shape.words) (tail_of (made h a.w).stamp)) [
         | inl gone ↦ absurd (all i l (let offset = ap entry_offset (same i l) in omega arith))
         | inr there ↦ there
       ]

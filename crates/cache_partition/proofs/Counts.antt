@@ -1,16 +1,15 @@
 -- How many records the written bucket has once the log has passed: as many as it has live slots, and the written key's own.
-use Rattle.mica_model.specs.CacheStep as cs
 use Rattle.mica_model.proofs.Found as found
 use Rattle.mica_model.proofs.Laid as laid
-use Rattle.cache_partition.proofs.Words.{AllOf, Bool, Cache, HasNoSlot, IsDistinct, IsDistinct-cons, IsSlotOf, IsUnique, IsWrite, List, Record, Some}
-use Rattle.cache_partition.proofs.Words.{Spells, StandsFor, Write, [], ap, arith, bucket_in, cases_Bool, cases_lt, cell_at, cond, count_by, entry_in}
+use Rattle.cache_partition.proofs.Words.{AllOf, Bool, HasNoSlot, IsDistinct, IsDistinct-cons, IsSlotOf, IsUnique, IsWrite, List, Record, Some, Spells}
+use Rattle.cache_partition.proofs.Words.{StandsFor, Write, [], ap, arith, bucket_in, cases_Bool, cases_lt, cell_at, cond, count_by, entry_in}
 use Rattle.cache_partition.proofs.Words.{entry_offset, eq-eqb, eqb, eqb-true, false, filter, find, has_key, here_of, inl, inr, le-length_from_below}
 use Rattle.cache_partition.proofs.Words.{leb-true, length, length-filter, length-le_from_distinct_below, list_any, nat_tests, ne_eqb, only_key}
 use Rattle.cache_partition.proofs.Words.{options_in, record_of, refl, same_Some, same_or_other, subst, suc, sym, tail_of, true, true≢false}
 use Rattle.cache_partition.proofs.Words.{written_same, ℕ, ⊎_elim, ◌+◌, ◌<◌, ◌∙◌, ◌∷◌, ◌≡◌, ◌≢◌, ◌≤◌, ◌⊎◌}
 use Rattle.cache_partition.proofs.Displaced.{all_filtered, each_found}
-use Rattle.cache_partition.proofs.Held.{HasSlot, Held, live_entry, machine, one_slot, record_in, slot_is, slot_of, stamp_is}
-use Rattle.cache_partition.proofs.Leaves.{is_living, live_on, lives, written}
+use Rattle.cache_partition.proofs.Held.{HasSlot, Held, live_entry, one_slot, record_in, slot_is, slot_of, stamp_is}
+use Rattle.cache_partition.proofs.Leaves.{is_living, live_on, lives, made, written}
 
 below_all : (n : ℕ) (xs : List ℕ) → AllOf (λ y. y < n) xs → (q : ℕ) → list_any (eqb q) xs ≡ true → q < n
 below_all n [] all q has = cc
@@ -23,18 +22,14 @@ module _ (h : Held) (w : Write) (is : IsWrite w) (stood : StandsFor h.o (bucket_
   abbrev b : ℕ
   b = bucket_in h.o w.key
 
-  -- what the machine has once the write is made
-  abbrev t : Cache
-  t = cs.after_write (options_in h.o) h.m w
-
   abbrev pub here : Record → Bool
   here = here_of (options_in h.o) w
 
   abbrev living : Record → Bool
-  living = is_living (options_in h.o) h.m (machine h) w is
+  living = is_living h w is
 
   abbrev pub alive : List Record
-  alive = lives (options_in h.o) h.m (machine h) w is
+  alive = lives h w is
 
   -- the bucket's records that the log does not pass
   abbrev its : List Record
@@ -47,12 +42,12 @@ module _ (h : Held) (w : Write) (is : IsWrite w) (stood : StandsFor h.o (bucket_
   record Numbered (r : Record) : Type 0 where
     pub number : ℕ
     pub number_is : IsNumber r number
-    pub found : record_of t r.key ≡ Some r
-    pub live : tail_of t.stamp ≤ r.offset + h.o.shape.words
+    pub found : record_of (made h w) r.key ≡ Some r
+    pub live : tail_of (made h w).stamp ≤ r.offset + h.o.shape.words
 
-  numbered : (r : Record) → ((record_of t r.key ≡ Some r) × (living r ≡ true)) × (here r ≡ true) → Numbered r
+  numbered : (r : Record) → ((record_of (made h w) r.key ≡ Some r) × (living r ≡ true)) × (here r ≡ true) → Numbered r
   numbered r at =
-      let live = leb-true (tail_of t.stamp) (r.offset + h.o.shape.words) at.0.1 in
+      let live = leb-true (tail_of (made h w).stamp) (r.offset + h.o.shape.words) at.0.1 in
       elim (same_or_other r.key w.key) [
         | inl mine ↦ record { number = 15; number_is = inl (mine, refl); found = at.0.0; live = live }
         | inr other ↦
@@ -62,8 +57,8 @@ module _ (h : Held) (w : Write) (is : IsWrite w) (stood : StandsFor h.o (bucket_
 
   all_numbered : AllOf Numbered its
   all_numbered = found.all_weaker _ Numbered numbered its
-      (all_filtered _ here alive (all_filtered _ living t.records
-      (each_found t.records (written (options_in h.o) h.m (machine h) w is).unique)))
+      (all_filtered _ here alive (all_filtered _ living (made h w).records
+      (each_found (made h w).records (written h w is).unique)))
 
   numbers : (rs : List Record) → AllOf Numbered rs → List ℕ
   numbers [] all = []
@@ -104,12 +99,12 @@ module _ (h : Held) (w : Write) (is : IsWrite w) (stood : StandsFor h.o (bucket_
   below r i (inr slot) = let low = slot.1.entry.in_bucket in omega arith
 
   -- where a number is no record's, there are at most 15
-  pub few : (j : ℕ) → j < 16 → ((r : Record) → record_of t r.key ≡ Some r → tail_of t.stamp ≤ r.offset + h.o.shape.words → ¬ (IsNumber r j))
+  pub few : (j : ℕ) → j < 16 → ((r : Record) → record_of (made h w) r.key ≡ Some r → tail_of (made h w).stamp ≤ r.offset + h.o.shape.words → ¬ (IsNumber r j))
       → count_by here alive ≢ 16
   few j low free full =
       let none = numbers_each (λ i. eqb j i ≡ false) (λ r n. ne_eqb j n.number (λ same. free r n.found n.live (subst (IsNumber r) (sym same) n.number_is))) in
       let unique = laid.unique_filter here alive
-      (laid.unique_filter _ t.records (written (options_in h.o) h.m (machine h) w is).unique) in
+      (laid.unique_filter _ (made h w).records (written h w is).unique) in
       let most = length-le_from_distinct_below (j ∷ numbers its all_numbered) 16
       (IsDistinct-cons eqb j (numbers its all_numbered) none (numbers_distinct its all_numbered unique))
       (below_all 16 (j ∷ numbers its all_numbered) (low, numbers_each (λ i. i < 16) (λ r n. below r n.number n.number_is))) in
@@ -131,33 +126,33 @@ module _ (h : Held) (w : Write) (is : IsWrite w) (stood : StandsFor h.o (bucket_
             (cases_Bool (eqb i all.0.number))
       ] is
 
-  found_among : (key : List ℕ) (r : Record) (i : ℕ) → ((n : ℕ) → IsNumber r n → n ≡ i) → record_of t key ≡ Some r → tail_of t.stamp ≤ r.offset + h.o.shape.words
+  found_among : (key : List ℕ) (r : Record) (i : ℕ) → ((n : ℕ) → IsNumber r n → n ≡ i) → record_of (made h w) key ≡ Some r → tail_of (made h w).stamp ≤ r.offset + h.o.shape.words
       → bucket_in h.o key ≡ b → list_any (eqb i) (numbers its all_numbered) ≡ true
   found_among key r i only at live there = among key r i only its all_numbered
-      (found.found_filter (has_key key) here alive r (live_on (options_in h.o) h.m (machine h) w is key r at live)
-      (eq-eqb (bucket_in h.o r.key) b (ap (bucket_in h.o) (laid.found_key key t.records r at) ∙ there)))
+      (found.found_filter (has_key key) here alive r (live_on h w is key r at live)
+      (eq-eqb (bucket_in h.o r.key) b (ap (bucket_in h.o) (laid.found_key key (made h w).records r at) ∙ there)))
 
   -- where every slot is live and of another key, and the key has a record, there are 16
-  pub many : (own : Record) → record_of t w.key ≡ Some own → tail_of t.stamp ≤ own.offset + h.o.shape.words → HasNoSlot h.o b w.key
-      → ((i : ℕ) → i < 15 → (entry_in h.o b i ≢ 0) × (tail_of t.stamp ≤ entry_offset (entry_in h.o b i) + h.o.shape.words))
+  pub many : (own : Record) → record_of (made h w) w.key ≡ Some own → tail_of (made h w).stamp ≤ own.offset + h.o.shape.words → HasNoSlot h.o b w.key
+      → ((i : ℕ) → i < 15 → (entry_in h.o b i ≢ 0) × (tail_of (made h w).stamp ≤ entry_offset (entry_in h.o b i) + h.o.shape.words))
       → count_by here alive ≡ 16
   many own at own_live none live =
       let least = le-length_from_below (numbers its all_numbered) 16 each in
       let long = length-numbers its all_numbered in
       let count = length-filter here alive in
-      let fewer = found.count_filter here living t.records in
-      let most = (written (options_in h.o) h.m (machine h) w is).here in
+      let fewer = found.count_filter here living (made h w).records in
+      let most = (written h w is).here in
       omega arith
     where
       own_number : (n : ℕ) → IsNumber own n → n ≡ 15
       own_number n (inl mine) = mine.1
-      own_number n (inr slot) = absurd (slot.0 (laid.found_key w.key t.records own at))
+      own_number n (inr slot) = absurd (slot.0 (laid.found_key w.key (made h w).records own at))
 
       at_slot : (i : ℕ) → i < 15 → list_any (eqb i) (numbers its all_numbered) ≡ true
       at_slot i low =
           let later = (live i low).1 in
           let stamp = stamp_is h in
-          let more = (written (options_in h.o) h.m (machine h) w is).least in
+          let more = (written h w is).least in
           let e = live_entry h b i (entry_in h.o b i) low refl (live i low).0 (omega arith) in
           let some = stood.nothing_else b i (entry_in h.o b i) e in
           let named = record_in h some.0 some.1 (entry_offset (entry_in h.o b i)) some.2.has in

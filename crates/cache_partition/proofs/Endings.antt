@@ -1,22 +1,19 @@
 -- What the events of a write leave of its bucket stands for the machine's state.
 use Rattle.mica_model.specs.CacheStep as cs
-use Rattle.cache_partition.proofs.Words.{AcceptedWrite, Cache, Del, Has, HasLiveEntry, IsOffset, Kept, List, Mode, OwnerState, Put, PutsEntry, Record}
-use Rattle.cache_partition.proofs.Words.{Some, StandsFor, [], after, ap, arith, bucket_in, cell_at, entry_in, entry_offset, entry_puts}
+use Rattle.cache_partition.proofs.Words.{AcceptedWrite, Del, Has, HasLiveEntry, IsOffset, Kept, List, Mode, OwnerState, Put, PutsEntry, Record, Some}
+use Rattle.cache_partition.proofs.Words.{StandsFor, [], after, ap, arith, bucket_in, cell_at, entry_in, entry_offset, entry_puts}
 use Rattle.cache_partition.proofs.Words.{entry_puts_other, entry_tag, get_or, inl, inr, item_at, item_in, item_put, item_puts_entry, item_words}
 use Rattle.cache_partition.proofs.Words.{length, length-item_words, main, offset_of, options_in, other_rooms, put_entry, put_item, put_long}
 use Rattle.cache_partition.proofs.Words.{put_others, put_words, record_of, refl, spells_item, state_in, subst, sym, tag_of, tail_of, written, ℕ, ◌+◌}
 use Rattle.cache_partition.proofs.Words.{◌<◌, ◌∙◌, ◌≡◌, ◌≢◌, ◌≤◌, ◌⊎◌}
 use Rattle.cache_partition.proofs.Leaves as leaves
-use Rattle.cache_partition.proofs.Held.{Held, has_in, live_entry, machine, stamp_is}
+use Rattle.cache_partition.proofs.Held.{Held, has_in, live_entry, stamp_is}
+use Rattle.cache_partition.proofs.Leaves.{made}
 use Rattle.cache_partition.proofs.OneSlot.{Before, HasMine, HasNone, later, stands}
 
 module _ (h : Held) (a : AcceptedWrite h.o) where
   abbrev b : ℕ
   b = bucket_in h.o a.w.key
-
-  -- what the machine has once the write is made
-  abbrev made : Cache
-  made = cs.after_write (options_in h.o) h.m a.w
 
   -- The words from the offset on are these, and no other item word has changed. The slot has the entry x, and no other
   -- entry of the bucket has changed.
@@ -67,15 +64,15 @@ module _ (h : Held) (a : AcceptedWrite h.o) where
 
     -- a delete
     pub deleted : a.w.op ≡ Del → (slot x : ℕ) → Before h a slot → Effect words slot x 0 [] → ((y : ℕ) → ¬ (HasLiveEntry q b b slot y)) → StandsFor q b
-    deleted op slot x before effect none = as_machine slot x 0 [] before effect (λ j less. absurd (omega arith)) (inr (none, leaves.deleted_none (options_in h.o) h.m (machine h) a.w op))
+    deleted op slot x before effect none = as_machine slot x 0 [] before effect (λ j less. absurd (omega arith)) (inr (none, leaves.deleted_none h a.w op))
 
     -- a put, which leaves its key this record with the new value: the slot's entry and item spell it
-    pub put : a.w.op ≡ Put → (slot x : ℕ) → Before h a slot → slot < 15 → (r : Record) → record_of made a.w.key ≡ Some (record r { value = a.w.value })
-        → offset_of (options_in h.o) h.m a.w ≡ r.offset → tail_of made.stamp ≤ r.offset + h.o.shape.words → x ≢ 0 → entry_offset x ≡ r.offset → entry_tag x ≡ tag_of a.w.key
+    pub put : a.w.op ≡ Put → (slot x : ℕ) → Before h a slot → slot < 15 → (r : Record) → record_of (made h a.w) a.w.key ≡ Some (record r { value = a.w.value })
+        → offset_of (options_in h.o) h.m a.w ≡ r.offset → tail_of (made h a.w).stamp ≤ r.offset + h.o.shape.words → x ≢ 0 → entry_offset x ≡ r.offset → entry_tag x ≡ tag_of a.w.key
         → Effect words slot x r.offset (item_words r.room a.w.key a.w.value) → StandsFor q b
     put op slot x before below r found begin live some offset tag effect =
         let new : Record = record r { value = a.w.value } in
-        let stamp = stamp_is n ∙ leaves.step_stamp (options_in h.o) h.m (machine h) a.w in
+        let stamp = stamp_is n ∙ leaves.step_stamp h a.w in
         let its_offset : entry_offset (entry_in q b slot) ≡ r.offset = ap entry_offset effect.here ∙ offset in
         let long = length-item_words r.room a.w.key a.w.value in
         as_machine slot x r.offset (item_words r.room a.w.key a.w.value) before effect

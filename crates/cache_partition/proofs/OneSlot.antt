@@ -6,26 +6,23 @@ use Rattle.cache_partition.proofs.Words.{entry_offset, inl, inr, item_in, main, 
 use Rattle.cache_partition.proofs.Words.{same_or_other, spells_on, stamp_in, stamp_rises, stands_cached, state_after, state_in, stood, subst, sym}
 use Rattle.cache_partition.proofs.Words.{tail_of, window_kept, written, written_same, written_state, ℕ, ℕ_discrete, ◌+◌, ◌<◌, ◌∙◌, ◌≡◌, ◌≢◌, ◌≤◌, ◌⊎◌}
 use Rattle.cache_partition.proofs.Held.{Held, has_in, in_main, live_entry, live_is, machine, one_slot, record_in, slot_of, stamp_is}
-use Rattle.cache_partition.proofs.Leaves.{IsLost, Leaves, step_stamp}
+use Rattle.cache_partition.proofs.Leaves.{IsLost, Leaves, made, step_stamp}
 
 module _ (h : Held) (a : AcceptedWrite h.o) where
   abbrev b : ℕ
   b = bucket_in h.o a.w.key
 
-  -- what the machine has once the write is made, and after its step
-  abbrev made : Cache
-  made = cs.after_write (options_in h.o) h.m a.w
-
+  -- what the machine has after the step
   abbrev new : Cache
   new = cs.after (options_in h.o) h.m a.w
 
   -- What the slots spelt before: the slot what is of the written key, or lost, and the others what is of other keys that the machine leaves.
   pub record Before (slot : ℕ) : Type 0 where
     pub lost : Option (List ℕ)
-    pub leaves : Leaves (options_in h.o) h.m a.w lost
+    pub leaves : Leaves h a.w lost
     pub own : ¬ (IsLost lost a.w.key)
     pub others : (i x : ℕ) (key : List ℕ) (cell : Cell) → i ≢ slot → HasLiveEntry h.o b b i x → Spells h.o b x key cell → (key ≢ a.w.key) × ¬ (IsLost lost key)
-    pub gone : (x : ℕ) (key : List ℕ) (cell : Cell) → HasLiveEntry h.o b b slot x → tail_of made.stamp ≤ entry_offset x + h.o.shape.words
+    pub gone : (x : ℕ) (key : List ℕ) (cell : Cell) → HasLiveEntry h.o b b slot x → tail_of (made h a.w).stamp ≤ entry_offset x + h.o.shape.words
         → Spells h.o b x key cell → (key ≡ a.w.key) ⊎ IsLost lost key
 
   -- the partition before the write's end, with these words
@@ -45,7 +42,7 @@ module _ (h : Held) (a : AcceptedWrite h.o) where
 
     -- it has no live entry, and the write leaves the key no record
     abbrev pub HasNone : ℕ → Type 0
-    HasNone slot = ((x : ℕ) → ¬ (HasLiveEntry q b b slot x)) × (record_of made a.w.key ≡ None)
+    HasNone slot = ((x : ℕ) → ¬ (HasLiveEntry q b b slot x)) × (record_of (made h a.w) a.w.key ≡ None)
 
     -- The slot has the written key's entry, or none, the other slots stay as they were, and so do the items of other keys.
     pub record OneSlot (slot : ℕ) : Type 0 where
@@ -61,8 +58,8 @@ module _ (h : Held) (a : AcceptedWrite h.o) where
       was : StandsFor h.o b
       was = stood h.o a
 
-      stamp_now : stamp_in q ≡ made.stamp
-      stamp_now = stamp_is n ∙ step_stamp (options_in h.o) h.m (machine h) a.w
+      stamp_now : stamp_in q ≡ (made h a.w).stamp
+      stamp_now = stamp_is n ∙ step_stamp h a.w
 
       -- what a live entry spells: the written key in the slot, and in another one the key that it spelt
       record Now (i x : ℕ) : Type 0 where
@@ -136,7 +133,7 @@ module _ (h : Held) (a : AcceptedWrite h.o) where
             (b, slot, entry_in q b slot, mine.1, subst (λ (z : Cell). Spells q b (entry_in q b slot) key z) same sp)
         | inr none ↦
             let found = record_in n key cell p has in
-            cc (sym none.1 ∙ (ap (record_of made) (sym is) ∙ (k.before.leaves.back key found.r found.is).0))
+            cc (sym none.1 ∙ (ap (record_of (made h a.w)) (sym is) ∙ (k.before.leaves.back key found.r found.is).0))
       ]
 
       each_other : (key : List ℕ) (cell : Cell) (p : ℕ) → bucket_in h.o key ≡ b → Has (state_in q) key cell p → key ≢ a.w.key

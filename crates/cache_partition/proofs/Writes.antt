@@ -18,6 +18,7 @@ use Rattle.cache_partition.proofs.Leaves as leaves
 use Rattle.cache_partition.proofs.Held.{Held, found_slot, held, machine, no_record, slot_of, stamp_is, stands_at}
 use Rattle.cache_partition.proofs.Before.{no_slot, own_slot, slot_that_gives_way}
 use Rattle.cache_partition.proofs.Endings.{deleted, entry_effect, put, put_effect}
+use Rattle.cache_partition.proofs.Leaves.{made}
 use Rattle.cache_partition.proofs.OneSlot.{Before}
 
 -- Replies
@@ -61,14 +62,10 @@ stamp_limit o s =
 
 -- What a write ends with
 
-pub record Ended (o new : OwnerState) (w : Write) (t : ℕ) : Type 0 where
-  pub gains : Gains o new w
-  pub stamp : t ≡ stamp_of (options_in new) new.history
-
--- so it may end in this state
 pub record Closes (o : OwnerState) (w : Write) (b t : ℕ) (q : OwnerState) : Type 0 where
   pub end : MayEnd q b
-  pub ended : (new : OwnerState) → new ≡ after (Ends b) q → Ended o new w t
+  pub gains : (new : OwnerState) → new ≡ after (Ends b) q → Gains o new w
+  pub stamp : (new : OwnerState) → new ≡ after (Ends b) q → t ≡ stamp_of (options_in new) new.history
 
 -- Each event of a delete may happen.
 pub record Deletes (o : OwnerState) (w : Write) (b t : ℕ) : Type 0 where
@@ -113,22 +110,22 @@ module _ (o : OwnerState) (s : Kept o) (may : MayWrite o) (w : Write) (is : IsWr
 
   -- The stamp after it
 
-  stamp_after : (t : Cache) → cs.after_write (options_in o) h.m w ≡ t → stamp_of (options_in o) (o.history ++ w ∷ []) ≡ t.stamp
+  stamp_after : (t : Cache) → made h w ≡ t → stamp_of (options_in o) (o.history ++ w ∷ []) ≡ t.stamp
   stamp_after t written =
       ap stamp_of_state (state_snoc (options_in o) o.history w ∙ ap (λ (z : State). state_after (options_in o) z w) h.before)
-      ∙ (leaves.step_stamp (options_in o) h.m (machine h) w ∙ ap (λ (z : Cache). z.stamp) written)
+      ∙ (leaves.step_stamp h w ∙ ap (λ (z : Cache). z.stamp) written)
 
   pub stamp_deleted : w.op ≡ Del → stamp_in o + 1 ≡ stamp_of (options_in o) (o.history ++ w ∷ [])
-  stamp_deleted op = ap (λ (n : ℕ). n + 1) (stamp_is h) ∙ sym (stamp_after _ (leaves.is_deleted (options_in o) h.m (machine h) w op))
+  stamp_deleted op = ap (λ (n : ℕ). n + 1) (stamp_is h) ∙ sym (stamp_after _ (leaves.is_deleted h w op))
 
   pub stamp_rewritten : (p : ℕ) → w.op ≡ Put → kept_offset o w ≡ Some p → stamp_in o + 1 ≡ stamp_of (options_in o) (o.history ++ w ∷ [])
   stamp_rewritten p op keeps =
       let r = held_at p keeps in
-      ap (λ (n : ℕ). n + 1) (stamp_is h) ∙ sym (stamp_after _ (leaves.is_rewritten (options_in o) h.m (machine h) w r.0 op r.1))
+      ap (λ (n : ℕ). n + 1) (stamp_is h) ∙ sym (stamp_after _ (leaves.is_rewritten h w r.0 op r.1))
 
   pub stamp_appended : w.op ≡ Put → kept_offset o w ≡ None → stamp_in o + 65536 * size_of w ≡ stamp_of (options_in o) (o.history ++ w ∷ [])
   stamp_appended op keeps =
-      ap (λ (n : ℕ). n + 65536 * size_of w) (stamp_is h) ∙ sym (stamp_after _ (leaves.is_appended (options_in o) h.m (machine h) w op (held_none keeps)))
+      ap (λ (n : ℕ). n + 65536 * size_of w) (stamp_is h) ∙ sym (stamp_after _ (leaves.is_appended h w op (held_none keeps)))
 
   -- The write is marked by this stamp
 
@@ -153,7 +150,8 @@ module _ (o : OwnerState) (s : Kept o) (may : MayWrite o) (w : Write) (is : IsWr
     closes : (words : List ℕ) → StandsFor (written o accepted words) b → (q : OwnerState) → q ≡ written o accepted words → Closes o w b t q
     closes words stands q at = subst (Closes o w b t) (sym at) record {
       end = may_end o accepted words stands;
-      ended = λ new e. subst (λ (z : OwnerState). Ended o z w t) (sym e) record { gains = ended_gains o accepted words; stamp = stamp };
+      gains = λ new e. subst (λ (z : OwnerState). Gains o z w) (sym e) (ended_gains o accepted words);
+      stamp = λ new e. stamp ∙ ap (λ (z : OwnerState). stamp_of (options_in z) z.history) (sym e);
     }
 
     -- A delete
@@ -169,7 +167,7 @@ module _ (o : OwnerState) (s : Kept o) (may : MayWrite o) (w : Write) (is : IsWr
               (deleted h accepted (after (PutsEntry b slot 0) (marked o accepted)).words (subst Kept at k) op slot 0 (own_slot h accepted slot own.0 own.1) effect
               (λ y e. e.live.0 (sym e.found ∙ effect.here))) q at;
           absent = λ lacks q at k. closes (marked o accepted).words
-              (deleted h accepted (marked o accepted).words (subst Kept at k) op 15 _ (no_slot h accepted lacks (leaves.deleted_none (options_in o) h.m (machine h) w op))
+              (deleted h accepted (marked o accepted).words (subst Kept at k) op 15 _ (no_slot h accepted lacks (leaves.deleted_none h w op))
               (put_effect h accepted 0 [] none 15 _ refl) (λ y e. let below = e.in_bucket in absurd (omega arith))) q at;
         }
 
@@ -183,7 +181,7 @@ module _ (o : OwnerState) (s : Kept o) (may : MayWrite o) (w : Write) (is : IsWr
         omega arith
 
     -- it leaves its key this record
-    leaves_item : (p room : ℕ) → record_of (cs.after_write (options_in o) h.m w) w.key ≡ Some (record { key = w.key; value = w.value; offset = p; room = room })
+    leaves_item : (p room : ℕ) → record_of (made h w) w.key ≡ Some (record { key = w.key; value = w.value; offset = p; room = room })
         → LeavesItem (marked o accepted) p room w.key w.value
     leaves_item p room found =
         subst (λ (z : State). written_record (options_in o) z w ≡ Some (record { key = w.key; value = w.value; offset = p; room = room })) (sym h.before) found
@@ -204,14 +202,14 @@ module _ (o : OwnerState) (s : Kept o) (may : MayWrite o) (w : Write) (is : IsWr
             cell = (cell_at r.0).0;
             there = there;
             leaves = leaves_item r.0.offset r.0.room
-                (leaves.rewritten_own (options_in o) h.m (machine h) w r.0 op r.1 ∙ ap (λ (k : List ℕ). Some (record r.0 { key = k; value = w.value })) its_key);
+                (leaves.rewritten_own h w r.0 op r.1 ∙ ap (λ (k : List ℕ). Some (record r.0 { key = k; value = w.value })) its_key);
           };
           closes = λ q at_q k.
               let is = at_q ∙ (ap (λ (n : ℕ). with_item (marked o accepted) r.0.offset n w.key w.value) room ∙ put_same o accepted r.0.offset xs (few_words r.0.room)) in
-              let stamp = ap (λ (z : Cache). tail_of z.stamp) (leaves.is_rewritten (options_in o) h.m (machine h) w r.0 op r.1) in
+              let stamp = ap (λ (z : Cache). tail_of z.stamp) (leaves.is_rewritten h w r.0 op r.1) in
               let live = kept.live in
               closes words (put h accepted words (subst Kept is k) op at.0 (entry_in o b at.0) (own_slot h accepted at.0 r.0 at.1) at.1.entry.in_bucket r.0
-              (leaves.rewritten_own (options_in o) h.m (machine h) w r.0 op r.1) (ap (λ (z : Option Record). begin_of z h.m) r.1) (omega arith) at.1.entry.live.0 (sym at.1.offset) at.1.spelt.tag
+              (leaves.rewritten_own h w r.0 op r.1) (ap (λ (z : Option Record). begin_of z h.m) r.1) (omega arith) at.1.entry.live.0 (sym at.1.offset) at.1.spelt.tag
               (put_effect h accepted r.0.offset xs (few_words r.0.room) at.0 (entry_in o b at.0)
               (put_entry o accepted r.0.offset xs (few_words r.0.room) b at.0 (let main = main o accepted in omega arith) at.1.entry.in_bucket))) q is;
         })
@@ -229,17 +227,17 @@ module _ (o : OwnerState) (s : Kept o) (may : MayWrite o) (w : Write) (is : IsWr
       abbrev stored : OwnerState
       stored = written o accepted (put_words o accepted p xs few)
 
-      stored_stamp : tail_of (stamp_in stored) ≡ tail_of (cs.after_write (options_in o) h.m w).stamp
-      stored_stamp = ap tail_of (put_stamp o accepted p xs few ∙ (stamp ∙ stamp_after (cs.after_write (options_in o) h.m w) refl))
+      stored_stamp : tail_of (stamp_in stored) ≡ tail_of (made h w).stamp
+      stored_stamp = ap tail_of (put_stamp o accepted p xs few ∙ (stamp ∙ stamp_after (made h w) refl))
 
-      its_own : record_of (cs.after_write (options_in o) h.m w) w.key ≡ Some (new_record h.m w.key w.value)
-      its_own = leaves.appended_own (options_in o) h.m (machine h) w op (held_none keeps)
+      its_own : record_of (made h w) w.key ≡ Some (new_record h.m w.key w.value)
+      its_own = leaves.appended_own h w op (held_none keeps)
 
-      own_live : tail_of (cs.after_write (options_in o) h.m w).stamp ≤ p + o.shape.words
+      own_live : tail_of (made h w).stamp ≤ p + o.shape.words
       own_live =
           let size : size_of w ≤ largest_item = size_at_most w is in
           let least = s.shape.ranges.words.0 in
-          let stamp = ap (λ (z : Cache). tail_of z.stamp) (leaves.is_appended (options_in o) h.m (machine h) w op (held_none keeps)) in
+          let stamp = ap (λ (z : Cache). tail_of z.stamp) (leaves.is_appended h w op (held_none keeps)) in
           let past = tail_past h.m.stamp (size_of w) in
           omega arith
 

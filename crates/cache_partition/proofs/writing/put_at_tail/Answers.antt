@@ -67,9 +67,9 @@ end_write-requires g c = let z = goal.at.end_write-requires g c in (closes g z.A
 pub returns-clause-gains : goal.returns-clause-gains
 returns-clause-gains g c =
     let z = goal.at.returns-clause-gains g c in
-    ((closes g z.After-place (steps g z.After-from) (stored g z.After-append_hashed)).ended _ c.end_write.ensures.event).gains
+    (closes g z.After-place (steps g z.After-from) (stored g z.After-append_hashed)).gains _ c.end_write.ensures.event
 
 pub returns-clause-stamp : goal.returns-clause-stamp
 returns-clause-stamp g c =
     let z = goal.at.returns-clause-stamp g c in
-    ((closes g z.After-place (steps g z.After-from) (stored g z.After-append_hashed)).ended _ c.end_write.ensures.event).stamp
+    (closes g z.After-place (steps g z.After-from) (stored g z.After-append_hashed)).stamp _ c.end_write.ensures.event

@@ -41,7 +41,7 @@ pub end_write-requires : goal.end_write-requires
 end_write-requires g c = let z = goal.at.end_write-requires g c in (closes g z.After-rewrite (steps g z.Start)).end
 
 pub returns-clause-gains : goal.returns-clause-gains
-returns-clause-gains g c = let z = goal.at.returns-clause-gains g c in ((closes g z.After-rewrite (steps g z.Start)).ended _ c.end_write.ensures.event).gains
+returns-clause-gains g c = let z = goal.at.returns-clause-gains g c in (closes g z.After-rewrite (steps g z.Start)).gains _ c.end_write.ensures.event
 
 pub returns-clause-stamp : goal.returns-clause-stamp
-returns-clause-stamp g c = let z = goal.at.returns-clause-stamp g c in ((closes g z.After-rewrite (steps g z.Start)).ended _ c.end_write.ensures.event).stamp
+returns-clause-stamp g c = let z = goal.at.returns-clause-stamp g c in (closes g z.After-rewrite (steps g z.Start)).stamp _ c.end_write.ensures.event
