@@ -5,5 +5,4 @@ pub mod Leaves
 pub mod Counts
 pub mod OneSlot
 pub mod Before
-pub mod Endings
 pub mod Writes

@@ -18,14 +18,14 @@ pub use Rattle.mica_words.proofs.Hashes.{bucket_of_hash, tag_of-range, tag_of_ha
 pub use Rattle.mica_words.proofs.ItemWords.{length-item_words}
 pub use Rattle.mica_words.proofs.Sizes.{item_size-most}
 pub use Rattle.mica_words.specs.Entry.{entry_of, entry_offset, entry_tag}
-pub use Rattle.mica_words.specs.Hash.{bucket_of, fnv1a, hash_bucket, hash_tag, tag_of}
+pub use Rattle.mica_words.specs.Hash.{fnv1a, hash_bucket, hash_tag, tag_of}
 pub use Rattle.mica_words.specs.Header.{header_room}
 pub use Rattle.mica_words.specs.Item.{KeyFits, item_size, largest_item}
 pub use Rattle.mica_words.specs.Packing.{AreBytes}
 pub use Rattle.mica_words.specs.Spelling.{item_words}
 pub use Rattle.mica_words.specs.Stamp.{tail_of}
 pub use Rattle.mica_model.proofs.CacheKept.{IsKept, IsWritten, after_write_is, begin_of, here_of, keeps_put, left_of, live_of, offset_of, others_lack}
-pub use Rattle.mica_model.proofs.CacheKept.{rewritten, rewritten_key, size_at_most, tail_past}
+pub use Rattle.mica_model.proofs.CacheKept.{rewritten, rewritten_key, size_at_most}
 pub use Rattle.mica_model.proofs.CacheLaws.{fits_kept, kept_in, put_item, window_kept, written_same}
 pub use Rattle.mica_model.proofs.FateLaws.{miss_is_not_held}
 pub use Rattle.mica_model.proofs.Found.{all_filter, all_passes, all_weaker, count_cons, found_has, missed_all}
@@ -79,4 +79,4 @@ pub use Rattle.circular_log.specs.LogWrite.{LeavesItem, MayAppend, MayRewrite, w
 pub use Rattle.lossy_index.specs.Place.{GivesWay, HoldsOfNone, Takes, empty, oldest, passed}
 pub use Rattle.lossy_index.specs.Slot.{HasNoSlot, IsFoundAt, IsPassed, IsSlotOf, offset_in}
 pub use Rattle.cache_partition.specs.Gained.{Gains, MayWrite, marked_with}
-pub use Rattle.cache_partition.specs.Sought.{IsSought, had_record, had_record_by, kept_offset, kept_offset_by}
+pub use Rattle.cache_partition.specs.Sought.{had_record, had_record_by, kept_offset, kept_offset_by}

@@ -6,20 +6,19 @@ use Rattle.cache_partition.proofs.Words.{MayGive, MayMark, MayRewrite, MayWrite,
 use Rattle.cache_partition.proofs.Words.{Record, Some, SpellsItem, StandsFor, State, Takes, Worn, Write, [], accepted_in, accepted_is_length}
 use Rattle.cache_partition.proofs.Words.{accepted_step, after, ap, arith, begin_of, bucket_in, cached_in, cell_at, cond, ended_gains, entry_in}
 use Rattle.cache_partition.proofs.Words.{entry_not_empty, entry_of, entry_offset, entry_offset-entry_of, entry_tag-entry_of, false, fits_kept}
-use Rattle.cache_partition.proofs.Words.{found_key, had_record, had_record_by, is_accepted, is_live, is_some, item_in, item_room, item_size}
-use Rattle.cache_partition.proofs.Words.{item_words, keeps_put, kept_offset, kept_offset_by, kept_record, largest_item, leb-false, length}
+use Rattle.cache_partition.proofs.Words.{found_key, had_record, had_record_by, inl, inr, is_accepted, is_live, is_some, item_in, item_room, item_size}
+use Rattle.cache_partition.proofs.Words.{item_words, keeps_put, kept_offset, kept_offset_by, kept_record, largest_item, le-leb, leb-false, length}
 use Rattle.cache_partition.proofs.Words.{length-item_words, lt-leb, main, marked, marked_in, marked_item, marked_with, may_begin, may_end, may_mark}
 use Rattle.cache_partition.proofs.Words.{most_stamp, nat_le, new_record, option_map, options_in, put_entry, put_same, put_stamp, put_words, record_of}
 use Rattle.cache_partition.proofs.Words.{refl, room_at, room_in, room_is, size_at_most, size_of, stamp_in, stamp_of, stamp_of_state, stamp_small}
-use Rattle.cache_partition.proofs.Words.{state_after, state_snoc, stood, subst, sym, tag_of, tag_of-range, tail_of, tail_past, then_some, true}
-use Rattle.cache_partition.proofs.Words.{with_item, write_of, written, written_marked, written_record, ℕ, ◌&&◌, ◌*◌, ◌++◌, ◌+◌, ◌<◌, ◌^◌, ◌∙◌, ◌∷◌}
-use Rattle.cache_partition.proofs.Words.{◌≡◌, ◌≤◌}
+use Rattle.cache_partition.proofs.Words.{state_after, state_snoc, stood, subst, sym, tag_of, tag_of-range, tail_of, then_some, true, with_item}
+use Rattle.cache_partition.proofs.Words.{write_of, written, written_marked, written_record, ℕ, ◌&&◌, ◌*◌, ◌++◌, ◌+◌, ◌<◌, ◌^◌, ◌∙◌, ◌∷◌, ◌≡◌, ◌≤◌}
+use Rattle.cache_partition.proofs.Words.{◌⊎◌}
 use Rattle.cache_partition.proofs.Leaves as leaves
 use Rattle.cache_partition.proofs.Held.{Held, found_slot, held, machine, no_record, slot_of, stamp_is, stands_at}
 use Rattle.cache_partition.proofs.Before.{no_slot, own_slot, slot_that_gives_way}
-use Rattle.cache_partition.proofs.Endings.{deleted, entry_effect, put, put_effect}
 use Rattle.cache_partition.proofs.Leaves.{made}
-use Rattle.cache_partition.proofs.OneSlot.{Before}
+use Rattle.cache_partition.proofs.OneSlot.{Before, deleted, entry_effect, put, put_effect}
 
 -- Replies
 
@@ -77,23 +76,21 @@ pub record Rewrites (o : OwnerState) (w : Write) (b t p : ℕ) : Type 0 where
   pub may : MayRewrite (marked_with o b w t) p w.key w.value
   pub closes : (q : OwnerState) → q ≡ with_item (marked_with o b w t) p (room_at (marked_with o b w t) p) w.key w.value → Kept q → Closes o w b t q
 
--- and of one at the tail of the log
+-- the item of a put at the tail of the log is stored
+abbrev pub HasStored : OwnerState → Write → ℕ → ℕ → ℕ → OwnerState → Type 0
+HasStored o w b t p q = q ≡ with_item (marked_with o b w t) p (item_size w.key w.value) w.key w.value
+
+-- and of such a put
 pub record Appends (o : OwnerState) (w : Write) (b t p : ℕ) : Type 0 where
   pub may : MayAppend (marked_with o b w t) p w.key w.value
-  pub ready : (q : OwnerState) → q ≡ with_item (marked_with o b w t) p (item_size w.key w.value) w.key w.value → (marked_in q.phase b ≡ 1) × IsMain q.shape b
-  pub closes : (old : Option ℕ) → MatchOption old (HasNoSlot o b w.key) (IsSlotOf o b w.key)
-      → (q q' : OwnerState) (slot tag : ℕ) → q ≡ with_item (marked_with o b w t) p (item_size w.key w.value) w.key w.value → Takes q b old slot
-      → tag ≡ tag_of w.key → q' ≡ after (PutsEntry b slot (entry_of tag p)) q → Kept q' → Closes o w b t q'
+  pub ready : (q : OwnerState) → HasStored o w b t p q → (marked_in q.phase b ≡ 1) × IsMain q.shape b
+  pub closes : (old : Option ℕ) → MatchOption old (HasNoSlot o b w.key) (IsSlotOf o b w.key) → (q q' : OwnerState) (slot tag : ℕ) → HasStored o w b t p q
+      → Takes q b old slot → tag ≡ tag_of w.key → q' ≡ after (PutsEntry b slot (entry_of tag p)) q → Kept q' → Closes o w b t q'
 
--- what keeps a put
-
-kept_some : (found : Option Record) (p : ℕ) → option_map (λ (held : Record). held.offset) found ≡ Some p → (held : Record) × (found ≡ Some held) × (held.offset ≡ p)
-kept_some None p e = cc
-kept_some (Some held) p e = (held, refl, cc)
-
-kept_none : (found : Option Record) → option_map (λ (held : Record). held.offset) found ≡ None → found ≡ None
-kept_none None e = refl
-kept_none (Some held) e = cc
+-- the record that keeps a put, by its offset
+kept_by : (found : Option Record) → MatchOption (option_map (λ (r : Record). r.offset) found) (found ≡ None) (λ p. (r : Record) × (found ≡ Some r) × (r.offset ≡ p))
+kept_by None = refl
+kept_by (Some r) = (r, refl, refl)
 
 module _ (o : OwnerState) (s : Kept o) (may : MayWrite o) (w : Write) (is : IsWrite w) where
   abbrev b : ℕ
@@ -102,11 +99,13 @@ module _ (o : OwnerState) (s : Kept o) (may : MayWrite o) (w : Write) (is : IsWr
   abbrev h : Held
   h = held o s may.cached
 
-  held_at : (p : ℕ) → kept_offset o w ≡ Some p → (r : Record) × (kept_record (options_in o) h.m w ≡ Some r) × (r.offset ≡ p)
-  held_at p keeps = kept_some (kept_record (options_in o) h.m w) p (subst (λ (z : State). kept_offset_by (options_in o) z w ≡ Some p) h.before keeps)
+  kept_is : kept_offset o w ≡ option_map (λ (r : Record). r.offset) (kept_record (options_in o) h.m w)
+  kept_is = ap (λ (z : State). kept_offset_by (options_in o) z w) h.before
 
-  held_none : kept_offset o w ≡ None → kept_record (options_in o) h.m w ≡ None
-  held_none keeps = kept_none (kept_record (options_in o) h.m w) (subst (λ (z : State). kept_offset_by (options_in o) z w ≡ None) h.before keeps)
+  held_by : (offset : Option ℕ) → kept_offset o w ≡ offset
+      → MatchOption offset (kept_record (options_in o) h.m w ≡ None) (λ p. (r : Record) × (kept_record (options_in o) h.m w ≡ Some r) × (r.offset ≡ p))
+  held_by offset is = subst (λ (z : Option ℕ). MatchOption z (kept_record (options_in o) h.m w ≡ None) (λ p. (r : Record) × (kept_record (options_in o) h.m w ≡ Some r) × (r.offset ≡ p)))
+      (sym kept_is ∙ is) (kept_by (kept_record (options_in o) h.m w))
 
   -- The stamp after it
 
@@ -120,12 +119,12 @@ module _ (o : OwnerState) (s : Kept o) (may : MayWrite o) (w : Write) (is : IsWr
 
   pub stamp_rewritten : (p : ℕ) → w.op ≡ Put → kept_offset o w ≡ Some p → stamp_in o + 1 ≡ stamp_of (options_in o) (o.history ++ w ∷ [])
   stamp_rewritten p op keeps =
-      let r = held_at p keeps in
+      let r = held_by (Some p) keeps in
       ap (λ (n : ℕ). n + 1) (stamp_is h) ∙ sym (stamp_after _ (leaves.is_rewritten h w r.0 op r.1))
 
   pub stamp_appended : w.op ≡ Put → kept_offset o w ≡ None → stamp_in o + 65536 * size_of w ≡ stamp_of (options_in o) (o.history ++ w ∷ [])
   stamp_appended op keeps =
-      ap (λ (n : ℕ). n + 65536 * size_of w) (stamp_is h) ∙ sym (stamp_after _ (leaves.is_appended h w op (held_none keeps)))
+      ap (λ (n : ℕ). n + 65536 * size_of w) (stamp_is h) ∙ sym (stamp_after _ (leaves.is_appended h w op (held_by None keeps)))
 
   -- The write is marked by this stamp
 
@@ -188,7 +187,7 @@ module _ (o : OwnerState) (s : Kept o) (may : MayWrite o) (w : Write) (is : IsWr
 
     pub rewrites : w.op ≡ Put → (c p : ℕ) → c ≡ b → kept_offset o w ≡ Some p → Rewrites o w c t p
     rewrites op c p here keeps =
-        let r = held_at p keeps in
+        let r = held_by (Some p) keeps in
         let kept = keeps_put (options_in o) h.m w r.0 r.1 in
         let at = slot_of h b (stood o accepted) w.key r.0 refl kept.is in
         let its_key : r.0.key ≡ w.key = found_key w.key h.m.records r.0 kept.is in
@@ -231,15 +230,10 @@ module _ (o : OwnerState) (s : Kept o) (may : MayWrite o) (w : Write) (is : IsWr
       stored_stamp = ap tail_of (put_stamp o accepted p xs few ∙ (stamp ∙ stamp_after (made h w) refl))
 
       its_own : record_of (made h w) w.key ≡ Some (new_record h.m w.key w.value)
-      its_own = leaves.appended_own h w op (held_none keeps)
+      its_own = leaves.appended_own h w op (held_by None keeps)
 
       own_live : tail_of (made h w).stamp ≤ p + o.shape.words
-      own_live =
-          let size : size_of w ≤ largest_item = size_at_most w is in
-          let least = s.shape.ranges.words.0 in
-          let stamp = ap (λ (z : Cache). tail_of z.stamp) (leaves.is_appended h w op (held_none keeps)) in
-          let past = tail_past h.m.stamp (size_of w) in
-          omega arith
+      own_live = let most = (leaves.written h w is).most in let least = s.shape.ranges.words.0 in let now = stamp_is h in omega arith
 
       before : (old : Option ℕ) (slot : ℕ) → MatchOption old (HasNoSlot o b w.key) (IsSlotOf o b w.key) → Takes stored b old slot → (slot < 15) × Before h accepted slot
       before None slot none gives = slot_that_gives_way h accepted none stored refl
@@ -256,7 +250,7 @@ module _ (o : OwnerState) (s : Kept o) (may : MayWrite o) (w : Write) (is : IsWr
           let now = stamp_is h in
           let low : p < 2 ^ 48 = omega arith in
           put h accepted (after (PutsEntry b slot (entry_of (tag_of w.key) p)) stored).words k op slot (entry_of (tag_of w.key) p) spelt.1 spelt.0 (new_record h.m w.key w.value)
-          its_own (ap (λ (z : Option Record). begin_of z h.m) (held_none keeps)) own_live (entry_not_empty (tag_of w.key) p (tag_of-range w.key).0)
+          its_own (ap (λ (z : Option Record). begin_of z h.m) (held_by None keeps)) own_live (entry_not_empty (tag_of w.key) p (tag_of-range w.key).0)
           (entry_offset-entry_of (tag_of w.key) p low) (entry_tag-entry_of (tag_of w.key) p low) (entry_effect h accepted p xs few slot (entry_of (tag_of w.key) p) spelt.0)
 
       appends_here : Appends o w b t p
@@ -277,23 +271,25 @@ module _ (o : OwnerState) (s : Kept o) (may : MayWrite o) (w : Write) (is : IsWr
   -- Where a put is kept, by its key's slot
 
   pub no_slot_keeps : (c : ℕ) → c ≡ b → HasNoSlot o c w.key → kept_offset o w ≡ None
-  no_slot_keeps c here none = ap (λ (z : State). kept_offset_by (options_in o) z w) h.before
-      ∙ ap (λ (z : Option Record). option_map (λ (r : Record). r.offset) (cs.kept_if (options_in o) h.m w z)) (no_record h c (stands_at h may.idle w.key c here) w.key (sym here) none)
+  no_slot_keeps c here none = kept_is ∙ ap (λ (z : Option Record). option_map (λ (r : Record). r.offset) (cs.kept_if (options_in o) h.m w z))
+      (no_record h c (stands_at h may.idle w.key c here) w.key (sym here) none)
 
   kept_if_is : (fits : Bool) (r : Record) → then_some fits r.offset ≡ option_map (λ (r : Record). r.offset) (cond fits (Some r) None)
   kept_if_is true r = refl
   kept_if_is false r = refl
 
   pub slot_keeps : (c slot : ℕ) → c ≡ b → IsSlotOf o c w.key slot → (stamp offset room : ℕ) → stamp ≡ stamp_in o → offset ≡ entry_offset (entry_in o c slot)
-      → room ≡ room_in o (entry_in o c slot) → (fits : Bool) → fits ≡ (nat_le (size_of w) room && is_live o.shape.words (stamp + 1) offset)
-      → then_some fits offset ≡ kept_offset o w
+      → room ≡ room_in o (entry_in o c slot) → (fits : Bool)
+      → ((size_of w ≤ room) × (fits ≡ is_live o.shape.words (stamp + 1) offset)) ⊎ ((room < size_of w) × (fits ≡ false)) → then_some fits offset ≡ kept_offset o w
   slot_keeps c slot here found stamp offset room stamp_now offset_is room_now fits fits_is =
       let own = found_slot h c (stands_at h may.idle w.key c here) w.key (sym here) is.key_bytes slot found in
       let offset_held = offset_is ∙ sym own.1.offset in
       let room_held = room_now ∙ room_is o s c (entry_in o c slot) w.key (cell_at own.0).0 own.1.spelt in
       let stamp_held = stamp_now ∙ stamp_is h in
-      let may_keep = fits_is ∙ (λ j. nat_le (size_of w) (room_held j) && is_live o.shape.words (stamp_held j + 1) (offset_held j)) in
-      (λ j. then_some (may_keep j) (offset_held j))
+      let may_keep : fits ≡ (nat_le (size_of w) room && is_live o.shape.words (stamp + 1) offset) = elim fits_is [
+        | inl fit ↦ fit.1 ∙ ap (λ b. b && is_live o.shape.words (stamp + 1) offset) (sym (le-leb (size_of w) room fit.0))
+        | inr not ↦ not.1 ∙ ap (λ b. b && is_live o.shape.words (stamp + 1) offset) (sym (lt-leb (size_of w) room not.0))
+      ] in
+      (λ j. then_some ((may_keep ∙ (λ j. nat_le (size_of w) (room_held j) && is_live o.shape.words (stamp_held j + 1) (offset_held j))) j) (offset_held j))
       ∙ (kept_if_is (cs.may_keep (options_in o) h.m w own.0) own.0
-      ∙ (ap (λ (z : Option Record). option_map (λ (r : Record). r.offset) (cs.kept_if (options_in o) h.m w z)) (sym own.1.is)
-      ∙ ap (λ (z : State). kept_offset_by (options_in o) z w) (sym h.before)))
+      ∙ (ap (λ (z : Option Record). option_map (λ (r : Record). r.offset) (cs.kept_if (options_in o) h.m w z)) (sym own.1.is) ∙ sym kept_is))

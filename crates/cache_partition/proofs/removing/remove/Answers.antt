@@ -1,6 +1,6 @@
-use Rattle.cache_partition.proofs.Words.{Del, HasNoSlot, IsSlotOf, IsSought, IsWrite, MatchOption, MayEnd, MayWrite, Option, OwnerState, PutsEntry}
-use Rattle.cache_partition.proofs.Words.{[], after, ap, arith, had_record, options_in, refl, stamp_of, subst, sym, write_of, ℕ, ◌++◌, ◌+◌, ◌∙◌, ◌∷◌}
-use Rattle.cache_partition.proofs.Words.{◌≡◌}
+use Rattle.cache_partition.proofs.Words.{Del, HasNoSlot, IsSlotOf, IsWrite, Kept, MatchOption, MayEnd, Option, OwnerState, PutsEntry, Write, []}
+use Rattle.cache_partition.proofs.Words.{after, ap, arith, marked_with, options_in, refl, stamp_of, subst, sym, write_of, ℕ, ◌++◌, ◌+◌, ◌∙◌}
+use Rattle.cache_partition.proofs.Words.{◌∷◌, ◌≡◌}
 use Rattle.cache_partition.proofs.Held.{found_had, held, stands_at}
 use Rattle.cache_partition.proofs.Writes.{Deletes, delete_is, deletes, stamp_deleted, stamp_limit}
 use Rattle.cache_partition.proofs.removing.remove.Given.{Over}
@@ -9,52 +9,53 @@ use Rattle.cache_partition.proofs.removing.remove.Goals.{After-seek-sought, in-S
 
 module _ (g : Over) (c : After-seek-sought g) where
   abbrev o : OwnerState
-  o = g.W.OwnerWords.owner c.seek-sought.new.words
+  o = g.W.OwnerWords.owner c.args.words.now
 
-  may : MayWrite o
-  may = subst MayWrite (sym c.seek-sought.ensures.same.0) c.requires.may
+  abbrev w : Write
+  w = write_of Del c.args.key.now []
 
-  sought : IsSought o c.args.key.now c.seek-sought.result
-  sought = subst (λ (z : OwnerState). IsSought z c.args.key.now c.seek-sought.result) (sym c.seek-sought.ensures.same.0) c.seek-sought.ensures.sought
+  kept : Kept o
+  kept = subst Kept c.seek-sought.ensures.same.0 c.seek-sought.ensures.kept
 
-  is : IsWrite (write_of Del c.args.key.now [])
+  is : IsWrite w
   is = delete_is c.args.key.now c.requires.key (λ k. omega (arith, c.type_inv.key k))
 
-  stamp : c.seek-sought.result.stamp + 1 ≡ stamp_of (options_in o) (o.history ++ write_of Del c.args.key.now [] ∷ [])
-  stamp = ap (λ (n : ℕ). n + 1) sought.stamp ∙ stamp_deleted o c.seek-sought.ensures.kept may (write_of Del c.args.key.now []) is refl
+  stamp : c.seek-sought.result.stamp + 1 ≡ stamp_of (options_in o) (o.history ++ w ∷ [])
+  stamp = ap (λ (n : ℕ). n + 1) c.seek-sought.ensures.sought.stamp ∙ stamp_deleted o kept c.requires.may w is refl
 
-  steps : Deletes o (write_of Del c.args.key.now []) c.seek-sought.result.bucket (c.seek-sought.result.stamp + 1)
-  steps = deletes o c.seek-sought.ensures.kept may (write_of Del c.args.key.now []) is (c.seek-sought.result.stamp + 1) stamp refl c.seek-sought.result.bucket sought.bucket
+  steps : Deletes o w c.seek-sought.result.bucket (c.seek-sought.result.stamp + 1)
+  steps = deletes o kept c.requires.may w is (c.seek-sought.result.stamp + 1) stamp refl c.seek-sought.result.bucket c.seek-sought.ensures.sought.bucket
 
 pub overflow_add-stamp : goal.overflow_add-stamp
 overflow_add-stamp g c =
-    let small = stamp_limit (g.W.OwnerWords.owner c.seek-sought.new.words) c.seek-sought.ensures.kept in
-    let old = (sought g (goal.at.overflow_add-stamp g c).After-seek-sought).stamp in
+    let small = stamp_limit (g.W.OwnerWords.owner c.args.words.now) (kept g (goal.at.overflow_add-stamp g c).After-seek-sought) in
+    let old = c.seek-sought.ensures.sought.stamp in
     omega arith
 
 pub begin-requires-clause-stamp : goal.begin-requires-clause-stamp
-begin-requires-clause-stamp g c = stamp g (goal.at.begin-requires-clause-stamp g c).After-seek-sought
+begin-requires-clause-stamp g c =
+    subst (λ (z : OwnerState). c.seek-sought.result.stamp + 1 ≡ stamp_of (options_in z) (z.history ++ write_of Del c.args.key.now [] ∷ [])) (sym c.seek-sought.ensures.same.0)
+    (stamp g (goal.at.begin-requires-clause-stamp g c).After-seek-sought)
 
 pub end_write-requires : goal.end_write-requires
 end_write-requires g c =
     let owner = g.W.OwnerWords.owner in
     let z = (goal.at.end_write-requires g c).After-seek-sought in
     let b = c.seek-sought.result.bucket in
-    let At = λ (slot : Option ℕ). MatchOption slot (HasNoSlot (owner c.seek-sought.new.words) b c.args.key.now) (IsSlotOf (owner c.seek-sought.new.words) b c.args.key.now) in
+    let found = c.seek-sought.ensures.sought.found in
+    let At = λ (slot : Option ℕ). MatchOption slot (HasNoSlot (owner c.args.words.now) b c.args.key.now) (IsSlotOf (owner c.args.words.now) b c.args.key.now) in
+    let marked = c.begin.ensures.marked ∙ ap (λ (o : OwnerState). marked_with o b (write_of Del c.args.key.now []) (c.seek-sought.result.stamp + 1)) c.seek-sought.ensures.same.0 in
     elim c.match-sought.branch [
       | in-Some w ↦ subst (λ (q : OwnerState). MayEnd q c.seek-sought.result.bucket) (sym (ap owner w.words-is))
-          ((steps g z).cleared w.in-Some.slot (subst At w.in-Some.is (sought g z).found) _
-          (w.clear.ensures.entry ∙ ap (after (PutsEntry b w.in-Some.slot 0)) c.begin.ensures.marked) w.clear.ensures.kept).end
+          ((steps g z).cleared w.in-Some.slot (subst At w.in-Some.is found) _ (w.clear.ensures.entry ∙ ap (after (PutsEntry b w.in-Some.slot 0)) marked) w.clear.ensures.kept).end
       | in_default w ↦ subst (λ (q : OwnerState). MayEnd q c.seek-sought.result.bucket) (sym (ap owner w.words-is))
-          ((steps g z).absent (subst At w.in_default.is (sought g z).found) _ c.begin.ensures.marked c.begin.ensures.kept).end
+          ((steps g z).absent (subst At w.in_default.is found) _ marked c.begin.ensures.kept).end
     ]
 
 pub returns-clause-found : goal.returns-clause-found
 returns-clause-found g c =
     let z = (goal.at.returns-clause-found g c).After-seek-sought in
-    let h = held (g.W.OwnerWords.owner c.seek-sought.new.words) c.seek-sought.ensures.kept (may g z).cached in
-    let here = (sought g z).bucket in
-    c.is_some.ensures
-    ∙ (found_had h c.seek-sought.result.bucket (stands_at h (may g z).idle c.args.key.now c.seek-sought.result.bucket here) c.args.key.now (sym here)
-    (is g z).key_bytes c.seek-sought.result.slot (sought g z).found
-    ∙ ap (λ (o : OwnerState). had_record o c.args.key.now) c.seek-sought.ensures.same.0)
+    let h = held (g.W.OwnerWords.owner c.args.words.now) (kept g z) c.requires.may.cached in
+    let here = c.seek-sought.ensures.sought.bucket in
+    c.is_some.ensures ∙ found_had h c.seek-sought.result.bucket (stands_at h c.requires.may.idle c.args.key.now c.seek-sought.result.bucket here) c.args.key.now (sym here)
+    (is g z).key_bytes c.seek-sought.result.slot c.seek-sought.ensures.sought.found

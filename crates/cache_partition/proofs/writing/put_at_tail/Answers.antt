@@ -1,7 +1,6 @@
-use Rattle.cache_partition.proofs.Words.{MayAppend, OwnerState, Put, Write, [], ap, arith, hash_tag, item_size, item_size-most, marked_with}
-use Rattle.cache_partition.proofs.Words.{options_in, refl, stamp_of, subst, sym, tag_of_hash, tail_of, with_item, write_of, ℕ, ◌*◌, ◌++◌, ◌+◌, ◌∙◌}
-use Rattle.cache_partition.proofs.Words.{◌∷◌, ◌≡◌}
-use Rattle.cache_partition.proofs.Writes.{Appends, Closes, appends, stamp_appended, stamp_limit}
+use Rattle.cache_partition.proofs.Words.{MayAppend, OwnerState, Put, Write, [], ap, arith, hash_tag, item_size, item_size-most, options_in, refl}
+use Rattle.cache_partition.proofs.Words.{stamp_of, subst, sym, tag_of_hash, tail_of, with_item, write_of, ℕ, ◌*◌, ◌++◌, ◌+◌, ◌∙◌, ◌∷◌, ◌≡◌}
+use Rattle.cache_partition.proofs.Writes.{Appends, Closes, HasStored, appends, stamp_appended, stamp_limit}
 use Rattle.cache_partition.proofs.writing.put_at_tail.Given.{Over}
 use Rattle.cache_partition.proofs.writing.put_at_tail.Goals as goal
 use Rattle.cache_partition.proofs.writing.put_at_tail.Goals.{After-append_hashed, After-from, After-place}
@@ -32,17 +31,16 @@ module _ (g : Over) (c : After-from g) where
       c.requires.sought.bucket (c.tail_of-tail.ensures ∙ ap tail_of c.requires.sought.stamp)
 
 -- the item is stored
-stored : (g : Over) (c : After-append_hashed g) → g.W.OwnerWords.owner c.append_hashed.new.words
-    ≡ with_item (marked_with (g.W.OwnerWords.owner c.args.words.now) c.args.sought.now.bucket (write_of Put c.args.key.now c.args.value.now) (c.args.sought.now.stamp + 65536 * c.from.result))
-    c.tail_of-tail.result (item_size c.args.key.now c.args.value.now) c.args.key.now c.args.value.now
+stored : (g : Over) (c : After-append_hashed g) → HasStored (g.W.OwnerWords.owner c.args.words.now) (write_of Put c.args.key.now c.args.value.now) c.args.sought.now.bucket
+    (c.args.sought.now.stamp + 65536 * c.from.result) c.tail_of-tail.result (g.W.OwnerWords.owner c.append_hashed.new.words)
 stored g c = c.append_hashed.ensures.item
-    ∙ ap (λ (z : OwnerState). with_item z c.tail_of-tail.result (item_size c.args.key.now c.args.value.now) c.args.key.now c.args.value.now) c.begin.ensures.marked
+    ∙ ap (λ (q : OwnerState). with_item q c.tail_of-tail.result (item_size c.args.key.now c.args.value.now) c.args.key.now c.args.value.now) c.begin.ensures.marked
 
 -- and its slot names it
 closes : (g : Over) (c : After-place g) → Appends (g.W.OwnerWords.owner c.args.words.now) (write_of Put c.args.key.now c.args.value.now) c.args.sought.now.bucket
-    (c.args.sought.now.stamp + 65536 * c.from.result) c.tail_of-tail.result → g.W.OwnerWords.owner c.append_hashed.new.words
-    ≡ with_item (marked_with (g.W.OwnerWords.owner c.args.words.now) c.args.sought.now.bucket (write_of Put c.args.key.now c.args.value.now) (c.args.sought.now.stamp + 65536 * c.from.result))
-    c.tail_of-tail.result (item_size c.args.key.now c.args.value.now) c.args.key.now c.args.value.now
+    (c.args.sought.now.stamp + 65536 * c.from.result) c.tail_of-tail.result
+    → HasStored (g.W.OwnerWords.owner c.args.words.now) (write_of Put c.args.key.now c.args.value.now) c.args.sought.now.bucket
+    (c.args.sought.now.stamp + 65536 * c.from.result) c.tail_of-tail.result (g.W.OwnerWords.owner c.append_hashed.new.words)
     → Closes (g.W.OwnerWords.owner c.args.words.now) (write_of Put c.args.key.now c.args.value.now) c.args.sought.now.bucket (c.args.sought.now.stamp + 65536 * c.from.result)
     (g.W.OwnerWords.owner c.place.new.words)
 closes g c steps stored = steps.closes c.args.sought.now.slot c.requires.sought.found _ _ c.place.result c.tag_of.result stored c.place.ensures.slot
@@ -65,11 +63,7 @@ pub end_write-requires : goal.end_write-requires
 end_write-requires g c = let z = goal.at.end_write-requires g c in (closes g z.After-place (steps g z.After-from) (stored g z.After-append_hashed)).end
 
 pub returns-clause-gains : goal.returns-clause-gains
-returns-clause-gains g c =
-    let z = goal.at.returns-clause-gains g c in
-    (closes g z.After-place (steps g z.After-from) (stored g z.After-append_hashed)).gains _ c.end_write.ensures.event
+returns-clause-gains g c = let z = goal.at.returns-clause-gains g c in (closes g z.After-place (steps g z.After-from) (stored g z.After-append_hashed)).gains _ c.end_write.ensures.event
 
 pub returns-clause-stamp : goal.returns-clause-stamp
-returns-clause-stamp g c =
-    let z = goal.at.returns-clause-stamp g c in
-    (closes g z.After-place (steps g z.After-from) (stored g z.After-append_hashed)).stamp _ c.end_write.ensures.event
+returns-clause-stamp g c = let z = goal.at.returns-clause-stamp g c in (closes g z.After-place (steps g z.After-from) (stored g z.After-append_hashed)).stamp _ c.end_write.ensures.event
