@@ -2,12 +2,12 @@
 use Rattle.cache_partition.proofs.Words.{AcceptedWrite, Cell, GivesWay, HasLiveEntry, HasNoSlot, HoldsOfNone, IsPassed, IsSlotOf, List, None}
 use Rattle.cache_partition.proofs.Words.{OwnerState, Record, Some, Spells, ap, arith, bucket_in, cases_lt, cell_at, count_by, empty, entry_in}
 use Rattle.cache_partition.proofs.Words.{entry_offset, find, fits_kept, here_of, inl, inr, oldest, only_key, options_in, passed, record_of}
-use Rattle.cache_partition.proofs.Words.{refl, same_Some, stamp_in, stood, subst, sym, tail_of, window_kept, written_same, ℕ, ⊎_elim, ◌+◌}
-use Rattle.cache_partition.proofs.Words.{◌<◌, ◌∙◌, ◌≡◌, ◌≢◌, ◌≤◌}
+use Rattle.cache_partition.proofs.Words.{refl, same_Some, stamp_in, stood, subst, sym, tail_of, window_kept, written_same, ℕ, ◌+◌, ◌<◌, ◌∙◌}
+use Rattle.cache_partition.proofs.Words.{◌≡◌, ◌≢◌, ◌≤◌}
 use Rattle.cache_partition.proofs.Counts as counts
 use Rattle.cache_partition.proofs.Leaves as leaves
 use Rattle.cache_partition.proofs.Displaced.{some_found}
-use Rattle.cache_partition.proofs.Held.{HasRecord, HasSlot, Held, live_entry, machine, one_slot, record_in, slot_is, slot_of, stamp_is}
+use Rattle.cache_partition.proofs.Held.{HasRecord, HasSlot, Held, live_entry, machine, only_slot, record_in, slot_is, slot_key, slot_of, stamp_is}
 use Rattle.cache_partition.proofs.Leaves.{made}
 use Rattle.cache_partition.proofs.OneSlot.{Before}
 
@@ -30,15 +30,13 @@ module _ (h : Held) (a : AcceptedWrite h.o) where
   own_slot slot r at =
       let below = at.entry.in_bucket in record {
         lost = None;
-        leaves = none_lost slot (omega arith) (λ r' found live. ⊎_elim
-            (λ (mine : (r'.key ≡ a.w.key) × (slot ≡ 15)). let last = mine.1 in absurd (omega arith))
-            (λ (other : (r'.key ≢ a.w.key) × HasSlot h b r'.key r' slot). other.0 (only_key h.o h.kept b b _ _ r'.key a.w.key _ _ other.1.spelt at.spelt refl)));
+        leaves = none_lost slot (omega arith) (λ r' found live is. elim is [
+          | inl mine ↦ let last = mine.1 in absurd (omega arith)
+          | inr other ↦ other.0 (slot_key h b slot _ _ r'.key a.w.key _ _ other.1.entry at.entry other.1.spelt at.spelt)
+        ]);
         own = λ lost. lost;
-        others = λ i y key cell other e sp. (
-          λ same. other (one_slot h b (stood h.o a) i slot y (entry_in h.o b slot) a.w.key cell (cell_at r).0 e at.entry (subst (λ (k : List ℕ). Spells h.o b y k cell) same sp) at.spelt),
-          λ lost. lost,
-        );
-        gone = λ y key cell e live sp. inl (only_key h.o h.kept b b y (entry_in h.o b slot) key a.w.key cell (cell_at r).0 sp at.spelt (ap entry_offset (sym e.found)));
+        others = λ i y key cell other e sp. (only_slot h b (stood h.o a) slot _ a.w.key _ at.entry at.spelt i y key cell other e sp, λ lost. lost);
+        gone = λ y key cell e live sp. inl (slot_key h b slot y _ key a.w.key cell _ e at.entry sp at.spelt);
       }
 
   -- Where the key has no slot, all live entries spell other keys.
@@ -47,35 +45,24 @@ module _ (h : Held) (a : AcceptedWrite h.o) where
     spell_others : (i y : ℕ) (key : List ℕ) (cell : Cell) → HasLiveEntry h.o b b i y → Spells h.o b y key cell → key ≢ a.w.key
     spell_others i y key cell e sp same = none i (subst (λ (k : List ℕ). IsSlotOf h.o b k i) same (slot_is h b i y key cell e sp))
 
-    free_slot : (slot : ℕ) → slot < 16 → IsFree slot → ((y : ℕ) → HasLiveEntry h.o b b slot y → tail_of (made h a.w).stamp ≤ entry_offset y + h.o.shape.words → ⊥) → Before h a slot
-    free_slot slot low free dead = record {
+    -- a slot without an entry that stays live, or none of them where the write leaves the key no record
+    pub dead_slot : (slot : ℕ) → slot < 16 → (slot ≡ 15 → record_of (made h a.w) a.w.key ≡ None)
+        → ((y : ℕ) → HasLiveEntry h.o b b slot y → tail_of (made h a.w).stamp ≤ entry_offset y + h.o.shape.words → ⊥) → Before h a slot
+    dead_slot slot low no_record dead = record {
       lost = None;
-      leaves = none_lost slot low free;
+      leaves = none_lost slot low (λ r found live is. elim is [
+        | inl mine ↦ cc (sym (no_record mine.1) ∙ (ap (record_of (made h a.w)) (sym mine.0) ∙ found))
+        | inr at ↦ dead (entry_in h.o b slot) at.1.entry (let offset = at.1.offset in omega arith)
+      ]);
       own = λ lost. lost;
       others = λ i y key cell other e sp. (spell_others i y key cell e sp, λ lost. lost);
       gone = λ y key cell e live sp. absurd (dead y e live);
     }
 
-    -- none of them, where the write leaves the key no record
-    pub no_slot : record_of (made h a.w) a.w.key ≡ None → Before h a 15
-    no_slot no_record = free_slot 15 (omega arith)
-        (λ r found live. ⊎_elim
-        (λ (mine : (r.key ≡ a.w.key) × (15 ≡ 15)). cc (sym no_record ∙ (ap (record_of (made h a.w)) (sym mine.0) ∙ found)))
-        (λ (slot : (r.key ≢ a.w.key) × HasSlot h b r.key r 15). let below = slot.1.entry.in_bucket in absurd (omega arith)))
-        (λ y e live. let below = e.in_bucket in absurd (omega arith))
-
-    module _ (slot : ℕ) (below : slot < 15) where
-      -- one that is empty or whose item the log passes
-      dead_slot : (entry_in h.o b slot ≢ 0 → tail_of (made h a.w).stamp ≤ entry_offset (entry_in h.o b slot) + h.o.shape.words → ⊥) → Before h a slot
-      dead_slot dead = free_slot slot (omega arith)
-          (λ r found live. ⊎_elim
-          (λ (mine : (r.key ≡ a.w.key) × (slot ≡ 15)). let last = mine.1 in absurd (omega arith))
-          (λ (at : (r.key ≢ a.w.key) × HasSlot h b r.key r slot). dead at.1.entry.live.0 (let offset = at.1.offset in omega arith)))
-          (λ y e live. dead (λ zero. e.live.0 (sym e.found ∙ zero)) (let same = ap entry_offset e.found in omega arith))
-
-      -- the one of least offset, where all are live: its item is the bucket's oldest, which is displaced, as the write appends one
-      module _ (own : Record) (its_own : record_of (made h a.w) a.w.key ≡ Some own) (at_tail : own.offset ≡ tail_of h.m.stamp) (own_live : tail_of (made h a.w).stamp ≤ own.offset + h.o.shape.words)
-          (live : (i : ℕ) → i < 15 → (entry_in h.o b i ≢ 0) × (tail_of (made h a.w).stamp ≤ entry_offset (entry_in h.o b i) + h.o.shape.words))
+    -- where a record is appended for the key
+    module _ (own : Record) (its_own : record_of (made h a.w) a.w.key ≡ Some own) (at_tail : own.offset ≡ tail_of h.m.stamp) (own_live : tail_of (made h a.w).stamp ≤ own.offset + h.o.shape.words) where
+      -- the one of least offset, where all are live: its item is the bucket's oldest, which is displaced
+      module _ (slot : ℕ) (below : slot < 15) (live : (i : ℕ) → i < 15 → (entry_in h.o b i ≢ 0) × (tail_of (made h a.w).stamp ≤ entry_offset (entry_in h.o b i) + h.o.shape.words))
           (least : (i : ℕ) → i < 15 → entry_offset (entry_in h.o b slot) ≤ entry_offset (entry_in h.o b i)) where
         many : count_by (here_of (options_in h.o) a.w) lives ≡ 16
         many = counts.many h a.w a.is (stood h.o a) own its_own own_live none live
@@ -130,27 +117,29 @@ module _ (h : Held) (a : AcceptedWrite h.o) where
           own = λ same. first_other (sym same);
           others = λ i y key cell other e sp. (
             spell_others i y key cell e sp,
-            λ same. other (one_slot h b (stood h.o a) i slot y (entry_in h.o b slot) names.0 cell names.1 e slot_live (subst (λ (k : List ℕ). Spells h.o b y k cell) (same ∙ sym names_first) sp) names.2),
+            λ same. only_slot h b (stood h.o a) slot _ names.0 _ slot_live names.2 i y key cell other e sp (same ∙ sym names_first),
           );
-          gone = λ y key cell e alive sp.
-              inr (only_key h.o h.kept b b y (entry_in h.o b slot) key names.0 cell names.1 sp names.2 (ap entry_offset (sym e.found)) ∙ names_first);
+          gone = λ y key cell e alive sp. inr (slot_key h b slot y _ key names.0 cell _ e slot_live sp names.2 ∙ names_first);
         }
 
-    -- the one that gives way, in a state with the same entries and the new stamp
-    module _ (p : OwnerState) (words_are : p.shape.words ≡ h.o.shape.words) (same : (i : ℕ) → i < 15 → entry_in p b i ≡ entry_in h.o b i) (stamp : tail_of (stamp_in p) ≡ tail_of (made h a.w).stamp)
-        (own : Record) (its_own : record_of (made h a.w) a.w.key ≡ Some own) (at_tail : own.offset ≡ tail_of h.m.stamp) (own_live : tail_of (made h a.w).stamp ≤ own.offset + h.o.shape.words) where
-      live_in : HoldsOfNone (IsPassed p b) → (i : ℕ) → i < 15 → tail_of (made h a.w).stamp ≤ entry_offset (entry_in h.o b i) + h.o.shape.words
-      live_in all i l = elim (cases_lt (entry_offset (entry_in h.o b i) + h.o.shape.words) (tail_of (made h a.w).stamp)) [
-        | inl gone ↦ absurd (all i l (let offset = ap entry_offset (same i l) in omega arith))
-        | inr there ↦ there
-      ]
+      -- the one that gives way, in a state with the same entries and the new stamp
+      module _ (p : OwnerState) (words_are : p.shape.words ≡ h.o.shape.words) (same : (i : ℕ) → i < 15 → entry_in p b i ≡ entry_in h.o b i) (stamp : tail_of (stamp_in p) ≡ tail_of (made h a.w).stamp) where
+        live_in : HoldsOfNone (IsPassed p b) → (i : ℕ) → i < 15 → tail_of (made h a.w).stamp ≤ entry_offset (entry_in h.o b i) + h.o.shape.words
+        live_in all i l = elim (cases_lt (entry_offset (entry_in h.o b i) + h.o.shape.words) (tail_of (made h a.w).stamp)) [
+          | inl gone ↦ absurd (all i l (let offset = ap entry_offset (same i l) in omega arith))
+          | inr there ↦ there
+        ]
 
-      pub slot_that_gives_way : (slot : ℕ) → GivesWay p b slot → (slot < 15) × Before h a slot
-      slot_that_gives_way slot (empty is) = (is.in_bucket, dead_slot slot is.in_bucket (λ some alive. some (sym (same slot is.in_bucket) ∙ is.holds)))
-      slot_that_gives_way slot (passed full is) =
-          (is.in_bucket, dead_slot slot is.in_bucket (λ some alive. let gone = is.holds in let offset = ap entry_offset (same slot is.in_bucket) in omega arith))
-      slot_that_gives_way slot (oldest full all is) = (
-        is.in_bucket,
-        oldest_slot slot is.in_bucket own its_own at_tail own_live (λ i l. (λ zero. full i l (same i l ∙ zero), live_in all i l))
-            (λ i l. let least = is.least i l in let one = ap entry_offset (same slot is.in_bucket) in let two = ap entry_offset (same i l) in omega arith),
-      )
+        pub slot_that_gives_way : (slot : ℕ) → GivesWay p b slot → (slot < 15) × Before h a slot
+        slot_that_gives_way slot (empty is) =
+            let low = is.in_bucket in
+            (low, dead_slot slot (omega arith) (λ last. absurd (omega arith)) (λ y e live. e.live.0 (sym e.found ∙ (sym (same slot low) ∙ is.holds))))
+        slot_that_gives_way slot (passed full is) =
+            let low = is.in_bucket in
+            let gone = is.holds in
+            (low, dead_slot slot (omega arith) (λ last. absurd (omega arith)) (λ y e live. let offset = ap entry_offset (same slot low ∙ e.found) in omega arith))
+        slot_that_gives_way slot (oldest full all is) = (
+          is.in_bucket,
+          oldest_slot slot is.in_bucket (λ i l. (λ zero. full i l (same i l ∙ zero), live_in all i l))
+              (λ i l. let least = is.least i l in let one = ap entry_offset (same slot is.in_bucket) in let two = ap entry_offset (same i l) in omega arith),
+        )

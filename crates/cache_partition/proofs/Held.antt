@@ -1,10 +1,10 @@
 -- A partition in cache mode: what the slots of a bucket tell of the log's records.
 use Rattle.cache_partition.proofs.Words.{AreBytes, Cache, CacheMode, Cell, Has, HasKey, HasLiveEntry, HasNoSlot, Idle, IsKept, IsLiveItem, IsMain}
 use Rattle.cache_partition.proofs.Words.{IsSlotOf, Kept, List, MatchOption, Mode, None, Option, OwnerState, Record, Some, Spells, StandsFor, State}
-use Rattle.cache_partition.proofs.Words.{alone, answer_of, ap, arith, bucket_in, cache_state, cached_in, cell_at, entry_in, entry_offset, entry_tag}
-use Rattle.cache_partition.proofs.Words.{found_record, had_record, had_record_by, has_its_key, inl, is_some, kept_in, main_of, option_map, options_in}
-use Rattle.cache_partition.proofs.Words.{record_of, refl, same_Some, same_cell, spelt_key, stamp_in, stamp_of_state, stands_idle, state_in, subst}
-use Rattle.cache_partition.proofs.Words.{sym, tag_of-range, tail_of, value_in, ℕ, ◌+◌, ◌<◌, ◌∙◌, ◌≡◌, ◌≢◌, ◌≤◌}
+use Rattle.cache_partition.proofs.Words.{alone, answer_of, ap, arith, bucket_in, cache_state, cached_in, cell_at, entry_in, entry_offset}
+use Rattle.cache_partition.proofs.Words.{entry_tag, found_record, had_record, had_record_by, has_its_key, inl, is_some, kept_in, main_of, only_key}
+use Rattle.cache_partition.proofs.Words.{option_map, options_in, record_of, refl, same_Some, same_cell, spelt_key, stamp_in, stamp_of_state}
+use Rattle.cache_partition.proofs.Words.{stands_idle, state_in, subst, sym, tag_of-range, tail_of, value_in, ℕ, ◌+◌, ◌<◌, ◌∙◌, ◌≡◌, ◌≢◌, ◌≤◌}
 
 -- an owner's state in cache mode, with its machine
 pub record Held : Type 0 where
@@ -91,6 +91,11 @@ module _ (h : Held) where
       let some = (tag_of-range key).0 in
       live_entry b slot (entry_in h.o b slot) is.in_bucket refl (λ empty. let zero : entry_tag (entry_in h.o b slot) ≡ 0 = ap entry_tag empty in omega arith) is.live
 
+  -- the entry of a slot spells one key
+  pub slot_key : (b slot x x' : ℕ) (key key' : List ℕ) (cell cell' : Cell) → HasLiveEntry h.o b b slot x → HasLiveEntry h.o b b slot x'
+      → Spells h.o b x key cell → Spells h.o b x' key' cell' → key ≡ key'
+  slot_key b slot x x' key key' cell cell' e e' sp sp' = only_key h.o h.kept b b x x' key key' cell cell' sp sp' (ap entry_offset (sym e.found ∙ e'.found))
+
   module _ (b : ℕ) (stood : StandsFor h.o b) where
     -- each record of the bucket has one
     pub slot_of : (key : List ℕ) (r : Record) → bucket_in h.o key ≡ b → record_of h.m key ≡ Some r → (slot : ℕ) × HasSlot h b key r slot
@@ -114,6 +119,10 @@ module _ (h : Held) where
     one_slot i i' x x' key cell cell' e e' sp sp' =
         let one = same_cell (state_in h.o) key cell' cell (entry_offset x') (entry_offset x) sp'.has sp.has in
         (stood.once b i x b i' x' key cell e e' sp (subst (λ (z : Cell). Spells h.o b x' key z) one sp')).1
+
+    pub only_slot : (slot x : ℕ) (key : List ℕ) (cell : Cell) → HasLiveEntry h.o b b slot x → Spells h.o b x key cell
+        → (i y : ℕ) (key' : List ℕ) (cell' : Cell) → i ≢ slot → HasLiveEntry h.o b b i y → Spells h.o b y key' cell' → key' ≢ key
+    only_slot slot x key cell e sp i y key' cell' other e' sp' same = other (one_slot i slot y x key cell' cell e' e (subst (λ (k : List ℕ). Spells h.o b y k cell') same sp') sp)
 
     module _ (key : List ℕ) (here : bucket_in h.o key ≡ b) where
       -- a key without a slot has no record

@@ -16,7 +16,7 @@ use Rattle.cache_partition.proofs.Words.{write_of, written, written_marked, writ
 use Rattle.cache_partition.proofs.Words.{◌⊎◌}
 use Rattle.cache_partition.proofs.Leaves as leaves
 use Rattle.cache_partition.proofs.Held.{Held, found_slot, held, machine, no_record, slot_of, stamp_is, stands_at}
-use Rattle.cache_partition.proofs.Before.{no_slot, own_slot, slot_that_gives_way}
+use Rattle.cache_partition.proofs.Before.{dead_slot, own_slot, slot_that_gives_way}
 use Rattle.cache_partition.proofs.Leaves.{made}
 use Rattle.cache_partition.proofs.OneSlot.{Before, deleted, entry_effect, put, put_effect}
 
@@ -166,7 +166,7 @@ module _ (o : OwnerState) (s : Kept o) (may : MayWrite o) (w : Write) (is : IsWr
               (deleted h accepted (after (PutsEntry b slot 0) (marked o accepted)).words (subst Kept at k) op slot 0 (own_slot h accepted slot own.0 own.1) effect
               (λ y e. e.live.0 (sym e.found ∙ effect.here))) q at;
           absent = λ lacks q at k. closes (marked o accepted).words
-              (deleted h accepted (marked o accepted).words (subst Kept at k) op 15 _ (no_slot h accepted lacks (leaves.deleted_none h w op))
+              (deleted h accepted (marked o accepted).words (subst Kept at k) op 15 _ (dead_slot h accepted lacks 15 (omega arith) (λ last. leaves.deleted_none h w op) (λ y e live. let below = e.in_bucket in absurd (omega arith)))
               (put_effect h accepted 0 [] none 15 _ refl) (λ y e. let below = e.in_bucket in absurd (omega arith))) q at;
         }
 
@@ -236,8 +236,8 @@ module _ (o : OwnerState) (s : Kept o) (may : MayWrite o) (w : Write) (is : IsWr
       own_live = let most = (leaves.written h w is).most in let least = s.shape.ranges.words.0 in let now = stamp_is h in omega arith
 
       before : (old : Option ℕ) (slot : ℕ) → MatchOption old (HasNoSlot o b w.key) (IsSlotOf o b w.key) → Takes stored b old slot → (slot < 15) × Before h accepted slot
-      before None slot none gives = slot_that_gives_way h accepted none stored refl
-          (λ i l. put_entry o accepted p xs few b i (let main = main o accepted in omega arith) l) stored_stamp (new_record h.m w.key w.value) its_own refl own_live slot gives
+      before None slot none gives = slot_that_gives_way h accepted none (new_record h.m w.key w.value) its_own refl own_live stored refl
+          (λ i l. put_entry o accepted p xs few b i (let main = main o accepted in omega arith) l) stored_stamp slot gives
       before (Some old) slot found same =
           let its : IsSlotOf o b w.key slot = subst (IsSlotOf o b w.key) (sym same) found in
           let own = found_slot h b (stood o accepted) w.key refl is.key_bytes slot its in
