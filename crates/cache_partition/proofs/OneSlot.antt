@@ -6,8 +6,8 @@ use Rattle.cache_partition.proofs.Words.{cache_state, cell_at, dite, entry_in, e
 use Rattle.cache_partition.proofs.Words.{inr, item_at, item_in, item_put, item_puts_entry, item_words, length, length-item_words, main, offset_of}
 use Rattle.cache_partition.proofs.Words.{only_key, options_in, other_rooms, put_entry, put_item, put_long, put_others, put_words, record_of, refl}
 use Rattle.cache_partition.proofs.Words.{room_in, room_is, same_cell, same_or_other, spells_item, spells_on, stamp_in, stamp_rises, stands_cached}
-use Rattle.cache_partition.proofs.Words.{state_after, state_in, stood, subst, sym, tag_of, tail_of, window_kept, written, written_same, written_state}
-use Rattle.cache_partition.proofs.Words.{ℕ, ℕ_discrete, ◌+◌, ◌<◌, ◌∙◌, ◌≡◌, ◌≢◌, ◌≤◌, ◌⊎◌}
+use Rattle.cache_partition.proofs.Words.{state_after, state_in, stood, subst, subst₂, sym, tag_of, tail_of, window_kept, written, written_same}
+use Rattle.cache_partition.proofs.Words.{written_state, ℕ, ℕ_discrete, ◌+◌, ◌<◌, ◌∙◌, ◌≡◌, ◌≢◌, ◌≤◌, ◌⊎◌}
 use Rattle.cache_partition.proofs.Held.{Held, has_in, in_main, live_entry, live_is, machine, one_slot, record_in, slot_of, stamp_is}
 use Rattle.cache_partition.proofs.Leaves.{IsLost, Leaves, deleted_none, made, step_stamp}
 
@@ -47,13 +47,6 @@ module _ (h : Held) (a : AcceptedWrite h.o) where
     abbrev pub HasNone : ℕ → Type 0
     HasNone slot = ((x : ℕ) → ¬ (HasLiveEntry q b b slot x)) × (record_of (made h a.w) a.w.key ≡ None)
 
-    -- The slot has the written key's entry, or none, the other slots stay as they were, and so do the items of other keys.
-    pub record OneSlot (slot : ℕ) : Type 0 where
-      pub before : Before slot
-      pub entries : (i : ℕ) → i < 15 → i ≢ slot → entry_in q b i ≡ entry_in h.o b i
-      pub items : (key : List ℕ) (r : Record) → key ≢ a.w.key → record_of new key ≡ Some r → (i : ℕ) → i < r.room → item_in q (r.offset + i) ≡ item_in h.o (r.offset + i)
-      pub mine : HasMine slot ⊎ HasNone slot
-
     -- The words from the offset on are these, and no other item word has changed. The slot has the entry x, and no other
     -- entry of the bucket has changed.
     pub record Effect (slot x p : ℕ) (xs : List ℕ) : Type 0 where
@@ -66,7 +59,9 @@ module _ (h : Held) (a : AcceptedWrite h.o) where
       abbrev n : Held
       n = later t
 
-      module _ (slot : ℕ) (k : OneSlot slot) where
+      -- the put words are the write's own, and the slot has the written key's entry, or none
+      module _ (slot entry p : ℕ) (xs : List ℕ) (before : Before slot) (effect : Effect slot entry p xs) (belongs : (j : ℕ) → j < length xs → cs.IsOfItem (options_in h.o) h.m a.w (p + j))
+          (mine : HasMine slot ⊎ HasNone slot) where
         was : StandsFor h.o b
         was = stood h.o a
 
@@ -81,19 +76,18 @@ module _ (h : Held) (a : AcceptedWrite h.o) where
           pub whose : ((i ≡ slot) × (key ≡ a.w.key)) ⊎ ((i ≢ slot) × (key ≢ a.w.key) × HasLiveEntry h.o b b i x × Spells h.o b x key cell)
 
         -- an entry of another key that the machine leaves spells what it spelt
-        stays : (x : ℕ) (key : List ℕ) (cell : Cell) → key ≢ a.w.key → tail_of (stamp_in q) ≤ entry_offset x + h.o.shape.words → ¬ (IsLost k.before.lost key)
+        stays : (x : ℕ) (key : List ℕ) (cell : Cell) → key ≢ a.w.key → tail_of (stamp_in q) ≤ entry_offset x + h.o.shape.words → ¬ (IsLost before.lost key)
             → Spells h.o b x key cell → Spells q b x key cell
         stays x key cell other live kept sp =
             let named = record_in h key cell (entry_offset x) sp.has in
             let offset = named.offset in
             let stamp = stamp_now in
-            let left = k.before.leaves.on key named.r (written_same (options_in h.o) h.m a.w key other ∙ named.is) (omega arith) kept in
+            let left = before.leaves.on key named.r (written_same (options_in h.o) h.m a.w key other ∙ named.is) (omega arith) kept in
             let room : room_in h.o x ≡ named.r.room = room_is h.o h.kept b x key cell sp ∙ ap (λ (z : Cell). z.room) named.cell_is in
             let keeps : Keeps h.o a words x = λ i l.
-            subst (λ (z : ℕ). item_in q (z + i) ≡ item_in h.o (z + i)) offset (k.items key named.r other left i (omega arith)) in
-            spells_on h.o a words b x keeps key cell
-            (subst (λ (c : Cell). Has (state_in q) key c (entry_offset x)) (sym named.cell_is)
-            (subst (λ (z : ℕ). Has (state_in q) key (cell_at named.r).0 z) offset (has_in n key named.r left))) sp
+            subst (λ (z : ℕ). item_in q (z + i) ≡ item_in h.o (z + i)) offset (effect.others (named.r.offset + i) (λ j less same.
+            other_rooms (options_in h.o) h.kept.shape.ranges h.o.history h.kept.history.writes a.w a.is h.m h.before (p + j) (belongs j less) key other named.r left i (omega arith) (omega arith))) in
+            spells_on h.o a words b x keeps key cell (subst₂ (λ (c : Cell) (z : ℕ). Has (state_in q) key c z) (sym named.cell_is) offset (has_in n key named.r left)) sp
 
         now_other : (i x : ℕ) → HasLiveEntry q b b i x → i ≢ slot → Now i x
         now_other i x e other =
@@ -101,17 +95,17 @@ module _ (h : Held) (a : AcceptedWrite h.o) where
             let stamp = h.kept.stamp in
             let later = t.stamp in
             let more = stamp_rises (options_in h.o) h.o.history a.w in
-            let before = live_entry h b i x e.in_bucket (sym (k.entries i e.in_bucket other) ∙ e.found) e.live.0 (omega arith) in
-            let some = was.nothing_else b i x before in
-            let differs = k.before.others i x some.0 some.1 other before some.2 in
-            record { key = some.0; cell = some.1; now = stays x some.0 some.1 differs.0 live differs.1 some.2; whose = inr (other, differs.0, before, some.2) }
+            let old = live_entry h b i x e.in_bucket (sym (effect.entries i e.in_bucket other) ∙ e.found) e.live.0 (omega arith) in
+            let some = was.nothing_else b i x old in
+            let differs = before.others i x some.0 some.1 other old some.2 in
+            record { key = some.0; cell = some.1; now = stays x some.0 some.1 differs.0 live differs.1 some.2; whose = inr (other, differs.0, old, some.2) }
 
         now_mine : (i x : ℕ) → HasLiveEntry q b b i x → i ≡ slot → Now i x
-        now_mine i x e is = elim k.mine [
-          | inl mine ↦ record {
+        now_mine i x e is = elim mine [
+          | inl its ↦ record {
             key = a.w.key;
-            cell = mine.0;
-            now = subst (λ (z : ℕ). Spells q b z a.w.key mine.0) (ap (entry_in q b) (sym is) ∙ e.found) mine.2;
+            cell = its.0;
+            now = subst (λ (z : ℕ). Spells q b z a.w.key its.0) (ap (entry_in q b) (sym is) ∙ e.found) its.2;
             whose = inl (is, refl);
           }
           | inr none ↦ absurd (none.0 x (subst (λ (z : ℕ). HasLiveEntry q b b z x) is e))
@@ -136,42 +130,42 @@ module _ (h : Held) (a : AcceptedWrite h.o) where
 
         -- and each that has a record is
 
-        each_mine : (key : List ℕ) (cell : Cell) (p : ℕ) → Has (state_in q) key cell p → key ≡ a.w.key
+        each_mine : (key : List ℕ) (cell : Cell) (from : ℕ) → Has (state_in q) key cell from → key ≡ a.w.key
             → (c : ℕ) × (i : ℕ) × (x : ℕ) × HasLiveEntry q b c i x × Spells q b x key cell
-        each_mine key cell p has is = elim k.mine [
-          | inl mine ↦
-              let sp : Spells q b (entry_in q b slot) key mine.0 = subst (λ (z : List ℕ). Spells q b (entry_in q b slot) z mine.0) (sym is) mine.2 in
-              let same = same_cell (state_in q) key mine.0 cell (entry_offset (entry_in q b slot)) p sp.has has in
-              (b, slot, entry_in q b slot, mine.1, subst (λ (z : Cell). Spells q b (entry_in q b slot) key z) same sp)
+        each_mine key cell from has is = elim mine [
+          | inl its ↦
+              let sp : Spells q b (entry_in q b slot) key its.0 = subst (λ (z : List ℕ). Spells q b (entry_in q b slot) z its.0) (sym is) its.2 in
+              let same = same_cell (state_in q) key its.0 cell (entry_offset (entry_in q b slot)) from sp.has has in
+              (b, slot, entry_in q b slot, its.1, subst (λ (z : Cell). Spells q b (entry_in q b slot) key z) same sp)
           | inr none ↦
-              let found = record_in n key cell p has in
-              cc (sym none.1 ∙ (ap (record_of (made h a.w)) (sym is) ∙ (k.before.leaves.back key found.r found.is).0))
+              let found = record_in n key cell from has in
+              cc (sym none.1 ∙ (ap (record_of (made h a.w)) (sym is) ∙ (before.leaves.back key found.r found.is).0))
         ]
 
-        each_other : (key : List ℕ) (cell : Cell) (p : ℕ) → bucket_in h.o key ≡ b → Has (state_in q) key cell p → key ≢ a.w.key
+        each_other : (key : List ℕ) (cell : Cell) (from : ℕ) → bucket_in h.o key ≡ b → Has (state_in q) key cell from → key ≢ a.w.key
             → (c : ℕ) × (i : ℕ) × (x : ℕ) × HasLiveEntry q b c i x × Spells q b x key cell
-        each_other key cell p here has other =
-            let found = record_in n key cell p has in
-            let before = k.before.leaves.back key found.r found.is in
-            let at = slot_of h b was key found.r here (sym (written_same (options_in h.o) h.m a.w key other) ∙ before.0) in
+        each_other key cell from here has other =
+            let found = record_in n key cell from has in
+            let was_left = before.leaves.back key found.r found.is in
+            let at = slot_of h b was key found.r here (sym (written_same (options_in h.o) h.m a.w key other) ∙ was_left.0) in
             let offset = at.1.offset in
             let stamp = stamp_is n in
             let now = stamp_now in
             let window = (window_kept (options_in h.o) new (machine n) key found.r found.is).0 in
-            let not_slot : at.0 ≢ slot = λ is. elim (k.before.gone (entry_in h.o b at.0) key (cell_at found.r).0
-            (subst (λ (z : ℕ). HasLiveEntry h.o b b z (entry_in h.o b at.0)) is at.1.entry) (omega arith) at.1.spelt) [ inl mine ↦ other mine | inr lost ↦ before.1 lost ] in (
+            let not_slot : at.0 ≢ slot = λ is. elim (before.gone (entry_in h.o b at.0) key (cell_at found.r).0
+            (subst (λ (z : ℕ). HasLiveEntry h.o b b z (entry_in h.o b at.0)) is at.1.entry) (omega arith) at.1.spelt) [ inl mine ↦ other mine | inr lost ↦ was_left.1 lost ] in (
               b,
               at.0,
               entry_in h.o b at.0,
-              live_entry n b at.0 (entry_in h.o b at.0) at.1.entry.in_bucket (k.entries at.0 at.1.entry.in_bucket not_slot) at.1.entry.live.0 (omega arith),
+              live_entry n b at.0 (entry_in h.o b at.0) at.1.entry.in_bucket (effect.entries at.0 at.1.entry.in_bucket not_slot) at.1.entry.live.0 (omega arith),
               subst (λ (z : Cell). Spells q b (entry_in h.o b at.0) key z) (sym found.cell_is)
-                  (stays (entry_in h.o b at.0) key (cell_at found.r).0 other (omega arith) before.1 at.1.spelt),
+                  (stays (entry_in h.o b at.0) key (cell_at found.r).0 other (omega arith) was_left.1 at.1.spelt),
             )
 
         pub stands : StandsFor q b
         stands = stands_cached q t h.mode b (main h.o a)
             (λ c i x e. let z = now c i x e in (z.key, z.cell, z.now))
-            (λ key cell p here has. elim (same_or_other key a.w.key) [ inl mine ↦ each_mine key cell p has mine | inr other ↦ each_other key cell p here has other ])
+            (λ key cell from here has. elim (same_or_other key a.w.key) [ inl is ↦ each_mine key cell from has is | inr other ↦ each_other key cell from here has other ])
             (λ c i x c' i' x' key cell e e' sp sp'.
             let z = now c i x e in
             let z' = now c' i' x' e' in
@@ -179,20 +173,9 @@ module _ (h : Held) (a : AcceptedWrite h.o) where
             let keys' = only_key q t b b x' x' z'.key key z'.cell cell z'.now sp' refl in
             (sym (alone q t h.mode b c e.in_chain) ∙ alone q t h.mode b c' e'.in_chain, one i x i' x' z z' (keys ∙ sym keys')))
 
-      module _ (slot x p : ℕ) (xs : List ℕ) (before : Before slot) (effect : Effect slot x p xs) where
-        -- what the events make of the bucket is what the machine makes of it
-        as_machine : ((j : ℕ) → j < length xs → cs.IsOfItem (options_in h.o) h.m a.w (p + j)) → HasMine slot ⊎ HasNone slot → StandsFor q b
-        as_machine belongs mine = stands slot record {
-          before = before;
-          entries = effect.entries;
-          items = λ key r other found i below. effect.others (r.offset + i) (λ j less same.
-              other_rooms (options_in h.o) h.kept.shape.ranges h.o.history h.kept.history.writes a.w a.is h.m h.before (p + j) (belongs j less) key other r found i below (omega arith));
-          mine = mine;
-        }
-
       -- a delete
       pub deleted : a.w.op ≡ Del → (slot x : ℕ) → Before slot → Effect slot x 0 [] → ((y : ℕ) → ¬ (HasLiveEntry q b b slot y)) → StandsFor q b
-      deleted op slot x before effect none = as_machine slot x 0 [] before effect (λ j less. absurd (omega arith)) (inr (none, deleted_none h a.w op))
+      deleted op slot x before effect none = stands slot x 0 [] before effect (λ j less. absurd (omega arith)) (inr (none, deleted_none h a.w op))
 
       -- a put, which leaves its key this record with the new value: the slot's entry and item spell it
       pub put : a.w.op ≡ Put → (slot x : ℕ) → Before slot → slot < 15 → (r : Record) → record_of (made h a.w) a.w.key ≡ Some (record r { value = a.w.value })
@@ -203,7 +186,7 @@ module _ (h : Held) (a : AcceptedWrite h.o) where
           let stamp = stamp_is n ∙ step_stamp h a.w in
           let its_offset : entry_offset (entry_in q b slot) ≡ r.offset = ap entry_offset effect.here ∙ offset in
           let long = length-item_words r.room a.w.key a.w.value in
-          as_machine slot x r.offset (item_words r.room a.w.key a.w.value) before effect
+          stands slot x r.offset (item_words r.room a.w.key a.w.value) before effect
           (λ j less. put_item (options_in h.o) h.m a.w op (r.offset + j) (omega arith) (omega arith))
           (inl (
             (cell_at new).0,
