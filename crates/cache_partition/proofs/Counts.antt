@@ -5,7 +5,7 @@ use Rattle.cache_partition.proofs.Words.{AllOf, Bool, HasNoSlot, IsDistinct, IsD
 use Rattle.cache_partition.proofs.Words.{StandsFor, Write, [], ap, arith, bucket_in, cases_Bool, cases_lt, cell_at, cond, count_by, entry_in}
 use Rattle.cache_partition.proofs.Words.{entry_offset, eq-eqb, eqb, eqb-true, false, filter, find, has_key, here_of, inl, inr, le-length_from_below}
 use Rattle.cache_partition.proofs.Words.{leb-true, length, length-filter, length-le_from_distinct_below, list_any, nat_tests, ne_eqb, only_key}
-use Rattle.cache_partition.proofs.Words.{options_in, record_of, refl, same_Some, same_or_other, subst, suc, sym, tail_of, true, true≢false}
+use Rattle.cache_partition.proofs.Words.{options_in, record_of, refl, same_Some, same_or_other, stood, subst, suc, sym, tail_of, true, true≢false}
 use Rattle.cache_partition.proofs.Words.{written_same, ℕ, ⊎_elim, ◌+◌, ◌<◌, ◌∙◌, ◌∷◌, ◌≡◌, ◌≢◌, ◌≤◌, ◌⊎◌}
 use Rattle.cache_partition.proofs.Displaced.{all_filtered, each_found}
 use Rattle.cache_partition.proofs.Held.{HasSlot, Held, live_entry, one_slot, record_in, slot_is, slot_of, stamp_is}
@@ -41,6 +41,7 @@ module _ (h : Held) (w : Write) (is : IsWrite w) (stood : StandsFor h.o (bucket_
 
   record Numbered (r : Record) : Type 0 where
     pub number : ℕ
+    pub low : number < 16
     pub number_is : IsNumber r number
     pub found : record_of (made h w) r.key ≡ Some r
     pub live : tail_of (made h w).stamp ≤ r.offset + h.o.shape.words
@@ -49,16 +50,16 @@ module _ (h : Held) (w : Write) (is : IsWrite w) (stood : StandsFor h.o (bucket_
   numbered r at =
       let live = leb-true (tail_of (made h w).stamp) (r.offset + h.o.shape.words) at.0.1 in
       elim (same_or_other r.key w.key) [
-        | inl mine ↦ record { number = 15; number_is = inl (mine, refl); found = at.0.0; live = live }
+        | inl mine ↦ record { number = 15; low = omega arith; number_is = inl (mine, refl); found = at.0.0; live = live }
         | inr other ↦
             let slot = slot_of h b stood r.key r (eqb-true (bucket_in h.o r.key) b at.1) (sym (written_same (options_in h.o) h.m w r.key other) ∙ at.0.0) in
-            record { number = slot.0; number_is = inr (other, slot.1); found = at.0.0; live = live }
+            let low = slot.1.entry.in_bucket in
+            record { number = slot.0; low = omega arith; number_is = inr (other, slot.1); found = at.0.0; live = live }
       ]
 
   all_numbered : AllOf Numbered its
   all_numbered = found.all_weaker _ Numbered numbered its
-      (all_filtered _ here alive (all_filtered _ living (made h w).records
-      (each_found (made h w).records (written h w is).unique)))
+      (all_filtered _ here alive (all_filtered _ living (made h w).records (each_found (made h w).records (written h w is).unique)))
 
   numbers : (rs : List Record) → AllOf Numbered rs → List ℕ
   numbers [] all = []
@@ -94,20 +95,15 @@ module _ (h : Held) (w : Write) (is : IsWrite w) (stood : StandsFor h.o (bucket_
     numbers_distinct rs all.1 unique.1,
   )
 
-  below : (r : Record) (i : ℕ) → IsNumber r i → i < 16
-  below r i (inl mine) = let last = mine.1 in omega arith
-  below r i (inr slot) = let low = slot.1.entry.in_bucket in omega arith
-
   -- where a number is no record's, there are at most 15
   pub few : (j : ℕ) → j < 16 → ((r : Record) → record_of (made h w) r.key ≡ Some r → tail_of (made h w).stamp ≤ r.offset + h.o.shape.words → ¬ (IsNumber r j))
       → count_by here alive ≢ 16
   few j low free full =
       let none = numbers_each (λ i. eqb j i ≡ false) (λ r n. ne_eqb j n.number (λ same. free r n.found n.live (subst (IsNumber r) (sym same) n.number_is))) in
-      let unique = laid.unique_filter here alive
-      (laid.unique_filter _ (made h w).records (written h w is).unique) in
+      let unique = laid.unique_filter here alive (laid.unique_filter _ (made h w).records (written h w is).unique) in
       let most = length-le_from_distinct_below (j ∷ numbers its all_numbered) 16
       (IsDistinct-cons eqb j (numbers its all_numbered) none (numbers_distinct its all_numbered unique))
-      (below_all 16 (j ∷ numbers its all_numbered) (low, numbers_each (λ i. i < 16) (λ r n. below r n.number n.number_is))) in
+      (below_all 16 (j ∷ numbers its all_numbered) (low, numbers_each (λ i. i < 16) (λ r n. n.low))) in
       let long = length-numbers its all_numbered in
       let count = length-filter here alive in
       omega arith
@@ -160,10 +156,11 @@ module _ (h : Held) (w : Write) (is : IsWrite w) (stood : StandsFor h.o (bucket_
           let its_key = laid.found_key some.0 h.m.records named.r named.is in
           let offset = named.offset in
           found_among some.0 named.r i
-          (λ n. ⊎_elim
-          (λ (mine : (named.r.key ≡ w.key) × (n ≡ 15)). absurd (other (sym its_key ∙ mine.0)))
-          (λ (slot : (named.r.key ≢ w.key) × HasSlot h b named.r.key named.r n). one_slot h b stood n i (entry_in h.o b n) (entry_in h.o b i) some.0 (cell_at named.r).0 some.1 slot.1.entry e
-          (subst (λ (k : List ℕ). Spells h.o b (entry_in h.o b n) k (cell_at named.r).0) its_key slot.1.spelt) some.2))
+          (λ n n_is. elim n_is [
+            | inl mine ↦ absurd (other (sym its_key ∙ mine.0))
+            | inr slot ↦ one_slot h b stood n i (entry_in h.o b n) (entry_in h.o b i) some.0 (cell_at named.r).0 some.1 slot.1.entry e
+                (subst (λ (k : List ℕ). Spells h.o b (entry_in h.o b n) k (cell_at named.r).0) its_key slot.1.spelt) some.2
+          ])
           (written_same (options_in h.o) h.m w some.0 other ∙ named.is) (omega arith) some.2.bucket
 
       each : (i : ℕ) → i < 16 → list_any (eqb i) (numbers its all_numbered) ≡ true

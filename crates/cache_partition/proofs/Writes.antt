@@ -53,10 +53,10 @@ pub delete_is : (key : List ℕ) → KeyFits key → AreBytes key → IsWrite (w
 delete_is key key_fits key_bytes = record { key = key_fits; key_bytes = key_bytes; value = refl; value_bytes = λ k. omega arith }
 
 -- the stamp stays far below the limit of a word
-pub stamp_limit : (o : OwnerState) → Kept o → stamp_in o ≤ most_stamp
-stamp_limit o s =
+pub stamp_limit : (o : OwnerState) → Kept o → (stamp : ℕ) → stamp ≡ stamp_in o → stamp ≤ most_stamp
+stamp_limit o s stamp is =
     let small = stamp_small (options_in o) s.shape.ranges o.history s.history.accepted s.history.writes in
-    let is = s.stamp in
+    let stamp_is = s.stamp in
     omega arith
 
 -- What a write ends with
@@ -246,8 +246,7 @@ module _ (o : OwnerState) (s : Kept o) (may : MayWrite o) (w : Write) (is : IsWr
       stands : (slot : ℕ) → (slot < 15) × Before h accepted slot → Kept (after (PutsEntry b slot (entry_of (tag_of w.key) p)) stored)
           → StandsFor (after (PutsEntry b slot (entry_of (tag_of w.key) p)) stored) b
       stands slot spelt k =
-          let small = stamp_limit o s in
-          let now = stamp_is h in
+          let small = stamp_limit o s h.m.stamp (sym (stamp_is h)) in
           let low : p < 2 ^ 48 = omega arith in
           put h accepted (after (PutsEntry b slot (entry_of (tag_of w.key) p)) stored).words k op slot (entry_of (tag_of w.key) p) spelt.1 spelt.0 (new_record h.m w.key w.value)
           its_own (ap (λ (z : Option Record). begin_of z h.m) (held_by None keeps)) own_live (entry_not_empty (tag_of w.key) p (tag_of-range w.key).0)

@@ -13,8 +13,7 @@ returns-in_err-sought-clause-kept_offset g c =
 
 pub overflow_add-sought : goal.overflow_add-sought
 overflow_add-sought g c =
-    let small = stamp_limit (g.W.OwnerWords.owner c.args.words.now) c.requires.kept in
-    let old = c.requires.sought.stamp in
+    let small = stamp_limit (g.W.OwnerWords.owner c.args.words.now) c.requires.kept c.args.sought.now.stamp c.requires.sought.stamp in
     omega arith
 
 pub returns-clause-kept_offset : goal.returns-clause-kept_offset
