@@ -5,7 +5,7 @@ use Rattle.cache_partition.proofs.Words.{AllOf, Bool, HasNoSlot, IsDistinct, IsD
 use Rattle.cache_partition.proofs.Words.{StandsFor, Write, [], ap, arith, bucket_in, cases_Bool, cases_lt, cell_at, cond, count_by, entry_in}
 use Rattle.cache_partition.proofs.Words.{entry_offset, eq-eqb, eqb, eqb-true, false, filter, find, has_key, here_of, inl, inr, le-length_from_below}
 use Rattle.cache_partition.proofs.Words.{leb-true, length, length-filter, length-le_from_distinct_below, list_any, nat_tests, ne_eqb, only_key}
-use Rattle.cache_partition.proofs.Words.{options_in, record_of, refl, same_Some, same_or_other, stood, subst, suc, sym, tail_of, true, true≢false}
+use Rattle.cache_partition.proofs.Words.{options_in, record_of, refl, same_Some, same_or_other, subst, suc, sym, tail_of, true, true≢false}
 use Rattle.cache_partition.proofs.Words.{written_same, ℕ, ⊎_elim, ◌+◌, ◌<◌, ◌∙◌, ◌∷◌, ◌≡◌, ◌≢◌, ◌≤◌, ◌⊎◌}
 use Rattle.cache_partition.proofs.Displaced.{all_filtered, each_found}
 use Rattle.cache_partition.proofs.Held.{HasSlot, Held, live_entry, one_slot, record_in, slot_is, slot_of, stamp_is}
@@ -140,10 +140,6 @@ module _ (h : Held) (w : Write) (is : IsWrite w) (stood : StandsFor h.o (bucket_
       let most = (written h w is).here in
       omega arith
     where
-      own_number : (n : ℕ) → IsNumber own n → n ≡ 15
-      own_number n (inl mine) = mine.1
-      own_number n (inr slot) = absurd (slot.0 (laid.found_key w.key (made h w).records own at))
-
       at_slot : (i : ℕ) → i < 15 → list_any (eqb i) (numbers its all_numbered) ≡ true
       at_slot i low =
           let later = (live i low).1 in
@@ -166,5 +162,6 @@ module _ (h : Held) (w : Write) (is : IsWrite w) (stood : StandsFor h.o (bucket_
       each : (i : ℕ) → i < 16 → list_any (eqb i) (numbers its all_numbered) ≡ true
       each i low = elim (cases_lt i 15) [
         | inl slot ↦ at_slot i slot
-        | inr last ↦ found_among w.key own i (λ n is. own_number n is ∙ omega arith) at own_live refl
+        | inr last ↦ found_among w.key own i
+            (λ n is. elim is [ inl mine ↦ mine.1 ∙ omega arith | inr slot ↦ absurd (slot.0 (laid.found_key w.key (made h w).records own at)) ]) at own_live refl
       ]

@@ -49,12 +49,12 @@ module _ (h : Held) (w : Write) where
   deleted_none op = ap (λ (z : Cache). record_of z w.key) (is_deleted op) ∙ others_lack w.key h.m.records
 
   pub rewritten_own : (held : Record) → w.op ≡ Put → kept_record (options_in h.o) h.m w ≡ Some held
-      → record_of made w.key ≡ Some (record held { value = w.value })
+      → record_of made w.key ≡ Some (record held { key = w.key; value = w.value })
   rewritten_own held op at =
       let keeps = keeps_put (options_in h.o) h.m w held at in
       ap (λ (z : Cache). record_of z w.key) (is_rewritten held op at)
       ∙ (laid.found_map (rewritten w) (rewritten_key w) w.key h.m.records held keeps.is
-      ∙ ap (λ b. Some (cond b (record held { value = w.value }) held)) (found.found_passes (has_key w.key) h.m.records held keeps.is))
+      ∙ (λ j. Some (cond (found.found_passes (has_key w.key) h.m.records held keeps.is j) (record held { key = laid.found_key w.key h.m.records held keeps.is j; value = w.value }) held)))
 
   pub appended_own : w.op ≡ Put → kept_record (options_in h.o) h.m w ≡ None → record_of made w.key ≡ Some (new_record h.m w.key w.value)
   appended_own op at =

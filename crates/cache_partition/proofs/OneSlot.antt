@@ -100,19 +100,18 @@ module _ (h : Held) (a : AcceptedWrite h.o) where
             let differs = before.others i x some.0 some.1 other old some.2 in
             record { key = some.0; cell = some.1; now = stays x some.0 some.1 differs.0 live differs.1 some.2; whose = inr (other, differs.0, old, some.2) }
 
-        now_mine : (i x : ℕ) → HasLiveEntry q b b i x → i ≡ slot → Now i x
-        now_mine i x e is = elim mine [
-          | inl its ↦ record {
-            key = a.w.key;
-            cell = its.0;
-            now = subst (λ (z : ℕ). Spells q b z a.w.key its.0) (ap (entry_in q b) (sym is) ∙ e.found) its.2;
-            whose = inl (is, refl);
-          }
-          | inr none ↦ absurd (none.0 x (subst (λ (z : ℕ). HasLiveEntry q b b z x) is e))
-        ]
-
         now : (c i x : ℕ) → HasLiveEntry q b c i x → Now i x
-        now c i x e = dite (ℕ_discrete i slot) (now_mine i x (in_main n b c i x e)) (now_other i x (in_main n b c i x e))
+        now c i x e = dite (ℕ_discrete i slot)
+            (λ is. elim mine [
+              | inl its ↦ record {
+                key = a.w.key;
+                cell = its.0;
+                now = subst (λ (z : ℕ). Spells q b z a.w.key its.0) (ap (entry_in q b) (sym is) ∙ (in_main n b c i x e).found) its.2;
+                whose = inl (is, refl);
+              }
+              | inr none ↦ absurd (none.0 x (subst (λ (z : ℕ). HasLiveEntry q b b z x) is (in_main n b c i x e)))
+            ])
+            (now_other i x (in_main n b c i x e))
 
         -- a key is spelt once
 

@@ -30,7 +30,7 @@ pub use Rattle.mica_model.proofs.CacheLaws.{fits_kept, kept_in, put_item, window
 pub use Rattle.mica_model.proofs.FateLaws.{miss_is_not_held}
 pub use Rattle.mica_model.proofs.Found.{all_filter, all_passes, all_weaker, count_cons, found_has, missed_all}
 pub use Rattle.mica_model.proofs.Histories.{accepted_is_length, cached_in, state_snoc}
-pub use Rattle.mica_model.proofs.Laid.{IsLaid, found_key, has_its_key as is_its_key, has_other_key, laid_found}
+pub use Rattle.mica_model.proofs.Laid.{IsLaid, has_its_key as is_its_key, has_other_key, laid_found}
 pub use Rattle.mica_model.proofs.Rises.{stamp_rises}
 pub use Rattle.mica_model.proofs.Stamps.{stamp_small}
 pub use Rattle.mica_model.specs.Answer.{IsAnswer}

@@ -6,7 +6,7 @@ use Rattle.cache_partition.proofs.Words.{MayGive, MayMark, MayRewrite, MayWrite,
 use Rattle.cache_partition.proofs.Words.{Record, Some, SpellsItem, StandsFor, State, Takes, Worn, Write, [], accepted_in, accepted_is_length}
 use Rattle.cache_partition.proofs.Words.{accepted_step, after, ap, arith, begin_of, bucket_in, cached_in, cell_at, cond, ended_gains, entry_in}
 use Rattle.cache_partition.proofs.Words.{entry_not_empty, entry_of, entry_offset, entry_offset-entry_of, entry_tag-entry_of, false, fits_kept}
-use Rattle.cache_partition.proofs.Words.{found_key, had_record, had_record_by, inl, inr, is_accepted, is_live, is_some, item_in, item_room, item_size}
+use Rattle.cache_partition.proofs.Words.{had_record, had_record_by, inl, inr, is_accepted, is_live, is_some, item_in, item_room, item_size}
 use Rattle.cache_partition.proofs.Words.{item_words, keeps_put, kept_offset, kept_offset_by, kept_record, largest_item, le-leb, leb-false, length}
 use Rattle.cache_partition.proofs.Words.{length-item_words, lt-leb, main, marked, marked_in, marked_item, marked_with, may_begin, may_end, may_mark}
 use Rattle.cache_partition.proofs.Words.{most_stamp, nat_le, new_record, option_map, options_in, put_entry, put_same, put_stamp, put_words, record_of}
@@ -28,17 +28,15 @@ reply_accepted Del options w true = refl
 reply_accepted Del options w false = refl
 
 -- before the partition is worn no write is refused
-replies : (options : Options) (m : Cache) (w : Write) → m.accepted < options.wear → cs.reply_of w.op options w (is_some (record_of m w.key)) ≡ cs.reply options m w
-unfolding cs.reply
-replies options m w few = ap (λ b. cond b Worn (cs.reply_of w.op options w (is_some (record_of m w.key)))) (sym (lt-leb options.wear m.accepted few))
-
 may_give : (o : OwnerState) → MayWrite o → (w : Write) → MayGive (options_in o) o.history w (cs.reply_of w.op (options_in o) w (had_record o w.key))
+unfolding cs.reply
 may_give o may w =
     let there = cached_in (options_in o) may.cached o.history in
     let count = ap accepted_in there.1 in
     let all = accepted_is_length (options_in o) o.history in
     let less = may.not_worn in
-    subst (λ (z : State). Allows (options_in o) z w (cs.reply_of w.op (options_in o) w (had_record_by z w.key))) (sym there.1) (replies (options_in o) there.0 w (omega arith))
+    subst (λ (z : State). Allows (options_in o) z w (cs.reply_of w.op (options_in o) w (had_record_by z w.key))) (sym there.1)
+    (ap (λ b. cond b Worn (cs.reply_of w.op (options_in o) w (is_some (record_of there.0 w.key)))) (sym (lt-leb o.shape.wear there.0.accepted (omega arith))))
 
 -- where the state is not worn
 pub may_write : (o : OwnerState) → o.phase ≡ Idle → o.shape.mode ≡ CacheMode → nat_le o.shape.wear (length o.history) ≡ false → MayWrite o
@@ -190,7 +188,6 @@ module _ (o : OwnerState) (s : Kept o) (may : MayWrite o) (w : Write) (is : IsWr
         let r = held_by (Some p) keeps in
         let kept = keeps_put (options_in o) h.m w r.0 r.1 in
         let at = slot_of h b (stood o accepted) w.key r.0 refl kept.is in
-        let its_key : r.0.key ≡ w.key = found_key w.key h.m.records r.0 kept.is in
         let xs = item_words r.0.room w.key w.value in
         let there : SpellsItem (marked o accepted) r.0.offset w.key (cell_at r.0).0 = λ i l.
         marked_item o accepted (r.0.offset + i) ∙ (ap (λ (z : ℕ). item_in o (z + i)) at.1.offset ∙ at.1.spelt.item i l) in
@@ -200,14 +197,13 @@ module _ (o : OwnerState) (s : Kept o) (may : MayWrite o) (w : Write) (is : IsWr
           may = record {
             cell = (cell_at r.0).0;
             there = there;
-            leaves = leaves_item r.0.offset r.0.room
-                (leaves.rewritten_own h w r.0 op r.1 ∙ ap (λ (k : List ℕ). Some (record r.0 { key = k; value = w.value })) its_key);
+            leaves = leaves_item r.0.offset r.0.room (leaves.rewritten_own h w r.0 op r.1);
           };
           closes = λ q at_q k.
               let is = at_q ∙ (ap (λ (n : ℕ). with_item (marked o accepted) r.0.offset n w.key w.value) room ∙ put_same o accepted r.0.offset xs (few_words r.0.room)) in
               let stamp = ap (λ (z : Cache). tail_of z.stamp) (leaves.is_rewritten h w r.0 op r.1) in
               let live = kept.live in
-              closes words (put h accepted words (subst Kept is k) op at.0 (entry_in o b at.0) (own_slot h accepted at.0 r.0 at.1) at.1.entry.in_bucket r.0
+              closes words (put h accepted words (subst Kept is k) op at.0 (entry_in o b at.0) (own_slot h accepted at.0 r.0 at.1) at.1.entry.in_bucket (record r.0 { key = w.key })
               (leaves.rewritten_own h w r.0 op r.1) (ap (λ (z : Option Record). begin_of z h.m) r.1) (omega arith) at.1.entry.live.0 (sym at.1.offset) at.1.spelt.tag
               (put_effect h accepted r.0.offset xs (few_words r.0.room) at.0 (entry_in o b at.0)
               (put_entry o accepted r.0.offset xs (few_words r.0.room) b at.0 (let main = main o accepted in omega arith) at.1.entry.in_bucket))) q is;
