@@ -269,10 +269,6 @@ module _ (o : OwnerState) (s : Kept o) (may : MayWrite o) (w : Write) (is : IsWr
   no_slot_keeps c here none = kept_is ∙ ap (λ (z : Option Record). option_map (λ (r : Record). r.offset) (cs.kept_if (options_in o) h.m w z))
       (no_record h c (stands_at h may.idle w.key c here) w.key (sym here) none)
 
-  kept_if_is : (fits : Bool) (r : Record) → then_some fits r.offset ≡ option_map (λ (r : Record). r.offset) (cond fits (Some r) None)
-  kept_if_is true r = refl
-  kept_if_is false r = refl
-
   pub slot_keeps : (c slot : ℕ) → c ≡ b → IsSlotOf o c w.key slot → (stamp offset room : ℕ) → stamp ≡ stamp_in o → offset ≡ entry_offset (entry_in o c slot)
       → room ≡ room_in o (entry_in o c slot) → (fits : Bool)
       → ((size_of w ≤ room) × (fits ≡ is_live o.shape.words (stamp + 1) offset)) ⊎ ((room < size_of w) × (fits ≡ false)) → then_some fits offset ≡ kept_offset o w
@@ -285,6 +281,7 @@ module _ (o : OwnerState) (s : Kept o) (may : MayWrite o) (w : Write) (is : IsWr
         | inl fit ↦ fit.1 ∙ ap (λ b. b && is_live o.shape.words (stamp + 1) offset) (sym (le-leb (size_of w) room fit.0))
         | inr not ↦ not.1 ∙ ap (λ b. b && is_live o.shape.words (stamp + 1) offset) (sym (lt-leb (size_of w) room not.0))
       ] in
+      let offset_of_kept = λ (z : Option Record). option_map (λ (r : Record). r.offset) z in
       (λ j. then_some ((may_keep ∙ (λ j. nat_le (size_of w) (room_held j) && is_live o.shape.words (stamp_held j + 1) (offset_held j))) j) (offset_held j))
-      ∙ (kept_if_is (cs.may_keep (options_in o) h.m w own.0) own.0
-      ∙ (ap (λ (z : Option Record). option_map (λ (r : Record). r.offset) (cs.kept_if (options_in o) h.m w z)) (sym own.1.is) ∙ sym kept_is))
+      ∙ (elim (cs.may_keep (options_in o) h.m w own.0) as (λ b. then_some b own.0.offset ≡ offset_of_kept (cond b (Some own.0) None)) [ true ↦ refl | false ↦ refl ]
+      ∙ (ap (λ (z : Option Record). offset_of_kept (cs.kept_if (options_in o) h.m w z)) (sym own.1.is) ∙ sym kept_is))
