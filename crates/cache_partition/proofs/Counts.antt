@@ -1,17 +1,15 @@
--- How many of the log's records the live slots of a bucket have, where a put's key has no record yet.
-use Rattle.mica_model.specs.CacheStep as cs
+-- How many records the written bucket has once the log has passed: as many as it has live slots, and the written key's own.
 use Rattle.mica_model.proofs.Found as found
 use Rattle.mica_model.proofs.Laid as laid
-use Rattle.cache_partition.proofs.Words.{AllOf, Bool, Cache, CacheMode, Cell, HasLiveEntry, IsDistinct, IsDistinct-cons, IsKept, IsUnique, IsValid}
-use Rattle.cache_partition.proofs.Words.{IsWrite, Kept, List, None, OwnerState, Put, Record, Some, Spells, StandsFor, Write, [], ap, arith, bucket_in}
-use Rattle.cache_partition.proofs.Words.{cache_state, cases_Bool, cell_at, cond, count_by, entry_in, entry_offset, eq-eqb, eqb, eqb-true, false}
-use Rattle.cache_partition.proofs.Words.{filter, find, has_key, here_of, is_live, kept_record, le-length_from_below, leb-true, length, length-filter}
-use Rattle.cache_partition.proofs.Words.{length-le_from_distinct_below, list_any, nat_tests, ne_eqb, not, options_in, others, record_of, refl}
-use Rattle.cache_partition.proofs.Words.{same_Some, stamp_of_state, state_in, subst, suc, sym, tail_of, true, true≢false, ℕ, ⊎_elim, ◌+◌, ◌<◌, ◌∙◌}
-use Rattle.cache_partition.proofs.Words.{◌∷◌, ◌≡◌, ◌≢◌, ◌≤◌}
-use Rattle.cache_partition.proofs.Slots.{live_entry, only_key, alone, record_spelt, has_record}
-use Rattle.cache_partition.proofs.Displaced.{all_both, each_found}
-use Rattle.cache_partition.proofs.Leaves.{live_others, live_others_on}
+use Rattle.cache_partition.proofs.Words.{AllOf, Bool, HasNoSlot, IsDistinct, IsDistinct-cons, IsSlotOf, IsUnique, IsWrite, List, Record, Some, Spells}
+use Rattle.cache_partition.proofs.Words.{StandsFor, Write, [], ap, arith, bucket_in, cases_Bool, cases_lt, cell_at, cond, count_by, entry_in}
+use Rattle.cache_partition.proofs.Words.{entry_offset, eq-eqb, eqb, eqb-true, false, filter, find, has_key, here_of, inl, inr, le-length_from_below}
+use Rattle.cache_partition.proofs.Words.{leb-true, length, length-filter, length-le_from_distinct_below, list_any, nat_tests, ne_eqb, only_key}
+use Rattle.cache_partition.proofs.Words.{options_in, record_of, refl, same_Some, same_or_other, subst, suc, sym, tail_of, true, true≢false}
+use Rattle.cache_partition.proofs.Words.{written_same, ℕ, ⊎_elim, ◌+◌, ◌<◌, ◌∙◌, ◌∷◌, ◌≡◌, ◌≢◌, ◌≤◌, ◌⊎◌}
+use Rattle.cache_partition.proofs.Displaced.{all_filtered, each_found}
+use Rattle.cache_partition.proofs.Held.{HasSlot, Held, live_entry, one_slot, record_in, slot_is, slot_of, stamp_is}
+use Rattle.cache_partition.proofs.Leaves.{is_living, live_on, lives, made, written}
 
 below_all : (n : ℕ) (xs : List ℕ) → AllOf (λ y. y < n) xs → (q : ℕ) → list_any (eqb q) xs ≡ true → q < n
 below_all n [] all q has = cc
@@ -20,146 +18,150 @@ below_all n (x ∷ xs) all q has = ⊎_elim
     (λ f. below_all n xs all.1 q (rw f at has))
     (cases_Bool (eqb q x))
 
-module _ (o : OwnerState) (s : Kept o) (mode : o.shape.mode ≡ CacheMode) (m : Cache) (at : state_in o ≡ cache_state m) (kept : IsKept (options_in o) m) (w : Write)
-    (stood : StandsFor o (bucket_in o w.key)) where
+module _ (h : Held) (w : Write) (is : IsWrite w) (stood : StandsFor h.o (bucket_in h.o w.key)) where
   abbrev b : ℕ
-  b = bucket_in o w.key
+  b = bucket_in h.o w.key
 
-  -- the tail after the put
-  abbrev tail : ℕ
-  tail = tail_of (cs.after_append m (cs.new_record m w.key w.value)).stamp
+  abbrev pub here : Record → Bool
+  here = here_of (options_in h.o) w
 
-  abbrev lives : List Record
-  lives = live_others (options_in o) m kept w
+  abbrev living : Record → Bool
+  living = is_living h w is
 
-  abbrev here : Record → Bool
-  here = here_of (options_in o) w
+  abbrev pub alive : List Record
+  alive = lives h w is
 
-  -- a slot that has the record, which the log has not passed
-  abbrev pub SlotOf : Record → Type 0
-  SlotOf r = (i : ℕ) × (i < 15) × HasLiveEntry o b b i (entry_in o b i) × Spells o b (entry_in o b i) r.key (cell_at r).0
-      × (tail ≤ entry_offset (entry_in o b i) + o.shape.words)
+  -- the bucket's records that the log does not pass
+  abbrev its : List Record
+  its = filter here alive
 
-  slot_of : (r : Record) → record_of m r.key ≡ Some r → here r ≡ true → tail ≤ r.offset + o.shape.words → SlotOf r
-  slot_of r is in_bucket live =
-      let there = stood.each r.key (cell_at r).0 r.offset (eqb-true (bucket_in o r.key) b in_bucket) (has_record o s m at r.key r is) in
-      let h : HasLiveEntry o b b there.1 there.2 = subst (λ (z : ℕ). HasLiveEntry o b z there.1 there.2) (sym (alone o s mode b there.0 there.3.in_chain)) there.3 in
-      let spelt = record_spelt o s m at b there.2 r.key (cell_at r).0 there.4 in
-      let same : r.offset ≡ entry_offset there.2 = ap (λ (z : Record). z.offset) (same_Some r spelt.0 (sym is ∙ spelt.1)) ∙ spelt.2 in
-      let found : there.2 ≡ entry_in o b there.1 = sym h.found in
-      let found_offset = ap entry_offset found in (
-        there.1,
-        h.in_bucket,
-        subst (λ (z : ℕ). HasLiveEntry o b b there.1 z) found h,
-        subst (λ (z : ℕ). Spells o b z r.key (cell_at r).0) found there.4,
-        omega arith,
-      )
+  -- a record's number is that of its slot, and one more than those of slots where it is the written key's
+  abbrev pub IsNumber : Record → ℕ → Type 0
+  IsNumber r i = ((r.key ≡ w.key) × (i ≡ 15)) ⊎ ((r.key ≢ w.key) × HasSlot h b r.key r i)
 
-  all_slots : AllOf SlotOf (filter here lives)
-  all_slots =
-      let live = λ (r : Record). is_live o.shape.words (cs.after_append m (cs.new_record m w.key w.value)).stamp r.offset in
-      let rest = others w.key m.records in
-      let found_all : AllOf (λ r. record_of m r.key ≡ Some r) (filter here lives) =
-      found.all_filter (λ r. record_of m r.key ≡ Some r) here lives (found.all_filter (λ r. record_of m r.key ≡ Some r) live rest
-      (found.all_filter (λ r. record_of m r.key ≡ Some r) (λ r. not (has_key w.key r)) m.records (each_found m.records kept.unique))) in
-      let live_all : AllOf (λ r. live r ≡ true) (filter here lives) = found.all_filter (λ r. live r ≡ true) here lives (found.all_passes live rest) in
-      let here_all : AllOf (λ r. here r ≡ true) (filter here lives) = found.all_passes here lives in
-      found.all_weaker (λ r. (record_of m r.key ≡ Some r) × ((live r ≡ true) × (here r ≡ true))) SlotOf
-      (λ r h. slot_of r h.0 h.1.1 (leb-true tail (r.offset + o.shape.words) h.1.0)) (filter here lives)
-      (all_both (λ r. record_of m r.key ≡ Some r) (λ r. (live r ≡ true) × (here r ≡ true)) (filter here lives) found_all
-      (all_both (λ r. live r ≡ true) (λ r. here r ≡ true) (filter here lives) live_all here_all))
+  record Numbered (r : Record) : Type 0 where
+    pub number : ℕ
+    pub low : number < 16
+    pub number_is : IsNumber r number
+    pub found : record_of (made h w) r.key ≡ Some r
+    pub live : tail_of (made h w).stamp ≤ r.offset + h.o.shape.words
 
-  numbers : (rs : List Record) → AllOf SlotOf rs → List ℕ
+  numbered : (r : Record) → ((record_of (made h w) r.key ≡ Some r) × (living r ≡ true)) × (here r ≡ true) → Numbered r
+  numbered r at =
+      let live = leb-true (tail_of (made h w).stamp) (r.offset + h.o.shape.words) at.0.1 in
+      elim (same_or_other r.key w.key) [
+        | inl mine ↦ record { number = 15; low = omega arith; number_is = inl (mine, refl); found = at.0.0; live = live }
+        | inr other ↦
+            let slot = slot_of h b stood r.key r (eqb-true (bucket_in h.o r.key) b at.1) (sym (written_same (options_in h.o) h.m w r.key other) ∙ at.0.0) in
+            let low = slot.1.entry.in_bucket in
+            record { number = slot.0; low = omega arith; number_is = inr (other, slot.1); found = at.0.0; live = live }
+      ]
+
+  all_numbered : AllOf Numbered its
+  all_numbered = found.all_weaker _ Numbered numbered its
+      (all_filtered _ here alive (all_filtered _ living (made h w).records (each_found (made h w).records (written h w is).unique)))
+
+  numbers : (rs : List Record) → AllOf Numbered rs → List ℕ
   numbers [] all = []
-  numbers (r ∷ rs) all = all.0.0 ∷ numbers rs all.1
+  numbers (r ∷ rs) all = all.0.number ∷ numbers rs all.1
 
-  length-numbers : (rs : List Record) (all : AllOf SlotOf rs) → length (numbers rs all) ≡ length rs
+  length-numbers : (rs : List Record) (all : AllOf Numbered rs) → length (numbers rs all) ≡ length rs
   unfolding numbers
   length-numbers [] all = refl
   length-numbers (r ∷ rs) all = ap suc (length-numbers rs all.1)
 
-  numbers_all : (P : ℕ → Type 0) (rs : List Record) (all : AllOf SlotOf rs) → AllOf (λ r. (is : SlotOf r) → P is.0) rs → AllOf P (numbers rs all)
+  numbers_all : (P : ℕ → Type 0) (rs : List Record) (all : AllOf Numbered rs) → AllOf (λ r. (n : Numbered r) → P n.number) rs → AllOf P (numbers rs all)
   unfolding numbers
   numbers_all P [] all ps = tt
   numbers_all P (r ∷ rs) all ps = (ps.0 all.0, numbers_all P rs all.1 ps.1)
 
-  numbers_each : (P : ℕ → Type 0) → ((r : Record) (is : SlotOf r) → P is.0) → (rs : List Record) (all : AllOf SlotOf rs) → AllOf P (numbers rs all)
-  unfolding numbers
-  numbers_each P each [] all = tt
-  numbers_each P each (r ∷ rs) all = (each r all.0, numbers_each P each rs all.1)
+  numbers_each : (P : ℕ → Type 0) → ((r : Record) (n : Numbered r) → P n.number) → AllOf P (numbers its all_numbered)
+  numbers_each P each = numbers_all P its all_numbered (found.all_weaker Numbered (λ r. (n : Numbered r) → P n.number) (λ r n. each r) its all_numbered)
 
-  -- the slots of two keys' records differ
-  slots_differ : (r r' : Record) → has_key r.key r' ≡ false → (one : SlotOf r) (two : SlotOf r') → one.0 ≢ two.0
-  slots_differ r r' other one two same =
-      let again : Spells o b (entry_in o b one.0) r'.key (cell_at r').0 = subst (λ (z : ℕ). Spells o b (entry_in o b z) r'.key (cell_at r').0) (sym same) two.3 in
-      true≢false (sym (laid.has_its_key r.key r' (sym (only_key o s b b (entry_in o b one.0) r.key r'.key (cell_at r).0 (cell_at r').0 one.3 again))) ∙ other)
+  -- those of two keys differ
+  differ : (r r' : Record) (i i' : ℕ) → has_key r.key r' ≡ false → IsNumber r i → IsNumber r' i' → i ≢ i'
+  differ r r' i i' other (inl mine) (inl mine') same = true≢false (sym (laid.has_its_key r.key r' (mine'.0 ∙ sym mine.0)) ∙ other)
+  differ r r' i i' other (inl mine) (inr slot) same = let below = slot.1.entry.in_bucket in let last = mine.1 in omega arith
+  differ r r' i i' other (inr slot) (inl mine) same = let below = slot.1.entry.in_bucket in let last = mine.1 in omega arith
+  differ r r' i i' other (inr slot) (inr slot') same = true≢false (sym (laid.has_its_key r.key r'
+      (only_key h.o h.kept b b _ _ r'.key r.key _ _ slot'.1.spelt slot.1.spelt (ap (λ (z : ℕ). entry_offset (entry_in h.o b z)) (sym same)))) ∙ other)
 
-  numbers_distinct : (rs : List Record) (all : AllOf SlotOf rs) → IsUnique rs → IsDistinct eqb (numbers rs all)
+  numbers_distinct : (rs : List Record) (all : AllOf Numbered rs) → IsUnique rs → IsDistinct eqb (numbers rs all)
   unfolding numbers IsDistinct
   numbers_distinct [] all unique = tt
   numbers_distinct (r ∷ rs) all unique = (
-    numbers_all (λ i. eqb all.0.0 i ≡ false) rs all.1 (found.all_weaker (λ r'. has_key r.key r' ≡ false) (λ r'. (is : SlotOf r') → eqb all.0.0 is.0 ≡ false)
-        (λ r' other is. ne_eqb all.0.0 is.0 (slots_differ r r' other all.0 is)) rs (found.missed_all (has_key r.key) rs unique.0)),
+    numbers_all (λ i. eqb all.0.number i ≡ false) rs all.1 (found.all_weaker (λ r'. has_key r.key r' ≡ false) (λ r'. (n : Numbered r') → eqb all.0.number n.number ≡ false)
+        (λ r' other n. ne_eqb all.0.number n.number (differ r r' all.0.number n.number other all.0.number_is n.number_is)) rs (found.missed_all (has_key r.key) rs unique.0)),
     numbers_distinct rs all.1 unique.1,
   )
 
-  counted_unique : IsUnique (filter here lives)
-  counted_unique = laid.unique_filter here lives (laid.unique_filter _ (others w.key m.records) (laid.unique_filter (λ r. not (has_key w.key r)) m.records kept.unique))
-
-  -- a slot that is empty or passed leaves at most 14 records
-  pub few : (j : ℕ) → j < 15 → (entry_in o b j ≢ 0 → tail ≤ entry_offset (entry_in o b j) + o.shape.words → ⊥) → count_by here lives ≤ 14
-  few j below dead =
-      let all = all_slots in
-      let none : AllOf (λ i. eqb j i ≡ false) (numbers (filter here lives) all) = numbers_each (λ i. eqb j i ≡ false)
-      (λ r is. ne_eqb j is.0 (λ same. dead (λ empty. is.2.live.0 (ap (entry_in o b) (sym same) ∙ empty))
-      (subst (λ (z : ℕ). tail ≤ entry_offset (entry_in o b z) + o.shape.words) (sym same) is.4))) (filter here lives) all in
-      let most = length-le_from_distinct_below (j ∷ numbers (filter here lives) all) 15
-      (IsDistinct-cons eqb j (numbers (filter here lives) all) none (numbers_distinct (filter here lives) all counted_unique))
-      (below_all 15 (j ∷ numbers (filter here lives) all) (below, numbers_each (λ i. i < 15) (λ r is. is.1) (filter here lives) all)) in
-      let long = length-numbers (filter here lives) all in
-      let count = length-filter here lives in
+  -- where a number is no record's, there are at most 15
+  pub few : (j : ℕ) → j < 16 → ((r : Record) → record_of (made h w) r.key ≡ Some r → tail_of (made h w).stamp ≤ r.offset + h.o.shape.words → ¬ (IsNumber r j))
+      → count_by here alive ≢ 16
+  few j low free full =
+      let none = numbers_each (λ i. eqb j i ≡ false) (λ r n. ne_eqb j n.number (λ same. free r n.found n.live (subst (IsNumber r) (sym same) n.number_is))) in
+      let unique = laid.unique_filter here alive (laid.unique_filter _ (made h w).records (written h w is).unique) in
+      let most = length-le_from_distinct_below (j ∷ numbers its all_numbered) 16
+      (IsDistinct-cons eqb j (numbers its all_numbered) none (numbers_distinct its all_numbered unique))
+      (below_all 16 (j ∷ numbers its all_numbered) (low, numbers_each (λ i. i < 16) (λ r n. n.low))) in
+      let long = length-numbers its all_numbered in
+      let count = length-filter here alive in
       omega arith
 
-  -- the slot of a record that is among those counted is among the numbers
-  among : (key : List ℕ) (r : Record) (i : ℕ) → ((r' : Record) → r' ≡ r → (is : SlotOf r') → is.0 ≡ i)
-      → (rs : List Record) (all : AllOf SlotOf rs) → find (has_key key) rs ≡ Some r → list_any (eqb i) (numbers rs all) ≡ true
+  -- a record that is among those counted has its number among theirs
+  among : (key : List ℕ) (r : Record) (i : ℕ) → ((n : ℕ) → IsNumber r n → n ≡ i) → (rs : List Record) (all : AllOf Numbered rs)
+      → find (has_key key) rs ≡ Some r → list_any (eqb i) (numbers rs all) ≡ true
   unfolding numbers
-  among key r i its [] all is = cc
-  among key r i its (x ∷ rs) all is =
-      elim (has_key key x) as (λ b. cond b (Some x) (find (has_key key) rs) ≡ Some r → list_any (eqb i) (all.0.0 ∷ numbers rs all.1) ≡ true) [
-        | true ↦ λ e. rw (eq-eqb i all.0.0 (sym (its x (same_Some x r e) all.0))) refl
+  among key r i only [] all is = cc
+  among key r i only (x ∷ rs) all is =
+      elim (has_key key x) as (λ b. cond b (Some x) (find (has_key key) rs) ≡ Some r → list_any (eqb i) (all.0.number ∷ numbers rs all.1) ≡ true) [
+        | true ↦ λ e. rw (eq-eqb i all.0.number (sym (only all.0.number (subst (λ (z : Record). IsNumber z all.0.number) (same_Some x r e) all.0.number_is)))) refl
         | false ↦ λ e. ⊎_elim
-            (λ (t : eqb i all.0.0 ≡ true). rw t refl)
-            (λ (f : eqb i all.0.0 ≡ false). rw f (among key r i its rs all.1 e))
-            (cases_Bool (eqb i all.0.0))
+            (λ (t : eqb i all.0.number ≡ true). rw t refl)
+            (λ (f : eqb i all.0.number ≡ false). rw f (among key r i only rs all.1 e))
+            (cases_Bool (eqb i all.0.number))
       ] is
 
-  -- where every slot is live and the key has no record, there are 15
-  pub many : IsValid (options_in o) → IsWrite w → w.op ≡ Put → kept_record (options_in o) m w ≡ None → record_of m w.key ≡ None
-      → ((i : ℕ) → i < 15 → (entry_in o b i ≢ 0) × (tail ≤ entry_offset (entry_in o b i) + o.shape.words)) → 15 ≤ count_by here lives
-  many valid is op appended absent all_live =
-      let all = all_slots in
-      let most = le-length_from_below (numbers (filter here lives) all) 15 (λ i below. at_slot i below all) in
-      let long = length-numbers (filter here lives) all in
-      let count = length-filter here lives in
+  found_among : (key : List ℕ) (r : Record) (i : ℕ) → ((n : ℕ) → IsNumber r n → n ≡ i) → record_of (made h w) key ≡ Some r → tail_of (made h w).stamp ≤ r.offset + h.o.shape.words
+      → bucket_in h.o key ≡ b → list_any (eqb i) (numbers its all_numbered) ≡ true
+  found_among key r i only at live there = among key r i only its all_numbered
+      (found.found_filter (has_key key) here alive r (live_on h w is key r at live)
+      (eq-eqb (bucket_in h.o r.key) b (ap (bucket_in h.o) (laid.found_key key (made h w).records r at) ∙ there)))
+
+  -- where every slot is live and of another key, and the key has a record, there are 16
+  pub many : (own : Record) → record_of (made h w) w.key ≡ Some own → tail_of (made h w).stamp ≤ own.offset + h.o.shape.words → HasNoSlot h.o b w.key
+      → ((i : ℕ) → i < 15 → (entry_in h.o b i ≢ 0) × (tail_of (made h w).stamp ≤ entry_offset (entry_in h.o b i) + h.o.shape.words))
+      → count_by here alive ≡ 16
+  many own at own_live none live =
+      let least = le-length_from_below (numbers its all_numbered) 16 each in
+      let long = length-numbers its all_numbered in
+      let count = length-filter here alive in
+      let fewer = found.count_filter here living (made h w).records in
+      let most = (written h w is).here in
       omega arith
     where
-      at_slot : (i : ℕ) → i < 15 → (all : AllOf SlotOf (filter here lives)) → list_any (eqb i) (numbers (filter here lives) all) ≡ true
-      at_slot i below all =
-          let live = all_live i below in
-          let later = live.1 in
-          let stamp = s.stamp ∙ ap stamp_of_state at in
-          let h : HasLiveEntry o b b i (entry_in o b i) = live_entry o mode b i (entry_in o b i) below refl live.0 (omega arith) in
-          let some = stood.nothing_else b i (entry_in o b i) h in
-          let spelt = record_spelt o s m at b (entry_in o b i) some.0 some.1 some.2 in
-          let other : some.0 ≢ w.key = λ same. (let gone : record_of m some.0 ≡ None = ap (record_of m) same ∙ absent in cc (sym gone ∙ spelt.1)) in
-          let offset = spelt.2 in
-          let found_live = live_others_on (options_in o) m kept w valid is op appended some.0 spelt.0 other spelt.1 (omega arith) in
-          let its_key : spelt.0.key ≡ some.0 = laid.found_key some.0 m.records spelt.0 spelt.1 in
-          let in_bucket : here spelt.0 ≡ true = eq-eqb (bucket_in o spelt.0.key) b (ap (bucket_in o) its_key ∙ some.2.bucket) in
-          among some.0 spelt.0 i
-          (λ r' same there.
-          let moved : Spells o b (entry_in o b there.0) some.0 some.1 = subst (λ (c : Cell). Spells o b (entry_in o b there.0) some.0 c) (ap (λ (r : Record). (cell_at r).0) same ∙ sym spelt.3)
-          (subst (λ (k : List ℕ). Spells o b (entry_in o b there.0) k (cell_at r').0) (ap (λ (r : Record). r.key) same ∙ its_key) there.3) in
-          (stood.once b there.0 (entry_in o b there.0) b i (entry_in o b i) some.0 some.1 there.2 h moved some.2).1)
-          (filter here lives) all (found.found_filter (has_key some.0) here lives spelt.0 found_live in_bucket)
+      at_slot : (i : ℕ) → i < 15 → list_any (eqb i) (numbers its all_numbered) ≡ true
+      at_slot i low =
+          let later = (live i low).1 in
+          let stamp = stamp_is h in
+          let more = (written h w is).least in
+          let e = live_entry h b i (entry_in h.o b i) low refl (live i low).0 (omega arith) in
+          let some = stood.nothing_else b i (entry_in h.o b i) e in
+          let named = record_in h some.0 some.1 (entry_offset (entry_in h.o b i)) some.2.has in
+          let other : some.0 ≢ w.key = λ same. none i (subst (λ (k : List ℕ). IsSlotOf h.o b k i) same (slot_is h b i (entry_in h.o b i) some.0 some.1 e some.2)) in
+          let its_key = laid.found_key some.0 h.m.records named.r named.is in
+          let offset = named.offset in
+          found_among some.0 named.r i
+          (λ n n_is. elim n_is [
+            | inl mine ↦ absurd (other (sym its_key ∙ mine.0))
+            | inr slot ↦ one_slot h b stood n i (entry_in h.o b n) (entry_in h.o b i) some.0 (cell_at named.r).0 some.1 slot.1.entry e
+                (subst (λ (k : List ℕ). Spells h.o b (entry_in h.o b n) k (cell_at named.r).0) its_key slot.1.spelt) some.2
+          ])
+          (written_same (options_in h.o) h.m w some.0 other ∙ named.is) (omega arith) some.2.bucket
+
+      each : (i : ℕ) → i < 16 → list_any (eqb i) (numbers its all_numbered) ≡ true
+      each i low = elim (cases_lt i 15) [
+        | inl slot ↦ at_slot i slot
+        | inr last ↦ found_among w.key own i
+            (λ n is. elim is [ inl mine ↦ mine.1 ∙ omega arith | inr slot ↦ absurd (slot.0 (laid.found_key w.key (made h w).records own at)) ]) at own_live refl
+      ]

@@ -1,11 +1,15 @@
 -- Lists of the log's records: which one is displaced, and what is left.
-use Rattle.cache_partition.proofs.Words.{AllOf, Bool, IsLaid, IsUnique, List, None, Record, Some, [], all_weaker, ap, arith, cond, count_by}
-use Rattle.cache_partition.proofs.Words.{count_cons, false, find, found_has, has_key, has_other_key, is_its_key, laid_found, missed_all, refl}
+use Rattle.cache_partition.proofs.Words.{AllOf, Bool, IsLaid, IsUnique, List, None, Record, Some, [], all_filter, all_passes, all_weaker, ap, arith, cond, count_by}
+use Rattle.cache_partition.proofs.Words.{count_cons, false, filter, find, found_has, has_key, has_other_key, is_its_key, laid_found, missed_all, refl}
 use Rattle.cache_partition.proofs.Words.{same_Some, sym, true, true≢false, without_first, ℕ, ◌+◌, ◌<◌, ◌∙◌, ◌∷◌, ◌≡◌, ◌≢◌, ◌≤◌}
 
-pub all_both : {X : Type 0} (P Q : X → Type 0) (xs : List X) → AllOf P xs → AllOf Q xs → AllOf (λ x. P x × Q x) xs
+all_both : {X : Type 0} (P Q : X → Type 0) (xs : List X) → AllOf P xs → AllOf Q xs → AllOf (λ x. P x × Q x) xs
 all_both P Q [] ps qs = tt
 all_both P Q (x ∷ xs) ps qs = ((ps.0, qs.0), all_both P Q xs ps.1 qs.1)
+
+-- what all of a list have, those that pass a test have too, and they pass it
+pub all_filtered : {X : Type 0} (P : X → Type 0) (q : X → Bool) (xs : List X) → AllOf P xs → AllOf (λ x. P x × (q x ≡ true)) (filter q xs)
+all_filtered P q xs all = all_both P (λ x. q x ≡ true) (filter q xs) (all_filter P q xs all) (all_passes q xs)
 
 -- where some pass, one is found
 pub some_found : {X : Type 0} (p : X → Bool) (xs : List X) → 0 < count_by p xs → (x : X) × (find p xs ≡ Some x)

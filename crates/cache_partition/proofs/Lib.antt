@@ -1,11 +1,8 @@
 pub mod Words
-pub mod Slots
-pub mod Rooms
+pub mod Held
 pub mod Displaced
 pub mod Leaves
 pub mod Counts
-pub mod Effects
-pub mod Stands
-pub mod Endings
+pub mod OneSlot
+pub mod Before
 pub mod Writes
-pub mod Answering

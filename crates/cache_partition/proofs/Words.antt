@@ -1,54 +1,49 @@
 -- The words that the proofs of this crate speak in, passed on once.
 pub use mathlib.Core.Logic.{dite}
 pub use native.Mathlib.Decide.{ℕ_discrete}
-pub use Rattle.std.proofs.Common.{Bool, List, None, Option, Some, [], add-zero, ap, arith, cond, eqb, false, get_or, inl, inr, length, length-set}
-pub use Rattle.std.proofs.Common.{not, refl, subst, suc, sym, true, ℕ, ⊎_elim, ◌%◌, ◌*◌, ◌++◌, ◌+◌, ◌<◌, ◌^◌, ◌∙◌, ◌∷◌, ◌≡◌, ◌≢◌, ◌≤◌, ◌⊎◌}
+pub use Rattle.std.proofs.Common.{Bool, List, None, Option, Some, [], ap, arith, cond, eqb, false, get_or, inl, inr, length, refl, subst, subst₂, suc}
+pub use Rattle.std.proofs.Common.{sym, true, ℕ, ⊎_elim, ◌*◌, ◌++◌, ◌+◌, ◌<◌, ◌^◌, ◌∙◌, ◌∷◌, ◌≡◌, ◌≢◌, ◌≤◌, ◌⊎◌}
 pub use Rattle.std.proofs.lemmas.Bool.{cases_Bool, cases_lt, eq-eqb, eqb-true, le-leb, leb-false, leb-true, lt-leb, ne_eqb, true≢false}
 pub use Rattle.std.proofs.lemmas.Bool.Decides.{nat_tests}
-pub use Rattle.std.proofs.lemmas.List.Elements.{filter-append}
-pub use Rattle.std.proofs.lemmas.List.Sums.{length-filter, sum_by_push}
+pub use Rattle.std.proofs.lemmas.List.Sums.{length-filter}
 pub use Rattle.std.proofs.lemmas.Map.Keys.{IsDistinct-cons}
 pub use Rattle.std.proofs.lemmas.Map.Steps.{le-length_from_below, length-le_from_distinct_below}
-pub use Rattle.std.proofs.lemmas.Nat.{pow_pos}
 pub use Rattle.std.proofs.lemmas.Option.{same_Some}
-pub use Rattle.std.proofs.lemmas.Slice.Eq.{bytes_eq-Decides}
 pub use Rattle.std.specs.Bool.{then_some}
 pub use Rattle.std.specs.List.{AllByRecursion as AllOf, count_by, filter, find, list_any}
 unfoldable pub use Rattle.std.specs.List.{IsDistinct}
-pub use Rattle.std.specs.Prelude.{IfSome, MatchOption, is_some, map, nat_le, option_map, ◌&&◌}
-pub use Rattle.std.specs.Str.{bytes_eq}
-pub use Rattle.mica_words.proofs.Fields.{entry_not_empty, entry_offset-entry_of, entry_tag-entry_of, header_room-header_of}
-pub use Rattle.mica_words.proofs.Hashes.{bucket_of-below, bucket_of_hash, hash_bucket-below, tag_of-range, tag_of_hash}
-pub use Rattle.mica_words.proofs.ItemWords.{header_word, length-item_words}
+pub use Rattle.std.specs.Prelude.{IfSome, MatchOption, is_some, nat_le, option_map, ◌&&◌}
+pub use Rattle.mica_words.proofs.Fields.{entry_not_empty, entry_offset-entry_of, entry_tag-entry_of}
+pub use Rattle.mica_words.proofs.Hashes.{bucket_of_hash, tag_of-range, tag_of_hash}
+pub use Rattle.mica_words.proofs.ItemWords.{length-item_words}
 pub use Rattle.mica_words.proofs.Sizes.{item_size-most}
 pub use Rattle.mica_words.specs.Entry.{entry_of, entry_offset, entry_tag}
-pub use Rattle.mica_words.specs.Hash.{bucket_of, fnv1a, hash_bucket, hash_tag, tag_of}
+pub use Rattle.mica_words.specs.Hash.{fnv1a, hash_bucket, hash_tag, tag_of}
 pub use Rattle.mica_words.specs.Header.{header_room}
 pub use Rattle.mica_words.specs.Item.{KeyFits, item_size, largest_item}
 pub use Rattle.mica_words.specs.Packing.{AreBytes}
 pub use Rattle.mica_words.specs.Spelling.{item_words}
 pub use Rattle.mica_words.specs.Stamp.{tail_of}
-pub use Rattle.mica_model.proofs.CacheKept.{IsKept, after_write_is, begin_of, here_of, keeps_put, left_of, live_of, offset_of, others_lack, rewritten}
-pub use Rattle.mica_model.proofs.CacheKept.{rewritten_key, size_at_most, tail_past}
-pub use Rattle.mica_model.proofs.CacheLaws.{apart_kept, fits_kept, kept_in, put_item, window_kept, written_same}
+pub use Rattle.mica_model.proofs.CacheKept.{IsKept, IsWritten, after_write_is, begin_of, here_of, keeps_put, left_of, live_of, offset_of, others_lack}
+pub use Rattle.mica_model.proofs.CacheKept.{rewritten, rewritten_key, size_at_most}
+pub use Rattle.mica_model.proofs.CacheLaws.{fits_kept, kept_in, put_item, window_kept, written_same}
 pub use Rattle.mica_model.proofs.FateLaws.{miss_is_not_held}
-pub use Rattle.mica_model.proofs.Found.{all_weaker, count_cons, found_has, missed_all}
+pub use Rattle.mica_model.proofs.Found.{all_filter, all_passes, all_weaker, count_cons, found_has, missed_all}
 pub use Rattle.mica_model.proofs.Histories.{accepted_is_length, cached_in, state_snoc}
-pub use Rattle.mica_model.proofs.Laid.{IsLaid, found_key, found_map, has_its_key as is_its_key, has_other_key, laid_found}
+pub use Rattle.mica_model.proofs.Laid.{IsLaid, has_its_key as is_its_key, has_other_key, laid_found}
 pub use Rattle.mica_model.proofs.Rises.{stamp_rises}
 pub use Rattle.mica_model.proofs.Stamps.{stamp_small}
 pub use Rattle.mica_model.specs.Answer.{IsAnswer}
 pub use Rattle.mica_model.specs.Cache.{Cache, Record, has_key, is_live, record_of}
 pub use Rattle.mica_model.specs.CacheFields.{IsUnique}
 pub use Rattle.mica_model.specs.CacheStep.{kept_record, new_record, others, reply_of, without_first}
-pub use Rattle.mica_model.specs.History.{Allows, IsAcceptedAfter, MayGive, State, accepted_in, after as state_after, answer_of, cache_state}
-pub use Rattle.mica_model.specs.History.{stamp_in as stamp_of_state, stamp_of, start, value_in}
+pub use Rattle.mica_model.specs.History.{Allows, MayGive, State, accepted_in, after as state_after, answer_of, cache_state}
+pub use Rattle.mica_model.specs.History.{stamp_in as stamp_of_state, stamp_of, value_in}
 pub use Rattle.mica_model.specs.Limits.{most_stamp}
-pub use Rattle.mica_model.specs.Options.{IsValid}
 pub use Rattle.mica_model.specs.Store.{Cell}
 pub use Rattle.mica_model.specs.Write.{IsWrite, is_accepted, size_of, write_of}
 pub use Rattle.mica_model.specs.declared.options.Mode.{Mode}
-pub use Rattle.mica_model.specs.declared.options.Mode.TheVariants.{Cache as CacheMode, Store as StoreMode}
+pub use Rattle.mica_model.specs.declared.options.Mode.TheVariants.{Cache as CacheMode}
 pub use Rattle.mica_model.specs.declared.options.Options.{Options}
 pub use Rattle.mica_model.specs.declared.write.Answer.{Answer}
 pub use Rattle.mica_model.specs.declared.write.Op.{Op}
@@ -56,34 +51,32 @@ pub use Rattle.mica_model.specs.declared.write.Op.TheVariants.{Del, Put}
 pub use Rattle.mica_model.specs.declared.write.Outcome.{Outcome}
 pub use Rattle.mica_model.specs.declared.write.Outcome.TheVariants.{Absent, Deleted, Stored, Worn}
 pub use Rattle.mica_model.specs.declared.write.Write.{Write}
-pub use Rattle.epoch_core.proofs.Carried.{changed}
-pub use Rattle.epoch_core.proofs.EventWords.{entry_begins, entry_marks, entry_puts, entry_puts_other, item_begins, item_marks, item_puts_entry}
-pub use Rattle.epoch_core.proofs.EventWords.{stamp_marks}
-pub use Rattle.epoch_core.proofs.Inside.{some_words}
-pub use Rattle.epoch_core.proofs.Keys.{has_its_key, has_no_other}
-pub use Rattle.epoch_core.proofs.Log.{not_below, other_rooms, room_is}
-pub use Rattle.epoch_core.proofs.Machine.{found_record, has_fits}
-pub use Rattle.epoch_core.proofs.Marked.{bit_same}
-pub use Rattle.epoch_core.proofs.Places.{no_item}
-pub use Rattle.epoch_core.proofs.Puts.{PutsWords, puts_words}
-pub use Rattle.epoch_core.specs.Chain.{InChain, IsAmong}
-pub use Rattle.epoch_core.specs.Events.{MayBegin, MayEnd, MayMark, after, plays, puts_from}
+pub use Rattle.epoch_core.proofs.CacheBuckets.{alone, stands_cached}
+pub use Rattle.epoch_core.proofs.EventWords.{entry_puts, entry_puts_other, item_puts_entry}
+pub use Rattle.epoch_core.proofs.Keys.{has_its_key}
+pub use Rattle.epoch_core.proofs.Log.{other_rooms, room_is}
+pub use Rattle.epoch_core.proofs.Machine.{found_record}
+pub use Rattle.epoch_core.proofs.PartitionLaws.{AcceptedWrite, Keeps, accepted_step, ended_gains, item_room, main, main_of, marked, marked_item}
+pub use Rattle.epoch_core.proofs.PartitionLaws.{may_begin, may_end, may_mark, new_stamp, only_key, put_entry, put_item as item_put, put_long}
+pub use Rattle.epoch_core.proofs.PartitionLaws.{put_others, put_same, put_stamp, put_words, same_cell, same_or_other, spells_item, spells_on}
+pub use Rattle.epoch_core.proofs.PartitionLaws.{spelt_key, stands_idle, stood, worn_step, written, written_marked, written_state}
+pub use Rattle.epoch_core.specs.Events.{MayBegin, MayEnd, MayMark, after}
 pub use Rattle.epoch_core.specs.ItemAt.{HasKey}
 pub use Rattle.epoch_core.specs.Kept.{Kept}
-pub use Rattle.epoch_core.specs.Layout.{entry_at, item_at, word_count}
+pub use Rattle.epoch_core.specs.Layout.{item_at}
 pub use Rattle.epoch_core.specs.LiveEntry.{HasLiveEntry, IsLiveItem}
-pub use Rattle.epoch_core.specs.OwnerState.{as_made, bucket_in, entry_in, item_in, marked_in, options_in, stamp_in, state_in}
+pub use Rattle.epoch_core.specs.OwnerState.{bucket_in, entry_in, item_in, marked_in, options_in, stamp_in, state_in}
 pub use Rattle.epoch_core.specs.OwnerStep.{IsOwnerStep}
 pub use Rattle.epoch_core.specs.Shape.{IsMain}
-pub use Rattle.epoch_core.specs.StandsFor.{Has, HasChain, IsOffset, RoomsApart, Spells, SpellsItem, StandsFor, cell_at, room_in}
-pub use Rattle.epoch_core.specs.declared.event.Event.TheVariants.{Begins, Ends, Marks, PutsEntry}
+pub use Rattle.epoch_core.specs.StandsFor.{Has, IsOffset, Spells, SpellsItem, StandsFor, cell_at, room_in}
+pub use Rattle.epoch_core.specs.declared.event.Event.TheVariants.{Begins, Ends, PutsEntry}
 pub use Rattle.epoch_core.specs.declared.shape.Shape.{Shape}
 pub use Rattle.epoch_core.specs.declared.state.OwnerState.{OwnerState}
-pub use Rattle.epoch_core.specs.declared.state.Phase.{Phase}
-pub use Rattle.epoch_core.specs.declared.state.Phase.TheVariants.{Begun, Idle, Marked}
+pub use Rattle.epoch_core.specs.declared.state.Phase.TheVariants.{Idle}
+pub use Rattle.circular_log.proofs.SpeltItem.{spelt_item}
 pub use Rattle.circular_log.specs.LogItem.{IsItem, room_at}
-pub use Rattle.circular_log.specs.LogWrite.{MayAppend, MayRewrite, with_item, written_record}
+pub use Rattle.circular_log.specs.LogWrite.{LeavesItem, MayAppend, MayRewrite, with_item, written_record}
 pub use Rattle.lossy_index.specs.Place.{GivesWay, HoldsOfNone, Takes, empty, oldest, passed}
-pub use Rattle.lossy_index.specs.Slot.{HasNoSlot, IsEmpty, IsFoundAt, IsPassed, IsSlotOf, offset_in}
+pub use Rattle.lossy_index.specs.Slot.{HasNoSlot, IsFoundAt, IsPassed, IsSlotOf, offset_in}
 pub use Rattle.cache_partition.specs.Gained.{Gains, MayWrite, marked_with}
-pub use Rattle.cache_partition.specs.Sought.{IsSought, had_record, had_record_by, kept_offset, kept_offset_by}
+pub use Rattle.cache_partition.specs.Sought.{had_record, had_record_by, kept_offset, kept_offset_by}

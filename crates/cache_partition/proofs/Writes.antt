@@ -1,171 +1,174 @@
--- A write from its begin to its end: when its events may happen, and what it makes of the state.
-use Rattle.mica_model.specs.Cache as cache
-use Rattle.mica_model.specs.Store as store
+-- A write from its begin to its end: when its events may happen, and what it has made of the partition.
 use Rattle.mica_model.specs.CacheStep as cs
-use Rattle.mica_model.proofs.Found as found
-use Rattle.cache_partition.proofs.Words.{Allows, AreBytes, Begins, Begun, Bool, Cache, CacheMode, Cell, Del, Ends, Gains, GivesWay, HasNoSlot, Idle}
-use Rattle.cache_partition.proofs.Words.{IsAcceptedAfter, IsKept, IsMain, IsOwnerStep, IsSlotOf, IsWrite, Kept, KeyFits, List, Marked, MatchOption}
-use Rattle.cache_partition.proofs.Words.{MayAppend, MayBegin, MayEnd, MayGive, MayMark, MayRewrite, MayWrite, Mode, None, Op, Option, Options}
-use Rattle.cache_partition.proofs.Words.{Outcome, OwnerState, Put, PutsEntry, Record, Some, Spells, SpellsItem, StandsFor, State, StoreMode, Takes}
-use Rattle.cache_partition.proofs.Words.{Worn, Write, [], accepted_in, accepted_is_length, after, ap, arith, as_made, bit_same, bucket_in}
-use Rattle.cache_partition.proofs.Words.{cache_state, cached_in, cell_at, changed, cond, empty, entry_in, entry_of, entry_offset, false, found_key}
-use Rattle.cache_partition.proofs.Words.{found_map, had_record, had_record_by, has_key, header_room, is_accepted, is_its_key, is_live, is_some}
-use Rattle.cache_partition.proofs.Words.{item_in, item_size, item_words, keeps_put, kept_in, kept_offset, kept_offset_by, kept_record, largest_item}
-use Rattle.cache_partition.proofs.Words.{le-leb, leb-false, length, length-item_words, lt-leb, marked_in, marked_with, most_stamp, nat_le, oldest}
-use Rattle.cache_partition.proofs.Words.{option_map, options_in, others_lack, passed, record_of, refl, rewritten, rewritten_key, room_at, room_in}
-use Rattle.cache_partition.proofs.Words.{room_is, same_Some, size_at_most, size_of, stamp_in, stamp_of, stamp_of_state, stamp_small, start}
-use Rattle.cache_partition.proofs.Words.{state_after, state_in, state_snoc, subst, sym, tag_of, tail_of, then_some, true, with_item, write_of}
-use Rattle.cache_partition.proofs.Words.{written_record, ℕ, ◌&&◌, ◌*◌, ◌++◌, ◌+◌, ◌<◌, ◌∙◌, ◌∷◌, ◌≡◌, ◌≤◌}
-use Rattle.cache_partition.proofs.Answering as answering
+use Rattle.cache_partition.proofs.Words.{AcceptedWrite, Allows, AreBytes, Begins, Bool, Cache, CacheMode, Del, Ends, Gains, HasNoSlot, Idle, IsMain}
+use Rattle.cache_partition.proofs.Words.{IsOwnerStep, IsSlotOf, IsWrite, Kept, KeyFits, LeavesItem, List, MatchOption, MayAppend, MayBegin, MayEnd}
+use Rattle.cache_partition.proofs.Words.{MayGive, MayMark, MayRewrite, MayWrite, None, Op, Option, Options, Outcome, OwnerState, Put, PutsEntry}
+use Rattle.cache_partition.proofs.Words.{Record, Some, SpellsItem, StandsFor, State, Takes, Worn, Write, [], accepted_in, accepted_is_length}
+use Rattle.cache_partition.proofs.Words.{accepted_step, after, ap, arith, begin_of, bucket_in, cached_in, cell_at, cond, ended_gains, entry_in}
+use Rattle.cache_partition.proofs.Words.{entry_not_empty, entry_of, entry_offset, entry_offset-entry_of, entry_tag-entry_of, false, fits_kept}
+use Rattle.cache_partition.proofs.Words.{had_record, had_record_by, inl, inr, is_accepted, is_live, is_some, item_in, item_room, item_size}
+use Rattle.cache_partition.proofs.Words.{item_words, keeps_put, kept_offset, kept_offset_by, kept_record, largest_item, le-leb, leb-false, length}
+use Rattle.cache_partition.proofs.Words.{length-item_words, lt-leb, main, marked, marked_in, marked_item, marked_with, may_begin, may_end, may_mark}
+use Rattle.cache_partition.proofs.Words.{most_stamp, nat_le, new_record, option_map, options_in, put_entry, put_same, put_stamp, put_words, record_of}
+use Rattle.cache_partition.proofs.Words.{refl, room_at, room_in, room_is, size_at_most, size_of, stamp_in, stamp_of, stamp_of_state, stamp_small}
+use Rattle.cache_partition.proofs.Words.{state_after, state_snoc, stood, subst, sym, tag_of, tag_of-range, tail_of, then_some, true, with_item}
+use Rattle.cache_partition.proofs.Words.{write_of, written, written_marked, written_record, ℕ, ◌&&◌, ◌*◌, ◌++◌, ◌+◌, ◌<◌, ◌^◌, ◌∙◌, ◌∷◌, ◌≡◌, ◌≤◌}
+use Rattle.cache_partition.proofs.Words.{◌⊎◌}
 use Rattle.cache_partition.proofs.Leaves as leaves
-use Rattle.cache_partition.proofs.Effects as effects
-use Rattle.cache_partition.proofs.Endings as endings
-use Rattle.cache_partition.proofs.Endings.{key_main}
+use Rattle.cache_partition.proofs.Held.{Held, found_slot, held, machine, no_record, slot_of, stamp_is, stands_at}
+use Rattle.cache_partition.proofs.Before.{dead_slot, own_slot, slot_that_gives_way}
+use Rattle.cache_partition.proofs.Leaves.{made}
+use Rattle.cache_partition.proofs.OneSlot.{Before, deleted, entry_effect, put, put_effect}
 
--- what keeps a put
-
-kept_some : (found : Option Record) (p : ℕ) → option_map (λ (held : Record). held.offset) found ≡ Some p → (held : Record) × (found ≡ Some held) × (held.offset ≡ p)
-kept_some None p e = cc
-kept_some (Some held) p e = (held, refl, cc)
-
-kept_none : (found : Option Record) → option_map (λ (held : Record). held.offset) found ≡ None → found ≡ None
-kept_none None e = refl
-kept_none (Some held) e = cc
+-- Replies
 
 reply_accepted : (op : Op) (options : Options) (w : Write) (found : Bool) → is_accepted (cs.reply_of op options w found) ≡ true
 reply_accepted Put options w found = refl
 reply_accepted Del options w true = refl
 reply_accepted Del options w false = refl
 
--- the reply to a write that is not refused
-
-replies : (options : Options) (m : Cache) (w : Write) → m.accepted < options.wear → cs.reply options m w ≡ cs.reply_of w.op options w (is_some (record_of m w.key))
+-- before the partition is worn no write is refused
+may_give : (o : OwnerState) → MayWrite o → (w : Write) → MayGive (options_in o) o.history w (cs.reply_of w.op (options_in o) w (had_record o w.key))
 unfolding cs.reply
-replies options m w few = ap (λ b. cond b Worn (cs.reply_of w.op options w (is_some (record_of m w.key)))) (lt-leb options.wear m.accepted few)
-
-pub may_give : (o : OwnerState) → MayWrite o → (w : Write) → MayGive (options_in o) o.history w (cs.reply_of w.op (options_in o) w (had_record o w.key))
 may_give o may w =
     let there = cached_in (options_in o) may.cached o.history in
     let count = ap accepted_in there.1 in
     let all = accepted_is_length (options_in o) o.history in
     let less = may.not_worn in
-    subst (λ (z : State). Allows (options_in o) z w (cs.reply_of w.op (options_in o) w (had_record_by z w.key))) (sym there.1) (sym (replies (options_in o) there.0 w (omega arith)))
-
--- and to one that is
-
-refuses : (options : Options) (m : Cache) (w : Write) → options.wear ≤ m.accepted → Worn ≡ cs.reply options m w
-unfolding cs.reply
-refuses options m w full = ap (λ b. cond b Worn (cs.reply_of w.op options w (is_some (record_of m w.key)))) (sym (le-leb options.wear m.accepted full))
-
-pub worn_step : (o : OwnerState) → o.phase ≡ Idle → o.shape.mode ≡ CacheMode → o.shape.wear ≤ length o.history → (w : Write) → IsOwnerStep o o w Worn
-worn_step o idle mode full w =
-    let there = cached_in (options_in o) mode o.history in
-    let count = ap accepted_in there.1 in
-    let all = accepted_is_length (options_in o) o.history in
-    record {
-      allowed = subst (λ (z : State). Allows (options_in o) z w Worn) (sym there.1) (refuses (options_in o) there.0 w (omega arith));
-      gained = refl;
-      idle = idle;
-    }
+    subst (λ (z : State). Allows (options_in o) z w (cs.reply_of w.op (options_in o) w (had_record_by z w.key))) (sym there.1)
+    (ap (λ b. cond b Worn (cs.reply_of w.op (options_in o) w (is_some (record_of there.0 w.key)))) (sym (lt-leb o.shape.wear there.0.accepted (omega arith))))
 
 -- where the state is not worn
 pub may_write : (o : OwnerState) → o.phase ≡ Idle → o.shape.mode ≡ CacheMode → nat_le o.shape.wear (length o.history) ≡ false → MayWrite o
 may_write o idle mode few = record { idle = idle; cached = mode; not_worn = leb-false o.shape.wear (length o.history) few }
 
 -- a step that gains the write
-pub accepted_step : (o new : OwnerState) → MayWrite o → (w : Write) (outcome : Outcome) → Gains o new w → outcome ≡ cs.reply_of w.op (options_in o) w (had_record o w.key) → IsOwnerStep o new w outcome
-accepted_step o new may w outcome gained is = record {
-  allowed = subst (MayGive (options_in o) o.history w) (sym is) (may_give o may w);
-  gained = gained ∙ ap (λ b. cond b (record o { words = new.words; history = o.history ++ w ∷ [] }) o) (sym (ap is_accepted is ∙ reply_accepted w.op (options_in o) w (had_record o w.key)));
-  idle = ap (λ (z : OwnerState). z.phase) gained ∙ may.idle;
-}
+pub gained_step : (o new : OwnerState) → MayWrite o → (w : Write) (outcome : Outcome) → Gains o new w → outcome ≡ cs.reply_of w.op (options_in o) w (had_record o w.key) → IsOwnerStep o new w outcome
+gained_step o new may w outcome gained is = subst (IsOwnerStep o new w) (sym is)
+    (accepted_step o new may.idle w (cs.reply_of w.op (options_in o) w (had_record o w.key)) (reply_accepted w.op (options_in o) w (had_record o w.key)) (may_give o may w) gained)
 
--- as made, no stamp was given
-start_stamp : (mode : Mode) → stamp_of_state (start mode) ≡ 0
-unfolding cache.start store.start
-start_stamp CacheMode = refl
-start_stamp StoreMode = refl
+pub delete_is : (key : List ℕ) → KeyFits key → AreBytes key → IsWrite (write_of Del key [])
+delete_is key key_fits key_bytes = record { key = key_fits; key_bytes = key_bytes; value = refl; value_bytes = λ k. omega arith }
 
-pub new_stamp : (o : OwnerState) → o ≡ as_made o.shape → 0 ≡ stamp_of (options_in o) o.history
-new_stamp o made = sym (ap (stamp_of (options_in o)) (ap (λ (z : OwnerState). z.history) made) ∙ start_stamp o.shape.mode)
+-- the stamp stays far below the limit of a word
+pub stamp_limit : (o : OwnerState) → Kept o → (stamp : ℕ) → stamp ≡ stamp_in o → stamp ≤ most_stamp
+stamp_limit o s stamp is =
+    let small = stamp_small (options_in o) s.shape.ranges o.history s.history.accepted s.history.writes in
+    let stamp_is = s.stamp in
+    omega arith
+
+-- What a write ends with
+
+pub record Closes (o : OwnerState) (w : Write) (b t : ℕ) (q : OwnerState) : Type 0 where
+  pub end : MayEnd q b
+  pub gains : (new : OwnerState) → new ≡ after (Ends b) q → Gains o new w
+  pub stamp : (new : OwnerState) → new ≡ after (Ends b) q → t ≡ stamp_of (options_in new) new.history
+
+-- Each event of a delete may happen.
+pub record Deletes (o : OwnerState) (w : Write) (b t : ℕ) : Type 0 where
+  pub cleared : (slot : ℕ) → IsSlotOf o b w.key slot → (q : OwnerState) → q ≡ after (PutsEntry b slot 0) (marked_with o b w t) → Kept q → Closes o w b t q
+  pub absent : HasNoSlot o b w.key → (q : OwnerState) → q ≡ marked_with o b w t → Kept q → Closes o w b t q
+
+-- and of a put into the room at the offset
+pub record Rewrites (o : OwnerState) (w : Write) (b t p : ℕ) : Type 0 where
+  pub may : MayRewrite (marked_with o b w t) p w.key w.value
+  pub closes : (q : OwnerState) → q ≡ with_item (marked_with o b w t) p (room_at (marked_with o b w t) p) w.key w.value → Kept q → Closes o w b t q
+
+-- the item of a put at the tail of the log is stored
+abbrev pub HasStored : OwnerState → Write → ℕ → ℕ → ℕ → OwnerState → Type 0
+HasStored o w b t p q = q ≡ with_item (marked_with o b w t) p (item_size w.key w.value) w.key w.value
+
+-- and of such a put
+pub record Appends (o : OwnerState) (w : Write) (b t p : ℕ) : Type 0 where
+  pub may : MayAppend (marked_with o b w t) p w.key w.value
+  pub ready : (q : OwnerState) → HasStored o w b t p q → (marked_in q.phase b ≡ 1) × IsMain q.shape b
+  pub closes : (old : Option ℕ) → MatchOption old (HasNoSlot o b w.key) (IsSlotOf o b w.key) → (q q' : OwnerState) (slot tag : ℕ) → HasStored o w b t p q
+      → Takes q b old slot → tag ≡ tag_of w.key → q' ≡ after (PutsEntry b slot (entry_of tag p)) q → Kept q' → Closes o w b t q'
+
+-- the record that keeps a put, by its offset
+kept_by : (found : Option Record) → MatchOption (option_map (λ (r : Record). r.offset) found) (found ≡ None) (λ p. (r : Record) × (found ≡ Some r) × (r.offset ≡ p))
+kept_by None = refl
+kept_by (Some r) = (r, refl, refl)
 
 module _ (o : OwnerState) (s : Kept o) (may : MayWrite o) (w : Write) (is : IsWrite w) where
-  abbrev now : (m : Cache) × (state_in o ≡ cache_state m)
-  now = cached_in (options_in o) may.cached o.history
+  abbrev b : ℕ
+  b = bucket_in o w.key
 
-  at : state_in o ≡ cache_state now.0
-  at = now.1
+  abbrev h : Held
+  h = held o s may.cached
 
-  kept : IsKept (options_in o) now.0
-  kept = kept_in (options_in o) o.history s.history.writes now.0 now.1
+  kept_is : kept_offset o w ≡ option_map (λ (r : Record). r.offset) (kept_record (options_in o) h.m w)
+  kept_is = ap (λ (z : State). kept_offset_by (options_in o) z w) h.before
 
-  stamp_now : stamp_in o ≡ now.0.stamp
-  stamp_now = s.stamp ∙ ap stamp_of_state now.1
+  held_by : (offset : Option ℕ) → kept_offset o w ≡ offset
+      → MatchOption offset (kept_record (options_in o) h.m w ≡ None) (λ p. (r : Record) × (kept_record (options_in o) h.m w ≡ Some r) × (r.offset ≡ p))
+  held_by offset is = subst (λ (z : Option ℕ). MatchOption z (kept_record (options_in o) h.m w ≡ None) (λ p. (r : Record) × (kept_record (options_in o) h.m w ≡ Some r) × (r.offset ≡ p)))
+      (sym kept_is ∙ is) (kept_by (kept_record (options_in o) h.m w))
 
-  stamp_next : stamp_of (options_in o) (o.history ++ w ∷ []) ≡ (cs.after (options_in o) now.0 w).stamp
-  stamp_next = ap stamp_of_state (state_snoc (options_in o) o.history w ∙ ap (λ (z : State). state_after (options_in o) z w) now.1)
+  -- The stamp after it
 
-  accepted : IsAcceptedAfter (options_in o) o.history w
-  accepted = (cs.reply_of w.op (options_in o) w (had_record o w.key), reply_accepted w.op (options_in o) w (had_record o w.key), may_give o may w)
+  stamp_after : (t : Cache) → made h w ≡ t → stamp_of (options_in o) (o.history ++ w ∷ []) ≡ t.stamp
+  stamp_after t written =
+      ap stamp_of_state (state_snoc (options_in o) o.history w ∙ ap (λ (z : State). state_after (options_in o) z w) h.before)
+      ∙ (leaves.step_stamp h w ∙ ap (λ (z : Cache). z.stamp) written)
 
-  pub may_begin : (b : ℕ) → b ≡ bucket_in o w.key → MayBegin o b
-  may_begin b here = record { idle = may.idle; main = subst (IsMain o.shape) (sym here) (key_main o s w.key); not_worn = may.not_worn }
+  pub stamp_deleted : w.op ≡ Del → stamp_in o + 1 ≡ stamp_of (options_in o) (o.history ++ w ∷ [])
+  stamp_deleted op = ap (λ (n : ℕ). n + 1) (stamp_is h) ∙ sym (stamp_after _ (leaves.is_deleted h w op))
 
-  pub may_mark : (b n : ℕ) → b ≡ bucket_in o w.key → n ≡ stamp_of (options_in o) (o.history ++ w ∷ []) → MayMark (after (Begins b) o) w n
-  may_mark b n here stamp = record { begun = ap Begun here; fits = is; accepted = accepted; stamp = stamp }
-
-  pub stamp_deleted : w.op ≡ Del → stamp_of (options_in o) (o.history ++ w ∷ []) ≡ stamp_in o + 1
-  stamp_deleted op = stamp_next ∙ (leaves.deleted_stamp (options_in o) now.0 kept w op ∙ ap (λ (z : ℕ). z + 1) (sym stamp_now))
-
-  held_at : (p : ℕ) → kept_offset o w ≡ Some p → (held : Record) × (kept_record (options_in o) now.0 w ≡ Some held) × (held.offset ≡ p)
-  held_at p keeps = kept_some (kept_record (options_in o) now.0 w) p (subst (λ (z : State). kept_offset_by (options_in o) z w ≡ Some p) now.1 keeps)
-
-  held_none : kept_offset o w ≡ None → kept_record (options_in o) now.0 w ≡ None
-  held_none keeps = kept_none (kept_record (options_in o) now.0 w) (subst (λ (z : State). kept_offset_by (options_in o) z w ≡ None) now.1 keeps)
-
-  pub stamp_rewritten : (p : ℕ) → w.op ≡ Put → kept_offset o w ≡ Some p → stamp_of (options_in o) (o.history ++ w ∷ []) ≡ stamp_in o + 1
+  pub stamp_rewritten : (p : ℕ) → w.op ≡ Put → kept_offset o w ≡ Some p → stamp_in o + 1 ≡ stamp_of (options_in o) (o.history ++ w ∷ [])
   stamp_rewritten p op keeps =
-      let held = held_at p keeps in
-      stamp_next ∙ (leaves.rewritten_stamp (options_in o) now.0 kept w held.0 op held.1 ∙ ap (λ (z : ℕ). z + 1) (sym stamp_now))
+      let r = held_by (Some p) keeps in
+      ap (λ (n : ℕ). n + 1) (stamp_is h) ∙ sym (stamp_after _ (leaves.is_rewritten h w r.0 op r.1))
 
-  pub stamp_appended : w.op ≡ Put → kept_offset o w ≡ None → stamp_of (options_in o) (o.history ++ w ∷ []) ≡ stamp_in o + 65536 * size_of w
+  pub stamp_appended : w.op ≡ Put → kept_offset o w ≡ None → stamp_in o + 65536 * size_of w ≡ stamp_of (options_in o) (o.history ++ w ∷ [])
   stamp_appended op keeps =
-      stamp_next ∙ (leaves.appended_stamp (options_in o) now.0 kept w op (held_none keeps) ∙ ap (λ (z : ℕ). z + 65536 * size_of w) (sym stamp_now))
+      ap (λ (n : ℕ). n + 65536 * size_of w) (stamp_is h) ∙ sym (stamp_after _ (leaves.is_appended h w op (held_by None keeps)))
 
-  -- what the bucket is at the end
+  -- The write is marked by this stamp
 
-  module _ (n : ℕ) where
-    abbrev here : ℕ
-    here = bucket_in o w.key
+  module _ (t : ℕ) (stamp : t ≡ stamp_of (options_in o) (o.history ++ w ∷ [])) where
+    abbrev accepted : AcceptedWrite o
+    accepted = record {
+      kept = s;
+      idle = may.idle;
+      unworn = may.not_worn;
+      w = w;
+      is = is;
+      outcome = cs.reply_of w.op (options_in o) w (had_record o w.key);
+      accepted = reply_accepted w.op (options_in o) w (had_record o w.key);
+      may = may_give o may w;
+      t = t;
+      stamp = stamp;
+    }
 
-    main : IsMain o.shape (bucket_in o w.key)
-    main = key_main o s w.key
+    pub begins : (c : ℕ) → c ≡ b → MayBegin o c × MayMark (after (Begins c) o) w t
+    begins c here = subst (λ (z : ℕ). MayBegin o z × MayMark (after (Begins z) o) w t) (sym here) (may_begin o accepted, may_mark o accepted)
 
-    abbrev with_words : List ℕ → OwnerState
-    with_words words = changed o words (o.history ++ w ∷ []) (Marked (bucket_in o w.key) w o.history)
+    closes : (words : List ℕ) → StandsFor (written o accepted words) b → (q : OwnerState) → q ≡ written o accepted words → Closes o w b t q
+    closes words stands q at = subst (Closes o w b t) (sym at) record {
+      end = may_end o accepted words stands;
+      gains = λ new e. subst (λ (z : OwnerState). Gains o z w) (sym e) (ended_gains o accepted words);
+      stamp = λ new e. stamp ∙ ap (λ (z : OwnerState). stamp_of (options_in z) z.history) (sym e);
+    }
 
-    ends : (words : List ℕ) → StandsFor (with_words words) here → MayEnd (with_words words) here
-    ends words stands = record { marked = bit_same (bucket_in o w.key) (bucket_in o w.key) refl; stands_for = stands }
+    -- A delete
 
-    -- a delete
-
-    pub record EndsDelete (b : ℕ) : Type 0 where
-      pub cleared : (slot : ℕ) → IsSlotOf o b w.key slot → Kept (after (PutsEntry b slot 0) (marked_with o b w n))
-          → MayEnd (after (PutsEntry b slot 0) (marked_with o b w n)) b
-      pub absent : HasNoSlot o b w.key → Kept (marked_with o b w n) → MayEnd (marked_with o b w n) b
-
-    pub end_delete : w.op ≡ Del → (b : ℕ) → b ≡ bucket_in o w.key → EndsDelete b
-    end_delete op b in_its =
-        let no_words : length {A = ℕ} [] ≤ o.shape.words = omega arith in
-        subst EndsDelete (sym in_its) record {
-          cleared = λ slot found t. ends (after (PutsEntry here slot 0) (marked_with o here w n)).words
-              (endings.delete_of_slot o s may.idle may.cached now.0 now.1 w is (after (PutsEntry here slot 0) (marked_with o here w n)).words t op slot found
-              (effects.entry_here o s here main w n 0 [] no_words slot found.in_bucket 0) (effects.entry_effect o s here main w n 0 [] no_words slot found.in_bucket 0));
-          absent = λ none t. ends (marked_with o here w n).words
-              (endings.delete_of_none o s may.idle may.cached now.0 now.1 w is (marked_with o here w n).words t op none (effects.put_effect o s here main w n 0 [] no_words 15));
+    pub deletes : w.op ≡ Del → (c : ℕ) → c ≡ b → Deletes o w c t
+    deletes op c here =
+        let none : length {A = ℕ} [] ≤ o.shape.words = omega arith in
+        subst (λ (z : ℕ). Deletes o w z t) (sym here) record {
+          cleared = λ slot found q at k.
+              let own = found_slot h b (stood o accepted) w.key refl is.key_bytes slot found in
+              let effect = entry_effect h accepted 0 [] none slot 0 found.in_bucket in
+              closes (after (PutsEntry b slot 0) (marked o accepted)).words
+              (deleted h accepted (after (PutsEntry b slot 0) (marked o accepted)).words (subst Kept at k) op slot 0 (own_slot h accepted slot own.0 own.1) effect
+              (λ y e. e.live.0 (sym e.found ∙ effect.here))) q at;
+          absent = λ lacks q at k. closes (marked o accepted).words
+              (deleted h accepted (marked o accepted).words (subst Kept at k) op 15 _ (dead_slot h accepted lacks 15 (omega arith) (λ last. leaves.deleted_none h w op) (λ y e live. let below = e.in_bucket in absurd (omega arith)))
+              (put_effect h accepted 0 [] none 15 _ refl) (λ y e. let below = e.in_bucket in absurd (omega arith))) q at;
         }
 
-    -- a put
+    -- A put
 
     few_words : (room : ℕ) → length (item_words room w.key w.value) ≤ o.shape.words
     few_words room =
@@ -174,229 +177,111 @@ module _ (o : OwnerState) (s : Kept o) (may : MayWrite o) (w : Write) (is : IsWr
         let least = s.shape.ranges.words.0 in
         omega arith
 
-    abbrev pub with_its_item : ℕ → ℕ → ℕ → OwnerState
-    with_its_item b p room = with_item (marked_with o b w n) p room w.key w.value
+    -- it leaves its key this record
+    leaves_item : (p room : ℕ) → record_of (made h w) w.key ≡ Some (record { key = w.key; value = w.value; offset = p; room = room })
+        → LeavesItem (marked o accepted) p room w.key w.value
+    leaves_item p room found =
+        subst (λ (z : State). written_record (options_in o) z w ≡ Some (record { key = w.key; value = w.value; offset = p; room = room })) (sym h.before) found
 
-    item_is : (p room : ℕ) → with_its_item here p room ≡ with_words (with_its_item here p room).words
-    item_is p room = effects.put_same o s here main w n p (item_words room w.key w.value) (few_words room)
+    pub rewrites : w.op ≡ Put → (c p : ℕ) → c ≡ b → kept_offset o w ≡ Some p → Rewrites o w c t p
+    rewrites op c p here keeps =
+        let r = held_by (Some p) keeps in
+        let kept = keeps_put (options_in o) h.m w r.0 r.1 in
+        let at = slot_of h b (stood o accepted) w.key r.0 refl kept.is in
+        let xs = item_words r.0.room w.key w.value in
+        let there : SpellsItem (marked o accepted) r.0.offset w.key (cell_at r.0).0 = λ i l.
+        marked_item o accepted (r.0.offset + i) ∙ (ap (λ (z : ℕ). item_in o (z + i)) at.1.offset ∙ at.1.spelt.item i l) in
+        let room = item_room (marked o accepted) r.0.offset w.key (cell_at r.0).0 (fits_kept (options_in o) h.m (machine h) w.key r.0 kept.is).5 there in
+        let words = put_words o accepted r.0.offset xs (few_words r.0.room) in
+        subst (λ (z : ℕ). Rewrites o w z t p) (sym here) (subst (Rewrites o w b t) r.2 record {
+          may = record {
+            cell = (cell_at r.0).0;
+            there = there;
+            leaves = leaves_item r.0.offset r.0.room (leaves.rewritten_own h w r.0 op r.1);
+          };
+          closes = λ q at_q k.
+              let is = at_q ∙ (ap (λ (n : ℕ). with_item (marked o accepted) r.0.offset n w.key w.value) room ∙ put_same o accepted r.0.offset xs (few_words r.0.room)) in
+              let stamp = ap (λ (z : Cache). tail_of z.stamp) (leaves.is_rewritten h w r.0 op r.1) in
+              let live = kept.live in
+              closes words (put h accepted words (subst Kept is k) op at.0 (entry_in o b at.0) (own_slot h accepted at.0 r.0 at.1) at.1.entry.in_bucket (record r.0 { key = w.key })
+              (leaves.rewritten_own h w r.0 op r.1) (ap (λ (z : Option Record). begin_of z h.m) r.1) (omega arith) at.1.entry.live.0 (sym at.1.offset) at.1.spelt.tag
+              (put_effect h accepted r.0.offset xs (few_words r.0.room) at.0 (entry_in o b at.0)
+              (put_entry o accepted r.0.offset xs (few_words r.0.room) b at.0 (let main = main o accepted in omega arith) at.1.entry.in_bucket))) q is;
+        })
 
-    -- in place
+    module _ (op : w.op ≡ Put) (keeps : kept_offset o w ≡ None) where
+      abbrev p : ℕ
+      p = tail_of h.m.stamp
 
-    room_kept : (b p : ℕ) → b ≡ bucket_in o w.key → (held : Record) → kept_record (options_in o) now.0 w ≡ Some held → held.offset ≡ p
-        → (slot : ℕ) → IsSlotOf o b w.key slot → (room_in o (entry_in o b slot) ≡ held.room) × (entry_offset (entry_in o b slot) ≡ p) × Spells o b (entry_in o b slot) w.key (cell_at held).0
-    room_kept b p here held at_held offset slot found =
-        let spelt = answering.spelt o s may.idle may.cached w.key is.key_bytes b here slot found in
-        let record_there = answering.held o s may.idle may.cached w.key is.key_bytes b here slot found in
-        let same : record_there.0 ≡ held = same_Some record_there.0 held (sym record_there.1 ∙ (keeps_put (options_in o) now.0 w held at_held).is) in
-        let cell : spelt.0 ≡ (cell_at held).0 = record_there.3 ∙ ap (λ (r : Record). (cell_at r).0) same in (
-          room_is o s b (entry_in o b slot) w.key spelt.0 spelt.1 ∙ ap (λ (c : Cell). c.room) cell,
-          sym record_there.2 ∙ (ap (λ (r : Record). r.offset) same ∙ offset),
-          subst (Spells o b (entry_in o b slot) w.key) cell spelt.1,
-        )
-
-    -- the room that the item's header has now
-    room_now : (b p : ℕ) → b ≡ bucket_in o w.key → (held : Record) → kept_record (options_in o) now.0 w ≡ Some held → held.offset ≡ p
-        → (slot : ℕ) → IsSlotOf o b w.key slot → room_at (marked_with o b w n) p ≡ held.room
-    room_now b p here held at_held offset slot found =
-        let main : IsMain o.shape b = subst (IsMain o.shape) (sym here) (key_main o s w.key) in
-        let before = room_kept b p here held at_held offset slot found in
-        ap header_room (effects.marked_item o s b main w n p ∙ ap (item_in o) (sym before.1)) ∙ before.0
-
-    abbrev EndsInPlace : ℕ × ℕ × ℕ → Type 0
-    EndsInPlace z = Kept (with_its_item z.0 z.1 z.2) → MayEnd (with_its_item z.0 z.1 z.2) z.0
-
-    pub end_in_place : w.op ≡ Put → (b p slot : ℕ) → b ≡ bucket_in o w.key → kept_offset o w ≡ Some p → IsSlotOf o b w.key slot
-        → Kept (with_its_item b p (room_at (marked_with o b w n) p)) → MayEnd (with_its_item b p (room_at (marked_with o b w n) p)) b
-    end_in_place op b p slot in_its keeps found =
-        let held = held_at p keeps in
-        let few = few_words held.0.room in
-        let slot_is : IsSlotOf o here w.key slot = subst (λ (z : ℕ). IsSlotOf o z w.key slot) in_its found in
-        subst EndsInPlace (λ j. (sym in_its j, held.2 j, sym (room_now b p in_its held.0 held.1 held.2 slot found) j))
-        (λ t. subst (λ (z : OwnerState). MayEnd z here) (sym (item_is held.0.offset held.0.room)) (ends (with_its_item here held.0.offset held.0.room).words
-        (endings.put_in_place o s may.idle may.cached now.0 now.1 w is (with_its_item here held.0.offset held.0.room).words
-        (subst Kept (item_is held.0.offset held.0.room) t) op held.0 held.1 slot slot_is
-        (effects.put_entry_same o s here main w n held.0.offset (item_words held.0.room w.key w.value) few slot slot_is.in_bucket)
-        (effects.put_effect o s here main w n held.0.offset (item_words held.0.room w.key w.value) few slot))))
-
-    -- at the tail
-
-    in_bucket : (p : OwnerState) (b slot : ℕ) → GivesWay p b slot → slot < 15
-    in_bucket p b slot (empty is) = is.in_bucket
-    in_bucket p b slot (passed full is) = is.in_bucket
-    in_bucket p b slot (oldest full all is) = is.in_bucket
-
-    -- the state once the item is stored
-    abbrev pub stored : ℕ → ℕ → OwnerState
-    stored b p = with_its_item b p (item_size w.key w.value)
-
-    -- and once the slot names it
-    abbrev pub EndsAtTail : OwnerState → ℕ → ℕ → Option ℕ → ℕ → Type 0
-    EndsAtTail q b entry old slot = MatchOption old (HasNoSlot o b w.key) (IsSlotOf o b w.key) → Takes q b old slot
-        → Kept (after (PutsEntry b slot entry) q) → MayEnd (after (PutsEntry b slot entry) q) b
-
-    module _ (op : w.op ≡ Put) (keeps : kept_offset o w ≡ None) (stamp : n ≡ stamp_of (options_in o) (o.history ++ w ∷ [])) where
       abbrev xs : List ℕ
       xs = item_words (item_size w.key w.value) w.key w.value
 
       few : length xs ≤ o.shape.words
       few = few_words (item_size w.key w.value)
 
-      abbrev tail : ℕ
-      tail = tail_of now.0.stamp
+      abbrev stored : OwnerState
+      stored = written o accepted (put_words o accepted p xs few)
 
-      abbrev entry : ℕ
-      entry = entry_of (tag_of w.key) (tail_of now.0.stamp)
+      stored_stamp : tail_of (stamp_in stored) ≡ tail_of (made h w).stamp
+      stored_stamp = ap tail_of (put_stamp o accepted p xs few ∙ (stamp ∙ stamp_after (made h w) refl))
 
-      abbrev with_stored : OwnerState
-      with_stored = with_words (with_its_item (bucket_in o w.key) (tail_of now.0.stamp) (item_size w.key w.value)).words
+      its_own : record_of (made h w) w.key ≡ Some (new_record h.m w.key w.value)
+      its_own = leaves.appended_own h w op (held_by None keeps)
 
-      stored_stamp : stamp_in with_stored ≡ now.0.stamp + 65536 * item_size w.key w.value
-      stored_stamp = effects.put_stamp o s here main w n tail xs few ∙ (stamp ∙ (stamp_next ∙ leaves.appended_stamp (options_in o) now.0 kept w op (held_none keeps)))
+      own_live : tail_of (made h w).stamp ≤ p + o.shape.words
+      own_live = let most = (leaves.written h w is).most in let least = s.shape.ranges.words.0 in let now = stamp_is h in omega arith
 
-      by_slot : (old : Option ℕ) (slot : ℕ) → EndsAtTail with_stored here entry old slot
-      by_slot None slot none gives t =
-          let below = in_bucket with_stored here slot gives in
-          ends (after (PutsEntry here slot entry) with_stored).words
-          (endings.put_over_none o s may.idle may.cached now.0 now.1 w is (after (PutsEntry here slot entry) with_stored).words t op (held_none keeps) slot below
-          (effects.entry_here o s here main w n tail xs few slot below entry) (effects.entry_effect o s here main w n tail xs few slot below entry)
-          none with_stored.words (effects.put_entry_same o s here main w n tail xs few) stored_stamp gives)
-      by_slot (Some old) slot found same t =
-          let is_slot : IsSlotOf o here w.key slot = subst (IsSlotOf o here w.key) (sym same) found in
-          ends (after (PutsEntry here slot entry) with_stored).words
-          (endings.put_over_slot o s may.idle may.cached now.0 now.1 w is (after (PutsEntry here slot entry) with_stored).words t op (held_none keeps) slot is_slot.in_bucket
-          (effects.entry_here o s here main w n tail xs few slot is_slot.in_bucket entry) (effects.entry_effect o s here main w n tail xs few slot is_slot.in_bucket entry) is_slot)
+      before : (old : Option ℕ) (slot : ℕ) → MatchOption old (HasNoSlot o b w.key) (IsSlotOf o b w.key) → Takes stored b old slot → (slot < 15) × Before h accepted slot
+      before None slot none gives = slot_that_gives_way h accepted none (new_record h.m w.key w.value) its_own refl own_live stored refl
+          (λ i l. put_entry o accepted p xs few b i (let main = main o accepted in omega arith) l) stored_stamp slot gives
+      before (Some old) slot found same =
+          let its : IsSlotOf o b w.key slot = subst (IsSlotOf o b w.key) (sym same) found in
+          let own = found_slot h b (stood o accepted) w.key refl is.key_bytes slot its in
+          (its.in_bucket, own_slot h accepted slot own.0 own.1)
 
-      pub end_at_tail : (b slot tag p : ℕ) (old : Option ℕ) → b ≡ bucket_in o w.key → tag ≡ tag_of w.key → p ≡ tail_of (stamp_in o)
-          → EndsAtTail (stored b p) b (entry_of tag p) old slot
-      end_at_tail b slot tag p old in_its tag_is p_is =
-          subst (λ (z : ℕ × ℕ × ℕ). EndsAtTail (stored z.0 z.1) z.0 (entry_of z.2 z.1) old slot) (λ j. (sym in_its j, sym (p_is ∙ ap tail_of stamp_now) j, sym tag_is j))
-          (subst (λ (z : OwnerState). EndsAtTail z here entry old slot) (sym (item_is tail (item_size w.key w.value))) (by_slot old slot))
+      stands : (slot : ℕ) → (slot < 15) × Before h accepted slot → Kept (after (PutsEntry b slot (entry_of (tag_of w.key) p)) stored)
+          → StandsFor (after (PutsEntry b slot (entry_of (tag_of w.key) p)) stored) b
+      stands slot spelt k =
+          let small = stamp_limit o s h.m.stamp (sym (stamp_is h)) in
+          let low : p < 2 ^ 48 = omega arith in
+          put h accepted (after (PutsEntry b slot (entry_of (tag_of w.key) p)) stored).words k op slot (entry_of (tag_of w.key) p) spelt.1 spelt.0 (new_record h.m w.key w.value)
+          its_own (ap (λ (z : Option Record). begin_of z h.m) (held_by None keeps)) own_live (entry_not_empty (tag_of w.key) p (tag_of-range w.key).0)
+          (entry_offset-entry_of (tag_of w.key) p low) (entry_tag-entry_of (tag_of w.key) p low) (entry_effect h accepted p xs few slot (entry_of (tag_of w.key) p) spelt.0)
 
--- the record that a put leaves its key
-
-appended_record : (m : Cache) (w : Write) → record_of (cs.after_put None m w) w.key ≡ Some (cs.new_record m w.key w.value)
-appended_record m w =
-    let new = cs.new_record m w.key w.value in
-    found.found_append_none (has_key w.key) (cs.others w.key m.records) (new ∷ []) (others_lack w.key m.records)
-    ∙ ap (λ b. cond b (Some new) None) (is_its_key w.key new refl)
-
-rewritten_record : (options : Options) (m : Cache) (w : Write) (held : Record) → kept_record options m w ≡ Some held
-    → record_of (cs.after_put (Some held) m w) w.key ≡ Some (record held { value = w.value })
-rewritten_record options m w held at =
-    let keeps = keeps_put options m w held at in
-    found_map (rewritten w) (rewritten_key w) w.key m.records held keeps.is
-    ∙ ap (λ b. Some (cond b (record held { value = w.value }) held)) (found.found_passes (has_key w.key) m.records held keeps.is)
-
--- a put's item may be stored
-
-module _ (o : OwnerState) (s : Kept o) (may : MayWrite o) (key value : List ℕ) (is : IsWrite (write_of Put key value)) (b n p : ℕ) where
-  abbrev put : Write
-  put = write_of Put key value
-
-  pub may_append : kept_offset o (write_of Put key value) ≡ None → p ≡ tail_of (stamp_in o) → MayAppend (marked_with o b (write_of Put key value) n) p key value
-  may_append keeps tail =
-      let before : Cache = (now o s may (write_of Put key value) is).0 in
-      let none = held_none o s may (write_of Put key value) is keeps in
-      subst (λ (z : State). written_record (options_in o) z (write_of Put key value) ≡ Some (record { key = key; value = value; offset = p; room = item_size key value })) (sym (at o s may (write_of Put key value) is))
-      (ap (λ (found : Option Record). record_of (cs.after_put found before (write_of Put key value)) key) none ∙ appended_record before (write_of Put key value)
-      ∙ ap (λ (z : ℕ). Some (record { key = key; value = value; offset = z; room = item_size key value })) (sym (tail ∙ ap tail_of (stamp_now o s may (write_of Put key value) is))))
-
-  pub may_rewrite : (slot : ℕ) → b ≡ bucket_in o key → kept_offset o (write_of Put key value) ≡ Some p → IsSlotOf o b key slot → MayRewrite (marked_with o b (write_of Put key value) n) p key value
-  may_rewrite slot in_its keeps found =
-      let before : Cache = (now o s may (write_of Put key value) is).0 in
-      let held = held_at o s may (write_of Put key value) is p keeps in
-      let room = room_kept o s may (write_of Put key value) is n b p in_its held.0 held.1 held.2 slot found in
-      let main : IsMain o.shape b = subst (IsMain o.shape) (sym in_its) (key_main o s key) in
-      let its_key : held.0.key ≡ key = found_key key before.records held.0 (keeps_put (options_in o) before (write_of Put key value) held.0 held.1).is in
-      let spelt : SpellsItem (marked_with o b (write_of Put key value) n) p key (cell_at held.0).0 = λ i l.
-      effects.marked_item o s b main (write_of Put key value) n (p + i) ∙ (ap (λ (z : ℕ). item_in o (z + i)) (sym room.1) ∙ room.2.item i l) in
-      record {
-        cell = (cell_at held.0).0;
-        there = spelt;
-        leaves = subst (λ (z : State). written_record (options_in o) z (write_of Put key value) ≡ Some (record { key = key; value = value; offset = p; room = held.0.room })) (sym (at o s may (write_of Put key value) is))
-            (ap (λ (r : Option Record). record_of (cs.after_put r before (write_of Put key value)) key) held.1 ∙ rewritten_record (options_in o) before (write_of Put key value) held.0 held.1
-            ∙ (λ j. Some (record { key = its_key j; value = value; offset = held.2 j; room = held.0.room })));
+      appends_here : Appends o w b t p
+      appends_here = record {
+        may = leaves_item p (item_size w.key w.value) its_own;
+        ready = λ q at. subst (λ (z : OwnerState). (marked_in z.phase b ≡ 1) × IsMain z.shape b) (sym (at ∙ put_same o accepted p xs few))
+            (written_marked o accepted (put_words o accepted p xs few), main o accepted);
+        closes = λ old found q q' slot tag at takes tag_is entry k.
+            let is = at ∙ put_same o accepted p xs few in
+            let entry_is = entry ∙ (λ j. after (PutsEntry b slot (entry_of (tag_is j) p)) (is j)) in
+            closes (after (PutsEntry b slot (entry_of (tag_of w.key) p)) stored).words
+            (stands slot (before old slot found (subst (λ (z : OwnerState). Takes z b old slot) is takes)) (subst Kept entry_is k)) q' entry_is;
       }
 
--- the history has the write already, which is marked, and beside it words alone have changed
-abbrev pub HasGained : OwnerState → OwnerState → Write → Type 0
-HasGained o q w = q ≡ changed o q.words (o.history ++ w ∷ []) (Marked (bucket_in o w.key) w o.history)
+      pub appends : (c at : ℕ) → c ≡ b → at ≡ tail_of (stamp_in o) → Appends o w c t at
+      appends c at here tail = subst (λ (z : ℕ). Appends o w z t at) (sym here) (subst (Appends o w b t) (sym (tail ∙ ap tail_of (stamp_is h))) appends_here)
 
-pub item_gained : (o : OwnerState) → Kept o → (w : Write) → IsWrite w → (b n p room : ℕ) → b ≡ bucket_in o w.key
-    → (q : OwnerState) → q ≡ with_item (marked_with o b w n) p room w.key w.value → HasGained o q w
-item_gained o s w is b n p room here q stored =
-    let long = length-item_words room w.key w.value in
-    let size : size_of w ≤ largest_item = size_at_most w is in
-    let least = s.shape.ranges.words.0 in
-    subst (λ (z : OwnerState). HasGained o z w) (sym stored)
-    (effects.put_same o s b (subst (IsMain o.shape) (sym here) (key_main o s w.key)) w n p (item_words room w.key w.value) (omega arith))
+  -- Where a put is kept, by its key's slot
 
-module _ (o q : OwnerState) (w : Write) (gained : HasGained o q w) (b : ℕ) where
-  pub gained_marked : Kept o → b ≡ bucket_in o w.key → (marked_in q.phase b ≡ 1) × IsMain q.shape b
-  gained_marked s here = subst (λ (z : OwnerState). (marked_in z.phase b ≡ 1) × IsMain z.shape b) (sym gained)
-      (bit_same (bucket_in o w.key) b (sym here), subst (IsMain o.shape) (sym here) (key_main o s w.key))
+  pub no_slot_keeps : (c : ℕ) → c ≡ b → HasNoSlot o c w.key → kept_offset o w ≡ None
+  no_slot_keeps c here none = kept_is ∙ ap (λ (z : Option Record). option_map (λ (r : Record). r.offset) (cs.kept_if (options_in o) h.m w z))
+      (no_record h c (stands_at h may.idle w.key c here) w.key (sym here) none)
 
-  pub gained_entry : (slot x : ℕ) (q' : OwnerState) → q' ≡ after (PutsEntry b slot x) q → HasGained o q' w
-  gained_entry slot x q' is = subst (λ (z : OwnerState). HasGained o z w) (sym (is ∙ ap (after (PutsEntry b slot x)) gained)) refl
-
-  pub gains : (new : OwnerState) → o.phase ≡ Idle → new ≡ after (Ends b) q → Gains o new w
-  gains new idle is =
-      let ended : List ℕ = (after (Ends b) (changed o q.words (o.history ++ w ∷ []) (Marked (bucket_in o w.key) w o.history))).words in
-      subst (λ (z : OwnerState). Gains o z w) (sym (is ∙ ap (after (Ends b)) gained)) (λ j. record o { words = ended; history = o.history ++ w ∷ []; phase = sym idle j })
-
--- the stamp stays far below the limit of a word
-pub stamp_limit : (o : OwnerState) → Kept o → stamp_in o ≤ most_stamp
-stamp_limit o s =
-    let small = stamp_small (options_in o) s.shape.ranges o.history s.history.accepted s.history.writes in
-    let is = s.stamp in
-    omega arith
-
--- writes of keys and values that fit
-
-pub delete_is : (key : List ℕ) → KeyFits key → AreBytes key → IsWrite (write_of Del key [])
-delete_is key key_fits key_bytes = record { key = key_fits; key_bytes = key_bytes; value = refl; value_bytes = λ k. omega arith }
-
--- a put that is kept in place has a slot
-pub kept_slot : (o : OwnerState) → Kept o → (may : MayWrite o) → (w : Write) → IsWrite w → (p b : ℕ) → kept_offset o w ≡ Some p → b ≡ bucket_in o w.key → (slot : Option ℕ)
-    → MatchOption slot (HasNoSlot o b w.key) (IsSlotOf o b w.key) → (i : ℕ) × IsSlotOf o b w.key i
-kept_slot o s may w is p b keeps here (Some slot) found = (slot, found)
-kept_slot o s may w is p b keeps here None none =
-    let absent = answering.absent o s may.idle may.cached w.key is.key_bytes b here none in
-    let held = held_at o s may w is p keeps in
-    let not_kept : kept_record (options_in o) (now o s may w is).0 w ≡ None = ap (cs.kept_if (options_in o) (now o s may w is).0 w) absent in
-    cc (sym not_kept ∙ held.1)
-
-pub stamp_gained : (o new : OwnerState) (w : Write) (n : ℕ) → Gains o new w → n ≡ stamp_of (options_in o) (o.history ++ w ∷ []) → n ≡ stamp_of (options_in new) new.history
-stamp_gained o new w n gained is = is ∙ ap (λ (z : OwnerState). stamp_of (options_in z) z.history) (sym gained)
-
--- where a put is kept in place, by the key's slot
-
-none_kept : (options : Options) (m : Cache) (w : Write) → record_of m w.key ≡ None → option_map (λ (held : Record). held.offset) (kept_record options m w) ≡ None
-none_kept options m w absent = ap (λ (z : Option Record). option_map (λ (held : Record). held.offset) (cs.kept_if options m w z)) absent
-
-kept_if_is : (fits : Bool) (r : Record) → then_some fits r.offset ≡ option_map (λ (held : Record). held.offset) (cond fits (Some r) None)
-kept_if_is true r = refl
-kept_if_is false r = refl
-
-pub no_slot_keeps : (o : OwnerState) → Kept o → (may : MayWrite o) → (w : Write) → IsWrite w → (b : ℕ) → b ≡ bucket_in o w.key → HasNoSlot o b w.key → kept_offset o w ≡ None
-no_slot_keeps o s may w is b here none =
-    let there = cached_in (options_in o) may.cached o.history in
-    subst (λ (z : State). kept_offset_by (options_in o) z w ≡ None) (sym there.1)
-    (none_kept (options_in o) there.0 w (answering.absent o s may.idle may.cached w.key is.key_bytes b here none))
-
-pub slot_keeps : (o : OwnerState) → Kept o → (may : MayWrite o) → (w : Write) → IsWrite w → (b slot : ℕ) → b ≡ bucket_in o w.key → IsSlotOf o b w.key slot
-    → (stamp offset room : ℕ) → stamp ≡ stamp_in o → offset ≡ entry_offset (entry_in o b slot) → room ≡ room_in o (entry_in o b slot)
-    → (fits : Bool) → fits ≡ (nat_le (size_of w) room && is_live o.shape.words (stamp + 1) offset) → then_some fits offset ≡ kept_offset o w
-slot_keeps o s may w is b slot here found stamp offset room stamp_is offset_is room_is_now fits fits_is =
-    let there = cached_in (options_in o) may.cached o.history in
-    let spelt = answering.spelt o s may.idle may.cached w.key is.key_bytes b here slot found in
-    let held = answering.held o s may.idle may.cached w.key is.key_bytes b here slot found in
-    let offset_held : offset ≡ held.0.offset = offset_is ∙ sym held.2 in
-    let room_held : room ≡ held.0.room = room_is_now ∙ (room_is o s b (entry_in o b slot) w.key spelt.0 spelt.1 ∙ ap (λ (c : Cell). c.room) held.3) in
-    let stamp_held : stamp ≡ there.0.stamp = stamp_is ∙ (s.stamp ∙ ap stamp_of_state there.1) in
-    let may_keep_is : fits ≡ cs.may_keep (options_in o) there.0 w held.0 =
-    fits_is ∙ (λ j. nat_le (size_of w) (room_held j) && is_live o.shape.words (stamp_held j + 1) (offset_held j)) in
-    subst (λ (z : State). then_some fits offset ≡ kept_offset_by (options_in o) z w) (sym there.1)
-    ((λ j. then_some (may_keep_is j) (offset_held j))
-    ∙ (kept_if_is (cs.may_keep (options_in o) there.0 w held.0) held.0
-    ∙ ap (λ (z : Option Record). option_map (λ (held : Record). held.offset) (cs.kept_if (options_in o) there.0 w z)) (sym held.1)))
+  pub slot_keeps : (c slot : ℕ) → c ≡ b → IsSlotOf o c w.key slot → (stamp offset room : ℕ) → stamp ≡ stamp_in o → offset ≡ entry_offset (entry_in o c slot)
+      → room ≡ room_in o (entry_in o c slot) → (fits : Bool)
+      → ((size_of w ≤ room) × (fits ≡ is_live o.shape.words (stamp + 1) offset)) ⊎ ((room < size_of w) × (fits ≡ false)) → then_some fits offset ≡ kept_offset o w
+  slot_keeps c slot here found stamp offset room stamp_now offset_is room_now fits fits_is =
+      let own = found_slot h c (stands_at h may.idle w.key c here) w.key (sym here) is.key_bytes slot found in
+      let offset_held = offset_is ∙ sym own.1.offset in
+      let room_held = room_now ∙ room_is o s c (entry_in o c slot) w.key (cell_at own.0).0 own.1.spelt in
+      let stamp_held = stamp_now ∙ stamp_is h in
+      let may_keep : fits ≡ (nat_le (size_of w) room && is_live o.shape.words (stamp + 1) offset) = elim fits_is [
+        | inl fit ↦ fit.1 ∙ ap (λ b. b && is_live o.shape.words (stamp + 1) offset) (sym (le-leb (size_of w) room fit.0))
+        | inr not ↦ not.1 ∙ ap (λ b. b && is_live o.shape.words (stamp + 1) offset) (sym (lt-leb (size_of w) room not.0))
+      ] in
+      let offset_of_kept = λ (z : Option Record). option_map (λ (r : Record). r.offset) z in
+      (λ j. then_some ((may_keep ∙ (λ j. nat_le (size_of w) (room_held j) && is_live o.shape.words (stamp_held j + 1) (offset_held j))) j) (offset_held j))
+      ∙ (elim (cs.may_keep (options_in o) h.m w own.0) as (λ b. then_some b own.0.offset ≡ offset_of_kept (cond b (Some own.0) None)) [ true ↦ refl | false ↦ refl ]
+      ∙ (ap (λ (z : Option Record). offset_of_kept (cs.kept_if (options_in o) h.m w z)) (sym own.1.is) ∙ sym kept_is))

@@ -1,3 +1,4 @@
 pub mod MarkedItem
 pub mod InPlace
 pub mod LoadedValue
+pub mod SpeltItem

@@ -1,5 +1,5 @@
 -- What a look at one slot tells.
-use Rattle.std.proofs.Common.{◌≡◌, ◌≢◌, ℕ, ◌+◌, ◌<◌, ◌≤◌, List, sym, ap, ◌∙◌, subst, arith}
+use Rattle.std.proofs.Common.{◌≡◌, ◌≢◌, ℕ, ◌+◌, ◌<◌, ◌≤◌, List, sym, ap, ◌∙◌, subst₂, arith}
 use Rattle.mica_words.specs.Hash.{fnv1a, hash_tag, tag_of}
 use Rattle.mica_words.specs.Entry.{entry_tag, entry_offset}
 use Rattle.mica_words.specs.Stamp.{tail_of}
@@ -23,36 +23,40 @@ seeks o key hash tag stamp tail words is_hash is_tag is_stamp is_tail is_words =
   words_are = is_words;
 }
 
-module _ (o now : OwnerState) (same : now ≡ o) (b slot : ℕ) (key : List ℕ) (tag tail words entry offset : ℕ) (s : Seeks o key tag tail words)
-    (read : entry ≡ entry_in now b slot) (at : offset ≡ entry_offset entry) where
-  entry_is : entry ≡ entry_in o b slot
-  entry_is = read ∙ ap (λ (z : OwnerState). entry_in z b slot) same
-
+-- the entry of a slot, and the offset in it
+pub record Looks (o : OwnerState) (b slot : ℕ) (key : List ℕ) (tag tail words entry offset : ℕ) : Type 0 where
+  pub seeks : Seeks o key tag tail words
+  pub entry_is : entry ≡ entry_in o b slot
   pub offset_is : offset ≡ entry_offset (entry_in o b slot)
-  offset_is = at ∙ ap entry_offset entry_is
 
+pub looks : (o now : OwnerState) → now ≡ o → (b slot : ℕ) (key : List ℕ) (tag tail words entry offset : ℕ) → Seeks o key tag tail words
+    → entry ≡ entry_in now b slot → offset ≡ entry_offset entry → Looks o b slot key tag tail words entry offset
+looks o now same b slot key tag tail words entry offset s read at =
+    let entry_is = read ∙ ap (λ (z : OwnerState). entry_in z b slot) same in
+    record { seeks = s; entry_is = entry_is; offset_is = at ∙ ap entry_offset entry_is }
+
+module _ (o : OwnerState) (b slot : ℕ) (key : List ℕ) (tag tail words entry offset : ℕ) (l : Looks o b slot key tag tail words entry offset) where
   pub found : slot < 15 → entry_tag entry ≡ tag → tail ≤ offset + words → (z : OwnerState) → z ≡ o → HasKey z offset key → IsSlotOf o b key slot
   found small tags live z is has =
-      let e = offset_is in
-      let t = s.tail_is in
-      let w = s.words_are in record {
+      let e = l.offset_is in
+      let t = l.seeks.tail_is in
+      let w = l.seeks.words_are in record {
         in_bucket = small;
-        tag = ap entry_tag (sym entry_is) ∙ (tags ∙ s.tag_is);
+        tag = ap entry_tag (sym l.entry_is) ∙ (tags ∙ l.seeks.tag_is);
         live = omega arith;
-        item = subst (λ (x : ℕ). HasKey o x key) e (subst (λ (x : OwnerState). HasKey x offset key) is has);
+        item = subst₂ (λ (n : OwnerState) (x : ℕ). HasKey n x key) is e has;
       }
 
   pub of_other_tag : entry_tag entry ≢ tag → ¬ (IsSlotOf o b key slot)
-  of_other_tag other is = other (ap entry_tag entry_is ∙ (is.tag ∙ sym s.tag_is))
+  of_other_tag other is = other (ap entry_tag l.entry_is ∙ (is.tag ∙ sym l.seeks.tag_is))
 
   pub passed : offset + words < tail → ¬ (IsSlotOf o b key slot)
   passed gone is =
-      let e = offset_is in
-      let t = s.tail_is in
-      let w = s.words_are in
+      let e = l.offset_is in
+      let t = l.seeks.tail_is in
+      let w = l.seeks.words_are in
       let live = is.live in
       omega arith
 
   pub of_other_key : (z : OwnerState) → z ≡ o → ¬ (HasKey z offset key) → ¬ (IsSlotOf o b key slot)
-  of_other_key z same other is =
-      other (subst (λ (x : OwnerState). HasKey x offset key) (sym same) (subst (λ (x : ℕ). HasKey o x key) (sym offset_is) is.item))
+  of_other_key z same other is = other (subst₂ (λ (n : OwnerState) (x : ℕ). HasKey n x key) (sym same) (sym l.offset_is) is.item)

@@ -1,6 +1,5 @@
-use Rattle.cache_partition.proofs.Words.{Bool, HasNoSlot, IfSome, IsSlotOf, MatchOption, Option, OwnerState, Put, Shape, ap, arith, false}
-use Rattle.cache_partition.proofs.Words.{header_room, is_live, item_in, item_size, le-leb, lt-leb, nat_le, offset_in, subst, sym, write_of, ℕ, ◌&&◌}
-use Rattle.cache_partition.proofs.Words.{◌+◌, ◌∙◌, ◌≡◌}
+use Rattle.cache_partition.proofs.Words.{HasNoSlot, IfSome, IsSlotOf, MatchOption, Option, OwnerState, Put, Shape, ap, arith, header_room, inl, inr}
+use Rattle.cache_partition.proofs.Words.{is_live, item_in, lt-leb, offset_in, subst, sym, write_of, ℕ, ◌+◌, ◌∙◌, ◌≡◌}
 use Rattle.cache_partition.proofs.Writes.{stamp_limit, no_slot_keeps, slot_keeps}
 use Rattle.cache_partition.proofs.writing.offset_that_keeps.Goals as goal
 use Rattle.cache_partition.proofs.writing.offset_that_keeps.Goals.{then-fits, else-fits}
@@ -14,15 +13,7 @@ returns-in_err-sought-clause-kept_offset g c =
 
 pub overflow_add-sought : goal.overflow_add-sought
 overflow_add-sought g c =
-    let small = stamp_limit (g.W.OwnerWords.owner c.args.words.now) c.requires.kept in
-    let old = c.requires.sought.stamp in
-    omega arith
-
-pub is_live-requires : goal.is_live-requires
-is_live-requires g c =
-    let o = g.W.OwnerWords.owner c.args.words.now in
-    let offset : c.args.sought.now.offset ≡ offset_in o c.args.sought.now.bucket c.in_ok-sought.field-0 =
-    subst (λ (z : Option ℕ). IfSome z (λ slot. c.args.sought.now.offset ≡ offset_in o c.args.sought.now.bucket slot)) c.in_ok-sought.was c.requires.sought.offset in
+    let small = stamp_limit (g.W.OwnerWords.owner c.args.words.now) c.requires.kept c.args.sought.now.stamp c.requires.sought.stamp in
     omega arith
 
 pub returns-clause-kept_offset : goal.returns-clause-kept_offset
@@ -38,15 +29,10 @@ returns-clause-kept_offset g c =
     ∙ slot_keeps o c.requires.kept c.requires.may (write_of Put c.args.key.now c.args.value.now) c.requires.write c.args.sought.now.bucket c.in_ok-sought.field-0 c.requires.sought.bucket found
     c.args.sought.now.stamp c.args.sought.now.offset c.header_room-room.result c.requires.sought.stamp offset room c.if-fits.then_some
     (elim c.if-fits.branch [
-      | then-fits w ↦
-          w.then_some-is
-          ∙ (w.is_live.ensures
-          ∙ (ap (λ (z : Shape). is_live z.words (c.args.sought.now.stamp + 1) c.args.sought.now.offset) w.shape.ensures.same
-          ∙ (ap (λ (z : OwnerState). is_live z.shape.words (c.args.sought.now.stamp + 1) c.args.sought.now.offset) c.read.ensures.same
-          ∙ ap (λ (t : Bool). t && is_live o.shape.words (c.args.sought.now.stamp + 1) c.args.sought.now.offset) (sym (le-leb (item_size c.args.key.now c.args.value.now) c.header_room-room.result (omega arith))))))
-      | else-fits w ↦
-          let not : nat_le c.item_size.result c.header_room-room.result ≡ false = lt-leb c.item_size.result c.header_room-room.result w.if-fits.false in
-          w.then_some-is
-          ∙ (not ∙ ap (λ (t : Bool). t && is_live o.shape.words (c.args.sought.now.stamp + 1) c.args.sought.now.offset)
-          (sym (ap (λ (n : ℕ). nat_le n c.header_room-room.result) (sym c.item_size.ensures) ∙ not)))
+      | then-fits w ↦ inl (
+        omega arith,
+        w.then_some-is ∙ (w.is_live.ensures ∙ ap (λ (z : Shape). is_live z.words (c.args.sought.now.stamp + 1) c.args.sought.now.offset)
+            (w.shape.ensures.same ∙ ap (λ (z : OwnerState). z.shape) c.read.ensures.same)),
+      )
+      | else-fits w ↦ inr (omega arith, w.then_some-is ∙ lt-leb c.item_size.result c.header_room-room.result w.if-fits.false)
     ])

@@ -1,22 +1,19 @@
-use Rattle.std.proofs.Common.{ap, ◌∙◌}
-use Rattle.mica_words.specs.Header.{header_room}
-use Rattle.circular_log.specs.LogWrite.{with_item}
-use Rattle.circular_log.proofs.InPlace.{key_there, can_rewrite}
+use Rattle.std.proofs.Common.{subst, sym}
+use Rattle.epoch_core.specs.declared.state.OwnerState.{OwnerState}
+use Rattle.circular_log.specs.LogWrite.{MayRewrite}
+use Rattle.circular_log.proofs.InPlace.{key_there}
+use Rattle.circular_log.proofs.MarkedItem.{can_store}
+use Rattle.circular_log.proofs.items.rewrite.Given.{Over}
 use Rattle.circular_log.proofs.items.rewrite.Goals as goal
+use Rattle.circular_log.proofs.items.rewrite.Goals.{After-read}
+
+may : (g : Over) (c : After-read g) → MayRewrite (g.W.OwnerWords.owner c.read.new.self) c.args.offset c.args.key.now c.args.value.now
+may g c = subst (λ (o : OwnerState). MayRewrite o c.args.offset c.args.key.now c.args.value.now) (sym c.read.ensures.same) c.requires.marked
 
 pub rewrite_item-requires-clause-there : goal.rewrite_item-requires-clause-there
-rewrite_item-requires-clause-there g c =
-    let owner = g.W.OwnerWords.owner in
-    key_there (owner c.read.new.self) c.read.ensures.kept (owner c.args.words.now) c.read.ensures.same c.args.key.now c.args.value.now
-    c.requires.key c.requires.value c.args.offset c.requires.marked
+rewrite_item-requires-clause-there g c = key_there _ c.args.offset c.args.key.now c.args.value.now (may g (goal.at.rewrite_item-requires-clause-there g c).After-read)
 
 pub rewrite_item-requires-clause-allowed : goal.rewrite_item-requires-clause-allowed
 rewrite_item-requires-clause-allowed g c =
-    let owner = g.W.OwnerWords.owner in
-    can_rewrite (owner c.read.new.self) c.read.ensures.kept (owner c.args.words.now) c.read.ensures.same c.args.key.now c.args.value.now
-    c.requires.key c.requires.value c.args.offset c.requires.marked c.header_room-room.result
-
-pub returns-clause-item : goal.returns-clause-item
-returns-clause-item g c =
-    let room = c.header_room-room.ensures ∙ ap header_room c.read.ensures.value in
-    c.rewrite_item.ensures.events ∙ (λ j. with_item (c.read.ensures.same j) c.args.offset (room j) c.args.key.now c.args.value.now)
+    let old = may g (goal.at.rewrite_item-requires-clause-allowed g c).After-read in
+    can_store (g.W.OwnerWords.owner c.read.new.self) c.read.ensures.kept c.args.offset old.cell.room c.args.key.now c.args.value.now old.leaves c.header_room-room.result

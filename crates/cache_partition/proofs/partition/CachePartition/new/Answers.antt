@@ -1,5 +1,4 @@
-use Rattle.cache_partition.proofs.Words.{OwnerState, ap, length, sym}
-use Rattle.cache_partition.proofs.Writes.{new_stamp}
+use Rattle.cache_partition.proofs.Words.{OwnerState, ap, length, new_stamp, sym}
 use Rattle.cache_partition.proofs.partition.CachePartition.new.Goals as goal
 
 pub invariant_of-result : goal.invariant_of-result

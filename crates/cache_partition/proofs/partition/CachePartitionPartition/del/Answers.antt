@@ -1,26 +1,19 @@
-use Rattle.cache_partition.proofs.Words.{Absent, Del, Deleted, [], ap, arith, leb-false, leb-true, length, options_in, reply_of, sym, write_of, ◌∙◌}
-use Rattle.cache_partition.proofs.Writes.{accepted_step, may_write, worn_step}
+use Rattle.cache_partition.proofs.Words.{Absent, Del, Deleted, [], ap, leb-true, length, options_in, reply_of, sym, worn_step}
+use Rattle.cache_partition.proofs.Words.{write_of, ◌∙◌}
+use Rattle.cache_partition.proofs.Writes.{gained_step, may_write}
 use Rattle.cache_partition.proofs.partition.CachePartitionPartition.del.Goals as goal
 
 pub returns-then-is_worn-clause-step : goal.returns-then-is_worn-clause-step
 returns-then-is_worn-clause-step g c =
     let o = g.W.OwnerWords.owner c.args.self.now.words in
-    worn_step o c.args.self.now.idle c.args.self.now.cached (leb-true o.shape.wear (length o.history) (sym c.is_worn.ensures.worn ∙ c.if-is_worn.true)) (write_of Del c.args.key.now [])
-
-pub overflow_add-self : goal.overflow_add-self
-overflow_add-self g c =
-    let o = g.W.OwnerWords.owner c.args.self.now.words in
-    let few = leb-false o.shape.wear (length o.history) (sym c.is_worn.ensures.worn ∙ c.if-is_worn.false) in
-    let most = c.is_worn.ensures.valid.ranges.wear.1 in
-    let count = c.args.self.now.counted in
-    omega arith
+    worn_step o c.args.self.now.idle (leb-true o.shape.wear (length o.history) (sym c.is_worn.ensures.worn ∙ c.if-is_worn.true)) (write_of Del c.args.key.now [])
 
 pub returns-then-removed-clause-step : goal.returns-then-removed-clause-step
 returns-then-removed-clause-step g c =
     let owner = g.W.OwnerWords.owner in
     let o = owner c.args.self.now.words in
     let may = may_write o c.args.self.now.idle c.args.self.now.cached (sym c.is_worn.ensures.worn ∙ c.if-is_worn.false) in
-    accepted_step o (owner c.remove-removed.new.words) may (write_of Del c.args.key.now []) Deleted c.remove-removed.ensures.gains
+    gained_step o (owner c.remove-removed.new.words) may (write_of Del c.args.key.now []) Deleted c.remove-removed.ensures.gains
     (ap (reply_of Del (options_in o) (write_of Del c.args.key.now [])) (sym c.if-removed.true ∙ c.remove-removed.ensures.found))
 
 pub returns-else-removed-clause-step : goal.returns-else-removed-clause-step
@@ -28,5 +21,5 @@ returns-else-removed-clause-step g c =
     let owner = g.W.OwnerWords.owner in
     let o = owner c.args.self.now.words in
     let may = may_write o c.args.self.now.idle c.args.self.now.cached (sym c.is_worn.ensures.worn ∙ c.if-is_worn.false) in
-    accepted_step o (owner c.remove-removed.new.words) may (write_of Del c.args.key.now []) Absent c.remove-removed.ensures.gains
+    gained_step o (owner c.remove-removed.new.words) may (write_of Del c.args.key.now []) Absent c.remove-removed.ensures.gains
     (ap (reply_of Del (options_in o) (write_of Del c.args.key.now [])) (sym c.if-removed.false ∙ c.remove-removed.ensures.found))

@@ -1,23 +1,15 @@
-use Rattle.cache_partition.proofs.Words.{Put, Stored, arith, leb-false, leb-true, length, refl, sym, write_of, ◌∙◌}
-use Rattle.cache_partition.proofs.Writes.{accepted_step, may_write, worn_step}
+use Rattle.cache_partition.proofs.Words.{Put, Stored, leb-true, length, refl, sym, worn_step, write_of, ◌∙◌}
+use Rattle.cache_partition.proofs.Writes.{gained_step, may_write}
 use Rattle.cache_partition.proofs.partition.CachePartitionPartition.put.Goals as goal
 
 pub returns-then-is_worn-clause-step : goal.returns-then-is_worn-clause-step
 returns-then-is_worn-clause-step g c =
     let o = g.W.OwnerWords.owner c.args.self.now.words in
-    worn_step o c.args.self.now.idle c.args.self.now.cached (leb-true o.shape.wear (length o.history) (sym c.is_worn.ensures.worn ∙ c.if-is_worn.true)) (write_of Put c.args.key.now c.args.value.now)
-
-pub overflow_add-self : goal.overflow_add-self
-overflow_add-self g c =
-    let o = g.W.OwnerWords.owner c.args.self.now.words in
-    let few = leb-false o.shape.wear (length o.history) (sym c.is_worn.ensures.worn ∙ c.if-is_worn.false) in
-    let most = c.is_worn.ensures.valid.ranges.wear.1 in
-    let count = c.args.self.now.counted in
-    omega arith
+    worn_step o c.args.self.now.idle (leb-true o.shape.wear (length o.history) (sym c.is_worn.ensures.worn ∙ c.if-is_worn.true)) (write_of Put c.args.key.now c.args.value.now)
 
 pub returns-clause-step : goal.returns-clause-step
 returns-clause-step g c =
     let owner = g.W.OwnerWords.owner in
     let o = owner c.args.self.now.words in
     let may = may_write o c.args.self.now.idle c.args.self.now.cached (sym c.is_worn.ensures.worn ∙ c.if-is_worn.false) in
-    accepted_step o (owner c.put-self.new.words) may (write_of Put c.args.key.now c.args.value.now) Stored c.put-self.ensures.gains refl
+    gained_step o (owner c.put-self.new.words) may (write_of Put c.args.key.now c.args.value.now) Stored c.put-self.ensures.gains refl

@@ -1,0 +1,218 @@
+-- Where a write changes one slot of its bucket, the words stand for the machine's state after it.
+use Rattle.mica_model.specs.CacheStep as cs
+use Rattle.cache_partition.proofs.Words.{AcceptedWrite, Cache, Cell, Del, Has, HasLiveEntry, IsOffset, Keeps, Kept, List, Mode, None, Option}
+use Rattle.cache_partition.proofs.Words.{OwnerState, Put, PutsEntry, Record, Some, Spells, StandsFor, State, [], after, alone, ap, arith, bucket_in}
+use Rattle.cache_partition.proofs.Words.{cache_state, cell_at, dite, entry_in, entry_offset, entry_puts, entry_puts_other, entry_tag, get_or, inl}
+use Rattle.cache_partition.proofs.Words.{inr, item_at, item_in, item_put, item_puts_entry, item_words, length, length-item_words, main, offset_of}
+use Rattle.cache_partition.proofs.Words.{only_key, options_in, other_rooms, put_entry, put_item, put_long, put_others, put_words, record_of, refl}
+use Rattle.cache_partition.proofs.Words.{room_in, room_is, same_cell, same_or_other, spells_item, spells_on, stamp_in, stamp_rises, stands_cached}
+use Rattle.cache_partition.proofs.Words.{state_after, state_in, stood, subst, subst₂, sym, tag_of, tail_of, window_kept, written, written_same}
+use Rattle.cache_partition.proofs.Words.{written_state, ℕ, ℕ_discrete, ◌+◌, ◌<◌, ◌∙◌, ◌≡◌, ◌≢◌, ◌≤◌, ◌⊎◌}
+use Rattle.cache_partition.proofs.Held.{Held, has_in, in_main, live_entry, live_is, machine, one_slot, record_in, slot_of, stamp_is}
+use Rattle.cache_partition.proofs.Leaves.{IsLost, Leaves, deleted_none, made, step_stamp}
+
+module _ (h : Held) (a : AcceptedWrite h.o) where
+  abbrev b : ℕ
+  b = bucket_in h.o a.w.key
+
+  -- what the machine has after the step
+  abbrev new : Cache
+  new = cs.after (options_in h.o) h.m a.w
+
+  -- What the slots spelt before: the slot what is of the written key, or lost, and the others what is of other keys that the machine leaves.
+  pub record Before (slot : ℕ) : Type 0 where
+    pub lost : Option (List ℕ)
+    pub leaves : Leaves h a.w lost
+    pub own : ¬ (IsLost lost a.w.key)
+    pub others : (i x : ℕ) (key : List ℕ) (cell : Cell) → i ≢ slot → HasLiveEntry h.o b b i x → Spells h.o b x key cell → (key ≢ a.w.key) × ¬ (IsLost lost key)
+    pub gone : (x : ℕ) (key : List ℕ) (cell : Cell) → HasLiveEntry h.o b b slot x → tail_of (made h a.w).stamp ≤ entry_offset x + h.o.shape.words
+        → Spells h.o b x key cell → (key ≡ a.w.key) ⊎ IsLost lost key
+
+  -- the partition before the write's end, with these words
+  module _ (words : List ℕ) where
+    abbrev q : OwnerState
+    q = written h.o a words
+
+    pub state_is : state_in q ≡ cache_state new
+    state_is = written_state h.o a words ∙ ap (λ (z : State). state_after (options_in h.o) z a.w) h.before
+
+    abbrev pub later : Kept (written h.o a words) → Held
+    later t = record { o = written h.o a words; kept = t; mode = h.mode; m = new; before = state_is }
+
+    -- the slot has the written key's live entry
+    abbrev pub HasMine : ℕ → Type 0
+    HasMine slot = (cell : Cell) × HasLiveEntry q b b slot (entry_in q b slot) × Spells q b (entry_in q b slot) a.w.key cell
+
+    -- it has no live entry, and the write leaves the key no record
+    abbrev pub HasNone : ℕ → Type 0
+    HasNone slot = ((x : ℕ) → ¬ (HasLiveEntry q b b slot x)) × (record_of (made h a.w) a.w.key ≡ None)
+
+    -- The words from the offset on are these, and no other item word has changed. The slot has the entry x, and no other
+    -- entry of the bucket has changed.
+    pub record Effect (slot x p : ℕ) (xs : List ℕ) : Type 0 where
+      pub here : entry_in q b slot ≡ x
+      pub entries : (i : ℕ) → i < 15 → i ≢ slot → entry_in q b i ≡ entry_in h.o b i
+      pub items : (i : ℕ) → i < length xs → item_in q (p + i) ≡ get_or xs i 0
+      pub others : (z : ℕ) → ((i : ℕ) → i < length xs → item_at h.o.shape z ≢ item_at h.o.shape (p + i)) → item_in q z ≡ item_in h.o z
+
+    module _ (t : Kept q) where
+      abbrev n : Held
+      n = later t
+
+      -- the put words are the write's own, and the slot has the written key's entry, or none
+      module _ (slot entry p : ℕ) (xs : List ℕ) (before : Before slot) (effect : Effect slot entry p xs) (belongs : (j : ℕ) → j < length xs → cs.IsOfItem (options_in h.o) h.m a.w (p + j))
+          (mine : HasMine slot ⊎ HasNone slot) where
+        was : StandsFor h.o b
+        was = stood h.o a
+
+        stamp_now : stamp_in q ≡ (made h a.w).stamp
+        stamp_now = stamp_is n ∙ step_stamp h a.w
+
+        -- what a live entry spells: the written key in the slot, and in another one the key that it spelt
+        record Now (i x : ℕ) : Type 0 where
+          pub key : List ℕ
+          pub cell : Cell
+          pub now : Spells q b x key cell
+          pub whose : ((i ≡ slot) × (key ≡ a.w.key)) ⊎ ((i ≢ slot) × (key ≢ a.w.key) × HasLiveEntry h.o b b i x × Spells h.o b x key cell)
+
+        -- an entry of another key that the machine leaves spells what it spelt
+        stays : (x : ℕ) (key : List ℕ) (cell : Cell) → key ≢ a.w.key → tail_of (stamp_in q) ≤ entry_offset x + h.o.shape.words → ¬ (IsLost before.lost key)
+            → Spells h.o b x key cell → Spells q b x key cell
+        stays x key cell other live kept sp =
+            let named = record_in h key cell (entry_offset x) sp.has in
+            let offset = named.offset in
+            let stamp = stamp_now in
+            let left = before.leaves.on key named.r (written_same (options_in h.o) h.m a.w key other ∙ named.is) (omega arith) kept in
+            let room : room_in h.o x ≡ named.r.room = room_is h.o h.kept b x key cell sp ∙ ap (λ (z : Cell). z.room) named.cell_is in
+            let keeps : Keeps h.o a words x = λ i l.
+            subst (λ (z : ℕ). item_in q (z + i) ≡ item_in h.o (z + i)) offset (effect.others (named.r.offset + i) (λ j less same.
+            other_rooms (options_in h.o) h.kept.shape.ranges h.o.history h.kept.history.writes a.w a.is h.m h.before (p + j) (belongs j less) key other named.r left i (omega arith) (omega arith))) in
+            spells_on h.o a words b x keeps key cell (subst₂ (λ (c : Cell) (z : ℕ). Has (state_in q) key c z) (sym named.cell_is) offset (has_in n key named.r left)) sp
+
+        now_other : (i x : ℕ) → HasLiveEntry q b b i x → i ≢ slot → Now i x
+        now_other i x e other =
+            let live = live_is n b b i x e in
+            let stamp = h.kept.stamp in
+            let later = t.stamp in
+            let more = stamp_rises (options_in h.o) h.o.history a.w in
+            let old = live_entry h b i x e.in_bucket (sym (effect.entries i e.in_bucket other) ∙ e.found) e.live.0 (omega arith) in
+            let some = was.nothing_else b i x old in
+            let differs = before.others i x some.0 some.1 other old some.2 in
+            record { key = some.0; cell = some.1; now = stays x some.0 some.1 differs.0 live differs.1 some.2; whose = inr (other, differs.0, old, some.2) }
+
+        now : (c i x : ℕ) → HasLiveEntry q b c i x → Now i x
+        now c i x e = dite (ℕ_discrete i slot)
+            (λ is. elim mine [
+              | inl its ↦ record {
+                key = a.w.key;
+                cell = its.0;
+                now = subst (λ (z : ℕ). Spells q b z a.w.key its.0) (ap (entry_in q b) (sym is) ∙ (in_main n b c i x e).found) its.2;
+                whose = inl (is, refl);
+              }
+              | inr none ↦ absurd (none.0 x (subst (λ (z : ℕ). HasLiveEntry q b b z x) is (in_main n b c i x e)))
+            ])
+            (now_other i x (in_main n b c i x e))
+
+        -- a key is spelt once
+
+        one : (i x i' x' : ℕ) (z : Now i x) (z' : Now i' x') → z.key ≡ z'.key → i ≡ i'
+        one i x i' x' z z' same = elim z.whose [
+          | inl mine ↦ elim z'.whose [
+            | inl mine' ↦ mine.0 ∙ sym mine'.0
+            | inr other' ↦ absurd (other'.1 (sym same ∙ mine.1))
+          ]
+          | inr other ↦ elim z'.whose [
+            | inl mine' ↦ absurd (other.1 (same ∙ mine'.1))
+            | inr other' ↦ one_slot h b was i i' x x' z.key z.cell z'.cell other.2 other'.2 other.3 (subst (λ (key : List ℕ). Spells h.o b x' key z'.cell) (sym same) other'.3)
+          ]
+        ]
+
+        -- and each that has a record is
+
+        each_mine : (key : List ℕ) (cell : Cell) (from : ℕ) → Has (state_in q) key cell from → key ≡ a.w.key
+            → (c : ℕ) × (i : ℕ) × (x : ℕ) × HasLiveEntry q b c i x × Spells q b x key cell
+        each_mine key cell from has is = elim mine [
+          | inl its ↦
+              let sp : Spells q b (entry_in q b slot) key its.0 = subst (λ (z : List ℕ). Spells q b (entry_in q b slot) z its.0) (sym is) its.2 in
+              let same = same_cell (state_in q) key its.0 cell (entry_offset (entry_in q b slot)) from sp.has has in
+              (b, slot, entry_in q b slot, its.1, subst (λ (z : Cell). Spells q b (entry_in q b slot) key z) same sp)
+          | inr none ↦
+              let found = record_in n key cell from has in
+              cc (sym none.1 ∙ (ap (record_of (made h a.w)) (sym is) ∙ (before.leaves.back key found.r found.is).0))
+        ]
+
+        each_other : (key : List ℕ) (cell : Cell) (from : ℕ) → bucket_in h.o key ≡ b → Has (state_in q) key cell from → key ≢ a.w.key
+            → (c : ℕ) × (i : ℕ) × (x : ℕ) × HasLiveEntry q b c i x × Spells q b x key cell
+        each_other key cell from here has other =
+            let found = record_in n key cell from has in
+            let was_left = before.leaves.back key found.r found.is in
+            let at = slot_of h b was key found.r here (sym (written_same (options_in h.o) h.m a.w key other) ∙ was_left.0) in
+            let offset = at.1.offset in
+            let stamp = stamp_is n in
+            let now = stamp_now in
+            let window = (window_kept (options_in h.o) new (machine n) key found.r found.is).0 in
+            let not_slot : at.0 ≢ slot = λ is. elim (before.gone (entry_in h.o b at.0) key (cell_at found.r).0
+            (subst (λ (z : ℕ). HasLiveEntry h.o b b z (entry_in h.o b at.0)) is at.1.entry) (omega arith) at.1.spelt) [ inl mine ↦ other mine | inr lost ↦ was_left.1 lost ] in (
+              b,
+              at.0,
+              entry_in h.o b at.0,
+              live_entry n b at.0 (entry_in h.o b at.0) at.1.entry.in_bucket (effect.entries at.0 at.1.entry.in_bucket not_slot) at.1.entry.live.0 (omega arith),
+              subst (λ (z : Cell). Spells q b (entry_in h.o b at.0) key z) (sym found.cell_is)
+                  (stays (entry_in h.o b at.0) key (cell_at found.r).0 other (omega arith) was_left.1 at.1.spelt),
+            )
+
+        pub stands : StandsFor q b
+        stands = stands_cached q t h.mode b (main h.o a)
+            (λ c i x e. let z = now c i x e in (z.key, z.cell, z.now))
+            (λ key cell from here has. elim (same_or_other key a.w.key) [ inl is ↦ each_mine key cell from has is | inr other ↦ each_other key cell from here has other ])
+            (λ c i x c' i' x' key cell e e' sp sp'.
+            let z = now c i x e in
+            let z' = now c' i' x' e' in
+            let keys = only_key q t b b x x z.key key z.cell cell z.now sp refl in
+            let keys' = only_key q t b b x' x' z'.key key z'.cell cell z'.now sp' refl in
+            (sym (alone q t h.mode b c e.in_chain) ∙ alone q t h.mode b c' e'.in_chain, one i x i' x' z z' (keys ∙ sym keys')))
+
+      -- a delete
+      pub deleted : a.w.op ≡ Del → (slot x : ℕ) → Before slot → Effect slot x 0 [] → ((y : ℕ) → ¬ (HasLiveEntry q b b slot y)) → StandsFor q b
+      deleted op slot x before effect none = stands slot x 0 [] before effect (λ j less. absurd (omega arith)) (inr (none, deleted_none h a.w op))
+
+      -- a put, which leaves its key this record with the new value: the slot's entry and item spell it
+      pub put : a.w.op ≡ Put → (slot x : ℕ) → Before slot → slot < 15 → (r : Record) → record_of (made h a.w) a.w.key ≡ Some (record r { value = a.w.value })
+          → offset_of (options_in h.o) h.m a.w ≡ r.offset → tail_of (made h a.w).stamp ≤ r.offset + h.o.shape.words → x ≢ 0 → entry_offset x ≡ r.offset → entry_tag x ≡ tag_of a.w.key
+          → Effect slot x r.offset (item_words r.room a.w.key a.w.value) → StandsFor q b
+      put op slot x before below r found begin live some offset tag effect =
+          let new : Record = record r { value = a.w.value } in
+          let stamp = stamp_is n ∙ step_stamp h a.w in
+          let its_offset : entry_offset (entry_in q b slot) ≡ r.offset = ap entry_offset effect.here ∙ offset in
+          let long = length-item_words r.room a.w.key a.w.value in
+          stands slot x r.offset (item_words r.room a.w.key a.w.value) before effect
+          (λ j less. put_item (options_in h.o) h.m a.w op (r.offset + j) (omega arith) (omega arith))
+          (inl (
+            (cell_at new).0,
+            live_entry n b slot (entry_in q b slot) below refl (λ none. some (sym effect.here ∙ none)) (omega arith),
+            spells_item q t b (entry_in q b slot) a.w.key (cell_at new).0 refl
+                (subst (λ (z : ℕ). Has (state_in q) a.w.key (cell_at new).0 z) (sym its_offset) (has_in n a.w.key new (before.leaves.on a.w.key new found live before.own)))
+                (subst (λ (z : Mode). IsOffset z h.o.shape.words (entry_offset (entry_in q b slot))) (sym h.mode) tt)
+                (ap entry_tag effect.here ∙ tag) (λ i l. ap (λ (z : ℕ). item_in q (z + i)) its_offset ∙ effect.items i (omega arith)),
+          ))
+
+  -- where words alone were put, and where an entry was put after them
+  module _ (p : ℕ) (xs : List ℕ) (few : length xs ≤ h.o.shape.words) (slot x : ℕ) where
+    pub put_effect : entry_in (written h.o a (put_words h.o a p xs few)) b slot ≡ x → Effect (put_words h.o a p xs few) slot x p xs
+    put_effect here = record {
+      here = here;
+      entries = λ i l other. put_entry h.o a p xs few b i (let main = main h.o a in omega arith) l;
+      items = item_put h.o a p xs few;
+      others = put_others h.o a p xs few;
+    }
+
+    pub entry_effect : slot < 15 → Effect (after (PutsEntry b slot x) (written h.o a (put_words h.o a p xs few))).words slot x p xs
+    entry_effect below =
+        let q = written h.o a (put_words h.o a p xs few) in
+        let main = main h.o a in
+        let long = put_long h.o a p xs few in record {
+          here = entry_puts q long b slot x (omega arith) below;
+          entries = λ i l other. entry_puts_other q long b slot x b i below l (inr other) ∙ put_entry h.o a p xs few b i (omega arith) l;
+          items = λ i l. item_puts_entry q long b slot x (p + i) (omega arith) below ∙ item_put h.o a p xs few i l;
+          others = λ z none. item_puts_entry q long b slot x z (omega arith) below ∙ put_others h.o a p xs few z none;
+        }
