@@ -1,9 +1,10 @@
 -- A chain none of whose buckets changed is as it was.
-use Rattle.chained_index.proofs.Words.{◌≡◌, ℕ, ◌<◌, ◌/◌, ◌%◌, List, length, nat_lt, filter, sym, ap, ◌∙◌, subst, arith, ext_get_or, History}
-use Rattle.chained_index.proofs.Words.{OwnerState, Phase, IsMain, InChain, IsDense, buckets_of, entries_of, KeepsChain, ChangesOnlyIndex}
-use Rattle.chained_index.proofs.Words.{ChangesChain}
+use Rattle.chained_index.proofs.Words.{◌≡◌, ℕ, ◌/◌, ◌%◌, List, ◌∷◌, length, nat_lt, filter, sym, ap, ◌∙◌, subst, arith, ext_get_or, History, Contains}
+use Rattle.chained_index.proofs.Words.{OwnerState, Phase, IsMain, InChain, IsDense, entries_of, KeepsChain, ChangesOnlyIndex, Contains-get_or}
+use Rattle.chained_index.proofs.Words.{ChangesChain, IsChain, in_chain, inside, chain_there}
 use Rattle.chained_index.proofs.Lists.{at}
-use Rattle.chained_index.proofs.Chained.{Chained, IsChain, chain_is, inside, in_chain, chain_there, kept_chain}
+use Rattle.chained_index.proofs.Paths.{chain_is}
+use Rattle.chained_index.proofs.Chained.{Chained, kept_chain}
 use Rattle.chained_index.proofs.Filled.{SameBucket, all_slots, length-all_slots, by_place, entries_filtered, dense_there, filled_there, same_filled}
 
 module _ (o : OwnerState) (words : List ℕ) (history : History) (phase : Phase) (long : length words ≡ length o.words)
@@ -11,35 +12,39 @@ module _ (o : OwnerState) (words : List ℕ) (history : History) (phase : Phase)
   abbrev p : OwnerState
   p = record o { words = words; history = history; phase = phase }
 
+  abbrev behind : List ℕ
+  behind = (chain_there o s.chains b main).0
+
   abbrev cs : List ℕ
-  cs = buckets_of o b
+  cs = b ∷ behind
+
+  was : IsChain o b behind
+  was = (chain_there o s.chains b main).1
 
   module _ (same : (c : ℕ) → InChain o b c → SameBucket o p c) where
-    chain : IsChain o b cs
-    chain = chain_there o s b main
+    same_in : (c : ℕ) → Contains cs c → SameBucket o p c
+    same_in c i = same c (in_chain o b behind was c i)
 
-    same_at : (k : ℕ) → k < length cs → SameBucket o p (at cs k)
-    same_at k l = same (at cs k) (in_chain o b cs chain k l)
-
-    now : IsChain p b cs
-    now = kept_chain o words history phase s b main (λ c h. (same c h).link)
+    now : IsChain p b behind
+    now = kept_chain o words history phase s b main (λ c h. (same c h).link) behind was
 
     pub chain_kept : KeepsChain o p b
     chain_kept = record {
-      buckets = chain_is p b cs now;
-      entries = entries_filtered p b cs (chain_is p b cs now) ∙ (ap (filter (nat_lt 0)) slots_same ∙ sym (entries_filtered o b cs (chain_is o b cs chain)));
+      buckets = chain_is p b behind now ∙ sym (chain_is o b behind was);
+      entries = entries_filtered p b behind now ∙ (ap (filter (nat_lt 0)) slots_same ∙ sym (entries_filtered o b behind was));
     }
       where
         slots_same : all_slots p cs ≡ all_slots o cs
         slots_same =
-            let size = length-all_slots p (long ∙ s.wide) cs (inside p b cs now) in
-            ext_get_or 0 (all_slots p cs) (all_slots o cs) (size ∙ sym (length-all_slots o s.wide cs (inside o b cs chain))) (λ i l.
-            by_place p (long ∙ s.wide) cs (inside p b cs now) i (omega arith)
-            ∙ ((same_at (i / 15) (omega arith)).entry (i % 15) (omega arith) ∙ sym (by_place o s.wide cs (inside o b cs chain) i (omega arith))))
+            let size = length-all_slots p (long ∙ s.wide) cs (inside p b behind now main) in
+            ext_get_or 0 (all_slots p cs) (all_slots o cs) (size ∙ sym (length-all_slots o s.wide cs (inside o b behind was main))) (λ i l.
+            by_place p (long ∙ s.wide) cs (inside p b behind now main) i (omega arith)
+            ∙ ((same_in (at cs (i / 15)) (Contains-get_or cs (i / 15) 0 (omega arith))).entry (i % 15) (omega arith)
+            ∙ sym (by_place o s.wide cs (inside o b behind was main) i (omega arith))))
 
     pub dense_kept : IsDense o b → IsDense p b
-    dense_kept dense = dense_there p (long ∙ s.wide) b cs now (entries_of o b)
-        (same_filled o p cs (entries_of o b) (filled_there o s.wide b cs chain dense) same_at)
+    dense_kept dense = dense_there p (long ∙ s.wide) b main behind now (entries_of o b)
+        (same_filled o p cs (entries_of o b) (filled_there o s.wide b main behind was dense) same_in)
 
 -- One change after another
 

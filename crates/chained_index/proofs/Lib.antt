@@ -8,7 +8,6 @@ mod Effects
 mod Changed
 mod Stored
 pub mod Numbers
-mod Counted
 mod Allowed
 mod Calls
 mod Walking

@@ -1,15 +1,12 @@
 -- Lists of numbers by their places, where a list has 0 past its end.
-use Rattle.chained_index.proofs.Words.{◌≡◌, ◌≢◌, ℕ, zero, suc, ◌<◌, inl, inr, List, [], ◌∷◌, ◌++◌, length, get_or, true, nat_lt, filter, refl}
-use Rattle.chained_index.proofs.Words.{sym, ◌∙◌, arith, Contains, AllPairs, dite, ℕ_discrete, cases_lt, lt-ltb, get_or_past, get_or_append_left}
-use Rattle.chained_index.proofs.Words.{get_or_push, get_or_default, length_push, all_pairs_push}
+use Rattle.chained_index.proofs.Words.{◌≡◌, ◌≢◌, ℕ, zero, suc, ◌+◌, ◌-◌, ◌<◌, inl, inr, List, [], ◌∷◌, ◌++◌, length, get_or, true, nat_lt, filter, refl}
+use Rattle.chained_index.proofs.Words.{sym, ap, ◌∙◌, arith, Contains, AllPairs, dite, ℕ_discrete, cases_lt, lt-ltb, get_or_past, get_or_append_left}
+use Rattle.chained_index.proofs.Words.{get_or-append_right, get_or-append-add, get_or_default, length-append, length_push, Decides-eqb, nat_eq_equiv, eqb, IsPermutation}
+use Rattle.chained_index.proofs.Words.{IsDistinct-IsPermutation, IsDistinct-from_AllPairs, AllPairs-from_IsDistinct}
 
 -- the number at a place
 abbrev pub at : List ℕ → ℕ → ℕ
 at xs i = get_or xs i 0
-
--- the number stands in the list
-abbrev pub IsOf : List ℕ → ℕ → Type 0
-IsOf xs c = (i : ℕ) × (i < length xs) × (at xs i ≡ c)
 
 -- no number of the list is 0
 abbrev pub AllUsed : List ℕ → Type 0
@@ -18,62 +15,77 @@ AllUsed xs = (i : ℕ) → i < length xs → at xs i ≢ 0
 pub below : (xs : List ℕ) (i : ℕ) → at xs i ≢ 0 → i < length xs
 below xs i some = elim (cases_lt i (length xs)) [ inl less ↦ less | inr past ↦ absurd (some (get_or_past xs i 0 past)) ]
 
--- a list that ends before a place where another has a number is shorter
-pub same_list : (xs ys : List ℕ) → AllUsed xs → AllUsed ys → ((i : ℕ) → at xs i ≡ at ys i) → xs ≡ ys
-same_list [] [] u v same = refl
-same_list [] (y ∷ ys) u v same = absurd (v 0 (omega arith) (sym (same 0)))
-same_list (x ∷ xs) [] u v same = absurd (u 0 (omega arith) (same 0))
-same_list (x ∷ xs) (y ∷ ys) u v same =
-    let rest = same_list xs ys (λ i l. u (suc i) (omega arith)) (λ i l. v (suc i) (omega arith)) (λ i. same (suc i)) in (λ j. same 0 j ∷ rest j)
+pub place_in : (xs : List ℕ) (c : ℕ) → Contains xs c → (i : ℕ) × (i < length xs) × (at xs i ≡ c)
+place_in xs c has = (has.0, has.1, get_or_default xs has.0 0 c has.1 ∙ has.2)
 
--- the numbers that are not 0
+-- the numbers that are not 0, where only those that are stand past them
+pub filter_is : (xs ys : List ℕ) → AllUsed ys → ((i : ℕ) → at xs i ≡ at ys i) → filter (nat_lt 0) xs ≡ ys
+filter_is [] [] used same = refl
+filter_is [] (y ∷ ys) used same = absurd (used 0 (omega arith) (sym (same 0)))
+filter_is (x ∷ xs) [] used same = let none : x ≡ 0 = same 0 in rw none (filter_is xs [] used (λ i. same (suc i)))
+filter_is (x ∷ xs) (y ∷ ys) used same =
+    let is : x ≡ y = same 0 in
+    let some = used 0 (omega arith) in
+    let test : nat_lt 0 x ≡ true = lt-ltb 0 x (omega arith) in
+    let rest = filter_is xs ys (λ i l. used (suc i) (omega arith)) (λ i. same (suc i)) in
+    rw test (λ j. is j ∷ rest j)
 
-used_more : (x : ℕ) (xs : List ℕ) → x ≢ 0 → AllUsed xs → AllUsed (x ∷ xs)
-used_more x xs some rest zero l = some
-used_more x xs some rest (suc i) l = rest i (omega arith)
+-- where none stands past a 0, there are such
+pub used_part : (xs : List ℕ) → ((i j : ℕ) → i < j → at xs j ≢ 0 → at xs i ≢ 0) → (ys : List ℕ) × AllUsed ys × ((i : ℕ) → at xs i ≡ at ys i)
+used_part [] order = ([], (λ i l. absurd (omega arith)), λ i. refl)
+used_part (x ∷ xs) order = dite (ℕ_discrete x 0)
+    (λ none. (
+      [],
+      (λ i l. absurd (omega arith)),
+      λ i. dite (ℕ_discrete (at (x ∷ xs) i) 0) (λ is. is)
+          (λ n. absurd (order 0 i (let some : i ≢ 0 = λ is. n (ap (at (x ∷ xs)) is ∙ none) in omega arith) n none)),
+    ))
+    (λ some. let rest = used_part xs (λ i j less. order (suc i) (suc j) (omega arith)) in (
+      x ∷ rest.0,
+      (λ i. elim i as (λ (i : ℕ). i < suc (length rest.0) → at (x ∷ rest.0) i ≢ 0) [ zero ↦ λ l. some | suc i ↦ λ l. rest.1 i (omega arith) ]),
+      λ i. elim i as (λ (i : ℕ). at (x ∷ xs) i ≡ at (x ∷ rest.0) i) [ zero ↦ refl | suc i ↦ rest.2 i ],
+    ))
 
-pub filter_used : (xs : List ℕ) → AllUsed (filter (nat_lt 0) xs)
-filter_used [] = λ i l. absurd (omega arith)
-filter_used (x ∷ xs) = dite (ℕ_discrete x 0)
-    (λ none. rw none (filter_used xs))
-    (λ some. let test : nat_lt 0 x ≡ true = lt-ltb 0 x (omega arith) in rw test (used_more x (filter (nat_lt 0) xs) some (filter_used xs)))
+pub at-push_other : (xs : List ℕ) (x i : ℕ) → i ≢ length xs → at (xs ++ x ∷ []) i ≡ at xs i
+at-push_other xs x i n = elim (cases_lt i (length xs)) [
+  | inl less ↦ get_or_append_left xs (x ∷ []) 0 i less
+  | inr more ↦ get_or_past (xs ++ x ∷ []) i 0 (omega (arith, length_push xs x)) ∙ sym (get_or_past xs i 0 more)
+]
 
--- where none comes behind a 0, they stand where they stood
+-- Numbers that all differ
 
-same_behind : (x : ℕ) (xs ys : List ℕ) → ((i : ℕ) → at xs i ≡ at ys i) → (i : ℕ) → at (x ∷ xs) i ≡ at (x ∷ ys) i
-same_behind x xs ys same zero = refl
-same_behind x xs ys same (suc i) = same i
+abbrev pub AllDiffer : List ℕ → Type 0
+AllDiffer xs = AllPairs (λ c d. c ≢ d) xs
 
-all_zero : (xs : List ℕ) → ((i : ℕ) → at xs i ≡ 0) → (i : ℕ) → at (0 ∷ xs) i ≡ 0
-all_zero xs none zero = refl
-all_zero xs none (suc i) = none i
+pub one_place : (xs : List ℕ) → AllDiffer xs → (i j : ℕ) → i < length xs → j < length xs → at xs i ≡ at xs j → i ≡ j
+one_place xs pairs i j l m same = dite (ℕ_discrete i j) (λ is. is) (λ n. absurd (elim (cases_lt i j) [
+  | inl less ↦ pairs i j 0 less m same
+  | inr more ↦ pairs j i 0 (omega arith) l (sym same)
+]))
 
-pub at-filter : (xs : List ℕ) → ((i j : ℕ) → i < j → at xs j ≢ 0 → at xs i ≢ 0) → (i : ℕ) → at (filter (nat_lt 0) xs) i ≡ at xs i
-at-filter [] order i = refl
-at-filter (x ∷ xs) order i =
-    let rest = at-filter xs (λ i j less. order (suc i) (suc j) (omega arith)) in
-    dite (ℕ_discrete x 0)
-    (λ none.
-    let zero_at : (j : ℕ) → at xs j ≡ 0 = λ j. dite (ℕ_discrete (at xs j) 0) (λ is. is) (λ n. absurd (order 0 (suc j) (omega arith) n none)) in
-    rw none (rest i ∙ (zero_at i ∙ sym (all_zero xs zero_at i))))
-    (λ some. let test : nat_lt 0 x ≡ true = lt-ltb 0 x (omega arith) in rw test (same_behind x (filter (nat_lt 0) xs) xs rest i))
+pub differ_moved : (xs ys : List ℕ) → IsPermutation xs ys → AllDiffer xs → AllDiffer ys
+differ_moved xs ys moved pairs =
+    AllPairs-from_IsDistinct Decides-eqb ys (IsDistinct-IsPermutation eqb nat_eq_equiv.symm xs ys moved (IsDistinct-from_AllPairs Decides-eqb xs pairs))
 
--- one number more
-
-module _ (xs : List ℕ) (x : ℕ) where
-  pub at-push_other : (i : ℕ) → i ≢ length xs → at (xs ++ x ∷ []) i ≡ at xs i
-  at-push_other i n = elim (cases_lt i (length xs)) [
-    | inl less ↦ get_or_append_left xs (x ∷ []) 0 i less
-    | inr more ↦ get_or_past (xs ++ x ∷ []) i 0 (omega (arith, length_push xs x)) ∙ sym (get_or_past xs i 0 more)
+-- those of two lists, none of which stands in both
+module _ (xs ys : List ℕ) where
+  pub differ_joined : AllDiffer xs → AllDiffer ys → ((c : ℕ) → Contains xs c → ¬ (Contains ys c)) → AllDiffer (xs ++ ys)
+  differ_joined one two apart i j d less within same = elim (cases_lt j (length xs)) [
+    | inl low ↦ one i j d less low (sym (get_or_append_left xs ys d i (omega arith)) ∙ (same ∙ get_or_append_left xs ys d j low))
+    | inr high ↦
+        let second = get_or-append_right xs ys (length xs) j d refl high in
+        let inside : j - length xs < length ys = omega (arith, within, length-append xs ys) in
+        elim (cases_lt i (length xs)) [
+          | inl low ↦ apart (get_or xs i d) (i, low, get_or_default xs i (get_or xs i d) d low)
+              (j - length xs, inside, get_or_default ys (j - length xs) (get_or xs i d) d inside ∙ (sym second ∙ (sym same ∙ get_or_append_left xs ys d i low)))
+          | inr high' ↦ two (i - length xs) (j - length xs) d (omega arith) inside (sym (get_or-append_right xs ys (length xs) i d refl high') ∙ (same ∙ second))
+        ]
   ]
 
-  pub pairs_before : AllPairs (λ c d. c ≢ d) (xs ++ x ∷ []) → AllPairs (λ c d. c ≢ d) xs
-  pairs_before pairs i j d less inside same = pairs i j d less (omega (arith, length_push xs x))
-      (get_or_append_left xs (x ∷ []) d i (omega arith) ∙ (same ∙ sym (get_or_append_left xs (x ∷ []) d j inside)))
+  pub differ_first : AllDiffer (xs ++ ys) → AllDiffer xs
+  differ_first pairs i j d less inside same = pairs i j d less (omega (arith, length-append xs ys))
+      (get_or_append_left xs ys d i (omega arith) ∙ (same ∙ sym (get_or_append_left xs ys d j inside)))
 
-  pub not_before : AllPairs (λ c d. c ≢ d) (xs ++ x ∷ []) → ¬ (Contains xs x)
-  not_before pairs h = pairs h.0 (length xs) x h.1 (omega (arith, length_push xs x))
-      (get_or_append_left xs (x ∷ []) x h.0 h.1 ∙ (h.2 ∙ sym (get_or_push xs x x (length xs) refl)))
-
-  pub pairs_more : AllPairs (λ c d. c ≢ d) xs → ¬ (Contains xs x) → AllPairs (λ c d. c ≢ d) (xs ++ x ∷ [])
-  pairs_more pairs none = all_pairs_push (λ c d. c ≢ d) xs x pairs (λ k d less same. none (k, less, get_or_default xs k x d less ∙ same))
+  pub differ_apart : AllDiffer (xs ++ ys) → (c : ℕ) → Contains xs c → ¬ (Contains ys c)
+  differ_apart pairs c one two = pairs one.0 (length xs + two.0) c (omega (arith, one.1)) (omega (arith, two.1, length-append xs ys))
+      (get_or_append_left xs ys c one.0 one.1 ∙ (one.2 ∙ sym (get_or-append-add xs ys two.0 c ∙ two.2)))

@@ -1,6 +1,6 @@
 -- What stands behind a bucket: the list of the buckets to which the links lead, one after another. f says where each bucket's link leads,
 -- 0 being nowhere.
-use Rattle.std.proofs.Common.{◌≡◌, ◌≢◌, ℕ, ◌<◌, ◌⊎◌, inl, inr, List, [], ◌∷◌, ◌++◌, length, refl, sym, ap, ◌∙◌, subst, arith}
+use Rattle.std.proofs.Common.{◌≡◌, ◌≢◌, ℕ, suc, ◌<◌, ◌⊎◌, inl, inr, List, [], ◌∷◌, ◌++◌, length, refl, sym, ap, ◌∙◌, subst, arith}
 use mathlib.Core.Logic.{dite}
 use native.Mathlib.Decide.{ℕ_discrete}
 use Rattle.std.specs.Prelude.{Contains, AllPairs}
@@ -66,6 +66,9 @@ module _ (f : ℕ → ℕ) where
   all_differ x [] h = λ i j d less inside. absurd (omega arith)
   all_differ x (c ∷ cs) h = AllPairs-cons (λ c d. c ≢ d) x (c ∷ cs)
       (λ i d l is. not_again x (c ∷ cs) h (i, l, get_or_default (c ∷ cs) i x d l ∙ sym is)) (all_differ c cs h.2)
+
+  pub behind_differ : (x : ℕ) (cs : List ℕ) → AreBehind f x cs → AllPairs (λ c d. c ≢ d) cs
+  behind_differ x cs h i j d less inside = all_differ x cs h (suc i) (suc j) d (omega arith) (omega arith)
 
 module _ (f g : ℕ → ℕ) where
   -- where no link of these changed

@@ -4,11 +4,12 @@ use Rattle.std.specs.Prelude.{Contains}
 use mathlib.Core.Logic.{dite}
 use native.Mathlib.Decide.{ℕ_discrete}
 use Rattle.epoch_core.specs.declared.state.OwnerState.{OwnerState}
+use Rattle.epoch_core.specs.declared.shape.Shape.{Shape}
 use Rattle.epoch_core.specs.Shape.{IsMain, IsSpare, IsBucket}
 use Rattle.epoch_core.specs.OwnerState.{link_in}
 use Rattle.epoch_core.specs.Chain.{IsAmong, EndsWithin, InChain, ChainEnds, HasChains}
 use Rattle.epoch_core.proofs.Failing.{in_cons, in_head, in_tail, in_none}
-use Rattle.epoch_core.proofs.Behind.{AreBehind, all_differ}
+use Rattle.epoch_core.proofs.Behind.{AreBehind, behind_differ}
 use Rattle.epoch_core.proofs.Counted.{at_most}
 
 module _ (o : OwnerState) where
@@ -58,6 +59,10 @@ module _ (o : OwnerState) (b : ℕ) (cs : List ℕ) (chain : IsChain o b cs) whe
   pub inside : IsMain o.shape b → (c : ℕ) → Contains (b ∷ cs) c → IsBucket o.shape c
   inside main c i = elim (in_cons b c cs i) [ inl is ↦ omega arith | inr more ↦ (chain.spare c more).1 ]
 
+-- a spare among a main bucket and others is one of the others
+pub not_main : (shape : Shape) (b c : ℕ) (xs : List ℕ) → IsMain shape b → IsSpare shape c → Contains (b ∷ xs) c → Contains xs c
+not_main shape b c xs main spare i = elim (in_cons b c xs i) [ inl is ↦ absurd (let low = spare.0 in omega arith) | inr more ↦ more ]
+
 -- What stands behind a bucket are spares, no more than there are, where each link leads to a spare.
 module _ (o : OwnerState) (links : (c : ℕ) → IsBucket o.shape c → (link_in o c ≡ 0) ⊎ IsSpare o.shape (link_in o c)) where
   all_spare : (x : ℕ) (cs : List ℕ) → IsBucket o.shape x → AreBehind (link_in o) x cs → (c : ℕ) → Contains cs c → IsSpare o.shape c
@@ -67,14 +72,9 @@ module _ (o : OwnerState) (links : (c : ℕ) → IsBucket o.shape c → (link_in
       elim (in_cons d c ds i) [ inl is ↦ subst (IsSpare o.shape) is here | inr more ↦ all_spare d ds here.1 h.2 c more ]
 
   pub chain_of : (b : ℕ) (cs : List ℕ) → IsMain o.shape b → AreBehind (link_in o) b cs → IsChain o b cs
-  chain_of b cs main h = record { behind = h; spare = spare; few = few cs h spare }
-    where
-      spare : (c : ℕ) → Contains cs c → IsSpare o.shape c
-      spare = all_spare b cs (omega arith) h
-
-      few : (cs : List ℕ) → AreBehind (link_in o) b cs → ((c : ℕ) → Contains cs c → IsSpare o.shape c) → length cs ≤ o.shape.spares
-      few [] h spare = omega arith
-      few (d ∷ ds) h spare = at_most (d ∷ ds) o.shape.buckets o.shape.spares (all_differ (link_in o) d ds h.2) spare
+  chain_of b cs main h =
+      let spare = all_spare b cs (omega arith) h in
+      record { behind = h; spare = spare; few = at_most cs o.shape.buckets o.shape.spares (behind_differ (link_in o) b cs h) spare }
 
 pub chain_there : (o : OwnerState) → HasChains o → (b : ℕ) → IsMain o.shape b → (cs : List ℕ) × IsChain o b cs
 chain_there o s b main = let list = listed_to_end o (suc o.shape.spares) b (s.end b main) in (list.0, chain_of o s.links b list.0 main list.1)

@@ -59,7 +59,7 @@ returns-in-Some g c =
     let first = c.put_entry-in-Some.ensures.event ∙ (ap (after (PutsEntry c.in-Some.next 0 c.entry_of-entry.result)) c.end_of-end.ensures.same
     ∙ ap (λ (z : ℕ). after (PutsEntry c.in-Some.next 0 z) (g.W.OwnerWords.owner c.args.words.now)) c.entry_of-entry.ensures) in
     let taken = added_behind _ _ _ _ (free_call g i) (entry_of c.args.tag c.args.offset) c.in-Some.next c.pop.new.self.items
-    (some_entry c.args.tag c.args.offset c.requires.tag) c.if-end-lt-SLOTS.false (popped g i) _ _ c.put_entry-in-Some.ensures.kept c.put_link.ensures.kept
+    (some_entry c.args.tag c.args.offset c.requires.tag) c.if-end-lt-SLOTS.false (popped g i) _ _ c.put_link.ensures.kept
     first c.put_link.ensures.event in record {
       entries = taken.0;
       index = taken.1;

@@ -85,7 +85,7 @@ returns-then-end-bucket g c =
     let call = call_at _ _ _ _ _ c.end_of-end.ensures.same c.end_of-end.ensures.kept index c.requires.bucket c.end_of-end.ensures.end in
     let some = used_some _ _ _ _ call c.args.spot c.requires.spot in
     let two = release _ _ _ _ (call_then _ _ _ _ call c.args.spot c.requires.spot _ (last g a) _ c.put_entry.ensures.kept (first g a)) some
-    c.if-last-eq0.true c.if-end-bucket.true _ _ c.put_entry-2.ensures.kept c.put_link.ensures.kept c.put_entry-2.ensures.event c.put_link.ensures.event in record {
+    c.if-last-eq0.true c.if-end-bucket.true _ _ c.put_link.ensures.kept c.put_entry-2.ensures.event c.put_link.ensures.event in record {
       entries = without _ _ _ _ call c.args.spot c.requires.spot _ (last g a) _ c.put_entry.ensures.kept (first g a) _ two.0;
       index = subst (λ (z : List ℕ). IsIndexOf (record { shape = c.self.inside.shape; free = z }) (g.W.OwnerWords.owner c.put_link.new.self)) (sym c.push_reserved.ensures.items) two.1;
       kept = c.put_link.ensures.kept;
