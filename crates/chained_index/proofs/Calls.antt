@@ -1,39 +1,41 @@
 -- What the stores of each call make of a chain and its index.
 use Rattle.chained_index.proofs.Words.{◌≡◌, ◌≢◌, ℕ, suc, ◌+◌, ◌-◌, ◌*◌, ◌<◌, ◌≤◌, inl, inr, ◌⊎◌, List, [], ◌∷◌, ◌++◌, length, take, set, refl, sym}
-use Rattle.chained_index.proofs.Words.{ap, ◌∙◌, subst, arith, length-set, Contains, swap_remove, Contains-push, OwnerState, PutsEntry, PutsLink}
-use Rattle.chained_index.proofs.Words.{IsMain, IsBucket, entry_in, marked_in, InChain, IsFreeSpare, after, Kept, link_puts_entry, ends_main, Spot}
-use Rattle.chained_index.proofs.Words.{ChainEnd, buckets_of, entries_of, number_of, entries_without, IsUsed, EndsAt, ChangesChain, Index, IsIndexOf}
-use Rattle.chained_index.proofs.Words.{LacksPlace, last_of, link_in, in_chain, all_differ, at_most, Contains-get_or, take-length, take-suc, length-take, length-append}
-use Rattle.chained_index.proofs.Lists.{at, one_place}
-use Rattle.chained_index.proofs.Paths.{chain_is, last_at}
-use Rattle.chained_index.proofs.Chained.{Chained, chained, chain_inside, kept_chain, chained_before}
-use Rattle.chained_index.proofs.Changed.{spares_differ, all_spare}
+use Rattle.chained_index.proofs.Words.{ap, ◌∙◌, subst, arith, length-set, Contains, Contains-push, OwnerState, PutsEntry, PutsLink}
+use Rattle.chained_index.proofs.Words.{IsMain, IsBucket, entry_in, marked_in, InChain, IsFreeSpare, after, Kept, ends_main, Spot}
+use Rattle.chained_index.proofs.Words.{ChainEnd, buckets_of, entries_of, number_of, entries_without, IsUsed, EndsAt, Index, IsIndexOf}
+use Rattle.chained_index.proofs.Words.{LacksPlace, last_of, link_in, in_chain, all_differ, at_most, Contains-get_or, take-length, take-suc, length-take, length-append, length_push}
+use Rattle.chained_index.proofs.Words.{words_after, entries_with, get_or-set_same, get_or-set_other, get_or_push, get_or-take, get_or_past, cases_lt, All-push, All-set, All-take}
+use Rattle.chained_index.proofs.Lists.{at, AllUsed, at-push_other, one_place}
+use Rattle.chained_index.proofs.Paths.{last_at}
+use Rattle.chained_index.proofs.Chained.{chained, chain_inside, chained_before}
+use Rattle.chained_index.proofs.Changed.{Leaves, spares_differ, all_spare}
 use Rattle.chained_index.proofs.Filled.{View, view}
-use Rattle.chained_index.proofs.Frames.{changes_then}
 use Rattle.chained_index.proofs.Numbers.{place, number_is, is_within}
 use Rattle.chained_index.proofs.Walking.{list, last_bucket}
-use Rattle.chained_index.proofs.Stored.{pushed, changed, dropped, taken, released}
+use Rattle.chained_index.proofs.Stored.{Entered, none_entered, entered, kept_buckets, released, taken}
 
 -- The entry of a used spot is changed.
-module _ (o : OwnerState) (index : Index) (b : ℕ) (v : View o index b) (spot : Spot) (u : IsUsed o b spot)
-    (x : ℕ) (some : x ≢ 0) where
-  pub spot_set : (p : OwnerState) → Kept p → p ≡ after (PutsEntry spot.bucket spot.slot x) o
-      → ChangesChain o p b (set (entries_of o b) (number_of o b spot) x) × IsIndexOf index p
-  spot_set p kept is =
-      let here = place o index b v spot u in
+module _ (o : OwnerState) (index : Index) (b : ℕ) (v : View o index b) (spot : Spot) (u : IsUsed o b spot) (x y : ℕ) (is : x ≡ y) where
+  spot_entered : Entered o index b v (words_after (PutsEntry spot.bucket spot.slot x) o) (set (entries_of o b) (number_of o b spot) y)
+  spot_entered =
+      let xs : List ℕ = entries_of o b in
+      let at_k = place o index b v spot u in
       let number = number_is o index b v spot u in
-      let less = is_within o index b v spot u in
-      subst (λ (z : OwnerState). ChangesChain o z b (set (entries_of o b) (number_of o b spot) x) × IsIndexOf index z) (sym is)
-      (subst (λ (z : ℕ). ChangesChain o (after (PutsEntry spot.bucket spot.slot x) o) b (set (entries_of o b) z x) × IsIndexOf index (after (PutsEntry spot.bucket spot.slot x) o)) (sym number)
-      (changed o index b v here.0 spot.bucket spot.slot x here.1 here.2 u.in_bucket (subst Chained is (chained p kept)) some (omega arith)))
+      entered o index b v o.words xs (none_entered o index b v) at_k.0 spot.bucket spot.slot x at_k.1 at_k.2 u.in_bucket (set xs (number_of o b spot) y)
+      (ap (at (set xs (number_of o b spot) y)) (sym number) ∙ (get_or-set_same xs (number_of o b spot) y 0 (is_within o index b v spot u) ∙ sym is))
+      (λ i n. get_or-set_other xs (number_of o b spot) i y 0 (λ e. n (e ∙ number)))
 
--- the same where the owner's fact is known after the store alone
+-- where the owner's fact is known after the store alone
 pub replaced : (o p : OwnerState) → Kept p → (spot : Spot) (x : ℕ) → x ≢ 0 → p ≡ after (PutsEntry spot.bucket spot.slot x) o → (b : ℕ) → marked_in o.phase b ≡ 1
-    → IsUsed o b spot → (index : Index) → IsIndexOf index o → ChangesChain o p b (set (entries_of o b) (number_of o b spot) x) × IsIndexOf index p
+    → IsUsed o b spot → (index : Index) → IsIndexOf index o → Leaves o b index (entries_with o b spot x) p
 replaced o p kept spot x some is b one u index known =
     let stored = subst Kept is kept in
-    let s = chained_before o spot.bucket spot.slot x u.in_bucket (chained (after (PutsEntry spot.bucket spot.slot x) o) stored) in
-    spot_set o index b (view o s index known b (ends_main (after (PutsEntry spot.bucket spot.slot x) o) stored o.phase refl b one)) spot u x some p kept is
+    let t = chained (after (PutsEntry spot.bucket spot.slot x) o) stored in
+    let v = view o (chained_before o spot.bucket spot.slot x u.in_bucket t) index known b (ends_main (after (PutsEntry spot.bucket spot.slot x) o) stored o.phase refl b one) in
+    let xs : List ℕ = entries_of o b in
+    subst (Leaves o b index (entries_with o b spot x)) (sym is)
+    (kept_buckets o index b v _ _ (spot_entered o index b v spot u x x refl) t (All-set (λ z. z ≢ 0) xs (number_of o b spot) x some v.filled.used)
+    (omega (arith, v.filled.size, length-set xs (number_of o b spot) x)))
 
 -- A call in the chain of a main bucket that ends here.
 pub record Call (o : OwnerState) (index : Index) (b : ℕ) (end : ChainEnd) : Type 0 where
@@ -103,103 +105,98 @@ module _ (o : OwnerState) (index : Index) (b : ℕ) (end : ChainEnd) (call : Cal
 
   -- An entry is added
 
-  pub added : (x : ℕ) → x ≢ 0 → (low : end.used < 15) → (p : OwnerState) → Kept p → p ≡ after (PutsEntry end.bucket end.used x) o
-      → ChangesChain o p b (xs ++ x ∷ []) × IsIndexOf index p
-  added x some low p kept is = subst (λ (z : OwnerState). ChangesChain o z b (xs ++ x ∷ []) × IsIndexOf index z) (sym is)
-      (pushed o index b call.v (length behind) end.bucket end.used x (omega arith) last low (subst Chained is (chained p kept))
-      some (omega (arith, size)) refl)
+  pub added : (x : ℕ) → x ≢ 0 → (low : end.used < 15) → (p : OwnerState) → Kept p → p ≡ after (PutsEntry end.bucket end.used x) o → Leaves o b index (xs ++ x ∷ []) p
+  added x some low p kept is =
+      let full : 15 * length behind + end.used ≡ length xs = omega (arith, size) in
+      subst (Leaves o b index (xs ++ x ∷ [])) (sym is)
+      (kept_buckets o index b call.v _ _ (entered o index b call.v o.words xs (none_entered o index b call.v) (length behind) end.bucket end.used x (omega arith) last low
+      (xs ++ x ∷ []) (get_or_push xs x 0 (15 * length behind + end.used) (sym full)) (λ i n. at-push_other xs x i (λ e. n (e ∙ sym full))))
+      (chained _ (subst Kept is kept)) (All-push (λ z. z ≢ 0) xs x call.v.filled.used some) (omega (arith, full, length_push xs x)))
 
   pub last_free : (rest : List ℕ) (next : ℕ) → index.free ≡ rest ++ next ∷ [] → IsFreeSpare o next
   last_free rest next split = (call.v.known.free next).0 (subst (λ (z : List ℕ). Contains z next) (sym split) (Contains-push rest next))
 
-  pub added_behind : (x next : ℕ) (rest : List ℕ) → x ≢ 0 → 15 ≤ end.used → index.free ≡ rest ++ next ∷ [] → (m p : OwnerState) → Kept p
-      → m ≡ after (PutsEntry next 0 x) o → p ≡ after (PutsLink end.bucket next) m
-      → ChangesChain o p b (xs ++ x ∷ []) × IsIndexOf (record { shape = index.shape; free = rest }) p
-  added_behind x next rest some full split m p kept first second =
-      let is = second ∙ ap (after (PutsLink end.bucket next)) first in
+  pub added_behind : (x next : ℕ) (rest : List ℕ) → x ≢ 0 → 15 ≤ end.used → index.free ≡ rest ++ next ∷ [] → (p : OwnerState) → Kept p
+      → p ≡ after (PutsLink end.bucket next) (after (PutsEntry next 0 x) o) → Leaves o b (record { shape = index.shape; free = rest }) (xs ++ x ∷ []) p
+  added_behind x next rest some full split p kept is =
       let within = call.ends.within in
-      subst (λ (z : OwnerState). ChangesChain o z b (xs ++ x ∷ []) × IsIndexOf (record { shape = index.shape; free = rest }) z) (sym is)
-      (taken o index b call.v end.bucket next x last_is (omega (arith, size)) (last_free rest next split) some (subst Chained is (chained p kept)) rest split)
+      subst (Leaves o b (record { shape = index.shape; free = rest }) (xs ++ x ∷ [])) (sym is)
+      (taken o index b call.v end.bucket next x last_is (omega (arith, size)) (last_free rest next split) some (chained _ (subst Kept is kept)) rest split)
 
-  -- The last one is dropped
+  -- An entry is removed: the last goes into its spot, and is dropped
 
-  -- its bucket stays where it is the main one or has more entries
-  pub drop : 0 < end.used → ((end.used - 1 ≡ 0) × (end.bucket ≡ b)) ⊎ (end.used - 1 ≢ 0) → (p : OwnerState) → Kept p
-      → p ≡ after (PutsEntry end.bucket (end.used - 1) 0) o → ChangesChain o p b (take (length xs - 1) xs) × IsIndexOf index p
-  drop some either p kept is = subst (λ (z : OwnerState). ChangesChain o z b (take (length xs - 1) xs) × IsIndexOf index z) (sym is)
-      (dropped o index b call.v (length behind) end.bucket (end.used - 1) 0 (omega arith) last (omega (arith, call.ends.within))
-      (subst Chained is (chained p kept)) refl (omega (arith, size)) refl (elim either [
-        | inl e ↦ inl (one_place cs (all_differ (link_in o) b behind call.v.chain.behind) (length behind) 0 (omega arith) (omega arith) (last ∙ e.1))
-        | inr n ↦ inr (omega arith)
-      ]))
-
-  pub release : 0 < end.used → end.used - 1 ≡ 0 → end.bucket ≢ b → (m p : OwnerState) → Kept p
-      → m ≡ after (PutsEntry end.bucket (end.used - 1) 0) o → p ≡ after (PutsLink end.before 0) m
-      → ChangesChain o p b (take (length xs - 1) xs) × IsIndexOf (record { shape = index.shape; free = index.free ++ end.bucket ∷ [] }) p
-  release some none n m p kept first second =
-      let empty : m ≡ after (PutsEntry end.bucket 0 0) o = first ∙ ap (λ (z : ℕ). after (PutsEntry end.bucket z 0) o) none in
-      let is = second ∙ ap (after (PutsLink end.before 0)) empty in
-      let at_n = before n in
-      let long = length-take at_n.0 behind in
-      subst (λ (z : OwnerState). ChangesChain o z b (take (length xs - 1) xs) × IsIndexOf (record { shape = index.shape; free = index.free ++ end.bucket ∷ [] }) z) (sym is)
-      (released o index b call.v (take at_n.0 behind) end.before end.bucket
-      (sym (take-length behind) ∙ (ap (λ (z : ℕ). take z behind) at_n.1 ∙ (take-suc behind at_n.0 0 (omega (arith, at_n.1))
-      ∙ ap (λ (z : ℕ). take at_n.0 behind ++ z ∷ []) (ap (at cs) (sym at_n.1) ∙ last))))
-      (last_at b behind at_n.0 (omega (arith, at_n.1)) ∙ at_n.2) (omega (arith, at_n.1, size)) (subst Chained is (chained p kept)))
-
-  -- so there is room for its bucket in the list of free spares
+  -- there is room for its bucket in the list of free spares
   pub release_room : end.bucket ≢ b → length index.free < o.shape.spares
   release_room n =
       let few = at_most (index.free ++ behind) o.shape.buckets o.shape.spares (spares_differ o index b call.v) (all_spare o index b call.v) in
       omega (arith, (before n).1, length-append index.free behind)
 
-  -- An entry is removed: the last goes into its spot
-
   module _ (spot : Spot) (u : IsUsed o b spot) where
     pub used_some : 0 < end.used
     used_some = omega (arith, is_within o index b call.v spot u, size, call.v.filled.size)
 
-    module _ (y : ℕ) (is_last : y ≡ entry_in o end.bucket (end.used - 1)) (m : OwnerState) (t : Kept m) (first : m ≡ after (PutsEntry spot.bucket spot.slot y) o) where
+    module _ (y : ℕ) (is_last : y ≡ entry_in o end.bucket (end.used - 1)) where
+      abbrev m : OwnerState
+      m = after (PutsEntry end.bucket (end.used - 1) 0) (after (PutsEntry spot.bucket spot.slot y) o)
+
+      abbrev moved : List ℕ
+      moved = set xs (number_of o b spot) (at xs (length xs - 1))
+
+      abbrev ys : List ℕ
+      ys = entries_without o b spot
+
+      there : 15 * length behind + (end.used - 1) ≡ length xs - 1
+      there = let some = used_some in omega (arith, size)
+
+      long : length ys ≡ length xs - 1
+      long = let size = length-set xs (number_of o b spot) (at xs (length xs - 1)) in omega (arith, length-take (length xs - 1) moved)
+
       value : y ≡ at xs (length xs - 1)
       value =
-          let low = used_some in
+          let some = used_some in
           let within = call.ends.within in
-          let there : 15 * length behind + (end.used - 1) ≡ length xs - 1 = omega (arith, size) in
           is_last ∙ (ap (λ (z : ℕ). entry_in o z (end.used - 1)) (sym last)
           ∙ (call.v.filled.entries (length behind) (end.used - 1) (omega arith) (omega arith) ∙ ap (at xs) there))
 
-      moved : ChangesChain o m b (set xs (number_of o b spot) y) × IsIndexOf index m
-      moved = spot_set o index b call.v spot u y
-          (λ none. let less = is_within o index b call.v spot u in
-          call.v.filled.used (length xs - 1) (omega arith) (sym value ∙ none))
-          m t first
-
-      pub call_then : Call m index b end
-      call_then = record {
-        v = view m (chained m t) index moved.1 b (subst (λ (z : OwnerState). IsMain z.shape b) (sym first) call.v.main);
-        ends = record {
-          buckets = record {
-            last = λ k e. ap (λ (z : List ℕ). at z k) same ∙ call.ends.buckets.last k (ap length (sym same) ∙ e);
-            before = λ k e. ap (λ (z : List ℕ). at z k) same ∙ call.ends.buckets.before k (ap length (sym same) ∙ e);
-          };
-          within = call.ends.within;
-          used = omega (arith, ap length same, ap length moved.0.entries, length-set xs (number_of o b spot) y, size);
-        };
-      }
+      dropped : Entered o index b call.v m.words ys
+      dropped =
+          let some = used_some in
+          let within = call.ends.within in
+          entered o index b call.v _ moved (spot_entered o index b call.v spot u y (at xs (length xs - 1)) value) (length behind) end.bucket (end.used - 1) 0
+          (omega arith) last (omega arith) ys (get_or_past ys (15 * length behind + (end.used - 1)) 0 (omega (arith, there, long))) else
         where
-          same : buckets_of m b ≡ buckets_of o b
-          same = ap (λ (z : OwnerState). buckets_of z b) first
-              ∙ (chain_is (after (PutsEntry spot.bucket spot.slot y) o) b behind
-              (kept_chain o (after (PutsEntry spot.bucket spot.slot y) o).words o.history o.phase call.v.s b call.v.main
-              (λ c h. link_puts_entry o call.v.s.wide spot.bucket spot.slot y c u.in_bucket) behind call.v.chain) ∙ sym is_list)
+          else : (i : ℕ) → i ≢ 15 * length behind + (end.used - 1) → at ys i ≡ at moved i
+          else i n =
+              let size = length-set xs (number_of o b spot) (at xs (length xs - 1)) in
+              elim (cases_lt i (length xs - 1)) [
+                | inl less ↦ get_or-take (length xs - 1) moved i 0 less
+                | inr more ↦ get_or_past ys i 0 (omega (arith, long)) ∙ sym (get_or_past moved i 0 (omega (arith, there)))
+              ]
 
-      -- what the chain has once the last is dropped too
-      pub without : (p : OwnerState) → ChangesChain m p b (take (length (entries_of m b) - 1) (entries_of m b)) → ChangesChain o p b (entries_without o b spot)
-      without p two = subst (ChangesChain o p b) swapped
-          (changes_then o m p b (set xs (number_of o b spot) y) (take (length (entries_of m b) - 1) (entries_of m b)) moved.0 two)
-        where
-          swapped : take (length (entries_of m b) - 1) (entries_of m b) ≡ swap_remove xs (number_of o b spot) 0
-          swapped =
-              let long : length (entries_of m b) ≡ length xs = ap length moved.0.entries ∙ length-set xs (number_of o b spot) y in
-              ap (λ (z : ℕ). take (z - 1) (entries_of m b)) long
-              ∙ ap (take (length xs - 1)) (moved.0.entries ∙ ap (set xs (number_of o b spot)) value)
+      used : AllUsed ys
+      used =
+          let some = used_some in
+          All-take (λ z. z ≢ 0) (length xs - 1) moved (All-set (λ z. z ≢ 0) xs (number_of o b spot) (at xs (length xs - 1))
+          (call.v.filled.used (length xs - 1) 0 (omega (arith, size))) call.v.filled.used)
+
+      -- its bucket stays where it is the main one or has more entries
+      pub drop : ((end.used - 1 ≡ 0) × (end.bucket ≡ b)) ⊎ (end.used - 1 ≢ 0) → (p : OwnerState) → Kept p → p ≡ m → Leaves o b index ys p
+      drop either p kept is = subst (Leaves o b index ys) (sym is) (kept_buckets o index b call.v m.words ys dropped (chained m (subst Kept is kept)) used (elim either [
+        | inl e ↦
+            let none = one_place cs (all_differ (link_in o) b behind call.v.chain.behind) (length behind) 0 (omega arith) (omega arith) (last ∙ e.1) in
+            omega (arith, long, size)
+        | inr n ↦ omega (arith, long, size, call.v.filled.size)
+      ]))
+
+      -- else it is released
+      pub release : end.used - 1 ≡ 0 → end.bucket ≢ b → (p : OwnerState) → Kept p → p ≡ after (PutsLink end.before 0) m
+          → Leaves o b (record { shape = index.shape; free = index.free ++ end.bucket ∷ [] }) ys p
+      release none n p kept is =
+          let some = used_some in
+          let at_n = before n in
+          let few = length-take at_n.0 behind in
+          subst (Leaves o b (record { shape = index.shape; free = index.free ++ end.bucket ∷ [] }) ys) (sym is)
+          (released o index b call.v m.words ys dropped (take at_n.0 behind) end.before end.bucket
+          (sym (take-length behind) ∙ (ap (λ (z : ℕ). take z behind) at_n.1 ∙ (take-suc behind at_n.0 0 (omega (arith, at_n.1))
+          ∙ ap (λ (z : ℕ). take at_n.0 behind ++ z ∷ []) (ap (at cs) (sym at_n.1) ∙ last))))
+          (last_at b behind at_n.0 (omega (arith, at_n.1)) ∙ at_n.2) used (omega (arith, at_n.1, long, size)) (chained _ (subst Kept is kept)))

@@ -29,13 +29,20 @@ pub record Rewrites (o p : OwnerState) (index : Index) (b : ℕ) (cs ds free ys 
   pub moved : IsPermutation (index.free ++ cs) (free ++ ds)
   pub blank : (c : ℕ) → Contains cs c → Contains free c → IsBlank p c
 
-module _ (o : OwnerState) (words : List ℕ) (long : length words ≡ length o.words) (t : Chained (record o { words = words })) (index : Index) (b : ℕ)
+-- the chain of bucket b has these entries now, each other one is as it was, and the index is one of the words
+abbrev pub Leaves : OwnerState → ℕ → Index → List ℕ → OwnerState → Type 0
+Leaves o b index ys p = ChangesChain o p b ys × IsIndexOf index p
+
+module _ (o : OwnerState) (words : List ℕ) (t : Chained (record o { words = words })) (index : Index) (b : ℕ)
     (v : View o index b) (ds free ys : List ℕ) (r : Rewrites o (record o { words = words }) index b v.behind ds free ys) where
   abbrev p : OwnerState
   p = record o { words = words }
 
   abbrev cs : List ℕ
   cs = v.behind
+
+  long : length words ≡ length o.words
+  long = t.wide ∙ sym v.s.wide
 
   now : IsChain p b ds
   now = chain_of p t.chains.links b ds v.main r.behind
@@ -115,7 +122,7 @@ module _ (o : OwnerState) (words : List ℕ) (long : length words ≡ length o.w
             }
       ]
 
-  pub rewritten : ChangesChain o p b ys × IsIndexOf (record { shape = index.shape; free = free }) p
+  pub rewritten : Leaves o b (record { shape = index.shape; free = free }) ys p
   rewritten = (
     changes,
     record {

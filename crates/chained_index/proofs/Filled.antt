@@ -1,10 +1,10 @@
 -- The entries of a chain as a list: they fill its buckets, one after another.
 use Rattle.chained_index.proofs.Words.{Index, IsIndexOf, IsMain}
-use Rattle.chained_index.proofs.Words.{◌≡◌, ◌≢◌, ℕ, zero, suc, ◌+◌, ◌-◌, ◌*◌, ◌/◌, ◌%◌, ◌<◌, ◌≤◌, inl, inr, List, [], ◌∷◌, ◌++◌, length, drop}
+use Rattle.chained_index.proofs.Words.{◌≡◌, ◌≢◌, ℕ, suc, ◌+◌, ◌-◌, ◌*◌, ◌/◌, ◌%◌, ◌<◌, ◌≤◌, inl, inr, List, [], ◌∷◌, ◌++◌, length, take, drop, get_or}
 use Rattle.chained_index.proofs.Words.{nat_lt, filter, flat_map, slice_range, refl, sym, ap, ◌∙◌, subst, arith, length-append, length-take, Contains}
-use Rattle.chained_index.proofs.Words.{length-drop, dite, ℕ_discrete, cases_lt, get_or-take, get_or-drop, get_or_past, get_or_append_left, Contains-get_or}
-use Rattle.chained_index.proofs.Words.{get_or-append_right, filter-append, spares_behind, OwnerState, IsBucket, entry_at, word_count, entry_in}
-use Rattle.chained_index.proofs.Words.{link_in, ◌⊎◌, InChain, IsDense, entries_in, entries_of, IsChain, has_bucket, in_chain, inside, chain_there, in_head, in_tail}
+use Rattle.chained_index.proofs.Words.{length-drop, dite, ℕ_discrete, cases_lt, get_or-take, get_or-drop, get_or_past, Contains-get_or}
+use Rattle.chained_index.proofs.Words.{filter-append, spares_behind, OwnerState, IsBucket, entry_at, word_count, entry_in}
+use Rattle.chained_index.proofs.Words.{link_in, ◌⊎◌, InChain, IsDense, entries_in, entries_of, IsChain, has_bucket, in_chain, inside, chain_there, All, All-head, All-tail, All-take, get_or-flat_map}
 use Rattle.chained_index.proofs.Lists.{at, AllUsed, below, place_in, filter_is, used_part}
 use Rattle.chained_index.proofs.Paths.{chain_is, step_on}
 use Rattle.chained_index.proofs.Chained.{Chained}
@@ -50,36 +50,30 @@ module _ (o : OwnerState) (wide : length o.words ≡ word_count o.shape) where
       get_or-take (entry_at o.shape c 15 - entry_at o.shape c 0) (drop (entry_at o.shape c 0) o.words) slot 0 (omega arith)
       ∙ (get_or-drop (entry_at o.shape c 0) o.words slot 0 ∙ ap (at o.words) there)
 
-  -- each of these is a bucket
-  abbrev pub AllBuckets : List ℕ → Type 0
-  AllBuckets cs = (c : ℕ) → Contains cs c → IsBucket o.shape c
-
-  pub length-all_slots : (cs : List ℕ) → AllBuckets cs → length (all_slots o cs) ≡ 15 * length cs
+  pub length-all_slots : (cs : List ℕ) → All (IsBucket o.shape) cs → length (all_slots o cs) ≡ 15 * length cs
   unfolding all_slots
   length-all_slots [] buckets = refl
   length-all_slots (c ∷ cs) buckets = omega (
     arith,
     length-append (slots o c) (all_slots o cs),
-    length-slots c (buckets c (in_head c cs)),
-    length-all_slots cs (λ d i. buckets d (in_tail c d cs i)),
+    length-slots c (All-head (IsBucket o.shape) c cs buckets),
+    length-all_slots cs (All-tail (IsBucket o.shape) c cs buckets),
   )
 
-  by_slot : (cs : List ℕ) → AllBuckets cs → (k slot : ℕ) → k < length cs → slot < 15 → at (all_slots o cs) (15 * k + slot) ≡ entry_in o (at cs k) slot
+  by_slot : (cs : List ℕ) → All (IsBucket o.shape) cs → (k slot : ℕ) → k < length cs → slot < 15 → at (all_slots o cs) (15 * k + slot) ≡ entry_in o (at cs k) slot
   unfolding all_slots
-  by_slot [] buckets k slot l low = absurd (omega arith)
-  by_slot (c ∷ cs) buckets zero slot l low =
-      let here : 15 * zero + slot ≡ slot = omega arith in
-      ap (at (slots o c ++ all_slots o cs)) here
-      ∙ (get_or_append_left (slots o c) (all_slots o cs) 0 slot (omega (arith, length-slots c (buckets c (in_head c cs)))) ∙ at-slots c slot low)
-  by_slot (c ∷ cs) buckets (suc k) slot l low =
-      let there : 15 * suc k + slot - 15 ≡ 15 * k + slot = omega arith in
-      get_or-append_right (slots o c) (all_slots o cs) 15 (15 * suc k + slot) 0 (length-slots c (buckets c (in_head c cs))) (omega arith)
-      ∙ (ap (at (all_slots o cs)) there ∙ by_slot cs (λ d i. buckets d (in_tail c d cs i)) k slot (omega arith) low)
+  by_slot cs buckets k slot l low =
+      let before : 15 * k ≡ length (all_slots o (take k cs)) = omega (arith, length-all_slots (take k cs) (All-take (IsBucket o.shape) k cs buckets), length-take k cs) in
+      ap (λ (z : ℕ). at (all_slots o cs) (z + slot)) before
+      ∙ (get_or-flat_map (slots o) cs k slot 0 0 l (omega (arith, length-slots (at cs k) (buckets k 0 l))) ∙ at-slots (at cs k) slot low)
 
-  pub by_place : (cs : List ℕ) → AllBuckets cs → (i : ℕ) → i < 15 * length cs → at (all_slots o cs) i ≡ entry_in o (at cs (i / 15)) (i % 15)
+  pub by_place : (cs : List ℕ) → All (IsBucket o.shape) cs → (i : ℕ) → i < 15 * length cs → at (all_slots o cs) i ≡ entry_in o (at cs (i / 15)) (i % 15)
   by_place cs buckets i l =
       let is : 15 * (i / 15) + i % 15 ≡ i = omega arith in
       ap (at (all_slots o cs)) (sym is) ∙ by_slot cs buckets (i / 15) (i % 15) (omega arith) (omega arith)
+
+pub all_inside : (o : OwnerState) (b : ℕ) (cs : List ℕ) → IsChain o b cs → IsMain o.shape b → All (IsBucket o.shape) (b ∷ cs)
+all_inside o b cs chain main k d l = inside o b cs chain main (get_or (b ∷ cs) k d) (Contains-get_or (b ∷ cs) k d l)
 
 module _ (o : OwnerState) (wide : length o.words ≡ word_count o.shape) (b : ℕ) (main : IsMain o.shape b) (behind : List ℕ) (chain : IsChain o b behind) where
   abbrev cs : List ℕ
@@ -88,11 +82,14 @@ module _ (o : OwnerState) (wide : length o.words ≡ word_count o.shape) (b : �
   abbrev all : List ℕ
   all = all_slots o cs
 
+  buckets : All (IsBucket o.shape) cs
+  buckets = all_inside o b behind chain main
+
   size_all : length all ≡ 15 * length cs
-  size_all = length-all_slots o wide cs (inside o b behind chain main)
+  size_all = length-all_slots o wide cs buckets
 
   place_all : (i : ℕ) → i < 15 * length cs → at all i ≡ entry_in o (at cs (i / 15)) (i % 15)
-  place_all = by_place o wide cs (inside o b behind chain main)
+  place_all = by_place o wide cs buckets
 
   step : (k : ℕ) → k < length cs → (k < length behind) × (link_in o (at cs k) ≢ 0) × (link_in o (at cs k) ≡ at cs (suc k))
       ⊎ (length behind ≡ k) × (link_in o (at cs k) ≡ 0)
@@ -131,7 +128,7 @@ module _ (o : OwnerState) (wide : length o.words ≡ word_count o.shape) (b : �
         place c h = place_in cs c (has_bucket o b behind chain c h)
 
         some : (c slot : ℕ) (k : (k : ℕ) × (k < length cs) × (at cs k ≡ c)) → slot < 15 → 15 * k.0 + slot < length xs → entry_in o c slot ≢ 0
-        some c slot k low less none = f.used (15 * k.0 + slot) less (sym (f.entries k.0 slot k.1 low) ∙ (ap (λ (z : ℕ). entry_in o z slot) k.2 ∙ none))
+        some c slot k low less none = f.used (15 * k.0 + slot) 0 less (sym (f.entries k.0 slot k.1 low) ∙ (ap (λ (z : ℕ). entry_in o z slot) k.2 ∙ none))
 
   -- and a dense chain has such a list
   module _ (d : IsDense o b) where
@@ -155,11 +152,11 @@ module _ (o : OwnerState) (wide : length o.words ≡ word_count o.shape) (b : �
         record { entries = entries; used = part.1; size = size }
       where
         entries : (k slot : ℕ) → k < length cs → slot < 15 → entry_in o (at cs k) slot ≡ at part.0 (15 * k + slot)
-        entries k slot l low = sym (by_slot o wide cs (inside o b behind chain main) k slot l low) ∙ part.2 (15 * k + slot)
+        entries k slot l low = sym (by_slot o wide cs buckets k slot l low) ∙ part.2 (15 * k + slot)
 
         most : length part.0 ≤ 15 * length cs
         most = elim (cases_lt (15 * length cs) (length part.0)) [
-          | inl more ↦ absurd (part.1 (15 * length cs) more (sym (part.2 (15 * length cs)) ∙ get_or_past all (15 * length cs) 0 (omega (arith, size_all))))
+          | inl more ↦ absurd (part.1 (15 * length cs) 0 more (sym (part.2 (15 * length cs)) ∙ get_or_past all (15 * length cs) 0 (omega (arith, size_all))))
           | inr few ↦ few
         ]
 

@@ -41,7 +41,7 @@ module _ (o : OwnerState) (index : Index) (b : ℕ) (v : View o index b) (key : 
     -- where a slot is empty, so is all behind it
     pub none_past_empty : (slot : ℕ) → slot < 15 → entry_in o c slot ≡ 0 → NoneBefore o b key (15 * link + slot) → HasNoSpot o b key
     none_past_empty slot low empty = none_at_all (15 * link + slot) (elim (cases_lt (15 * link + slot) (length (entries_of o b))) [
-      | inl less ↦ absurd (v.filled.used (15 * link + slot) less (sym (entry_here slot low) ∙ empty))
+      | inl less ↦ absurd (v.filled.used (15 * link + slot) 0 less (sym (entry_here slot low) ∙ empty))
       | inr past ↦ past
     ])
 

@@ -1,11 +1,11 @@
 -- A chain none of whose buckets changed is as it was.
 use Rattle.chained_index.proofs.Words.{◌≡◌, ℕ, ◌/◌, ◌%◌, List, ◌∷◌, length, nat_lt, filter, sym, ap, ◌∙◌, subst, arith, ext_get_or, History, Contains}
 use Rattle.chained_index.proofs.Words.{OwnerState, Phase, IsMain, InChain, IsDense, entries_of, KeepsChain, ChangesOnlyIndex, Contains-get_or}
-use Rattle.chained_index.proofs.Words.{ChangesChain, IsChain, in_chain, inside, chain_there}
+use Rattle.chained_index.proofs.Words.{IsChain, in_chain, chain_there}
 use Rattle.chained_index.proofs.Lists.{at}
 use Rattle.chained_index.proofs.Paths.{chain_is}
 use Rattle.chained_index.proofs.Chained.{Chained, kept_chain}
-use Rattle.chained_index.proofs.Filled.{SameBucket, all_slots, length-all_slots, by_place, entries_filtered, dense_there, filled_there, same_filled}
+use Rattle.chained_index.proofs.Filled.{SameBucket, all_slots, length-all_slots, all_inside, by_place, entries_filtered, dense_there, filled_there, same_filled}
 
 module _ (o : OwnerState) (words : List ℕ) (history : History) (phase : Phase) (long : length words ≡ length o.words)
     (s : Chained o) (b : ℕ) (main : IsMain o.shape b) where
@@ -36,21 +36,17 @@ module _ (o : OwnerState) (words : List ℕ) (history : History) (phase : Phase)
       where
         slots_same : all_slots p cs ≡ all_slots o cs
         slots_same =
-            let size = length-all_slots p (long ∙ s.wide) cs (inside p b behind now main) in
-            ext_get_or 0 (all_slots p cs) (all_slots o cs) (size ∙ sym (length-all_slots o s.wide cs (inside o b behind was main))) (λ i l.
-            by_place p (long ∙ s.wide) cs (inside p b behind now main) i (omega arith)
+            let size = length-all_slots p (long ∙ s.wide) cs (all_inside p b behind now main) in
+            ext_get_or 0 (all_slots p cs) (all_slots o cs) (size ∙ sym (length-all_slots o s.wide cs (all_inside o b behind was main))) (λ i l.
+            by_place p (long ∙ s.wide) cs (all_inside p b behind now main) i (omega arith)
             ∙ ((same_in (at cs (i / 15)) (Contains-get_or cs (i / 15) 0 (omega arith))).entry (i % 15) (omega arith)
-            ∙ sym (by_place o s.wide cs (inside o b behind was main) i (omega arith))))
+            ∙ sym (by_place o s.wide cs (all_inside o b behind was main) i (omega arith))))
 
     pub dense_kept : IsDense o b → IsDense p b
     dense_kept dense = dense_there p (long ∙ s.wide) b main behind now (entries_of o b)
         (same_filled o p cs (entries_of o b) (filled_there o s.wide b main behind was dense) same_in)
 
--- One change after another
-
-keeps_then : (o m p : OwnerState) (b : ℕ) → KeepsChain o m b → KeepsChain m p b → KeepsChain o p b
-keeps_then o m p b one two = record { buckets = two.buckets ∙ one.buckets; entries = two.entries ∙ one.entries }
-
+-- one change after another
 pub only_then : (o m p : OwnerState) → ChangesOnlyIndex o m → ChangesOnlyIndex m p → ChangesOnlyIndex o p
 only_then o m p one two =
     let shape = ap (λ (z : OwnerState). z.shape) one.same in record {
@@ -58,12 +54,4 @@ only_then o m p one two =
       epochs = λ b main. two.epochs b (subst (λ z. IsMain z b) (sym shape) main) ∙ one.epochs b main;
       items = λ q. two.items q ∙ one.items q;
       same = two.same ∙ ap (λ (z : OwnerState). record z { words = p.words }) one.same;
-    }
-
-pub changes_then : (o m p : OwnerState) (b : ℕ) (xs ys : List ℕ) → ChangesChain o m b xs → ChangesChain m p b ys → ChangesChain o p b ys
-changes_then o m p b xs ys one two =
-    let shape = ap (λ (z : OwnerState). z.shape) one.rest.same in record {
-      entries = two.entries;
-      others = λ other main n. keeps_then o m p other (one.others other main n) (two.others other (subst (λ z. IsMain z other) (sym shape) main) n);
-      rest = only_then o m p one.rest two.rest;
     }

@@ -84,7 +84,7 @@ module _ (o : OwnerState) (s : Chained o) (mode : o.shape.mode ≡ Store) (index
           in_chain = subst (InChain o b) (sym here) (in_chain o b v.behind v.chain (at (b ∷ v.behind) (i / 15)) (Contains-get_or (b ∷ v.behind) (i / 15) 0 low));
           in_bucket = omega arith;
           found = ap (λ (z : ℕ). entry_in o z (i % 15)) here ∙ (v.filled.entries (i / 15) (i % 15) low (omega arith) ∙ ap (at xs) split);
-          live = (v.filled.used i less, subst (λ (z : Mode). IsLiveItem z o.shape.words (stamp_in o) (entry_offset (at xs i))) (sym mode) tt);
+          live = (v.filled.used i 0 less, subst (λ (z : Mode). IsLiveItem z o.shape.words (stamp_in o) (entry_offset (at xs i))) (sym mode) tt);
         };
         inside = less;
         is = refl;

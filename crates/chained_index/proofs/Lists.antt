@@ -1,7 +1,8 @@
 -- Lists of numbers by their places, where a list has 0 past its end.
-use Rattle.chained_index.proofs.Words.{◌≡◌, ◌≢◌, ℕ, zero, suc, ◌+◌, ◌-◌, ◌<◌, inl, inr, List, [], ◌∷◌, ◌++◌, length, get_or, true, nat_lt, filter, refl}
+use Rattle.chained_index.proofs.Words.{◌≡◌, ◌≢◌, ℕ, zero, suc, ◌+◌, ◌<◌, inl, inr, List, [], ◌∷◌, ◌++◌, length, get_or, true, nat_lt, filter, refl}
 use Rattle.chained_index.proofs.Words.{sym, ap, ◌∙◌, arith, Contains, AllPairs, dite, ℕ_discrete, cases_lt, lt-ltb, get_or_past, get_or_append_left}
-use Rattle.chained_index.proofs.Words.{get_or-append_right, get_or-append-add, get_or_default, length-append, length_push, Decides-eqb, nat_eq_equiv, eqb, IsPermutation}
+use Rattle.chained_index.proofs.Words.{get_or-append-add, get_or_default, length-append, length_push, Decides-eqb, nat_eq_equiv, eqb, IsPermutation}
+use Rattle.chained_index.proofs.Words.{All, All-nil, All-cons, All-tail, AllPairs-cons, Contains-append_cases, in_head, in_tail}
 use Rattle.chained_index.proofs.Words.{IsDistinct-IsPermutation, IsDistinct-from_AllPairs, AllPairs-from_IsDistinct}
 
 -- the number at a place
@@ -10,7 +11,7 @@ at xs i = get_or xs i 0
 
 -- no number of the list is 0
 abbrev pub AllUsed : List ℕ → Type 0
-AllUsed xs = (i : ℕ) → i < length xs → at xs i ≢ 0
+AllUsed xs = All (λ x. x ≢ 0) xs
 
 pub below : (xs : List ℕ) (i : ℕ) → at xs i ≢ 0 → i < length xs
 below xs i some = elim (cases_lt i (length xs)) [ inl less ↦ less | inr past ↦ absurd (some (get_or_past xs i 0 past)) ]
@@ -21,28 +22,29 @@ place_in xs c has = (has.0, has.1, get_or_default xs has.0 0 c has.1 ∙ has.2)
 -- the numbers that are not 0, where only those that are stand past them
 pub filter_is : (xs ys : List ℕ) → AllUsed ys → ((i : ℕ) → at xs i ≡ at ys i) → filter (nat_lt 0) xs ≡ ys
 filter_is [] [] used same = refl
-filter_is [] (y ∷ ys) used same = absurd (used 0 (omega arith) (sym (same 0)))
+filter_is [] (y ∷ ys) used same = absurd (used 0 0 (omega arith) (sym (same 0)))
 filter_is (x ∷ xs) [] used same = let none : x ≡ 0 = same 0 in rw none (filter_is xs [] used (λ i. same (suc i)))
 filter_is (x ∷ xs) (y ∷ ys) used same =
     let is : x ≡ y = same 0 in
-    let some = used 0 (omega arith) in
+    let some = used 0 0 (omega arith) in
     let test : nat_lt 0 x ≡ true = lt-ltb 0 x (omega arith) in
-    let rest = filter_is xs ys (λ i l. used (suc i) (omega arith)) (λ i. same (suc i)) in
+    let rest = filter_is xs ys (All-tail (λ x. x ≢ 0) y ys used) (λ i. same (suc i)) in
     rw test (λ j. is j ∷ rest j)
 
 -- where none stands past a 0, there are such
 pub used_part : (xs : List ℕ) → ((i j : ℕ) → i < j → at xs j ≢ 0 → at xs i ≢ 0) → (ys : List ℕ) × AllUsed ys × ((i : ℕ) → at xs i ≡ at ys i)
-used_part [] order = ([], (λ i l. absurd (omega arith)), λ i. refl)
+used_part [] order = ([], All-nil (λ x. x ≢ 0), λ i. refl)
 used_part (x ∷ xs) order = dite (ℕ_discrete x 0)
     (λ none. (
       [],
-      (λ i l. absurd (omega arith)),
+      All-nil (λ x. x ≢ 0),
       λ i. dite (ℕ_discrete (at (x ∷ xs) i) 0) (λ is. is)
           (λ n. absurd (order 0 i (let some : i ≢ 0 = λ is. n (ap (at (x ∷ xs)) is ∙ none) in omega arith) n none)),
     ))
-    (λ some. let rest = used_part xs (λ i j less. order (suc i) (suc j) (omega arith)) in (
+    (λ some.
+    let rest = used_part xs (λ i j less. order (suc i) (suc j) (omega arith)) in (
       x ∷ rest.0,
-      (λ i. elim i as (λ (i : ℕ). i < suc (length rest.0) → at (x ∷ rest.0) i ≢ 0) [ zero ↦ λ l. some | suc i ↦ λ l. rest.1 i (omega arith) ]),
+      All-cons (λ x. x ≢ 0) x rest.0 some rest.1,
       λ i. elim i as (λ (i : ℕ). at (x ∷ xs) i ≡ at (x ∷ rest.0) i) [ zero ↦ refl | suc i ↦ rest.2 i ],
     ))
 
@@ -67,21 +69,16 @@ pub differ_moved : (xs ys : List ℕ) → IsPermutation xs ys → AllDiffer xs �
 differ_moved xs ys moved pairs =
     AllPairs-from_IsDistinct Decides-eqb ys (IsDistinct-IsPermutation eqb nat_eq_equiv.symm xs ys moved (IsDistinct-from_AllPairs Decides-eqb xs pairs))
 
--- those of two lists, none of which stands in both
-module _ (xs ys : List ℕ) where
-  pub differ_joined : AllDiffer xs → AllDiffer ys → ((c : ℕ) → Contains xs c → ¬ (Contains ys c)) → AllDiffer (xs ++ ys)
-  differ_joined one two apart i j d less within same = elim (cases_lt j (length xs)) [
-    | inl low ↦ one i j d less low (sym (get_or_append_left xs ys d i (omega arith)) ∙ (same ∙ get_or_append_left xs ys d j low))
-    | inr high ↦
-        let second = get_or-append_right xs ys (length xs) j d refl high in
-        let inside : j - length xs < length ys = omega (arith, within, length-append xs ys) in
-        elim (cases_lt i (length xs)) [
-          | inl low ↦ apart (get_or xs i d) (i, low, get_or_default xs i (get_or xs i d) d low)
-              (j - length xs, inside, get_or_default ys (j - length xs) (get_or xs i d) d inside ∙ (sym second ∙ (sym same ∙ get_or_append_left xs ys d i low)))
-          | inr high' ↦ two (i - length xs) (j - length xs) d (omega arith) inside (sym (get_or-append_right xs ys (length xs) i d refl high') ∙ (same ∙ second))
-        ]
-  ]
+pub differ_joined : (xs ys : List ℕ) → AllDiffer xs → AllDiffer ys → ((c : ℕ) → Contains xs c → ¬ (Contains ys c)) → AllDiffer (xs ++ ys)
+differ_joined [] ys one two apart = two
+differ_joined (x ∷ xs) ys one two apart = AllPairs-cons (λ c d. c ≢ d) x (xs ++ ys)
+    (λ k d l is. elim (Contains-append_cases xs ys x (k, l, get_or_default (xs ++ ys) k x d l ∙ sym is)) [
+      | inl i ↦ one 0 (suc i.0) x (omega arith) (omega (arith, i.1)) (sym i.2)
+      | inr i ↦ apart x (in_head x xs) i
+    ])
+    (differ_joined xs ys (λ i j d less l. one (suc i) (suc j) d (omega arith) (omega arith)) two (λ c i. apart c (in_tail x c xs i)))
 
+module _ (xs ys : List ℕ) where
   pub differ_first : AllDiffer (xs ++ ys) → AllDiffer xs
   differ_first pairs i j d less inside same = pairs i j d less (omega (arith, length-append xs ys))
       (get_or_append_left xs ys d i (omega arith) ∙ (same ∙ sym (get_or_append_left xs ys d j inside)))

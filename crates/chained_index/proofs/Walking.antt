@@ -88,7 +88,7 @@ module _ (o : OwnerState) (index : Index) (b : ℕ) (v : View o index b) where
           (λ none. omega arith)
           (λ some. let more = below (entries_of o b) (15 * length v.behind + (used - 1)) (λ e. slots.1 (used - 1) (omega arith) (sym (entry (used - 1) (omega arith)) ∙ e)) in omega arith) in
           let most : length (entries_of o b) ≤ 15 * length v.behind + used = elim (cases_lt (15 * length v.behind + used) (length (entries_of o b))) [
-            | inl less ↦ absurd (v.filled.used (15 * length v.behind + used) less (entry used (omega arith) ∙ slots.2 (omega arith)))
+            | inl less ↦ absurd (v.filled.used (15 * length v.behind + used) 0 less (entry used (omega arith) ∙ slots.2 (omega arith)))
             | inr few ↦ few
           ] in
           omega arith

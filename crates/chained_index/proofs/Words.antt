@@ -1,7 +1,7 @@
 -- The words of other crates that the proofs of this one go by.
 pub use Rattle.chained_index.specs.ChainChange.{ChangesChain, ChangesOnlyIndex, KeepsChain}
 unfoldable pub use Rattle.chained_index.specs.ChainEntries.{entries_of, buckets_of, number_of, entries_in}
-pub use Rattle.chained_index.specs.ChainEntries.{spot_entry, IsUsed, entries_without, IsSpotOf}
+pub use Rattle.chained_index.specs.ChainEntries.{spot_entry, IsUsed, entries_with, entries_without, IsSpotOf}
 unfoldable pub use Rattle.chained_index.specs.ChainEntries.{buckets_from}
 pub use Rattle.chained_index.specs.ChainEntries.{HasNoSpot}
 pub use Rattle.chained_index.specs.ChainShape.{bucket_at, EndsIn, EndsAt}
@@ -52,6 +52,9 @@ pub use Rattle.std.proofs.lemmas.Bool.{cases_lt, lt-ltb, cases_Bool, ltb-false, 
 pub use Rattle.std.proofs.lemmas.Bool.Decides.{Decides-eqb}
 pub use Rattle.std.proofs.lemmas.List.{append_assoc, append-nil, get_or-append-add, get_or-take, get_or_past, get_or_append_left, get_or_push, length_push, get_or-drop, get_or-append_right}
 pub use Rattle.std.proofs.lemmas.List.{get_or_default, ext_get_or, drop_all, get_or-replicate, length-replicate, nil_from_length}
+pub use Rattle.std.proofs.lemmas.List.Kept.{AllPairs-cons}
+pub use Rattle.std.proofs.lemmas.List.Concat.{get_or-flat_map}
+pub use Rattle.std.proofs.lemmas.List.Elements.{All-nil, All-cons, All-head, All-tail, All-take, All-push, All-set}
 pub use Rattle.std.proofs.lemmas.List.Elements.{Contains-get_or, Contains-push, Contains-append_left, filter-append, Contains-append_cases, Contains-push_cases, Contains-append_right}
 pub use Rattle.std.proofs.lemmas.List.Quantifiers.{all_pairs_push}
 pub use Rattle.std.proofs.lemmas.List.Sorted.{Contains-permutation, IsPermutation-refl, IsPermutation-sym, IsPermutation-append_comm, IsPermutation-append_left, IsPermutation-append_right}
@@ -63,7 +66,7 @@ pub use Rattle.std.proofs.Math.Seq.{take-length, take-suc}
 pub use Rattle.std.specs.Cmp.{nat_eq_equiv}
 pub use Rattle.std.specs.List.{list_any, position_or_len}
 pub use Rattle.std.specs.List.Sorted.{IsPermutation}
-pub use Rattle.std.specs.Prelude.{Contains, AllPairs, swap_remove}
+pub use Rattle.std.specs.Prelude.{All, Contains, AllPairs, swap_remove}
 pub use mathlib.Core.Logic.{dite}
 pub use native.Mathlib.Decide.{ℕ_discrete}
 pub use Rattle.std.specs.Prelude.{◌↔◌}

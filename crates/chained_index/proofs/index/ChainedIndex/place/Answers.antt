@@ -1,5 +1,5 @@
 use Rattle.chained_index.proofs.Words.{◌≡◌, ℕ, ◌∙◌, Option, option_to_list, length, [], ◌∷◌, ◌++◌, sym, ap, subst, arith, rules, nil_from_length}
-use Rattle.chained_index.proofs.Words.{entry_of, OwnerState, PutsEntry, MayPutEntry, MayPutLink, after, Index, IsIndexOf}
+use Rattle.chained_index.proofs.Words.{entry_of, OwnerState, PutsEntry, PutsLink, MayPutEntry, MayPutLink, after, Index, IsIndexOf}
 use Rattle.chained_index.proofs.Allowed.{may_enter, may_begin, may_link, some_entry}
 use Rattle.chained_index.proofs.Calls.{Call, call_at, end_in_chain, lacks, last_free, added, added_behind}
 use Rattle.chained_index.proofs.index.ChainedIndex.place.Given.{Over}
@@ -59,8 +59,8 @@ returns-in-Some g c =
     let first = c.put_entry-in-Some.ensures.event ∙ (ap (after (PutsEntry c.in-Some.next 0 c.entry_of-entry.result)) c.end_of-end.ensures.same
     ∙ ap (λ (z : ℕ). after (PutsEntry c.in-Some.next 0 z) (g.W.OwnerWords.owner c.args.words.now)) c.entry_of-entry.ensures) in
     let taken = added_behind _ _ _ _ (free_call g i) (entry_of c.args.tag c.args.offset) c.in-Some.next c.pop.new.self.items
-    (some_entry c.args.tag c.args.offset c.requires.tag) c.if-end-lt-SLOTS.false (popped g i) _ _ c.put_link.ensures.kept
-    first c.put_link.ensures.event in record {
+    (some_entry c.args.tag c.args.offset c.requires.tag) c.if-end-lt-SLOTS.false (popped g i) _ c.put_link.ensures.kept
+    (c.put_link.ensures.event ∙ ap (after (PutsLink c.end_of-end.result.bucket c.in-Some.next)) first) in record {
       entries = taken.0;
       index = taken.1;
       kept = c.put_link.ensures.kept;

@@ -1,8 +1,8 @@
 use Rattle.chained_index.proofs.Words.{◌≡◌, ℕ, ◌-◌, ◌≤◌, rules, ◌∙◌, List, sym, ap, subst, arith, length, vec_len, vec_capacity, OwnerState, Shape}
-use Rattle.chained_index.proofs.Words.{PutsEntry, IsBucket, entry_in, MayPutEntry, MayPutLink, after, Kept, Index, IsIndexOf}
+use Rattle.chained_index.proofs.Words.{PutsEntry, PutsLink, IsBucket, entry_in, MayPutEntry, MayPutLink, after, Kept, Index, IsIndexOf}
 use Rattle.chained_index.proofs.Chained.{chained}
 use Rattle.chained_index.proofs.Allowed.{may_enter, may_cut, still_in}
-use Rattle.chained_index.proofs.Calls.{Call, call_at, end_in_chain, end_inside, before_in_chain, used_some, release_room, call_then, drop, release, without}
+use Rattle.chained_index.proofs.Calls.{Call, call_at, end_in_chain, end_inside, before_in_chain, used_some, release_room, drop, release}
 use Rattle.chained_index.proofs.index.ChainedIndex.remove.Given.{Over}
 use Rattle.chained_index.proofs.index.ChainedIndex.remove.Goals as goal
 use Rattle.chained_index.proofs.index.ChainedIndex.remove.Goals.{After-end_of-end, After-put_entry}
@@ -67,12 +67,11 @@ push_reserved-requires g c =
 pub returns-else-last-eq0 : goal.returns-else-last-eq0
 returns-else-last-eq0 g c =
     let a = (goal.at.returns-else-last-eq0 g c).After-put_entry in
-    let call = call g (goal.at.returns-else-last-eq0 g c).After-end_of-end in
-    let some = used_some _ _ _ _ call c.args.spot c.requires.spot in
-    let two = drop _ _ _ _ (call_then _ _ _ _ call c.args.spot c.requires.spot _ (last g a) _ c.put_entry.ensures.kept (first g a)) some
-    c.else-last-eq0.either _ c.put_entry-2.ensures.kept c.put_entry-2.ensures.event in record {
-      entries = without _ _ _ _ call c.args.spot c.requires.spot _ (last g a) _ c.put_entry.ensures.kept (first g a) _ two.0;
-      index = two.1;
+    let end = c.end_of-end.result in
+    let left = drop _ _ _ _ (call g (goal.at.returns-else-last-eq0 g c).After-end_of-end) c.args.spot c.requires.spot _ (last g a) c.else-last-eq0.either
+    _ c.put_entry-2.ensures.kept (c.put_entry-2.ensures.event ∙ ap (after (PutsEntry end.bucket (end.used - 1) 0)) (first g a)) in record {
+      entries = left.0;
+      index = left.1;
       kept = c.put_entry-2.ensures.kept;
       home = c.put_entry-2.ensures.home ∙ (c.put_entry.ensures.home ∙ (c.read-entry.ensures.home ∙ c.end_of-end.ensures.home));
     }
@@ -80,14 +79,14 @@ returns-else-last-eq0 g c =
 -- the last bucket is released
 pub returns-then-end-bucket : goal.returns-then-end-bucket
 returns-then-end-bucket g c =
-    let a = (goal.at.returns-then-end-bucket g c).After-put_entry in
     let index = subst (λ (z : Index). IsIndexOf z (g.W.OwnerWords.owner c.args.words.now)) (sym c.self.view_is) c.requires.index in
     let call = call_at _ _ _ _ _ c.end_of-end.ensures.same c.end_of-end.ensures.kept index c.requires.bucket c.end_of-end.ensures.end in
-    let some = used_some _ _ _ _ call c.args.spot c.requires.spot in
-    let two = release _ _ _ _ (call_then _ _ _ _ call c.args.spot c.requires.spot _ (last g a) _ c.put_entry.ensures.kept (first g a)) some
-    c.if-last-eq0.true c.if-end-bucket.true _ _ c.put_link.ensures.kept c.put_entry-2.ensures.event c.put_link.ensures.event in record {
-      entries = without _ _ _ _ call c.args.spot c.requires.spot _ (last g a) _ c.put_entry.ensures.kept (first g a) _ two.0;
-      index = subst (λ (z : List ℕ). IsIndexOf (record { shape = c.self.inside.shape; free = z }) (g.W.OwnerWords.owner c.put_link.new.self)) (sym c.push_reserved.ensures.items) two.1;
+    let a = (goal.at.returns-then-end-bucket g c).After-put_entry in
+    let end = c.end_of-end.result in
+    let left = release _ _ _ _ call c.args.spot c.requires.spot _ (last g a) c.if-last-eq0.true c.if-end-bucket.true _ c.put_link.ensures.kept
+    (c.put_link.ensures.event ∙ ap (after (PutsLink end.before 0)) (c.put_entry-2.ensures.event ∙ ap (after (PutsEntry end.bucket (end.used - 1) 0)) (first g a))) in record {
+      entries = left.0;
+      index = subst (λ (z : List ℕ). IsIndexOf (record { shape = c.self.inside.shape; free = z }) (g.W.OwnerWords.owner c.put_link.new.self)) (sym c.push_reserved.ensures.items) left.1;
       kept = c.put_link.ensures.kept;
       home = c.put_link.ensures.home ∙ (c.put_entry-2.ensures.home ∙ (c.put_entry.ensures.home ∙ (c.read-entry.ensures.home ∙ c.end_of-end.ensures.home)));
     }
