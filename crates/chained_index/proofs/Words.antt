@@ -11,20 +11,20 @@ pub use Rattle.chained_index.specs.declared.index.Spot.{Spot}
 pub use Rattle.epoch_core.proofs.Behind.{AreBehind, last_of, last_in, listed_or_not, all_differ, behind_differ, same_behind, relinked}
 pub use Rattle.epoch_core.proofs.Chains.{chains_stay}
 pub use Rattle.epoch_core.proofs.Counted.{at_most, all_there}
-pub use Rattle.epoch_core.proofs.EventWords.{other, entry_begins, entry_marks, entry_puts_word, link_begins, link_marks, link_puts_word, entry_puts}
+pub use Rattle.epoch_core.proofs.EventWords.{other, entry_puts}
 pub use Rattle.epoch_core.proofs.EventWords.{entry_puts_other, link_puts_entry, stamp_puts_entry, stamp_puts_link, item_puts_entry, item_puts_link}
 pub use Rattle.epoch_core.proofs.EventWords.{entry_puts_link, link_puts, link_puts_other}
 pub use Rattle.epoch_core.proofs.Failing.{in_cons, in_head, in_tail}
 pub use Rattle.epoch_core.proofs.Marked.{ends_main, bit_is, bit_same}
-pub use Rattle.epoch_core.proofs.Places.{no_epoch}
+pub use Rattle.epoch_core.proofs.Places.{no_epoch, no_stamp, no_item}
 pub use Rattle.epoch_core.proofs.StoreBuckets.{has_chain}
 pub use Rattle.epoch_core.proofs.Walks.{IsChain, not_main, has_bucket, in_chain, inside, chain_of, chain_there}
 pub use Rattle.epoch_core.specs.Chain.{InChain, IsFreeSpare, IsDense, HasChains, IsAmong, EndsWithin}
-pub use Rattle.epoch_core.specs.Events.{words_after, history_after, phase_after, after, plays, puts_from, WhenMarked, IsItsBucket, MayPutEntry}
+pub use Rattle.epoch_core.specs.Events.{place_of, words_after, history_after, phase_after, after, plays, puts_from, WhenMarked, IsItsBucket, MayPutEntry}
 pub use Rattle.epoch_core.specs.Events.{MayPutLink}
 pub use Rattle.epoch_core.specs.ItemAt.{HasKey}
 pub use Rattle.epoch_core.specs.Kept.{Kept}
-pub use Rattle.epoch_core.specs.Layout.{entry_at, link_at, epoch_at, word_count}
+pub use Rattle.epoch_core.specs.Layout.{entries_at, entry_at, link_at, epoch_at, word_count}
 pub use Rattle.epoch_core.specs.LiveEntry.{IsLiveItem, HasLiveEntry}
 pub use Rattle.epoch_core.specs.OwnerState.{entry_in, link_in, marked_in, stamp_in, state_in, bucket_in, as_made}
 pub use Rattle.epoch_core.specs.Shape.{IsMain, IsBucket, IsSpare}
@@ -69,4 +69,4 @@ pub use Rattle.std.specs.List.Sorted.{IsPermutation}
 pub use Rattle.std.specs.Prelude.{All, Contains, AllPairs, swap_remove}
 pub use mathlib.Core.Logic.{dite}
 pub use native.Mathlib.Decide.{ℕ_discrete}
-pub use Rattle.std.specs.Prelude.{◌↔◌}
+pub use Rattle.std.specs.Prelude.{◌↔◌, IsTrue}

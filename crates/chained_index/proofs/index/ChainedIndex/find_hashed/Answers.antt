@@ -1,12 +1,13 @@
-use Rattle.chained_index.proofs.Words.{◌≡◌, ◌≢◌, ℕ, List, ◌+◌, ◌*◌, ◌∙◌, refl, sym, ap, subst, arith, rules, true≢false, tag_of, entry_tag}
+use Rattle.chained_index.proofs.Words.{◌≡◌, ◌≢◌, ℕ, ◌+◌, ◌*◌, ◌∙◌, refl, sym, ap, subst, arith, rules, true≢false, tag_of, entry_tag}
 use Rattle.chained_index.proofs.Words.{entry_offset, OwnerState, Shape, entry_in, link_in, HasKey, Kept, Index}
+use Rattle.chained_index.proofs.Words.{IsTrue, ◌↔◌, subst₂}
 use Rattle.chained_index.proofs.Chained.{chained}
 use Rattle.chained_index.proofs.Filled.{View, view}
 use Rattle.chained_index.proofs.Walking.{IsAt, at_first, one_further, at_end, at_most}
 use Rattle.chained_index.proofs.Finding.{IsOfKey, NoneBefore, spot_found, none_past_empty, none_at_end, one_more}
 use Rattle.chained_index.proofs.index.ChainedIndex.find_hashed.Given.{Over}
 use Rattle.chained_index.proofs.index.ChainedIndex.find_hashed.Goals as goal
-use Rattle.chained_index.proofs.index.ChainedIndex.find_hashed.Goals.{After-read-entry, After-read-next}
+use Rattle.chained_index.proofs.index.ChainedIndex.find_hashed.Goals.{After-read-entry, After-names_key, After-read-next}
 
 pub loop-link-init : goal.loop-link-init
 loop-link-init g c = record {
@@ -39,35 +40,35 @@ returns-then-entry-eq0-clause-found g c =
     none_past_empty _ _ _ (seen g a) c.args.key.now _ _ c.loop-link.invariant.walk
     c.loop-slot.slot c.loop-slot-test.true (sym (value g a) ∙ c.if-entry-eq0.true) c.loop-slot.invariant.none
 
--- whether it is of the key, as the words are and as they were
-of_key : (m o : OwnerState) → m ≡ o → (key : List ℕ) (x y tag : ℕ) → x ≡ y → tag ≡ tag_of key → (entry_tag x ≡ tag) × HasKey m (entry_offset x) key → IsOfKey o key y
-of_key m o same key x y tag is known h = subst (IsOfKey o key) is (h.0 ∙ known, subst (λ (z : OwnerState). HasKey z (entry_offset x) key) same h.1)
+-- whether it is of the key
+says : (g : Over) (c : After-names_key g) → IsTrue c.names_key.result ↔ IsOfKey (g.W.OwnerWords.owner c.args.words.now) c.args.key.now (entry_in (g.W.OwnerWords.owner c.args.words.now) c.loop-link.at c.loop-slot.slot)
+unfolding tag_of
+says g c =
+    let o : OwnerState = g.W.OwnerWords.owner c.args.words.now in
+    let same : g.W.OwnerWords.owner c.read-entry.new.self ≡ o = c.read-entry.ensures.same ∙ c.loop-slot.invariant.owner in
+    let value : c.read-entry.result ≡ entry_in o c.loop-link.at c.loop-slot.slot =
+    c.read-entry.ensures.value ∙ ap (λ (z : OwnerState). entry_in z c.loop-link.at c.loop-slot.slot) c.loop-slot.invariant.owner in
+    let tag : c.tag_of-tag.result ≡ tag_of c.args.key.now = search rules in
+    subst (λ (z : ℕ). IsTrue c.names_key.result ↔ IsOfKey o c.args.key.now z) value
+    (subst₂ (λ (z : OwnerState) (t : ℕ). IsTrue c.names_key.result ↔ ((entry_tag c.read-entry.result ≡ t) × HasKey z (entry_offset c.read-entry.result) c.args.key.now)) same tag
+    c.names_key.ensures.names)
 
 pub returns-then-names_key-clause-found : goal.returns-then-names_key-clause-found
-unfolding tag_of
 returns-then-names_key-clause-found g c =
     let a = (goal.at.returns-then-names_key-clause-found g c).After-read-entry in
-    let tag : c.tag_of-tag.result ≡ tag_of c.args.key.now = search rules in
     spot_found _ _ _ (seen g a) c.args.key.now _ _ c.loop-link.invariant.walk
     c.loop-slot.slot c.loop-slot-test.true (λ none. c.if-entry-eq0.false (value g a ∙ none))
-    (of_key _ _ (c.read-entry.ensures.same ∙ c.loop-slot.invariant.owner) _ _ _ _ (value g a) tag (c.names_key.ensures.names.0 c.if-names_key.true))
+    ((says g (goal.at.returns-then-names_key-clause-found g c).After-names_key).0 c.if-names_key.true)
 
 pub loop-slot-preserved : goal.loop-slot-preserved
-unfolding tag_of
 loop-slot-preserved g c =
     let a = (goal.at.loop-slot-preserved g c).After-read-entry in
-    let same = c.read-entry.ensures.same ∙ c.loop-slot.invariant.owner in
-    let tag : c.tag_of-tag.result ≡ tag_of c.args.key.now = search rules in record {
+    let same = c.read-entry.ensures.same ∙ c.loop-slot.invariant.owner in record {
       owner = c.names_key.ensures.same ∙ same;
       home = c.names_key.ensures.home ∙ (c.read-entry.ensures.home ∙ c.loop-slot.invariant.home);
       kept = λ some. subst Kept same c.read-entry.ensures.kept;
-      none = one_more _ _ _ (seen g a) c.args.key.now _ _ c.loop-link.invariant.walk
-          c.loop-slot.slot c.loop-slot-test.true c.loop-slot.invariant.none
-          (λ is. true≢false (sym (c.names_key.ensures.names.1 (
-            ap entry_tag (value g a) ∙ (is.0 ∙ sym tag),
-            subst (λ (z : ℕ). HasKey (g.W.OwnerWords.owner c.read-entry.new.self) (entry_offset z) c.args.key.now) (sym (value g a))
-                (subst (λ (z : OwnerState). HasKey z (entry_offset (entry_in (g.W.OwnerWords.owner c.args.words.now) c.loop-link.at c.loop-slot.slot)) c.args.key.now) (sym same) is.1),
-          )) ∙ c.if-names_key.false));
+      none = one_more _ _ _ (seen g a) c.args.key.now _ _ c.loop-link.invariant.walk c.loop-slot.slot c.loop-slot-test.true c.loop-slot.invariant.none
+          (λ is. true≢false (sym ((says g (goal.at.loop-slot-preserved g c).After-names_key).1 is) ∙ c.if-names_key.false));
     }
 
 -- a link was read
