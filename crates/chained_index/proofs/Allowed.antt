@@ -1,8 +1,7 @@
 -- When the stores of a call may happen: its bucket is marked, and they go to buckets of its chain or to a free spare.
 use Rattle.chained_index.proofs.Words.{◌≡◌, ◌≢◌, ℕ, ◌<◌, ◌≤◌, inl, inr, ◌⊎◌, refl, sym, ◌∙◌, subst, arith, entry_of, OwnerState, Phase, Idle, Begun}
 use Rattle.chained_index.proofs.Words.{Marked, PutsEntry, IsMain, link_in, marked_in, InChain, IsFreeSpare, WhenMarked, IsItsBucket, MayPutEntry}
-use Rattle.chained_index.proofs.Words.{MayPutLink, after, link_puts_entry, bit_is, bit_same}
-use Rattle.chained_index.proofs.Words.{IsBucket, entry_at, length, length-set}
+use Rattle.chained_index.proofs.Words.{MayPutLink, after, link_puts_entry, bit_is, bit_same, IsBucket, entry_at, length, length-set}
 use Rattle.chained_index.proofs.Chained.{Chained, all_on, free_on}
 
 -- an entry is not 0, as its tag is not

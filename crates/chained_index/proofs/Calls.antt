@@ -1,14 +1,15 @@
 -- What the stores of each call make of a chain and its index.
 use Rattle.chained_index.proofs.Words.{◌≡◌, ◌≢◌, ℕ, suc, ◌+◌, ◌-◌, ◌*◌, ◌<◌, ◌≤◌, inl, inr, ◌⊎◌, List, [], ◌∷◌, ◌++◌, length, take, set, refl, sym}
-use Rattle.chained_index.proofs.Words.{ap, ◌∙◌, subst, arith, length-set, Contains, Contains-push, OwnerState, PutsEntry, PutsLink}
-use Rattle.chained_index.proofs.Words.{IsMain, IsBucket, entry_in, marked_in, InChain, IsFreeSpare, after, Kept, ends_main, Spot}
-use Rattle.chained_index.proofs.Words.{ChainEnd, buckets_of, entries_of, number_of, entries_without, IsUsed, EndsAt, Index, IsIndexOf}
-use Rattle.chained_index.proofs.Words.{LacksPlace, last_of, link_in, in_chain, all_differ, at_most, Contains-get_or, take-length, take-suc, length-take, length-append, length_push}
-use Rattle.chained_index.proofs.Words.{words_after, entries_with, get_or-set_same, get_or-set_other, get_or_push, get_or-take, get_or_past, cases_lt, All-push, All-set, All-take}
+use Rattle.chained_index.proofs.Words.{ap, ◌∙◌, subst, arith, length-set, Contains, Contains-push, OwnerState, PutsEntry, PutsLink, IsMain, IsBucket}
+use Rattle.chained_index.proofs.Words.{entry_in, marked_in, InChain, IsFreeSpare, after, Kept, ends_main, Spot, ChainEnd, buckets_of, entries_of}
+use Rattle.chained_index.proofs.Words.{number_of, entries_without, IsUsed, EndsAt, Index, IsIndexOf, LacksPlace, last_of, link_in, in_chain}
+use Rattle.chained_index.proofs.Words.{all_differ, at_most, Contains-get_or, take-length, take-suc, length-take, length-append, length_push}
+use Rattle.chained_index.proofs.Words.{words_after, entries_with, get_or-set_same, get_or-set_other, get_or_push, get_or-take, get_or_past, cases_lt}
+use Rattle.chained_index.proofs.Words.{All-push, All-set, All-take}
 use Rattle.chained_index.proofs.Lists.{at, AllUsed, at-push_other, one_place}
 use Rattle.chained_index.proofs.Paths.{last_at}
 use Rattle.chained_index.proofs.Chained.{chained, chain_inside, chained_before}
-use Rattle.chained_index.proofs.Changed.{Leaves, spares_differ, all_spare}
+use Rattle.chained_index.proofs.Changed.{Leaves, spares_differ, spares_are}
 use Rattle.chained_index.proofs.Filled.{View, view}
 use Rattle.chained_index.proofs.Numbers.{place, number_is, is_within}
 use Rattle.chained_index.proofs.Walking.{list, last_bucket}
@@ -16,12 +17,12 @@ use Rattle.chained_index.proofs.Stored.{Entered, none_entered, entered, kept_buc
 
 -- The entry of a used spot is changed.
 module _ (o : OwnerState) (index : Index) (b : ℕ) (v : View o index b) (spot : Spot) (u : IsUsed o b spot) (x y : ℕ) (is : x ≡ y) where
-  spot_entered : Entered o index b v (words_after (PutsEntry spot.bucket spot.slot x) o) (set (entries_of o b) (number_of o b spot) y)
+  spot_entered : Entered o index b v (b ∷ v.behind) (words_after (PutsEntry spot.bucket spot.slot x) o) (set (entries_of o b) (number_of o b spot) y)
   spot_entered =
       let xs : List ℕ = entries_of o b in
       let at_k = place o index b v spot u in
       let number = number_is o index b v spot u in
-      entered o index b v o.words xs (none_entered o index b v) at_k.0 spot.bucket spot.slot x at_k.1 at_k.2 u.in_bucket (set xs (number_of o b spot) y)
+      entered o index b v (b ∷ v.behind) o.words xs (none_entered o index b v) at_k.0 spot.bucket spot.slot x at_k.1 at_k.2 u.in_bucket (set xs (number_of o b spot) y)
       (ap (at (set xs (number_of o b spot) y)) (sym number) ∙ (get_or-set_same xs (number_of o b spot) y 0 (is_within o index b v spot u) ∙ sym is))
       (λ i n. get_or-set_other xs (number_of o b spot) i y 0 (λ e. n (e ∙ number)))
 
@@ -109,7 +110,7 @@ module _ (o : OwnerState) (index : Index) (b : ℕ) (end : ChainEnd) (call : Cal
   added x some low p kept is =
       let full : 15 * length behind + end.used ≡ length xs = omega (arith, size) in
       subst (Leaves o b index (xs ++ x ∷ [])) (sym is)
-      (kept_buckets o index b call.v _ _ (entered o index b call.v o.words xs (none_entered o index b call.v) (length behind) end.bucket end.used x (omega arith) last low
+      (kept_buckets o index b call.v _ _ (entered o index b call.v cs o.words xs (none_entered o index b call.v) (length behind) end.bucket end.used x (omega arith) last low
       (xs ++ x ∷ []) (get_or_push xs x 0 (15 * length behind + end.used) (sym full)) (λ i n. at-push_other xs x i (λ e. n (e ∙ sym full))))
       (chained _ (subst Kept is kept)) (All-push (λ z. z ≢ 0) xs x call.v.filled.used some) (omega (arith, full, length_push xs x)))
 
@@ -121,14 +122,14 @@ module _ (o : OwnerState) (index : Index) (b : ℕ) (end : ChainEnd) (call : Cal
   added_behind x next rest some full split p kept is =
       let within = call.ends.within in
       subst (Leaves o b (record { shape = index.shape; free = rest }) (xs ++ x ∷ [])) (sym is)
-      (taken o index b call.v end.bucket next x last_is (omega (arith, size)) (last_free rest next split) some (chained _ (subst Kept is kept)) rest split)
+      (taken o index b call.v end.bucket next x last_is (omega (arith, size)) (last_free rest next split) some rest split (chained _ (subst Kept is kept)))
 
   -- An entry is removed: the last goes into its spot, and is dropped
 
   -- there is room for its bucket in the list of free spares
   pub release_room : end.bucket ≢ b → length index.free < o.shape.spares
   release_room n =
-      let few = at_most (index.free ++ behind) o.shape.buckets o.shape.spares (spares_differ o index b call.v) (all_spare o index b call.v) in
+      let few = at_most (index.free ++ behind) o.shape.buckets o.shape.spares (spares_differ o index b call.v) (λ c i. ((spares_are o index b call.v c).0 i).0) in
       omega (arith, (before n).1, length-append index.free behind)
 
   module _ (spot : Spot) (u : IsUsed o b spot) where
@@ -158,11 +159,11 @@ module _ (o : OwnerState) (index : Index) (b : ℕ) (end : ChainEnd) (call : Cal
           is_last ∙ (ap (λ (z : ℕ). entry_in o z (end.used - 1)) (sym last)
           ∙ (call.v.filled.entries (length behind) (end.used - 1) (omega arith) (omega arith) ∙ ap (at xs) there))
 
-      dropped : Entered o index b call.v m.words ys
+      dropped : Entered o index b call.v cs m.words ys
       dropped =
           let some = used_some in
           let within = call.ends.within in
-          entered o index b call.v _ moved (spot_entered o index b call.v spot u y (at xs (length xs - 1)) value) (length behind) end.bucket (end.used - 1) 0
+          entered o index b call.v cs _ moved (spot_entered o index b call.v spot u y (at xs (length xs - 1)) value) (length behind) end.bucket (end.used - 1) 0
           (omega arith) last (omega arith) ys (get_or_past ys (15 * length behind + (end.used - 1)) 0 (omega (arith, there, long))) else
         where
           else : (i : ℕ) → i ≢ 15 * length behind + (end.used - 1) → at ys i ≡ at moved i

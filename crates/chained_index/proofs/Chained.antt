@@ -1,8 +1,7 @@
 -- What the calls go by of the owner's fact: how many words there are, and the buckets of all chains.
-use Rattle.chained_index.proofs.Words.{◌≡◌, ℕ, ◌<◌, List, length, slice_index, sym, ◌∙◌, length-set}
-use Rattle.chained_index.proofs.Words.{History, OwnerState, Phase, PutsEntry, IsMain, IsBucket, entry_at, link_at, word_count, link_in}
-use Rattle.chained_index.proofs.Words.{InChain, HasChains, IsFreeSpare, after, Kept, link_puts_entry}
-use Rattle.chained_index.proofs.Words.{same_behind, IsChain, has_bucket, in_chain, inside, chain_there, chains_stay}
+use Rattle.chained_index.proofs.Words.{◌≡◌, ℕ, ◌<◌, List, length, slice_index, sym, ◌∙◌, length-set, History, OwnerState, Phase, PutsEntry, IsMain}
+use Rattle.chained_index.proofs.Words.{IsBucket, entry_at, link_at, word_count, link_in, InChain, HasChains, IsFreeSpare, after, Kept}
+use Rattle.chained_index.proofs.Words.{link_puts_entry, same_behind, IsChain, has_bucket, in_chain, inside, chain_there, chains_stay}
 
 pub record Chained (o : OwnerState) : Type 0 where
   pub wide : length o.words ≡ word_count o.shape

@@ -1,23 +1,38 @@
 -- What a change of one chain makes of all chains, and of the index.
-use Rattle.chained_index.proofs.Words.{◌≡◌, ◌≢◌, ℕ, inl, inr, List, ◌∷◌, ◌++◌, length, sym, ◌∙◌, subst, Contains, dite}
-use Rattle.chained_index.proofs.Words.{ℕ_discrete, OwnerState, link_in, IsMain, IsSpare, InChain, IsDense, IsFreeSpare, ChangesOnlyIndex, in_cons, in_tail}
-use Rattle.chained_index.proofs.Words.{ChangesChain, Index, IsBlank, IsIndexOf, AreBehind, IsChain, has_bucket, in_chain, chain_of, behind_differ, not_main, listed_or_not}
-use Rattle.chained_index.proofs.Words.{IsPermutation, IsPermutation-sym, Contains-permutation, Contains-append_left, Contains-append_right, Contains-append_cases}
+use Rattle.chained_index.proofs.Words.{◌↔◌, ◌≡◌, ◌≢◌, ℕ, inl, inr, List, ◌∷◌, ◌++◌, length, sym, ◌∙◌, subst, Contains, dite, ℕ_discrete, OwnerState}
+use Rattle.chained_index.proofs.Words.{link_in, IsMain, IsSpare, InChain, IsDense, IsFreeSpare, ChangesOnlyIndex, in_cons, in_tail, ChangesChain}
+use Rattle.chained_index.proofs.Words.{Index, IsBlank, IsIndexOf, AreBehind, IsChain, has_bucket, in_chain, chain_of, behind_differ, not_main}
+use Rattle.chained_index.proofs.Words.{listed_or_not, IsPermutation, IsPermutation-sym, Contains-permutation, Contains-append_left}
+use Rattle.chained_index.proofs.Words.{Contains-append_right, Contains-append_cases}
 use Rattle.chained_index.proofs.Lists.{AllDiffer, differ_moved, differ_joined, differ_first, differ_apart}
 use Rattle.chained_index.proofs.Chained.{Chained, chain_on, chain_back}
 use Rattle.chained_index.proofs.Filled.{SameBucket, IsFilled, View, entries_are, dense_there}
 use Rattle.chained_index.proofs.Frames.{chain_kept, dense_kept}
 
 module _ (o : OwnerState) (index : Index) (b : ℕ) (v : View o index b) where
-  -- the free spares and those behind a bucket all differ, and are spares
-
+  -- the free spares and those behind a bucket all differ
   pub spares_differ : AllDiffer (index.free ++ v.behind)
   spares_differ = differ_joined index.free v.behind v.known.once
       (behind_differ (link_in o) b v.behind v.chain.behind)
       (λ c has i. ((v.known.free c).0 has).free b v.main (in_chain o b v.behind v.chain c (in_tail b c v.behind i)))
 
-  pub all_spare : (c : ℕ) → Contains (index.free ++ v.behind) c → IsSpare o.shape c
-  all_spare c i = elim (Contains-append_cases index.free v.behind c i) [ inl has ↦ ((v.known.free c).0 has).spare | inr own ↦ v.chain.spare c own ]
+  -- they are the spares that stand behind no other bucket
+  pub spares_are : (c : ℕ) → Contains (index.free ++ v.behind) c ↔ (IsSpare o.shape c × ((d : ℕ) → IsMain o.shape d → d ≢ b → ¬ (InChain o d c)))
+  spares_are c = (
+    λ i. elim (Contains-append_cases index.free v.behind c i) [
+      | inl has ↦ (let f = (v.known.free c).0 has in (f.spare, λ d m n. f.free d m))
+      | inr own ↦ (v.chain.spare c own, λ d m n h. v.s.chains.apart d b c m v.main n h (in_chain o b v.behind v.chain c (in_tail b c v.behind own)))
+    ],
+    λ is. elim (listed_or_not v.behind c) [
+      | inl own ↦ Contains-append_right index.free v.behind c own
+      | inr not ↦ Contains-append_left index.free v.behind c ((v.known.free c).1 record {
+        spare = is.0;
+        free = λ d m h. dite (ℕ_discrete d b)
+            (λ e. not (not_main o.shape b c v.behind v.main is.0 (has_bucket o b v.behind v.chain c (subst (λ (z : ℕ). InChain o z c) e h))))
+            (λ n. is.1 d m n h);
+      })
+    ],
+  )
 
 -- Behind bucket b stand ds now, which have the entries ys. The spares that it lost and gained moved to and from the free ones. No bucket but
 -- those of its chain changed.
@@ -47,32 +62,24 @@ module _ (o : OwnerState) (words : List ℕ) (t : Chained (record o { words = wo
   now : IsChain p b ds
   now = chain_of p t.chains.links b ds v.main r.behind
 
-  -- a spare was free or behind the bucket if it is now
-
-  was : (c : ℕ) → Contains (free ++ ds) c → Contains (index.free ++ cs) c
-  was c = Contains-permutation (free ++ ds) (index.free ++ cs) c (IsPermutation-sym (index.free ++ cs) (free ++ ds) r.moved)
-
-  is : (c : ℕ) → Contains (index.free ++ cs) c → Contains (free ++ ds) c
-  is c = Contains-permutation (index.free ++ cs) (free ++ ds) c r.moved
-
   all : AllDiffer (free ++ ds)
   all = differ_moved (index.free ++ cs) (free ++ ds) r.moved (spares_differ o index b v)
 
+  -- a spare was free or behind the bucket if it is now
+  was : (c : ℕ) → Contains (free ++ ds) c → Contains (index.free ++ cs) c
+  was c = Contains-permutation (free ++ ds) (index.free ++ cs) c (IsPermutation-sym (index.free ++ cs) (free ++ ds) r.moved)
+
   -- the other chains
-
-  in_other : (d : ℕ) → IsMain o.shape d → d ≢ b → (c : ℕ) → InChain o d c → ¬ (Contains (index.free ++ cs) c)
-  in_other d m n c h i = elim (Contains-append_cases index.free cs c i) [
-    | inl has ↦ ((v.known.free c).0 has).free d m h
-    | inr own ↦ v.s.chains.apart d b c m v.main n h (in_chain o b cs v.chain c (in_tail b c cs own))
-  ]
-
   other_same : (d : ℕ) → IsMain o.shape d → d ≢ b → (c : ℕ) → InChain o d c → SameBucket o p c
   other_same d m n c h = r.same c
       (λ i. v.s.chains.apart d b c m v.main n h (in_chain o b cs v.chain c i))
       (λ i. elim (in_cons b c ds i) [
         | inl e ↦ v.s.chains.apart d b c m v.main n h (inl e)
-        | inr more ↦ in_other d m n c h (was c (Contains-append_right free ds c more))
+        | inr more ↦ ((spares_are o index b v c).0 (was c (Contains-append_right free ds c more))).1 d m n h
       ])
+
+  other_link : (d : ℕ) → IsMain o.shape d → d ≢ b → (c : ℕ) → InChain o d c → link_in p c ≡ link_in o c
+  other_link d m n c h = (other_same d m n c h).link
 
   changes : ChangesChain o p b ys
   changes = record {
@@ -83,43 +90,33 @@ module _ (o : OwnerState) (words : List ℕ) (t : Chained (record o { words = wo
 
   is_free : (c : ℕ) → Contains free c → IsFreeSpare p c
   is_free c has =
-      let from = was c (Contains-append_left free ds c has) in
-      let spare = all_spare o index b v c from in record {
-        spare = spare;
+      let is = (spares_are o index b v c).0 (was c (Contains-append_left free ds c has)) in record {
+        spare = is.0;
         free = λ d m h. dite (ℕ_discrete d b)
-            (λ e. differ_apart free ds all c has (not_main o.shape b c ds v.main spare (has_bucket p b ds now c (subst (λ (z : ℕ). InChain p z c) e h))))
-            (λ n. in_other d m n c (chain_back o words o.history o.phase v.s d m (λ e i. (other_same d m n e i).link) c h) from);
+            (λ e. differ_apart free ds all c has (not_main o.shape b c ds v.main is.0 (has_bucket p b ds now c (subst (λ (z : ℕ). InChain p z c) e h))))
+            (λ n. is.1 d m n (chain_back o words o.history o.phase v.s d m (other_link d m n) c h));
       }
 
   is_listed : (c : ℕ) → IsFreeSpare p c → Contains free c
-  is_listed c f = elim (Contains-append_cases free ds c (is c from)) [
-    | inl has ↦ has
-    | inr own ↦ absurd (f.free b v.main (in_chain p b ds now c (in_tail b c ds own)))
-  ]
-    where
-      from : Contains (index.free ++ cs) c
-      from = elim (listed_or_not cs c) [
-        | inl own ↦ Contains-append_right index.free cs c own
-        | inr not ↦ Contains-append_left index.free cs c ((v.known.free c).1 record {
-          spare = f.spare;
-          free = λ d m h. dite (ℕ_discrete d b)
-              (λ e. not (not_main o.shape b c cs v.main f.spare (has_bucket o b cs v.chain c (subst (λ (z : ℕ). InChain o z c) e h))))
-              (λ n. f.free d m (chain_on o words o.history o.phase v.s d m (λ e i. (other_same d m n e i).link) c h));
-        })
+  is_listed c f = elim (Contains-append_cases free ds c (Contains-permutation (index.free ++ cs) (free ++ ds) c r.moved
+      ((spares_are o index b v c).1 (f.spare, λ d m n h. f.free d m (chain_on o words o.history o.phase v.s d m (other_link d m n) c h))))) [
+        | inl has ↦ has
+        | inr own ↦ absurd (f.free b v.main (in_chain p b ds now c (in_tail b c ds own)))
       ]
 
   blank : (c : ℕ) → Contains free c → IsBlank p c
   blank c has =
       let from = was c (Contains-append_left free ds c has) in
-      elim (listed_or_not cs c) [
-        | inl own ↦ r.blank c own has
-        | inr not ↦
-            let spare = all_spare o index b v c from in
-            let same = r.same c (λ i. not (not_main o.shape b c cs v.main spare i)) (λ i. differ_apart free ds all c has (not_main o.shape b c ds v.main spare i)) in
-            let empty = v.known.blank c ((v.known.free c).0 (elim (Contains-append_cases index.free cs c from) [ inl has ↦ has | inr own ↦ absurd (not own) ])) in record {
+      elim (Contains-append_cases index.free cs c from) [
+        | inl was ↦
+            let f = (v.known.free c).0 was in
+            let empty = v.known.blank c f in
+            let same = r.same c (λ i. f.free b v.main (in_chain o b cs v.chain c i))
+            (λ i. differ_apart free ds all c has (not_main o.shape b c ds v.main f.spare i)) in record {
               no_link = same.link ∙ empty.no_link;
               no_entry = λ slot low. same.entry slot low ∙ empty.no_entry slot low;
             }
+        | inr own ↦ r.blank c own has
       ]
 
   pub rewritten : Leaves o b (record { shape = index.shape; free = free }) ys p

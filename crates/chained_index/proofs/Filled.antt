@@ -1,10 +1,10 @@
 -- The entries of a chain as a list: they fill its buckets, one after another.
-use Rattle.chained_index.proofs.Words.{Index, IsIndexOf, IsMain}
-use Rattle.chained_index.proofs.Words.{◌≡◌, ◌≢◌, ℕ, suc, ◌+◌, ◌-◌, ◌*◌, ◌/◌, ◌%◌, ◌<◌, ◌≤◌, inl, inr, List, [], ◌∷◌, ◌++◌, length, take, drop, get_or}
-use Rattle.chained_index.proofs.Words.{nat_lt, filter, flat_map, slice_range, refl, sym, ap, ◌∙◌, subst, arith, length-append, length-take, Contains}
-use Rattle.chained_index.proofs.Words.{length-drop, dite, ℕ_discrete, cases_lt, get_or-take, get_or-drop, get_or_past, Contains-get_or}
-use Rattle.chained_index.proofs.Words.{filter-append, spares_behind, OwnerState, IsBucket, entry_at, word_count, entry_in}
-use Rattle.chained_index.proofs.Words.{link_in, ◌⊎◌, InChain, IsDense, entries_in, entries_of, IsChain, has_bucket, in_chain, inside, chain_there, All, All-head, All-tail, All-take, get_or-flat_map}
+use Rattle.chained_index.proofs.Words.{Index, IsIndexOf, IsMain, ◌≡◌, ◌≢◌, ℕ, suc, ◌+◌, ◌-◌, ◌*◌, ◌/◌, ◌%◌, ◌<◌, ◌≤◌, inl, inr, List, [], ◌∷◌, ◌++◌}
+use Rattle.chained_index.proofs.Words.{length, take, drop, get_or, nat_lt, filter, flat_map, slice_range, refl, sym, ap, ◌∙◌, subst, arith}
+use Rattle.chained_index.proofs.Words.{length-append, length-take, Contains, length-drop, dite, ℕ_discrete, cases_lt, get_or-take, get_or-drop}
+use Rattle.chained_index.proofs.Words.{get_or_past, Contains-get_or, filter-append, spares_behind, OwnerState, IsBucket, entry_at, word_count}
+use Rattle.chained_index.proofs.Words.{entry_in, link_in, ◌⊎◌, InChain, IsDense, entries_in, entries_of, IsChain, has_bucket, in_chain, inside}
+use Rattle.chained_index.proofs.Words.{chain_there, All, All-head, All-tail, All-take, get_or-flat_map}
 use Rattle.chained_index.proofs.Lists.{at, AllUsed, below, place_in, filter_is, used_part}
 use Rattle.chained_index.proofs.Paths.{chain_is, step_on}
 use Rattle.chained_index.proofs.Chained.{Chained}

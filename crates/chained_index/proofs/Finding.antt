@@ -1,7 +1,7 @@
 -- A search along a chain.
 use Rattle.chained_index.proofs.Words.{◌≡◌, ◌≢◌, ℕ, suc, ◌+◌, ◌*◌, ◌<◌, ◌≤◌, inl, inr, List, ◌∷◌, length, sym, ap, ◌∙◌, subst, arith, cases_lt, dite}
-use Rattle.chained_index.proofs.Words.{ℕ_discrete, tag_of, entry_tag, entry_offset, OwnerState, entry_in, InChain, HasKey, buckets_of, in_chain, Contains-get_or}
-use Rattle.chained_index.proofs.Words.{entries_of, number_of, IsSpotOf, HasNoSpot, Index}
+use Rattle.chained_index.proofs.Words.{ℕ_discrete, tag_of, entry_tag, entry_offset, OwnerState, entry_in, InChain, HasKey, buckets_of, in_chain}
+use Rattle.chained_index.proofs.Words.{Contains-get_or, entries_of, number_of, IsSpotOf, HasNoSpot, Index}
 use Rattle.chained_index.proofs.Lists.{at}
 use Rattle.chained_index.proofs.Numbers.{is_within, entry_there}
 use Rattle.chained_index.proofs.Filled.{View}

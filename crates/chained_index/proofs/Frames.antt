@@ -5,7 +5,8 @@ use Rattle.chained_index.proofs.Words.{IsChain, in_chain, chain_there}
 use Rattle.chained_index.proofs.Lists.{at}
 use Rattle.chained_index.proofs.Paths.{chain_is}
 use Rattle.chained_index.proofs.Chained.{Chained, kept_chain}
-use Rattle.chained_index.proofs.Filled.{SameBucket, all_slots, length-all_slots, all_inside, by_place, entries_filtered, dense_there, filled_there, same_filled}
+use Rattle.chained_index.proofs.Filled.{SameBucket, all_slots, length-all_slots, all_inside, by_place, entries_filtered, dense_there, filled_there}
+use Rattle.chained_index.proofs.Filled.{same_filled}
 
 module _ (o : OwnerState) (words : List ℕ) (history : History) (phase : Phase) (long : length words ≡ length o.words)
     (s : Chained o) (b : ℕ) (main : IsMain o.shape b) where

@@ -4,7 +4,6 @@ mod Paths
 pub mod Chained
 mod Filled
 mod Frames
-mod Effects
 mod Changed
 mod Stored
 pub mod Numbers

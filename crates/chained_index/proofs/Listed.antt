@@ -1,8 +1,8 @@
 -- The words of a bucket stand for the machine's state, by the list of the chain's entries.
 use Rattle.chained_index.proofs.Words.{◌≡◌, ◌≢◌, ℕ, ◌+◌, ◌*◌, ◌/◌, ◌%◌, ◌<◌, List, length, refl, sym, ap, ◌∙◌, subst, arith, entry_offset, Mode}
-use Rattle.chained_index.proofs.Words.{Store, Cell, OwnerState, IsMain, stamp_in, entry_in, state_in, bucket_in, marked_in, IsLiveItem}
-use Rattle.chained_index.proofs.Words.{HasLiveEntry, Has, Spells, RoomsApart, StandsFor, buckets_of, entries_of, bucket_at, Index}
-use Rattle.chained_index.proofs.Words.{IsIndexOf, ◌∷◌, InChain, Contains-get_or, all_differ, in_chain, has_bucket, has_chain, link_in, subst₂}
+use Rattle.chained_index.proofs.Words.{Store, Cell, OwnerState, IsMain, stamp_in, entry_in, state_in, bucket_in, marked_in, IsLiveItem, HasLiveEntry}
+use Rattle.chained_index.proofs.Words.{Has, Spells, RoomsApart, StandsFor, buckets_of, entries_of, bucket_at, Index, IsIndexOf, ◌∷◌, InChain}
+use Rattle.chained_index.proofs.Words.{Contains-get_or, all_differ, in_chain, has_bucket, has_chain, link_in, subst₂}
 pub use Rattle.chained_index.proofs.Lists.{at}
 use Rattle.chained_index.proofs.Lists.{below, place_in, one_place}
 use Rattle.chained_index.proofs.Paths.{chain_is}

@@ -1,7 +1,7 @@
 -- Where the entry of a used spot stands in the chain's list.
-use Rattle.chained_index.proofs.Words.{◌≡◌, ℕ, ◌+◌, ◌*◌, ◌<◌, List, ◌∷◌, length, get_or, Bool, nat_eq, sym, ap, ◌∙◌, arith, eq-eqb, ne_eqb, position_or_len}
-use Rattle.chained_index.proofs.Words.{position_or_len_is, link_in, all_differ, has_bucket}
-use Rattle.chained_index.proofs.Words.{OwnerState, IsMain, entry_in, Spot, entries_of, number_of, spot_entry, IsUsed, Index, IsIndexOf}
+use Rattle.chained_index.proofs.Words.{◌≡◌, ℕ, ◌+◌, ◌*◌, ◌<◌, List, ◌∷◌, length, get_or, Bool, nat_eq, sym, ap, ◌∙◌, arith, eq-eqb, ne_eqb}
+use Rattle.chained_index.proofs.Words.{position_or_len, position_or_len_is, link_in, all_differ, has_bucket, OwnerState, IsMain, entry_in, Spot}
+use Rattle.chained_index.proofs.Words.{entries_of, number_of, spot_entry, IsUsed, Index, IsIndexOf}
 use Rattle.chained_index.proofs.Lists.{at, below, place_in, one_place}
 use Rattle.chained_index.proofs.Paths.{chain_is}
 use Rattle.chained_index.proofs.Chained.{Chained}

@@ -1,9 +1,8 @@
 -- All spare buckets are free or behind a main bucket, each in one place.
-use Rattle.chained_index.proofs.Words.{◌↔◌, ◌≡◌, ℕ, zero, suc, ◌+◌, ◌≤◌, inl, inr, List, ◌++◌, length, refl, ap}
-use Rattle.chained_index.proofs.Words.{subst, arith, length-append, Contains, Contains-append_left, Contains-append_right, Contains-append_cases}
-use Rattle.chained_index.proofs.Words.{dite, ℕ_discrete, Cells, keys_in, spares_behind, spares_below, spares_in_use, OwnerState, link_in}
-use Rattle.chained_index.proofs.Words.{IsMain, IsSpare, InChain, entries_of, Index, IsIndexOf, in_tail, in_chain, has_bucket, not_main, behind_differ}
-use Rattle.chained_index.proofs.Words.{listed_or_not, all_there}
+use Rattle.chained_index.proofs.Words.{◌↔◌, ◌≡◌, ℕ, zero, suc, ◌+◌, ◌≤◌, inl, inr, List, ◌++◌, length, refl, ap, subst, arith, length-append}
+use Rattle.chained_index.proofs.Words.{Contains, Contains-append_left, Contains-append_right, Contains-append_cases, dite, ℕ_discrete, Cells, keys_in}
+use Rattle.chained_index.proofs.Words.{spares_behind, spares_below, spares_in_use, OwnerState, link_in, IsMain, IsSpare, InChain, entries_of, Index}
+use Rattle.chained_index.proofs.Words.{IsIndexOf, in_tail, in_chain, has_bucket, not_main, behind_differ, listed_or_not, all_there}
 use Rattle.chained_index.proofs.Lists.{AllDiffer, differ_joined}
 use Rattle.chained_index.proofs.Chained.{Chained}
 use Rattle.chained_index.proofs.Filled.{view}

@@ -1,7 +1,8 @@
 -- What no store of an entry or a link changes: the chains, their entries and the index.
-use Rattle.chained_index.proofs.Words.{◌≡◌, ◌≢◌, ℕ, ◌+◌, ◌<◌, List, [], ◌∷◌, length, refl, ◌∙◌, arith, length-set, Write, History, OwnerState, Phase, Event}
-use Rattle.chained_index.proofs.Words.{Begins, Marks, PutsWord, Ends, IsMain, IsBucket, entries_at, entry_at, link_at, place_of, InChain, words_after, history_after}
-use Rattle.chained_index.proofs.Words.{phase_after, after, plays, puts_from, link_in, no_epoch, no_stamp, no_item, other, entries_of, Index, IsIndexOf}
+use Rattle.chained_index.proofs.Words.{◌≡◌, ◌≢◌, ℕ, ◌+◌, ◌<◌, List, [], ◌∷◌, length, refl, ◌∙◌, arith, length-set, Write, History, OwnerState, Phase}
+use Rattle.chained_index.proofs.Words.{Event, Begins, Marks, PutsWord, Ends, IsMain, IsBucket, entries_at, entry_at, link_at, place_of, InChain}
+use Rattle.chained_index.proofs.Words.{words_after, history_after, phase_after, after, plays, puts_from, link_in, no_epoch, no_stamp, no_item, other}
+use Rattle.chained_index.proofs.Words.{entries_of, Index, IsIndexOf}
 use Rattle.chained_index.proofs.Chained.{Chained, chain_inside, free_on, free_back, chained_kept}
 use Rattle.chained_index.proofs.Filled.{SameBucket}
 use Rattle.chained_index.proofs.Frames.{chain_kept, dense_kept}

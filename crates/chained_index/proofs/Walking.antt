@@ -1,7 +1,7 @@
 -- A step along a chain, and its end.
-use Rattle.chained_index.proofs.Words.{◌≡◌, ◌≢◌, ℕ, suc, ◌+◌, ◌-◌, ◌*◌, ◌<◌, ◌≤◌, inl, inr, ◌⊎◌, add-one, List, ◌∷◌, length, sym, ap, ◌∙◌, subst, arith}
-use Rattle.chained_index.proofs.Words.{cases_lt, dite, ℕ_discrete, OwnerState, IsMain, IsBucket, entry_in, link_in, buckets_of, entries_of, bucket_at, EndsIn}
-use Rattle.chained_index.proofs.Words.{EndsAt, Index, inside, Contains-get_or}
+use Rattle.chained_index.proofs.Words.{◌≡◌, ◌≢◌, ℕ, suc, ◌+◌, ◌-◌, ◌*◌, ◌<◌, ◌≤◌, inl, inr, ◌⊎◌, add-one, List, ◌∷◌, length, sym, ap, ◌∙◌, subst}
+use Rattle.chained_index.proofs.Words.{arith, cases_lt, dite, ℕ_discrete, OwnerState, IsMain, IsBucket, entry_in, link_in, buckets_of, entries_of}
+use Rattle.chained_index.proofs.Words.{bucket_at, EndsIn, EndsAt, Index, inside, Contains-get_or}
 use Rattle.chained_index.proofs.Lists.{at, below}
 use Rattle.chained_index.proofs.Paths.{chain_is, step_on, first_bucket, length-buckets_of}
 use Rattle.chained_index.proofs.Filled.{View}

@@ -1,6 +1,5 @@
-use Rattle.chained_index.proofs.Words.{◌≡◌, ◌≢◌, ℕ, ◌+◌, ◌*◌, ◌∙◌, refl, sym, ap, subst, arith, rules, true≢false, tag_of, entry_tag}
-use Rattle.chained_index.proofs.Words.{entry_offset, OwnerState, Shape, entry_in, link_in, HasKey, Kept, Index}
-use Rattle.chained_index.proofs.Words.{IsTrue, ◌↔◌, subst₂}
+use Rattle.chained_index.proofs.Words.{◌≡◌, ◌≢◌, ℕ, ◌+◌, ◌*◌, ◌∙◌, refl, sym, ap, subst, arith, rules, true≢false, tag_of, entry_tag, entry_offset}
+use Rattle.chained_index.proofs.Words.{OwnerState, Shape, entry_in, link_in, HasKey, Kept, Index, IsTrue, ◌↔◌, subst₂}
 use Rattle.chained_index.proofs.Chained.{chained}
 use Rattle.chained_index.proofs.Filled.{View, view}
 use Rattle.chained_index.proofs.Walking.{IsAt, at_first, one_further, at_end, at_most}
