@@ -57,10 +57,7 @@ module _ (f : ℕ → ℕ) where
 
   -- no bucket comes twice
   pub not_again : (x : ℕ) (cs : List ℕ) → AreBehind f x cs → ¬ (Contains cs x)
-  not_again x cs h i =
-      let rest = fewer x cs h x i in
-      let same = ap length (one_list x cs rest.0 h rest.2) in
-      let less = rest.1 in omega arith
+  not_again x cs h i = let rest = fewer x cs h x i in omega (arith, rest.1, ap length (one_list x cs rest.0 h rest.2))
 
   pub all_differ : (x : ℕ) (cs : List ℕ) → AreBehind f x cs → AllPairs (λ c d. c ≢ d) (x ∷ cs)
   all_differ x [] h = λ i j d less inside. absurd (omega arith)

@@ -4,6 +4,7 @@ use mathlib.Core.Logic.{dite}
 use native.Mathlib.Decide.{ℕ_discrete}
 use Rattle.std.specs.Prelude.{Contains}
 use Rattle.std.proofs.lemmas.List.Elements.{Contains-append_left, Contains-append_cases}
+use Rattle.mica_words.specs.declared.entry.TheConstants.{SLOTS}
 use Rattle.mica_model.specs.History.{History}
 use Rattle.epoch_core.specs.declared.state.OwnerState.{OwnerState}
 use Rattle.epoch_core.specs.declared.state.Phase.{Phase}
@@ -34,19 +35,15 @@ module _ (o : OwnerState) (words : List ℕ) (history : History) (phase : Phase)
   chains_by a links now = record {
     links = links;
     end = λ b main. chain_ends p b (now b main).0 (chain b main);
-    apart = λ b b' c main main' n h h'. two b b' c main main' n
-        ((now b main).2 c (has_bucket p b _ (chain b main) c h)) ((now b' main').2 c (has_bucket p b' _ (chain b' main') c h'));
+    apart = λ b b' c main main' n h h'.
+        let one = (now b main).2 c (has_bucket p b _ (chain b main) c h) in
+        let other = (now b' main').2 c (has_bucket p b' _ (chain b' main') c h') in
+        let free = λ (d : ℕ) (m : IsMain o.shape d) (f : IsFreeSpare o c). f.free d m in
+        grind (arith, s.apart b b' c main main' n, s.apart b b' a main main' n, free b main, free b' main');
   }
     where
       chain : (b : ℕ) (main : IsMain o.shape b) → IsChain p b (now b main).0
       chain b main = chain_of p links b (now b main).0 main (now b main).1
-
-      two : (b b' c : ℕ) → IsMain o.shape b → IsMain o.shape b' → b ≢ b' → InChain o b c ⊎ InChain o b a × IsFreeSpare o c
-          → ¬ (InChain o b' c ⊎ InChain o b' a × IsFreeSpare o c)
-      two b b' c main main' n (inl was) (inl was') = s.apart b b' c main main' n was was'
-      two b b' c main main' n (inl was) (inr new) = new.1.free b main was
-      two b b' c main main' n (inr new) (inl was) = new.1.free b' main' was
-      two b b' c main main' n (inr new) (inr new') = s.apart b b' a main main' n new.0 new'.0
 
   -- where no link of a bucket changed
   pub chains_stay : ((c : ℕ) → IsBucket o.shape c → link_in p c ≡ link_in o c) → HasChains p
@@ -91,10 +88,7 @@ module _ (o : OwnerState) (s : Kept o) where
 
     link_chains : HasChains q
     link_chains = chains_by o q.words o.history o.phase s.chains c
-        (λ d l. dite (ℕ_discrete d c)
-        (λ is. subst (λ (z : ℕ). (z ≡ 0) ⊎ IsSpare o.shape z) (sym (ap (link_in q) is ∙ link_here))
-        (elim a.free [ inl none ↦ inl none | inr free ↦ inr free.0.spare ]))
-        (λ n. subst (λ (z : ℕ). (z ≡ 0) ⊎ IsSpare o.shape z) (sym (link_else d n)) (s.chains.links d l)))
+        (λ d l. grind (arith, link_here, link_else d, s.chains.links d l, a.free, (λ (f : IsFreeSpare o next). f.spare)))
         now
       where
         now : (b : ℕ) → IsMain o.shape b → (cs : List ℕ) × AreBehind (link_in q) b cs × ((d : ℕ) → Contains (b ∷ cs) d → InChain o b d ⊎ InChain o b c × IsFreeSpare o d)
@@ -119,16 +113,14 @@ module _ (o : OwnerState) (s : Kept o) where
                   )
             ]
 
-  pub chains_after : (e : Event) → IsAllowed e o → HasChains (after e o)
-  chains_after = by
-    where
-      stay : (e : Event) → ((c : ℕ) → IsBucket o.shape c → link_in (after e o) c ≡ link_in o c) → HasChains (after e o)
-      stay e same = chains_stay o (words_after e o) (history_after e o.history) (phase_after e o) s.chains same
+  stay : (e : Event) → ((c : ℕ) → IsBucket o.shape c → link_in (after e o) c ≡ link_in o c) → HasChains (after e o)
+  stay e same = chains_stay o (words_after e o) (history_after e o.history) (phase_after e o) s.chains same
 
-      by : (e : Event) → IsAllowed e o → HasChains (after e o)
-      by (Begins b) a = stay (Begins b) (λ c l. link_begins o s.wide b c a.main)
-      by (Marks write n) a = stay (Marks write n) (λ c l. link_marks o s.wide write n c)
-      by (PutsWord p x) a = stay (PutsWord p x) (λ c l. link_puts_word o s.wide p x c l)
-      by (PutsEntry d slot x) a = stay (PutsEntry d slot x) (λ c l. link_puts_entry o s.wide d slot x c a.in_bucket)
-      by (PutsLink c next) a = link_chains c next a
-      by (Ends b) a = stay (Ends b) (λ c l. other o (Ends b) (link_at o.shape c) (no_epoch o.shape b c 15 (ends_main o s o.phase refl b a.marked) (omega arith)))
+  pub chains_after : (e : Event) → IsAllowed e o → HasChains (after e o)
+  chains_after (Begins b) a = stay (Begins b) (λ c l. link_begins o s.wide b c a.main)
+  chains_after (Marks write n) a = stay (Marks write n) (λ c l. link_marks o s.wide write n c)
+  chains_after (PutsWord p x) a = stay (PutsWord p x) (λ c l. link_puts_word o s.wide p x c l)
+  chains_after (PutsEntry d slot x) a = stay (PutsEntry d slot x) (λ c l. link_puts_entry o s.wide d slot x c a.in_bucket)
+  chains_after (PutsLink c next) a = link_chains c next a
+  chains_after (Ends b) a =
+      stay (Ends b) (λ c l. other o (Ends b) (link_at o.shape c) (no_epoch o.shape b c SLOTS (ends_main o s o.phase refl b a.marked) (omega arith)))

@@ -13,28 +13,20 @@ no_longer : (xs ys : List ℕ) → AllPairs (λ c d. c ≢ d) xs → ((c : ℕ) 
 no_longer xs ys pairs within = length-le_from_is_member nat_eq_equiv xs ys (IsDistinct-from_AllPairs Decides-eqb xs pairs)
     (λ q has. list_any-from_Contains nat_eq_equiv q ys (within q (Contains-from_any eqb-true q xs has)))
 
+in_range : (low n c : ℕ) → low ≤ c → c < low + n → Contains (range_with_len low n) c
+in_range low n c least most = (c - low, omega (arith, length-range_with_len low n), grind (arith, get_or-range_with_len low n (c - low) c))
+
 module _ (xs : List ℕ) (low n : ℕ) (pairs : AllPairs (λ c d. c ≢ d) xs) (inside : (c : ℕ) → Contains xs c → (low ≤ c) × (c < low + n)) where
   pub at_most : length xs ≤ n
   at_most =
-      let few = no_longer xs (range_with_len low n) pairs (λ c has.
-      let is = inside c has in
-      let least = is.0 in
-      let most = is.1 in
-      (c - low, omega (arith, length-range_with_len low n), get_or-range_with_len low n (c - low) c (omega arith) ∙ omega arith)) in
+      let few = no_longer xs (range_with_len low n) pairs (λ c has. in_range low n c (inside c has).0 (inside c has).1) in
       omega (arith, length-range_with_len low n)
 
   -- as many where it has each number of the range
   pub all_there : ((c : ℕ) → low ≤ c → c < low + n → Contains xs c) → length xs ≡ n
   all_there all =
-      let most = at_most in
+      let long = length-range_with_len low n in
       let least = no_longer (range_with_len low n) xs
-      (λ i j d less within same.
-      let long = length-range_with_len low n in
-      let one = get_or-range_with_len low n i d (omega arith) in
-      let two = get_or-range_with_len low n j d (omega arith) in omega arith)
-      (λ c has.
-      let below = has.1 in
-      let long = length-range_with_len low n in
-      let is = get_or-range_with_len low n has.0 c (omega arith) in
-      let same = has.2 in all c (omega arith) (omega arith)) in
-      omega (arith, length-range_with_len low n)
+      (λ i j d less within. grind (arith, long, get_or-range_with_len low n i d, get_or-range_with_len low n j d))
+      (λ c has. let is = get_or-range_with_len low n has.0 c in all c (grind (arith, is, long, has.1, has.2)) (grind (arith, is, long, has.1, has.2))) in
+      omega (arith, long, at_most)
