@@ -1,6 +1,6 @@
 -- What the calls go by of the owner's fact: how many words there are, and the buckets of all chains.
-use Rattle.chained_index.proofs.Words.{◌≡◌, ℕ, ◌<◌, List, length, slice_index, sym, ◌∙◌, length-set, History, OwnerState, Phase, PutsEntry, IsMain}
-use Rattle.chained_index.proofs.Words.{IsBucket, entry_at, link_at, word_count, link_in, InChain, HasChains, IsFreeSpare, after, Kept}
+use Rattle.chained_index.proofs.Words.{SLOTS, ◌≡◌, ℕ, ◌<◌, List, length, slice_index, sym, ◌∙◌, length-set, History, OwnerState, Phase, PutsEntry}
+use Rattle.chained_index.proofs.Words.{IsMain, IsBucket, entry_at, link_at, word_count, link_in, InChain, HasChains, IsFreeSpare, after, Kept}
 use Rattle.chained_index.proofs.Words.{link_puts_entry, same_behind, IsChain, has_bucket, in_chain, inside, chain_there, chains_stay}
 
 pub record Chained (o : OwnerState) : Type 0 where
@@ -13,48 +13,39 @@ chained o kept = record { wide = kept.wide; chains = kept.chains }
 pub chain_inside : (o : OwnerState) → Chained o → (b c : ℕ) → IsMain o.shape b → InChain o b c → IsBucket o.shape c
 chain_inside o s b c main h = let chain = chain_there o s.chains b main in inside o b chain.0 chain.1 main c (has_bucket o b chain.0 chain.1 c h)
 
--- A chain of whose buckets no link changed has the same buckets.
-module _ (o : OwnerState) (words : List ℕ) (history : History) (phase : Phase) (s : Chained o) (b : ℕ) (main : IsMain o.shape b)
-    (same : (c : ℕ) → InChain o b c → slice_index words (link_at o.shape c) ≡ link_in o c) where
+module _ (o : OwnerState) (words : List ℕ) (history : History) (phase : Phase) (long : length words ≡ length o.words) (s : Chained o) where
   abbrev p : OwnerState
   p = record o { words = words; history = history; phase = phase }
 
-  pub kept_chain : (cs : List ℕ) → IsChain o b cs → IsChain p b cs
-  kept_chain cs was = record {
-    behind = same_behind (link_in o) (link_in p) b cs (λ c i. same c (in_chain o b cs was c i)) was.behind;
-    spare = was.spare;
-    few = was.few;
-  }
+  -- A chain of whose buckets no link changed has the same buckets.
+  module _ (b : ℕ) (main : IsMain o.shape b) (same : (c : ℕ) → InChain o b c → slice_index words (link_at o.shape c) ≡ link_in o c) where
+    pub kept_chain : (cs : List ℕ) → IsChain o b cs → IsChain p b cs
+    kept_chain cs was =
+        let behind = same_behind (link_in o) (link_in p) b cs (λ c i. same c (in_chain o b cs was c i)) was.behind in
+        record { behind = behind; spare = was.spare; few = was.few }
 
-  pub chain_on : (c : ℕ) → InChain o b c → InChain p b c
-  chain_on c h = let was = chain_there o s.chains b main in in_chain p b was.0 (kept_chain was.0 was.1) c (has_bucket o b was.0 was.1 c h)
+    pub chain_on : (c : ℕ) → InChain o b c → InChain p b c
+    chain_on c h = let was = chain_there o s.chains b main in in_chain p b was.0 (kept_chain was.0 was.1) c (has_bucket o b was.0 was.1 c h)
 
-  pub chain_back : (c : ℕ) → InChain p b c → InChain o b c
-  chain_back c h = let was = chain_there o s.chains b main in in_chain o b was.0 was.1 c (has_bucket p b was.0 (kept_chain was.0 was.1) c h)
+    pub chain_back : (c : ℕ) → InChain p b c → InChain o b c
+    chain_back c h = let was = chain_there o s.chains b main in in_chain o b was.0 was.1 c (has_bucket p b was.0 (kept_chain was.0 was.1) c h)
 
--- Where no link changed, all chains and the free spares are the same.
-module _ (o : OwnerState) (words : List ℕ) (history : History) (phase : Phase) (long : length words ≡ length o.words) (s : Chained o)
-    (same : (d : ℕ) → IsBucket o.shape d → slice_index words (link_at o.shape d) ≡ link_in o d) where
-  abbrev q : OwnerState
-  q = record o { words = words; history = history; phase = phase }
+  -- Where no link changed, all chains and the free spares are the same.
+  module _ (same : (d : ℕ) → IsBucket o.shape d → slice_index words (link_at o.shape d) ≡ link_in o d) where
+    pub all_on : (b : ℕ) → IsMain o.shape b → (c : ℕ) → InChain o b c → InChain p b c
+    all_on b main = chain_on b main (λ c h. same c (chain_inside o s b c main h))
 
-  own_same : (b : ℕ) → IsMain o.shape b → (c : ℕ) → InChain o b c → slice_index words (link_at o.shape c) ≡ link_in o c
-  own_same b main c h = same c (chain_inside o s b c main h)
+    pub free_on : (c : ℕ) → IsFreeSpare o c → IsFreeSpare p c
+    free_on c f = record { spare = f.spare; free = λ b main h. f.free b main (chain_back b main (λ c h. same c (chain_inside o s b c main h)) c h) }
 
-  pub all_on : (b : ℕ) → IsMain o.shape b → (c : ℕ) → InChain o b c → InChain q b c
-  all_on b main = chain_on o words history phase s b main (own_same b main)
+    pub free_back : (c : ℕ) → IsFreeSpare p c → IsFreeSpare o c
+    free_back c f = record { spare = f.spare; free = λ b main h. f.free b main (all_on b main c h) }
 
-  pub free_on : (c : ℕ) → IsFreeSpare o c → IsFreeSpare q c
-  free_on c f = record { spare = f.spare; free = λ b main h. f.free b main (chain_back o words history phase s b main (own_same b main) c h) }
-
-  pub free_back : (c : ℕ) → IsFreeSpare q c → IsFreeSpare o c
-  free_back c f = record { spare = f.spare; free = λ b main h. f.free b main (all_on b main c h) }
-
-  pub chained_kept : Chained q
-  chained_kept = record { wide = long ∙ s.wide; chains = chains_stay o words history phase s.chains same }
+    pub chained_kept : Chained p
+    chained_kept = record { wide = long ∙ s.wide; chains = chains_stay o words history phase s.chains same }
 
 -- so before an entry was stored the chains were as they are
-pub chained_before : (o : OwnerState) (c slot x : ℕ) → slot < 15 → Chained (after (PutsEntry c slot x) o) → Chained o
+pub chained_before : (o : OwnerState) (c slot x : ℕ) → slot < SLOTS → Chained (after (PutsEntry c slot x) o) → Chained o
 chained_before o c slot x low s =
     let long = length-set o.words (entry_at o.shape c slot) x in
     chained_kept (after (PutsEntry c slot x) o) o.words o.history o.phase (sym long) s (λ d l. sym (link_puts_entry o (sym long ∙ s.wide) c slot x d low))

@@ -1,6 +1,6 @@
 -- What a change of one chain makes of all chains, and of the index.
-use Rattle.chained_index.proofs.Words.{◌↔◌, ◌≡◌, ◌≢◌, ℕ, inl, inr, List, ◌∷◌, ◌++◌, length, sym, ◌∙◌, subst, Contains, dite, ℕ_discrete, OwnerState}
-use Rattle.chained_index.proofs.Words.{link_in, IsMain, IsSpare, InChain, IsDense, IsFreeSpare, ChangesOnlyIndex, in_cons, in_tail, ChangesChain}
+use Rattle.chained_index.proofs.Words.{arith, ◌↔◌, ◌≡◌, ◌≢◌, ℕ, inl, inr, List, ◌∷◌, ◌++◌, length, sym, ◌∙◌, subst, Contains, dite, ℕ_discrete, OwnerState}
+use Rattle.chained_index.proofs.Words.{link_in, IsMain, IsSpare, InChain, IsFreeSpare, ChangesOnlyIndex, in_cons, in_tail, ChangesChain}
 use Rattle.chained_index.proofs.Words.{Index, IsBlank, IsIndexOf, AreBehind, IsChain, has_bucket, in_chain, chain_of, behind_differ, not_main}
 use Rattle.chained_index.proofs.Words.{listed_or_not, IsPermutation, IsPermutation-sym, Contains-permutation, Contains-append_left}
 use Rattle.chained_index.proofs.Words.{Contains-append_right, Contains-append_cases}
@@ -27,9 +27,7 @@ module _ (o : OwnerState) (index : Index) (b : ℕ) (v : View o index b) where
       | inl own ↦ Contains-append_right index.free v.behind c own
       | inr not ↦ Contains-append_left index.free v.behind c ((v.known.free c).1 record {
         spare = is.0;
-        free = λ d m h. dite (ℕ_discrete d b)
-            (λ e. not (not_main o.shape b c v.behind v.main is.0 (has_bucket o b v.behind v.chain c (subst (λ (z : ℕ). InChain o z c) e h))))
-            (λ n. is.1 d m n h);
+        free = λ d m h. grind (arith, is.1 d m, λ (i : InChain o b c). not_main o.shape b c v.behind v.main is.0 (has_bucket o b v.behind v.chain c i));
       })
     ],
   )
@@ -94,12 +92,12 @@ module _ (o : OwnerState) (words : List ℕ) (t : Chained (record o { words = wo
         spare = is.0;
         free = λ d m h. dite (ℕ_discrete d b)
             (λ e. differ_apart free ds all c has (not_main o.shape b c ds v.main is.0 (has_bucket p b ds now c (subst (λ (z : ℕ). InChain p z c) e h))))
-            (λ n. is.1 d m n (chain_back o words o.history o.phase v.s d m (other_link d m n) c h));
+            (λ n. is.1 d m n (chain_back o words o.history o.phase long v.s d m (other_link d m n) c h));
       }
 
   is_listed : (c : ℕ) → IsFreeSpare p c → Contains free c
   is_listed c f = elim (Contains-append_cases free ds c (Contains-permutation (index.free ++ cs) (free ++ ds) c r.moved
-      ((spares_are o index b v c).1 (f.spare, λ d m n h. f.free d m (chain_on o words o.history o.phase v.s d m (other_link d m n) c h))))) [
+      ((spares_are o index b v c).1 (f.spare, λ d m n h. f.free d m (chain_on o words o.history o.phase long v.s d m (other_link d m n) c h))))) [
         | inl has ↦ has
         | inr own ↦ absurd (f.free b v.main (in_chain p b ds now c (in_tail b c ds own)))
       ]
@@ -124,9 +122,9 @@ module _ (o : OwnerState) (words : List ℕ) (t : Chained (record o { words = wo
     changes,
     record {
       shape = v.known.shape;
-      dense = λ d m. dite (ℕ_discrete d b)
-          (λ e. subst (λ (z : ℕ). IsDense p z) (sym e) (dense_there p t.wide b v.main ds now ys r.filled))
-          (λ n. dense_kept o words o.history o.phase long v.s d m (other_same d m n) (v.known.dense d m));
+      dense = λ d m.
+          let own = dense_there p t.wide b v.main ds now ys r.filled in
+          grind (arith, λ (n : d ≢ b). dense_kept o words o.history o.phase long v.s d m (other_same d m n) (v.known.dense d m));
       free = λ c. (is_free c, is_listed c);
       once = differ_first free ds all;
       blank = λ c f. blank c (is_listed c f);

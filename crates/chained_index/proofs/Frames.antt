@@ -1,7 +1,7 @@
 -- A chain none of whose buckets changed is as it was.
-use Rattle.chained_index.proofs.Words.{◌≡◌, ℕ, ◌/◌, ◌%◌, List, ◌∷◌, length, nat_lt, filter, sym, ap, ◌∙◌, subst, arith, ext_get_or, History, Contains}
-use Rattle.chained_index.proofs.Words.{OwnerState, Phase, IsMain, InChain, IsDense, entries_of, KeepsChain, ChangesOnlyIndex, Contains-get_or}
-use Rattle.chained_index.proofs.Words.{IsChain, in_chain, chain_there}
+use Rattle.chained_index.proofs.Words.{SLOTS, ◌≡◌, ℕ, ◌/◌, ◌%◌, List, ◌∷◌, length, nat_lt, filter, sym, ap, ◌∙◌, arith, ext_get_or, History}
+use Rattle.chained_index.proofs.Words.{Contains, OwnerState, Phase, IsMain, InChain, IsDense, entries_of, KeepsChain}
+use Rattle.chained_index.proofs.Words.{Contains-get_or, IsChain, in_chain, chain_there}
 use Rattle.chained_index.proofs.Lists.{at}
 use Rattle.chained_index.proofs.Paths.{chain_is}
 use Rattle.chained_index.proofs.Chained.{Chained, kept_chain}
@@ -27,7 +27,7 @@ module _ (o : OwnerState) (words : List ℕ) (history : History) (phase : Phase)
     same_in c i = same c (in_chain o b behind was c i)
 
     now : IsChain p b behind
-    now = kept_chain o words history phase s b main (λ c h. (same c h).link) behind was
+    now = kept_chain o words history phase long s b main (λ c h. (same c h).link) behind was
 
     pub chain_kept : KeepsChain o p b
     chain_kept = record {
@@ -39,20 +39,10 @@ module _ (o : OwnerState) (words : List ℕ) (history : History) (phase : Phase)
         slots_same =
             let size = length-all_slots p (long ∙ s.wide) cs (all_inside p b behind now main) in
             ext_get_or 0 (all_slots p cs) (all_slots o cs) (size ∙ sym (length-all_slots o s.wide cs (all_inside o b behind was main))) (λ i l.
-            by_place p (long ∙ s.wide) cs (all_inside p b behind now main) i (omega arith)
-            ∙ ((same_in (at cs (i / 15)) (Contains-get_or cs (i / 15) 0 (omega arith))).entry (i % 15) (omega arith)
-            ∙ sym (by_place o s.wide cs (all_inside o b behind was main) i (omega arith))))
+            let at_p = by_place p (long ∙ s.wide) cs (all_inside p b behind now main) i in
+            let at_o = by_place o s.wide cs (all_inside o b behind was main) i in
+            grind (arith, (same_in (at cs (i / SLOTS)) (Contains-get_or cs (i / SLOTS) 0 (omega arith))).entry (i % SLOTS)))
 
     pub dense_kept : IsDense o b → IsDense p b
     dense_kept dense = dense_there p (long ∙ s.wide) b main behind now (entries_of o b)
         (same_filled o p cs (entries_of o b) (filled_there o s.wide b main behind was dense) same_in)
-
--- one change after another
-pub only_then : (o m p : OwnerState) → ChangesOnlyIndex o m → ChangesOnlyIndex m p → ChangesOnlyIndex o p
-only_then o m p one two =
-    let shape = ap (λ (z : OwnerState). z.shape) one.same in record {
-      stamp = two.stamp ∙ one.stamp;
-      epochs = λ b main. two.epochs b (subst (λ z. IsMain z b) (sym shape) main) ∙ one.epochs b main;
-      items = λ q. two.items q ∙ one.items q;
-      same = two.same ∙ ap (λ (z : OwnerState). record z { words = p.words }) one.same;
-    }

@@ -1,7 +1,7 @@
 -- The words of a bucket stand for the machine's state, by the list of the chain's entries.
-use Rattle.chained_index.proofs.Words.{◌≡◌, ◌≢◌, ℕ, ◌+◌, ◌*◌, ◌/◌, ◌%◌, ◌<◌, List, length, refl, sym, ap, ◌∙◌, subst, arith, entry_offset, Mode}
-use Rattle.chained_index.proofs.Words.{Store, Cell, OwnerState, IsMain, stamp_in, entry_in, state_in, bucket_in, marked_in, IsLiveItem, HasLiveEntry}
-use Rattle.chained_index.proofs.Words.{Has, Spells, RoomsApart, StandsFor, buckets_of, entries_of, bucket_at, Index, IsIndexOf, ◌∷◌, InChain}
+use Rattle.chained_index.proofs.Words.{SLOTS, ◌≡◌, ◌≢◌, ℕ, ◌+◌, ◌*◌, ◌/◌, ◌%◌, ◌<◌, List, length, refl, sym, ap, subst, arith, entry_offset, Mode}
+use Rattle.chained_index.proofs.Words.{Store, Cell, OwnerState, IsMain, stamp_in, state_in, bucket_in, marked_in, IsLiveItem, HasLiveEntry, Has}
+use Rattle.chained_index.proofs.Words.{Spells, RoomsApart, StandsFor, buckets_of, entries_of, bucket_at, Index, IsIndexOf, ◌∷◌, InChain}
 use Rattle.chained_index.proofs.Words.{Contains-get_or, all_differ, in_chain, has_bucket, has_chain, link_in, subst₂}
 pub use Rattle.chained_index.proofs.Lists.{at}
 use Rattle.chained_index.proofs.Lists.{below, place_in, one_place}
@@ -26,114 +26,98 @@ pub record Stands (o : OwnerState) (b c slot entry i : ℕ) : Type 0 where
   pub live : HasLiveEntry o b c slot entry
   pub inside : i < length (entries_of o b)
   pub is : at (entries_of o b) i ≡ entry
-  pub bucket : bucket_at o (i / 15) b ≡ c
-  pub in_slot : slot ≡ i % 15
+  pub bucket : bucket_at o (i / SLOTS) b ≡ c
+  pub in_slot : slot ≡ i % SLOTS
 
 module _ {o : OwnerState} {b c slot c' slot' entry entry' i j : ℕ} (one : Stands o b c slot entry i) (two : Stands o b c' slot' entry' j) where
   -- one place is one spot
   same_spot : i ≡ j → (c ≡ c') × (slot ≡ slot')
-  same_spot same = (
-    sym one.bucket ∙ (ap (λ (z : ℕ). bucket_at o (z / 15) b) same ∙ two.bucket),
-    one.in_slot ∙ (ap (λ (z : ℕ). z % 15) same ∙ sym two.in_slot),
-  )
+  same_spot same = grind (arith, one.bucket, two.bucket, one.in_slot, two.in_slot, same)
 
   -- and one spot one place
   same_place : (index : Index) → View o index b → (c ≡ c') × (slot ≡ slot') → i ≡ j
   same_place index v same =
-      let cs : List ℕ = b ∷ v.behind in
       let is = chain_is o b v.behind v.chain in
-      let step = one_place cs (all_differ (link_in o) b v.behind v.chain.behind) (i / 15) (j / 15)
-      (omega (arith, one.inside, v.filled.size)) (omega (arith, two.inside, v.filled.size))
-      (ap (λ (z : List ℕ). at z (i / 15)) (sym is) ∙ (one.bucket ∙ (same.0 ∙ (sym two.bucket ∙ ap (λ (z : List ℕ). at z (j / 15)) is)))) in
-      let slots : i % 15 ≡ j % 15 = sym one.in_slot ∙ (same.1 ∙ two.in_slot) in
-      omega arith
+      let step = one_place (b ∷ v.behind) (all_differ (link_in o) b v.behind v.chain.behind) (i / SLOTS) (j / SLOTS) in
+      grind (arith, one.inside, two.inside, v.filled.size, one.bucket, two.bucket, one.in_slot, two.in_slot)
 
-module _ (o : OwnerState) (s : Chained o) (mode : o.shape.mode ≡ Store) (index : Index) (known : IsIndexOf index o) (b : ℕ) (main : IsMain o.shape b) where
-  abbrev xs : List ℕ
-  xs = entries_of o b
+module _ (o : OwnerState) (s : Chained o) (mode : o.shape.mode ≡ Store) (index : Index) (known : IsIndexOf index o) where
+  module _ (b : ℕ) (main : IsMain o.shape b) where
+    abbrev xs : List ℕ
+    xs = entries_of o b
 
-  v : View o index b
-  v = view o s index known b main
+    v : View o index b
+    v = view o s index known b main
 
-  is_list : buckets_of o b ≡ b ∷ v.behind
-  is_list = chain_is o b v.behind v.chain
+    is_list : buckets_of o b ≡ b ∷ v.behind
+    is_list = chain_is o b v.behind v.chain
 
-  pub place : (c slot entry : ℕ) → HasLiveEntry o b c slot entry → (i : ℕ) × Stands o b c slot entry i
-  place c slot entry live =
-      let k = place_in (b ∷ v.behind) c (has_bucket o b v.behind v.chain c live.in_chain) in
-      let low = live.in_bucket in
-      let i : ℕ = 15 * k.0 + slot in
-      let is : at xs i ≡ entry = sym (v.filled.entries k.0 slot k.1 low) ∙ (ap (λ (z : ℕ). entry_in o z slot) k.2 ∙ live.found) in
-      let quotient : i / 15 ≡ k.0 = omega arith in (
-        i,
-        record {
-          live = live;
-          inside = below xs i (λ none. live.live.0 (sym is ∙ none));
-          is = is;
-          bucket = ap (λ (z : List ℕ). at z (i / 15)) is_list ∙ (ap (at (b ∷ v.behind)) quotient ∙ k.2);
-          in_slot = omega arith;
-        },
-      )
+    pub place : (c slot entry : ℕ) → HasLiveEntry o b c slot entry → (i : ℕ) × Stands o b c slot entry i
+    place c slot entry live =
+        let k = place_in (b ∷ v.behind) c (has_bucket o b v.behind v.chain c live.in_chain) in
+        let low = live.in_bucket in
+        let i : ℕ = SLOTS * k.0 + slot in
+        let is : at xs i ≡ entry = grind (arith, v.filled.entries k.0 slot k.1 low, k.2, live.found) in (
+          i,
+          record {
+            live = live;
+            inside = grind (arith, below xs i, is, live.live.0);
+            is = is;
+            bucket = grind (arith, is_list, k.2);
+            in_slot = omega arith;
+          },
+        )
 
-  pub spot : (i : ℕ) → i < length xs → Stands o b (bucket_at o (i / 15) b) (i % 15) (at xs i) i
-  spot i less =
-      let low : i / 15 < length (b ∷ v.behind) = omega (arith, v.filled.size) in
-      let split : 15 * (i / 15) + i % 15 ≡ i = omega arith in
-      let here : bucket_at o (i / 15) b ≡ at (b ∷ v.behind) (i / 15) = ap (λ (z : List ℕ). at z (i / 15)) is_list in record {
-        live = record {
-          in_chain = subst (InChain o b) (sym here) (in_chain o b v.behind v.chain (at (b ∷ v.behind) (i / 15)) (Contains-get_or (b ∷ v.behind) (i / 15) 0 low));
-          in_bucket = omega arith;
-          found = ap (λ (z : ℕ). entry_in o z (i % 15)) here ∙ (v.filled.entries (i / 15) (i % 15) low (omega arith) ∙ ap (at xs) split);
-          live = (v.filled.used i 0 less, subst (λ (z : Mode). IsLiveItem z o.shape.words (stamp_in o) (entry_offset (at xs i))) (sym mode) tt);
-        };
-        inside = less;
-        is = refl;
-        bucket = refl;
-        in_slot = refl;
-      }
+    pub spot : (i : ℕ) → i < length xs → Stands o b (bucket_at o (i / SLOTS) b) (i % SLOTS) (at xs i) i
+    spot i less =
+        let low : i / SLOTS < length (b ∷ v.behind) = omega (arith, v.filled.size) in
+        let here : bucket_at o (i / SLOTS) b ≡ at (b ∷ v.behind) (i / SLOTS) = ap (λ (z : List ℕ). at z (i / SLOTS)) is_list in record {
+          live = record {
+            in_chain = subst (InChain o b) (sym here) (in_chain o b v.behind v.chain (at (b ∷ v.behind) (i / SLOTS)) (Contains-get_or (b ∷ v.behind) (i / SLOTS) 0 low));
+            in_bucket = omega arith;
+            found = grind (arith, here, v.filled.entries (i / SLOTS) (i % SLOTS) low);
+            live = (v.filled.used i 0 less, subst (λ (z : Mode). IsLiveItem z o.shape.words (stamp_in o) (entry_offset (at xs i))) (sym mode) tt);
+          };
+          inside = less;
+          is = refl;
+          bucket = refl;
+          in_slot = refl;
+        }
 
-module _ (o : OwnerState) (s : Chained o) (mode : o.shape.mode ≡ Store) (index : Index) (known : IsIndexOf index o) (b : ℕ) (main : IsMain o.shape b) where
-  abbrev at_place : (c : ℕ) → IsMain o.shape c → (i : ℕ) → i < length (entries_of o c) → Stands o c (bucket_at o (i / 15) c) (i % 15) (at (entries_of o c) i) i
-  at_place = spot o s mode index known
+  module _ (b : ℕ) (main : IsMain o.shape b) where
+    -- what the words stand for, told by the list
+    pub listed : StandsFor o b → ListStands o b
+    listed f = record {
+      nothing_else = λ i l. f.nothing_else _ _ _ (spot b main i l).live;
+      each = λ key cell p is has.
+          let found = f.each key cell p is has in
+          let one = place b main _ _ _ found.3 in
+          (one.0, one.1.inside, rw (sym one.1.is) at found.4);
+      once = λ i j key cell l m sp sp'. same_place (spot b main i l) (spot b main j m) index (view o s index known b main)
+          (f.once _ _ _ _ _ _ key cell (spot b main i l).live (spot b main j m).live sp sp');
+      rooms = λ i j l m n. f.rooms _ _ _ _ _ _ (spot b main i l).live (spot b main j m).live
+          (λ same. n (same_place (spot b main i l) (spot b main j m) index (view o s index known b main) same));
+      apart = λ other i j l n unmarked less more. f.apart other _ _ _ _ _ _ l n unmarked (spot b main i less).live (spot other l j more).live;
+    }
 
-  abbrev of_spot : (c : ℕ) → IsMain o.shape c → (d slot entry : ℕ) → HasLiveEntry o c d slot entry → (i : ℕ) × Stands o c d slot entry i
-  of_spot = place o s mode index known
-
-  -- what the words stand for, told by the list
-  pub listed : StandsFor o b → ListStands o b
-  listed f = record {
-    nothing_else = λ i l. f.nothing_else _ _ _ (at_place b main i l).live;
-    each = λ key cell p is has.
-        let found = f.each key cell p is has in
-        let one = of_spot b main _ _ _ found.3 in
-        (one.0, one.1.inside, subst (λ (z : ℕ). Spells o b z key cell) (sym one.1.is) found.4);
-    once = λ i j key cell l m sp sp'. same_place (at_place b main i l) (at_place b main j m) index (view o s index known b main)
-        (f.once _ _ _ _ _ _ key cell (at_place b main i l).live (at_place b main j m).live sp sp');
-    rooms = λ i j l m n. f.rooms _ _ _ _ _ _ (at_place b main i l).live (at_place b main j m).live
-        (λ same. n (same_place (at_place b main i l) (at_place b main j m) index (view o s index known b main) same));
-    apart = λ other i j l n unmarked less more. f.apart other _ _ _ _ _ _ l n unmarked (at_place b main i less).live (at_place other l j more).live;
-  }
-
-  -- and back: what `end_write` asks
-  pub stands : ListStands o b → StandsFor o b
-  stands f = record {
-    nothing_else = λ c slot entry live.
-        let one = of_spot b main c slot entry live in
-        let some = f.nothing_else one.0 one.1.inside in
-        (some.0, some.1, subst (λ (z : ℕ). Spells o b z some.0 some.1) one.1.is some.2);
-    each = λ key cell p is has. let found = f.each key cell p is has in (_, _, _, (at_place b main found.0 found.1).live, found.2);
-    once = λ c slot entry c' slot' entry' key cell live live' sp sp'.
-        let one = of_spot b main c slot entry live in
-        let two = of_spot b main c' slot' entry' live' in
-        same_spot one.1 two.1 (f.once one.0 two.0 key cell one.1.inside two.1.inside
-        (subst (λ (z : ℕ). Spells o b z key cell) (sym one.1.is) sp) (subst (λ (z : ℕ). Spells o b z key cell) (sym two.1.is) sp'));
-    rooms = λ c slot entry c' slot' entry' live live' n.
-        let one = of_spot b main c slot entry live in
-        let two = of_spot b main c' slot' entry' live' in
-        subst₂ (RoomsApart o) one.1.is two.1.is (f.rooms one.0 two.0 one.1.inside two.1.inside (λ same. n (same_spot one.1 two.1 same)));
-    apart = λ other c slot entry c' slot' entry' l n unmarked live live'.
-        let one = of_spot b main c slot entry live in
-        let two = of_spot other l c' slot' entry' live' in
-        subst₂ (RoomsApart o) one.1.is two.1.is (f.apart other one.0 two.0 l n unmarked one.1.inside two.1.inside);
-    chain = has_chain o s.chains mode b main (known.dense b main);
-  }
+    -- and back: what `end_write` asks
+    pub stands : ListStands o b → StandsFor o b
+    stands f = record {
+      nothing_else = λ c slot entry live.
+          let one = place b main c slot entry live in
+          subst (λ (z : ℕ). (key : List ℕ) × (cell : Cell) × Spells o b z key cell) one.1.is (f.nothing_else one.0 one.1.inside);
+      each = λ key cell p is has. let found = f.each key cell p is has in (_, _, _, (spot b main found.0 found.1).live, found.2);
+      once = λ c slot entry c' slot' entry' key cell live live' sp sp'.
+          let one = place b main c slot entry live in
+          let two = place b main c' slot' entry' live' in
+          same_spot one.1 two.1 (f.once one.0 two.0 key cell one.1.inside two.1.inside (rw (sym one.1.is) at sp) (rw (sym two.1.is) at sp'));
+      rooms = λ c slot entry c' slot' entry' live live' n.
+          let one = place b main c slot entry live in
+          let two = place b main c' slot' entry' live' in
+          subst₂ (RoomsApart o) one.1.is two.1.is (f.rooms one.0 two.0 one.1.inside two.1.inside (λ same. n (same_spot one.1 two.1 same)));
+      apart = λ other c slot entry c' slot' entry' l n unmarked live live'.
+          let one = place b main c slot entry live in
+          let two = place other l c' slot' entry' live' in
+          subst₂ (RoomsApart o) one.1.is two.1.is (f.apart other one.0 two.0 l n unmarked one.1.inside two.1.inside);
+      chain = has_chain o s.chains mode b main (known.dense b main);
+    }

@@ -1,9 +1,9 @@
 -- Lists of numbers by their places, where a list has 0 past its end.
-use Rattle.chained_index.proofs.Words.{◌≡◌, ◌≢◌, ℕ, zero, suc, ◌+◌, ◌<◌, inl, inr, List, [], ◌∷◌, ◌++◌, length, get_or, true, nat_lt, filter, refl}
-use Rattle.chained_index.proofs.Words.{sym, ap, ◌∙◌, arith, Contains, AllPairs, dite, ℕ_discrete, cases_lt, lt-ltb, get_or_past, get_or_append_left}
-use Rattle.chained_index.proofs.Words.{get_or-append-add, get_or_default, length-append, length_push, Decides-eqb, nat_eq_equiv, eqb, IsPermutation}
-use Rattle.chained_index.proofs.Words.{All, All-nil, All-cons, All-tail, AllPairs-cons, Contains-append_cases, in_head, in_tail}
-use Rattle.chained_index.proofs.Words.{IsDistinct-IsPermutation, IsDistinct-from_AllPairs, AllPairs-from_IsDistinct}
+use Rattle.chained_index.proofs.Words.{◌≡◌, ◌≢◌, ℕ, suc, ◌+◌, ◌-◌, ◌<◌, inl, inr, List, [], ◌∷◌, ◌++◌, length, get_or, true, nat_lt, filter, refl}
+use Rattle.chained_index.proofs.Words.{sym, ◌∙◌, arith, Contains, AllPairs, dite, ℕ_discrete, lt-ltb, get_or_past, common_steps, get_or_default}
+use Rattle.chained_index.proofs.Words.{Decides-eqb, nat_eq_equiv, eqb, IsPermutation, All, All-nil, All-cons, All-tail, AllPairs-cons}
+use Rattle.chained_index.proofs.Words.{Contains-append_cases, in_head, in_tail, IsDistinct-IsPermutation, IsDistinct-from_AllPairs}
+use Rattle.chained_index.proofs.Words.{AllPairs-from_IsDistinct}
 
 -- the number at a place
 abbrev pub at : List ℕ → ℕ → ℕ
@@ -14,7 +14,7 @@ abbrev pub AllUsed : List ℕ → Type 0
 AllUsed xs = All (λ x. x ≢ 0) xs
 
 pub below : (xs : List ℕ) (i : ℕ) → at xs i ≢ 0 → i < length xs
-below xs i some = elim (cases_lt i (length xs)) [ inl less ↦ less | inr past ↦ absurd (some (get_or_past xs i 0 past)) ]
+below xs i some = grind (arith, get_or_past)
 
 pub place_in : (xs : List ℕ) (c : ℕ) → Contains xs c → (i : ℕ) × (i < length xs) × (at xs i ≡ c)
 place_in xs c has = (has.0, has.1, get_or_default xs has.0 0 c has.1 ∙ has.2)
@@ -38,21 +38,17 @@ used_part (x ∷ xs) order = dite (ℕ_discrete x 0)
     (λ none. (
       [],
       All-nil (λ x. x ≢ 0),
-      λ i. dite (ℕ_discrete (at (x ∷ xs) i) 0) (λ is. is)
-          (λ n. absurd (order 0 i (let some : i ≢ 0 = λ is. n (ap (at (x ∷ xs)) is ∙ none) in omega arith) n none)),
+      λ i. grind (arith, common_steps, order 0 i),
     ))
     (λ some.
     let rest = used_part xs (λ i j less. order (suc i) (suc j) (omega arith)) in (
       x ∷ rest.0,
       All-cons (λ x. x ≢ 0) x rest.0 some rest.1,
-      λ i. elim i as (λ (i : ℕ). at (x ∷ xs) i ≡ at (x ∷ rest.0) i) [ zero ↦ refl | suc i ↦ rest.2 i ],
+      λ i. grind (arith, common_steps, rest.2 (i - 1)),
     ))
 
 pub at-push_other : (xs : List ℕ) (x i : ℕ) → i ≢ length xs → at (xs ++ x ∷ []) i ≡ at xs i
-at-push_other xs x i n = elim (cases_lt i (length xs)) [
-  | inl less ↦ get_or_append_left xs (x ∷ []) 0 i less
-  | inr more ↦ get_or_past (xs ++ x ∷ []) i 0 (omega (arith, length_push xs x)) ∙ sym (get_or_past xs i 0 more)
-]
+at-push_other xs x i n = grind (arith, common_steps)
 
 -- Numbers that all differ
 
@@ -60,10 +56,7 @@ abbrev pub AllDiffer : List ℕ → Type 0
 AllDiffer xs = AllPairs (λ c d. c ≢ d) xs
 
 pub one_place : (xs : List ℕ) → AllDiffer xs → (i j : ℕ) → i < length xs → j < length xs → at xs i ≡ at xs j → i ≡ j
-one_place xs pairs i j l m same = dite (ℕ_discrete i j) (λ is. is) (λ n. absurd (elim (cases_lt i j) [
-  | inl less ↦ pairs i j 0 less m same
-  | inr more ↦ pairs j i 0 (omega arith) l (sym same)
-]))
+one_place xs pairs i j l m same = grind (arith, pairs i j 0, pairs j i 0)
 
 pub differ_moved : (xs ys : List ℕ) → IsPermutation xs ys → AllDiffer xs → AllDiffer ys
 differ_moved xs ys moved pairs =
@@ -80,9 +73,7 @@ differ_joined (x ∷ xs) ys one two apart = AllPairs-cons (λ c d. c ≢ d) x (x
 
 module _ (xs ys : List ℕ) where
   pub differ_first : AllDiffer (xs ++ ys) → AllDiffer xs
-  differ_first pairs i j d less inside same = pairs i j d less (omega (arith, length-append xs ys))
-      (get_or_append_left xs ys d i (omega arith) ∙ (same ∙ sym (get_or_append_left xs ys d j inside)))
+  differ_first pairs i j d less inside same = grind (arith, common_steps, pairs i j d)
 
   pub differ_apart : AllDiffer (xs ++ ys) → (c : ℕ) → Contains xs c → ¬ (Contains ys c)
-  differ_apart pairs c one two = pairs one.0 (length xs + two.0) c (omega (arith, one.1)) (omega (arith, two.1, length-append xs ys))
-      (get_or_append_left xs ys c one.0 one.1 ∙ (one.2 ∙ sym (get_or-append-add xs ys two.0 c ∙ two.2)))
+  differ_apart pairs c one two = grind (arith, common_steps, pairs one.0 (length xs + two.0) c, one.1, one.2, two.1, two.2)

@@ -1,6 +1,6 @@
 -- The buckets of a chain by their places in the list.
-use Rattle.chained_index.proofs.Words.{◌≡◌, ◌≢◌, ℕ, zero, suc, ◌<◌, ◌≤◌, inl, inr, ◌⊎◌, List, [], ◌∷◌, length, take, refl, sym, ap, ◌∙◌, arith}
-use Rattle.chained_index.proofs.Words.{eq-eqb, ne_eqb, dite, ℕ_discrete, OwnerState, link_in, buckets_from, buckets_of, AreBehind, IsChain, last_of}
+use Rattle.chained_index.proofs.Words.{◌≡◌, ◌≢◌, ℕ, zero, suc, ◌<◌, ◌≤◌, inr, ◌⊎◌, List, [], ◌∷◌, length, take, refl, sym, ap, ◌∙◌, arith, eq-eqb}
+use Rattle.chained_index.proofs.Words.{ne_eqb, dite, ℕ_discrete, OwnerState, link_in, buckets_from, buckets_of, AreBehind, IsChain, last_of}
 use Rattle.chained_index.proofs.Lists.{at}
 
 list_is : (o : OwnerState) (n b : ℕ) (cs : List ℕ) → AreBehind (link_in o) b cs → length cs ≤ n → buckets_from o (suc n) b ≡ b ∷ cs
@@ -36,11 +36,8 @@ pub step_on : (f : ℕ → ℕ) (x : ℕ) (cs : List ℕ) → AreBehind f x cs �
     → (k < length cs) × (f (at (x ∷ cs) k) ≢ 0) × (f (at (x ∷ cs) k) ≡ at (x ∷ cs) (suc k)) ⊎ (length cs ≡ k) × (f (at (x ∷ cs) k) ≡ 0)
 step_on f x [] h zero l = inr (refl, h)
 step_on f x [] h (suc k) l = absurd (omega arith)
-step_on f x (c ∷ cs) h zero l = inl (omega arith, (λ none. h.1 (sym h.0 ∙ none)), h.0)
-step_on f x (c ∷ cs) h (suc k) l = elim (step_on f c cs h.2 k (omega arith)) [
-  | inl more ↦ inl (omega (arith, more.0), more.1, more.2)
-  | inr last ↦ inr (omega (arith, last.0), last.1)
-]
+step_on f x (c ∷ cs) h zero l = grind (arith, h.0, h.1)
+step_on f x (c ∷ cs) h (suc k) l = grind (arith, step_on f c cs h.2 k)
 
 pub last_at : (x : ℕ) (cs : List ℕ) (n : ℕ) → n ≤ length cs → last_of x (take n cs) ≡ at (x ∷ cs) n
 last_at x cs zero l = refl

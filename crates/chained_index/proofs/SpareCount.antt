@@ -1,6 +1,6 @@
 -- All spare buckets are free or behind a main bucket, each in one place.
-use Rattle.chained_index.proofs.Words.{◌↔◌, ◌≡◌, ℕ, zero, suc, ◌+◌, ◌≤◌, inl, inr, List, ◌++◌, length, refl, ap, subst, arith, length-append}
-use Rattle.chained_index.proofs.Words.{Contains, Contains-append_left, Contains-append_right, Contains-append_cases, dite, ℕ_discrete, Cells, keys_in}
+use Rattle.chained_index.proofs.Words.{◌↔◌, ◌≡◌, ℕ, zero, suc, ◌+◌, ◌≤◌, inl, inr, List, ◌++◌, length, refl, ap, arith, length-append}
+use Rattle.chained_index.proofs.Words.{Contains, Contains-append_left, Contains-append_right, Contains-append_cases, Cells, keys_in}
 use Rattle.chained_index.proofs.Words.{spares_behind, spares_below, spares_in_use, OwnerState, link_in, IsMain, IsSpare, InChain, entries_of, Index}
 use Rattle.chained_index.proofs.Words.{IsIndexOf, in_tail, in_chain, has_bucket, not_main, behind_differ, listed_or_not, all_there}
 use Rattle.chained_index.proofs.Lists.{AllDiffer, differ_joined}
@@ -42,9 +42,9 @@ module _ (o : OwnerState) (s : Chained o) (index : Index) (known : IsIndexOf ind
             | inl i ↦ Contains-append_left v.behind rest.0 c i
             | inr not ↦ Contains-append_right v.behind rest.0 c ((rest.3 c).1 (
               is.0,
-              λ b least main h. dite (ℕ_discrete b n)
-                  (λ e. not (not_main o.shape n c v.behind v.main is.0 (has_bucket o n v.behind v.chain c (subst (λ (z : ℕ). InChain o z c) e h))))
-                  (λ differ. is.1 b (omega arith) main h),
+              λ b least main h.
+                  let here = λ (i : InChain o n c). not (not_main o.shape n c v.behind v.main is.0 (has_bucket o n v.behind v.chain c i)) in
+                  grind (arith, is.1 b),
             ))
           ],
         ),
@@ -64,9 +64,8 @@ module _ (o : OwnerState) (s : Chained o) (index : Index) (known : IsIndexOf ind
     unfolding spares_used spares_below
     used_below zero few = refl
     used_below (suc b) few =
-        let here : spares_behind (length (entries_of o b)) ≡ spares_behind (keys_in o.shape.buckets b cells) = ap spares_behind (as_keys b (omega arith)) in
-        let rest = used_below b (omega arith) in
-        omega arith
+        let here = ap spares_behind (as_keys b (omega arith)) in
+        omega (arith, used_below b (omega arith))
 
     pub free_spares : length index.free + spares_in_use o.shape.buckets cells ≡ o.shape.spares
-    free_spares = let all = spares_counted in let used = used_below o.shape.buckets (omega arith) in omega arith
+    free_spares = omega (arith, spares_counted, used_below o.shape.buckets (omega arith))

@@ -1,8 +1,8 @@
 -- What no store of an entry or a link changes: the chains, their entries and the index.
-use Rattle.chained_index.proofs.Words.{◌≡◌, ◌≢◌, ℕ, ◌+◌, ◌<◌, List, [], ◌∷◌, length, refl, ◌∙◌, arith, length-set, Write, History, OwnerState, Phase}
-use Rattle.chained_index.proofs.Words.{Event, Begins, Marks, PutsWord, Ends, IsMain, IsBucket, entries_at, entry_at, link_at, place_of, InChain}
-use Rattle.chained_index.proofs.Words.{words_after, history_after, phase_after, after, plays, puts_from, link_in, no_epoch, no_stamp, no_item, other}
-use Rattle.chained_index.proofs.Words.{entries_of, Index, IsIndexOf}
+use Rattle.chained_index.proofs.Words.{bucket_words, SLOTS, ◌≡◌, ◌≢◌, ℕ, ◌+◌, ◌<◌, List, [], ◌∷◌, length, refl, ◌∙◌, arith, length-set, Write}
+use Rattle.chained_index.proofs.Words.{History, OwnerState, Phase, Event, Begins, Marks, PutsWord, Ends, IsMain, IsBucket, entries_at, entry_at}
+use Rattle.chained_index.proofs.Words.{link_at, place_of, InChain, words_after, history_after, phase_after, after, plays, puts_from, link_in}
+use Rattle.chained_index.proofs.Words.{no_epoch, no_stamp, no_item, other, entries_of, Index, IsIndexOf}
 use Rattle.chained_index.proofs.Chained.{Chained, chain_inside, free_on, free_back, chained_kept}
 use Rattle.chained_index.proofs.Filled.{SameBucket}
 use Rattle.chained_index.proofs.Frames.{chain_kept, dense_kept}
@@ -38,10 +38,10 @@ module _ (o : OwnerState) (s : Chained o) (words : List ℕ) (history : History)
 
 -- An event that goes to no word of a bucket
 module _ (o : OwnerState) (s : Chained o) (e : Event)
-    (apart : (d i : ℕ) → IsBucket o.shape d → i < 16 → entries_at o.shape d + i ≢ place_of o.shape e) where
+    (apart : (d i : ℕ) → IsBucket o.shape d → i < bucket_words → entries_at o.shape d + i ≢ place_of o.shape e) where
   same : (d : ℕ) → IsBucket o.shape d → SameBucket o (after e o) d
   same d l = record {
-    link = other o e (link_at o.shape d) (apart d 15 l (omega arith));
+    link = other o e (link_at o.shape d) (apart d SLOTS l (omega arith));
     entry = λ slot low. other o e (entry_at o.shape d slot) (apart d slot l (omega arith));
   }
 
@@ -73,7 +73,7 @@ module _ (o : OwnerState) (s : Chained o) where
 
 -- the words of an item, one after another
 
-no_word : (o : OwnerState) (p x d i : ℕ) → IsBucket o.shape d → i < 16 → entries_at o.shape d + i ≢ place_of o.shape (PutsWord p x)
+no_word : (o : OwnerState) (p x d i : ℕ) → IsBucket o.shape d → i < bucket_words → entries_at o.shape d + i ≢ place_of o.shape (PutsWord p x)
 no_word o p x d i l low = no_item o.shape d i p l low
 
 pub index_plays : (o : OwnerState) (s : Chained o) (p : ℕ) (xs : List ℕ) (index : Index) → IsIndexOf index o → IsIndexOf index (plays (puts_from p xs) o)

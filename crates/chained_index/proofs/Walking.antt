@@ -1,7 +1,7 @@
 -- A step along a chain, and its end.
-use Rattle.chained_index.proofs.Words.{◌≡◌, ◌≢◌, ℕ, suc, ◌+◌, ◌-◌, ◌*◌, ◌<◌, ◌≤◌, inl, inr, ◌⊎◌, add-one, List, ◌∷◌, length, sym, ap, ◌∙◌, subst}
-use Rattle.chained_index.proofs.Words.{arith, cases_lt, dite, ℕ_discrete, OwnerState, IsMain, IsBucket, entry_in, link_in, buckets_of, entries_of}
-use Rattle.chained_index.proofs.Words.{bucket_at, EndsIn, EndsAt, Index, inside, Contains-get_or}
+use Rattle.chained_index.proofs.Words.{SLOTS, ◌≡◌, ◌≢◌, ℕ, suc, ◌+◌, ◌-◌, ◌*◌, ◌<◌, ◌≤◌, inl, inr, ◌⊎◌, List, ◌∷◌, length, sym, ap, ◌∙◌, subst, arith}
+use Rattle.chained_index.proofs.Words.{OwnerState, IsMain, IsBucket, entry_in, link_in, buckets_of, entries_of, bucket_at, EndsIn, EndsAt, Index}
+use Rattle.chained_index.proofs.Words.{inside, Contains-get_or}
 use Rattle.chained_index.proofs.Lists.{at, below}
 use Rattle.chained_index.proofs.Paths.{chain_is, step_on, first_bucket, length-buckets_of}
 use Rattle.chained_index.proofs.Filled.{View}
@@ -48,47 +48,41 @@ module _ (o : OwnerState) (index : Index) (b : ℕ) (v : View o index b) where
     placed = subst (λ (z : List ℕ). (link < length z) × (at z link ≡ c)) list (w.within, w.here)
 
     step : (link < length v.behind) × (link_in o c ≢ 0) × (link_in o c ≡ at cs (suc link)) ⊎ (length v.behind ≡ link) × (link_in o c ≡ 0)
-    step = subst (λ (z : ℕ). (link < length v.behind) × (link_in o z ≢ 0) × (link_in o z ≡ at cs (suc link)) ⊎ (length v.behind ≡ link) × (link_in o z ≡ 0))
-        placed.1 (step_on (link_in o) b v.behind v.chain.behind link placed.0)
+    step = grind (arith, placed.1, step_on (link_in o) b v.behind v.chain.behind link placed.0)
 
-    -- one link further
-    pub one_further : link_in o c ≢ 0 → IsAt o b (link + 1) (link_in o c)
-    one_further some = elim step [
+    -- the link was read: one further, or at the end
+
+    pub one_further : (x : ℕ) → x ≡ link_in o c → x ≢ 0 → IsAt o b (link + 1) x
+    one_further x is some = elim step [
       | inl more ↦
-          let less : suc link < length cs = omega (arith, more.0) in record {
-            inside = subst (IsBucket o.shape) (sym more.2) (inside o b v.behind v.chain v.main (at cs (suc link)) (Contains-get_or cs (suc link) 0 less));
-            within = omega (arith, more.0, ap length list);
-            here = ap (λ (z : List ℕ). at z (link + 1)) list ∙ (ap (at cs) (add-one link) ∙ sym more.2);
+          let less : suc link < length cs = omega (arith, more.0) in
+          let to : x ≡ at cs (suc link) = is ∙ more.2 in record {
+            inside = subst (IsBucket o.shape) (sym to) (inside o b v.behind v.chain v.main (at cs (suc link)) (Contains-get_or cs (suc link) 0 less));
+            within = omega (arith, less, ap length list);
+            here = grind (arith, list, to);
           }
-      | inr last ↦ absurd (some last.1)
+      | inr last ↦ absurd (some (is ∙ last.1))
     ]
 
-    pub at_end : link_in o c ≡ 0 → length (buckets_of o b) ≡ suc link
-    at_end none = elim step [ inl more ↦ absurd (more.1 none) | inr last ↦ ap length list ∙ ap suc last.0 ]
+    pub at_end : (x : ℕ) → x ≡ link_in o c → x ≡ 0 → length (buckets_of o b) ≡ suc link
+    at_end x is none = grind (arith, step, ap length list, is)
 
   -- the end of a chain, from its last two buckets and the used slots of the last
 
   pub last_bucket : (before last : ℕ) → EndsIn o b before last → at cs (length v.behind) ≡ last
-  last_bucket before last ends = ap (λ (z : List ℕ). at z (length v.behind)) (sym list) ∙ ends.last (length v.behind) (ap length list)
+  last_bucket before last ends = grind (arith, list, ends.last (length v.behind))
 
   pub end_there : (before last used : ℕ) → EndsIn o b before last
-      → (used ≤ 15) × ((slot : ℕ) → slot < used → entry_in o last slot ≢ 0) × (used < 15 → entry_in o last used ≡ 0)
+      → (used ≤ SLOTS) × ((slot : ℕ) → slot < used → entry_in o last slot ≢ 0) × (used < SLOTS → entry_in o last used ≡ 0)
       → EndsAt o b (record { before = before; bucket = last; used = used })
   end_there before last used ends slots = record { buckets = ends; within = slots.0; used = used_is }
     where
-      entry : (slot : ℕ) → slot < 15 → at (entries_of o b) (15 * length v.behind + slot) ≡ entry_in o last slot
+      entry : (slot : ℕ) → slot < SLOTS → at (entries_of o b) (SLOTS * length v.behind + slot) ≡ entry_in o last slot
       entry slot low = sym (v.filled.entries (length v.behind) slot (omega arith) low) ∙ ap (λ (z : ℕ). entry_in o z slot) (last_bucket before last ends)
 
-      used_is : length (entries_of o b) + 15 ≡ 15 * length (buckets_of o b) + used
+      used_is : length (entries_of o b) + SLOTS ≡ SLOTS * length (buckets_of o b) + used
       used_is =
-          let size = ap length list in
-          let full = v.filled.size in
           let within = slots.0 in
-          let least : 15 * length v.behind + used ≤ length (entries_of o b) = dite (ℕ_discrete used 0)
-          (λ none. omega arith)
-          (λ some. let more = below (entries_of o b) (15 * length v.behind + (used - 1)) (λ e. slots.1 (used - 1) (omega arith) (sym (entry (used - 1) (omega arith)) ∙ e)) in omega arith) in
-          let most : length (entries_of o b) ≤ 15 * length v.behind + used = elim (cases_lt (15 * length v.behind + used) (length (entries_of o b))) [
-            | inl less ↦ absurd (v.filled.used (15 * length v.behind + used) 0 less (entry used (omega arith) ∙ slots.2 (omega arith)))
-            | inr few ↦ few
-          ] in
-          omega arith
+          let more = below (entries_of o b) (SLOTS * length v.behind + (used - 1)) in
+          let most = v.filled.used (SLOTS * length v.behind + used) 0 in
+          grind (arith, ap length list, v.filled.size, slots.1 (used - 1), slots.2, entry (used - 1), entry used)

@@ -1,7 +1,7 @@
-use Rattle.chained_index.proofs.Words.{◌≡◌, ℕ, ◌-◌, ◌≤◌, rules, ◌∙◌, List, sym, ap, subst, arith, length, vec_len, vec_capacity, OwnerState, Shape}
-use Rattle.chained_index.proofs.Words.{PutsEntry, PutsLink, IsBucket, entry_in, MayPutEntry, MayPutLink, after, Kept, Index, IsIndexOf}
+use Rattle.chained_index.proofs.Words.{◌≡◌, ℕ, inl, refl, ◌-◌, ◌≤◌, rules, ◌∙◌, List, sym, ap, subst, arith, length, vec_len, vec_capacity}
+use Rattle.chained_index.proofs.Words.{OwnerState, Shape, PutsEntry, PutsLink, IsBucket, entry_in, after, Kept, Index, IsIndexOf}
 use Rattle.chained_index.proofs.Chained.{chained}
-use Rattle.chained_index.proofs.Allowed.{may_enter, may_cut, still_in}
+use Rattle.chained_index.proofs.Allowed.{may_enter, may_link, still_in}
 use Rattle.chained_index.proofs.Calls.{Call, call_at, end_in_chain, end_inside, before_in_chain, used_some, release_room, drop, release}
 use Rattle.chained_index.proofs.index.ChainedIndex.remove.Given.{Over}
 use Rattle.chained_index.proofs.index.ChainedIndex.remove.Goals as goal
@@ -34,10 +34,8 @@ put_entry-requires-2 g c =
     let call = call g (goal.at.put_entry-requires-2 g c).After-end_of-end in
     let within = call.ends.within in
     let some = used_some _ _ _ _ call c.args.spot c.requires.spot in
-    subst (λ (z : OwnerState). MayPutEntry z c.end_of-end.result.bucket (c.end_of-end.result.used - 1)) (sym (first g (goal.at.put_entry-requires-2 g c).After-put_entry))
-    (may_enter _ c.args.bucket c.requires.marked _ _
-    (still_in _ call.v.s _ call.v.main c.requires.marked c.args.spot.bucket c.args.spot.slot c.read-entry.result c.requires.spot.in_bucket _ (end_in_chain _ _ _ _ call))
-    (omega arith))
+    may_enter _ c.args.bucket c.requires.marked _ (first g (goal.at.put_entry-requires-2 g c).After-put_entry) _ _
+    (inl (still_in _ call.v.s _ call.v.main c.requires.marked _ _ _ c.requires.spot.in_bucket _ (end_in_chain _ _ _ _ call))) (omega arith)
 
 pub put_link-requires : goal.put_link-requires
 put_link-requires g c =
@@ -46,12 +44,9 @@ put_link-requires g c =
     let within = call.ends.within in
     let some = used_some _ _ _ _ call c.args.spot c.requires.spot in
     let end = c.end_of-end.result in
-    let store : OwnerState → OwnerState = after (PutsEntry c.args.spot.bucket c.args.spot.slot c.read-entry.result) in
-    let m : OwnerState = store (g.W.OwnerWords.owner c.args.words.now) in
-    subst (λ (z : OwnerState). MayPutLink z end.before 0) (sym (c.put_entry-2.ensures.event ∙ ap (after (PutsEntry end.bucket (end.used - 1) 0)) is))
-    (may_cut m (chained m (subst Kept is c.put_entry.ensures.kept)) c.args.bucket call.v.main c.requires.marked end.bucket (end.used - 1) 0 (omega arith) _
-    (still_in _ call.v.s _ call.v.main c.requires.marked c.args.spot.bucket c.args.spot.slot c.read-entry.result c.requires.spot.in_bucket _
-    (before_in_chain _ _ _ _ call c.if-end-bucket.true)))
+    may_link _ (chained _ (subst Kept is c.put_entry.ensures.kept)) c.args.bucket call.v.main c.requires.marked end.bucket (end.used - 1) 0 (omega arith) _
+    (c.put_entry-2.ensures.event ∙ ap (after (PutsEntry end.bucket (end.used - 1) 0)) is) _ _
+    (still_in _ call.v.s _ call.v.main c.requires.marked _ _ _ c.requires.spot.in_bucket _ (before_in_chain _ _ _ _ call c.if-end-bucket.true)) (inl refl)
 
 pub push_reserved-requires : goal.push_reserved-requires
 push_reserved-requires g c =
