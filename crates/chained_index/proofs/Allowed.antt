@@ -1,8 +1,7 @@
 -- When the stores of a call may happen: its bucket is marked, and they go to buckets of its chain or to a free spare.
-use Rattle.chained_index.proofs.Words.{◌≡◌, ◌≢◌, ℕ, ◌<◌, ◌≤◌, inl, inr, ◌⊎◌, refl, sym, ◌∙◌, subst, arith, entry_of, OwnerState, Phase, Idle, Begun}
-use Rattle.chained_index.proofs.Words.{Marked, PutsEntry, IsMain, link_in, marked_in, InChain, IsFreeSpare, WhenMarked, IsItsBucket, MayPutEntry}
-use Rattle.chained_index.proofs.Words.{MayPutLink, after, link_puts_entry, bit_is, bit_same}
-use Rattle.chained_index.proofs.Words.{IsBucket, entry_at, length, length-set}
+use Rattle.chained_index.proofs.Words.{SLOTS, ◌≡◌, ◌≢◌, ℕ, ◌<◌, ◌≤◌, inl, inr, ◌⊎◌, refl, sym, ◌∙◌, subst, arith, entry_of, OwnerState, Phase, Idle}
+use Rattle.chained_index.proofs.Words.{Begun, Marked, PutsEntry, IsMain, link_in, marked_in, InChain, IsFreeSpare, WhenMarked, IsItsBucket}
+use Rattle.chained_index.proofs.Words.{MayPutEntry, MayPutLink, after, link_puts_entry, bit_is, bit_same, IsBucket, entry_at, length, length-set}
 use Rattle.chained_index.proofs.Chained.{Chained, all_on, free_on}
 
 -- an entry is not 0, as its tag is not
@@ -27,17 +26,14 @@ marked_any (Begun b) R h = absurd h
 marked_any (Marked b write before) R h = h
 
 module _ (o : OwnerState) (b : ℕ) (one : marked_in o.phase b ≡ 1) where
-  its_own : (c : ℕ) → InChain o b c → IsItsBucket o c
-  its_own c h = when_marked o.phase b (λ d. InChain o d c ⊎ IsFreeSpare o c) one (inl h)
+  its_own : (c : ℕ) → InChain o b c ⊎ IsFreeSpare o c → IsItsBucket o c
+  its_own c h = when_marked o.phase b (λ d. InChain o d c ⊎ IsFreeSpare o c) one h
 
-  pub may_enter : (c slot : ℕ) → InChain o b c → slot < 15 → MayPutEntry o c slot
-  may_enter c slot h low = record { its_bucket = its_own c h; in_bucket = low }
-
-  pub may_begin : (c : ℕ) → IsFreeSpare o c → MayPutEntry o c 0
-  may_begin c f = record { its_bucket = when_marked o.phase b (λ d. InChain o d c ⊎ IsFreeSpare o c) one (inr f); in_bucket = omega arith }
+  pub may_enter : (n : OwnerState) → n ≡ o → (c slot : ℕ) → InChain o b c ⊎ IsFreeSpare o c → slot < SLOTS → MayPutEntry n c slot
+  may_enter n is c slot h low = subst (λ (z : OwnerState). MayPutEntry z c slot) (sym is) record { its_bucket = its_own c h; in_bucket = low }
 
 -- The same after a store of an entry, which changes no chain
-module _ (o : OwnerState) (s : Chained o) (b : ℕ) (main : IsMain o.shape b) (one : marked_in o.phase b ≡ 1) (c slot x : ℕ) (low : slot < 15) where
+module _ (o : OwnerState) (s : Chained o) (b : ℕ) (main : IsMain o.shape b) (one : marked_in o.phase b ≡ 1) (c slot x : ℕ) (low : slot < SLOTS) where
   abbrev m : OwnerState
   m = after (PutsEntry c slot x) o
 
@@ -51,8 +47,8 @@ module _ (o : OwnerState) (s : Chained o) (b : ℕ) (main : IsMain o.shape b) (o
   still_in = all_on o m.words o.history o.phase long s links_same b main
 
   -- a blank spare may be linked, or a link cut
-  pub may_link : (d next : ℕ) → InChain o b d → IsFreeSpare o next → link_in o next ≡ 0 → MayPutLink m d next
-  may_link d next h f none = record { its_bucket = its_own m b one d (still_in d h); free = inr (free_on o m.words o.history o.phase long s links_same next f, links_same next f.spare.1 ∙ none) }
-
-  pub may_cut : (d : ℕ) → InChain o b d → MayPutLink m d 0
-  may_cut d h = record { its_bucket = its_own m b one d (still_in d h); free = inl refl }
+  pub may_link : (n : OwnerState) → n ≡ m → (d next : ℕ) → InChain o b d → (next ≡ 0) ⊎ (IsFreeSpare o next × (link_in o next ≡ 0)) → MayPutLink n d next
+  may_link n is d next h free = subst (λ (z : OwnerState). MayPutLink z d next) (sym is) record {
+    its_bucket = its_own m b one d (inl (still_in d h));
+    free = elim free [ inl none ↦ inl none | inr f ↦ inr (free_on o m.words o.history o.phase long s links_same next f.0, links_same next f.0.spare.1 ∙ f.1) ];
+  }

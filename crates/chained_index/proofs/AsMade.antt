@@ -1,13 +1,10 @@
 -- The index of words as made.
-use Rattle.chained_index.proofs.Words.{◌≡◌, ℕ, ◌+◌, ◌-◌, ◌<◌, inl, inr, List, length, get_or, replicate, refl, sym, ◌∙◌, arith, cases_lt}
-use Rattle.chained_index.proofs.Words.{get_or-replicate, get_or_past, get_or_default, length-replicate, Shape, OwnerState, entry_at, link_at}
-use Rattle.chained_index.proofs.Words.{word_count, entry_in, link_in, as_made, InChain, IsIndexOf}
+use Rattle.chained_index.proofs.Words.{◌≡◌, ℕ, ◌+◌, ◌-◌, ◌<◌, inl, inr, List, length, get_or, replicate, refl, sym, ◌∙◌, arith, get_or_past}
+use Rattle.chained_index.proofs.Words.{get_or_default, Shape, OwnerState, entry_at, link_at, common_steps, word_count, entry_in, link_in, as_made}
+use Rattle.chained_index.proofs.Words.{InChain, IsIndexOf}
 
 all_zero : (n i : ℕ) → get_or {A = ℕ} (replicate n 0) i 0 ≡ 0
-all_zero n i = elim (cases_lt i n) [
-  | inl less ↦ get_or-replicate n i 0 0 less
-  | inr more ↦ get_or_past (replicate n 0) i 0 (omega (arith, length-replicate {A = ℕ} n 0))
-]
+all_zero n i = grind (arith, common_steps, get_or_past)
 
 module _ (shape : Shape) where
   abbrev o : OwnerState
@@ -37,18 +34,11 @@ module _ (shape : Shape) where
         some = λ c h other none. other (sym (alone b c h));
       };
       free = λ c. (
-        λ has.
-            let below : has.0 < shape.spares = omega (arith, has.1) in
-            let is = read has.0 c below in
-            record {
-              spare = (omega (arith, has.2), omega (arith, has.2));
-              free = λ b main h. let same = alone b c h in omega (arith, has.2);
-            },
-        λ f.
-            let low = f.spare.0 in
-            let high = f.spare.1 in
-            let below : c - shape.buckets < shape.spares = omega arith in
-            (c - shape.buckets, omega arith, read (c - shape.buckets) c below ∙ omega arith),
+        λ has. let is = read has.0 c (omega (arith, has.1)) in record {
+          spare = (omega (arith, has.1, has.2), omega (arith, has.1, has.2));
+          free = λ b main h. let same = alone b c h in omega (arith, has.1, has.2);
+        },
+        λ f. let low = f.spare.0 in let high = f.spare.1 in (c - shape.buckets, omega arith, read (c - shape.buckets) c (omega arith) ∙ omega arith),
       );
       once = λ i j d less within same. let one = read i d (omega arith) in let two = read j d (omega arith) in omega arith;
       blank = λ c f. record { no_link = no_link c; no_entry = λ slot low. no_entry c slot };

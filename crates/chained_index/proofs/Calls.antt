@@ -1,38 +1,43 @@
 -- What the stores of each call make of a chain and its index.
-use Rattle.chained_index.proofs.Words.{◌≡◌, ◌≢◌, ℕ, suc, ◌+◌, ◌-◌, ◌*◌, ◌<◌, ◌≤◌, inl, inr, ◌⊎◌, List, [], ◌∷◌, ◌++◌, length, take, set, refl, sym}
-use Rattle.chained_index.proofs.Words.{ap, ◌∙◌, subst, arith, length-set, Contains, swap_remove, Contains-push, OwnerState, PutsEntry, PutsLink}
-use Rattle.chained_index.proofs.Words.{IsMain, IsBucket, entry_in, marked_in, InChain, IsFreeSpare, after, Kept, link_puts_entry, ends_main, Spot}
-use Rattle.chained_index.proofs.Words.{ChainEnd, buckets_of, entries_of, number_of, entries_without, IsUsed, EndsAt, ChangesChain, Index, IsIndexOf}
-use Rattle.chained_index.proofs.Words.{LacksPlace}
-use Rattle.chained_index.proofs.Lists.{at}
-use Rattle.chained_index.proofs.Paths.{one_place}
-use Rattle.chained_index.proofs.Chained.{Chained, chained, chain_is, inside, in_chain, kept_chain, chained_before}
-use Rattle.chained_index.proofs.Counted.{room_for}
-use Rattle.chained_index.proofs.Filled.{View, view}
-use Rattle.chained_index.proofs.Frames.{changes_then}
+use Rattle.chained_index.proofs.Words.{SLOTS, ◌≡◌, ◌≢◌, ℕ, ◌+◌, ◌-◌, ◌*◌, ◌<◌, ◌≤◌, ◌⊎◌, List, [], ◌∷◌, ◌++◌, length, take, set, refl, sym, ap, ◌∙◌}
+use Rattle.chained_index.proofs.Words.{subst, arith, length-set, Contains, Contains-push, OwnerState, PutsEntry, PutsLink, IsMain, IsBucket, entry_in}
+use Rattle.chained_index.proofs.Words.{marked_in, InChain, IsFreeSpare, after, Kept, ends_main, Spot, ChainEnd, buckets_of, entries_of, number_of}
+use Rattle.chained_index.proofs.Words.{entries_without, IsUsed, EndsAt, Index, IsIndexOf, LacksPlace, last_of, link_in, in_chain, all_differ, at_most}
+use Rattle.chained_index.proofs.Words.{Contains-get_or, take-length, take-suc, length-take, length-append, length_push, common_steps, append-nil}
+use Rattle.chained_index.proofs.Words.{subst₂, inr, inl, IsPermutation, IsPermutation-sym, IsBlank, Contains-append_left, Contains-push_cases}
+use Rattle.chained_index.proofs.Words.{get_or_append_left, words_after, entries_with, get_or-set_same, get_or-set_other, get_or_push, get_or-take}
+use Rattle.chained_index.proofs.Words.{get_or_past, All-push, All-set, All-take}
+use Rattle.chained_index.proofs.Lists.{at, AllUsed, at-push_other, one_place}
+use Rattle.chained_index.proofs.Paths.{last_at, step_on}
+use Rattle.chained_index.proofs.Chained.{chained, chain_inside, chained_before}
+use Rattle.chained_index.proofs.Changed.{Leaves, spares_differ, spares_are}
+use Rattle.chained_index.proofs.Filled.{View, view, view_read}
 use Rattle.chained_index.proofs.Numbers.{place, number_is, is_within}
-use Rattle.chained_index.proofs.Stored.{pushed, changed, dropped, taken, released}
+use Rattle.chained_index.proofs.Walking.{list, last_bucket}
+use Rattle.chained_index.proofs.Stored.{Entered, none_entered, with_free, entered, kept_buckets, link_here, link_else, same_entry, relinks, moves}
+use Rattle.chained_index.proofs.Stored.{not_free}
 
 -- The entry of a used spot is changed.
-module _ (o : OwnerState) (index : Index) (b : ℕ) (v : View o index b) (spot : Spot) (u : IsUsed o b spot)
-    (x : ℕ) (some : x ≢ 0) where
-  pub spot_set : (p : OwnerState) → Kept p → p ≡ after (PutsEntry spot.bucket spot.slot x) o
-      → ChangesChain o p b (set (entries_of o b) (number_of o b spot) x) × IsIndexOf index p
-  spot_set p kept is =
-      let here = place o index b v spot u in
+module _ (o : OwnerState) (index : Index) (b : ℕ) (v : View o index b) (spot : Spot) (u : IsUsed o b spot) (x y : ℕ) (is : x ≡ y) where
+  spot_entered : Entered o index b v (b ∷ v.behind) (words_after (PutsEntry spot.bucket spot.slot x) o) (set (entries_of o b) (number_of o b spot) y)
+  spot_entered =
+      let xs : List ℕ = entries_of o b in
+      let at_k = place o index b v spot u in
       let number = number_is o index b v spot u in
-      let less = is_within o index b v spot u in
-      subst (λ (z : OwnerState). ChangesChain o z b (set (entries_of o b) (number_of o b spot) x) × IsIndexOf index z) (sym is)
-      (subst (λ (z : ℕ). ChangesChain o (after (PutsEntry spot.bucket spot.slot x) o) b (set (entries_of o b) z x) × IsIndexOf index (after (PutsEntry spot.bucket spot.slot x) o)) (sym number)
-      (changed o index b v here.0 spot.bucket spot.slot x here.1 here.2 u.in_bucket (subst Chained is (chained p kept)) some (omega arith)))
+      entered o index b v (none_entered o index b v) at_k.0 spot.bucket spot.slot x at_k.1 at_k.2 u.in_bucket (set xs (number_of o b spot) y)
+      (ap (at (set xs (number_of o b spot) y)) (sym number) ∙ (get_or-set_same xs (number_of o b spot) y 0 (is_within o index b v spot u) ∙ sym is))
+      (λ i n. get_or-set_other xs (number_of o b spot) i y 0 (λ e. n (e ∙ number)))
 
--- the same where the owner's fact is known after the store alone
+-- where the owner's fact is known after the store alone
 pub replaced : (o p : OwnerState) → Kept p → (spot : Spot) (x : ℕ) → x ≢ 0 → p ≡ after (PutsEntry spot.bucket spot.slot x) o → (b : ℕ) → marked_in o.phase b ≡ 1
-    → IsUsed o b spot → (index : Index) → IsIndexOf index o → ChangesChain o p b (set (entries_of o b) (number_of o b spot) x) × IsIndexOf index p
+    → IsUsed o b spot → (index : Index) → IsIndexOf index o → Leaves o b index (entries_with o b spot x) p
 replaced o p kept spot x some is b one u index known =
     let stored = subst Kept is kept in
-    let s = chained_before o spot.bucket spot.slot x u.in_bucket (chained (after (PutsEntry spot.bucket spot.slot x) o) stored) in
-    spot_set o index b (view o s index known b (ends_main (after (PutsEntry spot.bucket spot.slot x) o) stored o.phase refl b one)) spot u x some p kept is
+    let t = chained (after (PutsEntry spot.bucket spot.slot x) o) stored in
+    let v = view o (chained_before o spot.bucket spot.slot x u.in_bucket t) index known b (ends_main (after (PutsEntry spot.bucket spot.slot x) o) stored o.phase refl b one) in
+    let xs : List ℕ = entries_of o b in
+    kept_buckets o index b v (spot_entered o index b v spot u x x refl) p kept is (All-set (λ z. z ≢ 0) xs (number_of o b spot) x some v.filled.used)
+    (omega (arith, v.filled.size, length-set xs (number_of o b spot) x))
 
 -- A call in the chain of a main bucket that ends here.
 pub record Call (o : OwnerState) (index : Index) (b : ℕ) (end : ChainEnd) : Type 0 where
@@ -41,160 +46,172 @@ pub record Call (o : OwnerState) (index : Index) (b : ℕ) (end : ChainEnd) : Ty
 
 -- as `end_of` leaves it
 pub call_at : (o n : OwnerState) (index : Index) (b : ℕ) (end : ChainEnd) → n ≡ o → Kept n → IsIndexOf index o → IsMain o.shape b → EndsAt o b end → Call o index b end
-call_at o n index b end same kept known main ends = record { v = view o (chained o (subst Kept same kept)) index known b main; ends = ends }
+call_at o n index b end same kept known main ends = record { v = view_read o n index b same kept known main; ends = ends }
 
 module _ (o : OwnerState) (index : Index) (b : ℕ) (end : ChainEnd) (call : Call o index b end) where
+  abbrev behind : List ℕ
+  behind = call.v.behind
+
   abbrev cs : List ℕ
-  cs = buckets_of o b
+  cs = b ∷ behind
 
   abbrev xs : List ℕ
   xs = entries_of o b
 
-  -- the place of the last bucket
-  last : (n : ℕ) × (length cs ≡ suc n) × (at cs n ≡ end.bucket)
-  last =
-      let some = call.v.chain.path.some in
-      let size : length cs ≡ suc (length cs - 1) = omega arith in
-      (length cs - 1, size, call.ends.buckets.last (length cs - 1) size)
+  is_list : buckets_of o b ≡ cs
+  is_list = list o index b call.v
 
-  -- and of the one before it
-  before : end.bucket ≢ b → (n : ℕ) × (length cs ≡ suc (suc n)) × (at cs n ≡ end.before)
-  before n =
-      let first = call.v.chain.path.first in
-      let more : last.0 ≢ 0 = λ none. n (sym last.2 ∙ (ap (at cs) none ∙ first)) in
-      let size : length cs ≡ suc (suc (last.0 - 1)) = omega (arith, last.1) in
-      (last.0 - 1, size, call.ends.buckets.before (last.0 - 1) size)
+  last : at cs (length behind) ≡ end.bucket
+  last = last_bucket o index b call.v end.before end.bucket call.ends.buckets
 
-  size : length xs + 15 ≡ 15 * length cs + end.used
-  size = call.ends.used
+  last_is : last_of b behind ≡ end.bucket
+  last_is = ap (last_of b) (sym (take-length behind)) ∙ (last_at b behind (length behind) (omega arith) ∙ last)
+
+  some_behind : end.bucket ≢ b → 0 < length behind
+  some_behind n = grind (arith, common_steps, last)
+
+  before : end.bucket ≢ b → at cs (length behind - 1) ≡ end.before
+  before n = grind (arith, some_behind n, is_list, call.ends.buckets.before (length behind - 1))
+
+  size : length xs + SLOTS ≡ SLOTS * length cs + end.used
+  size = omega (arith, call.ends.used, ap length is_list)
+
+  own : (k : ℕ) → k < length cs → InChain o b (at cs k)
+  own k l = in_chain o b behind call.v.chain (at cs k) (Contains-get_or cs k 0 l)
 
   pub end_in_chain : InChain o b end.bucket
-  end_in_chain = subst (InChain o b) last.2 (in_chain o b cs call.v.chain last.0 (omega (arith, last.1)))
+  end_in_chain = subst (InChain o b) last (own (length behind) (omega arith))
 
   pub end_inside : IsBucket o.shape end.bucket
-  end_inside = subst (IsBucket o.shape) last.2 (inside o b cs call.v.chain last.0 (omega (arith, last.1)))
+  end_inside = chain_inside o call.v.s b end.bucket call.v.main end_in_chain
 
   pub before_in_chain : end.bucket ≢ b → InChain o b end.before
-  before_in_chain n = let at_n = before n in
-      subst (InChain o b) at_n.2 (in_chain o b cs call.v.chain at_n.0 (omega (arith, at_n.1)))
+  before_in_chain n = subst (InChain o b) (before n) (own (length behind - 1) (omega arith))
 
   -- the chain lacks a place where the last bucket is full and no spare is free
-  pub lacks : 15 ≤ end.used → index.free ≡ [] → LacksPlace index o b
-  lacks full none =
-      let within = call.ends.within in
-      record { some = omega (arith, last.1, size); full = omega (arith, size); none_free = none }
+  pub lacks : SLOTS ≤ end.used → index.free ≡ [] → LacksPlace index o b
+  lacks full none = let within = call.ends.within in record { some = omega (arith, size); full = omega (arith, size); none_free = none }
 
-  pub full_last : LacksPlace index o b → end.used ≡ 15
-  full_last l =
-      let within = call.ends.within in
-      let some = l.some in
-      let full = l.full in
-      omega (arith, size, call.v.filled.size)
+  pub full_last : LacksPlace index o b → end.used ≡ SLOTS
+  full_last l = omega (arith, call.ends.within, l.some, l.full, size, call.v.filled.size)
 
   -- An entry is added
 
-  pub added : (x : ℕ) → x ≢ 0 → (low : end.used < 15) → (p : OwnerState) → Kept p → p ≡ after (PutsEntry end.bucket end.used x) o
-      → ChangesChain o p b (xs ++ x ∷ []) × IsIndexOf index p
-  added x some low p kept is = subst (λ (z : OwnerState). ChangesChain o z b (xs ++ x ∷ []) × IsIndexOf index z) (sym is)
-      (pushed o index b call.v last.0 end.bucket end.used x (omega (arith, last.1)) last.2 low (subst Chained is (chained p kept))
-      some (omega (arith, last.1, size)) last.1)
+  pub added : (x : ℕ) → x ≢ 0 → (low : end.used < SLOTS) → (p : OwnerState) → Kept p → p ≡ after (PutsEntry end.bucket end.used x) o → Leaves o b index (xs ++ x ∷ []) p
+  added x some low p kept is =
+      let full : SLOTS * length behind + end.used ≡ length xs = omega (arith, size) in
+      kept_buckets o index b call.v (entered o index b call.v (none_entered o index b call.v) (length behind) end.bucket end.used x (omega arith) last low
+      (xs ++ x ∷ []) (get_or_push xs x 0 (SLOTS * length behind + end.used) (sym full)) (λ i n. at-push_other xs x i (λ e. n (e ∙ sym full))))
+      p kept is (All-push (λ z. z ≢ 0) xs x call.v.filled.used some) (omega (arith, full, length_push xs x))
 
   pub last_free : (rest : List ℕ) (next : ℕ) → index.free ≡ rest ++ next ∷ [] → IsFreeSpare o next
   last_free rest next split = (call.v.known.free next).0 (subst (λ (z : List ℕ). Contains z next) (sym split) (Contains-push rest next))
 
-  pub added_behind : (x next : ℕ) (rest : List ℕ) → x ≢ 0 → 15 ≤ end.used → index.free ≡ rest ++ next ∷ [] → (m p : OwnerState) → Kept m → Kept p
-      → m ≡ after (PutsEntry next 0 x) o → p ≡ after (PutsLink end.bucket next) m
-      → ChangesChain o p b (xs ++ x ∷ []) × IsIndexOf (record { shape = index.shape; free = rest }) p
-  added_behind x next rest some full split m p middle kept first second =
-      let is = second ∙ ap (after (PutsLink end.bucket next)) first in
+  pub added_behind : (x next : ℕ) (rest : List ℕ) → x ≢ 0 → SLOTS ≤ end.used → index.free ≡ rest ++ next ∷ [] → (p : OwnerState) → Kept p
+      → p ≡ after (PutsLink end.bucket next) (after (PutsEntry next 0 x) o) → Leaves o b (record { shape = index.shape; free = rest }) (xs ++ x ∷ []) p
+  added_behind x next rest some full split p kept is =
+      let free = last_free rest next split in
       let within = call.ends.within in
-      subst (λ (z : OwnerState). ChangesChain o z b (xs ++ x ∷ []) × IsIndexOf (record { shape = index.shape; free = rest }) z) (sym is)
-      (taken o index b call.v last.0 end.bucket next x last.1 last.2 (omega (arith, size)) (last_free rest next split) some
-      (subst Chained first (chained m middle)) (subst Chained is (chained p kept)) rest split)
+      let place : SLOTS * length cs + 0 ≡ length xs = omega (arith, size) in
+      let stored = entered o index b call.v (with_free o index b call.v next free (omega (arith, size))) (length cs) next 0 x (omega (arith, length_push cs next))
+      (get_or_push cs next 0 (length cs) refl) (omega arith)
+      (xs ++ x ∷ []) (get_or_push xs x 0 (SLOTS * length cs + 0) (sym place)) (λ i n. at-push_other xs x i (λ e. n (e ∙ sym place))) in
+      let whole = sym (append-nil behind) in
+      relinks o index b call.v stored end.bucket next behind [] last_is whole (next ∷ []) (
+        link_here o index b call.v stored end.bucket next behind [] last_is whole,
+        (λ none. let low = free.spare.0 in let main = call.v.main in omega arith),
+        link_else o index b call.v stored end.bucket next behind [] last_is whole next (λ e. free.free b call.v.main (subst (InChain o b) (sym e) end_in_chain))
+            ∙ (call.v.known.blank next free).no_link,
+      )
+      (λ k l. (l, refl)) (λ d i. inr i) rest
+      (subst (λ (z : List ℕ). IsPermutation (z ++ behind) (rest ++ (behind ++ next ∷ []))) (sym split) (moves rest behind next))
+      (λ c i has. absurd (not_free o index b call.v c i (subst (λ (z : List ℕ). Contains z c) (sym split) (Contains-append_left rest (next ∷ []) c has))))
+      (All-push (λ z. z ≢ 0) xs x call.v.filled.used some) (omega (arith, place, length_push cs next, length_push xs x)) p kept is
 
-  -- The last one is dropped
+  -- An entry is removed: the last goes into its spot, and is dropped
 
-  -- its bucket stays where it is the main one or has more entries
-  pub drop : 0 < end.used → ((end.used - 1 ≡ 0) × (end.bucket ≡ b)) ⊎ (end.used - 1 ≢ 0) → (p : OwnerState) → Kept p
-      → p ≡ after (PutsEntry end.bucket (end.used - 1) 0) o → ChangesChain o p b (take (length xs - 1) xs) × IsIndexOf index p
-  drop some either p kept is = subst (λ (z : OwnerState). ChangesChain o z b (take (length xs - 1) xs) × IsIndexOf index z) (sym is)
-      (dropped o index b call.v last.0 end.bucket (end.used - 1) 0 (omega (arith, last.1)) last.2 (omega (arith, call.ends.within))
-      (subst Chained is (chained p kept)) refl (omega (arith, last.1, size)) last.1 (stays either))
-    where
-      stays : ((end.used - 1 ≡ 0) × (end.bucket ≡ b)) ⊎ (end.used - 1 ≢ 0) → (last.0 ≡ 0) ⊎ (0 < end.used - 1)
-      stays (inl e) = let path = call.v.chain.path in
-          inl (one_place o b cs path last.0 0 (omega (arith, last.1)) path.some (last.2 ∙ (e.1 ∙ sym path.first)))
-      stays (inr n) = inr (omega arith)
-
-  pub release : 0 < end.used → end.used - 1 ≡ 0 → end.bucket ≢ b → (m p : OwnerState) → Kept m → Kept p
-      → m ≡ after (PutsEntry end.bucket (end.used - 1) 0) o → p ≡ after (PutsLink end.before 0) m
-      → ChangesChain o p b (take (length xs - 1) xs) × IsIndexOf (record { shape = index.shape; free = index.free ++ end.bucket ∷ [] }) p
-  release some none n m p middle kept first second =
-      let empty : m ≡ after (PutsEntry end.bucket 0 0) o = first ∙ ap (λ (z : ℕ). after (PutsEntry end.bucket z 0) o) none in
-      let is = second ∙ ap (after (PutsLink end.before 0)) empty in
-      let at_n = before n in
-      subst (λ (z : OwnerState). ChangesChain o z b (take (length xs - 1) xs) × IsIndexOf (record { shape = index.shape; free = index.free ++ end.bucket ∷ [] }) z) (sym is)
-      (released o index b call.v at_n.0 end.before end.bucket at_n.1 (call.ends.buckets.last (suc at_n.0) at_n.1) at_n.2 (omega (arith, at_n.1, size))
-      (subst Chained empty (chained m middle)) (subst Chained is (chained p kept)))
-
-  -- so there is room for its bucket in the list of free spares
+  -- there is room for its bucket in the list of free spares
   pub release_room : end.bucket ≢ b → length index.free < o.shape.spares
   release_room n =
-      let at_n = before n in
-      let spare = call.v.chain.spare at_n.0 (omega (arith, at_n.1)) in
-      let is = call.ends.buckets.last (suc at_n.0) at_n.1 in
-      room_for index.free end.bucket o.shape.buckets o.shape.spares call.v.known.once
-      (λ has. ((call.v.known.free end.bucket).0 has).free b call.v.main end_in_chain)
-      (λ c has. ((call.v.known.free c).0 has).spare)
-      (omega (arith, spare.0)) (omega (arith, spare.1))
-
-  -- An entry is removed: the last goes into its spot
+      let few = at_most (index.free ++ behind) o.shape.buckets o.shape.spares (spares_differ o index b call.v) (λ c i. ((spares_are o index b call.v c).0 i).0) in
+      omega (arith, some_behind n, length-append index.free behind)
 
   module _ (spot : Spot) (u : IsUsed o b spot) where
     pub used_some : 0 < end.used
     used_some = omega (arith, is_within o index b call.v spot u, size, call.v.filled.size)
 
-    module _ (y : ℕ) (is_last : y ≡ entry_in o end.bucket (end.used - 1)) (m : OwnerState) (t : Kept m) (first : m ≡ after (PutsEntry spot.bucket spot.slot y) o) where
+    module _ (y : ℕ) (is_last : y ≡ entry_in o end.bucket (end.used - 1)) where
+      abbrev m : OwnerState
+      m = after (PutsEntry end.bucket (end.used - 1) 0) (after (PutsEntry spot.bucket spot.slot y) o)
+
+      abbrev moved : List ℕ
+      moved = set xs (number_of o b spot) (at xs (length xs - 1))
+
+      abbrev ys : List ℕ
+      ys = entries_without o b spot
+
+      there : SLOTS * length behind + (end.used - 1) ≡ length xs - 1
+      there = let some = used_some in omega (arith, size)
+
+      long : length ys ≡ length xs - 1
+      long = let size = length-set xs (number_of o b spot) (at xs (length xs - 1)) in omega (arith, length-take (length xs - 1) moved)
+
       value : y ≡ at xs (length xs - 1)
-      value =
-          let low = used_some in
+      value = grind (arith, used_some, call.ends.within, is_last, last, there, call.v.filled.entries (length behind) (end.used - 1))
+
+      dropped : Entered o index b call.v cs m.words ys
+      dropped =
+          let some = used_some in
           let within = call.ends.within in
-          let there : 15 * last.0 + (end.used - 1) ≡ length xs - 1 = omega (arith, last.1, size) in
-          is_last ∙ (ap (λ (z : ℕ). entry_in o z (end.used - 1)) (sym last.2)
-          ∙ (call.v.filled.entries last.0 (end.used - 1) (omega (arith, last.1)) (omega arith) ∙ ap (at xs) there))
+          entered o index b call.v (spot_entered o index b call.v spot u y (at xs (length xs - 1)) value) (length behind) end.bucket (end.used - 1) 0
+          (omega arith) last (omega arith) ys (get_or_past ys (SLOTS * length behind + (end.used - 1)) 0 (omega (arith, there, long)))
+          (λ i n. let size = length-set xs (number_of o b spot) (at xs (length xs - 1)) in
+          grind (arith, get_or_past ys i 0, get_or_past moved i 0, get_or-take (length xs - 1) moved i 0, long, there))
 
-      moved : ChangesChain o m b (set xs (number_of o b spot) y) × IsIndexOf index m
-      moved = spot_set o index b call.v spot u y
-          (λ none. let less = is_within o index b call.v spot u in
-          call.v.filled.used (length xs - 1) (omega arith) (sym value ∙ none))
-          m t first
+      used : AllUsed ys
+      used = All-take (λ z. z ≢ 0) (length xs - 1) moved (All-set (λ z. z ≢ 0) xs (number_of o b spot) (at xs (length xs - 1))
+          (call.v.filled.used (length xs - 1) 0 (omega (arith, used_some, size))) call.v.filled.used)
 
-      pub call_then : Call m index b end
-      call_then = record {
-        v = view m (chained m t) index moved.1 b (subst (λ (z : OwnerState). IsMain z.shape b) (sym first) call.v.main);
-        ends = record {
-          buckets = record {
-            last = λ k e. ap (λ (z : List ℕ). at z k) same ∙ call.ends.buckets.last k (ap length (sym same) ∙ e);
-            before = λ k e. ap (λ (z : List ℕ). at z k) same ∙ call.ends.buckets.before k (ap length (sym same) ∙ e);
-          };
-          within = call.ends.within;
-          used = omega (arith, ap length same, ap length moved.0.entries, length-set xs (number_of o b spot) y, size);
-        };
-      }
-        where
-          same : buckets_of m b ≡ cs
-          same = ap (λ (z : OwnerState). buckets_of z b) first
-              ∙ chain_is (after (PutsEntry spot.bucket spot.slot y) o) b cs
-              (kept_chain o (after (PutsEntry spot.bucket spot.slot y) o).words o.history o.phase call.v.s b call.v.main
-              (λ c h. link_puts_entry o call.v.s.wide spot.bucket spot.slot y c u.in_bucket))
+      -- its bucket stays where it is the main one or has more entries
+      pub drop : ((end.used - 1 ≡ 0) × (end.bucket ≡ b)) ⊎ (end.used - 1 ≢ 0) → (p : OwnerState) → Kept p → p ≡ m → Leaves o b index ys p
+      drop either p kept is = kept_buckets o index b call.v dropped p kept is used
+          (grind (arith, either, one_place cs (all_differ (link_in o) b behind call.v.chain.behind) (length behind) 0, last, long, size, call.v.filled.size))
 
-      -- what the chain has once the last is dropped too
-      pub without : (p : OwnerState) → ChangesChain m p b (take (length (entries_of m b) - 1) (entries_of m b)) → ChangesChain o p b (entries_without o b spot)
-      without p two = subst (ChangesChain o p b) swapped
-          (changes_then o m p b (set xs (number_of o b spot) y) (take (length (entries_of m b) - 1) (entries_of m b)) moved.0 two)
-        where
-          swapped : take (length (entries_of m b) - 1) (entries_of m b) ≡ swap_remove xs (number_of o b spot) 0
-          swapped =
-              let long : length (entries_of m b) ≡ length xs = ap length moved.0.entries ∙ length-set xs (number_of o b spot) y in
-              ap (λ (z : ℕ). take (z - 1) (entries_of m b)) long
-              ∙ ap (take (length xs - 1)) (moved.0.entries ∙ ap (set xs (number_of o b spot)) value)
+      -- else it is released, which has no other entry
+
+      abbrev ds : List ℕ
+      ds = take (length behind - 1) behind
+
+      split : end.bucket ≢ b → behind ≡ ds ++ end.bucket ∷ []
+      split n = let some = some_behind n in grind (arith, take-suc behind (length behind - 1) 0, take-length behind, last)
+
+      before_is : end.bucket ≢ b → last_of b ds ≡ end.before
+      before_is n = last_at b behind (length behind - 1) (omega arith) ∙ before n
+
+      blank : end.used - 1 ≡ 0 → (n : end.bucket ≢ b) → IsBlank (after (PutsLink end.before 0) m) end.bucket
+      blank none n =
+          let some = some_behind n in
+          let same = same_entry o index b call.v dropped end.before 0 ds (end.bucket ∷ []) (before_is n) (split n) in record {
+            no_link =
+                let else = link_else o index b call.v dropped end.before 0 ds (end.bucket ∷ []) (before_is n) (split n) end.bucket in
+                let differ = one_place cs (all_differ (link_in o) b behind call.v.chain.behind) (length behind) (length behind - 1) in
+                grind (arith, else, differ, before n, last, step_on (link_in o) b behind call.v.chain.behind (length behind));
+            no_entry = λ slot low. grind (arith, same end.bucket slot low, last, dropped.entries (length behind) slot, get_or_past ys (SLOTS * length behind + slot) 0, used_some, size, long);
+          }
+
+      pub release : end.used - 1 ≡ 0 → end.bucket ≢ b → (p : OwnerState) → Kept p → p ≡ after (PutsLink end.before 0) m
+          → Leaves o b (record { shape = index.shape; free = index.free ++ end.bucket ∷ [] }) ys p
+      release none n p kept is =
+          let some = some_behind n in
+          let few = length-take (length behind - 1) behind in
+          let same = append-nil ds in
+          relinks o index b call.v dropped end.before 0 ds (end.bucket ∷ []) (before_is n) (split n) []
+          (link_here o index b call.v dropped end.before 0 ds (end.bucket ∷ []) (before_is n) (split n))
+          (λ k l. grind (arith, same, split n, few, get_or_append_left (b ∷ ds) (end.bucket ∷ []) 0 k)) (λ d i. inl i) (index.free ++ end.bucket ∷ [])
+          (subst₂ (λ (y z : List ℕ). IsPermutation (index.free ++ y) ((index.free ++ end.bucket ∷ []) ++ z)) (sym (split n)) (sym same)
+          (IsPermutation-sym ((index.free ++ end.bucket ∷ []) ++ ds) (index.free ++ (ds ++ end.bucket ∷ [])) (moves index.free ds end.bucket)))
+          (λ c i has. elim (Contains-push_cases index.free end.bucket c has) [
+            | inl was ↦ absurd (not_free o index b call.v c i was)
+            | inr e ↦ subst (IsBlank (after (PutsLink end.before 0) m)) e (blank none n)
+          ])
+          used (omega (arith, used_some, few, long, size, ap length same)) p kept is

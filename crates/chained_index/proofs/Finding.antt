@@ -1,12 +1,11 @@
 -- A search along a chain.
-use Rattle.chained_index.proofs.Words.{◌≡◌, ◌≢◌, ℕ, suc, ◌+◌, ◌*◌, ◌<◌, ◌≤◌, inl, inr, List, length, sym, ap, ◌∙◌, subst, arith, cases_lt, dite}
-use Rattle.chained_index.proofs.Words.{ℕ_discrete, tag_of, entry_tag, entry_offset, OwnerState, entry_in, InChain, HasKey, buckets_of}
-use Rattle.chained_index.proofs.Words.{entries_of, number_of, IsSpotOf, HasNoSpot, Index}
+use Rattle.chained_index.proofs.Words.{SLOTS, ◌≡◌, ◌≢◌, ℕ, suc, ◌+◌, ◌*◌, ◌<◌, ◌≤◌, List, ◌∷◌, length, sym, ap, ◌∙◌, subst, arith, tag_of, entry_tag}
+use Rattle.chained_index.proofs.Words.{entry_offset, OwnerState, entry_in, InChain, HasKey, buckets_of, in_chain, Contains-get_or, entries_of}
+use Rattle.chained_index.proofs.Words.{number_of, IsSpotOf, HasNoSpot, Index}
 use Rattle.chained_index.proofs.Lists.{at}
-use Rattle.chained_index.proofs.Chained.{in_chain}
 use Rattle.chained_index.proofs.Numbers.{is_within, entry_there}
 use Rattle.chained_index.proofs.Filled.{View}
-use Rattle.chained_index.proofs.Walking.{IsAt}
+use Rattle.chained_index.proofs.Walking.{IsAt, list, placed}
 
 -- the entry has the key's tag, and its item the key
 abbrev pub IsOfKey : OwnerState → List ℕ → ℕ → Type 0
@@ -22,13 +21,16 @@ module _ (o : OwnerState) (index : Index) (b : ℕ) (v : View o index b) (key : 
       (subst (IsOfKey o key) (sym (entry_there o index b v spot is.used)) (is.tag, is.item))
 
   module _ (link c : ℕ) (w : IsAt o b link c) where
-    entry_here : (slot : ℕ) → slot < 15 → entry_in o c slot ≡ at (entries_of o b) (15 * link + slot)
-    entry_here slot low = ap (λ (z : ℕ). entry_in o z slot) (sym w.here) ∙ v.filled.entries link slot w.within low
+    here : (link < length (b ∷ v.behind)) × (at (b ∷ v.behind) link ≡ c)
+    here = placed o index b v link c w
 
-    pub spot_found : (slot : ℕ) → slot < 15 → entry_in o c slot ≢ 0 → IsOfKey o key (entry_in o c slot) → IsSpotOf o b key (record { bucket = c; slot = slot })
+    entry_here : (slot : ℕ) → slot < SLOTS → entry_in o c slot ≡ at (entries_of o b) (SLOTS * link + slot)
+    entry_here slot low = ap (λ (z : ℕ). entry_in o z slot) (sym here.1) ∙ v.filled.entries link slot here.0 low
+
+    pub spot_found : (slot : ℕ) → slot < SLOTS → entry_in o c slot ≢ 0 → IsOfKey o key (entry_in o c slot) → IsSpotOf o b key (record { bucket = c; slot = slot })
     spot_found slot low some is = record {
       used = record {
-        in_chain = subst (InChain o b) w.here (in_chain o b (buckets_of o b) v.chain link w.within);
+        in_chain = subst (InChain o b) here.1 (in_chain o b v.behind v.chain (at (b ∷ v.behind) link) (Contains-get_or (b ∷ v.behind) link 0 here.0));
         in_bucket = low;
         used = some;
       };
@@ -37,17 +39,12 @@ module _ (o : OwnerState) (index : Index) (b : ℕ) (v : View o index b) (key : 
     }
 
     -- where a slot is empty, so is all behind it
-    pub none_past_empty : (slot : ℕ) → slot < 15 → entry_in o c slot ≡ 0 → NoneBefore o b key (15 * link + slot) → HasNoSpot o b key
-    none_past_empty slot low empty = none_at_all (15 * link + slot) (elim (cases_lt (15 * link + slot) (length (entries_of o b))) [
-      | inl less ↦ absurd (v.filled.used (15 * link + slot) less (sym (entry_here slot low) ∙ empty))
-      | inr past ↦ past
-    ])
+    pub none_past_empty : (slot : ℕ) → slot < SLOTS → entry_in o c slot ≡ 0 → NoneBefore o b key (SLOTS * link + slot) → HasNoSpot o b key
+    none_past_empty slot low empty = none_at_all (SLOTS * link + slot) (grind (arith, v.filled.used (SLOTS * link + slot) 0, entry_here slot low, empty))
 
     -- where there is no link, there is no other bucket
-    pub none_at_end : length (buckets_of o b) ≡ suc link → NoneBefore o b key (15 * link + 15) → HasNoSpot o b key
-    none_at_end last = none_at_all (15 * link + 15) (omega (arith, last, v.filled.size))
+    pub none_at_end : length (buckets_of o b) ≡ suc link → NoneBefore o b key (SLOTS * link + SLOTS) → HasNoSpot o b key
+    none_at_end last = none_at_all (SLOTS * link + SLOTS) (omega (arith, last, ap length (list o index b v), v.filled.size))
 
-    pub one_more : (slot : ℕ) → slot < 15 → NoneBefore o b key (15 * link + slot) → ¬ (IsOfKey o key (entry_in o c slot)) → NoneBefore o b key (15 * link + (slot + 1))
-    one_more slot low none not i less is = dite (ℕ_discrete i (15 * link + slot))
-        (λ e. not (subst (IsOfKey o key) (ap (at (entries_of o b)) e ∙ sym (entry_here slot low)) is))
-        (λ differ. none i (omega arith) is)
+    pub one_more : (slot : ℕ) → slot < SLOTS → NoneBefore o b key (SLOTS * link + slot) → ¬ (IsOfKey o key (entry_in o c slot)) → NoneBefore o b key (SLOTS * link + (slot + 1))
+    one_more slot low none not i less is = grind (arith, entry_here slot low, none i, not, is)

@@ -1,64 +1,48 @@
 -- A chain none of whose buckets changed is as it was.
-use Rattle.chained_index.proofs.Words.{◌≡◌, ℕ, ◌<◌, ◌/◌, ◌%◌, List, length, nat_lt, filter, sym, ap, ◌∙◌, subst, arith, ext_get_or, History}
-use Rattle.chained_index.proofs.Words.{OwnerState, Phase, IsMain, InChain, IsDense, buckets_of, entries_of, KeepsChain, ChangesOnlyIndex}
-use Rattle.chained_index.proofs.Words.{ChangesChain}
+use Rattle.chained_index.proofs.Words.{SLOTS, ◌≡◌, ℕ, ◌/◌, ◌%◌, List, ◌∷◌, length, nat_lt, filter, sym, ap, ◌∙◌, arith, ext_get_or, History}
+use Rattle.chained_index.proofs.Words.{Contains, OwnerState, Phase, IsMain, InChain, IsDense, entries_of, KeepsChain}
+use Rattle.chained_index.proofs.Words.{Contains-get_or, IsChain, in_chain, chain_there}
 use Rattle.chained_index.proofs.Lists.{at}
-use Rattle.chained_index.proofs.Chained.{Chained, IsChain, chain_is, inside, in_chain, chain_there, kept_chain}
-use Rattle.chained_index.proofs.Filled.{SameBucket, all_slots, length-all_slots, by_place, entries_filtered, dense_there, filled_there, same_filled}
+use Rattle.chained_index.proofs.Paths.{chain_is}
+use Rattle.chained_index.proofs.Chained.{Chained, kept_chain}
+use Rattle.chained_index.proofs.Filled.{SameBucket, all_slots, length-all_slots, all_inside, by_place, entries_filtered, dense_there, filled_there}
+use Rattle.chained_index.proofs.Filled.{same_filled}
 
 module _ (o : OwnerState) (words : List ℕ) (history : History) (phase : Phase) (long : length words ≡ length o.words)
     (s : Chained o) (b : ℕ) (main : IsMain o.shape b) where
   abbrev p : OwnerState
   p = record o { words = words; history = history; phase = phase }
 
+  abbrev behind : List ℕ
+  behind = (chain_there o s.chains b main).0
+
   abbrev cs : List ℕ
-  cs = buckets_of o b
+  cs = b ∷ behind
+
+  was : IsChain o b behind
+  was = (chain_there o s.chains b main).1
 
   module _ (same : (c : ℕ) → InChain o b c → SameBucket o p c) where
-    chain : IsChain o b cs
-    chain = chain_there o s b main
+    same_in : (c : ℕ) → Contains cs c → SameBucket o p c
+    same_in c i = same c (in_chain o b behind was c i)
 
-    same_at : (k : ℕ) → k < length cs → SameBucket o p (at cs k)
-    same_at k l = same (at cs k) (in_chain o b cs chain k l)
-
-    now : IsChain p b cs
-    now = kept_chain o words history phase s b main (λ c h. (same c h).link)
+    now : IsChain p b behind
+    now = kept_chain o words history phase long s b main (λ c h. (same c h).link) behind was
 
     pub chain_kept : KeepsChain o p b
     chain_kept = record {
-      buckets = chain_is p b cs now;
-      entries = entries_filtered p b cs (chain_is p b cs now) ∙ (ap (filter (nat_lt 0)) slots_same ∙ sym (entries_filtered o b cs (chain_is o b cs chain)));
+      buckets = chain_is p b behind now ∙ sym (chain_is o b behind was);
+      entries = entries_filtered p b behind now ∙ (ap (filter (nat_lt 0)) slots_same ∙ sym (entries_filtered o b behind was));
     }
       where
         slots_same : all_slots p cs ≡ all_slots o cs
         slots_same =
-            let size = length-all_slots p (long ∙ s.wide) cs (inside p b cs now) in
-            ext_get_or 0 (all_slots p cs) (all_slots o cs) (size ∙ sym (length-all_slots o s.wide cs (inside o b cs chain))) (λ i l.
-            by_place p (long ∙ s.wide) cs (inside p b cs now) i (omega arith)
-            ∙ ((same_at (i / 15) (omega arith)).entry (i % 15) (omega arith) ∙ sym (by_place o s.wide cs (inside o b cs chain) i (omega arith))))
+            let size = length-all_slots p (long ∙ s.wide) cs (all_inside p b behind now main) in
+            ext_get_or 0 (all_slots p cs) (all_slots o cs) (size ∙ sym (length-all_slots o s.wide cs (all_inside o b behind was main))) (λ i l.
+            let at_p = by_place p (long ∙ s.wide) cs (all_inside p b behind now main) i in
+            let at_o = by_place o s.wide cs (all_inside o b behind was main) i in
+            grind (arith, (same_in (at cs (i / SLOTS)) (Contains-get_or cs (i / SLOTS) 0 (omega arith))).entry (i % SLOTS)))
 
     pub dense_kept : IsDense o b → IsDense p b
-    dense_kept dense = dense_there p (long ∙ s.wide) b cs now (entries_of o b)
-        (same_filled o p cs (entries_of o b) (filled_there o s.wide b cs chain dense) same_at)
-
--- One change after another
-
-keeps_then : (o m p : OwnerState) (b : ℕ) → KeepsChain o m b → KeepsChain m p b → KeepsChain o p b
-keeps_then o m p b one two = record { buckets = two.buckets ∙ one.buckets; entries = two.entries ∙ one.entries }
-
-pub only_then : (o m p : OwnerState) → ChangesOnlyIndex o m → ChangesOnlyIndex m p → ChangesOnlyIndex o p
-only_then o m p one two =
-    let shape = ap (λ (z : OwnerState). z.shape) one.same in record {
-      stamp = two.stamp ∙ one.stamp;
-      epochs = λ b main. two.epochs b (subst (λ z. IsMain z b) (sym shape) main) ∙ one.epochs b main;
-      items = λ q. two.items q ∙ one.items q;
-      same = two.same ∙ ap (λ (z : OwnerState). record z { words = p.words }) one.same;
-    }
-
-pub changes_then : (o m p : OwnerState) (b : ℕ) (xs ys : List ℕ) → ChangesChain o m b xs → ChangesChain m p b ys → ChangesChain o p b ys
-changes_then o m p b xs ys one two =
-    let shape = ap (λ (z : OwnerState). z.shape) one.rest.same in record {
-      entries = two.entries;
-      others = λ other main n. keeps_then o m p other (one.others other main n) (two.others other (subst (λ z. IsMain z other) (sym shape) main) n);
-      rest = only_then o m p one.rest two.rest;
-    }
+    dense_kept dense = dense_there p (long ∙ s.wide) b main behind now (entries_of o b)
+        (same_filled o p cs (entries_of o b) (filled_there o s.wide b main behind was dense) same_in)

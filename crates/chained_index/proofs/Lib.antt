@@ -4,11 +4,9 @@ mod Paths
 pub mod Chained
 mod Filled
 mod Frames
-mod Effects
 mod Changed
 mod Stored
 pub mod Numbers
-mod Counted
 mod Allowed
 mod Calls
 mod Walking

@@ -1,79 +1,79 @@
 -- Lists of numbers by their places, where a list has 0 past its end.
-use Rattle.chained_index.proofs.Words.{◌≡◌, ◌≢◌, ℕ, zero, suc, ◌<◌, inl, inr, List, [], ◌∷◌, ◌++◌, length, get_or, true, nat_lt, filter, refl}
-use Rattle.chained_index.proofs.Words.{sym, ◌∙◌, arith, Contains, AllPairs, dite, ℕ_discrete, cases_lt, lt-ltb, get_or_past, get_or_append_left}
-use Rattle.chained_index.proofs.Words.{get_or_push, get_or_default, length_push, all_pairs_push}
+use Rattle.chained_index.proofs.Words.{◌≡◌, ◌≢◌, ℕ, suc, ◌+◌, ◌-◌, ◌<◌, inl, inr, List, [], ◌∷◌, ◌++◌, length, get_or, true, nat_lt, filter, refl}
+use Rattle.chained_index.proofs.Words.{sym, ◌∙◌, arith, Contains, AllPairs, dite, ℕ_discrete, lt-ltb, get_or_past, common_steps, get_or_default}
+use Rattle.chained_index.proofs.Words.{Decides-eqb, nat_eq_equiv, eqb, IsPermutation, All, All-nil, All-cons, All-tail, AllPairs-cons}
+use Rattle.chained_index.proofs.Words.{Contains-append_cases, in_head, in_tail, IsDistinct-IsPermutation, IsDistinct-from_AllPairs}
+use Rattle.chained_index.proofs.Words.{AllPairs-from_IsDistinct}
 
 -- the number at a place
 abbrev pub at : List ℕ → ℕ → ℕ
 at xs i = get_or xs i 0
 
--- the number stands in the list
-abbrev pub IsOf : List ℕ → ℕ → Type 0
-IsOf xs c = (i : ℕ) × (i < length xs) × (at xs i ≡ c)
-
 -- no number of the list is 0
 abbrev pub AllUsed : List ℕ → Type 0
-AllUsed xs = (i : ℕ) → i < length xs → at xs i ≢ 0
+AllUsed xs = All (λ x. x ≢ 0) xs
 
 pub below : (xs : List ℕ) (i : ℕ) → at xs i ≢ 0 → i < length xs
-below xs i some = elim (cases_lt i (length xs)) [ inl less ↦ less | inr past ↦ absurd (some (get_or_past xs i 0 past)) ]
+below xs i some = grind (arith, get_or_past)
 
--- a list that ends before a place where another has a number is shorter
-pub same_list : (xs ys : List ℕ) → AllUsed xs → AllUsed ys → ((i : ℕ) → at xs i ≡ at ys i) → xs ≡ ys
-same_list [] [] u v same = refl
-same_list [] (y ∷ ys) u v same = absurd (v 0 (omega arith) (sym (same 0)))
-same_list (x ∷ xs) [] u v same = absurd (u 0 (omega arith) (same 0))
-same_list (x ∷ xs) (y ∷ ys) u v same =
-    let rest = same_list xs ys (λ i l. u (suc i) (omega arith)) (λ i l. v (suc i) (omega arith)) (λ i. same (suc i)) in (λ j. same 0 j ∷ rest j)
+pub place_in : (xs : List ℕ) (c : ℕ) → Contains xs c → (i : ℕ) × (i < length xs) × (at xs i ≡ c)
+place_in xs c has = (has.0, has.1, get_or_default xs has.0 0 c has.1 ∙ has.2)
 
--- the numbers that are not 0
+-- the numbers that are not 0, where only those that are stand past them
+pub filter_is : (xs ys : List ℕ) → AllUsed ys → ((i : ℕ) → at xs i ≡ at ys i) → filter (nat_lt 0) xs ≡ ys
+filter_is [] [] used same = refl
+filter_is [] (y ∷ ys) used same = absurd (used 0 0 (omega arith) (sym (same 0)))
+filter_is (x ∷ xs) [] used same = let none : x ≡ 0 = same 0 in rw none (filter_is xs [] used (λ i. same (suc i)))
+filter_is (x ∷ xs) (y ∷ ys) used same =
+    let is : x ≡ y = same 0 in
+    let some = used 0 0 (omega arith) in
+    let test : nat_lt 0 x ≡ true = lt-ltb 0 x (omega arith) in
+    let rest = filter_is xs ys (All-tail (λ x. x ≢ 0) y ys used) (λ i. same (suc i)) in
+    rw test (λ j. is j ∷ rest j)
 
-used_more : (x : ℕ) (xs : List ℕ) → x ≢ 0 → AllUsed xs → AllUsed (x ∷ xs)
-used_more x xs some rest zero l = some
-used_more x xs some rest (suc i) l = rest i (omega arith)
+-- where none stands past a 0, there are such
+pub used_part : (xs : List ℕ) → ((i j : ℕ) → i < j → at xs j ≢ 0 → at xs i ≢ 0) → (ys : List ℕ) × AllUsed ys × ((i : ℕ) → at xs i ≡ at ys i)
+used_part [] order = ([], All-nil (λ x. x ≢ 0), λ i. refl)
+used_part (x ∷ xs) order = dite (ℕ_discrete x 0)
+    (λ none. (
+      [],
+      All-nil (λ x. x ≢ 0),
+      λ i. grind (arith, common_steps, order 0 i),
+    ))
+    (λ some.
+    let rest = used_part xs (λ i j less. order (suc i) (suc j) (omega arith)) in (
+      x ∷ rest.0,
+      All-cons (λ x. x ≢ 0) x rest.0 some rest.1,
+      λ i. grind (arith, common_steps, rest.2 (i - 1)),
+    ))
 
-pub filter_used : (xs : List ℕ) → AllUsed (filter (nat_lt 0) xs)
-filter_used [] = λ i l. absurd (omega arith)
-filter_used (x ∷ xs) = dite (ℕ_discrete x 0)
-    (λ none. rw none (filter_used xs))
-    (λ some. let test : nat_lt 0 x ≡ true = lt-ltb 0 x (omega arith) in rw test (used_more x (filter (nat_lt 0) xs) some (filter_used xs)))
+pub at-push_other : (xs : List ℕ) (x i : ℕ) → i ≢ length xs → at (xs ++ x ∷ []) i ≡ at xs i
+at-push_other xs x i n = grind (arith, common_steps)
 
--- where none comes behind a 0, they stand where they stood
+-- Numbers that all differ
 
-same_behind : (x : ℕ) (xs ys : List ℕ) → ((i : ℕ) → at xs i ≡ at ys i) → (i : ℕ) → at (x ∷ xs) i ≡ at (x ∷ ys) i
-same_behind x xs ys same zero = refl
-same_behind x xs ys same (suc i) = same i
+abbrev pub AllDiffer : List ℕ → Type 0
+AllDiffer xs = AllPairs (λ c d. c ≢ d) xs
 
-all_zero : (xs : List ℕ) → ((i : ℕ) → at xs i ≡ 0) → (i : ℕ) → at (0 ∷ xs) i ≡ 0
-all_zero xs none zero = refl
-all_zero xs none (suc i) = none i
+pub one_place : (xs : List ℕ) → AllDiffer xs → (i j : ℕ) → i < length xs → j < length xs → at xs i ≡ at xs j → i ≡ j
+one_place xs pairs i j l m same = grind (arith, pairs i j 0, pairs j i 0)
 
-pub at-filter : (xs : List ℕ) → ((i j : ℕ) → i < j → at xs j ≢ 0 → at xs i ≢ 0) → (i : ℕ) → at (filter (nat_lt 0) xs) i ≡ at xs i
-at-filter [] order i = refl
-at-filter (x ∷ xs) order i =
-    let rest = at-filter xs (λ i j less. order (suc i) (suc j) (omega arith)) in
-    dite (ℕ_discrete x 0)
-    (λ none.
-    let zero_at : (j : ℕ) → at xs j ≡ 0 = λ j. dite (ℕ_discrete (at xs j) 0) (λ is. is) (λ n. absurd (order 0 (suc j) (omega arith) n none)) in
-    rw none (rest i ∙ (zero_at i ∙ sym (all_zero xs zero_at i))))
-    (λ some. let test : nat_lt 0 x ≡ true = lt-ltb 0 x (omega arith) in rw test (same_behind x (filter (nat_lt 0) xs) xs rest i))
+pub differ_moved : (xs ys : List ℕ) → IsPermutation xs ys → AllDiffer xs → AllDiffer ys
+differ_moved xs ys moved pairs =
+    AllPairs-from_IsDistinct Decides-eqb ys (IsDistinct-IsPermutation eqb nat_eq_equiv.symm xs ys moved (IsDistinct-from_AllPairs Decides-eqb xs pairs))
 
--- one number more
+pub differ_joined : (xs ys : List ℕ) → AllDiffer xs → AllDiffer ys → ((c : ℕ) → Contains xs c → ¬ (Contains ys c)) → AllDiffer (xs ++ ys)
+differ_joined [] ys one two apart = two
+differ_joined (x ∷ xs) ys one two apart = AllPairs-cons (λ c d. c ≢ d) x (xs ++ ys)
+    (λ k d l is. elim (Contains-append_cases xs ys x (k, l, get_or_default (xs ++ ys) k x d l ∙ sym is)) [
+      | inl i ↦ one 0 (suc i.0) x (omega arith) (omega (arith, i.1)) (sym i.2)
+      | inr i ↦ apart x (in_head x xs) i
+    ])
+    (differ_joined xs ys (λ i j d less l. one (suc i) (suc j) d (omega arith) (omega arith)) two (λ c i. apart c (in_tail x c xs i)))
 
-module _ (xs : List ℕ) (x : ℕ) where
-  pub at-push_other : (i : ℕ) → i ≢ length xs → at (xs ++ x ∷ []) i ≡ at xs i
-  at-push_other i n = elim (cases_lt i (length xs)) [
-    | inl less ↦ get_or_append_left xs (x ∷ []) 0 i less
-    | inr more ↦ get_or_past (xs ++ x ∷ []) i 0 (omega (arith, length_push xs x)) ∙ sym (get_or_past xs i 0 more)
-  ]
+module _ (xs ys : List ℕ) where
+  pub differ_first : AllDiffer (xs ++ ys) → AllDiffer xs
+  differ_first pairs i j d less inside same = grind (arith, common_steps, pairs i j d)
 
-  pub pairs_before : AllPairs (λ c d. c ≢ d) (xs ++ x ∷ []) → AllPairs (λ c d. c ≢ d) xs
-  pairs_before pairs i j d less inside same = pairs i j d less (omega (arith, length_push xs x))
-      (get_or_append_left xs (x ∷ []) d i (omega arith) ∙ (same ∙ sym (get_or_append_left xs (x ∷ []) d j inside)))
-
-  pub not_before : AllPairs (λ c d. c ≢ d) (xs ++ x ∷ []) → ¬ (Contains xs x)
-  not_before pairs h = pairs h.0 (length xs) x h.1 (omega (arith, length_push xs x))
-      (get_or_append_left xs (x ∷ []) x h.0 h.1 ∙ (h.2 ∙ sym (get_or_push xs x x (length xs) refl)))
-
-  pub pairs_more : AllPairs (λ c d. c ≢ d) xs → ¬ (Contains xs x) → AllPairs (λ c d. c ≢ d) (xs ++ x ∷ [])
-  pairs_more pairs none = all_pairs_push (λ c d. c ≢ d) xs x pairs (λ k d less same. none (k, less, get_or_default xs k x d less ∙ same))
+  pub differ_apart : AllDiffer (xs ++ ys) → (c : ℕ) → Contains xs c → ¬ (Contains ys c)
+  differ_apart pairs c one two = grind (arith, common_steps, pairs one.0 (length xs + two.0) c, one.1, one.2, two.1, two.2)

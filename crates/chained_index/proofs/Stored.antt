@@ -1,296 +1,155 @@
--- The stores of a call in a chain: an entry is added, changed or dropped, a spare bucket is taken or released.
-use Rattle.chained_index.proofs.Words.{◌≡◌, ◌≢◌, ℕ, suc, ◌+◌, ◌-◌, ◌*◌, ◌<◌, inl, inr, ◌⊎◌, List, [], ◌∷◌, ◌++◌, length, take, set, refl, sym, ap}
-use Rattle.chained_index.proofs.Words.{◌∙◌, subst, arith, length-set, length-take, get_or-set_same, get_or-set_other, Contains, AllPairs, dite}
-use Rattle.chained_index.proofs.Words.{ℕ_discrete, cases_lt, get_or-take, get_or_past, get_or_append_left, get_or_push, length_push, Contains-push}
-use Rattle.chained_index.proofs.Words.{Contains-append_left, Contains-push_cases, spares_behind, OwnerState, PutsEntry, PutsLink, IsBucket, entry_at, entry_in}
-use Rattle.chained_index.proofs.Words.{link_in, InChain, IsFreeSpare, after, entry_puts, entry_puts_other, link_puts_entry, buckets_of, entries_of}
-use Rattle.chained_index.proofs.Words.{ChangesChain, Index, IsBlank, IsIndexOf}
-use Rattle.chained_index.proofs.Lists.{at, IsOf, AllUsed, at-push_other, pairs_before, not_before, pairs_more}
-use Rattle.chained_index.proofs.Paths.{same_path, one_place}
-use Rattle.chained_index.proofs.Chained.{Chained, inside, in_chain}
+-- The stores of a call in a chain: entries are added, changed or dropped, a spare bucket is taken or released.
+use Rattle.chained_index.proofs.Words.{Kept, bucket_words, SLOTS, ◌≡◌, ◌≢◌, ℕ, suc, ◌+◌, ◌*◌, ◌<◌, inl, inr, ◌⊎◌, List, [], ◌∷◌, ◌++◌, length, refl, sym}
+use Rattle.chained_index.proofs.Words.{ap, ◌∙◌, subst, arith, length-set, Contains, append_assoc, all_pairs_push, get_or, common_steps, get_or_past}
+use Rattle.chained_index.proofs.Words.{Contains-push_cases, Contains-append_left, Contains-get_or, spares_behind, OwnerState, PutsEntry, PutsLink}
+use Rattle.chained_index.proofs.Words.{IsBucket, entry_at, entry_in, link_in, InChain, IsFreeSpare, after, words_after, word_count, entry_puts}
+use Rattle.chained_index.proofs.Words.{entry_puts_other, entry_puts_link, link_puts_entry, link_puts, link_puts_other, entries_of, in_tail}
+use Rattle.chained_index.proofs.Words.{ChangesOnlyIndex, Index, IsBlank, in_chain, inside, AreBehind, all_differ, same_behind, relinked, last_of}
+use Rattle.chained_index.proofs.Words.{last_in, IsPermutation, IsPermutation-refl, IsPermutation-append_comm, IsPermutation-append_right, Event}
+use Rattle.chained_index.proofs.Words.{place_of, entries_at, stamp_at, item_at, no_stamp, no_item, epoch_at, no_epoch, other}
+use Rattle.chained_index.proofs.Lists.{at, AllUsed, AllDiffer, one_place}
+use Rattle.chained_index.proofs.Chained.{chained}
 use Rattle.chained_index.proofs.Filled.{View}
-use Rattle.chained_index.proofs.Effects.{entered_same, entered_only, both_long, both_only, entry_both, entry_put, link_both, link_put, both_same}
-use Rattle.chained_index.proofs.Changed.{Rewrites, changes, index_changes, index_stays}
+use Rattle.chained_index.proofs.Changed.{Leaves, rewritten}
 
-push_used : (xs : List ℕ) (x : ℕ) → x ≢ 0 → AllUsed xs → AllUsed (xs ++ x ∷ [])
-push_used xs x some used i m none = dite (ℕ_discrete i (length xs))
-    (λ e. some (sym (get_or_push xs x 0 i (sym e)) ∙ none))
-    (λ n. used i (omega (arith, length_push xs x)) (sym (at-push_other xs x i n) ∙ none))
+-- from the end of one list to that of the next
+pub moves : (xs ys : List ℕ) (x : ℕ) → IsPermutation ((xs ++ x ∷ []) ++ ys) (xs ++ (ys ++ x ∷ []))
+moves xs ys x = subst (λ (z : List ℕ). IsPermutation z (xs ++ (ys ++ x ∷ []))) (sym (append_assoc xs (x ∷ []) ys))
+    (IsPermutation-append_right xs (x ∷ ys) (ys ++ x ∷ []) (IsPermutation-append_comm (x ∷ []) ys))
 
 module _ (o : OwnerState) (index : Index) (b : ℕ) (v : View o index b) where
   abbrev cs : List ℕ
-  cs = buckets_of o b
+  cs = b ∷ v.behind
 
   abbrev xs : List ℕ
   xs = entries_of o b
 
-  -- an entry goes into a slot of a bucket of the chain
-  module _ (k c slot x : ℕ) (l : k < length cs) (is : at cs k ≡ c) (low : slot < 15) (t : Chained (after (PutsEntry c slot x) o)) where
-    abbrev p : OwnerState
-    p = after (PutsEntry c slot x) o
+  bucket_in : (c : ℕ) → Contains cs c → IsBucket o.shape c
+  bucket_in = inside o b v.behind v.chain v.main
 
-    entered : (ys : List ℕ) → at ys (15 * k + slot) ≡ x → ((i : ℕ) → i ≢ 15 * k + slot → at ys i ≡ at xs i) → AllUsed ys
-        → length cs ≡ suc (spares_behind (length ys)) → ChangesChain o p b ys × IsIndexOf index p
-    entered ys here else used size = (
-      changes o p.words (length-set o.words (entry_at o.shape c slot) x) v.s t b v.main cs ys rewrites,
-      index_stays o p.words (length-set o.words (entry_at o.shape c slot) x) v.s t b v.main cs ys rewrites index v.known refl,
-    )
-      where
-        bucket : IsBucket o.shape c
-        bucket = subst (IsBucket o.shape) is (inside o b cs v.chain k l)
+  pub not_free : (c : ℕ) → Contains v.behind c → ¬ (Contains index.free c)
+  not_free c i has = ((v.known.free c).0 has).free b v.main (in_chain o b v.behind v.chain c (in_tail b c v.behind i))
 
-        entries : (j u : ℕ) → j < length cs → u < 15 → entry_in p (at cs j) u ≡ at ys (15 * j + u)
-        entries j u m small = dite (ℕ_discrete (15 * j + u) (15 * k + slot))
-            (λ e.
-            let same : j ≡ k = omega arith in
-            let there : u ≡ slot = omega arith in
-            ap (λ (z : ℕ). entry_in p z u) (ap (at cs) same ∙ is)
-            ∙ (ap (entry_in p c) there ∙ (entry_puts o v.s.wide c slot x bucket low ∙ (sym here ∙ ap (at ys) (sym e)))))
-            (λ n.
-            let apart : (at cs j ≢ c) ⊎ (u ≢ slot) = dite (ℕ_discrete j k) (λ e. inr (λ e'. n (omega arith)))
-            (λ n'. inl (λ same. n' (one_place o b cs v.chain.path j k m l (same ∙ sym is)))) in
-            entry_puts_other o v.s.wide c slot x (at cs j) u low small apart ∙ (v.filled.entries j u m small ∙ sym (else (15 * j + u) n)))
+  abbrev pub now : List ℕ → OwnerState
+  now words = record o { words = words }
 
-        rewrites : Rewrites o p b cs cs ys
-        rewrites = record {
-          only = entered_only o v.s c bucket slot x low;
-          path = same_path o p b cs v.chain.path (λ j m. link_puts_entry o v.s.wide c slot x (at cs j) low);
-          filled = record { entries = entries; used = used; size = size };
-          fresh = λ d i. inl i;
-          same = λ d n n'. entered_same o v.s c slot x low d (λ e. n (k, l, is ∙ sym e));
-        }
+  -- one more event, at one of the words of a bucket, changes entries and links alone
+  only_more : (words : List ℕ) → ChangesOnlyIndex o (now words) → (c i : ℕ) → IsBucket o.shape c → i < bucket_words → (e : Event)
+      → place_of o.shape e ≡ entries_at o.shape c + i → after e (now words) ≡ now (words_after e (now words)) → ChangesOnlyIndex o (after e (now words))
+  only_more words was c i bucket low e at same = record {
+    stamp = other (now words) e stamp_at (λ is. no_stamp o.shape c i (sym (is ∙ at))) ∙ was.stamp;
+    epochs = λ d main. other (now words) e (epoch_at d) (λ is. no_epoch o.shape d c i main low (sym (is ∙ at))) ∙ was.epochs d main;
+    items = λ p. other (now words) e (item_at o.shape p) (λ is. no_item o.shape c i p bucket low (sym (is ∙ at))) ∙ was.items p;
+    same = same;
+  }
 
-    pub pushed : x ≢ 0 → 15 * k + slot ≡ length xs → length cs ≡ suc k → ChangesChain o p b (xs ++ x ∷ []) × IsIndexOf index p
-    pushed some end last = entered (xs ++ x ∷ []) (get_or_push xs x 0 (15 * k + slot) (sym end)) (λ i n. at-push_other xs x i (λ e. n (e ∙ sym end)))
-        (push_used xs x some v.filled.used) (omega (arith, length_push xs x))
+  -- Entries were stored in these buckets alone, whose slots, one after another, have these now.
+  pub record Entered (bs words ys : List ℕ) : Type 0 where
+    pub inside : (c : ℕ) → Contains bs c → IsBucket o.shape c
+    pub differ : AllDiffer bs
+    pub wide : length words ≡ word_count o.shape
+    pub only : ChangesOnlyIndex o (now words)
+    pub links : (d : ℕ) → link_in (now words) d ≡ link_in o d
+    pub entries : (k slot : ℕ) → k < length bs → slot < SLOTS → entry_in (now words) (at bs k) slot ≡ at ys (SLOTS * k + slot)
+    pub others : (d slot : ℕ) → ¬ (Contains bs d) → slot < SLOTS → entry_in (now words) d slot ≡ entry_in o d slot
 
-    pub changed : x ≢ 0 → 15 * k + slot < length xs → ChangesChain o p b (set xs (15 * k + slot) x) × IsIndexOf index p
-    changed some less =
-        let size = v.filled.size in
-        let long = length-set xs (15 * k + slot) x in
-        entered (set xs (15 * k + slot) x) (get_or-set_same xs (15 * k + slot) x 0 less) (λ i n. get_or-set_other xs (15 * k + slot) i x 0 n) used (omega arith)
-      where
-        used : AllUsed (set xs (15 * k + slot) x)
-        used i m none = dite (ℕ_discrete i (15 * k + slot))
-            (λ e. some (sym (get_or-set_same xs (15 * k + slot) x 0 less) ∙ (ap (at (set xs (15 * k + slot) x)) (sym e) ∙ none)))
-            (λ n. v.filled.used i (omega (arith, length-set xs (15 * k + slot) x)) (sym (get_or-set_other xs (15 * k + slot) i x 0 n) ∙ none))
+  begin : (bs : List ℕ) → ((c : ℕ) → Contains bs c → IsBucket o.shape c) → AllDiffer bs
+      → ((k slot : ℕ) → k < length bs → slot < SLOTS → entry_in o (at bs k) slot ≡ at xs (SLOTS * k + slot)) → Entered bs o.words xs
+  begin bs inside differ entries = record {
+    inside = inside;
+    differ = differ;
+    wide = v.s.wide;
+    only = record { stamp = refl; epochs = λ d l. refl; items = λ p. refl; same = refl };
+    links = λ d. refl;
+    entries = entries;
+    others = λ d slot n low. refl;
+  }
 
-    pub dropped : x ≡ 0 → 15 * k + slot + 1 ≡ length xs → length cs ≡ suc k → (k ≡ 0) ⊎ (0 < slot)
-        → ChangesChain o p b (take (length xs - 1) xs) × IsIndexOf index p
-    dropped none end last stays =
-        let long = length-take (length xs - 1) xs in
-        entered (take (length xs - 1) xs) (get_or_past (take (length xs - 1) xs) (15 * k + slot) 0 (omega arith) ∙ sym none) else
-        (λ i m e. v.filled.used i (omega arith) (sym (get_or-take (length xs - 1) xs i 0 (omega arith)) ∙ e))
-        (elim stays [ inl first ↦ omega arith | inr some ↦ omega arith ])
-      where
-        else : (i : ℕ) → i ≢ 15 * k + slot → at (take (length xs - 1) xs) i ≡ at xs i
-        else i n = elim (cases_lt i (length xs - 1)) [
-          | inl less ↦ get_or-take (length xs - 1) xs i 0 less
-          | inr more ↦ get_or_past (take (length xs - 1) xs) i 0 (omega (arith, length-take (length xs - 1) xs)) ∙ sym (get_or_past xs i 0 (omega arith))
-        ]
+  -- none in those of the chain, or of the chain and a free spare behind it
 
-  -- a spare bucket is taken, behind full ones
-  module _ (n last next x : ℕ) (size : length cs ≡ suc n) (is : at cs n ≡ last) (full : length xs ≡ 15 * length cs) (free : IsFreeSpare o next) (some : x ≢ 0)
-      (t : Chained (after (PutsEntry next 0 x) o)) (u : Chained (after (PutsLink last next) (after (PutsEntry next 0 x) o))) where
-    abbrev q : OwnerState
-    q = after (PutsLink last next) (after (PutsEntry next 0 x) o)
+  pub none_entered : Entered cs o.words xs
+  none_entered = begin cs bucket_in (all_differ (link_in o) b v.behind v.chain.behind) v.filled.entries
 
-    abbrev ds : List ℕ
-    ds = cs ++ next ∷ []
+  pub with_free : (next : ℕ) → IsFreeSpare o next → length xs ≡ SLOTS * length cs → Entered (cs ++ next ∷ []) o.words xs
+  with_free next free full = begin (cs ++ next ∷ [])
+      (λ c i. elim (Contains-push_cases cs next c i) [ inl own ↦ bucket_in c own | inr e ↦ subst (IsBucket o.shape) e free.spare.1 ])
+      (all_pairs_push (λ c d. c ≢ d) cs next (all_differ (link_in o) b v.behind v.chain.behind)
+      (λ k d l e. free.free b v.main (subst (InChain o b) e (in_chain o b v.behind v.chain (get_or cs k d) (Contains-get_or cs k d l)))))
+      (λ k slot l low. grind (arith, common_steps, v.filled.entries k slot, (v.known.blank next free).no_entry slot low, get_or_past))
 
-    not_own : (k : ℕ) → k < length cs → at cs k ≢ next
-    not_own k l e = free.free b v.main (subst (InChain o b) e (in_chain o b cs v.chain k l))
-
-    last_bucket : IsBucket o.shape last
-    last_bucket = subst (IsBucket o.shape) is (inside o b cs v.chain n (omega arith))
-
-    old : (k : ℕ) → k < length cs → at ds k ≡ at cs k
-    old k l = get_or_append_left cs (next ∷ []) 0 k l
-
-    new : at ds (suc n) ≡ next
-    new = get_or_push cs next 0 (suc n) size
-
-    taken_links : (k : ℕ) → k < length ds → link_in q (at ds k) ≡ at ds (suc k)
-    taken_links k l = elim (cases_lt k n) [
-      | inl less ↦ ap (link_in q) (old k (omega arith))
-          ∙ (link_both o v.s next 0 x last next (omega arith) free.spare.1 last_bucket t (at cs k)
-          (λ e. let same = one_place o b cs v.chain.path k n (omega arith) (omega arith) (e ∙ sym is) in omega arith)
-          ∙ (v.chain.path.links k (omega arith) ∙ sym (old (suc k) (omega arith))))
-      | inr more ↦ dite (ℕ_discrete k n)
-          (λ e. ap (link_in q) (ap (at ds) e ∙ (old n (omega arith) ∙ is))
-          ∙ (link_put o v.s next 0 x last next (omega arith) free.spare.1 last_bucket t ∙ sym (ap (λ (z : ℕ). at ds (suc z)) e ∙ new)))
-          (λ differ.
-          let long = length_push cs next in
-          let e : k ≡ suc n = omega arith in
-          ap (link_in q) (ap (at ds) e ∙ new)
-          ∙ (link_both o v.s next 0 x last next (omega arith) free.spare.1 last_bucket t next (λ e'. not_own n (omega arith) (is ∙ sym e'))
-          ∙ ((v.known.blank next free).no_link ∙ sym (get_or_past ds (suc k) 0 (omega arith)))))
-    ]
-
-    taken_linked : (k : ℕ) → suc k < length ds → at ds (suc k) ≢ 0
-    taken_linked k l none = elim (cases_lt (suc k) (length cs)) [
-      | inl less ↦ v.chain.path.linked k less (sym (old (suc k) less) ∙ none)
-      | inr more ↦
-          let e : suc k ≡ suc n = omega (arith, length_push cs next) in
-          let zero_next : next ≡ 0 = sym new ∙ (ap (at ds) (sym e) ∙ none) in
-          let spare = free.spare.0 in omega arith
-    ]
-
-    taken_entries : (k slot : ℕ) → k < length ds → slot < 15 → entry_in q (at ds k) slot ≡ at (xs ++ x ∷ []) (15 * k + slot)
-    taken_entries k slot l low = elim (cases_lt k (length cs)) [
-      | inl less ↦ ap (λ (z : ℕ). entry_in q z slot) (old k less)
-          ∙ (entry_both o v.s next 0 x last next (omega arith) free.spare.1 last_bucket t (at cs k) slot low (inl (not_own k less))
-          ∙ (v.filled.entries k slot less low ∙ sym (at-push_other xs x (15 * k + slot) (λ e. omega arith))))
-      | inr more ↦
-          let e : k ≡ suc n = omega (arith, length_push cs next) in
-          ap (λ (z : ℕ). entry_in q z slot) (ap (at ds) e ∙ new) ∙ dite (ℕ_discrete slot 0)
-          (λ first. ap (entry_in q next) first
-          ∙ (entry_put o v.s next 0 x last next (omega arith) free.spare.1 last_bucket t ∙ sym (get_or_push xs x 0 (15 * k + slot) (omega arith))))
-          (λ later. entry_both o v.s next 0 x last next (omega arith) free.spare.1 last_bucket t next slot low (inr later)
-          ∙ ((v.known.blank next free).no_entry slot low ∙ sym (get_or_past (xs ++ x ∷ []) (15 * k + slot) 0 (omega (arith, length_push xs x)))))
-    ]
-
-    taken_rewrites : Rewrites o q b cs ds (xs ++ x ∷ [])
-    taken_rewrites = record {
-      only = both_only o v.s next 0 x last next (omega arith) free.spare.1 last_bucket t;
-      path = record { first = old 0 (omega arith) ∙ v.chain.path.first; some = omega (arith, length_push cs next); links = taken_links; linked = taken_linked };
-      filled = record { entries = taken_entries; used = push_used xs x some v.filled.used; size = omega (arith, length_push cs next, length_push xs x) };
-      fresh = λ c i. elim (cases_lt i.0 (length cs)) [
-        | inl less ↦ inl (i.0, less, sym (old i.0 less) ∙ i.2)
-        | inr more ↦ (let e : i.0 ≡ suc n = omega (arith, i.1, length_push cs next) in inr (subst (IsFreeSpare o) (sym new ∙ (ap (at ds) (sym e) ∙ i.2)) free))
-      ];
-      same = λ c out out'. both_same o v.s next 0 x last next (omega arith) free.spare.1 last_bucket t c
-          (λ e. out' (suc n, omega (arith, length_push cs next), new ∙ sym e))
-          (λ e. out (n, omega arith, is ∙ sym e));
+  module _ {bs words ys : List ℕ} (r : Entered bs words ys) where
+    -- one more goes into a slot
+    pub entered : (k c slot x : ℕ) → k < length bs → at bs k ≡ c → slot < SLOTS → (zs : List ℕ) → at zs (SLOTS * k + slot) ≡ x
+        → ((i : ℕ) → i ≢ SLOTS * k + slot → at zs i ≡ at ys i) → Entered bs (words_after (PutsEntry c slot x) (now words)) zs
+    entered k c slot x l is low zs here else = record {
+      inside = r.inside;
+      differ = r.differ;
+      wide = length-set words (entry_at o.shape c slot) x ∙ r.wide;
+      only = only_more words r.only c slot (r.inside c own) (omega arith) (PutsEntry c slot x) refl refl;
+      links = λ d. link_puts_entry (now words) r.wide c slot x d low ∙ r.links d;
+      entries = entries;
+      others = λ d u n small. entry_puts_other (now words) r.wide c slot x d u low small (inl (λ e. n (subst (Contains bs) (sym e) own))) ∙ r.others d u n small;
     }
-
-    pub taken : (rest : List ℕ) → index.free ≡ rest ++ next ∷ [] → ChangesChain o q b (xs ++ x ∷ []) × IsIndexOf (record { shape = index.shape; free = rest }) q
-    taken rest split = (
-      changes o q.words (both_long o v.s next 0 x last next (omega arith) free.spare.1 last_bucket t) v.s u b v.main ds (xs ++ x ∷ []) taken_rewrites,
-      index_changes o q.words (both_long o v.s next 0 x last next (omega arith) free.spare.1 last_bucket t) v.s u b v.main ds (xs ++ x ∷ []) taken_rewrites index v.known rest
-          (pairs_before rest next once) gone back,
-    )
       where
-        once : AllPairs (λ c d. c ≢ d) (rest ++ next ∷ [])
-        once = subst (AllPairs (λ c d. c ≢ d)) split v.known.once
+        own : Contains bs c
+        own = subst (Contains bs) is (Contains-get_or bs k 0 l)
 
-        was : (c : ℕ) → Contains rest c → Contains index.free c
-        was c has = subst (λ (z : List ℕ). Contains z c) (sym split) (Contains-append_left rest (next ∷ []) c has)
+        entries : (j u : ℕ) → j < length bs → u < SLOTS → entry_in (after (PutsEntry c slot x) (now words)) (at bs j) u ≡ at zs (SLOTS * j + u)
+        entries j u m small =
+            let put = entry_puts (now words) r.wide c slot x (r.inside c own) low in
+            let other = entry_puts_other (now words) r.wide c slot x (at bs j) u low small in
+            grind (arith, one_place bs r.differ j k m l, r.entries j u m small, else (SLOTS * j + u))
 
-        gone : (c : ℕ) → Contains rest c → ¬ (IsOf ds c) × (Contains index.free c ⊎ IsOf cs c × IsBlank q c)
-        gone c has = (
-          λ i. elim (cases_lt i.0 (length cs)) [
-            | inl less ↦ ((v.known.free c).0 (was c has)).free b v.main (subst (InChain o b) (sym (old i.0 less) ∙ i.2) (in_chain o b cs v.chain i.0 less))
-            | inr more ↦
-                let e : i.0 ≡ suc n = omega (arith, i.1, length_push cs next) in
-                not_before rest next once (subst (Contains rest) (sym i.2 ∙ (ap (at ds) e ∙ new)) has)
-          ],
-          inl (was c has),
-        )
+    -- The link of c is put, which stands in the chain before those of `cut`, and now before those of `rest`.
+    module _ (c next : ℕ) (front cut : List ℕ) (is : last_of b front ≡ c) (split : v.behind ≡ front ++ cut) where
+      abbrev pub linked : OwnerState
+      linked = after (PutsLink c next) (now words)
 
-        back : (c : ℕ) → ¬ (IsOf ds c) → (¬ (IsOf cs c) → Contains index.free c) → Contains rest c
-        back c out from =
-            let has = from (λ i. out (i.0, omega (arith, i.1, length_push cs next), old i.0 i.1 ∙ i.2)) in
-            elim (Contains-push_cases rest next c (subst (λ (z : List ℕ). Contains z c) split has)) [
-              | inl is ↦ is
-              | inr e ↦ absurd (out (suc n, omega (arith, length_push cs next), new ∙ e))
-            ]
+      own_link : Contains (b ∷ front) c
+      own_link = subst (Contains (b ∷ front)) is (last_in b front)
 
-  -- the last bucket is released with its only entry
-  module _ (n before last : ℕ) (size : length cs ≡ suc (suc n)) (is : at cs (suc n) ≡ last) (is' : at cs n ≡ before) (one : length xs ≡ 15 * suc n + 1)
-      (t : Chained (after (PutsEntry last 0 0) o)) (u : Chained (after (PutsLink before 0) (after (PutsEntry last 0 0) o))) where
-    abbrev r : OwnerState
-    r = after (PutsLink before 0) (after (PutsEntry last 0 0) o)
+      was_link : Contains cs c
+      was_link = subst (λ (z : List ℕ). Contains (b ∷ z) c) (sym split) (Contains-append_left (b ∷ front) cut c own_link)
 
-    abbrev es : List ℕ
-    es = take (suc n) cs
+      pub link_else : (d : ℕ) → d ≢ c → link_in linked d ≡ link_in o d
+      link_else d n = link_puts_other (now words) r.wide c next d n ∙ r.links d
 
-    abbrev ys : List ℕ
-    ys = take (length xs - 1) xs
+      pub link_here : link_in linked c ≡ next
+      link_here = link_puts (now words) r.wide c next (bucket_in c was_link)
 
-    bucket : IsBucket o.shape last
-    bucket = subst (IsBucket o.shape) is (inside o b cs v.chain (suc n) (omega arith))
+      pub same_entry : (d slot : ℕ) → slot < SLOTS → entry_in linked d slot ≡ entry_in (now words) d slot
+      same_entry d slot low = entry_puts_link (now words) r.wide c next d slot low
 
-    bucket' : IsBucket o.shape before
-    bucket' = subst (IsBucket o.shape) is' (inside o b cs v.chain n (omega arith))
+      pub relinks : (rest : List ℕ) → AreBehind (link_in linked) c rest → ((k : ℕ) → k < length (b ∷ front ++ rest) → (k < length bs) × (at (b ∷ front ++ rest) k ≡ at bs k))
+          → ((d : ℕ) → Contains bs d → Contains cs d ⊎ Contains (b ∷ front ++ rest) d) → (free : List ℕ) → IsPermutation (index.free ++ v.behind) (free ++ (front ++ rest))
+          → ((d : ℕ) → Contains v.behind d → Contains free d → IsBlank linked d) → AllUsed ys → length (b ∷ front ++ rest) ≡ suc (spares_behind (length ys))
+          → (p : OwnerState) → Kept p → p ≡ linked → Leaves o b (record { shape = index.shape; free = free }) ys p
+      relinks rest to place within free moved blank used size p kept stored = subst (Leaves o b (record { shape = index.shape; free = free }) ys) (sym stored)
+          (rewritten o linked.words (chained linked (subst Kept stored kept)) index b v (front ++ rest) free ys record {
+            only = only_more words r.only c SLOTS (bucket_in c was_link) (omega arith) (PutsLink c next) refl refl;
+            behind = relinked (link_in o) (link_in linked) c link_else rest to b front cut is (subst (AreBehind (link_in o) b) split v.chain.behind);
+            filled = record {
+              entries = λ k slot l low. same_entry (at (b ∷ front ++ rest) k) slot low ∙ (ap (λ (z : ℕ). entry_in (now words) z slot) (place k l).1 ∙ r.entries k slot (place k l).0 low);
+              used = used;
+              size = size;
+            };
+            same = λ d out out'. record {
+              link = link_else d (λ e. out (subst (Contains cs) (sym e) was_link));
+              entry = λ slot low. same_entry d slot low ∙ r.others d slot (λ i. elim (within d i) [ inl was ↦ out was | inr now ↦ out' now ]) low;
+            };
+            moved = moved;
+            blank = blank;
+          })
 
-    long : length es ≡ suc n
-    long = omega (arith, length-take (suc n) cs)
-
-    left : (k : ℕ) → k < suc n → at es k ≡ at cs k
-    left k l = get_or-take (suc n) cs k 0 l
-
-    differ : (k j : ℕ) → k < length cs → j < length cs → k ≢ j → at cs k ≢ at cs j
-    differ k j l m apart same = apart (one_place o b cs v.chain.path k j l m same)
-
-    released_links : (k : ℕ) → k < length es → link_in r (at es k) ≡ at es (suc k)
-    released_links k l = let size' = long in ap (link_in r) (left k (omega arith)) ∙ dite (ℕ_discrete k n)
-        (λ e. ap (λ (z : ℕ). link_in r (at cs z)) e ∙ (ap (link_in r) is'
-        ∙ (link_put o v.s last 0 0 before 0 (omega arith) bucket bucket' t ∙ sym (get_or_past es (suc k) 0 (omega arith)))))
-        (λ apart. link_both o v.s last 0 0 before 0 (omega arith) bucket bucket' t (at cs k) (λ e. differ k n (omega arith) (omega arith) apart (e ∙ sym is'))
-        ∙ (v.chain.path.links k (omega arith) ∙ sym (left (suc k) (omega arith))))
-
-    released_entries : (k slot : ℕ) → k < length es → slot < 15 → entry_in r (at es k) slot ≡ at ys (15 * k + slot)
-    released_entries k slot l low = let size' = long in
-        ap (λ (z : ℕ). entry_in r z slot) (left k (omega arith))
-        ∙ (entry_both o v.s last 0 0 before 0 (omega arith) bucket bucket' t (at cs k) slot low
-        (inl (λ e. differ k (suc n) (omega arith) (omega arith) (λ z. omega arith) (e ∙ sym is)))
-        ∙ (v.filled.entries k slot (omega arith) low ∙ sym (get_or-take (length xs - 1) xs (15 * k + slot) 0 (omega arith))))
-
-    released_rewrites : Rewrites o r b cs es ys
-    released_rewrites = record {
-      only = both_only o v.s last 0 0 before 0 (omega arith) bucket bucket' t;
-      path = record {
-        first = left 0 (omega arith) ∙ v.chain.path.first;
-        some = omega (arith, long);
-        links = released_links;
-        linked = λ k l none. v.chain.path.linked k (omega (arith, long)) (sym (left (suc k) (omega (arith, long))) ∙ none);
-      };
-      filled = record {
-        entries = released_entries;
-        used = λ i m none. v.filled.used i (omega (arith, length-take (length xs - 1) xs)) (sym (get_or-take (length xs - 1) xs i 0 (omega (arith, length-take (length xs - 1) xs))) ∙ none);
-        size = omega (arith, long, length-take (length xs - 1) xs);
-      };
-      fresh = λ c i. inl (i.0, omega (arith, i.1, long), sym (left i.0 (omega (arith, i.1, long))) ∙ i.2);
-      same = λ c out out'. both_same o v.s last 0 0 before 0 (omega arith) bucket bucket' t c
-          (λ e. out (suc n, omega arith, is ∙ sym e))
-          (λ e. out (n, omega arith, is' ∙ sym e));
-    }
-
-    last_blank : IsBlank r last
-    last_blank = record {
-      no_link = link_both o v.s last 0 0 before 0 (omega arith) bucket bucket' t last (λ e. differ (suc n) n (omega arith) (omega arith) (λ z. omega arith) (is ∙ (e ∙ sym is')))
-          ∙ (ap (link_in o) (sym is) ∙ (v.chain.path.links (suc n) (omega arith) ∙ get_or_past cs (suc (suc n)) 0 (omega arith)));
-      no_entry = λ slot low. dite (ℕ_discrete slot 0)
-          (λ e. ap (entry_in r last) e ∙ entry_put o v.s last 0 0 before 0 (omega arith) bucket bucket' t)
-          (λ later. entry_both o v.s last 0 0 before 0 (omega arith) bucket bucket' t last slot low (inr later)
-          ∙ (ap (λ (z : ℕ). entry_in o z slot) (sym is)
-          ∙ (v.filled.entries (suc n) slot (omega arith) low ∙ get_or_past xs (15 * suc n + slot) 0 (omega arith))));
-    }
-
-    pub released : ChangesChain o r b ys × IsIndexOf (record { shape = index.shape; free = index.free ++ last ∷ [] }) r
-    released = (
-      changes o r.words (both_long o v.s last 0 0 before 0 (omega arith) bucket bucket' t) v.s u b v.main es ys released_rewrites,
-      index_changes o r.words (both_long o v.s last 0 0 before 0 (omega arith) bucket bucket' t) v.s u b v.main es ys released_rewrites index v.known (index.free ++ last ∷ [])
-          (pairs_more index.free last v.known.once (λ has. not_own last has (suc n, omega arith, is))) gone back,
-    )
-      where
-        not_own : (c : ℕ) → Contains index.free c → ¬ (IsOf cs c)
-        not_own c has i = ((v.known.free c).0 has).free b v.main (subst (InChain o b) i.2 (in_chain o b cs v.chain i.0 i.1))
-
-        gone : (c : ℕ) → Contains (index.free ++ last ∷ []) c → ¬ (IsOf es c) × (Contains index.free c ⊎ IsOf cs c × IsBlank r c)
-        gone c has = elim (Contains-push_cases index.free last c has) [
-          | inl was ↦ (λ i. not_own c was (i.0, omega (arith, i.1, long), sym (left i.0 (omega (arith, i.1, long))) ∙ i.2), inl was)
-          | inr e ↦ (
-            λ i. differ i.0 (suc n) (omega (arith, i.1, long)) (omega arith) (λ z. omega (arith, i.1, long)) (sym (left i.0 (omega (arith, i.1, long))) ∙ (i.2 ∙ (sym e ∙ sym is))),
-            inr ((suc n, omega arith, is ∙ e), subst (IsBlank r) e last_blank),
-          )
-        ]
-
-        back : (c : ℕ) → ¬ (IsOf es c) → (¬ (IsOf cs c) → Contains index.free c) → Contains (index.free ++ last ∷ []) c
-        back c out from = dite (ℕ_discrete c last)
-            (λ e. subst (Contains (index.free ++ last ∷ [])) (sym e) (Contains-push index.free last))
-            (λ apart. Contains-append_left index.free (last ∷ []) c (from (λ i. elim (cases_lt i.0 (suc n)) [
-              | inl less ↦ out (i.0, omega (arith, long), left i.0 less ∙ i.2)
-              | inr more ↦ (let e : i.0 ≡ suc n = omega (arith, i.1) in apart (sym i.2 ∙ (ap (at cs) e ∙ is)))
-            ])))
+  -- the chain keeps its buckets
+  pub kept_buckets : {words ys : List ℕ} → Entered cs words ys → (p : OwnerState) → Kept p → p ≡ now words → AllUsed ys → length cs ≡ suc (spares_behind (length ys))
+      → Leaves o b index ys p
+  kept_buckets {words} {ys} r p kept is used size = subst (Leaves o b index ys) (sym is)
+      (rewritten o words (chained (now words) (subst Kept is kept)) index b v v.behind index.free ys record {
+        only = r.only;
+        behind = same_behind (link_in o) (link_in (now words)) b v.behind (λ d i. r.links d) v.chain.behind;
+        filled = record { entries = r.entries; used = used; size = size };
+        same = λ d n n'. record { link = r.links d; entry = λ slot low. r.others d slot n low };
+        moved = IsPermutation-refl (index.free ++ v.behind);
+        blank = λ d i has. absurd (not_free d i has);
+      })

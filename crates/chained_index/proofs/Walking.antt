@@ -1,10 +1,9 @@
 -- A step along a chain, and its end.
-use Rattle.chained_index.proofs.Words.{◌≡◌, ◌≢◌, ℕ, suc, ◌+◌, ◌-◌, ◌*◌, ◌<◌, ◌≤◌, inl, inr, add-one, length, sym, ap, ◌∙◌, subst, arith, cases_lt}
-use Rattle.chained_index.proofs.Words.{dite, ℕ_discrete, OwnerState, IsMain, IsBucket, entry_in, link_in, buckets_of, entries_of, bucket_at, EndsIn}
-use Rattle.chained_index.proofs.Words.{EndsAt, Index}
+use Rattle.chained_index.proofs.Words.{SLOTS, ◌≡◌, ◌≢◌, ℕ, suc, ◌+◌, ◌-◌, ◌*◌, ◌<◌, ◌≤◌, inl, inr, ◌⊎◌, List, ◌∷◌, length, sym, ap, ◌∙◌, subst, arith}
+use Rattle.chained_index.proofs.Words.{OwnerState, IsMain, IsBucket, entry_in, link_in, buckets_of, entries_of, bucket_at, EndsIn, EndsAt, Index}
+use Rattle.chained_index.proofs.Words.{inside, Contains-get_or}
 use Rattle.chained_index.proofs.Lists.{at, below}
-use Rattle.chained_index.proofs.Paths.{step_on, first_bucket, length-buckets_of}
-use Rattle.chained_index.proofs.Chained.{inside}
+use Rattle.chained_index.proofs.Paths.{chain_is, step_on, first_bucket, length-buckets_of}
 use Rattle.chained_index.proofs.Filled.{View}
 
 -- where a walk stands: at the bucket that so many links lead to
@@ -15,24 +14,6 @@ pub record IsAt (o : OwnerState) (b link c : ℕ) : Type 0 where
 
 pub at_first : (o : OwnerState) (b : ℕ) → IsMain o.shape b → IsAt o b 0 b
 at_first o b main = let first = first_bucket o b in record { inside = omega arith; within = first.0; here = first.1 }
-
-module _ (o : OwnerState) (index : Index) (b : ℕ) (v : View o index b) (link c : ℕ) (w : IsAt o b link c) where
-  -- one link further
-  pub one_further : link_in o c ≢ 0 → IsAt o b (link + 1) (link_in o c)
-  one_further some = elim (step_on o b (buckets_of o b) v.chain.path link w.within) [
-    | inl more ↦
-        let to : bucket_at o (link + 1) b ≡ link_in o c = ap (at (buckets_of o b)) (add-one link)
-        ∙ (sym (v.chain.path.links link w.within) ∙ ap (link_in o) w.here) in
-        let less : link + 1 < length (buckets_of o b) = omega (arith, more.0) in
-        record { inside = subst (IsBucket o.shape) to (inside o b (buckets_of o b) v.chain (link + 1) less); within = less; here = to }
-    | inr last ↦ absurd (some (ap (link_in o) (sym w.here) ∙ last.1))
-  ]
-
-  pub at_end : link_in o c ≡ 0 → length (buckets_of o b) ≡ suc link
-  at_end none = elim (step_on o b (buckets_of o b) v.chain.path link w.within) [
-    | inl more ↦ absurd (more.1 (ap (link_in o) w.here ∙ none))
-    | inr last ↦ last.0
-  ]
 
 -- no walk goes past all spares
 pub at_most : (o : OwnerState) (b link c : ℕ) → IsAt o b link c → link ≤ o.shape.spares
@@ -55,31 +36,53 @@ ends_in o b link before c w behind size = record {
   before = λ k e. behind k (omega arith);
 }
 
--- the end of a chain, from its last two buckets and the used slots of the last
-pub end_there : (o : OwnerState) (index : Index) (b : ℕ) (v : View o index b) (before last used : ℕ) → EndsIn o b before last
-    → (used ≤ 15) × ((slot : ℕ) → slot < used → entry_in o last slot ≢ 0) × (used < 15 → entry_in o last used ≡ 0)
-    → EndsAt o b (record { before = before; bucket = last; used = used })
-end_there o index b v before last used ends slots = record { buckets = ends; within = slots.0; used = used_is }
-  where
-    n : ℕ
-    n = length (buckets_of o b) - 1
+module _ (o : OwnerState) (index : Index) (b : ℕ) (v : View o index b) where
+  abbrev cs : List ℕ
+  cs = b ∷ v.behind
 
-    size : length (buckets_of o b) ≡ suc n
-    size = let first = first_bucket o b in let some = first.0 in omega arith
+  pub list : buckets_of o b ≡ cs
+  list = chain_is o b v.behind v.chain
 
-    entry : (slot : ℕ) → slot < 15 → at (entries_of o b) (15 * n + slot) ≡ entry_in o last slot
-    entry slot low = sym (v.filled.entries n slot (omega (arith, size)) low) ∙ ap (λ (z : ℕ). entry_in o z slot) (ends.last n size)
+  module _ (link c : ℕ) (w : IsAt o b link c) where
+    pub placed : (link < length cs) × (at cs link ≡ c)
+    placed = subst (λ (z : List ℕ). (link < length z) × (at z link ≡ c)) list (w.within, w.here)
 
-    used_is : length (entries_of o b) + 15 ≡ 15 * length (buckets_of o b) + used
-    used_is =
-        let full = v.filled.size in
-        let within = slots.0 in
-        let least : 15 * n + used ≤ length (entries_of o b) = dite (ℕ_discrete used 0)
-        (λ none. omega (arith, size))
-        (λ some. let more = below (entries_of o b) (15 * n + (used - 1)) (λ e. slots.1 (used - 1) (omega arith) (sym (entry (used - 1) (omega arith)) ∙ e)) in omega arith) in
-        let most : length (entries_of o b) ≤ 15 * n + used = elim (cases_lt (15 * n + used) (length (entries_of o b))) [
-          | inl less ↦ absurd (v.filled.used (15 * n + used) less
-              (entry used (omega (arith, size)) ∙ slots.2 (omega (arith, size))))
-          | inr few ↦ few
-        ] in
-        omega (arith, size)
+    step : (link < length v.behind) × (link_in o c ≢ 0) × (link_in o c ≡ at cs (suc link)) ⊎ (length v.behind ≡ link) × (link_in o c ≡ 0)
+    step = grind (arith, placed.1, step_on (link_in o) b v.behind v.chain.behind link placed.0)
+
+    -- the link was read: one further, or at the end
+
+    pub one_further : (x : ℕ) → x ≡ link_in o c → x ≢ 0 → IsAt o b (link + 1) x
+    one_further x is some = elim step [
+      | inl more ↦
+          let less : suc link < length cs = omega (arith, more.0) in
+          let to : x ≡ at cs (suc link) = is ∙ more.2 in record {
+            inside = subst (IsBucket o.shape) (sym to) (inside o b v.behind v.chain v.main (at cs (suc link)) (Contains-get_or cs (suc link) 0 less));
+            within = omega (arith, less, ap length list);
+            here = grind (arith, list, to);
+          }
+      | inr last ↦ absurd (some (is ∙ last.1))
+    ]
+
+    pub at_end : (x : ℕ) → x ≡ link_in o c → x ≡ 0 → length (buckets_of o b) ≡ suc link
+    at_end x is none = grind (arith, step, ap length list, is)
+
+  -- the end of a chain, from its last two buckets and the used slots of the last
+
+  pub last_bucket : (before last : ℕ) → EndsIn o b before last → at cs (length v.behind) ≡ last
+  last_bucket before last ends = grind (arith, list, ends.last (length v.behind))
+
+  pub end_there : (before last used : ℕ) → EndsIn o b before last
+      → (used ≤ SLOTS) × ((slot : ℕ) → slot < used → entry_in o last slot ≢ 0) × (used < SLOTS → entry_in o last used ≡ 0)
+      → EndsAt o b (record { before = before; bucket = last; used = used })
+  end_there before last used ends slots = record { buckets = ends; within = slots.0; used = used_is }
+    where
+      entry : (slot : ℕ) → slot < SLOTS → at (entries_of o b) (SLOTS * length v.behind + slot) ≡ entry_in o last slot
+      entry slot low = sym (v.filled.entries (length v.behind) slot (omega arith) low) ∙ ap (λ (z : ℕ). entry_in o z slot) (last_bucket before last ends)
+
+      used_is : length (entries_of o b) + SLOTS ≡ SLOTS * length (buckets_of o b) + used
+      used_is =
+          let within = slots.0 in
+          let more = below (entries_of o b) (SLOTS * length v.behind + (used - 1)) in
+          let most = v.filled.used (SLOTS * length v.behind + used) 0 in
+          grind (arith, ap length list, v.filled.size, slots.1 (used - 1), slots.2, entry (used - 1), entry used)

@@ -6,6 +6,8 @@ pub mod Marked
 pub mod Failing
 pub mod Spares
 pub mod Carried
+pub mod Behind
+pub mod Counted
 pub mod Walks
 pub mod Chains
 pub mod Machine

@@ -2,22 +2,22 @@
 use Rattle.std.proofs.Common.{◌≡◌, ℕ, ◌+◌, ◌<◌, ◌≢◌, arith}
 use Rattle.epoch_core.specs.declared.shape.Shape.{Shape}
 use Rattle.epoch_core.specs.Shape.{IsMain, IsBucket}
-use Rattle.epoch_core.specs.Layout.{stamp_at, epoch_at, entries_at, item_at}
+use Rattle.epoch_core.specs.Layout.{bucket_words, stamp_at, epoch_at, entries_at, item_at}
 
--- the 16 words of buckets: 15 entries, and the link
-pub same_bucket : (shape : Shape) (b c s t : ℕ) → s < 16 → t < 16 → entries_at shape b + s ≡ entries_at shape c + t → b ≡ c
+-- the words of buckets: their entries, and the link
+pub same_bucket : (shape : Shape) (b c s t : ℕ) → s < bucket_words → t < bucket_words → entries_at shape b + s ≡ entries_at shape c + t → b ≡ c
 same_bucket shape b c s t x y e = omega arith
 
-pub same_slot : (shape : Shape) (b c s t : ℕ) → s < 16 → t < 16 → entries_at shape b + s ≡ entries_at shape c + t → s ≡ t
+pub same_slot : (shape : Shape) (b c s t : ℕ) → s < bucket_words → t < bucket_words → entries_at shape b + s ≡ entries_at shape c + t → s ≡ t
 same_slot shape b c s t x y e = let same = same_bucket shape b c s t x y e in omega arith
 
-pub no_epoch : (shape : Shape) (b c s : ℕ) → IsMain shape b → s < 16 → entries_at shape c + s ≢ epoch_at b
+pub no_epoch : (shape : Shape) (b c s : ℕ) → IsMain shape b → s < bucket_words → entries_at shape c + s ≢ epoch_at b
 no_epoch shape b c s l x e = omega arith
 
 pub no_stamp : (shape : Shape) (c s : ℕ) → entries_at shape c + s ≢ stamp_at
 no_stamp shape c s e = omega arith
 
-pub no_item : (shape : Shape) (c s p : ℕ) → IsBucket shape c → s < 16 → entries_at shape c + s ≢ item_at shape p
+pub no_item : (shape : Shape) (c s p : ℕ) → IsBucket shape c → s < bucket_words → entries_at shape c + s ≢ item_at shape p
 no_item shape c s p l x e = omega arith
 
 pub item_no_epoch : (shape : Shape) (b p : ℕ) → IsMain shape b → item_at shape p ≢ epoch_at b

@@ -1,5 +1,6 @@
 -- An event goes to no word that a get of a bucket with no marked write needs.
 use Rattle.std.proofs.Common.{◌≡◌, ℕ, ◌+◌, ◌<◌, ◌≢◌, List, refl, sym, ◌∙◌, subst, arith}
+use Rattle.mica_words.specs.declared.entry.TheConstants.{SLOTS}
 use Rattle.mica_words.specs.Entry.{entry_offset}
 use Rattle.mica_model.specs.declared.write.Write.{Write}
 use Rattle.mica_model.specs.History.{State, cache_state, store_state, state_of}
@@ -9,12 +10,12 @@ use Rattle.epoch_core.specs.declared.state.Phase.TheVariants.{Idle, Begun, Marke
 use Rattle.epoch_core.specs.declared.event.Event.{Event}
 use Rattle.epoch_core.specs.declared.event.Event.TheVariants.{Begins, Marks, PutsWord, PutsEntry, PutsLink, Ends}
 use Rattle.epoch_core.specs.Shape.{IsMain}
-use Rattle.epoch_core.specs.Layout.{entries_at, item_at}
+use Rattle.epoch_core.specs.Layout.{bucket_words, entries_at, item_at}
 use Rattle.epoch_core.specs.OwnerState.{options_in, marked_in}
 use Rattle.epoch_core.specs.Chain.{InChain}
 use Rattle.epoch_core.specs.LiveEntry.{HasLiveEntry}
 use Rattle.epoch_core.specs.StandsFor.{room_in, IsInRoom}
-use Rattle.epoch_core.specs.Events.{WhenMarked, BelongsTo, IsAllowed, place_of}
+use Rattle.epoch_core.specs.Events.{WhenMarked, IsItsBucket, BelongsTo, IsAllowed, place_of}
 use Rattle.epoch_core.specs.Reach.{IsReached, by_entry, by_link, by_item}
 use Rattle.epoch_core.specs.Kept.{Kept}
 use Rattle.epoch_core.proofs.Marked.{chain_bucket, marked_not, ends_main, its_bucket, its_inside}
@@ -28,18 +29,17 @@ LogSpares o = (b : ℕ) (write : Write) (history : List Write) (before : _) (c s
 
 module _ (o : OwnerState) (s : Kept o) (log : LogSpares o) where
   module _ (other : ℕ) (l : IsMain o.shape other) (none : marked_in o.phase other ≡ 0) where
-    -- none of the 16 words of a bucket of its chain
-    apart_slot : (e : Event) → IsAllowed e o → (c slot : ℕ) → InChain o other c → slot < 16 → entries_at o.shape c + slot ≢ place_of o.shape e
+    -- none of the words of a bucket of its chain, as those that the marked write may change are of other buckets
+
+    not_its : (d t : ℕ) → IsItsBucket o d → t < bucket_words → (c slot : ℕ) → InChain o other c → slot < bucket_words → entries_at o.shape c + slot ≢ entries_at o.shape d + t
+    not_its d t its y c slot h x e = its_bucket o s o.phase refl d its other l none (subst (InChain o other) (same_bucket o.shape c d slot t x y e) h)
+
+    apart_slot : (e : Event) → IsAllowed e o → (c slot : ℕ) → InChain o other c → slot < bucket_words → entries_at o.shape c + slot ≢ place_of o.shape e
     apart_slot (Begins b) a c slot h x e = no_epoch o.shape b c slot a.main x e
     apart_slot (Marks write n) a c slot h x e = no_stamp o.shape c slot e
     apart_slot (PutsWord p y) a c slot h x e = no_item o.shape c slot p (chain_bucket o s other c l h) x e
-    apart_slot (PutsEntry d t entry) a c slot h x e =
-        let small = a.in_bucket in
-        let same : c ≡ d = same_bucket o.shape c d slot t x (omega arith) e in
-        its_bucket o s o.phase refl d a.its_bucket other l none (subst (InChain o other) same h)
-    apart_slot (PutsLink d next) a c slot h x e =
-        let same : c ≡ d = same_bucket o.shape c d slot 15 x (omega arith) e in
-        its_bucket o s o.phase refl d a.its_bucket other l none (subst (InChain o other) same h)
+    apart_slot (PutsEntry d t entry) a c slot h x e = let small = a.in_bucket in not_its d t a.its_bucket (omega arith) c slot h x e
+    apart_slot (PutsLink d next) a c slot h x e = not_its d SLOTS a.its_bucket (omega arith) c slot h x e
     apart_slot (Ends b) a c slot h x e = no_epoch o.shape b c slot (ends_main o s o.phase refl b a.marked) x e
 
     -- no word of the room of one of its live items
@@ -59,11 +59,11 @@ module _ (o : OwnerState) (s : Kept o) (log : LogSpares o) where
             by_state (store_state now) at f = f other c slot entry l (marked_not o s b other write before is none) h (i, x, e)
     apart_room (PutsEntry d t y) a c slot entry i h x e =
         let small = a.in_bucket in no_item o.shape d t (entry_offset entry + i) (its_inside o s o.phase refl d a.its_bucket) (omega arith) (sym e)
-    apart_room (PutsLink d next) a c slot entry i h x e = no_item o.shape d 15 (entry_offset entry + i) (its_inside o s o.phase refl d a.its_bucket) (omega arith) (sym e)
+    apart_room (PutsLink d next) a c slot entry i h x e = no_item o.shape d SLOTS (entry_offset entry + i) (its_inside o s o.phase refl d a.its_bucket) (omega arith) (sym e)
     apart_room (Ends b) a c slot entry i h x e = item_no_epoch o.shape b (entry_offset entry + i) (ends_main o s o.phase refl b a.marked) e
 
     -- the law
     pub spares : (e : Event) → IsAllowed e o → (place : ℕ) → IsReached o other place → place ≢ place_of o.shape e
     spares e a place (by_entry c slot h x at) is = apart_slot e a c slot h (omega arith) (sym at ∙ is)
-    spares e a place (by_link c h at) is = apart_slot e a c 15 h (omega arith) (sym at ∙ is)
+    spares e a place (by_link c h at) is = apart_slot e a c SLOTS h (omega arith) (sym at ∙ is)
     spares e a place (by_item c slot entry i h x at) is = apart_room e a c slot entry i h x (sym at ∙ is)

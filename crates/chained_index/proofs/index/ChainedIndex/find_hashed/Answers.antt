@@ -1,12 +1,11 @@
-use Rattle.chained_index.proofs.Words.{◌≡◌, ◌≢◌, ℕ, List, ◌+◌, ◌*◌, ◌∙◌, refl, sym, ap, subst, arith, rules, true≢false, tag_of, entry_tag}
-use Rattle.chained_index.proofs.Words.{entry_offset, OwnerState, Shape, entry_in, link_in, HasKey, Kept, Index}
-use Rattle.chained_index.proofs.Chained.{chained}
-use Rattle.chained_index.proofs.Filled.{View, view}
-use Rattle.chained_index.proofs.Walking.{IsAt, at_first, one_further, at_end, at_most}
-use Rattle.chained_index.proofs.Finding.{IsOfKey, NoneBefore, spot_found, none_past_empty, none_at_end, one_more}
+use Rattle.chained_index.proofs.Words.{◌≡◌, ◌∙◌, refl, sym, ap, subst, arith, rules, true≢false, tag_of, OwnerState, Shape, entry_in, link_in, Kept}
+use Rattle.chained_index.proofs.Words.{Index, IsTrue, ◌↔◌}
+use Rattle.chained_index.proofs.Filled.{View, view_read}
+use Rattle.chained_index.proofs.Walking.{at_first, one_further, at_end, at_most}
+use Rattle.chained_index.proofs.Finding.{IsOfKey, spot_found, none_past_empty, none_at_end, one_more}
 use Rattle.chained_index.proofs.index.ChainedIndex.find_hashed.Given.{Over}
 use Rattle.chained_index.proofs.index.ChainedIndex.find_hashed.Goals as goal
-use Rattle.chained_index.proofs.index.ChainedIndex.find_hashed.Goals.{After-read-entry, After-read-next}
+use Rattle.chained_index.proofs.index.ChainedIndex.find_hashed.Goals.{After-read-entry, After-names_key, After-read-next}
 
 pub loop-link-init : goal.loop-link-init
 loop-link-init g c = record {
@@ -17,18 +16,10 @@ loop-link-init g c = record {
   none = λ i less. absurd (omega arith);
 }
 
-pub loop-slot-init : goal.loop-slot-init
-loop-slot-init g c = record {
-  owner = c.loop-link.invariant.owner;
-  home = c.loop-link.invariant.home;
-  kept = λ some. absurd (omega arith);
-  none = λ i less. c.loop-link.invariant.none i (omega arith);
-}
-
 -- an entry was read
 
 seen : (g : Over) (c : After-read-entry g) → View (g.W.OwnerWords.owner c.args.words.now) c.args.self.now c.args.bucket
-seen g c = view _ (chained _ (subst Kept (c.read-entry.ensures.same ∙ c.loop-slot.invariant.owner) c.read-entry.ensures.kept)) _ c.requires.index _ c.requires.bucket
+seen g c = view_read _ _ _ _ (c.read-entry.ensures.same ∙ c.loop-slot.invariant.owner) c.read-entry.ensures.kept c.requires.index c.requires.bucket
 
 value : (g : Over) (c : After-read-entry g) → c.read-entry.result ≡ entry_in (g.W.OwnerWords.owner c.args.words.now) c.loop-link.at c.loop-slot.slot
 value g c = c.read-entry.ensures.value ∙ ap (λ (z : OwnerState). entry_in z c.loop-link.at c.loop-slot.slot) c.loop-slot.invariant.owner
@@ -39,58 +30,46 @@ returns-then-entry-eq0-clause-found g c =
     none_past_empty _ _ _ (seen g a) c.args.key.now _ _ c.loop-link.invariant.walk
     c.loop-slot.slot c.loop-slot-test.true (sym (value g a) ∙ c.if-entry-eq0.true) c.loop-slot.invariant.none
 
--- whether it is of the key, as the words are and as they were
-of_key : (m o : OwnerState) → m ≡ o → (key : List ℕ) (x y tag : ℕ) → x ≡ y → tag ≡ tag_of key → (entry_tag x ≡ tag) × HasKey m (entry_offset x) key → IsOfKey o key y
-of_key m o same key x y tag is known h = subst (IsOfKey o key) is (h.0 ∙ known, subst (λ (z : OwnerState). HasKey z (entry_offset x) key) same h.1)
+-- whether it is of the key
+says : (g : Over) (c : After-names_key g) → IsTrue c.names_key.result ↔ IsOfKey (g.W.OwnerWords.owner c.args.words.now) c.args.key.now (entry_in (g.W.OwnerWords.owner c.args.words.now) c.loop-link.at c.loop-slot.slot)
+unfolding tag_of
+says g c =
+    let same = c.read-entry.ensures.same ∙ c.loop-slot.invariant.owner in
+    let value = c.read-entry.ensures.value ∙ ap (λ (z : OwnerState). entry_in z c.loop-link.at c.loop-slot.slot) c.loop-slot.invariant.owner in
+    let tag : c.tag_of-tag.result ≡ tag_of c.args.key.now = search rules in
+    rw value at (rw same at (rw tag at c.names_key.ensures.names))
 
 pub returns-then-names_key-clause-found : goal.returns-then-names_key-clause-found
-unfolding tag_of
 returns-then-names_key-clause-found g c =
     let a = (goal.at.returns-then-names_key-clause-found g c).After-read-entry in
-    let tag : c.tag_of-tag.result ≡ tag_of c.args.key.now = search rules in
     spot_found _ _ _ (seen g a) c.args.key.now _ _ c.loop-link.invariant.walk
     c.loop-slot.slot c.loop-slot-test.true (λ none. c.if-entry-eq0.false (value g a ∙ none))
-    (of_key _ _ (c.read-entry.ensures.same ∙ c.loop-slot.invariant.owner) _ _ _ _ (value g a) tag (c.names_key.ensures.names.0 c.if-names_key.true))
+    ((says g (goal.at.returns-then-names_key-clause-found g c).After-names_key).0 c.if-names_key.true)
 
 pub loop-slot-preserved : goal.loop-slot-preserved
-unfolding tag_of
 loop-slot-preserved g c =
     let a = (goal.at.loop-slot-preserved g c).After-read-entry in
-    let same = c.read-entry.ensures.same ∙ c.loop-slot.invariant.owner in
-    let tag : c.tag_of-tag.result ≡ tag_of c.args.key.now = search rules in record {
+    let same = c.read-entry.ensures.same ∙ c.loop-slot.invariant.owner in record {
       owner = c.names_key.ensures.same ∙ same;
       home = c.names_key.ensures.home ∙ (c.read-entry.ensures.home ∙ c.loop-slot.invariant.home);
       kept = λ some. subst Kept same c.read-entry.ensures.kept;
-      none = one_more _ _ _ (seen g a) c.args.key.now _ _ c.loop-link.invariant.walk
-          c.loop-slot.slot c.loop-slot-test.true c.loop-slot.invariant.none
-          (λ is. true≢false (sym (c.names_key.ensures.names.1 (
-            ap entry_tag (value g a) ∙ (is.0 ∙ sym tag),
-            subst (λ (z : ℕ). HasKey (g.W.OwnerWords.owner c.read-entry.new.self) (entry_offset z) c.args.key.now) (sym (value g a))
-                (subst (λ (z : OwnerState). HasKey z (entry_offset (entry_in (g.W.OwnerWords.owner c.args.words.now) c.loop-link.at c.loop-slot.slot)) c.args.key.now) (sym same) is.1),
-          )) ∙ c.if-names_key.false));
+      none = one_more _ _ _ (seen g a) c.args.key.now _ _ c.loop-link.invariant.walk c.loop-slot.slot c.loop-slot-test.true c.loop-slot.invariant.none
+          (λ is. true≢false (sym ((says g (goal.at.loop-slot-preserved g c).After-names_key).1 is) ∙ c.if-names_key.false));
     }
 
 -- a link was read
 
 linked : (g : Over) (c : After-read-next g) → View (g.W.OwnerWords.owner c.args.words.now) c.args.self.now c.args.bucket
-linked g c = view _ (chained _ (subst Kept (c.read-next.ensures.same ∙ c.loop-slot.invariant.owner) c.read-next.ensures.kept)) _ c.requires.index _ c.requires.bucket
+linked g c = view_read _ _ _ _ (c.read-next.ensures.same ∙ c.loop-slot.invariant.owner) c.read-next.ensures.kept c.requires.index c.requires.bucket
 
 link : (g : Over) (c : After-read-next g) → c.read-next.result ≡ link_in (g.W.OwnerWords.owner c.args.words.now) c.loop-link.at
 link g c = c.read-next.ensures.value ∙ ap (λ (z : OwnerState). link_in z c.loop-link.at) c.loop-slot.invariant.owner
 
-all_here : (g : Over) (c : After-read-next g) → NoneBefore (g.W.OwnerWords.owner c.args.words.now) c.args.bucket c.args.key.now (15 * c.loop-link._link + 15)
-all_here g c = λ i less. c.loop-slot.invariant.none i (omega arith)
-
 pub returns-then-next-eq0-clause-found : goal.returns-then-next-eq0-clause-found
 returns-then-next-eq0-clause-found g c =
     let a = (goal.at.returns-then-next-eq0-clause-found g c).After-read-next in
-    let none : c.read-next.result ≡ 0 = search rules in
     none_at_end _ _ _ (linked g a) c.args.key.now _ _ c.loop-link.invariant.walk
-    (at_end _ _ _ (linked g a) _ _ c.loop-link.invariant.walk (sym (link g a) ∙ none)) (all_here g a)
-
-further : (g : Over) (c : After-read-next g) → c.read-next.result ≢ 0 → IsAt (g.W.OwnerWords.owner c.args.words.now) c.args.bucket (c.loop-link._link + 1) c.read-next.result
-further g c some = subst (IsAt _ c.args.bucket (c.loop-link._link + 1)) (sym (link g c))
-    (one_further _ _ _ (linked g c) _ _ c.loop-link.invariant.walk (λ none. some (link g c ∙ none)))
+    (at_end _ _ _ (linked g a) _ _ c.loop-link.invariant.walk _ (link g a) (search rules)) (λ i less. c.loop-slot.invariant.none i (omega arith))
 
 pub loop-link-preserved : goal.loop-link-preserved
 loop-link-preserved g c =
@@ -99,14 +78,14 @@ loop-link-preserved g c =
       owner = same;
       home = c.read-next.ensures.home ∙ c.loop-slot.invariant.home;
       kept = λ more. subst Kept same c.read-next.ensures.kept;
-      walk = further g a (search rules);
-      none = λ i less. all_here g a i (omega arith);
+      walk = one_further _ _ _ (linked g a) _ _ c.loop-link.invariant.walk _ (link g a) (search rules);
+      none = λ i less. c.loop-slot.invariant.none i (omega arith);
     }
 
 pub returns-else-next-eq0-clause-found : goal.returns-else-next-eq0-clause-found
 returns-else-next-eq0-clause-found g c =
     let a = (goal.at.returns-else-next-eq0-clause-found g c).After-read-next in
-    let far = at_most _ _ _ _ (further g a (search rules)) in
+    let far = at_most _ _ _ _ (one_further _ _ _ (linked g a) _ _ c.loop-link.invariant.walk _ (link g a) (search rules)) in
     let known = ap (λ (z : Shape). z.spares) c.requires.index.shape in
     let seen = ap (λ (z : Index). z.shape.spares) c.self.view_is in
     absurd (omega arith)

@@ -1,4 +1,4 @@
-use Rattle.chained_index.proofs.Words.{◌≡◌, ◌+◌, ◌*◌, ◌<◌, Kept}
+use Rattle.chained_index.proofs.Words.{SLOTS, ◌≡◌, ◌+◌, ◌*◌, ◌<◌, Kept}
 use Rattle.chained_index.proofs.Walking.{IsAt}
 use Rattle.chained_index.proofs.Finding.{NoneBefore}
 use Rattle.chained_index.proofs.index.ChainedIndex.find_hashed.Given as goal
@@ -9,7 +9,7 @@ invariant-loop-link g l = record {
   home : g.W.OwnerWords.home l.words ≡ g.W.OwnerWords.home l.fn.words;
   kept : 0 < l._link → Kept (g.W.OwnerWords.owner l.fn.words);
   walk : IsAt (g.W.OwnerWords.owner l.fn.words) l.bucket l._link l.at;
-  none : NoneBefore (g.W.OwnerWords.owner l.fn.words) l.bucket l.key (15 * l._link);
+  none : NoneBefore (g.W.OwnerWords.owner l.fn.words) l.bucket l.key (SLOTS * l._link);
 }
 
 abbrev pub invariant-loop-slot : goal.invariant-loop-slot
@@ -17,5 +17,5 @@ invariant-loop-slot g l = record {
   owner : g.W.OwnerWords.owner l.words ≡ g.W.OwnerWords.owner l.fn.words;
   home : g.W.OwnerWords.home l.words ≡ g.W.OwnerWords.home l.fn.words;
   kept : 0 < l.slot → Kept (g.W.OwnerWords.owner l.fn.words);
-  none : NoneBefore (g.W.OwnerWords.owner l.fn.words) l.bucket l.key (15 * l._link + l.slot);
+  none : NoneBefore (g.W.OwnerWords.owner l.fn.words) l.bucket l.key (SLOTS * l._link + l.slot);
 }

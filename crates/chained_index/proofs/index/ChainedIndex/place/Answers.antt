@@ -1,6 +1,6 @@
-use Rattle.chained_index.proofs.Words.{◌≡◌, ℕ, ◌∙◌, Option, option_to_list, length, [], ◌∷◌, ◌++◌, sym, ap, subst, arith, rules, nil_from_length}
-use Rattle.chained_index.proofs.Words.{entry_of, OwnerState, PutsEntry, MayPutEntry, MayPutLink, after, Index, IsIndexOf}
-use Rattle.chained_index.proofs.Allowed.{may_enter, may_begin, may_link, some_entry}
+use Rattle.chained_index.proofs.Words.{◌≡◌, ℕ, inl, inr, ◌∙◌, Option, option_to_list, length, [], ◌∷◌, ◌++◌, sym, ap, subst, arith, rules}
+use Rattle.chained_index.proofs.Words.{nil_from_length, entry_of, PutsEntry, PutsLink, after, Index, IsIndexOf}
+use Rattle.chained_index.proofs.Allowed.{may_enter, may_link, some_entry}
 use Rattle.chained_index.proofs.Calls.{Call, call_at, end_in_chain, lacks, last_free, added, added_behind}
 use Rattle.chained_index.proofs.index.ChainedIndex.place.Given.{Over}
 use Rattle.chained_index.proofs.index.ChainedIndex.place.Goals as goal
@@ -10,8 +10,8 @@ call : (g : Over) (c : After-end_of-end g) → Call (g.W.OwnerWords.owner c.args
 call g c = call_at _ _ _ _ _ c.end_of-end.ensures.same c.end_of-end.ensures.kept c.requires.index c.requires.bucket c.end_of-end.ensures.end
 
 pub put_entry-requires : goal.put_entry-requires
-put_entry-requires g c = subst (λ (z : OwnerState). MayPutEntry z c.end_of-end.result.bucket c.end_of-end.result.used) (sym c.end_of-end.ensures.same)
-    (may_enter _ c.args.bucket c.requires.marked _ _ (end_in_chain _ _ _ _ (call g (goal.at.put_entry-requires g c).After-end_of-end)) c.if-end-lt-SLOTS.true)
+put_entry-requires g c = may_enter _ c.args.bucket c.requires.marked _ c.end_of-end.ensures.same _ _
+    (inl (end_in_chain _ _ _ _ (call g (goal.at.put_entry-requires g c).After-end_of-end))) c.if-end-lt-SLOTS.true
 
 -- the entry went into the last bucket
 pub returns-then-end-lt-SLOTS : goal.returns-then-end-lt-SLOTS
@@ -40,18 +40,16 @@ popped g c = c.pop.ensures.items ∙ ap (λ (z : Option ℕ). c.pop.new.self.ite
 pub put_entry-requires-in-Some : goal.put_entry-requires-in-Some
 put_entry-requires-in-Some g c =
     let i = (goal.at.put_entry-requires-in-Some g c).In-Some in
-    subst (λ (z : OwnerState). MayPutEntry z c.in-Some.next 0) (sym c.end_of-end.ensures.same)
-    (may_begin _ c.args.bucket c.requires.marked _ (last_free _ _ _ _ (free_call g i) _ _ (popped g i)))
+    may_enter _ c.args.bucket c.requires.marked _ c.end_of-end.ensures.same _ _ (inr (last_free _ _ _ _ (free_call g i) _ _ (popped g i))) (omega arith)
 
 pub put_link-requires : goal.put_link-requires
 put_link-requires g c =
     let i = (goal.at.put_link-requires g c).In-Some in
     let call = free_call g i in
     let free = last_free _ _ _ _ call _ _ (popped g i) in
-    subst (λ (z : OwnerState). MayPutLink z c.end_of-end.result.bucket c.in-Some.next)
-    (sym (c.put_entry-in-Some.ensures.event ∙ ap (after (PutsEntry c.in-Some.next 0 c.entry_of-entry.result)) c.end_of-end.ensures.same))
-    (may_link _ call.v.s c.args.bucket call.v.main c.requires.marked c.in-Some.next 0 c.entry_of-entry.result (omega arith) _ c.in-Some.next
-    (end_in_chain _ _ _ _ call) free (call.v.known.blank c.in-Some.next free).no_link)
+    may_link _ call.v.s c.args.bucket call.v.main c.requires.marked c.in-Some.next 0 c.entry_of-entry.result (omega arith) _
+    (c.put_entry-in-Some.ensures.event ∙ ap (after (PutsEntry c.in-Some.next 0 c.entry_of-entry.result)) c.end_of-end.ensures.same) _ _
+    (end_in_chain _ _ _ _ call) (inr (free, (call.v.known.blank c.in-Some.next free).no_link))
 
 pub returns-in-Some : goal.returns-in-Some
 returns-in-Some g c =
@@ -59,8 +57,8 @@ returns-in-Some g c =
     let first = c.put_entry-in-Some.ensures.event ∙ (ap (after (PutsEntry c.in-Some.next 0 c.entry_of-entry.result)) c.end_of-end.ensures.same
     ∙ ap (λ (z : ℕ). after (PutsEntry c.in-Some.next 0 z) (g.W.OwnerWords.owner c.args.words.now)) c.entry_of-entry.ensures) in
     let taken = added_behind _ _ _ _ (free_call g i) (entry_of c.args.tag c.args.offset) c.in-Some.next c.pop.new.self.items
-    (some_entry c.args.tag c.args.offset c.requires.tag) c.if-end-lt-SLOTS.false (popped g i) _ _ c.put_entry-in-Some.ensures.kept c.put_link.ensures.kept
-    first c.put_link.ensures.event in record {
+    (some_entry c.args.tag c.args.offset c.requires.tag) c.if-end-lt-SLOTS.false (popped g i) _ c.put_link.ensures.kept
+    (c.put_link.ensures.event ∙ ap (after (PutsLink c.end_of-end.result.bucket c.in-Some.next)) first) in record {
       entries = taken.0;
       index = taken.1;
       kept = c.put_link.ensures.kept;

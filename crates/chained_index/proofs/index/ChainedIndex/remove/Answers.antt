@@ -1,8 +1,8 @@
-use Rattle.chained_index.proofs.Words.{◌≡◌, ℕ, ◌-◌, ◌≤◌, rules, ◌∙◌, List, sym, ap, subst, arith, length, vec_len, vec_capacity, OwnerState, Shape}
-use Rattle.chained_index.proofs.Words.{PutsEntry, IsBucket, entry_in, MayPutEntry, MayPutLink, after, Kept, Index, IsIndexOf}
+use Rattle.chained_index.proofs.Words.{◌≡◌, ℕ, inl, refl, ◌-◌, ◌≤◌, rules, ◌∙◌, List, sym, ap, subst, arith, length, vec_len, vec_capacity}
+use Rattle.chained_index.proofs.Words.{OwnerState, Shape, PutsEntry, PutsLink, IsBucket, entry_in, after, Kept, Index, IsIndexOf}
 use Rattle.chained_index.proofs.Chained.{chained}
-use Rattle.chained_index.proofs.Allowed.{may_enter, may_cut, still_in}
-use Rattle.chained_index.proofs.Calls.{Call, call_at, end_in_chain, end_inside, before_in_chain, used_some, release_room, call_then, drop, release, without}
+use Rattle.chained_index.proofs.Allowed.{may_enter, may_link, still_in}
+use Rattle.chained_index.proofs.Calls.{Call, call_at, end_in_chain, end_inside, before_in_chain, used_some, release_room, drop, release}
 use Rattle.chained_index.proofs.index.ChainedIndex.remove.Given.{Over}
 use Rattle.chained_index.proofs.index.ChainedIndex.remove.Goals as goal
 use Rattle.chained_index.proofs.index.ChainedIndex.remove.Goals.{After-end_of-end, After-put_entry}
@@ -34,10 +34,8 @@ put_entry-requires-2 g c =
     let call = call g (goal.at.put_entry-requires-2 g c).After-end_of-end in
     let within = call.ends.within in
     let some = used_some _ _ _ _ call c.args.spot c.requires.spot in
-    subst (λ (z : OwnerState). MayPutEntry z c.end_of-end.result.bucket (c.end_of-end.result.used - 1)) (sym (first g (goal.at.put_entry-requires-2 g c).After-put_entry))
-    (may_enter _ c.args.bucket c.requires.marked _ _
-    (still_in _ call.v.s _ call.v.main c.requires.marked c.args.spot.bucket c.args.spot.slot c.read-entry.result c.requires.spot.in_bucket _ (end_in_chain _ _ _ _ call))
-    (omega arith))
+    may_enter _ c.args.bucket c.requires.marked _ (first g (goal.at.put_entry-requires-2 g c).After-put_entry) _ _
+    (inl (still_in _ call.v.s _ call.v.main c.requires.marked _ _ _ c.requires.spot.in_bucket _ (end_in_chain _ _ _ _ call))) (omega arith)
 
 pub put_link-requires : goal.put_link-requires
 put_link-requires g c =
@@ -46,12 +44,9 @@ put_link-requires g c =
     let within = call.ends.within in
     let some = used_some _ _ _ _ call c.args.spot c.requires.spot in
     let end = c.end_of-end.result in
-    let store : OwnerState → OwnerState = after (PutsEntry c.args.spot.bucket c.args.spot.slot c.read-entry.result) in
-    let m : OwnerState = store (g.W.OwnerWords.owner c.args.words.now) in
-    subst (λ (z : OwnerState). MayPutLink z end.before 0) (sym (c.put_entry-2.ensures.event ∙ ap (after (PutsEntry end.bucket (end.used - 1) 0)) is))
-    (may_cut m (chained m (subst Kept is c.put_entry.ensures.kept)) c.args.bucket call.v.main c.requires.marked end.bucket (end.used - 1) 0 (omega arith) _
-    (still_in _ call.v.s _ call.v.main c.requires.marked c.args.spot.bucket c.args.spot.slot c.read-entry.result c.requires.spot.in_bucket _
-    (before_in_chain _ _ _ _ call c.if-end-bucket.true)))
+    may_link _ (chained _ (subst Kept is c.put_entry.ensures.kept)) c.args.bucket call.v.main c.requires.marked end.bucket (end.used - 1) 0 (omega arith) _
+    (c.put_entry-2.ensures.event ∙ ap (after (PutsEntry end.bucket (end.used - 1) 0)) is) _ _
+    (still_in _ call.v.s _ call.v.main c.requires.marked _ _ _ c.requires.spot.in_bucket _ (before_in_chain _ _ _ _ call c.if-end-bucket.true)) (inl refl)
 
 pub push_reserved-requires : goal.push_reserved-requires
 push_reserved-requires g c =
@@ -67,12 +62,11 @@ push_reserved-requires g c =
 pub returns-else-last-eq0 : goal.returns-else-last-eq0
 returns-else-last-eq0 g c =
     let a = (goal.at.returns-else-last-eq0 g c).After-put_entry in
-    let call = call g (goal.at.returns-else-last-eq0 g c).After-end_of-end in
-    let some = used_some _ _ _ _ call c.args.spot c.requires.spot in
-    let two = drop _ _ _ _ (call_then _ _ _ _ call c.args.spot c.requires.spot _ (last g a) _ c.put_entry.ensures.kept (first g a)) some
-    c.else-last-eq0.either _ c.put_entry-2.ensures.kept c.put_entry-2.ensures.event in record {
-      entries = without _ _ _ _ call c.args.spot c.requires.spot _ (last g a) _ c.put_entry.ensures.kept (first g a) _ two.0;
-      index = two.1;
+    let end = c.end_of-end.result in
+    let left = drop _ _ _ _ (call g (goal.at.returns-else-last-eq0 g c).After-end_of-end) c.args.spot c.requires.spot _ (last g a) c.else-last-eq0.either
+    _ c.put_entry-2.ensures.kept (c.put_entry-2.ensures.event ∙ ap (after (PutsEntry end.bucket (end.used - 1) 0)) (first g a)) in record {
+      entries = left.0;
+      index = left.1;
       kept = c.put_entry-2.ensures.kept;
       home = c.put_entry-2.ensures.home ∙ (c.put_entry.ensures.home ∙ (c.read-entry.ensures.home ∙ c.end_of-end.ensures.home));
     }
@@ -80,14 +74,14 @@ returns-else-last-eq0 g c =
 -- the last bucket is released
 pub returns-then-end-bucket : goal.returns-then-end-bucket
 returns-then-end-bucket g c =
-    let a = (goal.at.returns-then-end-bucket g c).After-put_entry in
     let index = subst (λ (z : Index). IsIndexOf z (g.W.OwnerWords.owner c.args.words.now)) (sym c.self.view_is) c.requires.index in
     let call = call_at _ _ _ _ _ c.end_of-end.ensures.same c.end_of-end.ensures.kept index c.requires.bucket c.end_of-end.ensures.end in
-    let some = used_some _ _ _ _ call c.args.spot c.requires.spot in
-    let two = release _ _ _ _ (call_then _ _ _ _ call c.args.spot c.requires.spot _ (last g a) _ c.put_entry.ensures.kept (first g a)) some
-    c.if-last-eq0.true c.if-end-bucket.true _ _ c.put_entry-2.ensures.kept c.put_link.ensures.kept c.put_entry-2.ensures.event c.put_link.ensures.event in record {
-      entries = without _ _ _ _ call c.args.spot c.requires.spot _ (last g a) _ c.put_entry.ensures.kept (first g a) _ two.0;
-      index = subst (λ (z : List ℕ). IsIndexOf (record { shape = c.self.inside.shape; free = z }) (g.W.OwnerWords.owner c.put_link.new.self)) (sym c.push_reserved.ensures.items) two.1;
+    let a = (goal.at.returns-then-end-bucket g c).After-put_entry in
+    let end = c.end_of-end.result in
+    let left = release _ _ _ _ call c.args.spot c.requires.spot _ (last g a) c.if-last-eq0.true c.if-end-bucket.true _ c.put_link.ensures.kept
+    (c.put_link.ensures.event ∙ ap (after (PutsLink end.before 0)) (c.put_entry-2.ensures.event ∙ ap (after (PutsEntry end.bucket (end.used - 1) 0)) (first g a))) in record {
+      entries = left.0;
+      index = subst (λ (z : List ℕ). IsIndexOf (record { shape = c.self.inside.shape; free = z }) (g.W.OwnerWords.owner c.put_link.new.self)) (sym c.push_reserved.ensures.items) left.1;
       kept = c.put_link.ensures.kept;
       home = c.put_link.ensures.home ∙ (c.put_entry-2.ensures.home ∙ (c.put_entry.ensures.home ∙ (c.read-entry.ensures.home ∙ c.end_of-end.ensures.home)));
     }
