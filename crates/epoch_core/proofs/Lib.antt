@@ -29,3 +29,4 @@ pub mod JoinKeeps
 pub mod ScriptKeeps
 pub mod Settling
 pub mod Cuts
+pub mod PartitionLaws

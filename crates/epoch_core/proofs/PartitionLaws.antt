@@ -1,0 +1,257 @@
+-- Laws of a partition, in either mode: what it knows between two writes, and of a write that the machine accepts.
+use Rattle.std.proofs.Common.{◌≡◌, ℕ, ◌+◌, ◌<◌, ◌≤◌, ◌≢◌, ◌⊎◌, inl, inr, List, [], ◌∷◌, ◌++◌, cond, true, false, length, get_or, add-zero, refl, sym, ap, ◌∙◌, subst, arith}
+use Rattle.std.specs.Str.{bytes_eq}
+use Rattle.std.proofs.lemmas.Bool.{cases_Bool, le-leb, true≢false}
+use Rattle.std.proofs.lemmas.Nat.{pow_pos}
+use Rattle.std.proofs.lemmas.Option.{same_Some}
+use Rattle.std.proofs.lemmas.Slice.Eq.{bytes_eq-Decides}
+use Rattle.std.specs.Prelude.{is_some}
+use Rattle.mica_words.specs.Entry.{entry_offset, entry_tag}
+use Rattle.mica_words.specs.Hash.{tag_of}
+use Rattle.mica_words.specs.Header.{header_room}
+use Rattle.mica_words.specs.Packing.{AreBytes}
+use Rattle.mica_words.proofs.Fields.{header_room-header_of}
+use Rattle.mica_words.proofs.Hashes.{bucket_of-below}
+use Rattle.mica_words.proofs.ItemWords.{header_word}
+use Rattle.mica_model.specs.declared.options.Mode.{Mode}
+use Rattle.mica_model.specs.declared.options.Mode.TheVariants.{Cache as CacheMode, Store as StoreMode}
+use Rattle.mica_model.specs.declared.options.Options.{Options}
+use Rattle.mica_model.specs.declared.write.Outcome.{Outcome}
+use Rattle.mica_model.specs.declared.write.Outcome.TheVariants.{Worn}
+use Rattle.mica_model.specs.declared.write.Write.{Write}
+use Rattle.mica_model.specs.Cache as cache
+use Rattle.mica_model.specs.CacheStep as cs
+use Rattle.mica_model.specs.Store as store
+use Rattle.mica_model.specs.Store.{Cell}
+use Rattle.mica_model.specs.History.{Allows, MayGive, State, cache_state, store_state, accepted_in, after as state_after, stamp_in as stamp_of_state, stamp_of, start}
+use Rattle.mica_model.specs.Write.{IsWrite, is_accepted}
+use Rattle.mica_model.proofs.Histories.{accepted_is_length, state_snoc}
+use Rattle.epoch_core.specs.declared.state.OwnerState.{OwnerState}
+use Rattle.epoch_core.specs.declared.state.Phase.{Phase}
+use Rattle.epoch_core.specs.declared.state.Phase.TheVariants.{Idle, Marked}
+use Rattle.epoch_core.specs.declared.event.Event.TheVariants.{Begins, Marks, Ends}
+use Rattle.epoch_core.specs.Shape.{IsBucket, IsMain}
+use Rattle.epoch_core.specs.Layout.{entry_at, item_at, link_at}
+use Rattle.epoch_core.specs.OwnerState.{as_made, bucket_in, entry_in, item_in, link_in, marked_in, options_in, stamp_in, state_in}
+use Rattle.epoch_core.specs.StandsFor.{Has, IsOffset, Spells, SpellsItem, StandsFor, room_in}
+use Rattle.epoch_core.specs.ItemAt.{HasKey}
+use Rattle.epoch_core.specs.Kept.{Kept}
+use Rattle.epoch_core.specs.OwnerStep.{IsOwnerStep}
+use Rattle.epoch_core.specs.Events.{MayBegin, MayEnd, MayMark, after, plays, puts_from}
+use Rattle.epoch_core.proofs.Carried.{changed}
+use Rattle.epoch_core.proofs.EventWords.{entry_begins, entry_marks, item_begins, item_marks, link_begins, link_marks, stamp_marks}
+use Rattle.epoch_core.proofs.Inside.{some_words}
+use Rattle.epoch_core.proofs.Keeps.{kept_after}
+use Rattle.epoch_core.proofs.Keys.{has_its_key, has_no_other}
+use Rattle.epoch_core.proofs.Machine.{has_fits}
+use Rattle.epoch_core.proofs.Marked.{bit_same}
+use Rattle.epoch_core.proofs.Places.{no_item}
+use Rattle.epoch_core.proofs.Puts.{PutsWords, puts_words}
+
+-- two keys are one, or not
+pub same_or_other : (key key' : List ℕ) → (key ≡ key') ⊎ (key ≢ key')
+same_or_other key key' = elim (cases_Bool (bytes_eq key key')) [
+  | inl is ↦ inl ((bytes_eq-Decides key key').0 is)
+  | inr not ↦ inr (λ same. true≢false (sym ((bytes_eq-Decides key key').1 same) ∙ not))
+]
+
+-- what the machine has of a key is one cell
+pub same_cell : (now : State) (key : List ℕ) (cell cell' : Cell) (p p' : ℕ) → Has now key cell p → Has now key cell' p' → cell ≡ cell'
+same_cell (cache_state s) key cell cell' p p' h h' = ap (λ (z : Cell × ℕ). z.0) (same_Some (cell, p) (cell', p') (sym h ∙ h'))
+same_cell (store_state s) key cell cell' p p' h h' = same_Some cell cell' (sym h ∙ h')
+
+-- no stamp was given yet
+pub start_stamp : (mode : Mode) → stamp_of_state (start mode) ≡ 0
+unfolding cache.start store.start
+start_stamp CacheMode = refl
+start_stamp StoreMode = refl
+
+pub new_stamp : (o : OwnerState) → o ≡ as_made o.shape → 0 ≡ stamp_of (options_in o) o.history
+new_stamp o made = sym (ap (λ (z : OwnerState). stamp_of (options_in o) z.history) made ∙ start_stamp o.shape.mode)
+
+-- the words of an item have its room
+pub item_room : (o : OwnerState) (p : ℕ) (key : List ℕ) (cell : Cell) → cell.room < 65536 → SpellsItem o p key cell → header_room (item_in o p) ≡ cell.room
+item_room o p key cell small item =
+    ap header_room (ap (item_in o) (sym (add-zero p)) ∙ (item 0 (omega arith) ∙ header_word cell.room key cell.value))
+    ∙ header_room-header_of cell.room (length key) (length cell.value) small
+
+-- Between two writes
+
+module _ (o : OwnerState) (s : Kept o) where
+  -- the bucket of a key is a main one
+  pub main_of : (key : List ℕ) → IsMain o.shape (bucket_in o key)
+  main_of key = bucket_of-below key o.shape.buckets (subst (λ (z : ℕ). 0 < z) (sym s.shape.ranges.buckets.2) (pow_pos s.shape.ranges.buckets.0))
+
+  pub stands_idle : o.phase ≡ Idle → (c : ℕ) → IsMain o.shape c → StandsFor o c
+  stands_idle idle c l = s.state c l (ap (λ (z : Phase). marked_in z c) idle)
+
+  -- one key is spelt at an offset
+  pub only_key : (c c' x x' : ℕ) (key key' : List ℕ) (cell cell' : Cell) → Spells o c x key cell → Spells o c' x' key' cell'
+      → entry_offset x ≡ entry_offset x' → key ≡ key'
+  only_key c c' x x' key key' cell cell' sp sp' same =
+      let fits = has_fits (options_in o) o.history s.history.writes key' cell' (entry_offset x') sp'.has in
+      has_no_other o s c x key cell sp key' fits.1 (subst (λ (p : ℕ). HasKey o p key') (sym same) (has_its_key o s c' x' key' cell' sp'))
+
+  -- it is the key whose words stand there
+  pub spelt_key : (c x : ℕ) (key : List ℕ) → AreBytes key → HasKey o (entry_offset x) key → (k : List ℕ) × (cell : Cell) × Spells o c x k cell
+      → (cell : Cell) × Spells o c x key cell
+  spelt_key c x key bytes item some = (some.1, subst (λ (k : List ℕ). Spells o c x k some.1) (has_no_other o s c x some.0 some.1 some.2 key bytes item) some.2)
+
+  -- an entry spells the item that stands at its offset, where the machine has it
+  pub spells_item : (c x : ℕ) (key : List ℕ) (cell : Cell) → bucket_in o key ≡ c → Has (state_in o) key cell (entry_offset x)
+      → IsOffset o.shape.mode o.shape.words (entry_offset x) → entry_tag x ≡ tag_of key → SpellsItem o (entry_offset x) key cell → Spells o c x key cell
+  spells_item c x key cell bucket has offset tag item =
+      let fits = has_fits (options_in o) o.history s.history.writes key cell (entry_offset x) has in
+      let room = item_room o (entry_offset x) key cell fits.5 item in
+      record { bucket = bucket; has = has; offset = offset; tag = tag; item = item; in_room = omega arith }
+
+-- A write that is refused
+
+pub refused_step : (o : OwnerState) → o.phase ≡ Idle → (w : Write) (outcome : Outcome) → is_accepted outcome ≡ false → MayGive (options_in o) o.history w outcome
+    → IsOwnerStep o o w outcome
+refused_step o idle w outcome refuses may = record {
+  allowed = may;
+  gained = ap (λ b. cond b (record o { history = o.history ++ w ∷ [] }) o) (sym refuses);
+  idle = idle;
+}
+
+allows_worn : (options : Options) (now : State) (w : Write) → options.wear ≤ accepted_in now → Allows options now w Worn
+unfolding cs.reply
+allows_worn options (cache_state s) w full =
+    ap (λ b. cond b Worn (cs.reply_of w.op options w (is_some (cache.record_of s w.key)))) (sym (le-leb options.wear s.accepted full))
+allows_worn options (store_state s) w full = full
+
+-- in a worn partition each is
+pub worn_step : (o : OwnerState) → o.phase ≡ Idle → o.shape.wear ≤ length o.history → (w : Write) → IsOwnerStep o o w Worn
+worn_step o idle full w =
+    let count = accepted_is_length (options_in o) o.history in
+    refused_step o idle w Worn refl (allows_worn (options_in o) (state_in o) w (omega arith))
+
+-- A write that is accepted
+
+-- The history gains it, and beside it words alone have changed.
+pub accepted_step : (o new : OwnerState) → o.phase ≡ Idle → (w : Write) (outcome : Outcome) → is_accepted outcome ≡ true → MayGive (options_in o) o.history w outcome
+    → new ≡ record o { words = new.words; history = o.history ++ w ∷ [] } → IsOwnerStep o new w outcome
+accepted_step o new idle w outcome accepted may gained = record {
+  allowed = may;
+  gained = gained ∙ ap (λ b. cond b (record o { words = new.words; history = o.history ++ w ∷ [] }) o) (sym accepted);
+  idle = ap (λ (z : OwnerState). z.phase) gained ∙ idle;
+}
+
+-- an idle owner's state, a write that its machine accepts, and the stamp after it
+pub record AcceptedWrite (o : OwnerState) : Type 0 where
+  pub kept : Kept o
+  pub idle : o.phase ≡ Idle
+  pub unworn : length o.history < o.shape.wear
+  pub w : Write
+  pub is : IsWrite w
+  pub outcome : Outcome
+  pub accepted : is_accepted outcome ≡ true
+  pub may : MayGive (options_in o) o.history w outcome
+  pub t : ℕ
+  pub stamp : t ≡ stamp_of (options_in o) (o.history ++ w ∷ [])
+
+module _ (o : OwnerState) (a : AcceptedWrite o) where
+  abbrev b : ℕ
+  b = bucket_in o a.w.key
+
+  pub main : IsMain o.shape b
+  main = main_of o a.kept a.w.key
+
+  pub stood : StandsFor o b
+  stood = stands_idle o a.kept a.idle b main
+
+  -- It is begun and marked
+
+  pub may_begin : MayBegin o b
+  may_begin = record { idle = a.idle; main = main; not_worn = a.unworn }
+
+  pub may_mark : MayMark (after (Begins b) o) a.w a.t
+  may_mark = record { begun = refl; fits = a.is; accepted = (a.outcome, a.accepted, a.may); stamp = a.stamp }
+
+  kept_begun : Kept (after (Begins b) o)
+  kept_begun = kept_after o a.kept (Begins b) may_begin
+
+  abbrev pub marked : OwnerState
+  marked = after (Marks a.w a.t) (after (Begins b) o)
+
+  pub kept_marked : Kept marked
+  kept_marked = kept_after (after (Begins b) o) kept_begun (Marks a.w a.t) may_mark
+
+  pub marked_item : (q : ℕ) → item_in marked q ≡ item_in o q
+  marked_item q = item_marks (after (Begins b) o) kept_begun.wide a.w a.t q ∙ item_begins o a.kept.wide b q main
+
+  pub marked_link : (d : ℕ) → link_in marked d ≡ link_in o d
+  marked_link d = link_marks (after (Begins b) o) kept_begun.wide a.w a.t d ∙ link_begins o a.kept.wide b d main
+
+  pub marked_entry : (d slot : ℕ) → slot < 15 → entry_in marked d slot ≡ entry_in o d slot
+  marked_entry d slot low = entry_marks (after (Begins b) o) kept_begun.wide a.w a.t d slot ∙ entry_begins o a.kept.wide b d slot main low
+
+  -- Then words alone change
+
+  -- the state with these words, before the write's end
+  abbrev pub written : List ℕ → OwnerState
+  written words = changed o words (o.history ++ a.w ∷ []) (Marked (bucket_in o a.w.key) a.w o.history)
+
+  pub written_marked : (words : List ℕ) → marked_in (written words).phase b ≡ 1
+  written_marked words = bit_same b b refl
+
+  pub written_state : (words : List ℕ) → state_in (written words) ≡ state_after (options_in o) (state_in o) a.w
+  written_state words = state_snoc (options_in o) o.history a.w
+
+  module _ (p : ℕ) (xs : List ℕ) (few : length xs ≤ o.shape.words) where
+    puts : PutsWords marked (plays (puts_from p xs) marked) p xs
+    puts = puts_words marked p xs kept_marked.wide (some_words o a.kept) few
+
+    -- the words once these are put from the offset on
+    abbrev pub put_words : List ℕ
+    put_words = (plays (puts_from p xs) marked).words
+
+    pub put_same : plays (puts_from p xs) marked ≡ written put_words
+    put_same = puts.same
+
+    pub put_stamp : stamp_in (written put_words) ≡ a.t
+    put_stamp = puts.others 0 (λ i l is. omega arith) ∙ stamp_marks (after (Begins b) o) kept_begun.wide a.w a.t
+
+    pub put_link : (d : ℕ) → IsBucket o.shape d → link_in (written put_words) d ≡ link_in o d
+    put_link d l = puts.others (link_at o.shape d) (λ i less. no_item o.shape d 15 (p + i) l (omega arith)) ∙ marked_link d
+
+    pub put_entry : (d slot : ℕ) → IsBucket o.shape d → slot < 15 → entry_in (written put_words) d slot ≡ entry_in o d slot
+    put_entry d slot l low = puts.others (entry_at o.shape d slot) (λ i less. no_item o.shape d slot (p + i) l (omega arith)) ∙ marked_entry d slot low
+
+    pub put_item : (i : ℕ) → i < length xs → item_in (written put_words) (p + i) ≡ get_or xs i 0
+    put_item = puts.put
+
+    pub put_others : (q : ℕ) → ((i : ℕ) → i < length xs → item_at o.shape q ≢ item_at o.shape (p + i)) → item_in (written put_words) q ≡ item_in o q
+    put_others q none = puts.others (item_at o.shape q) none ∙ marked_item q
+
+  module _ (words : List ℕ) where
+    -- the words of the entry's room are as before
+    abbrev pub Keeps : ℕ → Type 0
+    Keeps x = (i : ℕ) → i < room_in o x → item_in (written words) (entry_offset x + i) ≡ item_in o (entry_offset x + i)
+
+    pub room_same : (x : ℕ) → Keeps x → 0 < room_in o x → room_in (written words) x ≡ room_in o x
+    room_same x keeps some =
+        ap header_room (ap (item_in (written words)) (sym (add-zero (entry_offset x))) ∙ (keeps 0 some ∙ ap (item_in o) (add-zero (entry_offset x))))
+
+    -- so the entry spells what it spelt, where the machine still has it
+    pub spells_on : (c x : ℕ) → Keeps x → (key : List ℕ) (cell : Cell) → Has (state_in (written words)) key cell (entry_offset x)
+        → Spells o c x key cell → Spells (written words) c x key cell
+    spells_on c x keeps key cell has sp =
+        let fits = sp.in_room in
+        let same = room_same x keeps (omega arith) in
+        record { bucket = sp.bucket; has = has; offset = sp.offset; tag = sp.tag; item = λ i l. keeps i (omega arith) ∙ sp.item i l; in_room = omega arith }
+
+    -- It ends
+
+    pub may_end : StandsFor (written words) b → MayEnd (written words) b
+    may_end stands = record { marked = written_marked words; stands_for = stands }
+
+    abbrev pub ended : OwnerState
+    ended = after (Ends b) (written words)
+
+    pub ended_gains : ended ≡ record o { words = ended.words; history = o.history ++ a.w ∷ [] }
+    ended_gains = ap (λ (z : Phase). record o { words = ended.words; history = o.history ++ a.w ∷ []; phase = z }) (sym a.idle)
+
+    pub ended_step : IsOwnerStep o ended a.w a.outcome
+    ended_step = accepted_step o ended a.idle a.w a.outcome a.accepted a.may ended_gains
