@@ -1,9 +1,13 @@
--- The used blocks of a heap: they lie apart, and which stay where one is taken or given back.
-use Rattle.store_partition.proofs.Words.{AddsBlock, Block, Contains, Contains-append_left, Contains-permutation, Contains-push, Contains-push_cases}
-use Rattle.store_partition.proofs.Words.{Fills, IsBlockList, IsGiven, IsPermutation, IsPermutation-middle, IsPermutation-sym, IsPermutation-to_front}
-use Rattle.store_partition.proofs.Words.{IsPermutation-trans, List, [], ap, arith, back_fills, cases_lt, get_or, get_or_default, inl, inr, subst}
-use Rattle.store_partition.proofs.Words.{subst₂, sym, used_apart, used_block, used_blocks, used_blocks-given, words_of, words_of-fills, ℕ, ◌++◌, ◌+◌}
-use Rattle.store_partition.proofs.Words.{◌<◌, ◌∙◌, ◌∷◌, ◌≡◌, ◌≢◌, ◌≤◌, ◌⊎◌}
+-- The used blocks of a heap: they lie apart, and what becomes of them where one is taken or given back.
+use Rattle.store_partition.proofs.Words.{AddsBlock, All-contains, Block, Contains, Contains-permutation, Fills, IsBlockList, IsGiven, IsPermutation}
+use Rattle.store_partition.proofs.Words.{IsPermutation-middle, IsPermutation-refl, IsPermutation-sym, List, [], ap, arith, back_fills, cases_lt}
+use Rattle.store_partition.proofs.Words.{get_or, get_or_default, inl, inr, refl, subst, subst₂, sym, used_apart, used_block, used_blocks}
+use Rattle.store_partition.proofs.Words.{used_blocks-given, used_within, words_of, words_of-fills, ℕ, ◌++◌, ◌+◌, ◌<◌, ◌∙◌, ◌∷◌, ◌≡◌, ◌≤◌, ◌⊎◌}
+
+-- a used block lies in the heap
+pub block_within : (words : ℕ) (blocks : List Block) → IsBlockList words blocks → (place size : ℕ) → Contains (used_blocks blocks) (used_block place size) → place + size ≤ words
+block_within words blocks list place size has =
+    All-contains (λ (b : Block). b.place + b.size ≤ words) (used_blocks blocks) (used_block place size) (used_within words blocks list) has
 
 -- two used blocks are one, or lie apart
 pub same_or_apart : (words : ℕ) (blocks : List Block) → IsBlockList words blocks → (one other : Block) → Contains (used_blocks blocks) one
@@ -20,37 +24,47 @@ same_or_apart words blocks list one other has has' =
       ]
     ]
 
--- one block more, wherever it stands
-module _ (old new : List Block) (block : Block) (adds : AddsBlock old new block) where
-  added : IsPermutation new (old ++ block ∷ [])
-  added = subst₂ (λ (xs ys : List Block). IsPermutation xs (ys ++ block ∷ [])) (sym adds.now) (sym adds.was)
-      (IsPermutation-trans _ _ _ (IsPermutation-middle adds.before block adds.after) (IsPermutation-sym _ _ (IsPermutation-to_front (adds.before ++ adds.after) block)))
-
-  pub new_used : Contains new block
-  new_used = Contains-permutation (old ++ block ∷ []) new block (IsPermutation-sym _ _ added) (Contains-push old block)
-
-  module _ (x : Block) where
-    pub still_used : Contains old x → Contains new x
-    still_used has = Contains-permutation (old ++ block ∷ []) new x (IsPermutation-sym _ _ added) (Contains-append_left old (block ∷ []) x has)
-
-    pub other_used : block ≢ x → Contains new x → Contains old x
-    other_used differ has = elim (Contains-push_cases old block x (Contains-permutation new (old ++ block ∷ []) x added has)) [
-      | inl before ↦ before
-      | inr same ↦ absurd (differ same)
-    ]
-
--- the size of the block that is given back
-pub given_size : (words : ℕ) (old new : List Block) (place size : ℕ) → IsBlockList words old → (given : IsGiven old new place) → 0 < size
-    → Contains (used_blocks old) (used_block place size) → given.size ≡ size
-given_size words old new place size list given some has =
-    let fills = subst (λ (bs : List Block). Fills 0 bs words) given.was list.fills in
-    let back = back_fills 0 words given.before (used_block place given.size ∷ given.after) fills in
-    let own = new_used (used_blocks new) (used_blocks old) (used_block place given.size) (used_blocks-given old new place given) in
-    let more = back.1 in
-    elim (same_or_apart words old list (used_block place given.size) (used_block place size) own has) [
-      | inl same ↦ ap (λ (b : Block). b.size) same
-      | inr apart ↦ elim apart [ inl before ↦ absurd (omega arith) | inr behind ↦ absurd (omega arith) ]
-    ]
+-- one block more
+pub added : (old new : List Block) (block : Block) → AddsBlock old new block → IsPermutation new (block ∷ old)
+added old new block adds = subst₂ (λ (xs ys : List Block). IsPermutation xs (block ∷ ys)) (sym adds.now) (sym adds.was) (IsPermutation-middle adds.before block adds.after)
 
 pub list_on : (words : ℕ) (old new : List Block) → IsBlockList words old → IsBlockList (words_of old) new → IsBlockList words new
 list_on words old new list list' = let all = words_of-fills 0 words old list.fills in subst (λ (n : ℕ). IsBlockList n new) (omega arith) list'
+
+-- The blocks that a write takes are used beside those before it, and it gives these back once its words are marked.
+pub record Heap (words : ℕ) (old new taken given : List Block) (Becomes : List Block → Type 0) : Type 0 where
+  pub list : IsBlockList words new
+  pub more : IsPermutation (used_blocks new) (taken ++ used_blocks old)
+  pub less : (bs : List Block) → Becomes bs → IsBlockList words bs × IsPermutation (used_blocks new) (given ++ used_blocks bs)
+
+module _ (words : ℕ) (old new taken : List Block) (list : IsBlockList words new) (more : IsPermutation (used_blocks new) (taken ++ used_blocks old)) where
+  -- none is given back
+  pub heap_kept : Heap words old new taken [] (λ bs. bs ≡ new)
+  heap_kept = record {
+    list = list;
+    more = more;
+    less = λ bs same. (subst (IsBlockList words) (sym same) list, subst (λ (z : List Block). IsPermutation (used_blocks new) (used_blocks z)) (sym same) (IsPermutation-refl (used_blocks new)));
+  }
+
+  -- the block at the place is
+  pub heap_gives : (place size : ℕ) → 0 < size → Contains (used_blocks new) (used_block place size)
+      → Heap words old new taken (used_block place size ∷ []) (λ bs. IsGiven new bs place × IsBlockList (words_of new) bs)
+  heap_gives place size some has = record {
+    list = list;
+    more = more;
+    less = λ bs becomes. (
+      list_on words new bs list becomes.1,
+      subst (λ (n : ℕ). IsPermutation (used_blocks new) (used_block place n ∷ used_blocks bs)) (given_size bs becomes.0) (added _ _ _ (used_blocks-given new bs place becomes.0)),
+    );
+  }
+    where
+      given_size : (bs : List Block) (given : IsGiven new bs place) → given.size ≡ size
+      given_size bs given =
+          let back = back_fills 0 words given.before (used_block place given.size ∷ given.after) (subst (λ (z : List Block). Fills 0 z words) given.was list.fills) in
+          let own = Contains-permutation (used_block place given.size ∷ used_blocks bs) (used_blocks new) (used_block place given.size)
+          (IsPermutation-sym _ _ (added _ _ _ (used_blocks-given new bs place given))) (0, omega arith, refl) in
+          let more = back.1 in
+          elim (same_or_apart words new list (used_block place given.size) (used_block place size) own has) [
+            | inl same ↦ ap (λ (b : Block). b.size) same
+            | inr apart ↦ elim apart [ inl before ↦ absurd (omega arith) | inr behind ↦ absurd (omega arith) ]
+          ]

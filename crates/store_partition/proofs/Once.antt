@@ -37,15 +37,18 @@ not_among x rest once y has same =
     let apart = All-from_recursion (λ (z : ℕ). eqb x z ≡ false) rest (IsDistinct-head eqb x rest once) in
     eqb-false x y (All-contains (λ (z : ℕ). eqb x z ≡ false) rest y apart has) (sym same)
 
--- all elements of a list of at most one are one
-pub in_one : (xs : List ℕ) (x y : ℕ) → length xs ≤ 1 → Contains xs x → Contains xs y → x ≡ y
+-- a list has no element, one, or at most one
+pub nothing : {X : Type 0} (x : X) → Contains [] x → ⊥
+nothing x has = let less = has.1 in omega arith
+
+pub in_one : {X : Type 0} (xs : List X) (x y : X) → length xs ≤ 1 → Contains xs x → Contains xs y → x ≡ y
 in_one xs x y few has has' =
     let less = has.1 in
     let less' = has'.1 in
     let same : has.0 ≡ has'.0 = omega arith in
     sym has.2 ∙ (get_or_default xs has.0 x y has.1 ∙ (ap (λ (k : ℕ). get_or xs k y) same ∙ has'.2))
 
-pub single : (x y : ℕ) → Contains (x ∷ []) y → x ≡ y
+pub single : {X : Type 0} (x y : X) → Contains (x ∷ []) y → x ≡ y
 single x y has = in_one (x ∷ []) x y (omega arith) (0, omega arith, refl) has
 
 pub once_front : (news rest : List ℕ) → length news ≤ 1 → ((x : ℕ) → Contains news x → Contains rest x → ⊥) → IsDistinct eqb rest → IsDistinct eqb (news ++ rest)
