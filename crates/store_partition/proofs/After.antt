@@ -229,16 +229,16 @@ module _ (h : Held) (a : AcceptedWrite h.o) (b : ℕ) (here : b ≡ bucket_in h.
               ∙ ap rooms cells;
         }
 
-    closed : Closes h a b index Becomes p
+    closed : Closes h.o a.w a.outcome b a.t index Becomes p
     closed = closes h a b here words index Becomes stands parts_last
 
 -- So a write that exchanges its key's entry and block may end.
 pub finished : (h : Held) (a : AcceptedWrite h.o) (b : ℕ) → b ≡ bucket_in h.o a.w.key → (o3 o4 : OwnerState) → Base h a b o3 → (ys : List ℕ) → ChangesChain o3 o4 b ys
     → Kept o4 → (index : Index) → IsIndexOf index o4 → (blocks : List Block) (Becomes : List Block → Type 0)
-    → ((words : List ℕ) → ChangesChain o3 (written h.o a words) b ys → Kept (written h.o a words) → Exchange h a b words ys blocks Becomes) → Closes h a b index Becomes o4
+    → ((words : List ℕ) → ChangesChain o3 (written h.o a words) b ys → Kept (written h.o a words) → Exchange h a b words ys blocks Becomes) → Closes h.o a.w a.outcome b a.t index Becomes o4
 finished h a b here o3 o4 z ys change kept index known blocks Becomes exchange =
     let at4 : o4 ≡ written h.o a o4.words = change.rest.same ∙ ap (λ (s : OwnerState). record s { words = o4.words }) z.is in
-    subst (λ (s : OwnerState). ChangesChain o3 s b ys → Kept s → IsIndexOf index s → Closes h a b index Becomes s) (sym at4)
+    subst (λ (s : OwnerState). ChangesChain o3 s b ys → Kept s → IsIndexOf index s → Closes h.o a.w a.outcome b a.t index Becomes s) (sym at4)
     (λ change' kept' known'. closed h a b here o4.words o3 z ys change' kept' index known' blocks Becomes (exchange o4.words change' kept')) change kept known
 
 -- no entry or link was put

@@ -13,16 +13,21 @@ use Rattle.store_partition.proofs.Words.{ℕ, ◌++◌, ◌+◌, ◌<◌, ◌↔
 use Rattle.store_partition.proofs.Held.{Held, IsOther, before, m, main_at, may_give}
 
 -- what a write has made of the partition once it has ended
-pub record Ended (h : Held) (a : AcceptedWrite h.o) (new : OwnerState) (index : Index) (blocks : List Block) : Type 0 where
-  pub count : a.t ≡ length new.history
-  pub stamp : a.t ≡ stamp_of (options_in new) new.history
-  pub step : IsOwnerStep h.o new a.w a.outcome
+pub record Ended (o new : OwnerState) (index : Index) (blocks : List Block) (w : Write) (outcome : Outcome) (t : ℕ) : Type 0 where
+  pub count : t ≡ length new.history
+  pub stamp : t ≡ stamp_of (options_in new) new.history
+  pub step : IsOwnerStep o new w outcome
   pub parts : AreParts index blocks new
 
--- the write may end, and what it leaves, whichever heap that is
-pub record Closes (h : Held) (a : AcceptedWrite h.o) (b : ℕ) (index : Index) (Becomes : List Block → Type 0) (o4 : OwnerState) : Type 0 where
+-- its first two events may happen
+pub record Opens (o : OwnerState) (w : Write) (b t : ℕ) : Type 0 where
+  pub begin : (o' : OwnerState) → o' ≡ o → MayBegin o' b
+  pub mark : (o' : OwnerState) → o' ≡ o → MayMark (after_event (Begins b) o') w t
+
+-- so may its last, and what it leaves, whichever heap that is
+pub record Closes (o : OwnerState) (w : Write) (outcome : Outcome) (b t : ℕ) (index : Index) (Becomes : List Block → Type 0) (o4 : OwnerState) : Type 0 where
   pub end : MayEnd o4 b
-  pub ended : (o5 : OwnerState) (blocks : List Block) → o5 ≡ after_event (Ends b) o4 → Becomes blocks → Ended h a o5 index blocks
+  pub ended : (o5 : OwnerState) (blocks : List Block) → o5 ≡ after_event (Ends b) o4 → Becomes blocks → Ended o o5 index blocks w outcome t
 
 -- the bucket's link and entries are the same
 abbrev pub SameWords : OwnerState → OwnerState → ℕ → Type 0
@@ -83,11 +88,11 @@ module _ (h : Held) (a : AcceptedWrite h.o) where
     pub main : IsMain h.o.shape b
     main = main_at h.o h.kept a.w.key b here
 
-    pub begins : (o' : OwnerState) → o' ≡ h.o → MayBegin o' b
-    begins o' same = subst₂ MayBegin (sym same) (sym here) (may_begin h.o a)
-
-    pub marks : (o' : OwnerState) → o' ≡ h.o → MayMark (after_event (Begins b) o') a.w a.t
-    marks o' same = subst₂ (λ (z : OwnerState) (c : ℕ). MayMark (after_event (Begins c) z) a.w a.t) (sym same) (sym here) (may_mark h.o a)
+    pub may_open : Opens h.o a.w b a.t
+    may_open = record {
+      begin = λ o' same. subst₂ MayBegin (sym same) (sym here) (may_begin h.o a);
+      mark = λ o' same. subst₂ (λ (z : OwnerState) (c : ℕ). MayMark (after_event (Begins c) z) a.w a.t) (sym same) (sym here) (may_mark h.o a);
+    }
 
     pub base : (words : List ℕ) → length words ≡ length h.o.words → Kept (written h.o a words) → ((d : ℕ) → IsBucket h.o.shape d → SameWords h.o (written h.o a words) d)
         → ((c x : ℕ) → IsOther h a.w.key c x → Keeps h.o a words x) → (o3 : OwnerState) → o3 ≡ written h.o a words → Base b o3
@@ -137,10 +142,10 @@ module _ (h : Held) (a : AcceptedWrite h.o) where
     -- The end
 
     pub closes : (words : List ℕ) (index : Index) (Becomes : List Block → Type 0) → StandsFor (written h.o a words) b
-        → ((blocks : List Block) → Becomes blocks → AreParts index blocks (after_event (Ends b) (written h.o a words))) → Closes h a b index Becomes (written h.o a words)
+        → ((blocks : List Block) → Becomes blocks → AreParts index blocks (after_event (Ends b) (written h.o a words))) → Closes h.o a.w a.outcome b a.t index Becomes (written h.o a words)
     closes words index Becomes stands parts = record {
       end = record { marked = bit_same (bucket_in h.o a.w.key) b (sym here); stands_for = stands };
-      ended = λ o5 blocks e5 becomes. subst (λ (z : OwnerState). Ended h a z index blocks) (sym e5) record {
+      ended = λ o5 blocks e5 becomes. subst (λ (z : OwnerState). Ended h.o z index blocks a.w a.outcome a.t) (sym e5) record {
         count = a.stamp ∙ sym (stamp_more h a.w a.is);
         stamp = a.stamp;
         step = subst (λ (c : ℕ). IsOwnerStep h.o (after_event (Ends c) (written h.o a words)) a.w a.outcome) (sym here) (ended_step h.o a words);

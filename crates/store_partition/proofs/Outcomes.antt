@@ -2,7 +2,7 @@
 use Rattle.mica_model.specs.StoreStep as ss
 use Rattle.store_partition.proofs.Words.{Allows, Block, Cell, FullBlock, FullSpare, HasNoSpot, IsBlockList, IsOwnerStep, IsSomeAnd, IsTaken}
 use Rattle.store_partition.proofs.Words.{LacksPlace, List, MayLack, Option, Put, Spot, Stored, ap, arith, bucket_in, chained, entries_of, free_spares}
-use Rattle.store_partition.proofs.Words.{inl, inr, item_size, keys_in, length, nil_from_length, options_in, refl, refused_step, room_in, room_is}
+use Rattle.store_partition.proofs.Words.{inl, inr, item_size, keys_in, length, nil_from_length, options_in, refl, refused_step, room_in}
 use Rattle.store_partition.proofs.Words.{spares_in_use, spot_entry, store_state, subst, subst₂, sym, used_blocks, used_blocks-taken, words_of}
 use Rattle.store_partition.proofs.Words.{words_of-AddsBlock, words_of-fills, words_parted, write_of, ℕ, ◌%◌, ◌*◌, ◌+◌, ◌-◌, ◌<◌, ◌∙◌, ◌≡◌, ◌≤◌}
 use Rattle.store_partition.proofs.Blocks.{list_on}
@@ -42,11 +42,8 @@ module _ (h : Held) (key value : List ℕ) (b : ℕ) (here : b ≡ bucket_in h.o
 
   -- before the partition is worn
   module _ (unworn : length h.o.history < h.o.shape.wear) where
-    pub stored_in_room : (spot : Spot) (k : Known h key b spot) (room : ℕ) → room ≡ room_in h.o (spot_entry h.o spot) → item_size key value ≤ room
-        → Allows (options_in h.o) (store_state (m h)) (write_of Put key value) Stored
-    stored_in_room spot k room room_is fits =
-        let same = k.room in
-        (not_worn h unworn, ((tt, inl tt), inl (subst (λ z. IsSomeAnd z (λ cell. item_size key value ≤ cell.room)) (sym k.has) (omega (arith, room_is)))))
+    pub stored_in_room : (spot : Spot) (k : Known h key b spot) → item_size key value ≤ k.cell.room → Allows (options_in h.o) (store_state (m h)) (write_of Put key value) Stored
+    stored_in_room spot k fits = (not_worn h unworn, ((tt, inl tt), inl (subst (λ z. IsSomeAnd z (λ cell. item_size key value ≤ cell.room)) (sym k.has) fits)))
 
     pub stored_taken : ss.NeedsBlock (options_in h.o) (m h) (write_of Put key value) → (blocks : List Block) (place : ℕ) → IsTaken h.blocks blocks place (item_size key value)
         → IsBlockList (words_of h.blocks) blocks → Allows (options_in h.o) (store_state (m h)) (write_of Put key value) Stored

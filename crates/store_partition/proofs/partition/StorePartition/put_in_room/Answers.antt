@@ -1,48 +1,35 @@
-use Rattle.store_partition.proofs.Words.{AcceptedWrite, AreBytes, Put, Stored, ap, arith, item_events, marked_in_bucket, plays, refl, write_of, ◌+◌}
-use Rattle.store_partition.proofs.Words.{◌∙◌, ◌≡◌}
-use Rattle.store_partition.proofs.Held.{Held, Known, known}
-use Rattle.store_partition.proofs.Events.{accepts, begins, marks}
-use Rattle.store_partition.proofs.Writes.{PutInRoom, in_room}
-use Rattle.store_partition.proofs.Outcomes.{stored_in_room}
+use Rattle.store_partition.proofs.Words.{AreBytes, Put, ap, arith, item_events, plays, refl, write_of, ◌+◌, ◌∙◌}
+use Rattle.store_partition.proofs.Held.{known}
+use Rattle.store_partition.proofs.Writes.{HasPut, PutInRoom, in_room}
 use Rattle.store_partition.proofs.Whole.{held}
 use Rattle.store_partition.proofs.partition.StorePartition.put_in_room.Given.{Over}
 use Rattle.store_partition.proofs.partition.StorePartition.put_in_room.Goals.{After-rewrite_item, Start}
 use Rattle.store_partition.proofs.partition.StorePartition.put_in_room.Goals as goal
 
-module _ (g : Over) (c : Start g) (key_bytes : AreBytes c.args.key.now) (value_bytes : AreBytes c.args.value.now) where
-  abbrev h : Held
-  h = held (g.W.OwnerWords.owner c.args.self.now.words) c.requires.kept c.args.self.now.index c.args.self.now.heap c.args.self.now.parts
+steps : (g : Over) (c : Start g) → AreBytes c.args.key.now → AreBytes c.args.value.now
+    → PutInRoom (g.W.OwnerWords.owner c.args.self.now.words) c.args.self.now.index c.args.self.now.heap (write_of Put c.args.key.now c.args.value.now)
+    c.args.bucket (c.args.self.now.accepted + 1) c.args.block.offset c.args.block.room
+steps g c key_bytes value_bytes =
+    let s = c.args.self.now in
+    let r = c.requires in
+    let h = held (g.W.OwnerWords.owner s.words) r.kept s.index s.heap s.parts in
+    in_room h c.args.key.now c.args.value.now (record { key = r.key; key_bytes = key_bytes; value = r.value; value_bytes = value_bytes }) r.unworn s.accepted s.counted
+    c.args.bucket r.sought.bucket c.args.spot (known h c.args.key.now c.args.bucket r.sought.bucket key_bytes c.args.spot r.sought.found)
+    c.args.block.offset c.args.block.room r.offset r.room r.fits
 
-  abbrev k : Known h c.args.key.now c.args.bucket c.args.spot
-  k = known h c.args.key.now c.args.bucket c.requires.sought.bucket key_bytes c.args.spot c.requires.sought.found
-
-  abbrev a : AcceptedWrite h.o
-  a = accepts h (write_of Put c.args.key.now c.args.value.now)
-      (record { key = c.requires.key; key_bytes = key_bytes; value = c.requires.value; value_bytes = value_bytes })
-      c.requires.unworn c.args.self.now.accepted c.args.self.now.counted Stored refl
-      (stored_in_room h c.args.key.now c.args.value.now c.args.bucket c.requires.sought.bucket c.requires.unworn c.args.spot k c.args.block.room c.requires.room c.requires.fits)
-
-  steps : PutInRoom h a c.args.bucket c.args.block.offset c.args.block.room
-  steps = in_room h a c.args.bucket c.requires.sought.bucket refl c.args.spot k c.args.block.offset c.args.block.room c.requires.offset c.requires.room c.requires.fits
-
-put : (g : Over) (c : After-rewrite_item g) → g.W.OwnerWords.owner c.rewrite_item.new.words
-    ≡ plays (item_events c.args.block.offset c.args.block.room c.args.key.now c.args.value.now)
-    (marked_in_bucket (g.W.OwnerWords.owner c.args.self.now.words) c.args.bucket (write_of Put c.args.key.now c.args.value.now) (c.args.self.now.accepted + 1))
+put : (g : Over) (c : After-rewrite_item g) → HasPut (g.W.OwnerWords.owner c.args.self.now.words) (write_of Put c.args.key.now c.args.value.now) c.args.bucket
+    (c.args.self.now.accepted + 1) c.args.block.offset c.args.block.room (g.W.OwnerWords.owner c.rewrite_item.new.words)
 put g c = c.rewrite_item.ensures.events ∙ ap (plays (item_events c.args.block.offset c.args.block.room c.args.key.now c.args.value.now)) c.begin_marked.ensures.events
 
 pub begin_marked-requires-clause-begin : goal.begin_marked-requires-clause-begin
 begin_marked-requires-clause-begin g c =
-    let z = (goal.at.begin_marked-requires-clause-begin g c).Start in
-    let key_bytes : AreBytes c.args.key.now = λ k. omega (arith, c.type_inv.key k) in
-    let value_bytes : AreBytes c.args.value.now = λ k. omega (arith, c.type_inv.value k) in
-    begins (h g z key_bytes value_bytes) (a g z key_bytes value_bytes) c.args.bucket c.requires.sought.bucket _ refl
+    let z = goal.at.begin_marked-requires-clause-begin g c in
+    (steps g z.Start (λ k. omega (arith, c.type_inv.key k)) (λ k. omega (arith, c.type_inv.value k))).opens.begin _ refl
 
 pub begin_marked-requires-clause-mark : goal.begin_marked-requires-clause-mark
 begin_marked-requires-clause-mark g c =
-    let z = (goal.at.begin_marked-requires-clause-mark g c).Start in
-    let key_bytes : AreBytes c.args.key.now = λ k. omega (arith, c.type_inv.key k) in
-    let value_bytes : AreBytes c.args.value.now = λ k. omega (arith, c.type_inv.value k) in
-    marks (h g z key_bytes value_bytes) (a g z key_bytes value_bytes) c.args.bucket c.requires.sought.bucket _ refl
+    let z = goal.at.begin_marked-requires-clause-mark g c in
+    (steps g z.Start (λ k. omega (arith, c.type_inv.key k)) (λ k. omega (arith, c.type_inv.value k))).opens.mark _ refl
 
 pub rewrite_item-requires-clause-allowed : goal.rewrite_item-requires-clause-allowed
 rewrite_item-requires-clause-allowed g c =

@@ -1,11 +1,11 @@
-use Rattle.store_partition.proofs.Words.{AcceptedWrite, CanPlay, ChangesChain, FullBlock, FullSpare, IsOwnerStep, IsTaken, LacksPlace, MayLack}
-use Rattle.store_partition.proofs.Words.{NeedsBlock, OwnerState, Put, Stored, Write, [], ap, arith, entries_of, entry_of, hash_tag, item_events}
-use Rattle.store_partition.proofs.Words.{item_size, marked_in_bucket, options_in, plays, refl, size_of, subst, subst₂, sym, tag_of, tag_of_hash}
-use Rattle.store_partition.proofs.Words.{true≢false, write_of, ℕ, ◌++◌, ◌+◌, ◌∙◌, ◌∷◌, ◌≡◌}
-use Rattle.store_partition.proofs.Held.{Held, m, main_at}
-use Rattle.store_partition.proofs.Events.{Closes, accepts, begins, marks}
+use Rattle.store_partition.proofs.Words.{AreBytes, CanPlay, ChangesChain, FullBlock, FullSpare, Index, IsOwnerStep, IsTaken, LacksPlace, MayLack}
+use Rattle.store_partition.proofs.Words.{OwnerState, Put, Stored, Write, [], ap, arith, entries_of, entry_of, hash_tag, item_events, item_size}
+use Rattle.store_partition.proofs.Words.{marked_in_bucket, plays, refl, size_of, subst, subst₂, sym, tag_of_hash, true≢false, write_of, ℕ, ◌++◌, ◌+◌}
+use Rattle.store_partition.proofs.Words.{◌∙◌, ◌∷◌, ◌≡◌}
+use Rattle.store_partition.proofs.Held.{Held, main_at}
+use Rattle.store_partition.proofs.Events.{Closes}
+use Rattle.store_partition.proofs.Outcomes.{full_block, full_spare, new_needs}
 use Rattle.store_partition.proofs.Writes.{HasPut, PutNew, new}
-use Rattle.store_partition.proofs.Outcomes.{full_block, full_spare, new_needs, stored_taken}
 use Rattle.store_partition.proofs.Whole.{held}
 use Rattle.store_partition.proofs.partition.StorePartition.put_new.Given.{Over}
 use Rattle.store_partition.proofs.partition.StorePartition.put_new.Goals.{After-place, After-write_item_hashed, In-Some, Start}
@@ -18,50 +18,36 @@ module _ (g : Over) (c : Start g) where
   abbrev w : Write
   w = write_of Put c.args.key.now c.args.value.now
 
-  needs : ¬ (LacksPlace h.index h.o c.args.bucket) → NeedsBlock (options_in h.o) (m h) w
-  needs = new_needs h c.args.key.now c.args.value.now c.args.bucket c.requires.sought.bucket c.requires.sought.found
-
 -- the block was taken
-module _ (g : Over) (c : In-Some g) where
-  abbrev before : Held
-  before = held (g.W.OwnerWords.owner c.args.self.now.words) c.requires.kept c.args.self.now.index c.args.self.now.heap c.args.self.now.parts
-
-  places : ¬ (LacksPlace before.index before.o c.args.bucket)
-  places lacks = true≢false (c.if-not-has_place.ensures.place.1 lacks)
-
-  taken : IsTaken c.args.self.now.heap c.take.new.self c.in-Some.place (item_size c.args.key.now c.args.value.now)
-  taken = subst (IsTaken c.args.self.now.heap c.take.new.self c.in-Some.place) c.item_size-size.ensures c.in-Some.ensures.taken
-
-  abbrev a : AcceptedWrite before.o
-  a = accepts before (write_of Put c.args.key.now c.args.value.now) (record {
-    key = c.requires.key;
-    key_bytes = λ k. omega (arith, c.type_inv.key k);
-    value = c.requires.value;
-    value_bytes = λ k. omega (arith, c.type_inv.value k);
-  }) c.requires.unworn c.args.self.now.accepted c.args.self.now.counted Stored refl
-      (stored_taken before c.args.key.now c.args.value.now c.args.bucket c.requires.sought.bucket c.requires.unworn
-      (new_needs before c.args.key.now c.args.value.now c.args.bucket c.requires.sought.bucket c.requires.sought.found places)
-      c.take.new.self c.in-Some.place taken c.take.ensures.blocks)
-
-  steps : PutNew before a c.args.bucket c.take.new.self c.in-Some.place
-  steps = new before a c.args.bucket c.requires.sought.bucket refl c.take.new.self c.in-Some.place taken c.take.ensures.blocks c.requires.sought.found places
+steps : (g : Over) (c : In-Some g) → PutNew (g.W.OwnerWords.owner c.args.self.now.words) c.args.self.now.index c.take.new.self
+    (write_of Put c.args.key.now c.args.value.now) c.args.bucket (c.args.self.now.accepted + 1) c.in-Some.place
+steps g c =
+    let s = c.args.self.now in
+    let r = c.requires in
+    let o = g.W.OwnerWords.owner s.words in
+    let h = held o r.kept s.index s.heap s.parts in
+    let key_bytes : AreBytes c.args.key.now = λ k. omega (arith, c.type_inv.key k) in
+    let value_bytes : AreBytes c.args.value.now = λ k. omega (arith, c.type_inv.value k) in
+    let places : ¬ (LacksPlace s.index o c.args.bucket) = λ lacks. true≢false (c.if-not-has_place.ensures.place.1 lacks) in
+    new h c.args.key.now c.args.value.now (record { key = r.key; key_bytes = key_bytes; value = r.value; value_bytes = value_bytes }) r.unworn s.accepted s.counted
+    c.args.bucket r.sought.bucket c.take.new.self c.in-Some.place (subst (IsTaken s.heap c.take.new.self c.in-Some.place) c.item_size-size.ensures c.in-Some.ensures.taken)
+    c.take.ensures.blocks (new_needs h c.args.key.now c.args.value.now c.args.bucket r.sought.bucket r.sought.found places) r.sought.found places
 
 -- its item is put
-put : (g : Over) (c : After-write_item_hashed g) → g.W.OwnerWords.owner c.write_item_hashed.new.words
-    ≡ plays (item_events c.in-Some.place (item_size c.args.key.now c.args.value.now) c.args.key.now c.args.value.now)
-    (marked_in_bucket (g.W.OwnerWords.owner c.args.self.now.words) c.args.bucket (write_of Put c.args.key.now c.args.value.now) (c.args.self.now.accepted + 1))
+put : (g : Over) (c : After-write_item_hashed g) → HasPut (g.W.OwnerWords.owner c.args.self.now.words) (write_of Put c.args.key.now c.args.value.now) c.args.bucket
+    (c.args.self.now.accepted + 1) c.in-Some.place (item_size c.args.key.now c.args.value.now) (g.W.OwnerWords.owner c.write_item_hashed.new.words)
 put g c = c.write_item_hashed.ensures.events
     ∙ (λ i. plays (item_events (c.from.ensures i) (c.item_size-size.ensures i) c.args.key.now c.args.value.now)
     ((c.begin_marked.ensures.events ∙ ap (λ (z : OwnerState). marked_in_bucket z c.args.bucket (write_of Put c.args.key.now c.args.value.now) (c.args.self.now.accepted + 1))
     c.has_place.ensures.same) i))
 
 -- and its entry
-closed : (g : Over) (c : After-place g) (h : Held) (a : AcceptedWrite h.o) → a.w.key ≡ c.args.key.now → PutNew h a c.args.bucket c.take.new.self c.in-Some.place
-    → HasPut h a c.args.bucket c.in-Some.place (size_of a.w) (g.W.OwnerWords.owner c.write_item_hashed.new.words)
-    → Closes h a c.args.bucket c.place.new.self (λ bs. bs ≡ c.take.new.self) (g.W.OwnerWords.owner c.place.new.words)
-closed g c h a key steps put =
+closed : (g : Over) (c : After-place g) (o : OwnerState) (index : Index) (t : ℕ) → let w = write_of Put c.args.key.now c.args.value.now in
+    PutNew o index c.take.new.self w c.args.bucket t c.in-Some.place → HasPut o w c.args.bucket t c.in-Some.place (size_of w) (g.W.OwnerWords.owner c.write_item_hashed.new.words)
+    → Closes o w Stored c.args.bucket t c.place.new.self (λ bs. bs ≡ c.take.new.self) (g.W.OwnerWords.owner c.place.new.words)
+closed g c o index t steps put =
     let o3 = g.W.OwnerWords.owner c.write_item_hashed.new.words in
-    steps.closes _ _ c.tag_of.result c.place.new.self put (c.tag_of.ensures ∙ (ap hash_tag c.requires.hashed ∙ (sym (tag_of_hash c.args.key.now) ∙ ap tag_of (sym key))))
+    steps.closes _ _ c.tag_of.result c.place.new.self put (c.tag_of.ensures ∙ (ap hash_tag c.requires.hashed ∙ sym (tag_of_hash c.args.key.now)))
     c.place.ensures.kept c.place.ensures.index
     (subst (λ (p : ℕ). ChangesChain o3 (g.W.OwnerWords.owner c.place.new.words) c.args.bucket (entries_of o3 c.args.bucket ++ entry_of c.tag_of.result p ∷ []))
     c.from-2.ensures c.place.ensures.entries)
@@ -81,17 +67,17 @@ returns-then-not-has_place-clause-step g c =
 pub returns-in_default-clause-step : goal.returns-in_default-clause-step
 returns-in_default-clause-step g c =
     let z = (goal.at.returns-in_default-clause-step g c).Start in
+    let needs = new_needs (h g z) c.args.key.now c.args.value.now c.args.bucket c.requires.sought.bucket c.requires.sought.found
+    (λ lacks. true≢false (c.if-not-has_place.ensures.place.1 lacks)) in
     subst (λ (n : OwnerState). IsOwnerStep (h g z).o n (w g z) FullBlock) (sym c.has_place.ensures.same)
-    (full_block (h g z) c.args.key.now c.args.value.now c.args.bucket c.requires.sought.bucket c.requires.unworn
-    (needs g z (λ lacks. true≢false (c.if-not-has_place.ensures.place.1 lacks))) (subst (MayLack c.args.self.now.heap) c.item_size-size.ensures c.in_default.ensures.may_lack))
+    (full_block (h g z) c.args.key.now c.args.value.now c.args.bucket c.requires.sought.bucket c.requires.unworn needs
+    (subst (MayLack c.args.self.now.heap) c.item_size-size.ensures c.in_default.ensures.may_lack))
 
 pub begin_marked-requires-clause-begin : goal.begin_marked-requires-clause-begin
-begin_marked-requires-clause-begin g c =
-    let z = (goal.at.begin_marked-requires-clause-begin g c).In-Some in begins (before g z) (a g z) c.args.bucket c.requires.sought.bucket _ c.has_place.ensures.same
+begin_marked-requires-clause-begin g c = (steps g (goal.at.begin_marked-requires-clause-begin g c).In-Some).opens.begin _ c.has_place.ensures.same
 
 pub begin_marked-requires-clause-mark : goal.begin_marked-requires-clause-mark
-begin_marked-requires-clause-mark g c =
-    let z = (goal.at.begin_marked-requires-clause-mark g c).In-Some in marks (before g z) (a g z) c.args.bucket c.requires.sought.bucket _ c.has_place.ensures.same
+begin_marked-requires-clause-mark g c = (steps g (goal.at.begin_marked-requires-clause-mark g c).In-Some).opens.mark _ c.has_place.ensures.same
 
 pub write_item_hashed-requires-clause-allowed : goal.write_item_hashed-requires-clause-allowed
 write_item_hashed-requires-clause-allowed g c =
@@ -113,15 +99,15 @@ pub place-requires-clause-place : goal.place-requires-clause-place
 place-requires-clause-place g c = let z = goal.at.place-requires-clause-place g c in ((steps g z.In-Some).places _ (put g z.After-write_item_hashed)).3
 
 pub end_write-requires : goal.end_write-requires
-end_write-requires g c = let z = goal.at.end_write-requires g c in (closed g z.After-place _ _ refl (steps g z.In-Some) (put g z.After-write_item_hashed)).end
+end_write-requires g c = let z = goal.at.end_write-requires g c in (closed g z.After-place _ _ _ (steps g z.In-Some) (put g z.After-write_item_hashed)).end
 
 pub invariant_of-self-2 : goal.invariant_of-self-2
 invariant_of-self-2 g c =
     let z = goal.at.invariant_of-self-2 g c in
-    let ended = (closed g z.After-place _ _ refl (steps g z.In-Some) (put g z.After-write_item_hashed)).ended _ _ c.end_write.ensures.event refl in
+    let ended = (closed g z.After-place _ _ _ (steps g z.In-Some) (put g z.After-write_item_hashed)).ended _ _ c.end_write.ensures.event refl in
     record { parts = ∣ ended.parts ∣₁; counted = ended.count; stamped = ended.stamp }
 
 pub returns-clause-step : goal.returns-clause-step
 returns-clause-step g c =
     let z = goal.at.returns-clause-step g c in
-    ((closed g z.After-place _ _ refl (steps g z.In-Some) (put g z.After-write_item_hashed)).ended _ _ c.end_write.ensures.event refl).step
+    ((closed g z.After-place _ _ _ (steps g z.In-Some) (put g z.After-write_item_hashed)).ended _ _ c.end_write.ensures.event refl).step
