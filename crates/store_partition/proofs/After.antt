@@ -11,7 +11,7 @@ use Rattle.store_partition.proofs.Words.{same_or_other, spells_on, stands_by, st
 use Rattle.store_partition.proofs.Words.{words_of, words_of-append, written, ℕ, ℕ_discrete, ◌++◌, ◌+◌, ◌<◌, ◌∙◌, ◌≡◌, ◌≢◌, ◌≤◌, ◌⊎◌}
 use Rattle.store_partition.proofs.Once.{in_one, once_at, once_front, once_moved, once_rest}
 use Rattle.store_partition.proofs.Blocks.{Heap}
-use Rattle.store_partition.proofs.Cells.{exchanges, one_at_most, one_or_none}
+use Rattle.store_partition.proofs.Cells.{exchanges, one_or_none}
 use Rattle.store_partition.proofs.Held.{HasBlock, Held, IsOther, Split, as_cells, as_keys, as_rooms, before, each, has_cell, m, once, one_entry}
 use Rattle.store_partition.proofs.Held.{other_bucket, rooms_apart, stood, used}
 use Rattle.store_partition.proofs.Events.{Base, Closes, closes, entries_ends, main, now, room_ends}
@@ -29,6 +29,7 @@ pub record Exchange (h : Held) (a : AcceptedWrite h.o) (b : ℕ) (words ys : Lis
   pub given : List Block
   pub split : Split h a.w.key b own rest
   pub lists : IsPermutation ys (news ++ rest)
+  pub few : length news ≤ 1
   pub long : length news ≡ one_or_none (get (later h a) a.w.key)
   pub spells : (x : ℕ) → Contains news x → (cell : Cell) × Spells (written h.o a words) b x a.w.key cell
   pub heap : Heap h.o.shape.words h.blocks blocks taken given Becomes
@@ -50,9 +51,6 @@ module _ (h : Held) (a : AcceptedWrite h.o) (b : ℕ) (here : b ≡ bucket_in h.
       (blocks : List Block) (Becomes : List Block → Type 0) (e : Exchange h a b words ys blocks Becomes) where
     abbrev zs : List ℕ
     zs = entries_of p b
-
-    few : length e.news ≤ 1
-    few = let most = one_at_most (get (later h a) a.w.key) in omega (arith, e.long)
 
     chain_now : IsPermutation zs (e.news ++ e.rest)
     chain_now = subst (λ (xs : List ℕ). IsPermutation xs (e.news ++ e.rest)) (sym change.entries) e.lists
@@ -105,7 +103,7 @@ module _ (h : Held) (a : AcceptedWrite h.o) (b : ℕ) (here : b ≡ bucket_in h.
     key_is c x s key cell sp = only_key p kept c c x x (spelt_now c x s).0 key (spelt_now c x s).1 cell (spelt_now c x s).2 sp refl
 
     one_now : (x y : ℕ) (s : Source b x) (t : Source b y) → (spelt_now b x s).0 ≡ (spelt_now b y t).0 → x ≡ y
-    one_now x y (inl new) (inl new') same = in_one e.news x y few new.1 new'.1
+    one_now x y (inl new) (inl new') same = in_one e.news x y e.few new.1 new'.1
     one_now x y (inl new) (inr other) same = absurd (other.differs (sym same))
     one_now x y (inr other) (inl new) same = absurd (other.differs same)
     one_now x y (inr one) (inr two) same =
@@ -139,7 +137,7 @@ module _ (h : Held) (a : AcceptedWrite h.o) (b : ℕ) (here : b ≡ bucket_in h.
         ]
 
     once_now : IsDistinct eqb zs
-    once_now = once_moved (e.news ++ e.rest) zs (IsPermutation-sym _ _ chain_now) (once_front e.news e.rest few
+    once_now = once_moved (e.news ++ e.rest) zs (IsPermutation-sym _ _ chain_now) (once_front e.news e.rest e.few
         (λ x new rest. (e.split.others x rest).differs (key_is b x (inr (e.split.others x rest)) a.w.key _ (e.spells x new).1))
         (once_rest e.own e.rest (once_moved (entries_of h.o b) (e.own ++ e.rest) e.split.lists (once h.o b (stood h b (main h a b here))))))
 

@@ -1,6 +1,6 @@
 -- The used blocks of a heap: they lie apart, and what becomes of them where one is taken or given back.
 use Rattle.store_partition.proofs.Words.{AddsBlock, All-contains, Block, Contains, Contains-permutation, Fills, IsBlockList, IsGiven, IsPermutation}
-use Rattle.store_partition.proofs.Words.{IsPermutation-middle, IsPermutation-refl, IsPermutation-sym, List, [], ap, arith, back_fills, cases_lt}
+use Rattle.store_partition.proofs.Words.{IsPermutation-middle, IsPermutation-refl, IsPermutation-sym, List, [], ap, arith, back_fills, cases_order}
 use Rattle.store_partition.proofs.Words.{get_or, get_or_default, inl, inr, refl, subst, subst₂, sym, used_apart, used_block, used_blocks}
 use Rattle.store_partition.proofs.Words.{used_blocks-given, used_within, words_of, words_of-fills, ℕ, ◌++◌, ◌+◌, ◌<◌, ◌∙◌, ◌∷◌, ◌≡◌, ◌≤◌, ◌⊎◌}
 
@@ -13,15 +13,15 @@ block_within words blocks list place size has =
 pub same_or_apart : (words : ℕ) (blocks : List Block) → IsBlockList words blocks → (one other : Block) → Contains (used_blocks blocks) one
     → Contains (used_blocks blocks) other → (one ≡ other) ⊎ ((one.place + one.size ≤ other.place) ⊎ (other.place + other.size ≤ one.place))
 same_or_apart words blocks list one other has has' =
-    let is : get_or (used_blocks blocks) has.0 other ≡ one = get_or_default (used_blocks blocks) has.0 other one has.1 ∙ has.2 in
-    elim (cases_lt has.0 has'.0) [
-      | inl less ↦ inr (inl (subst₂ (λ (x y : Block). x.place + x.size ≤ y.place) is has'.2 (used_apart words blocks list has.0 has'.0 other less has'.1)))
-      | inr more ↦ elim (cases_lt has'.0 has.0) [
-        | inl less ↦ inr (inr (subst₂ (λ (x y : Block). x.place + x.size ≤ y.place) has'.2 is (used_apart words blocks list has'.0 has.0 other less has.1)))
-        | inr again ↦
-            let same : has.0 ≡ has'.0 = omega arith in
-            inl (sym is ∙ (ap (λ (k : ℕ). get_or (used_blocks blocks) k other) same ∙ has'.2))
-      ]
+    let used = used_blocks blocks in
+    let is : get_or used has.0 other ≡ one = get_or_default used has.0 other one has.1 ∙ has.2 in
+    let apart = used_apart words blocks list in
+    elim (cases_order has.0 has'.0) [
+      | inl same ↦ inl (sym is ∙ (ap (λ (k : ℕ). get_or used k other) same ∙ has'.2))
+      | inr differ ↦ inr (elim differ [
+        | inl less ↦ inl (subst₂ (λ (x y : Block). x.place + x.size ≤ y.place) is has'.2 (apart has.0 has'.0 other less has'.1))
+        | inr more ↦ inr (subst₂ (λ (x y : Block). x.place + x.size ≤ y.place) has'.2 is (apart has'.0 has.0 other more has.1))
+      ])
     ]
 
 -- one block more

@@ -3,15 +3,11 @@ use Rattle.mica_model.specs.StoreStep as ss
 use Rattle.store_partition.proofs.Words.{Cell, Cells, Del, List, None, Op, Option, Put, Some, Store, Write, ap, arith, bucket_of, cond}
 use Rattle.store_partition.proofs.Words.{eq_by_cmp_equiv, get, get-insert, get-remove, insert, is_some, keys_in, keys_over, len, len-insert}
 use Rattle.store_partition.proofs.Words.{len-remove, less_here, less_others, nat_list_cmp_total, new_here, new_others, refl, remove, remove_none}
-use Rattle.store_partition.proofs.Words.{room_of, rooms, rooms_insert, rooms_remove, size_of, subst, sym, ℕ, ◌+◌, ◌-◌, ◌<◌, ◌∙◌, ◌≡◌, ◌≢◌, ◌≤◌}
+use Rattle.store_partition.proofs.Words.{room_of, rooms, rooms_insert, rooms_remove, size_of, subst, sym, ℕ, ◌+◌, ◌-◌, ◌<◌, ◌∙◌, ◌≡◌, ◌≢◌}
 
 -- how many cells these are
 abbrev pub one_or_none : Option Cell → ℕ
 one_or_none had = cond (is_some had) 1 0
-
-pub one_at_most : (had : Option Cell) → one_or_none had ≤ 1
-one_at_most None = omega arith
-one_at_most (Some cell) = omega arith
 
 -- the numbers of keys and of room words, where a key of the bucket had this and now has that
 pub record Exchanges (buckets b : ℕ) (cells later : Cells) (had has : Option Cell) : Type 0 where

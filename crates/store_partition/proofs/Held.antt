@@ -4,10 +4,10 @@ use Rattle.store_partition.proofs.Words.{Contains-permutation, Has, HasKey, HasN
 use Rattle.store_partition.proofs.Words.{IsPermutation, IsPermutation-refl, IsPermutation-sym, IsSpotOf, Kept, List, ListStands, MayGive, None}
 use Rattle.store_partition.proofs.Words.{Option, Outcome, OwnerState, RoomsApart, Some, Spells, Spot, State, Store, Write, [], accepted_in}
 use Rattle.store_partition.proofs.Words.{accepted_is_length, ap, arith, at, bucket_at, bucket_in, cells_of, chain_inside, chained, empty, entries_of}
-use Rattle.store_partition.proofs.Words.{entry_offset, entry_tag, eqb, get, get_or_default, has_its_key, inl, inr, keys_in, len, length, listed}
-use Rattle.store_partition.proofs.Words.{main_of, mod-eq_of_lt, number_entry, number_of, number_within, only_key, options_in, refl, room_in, room_is}
-use Rattle.store_partition.proofs.Words.{rooms, same_Some, spelt_key, spot_at, spot_entry, stands_idle, state_in, store_state, stored_in, subst, sym}
-use Rattle.store_partition.proofs.Words.{used_block, used_blocks, words_of, ℕ, ◌%◌, ◌++◌, ◌+◌, ◌/◌, ◌<◌, ◌^◌, ◌∙◌, ◌∷◌, ◌≡◌, ◌≢◌, ◌≤◌}
+use Rattle.store_partition.proofs.Words.{entry_offset, entry_tag, eqb, get, get_or_default, has_its_key, inl, inr, item_at, keys_in, len, length}
+use Rattle.store_partition.proofs.Words.{listed, main_of, mod-eq_of_lt, number_entry, number_of, number_within, only_key, options_in, refl, room_in}
+use Rattle.store_partition.proofs.Words.{room_is, rooms, same_Some, spelt_key, spot_at, spot_entry, stands_idle, state_in, store_state, stored_in}
+use Rattle.store_partition.proofs.Words.{subst, sym, used_block, used_blocks, words_of, ℕ, ◌%◌, ◌++◌, ◌+◌, ◌/◌, ◌<◌, ◌^◌, ◌∙◌, ◌∷◌, ◌≡◌, ◌≢◌, ◌≤◌}
 use Rattle.store_partition.proofs.Once.{not_among, once_by, once_moved, single}
 use Rattle.store_partition.proofs.Blocks.{block_within, same_or_apart}
 use Rattle.store_partition.proofs.Cells.{one_or_none}
@@ -36,6 +36,13 @@ pub record IsOther (h : Held) (key : List ℕ) (c x : ℕ) : Type 0 where
 pub main_at : (o : OwnerState) → Kept o → (key : List ℕ) (b : ℕ) → b ≡ bucket_in o key → IsMain o.shape b
 main_at o s key b here = subst (IsMain o.shape) (sym here) (main_of o s key)
 
+-- numbers within the heap that name one word are one
+pub same_word : (o : OwnerState) (p q : ℕ) → p < o.shape.words → q < o.shape.words → item_at o.shape p ≡ item_at o.shape q → p ≡ q
+same_word o p q less less' same =
+    let one : p % o.shape.words ≡ p = mod-eq_of_lt less in
+    let two : q % o.shape.words ≡ q = mod-eq_of_lt less' in
+    omega arith
+
 -- rooms that are blocks at different places share no word
 pub rooms_apart : (o : OwnerState) (blocks : List Block) → IsBlockList o.shape.words blocks → (x x' : ℕ) → HasBlock o blocks x → HasBlock o blocks x'
     → entry_offset x ≢ entry_offset x' → RoomsApart o x x'
@@ -44,12 +51,9 @@ rooms_apart o blocks list x x' has has' differ q i i' =
     let within' = block_within o.shape.words blocks list (entry_offset x') (room_in o x') has' in
     let low = i.1 in
     let low' = i'.1 in
-    let here : (entry_offset x + i.0) % o.shape.words ≡ entry_offset x + i.0 = mod-eq_of_lt (omega arith) in
-    let here' : (entry_offset x' + i'.0) % o.shape.words ≡ entry_offset x' + i'.0 = mod-eq_of_lt (omega arith) in
-    let at_q = i.2 in
-    let at_q' = i'.2 in
+    let same = same_word o (entry_offset x + i.0) (entry_offset x' + i'.0) (omega arith) (omega arith) (i.2 ∙ sym i'.2) in
     elim (same_or_apart o.shape.words blocks list (used_block (entry_offset x) (room_in o x)) (used_block (entry_offset x') (room_in o x')) has has') [
-      | inl same ↦ differ (ap (λ (b : Block). b.place) same)
+      | inl is ↦ differ (ap (λ (b : Block). b.place) is)
       | inr apart ↦ elim apart [ inl before ↦ omega arith | inr behind ↦ omega arith ]
     ]
 

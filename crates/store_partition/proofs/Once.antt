@@ -2,9 +2,9 @@
 use Rattle.store_partition.proofs.Words.{All-contains, All-from_recursion, Contains, Contains-get_or, IsDistinct, IsDistinct-IsPermutation}
 use Rattle.store_partition.proofs.Words.{IsDistinct-cons, IsDistinct-from_apart, IsDistinct-head, IsDistinct-tail, IsPermutation}
 use Rattle.store_partition.proofs.Words.{IsPermutation-middle, IsPermutation-remove, IsPermutation-swap_remove, List, [], ap, apart_from_distinct}
-use Rattle.store_partition.proofs.Words.{arith, at, cases_eq, cases_lt, drop, eq-eqb, eqb, eqb-false, false, get_or, get_or_default, inl, inr, length}
-use Rattle.store_partition.proofs.Words.{list_remove, ne_eqb, recursion_from_All, refl, set_split, slice_set, subst, suc, swap_remove, sym, take, ℕ}
-use Rattle.store_partition.proofs.Words.{◌++◌, ◌-◌, ◌<◌, ◌∙◌, ◌∷◌, ◌≡◌, ◌≢◌, ◌≤◌}
+use Rattle.store_partition.proofs.Words.{arith, at, cases_eq, cases_order, drop, eq-eqb, eqb, eqb-false, false, get_or, get_or_default, inl, inr}
+use Rattle.store_partition.proofs.Words.{length, list_remove, ne_eqb, recursion_from_All, refl, set_split, slice_set, subst, suc, swap_remove, sym}
+use Rattle.store_partition.proofs.Words.{take, ℕ, ◌++◌, ◌-◌, ◌<◌, ◌∙◌, ◌∷◌, ◌≡◌, ◌≢◌, ◌≤◌}
 
 flips : (x y : ℕ) → eqb x y ≡ eqb y x
 flips x y = elim (cases_eq x y) [
@@ -13,12 +13,12 @@ flips x y = elim (cases_eq x y) [
 ]
 
 pub once_at : (xs : List ℕ) (i j : ℕ) → IsDistinct eqb xs → i < length xs → j < length xs → at xs i ≡ at xs j → i ≡ j
-once_at xs i j once l m same = elim (cases_lt i j) [
-  | inl less ↦ absurd (eqb-false (at xs i) (at xs j) (apart_from_distinct eqb xs i j 0 once less m) same)
-  | inr more ↦ elim (cases_lt j i) [
-    | inl less ↦ absurd (eqb-false (at xs j) (at xs i) (apart_from_distinct eqb xs j i 0 once less l) (sym same))
-    | inr again ↦ omega arith
-  ]
+once_at xs i j once l m same = elim (cases_order i j) [
+  | inl is ↦ is
+  | inr differ ↦ absurd (elim differ [
+    | inl less ↦ eqb-false (at xs i) (at xs j) (apart_from_distinct eqb xs i j 0 once less m) same
+    | inr more ↦ eqb-false (at xs j) (at xs i) (apart_from_distinct eqb xs j i 0 once more l) (sym same)
+  ])
 ]
 
 pub once_by : (xs : List ℕ) → ((i j : ℕ) → i < length xs → j < length xs → at xs i ≡ at xs j → i ≡ j) → IsDistinct eqb xs

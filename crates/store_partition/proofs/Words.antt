@@ -12,7 +12,7 @@ pub use Rattle.std.proofs.lemmas.Map.Made.{is_member-Decides}
 pub use Rattle.std.specs.Bool.{Decides}
 pub use Rattle.std.specs.Prelude.{Contains, IsPermutation, IsSome, IsSomeAnd, MatchOption, flat_map, is_some, not, remove as list_remove, slice_index}
 pub use Rattle.std.specs.Prelude.{slice_set, swap_remove, ◌&&◌, ◌↔◌}
-pub use Rattle.std.proofs.lemmas.Bool.{cases_eq, cases_lt, cond-false, cond-true, eq-eqb, eqb-false, le-leb, lt-leb, ne_eqb, true≢false}
+pub use Rattle.std.proofs.lemmas.Bool.{cases_eq, cases_order, cond-false, cond-true, eq-eqb, eqb-false, le-leb, lt-leb, ne_eqb, true≢false}
 pub use Rattle.std.proofs.lemmas.List.{get_or_default, length_push, nil_from_length, set_split}
 pub use Rattle.std.proofs.lemmas.List.Elements.{All-contains, All-from_recursion, Contains-append_cases, Contains-append_left, Contains-append_right}
 pub use Rattle.std.proofs.lemmas.List.Elements.{Contains-get_or, recursion_from_All}

@@ -10,15 +10,16 @@ use Rattle.store_partition.proofs.Words.{Spells, SpellsItem, Spot, State, Stored
 use Rattle.store_partition.proofs.Words.{can_put, chained, cond-false, cond-true, entries_of, entry_of, entry_offset, entry_offset-entry_of}
 use Rattle.store_partition.proofs.Words.{entry_tag, entry_tag-entry_of, get, header_room, inl, inr, is_accepted, item_at, item_events, item_in}
 use Rattle.store_partition.proofs.Words.{item_room, item_size, item_words, kept_after, kept_marked, le-leb, leb, length, length-item_words}
-use Rattle.store_partition.proofs.Words.{list_remove, lt-leb, marked, marked_in, marked_in_bucket, marked_item, mod-eq_of_lt, number_of, options_in}
-use Rattle.store_partition.proofs.Words.{place_at, plays, put_entry, put_item, put_link, put_others, put_same, put_words, puts_from, refl, room_in}
-use Rattle.store_partition.proofs.Words.{room_is, room_of, size_at_most, size_of, slice_set, spells_item, spot_entry, store_state, subst, subst₂}
-use Rattle.store_partition.proofs.Words.{swap_remove, sym, tag_of, taken_apart, taken_within, true, used_block, used_blocks, used_blocks-taken}
-use Rattle.store_partition.proofs.Words.{words_of, write_of, written, ℕ, ◌%◌, ◌++◌, ◌+◌, ◌<◌, ◌^◌, ◌∙◌, ◌∷◌, ◌≡◌, ◌≢◌, ◌≤◌, ◌⊎◌}
+use Rattle.store_partition.proofs.Words.{list_remove, lt-leb, marked, marked_in, marked_in_bucket, marked_item, number_of, options_in, place_at}
+use Rattle.store_partition.proofs.Words.{plays, put_entry, put_item, put_link, put_others, put_same, put_words, puts_from, refl, room_in, room_is}
+use Rattle.store_partition.proofs.Words.{room_of, size_at_most, size_of, slice_set, spells_item, spot_entry, store_state, subst, subst₂, swap_remove}
+use Rattle.store_partition.proofs.Words.{sym, tag_of, taken_apart, taken_within, true, used_block, used_blocks, used_blocks-taken, words_of, write_of}
+use Rattle.store_partition.proofs.Words.{written, ℕ, ◌%◌, ◌++◌, ◌+◌, ◌<◌, ◌^◌, ◌∙◌, ◌∷◌, ◌≡◌, ◌≢◌, ◌≤◌, ◌⊎◌}
 use Rattle.store_partition.proofs.Once.{nothing, removed, set_moved, single, swap_moved}
 use Rattle.store_partition.proofs.Blocks.{Heap, added, heap_gives, heap_kept, list_on, same_or_apart}
 use Rattle.store_partition.proofs.Cells.{cell_left, left, one_or_none}
-use Rattle.store_partition.proofs.Held.{HasBlock, Held, IsOther, Known, Split, before, has_none, m, not_worn, other_bucket, split_none, used, within}
+use Rattle.store_partition.proofs.Held.{HasBlock, Held, IsOther, Known, Split, before, has_none, m, not_worn, other_bucket, same_word, split_none}
+use Rattle.store_partition.proofs.Held.{used, within}
 use Rattle.store_partition.proofs.Events.{Base, Closes, Opens, accepts, base, main, marked_at, marked_base, may_open, now, number_in, number_is}
 use Rattle.store_partition.proofs.Events.{when_marked}
 use Rattle.store_partition.proofs.After.{finished, later, same_chain}
@@ -37,13 +38,6 @@ kept_plays : (o : OwnerState) → Kept o → (p : ℕ) (xs : List ℕ) → CanPl
 kept_plays o s p [] can = s
 kept_plays o s p (x ∷ xs) can = kept_plays (after_event (PutsWord p x) o) (kept_after o s (PutsWord p x) can.0) (p + 1) xs can.1
 
--- numbers within the heap are of different words
-differ : (o : OwnerState) (p q : ℕ) → p < o.shape.words → q < o.shape.words → item_at o.shape p ≡ item_at o.shape q → p ≡ q
-differ o p q less less' same =
-    let one : p % o.shape.words ≡ p = mod-eq_of_lt less in
-    let two : q % o.shape.words ≡ q = mod-eq_of_lt less' in
-    omega arith
-
 module _ (h : Held) (a : AcceptedWrite h.o) (from room : ℕ) (r : Room h a from room) (b : ℕ) (here : b ≡ bucket_in h.o a.w.key) where
   abbrev zs : List ℕ
   zs = item_words room a.w.key a.w.value
@@ -60,7 +54,7 @@ module _ (h : Held) (a : AcceptedWrite h.o) (from room : ℕ) (r : Room h a from
       let ends = within h c other.main x other.among in
       let block = r.block in
       let few = short in
-      let is = differ h.o (entry_offset x + i) (from + j) (omega arith) (omega arith) same in
+      let is = same_word h.o (entry_offset x + i) (from + j) (omega arith) (omega arith) same in
       elim (r.apart c x other) [ inl behind ↦ omega arith | inr before ↦ omega arith ]
 
   spares : (i : ℕ) → i < length zs → SparesOthers (marked h.o a) (bucket_in h.o a.w.key) (from + i)
@@ -133,6 +127,7 @@ module _ (h : Held) (a : AcceptedWrite h.o) (from room : ℕ) (r : Room h a from
             given = given;
             split = split;
             lists = lists;
+            few = omega arith;
             long = sym (ap one_or_none has_it);
             spells = λ x has. (cell, subst (λ (z : ℕ). Spells (written h.o a words) b z a.w.key cell) (single e x has) (spells words change kept));
             heap = heap;
@@ -378,6 +373,7 @@ module _ (h : Held) (key : List ℕ) (fits : KeyFits key) (bytes : AreBytes key)
           given = given;
           split = split;
           lists = lists;
+          few = omega arith;
           long = sym (ap one_or_none gone);
           spells = λ x has. absurd (nothing x has);
           heap = heap;
