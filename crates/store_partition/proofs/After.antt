@@ -9,8 +9,7 @@ use Rattle.store_partition.proofs.Words.{entry_offset, eqb, get, get_or_default,
 use Rattle.store_partition.proofs.Words.{length_permutation, only_key, others_same, refl, room_in, room_of, room_same, rooms, same_cell}
 use Rattle.store_partition.proofs.Words.{same_or_other, spells_on, stands_by, state_in, subst, sum_by-IsPermutation, sym, used_block, used_blocks}
 use Rattle.store_partition.proofs.Words.{words_of, words_of-append, written, ℕ, ℕ_discrete, ◌++◌, ◌+◌, ◌<◌, ◌∙◌, ◌≡◌, ◌≢◌, ◌≤◌, ◌⊎◌}
-use Rattle.store_partition.proofs.Once.{in_one, once_at, once_front, once_moved, once_rest}
-use Rattle.store_partition.proofs.Blocks.{Heap}
+use Rattle.store_partition.proofs.Lists.{Heap, in_one, once_at, once_front, once_moved, once_rest}
 use Rattle.store_partition.proofs.Cells.{exchanges, one_or_none}
 use Rattle.store_partition.proofs.Held.{HasBlock, Held, IsOther, Split, as_cells, as_keys, as_rooms, before, each, has_cell, m, once, one_entry}
 use Rattle.store_partition.proofs.Held.{other_bucket, rooms_apart, stood, used}

@@ -5,7 +5,7 @@ use Rattle.store_partition.proofs.Words.{LacksPlace, List, MayLack, Option, Put,
 use Rattle.store_partition.proofs.Words.{inl, inr, item_size, keys_in, length, nil_from_length, options_in, refl, refused_step, room_in}
 use Rattle.store_partition.proofs.Words.{spares_in_use, spot_entry, store_state, subst, subst₂, sym, used_blocks, used_blocks-taken, words_of}
 use Rattle.store_partition.proofs.Words.{words_of-AddsBlock, words_of-fills, words_parted, write_of, ℕ, ◌%◌, ◌*◌, ◌+◌, ◌-◌, ◌<◌, ◌∙◌, ◌≡◌, ◌≤◌}
-use Rattle.store_partition.proofs.Blocks.{list_on}
+use Rattle.store_partition.proofs.Lists.{list_on}
 use Rattle.store_partition.proofs.Held.{Held, Known, as_cells, as_keys, as_rooms, has_none, m, main_at, may_give, not_worn}
 
 module _ (h : Held) (key value : List ℕ) (b : ℕ) (here : b ≡ bucket_in h.o key) where

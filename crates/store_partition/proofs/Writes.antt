@@ -15,8 +15,7 @@ use Rattle.store_partition.proofs.Words.{plays, put_entry, put_item, put_link, p
 use Rattle.store_partition.proofs.Words.{room_of, size_at_most, size_of, slice_set, spells_item, spot_entry, store_state, subst, subst₂, swap_remove}
 use Rattle.store_partition.proofs.Words.{sym, tag_of, taken_apart, taken_within, true, used_block, used_blocks, used_blocks-taken, words_of, write_of}
 use Rattle.store_partition.proofs.Words.{written, ℕ, ◌%◌, ◌++◌, ◌+◌, ◌<◌, ◌^◌, ◌∙◌, ◌∷◌, ◌≡◌, ◌≢◌, ◌≤◌, ◌⊎◌}
-use Rattle.store_partition.proofs.Once.{nothing, removed, set_moved, single, swap_moved}
-use Rattle.store_partition.proofs.Blocks.{Heap, added, heap_gives, heap_kept, list_on, same_or_apart}
+use Rattle.store_partition.proofs.Lists.{Heap, added, heap_gives, heap_kept, list_on, nothing, removed, same_or_apart, set_moved, single, swap_moved}
 use Rattle.store_partition.proofs.Cells.{cell_left, left, one_or_none}
 use Rattle.store_partition.proofs.Held.{HasBlock, Held, IsOther, Known, Split, before, has_none, m, not_worn, other_bucket, same_word, split_none}
 use Rattle.store_partition.proofs.Held.{used, within}
@@ -162,6 +161,7 @@ pub record PutGrown (o : OwnerState) (index : Index) (blocks : List Block) (w : 
   pub closes : (o3 o4 : OwnerState) (tag : ℕ) (index' : Index) → HasPut o w b t place (size_of w) o3 → tag ≡ tag_of w.key → Kept o4 → IsIndexOf index' o4
       → WhenMarked o3.phase (λ c write history. ChangesChain o3 o4 c (slice_set (entries_of o3 c) (number_of o3 c spot) (entry_of tag place)))
       → Closes o w Stored b t index' (λ bs. IsGiven blocks bs old × IsBlockList (words_of blocks) bs) o4
+  pub small : old < 2 ^ 32
   pub gives : HasUsed blocks old
 
 -- of a put of a new key,
@@ -180,6 +180,8 @@ pub record DelKnown (o : OwnerState) (index : Index) (blocks : List Block) (w : 
   pub closes : (o2 o4 : OwnerState) (index' : Index) → o2 ≡ marked_in_bucket o b w t → Kept o4 → IsIndexOf index' o4
       → ChangesChain o2 o4 b (swap_remove (entries_of o2 b) (number_of o2 b spot) 0)
       → Closes o w Deleted b t index' (λ bs. IsGiven blocks bs old × IsBlockList (words_of blocks) bs) o4
+  pub small : old < 2 ^ 32
+  pub gives : HasUsed blocks old
 
 -- and of one that finds none.
 pub record DelAbsent (o : OwnerState) (index : Index) (blocks : List Block) (w : Write) (b t : ℕ) : Type 0 where
@@ -315,6 +317,7 @@ module _ (h : Held) (key value : List ℕ) (is : IsWrite (write_of Put key value
             let some = k.some in
             elim (clear_of old k.cell.room its) [ inl behind ↦ omega arith | inr before ↦ omega arith ])
             refl (let had = ap room_of k.has in omega arith);
+        small = let low = k.small in omega (arith, old_is);
         gives = record { size = k.cell.room; among = has_old };
       }
 
@@ -387,7 +390,8 @@ module _ (h : Held) (key : List ℕ) (fits : KeyFits key) (bytes : AreBytes key)
   pub known_gone : (spot : Spot) → Known h key b spot → (old : ℕ) → old ≡ entry_offset (spot_entry h.o spot) → DelKnown h.o h.index h.blocks (write_of Del key []) b (n + 1) spot old
   known_gone spot k old old_is =
       let allowed : Allows (options_in h.o) (store_state (m h)) (write_of Del key []) Deleted = (not_worn h unworn, (refl, subst IsSome (sym k.has) refl)) in
-      let a = d Deleted refl allowed in record {
+      let a = d Deleted refl allowed in
+      let its = subst₂ (λ (p n : ℕ). Contains (used_blocks h.blocks) (used_block p n)) (sym old_is) k.room k.block in record {
         opens = may_open h a b here;
         removes = λ o2 events.
             let z = marked_base h a b here o2 events in
@@ -402,9 +406,10 @@ module _ (h : Held) (key : List ℕ) (fits : KeyFits key) (bytes : AreBytes key)
             del_closes Deleted refl allowed o2 o4 events rest change kept index known (e ∷ []) rest
             (k.split rest (subst (λ (ys : List ℕ). IsPermutation ys (e ∷ rest)) (z.entries b (main h a b here)) moved)) (IsPermutation-refl rest)
             (used_block old k.cell.room ∷ []) (λ bs. IsGiven h.blocks bs old × IsBlockList (words_of h.blocks) bs)
-            (heap_gives h.o.shape.words h.blocks h.blocks [] h.parts.list (IsPermutation-refl (used_blocks h.blocks)) old k.cell.room k.some
-            (subst₂ (λ (p n : ℕ). Contains (used_blocks h.blocks) (used_block p n)) (sym old_is) k.room k.block))
+            (heap_gives h.o.shape.words h.blocks h.blocks [] h.parts.list (IsPermutation-refl (used_blocks h.blocks)) old k.cell.room k.some its)
             (freed_one old k.cell.room e old_is) refl (let had = ap room_of k.has in omega arith);
+        small = let low = k.small in omega (arith, old_is);
+        gives = record { size = k.cell.room; among = its };
       }
 
   pub absent : HasNoSpot h.o b key → DelAbsent h.o h.index h.blocks (write_of Del key []) b (n + 1)

@@ -6,7 +6,7 @@ use Rattle.store_partition.proofs.Held.{Held, main_at}
 use Rattle.store_partition.proofs.Events.{Closes}
 use Rattle.store_partition.proofs.Outcomes.{full_block, full_spare, new_needs}
 use Rattle.store_partition.proofs.Writes.{HasPut, PutNew, new}
-use Rattle.store_partition.proofs.Whole.{held}
+use Rattle.store_partition.proofs.Parts.{held}
 use Rattle.store_partition.proofs.partition.StorePartition.put_new.Given.{Over}
 use Rattle.store_partition.proofs.partition.StorePartition.put_new.Goals.{After-place, After-write_item_hashed, In-Some, Start}
 use Rattle.store_partition.proofs.partition.StorePartition.put_new.Goals as goal
