@@ -99,12 +99,10 @@ module _ (h : Held) (a : AcceptedWrite h.o) where
     base words long kept same keeps o3 at = subst (Base b) (sym at) record {
       is = refl;
       kept = kept;
-      index = index_stays h.o (chained h.o h.kept) words (h.o.history ++ a.w ∷ []) (Marked (bucket_in h.o a.w.key) a.w h.o.history) long
-          (λ d l. record { link = (same d l).0; entry = (same d l).1 }) h.index h.parts.known;
+      index = index_stays h.o (chained h.o h.kept) words _ _ long (λ d l. record { link = (same d l).0; entry = (same d l).1 }) h.index h.parts.known;
       bit = bit_same (bucket_in h.o a.w.key) b (sym here);
       mains = λ c l. l;
-      entries = entries_stay h.o (chained h.o h.kept) words (h.o.history ++ a.w ∷ []) (Marked (bucket_in h.o a.w.key) a.w h.o.history) long
-          (λ d l. record { link = (same d l).0; entry = (same d l).1 });
+      entries = entries_stay h.o (chained h.o h.kept) words _ _ long (λ d l. record { link = (same d l).0; entry = (same d l).1 });
       spots = λ spot used.
           let entry = (same spot.bucket (chain_inside h.o (chained h.o h.kept) b spot.bucket main used.in_chain)).1 spot.slot used.in_bucket in (
             record {
