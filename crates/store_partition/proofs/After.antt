@@ -44,7 +44,7 @@ module _ (h : Held) (a : AcceptedWrite h.o) (b : ℕ) (here : b ≡ bucket_in h.
   p = written h.o a words
 
   has_now : (key : List ℕ) (cell : Cell) (q : ℕ) → Has (state_in p) key cell q → get (later h a) key ≡ Some cell
-  has_now key cell q has = subst (λ (z : State). Has z key cell q) (now h a words) has
+  has_now key cell q has = subst (λ z. Has z key cell q) (now h a words) has
 
   module _ (o3 : OwnerState) (z : Base h a b o3) (ys : List ℕ) (change : ChangesChain o3 p b ys) (kept : Kept p) (index : Index) (known : IsIndexOf index p)
       (blocks : List Block) (Becomes : List Block → Type 0) (e : Exchange h a b words ys blocks Becomes) where
@@ -52,7 +52,7 @@ module _ (h : Held) (a : AcceptedWrite h.o) (b : ℕ) (here : b ≡ bucket_in h.
     zs = entries_of p b
 
     chain_now : IsPermutation zs (e.news ++ e.rest)
-    chain_now = subst (λ (xs : List ℕ). IsPermutation xs (e.news ++ e.rest)) (sym change.entries) e.lists
+    chain_now = subst (λ xs. IsPermutation xs (e.news ++ e.rest)) (sym change.entries) e.lists
 
     others_now : (c : ℕ) → IsMain h.o.shape c → c ≢ b → entries_of p c ≡ entries_of h.o c
     others_now c l n = (change.others c (z.mains c l) n).entries ∙ z.entries c l
@@ -65,11 +65,11 @@ module _ (h : Held) (a : AcceptedWrite h.o) (b : ℕ) (here : b ≡ bucket_in h.
 
       now_spells : Spells p c x other.own other.cell
       now_spells = spells_on h.o a words c x keeps other.own other.cell
-          (subst (λ (s : State). Has s other.own other.cell (entry_offset x)) (sym (now h a words))
+          (subst (λ s. Has s other.own other.cell (entry_offset x)) (sym (now h a words))
           (others_same (m h) a.w other.own other.differs ∙ has_cell h other.own other.cell (entry_offset x) other.spells.has)) other.spells
 
       now_housed : HasBlock p blocks x
-      now_housed = subst (λ (n : ℕ). Contains (used_blocks blocks) (used_block (entry_offset x) n))
+      now_housed = subst (λ n. Contains (used_blocks blocks) (used_block (entry_offset x) n))
           (sym (room_same h.o a words x keeps (let fits = other.spells.in_room in omega arith)))
           (Contains-permutation (e.taken ++ used_blocks h.blocks) (used_blocks blocks) _ (IsPermutation-sym _ _ e.heap.more)
           (Contains-append_right e.taken (used_blocks h.blocks) _ (used h c other.main x other.among)))
@@ -81,17 +81,17 @@ module _ (h : Held) (a : AcceptedWrite h.o) (b : ℕ) (here : b ≡ bucket_in h.
 
     comes : (c : ℕ) → IsMain h.o.shape c → (x : ℕ) → Contains (entries_of p c) x → Source c x
     comes c l x has = dite (ℕ_discrete c b)
-        (λ same. elim (Contains-append_cases e.news e.rest x (Contains-permutation zs (e.news ++ e.rest) x chain_now (subst (λ (d : ℕ). Contains (entries_of p d) x) same has))) [
+        (λ same. elim (Contains-append_cases e.news e.rest x (Contains-permutation zs (e.news ++ e.rest) x chain_now (subst (λ d. Contains (entries_of p d) x) same has))) [
           | inl new ↦ inl (same, new)
-          | inr rest ↦ inr (subst (λ (d : ℕ). IsOther h a.w.key d x) (sym same) (e.split.others x rest))
+          | inr rest ↦ inr (subst (λ d. IsOther h a.w.key d x) (sym same) (e.split.others x rest))
         ])
-        (λ n. inr (other_bucket h a.w.key b here c x l (subst (λ (xs : List ℕ). Contains xs x) (others_now c l n) has) n))
+        (λ n. inr (other_bucket h a.w.key b here c x l (subst (λ xs. Contains xs x) (others_now c l n) has) n))
 
     goes : (x : ℕ) → Contains (e.news ++ e.rest) x → Contains zs x
     goes x has = Contains-permutation (e.news ++ e.rest) zs x (IsPermutation-sym _ _ chain_now) has
 
     abbrev spelt_now : (c x : ℕ) → Source c x → (key : List ℕ) × (cell : Cell) × Spells p c x key cell
-    spelt_now c x (inl new) = (a.w.key, (e.spells x new.1).0, subst (λ (d : ℕ). Spells p d x a.w.key (e.spells x new.1).0) (sym new.0) (e.spells x new.1).1)
+    spelt_now c x (inl new) = (a.w.key, (e.spells x new.1).0, subst (λ d. Spells p d x a.w.key (e.spells x new.1).0) (sym new.0) (e.spells x new.1).1)
     spelt_now c x (inr other) = (other.own, other.cell, now_spells c x other)
 
     housed : (c x : ℕ) → Source c x → HasBlock p blocks x
@@ -106,9 +106,9 @@ module _ (h : Held) (a : AcceptedWrite h.o) (b : ℕ) (here : b ≡ bucket_in h.
     one_now x y (inl new) (inr other) same = absurd (other.differs (sym same))
     one_now x y (inr other) (inl new) same = absurd (other.differs same)
     one_now x y (inr one) (inr two) same =
-        let moved = subst (λ (k : List ℕ). Spells h.o b y k two.cell) (sym same) two.spells in
+        let moved = subst (λ k. Spells h.o b y k two.cell) (sym same) two.spells in
         let is = same_cell (state_in h.o) one.own two.cell one.cell (entry_offset y) (entry_offset x) moved.has one.spells.has in
-        one_entry h.o b (stood h b (main h a b here)) x y one.own one.cell one.among two.among one.spells (subst (λ (c : Cell). Spells h.o b y one.own c) is moved)
+        one_entry h.o b (stood h b (main h a b here)) x y one.own one.cell one.among two.among one.spells (subst (λ c. Spells h.o b y one.own c) is moved)
 
     each_now : (key : List ℕ) (cell : Cell) (q : ℕ) → bucket_in h.o key ≡ b → Has (state_in p) key cell q → (key ≡ a.w.key) ⊎ (key ≢ a.w.key)
         → (x : ℕ) × Contains zs x × Spells p b x key cell
@@ -116,10 +116,10 @@ module _ (h : Held) (a : AcceptedWrite h.o) (b : ℕ) (here : b ≡ bucket_in h.
         let had = ap (get (later h a)) (sym same) ∙ has_now key cell q has in
         let new = Contains-get_or e.news 0 0 (omega (arith, e.long ∙ ap one_or_none had)) in
         let its = e.spells (at e.news 0) new in
-        let moved = subst (λ (k : List ℕ). Spells p b (at e.news 0) k its.0) (sym same) its.1 in
-        (at e.news 0, goes _ (Contains-append_left e.news e.rest _ new), subst (λ (c : Cell). Spells p b (at e.news 0) key c) (same_cell (state_in p) key its.0 cell _ q moved.has has) moved)
+        let moved = subst (λ k. Spells p b (at e.news 0) k its.0) (sym same) its.1 in
+        (at e.news 0, goes _ (Contains-append_left e.news e.rest _ new), subst (λ c. Spells p b (at e.news 0) key c) (same_cell (state_in p) key its.0 cell _ q moved.has has) moved)
     each_now key cell q is has (inr differs) =
-        let before = subst (λ (s : State). Has s key cell q) (sym (before h)) (sym (others_same (m h) a.w key differs) ∙ has_now key cell q has) in
+        let before = subst (λ s. Has s key cell q) (sym (before h)) (sym (others_same (m h) a.w key differs) ∙ has_now key cell q has) in
         let found = each h.o b (stood h b (main h a b here)) key cell q is before in
         elim (Contains-append_cases e.own e.rest found.0 (Contains-permutation _ _ found.0 e.split.lists found.1)) [
           | inl own ↦
@@ -128,10 +128,10 @@ module _ (h : Held) (a : AcceptedWrite h.o) (b : ℕ) (here : b ≡ bucket_in h.
           | inr stays ↦
               let other = e.split.others found.0 stays in
               let same = only_key h.o h.kept b b found.0 found.0 other.own key other.cell cell other.spells found.2 refl in
-              let moved = subst (λ (k : List ℕ). Spells p b found.0 k other.cell) same (now_spells b found.0 other) in (
+              let moved = subst (λ k. Spells p b found.0 k other.cell) same (now_spells b found.0 other) in (
                 found.0,
                 goes found.0 (Contains-append_right e.news e.rest found.0 stays),
-                subst (λ (c : Cell). Spells p b found.0 key c) (same_cell (state_in p) key other.cell cell (entry_offset found.0) q moved.has has) moved,
+                subst (λ c. Spells p b found.0 key c) (same_cell (state_in p) key other.cell cell (entry_offset found.0) q moved.has has) moved,
               )
         ]
 
@@ -154,7 +154,7 @@ module _ (h : Held) (a : AcceptedWrite h.o) (b : ℕ) (here : b ≡ bucket_in h.
           nothing_else = λ i less. spelt_now b (at zs i) (from b l i less);
           each = λ key cell q is has.
               let found = each_now key cell q is has (same_or_other key a.w.key) in
-              (found.1.0, found.1.1, subst (λ (x : ℕ). Spells p b x key cell) (sym (get_or_default zs found.1.0 0 found.0 found.1.1 ∙ found.1.2)) found.2);
+              (found.1.0, found.1.1, subst (λ x. Spells p b x key cell) (sym (get_or_default zs found.1.0 0 found.0 found.1.1 ∙ found.1.2)) found.2);
           once = λ i j key cell less more sp sp'. once_at zs i j once_now less more (one_now (at zs i) (at zs j) (from b l i less) (from b l j more)
               (key_is b (at zs i) (from b l i less) key cell sp ∙ sym (key_is b (at zs j) (from b l j more) key cell sp')));
           rooms = λ i j less more n. far b b (at zs i) (at zs j) (from b l i less) (from b l j more)
@@ -170,7 +170,7 @@ module _ (h : Held) (a : AcceptedWrite h.o) (b : ℕ) (here : b ≡ bucket_in h.
     keys_now c l =
         let ex = exchanges h.o.shape.buckets b (m h) a.w here (main h a b here) in
         dite (ℕ_discrete c b)
-        (λ same. subst (λ (d : ℕ). length (entries_of p d) ≡ keys_in h.o.shape.buckets d (later h a)) (sym same)
+        (λ same. subst (λ d. length (entries_of p d) ≡ keys_in h.o.shape.buckets d (later h a)) (sym same)
         (let had = as_keys h b (main h a b here) in
         let more = ex.here in
         let was = length_permutation _ _ e.split.lists in
@@ -206,8 +206,8 @@ module _ (h : Held) (a : AcceptedWrite h.o) (b : ℕ) (here : b ≡ bucket_in h.
           list = heap.0;
           used = λ c k i less.
               let x = at (entries_of (after_event (Ends b) p) c) i in
-              let has = subst (λ (xs : List ℕ). Contains xs x) (entries_ends p kept b l c k) (Contains-get_or (entries_of (after_event (Ends b) p) c) i 0 less) in
-              subst (λ (n : ℕ). Contains (used_blocks bs) (used_block (entry_offset x) n)) (sym (room_ends p kept b l x)) (housed_last bs becomes c x (comes c k x has));
+              let has = subst (λ xs. Contains xs x) (entries_ends p kept b l c k) (Contains-get_or (entries_of (after_event (Ends b) p) c) i 0 less) in
+              subst (λ n. Contains (used_blocks bs) (used_block (entry_offset x) n)) (sym (room_ends p kept b l x)) (housed_last bs becomes c x (comes c k x has));
           count =
               (let more = length_permutation _ _ e.heap.more in
               let less = length_permutation _ _ heap.1 in
@@ -235,7 +235,7 @@ pub finished : (h : Held) (a : AcceptedWrite h.o) (b : ℕ) → b ≡ bucket_in 
     → ((words : List ℕ) → ChangesChain o3 (written h.o a words) b ys → Kept (written h.o a words) → Exchange h a b words ys blocks Becomes) → Closes h.o a.w a.outcome b a.t index Becomes o4
 finished h a b here o3 o4 z ys change kept index known blocks Becomes exchange =
     let at4 : o4 ≡ written h.o a o4.words = change.rest.same ∙ ap (λ (s : OwnerState). record s { words = o4.words }) z.is in
-    subst (λ (s : OwnerState). ChangesChain o3 s b ys → Kept s → IsIndexOf index s → Closes h.o a.w a.outcome b a.t index Becomes s) (sym at4)
+    subst (λ s. ChangesChain o3 s b ys → Kept s → IsIndexOf index s → Closes h.o a.w a.outcome b a.t index Becomes s) (sym at4)
     (λ change' kept' known'. closed h a b here o4.words o3 z ys change' kept' index known' blocks Becomes (exchange o4.words change' kept')) change kept known
 
 -- no entry or link was put

@@ -38,7 +38,7 @@ module _ (buckets b : ℕ) (cells : Cells) (key : List ℕ) (here : b ≡ bucket
       }
 
   deleted : (had : Option Cell) → get cells key ≡ had → Exchanges buckets b cells (remove cells key) had None
-  deleted None none = subst (λ (z : Cells). Exchanges buckets b cells z None None) (remove_none cells key none)
+  deleted None none = subst (λ z. Exchanges buckets b cells z None None) (remove_none cells key none)
       record { here = refl; there = λ c other. refl; all = omega arith; room = refl }
   deleted (Some old) has =
       let less = rooms_remove cells key in

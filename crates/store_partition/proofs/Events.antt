@@ -125,8 +125,8 @@ module _ (h : Held) (a : AcceptedWrite h.o) where
 
     pub when_marked : (o3 : OwnerState) → Base b o3 → (F : ℕ → Type 0) → WhenMarked o3.phase (λ c write history. F c) ↔ F b
     when_marked o3 z F = (
-      λ f. subst F (sym here) (subst (λ (s : Phase). WhenMarked s (λ c write history. F c)) (ap (λ (o : OwnerState). o.phase) z.is) f),
-      λ f. subst (λ (s : Phase). WhenMarked s (λ c write history. F c)) (sym (ap (λ (o : OwnerState). o.phase) z.is)) (subst F here f),
+      λ f. subst F (sym here) (subst (λ s. WhenMarked s (λ c write history. F c)) (ap (λ (o : OwnerState). o.phase) z.is) f),
+      λ f. subst (λ s. WhenMarked s (λ c write history. F c)) (sym (ap (λ (o : OwnerState). o.phase) z.is)) (subst F here f),
     )
 
     -- where the entry of a used spot stands
@@ -143,10 +143,10 @@ module _ (h : Held) (a : AcceptedWrite h.o) where
         → ((blocks : List Block) → Becomes blocks → AreParts index blocks (after_event (Ends b) (written h.o a words))) → Closes h.o a.w a.outcome b a.t index Becomes (written h.o a words)
     closes words index Becomes stands parts = record {
       end = record { marked = bit_same (bucket_in h.o a.w.key) b (sym here); stands_for = stands };
-      ended = λ o5 blocks e5 becomes. subst (λ (z : OwnerState). Ended h.o z index blocks a.w a.outcome a.t) (sym e5) record {
+      ended = λ o5 blocks e5 becomes. subst (λ z. Ended h.o z index blocks a.w a.outcome a.t) (sym e5) record {
         count = a.stamp ∙ sym (stamp_more h a.w a.is);
         stamp = a.stamp;
-        step = subst (λ (c : ℕ). IsOwnerStep h.o (after_event (Ends c) (written h.o a words)) a.w a.outcome) (sym here) (ended_step h.o a words);
+        step = subst (λ c. IsOwnerStep h.o (after_event (Ends c) (written h.o a words)) a.w a.outcome) (sym here) (ended_step h.o a words);
         parts = parts blocks becomes;
       };
     }

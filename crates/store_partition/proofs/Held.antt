@@ -64,7 +64,7 @@ module _ (o : OwnerState) (c : ℕ) (list : ListStands o c) where
   pub spelt : (x : ℕ) → Contains (entries_of o c) x → (key : List ℕ) × (cell : Cell) × Spells o c x key cell
   spelt x has =
       let some = list.nothing_else has.0 has.1 in
-      (some.0, some.1, subst (λ (e : ℕ). Spells o c e some.0 some.1) (stands_at x has) some.2)
+      (some.0, some.1, subst (λ e. Spells o c e some.0 some.1) (stands_at x has) some.2)
 
   pub each : (key : List ℕ) (cell : Cell) (q : ℕ) → bucket_in o key ≡ c → Has (state_in o) key cell q → (x : ℕ) × Contains (entries_of o c) x × Spells o c x key cell
   each key cell q is has =
@@ -73,14 +73,14 @@ module _ (o : OwnerState) (c : ℕ) (list : ListStands o c) where
 
   pub one_entry : (x x' : ℕ) (key : List ℕ) (cell : Cell) → Contains (entries_of o c) x → Contains (entries_of o c) x' → Spells o c x key cell → Spells o c x' key cell → x ≡ x'
   one_entry x x' key cell has has' sp sp' =
-      let there = subst (λ (e : ℕ). Spells o c e key cell) (sym (stands_at x has)) sp in
-      let there' = subst (λ (e : ℕ). Spells o c e key cell) (sym (stands_at x' has')) sp' in
+      let there = subst (λ e. Spells o c e key cell) (sym (stands_at x has)) sp in
+      let there' = subst (λ e. Spells o c e key cell) (sym (stands_at x' has')) sp' in
       sym (stands_at x has) ∙ (ap (at (entries_of o c)) (list.once has.0 has'.0 key cell has.1 has'.1 there there') ∙ stands_at x' has')
 
   pub once : IsDistinct eqb (entries_of o c)
   once = once_by (entries_of o c) (λ i j l m same.
       let some = list.nothing_else i l in
-      list.once i j some.0 some.1 l m some.2 (subst (λ (e : ℕ). Spells o c e some.0 some.1) same some.2))
+      list.once i j some.0 some.1 l m some.2 (subst (λ e. Spells o c e some.0 some.1) same some.2))
 
 module _ (h : Held) where
   pub store_at : (s : Store) × (state_in h.o ≡ store_state s)
@@ -93,7 +93,7 @@ module _ (h : Held) where
   before = store_at.1
 
   pub has_cell : (key : List ℕ) (cell : Cell) (q : ℕ) → Has (state_in h.o) key cell q → get m.cells key ≡ Some cell
-  has_cell key cell q has = subst (λ (z : State). Has z key cell q) before has
+  has_cell key cell q has = subst (λ z. Has z key cell q) before has
 
   pub stood : (c : ℕ) → IsMain h.o.shape c → ListStands h.o c
   stood c l = listed h.o (chained h.o h.kept) h.parts.mode h.index h.parts.known c l (stands_idle h.o h.kept h.parts.idle c l)
@@ -112,7 +112,7 @@ module _ (h : Held) where
         own = some.0;
         cell = some.1;
         spells = some.2;
-        differs = λ same. none some.1 (subst (λ (k : List ℕ). Spells h.o c x k some.1) same some.2);
+        differs = λ same. none some.1 (subst (λ k. Spells h.o c x k some.1) same some.2);
       }
 
   -- The numbers of keys and blocks
@@ -134,7 +134,7 @@ module _ (h : Held) where
       omega arith
 
   pub may_give : (w : Write) (outcome : Outcome) → Allows (options_in h.o) (store_state m) w outcome → MayGive (options_in h.o) h.o.history w outcome
-  may_give w outcome allowed = subst (λ (z : State). Allows (options_in h.o) z w outcome) (sym before) allowed
+  may_give w outcome allowed = subst (λ z. Allows (options_in h.o) z w outcome) (sym before) allowed
 
 -- the key's own entry, if it has one, and the other entries of its chain
 pub record Split (h : Held) (key : List ℕ) (b : ℕ) (own rest : List ℕ) : Type 0 where
@@ -188,7 +188,7 @@ module _ (h : Held) (key : List ℕ) (b : ℕ) (here : b ≡ bucket_in h.o key) 
     others : (x : ℕ) → Contains xs x → x ≢ e → IsOther h key b x
     others x has differ = other h key b main x has (λ cell sp.
         let is = same_Some cell own.0 (sym (has_cell h key cell (entry_offset x) sp.has) ∙ has_own) in
-        differ (one_entry h.o b (stood h b main) x e key own.0 has there (subst (λ (z : Cell). Spells h.o b x key z) is sp) own.1))
+        differ (one_entry h.o b (stood h b main) x e key own.0 has there (subst (λ z. Spells h.o b x key z) is sp) own.1))
 
     pub known : Known h key b spot
     known =
@@ -209,7 +209,7 @@ module _ (h : Held) (key : List ℕ) (b : ℕ) (here : b ≡ bucket_in h.o key) 
           split = λ rest lists. record {
             lists = lists;
             long = sym (ap one_or_none has_own);
-            its = λ x has. (own.0, subst (λ (z : ℕ). Spells h.o b z key own.0) (single e x has) own.1);
+            its = λ x has. (own.0, subst (λ z. Spells h.o b z key own.0) (single e x has) own.1);
             others = λ x has. others x (Contains-permutation (e ∷ rest) xs x (IsPermutation-sym _ _ lists) (Contains-append_right (e ∷ []) rest x has))
                 (not_among e rest (once_moved xs (e ∷ rest) lists (once h.o b (stood h b main))) x has);
           };
@@ -225,7 +225,7 @@ module _ (h : Held) (key : List ℕ) (b : ℕ) (here : b ≡ bucket_in h.o key) 
         none (record { bucket = bucket_at h.o (has.0 / 15) b; slot = has.0 % 15 }) record {
           used = record { in_chain = there.live.in_chain; in_bucket = there.live.in_bucket; used = λ empty. there.live.live.0 (sym there.live.found ∙ empty) };
           tag = ap entry_tag is ∙ sp.tag;
-          item = subst (λ (z : ℕ). HasKey h.o (entry_offset z) key) (sym is) (has_its_key h.o h.kept b x key cell sp);
+          item = subst (λ z. HasKey h.o (entry_offset z) key) (sym is) (has_its_key h.o h.kept b x key cell sp);
         })
 
     pub has_none : get (m h).cells key ≡ None
@@ -234,7 +234,7 @@ module _ (h : Held) (key : List ℕ) (b : ℕ) (here : b ≡ bucket_in h.o key) 
         by_cell : (found : Option Cell) → get (m h).cells key ≡ found → found ≡ None
         by_cell None is = refl
         by_cell (Some cell) is =
-            let found = each h.o b (stood h b main) key cell 0 (sym here) (subst (λ (z : State). Has z key cell 0) (sym (before h)) is) in
+            let found = each h.o b (stood h b main) key cell 0 (sym here) (subst (λ z. Has z key cell 0) (sym (before h)) is) in
             let one = all_others found.0 found.1 in
             absurd (one.differs (only_key h.o h.kept b b found.0 found.0 one.own key one.cell cell one.spells found.2 refl))
 

@@ -62,14 +62,14 @@ once_front (x ∷ y ∷ news) rest few apart once = absurd (omega arith)
 -- with the entry at the place first: another one in its place, and the last one
 module _ (xs : List ℕ) (n e : ℕ) (l : n < length xs) where
   pub set_moved : IsPermutation (slice_set xs n e) (e ∷ list_remove xs n)
-  set_moved = subst (λ (ys : List ℕ). IsPermutation ys (e ∷ list_remove xs n)) (sym (set_split xs n e l)) (IsPermutation-middle (take n xs) e (drop (suc n) xs))
+  set_moved = subst (λ ys. IsPermutation ys (e ∷ list_remove xs n)) (sym (set_split xs n e l)) (IsPermutation-middle (take n xs) e (drop (suc n) xs))
 
   module _ (is : at xs n ≡ e) where
     pub removed : IsPermutation xs (e ∷ list_remove xs n)
     removed = IsPermutation-remove xs n e l (sym (get_or_default xs n e 0 l ∙ is))
 
     pub swap_moved : IsPermutation xs (e ∷ swap_remove xs n 0)
-    swap_moved = subst (λ (ys : List ℕ). IsPermutation xs (e ∷ ys))
+    swap_moved = subst (λ ys. IsPermutation xs (e ∷ ys))
         (ap (λ (z : ℕ). take (length xs - 1) (slice_set xs n z)) (get_or_default xs (length xs - 1) e 0 (omega arith)))
         (IsPermutation-swap_remove xs n e l (sym (get_or_default xs n e 0 l ∙ is)))
 
@@ -97,10 +97,10 @@ same_or_apart words blocks list one other has has' =
 
 -- one block more
 pub added : (old new : List Block) (block : Block) → AddsBlock old new block → IsPermutation new (block ∷ old)
-added old new block adds = subst₂ (λ (xs ys : List Block). IsPermutation xs (block ∷ ys)) (sym adds.now) (sym adds.was) (IsPermutation-middle adds.before block adds.after)
+added old new block adds = subst₂ (λ xs ys. IsPermutation xs (block ∷ ys)) (sym adds.now) (sym adds.was) (IsPermutation-middle adds.before block adds.after)
 
 pub list_on : (words : ℕ) (old new : List Block) → IsBlockList words old → IsBlockList (words_of old) new → IsBlockList words new
-list_on words old new list list' = let all = words_of-fills 0 words old list.fills in subst (λ (n : ℕ). IsBlockList n new) (omega arith) list'
+list_on words old new list list' = let all = words_of-fills 0 words old list.fills in subst (λ n. IsBlockList n new) (omega arith) list'
 
 -- The blocks that a write takes are used beside those before it, and it gives these back once its words are marked.
 pub record Heap (words : ℕ) (old new taken given : List Block) (Becomes : List Block → Type 0) : Type 0 where
@@ -114,7 +114,7 @@ module _ (words : ℕ) (old new taken : List Block) (list : IsBlockList words ne
   heap_kept = record {
     list = list;
     more = more;
-    less = λ bs same. (subst (IsBlockList words) (sym same) list, subst (λ (z : List Block). IsPermutation (used_blocks new) (used_blocks z)) (sym same) (IsPermutation-refl (used_blocks new)));
+    less = λ bs same. (subst (IsBlockList words) (sym same) list, subst (λ z. IsPermutation (used_blocks new) (used_blocks z)) (sym same) (IsPermutation-refl (used_blocks new)));
   }
 
   -- the block at the place is
@@ -125,13 +125,13 @@ module _ (words : ℕ) (old new taken : List Block) (list : IsBlockList words ne
     more = more;
     less = λ bs becomes. (
       list_on words new bs list becomes.1,
-      subst (λ (n : ℕ). IsPermutation (used_blocks new) (used_block place n ∷ used_blocks bs)) (given_size bs becomes.0) (added _ _ _ (used_blocks-given new bs place becomes.0)),
+      subst (λ n. IsPermutation (used_blocks new) (used_block place n ∷ used_blocks bs)) (given_size bs becomes.0) (added _ _ _ (used_blocks-given new bs place becomes.0)),
     );
   }
     where
       given_size : (bs : List Block) (given : IsGiven new bs place) → given.size ≡ size
       given_size bs given =
-          let back = back_fills 0 words given.before (used_block place given.size ∷ given.after) (subst (λ (z : List Block). Fills 0 z words) given.was list.fills) in
+          let back = back_fills 0 words given.before (used_block place given.size ∷ given.after) (subst (λ z. Fills 0 z words) given.was list.fills) in
           let own = Contains-permutation (used_block place given.size ∷ used_blocks bs) (used_blocks new) (used_block place given.size)
           (IsPermutation-sym _ _ (added _ _ _ (used_blocks-given new bs place given))) (0, omega arith, refl) in
           let more = back.1 in

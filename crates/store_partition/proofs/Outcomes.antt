@@ -35,14 +35,14 @@ module _ (h : Held) (key value : List ℕ) (b : ℕ) (here : b ≡ bucket_in h.o
   pub grown_needs : (spot : Spot) → Known h key b spot → room_in h.o (spot_entry h.o spot) < size → ss.NeedsBlock (options_in h.o) (m h) w
   grown_needs spot k grows = record {
     stores = (tt, inl tt);
-    no_room = λ fits. (let small = subst (λ (z : Option Cell). IsSomeAnd z (λ cell. size ≤ cell.room)) k.has fits in let same = k.room in omega arith);
+    no_room = λ fits. (let small = subst (λ z. IsSomeAnd z (λ cell. size ≤ cell.room)) k.has fits in let same = k.room in omega arith);
     has_spare = λ needs. cc (sym needs.is_new ∙ k.has);
   }
 
   pub new_needs : HasNoSpot h.o b key → ¬ (LacksPlace h.index h.o b) → ss.NeedsBlock (options_in h.o) (m h) w
   new_needs none places = record {
     stores = (tt, inl tt);
-    no_room = λ fits. absurd (subst (λ (z : Option Cell). IsSomeAnd z (λ cell. size ≤ cell.room)) (has_none h key b here none) fits);
+    no_room = λ fits. absurd (subst (λ z. IsSomeAnd z (λ cell. size ≤ cell.room)) (has_none h key b here none) fits);
     has_spare = λ spare. places (lacks_place spare);
   }
 
@@ -78,5 +78,5 @@ module _ (h : Held) (key value : List ℕ) (b : ℕ) (here : b ≡ bucket_in h.o
         let words : h.o.shape.words ≤ (length (used_blocks h.blocks) + 1) * (size - 1) + words_of (used_blocks h.blocks) = omega (arith, lack) in
         refused_step h.o h.parts.idle w FullBlock refl (may_give h w FullBlock (
           not_worn h unworn,
-          (needs, subst₂ (λ (k l : ℕ). h.o.shape.words ≤ (k + 1) * (size - 1) + l) (as_cells h) (as_rooms h) words),
+          (needs, subst₂ (λ k l. h.o.shape.words ≤ (k + 1) * (size - 1) + l) (as_cells h) (as_rooms h) words),
         ))

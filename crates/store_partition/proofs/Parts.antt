@@ -137,7 +137,7 @@ module _ (o : OwnerState) (met : Met) (closed : ℕ) where
     entries = λ b main. ap (length {A = ℕ}) (entries_same b) ∙ k.entries b main;
     list = k.list;
     used = λ b main.
-        subst (λ (z : List ℕ). (i : ℕ) → i < length z
+        subst (λ z. (i : ℕ) → i < length z
         → Contains (used_blocks blocks) (used_block (entry_offset (slice_index z i)) (room_in o (slice_index z i))))
         (sym (entries_same b)) (k.used b main);
     count = k.count;

@@ -60,7 +60,7 @@ module _ (h : Held) (a : AcceptedWrite h.o) (from room : ℕ) (r : Room h a from
   spares i l c d slot x main_c n live inside =
       let z = marked_base h a (bucket_in h.o a.w.key) refl (marked h.o a) refl in
       let there = place_at (marked h.o a) (chained (marked h.o a) z.kept) h.parts.mode h.index z.index c main_c d slot x live in
-      let has = subst (λ (xs : List ℕ). Contains xs x) (z.entries c main_c)
+      let has = subst (λ xs. Contains xs x) (z.entries c main_c)
       (subst (Contains (entries_of (marked h.o a) c)) there.1.is (Contains-get_or (entries_of (marked h.o a) c) there.0 0 there.1.inside)) in
       let same : room_in (marked h.o a) x ≡ room_in h.o x = ap header_room (marked_item h.o a (entry_offset x)) in
       let low = inside.1 in
@@ -68,7 +68,7 @@ module _ (h : Held) (a : AcceptedWrite h.o) (from room : ℕ) (r : Room h a from
 
   can : CanPlay (puts_from from zs) (marked h.o a)
   can = can_put (marked h.o a) (kept_marked h.o a) from zs (λ i l. record {
-    its_word = subst (λ (z : State). BelongsTo (marked h.o a) (bucket_in h.o a.w.key) a.w z (from + i)) (sym (before h)) (spares i l);
+    its_word = subst (λ z. BelongsTo (marked h.o a) (bucket_in h.o a.w.key) a.w z (from + i)) (sym (before h)) (spares i l);
     low = let small = h.kept.shape.ranges.words in let block = r.block in let few = short in omega arith;
   })
 
@@ -108,8 +108,8 @@ module _ (h : Held) (a : AcceptedWrite h.o) (from room : ℕ) (r : Room h a from
 
       spells : (words : List ℕ) → ChangesChain o3 (written h.o a words) b ys → Kept (written h.o a words) → Spells (written h.o a words) b e a.w.key cell
       spells words now_change now_kept = spells_item (written h.o a words) now_kept b e a.w.key cell (sym here)
-          (subst (λ (z : State). Has z a.w.key cell (entry_offset e)) (sym (now h a words)) has_it)
-          (subst (λ (z : Mode). IsOffset z h.o.shape.words (entry_offset e)) (sym h.parts.mode) (let block = r.block in let few = r.few in omega arith)) tag (item words now_change)
+          (subst (λ z. Has z a.w.key cell (entry_offset e)) (sym (now h a words)) has_it)
+          (subst (λ z. IsOffset z h.o.shape.words (entry_offset e)) (sym h.parts.mode) (let block = r.block in let few = r.few in omega arith)) tag (item words now_change)
 
       -- so a put that exchanges the key's entry for this one may end
       pub put_closes : (own rest : List ℕ) → Split h a.w.key b own rest → IsPermutation ys (e ∷ rest) → (blocks taken given : List Block) (Becomes : List Block → Type 0)
@@ -128,9 +128,9 @@ module _ (h : Held) (a : AcceptedWrite h.o) (from room : ℕ) (r : Room h a from
             lists = lists;
             few = omega arith;
             long = sym (ap one_or_none has_it);
-            spells = λ x has. (cell, subst (λ (z : ℕ). Spells (written h.o a words) b z a.w.key cell) (single e x has) (spells words change kept));
+            spells = λ x has. (cell, subst (λ z. Spells (written h.o a words) b z a.w.key cell) (single e x has) (spells words change kept));
             heap = heap;
-            housed = λ x has. subst (HasBlock (written h.o a words) blocks) (single e x has) (subst₂ (λ (p n : ℕ). Contains (used_blocks blocks) (used_block p n))
+            housed = λ x has. subst (HasBlock (written h.o a words) blocks) (single e x has) (subst₂ (λ p n. Contains (used_blocks blocks) (used_block p n))
                 (sym offset) (sym (item_room (written h.o a words) (entry_offset e) a.w.key cell r.small (item words change))) housed);
             freed = freed;
             apart = λ y gone x has same. apart y gone (same ∙ (ap entry_offset (sym (single e x has)) ∙ offset));
@@ -205,7 +205,7 @@ module _ (h : Held) (key value : List ℕ) (is : IsWrite (write_of Put key value
     a = stored (stored_in_room h key value b here unworn spot k (let same = k.room in omega (arith, room_is)))
 
     own_block : Contains (used_blocks h.blocks) (used_block offset room)
-    own_block = subst₂ (λ (p n : ℕ). Contains (used_blocks h.blocks) (used_block p n)) (sym offset_is) (sym room_is) k.block
+    own_block = subst₂ (λ p n. Contains (used_blocks h.blocks) (used_block p n)) (sym offset_is) (sym room_is) k.block
 
     r : Room h a offset room
     r = record {
@@ -227,8 +227,8 @@ module _ (h : Held) (key value : List ℕ) (is : IsWrite (write_of Put key value
       opens = may_open h a b here;
       item = can_item h a offset room r b here;
       there = λ o2 at.
-          let key_there = subst (λ (p : ℕ). HasKey h.o p key) (sym offset_is) k.found.item in
-          subst (λ (z : OwnerState). HasKeyWords z offset key) (sym (marked_at h a b here o2 at)) record {
+          let key_there = subst (λ p. HasKey h.o p key) (sym offset_is) k.found.item in
+          subst (λ z. HasKeyWords z offset key) (sym (marked_at h a b here o2 at)) record {
             hash = marked_item h.o a (offset + 1) ∙ key_there.hash;
             words = λ i l. marked_item h.o a (offset + 2 + i) ∙ key_there.words i l;
           };
@@ -238,7 +238,7 @@ module _ (h : Held) (key value : List ℕ) (is : IsWrite (write_of Put key value
           let rest = list_remove (entries_of h.o b) k.among.0 in
           let moved = IsPermutation-remove (entries_of h.o b) k.among.0 e k.among.1 (sym k.among.2) in
           put_closes h a offset room r b here o3 events o3 (entries_of o3 b) (same_chain o3 b) z.kept h.index z.index e (sym offset_is) k.found.tag (e ∷ []) rest (k.split rest moved)
-          (subst (λ (xs : List ℕ). IsPermutation xs (e ∷ rest)) (sym (z.entries b (main h a b here))) moved)
+          (subst (λ xs. IsPermutation xs (e ∷ rest)) (sym (z.entries b (main h a b here))) moved)
           h.blocks [] [] (λ bs. bs ≡ h.blocks) (heap_kept h.o.shape.words h.blocks h.blocks [] h.parts.list (IsPermutation-refl (used_blocks h.blocks)))
           own_block (λ y gone. absurd (nothing y gone)) (λ y gone. absurd (nothing y gone)) refl (let had = ap room_of k.has in let same = k.room in omega (arith, room_is));
     }
@@ -285,7 +285,7 @@ module _ (h : Held) (key value : List ℕ) (is : IsWrite (write_of Put key value
           ∙ cond-false (leb size k.cell.room) k.cell.room size (lt-leb size k.cell.room (let same = k.room in omega arith))))
 
       its : Contains (used_blocks h.blocks) (used_block old k.cell.room)
-      its = subst₂ (λ (p n : ℕ). Contains (used_blocks h.blocks) (used_block p n)) (sym old_is) k.room k.block
+      its = subst₂ (λ p n. Contains (used_blocks h.blocks) (used_block p n)) (sym old_is) k.room k.block
 
       has_old : Contains (used_blocks blocks) (used_block old k.cell.room)
       has_old = still _ (Contains-append_right (used_block place size ∷ []) (used_blocks h.blocks) _ its)
@@ -308,7 +308,7 @@ module _ (h : Held) (key value : List ℕ) (is : IsWrite (write_of Put key value
             put_closes h w place size larger b here o3 events o4 (slice_set xs i entry)
             ((when_marked h w b here o3 z (λ c. ChangesChain o3 o4 c (slice_set (entries_of o3 c) (number_of o3 c spot) entry))).0 change)
             kept index known entry (entry_offset-entry_of tag place low) (entry_tag-entry_of tag place low ∙ tag_is) (e ∷ []) (list_remove xs i)
-            (k.split (list_remove xs i) (subst (λ (ys : List ℕ). IsPermutation ys (e ∷ list_remove xs i)) (z.entries b (main h w b here)) moved)) (set_moved xs i entry inside)
+            (k.split (list_remove xs i) (subst (λ ys. IsPermutation ys (e ∷ list_remove xs i)) (z.entries b (main h w b here)) moved)) (set_moved xs i entry inside)
             blocks (used_block place size ∷ []) (used_block old k.cell.room ∷ []) (λ bs. IsGiven blocks bs old × IsBlockList (words_of blocks) bs)
             (heap_gives h.o.shape.words h.blocks blocks (used_block place size ∷ []) list more old k.cell.room k.some has_old)
             (still _ (0, omega arith, refl)) (freed_one old k.cell.room e old_is)
@@ -337,7 +337,7 @@ module _ (h : Held) (key value : List ℕ) (is : IsWrite (write_of Put key value
               z.bit,
               z.mains b (main h w b here),
               λ lacks. places (record {
-                some = subst (λ (xs : List ℕ). 0 < length xs) same lacks.some;
+                some = subst (λ xs. 0 < length xs) same lacks.some;
                 full = ap (λ (xs : List ℕ). length xs % 15) (sym same) ∙ lacks.full;
                 none_free = lacks.none_free;
               }),
@@ -348,7 +348,7 @@ module _ (h : Held) (key value : List ℕ) (is : IsWrite (write_of Put key value
             let entry = entry_of tag place in
             put_closes h w place size first b here o3 events o4 (entries_of o3 b ++ entry ∷ []) change kept index known entry
             (entry_offset-entry_of tag place low) (entry_tag-entry_of tag place low ∙ tag_is) [] xs (split_none h key b here none)
-            (subst (λ (ys : List ℕ). IsPermutation (ys ++ entry ∷ []) (entry ∷ xs)) (sym (z.entries b (main h w b here))) (IsPermutation-to_front xs entry))
+            (subst (λ ys. IsPermutation (ys ++ entry ∷ []) (entry ∷ xs)) (sym (z.entries b (main h w b here))) (IsPermutation-to_front xs entry))
             blocks (used_block place size ∷ []) [] (λ bs. bs ≡ blocks) (heap_kept h.o.shape.words h.blocks blocks (used_block place size ∷ []) list more)
             (still _ (0, omega arith, refl)) (λ y gone. absurd (nothing y gone)) (λ y gone. absurd (nothing y gone)) refl (let had = ap room_of (has_none h key b here none) in omega arith);
       }
@@ -391,7 +391,7 @@ module _ (h : Held) (key : List ℕ) (fits : KeyFits key) (bytes : AreBytes key)
   known_gone spot k old old_is =
       let allowed : Allows (options_in h.o) (store_state (m h)) (write_of Del key []) Deleted = (not_worn h unworn, (refl, subst IsSome (sym k.has) refl)) in
       let a = d Deleted refl allowed in
-      let its = subst₂ (λ (p n : ℕ). Contains (used_blocks h.blocks) (used_block p n)) (sym old_is) k.room k.block in record {
+      let its = subst₂ (λ p n. Contains (used_blocks h.blocks) (used_block p n)) (sym old_is) k.room k.block in record {
         opens = may_open h a b here;
         removes = λ o2 events.
             let z = marked_base h a b here o2 events in
@@ -404,7 +404,7 @@ module _ (h : Held) (key : List ℕ) (fits : KeyFits key) (bytes : AreBytes key)
             let rest = swap_remove xs i 0 in
             let moved = swap_moved xs i e (number_in h a b here o2 z spot k.found.used) (number_is h a b here o2 z spot k.found.used) in
             del_closes Deleted refl allowed o2 o4 events rest change kept index known (e ∷ []) rest
-            (k.split rest (subst (λ (ys : List ℕ). IsPermutation ys (e ∷ rest)) (z.entries b (main h a b here)) moved)) (IsPermutation-refl rest)
+            (k.split rest (subst (λ ys. IsPermutation ys (e ∷ rest)) (z.entries b (main h a b here)) moved)) (IsPermutation-refl rest)
             (used_block old k.cell.room ∷ []) (λ bs. IsGiven h.blocks bs old × IsBlockList (words_of h.blocks) bs)
             (heap_gives h.o.shape.words h.blocks h.blocks [] h.parts.list (IsPermutation-refl (used_blocks h.blocks)) old k.cell.room k.some its)
             (freed_one old k.cell.room e old_is) refl (let had = ap room_of k.has in omega arith);
@@ -420,7 +420,7 @@ module _ (h : Held) (key : List ℕ) (fits : KeyFits key) (bytes : AreBytes key)
         closes = λ o2 events.
             let z = marked_base h a b here o2 events in
             del_closes Absent refl allowed o2 o2 events (entries_of o2 b) (same_chain o2 b) z.kept h.index z.index [] (entries_of h.o b) (split_none h key b here none)
-            (subst (λ (ys : List ℕ). IsPermutation ys (entries_of h.o b)) (sym (z.entries b (main h a b here))) (IsPermutation-refl (entries_of h.o b)))
+            (subst (λ ys. IsPermutation ys (entries_of h.o b)) (sym (z.entries b (main h a b here))) (IsPermutation-refl (entries_of h.o b)))
             [] (λ bs. bs ≡ h.blocks) (heap_kept h.o.shape.words h.blocks h.blocks [] h.parts.list (IsPermutation-refl (used_blocks h.blocks)))
             (λ y gone. absurd (nothing y gone)) refl (ap room_of (has_none h key b here none));
       }

@@ -49,7 +49,7 @@ closed g c o index t steps put =
     let o3 = g.W.OwnerWords.owner c.write_item_hashed.new.words in
     steps.closes _ _ c.tag_of.result c.place.new.self put (c.tag_of.ensures ∙ (ap hash_tag c.requires.hashed ∙ sym (tag_of_hash c.args.key.now)))
     c.place.ensures.kept c.place.ensures.index
-    (subst (λ (p : ℕ). ChangesChain o3 (g.W.OwnerWords.owner c.place.new.words) c.args.bucket (entries_of o3 c.args.bucket ++ entry_of c.tag_of.result p ∷ []))
+    (subst (λ p. ChangesChain o3 (g.W.OwnerWords.owner c.place.new.words) c.args.bucket (entries_of o3 c.args.bucket ++ entry_of c.tag_of.result p ∷ []))
     c.from-2.ensures c.place.ensures.entries)
 
 pub has_place-requires-clause-index : goal.has_place-requires-clause-index
@@ -61,7 +61,7 @@ has_place-requires-clause-bucket g c = main_at (g.W.OwnerWords.owner c.args.self
 pub returns-then-not-has_place-clause-step : goal.returns-then-not-has_place-clause-step
 returns-then-not-has_place-clause-step g c =
     let z = (goal.at.returns-then-not-has_place-clause-step g c).Start in
-    subst (λ (n : OwnerState). IsOwnerStep (h g z).o n (w g z) FullSpare) (sym c.has_place.ensures.same)
+    subst (λ n. IsOwnerStep (h g z).o n (w g z) FullSpare) (sym c.has_place.ensures.same)
     (full_spare (h g z) c.args.key.now c.args.value.now c.args.bucket c.requires.sought.bucket c.requires.unworn c.requires.sought.found (c.if-not-has_place.ensures.place.0 refl))
 
 pub returns-in_default-clause-step : goal.returns-in_default-clause-step
@@ -69,7 +69,7 @@ returns-in_default-clause-step g c =
     let z = (goal.at.returns-in_default-clause-step g c).Start in
     let needs = new_needs (h g z) c.args.key.now c.args.value.now c.args.bucket c.requires.sought.bucket c.requires.sought.found
     (λ lacks. true≢false (c.if-not-has_place.ensures.place.1 lacks)) in
-    subst (λ (n : OwnerState). IsOwnerStep (h g z).o n (w g z) FullBlock) (sym c.has_place.ensures.same)
+    subst (λ n. IsOwnerStep (h g z).o n (w g z) FullBlock) (sym c.has_place.ensures.same)
     (full_block (h g z) c.args.key.now c.args.value.now c.args.bucket c.requires.sought.bucket c.requires.unworn needs
     (subst (MayLack c.args.self.now.heap) c.item_size-size.ensures c.in_default.ensures.may_lack))
 
@@ -83,7 +83,7 @@ pub write_item_hashed-requires-clause-allowed : goal.write_item_hashed-requires-
 write_item_hashed-requires-clause-allowed g c =
     let z = goal.at.write_item_hashed-requires-clause-allowed g c in
     let begun = c.begin_marked.ensures.events ∙ ap (λ (n : OwnerState). marked_in_bucket n c.args.bucket (w g z.Start) (c.args.self.now.accepted + 1)) c.has_place.ensures.same in
-    subst₂ (λ (p n : ℕ). CanPlay (item_events p n c.args.key.now c.args.value.now) (g.W.OwnerWords.owner c.begin_marked.new.words)) (sym c.from.ensures) (sym c.item_size-size.ensures)
+    subst₂ (λ p n. CanPlay (item_events p n c.args.key.now c.args.value.now) (g.W.OwnerWords.owner c.begin_marked.new.words)) (sym c.from.ensures) (sym c.item_size-size.ensures)
     ((steps g z.In-Some).item _ begun)
 
 pub place-requires-clause-index : goal.place-requires-clause-index
