@@ -4,7 +4,7 @@ use Rattle.mica_model.specs.StoreStep as ss
 use Rattle.store_partition.proofs.Words.{AcceptedWrite, AreParts, Block, Cell, Cells, ChangesChain, Contains, Contains-append_cases}
 use Rattle.store_partition.proofs.Words.{Contains-append_left, Contains-append_right, Contains-get_or, Contains-permutation, Ends, Has, Index}
 use Rattle.store_partition.proofs.Words.{IsDistinct, IsIndexOf, IsMain, IsPermutation, IsPermutation-sym, Keeps, Kept, List, OwnerState, RoomsApart}
-use Rattle.store_partition.proofs.Words.{Some, Spells, StandsFor, State, after_event, ap, arith, at, bucket_in, cells_of, chained, dite, entries_of}
+use Rattle.store_partition.proofs.Words.{Some, Spells, StandsFor, after_event, ap, arith, at, bucket_in, cells_of, chained, dite, entries_of}
 use Rattle.store_partition.proofs.Words.{entry_offset, eqb, get, get_or_default, index_ends, inl, inr, keys_in, len, length, length-append}
 use Rattle.store_partition.proofs.Words.{length_permutation, only_key, others_same, refl, room_in, room_of, room_same, rooms, same_cell}
 use Rattle.store_partition.proofs.Words.{same_or_other, spells_on, stands_by, state_in, subst, sum_by-IsPermutation, sym, used_block, used_blocks}

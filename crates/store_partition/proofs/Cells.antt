@@ -21,7 +21,7 @@ module _ (buckets b : ℕ) (cells : Cells) (key : List ℕ) (here : b ≡ bucket
   inserted cell None none =
       let room = rooms_insert cells key cell in
       let had = ap room_of none in
-      let more = len-insert nat_list_cmp_total cells key cell ∙ ap (λ (z : Option Cell). cond (is_some z) (len cells) (len cells + 1)) none in record {
+      let more = len-insert nat_list_cmp_total cells key cell ∙ ap (λ z. cond (is_some z) (len cells) (len cells + 1)) none in record {
         here = let more = new_here buckets b cells key here low cell none in omega arith;
         there = new_others buckets b cells key here low cell none;
         all = omega arith;
@@ -30,7 +30,7 @@ module _ (buckets b : ℕ) (cells : Cells) (key : List ℕ) (here : b ≡ bucket
   inserted cell (Some old) has =
       let room = rooms_insert cells key cell in
       let had = ap room_of has in
-      let same = len-insert nat_list_cmp_total cells key cell ∙ ap (λ (z : Option Cell). cond (is_some z) (len cells) (len cells + 1)) has in record {
+      let same = len-insert nat_list_cmp_total cells key cell ∙ ap (λ z. cond (is_some z) (len cells) (len cells + 1)) has in record {
         here = let same = keys_over buckets b cells key old cell has in omega arith;
         there = λ c other. keys_over buckets c cells key old cell has;
         all = omega arith;
@@ -43,7 +43,7 @@ module _ (buckets b : ℕ) (cells : Cells) (key : List ℕ) (here : b ≡ bucket
   deleted (Some old) has =
       let less = rooms_remove cells key in
       let had = ap room_of has in
-      let fewer = len-remove nat_list_cmp_total cells key ∙ ap (λ (z : Option Cell). cond (is_some z) (len cells - 1) (len cells)) has in
+      let fewer = len-remove nat_list_cmp_total cells key ∙ ap (λ z. cond (is_some z) (len cells - 1) (len cells)) has in
       let some = less_here buckets b cells key here low old has in record {
         here = omega arith;
         there = less_others buckets b cells key here low old has;

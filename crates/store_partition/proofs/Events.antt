@@ -1,15 +1,15 @@
 -- The events of a write: when each may happen, and what it leaves of the chains.
 use Rattle.mica_model.specs.StoreStep as ss
 use Rattle.store_partition.proofs.Words.{AcceptedWrite, Allows, AreParts, Begins, Block, Ends, Index, IsBucket, IsIndexOf, IsMain, IsOwnerStep}
-use Rattle.store_partition.proofs.Words.{IsUsed, IsWrite, Keeps, Kept, List, Marked, MayBegin, MayEnd, MayMark, Outcome, OwnerState, Phase, Spot}
-use Rattle.store_partition.proofs.Words.{StandsFor, State, WhenMarked, Write, [], after, after_event, all_more, all_on, ap, arith, at, bit_same}
-use Rattle.store_partition.proofs.Words.{bucket_in, chain_inside, chained, empty, ended_step, entries_of, entries_stay, entry_at, entry_in}
-use Rattle.store_partition.proofs.Words.{entry_offset, header_room, history_after, index_stays, is_accepted, item_at, item_in, item_no_epoch}
-use Rattle.store_partition.proofs.Words.{kept_marked, length, length-set, length_push, link_at, link_in, marked, marked_entry, marked_in}
-use Rattle.store_partition.proofs.Words.{marked_in_bucket, marked_item, marked_link, may_begin, may_mark, no_epoch, number_entry, number_of}
-use Rattle.store_partition.proofs.Words.{number_within, options_in, other_word, phase_after, refl, room_in, spot_entry, stamp_in, stamp_is_length}
-use Rattle.store_partition.proofs.Words.{stamp_of, state_in, state_snoc, store_state, subst, subst₂, sym, true, words_after, written, written_state}
-use Rattle.store_partition.proofs.Words.{ℕ, ◌++◌, ◌+◌, ◌<◌, ◌↔◌, ◌∙◌, ◌∷◌, ◌≡◌}
+use Rattle.store_partition.proofs.Words.{IsUsed, IsWrite, Keeps, Kept, List, Marked, MayBegin, MayEnd, MayMark, Outcome, OwnerState, Spot, StandsFor}
+use Rattle.store_partition.proofs.Words.{WhenMarked, Write, [], after, after_event, all_more, all_on, ap, arith, at, bit_same, bucket_in}
+use Rattle.store_partition.proofs.Words.{chain_inside, chained, empty, ended_step, entries_of, entries_stay, entry_at, entry_in, entry_offset}
+use Rattle.store_partition.proofs.Words.{header_room, history_after, index_stays, is_accepted, item_at, item_in, item_no_epoch, kept_marked, length}
+use Rattle.store_partition.proofs.Words.{length-set, length_push, link_at, link_in, marked, marked_entry, marked_in, marked_in_bucket, marked_item}
+use Rattle.store_partition.proofs.Words.{marked_link, may_begin, may_mark, no_epoch, number_entry, number_of, number_within, options_in, other_word}
+use Rattle.store_partition.proofs.Words.{phase_after, refl, room_in, spot_entry, stamp_in, stamp_is_length, stamp_of, state_in, state_snoc}
+use Rattle.store_partition.proofs.Words.{store_state, subst, subst₂, sym, true, words_after, written, written_state, ℕ, ◌++◌, ◌+◌, ◌<◌, ◌↔◌, ◌∙◌, ◌∷◌}
+use Rattle.store_partition.proofs.Words.{◌≡◌}
 use Rattle.store_partition.proofs.Held.{Held, IsOther, before, m, main_at, may_give}
 
 -- what a write has made of the partition once it has ended
@@ -50,7 +50,7 @@ module _ (o : OwnerState) (s : Kept o) (b : ℕ) (main : IsMain o.shape b) where
 -- the stamp after a write more is the number of writes
 pub stamp_more : (h : Held) (w : Write) → IsWrite w → length (h.o.history ++ w ∷ []) ≡ stamp_of (options_in h.o) (h.o.history ++ w ∷ [])
 stamp_more h w is =
-    let now = state_snoc (options_in h.o) h.o.history w ∙ ap (λ (z : State). after (options_in h.o) z w) (before h) in
+    let now = state_snoc (options_in h.o) h.o.history w ∙ ap (λ z. after (options_in h.o) z w) (before h) in
     sym (stamp_is_length (options_in h.o) (h.o.history ++ w ∷ []) (all_more IsWrite h.o.history w h.kept.history.writes is) (ss.after (m h) w) now) ∙ ap stamp_in (sym now)
 
 -- a write that the machine accepts, after so many others
@@ -66,12 +66,12 @@ accepts h w is unworn n counted outcome accepted allowed = record {
   accepted = accepted;
   may = may_give h w outcome allowed;
   t = n + 1;
-  stamp = ap (λ (k : ℕ). k + 1) counted ∙ (sym (length_push h.o.history w) ∙ stamp_more h w is);
+  stamp = ap (λ k. k + 1) counted ∙ (sym (length_push h.o.history w) ∙ stamp_more h w is);
 }
 
 module _ (h : Held) (a : AcceptedWrite h.o) where
   pub now : (words : List ℕ) → state_in (written h.o a words) ≡ store_state (ss.after (m h) a.w)
-  now words = written_state h.o a words ∙ ap (λ (z : State). after (options_in h.o) z a.w) (before h)
+  now words = written_state h.o a words ∙ ap (λ z. after (options_in h.o) z a.w) (before h)
 
   -- Before the index is changed: the chains and the items of other keys are as they were.
   pub record Base (b : ℕ) (o3 : OwnerState) : Type 0 where
@@ -91,7 +91,7 @@ module _ (h : Held) (a : AcceptedWrite h.o) where
     pub may_open : Opens h.o a.w b a.t
     may_open = record {
       begin = λ o' same. subst₂ MayBegin (sym same) (sym here) (may_begin h.o a);
-      mark = λ o' same. subst₂ (λ (z : OwnerState) (c : ℕ). MayMark (after_event (Begins c) z) a.w a.t) (sym same) (sym here) (may_mark h.o a);
+      mark = λ o' same. subst₂ (λ z c. MayMark (after_event (Begins c) z) a.w a.t) (sym same) (sym here) (may_mark h.o a);
     }
 
     pub base : (words : List ℕ) → length words ≡ length h.o.words → Kept (written h.o a words) → ((d : ℕ) → IsBucket h.o.shape d → SameWords h.o (written h.o a words) d)
@@ -117,7 +117,7 @@ module _ (h : Held) (a : AcceptedWrite h.o) where
     }
 
     pub marked_at : (o2 : OwnerState) → o2 ≡ marked_in_bucket h.o b a.w a.t → o2 ≡ marked h.o a
-    marked_at o2 at = at ∙ ap (λ (c : ℕ). marked_in_bucket h.o c a.w a.t) here
+    marked_at o2 at = at ∙ ap (λ c. marked_in_bucket h.o c a.w a.t) here
 
     pub marked_base : (o2 : OwnerState) → o2 ≡ marked_in_bucket h.o b a.w a.t → Base b o2
     marked_base o2 at = base (marked h.o a).words (length-set _ _ _ ∙ length-set h.o.words _ _) (kept_marked h.o a)

@@ -48,7 +48,7 @@ in_one xs x y few has has' =
     let less = has.1 in
     let less' = has'.1 in
     let same : has.0 ≡ has'.0 = omega arith in
-    sym has.2 ∙ (get_or_default xs has.0 x y has.1 ∙ (ap (λ (k : ℕ). get_or xs k y) same ∙ has'.2))
+    sym has.2 ∙ (get_or_default xs has.0 x y has.1 ∙ (ap (λ k. get_or xs k y) same ∙ has'.2))
 
 pub single : {X : Type 0} (x y : X) → Contains (x ∷ []) y → x ≡ y
 single x y has = in_one (x ∷ []) x y (omega arith) (0, omega arith, refl) has
@@ -70,7 +70,7 @@ module _ (xs : List ℕ) (n e : ℕ) (l : n < length xs) where
 
     pub swap_moved : IsPermutation xs (e ∷ swap_remove xs n 0)
     swap_moved = subst (λ ys. IsPermutation xs (e ∷ ys))
-        (ap (λ (z : ℕ). take (length xs - 1) (slice_set xs n z)) (get_or_default xs (length xs - 1) e 0 (omega arith)))
+        (ap (λ z. take (length xs - 1) (slice_set xs n z)) (get_or_default xs (length xs - 1) e 0 (omega arith)))
         (IsPermutation-swap_remove xs n e l (sym (get_or_default xs n e 0 l ∙ is)))
 
 -- The used blocks of a heap: they lie apart, and what becomes of them where one is taken or given back
@@ -88,7 +88,7 @@ same_or_apart words blocks list one other has has' =
     let is : get_or used has.0 other ≡ one = get_or_default used has.0 other one has.1 ∙ has.2 in
     let apart = used_apart words blocks list in
     elim (cases_order has.0 has'.0) [
-      | inl same ↦ inl (sym is ∙ (ap (λ (k : ℕ). get_or used k other) same ∙ has'.2))
+      | inl same ↦ inl (sym is ∙ (ap (λ k. get_or used k other) same ∙ has'.2))
       | inr differ ↦ inr (elim differ [
         | inl less ↦ inl (subst₂ (λ (x y : Block). x.place + x.size ≤ y.place) is has'.2 (apart has.0 has'.0 other less has'.1))
         | inr more ↦ inr (subst₂ (λ (x y : Block). x.place + x.size ≤ y.place) has'.2 is (apart has'.0 has.0 other more has.1))

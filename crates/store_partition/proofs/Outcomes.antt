@@ -1,10 +1,10 @@
 -- Which outcomes the machine allows a put: stored in the room that the key has or in a block, or refused for want of a spare bucket or a block.
 use Rattle.mica_model.specs.StoreStep as ss
-use Rattle.store_partition.proofs.Words.{Allows, Block, Cell, FullBlock, FullSpare, HasNoSpot, IsBlockList, IsOwnerStep, IsSomeAnd, IsTaken}
-use Rattle.store_partition.proofs.Words.{LacksPlace, List, MayLack, Option, Put, Spot, Stored, Write, ap, arith, bucket_in, chained, entries_of}
-use Rattle.store_partition.proofs.Words.{free_spares, inl, inr, item_size, keys_in, length, nil_from_length, options_in, refl, refused_step, room_in}
-use Rattle.store_partition.proofs.Words.{spares_in_use, spot_entry, store_state, subst, subst₂, sym, used_blocks, used_blocks-taken, words_of}
-use Rattle.store_partition.proofs.Words.{words_of-AddsBlock, words_of-fills, words_parted, write_of, ℕ, ◌%◌, ◌*◌, ◌+◌, ◌-◌, ◌<◌, ◌∙◌, ◌≡◌, ◌≤◌}
+use Rattle.store_partition.proofs.Words.{Allows, Block, FullBlock, FullSpare, HasNoSpot, IsBlockList, IsOwnerStep, IsSomeAnd, IsTaken, LacksPlace}
+use Rattle.store_partition.proofs.Words.{List, MayLack, Put, Spot, Stored, Write, ap, arith, bucket_in, chained, entries_of, free_spares, inl, inr}
+use Rattle.store_partition.proofs.Words.{item_size, keys_in, length, nil_from_length, options_in, refl, refused_step, room_in, spares_in_use}
+use Rattle.store_partition.proofs.Words.{spot_entry, store_state, subst, subst₂, sym, used_blocks, used_blocks-taken, words_of, words_of-AddsBlock}
+use Rattle.store_partition.proofs.Words.{words_of-fills, words_parted, write_of, ℕ, ◌%◌, ◌*◌, ◌+◌, ◌-◌, ◌<◌, ◌∙◌, ◌≡◌, ◌≤◌}
 use Rattle.store_partition.proofs.Lists.{list_on}
 use Rattle.store_partition.proofs.Held.{Held, Known, as_cells, as_keys, as_rooms, has_none, m, main_at, may_give, not_worn}
 
@@ -21,12 +21,12 @@ module _ (h : Held) (key value : List ℕ) (b : ℕ) (here : b ≡ bucket_in h.o
   counted = free_spares h.o (chained h.o h.kept) h.index h.parts.known (m h).cells (as_keys h)
 
   own_keys : length (entries_of h.o b) ≡ keys_in h.o.shape.buckets (bucket_in h.o key) (m h).cells
-  own_keys = as_keys h b (main_at h.o h.kept key b here) ∙ ap (λ (c : ℕ). keys_in h.o.shape.buckets c (m h).cells) here
+  own_keys = as_keys h b (main_at h.o h.kept key b here) ∙ ap (λ c. keys_in h.o.shape.buckets c (m h).cells) here
 
   lacks_place : ss.NeedsSpare (options_in h.o) (m h) key → LacksPlace h.index h.o b
   lacks_place needs = record {
     some = (let some = needs.some in let same = own_keys in omega arith);
-    full = ap (λ (n : ℕ). n % 15) own_keys ∙ needs.full;
+    full = ap (λ n. n % 15) own_keys ∙ needs.full;
     none_free = nil_from_length h.index.free (let left = needs.none_left in let all = counted in omega arith);
   }
 
@@ -67,7 +67,7 @@ module _ (h : Held) (key value : List ℕ) (b : ℕ) (here : b ≡ bucket_in h.o
         let needs : ss.NeedsSpare (options_in h.o) (m h) key = record {
           is_new = has_none h key b here none;
           some = (let same = own_keys in omega arith);
-          full = ap (λ (n : ℕ). n % 15) (sym own_keys) ∙ lacks.full;
+          full = ap (λ n. n % 15) (sym own_keys) ∙ lacks.full;
           none_left = (let all = counted in omega arith);
         } in
         refused_step h.o h.parts.idle w FullSpare refl (may_give h w FullSpare (not_worn h unworn, (tt, needs)))

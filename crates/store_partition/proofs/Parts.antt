@@ -111,7 +111,7 @@ module _ (o : OwnerState) (met : Met) (closed : ℕ) where
   buckets_same : (n b : ℕ) → buckets_from p n b ≡ buckets_from o n b
   unfolding buckets_from
   buckets_same zero b = refl
-  buckets_same (suc n) b = ap (λ (z : List ℕ). b ∷ (if link_in o b == 0 then [] else z)) (buckets_same n (link_in o b))
+  buckets_same (suc n) b = ap (λ z. b ∷ (if link_in o b == 0 then [] else z)) (buckets_same n (link_in o b))
 
   entries_same : (b : ℕ) → entries_of p b ≡ entries_of o b
   unfolding entries_of buckets_of entries_in

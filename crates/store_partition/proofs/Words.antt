@@ -42,7 +42,7 @@ pub use Rattle.mica_model.proofs.CellSums.{keys_over, no_keys, no_rooms, remove_
 pub use Rattle.mica_model.proofs.Histories.{accepted_is_length, state_snoc, stored_in}
 pub use Rattle.mica_model.proofs.StoreLaws.{others_same, stamp_is_length}
 pub use Rattle.mica_model.proofs.TableSteps.{less_here, less_others, new_here, new_others}
-pub use Rattle.mica_model.specs.History.{Allows, MayGive, State, accepted_in, after, answer_of, stamp_in, stamp_of, start, store_state, value_in}
+pub use Rattle.mica_model.specs.History.{Allows, MayGive, accepted_in, after, answer_of, stamp_in, stamp_of, start, store_state, value_in}
 pub use Rattle.mica_model.specs.Store.{Cell, Cells, Store, keys_in, room_of, rooms, spares_in_use}
 pub use Rattle.mica_model.specs.Write.{IsWrite, is_accepted, size_of, write_of}
 pub use Rattle.mica_model.specs.declared.options.Mode.{Mode}
@@ -81,7 +81,6 @@ pub use Rattle.epoch_core.specs.declared.event.Event.TheVariants.{Begins, Ends, 
 pub use Rattle.epoch_core.specs.declared.shape.Shape.{Shape}
 pub use Rattle.epoch_core.specs.declared.state.Met.{Met}
 pub use Rattle.epoch_core.specs.declared.state.OwnerState.{OwnerState}
-pub use Rattle.epoch_core.specs.declared.state.Phase.{Phase}
 pub use Rattle.epoch_core.specs.declared.state.Phase.TheVariants.{Marked}
 pub use Rattle.block_heap.proofs.Counting.{words_parted}
 pub use Rattle.block_heap.proofs.Order.{back_fills, words_of-append, words_of-fills}

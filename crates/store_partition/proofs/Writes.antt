@@ -5,15 +5,15 @@ use Rattle.store_partition.proofs.Words.{Absent, AcceptedWrite, All-contains, Al
 use Rattle.store_partition.proofs.Words.{Contains, Contains-append_right, Contains-get_or, Contains-permutation, Del, Deleted, Has, HasKey}
 use Rattle.store_partition.proofs.Words.{HasKeyWords, HasNoSpot, HasUsed, Index, IsBlockList, IsGiven, IsIndexOf, IsMain, IsOffset, IsPermutation}
 use Rattle.store_partition.proofs.Words.{IsPermutation-refl, IsPermutation-remove, IsPermutation-sym, IsPermutation-to_front, IsSome, IsTaken, IsUsed}
-use Rattle.store_partition.proofs.Words.{IsWrite, Kept, KeyFits, LacksPlace, List, Mode, Op, Outcome, OwnerState, Put, PutsWord, Some, SparesOthers}
-use Rattle.store_partition.proofs.Words.{Spells, SpellsItem, Spot, State, Stored, WhenMarked, Write, [], after_event, ap, arith, at, bucket_in}
-use Rattle.store_partition.proofs.Words.{can_put, chained, cond-false, cond-true, entries_of, entry_of, entry_offset, entry_offset-entry_of}
-use Rattle.store_partition.proofs.Words.{entry_tag, entry_tag-entry_of, get, header_room, inl, inr, is_accepted, item_at, item_events, item_in}
-use Rattle.store_partition.proofs.Words.{item_room, item_size, item_words, kept_after, kept_marked, le-leb, leb, length, length-item_words}
-use Rattle.store_partition.proofs.Words.{list_remove, lt-leb, marked, marked_in, marked_in_bucket, marked_item, number_of, options_in, place_at}
-use Rattle.store_partition.proofs.Words.{plays, put_entry, put_item, put_link, put_others, put_same, put_words, puts_from, refl, room_in, room_is}
-use Rattle.store_partition.proofs.Words.{room_of, size_at_most, size_of, slice_set, spells_item, spot_entry, store_state, subst, subst₂, swap_remove}
-use Rattle.store_partition.proofs.Words.{sym, tag_of, taken_apart, taken_within, true, used_block, used_blocks, used_blocks-taken, words_of, write_of}
+use Rattle.store_partition.proofs.Words.{IsWrite, Kept, KeyFits, LacksPlace, List, Outcome, OwnerState, Put, PutsWord, Some, SparesOthers, Spells}
+use Rattle.store_partition.proofs.Words.{SpellsItem, Spot, Stored, WhenMarked, Write, [], after_event, ap, arith, at, bucket_in, can_put, chained}
+use Rattle.store_partition.proofs.Words.{cond-false, cond-true, entries_of, entry_of, entry_offset, entry_offset-entry_of, entry_tag}
+use Rattle.store_partition.proofs.Words.{entry_tag-entry_of, get, header_room, inl, inr, is_accepted, item_at, item_events, item_in, item_room}
+use Rattle.store_partition.proofs.Words.{item_size, item_words, kept_after, kept_marked, le-leb, leb, length, length-item_words, list_remove, lt-leb}
+use Rattle.store_partition.proofs.Words.{marked, marked_in, marked_in_bucket, marked_item, number_of, options_in, place_at, plays, put_entry}
+use Rattle.store_partition.proofs.Words.{put_item, put_link, put_others, put_same, put_words, puts_from, refl, room_in, room_is, room_of}
+use Rattle.store_partition.proofs.Words.{size_at_most, size_of, slice_set, spells_item, spot_entry, store_state, subst, subst₂, swap_remove, sym}
+use Rattle.store_partition.proofs.Words.{tag_of, taken_apart, taken_within, true, used_block, used_blocks, used_blocks-taken, words_of, write_of}
 use Rattle.store_partition.proofs.Words.{written, ℕ, ◌%◌, ◌++◌, ◌+◌, ◌<◌, ◌^◌, ◌∙◌, ◌∷◌, ◌≡◌, ◌≢◌, ◌≤◌, ◌⊎◌}
 use Rattle.store_partition.proofs.Lists.{Heap, added, heap_gives, heap_kept, list_on, nothing, removed, same_or_apart, set_moved, single, swap_moved}
 use Rattle.store_partition.proofs.Cells.{cell_left, left, one_or_none}
@@ -98,13 +98,13 @@ module _ (h : Held) (a : AcceptedWrite h.o) (from room : ℕ) (r : Room h a from
       cell = record { value = a.w.value; room = room }
 
       has_it : get (later h a) a.w.key ≡ Some cell
-      has_it = left (m h) a.w ∙ (ap (λ (op : Op). cell_left op (m h) a.w) r.put ∙ ap (λ (n : ℕ). Some (record { value = a.w.value; room = n })) (sym r.takes))
+      has_it = left (m h) a.w ∙ (ap (λ op. cell_left op (m h) a.w) r.put ∙ ap (λ n. Some (record { value = a.w.value; room = n })) (sym r.takes))
 
       item : (words : List ℕ) → ChangesChain o3 (written h.o a words) b ys → SpellsItem (written h.o a words) (entry_offset e) a.w.key cell
       item words now_change i l =
           let long = length-item_words room a.w.key a.w.value in
-          ap (λ (q : ℕ). item_in (written h.o a words) (q + i)) offset ∙ (now_change.rest.items (from + i)
-          ∙ (ap (λ (o : OwnerState). item_in o (from + i)) at_put ∙ put_item h.o a from zs in_heap i (omega arith)))
+          ap (λ q. item_in (written h.o a words) (q + i)) offset ∙ (now_change.rest.items (from + i)
+          ∙ (ap (λ o. item_in o (from + i)) at_put ∙ put_item h.o a from zs in_heap i (omega arith)))
 
       spells : (words : List ℕ) → ChangesChain o3 (written h.o a words) b ys → Kept (written h.o a words) → Spells (written h.o a words) b e a.w.key cell
       spells words now_change now_kept = spells_item (written h.o a words) now_kept b e a.w.key cell (sym here)
@@ -135,7 +135,7 @@ module _ (h : Held) (a : AcceptedWrite h.o) (from room : ℕ) (r : Room h a from
             freed = freed;
             apart = λ y gone x has same. apart y gone (same ∙ (ap entry_offset (sym (single e x has)) ∙ offset));
             count = count;
-            total = total ∙ ap (λ (n : ℕ). words_of given + n) (sym (ap room_of has_it));
+            total = total ∙ ap (λ n. words_of given + n) (sym (ap room_of has_it));
           })
 
 -- the one block that is given back is the key's own
@@ -338,7 +338,7 @@ module _ (h : Held) (key value : List ℕ) (is : IsWrite (write_of Put key value
               z.mains b (main h w b here),
               λ lacks. places (record {
                 some = subst (λ xs. 0 < length xs) same lacks.some;
-                full = ap (λ (xs : List ℕ). length xs % 15) (sym same) ∙ lacks.full;
+                full = ap (λ xs. length xs % 15) (sym same) ∙ lacks.full;
                 none_free = lacks.none_free;
               }),
             );

@@ -38,7 +38,7 @@ put : (g : Over) (c : After-write_item_hashed g) → HasPut (g.W.OwnerWords.owne
     (c.args.self.now.accepted + 1) c.in-Some.place (item_size c.args.key.now c.args.value.now) (g.W.OwnerWords.owner c.write_item_hashed.new.words)
 put g c = c.write_item_hashed.ensures.events
     ∙ (λ i. plays (item_events (c.from.ensures i) (c.item_size-size.ensures i) c.args.key.now c.args.value.now)
-    ((c.begin_marked.ensures.events ∙ ap (λ (z : OwnerState). marked_in_bucket z c.args.bucket (write_of Put c.args.key.now c.args.value.now) (c.args.self.now.accepted + 1))
+    ((c.begin_marked.ensures.events ∙ ap (λ z. marked_in_bucket z c.args.bucket (write_of Put c.args.key.now c.args.value.now) (c.args.self.now.accepted + 1))
     c.has_place.ensures.same) i))
 
 -- and its entry
@@ -82,7 +82,7 @@ begin_marked-requires-clause-mark g c = (steps g (goal.at.begin_marked-requires-
 pub write_item_hashed-requires-clause-allowed : goal.write_item_hashed-requires-clause-allowed
 write_item_hashed-requires-clause-allowed g c =
     let z = goal.at.write_item_hashed-requires-clause-allowed g c in
-    let begun = c.begin_marked.ensures.events ∙ ap (λ (n : OwnerState). marked_in_bucket n c.args.bucket (w g z.Start) (c.args.self.now.accepted + 1)) c.has_place.ensures.same in
+    let begun = c.begin_marked.ensures.events ∙ ap (λ n. marked_in_bucket n c.args.bucket (w g z.Start) (c.args.self.now.accepted + 1)) c.has_place.ensures.same in
     subst₂ (λ p n. CanPlay (item_events p n c.args.key.now c.args.value.now) (g.W.OwnerWords.owner c.begin_marked.new.words)) (sym c.from.ensures) (sym c.item_size-size.ensures)
     ((steps g z.In-Some).item _ begun)
 
