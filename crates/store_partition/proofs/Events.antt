@@ -3,7 +3,7 @@ use Rattle.mica_model.specs.StoreStep as ss
 use Rattle.store_partition.proofs.Words.{AcceptedWrite, Allows, AreParts, Begins, Block, Ends, Index, IsBucket, IsIndexOf, IsMain, IsOwnerStep}
 use Rattle.store_partition.proofs.Words.{IsUsed, IsWrite, Keeps, Kept, List, Marked, MayBegin, MayEnd, MayMark, Outcome, OwnerState, Spot, StandsFor}
 use Rattle.store_partition.proofs.Words.{WhenMarked, Write, [], after, after_event, all_more, all_on, ap, arith, at, bit_same, bucket_in}
-use Rattle.store_partition.proofs.Words.{chain_inside, chained, empty, ended_step, entries_of, entries_stay, entry_at, entry_in, entry_offset}
+use Rattle.store_partition.proofs.Words.{chain_inside, chained, ended_step, entries_of, entries_stay, entry_at, entry_in, entry_offset}
 use Rattle.store_partition.proofs.Words.{header_room, history_after, index_stays, is_accepted, item_at, item_in, item_no_epoch, kept_marked, length}
 use Rattle.store_partition.proofs.Words.{length-set, length_push, link_at, link_in, marked, marked_entry, marked_in, marked_in_bucket, marked_item}
 use Rattle.store_partition.proofs.Words.{marked_link, may_begin, may_mark, no_epoch, number_entry, number_of, number_within, options_in, other_word}

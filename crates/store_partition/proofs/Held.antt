@@ -3,7 +3,7 @@ use Rattle.store_partition.proofs.Words.{Allows, AreBytes, AreParts, Block, Cell
 use Rattle.store_partition.proofs.Words.{Contains-permutation, Has, HasKey, HasNoSpot, Index, IsBlockList, IsBucket, IsDistinct, IsMain}
 use Rattle.store_partition.proofs.Words.{IsPermutation, IsPermutation-refl, IsPermutation-sym, IsSpotOf, Kept, List, ListStands, MayGive, None}
 use Rattle.store_partition.proofs.Words.{Option, Outcome, OwnerState, RoomsApart, Some, Spells, Spot, Store, Write, [], accepted_in}
-use Rattle.store_partition.proofs.Words.{accepted_is_length, ap, arith, at, bucket_at, bucket_in, cells_of, chain_inside, chained, empty, entries_of}
+use Rattle.store_partition.proofs.Words.{accepted_is_length, ap, arith, at, bucket_at, bucket_in, cells_of, chain_inside, chained, entries_of}
 use Rattle.store_partition.proofs.Words.{entry_offset, entry_tag, eqb, get, get_or_default, has_its_key, inl, inr, item_at, keys_in, len, length}
 use Rattle.store_partition.proofs.Words.{listed, main_of, mod-eq_of_lt, number_entry, number_of, number_within, only_key, options_in, refl, room_in}
 use Rattle.store_partition.proofs.Words.{room_is, rooms, same_Some, spelt_key, spot_at, spot_entry, stands_idle, state_in, store_state, stored_in}

@@ -11,7 +11,7 @@ use Rattle.store_partition.proofs.Words.{cond-false, cond-true, entries_of, entr
 use Rattle.store_partition.proofs.Words.{entry_tag-entry_of, get, header_room, inl, inr, is_accepted, item_at, item_events, item_in, item_room}
 use Rattle.store_partition.proofs.Words.{item_size, item_words, kept_after, kept_marked, le-leb, leb, length, length-item_words, list_remove, lt-leb}
 use Rattle.store_partition.proofs.Words.{marked, marked_in, marked_in_bucket, marked_item, number_of, options_in, place_at, plays, put_entry}
-use Rattle.store_partition.proofs.Words.{put_item, put_link, put_others, put_same, put_words, puts_from, refl, room_in, room_is, room_of}
+use Rattle.store_partition.proofs.Words.{put_item, put_link, put_others, put_same, put_words, puts_from, refl, room_in, room_of}
 use Rattle.store_partition.proofs.Words.{size_at_most, size_of, slice_set, spells_item, spot_entry, store_state, subst, subst₂, swap_remove, sym}
 use Rattle.store_partition.proofs.Words.{tag_of, taken_apart, taken_within, true, used_block, used_blocks, used_blocks-taken, words_of, write_of}
 use Rattle.store_partition.proofs.Words.{written, ℕ, ◌%◌, ◌++◌, ◌+◌, ◌<◌, ◌^◌, ◌∙◌, ◌∷◌, ◌≡◌, ◌≢◌, ◌≤◌, ◌⊎◌}
