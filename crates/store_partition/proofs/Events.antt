@@ -3,13 +3,12 @@ use Rattle.mica_model.specs.StoreStep as ss
 use Rattle.store_partition.proofs.Words.{AcceptedWrite, Allows, AreParts, Begins, Block, Ends, Index, IsBucket, IsIndexOf, IsMain, IsOwnerStep}
 use Rattle.store_partition.proofs.Words.{IsUsed, IsWrite, Keeps, Kept, List, Marked, MayBegin, MayEnd, MayMark, Outcome, OwnerState, Spot, StandsFor}
 use Rattle.store_partition.proofs.Words.{WhenMarked, Write, [], after, after_event, all_more, all_on, ap, arith, at, bit_same, bucket_in}
-use Rattle.store_partition.proofs.Words.{chain_inside, chained, ended_step, entries_of, entries_stay, entry_at, entry_in, entry_offset}
-use Rattle.store_partition.proofs.Words.{header_room, history_after, index_stays, is_accepted, item_at, item_in, item_no_epoch, kept_marked, length}
-use Rattle.store_partition.proofs.Words.{length-set, length_push, link_at, link_in, marked, marked_entry, marked_in, marked_in_bucket, marked_item}
-use Rattle.store_partition.proofs.Words.{marked_link, may_begin, may_mark, no_epoch, number_entry, number_of, number_within, options_in, other_word}
-use Rattle.store_partition.proofs.Words.{phase_after, refl, room_in, spot_entry, stamp_in, stamp_is_length, stamp_of, state_in, state_snoc}
-use Rattle.store_partition.proofs.Words.{store_state, subst, subst₂, sym, true, words_after, written, written_state, ℕ, ◌++◌, ◌+◌, ◌<◌, ◌↔◌, ◌∙◌, ◌∷◌}
-use Rattle.store_partition.proofs.Words.{◌≡◌}
+use Rattle.store_partition.proofs.Words.{chain_inside, chained, ended_step, entries_of, entries_stay, entry_at, entry_in, entry_offset, header_room}
+use Rattle.store_partition.proofs.Words.{history_after, index_stays, is_accepted, item_at, item_in, item_no_epoch, kept_marked, length, length-set}
+use Rattle.store_partition.proofs.Words.{length_push, link_at, link_in, marked, marked_entry, marked_in, marked_in_bucket, marked_item, marked_link}
+use Rattle.store_partition.proofs.Words.{may_begin, may_mark, no_epoch, number_entry, number_of, number_within, options_in, other_word, phase_after}
+use Rattle.store_partition.proofs.Words.{refl, room_in, spot_entry, stamp_in, stamp_is_length, stamp_of, state_in, state_snoc, store_state, subst}
+use Rattle.store_partition.proofs.Words.{subst₂, sym, true, words_after, written, written_state, ℕ, ◌++◌, ◌+◌, ◌<◌, ◌↔◌, ◌∙◌, ◌∷◌, ◌≡◌}
 use Rattle.store_partition.proofs.Held.{Held, IsOther, before, m, main_at, may_give}
 
 -- what a write has made of the partition once it has ended

@@ -8,7 +8,7 @@ use Rattle.store_partition.proofs.Words.{entry_offset, entry_tag, eqb, get, get_
 use Rattle.store_partition.proofs.Words.{listed, main_of, mod-eq_of_lt, number_entry, number_of, number_within, only_key, options_in, refl, room_in}
 use Rattle.store_partition.proofs.Words.{room_is, rooms, same_Some, spelt_key, spot_at, spot_entry, stands_idle, state_in, store_state, stored_in}
 use Rattle.store_partition.proofs.Words.{subst, sym, used_block, used_blocks, words_of, ℕ, ◌%◌, ◌++◌, ◌+◌, ◌/◌, ◌<◌, ◌^◌, ◌∙◌, ◌∷◌, ◌≡◌, ◌≢◌, ◌≤◌}
-use Rattle.store_partition.proofs.Lists.{block_within, not_among, once_by, once_moved, same_or_apart, single}
+use Rattle.store_partition.proofs.Lists.{block_within, not_among, nothing, once_by, once_moved, same_or_apart, single}
 use Rattle.store_partition.proofs.Cells.{one_or_none}
 
 -- an owner's state, with the index and the blocks that go with it
@@ -242,6 +242,6 @@ module _ (h : Held) (key : List ℕ) (b : ℕ) (here : b ≡ bucket_in h.o key) 
     split_none = record {
       lists = IsPermutation-refl xs;
       long = sym (ap one_or_none has_none);
-      its = λ x has. absurd (let less = has.1 in omega arith);
+      its = λ x has. nothing x has;
       others = all_others;
     }

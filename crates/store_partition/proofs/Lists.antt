@@ -40,8 +40,8 @@ not_among x rest once y has same =
     eqb-false x y (All-contains (λ (z : ℕ). eqb x z ≡ false) rest y apart has) (sym same)
 
 -- a list has no element, one, or at most one
-pub nothing : {X : Type 0} (x : X) → Contains [] x → ⊥
-nothing x has = let less = has.1 in omega arith
+pub nothing : {X A : Type 0} (x : X) → Contains [] x → A
+nothing x has = absurd (let less = has.1 in omega arith)
 
 pub in_one : {X : Type 0} (xs : List X) (x y : X) → length xs ≤ 1 → Contains xs x → Contains xs y → x ≡ y
 in_one xs x y few has has' =
@@ -102,6 +102,10 @@ added old new block adds = subst₂ (λ xs ys. IsPermutation xs (block ∷ ys)) 
 pub list_on : (words : ℕ) (old new : List Block) → IsBlockList words old → IsBlockList (words_of old) new → IsBlockList words new
 list_on words old new list list' = let all = words_of-fills 0 words old list.fills in subst (λ n. IsBlockList n new) (omega arith) list'
 
+-- the heap has given the block at the place back
+abbrev pub Gave : List Block → ℕ → List Block → Type 0
+Gave blocks place bs = IsGiven blocks bs place × IsBlockList (words_of blocks) bs
+
 -- The blocks that a write takes are used beside those before it, and it gives these back once its words are marked.
 pub record Heap (words : ℕ) (old new taken given : List Block) (Becomes : List Block → Type 0) : Type 0 where
   pub list : IsBlockList words new
@@ -119,7 +123,7 @@ module _ (words : ℕ) (old new taken : List Block) (list : IsBlockList words ne
 
   -- the block at the place is
   pub heap_gives : (place size : ℕ) → 0 < size → Contains (used_blocks new) (used_block place size)
-      → Heap words old new taken (used_block place size ∷ []) (λ bs. IsGiven new bs place × IsBlockList (words_of new) bs)
+      → Heap words old new taken (used_block place size ∷ []) (Gave new place)
   heap_gives place size some has = record {
     list = list;
     more = more;

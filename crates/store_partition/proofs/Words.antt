@@ -10,8 +10,8 @@ pub use Rattle.std.proofs.Props.{props}
 pub use Rattle.std.proofs.lemmas.Bool.Decides.{Decides-and, Decides-eqb}
 pub use Rattle.std.proofs.lemmas.Map.Made.{is_member-Decides}
 pub use Rattle.std.specs.Bool.{Decides}
-pub use Rattle.std.specs.Prelude.{Contains, IsPermutation, IsSome, IsSomeAnd, MatchOption, flat_map, is_some, not, remove as list_remove, slice_index}
-pub use Rattle.std.specs.Prelude.{slice_set, swap_remove, ◌&&◌, ◌↔◌}
+pub use Rattle.std.specs.Prelude.{Contains, IsPermutation, IsSome, IsSomeAnd, flat_map, is_some, not, remove as list_remove, slice_index, slice_set}
+pub use Rattle.std.specs.Prelude.{swap_remove, ◌&&◌, ◌↔◌}
 pub use Rattle.std.proofs.lemmas.Bool.{cases_eq, cases_order, cond-false, cond-true, eq-eqb, eqb-false, le-leb, lt-leb, ne_eqb, true≢false}
 pub use Rattle.std.proofs.lemmas.List.{get_or_default, length_push, nil_from_length, set_split}
 pub use Rattle.std.proofs.lemmas.List.Elements.{All-contains, All-from_recursion, Contains-append_cases, Contains-append_left, Contains-append_right}
@@ -101,3 +101,4 @@ pub use Rattle.chained_index.specs.ChainShape.{bucket_at}
 pub use Rattle.chained_index.specs.Index.{Index, IsIndexOf, LacksPlace}
 pub use Rattle.chained_index.specs.declared.index.Spot.{Spot}
 pub use Rattle.store_partition.specs.Parts.{AreParts, cells_of, marked_in_bucket}
+pub use Rattle.store_partition.specs.Sought.{IsSought}

@@ -3,7 +3,7 @@
 use Rattle.mica_model.specs.StoreStep as ss
 use Rattle.store_partition.proofs.Words.{Absent, AcceptedWrite, All-contains, Allows, AreBytes, BelongsTo, Block, CanPlay, Cell, ChangesChain}
 use Rattle.store_partition.proofs.Words.{Contains, Contains-append_right, Contains-get_or, Contains-permutation, Del, Deleted, Has, HasKey}
-use Rattle.store_partition.proofs.Words.{HasKeyWords, HasNoSpot, HasUsed, Index, IsBlockList, IsGiven, IsIndexOf, IsMain, IsOffset, IsPermutation}
+use Rattle.store_partition.proofs.Words.{HasKeyWords, HasNoSpot, HasUsed, Index, IsBlockList, IsIndexOf, IsMain, IsOffset, IsPermutation}
 use Rattle.store_partition.proofs.Words.{IsPermutation-refl, IsPermutation-remove, IsPermutation-sym, IsPermutation-to_front, IsSome, IsTaken, IsUsed}
 use Rattle.store_partition.proofs.Words.{IsWrite, Kept, KeyFits, LacksPlace, List, Outcome, OwnerState, Put, PutsWord, Some, SparesOthers, Spells}
 use Rattle.store_partition.proofs.Words.{SpellsItem, Spot, Stored, WhenMarked, Write, [], after_event, ap, arith, at, bucket_in, can_put, chained}
@@ -11,11 +11,12 @@ use Rattle.store_partition.proofs.Words.{cond-false, cond-true, entries_of, entr
 use Rattle.store_partition.proofs.Words.{entry_tag-entry_of, get, header_room, inl, inr, is_accepted, item_at, item_events, item_in, item_room}
 use Rattle.store_partition.proofs.Words.{item_size, item_words, kept_after, kept_marked, le-leb, leb, length, length-item_words, list_remove, lt-leb}
 use Rattle.store_partition.proofs.Words.{marked, marked_in, marked_in_bucket, marked_item, number_of, options_in, place_at, plays, put_entry}
-use Rattle.store_partition.proofs.Words.{put_item, put_link, put_others, put_same, put_words, puts_from, refl, room_in, room_of}
-use Rattle.store_partition.proofs.Words.{size_at_most, size_of, slice_set, spells_item, spot_entry, store_state, subst, subst₂, swap_remove, sym}
-use Rattle.store_partition.proofs.Words.{tag_of, taken_apart, taken_within, true, used_block, used_blocks, used_blocks-taken, words_of, write_of}
-use Rattle.store_partition.proofs.Words.{written, ℕ, ◌%◌, ◌++◌, ◌+◌, ◌<◌, ◌^◌, ◌∙◌, ◌∷◌, ◌≡◌, ◌≢◌, ◌≤◌, ◌⊎◌}
-use Rattle.store_partition.proofs.Lists.{Heap, added, heap_gives, heap_kept, list_on, nothing, removed, same_or_apart, set_moved, single, swap_moved}
+use Rattle.store_partition.proofs.Words.{put_item, put_link, put_others, put_same, put_words, puts_from, refl, room_in, room_of, size_at_most}
+use Rattle.store_partition.proofs.Words.{size_of, slice_set, spells_item, spot_entry, store_state, subst, subst₂, swap_remove, sym, tag_of}
+use Rattle.store_partition.proofs.Words.{taken_apart, taken_within, true, used_block, used_blocks, used_blocks-taken, words_of, write_of, written, ℕ}
+use Rattle.store_partition.proofs.Words.{◌%◌, ◌++◌, ◌+◌, ◌<◌, ◌^◌, ◌∙◌, ◌∷◌, ◌≡◌, ◌≢◌, ◌≤◌, ◌⊎◌}
+use Rattle.store_partition.proofs.Lists.{Gave, Heap, added, heap_gives, heap_kept, list_on, nothing, removed, same_or_apart, set_moved, single}
+use Rattle.store_partition.proofs.Lists.{swap_moved}
 use Rattle.store_partition.proofs.Cells.{cell_left, left, one_or_none}
 use Rattle.store_partition.proofs.Held.{HasBlock, Held, IsOther, Known, Split, before, has_none, m, not_worn, other_bucket, same_word, split_none}
 use Rattle.store_partition.proofs.Held.{used, within}
@@ -160,7 +161,7 @@ pub record PutGrown (o : OwnerState) (index : Index) (blocks : List Block) (w : 
   pub replaces : (o3 : OwnerState) → HasPut o w b t place (size_of w) o3 → IsIndexOf index o3 × WhenMarked o3.phase (λ c write history. IsUsed o3 c spot)
   pub closes : (o3 o4 : OwnerState) (tag : ℕ) (index' : Index) → HasPut o w b t place (size_of w) o3 → tag ≡ tag_of w.key → Kept o4 → IsIndexOf index' o4
       → WhenMarked o3.phase (λ c write history. ChangesChain o3 o4 c (slice_set (entries_of o3 c) (number_of o3 c spot) (entry_of tag place)))
-      → Closes o w Stored b t index' (λ bs. IsGiven blocks bs old × IsBlockList (words_of blocks) bs) o4
+      → Closes o w Stored b t index' (Gave blocks old) o4
   pub small : old < 2 ^ 32
   pub gives : HasUsed blocks old
 
@@ -179,7 +180,7 @@ pub record DelKnown (o : OwnerState) (index : Index) (blocks : List Block) (w : 
   pub removes : (o2 : OwnerState) → o2 ≡ marked_in_bucket o b w t → IsIndexOf index o2 × (marked_in o2.phase b ≡ 1) × IsMain o2.shape b × IsUsed o2 b spot
   pub closes : (o2 o4 : OwnerState) (index' : Index) → o2 ≡ marked_in_bucket o b w t → Kept o4 → IsIndexOf index' o4
       → ChangesChain o2 o4 b (swap_remove (entries_of o2 b) (number_of o2 b spot) 0)
-      → Closes o w Deleted b t index' (λ bs. IsGiven blocks bs old × IsBlockList (words_of blocks) bs) o4
+      → Closes o w Deleted b t index' (Gave blocks old) o4
   pub small : old < 2 ^ 32
   pub gives : HasUsed blocks old
 
@@ -240,7 +241,7 @@ module _ (h : Held) (key value : List ℕ) (is : IsWrite (write_of Put key value
           put_closes h a offset room r b here o3 events o3 (entries_of o3 b) (same_chain o3 b) z.kept h.index z.index e (sym offset_is) k.found.tag (e ∷ []) rest (k.split rest moved)
           (subst (λ xs. IsPermutation xs (e ∷ rest)) (sym (z.entries b (main h a b here))) moved)
           h.blocks [] [] (λ bs. bs ≡ h.blocks) (heap_kept h.o.shape.words h.blocks h.blocks [] h.parts.list (IsPermutation-refl (used_blocks h.blocks)))
-          own_block (λ y gone. absurd (nothing y gone)) (λ y gone. absurd (nothing y gone)) refl (let had = ap room_of k.has in let same = k.room in omega (arith, room_is));
+          own_block (λ y gone. nothing y gone) (λ y gone. nothing y gone) refl (let had = ap room_of k.has in let same = k.room in omega (arith, room_is));
     }
 
   -- in a block that was taken
@@ -309,7 +310,7 @@ module _ (h : Held) (key value : List ℕ) (is : IsWrite (write_of Put key value
             ((when_marked h w b here o3 z (λ c. ChangesChain o3 o4 c (slice_set (entries_of o3 c) (number_of o3 c spot) entry))).0 change)
             kept index known entry (entry_offset-entry_of tag place low) (entry_tag-entry_of tag place low ∙ tag_is) (e ∷ []) (list_remove xs i)
             (k.split (list_remove xs i) (subst (λ ys. IsPermutation ys (e ∷ list_remove xs i)) (z.entries b (main h w b here)) moved)) (set_moved xs i entry inside)
-            blocks (used_block place size ∷ []) (used_block old k.cell.room ∷ []) (λ bs. IsGiven blocks bs old × IsBlockList (words_of blocks) bs)
+            blocks (used_block place size ∷ []) (used_block old k.cell.room ∷ []) (Gave blocks old)
             (heap_gives h.o.shape.words h.blocks blocks (used_block place size ∷ []) list more old k.cell.room k.some has_old)
             (still _ (0, omega arith, refl)) (freed_one old k.cell.room e old_is)
             (λ y gone same.
@@ -350,7 +351,7 @@ module _ (h : Held) (key value : List ℕ) (is : IsWrite (write_of Put key value
             (entry_offset-entry_of tag place low) (entry_tag-entry_of tag place low ∙ tag_is) [] xs (split_none h key b here none)
             (subst (λ ys. IsPermutation (ys ++ entry ∷ []) (entry ∷ xs)) (sym (z.entries b (main h w b here))) (IsPermutation-to_front xs entry))
             blocks (used_block place size ∷ []) [] (λ bs. bs ≡ blocks) (heap_kept h.o.shape.words h.blocks blocks (used_block place size ∷ []) list more)
-            (still _ (0, omega arith, refl)) (λ y gone. absurd (nothing y gone)) (λ y gone. absurd (nothing y gone)) refl (let had = ap room_of (has_none h key b here none) in omega arith);
+            (still _ (0, omega arith, refl)) (λ y gone. nothing y gone) (λ y gone. nothing y gone) refl (let had = ap room_of (has_none h key b here none) in omega arith);
       }
 
 -- A delete
@@ -378,11 +379,11 @@ module _ (h : Held) (key : List ℕ) (fits : KeyFits key) (bytes : AreBytes key)
           lists = lists;
           few = omega arith;
           long = sym (ap one_or_none gone);
-          spells = λ x has. absurd (nothing x has);
+          spells = λ x has. nothing x has;
           heap = heap;
-          housed = λ x has. absurd (nothing x has);
+          housed = λ x has. nothing x has;
           freed = freed;
-          apart = λ y gone x has. absurd (nothing x has);
+          apart = λ y gone x has. nothing x has;
           count = omega (arith, count);
           total = let none = ap room_of gone in omega (arith, total);
         })
@@ -405,7 +406,7 @@ module _ (h : Held) (key : List ℕ) (fits : KeyFits key) (bytes : AreBytes key)
             let moved = swap_moved xs i e (number_in h a b here o2 z spot k.found.used) (number_is h a b here o2 z spot k.found.used) in
             del_closes Deleted refl allowed o2 o4 events rest change kept index known (e ∷ []) rest
             (k.split rest (subst (λ ys. IsPermutation ys (e ∷ rest)) (z.entries b (main h a b here)) moved)) (IsPermutation-refl rest)
-            (used_block old k.cell.room ∷ []) (λ bs. IsGiven h.blocks bs old × IsBlockList (words_of h.blocks) bs)
+            (used_block old k.cell.room ∷ []) (Gave h.blocks old)
             (heap_gives h.o.shape.words h.blocks h.blocks [] h.parts.list (IsPermutation-refl (used_blocks h.blocks)) old k.cell.room k.some its)
             (freed_one old k.cell.room e old_is) refl (let had = ap room_of k.has in omega arith);
         small = let low = k.small in omega (arith, old_is);
@@ -422,5 +423,5 @@ module _ (h : Held) (key : List ℕ) (fits : KeyFits key) (bytes : AreBytes key)
             del_closes Absent refl allowed o2 o2 events (entries_of o2 b) (same_chain o2 b) z.kept h.index z.index [] (entries_of h.o b) (split_none h key b here none)
             (subst (λ ys. IsPermutation ys (entries_of h.o b)) (sym (z.entries b (main h a b here))) (IsPermutation-refl (entries_of h.o b)))
             [] (λ bs. bs ≡ h.blocks) (heap_kept h.o.shape.words h.blocks h.blocks [] h.parts.list (IsPermutation-refl (used_blocks h.blocks)))
-            (λ y gone. absurd (nothing y gone)) refl (ap room_of (has_none h key b here none));
+            (λ y gone. nothing y gone) refl (ap room_of (has_none h key b here none));
       }
