@@ -1,12 +1,12 @@
 -- The used blocks: they lie apart in the heap, taking adds one to them, and giving back removes one.
-use Rattle.std.proofs.Common.{◌≡◌, ℕ, zero, suc, ◌+◌, ◌-◌, ◌<◌, ◌≤◌, ◌⊎◌, inl, inr, List, [], ◌∷◌, ◌++◌, length, get_or, refl, sym, ap, ◌∙◌, subst, arith, length-append, Bool, true, false, ◌||◌, cond}
+use Rattle.std.proofs.Common.{◌≡◌, ℕ, zero, suc, ◌+◌, ◌-◌, ◌≤◌, ◌⊎◌, inl, inr, List, [], ◌∷◌, ◌++◌, refl, sym, ap, ◌∙◌, subst, arith, Bool, true, false, ◌||◌, cond}
 use Rattle.std.specs.List.{All, AllPairs}
 use Rattle.std.proofs.lemmas.List.Elements.{All-nil, All-cons, All-weaker, All-filter, All-append, filter-append}
 use Rattle.std.proofs.lemmas.List.Kept.{AllPairs-cons}
 use Rattle.block_heap.specs.declared.block.Block.{Block}
 use Rattle.block_heap.specs.Blocks.{free_block, used_block, Fills, IsBlockList, words_of, used_blocks}
 use Rattle.block_heap.specs.Changes.{rest_of, joined, merged, IsTaken, IsGiven}
-use Rattle.block_heap.proofs.Order.{words_of-fills, words_of-append, words_of-cons, front_fills, back_fills}
+use Rattle.block_heap.proofs.Order.{words_of-fills, front_fills, back_fills}
 use Rattle.block_heap.proofs.Merging.{both_false}
 use Rattle.block_heap.proofs.Counting.{used_more, used_same}
 use Rattle.block_heap.proofs.Taking.{place_within}
@@ -17,18 +17,6 @@ pub record AddsBlock (old new : List Block) (block : Block) : Type 0 where
   pub after : List Block
   pub was : old ≡ before ++ after
   pub now : new ≡ before ++ block ∷ after
-
-pub length-AddsBlock : (old new : List Block) (block : Block) → AddsBlock old new block → length new ≡ length old + 1
-length-AddsBlock old new block adds =
-    let was = ap length adds.was in
-    let now = ap length adds.now in
-    omega (arith, length-append adds.before adds.after, length-append adds.before (block ∷ adds.after))
-
-pub words_of-AddsBlock : (old new : List Block) (block : Block) → AddsBlock old new block → words_of new ≡ words_of old + block.size
-words_of-AddsBlock old new block adds =
-    let was = ap words_of adds.was in
-    let now = ap words_of adds.now in
-    omega (arith, words_of-append adds.before adds.after, words_of-append adds.before (block ∷ adds.after), words_of-cons block adds.after)
 
 used_blocks-append : (xs ys : List Block) → used_blocks (xs ++ ys) ≡ used_blocks xs ++ used_blocks ys
 used_blocks-append xs ys = filter-append (λ (b : Block). b.used) xs ys

@@ -3,9 +3,9 @@ use Rattle.mica_model.specs.StoreStep as ss
 use Rattle.store_partition.proofs.Words.{Allows, Block, FullBlock, FullSpare, HasNoSpot, IsBlockList, IsOwnerStep, IsSomeAnd, IsTaken, LacksPlace}
 use Rattle.store_partition.proofs.Words.{List, MayLack, Put, Spot, Stored, Write, ap, arith, bucket_in, chained, entries_of, free_spares, inl, inr}
 use Rattle.store_partition.proofs.Words.{item_size, keys_in, length, nil_from_length, options_in, refl, refused_step, room_in, spares_in_use}
-use Rattle.store_partition.proofs.Words.{spot_entry, store_state, subst, subst₂, sym, used_blocks, used_blocks-taken, words_of, words_of-AddsBlock}
+use Rattle.store_partition.proofs.Words.{spot_entry, store_state, subst, subst₂, sum_by_popped, sym, used_blocks, used_blocks-taken, words_of}
 use Rattle.store_partition.proofs.Words.{words_of-fills, words_parted, write_of, ℕ, ◌%◌, ◌*◌, ◌+◌, ◌-◌, ◌<◌, ◌∙◌, ◌≡◌, ◌≤◌}
-use Rattle.store_partition.proofs.Lists.{list_on}
+use Rattle.store_partition.proofs.Lists.{added, list_on}
 use Rattle.store_partition.proofs.Held.{Held, Known, as_cells, as_keys, as_rooms, has_none, m, main_at, may_give, not_worn}
 
 module _ (h : Held) (key value : List ℕ) (b : ℕ) (here : b ≡ bucket_in h.o key) where
@@ -54,7 +54,7 @@ module _ (h : Held) (key value : List ℕ) (b : ℕ) (here : b ≡ bucket_in h.o
     pub stored_taken : ss.NeedsBlock (options_in h.o) (m h) w → (blocks : List Block) (place : ℕ) → IsTaken h.blocks blocks place size → IsBlockList (words_of h.blocks) blocks
         → Allows (options_in h.o) (store_state (m h)) w Stored
     stored_taken needs blocks place taken list =
-        let more = words_of-AddsBlock _ _ _ (used_blocks-taken h.blocks blocks place size taken) in
+        let more = sum_by_popped (λ (y : Block). y.size) _ _ _ (added _ _ _ (used_blocks-taken h.blocks blocks place size taken)) in
         let total = words_of-fills 0 h.o.shape.words blocks (list_on h.o.shape.words h.blocks blocks h.parts.list list).fills in
         let split = words_parted blocks in
         let all = as_rooms h in

@@ -18,7 +18,7 @@ pub use Rattle.std.proofs.lemmas.List.Elements.{All-contains, All-from_recursion
 pub use Rattle.std.proofs.lemmas.List.Elements.{Contains-get_or, recursion_from_All}
 pub use Rattle.std.proofs.lemmas.List.Sorted.{Contains-permutation, IsPermutation-middle, IsPermutation-refl, IsPermutation-remove}
 pub use Rattle.std.proofs.lemmas.List.Sorted.{IsPermutation-swap_remove, IsPermutation-sym, IsPermutation-to_front, length_permutation}
-pub use Rattle.std.proofs.lemmas.List.Sorted.{sum_by-IsPermutation}
+pub use Rattle.std.proofs.lemmas.List.Sorted.{sum_by-IsPermutation, sum_by_popped}
 pub use Rattle.std.proofs.lemmas.Map.Keys.{IsDistinct-IsPermutation, IsDistinct-cons, IsDistinct-from_apart, IsDistinct-head, IsDistinct-tail}
 pub use Rattle.std.proofs.lemmas.Map.Keys.{apart_from_distinct}
 pub use Rattle.std.proofs.lemmas.Option.{same_Some}
@@ -85,7 +85,6 @@ pub use Rattle.epoch_core.specs.declared.state.Phase.TheVariants.{Marked}
 pub use Rattle.block_heap.proofs.Counting.{words_parted}
 pub use Rattle.block_heap.proofs.Order.{back_fills, words_of-append, words_of-fills}
 pub use Rattle.block_heap.proofs.UsedBlocks.{AddsBlock, taken_apart, taken_within, used_apart, used_blocks-given, used_blocks-taken, used_within}
-pub use Rattle.block_heap.proofs.UsedBlocks.{words_of-AddsBlock}
 pub use Rattle.block_heap.specs.Blocks.{Fills, HasUsed, IsBlockList, IsMerged, MayLack, free_block, used_block, used_blocks, words_of}
 pub use Rattle.block_heap.specs.Changes.{IsGiven, IsTaken}
 pub use Rattle.block_heap.specs.declared.block.Block.{Block}
