@@ -1,12 +1,12 @@
 -- The used blocks: they lie apart in the heap, taking adds one to them, and giving back removes one.
-use Rattle.std.proofs.Common.{◌≡◌, ℕ, zero, suc, ◌+◌, ◌-◌, ◌<◌, ◌≤◌, ◌⊎◌, inl, inr, List, [], ◌∷◌, ◌++◌, length, get_or, refl, sym, ap, ◌∙◌, subst, arith, length-append, Bool, true, false, ◌||◌, cond}
-use Rattle.std.specs.List.{All, AllPairs, Contains}
+use Rattle.std.proofs.Common.{◌≡◌, ℕ, zero, suc, ◌+◌, ◌-◌, ◌≤◌, ◌⊎◌, inl, inr, List, [], ◌∷◌, ◌++◌, refl, sym, ap, ◌∙◌, subst, arith, Bool, true, false, ◌||◌, cond}
+use Rattle.std.specs.List.{All, AllPairs}
 use Rattle.std.proofs.lemmas.List.Elements.{All-nil, All-cons, All-weaker, All-filter, All-append, filter-append}
 use Rattle.std.proofs.lemmas.List.Kept.{AllPairs-cons}
 use Rattle.block_heap.specs.declared.block.Block.{Block}
-use Rattle.block_heap.specs.Blocks.{free_block, used_block, Fills, IsBlockList, HasUsed, words_of, used_blocks}
+use Rattle.block_heap.specs.Blocks.{free_block, used_block, Fills, IsBlockList, words_of, used_blocks}
 use Rattle.block_heap.specs.Changes.{rest_of, joined, merged, IsTaken, IsGiven}
-use Rattle.block_heap.proofs.Order.{words_of-fills, words_of-append, words_of-cons, front_fills, back_fills}
+use Rattle.block_heap.proofs.Order.{words_of-fills, front_fills, back_fills}
 use Rattle.block_heap.proofs.Merging.{both_false}
 use Rattle.block_heap.proofs.Counting.{used_more, used_same}
 use Rattle.block_heap.proofs.Taking.{place_within}
@@ -17,18 +17,6 @@ pub record AddsBlock (old new : List Block) (block : Block) : Type 0 where
   pub after : List Block
   pub was : old ≡ before ++ after
   pub now : new ≡ before ++ block ∷ after
-
-pub length-AddsBlock : (old new : List Block) (block : Block) → AddsBlock old new block → length new ≡ length old + 1
-length-AddsBlock old new block adds =
-    let was = ap length adds.was in
-    let now = ap length adds.now in
-    omega (arith, length-append adds.before adds.after, length-append adds.before (block ∷ adds.after))
-
-pub words_of-AddsBlock : (old new : List Block) (block : Block) → AddsBlock old new block → words_of new ≡ words_of old + block.size
-words_of-AddsBlock old new block adds =
-    let was = ap words_of adds.was in
-    let now = ap words_of adds.now in
-    omega (arith, words_of-append adds.before adds.after, words_of-append adds.before (block ∷ adds.after), words_of-cons block adds.after)
 
 used_blocks-append : (xs ys : List Block) → used_blocks (xs ++ ys) ≡ used_blocks xs ++ used_blocks ys
 used_blocks-append xs ys = filter-append (λ (b : Block). b.used) xs ys
@@ -142,64 +130,3 @@ taken_apart words old new place need list taken =
     subst (λ (bs : List Block). All Apart bs) (sym ((used_blocks-taken old new place need taken).was))
     (All-append Apart (used_blocks taken.before) (used_blocks taken.after)
     (All-filter (λ (b : Block). b.used) Apart taken.before lower) (All-filter (λ (b : Block). b.used) Apart taken.after upper))
-
-contains_here : (block : Block) (blocks : List Block) → Contains (block ∷ blocks) block
-contains_here block blocks = (0, (omega arith), refl)
-
-contains_later : (block x : Block) (blocks : List Block) → Contains blocks x → Contains (block ∷ blocks) x
-contains_later block x blocks h = (suc h.0, (let lt = h.1 in omega arith), h.2)
-
-contains_cases_by : (block x : Block) (blocks : List Block) (k : ℕ) → k < length (block ∷ blocks) → get_or (block ∷ blocks) k x ≡ x → (block ≡ x) ⊎ Contains blocks x
-contains_cases_by block x blocks zero lt is = inl is
-contains_cases_by block x blocks (suc k) lt is = inr (k, (omega arith), is)
-
-contains_cases : (block x : Block) (blocks : List Block) → Contains (block ∷ blocks) x → (block ≡ x) ⊎ Contains blocks x
-contains_cases block x blocks h = contains_cases_by block x blocks h.0 h.1 h.2
-
-contains_added : (block : Block) (before after : List Block) → Contains (before ++ block ∷ after) block
-contains_added block [] after = contains_here block after
-contains_added block (b ∷ before) after = contains_later b block (before ++ block ∷ after) (contains_added block before after)
-
-contains_kept : (block x : Block) (before after : List Block) → Contains (before ++ after) x → Contains (before ++ block ∷ after) x
-contains_kept block x [] after h = contains_later block x after h
-contains_kept block x (b ∷ before) after h =
-    elim (contains_cases b x (before ++ after) h) [ inl e ↦ subst (Contains (b ∷ (before ++ block ∷ after))) e (contains_here b (before ++ block ∷ after)) | inr rest ↦ contains_later b x (before ++ block ∷ after) (contains_kept block x before after rest) ]
-
-contains_other : (block x : Block) (before after : List Block) → (block ≡ x → ⊥) → Contains (before ++ block ∷ after) x → Contains (before ++ after) x
-contains_other block x [] after another h = elim (contains_cases block x after h) [ inl e ↦ absurd (another e) | inr rest ↦ rest ]
-contains_other block x (b ∷ before) after another h =
-    elim (contains_cases b x (before ++ block ∷ after) h) [ inl e ↦ subst (Contains (b ∷ (before ++ after))) e (contains_here b (before ++ after)) | inr rest ↦ contains_later b x (before ++ after) (contains_other block x before after another rest) ]
-
--- a used block begins at a place that was taken
-pub has_used_taken : (old new : List Block) (place need : ℕ) → IsTaken old new place need → HasUsed new place
-has_used_taken old new place need taken =
-    let adds = used_blocks-taken old new place need taken in
-    record {
-      size = need;
-      among = subst (λ (bs : List Block). Contains bs (used_block place need)) (sym adds.now) (contains_added (used_block place need) adds.before adds.after);
-    }
-
--- and at each place where one did
-pub has_used_still : (old new : List Block) (place need other : ℕ) → IsTaken old new place need → HasUsed old other → HasUsed new other
-has_used_still old new place need other taken has =
-    let adds = used_blocks-taken old new place need taken in
-    let block = used_block other has.size in
-    record {
-      size = has.size;
-      among =
-          subst (λ (bs : List Block). Contains bs block) (sym adds.now)
-          (contains_kept (used_block place need) block adds.before adds.after (subst (λ (bs : List Block). Contains bs block) adds.was has.among));
-    }
-
--- a used block still begins at each place but the one that was given back
-pub has_used_given : (old new : List Block) (place other : ℕ) → IsGiven old new place → (place ≡ other → ⊥) → HasUsed old other → HasUsed new other
-has_used_given old new place other given another has =
-    let adds = used_blocks-given old new place given in
-    let block = used_block other has.size in
-    record {
-      size = has.size;
-      among =
-          subst (λ (bs : List Block). Contains bs block) (sym adds.was)
-          (contains_other (used_block place given.size) block adds.before adds.after (λ e. another (ap (λ (b : Block). b.place) e))
-          (subst (λ (bs : List Block). Contains bs block) adds.now has.among));
-    }

@@ -1,270 +1,247 @@
--- After the events of a write the words of its bucket stand for the machine's state: each entry of the chain is the write's own, or
--- another key's that stood there before.
+-- What a write makes of its key's entry and block, and the one theorem of all writes: after it the words of its bucket stand for the
+-- machine's state, and the index and the heap are the partition's once it has ended.
 use Rattle.mica_model.specs.StoreStep as ss
-use Rattle.store_partition.proofs.Words.{AreParts, Block, Cell, Cells, Contains, Contains-append_cases, Contains-append_left, Contains-append_right}
-use Rattle.store_partition.proofs.Words.{Contains-get_or, Contains-permutation, Ends, Has, Index, IsBlockList, IsDistinct, IsGiven, IsIndexOf, IsMain}
-use Rattle.store_partition.proofs.Words.{IsPermutation, IsPermutation-sym, Kept, List, ListStands, Option, OwnerState, Some, Spells, StandsFor, State}
-use Rattle.store_partition.proofs.Words.{add-zero, after, after_event, ap, arith, at, bucket_in, bytes_eq, bytes_eq-Decides, cases_Bool, cells_of}
-use Rattle.store_partition.proofs.Words.{chained, cond, dite, entries_of, entry_offset, eqb, get, get_or_default, header_room, index_ends, inl, inr}
-use Rattle.store_partition.proofs.Words.{insert, is_some, item_in, keys_in, keys_over, len, len-insert, length, length-append, length_permutation}
-use Rattle.store_partition.proofs.Words.{listed, nat_list_cmp_total, options_in, others_same, refl, room_in, room_of, rooms, rooms_insert, same_Some}
-use Rattle.store_partition.proofs.Words.{stands_by, state_in, state_snoc, store_state, subst, subst₂, sym, true≢false, used_block, used_blocks}
-use Rattle.store_partition.proofs.Words.{used_blocks-given, words_of, ℕ, ℕ_discrete, ◌++◌, ◌+◌, ◌<◌, ◌∙◌, ◌≡◌, ◌≢◌, ◌≤◌, ◌⊎◌}
-use Rattle.store_partition.proofs.Once.{in_one, once_at, once_front, once_moved, once_rest}
-use Rattle.store_partition.proofs.Blocks.{list_on, other_used}
-use Rattle.store_partition.proofs.Held.{HasBlock, Held, IsOther, Split, as_cells, as_keys, as_rooms, before, each, elsewhere, has_cell, m, main, once}
-use Rattle.store_partition.proofs.Held.{one_entry, only_key, other_bucket, own, rooms_apart, some_room, spelt, stood}
-use Rattle.store_partition.proofs.Events.{Accepted, Closes, closes, entries_ends, room_ends, written}
+use Rattle.store_partition.proofs.Words.{AcceptedWrite, AreParts, Block, Cell, Cells, ChangesChain, Contains, Contains-append_cases}
+use Rattle.store_partition.proofs.Words.{Contains-append_left, Contains-append_right, Contains-get_or, Contains-permutation, Ends, Has, Index}
+use Rattle.store_partition.proofs.Words.{IsDistinct, IsIndexOf, IsMain, IsPermutation, IsPermutation-sym, Keeps, Kept, List, OwnerState, RoomsApart}
+use Rattle.store_partition.proofs.Words.{Some, Spells, StandsFor, after_event, ap, arith, at, bucket_in, cells_of, chained, dite, entries_of}
+use Rattle.store_partition.proofs.Words.{entry_offset, eqb, get, get_or_default, index_ends, inl, inr, keys_in, len, length, length-append}
+use Rattle.store_partition.proofs.Words.{length_permutation, only_key, others_same, refl, room_in, room_of, room_same, rooms, same_cell}
+use Rattle.store_partition.proofs.Words.{same_or_other, spells_on, stands_by, state_in, subst, sum_by-IsPermutation, sym, used_block, used_blocks}
+use Rattle.store_partition.proofs.Words.{words_of, words_of-append, written, ℕ, ℕ_discrete, ◌++◌, ◌+◌, ◌<◌, ◌∙◌, ◌≡◌, ◌≢◌, ◌≤◌, ◌⊎◌}
+use Rattle.store_partition.proofs.Lists.{Heap, in_one, once_at, once_front, once_moved, once_rest}
+use Rattle.store_partition.proofs.Cells.{exchanges, one_or_none}
+use Rattle.store_partition.proofs.Held.{HasBlock, Held, IsOther, Split, as_cells, as_keys, as_rooms, before, each, has_cell, m, once, one_entry}
+use Rattle.store_partition.proofs.Held.{other_bucket, rooms_apart, stood, used}
+use Rattle.store_partition.proofs.Events.{Base, Closes, closes, entries_ends, main, now, room_ends}
 
-same_or_not : (key key' : List ℕ) → (key ≡ key') ⊎ (key ≢ key')
-same_or_not key key' = elim (cases_Bool (bytes_eq key key')) [
-  | inl is ↦ inl ((bytes_eq-Decides key key').0 is)
-  | inr not ↦ inr (λ same. true≢false (sym ((bytes_eq-Decides key key').1 same) ∙ not))
-]
+-- the machine's cells after the write
+abbrev pub later : (h : Held) → AcceptedWrite h.o → Cells
+later h a = (ss.after (m h) a.w).cells
 
-module _ (h : Held) (a : Accepted h) (words : List ℕ) where
-  abbrev b : ℕ
-  b = bucket_in h.o a.w.key
+-- What goes and what comes: `own` is the key's entry before, `news` the one after it, and the blocks `taken` and `given` are those of the heap.
+pub record Exchange (h : Held) (a : AcceptedWrite h.o) (b : ℕ) (words ys : List ℕ) (blocks : List Block) (Becomes : List Block → Type 0) : Type 0 where
+  pub own : List ℕ
+  pub rest : List ℕ
+  pub news : List ℕ
+  pub taken : List Block
+  pub given : List Block
+  pub split : Split h a.w.key b own rest
+  pub lists : IsPermutation ys (news ++ rest)
+  pub few : length news ≤ 1
+  pub long : length news ≡ one_or_none (get (later h a) a.w.key)
+  pub spells : (x : ℕ) → Contains news x → (cell : Cell) × Spells (written h.o a words) b x a.w.key cell
+  pub heap : Heap h.o.shape.words h.blocks blocks taken given Becomes
+  pub housed : (x : ℕ) → Contains news x → HasBlock (written h.o a words) blocks x
+  pub freed : (y : Block) → Contains given y → (x : ℕ) × Contains own x × (y.place ≡ entry_offset x)
+  pub apart : (y : Block) → Contains given y → (x : ℕ) → Contains news x → y.place ≢ entry_offset x
+  pub count : length taken + length own ≡ length given + length news
+  pub total : words_of taken + room_of (get (m h).cells a.w.key) ≡ words_of given + room_of (get (later h a) a.w.key)
 
+-- with these words of the events, before the end
+module _ (h : Held) (a : AcceptedWrite h.o) (b : ℕ) (here : b ≡ bucket_in h.o a.w.key) (words : List ℕ) where
   abbrev p : OwnerState
-  p = written h a words
+  p = written h.o a words
 
-  abbrev pub cells : Cells
-  cells = (ss.after (m h) a.w).cells
+  has_now : (key : List ℕ) (cell : Cell) (q : ℕ) → Has (state_in p) key cell q → get (later h a) key ≡ Some cell
+  has_now key cell q has = subst (λ z. Has z key cell q) (now h a words) has
 
-  now : state_in p ≡ store_state (ss.after (m h) a.w)
-  now = state_snoc (options_in h.o) h.o.history a.w ∙ ap (λ (z : State). after (options_in h.o) z a.w) (before h)
-
-  has_now : (key : List ℕ) (cell : Cell) (q : ℕ) → Has (state_in p) key cell q → get cells key ≡ Some cell
-  has_now key cell q has = subst (λ (z : State). Has z key cell q) now has
-
-  pub has_new : (key : List ℕ) (cell : Cell) (q : ℕ) → get cells key ≡ Some cell → Has (state_in p) key cell q
-  has_new key cell q is = subst (λ (z : State). Has z key cell q) (sym now) is
-
-  -- the words of the entry's room are as before
-  abbrev pub Keeps : ℕ → Type 0
-  Keeps x = (i : ℕ) → i < room_in h.o x → item_in p (entry_offset x + i) ≡ item_in h.o (entry_offset x + i)
-
-  room_same : (x : ℕ) → Keeps x → 0 < room_in h.o x → room_in p x ≡ room_in h.o x
-  room_same x keeps some =
-      ap header_room (ap (item_in p) (sym (add-zero (entry_offset x))) ∙ (keeps 0 some ∙ ap (item_in h.o) (add-zero (entry_offset x))))
-
-  spells_on : (c x : ℕ) → Keeps x → (key : List ℕ) (cell : Cell) → key ≢ a.w.key → Spells h.o c x key cell → Spells p c x key cell
-  spells_on c x keeps key cell other sp =
-      let fits = sp.in_room in
-      let same = room_same x keeps (omega arith) in record {
-        bucket = sp.bucket;
-        has = has_new key cell (entry_offset x) (others_same (m h) a.w key other ∙ has_cell h key cell (entry_offset x) sp.has);
-        offset = sp.offset;
-        tag = sp.tag;
-        item = λ i l. keeps i (omega arith) ∙ sp.item i l;
-        in_room = omega arith;
-      }
-
-  -- What the events made of the chain's entries: `news` has the write's own, if there is one.
-  pub record Changes (own rest news : List ℕ) (index : Index) : Type 0 where
-    pub split : Split h a.w.key own rest
-    pub few : length news ≤ 1
-    pub lists : IsPermutation (entries_of p b) (news ++ rest)
-    pub others : (c : ℕ) → IsMain h.o.shape c → c ≢ b → entries_of p c ≡ entries_of h.o c
-    pub keeps : (c x : ℕ) → IsMain h.o.shape c → Contains (entries_of h.o c) x → IsOther h a.w.key c x → Keeps x
-    pub spells : (x : ℕ) → Contains news x → (cell : Cell) × Spells p b x a.w.key cell
-    pub new : (cell : Cell) → get cells a.w.key ≡ Some cell → (x : ℕ) × Contains news x
-    pub kept : Kept p
-    pub known : IsIndexOf index p
-
-  -- these blocks have a room for each entry
-  pub record Houses (news : List ℕ) (blocks : List Block) : Type 0 where
-    pub list : IsBlockList h.o.shape.words blocks
-    pub old : (c x : ℕ) → IsMain h.o.shape c → Contains (entries_of h.o c) x → IsOther h a.w.key c x → HasBlock h.o blocks x
-    pub new : (x : ℕ) → Contains news x → HasBlock p blocks x
-
-  -- the machine's cells are these now, and the blocks are as many and as long as their rooms
-  pub record Counts (own news : List ℕ) (blocks : List Block) (later : Cells) : Type 0 where
-    pub is : cells ≡ later
-    pub here : keys_in h.o.shape.buckets b later + length own ≡ keys_in h.o.shape.buckets b (m h).cells + length news
-    pub there : (c : ℕ) → c ≢ b → keys_in h.o.shape.buckets c later ≡ keys_in h.o.shape.buckets c (m h).cells
-    pub count : length (used_blocks blocks) ≡ len later
-    pub total : words_of (used_blocks blocks) ≡ rooms later
-
-  -- where a key that had a cell has another
-  pub counts_over : (own news : List ℕ) (blocks : List Block) (old cell : Cell) → length own ≡ length news → get (m h).cells a.w.key ≡ Some old
-      → cells ≡ insert (m h).cells a.w.key cell → length (used_blocks blocks) ≡ length (used_blocks h.blocks)
-      → words_of (used_blocks blocks) + old.room ≡ words_of (used_blocks h.blocks) + cell.room → Counts own news blocks (insert (m h).cells a.w.key cell)
-  counts_over own news blocks old cell long has is count total =
-      let keys = keys_over h.o.shape.buckets b (m h).cells a.w.key old cell has in
-      let room = rooms_insert (m h).cells a.w.key cell in
-      let had = ap room_of has in
-      let all = as_rooms h in record {
-        is = is;
-        here = omega arith;
-        there = λ c other. keys_over h.o.shape.buckets c (m h).cells a.w.key old cell has;
-        count = count ∙ (as_cells h ∙ sym (len-insert nat_list_cmp_total (m h).cells a.w.key cell
-            ∙ ap (λ (z : Option Cell). cond (is_some z) (len (m h).cells) (len (m h).cells + 1)) has));
-        total = omega arith;
-      }
-
-  -- a block that no entry has may be given back
-  pub given_back : (news : List ℕ) (blocks bs : List Block) (place : ℕ) → Houses news blocks → IsGiven blocks bs place → IsBlockList (words_of blocks) bs
-      → ((c x : ℕ) → IsMain h.o.shape c → Contains (entries_of h.o c) x → IsOther h a.w.key c x → place ≢ entry_offset x)
-      → ((x : ℕ) → Contains news x → place ≢ entry_offset x) → Houses news bs
-  given_back news blocks bs place y given list elsewhere new = record {
-    list = list_on h.o.shape.words blocks bs y.list list;
-    old = λ c x l has other. stays (entry_offset x) (room_in h.o x) (elsewhere c x l has other) (y.old c x l has other);
-    new = λ x has. stays (entry_offset x) (room_in p x) (new x has) (y.new x has);
-  }
-    where
-      stays : (q k : ℕ) → place ≢ q → Contains (used_blocks blocks) (used_block q k) → Contains (used_blocks bs) (used_block q k)
-      stays q k differs has = other_used _ _ _ (used_blocks-given blocks bs place given) (used_block q k) (λ same. differs (ap (λ (z : Block). z.place) same)) has
-
-  module _ (own rest news : List ℕ) (index : Index) (z : Changes own rest news index) where
+  module _ (o3 : OwnerState) (z : Base h a b o3) (ys : List ℕ) (change : ChangesChain o3 p b ys) (kept : Kept p) (index : Index) (known : IsIndexOf index p)
+      (blocks : List Block) (Becomes : List Block → Type 0) (e : Exchange h a b words ys blocks Becomes) where
     abbrev zs : List ℕ
     zs = entries_of p b
 
-    list : ListStands h.o b
-    list = stood h b (main h a.w.key)
+    chain_now : IsPermutation zs (e.news ++ e.rest)
+    chain_now = subst (λ xs. IsPermutation xs (e.news ++ e.rest)) (sym change.entries) e.lists
 
-    comes : (x : ℕ) → Contains zs x → Contains news x ⊎ Contains rest x
-    comes x has = Contains-append_cases news rest x (Contains-permutation zs (news ++ rest) x z.lists has)
+    others_now : (c : ℕ) → IsMain h.o.shape c → c ≢ b → entries_of p c ≡ entries_of h.o c
+    others_now c l n = (change.others c (z.mains c l) n).entries ∙ z.entries c l
 
-    goes : (x : ℕ) → Contains (news ++ rest) x → Contains zs x
-    goes x has = Contains-permutation (news ++ rest) zs x (IsPermutation-sym _ _ z.lists) has
+    -- Another key's entry spells what it did, in its block
 
-    stayed : (x : ℕ) → Contains rest x → Contains (entries_of h.o b) x
-    stayed x has = Contains-permutation (own ++ rest) (entries_of h.o b) x (IsPermutation-sym _ _ z.split.lists) (Contains-append_right own rest x has)
+    module _ (c x : ℕ) (other : IsOther h a.w.key c x) where
+      keeps : Keeps h.o a words x
+      keeps i less = change.rest.items (entry_offset x + i) ∙ z.keeps c x other i less
 
-    -- what an entry that stayed spells, before and now
-    old : (x : ℕ) → Contains rest x → (key : List ℕ) × (cell : Cell) × Spells h.o b x key cell × (key ≢ a.w.key) × Spells p b x key cell
-    old x has =
-        let some = spelt h.o b list x (stayed x has) in
-        let other = z.split.others x has in
-        let differs = other some.0 some.1 some.2 in
-        (some.0, some.1, some.2, differs, spells_on b x (z.keeps b x (main h a.w.key) (stayed x has) other) some.0 some.1 differs some.2)
+      now_spells : Spells p c x other.own other.cell
+      now_spells = spells_on h.o a words c x keeps other.own other.cell
+          (subst (λ s. Has s other.own other.cell (entry_offset x)) (sym (now h a words))
+          (others_same (m h) a.w other.own other.differs ∙ has_cell h other.own other.cell (entry_offset x) other.spells.has)) other.spells
 
-    old_key : (x : ℕ) (has : Contains rest x) (key : List ℕ) (cell : Cell) → Spells p b x key cell → (old x has).0 ≡ key
-    old_key x has key cell sp = let was = old x has in only_key p z.kept b b x x was.0 key was.1 cell was.4 sp refl
+      now_housed : HasBlock p blocks x
+      now_housed = subst (λ n. Contains (used_blocks blocks) (used_block (entry_offset x) n))
+          (sym (room_same h.o a words x keeps (let fits = other.spells.in_room in omega arith)))
+          (Contains-permutation (e.taken ++ used_blocks h.blocks) (used_blocks blocks) _ (IsPermutation-sym _ _ e.heap.more)
+          (Contains-append_right e.taken (used_blocks h.blocks) _ (used h c other.main x other.among)))
 
-    spelt_at : (x : ℕ) → Contains news x ⊎ Contains rest x → (key : List ℕ) × (cell : Cell) × Spells p b x key cell
-    spelt_at x (inl new) = (a.w.key, (z.spells x new).0, (z.spells x new).1)
-    spelt_at x (inr has) = ((old x has).0, (old x has).1, (old x has).4)
+    -- The entries now: the write's own, and those of other keys
 
-    each_at : (key : List ℕ) (cell : Cell) (q : ℕ) → bucket_in h.o key ≡ b → Has (state_in p) key cell q → (key ≡ a.w.key) ⊎ (key ≢ a.w.key)
+    abbrev Source : ℕ → ℕ → Type 0
+    Source c x = ((c ≡ b) × Contains e.news x) ⊎ IsOther h a.w.key c x
+
+    comes : (c : ℕ) → IsMain h.o.shape c → (x : ℕ) → Contains (entries_of p c) x → Source c x
+    comes c l x has = dite (ℕ_discrete c b)
+        (λ same. elim (Contains-append_cases e.news e.rest x (Contains-permutation zs (e.news ++ e.rest) x chain_now (subst (λ d. Contains (entries_of p d) x) same has))) [
+          | inl new ↦ inl (same, new)
+          | inr rest ↦ inr (subst (λ d. IsOther h a.w.key d x) (sym same) (e.split.others x rest))
+        ])
+        (λ n. inr (other_bucket h a.w.key b here c x l (subst (λ xs. Contains xs x) (others_now c l n) has) n))
+
+    goes : (x : ℕ) → Contains (e.news ++ e.rest) x → Contains zs x
+    goes x has = Contains-permutation (e.news ++ e.rest) zs x (IsPermutation-sym _ _ chain_now) has
+
+    abbrev spelt_now : (c x : ℕ) → Source c x → (key : List ℕ) × (cell : Cell) × Spells p c x key cell
+    spelt_now c x (inl new) = (a.w.key, (e.spells x new.1).0, subst (λ d. Spells p d x a.w.key (e.spells x new.1).0) (sym new.0) (e.spells x new.1).1)
+    spelt_now c x (inr other) = (other.own, other.cell, now_spells c x other)
+
+    housed : (c x : ℕ) → Source c x → HasBlock p blocks x
+    housed c x (inl new) = e.housed x new.1
+    housed c x (inr other) = now_housed c x other
+
+    key_is : (c x : ℕ) (s : Source c x) (key : List ℕ) (cell : Cell) → Spells p c x key cell → (spelt_now c x s).0 ≡ key
+    key_is c x s key cell sp = only_key p kept c c x x (spelt_now c x s).0 key (spelt_now c x s).1 cell (spelt_now c x s).2 sp refl
+
+    one_now : (x y : ℕ) (s : Source b x) (t : Source b y) → (spelt_now b x s).0 ≡ (spelt_now b y t).0 → x ≡ y
+    one_now x y (inl new) (inl new') same = in_one e.news x y e.few new.1 new'.1
+    one_now x y (inl new) (inr other) same = absurd (other.differs (sym same))
+    one_now x y (inr other) (inl new) same = absurd (other.differs same)
+    one_now x y (inr one) (inr two) same =
+        let moved = subst (λ k. Spells h.o b y k two.cell) (sym same) two.spells in
+        let is = same_cell (state_in h.o) one.own two.cell one.cell (entry_offset y) (entry_offset x) moved.has one.spells.has in
+        one_entry h.o b (stood h b (main h a b here)) x y one.own one.cell one.among two.among one.spells (subst (λ c. Spells h.o b y one.own c) is moved)
+
+    each_now : (key : List ℕ) (cell : Cell) (q : ℕ) → bucket_in h.o key ≡ b → Has (state_in p) key cell q → (key ≡ a.w.key) ⊎ (key ≢ a.w.key)
         → (x : ℕ) × Contains zs x × Spells p b x key cell
-    each_at key cell q is has (inl same) =
-        let had = ap (get cells) (sym same) ∙ has_now key cell q has in
-        let found = z.new cell had in
-        let its = z.spells found.0 found.1 in
-        let one = same_Some its.0 cell (sym (has_now a.w.key its.0 (entry_offset found.0) its.1.has) ∙ had) in
-        (found.0, goes found.0 (Contains-append_left news rest found.0 found.1), subst₂ (λ (k : List ℕ) (c : Cell). Spells p b found.0 k c) (sym same) one its.1)
-    each_at key cell q is has (inr other) =
-        let before = subst (λ (z : State). Has z key cell q) (sym (before h)) (sym (others_same (m h) a.w key other) ∙ has_now key cell q has) in
-        let found = each h.o b list key cell q is before in
-        let its : IsOther h a.w.key b found.0 = λ k c sp same. other (only_key h.o h.kept b b found.0 found.0 key k cell c found.2 sp refl ∙ same) in
-        let stays : Contains rest found.0 = elim (Contains-append_cases own rest found.0 (Contains-permutation _ _ found.0 z.split.lists found.1)) [
-          | inl own ↦ absurd (z.split.its found.0 own its)
-          | inr stays ↦ stays
-        ] in
-        (found.0, goes found.0 (Contains-append_right news rest found.0 stays), spells_on b found.0 (z.keeps b found.0 (main h a.w.key) found.1 its) key cell other found.2)
-
-    differ : (x y : ℕ) (new : Contains news x) (has : Contains rest y) (key : List ℕ) (cell cell' : Cell) → Spells p b x key cell → Spells p b y key cell' → ⊥
-    differ x y new has key cell cell' sp sp' =
-        let own = z.spells x new in
-        let is = only_key p z.kept b b x x a.w.key key own.0 cell own.1 sp refl in
-        (old y has).3 (old_key y has key cell' sp' ∙ sym is)
-
-    one_at : (x y : ℕ) → Contains news x ⊎ Contains rest x → Contains news y ⊎ Contains rest y → (key : List ℕ) (cell cell' : Cell)
-        → Spells p b x key cell → Spells p b y key cell' → x ≡ y
-    one_at x y (inl new) (inl new') key cell cell' sp sp' = in_one news x y z.few new new'
-    one_at x y (inl new) (inr has) key cell cell' sp sp' = absurd (differ x y new has key cell cell' sp sp')
-    one_at x y (inr has) (inl new) key cell cell' sp sp' = absurd (differ y x new has key cell' cell sp' sp)
-    one_at x y (inr has) (inr has') key cell cell' sp sp' =
-        let one = old x has in
-        let two = old y has' in
-        let same : two.0 ≡ one.0 = old_key y has' key cell' sp' ∙ sym (old_key x has key cell sp) in
-        let moved = subst (λ (k : List ℕ). Spells h.o b y k two.1) same two.2 in
-        let is = same_Some two.1 one.1 (sym (has_cell h one.0 two.1 (entry_offset y) moved.has) ∙ has_cell h one.0 one.1 (entry_offset x) one.2.has) in
-        one_entry h.o b list x y one.0 one.1 (stayed x has) (stayed y has') one.2 (subst (λ (c : Cell). Spells h.o b y one.0 c) is moved)
+    each_now key cell q is has (inl same) =
+        let had = ap (get (later h a)) (sym same) ∙ has_now key cell q has in
+        let new = Contains-get_or e.news 0 0 (omega (arith, e.long ∙ ap one_or_none had)) in
+        let its = e.spells (at e.news 0) new in
+        let moved = subst (λ k. Spells p b (at e.news 0) k its.0) (sym same) its.1 in
+        (at e.news 0, goes _ (Contains-append_left e.news e.rest _ new), subst (λ c. Spells p b (at e.news 0) key c) (same_cell (state_in p) key its.0 cell _ q moved.has has) moved)
+    each_now key cell q is has (inr differs) =
+        let before = subst (λ s. Has s key cell q) (sym (before h)) (sym (others_same (m h) a.w key differs) ∙ has_now key cell q has) in
+        let found = each h.o b (stood h b (main h a b here)) key cell q is before in
+        elim (Contains-append_cases e.own e.rest found.0 (Contains-permutation _ _ found.0 e.split.lists found.1)) [
+          | inl own ↦
+              let its = e.split.its found.0 own in
+              absurd (differs (only_key h.o h.kept b b found.0 found.0 key a.w.key cell its.0 found.2 its.1 refl))
+          | inr stays ↦
+              let other = e.split.others found.0 stays in
+              let same = only_key h.o h.kept b b found.0 found.0 other.own key other.cell cell other.spells found.2 refl in
+              let moved = subst (λ k. Spells p b found.0 k other.cell) same (now_spells b found.0 other) in (
+                found.0,
+                goes found.0 (Contains-append_right e.news e.rest found.0 stays),
+                subst (λ c. Spells p b found.0 key c) (same_cell (state_in p) key other.cell cell (entry_offset found.0) q moved.has has) moved,
+              )
+        ]
 
     once_now : IsDistinct eqb zs
-    once_now = once_moved (news ++ rest) zs (IsPermutation-sym _ _ z.lists)
-        (once_front news rest z.few (λ x new has. let own = z.spells x new in (old x has).3 (old_key x has a.w.key own.0 own.1))
-        (once_rest own rest (once_moved (entries_of h.o b) (own ++ rest) z.split.lists (once h.o b list))))
+    once_now = once_moved (e.news ++ e.rest) zs (IsPermutation-sym _ _ chain_now) (once_front e.news e.rest e.few
+        (λ x new rest. (e.split.others x rest).differs (key_is b x (inr (e.split.others x rest)) a.w.key _ (e.spells x new).1))
+        (once_rest e.own e.rest (once_moved (entries_of h.o b) (e.own ++ e.rest) e.split.lists (once h.o b (stood h b (main h a b here))))))
 
-    module _ (blocks : List Block) (y : Houses news blocks) where
-      stays : (c x : ℕ) → IsMain h.o.shape c → Contains (entries_of h.o c) x → IsOther h a.w.key c x → HasBlock p blocks x
-      stays c x l has other = subst (λ (n : ℕ). Contains (used_blocks blocks) (used_block (entry_offset x) n))
-          (sym (room_same x (z.keeps c x l has other) (some_room h c l x has))) (y.old c x l has other)
+    from : (c : ℕ) → IsMain h.o.shape c → (i : ℕ) → i < length (entries_of p c) → Source c (at (entries_of p c) i)
+    from c l i less = comes c l (at (entries_of p c) i) (Contains-get_or (entries_of p c) i 0 less)
 
-      block_at : (x : ℕ) → Contains news x ⊎ Contains rest x → HasBlock p blocks x
-      block_at x (inl new) = y.new x new
-      block_at x (inr has) = stays b x (main h a.w.key) (stayed x has) (z.split.others x has)
+    far : (c d x y : ℕ) (s : Source c x) (t : Source d y) → (spelt_now c x s).0 ≢ (spelt_now d y t).0 → RoomsApart p x y
+    far c d x y s t n = rooms_apart p blocks e.heap.list x y (housed c x s) (housed d y t)
+        (λ same. n (only_key p kept c d x y _ _ _ _ (spelt_now c x s).2 (spelt_now d y t).2 same))
 
-      block_there : (c x : ℕ) → IsMain h.o.shape c → c ≢ b → Contains (entries_of p c) x → HasBlock p blocks x
-      block_there c x l n has = stays c x l (subst (λ (xs : List ℕ). Contains xs x) (z.others c l n) has) (other_bucket h a.w.key c x n)
+    stands : StandsFor p b
+    stands =
+        let l = main h a b here in
+        stands_by p (chained p kept) h.parts.mode index known b l record {
+          nothing_else = λ i less. spelt_now b (at zs i) (from b l i less);
+          each = λ key cell q is has.
+              let found = each_now key cell q is has (same_or_other key a.w.key) in
+              (found.1.0, found.1.1, subst (λ x. Spells p b x key cell) (sym (get_or_default zs found.1.0 0 found.0 found.1.1 ∙ found.1.2)) found.2);
+          once = λ i j key cell less more sp sp'. once_at zs i j once_now less more (one_now (at zs i) (at zs j) (from b l i less) (from b l j more)
+              (key_is b (at zs i) (from b l i less) key cell sp ∙ sym (key_is b (at zs j) (from b l j more) key cell sp')));
+          rooms = λ i j less more n. far b b (at zs i) (at zs j) (from b l i less) (from b l j more)
+              (λ same. n (once_at zs i j once_now less more (one_now (at zs i) (at zs j) (from b l i less) (from b l j more) same)));
+          apart = λ c i j k n none less more. far b c (at zs i) (at (entries_of p c) j) (from b l i less) (from c k j more)
+              (λ same. n (sym (spelt_now c (at (entries_of p c) j) (from c k j more)).2.bucket
+              ∙ (ap (bucket_in h.o) (sym same) ∙ (spelt_now b (at zs i) (from b l i less)).2.bucket)));
+        }
 
-      block_in : (c x : ℕ) → IsMain h.o.shape c → Contains (entries_of p c) x → HasBlock p blocks x
-      block_in c x l has = dite (ℕ_discrete c b)
-          (λ same. block_at x (comes x (subst (λ (d : ℕ). Contains (entries_of p d) x) same has)))
-          (λ n. block_there c x l n has)
+    -- Once it has ended
 
-      from : (i : ℕ) → i < length zs → Contains news (at zs i) ⊎ Contains rest (at zs i)
-      from i l = comes (at zs i) (Contains-get_or zs i 0 l)
+    keys_now : (c : ℕ) → IsMain h.o.shape c → length (entries_of p c) ≡ keys_in h.o.shape.buckets c (later h a)
+    keys_now c l =
+        let ex = exchanges h.o.shape.buckets b (m h) a.w here (main h a b here) in
+        dite (ℕ_discrete c b)
+        (λ same. subst (λ d. length (entries_of p d) ≡ keys_in h.o.shape.buckets d (later h a)) (sym same)
+        (let had = as_keys h b (main h a b here) in
+        let more = ex.here in
+        let was = length_permutation _ _ e.split.lists in
+        let are = length_permutation _ _ chain_now in
+        omega (arith, length-append e.own e.rest, length-append e.news e.rest, e.split.long, e.long)))
+        (λ n. ap length (others_now c l n) ∙ (as_keys h c l ∙ sym (ex.there c n)))
 
-      stands : StandsFor p b
-      stands = stands_by p (chained p z.kept) h.parts.mode index z.known b (main h a.w.key) record {
-        nothing_else = λ i l. spelt_at (at zs i) (from i l);
-        each = λ key cell q is has.
-            let found = each_at key cell q is has (same_or_not key a.w.key) in
-            let there = get_or_default zs found.1.0 0 found.0 found.1.1 ∙ found.1.2 in
-            (found.1.0, found.1.1, subst (λ (x : ℕ). Spells p b x key cell) (sym there) found.2);
-        once = λ i j key cell l m sp sp'. once_at zs i j once_now l m (one_at (at zs i) (at zs j) (from i l) (from j m) key cell cell sp sp');
-        rooms = λ i j l m n. rooms_apart p blocks y.list (at zs i) (at zs j) (block_at (at zs i) (from i l)) (block_at (at zs j) (from j m)) (λ same.
-            let one = spelt_at (at zs i) (from i l) in
-            let two = spelt_at (at zs j) (from j m) in
-            let key = only_key p z.kept b b (at zs i) (at zs j) one.0 two.0 one.1 two.1 one.2 two.2 same in
-            n (once_at zs i j once_now l m (one_at (at zs i) (at zs j) (from i l) (from j m) two.0 one.1 two.1
-            (subst (λ (k : List ℕ). Spells p b (at zs i) k one.1) key one.2) two.2)));
-        apart = λ c i j l n none less more. rooms_apart p blocks y.list (at zs i) (at (entries_of p c) j) (block_at (at zs i) (from i less))
-            (block_there c (at (entries_of p c) j) l n (Contains-get_or (entries_of p c) j 0 more)) (λ same.
-            let one = spelt_at (at zs i) (from i less) in
-            let two = (listed p (chained p z.kept) h.parts.mode index z.known c l (z.kept.state c l none)).nothing_else j more in
-            let key = only_key p z.kept b c (at zs i) (at (entries_of p c) j) one.0 two.0 one.1 two.1 one.2 two.2 same in
-            n (sym two.2.bucket ∙ (ap (bucket_in h.o) (sym key) ∙ one.2.bucket)));
-      }
+    housed_last : (bs : List Block) → Becomes bs → (c x : ℕ) → Source c x → HasBlock p bs x
+    housed_last bs becomes c x s =
+        let block = used_block (entry_offset x) (room_in p x) in
+        elim (Contains-append_cases e.given (used_blocks bs) block (Contains-permutation (used_blocks blocks) (e.given ++ used_blocks bs) block (e.heap.less bs becomes).1 (housed c x s))) [
+          | inl gone ↦ absurd (left_alone s gone)
+          | inr stays ↦ stays
+        ]
+      where
+        left_alone : Source c x → Contains e.given (used_block (entry_offset x) (room_in p x)) → ⊥
+        left_alone (inl new) gone = e.apart _ gone x new.1 refl
+        left_alone (inr other) gone =
+            let freed = e.freed _ gone in
+            let its = e.split.its freed.0 freed.1 in
+            other.differs (sym (only_key h.o h.kept b c freed.0 x a.w.key other.own its.0 other.cell its.1 other.spells (sym freed.2)))
 
-      -- the index and the blocks are the partition's, once the write has ended
-      parts_end : (later : Cells) → Counts own news blocks later → AreParts index blocks (after_event (Ends b) p)
-      parts_end later n = record {
-        mode = h.parts.mode;
-        idle = refl;
-        known = index_ends p (chained p z.kept) index z.known b (main h a.w.key);
-        entries = λ c l. ap length (entries_ends p z.kept b (main h a.w.key) c l) ∙ (keys c l ∙ ap (keys_in h.o.shape.buckets c) (sym (ap cells_of now ∙ n.is)));
-        list = y.list;
-        used = λ c l i less.
-            let x = at (entries_of (after_event (Ends b) p) c) i in
-            let has = subst (λ (xs : List ℕ). Contains xs x) (entries_ends p z.kept b (main h a.w.key) c l) (Contains-get_or (entries_of (after_event (Ends b) p) c) i 0 less) in
-            subst (λ (k : ℕ). Contains (used_blocks blocks) (used_block (entry_offset x) k)) (sym (room_ends p z.kept b (main h a.w.key) x)) (block_in c x l has);
-        count = n.count ∙ ap len (sym (ap cells_of now ∙ n.is));
-        words = n.total ∙ ap rooms (sym (ap cells_of now ∙ n.is));
-      }
-        where
-          keys : (c : ℕ) → IsMain h.o.shape c → length (entries_of p c) ≡ keys_in h.o.shape.buckets c later
-          keys c l = dite (ℕ_discrete c b)
-              (λ same. subst (λ (d : ℕ). length (entries_of p d) ≡ keys_in h.o.shape.buckets d later) (sym same)
-              (let had = as_keys h b (main h a.w.key) in
-              let more = n.here in
-              let was = length_permutation _ _ z.split.lists in
-              let are = length_permutation _ _ z.lists in
-              omega (arith, length-append own rest, length-append news rest)))
-              (λ other. ap length (z.others c l other) ∙ (as_keys h c l ∙ sym (n.there c other)))
+    parts_last : (bs : List Block) → Becomes bs → AreParts index bs (after_event (Ends b) p)
+    parts_last bs becomes =
+        let l = main h a b here in
+        let cells = sym (ap cells_of (now h a words)) in
+        let ex = exchanges h.o.shape.buckets b (m h) a.w here l in
+        let heap = e.heap.less bs becomes in record {
+          mode = h.parts.mode;
+          idle = refl;
+          known = index_ends p (chained p kept) index known b l;
+          entries = λ c k. ap length (entries_ends p kept b l c k) ∙ (keys_now c k ∙ ap (keys_in h.o.shape.buckets c) cells);
+          list = heap.0;
+          used = λ c k i less.
+              let x = at (entries_of (after_event (Ends b) p) c) i in
+              let has = subst (λ xs. Contains xs x) (entries_ends p kept b l c k) (Contains-get_or (entries_of (after_event (Ends b) p) c) i 0 less) in
+              subst (λ n. Contains (used_blocks bs) (used_block (entry_offset x) n)) (sym (room_ends p kept b l x)) (housed_last bs becomes c x (comes c k x has));
+          count =
+              (let more = length_permutation _ _ e.heap.more in
+              let less = length_permutation _ _ heap.1 in
+              let all = as_cells h in
+              let all_now = ex.all in
+              let count = e.count in
+              omega (arith, length-append e.taken (used_blocks h.blocks), length-append e.given (used_blocks bs), e.split.long, e.long))
+              ∙ ap len cells;
+          words =
+              (let more = sum_by-IsPermutation (λ (y : Block). y.size) _ _ e.heap.more in
+              let less = sum_by-IsPermutation (λ (y : Block). y.size) _ _ heap.1 in
+              let all = as_rooms h in
+              let all_now = ex.room in
+              let total = e.total in
+              omega (arith, words_of-append e.taken (used_blocks h.blocks), words_of-append e.given (used_blocks bs)))
+              ∙ ap rooms cells;
+        }
 
-    -- so the write may end, whatever the heap gives back after it
-    module _ (blocks : List Block) (y : Houses news blocks) where
-      pub finished : (Becomes : List Block → Type 0) (later : Cells) → ((bs : List Block) → Becomes bs → Houses news bs × Counts own news bs later)
-          → (o4 : OwnerState) → o4 ≡ p → Closes h.o a.w a.outcome b a.t index Becomes o4
-      finished Becomes later heap = closes h a words index Becomes (stands blocks y) (λ bs becomes. parts_end bs (heap bs becomes).0 later (heap bs becomes).1)
+    closed : Closes h.o a.w a.outcome b a.t index Becomes p
+    closed = closes h a b here words index Becomes stands parts_last
 
-    pub finished_same : (blocks : List Block) → Houses news blocks → (later : Cells) → Counts own news blocks later → (o4 : OwnerState) → o4 ≡ p
-        → Closes h.o a.w a.outcome b a.t index (λ bs. bs ≡ blocks) o4
-    finished_same blocks y later n = finished blocks y (λ bs. bs ≡ blocks) later
-        (λ bs same. (subst (Houses news) (sym same) y, subst (λ (z : List Block). Counts own news z later) (sym same) n))
+-- So a write that exchanges its key's entry and block may end.
+pub finished : (h : Held) (a : AcceptedWrite h.o) (b : ℕ) → b ≡ bucket_in h.o a.w.key → (o3 o4 : OwnerState) → Base h a b o3 → (ys : List ℕ) → ChangesChain o3 o4 b ys
+    → Kept o4 → (index : Index) → IsIndexOf index o4 → (blocks : List Block) (Becomes : List Block → Type 0)
+    → ((words : List ℕ) → ChangesChain o3 (written h.o a words) b ys → Kept (written h.o a words) → Exchange h a b words ys blocks Becomes) → Closes h.o a.w a.outcome b a.t index Becomes o4
+finished h a b here o3 o4 z ys change kept index known blocks Becomes exchange =
+    let at4 : o4 ≡ written h.o a o4.words = change.rest.same ∙ ap (λ (s : OwnerState). record s { words = o4.words }) z.is in
+    subst (λ s. ChangesChain o3 s b ys → Kept s → IsIndexOf index s → Closes h.o a.w a.outcome b a.t index Becomes s) (sym at4)
+    (λ change' kept' known'. closed h a b here o4.words o3 z ys change' kept' index known' blocks Becomes (exchange o4.words change' kept')) change kept known
+
+-- no entry or link was put
+pub same_chain : (o : OwnerState) (b : ℕ) → ChangesChain o o b (entries_of o b)
+same_chain o b = record {
+  entries = refl;
+  others = λ c l n. record { buckets = refl; entries = refl };
+  rest = record { stamp = refl; epochs = λ c l. refl; items = λ q. refl; same = refl };
+}

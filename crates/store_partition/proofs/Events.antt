@@ -1,16 +1,15 @@
 -- The events of a write: when each may happen, and what it leaves of the chains.
 use Rattle.mica_model.specs.StoreStep as ss
-use Rattle.store_partition.proofs.Words.{AreParts, Begins, Block, Chained, ChangesChain, Ends, Index, IsAmong, IsBucket, IsIndexOf, IsMain}
-use Rattle.store_partition.proofs.Words.{IsOwnerStep, IsUsed, IsWrite, Kept, List, Marked, Marks, MayBegin, MayEnd, MayGive, MayMark, Outcome}
-use Rattle.store_partition.proofs.Words.{OwnerState, Phase, Put, Spot, StandsFor, State, Stored, Write, [], after, after_event, all_more, ap, arith}
-use Rattle.store_partition.proofs.Words.{at, bit_same, bucket_in, chain_inside, chained, cond, entries_begins, entries_marks, entries_of}
-use Rattle.store_partition.proofs.Words.{entries_stay, entry_at, entry_begins, entry_in, entry_marks, entry_offset, header_room, history_after}
-use Rattle.store_partition.proofs.Words.{index_begins, index_marks, inl, inr, is_accepted, item_at, item_begins, item_in, item_marks, item_no_epoch}
-use Rattle.store_partition.proofs.Words.{kept_after, length, length-set, length_push, link_at, link_begins, link_in, link_marks, marked_in}
-use Rattle.store_partition.proofs.Words.{marked_in_bucket, no_epoch, number_entry, number_of, number_within, options_in, other_word, phase_after}
-use Rattle.store_partition.proofs.Words.{refl, room_in, spot_entry, stamp_in, stamp_is_length, stamp_of, state_snoc, subst, suc, sym, true}
-use Rattle.store_partition.proofs.Words.{words_after, write_of, zero, ℕ, ◌++◌, ◌+◌, ◌<◌, ◌∙◌, ◌∷◌, ◌≡◌}
-use Rattle.store_partition.proofs.Held.{Held, before, m, main}
+use Rattle.store_partition.proofs.Words.{AcceptedWrite, Allows, AreParts, Begins, Block, Ends, Index, IsBucket, IsIndexOf, IsMain, IsOwnerStep}
+use Rattle.store_partition.proofs.Words.{IsUsed, IsWrite, Keeps, Kept, List, Marked, MayBegin, MayEnd, MayMark, Outcome, OwnerState, Spot, StandsFor}
+use Rattle.store_partition.proofs.Words.{WhenMarked, Write, [], after, after_event, all_more, all_on, ap, arith, at, bit_same, bucket_in}
+use Rattle.store_partition.proofs.Words.{chain_inside, chained, ended_step, entries_of, entries_stay, entry_at, entry_in, entry_offset, header_room}
+use Rattle.store_partition.proofs.Words.{history_after, index_stays, is_accepted, item_at, item_in, item_no_epoch, kept_marked, length, length-set}
+use Rattle.store_partition.proofs.Words.{length_push, link_at, link_in, marked, marked_entry, marked_in, marked_in_bucket, marked_item, marked_link}
+use Rattle.store_partition.proofs.Words.{may_begin, may_mark, no_epoch, number_entry, number_of, number_within, options_in, other_word, phase_after}
+use Rattle.store_partition.proofs.Words.{refl, room_in, spot_entry, stamp_in, stamp_is_length, stamp_of, state_in, state_snoc, store_state, subst}
+use Rattle.store_partition.proofs.Words.{subst₂, sym, true, words_after, written, written_state, ℕ, ◌++◌, ◌+◌, ◌<◌, ◌↔◌, ◌∙◌, ◌∷◌, ◌≡◌}
+use Rattle.store_partition.proofs.Held.{Held, IsOther, before, m, main_at, may_give}
 
 -- what a write has made of the partition once it has ended
 pub record Ended (o new : OwnerState) (index : Index) (blocks : List Block) (w : Write) (outcome : Outcome) (t : ℕ) : Type 0 where
@@ -19,18 +18,7 @@ pub record Ended (o new : OwnerState) (index : Index) (blocks : List Block) (w :
   pub step : IsOwnerStep o new w outcome
   pub parts : AreParts index blocks new
 
--- a write that the machine accepts, and the stamp after it
-pub record Accepted (h : Held) : Type 0 where
-  pub w : Write
-  pub is : IsWrite w
-  pub unworn : length h.o.history < h.o.shape.wear
-  pub outcome : Outcome
-  pub accepted : is_accepted outcome ≡ true
-  pub may : MayGive (options_in h.o) h.o.history w outcome
-  pub t : ℕ
-  pub counted : t ≡ length h.o.history + 1
-
--- the write's first two events may happen
+-- its first two events may happen
 pub record Opens (o : OwnerState) (w : Write) (b t : ℕ) : Type 0 where
   pub begin : (o' : OwnerState) → o' ≡ o → MayBegin o' b
   pub mark : (o' : OwnerState) → o' ≡ o → MayMark (after_event (Begins b) o') w t
@@ -43,16 +31,6 @@ pub record Closes (o : OwnerState) (w : Write) (outcome : Outcome) (b t : ℕ) (
 -- the bucket's link and entries are the same
 abbrev pub SameWords : OwnerState → OwnerState → ℕ → Type 0
 SameWords o p d = (link_in p d ≡ link_in o d) × ((slot : ℕ) → slot < 15 → entry_in p d slot ≡ entry_in o d slot)
-
--- where all are, a bucket of a chain stays in it
-among_on : (o p : OwnerState) → Chained o → ((d : ℕ) → IsBucket o.shape d → SameWords o p d) → (n x y : ℕ) → IsBucket o.shape x → IsAmong o n x y → IsAmong p n x y
-among_on o p s same zero x y l h = absurd h
-among_on o p s same (suc n) x y l (inl is) = inl is
-among_on o p s same (suc n) x y l (inr h) = inr (
-  λ none. h.0 (sym (same x l).0 ∙ none),
-  subst (λ (z : ℕ). IsAmong p n z y) (sym (same x l).0)
-      (elim (s.chains.links x l) [ inl none ↦ absurd (h.0 none) | inr spare ↦ among_on o p s same n (link_in o x) y spare.1 h.1 ]),
-)
 
 -- the end of a write
 module _ (o : OwnerState) (s : Kept o) (b : ℕ) (main : IsMain o.shape b) where
@@ -68,138 +46,106 @@ module _ (o : OwnerState) (s : Kept o) (b : ℕ) (main : IsMain o.shape b) where
   pub room_ends : (x : ℕ) → room_in (after_event (Ends b) o) x ≡ room_in o x
   room_ends x = ap header_room (other_word o (Ends b) (item_at o.shape (entry_offset x)) (item_no_epoch o.shape b (entry_offset x) main))
 
-module _ (h : Held) (a : Accepted h) where
-  abbrev b : ℕ
-  b = bucket_in h.o a.w.key
+-- the stamp after a write more is the number of writes
+pub stamp_more : (h : Held) (w : Write) → IsWrite w → length (h.o.history ++ w ∷ []) ≡ stamp_of (options_in h.o) (h.o.history ++ w ∷ [])
+stamp_more h w is =
+    let now = state_snoc (options_in h.o) h.o.history w ∙ ap (λ z. after (options_in h.o) z w) (before h) in
+    sym (stamp_is_length (options_in h.o) (h.o.history ++ w ∷ []) (all_more IsWrite h.o.history w h.kept.history.writes is) (ss.after (m h) w) now) ∙ ap stamp_in (sym now)
 
-  may_begin : MayBegin h.o b
-  may_begin = record { idle = h.parts.idle; main = (main h a.w.key); not_worn = a.unworn }
-
-  stamp_after : length h.o.history + 1 ≡ stamp_of (options_in h.o) (h.o.history ++ a.w ∷ [])
-  stamp_after =
-      let now = state_snoc (options_in h.o) h.o.history a.w ∙ ap (λ (z : State). after (options_in h.o) z a.w) (before h) in
-      let all = all_more IsWrite h.o.history a.w h.kept.history.writes a.is in
-      sym (length_push h.o.history a.w) ∙ (sym (stamp_is_length (options_in h.o) (h.o.history ++ a.w ∷ []) all (ss.after (m h) a.w) now) ∙ ap stamp_in (sym now))
-
-  kept_begun : Kept (after_event (Begins b) h.o)
-  kept_begun = kept_after h.o h.kept (Begins b) may_begin
-
-  may_mark : MayMark (after_event (Begins b) h.o) a.w a.t
-  may_mark = record { begun = refl; fits = a.is; accepted = (a.outcome, a.accepted, a.may); stamp = a.counted ∙ stamp_after }
-
-  -- Begun and marked
-
-  pub opens : Opens h.o a.w b a.t
-  opens = record {
-    begin = λ o' same. subst (λ (z : OwnerState). MayBegin z b) (sym same) may_begin;
-    mark = λ o' same. subst (λ (z : OwnerState). MayMark (after_event (Begins b) z) a.w a.t) (sym same) may_mark;
-  }
-
-  abbrev pub marked : OwnerState
-  marked = marked_in_bucket h.o b a.w a.t
-
-  pub kept_marked : Kept marked
-  kept_marked = kept_after (after_event (Begins b) h.o) kept_begun (Marks a.w a.t) may_mark
-
-  begun : Chained (after_event (Begins b) h.o)
-  begun = chained (after_event (Begins b) h.o) kept_begun
-
-  pub marked_long : length marked.words ≡ length h.o.words
-  marked_long = length-set (after_event (Begins b) h.o).words _ _ ∙ length-set h.o.words _ _
-
-  pub marked_item : (q : ℕ) → item_in marked q ≡ item_in h.o q
-  marked_item q = item_marks (after_event (Begins b) h.o) begun.wide a.w a.t q ∙ item_begins h.o h.kept.wide b q (main h a.w.key)
-
-  pub marked_same : (d : ℕ) → IsBucket h.o.shape d → SameWords h.o marked d
-  marked_same d l = (
-    link_marks (after_event (Begins b) h.o) begun.wide a.w a.t d ∙ link_begins h.o h.kept.wide b d (main h a.w.key),
-    λ slot low. entry_marks (after_event (Begins b) h.o) begun.wide a.w a.t d slot ∙ entry_begins h.o h.kept.wide b d slot (main h a.w.key) low,
-  )
-
-  pub marked_entries : (c : ℕ) → IsMain h.o.shape c → entries_of marked c ≡ entries_of h.o c
-  marked_entries c l = entries_marks (after_event (Begins b) h.o) begun a.w a.t c l ∙ entries_begins h.o (chained h.o h.kept) b (main h a.w.key) c l
-
-  pub marked_index : IsIndexOf h.index marked
-  marked_index = index_marks (after_event (Begins b) h.o) begun h.index (index_begins h.o (chained h.o h.kept) h.index h.parts.known b (main h a.w.key)) a.w a.t
-
-  -- with these words, before the end
-  abbrev pub written : List ℕ → OwnerState
-  written words = record h.o { words = words; history = h.o.history ++ a.w ∷ []; phase = Marked b a.w h.o.history }
-
-  -- a used spot is one still, and this is where its entry stands
-  pub record Stays (words : List ℕ) (spot : Spot) : Type 0 where
-    pub used : IsUsed (written words) b spot
-    pub inside : number_of (written words) b spot < length (entries_of h.o b)
-    pub is : at (entries_of h.o b) (number_of (written words) b spot) ≡ spot_entry h.o spot
-
-  pub stays : (words : List ℕ) → ((d : ℕ) → IsBucket h.o.shape d → SameWords h.o (written words) d) → Kept (written words) → IsIndexOf h.index (written words)
-      → entries_of (written words) b ≡ entries_of h.o b → (spot : Spot) → IsUsed h.o b spot → Stays words spot
-  stays words same kept known entries spot is = record {
-    used = used;
-    inside = subst (λ (xs : List ℕ). number_of (written words) b spot < length xs) entries
-        (number_within (written words) (chained (written words) kept) h.index known b (main h a.w.key) spot used);
-    is = ap (λ (xs : List ℕ). at xs (number_of (written words) b spot)) (sym entries)
-        ∙ (number_entry (written words) (chained (written words) kept) h.index known b (main h a.w.key) spot used ∙ entry);
-  }
-    where
-      entry : spot_entry (written words) spot ≡ spot_entry h.o spot
-      entry = (same spot.bucket (chain_inside h.o (chained h.o h.kept) b spot.bucket (main h a.w.key) is.in_chain)).1 spot.slot is.in_bucket
-
-      used : IsUsed (written words) b spot
-      used = record {
-        in_chain = among_on h.o (written words) (chained h.o h.kept) same (suc h.o.shape.spares) b spot.bucket (let low = (main h a.w.key) in omega arith) is.in_chain;
-        in_bucket = is.in_bucket;
-        used = λ empty. is.used (sym entry ∙ empty);
-      }
-
-  -- and of the phase and the bucket
-  pub ready : (words : List ℕ) (o3 : OwnerState) → o3 ≡ written words → (marked_in o3.phase b ≡ 1) × IsMain o3.shape b
-  ready words o3 is = subst (λ (z : OwnerState). (marked_in z.phase b ≡ 1) × IsMain z.shape b) (sym is) (bit_same b b refl, (main h a.w.key))
-
-  -- and what it leaves
-  module _ (words ys : List ℕ) (o4 : OwnerState) (change : ChangesChain (written words) o4 b ys) where
-    pub at_last : o4 ≡ written o4.words
-    at_last = change.rest.same
-
-    pub changed : ChangesChain (written words) (written o4.words) b ys
-    changed = subst (λ (z : OwnerState). ChangesChain (written words) z b ys) at_last change
-
-  -- The end
-
-  module _ (words : List ℕ) (index : Index) (Becomes : List Block → Type 0) (stands : StandsFor (written words) b)
-      (parts : (blocks : List Block) → Becomes blocks → AreParts index blocks (after_event (Ends b) (written words))) where
-    abbrev last : OwnerState
-    last = after_event (Ends b) (written words)
-
-    ended : (blocks : List Block) → Becomes blocks → Ended h.o last index blocks a.w a.outcome a.t
-    ended blocks becomes = record {
-      count = a.counted ∙ sym (length_push h.o.history a.w);
-      stamp = a.counted ∙ stamp_after;
-      step = record {
-        allowed = a.may;
-        gained = ap (λ (z : Phase). record h.o { words = last.words; history = h.o.history ++ a.w ∷ []; phase = z }) (sym h.parts.idle)
-            ∙ ap (λ v. cond v (record h.o { words = last.words; history = h.o.history ++ a.w ∷ [] }) h.o) (sym a.accepted);
-        idle = refl;
-      };
-      parts = parts blocks becomes;
-    }
-
-    pub closes : (o4 : OwnerState) → o4 ≡ written words → Closes h.o a.w a.outcome b a.t index Becomes o4
-    closes o4 is = subst (Closes h.o a.w a.outcome b a.t index Becomes) (sym is) record {
-      end = record { marked = bit_same b b refl; stands_for = stands };
-      ended = λ o5 blocks e5 becomes. subst (λ (z : OwnerState). Ended h.o z index blocks a.w a.outcome a.t) (sym e5) (ended blocks becomes);
-    }
-
--- a put that is stored
-abbrev pub stored : (h : Held) (key value : List ℕ) → IsWrite (write_of Put key value) → length h.o.history < h.o.shape.wear
-    → MayGive (options_in h.o) h.o.history (write_of Put key value) Stored → (n : ℕ) → n ≡ length h.o.history → Accepted h
-stored h key value is unworn may n counted = record {
-  w = write_of Put key value;
-  is = is;
+-- a write that the machine accepts, after so many others
+abbrev pub accepts : (h : Held) (w : Write) → IsWrite w → length h.o.history < h.o.shape.wear → (n : ℕ) → n ≡ length h.o.history
+    → (outcome : Outcome) → is_accepted outcome ≡ true → Allows (options_in h.o) (store_state (m h)) w outcome → AcceptedWrite h.o
+accepts h w is unworn n counted outcome accepted allowed = record {
+  kept = h.kept;
+  idle = h.parts.idle;
   unworn = unworn;
-  outcome = Stored;
-  accepted = refl;
-  may = may;
+  w = w;
+  is = is;
+  outcome = outcome;
+  accepted = accepted;
+  may = may_give h w outcome allowed;
   t = n + 1;
-  counted = ap (λ (k : ℕ). k + 1) counted;
+  stamp = ap (λ k. k + 1) counted ∙ (sym (length_push h.o.history w) ∙ stamp_more h w is);
 }
+
+module _ (h : Held) (a : AcceptedWrite h.o) where
+  pub now : (words : List ℕ) → state_in (written h.o a words) ≡ store_state (ss.after (m h) a.w)
+  now words = written_state h.o a words ∙ ap (λ z. after (options_in h.o) z a.w) (before h)
+
+  -- Before the index is changed: the chains and the items of other keys are as they were.
+  pub record Base (b : ℕ) (o3 : OwnerState) : Type 0 where
+    pub is : o3 ≡ written h.o a o3.words
+    pub kept : Kept o3
+    pub index : IsIndexOf h.index o3
+    pub bit : marked_in o3.phase b ≡ 1
+    pub mains : (c : ℕ) → IsMain h.o.shape c → IsMain o3.shape c
+    pub entries : (c : ℕ) → IsMain h.o.shape c → entries_of o3 c ≡ entries_of h.o c
+    pub spots : (spot : Spot) → IsUsed h.o b spot → IsUsed o3 b spot × (spot_entry o3 spot ≡ spot_entry h.o spot)
+    pub keeps : (c x : ℕ) → IsOther h a.w.key c x → (i : ℕ) → i < room_in h.o x → item_in o3 (entry_offset x + i) ≡ item_in h.o (entry_offset x + i)
+
+  module _ (b : ℕ) (here : b ≡ bucket_in h.o a.w.key) where
+    pub main : IsMain h.o.shape b
+    main = main_at h.o h.kept a.w.key b here
+
+    pub may_open : Opens h.o a.w b a.t
+    may_open = record {
+      begin = λ o' same. subst₂ MayBegin (sym same) (sym here) (may_begin h.o a);
+      mark = λ o' same. subst₂ (λ z c. MayMark (after_event (Begins c) z) a.w a.t) (sym same) (sym here) (may_mark h.o a);
+    }
+
+    pub base : (words : List ℕ) → length words ≡ length h.o.words → Kept (written h.o a words) → ((d : ℕ) → IsBucket h.o.shape d → SameWords h.o (written h.o a words) d)
+        → ((c x : ℕ) → IsOther h a.w.key c x → Keeps h.o a words x) → (o3 : OwnerState) → o3 ≡ written h.o a words → Base b o3
+    base words long kept same keeps o3 at = subst (Base b) (sym at) record {
+      is = refl;
+      kept = kept;
+      index = index_stays h.o (chained h.o h.kept) words _ _ long (λ d l. record { link = (same d l).0; entry = (same d l).1 }) h.index h.parts.known;
+      bit = bit_same (bucket_in h.o a.w.key) b (sym here);
+      mains = λ c l. l;
+      entries = entries_stay h.o (chained h.o h.kept) words _ _ long (λ d l. record { link = (same d l).0; entry = (same d l).1 });
+      spots = λ spot used.
+          let entry = (same spot.bucket (chain_inside h.o (chained h.o h.kept) b spot.bucket main used.in_chain)).1 spot.slot used.in_bucket in (
+            record {
+              in_chain = all_on h.o words (h.o.history ++ a.w ∷ []) (Marked (bucket_in h.o a.w.key) a.w h.o.history) long (chained h.o h.kept)
+                  (λ d l. (same d l).0) b main spot.bucket used.in_chain;
+              in_bucket = used.in_bucket;
+              used = λ empty. used.used (sym entry ∙ empty);
+            },
+            entry,
+          );
+      keeps = keeps;
+    }
+
+    pub marked_at : (o2 : OwnerState) → o2 ≡ marked_in_bucket h.o b a.w a.t → o2 ≡ marked h.o a
+    marked_at o2 at = at ∙ ap (λ c. marked_in_bucket h.o c a.w a.t) here
+
+    pub marked_base : (o2 : OwnerState) → o2 ≡ marked_in_bucket h.o b a.w a.t → Base b o2
+    marked_base o2 at = base (marked h.o a).words (length-set _ _ _ ∙ length-set h.o.words _ _) (kept_marked h.o a)
+        (λ d l. (marked_link h.o a d, marked_entry h.o a d)) (λ c x other i less. marked_item h.o a (entry_offset x + i)) o2 (marked_at o2 at)
+
+    pub when_marked : (o3 : OwnerState) → Base b o3 → (F : ℕ → Type 0) → WhenMarked o3.phase (λ c write history. F c) ↔ F b
+    when_marked o3 z F = (
+      λ f. subst F (sym here) (subst (λ s. WhenMarked s (λ c write history. F c)) (ap (λ (o : OwnerState). o.phase) z.is) f),
+      λ f. subst (λ s. WhenMarked s (λ c write history. F c)) (sym (ap (λ (o : OwnerState). o.phase) z.is)) (subst F here f),
+    )
+
+    -- where the entry of a used spot stands
+    module _ (o3 : OwnerState) (z : Base b o3) (spot : Spot) (used : IsUsed h.o b spot) where
+      pub number_in : number_of o3 b spot < length (entries_of o3 b)
+      number_in = number_within o3 (chained o3 z.kept) h.index z.index b (z.mains b main) spot (z.spots spot used).0
+
+      pub number_is : at (entries_of o3 b) (number_of o3 b spot) ≡ spot_entry h.o spot
+      number_is = number_entry o3 (chained o3 z.kept) h.index z.index b (z.mains b main) spot (z.spots spot used).0 ∙ (z.spots spot used).1
+
+    -- The end
+
+    pub closes : (words : List ℕ) (index : Index) (Becomes : List Block → Type 0) → StandsFor (written h.o a words) b
+        → ((blocks : List Block) → Becomes blocks → AreParts index blocks (after_event (Ends b) (written h.o a words))) → Closes h.o a.w a.outcome b a.t index Becomes (written h.o a words)
+    closes words index Becomes stands parts = record {
+      end = record { marked = bit_same (bucket_in h.o a.w.key) b (sym here); stands_for = stands };
+      ended = λ o5 blocks e5 becomes. subst (λ z. Ended h.o z index blocks a.w a.outcome a.t) (sym e5) record {
+        count = a.stamp ∙ sym (stamp_more h a.w a.is);
+        stamp = a.stamp;
+        step = subst (λ c. IsOwnerStep h.o (after_event (Ends c) (written h.o a words)) a.w a.outcome) (sym here) (ended_step h.o a words);
+        parts = parts blocks becomes;
+      };
+    }

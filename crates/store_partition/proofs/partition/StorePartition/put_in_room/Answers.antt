@@ -1,7 +1,7 @@
-use Rattle.store_partition.proofs.Words.{AreBytes, IsSpotOf, Put, Stored, ap, arith, item_events, plays, refl, subst, write_of, ℕ, ◌+◌, ◌∙◌, ◌≡◌}
-use Rattle.store_partition.proofs.Events.{Closes}
-use Rattle.store_partition.proofs.InRoom.{PutInRoom, in_room}
-use Rattle.store_partition.proofs.Whole.{held}
+use Rattle.store_partition.proofs.Words.{AreBytes, Put, ap, arith, item_events, plays, refl, write_of, ◌+◌, ◌∙◌}
+use Rattle.store_partition.proofs.Held.{known}
+use Rattle.store_partition.proofs.Writes.{HasPut, PutInRoom, in_room}
+use Rattle.store_partition.proofs.Parts.{held}
 use Rattle.store_partition.proofs.partition.StorePartition.put_in_room.Given.{Over}
 use Rattle.store_partition.proofs.partition.StorePartition.put_in_room.Goals.{After-rewrite_item, Start}
 use Rattle.store_partition.proofs.partition.StorePartition.put_in_room.Goals as goal
@@ -10,21 +10,16 @@ steps : (g : Over) (c : Start g) → AreBytes c.args.key.now → AreBytes c.args
     → PutInRoom (g.W.OwnerWords.owner c.args.self.now.words) c.args.self.now.index c.args.self.now.heap (write_of Put c.args.key.now c.args.value.now)
     c.args.bucket (c.args.self.now.accepted + 1) c.args.block.offset c.args.block.room
 steps g c key_bytes value_bytes =
-    let a = c.args.self.now in
+    let s = c.args.self.now in
     let r = c.requires in
-    let o = g.W.OwnerWords.owner a.words in
-    in_room (held o r.kept a.index a.heap a.parts) c.args.key.now c.args.value.now
-    (record { key = r.key; key_bytes = key_bytes; value = r.value; value_bytes = value_bytes }) r.unworn a.accepted a.counted
-    c.args.spot (subst (λ (b : ℕ). IsSpotOf o b c.args.key.now c.args.spot) r.sought.bucket r.sought.found)
-    c.args.block.offset c.args.block.room r.offset r.room r.fits c.args.bucket r.sought.bucket
+    let h = held (g.W.OwnerWords.owner s.words) r.kept s.index s.heap s.parts in
+    in_room h c.args.key.now c.args.value.now (record { key = r.key; key_bytes = key_bytes; value = r.value; value_bytes = value_bytes }) r.unworn s.accepted s.counted
+    c.args.bucket r.sought.bucket c.args.spot (known h c.args.key.now c.args.bucket r.sought.bucket key_bytes c.args.spot r.sought.found)
+    c.args.block.offset c.args.block.room r.offset r.room r.fits
 
-closed : (g : Over) (c : After-rewrite_item g)
-    → PutInRoom (g.W.OwnerWords.owner c.args.self.now.words) c.args.self.now.index c.args.self.now.heap (write_of Put c.args.key.now c.args.value.now)
-    c.args.bucket (c.args.self.now.accepted + 1) c.args.block.offset c.args.block.room
-    → Closes (g.W.OwnerWords.owner c.args.self.now.words) (write_of Put c.args.key.now c.args.value.now) Stored c.args.bucket (c.args.self.now.accepted + 1) c.args.self.now.index
-    (λ bs. bs ≡ c.args.self.now.heap) (g.W.OwnerWords.owner c.rewrite_item.new.words)
-closed g c steps = steps.closes _
-    (c.rewrite_item.ensures.events ∙ ap (plays (item_events c.args.block.offset c.args.block.room c.args.key.now c.args.value.now)) c.begin_marked.ensures.events)
+put : (g : Over) (c : After-rewrite_item g) → HasPut (g.W.OwnerWords.owner c.args.self.now.words) (write_of Put c.args.key.now c.args.value.now) c.args.bucket
+    (c.args.self.now.accepted + 1) c.args.block.offset c.args.block.room (g.W.OwnerWords.owner c.rewrite_item.new.words)
+put g c = c.rewrite_item.ensures.events ∙ ap (plays (item_events c.args.block.offset c.args.block.room c.args.key.now c.args.value.now)) c.begin_marked.ensures.events
 
 pub begin_marked-requires-clause-begin : goal.begin_marked-requires-clause-begin
 begin_marked-requires-clause-begin g c =
@@ -49,17 +44,17 @@ rewrite_item-requires-clause-there g c =
 pub end_write-requires : goal.end_write-requires
 end_write-requires g c =
     let z = goal.at.end_write-requires g c in
-    (closed g z.After-rewrite_item (steps g z.Start (λ k. omega (arith, c.type_inv.key k)) (λ k. omega (arith, c.type_inv.value k)))).end
+    ((steps g z.Start (λ k. omega (arith, c.type_inv.key k)) (λ k. omega (arith, c.type_inv.value k))).closes _ (put g z.After-rewrite_item)).end
 
 pub invariant_of-self : goal.invariant_of-self
 invariant_of-self g c =
     let z = goal.at.invariant_of-self g c in
-    let closes = closed g z.After-rewrite_item (steps g z.Start (λ k. omega (arith, c.type_inv.key k)) (λ k. omega (arith, c.type_inv.value k))) in
-    let ended = closes.ended _ _ c.end_write.ensures.event refl in
+    let closed = (steps g z.Start (λ k. omega (arith, c.type_inv.key k)) (λ k. omega (arith, c.type_inv.value k))).closes _ (put g z.After-rewrite_item) in
+    let ended = closed.ended _ _ c.end_write.ensures.event refl in
     record { parts = ∣ ended.parts ∣₁; counted = ended.count; stamped = ended.stamp }
 
 pub returns-clause-step : goal.returns-clause-step
 returns-clause-step g c =
     let z = goal.at.returns-clause-step g c in
-    let closes = closed g z.After-rewrite_item (steps g z.Start (λ k. omega (arith, c.type_inv.key k)) (λ k. omega (arith, c.type_inv.value k))) in
-    (closes.ended _ _ c.end_write.ensures.event refl).step
+    let closed = (steps g z.Start (λ k. omega (arith, c.type_inv.key k)) (λ k. omega (arith, c.type_inv.value k))).closes _ (put g z.After-rewrite_item) in
+    (closed.ended _ _ c.end_write.ensures.event refl).step

@@ -1,12 +1,12 @@
-use Rattle.store_partition.proofs.Words.{AreBytes, CanPlay, ChangesChain, FullBlock, FullSpare, HasNoSpot, IsMain, IsOwnerStep, IsTaken, LacksPlace}
-use Rattle.store_partition.proofs.Words.{MayLack, OwnerState, Put, Stored, Write, [], ap, arith, bucket_in, entries_of, entry_of, hash_tag}
-use Rattle.store_partition.proofs.Words.{item_events, marked_in_bucket, plays, refl, subst, subst₂, sym, tag_of_hash, true≢false, write_of, ℕ, ◌++◌}
-use Rattle.store_partition.proofs.Words.{◌+◌, ◌∙◌, ◌∷◌, ◌≡◌}
-use Rattle.store_partition.proofs.Held.{Held, main_of}
+use Rattle.store_partition.proofs.Words.{AreBytes, CanPlay, ChangesChain, FullBlock, FullSpare, Index, IsOwnerStep, IsTaken, LacksPlace, MayLack}
+use Rattle.store_partition.proofs.Words.{OwnerState, Put, Stored, Write, [], ap, arith, entries_of, entry_of, hash_tag, item_events, item_size}
+use Rattle.store_partition.proofs.Words.{marked_in_bucket, plays, refl, size_of, subst, subst₂, sym, tag_of_hash, true≢false, write_of, ℕ, ◌++◌, ◌+◌}
+use Rattle.store_partition.proofs.Words.{◌∙◌, ◌∷◌, ◌≡◌}
+use Rattle.store_partition.proofs.Held.{Held, main_at}
 use Rattle.store_partition.proofs.Events.{Closes}
-use Rattle.store_partition.proofs.Taken.{HasPut, PutNew, new}
-use Rattle.store_partition.proofs.Refusals.{full_block, full_spare, new_needs}
-use Rattle.store_partition.proofs.Whole.{held}
+use Rattle.store_partition.proofs.Outcomes.{full_block, full_spare, new_needs}
+use Rattle.store_partition.proofs.Writes.{HasPut, PutNew, new}
+use Rattle.store_partition.proofs.Parts.{held}
 use Rattle.store_partition.proofs.partition.StorePartition.put_new.Given.{Over}
 use Rattle.store_partition.proofs.partition.StorePartition.put_new.Goals.{After-place, After-write_item_hashed, In-Some, Start}
 use Rattle.store_partition.proofs.partition.StorePartition.put_new.Goals as goal
@@ -18,70 +18,60 @@ module _ (g : Over) (c : Start g) where
   abbrev w : Write
   w = write_of Put c.args.key.now c.args.value.now
 
-  none : HasNoSpot h.o (bucket_in h.o c.args.key.now) c.args.key.now
-  none = subst (λ (b : ℕ). HasNoSpot h.o b c.args.key.now) c.requires.sought.bucket c.requires.sought.found
-
 -- the block was taken
 steps : (g : Over) (c : In-Some g) → PutNew (g.W.OwnerWords.owner c.args.self.now.words) c.args.self.now.index c.take.new.self
     (write_of Put c.args.key.now c.args.value.now) c.args.bucket (c.args.self.now.accepted + 1) c.in-Some.place
 steps g c =
-    let a = c.args.self.now in
+    let s = c.args.self.now in
     let r = c.requires in
-    let o = g.W.OwnerWords.owner a.words in
+    let o = g.W.OwnerWords.owner s.words in
+    let h = held o r.kept s.index s.heap s.parts in
     let key_bytes : AreBytes c.args.key.now = λ k. omega (arith, c.type_inv.key k) in
     let value_bytes : AreBytes c.args.value.now = λ k. omega (arith, c.type_inv.value k) in
-    let none = subst (λ (b : ℕ). HasNoSpot o b c.args.key.now) r.sought.bucket r.sought.found in
-    let places : ¬ (LacksPlace a.index o (bucket_in o c.args.key.now)) =
-    λ lacks. true≢false (c.if-not-has_place.ensures.place.1 (subst (LacksPlace a.index o) (sym r.sought.bucket) lacks)) in
-    new (held o r.kept a.index a.heap a.parts) c.args.key.now c.args.value.now
-    (record { key = r.key; key_bytes = key_bytes; value = r.value; value_bytes = value_bytes }) r.unworn a.accepted a.counted
-    (new_needs (held o r.kept a.index a.heap a.parts) c.args.key.now c.args.value.now none places)
-    c.take.new.self c.in-Some.place (subst (IsTaken a.heap c.take.new.self c.in-Some.place) c.item_size-size.ensures c.in-Some.ensures.taken)
-    c.take.ensures.blocks none places c.args.bucket r.sought.bucket
+    let places : ¬ (LacksPlace s.index o c.args.bucket) = λ lacks. true≢false (c.if-not-has_place.ensures.place.1 lacks) in
+    new h c.args.key.now c.args.value.now (record { key = r.key; key_bytes = key_bytes; value = r.value; value_bytes = value_bytes }) r.unworn s.accepted s.counted
+    c.args.bucket r.sought.bucket c.take.new.self c.in-Some.place (subst (IsTaken s.heap c.take.new.self c.in-Some.place) c.item_size-size.ensures c.in-Some.ensures.taken)
+    c.take.ensures.blocks (new_needs h c.args.key.now c.args.value.now c.args.bucket r.sought.bucket r.sought.found places) r.sought.found places
 
 -- its item is put
-put : (g : Over) (c : After-write_item_hashed g) → HasPut (g.W.OwnerWords.owner c.args.self.now.words) (write_of Put c.args.key.now c.args.value.now)
-    c.args.bucket (c.args.self.now.accepted + 1) c.in-Some.place (g.W.OwnerWords.owner c.write_item_hashed.new.words)
+put : (g : Over) (c : After-write_item_hashed g) → HasPut (g.W.OwnerWords.owner c.args.self.now.words) (write_of Put c.args.key.now c.args.value.now) c.args.bucket
+    (c.args.self.now.accepted + 1) c.in-Some.place (item_size c.args.key.now c.args.value.now) (g.W.OwnerWords.owner c.write_item_hashed.new.words)
 put g c = c.write_item_hashed.ensures.events
     ∙ (λ i. plays (item_events (c.from.ensures i) (c.item_size-size.ensures i) c.args.key.now c.args.value.now)
-    ((c.begin_marked.ensures.events ∙ ap (λ (z : OwnerState). marked_in_bucket z c.args.bucket (write_of Put c.args.key.now c.args.value.now) (c.args.self.now.accepted + 1))
+    ((c.begin_marked.ensures.events ∙ ap (λ z. marked_in_bucket z c.args.bucket (write_of Put c.args.key.now c.args.value.now) (c.args.self.now.accepted + 1))
     c.has_place.ensures.same) i))
 
 -- and its entry
-closed : (g : Over) (c : After-place g) → PutNew (g.W.OwnerWords.owner c.args.self.now.words) c.args.self.now.index c.take.new.self
-    (write_of Put c.args.key.now c.args.value.now) c.args.bucket (c.args.self.now.accepted + 1) c.in-Some.place
-    → HasPut (g.W.OwnerWords.owner c.args.self.now.words) (write_of Put c.args.key.now c.args.value.now)
-    c.args.bucket (c.args.self.now.accepted + 1) c.in-Some.place (g.W.OwnerWords.owner c.write_item_hashed.new.words)
-    → Closes (g.W.OwnerWords.owner c.args.self.now.words) (write_of Put c.args.key.now c.args.value.now) Stored c.args.bucket (c.args.self.now.accepted + 1) c.place.new.self
-    (λ bs. bs ≡ c.take.new.self) (g.W.OwnerWords.owner c.place.new.words)
-closed g c steps put =
-    let entry = subst (λ (p : ℕ). ChangesChain (g.W.OwnerWords.owner c.write_item_hashed.new.words) (g.W.OwnerWords.owner c.place.new.words) c.args.bucket
-    (entries_of (g.W.OwnerWords.owner c.write_item_hashed.new.words) c.args.bucket ++ entry_of c.tag_of.result p ∷ [])) c.from-2.ensures c.place.ensures.entries in
+closed : (g : Over) (c : After-place g) (o : OwnerState) (index : Index) (t : ℕ) → let w = write_of Put c.args.key.now c.args.value.now in
+    PutNew o index c.take.new.self w c.args.bucket t c.in-Some.place → HasPut o w c.args.bucket t c.in-Some.place (size_of w) (g.W.OwnerWords.owner c.write_item_hashed.new.words)
+    → Closes o w Stored c.args.bucket t c.place.new.self (λ bs. bs ≡ c.take.new.self) (g.W.OwnerWords.owner c.place.new.words)
+closed g c o index t steps put =
+    let o3 = g.W.OwnerWords.owner c.write_item_hashed.new.words in
     steps.closes _ _ c.tag_of.result c.place.new.self put (c.tag_of.ensures ∙ (ap hash_tag c.requires.hashed ∙ sym (tag_of_hash c.args.key.now)))
-    c.place.ensures.kept c.place.ensures.index entry
+    c.place.ensures.kept c.place.ensures.index
+    (subst (λ p. ChangesChain o3 (g.W.OwnerWords.owner c.place.new.words) c.args.bucket (entries_of o3 c.args.bucket ++ entry_of c.tag_of.result p ∷ []))
+    c.from-2.ensures c.place.ensures.entries)
 
 pub has_place-requires-clause-index : goal.has_place-requires-clause-index
 has_place-requires-clause-index g c = (h g (goal.at.has_place-requires-clause-index g c).Start).parts.known
 
 pub has_place-requires-clause-bucket : goal.has_place-requires-clause-bucket
-has_place-requires-clause-bucket g c =
-    let o = g.W.OwnerWords.owner c.args.self.now.words in
-    subst (IsMain o.shape) (sym c.requires.sought.bucket) (main_of o c.requires.kept c.args.key.now)
+has_place-requires-clause-bucket g c = main_at (g.W.OwnerWords.owner c.args.self.now.words) c.requires.kept c.args.key.now c.args.bucket c.requires.sought.bucket
 
 pub returns-then-not-has_place-clause-step : goal.returns-then-not-has_place-clause-step
 returns-then-not-has_place-clause-step g c =
     let z = (goal.at.returns-then-not-has_place-clause-step g c).Start in
-    let lacks = subst (LacksPlace c.args.self.now.index (h g z).o) c.requires.sought.bucket (c.if-not-has_place.ensures.place.0 refl) in
-    subst (λ (n : OwnerState). IsOwnerStep (h g z).o n (w g z) FullSpare) (sym c.has_place.ensures.same)
-    (full_spare (h g z) c.args.key.now c.args.value.now c.requires.unworn (none g z) lacks)
+    subst (λ n. IsOwnerStep (h g z).o n (w g z) FullSpare) (sym c.has_place.ensures.same)
+    (full_spare (h g z) c.args.key.now c.args.value.now c.args.bucket c.requires.sought.bucket c.requires.unworn c.requires.sought.found (c.if-not-has_place.ensures.place.0 refl))
 
 pub returns-in_default-clause-step : goal.returns-in_default-clause-step
 returns-in_default-clause-step g c =
     let z = (goal.at.returns-in_default-clause-step g c).Start in
-    let needs = new_needs (h g z) c.args.key.now c.args.value.now (none g z) (λ lacks.
-    true≢false (c.if-not-has_place.ensures.place.1 (subst (LacksPlace c.args.self.now.index (h g z).o) (sym c.requires.sought.bucket) lacks))) in
-    subst (λ (n : OwnerState). IsOwnerStep (h g z).o n (w g z) FullBlock) (sym c.has_place.ensures.same)
-    (full_block (h g z) c.args.key.now c.args.value.now c.requires.unworn needs (subst (MayLack c.args.self.now.heap) c.item_size-size.ensures c.in_default.ensures.may_lack))
+    let needs = new_needs (h g z) c.args.key.now c.args.value.now c.args.bucket c.requires.sought.bucket c.requires.sought.found
+    (λ lacks. true≢false (c.if-not-has_place.ensures.place.1 lacks)) in
+    subst (λ n. IsOwnerStep (h g z).o n (w g z) FullBlock) (sym c.has_place.ensures.same)
+    (full_block (h g z) c.args.key.now c.args.value.now c.args.bucket c.requires.sought.bucket c.requires.unworn needs
+    (subst (MayLack c.args.self.now.heap) c.item_size-size.ensures c.in_default.ensures.may_lack))
 
 pub begin_marked-requires-clause-begin : goal.begin_marked-requires-clause-begin
 begin_marked-requires-clause-begin g c = (steps g (goal.at.begin_marked-requires-clause-begin g c).In-Some).opens.begin _ c.has_place.ensures.same
@@ -92,8 +82,8 @@ begin_marked-requires-clause-mark g c = (steps g (goal.at.begin_marked-requires-
 pub write_item_hashed-requires-clause-allowed : goal.write_item_hashed-requires-clause-allowed
 write_item_hashed-requires-clause-allowed g c =
     let z = goal.at.write_item_hashed-requires-clause-allowed g c in
-    let begun = c.begin_marked.ensures.events ∙ ap (λ (n : OwnerState). marked_in_bucket n c.args.bucket (w g z.Start) (c.args.self.now.accepted + 1)) c.has_place.ensures.same in
-    subst₂ (λ (p n : ℕ). CanPlay (item_events p n c.args.key.now c.args.value.now) (g.W.OwnerWords.owner c.begin_marked.new.words)) (sym c.from.ensures) (sym c.item_size-size.ensures)
+    let begun = c.begin_marked.ensures.events ∙ ap (λ n. marked_in_bucket n c.args.bucket (w g z.Start) (c.args.self.now.accepted + 1)) c.has_place.ensures.same in
+    subst₂ (λ p n. CanPlay (item_events p n c.args.key.now c.args.value.now) (g.W.OwnerWords.owner c.begin_marked.new.words)) (sym c.from.ensures) (sym c.item_size-size.ensures)
     ((steps g z.In-Some).item _ begun)
 
 pub place-requires-clause-index : goal.place-requires-clause-index
@@ -109,15 +99,15 @@ pub place-requires-clause-place : goal.place-requires-clause-place
 place-requires-clause-place g c = let z = goal.at.place-requires-clause-place g c in ((steps g z.In-Some).places _ (put g z.After-write_item_hashed)).3
 
 pub end_write-requires : goal.end_write-requires
-end_write-requires g c = let z = goal.at.end_write-requires g c in (closed g z.After-place (steps g z.In-Some) (put g z.After-write_item_hashed)).end
+end_write-requires g c = let z = goal.at.end_write-requires g c in (closed g z.After-place _ _ _ (steps g z.In-Some) (put g z.After-write_item_hashed)).end
 
 pub invariant_of-self-2 : goal.invariant_of-self-2
 invariant_of-self-2 g c =
     let z = goal.at.invariant_of-self-2 g c in
-    let ended = (closed g z.After-place (steps g z.In-Some) (put g z.After-write_item_hashed)).ended _ _ c.end_write.ensures.event refl in
+    let ended = (closed g z.After-place _ _ _ (steps g z.In-Some) (put g z.After-write_item_hashed)).ended _ _ c.end_write.ensures.event refl in
     record { parts = ∣ ended.parts ∣₁; counted = ended.count; stamped = ended.stamp }
 
 pub returns-clause-step : goal.returns-clause-step
 returns-clause-step g c =
     let z = goal.at.returns-clause-step g c in
-    ((closed g z.After-place (steps g z.In-Some) (put g z.After-write_item_hashed)).ended _ _ c.end_write.ensures.event refl).step
+    ((closed g z.After-place _ _ _ (steps g z.In-Some) (put g z.After-write_item_hashed)).ended _ _ c.end_write.ensures.event refl).step

@@ -1,6 +1,5 @@
 use Rattle.store_partition.proofs.Words.{AreParts, OwnerState, ap, length, met_by, options_in, stamp_of, subst, sym, ◌∙◌}
-use Rattle.store_partition.proofs.Whole.{whole}
-use Rattle.store_partition.proofs.Meets.{parts_met}
+use Rattle.store_partition.proofs.Parts.{parts_met, whole}
 use Rattle.store_partition.proofs.partition.StorePartitionLendPartition.meet.Goals as goal
 
 pub invariant_of-self : goal.invariant_of-self

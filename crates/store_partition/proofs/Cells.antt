@@ -1,0 +1,75 @@
+-- What a write makes of the machine's cells: one key has another cell, or none.
+use Rattle.mica_model.specs.StoreStep as ss
+use Rattle.store_partition.proofs.Words.{Cell, Cells, Del, List, None, Op, Option, Put, Some, Store, Write, ap, arith, bucket_of, cond}
+use Rattle.store_partition.proofs.Words.{eq_by_cmp_equiv, get, get-insert, get-remove, insert, is_some, keys_in, keys_over, len, len-insert}
+use Rattle.store_partition.proofs.Words.{len-remove, less_here, less_others, nat_list_cmp_total, new_here, new_others, refl, remove, remove_none}
+use Rattle.store_partition.proofs.Words.{room_of, rooms, rooms_insert, rooms_remove, size_of, subst, sym, ℕ, ◌+◌, ◌-◌, ◌<◌, ◌∙◌, ◌≡◌, ◌≢◌}
+
+-- how many cells these are
+abbrev pub one_or_none : Option Cell → ℕ
+one_or_none had = cond (is_some had) 1 0
+
+-- the numbers of keys and of room words, where a key of the bucket had this and now has that
+pub record Exchanges (buckets b : ℕ) (cells later : Cells) (had has : Option Cell) : Type 0 where
+  pub here : keys_in buckets b later + one_or_none had ≡ keys_in buckets b cells + one_or_none has
+  pub there : (c : ℕ) → c ≢ b → keys_in buckets c later ≡ keys_in buckets c cells
+  pub all : len later ≡ len cells + one_or_none has - one_or_none had
+  pub room : rooms later + room_of had ≡ rooms cells + room_of has
+
+module _ (buckets b : ℕ) (cells : Cells) (key : List ℕ) (here : b ≡ bucket_of key buckets) (low : b < buckets) where
+  inserted : (cell : Cell) (had : Option Cell) → get cells key ≡ had → Exchanges buckets b cells (insert cells key cell) had (Some cell)
+  inserted cell None none =
+      let room = rooms_insert cells key cell in
+      let had = ap room_of none in
+      let more = len-insert nat_list_cmp_total cells key cell ∙ ap (λ z. cond (is_some z) (len cells) (len cells + 1)) none in record {
+        here = let more = new_here buckets b cells key here low cell none in omega arith;
+        there = new_others buckets b cells key here low cell none;
+        all = omega arith;
+        room = omega arith;
+      }
+  inserted cell (Some old) has =
+      let room = rooms_insert cells key cell in
+      let had = ap room_of has in
+      let same = len-insert nat_list_cmp_total cells key cell ∙ ap (λ z. cond (is_some z) (len cells) (len cells + 1)) has in record {
+        here = let same = keys_over buckets b cells key old cell has in omega arith;
+        there = λ c other. keys_over buckets c cells key old cell has;
+        all = omega arith;
+        room = omega arith;
+      }
+
+  deleted : (had : Option Cell) → get cells key ≡ had → Exchanges buckets b cells (remove cells key) had None
+  deleted None none = subst (λ z. Exchanges buckets b cells z None None) (remove_none cells key none)
+      record { here = refl; there = λ c other. refl; all = omega arith; room = refl }
+  deleted (Some old) has =
+      let less = rooms_remove cells key in
+      let had = ap room_of has in
+      let fewer = len-remove nat_list_cmp_total cells key ∙ ap (λ z. cond (is_some z) (len cells - 1) (len cells)) has in
+      let some = less_here buckets b cells key here low old has in record {
+        here = omega arith;
+        there = less_others buckets b cells key here low old has;
+        all = omega arith;
+        room = omega arith;
+      }
+
+-- the cell that a write leaves its key
+abbrev pub cell_left : Op → Store → Write → Option Cell
+cell_left Put s w = Some (record { value = w.value; room = ss.room_after (get s.cells w.key) (size_of w) })
+cell_left Del s w = None
+
+left_by : (op : Op) (s : Store) (w : Write) → get (ss.after_op op s w).cells w.key ≡ cell_left op s w
+left_by Put s w = get-insert nat_list_cmp_total s.cells w.key (record { value = w.value; room = ss.room_after (get s.cells w.key) (size_of w) }) w.key
+    ∙ ap (λ b. cond b (cell_left Put s w) (get s.cells w.key)) ((eq_by_cmp_equiv nat_list_cmp_total).refl w.key)
+left_by Del s w = get-remove nat_list_cmp_total s.cells w.key w.key ∙ ap (λ b. cond b None (get s.cells w.key)) ((eq_by_cmp_equiv nat_list_cmp_total).refl w.key)
+
+pub left : (s : Store) (w : Write) → get (ss.after s w).cells w.key ≡ cell_left w.op s w
+unfolding ss.after
+left s w = left_by w.op s w
+
+module _ (buckets b : ℕ) (s : Store) (w : Write) (here : b ≡ bucket_of w.key buckets) (low : b < buckets) where
+  exchanges_by : (op : Op) → Exchanges buckets b s.cells (ss.after_op op s w).cells (get s.cells w.key) (cell_left op s w)
+  exchanges_by Put = inserted buckets b s.cells w.key here low _ (get s.cells w.key) refl
+  exchanges_by Del = deleted buckets b s.cells w.key here low (get s.cells w.key) refl
+
+  pub exchanges : Exchanges buckets b s.cells (ss.after s w).cells (get s.cells w.key) (get (ss.after s w).cells w.key)
+  unfolding ss.after
+  exchanges = subst (Exchanges buckets b s.cells (ss.after s w).cells (get s.cells w.key)) (sym (left s w)) (exchanges_by w.op)
