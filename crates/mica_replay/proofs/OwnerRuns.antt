@@ -1,12 +1,11 @@
 -- An owner's replies to one write more.
-use Rattle.std.proofs.Common.{◌≡◌, ℕ, ◌-◌, ◌<◌, List, [], ◌∷◌, ◌++◌, length, map, zip, Option, Some, None, refl, sym, ap, ◌∙◌, subst, arith, cond, true, false, append-nil, append_assoc, slice_get, IsSomeAnd, ◌≤◌}
+use Rattle.std.proofs.Common.{◌≡◌, ℕ, ◌-◌, ◌<◌, List, [], ◌∷◌, ◌++◌, length, map, zip, Option, Some, None, refl, sym, ap, ◌∙◌, subst, arith, append-nil, append_assoc, slice_get, IsSomeAnd, ◌≤◌}
 use Rattle.std.specs.List.{cons_option, filter_map}
 use Rattle.std.proofs.lemmas.List.{map-append, length_push}
 use Rattle.std.proofs.lemmas.List.Elements.{filter_map-append}
 use Rattle.mica_model.specs.declared.options.Options.{Options}
 use Rattle.mica_model.specs.declared.write.Write.{Write}
 use Rattle.mica_model.specs.declared.write.Outcome.{Outcome}
-use Rattle.mica_model.specs.Write.{is_accepted}
 use Rattle.mica_model.specs.History.{History, MayGive, stamp_of}
 use Rattle.mica_model.specs.Run.{RunStep, history_of, IsRunFrom}
 use Rattle.mica_trace.specs.declared.line.TraceLine.{TraceLine}

@@ -1,5 +1,5 @@
 -- A reader's answers, one after another.
-use Rattle.std.proofs.Common.{◌≡◌, ◌≢◌, ℕ, zero, suc, ◌+◌, ◌<◌, ◌⊎◌, inl, inr, List, [], ◌∷◌, ◌++◌, length, map, zip, take, slice_get, slice_set, Option, Some, None, refl, sym, ap, ◌∙◌, subst, arith, cond, append-nil, append_assoc, length-append, length-set, eq-eqb, ne_eqb, get_or}
+use Rattle.std.proofs.Common.{◌≡◌, ◌≢◌, ℕ, zero, suc, ◌+◌, ◌<◌, inl, inr, List, [], ◌∷◌, ◌++◌, length, map, zip, take, slice_get, slice_set, Some, None, refl, sym, ap, ◌∙◌, subst, arith, cond, append-nil, length-set, eq-eqb, ne_eqb, get_or}
 use Rattle.std.specs.List.{All, AllByRecursion, cons_option}
 use Rattle.std.proofs.lemmas.Option.{slice_get_within, get_or_from_slice_get, slice_get_read, slice_get-map}
 use Rattle.std.proofs.lemmas.List.{length_push, take_more, map-set, length-map}
@@ -9,8 +9,7 @@ use Rattle.mica_words.specs.Item.{KeyFits}
 use Rattle.mica_words.proofs.Hashes.{partition_of-below}
 use Rattle.mica_model.specs.declared.options.Options.{Options}
 use Rattle.mica_model.specs.Options.{IsValid}
-use Rattle.mica_model.specs.History.{History, State, IsPrefix, stamp_in, value_in}
-use Rattle.mica_model.specs.Run.{IsAnswerAt}
+use Rattle.mica_model.specs.History.{History, IsPrefix}
 use Rattle.mica_trace.specs.declared.line.TraceOp.{TraceOp}
 use Rattle.mica_trace.specs.declared.line.TraceOp.TheVariants.{Put, Del, Get, Sync}
 use Rattle.mica_trace.specs.declared.line.TraceLine.{TraceLine}
@@ -18,14 +17,12 @@ use Rattle.mica_trace.specs.declared.report.Line.{Line}
 use Rattle.mica_trace.specs.TraceGrammar.{HasFields, IsTraceLine}
 use Rattle.mica_trace.specs.Rounds.{partition_in, is_in_partition}
 use Rattle.mica_trace.specs.LawfulReport.{IsKindOf, Answers}
-use Rattle.epoch_core.specs.declared.shape.Shape.{Shape}
-use Rattle.epoch_core.specs.Shape.{shape_of, options_of}
-use Rattle.epoch_core.proofs.SameMachine.{same_state}
+use Rattle.epoch_core.specs.Shape.{shape_of}
 use Rattle.optimistic_get.specs.declared.getting.Got.{Got}
 use Rattle.optimistic_get.specs.declared.getting.Got.TheVariants.{Hit, Miss, Again}
 use Rattle.epoch_core.specs.declared.reader.ReaderState.{ReaderState}
 use Rattle.mica_trace.specs.RoundReport.{Pair, pairs_in, AnswersRise}
-use Rattle.optimistic_get.specs.Asked.{SeatAnswers, IsReadAt, IsRead}
+use Rattle.optimistic_get.specs.Asked.{SeatAnswers, IsRead}
 use Rattle.optimistic_get.proofs.Repeated.{no_answers, seat_further, same_answer}
 use Rattle.mica_replay.specs.Answered.{IsNotAgain, line_of}
 use Rattle.mica_replay.specs.LineNumbers.{lines_at, NamesGet}
