@@ -70,6 +70,10 @@ up_all R n olds news all so_far = record {
 pub seen_at : {X Y : Type 0} (f : X → Y) (items : List X) (n : ℕ) (x : X) → n < length items → x ≡ get_or items n x → slice_get (map f items) n ≡ Some (f x)
 seen_at f items n x less is = slice_get-map f items n ∙ ap (option_map f) (slice_get_read items (length items) n x refl less is)
 
+-- as many elements as there are seen
+pub seen_many : {X Y : Type 0} (f : X → Y) (olds news : List X) → length (map f news) ≡ length (map f olds) → length news ≡ length olds
+seen_many f olds news same = sym (length-map news f) ∙ same ∙ length-map olds f
+
 pub up_seen : {X Y : Type 0} (f : X → Y) (R : Y → Y → Type 0) (olds : List Y) (items : List X) (q : ℕ) (old new : X) → UpTo R q olds (map f items) → q < length items → old ≡ get_or items q old
     → R (f old) (f new) → UpTo R (q + 1) olds (map f (slice_set items q new))
 up_seen f R olds items q old new so_far less is one =

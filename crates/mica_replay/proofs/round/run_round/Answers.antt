@@ -1,22 +1,20 @@
-use Rattle.std.proofs.Common.{List, ◌≡◌, ◌<◌, map, length, sym, ap, ◌∙◌, arith, refl}
-use Rattle.std.proofs.lemmas.List.{length-map}
+use Rattle.std.proofs.Common.{◌<◌, map, length, ap, ◌∙◌, arith, refl}
 use Rattle.mica_replay.specs.declared.worker.ReaderWork.{ReaderWork}
 use Rattle.mica_replay.specs.Lending.{owner_part, lent_part, table_in}
-use Rattle.mica_replay.specs.RoundRun.{reader_part}
-use Rattle.mica_replay.proofs.RoundSteps.{lends_none, lends_one, owners_ready, readers_ready, homes_same, meets_more, leaves_one, ran_round, Ran}
+use Rattle.mica_replay.specs.RoundRun.{ReaderPart, reader_part}
+use Rattle.mica_replay.proofs.RoundSteps.{seen_many, lends_none, lends_one, owners_ready, readers_ready, homes_same, meets_more, leaves_one, ran_round, Ran}
 use Rattle.partition_table.specs.Seats.{reader_state, reader_home}
 use Rattle.partition_table.specs.declared.reader.ReaderSeat.{ReaderSeat}
 use Rattle.mica_replay.proofs.round.run_round.Given.{Over}
 use Rattle.mica_replay.proofs.round.run_round.Goals.{In_ok-run_fed}
 use Rattle.mica_replay.proofs.round.run_round.Goals as goal
 
--- a loop keeps the number of readers
-many : (olds news : List (ReaderWork ReaderSeat)) → length (map (λ r. reader_part reader_state reader_home r) news) ≡ length (map (λ r. reader_part reader_state reader_home r) olds) → length news ≡ length olds
-many olds news same = sym (length-map news (λ r. reader_part reader_state reader_home r)) ∙ same ∙ length-map olds (λ r. reader_part reader_state reader_home r)
+abbrev part : ReaderWork ReaderSeat → ReaderPart
+part r = reader_part reader_state reader_home r
 
 -- once all have run
 abbrev ran : (g : Over) (c : In_ok-run_fed g) → Ran g.P.Partition.owner g.P.Partition.home reader_state reader_home c.args.trace.now c.args.options.now
-    (map (λ w. owner_part g.P.Partition.owner g.P.Partition.home w) c.args.owners.now.items) (map (λ r. reader_part reader_state reader_home r) c.args.readers.now.items)
+    (map (λ w. owner_part g.P.Partition.owner g.P.Partition.home w) c.args.owners.now.items) (map part c.args.readers.now.items)
 ran g c = record {
   ready = c.requires.ready;
   owners = c.loop-q.owners.items;
@@ -24,7 +22,7 @@ ran g c = record {
   lents = c.loop-q.readers.items;
   mids = c.run_fed.new.readers.items;
   count = c.loop-q.q;
-  all = omega (arith, c.loop-q-test.false, c.len-q-end.ensures, c.args.readers.now.ok, many _ _ c.loop-q.invariant.lent.many);
+  all = omega (arith, c.loop-q-test.false, c.len-q-end.ensures, c.args.readers.now.ok, seen_many part _ _ c.loop-q.invariant.lent.many);
   same = c.loop-q.invariant.same;
   lent = c.loop-q.invariant.lent;
   owned = c.in_ok-run_fed.ensures.owners;
@@ -35,7 +33,7 @@ pub lend_all-requires : goal.lend_all-requires
 lend_all-requires g c =
     lends_none g.P.Partition.owner g.P.Partition.home reader_state reader_home c.args.trace.now c.args.options.now _ _ c.requires.ready
     c.loop-q.readers.items c.loop-q.q c.index_mut-reader.result.now c.loop-q.invariant.lent
-    (omega (arith, c.loop-q-test.true, c.len-q-end.ensures, c.args.readers.now.ok, many _ _ c.loop-q.invariant.lent.many)) c.index_mut-reader.ensures.value
+    (omega (arith, c.loop-q-test.true, c.len-q-end.ensures, c.args.readers.now.ok, seen_many part _ _ c.loop-q.invariant.lent.many)) c.index_mut-reader.ensures.value
 
 pub loop-q-preserved : goal.loop-q-preserved
 loop-q-preserved g c =
@@ -44,7 +42,7 @@ loop-q-preserved g c =
       same = c.lend_all.ensures.same ∙ c.loop-q.invariant.same;
       lent = lends_one g.P.Partition.owner g.P.Partition.home reader_state reader_home c.args.trace.now c.args.options.now _ _ c.requires.ready
           c.loop-q.readers.items c.loop-q.q old (record old { seats = c.lend_all.new.seats }) c.loop-q.invariant.lent
-          (omega (arith, c.loop-q-test.true, c.len-q-end.ensures, c.args.readers.now.ok, many _ _ c.loop-q.invariant.lent.many)) c.index_mut-reader.ensures.value
+          (omega (arith, c.loop-q-test.true, c.len-q-end.ensures, c.args.readers.now.ok, seen_many part _ _ c.loop-q.invariant.lent.many)) c.index_mut-reader.ensures.value
           (record {
             seats = c.in_ok-lend_all.ensures.seats ∙ ap (λ ws. map lent_part ws) c.loop-q.invariant.same;
             tables = c.in_ok-lend_all.ensures.homes ∙ ap (λ ws. map table_in ws) c.loop-q.invariant.same;
@@ -61,7 +59,7 @@ run_fed-requires-clause-owners g c κs within =
 pub run_fed-requires-clause-readers : goal.run_fed-requires-clause-readers
 run_fed-requires-clause-readers g c κs within =
     readers_ready g.P.Partition.owner g.P.Partition.home reader_state reader_home c.args.trace.now c.args.options.now _ _ c.requires.ready
-    c.loop-q.readers.items c.loop-q.q (omega (arith, c.loop-q-test.false, c.len-q-end.ensures, c.args.readers.now.ok, many _ _ c.loop-q.invariant.lent.many)) c.loop-q.invariant.lent
+    c.loop-q.readers.items c.loop-q.q (omega (arith, c.loop-q-test.false, c.len-q-end.ensures, c.args.readers.now.ok, seen_many part _ _ c.loop-q.invariant.lent.many)) c.loop-q.invariant.lent
 
 pub run_fed-requires-clause-shared : goal.run_fed-requires-clause-shared
 run_fed-requires-clause-shared g c κs within = rw c.loop-q.invariant.same c.requires.shared
@@ -70,14 +68,14 @@ pub meet_all-requires : goal.meet_all-requires
 meet_all-requires g c =
     homes_same (ran g (goal.at.meet_all-requires g c).In_ok-run_fed)
     c.loop-q-2.q c.loop-q-2.readers.items c.loop-q-2.owners.items c.index_mut-reader-in-loop-q-2.result.now c.loop-q-2.invariant.left c.loop-q-2.invariant.met
-    (omega (arith, c.loop-q-2-test.true, c.len-q-end-2.ensures, c.run_fed.new.readers.ok, many _ _ c.loop-q-2.invariant.left.many)) c.index_mut-reader-in-loop-q-2.ensures.value
+    (omega (arith, c.loop-q-2-test.true, c.len-q-end-2.ensures, c.run_fed.new.readers.ok, seen_many part _ _ c.loop-q-2.invariant.left.many)) c.index_mut-reader-in-loop-q-2.ensures.value
 
 pub loop-q-2-preserved : goal.loop-q-2-preserved
 loop-q-2-preserved g c =
     let all = ran g (goal.at.loop-q-2-preserved g c).In_ok-run_fed in
     let old = c.index_mut-reader-in-loop-q-2.result.now in
     let less : c.loop-q-2.q < length c.loop-q-2.readers.items
-    = omega (arith, c.loop-q-2-test.true, c.len-q-end-2.ensures, c.run_fed.new.readers.ok, many _ _ c.loop-q-2.invariant.left.many) in
+    = omega (arith, c.loop-q-2-test.true, c.len-q-end-2.ensures, c.run_fed.new.readers.ok, seen_many part _ _ c.loop-q-2.invariant.left.many) in
     record {
       met = meets_more all c.loop-q-2.q c.loop-q-2.readers.items c.loop-q-2.owners.items c.meet_all.new.owners.items old c.loop-q-2.invariant.left c.loop-q-2.invariant.met less
           c.index_mut-reader-in-loop-q-2.ensures.value c.meet_all.ensures.met;
@@ -90,6 +88,6 @@ returns g c =
     let all = ran g (goal.at.returns g c).In_ok-run_fed in
     record {
       ran = ran_round all c.loop-q-2.q c.loop-q-2.readers.items c.loop-q-2.owners.items
-          (omega (arith, c.loop-q-2-test.false, c.loop-q-2.auto.q-end, c.len-q-end-2.ensures, c.run_fed.new.readers.ok, many _ _ c.loop-q-2.invariant.left.many))
+          (omega (arith, c.loop-q-2-test.false, c.loop-q-2.auto.q-end, c.len-q-end-2.ensures, c.run_fed.new.readers.ok, seen_many part _ _ c.loop-q-2.invariant.left.many))
           c.loop-q-2.invariant.left c.loop-q-2.invariant.met;
     }

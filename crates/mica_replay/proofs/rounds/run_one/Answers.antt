@@ -1,18 +1,16 @@
-use Rattle.std.proofs.Common.{◌+◌, ◌-◌, ◌^◌, ◌<◌, List, map, length, take, drop, Some, sym, ap, ◌∙◌, subst, arith}
+use Rattle.std.proofs.Common.{◌-◌, List, map, take, drop, Some, ◌∙◌, arith}
 use Rattle.std.specs.Vec.Iter.{into_iter_items}
 use Rattle.mica_trace.specs.declared.line.TraceLine.{TraceLine}
 use Rattle.mica_trace.specs.declared.report.Line.{Line}
 use Rattle.mica_trace.specs.TraceGrammar.{IsTraceLine}
 use Rattle.mica_trace.specs.LawfulReport.{IsLineFor}
-use Rattle.mica_trace.specs.RoundReport.{gets_in}
 use Rattle.mica_trace.proofs.ListParts.{length_zip}
 use Rattle.partition_table.specs.Seats.{reader_state, reader_home}
 use Rattle.partition_table.specs.declared.reader.ReaderSeat.{ReaderSeat}
 use Rattle.mica_replay.specs.declared.worker.OwnerWork.{OwnerWork}
 use Rattle.mica_replay.specs.declared.worker.ReaderWork.{ReaderWork}
-use Rattle.mica_replay.specs.Between.{IsReplaying}
 use Rattle.mica_replay.specs.Lending.{OwnerPart, owner_part}
-use Rattle.mica_replay.specs.RoundRun.{ReaderPart, reader_part, state_of_owner}
+use Rattle.mica_replay.specs.RoundRun.{ReaderPart, reader_part}
 use Rattle.mica_replay.specs.Shares.{IsShared}
 use Rattle.mica_replay.proofs.LineShares.{take_most}
 use Rattle.mica_replay.proofs.OneRound.{ToRun, AllRan, are_ready, given_writes, are_enough, goes_next, free_again, take_join, all_take, all_drop, twice_map, gets_few, gets_join}

@@ -1,4 +1,4 @@
-use Rattle.std.proofs.Common.{◌≡◌, ℕ, ◌<◌, ◌≤◌, ◌+◌, ◌-◌, ◌%◌, ◌++◌, ◌∷◌, [], List, map, length, take, drop, get_or, slice_get, slice_set, Some, refl, sym, ap, ◌∙◌, subst, arith, cond, false}
+use Rattle.std.proofs.Common.{◌≡◌, ◌<◌, ◌≤◌, ◌+◌, ◌-◌, ◌%◌, ◌++◌, ◌∷◌, [], List, map, length, take, drop, get_or, slice_get, Some, refl, sym, ap, ◌∙◌, arith, cond}
 use Rattle.std.proofs.lemmas.List.{length-map, map-set}
 use Rattle.mica_words.specs.Hash.{fnv1a, hash_partition}
 use Rattle.mica_words.proofs.Hashes.{partition_of_hash, partition_of-below}
@@ -7,10 +7,9 @@ use Rattle.mica_trace.specs.declared.line.TraceLine.{TraceLine}
 use Rattle.mica_replay.specs.declared.worker.OwnerWork.{OwnerWork}
 use Rattle.mica_replay.specs.declared.worker.ReaderWork.{ReaderWork}
 use Rattle.mica_trace.specs.Rounds.{is_get_op, partition_in}
-use Rattle.mica_trace.specs.RoundReport.{is_get, gets_in}
+use Rattle.mica_trace.specs.RoundReport.{gets_in}
 use Rattle.mica_replay.specs.Lending.{owner_part}
 use Rattle.mica_replay.specs.RoundRun.{reader_part}
-use Rattle.mica_replay.specs.Shares.{Each, HasWrites, HasGets}
 use Rattle.mica_replay.proofs.RoundSteps.{seen_at}
 use Rattle.mica_replay.proofs.RoundEnds.{part_more}
 use Rattle.mica_replay.proofs.LineShares.{gets_push, writes_skip, gets_skip, writes_give, gets_give, sync_no_write, get_no_write, write_no_get, either_is_write}
