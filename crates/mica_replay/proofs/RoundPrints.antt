@@ -2,7 +2,7 @@
 use Rattle.std.proofs.Common.{◌≡◌, ◌≢◌, ℕ, zero, suc, ◌+◌, ◌<◌, ◌≤◌, ◌%◌, ◌==◌, ◌⊎◌, inl, inr, List, [], ◌∷◌, ◌++◌, length, map, take, drop, get_or, replicate, slice_get, slice_set, Some, None, refl, sym, ap, ◌∙◌, subst, arith, cond, Bool, true, false, eq-eqb, append-nil, append_assoc, length-append, take-append-drop, take_all}
 use Rattle.std.specs.Prelude.{option_map}
 use Rattle.std.specs.List.{cons_option}
-use Rattle.std.proofs.lemmas.List.{length-map, length-replicate, get_or-replicate, length-set, length_push, map-set, take_more}
+use Rattle.std.proofs.lemmas.List.{length-map, length-replicate, get_or-replicate, length-set, length_push, map-set, nil_from_length, take_more}
 use Rattle.std.proofs.lemmas.List.Elements.{filter_map-append}
 use Rattle.std.proofs.lemmas.List.Sums.{sum_by-cons}
 use Rattle.std.proofs.lemmas.Option.{slice_get-map, slice_get_read, slice_get_within, get_or_from_slice_get}
@@ -163,9 +163,6 @@ module _ (options : Options) (first : ℕ) (lines : List TraceLine) (dones : Lis
       → HasMerged options first lines before report dones founds
   printed_all k report cursors rests gets all so_far = whole (subst (λ l. IsPrinting options first dones founds l before report cursors rests) (take_all k lines all) so_far.printing)
     where
-      nothing : (xs : List Line) → length xs ≡ 0 → xs ≡ []
-      nothing [] is = refl
-      nothing (x ∷ xs) is = absurd (omega arith)
 
       whole : IsPrinting options first dones founds lines before report cursors rests → HasMerged options first lines before report dones founds
       whole it_all = record {
@@ -196,7 +193,7 @@ module _ (options : Options) (first : ℕ) (lines : List TraceLine) (dones : Lis
               let kinds = length_zip HasKind (gets_of options q first lines) all (enough.gets q all at_all) in
               let joined = ap length both in
               let parts = length-append l.0 rest.0 in
-              let none : rest.0 ≡ [] = nothing rest.0 (omega arith) in
+              let none : rest.0 ≡ [] = nil_from_length rest.0 (omega arith) in
               let same : l.0 ≡ all = sym (append-nil l.0) ∙ ap (λ x. l.0 ++ x) (sym none) ∙ both in
               it_all.merged.gets q all (l.1 ∙ ap (λ (x : List Line). Some x) same);
         };

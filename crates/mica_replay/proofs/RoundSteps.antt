@@ -1,5 +1,5 @@
 -- A round from the lending of its seats to the last meeting.
-use Rattle.std.proofs.Common.{◌≡◌, ℕ, zero, suc, ◌+◌, ◌<◌, ◌≤◌, ◌^◌, inl, inr, List, [], ◌∷◌, ◌++◌, length, map, get_or, slice_get, slice_set, slice_index_or, Option, Some, refl, sym, ap, ◌∙◌, subst, arith, All, IfSome, ◌==◌, ◌≢◌, true, false, eq-eqb, eqb-true, true≢false}
+use Rattle.std.proofs.Common.{◌≡◌, ℕ, zero, suc, ◌+◌, ◌<◌, ◌≤◌, ◌^◌, inl, inr, List, [], ◌∷◌, ◌++◌, length, map, get_or, slice_get, slice_set, slice_index_or, Option, Some, refl, sym, ap, ◌∙◌, subst, arith, All, IfSome, Result, Ok, Err, OnErr, ◌==◌, ◌≢◌, true, false, eq-eqb, eqb-true, true≢false}
 use Rattle.std.specs.Prelude.{option_map, option_and_then}
 use Rattle.std.proofs.lemmas.List.{map-set, length-map, length-set}
 use Rattle.std.proofs.lemmas.Option.{slice_get_read, slice_get-map, slice_get_within, get_or_from_slice_get}
@@ -445,6 +445,11 @@ module _ {P R : Type 0} {owner : P → OwnerState} {home : P → TableId} {reade
         meets = subst (λ (n : ℕ). (p : ℕ) (ran new : OwnerPart) → slice_get (map owner_seen r.ran_owners) p ≡ Some ran → slice_get (map owner_seen now) p ≡ Some new → HasMetReaders n given p ran new) readers_many
             (met_everybody given q (map owner_seen r.ran_owners) (map owner_seen now) (omega arith) met);
       }
+
+-- what holds anyway holds where there is an error
+pub on_err_any : {T E P : Type 0} (r : Result T E) → P → OnErr r P
+on_err_any (Ok x) p = tt
+on_err_any (Err e) p = p
 
 -- what is seen of each element is seen of one more
 pub each_more : {X Y : Type 0} (f : X → Y) (Q : Y → Type 0) (items : List X) (x : X) → ((i : ℕ) (y : Y) → slice_get (map f items) i ≡ Some y → Q y) → Q (f x)

@@ -9,13 +9,10 @@ use Rattle.epoch_core.specs.declared.reader.ReaderState.{ReaderState}
 use Rattle.mica_replay.specs.LineNumbers.{lines_at}
 use Rattle.mica_replay.specs.ReaderGets.{HaveRead}
 use Rattle.mica_replay.proofs.ReaderSteps.{reads_none, number_within, IsGetOf, get_of, seat_at, seen_at, homes_at, read_at, reads_seen, read_goes}
+use Rattle.mica_replay.proofs.RoundSteps.{on_err_any}
 use Rattle.mica_replay.proofs.reader.run_reader.Given.{Over}
 use Rattle.mica_replay.proofs.reader.run_reader.Goals.{After-ask-got, After-bytes-key}
 use Rattle.mica_replay.proofs.reader.run_reader.Goals as goal
-
-on_err_any : {T E P : Type 0} (r : Result T E) → P → OnErr r P
-on_err_any (Ok x) p = tt
-on_err_any (Err e) p = p
 
 get : (g : Over) (c : After-bytes-key g) → IsGetOf c.args.trace.now c.args.gets.now c.loop-number.number-index c.index-lines-number.result
 get g c =
