@@ -1,24 +1,44 @@
--- The fields of a table of cells, before and after a put or a removal.
-use Rattle.std.proofs.Common.{◌≡◌, ℕ, List, ◌+◌, ◌<◌, ◌≤◌, ◌^◌, Option, Some, None, sym, ap, ◌∙◌, subst, arith}
+-- A table of cells, before and after a put or a removal.
+use Rattle.std.proofs.Common.{◌≡◌, ℕ, List, ◌+◌, ◌-◌, ◌<◌, ◌≤◌, ◌^◌, Option, Some, None, length, get_or, sym, ap, ◌∙◌, subst, arith}
 use Rattle.std.specs.Prelude.{slice_index, slice_set}
 use Rattle.std.specs.Option.{option_map}
 use Rattle.std.specs.Global.{Vec}
-use Rattle.std.specs.BTreeMap.{insert_entry}
+use Rattle.std.specs.BTreeMap.{BTreeMap, IsOrdered, insert_entry}
 use Rattle.std.specs.Map.{lookup, remove_entry}
 use Rattle.std.specs.FinMap.{get, insert, remove, from_sorted}
+use Rattle.std.proofs.lemmas.List.{length-set}
+use Rattle.std.proofs.lemmas.Grind.{get_or_default_zero}
 use Rattle.mica_words.specs.Hash.{bucket_of}
+use Rattle.mica_model.specs.declared.bucket_keys.BucketKeys.{BucketKeys}
 use Rattle.mica_model.specs.declared.cell.Cell.{Cell as CellInCode}
 use Rattle.mica_model.specs.declared.cell_table.CellTable.TheInside.{Inside}
-use Rattle.mica_model.specs.Store.{Cell, room_of, keys_in, spares_behind, spares_in_use}
-use Rattle.mica_model.specs.CellTable.{cell_of}
-use Rattle.mica_model.specs.CellTableFields.{entries_of, cells_of, HasCounts, IsTable}
+use Rattle.mica_model.specs.Store.{Cell, Cells, room_of, rooms, keys_in, spares_behind, spares_in_use}
+use Rattle.mica_model.specs.CellTable.{Table, cell_of}
+use Rattle.mica_model.specs.CellTableFields.{entries_of, cells_of, table_of, HasCounts, IsTable}
 use Rattle.mica_model.proofs.CellEntries.{by_bytes, by_items, has_bytes, sorted_entries, get_cell, put_cell, removed_cell}
-use Rattle.mica_model.proofs.CellSums.{rooms_remove, spares_among}
-use Rattle.mica_model.proofs.TableSteps.{counts_change, new_here, new_others, new_spares, less_here, less_others, less_spares}
+use Rattle.mica_model.proofs.CellSums.{rooms_insert, rooms_remove, keys_over, spares_among}
+use Rattle.mica_model.proofs.TableSteps.{counts_change, new_here, new_others, new_spares, over_spares, less_here, less_others, less_spares}
 
--- few keys where few spares are in use
-pub few_keys : (keys spares : ℕ) → spares_behind keys ≤ spares → spares ≤ 65536 → keys + 1 < 2 ^ 32
-few_keys keys spares le most = omega arith
+-- the key's bucket
+pub record InBucket (a : Inside) (key : List ℕ) (bucket : ℕ) : Type 0 where
+  pub is : bucket ≡ bucket_of key a.buckets
+  pub within : bucket < a.buckets
+
+-- as a call tells it of the table
+pub in_bucket : (a : Inside) (key : List ℕ) (bucket : ℕ) (t : Table) → table_of a ≡ t → bucket < t.buckets → bucket ≡ bucket_of key t.buckets → InBucket a key bucket
+in_bucket a key bucket t view within is = record {
+  is = is ∙ ap (λ (u : Table). bucket_of key u.buckets) (sym view);
+  within = subst (λ (u : Table). bucket < u.buckets) (sym view) within;
+}
+
+-- what a tree's entries are
+abbrev pub Holds : BTreeMap (Vec ℕ) CellInCode → Cells → Type 0
+Holds cells m = IsOrdered by_items cells × (from_sorted {R = by_bytes} (entries_of cells.entries) ≡ m)
+
+-- another number of keys for a bucket
+pub record IsSet (old new : BucketKeys) (bucket k : ℕ) : Type 0 where
+  pub keys : new.keys.items ≡ slice_set old.keys.items bucket k
+  pub spares : new.spares + spares_behind (slice_index old.keys.items bucket) ≡ old.spares + spares_behind k
 
 module _ (a : Inside) (t : IsTable a) where
   pub found : (items key : List ℕ) → items ≡ key → (o : Option CellInCode) → o ≡ lookup (has_bytes items) a.cells.entries → get (cells_of a) key ≡ option_map cell_of o
@@ -33,69 +53,120 @@ module _ (a : Inside) (t : IsTable a) where
       let sum = t.rooms in
       omega arith
 
-  pub after_put : (vec : Vec ℕ) (cell : CellInCode) (key value : List ℕ) → vec.items ≡ key → cell.value ≡ value
-      → (es : List (Vec ℕ × CellInCode)) → es ≡ insert_entry by_items a.cells.entries vec cell
-      → from_sorted {R = by_bytes} (entries_of es) ≡ insert (cells_of a) key (record { value = value; room = cell.room })
-  after_put vec cell key value key_is value_is es new =
+  pub after_put : (vec : Vec ℕ) (stored : CellInCode) (key : List ℕ) (cell : Cell) → vec.items ≡ key → cell_of stored ≡ cell
+      → (es : List (Vec ℕ × CellInCode)) → es ≡ insert_entry by_items a.cells.entries vec stored
+      → from_sorted {R = by_bytes} (entries_of es) ≡ insert (cells_of a) key cell
+  after_put vec stored key cell key_is cell_is es new =
       ap (λ fs. from_sorted {R = by_bytes} (entries_of fs)) new
-      ∙ put_cell a.cells.entries (sorted_entries a.cells.entries t.ordered) vec cell
-      ∙ ap (λ k. insert (cells_of a) k (cell_of cell)) key_is
-      ∙ ap (λ v. insert (cells_of a) key (record { value = v; room = cell.room })) value_is
+      ∙ put_cell a.cells.entries (sorted_entries a.cells.entries t.ordered) vec stored
+      ∙ ap (λ k. insert (cells_of a) k (cell_of stored)) key_is
+      ∙ ap (insert (cells_of a) key) cell_is
 
   pub after_remove : (key : List ℕ) (es : List (Vec ℕ × CellInCode)) → es ≡ remove_entry (has_bytes key) a.cells.entries
       → from_sorted {R = by_bytes} (entries_of es) ≡ remove (cells_of a) key
   after_remove key es new =
       ap (λ fs. from_sorted {R = by_bytes} (entries_of fs)) new ∙ removed_cell a.cells.entries (sorted_entries a.cells.entries t.ordered) key
 
-  module _ (key : List ℕ) (bucket : ℕ) (is : bucket ≡ bucket_of key a.buckets) (within : bucket < a.buckets) where
+  -- another cell for a key that has one
+  pub table_over : (key : List ℕ) (old cell : Cell) → get (cells_of a) key ≡ Some old → (cells : BTreeMap (Vec ℕ) CellInCode) → Holds cells (insert (cells_of a) key cell)
+      → IsTable (record a { cells = cells; rooms = a.rooms - old.room + cell.room })
+  table_over key old cell had cells new =
+      let among = room_among key old had in
+      let step = rooms_insert (cells_of a) key cell in
+      let room = ap room_of had in
+      let sum = t.rooms in
+      let all = ap rooms new.1 in
+      record {
+        ordered = new.0;
+        some = t.some;
+        len = t.len;
+        counts = subst (HasCounts a.buckets a.counts.keys.items) (sym new.1)
+            (λ bucket within. t.counts bucket within ∙ sym (keys_over a.buckets bucket (cells_of a) key old cell had));
+        spares = t.spares ∙ sym (over_spares a.buckets (cells_of a) key old cell had) ∙ ap (spares_in_use a.buckets) (sym new.1);
+        small = t.small;
+        rooms = omega arith;
+      }
+
+  module _ (key : List ℕ) (bucket : ℕ) (here : InBucket a key bucket) where
     pub count_is : slice_index a.counts.keys.items bucket ≡ keys_in a.buckets bucket (cells_of a)
-    count_is = t.counts bucket within
+    count_is = t.counts bucket here.within
+
+    -- as code reads it
+    pub read_count : (n : ℕ) → n ≡ get_or a.counts.keys.items bucket n → n ≡ slice_index a.counts.keys.items bucket
+    read_count n is = is ∙ get_or_default_zero a.counts.keys.items bucket n (subst (λ many. bucket < many) (sym t.len) here.within)
 
     pub counted : spares_behind (slice_index a.counts.keys.items bucket) ≤ a.counts.spares
     counted =
-        let among = spares_among a.buckets bucket (cells_of a) a.buckets within in
+        let among = spares_among a.buckets bucket (cells_of a) a.buckets here.within in
         let sum = t.spares in
         let count = ap spares_behind count_is in
         omega arith
 
-    -- one more key, in this list and this number
-    module _ (cell : Cell) (new : get (cells_of a) key ≡ None) where
-      pub more_counts : (counts : List ℕ) (k : ℕ) → k ≡ slice_index a.counts.keys.items bucket + 1 → counts ≡ slice_set a.counts.keys.items bucket k → HasCounts a.buckets counts (insert (cells_of a) key cell)
-      more_counts counts k one set =
-          subst (λ xs. HasCounts a.buckets xs (insert (cells_of a) key cell)) (sym set)
-          (counts_change a.buckets a.counts.keys.items (cells_of a) (insert (cells_of a) key cell) bucket k t.len within t.counts
-          (new_here a.buckets bucket (cells_of a) key is within cell new ∙ ap (λ n. n + 1) (sym count_is) ∙ sym one)
-          (new_others a.buckets bucket (cells_of a) key is within cell new))
+    -- few keys where few spares are in use
+    pub few_keys : spares_in_use a.buckets (cells_of a) ≤ 65536 → slice_index a.counts.keys.items bucket + 1 < 2 ^ 32
+    few_keys most =
+        let behind = counted in
+        let sum = t.spares in
+        omega arith
 
-      pub more_spares : (spares k : ℕ) → k ≡ slice_index a.counts.keys.items bucket + 1 → spares + spares_behind (slice_index a.counts.keys.items bucket) ≡ a.counts.spares + spares_behind k
-          → spares ≡ spares_in_use a.buckets (insert (cells_of a) key cell)
-      more_spares spares k one set =
-          let step = new_spares a.buckets bucket (cells_of a) key is within cell new in
-          let sum = t.spares in
-          let old = ap spares_behind count_is in
-          let now = ap spares_behind one in
-          let later = ap (λ n. spares_behind (n + 1)) count_is in
-          omega arith
+    -- one key more
+    pub table_new : (cell : Cell) → get (cells_of a) key ≡ None → spares_in_use a.buckets (cells_of a) ≤ 65536
+        → (k : ℕ) → k ≡ slice_index a.counts.keys.items bucket → (counts : BucketKeys) → IsSet a.counts counts bucket (k + 1)
+        → (cells : BTreeMap (Vec ℕ) CellInCode) → Holds cells (insert (cells_of a) key cell) → IsTable (record { buckets = a.buckets; cells = cells; counts = counts; rooms = a.rooms + cell.room })
+    table_new cell none most k read counts set cells new =
+        let one = ap (λ n. n + 1) (sym count_is ∙ sym read) in
+        let step = rooms_insert (cells_of a) key cell in
+        let room = ap room_of none in
+        let sum = t.rooms in
+        let all = ap rooms new.1 in
+        let more = new_spares a.buckets bucket (cells_of a) key here.is here.within cell none in
+        let spares_sum = t.spares in
+        let spares_set = set.spares in
+        let was = ap spares_behind count_is in
+        let read_was = ap spares_behind read in
+        let later = ap spares_behind one in
+        record {
+          ordered = new.0;
+          some = t.some;
+          len = ap length set.keys ∙ length-set _ _ _ ∙ t.len;
+          counts = subst (HasCounts a.buckets counts.keys.items) (sym new.1)
+              (subst (λ xs. HasCounts a.buckets xs (insert (cells_of a) key cell)) (sym set.keys)
+              (counts_change a.buckets a.counts.keys.items (cells_of a) (insert (cells_of a) key cell) bucket (k + 1) t.len here.within t.counts
+              (new_here a.buckets bucket (cells_of a) key here.is here.within cell none ∙ one)
+              (new_others a.buckets bucket (cells_of a) key here.is here.within cell none)));
+          spares = (let it : counts.spares ≡ spares_in_use a.buckets (insert (cells_of a) key cell) = omega arith in it) ∙ ap (spares_in_use a.buckets) (sym new.1);
+          small = omega arith;
+          rooms = omega arith;
+        }
 
     -- one key less
-    module _ (old : Cell) (had : get (cells_of a) key ≡ Some old) where
-      pub less_count : slice_index a.counts.keys.items bucket ≡ keys_in a.buckets bucket (remove (cells_of a) key) + 1
-      less_count = count_is ∙ less_here a.buckets bucket (cells_of a) key is within old had
+    module _ (old : Cell) (had : get (cells_of a) key ≡ Some old) (k : ℕ) (read : k ≡ slice_index a.counts.keys.items bucket) where
+      pub less_count : k ≡ keys_in a.buckets bucket (remove (cells_of a) key) + 1
+      less_count = read ∙ count_is ∙ less_here a.buckets bucket (cells_of a) key here.is here.within old had
 
-      pub less_counts : (counts : List ℕ) (k : ℕ) → k + 1 ≡ slice_index a.counts.keys.items bucket → counts ≡ slice_set a.counts.keys.items bucket k → HasCounts a.buckets counts (remove (cells_of a) key)
-      less_counts counts k one set =
-          let left = less_count in
-          subst (λ xs. HasCounts a.buckets xs (remove (cells_of a) key)) (sym set)
-          (counts_change a.buckets a.counts.keys.items (cells_of a) (remove (cells_of a) key) bucket k t.len within t.counts
-          (omega arith)
-          (less_others a.buckets bucket (cells_of a) key is within old had))
-
-      pub spares_left : (spares k : ℕ) → k + 1 ≡ slice_index a.counts.keys.items bucket → spares + spares_behind (slice_index a.counts.keys.items bucket) ≡ a.counts.spares + spares_behind k
-          → spares ≡ spares_in_use a.buckets (remove (cells_of a) key)
-      spares_left spares k one set =
-          let step = less_spares a.buckets bucket (cells_of a) key is within old had in
-          let sum = t.spares in
+      pub table_less : (counts : BucketKeys) → IsSet a.counts counts bucket (k - 1) → (cells : BTreeMap (Vec ℕ) CellInCode) → Holds cells (remove (cells_of a) key)
+          → IsTable (record { buckets = a.buckets; cells = cells; counts = counts; rooms = a.rooms - old.room })
+      table_less counts set cells new =
+          let left : keys_in a.buckets bucket (remove (cells_of a) key) ≡ k - 1 = omega (arith, less_count) in
+          let step = rooms_remove (cells_of a) key in
+          let room = ap room_of had in
+          let sum = t.rooms in
+          let all = ap rooms new.1 in
+          let less = less_spares a.buckets bucket (cells_of a) key here.is here.within old had in
+          let spares_sum = t.spares in
+          let spares_set = set.spares in
+          let small = t.small in
           let was = ap spares_behind count_is in
-          let left : k ≡ keys_in a.buckets bucket (remove (cells_of a) key) = (let l = less_count in omega arith) in
-          let now = ap spares_behind left in
-          omega arith
+          let later = ap spares_behind left in
+          record {
+            ordered = new.0;
+            some = t.some;
+            len = ap length set.keys ∙ length-set _ _ _ ∙ t.len;
+            counts = subst (HasCounts a.buckets counts.keys.items) (sym new.1)
+                (subst (λ xs. HasCounts a.buckets xs (remove (cells_of a) key)) (sym set.keys)
+                (counts_change a.buckets a.counts.keys.items (cells_of a) (remove (cells_of a) key) bucket (k - 1) t.len here.within t.counts left
+                (less_others a.buckets bucket (cells_of a) key here.is here.within old had)));
+            spares = (let it : counts.spares ≡ spares_in_use a.buckets (remove (cells_of a) key) = omega arith in it) ∙ ap (spares_in_use a.buckets) (sym new.1);
+            small = omega arith;
+            rooms = omega arith;
+          }

@@ -55,14 +55,22 @@ placed_by Q (x ∷ xs) [] many each i d less = absurd (omega arith)
 placed_by Q (x ∷ xs) (y ∷ ys) many each zero d less = each 0 x y refl refl
 placed_by Q (x ∷ xs) (y ∷ ys) many each (suc i) d less = placed_by Q xs ys (omega arith) (λ k a b is_a is_b. each (suc k) a b is_a is_b) i d (omega arith)
 
-module _ {P : Type 0} (owner : P → OwnerState) (home : P → TableId) (options : Options) (trace lines : List TraceLine) (olds fed : List (OwnerWork P)) (f : Feeder) (feeds : List Feed)
-    (ready_owners : All (IsReadyOwner trace) olds) (shared : AreWritesOf options trace lines (map (λ (w : OwnerWork P). owner_part owner home w) olds)) (queues : HaveQueues olds fed f.senders.items)
-    (made : (p : ℕ) → jobs_for p feeds ≡ jobs_from 0 (writes_of options p lines)) (in_hand : into_iter_items f.feeds ≡ feeds) where
+-- Owners whose queues were opened for the writes of these lines, and the feeder that has the queues' senders and all jobs.
+pub record Opened {P : Type 0} (owner : P → OwnerState) (home : P → TableId) (options : Options) (trace lines : List TraceLine) (olds fed : List (OwnerWork P)) (f : Feeder) : Type 0 where
+  pub feeds : List Feed
+  pub ready_owners : All (IsReadyOwner trace) olds
+  pub shared : AreWritesOf options trace lines (map (λ (w : OwnerWork P). owner_part owner home w) olds)
+  pub queues : HaveQueues olds fed f.senders.items
+  pub made : (p : ℕ) → jobs_for p feeds ≡ jobs_from 0 (writes_of options p lines)
+  pub in_hand : into_iter_items f.feeds ≡ feeds
+
+module _ {P : Type 0} {owner : P → OwnerState} {home : P → TableId} {options : Options} {trace lines : List TraceLine} {olds fed : List (OwnerWork P)} {f : Feeder}
+    (r : Opened owner home options trace lines olds fed f) where
   abbrev part : OwnerWork P → OwnerPart
   part w = owner_part owner home w
 
   shared_at : (p : ℕ) (w : OwnerWork P) → slice_get olds p ≡ Some w → writes_at trace w.writes.items ≡ writes_of options p lines
-  shared_at p w at = shared.each p (part w) (slice_get-map part olds p ∙ ap (option_map part) at)
+  shared_at p w at = r.shared.each p (part w) (slice_get-map part olds p ∙ ap (option_map part) at)
 
   -- the owner of a place before and after its queue was opened, and the queue's sender
   record Place (p : ℕ) (new : OwnerWork P) (sender : Outbox) : Type 0 where
@@ -73,19 +81,19 @@ module _ {P : Type 0} (owner : P → OwnerState) (home : P → TableId) (options
   placed_at : (p : ℕ) (new : OwnerWork P) (sender : Outbox) → slice_get fed p ≡ Some new → slice_get f.senders.items p ≡ Some sender → Place p new sender
   placed_at p new sender is_new is_sender =
       let less = slice_get_within fed p new is_new in
-      let old = at_within olds p (omega (arith, less, queues.many)) in
-      record { old = old.0; at = old.1; is = queues.each p old.0 new sender old.1 is_new is_sender }
+      let old = at_within olds p (omega (arith, less, r.queues.many)) in
+      record { old = old.0; at = old.1; is = r.queues.each p old.0 new sender old.1 is_new is_sender }
 
   owner_place : (p : ℕ) (new : OwnerWork P) → slice_get fed p ≡ Some new → (sender : Outbox) × (slice_get f.senders.items p ≡ Some sender) × Place p new sender
   owner_place p new is_new =
       let less = slice_get_within fed p new is_new in
-      let sender = at_within f.senders.items p (omega (arith, less, queues.many, queues.senders_many)) in
+      let sender = at_within f.senders.items p (omega (arith, less, r.queues.many, r.queues.senders_many)) in
       (sender.0, sender.1, placed_at p new sender.0 is_new sender.1)
 
   pub fed_ready : All IsFedOwner fed
   fed_ready = all_from IsFedOwner fed (λ p new is_new.
       let here = (owner_place p new is_new).2 in
-      let was = all_at (IsReadyOwner trace) olds p here.old ready_owners here.at in
+      let was = all_at (IsReadyOwner trace) olds p here.old r.ready_owners here.at in
       let done_same : new.done ≡ here.old.done = ap (λ (w : OwnerWork P). w.done) here.is.same in
       record {
         one = ap (λ (j : Inbox). j.senders) here.is.jobs_are;
@@ -95,20 +103,20 @@ module _ {P : Type 0} (owner : P → OwnerState) (home : P → TableId) (options
 
   pub feeder_ready : IsValid options → AllByRecursion IsTraceLine lines → IsReadyFeeder f
   feeder_ready valid fit =
-      ready options lines feeds f valid fit made (queues.senders_many ∙ (sym (length-map olds part) ∙ shared.many)) (λ p sender is_sender.
+      ready options lines r.feeds f valid fit r.made (r.queues.senders_many ∙ (sym (length-map olds part) ∙ r.shared.many)) (λ p sender is_sender.
       let less = slice_get_within f.senders.items p sender is_sender in
-      let new = at_within fed p (omega (arith, less, queues.many, queues.senders_many)) in
+      let new = at_within fed p (omega (arith, less, r.queues.many, r.queues.senders_many)) in
       let here = placed_at p new.0 sender new.1 is_sender in
       let n : ℕ = length here.old.writes.items in (
         n,
         here.is.sender_is ∙ ap (λ (q : Queue Message). outbox q 0 n []) (sym (ap (λ (o : Outbox). o.queue) here.is.sender_is)),
         subst (λ (ws : List Write). length ws ≤ n) (shared_at p here.old here.at) (writes_at_few trace here.old.writes.items),
       ))
-      in_hand
+      r.in_hand
 
   module _ (ran : List (OwnerWork P)) (senders : List Outbox) (zip : AllZip (OwnerFed owner home) fed ran) (has_fed : HasFed f senders) where
     ran_many : length ran ≡ length olds
-    ran_many = AllZip-long (OwnerFed owner home) fed ran zip ∙ queues.many
+    ran_many = AllZip-long (OwnerFed owner home) fed ran zip ∙ r.queues.many
 
     -- what the sender of an owner's queue sent in all
     record Sent (p : ℕ) (ran_owner : OwnerWork P) (sender : Outbox) : Type 0 where
@@ -121,7 +129,7 @@ module _ {P : Type 0} (owner : P → OwnerState) (home : P → TableId) (options
     sent_at : (p : ℕ) (v : OwnerWork P) (sender : Outbox) → slice_get ran p ≡ Some v → slice_get senders p ≡ Some sender → Sent p v sender
     sent_at p v sender is_v is_sender =
         let less = slice_get_within ran p v is_v in
-        let new = at_within fed p (omega (arith, less, ran_many, queues.many)) in
+        let new = at_within fed p (omega (arith, less, ran_many, r.queues.many)) in
         let it = owner_place p new.0 new.1 in
         let place : Place p new.0 it.0 = it.2 in
         let n : ℕ = length place.old.writes.items in
@@ -132,14 +140,14 @@ module _ {P : Type 0} (owner : P → OwnerState) (home : P → TableId) (options
           place = place;
           fed_owner = zip_at (OwnerFed owner home) fed ran p new.0 v zip new.1 is_v;
           sent = has_fed.each p first sender it.1 is_sender
-              ∙ ap (λ (l : List Feed). outbox first.queue first.number first.jobs (jobs_for p l ++ kind.End first.number ∷ [])) in_hand
-              ∙ ap (λ (l : List Message). outbox first.queue first.number first.jobs (l ++ kind.End first.number ∷ [])) (made p)
+              ∙ ap (λ (l : List Feed). outbox first.queue first.number first.jobs (jobs_for p l ++ kind.End first.number ∷ [])) r.in_hand
+              ∙ ap (λ (l : List Message). outbox first.queue first.number first.jobs (l ++ kind.End first.number ∷ [])) (r.made p)
               ∙ ap (λ (o : Outbox). outbox o.queue o.number o.jobs (jobs_from 0 (writes_of options p lines) ++ kind.End o.number ∷ [])) place.is.sender_is;
         }
 
     pub may_take : MayTakeIn ran senders
     may_take = record {
-      many = has_fed.many ∙ queues.senders_many ∙ sym ran_many;
+      many = has_fed.many ∙ r.queues.senders_many ∙ sym ran_many;
       each = λ p v sender is_v is_sender.
           let it = sent_at p v sender is_v is_sender in (
             ap (λ (o : Outbox). o.queue) it.sent ∙ sym (ap (λ (j : Inbox). j.queue) it.fed_owner.replied.taken),
@@ -177,7 +185,7 @@ module _ {P : Type 0} (owner : P → OwnerState) (home : P → TableId) (options
             let sent : List Message = jobs_from 0 (writes_of options p lines) ++ kind.End 0 ∷ [] in
             let whole : sent_by 0 v.jobs.taken ≡ sent
             = subst (λ (n : ℕ). sent_by n v.jobs.taken ≡ sender.0.sent) (ap (λ (o : Outbox). o.number) it.sent) (taken.whole p v sender.0 at sender.1) ∙ ap (λ (o : Outbox). o.sent) it.sent in
-            let was = all_at (IsReadyOwner trace) olds p old ready_owners it.place.at in
+            let was = all_at (IsReadyOwner trace) olds p old r.ready_owners it.place.at in
             let none : it.new.done.list ≡ [] = ap (λ (w : OwnerWork P). w.done.list) same ∙ was.none in
             let replied : RepliesTo (owner it.new.part) (owner v.part) (writes_in sent) it.new.done v.done
             = ran_all (owner it.new.part) (owner v.part) it.new.jobs v.jobs it.new.done v.done sent (ap (λ (j : Inbox). j.taken) it.place.is.jobs_are) (ap (λ (j : Inbox). j.senders) it.place.is.jobs_are) it.fed_owner.replied whole in

@@ -16,6 +16,7 @@ use Rattle.mica_replay.specs.LineNumbers.{lines_at}
 use Rattle.mica_replay.specs.Merged.{IsMerged}
 use Rattle.mica_replay.specs.ReaderGets.{HaveRead}
 use Rattle.mica_replay.specs.Replies.{Reply}
+use Rattle.mica_replay.specs.Queues.{AreWritesOf}
 use Rattle.mica_trace.specs.RoundReport.{HasKind}
 use Rattle.mica_replay.specs.Between.{IsReplaying, HasRound}
 use Rattle.mica_replay.specs.Lending.{OwnerPart, lent_part}
@@ -26,122 +27,149 @@ use Rattle.mica_replay.proofs.ReaderSteps.{at_within}
 use Rattle.mica_replay.proofs.RoundSteps.{same_map}
 use Rattle.mica_replay.proofs.RoundShares.{shares, found_is}
 use Rattle.mica_replay.proofs.NextRound.{next_round}
+use Rattle.mica_replay.proofs.FedRound.{shared_writes}
 
 same_at : {Z : Type 0} {x y : Z} → Some x ≡ Some y → x ≡ y
 same_at is = cc
 
-module _ (options : Options) (valid : IsValid options) (trace before round : List TraceLine) (report : List Line) (owner_parts given : List OwnerPart) (reader_parts asked : List ReaderPart)
-    (few : length round < 2 ^ 32) (so_far : IsReplaying options before report (map state_of_owner owner_parts)) (free : AreFree options reader_parts)
-    (shared : IsShared options trace (gets_in before) round owner_parts given reader_parts asked) where
-  same_states : map state_of_owner given ≡ map state_of_owner owner_parts
-  same_states = same_map state_of_owner owner_parts given shared.owners.many (λ n x y is_x is_y. (shared.owners.each n x y is_x is_y).0.keeps.state)
+-- a round shared out among owners and readers, who are as the rounds before left them
+pub record ToRun : Type 0 where
+  pub options : Options
+  pub valid : IsValid options
+  pub trace : List TraceLine
+  pub before : List TraceLine
+  pub round : List TraceLine
+  pub report : List Line
+  pub owner_parts : List OwnerPart
+  pub given : List OwnerPart
+  pub reader_parts : List ReaderPart
+  pub asked : List ReaderPart
+  pub few : length round < 2 ^ 32
+  pub so_far : IsReplaying options before report (map state_of_owner owner_parts)
+  pub free : AreFree options reader_parts
+  pub shared : IsShared options trace (gets_in before) round owner_parts given reader_parts asked
 
-  given_many : length given ≡ options.partitions
-  given_many = shared.owners.many ∙ sym (length-map owner_parts state_of_owner) ∙ so_far.many
+-- what all of them have run, and the lines that the readers found
+pub record AllRan (options : Options) (trace : List TraceLine) (given : List OwnerPart) (asked : List ReaderPart) : Type 0 where
+  pub news : List OwnerPart
+  pub left_readers : List ReaderPart
+  pub run : HasRunRound trace options given news asked left_readers
+  pub found : List (List Line)
+  pub all_found : map found_of left_readers ≡ map (λ (l : List Line). Some l) found
 
-  asked_many : length asked ≡ options.readers
-  asked_many = shared.readers.many ∙ free.many
+module _ (r : ToRun) where
+  same_states : map state_of_owner r.given ≡ map state_of_owner r.owner_parts
+  same_states = same_map state_of_owner r.owner_parts r.given r.shared.owners.many (λ n x y is_x is_y. (r.shared.owners.each n x y is_x is_y).0.keeps.state)
 
-  split : IsSplit options trace (gets_in before) round given asked
+  given_many : length r.given ≡ r.options.partitions
+  given_many = r.shared.owners.many ∙ sym (length-map r.owner_parts state_of_owner) ∙ r.so_far.many
+
+  asked_many : length r.asked ≡ r.options.readers
+  asked_many = r.shared.readers.many ∙ r.free.many
+
+  split : IsSplit r.options r.trace (gets_in r.before) r.round r.given r.asked
   split = record {
     owners = given_many;
     readers = asked_many;
     writes = λ p w is.
-        let less = slice_get_within given p w is in
-        let many = shared.owners.many in
-        let old = at_within owner_parts p (omega arith) in
-        (shared.owners.each p old.0 w old.1 is).0.writes;
+        let less = slice_get_within r.given p w is in
+        let many = r.shared.owners.many in
+        let old = at_within r.owner_parts p (omega arith) in
+        (r.shared.owners.each p old.0 w old.1 is).0.writes;
     gets = λ q t is.
-        let less = slice_get_within asked q t is in
-        let many = shared.readers.many in
-        let old = at_within reader_parts q (omega arith) in
-        (shared.readers.each q old.0 t old.1 is).gets;
+        let less = slice_get_within r.asked q t is in
+        let many = r.shared.readers.many in
+        let old = at_within r.reader_parts q (omega arith) in
+        (r.shared.readers.each q old.0 t old.1 is).gets;
   }
 
-  pub are_ready : AreReady trace options given asked
+  pub are_ready : AreReady r.trace r.options r.given r.asked
   are_ready = record {
     owners = given_many;
-    readers = let some = valid.readers.0 in let many = asked_many in omega arith;
+    readers = let some = r.valid.readers.0 in let many = asked_many in omega arith;
     each_owner = λ p w is.
-        let less = slice_get_within given p w is in
-        let many = shared.owners.many in
-        let old = at_within owner_parts p (omega arith) in
-        let it = shared.owners.each p old.0 w old.1 is in
-        let at = slice_get-map state_of_owner owner_parts p ∙ ap (option_map state_of_owner) old.1 in
+        let less = slice_get_within r.given p w is in
+        let many = r.shared.owners.many in
+        let old = at_within r.owner_parts p (omega arith) in
+        let it = r.shared.owners.each p old.0 w old.1 is in
+        let at = slice_get-map state_of_owner r.owner_parts p ∙ ap (option_map state_of_owner) old.1 in
         record {
-          shape = ap (λ (o : OwnerState). o.shape) it.0.keeps.state ∙ (so_far.each p old.0.state at).shape;
+          shape = ap (λ (o : OwnerState). o.shape) it.0.keeps.state ∙ (r.so_far.each p old.0.state at).shape;
           named = it.0.named;
           none = it.1;
           room = it.2;
         };
     each_reader = λ q t is.
-        let less = slice_get_within asked q t is in
-        let many = shared.readers.many in
-        let old = at_within reader_parts q (omega arith) in
-        let it = shared.readers.each q old.0 t old.1 is in
-        record { seats = it.keeps.seats ∙ free.none q old.0 old.1; named = it.named; few = let most = it.few in omega arith };
+        let less = slice_get_within r.asked q t is in
+        let many = r.shared.readers.many in
+        let old = at_within r.reader_parts q (omega arith) in
+        let it = r.shared.readers.each q old.0 t old.1 is in
+        record { seats = it.keeps.seats ∙ r.free.none q old.0 old.1; named = it.named; few = let most = it.few in omega arith };
   }
 
+  pub given_writes : AreWritesOf r.options r.trace r.round r.given
+  given_writes = shared_writes r.options r.trace r.round (gets_in r.before) r.owner_parts r.given r.reader_parts r.asked r.shared given_many
+
   -- after all have run
-  module _ (news : List OwnerPart) (left_readers : List ReaderPart) (run : HasRunRound trace options given news asked left_readers) (found : List (List Line)) (all_found : map found_of left_readers ≡ map (λ (l : List Line). Some l) found) where
-    here : HasRound options before round (map state_of_owner given) (map state_of_owner run.ran_owners) (map state_of_owner news) run.seats (map replies_of run.ran_owners) found
-    here = shares options trace before round given news asked left_readers found split run all_found
+  module _ (after : AllRan r.options r.trace r.given r.asked) where
+    here : HasRound r.options r.before r.round (map state_of_owner r.given) (map state_of_owner after.run.ran_owners) (map state_of_owner after.news) after.run.seats (map replies_of after.run.ran_owners) after.found
+    here = shares r.options r.trace r.before r.round r.given after.news r.asked after.left_readers after.found split after.run after.all_found
 
-    same_replies : map replies_of news ≡ map replies_of run.ran_owners
-    same_replies = same_map replies_of run.ran_owners news (run.met ∙ sym run.ran) (λ n x y is_x is_y. ap (λ d. d.list) (run.meets n x y is_x is_y).done)
+    same_replies : map replies_of after.news ≡ map replies_of after.run.ran_owners
+    same_replies = same_map replies_of after.run.ran_owners after.news (after.run.met ∙ sym after.run.ran) (λ n x y is_x is_y. ap (λ d. d.list) (after.run.meets n x y is_x is_y).done)
 
-    pub are_enough : AreEnough options (gets_in before) round (map replies_of news) found
+    pub are_enough : AreEnough r.options (gets_in r.before) r.round (map replies_of after.news) after.found
     are_enough = record {
-      owners = length-map news replies_of ∙ run.met ∙ given_many;
+      owners = length-map after.news replies_of ∙ after.run.met ∙ given_many;
       readers = here.readers;
       writes = λ p replies is.
-          let is_done : slice_get (map replies_of run.ran_owners) p ≡ Some replies = subst (λ (l : List (List Reply)). slice_get l p ≡ Some replies) same_replies is in
-          let less = slice_get_within (map replies_of run.ran_owners) p replies is_done in
-          let one = length-map run.ran_owners replies_of in
-          let two = run.ran in
-          let three = length-map given state_of_owner in
-          let four = length-map run.ran_owners state_of_owner in
-          let old = at_within (map state_of_owner given) p (omega arith) in
-          let ran = at_within (map state_of_owner run.ran_owners) p (omega arith) in
+          let is_done : slice_get (map replies_of after.run.ran_owners) p ≡ Some replies = subst (λ (l : List (List Reply)). slice_get l p ≡ Some replies) same_replies is in
+          let less = slice_get_within (map replies_of after.run.ran_owners) p replies is_done in
+          let one = length-map after.run.ran_owners replies_of in
+          let two = after.run.ran in
+          let three = length-map r.given state_of_owner in
+          let four = length-map after.run.ran_owners state_of_owner in
+          let old = at_within (map state_of_owner r.given) p (omega arith) in
+          let ran = at_within (map state_of_owner after.run.ran_owners) p (omega arith) in
           (here.writes p old.0 ran.0 replies old.1 ran.1 is_done).many;
       gets = λ q lines is.
-          let less = slice_get_within found q lines is in
+          let less = slice_get_within after.found q lines is in
           let readers = here.readers in
           let many = asked_many in
-          let one = run.seated in
-          let two = run.left in
-          let own = at_within run.seats q (omega arith) in
-          let turn = at_within asked q (omega arith) in
-          let new = at_within left_readers q (omega arith) in
-          let turned = run.read q turn.0 new.0 own.0 turn.1 new.1 own.1 in
-          let found_here : new.0.found ≡ Some lines = same_at (sym (slice_get-map found_of left_readers q ∙ ap (option_map found_of) new.1) ∙ ap (λ l. slice_get l q) all_found
-          ∙ (slice_get-map (λ (l : List Line). Some l) found q ∙ ap (option_map (λ (l : List Line). Some l)) is)) in
-          let read = found_is new.0.found (λ (l : List Line). HaveRead options (lines_at trace turn.0.gets) l (map lent_part given) own.0) lines found_here turned.read in
+          let one = after.run.seated in
+          let two = after.run.left in
+          let own = at_within after.run.seats q (omega arith) in
+          let turn = at_within r.asked q (omega arith) in
+          let new = at_within after.left_readers q (omega arith) in
+          let turned = after.run.read q turn.0 new.0 own.0 turn.1 new.1 own.1 in
+          let found_here : new.0.found ≡ Some lines = same_at (sym (slice_get-map found_of after.left_readers q ∙ ap (option_map found_of) new.1) ∙ ap (λ l. slice_get l q) after.all_found
+          ∙ (slice_get-map (λ (l : List Line). Some l) after.found q ∙ ap (option_map (λ (l : List Line). Some l)) is)) in
+          let read = found_is new.0.found (λ (l : List Line). HaveRead r.options (lines_at r.trace turn.0.gets) l (map lent_part r.given) own.0) lines found_here turned.read in
           subst (λ (l : List TraceLine). AllZip HasKind l lines) (split.gets q turn.0 turn.1) read.lines;
     }
 
-    pub goes_next : EndsRound before → IsOneRound round → AllByRecursion IsTraceLine before → AllByRecursion IsTraceLine round → (now : List Line) → HasMerged options (gets_in before) round report now (map replies_of news) found
-        → IsReplaying options (before ++ round) now (map state_of_owner news)
+    pub goes_next : EndsRound r.before → IsOneRound r.round → AllByRecursion IsTraceLine r.before → AllByRecursion IsTraceLine r.round → (now : List Line) → HasMerged r.options (gets_in r.before) r.round r.report now (map replies_of after.news) after.found
+        → IsReplaying r.options (r.before ++ r.round) now (map state_of_owner after.news)
     goes_next ended one lines_before lines_here now merged =
-        let from_given = subst (λ (l : List OwnerState). IsReplaying options before report l) (sym same_states) so_far in
-        let by_rans = subst (λ (l : List (List Reply)). IsMerged options (gets_in before) round merged.printed l found) same_replies merged.merged in
-        subst (λ (l : List Line). IsReplaying options (before ++ round) l (map state_of_owner news)) (sym merged.report)
-        (next_round options valid before round report merged.printed (map state_of_owner given) (map state_of_owner run.ran_owners) (map state_of_owner news) run.seats (map replies_of run.ran_owners) found
+        let from_given = subst (λ (l : List OwnerState). IsReplaying r.options r.before r.report l) (sym same_states) r.so_far in
+        let by_rans = subst (λ (l : List (List Reply)). IsMerged r.options (gets_in r.before) r.round merged.printed l after.found) same_replies merged.merged in
+        subst (λ (l : List Line). IsReplaying r.options (r.before ++ r.round) l (map state_of_owner after.news)) (sym merged.report)
+        (next_round r.options r.valid r.before r.round r.report merged.printed (map state_of_owner r.given) (map state_of_owner after.run.ran_owners) (map state_of_owner after.news) after.run.seats (map replies_of after.run.ran_owners) after.found
         from_given ended one lines_before lines_here here by_rans)
 
     -- the readers are without seats again, and stay so
-    pub free_again : (kept : List ReaderPart) → Each (λ (_ : ℕ). KeepsGets) left_readers kept → AreFree options kept
+    pub free_again : (kept : List ReaderPart) → Each (λ (_ : ℕ). KeepsGets) after.left_readers kept → AreFree r.options kept
     free_again kept keeps = record {
-      many = keeps.many ∙ run.left ∙ asked_many;
+      many = keeps.many ∙ after.run.left ∙ asked_many;
       none = λ q t is.
           let less = slice_get_within kept q t is in
           let one = keeps.many in
-          let two = run.left in
-          let three = run.seated in
-          let new = at_within left_readers q (omega arith) in
-          let old = at_within asked q (omega arith) in
-          let own = at_within run.seats q (omega arith) in
-          (keeps.each q new.0 t new.1 is).keeps.seats ∙ (run.read q old.0 new.0 own.0 old.1 new.1 own.1).none;
+          let two = after.run.left in
+          let three = after.run.seated in
+          let new = at_within after.left_readers q (omega arith) in
+          let old = at_within r.asked q (omega arith) in
+          let own = at_within after.run.seats q (omega arith) in
+          (keeps.each q new.0 t new.1 is).keeps.seats ∙ (after.run.read q old.0 new.0 own.0 old.1 new.1 own.1).none;
     }
 
 -- Lists that are cut in two
@@ -184,5 +212,5 @@ gets_few (line ∷ lines) =
     at_most_one true = omega arith
     at_most_one false = omega arith
 
-pub gets_join : (xs ys : List TraceLine) → gets_in (xs ++ ys) ≡ gets_in xs + gets_in ys
-gets_join xs ys = sum_by-append (λ l. cond (is_get l) 1 0) xs ys
+pub gets_join : (from to : ℕ) (xs : List TraceLine) → from ≤ to → gets_in (take to xs) ≡ gets_in (take from xs) + gets_in (take (to - from) (drop from xs))
+gets_join from to xs low = ap gets_in (sym (take_join from to xs low)) ∙ sum_by-append (λ l. cond (is_get l) 1 0) (take from xs) (take (to - from) (drop from xs))

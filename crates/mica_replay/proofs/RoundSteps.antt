@@ -1,5 +1,5 @@
 -- A round from the lending of its seats to the last meeting.
-use Rattle.std.proofs.Common.{◌≡◌, ℕ, zero, suc, ◌+◌, ◌<◌, ◌≤◌, ◌^◌, inl, inr, List, [], ◌∷◌, ◌++◌, length, map, get_or, slice_get, slice_set, slice_index_or, Option, Some, refl, sym, ap, ◌∙◌, subst, arith, All, IfSome, ◌==◌, ◌≢◌, true, false, eq-eqb, eqb-true, true≢false}
+use Rattle.std.proofs.Common.{◌≡◌, ℕ, zero, suc, ◌+◌, ◌<◌, ◌≤◌, ◌^◌, inl, inr, List, [], ◌∷◌, ◌++◌, length, map, get_or, slice_get, slice_set, slice_index_or, Option, Some, refl, sym, ap, ◌∙◌, subst, arith, All, IfSome, Result, Ok, Err, OnErr, ◌==◌, ◌≢◌, true, false, eq-eqb, eqb-true, true≢false}
 use Rattle.std.specs.Prelude.{option_map, option_and_then}
 use Rattle.std.proofs.lemmas.List.{map-set, length-map, length-set}
 use Rattle.std.proofs.lemmas.Option.{slice_get_read, slice_get-map, slice_get_within, get_or_from_slice_get}
@@ -69,6 +69,10 @@ up_all R n olds news all so_far = record {
 -- an element of a list that is seen through a function
 pub seen_at : {X Y : Type 0} (f : X → Y) (items : List X) (n : ℕ) (x : X) → n < length items → x ≡ get_or items n x → slice_get (map f items) n ≡ Some (f x)
 seen_at f items n x less is = slice_get-map f items n ∙ ap (option_map f) (slice_get_read items (length items) n x refl less is)
+
+-- as many elements as there are seen
+pub seen_many : {X Y : Type 0} (f : X → Y) (olds news : List X) → length (map f news) ≡ length (map f olds) → length news ≡ length olds
+seen_many f olds news same = sym (length-map news f) ∙ same ∙ length-map olds f
 
 pub up_seen : {X Y : Type 0} (f : X → Y) (R : Y → Y → Type 0) (olds : List Y) (items : List X) (q : ℕ) (old new : X) → UpTo R q olds (map f items) → q < length items → old ≡ get_or items q old
     → R (f old) (f new) → UpTo R (q + 1) olds (map f (slice_set items q new))
@@ -305,122 +309,147 @@ module _ {P R : Type 0} (owner : P → OwnerState) (home : P → TableId) (reade
         few = subst (λ (l : List ℕ). length l < 2 ^ 32) (sym it.2.gets) was.few;
       })
 
-  -- after all have run
-  module _ (owners ran_owners : List (OwnerWork P)) (lents mids : List (ReaderWork R)) (n : ℕ) (all : length lents ≤ n) (same : map f owners ≡ owner_parts) (lent : UpTo (IsLent owner_parts) n reader_parts (map t lents))
-      (owned : OwnersRan owner home trace owners ran_owners) (reading : ReadersRan reader at trace options lents mids) where
-    abbrev given : List (List ReaderState)
-    given = map (λ (x : ReaderPart). x.seats) (map t mids)
+-- Owners have run, and readers have read with all that the owners had lent them.
+pub record Ran {P R : Type 0} (owner : P → OwnerState) (home : P → TableId) (reader : R → ReaderState) (at : R → TableId) (trace : List TraceLine) (options : Options)
+    (owner_parts : List OwnerPart) (reader_parts : List ReaderPart) : Type 0 where
+  pub ready : AreReady trace options owner_parts reader_parts
+  pub owners : List (OwnerWork P)
+  pub ran_owners : List (OwnerWork P)
+  pub lents : List (ReaderWork R)
+  pub mids : List (ReaderWork R)
+  pub count : ℕ
+  pub all : length lents ≤ count
+  pub same : map (owner_part owner home) owners ≡ owner_parts
+  pub lent : UpTo (IsLent owner_parts) count reader_parts (map (reader_part reader at) lents)
+  pub owned : OwnersRan owner home trace owners ran_owners
+  pub reading : ReadersRan reader at trace options lents mids
 
-    answered : (q : ℕ) (old mid : ReaderPart) → slice_get reader_parts q ≡ Some old → slice_get (map t mids) q ≡ Some mid → HasAnswered trace options owner_parts old mid
-    answered q old mid is_old is_mid =
-        let back = seen_back t mids q mid is_mid in
-        let many = reading.0 in
-        let less = slice_get_within mids q back.0 back.1 in
-        let was = at_within lents q (omega arith) in
-        let one = at_each (ReaderRan reader at trace options) lents mids reading.0 reading.1 q was.0 back.0 was.1 back.1 in
-        let it = lent_at lents n all lent q (t was.0) (slice_get-map t lents q ∙ ap (option_map t) was.1) in
-        let same_old : it.0 ≡ old = same_at (sym it.1 ∙ is_old) in
-        subst (HasAnswered trace options owner_parts old) back.2 (subst (λ (x : ReaderPart). HasAnswered trace options owner_parts x (t back.0)) same_old (record {
-          many = sym (length-map back.0.seats.items (λ s. at s) ∙ sym (length-map back.0.seats.items (λ s. reader s))) ∙ ap length (one.at_home ∙ it.2.tables) ∙ length-map owner_parts table_in;
-          tables = one.at_home ∙ it.2.tables;
-          worker = one.worker ∙ it.2.worker;
-          gets = ap (λ g. g.items) one.gets ∙ it.2.gets;
-          read = subst (λ (l : List ℕ). IfSome back.0.found (λ found. HaveRead options (lines_at trace l) found (map lent_part owner_parts) (map reader back.0.seats.items))) it.2.gets
-              (subst (λ (l : List ReaderState). IfSome back.0.found (λ found. HaveRead options (lines_at trace was.0.gets.items) found l (map reader back.0.seats.items))) it.2.seats one.found);
-        }))
+module _ {P R : Type 0} {owner : P → OwnerState} {home : P → TableId} {reader : R → ReaderState} {at : R → TableId} {trace : List TraceLine} {options : Options}
+    {owner_parts : List OwnerPart} {reader_parts : List ReaderPart} (r : Ran owner home reader at trace options owner_parts reader_parts) where
+  abbrev owner_seen : OwnerWork P → OwnerPart
+  owner_seen w = owner_part owner home w
 
-    ran_same : (p : ℕ) (old ran : OwnerPart) → slice_get owner_parts p ≡ Some old → slice_get (map f ran_owners) p ≡ Some ran → HasWritten old.state ran.state (writes_at trace old.writes) ran.done.list
-        × (ran.table ≡ old.table) × (ran.worker ≡ old.worker) × (ran.writes ≡ old.writes)
-    ran_same p old ran is_old is_ran =
-        let back = seen_back f ran_owners p ran is_ran in
-        let first = seen_back f owners p old (subst (λ (ws : List OwnerPart). slice_get ws p ≡ Some old) (sym same) is_old) in
-        let one = at_each (OwnerRan owner home trace) owners ran_owners owned.0 owned.1 p first.0 back.0 first.1 back.1 in
-        let here : HasWritten (owner first.0.part) (owner back.0.part) (writes_at trace first.0.writes.items) back.0.done.list × (home back.0.part ≡ home first.0.part) × (back.0.worker ≡ first.0.worker) × (back.0.writes.items ≡ first.0.writes.items) = (one.written, one.at_home, one.worker, ap (λ w. w.items) one.writes) in
-        subst (λ (w : OwnerPart). HasWritten old.state w.state (writes_at trace old.writes) w.done.list × (w.table ≡ old.table) × (w.worker ≡ old.worker) × (w.writes ≡ old.writes)) back.2
-        (subst (λ (w : OwnerPart). HasWritten w.state (owner back.0.part) (writes_at trace w.writes) back.0.done.list × (home back.0.part ≡ w.table) × (back.0.worker ≡ w.worker) × (back.0.writes.items ≡ w.writes)) first.2 here)
+  abbrev reader_seen : ReaderWork R → ReaderPart
+  reader_seen w = reader_part reader at w
 
-    ran_many : length (map f ran_owners) ≡ length owner_parts
-    ran_many = length-map ran_owners f ∙ owned.0 ∙ sym (length-map owners f) ∙ ap length same
+  abbrev given : List (List ReaderState)
+  given = map (λ (x : ReaderPart). x.seats) (map reader_seen r.mids)
 
-    tables_now : (q : ℕ) (now : List (OwnerWork P)) → HaveMetTo q given (map f ran_owners) (map f now) → map table_in (map f now) ≡ map table_in owner_parts
-    tables_now q now met =
-        same_map table_in (map f ran_owners) (map f now) met.many (λ n x y is_x is_y. (met.each n x y is_x is_y).table)
-        ∙ same_map table_in owner_parts (map f ran_owners) ran_many (λ n x y is_x is_y. (ran_same n x y is_x is_y).1)
+  answered : (q : ℕ) (old mid : ReaderPart) → slice_get reader_parts q ≡ Some old → slice_get (map reader_seen r.mids) q ≡ Some mid → HasAnswered trace options owner_parts old mid
+  answered q old mid is_old is_mid =
+      let back = seen_back reader_seen r.mids q mid is_mid in
+      let many = r.reading.0 in
+      let less = slice_get_within r.mids q back.0 back.1 in
+      let was = at_within r.lents q (omega arith) in
+      let one = at_each (ReaderRan reader at trace options) r.lents r.mids r.reading.0 r.reading.1 q was.0 back.0 was.1 back.1 in
+      let it = lent_at owner home reader at trace options owner_parts reader_parts r.ready r.lents r.count r.all r.lent q (reader_seen was.0) (slice_get-map reader_seen r.lents q ∙ ap (option_map reader_seen) was.1) in
+      let same_old : it.0 ≡ old = same_at (sym it.1 ∙ is_old) in
+      subst (HasAnswered trace options owner_parts old) back.2 (subst (λ (x : ReaderPart). HasAnswered trace options owner_parts x (reader_seen back.0)) same_old (record {
+        many = sym (length-map back.0.seats.items (λ s. at s) ∙ sym (length-map back.0.seats.items (λ s. reader s))) ∙ ap length (one.at_home ∙ it.2.tables) ∙ length-map owner_parts table_in;
+        tables = one.at_home ∙ it.2.tables;
+        worker = one.worker ∙ it.2.worker;
+        gets = ap (λ g. g.items) one.gets ∙ it.2.gets;
+        read = subst (λ (l : List ℕ). IfSome back.0.found (λ found. HaveRead options (lines_at trace l) found (map lent_part owner_parts) (map reader back.0.seats.items))) it.2.gets
+            (subst (λ (l : List ReaderState). IfSome back.0.found (λ found. HaveRead options (lines_at trace was.0.gets.items) found l (map reader back.0.seats.items))) it.2.seats one.found);
+      }))
 
-    -- the reader at a place that has not yet given its seats back
-    mid_at : (q : ℕ) (readers : List (ReaderWork R)) (old : ReaderWork R) → UpTo HasLeft q (map t mids) (map t readers) → q < length readers → old ≡ get_or readers q old → slice_get (map t mids) q ≡ Some (t old)
-    mid_at q readers old left less is =
-        let many = left.many in
-        let long = length-map readers t in
-        let one = at_within (map t mids) q (omega arith) in
-        let was = left.later q one.0 (t old) (omega arith) one.1 (seen_at t readers q old less is) in
-        one.1 ∙ ap (λ (x : ReaderPart). Some x) (sym was)
+  ran_same : (p : ℕ) (old ran : OwnerPart) → slice_get owner_parts p ≡ Some old → slice_get (map owner_seen r.ran_owners) p ≡ Some ran → HasWritten old.state ran.state (writes_at trace old.writes) ran.done.list
+      × (ran.table ≡ old.table) × (ran.worker ≡ old.worker) × (ran.writes ≡ old.writes)
+  ran_same p old ran is_old is_ran =
+      let back = seen_back owner_seen r.ran_owners p ran is_ran in
+      let first = seen_back owner_seen r.owners p old (subst (λ (ws : List OwnerPart). slice_get ws p ≡ Some old) (sym r.same) is_old) in
+      let one = at_each (OwnerRan owner home trace) r.owners r.ran_owners r.owned.0 r.owned.1 p first.0 back.0 first.1 back.1 in
+      let here : HasWritten (owner first.0.part) (owner back.0.part) (writes_at trace first.0.writes.items) back.0.done.list × (home back.0.part ≡ home first.0.part) × (back.0.worker ≡ first.0.worker) × (back.0.writes.items ≡ first.0.writes.items) = (one.written, one.at_home, one.worker, ap (λ w. w.items) one.writes) in
+      subst (λ (w : OwnerPart). HasWritten old.state w.state (writes_at trace old.writes) w.done.list × (w.table ≡ old.table) × (w.worker ≡ old.worker) × (w.writes ≡ old.writes)) back.2
+      (subst (λ (w : OwnerPart). HasWritten w.state (owner back.0.part) (writes_at trace w.writes) back.0.done.list × (home back.0.part ≡ w.table) × (back.0.worker ≡ w.worker) × (back.0.writes.items ≡ w.writes)) first.2 here)
 
-    turn_at : (q : ℕ) (mid : ReaderPart) → slice_get (map t mids) q ≡ Some mid → (old : ReaderPart) × (slice_get reader_parts q ≡ Some old)
-    turn_at q mid is =
-        let less = slice_get_within (map t mids) q mid is in
-        let long = length-map mids t in
-        let many = reading.0 in
-        let count = length-map lents t in
-        let first = lent.many in
-        at_within reader_parts q (omega arith)
+  ran_many : length (map owner_seen r.ran_owners) ≡ length owner_parts
+  ran_many = length-map r.ran_owners owner_seen ∙ r.owned.0 ∙ sym (length-map r.owners owner_seen) ∙ ap length r.same
 
-    pub homes_same : (q : ℕ) (readers : List (ReaderWork R)) (now : List (OwnerWork P)) (old : ReaderWork R) → UpTo HasLeft q (map t mids) (map t readers) → HaveMetTo q given (map f ran_owners) (map f now)
-        → q < length readers → old ≡ get_or readers q old → map at old.seats.items ≡ map table_in (map f now)
-    homes_same q readers now old left met less is =
-        let mid = mid_at q readers old left less is in
-        let first = turn_at q (t old) mid in
-        (answered q first.0 (t old) first.1 mid).tables ∙ sym (tables_now q now met)
+  tables_now : (q : ℕ) (now : List (OwnerWork P)) → HaveMetTo q given (map owner_seen r.ran_owners) (map owner_seen now) → map table_in (map owner_seen now) ≡ map table_in owner_parts
+  tables_now q now met =
+      same_map table_in (map owner_seen r.ran_owners) (map owner_seen now) met.many (λ n x y is_x is_y. (met.each n x y is_x is_y).table)
+      ∙ same_map table_in owner_parts (map owner_seen r.ran_owners) ran_many (λ n x y is_x is_y. (ran_same n x y is_x is_y).1)
 
-    pub meets_more : (q : ℕ) (readers : List (ReaderWork R)) (now later : List (OwnerWork P)) (old : ReaderWork R) → UpTo HasLeft q (map t mids) (map t readers) → HaveMetTo q given (map f ran_owners) (map f now)
-        → q < length readers → old ≡ get_or readers q old → HaveMet (map reader old.seats.items) (map f now) (map f later) → HaveMetTo (q + 1) given (map f ran_owners) (map f later)
-    meets_more q readers now later old left met less is more =
-        let mid = mid_at q readers old left less is in
-        let first = turn_at q (t old) mid in
-        let it = answered q first.0 (t old) first.1 mid in
-        let given_here : slice_get given q ≡ Some (t old).seats = slice_get-map (λ (x : ReaderPart). x.seats) (map t mids) q ∙ ap (option_map (λ (x : ReaderPart). x.seats)) mid in
-        met_more q given (map f ran_owners) (map f now) (map f later) (t old).seats met given_here (it.many ∙ sym ran_many) more
+  -- the reader at a place that has not yet given its seats back
+  mid_at : (q : ℕ) (readers : List (ReaderWork R)) (old : ReaderWork R) → UpTo HasLeft q (map reader_seen r.mids) (map reader_seen readers) → q < length readers → old ≡ get_or readers q old → slice_get (map reader_seen r.mids) q ≡ Some (reader_seen old)
+  mid_at q readers old left less is =
+      let many = left.many in
+      let long = length-map readers reader_seen in
+      let one = at_within (map reader_seen r.mids) q (omega arith) in
+      let was = left.later q one.0 (reader_seen old) (omega arith) one.1 (seen_at reader_seen readers q old less is) in
+      one.1 ∙ ap (λ (x : ReaderPart). Some x) (sym was)
 
-    pub leaves_one : (q : ℕ) (readers : List (ReaderWork R)) (old new : ReaderWork R) → UpTo HasLeft q (map t mids) (map t readers) → q < length readers → old ≡ get_or readers q old → HasLeft (t old) (t new)
-        → UpTo HasLeft (q + 1) (map t mids) (map t (slice_set readers q new))
-    leaves_one q readers old new left less is one =
-        subst (UpTo HasLeft (q + 1) (map t mids)) (sym (map-set t readers q new)) (up_one HasLeft q (map t mids) (map t readers) (t old) (t new) left (seen_at t readers q old less is) one)
+  turn_at : (q : ℕ) (mid : ReaderPart) → slice_get (map reader_seen r.mids) q ≡ Some mid → (old : ReaderPart) × (slice_get reader_parts q ≡ Some old)
+  turn_at q mid is =
+      let less = slice_get_within (map reader_seen r.mids) q mid is in
+      let long = length-map r.mids reader_seen in
+      let many = r.reading.0 in
+      let count = length-map r.lents reader_seen in
+      let first = r.lent.many in
+      at_within reader_parts q (omega arith)
 
-    pub ran_round : (q : ℕ) (readers : List (ReaderWork R)) (now : List (OwnerWork P)) → length readers ≡ q → UpTo HasLeft q (map t mids) (map t readers) → HaveMetTo q given (map f ran_owners) (map f now)
-        → HasRunRound trace options owner_parts (map f now) reader_parts (map t readers)
-    ran_round q readers now all_left left met =
-        let count = left.many in
-        let long = length-map readers t in
-        let long_mids = length-map mids t in
-        let long_lents = length-map lents t in
-        let many = reading.0 in
-        let first = lent.many in
-        let long_given = length-map (map t mids) (λ (x : ReaderPart). x.seats) in
-        let readers_many : q ≡ length reader_parts = omega arith in
-        record {
-          ran_owners = map f ran_owners;
-          seats = given;
-          ran = ran_many;
-          met = met.many ∙ ran_many;
-          seated = omega arith;
-          left = omega arith;
-          wrote = ran_same;
-          read = λ n old new own is_old is_new is_his.
-              let back = seen_back (λ (x : ReaderPart). x.seats) (map t mids) n own is_his in
-              let it = answered n old back.0 is_old back.1 in
-              let low = slice_get_within (map t readers) n new is_new in
-              let gone = left.done n back.0 new (omega arith) back.1 is_new in
-              record {
-                many = ap length (sym back.2) ∙ it.many;
-                none = gone.seats;
-                gets = gone.gets ∙ it.gets;
-                worker = gone.worker ∙ it.worker;
-                read = subst (λ (o : Option (List Line)). IfSome o (λ lines. HaveRead options (lines_at trace old.gets) lines (map lent_part owner_parts) own)) (sym gone.found)
-                    (subst (λ (l : List ReaderState). IfSome back.0.found (λ lines. HaveRead options (lines_at trace old.gets) lines (map lent_part owner_parts) l)) back.2 it.read);
-              };
-          meets = subst (λ (n : ℕ). (p : ℕ) (ran new : OwnerPart) → slice_get (map f ran_owners) p ≡ Some ran → slice_get (map f now) p ≡ Some new → HasMetReaders n given p ran new) readers_many
-              (met_everybody given q (map f ran_owners) (map f now) (omega arith) met);
-        }
+  pub homes_same : (q : ℕ) (readers : List (ReaderWork R)) (now : List (OwnerWork P)) (old : ReaderWork R) → UpTo HasLeft q (map reader_seen r.mids) (map reader_seen readers) → HaveMetTo q given (map owner_seen r.ran_owners) (map owner_seen now)
+      → q < length readers → old ≡ get_or readers q old → map at old.seats.items ≡ map table_in (map owner_seen now)
+  homes_same q readers now old left met less is =
+      let mid = mid_at q readers old left less is in
+      let first = turn_at q (reader_seen old) mid in
+      (answered q first.0 (reader_seen old) first.1 mid).tables ∙ sym (tables_now q now met)
+
+  pub meets_more : (q : ℕ) (readers : List (ReaderWork R)) (now later : List (OwnerWork P)) (old : ReaderWork R) → UpTo HasLeft q (map reader_seen r.mids) (map reader_seen readers) → HaveMetTo q given (map owner_seen r.ran_owners) (map owner_seen now)
+      → q < length readers → old ≡ get_or readers q old → HaveMet (map reader old.seats.items) (map owner_seen now) (map owner_seen later) → HaveMetTo (q + 1) given (map owner_seen r.ran_owners) (map owner_seen later)
+  meets_more q readers now later old left met less is more =
+      let mid = mid_at q readers old left less is in
+      let first = turn_at q (reader_seen old) mid in
+      let it = answered q first.0 (reader_seen old) first.1 mid in
+      let given_here : slice_get given q ≡ Some (reader_seen old).seats = slice_get-map (λ (x : ReaderPart). x.seats) (map reader_seen r.mids) q ∙ ap (option_map (λ (x : ReaderPart). x.seats)) mid in
+      met_more q given (map owner_seen r.ran_owners) (map owner_seen now) (map owner_seen later) (reader_seen old).seats met given_here (it.many ∙ sym ran_many) more
+
+  pub leaves_one : (q : ℕ) (readers : List (ReaderWork R)) (old new : ReaderWork R) → UpTo HasLeft q (map reader_seen r.mids) (map reader_seen readers) → q < length readers → old ≡ get_or readers q old → HasLeft (reader_seen old) (reader_seen new)
+      → UpTo HasLeft (q + 1) (map reader_seen r.mids) (map reader_seen (slice_set readers q new))
+  leaves_one q readers old new left less is one =
+      subst (UpTo HasLeft (q + 1) (map reader_seen r.mids)) (sym (map-set reader_seen readers q new)) (up_one HasLeft q (map reader_seen r.mids) (map reader_seen readers) (reader_seen old) (reader_seen new) left (seen_at reader_seen readers q old less is) one)
+
+  pub ran_round : (q : ℕ) (readers : List (ReaderWork R)) (now : List (OwnerWork P)) → length readers ≡ q → UpTo HasLeft q (map reader_seen r.mids) (map reader_seen readers) → HaveMetTo q given (map owner_seen r.ran_owners) (map owner_seen now)
+      → HasRunRound trace options owner_parts (map owner_seen now) reader_parts (map reader_seen readers)
+  ran_round q readers now all_left left met =
+      let count = left.many in
+      let long = length-map readers reader_seen in
+      let long_mids = length-map r.mids reader_seen in
+      let long_lents = length-map r.lents reader_seen in
+      let many = r.reading.0 in
+      let first = r.lent.many in
+      let long_given = length-map (map reader_seen r.mids) (λ (x : ReaderPart). x.seats) in
+      let readers_many : q ≡ length reader_parts = omega arith in
+      record {
+        ran_owners = map owner_seen r.ran_owners;
+        seats = given;
+        ran = ran_many;
+        met = met.many ∙ ran_many;
+        seated = omega arith;
+        left = omega arith;
+        wrote = ran_same;
+        read = λ n old new own is_old is_new is_his.
+            let back = seen_back (λ (x : ReaderPart). x.seats) (map reader_seen r.mids) n own is_his in
+            let it = answered n old back.0 is_old back.1 in
+            let low = slice_get_within (map reader_seen readers) n new is_new in
+            let gone = left.done n back.0 new (omega arith) back.1 is_new in
+            record {
+              many = ap length (sym back.2) ∙ it.many;
+              none = gone.seats;
+              gets = gone.gets ∙ it.gets;
+              worker = gone.worker ∙ it.worker;
+              read = subst (λ (o : Option (List Line)). IfSome o (λ lines. HaveRead options (lines_at trace old.gets) lines (map lent_part owner_parts) own)) (sym gone.found)
+                  (subst (λ (l : List ReaderState). IfSome back.0.found (λ lines. HaveRead options (lines_at trace old.gets) lines (map lent_part owner_parts) l)) back.2 it.read);
+            };
+        meets = subst (λ (n : ℕ). (p : ℕ) (ran new : OwnerPart) → slice_get (map owner_seen r.ran_owners) p ≡ Some ran → slice_get (map owner_seen now) p ≡ Some new → HasMetReaders n given p ran new) readers_many
+            (met_everybody given q (map owner_seen r.ran_owners) (map owner_seen now) (omega arith) met);
+      }
+
+-- what holds anyway holds where there is an error
+pub on_err_any : {T E P : Type 0} (r : Result T E) → P → OnErr r P
+on_err_any (Ok x) p = tt
+on_err_any (Err e) p = p
 
 -- what is seen of each element is seen of one more
 pub each_more : {X Y : Type 0} (f : X → Y) (Q : Y → Type 0) (items : List X) (x : X) → ((i : ℕ) (y : Y) → slice_get (map f items) i ≡ Some y → Q y) → Q (f x)

@@ -1,4 +1,4 @@
--- The remainder by a power of two is a mask.
+-- Powers of two, by the one binary digit that is set: the remainder by one is a mask.
 use Rattle.std.proofs.Common.{◌≡◌, ℕ, zero, suc, ◌-◌, ◌/◌, ◌%◌, ◌≤◌, true, bit_and, sym, subst, arith, inl, inr}
 use Rattle.std.proofs.lemmas.Bool.{cases_lt}
 use Rattle.std.proofs.lemmas.Nat.{and_mask, zero_from_ones, ones_le_self}
@@ -9,7 +9,7 @@ use lib.Count.{ones_step}
 use borrow.Author.Tests.{eqb-true}
 
 -- a number with one binary digit set is a power of two
-power_of_one_digit : (d n : ℕ) → n ≤ d → count_ones n ≡ 1 → IsPowerOfTwo n
+pub power_of_one_digit : (d n : ℕ) → n ≤ d → count_ones n ≡ 1 → IsPowerOfTwo n
 power_of_one_digit zero n few one = absurd (omega (arith, ones_le_self n))
 power_of_one_digit (suc d) n few one =
     let step = ones_step n in

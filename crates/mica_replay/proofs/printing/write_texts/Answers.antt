@@ -2,12 +2,9 @@ use Rattle.std.proofs.Common.{◌≡◌, ◌∙◌, Result, Ok, Err, OnErr, Some
 use Rattle.std.proofs.lemmas.Option.{slice_get_read}
 use Rattle.std.proofs.KnownBytes.{Appends-trans}
 use Rattle.std.specs.Io.KnownBytes.{Appends}
+use Rattle.mica_replay.proofs.RoundSteps.{on_err_any}
 use Rattle.mica_replay.proofs.TextParts.{part_written}
 use Rattle.mica_replay.proofs.printing.write_texts.Goals as goal
-
-on_err_any : {T E P : Type 0} (r : Result T E) → P → OnErr r P
-on_err_any (Ok x) p = tt
-on_err_any (Err e) p = p
 
 pub returns-in_err-write_all-clause-prefix : goal.returns-in_err-write_all-clause-prefix
 returns-in_err-write_all-clause-prefix g c =

@@ -4,17 +4,14 @@ use Rattle.mica_replay.specs.declared.worker.OwnerWork.{OwnerWork}
 use Rattle.mica_replay.specs.Replies.{Replies}
 use Rattle.mica_replay.specs.Lending.{owner_part}
 use Rattle.mica_replay.specs.Shares.{HasRoom}
-use Rattle.mica_replay.proofs.RoundSteps.{up_seen, up_all, not_yet}
+use Rattle.mica_replay.proofs.RoundSteps.{seen_many, up_seen, up_all, not_yet}
 use Rattle.mica_replay.proofs.sharing.make_room.Goals as goal
 
 pub overflow_cast-len : goal.overflow_cast-len
 overflow_cast-len g c =
     let f = λ (w : OwnerWork g.row.P.Denot). owner_part g.P.Partition.owner g.P.Partition.home w in
     let old = c.index_mut-owner.result.now in
-    let long = length-map c.loop-p.owners.items f in
-    let long_was = length-map c.args.owners.now.items f in
-    let many = c.loop-p.invariant.so_far.many in
-    let here = not_yet f HasRoom _ c.loop-p.owners.items c.loop-p.p old c.loop-p.invariant.so_far (omega (arith, c.loop-p-test.true, c.len-p-end.ensures, c.args.owners.now.ok)) c.index_mut-owner.ensures.value in
+    let here = not_yet f HasRoom _ c.loop-p.owners.items c.loop-p.p old c.loop-p.invariant.so_far (omega (arith, c.loop-p-test.true, c.len-p-end.ensures, c.args.owners.now.ok, seen_many f _ _ c.loop-p.invariant.so_far.many)) c.index_mut-owner.ensures.value in
     let few = c.requires.few c.loop-p.p (f old) here in
     omega (arith, c.len.ensures, old.writes.ok)
 
@@ -22,12 +19,9 @@ pub loop-p-preserved : goal.loop-p-preserved
 loop-p-preserved g c =
     let f = λ (w : OwnerWork g.row.P.Denot). owner_part g.P.Partition.owner g.P.Partition.home w in
     let old = c.index_mut-owner.result.now in
-    let long = length-map c.loop-p.owners.items f in
-    let long_was = length-map c.args.owners.now.items f in
-    let many = c.loop-p.invariant.so_far.many in
     record {
       so_far = up_seen f HasRoom _ c.loop-p.owners.items c.loop-p.p old (record old { done = c.in_ok-owner.field-0 }) c.loop-p.invariant.so_far
-          (omega (arith, c.loop-p-test.true, c.len-p-end.ensures, c.args.owners.now.ok)) c.index_mut-owner.ensures.value
+          (omega (arith, c.loop-p-test.true, c.len-p-end.ensures, c.args.owners.now.ok, seen_many f _ _ c.loop-p.invariant.so_far.many)) c.index_mut-owner.ensures.value
           (record {
             keeps = record { state = refl; table = refl; worker = refl };
             writes = refl;
@@ -39,7 +33,4 @@ loop-p-preserved g c =
 pub returns : goal.returns
 returns g c =
     let f = λ (w : OwnerWork g.row.P.Denot). owner_part g.P.Partition.owner g.P.Partition.home w in
-    let long = length-map c.loop-p.owners.items f in
-    let long_was = length-map c.args.owners.now.items f in
-    let many = c.loop-p.invariant.so_far.many in
-    up_all HasRoom c.loop-p.p _ _ (omega (arith, c.loop-p-test.false, c.len-p-end.ensures, c.args.owners.now.ok)) c.loop-p.invariant.so_far
+    up_all HasRoom c.loop-p.p _ _ (omega (arith, c.loop-p-test.false, c.len-p-end.ensures, c.args.owners.now.ok, length-map c.loop-p.owners.items f, seen_many f _ _ c.loop-p.invariant.so_far.many)) c.loop-p.invariant.so_far

@@ -1,4 +1,4 @@
-use Rattle.std.proofs.Common.{◌≡◌, ℕ, ◌<◌, ◌≤◌, ◌+◌, ◌-◌, ◌%◌, ◌++◌, ◌∷◌, [], List, map, length, take, drop, get_or, slice_get, slice_set, Some, refl, sym, ap, ◌∙◌, subst, arith, cond, false}
+use Rattle.std.proofs.Common.{◌≡◌, ◌<◌, ◌≤◌, ◌+◌, ◌-◌, ◌%◌, ◌++◌, ◌∷◌, [], List, map, length, take, drop, get_or, slice_get, Some, refl, sym, ap, ◌∙◌, arith, cond}
 use Rattle.std.proofs.lemmas.List.{length-map, map-set}
 use Rattle.mica_words.specs.Hash.{fnv1a, hash_partition}
 use Rattle.mica_words.proofs.Hashes.{partition_of_hash, partition_of-below}
@@ -7,10 +7,9 @@ use Rattle.mica_trace.specs.declared.line.TraceLine.{TraceLine}
 use Rattle.mica_replay.specs.declared.worker.OwnerWork.{OwnerWork}
 use Rattle.mica_replay.specs.declared.worker.ReaderWork.{ReaderWork}
 use Rattle.mica_trace.specs.Rounds.{is_get_op, partition_in}
-use Rattle.mica_trace.specs.RoundReport.{is_get, gets_in}
+use Rattle.mica_trace.specs.RoundReport.{gets_in}
 use Rattle.mica_replay.specs.Lending.{owner_part}
 use Rattle.mica_replay.specs.RoundRun.{reader_part}
-use Rattle.mica_replay.specs.Shares.{Each, HasWrites, HasGets}
 use Rattle.mica_replay.proofs.RoundSteps.{seen_at}
 use Rattle.mica_replay.proofs.RoundEnds.{part_more}
 use Rattle.mica_replay.proofs.LineShares.{gets_push, writes_skip, gets_skip, writes_give, gets_give, sync_no_write, get_no_write, write_no_get, either_is_write}
@@ -37,13 +36,8 @@ loop-number-preserved g c =
     let reader_parts = map t c.args.readers.now.items in
     let left_readers = map t c.loop-number.readers.items in
     let inv = c.loop-number.invariant in
-    let long_owners = length-map c.loop-number.owners.items f in
-    let long_readers = length-map c.loop-number.readers.items t in
-    let many_owners = inv.owners.many in
-    let many_readers = inv.readers.many in
-    let owners_all = c.requires.owners.many in
-    let readers_all = c.requires.readers.many in
-    let next : number + 1 - from ≡ number - from + 1 = omega arith in
+    let was = inv.gets in
+    let were = inv.few in
     let pushed = ap gets_in more ∙ gets_push options trace lines line in
     elim c.match-line.branch [
       | in-Get+in_ok-push-in-Get w ↦
@@ -51,63 +45,58 @@ loop-number-preserved g c =
           let q = c.loop-number.gets % options.readers in
           let new : ReaderWork g.row.R.Denot = record old { gets = w.push.new.self } in
           let no_write = get_no_write line.op line.key line.value w.in-Get.is in
-          let one : gets_in (take (number + 1 - from) (drop from trace)) ≡ gets_in lines + 1 = pushed ∙ ap (λ b. gets_in lines + cond b 1 0) (ap is_get_op w.in-Get.is) in
+          let one = pushed ∙ ap (λ b. gets_in lines + cond b 1 0) (ap is_get_op w.in-Get.is) in
+          let same = w.gets-is in
           let some = c.requires.valid.readers.0 in
           let below : q < options.readers = omega arith in
           let here : q ≡ (c.args.first + gets_in lines) % options.readers = ap (λ n. n % options.readers) inv.gets in
-          let at : slice_get left_readers q ≡ Some (t old) = seen_at t c.loop-number.readers.items q old (omega arith) w.index_mut-reader.ensures.value in
+          let within : q < length c.loop-number.readers.items = omega (arith, length-map c.loop-number.readers.items t, inv.readers.many, c.requires.readers.many) in
+          let at : slice_get left_readers q ≡ Some (t old) = seen_at t c.loop-number.readers.items q old within w.index_mut-reader.ensures.value in
           record {
-            gets = let was = inv.gets in let same = w.gets-is in omega arith;
-            few = let was = inv.few in let same = w.gets-is in omega arith;
-            owners = subst (λ (ws : List (OwnerWork g.row.P.Denot)). Each (HasWrites options trace (take (number + 1 - from) (drop from trace))) olds (map f ws)) (sym (ap (λ o. o.items) w.owners-is))
-                (subst (λ (l : List TraceLine). Each (HasWrites options trace l) olds mids) (sym more) (writes_skip options trace lines line olds mids no_write inv.owners));
-            readers = subst (λ (rs : List (ReaderWork g.row.R.Denot)). Each (HasGets options trace c.args.first (take (number + 1 - from) (drop from trace))) reader_parts (map t rs)) (sym (ap (λ o. o.items) w.readers-is))
-                (subst (λ (l : List TraceLine). Each (HasGets options trace c.args.first l) reader_parts (map t (slice_set c.loop-number.readers.items q new))) (sym more)
-                (subst (Each (HasGets options trace c.args.first (lines ++ line ∷ [])) reader_parts) (sym (map-set t c.loop-number.readers.items q new))
-                (gets_give options trace lines line c.args.first reader_parts left_readers number q (t old) (t new) inv.readers w.in-Get.is here is_line at (record { seats = refl; tables = refl; worker = refl }) w.in_ok-push-in-Get.ensures.items)));
+            gets = omega arith;
+            few = omega arith;
+            owners = rw (w.owners-is, more) (writes_skip options trace lines line olds mids no_write inv.owners);
+            readers = rw (w.readers-is, more, map-set t c.loop-number.readers.items q new) (gets_give options trace lines line c.args.first reader_parts left_readers number q (t old) (t new)
+                inv.readers w.in-Get.is here is_line at (record { seats = refl; tables = refl; worker = refl }) w.in_ok-push-in-Get.ensures.items);
           }
       | in-Put+in_ok-push-in-Put w ↦
           let old = w.index_mut-owner.result.now in
           let p = w.partition_of-partition.result in
           let new : OwnerWork g.row.P.Denot = record old { writes = w.push-in-Put.new.self } in
           let write = either_is_write line.op line.key line.value w.in-Put.is in
-          let no_get : is_get line ≡ false = write_no_get line.op line.key line.value write.0 write.1 in
-          let none : gets_in (take (number + 1 - from) (drop from trace)) ≡ gets_in lines + 0 = pushed ∙ ap (λ b. gets_in lines + cond b 1 0) no_get in
-          let here : p ≡ partition_in options line = w.partition_of-partition.ensures ∙ ap (λ h. hash_partition h options.partitions) (w.key_hash.ensures ∙ ap fnv1a w.bytes.ensures) ∙ sym (partition_of_hash line.key options.partitions) in
+          let no_get = write_no_get line.op line.key line.value write.0 write.1 in
+          let none = pushed ∙ ap (λ b. gets_in lines + cond b 1 0) no_get in
+          let same = w.gets-is in
+          let here : p ≡ partition_in options line
+          = w.partition_of-partition.ensures ∙ ap (λ h. hash_partition h options.partitions) (w.key_hash.ensures ∙ ap fnv1a w.bytes.ensures) ∙ sym (partition_of_hash line.key options.partitions) in
           let below = partition_of-below line.key options.partitions c.requires.valid.partitions.0 in
-          let at : slice_get mids p ≡ Some (f old) = seen_at f c.loop-number.owners.items p old (omega arith) w.index_mut-owner.ensures.value in
+          let within : p < length c.loop-number.owners.items = omega (arith, length-map c.loop-number.owners.items f, inv.owners.many, c.requires.owners.many) in
+          let at : slice_get mids p ≡ Some (f old) = seen_at f c.loop-number.owners.items p old within w.index_mut-owner.ensures.value in
           record {
-            gets = let was = inv.gets in let same = w.gets-is in omega arith;
-            few = let was = inv.few in let same = w.gets-is in omega arith;
-            owners = subst (λ (ws : List (OwnerWork g.row.P.Denot)). Each (HasWrites options trace (take (number + 1 - from) (drop from trace))) olds (map f ws)) (sym (ap (λ o. o.items) w.owners-is))
-                (subst (λ (l : List TraceLine). Each (HasWrites options trace l) olds (map f (slice_set c.loop-number.owners.items p new))) (sym more)
-                (subst (Each (HasWrites options trace (lines ++ line ∷ [])) olds) (sym (map-set f c.loop-number.owners.items p new))
-                (writes_give options trace lines line olds mids number p write.0 (f old) (f new) inv.owners write.1 here is_line at (record { state = refl; table = refl; worker = refl }) w.in_ok-push-in-Put.ensures.items)));
-            readers = subst (λ (rs : List (ReaderWork g.row.R.Denot)). Each (HasGets options trace c.args.first (take (number + 1 - from) (drop from trace))) reader_parts (map t rs)) (sym (ap (λ o. o.items) w.readers-is))
-                (subst (λ (l : List TraceLine). Each (HasGets options trace c.args.first l) reader_parts left_readers) (sym more) (gets_skip options trace lines line c.args.first reader_parts left_readers no_get inv.readers));
+            gets = omega arith;
+            few = omega arith;
+            owners = rw (w.owners-is, more, map-set f c.loop-number.owners.items p new) (writes_give options trace lines line olds mids number p write.0 (f old) (f new)
+                inv.owners write.1 here is_line at (record { state = refl; table = refl; worker = refl }) w.in_ok-push-in-Put.ensures.items);
+            readers = rw (w.readers-is, more) (gets_skip options trace lines line c.args.first reader_parts left_readers no_get inv.readers);
           }
       | in-Sync w ↦
-          let no_write = sync_no_write line.op line.key line.value w.in-Sync.is in
-          let no_get : is_get line ≡ false = ap is_get_op w.in-Sync.is in
-          let none : gets_in (take (number + 1 - from) (drop from trace)) ≡ gets_in lines + 0 = pushed ∙ ap (λ b. gets_in lines + cond b 1 0) no_get in
+          let no_get = ap is_get_op w.in-Sync.is in
+          let none = pushed ∙ ap (λ b. gets_in lines + cond b 1 0) no_get in
+          let same = w.gets-is in
           record {
-            gets = let was = inv.gets in let same = w.gets-is in omega arith;
-            few = let was = inv.few in let same = w.gets-is in omega arith;
-            owners = subst (λ (ws : List (OwnerWork g.row.P.Denot)). Each (HasWrites options trace (take (number + 1 - from) (drop from trace))) olds (map f ws)) (sym (ap (λ o. o.items) w.owners-is))
-                (subst (λ (l : List TraceLine). Each (HasWrites options trace l) olds mids) (sym more) (writes_skip options trace lines line olds mids no_write inv.owners));
-            readers = subst (λ (rs : List (ReaderWork g.row.R.Denot)). Each (HasGets options trace c.args.first (take (number + 1 - from) (drop from trace))) reader_parts (map t rs)) (sym (ap (λ o. o.items) w.readers-is))
-                (subst (λ (l : List TraceLine). Each (HasGets options trace c.args.first l) reader_parts left_readers) (sym more) (gets_skip options trace lines line c.args.first reader_parts left_readers no_get inv.readers));
+            gets = omega arith;
+            few = omega arith;
+            owners = rw (w.owners-is, more) (writes_skip options trace lines line olds mids (sync_no_write line.op line.key line.value w.in-Sync.is) inv.owners);
+            readers = rw (w.readers-is, more) (gets_skip options trace lines line c.args.first reader_parts left_readers no_get inv.readers);
           }
     ]
 
 pub returns-clause-owners : goal.returns-clause-owners
 returns-clause-owners g c =
-    let f = λ (w : OwnerWork g.row.P.Denot). owner_part g.P.Partition.owner g.P.Partition.home w in
     let all : c.loop-number.number ≡ c.args.to = omega arith in
-    subst (λ (n : ℕ). Each (HasWrites c.args.options.now c.args.trace.now (take (n - c.args.from) (drop c.args.from c.args.trace.now))) (map f c.args.owners.now.items) (map f c.loop-number.owners.items)) all c.loop-number.invariant.owners
+    rw (sym all) c.loop-number.invariant.owners
 
 pub returns-clause-readers : goal.returns-clause-readers
 returns-clause-readers g c =
-    let t = λ (r : ReaderWork g.row.R.Denot). reader_part g.R.ReaderWords.reader g.R.ReaderWords.home r in
     let all : c.loop-number.number ≡ c.args.to = omega arith in
-    subst (λ (n : ℕ). Each (HasGets c.args.options.now c.args.trace.now c.args.first (take (n - c.args.from) (drop c.args.from c.args.trace.now))) (map t c.args.readers.now.items) (map t c.loop-number.readers.items)) all c.loop-number.invariant.readers
+    rw (sym all) c.loop-number.invariant.readers

@@ -1,15 +1,12 @@
 use Rattle.std.proofs.Common.{◌≡◌, ◌+◌, ◌++◌, ◌∷◌, [], List, length, slice_set, refl, sym, ap, ◌∙◌, subst, arith}
 use Rattle.std.specs.Option.{option_to_list}
 use Rattle.std.specs.Vec.Iter.{into_iter_items}
+use Rattle.std.proofs.lemmas.List.{nil_from_length}
 use Rattle.std.proofs.lemmas.Option.{slice_get_read}
 use Rattle.owner_queue.specs.JobEnds.{Outbox}
 use Rattle.mica_replay.proofs.RoundSteps.{UpTo}
 use Rattle.mica_replay.proofs.Feeders.{HasEnded, in_range, feeds_one, zero_is, may_end, ends_one, has_fed}
 use Rattle.mica_replay.proofs.feeder.Feeder.run.Goals as goal
-
-nothing : {X : Type 0} (xs : List X) → length xs ≡ 0 → xs ≡ []
-nothing [] is = refl
-nothing (x ∷ xs) is = absurd (omega arith)
 
 pub loop-feed-preserved : goal.loop-feed-preserved
 loop-feed-preserved g c =
@@ -45,4 +42,4 @@ pub returns : goal.returns
 returns g c =
     let many = c.loop-p.invariant.many in
     has_fed c.args.self.now c.loop-feed.self c.requires c.loop-feed.invariant c.loop-p.self c.loop-p.p (omega (arith, c.loop-p-test.false, c.loop-p.auto.p-end, c.len-p-end.ensures, c.loop-feed.self.senders.ok))
-    (nothing (into_iter_items c.loop-feed.self.feeds) (omega (arith, c.in_default.ensures.cases.0, c.loop-feed.self.feeds.rest.ok))) c.loop-p.invariant
+    (nil_from_length (into_iter_items c.loop-feed.self.feeds) (omega (arith, c.in_default.ensures.cases.0, c.loop-feed.self.feeds.rest.ok))) c.loop-p.invariant
