@@ -6,7 +6,7 @@ use Rattle.std.proofs.lemmas.List.{append-nil, length-map, length-take, take-app
 use Rattle.std.proofs.Math.Nat.{min-le_left}
 use Rattle.std.proofs.lemmas.List.Sums.{sum_by-cons}
 use Rattle.std.proofs.lemmas.Bool.{true≢false}
-use Rattle.std.proofs.lemmas.Option.{slice_get-map}
+use Rattle.std.proofs.lemmas.Option.{slice_get-map, same_Some}
 use Rattle.mica_io.specs.Traffic.{Traffic}
 use Rattle.mica_model.specs.declared.options.Options.{Options}
 use Rattle.partition_table.specs.declared.tables.Entry.{Entry}
@@ -46,9 +46,6 @@ some_at (x ∷ xs) (suc i) lt = some_at xs i (omega arith)
 
 abbrev as_ok : Totals → Result Totals ServeFault
 as_ok totals = Ok totals
-
-same_answer : {x y : Result Totals ServeFault} → Some x ≡ Some y → x ≡ y
-same_answer is = cc
 
 counts_cons : (dealings : List Dealing) (fronts : List (List Dealing)) (one totals : Totals) → Counts (dealings ∷ []) one → Counts fronts totals
     → Counts (dealings ∷ fronts) (record { batches = one.batches + totals.batches; requests = one.requests + totals.requests; bad = one.bad + totals.bad })
@@ -240,7 +237,7 @@ module _ (options : Options) (batches : ℕ) where
             let at : slice_get (map (λ (r : FrontRun). r.answer) rs) i ≡ Some r.0.answer = slice_get-map (λ (r : FrontRun). r.answer) rs i ∙ ap (option_map (λ (r : FrontRun). r.answer)) r.1 in
             let at' : slice_get (map as_ok sums.0) i ≡ Some (as_ok t.0) = slice_get-map as_ok sums.0 i ∙ ap (option_map as_ok) t.1 in
             let both = ap (λ (l : List (Result Totals ServeFault)). slice_get l i) sums.1 in
-            let answer : r.0.answer ≡ as_ok t.0 = same_answer (sym at ∙ both ∙ at') in
+            let answer : r.0.answer ≡ as_ok t.0 = same_Some _ _ (sym at ∙ both ∙ at') in
             (subst (λ x. MeansForFront x options batches r.0 b a) answer (run.each i r.0 b a r.1 is is').means).1 scripted,
         λ tell. all_served some rs totals kept olds news run.many_before taken
             (subst (λ (t : Totals). Built rs t olds news) (sym sums.2) (built rs sums.0 olds news sums.1 run.many_before run.many_after run.each tell)),

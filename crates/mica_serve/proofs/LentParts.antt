@@ -5,6 +5,7 @@ use Rattle.std.specs.List.{AllByRecursion}
 use Rattle.std.proofs.lemmas.Bool.{cases_lt}
 use Rattle.std.proofs.lemmas.List.{length-set, length_push}
 use Rattle.std.proofs.lemmas.List.Elements.{All-from_recursion}
+use Rattle.std.proofs.lemmas.Option.{same_Some}
 use Rattle.atomic_table.specs.Seated.{TableId}
 use Rattle.mica_model.specs.declared.options.Options.{Options}
 use Rattle.epoch_core.specs.declared.state.OwnerState.{OwnerState}
@@ -21,9 +22,6 @@ use Rattle.mica_serve.specs.QueueFront.{IsNewPart}
 use Rattle.mica_serve.specs.Hands.{OwnerEnd, IsNewOwner, IsLentBy, AreLent, LendsOneMore}
 use Rattle.mica_serve.proofs.Binding.{place_below, at_snoc}
 use Rattle.mica_serve.proofs.Gathered.{some_at}
-
-same_some : {X : Type 0} {x y : X} → Some x ≡ Some y → x ≡ y
-same_some is = cc
 
 get_left : {X : Type 0} (xs : List X) (y x : X) (i : ℕ) → slice_get xs i ≡ Some x → slice_get (xs ++ y ∷ []) i ≡ Some x
 get_left [] y x zero is = absurd (cc)
@@ -52,7 +50,7 @@ module _ (most : ℕ) (state : OwnerState) (table : TableId) (jobs : Inbox) wher
   lends_none before = record {
     many = refl;
     lent = λ f old new lt. absurd (omega arith);
-    rest = λ f old new low is is'. same_some (sym is' ∙ is);
+    rest = λ f old new low is is'. same_Some _ _ (sym is' ∙ is);
     acks_many = refl;
     unsent = λ f a is. absurd (none f is);
   }

@@ -4,6 +4,7 @@ use Rattle.std.specs.Prelude.{◌≢◌, sum_by}
 use Rattle.std.proofs.lemmas.Bool.{cases_lt}
 use Rattle.std.proofs.lemmas.List.{length-set, take-append-drop, length_push, take_all, take-append-le}
 use Rattle.std.proofs.lemmas.List.Sums.{sum_by-cons}
+use Rattle.std.proofs.lemmas.Option.{same_Some}
 use Rattle.partition_table.specs.Seats.{reader_state}
 use Rattle.mica_model.specs.History.{History, IsPrefix}
 use Rattle.owner_queue.specs.Messages.{sent_by, has_end}
@@ -12,9 +13,6 @@ use Rattle.mica_serve.specs.Hands.{OwnerEnd, MayMeet, HasMet, MeetsPart, MayMeet
 use Rattle.owner_queue.proofs.Lists.{set_cases}
 use Rattle.mica_serve.proofs.Binding.{place_below}
 use Rattle.mica_serve.proofs.Gathered.{some_at}
-
-pub same_some : {X : Type 0} {x y : X} → Some x ≡ Some y → x ≡ y
-same_some is = cc
 
 -- the owners from a place on took in their parts, and those before it are as they were
 pub record PartsMetFrom (from : ℕ) (parts : List FrontPart) (olds news : List OwnerEnd) : Type 0 where
@@ -43,7 +41,7 @@ parts_one from parts olds mids part mid new so_far is_part at meets = record {
         | inl same ↦
             let is_s_here : slice_get parts from ≡ Some s = subst (λ (q : ℕ). slice_get parts q ≡ Some s) (sym same.0) is_s in
             let is_old_here : slice_get olds from ≡ Some old = subst (λ (q : ℕ). slice_get olds q ≡ Some old) (sym same.0) is_old in
-            let one : part ≡ s = same_some (sym is_part ∙ is_s_here) in
+            let one : part ≡ s = same_Some _ _ (sym is_part ∙ is_s_here) in
             let two : mid ≡ old = so_far.before from old mid (omega arith) is_old_here at in
             subst (λ (x : OwnerEnd). MeetsPart old x s) same.1 (subst (λ (x : OwnerEnd). MeetsPart x new s) two (subst (λ (x : FrontPart). MeetsPart mid new x) one meets))
         | inr other ↦ so_far.met p s old n (past p low other.0) is_s is_old other.1
@@ -80,7 +78,7 @@ drop_whole (x ∷ xs) = drop_whole xs
 drop_one : {X : Type 0} (xs : List X) (k : ℕ) (x : X) → slice_get xs k ≡ Some x → drop k xs ≡ x ∷ drop (suc k) xs
 drop_one [] zero x is = absurd (cc)
 drop_one [] (suc k) x is = absurd (cc)
-drop_one (y ∷ xs) zero x is = ap (λ z. z ∷ xs) (same_some is)
+drop_one (y ∷ xs) zero x is = ap (λ z. z ∷ xs) (same_Some _ _ is)
 drop_one (y ∷ xs) (suc k) x is = drop_one xs k x is
 
 take_get : {X : Type 0} (xs : List X) (n i : ℕ) → i < n → slice_get (take n xs) i ≡ slice_get xs i
@@ -115,11 +113,11 @@ fronts_none owners hands may = record {
   many = refl;
   met = λ f p own part old low is. let within = place_below hands f own is in absurd (omega arith);
   same = λ p old now is is'.
-      let one : old ≡ now = same_some (sym is ∙ is') in
+      let one : old ≡ now = same_Some _ _ (sym is ∙ is') in
       let none = ap (sum_by (closed_at p)) (drop_whole hands) in
       sym one ∙ (λ i. record old { state = record old.state { met = ap (λ (o : OwnerEnd). o.state.met) one i; closed = zero_more old.state.closed (sum_by (closed_at p) (drop (length hands) hands)) none i }; acks = ap (λ (o : OwnerEnd). o.acks) one i });
   acks = λ p old now is is'.
-      let one : old ≡ now = same_some (sym is ∙ is') in
+      let one : old ≡ now = same_Some _ _ (sym is ∙ is') in
       ap (λ (o : OwnerEnd). o.acks) (sym one) ∙ sym (take_all (length hands) old.acks (omega (arith, may.fronts p old is)));
 }
   where
@@ -191,7 +189,7 @@ module _ (k : ℕ) (hands : List (List FrontPart)) (olds mids : List OwnerEnd) (
       by f p h part old at part_at old_at (inl more) low = so_far.met f p h part old (omega arith) at part_at old_at
       by f p h part old at part_at old_at (inr le) low =
           let number : f ≡ k = omega arith in
-          let hand : h ≡ own = same_some (sym at ∙ ap (slice_get hands) number ∙ is) in
+          let hand : h ≡ own = same_Some _ _ (sym at ∙ ap (slice_get hands) number ∙ is) in
           let part_here : slice_get own p ≡ Some part = ap (λ l. slice_get l p) (sym hand) ∙ part_at in
           let mid = some_at mids p (omega (arith, place_below olds p old old_at, so_far.many)) in
           let new = some_at news p (omega (arith, place_below olds p old old_at, so_far.many, meets.many)) in

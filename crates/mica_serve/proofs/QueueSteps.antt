@@ -2,7 +2,7 @@
 use Rattle.std.proofs.Common.{◌≡◌, ℕ, zero, suc, ◌+◌, ◌-◌, ◌<◌, ◌≤◌, Bool, false, List, [], ◌∷◌, ◌++◌, length, map, take, drop, Option, Some, slice_get, slice_set, get_or, length-set, refl, sym, ap, ◌∙◌, subst, arith, ◌||◌}
 use Rattle.std.specs.List.{All, AllByRecursion, sum_by, list_any}
 use Rattle.std.proofs.lemmas.Bool.{true≢false}
-use Rattle.std.proofs.lemmas.Option.{slice_get_within, slice_get_read, get_or_from_slice_get}
+use Rattle.std.proofs.lemmas.Option.{same_Some, slice_get_within, slice_get_read, get_or_from_slice_get}
 use Rattle.std.proofs.lemmas.List.{length_push, drop_more, get_or_at, length-map, length-take-le}
 use Rattle.std.proofs.lemmas.List.Folds.{list_any-append}
 use Rattle.std.proofs.lemmas.List.Sums.{sum_by-cons, sum_by-set}
@@ -47,11 +47,8 @@ set_stands : (parts : List FrontPart) (at : ℕ) (part new : FrontPart) → slic
     → map stand_of (slice_set parts at new) ≡ map stand_of parts
 set_stands [] at part new here same = refl
 set_stands (x ∷ parts) zero part new here same =
-    let is : part ≡ x = same_some (sym here) in
+    let is : part ≡ x = same_Some _ _ (sym here) in
     ap (λ s. s ∷ map stand_of parts) (same ∙ ap stand_of is)
-  where
-    same_some : {X : Type 0} {a b : X} → Some a ≡ Some b → a ≡ b
-    same_some eq = cc
 set_stands (x ∷ parts) (suc at) part new here same = ap (λ l. stand_of x ∷ l) (set_stands parts at part new here same)
 
 -- the part that a loop over all comes to next

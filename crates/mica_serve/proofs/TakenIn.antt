@@ -5,7 +5,7 @@ use Rattle.std.specs.List.{AllZip, AllByRecursion}
 use Rattle.std.proofs.lemmas.List.{length-map, map-append}
 use Rattle.std.proofs.lemmas.List.Sums.{sum_by-cons}
 use Rattle.std.proofs.lemmas.List.Elements.{All-from_recursion, recursion_from_All}
-use Rattle.std.proofs.lemmas.Option.{slice_get-map}
+use Rattle.std.proofs.lemmas.Option.{slice_get-map, same_Some}
 use Rattle.mica_model.specs.declared.options.Options.{Options}
 use Rattle.mica_model.specs.History.{History, IsPrefix, stamp_in}
 use Rattle.mica_model.specs.Run.{RunStep, IsRun, IsRunFrom, history_of}
@@ -64,14 +64,11 @@ map_at g (x ∷ xs) (suc i) y is = map_at g xs i y is
 pub at_map : {X Y : Type 0} (g : X → Y) (xs : List X) (i : ℕ) (x : X) → slice_get xs i ≡ Some x → slice_get (map g xs) i ≡ Some (g x)
 at_map g xs i x is = slice_get-map g xs i ∙ ap (option_map g) is
 
-pub same_some : {X : Type 0} {x y : X} → Some x ≡ Some y → x ≡ y
-same_some is = cc
-
 -- what all elements have one at a place has
 all_at : {X : Type 0} (Q : X → Type 0) (xs : List X) (i : ℕ) (x : X) → AllByRecursion Q xs → slice_get xs i ≡ Some x → Q x
 all_at Q [] zero x h is = absurd (cc)
 all_at Q [] (suc i) x h is = absurd (cc)
-all_at Q (y ∷ xs) zero x h is = subst Q (same_some is) h.0
+all_at Q (y ∷ xs) zero x h is = subst Q (same_Some _ _ is) h.0
 all_at Q (y ∷ xs) (suc i) x h is = all_at Q xs i x h.1 is
 
 -- a run of the shape's machine is one of the options'
@@ -133,7 +130,7 @@ module _ {D : Type 0} (batches : ℕ) (facts : D → EndFacts) where
   run_at [] [] z (suc f) run is = absurd (cc)
   run_at [] (n ∷ news) z f run is = absurd z
   run_at (o ∷ olds) [] z f run is = absurd z
-  run_at (o ∷ olds) (n ∷ news) z zero run is = (o, n, z.0, refl, refl, same_some is)
+  run_at (o ∷ olds) (n ∷ news) z zero run is = (o, n, z.0, refl, refl, same_Some _ _ is)
   run_at (o ∷ olds) (n ∷ news) z (suc f) run is = run_at olds news z.1 f run is
 
   module _ (options : Options) (fronts most : ℕ) (some : 1 ≤ options.partitions) (made owners : List OwnerEnd) (views : List QueueView)
@@ -157,7 +154,7 @@ module _ {D : Type 0} (batches : ℕ) (facts : D → EndFacts) where
         let at : slice_get (map (λ (v : QueueView). Some v) views) f ≡ Some (Some r.front)
         = ap (λ l. slice_get l f) (sym views_are) ∙ at_map (λ (t : FrontTask D). t.front) olds f o is ∙ ap Some r.front_is in
         let v = map_at (λ (v : QueueView). Some v) views f (Some r.front) at in
-        let here : slice_get views f ≡ Some r.front = v.1 ∙ ap Some (same_some v.2) in
+        let here : slice_get views f ≡ Some r.front = v.1 ∙ v.2 in
         let own : length r.front.parts ≡ length made = opened.lent.each_many f r.front.parts (at_map (λ (v : QueueView). v.parts) views f r.front here) in
         record {
           view_at = here;
@@ -192,7 +189,7 @@ module _ {D : Type 0} (batches : ℕ) (facts : D → EndFacts) where
           last = e.0;
           last_at = e.1;
           part_is = sym e.2;
-          stands = same_some (sym one ∙ ap (λ l. slice_get l p) r.ran.stands ∙ two);
+          stands = same_Some _ _ (sym one ∙ ap (λ l. slice_get l p) r.ran.stands ∙ two);
           fits = all_at (IsFrontPart r.ran.new) r.ran.new.parts p e.0 (recursion_from_All (IsFrontPart r.ran.new) r.ran.new.parts r.ran.is.each) e.1;
         }
 
@@ -264,8 +261,8 @@ module _ {D : Type 0} (batches : ℕ) (facts : D → EndFacts) where
       many_after = length-map news (λ (t : FrontTask D). facts t.end) ∙ sym (runs_long olds news z);
       each = λ f run b a is b_at a_at.
           let r = run_at olds news z f run is in
-          let one : facts r.0.end ≡ b = same_some (sym (at_map (λ (t : FrontTask D). facts t.end) olds f r.0 r.3) ∙ b_at) in
-          let two : facts r.1.end ≡ a = same_some (sym (at_map (λ (t : FrontTask D). facts t.end) news f r.1 r.4) ∙ a_at) in
+          let one : facts r.0.end ≡ b = same_Some _ _ (sym (at_map (λ (t : FrontTask D). facts t.end) olds f r.0 r.3) ∙ b_at) in
+          let two : facts r.1.end ≡ a = same_Some _ _ (sym (at_map (λ (t : FrontTask D). facts t.end) news f r.1 r.4) ∙ a_at) in
           let own : r.2.front.options ≡ options = ap (λ (v : QueueView). v.options) (held f r.0 r.1 r.2 r.3).fresh in
           subst (λ (x : EndFacts). RunsFront options batches run x a) one
           (subst (λ (x : EndFacts). RunsFront options batches run (facts r.0.end) x) two
@@ -315,7 +312,7 @@ module _ {D : Type 0} (batches : ℕ) (facts : D → EndFacts) where
                 let box = some_at x.1.acks f (omega (arith, front_low f o is, acks_many p x.0 x.1 x.3 x.4)) in
                 let begun = m.begins box.0 box.1 in
                 let sent = (q.0.served.sent f x.6.first.acks box.0 x.6.lent.answers box.1).answers in
-                let own : told_by x.6.last ≡ told = same_some (sym (ap (λ (y : Option FrontPart). (session_or_none y).told) x.6.last_at) ∙ told_is) in
+                let own : told_by x.6.last ≡ told = same_Some _ _ (sym (ap (λ (y : Option FrontPart). (session_or_none y).told) x.6.last_at) ∙ told_is) in
                 let list : x.2.acks.list ≡ x.6.last.acks.list = ap (λ (y : FrontPart). y.acks.list) x.6.part_is in (
                   map (λ (a : Acknowledged). a.step) (map acknowledged_by begun.0),
                   ap (steps_by f) q.1 ∙ steps_answered f q.0.served.done ∙ ap (map (λ (a : Acknowledged). a.step)) (sym sent)
@@ -358,7 +355,7 @@ module _ {D : Type 0} (batches : ℕ) (facts : D → EndFacts) where
               let x = parts_at f p o n r h is is' (omega (arith, place_below r.ran.new.parts p last at, h.new_many, opened.partitions)) in
               let m = met_one f p o n x.2 x.1 is' x.5 x.4 in
               let q = placed_at made owners ran p x.0 x.1 x.3 x.4 in
-              let same : x.6.last ≡ last = same_some (sym x.6.last_at ∙ at) in
+              let same : x.6.last ≡ last = same_Some _ _ (sym x.6.last_at ∙ at) in
               let whole : sent_by f x.1.jobs.taken ≡ last.jobs.sent ++ message.End r.ran.new.number ∷ [] =
               m.whole ∙ ap (λ (y : FrontPart). y.jobs.sent) x.6.part_is ∙ ap (λ (y : FrontPart). y.jobs.sent ++ message.End r.ran.new.number ∷ []) same in
               subst (λ (l : List Placed). length (steps_by f l) ≤ length last.jobs.sent) (sym q.1)
