@@ -26,12 +26,6 @@ use Rattle.mica_serve.proofs.ServedBeside.{closed_gets}
 pub same_kept : (b a : EndFacts) → b ≡ a → KeepsEnd b a
 same_kept b a same = subst (λ (e : EndFacts). KeepsEnd b e) same (record { port = refl; never_fall = omega arith; tells = λ h. h; scripted = refl })
 
--- an end that tells goes on telling
-pub tells_on : (a b : Option Traffic) → OnTraffic (λ x y. Unit {0}) a b → is_some a ≡ true → is_some b ≡ true
-tells_on None b h never = absurd (true≢false (sym never))
-tells_on (Some a) None h tells = absurd h
-tells_on (Some a) (Some b) h tells = refl
-
 -- what a told end tells after a call
 told_of : (P : Traffic → Traffic → Type 0) (before after : Option Traffic) → is_some before ≡ true → OnTraffic P before after
     → (had : Traffic) × (has : Traffic) × (before ≡ Some had) × (after ≡ Some has) × P had has

@@ -11,10 +11,9 @@ use Rattle.mica_model.specs.declared.options.Options.{Options}
 use Rattle.epoch_core.specs.declared.state.OwnerState.{OwnerState}
 use Rattle.epoch_core.specs.declared.reader.ReaderState.{ReaderState}
 use Rattle.epoch_core.specs.Shape.{shape_of}
-use Rattle.epoch_core.specs.OwnerState.{as_made}
 use Rattle.epoch_core.specs.Joins.{lent}
 use Rattle.partition_table.specs.Seats.{reader_state, reader_home}
-use Rattle.owner_queue.specs.JobEnds.{Outbox, outbox, Inbox, inbox}
+use Rattle.owner_queue.specs.JobEnds.{Outbox, outbox, Inbox}
 use Rattle.owner_queue.specs.AckEnds.{AckBox, ack_box}
 use Rattle.owner_queue.proofs.Lists.{set_cases}
 use Rattle.mica_serve.specs.declared.queue_front.FrontPart.{FrontPart}
@@ -101,14 +100,6 @@ module _ (most : ℕ) (state : OwnerState) (table : TableId) (jobs : Inbox) wher
     where
       less : (f : ℕ) → f < k + 1 → k ≢ f → f < k
       less f lt other = elim (cases_lt f k) as (λ _. f < k) [ inl low ↦ low | inr high ↦ absurd (other (omega arith)) ]
-
-  pub lends_all : (options : Options) (acks : List AckBox) (before after : List (List FrontPart)) → state ≡ as_made (shape_of options) → jobs ≡ inbox jobs.queue (length before) most []
-      → LendsTo (length before) acks before after → LendsOneMore options most (owner_with state table jobs acks) before after
-  lends_all options acks before after made fresh l = record {
-    many = l.many;
-    made = record { state = made; jobs = fresh; acks = l.acks_many; unsent = l.unsent };
-    each = λ f old new is is'. l.lent f old new (place_below before f old is) is is';
-  }
 
 -- hands with nothing yet
 pub hands_none : (options : Options) (fronts most : ℕ) (hands : List (List FrontPart)) → length hands ≡ fronts → ((f : ℕ) (own : List FrontPart) → slice_get hands f ≡ Some own → own ≡ [])

@@ -1,9 +1,8 @@
 -- What a front before owners makes of itself with one request.
-use Rattle.std.proofs.Common.{◌≡◌, ℕ, zero, suc, ◌+◌, ◌-◌, ◌<◌, ◌≤◌, Bool, false, List, [], ◌∷◌, ◌++◌, length, map, take, drop, Option, Some, slice_get, slice_set, get_or, length-set, refl, sym, ap, ◌∙◌, subst, arith, ◌||◌}
+use Rattle.std.proofs.Common.{◌≡◌, ℕ, zero, suc, ◌+◌, ◌-◌, ◌<◌, ◌≤◌, Bool, false, List, [], ◌∷◌, ◌++◌, length, map, Option, Some, slice_get, slice_set, length-set, refl, sym, ap, ◌∙◌, subst, arith, ◌||◌}
 use Rattle.std.specs.List.{All, AllByRecursion, sum_by, list_any}
-use Rattle.std.proofs.lemmas.Bool.{true≢false}
-use Rattle.std.proofs.lemmas.Option.{same_Some, slice_get_within, slice_get_read, get_or_from_slice_get}
-use Rattle.std.proofs.lemmas.List.{length_push, drop_more, get_or_at, length-map, length-take-le}
+use Rattle.std.proofs.lemmas.Option.{same_Some, slice_get_within, get_or_from_slice_get}
+use Rattle.std.proofs.lemmas.List.{length_push}
 use Rattle.std.proofs.lemmas.List.Folds.{list_any-append}
 use Rattle.std.proofs.lemmas.List.Sums.{sum_by-cons, sum_by-set}
 use Rattle.std.proofs.lemmas.List.Elements.{All-push, All-set, All-same, All-weaker, All-from_recursion, recursion_from_All}
@@ -13,10 +12,9 @@ use Rattle.mica_model.specs.declared.write.Write.{Write}
 use Rattle.mica_model.specs.declared.write.Outcome.{Outcome}
 use Rattle.mica_model.specs.declared.write.Answer.{Answer}
 use Rattle.mica_model.specs.Answer.{IsAnswer}
-use Rattle.mica_model.specs.Write.{IsWrite}
 use Rattle.owner_queue.specs.declared.message.Job.{Job}
 use Rattle.owner_queue.specs.declared.message.Message.TheVariants as message
-use Rattle.owner_queue.specs.Messages.{ticket_of, is_end, MayFollow}
+use Rattle.owner_queue.specs.Messages.{ticket_of, is_end}
 use Rattle.owner_queue.specs.AckEnds.{AckBox}
 use Rattle.owner_queue.specs.JobEnds.{Outbox}
 use Rattle.owner_queue.proofs.Lists.{all_at, set_here, set_elsewhere}
@@ -51,14 +49,6 @@ set_stands (x ∷ parts) zero part new here same =
     ap (λ s. s ∷ map stand_of parts) (same ∙ ap stand_of is)
 set_stands (x ∷ parts) (suc at) part new here same = ap (λ l. stand_of x ∷ l) (set_stands parts at part new here same)
 
--- the part that a loop over all comes to next
-pub next_part : {X : Type 0} (f : X → X) (all now : List X) (i : ℕ) (x : X) → i < length all → now ≡ map f (take i all) ++ drop i all → x ≡ get_or now i x → slice_get all i ≡ Some x
-next_part f all now i x within so_far read =
-    let done : length (map f (take i all)) ≡ i = length-map (take i all) f ∙ length-take-le i all (omega arith) in
-    let here : get_or now i x ≡ get_or all i x = ap (λ l. get_or l i x) (so_far ∙ ap (λ l. map f (take i all) ++ l) (drop_more all i x within))
-    ∙ get_or_at (map f (take i all)) (get_or all i x) (drop (i + 1) all) x i done in
-    slice_get_read all (length all) i x refl within (read ∙ here)
-
 -- a front that has sent nothing yet
 pub new_front : (options : Options) (number most : ℕ) (parts : List FrontPart) → All (IsNewPart options number most) parts
     → All (IsFrontPart (queue_view options number 0 most parts)) parts × (sum_by (λ part. length part.jobs.sent) parts ≡ 0)
@@ -81,17 +71,6 @@ new_front options number most parts new = (All-weaker (IsNewPart options number 
 module _ (front : QueueView) (lawful : IsQueueFront front) (at : ℕ) (part : FrontPart) (here : slice_get front.parts at ≡ Some part) where
   pub is_part : IsFrontPart front part
   is_part = all_at (IsFrontPart front) front.parts at part (recursion_from_All (IsFrontPart front) front.parts lawful.each) here
-
-  pub may_send : (job : Job) → job.ticket ≡ front.next → 0 < front.left → IsWrite job.write → MayFollow part.jobs.jobs part.jobs.sent (message.Job job)
-  may_send job ticket some fits = record {
-    no_end = is_part.unended;
-    in_range = λ _. omega (arith, ticket, is_part.most, some);
-    rises = λ _. subst (λ n. All (λ b. ticket_of b < n) part.jobs.sent) (sym ticket) is_part.tickets;
-    fit = fits;
-  }
-
-  pub may_end : (number : ℕ) → MayFollow part.jobs.jobs part.jobs.sent (message.End number)
-  may_end number = record { no_end = is_part.unended; in_range = λ off. absurd (true≢false off); rises = λ off. absurd (true≢false off); fit = tt }
 
   -- the session of the partition, and all others, where its part was set
   set_session : (new : FrontPart) → sessions_of (slice_set front.parts at new) at ≡ session_of new

@@ -1,5 +1,4 @@
 use Rattle.std.proofs.Common.{map, vec_capacity, sym, ap, ◌∙◌, subst, arith}
-use Rattle.std.specs.Prelude.{is_some}
 use Rattle.partition_table.specs.Tabled.{entry_in}
 use Rattle.mica_serve.specs.declared.worker.FrontTask.{FrontTask}
 use Rattle.mica_serve.specs.Ends.{EndFacts, end_facts}
