@@ -3,6 +3,7 @@ use Rattle.std.proofs.Common.{◌≡◌, ℕ, suc, ◌*◌, ◌≤◌, List, [],
 use Rattle.std.specs.List.{AllZip, AllByRecursion}
 use Rattle.std.proofs.lemmas.List.{length-map}
 use Rattle.std.proofs.lemmas.List.Elements.{All-from_recursion}
+use Rattle.std.proofs.lemmas.Simd.{map-map}
 use Rattle.std.proofs.lemmas.Slice.Zip.{AllZip-long}
 use Rattle.std.proofs.lemmas.Option.{slice_get_within}
 use Rattle.atomic_table.specs.Seated.{TableId}
@@ -33,10 +34,6 @@ use Rattle.mica_serve.proofs.TakenIn.{HaveRan, owner_at, may_meet, ran_all, map_
 all_places : {X : Type 0} (Q : X → Type 0) (xs : List X) → ((i : ℕ) (x : X) → slice_get xs i ≡ Some x → Q x) → AllByRecursion Q xs
 all_places Q [] each = tt
 all_places Q (x ∷ xs) each = (each 0 x refl, all_places Q xs (λ i. each (suc i)))
-
-pub maps : {X Y Z : Type 0} (f : Y → Z) (g : X → Y) (xs : List X) → map f (map g xs) ≡ map (λ x. f (g x)) xs
-maps f g [] = refl
-maps f g (x ∷ xs) = ap (λ l. f (g x) ∷ l) (maps f g xs)
 
 zip_maps : {X Y : Type 0} (Q : Y → Y → Type 0) (g : X → Y) (xs ys : List X) → AllZip (λ x y. Q (g x) (g y)) xs ys → AllZip Q (map g xs) (map g ys)
 zip_maps Q g [] [] z = tt
@@ -138,9 +135,9 @@ module _ {P D : Type 0} (owner : P → OwnerState) (home : P → TableId) (facts
             → RanAll options ports.batches (map (λ (t : OwnerTask P). entry_in (owner t.part)) after) (map (λ (t : FrontTask D). t.answer) served) (map facts ends) (map facts news)
         all_came news news_are =
             let it = ran_all all (map end_of_owner after) here in
-            let kept = maps (λ (o : OwnerEnd). entry_in o.state) end_of_owner after in
-            let one : map (λ (t : FrontTask D). facts t.end) tasks ≡ map facts ends = sym (maps facts (λ (t : FrontTask D). t.end) tasks) ∙ ap (map facts) r.paired.own_ends in
-            let two : map (λ (t : FrontTask D). facts t.end) served ≡ map facts news = sym (maps facts (λ (t : FrontTask D). t.end) served) ∙ ap (map facts) (sym news_are) in
+            let kept = map-map (λ (o : OwnerEnd). entry_in o.state) end_of_owner after in
+            let one : map (λ (t : FrontTask D). facts t.end) tasks ≡ map facts ends = sym (map-map facts (λ (t : FrontTask D). t.end) tasks) ∙ ap (map facts) r.paired.own_ends in
+            let two : map (λ (t : FrontTask D). facts t.end) served ≡ map facts news = sym (map-map facts (λ (t : FrontTask D). t.end) served) ∙ ap (map facts) (sym news_are) in
             let left = map (λ (o : OwnerEnd). entry_in o.state) (map end_of_owner after) in
             let answers = map (λ (t : FrontTask D). t.answer) served in
             subst (λ (k : List Entry). RanAll options ports.batches k answers (map facts ends) (map facts news)) kept
