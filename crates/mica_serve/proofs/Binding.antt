@@ -7,6 +7,7 @@ use Rattle.mica_io.specs.Ports.{Port, Ports, out, back, with_port, BindsEnd}
 use Rattle.mica_serve.specs.Ends.{EndFacts, IsNewEnd, AreNewEnds, WaitedAt, BindsEnds, ReleasesEnds, TellAll}
 use Rattle.mica_io.specs.Faults.{Rose, LAST_COUNT}
 use Rattle.std.proofs.lemmas.List.{take_at, take-append-drop, length_push}
+use Rattle.std.proofs.lemmas.Option.{slice_get_within}
 use Rattle.mica_serve.specs.NetRun.{OnPorts}
 
 -- what stands at a place of a list with one more element
@@ -19,13 +20,6 @@ at_snoc (z ∷ xs) x (suc i) y is = elim (at_snoc xs x i y is) [
   | inl h ↦ inl (h.0, omega (arith, h.1))
   | inr h ↦ inr (omega (arith, h.0), h.1)
 ]
-
--- a place where something stands is within the list
-pub place_below : {X : Type 0} (xs : List X) (i : ℕ) (x : X) → slice_get xs i ≡ Some x → i < length xs
-place_below [] zero x is = absurd (cc)
-place_below [] (suc i) x is = absurd (cc)
-place_below (y ∷ xs) zero x is = omega arith
-place_below (y ∷ xs) (suc i) x is = omega (arith, place_below xs i x is)
 
 pub new_more : (first : ℕ) (ends : List EndFacts) (end : EndFacts) → AreNewEnds first ends → IsNewEnd (first + length ends) end → AreNewEnds first (ends ++ end ∷ [])
 new_more first ends end each one i e is = elim (at_snoc ends end i e is) as (λ _. IsNewEnd (first + i) e) [
@@ -95,7 +89,7 @@ pub none_released : (first : ℕ) (ends : List EndFacts) (before : Ports) → ((
     → Releasing first ends (length ends) before before
 none_released first ends before still = record {
   still = still;
-  came = λ i e t le is is'. absurd (let lt = place_below ends i e is in omega arith);
+  came = λ i e t le is is'. absurd (let lt = slice_get_within ends i e is in omega arith);
   others = λ q other. refl;
 }
 
@@ -114,7 +108,7 @@ one_released first ends j end traffic before now r here told = record {
         ap (λ (n : ℕ). with_port (first + j) (back traffic end.has_ended) now (first + n)) place ∙ at_port (first + j) (back traffic end.has_ended) now
         ∙ ap (λ (x : Traffic). back x end.has_ended) same' ∙ ap (λ (x : EndFacts). back t x.has_ended) same
   ];
-  others = λ q other. off_port (first + j) q (back traffic end.has_ended) now (other j (place_below ends j end here)) ∙ r.others q other;
+  others = λ q other. off_port (first + j) q (back traffic end.has_ended) now (other j (slice_get_within ends j end here)) ∙ r.others q other;
 }
 
 pub all_released : (first : ℕ) (ends : List EndFacts) (before now : Ports) → Releasing first ends 0 before now → ReleasesEnds first ends before now
