@@ -85,14 +85,6 @@ pub record Releasing (first : ℕ) (ends : List EndFacts) (k : ℕ) (before now 
       → now (first + i) ≡ back traffic end.has_ended
   pub others : (q : ℕ) → ((i : ℕ) → i < length ends → q ≢ first + i) → now q ≡ before q
 
-pub none_released : (first : ℕ) (ends : List EndFacts) (before : Ports) → ((i : ℕ) → i < length ends → before (first + i) ≡ out)
-    → Releasing first ends (length ends) before before
-none_released first ends before still = record {
-  still = still;
-  came = λ i e t le is is'. absurd (let lt = slice_get_within ends i e is in omega arith);
-  others = λ q other. refl;
-}
-
 pub one_released : (first : ℕ) (ends : List EndFacts) (j : ℕ) (end : EndFacts) (traffic : Traffic) (before now : Ports)
     → Releasing first ends (suc j) before now → slice_get ends j ≡ Some end → end.traffic ≡ Some traffic
     → Releasing first ends j before (with_port (first + j) (back traffic end.has_ended) now)
