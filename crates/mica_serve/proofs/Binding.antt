@@ -1,13 +1,13 @@
 -- Ends that are bound one after another, and come back one after another.
-use Rattle.std.proofs.Common.{◌≡◌, ℕ, zero, suc, ◌+◌, ◌<◌, ◌≤◌, ◌⊎◌, inl, inr, true, false, cond, List, [], ◌∷◌, ◌++◌, length, map, Option, Some, None, refl, sym, ap, ◌∙◌, subst, append_assoc, take, drop, slice_get, slice_index_or, eqb, eqb-true, arith, length-append}
-use Rattle.std.specs.Prelude.{◌≢◌, IfSome, IfNone, is_some, option_map}
-use Rattle.std.proofs.lemmas.Option.{slice_get-map, slice_get_read}
+use Rattle.std.proofs.Common.{◌≡◌, ℕ, zero, suc, ◌+◌, ◌<◌, ◌≤◌, ◌⊎◌, inl, inr, true, false, cond, List, [], ◌∷◌, ◌++◌, length, map, Option, Some, None, refl, sym, ap, ◌∙◌, subst, append_assoc, take, drop, slice_get, eqb, eqb-true, arith, length-append}
+use Rattle.std.specs.Prelude.{◌≢◌, IfSome, IfNone, is_some}
 use Rattle.std.proofs.lemmas.Bool.{eq-eqb, ne_eqb, true≢false, cases_lt}
 use Rattle.mica_io.specs.Traffic.{Traffic, EndScript}
 use Rattle.mica_io.specs.Ports.{Port, Ports, out, back, with_port, BindsEnd}
 use Rattle.mica_serve.specs.Ends.{EndFacts, IsNewEnd, AreNewEnds, WaitedAt, BindsEnds, ReleasesEnds, TellAll}
 use Rattle.mica_io.specs.Faults.{Rose, LAST_COUNT}
 use Rattle.std.proofs.lemmas.List.{take_at, take-append-drop, length_push}
+use Rattle.std.proofs.lemmas.Option.{slice_get_within}
 use Rattle.mica_serve.specs.NetRun.{OnPorts}
 
 -- what stands at a place of a list with one more element
@@ -20,17 +20,6 @@ at_snoc (z ∷ xs) x (suc i) y is = elim (at_snoc xs x i y is) [
   | inl h ↦ inl (h.0, omega (arith, h.1))
   | inr h ↦ inr (omega (arith, h.0), h.1)
 ]
-
--- what stands in a mapped list
-pub at_map : {X Y : Type 0} (f : X → Y) (xs : List X) (i : ℕ) (x : X) → i < length xs → x ≡ slice_index_or xs i x → slice_get (map f xs) i ≡ Some (f x)
-at_map f xs i x lt is = slice_get-map f xs i ∙ ap (option_map f) (slice_get_read xs (length xs) i x refl lt is)
-
--- a place where something stands is within the list
-pub place_below : {X : Type 0} (xs : List X) (i : ℕ) (x : X) → slice_get xs i ≡ Some x → i < length xs
-place_below [] zero x is = absurd (cc)
-place_below [] (suc i) x is = absurd (cc)
-place_below (y ∷ xs) zero x is = omega arith
-place_below (y ∷ xs) (suc i) x is = omega (arith, place_below xs i x is)
 
 pub new_more : (first : ℕ) (ends : List EndFacts) (end : EndFacts) → AreNewEnds first ends → IsNewEnd (first + length ends) end → AreNewEnds first (ends ++ end ∷ [])
 new_more first ends end each one i e is = elim (at_snoc ends end i e is) as (λ _. IsNewEnd (first + i) e) [
@@ -89,27 +78,12 @@ bound_more first ends end script (Some x) (Some y) c p q scripted silent =
     (binds_more first ends end script x y (with_port port out y) p (subst (λ (t : Option Ports). BindsEnd y port end.traffic script t) is q)
     (scripted ∙ ap is_some q.script_is))
 
-pub none_bound : (first : ℕ) (a : Option Ports) → OnPorts (BindsEnds first []) a a
-none_bound first None = refl
-none_bound first (Some x) = record { each = λ i e is. absurd (cc); out = λ i lt. absurd (omega arith); others = λ q other. refl }
-
-pub none_new : (first : ℕ) → AreNewEnds first []
-none_new first i e is = absurd (cc)
-
 -- What stands while ends are released, the last one first, where the first k are still out.
 pub record Releasing (first : ℕ) (ends : List EndFacts) (k : ℕ) (before now : Ports) : Type 0 where
   pub still : (i : ℕ) → i < k → now (first + i) ≡ out
   pub came : (i : ℕ) (end : EndFacts) (traffic : Traffic) → k ≤ i → slice_get ends i ≡ Some end → end.traffic ≡ Some traffic
       → now (first + i) ≡ back traffic end.has_ended
   pub others : (q : ℕ) → ((i : ℕ) → i < length ends → q ≢ first + i) → now q ≡ before q
-
-pub none_released : (first : ℕ) (ends : List EndFacts) (before : Ports) → ((i : ℕ) → i < length ends → before (first + i) ≡ out)
-    → Releasing first ends (length ends) before before
-none_released first ends before still = record {
-  still = still;
-  came = λ i e t le is is'. absurd (let lt = place_below ends i e is in omega arith);
-  others = λ q other. refl;
-}
 
 pub one_released : (first : ℕ) (ends : List EndFacts) (j : ℕ) (end : EndFacts) (traffic : Traffic) (before now : Ports)
     → Releasing first ends (suc j) before now → slice_get ends j ≡ Some end → end.traffic ≡ Some traffic
@@ -126,16 +100,11 @@ one_released first ends j end traffic before now r here told = record {
         ap (λ (n : ℕ). with_port (first + j) (back traffic end.has_ended) now (first + n)) place ∙ at_port (first + j) (back traffic end.has_ended) now
         ∙ ap (λ (x : Traffic). back x end.has_ended) same' ∙ ap (λ (x : EndFacts). back t x.has_ended) same
   ];
-  others = λ q other. off_port (first + j) q (back traffic end.has_ended) now (other j (place_below ends j end here)) ∙ r.others q other;
+  others = λ q other. off_port (first + j) q (back traffic end.has_ended) now (other j (slice_get_within ends j end here)) ∙ r.others q other;
 }
 
 pub all_released : (first : ℕ) (ends : List EndFacts) (before now : Ports) → Releasing first ends 0 before now → ReleasesEnds first ends before now
 all_released first ends before now r = record { each = λ i e t is is'. r.came i e t (omega arith) is is'; others = r.others }
-
-pub out_all : (first : ℕ) (ends : List EndFacts) (a : Option Ports) → IfSome a (λ all. (i : ℕ) → i < length ends → all (first + i) ≡ out)
-    → OnPorts (Releasing first ends (length ends)) a a
-out_all first ends None h = refl
-out_all first ends (Some x) h = none_released first ends x h
 
 pub released_more : (first : ℕ) (ends : List EndFacts) (j : ℕ) (end : EndFacts) (a b c : Option Ports) → OnPorts (Releasing first ends (suc j)) a b
     → slice_get ends j ≡ Some end → end.port ≡ first + j → IfSome a (λ _. is_some end.traffic ≡ true)

@@ -6,7 +6,7 @@ use Rattle.std.proofs.lemmas.List.{append-nil, length-map, length-take, take-app
 use Rattle.std.proofs.Math.Nat.{min-le_left}
 use Rattle.std.proofs.lemmas.List.Sums.{sum_by-cons}
 use Rattle.std.proofs.lemmas.Bool.{true≢false}
-use Rattle.std.proofs.lemmas.Option.{slice_get-map}
+use Rattle.std.proofs.lemmas.Option.{slice_get_within, slice_get-map, same_Some}
 use Rattle.mica_io.specs.Traffic.{Traffic}
 use Rattle.mica_model.specs.declared.options.Options.{Options}
 use Rattle.partition_table.specs.declared.tables.Entry.{Entry}
@@ -20,17 +20,10 @@ use Rattle.mica_serve.specs.Served.{Counts, has_no_turns}
 use Rattle.mica_serve.specs.Beside.{AnsweredBeside}
 use Rattle.mica_serve.specs.Ends.{OnTraffic, EndFacts, KeepsEnd, TellAll, DealsWithEnd, DealsInPartWithEnd, MeansForEnds, ServesAll, ServesFronts, ServesEnd, BeginsEnd, IsUpTo}
 use Rattle.mica_serve.specs.FrontRuns.{FrontRun, MeansForFront, RunsFront, RunFronts, AreTakenIn, closed_in, RanAll, sum_of_totals, SumsUp}
-use Rattle.mica_serve.proofs.Binding.{place_below}
 use Rattle.mica_serve.proofs.ServedBeside.{closed_gets}
 
 pub same_kept : (b a : EndFacts) → b ≡ a → KeepsEnd b a
 same_kept b a same = subst (λ (e : EndFacts). KeepsEnd b e) same (record { port = refl; never_fall = omega arith; tells = λ h. h; scripted = refl })
-
--- an end that tells goes on telling
-pub tells_on : (a b : Option Traffic) → OnTraffic (λ x y. Unit {0}) a b → is_some a ≡ true → is_some b ≡ true
-tells_on None b h never = absurd (true≢false (sym never))
-tells_on (Some a) None h tells = absurd h
-tells_on (Some a) (Some b) h tells = refl
 
 -- what a told end tells after a call
 told_of : (P : Traffic → Traffic → Type 0) (before after : Option Traffic) → is_some before ≡ true → OnTraffic P before after
@@ -46,9 +39,6 @@ some_at (x ∷ xs) (suc i) lt = some_at xs i (omega arith)
 
 abbrev as_ok : Totals → Result Totals ServeFault
 as_ok totals = Ok totals
-
-same_answer : {x y : Result Totals ServeFault} → Some x ≡ Some y → x ≡ y
-same_answer is = cc
 
 counts_cons : (dealings : List Dealing) (fronts : List (List Dealing)) (one totals : Totals) → Counts (dealings ∷ []) one → Counts fronts totals
     → Counts (dealings ∷ fronts) (record { batches = one.batches + totals.batches; requests = one.requests + totals.requests; bad = one.bad + totals.bad })
@@ -181,7 +171,7 @@ module _ (options : Options) (batches : ℕ) where
           each = λ p entry is. record {
             history = taken.history p entry is;
             closed = taken.closed p entry is ∙ same_sums (closed_in p) (λ (d : List Dealing). length (gets_of options p (turns_in d))) rs b.fronts b.many
-                (λ f r d at at'. closed_gets options some taken.runs f (turns_in d) r.old r.new (one taken b f r d at at') p (omega (arith, place_below kept p entry is, taken.shapes.many)));
+                (λ f r d at at'. closed_gets options some taken.runs f (turns_in d) r.old r.new (one taken b f r d at at') p (omega (arith, slice_get_within kept p entry is, taken.shapes.many)));
           };
         };
       }
@@ -196,7 +186,7 @@ module _ (options : Options) (batches : ℕ) where
       answered : (taken : AreTakenIn options rs kept) (b : Built rs totals olds news) (f : ℕ) (d : List Dealing) → slice_get b.fronts f ≡ Some d
           → (old : Sessions) × (new : Sessions) × AnsweredBeside options taken.runs f (turns_in d) old new
       answered taken b f d is =
-          let r = some_at rs f (omega (arith, place_below b.fronts f d is, b.many)) in
+          let r = some_at rs f (omega (arith, slice_get_within b.fronts f d is, b.many)) in
           (r.0.old, r.0.new, one taken b f r.0 d r.1 is)
 
   answer_at : (rs : List FrontRun) (f : ℕ) (answer : Result Totals ServeFault) → slice_get (map (λ (r : FrontRun). r.answer) rs) f ≡ Some answer
@@ -226,7 +216,7 @@ module _ (options : Options) (batches : ℕ) where
   gathered some rs kept olds news run answer sums keeps = record {
     many = run.many_after ∙ sym run.many_before;
     keeps = λ i b a is is'.
-        let r = some_at rs i (omega (arith, place_below olds i b is, run.many_before)) in
+        let r = some_at rs i (omega (arith, slice_get_within olds i b is, run.many_before)) in
         (run.each i r.0 b a r.1 is is').keeps;
     means = means answer sums keeps;
   }
@@ -235,20 +225,20 @@ module _ (options : Options) (batches : ℕ) where
       means (Ok totals) sums taken = (
         taken.shapes,
         λ i b a is is' scripted.
-            let r = some_at rs i (omega (arith, place_below olds i b is, run.many_before)) in
-            let t = some_at sums.0 i (omega (arith, place_below olds i b is, run.many_before, ap length sums.1, length-map rs (λ (r : FrontRun). r.answer), length-map {B = Result Totals ServeFault} sums.0 (λ (t : Totals). Ok t))) in
+            let r = some_at rs i (omega (arith, slice_get_within olds i b is, run.many_before)) in
+            let t = some_at sums.0 i (omega (arith, slice_get_within olds i b is, run.many_before, ap length sums.1, length-map rs (λ (r : FrontRun). r.answer), length-map {B = Result Totals ServeFault} sums.0 (λ (t : Totals). Ok t))) in
             let at : slice_get (map (λ (r : FrontRun). r.answer) rs) i ≡ Some r.0.answer = slice_get-map (λ (r : FrontRun). r.answer) rs i ∙ ap (option_map (λ (r : FrontRun). r.answer)) r.1 in
             let at' : slice_get (map as_ok sums.0) i ≡ Some (as_ok t.0) = slice_get-map as_ok sums.0 i ∙ ap (option_map as_ok) t.1 in
             let both = ap (λ (l : List (Result Totals ServeFault)). slice_get l i) sums.1 in
-            let answer : r.0.answer ≡ as_ok t.0 = same_answer (sym at ∙ both ∙ at') in
+            let answer : r.0.answer ≡ as_ok t.0 = same_Some _ _ (sym at ∙ both ∙ at') in
             (subst (λ x. MeansForFront x options batches r.0 b a) answer (run.each i r.0 b a r.1 is is').means).1 scripted,
         λ tell. all_served some rs totals kept olds news run.many_before taken
             (subst (λ (t : Totals). Built rs t olds news) (sym sums.2) (built rs sums.0 olds news sums.1 run.many_before run.many_after run.each tell)),
       )
       means (Err Net) sums none =
           let r = answer_at rs sums.0 (Err Net) sums.1 in
-          let b = some_at olds sums.0 (omega (arith, place_below rs sums.0 r.0 r.1, run.many_before)) in
-          let a = some_at news sums.0 (omega (arith, place_below rs sums.0 r.0 r.1, run.many_after)) in
+          let b = some_at olds sums.0 (omega (arith, slice_get_within rs sums.0 r.0 r.1, run.many_before)) in
+          let a = some_at news sums.0 (omega (arith, slice_get_within rs sums.0 r.0 r.1, run.many_after)) in
           let m = subst (λ x. MeansForFront x options batches r.0 b.0 a.0) r.2 (run.each sums.0 r.0 b.0 a.0 r.1 b.1 a.1).means in (
             none,
             record {
@@ -261,7 +251,7 @@ module _ (options : Options) (batches : ℕ) where
               stops = λ tell. let t = told_of _ b.0.traffic a.0.traffic (tell sums.0 b.0 b.1) m.1 in record { had = t.0; has = t.1; had_is = t.2; has_is = t.3; leaves = t.4 };
             },
             λ tell i x y is is'.
-                let q = some_at rs i (omega (arith, place_below olds i x is, run.many_before)) in
+                let q = some_at rs i (omega (arith, slice_get_within olds i x is, run.many_before)) in
                 let at : slice_get (map (λ (r : FrontRun). r.answer) rs) i ≡ Some q.0.answer = slice_get-map (λ (r : FrontRun). r.answer) rs i ∙ ap (option_map (λ (r : FrontRun). r.answer)) q.1 in
                 in_part q.0 x y q.0.answer refl (λ e. sums.2 i (at ∙ ap Some e)) (run.each i q.0 x y q.1 is is').means (tell i x is),
           )
@@ -289,7 +279,7 @@ module _ (options : Options) (batches : ℕ) where
       → (f : ℕ) (totals : Totals) → slice_get answers f ≡ Some (Ok totals) → IsUpTo 1000000 totals
   small_answers left answers olds news ran few f totals is =
       let r = answer_at ran.fronts f (Ok totals) (ap (λ l. slice_get l f) (sym ran.answers_are) ∙ is) in
-      let b = some_at olds f (omega (arith, place_below ran.fronts f r.0 r.1, ran.run.many_before)) in
-      let a = some_at news f (omega (arith, place_below ran.fronts f r.0 r.1, ran.run.many_after)) in
+      let b = some_at olds f (omega (arith, slice_get_within ran.fronts f r.0 r.1, ran.run.many_before)) in
+      let a = some_at news f (omega (arith, slice_get_within ran.fronts f r.0 r.1, ran.run.many_after)) in
       let up = (subst (λ x. MeansForFront x options batches r.0 b.0 a.0) r.2 (ran.run.each f r.0 b.0 a.0 r.1 b.1 a.1).means).0 in
       record { datagrams = omega (arith, up.datagrams, few); requests = omega (arith, up.requests, few); refused = omega (arith, up.refused, few) }

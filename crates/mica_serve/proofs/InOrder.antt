@@ -64,16 +64,6 @@ module _ (options : Options) (is_alone : Bool) where
     few = all.few;
   }
 
-  pub none_yet : (old : Sessions) (left : ℕ) → AnswersAll options is_alone old left [] old left []
-  none_yet old left = record {
-    turns = [];
-    asked = refl;
-    replied = refl;
-    each = All-from_recursion (IsTurn 1) [] tt;
-    answers = λ q. refl;
-    few = omega arith;
-  }
-
 -- a request is one write at most
 pub few_of_one : (request : Request) → writes_of_one request ≤ 1
 few_of_one request = by (is_some (write_in request))

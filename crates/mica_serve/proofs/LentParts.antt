@@ -5,25 +5,22 @@ use Rattle.std.specs.List.{AllByRecursion}
 use Rattle.std.proofs.lemmas.Bool.{cases_lt}
 use Rattle.std.proofs.lemmas.List.{length-set, length_push}
 use Rattle.std.proofs.lemmas.List.Elements.{All-from_recursion}
+use Rattle.std.proofs.lemmas.Option.{slice_get_within, same_Some}
 use Rattle.atomic_table.specs.Seated.{TableId}
 use Rattle.mica_model.specs.declared.options.Options.{Options}
 use Rattle.epoch_core.specs.declared.state.OwnerState.{OwnerState}
 use Rattle.epoch_core.specs.declared.reader.ReaderState.{ReaderState}
 use Rattle.epoch_core.specs.Shape.{shape_of}
-use Rattle.epoch_core.specs.OwnerState.{as_made}
 use Rattle.epoch_core.specs.Joins.{lent}
 use Rattle.partition_table.specs.Seats.{reader_state, reader_home}
-use Rattle.owner_queue.specs.JobEnds.{Outbox, outbox, Inbox, inbox}
+use Rattle.owner_queue.specs.JobEnds.{Outbox, outbox, Inbox}
 use Rattle.owner_queue.specs.AckEnds.{AckBox, ack_box}
 use Rattle.owner_queue.proofs.Lists.{set_cases}
 use Rattle.mica_serve.specs.declared.queue_front.FrontPart.{FrontPart}
 use Rattle.mica_serve.specs.QueueFront.{IsNewPart}
 use Rattle.mica_serve.specs.Hands.{OwnerEnd, IsNewOwner, IsLentBy, AreLent, LendsOneMore}
-use Rattle.mica_serve.proofs.Binding.{place_below, at_snoc}
+use Rattle.mica_serve.proofs.Binding.{at_snoc}
 use Rattle.mica_serve.proofs.Gathered.{some_at}
-
-same_some : {X : Type 0} {x y : X} → Some x ≡ Some y → x ≡ y
-same_some is = cc
 
 get_left : {X : Type 0} (xs : List X) (y x : X) (i : ℕ) → slice_get xs i ≡ Some x → slice_get (xs ++ y ∷ []) i ≡ Some x
 get_left [] y x zero is = absurd (cc)
@@ -52,7 +49,7 @@ module _ (most : ℕ) (state : OwnerState) (table : TableId) (jobs : Inbox) wher
   lends_none before = record {
     many = refl;
     lent = λ f old new lt. absurd (omega arith);
-    rest = λ f old new low is is'. same_some (sym is' ∙ is);
+    rest = λ f old new low is is'. same_Some _ _ (sym is' ∙ is);
     acks_many = refl;
     unsent = λ f a is. absurd (none f is);
   }
@@ -104,22 +101,14 @@ module _ (most : ℕ) (state : OwnerState) (table : TableId) (jobs : Inbox) wher
       less : (f : ℕ) → f < k + 1 → k ≢ f → f < k
       less f lt other = elim (cases_lt f k) as (λ _. f < k) [ inl low ↦ low | inr high ↦ absurd (other (omega arith)) ]
 
-  pub lends_all : (options : Options) (acks : List AckBox) (before after : List (List FrontPart)) → state ≡ as_made (shape_of options) → jobs ≡ inbox jobs.queue (length before) most []
-      → LendsTo (length before) acks before after → LendsOneMore options most (owner_with state table jobs acks) before after
-  lends_all options acks before after made fresh l = record {
-    many = l.many;
-    made = record { state = made; jobs = fresh; acks = l.acks_many; unsent = l.unsent };
-    each = λ f old new is is'. l.lent f old new (place_below before f old is) is is';
-  }
-
 -- hands with nothing yet
 pub hands_none : (options : Options) (fronts most : ℕ) (hands : List (List FrontPart)) → length hands ≡ fronts → ((f : ℕ) (own : List FrontPart) → slice_get hands f ≡ Some own → own ≡ [])
     → AreLent options fronts most [] hands
 hands_none options fronts most hands many none = record {
   many = many;
-  fresh = λ p owner is. absurd (let low = place_below [] p owner is in omega arith);
+  fresh = λ p owner is. absurd (let low = slice_get_within [] p owner is in omega arith);
   each_many = λ f own is. ap length (none f own is);
-  each = λ f p own part owner is is' is''. absurd (let low = place_below [] p owner is'' in omega arith);
+  each = λ f p own part owner is is' is''. absurd (let low = slice_get_within [] p owner is'' in omega arith);
 }
 
 -- one owner more lent each front a part
@@ -133,11 +122,11 @@ hands_more options fronts most owners owner hands after so_far one = record {
         | inr h ↦ subst (λ (x : OwnerEnd). IsNewOwner options fronts most x) h.1 (subst (λ (n : ℕ). IsNewOwner options n most owner) so_far.many one.made)
       ];
   each_many = λ f own is.
-      let old = some_at hands f (omega (arith, place_below after f own is, one.many)) in
+      let old = some_at hands f (omega (arith, slice_get_within after f own is, one.many)) in
       let l = one.each f old.0 own old.1 is in
       ap length l.1 ∙ length_push old.0 l.0 ∙ ap (λ n. n + 1) (so_far.each_many f old.0 old.1) ∙ sym (length_push owners owner);
   each = λ f p own part o is part_at o_at.
-      let old = some_at hands f (omega (arith, place_below after f own is, one.many)) in
+      let old = some_at hands f (omega (arith, slice_get_within after f own is, one.many)) in
       let l = one.each f old.0 own old.1 is in
       let at : slice_get (old.0 ++ l.0 ∷ []) p ≡ Some part = ap (λ (x : List FrontPart). slice_get x p) (sym l.1) ∙ part_at in
       by f p part o old.0 old.1 l.0 l.2 (at_snoc old.0 l.0 p part at) (at_snoc owners owner p o o_at);

@@ -1,20 +1,17 @@
 -- Owners take in what fronts have in hand: part by part, and front by front, the last first.
-use Rattle.std.proofs.Common.{◌≡◌, ℕ, zero, suc, ◌+◌, ◌<◌, ◌≤◌, ◌⊎◌, inl, inr, List, [], ◌∷◌, ◌++◌, length, take, drop, Some, refl, sym, ap, ◌∙◌, subst, slice_get, slice_set, arith, append_assoc}
-use Rattle.std.specs.Prelude.{◌≢◌, sum_by}
+use Rattle.std.proofs.Common.{◌≡◌, ℕ, zero, suc, ◌+◌, ◌<◌, ◌≤◌, ◌⊎◌, inl, inr, List, [], ◌∷◌, ◌++◌, length, take, drop, Some, refl, sym, ap, ◌∙◌, subst, slice_get, slice_set, arith}
+use Rattle.std.specs.Prelude.{sum_by}
 use Rattle.std.proofs.lemmas.Bool.{cases_lt}
-use Rattle.std.proofs.lemmas.List.{length-set, take-append-drop, length_push, take_all, take-append-le}
+use Rattle.std.proofs.lemmas.List.{length-set, length_push, take_all, take-append-le}
 use Rattle.std.proofs.lemmas.List.Sums.{sum_by-cons}
+use Rattle.std.proofs.lemmas.Option.{slice_get_within, same_Some}
 use Rattle.partition_table.specs.Seats.{reader_state}
 use Rattle.mica_model.specs.History.{History, IsPrefix}
 use Rattle.owner_queue.specs.Messages.{sent_by, has_end}
 use Rattle.mica_serve.specs.declared.queue_front.FrontPart.{FrontPart}
 use Rattle.mica_serve.specs.Hands.{OwnerEnd, MayMeet, HasMet, MeetsPart, MayMeetHand, MeetsHand, MayMeetAll, HaveMetAll, closed_by, closed_at}
 use Rattle.owner_queue.proofs.Lists.{set_cases}
-use Rattle.mica_serve.proofs.Binding.{place_below}
 use Rattle.mica_serve.proofs.Gathered.{some_at}
-
-pub same_some : {X : Type 0} {x y : X} → Some x ≡ Some y → x ≡ y
-same_some is = cc
 
 -- the owners from a place on took in their parts, and those before it are as they were
 pub record PartsMetFrom (from : ℕ) (parts : List FrontPart) (olds news : List OwnerEnd) : Type 0 where
@@ -26,7 +23,7 @@ pub parts_none : (parts : List FrontPart) (owners : List OwnerEnd) → PartsMetF
 parts_none parts owners = record {
   many = refl;
   before = λ p old new less is_old is_new. cc;
-  met = λ p part old new from is_part is_old is_new. let within = place_below parts p part is_part in absurd (omega arith);
+  met = λ p part old new from is_part is_old is_new. let within = slice_get_within parts p part is_part in absurd (omega arith);
 }
 
 pub parts_one : (from : ℕ) (parts : List FrontPart) (olds mids : List OwnerEnd) (part : FrontPart) (mid new : OwnerEnd) → PartsMetFrom (from + 1) parts olds mids → slice_get parts from ≡ Some part
@@ -43,7 +40,7 @@ parts_one from parts olds mids part mid new so_far is_part at meets = record {
         | inl same ↦
             let is_s_here : slice_get parts from ≡ Some s = subst (λ (q : ℕ). slice_get parts q ≡ Some s) (sym same.0) is_s in
             let is_old_here : slice_get olds from ≡ Some old = subst (λ (q : ℕ). slice_get olds q ≡ Some old) (sym same.0) is_old in
-            let one : part ≡ s = same_some (sym is_part ∙ is_s_here) in
+            let one : part ≡ s = same_Some _ _ (sym is_part ∙ is_s_here) in
             let two : mid ≡ old = so_far.before from old mid (omega arith) is_old_here at in
             subst (λ (x : OwnerEnd). MeetsPart old x s) same.1 (subst (λ (x : OwnerEnd). MeetsPart x new s) two (subst (λ (x : FrontPart). MeetsPart mid new x) one meets))
         | inr other ↦ so_far.met p s old n (past p low other.0) is_s is_old other.1
@@ -60,7 +57,7 @@ parts_all parts olds news met = record { many = met.many; each = λ p part old n
 pub part_may : (from : ℕ) (parts : List FrontPart) (olds mids : List OwnerEnd) (part : FrontPart) (mid : OwnerEnd) → MayMeetHand olds parts → PartsMetFrom (from + 1) parts olds mids
     → slice_get parts from ≡ Some part → slice_get mids from ≡ Some mid → (f : ℕ) × (length mid.acks ≡ f + 1) × MayMeet f mid part
 part_may from parts olds mids part mid may so_far is at =
-    let old = some_at olds from (omega (arith, place_below mids from mid at, so_far.many)) in
+    let old = some_at olds from (omega (arith, slice_get_within mids from mid at, so_far.many)) in
     let same : mid ≡ old.0 = so_far.before from old.0 mid (omega arith) old.1 at in
     subst (λ (x : OwnerEnd). (f : ℕ) × (length x.acks ≡ f + 1) × MayMeet f x part) (sym same) (may.front, may.last from old.0 old.1, may.each from part old.0 is old.1)
 
@@ -80,7 +77,7 @@ drop_whole (x ∷ xs) = drop_whole xs
 drop_one : {X : Type 0} (xs : List X) (k : ℕ) (x : X) → slice_get xs k ≡ Some x → drop k xs ≡ x ∷ drop (suc k) xs
 drop_one [] zero x is = absurd (cc)
 drop_one [] (suc k) x is = absurd (cc)
-drop_one (y ∷ xs) zero x is = ap (λ z. z ∷ xs) (same_some is)
+drop_one (y ∷ xs) zero x is = ap (λ z. z ∷ xs) (same_Some _ _ is)
 drop_one (y ∷ xs) (suc k) x is = drop_one xs k x is
 
 take_get : {X : Type 0} (xs : List X) (n i : ℕ) → i < n → slice_get (take n xs) i ≡ slice_get xs i
@@ -113,13 +110,13 @@ take_less xs ys y k is long =
 pub fronts_none : (owners : List OwnerEnd) (hands : List (List FrontPart)) → MayMeetAll owners hands → FrontsMetFrom (length hands) hands owners owners
 fronts_none owners hands may = record {
   many = refl;
-  met = λ f p own part old low is. let within = place_below hands f own is in absurd (omega arith);
+  met = λ f p own part old low is. let within = slice_get_within hands f own is in absurd (omega arith);
   same = λ p old now is is'.
-      let one : old ≡ now = same_some (sym is ∙ is') in
+      let one : old ≡ now = same_Some _ _ (sym is ∙ is') in
       let none = ap (sum_by (closed_at p)) (drop_whole hands) in
       sym one ∙ (λ i. record old { state = record old.state { met = ap (λ (o : OwnerEnd). o.state.met) one i; closed = zero_more old.state.closed (sum_by (closed_at p) (drop (length hands) hands)) none i }; acks = ap (λ (o : OwnerEnd). o.acks) one i });
   acks = λ p old now is is'.
-      let one : old ≡ now = same_some (sym is ∙ is') in
+      let one : old ≡ now = same_Some _ _ (sym is ∙ is') in
       ap (λ (o : OwnerEnd). o.acks) (sym one) ∙ sym (take_all (length hands) old.acks (omega (arith, may.fronts p old is)));
 }
   where
@@ -133,10 +130,10 @@ module _ (k : ℕ) (hands : List (List FrontPart)) (olds mids : List OwnerEnd) (
     many = may.many k own is ∙ sym so_far.many;
     front = k;
     last = λ p mid at.
-        let old = some_at olds p (omega (arith, place_below mids p mid at, so_far.many)) in
-        ap length (so_far.acks p old.0 mid old.1 at) ∙ take_long old.0.acks (k + 1) (omega (arith, may.fronts p old.0 old.1, place_below hands k own is));
+        let old = some_at olds p (omega (arith, slice_get_within mids p mid at, so_far.many)) in
+        ap length (so_far.acks p old.0 mid old.1 at) ∙ take_long old.0.acks (k + 1) (omega (arith, may.fronts p old.0 old.1, slice_get_within hands k own is));
     each = λ p part mid part_at at.
-        let old = some_at olds p (omega (arith, place_below mids p mid at, so_far.many)) in
+        let old = some_at olds p (omega (arith, slice_get_within mids p mid at, so_far.many)) in
         let m = may.each k p own part old.0 is part_at old.1 in
         let same = so_far.same p old.0 mid old.1 at in
         record {
@@ -153,8 +150,8 @@ module _ (k : ℕ) (hands : List (List FrontPart)) (olds mids : List OwnerEnd) (
     many = meets.many ∙ so_far.many;
     met = λ f p h part old low at part_at old_at. by f p h part old at part_at old_at (cases_lt k f) low;
     same = λ p old new old_at new_at.
-        let mid = some_at mids p (omega (arith, place_below news p new new_at, meets.many)) in
-        let part = some_at own p (omega (arith, place_below news p new new_at, meets.many, so_far.many, may.many k own is)) in
+        let mid = some_at mids p (omega (arith, slice_get_within news p new new_at, meets.many)) in
+        let part = some_at own p (omega (arith, slice_get_within news p new new_at, meets.many, so_far.many, may.many k own is)) in
         let m = meets.each p part.0 mid.0 new part.1 mid.1 new_at in
         let same = so_far.same p old mid.0 old_at mid.1 in
         let closed : mid.0.state.closed + (reader_state part.0.seat).closed ≡ old.state.closed + sum_by (closed_at p) (drop k hands) =
@@ -173,8 +170,8 @@ module _ (k : ℕ) (hands : List (List FrontPart)) (olds mids : List OwnerEnd) (
           acks = new.acks;
         });
     acks = λ p old new old_at new_at.
-        let mid = some_at mids p (omega (arith, place_below news p new new_at, meets.many)) in
-        let part = some_at own p (omega (arith, place_below news p new new_at, meets.many, so_far.many, may.many k own is)) in
+        let mid = some_at mids p (omega (arith, slice_get_within news p new new_at, meets.many)) in
+        let part = some_at own p (omega (arith, slice_get_within news p new new_at, meets.many, so_far.many, may.many k own is)) in
         let m = meets.each p part.0 mid.0 new part.1 mid.1 new_at in
         take_less old.acks new.acks m.answers k (sym (so_far.acks p old mid.0 old_at mid.1) ∙ m.acks) (new_long p old mid.0 new m old_at mid.1);
   }
@@ -183,7 +180,7 @@ module _ (k : ℕ) (hands : List (List FrontPart)) (olds mids : List OwnerEnd) (
       new_long p old mid new m old_at mid_at =
           let one : length mid.acks ≡ length new.acks + 1 = ap length m.acks ∙ length_push new.acks m.answers in
           let two : length mid.acks ≡ k + 1 = ap length (so_far.acks p old mid old_at mid_at)
-          ∙ take_long old.acks (k + 1) (omega (arith, may.fronts p old old_at, place_below hands k own is)) in
+          ∙ take_long old.acks (k + 1) (omega (arith, may.fronts p old old_at, slice_get_within hands k own is)) in
           omega (arith, one, two)
 
       by : (f p : ℕ) (h : List FrontPart) (part : FrontPart) (old : OwnerEnd) → slice_get hands f ≡ Some h → slice_get h p ≡ Some part → slice_get olds p ≡ Some old
@@ -191,10 +188,10 @@ module _ (k : ℕ) (hands : List (List FrontPart)) (olds mids : List OwnerEnd) (
       by f p h part old at part_at old_at (inl more) low = so_far.met f p h part old (omega arith) at part_at old_at
       by f p h part old at part_at old_at (inr le) low =
           let number : f ≡ k = omega arith in
-          let hand : h ≡ own = same_some (sym at ∙ ap (slice_get hands) number ∙ is) in
+          let hand : h ≡ own = same_Some _ _ (sym at ∙ ap (slice_get hands) number ∙ is) in
           let part_here : slice_get own p ≡ Some part = ap (λ l. slice_get l p) (sym hand) ∙ part_at in
-          let mid = some_at mids p (omega (arith, place_below olds p old old_at, so_far.many)) in
-          let new = some_at news p (omega (arith, place_below olds p old old_at, so_far.many, meets.many)) in
+          let mid = some_at mids p (omega (arith, slice_get_within olds p old old_at, so_far.many)) in
+          let new = some_at news p (omega (arith, slice_get_within olds p old old_at, so_far.many, meets.many)) in
           let m = meets.each p part mid.0 new.0 part_here mid.1 new.1 in
           let same = so_far.same p old mid.0 old_at mid.1 in
           let last : length new.0.acks ≡ f = new_long p old mid.0 new.0 m old_at mid.1 ∙ sym number in

@@ -1,7 +1,7 @@
 -- What the loops over the owners and the fronts of a server have made so far.
 use Rattle.std.proofs.Common.{◌≡◌, ℕ, suc, ◌+◌, ◌<◌, inl, inr, List, [], ◌∷◌, ◌++◌, length, map, Some, refl, sym, ap, ◌∙◌, subst, slice_get, slice_set, arith, append_assoc, All, Vec, Global}
 use Rattle.std.proofs.lemmas.List.{length-map, map_push, map-set}
-use Rattle.std.proofs.lemmas.Option.{slice_get-map}
+use Rattle.std.proofs.lemmas.Option.{slice_get_within, slice_get-map, same_Some}
 use Rattle.std.specs.Prelude.{option_map}
 use Rattle.mica_model.specs.declared.options.Options.{Options}
 use Rattle.epoch_core.specs.declared.state.OwnerState.{OwnerState}
@@ -13,11 +13,8 @@ use Rattle.owner_queue.specs.AckEnds.{AckBox, ack_box}
 use Rattle.mica_serve.specs.declared.queue_front.FrontPart.{FrontPart}
 use Rattle.mica_serve.specs.QueueFront.{QueueView, IsNewPart, queue_view}
 use Rattle.mica_serve.specs.Hands.{OwnerEnd, IsLentBy, LendsPart, AreSendersOf, LendsEach, AreLent, LendsOneMore}
-use Rattle.mica_serve.proofs.Binding.{at_snoc, place_below}
+use Rattle.mica_serve.proofs.Binding.{at_snoc}
 use Rattle.mica_serve.proofs.LentParts.{LendsTo, lends_none, lends_one, hands_more, new_parts}
-
-same_some : {X : Type 0} {x y : X} → Some x ≡ Some y → x ≡ y
-same_some is = cc
 
 pub nil_of : {X : Type 0} (xs : List X) → length xs ≡ 0 → xs ≡ []
 nil_of [] none = refl
@@ -33,7 +30,7 @@ parts_of made = map (λ (front : QueueView). front.parts) made
 pub senders_of : (owner : OwnerEnd) (n most : ℕ) (senders : List Outbox) → owner.jobs ≡ inbox owner.jobs.queue n most [] → length senders ≡ n
     → ((p : ℕ) → p < n → slice_get senders p ≡ Some (outbox owner.jobs.queue p most [])) → AreSendersOf owner senders
 senders_of owner n most senders fresh many each f sender at =
-    same_some (sym at ∙ each f (omega (arith, place_below senders f sender at, many))) ∙ ap (λ m. outbox owner.jobs.queue f m []) (sym (ap (λ (b : Inbox). b.jobs) fresh))
+    same_Some _ _ (sym at ∙ each f (omega (arith, slice_get_within senders f sender at, many))) ∙ ap (λ m. outbox owner.jobs.queue f m []) (sym (ap (λ (b : Inbox). b.jobs) fresh))
 
 -- the senders that are left, from a place on
 abbrev AreSendersFrom : OwnerEnd → ℕ → List Outbox → Type 0
@@ -97,7 +94,7 @@ lends_last first now k left before after none so_far =
       same = refl;
       acks = l.acks_many ∙ whole;
       unsent = l.unsent;
-      each = λ f was own was_at own_at. l.lent f was own (let low = place_below before f was was_at in omega arith) was_at own_at;
+      each = λ f was own was_at own_at. l.lent f was own (let low = slice_get_within before f was was_at in omega arith) was_at own_at;
     })
 
 pub lends_more : (options : Options) (most : ℕ) (old new : OwnerEnd) (before after : List (List FrontPart)) → old.state ≡ as_made (shape_of options)

@@ -36,7 +36,7 @@ use Rattle.owner_queue.proofs.Gains.{step_gains}
 use Rattle.owner_queue.proofs.Lists.{All-before, All-after, all_at, set_cases}
 use Rattle.mica_serve.specs.Served.{Placed, steps_in, history_in}
 use Rattle.mica_serve.specs.QueueFront.{acknowledged_by}
-use Rattle.mica_serve.specs.OwnerWork.{DoneJob, job_in, jobs_in, job_of, placed_in, answers_to, IsAckBoxOf, IsNewAckBox, IsSent, HasDone, HasServed}
+use Rattle.mica_serve.specs.OwnerWork.{DoneJob, job_in, jobs_in, job_of, placed_in, answers_to, IsAckBoxOf, IsNewAckBox, IsSent, HasDone, HasAnsweredJobs}
 use Rattle.mica_serve.proofs.Alone.{stamp_grows, history_append, run_append}
 
 -- the acknowledgements to a front: those of its jobs, whose tickets nothing bounds but what bounds those of its messages
@@ -47,7 +47,7 @@ pub record AckedTo (home : TableId) (owner : OwnerState) (front : ℕ) (taken : 
 -- what was done until now
 pub record IsServing (home now_home : TableId) (old new : OwnerState) (from to : Inbox) (before after : List AckBox) : Type 0 where
   pub home_is : now_home ≡ home
-  pub served : HasServed old new from to before after
+  pub served : HasAnsweredJobs old new from to before after
   pub each : (front : ℕ) (box : AckBox) → slice_get after front ≡ Some box → AckedTo home new front to.taken box
 
 -- nothing was done yet

@@ -17,9 +17,9 @@ use Rattle.batch_packets.specs.declared.replies.Reply.{Reply}
 use Rattle.batch_packets.specs.ReplyGrammar.{replies_text, IsReply}
 use Rattle.batch_packets.specs.Splitting.{SplitsInto}
 use Rattle.mica_serve.specs.Turn.{Turn, write_in, partition_in, status_at, get_reply}
-use Rattle.mica_serve.specs.Session.{Sessions, Reads, ChangesOnly, AnswersBy, DealsWith, DealsInPart}
+use Rattle.mica_serve.specs.Session.{Sessions, Reads, ChangesOnly, AnswersBy, DealsWith}
 use Rattle.mica_serve.specs.Dealing.{IsTurn, IsNoBatch, bad_batch_text}
-use Rattle.mica_serve.specs.Answering.{RepliesTo, AnswersAll, AnswersFirst}
+use Rattle.mica_serve.specs.Answering.{RepliesTo, AnswersAll}
 
 pub err_anyway : {T E : Type 0} {X : Type 0} (r : Result T E) → X → OnErr r X
 err_anyway (Ok t) x = tt
@@ -102,16 +102,3 @@ answered options is_alone old new left left_after bytes batch replies datagrams 
   answers = all.answers;
   few = all.few;
 }
-
--- some were
-pub answered_part : (options : Options) (is_alone : Bool) (old new : Sessions) (left left_after : ℕ) (bytes : List ℕ) (batch : Batch)
-    → SpellsBatch bytes batch → AnswersFirst options is_alone old left batch.requests new left_after → DealsInPart options is_alone old left bytes new left_after
-answered_part options is_alone old new left left_after bytes batch spelled first = record {
-  turns = first.turns;
-  begins = inr (batch, spelled, first.later, first.begins);
-  answers = first.answers;
-  few = first.few;
-}
-
-pub none_answered : (options : Options) (is_alone : Bool) (sessions : Sessions) (left : ℕ) (bytes : List ℕ) → DealsInPart options is_alone sessions left bytes sessions left
-none_answered options is_alone sessions left bytes = record { turns = []; begins = inl refl; answers = λ q. refl; few = omega arith }

@@ -3,6 +3,9 @@ use Rattle.std.proofs.Common.{◌≡◌, ℕ, suc, ◌*◌, ◌≤◌, List, [],
 use Rattle.std.specs.List.{AllZip, AllByRecursion}
 use Rattle.std.proofs.lemmas.List.{length-map}
 use Rattle.std.proofs.lemmas.List.Elements.{All-from_recursion}
+use Rattle.std.proofs.lemmas.Simd.{map-map}
+use Rattle.std.proofs.lemmas.Slice.Zip.{AllZip-long}
+use Rattle.std.proofs.lemmas.Option.{slice_get_within}
 use Rattle.atomic_table.specs.Seated.{TableId}
 use Rattle.mica_model.specs.declared.options.Options.{Options}
 use Rattle.epoch_core.specs.declared.state.OwnerState.{OwnerState}
@@ -23,19 +26,14 @@ use Rattle.mica_serve.specs.Hands.{OwnerEnd, IsReadyOwner, IsNewOwner, AreFronts
 use Rattle.mica_serve.specs.OwnerWork.{IsNewAckBox}
 use Rattle.mica_serve.specs.QueueFront.{QueueView}
 use Rattle.mica_serve.specs.Tasks.{owner_end, IsReadyFront, IsReadyWorker, FrontRan, WorkersRan, owners_in, fronts_in}
-use Rattle.mica_serve.proofs.Binding.{place_below}
 use Rattle.mica_serve.proofs.Gathered.{some_at}
 use Rattle.mica_serve.proofs.WorkerParts.{all_ready, owners_ran, fronts_ran}
-use Rattle.mica_serve.proofs.TakenIn.{may_meet, ran_all, zip_long, zip_at, map_at, at_map}
+use Rattle.mica_serve.proofs.TakenIn.{HaveRan, owner_at, may_meet, ran_all, map_at, at_map}
 
 -- what each place has, all have
 all_places : {X : Type 0} (Q : X → Type 0) (xs : List X) → ((i : ℕ) (x : X) → slice_get xs i ≡ Some x → Q x) → AllByRecursion Q xs
 all_places Q [] each = tt
 all_places Q (x ∷ xs) each = (each 0 x refl, all_places Q xs (λ i. each (suc i)))
-
-pub maps : {X Y Z : Type 0} (f : Y → Z) (g : X → Y) (xs : List X) → map f (map g xs) ≡ map (λ x. f (g x)) xs
-maps f g [] = refl
-maps f g (x ∷ xs) = ap (λ l. f (g x) ∷ l) (maps f g xs)
 
 zip_maps : {X Y : Type 0} (Q : Y → Y → Type 0) (g : X → Y) (xs ys : List X) → AllZip (λ x y. Q (g x) (g y)) xs ys → AllZip Q (map g xs) (map g ys)
 zip_maps Q g [] [] z = tt
@@ -107,22 +105,25 @@ module _ {P D : Type 0} (owner : P → OwnerState) (home : P → TableId) (facts
     }
 
     module _ {owners : List (OwnerTask P)} {served : List (FrontTask D)} (r : Ran os views tasks ends owners served) where
-      owners_zip : AllZip RanOwner (map end_of_owner os) (map end_of_owner owners)
-      owners_zip = zip_maps RanOwner end_of_owner os owners
-          (subst (λ (l : List (OwnerTask P)). AllZip (λ o v. RanOwner (end_of_owner o) (end_of_owner v)) os l) (sym r.owners_are) (owners_ran owner home ports.batches facts os tasks r.ws r.vs r.gathered r.ran))
-
-      fronts_zip : AllZip (FrontRan ports.batches facts) tasks served
-      fronts_zip = subst (λ (l : List (FrontTask D)). AllZip (FrontRan ports.batches facts) tasks l) (sym r.served_are) (fronts_ran owner home ports.batches facts os tasks r.ws r.vs r.gathered r.ran)
+      all : HaveRan ports.batches facts options ports.fronts (255 * ports.batches) (map end_of_owner os) (map end_of_owner owners) views tasks served
+      all = record {
+        some = r.paired.some;
+        opened = r.paired.opened;
+        owners_ran = zip_maps RanOwner end_of_owner os owners
+            (subst (λ (l : List (OwnerTask P)). AllZip (λ o v. RanOwner (end_of_owner o) (end_of_owner v)) os l) (sym r.owners_are) (owners_ran owner home ports.batches facts os tasks r.ws r.vs r.gathered r.ran));
+        fronts_ran = subst (λ (l : List (FrontTask D)). AllZip (FrontRan ports.batches facts) tasks l) (sym r.served_are) (fronts_ran owner home ports.batches facts os tasks r.ws r.vs r.gathered r.ran);
+        views_are = r.paired.fronts;
+      }
 
       -- as many fronts as before
       pub served_long : length served ≡ length views
-      served_long = zip_long (FrontRan ports.batches facts) tasks served fronts_zip ∙ sym (length-map tasks (λ (t : FrontTask D). t.front)) ∙ ap length r.paired.fronts ∙ length-map views (λ (v : QueueView). Some v)
+      served_long = AllZip-long (FrontRan ports.batches facts) tasks served all.fronts_ran ∙ sym (length-map tasks (λ (t : FrontTask D). t.front)) ∙ ap length r.paired.fronts ∙ length-map views (λ (v : QueueView). Some v)
 
       -- the owners may meet the fronts
       pub meeting : (parts : List (List FrontPart)) → parts ≡ map (λ (t : FrontTask D). t.parts.items) served → MayMeetAll (map end_of_owner owners) parts
       meeting parts are =
           subst (λ (l : List (List FrontPart)). MayMeetAll (map end_of_owner owners) l) (sym are)
-          (may_meet ports.batches facts options ports.fronts (255 * ports.batches) r.paired.some (map end_of_owner os) (map end_of_owner owners) views r.paired.opened owners_zip tasks served fronts_zip r.paired.fronts)
+          (may_meet all)
 
       module _ (parts : List (List FrontPart)) (parts_are : parts ≡ map (λ (t : FrontTask D). t.parts.items) served) (after : List (OwnerTask P))
           (met : HaveMetAll (map end_of_owner owners) (map end_of_owner after) parts) where
@@ -133,11 +134,10 @@ module _ {P D : Type 0} (owner : P → OwnerState) (home : P → TableId) (facts
         pub all_came : (news : List D) → news ≡ map (λ (t : FrontTask D). t.end) served
             → RanAll options ports.batches (map (λ (t : OwnerTask P). entry_in (owner t.part)) after) (map (λ (t : FrontTask D). t.answer) served) (map facts ends) (map facts news)
         all_came news news_are =
-            let it = ran_all ports.batches facts options ports.fronts (255 * ports.batches) r.paired.some (map end_of_owner os) (map end_of_owner owners) views r.paired.opened owners_zip tasks served fronts_zip
-            r.paired.fronts (map end_of_owner after) here in
-            let kept = maps (λ (o : OwnerEnd). entry_in o.state) end_of_owner after in
-            let one : map (λ (t : FrontTask D). facts t.end) tasks ≡ map facts ends = sym (maps facts (λ (t : FrontTask D). t.end) tasks) ∙ ap (map facts) r.paired.own_ends in
-            let two : map (λ (t : FrontTask D). facts t.end) served ≡ map facts news = sym (maps facts (λ (t : FrontTask D). t.end) served) ∙ ap (map facts) (sym news_are) in
+            let it = ran_all all (map end_of_owner after) here in
+            let kept = map-map (λ (o : OwnerEnd). entry_in o.state) end_of_owner after in
+            let one : map (λ (t : FrontTask D). facts t.end) tasks ≡ map facts ends = sym (map-map facts (λ (t : FrontTask D). t.end) tasks) ∙ ap (map facts) r.paired.own_ends in
+            let two : map (λ (t : FrontTask D). facts t.end) served ≡ map facts news = sym (map-map facts (λ (t : FrontTask D). t.end) served) ∙ ap (map facts) (sym news_are) in
             let left = map (λ (o : OwnerEnd). entry_in o.state) (map end_of_owner after) in
             let answers = map (λ (t : FrontTask D). t.answer) served in
             subst (λ (k : List Entry). RanAll options ports.batches k answers (map facts ends) (map facts news)) kept
@@ -149,9 +149,7 @@ module _ {P D : Type 0} (owner : P → OwnerState) (home : P → TableId) (facts
         idle p task at =
             let one = length-map after end_of_owner in
             let two = length-map owners end_of_owner in
-            let many = zip_long RanOwner (map end_of_owner os) (map end_of_owner owners) owners_zip in
-            let now = some_at (map end_of_owner owners) p (omega (arith, place_below after p task at, met.many)) in
-            let old = some_at (map end_of_owner os) p (omega (arith, place_below (map end_of_owner owners) p now.0 now.1)) in
-            let z = zip_at RanOwner (map end_of_owner os) (map end_of_owner owners) p old.0 now.0 owners_zip old.1 now.1 in
+            let now = some_at (map end_of_owner owners) p (omega (arith, slice_get_within after p task at, met.many)) in
+            let z = owner_at all p now.0 now.1 in
             let same = met.same p now.0 (end_of_owner task) now.1 (at_map end_of_owner after p task at) in
-            ap (λ (o : OwnerEnd). o.state.phase) same ∙ ap (λ (s : OwnerState). s.phase) z.served.gained ∙ ap (λ (s : OwnerState). s.phase) (r.paired.opened.lent.fresh p old.0 old.1).state
+            ap (λ (o : OwnerEnd). o.state.phase) same ∙ ap (λ (s : OwnerState). s.phase) z.ran.served.gained ∙ ap (λ (s : OwnerState). s.phase) z.new.state

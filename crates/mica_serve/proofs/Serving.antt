@@ -1,19 +1,19 @@
 -- The datagrams of one end, one after another.
-use Rattle.std.proofs.Common.{◌≡◌, ℕ, suc, ◌+◌, ◌<◌, ◌≤◌, inl, inr, Bool, true, false, cond, List, [], ◌∷◌, ◌++◌, length, map, take, drop, Option, Some, None, refl, sym, ap, ◌∙◌, subst, append_assoc, eqb, ltb-true, ltb-false, arith, length-append}
-use Rattle.std.specs.Prelude.{IfSome, nat_lt, sum_by}
+use Rattle.std.proofs.Common.{◌≡◌, ℕ, suc, ◌+◌, ◌<◌, inl, inr, Bool, true, false, cond, List, [], ◌∷◌, ◌++◌, length, map, take, drop, Option, Some, None, refl, sym, ap, ◌∙◌, subst, append_assoc, eqb, arith, length-append}
+use Rattle.std.specs.Prelude.{sum_by}
 use Rattle.std.specs.List.{filter}
-use Rattle.std.proofs.lemmas.List.{append-nil, map-append, length-map, length-drop, take_at, drop_at, take_all, drop_all, take-append-drop}
+use Rattle.std.proofs.lemmas.List.{append-nil, map-append, length-map, length-drop, take-append-drop}
 use Rattle.std.proofs.lemmas.Grind.{flat_map-append}
 use Rattle.std.proofs.lemmas.List.Sums.{sum_by-cons}
 use Rattle.std.proofs.lemmas.List.Elements.{All-append, All-from_recursion, filter-append}
-use Rattle.mica_io.specs.Traffic.{Datagram, Traffic, Sent, new_traffic}
+use Rattle.mica_io.specs.Traffic.{Datagram, Traffic, Sent}
 use Rattle.mica_model.specs.declared.options.Options.{Options}
 use Rattle.mica_serve.specs.declared.ports.Totals.{Totals}
 use Rattle.mica_serve.specs.Turn.{Turn}
 use Rattle.mica_serve.specs.Dealing.{Dealing, IsDealing, turns_in, due_after, due_to}
 use Rattle.mica_serve.specs.Session.{Sessions, AnswersInOrder, count_of_writes}
 use Rattle.mica_serve.specs.Served.{Counts, has_no_turns}
-use Rattle.mica_serve.specs.Ends.{OnTraffic, IsAtEnd, ServesOne, StopsOne, ServesSome, ServesEnd, LeavesEnd, counted, none_counted}
+use Rattle.mica_serve.specs.Ends.{OnTraffic, ServesOne, StopsOne, ServesSome, LeavesEnd, counted}
 use Rattle.mica_serve.proofs.InOrder.{answers_append, count_append}
 
 -- two facts, one after the other
@@ -23,12 +23,6 @@ on_traffic_then f None b c p q = tt
 on_traffic_then f (Some a) None c p q = absurd p
 on_traffic_then f (Some a) (Some b) None p q = absurd q
 on_traffic_then f (Some a) (Some b) (Some c) p q = f a b c p q
-
-pub on_traffic_also : {P R : Traffic → Traffic → Type 0} {F : Traffic → Type 0} → ((a b : Traffic) → F a → P a b → R a b) → (a b : Option Traffic)
-    → IfSome a F → OnTraffic P a b → OnTraffic R a b
-on_traffic_also f None b fresh p = tt
-on_traffic_also f (Some a) None fresh p = absurd p
-on_traffic_also f (Some a) (Some b) fresh p = f a b fresh p
 
 -- what is due to dealings, and to one more
 due_append : (n : ℕ) (one two : List Dealing) → due_after n (one ++ two) ≡ due_after n one ++ due_after (n + length one) two
@@ -90,20 +84,6 @@ counts_more dealings d requests totals is c =
     by false = refl
 
 module _ (options : Options) (is_alone : Bool) (old : Sessions) (left : ℕ) where
-  pub serves_none : (a : Option Traffic) → IfSome a (λ t. t ≡ new_traffic t.left) → OnTraffic (ServesSome options is_alone old left 0 none_counted old left) a a
-  serves_none None fresh = tt
-  serves_none (Some a) fresh = record {
-    dealings = [];
-    many = refl;
-    each = All-from_recursion IsDealing [] tt;
-    split = refl;
-    received = ap (λ (t : Traffic). t.received) fresh;
-    sent = ap (λ (t : Traffic). t.sent) fresh;
-    answers = λ q. refl;
-    few = omega arith;
-    counts = record { batches = refl; requests = refl; bad = refl };
-  }
-
   pub serves_more : (n requests : ℕ) (totals : Totals) (between new : Sessions) (left_before left_after : ℕ) (a b c : Traffic)
       → ServesSome options is_alone old left n totals between left_before a b → ServesOne options is_alone between left_before requests new left_after b c
       → ServesSome options is_alone old left (n + 1) (counted requests totals) new left_after a c
@@ -127,62 +107,6 @@ module _ (options : Options) (is_alone : Bool) (old : Sessions) (left : ℕ) whe
         few = omega (arith, some.few, one.few, ap count_of_writes (turns_more some.dealings d), count_append options is_alone (turns_in some.dealings) d.turns);
         counts = counts_more some.dealings d requests totals one.count some.counts;
       }
-
-  -- so many were served
-  pub ends_full : (batches : ℕ) (totals : Totals) (new : Sessions) (left_after : ℕ) (a b : Traffic) → ServesSome options is_alone old left batches totals new left_after a b
-      → ServesEnd options is_alone old left batches false totals new left_after a b
-  ends_full batches totals new left_after a b some =
-      let datagrams = datagrams_of some.dealings in
-      let many : length datagrams ≡ batches = omega (arith, length-map some.dealings (λ x. x.datagram), some.many) in
-      let front : take batches a.left ≡ datagrams = ap (take batches) some.split ∙ take_at datagrams b.left batches many in
-      let rest : drop batches a.left ≡ b.left = ap (drop batches) some.split ∙ drop_at datagrams b.left batches many in
-      record {
-        dealings = some.dealings;
-        each = some.each;
-        asked = sym front;
-        told = whole b (drop batches a.left) (take batches a.left) (due_to some.dealings) (sym rest) (some.received ∙ sym front) some.sent;
-        at_end = not_below (length a.left) batches (omega (arith, ap length some.split, length-append datagrams b.left, many));
-        answers = some.answers;
-        few = some.few;
-        counts = some.counts;
-      }
-    where
-      whole : (t : Traffic) (l r : List Datagram) (s : List Sent) → t.left ≡ l → t.received ≡ r → t.sent ≡ s → t ≡ record { left = l; received = r; sent = s }
-      whole t l r s p q o =
-          ap (λ (x : List Datagram). record t { left = x }) p ∙ ap (λ (x : List Datagram). record { left = l; received = x; sent = t.sent }) q
-          ∙ ap (λ (x : List Sent). record { left = l; received = r; sent = x }) o
-
-      not_below : (m n : ℕ) → n ≤ m → false ≡ nat_lt m n
-      not_below m n le = elim (nat_lt m n) as (λ b. nat_lt m n ≡ b → false ≡ b) [ true ↦ λ e. absurd (let lt = ltb-true m n e in omega arith) | false ↦ λ e. refl ] refl
-
-  -- the end came first
-  pub ends_early : (n batches : ℕ) (totals : Totals) (new : Sessions) (left_after : ℕ) (a b c : Traffic) → n < batches
-      → ServesSome options is_alone old left n totals new left_after a b → IsAtEnd b c → ServesEnd options is_alone old left batches true totals new left_after a c
-  ends_early n batches totals new left_after a b c lt some stop =
-      let datagrams = datagrams_of some.dealings in
-      let many : length datagrams ≡ n = omega (arith, length-map some.dealings (λ x. x.datagram), some.many) in
-      let all : a.left ≡ datagrams = some.split ∙ ap (λ (l : List Datagram). datagrams ++ l) stop.1 ∙ append-nil datagrams in
-      let few : length a.left < batches = omega (arith, ap length all, many, lt) in
-      let front : take batches a.left ≡ a.left = take_all batches a.left (omega (arith, few)) in
-      record {
-        dealings = some.dealings;
-        each = some.each;
-        asked = sym (front ∙ all);
-        told = stop.0 ∙ whole b (drop batches a.left) (take batches a.left) (due_to some.dealings)
-            (stop.1 ∙ sym (drop_all batches a.left (omega (arith, few)))) (some.received ∙ sym (front ∙ all)) some.sent;
-        at_end = below (length a.left) batches few;
-        answers = some.answers;
-        few = some.few;
-        counts = some.counts;
-      }
-    where
-      whole : (t : Traffic) (l r : List Datagram) (s : List Sent) → t.left ≡ l → t.received ≡ r → t.sent ≡ s → t ≡ record { left = l; received = r; sent = s }
-      whole t l r s p q o =
-          ap (λ (x : List Datagram). record t { left = x }) p ∙ ap (λ (x : List Datagram). record { left = l; received = x; sent = t.sent }) q
-          ∙ ap (λ (x : List Sent). record { left = l; received = r; sent = x }) o
-
-      below : (m n : ℕ) → m < n → true ≡ nat_lt m n
-      below m n lt = elim (nat_lt m n) as (λ b. nat_lt m n ≡ b → true ≡ b) [ true ↦ λ e. refl | false ↦ λ e. absurd (let ge = ltb-false m n e in omega arith) ] refl
 
   -- a fault came
   pub stops_at : (n batches : ℕ) (totals : Totals) (new : Sessions) (left_after : ℕ) (a b c : Traffic) → n < batches

@@ -168,6 +168,3 @@ module _ (old : Solo) (p : ℕ) (step : RunStep) (new : Solo) (h : StepsPartitio
 
   pub changes_only : ChangesOnly p (sessions_in old) (sessions_in new)
   changes_only q other = ap (λ (s : Solo). alone_with s.options (history_at s.histories q)) h.gained ∙ ap (alone_with old.options) (history_others old.histories p q _ other)
-
-  pub same_options : new.options ≡ old.options
-  same_options = ap (λ (s : Solo). s.options) h.gained

@@ -4,13 +4,12 @@ use Rattle.std.specs.Prelude.{◌≢◌, Result, Ok, Err}
 use Rattle.std.proofs.lemmas.Bool.{cases_lt, true≢false}
 use Rattle.std.proofs.lemmas.List.{map-append, take_more, take_all}
 use Rattle.std.proofs.lemmas.List.Sums.{sum_by_push}
-use Rattle.std.proofs.lemmas.Option.{slice_get-get_or, get_or_from_slice_get}
+use Rattle.std.proofs.lemmas.Option.{slice_get_within, slice_get-get_or, get_or_from_slice_get}
 use Rattle.mica_serve.specs.declared.ports.Totals.{Totals}
 use Rattle.mica_serve.specs.declared.ports.ServeFault.{ServeFault}
 use Rattle.mica_serve.specs.declared.ports.ServeFault.TheVariants.{Net, NoMemory}
 use Rattle.mica_serve.specs.Ends.{IsUpTo, added, none_counted}
 use Rattle.mica_serve.specs.FrontRuns.{sum_of_totals, SumsUp}
-use Rattle.mica_serve.proofs.Binding.{place_below}
 
 abbrev Answer : Type 0
 Answer = Result Totals ServeFault
@@ -47,7 +46,7 @@ answer_at answers k answer is less = slice_get-get_or answers k (Ok none_counted
 
 taken : (k : ℕ) (answers : List Answer) (answer : Answer) → slice_get answers k ≡ Some answer → take (k + 1) answers ≡ take k answers ++ answer ∷ []
 taken k answers answer is =
-    take_more answers k answer (place_below answers k answer is) ∙ ap (λ (a : Answer). take k answers ++ a ∷ []) (get_or_from_slice_get answers k answer answer is)
+    take_more answers k answer (slice_get_within answers k answer is) ∙ ap (λ (a : Answer). take k answers ++ a ∷ []) (get_or_from_slice_get answers k answer answer is)
 
 summed_more : (all : List Totals) (one : Totals) → added (sum_of_totals all) one ≡ sum_of_totals (all ++ one ∷ [])
 summed_more all one = λ i. record {
@@ -97,4 +96,4 @@ pub sums_fault : (answers : List Answer) (totals : Totals) → SumsTo (length an
 sums_fault answers totals s = let f = s.fault refl in (f.0, f.2, no_want)
   where
     no_want : (i : ℕ) → slice_get answers i ≢ Some (Err NoMemory)
-    no_want i = λ e. s.no_want i (place_below answers i (Err NoMemory) e) e
+    no_want i = λ e. s.no_want i (slice_get_within answers i (Err NoMemory) e) e

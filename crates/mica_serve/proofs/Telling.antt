@@ -22,7 +22,7 @@ use Rattle.epoch_core.proofs.SameMachine.{same_state, same_may_give}
 use Rattle.epoch_core.proofs.Prefixes.{prefix_then}
 use Rattle.partition_table.specs.Seats.{reader_state, reader_home, note_state}
 use Rattle.optimistic_get.specs.declared.getting.Got.{Got}
-use Rattle.optimistic_get.specs.declared.getting.Got.TheVariants.{Hit as GotHit, Miss as GotMiss, Again}
+use Rattle.optimistic_get.specs.declared.getting.Got.TheVariants.{Hit as GotHit, Miss as GotMiss}
 use Rattle.optimistic_get.specs.Asked.{IsReadAt, IsRead}
 use Rattle.optimistic_get.proofs.Repeated.{same_answer}
 use Rattle.owner_queue.specs.declared.ack.Ack.{Ack}
@@ -192,6 +192,3 @@ module _ (old new : FrontPart) (key : List ℕ) (stamp : ℕ) (buffer : List ℕ
   reads_miss got is read =
       let it = subst (λ (g : Got). IsRead (reader_state old.seat) key g buffer (reader_state new.seat)) is read in
       part_reads Miss None (refl, it.1) it.0
-
-pub never_again : (old new : ReaderState) (key buffer : List ℕ) (got : Got) (first last : ℕ) → got ≡ Again first last → IsRead old key got buffer new → ⊥
-never_again old new key buffer got first last is read = subst (λ (g : Got). IsRead old key g buffer new) is read

@@ -3,6 +3,7 @@ use Rattle.std.proofs.Common.{◌≡◌, ℕ, ◌+◌, ◌-◌, ◌<◌, ◌≤�
 use Rattle.std.specs.Prelude.{◌≢◌, is_some, nat_lt, Result, Ok, Err, IfSome}
 use Rattle.std.proofs.lemmas.Bool.{cases_lt}
 use Rattle.std.proofs.lemmas.List.Elements.{All-from_recursion}
+use Rattle.std.proofs.lemmas.Option.{slice_get_within}
 use Rattle.mica_io.specs.Traffic.{Datagram, Traffic, new_traffic}
 use Rattle.mica_io.specs.Ports.{Port, Ports, out, back, is_waiting}
 use Rattle.mica_model.specs.declared.options.Options.{Options}
@@ -17,7 +18,7 @@ use Rattle.mica_serve.specs.declared.ports.ServeFault.{ServeFault}
 use Rattle.mica_serve.specs.declared.ports.ServeFault.TheVariants.{Net, NoMemory}
 use Rattle.mica_serve.specs.NetRun.{NetFacts, OnPorts, ReleasesAll, ReleasesNet, KeepsNet, BindsAndServes, FailsToBind, MeansForRun, HasNoFault, HasStopped, IsCauseOf}
 use Rattle.mica_serve.specs.Ends.{EndFacts, TellAll, AreNewEnds, AreAtPorts, BindsEnds, ReleasesEnds, DealsWithEnd, DealsInPartWithEnd, DealsInPartWithAll, StopsSome, ServesAll, ServesFronts, MeansForEnds, KeepsEnd}
-use Rattle.mica_serve.proofs.Binding.{place_below, rose_on, rose_before}
+use Rattle.mica_serve.proofs.Binding.{rose_on, rose_before}
 use Rattle.mica_serve.proofs.Gathered.{same_kept, some_at}
 use Rattle.mica_serve.proofs.ServedBeside.{served_beside}
 use Rattle.mica_serve.proofs.Through.{cut_short}
@@ -126,7 +127,7 @@ module _ (ports : PortOptions) (olds news : List EndFacts) (before mid after : P
       let leaves = stops.leaves in
       let cut = cut_short batches stops.has s.new.has_ended leaves.dealings leaves.begins.each leaves.begins.asked leaves.begins.sent leaves.short in (
         s.front,
-        omega (arith, place_below olds s.front s.old s.was),
+        omega (arith, slice_get_within olds s.front s.old s.was),
         (ap is_waiting w.waited, subst (λ (p : Port). IsCutShort batches p) (sym (released.each s.front s.new stops.has s.is stops.has_is)) cut),
       )
 
@@ -137,7 +138,7 @@ module _ (ports : PortOptions) (olds news : List EndFacts) (before mid after : P
     runs = all.runs;
     served = served_beside options some all.runs all.fronts ports before after (all.many ∙ full) all.ran
         (λ f dealings is.
-        let lt = place_below all.fronts f dealings is in
+        let lt = slice_get_within all.fronts f dealings is in
         let b = some_at olds f (omega (arith, lt, all.many)) in
         let a = some_at news f (omega (arith, lt, all.many, many)) in
         port_served ports.batches f dealings b.0 a.0 b.1 a.1 (all.each f dealings b.0 a.0 is b.1 a.1))
@@ -163,13 +164,13 @@ none_served batches first ends before mid bound i b a is is' =
 pub kept_at : (first : ℕ) (olds news : List EndFacts) → length news ≡ length olds → AreNewEnds first olds
     → ((i : ℕ) (b a : EndFacts) → slice_get olds i ≡ Some b → slice_get news i ≡ Some a → KeepsEnd b a) → AreAtPorts first news
 kept_at first olds news many new kept i a is =
-    let b = some_at olds i (omega (arith, many, place_below news i a is)) in
+    let b = some_at olds i (omega (arith, many, slice_get_within news i a is)) in
     (kept i b.0 a b.1 is).port ∙ (new i b.0 b.1).port_is
 
 pub kept_tell : (olds news : List EndFacts) → length news ≡ length olds
     → ((i : ℕ) (b a : EndFacts) → slice_get olds i ≡ Some b → slice_get news i ≡ Some a → KeepsEnd b a) → TellAll olds → TellAll news
 kept_tell olds news many kept tell i a is =
-    let b = some_at olds i (omega (arith, many, place_below news i a is)) in
+    let b = some_at olds i (omega (arith, many, slice_get_within news i a is)) in
     (kept i b.0 a b.1 is).tells (tell i b.0 b.1)
 
 on_ports_then : (P Q R : Ports → Ports → Type 0) → ((a b c : Ports) → P a b → Q b c → R a c) → (a b c : Option Ports)
@@ -202,7 +203,7 @@ module _ (options : Options) (some : 1 ≤ options.partitions) (ports : PortOpti
       by (Some x) (Some y) (Some l) is b =
           rel.steady (ap is_some (run.fails ∙ is))
           (λ i a at.
-          let o = some_at run.olds i (omega (arith, run.many, place_below news i a at)) in
+          let o = some_at run.olds i (omega (arith, run.many, slice_get_within news i a at)) in
           run.means.2.1 i o.0 a o.1 at (b.each i o.0 o.1).scripted ∙ (run.are_new i o.0 o.1).no_faults)
           ∙ run.means.1 (ap is_some is)
 

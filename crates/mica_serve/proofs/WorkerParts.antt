@@ -1,8 +1,7 @@
 -- Owners and fronts as the workers of a server, and back.
-use Rattle.std.proofs.Common.{◌≡◌, ℕ, suc, ◌+◌, ◌<◌, length-append, List, [], ◌∷◌, ◌++◌, length, map, slice_index_or, refl, ap, ◌∙◌, subst, arith, All}
+use Rattle.std.proofs.Common.{◌≡◌, ℕ, suc, ◌+◌, ◌<◌, List, [], ◌∷◌, ◌++◌, length, map, slice_index_or, refl, ap, ◌∙◌, subst, arith, All}
 use Rattle.std.specs.List.{AllZip}
 use Rattle.std.proofs.lemmas.List.Elements.{All-append, All-map}
-use Rattle.std.proofs.lemmas.List.{length-map}
 use Rattle.atomic_table.specs.Seated.{TableId}
 use Rattle.epoch_core.specs.declared.state.OwnerState.{OwnerState}
 use Rattle.mica_serve.specs.declared.worker.OwnerTask.{OwnerTask}
@@ -59,12 +58,6 @@ module _ {P D : Type 0} where
   fronts_all [] [] = refl
   fronts_all [] (f ∷ fs) = ap (λ l. f ∷ l) (fronts_all [] fs)
   fronts_all (o ∷ os) fs = fronts_all os fs
-
-  pub all_long : (os : List (OwnerTask P)) (fs : List (FrontTask D)) (ws : List (Worker P D)) → ws ≡ map Owner os ++ map Front fs → length ws ≡ length os + length fs
-  all_long os fs ws is =
-      let one : length (map {A = OwnerTask P} {B = Worker P D} Owner os) ≡ length os = length-map os Owner in
-      let two : length (map {A = FrontTask D} {B = Worker P D} Front fs) ≡ length fs = length-map fs Front in
-      ap length is ∙ length-append (map Owner os) (map Front fs) ∙ omega arith
 
   module _ (owner : P → OwnerState) (home : P → TableId) (batches : ℕ) (facts : D → EndFacts) where
     pub all_ready : (os : List (OwnerTask P)) (fs : List (FrontTask D)) → All (λ (t : OwnerTask P). IsReadyOwner (owner_end owner home t)) os → All (IsReadyFront batches facts) fs

@@ -13,7 +13,7 @@ use Rattle.owner_queue.specs.JobEnds.{Outbox, outbox, Inbox, inbox}
 use Rattle.owner_queue.specs.AckEnds.{AckBox, ack_box, BeginsAcks}
 use Rattle.mica_serve.specs.declared.queue_front.FrontPart.{FrontPart}
 use Rattle.mica_serve.specs.QueueFront.{QueueView, queue_view}
-use Rattle.mica_serve.specs.OwnerWork.{IsNewAckBox, HasServed}
+use Rattle.mica_serve.specs.OwnerWork.{IsNewAckBox, HasAnsweredJobs}
 
 -- of an owner: its state and its table, its end of the queue of jobs, and its end of the queue of answers to each front
 pub record OwnerEnd : Type 0 where
@@ -91,7 +91,7 @@ pub record IsReadyOwner (owner : OwnerEnd) : Type 0 where
 
 -- an owner took its queue to the end, and answered the jobs that it took
 pub record RanOwner (old new : OwnerEnd) : Type 0 where
-  pub served : HasServed old.state new.state old.jobs new.jobs old.acks new.acks
+  pub served : HasAnsweredJobs old.state new.state old.jobs new.jobs old.acks new.acks
   pub ended : (f : ℕ) → f < old.jobs.senders → has_end f new.jobs.taken ≡ true
   pub table : new.table ≡ old.table
 

@@ -70,7 +70,7 @@ pub record IsSent (front : ℕ) (done : List DoneJob) (was box : AckBox) : Type 
   pub answers : map acknowledged_by box.list ≡ answers_to front done
 
 -- The owner of a fresh queue ran the jobs that it took, and each front was sent the answers to its own, in order.
-pub record HasServed (old new : OwnerState) (from to : Inbox) (before after : List AckBox) : Type 0 where
+pub record HasAnsweredJobs (old new : OwnerState) (from to : Inbox) (before after : List AckBox) : Type 0 where
   pub queue : to ≡ inbox from.queue from.senders from.jobs to.taken
   pub low : All (λ m. sender_of m < from.senders) to.taken
   pub done : List DoneJob

@@ -6,7 +6,7 @@ ghost use Rattle.epoch_core.specs.OwnerState.{options_in};
 ghost use Rattle.partition_table.specs.declared.reader.Note.{Note};
 ghost use Rattle.partition_table.specs.Seats.{note_state, note_home};
 ghost use Rattle.owner_queue.specs.Messages.{has_end};
-ghost use Rattle.mica_serve.specs.OwnerWork.{IsAckBoxOf, IsNewAckBox, HasDone, HasServed};
+ghost use Rattle.mica_serve.specs.OwnerWork.{IsAckBoxOf, IsNewAckBox, HasDone, HasAnsweredJobs};
 
 use epoch_core::LendPartition;
 use mica_io::Gate;
@@ -51,7 +51,7 @@ pub(crate) fn serve_owner<W: Wait, P: LendPartition<Reader = ReaderSeat, Note = 
     requires fresh { jobs.old.taken ≡ [] }
     requires fronts { vec_len acks.old ≡ jobs.old.senders }
     requires acks { All (IsNewAckBox (P.home part.old) (P.owner part.old)) acks.old.items }
-    ensures served { HasServed (P.owner part.old) (P.owner part.new) jobs.old jobs.new acks.old.items acks.new.items }
+    ensures served { HasAnsweredJobs (P.owner part.old) (P.owner part.new) jobs.old jobs.new acks.old.items acks.new.items }
     ensures ended { (p : ℕ) → p < jobs.old.senders → has_end p jobs.new.taken ≡ true }
     ensures home { P.home part.new ≡ P.home part.old }
 {

@@ -2,12 +2,12 @@ use Rattle.std.proofs.Common.{rules, ◌≡◌, ◌<◌, ◌+◌, ℕ, List, [],
 use Rattle.std.specs.Option.{option_to_list}
 use Rattle.std.specs.Prelude.{option_map}
 use Rattle.std.proofs.lemmas.List.{length-map, map-set, take_all}
-use Rattle.std.proofs.lemmas.Option.{slice_get_read, slice_get-map}
+use Rattle.std.proofs.lemmas.Option.{slice_get_within, slice_get_read, slice_get-map}
 use Rattle.mica_serve.specs.declared.worker.OwnerTask.{OwnerTask}
 use Rattle.mica_serve.specs.declared.queue_front.FrontPart.{FrontPart}
 use Rattle.mica_serve.specs.Hands.{OwnerEnd, MayMeet}
 use Rattle.mica_serve.specs.Tasks.{owner_end}
-use Rattle.mica_serve.proofs.Binding.{place_below, popped}
+use Rattle.mica_serve.proofs.Binding.{popped}
 use Rattle.mica_serve.proofs.Meetings.{PartsMetFrom, parts_none, parts_one, parts_all, part_may}
 use Rattle.mica_serve.proofs.meeting.meet_front.Given as given
 use Rattle.mica_serve.proofs.meeting.meet_front.Goals as goal
@@ -33,7 +33,7 @@ index_mut-owner-requires g c =
       arith,
       c.len-at.ensures,
       c.pop.new.self.ok,
-      place_below c.args.parts.items (length rest) c.in-Some.part it.1,
+      slice_get_within c.args.parts.items (length rest) c.in-Some.part it.1,
       c.requires.many,
       length-map c.args.owners.now.items (view g),
       c.loop-part.invariant.met.many,
@@ -60,7 +60,7 @@ module _ (g : given.Over) (c : goal.After-index_mut-owner g) where
       let old = c.index_mut-owner.result.now in
       let less : length rest < length owners = omega (
         arith,
-        place_below c.args.parts.items (length rest) c.in-Some.part it.1,
+        slice_get_within c.args.parts.items (length rest) c.in-Some.part it.1,
         c.requires.many,
         length-map c.args.owners.now.items (view g),
         c.loop-part.invariant.met.many,

@@ -1,12 +1,12 @@
 use Rattle.std.proofs.Common.{◌+◌, ◌*◌, ◌++◌, List, length, map, sym, ap, ◌∙◌, subst, arith, append-nil}
 use Rattle.std.specs.Vec.Iter.{into_iter_items}
 use Rattle.std.proofs.lemmas.List.{length-map, length_push}
+use Rattle.std.proofs.lemmas.Option.{slice_get_within}
 use Rattle.mica_serve.specs.declared.worker.OwnerTask.{OwnerTask}
 use Rattle.mica_serve.specs.Hands.{AreLent}
 use Rattle.mica_serve.specs.QueueFront.{QueueView, queue_view}
 use Rattle.mica_serve.specs.Tasks.{owner_end}
 use Rattle.mica_serve.specs.declared.queue_front.FrontPart.{FrontPart}
-use Rattle.mica_serve.proofs.Binding.{place_below}
 use Rattle.mica_serve.proofs.Opened.{nil_of, rows, parts_of, next_long, next_new, next_lent, fronts_pushed}
 use Rattle.mica_serve.proofs.opening.open_all.Goals as goal
 
@@ -40,7 +40,7 @@ loop-hand-init g c =
       lent = subst (λ (l : List (List FrontPart)). AreLent c.args.options.now c.args.ports.now.fronts (255 * c.args.ports.now.batches) (map f c.in_ok-owners.owners.items) l)
           (sym (ap (λ (l : List QueueView). parts_of l ++ rows left) none ∙ ap rows c.into_iter-hand-iterator.ensures.into_iter_gives.0)) c.in_ok-owners.ensures.lent;
       number = sym (ap length none);
-      each = λ n front at. absurd (let low = place_below c.args.fronts.now.items n front at in let long = ap length none in omega arith);
+      each = λ n front at. absurd (let low = slice_get_within c.args.fronts.now.items n front at in let long = ap length none in omega arith);
     }
 
 pub loop-hand-preserved : goal.loop-hand-preserved

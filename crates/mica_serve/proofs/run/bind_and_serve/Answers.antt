@@ -1,5 +1,5 @@
 use Rattle.std.proofs.Common.{◌≡◌, rules, length, vec_len, map, sym, ap, ◌∙◌, arith}
-use Rattle.std.specs.Prelude.{is_some, Err}
+use Rattle.std.specs.Prelude.{Err}
 use Rattle.std.proofs.lemmas.List.{length-map}
 use Rattle.std.proofs.lemmas.Result.{err_from_is_err_and}
 use Rattle.mica_serve.specs.Ends.{EndFacts, end_facts}

@@ -1,10 +1,10 @@
 use Rattle.std.proofs.Common.{map, vec_capacity, sym, ap, ◌∙◌, subst, arith}
-use Rattle.std.specs.Prelude.{is_some}
+use Rattle.std.proofs.lemmas.Simd.{map-map}
 use Rattle.partition_table.specs.Tabled.{entry_in}
 use Rattle.mica_serve.specs.declared.worker.FrontTask.{FrontTask}
 use Rattle.mica_serve.specs.Ends.{EndFacts, end_facts}
 use Rattle.mica_serve.specs.FrontRuns.{RanAll}
-use Rattle.mica_serve.proofs.RunAll.{Paired, has_ran, ready, served_long, meeting, all_came, idle, maps}
+use Rattle.mica_serve.proofs.RunAll.{Paired, has_ran, ready, served_long, meeting, all_came, idle}
 use Rattle.mica_serve.proofs.running.run_all.Given as given
 use Rattle.mica_serve.proofs.running.run_all.Goals as goal
 
@@ -43,14 +43,14 @@ pub meet_all-requires : goal.meet_all-requires
 meet_all-requires g c =
     let ran = has_ran g.P.Partition.owner g.P.Partition.home (facts g) c.args.options.now c.args.ports.now c.requires.options.partitions.0 c.requires.server.made c.pair_up.ensures.fronts (c.pair_up.ensures.ends ∙ (λ i. (c.replace-ends_before.ensures.value i).items))
     c.run_workers.new.workers.items c.gather.ensures.items c.run_workers.ensures c.take_apart.ensures.owners c.take_apart.ensures.fronts in
-    let hands = ap (map (λ own. own.items)) c.part_fronts.ensures.hands ∙ maps (λ own. own.items) (λ (t : FrontTask g.row.D.Denot). t.parts) c.take_apart.new.fronts.items in
+    let hands = ap (map (λ own. own.items)) c.part_fronts.ensures.hands ∙ map-map (λ own. own.items) (λ (t : FrontTask g.row.D.Denot). t.parts) c.take_apart.new.fronts.items in
     meeting _ _ _ _ _ ran (map (λ own. own.items) c.part_fronts.new.hands.items) hands
 
 pub returns-clause-ran : goal.returns-clause-ran
 returns-clause-ran g c =
     let ran = has_ran g.P.Partition.owner g.P.Partition.home (facts g) c.args.options.now c.args.ports.now c.requires.options.partitions.0 c.requires.server.made c.pair_up.ensures.fronts (c.pair_up.ensures.ends ∙ (λ i. (c.replace-ends_before.ensures.value i).items))
     c.run_workers.new.workers.items c.gather.ensures.items c.run_workers.ensures c.take_apart.ensures.owners c.take_apart.ensures.fronts in
-    let hands = ap (map (λ own. own.items)) c.part_fronts.ensures.hands ∙ maps (λ own. own.items) (λ (t : FrontTask g.row.D.Denot). t.parts) c.take_apart.new.fronts.items in
+    let hands = ap (map (λ own. own.items)) c.part_fronts.ensures.hands ∙ map-map (λ own. own.items) (λ (t : FrontTask g.row.D.Denot). t.parts) c.take_apart.new.fronts.items in
     let owner = g.P.Partition.owner in
     subst (λ a. RanAll c.args.options.now c.args.ports.now.batches (map (λ task. entry_in (owner task.part)) c.meet_all.new.owners.items) a (map (facts g) c.args.ends.now.items) (map (facts g) c.part_fronts.new.ends.items))
     (sym c.part_fronts.ensures.answers)
@@ -60,5 +60,5 @@ pub returns-clause-idle : goal.returns-clause-idle
 returns-clause-idle g c =
     let ran = has_ran g.P.Partition.owner g.P.Partition.home (facts g) c.args.options.now c.args.ports.now c.requires.options.partitions.0 c.requires.server.made c.pair_up.ensures.fronts (c.pair_up.ensures.ends ∙ (λ i. (c.replace-ends_before.ensures.value i).items))
     c.run_workers.new.workers.items c.gather.ensures.items c.run_workers.ensures c.take_apart.ensures.owners c.take_apart.ensures.fronts in
-    let hands = ap (map (λ own. own.items)) c.part_fronts.ensures.hands ∙ maps (λ own. own.items) (λ (t : FrontTask g.row.D.Denot). t.parts) c.take_apart.new.fronts.items in
+    let hands = ap (map (λ own. own.items)) c.part_fronts.ensures.hands ∙ map-map (λ own. own.items) (λ (t : FrontTask g.row.D.Denot). t.parts) c.take_apart.new.fronts.items in
     idle _ _ _ _ _ ran (map (λ own. own.items) c.part_fronts.new.hands.items) hands c.meet_all.new.owners.items c.meet_all.ensures

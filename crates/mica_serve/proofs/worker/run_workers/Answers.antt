@@ -1,6 +1,5 @@
 use denote.Param.Send.{sendable}
 use Rattle.std.proofs.Common.{arith, sym, ap, subst, ◌∙◌, ◌≡◌, ◌<◌, ◌++◌, length, take, drop, slice_index_or}
-use Rattle.std.specs.Prelude.{is_some}
 use Rattle.std.proofs.Math.Seq.{take-append_seam}
 use Rattle.std.proofs.lemmas.List.Elements.{All-get_or}
 use Rattle.mica_serve.specs.declared.worker.Worker.{Worker}

@@ -1,5 +1,4 @@
 use Rattle.std.proofs.Common.{sym, ◌∙◌}
-use Rattle.std.specs.Prelude.{is_some}
 use Rattle.mica_serve.specs.QueueFront.{sessions_of}
 use Rattle.mica_serve.specs.Ends.{EndFacts, end_facts}
 use Rattle.mica_serve.proofs.FrontEnds.{runs_front, tells_still}

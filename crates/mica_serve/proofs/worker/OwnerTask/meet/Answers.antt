@@ -1,12 +1,13 @@
 use Rattle.std.proofs.Common.{◌≡◌, ◌+◌, ℕ, [], ◌∷◌, ◌++◌, length, slice_get, sym, ap, ◌∙◌, subst, arith}
 use Rattle.std.specs.Option.{option_to_list}
 use Rattle.std.proofs.lemmas.List.{length_push}
+use Rattle.std.proofs.lemmas.Option.{same_Some}
 use Rattle.mica_model.specs.History.{History, IsPrefix}
 use Rattle.epoch_core.specs.declared.state.OwnerState.{OwnerState}
 use Rattle.partition_table.specs.Seats.{reader_state}
 use Rattle.owner_queue.specs.AckEnds.{AckBox, BeginsAcks}
 use Rattle.owner_queue.specs.Messages.{sent_by, has_end}
-use Rattle.mica_serve.proofs.Meetings.{last_of, get_last, same_some}
+use Rattle.mica_serve.proofs.Meetings.{last_of, get_last}
 use Rattle.mica_serve.proofs.worker.OwnerTask.meet.Goals as goal
 
 pub take_in-requires-clause-queue : goal.take_in-requires-clause-queue
@@ -53,7 +54,7 @@ returns g c =
       met = record {
         whole = ap (λ (m : ℕ). sent_by m old.jobs.taken) (sym may.number) ∙ c.take_in.ensures.whole;
         begins = λ a at.
-            subst (λ (b : AckBox). BeginsAcks part.acks.list b.list) (same_some (sym (ap (λ l. slice_get l (length rest)) is ∙ get_last rest c.in-Some.answers) ∙ at)) c.take_in-2.ensures.begins;
+            subst (λ (b : AckBox). BeginsAcks part.acks.list b.list) (same_Some _ _ (sym (ap (λ l. slice_get l (length rest)) is ∙ get_last rest c.in-Some.answers) ∙ at)) c.take_in-2.ensures.begins;
         seen = subst (λ (h : History). IsPrefix (reader_state part.seat).seen h) (ap (λ (o : OwnerState). o.history) met)
             (subst (λ (h : History). IsPrefix h (owner new).history) (ap (λ (o : OwnerState). o.met.seen) met) c.meet.ensures.kept.met_seen);
       };
