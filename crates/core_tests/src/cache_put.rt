@@ -4,11 +4,11 @@ ghost use Rattle.std.specs.Prelude.{◌≡◌, ◌<◌};
 ghost use Rattle.epoch_core.specs.OwnerState.{as_made};
 ghost use Rattle.core_tests.specs.CachePut.{one_bucket, IsMarked};
 
-use cache_partition::CachePartition;
+use crate::partitions::{cache_over, write};
 use epoch_core::{
     OwnerEvent, OwnerWords, Partition, PlainWords, Shape, WordAt, holds_key, write_item,
 };
-use mica_model::{Mode, Op, Outcome};
+use mica_model::{Mode, Op, Options, Outcome};
 use std::process::Abort;
 use std::test::Fail;
 
@@ -87,11 +87,12 @@ fn the_words_and_events_of_a_put(rt: HostRuntime) -> Result<(), Fail> {
     let mut words = PlainWords::new(rt.alloc(), &ONE_BUCKET, 8)?;
     mark_put(&mut words);
     finish_put(&mut words);
-    assert!(rt; has_words_of_the_put(&mut words));
-    assert!(rt; words.events() == EVENTS.as_slice());
-    assert!(rt; holds_key(&mut words, 0, b"a"));
-    assert!(rt; !holds_key(&mut words, 0, b"b"));
-    assert!(rt; !holds_key(&mut words, 0, b"aa"));
+    assert!(rt; has_words_of_the_put(&mut words) && words.events() == EVENTS.as_slice());
+    assert!(rt;
+        holds_key(&mut words, 0, b"a")
+            && !holds_key(&mut words, 0, b"b")
+            && !holds_key(&mut words, 0, b"aa")
+    );
     Ok(())
 }
 
@@ -109,13 +110,22 @@ fn a_key_under_another_hash(rt: HostRuntime) -> Result<(), Fail> {
     Ok(())
 }
 
+const OPTIONS: Options = Options {
+    mode: Mode::Cache,
+    partitions: 1,
+    buckets: 1,
+    spares: 0,
+    words: 1024,
+    readers: 1,
+    tries: 1,
+    wear: 68_719_476_736,
+};
+
 #[test]
 fn a_partition_stores_the_same_words(rt: HostRuntime) -> Result<(), Fail> {
-    let words = PlainWords::new(rt.alloc(), &ONE_BUCKET, 8)?;
-    let mut partition = CachePartition::new(words);
-    let outcome = partition.put(b"a", b"1");
+    let mut partition = cache_over(&rt, &OPTIONS, 8)?;
+    let outcome = write(&mut partition, Op::Put, b"a", b"1");
     let words = partition.into_words();
-    assert!(rt; outcome == Outcome::Stored);
-    assert!(rt; words.events() == EVENTS.as_slice());
+    assert!(rt; outcome == Some(Outcome::Stored) && words.events() == EVENTS.as_slice());
     Ok(())
 }

@@ -1,6 +1,6 @@
 //! Gets between whose loads an owner's writes happen, at every cut, judged by the plain machine at the carried stamp.
 
-use crate::scripts::{Judge, MOST_EVENTS, Script, count_events, expect_at_cuts};
+use crate::scripts::{Judge, MOST_EVENTS, Script, Written, count_events, expect_after_loads};
 use mica_model::{Mode, Op, Options};
 use std::alloc::AllocGlobal;
 use std::process::Abort;
@@ -35,41 +35,45 @@ fn expect_every_cut(rt: &(impl Abort + AllocGlobal), script: Script<'_>) -> Resu
     assert!(rt; count < MOST_EVENTS);
     for first in 0..count + 1 {
         for then in first..count + 1 {
-            for loads in 1..26 {
-                expect_at_cuts(rt, script, &mut judge, (first, loads, then))?;
-            }
+            expect_after_loads(rt, script, &mut judge, first, 25, then)?;
         }
     }
     assert!(rt; judge.has_seen_each_kind());
     Ok(())
 }
 
+static CACHE_WRITES: [Written; 3] = [
+    (Op::Put, "a", "1", 1),
+    (Op::Put, "a", "2", 1),
+    (Op::Del, "a", "", 1),
+];
+
 #[test]
 fn every_cut_of_cache_mode(rt: HostRuntime) -> Result<(), Fail> {
-    let writes = [
-        (Op::Put, "a", "1", 1),
-        (Op::Put, "a", "2", 1),
-        (Op::Del, "a", "", 1),
-    ];
-    let script = Script {
-        options: CACHE,
-        writes: &writes,
-        key: "a",
-    };
-    expect_every_cut(&rt, script)
+    expect_every_cut(
+        &rt,
+        Script {
+            options: CACHE,
+            writes: &CACHE_WRITES,
+            key: "a",
+        },
+    )
 }
+
+static STORE_WRITES: [Written; 3] = [
+    (Op::Put, "a", "1", 1),
+    (Op::Del, "a", "", 1),
+    (Op::Put, "b", "2", 1),
+];
 
 #[test]
 fn every_cut_of_store_mode(rt: HostRuntime) -> Result<(), Fail> {
-    let writes = [
-        (Op::Put, "a", "1", 1),
-        (Op::Del, "a", "", 1),
-        (Op::Put, "b", "2", 1),
-    ];
-    let script = Script {
-        options: STORE,
-        writes: &writes,
-        key: "a",
-    };
-    expect_every_cut(&rt, script)
+    expect_every_cut(
+        &rt,
+        Script {
+            options: STORE,
+            writes: &STORE_WRITES,
+            key: "a",
+        },
+    )
 }

@@ -1,17 +1,34 @@
-//! The tests of the plain machines and of the core: the calls of an owner over plain words, with words that were found by
-//! hand.
+//! The tests of what stands below the server and the commands, with answers that were found by hand or by another
+//! program: words, heaps, datagrams, adapters and reports, both machines, the core and the partitions event by event, and
+//! readers in threads of their own.
 #![tactic(auto)]
 
 #[cfg(test)]
+mod adapters;
+#[cfg(test)]
 mod cache_put;
 #[cfg(test)]
+mod drawn_heap;
+#[cfg(test)]
 mod every_cut;
+#[cfg(test)]
+mod heap;
+#[cfg(test)]
+mod jobs;
+#[cfg(test)]
+mod lent;
 #[cfg(test)]
 mod machine;
 #[cfg(test)]
 mod machine_steps;
 #[cfg(test)]
 mod one_spare;
+#[cfg(test)]
+mod packets;
+#[cfg(test)]
+mod partitions;
+#[cfg(test)]
+mod reports;
 #[cfg(test)]
 mod same_as_machine;
 #[cfg(test)]
@@ -22,3 +39,5 @@ mod scripts;
 mod settled;
 #[cfg(test)]
 mod torn_get;
+#[cfg(test)]
+mod words;

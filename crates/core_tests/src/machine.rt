@@ -1,11 +1,11 @@
 //! The plain machine of either mode.
 
-ghost use Rattle.mica_words.specs.Item.{KeyFits};
 ghost use Rattle.mica_model.specs.Options.{IsValid};
-ghost use Rattle.mica_model.specs.Write.{HasValueOf};
 
 use mica_io::NoMemory;
-use mica_model::{Answer, CacheMachine, Fate, ItemBuf, Mode, Op, Options, Outcome, StoreMachine};
+use mica_model::{
+    Answer, CacheMachine, Fate, ItemBuf, Mode, Op, Options, Outcome, StoreMachine, write_fits,
+};
 use std::alloc::Global;
 
 /// The machine of a mode.
@@ -26,32 +26,31 @@ impl Machine {
         }
     }
 
-    /// Whether it may reply this to the write.
-    pub(crate) fn allows(&self, op: Op, key: &[u8], value: &[u8], outcome: Outcome) -> bool
-        requires key { KeyFits key.now }
-        requires value { HasValueOf op value.now }
-    {
-        match self {
-            Machine::Cache(machine) => machine.allows(op, key, value, outcome),
-            Machine::Store(machine) => machine.allows(op, key, value, outcome),
-        }
+    /// Whether the write fits, and the machine may reply this to it.
+    pub(crate) fn allows(&self, op: Op, key: &[u8], value: &[u8], outcome: Outcome) -> bool {
+        write_fits(op, key, value)
+            && match self {
+                Machine::Cache(machine) => machine.allows(op, key, value, outcome),
+                Machine::Store(machine) => machine.allows(op, key, value, outcome),
+            }
     }
 
-    /// One step.
+    /// One step, where the write fits.
     pub(crate) fn apply(
         &mut self,
         alloc: Global,
         op: Op,
         key: &[u8],
         value: &[u8],
-    ) -> Result<Outcome, NoMemory>
-        requires key { KeyFits key.now }
-        requires value { HasValueOf op value.now }
-    {
-        match self {
+    ) -> Result<Option<Outcome>, NoMemory> {
+        if !write_fits(op, key, value) {
+            return Ok(None);
+        }
+        let outcome = match self {
             Machine::Cache(machine) => machine.apply(alloc, op, key, value),
             Machine::Store(machine) => machine.apply(alloc, op, key, value),
-        }
+        };
+        Ok(Some(outcome?))
     }
 
     pub(crate) fn stamp(&self) -> u64 {

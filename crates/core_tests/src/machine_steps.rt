@@ -1,11 +1,9 @@
 //! The plain machines of both modes, step by step.
 
-ghost use Rattle.mica_model.specs.Options.{IsValid};
-
 use crate::machine::Machine;
 use mica_io::NoMemory;
-use mica_model::{Answer, Fate, ItemBuf, Mode, Op, Options, Outcome, write_fits};
-use std::alloc::Global;
+use mica_model::{Answer, Fate, ItemBuf, Mode, Op, Options, Outcome};
+use std::alloc::{AllocGlobal, Global};
 use std::process::Abort;
 use std::test::Fail;
 
@@ -28,10 +26,11 @@ fn is_replied(
 ) -> Result<bool, NoMemory> {
     let (op, key, value) = write;
     let (key, value) = (key.as_bytes(), value.as_bytes());
-    if !write_fits(op, key, value) || !machine.allows(op, key, value, outcome) {
-        return Ok(false);
-    }
-    Ok(machine.apply(alloc, op, key, value)? == outcome && machine.stamp() == stamp)
+    Ok(
+        machine.allows(op, key, value, outcome)
+            && machine.apply(alloc, op, key, value)? == Some(outcome)
+            && machine.stamp() == stamp,
+    )
 }
 
 fn has_answer(
@@ -90,23 +89,34 @@ const STORE: Options = Options {
     ..CACHE
 };
 
+// The number of the first step that does not hold, from 0.
+fn first_failed(
+    alloc: Global,
+    machine: &mut Machine,
+    steps: &[Step],
+) -> Result<Option<usize>, NoMemory> {
+    for (number, step) in steps.iter().enumerate() {
+        if !step.holds(alloc, machine)? || !machine.is_counted() {
+            return Ok(Some(number));
+        }
+    }
+    Ok(None)
+}
+
 fn expect_steps(
     rt: &(impl Abort + AllocGlobal),
     options: &Options,
     steps: &[Step],
-) -> Result<(), Fail>
-    requires { IsValid options.now }
-{
+) -> Result<(), Fail> {
+    assert!(rt; options.is_valid());
     let mut machine = Machine::new(rt.alloc(), options)?;
-    for (number, step) in steps.iter().enumerate() {
-        let holds = step.holds(rt.alloc(), &mut machine)?;
-        assert!(rt; holds && machine.is_counted(), "step {number}");
-    }
+    let failed = first_failed(rt.alloc(), &mut machine, steps)?;
+    assert!(rt; failed.is_none(), "{failed:?}");
     Ok(())
 }
 
 // A value that fits the room of its key is kept in place, and a longer one is appended.
-static IN_PLACE: [Step; 11] = [
+const IN_PLACE: &[Step] = &[
     Step::Put("a", "1", 1, Outcome::Stored, 262_144),
     Step::Hit("a", "1", 1),
     Step::Put("a", "2", 1, Outcome::Stored, 262_145),
@@ -121,7 +131,7 @@ static IN_PLACE: [Step; 11] = [
 ];
 
 // Each of the first items has 128 words, where there are 256.
-static PASSED: [Step; 8] = [
+const PASSED: &[Step] = &[
     Step::Put("a", "x", 1000, Outcome::Stored, 8_388_608),
     Step::Put("b", "x", 1000, Outcome::Stored, 16_777_216),
     Step::Hit("a", "x", 1000),
@@ -133,7 +143,7 @@ static PASSED: [Step; 8] = [
 ];
 
 // A bucket has 15 places.
-static DISPLACED: [Step; 18] = [
+const DISPLACED: &[Step] = &[
     Step::Put("k01", "1", 1, Outcome::Stored, 262_144),
     Step::Put("k02", "1", 1, Outcome::Stored, 524_288),
     Step::Put("k03", "1", 1, Outcome::Stored, 786_432),
@@ -155,7 +165,7 @@ static DISPLACED: [Step; 18] = [
 ];
 
 // What the log passes goes before the index displaces any: the last put passes `a`.
-static PASSED_FIRST: [Step; 19] = [
+const PASSED_FIRST: &[Step] = &[
     Step::Put("a", "x", 1024, Outcome::Stored, 8_585_216),
     Step::Put("b", "x", 560, Outcome::Stored, 13_369_344),
     Step::Put("k01", "1", 1, Outcome::Stored, 13_631_488),
@@ -177,7 +187,7 @@ static PASSED_FIRST: [Step; 19] = [
     Step::Hit("k01", "1", 1),
 ];
 
-static EMPTY: [Step; 4] = [
+const EMPTY: &[Step] = &[
     Step::Del("a", Outcome::Absent, 1),
     Step::Fate("a", Fate::Never),
     Step::Put("a", "", 1, Outcome::Stored, 196_609),
@@ -185,14 +195,14 @@ static EMPTY: [Step; 4] = [
 ];
 
 // Items of 131 words each, where there are 256.
-static REFUSED: [Step; 3] = [
+const REFUSED: &[Step] = &[
     Step::Put("a", "x", 1024, Outcome::Stored, 1),
     Step::Put("b", "x", 1024, Outcome::FullBlock, 1),
     Step::Miss("b"),
 ];
 
 // An item of 131 words shrinks and grows in its room. One of 126 words does not fit beside it, one of 125 words does.
-static GROWN: [Step; 8] = [
+const GROWN: &[Step] = &[
     Step::Put("a", "x", 1024, Outcome::Stored, 1),
     Step::Put("a", "1", 1, Outcome::Stored, 2),
     Step::Hit("a", "1", 1),
@@ -203,13 +213,13 @@ static GROWN: [Step; 8] = [
     Step::Del("a", Outcome::Deleted, 5),
 ];
 
-static ABSENT: [Step; 3] = [
+const ABSENT: &[Step] = &[
     Step::Miss("a"),
     Step::Del("a", Outcome::Absent, 1),
     Step::Miss("a"),
 ];
 
-static WORN: [Step; 5] = [
+const WORN: &[Step] = &[
     Step::Put("a", "1", 1, Outcome::Stored, 1),
     Step::Put("b", "1", 1, Outcome::Stored, 2),
     Step::Put("c", "1", 1, Outcome::Worn, 2),
@@ -222,13 +232,20 @@ const SMALL_CACHE: Options = Options {
     ..CACHE
 };
 
+static CACHE_STEPS: [(Options, &[Step]); 5] = [
+    (CACHE, IN_PLACE),
+    (SMALL_CACHE, PASSED),
+    (CACHE, DISPLACED),
+    (SMALL_CACHE, PASSED_FIRST),
+    (CACHE, EMPTY),
+];
+
 #[test]
 fn steps_of_the_cache_machine(rt: HostRuntime) -> Result<(), Fail> {
-    expect_steps(&rt, &CACHE, &IN_PLACE)?;
-    expect_steps(&rt, &SMALL_CACHE, &PASSED)?;
-    expect_steps(&rt, &CACHE, &DISPLACED)?;
-    expect_steps(&rt, &SMALL_CACHE, &PASSED_FIRST)?;
-    expect_steps(&rt, &CACHE, &EMPTY)
+    for (options, steps) in &CACHE_STEPS {
+        expect_steps(&rt, options, steps)?;
+    }
+    Ok(())
 }
 
 const SMALL_STORE: Options = Options {
@@ -236,10 +253,17 @@ const SMALL_STORE: Options = Options {
     ..STORE
 };
 
+static STORE_STEPS: [(Options, &[Step]); 4] = [
+    (SMALL_STORE, REFUSED),
+    (SMALL_STORE, GROWN),
+    (STORE, ABSENT),
+    (Options { wear: 2, ..STORE }, WORN),
+];
+
 #[test]
 fn steps_of_the_store_machine(rt: HostRuntime) -> Result<(), Fail> {
-    expect_steps(&rt, &SMALL_STORE, &REFUSED)?;
-    expect_steps(&rt, &SMALL_STORE, &GROWN)?;
-    expect_steps(&rt, &STORE, &ABSENT)?;
-    expect_steps(&rt, &Options { wear: 2, ..STORE }, &WORN)
+    for (options, steps) in &STORE_STEPS {
+        expect_steps(&rt, options, steps)?;
+    }
+    Ok(())
 }

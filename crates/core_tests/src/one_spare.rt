@@ -1,21 +1,20 @@
 //! A bucket of sixteen keys in store mode, whose one spare bucket is taken, given back and taken again.
 
-ghost use Rattle.std.specs.Prelude.{◌≡◌};
-ghost use Rattle.epoch_core.specs.OwnerState.{as_made};
-
-use epoch_core::{OwnerEvent, Partition, PlainWords, Shape};
-use mica_model::{Answer, ItemBuf, Mode, Outcome};
-use mica_words::{key_fits, value_fits};
+use crate::partitions::{read, store_over, write};
+use epoch_core::{OwnerEvent, Partition, PlainWords};
+use mica_model::{Answer, ItemBuf, Mode, Op, Options, Outcome};
 use std::alloc::AllocGlobal;
 use std::process::Abort;
 use std::test::Fail;
-use store_partition::StorePartition;
 
-const ONE_SPARE: Shape = Shape {
+const ONE_SPARE: Options = Options {
     mode: Mode::Store,
+    partitions: 1,
     buckets: 1,
     spares: 1,
     words: 1024,
+    readers: 1,
+    tries: 1,
     wear: 68_719_476_736,
 };
 
@@ -85,37 +84,29 @@ static CHANGES: [OwnerEvent; 11] = [
 // Makes the call, and tells whether it answers so.
 fn holds<P: Partition>(partition: &mut P, step: &Step, out: &mut ItemBuf) -> bool {
     let key = step.key().as_bytes();
-    if !key_fits(key) {
-        return false;
-    }
     match step {
         Step::Put(_, value) => {
-            value_fits(value.as_bytes()) && partition.put(key, value.as_bytes()) == Outcome::Stored
+            write(partition, Op::Put, key, value.as_bytes()) == Some(Outcome::Stored)
         }
-        Step::Del(_) => partition.del(key) == Outcome::Deleted,
+        Step::Del(_) => write(partition, Op::Del, key, b"") == Some(Outcome::Deleted),
         Step::Hit(_, value) => {
-            partition.get(key, out) == Answer::Hit && out.value() == value.as_bytes()
+            read(partition, key, out) == Some(Answer::Hit) && out.value() == value.as_bytes()
         }
-        Step::Miss(_) => partition.get(key, out) == Answer::Miss,
+        Step::Miss(_) => read(partition, key, out) == Some(Answer::Miss),
     }
 }
 
-fn expect_steps<P: Partition>(
-    rt: &(impl Abort + AllocGlobal),
-    partition: &mut P,
-) -> Result<(), Fail> {
-    let mut out = ItemBuf::new(rt.alloc())?;
-    for (number, step) in STEPS.iter().enumerate() {
-        assert!(rt; holds(partition, step, &mut out), "step {number}");
-    }
-    Ok(())
+// The number of the first step that does not hold, from 0.
+fn first_failed<P: Partition>(partition: &mut P, out: &mut ItemBuf) -> Option<usize> {
+    STEPS.iter().position(|step| !holds(partition, step, out))
 }
 
 // The partition's words after the steps.
 fn words_after_steps(rt: &(impl Abort + AllocGlobal)) -> Result<PlainWords, Fail> {
-    let words = PlainWords::new(rt.alloc(), &ONE_SPARE, 256)?;
-    let mut partition = StorePartition::new(rt.alloc(), words)?;
-    expect_steps(rt, &mut partition)?;
+    let mut out = ItemBuf::new(rt.alloc())?;
+    let mut partition = store_over(rt, &ONE_SPARE, 256)?;
+    let failed = first_failed(&mut partition, &mut out);
+    assert!(rt; failed.is_none(), "{failed:?}");
     Ok(partition.into_words())
 }
 

@@ -1,17 +1,13 @@
 //! The partition of store mode and the plain machine, on the same drawn writes and gets.
 
-ghost use Rattle.mica_words.specs.Item.{KeyFits, ValueFits};
-
 use crate::machine::Machine;
-use crate::scripts::write;
-use epoch_core::{Partition, PlainWords, Shape};
+use crate::partitions::{read, store_over, write};
+use epoch_core::Partition;
 use mica_io::NoMemory;
 use mica_model::{ItemBuf, Mode, Op, Options, Outcome};
-use mica_words::{key_fits, value_fits};
 use std::alloc::Global;
 use std::process::Abort;
 use std::test::Fail;
-use store_partition::StorePartition;
 
 const OPTIONS: Options = Options {
     mode: Mode::Store,
@@ -33,35 +29,34 @@ struct Refused {
 }
 
 impl Refused {
-    fn count(&mut self, outcome: Outcome) {
+    // Whether there is an outcome. Counts it where it is a refusal.
+    fn counts(&mut self, outcome: Option<Outcome>) -> bool {
         match outcome {
-            Outcome::FullSpare => self.spare = self.spare.saturating_add(1),
-            Outcome::FullBlock => self.block = self.block.saturating_add(1),
-            Outcome::Worn => self.worn = self.worn.saturating_add(1),
-            Outcome::Stored | Outcome::Deleted | Outcome::Absent => {}
+            Some(Outcome::FullSpare) => self.spare = self.spare.saturating_add(1),
+            Some(Outcome::FullBlock) => self.block = self.block.saturating_add(1),
+            Some(Outcome::Worn) => self.worn = self.worn.saturating_add(1),
+            Some(Outcome::Stored | Outcome::Deleted | Outcome::Absent) => {}
+            None => return false,
         }
+        true
     }
 }
 
-// Whether both do the same with the put. Where the partition finds no block it changes nothing, and the machine might choose
-// another answer.
-fn agree_on_put<P: Partition>(
+// What the partition does with the write, where the machine does the same. Where the partition finds no block it changes
+// nothing, and the machine might choose another answer.
+fn agreed<P: Partition>(
     alloc: Global,
     partition: &mut P,
     machine: &mut Machine,
+    op: Op,
     key: &[u8],
     value: &[u8],
-    refused: &mut Refused,
-) -> Result<bool, NoMemory>
-    requires key { KeyFits key.now }
-    requires value { ValueFits value.now }
-{
-    let outcome = write(partition, Op::Put, key, value);
-    refused.count(outcome);
-    if outcome == Outcome::FullBlock {
-        return Ok(true);
+) -> Result<Option<Outcome>, NoMemory> {
+    let outcome = write(partition, op, key, value);
+    if outcome == Some(Outcome::FullBlock) || outcome == machine.apply(alloc, op, key, value)? {
+        return Ok(outcome);
     }
-    Ok(outcome == machine.apply(alloc, Op::Put, key, value)?)
+    Ok(None)
 }
 
 fn agree_on_get<P: Partition>(
@@ -69,13 +64,11 @@ fn agree_on_get<P: Partition>(
     partition: &mut P,
     machine: &Machine,
     key: &[u8],
-) -> Result<bool, NoMemory>
-    requires { KeyFits key.now }
-{
+) -> Result<bool, NoMemory> {
     let mut found = ItemBuf::new(alloc)?;
     let mut wanted = ItemBuf::new(alloc)?;
-    let answer = partition.get(key, &mut found);
-    Ok(answer == machine.answer(key, &mut wanted) && found.value() == wanted.value())
+    let answer = read(partition, key, &mut found);
+    Ok(answer == Some(machine.answer(key, &mut wanted)) && found.value() == wanted.value())
 }
 
 // Whether both do the same with a write or a get of one of 60 keys.
@@ -89,19 +82,13 @@ fn agree<P: Partition>(
     let number = draw % 60;
     let key = format!(in alloc; "k{number}")?;
     let key = key.as_bytes();
-    if !key_fits(key) {
-        return Ok(false);
-    }
     match draw / 60 % 8 {
         0 | 1 | 2 | 3 => {
             let value = "x".repeat(alloc, (draw / 480 % 90) as usize)?;
             let value = value.as_bytes();
-            Ok(value_fits(value) && agree_on_put(alloc, partition, machine, key, value, refused)?)
+            Ok(refused.counts(agreed(alloc, partition, machine, Op::Put, key, value)?))
         }
-        4 | 5 => {
-            let outcome = write(partition, Op::Del, key, b"");
-            Ok(outcome == machine.apply(alloc, Op::Del, key, b"")?)
-        }
+        4 | 5 => Ok(agreed(alloc, partition, machine, Op::Del, key, b"")?.is_some()),
         _ => Ok(agree_on_get(alloc, partition, machine, key)?),
     }
 }
@@ -124,19 +111,17 @@ fn expect_same<P: Partition>(
             .wrapping_mul(6_364_136_223_846_793_005)
             .wrapping_add(1_442_695_040_888_963_407);
         let draw = (state >> 33) % 0x4000_0000;
-        let agrees = agree(rt.alloc(), partition, machine, draw, &mut refused)?;
+        let agrees = agree(rt.alloc(), partition, machine, draw, &mut refused)?
+            && partition.stamp() == machine.stamp()
+            && partition.accepted() == machine.accepted();
         assert!(rt; agrees, "draw {draw}");
-        assert!(rt;
-            partition.stamp() == machine.stamp() && partition.accepted() == machine.accepted()
-        );
     }
     Ok(refused)
 }
 
 #[test]
 fn a_partition_does_what_the_machine_does(rt: HostRuntime) -> Result<(), Fail> {
-    let words = PlainWords::new(rt.alloc(), &Shape::of(&OPTIONS), 0)?;
-    let mut partition = StorePartition::new(rt.alloc(), words)?;
+    let mut partition = store_over(&rt, &OPTIONS, 0)?;
     let mut machine = Machine::new(rt.alloc(), &OPTIONS)?;
     let refused = expect_same(&rt, &mut partition, &mut machine, 4000)?;
     assert!(rt; refused.spare > 0 && refused.block > 0 && refused.worn > 0);

@@ -1,20 +1,18 @@
 //! An owner's writes between the loads of a get with one try, judged by the plain machine at the carried stamp.
 
-ghost use Rattle.std.specs.Prelude.{◌≤◌, length, IfOk};
-ghost use Rattle.mica_words.specs.Item.{KeyFits, ValueFits};
+ghost use Rattle.std.specs.Prelude.{IsTrue};
 ghost use Rattle.epoch_core.specs.Script.{Rises, NoneAbove};
 
 use crate::machine::Machine;
-use cache_partition::CachePartition;
-use epoch_core::{OwnerEvent, Partition, PlainWords, Scripted, Shape};
+use crate::partitions::{cache_over, store_over, write};
+use epoch_core::{Partition, PlainWords, Scripted};
 use mica_io::NoMemory;
-use mica_model::{Answer, ItemBuf, Mode, Op, Options, Outcome, write_fits};
-use mica_words::{key_fits, value_fits};
+use mica_model::{Answer, ItemBuf, Mode, Op, Options};
+use mica_words::key_fits;
 use optimistic_get::{Got, get};
 use std::alloc::{AllocGlobal, Global};
 use std::process::Abort;
 use std::test::Fail;
-use store_partition::StorePartition;
 
 /// An operation, its key, and a value of so many like texts.
 pub(crate) type Written = (Op, &'static str, &'static str, usize);
@@ -48,58 +46,41 @@ pub(crate) struct Judge {
 const ROOM: u32 = 512;
 
 /// More than the events of any script here.
-pub(crate) const MOST_EVENTS: usize = 1_000;
+pub(crate) const MOST_EVENTS: u32 = 1_000;
 
-/// Makes the write. A delete leaves the value unread.
-pub(crate) fn write<P: Partition>(partition: &mut P, op: Op, key: &[u8], value: &[u8]) -> Outcome
-    requires key { KeyFits key.now }
-    requires value { ValueFits value.now }
-{
-    if op == Op::Del {
-        return partition.del(key);
-    }
-    partition.put(key, value)
-}
-
+// Makes the write, and tells whether it fits.
 fn apply<P: Partition>(
-    rt: &impl Abort,
     alloc: Global,
     partition: &mut P,
     written: Written,
-) -> Result<(), NoMemory> {
-    let (op, key, value, times) = written;
-    let value = value.repeat(alloc, times)?;
-    assert!(rt; key_fits(key.as_bytes()) && value_fits(value.as_bytes()));
-    write(partition, op, key.as_bytes(), value.as_bytes());
-    Ok(())
+) -> Result<bool, NoMemory> {
+    let (op, key, text, times) = written;
+    let value = text.repeat(alloc, times)?;
+    Ok(write(partition, op, key.as_bytes(), value.as_bytes()).is_some())
 }
 
 fn apply_all<P: Partition>(
-    rt: &impl Abort,
-    alloc: Global,
+    rt: &(impl Abort + AllocGlobal),
     partition: &mut P,
     writes: &[Written],
-) -> Result<(), NoMemory> {
+) -> Result<(), Fail> {
     for written in writes {
-        apply(rt, alloc, partition, *written)?;
+        assert!(rt; apply(rt.alloc(), partition, *written)?);
     }
     Ok(())
 }
 
 // The words after the writes, with their events.
 fn stored_words(rt: &(impl Abort + AllocGlobal), script: Script<'_>) -> Result<PlainWords, Fail> {
-    let alloc = rt.alloc();
-    assert!(rt; script.options.is_valid());
-    let words = PlainWords::new(alloc, &Shape::of(&script.options), ROOM)?;
     match script.options.mode {
         Mode::Cache => {
-            let mut partition = CachePartition::new(words);
-            apply_all(rt, alloc, &mut partition, script.writes)?;
+            let mut partition = cache_over(rt, &script.options, ROOM)?;
+            apply_all(rt, &mut partition, script.writes)?;
             Ok(partition.into_words())
         }
         Mode::Store => {
-            let mut partition = StorePartition::new(alloc, words)?;
-            apply_all(rt, alloc, &mut partition, script.writes)?;
+            let mut partition = store_over(rt, &script.options, ROOM)?;
+            apply_all(rt, &mut partition, script.writes)?;
             Ok(partition.into_words())
         }
     }
@@ -116,30 +97,46 @@ fn known_by(alloc: Global, machine: &Machine, key: &str) -> Result<Known, NoMemo
     })
 }
 
-fn apply_to_machine(
-    rt: &impl Abort,
+// Makes the write, and tells what the machine answers to the key then. `None` where the write does not fit.
+fn known_after(
     alloc: Global,
     machine: &mut Machine,
     written: Written,
-) -> Result<(), NoMemory> {
-    let (op, key, value, times) = written;
-    let value = value.repeat(alloc, times)?;
-    assert!(rt; write_fits(op, key.as_bytes(), value.as_bytes()));
-    machine.apply(alloc, op, key.as_bytes(), value.as_bytes())?;
-    Ok(())
+    key: &str,
+) -> Result<Option<Known>, NoMemory> {
+    let (op, its_key, text, times) = written;
+    let value = text.repeat(alloc, times)?;
+    if machine
+        .apply(alloc, op, its_key.as_bytes(), value.as_bytes())?
+        .is_none()
+    {
+        return Ok(None);
+    }
+    Ok(Some(known_by(alloc, machine, key)?))
+}
+
+// What the machine answers before the writes, and after each that fits.
+fn all_known(
+    alloc: Global,
+    machine: &mut Machine,
+    script: Script<'_>,
+) -> Result<Vec<Known>, NoMemory> {
+    let mut all = Vec::new(alloc);
+    all.push(known_by(alloc, machine, script.key)?)?;
+    for written in script.writes {
+        if let Some(known) = known_after(alloc, machine, *written, script.key)? {
+            all.push(known)?;
+        }
+    }
+    Ok(all)
 }
 
 // What the machine answers before the writes, and after each.
 fn known_answers(rt: &(impl Abort + AllocGlobal), script: Script<'_>) -> Result<Vec<Known>, Fail> {
-    let alloc = rt.alloc();
     assert!(rt; script.options.is_valid());
-    let mut machine = Machine::new(alloc, &script.options)?;
-    let mut all = Vec::new(alloc);
-    all.push(known_by(alloc, &machine, script.key)?)?;
-    for written in script.writes {
-        apply_to_machine(rt, alloc, &mut machine, *written)?;
-        all.push(known_by(alloc, &machine, script.key)?)?;
-    }
+    let mut machine = Machine::new(rt.alloc(), &script.options)?;
+    let all = all_known(rt.alloc(), &mut machine, script)?;
+    assert!(rt; all.len() > script.writes.len());
     Ok(all)
 }
 
@@ -179,25 +176,48 @@ impl Judge {
         }
     }
 
+    // Whether the key fits, and a get with one try is answered lawfully.
+    fn is_answered(&mut self, seat: &mut Scripted, key: &[u8], out: &mut ItemBuf) -> bool {
+        if !key_fits(key) {
+            return false;
+        }
+        let got = get(seat, key, 1, out);
+        self.is_lawful(got, out)
+    }
+
     /// Whether each kind of answer came.
     pub(crate) fn has_seen_each_kind(&self) -> bool {
         0 < self.hits && 0 < self.misses && 0 < self.agains
     }
 }
 
-// So many events before each of so many loads, and then so many, of this many in all.
-fn two_cuts(
-    alloc: Global,
-    first: u32,
-    loads: usize,
-    then: u32,
-    events: &[OwnerEvent],
-) -> Result<Vec<u32>, NoMemory>
-    requires rise { first ≤ then }
-    requires few { then ≤ length events.now }
-    ensures { IfOk result (λ cuts. Rises cuts.items × NoneAbove (length events.now) cuts.items) }
+/// Whether the cuts rise, to this many at most.
+fn are_cuts(cuts: &[u32], most: usize) -> bool
+    ensures { IsTrue result → Rises cuts.now × NoneAbove most cuts.now }
 {
-    let mut cuts = vec![in alloc; first; loads]?;
+    let mut last = 0;
+    for i in 0..cuts.len() {
+        if cuts[i] < last {
+            return false;
+        }
+        last = cuts[i];
+    }
+    last as usize <= most
+}
+
+/// A seat over the words, so many of whose events happen before each load.
+pub(crate) fn seat_of(
+    rt: &(impl Abort + AllocGlobal),
+    words: PlainWords,
+    cuts: &[u32],
+) -> Result<Scripted, Fail> {
+    assert!(rt; are_cuts(cuts, words.events().len()));
+    Ok(Scripted::new(rt.alloc(), words, cuts)?)
+}
+
+// So many events before each of so many loads, and then so many.
+fn two_cuts(alloc: Global, first: u32, loads: u32, then: u32) -> Result<Vec<u32>, NoMemory> {
+    let mut cuts = vec![in alloc; first; loads as usize]?;
     cuts.push(then)?;
     Ok(cuts)
 }
@@ -206,24 +226,10 @@ fn two_cuts(
 pub(crate) fn count_events(
     rt: &(impl Abort + AllocGlobal),
     script: Script<'_>,
-) -> Result<usize, Fail> {
+) -> Result<u32, Fail> {
     let count = stored_words(rt, script)?.events().len();
     assert!(rt; count < ROOM as usize);
-    Ok(count)
-}
-
-// The words after the writes, where so many events happen before each of so many loads, and then so many.
-fn scripted(
-    rt: &(impl Abort + AllocGlobal),
-    script: Script<'_>,
-    cuts: (usize, usize, usize),
-) -> Result<Scripted, Fail> {
-    let (first, loads, then) = cuts;
-    let words = stored_words(rt, script)?;
-    let events = words.events();
-    assert!(rt; first <= then && then <= events.len() && events.len() < ROOM as usize);
-    let cuts = two_cuts(rt.alloc(), first as u32, loads, then as u32, events)?;
-    Ok(Scripted::new(rt.alloc(), words, cuts.as_slice())?)
+    Ok(count as u32)
 }
 
 /// A get with one try, where so many events happen before each of so many loads, and then so many.
@@ -231,13 +237,27 @@ pub(crate) fn expect_at_cuts(
     rt: &(impl Abort + AllocGlobal),
     script: Script<'_>,
     judge: &mut Judge,
-    cuts: (usize, usize, usize),
+    cuts: (u32, u32, u32),
 ) -> Result<(), Fail> {
-    let key = script.key.as_bytes();
-    assert!(rt; key_fits(key));
-    let mut seat = scripted(rt, script, cuts)?;
+    let (first, loads, then) = cuts;
+    let cuts = two_cuts(rt.alloc(), first, loads, then)?;
+    let mut seat = seat_of(rt, stored_words(rt, script)?, cuts.as_slice())?;
     let mut out = ItemBuf::new(rt.alloc())?;
-    let got = get(&mut seat, key, 1, &mut out);
-    assert!(rt; judge.is_lawful(got, &out));
+    assert!(rt; judge.is_answered(&mut seat, script.key.as_bytes(), &mut out));
+    Ok(())
+}
+
+/// The same with every number of loads from 1 to this.
+pub(crate) fn expect_after_loads(
+    rt: &(impl Abort + AllocGlobal),
+    script: Script<'_>,
+    judge: &mut Judge,
+    first: u32,
+    most: u32,
+    then: u32,
+) -> Result<(), Fail> {
+    for loads in 1..most.saturating_add(1) {
+        expect_at_cuts(rt, script, judge, (first, loads, then))?;
+    }
     Ok(())
 }

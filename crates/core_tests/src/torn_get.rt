@@ -1,7 +1,7 @@
 //! A get of a key whose put happens meanwhile.
 
+use crate::scripts::seat_of;
 use crate::settled::put_words;
-use epoch_core::Scripted;
 use mica_model::ItemBuf;
 use optimistic_get::{Got, get};
 use std::alloc::AllocGlobal;
@@ -61,12 +61,9 @@ static TORN: [Torn; 6] = [
 ];
 
 fn expect_torn(rt: &(impl Abort + AllocGlobal), torn: &Torn) -> Result<(), Fail> {
-    let cuts = &torn.cuts;
-    let words = put_words(rt)?;
-    assert!(rt; torn.tries > 0 && cuts[0] <= cuts[1] && cuts[1] <= cuts[2]);
-    assert!(rt; cuts[2] as usize <= words.events().len());
-    let mut seat = Scripted::new(rt.alloc(), words, cuts)?;
+    let mut seat = seat_of(rt, put_words(rt)?, &torn.cuts)?;
     let mut out = ItemBuf::new(rt.alloc())?;
+    assert!(rt; torn.tries > 0);
     let got = get(&mut seat, b"a", torn.tries, &mut out);
     assert!(rt; got == torn.got && out.value() == torn.value.as_bytes());
     Ok(())

@@ -1,13 +1,19 @@
-//! The tests of the commands: runs of the top call over bytes in memory, whose ends were found by hand or by another
-//! program.
+//! The tests of the commands and of the server, whose ends were found by hand or by another program: runs of the top call
+//! over bytes in memory, single datagrams, fronts beside each other, and datagrams over real sockets.
 #![tactic(auto)]
 
+#[cfg(test)]
+mod batches;
 #[cfg(test)]
 mod benches;
 #[cfg(test)]
 mod cache_replays;
 #[cfg(test)]
+mod datagrams;
+#[cfg(test)]
 mod faults;
+#[cfg(test)]
+mod fronts;
 #[cfg(test)]
 mod generated_runs;
 #[cfg(test)]
@@ -26,3 +32,5 @@ mod same_as_machine;
 mod served;
 #[cfg(test)]
 mod store_replays;
+#[cfg(test)]
+mod udp;

@@ -110,12 +110,8 @@ pub fn run_words<G: Gate>(
 
 /// Compares the status and all that was written.
 pub fn expect_end(rt: &impl Abort, line: &str, end: &End, status: Status, output: &[u8]) {
-    let found = end.status;
-    assert!(rt; found == status, "{line}: {found:?} for {status:?}");
-    assert!(rt;
-        end.sink.taken() == output,
-        "{line}: other bytes were written"
-    );
+    assert!(rt; end.status == status, "{line}: another status");
+    assert!(rt; end.sink.taken() == output, "{line}: other bytes");
 }
 
 /// Runs the words over the input, and compares the status and all that was written.

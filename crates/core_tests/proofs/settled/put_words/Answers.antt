@@ -1,9 +1,0 @@
-use Rattle.std.proofs.Common.{sym, ap, ◌∙◌}
-use Rattle.epoch_core.specs.declared.state.OwnerState.{OwnerState}
-use Rattle.epoch_core.specs.OwnerState.{as_made}
-use Rattle.core_tests.proofs.settled.put_words.Goals as goal
-
-pub new-requires-2-clause-made : goal.new-requires-2-clause-made
-new-requires-2-clause-made g c =
-    let made = c.in_ok-words.ensures.made in
-    made ∙ ap as_made (sym (ap (λ (o : OwnerState). o.shape) made))
