@@ -163,7 +163,6 @@ module _ (options : Options) (first : ℕ) (lines : List TraceLine) (dones : Lis
       → HasMerged options first lines before report dones founds
   printed_all k report cursors rests gets all so_far = whole (subst (λ l. IsPrinting options first dones founds l before report cursors rests) (take_all k lines all) so_far.printing)
     where
-
       whole : IsPrinting options first dones founds lines before report cursors rests → HasMerged options first lines before report dones founds
       whole it_all = record {
         printed = it_all.printed;

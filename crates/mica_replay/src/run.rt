@@ -1,12 +1,9 @@
 //! A trace from its owners' making to the keeping of their seats.
 ghost use Rattle.std.specs.Prelude.{◌≡◌, ◌≤◌, ◌+◌, ◌++◌, [], ℕ, Some, All, IfOk, IfSome, OnErr, map, length, slice_get};
-ghost use Rattle.mica_model.specs.declared.options.Mode.{Mode};
 ghost use Rattle.mica_model.specs.Options.{IsValid};
 ghost use Rattle.epoch_core.specs.declared.state.Phase.TheVariants.{Idle};
-ghost use Rattle.epoch_core.specs.declared.state.OwnerState.{OwnerState};
 ghost use Rattle.epoch_core.specs.Shape.{shape_of};
 ghost use Rattle.epoch_core.specs.OwnerState.{as_made};
-ghost use Rattle.partition_table.specs.Seats.{owner_state};
 ghost use Rattle.mica_replay.specs.Lending.{OwnerPart, owner_part};
 ghost use Rattle.mica_replay.specs.RoundRun.{reader_part, AreMade, AreFree, kept_of};
 ghost use Rattle.mica_replay.specs.Replayed.{IsReplayed};
@@ -15,66 +12,17 @@ use crate::done::Done;
 use crate::rounds::run_rounds;
 use crate::worker::{OwnerWork, ReaderWork};
 use cache_partition::CachePartition;
-use epoch_core::{LendPartition, Partition, ReaderWords, Shape};
+use epoch_core::{LendPartition, Partition, ReaderWords};
 use mica_io::{Gate, NoMemory};
 use mica_model::{Mode, Options};
 use mica_trace::{Report, Trace};
 use owner_queue::job_queue;
-use partition_table::{Note, OwnerSeat, ReaderSeat, Tables, make};
+use partition_table::{Note, OwnerSeat, ReaderSeat, Tables};
 use std::alloc::Global;
 use std::sync::Wait;
 use std::thread::{Threads, for_each_mut};
 use store_partition::StorePartition;
-
-// A partition over an owner's seat, which can be kept when the run has ended.
-pub trait OnTable: Drop {
-    // The mode that it is for.
-    ghost mode: { Mode };
-
-    ghost state: { Self → OwnerState };
-
-    fn new(alloc: Global, options: &Options) -> Result<Self, NoMemory>
-        requires valid { IsValid options.now }
-        requires mode { options.now.mode ≡ Self.mode }
-        ensures made { IfOk result (λ p. Self.state p ≡ as_made (shape_of options.now)) };
-
-    fn into_seat(self) -> OwnerSeat
-        ensures { owner_state result ≡ Self.state self };
-}
-
-impl OnTable for CachePartition<OwnerSeat> {
-    ghost use Rattle.mica_model.specs.declared.options.Mode.TheVariants.{Cache};
-
-    ghost mode = { Cache };
-
-    ghost state = { λ p. ⟦<CachePartition<OwnerSeat> as Partition>⟧.owner p };
-
-    fn new(alloc: Global, options: &Options) -> Result<Self, NoMemory> {
-        let words = make(alloc, &Shape::of(options))?;
-        Ok(CachePartition::new(words))
-    }
-
-    fn into_seat(self) -> OwnerSeat {
-        self.into_words()
-    }
-}
-
-impl OnTable for StorePartition<OwnerSeat> {
-    ghost use Rattle.mica_model.specs.declared.options.Mode.TheVariants.{Store};
-
-    ghost mode = { Store };
-
-    ghost state = { λ p. ⟦<StorePartition<OwnerSeat> as Partition>⟧.owner p };
-
-    fn new(alloc: Global, options: &Options) -> Result<Self, NoMemory> {
-        let words = make(alloc, &Shape::of(options))?;
-        StorePartition::new(alloc, words)
-    }
-
-    fn into_seat(self) -> OwnerSeat {
-        self.into_words()
-    }
-}
+use table_partition::OnTable;
 
 // The partitions, each made in a thread of its own. Nothing is made where there was no memory.
 fn make_parts<W: Threads + Wait + Sync, P: OnTable + Partition + Send>(

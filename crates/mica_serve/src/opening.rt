@@ -9,7 +9,6 @@ ghost use Rattle.mica_serve.specs.Tasks.{owner_end};
 
 use crate::ports::Ports;
 use crate::queue_front::{FrontPart, QueueFront};
-use crate::tables::OnTable;
 use crate::worker::OwnerTask;
 use epoch_core::{LendPartition, Partition};
 use mica_io::NoMemory;
@@ -17,6 +16,7 @@ use mica_model::Options;
 use owner_queue::{JobSender, ack_queue, job_queue};
 use partition_table::{Note, ReaderSeat};
 use std::alloc::Global;
+use table_partition::OnTable;
 
 impl<P: LendPartition<Reader = ReaderSeat, Note = Note>> OwnerTask<P> {
     // Lends one more front a part: a seat, its sender to the owner, and an end of a queue of answers from there.

@@ -13,7 +13,7 @@ ghost use Rattle.mica_serve.specs.NetRun.{OnPorts, ReleasesNet, BindsAndServes, 
 use crate::answers::sum_up;
 use crate::ports::{Ports, ServeFault, Totals};
 use crate::running::{Server, run_all};
-use crate::tables::{OnTable, keep_all};
+use crate::tables::keep_all;
 use cache_partition::CachePartition;
 use epoch_core::LendPartition;
 use mica_io::{Datagrams, Failed, Gate, Net};
@@ -23,6 +23,7 @@ use std::alloc::Global;
 use std::sync::Wait;
 use std::thread::Threads;
 use store_partition::StorePartition;
+use table_partition::OnTable;
 
 /// Binds a port for each front, in order, up to the first bind that fails.
 fn bind_all<N: Net>(net: &mut N, ports: &Ports, ends: &mut Vec<N::End>) -> Result<(), Failed>

@@ -14,7 +14,6 @@ use crate::meeting::meet_all;
 use crate::opening::open_all;
 use crate::ports::{Ports, ServeFault, Totals};
 use crate::queue_front::{FrontPart, QueueFront};
-use crate::tables::OnTable;
 use crate::worker::{
     FrontTask, OwnerTask, Worker, gather, pair_up, part_fronts, run_workers, take_apart,
 };
@@ -26,6 +25,7 @@ use std::alloc::Global;
 use std::mem;
 use std::sync::Wait;
 use std::thread::Threads;
+use table_partition::OnTable;
 
 /// The room for all workers and for what they come to.
 #[derive(Drop)]

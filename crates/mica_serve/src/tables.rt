@@ -1,72 +1,12 @@
-//! Partitions over tables, whose owners' seats can be kept.
-ghost use Rattle.std.specs.Prelude.{◌≡◌, ◌≤◌, ◌+◌, ◌++◌, ℕ, Some, IfOk, map, length, slice_get};
-ghost use Rattle.mica_model.specs.declared.options.Mode.{Mode};
-ghost use Rattle.mica_model.specs.Options.{IsValid};
-ghost use Rattle.epoch_core.specs.declared.state.OwnerState.{OwnerState};
+//! The seats that a server keeps.
+ghost use Rattle.std.specs.Prelude.{◌≡◌, ◌≤◌, ◌+◌, ◌++◌, ℕ, Some, map, length, slice_get};
 ghost use Rattle.epoch_core.specs.declared.state.Phase.TheVariants.{Idle};
-ghost use Rattle.epoch_core.specs.Shape.{shape_of};
-ghost use Rattle.epoch_core.specs.OwnerState.{as_made};
-ghost use Rattle.partition_table.specs.Seats.{owner_state};
 ghost use Rattle.partition_table.specs.Tabled.{entry_in};
 
 use crate::worker::OwnerTask;
-use cache_partition::CachePartition;
-use epoch_core::{Partition, Shape};
-use mica_io::NoMemory;
-use mica_model::Options;
-use partition_table::{OwnerSeat, Tables, make};
-use std::alloc::Global;
-use store_partition::StorePartition;
-
-/// A partition over an owner's seat, which can be kept when the run has ended.
-pub(crate) trait OnTable: Drop {
-    // The mode that it is for.
-    ghost mode: { Mode };
-
-    ghost state: { Self → OwnerState };
-
-    fn new(alloc: Global, options: &Options) -> Result<Self, NoMemory>
-        requires valid { IsValid options.now }
-        requires mode { options.now.mode ≡ Self.mode }
-        ensures made { IfOk result (λ p. Self.state p ≡ as_made (shape_of options.now)) };
-
-    fn into_seat(self) -> OwnerSeat
-        ensures { owner_state result ≡ Self.state self };
-}
-
-impl OnTable for CachePartition<OwnerSeat> {
-    ghost use Rattle.mica_model.specs.declared.options.Mode.TheVariants.{Cache};
-
-    ghost mode = { Cache };
-
-    ghost state = { λ p. ⟦<CachePartition<OwnerSeat> as Partition>⟧.owner p };
-
-    fn new(alloc: Global, options: &Options) -> Result<Self, NoMemory> {
-        let words = make(alloc, &Shape::of(options))?;
-        Ok(CachePartition::new(words))
-    }
-
-    fn into_seat(self) -> OwnerSeat {
-        self.into_words()
-    }
-}
-
-impl OnTable for StorePartition<OwnerSeat> {
-    ghost use Rattle.mica_model.specs.declared.options.Mode.TheVariants.{Store};
-
-    ghost mode = { Store };
-
-    ghost state = { λ p. ⟦<StorePartition<OwnerSeat> as Partition>⟧.owner p };
-
-    fn new(alloc: Global, options: &Options) -> Result<Self, NoMemory> {
-        let words = make(alloc, &Shape::of(options))?;
-        StorePartition::new(alloc, words)
-    }
-
-    fn into_seat(self) -> OwnerSeat {
-        self.into_words()
-    }
-}
+use epoch_core::Partition;
+use partition_table::Tables;
+use table_partition::OnTable;
 
 /// Keeps the seats of all owners, in order.
 pub(crate) fn keep_all<P: OnTable + Partition>(owners: Vec<OwnerTask<P>>, tables: &mut Tables)
