@@ -18,26 +18,28 @@ module _ (h : Held) (a : AcceptedWrite h.o) where
   abbrev lives : List Record
   lives = leaves.lives h a.w a.is
 
-  -- no record that the log does not pass has this number
-  abbrev IsFree : ℕ → Type 0
-  IsFree j = (r : Record) → record_of (made h a.w) r.key ≡ Some r → tail_of (made h a.w).stamp ≤ r.offset + h.o.shape.words → ¬ (counts.IsNumber h a.w a.is (stood h.o a) r j)
-
-  none_lost : (j : ℕ) → j < 16 → IsFree j → leaves.Leaves h a.w None
-  none_lost j low free = leaves.none_lost h a.w a.is (counts.few h a.w a.is (stood h.o a) j low free)
+  -- a slot whose entry, where it stays live, spells the written key, which no other slot spells, or none of them where the write leaves the key no record
+  free_slot : (slot : ℕ) → slot < 16 → (slot ≡ 15 → record_of (made h a.w) a.w.key ≡ None)
+      → ((i x : ℕ) (key : List ℕ) (cell : Cell) → i ≢ slot → HasLiveEntry h.o b b i x → Spells h.o b x key cell → key ≢ a.w.key)
+      → ((x : ℕ) (key : List ℕ) (cell : Cell) → HasLiveEntry h.o b b slot x → tail_of (made h a.w).stamp ≤ entry_offset x + h.o.shape.words → Spells h.o b x key cell → key ≡ a.w.key)
+      → Before h a slot
+  free_slot slot low no_record others its = record {
+    lost = None;
+    leaves = leaves.none_lost h a.w a.is (counts.few h a.w a.is (stood h.o a) slot low (λ r found live is. elim is [
+      | inl mine ↦ cc (sym (no_record mine.1) ∙ (ap (record_of (made h a.w)) (sym mine.0) ∙ found))
+      | inr at ↦ at.0 (its (entry_in h.o b slot) r.key (cell_at r).0 at.1.entry (let offset = at.1.offset in omega arith) at.1.spelt)
+    ]));
+    own = λ lost. lost;
+    others = λ i x key cell other e sp. (others i x key cell other e sp, λ lost. lost);
+    gone = λ x key cell e live sp. inl (its x key cell e live sp);
+  }
 
   -- the key's own slot
   pub own_slot : (slot : ℕ) (r : Record) → HasSlot h b a.w.key r slot → Before h a slot
   own_slot slot r at =
-      let below = at.entry.in_bucket in record {
-        lost = None;
-        leaves = none_lost slot (omega arith) (λ r' found live is. elim is [
-          | inl mine ↦ let last = mine.1 in absurd (omega arith)
-          | inr other ↦ other.0 (slot_key h b slot _ _ r'.key a.w.key _ _ other.1.entry at.entry other.1.spelt at.spelt)
-        ]);
-        own = λ lost. lost;
-        others = λ i y key cell other e sp. (only_slot h b (stood h.o a) slot _ a.w.key _ at.entry at.spelt i y key cell other e sp, λ lost. lost);
-        gone = λ y key cell e live sp. inl (slot_key h b slot y _ key a.w.key cell _ e at.entry sp at.spelt);
-      }
+      let below = at.entry.in_bucket in
+      free_slot slot (omega arith) (λ last. absurd (omega arith)) (only_slot h b (stood h.o a) slot _ a.w.key _ at.entry at.spelt)
+      (λ x key cell e live sp. slot_key h b slot x _ key a.w.key cell _ e at.entry sp at.spelt)
 
   -- Where the key has no slot, all live entries spell other keys.
 
@@ -48,16 +50,7 @@ module _ (h : Held) (a : AcceptedWrite h.o) where
     -- a slot without an entry that stays live, or none of them where the write leaves the key no record
     pub dead_slot : (slot : ℕ) → slot < 16 → (slot ≡ 15 → record_of (made h a.w) a.w.key ≡ None)
         → ((y : ℕ) → HasLiveEntry h.o b b slot y → tail_of (made h a.w).stamp ≤ entry_offset y + h.o.shape.words → ⊥) → Before h a slot
-    dead_slot slot low no_record dead = record {
-      lost = None;
-      leaves = none_lost slot low (λ r found live is. elim is [
-        | inl mine ↦ cc (sym (no_record mine.1) ∙ (ap (record_of (made h a.w)) (sym mine.0) ∙ found))
-        | inr at ↦ dead (entry_in h.o b slot) at.1.entry (let offset = at.1.offset in omega arith)
-      ]);
-      own = λ lost. lost;
-      others = λ i y key cell other e sp. (spell_others i y key cell e sp, λ lost. lost);
-      gone = λ y key cell e live sp. absurd (dead y e live);
-    }
+    dead_slot slot low no_record dead = free_slot slot low no_record (λ i y key cell other. spell_others i y key cell) (λ y key cell e live sp. absurd (dead y e live))
 
     -- where a record is appended for the key
     module _ (own : Record) (its_own : record_of (made h a.w) a.w.key ≡ Some own) (at_tail : own.offset ≡ tail_of h.m.stamp) (own_live : tail_of (made h a.w).stamp ≤ own.offset + h.o.shape.words) where

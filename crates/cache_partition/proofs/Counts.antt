@@ -1,7 +1,7 @@
 -- How many records the written bucket has once the log has passed: as many as it has live slots, and the written key's own.
 use Rattle.mica_model.proofs.Found as found
 use Rattle.mica_model.proofs.Laid as laid
-use Rattle.cache_partition.proofs.Words.{AllOf, Bool, HasNoSlot, IsDistinct, IsDistinct-cons, IsSlotOf, IsUnique, IsWrite, List, Record, Some, Spells}
+use Rattle.cache_partition.proofs.Words.{AllOf, Bool, HasNoSlot, IsDistinct, IsDistinct-cons, IsSlotOf, IsUnique, IsWrite, List, Record, Some}
 use Rattle.cache_partition.proofs.Words.{StandsFor, Write, [], ap, arith, bucket_in, cases_Bool, cases_lt, cell_at, cond, count_by, entry_in}
 use Rattle.cache_partition.proofs.Words.{entry_offset, eq-eqb, eqb, eqb-true, false, filter, find, has_key, here_of, inl, inr, le-length_from_below}
 use Rattle.cache_partition.proofs.Words.{leb-true, length, length-filter, length-le_from_distinct_below, list_any, nat_tests, ne_eqb, only_key}
@@ -154,8 +154,7 @@ module _ (h : Held) (w : Write) (is : IsWrite w) (stood : StandsFor h.o (bucket_
           found_among some.0 named.r i
           (λ n n_is. elim n_is [
             | inl mine ↦ absurd (other (sym its_key ∙ mine.0))
-            | inr slot ↦ one_slot h b stood n i (entry_in h.o b n) (entry_in h.o b i) some.0 (cell_at named.r).0 some.1 slot.1.entry e
-                (subst (λ (k : List ℕ). Spells h.o b (entry_in h.o b n) k (cell_at named.r).0) its_key slot.1.spelt) some.2
+            | inr slot ↦ one_slot h b stood n i (entry_in h.o b n) (entry_in h.o b i) named.r.key some.0 (cell_at named.r).0 some.1 slot.1.entry e slot.1.spelt some.2 its_key
           ])
           (written_same (options_in h.o) h.m w some.0 other ∙ named.is) (omega arith) some.2.bucket
 

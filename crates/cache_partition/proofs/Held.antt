@@ -114,15 +114,16 @@ module _ (h : Held) where
         )
 
     -- and no other
-    pub one_slot : (i i' x x' : ℕ) (key : List ℕ) (cell cell' : Cell) → HasLiveEntry h.o b b i x → HasLiveEntry h.o b b i' x'
-        → Spells h.o b x key cell → Spells h.o b x' key cell' → i ≡ i'
-    one_slot i i' x x' key cell cell' e e' sp sp' =
-        let one = same_cell (state_in h.o) key cell' cell (entry_offset x') (entry_offset x) sp'.has sp.has in
-        (stood.once b i x b i' x' key cell e e' sp (subst (λ (z : Cell). Spells h.o b x' key z) one sp')).1
+    pub one_slot : (i i' x x' : ℕ) (key key' : List ℕ) (cell cell' : Cell) → HasLiveEntry h.o b b i x → HasLiveEntry h.o b b i' x'
+        → Spells h.o b x key cell → Spells h.o b x' key' cell' → key ≡ key' → i ≡ i'
+    one_slot i i' x x' key key' cell cell' e e' sp sp' same =
+        let its = subst (λ (k : List ℕ). Spells h.o b x' k cell') (sym same) sp' in
+        let one = same_cell (state_in h.o) key cell' cell (entry_offset x') (entry_offset x) its.has sp.has in
+        (stood.once b i x b i' x' key cell e e' sp (subst (λ (z : Cell). Spells h.o b x' key z) one its)).1
 
     pub only_slot : (slot x : ℕ) (key : List ℕ) (cell : Cell) → HasLiveEntry h.o b b slot x → Spells h.o b x key cell
         → (i y : ℕ) (key' : List ℕ) (cell' : Cell) → i ≢ slot → HasLiveEntry h.o b b i y → Spells h.o b y key' cell' → key' ≢ key
-    only_slot slot x key cell e sp i y key' cell' other e' sp' same = other (one_slot i slot y x key cell' cell e' e (subst (λ (k : List ℕ). Spells h.o b y k cell') same sp') sp)
+    only_slot slot x key cell e sp i y key' cell' other e' sp' same = other (one_slot i slot y x key' key cell' cell e' e sp' sp same)
 
     module _ (key : List ℕ) (here : bucket_in h.o key ≡ b) where
       -- a key without a slot has no record

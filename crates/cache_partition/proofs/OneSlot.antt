@@ -116,16 +116,7 @@ module _ (h : Held) (a : AcceptedWrite h.o) where
         -- a key is spelt once
 
         one : (i x i' x' : ℕ) (z : Now i x) (z' : Now i' x') → z.key ≡ z'.key → i ≡ i'
-        one i x i' x' z z' same = elim z.whose [
-          | inl mine ↦ elim z'.whose [
-            | inl mine' ↦ mine.0 ∙ sym mine'.0
-            | inr other' ↦ absurd (other'.1 (sym same ∙ mine.1))
-          ]
-          | inr other ↦ elim z'.whose [
-            | inl mine' ↦ absurd (other.1 (same ∙ mine'.1))
-            | inr other' ↦ one_slot h b was i i' x x' z.key z.cell z'.cell other.2 other'.2 other.3 (subst (λ (key : List ℕ). Spells h.o b x' key z'.cell) (sym same) other'.3)
-          ]
-        ]
+        one i x i' x' z z' same = grind (arith, z.whose, z'.whose, same, one_slot h b was i i' x x' z.key z'.key z.cell z'.cell)
 
         -- and each that has a record is
 
