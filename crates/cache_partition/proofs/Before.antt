@@ -7,7 +7,7 @@ use Rattle.cache_partition.proofs.Words.{◌≡◌, ◌≢◌, ◌≤◌}
 use Rattle.cache_partition.proofs.Counts as counts
 use Rattle.cache_partition.proofs.Leaves as leaves
 use Rattle.cache_partition.proofs.Displaced.{some_found}
-use Rattle.cache_partition.proofs.Held.{HasRecord, HasSlot, Held, live_entry, machine, only_slot, record_in, slot_is, slot_key, slot_of, stamp_is}
+use Rattle.cache_partition.proofs.Held.{HasSlot, Held, has_slot, live_entry, machine, only_slot, slot_is, slot_key, slot_of, stamp_is}
 use Rattle.cache_partition.proofs.Leaves.{made}
 use Rattle.cache_partition.proofs.OneSlot.{Before}
 
@@ -73,15 +73,15 @@ module _ (h : Held) (a : AcceptedWrite h.o) where
         names : (key : List ℕ) × (cell : Cell) × Spells h.o b (entry_in h.o b slot) key cell
         names = (stood h.o a).nothing_else b slot (entry_in h.o b slot) slot_live
 
-        its : HasRecord h names.0 names.1 (entry_offset (entry_in h.o b slot))
-        its = record_in h names.0 names.1 (entry_offset (entry_in h.o b slot)) names.2.has
+        its : (r : Record) × HasSlot h b names.0 r slot
+        its = has_slot h b slot (entry_in h.o b slot) names.0 names.1 slot_live names.2
 
-        first_begins : first.0.offset ≤ its.r.offset
+        first_begins : first.0.offset ≤ its.0.offset
         first_begins =
-            let offset = its.offset in
+            let offset = its.1.offset in
             let later = (live slot below).1 in
-            leaves.first_begins h a.w a.is first.0 first.1 names.0 its.r
-            (written_same (options_in h.o) h.m a.w names.0 (spell_others slot (entry_in h.o b slot) names.0 names.1 slot_live names.2) ∙ its.is) (omega arith) names.2.bucket
+            leaves.first_begins h a.w a.is first.0 first.1 names.0 its.0
+            (written_same (options_in h.o) h.m a.w names.0 (spell_others slot (entry_in h.o b slot) names.0 names.1 slot_live names.2) ∙ its.1.is) (omega arith) names.2.bucket
 
         -- the written key's record begins behind the others
         first_other : first.0.key ≢ a.w.key
@@ -89,8 +89,8 @@ module _ (h : Held) (a : AcceptedWrite h.o) where
             let found = (leaves.first_is h a.w a.is first.0 first.1).0 in
             let is = ap (λ (r : Record). r.offset) (same_Some first.0 own (sym found ∙ (ap (record_of (made h a.w)) same ∙ its_own))) in
             let before = first_begins in
-            let end = (window_kept (options_in h.o) h.m (machine h) names.0 its.r its.is).1 in
-            let room = (fits_kept (options_in h.o) h.m (machine h) names.0 its.r its.is).4 in
+            let end = (window_kept (options_in h.o) h.m (machine h) names.0 its.0 its.1.is).1 in
+            let room = (fits_kept (options_in h.o) h.m (machine h) names.0 its.0 its.1.is).4 in
             omega arith
 
         names_first : names.0 ≡ first.0.key
@@ -98,7 +98,7 @@ module _ (h : Held) (a : AcceptedWrite h.o) where
             let facts = leaves.first_is h a.w a.is first.0 first.1 in
             let there = slot_of h b (stood h.o a) first.0.key first.0 facts.1 (sym (written_same (options_in h.o) h.m a.w first.0.key first_other) ∙ facts.0) in
             let before = first_begins in
-            let offset = its.offset in
+            let offset = its.1.offset in
             let its_offset = there.1.offset in
             let low = least there.0 there.1.entry.in_bucket in
             only_key h.o h.kept b b (entry_in h.o b slot) (entry_in h.o b there.0) names.0 first.0.key names.1 (cell_at first.0).0 names.2 there.1.spelt (omega arith)

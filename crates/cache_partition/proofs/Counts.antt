@@ -8,7 +8,7 @@ use Rattle.cache_partition.proofs.Words.{leb-true, length, length-filter, length
 use Rattle.cache_partition.proofs.Words.{options_in, record_of, refl, same_Some, same_or_other, subst, suc, sym, tail_of, true, true≢false}
 use Rattle.cache_partition.proofs.Words.{written_same, ℕ, ⊎_elim, ◌+◌, ◌<◌, ◌∙◌, ◌∷◌, ◌≡◌, ◌≢◌, ◌≤◌, ◌⊎◌}
 use Rattle.cache_partition.proofs.Displaced.{all_filtered, each_found}
-use Rattle.cache_partition.proofs.Held.{HasSlot, Held, live_entry, one_slot, record_in, slot_is, slot_of, stamp_is}
+use Rattle.cache_partition.proofs.Held.{HasSlot, Held, has_slot, live_entry, one_slot, slot_is, slot_of, stamp_is}
 use Rattle.cache_partition.proofs.Leaves.{is_living, live_on, lives, made, written}
 
 below_all : (n : ℕ) (xs : List ℕ) → AllOf (λ y. y < n) xs → (q : ℕ) → list_any (eqb q) xs ≡ true → q < n
@@ -147,16 +147,16 @@ module _ (h : Held) (w : Write) (is : IsWrite w) (stood : StandsFor h.o (bucket_
           let more = (written h w is).least in
           let e = live_entry h b i (entry_in h.o b i) low refl (live i low).0 (omega arith) in
           let some = stood.nothing_else b i (entry_in h.o b i) e in
-          let named = record_in h some.0 some.1 (entry_offset (entry_in h.o b i)) some.2.has in
+          let named = has_slot h b i (entry_in h.o b i) some.0 some.1 e some.2 in
           let other : some.0 ≢ w.key = λ same. none i (subst (λ (k : List ℕ). IsSlotOf h.o b k i) same (slot_is h b i (entry_in h.o b i) some.0 some.1 e some.2)) in
-          let its_key = laid.found_key some.0 h.m.records named.r named.is in
-          let offset = named.offset in
-          found_among some.0 named.r i
+          let its_key = laid.found_key some.0 h.m.records named.0 named.1.is in
+          let offset = named.1.offset in
+          found_among some.0 named.0 i
           (λ n n_is. elim n_is [
             | inl mine ↦ absurd (other (sym its_key ∙ mine.0))
-            | inr slot ↦ one_slot h b stood n i (entry_in h.o b n) (entry_in h.o b i) named.r.key some.0 (cell_at named.r).0 some.1 slot.1.entry e slot.1.spelt some.2 its_key
+            | inr slot ↦ one_slot h b stood n i (entry_in h.o b n) (entry_in h.o b i) named.0.key some.0 (cell_at named.0).0 some.1 slot.1.entry e slot.1.spelt some.2 its_key
           ])
-          (written_same (options_in h.o) h.m w some.0 other ∙ named.is) (omega arith) some.2.bucket
+          (written_same (options_in h.o) h.m w some.0 other ∙ named.1.is) (omega arith) some.2.bucket
 
       each : (i : ℕ) → i < 16 → list_any (eqb i) (numbers its all_numbered) ≡ true
       each i low = elim (cases_lt i 15) [

@@ -1,7 +1,7 @@
 -- Lists of the log's records: which one is displaced, and what is left.
 use Rattle.cache_partition.proofs.Words.{AllOf, Bool, IsLaid, IsUnique, List, None, Record, Some, [], all_filter, all_passes, all_weaker, ap, arith, cond, count_by}
 use Rattle.cache_partition.proofs.Words.{count_cons, false, filter, find, found_has, has_key, has_other_key, is_its_key, laid_found, missed_all, refl}
-use Rattle.cache_partition.proofs.Words.{same_Some, sym, true, true≢false, without_first, ℕ, ◌+◌, ◌<◌, ◌∙◌, ◌∷◌, ◌≡◌, ◌≢◌, ◌≤◌}
+use Rattle.cache_partition.proofs.Words.{same_Some, subst, sym, true, true≢false, without_first, ℕ, ◌+◌, ◌<◌, ◌∙◌, ◌∷◌, ◌≡◌, ◌≢◌, ◌≤◌}
 
 all_both : {X : Type 0} (P Q : X → Type 0) (xs : List X) → AllOf P xs → AllOf Q xs → AllOf (λ x. P x × Q x) xs
 all_both P Q [] ps qs = tt
@@ -64,13 +64,7 @@ pub first_least : (here : Record → Bool) (from upto : ℕ) (rs : List Record) 
 first_least here from upto [] f r key laid is found passes = cc
 first_least here from upto (x ∷ rs) f r key laid is found passes =
     elim (here x) as (λ b. here x ≡ b → cond b (Some x) (find here rs) ≡ Some f → f.offset ≤ r.offset) [
-      | true ↦ λ yes e. elim (has_key key x) as (λ b. cond b (Some x) (find (has_key key) rs) ≡ Some r → f.offset ≤ r.offset) [
-        | true ↦ λ e'. let one : f.offset ≡ r.offset = ap (λ (z : Record). z.offset) (sym (same_Some x f e) ∙ same_Some x r e') in omega arith
-        | false ↦ λ e'.
-            let there = (laid_found (has_key key) (x.offset + x.room) upto rs r laid.1 e').0 in
-            let one : x.offset ≡ f.offset = ap (λ (z : Record). z.offset) (same_Some x f e) in
-            omega arith
-      ] found
+      | true ↦ λ yes e. subst (λ (z : Record). z.offset ≤ r.offset) (same_Some x f e) (laid_found (has_key key) x.offset upto (x ∷ rs) r (omega arith, laid.1) found).0
       | false ↦ λ no e. elim (has_key key x) as (λ b. cond b (Some x) (find (has_key key) rs) ≡ Some r → f.offset ≤ r.offset) [
         | true ↦ λ e'. absurd (true≢false (sym passes ∙ (ap here (sym (same_Some x r e')) ∙ no)))
         | false ↦ λ e'. first_least here (x.offset + x.room) upto rs f r key laid.1 e e' passes

@@ -96,22 +96,21 @@ module _ (h : Held) where
       → Spells h.o b x key cell → Spells h.o b x' key' cell' → key ≡ key'
   slot_key b slot x x' key key' cell cell' e e' sp sp' = only_key h.o h.kept b b x x' key key' cell cell' sp sp' (ap entry_offset (sym e.found ∙ e'.found))
 
+  -- a live entry's key has a record
+  pub has_slot : (b slot x : ℕ) (key : List ℕ) (cell : Cell) → HasLiveEntry h.o b b slot x → Spells h.o b x key cell → (r : Record) × HasSlot h b key r slot
+  has_slot b slot x key cell e sp =
+      let spelt = subst (λ (z : ℕ). Spells h.o b z key cell) (sym e.found) sp in
+      let entry = subst (HasLiveEntry h.o b b slot) (sym e.found) e in
+      let named = record_in key cell (entry_offset (entry_in h.o b slot)) spelt.has in
+      (named.r, record { entry = entry; spelt = subst (Spells h.o b (entry_in h.o b slot) key) named.cell_is spelt; is = named.is; offset = named.offset })
+
   module _ (b : ℕ) (stood : StandsFor h.o b) where
     -- each record of the bucket has one
     pub slot_of : (key : List ℕ) (r : Record) → bucket_in h.o key ≡ b → record_of h.m key ≡ Some r → (slot : ℕ) × HasSlot h b key r slot
     slot_of key r here is =
         let there = stood.each key (cell_at r).0 r.offset here (has_in key r is) in
-        let e = in_main b there.0 there.1 there.2 there.3 in
-        let spelt = subst (λ (z : ℕ). Spells h.o b z key (cell_at r).0) (sym e.found) there.4 in
-        let named = record_in key (cell_at r).0 (entry_offset (entry_in h.o b there.1)) spelt.has in (
-          there.1,
-          record {
-            entry = subst (HasLiveEntry h.o b b there.1) (sym e.found) e;
-            spelt = spelt;
-            is = is;
-            offset = ap (λ (z : Record). z.offset) (same_Some r named.r (sym is ∙ named.is)) ∙ named.offset;
-          },
-        )
+        let at = has_slot b there.1 there.2 key (cell_at r).0 (in_main b there.0 there.1 there.2 there.3) there.4 in
+        (there.1, subst (λ (z : Record). HasSlot h b key z there.1) (same_Some at.0 r (sym at.1.is ∙ is)) at.1)
 
     -- and no other
     pub one_slot : (i i' x x' : ℕ) (key key' : List ℕ) (cell cell' : Cell) → HasLiveEntry h.o b b i x → HasLiveEntry h.o b b i' x'
@@ -145,10 +144,7 @@ module _ (h : Held) where
         found_slot slot found =
             let entry = slot_entry b slot key found in
             let own = spelt_key h.o h.kept b (entry_in h.o b slot) key bytes found.item (stood.nothing_else b slot (entry_in h.o b slot) entry) in
-            let named = record_in key own.0 (entry_offset (entry_in h.o b slot)) own.1.has in (
-              named.r,
-              record { entry = entry; spelt = subst (Spells h.o b (entry_in h.o b slot) key) named.cell_is own.1; is = named.is; offset = named.offset },
-            )
+            has_slot b slot (entry_in h.o b slot) key own.0 entry own.1
 
         pub hit : (slot : ℕ) (found : IsSlotOf h.o b key slot) → answer_of (options_in h.o) h.o.history key ≡ Some (found_slot slot found).0.value
         hit slot found = ap (λ (z : State). value_in z key) h.before ∙ ap (option_map (λ (r : Record). r.value)) (found_slot slot found).1.is

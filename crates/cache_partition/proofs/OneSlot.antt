@@ -1,6 +1,6 @@
 -- Where a write changes one slot of its bucket, the words stand for the machine's state after it.
 use Rattle.mica_model.specs.CacheStep as cs
-use Rattle.cache_partition.proofs.Words.{AcceptedWrite, Cache, Cell, Del, Has, HasLiveEntry, IsOffset, Keeps, Kept, List, Mode, None, Option}
+use Rattle.cache_partition.proofs.Words.{AcceptedWrite, Cache, Cell, Del, Has, HasLiveEntry, IsOffset, Keeps, Kept, List, Mode, Option}
 use Rattle.cache_partition.proofs.Words.{OwnerState, Put, PutsEntry, Record, Some, Spells, StandsFor, State, [], after, alone, ap, arith, bucket_in}
 use Rattle.cache_partition.proofs.Words.{cache_state, cell_at, dite, entry_in, entry_offset, entry_puts, entry_puts_other, entry_tag, get_or, inl}
 use Rattle.cache_partition.proofs.Words.{inr, item_at, item_in, item_put, item_puts_entry, item_words, length, length-item_words, main, offset_of}
@@ -39,14 +39,6 @@ module _ (h : Held) (a : AcceptedWrite h.o) where
     abbrev pub later : Kept (written h.o a words) → Held
     later t = record { o = written h.o a words; kept = t; mode = h.mode; m = new; before = state_is }
 
-    -- the slot has the written key's live entry
-    abbrev pub HasMine : ℕ → Type 0
-    HasMine slot = (cell : Cell) × HasLiveEntry q b b slot (entry_in q b slot) × Spells q b (entry_in q b slot) a.w.key cell
-
-    -- it has no live entry, and the write leaves the key no record
-    abbrev pub HasNone : ℕ → Type 0
-    HasNone slot = ((x : ℕ) → ¬ (HasLiveEntry q b b slot x)) × (record_of (made h a.w) a.w.key ≡ None)
-
     -- The words from the offset on are these, and no other item word has changed. The slot has the entry x, and no other
     -- entry of the bucket has changed.
     pub record Effect (slot x p : ℕ) (xs : List ℕ) : Type 0 where
@@ -59,9 +51,10 @@ module _ (h : Held) (a : AcceptedWrite h.o) where
       abbrev n : Held
       n = later t
 
-      -- the put words are the write's own, and the slot has the written key's entry, or none
+      -- the put words are the write's own, and the slot's live entry spells the written key: it has one where the key has a record
       module _ (slot entry p : ℕ) (xs : List ℕ) (before : Before slot) (effect : Effect slot entry p xs) (belongs : (j : ℕ) → j < length xs → cs.IsOfItem (options_in h.o) h.m a.w (p + j))
-          (mine : HasMine slot ⊎ HasNone slot) where
+          (own : (x : ℕ) → HasLiveEntry q b b slot x → (cell : Cell) × Spells q b x a.w.key cell)
+          (entered : (r : Record) → record_of (made h a.w) a.w.key ≡ Some r → HasLiveEntry q b b slot (entry_in q b slot)) where
         was : StandsFor h.o b
         was = stood h.o a
 
@@ -101,17 +94,11 @@ module _ (h : Held) (a : AcceptedWrite h.o) where
             record { key = some.0; cell = some.1; now = stays x some.0 some.1 differs.0 live differs.1 some.2; whose = inr (other, differs.0, old, some.2) }
 
         now : (c i x : ℕ) → HasLiveEntry q b c i x → Now i x
-        now c i x e = dite (ℕ_discrete i slot)
-            (λ is. elim mine [
-              | inl its ↦ record {
-                key = a.w.key;
-                cell = its.0;
-                now = subst (λ (z : ℕ). Spells q b z a.w.key its.0) (ap (entry_in q b) (sym is) ∙ (in_main n b c i x e).found) its.2;
-                whose = inl (is, refl);
-              }
-              | inr none ↦ absurd (none.0 x (subst (λ (z : ℕ). HasLiveEntry q b b z x) is (in_main n b c i x e)))
-            ])
-            (now_other i x (in_main n b c i x e))
+        now c i x e =
+            let main = in_main n b c i x e in
+            dite (ℕ_discrete i slot)
+            (λ is. let its = own x (subst (λ (z : ℕ). HasLiveEntry q b b z x) is main) in record { key = a.w.key; cell = its.0; now = its.1; whose = inl (is, refl) })
+            (now_other i x main)
 
         -- a key is spelt once
 
@@ -122,15 +109,13 @@ module _ (h : Held) (a : AcceptedWrite h.o) where
 
         each_mine : (key : List ℕ) (cell : Cell) (from : ℕ) → Has (state_in q) key cell from → key ≡ a.w.key
             → (c : ℕ) × (i : ℕ) × (x : ℕ) × HasLiveEntry q b c i x × Spells q b x key cell
-        each_mine key cell from has is = elim mine [
-          | inl its ↦
-              let sp : Spells q b (entry_in q b slot) key its.0 = subst (λ (z : List ℕ). Spells q b (entry_in q b slot) z its.0) (sym is) its.2 in
-              let same = same_cell (state_in q) key its.0 cell (entry_offset (entry_in q b slot)) from sp.has has in
-              (b, slot, entry_in q b slot, its.1, subst (λ (z : Cell). Spells q b (entry_in q b slot) key z) same sp)
-          | inr none ↦
-              let found = record_in n key cell from has in
-              cc (sym none.1 ∙ (ap (record_of (made h a.w)) (sym is) ∙ (before.leaves.back key found.r found.is).0))
-        ]
+        each_mine key cell from has is =
+            let found = record_in n key cell from has in
+            let e = entered found.r (ap (record_of (made h a.w)) (sym is) ∙ (before.leaves.back key found.r found.is).0) in
+            let its = own (entry_in q b slot) e in
+            let sp = subst (λ (z : List ℕ). Spells q b (entry_in q b slot) z its.0) (sym is) its.1 in
+            let same = same_cell (state_in q) key its.0 cell (entry_offset (entry_in q b slot)) from sp.has has in
+            (b, slot, entry_in q b slot, e, subst (λ (z : Cell). Spells q b (entry_in q b slot) key z) same sp)
 
         each_other : (key : List ℕ) (cell : Cell) (from : ℕ) → bucket_in h.o key ≡ b → Has (state_in q) key cell from → key ≢ a.w.key
             → (c : ℕ) × (i : ℕ) × (x : ℕ) × HasLiveEntry q b c i x × Spells q b x key cell
@@ -165,7 +150,7 @@ module _ (h : Held) (a : AcceptedWrite h.o) where
 
       -- a delete
       pub deleted : a.w.op ≡ Del → (slot x : ℕ) → Before slot → Effect slot x 0 [] → ((y : ℕ) → ¬ (HasLiveEntry q b b slot y)) → StandsFor q b
-      deleted op slot x before effect none = stands slot x 0 [] before effect (λ j less. absurd (omega arith)) (inr (none, deleted_none h a.w op))
+      deleted op slot x before effect none = stands slot x 0 [] before effect (λ j less. absurd (omega arith)) (λ y e. absurd (none y e)) (λ r is. cc (sym (deleted_none h a.w op) ∙ is))
 
       -- a put, which leaves its key this record with the new value: the slot's entry and item spell it
       pub put : a.w.op ≡ Put → (slot x : ℕ) → Before slot → slot < 15 → (r : Record) → record_of (made h a.w) a.w.key ≡ Some (record r { value = a.w.value })
@@ -178,14 +163,14 @@ module _ (h : Held) (a : AcceptedWrite h.o) where
           let long = length-item_words r.room a.w.key a.w.value in
           stands slot x r.offset (item_words r.room a.w.key a.w.value) before effect
           (λ j less. put_item (options_in h.o) h.m a.w op (r.offset + j) (omega arith) (omega arith))
-          (inl (
+          (λ y e. (
             (cell_at new).0,
-            live_entry n b slot (entry_in q b slot) below refl (λ none. some (sym effect.here ∙ none)) (omega arith),
-            spells_item q t b (entry_in q b slot) a.w.key (cell_at new).0 refl
+            subst (λ (z : ℕ). Spells q b z a.w.key (cell_at new).0) e.found (spells_item q t b (entry_in q b slot) a.w.key (cell_at new).0 refl
                 (subst (λ (z : ℕ). Has (state_in q) a.w.key (cell_at new).0 z) (sym its_offset) (has_in n a.w.key new (before.leaves.on a.w.key new found live before.own)))
                 (subst (λ (z : Mode). IsOffset z h.o.shape.words (entry_offset (entry_in q b slot))) (sym h.mode) tt)
-                (ap entry_tag effect.here ∙ tag) (λ i l. ap (λ (z : ℕ). item_in q (z + i)) its_offset ∙ effect.items i (omega arith)),
+                (ap entry_tag effect.here ∙ tag) (λ i l. ap (λ (z : ℕ). item_in q (z + i)) its_offset ∙ effect.items i (omega arith))),
           ))
+          (λ r is. live_entry n b slot (entry_in q b slot) below refl (λ none. some (sym effect.here ∙ none)) (omega arith))
 
   -- where words alone were put, and where an entry was put after them
   module _ (p : ℕ) (xs : List ℕ) (few : length xs ≤ h.o.shape.words) (slot x : ℕ) where
