@@ -1,14 +1,14 @@
 -- How many records the written bucket has once the log has passed: as many as it has live slots, and the written key's own.
 use Rattle.mica_model.proofs.Found as found
 use Rattle.mica_model.proofs.Laid as laid
-use Rattle.cache_partition.proofs.Words.{AllOf, Bool, HasNoSlot, IsDistinct, IsDistinct-cons, IsSlotOf, IsUnique, IsWrite, List, Record, Some}
-use Rattle.cache_partition.proofs.Words.{StandsFor, Write, [], ap, arith, bucket_in, cases_Bool, cases_lt, cell_at, cond, count_by, entry_in}
+use Rattle.cache_partition.proofs.Words.{AllOf, Bool, HasNoSlot, IsDistinct, IsDistinct-cons, IsUnique, IsWrite, List, Record, Some}
+use Rattle.cache_partition.proofs.Words.{StandsFor, Write, [], ap, arith, bucket_in, cases_Bool, cases_lt, cond, count_by, entry_in}
 use Rattle.cache_partition.proofs.Words.{entry_offset, eq-eqb, eqb, eqb-true, false, filter, find, has_key, here_of, inl, inr, le-length_from_below}
-use Rattle.cache_partition.proofs.Words.{leb-true, length, length-filter, length-le_from_distinct_below, list_any, nat_tests, ne_eqb, only_key}
+use Rattle.cache_partition.proofs.Words.{leb-true, length, length-filter, length-le_from_distinct_below, list_any, nat_tests, ne_eqb}
 use Rattle.cache_partition.proofs.Words.{options_in, record_of, refl, same_Some, same_or_other, subst, suc, sym, tail_of, true, true≢false}
 use Rattle.cache_partition.proofs.Words.{written_same, ℕ, ⊎_elim, ◌+◌, ◌<◌, ◌∙◌, ◌∷◌, ◌≡◌, ◌≢◌, ◌≤◌, ◌⊎◌}
 use Rattle.cache_partition.proofs.Displaced.{all_filtered, each_found}
-use Rattle.cache_partition.proofs.Held.{HasSlot, Held, has_slot, live_entry, one_slot, slot_is, slot_of, stamp_is}
+use Rattle.cache_partition.proofs.Held.{HasSlot, Held, live_entry, of_others, one_slot, slot_key, slot_of, slot_record, stamp_is}
 use Rattle.cache_partition.proofs.Leaves.{is_living, live_on, lives, made, written}
 
 below_all : (n : ℕ) (xs : List ℕ) → AllOf (λ y. y < n) xs → (q : ℕ) → list_any (eqb q) xs ≡ true → q < n
@@ -83,8 +83,8 @@ module _ (h : Held) (w : Write) (is : IsWrite w) (stood : StandsFor h.o (bucket_
   differ r r' i i' other (inl mine) (inl mine') same = true≢false (sym (laid.has_its_key r.key r' (mine'.0 ∙ sym mine.0)) ∙ other)
   differ r r' i i' other (inl mine) (inr slot) same = let below = slot.1.entry.in_bucket in let last = mine.1 in omega arith
   differ r r' i i' other (inr slot) (inl mine) same = let below = slot.1.entry.in_bucket in let last = mine.1 in omega arith
-  differ r r' i i' other (inr slot) (inr slot') same = true≢false (sym (laid.has_its_key r.key r'
-      (only_key h.o h.kept b b _ _ r'.key r.key _ _ slot'.1.spelt slot.1.spelt (ap (λ (z : ℕ). entry_offset (entry_in h.o b z)) (sym same)))) ∙ other)
+  differ r r' i i' other (inr slot) (inr slot') same =
+      true≢false (sym (laid.has_its_key r.key r' (slot_key h b i' r'.key r.key r' r slot'.1 (subst (HasSlot h b r.key r) same slot.1))) ∙ other)
 
   numbers_distinct : (rs : List Record) (all : AllOf Numbered rs) → IsUnique rs → IsDistinct eqb (numbers rs all)
   unfolding numbers IsDistinct
@@ -128,6 +128,15 @@ module _ (h : Held) (w : Write) (is : IsWrite w) (stood : StandsFor h.o (bucket_
       (found.found_filter (has_key key) here alive r (live_on h w is key r at live)
       (eq-eqb (bucket_in h.o r.key) b (ap (bucket_in h.o) (laid.found_key key (made h w).records r at) ∙ there)))
 
+  -- a slot whose entry stays live has a key's record
+  pub record_at : (i : ℕ) → i < 15 → (entry_in h.o b i ≢ 0) × (tail_of (made h w).stamp ≤ entry_offset (entry_in h.o b i) + h.o.shape.words)
+      → (key : List ℕ) × (r : Record) × HasSlot h b key r i
+  record_at i low live =
+      let stamp = stamp_is h in
+      let more = (written h w is).least in
+      let later = live.1 in
+      slot_record h b stood i (entry_in h.o b i) (live_entry h b i (entry_in h.o b i) low refl live.0 (omega arith))
+
   -- where every slot is live and of another key, and the key has a record, there are 16
   pub many : (own : Record) → record_of (made h w) w.key ≡ Some own → tail_of (made h w).stamp ≤ own.offset + h.o.shape.words → HasNoSlot h.o b w.key
       → ((i : ℕ) → i < 15 → (entry_in h.o b i ≢ 0) × (tail_of (made h w).stamp ≤ entry_offset (entry_in h.o b i) + h.o.shape.words))
@@ -142,21 +151,17 @@ module _ (h : Held) (w : Write) (is : IsWrite w) (stood : StandsFor h.o (bucket_
     where
       at_slot : (i : ℕ) → i < 15 → list_any (eqb i) (numbers its all_numbered) ≡ true
       at_slot i low =
+          let at = record_at i low (live i low) in
+          let other = of_others h b w.key none i at.0 at.1 at.2 in
+          let its_key = laid.found_key at.0 h.m.records at.1 at.2.is in
+          let offset = at.2.offset in
           let later = (live i low).1 in
-          let stamp = stamp_is h in
-          let more = (written h w is).least in
-          let e = live_entry h b i (entry_in h.o b i) low refl (live i low).0 (omega arith) in
-          let some = stood.nothing_else b i (entry_in h.o b i) e in
-          let named = has_slot h b i (entry_in h.o b i) some.0 some.1 e some.2 in
-          let other : some.0 ≢ w.key = λ same. none i (subst (λ (k : List ℕ). IsSlotOf h.o b k i) same (slot_is h b i (entry_in h.o b i) some.0 some.1 e some.2)) in
-          let its_key = laid.found_key some.0 h.m.records named.0 named.1.is in
-          let offset = named.1.offset in
-          found_among some.0 named.0 i
+          found_among at.0 at.1 i
           (λ n n_is. elim n_is [
             | inl mine ↦ absurd (other (sym its_key ∙ mine.0))
-            | inr slot ↦ one_slot h b stood n i (entry_in h.o b n) (entry_in h.o b i) named.0.key some.0 (cell_at named.0).0 some.1 slot.1.entry e slot.1.spelt some.2 its_key
+            | inr slot ↦ one_slot h b stood n i at.1.key at.0 at.1 at.1 slot.1 at.2 its_key
           ])
-          (written_same (options_in h.o) h.m w some.0 other ∙ named.1.is) (omega arith) some.2.bucket
+          (written_same (options_in h.o) h.m w at.0 other ∙ at.2.is) (omega arith) at.2.spelt.bucket
 
       each : (i : ℕ) → i < 16 → list_any (eqb i) (numbers its all_numbered) ≡ true
       each i low = elim (cases_lt i 15) [

@@ -1,9 +1,9 @@
 -- A partition in cache mode: what the slots of a bucket tell of the log's records.
-use Rattle.cache_partition.proofs.Words.{AreBytes, Cache, CacheMode, Cell, Has, HasKey, HasLiveEntry, HasNoSlot, Idle, IsKept, IsLiveItem, IsMain}
+use Rattle.cache_partition.proofs.Words.{AreBytes, Cache, CacheMode, Cell, Has, HasLiveEntry, HasNoSlot, Idle, IsKept, IsLiveItem, IsMain}
 use Rattle.cache_partition.proofs.Words.{IsSlotOf, Kept, List, MatchOption, Mode, None, Option, OwnerState, Record, Some, Spells, StandsFor, State}
 use Rattle.cache_partition.proofs.Words.{alone, answer_of, ap, arith, bucket_in, cache_state, cached_in, cell_at, entry_in, entry_offset}
 use Rattle.cache_partition.proofs.Words.{entry_tag, found_record, had_record, had_record_by, has_its_key, inl, is_some, kept_in, main_of, only_key}
-use Rattle.cache_partition.proofs.Words.{option_map, options_in, record_of, refl, same_Some, same_cell, spelt_key, stamp_in, stamp_of_state}
+use Rattle.cache_partition.proofs.Words.{option_map, options_in, record_of, refl, same_Some, spelt_key, stamp_in, stamp_of_state}
 use Rattle.cache_partition.proofs.Words.{stands_idle, state_in, subst, sym, tag_of-range, tail_of, value_in, ℕ, ◌+◌, ◌<◌, ◌∙◌, ◌≡◌, ◌≢◌, ◌≤◌}
 
 -- an owner's state in cache mode, with its machine
@@ -75,15 +75,17 @@ module _ (h : Held) where
 
   -- The slots of keys
 
-  pub slot_is : (b slot x : ℕ) (key : List ℕ) (cell : Cell) → HasLiveEntry h.o b b slot x → Spells h.o b x key cell → IsSlotOf h.o b key slot
-  slot_is b slot x key cell e sp =
-      let live = live_is b b slot x e in
-      let same = ap entry_offset e.found in record {
-        in_bucket = e.in_bucket;
-        tag = ap entry_tag e.found ∙ sp.tag;
-        live = omega arith;
-        item = subst (λ (z : ℕ). HasKey h.o (entry_offset z) key) (sym e.found) (has_its_key h.o h.kept b x key cell sp);
-      }
+  pub slot_is : (b slot : ℕ) (key : List ℕ) (r : Record) → HasSlot h b key r slot → IsSlotOf h.o b key slot
+  slot_is b slot key r at = record {
+    in_bucket = at.entry.in_bucket;
+    tag = at.spelt.tag;
+    live = live_is b b slot (entry_in h.o b slot) at.entry;
+    item = has_its_key h.o h.kept b (entry_in h.o b slot) key (cell_at r).0 at.spelt;
+  }
+
+  -- where a key has no slot, each has another key's entry
+  pub of_others : (b : ℕ) (key : List ℕ) → HasNoSlot h.o b key → (slot : ℕ) (key' : List ℕ) (r : Record) → HasSlot h b key' r slot → key' ≢ key
+  of_others b key none slot key' r at same = none slot (subst (λ (k : List ℕ). IsSlotOf h.o b k slot) same (slot_is b slot key' r at))
 
   pub slot_entry : (b slot : ℕ) (key : List ℕ) → IsSlotOf h.o b key slot → HasLiveEntry h.o b b slot (entry_in h.o b slot)
   slot_entry b slot key is =
@@ -92,9 +94,8 @@ module _ (h : Held) where
       live_entry b slot (entry_in h.o b slot) is.in_bucket refl (λ empty. let zero : entry_tag (entry_in h.o b slot) ≡ 0 = ap entry_tag empty in omega arith) is.live
 
   -- the entry of a slot spells one key
-  pub slot_key : (b slot x x' : ℕ) (key key' : List ℕ) (cell cell' : Cell) → HasLiveEntry h.o b b slot x → HasLiveEntry h.o b b slot x'
-      → Spells h.o b x key cell → Spells h.o b x' key' cell' → key ≡ key'
-  slot_key b slot x x' key key' cell cell' e e' sp sp' = only_key h.o h.kept b b x x' key key' cell cell' sp sp' (ap entry_offset (sym e.found ∙ e'.found))
+  pub slot_key : (b slot : ℕ) (key key' : List ℕ) (r r' : Record) → HasSlot h b key r slot → HasSlot h b key' r' slot → key ≡ key'
+  slot_key b slot key key' r r' at at' = only_key h.o h.kept b b _ _ key key' _ _ at.spelt at'.spelt refl
 
   -- a live entry's key has a record
   pub has_slot : (b slot x : ℕ) (key : List ℕ) (cell : Cell) → HasLiveEntry h.o b b slot x → Spells h.o b x key cell → (r : Record) × HasSlot h b key r slot
@@ -113,16 +114,18 @@ module _ (h : Held) where
         (there.1, subst (λ (z : Record). HasSlot h b key z there.1) (same_Some at.0 r (sym at.1.is ∙ is)) at.1)
 
     -- and no other
-    pub one_slot : (i i' x x' : ℕ) (key key' : List ℕ) (cell cell' : Cell) → HasLiveEntry h.o b b i x → HasLiveEntry h.o b b i' x'
-        → Spells h.o b x key cell → Spells h.o b x' key' cell' → key ≡ key' → i ≡ i'
-    one_slot i i' x x' key key' cell cell' e e' sp sp' same =
-        let its = subst (λ (k : List ℕ). Spells h.o b x' k cell') (sym same) sp' in
-        let one = same_cell (state_in h.o) key cell' cell (entry_offset x') (entry_offset x) its.has sp.has in
-        (stood.once b i x b i' x' key cell e e' sp (subst (λ (z : Cell). Spells h.o b x' key z) one its)).1
+    pub one_slot : (i i' : ℕ) (key key' : List ℕ) (r r' : Record) → HasSlot h b key r i → HasSlot h b key' r' i' → key ≡ key' → i ≡ i'
+    one_slot i i' key key' r r' at at' same =
+        let its = subst (λ (k : List ℕ). HasSlot h b k r' i') (sym same) at' in
+        let spelt = subst (λ (z : Record). Spells h.o b (entry_in h.o b i') key (cell_at z).0) (same_Some r' r (sym its.is ∙ at.is)) its.spelt in
+        (stood.once b i _ b i' _ key (cell_at r).0 at.entry its.entry at.spelt spelt).1
 
-    pub only_slot : (slot x : ℕ) (key : List ℕ) (cell : Cell) → HasLiveEntry h.o b b slot x → Spells h.o b x key cell
-        → (i y : ℕ) (key' : List ℕ) (cell' : Cell) → i ≢ slot → HasLiveEntry h.o b b i y → Spells h.o b y key' cell' → key' ≢ key
-    only_slot slot x key cell e sp i y key' cell' other e' sp' same = other (one_slot i slot y x key' key cell' cell e' e sp' sp same)
+    -- a live entry has a key's record
+    pub slot_record : (slot x : ℕ) → HasLiveEntry h.o b b slot x → (key : List ℕ) × (r : Record) × HasSlot h b key r slot
+    slot_record slot x e =
+        let some = stood.nothing_else b slot x e in
+        let at = has_slot b slot x some.0 some.1 e some.2 in
+        (some.0, at.0, at.1)
 
     module _ (key : List ℕ) (here : bucket_in h.o key ≡ b) where
       -- a key without a slot has no record
@@ -133,7 +136,7 @@ module _ (h : Held) where
           by_record None is = refl
           by_record (Some r) is =
               let at = slot_of key r here is in
-              absurd (none at.0 (slot_is b at.0 (entry_in h.o b at.0) key (cell_at r).0 at.1.entry at.1.spelt))
+              absurd (none at.0 (slot_is b at.0 key r at.1))
 
       pub missed : HasNoSlot h.o b key → answer_of (options_in h.o) h.o.history key ≡ None
       missed none = ap (λ (z : State). value_in z key) h.before ∙ ap (option_map (λ (r : Record). r.value)) (no_record none)

@@ -6,9 +6,9 @@ use Rattle.cache_partition.proofs.Words.{cache_state, cell_at, dite, entry_in, e
 use Rattle.cache_partition.proofs.Words.{inr, item_at, item_in, item_put, item_puts_entry, item_words, length, length-item_words, main, offset_of}
 use Rattle.cache_partition.proofs.Words.{only_key, options_in, other_rooms, put_entry, put_item, put_long, put_others, put_words, record_of, refl}
 use Rattle.cache_partition.proofs.Words.{room_in, room_is, same_cell, same_or_other, spells_item, spells_on, stamp_in, stamp_rises, stands_cached}
-use Rattle.cache_partition.proofs.Words.{state_after, state_in, stood, subst, subst₂, sym, tag_of, tail_of, window_kept, written, written_same}
+use Rattle.cache_partition.proofs.Words.{state_after, state_in, stood, subst, sym, tag_of, tail_of, window_kept, written, written_same}
 use Rattle.cache_partition.proofs.Words.{written_state, ℕ, ℕ_discrete, ◌+◌, ◌<◌, ◌∙◌, ◌≡◌, ◌≢◌, ◌≤◌, ◌⊎◌}
-use Rattle.cache_partition.proofs.Held.{Held, has_in, in_main, live_entry, live_is, machine, one_slot, record_in, slot_of, stamp_is}
+use Rattle.cache_partition.proofs.Held.{HasSlot, Held, has_in, in_main, live_entry, live_is, machine, one_slot, record_in, slot_of, slot_record, stamp_is}
 use Rattle.cache_partition.proofs.Leaves.{IsLost, Leaves, deleted_none, made, step_stamp}
 
 module _ (h : Held) (a : AcceptedWrite h.o) where
@@ -24,9 +24,8 @@ module _ (h : Held) (a : AcceptedWrite h.o) where
     pub lost : Option (List ℕ)
     pub leaves : Leaves h a.w lost
     pub own : ¬ (IsLost lost a.w.key)
-    pub others : (i x : ℕ) (key : List ℕ) (cell : Cell) → i ≢ slot → HasLiveEntry h.o b b i x → Spells h.o b x key cell → (key ≢ a.w.key) × ¬ (IsLost lost key)
-    pub gone : (x : ℕ) (key : List ℕ) (cell : Cell) → HasLiveEntry h.o b b slot x → tail_of (made h a.w).stamp ≤ entry_offset x + h.o.shape.words
-        → Spells h.o b x key cell → (key ≡ a.w.key) ⊎ IsLost lost key
+    pub others : (i : ℕ) (key : List ℕ) (r : Record) → i ≢ slot → HasSlot h b key r i → (key ≢ a.w.key) × ¬ (IsLost lost key)
+    pub gone : (key : List ℕ) (r : Record) → HasSlot h b key r slot → tail_of (made h a.w).stamp ≤ r.offset + h.o.shape.words → (key ≡ a.w.key) ⊎ IsLost lost key
 
   -- the partition before the write's end, with these words
   module _ (words : List ℕ) where
@@ -53,7 +52,7 @@ module _ (h : Held) (a : AcceptedWrite h.o) where
 
       -- the put words are the write's own, and the slot's live entry spells the written key: it has one where the key has a record
       module _ (slot entry p : ℕ) (xs : List ℕ) (before : Before slot) (effect : Effect slot entry p xs) (belongs : (j : ℕ) → j < length xs → cs.IsOfItem (options_in h.o) h.m a.w (p + j))
-          (own : (x : ℕ) → HasLiveEntry q b b slot x → (cell : Cell) × Spells q b x a.w.key cell)
+          (own : (x : ℕ) → HasLiveEntry q b b slot x → (r : Record) × Spells q b x a.w.key (cell_at r).0)
           (entered : (r : Record) → record_of (made h a.w) a.w.key ≡ Some r → HasLiveEntry q b b slot (entry_in q b slot)) where
         was : StandsFor h.o b
         was = stood h.o a
@@ -64,23 +63,22 @@ module _ (h : Held) (a : AcceptedWrite h.o) where
         -- what a live entry spells: the written key in the slot, and in another one the key that it spelt
         record Now (i x : ℕ) : Type 0 where
           pub key : List ℕ
-          pub cell : Cell
-          pub now : Spells q b x key cell
-          pub whose : ((i ≡ slot) × (key ≡ a.w.key)) ⊎ ((i ≢ slot) × (key ≢ a.w.key) × HasLiveEntry h.o b b i x × Spells h.o b x key cell)
+          pub r : Record
+          pub now : Spells q b x key (cell_at r).0
+          pub whose : ((i ≡ slot) × (key ≡ a.w.key)) ⊎ ((i ≢ slot) × (key ≢ a.w.key) × HasSlot h b key r i)
 
         -- an entry of another key that the machine leaves spells what it spelt
-        stays : (x : ℕ) (key : List ℕ) (cell : Cell) → key ≢ a.w.key → tail_of (stamp_in q) ≤ entry_offset x + h.o.shape.words → ¬ (IsLost before.lost key)
-            → Spells h.o b x key cell → Spells q b x key cell
-        stays x key cell other live kept sp =
-            let named = record_in h key cell (entry_offset x) sp.has in
-            let offset = named.offset in
+        stays : (i : ℕ) (key : List ℕ) (r : Record) → HasSlot h b key r i → key ≢ a.w.key → tail_of (stamp_in q) ≤ r.offset + h.o.shape.words → ¬ (IsLost before.lost key)
+            → Spells q b (entry_in h.o b i) key (cell_at r).0
+        stays i key r at other live kept =
+            let x = entry_in h.o b i in
             let stamp = stamp_now in
-            let left = before.leaves.on key named.r (written_same (options_in h.o) h.m a.w key other ∙ named.is) (omega arith) kept in
-            let room : room_in h.o x ≡ named.r.room = room_is h.o h.kept b x key cell sp ∙ ap (λ (z : Cell). z.room) named.cell_is in
-            let keeps : Keeps h.o a words x = λ i l.
-            subst (λ (z : ℕ). item_in q (z + i) ≡ item_in h.o (z + i)) offset (effect.others (named.r.offset + i) (λ j less same.
-            other_rooms (options_in h.o) h.kept.shape.ranges h.o.history h.kept.history.writes a.w a.is h.m h.before (p + j) (belongs j less) key other named.r left i (omega arith) (omega arith))) in
-            spells_on h.o a words b x keeps key cell (subst₂ (λ (c : Cell) (z : ℕ). Has (state_in q) key c z) (sym named.cell_is) offset (has_in n key named.r left)) sp
+            let left = before.leaves.on key r (written_same (options_in h.o) h.m a.w key other ∙ at.is) (omega arith) kept in
+            let room : room_in h.o x ≡ r.room = room_is h.o h.kept b x key (cell_at r).0 at.spelt in
+            let keeps : Keeps h.o a words x = λ k l.
+            subst (λ (z : ℕ). item_in q (z + k) ≡ item_in h.o (z + k)) at.offset (effect.others (r.offset + k) (λ j less same.
+            other_rooms (options_in h.o) h.kept.shape.ranges h.o.history h.kept.history.writes a.w a.is h.m h.before (p + j) (belongs j less) key other r left k (omega arith) (omega arith))) in
+            spells_on h.o a words b x keeps key (cell_at r).0 (subst (λ (z : ℕ). Has (state_in q) key (cell_at r).0 z) at.offset (has_in n key r left)) at.spelt
 
         now_other : (i x : ℕ) → HasLiveEntry q b b i x → i ≢ slot → Now i x
         now_other i x e other =
@@ -88,22 +86,24 @@ module _ (h : Held) (a : AcceptedWrite h.o) where
             let stamp = h.kept.stamp in
             let later = t.stamp in
             let more = stamp_rises (options_in h.o) h.o.history a.w in
-            let old = live_entry h b i x e.in_bucket (sym (effect.entries i e.in_bucket other) ∙ e.found) e.live.0 (omega arith) in
-            let some = was.nothing_else b i x old in
-            let differs = before.others i x some.0 some.1 other old some.2 in
-            record { key = some.0; cell = some.1; now = stays x some.0 some.1 differs.0 live differs.1 some.2; whose = inr (other, differs.0, old, some.2) }
+            let same = sym (effect.entries i e.in_bucket other) ∙ e.found in
+            let at = slot_record h b was i x (live_entry h b i x e.in_bucket same e.live.0 (omega arith)) in
+            let offset = at.2.offset ∙ ap entry_offset same in
+            let differs = before.others i at.0 at.1 other at.2 in
+            let now = subst (λ (z : ℕ). Spells q b z at.0 (cell_at at.1).0) same (stays i at.0 at.1 at.2 differs.0 (omega arith) differs.1) in
+            record { key = at.0; r = at.1; now = now; whose = inr (other, differs.0, at.2) }
 
         now : (c i x : ℕ) → HasLiveEntry q b c i x → Now i x
         now c i x e =
             let main = in_main n b c i x e in
             dite (ℕ_discrete i slot)
-            (λ is. let its = own x (subst (λ (z : ℕ). HasLiveEntry q b b z x) is main) in record { key = a.w.key; cell = its.0; now = its.1; whose = inl (is, refl) })
+            (λ is. let its = own x (subst (λ (z : ℕ). HasLiveEntry q b b z x) is main) in record { key = a.w.key; r = its.0; now = its.1; whose = inl (is, refl) })
             (now_other i x main)
 
         -- a key is spelt once
 
         one : (i x i' x' : ℕ) (z : Now i x) (z' : Now i' x') → z.key ≡ z'.key → i ≡ i'
-        one i x i' x' z z' same = grind (arith, z.whose, z'.whose, same, one_slot h b was i i' x x' z.key z'.key z.cell z'.cell)
+        one i x i' x' z z' same = grind (arith, z.whose, z'.whose, same, one_slot h b was i i' z.key z'.key z.r z'.r)
 
         -- and each that has a record is
 
@@ -113,8 +113,8 @@ module _ (h : Held) (a : AcceptedWrite h.o) where
             let found = record_in n key cell from has in
             let e = entered found.r (ap (record_of (made h a.w)) (sym is) ∙ (before.leaves.back key found.r found.is).0) in
             let its = own (entry_in q b slot) e in
-            let sp = subst (λ (z : List ℕ). Spells q b (entry_in q b slot) z its.0) (sym is) its.1 in
-            let same = same_cell (state_in q) key its.0 cell (entry_offset (entry_in q b slot)) from sp.has has in
+            let sp = subst (λ (z : List ℕ). Spells q b (entry_in q b slot) z (cell_at its.0).0) (sym is) its.1 in
+            let same = same_cell (state_in q) key (cell_at its.0).0 cell (entry_offset (entry_in q b slot)) from sp.has has in
             (b, slot, entry_in q b slot, e, subst (λ (z : Cell). Spells q b (entry_in q b slot) key z) same sp)
 
         each_other : (key : List ℕ) (cell : Cell) (from : ℕ) → bucket_in h.o key ≡ b → Has (state_in q) key cell from → key ≢ a.w.key
@@ -127,25 +127,24 @@ module _ (h : Held) (a : AcceptedWrite h.o) where
             let stamp = stamp_is n in
             let now = stamp_now in
             let window = (window_kept (options_in h.o) new (machine n) key found.r found.is).0 in
-            let not_slot : at.0 ≢ slot = λ is. elim (before.gone (entry_in h.o b at.0) key (cell_at found.r).0
-            (subst (λ (z : ℕ). HasLiveEntry h.o b b z (entry_in h.o b at.0)) is at.1.entry) (omega arith) at.1.spelt) [ inl mine ↦ other mine | inr lost ↦ was_left.1 lost ] in (
+            let not_slot : at.0 ≢ slot = λ is. elim (before.gone key found.r (subst (HasSlot h b key found.r) is at.1) (omega arith)) [ inl mine ↦ other mine | inr lost ↦ was_left.1 lost ] in (
               b,
               at.0,
               entry_in h.o b at.0,
               live_entry n b at.0 (entry_in h.o b at.0) at.1.entry.in_bucket (effect.entries at.0 at.1.entry.in_bucket not_slot) at.1.entry.live.0 (omega arith),
               subst (λ (z : Cell). Spells q b (entry_in h.o b at.0) key z) (sym found.cell_is)
-                  (stays (entry_in h.o b at.0) key (cell_at found.r).0 other (omega arith) was_left.1 at.1.spelt),
+                  (stays at.0 key found.r at.1 other (omega arith) was_left.1),
             )
 
         pub stands : StandsFor q b
         stands = stands_cached q t h.mode b (main h.o a)
-            (λ c i x e. let z = now c i x e in (z.key, z.cell, z.now))
+            (λ c i x e. let z = now c i x e in (z.key, (cell_at z.r).0, z.now))
             (λ key cell from here has. elim (same_or_other key a.w.key) [ inl is ↦ each_mine key cell from has is | inr other ↦ each_other key cell from here has other ])
             (λ c i x c' i' x' key cell e e' sp sp'.
             let z = now c i x e in
             let z' = now c' i' x' e' in
-            let keys = only_key q t b b x x z.key key z.cell cell z.now sp refl in
-            let keys' = only_key q t b b x' x' z'.key key z'.cell cell z'.now sp' refl in
+            let keys = only_key q t b b x x z.key key (cell_at z.r).0 cell z.now sp refl in
+            let keys' = only_key q t b b x' x' z'.key key (cell_at z'.r).0 cell z'.now sp' refl in
             (sym (alone q t h.mode b c e.in_chain) ∙ alone q t h.mode b c' e'.in_chain, one i x i' x' z z' (keys ∙ sym keys')))
 
       -- a delete
@@ -161,15 +160,13 @@ module _ (h : Held) (a : AcceptedWrite h.o) where
           let stamp = stamp_is n ∙ step_stamp h a.w in
           let its_offset : entry_offset (entry_in q b slot) ≡ r.offset = ap entry_offset effect.here ∙ offset in
           let long = length-item_words r.room a.w.key a.w.value in
+          let spelt = spells_item q t b (entry_in q b slot) a.w.key (cell_at new).0 refl
+          (subst (λ (z : ℕ). Has (state_in q) a.w.key (cell_at new).0 z) (sym its_offset) (has_in n a.w.key new (before.leaves.on a.w.key new found live before.own)))
+          (subst (λ (z : Mode). IsOffset z h.o.shape.words (entry_offset (entry_in q b slot))) (sym h.mode) tt)
+          (ap entry_tag effect.here ∙ tag) (λ i l. ap (λ (z : ℕ). item_in q (z + i)) its_offset ∙ effect.items i (omega arith)) in
           stands slot x r.offset (item_words r.room a.w.key a.w.value) before effect
           (λ j less. put_item (options_in h.o) h.m a.w op (r.offset + j) (omega arith) (omega arith))
-          (λ y e. (
-            (cell_at new).0,
-            subst (λ (z : ℕ). Spells q b z a.w.key (cell_at new).0) e.found (spells_item q t b (entry_in q b slot) a.w.key (cell_at new).0 refl
-                (subst (λ (z : ℕ). Has (state_in q) a.w.key (cell_at new).0 z) (sym its_offset) (has_in n a.w.key new (before.leaves.on a.w.key new found live before.own)))
-                (subst (λ (z : Mode). IsOffset z h.o.shape.words (entry_offset (entry_in q b slot))) (sym h.mode) tt)
-                (ap entry_tag effect.here ∙ tag) (λ i l. ap (λ (z : ℕ). item_in q (z + i)) its_offset ∙ effect.items i (omega arith))),
-          ))
+          (λ y e. (new, subst (λ (z : ℕ). Spells q b z a.w.key (cell_at new).0) e.found spelt))
           (λ r is. live_entry n b slot (entry_in q b slot) below refl (λ none. some (sym effect.here ∙ none)) (omega arith))
 
   -- where words alone were put, and where an entry was put after them

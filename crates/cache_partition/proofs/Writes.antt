@@ -164,7 +164,7 @@ module _ (o : OwnerState) (s : Kept o) (may : MayWrite o) (w : Write) (is : IsWr
               (deleted h accepted (after (PutsEntry b slot 0) (marked o accepted)).words (subst Kept at k) op slot 0 (own_slot h accepted slot own.0 own.1) effect
               (λ y e. e.live.0 (sym e.found ∙ effect.here))) q at;
           absent = λ lacks q at k. closes (marked o accepted).words
-              (deleted h accepted (marked o accepted).words (subst Kept at k) op 15 _ (dead_slot h accepted lacks 15 (omega arith) (λ last. leaves.deleted_none h w op) (λ y e live. let below = e.in_bucket in absurd (omega arith)))
+              (deleted h accepted (marked o accepted).words (subst Kept at k) op 15 _ (dead_slot h accepted lacks 15 (omega arith) (λ last. leaves.deleted_none h w op) (λ key r at live. let below = at.entry.in_bucket in absurd (omega arith)))
               (put_effect h accepted 0 [] none 15 _ refl) (λ y e. let below = e.in_bucket in absurd (omega arith))) q at;
         }
 
