@@ -1,14 +1,12 @@
 -- What the slots of the written bucket spelt, by the slot that the write changes.
-use Rattle.cache_partition.proofs.Words.{AcceptedWrite, GivesWay, HasNoSlot, HoldsOfNone, IsPassed, List, None}
-use Rattle.cache_partition.proofs.Words.{OwnerState, Record, Some, ap, arith, bucket_in, cell_at, count_by, empty, entry_in}
-use Rattle.cache_partition.proofs.Words.{entry_offset, find, fits_kept, here_of, inl, inr, oldest, only_key, options_in, passed, record_of}
-use Rattle.cache_partition.proofs.Words.{same_Some, stamp_in, stood, sym, tail_of, window_kept, written_same, ℕ, ◌+◌, ◌<◌, ◌∙◌}
-use Rattle.cache_partition.proofs.Words.{◌≡◌, ◌≢◌, ◌≤◌}
+use Rattle.cache_partition.proofs.Words.{AcceptedWrite, GivesWay, HasNoSlot, HoldsOfNone, IsPassed, List, None, OwnerState, Record, Some, ap, arith}
+use Rattle.cache_partition.proofs.Words.{bucket_in, cell_at, count_by, empty, entry_in, entry_offset, find, fits_kept, here_of, inl, inr, oldest}
+use Rattle.cache_partition.proofs.Words.{only_key, options_in, passed, record_of, same_Some, stamp_in, stood, sym, tail_of, window_kept, written_same}
+use Rattle.cache_partition.proofs.Words.{ℕ, ◌+◌, ◌<◌, ◌∙◌, ◌≡◌, ◌≢◌, ◌≤◌}
 use Rattle.cache_partition.proofs.Counts as counts
 use Rattle.cache_partition.proofs.Leaves as leaves
-use Rattle.cache_partition.proofs.Displaced.{some_found}
+use Rattle.cache_partition.proofs.Leaves.{made, some_found}
 use Rattle.cache_partition.proofs.Held.{HasSlot, Held, machine, of_others, one_slot, slot_key, slot_of}
-use Rattle.cache_partition.proofs.Leaves.{made}
 use Rattle.cache_partition.proofs.OneSlot.{Before}
 
 module _ (h : Held) (a : AcceptedWrite h.o) where
@@ -23,7 +21,7 @@ module _ (h : Held) (a : AcceptedWrite h.o) where
       → ((i : ℕ) (key : List ℕ) (r : Record) → i ≢ slot → HasSlot h b key r i → key ≢ a.w.key)
       → ((key : List ℕ) (r : Record) → HasSlot h b key r slot → tail_of (made h a.w).stamp ≤ r.offset + h.o.shape.words → key ≡ a.w.key) → Before h a slot
   free_slot slot low no_record others its = record {
-    lost = None;
+    IsLost = λ key. ⊥;
     leaves = leaves.none_lost h a.w a.is (counts.few h a.w a.is (stood h.o a) slot low (λ r found live is. elim is [
       | inl mine ↦ cc (sym (no_record mine.1) ∙ (ap (record_of (made h a.w)) (sym mine.0) ∙ found))
       | inr at ↦ at.0 (its r.key r at.1 live)
@@ -91,7 +89,7 @@ module _ (h : Held) (a : AcceptedWrite h.o) where
 
         oldest_slot : Before h a slot
         oldest_slot = record {
-          lost = Some first.0.key;
+          IsLost = λ key. key ≡ first.0.key;
           leaves = leaves.first_lost h a.w a.is first.0 first.1 many;
           own = λ same. first_other (sym same);
           others = λ i key r other at. (

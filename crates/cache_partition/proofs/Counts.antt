@@ -1,15 +1,14 @@
 -- How many records the written bucket has once the log has passed: as many as it has live slots, and the written key's own.
 use Rattle.mica_model.proofs.Found as found
 use Rattle.mica_model.proofs.Laid as laid
-use Rattle.cache_partition.proofs.Words.{AllOf, Bool, HasNoSlot, IsDistinct, IsDistinct-cons, IsUnique, IsWrite, List, Record, Some}
-use Rattle.cache_partition.proofs.Words.{StandsFor, Write, [], ap, arith, bucket_in, cases_Bool, cases_lt, cond, count_by, entry_in}
-use Rattle.cache_partition.proofs.Words.{entry_offset, eq-eqb, eqb, eqb-true, false, filter, find, has_key, here_of, inl, inr, le-length_from_below}
-use Rattle.cache_partition.proofs.Words.{leb-true, length, length-filter, length-le_from_distinct_below, list_any, nat_tests, ne_eqb}
-use Rattle.cache_partition.proofs.Words.{options_in, record_of, refl, same_Some, same_or_other, subst, suc, sym, tail_of, true, true≢false}
-use Rattle.cache_partition.proofs.Words.{written_same, ℕ, ⊎_elim, ◌+◌, ◌<◌, ◌∙◌, ◌∷◌, ◌≡◌, ◌≢◌, ◌≤◌, ◌⊎◌}
-use Rattle.cache_partition.proofs.Displaced.{all_filtered, each_found}
+use Rattle.cache_partition.proofs.Words.{AllOf, Bool, HasNoSlot, IsDistinct, IsDistinct-cons, IsUnique, IsWrite, List, Record, Some, StandsFor, Write}
+use Rattle.cache_partition.proofs.Words.{[], ap, arith, bucket_in, cases_Bool, cases_lt, cond, count_by, entry_in, entry_offset, eq-eqb, eqb}
+use Rattle.cache_partition.proofs.Words.{eqb-true, false, filter, find, has_key, here_of, inl, inr, le-length_from_below, leb-true, length}
+use Rattle.cache_partition.proofs.Words.{length-filter, length-le_from_distinct_below, list_any, nat_tests, ne_eqb, options_in, record_of, refl}
+use Rattle.cache_partition.proofs.Words.{same_Some, same_or_other, subst, suc, sym, tail_of, true, true≢false, written_same, ℕ, ⊎_elim, ◌+◌, ◌<◌, ◌∙◌}
+use Rattle.cache_partition.proofs.Words.{◌∷◌, ◌≡◌, ◌≢◌, ◌≤◌, ◌⊎◌}
+use Rattle.cache_partition.proofs.Leaves.{all_filtered, each_found, is_living, live_on, lives, made, written}
 use Rattle.cache_partition.proofs.Held.{HasSlot, Held, live_entry, of_others, one_slot, slot_key, slot_of, slot_record, stamp_is}
-use Rattle.cache_partition.proofs.Leaves.{is_living, live_on, lives, made, written}
 
 below_all : (n : ℕ) (xs : List ℕ) → AllOf (λ y. y < n) xs → (q : ℕ) → list_any (eqb q) xs ≡ true → q < n
 below_all n [] all q has = cc

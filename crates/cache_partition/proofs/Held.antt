@@ -1,10 +1,10 @@
 -- A partition in cache mode: what the slots of a bucket tell of the log's records.
-use Rattle.cache_partition.proofs.Words.{AreBytes, Cache, CacheMode, Cell, Has, HasLiveEntry, HasNoSlot, Idle, IsKept, IsLiveItem, IsMain}
-use Rattle.cache_partition.proofs.Words.{IsSlotOf, Kept, List, MatchOption, Mode, None, Option, OwnerState, Record, Some, Spells, StandsFor, State}
-use Rattle.cache_partition.proofs.Words.{alone, answer_of, ap, arith, bucket_in, cache_state, cached_in, cell_at, entry_in, entry_offset}
-use Rattle.cache_partition.proofs.Words.{entry_tag, found_record, had_record, had_record_by, has_its_key, inl, is_some, kept_in, main_of, only_key}
-use Rattle.cache_partition.proofs.Words.{option_map, options_in, record_of, refl, same_Some, spelt_key, stamp_in, stamp_of_state}
-use Rattle.cache_partition.proofs.Words.{stands_idle, state_in, subst, sym, tag_of-range, tail_of, value_in, ℕ, ◌+◌, ◌<◌, ◌∙◌, ◌≡◌, ◌≢◌, ◌≤◌}
+use Rattle.cache_partition.proofs.Words.{AreBytes, Cache, CacheMode, Cell, Has, HasLiveEntry, HasNoSlot, Idle, IsKept, IsLiveItem, IsMain, IsSlotOf}
+use Rattle.cache_partition.proofs.Words.{Kept, List, MatchOption, Mode, None, Option, OwnerState, Record, Some, Spells, StandsFor, State, alone}
+use Rattle.cache_partition.proofs.Words.{answer_of, ap, arith, bucket_in, cache_state, cached_in, cell_at, entry_in, entry_offset, entry_tag}
+use Rattle.cache_partition.proofs.Words.{found_record, had_record, had_record_by, has_its_key, inl, is_some, kept_in, main_of, only_key, option_map}
+use Rattle.cache_partition.proofs.Words.{options_in, record_of, refl, same_Some, spelt_key, stamp_in, stamp_of_state, stands_idle, state_in, subst}
+use Rattle.cache_partition.proofs.Words.{sym, tag_of-range, tail_of, value_in, ℕ, ◌+◌, ◌<◌, ◌∙◌, ◌≡◌, ◌≢◌, ◌≤◌}
 
 -- an owner's state in cache mode, with its machine
 pub record Held : Type 0 where

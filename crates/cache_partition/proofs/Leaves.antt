@@ -2,17 +2,85 @@
 use Rattle.mica_model.specs.CacheStep as cs
 use Rattle.mica_model.proofs.Found as found
 use Rattle.mica_model.proofs.Laid as laid
-use Rattle.cache_partition.proofs.Words.{Bool, Cache, Del, IsUnique, IsWrite, IsWritten, List, MatchOption, None, Op, Option, Put, Record, Some}
-use Rattle.cache_partition.proofs.Words.{Write, [], after_write_is, ap, bucket_in, cond, count_by, eq-eqb, eqb-true, find, has_key, here_of}
-use Rattle.cache_partition.proofs.Words.{is_its_key, is_live, keeps_put, kept_record, le-leb, left_of, live_of, ne_eqb, new_record, options_in}
-use Rattle.cache_partition.proofs.Words.{others, others_lack, record_of, refl, rewritten, rewritten_key, sym, tail_of, true, without_first, ℕ, ◌+◌}
-use Rattle.cache_partition.proofs.Words.{◌∙◌, ◌∷◌, ◌≡◌, ◌≢◌, ◌≤◌}
+use Rattle.cache_partition.proofs.Words.{AllOf, Bool, Cache, Del, IsLaid, IsUnique, IsWrite, IsWritten, List, None, Op, Option, Put}
+use Rattle.cache_partition.proofs.Words.{Record, Some, Write, [], after_write_is, all_filter, all_passes, all_weaker, ap, arith, bucket_in, cond}
+use Rattle.cache_partition.proofs.Words.{count_by, count_cons, eq-eqb, eqb-true, false, filter, find, found_has, has_key, has_other_key, here_of}
+use Rattle.cache_partition.proofs.Words.{is_its_key, is_live, keeps_put, kept_record, laid_found, le-leb, left_of, live_of, missed_all, ne_eqb}
+use Rattle.cache_partition.proofs.Words.{new_record, options_in, others, others_lack, record_of, refl, rewritten, rewritten_key, same_Some, subst}
+use Rattle.cache_partition.proofs.Words.{sym, tail_of, true, true≢false, without_first, ℕ, ◌+◌, ◌<◌, ◌∙◌, ◌∷◌, ◌≡◌, ◌≢◌, ◌≤◌}
 use Rattle.cache_partition.proofs.Held.{Held, machine}
-use Rattle.cache_partition.proofs.Displaced.{found_other, found_gone, first_found, first_least}
 
--- the key is the one that is lost, if there is one
-abbrev pub IsLost : Option (List ℕ) → List ℕ → Type 0
-IsLost lost key = MatchOption lost ⊥ (λ k. key ≡ k)
+-- Lists of the log's records
+
+all_both : {X : Type 0} (P Q : X → Type 0) (xs : List X) → AllOf P xs → AllOf Q xs → AllOf (λ x. P x × Q x) xs
+all_both P Q [] ps qs = tt
+all_both P Q (x ∷ xs) ps qs = ((ps.0, qs.0), all_both P Q xs ps.1 qs.1)
+
+-- what all of a list have, those that pass a test have too, and they pass it
+pub all_filtered : {X : Type 0} (P : X → Type 0) (q : X → Bool) (xs : List X) → AllOf P xs → AllOf (λ x. P x × (q x ≡ true)) (filter q xs)
+all_filtered P q xs all = all_both P (λ x. q x ≡ true) (filter q xs) (all_filter P q xs all) (all_passes q xs)
+
+-- where some pass, one is found
+pub some_found : {X : Type 0} (p : X → Bool) (xs : List X) → 0 < count_by p xs → (x : X) × (find p xs ≡ Some x)
+some_found p [] some = absurd (omega arith)
+some_found p (x ∷ xs) some =
+    let whole = count_cons p x xs in
+    elim (p x) as (λ b. cond b 1 0 + count_by p xs ≡ count_by p (x ∷ xs) → (y : _) × (cond b (Some x) (find p xs) ≡ Some y)) [
+      | true ↦ λ w. (x, refl)
+      | false ↦ λ w. some_found p xs (omega arith)
+    ] (sym whole)
+
+-- a key that another, found record has
+apart_key : (here : Record → Bool) (x f : Record) (xs : List Record) → find (has_key x.key) xs ≡ None → find here xs ≡ Some f → x.key ≢ f.key
+apart_key here x f xs none is same =
+    true≢false (sym (is_its_key x.key f (sym same)) ∙ found_has (λ r. has_key x.key r ≡ false) here xs f (missed_all (has_key x.key) xs none) is)
+
+-- each of unique records is the one of its key
+pub each_found : (rs : List Record) → IsUnique rs → AllOf (λ r. find (has_key r.key) rs ≡ Some r) rs
+each_found [] unique = tt
+each_found (x ∷ rs) unique = (
+  ap (λ b. cond b (Some x) (find (has_key x.key) rs)) (is_its_key x.key x refl),
+  all_weaker (λ r. (find (has_key r.key) rs ≡ Some r) × (has_key x.key r ≡ false)) (λ r. cond (has_key r.key x) (Some x) (find (has_key r.key) rs) ≡ Some r)
+      (λ r h. ap (λ b. cond b (Some x) (find (has_key r.key) rs)) (has_other_key r.key x (λ same. true≢false (sym (is_its_key x.key r (sym same)) ∙ h.1))) ∙ h.0) rs
+      (all_both (λ r. find (has_key r.key) rs ≡ Some r) (λ r. has_key x.key r ≡ false) rs (each_found rs unique.1) (missed_all (has_key x.key) rs unique.0)),
+)
+
+-- the first that passes a test, and what is left without it
+
+pub found_other : (here : Record → Bool) (rs : List Record) (f : Record) → find here rs ≡ Some f → (key : List ℕ) → key ≢ f.key
+    → find (has_key key) (without_first here rs) ≡ find (has_key key) rs
+found_other here [] f is key other = refl
+found_other here (x ∷ rs) f is key other =
+    elim (here x) as (λ b. cond b (Some x) (find here rs) ≡ Some f → find (has_key key) (cond b rs (x ∷ without_first here rs)) ≡ cond (has_key key x) (Some x) (find (has_key key) rs)) [
+      | true ↦ λ e. ap (λ b. cond b (Some x) (find (has_key key) rs)) (sym (has_other_key key x (λ same. other (sym same ∙ ap (λ (r : Record). r.key) (same_Some x f e)))))
+      | false ↦ λ e. ap (cond (has_key key x) (Some x)) (found_other here rs f e key other)
+    ] is
+
+pub found_gone : (here : Record → Bool) (rs : List Record) (f : Record) → IsUnique rs → find here rs ≡ Some f → find (has_key f.key) (without_first here rs) ≡ None
+found_gone here [] f unique is = refl
+found_gone here (x ∷ rs) f unique is =
+    elim (here x) as (λ b. cond b (Some x) (find here rs) ≡ Some f → find (has_key f.key) (cond b rs (x ∷ without_first here rs)) ≡ None) [
+      | true ↦ λ e. ap (λ (k : List ℕ). find (has_key k) rs) (ap (λ (r : Record). r.key) (sym (same_Some x f e))) ∙ unique.0
+      | false ↦ λ e. ap (λ b. cond b (Some x) (find (has_key f.key) (without_first here rs))) (has_other_key f.key x (apart_key here x f rs unique.0 e)) ∙ found_gone here rs f unique.1 e
+    ] is
+
+pub first_found : (here : Record → Bool) (rs : List Record) (f : Record) → IsUnique rs → find here rs ≡ Some f → find (has_key f.key) rs ≡ Some f
+first_found here rs f unique is = found_has (λ r. find (has_key r.key) rs ≡ Some r) here rs f (each_found rs unique) is
+
+-- it begins first
+pub first_least : (here : Record → Bool) (from upto : ℕ) (rs : List Record) (f r : Record) (key : List ℕ) → IsLaid from upto rs → find here rs ≡ Some f
+    → find (has_key key) rs ≡ Some r → here r ≡ true → f.offset ≤ r.offset
+first_least here from upto [] f r key laid is found passes = cc
+first_least here from upto (x ∷ rs) f r key laid is found passes =
+    elim (here x) as (λ b. here x ≡ b → cond b (Some x) (find here rs) ≡ Some f → f.offset ≤ r.offset) [
+      | true ↦ λ yes e. subst (λ (z : Record). z.offset ≤ r.offset) (same_Some x f e) (laid_found (has_key key) x.offset upto (x ∷ rs) r (omega arith, laid.1) found).0
+      | false ↦ λ no e. elim (has_key key x) as (λ b. cond b (Some x) (find (has_key key) rs) ≡ Some r → f.offset ≤ r.offset) [
+        | true ↦ λ e'. absurd (true≢false (sym passes ∙ (ap here (sym (same_Some x r e')) ∙ no)))
+        | false ↦ λ e'. first_least here (x.offset + x.room) upto rs f r key laid.1 e e' passes
+      ] found
+    ] refl is
+
+-- Steps of the machine
 
 module _ (h : Held) (w : Write) where
   -- what the machine has once the write is made
@@ -22,10 +90,10 @@ module _ (h : Held) (w : Write) where
   abbrev new : Cache
   new = cs.after (options_in h.o) h.m w
 
-  -- they are all but for that one
-  pub record Leaves (lost : Option (List ℕ)) : Type 0 where
-    pub back : (key : List ℕ) (r : Record) → record_of new key ≡ Some r → (record_of made key ≡ Some r) × ¬ (IsLost lost key)
-    pub on : (key : List ℕ) (r : Record) → record_of made key ≡ Some r → tail_of made.stamp ≤ r.offset + h.o.shape.words → ¬ (IsLost lost key) → record_of new key ≡ Some r
+  -- they are all but for those of lost keys
+  pub record Leaves (IsLost : List ℕ → Type 0) : Type 0 where
+    pub back : (key : List ℕ) (r : Record) → record_of new key ≡ Some r → (record_of made key ≡ Some r) × ¬ (IsLost key)
+    pub on : (key : List ℕ) (r : Record) → record_of made key ≡ Some r → tail_of made.stamp ≤ r.offset + h.o.shape.words → ¬ (IsLost key) → record_of new key ≡ Some r
 
   -- The write itself
 
@@ -86,7 +154,7 @@ module _ (h : Held) (w : Write) where
     live_back key r at = laid.found_before_filter key is_living made.records r written.unique at
 
     -- and where the bucket has no more records than slots, no other is lost
-    pub none_lost : count_by here lives ≢ 16 → Leaves None
+    pub none_lost : count_by here lives ≢ 16 → Leaves (λ key. ⊥)
     unfolding cs.after
     none_lost few =
         let left : left_of (options_in h.o) w lives ≡ lives = ap (λ b. cond b (without_first here lives) lives) (ne_eqb (count_by here lives) 16 few) in record {
@@ -113,7 +181,7 @@ module _ (h : Held) (w : Write) where
           (eq-eqb (bucket_in h.o r.key) (bucket_in h.o w.key)
           (ap (bucket_in h.o) (laid.found_key key made.records r at) ∙ there))
 
-      pub first_lost : count_by here lives ≡ 16 → Leaves (Some f.key)
+      pub first_lost : count_by here lives ≡ 16 → Leaves (λ key. key ≡ f.key)
       unfolding cs.after
       first_lost full =
           let left : left_of (options_in h.o) w lives ≡ without_first here lives = ap (λ b. cond b (without_first here lives) lives) (eq-eqb (count_by here lives) 16 full) in record {

@@ -1,15 +1,16 @@
 -- Where a write changes one slot of its bucket, the words stand for the machine's state after it.
 use Rattle.mica_model.specs.CacheStep as cs
-use Rattle.cache_partition.proofs.Words.{AcceptedWrite, Cache, Cell, Del, Has, HasLiveEntry, IsOffset, Keeps, Kept, List, Mode, Option}
-use Rattle.cache_partition.proofs.Words.{OwnerState, Put, PutsEntry, Record, Some, Spells, StandsFor, State, [], after, alone, ap, arith, bucket_in}
-use Rattle.cache_partition.proofs.Words.{cache_state, cell_at, dite, entry_in, entry_offset, entry_puts, entry_puts_other, entry_tag, get_or, inl}
-use Rattle.cache_partition.proofs.Words.{inr, item_at, item_in, item_put, item_puts_entry, item_words, length, length-item_words, main, offset_of}
-use Rattle.cache_partition.proofs.Words.{only_key, options_in, other_rooms, put_entry, put_item, put_long, put_others, put_words, record_of, refl}
-use Rattle.cache_partition.proofs.Words.{room_in, room_is, same_cell, same_or_other, spells_item, spells_on, stamp_in, stamp_rises, stands_cached}
-use Rattle.cache_partition.proofs.Words.{state_after, state_in, stood, subst, sym, tag_of, tail_of, window_kept, written, written_same}
-use Rattle.cache_partition.proofs.Words.{written_state, ℕ, ℕ_discrete, ◌+◌, ◌<◌, ◌∙◌, ◌≡◌, ◌≢◌, ◌≤◌, ◌⊎◌}
-use Rattle.cache_partition.proofs.Held.{HasSlot, Held, has_in, in_main, live_entry, live_is, machine, one_slot, record_in, slot_of, slot_record, stamp_is}
-use Rattle.cache_partition.proofs.Leaves.{IsLost, Leaves, deleted_none, made, step_stamp}
+use Rattle.cache_partition.proofs.Words.{AcceptedWrite, Cache, Cell, Del, Has, HasLiveEntry, IsOffset, Keeps, Kept, List, Mode, OwnerState}
+use Rattle.cache_partition.proofs.Words.{Put, PutsEntry, Record, Some, Spells, StandsFor, State, [], after, alone, ap, arith, bucket_in, cache_state}
+use Rattle.cache_partition.proofs.Words.{cell_at, dite, entry_in, entry_offset, entry_puts, entry_puts_other, entry_tag, get_or, inl, inr, item_at}
+use Rattle.cache_partition.proofs.Words.{item_in, item_put, item_puts_entry, item_words, length, length-item_words, main, offset_of, only_key}
+use Rattle.cache_partition.proofs.Words.{options_in, other_rooms, put_entry, put_item, put_long, put_others, put_words, record_of, refl, room_in}
+use Rattle.cache_partition.proofs.Words.{room_is, same_cell, same_or_other, spells_item, spells_on, stamp_in, stamp_rises, stands_cached, state_after}
+use Rattle.cache_partition.proofs.Words.{state_in, stood, subst, sym, tag_of, tail_of, window_kept, written, written_same, written_state, ℕ}
+use Rattle.cache_partition.proofs.Words.{ℕ_discrete, ◌+◌, ◌<◌, ◌∙◌, ◌≡◌, ◌≢◌, ◌≤◌, ◌⊎◌}
+use Rattle.cache_partition.proofs.Held.{HasSlot, Held, has_in, in_main, live_entry, live_is, machine, one_slot, record_in, slot_of, slot_record}
+use Rattle.cache_partition.proofs.Held.{stamp_is}
+use Rattle.cache_partition.proofs.Leaves.{Leaves, deleted_none, made, step_stamp}
 
 module _ (h : Held) (a : AcceptedWrite h.o) where
   abbrev b : ℕ
@@ -20,12 +21,12 @@ module _ (h : Held) (a : AcceptedWrite h.o) where
   new = cs.after (options_in h.o) h.m a.w
 
   -- What the slots spelt before: the slot what is of the written key, or lost, and the others what is of other keys that the machine leaves.
-  pub record Before (slot : ℕ) : Type 0 where
-    pub lost : Option (List ℕ)
-    pub leaves : Leaves h a.w lost
-    pub own : ¬ (IsLost lost a.w.key)
-    pub others : (i : ℕ) (key : List ℕ) (r : Record) → i ≢ slot → HasSlot h b key r i → (key ≢ a.w.key) × ¬ (IsLost lost key)
-    pub gone : (key : List ℕ) (r : Record) → HasSlot h b key r slot → tail_of (made h a.w).stamp ≤ r.offset + h.o.shape.words → (key ≡ a.w.key) ⊎ IsLost lost key
+  pub record Before (slot : ℕ) : Type 1 where
+    pub IsLost : List ℕ → Type 0
+    pub leaves : Leaves h a.w IsLost
+    pub own : ¬ (IsLost a.w.key)
+    pub others : (i : ℕ) (key : List ℕ) (r : Record) → i ≢ slot → HasSlot h b key r i → (key ≢ a.w.key) × ¬ (IsLost key)
+    pub gone : (key : List ℕ) (r : Record) → HasSlot h b key r slot → tail_of (made h a.w).stamp ≤ r.offset + h.o.shape.words → (key ≡ a.w.key) ⊎ IsLost key
 
   -- the partition before the write's end, with these words
   module _ (words : List ℕ) where
@@ -68,7 +69,7 @@ module _ (h : Held) (a : AcceptedWrite h.o) where
           pub whose : ((i ≡ slot) × (key ≡ a.w.key)) ⊎ ((i ≢ slot) × (key ≢ a.w.key) × HasSlot h b key r i)
 
         -- an entry of another key that the machine leaves spells what it spelt
-        stays : (i : ℕ) (key : List ℕ) (r : Record) → HasSlot h b key r i → key ≢ a.w.key → tail_of (stamp_in q) ≤ r.offset + h.o.shape.words → ¬ (IsLost before.lost key)
+        stays : (i : ℕ) (key : List ℕ) (r : Record) → HasSlot h b key r i → key ≢ a.w.key → tail_of (stamp_in q) ≤ r.offset + h.o.shape.words → ¬ (before.IsLost key)
             → Spells q b (entry_in h.o b i) key (cell_at r).0
         stays i key r at other live kept =
             let x = entry_in h.o b i in

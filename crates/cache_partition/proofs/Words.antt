@@ -1,5 +1,5 @@
 -- The words that the proofs of this crate speak in, passed on once.
-pub use Rattle.std.proofs.Common.{eqb, subst₂}
+pub use Rattle.std.proofs.Common.{eqb}
 pub use Rattle.std.proofs.lemmas.Bool.{cases_Bool, le-leb, leb-false, leb-true, lt-leb, true≢false}
 pub use Rattle.std.proofs.lemmas.Bool.Decides.{nat_tests}
 pub use Rattle.std.proofs.lemmas.List.Sums.{length-filter}
@@ -58,7 +58,6 @@ pub use Rattle.epoch_core.proofs.PartitionLaws.{may_begin, may_end, may_mark, ne
 pub use Rattle.epoch_core.proofs.PartitionLaws.{put_others, put_same, put_stamp, put_words, same_cell, same_or_other, spells_item, spells_on}
 pub use Rattle.epoch_core.proofs.PartitionLaws.{spelt_key, stands_idle, stood, worn_step, written, written_marked, written_state}
 pub use Rattle.epoch_core.specs.Events.{MayBegin, MayEnd, MayMark}
-pub use Rattle.epoch_core.specs.ItemAt.{HasKey}
 pub use Rattle.epoch_core.specs.OwnerStep.{IsOwnerStep}
 pub use Rattle.epoch_core.specs.StandsFor.{IsOffset, SpellsItem}
 pub use Rattle.epoch_core.specs.declared.event.Event.TheVariants.{Begins, Ends, PutsEntry}

@@ -1,19 +1,20 @@
 -- A write from its begin to its end: when its events may happen, and what it has made of the partition.
 use Rattle.mica_model.specs.CacheStep as cs
+use Rattle.std.proofs.lemmas.Grind.{common_steps}
 use Rattle.cache_partition.proofs.Words.{AcceptedWrite, Allows, AreBytes, Begins, Bool, Cache, CacheMode, Del, Ends, Gains, HasNoSlot, Idle, IsMain}
 use Rattle.cache_partition.proofs.Words.{IsOwnerStep, IsSlotOf, IsWrite, Kept, KeyFits, LeavesItem, List, MatchOption, MayAppend, MayBegin, MayEnd}
 use Rattle.cache_partition.proofs.Words.{MayGive, MayMark, MayRewrite, MayWrite, None, Op, Option, Options, Outcome, OwnerState, Put, PutsEntry}
 use Rattle.cache_partition.proofs.Words.{Record, Some, SpellsItem, StandsFor, State, Takes, Worn, Write, [], accepted_in, accepted_is_length}
 use Rattle.cache_partition.proofs.Words.{accepted_step, after, ap, arith, begin_of, bucket_in, cached_in, cell_at, cond, ended_gains, entry_in}
 use Rattle.cache_partition.proofs.Words.{entry_not_empty, entry_of, entry_offset, entry_offset-entry_of, entry_tag-entry_of, false, fits_kept}
-use Rattle.cache_partition.proofs.Words.{had_record, had_record_by, inl, inr, is_accepted, is_live, is_some, item_in, item_room, item_size}
-use Rattle.cache_partition.proofs.Words.{item_words, keeps_put, kept_offset, kept_offset_by, kept_record, largest_item, le-leb, leb-false, length}
+use Rattle.cache_partition.proofs.Words.{had_record, had_record_by, is_accepted, is_live, is_some, item_in, item_room, item_size}
+use Rattle.cache_partition.proofs.Words.{item_words, keeps_put, kept_offset, kept_offset_by, kept_record, largest_item, leb-false, length}
 use Rattle.cache_partition.proofs.Words.{length-item_words, lt-leb, main, marked, marked_in, marked_item, marked_with, may_begin, may_end, may_mark}
-use Rattle.cache_partition.proofs.Words.{most_stamp, nat_le, new_record, option_map, options_in, put_entry, put_same, put_stamp, put_words, record_of}
-use Rattle.cache_partition.proofs.Words.{refl, room_at, room_in, room_is, size_at_most, size_of, stamp_in, stamp_of, stamp_of_state, stamp_small}
-use Rattle.cache_partition.proofs.Words.{state_after, state_snoc, stood, subst, sym, tag_of, tag_of-range, tail_of, then_some, true, with_item}
-use Rattle.cache_partition.proofs.Words.{write_of, written, written_marked, written_record, ℕ, ◌&&◌, ◌*◌, ◌++◌, ◌+◌, ◌<◌, ◌^◌, ◌∙◌, ◌∷◌, ◌≡◌, ◌≤◌}
-use Rattle.cache_partition.proofs.Words.{◌⊎◌}
+use Rattle.cache_partition.proofs.Words.{most_stamp, nat_le, nat_tests, new_record, option_map, options_in, put_entry, put_same, put_stamp, put_words}
+use Rattle.cache_partition.proofs.Words.{record_of, refl, room_at, room_in, room_is, size_at_most, size_of, stamp_in, stamp_of, stamp_of_state}
+use Rattle.cache_partition.proofs.Words.{stamp_small, state_after, state_snoc, stood, subst, sym, tag_of, tag_of-range, tail_of, then_some, true}
+use Rattle.cache_partition.proofs.Words.{with_item, write_of, written, written_marked, written_record, ℕ, ◌&&◌, ◌*◌, ◌++◌, ◌+◌, ◌<◌, ◌^◌, ◌∙◌, ◌∷◌}
+use Rattle.cache_partition.proofs.Words.{◌≡◌, ◌≤◌, ◌⊎◌}
 use Rattle.cache_partition.proofs.Leaves as leaves
 use Rattle.cache_partition.proofs.Held.{Held, found_slot, held, machine, no_record, slot_of, stamp_is, stands_at}
 use Rattle.cache_partition.proofs.Before.{dead_slot, own_slot, slot_that_gives_way}
@@ -86,7 +87,10 @@ pub record Appends (o : OwnerState) (w : Write) (b t p : ℕ) : Type 0 where
       → Takes q b old slot → tag ≡ tag_of w.key → q' ≡ after (PutsEntry b slot (entry_of tag p)) q → Kept q' → Closes o w b t q'
 
 -- the record that keeps a put, by its offset
-kept_by : (found : Option Record) → MatchOption (option_map (λ (r : Record). r.offset) found) (found ≡ None) (λ p. (r : Record) × (found ≡ Some r) × (r.offset ≡ p))
+abbrev KeptAt : Option Record → Option ℕ → Type 0
+KeptAt found offset = MatchOption offset (found ≡ None) (λ p. (r : Record) × (found ≡ Some r) × (r.offset ≡ p))
+
+kept_by : (found : Option Record) → KeptAt found (option_map (λ (r : Record). r.offset) found)
 kept_by None = refl
 kept_by (Some r) = (r, refl, refl)
 
@@ -100,10 +104,8 @@ module _ (o : OwnerState) (s : Kept o) (may : MayWrite o) (w : Write) (is : IsWr
   kept_is : kept_offset o w ≡ option_map (λ (r : Record). r.offset) (kept_record (options_in o) h.m w)
   kept_is = ap (λ (z : State). kept_offset_by (options_in o) z w) h.before
 
-  held_by : (offset : Option ℕ) → kept_offset o w ≡ offset
-      → MatchOption offset (kept_record (options_in o) h.m w ≡ None) (λ p. (r : Record) × (kept_record (options_in o) h.m w ≡ Some r) × (r.offset ≡ p))
-  held_by offset is = subst (λ (z : Option ℕ). MatchOption z (kept_record (options_in o) h.m w ≡ None) (λ p. (r : Record) × (kept_record (options_in o) h.m w ≡ Some r) × (r.offset ≡ p)))
-      (sym kept_is ∙ is) (kept_by (kept_record (options_in o) h.m w))
+  held_by : (offset : Option ℕ) → kept_offset o w ≡ offset → KeptAt (kept_record (options_in o) h.m w) offset
+  held_by offset is = subst (KeptAt (kept_record (options_in o) h.m w)) (sym kept_is ∙ is) (kept_by (kept_record (options_in o) h.m w))
 
   -- The stamp after it
 
@@ -277,10 +279,7 @@ module _ (o : OwnerState) (s : Kept o) (may : MayWrite o) (w : Write) (is : IsWr
       let offset_held = offset_is ∙ sym own.1.offset in
       let room_held = room_now ∙ room_is o s c (entry_in o c slot) w.key (cell_at own.0).0 own.1.spelt in
       let stamp_held = stamp_now ∙ stamp_is h in
-      let may_keep : fits ≡ (nat_le (size_of w) room && is_live o.shape.words (stamp + 1) offset) = elim fits_is [
-        | inl fit ↦ fit.1 ∙ ap (λ b. b && is_live o.shape.words (stamp + 1) offset) (sym (le-leb (size_of w) room fit.0))
-        | inr not ↦ not.1 ∙ ap (λ b. b && is_live o.shape.words (stamp + 1) offset) (sym (lt-leb (size_of w) room not.0))
-      ] in
+      let may_keep : fits ≡ (nat_le (size_of w) room && is_live o.shape.words (stamp + 1) offset) = grind (arith, nat_tests, common_steps, fits_is) in
       let offset_of_kept = λ (z : Option Record). option_map (λ (r : Record). r.offset) z in
       (λ j. then_some ((may_keep ∙ (λ j. nat_le (size_of w) (room_held j) && is_live o.shape.words (stamp_held j + 1) (offset_held j))) j) (offset_held j))
       ∙ (elim (cs.may_keep (options_in o) h.m w own.0) as (λ b. then_some b own.0.offset ≡ offset_of_kept (cond b (Some own.0) None)) [ true ↦ refl | false ↦ refl ]
