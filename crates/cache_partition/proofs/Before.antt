@@ -1,8 +1,8 @@
 -- What the slots of the written bucket spelt, by the slot that the write changes.
-use Rattle.cache_partition.proofs.Words.{AcceptedWrite, GivesWay, HasNoSlot, HoldsOfNone, IsPassed, List, None, OwnerState, Record, Some, ap, arith}
-use Rattle.cache_partition.proofs.Words.{bucket_in, cell_at, count_by, empty, entry_in, entry_offset, find, fits_kept, here_of, inl, inr, oldest}
-use Rattle.cache_partition.proofs.Words.{only_key, options_in, passed, record_of, same_Some, stamp_in, stood, sym, tail_of, window_kept, written_same}
-use Rattle.cache_partition.proofs.Words.{ℕ, ◌+◌, ◌<◌, ◌∙◌, ◌≡◌, ◌≢◌, ◌≤◌}
+use Rattle.cache_partition.proofs.Words.{AcceptedWrite, GivesWay, HasNoSlot, HoldsOfNone, IsPassed, List, None, OwnerState, Record, SLOTS, Some, ap}
+use Rattle.cache_partition.proofs.Words.{arith, bucket_in, cell_at, count_by, empty, entry_in, entry_offset, find, fits_kept, here_of, inl, inr}
+use Rattle.cache_partition.proofs.Words.{oldest, only_key, options_in, passed, record_of, same_Some, stamp_in, stood, sym, tail_of, window_kept}
+use Rattle.cache_partition.proofs.Words.{written_same, ℕ, ◌+◌, ◌<◌, ◌∙◌, ◌≡◌, ◌≢◌, ◌≤◌}
 use Rattle.cache_partition.proofs.Counts as counts
 use Rattle.cache_partition.proofs.Leaves as leaves
 use Rattle.cache_partition.proofs.Leaves.{made, some_found}
@@ -17,7 +17,7 @@ module _ (h : Held) (a : AcceptedWrite h.o) where
   lives = leaves.lives h a.w a.is
 
   -- a slot whose entry, where it stays live, spells the written key, which no other slot spells, or none of them where the write leaves the key no record
-  free_slot : (slot : ℕ) → slot < 16 → (slot ≡ 15 → record_of (made h a.w) a.w.key ≡ None)
+  free_slot : (slot : ℕ) → slot < SLOTS + 1 → (slot ≡ SLOTS → record_of (made h a.w) a.w.key ≡ None)
       → ((i : ℕ) (key : List ℕ) (r : Record) → i ≢ slot → HasSlot h b key r i → key ≢ a.w.key)
       → ((key : List ℕ) (r : Record) → HasSlot h b key r slot → tail_of (made h a.w).stamp ≤ r.offset + h.o.shape.words → key ≡ a.w.key) → Before h a slot
   free_slot slot low no_record others its = record {
@@ -42,16 +42,16 @@ module _ (h : Held) (a : AcceptedWrite h.o) where
 
   module _ (none : HasNoSlot h.o b a.w.key) where
     -- a slot without an entry that stays live, or none of them where the write leaves the key no record
-    pub dead_slot : (slot : ℕ) → slot < 16 → (slot ≡ 15 → record_of (made h a.w) a.w.key ≡ None)
+    pub dead_slot : (slot : ℕ) → slot < SLOTS + 1 → (slot ≡ SLOTS → record_of (made h a.w) a.w.key ≡ None)
         → ((key : List ℕ) (r : Record) → HasSlot h b key r slot → tail_of (made h a.w).stamp ≤ r.offset + h.o.shape.words → ⊥) → Before h a slot
     dead_slot slot low no_record dead = free_slot slot low no_record (λ i key r other. of_others h b a.w.key none i key r) (λ key r at live. absurd (dead key r at live))
 
     -- where a record is appended for the key
     module _ (own : Record) (its_own : record_of (made h a.w) a.w.key ≡ Some own) (at_tail : own.offset ≡ tail_of h.m.stamp) (own_live : tail_of (made h a.w).stamp ≤ own.offset + h.o.shape.words) where
       -- the one of least offset, where all are live: its item is the bucket's oldest, which is displaced
-      module _ (slot : ℕ) (below : slot < 15) (live : (i : ℕ) → i < 15 → (entry_in h.o b i ≢ 0) × (tail_of (made h a.w).stamp ≤ entry_offset (entry_in h.o b i) + h.o.shape.words))
-          (least : (i : ℕ) → i < 15 → entry_offset (entry_in h.o b slot) ≤ entry_offset (entry_in h.o b i)) where
-        many : count_by (here_of (options_in h.o) a.w) lives ≡ 16
+      module _ (slot : ℕ) (below : slot < SLOTS) (live : (i : ℕ) → i < SLOTS → (entry_in h.o b i ≢ 0) × (tail_of (made h a.w).stamp ≤ entry_offset (entry_in h.o b i) + h.o.shape.words))
+          (least : (i : ℕ) → i < SLOTS → entry_offset (entry_in h.o b slot) ≤ entry_offset (entry_in h.o b i)) where
+        many : count_by (here_of (options_in h.o) a.w) lives ≡ SLOTS + 1
         many = counts.many h a.w a.is (stood h.o a) own its_own own_live none live
 
         first : (f : Record) × (find (here_of (options_in h.o) a.w) lives ≡ Some f)
@@ -100,11 +100,11 @@ module _ (h : Held) (a : AcceptedWrite h.o) where
         }
 
       -- the one that gives way, in a state with the same entries and the new stamp
-      module _ (p : OwnerState) (words_are : p.shape.words ≡ h.o.shape.words) (same : (i : ℕ) → i < 15 → entry_in p b i ≡ entry_in h.o b i) (stamp : tail_of (stamp_in p) ≡ tail_of (made h a.w).stamp) where
-        live_in : HoldsOfNone (IsPassed p b) → (i : ℕ) → i < 15 → tail_of (made h a.w).stamp ≤ entry_offset (entry_in h.o b i) + h.o.shape.words
+      module _ (p : OwnerState) (words_are : p.shape.words ≡ h.o.shape.words) (same : (i : ℕ) → i < SLOTS → entry_in p b i ≡ entry_in h.o b i) (stamp : tail_of (stamp_in p) ≡ tail_of (made h a.w).stamp) where
+        live_in : HoldsOfNone (IsPassed p b) → (i : ℕ) → i < SLOTS → tail_of (made h a.w).stamp ≤ entry_offset (entry_in h.o b i) + h.o.shape.words
         live_in all i l = let offset = ap entry_offset (same i l) in let there = all i l in omega arith
 
-        pub slot_that_gives_way : (slot : ℕ) → GivesWay p b slot → (slot < 15) × Before h a slot
+        pub slot_that_gives_way : (slot : ℕ) → GivesWay p b slot → (slot < SLOTS) × Before h a slot
         slot_that_gives_way slot (empty is) =
             let low = is.in_bucket in
             (low, dead_slot slot (omega arith) (λ last. absurd (omega arith)) (λ key r at live. at.entry.live.0 (sym (same slot low) ∙ is.holds)))

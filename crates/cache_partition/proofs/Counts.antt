@@ -1,8 +1,8 @@
 -- How many records the written bucket has once the log has passed: as many as it has live slots, and the written key's own.
 use Rattle.mica_model.proofs.Found as found
 use Rattle.mica_model.proofs.Laid as laid
-use Rattle.cache_partition.proofs.Words.{AllOf, Bool, HasNoSlot, IsDistinct, IsDistinct-cons, IsUnique, IsWrite, List, Record, Some, StandsFor, Write}
-use Rattle.cache_partition.proofs.Words.{[], ap, arith, bucket_in, cases_Bool, cases_lt, cond, count_by, entry_in, entry_offset, eq-eqb, eqb}
+use Rattle.cache_partition.proofs.Words.{AllOf, Bool, HasNoSlot, IsDistinct, IsDistinct-cons, IsUnique, IsWrite, List, Record, SLOTS, Some, StandsFor}
+use Rattle.cache_partition.proofs.Words.{Write, [], ap, arith, bucket_in, cases_Bool, cases_lt, cond, count_by, entry_in, entry_offset, eq-eqb, eqb}
 use Rattle.cache_partition.proofs.Words.{eqb-true, false, filter, find, has_key, here_of, inl, inr, le-length_from_below, leb-true, length}
 use Rattle.cache_partition.proofs.Words.{length-filter, length-le_from_distinct_below, list_any, nat_tests, ne_eqb, options_in, record_of, refl}
 use Rattle.cache_partition.proofs.Words.{same_Some, same_or_other, subst, suc, sym, tail_of, true, true≢false, written_same, ℕ, ⊎_elim, ◌+◌, ◌<◌, ◌∙◌}
@@ -36,11 +36,11 @@ module _ (h : Held) (w : Write) (is : IsWrite w) (stood : StandsFor h.o (bucket_
 
   -- a record's number is that of its slot, and one more than those of slots where it is the written key's
   abbrev pub IsNumber : Record → ℕ → Type 0
-  IsNumber r i = ((r.key ≡ w.key) × (i ≡ 15)) ⊎ ((r.key ≢ w.key) × HasSlot h b r.key r i)
+  IsNumber r i = ((r.key ≡ w.key) × (i ≡ SLOTS)) ⊎ ((r.key ≢ w.key) × HasSlot h b r.key r i)
 
   record Numbered (r : Record) : Type 0 where
     pub number : ℕ
-    pub low : number < 16
+    pub low : number < SLOTS + 1
     pub number_is : IsNumber r number
     pub found : record_of (made h w) r.key ≡ Some r
     pub live : tail_of (made h w).stamp ≤ r.offset + h.o.shape.words
@@ -49,7 +49,7 @@ module _ (h : Held) (w : Write) (is : IsWrite w) (stood : StandsFor h.o (bucket_
   numbered r at =
       let live = leb-true (tail_of (made h w).stamp) (r.offset + h.o.shape.words) at.0.1 in
       elim (same_or_other r.key w.key) [
-        | inl mine ↦ record { number = 15; low = omega arith; number_is = inl (mine, refl); found = at.0.0; live = live }
+        | inl mine ↦ record { number = SLOTS; low = omega arith; number_is = inl (mine, refl); found = at.0.0; live = live }
         | inr other ↦
             let slot = slot_of h b stood r.key r (eqb-true (bucket_in h.o r.key) b at.1) (sym (written_same (options_in h.o) h.m w r.key other) ∙ at.0.0) in
             let low = slot.1.entry.in_bucket in
@@ -95,14 +95,14 @@ module _ (h : Held) (w : Write) (is : IsWrite w) (stood : StandsFor h.o (bucket_
   )
 
   -- where a number is no record's, there are at most 15
-  pub few : (j : ℕ) → j < 16 → ((r : Record) → record_of (made h w) r.key ≡ Some r → tail_of (made h w).stamp ≤ r.offset + h.o.shape.words → ¬ (IsNumber r j))
-      → count_by here alive ≢ 16
+  pub few : (j : ℕ) → j < SLOTS + 1 → ((r : Record) → record_of (made h w) r.key ≡ Some r → tail_of (made h w).stamp ≤ r.offset + h.o.shape.words → ¬ (IsNumber r j))
+      → count_by here alive ≢ SLOTS + 1
   few j low free full =
       let none = numbers_each (λ i. eqb j i ≡ false) (λ r n. ne_eqb j n.number (λ same. free r n.found n.live (subst (IsNumber r) (sym same) n.number_is))) in
       let unique = laid.unique_filter here alive (laid.unique_filter _ (made h w).records (written h w is).unique) in
-      let most = length-le_from_distinct_below (j ∷ numbers its all_numbered) 16
+      let most = length-le_from_distinct_below (j ∷ numbers its all_numbered) (SLOTS + 1)
       (IsDistinct-cons eqb j (numbers its all_numbered) none (numbers_distinct its all_numbered unique))
-      (below_all 16 (j ∷ numbers its all_numbered) (low, numbers_each (λ i. i < 16) (λ r n. n.low))) in
+      (below_all (SLOTS + 1) (j ∷ numbers its all_numbered) (low, numbers_each (λ i. i < SLOTS + 1) (λ r n. n.low))) in
       let long = length-numbers its all_numbered in
       let count = length-filter here alive in
       omega arith
@@ -128,7 +128,7 @@ module _ (h : Held) (w : Write) (is : IsWrite w) (stood : StandsFor h.o (bucket_
       (eq-eqb (bucket_in h.o r.key) b (ap (bucket_in h.o) (laid.found_key key (made h w).records r at) ∙ there)))
 
   -- a slot whose entry stays live has a key's record
-  pub record_at : (i : ℕ) → i < 15 → (entry_in h.o b i ≢ 0) × (tail_of (made h w).stamp ≤ entry_offset (entry_in h.o b i) + h.o.shape.words)
+  pub record_at : (i : ℕ) → i < SLOTS → (entry_in h.o b i ≢ 0) × (tail_of (made h w).stamp ≤ entry_offset (entry_in h.o b i) + h.o.shape.words)
       → (key : List ℕ) × (r : Record) × HasSlot h b key r i
   record_at i low live =
       let stamp = stamp_is h in
@@ -138,17 +138,17 @@ module _ (h : Held) (w : Write) (is : IsWrite w) (stood : StandsFor h.o (bucket_
 
   -- where every slot is live and of another key, and the key has a record, there are 16
   pub many : (own : Record) → record_of (made h w) w.key ≡ Some own → tail_of (made h w).stamp ≤ own.offset + h.o.shape.words → HasNoSlot h.o b w.key
-      → ((i : ℕ) → i < 15 → (entry_in h.o b i ≢ 0) × (tail_of (made h w).stamp ≤ entry_offset (entry_in h.o b i) + h.o.shape.words))
-      → count_by here alive ≡ 16
+      → ((i : ℕ) → i < SLOTS → (entry_in h.o b i ≢ 0) × (tail_of (made h w).stamp ≤ entry_offset (entry_in h.o b i) + h.o.shape.words))
+      → count_by here alive ≡ SLOTS + 1
   many own at own_live none live =
-      let least = le-length_from_below (numbers its all_numbered) 16 each in
+      let least = le-length_from_below (numbers its all_numbered) (SLOTS + 1) each in
       let long = length-numbers its all_numbered in
       let count = length-filter here alive in
       let fewer = found.count_filter here living (made h w).records in
       let most = (written h w is).here in
       omega arith
     where
-      at_slot : (i : ℕ) → i < 15 → list_any (eqb i) (numbers its all_numbered) ≡ true
+      at_slot : (i : ℕ) → i < SLOTS → list_any (eqb i) (numbers its all_numbered) ≡ true
       at_slot i low =
           let at = record_at i low (live i low) in
           let other = of_others h b w.key none i at.0 at.1 at.2 in
@@ -162,8 +162,8 @@ module _ (h : Held) (w : Write) (is : IsWrite w) (stood : StandsFor h.o (bucket_
           ])
           (written_same (options_in h.o) h.m w at.0 other ∙ at.2.is) (omega arith) at.2.spelt.bucket
 
-      each : (i : ℕ) → i < 16 → list_any (eqb i) (numbers its all_numbered) ≡ true
-      each i low = elim (cases_lt i 15) [
+      each : (i : ℕ) → i < SLOTS + 1 → list_any (eqb i) (numbers its all_numbered) ≡ true
+      each i low = elim (cases_lt i SLOTS) [
         | inl slot ↦ at_slot i slot
         | inr last ↦ found_among w.key own i
             (λ n is. elim is [ inl mine ↦ mine.1 ∙ omega arith | inr slot ↦ absurd (slot.0 (laid.found_key w.key (made h w).records own at)) ]) at own_live refl

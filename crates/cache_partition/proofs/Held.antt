@@ -1,7 +1,7 @@
 -- A partition in cache mode: what the slots of a bucket tell of the log's records.
 use Rattle.cache_partition.proofs.Words.{AreBytes, Cache, CacheMode, Cell, Has, HasLiveEntry, HasNoSlot, Idle, IsKept, IsLiveItem, IsMain, IsSlotOf}
-use Rattle.cache_partition.proofs.Words.{Kept, List, MatchOption, Mode, None, Option, OwnerState, Record, Some, Spells, StandsFor, State, alone}
-use Rattle.cache_partition.proofs.Words.{answer_of, ap, arith, bucket_in, cache_state, cached_in, cell_at, entry_in, entry_offset, entry_tag}
+use Rattle.cache_partition.proofs.Words.{Kept, List, MatchOption, Mode, None, Option, OwnerState, Record, SLOTS, Some, Spells, StandsFor, State}
+use Rattle.cache_partition.proofs.Words.{alone, answer_of, ap, arith, bucket_in, cache_state, cached_in, cell_at, entry_in, entry_offset, entry_tag}
 use Rattle.cache_partition.proofs.Words.{found_record, had_record, had_record_by, has_its_key, inl, is_some, kept_in, main_of, only_key, option_map}
 use Rattle.cache_partition.proofs.Words.{options_in, record_of, refl, same_Some, spelt_key, stamp_in, stamp_of_state, stands_idle, state_in, subst}
 use Rattle.cache_partition.proofs.Words.{sym, tag_of-range, tail_of, value_in, ℕ, ◌+◌, ◌<◌, ◌∙◌, ◌≡◌, ◌≢◌, ◌≤◌}
@@ -60,7 +60,7 @@ module _ (h : Held) where
   pub live_is : (b c slot x : ℕ) → HasLiveEntry h.o b c slot x → tail_of (stamp_in h.o) ≤ entry_offset x + h.o.shape.words
   live_is b c slot x e = subst (λ (z : Mode). IsLiveItem z h.o.shape.words (stamp_in h.o) (entry_offset x)) h.mode e.live.1
 
-  pub live_entry : (b slot x : ℕ) → slot < 15 → entry_in h.o b slot ≡ x → x ≢ 0 → tail_of (stamp_in h.o) ≤ entry_offset x + h.o.shape.words
+  pub live_entry : (b slot x : ℕ) → slot < SLOTS → entry_in h.o b slot ≡ x → x ≢ 0 → tail_of (stamp_in h.o) ≤ entry_offset x + h.o.shape.words
       → HasLiveEntry h.o b b slot x
   live_entry b slot x below found some live = record {
     in_chain = inl refl;
@@ -130,13 +130,10 @@ module _ (h : Held) where
     module _ (key : List ℕ) (here : bucket_in h.o key ≡ b) where
       -- a key without a slot has no record
       pub no_record : HasNoSlot h.o b key → record_of h.m key ≡ None
-      no_record none = by_record (record_of h.m key) refl
-        where
-          by_record : (found : Option Record) → record_of h.m key ≡ found → found ≡ None
-          by_record None is = refl
-          by_record (Some r) is =
-              let at = slot_of key r here is in
-              absurd (none at.0 (slot_is b at.0 key r at.1))
+      no_record none = elim (record_of h.m key) as (λ (found : Option Record). record_of h.m key ≡ found → found ≡ None) [
+        | None ↦ λ is. refl
+        | Some r ↦ λ is. let at = slot_of key r here is in absurd (none at.0 (slot_is b at.0 key r at.1))
+      ] refl
 
       pub missed : HasNoSlot h.o b key → answer_of (options_in h.o) h.o.history key ≡ None
       missed none = ap (λ (z : State). value_in z key) h.before ∙ ap (option_map (λ (r : Record). r.value)) (no_record none)

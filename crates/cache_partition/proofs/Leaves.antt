@@ -2,12 +2,12 @@
 use Rattle.mica_model.specs.CacheStep as cs
 use Rattle.mica_model.proofs.Found as found
 use Rattle.mica_model.proofs.Laid as laid
-use Rattle.cache_partition.proofs.Words.{AllOf, Bool, Cache, Del, IsLaid, IsUnique, IsWrite, IsWritten, List, None, Op, Option, Put}
-use Rattle.cache_partition.proofs.Words.{Record, Some, Write, [], after_write_is, all_filter, all_passes, all_weaker, ap, arith, bucket_in, cond}
-use Rattle.cache_partition.proofs.Words.{count_by, count_cons, eq-eqb, eqb-true, false, filter, find, found_has, has_key, has_other_key, here_of}
-use Rattle.cache_partition.proofs.Words.{is_its_key, is_live, keeps_put, kept_record, laid_found, le-leb, left_of, live_of, missed_all, ne_eqb}
-use Rattle.cache_partition.proofs.Words.{new_record, options_in, others, others_lack, record_of, refl, rewritten, rewritten_key, same_Some, subst}
-use Rattle.cache_partition.proofs.Words.{sym, tail_of, true, true≢false, without_first, ℕ, ◌+◌, ◌<◌, ◌∙◌, ◌∷◌, ◌≡◌, ◌≢◌, ◌≤◌}
+use Rattle.cache_partition.proofs.Words.{AllOf, Bool, Cache, Del, IsLaid, IsUnique, IsWrite, IsWritten, List, None, Op, Option, Put, Record, SLOTS}
+use Rattle.cache_partition.proofs.Words.{Some, Write, [], after_write_is, all_filter, all_passes, all_weaker, ap, arith, bucket_in, cond, count_by}
+use Rattle.cache_partition.proofs.Words.{count_cons, eq-eqb, eqb-true, false, filter, find, found_has, has_key, has_other_key, here_of, is_its_key}
+use Rattle.cache_partition.proofs.Words.{is_live, keeps_put, kept_record, laid_found, le-leb, left_of, live_of, missed_all, ne_eqb, new_record}
+use Rattle.cache_partition.proofs.Words.{options_in, others, others_lack, record_of, refl, rewritten, rewritten_key, same_Some, subst, sym, tail_of}
+use Rattle.cache_partition.proofs.Words.{true, true≢false, without_first, ℕ, ◌+◌, ◌<◌, ◌∙◌, ◌∷◌, ◌≡◌, ◌≢◌, ◌≤◌}
 use Rattle.cache_partition.proofs.Held.{Held, machine}
 
 -- Lists of the log's records
@@ -154,10 +154,10 @@ module _ (h : Held) (w : Write) where
     live_back key r at = laid.found_before_filter key is_living made.records r written.unique at
 
     -- and where the bucket has no more records than slots, no other is lost
-    pub none_lost : count_by here lives ≢ 16 → Leaves (λ key. ⊥)
+    pub none_lost : count_by here lives ≢ SLOTS + 1 → Leaves (λ key. ⊥)
     unfolding cs.after
     none_lost few =
-        let left : left_of (options_in h.o) w lives ≡ lives = ap (λ b. cond b (without_first here lives) lives) (ne_eqb (count_by here lives) 16 few) in record {
+        let left : left_of (options_in h.o) w lives ≡ lives = ap (λ b. cond b (without_first here lives) lives) (ne_eqb (count_by here lives) (SLOTS + 1) few) in record {
           back = λ key r at. ((live_back key r (sym (ap (find (has_key key)) left) ∙ at)).0, λ lost. lost);
           on = λ key r at live kept. ap (find (has_key key)) left ∙ live_on key r at live;
         }
@@ -181,10 +181,10 @@ module _ (h : Held) (w : Write) where
           (eq-eqb (bucket_in h.o r.key) (bucket_in h.o w.key)
           (ap (bucket_in h.o) (laid.found_key key made.records r at) ∙ there))
 
-      pub first_lost : count_by here lives ≡ 16 → Leaves (λ key. key ≡ f.key)
+      pub first_lost : count_by here lives ≡ SLOTS + 1 → Leaves (λ key. key ≡ f.key)
       unfolding cs.after
       first_lost full =
-          let left : left_of (options_in h.o) w lives ≡ without_first here lives = ap (λ b. cond b (without_first here lives) lives) (eq-eqb (count_by here lives) 16 full) in record {
+          let left : left_of (options_in h.o) w lives ≡ without_first here lives = ap (λ b. cond b (without_first here lives) lives) (eq-eqb (count_by here lives) (SLOTS + 1) full) in record {
             back = λ key r at.
                 let there : find (has_key key) (without_first here lives) ≡ Some r = sym (ap (find (has_key key)) left) ∙ at in
                 let kept : key ≢ f.key = λ same. cc (sym (ap (λ (k : List ℕ). find (has_key k) (without_first here lives)) same ∙ found_gone here lives f unique first) ∙ there) in

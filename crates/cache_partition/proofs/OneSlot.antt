@@ -1,13 +1,13 @@
 -- Where a write changes one slot of its bucket, the words stand for the machine's state after it.
 use Rattle.mica_model.specs.CacheStep as cs
-use Rattle.cache_partition.proofs.Words.{AcceptedWrite, Cache, Cell, Del, Has, HasLiveEntry, IsOffset, Keeps, Kept, List, Mode, OwnerState}
-use Rattle.cache_partition.proofs.Words.{Put, PutsEntry, Record, Some, Spells, StandsFor, State, [], after, alone, ap, arith, bucket_in, cache_state}
-use Rattle.cache_partition.proofs.Words.{cell_at, dite, entry_in, entry_offset, entry_puts, entry_puts_other, entry_tag, get_or, inl, inr, item_at}
-use Rattle.cache_partition.proofs.Words.{item_in, item_put, item_puts_entry, item_words, length, length-item_words, main, offset_of, only_key}
-use Rattle.cache_partition.proofs.Words.{options_in, other_rooms, put_entry, put_item, put_long, put_others, put_words, record_of, refl, room_in}
-use Rattle.cache_partition.proofs.Words.{room_is, same_cell, same_or_other, spells_item, spells_on, stamp_in, stamp_rises, stands_cached, state_after}
-use Rattle.cache_partition.proofs.Words.{state_in, stood, subst, sym, tag_of, tail_of, window_kept, written, written_same, written_state, ℕ}
-use Rattle.cache_partition.proofs.Words.{ℕ_discrete, ◌+◌, ◌<◌, ◌∙◌, ◌≡◌, ◌≢◌, ◌≤◌, ◌⊎◌}
+use Rattle.cache_partition.proofs.Words.{AcceptedWrite, Cache, Cell, Del, Has, HasLiveEntry, IsOffset, Keeps, Kept, List, Mode, OwnerState, Put}
+use Rattle.cache_partition.proofs.Words.{PutsEntry, Record, SLOTS, Some, Spells, StandsFor, State, [], after, alone, ap, arith, bucket_in}
+use Rattle.cache_partition.proofs.Words.{cache_state, cell_at, dite, entry_in, entry_offset, entry_puts, entry_puts_other, entry_tag, get_or, inl}
+use Rattle.cache_partition.proofs.Words.{inr, item_at, item_in, item_put, item_puts_entry, item_words, length, length-item_words, main, offset_of}
+use Rattle.cache_partition.proofs.Words.{only_key, options_in, other_rooms, put_entry, put_item, put_long, put_others, put_words, record_of, refl}
+use Rattle.cache_partition.proofs.Words.{room_in, room_is, same_cell, same_or_other, spells_item, spells_on, stamp_in, stamp_rises, stands_cached}
+use Rattle.cache_partition.proofs.Words.{state_after, state_in, stood, subst, sym, tag_of, tail_of, window_kept, written, written_same, written_state}
+use Rattle.cache_partition.proofs.Words.{ℕ, ℕ_discrete, ◌+◌, ◌<◌, ◌∙◌, ◌≡◌, ◌≢◌, ◌≤◌, ◌⊎◌}
 use Rattle.cache_partition.proofs.Held.{HasSlot, Held, has_in, in_main, live_entry, live_is, machine, one_slot, record_in, slot_of, slot_record}
 use Rattle.cache_partition.proofs.Held.{stamp_is}
 use Rattle.cache_partition.proofs.Leaves.{Leaves, deleted_none, made, step_stamp}
@@ -43,7 +43,7 @@ module _ (h : Held) (a : AcceptedWrite h.o) where
     -- entry of the bucket has changed.
     pub record Effect (slot x p : ℕ) (xs : List ℕ) : Type 0 where
       pub here : entry_in q b slot ≡ x
-      pub entries : (i : ℕ) → i < 15 → i ≢ slot → entry_in q b i ≡ entry_in h.o b i
+      pub entries : (i : ℕ) → i < SLOTS → i ≢ slot → entry_in q b i ≡ entry_in h.o b i
       pub items : (i : ℕ) → i < length xs → item_in q (p + i) ≡ get_or xs i 0
       pub others : (z : ℕ) → ((i : ℕ) → i < length xs → item_at h.o.shape z ≢ item_at h.o.shape (p + i)) → item_in q z ≡ item_in h.o z
 
@@ -153,7 +153,7 @@ module _ (h : Held) (a : AcceptedWrite h.o) where
       deleted op slot x before effect none = stands slot x 0 [] before effect (λ j less. absurd (omega arith)) (λ y e. absurd (none y e)) (λ r is. cc (sym (deleted_none h a.w op) ∙ is))
 
       -- a put, which leaves its key this record with the new value: the slot's entry and item spell it
-      pub put : a.w.op ≡ Put → (slot x : ℕ) → Before slot → slot < 15 → (r : Record) → record_of (made h a.w) a.w.key ≡ Some (record r { value = a.w.value })
+      pub put : a.w.op ≡ Put → (slot x : ℕ) → Before slot → slot < SLOTS → (r : Record) → record_of (made h a.w) a.w.key ≡ Some (record r { value = a.w.value })
           → offset_of (options_in h.o) h.m a.w ≡ r.offset → tail_of (made h a.w).stamp ≤ r.offset + h.o.shape.words → x ≢ 0 → entry_offset x ≡ r.offset → entry_tag x ≡ tag_of a.w.key
           → Effect slot x r.offset (item_words r.room a.w.key a.w.value) → StandsFor q b
       put op slot x before below r found begin live some offset tag effect =
@@ -180,7 +180,7 @@ module _ (h : Held) (a : AcceptedWrite h.o) where
       others = put_others h.o a p xs few;
     }
 
-    pub entry_effect : slot < 15 → Effect (after (PutsEntry b slot x) (written h.o a (put_words h.o a p xs few))).words slot x p xs
+    pub entry_effect : slot < SLOTS → Effect (after (PutsEntry b slot x) (written h.o a (put_words h.o a p xs few))).words slot x p xs
     entry_effect below =
         let q = written h.o a (put_words h.o a p xs few) in
         let main = main h.o a in

@@ -4,17 +4,17 @@ use Rattle.std.proofs.lemmas.Grind.{common_steps}
 use Rattle.cache_partition.proofs.Words.{AcceptedWrite, Allows, AreBytes, Begins, Bool, Cache, CacheMode, Del, Ends, Gains, HasNoSlot, Idle, IsMain}
 use Rattle.cache_partition.proofs.Words.{IsOwnerStep, IsSlotOf, IsWrite, Kept, KeyFits, LeavesItem, List, MatchOption, MayAppend, MayBegin, MayEnd}
 use Rattle.cache_partition.proofs.Words.{MayGive, MayMark, MayRewrite, MayWrite, None, Op, Option, Options, Outcome, OwnerState, Put, PutsEntry}
-use Rattle.cache_partition.proofs.Words.{Record, Some, SpellsItem, StandsFor, State, Takes, Worn, Write, [], accepted_in, accepted_is_length}
+use Rattle.cache_partition.proofs.Words.{Record, SLOTS, Some, SpellsItem, StandsFor, State, Takes, Worn, Write, [], accepted_in, accepted_is_length}
 use Rattle.cache_partition.proofs.Words.{accepted_step, after, ap, arith, begin_of, bucket_in, cached_in, cell_at, cond, ended_gains, entry_in}
 use Rattle.cache_partition.proofs.Words.{entry_not_empty, entry_of, entry_offset, entry_offset-entry_of, entry_tag-entry_of, false, fits_kept}
-use Rattle.cache_partition.proofs.Words.{had_record, had_record_by, is_accepted, is_live, is_some, item_in, item_room, item_size}
-use Rattle.cache_partition.proofs.Words.{item_words, keeps_put, kept_offset, kept_offset_by, kept_record, largest_item, leb-false, length}
-use Rattle.cache_partition.proofs.Words.{length-item_words, lt-leb, main, marked, marked_in, marked_item, marked_with, may_begin, may_end, may_mark}
-use Rattle.cache_partition.proofs.Words.{most_stamp, nat_le, nat_tests, new_record, option_map, options_in, put_entry, put_same, put_stamp, put_words}
-use Rattle.cache_partition.proofs.Words.{record_of, refl, room_at, room_in, room_is, size_at_most, size_of, stamp_in, stamp_of, stamp_of_state}
-use Rattle.cache_partition.proofs.Words.{stamp_small, state_after, state_snoc, stood, subst, sym, tag_of, tag_of-range, tail_of, then_some, true}
-use Rattle.cache_partition.proofs.Words.{with_item, write_of, written, written_marked, written_record, ℕ, ◌&&◌, ◌*◌, ◌++◌, ◌+◌, ◌<◌, ◌^◌, ◌∙◌, ◌∷◌}
-use Rattle.cache_partition.proofs.Words.{◌≡◌, ◌≤◌, ◌⊎◌}
+use Rattle.cache_partition.proofs.Words.{had_record, had_record_by, is_accepted, is_live, is_some, item_in, item_room, item_size, item_words}
+use Rattle.cache_partition.proofs.Words.{keeps_put, kept_offset, kept_offset_by, kept_record, largest_item, leb-false, length, length-item_words}
+use Rattle.cache_partition.proofs.Words.{lt-leb, main, marked, marked_in, marked_item, marked_with, may_begin, may_end, may_mark, most_stamp, nat_le}
+use Rattle.cache_partition.proofs.Words.{nat_tests, new_record, option_map, options_in, put_entry, put_same, put_stamp, put_words, record_of, refl}
+use Rattle.cache_partition.proofs.Words.{room_at, room_in, room_is, size_at_most, size_of, stamp_in, stamp_of, stamp_of_state, stamp_small}
+use Rattle.cache_partition.proofs.Words.{state_after, state_snoc, stood, subst, sym, tag_of, tag_of-range, tail_of, then_some, true, with_item}
+use Rattle.cache_partition.proofs.Words.{write_of, written, written_marked, written_record, ℕ, ◌&&◌, ◌*◌, ◌++◌, ◌+◌, ◌<◌, ◌^◌, ◌∙◌, ◌∷◌, ◌≡◌, ◌≤◌}
+use Rattle.cache_partition.proofs.Words.{◌⊎◌}
 use Rattle.cache_partition.proofs.Leaves as leaves
 use Rattle.cache_partition.proofs.Held.{Held, found_slot, held, machine, no_record, slot_of, stamp_is, stands_at}
 use Rattle.cache_partition.proofs.Before.{dead_slot, own_slot, slot_that_gives_way}
@@ -166,8 +166,8 @@ module _ (o : OwnerState) (s : Kept o) (may : MayWrite o) (w : Write) (is : IsWr
               (deleted h accepted (after (PutsEntry b slot 0) (marked o accepted)).words (subst Kept at k) op slot 0 (own_slot h accepted slot own.0 own.1) effect
               (λ y e. e.live.0 (sym e.found ∙ effect.here))) q at;
           absent = λ lacks q at k. closes (marked o accepted).words
-              (deleted h accepted (marked o accepted).words (subst Kept at k) op 15 _ (dead_slot h accepted lacks 15 (omega arith) (λ last. leaves.deleted_none h w op) (λ key r at live. let below = at.entry.in_bucket in absurd (omega arith)))
-              (put_effect h accepted 0 [] none 15 _ refl) (λ y e. let below = e.in_bucket in absurd (omega arith))) q at;
+              (deleted h accepted (marked o accepted).words (subst Kept at k) op SLOTS _ (dead_slot h accepted lacks SLOTS (omega arith) (λ last. leaves.deleted_none h w op) (λ key r at live. let below = at.entry.in_bucket in absurd (omega arith)))
+              (put_effect h accepted 0 [] none SLOTS _ refl) (λ y e. let below = e.in_bucket in absurd (omega arith))) q at;
         }
 
     -- A put
@@ -233,7 +233,7 @@ module _ (o : OwnerState) (s : Kept o) (may : MayWrite o) (w : Write) (is : IsWr
       own_live : tail_of (made h w).stamp ≤ p + o.shape.words
       own_live = let most = (leaves.written h w is).most in let least = s.shape.ranges.words.0 in let now = stamp_is h in omega arith
 
-      before : (old : Option ℕ) (slot : ℕ) → MatchOption old (HasNoSlot o b w.key) (IsSlotOf o b w.key) → Takes stored b old slot → (slot < 15) × Before h accepted slot
+      before : (old : Option ℕ) (slot : ℕ) → MatchOption old (HasNoSlot o b w.key) (IsSlotOf o b w.key) → Takes stored b old slot → (slot < SLOTS) × Before h accepted slot
       before None slot none gives = slot_that_gives_way h accepted none (new_record h.m w.key w.value) its_own refl own_live stored refl
           (λ i l. put_entry o accepted p xs few b i (let main = main o accepted in omega arith) l) stored_stamp slot gives
       before (Some old) slot found same =
@@ -241,7 +241,7 @@ module _ (o : OwnerState) (s : Kept o) (may : MayWrite o) (w : Write) (is : IsWr
           let own = found_slot h b (stood o accepted) w.key refl is.key_bytes slot its in
           (its.in_bucket, own_slot h accepted slot own.0 own.1)
 
-      stands : (slot : ℕ) → (slot < 15) × Before h accepted slot → Kept (after (PutsEntry b slot (entry_of (tag_of w.key) p)) stored)
+      stands : (slot : ℕ) → (slot < SLOTS) × Before h accepted slot → Kept (after (PutsEntry b slot (entry_of (tag_of w.key) p)) stored)
           → StandsFor (after (PutsEntry b slot (entry_of (tag_of w.key) p)) stored) b
       stands slot spelt k =
           let small = stamp_limit o s h.m.stamp (sym (stamp_is h)) in
