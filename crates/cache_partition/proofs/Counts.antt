@@ -1,6 +1,7 @@
 -- How many records the written bucket has once the log has passed: as many as it has live slots, and the written key's own.
 use Rattle.mica_model.proofs.Found as found
 use Rattle.mica_model.proofs.Laid as laid
+use Rattle.std.proofs.lemmas.Grind.{common_steps}
 use Rattle.cache_partition.proofs.Words.{AllOf, Bool, HasNoSlot, IsDistinct, IsDistinct-cons, IsUnique, IsWrite, List, Record, SLOTS, Some, StandsFor}
 use Rattle.cache_partition.proofs.Words.{Write, [], ap, arith, bucket_in, cases_Bool, cases_lt, cond, count_by, entry_in, entry_offset, eq-eqb, eqb}
 use Rattle.cache_partition.proofs.Words.{eqb-true, false, filter, find, has_key, here_of, inl, inr, le-length_from_below, leb-true, length}
@@ -79,11 +80,11 @@ module _ (h : Held) (w : Write) (is : IsWrite w) (stood : StandsFor h.o (bucket_
 
   -- those of two keys differ
   differ : (r r' : Record) (i i' : ℕ) → has_key r.key r' ≡ false → IsNumber r i → IsNumber r' i' → i ≢ i'
-  differ r r' i i' other (inl mine) (inl mine') same = true≢false (sym (laid.has_its_key r.key r' (mine'.0 ∙ sym mine.0)) ∙ other)
-  differ r r' i i' other (inl mine) (inr slot) same = let below = slot.1.entry.in_bucket in let last = mine.1 in omega arith
-  differ r r' i i' other (inr slot) (inl mine) same = let below = slot.1.entry.in_bucket in let last = mine.1 in omega arith
-  differ r r' i i' other (inr slot) (inr slot') same =
-      true≢false (sym (laid.has_its_key r.key r' (slot_key h b i' r'.key r.key r' r slot'.1 (subst (HasSlot h b r.key r) same slot.1))) ∙ other)
+  differ r r' i i' other is is' same =
+      let low = λ (at : HasSlot h b r.key r i). at.entry.in_bucket in
+      let low' = λ (at : HasSlot h b r'.key r' i'). at.entry.in_bucket in
+      let keys = λ (at : HasSlot h b r.key r i) (at' : HasSlot h b r'.key r' i'). slot_key h b i' r'.key r.key r' r at' (subst (HasSlot h b r.key r) same at) in
+      grind (arith, is, is', same, low, low', keys, laid.has_its_key r.key r', other, true≢false)
 
   numbers_distinct : (rs : List Record) (all : AllOf Numbered rs) → IsUnique rs → IsDistinct eqb (numbers rs all)
   unfolding numbers IsDistinct
@@ -115,10 +116,7 @@ module _ (h : Held) (w : Write) (is : IsWrite w) (stood : StandsFor h.o (bucket_
   among key r i only (x ∷ rs) all is =
       elim (has_key key x) as (λ b. cond b (Some x) (find (has_key key) rs) ≡ Some r → list_any (eqb i) (all.0.number ∷ numbers rs all.1) ≡ true) [
         | true ↦ λ e. rw (eq-eqb i all.0.number (sym (only all.0.number (subst (λ (z : Record). IsNumber z all.0.number) (same_Some x r e) all.0.number_is)))) refl
-        | false ↦ λ e. ⊎_elim
-            (λ (t : eqb i all.0.number ≡ true). rw t refl)
-            (λ (f : eqb i all.0.number ≡ false). rw f (among key r i only rs all.1 e))
-            (cases_Bool (eqb i all.0.number))
+        | false ↦ λ e. grind (arith, nat_tests, common_steps, among key r i only rs all.1 e)
       ] is
 
   found_among : (key : List ℕ) (r : Record) (i : ℕ) → ((n : ℕ) → IsNumber r n → n ≡ i) → record_of (made h w) key ≡ Some r → tail_of (made h w).stamp ≤ r.offset + h.o.shape.words

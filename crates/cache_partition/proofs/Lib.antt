@@ -3,5 +3,4 @@ pub mod Held
 pub mod Leaves
 pub mod Counts
 pub mod OneSlot
-pub mod Before
 pub mod Writes

@@ -17,9 +17,8 @@ use Rattle.cache_partition.proofs.Words.{write_of, written, written_marked, writ
 use Rattle.cache_partition.proofs.Words.{◌⊎◌}
 use Rattle.cache_partition.proofs.Leaves as leaves
 use Rattle.cache_partition.proofs.Held.{Held, found_slot, held, machine, no_record, slot_of, stamp_is, stands_at}
-use Rattle.cache_partition.proofs.Before.{dead_slot, own_slot, slot_that_gives_way}
+use Rattle.cache_partition.proofs.OneSlot.{Before, dead_slot, deleted, entry_effect, own_slot, put, put_effect, slot_that_gives_way}
 use Rattle.cache_partition.proofs.Leaves.{made}
-use Rattle.cache_partition.proofs.OneSlot.{Before, deleted, entry_effect, put, put_effect}
 
 -- Replies
 
