@@ -108,20 +108,23 @@ module _ (h : Held) (w : Write) (is : IsWrite w) (stood : StandsFor h.o (bucket_
       let count = length-filter here alive in
       omega arith
 
+  one_number : (r : Record) (i i' : ℕ) → IsNumber r i → IsNumber r i' → i ≡ i'
+  one_number r i i' is is' = grind (arith, is, is', one_slot h b stood i i' r.key r.key r r)
+
   -- a record that is among those counted has its number among theirs
-  among : (key : List ℕ) (r : Record) (i : ℕ) → ((n : ℕ) → IsNumber r n → n ≡ i) → (rs : List Record) (all : AllOf Numbered rs)
+  among : (key : List ℕ) (r : Record) (i : ℕ) → IsNumber r i → (rs : List Record) (all : AllOf Numbered rs)
       → find (has_key key) rs ≡ Some r → list_any (eqb i) (numbers rs all) ≡ true
   unfolding numbers
-  among key r i only [] all is = cc
-  among key r i only (x ∷ rs) all is =
+  among key r i its [] all is = cc
+  among key r i its (x ∷ rs) all is =
       elim (has_key key x) as (λ b. cond b (Some x) (find (has_key key) rs) ≡ Some r → list_any (eqb i) (all.0.number ∷ numbers rs all.1) ≡ true) [
-        | true ↦ λ e. rw (eq-eqb i all.0.number (sym (only all.0.number (subst (λ (z : Record). IsNumber z all.0.number) (same_Some x r e) all.0.number_is)))) refl
-        | false ↦ λ e. grind (arith, nat_tests, common_steps, among key r i only rs all.1 e)
+        | true ↦ λ e. rw (eq-eqb i all.0.number (one_number r i all.0.number its (subst (λ (z : Record). IsNumber z all.0.number) (same_Some x r e) all.0.number_is))) refl
+        | false ↦ λ e. grind (arith, nat_tests, common_steps, among key r i its rs all.1 e)
       ] is
 
-  found_among : (key : List ℕ) (r : Record) (i : ℕ) → ((n : ℕ) → IsNumber r n → n ≡ i) → record_of (made h w) key ≡ Some r → tail_of (made h w).stamp ≤ r.offset + h.o.shape.words
+  found_among : (key : List ℕ) (r : Record) (i : ℕ) → IsNumber r i → record_of (made h w) key ≡ Some r → tail_of (made h w).stamp ≤ r.offset + h.o.shape.words
       → bucket_in h.o key ≡ b → list_any (eqb i) (numbers its all_numbered) ≡ true
-  found_among key r i only at live there = among key r i only its all_numbered
+  found_among key r i number at live there = among key r i number its all_numbered
       (found.found_filter (has_key key) here alive r (live_on h w is key r at live)
       (eq-eqb (bucket_in h.o r.key) b (ap (bucket_in h.o) (laid.found_key key (made h w).records r at) ∙ there)))
 
@@ -150,19 +153,14 @@ module _ (h : Held) (w : Write) (is : IsWrite w) (stood : StandsFor h.o (bucket_
       at_slot i low =
           let at = record_at i low (live i low) in
           let other = of_others h b w.key none i at.0 at.1 at.2 in
-          let its_key = laid.found_key at.0 h.m.records at.1 at.2.is in
+          let its_key = sym (laid.found_key at.0 h.m.records at.1 at.2.is) in
+          let number : IsNumber at.1 i = inr ((λ mine. other (its_key ∙ mine)), subst (λ (k : List ℕ). HasSlot h b k at.1 i) its_key at.2) in
           let offset = at.2.offset in
           let later = (live i low).1 in
-          found_among at.0 at.1 i
-          (λ n n_is. elim n_is [
-            | inl mine ↦ absurd (other (sym its_key ∙ mine.0))
-            | inr slot ↦ one_slot h b stood n i at.1.key at.0 at.1 at.1 slot.1 at.2 its_key
-          ])
-          (written_same (options_in h.o) h.m w at.0 other ∙ at.2.is) (omega arith) at.2.spelt.bucket
+          found_among at.0 at.1 i number (written_same (options_in h.o) h.m w at.0 other ∙ at.2.is) (omega arith) at.2.spelt.bucket
 
       each : (i : ℕ) → i < SLOTS + 1 → list_any (eqb i) (numbers its all_numbered) ≡ true
       each i low = elim (cases_lt i SLOTS) [
         | inl slot ↦ at_slot i slot
-        | inr last ↦ found_among w.key own i
-            (λ n is. elim is [ inl mine ↦ mine.1 ∙ omega arith | inr slot ↦ absurd (slot.0 (laid.found_key w.key (made h w).records own at)) ]) at own_live refl
+        | inr last ↦ found_among w.key own i (inl (laid.found_key w.key (made h w).records own at, omega arith)) at own_live refl
       ]

@@ -15,20 +15,7 @@ pub record Held : Type 0 where
   pub before : state_in o ≡ cache_state m
 
 abbrev pub held : (o : OwnerState) → Kept o → o.shape.mode ≡ CacheMode → Held
-held o s mode = record {
-  o = o;
-  kept = s;
-  mode = mode;
-  m = (cached_in (options_in o) mode o.history).0;
-  before = (cached_in (options_in o) mode o.history).1;
-}
-
--- the key's record, with this cell at this offset
-pub record HasRecord (h : Held) (key : List ℕ) (cell : Cell) (p : ℕ) : Type 0 where
-  pub r : Record
-  pub is : record_of h.m key ≡ Some r
-  pub offset : r.offset ≡ p
-  pub cell_is : cell ≡ record { value = r.value; room = r.room }
+held o s mode = let at = cached_in (options_in o) mode o.history in record { o = o; kept = s; mode = mode; m = at.0; before = at.1 }
 
 -- the slot has a live entry, which spells the key's record
 pub record HasSlot (h : Held) (b : ℕ) (key : List ℕ) (r : Record) (slot : ℕ) : Type 0 where
@@ -47,10 +34,10 @@ module _ (h : Held) where
   pub stands_at : h.o.phase ≡ Idle → (key : List ℕ) (b : ℕ) → b ≡ bucket_in h.o key → StandsFor h.o b
   stands_at idle key b here = stands_idle h.o h.kept idle b (subst (IsMain h.o.shape) (sym here) (main_of h.o h.kept key))
 
-  pub record_in : (key : List ℕ) (cell : Cell) (p : ℕ) → Has (state_in h.o) key cell p → HasRecord h key cell p
-  record_in key cell p has =
-      let found = found_record (record_of h.m key) cell p (subst (λ (z : State). Has z key cell p) h.before has) in
-      record { r = found.0; is = found.1; offset = found.2; cell_is = found.3 }
+  -- the key's record, with this cell at this offset
+  pub record_in : (key : List ℕ) (cell : Cell) (p : ℕ) → Has (state_in h.o) key cell p
+      → (r : Record) × (record_of h.m key ≡ Some r) × (r.offset ≡ p) × (cell ≡ record { value = r.value; room = r.room })
+  record_in key cell p has = found_record (record_of h.m key) cell p (subst (λ (z : State). Has z key cell p) h.before has)
 
   pub has_in : (key : List ℕ) (r : Record) → record_of h.m key ≡ Some r → Has (state_in h.o) key (cell_at r).0 r.offset
   has_in key r is = subst (λ (z : State). Has z key (cell_at r).0 r.offset) (sym h.before) (ap (option_map cell_at) is)
@@ -103,7 +90,7 @@ module _ (h : Held) where
       let spelt = subst (λ (z : ℕ). Spells h.o b z key cell) (sym e.found) sp in
       let entry = subst (HasLiveEntry h.o b b slot) (sym e.found) e in
       let named = record_in key cell (entry_offset (entry_in h.o b slot)) spelt.has in
-      (named.r, record { entry = entry; spelt = subst (Spells h.o b (entry_in h.o b slot) key) named.cell_is spelt; is = named.is; offset = named.offset })
+      (named.0, record { entry = entry; spelt = subst (Spells h.o b (entry_in h.o b slot) key) named.3 spelt; is = named.1; offset = named.2 })
 
   module _ (b : ℕ) (stood : StandsFor h.o b) where
     -- each record of the bucket has one

@@ -168,10 +168,9 @@ module _ (h : Held) (w : Write) where
       unique = laid.unique_filter is_living made.records written.unique
 
       pub first_is : (record_of made f.key ≡ Some f) × (bucket_in h.o f.key ≡ bucket_in h.o w.key)
-      first_is = (
-        (live_back f.key f (first_found here lives f unique first)).0,
-        eqb-true (bucket_in h.o f.key) (bucket_in h.o w.key) (found.found_passes here lives f first),
-      )
+      first_is =
+          let there = found.found_passes here lives f first in
+          ((live_back f.key f (first_found here lives f unique first)).0, eqb-true (bucket_in h.o f.key) (bucket_in h.o w.key) there)
 
       pub first_begins : (key : List ℕ) (r : Record) → record_of made key ≡ Some r → tail_of made.stamp ≤ r.offset + h.o.shape.words
           → bucket_in h.o key ≡ bucket_in h.o w.key → f.offset ≤ r.offset

@@ -115,7 +115,7 @@ module _ (h : Held) (a : AcceptedWrite h.o) where
             → (c : ℕ) × (i : ℕ) × (x : ℕ) × HasLiveEntry q b c i x × Spells q b x key cell
         each_mine key cell from has is =
             let found = record_in n key cell from has in
-            let e = entered found.r (ap (record_of (made h a.w)) (sym is) ∙ (before.leaves.back key found.r found.is).0) in
+            let e = entered found.0 (ap (record_of (made h a.w)) (sym is) ∙ (before.leaves.back key found.0 found.1).0) in
             let its = own (entry_in q b slot) e in
             let sp = subst (λ (z : List ℕ). Spells q b (entry_in q b slot) z (cell_at its.0).0) (sym is) its.1 in
             let same = same_cell (state_in q) key (cell_at its.0).0 cell (entry_offset (entry_in q b slot)) from sp.has has in
@@ -125,20 +125,16 @@ module _ (h : Held) (a : AcceptedWrite h.o) where
             → (c : ℕ) × (i : ℕ) × (x : ℕ) × HasLiveEntry q b c i x × Spells q b x key cell
         each_other key cell from here has other =
             let found = record_in n key cell from has in
-            let was_left = before.leaves.back key found.r found.is in
-            let at = slot_of h b was key found.r here (sym (written_same (options_in h.o) h.m a.w key other) ∙ was_left.0) in
+            let was_left = before.leaves.back key found.0 found.1 in
+            let at = slot_of h b was key found.0 here (sym (written_same (options_in h.o) h.m a.w key other) ∙ was_left.0) in
             let offset = at.1.offset in
             let stamp = stamp_is n in
             let now = stamp_now in
-            let window = (window_kept (options_in h.o) new (machine n) key found.r found.is).0 in
-            let not_slot : at.0 ≢ slot = λ is. elim (before.gone key found.r (subst (HasSlot h b key found.r) is at.1) (omega arith)) [ inl mine ↦ other mine | inr lost ↦ was_left.1 lost ] in (
-              b,
-              at.0,
-              entry_in h.o b at.0,
-              live_entry n b at.0 (entry_in h.o b at.0) at.1.entry.in_bucket (effect.entries at.0 at.1.entry.in_bucket not_slot) at.1.entry.live.0 (omega arith),
-              subst (λ (z : Cell). Spells q b (entry_in h.o b at.0) key z) (sym found.cell_is)
-                  (stays at.0 key found.r at.1 other (omega arith) was_left.1),
-            )
+            let window = (window_kept (options_in h.o) new (machine n) key found.0 found.1).0 in
+            let not_slot : at.0 ≢ slot = λ is. elim (before.gone key found.0 (subst (HasSlot h b key found.0) is at.1) (omega arith)) [ inl mine ↦ other mine | inr lost ↦ was_left.1 lost ] in
+            let x = entry_in h.o b at.0 in
+            let e = live_entry n b at.0 x at.1.entry.in_bucket (effect.entries at.0 at.1.entry.in_bucket not_slot) at.1.entry.live.0 (omega arith) in
+            (b, at.0, x, e, subst (λ (z : Cell). Spells q b x key z) (sym found.3) (stays at.0 key found.0 at.1 other (omega arith) was_left.1))
 
         pub stands : StandsFor q b
         stands = stands_cached q t h.mode b (main h.o a)
