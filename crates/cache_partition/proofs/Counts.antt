@@ -104,9 +104,7 @@ module _ (h : Held) (w : Write) (is : IsWrite w) (stood : StandsFor h.o (bucket_
       let most = length-le_from_distinct_below (j ∷ numbers its all_numbered) (SLOTS + 1)
       (IsDistinct-cons eqb j (numbers its all_numbered) none (numbers_distinct its all_numbered unique))
       (below_all (SLOTS + 1) (j ∷ numbers its all_numbered) (low, numbers_each (λ i. i < SLOTS + 1) (λ r n. n.low))) in
-      let long = length-numbers its all_numbered in
-      let count = length-filter here alive in
-      omega arith
+      omega (arith, most, length-numbers its all_numbered, length-filter here alive, full)
 
   one_number : (r : Record) (i i' : ℕ) → IsNumber r i → IsNumber r i' → i ≡ i'
   one_number r i i' is is' = grind (arith, is, is', one_slot h b stood i i' r.key r.key r r)
@@ -132,10 +130,8 @@ module _ (h : Held) (w : Write) (is : IsWrite w) (stood : StandsFor h.o (bucket_
   pub record_at : (i : ℕ) → i < SLOTS → (entry_in h.o b i ≢ 0) × (tail_of (made h w).stamp ≤ entry_offset (entry_in h.o b i) + h.o.shape.words)
       → (key : List ℕ) × (r : Record) × HasSlot h b key r i
   record_at i low live =
-      let stamp = stamp_is h in
-      let more = (written h w is).least in
-      let later = live.1 in
-      slot_record h b stood i (entry_in h.o b i) (live_entry h b i (entry_in h.o b i) low refl live.0 (omega arith))
+      let e = live_entry h b i (entry_in h.o b i) low refl live.0 (omega (arith, stamp_is h, (written h w is).least, live.1)) in
+      slot_record h b stood i (entry_in h.o b i) e
 
   -- where every slot is live and of another key, and the key has a record, there are 16
   pub many : (own : Record) → record_of (made h w) w.key ≡ Some own → tail_of (made h w).stamp ≤ own.offset + h.o.shape.words → HasNoSlot h.o b w.key
@@ -143,11 +139,8 @@ module _ (h : Held) (w : Write) (is : IsWrite w) (stood : StandsFor h.o (bucket_
       → count_by here alive ≡ SLOTS + 1
   many own at own_live none live =
       let least = le-length_from_below (numbers its all_numbered) (SLOTS + 1) each in
-      let long = length-numbers its all_numbered in
-      let count = length-filter here alive in
-      let fewer = found.count_filter here living (made h w).records in
       let most = (written h w is).here in
-      omega arith
+      omega (arith, least, most, length-numbers its all_numbered, length-filter here alive, found.count_filter here living (made h w).records)
     where
       at_slot : (i : ℕ) → i < SLOTS → list_any (eqb i) (numbers its all_numbered) ≡ true
       at_slot i low =
@@ -155,9 +148,7 @@ module _ (h : Held) (w : Write) (is : IsWrite w) (stood : StandsFor h.o (bucket_
           let other = of_others h b w.key none i at.0 at.1 at.2 in
           let its_key = sym (laid.found_key at.0 h.m.records at.1 at.2.is) in
           let number : IsNumber at.1 i = inr ((λ mine. other (its_key ∙ mine)), subst (λ (k : List ℕ). HasSlot h b k at.1 i) its_key at.2) in
-          let offset = at.2.offset in
-          let later = (live i low).1 in
-          found_among at.0 at.1 i number (written_same (options_in h.o) h.m w at.0 other ∙ at.2.is) (omega arith) at.2.spelt.bucket
+          found_among at.0 at.1 i number (written_same (options_in h.o) h.m w at.0 other ∙ at.2.is) (omega (arith, at.2.offset, (live i low).1)) at.2.spelt.bucket
 
       each : (i : ℕ) → i < SLOTS + 1 → list_any (eqb i) (numbers its all_numbered) ≡ true
       each i low = elim (cases_lt i SLOTS) [

@@ -76,8 +76,7 @@ module _ (h : Held) (a : AcceptedWrite h.o) where
             → Spells q b (entry_in h.o b i) key (cell_at r).0
         stays i key r at other live kept =
             let x = entry_in h.o b i in
-            let stamp = stamp_now in
-            let left = before.leaves.on key r (written_same (options_in h.o) h.m a.w key other ∙ at.is) (omega arith) kept in
+            let left = before.leaves.on key r (written_same (options_in h.o) h.m a.w key other ∙ at.is) (omega (arith, stamp_now, live)) kept in
             let room : room_in h.o x ≡ r.room = room_is h.o h.kept b x key (cell_at r).0 at.spelt in
             let keeps : Keeps h.o a words x = λ k l.
             subst (λ (z : ℕ). item_in q (z + k) ≡ item_in h.o (z + k)) at.offset (effect.others (r.offset + k) (λ j less same.
@@ -87,11 +86,9 @@ module _ (h : Held) (a : AcceptedWrite h.o) where
         now_other : (i x : ℕ) → HasLiveEntry q b b i x → i ≢ slot → Now i x
         now_other i x e other =
             let live = live_is n b b i x e in
-            let stamp = h.kept.stamp in
-            let later = t.stamp in
-            let more = stamp_rises (options_in h.o) h.o.history a.w in
+            let was_live : tail_of (stamp_in h.o) ≤ entry_offset x + h.o.shape.words = omega (arith, live, h.kept.stamp, t.stamp, stamp_rises (options_in h.o) h.o.history a.w) in
             let same = sym (effect.entries i e.in_bucket other) ∙ e.found in
-            let at = slot_record h b was i x (live_entry h b i x e.in_bucket same e.live.0 (omega arith)) in
+            let at = slot_record h b was i x (live_entry h b i x e.in_bucket same e.live.0 was_live) in
             let offset = at.2.offset ∙ ap entry_offset same in
             let differs = before.others i at.0 at.1 other at.2 in
             let now = subst (λ (z : ℕ). Spells q b z at.0 (cell_at at.1).0) same (stays i at.0 at.1 at.2 differs.0 (omega arith) differs.1) in
@@ -241,30 +238,25 @@ module _ (h : Held) (a : AcceptedWrite h.o) where
 
         first_begins : first.0.offset ≤ its.1.offset
         first_begins =
-            let offset = its.2.offset in
-            let later = (live slot below).1 in
             leaves.first_begins h a.w a.is first.0 first.1 its.0 its.1
-            (written_same (options_in h.o) h.m a.w its.0 (of_others h b a.w.key none slot its.0 its.1 its.2) ∙ its.2.is) (omega arith) its.2.spelt.bucket
+            (written_same (options_in h.o) h.m a.w its.0 (of_others h b a.w.key none slot its.0 its.1 its.2) ∙ its.2.is)
+            (omega (arith, its.2.offset, (live slot below).1)) its.2.spelt.bucket
 
         -- the written key's record begins behind the others
         first_other : first.0.key ≢ a.w.key
         first_other same =
             let found = (leaves.first_is h a.w a.is first.0 first.1).0 in
             let is = ap (λ (r : Record). r.offset) (same_Some first.0 own (sym found ∙ (ap (record_of (made h a.w)) same ∙ its_own))) in
-            let before = first_begins in
             let end = (window_kept (options_in h.o) h.m (machine h) its.0 its.1 its.2.is).1 in
-            let room = (fits_kept (options_in h.o) h.m (machine h) its.0 its.1 its.2.is).4 in
-            omega arith
+            omega (arith, is, end, at_tail, first_begins, (fits_kept (options_in h.o) h.m (machine h) its.0 its.1 its.2.is).4)
 
         names_first : its.0 ≡ first.0.key
         names_first =
             let facts = leaves.first_is h a.w a.is first.0 first.1 in
             let there = slot_of h b (stood h.o a) first.0.key first.0 facts.1 (sym (written_same (options_in h.o) h.m a.w first.0.key first_other) ∙ facts.0) in
-            let before = first_begins in
-            let offset = its.2.offset in
-            let its_offset = there.1.offset in
             let low = least there.0 there.1.entry.in_bucket in
-            only_key h.o h.kept b b (entry_in h.o b slot) (entry_in h.o b there.0) its.0 first.0.key (cell_at its.1).0 (cell_at first.0).0 its.2.spelt there.1.spelt (omega arith)
+            only_key h.o h.kept b b (entry_in h.o b slot) (entry_in h.o b there.0) its.0 first.0.key (cell_at its.1).0 (cell_at first.0).0 its.2.spelt there.1.spelt
+            (omega (arith, low, first_begins, its.2.offset, there.1.offset))
 
         oldest_slot : Before slot
         oldest_slot = record {
@@ -288,11 +280,13 @@ module _ (h : Held) (a : AcceptedWrite h.o) where
             let low = is.in_bucket in
             (low, dead_slot slot (omega arith) (λ last. absurd (omega arith)) (λ key r at live. at.entry.live.0 (sym (same slot low) ∙ is.holds)))
         slot_that_gives_way slot (passed full is) =
-            let low = is.in_bucket in
-            let gone = is.holds in
-            (low, dead_slot slot (omega arith) (λ last. absurd (omega arith)) (λ key r at live. let one = ap entry_offset (same slot low) in let two = at.offset in omega arith))
+            let low = is.in_bucket in (
+              low,
+              dead_slot slot (omega arith) (λ last. absurd (omega arith))
+                  (λ key r at live. omega (arith, is.holds, words_are, stamp, live, at.offset, ap entry_offset (same slot low))),
+            )
         slot_that_gives_way slot (oldest full all is) = (
           is.in_bucket,
           oldest_slot slot is.in_bucket (λ i l. (λ zero. full i l (same i l ∙ zero), live_in all i l))
-              (λ i l. let least = is.least i l in let one = ap entry_offset (same slot is.in_bucket) in let two = ap entry_offset (same i l) in omega arith),
+              (λ i l. omega (arith, is.least i l, ap entry_offset (same slot is.in_bucket), ap entry_offset (same i l))),
         )

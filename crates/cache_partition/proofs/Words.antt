@@ -17,7 +17,6 @@ pub use Rattle.mica_words.proofs.Sizes.{item_size-most}
 pub use Rattle.mica_words.specs.Entry.{entry_of, entry_offset, entry_tag}
 pub use Rattle.mica_words.specs.Hash.{hash_bucket, hash_tag, tag_of}
 pub use Rattle.mica_words.specs.declared.entry.TheConstants.{SLOTS}
-pub use Rattle.mica_words.specs.Item.{largest_item}
 pub use Rattle.mica_words.specs.Spelling.{item_words}
 pub use Rattle.mica_words.specs.Stamp.{tail_of}
 pub use Rattle.mica_model.proofs.CacheKept.{IsKept, IsWritten, after_write_is, begin_of, here_of, keeps_put, left_of, live_of, offset_of, others_lack}

@@ -8,13 +8,12 @@ use Rattle.cache_partition.proofs.Words.{Record, SLOTS, Some, SpellsItem, Stands
 use Rattle.cache_partition.proofs.Words.{accepted_step, after, ap, arith, begin_of, bucket_in, cached_in, cell_at, cond, ended_gains, entry_in}
 use Rattle.cache_partition.proofs.Words.{entry_not_empty, entry_of, entry_offset, entry_offset-entry_of, entry_tag-entry_of, false, fits_kept}
 use Rattle.cache_partition.proofs.Words.{had_record, had_record_by, is_accepted, is_live, is_some, item_in, item_room, item_size, item_words}
-use Rattle.cache_partition.proofs.Words.{keeps_put, kept_offset, kept_offset_by, kept_record, largest_item, leb-false, length, length-item_words}
-use Rattle.cache_partition.proofs.Words.{lt-leb, main, marked, marked_in, marked_item, marked_with, may_begin, may_end, may_mark, most_stamp, nat_le}
-use Rattle.cache_partition.proofs.Words.{nat_tests, new_record, option_map, options_in, put_entry, put_same, put_stamp, put_words, record_of, refl}
-use Rattle.cache_partition.proofs.Words.{room_at, room_in, room_is, size_at_most, size_of, stamp_in, stamp_of, stamp_of_state, stamp_small}
-use Rattle.cache_partition.proofs.Words.{state_after, state_snoc, stood, subst, sym, tag_of, tag_of-range, tail_of, then_some, true, with_item}
-use Rattle.cache_partition.proofs.Words.{write_of, written, written_marked, written_record, ℕ, ◌&&◌, ◌*◌, ◌++◌, ◌+◌, ◌<◌, ◌^◌, ◌∙◌, ◌∷◌, ◌≡◌, ◌≤◌}
-use Rattle.cache_partition.proofs.Words.{◌⊎◌}
+use Rattle.cache_partition.proofs.Words.{keeps_put, kept_offset, kept_offset_by, kept_record, leb-false, length, length-item_words, lt-leb, main}
+use Rattle.cache_partition.proofs.Words.{marked, marked_in, marked_item, marked_with, may_begin, may_end, may_mark, most_stamp, nat_le, nat_tests}
+use Rattle.cache_partition.proofs.Words.{new_record, option_map, options_in, put_entry, put_same, put_stamp, put_words, record_of, refl, room_at}
+use Rattle.cache_partition.proofs.Words.{room_in, room_is, size_at_most, size_of, stamp_in, stamp_of, stamp_of_state, stamp_small, state_after}
+use Rattle.cache_partition.proofs.Words.{state_snoc, stood, subst, sym, tag_of, tag_of-range, tail_of, then_some, true, with_item, write_of, written}
+use Rattle.cache_partition.proofs.Words.{written_marked, written_record, ℕ, ◌&&◌, ◌*◌, ◌++◌, ◌+◌, ◌<◌, ◌^◌, ◌∙◌, ◌∷◌, ◌≡◌, ◌≤◌, ◌⊎◌}
 use Rattle.cache_partition.proofs.Leaves as leaves
 use Rattle.cache_partition.proofs.Held.{Held, found_slot, held, machine, no_record, slot_of, stamp_is, stands_at}
 use Rattle.cache_partition.proofs.OneSlot.{Before, dead_slot, deleted, entry_effect, own_slot, put, put_effect, slot_that_gives_way}
@@ -32,11 +31,9 @@ may_give : (o : OwnerState) → MayWrite o → (w : Write) → MayGive (options_
 unfolding cs.reply
 may_give o may w =
     let there = cached_in (options_in o) may.cached o.history in
-    let count = ap accepted_in there.1 in
-    let all = accepted_is_length (options_in o) o.history in
-    let less = may.not_worn in
+    let less : there.0.accepted < o.shape.wear = omega (arith, ap accepted_in there.1, accepted_is_length (options_in o) o.history, may.not_worn) in
     subst (λ (z : State). Allows (options_in o) z w (cs.reply_of w.op (options_in o) w (had_record_by z w.key))) (sym there.1)
-    (ap (λ b. cond b Worn (cs.reply_of w.op (options_in o) w (is_some (record_of there.0 w.key)))) (sym (lt-leb o.shape.wear there.0.accepted (omega arith))))
+    (ap (λ b. cond b Worn (cs.reply_of w.op (options_in o) w (is_some (record_of there.0 w.key)))) (sym (lt-leb o.shape.wear there.0.accepted less)))
 
 -- where the state is not worn
 pub may_write : (o : OwnerState) → o.phase ≡ Idle → o.shape.mode ≡ CacheMode → nat_le o.shape.wear (length o.history) ≡ false → MayWrite o
@@ -52,10 +49,7 @@ delete_is key key_fits key_bytes = record { key = key_fits; key_bytes = key_byte
 
 -- the stamp stays far below the limit of a word
 pub stamp_limit : (o : OwnerState) → Kept o → (stamp : ℕ) → stamp ≡ stamp_in o → stamp ≤ most_stamp
-stamp_limit o s stamp is =
-    let small = stamp_small (options_in o) s.shape.ranges o.history s.history.accepted s.history.writes in
-    let stamp_is = s.stamp in
-    omega arith
+stamp_limit o s stamp is = omega (arith, s.stamp, is, stamp_small (options_in o) s.shape.ranges o.history s.history.accepted s.history.writes)
 
 -- What a write ends with
 
@@ -89,10 +83,6 @@ pub record Appends (o : OwnerState) (w : Write) (b t p : ℕ) : Type 0 where
 abbrev KeptAt : Option Record → Option ℕ → Type 0
 KeptAt found offset = MatchOption offset (found ≡ None) (λ p. (r : Record) × (found ≡ Some r) × (r.offset ≡ p))
 
-kept_by : (found : Option Record) → KeptAt found (option_map (λ (r : Record). r.offset) found)
-kept_by None = refl
-kept_by (Some r) = (r, refl, refl)
-
 module _ (o : OwnerState) (s : Kept o) (may : MayWrite o) (w : Write) (is : IsWrite w) where
   abbrev b : ℕ
   b = bucket_in o w.key
@@ -104,7 +94,8 @@ module _ (o : OwnerState) (s : Kept o) (may : MayWrite o) (w : Write) (is : IsWr
   kept_is = ap (λ (z : State). kept_offset_by (options_in o) z w) h.before
 
   held_by : (offset : Option ℕ) → kept_offset o w ≡ offset → KeptAt (kept_record (options_in o) h.m w) offset
-  held_by offset is = subst (KeptAt (kept_record (options_in o) h.m w)) (sym kept_is ∙ is) (kept_by (kept_record (options_in o) h.m w))
+  held_by offset is = subst (KeptAt (kept_record (options_in o) h.m w)) (sym kept_is ∙ is)
+      (elim (kept_record (options_in o) h.m w) as (λ z. KeptAt z (option_map (λ (r : Record). r.offset) z)) [ None ↦ refl | Some r ↦ (r, refl, refl) ])
 
   -- The stamp after it
 
@@ -172,11 +163,7 @@ module _ (o : OwnerState) (s : Kept o) (may : MayWrite o) (w : Write) (is : IsWr
     -- A put
 
     few_words : (room : ℕ) → length (item_words room w.key w.value) ≤ o.shape.words
-    few_words room =
-        let long = length-item_words room w.key w.value in
-        let size : size_of w ≤ largest_item = size_at_most w is in
-        let least = s.shape.ranges.words.0 in
-        omega arith
+    few_words room = omega (arith, length-item_words room w.key w.value, size_at_most w is, s.shape.ranges.words.0)
 
     -- it leaves its key this record
     leaves_item : (p room : ℕ) → record_of (made h w) w.key ≡ Some (record { key = w.key; value = w.value; offset = p; room = room })
