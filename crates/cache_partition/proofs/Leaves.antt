@@ -24,11 +24,10 @@ all_filtered P q xs all = all_both P (λ x. q x ≡ true) (filter q xs) (all_fil
 pub some_found : {X : Type 0} (p : X → Bool) (xs : List X) → 0 < count_by p xs → (x : X) × (find p xs ≡ Some x)
 some_found p [] some = absurd (omega arith)
 some_found p (x ∷ xs) some =
-    let whole = count_cons p x xs in
     elim (p x) as (λ b. cond b 1 0 + count_by p xs ≡ count_by p (x ∷ xs) → (y : _) × (cond b (Some x) (find p xs) ≡ Some y)) [
       | true ↦ λ w. (x, refl)
       | false ↦ λ w. some_found p xs (omega arith)
-    ] (sym whole)
+    ] (sym (count_cons p x xs))
 
 -- a key that another, found record has
 apart_key : (here : Record → Bool) (x f : Record) (xs : List Record) → find (has_key x.key) xs ≡ None → find here xs ≡ Some f → x.key ≢ f.key

@@ -124,14 +124,12 @@ module _ (h : Held) (a : AcceptedWrite h.o) where
             let found = record_in n key cell from has in
             let was_left = before.leaves.back key found.0 found.1 in
             let at = slot_of h b was key found.0 here (sym (written_same (options_in h.o) h.m a.w key other) ∙ was_left.0) in
-            let offset = at.1.offset in
-            let stamp = stamp_is n in
-            let now = stamp_now in
-            let window = (window_kept (options_in h.o) new (machine n) key found.0 found.1).0 in
-            let not_slot : at.0 ≢ slot = λ is. elim (before.gone key found.0 (subst (HasSlot h b key found.0) is at.1) (omega arith)) [ inl mine ↦ other mine | inr lost ↦ was_left.1 lost ] in
+            let live : tail_of (stamp_in q) ≤ found.0.offset + h.o.shape.words =
+            omega (arith, stamp_is n, (window_kept (options_in h.o) new (machine n) key found.0 found.1).0) in
+            let not_slot : at.0 ≢ slot = λ is. elim (before.gone key found.0 (subst (HasSlot h b key found.0) is at.1) (omega (arith, stamp_now))) [ inl mine ↦ other mine | inr lost ↦ was_left.1 lost ] in
             let x = entry_in h.o b at.0 in
-            let e = live_entry n b at.0 x at.1.entry.in_bucket (effect.entries at.0 at.1.entry.in_bucket not_slot) at.1.entry.live.0 (omega arith) in
-            (b, at.0, x, e, subst (λ (z : Cell). Spells q b x key z) (sym found.3) (stays at.0 key found.0 at.1 other (omega arith) was_left.1))
+            let e = live_entry n b at.0 x at.1.entry.in_bucket (effect.entries at.0 at.1.entry.in_bucket not_slot) at.1.entry.live.0 (omega (arith, at.1.offset)) in
+            (b, at.0, x, e, subst (λ (z : Cell). Spells q b x key z) (sym found.3) (stays at.0 key found.0 at.1 other live was_left.1))
 
         pub stands : StandsFor q b
         stands = stands_cached q t h.mode b (main h.o a)
@@ -254,9 +252,8 @@ module _ (h : Held) (a : AcceptedWrite h.o) where
         names_first =
             let facts = leaves.first_is h a.w a.is first.0 first.1 in
             let there = slot_of h b (stood h.o a) first.0.key first.0 facts.1 (sym (written_same (options_in h.o) h.m a.w first.0.key first_other) ∙ facts.0) in
-            let low = least there.0 there.1.entry.in_bucket in
             only_key h.o h.kept b b (entry_in h.o b slot) (entry_in h.o b there.0) its.0 first.0.key (cell_at its.1).0 (cell_at first.0).0 its.2.spelt there.1.spelt
-            (omega (arith, low, first_begins, its.2.offset, there.1.offset))
+            (omega (arith, least there.0 there.1.entry.in_bucket, first_begins, its.2.offset, there.1.offset))
 
         oldest_slot : Before slot
         oldest_slot = record {
@@ -280,11 +277,9 @@ module _ (h : Held) (a : AcceptedWrite h.o) where
             let low = is.in_bucket in
             (low, dead_slot slot (omega arith) (λ last. absurd (omega arith)) (λ key r at live. at.entry.live.0 (sym (same slot low) ∙ is.holds)))
         slot_that_gives_way slot (passed full is) =
-            let low = is.in_bucket in (
-              low,
-              dead_slot slot (omega arith) (λ last. absurd (omega arith))
-                  (λ key r at live. omega (arith, is.holds, words_are, stamp, live, at.offset, ap entry_offset (same slot low))),
-            )
+            let low = is.in_bucket in
+            let gone = is.holds in
+            (low, dead_slot slot (omega arith) (λ last. absurd (omega arith)) (λ key r at live. omega (arith, at.offset, ap entry_offset (same slot low))))
         slot_that_gives_way slot (oldest full all is) = (
           is.in_bucket,
           oldest_slot slot is.in_bucket (λ i l. (λ zero. full i l (same i l ∙ zero), live_in all i l))

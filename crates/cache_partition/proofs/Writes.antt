@@ -189,10 +189,9 @@ module _ (o : OwnerState) (s : Kept o) (may : MayWrite o) (w : Write) (is : IsWr
           };
           closes = λ q at_q k.
               let is = at_q ∙ (ap (λ (n : ℕ). with_item (marked o accepted) r.0.offset n w.key w.value) room ∙ put_same o accepted r.0.offset xs (few_words r.0.room)) in
-              let stamp = ap (λ (z : Cache). tail_of z.stamp) (leaves.is_rewritten h w r.0 op r.1) in
-              let live = kept.live in
+              let live : tail_of (made h w).stamp ≤ r.0.offset + o.shape.words = omega (arith, kept.live, ap (λ (z : Cache). tail_of z.stamp) (leaves.is_rewritten h w r.0 op r.1)) in
               closes words (put h accepted words (subst Kept is k) op at.0 (entry_in o b at.0) (own_slot h accepted at.0 r.0 at.1) at.1.entry.in_bucket (record r.0 { key = w.key })
-              (leaves.rewritten_own h w r.0 op r.1) (ap (λ (z : Option Record). begin_of z h.m) r.1) (omega arith) at.1.entry.live.0 (sym at.1.offset) at.1.spelt.tag
+              (leaves.rewritten_own h w r.0 op r.1) (ap (λ (z : Option Record). begin_of z h.m) r.1) live at.1.entry.live.0 (sym at.1.offset) at.1.spelt.tag
               (put_effect h accepted r.0.offset xs (few_words r.0.room) at.0 (entry_in o b at.0)
               (put_entry o accepted r.0.offset xs (few_words r.0.room) b at.0 (let main = main o accepted in omega arith) at.1.entry.in_bucket))) q is;
         })
@@ -230,8 +229,7 @@ module _ (o : OwnerState) (s : Kept o) (may : MayWrite o) (w : Write) (is : IsWr
       stands : (slot : ℕ) → (slot < SLOTS) × Before h accepted slot → Kept (after (PutsEntry b slot (entry_of (tag_of w.key) p)) stored)
           → StandsFor (after (PutsEntry b slot (entry_of (tag_of w.key) p)) stored) b
       stands slot spelt k =
-          let small = stamp_limit o s h.m.stamp (sym (stamp_is h)) in
-          let low : p < 2 ^ 48 = omega arith in
+          let low : p < 2 ^ 48 = omega (arith, stamp_limit o s h.m.stamp (sym (stamp_is h))) in
           put h accepted (after (PutsEntry b slot (entry_of (tag_of w.key) p)) stored).words k op slot (entry_of (tag_of w.key) p) spelt.1 spelt.0 (new_record h.m w.key w.value)
           its_own (ap (λ (z : Option Record). begin_of z h.m) (held_by None keeps)) own_live (entry_not_empty (tag_of w.key) p (tag_of-range w.key).0)
           (entry_offset-entry_of (tag_of w.key) p low) (entry_tag-entry_of (tag_of w.key) p low) (entry_effect h accepted p xs few slot (entry_of (tag_of w.key) p) spelt.0)
