@@ -83,7 +83,8 @@ module _ (h : Held) (w : Write) (is : IsWrite w) (stood : StandsFor h.o (bucket_
   differ r r' i i' other is is' same =
       let low = λ (at : HasSlot h b r.key r i). at.entry.in_bucket in
       let low' = λ (at : HasSlot h b r'.key r' i'). at.entry.in_bucket in
-      let keys = λ (at : HasSlot h b r.key r i) (at' : HasSlot h b r'.key r' i'). slot_key h b i' r'.key r.key r' r at' (subst (HasSlot h b r.key r) same at) in
+      let keys = λ (at : HasSlot h b r.key r i) (at' : HasSlot h b r'.key r' i').
+      slot_key h b i' r'.key r.key r' r at' (subst (HasSlot h b r.key r) same at) in
       grind (arith, is, is', same, low, low', keys, laid.has_its_key r.key r', other, true≢false)
 
   numbers_distinct : (rs : List Record) (all : AllOf Numbered rs) → IsUnique rs → IsDistinct eqb (numbers rs all)
@@ -148,7 +149,8 @@ module _ (h : Held) (w : Write) (is : IsWrite w) (stood : StandsFor h.o (bucket_
           let other = of_others h b w.key none i at.0 at.1 at.2 in
           let its_key = sym (laid.found_key at.0 h.m.records at.1 at.2.is) in
           let number : IsNumber at.1 i = inr ((λ mine. other (its_key ∙ mine)), subst (λ (k : List ℕ). HasSlot h b k at.1 i) its_key at.2) in
-          found_among at.0 at.1 i number (written_same (options_in h.o) h.m w at.0 other ∙ at.2.is) (omega (arith, at.2.offset, (live i low).1)) at.2.spelt.bucket
+          found_among at.0 at.1 i number (written_same (options_in h.o) h.m w at.0 other ∙ at.2.is) (omega (arith, at.2.offset, (live i low).1))
+          at.2.spelt.bucket
 
       each : (i : ℕ) → i < SLOTS + 1 → list_any (eqb i) (numbers its all_numbered) ≡ true
       each i low = elim (cases_lt i SLOTS) [

@@ -85,7 +85,8 @@ module _ (h : Held) where
   slot_key b slot key key' r r' at at' = only_key h.o h.kept b b _ _ key key' _ _ at.spelt at'.spelt refl
 
   -- a live entry's key has a record
-  pub has_slot : (b slot x : ℕ) (key : List ℕ) (cell : Cell) → HasLiveEntry h.o b b slot x → Spells h.o b x key cell → (r : Record) × HasSlot h b key r slot
+  pub has_slot : (b slot x : ℕ) (key : List ℕ) (cell : Cell) → HasLiveEntry h.o b b slot x → Spells h.o b x key cell
+      → (r : Record) × HasSlot h b key r slot
   has_slot b slot x key cell e sp =
       let spelt = subst (λ (z : ℕ). Spells h.o b z key cell) (sym e.found) sp in
       let entry = subst (HasLiveEntry h.o b b slot) (sym e.found) e in

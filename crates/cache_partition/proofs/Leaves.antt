@@ -72,7 +72,8 @@ pub first_least : (here : Record → Bool) (from upto : ℕ) (rs : List Record) 
 first_least here from upto [] f r key laid is found passes = cc
 first_least here from upto (x ∷ rs) f r key laid is found passes =
     elim (here x) as (λ b. here x ≡ b → cond b (Some x) (find here rs) ≡ Some f → f.offset ≤ r.offset) [
-      | true ↦ λ yes e. subst (λ (z : Record). z.offset ≤ r.offset) (same_Some x f e) (laid_found (has_key key) x.offset upto (x ∷ rs) r (omega arith, laid.1) found).0
+      | true ↦ λ yes e. subst (λ (z : Record). z.offset ≤ r.offset) (same_Some x f e)
+          (laid_found (has_key key) x.offset upto (x ∷ rs) r (omega arith, laid.1) found).0
       | false ↦ λ no e. elim (has_key key x) as (λ b. cond b (Some x) (find (has_key key) rs) ≡ Some r → f.offset ≤ r.offset) [
         | true ↦ λ e'. absurd (true≢false (sym passes ∙ (ap here (sym (same_Some x r e')) ∙ no)))
         | false ↦ λ e'. first_least here (x.offset + x.room) upto rs f r key laid.1 e e' passes

@@ -29,7 +29,8 @@ module _ (h : Held) (a : AcceptedWrite h.o) where
     pub leaves : Leaves h a.w IsLost
     pub own : ¬ (IsLost a.w.key)
     pub others : (i : ℕ) (key : List ℕ) (r : Record) → i ≢ slot → HasSlot h b key r i → (key ≢ a.w.key) × ¬ (IsLost key)
-    pub gone : (key : List ℕ) (r : Record) → HasSlot h b key r slot → tail_of (made h a.w).stamp ≤ r.offset + h.o.shape.words → (key ≡ a.w.key) ⊎ IsLost key
+    pub gone : (key : List ℕ) (r : Record) → HasSlot h b key r slot → tail_of (made h a.w).stamp ≤ r.offset + h.o.shape.words
+        → (key ≡ a.w.key) ⊎ IsLost key
 
   -- the partition before the write's end, with these words
   module _ (words : List ℕ) where
@@ -72,8 +73,8 @@ module _ (h : Held) (a : AcceptedWrite h.o) where
           pub whose : ((i ≡ slot) × (key ≡ a.w.key)) ⊎ ((i ≢ slot) × (key ≢ a.w.key) × HasSlot h b key r i)
 
         -- an entry of another key that the machine leaves spells what it spelt
-        stays : (i : ℕ) (key : List ℕ) (r : Record) → HasSlot h b key r i → key ≢ a.w.key → tail_of (stamp_in q) ≤ r.offset + h.o.shape.words → ¬ (before.IsLost key)
-            → Spells q b (entry_in h.o b i) key (cell_at r).0
+        stays : (i : ℕ) (key : List ℕ) (r : Record) → HasSlot h b key r i → key ≢ a.w.key → tail_of (stamp_in q) ≤ r.offset + h.o.shape.words
+            → ¬ (before.IsLost key) → Spells q b (entry_in h.o b i) key (cell_at r).0
         stays i key r at other live kept =
             let x = entry_in h.o b i in
             let left = before.leaves.on key r (written_same (options_in h.o) h.m a.w key other ∙ at.is) (omega (arith, stamp_now, live)) kept in
@@ -81,12 +82,14 @@ module _ (h : Held) (a : AcceptedWrite h.o) where
             let keeps : Keeps h.o a words x = λ k l.
             subst (λ (z : ℕ). item_in q (z + k) ≡ item_in h.o (z + k)) at.offset (effect.others (r.offset + k) (λ j less same.
             other_rooms (options_in h.o) h.kept.shape.ranges h.o.history h.kept.history.writes a.w a.is h.m h.before (p + j) (belongs j less) key other r left k (omega arith) (omega arith))) in
-            spells_on h.o a words b x keeps key (cell_at r).0 (subst (λ (z : ℕ). Has (state_in q) key (cell_at r).0 z) at.offset (has_in n key r left)) at.spelt
+            let has = subst (λ (z : ℕ). Has (state_in q) key (cell_at r).0 z) at.offset (has_in n key r left) in
+            spells_on h.o a words b x keeps key (cell_at r).0 has at.spelt
 
         now_other : (i x : ℕ) → HasLiveEntry q b b i x → i ≢ slot → Now i x
         now_other i x e other =
             let live = live_is n b b i x e in
-            let was_live : tail_of (stamp_in h.o) ≤ entry_offset x + h.o.shape.words = omega (arith, live, h.kept.stamp, t.stamp, stamp_rises (options_in h.o) h.o.history a.w) in
+            let was_live : tail_of (stamp_in h.o) ≤ entry_offset x + h.o.shape.words =
+            omega (arith, live, h.kept.stamp, t.stamp, stamp_rises (options_in h.o) h.o.history a.w) in
             let same = sym (effect.entries i e.in_bucket other) ∙ e.found in
             let at = slot_record h b was i x (live_entry h b i x e.in_bucket same e.live.0 was_live) in
             let offset = at.2.offset ∙ ap entry_offset same in
@@ -98,7 +101,9 @@ module _ (h : Held) (a : AcceptedWrite h.o) where
         now c i x e =
             let main = in_main n b c i x e in
             dite (ℕ_discrete i slot)
-            (λ is. let its = own x (subst (λ (z : ℕ). HasLiveEntry q b b z x) is main) in record { key = a.w.key; r = its.0; now = its.1; whose = inl (is, refl) })
+            (λ is.
+            let its = own x (subst (λ (z : ℕ). HasLiveEntry q b b z x) is main) in
+            record { key = a.w.key; r = its.0; now = its.1; whose = inl (is, refl) })
             (now_other i x main)
 
         -- a key is spelt once
@@ -128,7 +133,8 @@ module _ (h : Held) (a : AcceptedWrite h.o) where
             omega (arith, stamp_is n, (window_kept (options_in h.o) new (machine n) key found.0 found.1).0) in
             let not_slot : at.0 ≢ slot = λ is. elim (before.gone key found.0 (subst (HasSlot h b key found.0) is at.1) (omega (arith, stamp_now))) [ inl mine ↦ other mine | inr lost ↦ was_left.1 lost ] in
             let x = entry_in h.o b at.0 in
-            let e = live_entry n b at.0 x at.1.entry.in_bucket (effect.entries at.0 at.1.entry.in_bucket not_slot) at.1.entry.live.0 (omega (arith, at.1.offset)) in
+            let same = effect.entries at.0 at.1.entry.in_bucket not_slot in
+            let e = live_entry n b at.0 x at.1.entry.in_bucket same at.1.entry.live.0 (omega (arith, at.1.offset)) in
             (b, at.0, x, e, subst (λ (z : Cell). Spells q b x key z) (sym found.3) (stays at.0 key found.0 at.1 other live was_left.1))
 
         pub stands : StandsFor q b
@@ -144,7 +150,8 @@ module _ (h : Held) (a : AcceptedWrite h.o) where
 
       -- a delete
       pub deleted : a.w.op ≡ Del → (slot x : ℕ) → Before slot → Effect slot x 0 [] → ((y : ℕ) → ¬ (HasLiveEntry q b b slot y)) → StandsFor q b
-      deleted op slot x before effect none = stands slot x 0 [] before effect (λ j less. absurd (omega arith)) (λ y e. absurd (none y e)) (λ r is. cc (sym (deleted_none h a.w op) ∙ is))
+      deleted op slot x before effect none =
+          stands slot x 0 [] before effect (λ j less. absurd (omega arith)) (λ y e. absurd (none y e)) (λ r is. cc (sym (deleted_none h a.w op) ∙ is))
 
       -- a put, which leaves its key this record with the new value: the slot's entry and item spell it
       pub put : a.w.op ≡ Put → (slot x : ℕ) → Before slot → slot < SLOTS → (r : Record) → record_of (made h a.w) a.w.key ≡ Some (record r { value = a.w.value })
@@ -190,7 +197,8 @@ module _ (h : Held) (a : AcceptedWrite h.o) where
   abbrev lives : List Record
   lives = leaves.lives h a.w a.is
 
-  -- a slot whose entry, where it stays live, spells the written key, which no other slot spells, or none of them where the write leaves the key no record
+  -- a slot whose entry, where it stays live, spells the written key, which no other slot spells, or none of them where the write leaves
+  -- the key no record
   free_slot : (slot : ℕ) → slot < SLOTS + 1 → (slot ≡ SLOTS → record_of (made h a.w) a.w.key ≡ None)
       → ((i : ℕ) (key : List ℕ) (r : Record) → i ≢ slot → HasSlot h b key r i → key ≢ a.w.key)
       → ((key : List ℕ) (r : Record) → HasSlot h b key r slot → tail_of (made h a.w).stamp ≤ r.offset + h.o.shape.words → key ≡ a.w.key) → Before slot
@@ -209,7 +217,8 @@ module _ (h : Held) (a : AcceptedWrite h.o) where
   pub own_slot : (slot : ℕ) (r : Record) → HasSlot h b a.w.key r slot → Before slot
   own_slot slot r at =
       let below = at.entry.in_bucket in
-      free_slot slot (omega arith) (λ last. absurd (omega arith)) (λ i key r' other at' same. other (one_slot h b (stood h.o a) i slot key a.w.key r' r at' at same))
+      free_slot slot (omega arith) (λ last. absurd (omega arith))
+      (λ i key r' other at' same. other (one_slot h b (stood h.o a) i slot key a.w.key r' r at' at same))
       (λ key r' at' live. slot_key h b slot key a.w.key r' r at' at)
 
   -- Where the key has no slot, all live entries spell other keys.
@@ -218,7 +227,8 @@ module _ (h : Held) (a : AcceptedWrite h.o) where
     -- a slot without an entry that stays live, or none of them where the write leaves the key no record
     pub dead_slot : (slot : ℕ) → slot < SLOTS + 1 → (slot ≡ SLOTS → record_of (made h a.w) a.w.key ≡ None)
         → ((key : List ℕ) (r : Record) → HasSlot h b key r slot → tail_of (made h a.w).stamp ≤ r.offset + h.o.shape.words → ⊥) → Before slot
-    dead_slot slot low no_record dead = free_slot slot low no_record (λ i key r other. of_others h b a.w.key none i key r) (λ key r at live. absurd (dead key r at live))
+    dead_slot slot low no_record dead =
+        free_slot slot low no_record (λ i key r other. of_others h b a.w.key none i key r) (λ key r at live. absurd (dead key r at live))
 
     -- where a record is appended for the key
     module _ (own : Record) (its_own : record_of (made h a.w) a.w.key ≡ Some own) (at_tail : own.offset ≡ tail_of h.m.stamp) (own_live : tail_of (made h a.w).stamp ≤ own.offset + h.o.shape.words) where
@@ -279,7 +289,8 @@ module _ (h : Held) (a : AcceptedWrite h.o) where
         slot_that_gives_way slot (passed full is) =
             let low = is.in_bucket in
             let gone = is.holds in
-            (low, dead_slot slot (omega arith) (λ last. absurd (omega arith)) (λ key r at live. omega (arith, at.offset, ap entry_offset (same slot low))))
+            let offset = ap entry_offset (same slot low) in
+            (low, dead_slot slot (omega arith) (λ last. absurd (omega arith)) (λ key r at live. omega (arith, at.offset, offset)))
         slot_that_gives_way slot (oldest full all is) = (
           is.in_bucket,
           oldest_slot slot is.in_bucket (λ i l. (λ zero. full i l (same i l ∙ zero), live_in all i l))

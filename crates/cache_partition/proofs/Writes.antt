@@ -189,7 +189,8 @@ module _ (o : OwnerState) (s : Kept o) (may : MayWrite o) (w : Write) (is : IsWr
           };
           closes = λ q at_q k.
               let is = at_q ∙ (ap (λ (n : ℕ). with_item (marked o accepted) r.0.offset n w.key w.value) room ∙ put_same o accepted r.0.offset xs (few_words r.0.room)) in
-              let live : tail_of (made h w).stamp ≤ r.0.offset + o.shape.words = omega (arith, kept.live, ap (λ (z : Cache). tail_of z.stamp) (leaves.is_rewritten h w r.0 op r.1)) in
+              let live : tail_of (made h w).stamp ≤ r.0.offset + o.shape.words =
+              omega (arith, kept.live, ap (λ (z : Cache). tail_of z.stamp) (leaves.is_rewritten h w r.0 op r.1)) in
               closes words (put h accepted words (subst Kept is k) op at.0 (entry_in o b at.0) (own_slot h accepted at.0 r.0 at.1) at.1.entry.in_bucket (record r.0 { key = w.key })
               (leaves.rewritten_own h w r.0 op r.1) (ap (λ (z : Option Record). begin_of z h.m) r.1) live at.1.entry.live.0 (sym at.1.offset) at.1.spelt.tag
               (put_effect h accepted r.0.offset xs (few_words r.0.room) at.0 (entry_in o b at.0)

@@ -12,7 +12,8 @@ returns-in_err-sought-clause-kept_offset g c =
     (subst (λ (z : Option ℕ). MatchOption z (HasNoSlot o c.args.sought.now.bucket c.args.key.now) (IsSlotOf o c.args.sought.now.bucket c.args.key.now)) c.in_err-sought.was c.requires.sought.found))
 
 pub overflow_add-sought : goal.overflow_add-sought
-overflow_add-sought g c = omega (arith, stamp_limit (g.W.OwnerWords.owner c.args.words.now) c.requires.kept c.args.sought.now.stamp c.requires.sought.stamp)
+overflow_add-sought g c =
+    omega (arith, stamp_limit (g.W.OwnerWords.owner c.args.words.now) c.requires.kept c.args.sought.now.stamp c.requires.sought.stamp)
 
 pub returns-clause-kept_offset : goal.returns-clause-kept_offset
 returns-clause-kept_offset g c =

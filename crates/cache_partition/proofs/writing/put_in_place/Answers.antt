@@ -25,7 +25,8 @@ closes g c steps = steps.closes _
     (c.rewrite.ensures.item ∙ ap (λ (q : OwnerState). with_item q c.args.offset (room_at q c.args.offset) c.args.key.now c.args.value.now) c.begin.ensures.marked) c.rewrite.ensures.kept
 
 pub overflow_add-stamp : goal.overflow_add-stamp
-overflow_add-stamp g c = omega (arith, stamp_limit (g.W.OwnerWords.owner c.args.words.now) c.requires.kept c.args.sought.now.stamp c.requires.sought.stamp)
+overflow_add-stamp g c =
+    omega (arith, stamp_limit (g.W.OwnerWords.owner c.args.words.now) c.requires.kept c.args.sought.now.stamp c.requires.sought.stamp)
 
 pub begin-requires-clause-stamp : goal.begin-requires-clause-stamp
 begin-requires-clause-stamp g c = stamp g (goal.at.begin-requires-clause-stamp g c).Start
