@@ -12,7 +12,6 @@ use Rattle.cache_partition.proofs.Words.{written_state, ℕ, ℕ_discrete, ◌+�
 use Rattle.cache_partition.proofs.Held.{HasSlot, Held, has_in, in_main, live_entry, live_is, machine, of_others, one_slot, record_in, slot_key}
 use Rattle.cache_partition.proofs.Held.{slot_of, slot_record, stamp_is}
 use Rattle.cache_partition.proofs.Leaves.{Leaves, deleted_none, made, some_found, step_stamp}
-use Rattle.cache_partition.proofs.Counts as counts
 use Rattle.cache_partition.proofs.Leaves as leaves
 
 module _ (h : Held) (a : AcceptedWrite h.o) where
@@ -204,7 +203,7 @@ module _ (h : Held) (a : AcceptedWrite h.o) where
       → ((key : List ℕ) (r : Record) → HasSlot h b key r slot → tail_of (made h a.w).stamp ≤ r.offset + h.o.shape.words → key ≡ a.w.key) → Before slot
   free_slot slot low no_record others its = record {
     IsLost = λ key. ⊥;
-    leaves = leaves.none_lost h a.w a.is (counts.few h a.w a.is (stood h.o a) slot low (λ r found live is. elim is [
+    leaves = leaves.none_lost h a.w a.is (leaves.few h a.w a.is (stood h.o a) slot low (λ r found live is. elim is [
       | inl mine ↦ cc (sym (no_record mine.1) ∙ (ap (record_of (made h a.w)) (sym mine.0) ∙ found))
       | inr at ↦ at.0 (its r.key r at.1 live)
     ]));
@@ -236,13 +235,13 @@ module _ (h : Held) (a : AcceptedWrite h.o) where
       module _ (slot : ℕ) (below : slot < SLOTS) (live : (i : ℕ) → i < SLOTS → (entry_in h.o b i ≢ 0) × (tail_of (made h a.w).stamp ≤ entry_offset (entry_in h.o b i) + h.o.shape.words))
           (least : (i : ℕ) → i < SLOTS → entry_offset (entry_in h.o b slot) ≤ entry_offset (entry_in h.o b i)) where
         many : count_by (here_of (options_in h.o) a.w) lives ≡ SLOTS + 1
-        many = counts.many h a.w a.is (stood h.o a) own its_own own_live none live
+        many = leaves.many h a.w a.is (stood h.o a) own its_own own_live none live
 
         first : (f : Record) × (find (here_of (options_in h.o) a.w) lives ≡ Some f)
         first = let all = many in some_found (here_of (options_in h.o) a.w) lives (omega arith)
 
         its : (key : List ℕ) × (r : Record) × HasSlot h b key r slot
-        its = counts.record_at h a.w a.is (stood h.o a) slot below (live slot below)
+        its = leaves.record_at h a.w a.is (stood h.o a) slot below (live slot below)
 
         first_begins : first.0.offset ≤ its.1.offset
         first_begins =
