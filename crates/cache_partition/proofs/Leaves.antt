@@ -229,8 +229,7 @@ module _ (h : Held) (w : Write) where
             | inl mine ↦ record { number = SLOTS; low = omega arith; number_is = inl (mine, refl); found = at.0.0; live = live }
             | inr other ↦
                 let slot = slot_of h b stood r.key r (eqb-true (bucket_in h.o r.key) b at.1) (sym (written_same (options_in h.o) h.m w r.key other) ∙ at.0.0) in
-                let low = slot.1.entry.in_bucket in
-                record { number = slot.0; low = omega arith; number_is = inr (other, slot.1); found = at.0.0; live = live }
+                record { number = slot.0; low = omega (arith, slot.1.entry.in_bucket); number_is = inr (other, slot.1); found = at.0.0; live = live }
           ]
 
       all_numbered : AllOf Numbered its

@@ -287,9 +287,8 @@ module _ (h : Held) (a : AcceptedWrite h.o) where
             (low, dead_slot slot (omega arith) (λ last. absurd (omega arith)) (λ key r at live. at.entry.live.0 (sym (same slot low) ∙ is.holds)))
         slot_that_gives_way slot (passed full is) =
             let low = is.in_bucket in
-            let gone = is.holds in
             let offset = ap entry_offset (same slot low) in
-            (low, dead_slot slot (omega arith) (λ last. absurd (omega arith)) (λ key r at live. omega (arith, at.offset, offset)))
+            (low, dead_slot slot (omega arith) (λ last. absurd (omega arith)) (λ key r at live. omega (arith, at.offset, offset, is.holds)))
         slot_that_gives_way slot (oldest full all is) = (
           is.in_bucket,
           oldest_slot slot is.in_bucket (λ i l. (λ zero. full i l (same i l ∙ zero), live_in all i l))

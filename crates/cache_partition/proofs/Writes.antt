@@ -95,7 +95,8 @@ module _ (o : OwnerState) (s : Kept o) (may : MayWrite o) (w : Write) (is : IsWr
 
   held_by : (offset : Option ℕ) → kept_offset o w ≡ offset → KeptAt (kept_record (options_in o) h.m w) offset
   held_by offset is = subst (KeptAt (kept_record (options_in o) h.m w)) (sym kept_is ∙ is)
-      (elim (kept_record (options_in o) h.m w) as (λ z. KeptAt z (option_map (λ (r : Record). r.offset) z)) [ None ↦ refl | Some r ↦ (r, refl, refl) ])
+      (elim (kept_record (options_in o) h.m w) as (λ z. KeptAt z (option_map (λ (r : Record). r.offset) z))
+      [ None ↦ refl | Some r ↦ (r, refl, refl) ])
 
   -- The stamp after it
 
