@@ -1,8 +1,5 @@
 pub mod Words
 pub mod Held
-pub mod Displaced
 pub mod Leaves
-pub mod Counts
 pub mod OneSlot
-pub mod Before
 pub mod Writes

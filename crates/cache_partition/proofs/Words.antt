@@ -1,27 +1,22 @@
 -- The words that the proofs of this crate speak in, passed on once.
-pub use mathlib.Core.Logic.{dite}
-pub use native.Mathlib.Decide.{ℕ_discrete}
-pub use Rattle.std.proofs.Common.{Bool, List, None, Option, Some, [], ap, arith, cond, eqb, false, get_or, inl, inr, length, refl, subst, subst₂, suc}
-pub use Rattle.std.proofs.Common.{sym, true, ℕ, ⊎_elim, ◌*◌, ◌++◌, ◌+◌, ◌<◌, ◌^◌, ◌∙◌, ◌∷◌, ◌≡◌, ◌≢◌, ◌≤◌, ◌⊎◌}
-pub use Rattle.std.proofs.lemmas.Bool.{cases_Bool, cases_lt, eq-eqb, eqb-true, le-leb, leb-false, leb-true, lt-leb, ne_eqb, true≢false}
+pub use Rattle.std.proofs.Common.{eqb}
+pub use Rattle.std.proofs.lemmas.Bool.{cases_Bool, le-leb, leb-false, leb-true, lt-leb, true≢false}
 pub use Rattle.std.proofs.lemmas.Bool.Decides.{nat_tests}
 pub use Rattle.std.proofs.lemmas.List.Sums.{length-filter}
 pub use Rattle.std.proofs.lemmas.Map.Keys.{IsDistinct-cons}
 pub use Rattle.std.proofs.lemmas.Map.Steps.{le-length_from_below, length-le_from_distinct_below}
 pub use Rattle.std.proofs.lemmas.Option.{same_Some}
 pub use Rattle.std.specs.Bool.{then_some}
-pub use Rattle.std.specs.List.{AllByRecursion as AllOf, count_by, filter, find, list_any}
+pub use Rattle.std.specs.List.{AllByRecursion as AllOf, filter, find, list_any}
 unfoldable pub use Rattle.std.specs.List.{IsDistinct}
-pub use Rattle.std.specs.Prelude.{IfSome, MatchOption, is_some, nat_le, option_map, ◌&&◌}
+pub use Rattle.std.specs.Prelude.{MatchOption, nat_le, ◌&&◌}
 pub use Rattle.mica_words.proofs.Fields.{entry_not_empty, entry_offset-entry_of, entry_tag-entry_of}
 pub use Rattle.mica_words.proofs.Hashes.{bucket_of_hash, tag_of-range, tag_of_hash}
 pub use Rattle.mica_words.proofs.ItemWords.{length-item_words}
 pub use Rattle.mica_words.proofs.Sizes.{item_size-most}
 pub use Rattle.mica_words.specs.Entry.{entry_of, entry_offset, entry_tag}
-pub use Rattle.mica_words.specs.Hash.{fnv1a, hash_bucket, hash_tag, tag_of}
-pub use Rattle.mica_words.specs.Header.{header_room}
-pub use Rattle.mica_words.specs.Item.{KeyFits, item_size, largest_item}
-pub use Rattle.mica_words.specs.Packing.{AreBytes}
+pub use Rattle.mica_words.specs.Hash.{hash_bucket, hash_tag, tag_of}
+pub use Rattle.mica_words.specs.declared.entry.TheConstants.{SLOTS}
 pub use Rattle.mica_words.specs.Spelling.{item_words}
 pub use Rattle.mica_words.specs.Stamp.{tail_of}
 pub use Rattle.mica_model.proofs.CacheKept.{IsKept, IsWritten, after_write_is, begin_of, here_of, keeps_put, left_of, live_of, offset_of, others_lack}
@@ -29,7 +24,7 @@ pub use Rattle.mica_model.proofs.CacheKept.{rewritten, rewritten_key, size_at_mo
 pub use Rattle.mica_model.proofs.CacheLaws.{fits_kept, kept_in, put_item, window_kept, written_same}
 pub use Rattle.mica_model.proofs.FateLaws.{miss_is_not_held}
 pub use Rattle.mica_model.proofs.Found.{all_filter, all_passes, all_weaker, count_cons, found_has, missed_all}
-pub use Rattle.mica_model.proofs.Histories.{accepted_is_length, cached_in, state_snoc}
+pub use Rattle.mica_model.proofs.Histories.{accepted_is_length}
 pub use Rattle.mica_model.proofs.Laid.{IsLaid, has_its_key as is_its_key, has_other_key, laid_found}
 pub use Rattle.mica_model.proofs.Rises.{stamp_rises}
 pub use Rattle.mica_model.proofs.Stamps.{stamp_small}
@@ -37,20 +32,22 @@ pub use Rattle.mica_model.specs.Answer.{IsAnswer}
 pub use Rattle.mica_model.specs.Cache.{Cache, Record, has_key, is_live, record_of}
 pub use Rattle.mica_model.specs.CacheFields.{IsUnique}
 pub use Rattle.mica_model.specs.CacheStep.{kept_record, new_record, others, reply_of, without_first}
-pub use Rattle.mica_model.specs.History.{Allows, MayGive, State, accepted_in, after as state_after, answer_of, cache_state}
-pub use Rattle.mica_model.specs.History.{stamp_in as stamp_of_state, stamp_of, value_in}
+pub use Rattle.mica_model.specs.History.{Allows, accepted_in, after as state_after, stamp_in as stamp_of_state}
 pub use Rattle.mica_model.specs.Limits.{most_stamp}
-pub use Rattle.mica_model.specs.Store.{Cell}
 pub use Rattle.mica_model.specs.Write.{IsWrite, is_accepted, size_of, write_of}
-pub use Rattle.mica_model.specs.declared.options.Mode.{Mode}
-pub use Rattle.mica_model.specs.declared.options.Mode.TheVariants.{Cache as CacheMode}
 pub use Rattle.mica_model.specs.declared.options.Options.{Options}
 pub use Rattle.mica_model.specs.declared.write.Answer.{Answer}
 pub use Rattle.mica_model.specs.declared.write.Op.{Op}
 pub use Rattle.mica_model.specs.declared.write.Op.TheVariants.{Del, Put}
 pub use Rattle.mica_model.specs.declared.write.Outcome.{Outcome}
 pub use Rattle.mica_model.specs.declared.write.Outcome.TheVariants.{Absent, Deleted, Stored, Worn}
-pub use Rattle.mica_model.specs.declared.write.Write.{Write}
+pub use Rattle.epoch_core.proofs.Vocabulary.{AreBytes, Bool, Cache as CacheMode, Cell, Has, HasLiveEntry, IfSome, IsLiveItem, IsMain, Kept, KeyFits}
+pub use Rattle.epoch_core.proofs.Vocabulary.{List, MayGive, Mode, None, Option, Some, Spells, StandsFor, State, Write, [], after, answer_of, ap}
+pub use Rattle.epoch_core.proofs.Vocabulary.{arith, bucket_in, cache_state, cached_in, cases_lt, cell_at, cond, count_by, dite, entry_in, eq-eqb}
+pub use Rattle.epoch_core.proofs.Vocabulary.{eqb-true, false, fnv1a, get_or, header_room, inl, inr, is_some, item_at, item_in, item_size, length}
+pub use Rattle.epoch_core.proofs.Vocabulary.{marked_in, ne_eqb, option_map, options_in, refl, room_in, stamp_in, stamp_of, state_in, state_snoc}
+pub use Rattle.epoch_core.proofs.Vocabulary.{subst, suc, sym, true, value_in, ℕ, ℕ_discrete, ⊎_elim, ◌*◌, ◌++◌, ◌+◌, ◌<◌, ◌^◌, ◌∙◌, ◌∷◌, ◌≡◌, ◌≢◌}
+pub use Rattle.epoch_core.proofs.Vocabulary.{◌≤◌, ◌⊎◌}
 pub use Rattle.epoch_core.proofs.CacheBuckets.{alone, stands_cached}
 pub use Rattle.epoch_core.proofs.EventWords.{entry_puts, entry_puts_other, item_puts_entry}
 pub use Rattle.epoch_core.proofs.Keys.{has_its_key}
@@ -60,15 +57,9 @@ pub use Rattle.epoch_core.proofs.PartitionLaws.{AcceptedWrite, Keeps, accepted_s
 pub use Rattle.epoch_core.proofs.PartitionLaws.{may_begin, may_end, may_mark, new_stamp, only_key, put_entry, put_item as item_put, put_long}
 pub use Rattle.epoch_core.proofs.PartitionLaws.{put_others, put_same, put_stamp, put_words, same_cell, same_or_other, spells_item, spells_on}
 pub use Rattle.epoch_core.proofs.PartitionLaws.{spelt_key, stands_idle, stood, worn_step, written, written_marked, written_state}
-pub use Rattle.epoch_core.specs.Events.{MayBegin, MayEnd, MayMark, after}
-pub use Rattle.epoch_core.specs.ItemAt.{HasKey}
-pub use Rattle.epoch_core.specs.Kept.{Kept}
-pub use Rattle.epoch_core.specs.Layout.{item_at}
-pub use Rattle.epoch_core.specs.LiveEntry.{HasLiveEntry, IsLiveItem}
-pub use Rattle.epoch_core.specs.OwnerState.{bucket_in, entry_in, item_in, marked_in, options_in, stamp_in, state_in}
+pub use Rattle.epoch_core.specs.Events.{MayBegin, MayEnd, MayMark}
 pub use Rattle.epoch_core.specs.OwnerStep.{IsOwnerStep}
-pub use Rattle.epoch_core.specs.Shape.{IsMain}
-pub use Rattle.epoch_core.specs.StandsFor.{Has, IsOffset, Spells, SpellsItem, StandsFor, cell_at, room_in}
+pub use Rattle.epoch_core.specs.StandsFor.{IsOffset, SpellsItem}
 pub use Rattle.epoch_core.specs.declared.event.Event.TheVariants.{Begins, Ends, PutsEntry}
 pub use Rattle.epoch_core.specs.declared.shape.Shape.{Shape}
 pub use Rattle.epoch_core.specs.declared.state.OwnerState.{OwnerState}

@@ -1,24 +1,23 @@
 -- A write from its begin to its end: when its events may happen, and what it has made of the partition.
 use Rattle.mica_model.specs.CacheStep as cs
+use Rattle.std.proofs.lemmas.Grind.{common_steps}
 use Rattle.cache_partition.proofs.Words.{AcceptedWrite, Allows, AreBytes, Begins, Bool, Cache, CacheMode, Del, Ends, Gains, HasNoSlot, Idle, IsMain}
 use Rattle.cache_partition.proofs.Words.{IsOwnerStep, IsSlotOf, IsWrite, Kept, KeyFits, LeavesItem, List, MatchOption, MayAppend, MayBegin, MayEnd}
 use Rattle.cache_partition.proofs.Words.{MayGive, MayMark, MayRewrite, MayWrite, None, Op, Option, Options, Outcome, OwnerState, Put, PutsEntry}
-use Rattle.cache_partition.proofs.Words.{Record, Some, SpellsItem, StandsFor, State, Takes, Worn, Write, [], accepted_in, accepted_is_length}
+use Rattle.cache_partition.proofs.Words.{Record, SLOTS, Some, SpellsItem, StandsFor, State, Takes, Worn, Write, [], accepted_in, accepted_is_length}
 use Rattle.cache_partition.proofs.Words.{accepted_step, after, ap, arith, begin_of, bucket_in, cached_in, cell_at, cond, ended_gains, entry_in}
 use Rattle.cache_partition.proofs.Words.{entry_not_empty, entry_of, entry_offset, entry_offset-entry_of, entry_tag-entry_of, false, fits_kept}
-use Rattle.cache_partition.proofs.Words.{had_record, had_record_by, inl, inr, is_accepted, is_live, is_some, item_in, item_room, item_size}
-use Rattle.cache_partition.proofs.Words.{item_words, keeps_put, kept_offset, kept_offset_by, kept_record, largest_item, le-leb, leb-false, length}
-use Rattle.cache_partition.proofs.Words.{length-item_words, lt-leb, main, marked, marked_in, marked_item, marked_with, may_begin, may_end, may_mark}
-use Rattle.cache_partition.proofs.Words.{most_stamp, nat_le, new_record, option_map, options_in, put_entry, put_same, put_stamp, put_words, record_of}
-use Rattle.cache_partition.proofs.Words.{refl, room_at, room_in, room_is, size_at_most, size_of, stamp_in, stamp_of, stamp_of_state, stamp_small}
-use Rattle.cache_partition.proofs.Words.{state_after, state_snoc, stood, subst, sym, tag_of, tag_of-range, tail_of, then_some, true, with_item}
-use Rattle.cache_partition.proofs.Words.{write_of, written, written_marked, written_record, ℕ, ◌&&◌, ◌*◌, ◌++◌, ◌+◌, ◌<◌, ◌^◌, ◌∙◌, ◌∷◌, ◌≡◌, ◌≤◌}
-use Rattle.cache_partition.proofs.Words.{◌⊎◌}
+use Rattle.cache_partition.proofs.Words.{had_record, had_record_by, is_accepted, is_live, is_some, item_in, item_room, item_size, item_words}
+use Rattle.cache_partition.proofs.Words.{keeps_put, kept_offset, kept_offset_by, kept_record, leb-false, length, length-item_words, lt-leb, main}
+use Rattle.cache_partition.proofs.Words.{marked, marked_in, marked_item, marked_with, may_begin, may_end, may_mark, most_stamp, nat_le, nat_tests}
+use Rattle.cache_partition.proofs.Words.{new_record, option_map, options_in, put_entry, put_same, put_stamp, put_words, record_of, refl, room_at}
+use Rattle.cache_partition.proofs.Words.{room_in, room_is, size_at_most, size_of, stamp_in, stamp_of, stamp_of_state, stamp_small, state_after}
+use Rattle.cache_partition.proofs.Words.{state_snoc, stood, subst, sym, tag_of, tag_of-range, tail_of, then_some, true, with_item, write_of, written}
+use Rattle.cache_partition.proofs.Words.{written_marked, written_record, ℕ, ◌&&◌, ◌*◌, ◌++◌, ◌+◌, ◌<◌, ◌^◌, ◌∙◌, ◌∷◌, ◌≡◌, ◌≤◌, ◌⊎◌}
 use Rattle.cache_partition.proofs.Leaves as leaves
 use Rattle.cache_partition.proofs.Held.{Held, found_slot, held, machine, no_record, slot_of, stamp_is, stands_at}
-use Rattle.cache_partition.proofs.Before.{dead_slot, own_slot, slot_that_gives_way}
+use Rattle.cache_partition.proofs.OneSlot.{Before, dead_slot, deleted, entry_effect, own_slot, put, put_effect, slot_that_gives_way}
 use Rattle.cache_partition.proofs.Leaves.{made}
-use Rattle.cache_partition.proofs.OneSlot.{Before, deleted, entry_effect, put, put_effect}
 
 -- Replies
 
@@ -32,11 +31,9 @@ may_give : (o : OwnerState) → MayWrite o → (w : Write) → MayGive (options_
 unfolding cs.reply
 may_give o may w =
     let there = cached_in (options_in o) may.cached o.history in
-    let count = ap accepted_in there.1 in
-    let all = accepted_is_length (options_in o) o.history in
-    let less = may.not_worn in
+    let less : there.0.accepted < o.shape.wear = omega (arith, ap accepted_in there.1, accepted_is_length (options_in o) o.history, may.not_worn) in
     subst (λ (z : State). Allows (options_in o) z w (cs.reply_of w.op (options_in o) w (had_record_by z w.key))) (sym there.1)
-    (ap (λ b. cond b Worn (cs.reply_of w.op (options_in o) w (is_some (record_of there.0 w.key)))) (sym (lt-leb o.shape.wear there.0.accepted (omega arith))))
+    (ap (λ b. cond b Worn (cs.reply_of w.op (options_in o) w (is_some (record_of there.0 w.key)))) (sym (lt-leb o.shape.wear there.0.accepted less)))
 
 -- where the state is not worn
 pub may_write : (o : OwnerState) → o.phase ≡ Idle → o.shape.mode ≡ CacheMode → nat_le o.shape.wear (length o.history) ≡ false → MayWrite o
@@ -52,10 +49,7 @@ delete_is key key_fits key_bytes = record { key = key_fits; key_bytes = key_byte
 
 -- the stamp stays far below the limit of a word
 pub stamp_limit : (o : OwnerState) → Kept o → (stamp : ℕ) → stamp ≡ stamp_in o → stamp ≤ most_stamp
-stamp_limit o s stamp is =
-    let small = stamp_small (options_in o) s.shape.ranges o.history s.history.accepted s.history.writes in
-    let stamp_is = s.stamp in
-    omega arith
+stamp_limit o s stamp is = omega (arith, s.stamp, is, stamp_small (options_in o) s.shape.ranges o.history s.history.accepted s.history.writes)
 
 -- What a write ends with
 
@@ -86,9 +80,8 @@ pub record Appends (o : OwnerState) (w : Write) (b t p : ℕ) : Type 0 where
       → Takes q b old slot → tag ≡ tag_of w.key → q' ≡ after (PutsEntry b slot (entry_of tag p)) q → Kept q' → Closes o w b t q'
 
 -- the record that keeps a put, by its offset
-kept_by : (found : Option Record) → MatchOption (option_map (λ (r : Record). r.offset) found) (found ≡ None) (λ p. (r : Record) × (found ≡ Some r) × (r.offset ≡ p))
-kept_by None = refl
-kept_by (Some r) = (r, refl, refl)
+abbrev KeptAt : Option Record → Option ℕ → Type 0
+KeptAt found offset = MatchOption offset (found ≡ None) (λ p. (r : Record) × (found ≡ Some r) × (r.offset ≡ p))
 
 module _ (o : OwnerState) (s : Kept o) (may : MayWrite o) (w : Write) (is : IsWrite w) where
   abbrev b : ℕ
@@ -100,10 +93,10 @@ module _ (o : OwnerState) (s : Kept o) (may : MayWrite o) (w : Write) (is : IsWr
   kept_is : kept_offset o w ≡ option_map (λ (r : Record). r.offset) (kept_record (options_in o) h.m w)
   kept_is = ap (λ (z : State). kept_offset_by (options_in o) z w) h.before
 
-  held_by : (offset : Option ℕ) → kept_offset o w ≡ offset
-      → MatchOption offset (kept_record (options_in o) h.m w ≡ None) (λ p. (r : Record) × (kept_record (options_in o) h.m w ≡ Some r) × (r.offset ≡ p))
-  held_by offset is = subst (λ (z : Option ℕ). MatchOption z (kept_record (options_in o) h.m w ≡ None) (λ p. (r : Record) × (kept_record (options_in o) h.m w ≡ Some r) × (r.offset ≡ p)))
-      (sym kept_is ∙ is) (kept_by (kept_record (options_in o) h.m w))
+  held_by : (offset : Option ℕ) → kept_offset o w ≡ offset → KeptAt (kept_record (options_in o) h.m w) offset
+  held_by offset is = subst (KeptAt (kept_record (options_in o) h.m w)) (sym kept_is ∙ is)
+      (elim (kept_record (options_in o) h.m w) as (λ z. KeptAt z (option_map (λ (r : Record). r.offset) z))
+      [ None ↦ refl | Some r ↦ (r, refl, refl) ])
 
   -- The stamp after it
 
@@ -164,18 +157,14 @@ module _ (o : OwnerState) (s : Kept o) (may : MayWrite o) (w : Write) (is : IsWr
               (deleted h accepted (after (PutsEntry b slot 0) (marked o accepted)).words (subst Kept at k) op slot 0 (own_slot h accepted slot own.0 own.1) effect
               (λ y e. e.live.0 (sym e.found ∙ effect.here))) q at;
           absent = λ lacks q at k. closes (marked o accepted).words
-              (deleted h accepted (marked o accepted).words (subst Kept at k) op 15 _ (dead_slot h accepted lacks 15 (omega arith) (λ last. leaves.deleted_none h w op) (λ y e live. let below = e.in_bucket in absurd (omega arith)))
-              (put_effect h accepted 0 [] none 15 _ refl) (λ y e. let below = e.in_bucket in absurd (omega arith))) q at;
+              (deleted h accepted (marked o accepted).words (subst Kept at k) op SLOTS _ (dead_slot h accepted lacks SLOTS (omega arith) (λ last. leaves.deleted_none h w op) (λ key r at live. let below = at.entry.in_bucket in absurd (omega arith)))
+              (put_effect h accepted 0 [] none SLOTS _ refl) (λ y e. let below = e.in_bucket in absurd (omega arith))) q at;
         }
 
     -- A put
 
     few_words : (room : ℕ) → length (item_words room w.key w.value) ≤ o.shape.words
-    few_words room =
-        let long = length-item_words room w.key w.value in
-        let size : size_of w ≤ largest_item = size_at_most w is in
-        let least = s.shape.ranges.words.0 in
-        omega arith
+    few_words room = omega (arith, length-item_words room w.key w.value, size_at_most w is, s.shape.ranges.words.0)
 
     -- it leaves its key this record
     leaves_item : (p room : ℕ) → record_of (made h w) w.key ≡ Some (record { key = w.key; value = w.value; offset = p; room = room })
@@ -201,10 +190,10 @@ module _ (o : OwnerState) (s : Kept o) (may : MayWrite o) (w : Write) (is : IsWr
           };
           closes = λ q at_q k.
               let is = at_q ∙ (ap (λ (n : ℕ). with_item (marked o accepted) r.0.offset n w.key w.value) room ∙ put_same o accepted r.0.offset xs (few_words r.0.room)) in
-              let stamp = ap (λ (z : Cache). tail_of z.stamp) (leaves.is_rewritten h w r.0 op r.1) in
-              let live = kept.live in
+              let live : tail_of (made h w).stamp ≤ r.0.offset + o.shape.words =
+              omega (arith, kept.live, ap (λ (z : Cache). tail_of z.stamp) (leaves.is_rewritten h w r.0 op r.1)) in
               closes words (put h accepted words (subst Kept is k) op at.0 (entry_in o b at.0) (own_slot h accepted at.0 r.0 at.1) at.1.entry.in_bucket (record r.0 { key = w.key })
-              (leaves.rewritten_own h w r.0 op r.1) (ap (λ (z : Option Record). begin_of z h.m) r.1) (omega arith) at.1.entry.live.0 (sym at.1.offset) at.1.spelt.tag
+              (leaves.rewritten_own h w r.0 op r.1) (ap (λ (z : Option Record). begin_of z h.m) r.1) live at.1.entry.live.0 (sym at.1.offset) at.1.spelt.tag
               (put_effect h accepted r.0.offset xs (few_words r.0.room) at.0 (entry_in o b at.0)
               (put_entry o accepted r.0.offset xs (few_words r.0.room) b at.0 (let main = main o accepted in omega arith) at.1.entry.in_bucket))) q is;
         })
@@ -231,7 +220,7 @@ module _ (o : OwnerState) (s : Kept o) (may : MayWrite o) (w : Write) (is : IsWr
       own_live : tail_of (made h w).stamp ≤ p + o.shape.words
       own_live = let most = (leaves.written h w is).most in let least = s.shape.ranges.words.0 in let now = stamp_is h in omega arith
 
-      before : (old : Option ℕ) (slot : ℕ) → MatchOption old (HasNoSlot o b w.key) (IsSlotOf o b w.key) → Takes stored b old slot → (slot < 15) × Before h accepted slot
+      before : (old : Option ℕ) (slot : ℕ) → MatchOption old (HasNoSlot o b w.key) (IsSlotOf o b w.key) → Takes stored b old slot → (slot < SLOTS) × Before h accepted slot
       before None slot none gives = slot_that_gives_way h accepted none (new_record h.m w.key w.value) its_own refl own_live stored refl
           (λ i l. put_entry o accepted p xs few b i (let main = main o accepted in omega arith) l) stored_stamp slot gives
       before (Some old) slot found same =
@@ -239,11 +228,10 @@ module _ (o : OwnerState) (s : Kept o) (may : MayWrite o) (w : Write) (is : IsWr
           let own = found_slot h b (stood o accepted) w.key refl is.key_bytes slot its in
           (its.in_bucket, own_slot h accepted slot own.0 own.1)
 
-      stands : (slot : ℕ) → (slot < 15) × Before h accepted slot → Kept (after (PutsEntry b slot (entry_of (tag_of w.key) p)) stored)
+      stands : (slot : ℕ) → (slot < SLOTS) × Before h accepted slot → Kept (after (PutsEntry b slot (entry_of (tag_of w.key) p)) stored)
           → StandsFor (after (PutsEntry b slot (entry_of (tag_of w.key) p)) stored) b
       stands slot spelt k =
-          let small = stamp_limit o s h.m.stamp (sym (stamp_is h)) in
-          let low : p < 2 ^ 48 = omega arith in
+          let low : p < 2 ^ 48 = omega (arith, stamp_limit o s h.m.stamp (sym (stamp_is h))) in
           put h accepted (after (PutsEntry b slot (entry_of (tag_of w.key) p)) stored).words k op slot (entry_of (tag_of w.key) p) spelt.1 spelt.0 (new_record h.m w.key w.value)
           its_own (ap (λ (z : Option Record). begin_of z h.m) (held_by None keeps)) own_live (entry_not_empty (tag_of w.key) p (tag_of-range w.key).0)
           (entry_offset-entry_of (tag_of w.key) p low) (entry_tag-entry_of (tag_of w.key) p low) (entry_effect h accepted p xs few slot (entry_of (tag_of w.key) p) spelt.0)
@@ -277,10 +265,7 @@ module _ (o : OwnerState) (s : Kept o) (may : MayWrite o) (w : Write) (is : IsWr
       let offset_held = offset_is ∙ sym own.1.offset in
       let room_held = room_now ∙ room_is o s c (entry_in o c slot) w.key (cell_at own.0).0 own.1.spelt in
       let stamp_held = stamp_now ∙ stamp_is h in
-      let may_keep : fits ≡ (nat_le (size_of w) room && is_live o.shape.words (stamp + 1) offset) = elim fits_is [
-        | inl fit ↦ fit.1 ∙ ap (λ b. b && is_live o.shape.words (stamp + 1) offset) (sym (le-leb (size_of w) room fit.0))
-        | inr not ↦ not.1 ∙ ap (λ b. b && is_live o.shape.words (stamp + 1) offset) (sym (lt-leb (size_of w) room not.0))
-      ] in
+      let may_keep : fits ≡ (nat_le (size_of w) room && is_live o.shape.words (stamp + 1) offset) = grind (arith, nat_tests, common_steps, fits_is) in
       let offset_of_kept = λ (z : Option Record). option_map (λ (r : Record). r.offset) z in
       (λ j. then_some ((may_keep ∙ (λ j. nat_le (size_of w) (room_held j) && is_live o.shape.words (stamp_held j + 1) (offset_held j))) j) (offset_held j))
       ∙ (elim (cs.may_keep (options_in o) h.m w own.0) as (λ b. then_some b own.0.offset ≡ offset_of_kept (cond b (Some own.0) None)) [ true ↦ refl | false ↦ refl ]

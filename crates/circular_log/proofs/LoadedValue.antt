@@ -27,9 +27,7 @@ bytes_from o p n = flat_map (to_le_bytes w64) (words_from o p n)
 
 length-words_from : (o : OwnerState) (p n : ℕ) → length (words_from o p n) ≡ n
 length-words_from o p zero = refl
-length-words_from o p (suc n) =
-    let rest = length-words_from o p n in
-    omega (arith, length-append (words_from o p n) (item_in o (p + n) ∷ []))
+length-words_from o p (suc n) = omega (arith, length-words_from o p n, length-append (words_from o p n) (item_in o (p + n) ∷ []))
 
 word_from : (o : OwnerState) (p n k : ℕ) → k < n → get_or (words_from o p n) k 0 ≡ item_in o (p + k)
 word_from o p zero k below = absurd (omega arith)
@@ -59,15 +57,13 @@ module _ (o : OwnerState) (p : ℕ) (key : List ℕ) (cell : Cell) (item : IsIte
 
   pub key_len_is : (word : ℕ) → word ≡ item_in o p → header_key_len word ≡ length key
   key_len_is word is =
-      let room = item.room_fits in
-      let few = item.key_fits.1 in
-      ap header_key_len (is ∙ header_is) ∙ header_key_len-header_of cell.room (length key) (length cell.value) room (omega arith)
+      ap header_key_len (is ∙ header_is)
+      ∙ header_key_len-header_of cell.room (length key) (length cell.value) item.room_fits (omega (arith, item.key_fits.1))
 
   pub value_len_is : (word : ℕ) → word ≡ item_in o p → header_value_len word ≡ length cell.value
   value_len_is word is =
-      let room = item.room_fits in
-      let few = item.key_fits.1 in
-      ap header_value_len (is ∙ header_is) ∙ header_value_len-header_of cell.room (length key) (length cell.value) room (omega arith)
+      ap header_value_len (is ∙ header_is)
+      ∙ header_value_len-header_of cell.room (length key) (length cell.value) item.room_fits (omega (arith, item.key_fits.1))
 
   value_word_is : (k : ℕ) → k < words_for (length cell.value) → item_in o (p + 2 + words_for (length key) + k) ≡ get_or (packed cell.value) k 0
   value_word_is k below =

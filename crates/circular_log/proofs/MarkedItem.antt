@@ -40,10 +40,8 @@ module _ (o : OwnerState) (s : Kept o) (p room : ℕ) (key value : List ℕ) whe
   tail_small : (b : ℕ) (write : Write) (before : History) → o.phase ≡ Marked b write before → stamp_of (options_in o) before ≤ most_stamp
   tail_small b write before is =
       let fits = subst (PhaseFits o) is s.phase in
-      let rises = stamp_rises (options_in o) before write in
       let small = stamp_small (options_in o) s.shape.ranges o.history s.history.accepted s.history.writes in
-      let same = ap (stamp_of (options_in o)) fits.1 in
-      omega arith
+      omega (arith, small, stamp_rises (options_in o) before write, ap (stamp_of (options_in o)) fits.1)
 
   -- the item ends before the tail after it
   low : (before : History) → AllByRecursion IsWrite before → (write : Write) → IsWrite write → (now : State) → state_of (options_in o) before ≡ now → stamp_in now ≤ most_stamp
@@ -52,8 +50,7 @@ module _ (o : OwnerState) (s : Kept o) (p room : ℕ) (key value : List ℕ) whe
       let written = after_write_is (options_in o) now (kept_in (options_in o) before writes now at) write is in
       let end = (laid_found (has_key write.key) 0 (tail_of (after_write (options_in o) now write).stamp) (after_write (options_in o) now write).records item written.laid stored).1 in
       let fits = (found_has IsRecord (has_key write.key) (after_write (options_in o) now write).records item written.are stored).size in
-      let most = written.most in
-      omega arith
+      omega (arith, end, fits, small, written.most)
   low before writes write is (store_state now) at small stored = absurd (none-some item stored)
 
   may_put : (phase : Phase) → o.phase ≡ phase → WhenMarked phase (λ b write before. written_record (options_in o) (state_of (options_in o) before) write ≡ Some item) → MayPutWords o p (item_size key value)

@@ -3,6 +3,7 @@ use Rattle.std.proofs.Common.{◌≡◌, ◌≢◌, ℕ, ◌+◌, ◌<◌, ◌�
 use Rattle.mica_words.specs.Hash.{fnv1a, hash_tag, tag_of}
 use Rattle.mica_words.specs.Entry.{entry_tag, entry_offset}
 use Rattle.mica_words.specs.Stamp.{tail_of}
+use Rattle.mica_words.specs.declared.entry.TheConstants.{SLOTS}
 use Rattle.mica_words.proofs.Hashes.{tag_of_hash}
 use Rattle.epoch_core.specs.declared.state.OwnerState.{OwnerState}
 use Rattle.epoch_core.specs.OwnerState.{stamp_in, entry_in}
@@ -36,27 +37,19 @@ looks o now same b slot key tag tail words entry offset s read at =
     record { seeks = s; entry_is = entry_is; offset_is = at ∙ ap entry_offset entry_is }
 
 module _ (o : OwnerState) (b slot : ℕ) (key : List ℕ) (tag tail words entry offset : ℕ) (l : Looks o b slot key tag tail words entry offset) where
-  pub found : slot < 15 → entry_tag entry ≡ tag → tail ≤ offset + words → (z : OwnerState) → z ≡ o → HasKey z offset key → IsSlotOf o b key slot
-  found small tags live z is has =
-      let e = l.offset_is in
-      let t = l.seeks.tail_is in
-      let w = l.seeks.words_are in record {
-        in_bucket = small;
-        tag = ap entry_tag (sym l.entry_is) ∙ (tags ∙ l.seeks.tag_is);
-        live = omega arith;
-        item = subst₂ (λ (n : OwnerState) (x : ℕ). HasKey n x key) is e has;
-      }
+  pub found : slot < SLOTS → entry_tag entry ≡ tag → tail ≤ offset + words → (z : OwnerState) → z ≡ o → HasKey z offset key → IsSlotOf o b key slot
+  found small tags live z is has = record {
+    in_bucket = small;
+    tag = ap entry_tag (sym l.entry_is) ∙ (tags ∙ l.seeks.tag_is);
+    live = omega (arith, live, l.offset_is, l.seeks.tail_is, l.seeks.words_are);
+    item = subst₂ (λ (n : OwnerState) (x : ℕ). HasKey n x key) is l.offset_is has;
+  }
 
   pub of_other_tag : entry_tag entry ≢ tag → ¬ (IsSlotOf o b key slot)
   of_other_tag other is = other (ap entry_tag l.entry_is ∙ (is.tag ∙ sym l.seeks.tag_is))
 
   pub passed : offset + words < tail → ¬ (IsSlotOf o b key slot)
-  passed gone is =
-      let e = l.offset_is in
-      let t = l.seeks.tail_is in
-      let w = l.seeks.words_are in
-      let live = is.live in
-      omega arith
+  passed gone is = omega (arith, gone, is.live, l.offset_is, l.seeks.tail_is, l.seeks.words_are)
 
   pub of_other_key : (z : OwnerState) → z ≡ o → ¬ (HasKey z offset key) → ¬ (IsSlotOf o b key slot)
   of_other_key z same other is = other (subst₂ (λ (n : OwnerState) (x : ℕ). HasKey n x key) (sym same) (sym l.offset_is) is.item)

@@ -1,6 +1,5 @@
 use Rattle.cache_partition.proofs.Words.{Del, HasNoSlot, IsSlotOf, IsWrite, Kept, MatchOption, MayEnd, Option, OwnerState, PutsEntry, Write, []}
-use Rattle.cache_partition.proofs.Words.{after, ap, arith, marked_with, options_in, refl, stamp_of, subst, sym, write_of, ℕ, ◌++◌, ◌+◌, ◌∙◌}
-use Rattle.cache_partition.proofs.Words.{◌∷◌, ◌≡◌}
+use Rattle.cache_partition.proofs.Words.{after, ap, arith, marked_with, options_in, refl, stamp_of, subst, sym, write_of, ℕ, ◌++◌, ◌+◌, ◌∙◌, ◌∷◌, ◌≡◌}
 use Rattle.cache_partition.proofs.Held.{found_had, held, stands_at}
 use Rattle.cache_partition.proofs.Writes.{Deletes, delete_is, deletes, stamp_deleted, stamp_limit}
 use Rattle.cache_partition.proofs.removing.remove.Given.{Over}

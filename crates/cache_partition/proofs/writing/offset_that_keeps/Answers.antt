@@ -1,8 +1,8 @@
 use Rattle.cache_partition.proofs.Words.{HasNoSlot, IfSome, IsSlotOf, MatchOption, Option, OwnerState, Put, Shape, ap, arith, header_room, inl, inr}
 use Rattle.cache_partition.proofs.Words.{is_live, item_in, lt-leb, offset_in, subst, sym, write_of, ℕ, ◌+◌, ◌∙◌, ◌≡◌}
-use Rattle.cache_partition.proofs.Writes.{stamp_limit, no_slot_keeps, slot_keeps}
+use Rattle.cache_partition.proofs.Writes.{no_slot_keeps, slot_keeps, stamp_limit}
 use Rattle.cache_partition.proofs.writing.offset_that_keeps.Goals as goal
-use Rattle.cache_partition.proofs.writing.offset_that_keeps.Goals.{then-fits, else-fits}
+use Rattle.cache_partition.proofs.writing.offset_that_keeps.Goals.{else-fits, then-fits}
 
 pub returns-in_err-sought-clause-kept_offset : goal.returns-in_err-sought-clause-kept_offset
 returns-in_err-sought-clause-kept_offset g c =
@@ -13,8 +13,7 @@ returns-in_err-sought-clause-kept_offset g c =
 
 pub overflow_add-sought : goal.overflow_add-sought
 overflow_add-sought g c =
-    let small = stamp_limit (g.W.OwnerWords.owner c.args.words.now) c.requires.kept c.args.sought.now.stamp c.requires.sought.stamp in
-    omega arith
+    omega (arith, stamp_limit (g.W.OwnerWords.owner c.args.words.now) c.requires.kept c.args.sought.now.stamp c.requires.sought.stamp)
 
 pub returns-clause-kept_offset : goal.returns-clause-kept_offset
 returns-clause-kept_offset g c =

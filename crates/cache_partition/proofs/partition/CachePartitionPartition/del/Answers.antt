@@ -1,5 +1,4 @@
-use Rattle.cache_partition.proofs.Words.{Absent, Del, Deleted, [], ap, leb-true, length, options_in, reply_of, sym, worn_step}
-use Rattle.cache_partition.proofs.Words.{write_of, ◌∙◌}
+use Rattle.cache_partition.proofs.Words.{Absent, Del, Deleted, [], ap, leb-true, length, options_in, reply_of, sym, worn_step, write_of, ◌∙◌}
 use Rattle.cache_partition.proofs.Writes.{gained_step, may_write}
 use Rattle.cache_partition.proofs.partition.CachePartitionPartition.del.Goals as goal
 
