@@ -1,22 +1,9 @@
 -- In cache mode the log keeps rooms apart, so a bucket's words stand for the state where its entries spell each record once.
-use Rattle.std.proofs.Common.{◌≡◌, ◌≢◌, ℕ, zero, suc, ◌+◌, ◌%◌, ◌≤◌, inl, inr, ⊎_elim, List, Option, sym, ap, ◌∙◌, subst, arith}
-use Rattle.std.specs.Prelude.{unwrap_or}
-use Rattle.mica_words.specs.Entry.{entry_offset}
-use Rattle.mica_words.specs.Stamp.{tail_of}
-use Rattle.mica_model.specs.declared.options.Mode.{Mode}
-use Rattle.mica_model.specs.declared.options.Mode.TheVariants.{Cache}
+use Rattle.epoch_core.proofs.Vocabulary.{Cache, Cell, Has, HasChain, HasLiveEntry, InChain, IsAmong, IsMain, Kept, List, Mode, Option, OwnerState}
+use Rattle.epoch_core.proofs.Vocabulary.{RoomsApart, Spells, StandsFor, State, ap, arith, bucket_in, cached_in, entry_offset, inl, inr, link_in}
+use Rattle.epoch_core.proofs.Vocabulary.{options_in, state_in, subst, suc, sym, tail_of, unwrap_or, zero, ℕ, ⊎_elim, ◌%◌, ◌+◌, ◌∙◌, ◌≡◌, ◌≢◌, ◌≤◌}
 use Rattle.mica_model.specs.Cache.{Record, record_of}
-use Rattle.mica_model.specs.Store.{Cell}
-use Rattle.mica_model.specs.History.{State}
 use Rattle.mica_model.proofs.CacheLaws.{kept_in, window_kept, apart_kept}
-use Rattle.mica_model.proofs.Histories.{cached_in}
-use Rattle.epoch_core.specs.declared.state.OwnerState.{OwnerState}
-use Rattle.epoch_core.specs.Shape.{IsMain}
-use Rattle.epoch_core.specs.OwnerState.{link_in, options_in, state_in, bucket_in}
-use Rattle.epoch_core.specs.Chain.{IsAmong, InChain}
-use Rattle.epoch_core.specs.LiveEntry.{HasLiveEntry}
-use Rattle.epoch_core.specs.StandsFor.{Has, Spells, RoomsApart, HasChain, StandsFor}
-use Rattle.epoch_core.specs.Kept.{Kept}
 use Rattle.epoch_core.proofs.Log.{one_place, room_is}
 use Rattle.epoch_core.proofs.Machine.{found_record}
 

@@ -1,21 +1,8 @@
 -- After each event each link is 0 or names a spare bucket, each chain ends, and no spare bucket is in two.
-use Rattle.std.proofs.Common.{◌≡◌, ℕ, ◌≢◌, inl, inr, ◌⊎◌, List, [], ◌∷◌, ◌++◌, refl, sym, ap, ◌∙◌, subst, arith, get_or}
-use mathlib.Core.Logic.{dite}
-use native.Mathlib.Decide.{ℕ_discrete}
-use Rattle.std.specs.Prelude.{Contains}
-use Rattle.std.proofs.lemmas.List.Elements.{Contains-append_left, Contains-append_cases}
-use Rattle.mica_words.specs.declared.entry.TheConstants.{SLOTS}
-use Rattle.mica_model.specs.History.{History}
-use Rattle.epoch_core.specs.declared.state.OwnerState.{OwnerState}
-use Rattle.epoch_core.specs.declared.state.Phase.{Phase}
-use Rattle.epoch_core.specs.declared.event.Event.{Event}
-use Rattle.epoch_core.specs.declared.event.Event.TheVariants.{Begins, Marks, PutsWord, PutsEntry, PutsLink, Ends}
-use Rattle.epoch_core.specs.Shape.{IsMain, IsSpare, IsBucket}
-use Rattle.epoch_core.specs.Layout.{link_at}
-use Rattle.epoch_core.specs.OwnerState.{link_in}
-use Rattle.epoch_core.specs.Chain.{InChain, HasChains, IsFreeSpare}
-use Rattle.epoch_core.specs.Events.{MayPutLink, IsAllowed, place_of, words_after, history_after, phase_after, after}
-use Rattle.epoch_core.specs.Kept.{Kept}
+use Rattle.epoch_core.proofs.Vocabulary.{Begins, Contains, Contains-append_cases, Contains-append_left, Ends, Event, HasChains, History, InChain}
+use Rattle.epoch_core.proofs.Vocabulary.{IsAllowed, IsBucket, IsFreeSpare, IsMain, IsSpare, Kept, List, Marks, MayPutLink, OwnerState, Phase}
+use Rattle.epoch_core.proofs.Vocabulary.{PutsEntry, PutsLink, PutsWord, SLOTS, [], after, arith, get_or, history_after, inl, inr, link_at, link_in}
+use Rattle.epoch_core.proofs.Vocabulary.{phase_after, place_of, refl, subst, sym, words_after, ℕ, ◌++◌, ◌∙◌, ◌∷◌, ◌≡◌, ◌≢◌, ◌⊎◌}
 use Rattle.epoch_core.proofs.Places.{no_epoch}
 use Rattle.epoch_core.proofs.EventWords.{other, link_begins, link_marks, link_puts_word, link_puts_entry, link_puts, link_puts_other}
 use Rattle.epoch_core.proofs.Marked.{its_inside, ends_main}

@@ -1,10 +1,8 @@
 -- The central law: an event leaves the words in reach of a bucket whose even epoch stands still. So whatever is kept of a reader
 -- is kept past it.
-use Rattle.epoch_core.proofs.Vocabulary.{CutKept, Event, Grows, IfSome, IsAllowed, IsMain, IsSpelt, Kept, None, Option, OwnerState, ReaderKept}
-use Rattle.epoch_core.proofs.Vocabulary.{ReaderState, Shape, Some, TryKept, after, ap, arith, epoch_in, options_of, refl, subst, sym}
+use Rattle.epoch_core.proofs.Vocabulary.{Cut, CutKept, Event, Grows, IfSome, IsAllowed, IsMain, IsSpelt, Kept, None, Option, OwnerState, ReaderKept}
+use Rattle.epoch_core.proofs.Vocabulary.{ReaderState, Shape, Some, Try, TryKept, after, ap, arith, epoch_in, options_of, refl, subst, sym}
 use Rattle.epoch_core.proofs.Vocabulary.{writes_to_bucket, ℕ, ◌%◌, ◌*◌, ◌∙◌, ◌≡◌, ◌≤◌}
-use Rattle.epoch_core.specs.declared.reader.Cut.{Cut}
-use Rattle.epoch_core.specs.declared.reader.Try.{Try}
 use Rattle.epoch_core.proofs.Prefixes.{prefix_then}
 use Rattle.epoch_core.proofs.Failing.{fails_rise}
 use Rattle.epoch_core.proofs.Carried.{reach_back}

@@ -1,8 +1,6 @@
 -- The words that events change are there, and an epoch never comes to its type's end.
 use Rattle.epoch_core.proofs.Vocabulary.{Ends, Event, IsAllowed, IsMain, Kept, OwnerState, PutsEntry, PutsLink, Write, arith, bucket_of}
-use Rattle.epoch_core.proofs.Vocabulary.{epoch_in, length, nat_eq, place_of, refl, ℕ, ◌%◌, ◌+◌, ◌<◌, ◌^◌}
-use Rattle.std.proofs.Math.Nat.{mod-lt}
-use Rattle.std.proofs.lemmas.List.Sums.{count_by-le-length}
+use Rattle.epoch_core.proofs.Vocabulary.{count_by-le-length, epoch_in, length, mod-lt, nat_eq, place_of, refl, ℕ, ◌%◌, ◌+◌, ◌<◌, ◌^◌}
 use Rattle.epoch_core.proofs.Marked.{begun_le, ends_main, its_inside}
 
 module _ (o : OwnerState) (s : Kept o) where

@@ -1,10 +1,8 @@
 -- The words of an item put in four parts: its header, its hash, its key and its value.
-use Rattle.epoch_core.proofs.Vocabulary.{CanPlay, Kept, KeyFits, List, MayPutWord, OwnerState, PutsWord, [], after, ap, arith, fnv1a, get_or}
-use Rattle.epoch_core.proofs.Vocabulary.{header_of, item_at, item_events, item_in, length, packed, plays, puts_from, refl, set-get_or, subst, suc}
-use Rattle.epoch_core.proofs.Vocabulary.{sym, zero, ℕ, ◌++◌, ◌+◌, ◌<◌, ◌∙◌, ◌∷◌, ◌≡◌}
+use Rattle.epoch_core.proofs.Vocabulary.{CanPlay, HasKeyWords, Kept, KeyFits, List, MayPutWord, OwnerState, PutsWord, [], after, ap, arith, fnv1a}
+use Rattle.epoch_core.proofs.Vocabulary.{get_or, header_of, item_at, item_events, item_in, length, length-packed, packed, plays, puts_from, refl}
+use Rattle.epoch_core.proofs.Vocabulary.{set-get_or, subst, suc, sym, zero, ℕ, ◌++◌, ◌+◌, ◌<◌, ◌∙◌, ◌∷◌, ◌≡◌}
 use Rattle.mica_words.specs.Spelling.{item_words}
-use Rattle.mica_words.proofs.PackedBytes.{length-packed}
-use Rattle.epoch_core.specs.ItemAt.{HasKeyWords}
 use Rattle.epoch_core.proofs.EventWords.{item_puts_other}
 use Rattle.epoch_core.proofs.Log.{not_below}
 use Rattle.epoch_core.proofs.Puts.{can_play-append, plays-append}

@@ -1,10 +1,9 @@
 -- Splits and joins keep what is kept of owners and readers.
 use Rattle.epoch_core.proofs.Vocabulary.{All-contains, All-from_recursion, Grows, History, IsMain, IsPrefix, Kept, Marked, OwnerState, Phase}
-use Rattle.epoch_core.proofs.Vocabulary.{PhaseFits, ReaderKept, ReaderState, Shape, Write, [], ap, arith, begun_in, bucket_in, bucket_of, epoch_in}
-use Rattle.epoch_core.proofs.Vocabulary.{marked_in, nat_eq, newcomer, options_in, refl, sym, writes_in, writes_to_bucket, ℕ, ◌*◌, ◌+◌, ◌∙◌, ◌∷◌, ◌≡◌}
-use Rattle.epoch_core.proofs.Vocabulary.{◌≤◌}
+use Rattle.epoch_core.proofs.Vocabulary.{PhaseFits, ReaderKept, ReaderState, Shape, Write, [], ap, arith, begun_in, bucket_in, bucket_of, ended_in}
+use Rattle.epoch_core.proofs.Vocabulary.{epoch_in, known, lent, longer, marked_in, met_by, nat_eq, newcomer, note_of, options_in, refl, sym, told}
+use Rattle.epoch_core.proofs.Vocabulary.{writes_in, writes_to_bucket, ℕ, ◌*◌, ◌+◌, ◌∙◌, ◌∷◌, ◌≡◌, ◌≤◌}
 use Rattle.epoch_core.specs.declared.reader.Known.{Known}
-use Rattle.epoch_core.specs.Joins.{ended_in, lent, note_of, met_by, longer, known, told}
 use Rattle.epoch_core.proofs.Prefixes.{prefix_same, prefix_then, longer_as, longer_both}
 use Rattle.epoch_core.proofs.Failing.{in_none, fails_both}
 use Rattle.epoch_core.proofs.Keeps.{count_more}

@@ -1,12 +1,10 @@
 -- Each event of an owner keeps the owner's fact.
-use Rattle.epoch_core.proofs.Vocabulary.{Begins, Bool, Ends, Event, History, IsAllowed, IsLawfulHistory, IsMain, IsPrefix, IsReached, Kept, List}
-use Rattle.epoch_core.proofs.Vocabulary.{Marked, Marks, OwnerState, Phase, PhaseFits, StandsFor, Write, [], after, ap, arith, begun_in, bucket_of}
-use Rattle.epoch_core.proofs.Vocabulary.{by_entry, by_item, by_link, cond, count_by, dite, epoch_at, epoch_in, get_or-set_same, history_after}
-use Rattle.epoch_core.proofs.Vocabulary.{history_snoc, if◌then◌else◌, length-append, length-set, marked_in, nat_eq, options_in, phase_after, place_of}
-use Rattle.epoch_core.proofs.Vocabulary.{refl, stamp_at, stamp_in, stamp_of, subst, sym, writes_in, ℕ, ℕ_discrete, ◌%◌, ◌*◌, ◌++◌, ◌+◌, ◌∙◌, ◌∷◌, ◌≡◌}
-use Rattle.epoch_core.proofs.Vocabulary.{◌≢◌, ◌≤◌}
-use Rattle.std.proofs.lemmas.List.Sums.{sum_by_push}
-use Rattle.mica_model.specs.Write.{IsWrite}
+use Rattle.epoch_core.proofs.Vocabulary.{Begins, Bool, Ends, Event, History, IsAllowed, IsLawfulHistory, IsMain, IsPrefix, IsReached, IsWrite, Kept}
+use Rattle.epoch_core.proofs.Vocabulary.{List, Marked, Marks, OwnerState, Phase, PhaseFits, StandsFor, Write, [], after, ap, arith, begun_in}
+use Rattle.epoch_core.proofs.Vocabulary.{bucket_of, by_entry, by_item, by_link, cond, count_by, dite, epoch_at, epoch_in, get_or-set_same}
+use Rattle.epoch_core.proofs.Vocabulary.{history_after, history_snoc, if◌then◌else◌, length-append, length-set, marked_in, nat_eq, options_in}
+use Rattle.epoch_core.proofs.Vocabulary.{phase_after, place_of, refl, stamp_at, stamp_in, stamp_of, subst, sum_by_push, sym, writes_in, ℕ, ℕ_discrete}
+use Rattle.epoch_core.proofs.Vocabulary.{◌%◌, ◌*◌, ◌++◌, ◌+◌, ◌∙◌, ◌∷◌, ◌≡◌, ◌≢◌, ◌≤◌}
 use Rattle.epoch_core.proofs.Prefixes.{prefix_same, prefix_then}
 use Rattle.epoch_core.proofs.Marked.{bit, bit_same, bit_else, bit_is, calm, ends_main}
 use Rattle.epoch_core.proofs.Failing.{fails_rise}

@@ -1,12 +1,8 @@
 -- The words of an item that spells a key hold that key, and no other.
-use Rattle.epoch_core.proofs.Vocabulary.{AreBytes, Cell, Kept, List, OwnerState, Spells, add-zero, ap, arith, header_key_len, header_of, item_in}
-use Rattle.epoch_core.proofs.Vocabulary.{length, options_in, packed, slice_index, subst, sym, words_for, ℕ, ◌+◌, ◌<◌, ◌∙◌, ◌≡◌}
+use Rattle.epoch_core.proofs.Vocabulary.{AreBytes, Cell, HasKey, Kept, List, OwnerState, Spells, add-zero, ap, arith, entry_offset, hash_word}
+use Rattle.epoch_core.proofs.Vocabulary.{header_key_len, header_key_len-header_of, header_of, header_word, item_in, length, length-packed, options_in}
+use Rattle.epoch_core.proofs.Vocabulary.{packed, packed_key_word, same_from_words, slice_index, subst, sym, words_for, ℕ, ◌+◌, ◌<◌, ◌∙◌, ◌≡◌}
 use Rattle.std.proofs.lemmas.Grind.{same_number_lists}
-use Rattle.mica_words.specs.Entry.{entry_offset}
-use Rattle.mica_words.proofs.Fields.{header_key_len-header_of}
-use Rattle.mica_words.proofs.ItemWords.{header_word, hash_word, packed_key_word}
-use Rattle.mica_words.proofs.PackedBytes.{length-packed, same_from_words}
-use Rattle.epoch_core.specs.ItemAt.{HasKey}
 use Rattle.epoch_core.proofs.Machine.{has_fits}
 
 module _ (o : OwnerState) (s : Kept o) (b entry : ℕ) (key : List ℕ) (cell : Cell) (sp : Spells o b entry key cell) where

@@ -1,11 +1,9 @@
 -- Each load of a reader keeps what is kept of it.
-use Rattle.epoch_core.proofs.Vocabulary.{Bool, Contains-push_cases, CutKept, FailsFit, IfSome, IsMain, IsSpelt, Kept, List, None, Option, OwnerState}
-use Rattle.epoch_core.proofs.Vocabulary.{ReaderKept, ReaderState, Shape, Some, Tells, TellsTry, TryKept, [], ap, arith, epoch_in, fails_after}
-use Rattle.epoch_core.proofs.Vocabulary.{failure, get_or, if◌then◌else◌, inl, inr, le_refl, loaded, new_try, opened, options_of, refl, shut, stamped}
-use Rattle.epoch_core.proofs.Vocabulary.{subst, sym, with_cut, with_load, writes_to_bucket, ℕ, ◌%◌, ◌*◌, ◌++◌, ◌∙◌, ◌∷◌, ◌≡◌, ◌≤◌}
+use Rattle.epoch_core.proofs.Vocabulary.{Bool, Contains-push_cases, Cut, CutKept, FailsFit, IfSome, IsMain, IsSpelt, Kept, List, None, Option}
+use Rattle.epoch_core.proofs.Vocabulary.{OwnerState, ReaderKept, ReaderState, Shape, Some, Tells, TellsTry, Try, TryKept, [], ap, arith, epoch_in}
+use Rattle.epoch_core.proofs.Vocabulary.{fails_after, failure, get_or, if◌then◌else◌, inl, inr, le_refl, loaded, new_try, opened, options_of, refl}
+use Rattle.epoch_core.proofs.Vocabulary.{shut, stamped, subst, sym, with_cut, with_load, writes_to_bucket, ℕ, ◌%◌, ◌*◌, ◌++◌, ◌∙◌, ◌∷◌, ◌≡◌, ◌≤◌}
 use Rattle.epoch_core.specs.declared.state.Failure.{Failure}
-use Rattle.epoch_core.specs.declared.reader.Cut.{Cut}
-use Rattle.epoch_core.specs.declared.reader.Try.{Try}
 use Rattle.epoch_core.proofs.Prefixes.{prefix_same, prefix_then}
 use Rattle.epoch_core.proofs.Failing.{in_none, fails_more}
 use Rattle.epoch_core.proofs.Marked.{tested, calm}

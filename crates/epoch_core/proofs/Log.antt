@@ -1,28 +1,13 @@
 -- A word of the marked write in cache mode is in no room of a live item of another bucket: the log's window and its rooms say so.
-use Rattle.std.proofs.Common.{◌≡◌, ℕ, ◌+◌, ◌*◌, ◌/◌, ◌%◌, ◌<◌, ◌≤◌, ◌≢◌, inl, inr, ◌⊎◌, List, length, Some, sym, ap, ◌∙◌, subst, arith, add-zero, ⊎_elim}
-use Rattle.std.specs.List.{AllByRecursion}
-use Rattle.std.proofs.Math.Nat.{mul-le-mul_left, mul-suc, div-add-mod}
-use Rattle.std.proofs.lemmas.Bool.{cases_lt}
-use Rattle.mica_words.specs.Entry.{entry_offset}
-use Rattle.mica_words.specs.Header.{header_of, header_room}
-use Rattle.mica_words.specs.Stamp.{tail_of}
-use Rattle.mica_words.proofs.Fields.{header_room-header_of}
-use Rattle.mica_words.proofs.ItemWords.{header_word}
-use Rattle.mica_model.specs.declared.options.Options.{Options}
-use Rattle.mica_model.specs.declared.write.Write.{Write}
-use Rattle.mica_model.specs.Options.{IsValid}
-use Rattle.mica_model.specs.Write.{IsWrite}
+use Rattle.epoch_core.proofs.Vocabulary.{AllByRecursion, Cell, Has, History, IsValid, IsWrite, Kept, List, Options, OwnerState, Phase, PhaseFits}
+use Rattle.epoch_core.proofs.Vocabulary.{Some, Spells, State, Write, add-zero, ap, arith, bucket_in, cache_state, cases_lt, div-add-mod, entry_offset}
+use Rattle.epoch_core.proofs.Vocabulary.{header_of, header_room, header_room-header_of, header_word, inl, inr, item_in, length, marked_in}
+use Rattle.epoch_core.proofs.Vocabulary.{mul-le-mul_left, mul-suc, options_in, room_in, state_in, state_of, state_snoc, subst, sym, tail_of, ℕ}
+use Rattle.epoch_core.proofs.Vocabulary.{⊎_elim, ◌%◌, ◌*◌, ◌+◌, ◌/◌, ◌<◌, ◌∙◌, ◌≡◌, ◌≢◌, ◌≤◌, ◌⊎◌}
 use Rattle.mica_model.specs.Cache.{Cache, Record, record_of}
 use Rattle.mica_model.specs.CacheStep as cs
-use Rattle.mica_model.specs.Store.{Cell}
-use Rattle.mica_model.specs.History.{History, State, cache_state, state_of, after}
-use Rattle.mica_model.proofs.Histories.{state_snoc}
+use Rattle.mica_model.specs.History.{after}
 use Rattle.mica_model.proofs.CacheLaws.{window, apart, own}
-use Rattle.epoch_core.specs.declared.state.OwnerState.{OwnerState}
-use Rattle.epoch_core.specs.declared.state.Phase.{Phase}
-use Rattle.epoch_core.specs.OwnerState.{item_in, options_in, state_in, bucket_in, marked_in}
-use Rattle.epoch_core.specs.StandsFor.{Has, Spells, room_in}
-use Rattle.epoch_core.specs.Kept.{PhaseFits, Kept}
 use Rattle.epoch_core.proofs.Machine.{all_parts, found_record, has_fits}
 use Rattle.epoch_core.proofs.Marked.{bit_else}
 use Rattle.epoch_core.proofs.Spares.{LogSpares}

@@ -1,12 +1,10 @@
 -- What the machine has, in both modes.
-use Rattle.epoch_core.proofs.Vocabulary.{AreBytes, Cache as CacheMode, Cell, Has, History, IsLiveItem, KeyFits, List, Mode, None, Option, Some, State}
-use Rattle.epoch_core.proofs.Vocabulary.{Store as StoreMode, ValueFits, Write, [], ap, arith, bucket_of, cache_state, cached_in, cell_at, item_size}
-use Rattle.epoch_core.proofs.Vocabulary.{option_map, refl, stamp_of, state_of, state_snoc, store_state, stored_in, subst, sym, unwrap_or, ℕ, ◌++◌}
-use Rattle.epoch_core.proofs.Vocabulary.{◌<◌, ◌∙◌, ◌∷◌, ◌≡◌, ◌≢◌, ◌≤◌}
-use Rattle.std.specs.List.{AllByRecursion}
-use Rattle.std.specs.FinMap.{get}
-use Rattle.mica_model.specs.declared.options.Options.{Options}
-use Rattle.mica_model.specs.Write.{IsWrite}
+use Rattle.epoch_core.proofs.Vocabulary.{AllByRecursion, AreBytes, Cell, Has, History, IsLiveItem, IsWrite, KeyFits, List, Mode, None, Option}
+use Rattle.epoch_core.proofs.Vocabulary.{Options, Some, State, ValueFits, Write, [], ap, arith, bucket_of, cache_state, cached_in, cell_at, get}
+use Rattle.epoch_core.proofs.Vocabulary.{item_size, option_map, refl, stamp_of, state_of, state_snoc, store_state, stored_in, subst, sym, unwrap_or}
+use Rattle.epoch_core.proofs.Vocabulary.{ℕ, ◌++◌, ◌<◌, ◌∙◌, ◌∷◌, ◌≡◌, ◌≢◌, ◌≤◌}
+use Rattle.epoch_core.proofs.Vocabulary.{Cache as CacheMode}
+use Rattle.epoch_core.proofs.Vocabulary.{Store as StoreMode}
 use Rattle.mica_model.specs.Cache.{Cache, Record, record_of}
 use Rattle.mica_model.specs.CacheStep as cs
 use Rattle.mica_model.specs.StoreStep as ss

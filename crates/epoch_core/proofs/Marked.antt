@@ -1,10 +1,8 @@
 -- The bucket whose write is marked, and the buckets that its write may change.
 use Rattle.epoch_core.proofs.Vocabulary.{Begun, Bool, Idle, InChain, IsAmong, IsBucket, IsFreeSpare, IsMain, Kept, List, Marked, OwnerState, Phase}
-use Rattle.epoch_core.proofs.Vocabulary.{PhaseFits, WhenMarked, Write, ap, arith, begun_in, dite, epoch_in, eq-eqb, false, if◌then◌else◌, inl, inr}
-use Rattle.epoch_core.proofs.Vocabulary.{link_in, marked_in, nat_eq, ne_eqb, refl, subst, suc, sym, true, zero, ℕ, ℕ_discrete, ◌%◌, ◌*◌, ◌+◌, ◌<◌}
-use Rattle.epoch_core.proofs.Vocabulary.{◌≡◌, ◌≢◌, ◌≤◌, ◌⊎◌}
-use Rattle.mica_words.proofs.Hashes.{bucket_of-below}
-use Rattle.std.proofs.lemmas.Nat.{pow_pos}
+use Rattle.epoch_core.proofs.Vocabulary.{PhaseFits, WhenMarked, Write, ap, arith, begun_in, bucket_of-below, dite, epoch_in, eq-eqb, false}
+use Rattle.epoch_core.proofs.Vocabulary.{if◌then◌else◌, inl, inr, link_in, marked_in, nat_eq, ne_eqb, pow_pos, refl, subst, suc, sym, true, zero, ℕ}
+use Rattle.epoch_core.proofs.Vocabulary.{ℕ_discrete, ◌%◌, ◌*◌, ◌+◌, ◌<◌, ◌≡◌, ◌≢◌, ◌≤◌, ◌⊎◌}
 
 abbrev pub bit : ℕ → ℕ → ℕ
 bit c b = if nat_eq c b then 1 else 0

@@ -1,43 +1,20 @@
 -- Laws of a partition, in either mode: what it knows between two writes, and of a write that the machine accepts.
-use Rattle.std.proofs.Common.{◌≡◌, ℕ, ◌+◌, ◌<◌, ◌≤◌, ◌≢◌, ◌⊎◌, inl, inr, List, [], ◌∷◌, ◌++◌, cond, true, false, length, get_or, add-zero, refl, sym, ap, ◌∙◌, subst, arith}
+use Rattle.epoch_core.proofs.Vocabulary.{AreBytes, Begins, Cache, Cell, Ends, Has, HasKey, Idle, IsBucket, IsMain, IsOffset, IsWrite, Kept, List}
+use Rattle.epoch_core.proofs.Vocabulary.{Marked, Marks, MayBegin, MayEnd, MayGive, MayMark, Mode, Options, Outcome, OwnerState, Phase, Spells}
+use Rattle.epoch_core.proofs.Vocabulary.{SpellsItem, StandsFor, State, Store, Worn, Write, [], accepted_is_length, add-zero, after, ap, arith}
+use Rattle.epoch_core.proofs.Vocabulary.{as_made, bucket_in, bucket_of-below, cache_state, cases_Bool, cond, entry_at, entry_in, entry_offset}
+use Rattle.epoch_core.proofs.Vocabulary.{entry_tag, false, get_or, header_room, header_room-header_of, header_word, inl, inr, is_accepted, is_some}
+use Rattle.epoch_core.proofs.Vocabulary.{item_at, item_in, le-leb, length, link_at, link_in, marked_in, options_in, plays, pow_pos, puts_from, refl}
+use Rattle.epoch_core.proofs.Vocabulary.{room_in, stamp_in, stamp_of, start, state_in, state_snoc, store_state, subst, sym, tag_of, true, true≢false}
+use Rattle.epoch_core.proofs.Vocabulary.{word_count, ℕ, ◌++◌, ◌+◌, ◌<◌, ◌∙◌, ◌∷◌, ◌≡◌, ◌≢◌, ◌≤◌, ◌⊎◌}
 use Rattle.std.specs.Str.{bytes_eq}
-use Rattle.std.proofs.lemmas.Bool.{cases_Bool, le-leb, true≢false}
-use Rattle.std.proofs.lemmas.Nat.{pow_pos}
 use Rattle.std.proofs.lemmas.Option.{same_Some}
 use Rattle.std.proofs.lemmas.Slice.Eq.{bytes_eq-Decides}
-use Rattle.std.specs.Prelude.{is_some}
-use Rattle.mica_words.specs.Entry.{entry_offset, entry_tag}
-use Rattle.mica_words.specs.Hash.{tag_of}
-use Rattle.mica_words.specs.Header.{header_room}
-use Rattle.mica_words.specs.Packing.{AreBytes}
-use Rattle.mica_words.proofs.Fields.{header_room-header_of}
-use Rattle.mica_words.proofs.Hashes.{bucket_of-below}
-use Rattle.mica_words.proofs.ItemWords.{header_word}
-use Rattle.mica_model.specs.declared.options.Mode.{Mode}
-use Rattle.mica_model.specs.declared.options.Mode.TheVariants.{Cache as CacheMode, Store as StoreMode}
-use Rattle.mica_model.specs.declared.options.Options.{Options}
-use Rattle.mica_model.specs.declared.write.Outcome.{Outcome}
-use Rattle.mica_model.specs.declared.write.Outcome.TheVariants.{Worn}
-use Rattle.mica_model.specs.declared.write.Write.{Write}
 use Rattle.mica_model.specs.Cache as cache
 use Rattle.mica_model.specs.CacheStep as cs
 use Rattle.mica_model.specs.Store as store
-use Rattle.mica_model.specs.Store.{Cell}
-use Rattle.mica_model.specs.History.{Allows, MayGive, State, cache_state, store_state, accepted_in, after as state_after, stamp_in as stamp_of_state, stamp_of, start}
-use Rattle.mica_model.specs.Write.{IsWrite, is_accepted}
-use Rattle.mica_model.proofs.Histories.{accepted_is_length, state_snoc}
-use Rattle.epoch_core.specs.declared.state.OwnerState.{OwnerState}
-use Rattle.epoch_core.specs.declared.state.Phase.{Phase}
-use Rattle.epoch_core.specs.declared.state.Phase.TheVariants.{Idle, Marked}
-use Rattle.epoch_core.specs.declared.event.Event.TheVariants.{Begins, Marks, Ends}
-use Rattle.epoch_core.specs.Shape.{IsBucket, IsMain}
-use Rattle.epoch_core.specs.Layout.{entry_at, item_at, link_at, word_count}
-use Rattle.epoch_core.specs.OwnerState.{as_made, bucket_in, entry_in, item_in, link_in, marked_in, options_in, stamp_in, state_in}
-use Rattle.epoch_core.specs.StandsFor.{Has, IsOffset, Spells, SpellsItem, StandsFor, room_in}
-use Rattle.epoch_core.specs.ItemAt.{HasKey}
-use Rattle.epoch_core.specs.Kept.{Kept}
+use Rattle.mica_model.specs.History.{Allows, accepted_in, after as state_after, stamp_in as stamp_of_state}
 use Rattle.epoch_core.specs.OwnerStep.{IsOwnerStep}
-use Rattle.epoch_core.specs.Events.{MayBegin, MayEnd, MayMark, after, plays, puts_from}
 use Rattle.epoch_core.proofs.Carried.{changed}
 use Rattle.epoch_core.proofs.EventWords.{entry_begins, entry_marks, item_begins, item_marks, link_begins, link_marks, stamp_marks}
 use Rattle.epoch_core.proofs.Inside.{some_words}
@@ -63,8 +40,8 @@ same_cell (store_state s) key cell cell' p p' h h' = same_Some cell cell' (sym h
 -- no stamp was given yet
 pub start_stamp : (mode : Mode) → stamp_of_state (start mode) ≡ 0
 unfolding cache.start store.start
-start_stamp CacheMode = refl
-start_stamp StoreMode = refl
+start_stamp Cache = refl
+start_stamp Store = refl
 
 pub new_stamp : (o : OwnerState) → o ≡ as_made o.shape → 0 ≡ stamp_of (options_in o) o.history
 new_stamp o made = sym (ap (λ (z : OwnerState). stamp_of (options_in o) z.history) made ∙ start_stamp o.shape.mode)

@@ -1,8 +1,5 @@
 -- Different words stand at different places.
-use Rattle.std.proofs.Common.{◌≡◌, ℕ, ◌+◌, ◌<◌, ◌≢◌, arith}
-use Rattle.epoch_core.specs.declared.shape.Shape.{Shape}
-use Rattle.epoch_core.specs.Shape.{IsMain, IsBucket}
-use Rattle.epoch_core.specs.Layout.{bucket_words, stamp_at, epoch_at, entries_at, item_at}
+use Rattle.epoch_core.proofs.Vocabulary.{IsBucket, IsMain, Shape, arith, bucket_words, entries_at, epoch_at, item_at, stamp_at, ℕ, ◌+◌, ◌<◌, ◌≡◌, ◌≢◌}
 
 -- the words of buckets: their entries, and the link
 pub same_bucket : (shape : Shape) (b c s t : ℕ) → s < bucket_words → t < bucket_words → entries_at shape b + s ≡ entries_at shape c + t → b ≡ c

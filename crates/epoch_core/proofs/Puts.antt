@@ -1,20 +1,9 @@
 -- Item words put one after another: when each may be put, and what they make of the state.
-use Rattle.std.proofs.Common.{◌≡◌, ℕ, zero, suc, ◌+◌, ◌<◌, ◌≤◌, ◌≢◌, List, [], ◌∷◌, ◌++◌, length, drop, get_or, add-zero, refl, sym, ap, ◌∙◌, subst, arith, length-set, get_or-set_other, get_or-set_same}
-use Rattle.std.proofs.Math.Nat.{mod-lt}
-use Rattle.std.proofs.Math.Seq.{drop-cons}
-use Rattle.mica_model.specs.declared.options.Mode.TheVariants.{Cache}
-use Rattle.mica_model.specs.declared.write.Write.{Write}
-use Rattle.mica_model.specs.History.{State, cache_state, store_state, state_of}
-use Rattle.mica_model.proofs.Histories.{cached_in}
-use Rattle.epoch_core.specs.declared.state.OwnerState.{OwnerState}
-use Rattle.epoch_core.specs.declared.state.Phase.{Phase}
-use Rattle.epoch_core.specs.declared.state.Phase.TheVariants.{Idle, Begun, Marked}
-use Rattle.epoch_core.specs.declared.event.Event.{Event}
-use Rattle.epoch_core.specs.declared.event.Event.TheVariants.{PutsWord}
-use Rattle.epoch_core.specs.Layout.{item_at, word_count}
-use Rattle.epoch_core.specs.OwnerState.{options_in, marked_in}
-use Rattle.epoch_core.specs.Events.{WhenMarked, SparesOthers, BelongsTo, MayPutWord, after, CanPlay, plays, puts_from}
-use Rattle.epoch_core.specs.Kept.{Kept}
+use Rattle.epoch_core.proofs.Vocabulary.{Begun, BelongsTo, Cache, CanPlay, Event, Idle, Kept, List, Marked, MayPutWord, OwnerState, Phase, PutsWord}
+use Rattle.epoch_core.proofs.Vocabulary.{SparesOthers, State, WhenMarked, Write, [], add-zero, after, ap, arith, cache_state, cached_in, drop}
+use Rattle.epoch_core.proofs.Vocabulary.{drop-cons, get_or, get_or-set_other, get_or-set_same, item_at, length, length-set, marked_in, mod-lt}
+use Rattle.epoch_core.proofs.Vocabulary.{options_in, plays, puts_from, refl, state_of, store_state, subst, suc, sym, word_count, zero, ℕ, ◌++◌, ◌+◌}
+use Rattle.epoch_core.proofs.Vocabulary.{◌<◌, ◌∙◌, ◌∷◌, ◌≡◌, ◌≢◌, ◌≤◌}
 use Rattle.epoch_core.proofs.Log.{not_below}
 use Rattle.epoch_core.proofs.Marked.{bit_else}
 use Rattle.epoch_core.proofs.Carried.{back, in_room}

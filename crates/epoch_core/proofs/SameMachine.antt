@@ -1,14 +1,10 @@
 -- The machine of options is that of their shape: it reads no other option, and in cache mode no spares.
-use Rattle.epoch_core.proofs.Vocabulary.{Bool, Cache as CacheMode, History, IsValidShape, MayGive, Mode, State, Store as StoreMode, Write, ap, arith}
-use Rattle.epoch_core.proofs.Vocabulary.{cache_state, cached_in, cond, false, inl, inr, is_some, options_of, refl, shape_of, spares_in, start}
-use Rattle.epoch_core.proofs.Vocabulary.{state_of, store_state, stored_in, subst, sym, true, ℕ, ◌+◌, ◌∙◌, ◌≡◌}
-use Rattle.std.specs.List.{fold}
-use Rattle.mica_model.specs.declared.options.Options.{Options}
+use Rattle.epoch_core.proofs.Vocabulary.{Bool, FullBlock, FullSpare, History, InRange, IsValid, IsValidShape, MayGive, Mode, Options, Outcome, State}
+use Rattle.epoch_core.proofs.Vocabulary.{Stored, Worn, Write, ap, arith, cache_state, cached_in, cond, false, fold, inl, inr, is_some, options_of}
+use Rattle.epoch_core.proofs.Vocabulary.{refl, shape_of, spares_in, start, state_of, store_state, stored_in, subst, sym, true, ℕ, ◌+◌, ◌∙◌, ◌≡◌}
+use Rattle.epoch_core.proofs.Vocabulary.{Cache as CacheMode, Store as StoreMode}
 use Rattle.mica_model.specs.declared.write.Op.{Op}
 use Rattle.mica_model.specs.declared.write.Op.TheVariants.{Put, Del}
-use Rattle.mica_model.specs.declared.write.Outcome.{Outcome}
-use Rattle.mica_model.specs.declared.write.Outcome.TheVariants.{Stored, FullSpare, FullBlock, Worn}
-use Rattle.mica_model.specs.Options.{InRange, IsValid}
 use Rattle.mica_model.specs.Cache as cache
 use Rattle.mica_model.specs.CacheStep as cs
 use Rattle.mica_model.specs.Store as store

@@ -1,19 +1,16 @@
 -- Each step of a script keeps the rule of the one-word table whose seat has a book.
-use Rattle.epoch_core.proofs.Vocabulary.{AllFit, Begins, BookFits, CanPlay, Ends, Event, IsAllowed, IsTime, IsValidShape, Kept, List, MayLook}
-use Rattle.epoch_core.proofs.Vocabulary.{OwnerState, ReaderKept, ReaderState, Reading, Shape, [], after, ap, append-nil, append_assoc, arith, as_made}
-use Rattle.epoch_core.proofs.Vocabulary.{drop, drop-cons, first_of, get_or, length, look_at, look_next, looked, map, newcomer, next_owner}
-use Rattle.epoch_core.proofs.Vocabulary.{opening_book, owner_at, owner_place, owner_sum, plan_of, play_next, played, plays, reads_on, refl, rest_of}
-use Rattle.epoch_core.proofs.Vocabulary.{subst, suc, sym, take, ℕ, ◌++◌, ◌+◌, ◌<◌, ◌^◌, ◌∙◌, ◌∷◌, ◌≡◌}
+use Rattle.epoch_core.proofs.Vocabulary.{AllFit, Begins, Book, BookFits, CanPlay, Ends, Event, IsAllowed, IsTime, IsValidShape, Kept, List, MayLook}
+use Rattle.epoch_core.proofs.Vocabulary.{OwnerState, Plan, ReaderKept, ReaderState, Reading, Shape, [], after, ap, append-nil, append_assoc, arith}
+use Rattle.epoch_core.proofs.Vocabulary.{as_made, drop, drop-cons, first_of, get_or, length, look_at, look_next, looked, map, newcomer, next_owner}
+use Rattle.epoch_core.proofs.Vocabulary.{opening_book, owner_at, owner_event, owner_place, owner_sum, plan_of, play_next, played, plays, reads_on}
+use Rattle.epoch_core.proofs.Vocabulary.{refl, rest_of, subst, suc, sym, take, ℕ, ◌++◌, ◌+◌, ◌<◌, ◌^◌, ◌∙◌, ◌∷◌, ◌≡◌}
 use Rattle.std.proofs.Math.Seq.{take-append_seam}
 use mathlib.Core.Option.{none}
 use Rattle.atomic_table.specs.Table.{step, keeps, opening, Allows}
 use Rattle.epoch_core.specs.declared.event.OwnerEvent.{OwnerEvent}
 use Rattle.epoch_core.specs.declared.plain.Script.{Script}
-use Rattle.epoch_core.specs.declared.scripted.Plan.{Plan}
 use Rattle.epoch_core.specs.declared.scripted.Look.{Look}
 use Rattle.epoch_core.specs.declared.scripted.Look.TheVariants.{FirstEpoch, Word, Stamp, LastEpoch}
-use Rattle.epoch_core.specs.declared.scripted.Book.{Book}
-use Rattle.epoch_core.specs.Diary.{owner_event}
 use Rattle.epoch_core.proofs.Made.{kept_as_made}
 use Rattle.epoch_core.proofs.Marked.{ends_main}
 use Rattle.epoch_core.proofs.Keeps.{kept_after}

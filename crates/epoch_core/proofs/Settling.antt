@@ -1,8 +1,7 @@
 -- When a script is settled: by its last cut, and whether a write is under way.
-use Rattle.epoch_core.proofs.Vocabulary.{Bool, Idle, IsSettled, IsTrue, List, OwnerState, Phase, Rests, ap, arith, as_made, cut_at, false, get_or}
-use Rattle.epoch_core.proofs.Vocabulary.{is_writing, length, not, owner_at, plays, refl, sym, take, true, ℕ, ◌-◌, ◌<◌, ◌∙◌, ◌≡◌}
+use Rattle.epoch_core.proofs.Vocabulary.{Bool, Idle, IsSettled, IsTrue, List, OwnerState, Phase, Plan, Rests, ap, arith, as_made, cut_at, false}
+use Rattle.epoch_core.proofs.Vocabulary.{get_or, is_writing, length, not, owner_at, plays, refl, sym, take, true, ℕ, ◌-◌, ◌<◌, ◌∙◌, ◌≡◌}
 use Rattle.epoch_core.specs.declared.scripted.Scripted.{Scripted}
-use Rattle.epoch_core.specs.declared.scripted.Plan.{Plan}
 use Rattle.epoch_core.specs.Seats.{book_of}
 use Rattle.epoch_core.proofs.Cuts.{still_at_last, last_of_still}
 

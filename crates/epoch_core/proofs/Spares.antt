@@ -1,23 +1,9 @@
 -- An event goes to no word that a get of a bucket with no marked write needs.
-use Rattle.std.proofs.Common.{◌≡◌, ℕ, ◌+◌, ◌<◌, ◌≢◌, List, refl, sym, ◌∙◌, subst, arith}
-use Rattle.mica_words.specs.declared.entry.TheConstants.{SLOTS}
-use Rattle.mica_words.specs.Entry.{entry_offset}
-use Rattle.mica_model.specs.declared.write.Write.{Write}
-use Rattle.mica_model.specs.History.{State, cache_state, store_state, state_of}
-use Rattle.epoch_core.specs.declared.state.OwnerState.{OwnerState}
-use Rattle.epoch_core.specs.declared.state.Phase.{Phase}
-use Rattle.epoch_core.specs.declared.state.Phase.TheVariants.{Idle, Begun, Marked}
-use Rattle.epoch_core.specs.declared.event.Event.{Event}
-use Rattle.epoch_core.specs.declared.event.Event.TheVariants.{Begins, Marks, PutsWord, PutsEntry, PutsLink, Ends}
-use Rattle.epoch_core.specs.Shape.{IsMain}
-use Rattle.epoch_core.specs.Layout.{bucket_words, entries_at, item_at}
-use Rattle.epoch_core.specs.OwnerState.{options_in, marked_in}
-use Rattle.epoch_core.specs.Chain.{InChain}
-use Rattle.epoch_core.specs.LiveEntry.{HasLiveEntry}
-use Rattle.epoch_core.specs.StandsFor.{room_in, IsInRoom}
-use Rattle.epoch_core.specs.Events.{WhenMarked, IsItsBucket, BelongsTo, IsAllowed, place_of}
-use Rattle.epoch_core.specs.Reach.{IsReached, by_entry, by_link, by_item}
-use Rattle.epoch_core.specs.Kept.{Kept}
+use Rattle.epoch_core.proofs.Vocabulary.{Begins, Begun, BelongsTo, Ends, Event, HasLiveEntry, Idle, InChain, IsAllowed, IsInRoom, IsItsBucket, IsMain}
+use Rattle.epoch_core.proofs.Vocabulary.{IsReached, Kept, List, Marked, Marks, OwnerState, Phase, PutsEntry, PutsLink, PutsWord, SLOTS, State}
+use Rattle.epoch_core.proofs.Vocabulary.{WhenMarked, Write, arith, bucket_words, by_entry, by_item, by_link, cache_state, entries_at, entry_offset}
+use Rattle.epoch_core.proofs.Vocabulary.{item_at, marked_in, options_in, place_of, refl, room_in, state_of, store_state, subst, sym, ℕ, ◌+◌, ◌<◌, ◌∙◌}
+use Rattle.epoch_core.proofs.Vocabulary.{◌≡◌, ◌≢◌}
 use Rattle.epoch_core.proofs.Marked.{chain_bucket, marked_not, ends_main, its_bucket, its_inside}
 use Rattle.epoch_core.proofs.Places.{same_bucket, no_epoch, no_stamp, no_item, item_no_epoch}
 

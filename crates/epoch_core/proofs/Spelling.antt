@@ -1,18 +1,13 @@
 -- What a try's loads spell, while its bucket's epoch has not moved, is the machine's answer.
-use Rattle.epoch_core.proofs.Vocabulary.{AreBytes, Cell, Contains, Has, HasLiveEntry, InChain, IsAmong, IsLive, IsSpelt, Kept, List, None, Option}
-use Rattle.epoch_core.proofs.Vocabulary.{OwnerState, Some, Spells, StandsFor, State, TryKept, [], add-zero, answer_of, ap, arith, bucket_in, by_entry}
-use Rattle.epoch_core.proofs.Vocabulary.{by_item, by_link, cache_state, cell_at, entry_at, entry_in, epoch_in, fnv1a, header_key_len}
-use Rattle.epoch_core.proofs.Vocabulary.{header_value_len, inl, inr, item_at, item_in, item_size, length, link_at, link_in, option_map, options_in}
-use Rattle.epoch_core.proofs.Vocabulary.{packed, refl, slice_index, stamp_in, stamp_of, state_in, store_state, subst, suc, sym, unpacked, value_in}
-use Rattle.epoch_core.proofs.Vocabulary.{words_for, zero, ℕ, ◌+◌, ◌<◌, ◌∙◌, ◌∷◌, ◌≡◌, ◌≢◌}
-use Rattle.std.specs.FinMap.{get}
-use Rattle.mica_words.specs.Entry.{entry_offset}
-use Rattle.mica_words.proofs.Fields.{header_value_len-header_of}
-use Rattle.mica_words.proofs.ItemWords.{header_word, value_word, same_value}
+use Rattle.epoch_core.proofs.Vocabulary.{AreBytes, Cell, Contains, Has, HasKey, HasLiveEntry, InChain, IsAmong, IsLive, IsSpelt, Kept, List, None}
+use Rattle.epoch_core.proofs.Vocabulary.{Option, OwnerState, Some, Spells, StandsFor, State, Try, TryKept, [], add-zero, answer_of, ap, arith}
+use Rattle.epoch_core.proofs.Vocabulary.{bucket_in, by_entry, by_item, by_link, cache_state, cell_at, entry_at, entry_in, entry_offset, epoch_in}
+use Rattle.epoch_core.proofs.Vocabulary.{fnv1a, get, header_key_len, header_value_len, header_value_len-header_of, header_word, inl, inr, item_at}
+use Rattle.epoch_core.proofs.Vocabulary.{item_in, item_size, length, link_at, link_in, option_map, options_in, packed, refl, same_value, slice_index}
+use Rattle.epoch_core.proofs.Vocabulary.{stamp_in, stamp_of, state_in, store_state, subst, suc, sym, unpacked, value_in, value_word, words_for, zero}
+use Rattle.epoch_core.proofs.Vocabulary.{ℕ, ◌+◌, ◌<◌, ◌∙◌, ◌∷◌, ◌≡◌, ◌≢◌}
 use Rattle.mica_model.specs.Cache.{Record, record_of}
-use Rattle.epoch_core.specs.declared.reader.Try.{Try}
 use Rattle.epoch_core.specs.Spelt.{HasLoad, HasLinks, ShowsOther, by_offset, by_key_len, by_value_len, by_hash, by_key_word, ShowsItem, IsNoEntryOf, by_tag, by_stamp, by_item as by_other, SpellsAnswer}
-use Rattle.epoch_core.specs.ItemAt.{HasKey}
 use Rattle.epoch_core.proofs.Machine.{Fits, found_record, has_fits}
 use Rattle.epoch_core.proofs.Keys.{has_its_key, has_no_other}
 use Rattle.epoch_core.proofs.Failing.{in_cons, in_none, in_head, in_tail}

@@ -1,13 +1,7 @@
 -- The chain of a bucket, its first buckets and its end, told by the list of the spares behind it.
-use Rattle.std.proofs.Common.{◌≡◌, ℕ, zero, suc, ◌≤◌, inl, inr, ◌⊎◌, List, [], ◌∷◌, length, refl, sym, ◌∙◌, subst, arith}
-use Rattle.std.specs.Prelude.{Contains}
-use mathlib.Core.Logic.{dite}
-use native.Mathlib.Decide.{ℕ_discrete}
-use Rattle.epoch_core.specs.declared.state.OwnerState.{OwnerState}
-use Rattle.epoch_core.specs.declared.shape.Shape.{Shape}
-use Rattle.epoch_core.specs.Shape.{IsMain, IsSpare, IsBucket}
-use Rattle.epoch_core.specs.OwnerState.{link_in}
-use Rattle.epoch_core.specs.Chain.{IsAmong, EndsWithin, InChain, ChainEnds, HasChains}
+use Rattle.epoch_core.proofs.Vocabulary.{Contains, HasChains, InChain, IsAmong, IsBucket, IsMain, IsSpare, List, OwnerState, Shape, [], arith, dite}
+use Rattle.epoch_core.proofs.Vocabulary.{inl, inr, length, link_in, refl, subst, suc, sym, zero, ℕ, ℕ_discrete, ◌∙◌, ◌∷◌, ◌≡◌, ◌≤◌, ◌⊎◌}
+use Rattle.epoch_core.specs.Chain.{EndsWithin, ChainEnds}
 use Rattle.epoch_core.proofs.Failing.{in_cons, in_head, in_tail, in_none}
 use Rattle.epoch_core.proofs.Behind.{AreBehind, behind_differ}
 use Rattle.epoch_core.proofs.Counted.{at_most}

@@ -1,5 +1,4 @@
-use Rattle.epoch_core.proofs.Vocabulary.{arith, length, packed, plays, puts_from, sym, ◌+◌, ◌∙◌, ◌≡◌}
-use Rattle.mica_words.proofs.PackedBytes.{length-packed}
+use Rattle.epoch_core.proofs.Vocabulary.{arith, length, length-packed, packed, plays, puts_from, sym, ◌+◌, ◌∙◌, ◌≡◌}
 use Rattle.epoch_core.proofs.ItemEvents.{CanPut, keyed, can_put_parts, all_put, key_stays}
 use Rattle.epoch_core.proofs.item.rewrite_item.Given.{Over}
 use Rattle.epoch_core.proofs.item.rewrite_item.Goals.{Start, After-from}

@@ -1,5 +1,4 @@
-use Rattle.epoch_core.proofs.Vocabulary.{arith, length, packed, plays, puts_from, ◌+◌, ◌∙◌, ◌≡◌}
-use Rattle.mica_words.proofs.PackedBytes.{length-packed}
+use Rattle.epoch_core.proofs.Vocabulary.{arith, length, length-packed, packed, plays, puts_from, ◌+◌, ◌∙◌, ◌≡◌}
 use Rattle.epoch_core.proofs.ItemEvents.{CanPut, keyed, can_put_parts, all_put}
 use Rattle.epoch_core.proofs.item.write_item_hashed.Given.{Over}
 use Rattle.epoch_core.proofs.item.write_item_hashed.Goals.{Start, After-from}

@@ -1,7 +1,5 @@
-use Rattle.epoch_core.proofs.Vocabulary.{IsMain, NoneAbove, ReaderState, Shape, ap, arith, cut_at, length, look_at, owner_at, subst, sym, ℕ, ◌+◌, ◌∙◌}
-use Rattle.epoch_core.proofs.Vocabulary.{◌≡◌}
-use Rattle.epoch_core.specs.declared.scripted.Plan.{Plan}
-use Rattle.epoch_core.specs.declared.scripted.Book.{Book}
+use Rattle.epoch_core.proofs.Vocabulary.{Book, IsMain, NoneAbove, Plan, ReaderState, Shape, ap, arith, cut_at, length, look_at, owner_at, subst, sym}
+use Rattle.epoch_core.proofs.Vocabulary.{ℕ, ◌+◌, ◌∙◌, ◌≡◌}
 use Rattle.epoch_core.proofs.ScriptKeeps.{more_loads}
 use Rattle.epoch_core.proofs.Cuts.{cut_min, cut_rises, cut_few}
 use Rattle.epoch_core.proofs.scripted.Scripted.load.Given.{Over}
