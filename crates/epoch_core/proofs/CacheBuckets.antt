@@ -1,11 +1,11 @@
 -- In cache mode the log keeps rooms apart, so a bucket's words stand for the state where its entries spell each record once.
-use Rattle.epoch_core.proofs.Vocabulary.{Cache, Cell, Has, HasChain, HasLiveEntry, InChain, IsAmong, IsMain, Kept, List, Mode, Option, OwnerState}
-use Rattle.epoch_core.proofs.Vocabulary.{RoomsApart, Spells, StandsFor, State, ap, arith, bucket_in, cached_in, entry_offset, inl, inr, link_in}
-use Rattle.epoch_core.proofs.Vocabulary.{options_in, state_in, subst, suc, sym, tail_of, unwrap_or, zero, ℕ, ⊎_elim, ◌%◌, ◌+◌, ◌∙◌, ◌≡◌, ◌≢◌, ◌≤◌}
-use Rattle.mica_model.specs.Cache.{Record, record_of}
+use Rattle.epoch_core.proofs.Vocabulary.{Cache, Cell, Has, HasChain, HasLiveEntry, InChain, IsAmong, IsMain, Kept, List, Mode, OwnerState, RoomsApart}
+use Rattle.epoch_core.proofs.Vocabulary.{Spells, StandsFor, State, ap, arith, bucket_in, cached_in, entry_offset, inl, inr, link_in, options_in}
+use Rattle.epoch_core.proofs.Vocabulary.{state_in, subst, suc, sym, tail_of, zero, ℕ, ⊎_elim, ◌%◌, ◌+◌, ◌∙◌, ◌≡◌, ◌≢◌, ◌≤◌}
+use Rattle.mica_model.specs.Cache.{record_of}
 use Rattle.mica_model.proofs.CacheLaws.{kept_in, window_kept, apart_kept}
 use Rattle.epoch_core.proofs.Log.{one_place, room_is}
-use Rattle.epoch_core.proofs.Machine.{found_record}
+use Rattle.epoch_core.proofs.Machine.{found_record, same_cell}
 
 module _ (o : OwnerState) (s : Kept o) (mode : o.shape.mode ≡ Cache) where
   -- a chain is its main bucket alone
@@ -21,17 +21,6 @@ module _ (o : OwnerState) (s : Kept o) (mode : o.shape.mode ≡ Cache) where
 
   pub alone : (b c : ℕ) → InChain o b c → b ≡ c
   alone b c h = let none = s.shape.no_spares mode in among_one (suc o.shape.spares) b c (omega arith) h
-
-  -- what the machine has of a key is one record
-  pub one_cell : (key : List ℕ) (cell cell' : Cell) (p p' : ℕ) → Has (state_in o) key cell p → Has (state_in o) key cell' p' → (cell ≡ cell') × (p ≡ p')
-  one_cell key cell cell' p p' h h' =
-      let at = cached_in (options_in o) mode o.history in
-      let one = found_record (record_of at.0 key) cell p (subst (λ (z : State). Has z key cell p) at.1 h) in
-      let two = found_record (record_of at.0 key) cell' p' (subst (λ (z : State). Has z key cell' p') at.1 h') in
-      let same : one.0 ≡ two.0 = ap (λ (z : Option Record). unwrap_or z one.0) (sym one.1 ∙ two.1) in (
-        one.3 ∙ (ap (λ (r : Record). record { value = r.value; room = r.room }) same ∙ sym two.3),
-        sym one.2 ∙ (ap (λ (r : Record). r.offset) same ∙ two.2),
-      )
 
   -- the rooms of the items of two keys share no word
   pub rooms_of_keys : (b b' entry entry' : ℕ) (key key' : List ℕ) (cell cell' : Cell) → Spells o b entry key cell → Spells o b' entry' key' cell'
@@ -90,5 +79,5 @@ module _ (o : OwnerState) (s : Kept o) (mode : o.shape.mode ≡ Cache) where
           → Spells o b entry key cell → Spells o b entry' key' cell' → key ≡ key' → (c ≡ c') × (slot ≡ slot')
       by_key c slot entry c' slot' entry' h h' key key' cell cell' sp sp' same =
           let sp'' : Spells o b entry' key cell' = subst (λ (z : List ℕ). Spells o b entry' z cell') (sym same) sp' in
-          let cells = one_cell key cell cell' (entry_offset entry) (entry_offset entry') sp.has sp''.has in
-          once c slot entry c' slot' entry' key cell h h' sp (subst (λ (z : Cell). Spells o b entry' key z) (sym cells.0) sp'')
+          let one = same_cell (state_in o) key cell cell' (entry_offset entry) (entry_offset entry') sp.has sp''.has in
+          once c slot entry c' slot' entry' key cell h h' sp (subst (λ (z : Cell). Spells o b entry' key z) (sym one) sp'')

@@ -3,7 +3,7 @@ use Rattle.epoch_core.proofs.Vocabulary.{CanPlay, HasKeyWords, Kept, KeyFits, Li
 use Rattle.epoch_core.proofs.Vocabulary.{get_or, header_of, item_at, item_events, item_in, length, length-packed, packed, plays, puts_from, refl}
 use Rattle.epoch_core.proofs.Vocabulary.{set-get_or, subst, suc, sym, zero, ℕ, ◌++◌, ◌+◌, ◌<◌, ◌∙◌, ◌∷◌, ◌≡◌}
 use Rattle.mica_words.specs.Spelling.{item_words}
-use Rattle.epoch_core.proofs.EventWords.{item_puts_other}
+use Rattle.epoch_core.proofs.EventWords.{other}
 use Rattle.epoch_core.proofs.Log.{not_below}
 use Rattle.epoch_core.proofs.Puts.{can_play-append, plays-append}
 
@@ -59,7 +59,7 @@ module _ (o : OwnerState) (p room : ℕ) (key value : List ℕ) where
       let wide = length-packed key in
       let short = fits.1 in
       let many = s.shape.ranges.words.0 in
-      item_puts_other o s.wide p _ (p + 1 + i) (λ same. not_below o.shape.words p (p + 1 + i) (omega arith) (omega arith) (omega arith))
+      other o (PutsWord p _) (item_at o.shape (p + 1 + i)) (λ same. not_below o.shape.words p (p + 1 + i) (omega arith) (omega arith) (omega arith))
       ∙ is_there i l)
     where
       is_there : (i : ℕ) → i < length (fnv1a key ∷ packed key) → item_in o (p + 1 + i) ≡ get_or (fnv1a key ∷ packed key) i 0

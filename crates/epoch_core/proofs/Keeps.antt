@@ -11,8 +11,9 @@ use Rattle.epoch_core.proofs.Failing.{fails_rise}
 use Rattle.epoch_core.proofs.Spares.{spares}
 use Rattle.epoch_core.proofs.Log.{log_spares}
 use Rattle.epoch_core.proofs.Machine.{HasStill, all_more, none_more, marked_still}
+use Rattle.epoch_core.proofs.EventWords.{other}
 use Rattle.epoch_core.proofs.Carried.{Carries, stands_on}
-use Rattle.epoch_core.proofs.Chains.{other_word, chains_after}
+use Rattle.epoch_core.proofs.Chains.{chains_after}
 
 pub count_more : {X : Type 0} (p : X → Bool) (xs : List X) (x : X) → count_by p (xs ++ x ∷ []) ≡ count_by p xs + (if p x then 1 else 0)
 count_more p xs x = sum_by_push (λ y. cond (p y) 1 0) xs x
@@ -39,12 +40,12 @@ module _ (o : OwnerState) (s : Kept o) where
   one_more b c l = dite (ℕ_discrete b c)
       (λ same. rw (sym same) (let one = bit_same b b refl in
       let here = get_or-set_same o.words (epoch_at b) (epoch_in o b + 1) 0 (let wide = s.wide in omega arith) in omega arith))
-      (λ n. let zero = bit_else b c n in let same = other_word o s (Begins b) (epoch_at c) (λ is. n (omega arith)) in omega arith)
+      (λ n. let zero = bit_else b c n in let same = other o (Begins b) (epoch_at c) (λ is. n (omega arith)) in omega arith)
 
   epoch_after : (e : Event) → IsAllowed e o → (c : ℕ) → IsMain o.shape c → epoch_in (after e o) c ≡ epoch_in o c + adds e c
   epoch_after (Begins b) a c l = one_more b c a.main
   epoch_after (Ends b) a c l = one_more b c (ends_main o s o.phase refl b a.marked)
-  epoch_after e a c l = let same = other_word o s e (epoch_at c) (λ is. omega arith) in omega arith
+  epoch_after e a c l = let same = other o e (epoch_at c) (λ is. omega arith) in omega arith
 
   -- no epoch falls
   pub rises : (e : Event) → IsAllowed e o → (c : ℕ) → IsMain o.shape c → epoch_in o c ≤ epoch_in (after e o) c
@@ -65,7 +66,7 @@ module _ (o : OwnerState) (s : Kept o) where
 
   stamp_after : (e : Event) → IsAllowed e o → stamp_in (after e o) ≡ stamp_of (options_in o) (history_after e o.history)
   stamp_after (Marks write n) a = get_or-set_same o.words stamp_at n 0 (let wide = s.wide in omega arith) ∙ a.stamp
-  stamp_after e a = other_word o s e stamp_at (λ is. omega arith) ∙ s.stamp
+  stamp_after e a = other o e stamp_at (λ is. omega arith) ∙ s.stamp
 
   lawful_after : (e : Event) → IsAllowed e o → IsLawfulHistory o.shape (history_after e o.history)
   lawful_after (Marks write n) a = record {
@@ -115,7 +116,7 @@ module _ (o : OwnerState) (s : Kept o) where
   pub carries : (e : Event) → IsAllowed e o → (b : ℕ) → IsMain o.shape b → marked_in (phase_after e o) b ≡ 0 → Carries o (after e o) b
   carries e a b l none = let was = stood e a b l none in record {
     stands = was.0;
-    word = λ i reached. other_word o s e i (was.1 i reached);
+    word = λ i reached. other o e i (was.1 i reached);
     stamp = s.stamp;
     stamp_now = stamp_after e a;
     has = has_still e a b none;

@@ -6,6 +6,7 @@ use Rattle.epoch_core.proofs.Vocabulary.{ℕ, ◌++◌, ◌<◌, ◌∙◌, ◌�
 use Rattle.epoch_core.proofs.Vocabulary.{Cache as CacheMode}
 use Rattle.epoch_core.proofs.Vocabulary.{Store as StoreMode}
 use Rattle.mica_model.specs.Cache.{Cache, Record, record_of}
+use Rattle.std.proofs.lemmas.Option.{same_Some}
 use Rattle.mica_model.specs.CacheStep as cs
 use Rattle.mica_model.specs.StoreStep as ss
 use Rattle.mica_model.specs.History.{after, stamp_in}
@@ -36,7 +37,12 @@ found_record (Some r) cell p e = (
   sym (ap (λ (z : Option (Cell × ℕ)). unwrap_or (option_map (λ (q : Cell × ℕ). q.0) z) cell) e),
 )
 
--- what the machine has fits
+-- it is one cell of a key
+pub same_cell : (now : State) (key : List ℕ) (cell cell' : Cell) (p p' : ℕ) → Has now key cell p → Has now key cell' p' → cell ≡ cell'
+same_cell (cache_state s) key cell cell' p p' h h' = ap (λ (z : Cell × ℕ). z.0) (same_Some (cell, p) (cell', p') (sym h ∙ h'))
+same_cell (store_state s) key cell cell' p p' h h' = same_Some cell cell' (sym h ∙ h')
+
+-- and it fits
 fits_by : (options : Options) (history : History) → AllByRecursion IsWrite history → (now : State) → state_of options history ≡ now
     → (key : List ℕ) (cell : Cell) (p : ℕ) → Has now key cell p → Fits key cell
 fits_by options history writes (cache_state s) at key cell p h =

@@ -14,7 +14,7 @@ zeros zero i = refl
 zeros (suc n) zero = refl
 zeros (suc n) (suc i) = zeros n i
 
-no_stamp_yet : (mode : Mode) → stamp_in (start mode) ≡ 0
+pub no_stamp_yet : (mode : Mode) → stamp_in (start mode) ≡ 0
 unfolding cache.start store.start
 no_stamp_yet Cache = refl
 no_stamp_yet Store = refl

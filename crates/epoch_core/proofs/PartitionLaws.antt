@@ -1,26 +1,28 @@
 -- Laws of a partition, in either mode: what it knows between two writes, and of a write that the machine accepts.
-use Rattle.epoch_core.proofs.Vocabulary.{AreBytes, Begins, Cache, Cell, Ends, Has, HasKey, Idle, IsBucket, IsMain, IsOffset, IsWrite, Kept, List}
-use Rattle.epoch_core.proofs.Vocabulary.{Marked, Marks, MayBegin, MayEnd, MayGive, MayMark, Mode, Options, Outcome, OwnerState, Phase, Spells}
-use Rattle.epoch_core.proofs.Vocabulary.{SpellsItem, StandsFor, State, Store, Worn, Write, [], accepted_is_length, add-zero, after, ap, arith}
-use Rattle.epoch_core.proofs.Vocabulary.{as_made, bucket_in, bucket_of-below, cache_state, cases_Bool, cond, entry_at, entry_in, entry_offset}
-use Rattle.epoch_core.proofs.Vocabulary.{entry_tag, false, get_or, header_room, header_room-header_of, header_word, inl, inr, is_accepted, is_some}
-use Rattle.epoch_core.proofs.Vocabulary.{item_at, item_in, le-leb, length, link_at, link_in, marked_in, options_in, plays, pow_pos, puts_from, refl}
-use Rattle.epoch_core.proofs.Vocabulary.{room_in, stamp_in, stamp_of, start, state_in, state_snoc, store_state, subst, sym, tag_of, true, true≢false}
-use Rattle.epoch_core.proofs.Vocabulary.{word_count, ℕ, ◌++◌, ◌+◌, ◌<◌, ◌∙◌, ◌∷◌, ◌≡◌, ◌≢◌, ◌≤◌, ◌⊎◌}
+use Rattle.epoch_core.proofs.Vocabulary.{AreBytes, Begins, Cell, Ends, Has, HasKey, Idle, IsBucket, IsMain, IsOffset, IsWrite, Kept, List, Marked}
+use Rattle.epoch_core.proofs.Vocabulary.{Marks, MayBegin, MayEnd, MayGive, MayMark, Options, Outcome, OwnerState, Phase, Spells, SpellsItem}
+use Rattle.epoch_core.proofs.Vocabulary.{StandsFor, State, Worn, Write, [], accepted_is_length, add-zero, after, ap, arith, as_made, bucket_in}
+use Rattle.epoch_core.proofs.Vocabulary.{cache_state, cases_Bool, cond, entry_at, entry_in, entry_offset, entry_tag, epoch_at, false, get_or}
+use Rattle.epoch_core.proofs.Vocabulary.{header_room, header_room-header_of, header_word, inl, inr, is_accepted, is_some, item_at, item_in, le-leb}
+use Rattle.epoch_core.proofs.Vocabulary.{length, link_at, link_in, marked_in, options_in, plays, puts_from, refl, room_in, stamp_at, stamp_in}
+use Rattle.epoch_core.proofs.Vocabulary.{stamp_of, state_in, state_snoc, store_state, subst, sym, tag_of, true, true≢false, word_count, ℕ, ◌++◌, ◌+◌}
+use Rattle.epoch_core.proofs.Vocabulary.{◌<◌, ◌∙◌, ◌∷◌, ◌≡◌, ◌≢◌, ◌≤◌, ◌⊎◌}
 use Rattle.std.specs.Str.{bytes_eq}
-use Rattle.std.proofs.lemmas.Option.{same_Some}
 use Rattle.std.proofs.lemmas.Slice.Eq.{bytes_eq-Decides}
 use Rattle.mica_model.specs.Cache as cache
 use Rattle.mica_model.specs.CacheStep as cs
 use Rattle.mica_model.specs.Store as store
-use Rattle.mica_model.specs.History.{Allows, accepted_in, after as state_after, stamp_in as stamp_of_state}
+use Rattle.mica_model.specs.History.{Allows, accepted_in, after as state_after}
 use Rattle.epoch_core.specs.OwnerStep.{IsOwnerStep}
 use Rattle.epoch_core.proofs.Carried.{changed}
-use Rattle.epoch_core.proofs.EventWords.{entry_begins, entry_marks, item_begins, item_marks, link_begins, link_marks, stamp_marks}
+use Rattle.epoch_core.proofs.EventWords.{other, stamp_marks}
 use Rattle.epoch_core.proofs.Inside.{some_words}
 use Rattle.epoch_core.proofs.Keeps.{kept_after}
 use Rattle.epoch_core.proofs.Keys.{has_its_key, has_no_other}
 use Rattle.epoch_core.proofs.Machine.{has_fits}
+use Rattle.epoch_core.proofs.Made.{no_stamp_yet}
+pub use Rattle.epoch_core.proofs.Machine.{same_cell}
+pub use Rattle.epoch_core.proofs.Marked.{main_of}
 use Rattle.epoch_core.proofs.Marked.{bit_same}
 use Rattle.epoch_core.proofs.Places.{no_item}
 use Rattle.epoch_core.proofs.Puts.{PutsWords, puts_words}
@@ -32,19 +34,9 @@ same_or_other key key' = elim (cases_Bool (bytes_eq key key')) [
   | inr not ↦ inr (λ same. true≢false (sym ((bytes_eq-Decides key key').1 same) ∙ not))
 ]
 
--- what the machine has of a key is one cell
-pub same_cell : (now : State) (key : List ℕ) (cell cell' : Cell) (p p' : ℕ) → Has now key cell p → Has now key cell' p' → cell ≡ cell'
-same_cell (cache_state s) key cell cell' p p' h h' = ap (λ (z : Cell × ℕ). z.0) (same_Some (cell, p) (cell', p') (sym h ∙ h'))
-same_cell (store_state s) key cell cell' p p' h h' = same_Some cell cell' (sym h ∙ h')
-
 -- no stamp was given yet
-pub start_stamp : (mode : Mode) → stamp_of_state (start mode) ≡ 0
-unfolding cache.start store.start
-start_stamp Cache = refl
-start_stamp Store = refl
-
 pub new_stamp : (o : OwnerState) → o ≡ as_made o.shape → 0 ≡ stamp_of (options_in o) o.history
-new_stamp o made = sym (ap (λ (z : OwnerState). stamp_of (options_in o) z.history) made ∙ start_stamp o.shape.mode)
+new_stamp o made = sym (ap (λ (z : OwnerState). stamp_of (options_in o) z.history) made ∙ no_stamp_yet o.shape.mode)
 
 -- the words of an item have its room
 pub item_room : (o : OwnerState) (p : ℕ) (key : List ℕ) (cell : Cell) → cell.room < 65536 → SpellsItem o p key cell → header_room (item_in o p) ≡ cell.room
@@ -55,10 +47,6 @@ item_room o p key cell small item =
 -- Between two writes
 
 module _ (o : OwnerState) (s : Kept o) where
-  -- the bucket of a key is a main one
-  pub main_of : (key : List ℕ) → IsMain o.shape (bucket_in o key)
-  main_of key = bucket_of-below key o.shape.buckets (subst (λ (z : ℕ). 0 < z) (sym s.shape.ranges.buckets.2) (pow_pos s.shape.ranges.buckets.0))
-
   pub stands_idle : o.phase ≡ Idle → (c : ℕ) → IsMain o.shape c → StandsFor o c
   stands_idle idle c l = s.state c l (ap (λ (z : Phase). marked_in z c) idle)
 
@@ -155,14 +143,17 @@ module _ (o : OwnerState) (a : AcceptedWrite o) where
   pub kept_marked : Kept marked
   kept_marked = kept_after (after (Begins b) o) kept_begun (Marks a.w a.t) may_mark
 
+  marked_else : (i : ℕ) → i ≢ stamp_at → i ≢ epoch_at b → get_or marked.words i 0 ≡ get_or o.words i 0
+  marked_else i n n' = other (after (Begins b) o) (Marks a.w a.t) i n ∙ other o (Begins b) i n'
+
   pub marked_item : (q : ℕ) → item_in marked q ≡ item_in o q
-  marked_item q = item_marks (after (Begins b) o) kept_begun.wide a.w a.t q ∙ item_begins o a.kept.wide b q main
+  marked_item q = marked_else (item_at o.shape q) (λ is. omega arith) (λ is. omega (arith, main))
 
   pub marked_link : (d : ℕ) → link_in marked d ≡ link_in o d
-  marked_link d = link_marks (after (Begins b) o) kept_begun.wide a.w a.t d ∙ link_begins o a.kept.wide b d main
+  marked_link d = marked_else (link_at o.shape d) (λ is. omega arith) (λ is. omega (arith, main))
 
   pub marked_entry : (d slot : ℕ) → slot < 15 → entry_in marked d slot ≡ entry_in o d slot
-  marked_entry d slot low = entry_marks (after (Begins b) o) kept_begun.wide a.w a.t d slot ∙ entry_begins o a.kept.wide b d slot main low
+  marked_entry d slot low = marked_else (entry_at o.shape d slot) (λ is. omega arith) (λ is. omega (arith, main))
 
   -- Then words alone change
 

@@ -4,7 +4,8 @@ use Rattle.epoch_core.proofs.Vocabulary.{IsReached, Kept, List, Marked, Marks, O
 use Rattle.epoch_core.proofs.Vocabulary.{WhenMarked, Write, arith, bucket_words, by_entry, by_item, by_link, cache_state, entries_at, entry_offset}
 use Rattle.epoch_core.proofs.Vocabulary.{item_at, marked_in, options_in, place_of, refl, room_in, state_of, store_state, subst, sym, ℕ, ◌+◌, ◌<◌, ◌∙◌}
 use Rattle.epoch_core.proofs.Vocabulary.{◌≡◌, ◌≢◌}
-use Rattle.epoch_core.proofs.Marked.{chain_bucket, marked_not, ends_main, its_bucket, its_inside}
+use Rattle.epoch_core.proofs.Walks.{chain_bucket}
+use Rattle.epoch_core.proofs.Marked.{marked_not, ends_main, its_bucket, its_inside}
 use Rattle.epoch_core.proofs.Places.{same_bucket, no_epoch, no_stamp, no_item, item_no_epoch}
 
 -- A word of the marked write in cache mode is in no room of a live item of another, unmarked bucket: the one case that goes by the log.
@@ -23,7 +24,7 @@ module _ (o : OwnerState) (s : Kept o) (log : LogSpares o) where
     apart_slot : (e : Event) → IsAllowed e o → (c slot : ℕ) → InChain o other c → slot < bucket_words → entries_at o.shape c + slot ≢ place_of o.shape e
     apart_slot (Begins b) a c slot h x e = no_epoch o.shape b c slot a.main x e
     apart_slot (Marks write n) a c slot h x e = no_stamp o.shape c slot e
-    apart_slot (PutsWord p y) a c slot h x e = no_item o.shape c slot p (chain_bucket o s other c l h) x e
+    apart_slot (PutsWord p y) a c slot h x e = no_item o.shape c slot p (chain_bucket o s.chains other c l h) x e
     apart_slot (PutsEntry d t entry) a c slot h x e = let small = a.in_bucket in not_its d t a.its_bucket (omega arith) c slot h x e
     apart_slot (PutsLink d next) a c slot h x e = not_its d SLOTS a.its_bucket (omega arith) c slot h x e
     apart_slot (Ends b) a c slot h x e = no_epoch o.shape b c slot (ends_main o s o.phase refl b a.marked) x e

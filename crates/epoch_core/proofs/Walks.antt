@@ -72,3 +72,6 @@ module _ (o : OwnerState) (links : (c : ℕ) → IsBucket o.shape c → (link_in
 
 pub chain_there : (o : OwnerState) → HasChains o → (b : ℕ) → IsMain o.shape b → (cs : List ℕ) × IsChain o b cs
 chain_there o s b main = let list = listed_to_end o (suc o.shape.spares) b (s.end b main) in (list.0, chain_of o s.links b list.0 main list.1)
+
+pub chain_bucket : (o : OwnerState) → HasChains o → (b c : ℕ) → IsMain o.shape b → InChain o b c → IsBucket o.shape c
+chain_bucket o s b c main h = let chain = chain_there o s b main in inside o b chain.0 chain.1 main c (has_bucket o b chain.0 chain.1 c h)
