@@ -4,6 +4,8 @@ use Rattle.epoch_core.proofs.Vocabulary.{IsMain, IsReached, List, Marked, Mode, 
 use Rattle.epoch_core.proofs.Vocabulary.{arith, by_entry, by_item, by_link, dite, entry_at, entry_offset, get_or, header_room, inl, inr, item_at}
 use Rattle.epoch_core.proofs.Vocabulary.{link_at, link_in, marked_in, options_in, refl, room_in, stamp_in, stamp_of, subst, suc, sym, zero, ℕ}
 use Rattle.epoch_core.proofs.Vocabulary.{ℕ_discrete, ◌+◌, ◌<◌, ◌∙◌, ◌≡◌, ◌≢◌, ◌⊎◌}
+use Rattle.epoch_core.proofs.Behind.{same_behind}
+use Rattle.epoch_core.proofs.Walks.{IsChain, chain_there, has_bucket, in_chain}
 use Rattle.epoch_core.proofs.Machine.{HasStill}
 use Rattle.epoch_core.proofs.Marked.{bit_else}
 
@@ -13,6 +15,8 @@ changed o words history phase = record o { words = words; history = history; pha
 
 -- what has to be known of a bucket
 pub record Carries (o new : OwnerState) (b : ℕ) : Type 0 where
+  pub chains : HasChains o
+  pub main : IsMain o.shape b
   pub stands : StandsFor o b
   pub word : (i : ℕ) → IsReached o b i → get_or new.words i 0 ≡ get_or o.words i 0
   pub stamp : stamp_in o ≡ stamp_of (options_in o) o.history
@@ -43,26 +47,18 @@ module _ (o new : OwnerState) where
     link_same : (c : ℕ) → InChain o b c → link_in p c ≡ link_in o c
     link_same c h = k.word (link_at o.shape c) (by_link c h refl)
 
-    among_back : (n d c : ℕ) → ((x : ℕ) → IsAmong o n d x → InChain o b x) → IsAmong p n d c → IsAmong o n d c
-    among_back zero d c up h = absurd h
-    among_back (suc n) d c up (inl is) = inl is
-    among_back (suc n) d c up (inr h) =
-        let same = link_same d (up d (inl refl)) in
-        let linked : link_in o d ≢ 0 = λ none. h.0 (same ∙ none) in
-        inr (linked, among_back n (link_in o d) c (λ x among. up x (inr (linked, among))) (subst (λ (z : ℕ). IsAmong p n z c) same h.1))
+    chain : (cs : List ℕ) × IsChain o b cs
+    chain = chain_there o k.chains b k.main
 
-    among_on : (n d c : ℕ) → ((x : ℕ) → IsAmong o n d x → InChain o b x) → IsAmong o n d c → IsAmong p n d c
-    among_on zero d c up h = absurd h
-    among_on (suc n) d c up (inl is) = inl is
-    among_on (suc n) d c up (inr h) =
-        let same = link_same d (up d (inl refl)) in
-        inr (
-          λ none. h.0 (sym same ∙ none),
-          subst (λ (z : ℕ). IsAmong p n z c) (sym same) (among_on n (link_in o d) c (λ x among. up x (inr (h.0, among))) h.1),
-        )
+    same_chain : IsChain p b chain.0
+    same_chain = record {
+      behind = same_behind (link_in o) (link_in p) b chain.0 (λ c i. link_same c (in_chain o b chain.0 chain.1 c i)) chain.1.behind;
+      spare = chain.1.spare;
+      few = chain.1.few;
+    }
 
     chain_back : (c : ℕ) → InChain p b c → InChain o b c
-    chain_back c h = among_back (suc o.shape.spares) b c (λ x among. among) h
+    chain_back c h = in_chain o b chain.0 chain.1 c (has_bucket p b chain.0 same_chain c h)
 
     entry_same : (c slot : ℕ) → InChain o b c → slot < 15 → get_or new.words (entry_at o.shape c slot) 0 ≡ get_or o.words (entry_at o.shape c slot) 0
     entry_same c slot h x = k.word (entry_at o.shape c slot) (by_entry c slot h x refl)
@@ -89,7 +85,7 @@ module _ (o new : OwnerState) where
     on : (c slot entry : ℕ) → HasLiveEntry o b c slot entry → IsLiveItem o.shape.mode o.shape.words (stamp_in p) (entry_offset entry)
         → HasLiveEntry p b c slot entry
     on c slot entry h live = record {
-      in_chain = among_on (suc o.shape.spares) b c (λ x among. among) h.in_chain;
+      in_chain = in_chain p b chain.0 same_chain c (has_bucket o b chain.0 chain.1 c h.in_chain);
       in_bucket = h.in_bucket;
       found = entry_same c slot h.in_chain h.in_bucket ∙ h.found;
       live = (h.live.0, live);

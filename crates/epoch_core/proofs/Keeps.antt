@@ -115,6 +115,8 @@ module _ (o : OwnerState) (s : Kept o) where
 
   pub carries : (e : Event) → IsAllowed e o → (b : ℕ) → IsMain o.shape b → marked_in (phase_after e o) b ≡ 0 → Carries o (after e o) b
   carries e a b l none = let was = stood e a b l none in record {
+    chains = s.chains;
+    main = l;
     stands = was.0;
     word = λ i reached. other o e i (was.1 i reached);
     stamp = s.stamp;
