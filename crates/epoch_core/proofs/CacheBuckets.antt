@@ -1,11 +1,10 @@
 -- In cache mode the log keeps rooms apart, so a bucket's words stand for the state where its entries spell each record once.
 use Rattle.epoch_core.proofs.Vocabulary.{Cache, Cell, Has, HasChain, HasLiveEntry, InChain, IsAmong, IsMain, Kept, List, Mode, OwnerState, RoomsApart}
-use Rattle.epoch_core.proofs.Vocabulary.{Spells, StandsFor, State, ap, arith, bucket_in, cached_in, entry_offset, inl, inr, link_in, options_in}
-use Rattle.epoch_core.proofs.Vocabulary.{state_in, subst, suc, sym, tail_of, zero, ℕ, ⊎_elim, ◌%◌, ◌+◌, ◌∙◌, ◌≡◌, ◌≢◌, ◌≤◌}
-use Rattle.mica_model.specs.Cache.{record_of}
+use Rattle.epoch_core.proofs.Vocabulary.{Spells, StandsFor, ap, arith, bucket_in, cached_in, entry_offset, inl, inr, link_in, options_in, state_in}
+use Rattle.epoch_core.proofs.Vocabulary.{subst, suc, sym, tail_of, zero, ℕ, ◌%◌, ◌+◌, ◌∙◌, ◌≡◌, ◌≢◌}
 use Rattle.mica_model.proofs.CacheLaws.{kept_in, window_kept, apart_kept}
-use Rattle.epoch_core.proofs.Log.{one_place, room_is}
-use Rattle.epoch_core.proofs.Machine.{found_record, same_cell}
+use Rattle.epoch_core.proofs.Log.{one_place, spelt_record}
+use Rattle.epoch_core.proofs.Machine.{same_cell}
 
 module _ (o : OwnerState) (s : Kept o) (mode : o.shape.mode ≡ Cache) where
   -- a chain is its main bucket alone
@@ -28,28 +27,17 @@ module _ (o : OwnerState) (s : Kept o) (mode : o.shape.mode ≡ Cache) where
   rooms_of_keys b b' entry entry' key key' cell cell' sp sp' differ p i i' =
       let at = cached_in (options_in o) mode o.history in
       let kept = kept_in (options_in o) o.history s.history.writes at.0 at.1 in
-      let one = found_record (record_of at.0 key) cell (entry_offset entry) (subst (λ (z : State). Has z key cell (entry_offset entry)) at.1 sp.has) in
-      let two = found_record (record_of at.0 key') cell' (entry_offset entry') (subst (λ (z : State). Has z key' cell' (entry_offset entry')) at.1 sp'.has) in
+      let one = spelt_record o s b entry key cell sp at.0 at.1 in
+      let two = spelt_record o s b' entry' key' cell' sp' at.0 at.1 in
       let here = window_kept (options_in o) at.0 kept key one.0 one.1 in
       let there = window_kept (options_in o) at.0 kept key' two.0 two.1 in
-      let room = room_is o s b entry key cell sp in
-      let room' = room_is o s b' entry' key' cell' sp' in
-      let long : cell.room ≡ one.0.room = ap (λ (z : Cell). z.room) one.3 in
-      let long' : cell'.room ≡ two.0.room = ap (λ (z : Cell). z.room) two.3 in
-      let offset = one.2 in
-      let offset' = two.2 in
-      let below = i.1 in
-      let below' = i'.1 in
       let place : (one.0.offset + i.0) % o.shape.words ≡ (two.0.offset + i'.0) % o.shape.words =
       ap (λ (z : ℕ). (z + i.0) % o.shape.words) {y = entry_offset entry} one.2
       ∙ ((let e = i.2 in let e' = i'.2 in omega arith)
       ∙ ap (λ (z : ℕ). (z + i'.0) % o.shape.words) {x = entry_offset entry'} (sym two.2)) in
-      let same : one.0.offset + i.0 ≡ two.0.offset + i'.0 =
-      one_place o.shape.words (tail_of at.0.stamp) (one.0.offset + i.0) (two.0.offset + i'.0) place (omega arith) (omega arith) (omega arith) (omega arith) in
-      ⊎_elim
-      (λ (first : one.0.offset + one.0.room ≤ two.0.offset). omega arith)
-      (λ (second : two.0.offset + two.0.room ≤ one.0.offset). omega arith)
-      (apart_kept (options_in o) at.0 kept key key' one.0 two.0 one.1 two.1 differ)
+      let same = one_place o.shape.words (tail_of at.0.stamp) (one.0.offset + i.0) (two.0.offset + i'.0) place
+      (omega arith) (omega arith) (omega (arith, one.3, i.1)) (omega (arith, two.3, i'.1)) in
+      grind (arith, same, one.3, two.3, i.1, i'.1, apart_kept (options_in o) at.0 kept key key' one.0 two.0 one.1 two.1 differ)
 
   -- so a bucket's rooms need no proof of their own
   pub stands_cached : (b : ℕ) → IsMain o.shape b

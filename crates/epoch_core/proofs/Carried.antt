@@ -1,9 +1,9 @@
 -- What the words stand for in a bucket stays where the words in its reach do, and the machine has the same of its keys.
-use Rattle.epoch_core.proofs.Vocabulary.{Cache, Cell, HasChain, HasChains, HasLiveEntry, History, InChain, IsAmong, IsDense, IsInRoom, IsLiveItem}
-use Rattle.epoch_core.proofs.Vocabulary.{IsMain, IsReached, List, Marked, Mode, OwnerState, Phase, RoomsApart, Spells, StandsFor, Store, add-zero, ap}
-use Rattle.epoch_core.proofs.Vocabulary.{arith, by_entry, by_item, by_link, dite, entry_at, entry_offset, get_or, header_room, inl, inr, item_at}
-use Rattle.epoch_core.proofs.Vocabulary.{link_at, link_in, marked_in, options_in, refl, room_in, stamp_in, stamp_of, subst, suc, sym, zero, ℕ}
-use Rattle.epoch_core.proofs.Vocabulary.{ℕ_discrete, ◌+◌, ◌<◌, ◌∙◌, ◌≡◌, ◌≢◌, ◌⊎◌}
+use Rattle.epoch_core.proofs.Vocabulary.{Cache, Cell, HasChain, HasChains, HasLiveEntry, History, InChain, IsDense, IsInRoom, IsLiveItem, IsMain}
+use Rattle.epoch_core.proofs.Vocabulary.{IsReached, List, Marked, Mode, OwnerState, Phase, RoomsApart, Spells, StandsFor, Store, add-zero, ap, arith}
+use Rattle.epoch_core.proofs.Vocabulary.{by_entry, by_item, by_link, dite, entry_at, entry_offset, get_or, header_room, inl, inr, item_at, link_at}
+use Rattle.epoch_core.proofs.Vocabulary.{link_in, marked_in, options_in, refl, room_in, stamp_in, stamp_of, sym, ℕ, ℕ_discrete, ◌+◌, ◌<◌, ◌∙◌, ◌≡◌}
+use Rattle.epoch_core.proofs.Vocabulary.{◌≢◌, ◌⊎◌}
 use Rattle.epoch_core.proofs.Behind.{same_behind}
 use Rattle.epoch_core.proofs.Walks.{IsChain, chain_there, has_bucket, in_chain}
 use Rattle.epoch_core.proofs.Machine.{HasStill}

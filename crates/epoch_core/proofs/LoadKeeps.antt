@@ -1,9 +1,10 @@
 -- Each load of a reader keeps what is kept of it.
-use Rattle.epoch_core.proofs.Vocabulary.{Bool, Contains-push_cases, Cut, CutKept, FailsFit, IfSome, IsMain, IsSpelt, Kept, List, None, Option}
-use Rattle.epoch_core.proofs.Vocabulary.{OwnerState, ReaderKept, ReaderState, Shape, Some, Tells, TellsTry, Try, TryKept, [], ap, arith, epoch_in}
-use Rattle.epoch_core.proofs.Vocabulary.{fails_after, failure, get_or, if◌then◌else◌, inl, inr, le_refl, loaded, new_try, opened, options_of, refl}
-use Rattle.epoch_core.proofs.Vocabulary.{shut, stamped, subst, sym, with_cut, with_load, writes_to_bucket, ℕ, ◌%◌, ◌*◌, ◌++◌, ◌∙◌, ◌∷◌, ◌≡◌, ◌≤◌}
+use Rattle.epoch_core.proofs.Vocabulary.{Bool, Contains-push_cases, FailsFit, IfSome, IsMain, Kept, List, None, Option, OwnerState, ReaderKept}
+use Rattle.epoch_core.proofs.Vocabulary.{ReaderState, Shape, Some, Tells, TellsTry, Try, TryKept, [], ap, arith, epoch_in, fails_after, failure}
+use Rattle.epoch_core.proofs.Vocabulary.{get_or, if◌then◌else◌, inl, inr, le_refl, loaded, new_try, opened, options_of, refl, shut, stamped, subst}
+use Rattle.epoch_core.proofs.Vocabulary.{sym, with_cut, with_load, writes_to_bucket, ℕ, ◌%◌, ◌*◌, ◌++◌, ◌∙◌, ◌∷◌, ◌≡◌, ◌≤◌}
 use Rattle.epoch_core.specs.declared.state.Failure.{Failure}
+use Rattle.std.proofs.lemmas.Option.{IfSome_then}
 use Rattle.epoch_core.proofs.Prefixes.{prefix_same, prefix_then}
 use Rattle.epoch_core.proofs.Failing.{in_none, fails_more}
 use Rattle.epoch_core.proofs.Marked.{tested, calm}
@@ -47,12 +48,8 @@ module _ (o : OwnerState) (s : Kept o) (r : ReaderState) (k : ReaderKept o r) wh
       | inl old ↦ g.loads is at x old reached
       | inr same ↦ ap (λ (z : ℕ × ℕ). get_or o.words z.0 0) (sym same) ∙ ap (λ (z : ℕ × ℕ). z.1) same
     ];
-    at = cut_same t.at g.at;
+    at = IfSome_then t.at g.at (λ at c. record { seen = c.seen; spelt = c.spelt });
   }
-    where
-      cut_same : (at : Option Cut) → IfSome at (CutKept o t) → IfSome at (CutKept o (record t { loads = t.loads ++ (place, get_or o.words place 0) ∷ [] }))
-      cut_same None c = tt
-      cut_same (Some at) c = assumption
 
   pub loads : (place : ℕ) → ReaderKept o (loaded place (get_or o.words place 0) r)
   loads place = loaded_keeps _ _ _ _ _ k.fails (load_current place r.current k.current)
@@ -103,17 +100,13 @@ module _ (o : OwnerState) (s : Kept o) (r : ReaderState) (k : ReaderKept o r) wh
 
   -- and what it tells
 
-  tell_cut : (t : Try) (at : Option Cut) → IfSome at (CutKept o t) → epoch_in o t.bucket ≡ t.first → IfSome at (IsSpelt o.shape t.bucket)
-  tell_cut t None c is = tt
-  tell_cut t (Some at) c is = c.spelt is
-
   tell_try : (current : Option Try) (b : ℕ) → IfSome current (TryKept o) → ((t : Try) → current ≡ Some t → t.bucket ≡ b)
       → IfSome current (TellsTry o.shape (epoch_in o b))
   tell_try None b g is = tt
   tell_try (Some t) b g is =
       let same = ap (epoch_in o) (is t refl) in
       let first = g.first in
-      record { least = omega arith; spelt = λ still. tell_cut t t.at g.at (same ∙ still) }
+      record { least = omega arith; spelt = λ still. IfSome_then t.at g.at (λ at c. c.spelt (same ∙ still)) }
 
   pub tells : (b : ℕ) → ((t : Try) → r.current ≡ Some t → t.bucket ≡ b) → Tells (epoch_in o b) r
   tells b is = subst (λ (z : Shape). IfSome r.current (TellsTry z (epoch_in o b))) (sym k.shape) (tell_try r.current b k.current is)

@@ -2,8 +2,8 @@
 use Rattle.epoch_core.proofs.Vocabulary.{AllByRecursion, Cell, Has, History, IsValid, IsWrite, Kept, List, Options, OwnerState, Phase, PhaseFits}
 use Rattle.epoch_core.proofs.Vocabulary.{Some, Spells, State, Write, add-zero, ap, arith, bucket_in, cache_state, cases_lt, div-add-mod, entry_offset}
 use Rattle.epoch_core.proofs.Vocabulary.{header_of, header_room, header_room-header_of, header_word, inl, inr, item_in, length, marked_in}
-use Rattle.epoch_core.proofs.Vocabulary.{mul-le-mul_left, mul-suc, options_in, room_in, state_in, state_of, state_snoc, subst, sym, tail_of, ℕ}
-use Rattle.epoch_core.proofs.Vocabulary.{⊎_elim, ◌%◌, ◌*◌, ◌+◌, ◌/◌, ◌<◌, ◌∙◌, ◌≡◌, ◌≢◌, ◌≤◌, ◌⊎◌}
+use Rattle.epoch_core.proofs.Vocabulary.{mul-le-mul_left, mul-suc, options_in, room_in, state_in, state_of, state_snoc, subst, sym, tail_of, ℕ, ◌%◌}
+use Rattle.epoch_core.proofs.Vocabulary.{◌*◌, ◌+◌, ◌/◌, ◌<◌, ◌∙◌, ◌≡◌, ◌≢◌, ◌≤◌, ◌⊎◌}
 use Rattle.mica_model.specs.Cache.{Cache, Record, record_of}
 use Rattle.mica_model.specs.CacheStep as cs
 use Rattle.mica_model.specs.History.{after}
@@ -23,10 +23,7 @@ not_below n x y same less near =
     quotients n (x / n) (y / n) (x % n) x y (div-add-mod x n) (ap (λ (z : ℕ). n * (y / n) + z) same ∙ div-add-mod y n) less near (cases_lt (x / n) (y / n))
 
 pub one_place : (n tail x y : ℕ) → x % n ≡ y % n → tail ≤ x + n → tail ≤ y + n → x < tail → y < tail → x ≡ y
-one_place n tail x y same a b c d = ⊎_elim
-    (λ (less : x < y). absurd (not_below n x y same less (omega arith)))
-    (λ (more : y ≤ x). ⊎_elim (λ (less : y < x). absurd (not_below n y x (sym same) less (omega arith))) (λ (even : x ≤ y). omega arith) (cases_lt y x))
-    (cases_lt x y)
+one_place n tail x y same a b c d = grind (arith, not_below n x y same, not_below n y x (sym same))
 
 -- the room of an entry's item is the one that the machine has
 pub room_is : (o : OwnerState) → Kept o → (b entry : ℕ) (key : List ℕ) (cell : Cell) → Spells o b entry key cell → room_in o entry ≡ cell.room
@@ -35,6 +32,14 @@ room_is o s b entry key cell sp =
     let word : item_in o (entry_offset entry) ≡ header_of cell.room (length key) (length cell.value) =
     ap (item_in o) (sym (add-zero (entry_offset entry))) ∙ (sp.item 0 (omega arith) ∙ header_word cell.room key cell.value) in
     ap header_room word ∙ header_room-header_of cell.room (length key) (length cell.value) fits.5
+
+-- in cache mode it is a record of the log
+pub spelt_record : (o : OwnerState) → Kept o → (b entry : ℕ) (key : List ℕ) (cell : Cell) → Spells o b entry key cell
+    → (now : Cache) → state_in o ≡ cache_state now
+    → (r : Record) × (record_of now key ≡ Some r) × (r.offset ≡ entry_offset entry) × (r.room ≡ room_in o entry)
+spelt_record o s b entry key cell sp now at =
+    let found = found_record (record_of now key) cell (entry_offset entry) (subst (λ (z : State). Has z key cell (entry_offset entry)) at sp.has) in
+    (found.0, found.1, found.2, sym (room_is o s b entry key cell sp ∙ ap (λ (z : Cell). z.room) found.3))
 
 -- a word of the write's item is in no room of what the log has of another key
 pub other_rooms : (options : Options) → IsValid options → (history : History) → AllByRecursion IsWrite history → (write : Write) → IsWrite write
@@ -49,10 +54,7 @@ other_rooms options valid history writes write is before at p item key differ r 
     let most = mine.3 in
     let one : r.offset + i ≡ p =
     one_place options.words (tail_of (cs.after options before write).stamp) (r.offset + i) p same (omega arith) (omega arith) (omega arith) (omega arith) in
-    ⊎_elim
-    (λ (first : r.offset + r.room ≤ mine.0.offset). omega arith)
-    (λ (second : mine.0.offset + mine.0.room ≤ r.offset). omega arith)
-    (apart options history writes write is before at key write.key r mine.0 found mine.1 differ)
+    grind (arith, one, apart options history writes write is before at key write.key r mine.0 found mine.1 differ)
 
 pub log_spares : (o : OwnerState) → Kept o → LogSpares o
 log_spares o s b write history before c slot entry other p is at belongs l n h i =
@@ -63,12 +65,8 @@ log_spares o s b write history before c slot entry other p is at belongs l n h i
     let unmarked : marked_in o.phase other ≡ 0 = ap (λ (z : Phase). marked_in z other) is ∙ bit_else b other (λ same. n (sym same)) in
     let some = (s.state other l unmarked).nothing_else c slot entry h in
     let sp = some.2 in
-    let found = found_record (record_of (cs.after (options_in o) before write) some.0) some.1 (entry_offset entry)
-    (subst (λ (z : State). Has z some.0 some.1 (entry_offset entry)) now sp.has) in
+    let r = spelt_record o s other entry some.0 some.1 sp (cs.after (options_in o) before write) now in
     let differ : some.0 ≢ write.key = λ same. n (sym sp.bucket ∙ (ap (bucket_in o) same ∙ sym fits.0)) in
-    let room = room_is o s other entry some.0 some.1 sp in
-    let room' : some.1.room ≡ found.0.room = ap (λ (z : Cell). z.room) found.3 in
-    let below = i.1 in
-    let place : (found.0.offset + i.0) % o.shape.words ≡ p % o.shape.words =
-    ap (λ (z : ℕ). (z + i.0) % o.shape.words) {y = entry_offset entry} found.2 ∙ (let e = i.2 in omega arith) in
-    other_rooms (options_in o) s.shape.ranges history all.0 write all.1 before at p belongs some.0 differ found.0 found.1 i.0 (omega arith) place
+    let place : (r.0.offset + i.0) % o.shape.words ≡ p % o.shape.words =
+    ap (λ (z : ℕ). (z + i.0) % o.shape.words) {y = entry_offset entry} r.2 ∙ (let e = i.2 in omega arith) in
+    other_rooms (options_in o) s.shape.ranges history all.0 write all.1 before at p belongs some.0 differ r.0 r.1 i.0 (omega (arith, r.3, i.1)) place

@@ -1,6 +1,6 @@
 -- What an owner has met changes nothing else of what is kept of it.
-use Rattle.epoch_core.proofs.Vocabulary.{IsMain, marked_in, options_in, HasChains, ◌≡◌, Cache, FailsFit, Grows, HasChain, InChain, IsDense, IsPrefix, IsReached, Kept, Mode, OwnerState, StandsFor}
-use Rattle.epoch_core.proofs.Vocabulary.{Store, by_entry, by_item, by_link, le_refl, refl, ℕ}
+use Rattle.epoch_core.proofs.Vocabulary.{FailsFit, Grows, HasChains, InChain, IsDense, IsMain, IsPrefix, IsReached, Kept, OwnerState, by_entry}
+use Rattle.epoch_core.proofs.Vocabulary.{by_item, by_link, le_refl, marked_in, options_in, refl, ℕ, ◌≡◌}
 use Rattle.epoch_core.specs.declared.state.Met.{Met}
 use Rattle.epoch_core.proofs.Carried.{Carries, stands_on}
 use Rattle.epoch_core.proofs.Machine.{none_more}
