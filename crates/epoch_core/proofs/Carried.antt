@@ -1,5 +1,5 @@
 -- What the words stand for in a bucket stays where the words in its reach do, and the machine has the same of its keys.
-use Rattle.epoch_core.proofs.Vocabulary.{Cache, Cell, HasChain, HasChains, HasLiveEntry, History, InChain, IsDense, IsInRoom, IsLiveItem, IsMain}
+use Rattle.epoch_core.proofs.Vocabulary.{Has, state_in, item_size, item_in, Cache, Cell, HasChain, HasChains, HasLiveEntry, History, InChain, IsDense, IsInRoom, IsLiveItem, IsMain}
 use Rattle.epoch_core.proofs.Vocabulary.{IsReached, List, Marked, Mode, OwnerState, Phase, RoomsApart, Spells, StandsFor, Store, add-zero, ap, arith}
 use Rattle.epoch_core.proofs.Vocabulary.{by_entry, by_item, by_link, dite, entry_at, entry_offset, get_or, header_room, inl, inr, item_at, link_at}
 use Rattle.epoch_core.proofs.Vocabulary.{link_in, marked_in, options_in, refl, room_in, stamp_in, stamp_of, sym, ℕ, ℕ_discrete, ◌+◌, ◌<◌, ◌∙◌, ◌≡◌}
@@ -12,6 +12,17 @@ use Rattle.epoch_core.proofs.Marked.{bit_else}
 -- the state with other words, another history and another phase
 abbrev pub changed : OwnerState → List ℕ → History → Phase → OwnerState
 changed o words history phase = record o { words = words; history = history; phase = phase }
+
+-- an entry spells there what it spells here, where its room, its item's words and what the machine has of the key are the same
+pub spells_there : (o new : OwnerState) (b entry : ℕ) (key : List ℕ) (cell : Cell)
+    → Has (state_in (record new { shape = o.shape })) key cell (entry_offset entry)
+    → room_in (record new { shape = o.shape }) entry ≡ room_in o entry
+    → ((i : ℕ) → i < item_size key cell.value
+    → item_in (record new { shape = o.shape }) (entry_offset entry + i) ≡ item_in o (entry_offset entry + i))
+    → Spells o b entry key cell → Spells (record new { shape = o.shape }) b entry key cell
+spells_there o new b entry key cell has room same sp =
+    let fits = sp.in_room in
+    record { bucket = sp.bucket; has = has; offset = sp.offset; tag = sp.tag; item = λ i l. same i l ∙ sp.item i l; in_room = omega arith }
 
 -- what has to be known of a bucket
 pub record Carries (o new : OwnerState) (b : ℕ) : Type 0 where
@@ -101,30 +112,22 @@ module _ (o new : OwnerState) where
         let first = ap (item_at o.shape) (sym (add-zero (entry_offset entry))) in
         ap header_room (k.word (item_at o.shape (entry_offset entry)) (by_item c slot entry 0 h (omega arith) first))
 
-    pub in_room : (c slot entry q : ℕ) → HasLiveEntry o b c slot entry → IsInRoom p entry q → IsInRoom o entry q
-    in_room c slot entry q h i = let same = room c slot entry h in (i.0, let below = i.1 in omega arith, i.2)
+    pub in_room : (c slot entry q : ℕ) → HasLiveEntry p b c slot entry → IsInRoom p entry q → IsInRoom o entry q
+    in_room c slot entry q h i = (i.0, omega (arith, i.1, room c slot entry (back c slot entry h)), i.2)
 
     spells_on : (c slot entry : ℕ) (key : List ℕ) (cell : Cell) → HasLiveEntry o b c slot entry
         → IsLiveItem o.shape.mode o.shape.words (stamp_in p) (entry_offset entry) → Spells o b entry key cell → Spells p b entry key cell
-    spells_on c slot entry key cell h live sp = let fits = sp.in_room in let same = room c slot entry h in record {
-      bucket = sp.bucket;
-      has = k.has.on key cell (entry_offset entry) sp.bucket sp.has (rw (sym k.stamp_now) live);
-      offset = sp.offset;
-      tag = sp.tag;
-      item = λ i x. item_same c slot entry i h (omega arith) ∙ sp.item i x;
-      in_room = omega arith;
-    }
+    spells_on c slot entry key cell h live sp = spells_there o new b entry key cell
+        (k.has.on key cell (entry_offset entry) sp.bucket sp.has (rw (sym k.stamp_now) live)) (room c slot entry h)
+        (λ i x. item_same c slot entry i h (omega (arith, sp.in_room))) sp
 
-    spells_back : (c slot entry : ℕ) (key : List ℕ) (cell : Cell) → HasLiveEntry o b c slot entry
+    spells_back : (c slot entry : ℕ) (key : List ℕ) (cell : Cell) → HasLiveEntry p b c slot entry
         → Spells p b entry key cell → Spells o b entry key cell
-    spells_back c slot entry key cell h sp = let fits = sp.in_room in let same = room c slot entry h in record {
-      bucket = sp.bucket;
-      has = k.has.back key cell (entry_offset entry) sp.bucket sp.has;
-      offset = sp.offset;
-      tag = sp.tag;
-      item = λ i x. sym (item_same c slot entry i h (omega arith)) ∙ sp.item i x;
-      in_room = omega arith;
-    }
+    spells_back c slot entry key cell h sp =
+        let before = back c slot entry h in
+        let same = room c slot entry before in
+        spells_there p o b entry key cell (k.has.back key cell (entry_offset entry) sp.bucket sp.has) (sym same)
+        (λ i x. sym (item_same c slot entry i before (omega (arith, sp.in_room, same)))) sp
 
     -- and so what is reached now was reached before
     pub reach_back : (i : ℕ) → IsReached p b i → IsReached o b i
@@ -154,20 +157,14 @@ module _ (o new : OwnerState) where
         rw k.stamp_now (k.has.live_on key cell q (entry_offset at.2) is has at.4.has (rw (sym k.stamp) at.3.live.1)) in
         (at.0, at.1, at.2, on b k at.0 at.1 at.2 at.3 live, spells_on b k at.0 at.1 at.2 key cell at.3 live at.4);
     once = λ c slot entry c' slot' entry' key cell h h' sp sp'.
-        let before = back b k c slot entry h in
-        let before' = back b k c' slot' entry' h' in
-        k.stands.once c slot entry c' slot' entry' key cell before before'
-        (spells_back b k c slot entry key cell before sp) (spells_back b k c' slot' entry' key cell before' sp');
+        k.stands.once c slot entry c' slot' entry' key cell (back b k c slot entry h) (back b k c' slot' entry' h')
+        (spells_back b k c slot entry key cell h sp) (spells_back b k c' slot' entry' key cell h' sp');
     rooms = λ c slot entry c' slot' entry' h h' other q i i'.
-        let before = back b k c slot entry h in
-        let before' = back b k c' slot' entry' h' in
-        k.stands.rooms c slot entry c' slot' entry' before before' other q
-        (in_room b k c slot entry q before i) (in_room b k c' slot' entry' q before' i');
+        k.stands.rooms c slot entry c' slot' entry' (back b k c slot entry h) (back b k c' slot' entry' h') other q
+        (in_room b k c slot entry q h i) (in_room b k c' slot' entry' q h' i');
     apart = λ other c slot entry c' slot' entry' main differs unmarked h h' q i i'.
         let k' = carries other main unmarked in
-        let before = back b k c slot entry h in
-        let before' = back other k' c' slot' entry' h' in
-        rooms_apart o b other c slot entry c' slot' entry' l main differs k.stands k'.stands before before' q
-        (in_room b k c slot entry q before i) (in_room other k' c' slot' entry' q before' i');
+        rooms_apart o b other c slot entry c' slot' entry' l main differs k.stands k'.stands (back b k c slot entry h)
+        (back other k' c' slot' entry' h') q (in_room b k c slot entry q h i) (in_room other k' c' slot' entry' q h' i');
     chain = has_chain_on o.shape.mode b k l chains k.stands.chain;
   }

@@ -67,6 +67,5 @@ log_spares o s b write history before c slot entry other p is at belongs l n h i
     let sp = some.2 in
     let r = spelt_record o s other entry some.0 some.1 sp (cs.after (options_in o) before write) now in
     let differ : some.0 ≢ write.key = λ same. n (sym sp.bucket ∙ (ap (bucket_in o) same ∙ sym fits.0)) in
-    let place : (r.0.offset + i.0) % o.shape.words ≡ p % o.shape.words =
-    ap (λ (z : ℕ). (z + i.0) % o.shape.words) {y = entry_offset entry} r.2 ∙ (let e = i.2 in omega arith) in
+    let place : (r.0.offset + i.0) % o.shape.words ≡ p % o.shape.words = rw r.2 (omega (arith, i.2)) in
     other_rooms (options_in o) s.shape.ranges history all.0 write all.1 before at p belongs some.0 differ r.0 r.1 i.0 (omega (arith, r.3, i.1)) place

@@ -1,8 +1,8 @@
 -- What the machine has, in both modes.
 use Rattle.epoch_core.proofs.Vocabulary.{AllByRecursion, AreBytes, Cell, Has, History, IsLiveItem, IsWrite, KeyFits, List, Mode, None, Option}
 use Rattle.epoch_core.proofs.Vocabulary.{Options, Some, State, ValueFits, Write, [], ap, arith, bucket_of, cache_state, cached_in, cell_at, get}
-use Rattle.epoch_core.proofs.Vocabulary.{item_size, option_map, refl, stamp_of, state_of, state_snoc, store_state, stored_in, subst, sym, unwrap_or}
-use Rattle.epoch_core.proofs.Vocabulary.{ℕ, ◌++◌, ◌<◌, ◌∙◌, ◌∷◌, ◌≡◌, ◌≢◌, ◌≤◌}
+use Rattle.epoch_core.proofs.Vocabulary.{item_size, option_map, refl, stamp_of, state_of, state_snoc, store_state, stored_in, subst, sym, ℕ, ◌++◌}
+use Rattle.epoch_core.proofs.Vocabulary.{◌<◌, ◌∙◌, ◌∷◌, ◌≡◌, ◌≢◌, ◌≤◌}
 use Rattle.epoch_core.proofs.Vocabulary.{Cache as CacheMode}
 use Rattle.epoch_core.proofs.Vocabulary.{Store as StoreMode}
 use Rattle.mica_model.specs.Cache.{Cache, Record, record_of}
@@ -30,12 +30,8 @@ Fits key cell = KeyFits key × AreBytes key × ValueFits cell.value × AreBytes 
 pub found_record : (found : Option Record) (cell : Cell) (p : ℕ) → option_map cell_at found ≡ Some (cell, p)
     → (r : Record) × (found ≡ Some r) × (r.offset ≡ p) × (cell ≡ record { value = r.value; room = r.room })
 found_record None cell p e = cc e
-found_record (Some r) cell p e = (
-  r,
-  refl,
-  ap (λ (z : Option (Cell × ℕ)). unwrap_or (option_map (λ (q : Cell × ℕ). q.1) z) 0) e,
-  sym (ap (λ (z : Option (Cell × ℕ)). unwrap_or (option_map (λ (q : Cell × ℕ). q.0) z) cell) e),
-)
+found_record (Some r) cell p e =
+    let same = same_Some (cell_at r) (cell, p) e in (r, refl, ap (λ (z : Cell × ℕ). z.1) same, sym (ap (λ (z : Cell × ℕ). z.0) same))
 
 -- it is one cell of a key
 pub same_cell : (now : State) (key : List ℕ) (cell cell' : Cell) (p p' : ℕ) → Has now key cell p → Has now key cell' p' → cell ≡ cell'
@@ -91,7 +87,7 @@ module _ (options : Options) (history : History) (writes : AllByRecursion IsWrit
     live_on = λ key cell p q same h i live.
         let before = had key cell p same (rw now at h) in
         let has = rw at.1 at i in
-        let one : p ≡ q = ap (λ (z : Option (Cell × ℕ)). unwrap_or (option_map (λ (r : Cell × ℕ). r.1) z) 0) (sym before.0 ∙ has) in
+        let one : p ≡ q = ap (λ (z : Cell × ℕ). z.1) (same_Some (cell, p) (cell, q) (sym before.0 ∙ has)) in
         let live = before.1 in
         omega arith;
   }

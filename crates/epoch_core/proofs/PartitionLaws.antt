@@ -14,7 +14,7 @@ use Rattle.mica_model.specs.CacheStep as cs
 use Rattle.mica_model.specs.Store as store
 use Rattle.mica_model.specs.History.{Allows, accepted_in, after as state_after}
 use Rattle.epoch_core.specs.OwnerStep.{IsOwnerStep}
-use Rattle.epoch_core.proofs.Carried.{changed}
+use Rattle.epoch_core.proofs.Carried.{changed, spells_there}
 use Rattle.epoch_core.proofs.EventWords.{other, stamp_marks}
 use Rattle.epoch_core.proofs.Inside.{some_words}
 use Rattle.epoch_core.proofs.Keeps.{kept_after}
@@ -209,9 +209,7 @@ module _ (o : OwnerState) (a : AcceptedWrite o) where
     pub spells_on : (c x : ℕ) → Keeps x → (key : List ℕ) (cell : Cell) → Has (state_in (written words)) key cell (entry_offset x)
         → Spells o c x key cell → Spells (written words) c x key cell
     spells_on c x keeps key cell has sp =
-        let fits = sp.in_room in
-        let same = room_same x keeps (omega arith) in
-        record { bucket = sp.bucket; has = has; offset = sp.offset; tag = sp.tag; item = λ i l. keeps i (omega arith) ∙ sp.item i l; in_room = omega arith }
+        let fits = sp.in_room in spells_there o (written words) c x key cell has (room_same x keeps (omega arith)) (λ i l. keeps i (omega arith)) sp
 
     -- It ends
 

@@ -51,7 +51,7 @@ can_put = puts_by Kept (λ o s p x a. (
       let unmarked = ap (λ (z : Phase). marked_in z other) is ∙ bit_else b other (λ same. n (sym same)) in
       let k = carries o s (PutsWord p x) a other l unmarked in
       let was = back o (after (PutsWord p x) o) other k c slot entry h in
-      spares other c slot entry l n was (in_room o (after (PutsWord p x) o) other k c slot entry q was i)),
+      spares other c slot entry l n was (in_room o (after (PutsWord p x) o) other k c slot entry q h i)),
 ))
 
 -- in cache mode whatever the words are

@@ -4,8 +4,8 @@ use Rattle.epoch_core.proofs.Vocabulary.{Option, OwnerState, Some, Spells, Stand
 use Rattle.epoch_core.proofs.Vocabulary.{bucket_in, by_entry, by_item, by_link, cache_state, cell_at, entry_at, entry_in, entry_offset, epoch_in}
 use Rattle.epoch_core.proofs.Vocabulary.{fnv1a, get, header_key_len, header_value_len, header_value_len-header_of, header_word, inl, inr, item_at}
 use Rattle.epoch_core.proofs.Vocabulary.{item_in, item_size, length, link_at, link_in, option_map, options_in, packed, refl, same_value, slice_index}
-use Rattle.epoch_core.proofs.Vocabulary.{stamp_in, stamp_of, state_in, store_state, subst, suc, sym, unpacked, value_in, value_word, words_for, zero}
-use Rattle.epoch_core.proofs.Vocabulary.{ℕ, ◌+◌, ◌<◌, ◌∙◌, ◌∷◌, ◌≡◌, ◌≢◌}
+use Rattle.epoch_core.proofs.Vocabulary.{stamp_of, state_in, store_state, subst, suc, sym, unpacked, value_in, value_word, words_for, zero, ℕ, ◌+◌}
+use Rattle.epoch_core.proofs.Vocabulary.{◌<◌, ◌∙◌, ◌∷◌, ◌≡◌, ◌≢◌}
 use Rattle.mica_model.specs.Cache.{Record, record_of}
 use Rattle.epoch_core.specs.Spelt.{HasLoad, HasLinks, ShowsOther, by_offset, by_key_len, by_value_len, by_hash, by_key_word, ShowsItem, IsNoEntryOf, by_tag, by_stamp, by_item as by_other, SpellsAnswer}
 use Rattle.epoch_core.proofs.Machine.{Fits, found_record, has_fits}
@@ -77,9 +77,6 @@ module _ (o : OwnerState) (s : Kept o) (t : Try) (k : TryKept o t) (still : epoc
     header_now : (x : ℕ) → HasLoad t.loads (item_at o.shape (entry_offset entry)) x → item_in o (entry_offset entry) ≡ x
     header_now x load = word_now 0 (entry_offset entry) x (omega arith) (omega arith) load
 
-    hash_now : (x : ℕ) → HasLoad t.loads (item_at o.shape (entry_offset entry + 1)) x → item_in o (entry_offset entry + 1) ≡ x
-    hash_now x load = word_now 1 (entry_offset entry + 1) x refl (omega arith) load
-
     key_now : (i x : ℕ) → i < words_for (length key) → HasLoad t.loads (item_at o.shape (entry_offset entry + 2 + i)) x
         → item_in o (entry_offset entry + 2 + i) ≡ x
     key_now i x l load = word_now (2 + i) (entry_offset entry + 2 + i) x (omega arith) (omega arith) load
@@ -103,7 +100,7 @@ module _ (o : OwnerState) (s : Kept o) (t : Try) (k : TryKept o t) (still : epoc
     not_other (by_offset out) = out sp.offset
     not_other (by_key_len x load other) = other (ap header_key_len (sym (header_now x load)) ∙ its_key.len)
     not_other (by_value_len x load long) = let short = fits.2 in let is = value_len_is x load in omega arith
-    not_other (by_hash x load other) = other (sym (hash_now x load) ∙ its_key.hash)
+    not_other (by_hash x load other) = other (sym (word_now 1 (entry_offset entry + 1) x refl (omega arith) load) ∙ its_key.hash)
     not_other (by_key_word i x l load other) = other (sym (key_now i x l load) ∙ its_key.words i l)
 
     -- where they tell that it is a key's, it is, with that value
@@ -119,20 +116,17 @@ module _ (o : OwnerState) (s : Kept o) (t : Try) (k : TryKept o t) (still : epoc
         (subst (λ (z : ℕ). i < z) long l) (shows.value_words i l))) in (
           has_no_other o s t.bucket entry key cell sp key' bytes record {
             len = len;
-            hash = hash_now (fnv1a key') shows.hash;
+            hash = word_now 1 (entry_offset entry + 1) (fnv1a key') refl (omega arith) shows.hash;
             words = λ i l. key_now i (slice_index (packed key') i) (subst (λ (z : ℕ). i < words_for z) (sym one) l) (shows.key_words i l);
           },
           sym held ∙ (ap (λ (z : ℕ). unpacked z shows.words) two ∙ shows.held),
         )
 
-  live_now : (entry : ℕ) → IsLive o.shape (stamp_in o) entry → IsLive o.shape (stamp_of (options_in o) o.history) entry
-  live_now entry live = subst (λ (z : ℕ). IsLive o.shape z entry) s.stamp live
-
   -- a live entry of the key's is not shows to be none
   is_one : (c slot entry : ℕ) (h : HasLiveEntry o t.bucket c slot entry) (key : List ℕ) (cell : Cell) → Spells o t.bucket entry key cell
       → ¬ (IsNoEntryOf o.shape t.loads (stamp_of (options_in o) o.history) key entry)
   is_one c slot entry h key cell sp (by_tag other) = other sp.tag
-  is_one c slot entry h key cell sp (by_stamp dead) = dead (live_now entry h.live)
+  is_one c slot entry h key cell sp (by_stamp dead) = dead (subst (λ (z : ℕ). IsLive o.shape z entry) s.stamp h.live)
   is_one c slot entry h key cell sp (by_other shows) = not_other c slot entry h key cell sp shows
 
   told_answer : (key : List ℕ) → AreBytes key → bucket_in o key ≡ t.bucket → (value : Option (List ℕ))
