@@ -1,9 +1,9 @@
 -- What the words stand for in a bucket stays where the words in its reach do, and the machine has the same of its keys.
-use Rattle.epoch_core.proofs.Vocabulary.{Has, state_in, item_size, item_in, Cache, Cell, HasChain, HasChains, HasLiveEntry, History, InChain, IsDense, IsInRoom, IsLiveItem, IsMain}
-use Rattle.epoch_core.proofs.Vocabulary.{IsReached, List, Marked, Mode, OwnerState, Phase, RoomsApart, Spells, StandsFor, Store, add-zero, ap, arith}
-use Rattle.epoch_core.proofs.Vocabulary.{by_entry, by_item, by_link, dite, entry_at, entry_offset, get_or, header_room, inl, inr, item_at, link_at}
-use Rattle.epoch_core.proofs.Vocabulary.{link_in, marked_in, options_in, refl, room_in, stamp_in, stamp_of, sym, ℕ, ℕ_discrete, ◌+◌, ◌<◌, ◌∙◌, ◌≡◌}
-use Rattle.epoch_core.proofs.Vocabulary.{◌≢◌, ◌⊎◌}
+use Rattle.epoch_core.proofs.Vocabulary.{Cache, Cell, Has, HasChain, HasChains, HasLiveEntry, History, InChain, IsDense, IsInRoom, IsLiveItem, IsMain}
+use Rattle.epoch_core.proofs.Vocabulary.{IsReached, List, Marked, Mode, OwnerState, Phase, Spells, StandsFor, Store, add-zero, ap, arith, by_entry}
+use Rattle.epoch_core.proofs.Vocabulary.{by_item, by_link, dite, entry_at, entry_offset, get_or, header_room, inl, inr, item_at, item_in, item_size}
+use Rattle.epoch_core.proofs.Vocabulary.{link_at, link_in, marked_in, options_in, refl, room_in, stamp_in, stamp_of, state_in, sym, ℕ, ℕ_discrete}
+use Rattle.epoch_core.proofs.Vocabulary.{◌+◌, ◌<◌, ◌∙◌, ◌≡◌, ◌≢◌, ◌⊎◌}
 use Rattle.epoch_core.proofs.Behind.{same_behind}
 use Rattle.epoch_core.proofs.Walks.{IsChain, chain_there, has_bucket, in_chain}
 use Rattle.epoch_core.proofs.Machine.{HasStill}
@@ -39,14 +39,6 @@ one_unmarked : (phase : Phase) (b c : ℕ) → b ≢ c → (marked_in phase b �
 one_unmarked (Marked d write before) b c n =
     dite (ℕ_discrete d b) (λ is. inr (bit_else d c (λ same. n (sym is ∙ same)))) (λ not. inl (bit_else d b not))
 one_unmarked phase b c n = inl refl
-
--- so the rooms of their live items share no word
-rooms_apart : (o : OwnerState) (b other c slot entry c' slot' entry' : ℕ) → IsMain o.shape b → IsMain o.shape other → other ≢ b
-    → StandsFor o b → StandsFor o other → HasLiveEntry o b c slot entry → HasLiveEntry o other c' slot' entry' → RoomsApart o entry entry'
-rooms_apart o b other c slot entry c' slot' entry' l m n f f' h h' q i i' = elim (one_unmarked o.phase other b n) [
-  | inl none ↦ f.apart other c slot entry c' slot' entry' m n none h h' q i i'
-  | inr none ↦ f'.apart b c' slot' entry' c slot entry l (λ same. n (sym same)) none h' h q i' i
-]
 
 module _ (o new : OwnerState) where
   abbrev p : OwnerState
@@ -164,7 +156,13 @@ module _ (o new : OwnerState) where
         (in_room b k c slot entry q h i) (in_room b k c' slot' entry' q h' i');
     apart = λ other c slot entry c' slot' entry' main differs unmarked h h' q i i'.
         let k' = carries other main unmarked in
-        rooms_apart o b other c slot entry c' slot' entry' l main differs k.stands k'.stands (back b k c slot entry h)
-        (back other k' c' slot' entry' h') q (in_room b k c slot entry q h i) (in_room other k' c' slot' entry' q h' i');
+        let was = back b k c slot entry h in
+        let was' = back other k' c' slot' entry' h' in
+        let i = in_room b k c slot entry q h i in
+        let i' = in_room other k' c' slot' entry' q h' i' in
+        elim (one_unmarked o.phase other b differs) [
+          | inl none ↦ k.stands.apart other c slot entry c' slot' entry' main differs none was was' q i i'
+          | inr none ↦ k'.stands.apart b c' slot' entry' c slot entry l (λ same. differs (sym same)) none was' was q i' i
+        ];
     chain = has_chain_on o.shape.mode b k l chains k.stands.chain;
   }

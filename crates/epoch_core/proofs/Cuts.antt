@@ -25,15 +25,7 @@ cut_grows : (cuts : List ℕ) (n m : ℕ) → Rises cuts → n ≤ m → cut_at 
 cut_grows cuts zero m rise more = omega arith
 cut_grows cuts (suc i) zero rise more = absurd (omega arith)
 cut_grows cuts (suc i) (suc j) rise more =
-    let here = cut_is cuts (suc i) i (omega arith) in
-    let there = cut_is cuts (suc j) j (omega arith) in
-    elim (cases_lt 0 (length cuts)) [
-      | inl some ↦ let le = rise (min i (length cuts - 1)) (min j (length cuts - 1)) (omega arith) (omega arith) in omega arith
-      | inr none ↦
-          let same : min i (length cuts - 1) ≡ min j (length cuts - 1) = omega arith in
-          let equal = ap (λ (z : ℕ). get_or cuts z 0) same in
-          omega arith
-    ]
+    grind (arith, cut_is cuts (suc i) i, cut_is cuts (suc j) j, rise (min i (length cuts - 1)) (min j (length cuts - 1)))
 
 pub cut_rises : (cuts : List ℕ) (n : ℕ) → Rises cuts → cut_at cuts n ≤ cut_at cuts (n + 1)
 cut_rises cuts n rise = cut_grows cuts n (n + 1) rise (omega arith)
@@ -41,11 +33,7 @@ cut_rises cuts n rise = cut_grows cuts n (n + 1) rise (omega arith)
 pub cut_few : (cuts : List ℕ) (most n : ℕ) → NoneAbove most cuts → cut_at cuts n ≤ most
 cut_few cuts most zero few = omega arith
 cut_few cuts most (suc i) few =
-    let here = cut_is cuts (suc i) i (omega arith) in
-    elim (cases_lt 0 (length cuts)) [
-      | inl some ↦ let le = few (min i (length cuts - 1)) (omega arith) in omega arith
-      | inr none ↦ let nothing = get_or_past cuts (min i (length cuts - 1)) 0 (omega arith) in omega arith
-    ]
+    grind (arith, cut_is cuts (suc i) i, few (min i (length cuts - 1)), get_or_past cuts (min i (length cuts - 1)) 0)
 
 pub still_at_last : (cuts : List ℕ) (n played : ℕ) → Rises cuts → played ≡ cut_at cuts n → played ≡ last cuts → (m : ℕ) → n < m → cut_at cuts m ≡ played
 still_at_last cuts n played rise at end m less =

@@ -1,7 +1,7 @@
 -- The central law: an event leaves the words in reach of a bucket whose even epoch stands still. So whatever is kept of a reader
 -- is kept past it.
 use Rattle.epoch_core.proofs.Vocabulary.{Event, Grows, IsAllowed, IsMain, IsSpelt, Kept, OwnerState, ReaderKept, ReaderState, Shape, Try, TryKept}
-use Rattle.epoch_core.proofs.Vocabulary.{after, ap, arith, epoch_in, options_of, refl, subst, sym, writes_to_bucket, ℕ, ◌%◌, ◌*◌, ◌∙◌, ◌≡◌, ◌≤◌}
+use Rattle.epoch_core.proofs.Vocabulary.{after, ap, arith, epoch_in, refl, subst, sym, ℕ, ◌%◌, ◌∙◌, ◌≡◌}
 use Rattle.std.proofs.lemmas.Option.{IfSome_then}
 use Rattle.epoch_core.proofs.Prefixes.{prefix_then}
 use Rattle.epoch_core.proofs.Failing.{fails_rise}
@@ -50,10 +50,7 @@ module _ (o p : OwnerState) (g : Grows o p) where
     done = k.done;
     met = k.met;
     ended = λ b main.
-        let was : IsMain o.shape b = subst (λ (z : Shape). IsMain z b) g.shape main in
-        let rise = g.rises b was in
-        let ended = k.ended b was in
-        subst (λ (z : Shape). 2 * writes_to_bucket (options_of z) r.done b ≤ epoch_in p b) (sym g.shape) (omega arith);
+        let was : IsMain o.shape b = rw g.shape at main in rw g.shape (omega (arith, g.rises b was, k.ended b was));
     fails = fails_rise o p g.shape g.rises r.fails k.fails;
     current = IfSome_then r.current k.current try_grows;
   }

@@ -13,9 +13,7 @@ use Rattle.epoch_core.proofs.Spelling.{spells}
 module _ (o : OwnerState) (s : Kept o) (r : ReaderState) (k : ReaderKept o r) where
   -- what a reader knows of an epoch before it loads it
   pub least_epoch : (b : ℕ) → IsMain r.shape b → 2 * writes_to_bucket (options_of r.shape) r.done b ≤ epoch_in o b
-  least_epoch b main =
-      subst (λ (z : Shape). 2 * writes_to_bucket (options_of z) r.done b ≤ epoch_in o b) (sym k.shape)
-      (k.ended b (subst (λ (z : Shape). IsMain z b) k.shape main))
+  least_epoch b main = rw k.shape (k.ended b (rw k.shape at main))
 
   -- a load leaves what was seen
   loaded_keeps : (loads tried closed : ℕ) (fails : List Failure) (current : Option Try) → FailsFit o fails → IfSome current (TryKept o)
@@ -28,7 +26,7 @@ module _ (o : OwnerState) (s : Kept o) (r : ReaderState) (k : ReaderKept o r) wh
   pub opens : (b : ℕ) → IsMain r.shape b → ReaderKept o (opened b (epoch_in o b) r)
   opens b l =
       let n : ℕ = epoch_in o b in
-      let main : IsMain o.shape b = subst (λ (z : Shape). IsMain z b) k.shape l in
+      let main : IsMain o.shape b = rw k.shape at l in
       let more : List Failure = r.fails ++ failure b n n ∷ [] in
       loaded_keeps _ _ _ _ _
       (tested (λ (z : Bool). FailsFit o (if z then r.fails else more)) (n % 2) 0 (λ even. k.fails)

@@ -1,7 +1,7 @@
 -- The bucket whose write is marked, and the buckets that its write may change.
 use Rattle.epoch_core.proofs.Vocabulary.{Begun, Bool, Idle, InChain, IsBucket, IsFreeSpare, IsMain, Kept, List, Marked, OwnerState, Phase, PhaseFits}
 use Rattle.epoch_core.proofs.Vocabulary.{WhenMarked, Write, ap, arith, begun_in, bucket_in, bucket_of-below, dite, epoch_in, eq-eqb, false}
-use Rattle.epoch_core.proofs.Vocabulary.{if◌then◌else◌, inl, inr, marked_in, nat_eq, ne_eqb, pow_pos, refl, subst, sym, true, zero, ℕ, ℕ_discrete}
+use Rattle.epoch_core.proofs.Vocabulary.{if◌then◌else◌, inl, inr, marked_in, nat_eq, ne_eqb, pow_pos, refl, subst, sym, true, ℕ, ℕ_discrete}
 use Rattle.epoch_core.proofs.Vocabulary.{◌%◌, ◌*◌, ◌+◌, ◌<◌, ◌≡◌, ◌≢◌, ◌≤◌, ◌⊎◌}
 use Rattle.epoch_core.proofs.Walks.{chain_bucket}
 

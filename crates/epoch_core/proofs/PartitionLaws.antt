@@ -11,7 +11,6 @@ use Rattle.std.specs.Str.{bytes_eq}
 use Rattle.std.proofs.lemmas.Slice.Eq.{bytes_eq-Decides}
 use Rattle.mica_model.specs.Cache as cache
 use Rattle.mica_model.specs.CacheStep as cs
-use Rattle.mica_model.specs.Store as store
 use Rattle.mica_model.specs.History.{Allows, accepted_in, after as state_after}
 use Rattle.epoch_core.specs.OwnerStep.{IsOwnerStep}
 use Rattle.epoch_core.proofs.Carried.{changed, spells_there}

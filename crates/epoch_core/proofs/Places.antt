@@ -5,9 +5,6 @@ use Rattle.epoch_core.proofs.Vocabulary.{IsBucket, IsMain, Shape, arith, bucket_
 pub same_bucket : (shape : Shape) (b c s t : ℕ) → s < bucket_words → t < bucket_words → entries_at shape b + s ≡ entries_at shape c + t → b ≡ c
 same_bucket shape b c s t x y e = omega arith
 
-pub same_slot : (shape : Shape) (b c s t : ℕ) → s < bucket_words → t < bucket_words → entries_at shape b + s ≡ entries_at shape c + t → s ≡ t
-same_slot shape b c s t x y e = let same = same_bucket shape b c s t x y e in omega arith
-
 pub no_epoch : (shape : Shape) (b c s : ℕ) → IsMain shape b → s < bucket_words → entries_at shape c + s ≢ epoch_at b
 no_epoch shape b c s l x e = omega arith
 
