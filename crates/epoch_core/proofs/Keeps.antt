@@ -37,10 +37,7 @@ module _ (o : OwnerState) (s : Kept o) where
   -- Epochs
 
   one_more : (b c : ℕ) → IsMain o.shape b → epoch_in (after (Begins b) o) c ≡ epoch_in o c + bit b c
-  one_more b c l = dite (ℕ_discrete b c)
-      (λ same. rw (sym same) (let one = bit_same b b refl in
-      let here = get_or-set_same o.words (epoch_at b) (epoch_in o b + 1) 0 (let wide = s.wide in omega arith) in omega arith))
-      (λ n. let zero = bit_else b c n in let same = other o (Begins b) (epoch_at c) (λ is. n (omega arith)) in omega arith)
+  one_more b c l = grind (arith, bit_same b c, bit_else b c, s.wide, get_or-set_same o.words (epoch_at b) (epoch_in o b + 1) 0, other o (Begins b) (epoch_at c))
 
   epoch_after : (e : Event) → IsAllowed e o → (c : ℕ) → IsMain o.shape c → epoch_in (after e o) c ≡ epoch_in o c + adds e c
   epoch_after (Begins b) a c l = one_more b c a.main
@@ -53,13 +50,12 @@ module _ (o : OwnerState) (s : Kept o) where
 
   epochs_after : (e : Event) → IsAllowed e o → (b : ℕ) → IsMain o.shape b
       → epoch_in (after e o) b + marked_in (phase_after e o) b ≡ 2 * writes_in (after e o) b + begun_in (phase_after e o) b
-  epochs_after (Begins c) a b l = let was = rw a.idle at s.epochs b l in let now = epoch_after (Begins c) a b l in omega arith
+  epochs_after (Begins c) a b l = let was = rw a.idle at s.epochs b l in omega (arith, epoch_after (Begins c) a b l)
   epochs_after (Marks write n) a b l =
       let was = rw a.begun at s.epochs b l in
-      let now = epoch_after (Marks write n) a b l in
-      let more = count_more (λ (w : Write). nat_eq (bucket_of w.key o.shape.buckets) b) o.history write in omega arith
-  epochs_after (Ends c) a b l =
-      let was = rw (marked_is o.phase c a.marked).2 at s.epochs b l in let now = epoch_after (Ends c) a b l in omega arith
+      let more = count_more (λ (w : Write). nat_eq (bucket_of w.key o.shape.buckets) b) o.history write in
+      omega (arith, epoch_after (Marks write n) a b l)
+  epochs_after (Ends c) a b l = let was = rw (marked_is o.phase c a.marked).2 at s.epochs b l in omega (arith, epoch_after (Ends c) a b l)
   epochs_after e a b l = let was = s.epochs b l in let now = epoch_after e a b l in omega arith
 
   -- The stamp, the history and the phase

@@ -88,10 +88,9 @@ module _ (o : OwnerState) (s : Kept o) (r : ReaderState) (k : ReaderKept o r) wh
   shut_fails (Some t) b g is =
       let n : ℕ = epoch_in o b in
       let same = ap (epoch_in o) (is t refl) in
-      let first = g.first in
       let more : List Failure = r.fails ++ failure t.bucket t.first n ∷ [] in
       tested (λ (z : Bool). FailsFit o (if z then r.fails else more)) n t.first (λ still. k.fails)
-      (λ moved. fails_more o r.fails (failure t.bucket t.first n) k.fails (g.main, omega arith, (omega arith, inr (omega arith))))
+      (λ moved. fails_more o r.fails (failure t.bucket t.first n) k.fails (g.main, omega arith, (omega (arith, g.first), inr (omega (arith, g.first)))))
 
   pub shuts : (b : ℕ) → ((t : Try) → r.current ≡ Some t → t.bucket ≡ b) → ReaderKept o (shut (epoch_in o b) r)
   shuts b is = loaded_keeps _ _ _ _ _ (shut_fails r.current b k.current is) tt
@@ -103,8 +102,7 @@ module _ (o : OwnerState) (s : Kept o) (r : ReaderState) (k : ReaderKept o r) wh
   tell_try None b g is = tt
   tell_try (Some t) b g is =
       let same = ap (epoch_in o) (is t refl) in
-      let first = g.first in
-      record { least = omega arith; spelt = λ still. IfSome_then t.at g.at (λ at c. c.spelt (same ∙ still)) }
+      record { least = omega (arith, g.first); spelt = λ still. IfSome_then t.at g.at (λ at c. c.spelt (same ∙ still)) }
 
   pub tells : (b : ℕ) → ((t : Try) → r.current ≡ Some t → t.bucket ≡ b) → Tells (epoch_in o b) r
   tells b is = subst (λ (z : Shape). IfSome r.current (TellsTry z (epoch_in o b))) (sym k.shape) (tell_try r.current b k.current is)

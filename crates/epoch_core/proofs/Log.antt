@@ -1,13 +1,13 @@
 -- A word of the marked write in cache mode is in no room of a live item of another bucket: the log's window and its rooms say so.
 use Rattle.epoch_core.proofs.Vocabulary.{AllByRecursion, Cell, Has, History, IsValid, IsWrite, Kept, List, Options, OwnerState, Phase, PhaseFits}
-use Rattle.epoch_core.proofs.Vocabulary.{Some, Spells, State, Write, add-zero, ap, arith, bucket_in, cache_state, cases_lt, div-add-mod, entry_offset}
-use Rattle.epoch_core.proofs.Vocabulary.{header_of, header_room, header_room-header_of, header_word, inl, inr, item_in, length, marked_in}
-use Rattle.epoch_core.proofs.Vocabulary.{mul-le-mul_left, mul-suc, options_in, room_in, state_in, state_of, state_snoc, subst, sym, tail_of, ℕ, ◌%◌}
-use Rattle.epoch_core.proofs.Vocabulary.{◌*◌, ◌+◌, ◌/◌, ◌<◌, ◌∙◌, ◌≡◌, ◌≢◌, ◌≤◌, ◌⊎◌}
+use Rattle.epoch_core.proofs.Vocabulary.{Some, Spells, State, Write, ap, arith, bucket_in, cache_state, cases_lt, div-add-mod, entry_offset, inl, inr}
+use Rattle.epoch_core.proofs.Vocabulary.{marked_in, mul-le-mul_left, mul-suc, options_in, room_in, state_in, state_of, state_snoc, subst, sym}
+use Rattle.epoch_core.proofs.Vocabulary.{tail_of, ℕ, ◌%◌, ◌*◌, ◌+◌, ◌/◌, ◌<◌, ◌∙◌, ◌≡◌, ◌≢◌, ◌≤◌, ◌⊎◌}
 use Rattle.mica_model.specs.Cache.{Cache, Record, record_of}
 use Rattle.mica_model.specs.CacheStep as cs
 use Rattle.mica_model.specs.History.{after}
 use Rattle.mica_model.proofs.CacheLaws.{window, apart, own}
+use Rattle.epoch_core.proofs.Keys.{item_room}
 use Rattle.epoch_core.proofs.Machine.{all_parts, found_record, has_fits}
 use Rattle.epoch_core.proofs.Marked.{bit_else}
 use Rattle.epoch_core.proofs.Spares.{LogSpares}
@@ -29,9 +29,7 @@ one_place n tail x y same a b c d = grind (arith, not_below n x y same, not_belo
 pub room_is : (o : OwnerState) → Kept o → (b entry : ℕ) (key : List ℕ) (cell : Cell) → Spells o b entry key cell → room_in o entry ≡ cell.room
 room_is o s b entry key cell sp =
     let fits = has_fits (options_in o) o.history s.history.writes key cell (entry_offset entry) sp.has in
-    let word : item_in o (entry_offset entry) ≡ header_of cell.room (length key) (length cell.value) =
-    ap (item_in o) (sym (add-zero (entry_offset entry))) ∙ (sp.item 0 (omega arith) ∙ header_word cell.room key cell.value) in
-    ap header_room word ∙ header_room-header_of cell.room (length key) (length cell.value) fits.5
+    item_room o (entry_offset entry) key cell fits.5 sp.item
 
 -- in cache mode it is a record of the log
 pub spelt_record : (o : OwnerState) → Kept o → (b entry : ℕ) (key : List ℕ) (cell : Cell) → Spells o b entry key cell

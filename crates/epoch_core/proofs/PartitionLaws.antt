@@ -3,10 +3,9 @@ use Rattle.epoch_core.proofs.Vocabulary.{AreBytes, Begins, Cell, Ends, Has, HasK
 use Rattle.epoch_core.proofs.Vocabulary.{Marks, MayBegin, MayEnd, MayGive, MayMark, Options, Outcome, OwnerState, Phase, Spells, SpellsItem}
 use Rattle.epoch_core.proofs.Vocabulary.{StandsFor, State, Worn, Write, [], accepted_is_length, add-zero, after, ap, arith, as_made, bucket_in}
 use Rattle.epoch_core.proofs.Vocabulary.{cache_state, cases_Bool, cond, entry_at, entry_in, entry_offset, entry_tag, epoch_at, false, get_or}
-use Rattle.epoch_core.proofs.Vocabulary.{header_room, header_room-header_of, header_word, inl, inr, is_accepted, is_some, item_at, item_in, le-leb}
-use Rattle.epoch_core.proofs.Vocabulary.{length, link_at, link_in, marked_in, options_in, plays, puts_from, refl, room_in, stamp_at, stamp_in}
-use Rattle.epoch_core.proofs.Vocabulary.{stamp_of, state_in, state_snoc, store_state, subst, sym, tag_of, true, true≢false, word_count, ℕ, ◌++◌, ◌+◌}
-use Rattle.epoch_core.proofs.Vocabulary.{◌<◌, ◌∙◌, ◌∷◌, ◌≡◌, ◌≢◌, ◌≤◌, ◌⊎◌}
+use Rattle.epoch_core.proofs.Vocabulary.{header_room, inl, inr, is_accepted, is_some, item_at, item_in, le-leb, length, link_at, link_in, marked_in}
+use Rattle.epoch_core.proofs.Vocabulary.{options_in, plays, puts_from, refl, room_in, stamp_at, stamp_in, stamp_of, state_in, state_snoc, store_state}
+use Rattle.epoch_core.proofs.Vocabulary.{subst, sym, tag_of, true, true≢false, word_count, ℕ, ◌++◌, ◌+◌, ◌<◌, ◌∙◌, ◌∷◌, ◌≡◌, ◌≢◌, ◌≤◌, ◌⊎◌}
 use Rattle.std.specs.Str.{bytes_eq}
 use Rattle.std.proofs.lemmas.Slice.Eq.{bytes_eq-Decides}
 use Rattle.mica_model.specs.Cache as cache
@@ -18,6 +17,7 @@ use Rattle.epoch_core.proofs.EventWords.{other, stamp_marks}
 use Rattle.epoch_core.proofs.Inside.{some_words}
 use Rattle.epoch_core.proofs.Keeps.{kept_after}
 use Rattle.epoch_core.proofs.Keys.{has_its_key, has_no_other}
+pub use Rattle.epoch_core.proofs.Keys.{item_room}
 use Rattle.epoch_core.proofs.Machine.{has_fits}
 use Rattle.epoch_core.proofs.Made.{no_stamp_yet}
 pub use Rattle.epoch_core.proofs.Machine.{same_cell}
@@ -36,12 +36,6 @@ same_or_other key key' = elim (cases_Bool (bytes_eq key key')) [
 -- no stamp was given yet
 pub new_stamp : (o : OwnerState) → o ≡ as_made o.shape → 0 ≡ stamp_of (options_in o) o.history
 new_stamp o made = sym (ap (λ (z : OwnerState). stamp_of (options_in o) z.history) made ∙ no_stamp_yet o.shape.mode)
-
--- the words of an item have its room
-pub item_room : (o : OwnerState) (p : ℕ) (key : List ℕ) (cell : Cell) → cell.room < 65536 → SpellsItem o p key cell → header_room (item_in o p) ≡ cell.room
-item_room o p key cell small item =
-    ap header_room (ap (item_in o) (sym (add-zero p)) ∙ (item 0 (omega arith) ∙ header_word cell.room key cell.value))
-    ∙ header_room-header_of cell.room (length key) (length cell.value) small
 
 -- Between two writes
 

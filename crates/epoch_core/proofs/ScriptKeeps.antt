@@ -57,9 +57,7 @@ more_loads look o r = refl
 loads_on : (plan : Plan) (n : ℕ) (looks : List Look) (r : ReaderState) → (reads_on plan n looks r).loads ≡ r.loads + length looks
 loads_on plan n [] r = omega arith
 loads_on plan n (look ∷ looks) r =
-    let rest = loads_on plan (n + 1) looks (look_at look (owner_at plan (n + 1)) r) in
-    let one = more_loads look (owner_at plan (n + 1)) r in
-    omega arith
+    let next = owner_at plan (n + 1) in omega (arith, loads_on plan (n + 1) looks (look_at look next r), more_loads look next r)
 
 pub loads_counted : (b : Book) → BookFits b → b.reader.loads ≡ length b.looks
 loads_counted b f = let on = loads_on b.plan 0 b.looks (newcomer b.plan.shape [] []) in let same = ap (λ (z : ReaderState). z.loads) f.looks in omega arith

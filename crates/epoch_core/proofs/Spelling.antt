@@ -1,15 +1,15 @@
 -- What a try's loads spell, while its bucket's epoch has not moved, is the machine's answer.
 use Rattle.epoch_core.proofs.Vocabulary.{AreBytes, Cell, Contains, Has, HasKey, HasLiveEntry, InChain, IsAmong, IsLive, IsSpelt, Kept, List, None}
-use Rattle.epoch_core.proofs.Vocabulary.{Option, OwnerState, Some, Spells, StandsFor, State, Try, TryKept, [], add-zero, answer_of, ap, arith}
-use Rattle.epoch_core.proofs.Vocabulary.{bucket_in, by_entry, by_item, by_link, cache_state, cell_at, entry_at, entry_in, entry_offset, epoch_in}
-use Rattle.epoch_core.proofs.Vocabulary.{fnv1a, get, header_key_len, header_value_len, header_value_len-header_of, header_word, inl, inr, item_at}
-use Rattle.epoch_core.proofs.Vocabulary.{item_in, item_size, length, link_at, link_in, option_map, options_in, packed, refl, same_value, slice_index}
-use Rattle.epoch_core.proofs.Vocabulary.{stamp_of, state_in, store_state, subst, suc, sym, unpacked, value_in, value_word, words_for, zero, ℕ, ◌+◌}
-use Rattle.epoch_core.proofs.Vocabulary.{◌<◌, ◌∙◌, ◌∷◌, ◌≡◌, ◌≢◌}
+use Rattle.epoch_core.proofs.Vocabulary.{Option, OwnerState, Some, Spells, StandsFor, State, Try, TryKept, [], answer_of, ap, arith, bucket_in}
+use Rattle.epoch_core.proofs.Vocabulary.{by_entry, by_item, by_link, cache_state, cell_at, entry_at, entry_in, entry_offset, epoch_in, fnv1a, get}
+use Rattle.epoch_core.proofs.Vocabulary.{header_key_len, header_value_len, header_value_len-header_of, inl, inr, item_at, item_in, item_size, length}
+use Rattle.epoch_core.proofs.Vocabulary.{link_at, link_in, option_map, options_in, packed, refl, same_value, slice_index, stamp_of, state_in}
+use Rattle.epoch_core.proofs.Vocabulary.{store_state, subst, suc, sym, unpacked, value_in, value_word, words_for, zero, ℕ, ◌+◌, ◌<◌, ◌∙◌, ◌∷◌, ◌≡◌}
+use Rattle.epoch_core.proofs.Vocabulary.{◌≢◌}
 use Rattle.mica_model.specs.Cache.{Record, record_of}
 use Rattle.epoch_core.specs.Spelt.{HasLoad, HasLinks, ShowsOther, by_offset, by_key_len, by_value_len, by_hash, by_key_word, ShowsItem, IsNoEntryOf, by_tag, by_stamp, by_item as by_other, SpellsAnswer}
 use Rattle.epoch_core.proofs.Machine.{Fits, found_record, has_fits}
-use Rattle.epoch_core.proofs.Keys.{has_its_key, has_no_other}
+use Rattle.epoch_core.proofs.Keys.{has_its_key, has_no_other, header_there}
 use Rattle.epoch_core.proofs.Failing.{in_cons, in_none, in_head, in_tail}
 
 -- what the machine has is its answer, and the other way round
@@ -84,8 +84,7 @@ module _ (o : OwnerState) (s : Kept o) (t : Try) (k : TryKept o t) (still : epoc
     value_len_is : (x : ℕ) → HasLoad t.loads (item_at o.shape (entry_offset entry)) x → header_value_len x ≡ length cell.value
     value_len_is x load =
         let key_fits = fits.0 in
-        ap header_value_len (sym (header_now x load) ∙ ap (item_in o) (sym (add-zero (entry_offset entry)))
-        ∙ sp.item 0 (omega arith) ∙ header_word cell.room key cell.value)
+        ap header_value_len (sym (header_now x load) ∙ header_there o (entry_offset entry) key cell sp.item)
         ∙ header_value_len-header_of cell.room (length key) (length cell.value) fits.5 (omega arith)
 
     value_word_is : (i x n : ℕ) → n ≡ words_for (length key) → i < words_for (length cell.value)
