@@ -100,7 +100,7 @@ module _ (o new : OwnerState) where
 
     room : (c slot entry : ℕ) → HasLiveEntry o b c slot entry → room_in p entry ≡ room_in o entry
     room c slot entry h =
-        let fits = (k.stands.nothing_else c slot entry h).2.in_room in
+        let some = (k.stands.nothing_else c slot entry h).2.in_room in
         let first = ap (item_at o.shape) (sym (add-zero (entry_offset entry))) in
         ap header_room (k.word (item_at o.shape (entry_offset entry)) (by_item c slot entry 0 h (omega arith) first))
 

@@ -37,10 +37,7 @@ cut_few cuts most (suc i) few =
 
 pub still_at_last : (cuts : List ℕ) (n played : ℕ) → Rises cuts → played ≡ cut_at cuts n → played ≡ last cuts → (m : ℕ) → n < m → cut_at cuts m ≡ played
 still_at_last cuts n played rise at end m less =
-    let up = cut_grows cuts n m rise (omega arith) in
-    let most = cut_grows cuts m (m + length cuts) rise (omega arith) in
-    let then = cut_last cuts (m + length cuts) (omega arith) in
-    omega arith
+    omega (arith, cut_grows cuts n m rise, cut_grows cuts m (m + length cuts) rise, cut_last cuts (m + length cuts))
 
 pub last_of_still : (cuts : List ℕ) (n played : ℕ) → ((m : ℕ) → n < m → cut_at cuts m ≡ played) → played ≡ last cuts
 last_of_still cuts n played still = sym (still (n + 1 + length cuts) (omega arith)) ∙ cut_last cuts (n + 1 + length cuts) (omega arith)

@@ -24,9 +24,7 @@ pub fails_rise : (o p : OwnerState) → p.shape ≡ o.shape → ((b : ℕ) → I
     → (fails : List Failure) → FailsFit o fails → FailsFit p fails
 fails_rise o p shape rises fails fit f has =
     let was = fit f has in
-    let more = rises f.bucket was.0 in
-    let low = was.1 in
-    (subst (λ (z : Shape). IsMain z f.bucket) (sym shape) was.0, omega arith, was.2)
+    (subst (λ (z : Shape). IsMain z f.bucket) (sym shape) was.0, omega (arith, rises f.bucket was.0, was.1), was.2)
 
 -- one more, and two lists
 

@@ -17,9 +17,5 @@ module _ (o : OwnerState) (s : Kept o) where
   -- an epoch is at most twice the wear and one
   pub epoch_small : (b : ℕ) → IsMain o.shape b → epoch_in o b + 1 < 2 ^ 64
   epoch_small b l =
-      let e = s.epochs b l in
-      let one = begun_le o.phase b in
       let few = count_by-le-length (λ (w : Write). nat_eq (bucket_of w.key o.shape.buckets) b) o.history in
-      let room = s.history.not_above_wear in
-      let wear = s.shape.ranges.wear.1 in
-      omega arith
+      omega (arith, few, s.epochs b l, begun_le o.phase b, s.history.not_above_wear, s.shape.ranges.wear.1)

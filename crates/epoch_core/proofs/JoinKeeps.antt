@@ -20,8 +20,7 @@ ended_below o (Marked c write before) fits b e =
     let more = ap (λ (z : History). writes_to_bucket (options_in o) z b) fits.1
     ∙ count_more (λ (w : Write). nat_eq (bucket_of w.key o.shape.buckets) b) before write in
     let same : bit (bucket_in o write.key) b ≡ bit c b = ap (λ (z : ℕ). bit z b) (sym fits.0) in
-    let one = bit_le c b in
-    omega arith
+    omega (arith, more, same, bit_le c b)
 ended_below o phase fits b e = omega arith
 
 -- one that has loaded nothing

@@ -18,9 +18,8 @@ module _ (o : OwnerState) (s : Kept o) (b entry : ℕ) (key : List ℕ) (cell : 
   key_len : header_key_len (item_in o (entry_offset entry)) ≡ length key
   key_len =
       let fits = has_fits (options_in o) o.history s.history.writes key cell (entry_offset entry) sp.has in
-      let key_fits = fits.0 in
       ap header_key_len (header_there o (entry_offset entry) key cell sp.item)
-      ∙ header_key_len-header_of cell.room (length key) (length cell.value) fits.5 (omega arith)
+      ∙ header_key_len-header_of cell.room (length key) (length cell.value) fits.5 (omega (arith, fits.0))
 
   key_word : (i : ℕ) → i < words_for (length key) → item_in o (entry_offset entry + 2 + i) ≡ slice_index (packed key) i
   key_word i l =

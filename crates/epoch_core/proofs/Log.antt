@@ -48,11 +48,9 @@ other_rooms options valid history writes write is before at p item key differ r 
     let mine = own options valid history writes write is before at p item in
     let there = window options history writes write is before at key r found in
     let here = window options history writes write is before at write.key mine.0 mine.1 in
-    let least = mine.2 in
-    let most = mine.3 in
-    let one : r.offset + i ≡ p =
-    one_place options.words (tail_of (cs.after options before write).stamp) (r.offset + i) p same (omega arith) (omega arith) (omega arith) (omega arith) in
-    grind (arith, one, apart options history writes write is before at key write.key r mine.0 found mine.1 differ)
+    let one : r.offset + i ≡ p = one_place options.words (tail_of (cs.after options before write).stamp) (r.offset + i) p same
+    (omega arith) (omega arith) (omega arith) (omega (arith, mine.3)) in
+    grind (arith, one, mine.2, mine.3, apart options history writes write is before at key write.key r mine.0 found mine.1 differ)
 
 pub log_spares : (o : OwnerState) → Kept o → LogSpares o
 log_spares o s b write history before c slot entry other p is at belongs l n h i =

@@ -82,8 +82,7 @@ allows_worn options (store_state s) w full = full
 -- in a worn partition each is
 pub worn_step : (o : OwnerState) → o.phase ≡ Idle → o.shape.wear ≤ length o.history → (w : Write) → IsOwnerStep o o w Worn
 worn_step o idle full w =
-    let count = accepted_is_length (options_in o) o.history in
-    refused_step o idle w Worn refl (allows_worn (options_in o) (state_in o) w (omega arith))
+    refused_step o idle w Worn refl (allows_worn (options_in o) (state_in o) w (omega (arith, accepted_is_length (options_in o) o.history)))
 
 -- A write that is accepted
 

@@ -1,5 +1,5 @@
 -- Item words put one after another: when each may be put, and what they make of the state.
-use Rattle.epoch_core.proofs.Vocabulary.{BelongsTo, Cache, CanPlay, Event, History, Kept, List, Marked, MayPutWord, OwnerState, Phase, PutsWord}
+use Rattle.epoch_core.proofs.Vocabulary.{BelongsTo, Cache, CanPlay, History, Kept, List, Marked, MayPutWord, OwnerState, Phase, PutsWord}
 use Rattle.epoch_core.proofs.Vocabulary.{SparesOthers, State, WhenMarked, Write, [], add-zero, after, ap, arith, cache_state, cached_in, drop}
 use Rattle.epoch_core.proofs.Vocabulary.{drop-cons, get_or, get_or-set_other, get_or-set_same, item_at, length, length-set, marked_in, mod-lt}
 use Rattle.epoch_core.proofs.Vocabulary.{options_in, plays, puts_from, refl, state_of, store_state, subst, suc, sym, word_count, zero, ℕ, ◌++◌, ◌+◌}
@@ -99,8 +99,6 @@ pub puts_words : (o : OwnerState) (p : ℕ) (xs : List ℕ) → length o.words �
     → PutsWords o (plays (puts_from p xs) o) p xs
 puts_words o p [] wide some few = record { same = refl; wide = refl; put = λ i l. absurd (omega arith); others = λ place none. refl }
 puts_words o p (x ∷ xs) wide some few =
-    let e : Event = PutsWord p x in
-    let place : ℕ = item_at o.shape p in
     let one : length (after (PutsWord p x) o).words ≡ length o.words = length-set o.words (item_at o.shape p) x in
     let rest = puts_words (after (PutsWord p x) o) (p + 1) xs (one ∙ wide) some (omega arith) in
     let inside : item_at o.shape p < length o.words = let less = mod-lt p some in omega arith in

@@ -83,9 +83,8 @@ module _ (o : OwnerState) (s : Kept o) (t : Try) (k : TryKept o t) (still : epoc
 
     value_len_is : (x : ℕ) → HasLoad t.loads (item_at o.shape (entry_offset entry)) x → header_value_len x ≡ length cell.value
     value_len_is x load =
-        let key_fits = fits.0 in
         ap header_value_len (sym (header_now x load) ∙ header_there o (entry_offset entry) key cell sp.item)
-        ∙ header_value_len-header_of cell.room (length key) (length cell.value) fits.5 (omega arith)
+        ∙ header_value_len-header_of cell.room (length key) (length cell.value) fits.5 (omega (arith, fits.0))
 
     value_word_is : (i x n : ℕ) → n ≡ words_for (length key) → i < words_for (length cell.value)
         → HasLoad t.loads (item_at o.shape (entry_offset entry + 2 + n + i)) x → slice_index (packed cell.value) i ≡ x
