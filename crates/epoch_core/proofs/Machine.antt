@@ -39,16 +39,15 @@ same_cell (cache_state s) key cell cell' p p' h h' = ap (λ (z : Cell × ℕ). z
 same_cell (store_state s) key cell cell' p p' h h' = same_Some cell cell' (sym h ∙ h')
 
 -- and it fits
-fits_by : (options : Options) (history : History) → AllByRecursion IsWrite history → (now : State) → state_of options history ≡ now
-    → (key : List ℕ) (cell : Cell) (p : ℕ) → Has now key cell p → Fits key cell
-fits_by options history writes (cache_state s) at key cell p h =
-    let found = found_record (record_of s key) cell p h in
-    subst (Fits key) (sym found.3) (record_fits options history writes s at key found.0 found.1)
-fits_by options history writes (store_state s) at key cell p h = cell_fits options history writes s at key cell h
-
 pub has_fits : (options : Options) (history : History) → AllByRecursion IsWrite history
     → (key : List ℕ) (cell : Cell) (p : ℕ) → Has (state_of options history) key cell p → Fits key cell
-has_fits options history writes key cell p h = fits_by options history writes (state_of options history) refl key cell p h
+has_fits options history writes key cell p h = by_state (state_of options history) refl h
+  where
+    by_state : (now : State) → state_of options history ≡ now → Has now key cell p → Fits key cell
+    by_state (cache_state s) at h =
+        let found = found_record (record_of s key) cell p h in
+        subst (Fits key) (sym found.3) (record_fits options history writes s at key found.0 found.1)
+    by_state (store_state s) at h = cell_fits options history writes s at key cell h
 
 -- What the machine has of a bucket's keys stays as a history goes on: where the log has not passed it, it has the same.
 pub record HasStill (mode : Mode) (options : Options) (old new : History) (b : ℕ) : Type 0 where

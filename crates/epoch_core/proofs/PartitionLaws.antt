@@ -75,8 +75,7 @@ refused_step o idle w outcome refuses may = record {
 
 allows_worn : (options : Options) (now : State) (w : Write) → options.wear ≤ accepted_in now → Allows options now w Worn
 unfolding cs.reply
-allows_worn options (cache_state s) w full =
-    ap (λ b. cond b Worn (cs.reply_of w.op options w (is_some (cache.record_of s w.key)))) (sym (le-leb options.wear s.accepted full))
+allows_worn options (cache_state s) w full = rw (le-leb options.wear s.accepted full) refl
 allows_worn options (store_state s) w full = full
 
 -- in a worn partition each is

@@ -91,10 +91,6 @@ pub record PutsWords (old new : OwnerState) (p : ℕ) (words : List ℕ) : Type 
   pub put : (i : ℕ) → i < length words → get_or new.words (item_at old.shape (p + i)) 0 ≡ get_or words i 0
   pub others : (place : ℕ) → ((i : ℕ) → i < length words → place ≢ item_at old.shape (p + i)) → get_or new.words place 0 ≡ get_or old.words place 0
 
--- items nearer than the log is long are at different places
-apart : (o : OwnerState) (p q : ℕ) → p < q → q < p + o.shape.words → item_at o.shape p ≢ item_at o.shape q
-apart o p q less near is = not_below o.shape.words p q (omega arith) less near
-
 pub puts_words : (o : OwnerState) (p : ℕ) (xs : List ℕ) → length o.words ≡ word_count o.shape → 0 < o.shape.words → length xs ≤ o.shape.words
     → PutsWords o (plays (puts_from p xs) o) p xs
 puts_words o p [] wide some few = record { same = refl; wide = refl; put = λ i l. absurd (omega arith); others = λ place none. refl }
@@ -114,8 +110,8 @@ puts_words o p (x ∷ xs) wide some few =
     put_at : (i : ℕ) → i < length (x ∷ xs) → get_or (after (PutsWord p x) o).words (item_at o.shape p) 0 ≡ x
         → PutsWords (after (PutsWord p x) o) (plays (puts_from (p + 1) xs) (after (PutsWord p x) o)) (p + 1) xs
         → get_or (plays (puts_from p (x ∷ xs)) o).words (item_at o.shape (p + i)) 0 ≡ get_or (x ∷ xs) i 0
-    put_at zero l first rest =
-        ap (λ (z : ℕ). get_or (plays (puts_from p (x ∷ xs)) o).words (item_at o.shape z) 0) (add-zero p)
-        ∙ (rest.others (item_at o.shape p) (λ i less. apart o p (p + 1 + i) (omega arith) (omega arith)) ∙ first)
+    -- items nearer than the log is long are at different places
+    put_at zero l first rest = rw (add-zero p) (rest.others (item_at o.shape p)
+        (λ i less is. not_below o.shape.words p (p + 1 + i) (omega arith) (omega arith) (omega arith)) ∙ first)
     put_at (suc i) l first rest =
         ap (λ (z : ℕ). get_or (plays (puts_from p (x ∷ xs)) o).words (item_at o.shape z) 0) (omega arith) ∙ rest.put i (omega arith)

@@ -37,13 +37,12 @@ module _ (o : OwnerState) (s : Kept o) (log : LogSpares o) where
     apart_room (PutsWord p y) a c slot entry i h x e = puts o.phase refl a.its_word
       where
         puts : (phase : Phase) → o.phase ≡ phase → WhenMarked phase (λ b write before. BelongsTo o b write (state_of (options_in o) before) p) → ⊥
-        puts Idle is f = absurd f
-        puts (Begun b) is f = absurd f
         puts (Marked b write before) is f = by_state (state_of (options_in o) before) refl f
           where
             by_state : (now : State) → state_of (options_in o) before ≡ now → BelongsTo o b write now p → ⊥
             by_state (cache_state now) at f = log b write before now c slot entry other p is at f l (marked_not o s b other write before is none) h (i, x, e)
             by_state (store_state now) at f = f other c slot entry l (marked_not o s b other write before is none) h (i, x, e)
+        puts phase is f = absurd f
     apart_room (PutsEntry d t y) a c slot entry i h x e =
         let small = a.in_bucket in no_item o.shape d t (entry_offset entry + i) (its_inside o s o.phase refl d a.its_bucket) (omega arith) (sym e)
     apart_room (PutsLink d next) a c slot entry i h x e = no_item o.shape d SLOTS (entry_offset entry + i) (its_inside o s o.phase refl d a.its_bucket) (omega arith) (sym e)

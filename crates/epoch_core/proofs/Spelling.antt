@@ -89,15 +89,15 @@ module _ (o : OwnerState) (s : Kept o) (t : Try) (k : TryKept o t) (still : epoc
     value_word_is : (i x n : ℕ) → n ≡ words_for (length key) → i < words_for (length cell.value)
         → HasLoad t.loads (item_at o.shape (entry_offset entry + 2 + n + i)) x → slice_index (packed cell.value) i ≡ x
     value_word_is i x n same l load =
-        let place : entry_offset entry + 2 + n + i ≡ entry_offset entry + (2 + words_for (length key) + i) = omega arith in
-        sym (value_word cell.room key cell.value i l) ∙ sym (sp.item (2 + words_for (length key) + i) (omega arith))
-        ∙ ap (item_in o) (sym place) ∙ word_now (2 + words_for (length key) + i) (entry_offset entry + 2 + n + i) x place (omega arith) load
+        let at = 2 + words_for (length key) + i in
+        let place : entry_offset entry + 2 + n + i ≡ entry_offset entry + at = omega arith in
+        sym (value_word cell.room key cell.value i l) ∙ sym (sp.item at (omega arith)) ∙ rw (sym place) (word_now at _ x place (omega arith) load)
 
     -- they do not tell that it is another key's
     not_other : ¬ (ShowsOther o.shape t.loads (entry_offset entry) key)
     not_other (by_offset out) = out sp.offset
     not_other (by_key_len x load other) = other (ap header_key_len (sym (header_now x load)) ∙ its_key.len)
-    not_other (by_value_len x load long) = let short = fits.2 in let is = value_len_is x load in omega arith
+    not_other (by_value_len x load long) = omega (arith, fits.2, value_len_is x load)
     not_other (by_hash x load other) = other (sym (word_now 1 (entry_offset entry + 1) x refl (omega arith) load) ∙ its_key.hash)
     not_other (by_key_word i x l load other) = other (sym (key_now i x l load) ∙ its_key.words i l)
 
