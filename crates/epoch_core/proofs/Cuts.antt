@@ -1,6 +1,7 @@
 -- How many events are played after so many loads.
-use Rattle.epoch_core.proofs.Vocabulary.{List, NoneAbove, Rises, ap, arith, cases_lt, cut_at, get_or, get_or_default, get_or_past, inl, inr, length}
-use Rattle.epoch_core.proofs.Vocabulary.{min, suc, sym, zero, ℕ, ◌+◌, ◌-◌, ◌<◌, ◌∙◌, ◌≡◌, ◌≤◌}
+use Rattle.epoch_core.proofs.Vocabulary.{List, ap, arith, cases_lt, get_or, get_or_default, get_or_past, inl, inr, length, min, suc, sym, zero, ℕ}
+use Rattle.epoch_core.proofs.Vocabulary.{◌+◌, ◌-◌, ◌<◌, ◌∙◌, ◌≡◌, ◌≤◌}
+use Rattle.epoch_core.specs.Script.{NoneAbove, Rises, cut_at}
 
 abbrev last : List ℕ → ℕ
 last cuts = get_or cuts (length cuts - 1) 0

@@ -1,12 +1,11 @@
 -- The central law: an event leaves the words in reach of a bucket whose even epoch stands still. So whatever is kept of a reader
 -- is kept past it.
-use Rattle.epoch_core.proofs.Vocabulary.{Event, Grows, IsAllowed, IsMain, IsSpelt, Kept, OwnerState, ReaderKept, ReaderState, Shape, Try, TryKept}
-use Rattle.epoch_core.proofs.Vocabulary.{after, ap, arith, epoch_in, refl, subst, sym, ℕ, ◌%◌, ◌∙◌, ◌≡◌}
-use Rattle.std.proofs.lemmas.Option.{IfSome_then}
+use Rattle.epoch_core.proofs.Vocabulary.{Event, Grows, IfSome_then, IsAllowed, IsMain, IsSpelt, Kept, OwnerState, ReaderKept, ReaderState, Shape, Try}
+use Rattle.epoch_core.proofs.Vocabulary.{TryKept, after, ap, arith, epoch_in, refl, subst, sym, ℕ, ◌%◌, ◌∙◌, ◌≡◌}
 use Rattle.epoch_core.proofs.Prefixes.{prefix_then}
 use Rattle.epoch_core.proofs.Failing.{fails_rise}
 use Rattle.epoch_core.proofs.Carried.{reach_back}
-use Rattle.epoch_core.proofs.Keeps.{goes_on, rises, carries, calm_after}
+use Rattle.epoch_core.proofs.Keeps.{calm_after, carries, goes_on, rises}
 
 pub grows : (o : OwnerState) → Kept o → (e : Event) → IsAllowed e o → Grows o (after e o)
 grows o s e a = record {

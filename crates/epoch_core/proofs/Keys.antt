@@ -1,9 +1,10 @@
 -- The words of an item that spells a key hold that key, and no other.
-use Rattle.epoch_core.proofs.Vocabulary.{SpellsItem, header_room, header_room-header_of, AreBytes, Cell, HasKey, Kept, List, OwnerState, Spells, add-zero, ap, arith, entry_offset, hash_word}
-use Rattle.epoch_core.proofs.Vocabulary.{header_key_len, header_key_len-header_of, header_of, header_word, item_in, length, length-packed, options_in}
+use Rattle.epoch_core.proofs.Vocabulary.{AreBytes, Cell, HasKey, Kept, List, OwnerState, Spells, SpellsItem, add-zero, ap, arith, entry_offset}
+use Rattle.epoch_core.proofs.Vocabulary.{hash_word, header_key_len, header_of, header_room, header_word, item_in, length, length-packed, options_in}
 use Rattle.epoch_core.proofs.Vocabulary.{packed, packed_key_word, same_from_words, slice_index, subst, sym, words_for, ℕ, ◌+◌, ◌<◌, ◌∙◌, ◌≡◌}
 use Rattle.std.proofs.lemmas.Grind.{same_number_lists}
 use Rattle.epoch_core.proofs.Machine.{has_fits}
+use Rattle.mica_words.proofs.Fields.{header_key_len-header_of, header_room-header_of}
 
 -- the first word of an item is its header, which has its room
 pub header_there : (o : OwnerState) (p : ℕ) (key : List ℕ) (cell : Cell) → SpellsItem o p key cell

@@ -1,13 +1,11 @@
 -- Each load of a reader keeps what is kept of it.
-use Rattle.epoch_core.proofs.Vocabulary.{Bool, Contains-push_cases, FailsFit, IfSome, IsMain, Kept, List, None, Option, OwnerState, ReaderKept}
-use Rattle.epoch_core.proofs.Vocabulary.{ReaderState, Shape, Some, Tells, TellsTry, Try, TryKept, [], ap, arith, epoch_in, fails_after, failure}
-use Rattle.epoch_core.proofs.Vocabulary.{get_or, if◌then◌else◌, inl, inr, le_refl, loaded, new_try, opened, options_of, refl, shut, stamped, subst}
-use Rattle.epoch_core.proofs.Vocabulary.{sym, with_cut, with_load, writes_to_bucket, ℕ, ◌%◌, ◌*◌, ◌++◌, ◌∙◌, ◌∷◌, ◌≡◌, ◌≤◌}
-use Rattle.epoch_core.specs.declared.state.Failure.{Failure}
-use Rattle.std.proofs.lemmas.Option.{IfSome_then}
+use Rattle.epoch_core.proofs.Vocabulary.{Bool, Contains-push_cases, FailsFit, Failure, IfSome, IfSome_then, IsMain, Kept, List, None, Option}
+use Rattle.epoch_core.proofs.Vocabulary.{OwnerState, ReaderKept, ReaderState, Shape, Some, Tells, TellsTry, Try, TryKept, [], ap, arith, epoch_in}
+use Rattle.epoch_core.proofs.Vocabulary.{fails_after, failure, get_or, if◌then◌else◌, inl, inr, le_refl, loaded, new_try, opened, options_of, refl}
+use Rattle.epoch_core.proofs.Vocabulary.{shut, stamped, subst, sym, with_cut, with_load, writes_to_bucket, ℕ, ◌%◌, ◌*◌, ◌++◌, ◌∙◌, ◌∷◌, ◌≡◌, ◌≤◌}
 use Rattle.epoch_core.proofs.Prefixes.{prefix_same, prefix_then}
-use Rattle.epoch_core.proofs.Failing.{in_none, fails_more}
-use Rattle.epoch_core.proofs.Marked.{tested, calm}
+use Rattle.epoch_core.proofs.Failing.{fails_more, in_none}
+use Rattle.epoch_core.proofs.Marked.{calm, tested}
 use Rattle.epoch_core.proofs.Spelling.{spells}
 
 module _ (o : OwnerState) (s : Kept o) (r : ReaderState) (k : ReaderKept o r) where

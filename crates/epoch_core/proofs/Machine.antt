@@ -1,18 +1,16 @@
 -- What the machine has, in both modes.
 use Rattle.epoch_core.proofs.Vocabulary.{AllByRecursion, AreBytes, Cell, Has, History, IsLiveItem, IsWrite, KeyFits, List, Mode, None, Option}
 use Rattle.epoch_core.proofs.Vocabulary.{Options, Some, State, ValueFits, Write, [], ap, arith, bucket_of, cache_state, cached_in, cell_at, get}
-use Rattle.epoch_core.proofs.Vocabulary.{item_size, option_map, refl, stamp_of, state_of, state_snoc, store_state, stored_in, subst, sym, ℕ, ◌++◌}
-use Rattle.epoch_core.proofs.Vocabulary.{◌<◌, ◌∙◌, ◌∷◌, ◌≡◌, ◌≢◌, ◌≤◌}
-use Rattle.epoch_core.proofs.Vocabulary.{Cache as CacheMode}
-use Rattle.epoch_core.proofs.Vocabulary.{Store as StoreMode}
+use Rattle.epoch_core.proofs.Vocabulary.{item_size, option_map, refl, same_Some, stamp_of, state_of, state_snoc, store_state, stored_in, subst, sym}
+use Rattle.epoch_core.proofs.Vocabulary.{ℕ, ◌++◌, ◌<◌, ◌∙◌, ◌∷◌, ◌≡◌, ◌≢◌, ◌≤◌}
 use Rattle.mica_model.specs.Cache.{Cache, Record, record_of}
-use Rattle.std.proofs.lemmas.Option.{same_Some}
 use Rattle.mica_model.specs.CacheStep as cs
 use Rattle.mica_model.specs.StoreStep as ss
 use Rattle.mica_model.specs.History.{after, stamp_in}
-use Rattle.mica_model.proofs.CacheLaws.{record_fits, others_back, others_on}
+use Rattle.mica_model.proofs.CacheLaws.{others_back, others_on, record_fits}
 use Rattle.mica_model.proofs.Rises.{stamp_rises}
 use Rattle.mica_model.proofs.StoreLaws.{cell_fits, others_same}
+use Rattle.epoch_core.proofs.Vocabulary.{Cache as CacheMode, Store as StoreMode}
 
 -- what all of a list have, its front and its last have
 pub all_parts : {X : Type 0} (P : X → Type 0) (xs : List X) (x : X) → AllByRecursion P (xs ++ x ∷ []) → AllByRecursion P xs × P x

@@ -1,24 +1,23 @@
 -- Each step of a script keeps the rule of the one-word table whose seat has a book.
-use Rattle.epoch_core.proofs.Vocabulary.{AllFit, Begins, Book, BookFits, CanPlay, Ends, Event, IsAllowed, IsTime, IsValidShape, Kept, List, MayLook}
-use Rattle.epoch_core.proofs.Vocabulary.{OwnerState, Plan, ReaderKept, ReaderState, Reading, Shape, [], after, ap, append-nil, append_assoc, arith}
-use Rattle.epoch_core.proofs.Vocabulary.{as_made, drop, drop-cons, first_of, get_or, length, look_at, look_next, looked, map, newcomer, next_owner}
-use Rattle.epoch_core.proofs.Vocabulary.{opening_book, owner_at, owner_event, owner_place, owner_sum, plan_of, play_next, played, plays, reads_on}
-use Rattle.epoch_core.proofs.Vocabulary.{refl, rest_of, subst, suc, sym, take, ℕ, ◌++◌, ◌+◌, ◌<◌, ◌^◌, ◌∙◌, ◌∷◌, ◌≡◌}
+use Rattle.epoch_core.proofs.Vocabulary.{Begins, Book, CanPlay, Ends, Event, IsAllowed, IsValidShape, Kept, List, OwnerState, Plan, ReaderKept}
+use Rattle.epoch_core.proofs.Vocabulary.{ReaderState, Shape, [], after, ap, append-nil, append_assoc, arith, as_made, drop, drop-cons, get_or, length}
+use Rattle.epoch_core.proofs.Vocabulary.{map, newcomer, owner_event, plays, refl, subst, suc, sym, take, ℕ, ◌++◌, ◌+◌, ◌<◌, ◌^◌, ◌∙◌, ◌∷◌, ◌≡◌}
 use Rattle.std.proofs.Math.Seq.{take-append_seam}
 use mathlib.Core.Option.{none}
-use Rattle.atomic_table.specs.Table.{step, keeps, opening, Allows}
+use Rattle.atomic_table.specs.Table.{Allows, keeps, opening, step}
 use Rattle.epoch_core.specs.declared.event.OwnerEvent.{OwnerEvent}
 use Rattle.epoch_core.specs.declared.plain.Script.{Script}
 use Rattle.epoch_core.specs.declared.scripted.Look.{Look}
-use Rattle.epoch_core.specs.declared.scripted.Look.TheVariants.{FirstEpoch, Word, Stamp, LastEpoch}
+use Rattle.epoch_core.specs.declared.scripted.Look.TheVariants.{FirstEpoch, LastEpoch, Stamp, Word}
 use Rattle.epoch_core.proofs.Made.{kept_as_made}
 use Rattle.epoch_core.proofs.Marked.{ends_main}
 use Rattle.epoch_core.proofs.Keeps.{kept_after}
-use Rattle.epoch_core.proofs.Inside.{event_inside, epoch_small}
+use Rattle.epoch_core.proofs.Inside.{epoch_small, event_inside}
 use Rattle.epoch_core.proofs.Growing.{grows, reader_grows}
-use Rattle.epoch_core.proofs.LoadKeeps.{opens, loads, stamps, shuts}
+use Rattle.epoch_core.proofs.LoadKeeps.{loads, opens, shuts, stamps}
 use Rattle.epoch_core.proofs.JoinKeeps.{lends}
-use Rattle.epoch_core.proofs.DiaryKeeps.{plays_more, set_fit, one_fits}
+use Rattle.epoch_core.proofs.DiaryKeeps.{one_fits, plays_more, set_fit}
+use Rattle.epoch_core.specs.Script.{AllFit, BookFits, IsTime, MayLook, Reading, first_of, look_at, look_next, looked, next_owner, opening_book, owner_at, owner_place, owner_sum, plan_of, play_next, played, reads_on, rest_of}
 
 next_fits : (b : Book) → BookFits b → BookFits (play_next b)
 next_fits b f = by_rest b.rest f.script f.rest

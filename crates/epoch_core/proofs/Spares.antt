@@ -1,12 +1,11 @@
 -- An event goes to no word that a get of a bucket with no marked write needs.
-use Rattle.epoch_core.proofs.Vocabulary.{Begins, Begun, BelongsTo, Ends, Event, HasLiveEntry, Idle, InChain, IsAllowed, IsInRoom, IsItsBucket, IsMain}
-use Rattle.epoch_core.proofs.Vocabulary.{IsReached, Kept, List, Marked, Marks, OwnerState, Phase, PutsEntry, PutsLink, PutsWord, SLOTS, State}
-use Rattle.epoch_core.proofs.Vocabulary.{WhenMarked, Write, arith, bucket_words, by_entry, by_item, by_link, cache_state, entries_at, entry_offset}
-use Rattle.epoch_core.proofs.Vocabulary.{item_at, marked_in, options_in, place_of, refl, room_in, state_of, store_state, subst, sym, ℕ, ◌+◌, ◌<◌, ◌∙◌}
-use Rattle.epoch_core.proofs.Vocabulary.{◌≡◌, ◌≢◌}
+use Rattle.epoch_core.proofs.Vocabulary.{Begins, BelongsTo, Ends, Event, HasLiveEntry, InChain, IsAllowed, IsInRoom, IsItsBucket, IsMain, IsReached}
+use Rattle.epoch_core.proofs.Vocabulary.{Kept, List, Marked, Marks, OwnerState, Phase, PutsEntry, PutsLink, PutsWord, SLOTS, State, WhenMarked, Write}
+use Rattle.epoch_core.proofs.Vocabulary.{arith, bucket_words, by_entry, by_item, by_link, cache_state, entries_at, entry_offset, item_at, marked_in}
+use Rattle.epoch_core.proofs.Vocabulary.{options_in, place_of, refl, room_in, state_of, store_state, subst, sym, ℕ, ◌+◌, ◌<◌, ◌∙◌, ◌≡◌, ◌≢◌}
 use Rattle.epoch_core.proofs.Walks.{chain_bucket}
-use Rattle.epoch_core.proofs.Marked.{marked_not, ends_main, its_bucket, its_inside}
-use Rattle.epoch_core.proofs.Places.{same_bucket, no_epoch, no_stamp, no_item, item_no_epoch}
+use Rattle.epoch_core.proofs.Marked.{ends_main, its_bucket, its_inside, marked_not}
+use Rattle.epoch_core.proofs.Places.{item_no_epoch, no_epoch, no_item, no_stamp, same_bucket}
 
 -- A word of the marked write in cache mode is in no room of a live item of another, unmarked bucket: the one case that goes by the log.
 abbrev pub LogSpares : OwnerState → Type 0

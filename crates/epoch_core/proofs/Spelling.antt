@@ -2,15 +2,15 @@
 use Rattle.epoch_core.proofs.Vocabulary.{AreBytes, Cell, Contains, Has, HasKey, HasLiveEntry, InChain, IsAmong, IsLive, IsSpelt, Kept, List, None}
 use Rattle.epoch_core.proofs.Vocabulary.{Option, OwnerState, Some, Spells, StandsFor, State, Try, TryKept, [], answer_of, ap, arith, bucket_in}
 use Rattle.epoch_core.proofs.Vocabulary.{by_entry, by_item, by_link, cache_state, cell_at, entry_at, entry_in, entry_offset, epoch_in, fnv1a, get}
-use Rattle.epoch_core.proofs.Vocabulary.{header_key_len, header_value_len, header_value_len-header_of, inl, inr, item_at, item_in, item_size, length}
-use Rattle.epoch_core.proofs.Vocabulary.{link_at, link_in, option_map, options_in, packed, refl, same_value, slice_index, stamp_of, state_in}
-use Rattle.epoch_core.proofs.Vocabulary.{store_state, subst, suc, sym, unpacked, value_in, value_word, words_for, zero, ℕ, ◌+◌, ◌<◌, ◌∙◌, ◌∷◌, ◌≡◌}
-use Rattle.epoch_core.proofs.Vocabulary.{◌≢◌}
+use Rattle.epoch_core.proofs.Vocabulary.{header_key_len, header_value_len, inl, inr, item_at, item_in, item_size, length, link_at, link_in}
+use Rattle.epoch_core.proofs.Vocabulary.{option_map, options_in, packed, refl, same_value, slice_index, stamp_of, state_in, store_state, subst, suc}
+use Rattle.epoch_core.proofs.Vocabulary.{sym, unpacked, value_in, value_word, words_for, zero, ℕ, ◌+◌, ◌<◌, ◌∙◌, ◌∷◌, ◌≡◌, ◌≢◌}
 use Rattle.mica_model.specs.Cache.{Record, record_of}
-use Rattle.epoch_core.specs.Spelt.{HasLoad, HasLinks, ShowsOther, by_offset, by_key_len, by_value_len, by_hash, by_key_word, ShowsItem, IsNoEntryOf, by_tag, by_stamp, by_item as by_other, SpellsAnswer}
+use Rattle.epoch_core.specs.Spelt.{HasLinks, HasLoad, IsNoEntryOf, ShowsItem, ShowsOther, SpellsAnswer, by_hash, by_item as by_other, by_key_len, by_key_word, by_offset, by_stamp, by_tag, by_value_len}
 use Rattle.epoch_core.proofs.Machine.{Fits, found_record, has_fits}
 use Rattle.epoch_core.proofs.Keys.{has_its_key, has_no_other, header_there}
-use Rattle.epoch_core.proofs.Failing.{in_cons, in_none, in_head, in_tail}
+use Rattle.epoch_core.proofs.Failing.{in_cons, in_head, in_none, in_tail}
+use Rattle.mica_words.proofs.Fields.{header_value_len-header_of}
 
 -- what the machine has is its answer, and the other way round
 

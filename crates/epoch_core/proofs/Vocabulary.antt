@@ -8,7 +8,7 @@ pub use Rattle.std.proofs.Common.{zero, ℕ, ⊎_elim, ◌%◌, ◌*◌, ◌++�
 pub use Rattle.std.proofs.lemmas.Bool.{cases_Bool, cases_lt, eqb-true, le-leb, ltb-false, ltb-true, true≢false}
 pub use Rattle.std.proofs.lemmas.List.{append-nil, drop_all, get_or_default, get_or_past, length-replicate, set-get_or}
 pub use Rattle.std.proofs.lemmas.List.Elements.{All-contains, All-from_recursion, Contains-append_cases, Contains-append_left, Contains-push_cases}
-pub use Rattle.std.specs.Prelude.{AllPairs, Contains, IfSome, IsTrue, option_map, unwrap_or}
+pub use Rattle.std.specs.Prelude.{AllPairs, Contains, IfSome, IsTrue, option_map}
 pub use Rattle.mica_words.specs.Hash.{bucket_of, fnv1a, tag_of}
 pub use Rattle.mica_words.specs.Header.{header_key_len, header_of, header_room, header_value_len}
 pub use Rattle.mica_words.specs.Item.{KeyFits, ValueFits, item_size, words_for}
@@ -32,11 +32,8 @@ pub use Rattle.epoch_core.specs.LiveEntry.{HasLiveEntry, IsLive, IsLiveItem}
 pub use Rattle.epoch_core.specs.OwnerState.{as_made, begun_in, bucket_in, entry_in, epoch_in, item_in, link_in, marked_in, options_in, stamp_in}
 pub use Rattle.epoch_core.specs.OwnerState.{state_in, writes_in}
 pub use Rattle.epoch_core.specs.Reach.{IsReached, by_entry, by_item, by_link}
-pub use Rattle.epoch_core.specs.ReaderKept.{CutKept, IsSpelt, ReaderKept, Tells, TellsTry, TryKept}
+pub use Rattle.epoch_core.specs.ReaderKept.{IsSpelt, ReaderKept, Tells, TellsTry, TryKept}
 pub use Rattle.epoch_core.specs.ReaderState.{fails_after, loaded, new_try, newcomer, opened, shut, stamped, with_cut, with_load}
-pub use Rattle.epoch_core.specs.Script.{AllFit, BookFits, IsSettled, IsTime, MayLook, NoneAbove, Reading, Rests, Rises, cut_at, first_of, is_writing}
-pub use Rattle.epoch_core.specs.Script.{look_at, look_next, looked, next_owner, opening_book, owner_at, owner_place, owner_sum, plan_of, play_next}
-pub use Rattle.epoch_core.specs.Script.{played, reads_on, rest_of}
 pub use Rattle.epoch_core.specs.Shape.{IsBucket, IsMain, IsSpare, IsValidShape, is_in_range, options_of, shape_of, spares_in}
 pub use Rattle.epoch_core.specs.StandsFor.{Has, HasChain, IsInRoom, IsOffset, RoomsApart, Spells, SpellsItem, StandsFor, cell_at, room_in}
 pub use Rattle.epoch_core.specs.declared.event.Event.{Event}
@@ -49,7 +46,6 @@ pub use Rattle.epoch_core.specs.declared.state.Phase.TheVariants.{Begun, Idle, M
 pub use Rattle.epoch_core.specs.Diary.{DiaryFits, blank_diary, diary_after, event_of, happened, knows, owner_event}
 pub use Rattle.epoch_core.specs.ItemAt.{HasKey, HasKeyWords}
 pub use Rattle.epoch_core.specs.Joins.{ended_in, known, lent, longer, met_by, note_of, told}
-pub use Rattle.epoch_core.specs.declared.reader.Cut.{Cut}
 pub use Rattle.epoch_core.specs.declared.reader.Try.{Try}
 pub use Rattle.epoch_core.specs.declared.scripted.Book.{Book}
 pub use Rattle.epoch_core.specs.declared.scripted.Plan.{Plan}
@@ -58,7 +54,6 @@ pub use Rattle.mica_model.specs.Write.{IsWrite, is_accepted, write_of}
 pub use Rattle.mica_model.specs.declared.options.Options.{Options}
 pub use Rattle.mica_model.specs.declared.write.Outcome.{Outcome}
 pub use Rattle.mica_model.specs.declared.write.Outcome.TheVariants.{FullBlock, FullSpare, Stored, Worn}
-pub use Rattle.mica_words.proofs.Fields.{header_key_len-header_of, header_room-header_of, header_value_len-header_of}
 pub use Rattle.mica_words.proofs.Hashes.{bucket_of-below}
 pub use Rattle.mica_words.proofs.ItemWords.{hash_word, header_word, packed_key_word, same_value, value_word}
 pub use Rattle.mica_words.proofs.PackedBytes.{length-packed, same_from_words}
@@ -70,3 +65,5 @@ pub use Rattle.std.proofs.lemmas.List.Sums.{count_by-le-length, sum_by_push}
 pub use Rattle.std.proofs.lemmas.Nat.{pow_pos}
 pub use Rattle.std.specs.FinMap.{get, get-empty}
 pub use Rattle.std.specs.List.{AllByRecursion, fold, range_with_len}
+pub use Rattle.epoch_core.specs.declared.state.Failure.{Failure}
+pub use Rattle.std.proofs.lemmas.Option.{IfSome_then, same_Some}
