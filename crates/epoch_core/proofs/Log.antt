@@ -60,8 +60,7 @@ log_spares o s b write history before c slot entry other p is at belongs l n h i
     ap (state_of (options_in o)) fits.1 ∙ (state_snoc (options_in o) history write ∙ ap (λ (z : State). after (options_in o) z write) at) in
     let unmarked : marked_in o.phase other ≡ 0 = ap (λ (z : Phase). marked_in z other) is ∙ bit_else b other (λ same. n (sym same)) in
     let some = (s.state other l unmarked).nothing_else c slot entry h in
-    let sp = some.2 in
-    let r = spelt_record o s other entry some.0 some.1 sp (cs.after (options_in o) before write) now in
-    let differ : some.0 ≢ write.key = λ same. n (sym sp.bucket ∙ (ap (bucket_in o) same ∙ sym fits.0)) in
+    let r = spelt_record o s other entry some.0 some.1 some.2 (cs.after (options_in o) before write) now in
+    let differ : some.0 ≢ write.key = λ same. n (sym some.2.bucket ∙ (ap (bucket_in o) same ∙ sym fits.0)) in
     let place : (r.0.offset + i.0) % o.shape.words ≡ p % o.shape.words = rw r.2 (omega (arith, i.2)) in
     other_rooms (options_in o) s.shape.ranges history all.0 write all.1 before at p belongs some.0 differ r.0 r.1 i.0 (omega (arith, r.3, i.1)) place

@@ -3,7 +3,7 @@ use Rattle.epoch_core.proofs.Vocabulary.{AreBytes, Begins, Cell, Ends, Has, HasK
 use Rattle.epoch_core.proofs.Vocabulary.{Marks, MayBegin, MayEnd, MayGive, MayMark, Options, Outcome, OwnerState, Phase, Spells, SpellsItem}
 use Rattle.epoch_core.proofs.Vocabulary.{StandsFor, State, Worn, Write, [], accepted_is_length, add-zero, after, ap, arith, as_made, bucket_in}
 use Rattle.epoch_core.proofs.Vocabulary.{cache_state, cases_Bool, cond, entry_at, entry_in, entry_offset, entry_tag, epoch_at, false, get_or}
-use Rattle.epoch_core.proofs.Vocabulary.{header_room, inl, inr, is_accepted, is_some, item_at, item_in, le-leb, length, link_at, link_in, marked_in}
+use Rattle.epoch_core.proofs.Vocabulary.{header_room, inl, inr, is_accepted, item_at, item_in, le-leb, length, link_at, link_in, marked_in}
 use Rattle.epoch_core.proofs.Vocabulary.{options_in, plays, puts_from, refl, room_in, stamp_at, stamp_in, stamp_of, state_in, state_snoc, store_state}
 use Rattle.epoch_core.proofs.Vocabulary.{subst, sym, tag_of, true, true≢false, word_count, ℕ, ◌++◌, ◌+◌, ◌<◌, ◌∙◌, ◌∷◌, ◌≡◌, ◌≢◌, ◌≤◌, ◌⊎◌}
 use Rattle.std.specs.Str.{bytes_eq}

@@ -77,10 +77,6 @@ module _ (o : OwnerState) (s : Kept o) (t : Try) (k : TryKept o t) (still : epoc
     header_now : (x : ℕ) → HasLoad t.loads (item_at o.shape (entry_offset entry)) x → item_in o (entry_offset entry) ≡ x
     header_now x load = word_now 0 (entry_offset entry) x (omega arith) (omega arith) load
 
-    key_now : (i x : ℕ) → i < words_for (length key) → HasLoad t.loads (item_at o.shape (entry_offset entry + 2 + i)) x
-        → item_in o (entry_offset entry + 2 + i) ≡ x
-    key_now i x l load = word_now (2 + i) (entry_offset entry + 2 + i) x (omega arith) (omega arith) load
-
     value_len_is : (x : ℕ) → HasLoad t.loads (item_at o.shape (entry_offset entry)) x → header_value_len x ≡ length cell.value
     value_len_is x load =
         ap header_value_len (sym (header_now x load) ∙ header_there o (entry_offset entry) key cell sp.item)
@@ -99,7 +95,7 @@ module _ (o : OwnerState) (s : Kept o) (t : Try) (k : TryKept o t) (still : epoc
     not_other (by_key_len x load other) = other (ap header_key_len (sym (header_now x load)) ∙ its_key.len)
     not_other (by_value_len x load long) = omega (arith, fits.2, value_len_is x load)
     not_other (by_hash x load other) = other (sym (word_now 1 (entry_offset entry + 1) x refl (omega arith) load) ∙ its_key.hash)
-    not_other (by_key_word i x l load other) = other (sym (key_now i x l load) ∙ its_key.words i l)
+    not_other (by_key_word i x l load other) = other (sym (word_now (2 + i) _ x (omega arith) (omega arith) load) ∙ its_key.words i l)
 
     -- where they tell that it is a key's, it is, with that value
     is_item : (key' value : List ℕ) → AreBytes key' → ShowsItem o.shape t.loads (entry_offset entry) key' value → (key ≡ key') × (cell.value ≡ value)
@@ -115,7 +111,7 @@ module _ (o : OwnerState) (s : Kept o) (t : Try) (k : TryKept o t) (still : epoc
           has_no_other o s t.bucket entry key cell sp key' bytes record {
             len = len;
             hash = word_now 1 (entry_offset entry + 1) (fnv1a key') refl (omega arith) shows.hash;
-            words = λ i l. key_now i (slice_index (packed key') i) (subst (λ (z : ℕ). i < words_for z) (sym one) l) (shows.key_words i l);
+            words = λ i l. word_now (2 + i) _ (slice_index (packed key') i) (omega arith) (omega (arith, one, l)) (shows.key_words i l);
           },
           sym held ∙ (ap (λ (z : ℕ). unpacked z shows.words) two ∙ shows.held),
         )
@@ -137,8 +133,7 @@ module _ (o : OwnerState) (s : Kept o) (t : Try) (k : TryKept o t) (still : epoc
       let h = at.3 in
       let shows = spell.shows at.0 at.1 (meets o.shape.spares t.bucket spell.behind (λ c h. h) spell.links at.0 h.in_chain) h.in_bucket in
       let same : shows.0 ≡ at.2 = sym (entry_now at.0 at.1 shows.0 h.in_chain h.in_bucket shows.1) ∙ h.found in
-      absurd (is_one at.0 at.1 at.2 h key has.0 at.4
-      (subst (IsNoEntryOf o.shape t.loads (stamp_of (options_in o) o.history) key) same shows.2))
+      absurd (is_one at.0 at.1 at.2 h key has.0 at.4 (rw same at shows.2))
   told_answer key bytes bucket (Some value) spell now is =
       let entry = spell.shows.0 in
       let at = spell.shows.1 in

@@ -30,8 +30,7 @@ module _ (o : OwnerState) where
   among zero x (d ∷ ds) h few c i = absurd (omega arith)
   among (suc n) x (d ∷ ds) h few c i = elim (in_cons x c (d ∷ ds) i) [
     | inl is ↦ inl is
-    | inr more ↦
-        inr (λ none. h.1 (sym h.0 ∙ none), subst (λ (z : ℕ). IsAmong o (suc n) z c) (sym h.0) (among n d ds h.2 (omega arith) c more))
+    | inr more ↦ inr (λ none. h.1 (sym h.0 ∙ none), rw h.0 (among n d ds h.2 (omega arith) c more))
   ]
 
 -- These are the spares behind the main bucket b.
