@@ -94,10 +94,6 @@ module _ (o new : OwnerState) where
       live = (h.live.0, live);
     }
 
-    item_same : (c slot entry i : ℕ) → HasLiveEntry o b c slot entry → i < room_in o entry
-        → get_or new.words (item_at o.shape (entry_offset entry + i)) 0 ≡ get_or o.words (item_at o.shape (entry_offset entry + i)) 0
-    item_same c slot entry i h x = k.word (item_at o.shape (entry_offset entry + i)) (by_item c slot entry i h x refl)
-
     room : (c slot entry : ℕ) → HasLiveEntry o b c slot entry → room_in p entry ≡ room_in o entry
     room c slot entry h =
         let some = (k.stands.nothing_else c slot entry h).2.in_room in
@@ -111,7 +107,7 @@ module _ (o new : OwnerState) where
         → IsLiveItem o.shape.mode o.shape.words (stamp_in p) (entry_offset entry) → Spells o b entry key cell → Spells p b entry key cell
     spells_on c slot entry key cell h live sp = spells_there o new b entry key cell
         (k.has.on key cell (entry_offset entry) sp.bucket sp.has (rw (sym k.stamp_now) live)) (room c slot entry h)
-        (λ i x. item_same c slot entry i h (omega (arith, sp.in_room))) sp
+        (λ i x. k.word _ (by_item c slot entry i h (omega (arith, sp.in_room)) refl)) sp
 
     spells_back : (c slot entry : ℕ) (key : List ℕ) (cell : Cell) → HasLiveEntry p b c slot entry
         → Spells p b entry key cell → Spells o b entry key cell
@@ -119,7 +115,7 @@ module _ (o new : OwnerState) where
         let before = back c slot entry h in
         let same = room c slot entry before in
         spells_there p o b entry key cell (k.has.back key cell (entry_offset entry) sp.bucket sp.has) (sym same)
-        (λ i x. sym (item_same c slot entry i before (omega (arith, sp.in_room, same)))) sp
+        (λ i x. sym (k.word _ (by_item c slot entry i before (omega (arith, sp.in_room, same)) refl))) sp
 
     -- and so what is reached now was reached before
     pub reach_back : (i : ℕ) → IsReached p b i → IsReached o b i

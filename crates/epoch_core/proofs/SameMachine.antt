@@ -69,12 +69,10 @@ module _ (options : Options) where
       by_mode CacheMode mode =
           let at = cached_in options mode history in
           let reply = subst (λ (z : State). Allows shaped z write outcome) (same_state history ∙ at.1) h in
-          subst (λ (z : State). Allows options z write outcome) (sym at.1)
-          (reply ∙ ap (cond (cs.is_worn options at.0) Worn) (same_reply write.op write (is_some (cache.record_of at.0 write.key))))
+          rw at.1 (reply ∙ ap (cond (cs.is_worn options at.0) Worn) (same_reply write.op write (is_some (cache.record_of at.0 write.key))))
       by_mode StoreMode mode =
           let at = stored_in options mode history in
-          subst (λ (z : State). Allows options z write outcome) (sym at.1)
-          (allows_back mode at.0 write outcome (subst (λ (z : State). Allows shaped z write outcome) (same_state history ∙ at.1) h))
+          rw at.1 (allows_back mode at.0 write outcome (subst (λ (z : State). Allows shaped z write outcome) (same_state history ∙ at.1) h))
 
 pub shape_valid : (options : Options) → IsValid options → IsValidShape (shape_of options)
 shape_valid options valid = record {

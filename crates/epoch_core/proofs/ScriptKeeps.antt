@@ -127,5 +127,4 @@ pub next_fits_memory : (b : Book) (events : List OwnerEvent) (done : ℕ) (x : O
     → x ≡ get_or events done x → BookFits b → b.owner.shape ≡ shape → items ≡ b.owner.words → Fits x shape items
 next_fits_memory b events done x shape items is l at f same words =
     let head : drop done events ≡ x ∷ drop (suc done) events = drop-cons events done x l ∙ ap (λ (z : OwnerEvent). z ∷ drop (suc done) events) (sym at) in
-    subst (λ (z : Shape × List ℕ). Fits x z.0 z.1) (λ j. (same j, sym words j))
-    (head_fits b.rest (drop (suc done) events) x b.owner (sym head ∙ is) f.owner f.rest)
+    rw (sym same) (rw words (head_fits b.rest (drop (suc done) events) x b.owner (sym head ∙ is) f.owner f.rest))

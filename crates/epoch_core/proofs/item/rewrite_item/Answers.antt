@@ -15,9 +15,8 @@ place g c = omega (arith, length-packed c.args.key.now, c.from.ensures, c.item_s
 there : (g : Over) (c : After-from g) → g.W.OwnerWords.owner c.put_word.new.self
     ≡ keyed (g.W.OwnerWords.owner c.args.words.now) c.args.offset c.args.room c.args.key.now c.args.value.now
 there g c =
-    let o = g.W.OwnerWords.owner c.args.words.now in
     simp (c.put_word.ensures.event, c.header_of-header.ensures)
-    (sym (key_stays o c.args.offset c.args.room c.args.key.now c.args.value.now c.requires.kept c.requires.key c.requires.there))
+    (sym (key_stays (g.W.OwnerWords.owner c.args.words.now) c.args.offset c.args.room c.args.key.now c.args.value.now c.requires.kept c.requires.key c.requires.there))
 
 pub put_word-requires : goal.put_word-requires
 put_word-requires g c = (can g (goal.at.put_word-requires g c).Start).header
