@@ -60,11 +60,7 @@ module _ (o : OwnerState) (s : Kept o) where
       | inl none ↦ ([], link_here ∙ none, λ d i. absurd (in_none d i))
       | inr free ↦ (
         next ∷ [],
-        (
-          link_here,
-          (λ none. let low = free.0.spare.0 in omega arith),
-          link_else next (λ is. free.0.free b main (subst (InChain o b) (sym is) own)) ∙ free.1,
-        ),
+        (link_here, λ none. omega (arith, free.0.spare.0), link_else next (λ is. free.0.free b main (rw is own)) ∙ free.1),
         λ d i. elim (in_cons next d [] i) [ inl is ↦ subst (IsFreeSpare o) is free.0 | inr more ↦ absurd (in_none d more) ],
       )
     ]

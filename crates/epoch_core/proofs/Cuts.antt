@@ -1,6 +1,6 @@
 -- How many events are played after so many loads.
-use Rattle.epoch_core.proofs.Vocabulary.{List, ap, arith, cases_lt, get_or, get_or_default, get_or_past, inl, inr, length, min, suc, sym, zero, ℕ}
-use Rattle.epoch_core.proofs.Vocabulary.{◌+◌, ◌-◌, ◌<◌, ◌∙◌, ◌≡◌, ◌≤◌}
+use Rattle.epoch_core.proofs.Vocabulary.{List, ap, arith, get_or, get_or_default, get_or_past, length, min, suc, sym, zero, ℕ, ◌+◌, ◌-◌, ◌<◌, ◌∙◌}
+use Rattle.epoch_core.proofs.Vocabulary.{◌≡◌, ◌≤◌}
 use Rattle.epoch_core.specs.Script.{NoneAbove, Rises, cut_at}
 
 abbrev last : List ℕ → ℕ
@@ -8,10 +8,7 @@ last cuts = get_or cuts (length cuts - 1) 0
 
 cut_is : (cuts : List ℕ) (n i : ℕ) → n ≡ i + 1 → cut_at cuts n ≡ get_or cuts (min i (length cuts - 1)) 0
 cut_is cuts zero i is = absurd (omega arith)
-cut_is cuts (suc m) i is = elim (cases_lt m (length cuts)) [
-  | inl less ↦ get_or_default cuts m (last cuts) 0 less ∙ ap (λ (z : ℕ). get_or cuts z 0) (omega arith)
-  | inr past ↦ get_or_past cuts m (last cuts) past ∙ ap (λ (z : ℕ). get_or cuts z 0) (omega arith)
-]
+cut_is cuts (suc m) i is = grind (arith, get_or_default cuts m (last cuts) 0, get_or_past cuts m (last cuts))
 
 cut_last : (cuts : List ℕ) (n : ℕ) → length cuts < n → cut_at cuts n ≡ last cuts
 cut_last cuts zero more = absurd (omega arith)

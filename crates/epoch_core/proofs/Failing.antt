@@ -29,10 +29,7 @@ fails_rise o p shape rises fails fit f has =
 
 pub fails_more : (o : OwnerState) (fails : List Failure) (f : Failure) → FailsFit o fails
     → IsMain o.shape f.bucket × (f.last ≤ epoch_in o f.bucket) × IsFailure f → FailsFit o (fails ++ f ∷ [])
-fails_more o fails f fit new g has = elim (Contains-push_cases fails f g has) [
-  | inl old ↦ fit g old
-  | inr is ↦ subst (λ (z : Failure). IsMain o.shape z.bucket × (z.last ≤ epoch_in o z.bucket) × IsFailure z) is new
-]
+fails_more o fails f fit new g has = elim (Contains-push_cases fails f g has) [ inl old ↦ fit g old | inr is ↦ rw (sym is) new ]
 
 pub fails_both : (o : OwnerState) (fails others : List Failure) → FailsFit o fails → FailsFit o others → FailsFit o (fails ++ others)
 fails_both o fails others fit fit' g has = elim (Contains-append_cases fails others g has) [ inl one ↦ fit g one | inr two ↦ fit' g two ]

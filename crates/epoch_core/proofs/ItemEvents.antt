@@ -56,10 +56,8 @@ module _ (o : OwnerState) (p room : ℕ) (key value : List ℕ) where
   key_stays s fits there =
       ap (λ (z : ℕ). plays (puts_from z (packed key)) (hashed o p room key value)) (omega arith)
       ∙ there_already (headed o p room key value) (p + 1) (fnv1a key ∷ packed key) (λ i l.
-      let wide = length-packed key in
-      let short = fits.1 in
-      let many = s.shape.ranges.words.0 in
-      other o (PutsWord p _) (item_at o.shape (p + 1 + i)) (λ same. not_below o.shape.words p (p + 1 + i) (omega arith) (omega arith) (omega arith))
+      other o (PutsWord p _) (item_at o.shape (p + 1 + i)) (λ same. not_below o.shape.words p (p + 1 + i) (omega arith) (omega arith)
+      (omega (arith, length-packed key, fits.1, s.shape.ranges.words.0)))
       ∙ is_there i l)
     where
       is_there : (i : ℕ) → i < length (fnv1a key ∷ packed key) → item_in o (p + 1 + i) ≡ get_or (fnv1a key ∷ packed key) i 0

@@ -97,7 +97,7 @@ module _ (o : OwnerState) (s : Kept o) where
   stood (Begins c) a b l none = unmarked (Begins c) a b l (ap (λ (z : Phase). marked_in z b) a.idle)
   stood (Marks write n) a b l none = unmarked (Marks write n) a b l (ap (λ (z : Phase). marked_in z b) a.begun)
   stood (Ends c) a b l none = (
-    dite (ℕ_discrete b c) (λ is. subst (StandsFor o) (sym is) a.stands_for)
+    dite (ℕ_discrete b c) (λ is. rw is a.stands_for)
         (λ n. s.state b l (ap (λ (z : Phase). marked_in z b) (marked_is o.phase c a.marked).2 ∙ bit_else c b (λ same. n (sym same)))),
     λ i. reached_no_epoch c b i (ends_main o s o.phase refl c a.marked),
   )

@@ -2,10 +2,10 @@
 use Rattle.epoch_core.proofs.Vocabulary.{AreBytes, Begins, Cell, Ends, Has, HasKey, Idle, IsBucket, IsMain, IsOffset, IsWrite, Kept, List, Marked}
 use Rattle.epoch_core.proofs.Vocabulary.{Marks, MayBegin, MayEnd, MayGive, MayMark, Options, Outcome, OwnerState, Phase, Spells, SpellsItem}
 use Rattle.epoch_core.proofs.Vocabulary.{StandsFor, State, Worn, Write, [], accepted_is_length, add-zero, after, ap, arith, as_made, bucket_in}
-use Rattle.epoch_core.proofs.Vocabulary.{cache_state, cases_Bool, cond, entry_at, entry_in, entry_offset, entry_tag, epoch_at, false, get_or}
-use Rattle.epoch_core.proofs.Vocabulary.{header_room, inl, inr, is_accepted, item_at, item_in, le-leb, length, link_at, link_in, marked_in}
-use Rattle.epoch_core.proofs.Vocabulary.{options_in, plays, puts_from, refl, room_in, stamp_at, stamp_in, stamp_of, state_in, state_snoc, store_state}
-use Rattle.epoch_core.proofs.Vocabulary.{subst, sym, tag_of, true, true≢false, word_count, ℕ, ◌++◌, ◌+◌, ◌<◌, ◌∙◌, ◌∷◌, ◌≡◌, ◌≢◌, ◌≤◌, ◌⊎◌}
+use Rattle.epoch_core.proofs.Vocabulary.{cache_state, cases_Bool, entry_at, entry_in, entry_offset, entry_tag, epoch_at, false, get_or, header_room}
+use Rattle.epoch_core.proofs.Vocabulary.{inl, inr, is_accepted, item_at, item_in, le-leb, length, link_at, link_in, marked_in, options_in, plays}
+use Rattle.epoch_core.proofs.Vocabulary.{puts_from, refl, room_in, stamp_at, stamp_in, stamp_of, state_in, state_snoc, store_state, subst, sym}
+use Rattle.epoch_core.proofs.Vocabulary.{tag_of, true, true≢false, word_count, ℕ, ◌++◌, ◌+◌, ◌<◌, ◌∙◌, ◌∷◌, ◌≡◌, ◌≢◌, ◌≤◌, ◌⊎◌}
 use Rattle.std.specs.Str.{bytes_eq}
 use Rattle.std.proofs.lemmas.Slice.Eq.{bytes_eq-Decides}
 use Rattle.mica_model.specs.Cache as cache
@@ -67,11 +67,7 @@ module _ (o : OwnerState) (s : Kept o) where
 
 pub refused_step : (o : OwnerState) → o.phase ≡ Idle → (w : Write) (outcome : Outcome) → is_accepted outcome ≡ false → MayGive (options_in o) o.history w outcome
     → IsOwnerStep o o w outcome
-refused_step o idle w outcome refuses may = record {
-  allowed = may;
-  gained = ap (λ b. cond b (record o { history = o.history ++ w ∷ [] }) o) (sym refuses);
-  idle = idle;
-}
+refused_step o idle w outcome refuses may = record { allowed = may; gained = rw refuses refl; idle = idle }
 
 allows_worn : (options : Options) (now : State) (w : Write) → options.wear ≤ accepted_in now → Allows options now w Worn
 unfolding cs.reply
@@ -88,11 +84,8 @@ worn_step o idle full w =
 -- The history gains it, and beside it words alone have changed.
 pub accepted_step : (o new : OwnerState) → o.phase ≡ Idle → (w : Write) (outcome : Outcome) → is_accepted outcome ≡ true → MayGive (options_in o) o.history w outcome
     → new ≡ record o { words = new.words; history = o.history ++ w ∷ [] } → IsOwnerStep o new w outcome
-accepted_step o new idle w outcome accepted may gained = record {
-  allowed = may;
-  gained = gained ∙ ap (λ b. cond b (record o { words = new.words; history = o.history ++ w ∷ [] }) o) (sym accepted);
-  idle = ap (λ (z : OwnerState). z.phase) gained ∙ idle;
-}
+accepted_step o new idle w outcome accepted may gained =
+    record { allowed = may; gained = rw accepted gained; idle = ap (λ (z : OwnerState). z.phase) gained ∙ idle }
 
 -- an idle owner's state, a write that its machine accepts, and the stamp after it
 pub record AcceptedWrite (o : OwnerState) : Type 0 where

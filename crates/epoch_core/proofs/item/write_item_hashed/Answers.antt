@@ -50,8 +50,7 @@ put_packed-requires-clause-low g c = omega (arith, (can g (goal.at.put_packed-re
 
 pub overflow_add-offset-3 : goal.overflow_add-offset-3
 overflow_add-offset-3 g c =
-    let low = (can g (goal.at.overflow_add-offset-3 g c).Start).header.low in
-    omega (arith, low, c.requires.key, c.from.ensures, c.item_size.ensures)
+    omega (arith, (can g (goal.at.overflow_add-offset-3 g c).Start).header.low, c.requires.key, c.from.ensures, c.item_size.ensures)
 
 pub put_packed-requires-2-clause-low : goal.put_packed-requires-2-clause-low
 put_packed-requires-2-clause-low g c =
