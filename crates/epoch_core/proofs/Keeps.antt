@@ -46,7 +46,7 @@ module _ (o : OwnerState) (s : Kept o) where
 
   -- no epoch falls
   pub rises : (e : Event) → IsAllowed e o → (c : ℕ) → IsMain o.shape c → epoch_in o c ≤ epoch_in (after e o) c
-  rises e a c l = let more = epoch_after e a c l in omega arith
+  rises e a c l = omega (arith, epoch_after e a c l)
 
   epochs_after : (e : Event) → IsAllowed e o → (b : ℕ) → IsMain o.shape b
       → epoch_in (after e o) b + marked_in (phase_after e o) b ≡ 2 * writes_in (after e o) b + begun_in (phase_after e o) b
@@ -68,7 +68,7 @@ module _ (o : OwnerState) (s : Kept o) where
   lawful_after (Marks write n) a = record {
     accepted = history_snoc (options_in o) o.history write s.history.accepted a.accepted;
     writes = all_more IsWrite o.history write s.history.writes a.fits;
-    not_above_wear = let few = (subst (PhaseFits o) a.begun s.phase).1 in omega (arith, length-append o.history (write ∷ []));
+    not_above_wear = omega (arith, (subst (PhaseFits o) a.begun s.phase).1, length-append o.history (write ∷ []));
   }
   lawful_after e a = s.history
 

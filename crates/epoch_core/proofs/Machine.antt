@@ -100,8 +100,7 @@ module _ (options : Options) (history : History) (writes : AllByRecursion IsWrit
           (ap (option_map cell_at) (before.0 ∙ sym found.1) ∙ h, omega (arith, ap stamp_in now, found.2, before.1))
   by_mode StoreMode mode =
       let at = stored_in options mode history in
-      let now : state_of options more ≡ store_state (ss.after at.0 write) =
-      state_snoc options history write ∙ ap (λ (z : State). after options z write) at.1 in
+      let now = state_snoc options history write ∙ ap (λ (z : State). after options z write) at.1 in
       let same : (key : List ℕ) → bucket_of key options.buckets ≡ b → get (ss.after at.0 write).cells key ≡ get at.0.cells key =
       λ key is. others_same at.0 write key (λ e. apart (sym is ∙ ap (λ (z : List ℕ). bucket_of z options.buckets) e)) in record {
         live = λ p h. tt;

@@ -71,10 +71,8 @@ pub can_play-append : (o : OwnerState) (p : ℕ) (xs ys : List ℕ) → CanPlay 
     → CanPlay (puts_from p xs) o × CanPlay (puts_from (p + length xs) ys) (plays (puts_from p xs) o)
 can_play-append o p [] ys can = (tt, subst (λ (z : ℕ). CanPlay (puts_from z ys) o) (omega arith) can)
 can_play-append o p (x ∷ xs) ys can =
-    let rest = can_play-append (after (PutsWord p x) o) (p + 1) xs ys can.1 in (
-      (can.0, rest.0),
-      subst (λ (z : ℕ). CanPlay (puts_from z ys) (plays (puts_from p (x ∷ xs)) o)) (omega arith) rest.1,
-    )
+    let rest = can_play-append (after (PutsWord p x) o) (p + 1) xs ys can.1 in
+    ((can.0, rest.0), subst (λ (z : ℕ). CanPlay (puts_from z ys) (plays (puts_from p (x ∷ xs)) o)) (omega arith) rest.1)
 
 -- one of several words, and those behind it
 pub next_put : (p i : ℕ) (xs : List ℕ) (word : ℕ) → i < length xs → word ≡ get_or xs i 0

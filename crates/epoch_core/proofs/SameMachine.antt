@@ -42,9 +42,6 @@ module _ (options : Options) where
     spares : spares_in options.mode options.spares ≡ options.spares
     spares = ap (λ (m : Mode). spares_in m options.spares) mode
 
-    spare_back : ss.NeedsSpare shaped s write.key → ss.NeedsSpare options s write.key
-    spare_back h = record { is_new = h.is_new; some = h.some; full = h.full; none_left = h.none_left ∙ spares }
-
     block_back : ss.NeedsBlock shaped s write → ss.NeedsBlock options s write
     block_back h = record {
       stores = h.stores;
@@ -55,7 +52,8 @@ module _ (options : Options) where
 
     allows_back : (outcome : Outcome) → ss.Allows shaped s write outcome → ss.Allows options s write outcome
     allows_back Stored h = (h.0, (h.1.0, elim h.1.1 [ inl fits ↦ inl fits | inr block ↦ inr (block_back block.0, block.1) ]))
-    allows_back FullSpare h = (h.0, (h.1.0, spare_back h.1.1))
+    allows_back FullSpare h =
+        (h.0, (h.1.0, record { is_new = h.1.1.is_new; some = h.1.1.some; full = h.1.1.full; none_left = h.1.1.none_left ∙ spares }))
     allows_back FullBlock h = (h.0, (block_back h.1.0, h.1.1))
     allows_back outcome h = h
 

@@ -59,7 +59,7 @@ loads_on plan n (look ∷ looks) r =
     let next = owner_at plan (n + 1) in omega (arith, loads_on plan (n + 1) looks (look_at look next r), more_loads look next r)
 
 pub loads_counted : (b : Book) → BookFits b → b.reader.loads ≡ length b.looks
-loads_counted b f = let on = loads_on b.plan 0 b.looks (newcomer b.plan.shape [] []) in let same = ap (λ (z : ReaderState). z.loads) f.looks in omega arith
+loads_counted b f = omega (arith, loads_on b.plan 0 b.looks (newcomer b.plan.shape [] []), ap (λ (z : ReaderState). z.loads) f.looks)
 
 reads_more : (plan : Plan) (n : ℕ) (looks : List Look) (look : Look) (r : ReaderState)
     → reads_on plan n (looks ++ look ∷ []) r ≡ look_at look (owner_at plan (n + length looks + 1)) (reads_on plan n looks r)

@@ -10,7 +10,7 @@ few_spares Cache spares less = (omega arith, λ is. omega arith)
 few_spares Store spares less = (less, λ is. cc)
 
 within_spares : (mode : Mode) (spares : ℕ) → spares ≤ 65536 → (mode ≡ Cache → spares ≡ 0) → spares ≤ spares_in mode 65536
-within_spares Cache spares less none = let zero_is = none refl in omega arith
+within_spares Cache spares less none = omega (arith, none refl)
 within_spares Store spares less none = less
 
 pub valid_in_range : (shape : Shape) → is_in_range shape ≡ true → IsValidShape shape

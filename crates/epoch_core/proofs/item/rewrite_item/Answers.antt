@@ -27,8 +27,7 @@ overflow_add-offset g c =
 
 pub put_packed-requires-clause-low : goal.put_packed-requires-clause-low
 put_packed-requires-clause-low g c =
-    let low = (can g (goal.at.put_packed-requires-clause-low g c).Start).header.low in
-    omega (arith, low, c.requires.key, c.requires.value, c.from.ensures, c.item_size.ensures)
+    omega (arith, (can g (goal.at.put_packed-requires-clause-low g c).Start).header.low, c.requires.key, c.requires.value, c.from.ensures, c.item_size.ensures)
 
 pub put_packed-requires-clause-allowed : goal.put_packed-requires-clause-allowed
 put_packed-requires-clause-allowed g c =
