@@ -1,11 +1,7 @@
 -- What stands behind a bucket: the list of the buckets to which the links lead, one after another. f says where each bucket's link leads,
 -- 0 being nowhere.
-use Rattle.std.proofs.Common.{◌≡◌, ◌≢◌, ℕ, suc, ◌<◌, ◌⊎◌, inl, inr, List, [], ◌∷◌, ◌++◌, length, refl, sym, ap, ◌∙◌, subst, arith}
-use mathlib.Core.Logic.{dite}
-use native.Mathlib.Decide.{ℕ_discrete}
-use Rattle.std.specs.Prelude.{Contains, AllPairs}
-use Rattle.std.proofs.lemmas.List.{get_or_default}
-use Rattle.std.proofs.lemmas.List.Elements.{Contains-append_left}
+use Rattle.epoch_core.proofs.Vocabulary.{AllPairs, Contains, Contains-append_left, List, [], ap, arith, dite, get_or_default, inl, inr, length, refl}
+use Rattle.epoch_core.proofs.Vocabulary.{subst, suc, sym, ℕ, ℕ_discrete, ◌++◌, ◌<◌, ◌∙◌, ◌∷◌, ◌≡◌, ◌≢◌, ◌⊎◌}
 use Rattle.std.proofs.lemmas.List.Kept.{AllPairs-cons}
 use Rattle.epoch_core.proofs.Failing.{in_cons, in_head, in_tail, in_none}
 

@@ -1,50 +1,17 @@
 -- In cache mode the log keeps rooms apart, so a bucket's words stand for the state where its entries spell each record once.
-use Rattle.std.proofs.Common.{◌≡◌, ◌≢◌, ℕ, zero, suc, ◌+◌, ◌%◌, ◌≤◌, inl, inr, ⊎_elim, List, Option, sym, ap, ◌∙◌, subst, arith}
-use Rattle.std.specs.Prelude.{unwrap_or}
-use Rattle.mica_words.specs.Entry.{entry_offset}
-use Rattle.mica_words.specs.Stamp.{tail_of}
-use Rattle.mica_model.specs.declared.options.Mode.{Mode}
-use Rattle.mica_model.specs.declared.options.Mode.TheVariants.{Cache}
-use Rattle.mica_model.specs.Cache.{Record, record_of}
-use Rattle.mica_model.specs.Store.{Cell}
-use Rattle.mica_model.specs.History.{State}
+use Rattle.epoch_core.proofs.Vocabulary.{Cache, Cell, Has, HasChain, HasLiveEntry, InChain, IsAmong, IsMain, Kept, List, Mode, OwnerState, RoomsApart}
+use Rattle.epoch_core.proofs.Vocabulary.{Spells, StandsFor, ap, arith, bucket_in, cached_in, entry_offset, inl, inr, link_in, options_in, state_in}
+use Rattle.epoch_core.proofs.Vocabulary.{subst, sym, tail_of, ℕ, ◌%◌, ◌+◌, ◌∙◌, ◌≡◌, ◌≢◌}
 use Rattle.mica_model.proofs.CacheLaws.{kept_in, window_kept, apart_kept}
-use Rattle.mica_model.proofs.Histories.{cached_in}
-use Rattle.epoch_core.specs.declared.state.OwnerState.{OwnerState}
-use Rattle.epoch_core.specs.Shape.{IsMain}
-use Rattle.epoch_core.specs.OwnerState.{link_in, options_in, state_in, bucket_in}
-use Rattle.epoch_core.specs.Chain.{IsAmong, InChain}
-use Rattle.epoch_core.specs.LiveEntry.{HasLiveEntry}
-use Rattle.epoch_core.specs.StandsFor.{Has, Spells, RoomsApart, HasChain, StandsFor}
-use Rattle.epoch_core.specs.Kept.{Kept}
-use Rattle.epoch_core.proofs.Log.{one_place, room_is}
-use Rattle.epoch_core.proofs.Machine.{found_record}
+use Rattle.epoch_core.proofs.Log.{one_place, spelt_record}
+use Rattle.epoch_core.proofs.Machine.{same_cell}
 
 module _ (o : OwnerState) (s : Kept o) (mode : o.shape.mode ≡ Cache) where
   -- a chain is its main bucket alone
 
-  among_none : (n x c : ℕ) → n ≡ 0 → ¬ (IsAmong o n x c)
-  among_none zero x c none h = h
-  among_none (suc n) x c none h = absurd (omega arith)
-
-  among_one : (n b c : ℕ) → n ≡ 1 → IsAmong o n b c → b ≡ c
-  among_one zero b c one h = absurd h
-  among_one (suc n) b c one (inl is) = is
-  among_one (suc n) b c one (inr h) = absurd (among_none n (link_in o b) c (omega arith) h.1)
-
   pub alone : (b c : ℕ) → InChain o b c → b ≡ c
-  alone b c h = let none = s.shape.no_spares mode in among_one (suc o.shape.spares) b c (omega arith) h
-
-  -- what the machine has of a key is one record
-  pub one_cell : (key : List ℕ) (cell cell' : Cell) (p p' : ℕ) → Has (state_in o) key cell p → Has (state_in o) key cell' p' → (cell ≡ cell') × (p ≡ p')
-  one_cell key cell cell' p p' h h' =
-      let at = cached_in (options_in o) mode o.history in
-      let one = found_record (record_of at.0 key) cell p (subst (λ (z : State). Has z key cell p) at.1 h) in
-      let two = found_record (record_of at.0 key) cell' p' (subst (λ (z : State). Has z key cell' p') at.1 h') in
-      let same : one.0 ≡ two.0 = ap (λ (z : Option Record). unwrap_or z one.0) (sym one.1 ∙ two.1) in (
-        one.3 ∙ (ap (λ (r : Record). record { value = r.value; room = r.room }) same ∙ sym two.3),
-        sym one.2 ∙ (ap (λ (r : Record). r.offset) same ∙ two.2),
-      )
+  alone b c (inl is) = is
+  alone b c (inr h) = absurd (subst (λ (n : ℕ). IsAmong o n (link_in o b) c) (s.shape.no_spares mode) h.1)
 
   -- the rooms of the items of two keys share no word
   pub rooms_of_keys : (b b' entry entry' : ℕ) (key key' : List ℕ) (cell cell' : Cell) → Spells o b entry key cell → Spells o b' entry' key' cell'
@@ -52,28 +19,14 @@ module _ (o : OwnerState) (s : Kept o) (mode : o.shape.mode ≡ Cache) where
   rooms_of_keys b b' entry entry' key key' cell cell' sp sp' differ p i i' =
       let at = cached_in (options_in o) mode o.history in
       let kept = kept_in (options_in o) o.history s.history.writes at.0 at.1 in
-      let one = found_record (record_of at.0 key) cell (entry_offset entry) (subst (λ (z : State). Has z key cell (entry_offset entry)) at.1 sp.has) in
-      let two = found_record (record_of at.0 key') cell' (entry_offset entry') (subst (λ (z : State). Has z key' cell' (entry_offset entry')) at.1 sp'.has) in
+      let one = spelt_record o s b entry key cell sp at.0 at.1 in
+      let two = spelt_record o s b' entry' key' cell' sp' at.0 at.1 in
       let here = window_kept (options_in o) at.0 kept key one.0 one.1 in
       let there = window_kept (options_in o) at.0 kept key' two.0 two.1 in
-      let room = room_is o s b entry key cell sp in
-      let room' = room_is o s b' entry' key' cell' sp' in
-      let long : cell.room ≡ one.0.room = ap (λ (z : Cell). z.room) one.3 in
-      let long' : cell'.room ≡ two.0.room = ap (λ (z : Cell). z.room) two.3 in
-      let offset = one.2 in
-      let offset' = two.2 in
-      let below = i.1 in
-      let below' = i'.1 in
-      let place : (one.0.offset + i.0) % o.shape.words ≡ (two.0.offset + i'.0) % o.shape.words =
-      ap (λ (z : ℕ). (z + i.0) % o.shape.words) {y = entry_offset entry} one.2
-      ∙ ((let e = i.2 in let e' = i'.2 in omega arith)
-      ∙ ap (λ (z : ℕ). (z + i'.0) % o.shape.words) {x = entry_offset entry'} (sym two.2)) in
-      let same : one.0.offset + i.0 ≡ two.0.offset + i'.0 =
-      one_place o.shape.words (tail_of at.0.stamp) (one.0.offset + i.0) (two.0.offset + i'.0) place (omega arith) (omega arith) (omega arith) (omega arith) in
-      ⊎_elim
-      (λ (first : one.0.offset + one.0.room ≤ two.0.offset). omega arith)
-      (λ (second : two.0.offset + two.0.room ≤ one.0.offset). omega arith)
-      (apart_kept (options_in o) at.0 kept key key' one.0 two.0 one.1 two.1 differ)
+      let place : (one.0.offset + i.0) % o.shape.words ≡ (two.0.offset + i'.0) % o.shape.words = rw one.2 (rw two.2 (omega (arith, i.2, i'.2))) in
+      let same = one_place o.shape.words (tail_of at.0.stamp) (one.0.offset + i.0) (two.0.offset + i'.0) place
+      (omega arith) (omega arith) (omega (arith, one.3, i.1)) (omega (arith, two.3, i'.1)) in
+      grind (arith, same, one.3, two.3, i.1, i'.1, apart_kept (options_in o) at.0 kept key key' one.0 two.0 one.1 two.1 differ)
 
   -- so a bucket's rooms need no proof of their own
   pub stands_cached : (b : ℕ) → IsMain o.shape b
@@ -90,7 +43,10 @@ module _ (o : OwnerState) (s : Kept o) (mode : o.shape.mode ≡ Cache) where
     rooms = λ c slot entry c' slot' entry' h h' other.
         let some = nothing_else c slot entry h in
         let some' = nothing_else c' slot' entry' h' in
-        rooms_of_keys b b entry entry' some.0 some'.0 some.1 some'.1 some.2 some'.2 (λ same. other (by_key c slot entry c' slot' entry' h h' some.0 some'.0 some.1 some'.1 some.2 some'.2 same));
+        rooms_of_keys b b entry entry' some.0 some'.0 some.1 some'.1 some.2 some'.2 (λ same.
+        let sp : Spells o b entry' some.0 some'.1 = rw same some'.2 in
+        let one = same_cell (state_in o) some.0 some.1 some'.1 (entry_offset entry) (entry_offset entry') some.2.has sp.has in
+        other (once c slot entry c' slot' entry' some.0 some.1 h h' some.2 (rw one sp)));
     apart = λ other c slot entry c' slot' entry' m n unmarked h h'.
         let some = nothing_else c slot entry h in
         let some' = (s.state other m unmarked).nothing_else c' slot' entry' h' in
@@ -98,10 +54,3 @@ module _ (o : OwnerState) (s : Kept o) (mode : o.shape.mode ≡ Cache) where
         (λ same. n (sym some'.2.bucket ∙ (ap (bucket_in o) (sym same) ∙ some.2.bucket)));
     chain = subst (λ (m : Mode). HasChain m o b) (sym mode) tt;
   }
-    where
-      by_key : (c slot entry c' slot' entry' : ℕ) → HasLiveEntry o b c slot entry → HasLiveEntry o b c' slot' entry' → (key key' : List ℕ) (cell cell' : Cell)
-          → Spells o b entry key cell → Spells o b entry' key' cell' → key ≡ key' → (c ≡ c') × (slot ≡ slot')
-      by_key c slot entry c' slot' entry' h h' key key' cell cell' sp sp' same =
-          let sp'' : Spells o b entry' key cell' = subst (λ (z : List ℕ). Spells o b entry' z cell') (sym same) sp' in
-          let cells = one_cell key cell cell' (entry_offset entry) (entry_offset entry') sp.has sp''.has in
-          once c slot entry c' slot' entry' key cell h h' sp (subst (λ (z : Cell). Spells o b entry' key z) (sym cells.0) sp'')

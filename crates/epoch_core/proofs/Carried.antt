@@ -1,10 +1,11 @@
 -- What the words stand for in a bucket stays where the words in its reach do, and the machine has the same of its keys.
-use Rattle.epoch_core.proofs.Vocabulary.{Cache, Cell, HasChain, HasChains, HasLiveEntry, History, InChain, IsAmong, IsDense, IsInRoom, IsLiveItem}
-use Rattle.epoch_core.proofs.Vocabulary.{IsMain, IsReached, List, Marked, Mode, OwnerState, Phase, RoomsApart, Spells, StandsFor, Store, add-zero, ap}
-use Rattle.epoch_core.proofs.Vocabulary.{arith, by_entry, by_item, by_link, dite, entry_at, get_or, header_room, inl, inr, item_at, link_at, link_in}
-use Rattle.epoch_core.proofs.Vocabulary.{marked_in, options_in, refl, room_in, stamp_in, stamp_of, subst, suc, sym, zero, ℕ, ℕ_discrete, ◌+◌, ◌<◌}
-use Rattle.epoch_core.proofs.Vocabulary.{◌∙◌, ◌≡◌, ◌≢◌, ◌⊎◌}
-use Rattle.mica_words.specs.Entry.{entry_offset}
+use Rattle.epoch_core.proofs.Vocabulary.{Cache, Cell, Has, HasChain, HasChains, HasLiveEntry, History, InChain, IsDense, IsInRoom, IsLiveItem, IsMain}
+use Rattle.epoch_core.proofs.Vocabulary.{IsReached, List, Marked, Mode, OwnerState, Phase, Spells, StandsFor, Store, add-zero, ap, arith, by_entry}
+use Rattle.epoch_core.proofs.Vocabulary.{by_item, by_link, dite, entry_at, entry_offset, get_or, header_room, inl, inr, item_at, item_in, item_size}
+use Rattle.epoch_core.proofs.Vocabulary.{link_at, link_in, marked_in, options_in, refl, room_in, stamp_in, stamp_of, state_in, sym, ℕ, ℕ_discrete}
+use Rattle.epoch_core.proofs.Vocabulary.{◌+◌, ◌<◌, ◌∙◌, ◌≡◌, ◌≢◌, ◌⊎◌}
+use Rattle.epoch_core.proofs.Behind.{same_behind}
+use Rattle.epoch_core.proofs.Walks.{IsChain, chain_there, has_bucket, in_chain}
 use Rattle.epoch_core.proofs.Machine.{HasStill}
 use Rattle.epoch_core.proofs.Marked.{bit_else}
 
@@ -12,8 +13,21 @@ use Rattle.epoch_core.proofs.Marked.{bit_else}
 abbrev pub changed : OwnerState → List ℕ → History → Phase → OwnerState
 changed o words history phase = record o { words = words; history = history; phase = phase }
 
+-- an entry spells there what it spells here, where its room, its item's words and what the machine has of the key are the same
+pub spells_there : (o new : OwnerState) (b entry : ℕ) (key : List ℕ) (cell : Cell)
+    → Has (state_in (record new { shape = o.shape })) key cell (entry_offset entry)
+    → room_in (record new { shape = o.shape }) entry ≡ room_in o entry
+    → ((i : ℕ) → i < item_size key cell.value
+    → item_in (record new { shape = o.shape }) (entry_offset entry + i) ≡ item_in o (entry_offset entry + i))
+    → Spells o b entry key cell → Spells (record new { shape = o.shape }) b entry key cell
+spells_there o new b entry key cell has room same sp =
+    let fits = sp.in_room in
+    record { bucket = sp.bucket; has = has; offset = sp.offset; tag = sp.tag; item = λ i l. same i l ∙ sp.item i l; in_room = omega arith }
+
 -- what has to be known of a bucket
 pub record Carries (o new : OwnerState) (b : ℕ) : Type 0 where
+  pub chains : HasChains o
+  pub main : IsMain o.shape b
   pub stands : StandsFor o b
   pub word : (i : ℕ) → IsReached o b i → get_or new.words i 0 ≡ get_or o.words i 0
   pub stamp : stamp_in o ≡ stamp_of (options_in o) o.history
@@ -26,14 +40,6 @@ one_unmarked (Marked d write before) b c n =
     dite (ℕ_discrete d b) (λ is. inr (bit_else d c (λ same. n (sym is ∙ same)))) (λ not. inl (bit_else d b not))
 one_unmarked phase b c n = inl refl
 
--- so the rooms of their live items share no word
-rooms_apart : (o : OwnerState) (b other c slot entry c' slot' entry' : ℕ) → IsMain o.shape b → IsMain o.shape other → other ≢ b
-    → StandsFor o b → StandsFor o other → HasLiveEntry o b c slot entry → HasLiveEntry o other c' slot' entry' → RoomsApart o entry entry'
-rooms_apart o b other c slot entry c' slot' entry' l m n f f' h h' q i i' = elim (one_unmarked o.phase other b n) [
-  | inl none ↦ f.apart other c slot entry c' slot' entry' m n none h h' q i i'
-  | inr none ↦ f'.apart b c' slot' entry' c slot entry l (λ same. n (sym same)) none h' h q i' i
-]
-
 module _ (o new : OwnerState) where
   abbrev p : OwnerState
   p = record new { shape = o.shape }
@@ -44,26 +50,18 @@ module _ (o new : OwnerState) where
     link_same : (c : ℕ) → InChain o b c → link_in p c ≡ link_in o c
     link_same c h = k.word (link_at o.shape c) (by_link c h refl)
 
-    among_back : (n d c : ℕ) → ((x : ℕ) → IsAmong o n d x → InChain o b x) → IsAmong p n d c → IsAmong o n d c
-    among_back zero d c up h = absurd h
-    among_back (suc n) d c up (inl is) = inl is
-    among_back (suc n) d c up (inr h) =
-        let same = link_same d (up d (inl refl)) in
-        let linked : link_in o d ≢ 0 = λ none. h.0 (same ∙ none) in
-        inr (linked, among_back n (link_in o d) c (λ x among. up x (inr (linked, among))) (subst (λ (z : ℕ). IsAmong p n z c) same h.1))
+    chain : (cs : List ℕ) × IsChain o b cs
+    chain = chain_there o k.chains b k.main
 
-    among_on : (n d c : ℕ) → ((x : ℕ) → IsAmong o n d x → InChain o b x) → IsAmong o n d c → IsAmong p n d c
-    among_on zero d c up h = absurd h
-    among_on (suc n) d c up (inl is) = inl is
-    among_on (suc n) d c up (inr h) =
-        let same = link_same d (up d (inl refl)) in
-        inr (
-          λ none. h.0 (sym same ∙ none),
-          subst (λ (z : ℕ). IsAmong p n z c) (sym same) (among_on n (link_in o d) c (λ x among. up x (inr (h.0, among))) h.1),
-        )
+    same_chain : IsChain p b chain.0
+    same_chain = record {
+      behind = same_behind (link_in o) (link_in p) b chain.0 (λ c i. link_same c (in_chain o b chain.0 chain.1 c i)) chain.1.behind;
+      spare = chain.1.spare;
+      few = chain.1.few;
+    }
 
     chain_back : (c : ℕ) → InChain p b c → InChain o b c
-    chain_back c h = among_back (suc o.shape.spares) b c (λ x among. among) h
+    chain_back c h = in_chain o b chain.0 chain.1 c (has_bucket p b chain.0 same_chain c h)
 
     entry_same : (c slot : ℕ) → InChain o b c → slot < 15 → get_or new.words (entry_at o.shape c slot) 0 ≡ get_or o.words (entry_at o.shape c slot) 0
     entry_same c slot h x = k.word (entry_at o.shape c slot) (by_entry c slot h x refl)
@@ -90,46 +88,34 @@ module _ (o new : OwnerState) where
     on : (c slot entry : ℕ) → HasLiveEntry o b c slot entry → IsLiveItem o.shape.mode o.shape.words (stamp_in p) (entry_offset entry)
         → HasLiveEntry p b c slot entry
     on c slot entry h live = record {
-      in_chain = among_on (suc o.shape.spares) b c (λ x among. among) h.in_chain;
+      in_chain = in_chain p b chain.0 same_chain c (has_bucket o b chain.0 chain.1 c h.in_chain);
       in_bucket = h.in_bucket;
       found = entry_same c slot h.in_chain h.in_bucket ∙ h.found;
       live = (h.live.0, live);
     }
 
-    item_same : (c slot entry i : ℕ) → HasLiveEntry o b c slot entry → i < room_in o entry
-        → get_or new.words (item_at o.shape (entry_offset entry + i)) 0 ≡ get_or o.words (item_at o.shape (entry_offset entry + i)) 0
-    item_same c slot entry i h x = k.word (item_at o.shape (entry_offset entry + i)) (by_item c slot entry i h x refl)
-
     room : (c slot entry : ℕ) → HasLiveEntry o b c slot entry → room_in p entry ≡ room_in o entry
     room c slot entry h =
-        let fits = (k.stands.nothing_else c slot entry h).2.in_room in
+        let some = (k.stands.nothing_else c slot entry h).2.in_room in
         let first = ap (item_at o.shape) (sym (add-zero (entry_offset entry))) in
         ap header_room (k.word (item_at o.shape (entry_offset entry)) (by_item c slot entry 0 h (omega arith) first))
 
-    pub in_room : (c slot entry q : ℕ) → HasLiveEntry o b c slot entry → IsInRoom p entry q → IsInRoom o entry q
-    in_room c slot entry q h i = let same = room c slot entry h in (i.0, let below = i.1 in omega arith, i.2)
+    pub in_room : (c slot entry q : ℕ) → HasLiveEntry p b c slot entry → IsInRoom p entry q → IsInRoom o entry q
+    in_room c slot entry q h i = (i.0, omega (arith, i.1, room c slot entry (back c slot entry h)), i.2)
 
     spells_on : (c slot entry : ℕ) (key : List ℕ) (cell : Cell) → HasLiveEntry o b c slot entry
         → IsLiveItem o.shape.mode o.shape.words (stamp_in p) (entry_offset entry) → Spells o b entry key cell → Spells p b entry key cell
-    spells_on c slot entry key cell h live sp = let fits = sp.in_room in let same = room c slot entry h in record {
-      bucket = sp.bucket;
-      has = k.has.on key cell (entry_offset entry) sp.bucket sp.has (rw (sym k.stamp_now) live);
-      offset = sp.offset;
-      tag = sp.tag;
-      item = λ i x. item_same c slot entry i h (omega arith) ∙ sp.item i x;
-      in_room = omega arith;
-    }
+    spells_on c slot entry key cell h live sp = spells_there o new b entry key cell
+        (k.has.on key cell (entry_offset entry) sp.bucket sp.has (rw (sym k.stamp_now) live)) (room c slot entry h)
+        (λ i x. k.word _ (by_item c slot entry i h (omega (arith, sp.in_room)) refl)) sp
 
-    spells_back : (c slot entry : ℕ) (key : List ℕ) (cell : Cell) → HasLiveEntry o b c slot entry
+    spells_back : (c slot entry : ℕ) (key : List ℕ) (cell : Cell) → HasLiveEntry p b c slot entry
         → Spells p b entry key cell → Spells o b entry key cell
-    spells_back c slot entry key cell h sp = let fits = sp.in_room in let same = room c slot entry h in record {
-      bucket = sp.bucket;
-      has = k.has.back key cell (entry_offset entry) sp.bucket sp.has;
-      offset = sp.offset;
-      tag = sp.tag;
-      item = λ i x. sym (item_same c slot entry i h (omega arith)) ∙ sp.item i x;
-      in_room = omega arith;
-    }
+    spells_back c slot entry key cell h sp =
+        let before = back c slot entry h in
+        let same = room c slot entry before in
+        spells_there p o b entry key cell (k.has.back key cell (entry_offset entry) sp.bucket sp.has) (sym same)
+        (λ i x. sym (k.word _ (by_item c slot entry i before (omega (arith, sp.in_room, same)) refl))) sp
 
     -- and so what is reached now was reached before
     pub reach_back : (i : ℕ) → IsReached p b i → IsReached o b i
@@ -159,20 +145,20 @@ module _ (o new : OwnerState) where
         rw k.stamp_now (k.has.live_on key cell q (entry_offset at.2) is has at.4.has (rw (sym k.stamp) at.3.live.1)) in
         (at.0, at.1, at.2, on b k at.0 at.1 at.2 at.3 live, spells_on b k at.0 at.1 at.2 key cell at.3 live at.4);
     once = λ c slot entry c' slot' entry' key cell h h' sp sp'.
-        let before = back b k c slot entry h in
-        let before' = back b k c' slot' entry' h' in
-        k.stands.once c slot entry c' slot' entry' key cell before before'
-        (spells_back b k c slot entry key cell before sp) (spells_back b k c' slot' entry' key cell before' sp');
+        k.stands.once c slot entry c' slot' entry' key cell (back b k c slot entry h) (back b k c' slot' entry' h')
+        (spells_back b k c slot entry key cell h sp) (spells_back b k c' slot' entry' key cell h' sp');
     rooms = λ c slot entry c' slot' entry' h h' other q i i'.
-        let before = back b k c slot entry h in
-        let before' = back b k c' slot' entry' h' in
-        k.stands.rooms c slot entry c' slot' entry' before before' other q
-        (in_room b k c slot entry q before i) (in_room b k c' slot' entry' q before' i');
+        k.stands.rooms c slot entry c' slot' entry' (back b k c slot entry h) (back b k c' slot' entry' h') other q
+        (in_room b k c slot entry q h i) (in_room b k c' slot' entry' q h' i');
     apart = λ other c slot entry c' slot' entry' main differs unmarked h h' q i i'.
         let k' = carries other main unmarked in
-        let before = back b k c slot entry h in
-        let before' = back other k' c' slot' entry' h' in
-        rooms_apart o b other c slot entry c' slot' entry' l main differs k.stands k'.stands before before' q
-        (in_room b k c slot entry q before i) (in_room other k' c' slot' entry' q before' i');
+        let was = back b k c slot entry h in
+        let was' = back other k' c' slot' entry' h' in
+        let i = in_room b k c slot entry q h i in
+        let i' = in_room other k' c' slot' entry' q h' i' in
+        elim (one_unmarked o.phase other b differs) [
+          | inl none ↦ k.stands.apart other c slot entry c' slot' entry' main differs none was was' q i i'
+          | inr none ↦ k'.stands.apart b c' slot' entry' c slot entry l (λ same. differs (sym same)) none was' was q i' i
+        ];
     chain = has_chain_on o.shape.mode b k l chains k.stands.chain;
   }

@@ -1,23 +1,9 @@
 -- After each event each link is 0 or names a spare bucket, each chain ends, and no spare bucket is in two.
-use Rattle.std.proofs.Common.{◌≡◌, ℕ, ◌≢◌, inl, inr, ◌⊎◌, List, [], ◌∷◌, ◌++◌, refl, sym, ap, ◌∙◌, subst, arith, get_or}
-use mathlib.Core.Logic.{dite}
-use native.Mathlib.Decide.{ℕ_discrete}
-use Rattle.std.specs.Prelude.{Contains}
-use Rattle.std.proofs.lemmas.List.Elements.{Contains-append_left, Contains-append_cases}
-use Rattle.mica_words.specs.declared.entry.TheConstants.{SLOTS}
-use Rattle.mica_model.specs.History.{History}
-use Rattle.epoch_core.specs.declared.state.OwnerState.{OwnerState}
-use Rattle.epoch_core.specs.declared.state.Phase.{Phase}
-use Rattle.epoch_core.specs.declared.event.Event.{Event}
-use Rattle.epoch_core.specs.declared.event.Event.TheVariants.{Begins, Marks, PutsWord, PutsEntry, PutsLink, Ends}
-use Rattle.epoch_core.specs.Shape.{IsMain, IsSpare, IsBucket}
-use Rattle.epoch_core.specs.Layout.{link_at}
-use Rattle.epoch_core.specs.OwnerState.{link_in}
-use Rattle.epoch_core.specs.Chain.{InChain, HasChains, IsFreeSpare}
-use Rattle.epoch_core.specs.Events.{MayPutLink, IsAllowed, place_of, words_after, history_after, phase_after, after}
-use Rattle.epoch_core.specs.Kept.{Kept}
-use Rattle.epoch_core.proofs.Places.{no_epoch}
-use Rattle.epoch_core.proofs.EventWords.{other, link_begins, link_marks, link_puts_word, link_puts_entry, link_puts, link_puts_other}
+use Rattle.epoch_core.proofs.Vocabulary.{Begins, Contains, Contains-append_cases, Contains-append_left, Ends, Event, HasChains, History, InChain}
+use Rattle.epoch_core.proofs.Vocabulary.{IsAllowed, IsBucket, IsFreeSpare, IsMain, IsSpare, Kept, List, MayPutLink, OwnerState, Phase, PutsEntry}
+use Rattle.epoch_core.proofs.Vocabulary.{PutsLink, [], after, arith, history_after, inl, inr, link_at, link_in, phase_after, place_of, refl, subst}
+use Rattle.epoch_core.proofs.Vocabulary.{sym, words_after, ℕ, ◌++◌, ◌∙◌, ◌∷◌, ◌≡◌, ◌≢◌, ◌⊎◌}
+use Rattle.epoch_core.proofs.EventWords.{other, link_puts, link_puts_other}
 use Rattle.epoch_core.proofs.Marked.{its_inside, ends_main}
 use Rattle.epoch_core.proofs.Failing.{in_cons, in_none}
 use Rattle.epoch_core.proofs.Behind.{AreBehind, listed_or_not, parted, same_behind, relinked}
@@ -56,9 +42,6 @@ module _ (o : OwnerState) (words : List ℕ) (history : History) (phase : Phase)
       ))
 
 module _ (o : OwnerState) (s : Kept o) where
-  pub other_word : (e : Event) (i : ℕ) → i ≢ place_of o.shape e → get_or (after e o).words i 0 ≡ get_or o.words i 0
-  other_word = other o
-
   -- a link is put
 
   module _ (c next : ℕ) (a : MayPutLink o c next) where
@@ -77,11 +60,7 @@ module _ (o : OwnerState) (s : Kept o) where
       | inl none ↦ ([], link_here ∙ none, λ d i. absurd (in_none d i))
       | inr free ↦ (
         next ∷ [],
-        (
-          link_here,
-          (λ none. let low = free.0.spare.0 in omega arith),
-          link_else next (λ is. free.0.free b main (subst (InChain o b) (sym is) own)) ∙ free.1,
-        ),
+        (link_here, λ none. omega (arith, free.0.spare.0), link_else next (λ is. free.0.free b main (rw is own)) ∙ free.1),
         λ d i. elim (in_cons next d [] i) [ inl is ↦ subst (IsFreeSpare o) is free.0 | inr more ↦ absurd (in_none d more) ],
       )
     ]
@@ -113,14 +92,12 @@ module _ (o : OwnerState) (s : Kept o) where
                   )
             ]
 
-  stay : (e : Event) → ((c : ℕ) → IsBucket o.shape c → link_in (after e o) c ≡ link_in o c) → HasChains (after e o)
-  stay e same = chains_stay o (words_after e o) (history_after e o.history) (phase_after e o) s.chains same
+  stay : (e : Event) → ((c : ℕ) → IsBucket o.shape c → link_at o.shape c ≢ place_of o.shape e) → HasChains (after e o)
+  stay e none = chains_stay o (words_after e o) (history_after e o.history) (phase_after e o) s.chains (λ c l. other o e (link_at o.shape c) (none c l))
 
   pub chains_after : (e : Event) → IsAllowed e o → HasChains (after e o)
-  chains_after (Begins b) a = stay (Begins b) (λ c l. link_begins o s.wide b c a.main)
-  chains_after (Marks write n) a = stay (Marks write n) (λ c l. link_marks o s.wide write n c)
-  chains_after (PutsWord p x) a = stay (PutsWord p x) (λ c l. link_puts_word o s.wide p x c l)
-  chains_after (PutsEntry d slot x) a = stay (PutsEntry d slot x) (λ c l. link_puts_entry o s.wide d slot x c a.in_bucket)
   chains_after (PutsLink c next) a = link_chains c next a
-  chains_after (Ends b) a =
-      stay (Ends b) (λ c l. other o (Ends b) (link_at o.shape c) (no_epoch o.shape b c SLOTS (ends_main o s o.phase refl b a.marked) (omega arith)))
+  chains_after (Begins b) a = let main = a.main in stay (Begins b) (λ c l is. omega arith)
+  chains_after (PutsEntry d slot x) a = let low = a.in_bucket in stay (PutsEntry d slot x) (λ c l is. omega arith)
+  chains_after (Ends b) a = let main = ends_main o s o.phase refl b a.marked in stay (Ends b) (λ c l is. omega arith)
+  chains_after e a = stay e (λ c l is. omega arith)

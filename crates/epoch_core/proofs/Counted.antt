@@ -1,8 +1,6 @@
 -- How many numbers of a range a list has.
-use Rattle.std.proofs.Common.{◌≡◌, ◌≢◌, ℕ, ◌+◌, ◌-◌, ◌<◌, ◌≤◌, List, length, eqb-true, ◌∙◌, arith}
-use Rattle.std.specs.Prelude.{Contains, AllPairs}
+use Rattle.epoch_core.proofs.Vocabulary.{AllPairs, Contains, List, arith, eqb-true, length, range_with_len, ℕ, ◌+◌, ◌-◌, ◌<◌, ◌≡◌, ◌≢◌, ◌≤◌}
 use Rattle.std.specs.Cmp.{nat_eq_equiv}
-use Rattle.std.specs.List.{range_with_len}
 use Rattle.std.proofs.lemmas.Bool.Decides.{Decides-eqb}
 use Rattle.std.proofs.lemmas.List.FromFn.{length-range_with_len, get_or-range_with_len}
 use Rattle.std.proofs.lemmas.Map.Made.{IsDistinct-from_AllPairs, length-le_from_is_member}
@@ -19,8 +17,7 @@ in_range low n c least most = (c - low, omega (arith, length-range_with_len low 
 module _ (xs : List ℕ) (low n : ℕ) (pairs : AllPairs (λ c d. c ≢ d) xs) (inside : (c : ℕ) → Contains xs c → (low ≤ c) × (c < low + n)) where
   pub at_most : length xs ≤ n
   at_most =
-      let few = no_longer xs (range_with_len low n) pairs (λ c has. in_range low n c (inside c has).0 (inside c has).1) in
-      omega (arith, length-range_with_len low n)
+      omega (arith, length-range_with_len low n, no_longer xs (range_with_len low n) pairs (λ c has. in_range low n c (inside c has).0 (inside c has).1))
 
   -- as many where it has each number of the range
   pub all_there : ((c : ℕ) → low ≤ c → c < low + n → Contains xs c) → length xs ≡ n

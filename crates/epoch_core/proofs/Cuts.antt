@@ -1,16 +1,14 @@
 -- How many events are played after so many loads.
-use Rattle.epoch_core.proofs.Vocabulary.{List, NoneAbove, Rises, ap, arith, cases_lt, cut_at, get_or, get_or_default, get_or_past, inl, inr, length}
-use Rattle.epoch_core.proofs.Vocabulary.{min, suc, sym, zero, ℕ, ◌+◌, ◌-◌, ◌<◌, ◌∙◌, ◌≡◌, ◌≤◌}
+use Rattle.epoch_core.proofs.Vocabulary.{List, ap, arith, get_or, get_or_default, get_or_past, length, min, suc, sym, zero, ℕ, ◌+◌, ◌-◌, ◌<◌, ◌∙◌}
+use Rattle.epoch_core.proofs.Vocabulary.{◌≡◌, ◌≤◌}
+use Rattle.epoch_core.specs.Script.{NoneAbove, Rises, cut_at}
 
 abbrev last : List ℕ → ℕ
 last cuts = get_or cuts (length cuts - 1) 0
 
 cut_is : (cuts : List ℕ) (n i : ℕ) → n ≡ i + 1 → cut_at cuts n ≡ get_or cuts (min i (length cuts - 1)) 0
 cut_is cuts zero i is = absurd (omega arith)
-cut_is cuts (suc m) i is = elim (cases_lt m (length cuts)) [
-  | inl less ↦ get_or_default cuts m (last cuts) 0 less ∙ ap (λ (z : ℕ). get_or cuts z 0) (omega arith)
-  | inr past ↦ get_or_past cuts m (last cuts) past ∙ ap (λ (z : ℕ). get_or cuts z 0) (omega arith)
-]
+cut_is cuts (suc m) i is = grind (arith, get_or_default cuts m (last cuts) 0, get_or_past cuts m (last cuts))
 
 cut_last : (cuts : List ℕ) (n : ℕ) → length cuts < n → cut_at cuts n ≡ last cuts
 cut_last cuts zero more = absurd (omega arith)
@@ -25,15 +23,7 @@ cut_grows : (cuts : List ℕ) (n m : ℕ) → Rises cuts → n ≤ m → cut_at 
 cut_grows cuts zero m rise more = omega arith
 cut_grows cuts (suc i) zero rise more = absurd (omega arith)
 cut_grows cuts (suc i) (suc j) rise more =
-    let here = cut_is cuts (suc i) i (omega arith) in
-    let there = cut_is cuts (suc j) j (omega arith) in
-    elim (cases_lt 0 (length cuts)) [
-      | inl some ↦ let le = rise (min i (length cuts - 1)) (min j (length cuts - 1)) (omega arith) (omega arith) in omega arith
-      | inr none ↦
-          let same : min i (length cuts - 1) ≡ min j (length cuts - 1) = omega arith in
-          let equal = ap (λ (z : ℕ). get_or cuts z 0) same in
-          omega arith
-    ]
+    grind (arith, cut_is cuts (suc i) i, cut_is cuts (suc j) j, rise (min i (length cuts - 1)) (min j (length cuts - 1)))
 
 pub cut_rises : (cuts : List ℕ) (n : ℕ) → Rises cuts → cut_at cuts n ≤ cut_at cuts (n + 1)
 cut_rises cuts n rise = cut_grows cuts n (n + 1) rise (omega arith)
@@ -41,18 +31,11 @@ cut_rises cuts n rise = cut_grows cuts n (n + 1) rise (omega arith)
 pub cut_few : (cuts : List ℕ) (most n : ℕ) → NoneAbove most cuts → cut_at cuts n ≤ most
 cut_few cuts most zero few = omega arith
 cut_few cuts most (suc i) few =
-    let here = cut_is cuts (suc i) i (omega arith) in
-    elim (cases_lt 0 (length cuts)) [
-      | inl some ↦ let le = few (min i (length cuts - 1)) (omega arith) in omega arith
-      | inr none ↦ let nothing = get_or_past cuts (min i (length cuts - 1)) 0 (omega arith) in omega arith
-    ]
+    grind (arith, cut_is cuts (suc i) i, few (min i (length cuts - 1)), get_or_past cuts (min i (length cuts - 1)) 0)
 
 pub still_at_last : (cuts : List ℕ) (n played : ℕ) → Rises cuts → played ≡ cut_at cuts n → played ≡ last cuts → (m : ℕ) → n < m → cut_at cuts m ≡ played
 still_at_last cuts n played rise at end m less =
-    let up = cut_grows cuts n m rise (omega arith) in
-    let most = cut_grows cuts m (m + length cuts) rise (omega arith) in
-    let then = cut_last cuts (m + length cuts) (omega arith) in
-    omega arith
+    omega (arith, cut_grows cuts n m rise, cut_grows cuts m (m + length cuts) rise, cut_last cuts (m + length cuts))
 
 pub last_of_still : (cuts : List ℕ) (n played : ℕ) → ((m : ℕ) → n < m → cut_at cuts m ≡ played) → played ≡ last cuts
 last_of_still cuts n played still = sym (still (n + 1 + length cuts) (omega arith)) ∙ cut_last cuts (n + 1 + length cuts) (omega arith)

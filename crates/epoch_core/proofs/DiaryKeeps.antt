@@ -1,5 +1,5 @@
 -- Each event keeps the rule of the one-word table whose seat has a diary.
-use Rattle.epoch_core.proofs.Vocabulary.{CanPlay, Event, IsAllowed, IsValidShape, List, OwnerState, [], after, ap, arith, as_made, cond, false}
+use Rattle.epoch_core.proofs.Vocabulary.{Bool, ◌≡◌, CanPlay, Event, IsAllowed, IsValidShape, List, OwnerState, [], after, ap, arith, as_made, cond, false}
 use Rattle.epoch_core.proofs.Vocabulary.{length, ltb-false, ltb-true, nat_lt, plays, refl, set, subst, suc, sym, true, zero, ℕ, ⊎_elim, ◌++◌, ◌∙◌}
 use Rattle.epoch_core.proofs.Vocabulary.{◌∷◌, ◌≡◌}
 use mathlib.Core.Option.{some, none, some-injective}
@@ -21,19 +21,17 @@ plays_more [] e o = refl
 plays_more (x ∷ es) e o = plays_more es e (after x o)
 
 diary_fits : (e : Event) (d : Diary) → DiaryFits d → IsAllowed e d.owner → DiaryFits (diary_after e d)
-diary_fits e d f a =
-    let start : OwnerState = as_made d.owner.shape in
-    let now = kept_after d.owner f.owner e a in
-    elim (nat_lt (length d.kept) d.room) as (λ b. nat_lt (length d.kept) d.room ≡ b
-    → DiaryFits (record { owner = after e d.owner; kept = cond b (d.kept ++ e ∷ []) d.kept; room = d.room })) [
-      | true ↦ λ is.
-          let led = f.whole (ltb-true (length d.kept) d.room is) in record {
-            owner = now;
-            kept = can_more d.kept e (as_made d.owner.shape) f.kept (subst (IsAllowed e) (sym led) a);
-            whole = λ less. plays_more d.kept e (as_made d.owner.shape) ∙ ap (after e) led;
-          }
-      | false ↦ λ is. record { owner = now; kept = f.kept; whole = λ less. absurd (let full = ltb-false (length d.kept) d.room is in omega arith) }
-    ] refl
+diary_fits e d f a = by_room (nat_lt (length d.kept) d.room) refl
+  where
+    by_room : (b : Bool) → nat_lt (length d.kept) d.room ≡ b
+        → DiaryFits (record { owner = after e d.owner; kept = cond b (d.kept ++ e ∷ []) d.kept; room = d.room })
+    by_room true is = let led = f.whole (ltb-true (length d.kept) d.room is) in record {
+      owner = kept_after d.owner f.owner e a;
+      kept = can_more d.kept e (as_made d.owner.shape) f.kept (subst (IsAllowed e) (sym led) a);
+      whole = λ less. plays_more d.kept e (as_made d.owner.shape) ∙ ap (after e) led;
+    }
+    by_room false is =
+        record { owner = kept_after d.owner f.owner e a; kept = f.kept; whole = λ less. absurd (omega (arith, ltb-false (length d.kept) d.room is)) }
 
 -- what each view has, each has once one is changed
 pub set_fit : {V : Type 0} (P : V → Type 0) (views : List V) (id : ℕ) (now : V) → P now → ((j : ℕ) (v : V) → get_elem? views j ≡ some v → P v)

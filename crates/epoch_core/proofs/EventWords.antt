@@ -1,7 +1,7 @@
 -- What each event makes of the words by their meaning.
 use Rattle.epoch_core.proofs.Vocabulary.{Begins, Event, IsBucket, IsMain, Marks, OwnerState, PutsEntry, PutsLink, PutsWord, Write, after, arith}
-use Rattle.epoch_core.proofs.Vocabulary.{entry_at, entry_in, get_or, get_or-set_other, get_or-set_same, item_at, item_in, length, link_at}
-use Rattle.epoch_core.proofs.Vocabulary.{link_in, place_of, stamp_at, stamp_in, word_after, word_count, ℕ, ◌<◌, ◌≡◌, ◌≢◌, ◌⊎◌}
+use Rattle.epoch_core.proofs.Vocabulary.{entry_at, entry_in, get_or, get_or-set_other, get_or-set_same, item_at, item_in, length, link_at, link_in}
+use Rattle.epoch_core.proofs.Vocabulary.{place_of, stamp_in, word_after, word_count, ℕ, ◌<◌, ◌≡◌, ◌≢◌, ◌⊎◌}
 
 -- a word at another place than the event's is as it was
 pub other : (o : OwnerState) (e : Event) (i : ℕ) → i ≢ place_of o.shape e → get_or (after e o).words i 0 ≡ get_or o.words i 0
@@ -16,12 +16,6 @@ module _ (o : OwnerState) (wide : length o.words ≡ word_count o.shape) where
 
   pub stamp_marks : (write : Write) (n : ℕ) → stamp_in (after (Marks write n) o) ≡ n
   stamp_marks write n = here o (Marks write n) (omega arith)
-
-  pub stamp_puts_entry : (c slot x : ℕ) → stamp_in (after (PutsEntry c slot x) o) ≡ stamp_in o
-  stamp_puts_entry c slot x = other o (PutsEntry c slot x) stamp_at (λ is. omega arith)
-
-  pub stamp_puts_link : (c next : ℕ) → stamp_in (after (PutsLink c next) o) ≡ stamp_in o
-  stamp_puts_link c next = other o (PutsLink c next) stamp_at (λ is. omega arith)
 
   -- entries
 
@@ -45,15 +39,6 @@ module _ (o : OwnerState) (wide : length o.words ≡ word_count o.shape) where
 
   -- links
 
-  pub link_begins : (b c : ℕ) → IsMain o.shape b → link_in (after (Begins b) o) c ≡ link_in o c
-  link_begins b c l = other o (Begins b) (link_at o.shape c) (λ is. omega arith)
-
-  pub link_marks : (write : Write) (n c : ℕ) → link_in (after (Marks write n) o) c ≡ link_in o c
-  link_marks write n c = other o (Marks write n) (link_at o.shape c) (λ is. omega arith)
-
-  pub link_puts_word : (p x c : ℕ) → IsBucket o.shape c → link_in (after (PutsWord p x) o) c ≡ link_in o c
-  link_puts_word p x c l = other o (PutsWord p x) (link_at o.shape c) (λ is. omega arith)
-
   pub link_puts_entry : (c slot x d : ℕ) → slot < 15 → link_in (after (PutsEntry c slot x) o) d ≡ link_in o d
   link_puts_entry c slot x d y = other o (PutsEntry c slot x) (link_at o.shape d) (λ is. omega arith)
 
@@ -65,17 +50,5 @@ module _ (o : OwnerState) (wide : length o.words ≡ word_count o.shape) where
 
   -- item words
 
-  pub item_begins : (b p : ℕ) → IsMain o.shape b → item_in (after (Begins b) o) p ≡ item_in o p
-  item_begins b p l = other o (Begins b) (item_at o.shape p) (λ is. omega arith)
-
-  pub item_marks : (write : Write) (n p : ℕ) → item_in (after (Marks write n) o) p ≡ item_in o p
-  item_marks write n p = other o (Marks write n) (item_at o.shape p) (λ is. omega arith)
-
-  pub item_puts_other : (p x q : ℕ) → item_at o.shape q ≢ item_at o.shape p → item_in (after (PutsWord p x) o) q ≡ item_in o q
-  item_puts_other p x q n = other o (PutsWord p x) (item_at o.shape q) n
-
   pub item_puts_entry : (c slot x p : ℕ) → IsBucket o.shape c → slot < 15 → item_in (after (PutsEntry c slot x) o) p ≡ item_in o p
   item_puts_entry c slot x p l y = other o (PutsEntry c slot x) (item_at o.shape p) (λ is. omega arith)
-
-  pub item_puts_link : (c next p : ℕ) → IsBucket o.shape c → item_in (after (PutsLink c next) o) p ≡ item_in o p
-  item_puts_link c next p l = other o (PutsLink c next) (item_at o.shape p) (λ is. omega arith)

@@ -1,8 +1,7 @@
 -- Failures of tries fit while epochs rise.
-use Rattle.epoch_core.proofs.Vocabulary.{Contains, Contains-append_cases, Contains-push_cases, FailsFit, IsFailure, IsMain, List, OwnerState, Shape}
-use Rattle.epoch_core.proofs.Vocabulary.{[], arith, epoch_in, inl, inr, refl, subst, suc, sym, zero, ℕ, ◌++◌, ◌∷◌, ◌≡◌, ◌≤◌, ◌⊎◌}
+use Rattle.epoch_core.proofs.Vocabulary.{Contains, Contains-append_cases, Contains-push_cases, FailsFit, Failure, IsFailure, IsMain, List, OwnerState}
+use Rattle.epoch_core.proofs.Vocabulary.{Shape, [], arith, epoch_in, inl, inr, refl, subst, suc, sym, zero, ℕ, ◌++◌, ◌∷◌, ◌≡◌, ◌≤◌, ◌⊎◌}
 pub use Rattle.std.proofs.lemmas.List.Elements.{Contains-append_cases as in_both, Contains-append_left as in_left, Contains-push as in_last}
-use Rattle.epoch_core.specs.declared.state.Failure.{Failure}
 
 -- what stands in a list
 
@@ -24,18 +23,13 @@ pub fails_rise : (o p : OwnerState) → p.shape ≡ o.shape → ((b : ℕ) → I
     → (fails : List Failure) → FailsFit o fails → FailsFit p fails
 fails_rise o p shape rises fails fit f has =
     let was = fit f has in
-    let more = rises f.bucket was.0 in
-    let low = was.1 in
-    (subst (λ (z : Shape). IsMain z f.bucket) (sym shape) was.0, omega arith, was.2)
+    (subst (λ (z : Shape). IsMain z f.bucket) (sym shape) was.0, omega (arith, rises f.bucket was.0, was.1), was.2)
 
 -- one more, and two lists
 
 pub fails_more : (o : OwnerState) (fails : List Failure) (f : Failure) → FailsFit o fails
     → IsMain o.shape f.bucket × (f.last ≤ epoch_in o f.bucket) × IsFailure f → FailsFit o (fails ++ f ∷ [])
-fails_more o fails f fit new g has = elim (Contains-push_cases fails f g has) [
-  | inl old ↦ fit g old
-  | inr is ↦ subst (λ (z : Failure). IsMain o.shape z.bucket × (z.last ≤ epoch_in o z.bucket) × IsFailure z) is new
-]
+fails_more o fails f fit new g has = elim (Contains-push_cases fails f g has) [ inl old ↦ fit g old | inr is ↦ rw (sym is) new ]
 
 pub fails_both : (o : OwnerState) (fails others : List Failure) → FailsFit o fails → FailsFit o others → FailsFit o (fails ++ others)
 fails_both o fails others fit fit' g has = elim (Contains-append_cases fails others g has) [ inl one ↦ fit g one | inr two ↦ fit' g two ]

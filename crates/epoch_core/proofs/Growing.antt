@@ -1,14 +1,11 @@
 -- The central law: an event leaves the words in reach of a bucket whose even epoch stands still. So whatever is kept of a reader
 -- is kept past it.
-use Rattle.epoch_core.proofs.Vocabulary.{CutKept, Event, Grows, IfSome, IsAllowed, IsMain, IsSpelt, Kept, None, Option, OwnerState, ReaderKept}
-use Rattle.epoch_core.proofs.Vocabulary.{ReaderState, Shape, Some, TryKept, after, ap, arith, epoch_in, options_of, refl, subst, sym}
-use Rattle.epoch_core.proofs.Vocabulary.{writes_to_bucket, ℕ, ◌%◌, ◌*◌, ◌∙◌, ◌≡◌, ◌≤◌}
-use Rattle.epoch_core.specs.declared.reader.Cut.{Cut}
-use Rattle.epoch_core.specs.declared.reader.Try.{Try}
+use Rattle.epoch_core.proofs.Vocabulary.{Event, Grows, IfSome_then, IsAllowed, IsMain, IsSpelt, Kept, OwnerState, ReaderKept, ReaderState, Shape, Try}
+use Rattle.epoch_core.proofs.Vocabulary.{TryKept, after, ap, arith, epoch_in, refl, subst, sym, ℕ, ◌%◌, ◌∙◌, ◌≡◌}
 use Rattle.epoch_core.proofs.Prefixes.{prefix_then}
 use Rattle.epoch_core.proofs.Failing.{fails_rise}
 use Rattle.epoch_core.proofs.Carried.{reach_back}
-use Rattle.epoch_core.proofs.Keeps.{goes_on, rises, carries, calm_after}
+use Rattle.epoch_core.proofs.Keeps.{calm_after, carries, goes_on, rises}
 
 pub grows : (o : OwnerState) → Kept o → (e : Event) → IsAllowed e o → Grows o (after e o)
 grows o s e a = record {
@@ -29,13 +26,6 @@ module _ (o p : OwnerState) (g : Grows o p) where
     unmoved : epoch_in p t.bucket ≡ t.first → epoch_in o t.bucket ≡ t.first
     unmoved is = let rise = g.rises t.bucket k.main in let low = k.first in omega arith
 
-    cut_grows : (at : Option Cut) → IfSome at (CutKept o t) → IfSome at (CutKept p t)
-    cut_grows None c = tt
-    cut_grows (Some at) c = record {
-      seen = prefix_then at.history o.history p.history c.seen g.history;
-      spelt = λ is. subst (λ (z : Shape). IsSpelt z t.bucket at) (sym g.shape) (c.spelt (unmoved is));
-    }
-
     try_grows : TryKept p t
     try_grows = let rise = g.rises t.bucket k.main in let low = k.first in record {
       main = subst (λ (z : Shape). IsMain z t.bucket) (sym g.shape) k.main;
@@ -46,12 +36,11 @@ module _ (o p : OwnerState) (g : Grows o p) where
           let even = ap (λ (z : ℕ). z % 2) was ∙ k.even in
           let same = g.still t.bucket k.main even (is ∙ sym was) place reached in
           same.1 ∙ k.loads was place x has same.0;
-      at = cut_grows t.at k.at;
+      at = IfSome_then t.at k.at (λ at c. record {
+        seen = prefix_then at.history o.history p.history c.seen g.history;
+        spelt = λ is. subst (λ (z : Shape). IsSpelt z t.bucket at) (sym g.shape) (c.spelt (unmoved is));
+      });
     }
-
-  current_grows : (current : Option Try) → IfSome current (TryKept o) → IfSome current (TryKept p)
-  current_grows None k = tt
-  current_grows (Some t) k = try_grows t k
 
   pub reader_grows : (r : ReaderState) → ReaderKept o r → ReaderKept p r
   reader_grows r k = record {
@@ -60,10 +49,7 @@ module _ (o p : OwnerState) (g : Grows o p) where
     done = k.done;
     met = k.met;
     ended = λ b main.
-        let was : IsMain o.shape b = subst (λ (z : Shape). IsMain z b) g.shape main in
-        let rise = g.rises b was in
-        let ended = k.ended b was in
-        subst (λ (z : Shape). 2 * writes_to_bucket (options_of z) r.done b ≤ epoch_in p b) (sym g.shape) (omega arith);
+        let was : IsMain o.shape b = rw g.shape at main in rw g.shape (omega (arith, g.rises b was, k.ended b was));
     fails = fails_rise o p g.shape g.rises r.fails k.fails;
-    current = current_grows r.current k.current;
+    current = IfSome_then r.current k.current try_grows;
   }

@@ -1,11 +1,9 @@
 -- The words of an item put in four parts: its header, its hash, its key and its value.
-use Rattle.epoch_core.proofs.Vocabulary.{CanPlay, Kept, KeyFits, List, MayPutWord, OwnerState, PutsWord, [], after, ap, arith, fnv1a, get_or}
-use Rattle.epoch_core.proofs.Vocabulary.{header_of, item_at, item_events, item_in, length, packed, plays, puts_from, refl, set-get_or, subst, suc}
-use Rattle.epoch_core.proofs.Vocabulary.{sym, zero, ℕ, ◌++◌, ◌+◌, ◌<◌, ◌∙◌, ◌∷◌, ◌≡◌}
+use Rattle.epoch_core.proofs.Vocabulary.{CanPlay, HasKeyWords, Kept, KeyFits, List, MayPutWord, OwnerState, PutsWord, [], after, ap, arith, fnv1a}
+use Rattle.epoch_core.proofs.Vocabulary.{get_or, header_of, item_at, item_events, item_in, length, length-packed, packed, plays, puts_from, refl}
+use Rattle.epoch_core.proofs.Vocabulary.{set-get_or, subst, suc, sym, zero, ℕ, ◌++◌, ◌+◌, ◌<◌, ◌∙◌, ◌∷◌, ◌≡◌}
 use Rattle.mica_words.specs.Spelling.{item_words}
-use Rattle.mica_words.proofs.PackedBytes.{length-packed}
-use Rattle.epoch_core.specs.ItemAt.{HasKeyWords}
-use Rattle.epoch_core.proofs.EventWords.{item_puts_other}
+use Rattle.epoch_core.proofs.EventWords.{other}
 use Rattle.epoch_core.proofs.Log.{not_below}
 use Rattle.epoch_core.proofs.Puts.{can_play-append, plays-append}
 
@@ -58,10 +56,8 @@ module _ (o : OwnerState) (p room : ℕ) (key value : List ℕ) where
   key_stays s fits there =
       ap (λ (z : ℕ). plays (puts_from z (packed key)) (hashed o p room key value)) (omega arith)
       ∙ there_already (headed o p room key value) (p + 1) (fnv1a key ∷ packed key) (λ i l.
-      let wide = length-packed key in
-      let short = fits.1 in
-      let many = s.shape.ranges.words.0 in
-      item_puts_other o s.wide p _ (p + 1 + i) (λ same. not_below o.shape.words p (p + 1 + i) (omega arith) (omega arith) (omega arith))
+      other o (PutsWord p _) (item_at o.shape (p + 1 + i)) (λ same. not_below o.shape.words p (p + 1 + i) (omega arith) (omega arith)
+      (omega (arith, length-packed key, fits.1, s.shape.ranges.words.0)))
       ∙ is_there i l)
     where
       is_there : (i : ℕ) → i < length (fnv1a key ∷ packed key) → item_in o (p + 1 + i) ≡ get_or (fnv1a key ∷ packed key) i 0

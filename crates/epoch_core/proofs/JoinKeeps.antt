@@ -1,10 +1,9 @@
 -- Splits and joins keep what is kept of owners and readers.
 use Rattle.epoch_core.proofs.Vocabulary.{All-contains, All-from_recursion, Grows, History, IsMain, IsPrefix, Kept, Marked, OwnerState, Phase}
-use Rattle.epoch_core.proofs.Vocabulary.{PhaseFits, ReaderKept, ReaderState, Shape, Write, [], ap, arith, begun_in, bucket_in, bucket_of, epoch_in}
-use Rattle.epoch_core.proofs.Vocabulary.{marked_in, nat_eq, newcomer, options_in, refl, sym, writes_in, writes_to_bucket, ℕ, ◌*◌, ◌+◌, ◌∙◌, ◌∷◌, ◌≡◌}
-use Rattle.epoch_core.proofs.Vocabulary.{◌≤◌}
+use Rattle.epoch_core.proofs.Vocabulary.{PhaseFits, ReaderKept, ReaderState, Shape, Write, [], ap, arith, begun_in, bucket_of, ended_in, epoch_in}
+use Rattle.epoch_core.proofs.Vocabulary.{known, lent, longer, marked_in, met_by, nat_eq, newcomer, note_of, options_in, refl, told, writes_in}
+use Rattle.epoch_core.proofs.Vocabulary.{writes_to_bucket, ℕ, ◌*◌, ◌+◌, ◌∙◌, ◌∷◌, ◌≡◌, ◌≤◌}
 use Rattle.epoch_core.specs.declared.reader.Known.{Known}
-use Rattle.epoch_core.specs.Joins.{ended_in, lent, note_of, met_by, longer, known, told}
 use Rattle.epoch_core.proofs.Prefixes.{prefix_same, prefix_then, longer_as, longer_both}
 use Rattle.epoch_core.proofs.Failing.{in_none, fails_both}
 use Rattle.epoch_core.proofs.Keeps.{count_more}
@@ -20,9 +19,7 @@ ended_below : (o : OwnerState) (phase : Phase) → PhaseFits o phase → (b : �
 ended_below o (Marked c write before) fits b e =
     let more = ap (λ (z : History). writes_to_bucket (options_in o) z b) fits.1
     ∙ count_more (λ (w : Write). nat_eq (bucket_of w.key o.shape.buckets) b) before write in
-    let same : bit (bucket_in o write.key) b ≡ bit c b = ap (λ (z : ℕ). bit z b) (sym fits.0) in
-    let one = bit_le c b in
-    omega arith
+    omega (arith, more, ap (λ (z : ℕ). bit z b) fits.0, bit_le c b)
 ended_below o phase fits b e = omega arith
 
 -- one that has loaded nothing

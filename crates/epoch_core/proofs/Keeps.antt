@@ -1,20 +1,19 @@
 -- Each event of an owner keeps the owner's fact.
-use Rattle.epoch_core.proofs.Vocabulary.{Begins, Bool, Ends, Event, History, IsAllowed, IsLawfulHistory, IsMain, IsPrefix, IsReached, Kept, List}
-use Rattle.epoch_core.proofs.Vocabulary.{Marked, Marks, OwnerState, Phase, PhaseFits, StandsFor, Write, [], after, ap, arith, begun_in, bucket_of}
-use Rattle.epoch_core.proofs.Vocabulary.{by_entry, by_item, by_link, cond, count_by, dite, epoch_at, epoch_in, get_or-set_same, history_after}
-use Rattle.epoch_core.proofs.Vocabulary.{history_snoc, if◌then◌else◌, length-append, length-set, marked_in, nat_eq, options_in, phase_after, place_of}
-use Rattle.epoch_core.proofs.Vocabulary.{refl, stamp_at, stamp_in, stamp_of, subst, sym, writes_in, ℕ, ℕ_discrete, ◌%◌, ◌*◌, ◌++◌, ◌+◌, ◌∙◌, ◌∷◌, ◌≡◌}
-use Rattle.epoch_core.proofs.Vocabulary.{◌≢◌, ◌≤◌}
-use Rattle.std.proofs.lemmas.List.Sums.{sum_by_push}
-use Rattle.mica_model.specs.Write.{IsWrite}
+use Rattle.epoch_core.proofs.Vocabulary.{Begins, Bool, Ends, Event, History, IsAllowed, IsLawfulHistory, IsMain, IsPrefix, IsReached, IsWrite, Kept}
+use Rattle.epoch_core.proofs.Vocabulary.{List, Marked, Marks, OwnerState, Phase, PhaseFits, StandsFor, Write, [], after, ap, arith, begun_in}
+use Rattle.epoch_core.proofs.Vocabulary.{bucket_of, by_entry, by_item, by_link, cond, count_by, dite, epoch_at, epoch_in, get_or-set_same}
+use Rattle.epoch_core.proofs.Vocabulary.{history_after, history_snoc, if◌then◌else◌, length-append, length-set, marked_in, nat_eq, options_in}
+use Rattle.epoch_core.proofs.Vocabulary.{phase_after, place_of, refl, stamp_at, stamp_in, stamp_of, subst, sum_by_push, sym, writes_in, ℕ, ℕ_discrete}
+use Rattle.epoch_core.proofs.Vocabulary.{◌%◌, ◌*◌, ◌++◌, ◌+◌, ◌∙◌, ◌∷◌, ◌≡◌, ◌≢◌, ◌≤◌}
 use Rattle.epoch_core.proofs.Prefixes.{prefix_same, prefix_then}
 use Rattle.epoch_core.proofs.Marked.{bit, bit_same, bit_else, bit_is, calm, ends_main}
 use Rattle.epoch_core.proofs.Failing.{fails_rise}
 use Rattle.epoch_core.proofs.Spares.{spares}
 use Rattle.epoch_core.proofs.Log.{log_spares}
 use Rattle.epoch_core.proofs.Machine.{HasStill, all_more, none_more, marked_still}
+use Rattle.epoch_core.proofs.EventWords.{other}
 use Rattle.epoch_core.proofs.Carried.{Carries, stands_on}
-use Rattle.epoch_core.proofs.Chains.{other_word, chains_after}
+use Rattle.epoch_core.proofs.Chains.{chains_after}
 
 pub count_more : {X : Type 0} (p : X → Bool) (xs : List X) (x : X) → count_by p (xs ++ x ∷ []) ≡ count_by p xs + (if p x then 1 else 0)
 count_more p xs x = sum_by_push (λ y. cond (p y) 1 0) xs x
@@ -38,42 +37,38 @@ module _ (o : OwnerState) (s : Kept o) where
   -- Epochs
 
   one_more : (b c : ℕ) → IsMain o.shape b → epoch_in (after (Begins b) o) c ≡ epoch_in o c + bit b c
-  one_more b c l = dite (ℕ_discrete b c)
-      (λ same. rw (sym same) (let one = bit_same b b refl in
-      let here = get_or-set_same o.words (epoch_at b) (epoch_in o b + 1) 0 (let wide = s.wide in omega arith) in omega arith))
-      (λ n. let zero = bit_else b c n in let same = other_word o s (Begins b) (epoch_at c) (λ is. n (omega arith)) in omega arith)
+  one_more b c l = grind (arith, bit_same b c, bit_else b c, s.wide, get_or-set_same o.words (epoch_at b) (epoch_in o b + 1) 0, other o (Begins b) (epoch_at c))
 
   epoch_after : (e : Event) → IsAllowed e o → (c : ℕ) → IsMain o.shape c → epoch_in (after e o) c ≡ epoch_in o c + adds e c
   epoch_after (Begins b) a c l = one_more b c a.main
   epoch_after (Ends b) a c l = one_more b c (ends_main o s o.phase refl b a.marked)
-  epoch_after e a c l = let same = other_word o s e (epoch_at c) (λ is. omega arith) in omega arith
+  epoch_after e a c l = let same = other o e (epoch_at c) (λ is. omega arith) in omega arith
 
   -- no epoch falls
   pub rises : (e : Event) → IsAllowed e o → (c : ℕ) → IsMain o.shape c → epoch_in o c ≤ epoch_in (after e o) c
-  rises e a c l = let more = epoch_after e a c l in omega arith
+  rises e a c l = omega (arith, epoch_after e a c l)
 
   epochs_after : (e : Event) → IsAllowed e o → (b : ℕ) → IsMain o.shape b
       → epoch_in (after e o) b + marked_in (phase_after e o) b ≡ 2 * writes_in (after e o) b + begun_in (phase_after e o) b
-  epochs_after (Begins c) a b l = let was = rw a.idle at s.epochs b l in let now = epoch_after (Begins c) a b l in omega arith
+  epochs_after (Begins c) a b l = let was = rw a.idle at s.epochs b l in omega (arith, epoch_after (Begins c) a b l)
   epochs_after (Marks write n) a b l =
       let was = rw a.begun at s.epochs b l in
-      let now = epoch_after (Marks write n) a b l in
-      let more = count_more (λ (w : Write). nat_eq (bucket_of w.key o.shape.buckets) b) o.history write in omega arith
-  epochs_after (Ends c) a b l =
-      let was = rw (marked_is o.phase c a.marked).2 at s.epochs b l in let now = epoch_after (Ends c) a b l in omega arith
+      let more = count_more (λ (w : Write). nat_eq (bucket_of w.key o.shape.buckets) b) o.history write in
+      omega (arith, epoch_after (Marks write n) a b l)
+  epochs_after (Ends c) a b l = let was = rw (marked_is o.phase c a.marked).2 at s.epochs b l in omega (arith, epoch_after (Ends c) a b l)
   epochs_after e a b l = let was = s.epochs b l in let now = epoch_after e a b l in omega arith
 
   -- The stamp, the history and the phase
 
   stamp_after : (e : Event) → IsAllowed e o → stamp_in (after e o) ≡ stamp_of (options_in o) (history_after e o.history)
   stamp_after (Marks write n) a = get_or-set_same o.words stamp_at n 0 (let wide = s.wide in omega arith) ∙ a.stamp
-  stamp_after e a = other_word o s e stamp_at (λ is. omega arith) ∙ s.stamp
+  stamp_after e a = other o e stamp_at (λ is. omega arith) ∙ s.stamp
 
   lawful_after : (e : Event) → IsAllowed e o → IsLawfulHistory o.shape (history_after e o.history)
   lawful_after (Marks write n) a = record {
     accepted = history_snoc (options_in o) o.history write s.history.accepted a.accepted;
     writes = all_more IsWrite o.history write s.history.writes a.fits;
-    not_above_wear = let few = (subst (PhaseFits o) a.begun s.phase).1 in omega (arith, length-append o.history (write ∷ []));
+    not_above_wear = omega (arith, (subst (PhaseFits o) a.begun s.phase).1, length-append o.history (write ∷ []));
   }
   lawful_after e a = s.history
 
@@ -102,7 +97,7 @@ module _ (o : OwnerState) (s : Kept o) where
   stood (Begins c) a b l none = unmarked (Begins c) a b l (ap (λ (z : Phase). marked_in z b) a.idle)
   stood (Marks write n) a b l none = unmarked (Marks write n) a b l (ap (λ (z : Phase). marked_in z b) a.begun)
   stood (Ends c) a b l none = (
-    dite (ℕ_discrete b c) (λ is. subst (StandsFor o) (sym is) a.stands_for)
+    dite (ℕ_discrete b c) (λ is. rw is a.stands_for)
         (λ n. s.state b l (ap (λ (z : Phase). marked_in z b) (marked_is o.phase c a.marked).2 ∙ bit_else c b (λ same. n (sym same)))),
     λ i. reached_no_epoch c b i (ends_main o s o.phase refl c a.marked),
   )
@@ -116,8 +111,10 @@ module _ (o : OwnerState) (s : Kept o) where
 
   pub carries : (e : Event) → IsAllowed e o → (b : ℕ) → IsMain o.shape b → marked_in (phase_after e o) b ≡ 0 → Carries o (after e o) b
   carries e a b l none = let was = stood e a b l none in record {
+    chains = s.chains;
+    main = l;
     stands = was.0;
-    word = λ i reached. other_word o s e i (was.1 i reached);
+    word = λ i reached. other o e i (was.1 i reached);
     stamp = s.stamp;
     stamp_now = stamp_after e a;
     has = has_still e a b none;

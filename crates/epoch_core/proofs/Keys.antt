@@ -1,22 +1,26 @@
 -- The words of an item that spells a key hold that key, and no other.
-use Rattle.epoch_core.proofs.Vocabulary.{AreBytes, Cell, Kept, List, OwnerState, Spells, add-zero, ap, arith, header_key_len, header_of, item_in}
-use Rattle.epoch_core.proofs.Vocabulary.{length, options_in, packed, slice_index, subst, sym, words_for, ℕ, ◌+◌, ◌<◌, ◌∙◌, ◌≡◌}
+use Rattle.epoch_core.proofs.Vocabulary.{AreBytes, Cell, HasKey, Kept, List, OwnerState, Spells, SpellsItem, add-zero, ap, arith, entry_offset}
+use Rattle.epoch_core.proofs.Vocabulary.{hash_word, header_key_len, header_of, header_room, header_word, item_in, length, length-packed, options_in}
+use Rattle.epoch_core.proofs.Vocabulary.{packed, packed_key_word, same_from_words, slice_index, subst, sym, words_for, ℕ, ◌+◌, ◌<◌, ◌∙◌, ◌≡◌}
 use Rattle.std.proofs.lemmas.Grind.{same_number_lists}
-use Rattle.mica_words.specs.Entry.{entry_offset}
-use Rattle.mica_words.proofs.Fields.{header_key_len-header_of}
-use Rattle.mica_words.proofs.ItemWords.{header_word, hash_word, packed_key_word}
-use Rattle.mica_words.proofs.PackedBytes.{length-packed, same_from_words}
-use Rattle.epoch_core.specs.ItemAt.{HasKey}
 use Rattle.epoch_core.proofs.Machine.{has_fits}
+use Rattle.mica_words.proofs.Fields.{header_key_len-header_of, header_room-header_of}
+
+-- the first word of an item is its header, which has its room
+pub header_there : (o : OwnerState) (p : ℕ) (key : List ℕ) (cell : Cell) → SpellsItem o p key cell
+    → item_in o p ≡ header_of cell.room (length key) (length cell.value)
+header_there o p key cell item = ap (item_in o) (sym (add-zero p)) ∙ item 0 (omega arith) ∙ header_word cell.room key cell.value
+
+pub item_room : (o : OwnerState) (p : ℕ) (key : List ℕ) (cell : Cell) → cell.room < 65536 → SpellsItem o p key cell → header_room (item_in o p) ≡ cell.room
+item_room o p key cell small item =
+    ap header_room (header_there o p key cell item) ∙ header_room-header_of cell.room (length key) (length cell.value) small
 
 module _ (o : OwnerState) (s : Kept o) (b entry : ℕ) (key : List ℕ) (cell : Cell) (sp : Spells o b entry key cell) where
   key_len : header_key_len (item_in o (entry_offset entry)) ≡ length key
   key_len =
       let fits = has_fits (options_in o) o.history s.history.writes key cell (entry_offset entry) sp.has in
-      let key_fits = fits.0 in
-      let word : item_in o (entry_offset entry) ≡ header_of cell.room (length key) (length cell.value) =
-      ap (item_in o) (sym (add-zero (entry_offset entry))) ∙ (sp.item 0 (omega arith) ∙ header_word cell.room key cell.value) in
-      ap header_key_len word ∙ header_key_len-header_of cell.room (length key) (length cell.value) fits.5 (omega arith)
+      ap header_key_len (header_there o (entry_offset entry) key cell sp.item)
+      ∙ header_key_len-header_of cell.room (length key) (length cell.value) fits.5 (omega (arith, fits.0))
 
   key_word : (i : ℕ) → i < words_for (length key) → item_in o (entry_offset entry + 2 + i) ≡ slice_index (packed key) i
   key_word i l =

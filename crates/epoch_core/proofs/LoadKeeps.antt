@@ -1,22 +1,17 @@
 -- Each load of a reader keeps what is kept of it.
-use Rattle.epoch_core.proofs.Vocabulary.{Bool, Contains-push_cases, CutKept, FailsFit, IfSome, IsMain, IsSpelt, Kept, List, None, Option, OwnerState}
-use Rattle.epoch_core.proofs.Vocabulary.{ReaderKept, ReaderState, Shape, Some, Tells, TellsTry, TryKept, [], ap, arith, epoch_in, fails_after}
-use Rattle.epoch_core.proofs.Vocabulary.{failure, get_or, if◌then◌else◌, inl, inr, le_refl, loaded, new_try, opened, options_of, refl, shut, stamped}
-use Rattle.epoch_core.proofs.Vocabulary.{subst, sym, with_cut, with_load, writes_to_bucket, ℕ, ◌%◌, ◌*◌, ◌++◌, ◌∙◌, ◌∷◌, ◌≡◌, ◌≤◌}
-use Rattle.epoch_core.specs.declared.state.Failure.{Failure}
-use Rattle.epoch_core.specs.declared.reader.Cut.{Cut}
-use Rattle.epoch_core.specs.declared.reader.Try.{Try}
+use Rattle.epoch_core.proofs.Vocabulary.{Bool, Contains-push_cases, FailsFit, Failure, IfSome, IfSome_then, IsMain, Kept, List, None, Option}
+use Rattle.epoch_core.proofs.Vocabulary.{OwnerState, ReaderKept, ReaderState, Shape, Some, Tells, TellsTry, Try, TryKept, [], ap, arith, epoch_in}
+use Rattle.epoch_core.proofs.Vocabulary.{fails_after, failure, get_or, if◌then◌else◌, inl, inr, le_refl, loaded, new_try, opened, options_of, refl}
+use Rattle.epoch_core.proofs.Vocabulary.{shut, stamped, subst, sym, with_cut, with_load, writes_to_bucket, ℕ, ◌%◌, ◌*◌, ◌++◌, ◌∙◌, ◌∷◌, ◌≡◌, ◌≤◌}
 use Rattle.epoch_core.proofs.Prefixes.{prefix_same, prefix_then}
-use Rattle.epoch_core.proofs.Failing.{in_none, fails_more}
-use Rattle.epoch_core.proofs.Marked.{tested, calm}
+use Rattle.epoch_core.proofs.Failing.{fails_more, in_none}
+use Rattle.epoch_core.proofs.Marked.{calm, tested}
 use Rattle.epoch_core.proofs.Spelling.{spells}
 
 module _ (o : OwnerState) (s : Kept o) (r : ReaderState) (k : ReaderKept o r) where
   -- what a reader knows of an epoch before it loads it
   pub least_epoch : (b : ℕ) → IsMain r.shape b → 2 * writes_to_bucket (options_of r.shape) r.done b ≤ epoch_in o b
-  least_epoch b main =
-      subst (λ (z : Shape). 2 * writes_to_bucket (options_of z) r.done b ≤ epoch_in o b) (sym k.shape)
-      (k.ended b (subst (λ (z : Shape). IsMain z b) k.shape main))
+  least_epoch b main = rw k.shape (k.ended b (rw k.shape at main))
 
   -- a load leaves what was seen
   loaded_keeps : (loads tried closed : ℕ) (fails : List Failure) (current : Option Try) → FailsFit o fails → IfSome current (TryKept o)
@@ -29,7 +24,7 @@ module _ (o : OwnerState) (s : Kept o) (r : ReaderState) (k : ReaderKept o r) wh
   pub opens : (b : ℕ) → IsMain r.shape b → ReaderKept o (opened b (epoch_in o b) r)
   opens b l =
       let n : ℕ = epoch_in o b in
-      let main : IsMain o.shape b = subst (λ (z : Shape). IsMain z b) k.shape l in
+      let main : IsMain o.shape b = rw k.shape at l in
       let more : List Failure = r.fails ++ failure b n n ∷ [] in
       loaded_keeps _ _ _ _ _
       (tested (λ (z : Bool). FailsFit o (if z then r.fails else more)) (n % 2) 0 (λ even. k.fails)
@@ -49,12 +44,8 @@ module _ (o : OwnerState) (s : Kept o) (r : ReaderState) (k : ReaderKept o r) wh
       | inl old ↦ g.loads is at x old reached
       | inr same ↦ ap (λ (z : ℕ × ℕ). get_or o.words z.0 0) (sym same) ∙ ap (λ (z : ℕ × ℕ). z.1) same
     ];
-    at = cut_same t.at g.at;
+    at = IfSome_then t.at g.at (λ at c. record { seen = c.seen; spelt = c.spelt });
   }
-    where
-      cut_same : (at : Option Cut) → IfSome at (CutKept o t) → IfSome at (CutKept o (record t { loads = t.loads ++ (place, get_or o.words place 0) ∷ [] }))
-      cut_same None c = tt
-      cut_same (Some at) c = assumption
 
   pub loads : (place : ℕ) → ReaderKept o (loaded place (get_or o.words place 0) r)
   loads place = loaded_keeps _ _ _ _ _ k.fails (load_current place r.current k.current)
@@ -95,27 +86,21 @@ module _ (o : OwnerState) (s : Kept o) (r : ReaderState) (k : ReaderKept o r) wh
   shut_fails (Some t) b g is =
       let n : ℕ = epoch_in o b in
       let same = ap (epoch_in o) (is t refl) in
-      let first = g.first in
       let more : List Failure = r.fails ++ failure t.bucket t.first n ∷ [] in
       tested (λ (z : Bool). FailsFit o (if z then r.fails else more)) n t.first (λ still. k.fails)
-      (λ moved. fails_more o r.fails (failure t.bucket t.first n) k.fails (g.main, omega arith, (omega arith, inr (omega arith))))
+      (λ moved. fails_more o r.fails (failure t.bucket t.first n) k.fails (g.main, omega arith, (omega (arith, g.first), inr (omega (arith, g.first)))))
 
   pub shuts : (b : ℕ) → ((t : Try) → r.current ≡ Some t → t.bucket ≡ b) → ReaderKept o (shut (epoch_in o b) r)
   shuts b is = loaded_keeps _ _ _ _ _ (shut_fails r.current b k.current is) tt
 
   -- and what it tells
 
-  tell_cut : (t : Try) (at : Option Cut) → IfSome at (CutKept o t) → epoch_in o t.bucket ≡ t.first → IfSome at (IsSpelt o.shape t.bucket)
-  tell_cut t None c is = tt
-  tell_cut t (Some at) c is = c.spelt is
-
   tell_try : (current : Option Try) (b : ℕ) → IfSome current (TryKept o) → ((t : Try) → current ≡ Some t → t.bucket ≡ b)
       → IfSome current (TellsTry o.shape (epoch_in o b))
   tell_try None b g is = tt
   tell_try (Some t) b g is =
       let same = ap (epoch_in o) (is t refl) in
-      let first = g.first in
-      record { least = omega arith; spelt = λ still. tell_cut t t.at g.at (same ∙ still) }
+      record { least = omega (arith, g.first); spelt = λ still. IfSome_then t.at g.at (λ at c. c.spelt (same ∙ still)) }
 
   pub tells : (b : ℕ) → ((t : Try) → r.current ≡ Some t → t.bucket ≡ b) → Tells (epoch_in o b) r
   tells b is = subst (λ (z : Shape). IfSome r.current (TellsTry z (epoch_in o b))) (sym k.shape) (tell_try r.current b k.current is)

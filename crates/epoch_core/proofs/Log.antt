@@ -1,28 +1,13 @@
 -- A word of the marked write in cache mode is in no room of a live item of another bucket: the log's window and its rooms say so.
-use Rattle.std.proofs.Common.{◌≡◌, ℕ, ◌+◌, ◌*◌, ◌/◌, ◌%◌, ◌<◌, ◌≤◌, ◌≢◌, inl, inr, ◌⊎◌, List, length, Some, sym, ap, ◌∙◌, subst, arith, add-zero, ⊎_elim}
-use Rattle.std.specs.List.{AllByRecursion}
-use Rattle.std.proofs.Math.Nat.{mul-le-mul_left, mul-suc, div-add-mod}
-use Rattle.std.proofs.lemmas.Bool.{cases_lt}
-use Rattle.mica_words.specs.Entry.{entry_offset}
-use Rattle.mica_words.specs.Header.{header_of, header_room}
-use Rattle.mica_words.specs.Stamp.{tail_of}
-use Rattle.mica_words.proofs.Fields.{header_room-header_of}
-use Rattle.mica_words.proofs.ItemWords.{header_word}
-use Rattle.mica_model.specs.declared.options.Options.{Options}
-use Rattle.mica_model.specs.declared.write.Write.{Write}
-use Rattle.mica_model.specs.Options.{IsValid}
-use Rattle.mica_model.specs.Write.{IsWrite}
+use Rattle.epoch_core.proofs.Vocabulary.{AllByRecursion, Cell, Has, History, IsValid, IsWrite, Kept, List, Options, OwnerState, Phase, PhaseFits}
+use Rattle.epoch_core.proofs.Vocabulary.{Some, Spells, State, Write, ap, arith, bucket_in, cache_state, cases_lt, div-add-mod, entry_offset, inl, inr}
+use Rattle.epoch_core.proofs.Vocabulary.{marked_in, mul-le-mul_left, mul-suc, options_in, room_in, state_in, state_of, state_snoc, subst, sym}
+use Rattle.epoch_core.proofs.Vocabulary.{tail_of, ℕ, ◌%◌, ◌*◌, ◌+◌, ◌/◌, ◌<◌, ◌∙◌, ◌≡◌, ◌≢◌, ◌≤◌, ◌⊎◌}
 use Rattle.mica_model.specs.Cache.{Cache, Record, record_of}
 use Rattle.mica_model.specs.CacheStep as cs
-use Rattle.mica_model.specs.Store.{Cell}
-use Rattle.mica_model.specs.History.{History, State, cache_state, state_of, after}
-use Rattle.mica_model.proofs.Histories.{state_snoc}
+use Rattle.mica_model.specs.History.{after}
 use Rattle.mica_model.proofs.CacheLaws.{window, apart, own}
-use Rattle.epoch_core.specs.declared.state.OwnerState.{OwnerState}
-use Rattle.epoch_core.specs.declared.state.Phase.{Phase}
-use Rattle.epoch_core.specs.OwnerState.{item_in, options_in, state_in, bucket_in, marked_in}
-use Rattle.epoch_core.specs.StandsFor.{Has, Spells, room_in}
-use Rattle.epoch_core.specs.Kept.{PhaseFits, Kept}
+use Rattle.epoch_core.proofs.Keys.{item_room}
 use Rattle.epoch_core.proofs.Machine.{all_parts, found_record, has_fits}
 use Rattle.epoch_core.proofs.Marked.{bit_else}
 use Rattle.epoch_core.proofs.Spares.{LogSpares}
@@ -38,18 +23,21 @@ not_below n x y same less near =
     quotients n (x / n) (y / n) (x % n) x y (div-add-mod x n) (ap (λ (z : ℕ). n * (y / n) + z) same ∙ div-add-mod y n) less near (cases_lt (x / n) (y / n))
 
 pub one_place : (n tail x y : ℕ) → x % n ≡ y % n → tail ≤ x + n → tail ≤ y + n → x < tail → y < tail → x ≡ y
-one_place n tail x y same a b c d = ⊎_elim
-    (λ (less : x < y). absurd (not_below n x y same less (omega arith)))
-    (λ (more : y ≤ x). ⊎_elim (λ (less : y < x). absurd (not_below n y x (sym same) less (omega arith))) (λ (even : x ≤ y). omega arith) (cases_lt y x))
-    (cases_lt x y)
+one_place n tail x y same a b c d = grind (arith, not_below n x y same, not_below n y x (sym same))
 
 -- the room of an entry's item is the one that the machine has
 pub room_is : (o : OwnerState) → Kept o → (b entry : ℕ) (key : List ℕ) (cell : Cell) → Spells o b entry key cell → room_in o entry ≡ cell.room
 room_is o s b entry key cell sp =
     let fits = has_fits (options_in o) o.history s.history.writes key cell (entry_offset entry) sp.has in
-    let word : item_in o (entry_offset entry) ≡ header_of cell.room (length key) (length cell.value) =
-    ap (item_in o) (sym (add-zero (entry_offset entry))) ∙ (sp.item 0 (omega arith) ∙ header_word cell.room key cell.value) in
-    ap header_room word ∙ header_room-header_of cell.room (length key) (length cell.value) fits.5
+    item_room o (entry_offset entry) key cell fits.5 sp.item
+
+-- in cache mode it is a record of the log
+pub spelt_record : (o : OwnerState) → Kept o → (b entry : ℕ) (key : List ℕ) (cell : Cell) → Spells o b entry key cell
+    → (now : Cache) → state_in o ≡ cache_state now
+    → (r : Record) × (record_of now key ≡ Some r) × (r.offset ≡ entry_offset entry) × (r.room ≡ room_in o entry)
+spelt_record o s b entry key cell sp now at =
+    let found = found_record (record_of now key) cell (entry_offset entry) (subst (λ (z : State). Has z key cell (entry_offset entry)) at sp.has) in
+    (found.0, found.1, found.2, sym (room_is o s b entry key cell sp ∙ ap (λ (z : Cell). z.room) found.3))
 
 -- a word of the write's item is in no room of what the log has of another key
 pub other_rooms : (options : Options) → IsValid options → (history : History) → AllByRecursion IsWrite history → (write : Write) → IsWrite write
@@ -60,14 +48,9 @@ other_rooms options valid history writes write is before at p item key differ r 
     let mine = own options valid history writes write is before at p item in
     let there = window options history writes write is before at key r found in
     let here = window options history writes write is before at write.key mine.0 mine.1 in
-    let least = mine.2 in
-    let most = mine.3 in
-    let one : r.offset + i ≡ p =
-    one_place options.words (tail_of (cs.after options before write).stamp) (r.offset + i) p same (omega arith) (omega arith) (omega arith) (omega arith) in
-    ⊎_elim
-    (λ (first : r.offset + r.room ≤ mine.0.offset). omega arith)
-    (λ (second : mine.0.offset + mine.0.room ≤ r.offset). omega arith)
-    (apart options history writes write is before at key write.key r mine.0 found mine.1 differ)
+    let one : r.offset + i ≡ p = one_place options.words (tail_of (cs.after options before write).stamp) (r.offset + i) p same
+    (omega arith) (omega arith) (omega arith) (omega (arith, mine.3)) in
+    grind (arith, one, mine.2, mine.3, apart options history writes write is before at key write.key r mine.0 found mine.1 differ)
 
 pub log_spares : (o : OwnerState) → Kept o → LogSpares o
 log_spares o s b write history before c slot entry other p is at belongs l n h i =
@@ -77,13 +60,7 @@ log_spares o s b write history before c slot entry other p is at belongs l n h i
     ap (state_of (options_in o)) fits.1 ∙ (state_snoc (options_in o) history write ∙ ap (λ (z : State). after (options_in o) z write) at) in
     let unmarked : marked_in o.phase other ≡ 0 = ap (λ (z : Phase). marked_in z other) is ∙ bit_else b other (λ same. n (sym same)) in
     let some = (s.state other l unmarked).nothing_else c slot entry h in
-    let sp = some.2 in
-    let found = found_record (record_of (cs.after (options_in o) before write) some.0) some.1 (entry_offset entry)
-    (subst (λ (z : State). Has z some.0 some.1 (entry_offset entry)) now sp.has) in
-    let differ : some.0 ≢ write.key = λ same. n (sym sp.bucket ∙ (ap (bucket_in o) same ∙ sym fits.0)) in
-    let room = room_is o s other entry some.0 some.1 sp in
-    let room' : some.1.room ≡ found.0.room = ap (λ (z : Cell). z.room) found.3 in
-    let below = i.1 in
-    let place : (found.0.offset + i.0) % o.shape.words ≡ p % o.shape.words =
-    ap (λ (z : ℕ). (z + i.0) % o.shape.words) {y = entry_offset entry} found.2 ∙ (let e = i.2 in omega arith) in
-    other_rooms (options_in o) s.shape.ranges history all.0 write all.1 before at p belongs some.0 differ found.0 found.1 i.0 (omega arith) place
+    let r = spelt_record o s other entry some.0 some.1 some.2 (cs.after (options_in o) before write) now in
+    let differ : some.0 ≢ write.key = λ same. n (sym some.2.bucket ∙ (ap (bucket_in o) same ∙ sym fits.0)) in
+    let place : (r.0.offset + i.0) % o.shape.words ≡ p % o.shape.words = rw r.2 (omega (arith, i.2)) in
+    other_rooms (options_in o) s.shape.ranges history all.0 write all.1 before at p belongs some.0 differ r.0 r.1 i.0 (omega (arith, r.3, i.1)) place

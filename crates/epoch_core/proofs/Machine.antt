@@ -1,19 +1,16 @@
 -- What the machine has, in both modes.
-use Rattle.epoch_core.proofs.Vocabulary.{AreBytes, Cache as CacheMode, Cell, Has, History, IsLiveItem, KeyFits, List, Mode, None, Option, Some, State}
-use Rattle.epoch_core.proofs.Vocabulary.{Store as StoreMode, ValueFits, Write, [], ap, arith, bucket_of, cache_state, cached_in, cell_at, item_size}
-use Rattle.epoch_core.proofs.Vocabulary.{option_map, refl, stamp_of, state_of, state_snoc, store_state, stored_in, subst, sym, unwrap_or, ℕ, ◌++◌}
-use Rattle.epoch_core.proofs.Vocabulary.{◌<◌, ◌∙◌, ◌∷◌, ◌≡◌, ◌≢◌, ◌≤◌}
-use Rattle.std.specs.List.{AllByRecursion}
-use Rattle.std.specs.FinMap.{get}
-use Rattle.mica_model.specs.declared.options.Options.{Options}
-use Rattle.mica_model.specs.Write.{IsWrite}
+use Rattle.epoch_core.proofs.Vocabulary.{AllByRecursion, AreBytes, Cell, Has, History, IsLiveItem, IsWrite, KeyFits, List, Mode, None, Option}
+use Rattle.epoch_core.proofs.Vocabulary.{Options, Some, State, ValueFits, Write, [], ap, arith, bucket_of, cache_state, cached_in, cell_at, get}
+use Rattle.epoch_core.proofs.Vocabulary.{item_size, option_map, refl, same_Some, stamp_of, state_of, state_snoc, store_state, stored_in, subst, sym}
+use Rattle.epoch_core.proofs.Vocabulary.{ℕ, ◌++◌, ◌<◌, ◌∙◌, ◌∷◌, ◌≡◌, ◌≢◌, ◌≤◌}
 use Rattle.mica_model.specs.Cache.{Cache, Record, record_of}
 use Rattle.mica_model.specs.CacheStep as cs
 use Rattle.mica_model.specs.StoreStep as ss
 use Rattle.mica_model.specs.History.{after, stamp_in}
-use Rattle.mica_model.proofs.CacheLaws.{record_fits, others_back, others_on}
+use Rattle.mica_model.proofs.CacheLaws.{others_back, others_on, record_fits}
 use Rattle.mica_model.proofs.Rises.{stamp_rises}
 use Rattle.mica_model.proofs.StoreLaws.{cell_fits, others_same}
+use Rattle.epoch_core.proofs.Vocabulary.{Cache as CacheMode, Store as StoreMode}
 
 -- what all of a list have, its front and its last have
 pub all_parts : {X : Type 0} (P : X → Type 0) (xs : List X) (x : X) → AllByRecursion P (xs ++ x ∷ []) → AllByRecursion P xs × P x
@@ -31,24 +28,24 @@ Fits key cell = KeyFits key × AreBytes key × ValueFits cell.value × AreBytes 
 pub found_record : (found : Option Record) (cell : Cell) (p : ℕ) → option_map cell_at found ≡ Some (cell, p)
     → (r : Record) × (found ≡ Some r) × (r.offset ≡ p) × (cell ≡ record { value = r.value; room = r.room })
 found_record None cell p e = cc e
-found_record (Some r) cell p e = (
-  r,
-  refl,
-  ap (λ (z : Option (Cell × ℕ)). unwrap_or (option_map (λ (q : Cell × ℕ). q.1) z) 0) e,
-  sym (ap (λ (z : Option (Cell × ℕ)). unwrap_or (option_map (λ (q : Cell × ℕ). q.0) z) cell) e),
-)
+found_record (Some r) cell p e =
+    let same = same_Some (cell_at r) (cell, p) e in (r, refl, ap (λ (z : Cell × ℕ). z.1) same, sym (ap (λ (z : Cell × ℕ). z.0) same))
 
--- what the machine has fits
-fits_by : (options : Options) (history : History) → AllByRecursion IsWrite history → (now : State) → state_of options history ≡ now
-    → (key : List ℕ) (cell : Cell) (p : ℕ) → Has now key cell p → Fits key cell
-fits_by options history writes (cache_state s) at key cell p h =
-    let found = found_record (record_of s key) cell p h in
-    subst (Fits key) (sym found.3) (record_fits options history writes s at key found.0 found.1)
-fits_by options history writes (store_state s) at key cell p h = cell_fits options history writes s at key cell h
+-- it is one cell of a key
+pub same_cell : (now : State) (key : List ℕ) (cell cell' : Cell) (p p' : ℕ) → Has now key cell p → Has now key cell' p' → cell ≡ cell'
+same_cell (cache_state s) key cell cell' p p' h h' = ap (λ (z : Cell × ℕ). z.0) (same_Some (cell, p) (cell', p') (sym h ∙ h'))
+same_cell (store_state s) key cell cell' p p' h h' = same_Some cell cell' (sym h ∙ h')
 
+-- and it fits
 pub has_fits : (options : Options) (history : History) → AllByRecursion IsWrite history
     → (key : List ℕ) (cell : Cell) (p : ℕ) → Has (state_of options history) key cell p → Fits key cell
-has_fits options history writes key cell p h = fits_by options history writes (state_of options history) refl key cell p h
+has_fits options history writes key cell p h = by_state (state_of options history) refl h
+  where
+    by_state : (now : State) → state_of options history ≡ now → Has now key cell p → Fits key cell
+    by_state (cache_state s) at h =
+        let found = found_record (record_of s key) cell p h in
+        subst (Fits key) (sym found.3) (record_fits options history writes s at key found.0 found.1)
+    by_state (store_state s) at h = cell_fits options history writes s at key cell h
 
 -- What the machine has of a bucket's keys stays as a history goes on: where the log has not passed it, it has the same.
 pub record HasStill (mode : Mode) (options : Options) (old new : History) (b : ℕ) : Type 0 where
@@ -80,16 +77,13 @@ module _ (options : Options) (history : History) (writes : AllByRecursion IsWrit
     on = λ key cell p same h live.
         let has = rw at.1 at h in
         let found = found_record (record_of at.0 key) cell p has in
-        let stamp = ap stamp_in now in
-        let offset = found.2 in
-        let there = others_on options history writes write is at.0 at.1 key (λ e. apart (sym same ∙ e)) found.0 found.1 (omega arith) in
+        let there = others_on options history writes write is at.0 at.1 key (λ e. apart (sym same ∙ e)) found.0 found.1 (omega (arith, ap stamp_in now, found.2)) in
         rw now (ap (option_map cell_at) (there ∙ sym found.1) ∙ has);
     live_on = λ key cell p q same h i live.
         let before = had key cell p same (rw now at h) in
         let has = rw at.1 at i in
-        let one : p ≡ q = ap (λ (z : Option (Cell × ℕ)). unwrap_or (option_map (λ (r : Cell × ℕ). r.1) z) 0) (sym before.0 ∙ has) in
-        let live = before.1 in
-        omega arith;
+        let one : p ≡ q = ap (λ (z : Cell × ℕ). z.1) (same_Some (cell, p) (cell, q) (sym before.0 ∙ has)) in
+        omega (arith, one, before.1);
   }
     where
       at : (s : Cache) × (state_of options history ≡ cache_state s)
@@ -106,8 +100,7 @@ module _ (options : Options) (history : History) (writes : AllByRecursion IsWrit
           (ap (option_map cell_at) (before.0 ∙ sym found.1) ∙ h, omega (arith, ap stamp_in now, found.2, before.1))
   by_mode StoreMode mode =
       let at = stored_in options mode history in
-      let now : state_of options more ≡ store_state (ss.after at.0 write) =
-      state_snoc options history write ∙ ap (λ (z : State). after options z write) at.1 in
+      let now = state_snoc options history write ∙ ap (λ (z : State). after options z write) at.1 in
       let same : (key : List ℕ) → bucket_of key options.buckets ≡ b → get (ss.after at.0 write).cells key ≡ get at.0.cells key =
       λ key is. others_same at.0 write key (λ e. apart (sym is ∙ ap (λ (z : List ℕ). bucket_of z options.buckets) e)) in record {
         live = λ p h. tt;

@@ -1,8 +1,7 @@
 -- The owner's fact holds before any event.
 use Rattle.epoch_core.proofs.Vocabulary.{Cache, Has, HasChain, HasLiveEntry, InChain, IsValidShape, Kept, List, Mode, OwnerState, Shape, StandsFor}
-use Rattle.epoch_core.proofs.Vocabulary.{Store, [], arith, as_made, entry_at, epoch_at, get_or, inl, inr, length-replicate, link_at, refl, replicate}
-use Rattle.epoch_core.proofs.Vocabulary.{start, suc, sym, word_count, zero, ℕ, ◌∙◌, ◌≡◌}
-use Rattle.std.specs.FinMap.{get-empty}
+use Rattle.epoch_core.proofs.Vocabulary.{Store, [], arith, as_made, entry_at, epoch_at, get-empty, get_or, inl, inr, length-replicate, link_at, refl}
+use Rattle.epoch_core.proofs.Vocabulary.{replicate, start, suc, sym, word_count, zero, ℕ, ◌∙◌, ◌≡◌}
 use Rattle.std.specs.Ordering.{nat_cmp}
 use Rattle.std.specs.Cmp.Lexicographic.{slice_cmp}
 use Rattle.mica_model.specs.Cache as cache
@@ -15,7 +14,7 @@ zeros zero i = refl
 zeros (suc n) zero = refl
 zeros (suc n) (suc i) = zeros n i
 
-no_stamp_yet : (mode : Mode) → stamp_in (start mode) ≡ 0
+pub no_stamp_yet : (mode : Mode) → stamp_in (start mode) ≡ 0
 unfolding cache.start store.start
 no_stamp_yet Cache = refl
 no_stamp_yet Store = refl

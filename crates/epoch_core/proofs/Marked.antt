@@ -1,10 +1,9 @@
 -- The bucket whose write is marked, and the buckets that its write may change.
-use Rattle.epoch_core.proofs.Vocabulary.{Begun, Bool, Idle, InChain, IsAmong, IsBucket, IsFreeSpare, IsMain, Kept, List, Marked, OwnerState, Phase}
-use Rattle.epoch_core.proofs.Vocabulary.{PhaseFits, WhenMarked, Write, ap, arith, begun_in, dite, epoch_in, eq-eqb, false, if◌then◌else◌, inl, inr}
-use Rattle.epoch_core.proofs.Vocabulary.{link_in, marked_in, nat_eq, ne_eqb, refl, subst, suc, sym, true, zero, ℕ, ℕ_discrete, ◌%◌, ◌*◌, ◌+◌, ◌<◌}
-use Rattle.epoch_core.proofs.Vocabulary.{◌≡◌, ◌≢◌, ◌≤◌, ◌⊎◌}
-use Rattle.mica_words.proofs.Hashes.{bucket_of-below}
-use Rattle.std.proofs.lemmas.Nat.{pow_pos}
+use Rattle.epoch_core.proofs.Vocabulary.{Begun, Bool, Idle, InChain, IsBucket, IsFreeSpare, IsMain, Kept, List, Marked, OwnerState, Phase, PhaseFits}
+use Rattle.epoch_core.proofs.Vocabulary.{WhenMarked, Write, ap, arith, begun_in, bucket_in, bucket_of-below, dite, epoch_in, eq-eqb, false}
+use Rattle.epoch_core.proofs.Vocabulary.{if◌then◌else◌, inl, inr, marked_in, nat_eq, ne_eqb, pow_pos, refl, subst, sym, true, ℕ, ℕ_discrete}
+use Rattle.epoch_core.proofs.Vocabulary.{◌%◌, ◌*◌, ◌+◌, ◌<◌, ◌≡◌, ◌≢◌, ◌≤◌, ◌⊎◌}
+use Rattle.epoch_core.proofs.Walks.{chain_bucket}
 
 abbrev pub bit : ℕ → ℕ → ℕ
 bit c b = if nat_eq c b then 1 else 0
@@ -40,16 +39,9 @@ module _ (o : OwnerState) (s : Kept o) where
   pub calm : (b : ℕ) → IsMain o.shape b → epoch_in o b % 2 ≡ 0 → (begun_in o.phase b ≡ 0) × (marked_in o.phase b ≡ 0)
   calm b l even = calm_in o.phase b (epoch_in o b) _ (s.epochs b l) even
 
-  pub among_bucket : (n b c : ℕ) → IsBucket o.shape b → IsAmong o n b c → IsBucket o.shape c
-  among_bucket zero b c l h = absurd h
-  among_bucket (suc n) b c l (inl e) = subst (IsBucket o.shape) e l
-  among_bucket (suc n) b c l (inr h) = elim (s.chains.links b l) [
-    | inl none ↦ absurd (h.0 none)
-    | inr spare ↦ among_bucket n (link_in o b) c spare.1 h.1
-  ]
-
-  pub chain_bucket : (b c : ℕ) → IsMain o.shape b → InChain o b c → IsBucket o.shape c
-  chain_bucket b c l h = among_bucket (suc o.shape.spares) b c (omega arith) h
+  -- the bucket of a key is a main one
+  pub main_of : (key : List ℕ) → IsMain o.shape (bucket_in o key)
+  main_of key = bucket_of-below key o.shape.buckets (subst (λ (z : ℕ). 0 < z) (sym s.shape.ranges.buckets.2) (pow_pos s.shape.ranges.buckets.0))
 
   pub marked_not : (b c : ℕ) (write : Write) (history : List Write) → o.phase ≡ Marked b write history → marked_in o.phase c ≡ 0 → c ≢ b
   marked_not b c write history is none same =
@@ -58,10 +50,7 @@ module _ (o : OwnerState) (s : Kept o) where
       omega arith
 
   pub marked_main : (b : ℕ) (write : Write) (history : List Write) → o.phase ≡ Marked b write history → IsMain o.shape b
-  marked_main b write history is =
-      let fits = subst (PhaseFits o) is s.phase in
-      let some = subst (λ (z : ℕ). 0 < z) (sym s.shape.ranges.buckets.2) (pow_pos s.shape.ranges.buckets.0) in
-      subst (IsMain o.shape) (sym fits.0) (bucket_of-below write.key o.shape.buckets some)
+  marked_main b write history is = subst (IsMain o.shape) (sym (subst (PhaseFits o) is s.phase).0) (main_of write.key)
 
   pub ends_main : (phase : Phase) → o.phase ≡ phase → (b : ℕ) → marked_in phase b ≡ 1 → IsMain o.shape b
   ends_main (Marked c write before) is b one = subst (IsMain o.shape) (bit_is c b one) (marked_main c write before is)
@@ -77,6 +66,6 @@ module _ (o : OwnerState) (s : Kept o) where
 
   -- it is a bucket
   pub its_inside : (phase : Phase) → o.phase ≡ phase → (c : ℕ) → WhenMarked phase (λ b write before. InChain o b c ⊎ IsFreeSpare o c) → IsBucket o.shape c
-  its_inside (Marked b write before) is c (inl own) = chain_bucket b c (marked_main b write before is) own
+  its_inside (Marked b write before) is c (inl own) = chain_bucket o s.chains b c (marked_main b write before is) own
   its_inside (Marked b write before) is c (inr free) = free.spare.1
   its_inside phase is c h = absurd h

@@ -1,49 +1,27 @@
 -- Laws of a partition, in either mode: what it knows between two writes, and of a write that the machine accepts.
-use Rattle.std.proofs.Common.{◌≡◌, ℕ, ◌+◌, ◌<◌, ◌≤◌, ◌≢◌, ◌⊎◌, inl, inr, List, [], ◌∷◌, ◌++◌, cond, true, false, length, get_or, add-zero, refl, sym, ap, ◌∙◌, subst, arith}
+use Rattle.epoch_core.proofs.Vocabulary.{AreBytes, Begins, Cell, Ends, Has, HasKey, Idle, IsBucket, IsMain, IsOffset, IsWrite, Kept, List, Marked}
+use Rattle.epoch_core.proofs.Vocabulary.{Marks, MayBegin, MayEnd, MayGive, MayMark, Options, Outcome, OwnerState, Phase, Spells, SpellsItem}
+use Rattle.epoch_core.proofs.Vocabulary.{StandsFor, State, Worn, Write, [], accepted_is_length, add-zero, after, ap, arith, as_made, bucket_in}
+use Rattle.epoch_core.proofs.Vocabulary.{cache_state, cases_Bool, entry_at, entry_in, entry_offset, entry_tag, epoch_at, false, get_or, header_room}
+use Rattle.epoch_core.proofs.Vocabulary.{inl, inr, is_accepted, item_at, item_in, le-leb, length, link_at, link_in, marked_in, options_in, plays}
+use Rattle.epoch_core.proofs.Vocabulary.{puts_from, refl, room_in, stamp_at, stamp_in, stamp_of, state_in, state_snoc, store_state, subst, sym}
+use Rattle.epoch_core.proofs.Vocabulary.{tag_of, true, true≢false, word_count, ℕ, ◌++◌, ◌+◌, ◌<◌, ◌∙◌, ◌∷◌, ◌≡◌, ◌≢◌, ◌≤◌, ◌⊎◌}
 use Rattle.std.specs.Str.{bytes_eq}
-use Rattle.std.proofs.lemmas.Bool.{cases_Bool, le-leb, true≢false}
-use Rattle.std.proofs.lemmas.Nat.{pow_pos}
-use Rattle.std.proofs.lemmas.Option.{same_Some}
 use Rattle.std.proofs.lemmas.Slice.Eq.{bytes_eq-Decides}
-use Rattle.std.specs.Prelude.{is_some}
-use Rattle.mica_words.specs.Entry.{entry_offset, entry_tag}
-use Rattle.mica_words.specs.Hash.{tag_of}
-use Rattle.mica_words.specs.Header.{header_room}
-use Rattle.mica_words.specs.Packing.{AreBytes}
-use Rattle.mica_words.proofs.Fields.{header_room-header_of}
-use Rattle.mica_words.proofs.Hashes.{bucket_of-below}
-use Rattle.mica_words.proofs.ItemWords.{header_word}
-use Rattle.mica_model.specs.declared.options.Mode.{Mode}
-use Rattle.mica_model.specs.declared.options.Mode.TheVariants.{Cache as CacheMode, Store as StoreMode}
-use Rattle.mica_model.specs.declared.options.Options.{Options}
-use Rattle.mica_model.specs.declared.write.Outcome.{Outcome}
-use Rattle.mica_model.specs.declared.write.Outcome.TheVariants.{Worn}
-use Rattle.mica_model.specs.declared.write.Write.{Write}
 use Rattle.mica_model.specs.Cache as cache
 use Rattle.mica_model.specs.CacheStep as cs
-use Rattle.mica_model.specs.Store as store
-use Rattle.mica_model.specs.Store.{Cell}
-use Rattle.mica_model.specs.History.{Allows, MayGive, State, cache_state, store_state, accepted_in, after as state_after, stamp_in as stamp_of_state, stamp_of, start}
-use Rattle.mica_model.specs.Write.{IsWrite, is_accepted}
-use Rattle.mica_model.proofs.Histories.{accepted_is_length, state_snoc}
-use Rattle.epoch_core.specs.declared.state.OwnerState.{OwnerState}
-use Rattle.epoch_core.specs.declared.state.Phase.{Phase}
-use Rattle.epoch_core.specs.declared.state.Phase.TheVariants.{Idle, Marked}
-use Rattle.epoch_core.specs.declared.event.Event.TheVariants.{Begins, Marks, Ends}
-use Rattle.epoch_core.specs.Shape.{IsBucket, IsMain}
-use Rattle.epoch_core.specs.Layout.{entry_at, item_at, link_at, word_count}
-use Rattle.epoch_core.specs.OwnerState.{as_made, bucket_in, entry_in, item_in, link_in, marked_in, options_in, stamp_in, state_in}
-use Rattle.epoch_core.specs.StandsFor.{Has, IsOffset, Spells, SpellsItem, StandsFor, room_in}
-use Rattle.epoch_core.specs.ItemAt.{HasKey}
-use Rattle.epoch_core.specs.Kept.{Kept}
+use Rattle.mica_model.specs.History.{Allows, accepted_in, after as state_after}
 use Rattle.epoch_core.specs.OwnerStep.{IsOwnerStep}
-use Rattle.epoch_core.specs.Events.{MayBegin, MayEnd, MayMark, after, plays, puts_from}
-use Rattle.epoch_core.proofs.Carried.{changed}
-use Rattle.epoch_core.proofs.EventWords.{entry_begins, entry_marks, item_begins, item_marks, link_begins, link_marks, stamp_marks}
+use Rattle.epoch_core.proofs.Carried.{changed, spells_there}
+use Rattle.epoch_core.proofs.EventWords.{other, stamp_marks}
 use Rattle.epoch_core.proofs.Inside.{some_words}
 use Rattle.epoch_core.proofs.Keeps.{kept_after}
 use Rattle.epoch_core.proofs.Keys.{has_its_key, has_no_other}
+pub use Rattle.epoch_core.proofs.Keys.{item_room}
 use Rattle.epoch_core.proofs.Machine.{has_fits}
+use Rattle.epoch_core.proofs.Made.{no_stamp_yet}
+pub use Rattle.epoch_core.proofs.Machine.{same_cell}
+pub use Rattle.epoch_core.proofs.Marked.{main_of}
 use Rattle.epoch_core.proofs.Marked.{bit_same}
 use Rattle.epoch_core.proofs.Places.{no_item}
 use Rattle.epoch_core.proofs.Puts.{PutsWords, puts_words}
@@ -55,33 +33,13 @@ same_or_other key key' = elim (cases_Bool (bytes_eq key key')) [
   | inr not ↦ inr (λ same. true≢false (sym ((bytes_eq-Decides key key').1 same) ∙ not))
 ]
 
--- what the machine has of a key is one cell
-pub same_cell : (now : State) (key : List ℕ) (cell cell' : Cell) (p p' : ℕ) → Has now key cell p → Has now key cell' p' → cell ≡ cell'
-same_cell (cache_state s) key cell cell' p p' h h' = ap (λ (z : Cell × ℕ). z.0) (same_Some (cell, p) (cell', p') (sym h ∙ h'))
-same_cell (store_state s) key cell cell' p p' h h' = same_Some cell cell' (sym h ∙ h')
-
 -- no stamp was given yet
-pub start_stamp : (mode : Mode) → stamp_of_state (start mode) ≡ 0
-unfolding cache.start store.start
-start_stamp CacheMode = refl
-start_stamp StoreMode = refl
-
 pub new_stamp : (o : OwnerState) → o ≡ as_made o.shape → 0 ≡ stamp_of (options_in o) o.history
-new_stamp o made = sym (ap (λ (z : OwnerState). stamp_of (options_in o) z.history) made ∙ start_stamp o.shape.mode)
-
--- the words of an item have its room
-pub item_room : (o : OwnerState) (p : ℕ) (key : List ℕ) (cell : Cell) → cell.room < 65536 → SpellsItem o p key cell → header_room (item_in o p) ≡ cell.room
-item_room o p key cell small item =
-    ap header_room (ap (item_in o) (sym (add-zero p)) ∙ (item 0 (omega arith) ∙ header_word cell.room key cell.value))
-    ∙ header_room-header_of cell.room (length key) (length cell.value) small
+new_stamp o made = sym (ap (λ (z : OwnerState). stamp_of (options_in o) z.history) made ∙ no_stamp_yet o.shape.mode)
 
 -- Between two writes
 
 module _ (o : OwnerState) (s : Kept o) where
-  -- the bucket of a key is a main one
-  pub main_of : (key : List ℕ) → IsMain o.shape (bucket_in o key)
-  main_of key = bucket_of-below key o.shape.buckets (subst (λ (z : ℕ). 0 < z) (sym s.shape.ranges.buckets.2) (pow_pos s.shape.ranges.buckets.0))
-
   pub stands_idle : o.phase ≡ Idle → (c : ℕ) → IsMain o.shape c → StandsFor o c
   stands_idle idle c l = s.state c l (ap (λ (z : Phase). marked_in z c) idle)
 
@@ -109,34 +67,25 @@ module _ (o : OwnerState) (s : Kept o) where
 
 pub refused_step : (o : OwnerState) → o.phase ≡ Idle → (w : Write) (outcome : Outcome) → is_accepted outcome ≡ false → MayGive (options_in o) o.history w outcome
     → IsOwnerStep o o w outcome
-refused_step o idle w outcome refuses may = record {
-  allowed = may;
-  gained = ap (λ b. cond b (record o { history = o.history ++ w ∷ [] }) o) (sym refuses);
-  idle = idle;
-}
+refused_step o idle w outcome refuses may = record { allowed = may; gained = rw refuses refl; idle = idle }
 
 allows_worn : (options : Options) (now : State) (w : Write) → options.wear ≤ accepted_in now → Allows options now w Worn
 unfolding cs.reply
-allows_worn options (cache_state s) w full =
-    ap (λ b. cond b Worn (cs.reply_of w.op options w (is_some (cache.record_of s w.key)))) (sym (le-leb options.wear s.accepted full))
+allows_worn options (cache_state s) w full = rw (le-leb options.wear s.accepted full) refl
 allows_worn options (store_state s) w full = full
 
 -- in a worn partition each is
 pub worn_step : (o : OwnerState) → o.phase ≡ Idle → o.shape.wear ≤ length o.history → (w : Write) → IsOwnerStep o o w Worn
 worn_step o idle full w =
-    let count = accepted_is_length (options_in o) o.history in
-    refused_step o idle w Worn refl (allows_worn (options_in o) (state_in o) w (omega arith))
+    refused_step o idle w Worn refl (allows_worn (options_in o) (state_in o) w (omega (arith, accepted_is_length (options_in o) o.history)))
 
 -- A write that is accepted
 
 -- The history gains it, and beside it words alone have changed.
 pub accepted_step : (o new : OwnerState) → o.phase ≡ Idle → (w : Write) (outcome : Outcome) → is_accepted outcome ≡ true → MayGive (options_in o) o.history w outcome
     → new ≡ record o { words = new.words; history = o.history ++ w ∷ [] } → IsOwnerStep o new w outcome
-accepted_step o new idle w outcome accepted may gained = record {
-  allowed = may;
-  gained = gained ∙ ap (λ b. cond b (record o { words = new.words; history = o.history ++ w ∷ [] }) o) (sym accepted);
-  idle = ap (λ (z : OwnerState). z.phase) gained ∙ idle;
-}
+accepted_step o new idle w outcome accepted may gained =
+    record { allowed = may; gained = rw accepted gained; idle = ap (λ (z : OwnerState). z.phase) gained ∙ idle }
 
 -- an idle owner's state, a write that its machine accepts, and the stamp after it
 pub record AcceptedWrite (o : OwnerState) : Type 0 where
@@ -178,14 +127,17 @@ module _ (o : OwnerState) (a : AcceptedWrite o) where
   pub kept_marked : Kept marked
   kept_marked = kept_after (after (Begins b) o) kept_begun (Marks a.w a.t) may_mark
 
+  marked_else : (i : ℕ) → i ≢ stamp_at → i ≢ epoch_at b → get_or marked.words i 0 ≡ get_or o.words i 0
+  marked_else i n n' = other (after (Begins b) o) (Marks a.w a.t) i n ∙ other o (Begins b) i n'
+
   pub marked_item : (q : ℕ) → item_in marked q ≡ item_in o q
-  marked_item q = item_marks (after (Begins b) o) kept_begun.wide a.w a.t q ∙ item_begins o a.kept.wide b q main
+  marked_item q = marked_else (item_at o.shape q) (λ is. omega arith) (λ is. omega (arith, main))
 
   pub marked_link : (d : ℕ) → link_in marked d ≡ link_in o d
-  marked_link d = link_marks (after (Begins b) o) kept_begun.wide a.w a.t d ∙ link_begins o a.kept.wide b d main
+  marked_link d = marked_else (link_at o.shape d) (λ is. omega arith) (λ is. omega (arith, main))
 
   pub marked_entry : (d slot : ℕ) → slot < 15 → entry_in marked d slot ≡ entry_in o d slot
-  marked_entry d slot low = entry_marks (after (Begins b) o) kept_begun.wide a.w a.t d slot ∙ entry_begins o a.kept.wide b d slot main low
+  marked_entry d slot low = marked_else (entry_at o.shape d slot) (λ is. omega arith) (λ is. omega (arith, main))
 
   -- Then words alone change
 
@@ -241,9 +193,7 @@ module _ (o : OwnerState) (a : AcceptedWrite o) where
     pub spells_on : (c x : ℕ) → Keeps x → (key : List ℕ) (cell : Cell) → Has (state_in (written words)) key cell (entry_offset x)
         → Spells o c x key cell → Spells (written words) c x key cell
     spells_on c x keeps key cell has sp =
-        let fits = sp.in_room in
-        let same = room_same x keeps (omega arith) in
-        record { bucket = sp.bucket; has = has; offset = sp.offset; tag = sp.tag; item = λ i l. keeps i (omega arith) ∙ sp.item i l; in_room = omega arith }
+        let fits = sp.in_room in spells_there o (written words) c x key cell has (room_same x keeps (omega arith)) (λ i l. keeps i (omega arith)) sp
 
     -- It ends
 

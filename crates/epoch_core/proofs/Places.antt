@@ -1,15 +1,9 @@
 -- Different words stand at different places.
-use Rattle.std.proofs.Common.{◌≡◌, ℕ, ◌+◌, ◌<◌, ◌≢◌, arith}
-use Rattle.epoch_core.specs.declared.shape.Shape.{Shape}
-use Rattle.epoch_core.specs.Shape.{IsMain, IsBucket}
-use Rattle.epoch_core.specs.Layout.{bucket_words, stamp_at, epoch_at, entries_at, item_at}
+use Rattle.epoch_core.proofs.Vocabulary.{IsBucket, IsMain, Shape, arith, bucket_words, entries_at, epoch_at, item_at, stamp_at, ℕ, ◌+◌, ◌<◌, ◌≡◌, ◌≢◌}
 
 -- the words of buckets: their entries, and the link
 pub same_bucket : (shape : Shape) (b c s t : ℕ) → s < bucket_words → t < bucket_words → entries_at shape b + s ≡ entries_at shape c + t → b ≡ c
 same_bucket shape b c s t x y e = omega arith
-
-pub same_slot : (shape : Shape) (b c s t : ℕ) → s < bucket_words → t < bucket_words → entries_at shape b + s ≡ entries_at shape c + t → s ≡ t
-same_slot shape b c s t x y e = let same = same_bucket shape b c s t x y e in omega arith
 
 pub no_epoch : (shape : Shape) (b c s : ℕ) → IsMain shape b → s < bucket_words → entries_at shape c + s ≢ epoch_at b
 no_epoch shape b c s l x e = omega arith

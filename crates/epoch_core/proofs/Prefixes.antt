@@ -1,7 +1,6 @@
 -- Prefixes of histories.
-use Rattle.epoch_core.proofs.Vocabulary.{Bool, History, IsPrefix, [], ap, append-nil, append_assoc, arith, false, if◌then◌else◌, length, ltb-false}
-use Rattle.epoch_core.proofs.Vocabulary.{ltb-true, nat_lt, refl, sym, true, ◌++◌, ◌∙◌, ◌∷◌, ◌≡◌, ◌≤◌}
-use Rattle.epoch_core.specs.Joins.{longer}
+use Rattle.epoch_core.proofs.Vocabulary.{Bool, History, IsPrefix, [], ap, append-nil, append_assoc, arith, false, if◌then◌else◌, length, longer}
+use Rattle.epoch_core.proofs.Vocabulary.{ltb-false, ltb-true, nat_lt, refl, sym, true, ◌++◌, ◌∙◌, ◌∷◌, ◌≡◌, ◌≤◌}
 
 pub prefix_same : (h : History) → IsPrefix h h
 prefix_same h = ([], sym (append-nil h))

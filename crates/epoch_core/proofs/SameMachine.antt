@@ -1,14 +1,10 @@
 -- The machine of options is that of their shape: it reads no other option, and in cache mode no spares.
-use Rattle.epoch_core.proofs.Vocabulary.{Bool, Cache as CacheMode, History, IsValidShape, MayGive, Mode, State, Store as StoreMode, Write, ap, arith}
-use Rattle.epoch_core.proofs.Vocabulary.{cache_state, cached_in, cond, false, inl, inr, is_some, options_of, refl, shape_of, spares_in, start}
-use Rattle.epoch_core.proofs.Vocabulary.{state_of, store_state, stored_in, subst, sym, true, ℕ, ◌+◌, ◌∙◌, ◌≡◌}
-use Rattle.std.specs.List.{fold}
-use Rattle.mica_model.specs.declared.options.Options.{Options}
+use Rattle.epoch_core.proofs.Vocabulary.{Bool, FullBlock, FullSpare, History, InRange, IsValid, IsValidShape, MayGive, Mode, Options, Outcome, State}
+use Rattle.epoch_core.proofs.Vocabulary.{Stored, Worn, Write, ap, arith, cache_state, cached_in, cond, false, fold, inl, inr, is_some, options_of}
+use Rattle.epoch_core.proofs.Vocabulary.{refl, shape_of, spares_in, start, state_of, store_state, stored_in, subst, sym, true, ℕ, ◌+◌, ◌∙◌, ◌≡◌}
+use Rattle.epoch_core.proofs.Vocabulary.{Cache as CacheMode, Store as StoreMode}
 use Rattle.mica_model.specs.declared.write.Op.{Op}
 use Rattle.mica_model.specs.declared.write.Op.TheVariants.{Put, Del}
-use Rattle.mica_model.specs.declared.write.Outcome.{Outcome}
-use Rattle.mica_model.specs.declared.write.Outcome.TheVariants.{Stored, FullSpare, FullBlock, Worn}
-use Rattle.mica_model.specs.Options.{InRange, IsValid}
 use Rattle.mica_model.specs.Cache as cache
 use Rattle.mica_model.specs.CacheStep as cs
 use Rattle.mica_model.specs.Store as store
@@ -46,9 +42,6 @@ module _ (options : Options) where
     spares : spares_in options.mode options.spares ≡ options.spares
     spares = ap (λ (m : Mode). spares_in m options.spares) mode
 
-    spare_back : ss.NeedsSpare shaped s write.key → ss.NeedsSpare options s write.key
-    spare_back h = record { is_new = h.is_new; some = h.some; full = h.full; none_left = h.none_left ∙ spares }
-
     block_back : ss.NeedsBlock shaped s write → ss.NeedsBlock options s write
     block_back h = record {
       stores = h.stores;
@@ -59,7 +52,8 @@ module _ (options : Options) where
 
     allows_back : (outcome : Outcome) → ss.Allows shaped s write outcome → ss.Allows options s write outcome
     allows_back Stored h = (h.0, (h.1.0, elim h.1.1 [ inl fits ↦ inl fits | inr block ↦ inr (block_back block.0, block.1) ]))
-    allows_back FullSpare h = (h.0, (h.1.0, spare_back h.1.1))
+    allows_back FullSpare h =
+        (h.0, (h.1.0, record { is_new = h.1.1.is_new; some = h.1.1.some; full = h.1.1.full; none_left = h.1.1.none_left ∙ spares }))
     allows_back FullBlock h = (h.0, (block_back h.1.0, h.1.1))
     allows_back outcome h = h
 
@@ -73,12 +67,10 @@ module _ (options : Options) where
       by_mode CacheMode mode =
           let at = cached_in options mode history in
           let reply = subst (λ (z : State). Allows shaped z write outcome) (same_state history ∙ at.1) h in
-          subst (λ (z : State). Allows options z write outcome) (sym at.1)
-          (reply ∙ ap (cond (cs.is_worn options at.0) Worn) (same_reply write.op write (is_some (cache.record_of at.0 write.key))))
+          rw at.1 (reply ∙ ap (cond (cs.is_worn options at.0) Worn) (same_reply write.op write (is_some (cache.record_of at.0 write.key))))
       by_mode StoreMode mode =
           let at = stored_in options mode history in
-          subst (λ (z : State). Allows options z write outcome) (sym at.1)
-          (allows_back mode at.0 write outcome (subst (λ (z : State). Allows shaped z write outcome) (same_state history ∙ at.1) h))
+          rw at.1 (allows_back mode at.0 write outcome (subst (λ (z : State). Allows shaped z write outcome) (same_state history ∙ at.1) h))
 
 pub shape_valid : (options : Options) → IsValid options → IsValidShape (shape_of options)
 shape_valid options valid = record {

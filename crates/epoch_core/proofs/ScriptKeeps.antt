@@ -1,27 +1,23 @@
 -- Each step of a script keeps the rule of the one-word table whose seat has a book.
-use Rattle.epoch_core.proofs.Vocabulary.{AllFit, Begins, BookFits, CanPlay, Ends, Event, IsAllowed, IsTime, IsValidShape, Kept, List, MayLook}
-use Rattle.epoch_core.proofs.Vocabulary.{OwnerState, ReaderKept, ReaderState, Reading, Shape, [], after, ap, append-nil, append_assoc, arith, as_made}
-use Rattle.epoch_core.proofs.Vocabulary.{drop, drop-cons, first_of, get_or, length, look_at, look_next, looked, map, newcomer, next_owner}
-use Rattle.epoch_core.proofs.Vocabulary.{opening_book, owner_at, owner_place, owner_sum, plan_of, play_next, played, plays, reads_on, refl, rest_of}
-use Rattle.epoch_core.proofs.Vocabulary.{subst, suc, sym, take, ℕ, ◌++◌, ◌+◌, ◌<◌, ◌^◌, ◌∙◌, ◌∷◌, ◌≡◌}
+use Rattle.epoch_core.proofs.Vocabulary.{Begins, Book, CanPlay, Ends, Event, IsAllowed, IsValidShape, Kept, List, OwnerState, Plan, ReaderKept}
+use Rattle.epoch_core.proofs.Vocabulary.{ReaderState, Shape, [], after, ap, append-nil, append_assoc, arith, as_made, drop, drop-cons, get_or, length}
+use Rattle.epoch_core.proofs.Vocabulary.{map, newcomer, owner_event, plays, refl, subst, suc, sym, take, ℕ, ◌++◌, ◌+◌, ◌<◌, ◌^◌, ◌∙◌, ◌∷◌, ◌≡◌}
 use Rattle.std.proofs.Math.Seq.{take-append_seam}
 use mathlib.Core.Option.{none}
-use Rattle.atomic_table.specs.Table.{step, keeps, opening, Allows}
+use Rattle.atomic_table.specs.Table.{Allows, keeps, opening, step}
 use Rattle.epoch_core.specs.declared.event.OwnerEvent.{OwnerEvent}
 use Rattle.epoch_core.specs.declared.plain.Script.{Script}
-use Rattle.epoch_core.specs.declared.scripted.Plan.{Plan}
 use Rattle.epoch_core.specs.declared.scripted.Look.{Look}
-use Rattle.epoch_core.specs.declared.scripted.Look.TheVariants.{FirstEpoch, Word, Stamp, LastEpoch}
-use Rattle.epoch_core.specs.declared.scripted.Book.{Book}
-use Rattle.epoch_core.specs.Diary.{owner_event}
+use Rattle.epoch_core.specs.declared.scripted.Look.TheVariants.{FirstEpoch, LastEpoch, Stamp, Word}
 use Rattle.epoch_core.proofs.Made.{kept_as_made}
 use Rattle.epoch_core.proofs.Marked.{ends_main}
 use Rattle.epoch_core.proofs.Keeps.{kept_after}
-use Rattle.epoch_core.proofs.Inside.{event_inside, epoch_small}
+use Rattle.epoch_core.proofs.Inside.{epoch_small, event_inside}
 use Rattle.epoch_core.proofs.Growing.{grows, reader_grows}
-use Rattle.epoch_core.proofs.LoadKeeps.{opens, loads, stamps, shuts}
+use Rattle.epoch_core.proofs.LoadKeeps.{loads, opens, shuts, stamps}
 use Rattle.epoch_core.proofs.JoinKeeps.{lends}
-use Rattle.epoch_core.proofs.DiaryKeeps.{plays_more, set_fit, one_fits}
+use Rattle.epoch_core.proofs.DiaryKeeps.{one_fits, plays_more, set_fit}
+use Rattle.epoch_core.specs.Script.{AllFit, BookFits, IsTime, MayLook, Reading, first_of, look_at, look_next, looked, next_owner, opening_book, owner_at, owner_place, owner_sum, plan_of, play_next, played, reads_on, rest_of}
 
 next_fits : (b : Book) → BookFits b → BookFits (play_next b)
 next_fits b f = by_rest b.rest f.script f.rest
@@ -60,12 +56,10 @@ more_loads look o r = refl
 loads_on : (plan : Plan) (n : ℕ) (looks : List Look) (r : ReaderState) → (reads_on plan n looks r).loads ≡ r.loads + length looks
 loads_on plan n [] r = omega arith
 loads_on plan n (look ∷ looks) r =
-    let rest = loads_on plan (n + 1) looks (look_at look (owner_at plan (n + 1)) r) in
-    let one = more_loads look (owner_at plan (n + 1)) r in
-    omega arith
+    let next = owner_at plan (n + 1) in omega (arith, loads_on plan (n + 1) looks (look_at look next r), more_loads look next r)
 
 pub loads_counted : (b : Book) → BookFits b → b.reader.loads ≡ length b.looks
-loads_counted b f = let on = loads_on b.plan 0 b.looks (newcomer b.plan.shape [] []) in let same = ap (λ (z : ReaderState). z.loads) f.looks in omega arith
+loads_counted b f = omega (arith, loads_on b.plan 0 b.looks (newcomer b.plan.shape [] []), ap (λ (z : ReaderState). z.loads) f.looks)
 
 reads_more : (plan : Plan) (n : ℕ) (looks : List Look) (look : Look) (r : ReaderState)
     → reads_on plan n (looks ++ look ∷ []) r ≡ look_at look (owner_at plan (n + length looks + 1)) (reads_on plan n looks r)
@@ -133,5 +127,4 @@ pub next_fits_memory : (b : Book) (events : List OwnerEvent) (done : ℕ) (x : O
     → x ≡ get_or events done x → BookFits b → b.owner.shape ≡ shape → items ≡ b.owner.words → Fits x shape items
 next_fits_memory b events done x shape items is l at f same words =
     let head : drop done events ≡ x ∷ drop (suc done) events = drop-cons events done x l ∙ ap (λ (z : OwnerEvent). z ∷ drop (suc done) events) (sym at) in
-    subst (λ (z : Shape × List ℕ). Fits x z.0 z.1) (λ j. (same j, sym words j))
-    (head_fits b.rest (drop (suc done) events) x b.owner (sym head ∙ is) f.owner f.rest)
+    rw (sym same) (rw words (head_fits b.rest (drop (suc done) events) x b.owner (sym head ∙ is) f.owner f.rest))

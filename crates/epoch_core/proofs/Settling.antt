@@ -1,10 +1,10 @@
 -- When a script is settled: by its last cut, and whether a write is under way.
-use Rattle.epoch_core.proofs.Vocabulary.{Bool, Idle, IsSettled, IsTrue, List, OwnerState, Phase, Rests, ap, arith, as_made, cut_at, false, get_or}
-use Rattle.epoch_core.proofs.Vocabulary.{is_writing, length, not, owner_at, plays, refl, sym, take, true, ℕ, ◌-◌, ◌<◌, ◌∙◌, ◌≡◌}
+use Rattle.epoch_core.proofs.Vocabulary.{Bool, Idle, IsTrue, List, OwnerState, Phase, Plan, ap, arith, as_made, false, get_or, length, not, plays}
+use Rattle.epoch_core.proofs.Vocabulary.{refl, sym, take, true, ℕ, ◌-◌, ◌<◌, ◌∙◌, ◌≡◌}
 use Rattle.epoch_core.specs.declared.scripted.Scripted.{Scripted}
-use Rattle.epoch_core.specs.declared.scripted.Plan.{Plan}
 use Rattle.epoch_core.specs.Seats.{book_of}
-use Rattle.epoch_core.proofs.Cuts.{still_at_last, last_of_still}
+use Rattle.epoch_core.proofs.Cuts.{last_of_still, still_at_last}
+use Rattle.epoch_core.specs.Script.{IsSettled, Rests, cut_at, is_writing, owner_at}
 
 idle_is : (phase : Phase) → is_writing phase ≡ false → phase ≡ Idle
 idle_is Idle e = refl

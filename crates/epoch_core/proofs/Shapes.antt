@@ -10,17 +10,13 @@ few_spares Cache spares less = (omega arith, λ is. omega arith)
 few_spares Store spares less = (less, λ is. cc)
 
 within_spares : (mode : Mode) (spares : ℕ) → spares ≤ 65536 → (mode ≡ Cache → spares ≡ 0) → spares ≤ spares_in mode 65536
-within_spares Cache spares less none = let zero_is = none refl in omega arith
+within_spares Cache spares less none = omega (arith, none refl)
 within_spares Store spares less none = less
-
-in_parts : (shape : Shape) → is_in_range shape ≡ true
-    → (is_power_of_two shape.buckets ≡ true) × (shape.buckets ≤ 65536) × (shape.spares ≤ spares_in shape.mode 65536)
-    × (256 ≤ shape.words) × (shape.words ≤ 1048576) × (1 ≤ shape.wear) × (shape.wear ≤ 68719476736)
-in_parts shape is = grind (arith, nat_tests, common_steps)
 
 pub valid_in_range : (shape : Shape) → is_in_range shape ≡ true → IsValidShape shape
 valid_in_range shape is =
-    let h = in_parts shape is in
+    let h : (is_power_of_two shape.buckets ≡ true) × (shape.buckets ≤ 65536) × (shape.spares ≤ spares_in shape.mode 65536)
+    × (256 ≤ shape.words) × (shape.words ≤ 1048576) × (1 ≤ shape.wear) × (shape.wear ≤ 68719476736) = grind (arith, nat_tests, common_steps) in
     let few = few_spares shape.mode shape.spares h.2 in record {
       ranges = record {
         partitions = (omega arith, omega arith);

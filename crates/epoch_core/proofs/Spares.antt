@@ -1,25 +1,11 @@
 -- An event goes to no word that a get of a bucket with no marked write needs.
-use Rattle.std.proofs.Common.{◌≡◌, ℕ, ◌+◌, ◌<◌, ◌≢◌, List, refl, sym, ◌∙◌, subst, arith}
-use Rattle.mica_words.specs.declared.entry.TheConstants.{SLOTS}
-use Rattle.mica_words.specs.Entry.{entry_offset}
-use Rattle.mica_model.specs.declared.write.Write.{Write}
-use Rattle.mica_model.specs.History.{State, cache_state, store_state, state_of}
-use Rattle.epoch_core.specs.declared.state.OwnerState.{OwnerState}
-use Rattle.epoch_core.specs.declared.state.Phase.{Phase}
-use Rattle.epoch_core.specs.declared.state.Phase.TheVariants.{Idle, Begun, Marked}
-use Rattle.epoch_core.specs.declared.event.Event.{Event}
-use Rattle.epoch_core.specs.declared.event.Event.TheVariants.{Begins, Marks, PutsWord, PutsEntry, PutsLink, Ends}
-use Rattle.epoch_core.specs.Shape.{IsMain}
-use Rattle.epoch_core.specs.Layout.{bucket_words, entries_at, item_at}
-use Rattle.epoch_core.specs.OwnerState.{options_in, marked_in}
-use Rattle.epoch_core.specs.Chain.{InChain}
-use Rattle.epoch_core.specs.LiveEntry.{HasLiveEntry}
-use Rattle.epoch_core.specs.StandsFor.{room_in, IsInRoom}
-use Rattle.epoch_core.specs.Events.{WhenMarked, IsItsBucket, BelongsTo, IsAllowed, place_of}
-use Rattle.epoch_core.specs.Reach.{IsReached, by_entry, by_link, by_item}
-use Rattle.epoch_core.specs.Kept.{Kept}
-use Rattle.epoch_core.proofs.Marked.{chain_bucket, marked_not, ends_main, its_bucket, its_inside}
-use Rattle.epoch_core.proofs.Places.{same_bucket, no_epoch, no_stamp, no_item, item_no_epoch}
+use Rattle.epoch_core.proofs.Vocabulary.{Begins, BelongsTo, Ends, Event, HasLiveEntry, InChain, IsAllowed, IsInRoom, IsItsBucket, IsMain, IsReached}
+use Rattle.epoch_core.proofs.Vocabulary.{Kept, List, Marked, Marks, OwnerState, Phase, PutsEntry, PutsLink, PutsWord, SLOTS, State, WhenMarked, Write}
+use Rattle.epoch_core.proofs.Vocabulary.{arith, bucket_words, by_entry, by_item, by_link, cache_state, entries_at, entry_offset, item_at, marked_in}
+use Rattle.epoch_core.proofs.Vocabulary.{options_in, place_of, refl, room_in, state_of, store_state, subst, sym, ℕ, ◌+◌, ◌<◌, ◌∙◌, ◌≡◌, ◌≢◌}
+use Rattle.epoch_core.proofs.Walks.{chain_bucket}
+use Rattle.epoch_core.proofs.Marked.{ends_main, its_bucket, its_inside, marked_not}
+use Rattle.epoch_core.proofs.Places.{item_no_epoch, no_epoch, no_item, no_stamp, same_bucket}
 
 -- A word of the marked write in cache mode is in no room of a live item of another, unmarked bucket: the one case that goes by the log.
 abbrev pub LogSpares : OwnerState → Type 0
@@ -37,7 +23,7 @@ module _ (o : OwnerState) (s : Kept o) (log : LogSpares o) where
     apart_slot : (e : Event) → IsAllowed e o → (c slot : ℕ) → InChain o other c → slot < bucket_words → entries_at o.shape c + slot ≢ place_of o.shape e
     apart_slot (Begins b) a c slot h x e = no_epoch o.shape b c slot a.main x e
     apart_slot (Marks write n) a c slot h x e = no_stamp o.shape c slot e
-    apart_slot (PutsWord p y) a c slot h x e = no_item o.shape c slot p (chain_bucket o s other c l h) x e
+    apart_slot (PutsWord p y) a c slot h x e = no_item o.shape c slot p (chain_bucket o s.chains other c l h) x e
     apart_slot (PutsEntry d t entry) a c slot h x e = let small = a.in_bucket in not_its d t a.its_bucket (omega arith) c slot h x e
     apart_slot (PutsLink d next) a c slot h x e = not_its d SLOTS a.its_bucket (omega arith) c slot h x e
     apart_slot (Ends b) a c slot h x e = no_epoch o.shape b c slot (ends_main o s o.phase refl b a.marked) x e
@@ -50,13 +36,12 @@ module _ (o : OwnerState) (s : Kept o) (log : LogSpares o) where
     apart_room (PutsWord p y) a c slot entry i h x e = puts o.phase refl a.its_word
       where
         puts : (phase : Phase) → o.phase ≡ phase → WhenMarked phase (λ b write before. BelongsTo o b write (state_of (options_in o) before) p) → ⊥
-        puts Idle is f = absurd f
-        puts (Begun b) is f = absurd f
         puts (Marked b write before) is f = by_state (state_of (options_in o) before) refl f
           where
             by_state : (now : State) → state_of (options_in o) before ≡ now → BelongsTo o b write now p → ⊥
             by_state (cache_state now) at f = log b write before now c slot entry other p is at f l (marked_not o s b other write before is none) h (i, x, e)
             by_state (store_state now) at f = f other c slot entry l (marked_not o s b other write before is none) h (i, x, e)
+        puts phase is f = absurd f
     apart_room (PutsEntry d t y) a c slot entry i h x e =
         let small = a.in_bucket in no_item o.shape d t (entry_offset entry + i) (its_inside o s o.phase refl d a.its_bucket) (omega arith) (sym e)
     apart_room (PutsLink d next) a c slot entry i h x e = no_item o.shape d SLOTS (entry_offset entry + i) (its_inside o s o.phase refl d a.its_bucket) (omega arith) (sym e)

@@ -1,21 +1,16 @@
 -- What a try's loads spell, while its bucket's epoch has not moved, is the machine's answer.
-use Rattle.epoch_core.proofs.Vocabulary.{AreBytes, Cell, Contains, Has, HasLiveEntry, InChain, IsAmong, IsLive, IsSpelt, Kept, List, None, Option}
-use Rattle.epoch_core.proofs.Vocabulary.{OwnerState, Some, Spells, StandsFor, State, TryKept, [], add-zero, answer_of, ap, arith, bucket_in, by_entry}
-use Rattle.epoch_core.proofs.Vocabulary.{by_item, by_link, cache_state, cell_at, entry_at, entry_in, epoch_in, fnv1a, header_key_len}
-use Rattle.epoch_core.proofs.Vocabulary.{header_value_len, inl, inr, item_at, item_in, item_size, length, link_at, link_in, option_map, options_in}
-use Rattle.epoch_core.proofs.Vocabulary.{packed, refl, slice_index, stamp_in, stamp_of, state_in, store_state, subst, suc, sym, unpacked, value_in}
-use Rattle.epoch_core.proofs.Vocabulary.{words_for, zero, ℕ, ◌+◌, ◌<◌, ◌∙◌, ◌∷◌, ◌≡◌, ◌≢◌}
-use Rattle.std.specs.FinMap.{get}
-use Rattle.mica_words.specs.Entry.{entry_offset}
-use Rattle.mica_words.proofs.Fields.{header_value_len-header_of}
-use Rattle.mica_words.proofs.ItemWords.{header_word, value_word, same_value}
+use Rattle.epoch_core.proofs.Vocabulary.{AreBytes, Cell, Contains, Has, HasKey, HasLiveEntry, InChain, IsAmong, IsLive, IsSpelt, Kept, List, None}
+use Rattle.epoch_core.proofs.Vocabulary.{Option, OwnerState, Some, Spells, StandsFor, State, Try, TryKept, [], answer_of, ap, arith, bucket_in}
+use Rattle.epoch_core.proofs.Vocabulary.{by_entry, by_item, by_link, cache_state, cell_at, entry_at, entry_in, entry_offset, epoch_in, fnv1a, get}
+use Rattle.epoch_core.proofs.Vocabulary.{header_key_len, header_value_len, inl, inr, item_at, item_in, item_size, length, link_at, link_in}
+use Rattle.epoch_core.proofs.Vocabulary.{option_map, options_in, packed, refl, same_value, slice_index, stamp_of, state_in, store_state, subst, suc}
+use Rattle.epoch_core.proofs.Vocabulary.{sym, unpacked, value_in, value_word, words_for, zero, ℕ, ◌+◌, ◌<◌, ◌∙◌, ◌∷◌, ◌≡◌, ◌≢◌}
 use Rattle.mica_model.specs.Cache.{Record, record_of}
-use Rattle.epoch_core.specs.declared.reader.Try.{Try}
-use Rattle.epoch_core.specs.Spelt.{HasLoad, HasLinks, ShowsOther, by_offset, by_key_len, by_value_len, by_hash, by_key_word, ShowsItem, IsNoEntryOf, by_tag, by_stamp, by_item as by_other, SpellsAnswer}
-use Rattle.epoch_core.specs.ItemAt.{HasKey}
+use Rattle.epoch_core.specs.Spelt.{HasLinks, HasLoad, IsNoEntryOf, ShowsItem, ShowsOther, SpellsAnswer, by_hash, by_item as by_other, by_key_len, by_key_word, by_offset, by_stamp, by_tag, by_value_len}
 use Rattle.epoch_core.proofs.Machine.{Fits, found_record, has_fits}
-use Rattle.epoch_core.proofs.Keys.{has_its_key, has_no_other}
-use Rattle.epoch_core.proofs.Failing.{in_cons, in_none, in_head, in_tail}
+use Rattle.epoch_core.proofs.Keys.{has_its_key, has_no_other, header_there}
+use Rattle.epoch_core.proofs.Failing.{in_cons, in_head, in_none, in_tail}
+use Rattle.mica_words.proofs.Fields.{header_value_len-header_of}
 
 -- what the machine has is its answer, and the other way round
 
@@ -82,34 +77,25 @@ module _ (o : OwnerState) (s : Kept o) (t : Try) (k : TryKept o t) (still : epoc
     header_now : (x : ℕ) → HasLoad t.loads (item_at o.shape (entry_offset entry)) x → item_in o (entry_offset entry) ≡ x
     header_now x load = word_now 0 (entry_offset entry) x (omega arith) (omega arith) load
 
-    hash_now : (x : ℕ) → HasLoad t.loads (item_at o.shape (entry_offset entry + 1)) x → item_in o (entry_offset entry + 1) ≡ x
-    hash_now x load = word_now 1 (entry_offset entry + 1) x refl (omega arith) load
-
-    key_now : (i x : ℕ) → i < words_for (length key) → HasLoad t.loads (item_at o.shape (entry_offset entry + 2 + i)) x
-        → item_in o (entry_offset entry + 2 + i) ≡ x
-    key_now i x l load = word_now (2 + i) (entry_offset entry + 2 + i) x (omega arith) (omega arith) load
-
     value_len_is : (x : ℕ) → HasLoad t.loads (item_at o.shape (entry_offset entry)) x → header_value_len x ≡ length cell.value
     value_len_is x load =
-        let key_fits = fits.0 in
-        ap header_value_len (sym (header_now x load) ∙ ap (item_in o) (sym (add-zero (entry_offset entry)))
-        ∙ sp.item 0 (omega arith) ∙ header_word cell.room key cell.value)
-        ∙ header_value_len-header_of cell.room (length key) (length cell.value) fits.5 (omega arith)
+        ap header_value_len (sym (header_now x load) ∙ header_there o (entry_offset entry) key cell sp.item)
+        ∙ header_value_len-header_of cell.room (length key) (length cell.value) fits.5 (omega (arith, fits.0))
 
     value_word_is : (i x n : ℕ) → n ≡ words_for (length key) → i < words_for (length cell.value)
         → HasLoad t.loads (item_at o.shape (entry_offset entry + 2 + n + i)) x → slice_index (packed cell.value) i ≡ x
     value_word_is i x n same l load =
-        let place : entry_offset entry + 2 + n + i ≡ entry_offset entry + (2 + words_for (length key) + i) = omega arith in
-        sym (value_word cell.room key cell.value i l) ∙ sym (sp.item (2 + words_for (length key) + i) (omega arith))
-        ∙ ap (item_in o) (sym place) ∙ word_now (2 + words_for (length key) + i) (entry_offset entry + 2 + n + i) x place (omega arith) load
+        let at = 2 + words_for (length key) + i in
+        let place : entry_offset entry + 2 + n + i ≡ entry_offset entry + at = omega arith in
+        sym (value_word cell.room key cell.value i l) ∙ sym (sp.item at (omega arith)) ∙ rw (sym place) (word_now at _ x place (omega arith) load)
 
     -- they do not tell that it is another key's
     not_other : ¬ (ShowsOther o.shape t.loads (entry_offset entry) key)
     not_other (by_offset out) = out sp.offset
     not_other (by_key_len x load other) = other (ap header_key_len (sym (header_now x load)) ∙ its_key.len)
-    not_other (by_value_len x load long) = let short = fits.2 in let is = value_len_is x load in omega arith
-    not_other (by_hash x load other) = other (sym (hash_now x load) ∙ its_key.hash)
-    not_other (by_key_word i x l load other) = other (sym (key_now i x l load) ∙ its_key.words i l)
+    not_other (by_value_len x load long) = omega (arith, fits.2, value_len_is x load)
+    not_other (by_hash x load other) = other (sym (word_now 1 (entry_offset entry + 1) x refl (omega arith) load) ∙ its_key.hash)
+    not_other (by_key_word i x l load other) = other (sym (word_now (2 + i) _ x (omega arith) (omega arith) load) ∙ its_key.words i l)
 
     -- where they tell that it is a key's, it is, with that value
     is_item : (key' value : List ℕ) → AreBytes key' → ShowsItem o.shape t.loads (entry_offset entry) key' value → (key ≡ key') × (cell.value ≡ value)
@@ -124,20 +110,17 @@ module _ (o : OwnerState) (s : Kept o) (t : Try) (k : TryKept o t) (still : epoc
         (subst (λ (z : ℕ). i < z) long l) (shows.value_words i l))) in (
           has_no_other o s t.bucket entry key cell sp key' bytes record {
             len = len;
-            hash = hash_now (fnv1a key') shows.hash;
-            words = λ i l. key_now i (slice_index (packed key') i) (subst (λ (z : ℕ). i < words_for z) (sym one) l) (shows.key_words i l);
+            hash = word_now 1 (entry_offset entry + 1) (fnv1a key') refl (omega arith) shows.hash;
+            words = λ i l. word_now (2 + i) _ (slice_index (packed key') i) (omega arith) (omega (arith, one, l)) (shows.key_words i l);
           },
           sym held ∙ (ap (λ (z : ℕ). unpacked z shows.words) two ∙ shows.held),
         )
-
-  live_now : (entry : ℕ) → IsLive o.shape (stamp_in o) entry → IsLive o.shape (stamp_of (options_in o) o.history) entry
-  live_now entry live = subst (λ (z : ℕ). IsLive o.shape z entry) s.stamp live
 
   -- a live entry of the key's is not shows to be none
   is_one : (c slot entry : ℕ) (h : HasLiveEntry o t.bucket c slot entry) (key : List ℕ) (cell : Cell) → Spells o t.bucket entry key cell
       → ¬ (IsNoEntryOf o.shape t.loads (stamp_of (options_in o) o.history) key entry)
   is_one c slot entry h key cell sp (by_tag other) = other sp.tag
-  is_one c slot entry h key cell sp (by_stamp dead) = dead (live_now entry h.live)
+  is_one c slot entry h key cell sp (by_stamp dead) = dead (subst (λ (z : ℕ). IsLive o.shape z entry) s.stamp h.live)
   is_one c slot entry h key cell sp (by_other shows) = not_other c slot entry h key cell sp shows
 
   told_answer : (key : List ℕ) → AreBytes key → bucket_in o key ≡ t.bucket → (value : Option (List ℕ))
@@ -150,8 +133,7 @@ module _ (o : OwnerState) (s : Kept o) (t : Try) (k : TryKept o t) (still : epoc
       let h = at.3 in
       let shows = spell.shows at.0 at.1 (meets o.shape.spares t.bucket spell.behind (λ c h. h) spell.links at.0 h.in_chain) h.in_bucket in
       let same : shows.0 ≡ at.2 = sym (entry_now at.0 at.1 shows.0 h.in_chain h.in_bucket shows.1) ∙ h.found in
-      absurd (is_one at.0 at.1 at.2 h key has.0 at.4
-      (subst (IsNoEntryOf o.shape t.loads (stamp_of (options_in o) o.history) key) same shows.2))
+      absurd (is_one at.0 at.1 at.2 h key has.0 at.4 (rw same at shows.2))
   told_answer key bytes bucket (Some value) spell now is =
       let entry = spell.shows.0 in
       let at = spell.shows.1 in

@@ -4,16 +4,16 @@ pub use native.Mathlib.Decide.{ℕ_discrete}
 pub use Rattle.std.proofs.Common.{Bool, List, None, Option, Some, [], add-zero, ap, append_assoc, arith, cond, count_by, drop, drop-cons, eq-eqb}
 pub use Rattle.std.proofs.Common.{false, get_or, get_or-set_other, get_or-set_same, if◌then◌else◌, inl, inr, is_some, le_refl, length, length-append}
 pub use Rattle.std.proofs.Common.{length-set, map, min, nat_eq, nat_lt, ne_eqb, not, refl, replicate, set, slice_index, subst, suc, sym, take, true}
-pub use Rattle.std.proofs.Common.{zero, ℕ, ⊎_elim, ◌%◌, ◌*◌, ◌++◌, ◌+◌, ◌-◌, ◌<◌, ◌^◌, ◌∙◌, ◌∷◌, ◌≡◌, ◌≢◌, ◌≤◌, ◌⊎◌}
-pub use Rattle.std.proofs.lemmas.Bool.{cases_lt, eqb-true, ltb-false, ltb-true}
+pub use Rattle.std.proofs.Common.{zero, ℕ, ⊎_elim, ◌%◌, ◌*◌, ◌++◌, ◌+◌, ◌-◌, ◌/◌, ◌<◌, ◌^◌, ◌∙◌, ◌∷◌, ◌≡◌, ◌≢◌, ◌≤◌, ◌⊎◌}
+pub use Rattle.std.proofs.lemmas.Bool.{cases_Bool, cases_lt, eqb-true, le-leb, ltb-false, ltb-true, true≢false}
 pub use Rattle.std.proofs.lemmas.List.{append-nil, drop_all, get_or_default, get_or_past, length-replicate, set-get_or}
-pub use Rattle.std.proofs.lemmas.List.Elements.{All-contains, All-from_recursion, Contains-append_cases, Contains-push_cases}
-pub use Rattle.std.specs.Prelude.{Contains, IfSome, IsTrue, option_map, unwrap_or}
-pub use Rattle.mica_words.specs.Hash.{bucket_of, fnv1a}
+pub use Rattle.std.proofs.lemmas.List.Elements.{All-contains, All-from_recursion, Contains-append_cases, Contains-append_left, Contains-push_cases}
+pub use Rattle.std.specs.Prelude.{AllPairs, Contains, IfSome, IsTrue, option_map}
+pub use Rattle.mica_words.specs.Hash.{bucket_of, fnv1a, tag_of}
 pub use Rattle.mica_words.specs.Header.{header_key_len, header_of, header_room, header_value_len}
 pub use Rattle.mica_words.specs.Item.{KeyFits, ValueFits, item_size, words_for}
 pub use Rattle.mica_words.specs.Packing.{AreBytes, packed, unpacked}
-pub use Rattle.mica_model.proofs.Histories.{cached_in, history_snoc, state_snoc, stored_in}
+pub use Rattle.mica_model.proofs.Histories.{accepted_is_length, cached_in, history_snoc, state_snoc, stored_in}
 pub use Rattle.mica_model.specs.History.{History, IsPrefix, MayGive, State, answer_of, cache_state, stamp_of, start, state_of, store_state, value_in}
 pub use Rattle.mica_model.specs.History.{writes_to_bucket}
 pub use Rattle.mica_model.specs.Store.{Cell}
@@ -21,23 +21,21 @@ pub use Rattle.mica_model.specs.declared.options.Mode.{Mode}
 pub use Rattle.mica_model.specs.declared.options.Mode.TheVariants.{Cache, Store}
 pub use Rattle.mica_model.specs.declared.write.Write.{Write}
 pub use Rattle.epoch_core.specs.Chain.{HasChains, InChain, IsAmong, IsDense, IsFreeSpare}
-pub use Rattle.epoch_core.specs.Events.{CanPlay, IsAllowed, MayPutWord, WhenMarked, after, history_after, item_events, phase_after, place_of, plays}
-pub use Rattle.epoch_core.specs.Events.{puts_from, word_after}
+pub use Rattle.epoch_core.specs.Events.{BelongsTo, CanPlay, IsAllowed, IsItsBucket, MayBegin, MayEnd, MayMark, MayPutLink, MayPutWord, SparesOthers}
+pub use Rattle.epoch_core.specs.Events.{WhenMarked, after, history_after, item_events, phase_after, place_of, plays, puts_from, word_after}
+pub use Rattle.epoch_core.specs.Events.{words_after}
 pub use Rattle.epoch_core.specs.Failures.{FailsFit, IsFailure, failure}
 pub use Rattle.epoch_core.specs.Grows.{Grows}
 pub use Rattle.epoch_core.specs.Kept.{IsLawfulHistory, Kept, PhaseFits}
-pub use Rattle.epoch_core.specs.Layout.{entry_at, epoch_at, item_at, link_at, stamp_at, word_count}
+pub use Rattle.epoch_core.specs.Layout.{bucket_words, entries_at, entry_at, epoch_at, item_at, link_at, stamp_at, word_count}
 pub use Rattle.epoch_core.specs.LiveEntry.{HasLiveEntry, IsLive, IsLiveItem}
 pub use Rattle.epoch_core.specs.OwnerState.{as_made, begun_in, bucket_in, entry_in, epoch_in, item_in, link_in, marked_in, options_in, stamp_in}
 pub use Rattle.epoch_core.specs.OwnerState.{state_in, writes_in}
 pub use Rattle.epoch_core.specs.Reach.{IsReached, by_entry, by_item, by_link}
-pub use Rattle.epoch_core.specs.ReaderKept.{CutKept, IsSpelt, ReaderKept, Tells, TellsTry, TryKept}
+pub use Rattle.epoch_core.specs.ReaderKept.{IsSpelt, ReaderKept, Tells, TellsTry, TryKept}
 pub use Rattle.epoch_core.specs.ReaderState.{fails_after, loaded, new_try, newcomer, opened, shut, stamped, with_cut, with_load}
-pub use Rattle.epoch_core.specs.Script.{AllFit, BookFits, IsSettled, IsTime, MayLook, NoneAbove, Reading, Rests, Rises, cut_at, first_of, is_writing}
-pub use Rattle.epoch_core.specs.Script.{look_at, look_next, looked, next_owner, opening_book, owner_at, owner_place, owner_sum, plan_of, play_next}
-pub use Rattle.epoch_core.specs.Script.{played, reads_on, rest_of}
-pub use Rattle.epoch_core.specs.Shape.{IsBucket, IsMain, IsValidShape, is_in_range, options_of, shape_of, spares_in}
-pub use Rattle.epoch_core.specs.StandsFor.{Has, HasChain, IsInRoom, RoomsApart, Spells, StandsFor, cell_at, room_in}
+pub use Rattle.epoch_core.specs.Shape.{IsBucket, IsMain, IsSpare, IsValidShape, is_in_range, options_of, shape_of, spares_in}
+pub use Rattle.epoch_core.specs.StandsFor.{Has, HasChain, IsInRoom, IsOffset, RoomsApart, Spells, SpellsItem, StandsFor, cell_at, room_in}
 pub use Rattle.epoch_core.specs.declared.event.Event.{Event}
 pub use Rattle.epoch_core.specs.declared.event.Event.TheVariants.{Begins, Ends, Marks, PutsEntry, PutsLink, PutsWord}
 pub use Rattle.epoch_core.specs.declared.reader.ReaderState.{ReaderState}
@@ -45,3 +43,27 @@ pub use Rattle.epoch_core.specs.declared.shape.Shape.{Shape}
 pub use Rattle.epoch_core.specs.declared.state.OwnerState.{OwnerState}
 pub use Rattle.epoch_core.specs.declared.state.Phase.{Phase}
 pub use Rattle.epoch_core.specs.declared.state.Phase.TheVariants.{Begun, Idle, Marked}
+pub use Rattle.epoch_core.specs.Diary.{DiaryFits, blank_diary, diary_after, event_of, happened, knows, owner_event}
+pub use Rattle.epoch_core.specs.ItemAt.{HasKey, HasKeyWords}
+pub use Rattle.epoch_core.specs.Joins.{ended_in, known, lent, longer, met_by, note_of, told}
+pub use Rattle.epoch_core.specs.declared.reader.Try.{Try}
+pub use Rattle.epoch_core.specs.declared.scripted.Book.{Book}
+pub use Rattle.epoch_core.specs.declared.scripted.Plan.{Plan}
+pub use Rattle.mica_model.specs.Options.{InRange, IsValid}
+pub use Rattle.mica_model.specs.Write.{IsWrite, is_accepted, write_of}
+pub use Rattle.mica_model.specs.declared.options.Options.{Options}
+pub use Rattle.mica_model.specs.declared.write.Outcome.{Outcome}
+pub use Rattle.mica_model.specs.declared.write.Outcome.TheVariants.{FullBlock, FullSpare, Stored, Worn}
+pub use Rattle.mica_words.proofs.Hashes.{bucket_of-below}
+pub use Rattle.mica_words.proofs.ItemWords.{hash_word, header_word, packed_key_word, same_value, value_word}
+pub use Rattle.mica_words.proofs.PackedBytes.{length-packed, same_from_words}
+pub use Rattle.mica_words.specs.Entry.{entry_offset, entry_tag}
+pub use Rattle.mica_words.specs.Stamp.{tail_of}
+pub use Rattle.mica_words.specs.declared.entry.TheConstants.{SLOTS}
+pub use Rattle.std.proofs.Math.Nat.{div-add-mod, mod-lt, mul-le-mul_left, mul-suc}
+pub use Rattle.std.proofs.lemmas.List.Sums.{count_by-le-length, sum_by_push}
+pub use Rattle.std.proofs.lemmas.Nat.{pow_pos}
+pub use Rattle.std.specs.FinMap.{get, get-empty}
+pub use Rattle.std.specs.List.{AllByRecursion, fold, range_with_len}
+pub use Rattle.epoch_core.specs.declared.state.Failure.{Failure}
+pub use Rattle.std.proofs.lemmas.Option.{IfSome_then, same_Some}

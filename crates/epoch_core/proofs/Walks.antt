@@ -1,13 +1,7 @@
 -- The chain of a bucket, its first buckets and its end, told by the list of the spares behind it.
-use Rattle.std.proofs.Common.{◌≡◌, ℕ, zero, suc, ◌≤◌, inl, inr, ◌⊎◌, List, [], ◌∷◌, length, refl, sym, ◌∙◌, subst, arith}
-use Rattle.std.specs.Prelude.{Contains}
-use mathlib.Core.Logic.{dite}
-use native.Mathlib.Decide.{ℕ_discrete}
-use Rattle.epoch_core.specs.declared.state.OwnerState.{OwnerState}
-use Rattle.epoch_core.specs.declared.shape.Shape.{Shape}
-use Rattle.epoch_core.specs.Shape.{IsMain, IsSpare, IsBucket}
-use Rattle.epoch_core.specs.OwnerState.{link_in}
-use Rattle.epoch_core.specs.Chain.{IsAmong, EndsWithin, InChain, ChainEnds, HasChains}
+use Rattle.epoch_core.proofs.Vocabulary.{Contains, HasChains, InChain, IsAmong, IsBucket, IsMain, IsSpare, List, OwnerState, Shape, [], arith, dite}
+use Rattle.epoch_core.proofs.Vocabulary.{inl, inr, length, link_in, refl, subst, suc, sym, zero, ℕ, ℕ_discrete, ◌∙◌, ◌∷◌, ◌≡◌, ◌≤◌, ◌⊎◌}
+use Rattle.epoch_core.specs.Chain.{EndsWithin, ChainEnds}
 use Rattle.epoch_core.proofs.Failing.{in_cons, in_head, in_tail, in_none}
 use Rattle.epoch_core.proofs.Behind.{AreBehind, behind_differ}
 use Rattle.epoch_core.proofs.Counted.{at_most}
@@ -36,8 +30,7 @@ module _ (o : OwnerState) where
   among zero x (d ∷ ds) h few c i = absurd (omega arith)
   among (suc n) x (d ∷ ds) h few c i = elim (in_cons x c (d ∷ ds) i) [
     | inl is ↦ inl is
-    | inr more ↦
-        inr (λ none. h.1 (sym h.0 ∙ none), subst (λ (z : ℕ). IsAmong o (suc n) z c) (sym h.0) (among n d ds h.2 (omega arith) c more))
+    | inr more ↦ inr (λ none. h.1 (sym h.0 ∙ none), rw h.0 (among n d ds h.2 (omega arith) c more))
   ]
 
 -- These are the spares behind the main bucket b.
@@ -78,3 +71,6 @@ module _ (o : OwnerState) (links : (c : ℕ) → IsBucket o.shape c → (link_in
 
 pub chain_there : (o : OwnerState) → HasChains o → (b : ℕ) → IsMain o.shape b → (cs : List ℕ) × IsChain o b cs
 chain_there o s b main = let list = listed_to_end o (suc o.shape.spares) b (s.end b main) in (list.0, chain_of o s.links b list.0 main list.1)
+
+pub chain_bucket : (o : OwnerState) → HasChains o → (b c : ℕ) → IsMain o.shape b → InChain o b c → IsBucket o.shape c
+chain_bucket o s b c main h = let chain = chain_there o s b main in inside o b chain.0 chain.1 main c (has_bucket o b chain.0 chain.1 c h)

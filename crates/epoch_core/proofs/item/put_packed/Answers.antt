@@ -1,5 +1,5 @@
-use Rattle.epoch_core.proofs.Vocabulary.{Event, List, PutsWord, [], ap, arith, drop, drop_all, packed, plays, puts_from, sym, ◌+◌, ◌∙◌, ◌∷◌, ◌≡◌}
-use Rattle.mica_words.proofs.PackedBytes.{length-packed}
+use Rattle.epoch_core.proofs.Vocabulary.{Event, List, PutsWord, ap, arith, drop, drop_all, length-packed, packed, plays, puts_from, sym, ◌+◌, ◌∙◌}
+use Rattle.epoch_core.proofs.Vocabulary.{◌∷◌, ◌≡◌}
 use Rattle.epoch_core.proofs.Puts.{next_put}
 use Rattle.epoch_core.proofs.item.put_packed.Given.{Over}
 use Rattle.epoch_core.proofs.item.put_packed.Goals.{After-packed_word}
@@ -29,6 +29,5 @@ loop-i-preserved g c =
 pub returns-clause-events : goal.returns-clause-events
 returns-clause-events g c =
     let xs = packed c.args.bytes.now in
-    let none : drop c.loop-i.i xs ≡ [] =
-    drop_all c.loop-i.i xs (omega (arith, length-packed c.args.bytes.now, c.loop-i-test.false, c.div_ceil-i-end.ensures)) in
+    let none = drop_all c.loop-i.i xs (omega (arith, length-packed c.args.bytes.now, c.loop-i-test.false, c.div_ceil-i-end.ensures)) in
     sym (ap (λ ys. plays (puts_from (c.args.offset + c.loop-i.i) ys) (g.W.OwnerWords.owner c.loop-i.words)) none) ∙ c.loop-i.invariant.leads

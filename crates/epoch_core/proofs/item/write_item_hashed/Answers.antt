@@ -1,5 +1,4 @@
-use Rattle.epoch_core.proofs.Vocabulary.{arith, length, packed, plays, puts_from, ◌+◌, ◌∙◌, ◌≡◌}
-use Rattle.mica_words.proofs.PackedBytes.{length-packed}
+use Rattle.epoch_core.proofs.Vocabulary.{arith, length, length-packed, packed, plays, puts_from, ◌+◌, ◌∙◌, ◌≡◌}
 use Rattle.epoch_core.proofs.ItemEvents.{CanPut, keyed, can_put_parts, all_put}
 use Rattle.epoch_core.proofs.item.write_item_hashed.Given.{Over}
 use Rattle.epoch_core.proofs.item.write_item_hashed.Goals.{Start, After-from}
@@ -51,8 +50,7 @@ put_packed-requires-clause-low g c = omega (arith, (can g (goal.at.put_packed-re
 
 pub overflow_add-offset-3 : goal.overflow_add-offset-3
 overflow_add-offset-3 g c =
-    let low = (can g (goal.at.overflow_add-offset-3 g c).Start).header.low in
-    omega (arith, low, c.requires.key, c.from.ensures, c.item_size.ensures)
+    omega (arith, (can g (goal.at.overflow_add-offset-3 g c).Start).header.low, c.requires.key, c.from.ensures, c.item_size.ensures)
 
 pub put_packed-requires-2-clause-low : goal.put_packed-requires-2-clause-low
 put_packed-requires-2-clause-low g c =

@@ -1,5 +1,4 @@
-use Rattle.mica_model.specs.Write.{write_of}
-use Rattle.epoch_core.specs.Diary.{event_of}
+use Rattle.epoch_core.proofs.Vocabulary.{event_of, write_of}
 use Rattle.epoch_core.proofs.plain.PlainWordsOwnerWords.begin_write.Given as goal
 
 abbrev pub ghosts-happen : goal.ghosts-happen
