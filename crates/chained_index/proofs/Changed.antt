@@ -1,13 +1,13 @@
 -- What a change of one chain makes of all chains, and of the index.
-use Rattle.chained_index.proofs.Words.{arith, ◌↔◌, ◌≡◌, ◌≢◌, ℕ, inl, inr, List, ◌∷◌, ◌++◌, length, sym, ◌∙◌, subst, Contains, dite, ℕ_discrete, OwnerState}
-use Rattle.chained_index.proofs.Words.{link_in, IsMain, IsSpare, InChain, IsFreeSpare, ChangesOnlyIndex, in_cons, in_tail, ChangesChain}
+use Rattle.chained_index.proofs.Words.{arith, ◌↔◌, ◌≡◌, ◌≢◌, ℕ, inl, inr, List, ◌∷◌, ◌++◌, length, sym, ◌∙◌, subst, Contains, dite, ℕ_discrete}
+use Rattle.chained_index.proofs.Words.{OwnerState, link_in, IsMain, IsSpare, InChain, IsFreeSpare, ChangesOnlyIndex, in_cons, in_tail, ChangesChain}
 use Rattle.chained_index.proofs.Words.{Index, IsBlank, IsIndexOf, AreBehind, IsChain, has_bucket, in_chain, chain_of, behind_differ, not_main}
 use Rattle.chained_index.proofs.Words.{listed_or_not, IsPermutation, IsPermutation-sym, Contains-permutation, Contains-append_left}
 use Rattle.chained_index.proofs.Words.{Contains-append_right, Contains-append_cases}
 use Rattle.chained_index.proofs.Lists.{AllDiffer, differ_moved, differ_joined, differ_first, differ_apart}
 use Rattle.chained_index.proofs.Chained.{Chained, chain_on, chain_back}
 use Rattle.chained_index.proofs.Filled.{SameBucket, IsFilled, View, entries_are, dense_there}
-use Rattle.chained_index.proofs.Frames.{chain_kept, dense_kept}
+use Rattle.chained_index.proofs.Stays.{chain_kept, dense_kept}
 
 module _ (o : OwnerState) (index : Index) (b : ℕ) (v : View o index b) where
   -- the free spares and those behind a bucket all differ

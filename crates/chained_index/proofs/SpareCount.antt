@@ -1,8 +1,8 @@
 -- All spare buckets are free or behind a main bucket, each in one place.
-use Rattle.chained_index.proofs.Words.{◌↔◌, ◌≡◌, ℕ, zero, suc, ◌+◌, ◌≤◌, inl, inr, List, ◌++◌, length, refl, ap, arith, length-append}
-use Rattle.chained_index.proofs.Words.{Contains, Contains-append_left, Contains-append_right, Contains-append_cases, Cells, keys_in}
-use Rattle.chained_index.proofs.Words.{spares_behind, spares_below, spares_in_use, OwnerState, link_in, IsMain, IsSpare, InChain, entries_of, Index}
-use Rattle.chained_index.proofs.Words.{IsIndexOf, in_tail, in_chain, has_bucket, not_main, behind_differ, listed_or_not, all_there}
+use Rattle.chained_index.proofs.Words.{◌↔◌, ◌≡◌, ℕ, zero, suc, ◌+◌, ◌≤◌, inl, inr, List, ◌++◌, length, refl, ap, arith, length-append, Contains}
+use Rattle.chained_index.proofs.Words.{Contains-append_left, Contains-append_right, Contains-append_cases, Cells, keys_in, spares_behind}
+use Rattle.chained_index.proofs.Words.{spares_below, spares_in_use, OwnerState, link_in, IsMain, IsSpare, InChain, entries_of, Index, IsIndexOf}
+use Rattle.chained_index.proofs.Words.{in_tail, in_chain, has_bucket, not_main, behind_differ, listed_or_not, all_there}
 use Rattle.chained_index.proofs.Lists.{AllDiffer, differ_joined}
 use Rattle.chained_index.proofs.Chained.{Chained}
 use Rattle.chained_index.proofs.Filled.{view}

@@ -1,12 +1,12 @@
 -- The stores of a call in a chain: entries are added, changed or dropped, a spare bucket is taken or released.
-use Rattle.chained_index.proofs.Words.{Kept, bucket_words, SLOTS, ◌≡◌, ◌≢◌, ℕ, suc, ◌+◌, ◌*◌, ◌<◌, inl, inr, ◌⊎◌, List, [], ◌∷◌, ◌++◌, length, refl, sym}
-use Rattle.chained_index.proofs.Words.{ap, ◌∙◌, subst, arith, length-set, Contains, append_assoc, all_pairs_push, get_or, common_steps, get_or_past}
-use Rattle.chained_index.proofs.Words.{Contains-push_cases, Contains-append_left, Contains-get_or, spares_behind, OwnerState, PutsEntry, PutsLink}
-use Rattle.chained_index.proofs.Words.{IsBucket, entry_at, entry_in, link_in, InChain, IsFreeSpare, after, words_after, word_count, entry_puts}
-use Rattle.chained_index.proofs.Words.{entry_puts_other, entry_puts_link, link_puts_entry, link_puts, link_puts_other, entries_of, in_tail}
-use Rattle.chained_index.proofs.Words.{ChangesOnlyIndex, Index, IsBlank, in_chain, inside, AreBehind, all_differ, same_behind, relinked, last_of}
-use Rattle.chained_index.proofs.Words.{last_in, IsPermutation, IsPermutation-refl, IsPermutation-append_comm, IsPermutation-append_right, Event}
-use Rattle.chained_index.proofs.Words.{place_of, entries_at, stamp_at, item_at, no_stamp, no_item, epoch_at, no_epoch, other}
+use Rattle.chained_index.proofs.Words.{Kept, bucket_words, SLOTS, ◌≡◌, ◌≢◌, ℕ, suc, ◌+◌, ◌*◌, ◌<◌, inl, inr, ◌⊎◌, List, [], ◌∷◌, ◌++◌, length, refl}
+use Rattle.chained_index.proofs.Words.{sym, ap, ◌∙◌, subst, arith, length-set, Contains, append_assoc, all_pairs_push, get_or, common_steps}
+use Rattle.chained_index.proofs.Words.{get_or_past, Contains-push_cases, Contains-append_left, Contains-get_or, spares_behind, OwnerState, PutsEntry}
+use Rattle.chained_index.proofs.Words.{PutsLink, IsBucket, entry_at, entry_in, link_in, InChain, IsFreeSpare, after, words_after, word_count}
+use Rattle.chained_index.proofs.Words.{entry_puts, entry_puts_other, entry_puts_link, link_puts_entry, link_puts, link_puts_other, entries_of}
+use Rattle.chained_index.proofs.Words.{in_tail, ChangesOnlyIndex, Index, IsBlank, in_chain, inside, AreBehind, all_differ, same_behind, relinked}
+use Rattle.chained_index.proofs.Words.{last_of, last_in, IsPermutation, IsPermutation-refl, IsPermutation-append_comm, IsPermutation-append_right}
+use Rattle.chained_index.proofs.Words.{Event, place_of, entries_at, stamp_at, item_at, no_stamp, no_item, epoch_at, no_epoch, other}
 use Rattle.chained_index.proofs.Lists.{at, AllUsed, AllDiffer, one_place}
 use Rattle.chained_index.proofs.Chained.{chained}
 use Rattle.chained_index.proofs.Filled.{View}

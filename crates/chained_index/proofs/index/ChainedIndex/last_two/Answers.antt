@@ -2,8 +2,8 @@ use Rattle.chained_index.proofs.Words.{◌≡◌, ◌∙◌, refl, ap, arith, ru
 use Rattle.chained_index.proofs.Filled.{View, view_read}
 use Rattle.chained_index.proofs.Walking.{at_first, one_further, at_end, at_last, behind_further, ends_in}
 use Rattle.chained_index.proofs.index.ChainedIndex.last_two.Given.{Over}
-use Rattle.chained_index.proofs.index.ChainedIndex.last_two.Goals as goal
 use Rattle.chained_index.proofs.index.ChainedIndex.last_two.Goals.{After-read-next}
+use Rattle.chained_index.proofs.index.ChainedIndex.last_two.Goals as goal
 
 pub loop-link-init : goal.loop-link-init
 loop-link-init g c = record { owner = refl; home = refl; walk = at_first _ c.args.bucket c.requires.bucket; behind = λ k e. absurd (omega arith) }

@@ -4,8 +4,8 @@ use Rattle.chained_index.proofs.Chained.{chained}
 use Rattle.chained_index.proofs.Allowed.{may_enter, may_link, still_in}
 use Rattle.chained_index.proofs.Calls.{Call, call_at, end_in_chain, end_inside, before_in_chain, used_some, release_room, drop, release}
 use Rattle.chained_index.proofs.index.ChainedIndex.remove.Given.{Over}
-use Rattle.chained_index.proofs.index.ChainedIndex.remove.Goals as goal
 use Rattle.chained_index.proofs.index.ChainedIndex.remove.Goals.{After-end_of-end, After-put_entry}
+use Rattle.chained_index.proofs.index.ChainedIndex.remove.Goals as goal
 
 call : (g : Over) (c : After-end_of-end g) → Call (g.W.OwnerWords.owner c.args.words.now) c.args.self.now c.args.bucket c.end_of-end.result
 call g c = call_at _ _ _ _ _ c.end_of-end.ensures.same c.end_of-end.ensures.kept c.requires.index c.requires.bucket c.end_of-end.ensures.end
