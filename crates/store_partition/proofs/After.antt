@@ -5,7 +5,7 @@ use Rattle.store_partition.proofs.Words.{AcceptedWrite, AreParts, Block, Cell, C
 use Rattle.store_partition.proofs.Words.{Contains-append_left, Contains-append_right, Contains-get_or, Contains-permutation, Ends, Has, Index}
 use Rattle.store_partition.proofs.Words.{IsDistinct, IsIndexOf, IsMain, IsPermutation, IsPermutation-sym, Keeps, Kept, List, OwnerState, RoomsApart}
 use Rattle.store_partition.proofs.Words.{Some, Spells, StandsFor, after_event, ap, arith, at, bucket_in, cells_of, chained, dite, entries_of}
-use Rattle.store_partition.proofs.Words.{entry_offset, eqb, get, get_or_default, index_ends, inl, inr, keys_in, len, length, length-append}
+use Rattle.store_partition.proofs.Words.{entry_offset, eqb, get, get_or_default, index_ends, entries_ends, inl, inr, keys_in, len, length, length-append}
 use Rattle.store_partition.proofs.Words.{length_permutation, only_key, others_same, refl, room_in, room_of, room_same, rooms, same_cell}
 use Rattle.store_partition.proofs.Words.{same_or_other, spells_on, stands_by, state_in, subst, sum_by-IsPermutation, sym, used_block, used_blocks}
 use Rattle.store_partition.proofs.Words.{words_of, words_of-append, written, ℕ, ℕ_discrete, ◌++◌, ◌+◌, ◌<◌, ◌∙◌, ◌≡◌, ◌≢◌, ◌≤◌, ◌⊎◌}
@@ -13,7 +13,7 @@ use Rattle.store_partition.proofs.Lists.{Heap, in_one, once_at, once_front, once
 use Rattle.store_partition.proofs.Cells.{exchanges, one_or_none}
 use Rattle.store_partition.proofs.Held.{HasBlock, Held, IsOther, Split, as_cells, as_keys, as_rooms, before, each, has_cell, m, once, one_entry}
 use Rattle.store_partition.proofs.Held.{other_bucket, rooms_apart, stood, used}
-use Rattle.store_partition.proofs.Events.{Base, Closes, closes, entries_ends, main, now, room_ends}
+use Rattle.store_partition.proofs.Events.{Base, Closes, closes, main, now, room_ends}
 
 -- the machine's cells after the write
 abbrev pub later : (h : Held) → AcceptedWrite h.o → Cells
@@ -201,13 +201,13 @@ module _ (h : Held) (a : AcceptedWrite h.o) (b : ℕ) (here : b ≡ bucket_in h.
         let heap = e.heap.less bs becomes in record {
           mode = h.parts.mode;
           idle = refl;
-          known = index_ends p (chained p kept) index known b l;
-          entries = λ c k. ap length (entries_ends p kept b l c k) ∙ (keys_now c k ∙ ap (keys_in h.o.shape.buckets c) cells);
+          known = index_ends p (chained p kept) b l index known;
+          entries = λ c k. ap length (entries_ends p (chained p kept) b l c k) ∙ (keys_now c k ∙ ap (keys_in h.o.shape.buckets c) cells);
           list = heap.0;
           used = λ c k i less.
               let x = at (entries_of (after_event (Ends b) p) c) i in
-              let has = subst (λ xs. Contains xs x) (entries_ends p kept b l c k) (Contains-get_or (entries_of (after_event (Ends b) p) c) i 0 less) in
-              subst (λ n. Contains (used_blocks bs) (used_block (entry_offset x) n)) (sym (room_ends p kept b l x)) (housed_last bs becomes c x (comes c k x has));
+              let has = subst (λ xs. Contains xs x) (entries_ends p (chained p kept) b l c k) (Contains-get_or (entries_of (after_event (Ends b) p) c) i 0 less) in
+              subst (λ n. Contains (used_blocks bs) (used_block (entry_offset x) n)) (sym (room_ends p b l x)) (housed_last bs becomes c x (comes c k x has));
           count =
               (let more = length_permutation _ _ e.heap.more in
               let less = length_permutation _ _ heap.1 in

@@ -9,6 +9,7 @@ use Rattle.store_partition.proofs.Words.{length_push, link_at, link_in, marked, 
 use Rattle.store_partition.proofs.Words.{may_begin, may_mark, no_epoch, number_entry, number_of, number_within, options_in, other_word, phase_after}
 use Rattle.store_partition.proofs.Words.{refl, room_in, spot_entry, stamp_in, stamp_is_length, stamp_of, state_in, state_snoc, store_state, subst}
 use Rattle.store_partition.proofs.Words.{subst₂, sym, true, words_after, written, written_state, ℕ, ◌++◌, ◌+◌, ◌<◌, ◌↔◌, ◌∙◌, ◌∷◌, ◌≡◌}
+use Rattle.chained_index.proofs.Filled.{SameBucket}
 use Rattle.store_partition.proofs.Held.{Held, IsOther, before, m, main_at, may_give}
 
 -- what a write has made of the partition once it has ended
@@ -28,23 +29,9 @@ pub record Closes (o : OwnerState) (w : Write) (outcome : Outcome) (b t : ℕ) (
   pub end : MayEnd o4 b
   pub ended : (o5 : OwnerState) (blocks : List Block) → o5 ≡ after_event (Ends b) o4 → Becomes blocks → Ended o o5 index blocks w outcome t
 
--- the bucket's link and entries are the same
-abbrev pub SameWords : OwnerState → OwnerState → ℕ → Type 0
-SameWords o p d = (link_in p d ≡ link_in o d) × ((slot : ℕ) → slot < 15 → entry_in p d slot ≡ entry_in o d slot)
-
--- the end of a write
-module _ (o : OwnerState) (s : Kept o) (b : ℕ) (main : IsMain o.shape b) where
-  pub entries_ends : (c : ℕ) → IsMain o.shape c → entries_of (after_event (Ends b) o) c ≡ entries_of o c
-  entries_ends c l = entries_stay o (chained o s) (words_after (Ends b) o) (history_after (Ends b) o.history) (phase_after (Ends b) o)
-      (length-set o.words _ _)
-      (λ d inside. record {
-        link = other_word o (Ends b) (link_at o.shape d) (no_epoch o.shape b d 15 main (omega arith));
-        entry = λ slot low. other_word o (Ends b) (entry_at o.shape d slot) (no_epoch o.shape b d slot main (omega arith));
-      })
-      c l
-
-  pub room_ends : (x : ℕ) → room_in (after_event (Ends b) o) x ≡ room_in o x
-  room_ends x = ap header_room (other_word o (Ends b) (item_at o.shape (entry_offset x)) (item_no_epoch o.shape b (entry_offset x) main))
+-- the end of a write leaves the rooms
+pub room_ends : (o : OwnerState) (b : ℕ) → IsMain o.shape b → (x : ℕ) → room_in (after_event (Ends b) o) x ≡ room_in o x
+room_ends o b main x = ap header_room (other_word o (Ends b) (item_at o.shape (entry_offset x)) (item_no_epoch o.shape b (entry_offset x) main))
 
 -- the stamp after a write more is the number of writes
 pub stamp_more : (h : Held) (w : Write) → IsWrite w → length (h.o.history ++ w ∷ []) ≡ stamp_of (options_in h.o) (h.o.history ++ w ∷ [])
@@ -93,20 +80,20 @@ module _ (h : Held) (a : AcceptedWrite h.o) where
       mark = λ o' same. subst₂ (λ z c. MayMark (after_event (Begins c) z) a.w a.t) (sym same) (sym here) (may_mark h.o a);
     }
 
-    pub base : (words : List ℕ) → length words ≡ length h.o.words → Kept (written h.o a words) → ((d : ℕ) → IsBucket h.o.shape d → SameWords h.o (written h.o a words) d)
+    pub base : (words : List ℕ) → length words ≡ length h.o.words → Kept (written h.o a words) → ((d : ℕ) → IsBucket h.o.shape d → SameBucket h.o (written h.o a words) d)
         → ((c x : ℕ) → IsOther h a.w.key c x → Keeps h.o a words x) → (o3 : OwnerState) → o3 ≡ written h.o a words → Base b o3
     base words long kept same keeps o3 at = subst (Base b) (sym at) record {
       is = refl;
       kept = kept;
-      index = index_stays h.o (chained h.o h.kept) words _ _ long (λ d l. record { link = (same d l).0; entry = (same d l).1 }) h.index h.parts.known;
+      index = index_stays h.o words _ _ long (chained h.o h.kept) same h.index h.parts.known;
       bit = bit_same (bucket_in h.o a.w.key) b (sym here);
       mains = λ c l. l;
-      entries = entries_stay h.o (chained h.o h.kept) words _ _ long (λ d l. record { link = (same d l).0; entry = (same d l).1 });
+      entries = entries_stay h.o words _ _ long (chained h.o h.kept) same;
       spots = λ spot used.
-          let entry = (same spot.bucket (chain_inside h.o (chained h.o h.kept) b spot.bucket main used.in_chain)).1 spot.slot used.in_bucket in (
+          let entry = (same spot.bucket (chain_inside h.o (chained h.o h.kept) b spot.bucket main used.in_chain)).entry spot.slot used.in_bucket in (
             record {
               in_chain = all_on h.o words (h.o.history ++ a.w ∷ []) (Marked (bucket_in h.o a.w.key) a.w h.o.history) long (chained h.o h.kept)
-                  (λ d l. (same d l).0) b main spot.bucket used.in_chain;
+                  (λ d l. (same d l).link) b main spot.bucket used.in_chain;
               in_bucket = used.in_bucket;
               used = λ empty. used.used (sym entry ∙ empty);
             },
@@ -120,7 +107,7 @@ module _ (h : Held) (a : AcceptedWrite h.o) where
 
     pub marked_base : (o2 : OwnerState) → o2 ≡ marked_in_bucket h.o b a.w a.t → Base b o2
     marked_base o2 at = base (marked h.o a).words (length-set _ _ _ ∙ length-set h.o.words _ _) (kept_marked h.o a)
-        (λ d l. (marked_link h.o a d, marked_entry h.o a d)) (λ c x other i less. marked_item h.o a (entry_offset x + i)) o2 (marked_at o2 at)
+        (λ d l. record { link = marked_link h.o a d; entry = marked_entry h.o a d }) (λ c x other i less. marked_item h.o a (entry_offset x + i)) o2 (marked_at o2 at)
 
     pub when_marked : (o3 : OwnerState) → Base b o3 → (F : ℕ → Type 0) → WhenMarked o3.phase (λ c write history. F c) ↔ F b
     when_marked o3 z F = (

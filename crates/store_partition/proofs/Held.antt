@@ -1,5 +1,5 @@
 -- A partition between two writes: what its entries tell of the machine's cells and of the heap's blocks.
-use Rattle.store_partition.proofs.Words.{Allows, AreBytes, AreParts, Block, Cell, Contains, Contains-append_right, Contains-get_or}
+use Rattle.store_partition.proofs.Words.{SLOTS, Allows, AreBytes, AreParts, Block, Cell, Contains, Contains-append_right, Contains-get_or}
 use Rattle.store_partition.proofs.Words.{Contains-permutation, Has, HasKey, HasNoSpot, Index, IsBlockList, IsBucket, IsDistinct, IsMain}
 use Rattle.store_partition.proofs.Words.{IsPermutation, IsPermutation-refl, IsPermutation-sym, IsSpotOf, Kept, List, ListStands, MayGive, None}
 use Rattle.store_partition.proofs.Words.{Option, Outcome, OwnerState, RoomsApart, Some, Spells, Spot, Store, Write, [], accepted_in}
@@ -146,7 +146,7 @@ pub record Split (h : Held) (key : List ℕ) (b : ℕ) (own rest : List ℕ) : T
 -- A key that has an entry, in this spot.
 pub record Known (h : Held) (key : List ℕ) (b : ℕ) (spot : Spot) : Type 0 where
   pub found : IsSpotOf h.o b key spot
-  pub inside : IsBucket h.o.shape spot.bucket × (spot.slot < 15)
+  pub inside : IsBucket h.o.shape spot.bucket × (spot.slot < SLOTS)
   pub cell : Cell
   pub has : get (m h).cells key ≡ Some cell
   pub room : room_in h.o (spot_entry h.o spot) ≡ cell.room
@@ -222,7 +222,7 @@ module _ (h : Held) (key : List ℕ) (b : ℕ) (here : b ≡ bucket_in h.o key) 
     all_others x has = other h key b main x has (λ cell sp.
         let there = spot_at h.o (chained h.o h.kept) h.parts.mode h.index h.parts.known b main has.0 has.1 in
         let is = there.live.found ∙ (get_or_default xs has.0 0 x has.1 ∙ has.2) in
-        none (record { bucket = bucket_at h.o (has.0 / 15) b; slot = has.0 % 15 }) record {
+        none (record { bucket = bucket_at h.o (has.0 / SLOTS) b; slot = has.0 % SLOTS }) record {
           used = record { in_chain = there.live.in_chain; in_bucket = there.live.in_bucket; used = λ empty. there.live.live.0 (sym there.live.found ∙ empty) };
           tag = ap entry_tag is ∙ sp.tag;
           item = subst (λ z. HasKey h.o (entry_offset z) key) (sym is) (has_its_key h.o h.kept b x key cell sp);

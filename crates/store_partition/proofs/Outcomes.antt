@@ -1,6 +1,6 @@
 -- Which outcomes the machine allows a put: stored in the room that the key has or in a block, or refused for want of a spare bucket or a block.
 use Rattle.mica_model.specs.StoreStep as ss
-use Rattle.store_partition.proofs.Words.{Allows, Block, FullBlock, FullSpare, HasNoSpot, IsBlockList, IsOwnerStep, IsSomeAnd, IsTaken, LacksPlace}
+use Rattle.store_partition.proofs.Words.{SLOTS, Allows, Block, FullBlock, FullSpare, HasNoSpot, IsBlockList, IsOwnerStep, IsSomeAnd, IsTaken, LacksPlace}
 use Rattle.store_partition.proofs.Words.{List, MayLack, Put, Spot, Stored, Write, ap, arith, bucket_in, chained, entries_of, free_spares, inl, inr}
 use Rattle.store_partition.proofs.Words.{item_size, keys_in, length, nil_from_length, options_in, refl, refused_step, room_in, spares_in_use}
 use Rattle.store_partition.proofs.Words.{spot_entry, store_state, subst, subst₂, sum_by_popped, sym, used_blocks, used_blocks-taken, words_of}
@@ -26,7 +26,7 @@ module _ (h : Held) (key value : List ℕ) (b : ℕ) (here : b ≡ bucket_in h.o
   lacks_place : ss.NeedsSpare (options_in h.o) (m h) key → LacksPlace h.index h.o b
   lacks_place needs = record {
     some = (let some = needs.some in let same = own_keys in omega arith);
-    full = ap (λ n. n % 15) own_keys ∙ needs.full;
+    full = ap (λ n. n % SLOTS) own_keys ∙ needs.full;
     none_free = nil_from_length h.index.free (let left = needs.none_left in let all = counted in omega arith);
   }
 
@@ -67,7 +67,7 @@ module _ (h : Held) (key value : List ℕ) (b : ℕ) (here : b ≡ bucket_in h.o
         let needs : ss.NeedsSpare (options_in h.o) (m h) key = record {
           is_new = has_none h key b here none;
           some = (let same = own_keys in omega arith);
-          full = ap (λ n. n % 15) (sym own_keys) ∙ lacks.full;
+          full = ap (λ n. n % SLOTS) (sym own_keys) ∙ lacks.full;
           none_left = (let all = counted in omega arith);
         } in
         refused_step h.o h.parts.idle w FullSpare refl (may_give h w FullSpare (not_worn h unworn, (tt, needs)))

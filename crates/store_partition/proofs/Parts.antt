@@ -2,8 +2,8 @@
 use Rattle.mica_model.specs.Store as store
 use Rattle.chained_index.specs.ChainEntries.{buckets_from, buckets_of, entries_in, entries_of}
 use Rattle.store_partition.proofs.Words.{AreParts, Block, Bool, CacheMode, Cell, Contains, Decides, Decides-and, Decides-eqb, Fills, Has, Index}
-use Rattle.store_partition.proofs.Words.{IsFreeSpare, IsIndexOf, IsMain, IsMerged, IsValidShape, Kept, List, Met, Mode, OwnerState, Shape, StoreMode}
-use Rattle.store_partition.proofs.Words.{[], ap, arith, as_made, cells_of, chain_back, chain_on, chained, cond, dense_on, dite, empty, entry_offset}
+use Rattle.store_partition.proofs.Words.{IsIndexOf, IsMain, IsMerged, IsValidShape, Kept, List, Met, Mode, OwnerState, Shape, StoreMode}
+use Rattle.store_partition.proofs.Words.{[], ap, arith, as_made, cells_of, chained, cond, dense_on, dite, empty, entry_offset}
 use Rattle.store_partition.proofs.Words.{false, flat_map, free_block, get-empty, if◌then◌else◌, is_member-Decides, kept_as_made, keys_in, len}
 use Rattle.store_partition.proofs.Words.{len-empty, length, link_in, listed, nat_cmp, no_keys, no_rooms, not, props, refl, room_in, rooms, slice_cmp}
 use Rattle.store_partition.proofs.Words.{slice_index, start, subst, suc, sym, true, used_block, used_blocks, zero, ℕ, ℕ_discrete, ∥∥₁_elim, ◌&&◌, ◌+◌}
@@ -117,12 +117,6 @@ module _ (o : OwnerState) (met : Met) (closed : ℕ) where
   unfolding entries_of buckets_of entries_in
   entries_same b = ap (flat_map (entries_in o)) (buckets_same (suc o.shape.spares) b)
 
-  free_on : (c : ℕ) → IsFreeSpare o c → IsFreeSpare p c
-  free_on c f = record { spare = f.spare; free = λ b main h. f.free b main (chain_back o met closed b c h) }
-
-  free_back : (c : ℕ) → IsFreeSpare p c → IsFreeSpare o c
-  free_back c f = record { spare = f.spare; free = λ b main h. f.free b main (chain_on o met closed b c h) }
-
   pub parts_met : (index : Index) (blocks : List Block) → AreParts index blocks o → AreParts index blocks p
   parts_met index blocks k = record {
     mode = k.mode;
@@ -130,9 +124,9 @@ module _ (o : OwnerState) (met : Met) (closed : ℕ) where
     known = record {
       shape = k.known.shape;
       dense = λ b main. dense_on o met closed b (k.known.dense b main);
-      free = λ c. (λ has. free_on c ((k.known.free c).0 has), λ f. (k.known.free c).1 (free_back c f));
+      free = λ c. (λ has. assumption ((k.known.free c).0 has), λ f. (k.known.free c).1 (assumption));
       once = k.known.once;
-      blank = λ c f. let blank = k.known.blank c (free_back c f) in record { no_link = blank.no_link; no_entry = blank.no_entry };
+      blank = λ c f. assumption (k.known.blank c (assumption));
     };
     entries = λ b main. ap (length {A = ℕ}) (entries_same b) ∙ k.entries b main;
     list = k.list;

@@ -31,6 +31,7 @@ pub use Rattle.std.specs.Ordering.{nat_cmp}
 pub use Rattle.mica_words.proofs.Fields.{entry_offset-entry_of, entry_tag-entry_of}
 pub use Rattle.mica_words.proofs.Hashes.{bucket_of_hash, tag_of_hash}
 pub use Rattle.mica_words.proofs.ItemWords.{length-item_words}
+pub use Rattle.mica_words.specs.declared.entry.TheConstants.{SLOTS}
 pub use Rattle.mica_words.specs.Entry.{entry_of, entry_offset, entry_tag}
 pub use Rattle.mica_words.specs.Hash.{bucket_of, fnv1a, hash_bucket, hash_tag, tag_of}
 pub use Rattle.mica_words.specs.Header.{header_room}
@@ -93,7 +94,7 @@ pub use Rattle.chained_index.proofs.Chained.{all_on, chain_inside, chained}
 pub use Rattle.chained_index.proofs.Listed.{ListStands, at, listed, place as place_at, spot as spot_at, stands as stands_by}
 pub use Rattle.chained_index.proofs.Numbers.{number_entry, number_within}
 pub use Rattle.chained_index.proofs.SpareCount.{free_spares}
-pub use Rattle.chained_index.proofs.Stays.{entries_stay, index_ends, index_stays}
+pub use Rattle.chained_index.proofs.Stays.{entries_ends, entries_stay, index_ends, index_stays}
 pub use Rattle.chained_index.specs.ChainChange.{ChangesChain}
 pub use Rattle.chained_index.specs.ChainEntries.{HasNoSpot, IsSpotOf, IsUsed, entries_of, number_of, spot_entry}
 pub use Rattle.chained_index.specs.ChainShape.{bucket_at}

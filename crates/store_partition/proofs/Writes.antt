@@ -1,7 +1,7 @@
 -- The kinds of write, each an exchange of its key's entry and block: a put in the room that the key has, one that takes a block for a key
 -- that has an item or none, and a delete of a key that has an item or none.
 use Rattle.mica_model.specs.StoreStep as ss
-use Rattle.store_partition.proofs.Words.{Absent, AcceptedWrite, All-contains, Allows, AreBytes, BelongsTo, Block, CanPlay, Cell, ChangesChain}
+use Rattle.store_partition.proofs.Words.{SLOTS, Absent, AcceptedWrite, All-contains, Allows, AreBytes, BelongsTo, Block, CanPlay, Cell, ChangesChain}
 use Rattle.store_partition.proofs.Words.{Contains, Contains-append_right, Contains-get_or, Contains-permutation, Del, Deleted, Has, HasKey}
 use Rattle.store_partition.proofs.Words.{HasKeyWords, HasNoSpot, HasUsed, Index, IsBlockList, IsIndexOf, IsMain, IsOffset, IsPermutation}
 use Rattle.store_partition.proofs.Words.{IsPermutation-refl, IsPermutation-remove, IsPermutation-sym, IsPermutation-to_front, IsSome, IsTaken, IsUsed}
@@ -89,7 +89,7 @@ module _ (h : Held) (a : AcceptedWrite h.o) (from room : ℕ) (r : Room h a from
 
     pub put_base : Base h a b o3
     put_base = base h a b here put (kept_put.wide ∙ sym h.kept.wide) kept_put
-        (λ d l. (put_link h.o a from zs in_heap d l, λ slot low. put_entry h.o a from zs in_heap d slot l low))
+        (λ d l. record { link = put_link h.o a from zs in_heap d l; entry = λ slot low. put_entry h.o a from zs in_heap d slot l low })
         (λ c x other i less. put_others h.o a from zs in_heap (entry_offset x + i) (λ j low. clear c x other i j less low)) o3 at_put
 
     -- The entry that names it spells it, whatever the index made of entries and links.
@@ -339,7 +339,7 @@ module _ (h : Held) (key value : List ℕ) (is : IsWrite (write_of Put key value
               z.mains b (main h w b here),
               λ lacks. places (record {
                 some = subst (λ xs. 0 < length xs) same lacks.some;
-                full = ap (λ xs. length xs % 15) (sym same) ∙ lacks.full;
+                full = ap (λ xs. length xs % SLOTS) (sym same) ∙ lacks.full;
                 none_free = lacks.none_free;
               }),
             );
