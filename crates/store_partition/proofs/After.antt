@@ -5,10 +5,10 @@ use Rattle.store_partition.proofs.Words.{AcceptedWrite, AreParts, Block, Cell, C
 use Rattle.store_partition.proofs.Words.{Contains-append_left, Contains-append_right, Contains-get_or, Contains-permutation, Ends, Has, Index}
 use Rattle.store_partition.proofs.Words.{IsDistinct, IsIndexOf, IsMain, IsPermutation, IsPermutation-sym, Keeps, Kept, List, OwnerState, RoomsApart}
 use Rattle.store_partition.proofs.Words.{Some, Spells, StandsFor, after_event, ap, arith, at, bucket_in, cells_of, chained, dite, entries_of}
-use Rattle.store_partition.proofs.Words.{entry_offset, eqb, get, get_or_default, index_ends, entries_ends, inl, inr, keys_in, len, length, length-append}
-use Rattle.store_partition.proofs.Words.{length_permutation, only_key, others_same, refl, room_in, room_of, room_same, rooms, same_cell}
-use Rattle.store_partition.proofs.Words.{same_or_other, spells_on, stands_by, state_in, subst, sum_by-IsPermutation, sym, used_block, used_blocks}
-use Rattle.store_partition.proofs.Words.{words_of, words_of-append, written, ℕ, ℕ_discrete, ◌++◌, ◌+◌, ◌<◌, ◌∙◌, ◌≡◌, ◌≢◌, ◌≤◌, ◌⊎◌}
+use Rattle.store_partition.proofs.Words.{entry_offset, eqb, get, get_or_default, index_ends, entries_ends, inl, inr, keys_in, len, length}
+use Rattle.store_partition.proofs.Words.{length-append, length_permutation, only_key, others_same, refl, room_in, room_of, room_same, rooms}
+use Rattle.store_partition.proofs.Words.{same_cell, same_or_other, spells_on, stands_by, state_in, subst, sum_by-IsPermutation, sym, used_block}
+use Rattle.store_partition.proofs.Words.{used_blocks, words_of, words_of-append, written, ℕ, ℕ_discrete, ◌++◌, ◌+◌, ◌<◌, ◌∙◌, ◌≡◌, ◌≢◌, ◌≤◌, ◌⊎◌}
 use Rattle.store_partition.proofs.Lists.{Heap, in_one, once_at, once_front, once_moved, once_rest}
 use Rattle.store_partition.proofs.Cells.{exchanges, one_or_none}
 use Rattle.store_partition.proofs.Held.{HasBlock, Held, IsOther, Split, as_cells, as_keys, as_rooms, before, each, has_cell, m, once, one_entry}

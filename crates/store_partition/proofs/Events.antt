@@ -2,27 +2,23 @@
 use Rattle.mica_model.specs.StoreStep as ss
 use Rattle.store_partition.proofs.Words.{AcceptedWrite, Allows, AreParts, Begins, Block, Ends, Index, IsBucket, IsIndexOf, IsMain, IsOwnerStep}
 use Rattle.store_partition.proofs.Words.{IsUsed, IsWrite, Keeps, Kept, List, Marked, MayBegin, MayEnd, MayMark, Outcome, OwnerState, Spot, StandsFor}
-use Rattle.store_partition.proofs.Words.{WhenMarked, Write, [], after, after_event, all_more, all_on, ap, arith, at, bit_same, bucket_in}
-use Rattle.store_partition.proofs.Words.{chain_inside, chained, ended_step, entries_of, entries_stay, entry_at, entry_in, entry_offset, header_room}
-use Rattle.store_partition.proofs.Words.{history_after, index_stays, is_accepted, item_at, item_in, item_no_epoch, kept_marked, length, length-set}
-use Rattle.store_partition.proofs.Words.{length_push, link_at, link_in, marked, marked_entry, marked_in, marked_in_bucket, marked_item, marked_link}
-use Rattle.store_partition.proofs.Words.{may_begin, may_mark, no_epoch, number_entry, number_of, number_within, options_in, other_word, phase_after}
-use Rattle.store_partition.proofs.Words.{refl, room_in, spot_entry, stamp_in, stamp_is_length, stamp_of, state_in, state_snoc, store_state, subst}
-use Rattle.store_partition.proofs.Words.{subst₂, sym, true, words_after, written, written_state, ℕ, ◌++◌, ◌+◌, ◌<◌, ◌↔◌, ◌∙◌, ◌∷◌, ◌≡◌}
+use Rattle.store_partition.proofs.Words.{WhenMarked, Write, [], after, after_event, all_more, all_on, ap, at, bit_same, bucket_in, chain_inside}
+use Rattle.store_partition.proofs.Words.{chained, ended_step, entries_of, entries_stay, entry_offset, header_room, index_stays, is_accepted, item_at}
+use Rattle.store_partition.proofs.Words.{item_in, item_no_epoch, kept_marked, length, length-set, length_push, marked, marked_entry, marked_in}
+use Rattle.store_partition.proofs.Words.{marked_in_bucket, marked_item, marked_link, may_begin, may_mark, number_entry, number_of, number_within}
+use Rattle.store_partition.proofs.Words.{options_in, other_word, refl, room_in, spot_entry, stamp_in, stamp_is_length, stamp_of, state_in, state_snoc}
+use Rattle.store_partition.proofs.Words.{store_state, subst, subst₂, sym, true, written, written_state, ℕ, ◌++◌, ◌+◌, ◌<◌, ◌↔◌, ◌∙◌, ◌∷◌, ◌≡◌}
 use Rattle.chained_index.proofs.Filled.{SameBucket}
 use Rattle.store_partition.proofs.Held.{Held, IsOther, before, m, main_at, may_give}
 
--- what a write has made of the partition once it has ended
+-- what a write has made of the partition once it has ended: its step, and the facts that a partition goes by after so many writes
 pub record Ended (o new : OwnerState) (index : Index) (blocks : List Block) (w : Write) (outcome : Outcome) (t : ℕ) : Type 0 where
-  pub count : t ≡ length new.history
-  pub stamp : t ≡ stamp_of (options_in new) new.history
   pub step : IsOwnerStep o new w outcome
-  pub parts : AreParts index blocks new
+  pub invariant : record { parts : ∥ AreParts index blocks new ∥₁; counted : t ≡ length new.history; stamped : t ≡ stamp_of (options_in new) new.history }
 
 -- its first two events may happen
-pub record Opens (o : OwnerState) (w : Write) (b t : ℕ) : Type 0 where
-  pub begin : (o' : OwnerState) → o' ≡ o → MayBegin o' b
-  pub mark : (o' : OwnerState) → o' ≡ o → MayMark (after_event (Begins b) o') w t
+abbrev pub Opens : OwnerState → Write → ℕ → ℕ → Type 0
+Opens o w b t = (o' : OwnerState) → o' ≡ o → record { begin : MayBegin o' b; mark : MayMark (after_event (Begins b) o') w t }
 
 -- so may its last, and what it leaves, whichever heap that is
 pub record Closes (o : OwnerState) (w : Write) (outcome : Outcome) (b t : ℕ) (index : Index) (Becomes : List Block → Type 0) (o4 : OwnerState) : Type 0 where
@@ -75,9 +71,9 @@ module _ (h : Held) (a : AcceptedWrite h.o) where
     main = main_at h.o h.kept a.w.key b here
 
     pub may_open : Opens h.o a.w b a.t
-    may_open = record {
-      begin = λ o' same. subst₂ MayBegin (sym same) (sym here) (may_begin h.o a);
-      mark = λ o' same. subst₂ (λ z c. MayMark (after_event (Begins c) z) a.w a.t) (sym same) (sym here) (may_mark h.o a);
+    may_open o' same = record {
+      begin = subst₂ MayBegin (sym same) (sym here) (may_begin h.o a);
+      mark = subst₂ (λ z c. MayMark (after_event (Begins c) z) a.w a.t) (sym same) (sym here) (may_mark h.o a);
     }
 
     pub base : (words : List ℕ) → length words ≡ length h.o.words → Kept (written h.o a words) → ((d : ℕ) → IsBucket h.o.shape d → SameBucket h.o (written h.o a words) d)
@@ -130,9 +126,7 @@ module _ (h : Held) (a : AcceptedWrite h.o) where
     closes words index Becomes stands parts = record {
       end = record { marked = bit_same (bucket_in h.o a.w.key) b (sym here); stands_for = stands };
       ended = λ o5 blocks e5 becomes. subst (λ z. Ended h.o z index blocks a.w a.outcome a.t) (sym e5) record {
-        count = a.stamp ∙ sym (stamp_more h a.w a.is);
-        stamp = a.stamp;
         step = subst (λ c. IsOwnerStep h.o (after_event (Ends c) (written h.o a words)) a.w a.outcome) (sym here) (ended_step h.o a words);
-        parts = parts blocks becomes;
+        invariant = record { parts = ∣ parts blocks becomes ∣₁; counted = a.stamp ∙ sym (stamp_more h a.w a.is); stamped = a.stamp };
       };
     }

@@ -1,10 +1,10 @@
 -- Which outcomes the machine allows a put: stored in the room that the key has or in a block, or refused for want of a spare bucket or a block.
 use Rattle.mica_model.specs.StoreStep as ss
-use Rattle.store_partition.proofs.Words.{SLOTS, Allows, Block, FullBlock, FullSpare, HasNoSpot, IsBlockList, IsOwnerStep, IsSomeAnd, IsTaken, LacksPlace}
-use Rattle.store_partition.proofs.Words.{List, MayLack, Put, Spot, Stored, Write, ap, arith, bucket_in, chained, entries_of, free_spares, inl, inr}
-use Rattle.store_partition.proofs.Words.{item_size, keys_in, length, nil_from_length, options_in, refl, refused_step, room_in, spares_in_use}
-use Rattle.store_partition.proofs.Words.{spot_entry, store_state, subst, subst₂, sum_by_popped, sym, used_blocks, used_blocks-taken, words_of}
-use Rattle.store_partition.proofs.Words.{words_of-fills, words_parted, write_of, ℕ, ◌%◌, ◌*◌, ◌+◌, ◌-◌, ◌<◌, ◌∙◌, ◌≡◌, ◌≤◌}
+use Rattle.store_partition.proofs.Words.{SLOTS, Allows, Block, FullBlock, FullSpare, HasNoSpot, IsBlockList, IsOwnerStep, IsSomeAnd, IsTaken}
+use Rattle.store_partition.proofs.Words.{LacksPlace, List, MayLack, Put, Spot, Stored, Write, ap, arith, bucket_in, chained, entries_of, free_spares}
+use Rattle.store_partition.proofs.Words.{inl, inr, item_size, keys_in, length, nil_from_length, options_in, refl, refused_step, room_in}
+use Rattle.store_partition.proofs.Words.{spares_in_use, spot_entry, store_state, subst, subst₂, sum_by_popped, sym, used_blocks, used_blocks-taken}
+use Rattle.store_partition.proofs.Words.{words_of, words_of-fills, words_parted, write_of, ℕ, ◌%◌, ◌*◌, ◌+◌, ◌-◌, ◌<◌, ◌∙◌, ◌≡◌, ◌≤◌}
 use Rattle.store_partition.proofs.Lists.{added, list_on}
 use Rattle.store_partition.proofs.Held.{Held, Known, as_cells, as_keys, as_rooms, has_none, m, main_at, may_give, not_worn}
 

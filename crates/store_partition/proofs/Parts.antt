@@ -2,12 +2,11 @@
 use Rattle.mica_model.specs.Store as store
 use Rattle.chained_index.specs.ChainEntries.{buckets_from, buckets_of, entries_in, entries_of}
 use Rattle.store_partition.proofs.Words.{AreParts, Block, Bool, CacheMode, Cell, Contains, Decides, Decides-and, Decides-eqb, Fills, Has, Index}
-use Rattle.store_partition.proofs.Words.{IsIndexOf, IsMain, IsMerged, IsValidShape, Kept, List, Met, Mode, OwnerState, Shape, StoreMode}
-use Rattle.store_partition.proofs.Words.{[], ap, arith, as_made, cells_of, chained, cond, dense_on, dite, empty, entry_offset}
-use Rattle.store_partition.proofs.Words.{false, flat_map, free_block, get-empty, if◌then◌else◌, is_member-Decides, kept_as_made, keys_in, len}
-use Rattle.store_partition.proofs.Words.{len-empty, length, link_in, listed, nat_cmp, no_keys, no_rooms, not, props, refl, room_in, rooms, slice_cmp}
-use Rattle.store_partition.proofs.Words.{slice_index, start, subst, suc, sym, true, used_block, used_blocks, zero, ℕ, ℕ_discrete, ∥∥₁_elim, ◌&&◌, ◌+◌}
-use Rattle.store_partition.proofs.Words.{◌<◌, ◌==◌, ◌∙◌, ◌∷◌, ◌≡◌}
+use Rattle.store_partition.proofs.Words.{IsIndexOf, IsMain, IsMerged, IsValidShape, Kept, List, Met, Mode, OwnerState, Shape, StoreMode, [], ap}
+use Rattle.store_partition.proofs.Words.{arith, as_made, cells_of, chained, cond, dense_on, dite, empty, entry_offset, false, flat_map, free_block}
+use Rattle.store_partition.proofs.Words.{get-empty, if◌then◌else◌, is_member-Decides, kept_as_made, keys_in, len, len-empty, length, link_in, listed}
+use Rattle.store_partition.proofs.Words.{nat_cmp, no_keys, no_rooms, not, props, refl, room_in, rooms, slice_cmp, slice_index, start, subst, suc, sym}
+use Rattle.store_partition.proofs.Words.{true, used_block, used_blocks, zero, ℕ, ℕ_discrete, ∥∥₁_elim, ◌&&◌, ◌+◌, ◌<◌, ◌==◌, ◌∙◌, ◌∷◌, ◌≡◌}
 use Rattle.store_partition.proofs.Held.{Held}
 
 -- What is only said to hold of the parts holds of them, since each fact has one proof or can be found

@@ -1,21 +1,23 @@
 -- The words that the proofs of this crate speak in, passed on once.
-pub use mathlib.Core.Logic.{dite}
-pub use native.Mathlib.Decide.{ℕ_discrete}
-pub use Rattle.std.proofs.Common.{Bool, List, None, Option, Some, [], ap, arith, cond, drop, eqb, false, get_or, if◌then◌else◌, inl, inr, leb, length}
-pub use Rattle.std.proofs.Common.{length-append, length-set, refl, subst, subst₂, suc, sym, take, true, zero, ℕ, ◌%◌, ◌*◌, ◌++◌, ◌+◌, ◌-◌, ◌/◌, ◌<◌}
-pub use Rattle.std.proofs.Common.{◌==◌, ◌^◌, ◌∙◌, ◌∷◌, ◌≡◌, ◌≢◌, ◌≤◌, ◌⊎◌}
+pub use Rattle.epoch_core.proofs.Vocabulary.{All-contains, All-from_recursion, AreBytes, Bool, CanPlay, Cell, Contains, Contains-append_cases, Has}
+pub use Rattle.epoch_core.proofs.Vocabulary.{IsBucket, IsMain, IsValidShape, Kept, KeyFits, List, MayGive, None, Option, RoomsApart, Some, Spells}
+pub use Rattle.epoch_core.proofs.Vocabulary.{StandsFor, WhenMarked, [], after as after_event, answer_of, ap, arith, as_made, bucket_in, bucket_of}
+pub use Rattle.epoch_core.proofs.Vocabulary.{cond, dite, drop, eq-eqb, false, fnv1a, get_or, get_or_default, header_room, if◌then◌else◌, inl, inr}
+pub use Rattle.epoch_core.proofs.Vocabulary.{is_some, item_at, item_events, item_in, item_size, length, length-append, length-set, link_in, marked_in}
+pub use Rattle.epoch_core.proofs.Vocabulary.{ne_eqb, not, option_map, options_in, plays, puts_from, refl, room_in, slice_index, stamp_of, start}
+pub use Rattle.epoch_core.proofs.Vocabulary.{state_in, state_snoc, store_state, stored_in, subst, suc, sym, take, true, value_in, zero, ℕ, ℕ_discrete}
+pub use Rattle.epoch_core.proofs.Vocabulary.{◌%◌, ◌*◌, ◌++◌, ◌+◌, ◌-◌, ◌<◌, ◌^◌, ◌∙◌, ◌∷◌, ◌≡◌, ◌≢◌, ◌≤◌, ◌⊎◌}
+pub use Rattle.std.proofs.Common.{rules, eqb, leb, subst₂, ◌/◌, ◌==◌}
 pub use Rattle.std.proofs.Math.Logic.{∥∥₁_elim}
 pub use Rattle.std.proofs.Math.Nat.{mod-eq_of_lt}
 pub use Rattle.std.proofs.Props.{props}
 pub use Rattle.std.proofs.lemmas.Bool.Decides.{Decides-and, Decides-eqb}
 pub use Rattle.std.proofs.lemmas.Map.Made.{is_member-Decides}
 pub use Rattle.std.specs.Bool.{Decides}
-pub use Rattle.std.specs.Prelude.{Contains, IsPermutation, IsSome, IsSomeAnd, flat_map, is_some, not, remove as list_remove, slice_index, slice_set}
-pub use Rattle.std.specs.Prelude.{swap_remove, ◌&&◌, ◌↔◌}
-pub use Rattle.std.proofs.lemmas.Bool.{cases_eq, cases_order, cond-false, cond-true, eq-eqb, eqb-false, le-leb, lt-leb, ne_eqb, true≢false}
-pub use Rattle.std.proofs.lemmas.List.{get_or_default, length_push, nil_from_length, set_split}
-pub use Rattle.std.proofs.lemmas.List.Elements.{All-contains, All-from_recursion, Contains-append_cases, Contains-append_left, Contains-append_right}
-pub use Rattle.std.proofs.lemmas.List.Elements.{Contains-get_or, recursion_from_All}
+pub use Rattle.std.specs.Prelude.{IsPermutation, IsSome, IsSomeAnd, flat_map, remove as list_remove, slice_set, swap_remove, ◌&&◌, ◌↔◌}
+pub use Rattle.std.proofs.lemmas.Bool.{cases_eq, cases_order, cond-false, cond-true, eqb-false, le-leb, lt-leb, true≢false}
+pub use Rattle.std.proofs.lemmas.List.{length_push, nil_from_length, set_split}
+pub use Rattle.std.proofs.lemmas.List.Elements.{Contains-append_left, Contains-append_right, Contains-get_or, recursion_from_All}
 pub use Rattle.std.proofs.lemmas.List.Sorted.{Contains-permutation, IsPermutation-middle, IsPermutation-refl, IsPermutation-remove}
 pub use Rattle.std.proofs.lemmas.List.Sorted.{IsPermutation-swap_remove, IsPermutation-sym, IsPermutation-to_front, length_permutation}
 pub use Rattle.std.proofs.lemmas.List.Sorted.{sum_by-IsPermutation, sum_by_popped}
@@ -26,25 +28,21 @@ pub use Rattle.std.specs.Cmp.{eq_by_cmp_equiv}
 pub use Rattle.std.specs.Cmp.Lexicographic.{nat_list_cmp_total, slice_cmp}
 pub use Rattle.std.specs.FinMap.{empty, get, get-empty, get-insert, get-remove, insert, len, len-empty, len-insert, len-remove, remove}
 pub use Rattle.std.specs.List.{IsDistinct}
-pub use Rattle.std.specs.Option.{option_map}
 pub use Rattle.std.specs.Ordering.{nat_cmp}
 pub use Rattle.mica_words.proofs.Fields.{entry_offset-entry_of, entry_tag-entry_of}
 pub use Rattle.mica_words.proofs.Hashes.{bucket_of_hash, tag_of_hash}
 pub use Rattle.mica_words.proofs.ItemWords.{length-item_words}
 pub use Rattle.mica_words.specs.declared.entry.TheConstants.{SLOTS}
 pub use Rattle.mica_words.specs.Entry.{entry_of, entry_offset, entry_tag}
-pub use Rattle.mica_words.specs.Hash.{bucket_of, fnv1a, hash_bucket, hash_tag, tag_of}
-pub use Rattle.mica_words.specs.Header.{header_room}
-pub use Rattle.mica_words.specs.Item.{KeyFits, item_size}
-pub use Rattle.mica_words.specs.Packing.{AreBytes}
+pub use Rattle.mica_words.specs.Hash.{hash_bucket, hash_tag, tag_of}
 pub use Rattle.mica_words.specs.Spelling.{item_words}
 pub use Rattle.mica_model.proofs.CacheKept.{size_at_most}
 pub use Rattle.mica_model.proofs.CellSums.{keys_over, no_keys, no_rooms, remove_none, rooms_insert, rooms_remove}
-pub use Rattle.mica_model.proofs.Histories.{accepted_is_length, state_snoc, stored_in}
+pub use Rattle.mica_model.proofs.Histories.{accepted_is_length}
 pub use Rattle.mica_model.proofs.StoreLaws.{others_same, stamp_is_length}
 pub use Rattle.mica_model.proofs.TableSteps.{less_here, less_others, new_here, new_others}
-pub use Rattle.mica_model.specs.History.{Allows, MayGive, accepted_in, after, answer_of, stamp_in, stamp_of, start, store_state, value_in}
-pub use Rattle.mica_model.specs.Store.{Cell, Cells, Store, keys_in, room_of, rooms, spares_in_use}
+pub use Rattle.mica_model.specs.History.{Allows, accepted_in, after, stamp_in}
+pub use Rattle.mica_model.specs.Store.{Cells, Store, keys_in, room_of, rooms, spares_in_use}
 pub use Rattle.mica_model.specs.Write.{IsWrite, is_accepted, size_of, write_of}
 pub use Rattle.mica_model.specs.declared.options.Mode.{Mode}
 pub use Rattle.mica_model.specs.declared.options.Mode.TheVariants.{Cache as CacheMode, Store as StoreMode}
@@ -56,28 +54,22 @@ pub use Rattle.mica_model.specs.declared.write.Write.{Write}
 pub use Rattle.epoch_core.proofs.EventWords.{other as other_word}
 pub use Rattle.epoch_core.proofs.Keeps.{kept_after}
 pub use Rattle.epoch_core.proofs.Keys.{has_its_key}
-pub use Rattle.epoch_core.proofs.Machine.{all_more, has_fits}
+pub use Rattle.epoch_core.proofs.Machine.{all_more}
 pub use Rattle.epoch_core.proofs.Made.{kept_as_made}
 pub use Rattle.epoch_core.proofs.Marked.{bit_same}
-pub use Rattle.epoch_core.proofs.Meeting.{chain_back, chain_on, dense_on}
+pub use Rattle.epoch_core.proofs.Meeting.{dense_on}
 pub use Rattle.epoch_core.proofs.Log.{room_is}
 pub use Rattle.epoch_core.proofs.PartitionLaws.{AcceptedWrite, Keeps, ended_step, item_room, kept_marked, main_of, marked, marked_entry, marked_item}
 pub use Rattle.epoch_core.proofs.PartitionLaws.{marked_link, may_begin, may_mark, new_stamp, only_key, put_entry, put_item, put_link, put_others}
 pub use Rattle.epoch_core.proofs.PartitionLaws.{put_same, put_words, refused_step, room_same, same_cell, same_or_other, spells_item, spells_on}
 pub use Rattle.epoch_core.proofs.PartitionLaws.{spelt_key, stands_idle, worn_step, written, written_state}
-pub use Rattle.epoch_core.proofs.Places.{item_no_epoch, no_epoch}
+pub use Rattle.epoch_core.proofs.Places.{item_no_epoch}
 pub use Rattle.epoch_core.proofs.Puts.{can_put}
-pub use Rattle.epoch_core.specs.Chain.{IsFreeSpare}
-pub use Rattle.epoch_core.specs.Events.{BelongsTo, CanPlay, MayBegin, MayEnd, MayMark, SparesOthers, WhenMarked, after as after_event, history_after}
-pub use Rattle.epoch_core.specs.Events.{item_events, phase_after, plays, puts_from, words_after}
+pub use Rattle.epoch_core.specs.Events.{BelongsTo, MayBegin, MayEnd, MayMark, SparesOthers}
 pub use Rattle.epoch_core.specs.ItemAt.{HasKey, HasKeyWords}
 pub use Rattle.epoch_core.specs.Joins.{met_by}
-pub use Rattle.epoch_core.specs.Kept.{Kept}
-pub use Rattle.epoch_core.specs.Layout.{entry_at, item_at, link_at}
-pub use Rattle.epoch_core.specs.OwnerState.{as_made, bucket_in, entry_in, item_in, link_in, marked_in, options_in, state_in}
 pub use Rattle.epoch_core.specs.OwnerStep.{IsOwnerStep}
-pub use Rattle.epoch_core.specs.Shape.{IsBucket, IsMain, IsValidShape}
-pub use Rattle.epoch_core.specs.StandsFor.{Has, IsOffset, RoomsApart, Spells, SpellsItem, StandsFor, room_in}
+pub use Rattle.epoch_core.specs.StandsFor.{IsOffset, SpellsItem}
 pub use Rattle.epoch_core.specs.declared.event.Event.TheVariants.{Begins, Ends, PutsWord}
 pub use Rattle.epoch_core.specs.declared.shape.Shape.{Shape}
 pub use Rattle.epoch_core.specs.declared.state.Met.{Met}

@@ -177,7 +177,8 @@ pub record PutNew (o : OwnerState) (index : Index) (blocks : List Block) (w : Wr
 -- of a delete once the item's block is given back,
 pub record DelKnown (o : OwnerState) (index : Index) (blocks : List Block) (w : Write) (b t : ℕ) (spot : Spot) (old : ℕ) : Type 0 where
   pub opens : Opens o w b t
-  pub removes : (o2 : OwnerState) → o2 ≡ marked_in_bucket o b w t → IsIndexOf index o2 × (marked_in o2.phase b ≡ 1) × IsMain o2.shape b × IsUsed o2 b spot
+  pub removes : (o2 : OwnerState) → o2 ≡ marked_in_bucket o b w t
+      → record { index : IsIndexOf index o2; marked : marked_in o2.phase b ≡ 1; bucket : IsMain o2.shape b; spot : IsUsed o2 b spot }
   pub closes : (o2 o4 : OwnerState) (index' : Index) → o2 ≡ marked_in_bucket o b w t → Kept o4 → IsIndexOf index' o4
       → ChangesChain o2 o4 b (swap_remove (entries_of o2 b) (number_of o2 b spot) 0)
       → Closes o w Deleted b t index' (Gave blocks old) o4
@@ -396,7 +397,7 @@ module _ (h : Held) (key : List ℕ) (fits : KeyFits key) (bytes : AreBytes key)
         opens = may_open h a b here;
         removes = λ o2 events.
             let z = marked_base h a b here o2 events in
-            (z.index, z.bit, z.mains b (main h a b here), (z.spots spot k.found.used).0);
+            record { index = z.index; marked = z.bit; bucket = z.mains b (main h a b here); spot = (z.spots spot k.found.used).0 };
         closes = λ o2 o4 index events kept known change.
             let z = marked_base h a b here o2 events in
             let xs = entries_of o2 b in
