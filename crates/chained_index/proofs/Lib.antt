@@ -1,5 +1,5 @@
-mod Words
-mod Lists
+pub mod Words
+pub mod Lists
 mod Paths
 pub mod Chained
 pub mod Filled

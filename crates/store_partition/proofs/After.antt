@@ -1,15 +1,16 @@
 -- What a write makes of its key's entry and block, and the one theorem of all writes: after it the words of its bucket stand for the
 -- machine's state, and the index and the heap are the partition's once it has ended.
 use Rattle.mica_model.specs.StoreStep as ss
+use Rattle.chained_index.proofs.Lists.{AllDiffer, differ_joined, differ_last, differ_moved, one_place}
 use Rattle.store_partition.proofs.Words.{AcceptedWrite, AreParts, Block, Cell, Cells, ChangesChain, Contains, Contains-append_cases}
 use Rattle.store_partition.proofs.Words.{Contains-append_left, Contains-append_right, Contains-get_or, Contains-permutation, Ends, Has, Index}
-use Rattle.store_partition.proofs.Words.{IsDistinct, IsIndexOf, IsMain, IsPermutation, IsPermutation-sym, Keeps, Kept, List, OwnerState, RoomsApart}
-use Rattle.store_partition.proofs.Words.{Some, Spells, StandsFor, after_event, ap, arith, at, bucket_in, cells_of, chained, dite, entries_of}
-use Rattle.store_partition.proofs.Words.{entry_offset, eqb, get, get_or_default, index_ends, entries_ends, inl, inr, keys_in, len, length}
-use Rattle.store_partition.proofs.Words.{length-append, length_permutation, only_key, others_same, refl, room_in, room_of, room_same, rooms}
-use Rattle.store_partition.proofs.Words.{same_cell, same_or_other, spells_on, stands_by, state_in, subst, sum_by-IsPermutation, sym, used_block}
-use Rattle.store_partition.proofs.Words.{used_blocks, words_of, words_of-append, written, ℕ, ℕ_discrete, ◌++◌, ◌+◌, ◌<◌, ◌∙◌, ◌≡◌, ◌≢◌, ◌≤◌, ◌⊎◌}
-use Rattle.store_partition.proofs.Lists.{Heap, in_one, once_at, once_front, once_moved, once_rest}
+use Rattle.store_partition.proofs.Words.{IsIndexOf, IsMain, IsPermutation, IsPermutation-sym, Keeps, Kept, List, OwnerState, RoomsApart, Some, Spells}
+use Rattle.store_partition.proofs.Words.{StandsFor, after_event, ap, arith, at, bucket_in, cells_of, chained, dite, entries_of, entry_offset, get}
+use Rattle.store_partition.proofs.Words.{get_or_default, index_ends, entries_ends, inl, inr, keys_in, len, length, length-append, length_permutation}
+use Rattle.store_partition.proofs.Words.{only_key, others_same, refl, room_in, room_of, room_same, rooms, same_cell, same_or_other, spells_on}
+use Rattle.store_partition.proofs.Words.{stands_by, state_in, subst, sum_by-IsPermutation, sym, used_block, used_blocks, words_of, words_of-append}
+use Rattle.store_partition.proofs.Words.{written, ℕ, ℕ_discrete, ◌++◌, ◌+◌, ◌<◌, ◌∙◌, ◌≡◌, ◌≢◌, ◌≤◌, ◌⊎◌}
+use Rattle.store_partition.proofs.Lists.{Heap, in_one}
 use Rattle.store_partition.proofs.Cells.{exchanges, one_or_none}
 use Rattle.store_partition.proofs.Held.{HasBlock, Held, IsOther, Split, as_cells, as_keys, as_rooms, before, each, has_cell, m, once, one_entry}
 use Rattle.store_partition.proofs.Held.{other_bucket, rooms_apart, stood, used}
@@ -135,10 +136,10 @@ module _ (h : Held) (a : AcceptedWrite h.o) (b : ℕ) (here : b ≡ bucket_in h.
               )
         ]
 
-    once_now : IsDistinct eqb zs
-    once_now = once_moved (e.news ++ e.rest) zs (IsPermutation-sym _ _ chain_now) (once_front e.news e.rest e.few
-        (λ x new rest. (e.split.others x rest).differs (key_is b x (inr (e.split.others x rest)) a.w.key _ (e.spells x new).1))
-        (once_rest e.own e.rest (once_moved (entries_of h.o b) (e.own ++ e.rest) e.split.lists (once h.o b (stood h b (main h a b here))))))
+    once_now : AllDiffer zs
+    once_now = differ_moved (e.news ++ e.rest) zs (IsPermutation-sym _ _ chain_now) (differ_joined e.news e.rest (λ i j d less l. absurd (omega (arith, e.few)))
+        (differ_last e.own e.rest (differ_moved (entries_of h.o b) (e.own ++ e.rest) e.split.lists (once h.o b (stood h b (main h a b here)))))
+        (λ x new rest. (e.split.others x rest).differs (key_is b x (inr (e.split.others x rest)) a.w.key _ (e.spells x new).1)))
 
     from : (c : ℕ) → IsMain h.o.shape c → (i : ℕ) → i < length (entries_of p c) → Source c (at (entries_of p c) i)
     from c l i less = comes c l (at (entries_of p c) i) (Contains-get_or (entries_of p c) i 0 less)
@@ -155,10 +156,10 @@ module _ (h : Held) (a : AcceptedWrite h.o) (b : ℕ) (here : b ≡ bucket_in h.
           each = λ key cell q is has.
               let found = each_now key cell q is has (same_or_other key a.w.key) in
               (found.1.0, found.1.1, subst (λ x. Spells p b x key cell) (sym (get_or_default zs found.1.0 0 found.0 found.1.1 ∙ found.1.2)) found.2);
-          once = λ i j key cell less more sp sp'. once_at zs i j once_now less more (one_now (at zs i) (at zs j) (from b l i less) (from b l j more)
+          once = λ i j key cell less more sp sp'. one_place zs once_now i j less more (one_now (at zs i) (at zs j) (from b l i less) (from b l j more)
               (key_is b (at zs i) (from b l i less) key cell sp ∙ sym (key_is b (at zs j) (from b l j more) key cell sp')));
           rooms = λ i j less more n. far b b (at zs i) (at zs j) (from b l i less) (from b l j more)
-              (λ same. n (once_at zs i j once_now less more (one_now (at zs i) (at zs j) (from b l i less) (from b l j more) same)));
+              (λ same. n (one_place zs once_now i j less more (one_now (at zs i) (at zs j) (from b l i less) (from b l j more) same)));
           apart = λ c i j k n none less more. far b c (at zs i) (at (entries_of p c) j) (from b l i less) (from c k j more)
               (λ same. n (sym (spelt_now c (at (entries_of p c) j) (from c k j more)).2.bucket
               ∙ (ap (bucket_in h.o) (sym same) ∙ (spelt_now b (at zs i) (from b l i less)).2.bucket)));

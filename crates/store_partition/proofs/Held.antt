@@ -1,14 +1,15 @@
 -- A partition between two writes: what its entries tell of the machine's cells and of the heap's blocks.
+use Rattle.chained_index.proofs.Lists.{AllDiffer, differ_apart, differ_moved}
 use Rattle.store_partition.proofs.Words.{SLOTS, Allows, AreBytes, AreParts, Block, Cell, Contains, Contains-append_right, Contains-get_or}
-use Rattle.store_partition.proofs.Words.{Contains-permutation, Has, HasKey, HasNoSpot, Index, IsBlockList, IsBucket, IsDistinct, IsMain}
-use Rattle.store_partition.proofs.Words.{IsPermutation, IsPermutation-refl, IsPermutation-sym, IsSpotOf, Kept, List, ListStands, MayGive, None}
-use Rattle.store_partition.proofs.Words.{Option, Outcome, OwnerState, RoomsApart, Some, Spells, Spot, Store, Write, [], accepted_in}
-use Rattle.store_partition.proofs.Words.{accepted_is_length, ap, arith, at, bucket_at, bucket_in, cells_of, chain_inside, chained, entries_of}
-use Rattle.store_partition.proofs.Words.{entry_offset, entry_tag, eqb, get, get_or_default, has_its_key, inl, inr, item_at, keys_in, len, length}
-use Rattle.store_partition.proofs.Words.{listed, main_of, mod-eq_of_lt, number_entry, number_of, number_within, only_key, options_in, refl, room_in}
-use Rattle.store_partition.proofs.Words.{room_is, rooms, same_Some, spelt_key, spot_at, spot_entry, stands_idle, state_in, store_state, stored_in}
-use Rattle.store_partition.proofs.Words.{subst, sym, used_block, used_blocks, words_of, ℕ, ◌%◌, ◌++◌, ◌+◌, ◌/◌, ◌<◌, ◌^◌, ◌∙◌, ◌∷◌, ◌≡◌, ◌≢◌, ◌≤◌}
-use Rattle.store_partition.proofs.Lists.{block_within, not_among, nothing, once_by, once_moved, same_or_apart, single}
+use Rattle.store_partition.proofs.Words.{Contains-permutation, Has, HasKey, HasNoSpot, Index, IsBlockList, IsBucket, IsMain, IsPermutation}
+use Rattle.store_partition.proofs.Words.{IsPermutation-refl, IsPermutation-sym, IsSpotOf, Kept, List, ListStands, MayGive, None, Option, Outcome}
+use Rattle.store_partition.proofs.Words.{OwnerState, RoomsApart, Some, Spells, Spot, Store, Write, [], accepted_in, accepted_is_length, ap, arith, at}
+use Rattle.store_partition.proofs.Words.{bucket_at, bucket_in, cells_of, chain_inside, chained, entries_of, entry_offset, entry_tag, get}
+use Rattle.store_partition.proofs.Words.{get_or_default, has_its_key, item_at, keys_in, len, length, listed, main_of, mod-eq_of_lt, number_entry}
+use Rattle.store_partition.proofs.Words.{number_of, number_within, only_key, options_in, refl, room_in, room_is, rooms, same_Some, spelt_key, spot_at}
+use Rattle.store_partition.proofs.Words.{spot_entry, stands_idle, state_in, store_state, stored_in, subst, sym, used_block, used_blocks, words_of, ℕ}
+use Rattle.store_partition.proofs.Words.{◌%◌, ◌++◌, ◌+◌, ◌/◌, ◌<◌, ◌^◌, ◌∙◌, ◌∷◌, ◌≡◌, ◌≢◌, ◌≤◌}
+use Rattle.store_partition.proofs.Lists.{block_within, nothing, once_by, same_or_apart, single}
 use Rattle.store_partition.proofs.Cells.{one_or_none}
 
 -- an owner's state, with the index and the blocks that go with it
@@ -48,13 +49,9 @@ pub rooms_apart : (o : OwnerState) (blocks : List Block) → IsBlockList o.shape
 rooms_apart o blocks list x x' has has' differ q i i' =
     let within = block_within o.shape.words blocks list (entry_offset x) (room_in o x) has in
     let within' = block_within o.shape.words blocks list (entry_offset x') (room_in o x') has' in
-    let low = i.1 in
-    let low' = i'.1 in
-    let same = same_word o (entry_offset x + i.0) (entry_offset x' + i'.0) (omega arith) (omega arith) (i.2 ∙ sym i'.2) in
-    elim (same_or_apart o.shape.words blocks list (used_block (entry_offset x) (room_in o x)) (used_block (entry_offset x') (room_in o x')) has has') [
-      | inl is ↦ differ (ap (λ (b : Block). b.place) is)
-      | inr apart ↦ elim apart [ inl before ↦ omega arith | inr behind ↦ omega arith ]
-    ]
+    let same = same_word o (entry_offset x + i.0) (entry_offset x' + i'.0) (omega (arith, i.1)) (omega (arith, i'.1)) (i.2 ∙ sym i'.2) in
+    let apart = same_or_apart o.shape.words blocks list (used_block (entry_offset x) (room_in o x)) (used_block (entry_offset x') (room_in o x')) has has' in
+    grind (arith, apart, i.1, i'.1)
 
 -- the entries of a chain, by what the words stand for
 module _ (o : OwnerState) (c : ℕ) (list : ListStands o c) where
@@ -77,7 +74,7 @@ module _ (o : OwnerState) (c : ℕ) (list : ListStands o c) where
       let there' = subst (λ e. Spells o c e key cell) (sym (stands_at x' has')) sp' in
       sym (stands_at x has) ∙ (ap (at (entries_of o c)) (list.once has.0 has'.0 key cell has.1 has'.1 there there') ∙ stands_at x' has')
 
-  pub once : IsDistinct eqb (entries_of o c)
+  pub once : AllDiffer (entries_of o c)
   once = once_by (entries_of o c) (λ i j l m same.
       let some = list.nothing_else i l in
       list.once i j some.0 some.1 l m some.2 (subst (λ e. Spells o c e some.0 some.1) same some.2))
@@ -211,7 +208,7 @@ module _ (h : Held) (key : List ℕ) (b : ℕ) (here : b ≡ bucket_in h.o key) 
             long = sym (ap one_or_none has_own);
             its = λ x has. (own.0, subst (λ z. Spells h.o b z key own.0) (single e x has) own.1);
             others = λ x has. others x (Contains-permutation (e ∷ rest) xs x (IsPermutation-sym _ _ lists) (Contains-append_right (e ∷ []) rest x has))
-                (not_among e rest (once_moved xs (e ∷ rest) lists (once h.o b (stood h b main))) x has);
+                (λ same. differ_apart (e ∷ []) rest (differ_moved xs (e ∷ rest) lists (once h.o b (stood h b main))) x (0, omega arith, sym same) has);
           };
           elsewhere = λ c x other same. other.differs (sym (only_key h.o h.kept b c e x key other.own own.0 other.cell own.1 other.spells same));
         }
