@@ -54,18 +54,19 @@ module _ (o : OwnerState) (s : Chained o) (index : Index) (known : IsIndexOf ind
   spares_counted : length index.free + spares_used o o.shape.buckets ≡ o.shape.spares
   spares_counted =
       let all = spares_to o.shape.buckets (omega arith) in
-      let count = all_there all.0 o.shape.buckets o.shape.spares all.2 (λ c has. ((all.3 c).0 has).0)
-      (λ c low high. (all.3 c).1 ((low, high), λ b least main. absurd (omega arith))) in
-      omega (arith, all.1)
+      omega (
+        arith,
+        all.1,
+        all_there all.0 o.shape.buckets o.shape.spares all.2 (λ c has. ((all.3 c).0 has).0)
+            (λ c low high. (all.3 c).1 ((low, high), λ b least main. absurd (omega arith))),
+      )
 
   -- in the machine's words, where each chain has as many entries as its bucket has keys
   module _ (cells : Cells) (as_keys : (b : ℕ) → IsMain o.shape b → length (entries_of o b) ≡ keys_in o.shape.buckets b cells) where
     used_below : (n : ℕ) → n ≤ o.shape.buckets → spares_used o n ≡ spares_below o.shape.buckets n cells
     unfolding spares_used spares_below
     used_below zero few = refl
-    used_below (suc b) few =
-        let here = ap spares_behind (as_keys b (omega arith)) in
-        omega (arith, used_below b (omega arith))
+    used_below (suc b) few = omega (arith, used_below b (omega arith), ap spares_behind (as_keys b (omega arith)))
 
     pub free_spares : length index.free + spares_in_use o.shape.buckets cells ≡ o.shape.spares
     free_spares = omega (arith, spares_counted, used_below o.shape.buckets (omega arith))

@@ -49,9 +49,13 @@ pub rooms_apart : (o : OwnerState) (blocks : List Block) → IsBlockList o.shape
 rooms_apart o blocks list x x' has has' differ q i i' =
     let within = block_within o.shape.words blocks list (entry_offset x) (room_in o x) has in
     let within' = block_within o.shape.words blocks list (entry_offset x') (room_in o x') has' in
-    let same = same_word o (entry_offset x + i.0) (entry_offset x' + i'.0) (omega (arith, i.1)) (omega (arith, i'.1)) (i.2 ∙ sym i'.2) in
-    let apart = same_or_apart o.shape.words blocks list (used_block (entry_offset x) (room_in o x)) (used_block (entry_offset x') (room_in o x')) has has' in
-    grind (arith, apart, i.1, i'.1)
+    grind (
+      arith,
+      same_word o (entry_offset x + i.0) (entry_offset x' + i'.0) (omega (arith, i.1)) (omega (arith, i'.1)) (i.2 ∙ sym i'.2),
+      i.1,
+      i'.1,
+      same_or_apart o.shape.words blocks list (used_block (entry_offset x) (room_in o x)) (used_block (entry_offset x') (room_in o x')) has has',
+    )
 
 -- the entries of a chain, by what the words stand for
 module _ (o : OwnerState) (c : ℕ) (list : ListStands o c) where
@@ -126,9 +130,7 @@ module _ (h : Held) where
   -- Outcomes
 
   pub not_worn : length h.o.history < h.o.shape.wear → ¬ (h.o.shape.wear ≤ m.accepted)
-  not_worn unworn worn =
-      let count : m.accepted ≡ length h.o.history = sym (ap accepted_in before) ∙ accepted_is_length (options_in h.o) h.o.history in
-      omega arith
+  not_worn unworn worn = omega (arith, ap accepted_in before, accepted_is_length (options_in h.o) h.o.history)
 
   pub may_give : (w : Write) (outcome : Outcome) → Allows (options_in h.o) (store_state m) w outcome → MayGive (options_in h.o) h.o.history w outcome
   may_give w outcome allowed = subst (λ z. Allows (options_in h.o) z w outcome) (sym before) allowed

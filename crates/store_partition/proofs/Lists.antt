@@ -2,7 +2,7 @@
 use Rattle.chained_index.proofs.Lists.{AllDiffer}
 use Rattle.store_partition.proofs.Words.{AddsBlock, All-contains, Block, Contains, Contains-permutation, Fills, IsBlockList, IsGiven, IsPermutation}
 use Rattle.store_partition.proofs.Words.{IsPermutation-middle, IsPermutation-refl, IsPermutation-remove, IsPermutation-swap_remove, IsPermutation-sym}
-use Rattle.store_partition.proofs.Words.{List, [], ap, arith, at, back_fills, drop, get_or, get_or_default, length, list_remove, refl, set_split}
+use Rattle.store_partition.proofs.Words.{List, [], ap, arith, at, back_fills, drop, get_or_default, length, list_remove, refl, set_split}
 use Rattle.store_partition.proofs.Words.{slice_set, subst, subst₂, suc, swap_remove, sym, take, used_apart, used_block, used_blocks}
 use Rattle.store_partition.proofs.Words.{used_blocks-given, used_within, words_of, words_of-fills, ℕ, ◌++◌, ◌+◌, ◌-◌, ◌<◌, ◌∙◌, ◌∷◌, ◌≡◌, ◌≤◌, ◌⊎◌}
 
@@ -15,10 +15,7 @@ nothing x has = absurd (let less = has.1 in omega arith)
 
 pub in_one : {X : Type 0} (xs : List X) (x y : X) → length xs ≤ 1 → Contains xs x → Contains xs y → x ≡ y
 in_one xs x y few has has' =
-    let less = has.1 in
-    let less' = has'.1 in
-    let same : has.0 ≡ has'.0 = omega arith in
-    sym has.2 ∙ (get_or_default xs has.0 x y has.1 ∙ (ap (λ k. get_or xs k y) same ∙ has'.2))
+    grind (arith, has.1, has'.1, has.2, has'.2, get_or_default xs has.0 x y has.1)
 
 pub single : {X : Type 0} (x y : X) → Contains (x ∷ []) y → x ≡ y
 single x y has = in_one (x ∷ []) x y (omega arith) (0, omega arith, refl) has

@@ -53,29 +53,37 @@ module _ (h : Held) (key value : List ℕ) (b : ℕ) (here : b ≡ bucket_in h.o
 
     pub stored_taken : ss.NeedsBlock (options_in h.o) (m h) w → (blocks : List Block) (place : ℕ) → IsTaken h.blocks blocks place size → IsBlockList (words_of h.blocks) blocks
         → Allows (options_in h.o) (store_state (m h)) w Stored
-    stored_taken needs blocks place taken list =
-        let more = sum_by_popped (λ (y : Block). y.size) _ _ _ (added _ _ _ (used_blocks-taken h.blocks blocks place size taken)) in
-        let total = words_of-fills 0 h.o.shape.words blocks (list_on h.o.shape.words h.blocks blocks h.parts.list list).fills in
-        let split = words_parted blocks in
-        let all = as_rooms h in
-        (not_worn h unworn, ((tt, inl tt), inr (needs, omega arith)))
+    stored_taken needs blocks place taken list = (
+      not_worn h unworn,
+      (
+        (tt, inl tt),
+        inr (
+          needs,
+          omega (
+            arith,
+            words_parted blocks,
+            as_rooms h,
+            sum_by_popped (λ (y : Block). y.size) _ _ _ (added _ _ _ (used_blocks-taken h.blocks blocks place size taken)),
+            words_of-fills 0 h.o.shape.words blocks (list_on h.o.shape.words h.blocks blocks h.parts.list list).fills,
+          ),
+        ),
+      ),
+    )
 
     pub full_spare : HasNoSpot h.o b key → LacksPlace h.index h.o b → IsOwnerStep h.o h.o w FullSpare
     full_spare none lacks =
-        let some = lacks.some in
-        let free = ap length lacks.none_free in
         let needs : ss.NeedsSpare (options_in h.o) (m h) key = record {
           is_new = has_none h key b here none;
-          some = (let same = own_keys in omega arith);
+          some = omega (arith, lacks.some, own_keys);
           full = ap (λ n. n % SLOTS) (sym own_keys) ∙ lacks.full;
-          none_left = (let all = counted in omega arith);
+          none_left = omega (arith, counted, ap length lacks.none_free);
         } in
         refused_step h.o h.parts.idle w FullSpare refl (may_give h w FullSpare (not_worn h unworn, (tt, needs)))
 
     pub full_block : ss.NeedsBlock (options_in h.o) (m h) w → MayLack h.blocks size → IsOwnerStep h.o h.o w FullBlock
     full_block needs lack =
-        let all = words_of-fills 0 h.o.shape.words h.blocks h.parts.list.fills in
-        let words : h.o.shape.words ≤ (length (used_blocks h.blocks) + 1) * (size - 1) + words_of (used_blocks h.blocks) = omega (arith, lack) in
+        let words : h.o.shape.words ≤ (length (used_blocks h.blocks) + 1) * (size - 1) + words_of (used_blocks h.blocks) =
+        omega (arith, lack, words_of-fills 0 h.o.shape.words h.blocks h.parts.list.fills) in
         refused_step h.o h.parts.idle w FullBlock refl (may_give h w FullBlock (
           not_worn h unworn,
           (needs, subst₂ (λ k l. h.o.shape.words ≤ (k + 1) * (size - 1) + l) (as_cells h) (as_rooms h) words),
