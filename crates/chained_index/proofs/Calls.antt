@@ -8,11 +8,9 @@ use Rattle.chained_index.proofs.Words.{subst₂, inr, inl, IsPermutation, IsPerm
 use Rattle.chained_index.proofs.Words.{get_or_append_left, words_after, entries_with, get_or-set_same, get_or-set_other, get_or_push, get_or-take}
 use Rattle.chained_index.proofs.Words.{get_or_past, All-push, All-set, All-take}
 use Rattle.chained_index.proofs.Lists.{at, AllUsed, at-push_other, one_place}
-use Rattle.chained_index.proofs.Paths.{last_at, step_on}
-use Rattle.chained_index.proofs.Chained.{chained, chain_inside, chained_before}
+use Rattle.chained_index.proofs.Chained.{last_at, step_on, chained, chain_inside, chained_before}
 use Rattle.chained_index.proofs.Changed.{Leaves, spares_differ, spares_are}
-use Rattle.chained_index.proofs.Filled.{View, view, view_read}
-use Rattle.chained_index.proofs.Numbers.{place, number_is, is_within}
+use Rattle.chained_index.proofs.Filled.{View, view, view_read, place, number_is, is_within}
 use Rattle.chained_index.proofs.Walking.{list, last_bucket}
 use Rattle.chained_index.proofs.Stored.{Entered, none_entered, with_free, entered, kept_buckets, link_here, link_else, same_entry, relinks, moves}
 use Rattle.chained_index.proofs.Stored.{not_free}

@@ -1,12 +1,10 @@
 pub mod Words
 pub mod Lists
-mod Paths
 pub mod Chained
 pub mod Filled
 pub mod Stays
 mod Changed
 mod Stored
-pub mod Numbers
 mod Allowed
 mod Calls
 mod Walking

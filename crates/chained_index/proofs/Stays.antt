@@ -4,8 +4,7 @@ use Rattle.chained_index.proofs.Words.{History, Contains, OwnerState, Phase, End
 use Rattle.chained_index.proofs.Words.{link_in, IsChain, in_chain, chain_there, Contains-get_or, entry_at, link_at, words_after, history_after}
 use Rattle.chained_index.proofs.Words.{phase_after, after, no_epoch, other, Index, IsIndexOf}
 use Rattle.chained_index.proofs.Lists.{at}
-use Rattle.chained_index.proofs.Paths.{chain_is}
-use Rattle.chained_index.proofs.Chained.{Chained, kept_chain, chain_inside, free_on, free_back}
+use Rattle.chained_index.proofs.Chained.{chain_is, Chained, kept_chain, chain_inside, free_on, free_back}
 use Rattle.chained_index.proofs.Filled.{SameBucket, all_slots, length-all_slots, all_inside, by_place, entries_filtered, dense_there, filled_there}
 use Rattle.chained_index.proofs.Filled.{same_filled}
 

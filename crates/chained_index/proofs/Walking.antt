@@ -4,9 +4,8 @@ use Rattle.chained_index.proofs.Words.{OwnerState, IsMain, IsBucket, entry_in, l
 use Rattle.chained_index.proofs.Words.{inside, Contains-get_or, tag_of, entry_tag, entry_offset, InChain, HasKey, in_chain, number_of, IsSpotOf}
 use Rattle.chained_index.proofs.Words.{HasNoSpot}
 use Rattle.chained_index.proofs.Lists.{at, below}
-use Rattle.chained_index.proofs.Numbers.{is_within, entry_there}
-use Rattle.chained_index.proofs.Paths.{chain_is, step_on, first_bucket, length-buckets_of}
-use Rattle.chained_index.proofs.Filled.{View}
+use Rattle.chained_index.proofs.Filled.{is_within, entry_there, View}
+use Rattle.chained_index.proofs.Chained.{chain_is, step_on, first_bucket, length-buckets_of}
 
 -- where a walk stands: at the bucket that so many links lead to
 pub record IsAt (o : OwnerState) (b link c : ℕ) : Type 0 where

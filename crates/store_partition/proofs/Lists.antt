@@ -2,9 +2,9 @@
 use Rattle.chained_index.proofs.Lists.{AllDiffer}
 use Rattle.store_partition.proofs.Words.{AddsBlock, All-contains, Block, Contains, Contains-permutation, Fills, IsBlockList, IsGiven, IsPermutation}
 use Rattle.store_partition.proofs.Words.{IsPermutation-middle, IsPermutation-refl, IsPermutation-remove, IsPermutation-swap_remove, IsPermutation-sym}
-use Rattle.store_partition.proofs.Words.{List, [], ap, arith, at, back_fills, drop, get_or_default, length, list_remove, refl, set_split}
-use Rattle.store_partition.proofs.Words.{slice_set, subst, subst₂, suc, swap_remove, sym, take, used_apart, used_block, used_blocks}
-use Rattle.store_partition.proofs.Words.{used_blocks-given, used_within, words_of, words_of-fills, ℕ, ◌++◌, ◌+◌, ◌-◌, ◌<◌, ◌∙◌, ◌∷◌, ◌≡◌, ◌≤◌, ◌⊎◌}
+use Rattle.store_partition.proofs.Words.{List, [], ap, arith, at, back_fills, drop, get_or_default, length, list_remove, refl, set_split, slice_set}
+use Rattle.store_partition.proofs.Words.{subst, subst₂, suc, swap_remove, sym, take, used_apart, used_block, used_blocks, used_blocks-given}
+use Rattle.store_partition.proofs.Words.{used_within, words_of, words_of-fills, ℕ, ◌++◌, ◌+◌, ◌-◌, ◌<◌, ◌∙◌, ◌∷◌, ◌≡◌, ◌≤◌, ◌⊎◌}
 
 pub once_by : (xs : List ℕ) → ((i j : ℕ) → i < length xs → j < length xs → at xs i ≡ at xs j → i ≡ j) → AllDiffer xs
 once_by xs places i j d less m same = grind (arith, places i j, get_or_default xs i 0 d, get_or_default xs j d 0)

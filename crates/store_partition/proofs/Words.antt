@@ -2,11 +2,11 @@
 pub use Rattle.epoch_core.proofs.Vocabulary.{All-contains, AreBytes, Bool, CanPlay, Cell, Contains, Contains-append_cases, Has, IsBucket, IsMain}
 pub use Rattle.epoch_core.proofs.Vocabulary.{IsValidShape, Kept, KeyFits, List, MayGive, None, Option, RoomsApart, Some, Spells, StandsFor}
 pub use Rattle.epoch_core.proofs.Vocabulary.{WhenMarked, [], after as after_event, answer_of, ap, arith, as_made, bucket_in, bucket_of, cond, dite}
-pub use Rattle.epoch_core.proofs.Vocabulary.{drop, false, fnv1a, get_or, get_or_default, header_room, if◌then◌else◌, inl, inr, is_some, item_at}
-pub use Rattle.epoch_core.proofs.Vocabulary.{item_events, item_in, item_size, length, length-append, length-set, link_in, marked_in, not, option_map}
-pub use Rattle.epoch_core.proofs.Vocabulary.{options_in, plays, puts_from, refl, room_in, slice_index, stamp_of, start, state_in, state_snoc}
-pub use Rattle.epoch_core.proofs.Vocabulary.{store_state, stored_in, subst, suc, sym, take, true, value_in, zero, ℕ, ℕ_discrete, ◌%◌, ◌*◌, ◌++◌, ◌+◌}
-pub use Rattle.epoch_core.proofs.Vocabulary.{◌-◌, ◌<◌, ◌^◌, ◌∙◌, ◌∷◌, ◌≡◌, ◌≢◌, ◌≤◌, ◌⊎◌}
+pub use Rattle.epoch_core.proofs.Vocabulary.{drop, false, fnv1a, get_or_default, header_room, if◌then◌else◌, inl, inr, is_some, item_at, item_events}
+pub use Rattle.epoch_core.proofs.Vocabulary.{item_in, item_size, length, length-append, length-set, link_in, marked_in, not, option_map, options_in}
+pub use Rattle.epoch_core.proofs.Vocabulary.{plays, puts_from, refl, room_in, slice_index, stamp_of, start, state_in, state_snoc, store_state}
+pub use Rattle.epoch_core.proofs.Vocabulary.{stored_in, subst, suc, sym, take, true, value_in, zero, ℕ, ℕ_discrete, ◌%◌, ◌*◌, ◌++◌, ◌+◌, ◌-◌, ◌<◌}
+pub use Rattle.epoch_core.proofs.Vocabulary.{◌^◌, ◌∙◌, ◌∷◌, ◌≡◌, ◌≢◌, ◌≤◌, ◌⊎◌}
 pub use Rattle.chained_index.proofs.Words.{Cells, ChangesChain, Contains-append_left, Contains-append_right, Contains-get_or, Contains-permutation}
 pub use Rattle.chained_index.proofs.Words.{Decides-eqb, HasKey, HasNoSpot, Index, IsIndexOf, IsPermutation, IsPermutation-refl, IsPermutation-sym}
 pub use Rattle.chained_index.proofs.Words.{IsSpotOf, IsUsed, LacksPlace, bit_same, bucket_at, entry_of, entry_offset, entry_tag, flat_map, keys_in}
@@ -81,7 +81,7 @@ pub use Rattle.block_heap.specs.declared.block.Block.{Block}
 pub use Rattle.circular_log.specs.LogItem.{HasItem, IsItem, IsValueAt}
 pub use Rattle.chained_index.proofs.Chained.{all_on, chain_inside, chained}
 pub use Rattle.chained_index.proofs.Listed.{ListStands, at, listed, place as place_at, spot as spot_at, stands as stands_by}
-pub use Rattle.chained_index.proofs.Numbers.{number_entry, number_within}
+pub use Rattle.chained_index.proofs.Filled.{number_entry, number_within}
 pub use Rattle.chained_index.proofs.SpareCount.{free_spares}
 pub use Rattle.chained_index.proofs.Stays.{entries_ends, entries_stay, index_ends, index_stays}
 pub use Rattle.chained_index.specs.ChainEntries.{entries_of, number_of}

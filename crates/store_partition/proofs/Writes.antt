@@ -19,11 +19,9 @@ use Rattle.store_partition.proofs.Lists.{Gave, Heap, added, heap_gives, heap_kep
 use Rattle.store_partition.proofs.Lists.{swap_moved}
 use Rattle.store_partition.proofs.Cells.{cell_left, left, one_or_none}
 use Rattle.store_partition.proofs.Held.{HasBlock, Held, IsOther, Known, Split, before, has_none, m, not_worn, other_bucket, same_word, split_none}
-use Rattle.store_partition.proofs.Held.{used, within}
+use Rattle.store_partition.proofs.Held.{used, within, stored_in_room, stored_taken}
 use Rattle.store_partition.proofs.Events.{Base, Closes, Opens, accepts, base, main, marked_at, marked_base, may_open, now, number_in, number_is}
-use Rattle.store_partition.proofs.Events.{when_marked}
-use Rattle.store_partition.proofs.After.{finished, later, same_chain}
-use Rattle.store_partition.proofs.Outcomes.{stored_in_room, stored_taken}
+use Rattle.store_partition.proofs.Events.{when_marked, finished, later, same_chain}
 
 -- a block for the put's item, apart from the rooms of all other keys
 pub record Room (h : Held) (a : AcceptedWrite h.o) (from room : ℕ) : Type 0 where

@@ -2,9 +2,8 @@ use Rattle.store_partition.proofs.Words.{rules, AreBytes, CanPlay, ChangesChain,
 use Rattle.store_partition.proofs.Words.{MayLack, OwnerState, Put, Stored, Write, [], ap, arith, entries_of, entry_of, hash_tag, item_events}
 use Rattle.store_partition.proofs.Words.{item_size, marked_in_bucket, plays, refl, size_of, subst, subst₂, sym, tag_of_hash, true≢false, write_of, ℕ}
 use Rattle.store_partition.proofs.Words.{◌++◌, ◌+◌, ◌∙◌, ◌∷◌, ◌≡◌}
-use Rattle.store_partition.proofs.Held.{Held, main_at}
+use Rattle.store_partition.proofs.Held.{Held, main_at, full_block, full_spare, new_needs}
 use Rattle.store_partition.proofs.Events.{Closes}
-use Rattle.store_partition.proofs.Outcomes.{full_block, full_spare, new_needs}
 use Rattle.store_partition.proofs.Writes.{HasPut, PutNew, new}
 use Rattle.store_partition.proofs.Parts.{held}
 use Rattle.store_partition.proofs.partition.StorePartition.put_new.Given.{Over}
