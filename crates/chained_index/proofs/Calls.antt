@@ -190,14 +190,10 @@ module _ (o : OwnerState) (index : Index) (b : ℕ) (end : ChainEnd) (call : Cal
       blank none n =
           let some = some_behind n in
           let same = same_entry o index b call.v dropped end.before 0 ds (end.bucket ∷ []) (before_is n) (split n) in record {
-            no_link = grind (
-              arith,
-              link_else o index b call.v dropped end.before 0 ds (end.bucket ∷ []) (before_is n) (split n) end.bucket,
-              before n,
-              last,
-              one_place cs (all_differ (link_in o) b behind call.v.chain.behind) (length behind) (length behind - 1),
-              step_on (link_in o) b behind call.v.chain.behind (length behind),
-            );
+            no_link =
+                let else = link_else o index b call.v dropped end.before 0 ds (end.bucket ∷ []) (before_is n) (split n) end.bucket in
+                let differ = one_place cs (all_differ (link_in o) b behind call.v.chain.behind) (length behind) (length behind - 1) in
+                grind (arith, else, differ, before n, last, step_on (link_in o) b behind call.v.chain.behind (length behind));
             no_entry = λ slot low. grind (arith, same end.bucket slot low, last, dropped.entries (length behind) slot, get_or_past ys (SLOTS * length behind + slot) 0, used_some, size, long);
           }
 

@@ -106,17 +106,10 @@ module _ (o : OwnerState) (wide : length o.words ≡ word_count o.shape) (b : �
   -- and a dense chain has such a list
   module _ (d : IsDense o b) where
     order : (i j : ℕ) → i < j → at all j ≢ 0 → at all i ≢ 0
-    order i j less n = grind (
-      arith,
-      below all j n,
-      by_place o wide cs buckets i,
-      by_place o wide cs buckets j,
-      size_all,
-      own (i / SLOTS),
-      step_on (link_in o) b behind chain.behind (i / SLOTS),
-      d.in_order (at cs (j / SLOTS)) (i % SLOTS) (j % SLOTS),
-      d.full (at cs (i / SLOTS)) (i % SLOTS),
-    )
+    order i j less n =
+        let step = step_on (link_in o) b behind chain.behind (i / SLOTS) in
+        let later = d.in_order (at cs (j / SLOTS)) (i % SLOTS) (j % SLOTS) in
+        grind (arith, below all j n, by_place o wide cs buckets i, by_place o wide cs buckets j, size_all, own (i / SLOTS), d.full (at cs (i / SLOTS)) (i % SLOTS))
 
     part : (xs : List ℕ) × AllUsed xs × ((i : ℕ) → at all i ≡ at xs i)
     part = used_part all order

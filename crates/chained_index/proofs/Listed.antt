@@ -36,18 +36,9 @@ module _ {o : OwnerState} {b c slot c' slot' entry entry' i j : ℕ} (one : Stan
   -- and one spot one place
   same_place : (index : Index) → View o index b → (c ≡ c') × (slot ≡ slot') → i ≡ j
   same_place index v same =
-      grind (
-        arith,
-        chain_is o b v.behind v.chain,
-        one_place (b ∷ v.behind) (all_differ (link_in o) b v.behind v.chain.behind) (i / SLOTS) (j / SLOTS),
-        one.inside,
-        two.inside,
-        v.filled.size,
-        one.bucket,
-        two.bucket,
-        one.in_slot,
-        two.in_slot,
-      )
+      let is = chain_is o b v.behind v.chain in
+      let step = one_place (b ∷ v.behind) (all_differ (link_in o) b v.behind v.chain.behind) (i / SLOTS) (j / SLOTS) in
+      grind (arith, one.inside, two.inside, v.filled.size, one.bucket, two.bucket, one.in_slot, two.in_slot)
 
 module _ (o : OwnerState) (s : Chained o) (mode : o.shape.mode ≡ Store) (index : Index) (known : IsIndexOf index o) where
   module _ (b : ℕ) (main : IsMain o.shape b) where

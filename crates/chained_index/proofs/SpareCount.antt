@@ -54,12 +54,9 @@ module _ (o : OwnerState) (s : Chained o) (index : Index) (known : IsIndexOf ind
   spares_counted : length index.free + spares_used o o.shape.buckets ≡ o.shape.spares
   spares_counted =
       let all = spares_to o.shape.buckets (omega arith) in
-      omega (
-        arith,
-        all.1,
-        all_there all.0 o.shape.buckets o.shape.spares all.2 (λ c has. ((all.3 c).0 has).0)
-            (λ c low high. (all.3 c).1 ((low, high), λ b least main. absurd (omega arith))),
-      )
+      let count = all_there all.0 o.shape.buckets o.shape.spares all.2 (λ c has. ((all.3 c).0 has).0)
+      (λ c low high. (all.3 c).1 ((low, high), λ b least main. absurd (omega arith))) in
+      omega (arith, all.1)
 
   -- in the machine's words, where each chain has as many entries as its bucket has keys
   module _ (cells : Cells) (as_keys : (b : ℕ) → IsMain o.shape b → length (entries_of o b) ≡ keys_in o.shape.buckets b cells) where

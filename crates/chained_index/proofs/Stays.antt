@@ -41,12 +41,9 @@ module _ (o : OwnerState) (words : List ℕ) (history : History) (phase : Phase)
           slots_same =
               let size = length-all_slots p (long ∙ s.wide) cs (all_inside p b behind now main) in
               ext_get_or 0 (all_slots p cs) (all_slots o cs) (size ∙ sym (length-all_slots o s.wide cs (all_inside o b behind was main))) (λ i l.
-              grind (
-                arith,
-                by_place p (long ∙ s.wide) cs (all_inside p b behind now main) i,
-                by_place o s.wide cs (all_inside o b behind was main) i,
-                (same_in (at cs (i / SLOTS)) (Contains-get_or cs (i / SLOTS) 0 (omega arith))).entry (i % SLOTS),
-              ))
+              let at_p = by_place p (long ∙ s.wide) cs (all_inside p b behind now main) i in
+              let at_o = by_place o s.wide cs (all_inside o b behind was main) i in
+              grind (arith, (same_in (at cs (i / SLOTS)) (Contains-get_or cs (i / SLOTS) 0 (omega arith))).entry (i % SLOTS)))
 
       pub dense_kept : IsDense o b → IsDense p b
       dense_kept dense = dense_there p (long ∙ s.wide) b main behind now (entries_of o b)

@@ -96,14 +96,9 @@ module _ (o : OwnerState) (index : Index) (b : ℕ) (v : View o index b) where
 
         entries : (j u : ℕ) → j < length bs → u < SLOTS → entry_in (after (PutsEntry c slot x) (now words)) (at bs j) u ≡ at zs (SLOTS * j + u)
         entries j u m small =
-            grind (
-              arith,
-              one_place bs r.differ j k m l,
-              r.entries j u m small,
-              else (SLOTS * j + u),
-              entry_puts (now words) r.wide c slot x (r.inside c own) low,
-              entry_puts_other (now words) r.wide c slot x (at bs j) u low small,
-            )
+            let put = entry_puts (now words) r.wide c slot x (r.inside c own) low in
+            let other = entry_puts_other (now words) r.wide c slot x (at bs j) u low small in
+            grind (arith, one_place bs r.differ j k m l, r.entries j u m small, else (SLOTS * j + u))
 
     -- The link of c is put, which stands in the chain before those of `cut`, and now before those of `rest`.
     module _ (c next : ℕ) (front cut : List ℕ) (is : last_of b front ≡ c) (split : v.behind ≡ front ++ cut) where

@@ -82,18 +82,10 @@ module _ (o : OwnerState) (index : Index) (b : ℕ) (v : View o index b) where
       entry slot low = sym (v.filled.entries (length v.behind) slot (omega arith) low) ∙ ap (λ (z : ℕ). entry_in o z slot) (last_bucket before last ends)
 
       used_is : length (entries_of o b) + SLOTS ≡ SLOTS * length (buckets_of o b) + used
-      used_is = grind (
-        arith,
-        ap length list,
-        v.filled.size,
-        slots.0,
-        slots.1 (used - 1),
-        slots.2,
-        entry (used - 1),
-        entry used,
-        below (entries_of o b) (SLOTS * length v.behind + (used - 1)),
-        v.filled.used (SLOTS * length v.behind + used) 0,
-      )
+      used_is =
+          let more = below (entries_of o b) (SLOTS * length v.behind + (used - 1)) in
+          let most = v.filled.used (SLOTS * length v.behind + used) 0 in
+          grind (arith, ap length list, v.filled.size, slots.0, slots.1 (used - 1), slots.2, entry (used - 1), entry used)
 
 -- A search along the chain
 

@@ -300,17 +300,9 @@ module _ (h : Held) (a : AcceptedWrite h.o) (b : ℕ) (here : b ≡ bucket_in h.
         let ex = exchanges h.o.shape.buckets b (m h) a.w here (main h a b here) in
         dite (ℕ_discrete c b)
         (λ same. subst (λ d. length (entries_of p d) ≡ keys_in h.o.shape.buckets d (later h a)) (sym same)
-        (omega (
-          arith,
-          as_keys h b (main h a b here),
-          ex.here,
-          length_permutation _ _ e.split.lists,
-          length_permutation _ _ chain_now,
-          length-append e.own e.rest,
-          length-append e.news e.rest,
-          e.split.long,
-          e.long,
-        )))
+        (let was = length_permutation _ _ e.split.lists in
+        let are = length_permutation _ _ chain_now in
+        omega (arith, as_keys h b (main h a b here), ex.here, length-append e.own e.rest, length-append e.news e.rest, e.split.long, e.long)))
         (λ n. ap length (others_now c l n) ∙ (as_keys h c l ∙ sym (ex.there c n)))
 
     housed_last : (bs : List Block) → Becomes bs → (c x : ℕ) → Source c x → HasBlock p bs x
@@ -344,30 +336,15 @@ module _ (h : Held) (a : AcceptedWrite h.o) (b : ℕ) (here : b ≡ bucket_in h.
               let has = subst (λ xs. Contains xs x) (entries_ends p (chained p kept) b l c k) (Contains-get_or (entries_of (after_event (Ends b) p) c) i 0 less) in
               subst (λ n. Contains (used_blocks bs) (used_block (entry_offset x) n)) (sym (room_ends p b l x)) (housed_last bs becomes c x (comes c k x has));
           count =
-              omega (
-                arith,
-                length_permutation _ _ e.heap.more,
-                length_permutation _ _ heap.1,
-                as_cells h,
-                ex.all,
-                e.count,
-                e.split.long,
-                e.long,
-                length-append e.taken (used_blocks h.blocks),
-                length-append e.given (used_blocks bs),
-              )
+              (let more = length_permutation _ _ e.heap.more in
+              let less = length_permutation _ _ heap.1 in
+              let lengths = length-append e.given (used_blocks bs) in
+              omega (arith, as_cells h, ex.all, e.count, length-append e.taken (used_blocks h.blocks), e.split.long, e.long))
               ∙ ap len cells;
           words =
-              omega (
-                arith,
-                sum_by-IsPermutation (λ (y : Block). y.size) _ _ e.heap.more,
-                sum_by-IsPermutation (λ (y : Block). y.size) _ _ heap.1,
-                as_rooms h,
-                ex.room,
-                e.total,
-                words_of-append e.taken (used_blocks h.blocks),
-                words_of-append e.given (used_blocks bs),
-              )
+              (let more = sum_by-IsPermutation (λ (y : Block). y.size) _ _ e.heap.more in
+              let less = sum_by-IsPermutation (λ (y : Block). y.size) _ _ heap.1 in
+              omega (arith, as_rooms h, ex.room, e.total, words_of-append e.taken (used_blocks h.blocks), words_of-append e.given (used_blocks bs)))
               ∙ ap rooms cells;
         }
 

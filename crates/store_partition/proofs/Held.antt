@@ -55,13 +55,9 @@ pub rooms_apart : (o : OwnerState) (blocks : List Block) → IsBlockList o.shape
 rooms_apart o blocks list x x' has has' differ q i i' =
     let within = block_within o.shape.words blocks list (entry_offset x) (room_in o x) has in
     let within' = block_within o.shape.words blocks list (entry_offset x') (room_in o x') has' in
-    grind (
-      arith,
-      same_word o (entry_offset x + i.0) (entry_offset x' + i'.0) (omega (arith, i.1)) (omega (arith, i'.1)) (i.2 ∙ sym i'.2),
-      i.1,
-      i'.1,
-      same_or_apart o.shape.words blocks list (used_block (entry_offset x) (room_in o x)) (used_block (entry_offset x') (room_in o x')) has has',
-    )
+    let same = same_word o (entry_offset x + i.0) (entry_offset x' + i'.0) (omega (arith, i.1)) (omega (arith, i'.1)) (i.2 ∙ sym i'.2) in
+    let apart = same_or_apart o.shape.words blocks list (used_block (entry_offset x) (room_in o x)) (used_block (entry_offset x') (room_in o x')) has has' in
+    grind (arith, i.1, i'.1)
 
 -- the entries of a chain, by what the words stand for
 module _ (o : OwnerState) (c : ℕ) (list : ListStands o c) where
@@ -317,22 +313,10 @@ module _ (h : Held) (key value : List ℕ) (b : ℕ) (here : b ≡ bucket_in h.o
 
     pub stored_taken : ss.NeedsBlock (options_in h.o) (m h) w → (blocks : List Block) (place : ℕ) → IsTaken h.blocks blocks place size → IsBlockList (words_of h.blocks) blocks
         → Allows (options_in h.o) (store_state (m h)) w Stored
-    stored_taken needs blocks place taken list = (
-      not_worn h unworn,
-      (
-        (tt, inl tt),
-        inr (
-          needs,
-          omega (
-            arith,
-            words_parted blocks,
-            as_rooms h,
-            sum_by_popped (λ (y : Block). y.size) _ _ _ (added _ _ _ (used_blocks-taken h.blocks blocks place size taken)),
-            words_of-fills 0 h.o.shape.words blocks (list_on h.o.shape.words h.blocks blocks h.parts.list list).fills,
-          ),
-        ),
-      ),
-    )
+    stored_taken needs blocks place taken list =
+        let more = sum_by_popped (λ (y : Block). y.size) _ _ _ (added _ _ _ (used_blocks-taken h.blocks blocks place size taken)) in
+        let total = words_of-fills 0 h.o.shape.words blocks (list_on h.o.shape.words h.blocks blocks h.parts.list list).fills in
+        (not_worn h unworn, ((tt, inl tt), inr (needs, omega (arith, words_parted blocks, as_rooms h))))
 
     pub full_spare : HasNoSpot h.o b key → LacksPlace h.index h.o b → IsOwnerStep h.o h.o w FullSpare
     full_spare none lacks =
