@@ -9,11 +9,10 @@ use Rattle.chained_index.proofs.Words.{get_or_append_left, words_after, entries_
 use Rattle.chained_index.proofs.Words.{get_or_past, All-push, All-set, All-take}
 use Rattle.chained_index.proofs.Lists.{at, AllUsed, at-push_other, one_place}
 use Rattle.chained_index.proofs.Chained.{last_at, step_on, chained, chain_inside, chained_before}
-use Rattle.chained_index.proofs.Changed.{Leaves, spares_differ, spares_are}
+use Rattle.chained_index.proofs.Changed.{Leaves, spares_differ, spares_are, Entered, none_entered, with_free, entered, kept_buckets, link_here}
+use Rattle.chained_index.proofs.Changed.{link_else, same_entry, relinks, moves, not_free}
 use Rattle.chained_index.proofs.Filled.{View, view, view_read, place, number_is, is_within}
 use Rattle.chained_index.proofs.Walking.{list, last_bucket}
-use Rattle.chained_index.proofs.Stored.{Entered, none_entered, with_free, entered, kept_buckets, link_here, link_else, same_entry, relinks, moves}
-use Rattle.chained_index.proofs.Stored.{not_free}
 
 -- The entry of a used spot is changed.
 module _ (o : OwnerState) (index : Index) (b : ℕ) (v : View o index b) (spot : Spot) (u : IsUsed o b spot) (x y : ℕ) (is : x ≡ y) where

@@ -4,7 +4,6 @@ pub mod Chained
 pub mod Filled
 pub mod Stays
 mod Changed
-mod Stored
 mod Allowed
 mod Calls
 mod Walking

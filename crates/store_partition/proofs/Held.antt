@@ -193,18 +193,16 @@ module _ (h : Held) (key : List ℕ) (b : ℕ) (here : b ≡ bucket_in h.o key) 
 
     pub known : Known h key b spot
     known =
-        let room = room_is h.o h.kept b e key own.0 own.1 in
-        let fits = own.1.in_room in
-        let ends = within h b main e there in record {
+        let room = room_is h.o h.kept b e key own.0 own.1 in record {
           found = found;
           inside = (chain_inside h.o (chained h.o h.kept) b spot.bucket main found.used.in_chain, found.used.in_bucket);
           cell = own.0;
           has = has_own;
           room = room;
-          some = omega arith;
+          some = omega (arith, own.1.in_room);
           block = used h b main e there;
-          within = omega arith;
-          small = let few = h.kept.shape.ranges.words in omega arith;
+          within = omega (arith, within h b main e there, room);
+          small = omega (arith, within h b main e there, own.1.in_room, room, h.kept.shape.ranges.words);
           spells = own.1;
           among = there;
           split = λ rest lists. record {

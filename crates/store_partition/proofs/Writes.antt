@@ -41,7 +41,7 @@ module _ (h : Held) (a : AcceptedWrite h.o) (from room : ℕ) (r : Room h a from
   zs = item_words room a.w.key a.w.value
 
   short : length zs ≤ room
-  short = let long = length-item_words room a.w.key a.w.value in let few = r.few in omega arith
+  short = omega (arith, length-item_words room a.w.key a.w.value, r.few)
 
   in_heap : length zs ≤ h.o.shape.words
   in_heap = let block = r.block in let few = short in omega arith
@@ -50,10 +50,8 @@ module _ (h : Held) (a : AcceptedWrite h.o) (from room : ℕ) (r : Room h a from
   clear : (c x : ℕ) → IsOther h a.w.key c x → (i j : ℕ) → i < room_in h.o x → j < length zs → item_at h.o.shape (entry_offset x + i) ≢ item_at h.o.shape (from + j)
   clear c x other i j less low same =
       let ends = within h c other.main x other.among in
-      let block = r.block in
-      let few = short in
-      let is = same_word h.o (entry_offset x + i) (from + j) (omega arith) (omega arith) same in
-      elim (r.apart c x other) [ inl behind ↦ omega arith | inr before ↦ omega arith ]
+      let is = same_word h.o (entry_offset x + i) (from + j) (omega arith) (omega (arith, r.block, short)) same in
+      grind (arith, r.apart c x other, short)
 
   spares : (i : ℕ) → i < length zs → SparesOthers (marked h.o a) (bucket_in h.o a.w.key) (from + i)
   spares i l c d slot x main_c n live inside =
@@ -61,9 +59,8 @@ module _ (h : Held) (a : AcceptedWrite h.o) (from room : ℕ) (r : Room h a from
       let there = place_at (marked h.o a) (chained (marked h.o a) z.kept) h.parts.mode h.index z.index c main_c d slot x live in
       let has = subst (λ xs. Contains xs x) (z.entries c main_c)
       (subst (Contains (entries_of (marked h.o a) c)) there.1.is (Contains-get_or (entries_of (marked h.o a) c) there.0 0 there.1.inside)) in
-      let same : room_in (marked h.o a) x ≡ room_in h.o x = ap header_room (marked_item h.o a (entry_offset x)) in
-      let low = inside.1 in
-      clear c x (other_bucket h a.w.key (bucket_in h.o a.w.key) refl c x main_c has n) inside.0 i (omega arith) l inside.2
+      let less : inside.0 < room_in h.o x = omega (arith, inside.1, ap header_room (marked_item h.o a (entry_offset x))) in
+      clear c x (other_bucket h a.w.key (bucket_in h.o a.w.key) refl c x main_c has n) inside.0 i less l inside.2
 
   can : CanPlay (puts_from from zs) (marked h.o a)
   can = can_put (marked h.o a) (kept_marked h.o a) from zs (λ i l. record {
@@ -101,9 +98,8 @@ module _ (h : Held) (a : AcceptedWrite h.o) (from room : ℕ) (r : Room h a from
 
       item : (words : List ℕ) → ChangesChain o3 (written h.o a words) b ys → SpellsItem (written h.o a words) (entry_offset e) a.w.key cell
       item words now_change i l =
-          let long = length-item_words room a.w.key a.w.value in
           ap (λ q. item_in (written h.o a words) (q + i)) offset ∙ (now_change.rest.items (from + i)
-          ∙ (ap (λ o. item_in o (from + i)) at_put ∙ put_item h.o a from zs in_heap i (omega arith)))
+          ∙ (ap (λ o. item_in o (from + i)) at_put ∙ put_item h.o a from zs in_heap i (omega (arith, length-item_words room a.w.key a.w.value))))
 
       spells : (words : List ℕ) → ChangesChain o3 (written h.o a words) b ys → Kept (written h.o a words) → Spells (written h.o a words) b e a.w.key cell
       spells words now_change now_kept = spells_item (written h.o a words) now_kept b e a.w.key cell (sym here)
@@ -312,10 +308,7 @@ module _ (h : Held) (key value : List ℕ) (is : IsWrite (write_of Put key value
             blocks (used_block place size ∷ []) (used_block old k.cell.room ∷ []) (Gave blocks old)
             (heap_gives h.o.shape.words h.blocks blocks (used_block place size ∷ []) list more old k.cell.room k.some has_old)
             (still _ (0, omega arith, refl)) (freed_one old k.cell.room e old_is)
-            (λ y gone same.
-            let there = ap (λ (q : Block). q.place) (single (used_block old k.cell.room) y gone) ∙ same in
-            let some = k.some in
-            elim (clear_of old k.cell.room its) [ inl behind ↦ omega arith | inr before ↦ omega arith ])
+            (λ y gone same. grind (arith, ap (λ (q : Block). q.place) (single (used_block old k.cell.room) y gone) ∙ same, k.some, clear_of old k.cell.room its))
             refl (let had = ap room_of k.has in omega arith);
         small = let low = k.small in omega (arith, old_is);
         gives = record { size = k.cell.room; among = has_old };
