@@ -55,9 +55,6 @@ module _ (o : OwnerState) (index : Index) (b : ℕ) (end : ChainEnd) (call : Cal
   abbrev xs : List ℕ
   xs = entries_of o b
 
-  is_list : buckets_of o b ≡ cs
-  is_list = list o index b call.v
-
   last : at cs (length behind) ≡ end.bucket
   last = last_bucket o index b call.v end.before end.bucket call.ends.buckets
 
@@ -68,10 +65,10 @@ module _ (o : OwnerState) (index : Index) (b : ℕ) (end : ChainEnd) (call : Cal
   some_behind n = grind (arith, common_steps, last)
 
   before : end.bucket ≢ b → at cs (length behind - 1) ≡ end.before
-  before n = grind (arith, some_behind n, is_list, call.ends.buckets.before (length behind - 1))
+  before n = grind (arith, some_behind n, list o index b call.v, call.ends.buckets.before (length behind - 1))
 
   size : length xs + SLOTS ≡ SLOTS * length cs + end.used
-  size = omega (arith, call.ends.used, ap length is_list)
+  size = omega (arith, call.ends.used, ap length (list o index b call.v))
 
   own : (k : ℕ) → k < length cs → InChain o b (at cs k)
   own k l = in_chain o b behind call.v.chain (at cs k) (Contains-get_or cs k 0 l)

@@ -187,10 +187,3 @@ module _ (o : OwnerState) (index : Index) (b : ℕ) (v : View o index b) (spot :
 
   pub is_within : number_of o b spot < length (entries_of o b)
   is_within = grind (arith, below (entries_of o b) (number_of o b spot), u.used, entry_there)
-
-module _ (o : OwnerState) (s : Chained o) (index : Index) (known : IsIndexOf index o) (b : ℕ) (main : IsMain o.shape b) (spot : Spot) (u : IsUsed o b spot) where
-  pub number_within : number_of o b spot < length (entries_of o b)
-  number_within = is_within o index b (view o s index known b main) spot u
-
-  pub number_entry : get_or (entries_of o b) (number_of o b spot) 0 ≡ spot_entry o spot
-  number_entry = entry_there o index b (view o s index known b main) spot u

@@ -6,13 +6,13 @@ use Rattle.store_partition.proofs.Words.{Contains-permutation, Has, HasKey, HasN
 use Rattle.store_partition.proofs.Words.{IsPermutation-refl, IsPermutation-sym, IsSpotOf, Kept, List, ListStands, MayGive, None, Option, Outcome}
 use Rattle.store_partition.proofs.Words.{OwnerState, RoomsApart, Some, Spells, Spot, Store, Write, [], accepted_in, accepted_is_length, ap, arith, at}
 use Rattle.store_partition.proofs.Words.{bucket_at, bucket_in, cells_of, chain_inside, chained, entries_of, entry_offset, entry_tag, get}
-use Rattle.store_partition.proofs.Words.{get_or_default, has_its_key, item_at, keys_in, len, length, listed, main_of, mod-eq_of_lt, number_entry}
-use Rattle.store_partition.proofs.Words.{number_of, number_within, only_key, options_in, refl, room_in, room_is, rooms, same_Some, spelt_key, spot_at}
-use Rattle.store_partition.proofs.Words.{spot_entry, stands_idle, state_in, store_state, stored_in, subst, sym, used_block, used_blocks, words_of, ℕ}
-use Rattle.store_partition.proofs.Words.{◌%◌, ◌++◌, ◌+◌, ◌/◌, ◌<◌, ◌^◌, ◌∙◌, ◌∷◌, ◌≡◌, ◌≢◌, ◌≤◌, HasItem, IsItem, IsValueAt, answer_of, option_map}
-use Rattle.store_partition.proofs.Words.{value_in, FullBlock, FullSpare, IsOwnerStep, IsSomeAnd, IsTaken, LacksPlace, MayLack, Put, Stored}
-use Rattle.store_partition.proofs.Words.{free_spares, inl, inr, item_size, nil_from_length, refused_step, spares_in_use, subst₂, sum_by_popped}
-use Rattle.store_partition.proofs.Words.{used_blocks-taken, words_of-fills, words_parted, write_of, ◌*◌, ◌-◌}
+use Rattle.store_partition.proofs.Words.{get_or_default, has_its_key, item_at, keys_in, len, length, listed, main_of, mod-eq_of_lt, entry_there}
+use Rattle.store_partition.proofs.Words.{is_within, view, number_of, only_key, options_in, refl, room_in, room_is, rooms, same_Some, spelt_key}
+use Rattle.store_partition.proofs.Words.{spot_at, spot_entry, stands_idle, state_in, store_state, stored_in, subst, sym, used_block, used_blocks}
+use Rattle.store_partition.proofs.Words.{words_of, ℕ, ◌%◌, ◌++◌, ◌+◌, ◌/◌, ◌<◌, ◌^◌, ◌∙◌, ◌∷◌, ◌≡◌, ◌≢◌, ◌≤◌, HasItem, IsItem, IsValueAt, answer_of}
+use Rattle.store_partition.proofs.Words.{option_map, value_in, FullBlock, FullSpare, IsOwnerStep, IsSomeAnd, IsTaken, LacksPlace, MayLack, Put}
+use Rattle.store_partition.proofs.Words.{Stored, free_spares, inl, inr, item_size, nil_from_length, refused_step, spares_in_use, subst₂}
+use Rattle.store_partition.proofs.Words.{sum_by_popped, used_blocks-taken, words_of-fills, words_parted, write_of, ◌*◌, ◌-◌}
 use Rattle.store_partition.proofs.Lists.{block_within, nothing, once_by, same_or_apart, single, added, list_on}
 use Rattle.store_partition.proofs.Cells.{one_or_none}
 use Rattle.circular_log.proofs.SpeltItem.{spelt_item}
@@ -177,8 +177,8 @@ module _ (h : Held) (key : List ℕ) (b : ℕ) (here : b ≡ bucket_in h.o key) 
     e = spot_entry h.o spot
 
     there : Contains xs e
-    there = subst (Contains xs) (number_entry h.o (chained h.o h.kept) h.index h.parts.known b main spot found.used)
-        (Contains-get_or xs (number_of h.o b spot) 0 (number_within h.o (chained h.o h.kept) h.index h.parts.known b main spot found.used))
+    there = subst (Contains xs) (entry_there h.o h.index b (view h.o (chained h.o h.kept) h.index h.parts.known b main) spot found.used)
+        (Contains-get_or xs (number_of h.o b spot) 0 (is_within h.o h.index b (view h.o (chained h.o h.kept) h.index h.parts.known b main) spot found.used))
 
     own : (cell : Cell) × Spells h.o b e key cell
     own = spelt_key h.o h.kept b e key bytes found.item (spelt h.o b (stood h b main) e there)
@@ -238,12 +238,7 @@ module _ (h : Held) (key : List ℕ) (b : ℕ) (here : b ≡ bucket_in h.o key) 
             absurd (one.differs (only_key h.o h.kept b b found.0 found.0 one.own key one.cell cell one.spells found.2 refl))
 
     pub split_none : Split h key b [] xs
-    split_none = record {
-      lists = IsPermutation-refl xs;
-      long = sym (ap one_or_none has_none);
-      its = λ x has. nothing x has;
-      others = all_others;
-    }
+    split_none = record { lists = IsPermutation-refl xs; long = sym (ap one_or_none has_none); its = λ x has. nothing x has; others = all_others }
 
 -- What the words answer to a get
 
