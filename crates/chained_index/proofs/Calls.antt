@@ -1,7 +1,7 @@
 -- What the stores of each call make of a chain and its index.
 use Rattle.chained_index.proofs.Words.{SLOTS, ◌≡◌, ◌≢◌, ℕ, ◌+◌, ◌-◌, ◌*◌, ◌<◌, ◌≤◌, ◌⊎◌, List, [], ◌∷◌, ◌++◌, length, take, set, refl, sym, ap, ◌∙◌}
 use Rattle.chained_index.proofs.Words.{subst, arith, length-set, Contains, Contains-push, OwnerState, PutsEntry, PutsLink, IsMain, IsBucket, entry_in}
-use Rattle.chained_index.proofs.Words.{marked_in, InChain, IsFreeSpare, after, Kept, ends_main, Spot, ChainEnd, buckets_of, entries_of, number_of}
+use Rattle.chained_index.proofs.Words.{marked_in, InChain, IsFreeSpare, after, Kept, ends_main, Spot, ChainEnd, entries_of, number_of}
 use Rattle.chained_index.proofs.Words.{entries_without, IsUsed, EndsAt, Index, IsIndexOf, LacksPlace, last_of, link_in, in_chain, all_differ, at_most}
 use Rattle.chained_index.proofs.Words.{Contains-get_or, take-length, take-suc, length-take, length-append, length_push, common_steps, append-nil}
 use Rattle.chained_index.proofs.Words.{subst₂, inr, inl, IsPermutation, IsPermutation-sym, IsBlank, Contains-append_left, Contains-push_cases}

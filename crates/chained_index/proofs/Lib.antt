@@ -7,6 +7,5 @@ mod Changed
 mod Allowed
 mod Calls
 mod Walking
-mod AsMade
 pub mod Listed
 pub mod SpareCount

@@ -80,11 +80,9 @@ nothing_at_start CacheMode is key cell q h = cc is
 nothing_at_start StoreMode is key cell q h = let none = get-empty {X = Cell} (slice_cmp nat_cmp) key in cc (sym none ∙ h)
 
 module _ (shape : Shape) (valid : IsValidShape shape) (mode : shape.mode ≡ StoreMode) (index : Index) (known : IsIndexOf index (as_made shape)) where
-  kept : Kept (as_made shape)
-  kept = kept_as_made shape valid
-
   no_entry : (b : ℕ) → IsMain shape b → length (entries_of (as_made shape) b) ≡ 0
   no_entry b l = dite (ℕ_discrete (length (entries_of (as_made shape) b)) 0) (λ none. none) (λ some.
+      let kept = kept_as_made shape valid in
       let list = listed (as_made shape) (chained (as_made shape) kept) mode index known b l (kept.state b l refl) in
       let first = list.nothing_else 0 (omega arith) in
       absurd (nothing_at_start shape.mode mode first.0 first.1 _ first.2.has))

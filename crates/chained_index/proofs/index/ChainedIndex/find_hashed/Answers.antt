@@ -85,6 +85,4 @@ pub returns-else-next-eq0-clause-found : goal.returns-else-next-eq0-clause-found
 returns-else-next-eq0-clause-found g c =
     let a = (goal.at.returns-else-next-eq0-clause-found g c).After-read-next in
     let far = at_most _ _ _ _ (one_further _ _ _ (linked g a) _ _ c.loop-link.invariant.walk _ (link g a) (search rules)) in
-    let known = ap (λ (z : Shape). z.spares) c.requires.index.shape in
-    let seen = ap (λ (z : Index). z.shape.spares) c.self.view_is in
-    absurd (omega arith)
+    absurd (omega (arith, far, ap (λ (z : Shape). z.spares) c.requires.index.shape, ap (λ (z : Index). z.shape.spares) c.self.view_is))

@@ -33,6 +33,5 @@ loop-link-preserved g c =
 pub returns-clause-last : goal.returns-clause-last
 returns-clause-last g c =
     let l = c.loop-link in
-    let known = ap (λ (z : Shape). z.spares) c.requires.index.shape in
-    let seen = ap (λ (z : Index). z.shape.spares) c.self.view_is in
-    ends_in _ _ _ _ _ l.invariant.walk l.invariant.behind (at_last _ _ _ _ l.invariant.walk (omega arith))
+    ends_in _ _ _ _ _ l.invariant.walk l.invariant.behind (at_last _ _ _ _ l.invariant.walk
+    (omega (arith, ap (λ (z : Shape). z.spares) c.requires.index.shape, ap (λ (z : Index). z.shape.spares) c.self.view_is)))
