@@ -40,10 +40,9 @@ pub put_link-requires : goal.put_link-requires
 put_link-requires g c =
     let call = call g (goal.at.put_link-requires g c).After-end_of-end in
     let is = first g (goal.at.put_link-requires g c).After-put_entry in
-    let within = call.ends.within in
-    let some = used_some _ _ _ _ call c.args.spot c.requires.spot in
     let end = c.end_of-end.result in
-    may_link _ (chained _ (subst Kept is c.put_entry.ensures.kept)) c.args.bucket call.v.main c.requires.marked end.bucket (end.used - 1) 0 (omega arith) _
+    may_link _ (chained _ (subst Kept is c.put_entry.ensures.kept)) c.args.bucket call.v.main c.requires.marked end.bucket (end.used - 1) 0
+    (omega (arith, call.ends.within, used_some _ _ _ _ call c.args.spot c.requires.spot)) _
     (c.put_entry-2.ensures.event ∙ ap (after (PutsEntry end.bucket (end.used - 1) 0)) is) _ _
     (still_in _ call.v.s _ call.v.main c.requires.marked _ _ _ c.requires.spot.in_bucket _ (before_in_chain _ _ _ _ call c.if-end-bucket.true)) (inl refl)
 
