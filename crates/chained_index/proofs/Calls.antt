@@ -1,21 +1,18 @@
 -- What the stores of each call make of a chain and its index.
 use Rattle.chained_index.proofs.Words.{SLOTS, ◌≡◌, ◌≢◌, ℕ, ◌+◌, ◌-◌, ◌*◌, ◌<◌, ◌≤◌, ◌⊎◌, List, [], ◌∷◌, ◌++◌, length, take, set, refl, sym, ap, ◌∙◌}
 use Rattle.chained_index.proofs.Words.{subst, arith, length-set, Contains, Contains-push, OwnerState, PutsEntry, PutsLink, IsMain, IsBucket, entry_in}
-use Rattle.chained_index.proofs.Words.{marked_in, InChain, IsFreeSpare, after, Kept, ends_main, Spot, ChainEnd, buckets_of, entries_of, number_of}
+use Rattle.chained_index.proofs.Words.{marked_in, InChain, IsFreeSpare, after, Kept, ends_main, Spot, ChainEnd, entries_of, number_of}
 use Rattle.chained_index.proofs.Words.{entries_without, IsUsed, EndsAt, Index, IsIndexOf, LacksPlace, last_of, link_in, in_chain, all_differ, at_most}
 use Rattle.chained_index.proofs.Words.{Contains-get_or, take-length, take-suc, length-take, length-append, length_push, common_steps, append-nil}
 use Rattle.chained_index.proofs.Words.{subst₂, inr, inl, IsPermutation, IsPermutation-sym, IsBlank, Contains-append_left, Contains-push_cases}
 use Rattle.chained_index.proofs.Words.{get_or_append_left, words_after, entries_with, get_or-set_same, get_or-set_other, get_or_push, get_or-take}
 use Rattle.chained_index.proofs.Words.{get_or_past, All-push, All-set, All-take}
 use Rattle.chained_index.proofs.Lists.{at, AllUsed, at-push_other, one_place}
-use Rattle.chained_index.proofs.Paths.{last_at, step_on}
-use Rattle.chained_index.proofs.Chained.{chained, chain_inside, chained_before}
-use Rattle.chained_index.proofs.Changed.{Leaves, spares_differ, spares_are}
-use Rattle.chained_index.proofs.Filled.{View, view, view_read}
-use Rattle.chained_index.proofs.Numbers.{place, number_is, is_within}
+use Rattle.chained_index.proofs.Chained.{last_at, step_on, chained, chain_inside, chained_before}
+use Rattle.chained_index.proofs.Changed.{Leaves, spares_differ, spares_are, Entered, none_entered, with_free, entered, kept_buckets, link_here}
+use Rattle.chained_index.proofs.Changed.{link_else, same_entry, relinks, moves, not_free}
+use Rattle.chained_index.proofs.Filled.{View, view, view_read, place, number_is, is_within}
 use Rattle.chained_index.proofs.Walking.{list, last_bucket}
-use Rattle.chained_index.proofs.Stored.{Entered, none_entered, with_free, entered, kept_buckets, link_here, link_else, same_entry, relinks, moves}
-use Rattle.chained_index.proofs.Stored.{not_free}
 
 -- The entry of a used spot is changed.
 module _ (o : OwnerState) (index : Index) (b : ℕ) (v : View o index b) (spot : Spot) (u : IsUsed o b spot) (x y : ℕ) (is : x ≡ y) where
@@ -58,9 +55,6 @@ module _ (o : OwnerState) (index : Index) (b : ℕ) (end : ChainEnd) (call : Cal
   abbrev xs : List ℕ
   xs = entries_of o b
 
-  is_list : buckets_of o b ≡ cs
-  is_list = list o index b call.v
-
   last : at cs (length behind) ≡ end.bucket
   last = last_bucket o index b call.v end.before end.bucket call.ends.buckets
 
@@ -71,10 +65,10 @@ module _ (o : OwnerState) (index : Index) (b : ℕ) (end : ChainEnd) (call : Cal
   some_behind n = grind (arith, common_steps, last)
 
   before : end.bucket ≢ b → at cs (length behind - 1) ≡ end.before
-  before n = grind (arith, some_behind n, is_list, call.ends.buckets.before (length behind - 1))
+  before n = grind (arith, some_behind n, list o index b call.v, call.ends.buckets.before (length behind - 1))
 
   size : length xs + SLOTS ≡ SLOTS * length cs + end.used
-  size = omega (arith, call.ends.used, ap length is_list)
+  size = omega (arith, call.ends.used, ap length (list o index b call.v))
 
   own : (k : ℕ) → k < length cs → InChain o b (at cs k)
   own k l = in_chain o b behind call.v.chain (at cs k) (Contains-get_or cs k 0 l)
@@ -151,7 +145,7 @@ module _ (o : OwnerState) (index : Index) (b : ℕ) (end : ChainEnd) (call : Cal
       ys = entries_without o b spot
 
       there : SLOTS * length behind + (end.used - 1) ≡ length xs - 1
-      there = let some = used_some in omega (arith, size)
+      there = omega (arith, used_some, size)
 
       long : length ys ≡ length xs - 1
       long = let size = length-set xs (number_of o b spot) (at xs (length xs - 1)) in omega (arith, length-take (length xs - 1) moved)

@@ -1,13 +1,13 @@
--- The entries of a chain as a list: they fill its buckets, one after another.
+-- The entries of a chain as a list: they fill its buckets, one after another, and the entry of a used spot stands at its number.
 use Rattle.chained_index.proofs.Words.{SLOTS, Kept, Index, IsIndexOf, IsMain, ◌≡◌, ◌≢◌, ℕ, suc, ◌+◌, ◌-◌, ◌*◌, ◌/◌, ◌%◌, ◌<◌, ◌≤◌, List, [], ◌∷◌}
 use Rattle.chained_index.proofs.Words.{◌++◌, length, take, drop, get_or, nat_lt, filter, flat_map, slice_range, refl, sym, ap, ◌∙◌, subst, arith}
 use Rattle.chained_index.proofs.Words.{length-take, Contains, length-drop, dite, ℕ_discrete, get_or_past, Contains-get_or, filter-append}
 use Rattle.chained_index.proofs.Words.{spares_behind, OwnerState, IsBucket, entry_at, word_count, entry_in, link_in, InChain, IsDense, entries_in}
 use Rattle.chained_index.proofs.Words.{entries_of, IsChain, has_bucket, in_chain, inside, chain_there, All, All-head, All-tail, All-take}
-use Rattle.chained_index.proofs.Words.{get_or-flat_map, common_steps}
-use Rattle.chained_index.proofs.Lists.{at, AllUsed, below, place_in, filter_is, used_part}
-use Rattle.chained_index.proofs.Paths.{chain_is, step_on}
-use Rattle.chained_index.proofs.Chained.{Chained, chained}
+use Rattle.chained_index.proofs.Words.{get_or-flat_map, common_steps, Bool, nat_eq, eq-eqb, ne_eqb, position_or_len, position_or_len_is, all_differ}
+use Rattle.chained_index.proofs.Words.{Spot, number_of, spot_entry, IsUsed}
+use Rattle.chained_index.proofs.Lists.{at, AllUsed, below, place_in, filter_is, used_part, one_place}
+use Rattle.chained_index.proofs.Chained.{chain_is, step_on, Chained, chained}
 
 -- a bucket's link and entries are the same
 pub record SameBucket (o p : OwnerState) (d : ℕ) : Type 0 where
@@ -107,11 +107,9 @@ module _ (o : OwnerState) (wide : length o.words ≡ word_count o.shape) (b : �
   module _ (d : IsDense o b) where
     order : (i j : ℕ) → i < j → at all j ≢ 0 → at all i ≢ 0
     order i j less n =
-        let low = below all j n in
-        let at_i = by_place o wide cs buckets i in
-        let at_j = by_place o wide cs buckets j in
         let step = step_on (link_in o) b behind chain.behind (i / SLOTS) in
-        grind (arith, size_all, own (i / SLOTS), d.in_order (at cs (j / SLOTS)) (i % SLOTS) (j % SLOTS), d.full (at cs (i / SLOTS)) (i % SLOTS))
+        let later = d.in_order (at cs (j / SLOTS)) (i % SLOTS) (j % SLOTS) in
+        grind (arith, below all j n, by_place o wide cs buckets i, by_place o wide cs buckets j, size_all, own (i / SLOTS), d.full (at cs (i / SLOTS)) (i % SLOTS))
 
     part : (xs : List ℕ) × AllUsed xs × ((i : ℕ) → at all i ≡ at xs i)
     part = used_part all order
@@ -163,3 +161,28 @@ view o s index known b main = let list = chain_there o s.chains b main in record
 -- as a call knows it that has read a word
 pub view_read : (o n : OwnerState) (index : Index) (b : ℕ) → n ≡ o → Kept n → IsIndexOf index o → IsMain o.shape b → View o index b
 view_read o n index b same kept known main = view o (chained o (subst Kept same kept)) index known b main
+
+-- Where the entry of a used spot stands
+
+module _ (o : OwnerState) (index : Index) (b : ℕ) (v : View o index b) (spot : Spot) (u : IsUsed o b spot) where
+  abbrev list : List ℕ
+  list = b ∷ v.behind
+
+  pub place : (k : ℕ) × (k < length list) × (at list k ≡ spot.bucket)
+  place = place_in list spot.bucket (has_bucket o b v.behind v.chain spot.bucket u.in_chain)
+
+  pub number_is : number_of o b spot ≡ SLOTS * place.0 + spot.slot
+  unfolding number_of
+  number_is =
+      let test : ℕ → Bool = λ c. nat_eq c spot.bucket in
+      ap (λ (z : List ℕ). SLOTS * position_or_len test z + spot.slot) (chain_is o b v.behind v.chain)
+      ∙ ap (λ (z : ℕ). SLOTS * z + spot.slot) (position_or_len_is test list place.0 0 (omega (arith, place.1))
+      (λ j below. ne_eqb (at list j) spot.bucket (λ same.
+      let is = one_place list (all_differ (link_in o) b v.behind v.chain.behind) j place.0 (omega (arith, place.1)) place.1 (same ∙ sym place.2) in omega arith))
+      (λ within. eq-eqb (at list place.0) spot.bucket place.2))
+
+  pub entry_there : at (entries_of o b) (number_of o b spot) ≡ spot_entry o spot
+  entry_there = grind (arith, number_is, v.filled.entries place.0 spot.slot place.1 u.in_bucket, place.2)
+
+  pub is_within : number_of o b spot < length (entries_of o b)
+  is_within = grind (arith, below (entries_of o b) (number_of o b spot), u.used, entry_there)

@@ -1,17 +1,11 @@
-mod Words
-mod Lists
-mod Paths
+pub mod Words
+pub mod Lists
 pub mod Chained
-mod Filled
-mod Frames
+pub mod Filled
+pub mod Stays
 mod Changed
-mod Stored
-pub mod Numbers
 mod Allowed
 mod Calls
 mod Walking
-mod Finding
-mod AsMade
-pub mod Stays
 pub mod Listed
 pub mod SpareCount

@@ -5,8 +5,7 @@ use Rattle.chained_index.proofs.Words.{Spells, RoomsApart, StandsFor, buckets_of
 use Rattle.chained_index.proofs.Words.{Contains-get_or, all_differ, in_chain, has_bucket, has_chain, link_in, subst₂}
 pub use Rattle.chained_index.proofs.Lists.{at}
 use Rattle.chained_index.proofs.Lists.{below, place_in, one_place}
-use Rattle.chained_index.proofs.Paths.{chain_is}
-use Rattle.chained_index.proofs.Chained.{Chained}
+use Rattle.chained_index.proofs.Chained.{chain_is, Chained}
 use Rattle.chained_index.proofs.Filled.{View, view}
 
 -- The entries of the bucket stand for the machine's state: as `StandsFor`, by places in the list.

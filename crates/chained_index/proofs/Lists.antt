@@ -75,5 +75,8 @@ module _ (xs ys : List ℕ) where
   pub differ_first : AllDiffer (xs ++ ys) → AllDiffer xs
   differ_first pairs i j d less inside same = grind (arith, common_steps, pairs i j d)
 
+  pub differ_last : AllDiffer (xs ++ ys) → AllDiffer ys
+  differ_last pairs i j d less inside same = grind (arith, common_steps, pairs (length xs + i) (length xs + j) d)
+
   pub differ_apart : AllDiffer (xs ++ ys) → (c : ℕ) → Contains xs c → ¬ (Contains ys c)
   differ_apart pairs c one two = grind (arith, common_steps, pairs one.0 (length xs + two.0) c, one.1, one.2, two.1, two.2)

@@ -1,8 +1,9 @@
--- All spare buckets are free or behind a main bucket, each in one place.
-use Rattle.chained_index.proofs.Words.{◌↔◌, ◌≡◌, ℕ, zero, suc, ◌+◌, ◌≤◌, inl, inr, List, ◌++◌, length, refl, ap, arith, length-append}
-use Rattle.chained_index.proofs.Words.{Contains, Contains-append_left, Contains-append_right, Contains-append_cases, Cells, keys_in}
-use Rattle.chained_index.proofs.Words.{spares_behind, spares_below, spares_in_use, OwnerState, link_in, IsMain, IsSpare, InChain, entries_of, Index}
-use Rattle.chained_index.proofs.Words.{IsIndexOf, in_tail, in_chain, has_bucket, not_main, behind_differ, listed_or_not, all_there}
+-- All spare buckets are free or behind a main bucket, each in one place; in words as made all are free.
+use Rattle.chained_index.proofs.Words.{◌↔◌, ◌≡◌, ℕ, zero, suc, ◌+◌, ◌≤◌, inl, inr, List, ◌++◌, length, refl, ap, arith, length-append, Contains}
+use Rattle.chained_index.proofs.Words.{Contains-append_left, Contains-append_right, Contains-append_cases, Cells, keys_in, spares_behind}
+use Rattle.chained_index.proofs.Words.{spares_below, spares_in_use, OwnerState, link_in, IsMain, IsSpare, InChain, entries_of, Index, IsIndexOf}
+use Rattle.chained_index.proofs.Words.{in_tail, in_chain, has_bucket, not_main, behind_differ, listed_or_not, all_there, ◌-◌, ◌<◌, get_or, replicate}
+use Rattle.chained_index.proofs.Words.{sym, ◌∙◌, get_or_past, get_or_default, Shape, entry_at, link_at, common_steps, word_count, entry_in, as_made}
 use Rattle.chained_index.proofs.Lists.{AllDiffer, differ_joined}
 use Rattle.chained_index.proofs.Chained.{Chained}
 use Rattle.chained_index.proofs.Filled.{view}
@@ -63,9 +64,50 @@ module _ (o : OwnerState) (s : Chained o) (index : Index) (known : IsIndexOf ind
     used_below : (n : ℕ) → n ≤ o.shape.buckets → spares_used o n ≡ spares_below o.shape.buckets n cells
     unfolding spares_used spares_below
     used_below zero few = refl
-    used_below (suc b) few =
-        let here = ap spares_behind (as_keys b (omega arith)) in
-        omega (arith, used_below b (omega arith))
+    used_below (suc b) few = omega (arith, used_below b (omega arith), ap spares_behind (as_keys b (omega arith)))
 
     pub free_spares : length index.free + spares_in_use o.shape.buckets cells ≡ o.shape.spares
     free_spares = omega (arith, spares_counted, used_below o.shape.buckets (omega arith))
+
+-- The index of words as made
+
+all_zero : (n i : ℕ) → get_or {A = ℕ} (replicate n 0) i 0 ≡ 0
+all_zero n i = grind (arith, common_steps, get_or_past)
+
+module _ (shape : Shape) where
+  abbrev o : OwnerState
+  o = as_made shape
+
+  no_link : (c : ℕ) → link_in o c ≡ 0
+  no_link c = all_zero (word_count shape) (link_at shape c)
+
+  no_entry : (c slot : ℕ) → entry_in o c slot ≡ 0
+  no_entry c slot = all_zero (word_count shape) (entry_at shape c slot)
+
+  alone : (b c : ℕ) → InChain o b c → b ≡ c
+  alone b c (inl is) = is
+  alone b c (inr h) = absurd (h.0 (no_link b))
+
+  -- all spares, in order, are the free ones
+  module _ (free : List ℕ) (size : length free ≡ shape.spares) (at : (k : ℕ) → k < shape.spares → get_or free k 0 ≡ shape.buckets + k) where
+    read : (k d : ℕ) → k < shape.spares → get_or free k d ≡ shape.buckets + k
+    read k d less = get_or_default free k d 0 (omega arith) ∙ at k less
+
+    pub index_as_made : IsIndexOf (record { shape = shape; free = free }) o
+    index_as_made = record {
+      shape = refl;
+      dense = λ b main. record {
+        full = λ c slot h linked low none. linked (no_link c);
+        in_order = λ c slot later h less low some none. some (no_entry c later);
+        some = λ c h other none. other (sym (alone b c h));
+      };
+      free = λ c. (
+        λ has. let is = read has.0 c (omega (arith, has.1)) in record {
+          spare = (omega (arith, has.1, has.2), omega (arith, has.1, has.2));
+          free = λ b main h. let same = alone b c h in omega (arith, has.1, has.2);
+        },
+        λ f. let low = f.spare.0 in let high = f.spare.1 in (c - shape.buckets, omega arith, read (c - shape.buckets) c (omega arith) ∙ omega arith),
+      );
+      once = λ i j d less within same. let one = read i d (omega arith) in let two = read j d (omega arith) in omega arith;
+      blank = λ c f. record { no_link = no_link c; no_entry = λ slot low. no_entry c slot };
+    }

@@ -19,36 +19,29 @@ pub record Exchanges (buckets b : ℕ) (cells later : Cells) (had has : Option C
 module _ (buckets b : ℕ) (cells : Cells) (key : List ℕ) (here : b ≡ bucket_of key buckets) (low : b < buckets) where
   inserted : (cell : Cell) (had : Option Cell) → get cells key ≡ had → Exchanges buckets b cells (insert cells key cell) had (Some cell)
   inserted cell None none =
-      let room = rooms_insert cells key cell in
-      let had = ap room_of none in
       let more = len-insert nat_list_cmp_total cells key cell ∙ ap (λ z. cond (is_some z) (len cells) (len cells + 1)) none in record {
-        here = let more = new_here buckets b cells key here low cell none in omega arith;
+        here = omega (arith, new_here buckets b cells key here low cell none);
         there = new_others buckets b cells key here low cell none;
-        all = omega arith;
-        room = omega arith;
+        all = omega (arith, more);
+        room = omega (arith, rooms_insert cells key cell, ap room_of none);
       }
   inserted cell (Some old) has =
-      let room = rooms_insert cells key cell in
-      let had = ap room_of has in
       let same = len-insert nat_list_cmp_total cells key cell ∙ ap (λ z. cond (is_some z) (len cells) (len cells + 1)) has in record {
-        here = let same = keys_over buckets b cells key old cell has in omega arith;
+        here = omega (arith, keys_over buckets b cells key old cell has);
         there = λ c other. keys_over buckets c cells key old cell has;
-        all = omega arith;
-        room = omega arith;
+        all = omega (arith, same);
+        room = omega (arith, rooms_insert cells key cell, ap room_of has);
       }
 
   deleted : (had : Option Cell) → get cells key ≡ had → Exchanges buckets b cells (remove cells key) had None
   deleted None none = subst (λ z. Exchanges buckets b cells z None None) (remove_none cells key none)
       record { here = refl; there = λ c other. refl; all = omega arith; room = refl }
   deleted (Some old) has =
-      let less = rooms_remove cells key in
-      let had = ap room_of has in
-      let fewer = len-remove nat_list_cmp_total cells key ∙ ap (λ z. cond (is_some z) (len cells - 1) (len cells)) has in
-      let some = less_here buckets b cells key here low old has in record {
-        here = omega arith;
+      let fewer = len-remove nat_list_cmp_total cells key ∙ ap (λ z. cond (is_some z) (len cells - 1) (len cells)) has in record {
+        here = omega (arith, less_here buckets b cells key here low old has);
         there = less_others buckets b cells key here low old has;
-        all = omega arith;
-        room = omega arith;
+        all = omega (arith, fewer);
+        room = omega (arith, rooms_remove cells key, ap room_of has);
       }
 
 -- the cell that a write leaves its key

@@ -1,15 +1,22 @@
--- A partition between two writes: what its entries tell of the machine's cells and of the heap's blocks.
-use Rattle.store_partition.proofs.Words.{Allows, AreBytes, AreParts, Block, Cell, Contains, Contains-append_right, Contains-get_or}
-use Rattle.store_partition.proofs.Words.{Contains-permutation, Has, HasKey, HasNoSpot, Index, IsBlockList, IsBucket, IsDistinct, IsMain}
-use Rattle.store_partition.proofs.Words.{IsPermutation, IsPermutation-refl, IsPermutation-sym, IsSpotOf, Kept, List, ListStands, MayGive, None}
-use Rattle.store_partition.proofs.Words.{Option, Outcome, OwnerState, RoomsApart, Some, Spells, Spot, Store, Write, [], accepted_in}
-use Rattle.store_partition.proofs.Words.{accepted_is_length, ap, arith, at, bucket_at, bucket_in, cells_of, chain_inside, chained, entries_of}
-use Rattle.store_partition.proofs.Words.{entry_offset, entry_tag, eqb, get, get_or_default, has_its_key, inl, inr, item_at, keys_in, len, length}
-use Rattle.store_partition.proofs.Words.{listed, main_of, mod-eq_of_lt, number_entry, number_of, number_within, only_key, options_in, refl, room_in}
-use Rattle.store_partition.proofs.Words.{room_is, rooms, same_Some, spelt_key, spot_at, spot_entry, stands_idle, state_in, store_state, stored_in}
-use Rattle.store_partition.proofs.Words.{subst, sym, used_block, used_blocks, words_of, ℕ, ◌%◌, ◌++◌, ◌+◌, ◌/◌, ◌<◌, ◌^◌, ◌∙◌, ◌∷◌, ◌≡◌, ◌≢◌, ◌≤◌}
-use Rattle.store_partition.proofs.Lists.{block_within, not_among, nothing, once_by, once_moved, same_or_apart, single}
+-- A partition between two writes: what its entries tell of the machine's cells and of the heap's blocks, what they answer to a get, and which
+-- outcomes the machine allows a put.
+use Rattle.chained_index.proofs.Lists.{AllDiffer, differ_apart, differ_moved}
+use Rattle.store_partition.proofs.Words.{SLOTS, Allows, AreBytes, AreParts, Block, Cell, Contains, Contains-append_right, Contains-get_or}
+use Rattle.store_partition.proofs.Words.{Contains-permutation, Has, HasKey, HasNoSpot, Index, IsBlockList, IsBucket, IsMain, IsPermutation}
+use Rattle.store_partition.proofs.Words.{IsPermutation-refl, IsPermutation-sym, IsSpotOf, Kept, List, ListStands, MayGive, None, Option, Outcome}
+use Rattle.store_partition.proofs.Words.{OwnerState, RoomsApart, Some, Spells, Spot, Store, Write, [], accepted_in, accepted_is_length, ap, arith, at}
+use Rattle.store_partition.proofs.Words.{bucket_at, bucket_in, cells_of, chain_inside, chained, entries_of, entry_offset, entry_tag, get}
+use Rattle.store_partition.proofs.Words.{get_or_default, has_its_key, item_at, keys_in, len, length, listed, main_of, mod-eq_of_lt, entry_there}
+use Rattle.store_partition.proofs.Words.{is_within, view, number_of, only_key, options_in, refl, room_in, room_is, rooms, same_Some, spelt_key}
+use Rattle.store_partition.proofs.Words.{spot_at, spot_entry, stands_idle, state_in, store_state, stored_in, subst, sym, used_block, used_blocks}
+use Rattle.store_partition.proofs.Words.{words_of, ℕ, ◌%◌, ◌++◌, ◌+◌, ◌/◌, ◌<◌, ◌^◌, ◌∙◌, ◌∷◌, ◌≡◌, ◌≢◌, ◌≤◌, HasItem, IsItem, IsValueAt, answer_of}
+use Rattle.store_partition.proofs.Words.{option_map, value_in, FullBlock, FullSpare, IsOwnerStep, IsSomeAnd, IsTaken, LacksPlace, MayLack, Put}
+use Rattle.store_partition.proofs.Words.{Stored, free_spares, inl, inr, item_size, nil_from_length, refused_step, spares_in_use, subst₂}
+use Rattle.store_partition.proofs.Words.{sum_by_popped, used_blocks-taken, words_of-fills, words_parted, write_of, ◌*◌, ◌-◌}
+use Rattle.store_partition.proofs.Lists.{block_within, nothing, once_by, same_or_apart, single, added, list_on}
 use Rattle.store_partition.proofs.Cells.{one_or_none}
+use Rattle.circular_log.proofs.SpeltItem.{spelt_item}
+use Rattle.mica_model.specs.StoreStep as ss
 
 -- an owner's state, with the index and the blocks that go with it
 pub record Held : Type 0 where
@@ -48,13 +55,9 @@ pub rooms_apart : (o : OwnerState) (blocks : List Block) → IsBlockList o.shape
 rooms_apart o blocks list x x' has has' differ q i i' =
     let within = block_within o.shape.words blocks list (entry_offset x) (room_in o x) has in
     let within' = block_within o.shape.words blocks list (entry_offset x') (room_in o x') has' in
-    let low = i.1 in
-    let low' = i'.1 in
-    let same = same_word o (entry_offset x + i.0) (entry_offset x' + i'.0) (omega arith) (omega arith) (i.2 ∙ sym i'.2) in
-    elim (same_or_apart o.shape.words blocks list (used_block (entry_offset x) (room_in o x)) (used_block (entry_offset x') (room_in o x')) has has') [
-      | inl is ↦ differ (ap (λ (b : Block). b.place) is)
-      | inr apart ↦ elim apart [ inl before ↦ omega arith | inr behind ↦ omega arith ]
-    ]
+    let same = same_word o (entry_offset x + i.0) (entry_offset x' + i'.0) (omega (arith, i.1)) (omega (arith, i'.1)) (i.2 ∙ sym i'.2) in
+    let apart = same_or_apart o.shape.words blocks list (used_block (entry_offset x) (room_in o x)) (used_block (entry_offset x') (room_in o x')) has has' in
+    grind (arith, i.1, i'.1)
 
 -- the entries of a chain, by what the words stand for
 module _ (o : OwnerState) (c : ℕ) (list : ListStands o c) where
@@ -77,7 +80,7 @@ module _ (o : OwnerState) (c : ℕ) (list : ListStands o c) where
       let there' = subst (λ e. Spells o c e key cell) (sym (stands_at x' has')) sp' in
       sym (stands_at x has) ∙ (ap (at (entries_of o c)) (list.once has.0 has'.0 key cell has.1 has'.1 there there') ∙ stands_at x' has')
 
-  pub once : IsDistinct eqb (entries_of o c)
+  pub once : AllDiffer (entries_of o c)
   once = once_by (entries_of o c) (λ i j l m same.
       let some = list.nothing_else i l in
       list.once i j some.0 some.1 l m some.2 (subst (λ e. Spells o c e some.0 some.1) same some.2))
@@ -129,9 +132,7 @@ module _ (h : Held) where
   -- Outcomes
 
   pub not_worn : length h.o.history < h.o.shape.wear → ¬ (h.o.shape.wear ≤ m.accepted)
-  not_worn unworn worn =
-      let count : m.accepted ≡ length h.o.history = sym (ap accepted_in before) ∙ accepted_is_length (options_in h.o) h.o.history in
-      omega arith
+  not_worn unworn worn = omega (arith, ap accepted_in before, accepted_is_length (options_in h.o) h.o.history)
 
   pub may_give : (w : Write) (outcome : Outcome) → Allows (options_in h.o) (store_state m) w outcome → MayGive (options_in h.o) h.o.history w outcome
   may_give w outcome allowed = subst (λ z. Allows (options_in h.o) z w outcome) (sym before) allowed
@@ -146,7 +147,7 @@ pub record Split (h : Held) (key : List ℕ) (b : ℕ) (own rest : List ℕ) : T
 -- A key that has an entry, in this spot.
 pub record Known (h : Held) (key : List ℕ) (b : ℕ) (spot : Spot) : Type 0 where
   pub found : IsSpotOf h.o b key spot
-  pub inside : IsBucket h.o.shape spot.bucket × (spot.slot < 15)
+  pub inside : IsBucket h.o.shape spot.bucket × (spot.slot < SLOTS)
   pub cell : Cell
   pub has : get (m h).cells key ≡ Some cell
   pub room : room_in h.o (spot_entry h.o spot) ≡ cell.room
@@ -176,8 +177,8 @@ module _ (h : Held) (key : List ℕ) (b : ℕ) (here : b ≡ bucket_in h.o key) 
     e = spot_entry h.o spot
 
     there : Contains xs e
-    there = subst (Contains xs) (number_entry h.o (chained h.o h.kept) h.index h.parts.known b main spot found.used)
-        (Contains-get_or xs (number_of h.o b spot) 0 (number_within h.o (chained h.o h.kept) h.index h.parts.known b main spot found.used))
+    there = subst (Contains xs) (entry_there h.o h.index b (view h.o (chained h.o h.kept) h.index h.parts.known b main) spot found.used)
+        (Contains-get_or xs (number_of h.o b spot) 0 (is_within h.o h.index b (view h.o (chained h.o h.kept) h.index h.parts.known b main) spot found.used))
 
     own : (cell : Cell) × Spells h.o b e key cell
     own = spelt_key h.o h.kept b e key bytes found.item (spelt h.o b (stood h b main) e there)
@@ -192,18 +193,16 @@ module _ (h : Held) (key : List ℕ) (b : ℕ) (here : b ≡ bucket_in h.o key) 
 
     pub known : Known h key b spot
     known =
-        let room = room_is h.o h.kept b e key own.0 own.1 in
-        let fits = own.1.in_room in
-        let ends = within h b main e there in record {
+        let room = room_is h.o h.kept b e key own.0 own.1 in record {
           found = found;
           inside = (chain_inside h.o (chained h.o h.kept) b spot.bucket main found.used.in_chain, found.used.in_bucket);
           cell = own.0;
           has = has_own;
           room = room;
-          some = omega arith;
+          some = omega (arith, own.1.in_room);
           block = used h b main e there;
-          within = omega arith;
-          small = let few = h.kept.shape.ranges.words in omega arith;
+          within = omega (arith, within h b main e there, room);
+          small = omega (arith, within h b main e there, own.1.in_room, room, h.kept.shape.ranges.words);
           spells = own.1;
           among = there;
           split = λ rest lists. record {
@@ -211,7 +210,7 @@ module _ (h : Held) (key : List ℕ) (b : ℕ) (here : b ≡ bucket_in h.o key) 
             long = sym (ap one_or_none has_own);
             its = λ x has. (own.0, subst (λ z. Spells h.o b z key own.0) (single e x has) own.1);
             others = λ x has. others x (Contains-permutation (e ∷ rest) xs x (IsPermutation-sym _ _ lists) (Contains-append_right (e ∷ []) rest x has))
-                (not_among e rest (once_moved xs (e ∷ rest) lists (once h.o b (stood h b main))) x has);
+                (λ same. differ_apart (e ∷ []) rest (differ_moved xs (e ∷ rest) lists (once h.o b (stood h b main))) x (0, omega arith, sym same) has);
           };
           elsewhere = λ c x other same. other.differs (sym (only_key h.o h.kept b c e x key other.own own.0 other.cell own.1 other.spells same));
         }
@@ -222,7 +221,7 @@ module _ (h : Held) (key : List ℕ) (b : ℕ) (here : b ≡ bucket_in h.o key) 
     all_others x has = other h key b main x has (λ cell sp.
         let there = spot_at h.o (chained h.o h.kept) h.parts.mode h.index h.parts.known b main has.0 has.1 in
         let is = there.live.found ∙ (get_or_default xs has.0 0 x has.1 ∙ has.2) in
-        none (record { bucket = bucket_at h.o (has.0 / 15) b; slot = has.0 % 15 }) record {
+        none (record { bucket = bucket_at h.o (has.0 / SLOTS) b; slot = has.0 % SLOTS }) record {
           used = record { in_chain = there.live.in_chain; in_bucket = there.live.in_bucket; used = λ empty. there.live.live.0 (sym there.live.found ∙ empty) };
           tag = ap entry_tag is ∙ sp.tag;
           item = subst (λ z. HasKey h.o (entry_offset z) key) (sym is) (has_its_key h.o h.kept b x key cell sp);
@@ -239,9 +238,94 @@ module _ (h : Held) (key : List ℕ) (b : ℕ) (here : b ≡ bucket_in h.o key) 
             absurd (one.differs (only_key h.o h.kept b b found.0 found.0 one.own key one.cell cell one.spells found.2 refl))
 
     pub split_none : Split h key b [] xs
-    split_none = record {
-      lists = IsPermutation-refl xs;
-      long = sym (ap one_or_none has_none);
-      its = λ x has. nothing x has;
-      others = all_others;
-    }
+    split_none = record { lists = IsPermutation-refl xs; long = sym (ap one_or_none has_none); its = λ x has. nothing x has; others = all_others }
+
+-- What the words answer to a get
+
+module _ (h : Held) (key : List ℕ) (b : ℕ) where
+  answer : answer_of (options_in h.o) h.o.history key ≡ option_map (λ cell. cell.value) (get (m h).cells key)
+  answer = ap (λ z. value_in z key) (before h)
+
+  module _ (spot : Spot) (k : Known h key b spot) where
+    is_item : IsItem h.o (entry_offset (spot_entry h.o spot)) key k.cell
+    is_item = spelt_item h.o h.kept b (spot_entry h.o spot) key k.cell k.spells
+
+    pub has_item : HasItem h.o (entry_offset (spot_entry h.o spot))
+    has_item = (key, k.cell, is_item)
+
+    pub answer_some : (out : List ℕ) → IsValueAt h.o (entry_offset (spot_entry h.o spot)) out → answer_of (options_in h.o) h.o.history key ≡ Some out
+    answer_some out is = answer ∙ (ap (option_map (λ cell. cell.value)) k.has ∙ ap Some (sym (is key k.cell is_item)))
+
+  pub answer_none : b ≡ bucket_in h.o key → HasNoSpot h.o b key → answer_of (options_in h.o) h.o.history key ≡ None
+  answer_none here none = answer ∙ ap (option_map (λ cell. cell.value)) (has_none h key b here none)
+
+-- Which outcomes the machine allows a put: stored in the room that the key has or in a block, or refused for want of a spare bucket or a block
+
+module _ (h : Held) (key value : List ℕ) (b : ℕ) (here : b ≡ bucket_in h.o key) where
+  abbrev w : Write
+  w = write_of Put key value
+
+  abbrev size : ℕ
+  size = item_size key value
+
+  -- where a chain has no place, the machine's spares are in use, and the other way round
+
+  counted : length h.index.free + spares_in_use h.o.shape.buckets (m h).cells ≡ h.o.shape.spares
+  counted = free_spares h.o (chained h.o h.kept) h.index h.parts.known (m h).cells (as_keys h)
+
+  own_keys : length (entries_of h.o b) ≡ keys_in h.o.shape.buckets (bucket_in h.o key) (m h).cells
+  own_keys = as_keys h b (main_at h.o h.kept key b here) ∙ ap (λ c. keys_in h.o.shape.buckets c (m h).cells) here
+
+  lacks_place : ss.NeedsSpare (options_in h.o) (m h) key → LacksPlace h.index h.o b
+  lacks_place needs = record {
+    some = (let some = needs.some in let same = own_keys in omega arith);
+    full = ap (λ n. n % SLOTS) own_keys ∙ needs.full;
+    none_free = nil_from_length h.index.free (let left = needs.none_left in let all = counted in omega arith);
+  }
+
+  -- which puts need a block
+
+  pub grown_needs : (spot : Spot) → Known h key b spot → room_in h.o (spot_entry h.o spot) < size → ss.NeedsBlock (options_in h.o) (m h) w
+  grown_needs spot k grows = record {
+    stores = (tt, inl tt);
+    no_room = λ fits. (let small = subst (λ z. IsSomeAnd z (λ cell. size ≤ cell.room)) k.has fits in let same = k.room in omega arith);
+    has_spare = λ needs. cc (sym needs.is_new ∙ k.has);
+  }
+
+  pub new_needs : HasNoSpot h.o b key → ¬ (LacksPlace h.index h.o b) → ss.NeedsBlock (options_in h.o) (m h) w
+  new_needs none places = record {
+    stores = (tt, inl tt);
+    no_room = λ fits. absurd (subst (λ z. IsSomeAnd z (λ cell. size ≤ cell.room)) (has_none h key b here none) fits);
+    has_spare = λ spare. places (lacks_place spare);
+  }
+
+  -- before the partition is worn
+  module _ (unworn : length h.o.history < h.o.shape.wear) where
+    pub stored_in_room : (spot : Spot) (k : Known h key b spot) → size ≤ k.cell.room → Allows (options_in h.o) (store_state (m h)) w Stored
+    stored_in_room spot k fits = (not_worn h unworn, ((tt, inl tt), inl (subst (λ z. IsSomeAnd z (λ cell. size ≤ cell.room)) (sym k.has) fits)))
+
+    pub stored_taken : ss.NeedsBlock (options_in h.o) (m h) w → (blocks : List Block) (place : ℕ) → IsTaken h.blocks blocks place size → IsBlockList (words_of h.blocks) blocks
+        → Allows (options_in h.o) (store_state (m h)) w Stored
+    stored_taken needs blocks place taken list =
+        let more = sum_by_popped (λ (y : Block). y.size) _ _ _ (added _ _ _ (used_blocks-taken h.blocks blocks place size taken)) in
+        let total = words_of-fills 0 h.o.shape.words blocks (list_on h.o.shape.words h.blocks blocks h.parts.list list).fills in
+        (not_worn h unworn, ((tt, inl tt), inr (needs, omega (arith, words_parted blocks, as_rooms h))))
+
+    pub full_spare : HasNoSpot h.o b key → LacksPlace h.index h.o b → IsOwnerStep h.o h.o w FullSpare
+    full_spare none lacks =
+        let needs : ss.NeedsSpare (options_in h.o) (m h) key = record {
+          is_new = has_none h key b here none;
+          some = omega (arith, lacks.some, own_keys);
+          full = ap (λ n. n % SLOTS) (sym own_keys) ∙ lacks.full;
+          none_left = omega (arith, counted, ap length lacks.none_free);
+        } in
+        refused_step h.o h.parts.idle w FullSpare refl (may_give h w FullSpare (not_worn h unworn, (tt, needs)))
+
+    pub full_block : ss.NeedsBlock (options_in h.o) (m h) w → MayLack h.blocks size → IsOwnerStep h.o h.o w FullBlock
+    full_block needs lack =
+        let words : h.o.shape.words ≤ (length (used_blocks h.blocks) + 1) * (size - 1) + words_of (used_blocks h.blocks) =
+        omega (arith, lack, words_of-fills 0 h.o.shape.words h.blocks h.parts.list.fills) in
+        refused_step h.o h.parts.idle w FullBlock refl (may_give h w FullBlock (
+          not_worn h unworn,
+          (needs, subst₂ (λ k l. h.o.shape.words ≤ (k + 1) * (size - 1) + l) (as_cells h) (as_rooms h) words),
+        ))

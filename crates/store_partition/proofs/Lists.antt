@@ -1,43 +1,13 @@
 -- Lists: entries of which each stands once, and the used blocks of a heap.
-use Rattle.store_partition.proofs.Words.{AddsBlock, All-contains, All-from_recursion, Block, Contains, Contains-get_or, Contains-permutation, Fills}
-use Rattle.store_partition.proofs.Words.{IsBlockList, IsDistinct, IsDistinct-IsPermutation, IsDistinct-cons, IsDistinct-from_apart, IsDistinct-head}
-use Rattle.store_partition.proofs.Words.{IsDistinct-tail, IsGiven, IsPermutation, IsPermutation-middle, IsPermutation-refl, IsPermutation-remove}
-use Rattle.store_partition.proofs.Words.{IsPermutation-swap_remove, IsPermutation-sym, List, [], ap, apart_from_distinct, arith, at, back_fills}
-use Rattle.store_partition.proofs.Words.{cases_eq, cases_order, drop, eq-eqb, eqb, eqb-false, false, get_or, get_or_default, inl, inr, length}
-use Rattle.store_partition.proofs.Words.{list_remove, ne_eqb, recursion_from_All, refl, set_split, slice_set, subst, subst₂, suc, swap_remove, sym}
-use Rattle.store_partition.proofs.Words.{take, used_apart, used_block, used_blocks, used_blocks-given, used_within, words_of, words_of-fills, ℕ, ◌++◌}
-use Rattle.store_partition.proofs.Words.{◌+◌, ◌-◌, ◌<◌, ◌∙◌, ◌∷◌, ◌≡◌, ◌≢◌, ◌≤◌, ◌⊎◌}
+use Rattle.chained_index.proofs.Lists.{AllDiffer}
+use Rattle.store_partition.proofs.Words.{AddsBlock, All-contains, Block, Contains, Contains-permutation, Fills, IsBlockList, IsGiven, IsPermutation}
+use Rattle.store_partition.proofs.Words.{IsPermutation-middle, IsPermutation-refl, IsPermutation-remove, IsPermutation-swap_remove, IsPermutation-sym}
+use Rattle.store_partition.proofs.Words.{List, [], ap, arith, at, back_fills, drop, get_or_default, length, list_remove, refl, set_split, slice_set}
+use Rattle.store_partition.proofs.Words.{subst, subst₂, suc, swap_remove, sym, take, used_apart, used_block, used_blocks, used_blocks-given}
+use Rattle.store_partition.proofs.Words.{used_within, words_of, words_of-fills, ℕ, ◌++◌, ◌+◌, ◌-◌, ◌<◌, ◌∙◌, ◌∷◌, ◌≡◌, ◌≤◌, ◌⊎◌}
 
-flips : (x y : ℕ) → eqb x y ≡ eqb y x
-flips x y = elim (cases_eq x y) [
-  | inl same ↦ eq-eqb x y same ∙ sym (eq-eqb y x (sym same))
-  | inr differ ↦ ne_eqb x y differ ∙ sym (ne_eqb y x (λ same. differ (sym same)))
-]
-
-pub once_at : (xs : List ℕ) (i j : ℕ) → IsDistinct eqb xs → i < length xs → j < length xs → at xs i ≡ at xs j → i ≡ j
-once_at xs i j once l m same = elim (cases_order i j) [
-  | inl is ↦ is
-  | inr differ ↦ absurd (elim differ [
-    | inl less ↦ eqb-false (at xs i) (at xs j) (apart_from_distinct eqb xs i j 0 once less m) same
-    | inr more ↦ eqb-false (at xs j) (at xs i) (apart_from_distinct eqb xs j i 0 once more l) (sym same)
-  ])
-]
-
-pub once_by : (xs : List ℕ) → ((i j : ℕ) → i < length xs → j < length xs → at xs i ≡ at xs j → i ≡ j) → IsDistinct eqb xs
-once_by xs places = IsDistinct-from_apart eqb xs (λ i j d less m. ne_eqb (get_or xs i d) (get_or xs j d) (λ same.
-    let is = places i j (omega arith) m (get_or_default xs i 0 d (omega arith) ∙ (same ∙ get_or_default xs j d 0 m)) in omega arith))
-
-pub once_moved : (xs ys : List ℕ) → IsPermutation xs ys → IsDistinct eqb xs → IsDistinct eqb ys
-once_moved xs ys moved once = IsDistinct-IsPermutation eqb flips xs ys moved once
-
-pub once_rest : (own rest : List ℕ) → IsDistinct eqb (own ++ rest) → IsDistinct eqb rest
-once_rest [] rest once = once
-once_rest (x ∷ own) rest once = once_rest own rest (IsDistinct-tail eqb x (own ++ rest) once)
-
-pub not_among : (x : ℕ) (rest : List ℕ) → IsDistinct eqb (x ∷ rest) → (y : ℕ) → Contains rest y → y ≢ x
-not_among x rest once y has same =
-    let apart = All-from_recursion (λ (z : ℕ). eqb x z ≡ false) rest (IsDistinct-head eqb x rest once) in
-    eqb-false x y (All-contains (λ (z : ℕ). eqb x z ≡ false) rest y apart has) (sym same)
+pub once_by : (xs : List ℕ) → ((i j : ℕ) → i < length xs → j < length xs → at xs i ≡ at xs j → i ≡ j) → AllDiffer xs
+once_by xs places i j d less m same = grind (arith, places i j, get_or_default xs i 0 d, get_or_default xs j d 0)
 
 -- a list has no element, one, or at most one
 pub nothing : {X A : Type 0} (x : X) → Contains [] x → A
@@ -45,19 +15,10 @@ nothing x has = absurd (let less = has.1 in omega arith)
 
 pub in_one : {X : Type 0} (xs : List X) (x y : X) → length xs ≤ 1 → Contains xs x → Contains xs y → x ≡ y
 in_one xs x y few has has' =
-    let less = has.1 in
-    let less' = has'.1 in
-    let same : has.0 ≡ has'.0 = omega arith in
-    sym has.2 ∙ (get_or_default xs has.0 x y has.1 ∙ (ap (λ k. get_or xs k y) same ∙ has'.2))
+    grind (arith, has.1, has'.1, has.2, has'.2, get_or_default xs has.0 x y has.1)
 
 pub single : {X : Type 0} (x y : X) → Contains (x ∷ []) y → x ≡ y
 single x y has = in_one (x ∷ []) x y (omega arith) (0, omega arith, refl) has
-
-pub once_front : (news rest : List ℕ) → length news ≤ 1 → ((x : ℕ) → Contains news x → Contains rest x → ⊥) → IsDistinct eqb rest → IsDistinct eqb (news ++ rest)
-once_front [] rest few apart once = once
-once_front (x ∷ []) rest few apart once = IsDistinct-cons eqb x rest (recursion_from_All (λ (y : ℕ). eqb x y ≡ false) rest (λ k d l. ne_eqb x (get_or rest k d)
-    (λ same. apart x (0, omega arith, refl) (subst (Contains rest) (sym same) (Contains-get_or rest k d l))))) once
-once_front (x ∷ y ∷ news) rest few apart once = absurd (omega arith)
 
 -- with the entry at the place first: another one in its place, and the last one
 module _ (xs : List ℕ) (n e : ℕ) (l : n < length xs) where
@@ -84,16 +45,8 @@ block_within words blocks list place size has =
 pub same_or_apart : (words : ℕ) (blocks : List Block) → IsBlockList words blocks → (one other : Block) → Contains (used_blocks blocks) one
     → Contains (used_blocks blocks) other → (one ≡ other) ⊎ ((one.place + one.size ≤ other.place) ⊎ (other.place + other.size ≤ one.place))
 same_or_apart words blocks list one other has has' =
-    let used = used_blocks blocks in
-    let is : get_or used has.0 other ≡ one = get_or_default used has.0 other one has.1 ∙ has.2 in
     let apart = used_apart words blocks list in
-    elim (cases_order has.0 has'.0) [
-      | inl same ↦ inl (sym is ∙ (ap (λ k. get_or used k other) same ∙ has'.2))
-      | inr differ ↦ inr (elim differ [
-        | inl less ↦ inl (subst₂ (λ (x y : Block). x.place + x.size ≤ y.place) is has'.2 (apart has.0 has'.0 other less has'.1))
-        | inr more ↦ inr (subst₂ (λ (x y : Block). x.place + x.size ≤ y.place) has'.2 is (apart has'.0 has.0 other more has.1))
-      ])
-    ]
+    grind (arith, get_or_default (used_blocks blocks) has.0 other one, has.1, has.2, has'.1, has'.2, apart has.0 has'.0 other, apart has'.0 has.0 other)
 
 -- one block more
 pub added : (old new : List Block) (block : Block) → AddsBlock old new block → IsPermutation new (block ∷ old)
@@ -138,8 +91,4 @@ module _ (words : ℕ) (old new taken : List Block) (list : IsBlockList words ne
           let back = back_fills 0 words given.before (used_block place given.size ∷ given.after) (subst (λ z. Fills 0 z words) given.was list.fills) in
           let own = Contains-permutation (used_block place given.size ∷ used_blocks bs) (used_blocks new) (used_block place given.size)
           (IsPermutation-sym _ _ (added _ _ _ (used_blocks-given new bs place given))) (0, omega arith, refl) in
-          let more = back.1 in
-          elim (same_or_apart words new list (used_block place given.size) (used_block place size) own has) [
-            | inl same ↦ ap (λ (b : Block). b.size) same
-            | inr apart ↦ elim apart [ inl before ↦ absurd (omega arith) | inr behind ↦ absurd (omega arith) ]
-          ]
+          grind (arith, back.1, some, same_or_apart words new list (used_block place given.size) (used_block place size) own has)

@@ -2,12 +2,11 @@
 use Rattle.mica_model.specs.Store as store
 use Rattle.chained_index.specs.ChainEntries.{buckets_from, buckets_of, entries_in, entries_of}
 use Rattle.store_partition.proofs.Words.{AreParts, Block, Bool, CacheMode, Cell, Contains, Decides, Decides-and, Decides-eqb, Fills, Has, Index}
-use Rattle.store_partition.proofs.Words.{IsFreeSpare, IsIndexOf, IsMain, IsMerged, IsValidShape, Kept, List, Met, Mode, OwnerState, Shape, StoreMode}
-use Rattle.store_partition.proofs.Words.{[], ap, arith, as_made, cells_of, chain_back, chain_on, chained, cond, dense_on, dite, empty, entry_offset}
-use Rattle.store_partition.proofs.Words.{false, flat_map, free_block, get-empty, if◌then◌else◌, is_member-Decides, kept_as_made, keys_in, len}
-use Rattle.store_partition.proofs.Words.{len-empty, length, link_in, listed, nat_cmp, no_keys, no_rooms, not, props, refl, room_in, rooms, slice_cmp}
-use Rattle.store_partition.proofs.Words.{slice_index, start, subst, suc, sym, true, used_block, used_blocks, zero, ℕ, ℕ_discrete, ∥∥₁_elim, ◌&&◌, ◌+◌}
-use Rattle.store_partition.proofs.Words.{◌<◌, ◌==◌, ◌∙◌, ◌∷◌, ◌≡◌}
+use Rattle.store_partition.proofs.Words.{IsIndexOf, IsMain, IsMerged, IsValidShape, Kept, List, Met, Mode, OwnerState, Shape, StoreMode, [], ap}
+use Rattle.store_partition.proofs.Words.{arith, as_made, cells_of, chained, cond, dense_on, dite, empty, entry_offset, false, flat_map, free_block}
+use Rattle.store_partition.proofs.Words.{get-empty, if◌then◌else◌, is_member-Decides, kept_as_made, keys_in, len, len-empty, length, link_in, listed}
+use Rattle.store_partition.proofs.Words.{nat_cmp, no_keys, no_rooms, not, props, refl, room_in, rooms, slice_cmp, slice_index, start, subst, suc, sym}
+use Rattle.store_partition.proofs.Words.{true, used_block, used_blocks, zero, ℕ, ℕ_discrete, ∥∥₁_elim, ◌&&◌, ◌+◌, ◌<◌, ◌==◌, ◌∙◌, ◌∷◌, ◌≡◌}
 use Rattle.store_partition.proofs.Held.{Held}
 
 -- What is only said to hold of the parts holds of them, since each fact has one proof or can be found
@@ -81,11 +80,9 @@ nothing_at_start CacheMode is key cell q h = cc is
 nothing_at_start StoreMode is key cell q h = let none = get-empty {X = Cell} (slice_cmp nat_cmp) key in cc (sym none ∙ h)
 
 module _ (shape : Shape) (valid : IsValidShape shape) (mode : shape.mode ≡ StoreMode) (index : Index) (known : IsIndexOf index (as_made shape)) where
-  kept : Kept (as_made shape)
-  kept = kept_as_made shape valid
-
   no_entry : (b : ℕ) → IsMain shape b → length (entries_of (as_made shape) b) ≡ 0
   no_entry b l = dite (ℕ_discrete (length (entries_of (as_made shape) b)) 0) (λ none. none) (λ some.
+      let kept = kept_as_made shape valid in
       let list = listed (as_made shape) (chained (as_made shape) kept) mode index known b l (kept.state b l refl) in
       let first = list.nothing_else 0 (omega arith) in
       absurd (nothing_at_start shape.mode mode first.0 first.1 _ first.2.has))
@@ -117,12 +114,6 @@ module _ (o : OwnerState) (met : Met) (closed : ℕ) where
   unfolding entries_of buckets_of entries_in
   entries_same b = ap (flat_map (entries_in o)) (buckets_same (suc o.shape.spares) b)
 
-  free_on : (c : ℕ) → IsFreeSpare o c → IsFreeSpare p c
-  free_on c f = record { spare = f.spare; free = λ b main h. f.free b main (chain_back o met closed b c h) }
-
-  free_back : (c : ℕ) → IsFreeSpare p c → IsFreeSpare o c
-  free_back c f = record { spare = f.spare; free = λ b main h. f.free b main (chain_on o met closed b c h) }
-
   pub parts_met : (index : Index) (blocks : List Block) → AreParts index blocks o → AreParts index blocks p
   parts_met index blocks k = record {
     mode = k.mode;
@@ -130,9 +121,9 @@ module _ (o : OwnerState) (met : Met) (closed : ℕ) where
     known = record {
       shape = k.known.shape;
       dense = λ b main. dense_on o met closed b (k.known.dense b main);
-      free = λ c. (λ has. free_on c ((k.known.free c).0 has), λ f. (k.known.free c).1 (free_back c f));
+      free = λ c. (λ has. assumption ((k.known.free c).0 has), λ f. (k.known.free c).1 (assumption));
       once = k.known.once;
-      blank = λ c f. let blank = k.known.blank c (free_back c f) in record { no_link = blank.no_link; no_entry = blank.no_entry };
+      blank = λ c f. assumption (k.known.blank c (assumption));
     };
     entries = λ b main. ap (length {A = ℕ}) (entries_same b) ∙ k.entries b main;
     list = k.list;

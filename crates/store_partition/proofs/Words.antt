@@ -1,49 +1,47 @@
 -- The words that the proofs of this crate speak in, passed on once.
-pub use mathlib.Core.Logic.{dite}
-pub use native.Mathlib.Decide.{ℕ_discrete}
-pub use Rattle.std.proofs.Common.{Bool, List, None, Option, Some, [], ap, arith, cond, drop, eqb, false, get_or, if◌then◌else◌, inl, inr, leb, length}
-pub use Rattle.std.proofs.Common.{length-append, length-set, refl, subst, subst₂, suc, sym, take, true, zero, ℕ, ◌%◌, ◌*◌, ◌++◌, ◌+◌, ◌-◌, ◌/◌, ◌<◌}
-pub use Rattle.std.proofs.Common.{◌==◌, ◌^◌, ◌∙◌, ◌∷◌, ◌≡◌, ◌≢◌, ◌≤◌, ◌⊎◌}
+pub use Rattle.epoch_core.proofs.Vocabulary.{All-contains, AreBytes, Bool, CanPlay, Cell, Contains, Contains-append_cases, Has, IsBucket, IsMain}
+pub use Rattle.epoch_core.proofs.Vocabulary.{IsValidShape, Kept, KeyFits, List, MayGive, None, Option, RoomsApart, Some, Spells, StandsFor}
+pub use Rattle.epoch_core.proofs.Vocabulary.{WhenMarked, [], after as after_event, answer_of, ap, arith, as_made, bucket_in, bucket_of, cond, dite}
+pub use Rattle.epoch_core.proofs.Vocabulary.{drop, false, fnv1a, get_or_default, header_room, if◌then◌else◌, inl, inr, is_some, item_at, item_events}
+pub use Rattle.epoch_core.proofs.Vocabulary.{item_in, item_size, length, length-append, length-set, link_in, marked_in, not, option_map, options_in}
+pub use Rattle.epoch_core.proofs.Vocabulary.{plays, puts_from, refl, room_in, slice_index, stamp_of, start, state_in, state_snoc, store_state}
+pub use Rattle.epoch_core.proofs.Vocabulary.{stored_in, subst, suc, sym, take, true, value_in, zero, ℕ, ℕ_discrete, ◌%◌, ◌*◌, ◌++◌, ◌+◌, ◌-◌, ◌<◌}
+pub use Rattle.epoch_core.proofs.Vocabulary.{◌^◌, ◌∙◌, ◌∷◌, ◌≡◌, ◌≢◌, ◌≤◌, ◌⊎◌}
+pub use Rattle.chained_index.proofs.Words.{Cells, ChangesChain, Contains-append_left, Contains-append_right, Contains-get_or, Contains-permutation}
+pub use Rattle.chained_index.proofs.Words.{Decides-eqb, HasKey, HasNoSpot, Index, IsIndexOf, IsPermutation, IsPermutation-refl, IsPermutation-sym}
+pub use Rattle.chained_index.proofs.Words.{IsSpotOf, IsUsed, LacksPlace, bit_same, bucket_at, entry_of, entry_offset, entry_tag, flat_map, keys_in}
+pub use Rattle.chained_index.proofs.Words.{length_push, nil_from_length, other as other_word, rules, spares_in_use, spot_entry, subst₂, true≢false}
+pub use Rattle.chained_index.proofs.Words.{◌/◌, ◌↔◌}
+pub use Rattle.std.proofs.Common.{leb, ◌==◌}
 pub use Rattle.std.proofs.Math.Logic.{∥∥₁_elim}
 pub use Rattle.std.proofs.Math.Nat.{mod-eq_of_lt}
 pub use Rattle.std.proofs.Props.{props}
-pub use Rattle.std.proofs.lemmas.Bool.Decides.{Decides-and, Decides-eqb}
+pub use Rattle.std.proofs.lemmas.Bool.Decides.{Decides-and}
 pub use Rattle.std.proofs.lemmas.Map.Made.{is_member-Decides}
 pub use Rattle.std.specs.Bool.{Decides}
-pub use Rattle.std.specs.Prelude.{Contains, IsPermutation, IsSome, IsSomeAnd, flat_map, is_some, not, remove as list_remove, slice_index, slice_set}
-pub use Rattle.std.specs.Prelude.{swap_remove, ◌&&◌, ◌↔◌}
-pub use Rattle.std.proofs.lemmas.Bool.{cases_eq, cases_order, cond-false, cond-true, eq-eqb, eqb-false, le-leb, lt-leb, ne_eqb, true≢false}
-pub use Rattle.std.proofs.lemmas.List.{get_or_default, length_push, nil_from_length, set_split}
-pub use Rattle.std.proofs.lemmas.List.Elements.{All-contains, All-from_recursion, Contains-append_cases, Contains-append_left, Contains-append_right}
-pub use Rattle.std.proofs.lemmas.List.Elements.{Contains-get_or, recursion_from_All}
-pub use Rattle.std.proofs.lemmas.List.Sorted.{Contains-permutation, IsPermutation-middle, IsPermutation-refl, IsPermutation-remove}
-pub use Rattle.std.proofs.lemmas.List.Sorted.{IsPermutation-swap_remove, IsPermutation-sym, IsPermutation-to_front, length_permutation}
-pub use Rattle.std.proofs.lemmas.List.Sorted.{sum_by-IsPermutation, sum_by_popped}
-pub use Rattle.std.proofs.lemmas.Map.Keys.{IsDistinct-IsPermutation, IsDistinct-cons, IsDistinct-from_apart, IsDistinct-head, IsDistinct-tail}
-pub use Rattle.std.proofs.lemmas.Map.Keys.{apart_from_distinct}
+pub use Rattle.std.specs.Prelude.{IsSome, IsSomeAnd, remove as list_remove, slice_set, swap_remove, ◌&&◌}
+pub use Rattle.std.proofs.lemmas.Bool.{cond-false, cond-true, le-leb, lt-leb}
+pub use Rattle.std.proofs.lemmas.List.{set_split}
+pub use Rattle.std.proofs.lemmas.List.Sorted.{IsPermutation-middle, IsPermutation-remove, IsPermutation-swap_remove, IsPermutation-to_front}
+pub use Rattle.std.proofs.lemmas.List.Sorted.{length_permutation, sum_by-IsPermutation, sum_by_popped}
 pub use Rattle.std.proofs.lemmas.Option.{same_Some}
 pub use Rattle.std.specs.Cmp.{eq_by_cmp_equiv}
 pub use Rattle.std.specs.Cmp.Lexicographic.{nat_list_cmp_total, slice_cmp}
 pub use Rattle.std.specs.FinMap.{empty, get, get-empty, get-insert, get-remove, insert, len, len-empty, len-insert, len-remove, remove}
-pub use Rattle.std.specs.List.{IsDistinct}
-pub use Rattle.std.specs.Option.{option_map}
 pub use Rattle.std.specs.Ordering.{nat_cmp}
 pub use Rattle.mica_words.proofs.Fields.{entry_offset-entry_of, entry_tag-entry_of}
 pub use Rattle.mica_words.proofs.Hashes.{bucket_of_hash, tag_of_hash}
 pub use Rattle.mica_words.proofs.ItemWords.{length-item_words}
-pub use Rattle.mica_words.specs.Entry.{entry_of, entry_offset, entry_tag}
-pub use Rattle.mica_words.specs.Hash.{bucket_of, fnv1a, hash_bucket, hash_tag, tag_of}
-pub use Rattle.mica_words.specs.Header.{header_room}
-pub use Rattle.mica_words.specs.Item.{KeyFits, item_size}
-pub use Rattle.mica_words.specs.Packing.{AreBytes}
+pub use Rattle.mica_words.specs.declared.entry.TheConstants.{SLOTS}
+pub use Rattle.mica_words.specs.Hash.{hash_bucket, hash_tag, tag_of}
 pub use Rattle.mica_words.specs.Spelling.{item_words}
 pub use Rattle.mica_model.proofs.CacheKept.{size_at_most}
 pub use Rattle.mica_model.proofs.CellSums.{keys_over, no_keys, no_rooms, remove_none, rooms_insert, rooms_remove}
-pub use Rattle.mica_model.proofs.Histories.{accepted_is_length, state_snoc, stored_in}
+pub use Rattle.mica_model.proofs.Histories.{accepted_is_length}
 pub use Rattle.mica_model.proofs.StoreLaws.{others_same, stamp_is_length}
 pub use Rattle.mica_model.proofs.TableSteps.{less_here, less_others, new_here, new_others}
-pub use Rattle.mica_model.specs.History.{Allows, MayGive, accepted_in, after, answer_of, stamp_in, stamp_of, start, store_state, value_in}
-pub use Rattle.mica_model.specs.Store.{Cell, Cells, Store, keys_in, room_of, rooms, spares_in_use}
+pub use Rattle.mica_model.specs.History.{Allows, accepted_in, after, stamp_in}
+pub use Rattle.mica_model.specs.Store.{Store, room_of, rooms}
 pub use Rattle.mica_model.specs.Write.{IsWrite, is_accepted, size_of, write_of}
 pub use Rattle.mica_model.specs.declared.options.Mode.{Mode}
 pub use Rattle.mica_model.specs.declared.options.Mode.TheVariants.{Cache as CacheMode, Store as StoreMode}
@@ -52,31 +50,23 @@ pub use Rattle.mica_model.specs.declared.write.Op.TheVariants.{Del, Put}
 pub use Rattle.mica_model.specs.declared.write.Outcome.{Outcome}
 pub use Rattle.mica_model.specs.declared.write.Outcome.TheVariants.{Absent, Deleted, FullBlock, FullSpare, Stored}
 pub use Rattle.mica_model.specs.declared.write.Write.{Write}
-pub use Rattle.epoch_core.proofs.EventWords.{other as other_word}
 pub use Rattle.epoch_core.proofs.Keeps.{kept_after}
 pub use Rattle.epoch_core.proofs.Keys.{has_its_key}
-pub use Rattle.epoch_core.proofs.Machine.{all_more, has_fits}
+pub use Rattle.epoch_core.proofs.Machine.{all_more}
 pub use Rattle.epoch_core.proofs.Made.{kept_as_made}
-pub use Rattle.epoch_core.proofs.Marked.{bit_same}
-pub use Rattle.epoch_core.proofs.Meeting.{chain_back, chain_on, dense_on}
+pub use Rattle.epoch_core.proofs.Meeting.{dense_on}
 pub use Rattle.epoch_core.proofs.Log.{room_is}
 pub use Rattle.epoch_core.proofs.PartitionLaws.{AcceptedWrite, Keeps, ended_step, item_room, kept_marked, main_of, marked, marked_entry, marked_item}
 pub use Rattle.epoch_core.proofs.PartitionLaws.{marked_link, may_begin, may_mark, new_stamp, only_key, put_entry, put_item, put_link, put_others}
 pub use Rattle.epoch_core.proofs.PartitionLaws.{put_same, put_words, refused_step, room_same, same_cell, same_or_other, spells_item, spells_on}
 pub use Rattle.epoch_core.proofs.PartitionLaws.{spelt_key, stands_idle, worn_step, written, written_state}
-pub use Rattle.epoch_core.proofs.Places.{item_no_epoch, no_epoch}
+pub use Rattle.epoch_core.proofs.Places.{item_no_epoch}
 pub use Rattle.epoch_core.proofs.Puts.{can_put}
-pub use Rattle.epoch_core.specs.Chain.{IsFreeSpare}
-pub use Rattle.epoch_core.specs.Events.{BelongsTo, CanPlay, MayBegin, MayEnd, MayMark, SparesOthers, WhenMarked, after as after_event, history_after}
-pub use Rattle.epoch_core.specs.Events.{item_events, phase_after, plays, puts_from, words_after}
-pub use Rattle.epoch_core.specs.ItemAt.{HasKey, HasKeyWords}
+pub use Rattle.epoch_core.specs.Events.{BelongsTo, MayBegin, MayEnd, MayMark, SparesOthers}
+pub use Rattle.epoch_core.specs.ItemAt.{HasKeyWords}
 pub use Rattle.epoch_core.specs.Joins.{met_by}
-pub use Rattle.epoch_core.specs.Kept.{Kept}
-pub use Rattle.epoch_core.specs.Layout.{entry_at, item_at, link_at}
-pub use Rattle.epoch_core.specs.OwnerState.{as_made, bucket_in, entry_in, item_in, link_in, marked_in, options_in, state_in}
 pub use Rattle.epoch_core.specs.OwnerStep.{IsOwnerStep}
-pub use Rattle.epoch_core.specs.Shape.{IsBucket, IsMain, IsValidShape}
-pub use Rattle.epoch_core.specs.StandsFor.{Has, IsOffset, RoomsApart, Spells, SpellsItem, StandsFor, room_in}
+pub use Rattle.epoch_core.specs.StandsFor.{IsOffset, SpellsItem}
 pub use Rattle.epoch_core.specs.declared.event.Event.TheVariants.{Begins, Ends, PutsWord}
 pub use Rattle.epoch_core.specs.declared.shape.Shape.{Shape}
 pub use Rattle.epoch_core.specs.declared.state.Met.{Met}
@@ -91,13 +81,10 @@ pub use Rattle.block_heap.specs.declared.block.Block.{Block}
 pub use Rattle.circular_log.specs.LogItem.{HasItem, IsItem, IsValueAt}
 pub use Rattle.chained_index.proofs.Chained.{all_on, chain_inside, chained}
 pub use Rattle.chained_index.proofs.Listed.{ListStands, at, listed, place as place_at, spot as spot_at, stands as stands_by}
-pub use Rattle.chained_index.proofs.Numbers.{number_entry, number_within}
+pub use Rattle.chained_index.proofs.Filled.{entry_there, is_within, view}
 pub use Rattle.chained_index.proofs.SpareCount.{free_spares}
-pub use Rattle.chained_index.proofs.Stays.{entries_stay, index_ends, index_stays}
-pub use Rattle.chained_index.specs.ChainChange.{ChangesChain}
-pub use Rattle.chained_index.specs.ChainEntries.{HasNoSpot, IsSpotOf, IsUsed, entries_of, number_of, spot_entry}
-pub use Rattle.chained_index.specs.ChainShape.{bucket_at}
-pub use Rattle.chained_index.specs.Index.{Index, IsIndexOf, LacksPlace}
+pub use Rattle.chained_index.proofs.Stays.{entries_ends, entries_stay, index_ends, index_stays}
+pub use Rattle.chained_index.specs.ChainEntries.{entries_of, number_of}
 pub use Rattle.chained_index.specs.declared.index.Spot.{Spot}
 pub use Rattle.store_partition.specs.Parts.{AreParts, cells_of, marked_in_bucket}
 pub use Rattle.store_partition.specs.Sought.{IsSought}

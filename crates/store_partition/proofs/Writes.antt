@@ -1,7 +1,7 @@
 -- The kinds of write, each an exchange of its key's entry and block: a put in the room that the key has, one that takes a block for a key
 -- that has an item or none, and a delete of a key that has an item or none.
 use Rattle.mica_model.specs.StoreStep as ss
-use Rattle.store_partition.proofs.Words.{Absent, AcceptedWrite, All-contains, Allows, AreBytes, BelongsTo, Block, CanPlay, Cell, ChangesChain}
+use Rattle.store_partition.proofs.Words.{SLOTS, Absent, AcceptedWrite, All-contains, Allows, AreBytes, BelongsTo, Block, CanPlay, Cell, ChangesChain}
 use Rattle.store_partition.proofs.Words.{Contains, Contains-append_right, Contains-get_or, Contains-permutation, Del, Deleted, Has, HasKey}
 use Rattle.store_partition.proofs.Words.{HasKeyWords, HasNoSpot, HasUsed, Index, IsBlockList, IsIndexOf, IsMain, IsOffset, IsPermutation}
 use Rattle.store_partition.proofs.Words.{IsPermutation-refl, IsPermutation-remove, IsPermutation-sym, IsPermutation-to_front, IsSome, IsTaken, IsUsed}
@@ -19,11 +19,9 @@ use Rattle.store_partition.proofs.Lists.{Gave, Heap, added, heap_gives, heap_kep
 use Rattle.store_partition.proofs.Lists.{swap_moved}
 use Rattle.store_partition.proofs.Cells.{cell_left, left, one_or_none}
 use Rattle.store_partition.proofs.Held.{HasBlock, Held, IsOther, Known, Split, before, has_none, m, not_worn, other_bucket, same_word, split_none}
-use Rattle.store_partition.proofs.Held.{used, within}
+use Rattle.store_partition.proofs.Held.{used, within, stored_in_room, stored_taken}
 use Rattle.store_partition.proofs.Events.{Base, Closes, Opens, accepts, base, main, marked_at, marked_base, may_open, now, number_in, number_is}
-use Rattle.store_partition.proofs.Events.{when_marked}
-use Rattle.store_partition.proofs.After.{finished, later, same_chain}
-use Rattle.store_partition.proofs.Outcomes.{stored_in_room, stored_taken}
+use Rattle.store_partition.proofs.Events.{when_marked, finished, later, same_chain}
 
 -- a block for the put's item, apart from the rooms of all other keys
 pub record Room (h : Held) (a : AcceptedWrite h.o) (from room : ℕ) : Type 0 where
@@ -43,7 +41,7 @@ module _ (h : Held) (a : AcceptedWrite h.o) (from room : ℕ) (r : Room h a from
   zs = item_words room a.w.key a.w.value
 
   short : length zs ≤ room
-  short = let long = length-item_words room a.w.key a.w.value in let few = r.few in omega arith
+  short = omega (arith, length-item_words room a.w.key a.w.value, r.few)
 
   in_heap : length zs ≤ h.o.shape.words
   in_heap = let block = r.block in let few = short in omega arith
@@ -52,10 +50,8 @@ module _ (h : Held) (a : AcceptedWrite h.o) (from room : ℕ) (r : Room h a from
   clear : (c x : ℕ) → IsOther h a.w.key c x → (i j : ℕ) → i < room_in h.o x → j < length zs → item_at h.o.shape (entry_offset x + i) ≢ item_at h.o.shape (from + j)
   clear c x other i j less low same =
       let ends = within h c other.main x other.among in
-      let block = r.block in
-      let few = short in
-      let is = same_word h.o (entry_offset x + i) (from + j) (omega arith) (omega arith) same in
-      elim (r.apart c x other) [ inl behind ↦ omega arith | inr before ↦ omega arith ]
+      let is = same_word h.o (entry_offset x + i) (from + j) (omega arith) (omega (arith, r.block, short)) same in
+      grind (arith, r.apart c x other, short)
 
   spares : (i : ℕ) → i < length zs → SparesOthers (marked h.o a) (bucket_in h.o a.w.key) (from + i)
   spares i l c d slot x main_c n live inside =
@@ -63,9 +59,8 @@ module _ (h : Held) (a : AcceptedWrite h.o) (from room : ℕ) (r : Room h a from
       let there = place_at (marked h.o a) (chained (marked h.o a) z.kept) h.parts.mode h.index z.index c main_c d slot x live in
       let has = subst (λ xs. Contains xs x) (z.entries c main_c)
       (subst (Contains (entries_of (marked h.o a) c)) there.1.is (Contains-get_or (entries_of (marked h.o a) c) there.0 0 there.1.inside)) in
-      let same : room_in (marked h.o a) x ≡ room_in h.o x = ap header_room (marked_item h.o a (entry_offset x)) in
-      let low = inside.1 in
-      clear c x (other_bucket h a.w.key (bucket_in h.o a.w.key) refl c x main_c has n) inside.0 i (omega arith) l inside.2
+      let less : inside.0 < room_in h.o x = omega (arith, inside.1, ap header_room (marked_item h.o a (entry_offset x))) in
+      clear c x (other_bucket h a.w.key (bucket_in h.o a.w.key) refl c x main_c has n) inside.0 i less l inside.2
 
   can : CanPlay (puts_from from zs) (marked h.o a)
   can = can_put (marked h.o a) (kept_marked h.o a) from zs (λ i l. record {
@@ -89,7 +84,7 @@ module _ (h : Held) (a : AcceptedWrite h.o) (from room : ℕ) (r : Room h a from
 
     pub put_base : Base h a b o3
     put_base = base h a b here put (kept_put.wide ∙ sym h.kept.wide) kept_put
-        (λ d l. (put_link h.o a from zs in_heap d l, λ slot low. put_entry h.o a from zs in_heap d slot l low))
+        (λ d l. record { link = put_link h.o a from zs in_heap d l; entry = λ slot low. put_entry h.o a from zs in_heap d slot l low })
         (λ c x other i less. put_others h.o a from zs in_heap (entry_offset x + i) (λ j low. clear c x other i j less low)) o3 at_put
 
     -- The entry that names it spells it, whatever the index made of entries and links.
@@ -103,9 +98,8 @@ module _ (h : Held) (a : AcceptedWrite h.o) (from room : ℕ) (r : Room h a from
 
       item : (words : List ℕ) → ChangesChain o3 (written h.o a words) b ys → SpellsItem (written h.o a words) (entry_offset e) a.w.key cell
       item words now_change i l =
-          let long = length-item_words room a.w.key a.w.value in
           ap (λ q. item_in (written h.o a words) (q + i)) offset ∙ (now_change.rest.items (from + i)
-          ∙ (ap (λ o. item_in o (from + i)) at_put ∙ put_item h.o a from zs in_heap i (omega arith)))
+          ∙ (ap (λ o. item_in o (from + i)) at_put ∙ put_item h.o a from zs in_heap i (omega (arith, length-item_words room a.w.key a.w.value))))
 
       spells : (words : List ℕ) → ChangesChain o3 (written h.o a words) b ys → Kept (written h.o a words) → Spells (written h.o a words) b e a.w.key cell
       spells words now_change now_kept = spells_item (written h.o a words) now_kept b e a.w.key cell (sym here)
@@ -177,7 +171,8 @@ pub record PutNew (o : OwnerState) (index : Index) (blocks : List Block) (w : Wr
 -- of a delete once the item's block is given back,
 pub record DelKnown (o : OwnerState) (index : Index) (blocks : List Block) (w : Write) (b t : ℕ) (spot : Spot) (old : ℕ) : Type 0 where
   pub opens : Opens o w b t
-  pub removes : (o2 : OwnerState) → o2 ≡ marked_in_bucket o b w t → IsIndexOf index o2 × (marked_in o2.phase b ≡ 1) × IsMain o2.shape b × IsUsed o2 b spot
+  pub removes : (o2 : OwnerState) → o2 ≡ marked_in_bucket o b w t
+      → record { index : IsIndexOf index o2; marked : marked_in o2.phase b ≡ 1; bucket : IsMain o2.shape b; spot : IsUsed o2 b spot }
   pub closes : (o2 o4 : OwnerState) (index' : Index) → o2 ≡ marked_in_bucket o b w t → Kept o4 → IsIndexOf index' o4
       → ChangesChain o2 o4 b (swap_remove (entries_of o2 b) (number_of o2 b spot) 0)
       → Closes o w Deleted b t index' (Gave blocks old) o4
@@ -313,10 +308,7 @@ module _ (h : Held) (key value : List ℕ) (is : IsWrite (write_of Put key value
             blocks (used_block place size ∷ []) (used_block old k.cell.room ∷ []) (Gave blocks old)
             (heap_gives h.o.shape.words h.blocks blocks (used_block place size ∷ []) list more old k.cell.room k.some has_old)
             (still _ (0, omega arith, refl)) (freed_one old k.cell.room e old_is)
-            (λ y gone same.
-            let there = ap (λ (q : Block). q.place) (single (used_block old k.cell.room) y gone) ∙ same in
-            let some = k.some in
-            elim (clear_of old k.cell.room its) [ inl behind ↦ omega arith | inr before ↦ omega arith ])
+            (λ y gone same. grind (arith, ap (λ (q : Block). q.place) (single (used_block old k.cell.room) y gone) ∙ same, k.some, clear_of old k.cell.room its))
             refl (let had = ap room_of k.has in omega arith);
         small = let low = k.small in omega (arith, old_is);
         gives = record { size = k.cell.room; among = has_old };
@@ -339,7 +331,7 @@ module _ (h : Held) (key value : List ℕ) (is : IsWrite (write_of Put key value
               z.mains b (main h w b here),
               λ lacks. places (record {
                 some = subst (λ xs. 0 < length xs) same lacks.some;
-                full = ap (λ xs. length xs % 15) (sym same) ∙ lacks.full;
+                full = ap (λ xs. length xs % SLOTS) (sym same) ∙ lacks.full;
                 none_free = lacks.none_free;
               }),
             );
@@ -396,7 +388,7 @@ module _ (h : Held) (key : List ℕ) (fits : KeyFits key) (bytes : AreBytes key)
         opens = may_open h a b here;
         removes = λ o2 events.
             let z = marked_base h a b here o2 events in
-            (z.index, z.bit, z.mains b (main h a b here), (z.spots spot k.found.used).0);
+            record { index = z.index; marked = z.bit; bucket = z.mains b (main h a b here); spot = (z.spots spot k.found.used).0 };
         closes = λ o2 o4 index events kept known change.
             let z = marked_base h a b here o2 events in
             let xs = entries_of o2 b in

@@ -1,11 +1,10 @@
 use Rattle.chained_index.proofs.Words.{◌≡◌, ◌∙◌, refl, sym, ap, subst, arith, rules, true≢false, tag_of, OwnerState, Shape, entry_in, link_in, Kept}
 use Rattle.chained_index.proofs.Words.{Index, IsTrue, ◌↔◌}
 use Rattle.chained_index.proofs.Filled.{View, view_read}
-use Rattle.chained_index.proofs.Walking.{at_first, one_further, at_end, at_most}
-use Rattle.chained_index.proofs.Finding.{IsOfKey, spot_found, none_past_empty, none_at_end, one_more}
+use Rattle.chained_index.proofs.Walking.{at_first, one_further, at_end, at_most, IsOfKey, spot_found, none_past_empty, none_at_end, one_more}
 use Rattle.chained_index.proofs.index.ChainedIndex.find_hashed.Given.{Over}
-use Rattle.chained_index.proofs.index.ChainedIndex.find_hashed.Goals as goal
 use Rattle.chained_index.proofs.index.ChainedIndex.find_hashed.Goals.{After-read-entry, After-names_key, After-read-next}
+use Rattle.chained_index.proofs.index.ChainedIndex.find_hashed.Goals as goal
 
 pub loop-link-init : goal.loop-link-init
 loop-link-init g c = record {
@@ -86,6 +85,4 @@ pub returns-else-next-eq0-clause-found : goal.returns-else-next-eq0-clause-found
 returns-else-next-eq0-clause-found g c =
     let a = (goal.at.returns-else-next-eq0-clause-found g c).After-read-next in
     let far = at_most _ _ _ _ (one_further _ _ _ (linked g a) _ _ c.loop-link.invariant.walk _ (link g a) (search rules)) in
-    let known = ap (λ (z : Shape). z.spares) c.requires.index.shape in
-    let seen = ap (λ (z : Index). z.shape.spares) c.self.view_is in
-    absurd (omega arith)
+    absurd (omega (arith, far, ap (λ (z : Shape). z.spares) c.requires.index.shape, ap (λ (z : Index). z.shape.spares) c.self.view_is))

@@ -1,6 +1,5 @@
 use Rattle.chained_index.proofs.Words.{SLOTS, ◌≡◌, ◌+◌, ◌*◌, ◌<◌, Kept}
-use Rattle.chained_index.proofs.Walking.{IsAt}
-use Rattle.chained_index.proofs.Finding.{NoneBefore}
+use Rattle.chained_index.proofs.Walking.{IsAt, NoneBefore}
 use Rattle.chained_index.proofs.index.ChainedIndex.find_hashed.Given as goal
 
 abbrev pub invariant-loop-link : goal.invariant-loop-link

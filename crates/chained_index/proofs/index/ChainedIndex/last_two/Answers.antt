@@ -2,8 +2,8 @@ use Rattle.chained_index.proofs.Words.{◌≡◌, ◌∙◌, refl, ap, arith, ru
 use Rattle.chained_index.proofs.Filled.{View, view_read}
 use Rattle.chained_index.proofs.Walking.{at_first, one_further, at_end, at_last, behind_further, ends_in}
 use Rattle.chained_index.proofs.index.ChainedIndex.last_two.Given.{Over}
-use Rattle.chained_index.proofs.index.ChainedIndex.last_two.Goals as goal
 use Rattle.chained_index.proofs.index.ChainedIndex.last_two.Goals.{After-read-next}
+use Rattle.chained_index.proofs.index.ChainedIndex.last_two.Goals as goal
 
 pub loop-link-init : goal.loop-link-init
 loop-link-init g c = record { owner = refl; home = refl; walk = at_first _ c.args.bucket c.requires.bucket; behind = λ k e. absurd (omega arith) }
@@ -33,6 +33,5 @@ loop-link-preserved g c =
 pub returns-clause-last : goal.returns-clause-last
 returns-clause-last g c =
     let l = c.loop-link in
-    let known = ap (λ (z : Shape). z.spares) c.requires.index.shape in
-    let seen = ap (λ (z : Index). z.shape.spares) c.self.view_is in
-    ends_in _ _ _ _ _ l.invariant.walk l.invariant.behind (at_last _ _ _ _ l.invariant.walk (omega arith))
+    ends_in _ _ _ _ _ l.invariant.walk l.invariant.behind (at_last _ _ _ _ l.invariant.walk
+    (omega (arith, ap (λ (z : Shape). z.spares) c.requires.index.shape, ap (λ (z : Index). z.shape.spares) c.self.view_is)))

@@ -3,8 +3,8 @@ use Rattle.chained_index.proofs.Words.{nil_from_length, entry_of, PutsEntry, Put
 use Rattle.chained_index.proofs.Allowed.{may_enter, may_link, some_entry}
 use Rattle.chained_index.proofs.Calls.{Call, call_at, end_in_chain, lacks, last_free, added, added_behind}
 use Rattle.chained_index.proofs.index.ChainedIndex.place.Given.{Over}
-use Rattle.chained_index.proofs.index.ChainedIndex.place.Goals as goal
 use Rattle.chained_index.proofs.index.ChainedIndex.place.Goals.{After-end_of-end, In-Some}
+use Rattle.chained_index.proofs.index.ChainedIndex.place.Goals as goal
 
 call : (g : Over) (c : After-end_of-end g) → Call (g.W.OwnerWords.owner c.args.words.now) c.args.self.now c.args.bucket c.end_of-end.result
 call g c = call_at _ _ _ _ _ c.end_of-end.ensures.same c.end_of-end.ensures.kept c.requires.index c.requires.bucket c.end_of-end.ensures.end

@@ -4,8 +4,8 @@ use Rattle.chained_index.proofs.Chained.{chained}
 use Rattle.chained_index.proofs.Allowed.{may_enter, may_link, still_in}
 use Rattle.chained_index.proofs.Calls.{Call, call_at, end_in_chain, end_inside, before_in_chain, used_some, release_room, drop, release}
 use Rattle.chained_index.proofs.index.ChainedIndex.remove.Given.{Over}
-use Rattle.chained_index.proofs.index.ChainedIndex.remove.Goals as goal
 use Rattle.chained_index.proofs.index.ChainedIndex.remove.Goals.{After-end_of-end, After-put_entry}
+use Rattle.chained_index.proofs.index.ChainedIndex.remove.Goals as goal
 
 call : (g : Over) (c : After-end_of-end g) → Call (g.W.OwnerWords.owner c.args.words.now) c.args.self.now c.args.bucket c.end_of-end.result
 call g c = call_at _ _ _ _ _ c.end_of-end.ensures.same c.end_of-end.ensures.kept c.requires.index c.requires.bucket c.end_of-end.ensures.end
@@ -15,10 +15,10 @@ overflow_sub-last g c = let some = used_some _ _ _ _ (call g (goal.at.overflow_s
 
 pub read-entry-requires : goal.read-entry-requires
 read-entry-requires g c =
-    let call = call g (goal.at.read-entry-requires g c).After-end_of-end in
-    let within = call.ends.within in
-    let some = used_some _ _ _ _ call c.args.spot c.requires.spot in
-    (subst (λ (z : OwnerState). IsBucket z.shape c.end_of-end.result.bucket) (sym c.end_of-end.ensures.same) (end_inside _ _ _ _ call), omega arith)
+    let call = call g (goal.at.read-entry-requires g c).After-end_of-end in (
+      subst (λ (z : OwnerState). IsBucket z.shape c.end_of-end.result.bucket) (sym c.end_of-end.ensures.same) (end_inside _ _ _ _ call),
+      omega (arith, call.ends.within, used_some _ _ _ _ call c.args.spot c.requires.spot),
+    )
 
 -- the last entry went into the spot
 
@@ -32,19 +32,17 @@ first g c = c.put_entry.ensures.event ∙ ap (after (PutsEntry c.args.spot.bucke
 pub put_entry-requires-2 : goal.put_entry-requires-2
 put_entry-requires-2 g c =
     let call = call g (goal.at.put_entry-requires-2 g c).After-end_of-end in
-    let within = call.ends.within in
-    let some = used_some _ _ _ _ call c.args.spot c.requires.spot in
     may_enter _ c.args.bucket c.requires.marked _ (first g (goal.at.put_entry-requires-2 g c).After-put_entry) _ _
-    (inl (still_in _ call.v.s _ call.v.main c.requires.marked _ _ _ c.requires.spot.in_bucket _ (end_in_chain _ _ _ _ call))) (omega arith)
+    (inl (still_in _ call.v.s _ call.v.main c.requires.marked _ _ _ c.requires.spot.in_bucket _ (end_in_chain _ _ _ _ call)))
+    (omega (arith, call.ends.within, used_some _ _ _ _ call c.args.spot c.requires.spot))
 
 pub put_link-requires : goal.put_link-requires
 put_link-requires g c =
     let call = call g (goal.at.put_link-requires g c).After-end_of-end in
     let is = first g (goal.at.put_link-requires g c).After-put_entry in
-    let within = call.ends.within in
-    let some = used_some _ _ _ _ call c.args.spot c.requires.spot in
     let end = c.end_of-end.result in
-    may_link _ (chained _ (subst Kept is c.put_entry.ensures.kept)) c.args.bucket call.v.main c.requires.marked end.bucket (end.used - 1) 0 (omega arith) _
+    may_link _ (chained _ (subst Kept is c.put_entry.ensures.kept)) c.args.bucket call.v.main c.requires.marked end.bucket (end.used - 1) 0
+    (omega (arith, call.ends.within, used_some _ _ _ _ call c.args.spot c.requires.spot)) _
     (c.put_entry-2.ensures.event ∙ ap (after (PutsEntry end.bucket (end.used - 1) 0)) is) _ _
     (still_in _ call.v.s _ call.v.main c.requires.marked _ _ _ c.requires.spot.in_bucket _ (before_in_chain _ _ _ _ call c.if-end-bucket.true)) (inl refl)
 
@@ -52,11 +50,9 @@ pub push_reserved-requires : goal.push_reserved-requires
 push_reserved-requires g c =
     let index = subst (λ (z : Index). IsIndexOf z (g.W.OwnerWords.owner c.args.words.now)) (sym c.self.view_is) c.requires.index in
     let call = call_at _ _ _ _ _ c.end_of-end.ensures.same c.end_of-end.ensures.kept index c.requires.bucket c.end_of-end.ensures.end in
-    let room = release_room _ _ _ _ call c.if-end-bucket.true in
-    let shape = ap (λ (z : Shape). z.spares) index.shape in
     let reserved : c.self.inside.shape.spares ≤ vec_capacity c.self.inside.free = c.self.invariant in
     let size : vec_len c.self.inside.free ≡ length c.self.inside.free.items = search rules in
-    omega arith
+    omega (arith, release_room _ _ _ _ call c.if-end-bucket.true, ap (λ (z : Shape). z.spares) index.shape)
 
 -- the last bucket stays
 pub returns-else-last-eq0 : goal.returns-else-last-eq0

@@ -21,15 +21,9 @@ put : (g : Over) (c : After-rewrite_item g) → HasPut (g.W.OwnerWords.owner c.a
     (c.args.self.now.accepted + 1) c.args.block.offset c.args.block.room (g.W.OwnerWords.owner c.rewrite_item.new.words)
 put g c = c.rewrite_item.ensures.events ∙ ap (plays (item_events c.args.block.offset c.args.block.room c.args.key.now c.args.value.now)) c.begin_marked.ensures.events
 
-pub begin_marked-requires-clause-begin : goal.begin_marked-requires-clause-begin
-begin_marked-requires-clause-begin g c =
-    let z = goal.at.begin_marked-requires-clause-begin g c in
-    (steps g z.Start (λ k. omega (arith, c.type_inv.key k)) (λ k. omega (arith, c.type_inv.value k))).opens.begin _ refl
-
-pub begin_marked-requires-clause-mark : goal.begin_marked-requires-clause-mark
-begin_marked-requires-clause-mark g c =
-    let z = goal.at.begin_marked-requires-clause-mark g c in
-    (steps g z.Start (λ k. omega (arith, c.type_inv.key k)) (λ k. omega (arith, c.type_inv.value k))).opens.mark _ refl
+pub begin_marked-requires : goal.begin_marked-requires
+begin_marked-requires g c =
+    (steps g (goal.at.begin_marked-requires g c).Start (λ k. omega (arith, c.type_inv.key k)) (λ k. omega (arith, c.type_inv.value k))).opens _ refl
 
 pub rewrite_item-requires-clause-allowed : goal.rewrite_item-requires-clause-allowed
 rewrite_item-requires-clause-allowed g c =
@@ -50,8 +44,7 @@ pub invariant_of-self : goal.invariant_of-self
 invariant_of-self g c =
     let z = goal.at.invariant_of-self g c in
     let closed = (steps g z.Start (λ k. omega (arith, c.type_inv.key k)) (λ k. omega (arith, c.type_inv.value k))).closes _ (put g z.After-rewrite_item) in
-    let ended = closed.ended _ _ c.end_write.ensures.event refl in
-    record { parts = ∣ ended.parts ∣₁; counted = ended.count; stamped = ended.stamp }
+    (closed.ended _ _ c.end_write.ensures.event refl).invariant
 
 pub returns-clause-step : goal.returns-clause-step
 returns-clause-step g c =

@@ -1,10 +1,9 @@
-use Rattle.store_partition.proofs.Words.{AreBytes, CanPlay, ChangesChain, FullBlock, FullSpare, Index, IsOwnerStep, IsTaken, LacksPlace, MayLack}
-use Rattle.store_partition.proofs.Words.{OwnerState, Put, Stored, Write, [], ap, arith, entries_of, entry_of, hash_tag, item_events, item_size}
-use Rattle.store_partition.proofs.Words.{marked_in_bucket, plays, refl, size_of, subst, subst₂, sym, tag_of_hash, true≢false, write_of, ℕ, ◌++◌, ◌+◌}
-use Rattle.store_partition.proofs.Words.{◌∙◌, ◌∷◌, ◌≡◌}
-use Rattle.store_partition.proofs.Held.{Held, main_at}
+use Rattle.store_partition.proofs.Words.{rules, AreBytes, CanPlay, ChangesChain, FullBlock, FullSpare, Index, IsOwnerStep, IsTaken, LacksPlace}
+use Rattle.store_partition.proofs.Words.{MayLack, OwnerState, Put, Stored, Write, [], ap, arith, entries_of, entry_of, hash_tag, item_events}
+use Rattle.store_partition.proofs.Words.{item_size, marked_in_bucket, plays, refl, size_of, subst, subst₂, sym, tag_of_hash, true≢false, write_of, ℕ}
+use Rattle.store_partition.proofs.Words.{◌++◌, ◌+◌, ◌∙◌, ◌∷◌, ◌≡◌}
+use Rattle.store_partition.proofs.Held.{Held, main_at, full_block, full_spare, new_needs}
 use Rattle.store_partition.proofs.Events.{Closes}
-use Rattle.store_partition.proofs.Outcomes.{full_block, full_spare, new_needs}
 use Rattle.store_partition.proofs.Writes.{HasPut, PutNew, new}
 use Rattle.store_partition.proofs.Parts.{held}
 use Rattle.store_partition.proofs.partition.StorePartition.put_new.Given.{Over}
@@ -52,11 +51,10 @@ closed g c o index t steps put =
     (subst (λ p. ChangesChain o3 (g.W.OwnerWords.owner c.place.new.words) c.args.bucket (entries_of o3 c.args.bucket ++ entry_of c.tag_of.result p ∷ []))
     c.from-2.ensures c.place.ensures.entries)
 
-pub has_place-requires-clause-index : goal.has_place-requires-clause-index
-has_place-requires-clause-index g c = (h g (goal.at.has_place-requires-clause-index g c).Start).parts.known
-
-pub has_place-requires-clause-bucket : goal.has_place-requires-clause-bucket
-has_place-requires-clause-bucket g c = main_at (g.W.OwnerWords.owner c.args.self.now.words) c.requires.kept c.args.key.now c.args.bucket c.requires.sought.bucket
+pub has_place-requires : goal.has_place-requires
+has_place-requires g c =
+    let h = h g (goal.at.has_place-requires g c).Start in
+    record { index = h.parts.known; bucket = main_at h.o h.kept c.args.key.now c.args.bucket c.requires.sought.bucket }
 
 pub returns-then-not-has_place-clause-step : goal.returns-then-not-has_place-clause-step
 returns-then-not-has_place-clause-step g c =
@@ -73,11 +71,8 @@ returns-in_default-clause-step g c =
     (full_block (h g z) c.args.key.now c.args.value.now c.args.bucket c.requires.sought.bucket c.requires.unworn needs
     (subst (MayLack c.args.self.now.heap) c.item_size-size.ensures c.in_default.ensures.may_lack))
 
-pub begin_marked-requires-clause-begin : goal.begin_marked-requires-clause-begin
-begin_marked-requires-clause-begin g c = (steps g (goal.at.begin_marked-requires-clause-begin g c).In-Some).opens.begin _ c.has_place.ensures.same
-
-pub begin_marked-requires-clause-mark : goal.begin_marked-requires-clause-mark
-begin_marked-requires-clause-mark g c = (steps g (goal.at.begin_marked-requires-clause-mark g c).In-Some).opens.mark _ c.has_place.ensures.same
+pub begin_marked-requires : goal.begin_marked-requires
+begin_marked-requires g c = (steps g (goal.at.begin_marked-requires g c).In-Some).opens _ c.has_place.ensures.same
 
 pub write_item_hashed-requires-clause-allowed : goal.write_item_hashed-requires-clause-allowed
 write_item_hashed-requires-clause-allowed g c =
@@ -86,17 +81,11 @@ write_item_hashed-requires-clause-allowed g c =
     subst₂ (λ p n. CanPlay (item_events p n c.args.key.now c.args.value.now) (g.W.OwnerWords.owner c.begin_marked.new.words)) (sym c.from.ensures) (sym c.item_size-size.ensures)
     ((steps g z.In-Some).item _ begun)
 
-pub place-requires-clause-index : goal.place-requires-clause-index
-place-requires-clause-index g c = let z = goal.at.place-requires-clause-index g c in ((steps g z.In-Some).places _ (put g z.After-write_item_hashed)).0
-
-pub place-requires-clause-marked : goal.place-requires-clause-marked
-place-requires-clause-marked g c = let z = goal.at.place-requires-clause-marked g c in ((steps g z.In-Some).places _ (put g z.After-write_item_hashed)).1
-
-pub place-requires-clause-bucket : goal.place-requires-clause-bucket
-place-requires-clause-bucket g c = let z = goal.at.place-requires-clause-bucket g c in ((steps g z.In-Some).places _ (put g z.After-write_item_hashed)).2
-
-pub place-requires-clause-place : goal.place-requires-clause-place
-place-requires-clause-place g c = let z = goal.at.place-requires-clause-place g c in ((steps g z.In-Some).places _ (put g z.After-write_item_hashed)).3
+pub place-requires : goal.place-requires
+place-requires g c =
+    let z = goal.at.place-requires g c in
+    let places = (steps g z.In-Some).places _ (put g z.After-write_item_hashed) in
+    record { index = places.0; marked = places.1; bucket = places.2; place = places.3; tag = search rules; offset = search rules }
 
 pub end_write-requires : goal.end_write-requires
 end_write-requires g c = let z = goal.at.end_write-requires g c in (closed g z.After-place _ _ _ (steps g z.In-Some) (put g z.After-write_item_hashed)).end
@@ -104,8 +93,7 @@ end_write-requires g c = let z = goal.at.end_write-requires g c in (closed g z.A
 pub invariant_of-self-2 : goal.invariant_of-self-2
 invariant_of-self-2 g c =
     let z = goal.at.invariant_of-self-2 g c in
-    let ended = (closed g z.After-place _ _ _ (steps g z.In-Some) (put g z.After-write_item_hashed)).ended _ _ c.end_write.ensures.event refl in
-    record { parts = ∣ ended.parts ∣₁; counted = ended.count; stamped = ended.stamp }
+    ((closed g z.After-place _ _ _ (steps g z.In-Some) (put g z.After-write_item_hashed)).ended _ _ c.end_write.ensures.event refl).invariant
 
 pub returns-clause-step : goal.returns-clause-step
 returns-clause-step g c =
