@@ -109,7 +109,8 @@ module _ (o : OwnerState) (wide : length o.words ≡ word_count o.shape) (b : �
     order i j less n =
         let step = step_on (link_in o) b behind chain.behind (i / SLOTS) in
         let later = d.in_order (at cs (j / SLOTS)) (i % SLOTS) (j % SLOTS) in
-        grind (arith, below all j n, by_place o wide cs buckets i, by_place o wide cs buckets j, size_all, own (i / SLOTS), d.full (at cs (i / SLOTS)) (i % SLOTS))
+        let at_i = by_place o wide cs buckets i in
+        grind (arith, below all j n, at_i, by_place o wide cs buckets j, size_all, own (i / SLOTS), d.full (at cs (i / SLOTS)) (i % SLOTS))
 
     part : (xs : List ℕ) × AllUsed xs × ((i : ℕ) → at all i ≡ at xs i)
     part = used_part all order
