@@ -25,7 +25,8 @@ use Rattle.store_partition.proofs.Cells.{exchanges, one_or_none}
 -- what a write has made of the partition once it has ended: its step, and the facts that a partition goes by after so many writes
 pub record Ended (o new : OwnerState) (index : Index) (blocks : List Block) (w : Write) (outcome : Outcome) (t : ℕ) : Type 0 where
   pub step : IsOwnerStep o new w outcome
-  pub invariant : record { parts : ∥ AreParts index blocks new ∥₁; counted : t ≡ length new.history; stamped : t ≡ stamp_of (options_in new) new.history }
+  pub invariant :
+      record { parts : ∥ AreParts index blocks new ∥₁; counted : t ≡ length new.history; stamped : t ≡ stamp_of (options_in new) new.history }
 
 -- its first two events may happen
 abbrev pub Opens : OwnerState → Write → ℕ → ℕ → Type 0
