@@ -95,7 +95,8 @@ module _ (o : OwnerState) (words : List ℕ) (t : Chained (record o { words = wo
       let is = (spares_are o index b v c).0 (was c (Contains-append_left free ds c has)) in record {
         spare = is.0;
         free = λ d m h. dite (ℕ_discrete d b)
-            (λ e. differ_apart free ds all c has (not_main o.shape b c ds v.main is.0 (has_bucket p b ds chain_now c (subst (λ (z : ℕ). InChain p z c) e h))))
+            (λ e. differ_apart free ds all c has
+            (not_main o.shape b c ds v.main is.0 (has_bucket p b ds chain_now c (subst (λ (z : ℕ). InChain p z c) e h))))
             (λ n. is.1 d m n (chain_back o words o.history o.phase long v.s d m (other_link d m n) c h));
       }
 

@@ -109,7 +109,8 @@ module _ (o : OwnerState) (wide : length o.words ≡ word_count o.shape) (b : �
     order i j less n =
         let step = step_on (link_in o) b behind chain.behind (i / SLOTS) in
         let later = d.in_order (at cs (j / SLOTS)) (i % SLOTS) (j % SLOTS) in
-        grind (arith, below all j n, by_place o wide cs buckets i, by_place o wide cs buckets j, size_all, own (i / SLOTS), d.full (at cs (i / SLOTS)) (i % SLOTS))
+        let at_i = by_place o wide cs buckets i in
+        grind (arith, below all j n, at_i, by_place o wide cs buckets j, size_all, own (i / SLOTS), d.full (at cs (i / SLOTS)) (i % SLOTS))
 
     part : (xs : List ℕ) × AllUsed xs × ((i : ℕ) → at all i ≡ at xs i)
     part = used_part all order
@@ -174,11 +175,12 @@ module _ (o : OwnerState) (index : Index) (b : ℕ) (v : View o index b) (spot :
   pub number_is : number_of o b spot ≡ SLOTS * place.0 + spot.slot
   unfolding number_of
   number_is =
+      let less = place.1 in
       let test : ℕ → Bool = λ c. nat_eq c spot.bucket in
       ap (λ (z : List ℕ). SLOTS * position_or_len test z + spot.slot) (chain_is o b v.behind v.chain)
-      ∙ ap (λ (z : ℕ). SLOTS * z + spot.slot) (position_or_len_is test list place.0 0 (omega (arith, place.1))
+      ∙ ap (λ (z : ℕ). SLOTS * z + spot.slot) (position_or_len_is test list place.0 0 (omega arith)
       (λ j below. ne_eqb (at list j) spot.bucket (λ same.
-      let is = one_place list (all_differ (link_in o) b v.behind v.chain.behind) j place.0 (omega (arith, place.1)) place.1 (same ∙ sym place.2) in omega arith))
+      let is = one_place list (all_differ (link_in o) b v.behind v.chain.behind) j place.0 (omega arith) place.1 (same ∙ sym place.2) in omega arith))
       (λ within. eq-eqb (at list place.0) spot.bucket place.2))
 
   pub entry_there : at (entries_of o b) (number_of o b spot) ≡ spot_entry o spot

@@ -83,7 +83,8 @@ module _ (o : OwnerState) (s : Chained o) (b : ℕ) (main : IsMain o.shape b) wh
   }
 
   pub entries_ends : (c : ℕ) → IsMain o.shape c → entries_of (after (Ends b) o) c ≡ entries_of o c
-  entries_ends = entries_stay o (words_after (Ends b) o) (history_after (Ends b) o.history) (phase_after (Ends b) o) (length-set o.words _ _) s ends_same
+  entries_ends = entries_stay o (words_after (Ends b) o) (history_after (Ends b) o.history) (phase_after (Ends b) o)
+      (length-set o.words _ _) s ends_same
 
   pub index_ends : (index : Index) → IsIndexOf index o → IsIndexOf index (after (Ends b) o)
   index_ends = index_stays o (words_after (Ends b) o) (history_after (Ends b) o.history) (phase_after (Ends b) o) (length-set o.words _ _) s ends_same

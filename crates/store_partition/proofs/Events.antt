@@ -25,7 +25,8 @@ use Rattle.store_partition.proofs.Cells.{exchanges, one_or_none}
 -- what a write has made of the partition once it has ended: its step, and the facts that a partition goes by after so many writes
 pub record Ended (o new : OwnerState) (index : Index) (blocks : List Block) (w : Write) (outcome : Outcome) (t : ℕ) : Type 0 where
   pub step : IsOwnerStep o new w outcome
-  pub invariant : record { parts : ∥ AreParts index blocks new ∥₁; counted : t ≡ length new.history; stamped : t ≡ stamp_of (options_in new) new.history }
+  pub invariant :
+      record { parts : ∥ AreParts index blocks new ∥₁; counted : t ≡ length new.history; stamped : t ≡ stamp_of (options_in new) new.history }
 
 -- its first two events may happen
 abbrev pub Opens : OwnerState → Write → ℕ → ℕ → Type 0
@@ -87,7 +88,8 @@ module _ (h : Held) (a : AcceptedWrite h.o) where
       mark = subst₂ (λ z c. MayMark (after_event (Begins c) z) a.w a.t) (sym same) (sym here) (may_mark h.o a);
     }
 
-    pub base : (words : List ℕ) → length words ≡ length h.o.words → Kept (written h.o a words) → ((d : ℕ) → IsBucket h.o.shape d → SameBucket h.o (written h.o a words) d)
+    pub base : (words : List ℕ) → length words ≡ length h.o.words → Kept (written h.o a words) →
+        ((d : ℕ) → IsBucket h.o.shape d → SameBucket h.o (written h.o a words) d)
         → ((c x : ℕ) → IsOther h a.w.key c x → Keeps h.o a words x) → (o3 : OwnerState) → o3 ≡ written h.o a words → Base b o3
     base words long kept same keeps o3 at = subst (Base b) (sym at) record {
       is = refl;
@@ -114,7 +116,8 @@ module _ (h : Held) (a : AcceptedWrite h.o) where
 
     pub marked_base : (o2 : OwnerState) → o2 ≡ marked_in_bucket h.o b a.w a.t → Base b o2
     marked_base o2 at = base (marked h.o a).words (length-set _ _ _ ∙ length-set h.o.words _ _) (kept_marked h.o a)
-        (λ d l. record { link = marked_link h.o a d; entry = marked_entry h.o a d }) (λ c x other i less. marked_item h.o a (entry_offset x + i)) o2 (marked_at o2 at)
+        (λ d l. record { link = marked_link h.o a d; entry = marked_entry h.o a d })
+        (λ c x other i less. marked_item h.o a (entry_offset x + i)) o2 (marked_at o2 at)
 
     pub when_marked : (o3 : OwnerState) → Base b o3 → (F : ℕ → Type 0) → WhenMarked o3.phase (λ c write history. F c) ↔ F b
     when_marked o3 z F = (
@@ -128,7 +131,8 @@ module _ (h : Held) (a : AcceptedWrite h.o) where
       number_in = is_within o3 h.index b (view o3 (chained o3 z.kept) h.index z.index b (z.mains b main)) spot (z.spots spot used).0
 
       pub number_is : at (entries_of o3 b) (number_of o3 b spot) ≡ spot_entry h.o spot
-      number_is = entry_there o3 h.index b (view o3 (chained o3 z.kept) h.index z.index b (z.mains b main)) spot (z.spots spot used).0 ∙ (z.spots spot used).1
+      number_is = entry_there o3 h.index b (view o3 (chained o3 z.kept) h.index z.index b (z.mains b main)) spot (z.spots spot used).0 ∙
+          (z.spots spot used).1
 
     -- The end
 
@@ -265,7 +269,8 @@ module _ (h : Held) (a : AcceptedWrite h.o) (b : ℕ) (here : b ≡ bucket_in h.
         ]
 
     once_now : AllDiffer zs
-    once_now = differ_moved (e.news ++ e.rest) zs (IsPermutation-sym _ _ chain_now) (differ_joined e.news e.rest (λ i j d less l. absurd (omega (arith, e.few)))
+    once_now = differ_moved (e.news ++ e.rest) zs (IsPermutation-sym _ _ chain_now)
+        (differ_joined e.news e.rest (λ i j d less l. absurd (omega (arith, e.few)))
         (differ_last e.own e.rest (differ_moved (entries_of h.o b) (e.own ++ e.rest) e.split.lists (once h.o b (stood h b (main h a b here)))))
         (λ x new rest. (e.split.others x rest).differs (key_is b x (inr (e.split.others x rest)) a.w.key _ (e.spells x new).1)))
 
@@ -333,8 +338,10 @@ module _ (h : Held) (a : AcceptedWrite h.o) (b : ℕ) (here : b ≡ bucket_in h.
           list = heap.0;
           used = λ c k i less.
               let x = at (entries_of (after_event (Ends b) p) c) i in
-              let has = subst (λ xs. Contains xs x) (entries_ends p (chained p kept) b l c k) (Contains-get_or (entries_of (after_event (Ends b) p) c) i 0 less) in
-              subst (λ n. Contains (used_blocks bs) (used_block (entry_offset x) n)) (sym (room_ends p b l x)) (housed_last bs becomes c x (comes c k x has));
+              let has = subst (λ xs. Contains xs x) (entries_ends p (chained p kept) b l c k)
+              (Contains-get_or (entries_of (after_event (Ends b) p) c) i 0 less) in
+              subst (λ n. Contains (used_blocks bs) (used_block (entry_offset x) n)) (sym (room_ends p b l x))
+              (housed_last bs becomes c x (comes c k x has));
           count =
               (let more = length_permutation _ _ e.heap.more in
               let less = length_permutation _ _ heap.1 in

@@ -56,7 +56,8 @@ rooms_apart o blocks list x x' has has' differ q i i' =
     let within = block_within o.shape.words blocks list (entry_offset x) (room_in o x) has in
     let within' = block_within o.shape.words blocks list (entry_offset x') (room_in o x') has' in
     let same = same_word o (entry_offset x + i.0) (entry_offset x' + i'.0) (omega (arith, i.1)) (omega (arith, i'.1)) (i.2 ∙ sym i'.2) in
-    let apart = same_or_apart o.shape.words blocks list (used_block (entry_offset x) (room_in o x)) (used_block (entry_offset x') (room_in o x')) has has' in
+    let apart = same_or_apart o.shape.words blocks list (used_block (entry_offset x) (room_in o x))
+    (used_block (entry_offset x') (room_in o x')) has has' in
     grind (arith, i.1, i'.1)
 
 -- the entries of a chain, by what the words stand for
@@ -178,7 +179,8 @@ module _ (h : Held) (key : List ℕ) (b : ℕ) (here : b ≡ bucket_in h.o key) 
 
     there : Contains xs e
     there = subst (Contains xs) (entry_there h.o h.index b (view h.o (chained h.o h.kept) h.index h.parts.known b main) spot found.used)
-        (Contains-get_or xs (number_of h.o b spot) 0 (is_within h.o h.index b (view h.o (chained h.o h.kept) h.index h.parts.known b main) spot found.used))
+        (Contains-get_or xs (number_of h.o b spot) 0
+        (is_within h.o h.index b (view h.o (chained h.o h.kept) h.index h.parts.known b main) spot found.used))
 
     own : (cell : Cell) × Spells h.o b e key cell
     own = spelt_key h.o h.kept b e key bytes found.item (spelt h.o b (stood h b main) e there)
@@ -210,7 +212,8 @@ module _ (h : Held) (key : List ℕ) (b : ℕ) (here : b ≡ bucket_in h.o key) 
             long = sym (ap one_or_none has_own);
             its = λ x has. (own.0, subst (λ z. Spells h.o b z key own.0) (single e x has) own.1);
             others = λ x has. others x (Contains-permutation (e ∷ rest) xs x (IsPermutation-sym _ _ lists) (Contains-append_right (e ∷ []) rest x has))
-                (λ same. differ_apart (e ∷ []) rest (differ_moved xs (e ∷ rest) lists (once h.o b (stood h b main))) x (0, omega arith, sym same) has);
+                (λ same. differ_apart (e ∷ []) rest (differ_moved xs (e ∷ rest) lists (once h.o b (stood h b main))) x
+                (0, omega arith, sym same) has);
           };
           elsewhere = λ c x other same. other.differs (sym (only_key h.o h.kept b c e x key other.own own.0 other.cell own.1 other.spells same));
         }

@@ -46,7 +46,8 @@ pub same_or_apart : (words : ℕ) (blocks : List Block) → IsBlockList words bl
     → Contains (used_blocks blocks) other → (one ≡ other) ⊎ ((one.place + one.size ≤ other.place) ⊎ (other.place + other.size ≤ one.place))
 same_or_apart words blocks list one other has has' =
     let apart = used_apart words blocks list in
-    grind (arith, get_or_default (used_blocks blocks) has.0 other one, has.1, has.2, has'.1, has'.2, apart has.0 has'.0 other, apart has'.0 has.0 other)
+    let is = get_or_default (used_blocks blocks) has.0 other one has.1 in
+    grind (arith, is, has.1, has.2, has'.1, has'.2, apart has.0 has'.0 other, apart has'.0 has.0 other)
 
 -- one block more
 pub added : (old new : List Block) (block : Block) → AddsBlock old new block → IsPermutation new (block ∷ old)

@@ -308,7 +308,9 @@ module _ (h : Held) (key value : List ℕ) (is : IsWrite (write_of Put key value
             blocks (used_block place size ∷ []) (used_block old k.cell.room ∷ []) (Gave blocks old)
             (heap_gives h.o.shape.words h.blocks blocks (used_block place size ∷ []) list more old k.cell.room k.some has_old)
             (still _ (0, omega arith, refl)) (freed_one old k.cell.room e old_is)
-            (λ y gone same. grind (arith, ap (λ (q : Block). q.place) (single (used_block old k.cell.room) y gone) ∙ same, k.some, clear_of old k.cell.room its))
+            (λ y gone same.
+            let there = ap (λ (q : Block). q.place) (single (used_block old k.cell.room) y gone) ∙ same in
+            grind (arith, there, k.some, clear_of old k.cell.room its))
             refl (let had = ap room_of k.has in omega arith);
         small = let low = k.small in omega (arith, old_is);
         gives = record { size = k.cell.room; among = has_old };
