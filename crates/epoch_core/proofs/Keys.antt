@@ -23,8 +23,7 @@ module _ (o : OwnerState) (s : Kept o) (b entry : ℕ) (key : List ℕ) (cell : 
       ∙ header_key_len-header_of cell.room (length key) (length cell.value) fits.5 (omega (arith, fits.0))
 
   key_word : (i : ℕ) → i < words_for (length key) → item_in o (entry_offset entry + 2 + i) ≡ slice_index (packed key) i
-  key_word i l =
-      ap (item_in o) (omega arith) ∙ (sp.item (2 + i) (omega arith) ∙ packed_key_word cell.room key cell.value i l)
+  key_word i l = ap (item_in o) (omega arith) ∙ (sp.item (2 + i) (omega arith) ∙ packed_key_word cell.room key cell.value i l)
 
   pub has_its_key : HasKey o (entry_offset entry) key
   has_its_key = record {

@@ -95,8 +95,7 @@ puts_words o p [] wide some few = record { same = refl; wide = refl; put = λ i 
 puts_words o p (x ∷ xs) wide some few =
     let one : length (after (PutsWord p x) o).words ≡ length o.words = length-set o.words (item_at o.shape p) x in
     let rest = puts_words (after (PutsWord p x) o) (p + 1) xs (one ∙ wide) some (omega arith) in
-    let inside : item_at o.shape p < length o.words = let less = mod-lt p some in omega arith in
-    let first : get_or (after (PutsWord p x) o).words (item_at o.shape p) 0 ≡ x = get_or-set_same o.words (item_at o.shape p) x 0 inside in record {
+    let first = get_or-set_same o.words (item_at o.shape p) x 0 (omega (arith, mod-lt p some)) in record {
       same = rest.same;
       wide = rest.wide ∙ one;
       put = λ i l. put_at i l first rest;
