@@ -21,7 +21,8 @@ pub spells_there : (o new : OwnerState) (b entry : ℕ) (key : List ℕ) (cell :
     → item_in (record new { shape = o.shape }) (entry_offset entry + i) ≡ item_in o (entry_offset entry + i))
     → Spells o b entry key cell → Spells (record new { shape = o.shape }) b entry key cell
 spells_there o new b entry key cell has room same sp =
-    record { bucket = sp.bucket; has = has; offset = sp.offset; tag = sp.tag; item = λ i l. same i l ∙ sp.item i l; in_room = omega (arith, sp.in_room) }
+    let fits = sp.in_room in
+    record { bucket = sp.bucket; has = has; offset = sp.offset; tag = sp.tag; item = λ i l. same i l ∙ sp.item i l; in_room = omega arith }
 
 -- what has to be known of a bucket
 pub record Carries (o new : OwnerState) (b : ℕ) : Type 0 where

@@ -33,7 +33,8 @@ may_put_still o p x q still may = record { its_word = by_phase o.phase refl may.
 -- so several may be put where each may, in states of which each put leaves what keeps that
 
 puts_by : (P : OwnerState → Type 0)
-    → ((o : OwnerState) → P o → (p x : ℕ) → MayPutWord o p → P (after (PutsWord p x) o) × ((q : ℕ) → MayPutWord o q → MayPutWord (after (PutsWord p x) o) q))
+    → ((o : OwnerState) → P o → (p x : ℕ) → MayPutWord o p
+    → P (after (PutsWord p x) o) × ((q : ℕ) → MayPutWord o q → MayPutWord (after (PutsWord p x) o) q))
     → (o : OwnerState) → P o → (p : ℕ) (xs : List ℕ) → MayPutWords o p (length xs) → CanPlay (puts_from p xs) o
 puts_by P keeps o is p [] may = tt
 puts_by P keeps o is p (x ∷ xs) may =
