@@ -93,7 +93,8 @@ module _ (o : OwnerState) (s : Kept o) where
             ]
 
   stay : (e : Event) → ((c : ℕ) → IsBucket o.shape c → link_at o.shape c ≢ place_of o.shape e) → HasChains (after e o)
-  stay e none = chains_stay o (words_after e o) (history_after e o.history) (phase_after e o) s.chains (λ c l. other o e (link_at o.shape c) (none c l))
+  stay e none =
+      chains_stay o (words_after e o) (history_after e o.history) (phase_after e o) s.chains (λ c l. other o e (link_at o.shape c) (none c l))
 
   pub chains_after : (e : Event) → IsAllowed e o → HasChains (after e o)
   chains_after (PutsLink c next) a = link_chains c next a

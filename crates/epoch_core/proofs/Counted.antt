@@ -17,7 +17,8 @@ in_range low n c least most = (c - low, omega (arith, length-range_with_len low 
 module _ (xs : List ℕ) (low n : ℕ) (pairs : AllPairs (λ c d. c ≢ d) xs) (inside : (c : ℕ) → Contains xs c → (low ≤ c) × (c < low + n)) where
   pub at_most : length xs ≤ n
   at_most =
-      omega (arith, length-range_with_len low n, no_longer xs (range_with_len low n) pairs (λ c has. in_range low n c (inside c has).0 (inside c has).1))
+      let few = no_longer xs (range_with_len low n) pairs (λ c has. in_range low n c (inside c has).0 (inside c has).1) in
+      omega (arith, length-range_with_len low n)
 
   -- as many where it has each number of the range
   pub all_there : ((c : ℕ) → low ≤ c → c < low + n → Contains xs c) → length xs ≡ n

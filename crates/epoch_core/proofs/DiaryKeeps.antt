@@ -1,5 +1,6 @@
 -- Each event keeps the rule of the one-word table whose seat has a diary.
-use Rattle.epoch_core.proofs.Vocabulary.{Bool, ◌≡◌, CanPlay, Event, IsAllowed, IsValidShape, List, OwnerState, [], after, ap, arith, as_made, cond, false}
+use Rattle.epoch_core.proofs.Vocabulary.{Bool, ◌≡◌, CanPlay, Event, IsAllowed, IsValidShape, List, OwnerState, [], after, ap, arith, as_made, cond}
+use Rattle.epoch_core.proofs.Vocabulary.{false}
 use Rattle.epoch_core.proofs.Vocabulary.{length, ltb-false, ltb-true, nat_lt, plays, refl, set, subst, suc, sym, true, zero, ℕ, ⊎_elim, ◌++◌, ◌∙◌}
 use Rattle.epoch_core.proofs.Vocabulary.{◌∷◌, ◌≡◌}
 use mathlib.Core.Option.{some, none, some-injective}

@@ -37,7 +37,8 @@ module _ (o : OwnerState) (s : Kept o) where
   -- Epochs
 
   one_more : (b c : ℕ) → IsMain o.shape b → epoch_in (after (Begins b) o) c ≡ epoch_in o c + bit b c
-  one_more b c l = grind (arith, bit_same b c, bit_else b c, s.wide, get_or-set_same o.words (epoch_at b) (epoch_in o b + 1) 0, other o (Begins b) (epoch_at c))
+  one_more b c l =
+      grind (arith, bit_same b c, bit_else b c, s.wide, get_or-set_same o.words (epoch_at b) (epoch_in o b + 1) 0, other o (Begins b) (epoch_at c))
 
   epoch_after : (e : Event) → IsAllowed e o → (c : ℕ) → IsMain o.shape c → epoch_in (after e o) c ≡ epoch_in o c + adds e c
   epoch_after (Begins b) a c l = one_more b c a.main

@@ -11,7 +11,8 @@ pub header_there : (o : OwnerState) (p : ℕ) (key : List ℕ) (cell : Cell) →
     → item_in o p ≡ header_of cell.room (length key) (length cell.value)
 header_there o p key cell item = ap (item_in o) (sym (add-zero p)) ∙ item 0 (omega arith) ∙ header_word cell.room key cell.value
 
-pub item_room : (o : OwnerState) (p : ℕ) (key : List ℕ) (cell : Cell) → cell.room < 65536 → SpellsItem o p key cell → header_room (item_in o p) ≡ cell.room
+pub item_room : (o : OwnerState) (p : ℕ) (key : List ℕ) (cell : Cell) → cell.room < 65536 → SpellsItem o p key cell
+    → header_room (item_in o p) ≡ cell.room
 item_room o p key cell small item =
     ap header_room (header_there o p key cell item) ∙ header_room-header_of cell.room (length key) (length cell.value) small
 
@@ -23,8 +24,7 @@ module _ (o : OwnerState) (s : Kept o) (b entry : ℕ) (key : List ℕ) (cell : 
       ∙ header_key_len-header_of cell.room (length key) (length cell.value) fits.5 (omega (arith, fits.0))
 
   key_word : (i : ℕ) → i < words_for (length key) → item_in o (entry_offset entry + 2 + i) ≡ slice_index (packed key) i
-  key_word i l =
-      ap (item_in o) (omega arith) ∙ (sp.item (2 + i) (omega arith) ∙ packed_key_word cell.room key cell.value i l)
+  key_word i l = ap (item_in o) (omega arith) ∙ (sp.item (2 + i) (omega arith) ∙ packed_key_word cell.room key cell.value i l)
 
   pub has_its_key : HasKey o (entry_offset entry) key
   has_its_key = record {

@@ -86,9 +86,10 @@ module _ (o : OwnerState) (s : Kept o) (r : ReaderState) (k : ReaderKept o r) wh
   shut_fails (Some t) b g is =
       let n : ℕ = epoch_in o b in
       let same = ap (epoch_in o) (is t refl) in
+      let first = g.first in
       let more : List Failure = r.fails ++ failure t.bucket t.first n ∷ [] in
       tested (λ (z : Bool). FailsFit o (if z then r.fails else more)) n t.first (λ still. k.fails)
-      (λ moved. fails_more o r.fails (failure t.bucket t.first n) k.fails (g.main, omega arith, (omega (arith, g.first), inr (omega (arith, g.first)))))
+      (λ moved. fails_more o r.fails (failure t.bucket t.first n) k.fails (g.main, omega arith, (omega arith, inr (omega arith))))
 
   pub shuts : (b : ℕ) → ((t : Try) → r.current ≡ Some t → t.bucket ≡ b) → ReaderKept o (shut (epoch_in o b) r)
   shuts b is = loaded_keeps _ _ _ _ _ (shut_fails r.current b k.current is) tt

@@ -77,7 +77,8 @@ module _ (options : Options) (history : History) (writes : AllByRecursion IsWrit
     on = λ key cell p same h live.
         let has = rw at.1 at h in
         let found = found_record (record_of at.0 key) cell p has in
-        let there = others_on options history writes write is at.0 at.1 key (λ e. apart (sym same ∙ e)) found.0 found.1 (omega (arith, ap stamp_in now, found.2)) in
+        let stamp = ap stamp_in now in
+        let there = others_on options history writes write is at.0 at.1 key (λ e. apart (sym same ∙ e)) found.0 found.1 (omega (arith, stamp, found.2)) in
         rw now (ap (option_map cell_at) (there ∙ sym found.1) ∙ has);
     live_on = λ key cell p q same h i live.
         let before = had key cell p same (rw now at h) in

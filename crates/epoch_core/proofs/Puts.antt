@@ -33,7 +33,8 @@ may_put_still o p x q still may = record { its_word = by_phase o.phase refl may.
 -- so several may be put where each may, in states of which each put leaves what keeps that
 
 puts_by : (P : OwnerState → Type 0)
-    → ((o : OwnerState) → P o → (p x : ℕ) → MayPutWord o p → P (after (PutsWord p x) o) × ((q : ℕ) → MayPutWord o q → MayPutWord (after (PutsWord p x) o) q))
+    → ((o : OwnerState) → P o → (p x : ℕ) → MayPutWord o p
+    → P (after (PutsWord p x) o) × ((q : ℕ) → MayPutWord o q → MayPutWord (after (PutsWord p x) o) q))
     → (o : OwnerState) → P o → (p : ℕ) (xs : List ℕ) → MayPutWords o p (length xs) → CanPlay (puts_from p xs) o
 puts_by P keeps o is p [] may = tt
 puts_by P keeps o is p (x ∷ xs) may =
@@ -95,8 +96,7 @@ puts_words o p [] wide some few = record { same = refl; wide = refl; put = λ i 
 puts_words o p (x ∷ xs) wide some few =
     let one : length (after (PutsWord p x) o).words ≡ length o.words = length-set o.words (item_at o.shape p) x in
     let rest = puts_words (after (PutsWord p x) o) (p + 1) xs (one ∙ wide) some (omega arith) in
-    let inside : item_at o.shape p < length o.words = let less = mod-lt p some in omega arith in
-    let first : get_or (after (PutsWord p x) o).words (item_at o.shape p) 0 ≡ x = get_or-set_same o.words (item_at o.shape p) x 0 inside in record {
+    let first = get_or-set_same o.words (item_at o.shape p) x 0 (omega (arith, mod-lt p some)) in record {
       same = rest.same;
       wide = rest.wide ∙ one;
       put = λ i l. put_at i l first rest;

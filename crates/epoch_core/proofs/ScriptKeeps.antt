@@ -17,7 +17,8 @@ use Rattle.epoch_core.proofs.Growing.{grows, reader_grows}
 use Rattle.epoch_core.proofs.LoadKeeps.{loads, opens, shuts, stamps}
 use Rattle.epoch_core.proofs.JoinKeeps.{lends}
 use Rattle.epoch_core.proofs.DiaryKeeps.{one_fits, plays_more, set_fit}
-use Rattle.epoch_core.specs.Script.{AllFit, BookFits, IsTime, MayLook, Reading, first_of, look_at, look_next, looked, next_owner, opening_book, owner_at, owner_place, owner_sum, plan_of, play_next, played, reads_on, rest_of}
+use Rattle.epoch_core.specs.Script.{AllFit, BookFits, IsTime, MayLook, Reading, first_of, look_at, look_next, looked, next_owner, opening_book}
+use Rattle.epoch_core.specs.Script.{owner_at, owner_place, owner_sum, plan_of, play_next, played, reads_on, rest_of}
 
 next_fits : (b : Book) → BookFits b → BookFits (play_next b)
 next_fits b f = by_rest b.rest f.script f.rest

@@ -6,7 +6,8 @@ use Rattle.epoch_core.proofs.Vocabulary.{header_key_len, header_value_len, inl, 
 use Rattle.epoch_core.proofs.Vocabulary.{option_map, options_in, packed, refl, same_value, slice_index, stamp_of, state_in, store_state, subst, suc}
 use Rattle.epoch_core.proofs.Vocabulary.{sym, unpacked, value_in, value_word, words_for, zero, ℕ, ◌+◌, ◌<◌, ◌∙◌, ◌∷◌, ◌≡◌, ◌≢◌}
 use Rattle.mica_model.specs.Cache.{Record, record_of}
-use Rattle.epoch_core.specs.Spelt.{HasLinks, HasLoad, IsNoEntryOf, ShowsItem, ShowsOther, SpellsAnswer, by_hash, by_item as by_other, by_key_len, by_key_word, by_offset, by_stamp, by_tag, by_value_len}
+use Rattle.epoch_core.specs.Spelt.{HasLinks, HasLoad, IsNoEntryOf, ShowsItem, ShowsOther, SpellsAnswer, by_hash, by_item as by_other, by_key_len}
+use Rattle.epoch_core.specs.Spelt.{by_key_word, by_offset, by_stamp, by_tag, by_value_len}
 use Rattle.epoch_core.proofs.Machine.{Fits, found_record, has_fits}
 use Rattle.epoch_core.proofs.Keys.{has_its_key, has_no_other, header_there}
 use Rattle.epoch_core.proofs.Failing.{in_cons, in_head, in_none, in_tail}

@@ -15,8 +15,9 @@ place g c = omega (arith, length-packed c.args.key.now, c.from.ensures, c.item_s
 there : (g : Over) (c : After-from g) → g.W.OwnerWords.owner c.put_word.new.self
     ≡ keyed (g.W.OwnerWords.owner c.args.words.now) c.args.offset c.args.room c.args.key.now c.args.value.now
 there g c =
+    let o = g.W.OwnerWords.owner c.args.words.now in
     simp (c.put_word.ensures.event, c.header_of-header.ensures)
-    (sym (key_stays (g.W.OwnerWords.owner c.args.words.now) c.args.offset c.args.room c.args.key.now c.args.value.now c.requires.kept c.requires.key c.requires.there))
+    (sym (key_stays o c.args.offset c.args.room c.args.key.now c.args.value.now c.requires.kept c.requires.key c.requires.there))
 
 pub put_word-requires : goal.put_word-requires
 put_word-requires g c = (can g (goal.at.put_word-requires g c).Start).header
@@ -27,7 +28,8 @@ overflow_add-offset g c =
 
 pub put_packed-requires-clause-low : goal.put_packed-requires-clause-low
 put_packed-requires-clause-low g c =
-    omega (arith, (can g (goal.at.put_packed-requires-clause-low g c).Start).header.low, c.requires.key, c.requires.value, c.from.ensures, c.item_size.ensures)
+    let low = (can g (goal.at.put_packed-requires-clause-low g c).Start).header.low in
+    omega (arith, low, c.requires.key, c.requires.value, c.from.ensures, c.item_size.ensures)
 
 pub put_packed-requires-clause-allowed : goal.put_packed-requires-clause-allowed
 put_packed-requires-clause-allowed g c =
