@@ -118,10 +118,8 @@ fn replies_are_written(rt: HostRuntime) -> Result<(), Fail> {
 }
 
 fn expect_fault(rt: &(impl Abort + AllocGlobal), bytes: &[u8], fault: BatchFault) {
-    assert!(rt;
-        read_batch(rt.alloc(), bytes).err() == Some(fault),
-        "{fault:?}"
-    );
+    let found = read_batch(rt.alloc(), bytes).err();
+    assert!(rt; found == Some(fault), "{found:?} for {fault:?}");
 }
 
 /// A byte of the batch that is changed, and the fault that it makes.

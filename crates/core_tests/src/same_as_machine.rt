@@ -42,8 +42,8 @@ impl Refused {
     }
 }
 
-// What the partition does with the write, where the machine does the same. Where the partition finds no block it changes
-// nothing, and the machine might choose another answer.
+// What the partition does with the write, where the machine does the same. Where the partition finds no block for a put it
+// changes nothing, and the machine might choose another answer.
 fn agreed<P: Partition>(
     alloc: Global,
     partition: &mut P,
@@ -53,7 +53,9 @@ fn agreed<P: Partition>(
     value: &[u8],
 ) -> Result<Option<Outcome>, NoMemory> {
     let outcome = write(partition, op, key, value);
-    if outcome == Some(Outcome::FullBlock) || outcome == machine.apply(alloc, op, key, value)? {
+    if (op == Op::Put && outcome == Some(Outcome::FullBlock))
+        || outcome == machine.apply(alloc, op, key, value)?
+    {
         return Ok(outcome);
     }
     Ok(None)

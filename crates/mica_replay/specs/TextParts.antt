@@ -4,6 +4,7 @@ use Rattle.std.specs.List.{flat_map}
 use Rattle.mica_trace.specs.declared.report.Line.{Line}
 use Rattle.mica_trace.specs.ReportGrammar.{report_text}
 
+-- the lines of the part of this number
 abbrev pub part_of : ℕ → List Line → ℕ → List Line
 part_of size lines part = take size (drop (part * size) lines)
 

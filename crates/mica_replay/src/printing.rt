@@ -48,8 +48,8 @@ impl From<Failed> for ReplayFault {
 // The most bytes of a line without a value, with its line feed.
 const SHORT_LINE: usize = "put 18446744073709551615 full block\n".len();
 
-// The fewest lines whose text is worth a thread of its own.
-const PART: usize = 4_096;
+// The least lines of a part but the last: the text of fewer is not worth a thread of its own.
+const PART_LINES: usize = 4_096;
 
 // Room for the text of the lines, so that it never grows.
 fn room_for(lines: &[Line]) -> usize {
@@ -76,7 +76,8 @@ fn text_of(alloc: Global, lines: &[Line]) -> Result<Vec<u8>, NoMemory>
     Ok(text)
 }
 
-// The text of the part of this number, where each has so many lines and the last one those that are left.
+// The text of the part of this number, where each has so many lines and the last one those that are left. None at
+// want of memory.
 fn text_of_part(alloc: Global, report: &Report, part: usize, size: usize) -> Option<Bytes>
     requires lines { AllByRecursion IsReportLine report.now }
     requires within { part * size ≤ length report.now }
@@ -89,7 +90,7 @@ fn text_of_part(alloc: Global, report: &Report, part: usize, size: usize) -> Opt
     }
 }
 
-// The texts of the report's parts, side by side in threads. There is none where there was no memory.
+// The texts of the report's parts, side by side in threads: None in the place of one for which there was no memory.
 fn make_texts<W: Threads + Wait + Sync>(
     rt: &W,
     alloc: Global,
@@ -179,7 +180,7 @@ pub fn replay<W: Threads + Wait + Sync, K: Sink, G: Gate>(
 {
     let report = run_trace(rt, alloc, options, trace, gate, tables)?;
     let threads = options.readers as usize;
-    let size = report.lines().len().div_ceil(threads).max(PART);
+    let size = report.lines().len().div_ceil(threads).max(PART_LINES);
     let texts = match texts_of(rt, alloc, &report, size, threads) {
         Ok(texts) => texts,
         Err(NoMemory) => {

@@ -24,7 +24,7 @@ use std::thread::{Threads, for_each_mut};
 use store_partition::StorePartition;
 use table_partition::OnTable;
 
-// The partitions, each made in a thread of its own. Nothing is made where there was no memory.
+// The partitions, each made in a thread of its own: None in the place of one for which there was no memory.
 fn make_parts<W: Threads + Wait + Sync, P: OnTable + Partition + Send>(
     rt: &W,
     alloc: Global,

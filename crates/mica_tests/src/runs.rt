@@ -110,7 +110,8 @@ pub fn run_words<G: Gate>(
 
 /// Compares the status and all that was written.
 pub fn expect_end(rt: &impl Abort, line: &str, end: &End, status: Status, output: &[u8]) {
-    assert!(rt; end.status == status, "{line}: another status");
+    let found = end.status;
+    assert!(rt; found == status, "{line}: {found:?}");
     assert!(rt; end.sink.taken() == output, "{line}: other bytes");
 }
 
