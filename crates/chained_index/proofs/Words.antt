@@ -1,4 +1,4 @@
--- The words of other crates that the proofs of this one go by.
+-- The words that the proofs of this crate speak in, passed on once.
 pub use Rattle.epoch_core.proofs.Vocabulary.{Bool, Cell, Contains, Contains-append_cases, Contains-push_cases, Has, HasChains, HasLiveEntry, History}
 pub use Rattle.epoch_core.proofs.Vocabulary.{InChain, IsBucket, IsDense, IsFreeSpare, IsLiveItem, IsMain, IsTrue, Kept, List, Option, RoomsApart}
 pub use Rattle.epoch_core.proofs.Vocabulary.{Spells, StandsFor, WhenMarked, [], after, ap, append-nil, append_assoc, arith, as_made, bucket_in, dite}

@@ -1,4 +1,4 @@
-//! The chained index, after the MICA paper's store mode.
+//! The chained index of store mode.
 ghost use Rattle.std.specs.Prelude.{◌≡◌, ◌≢◌, ℕ, ◌+◌, ◌<◌, ◌≤◌, ◌^◌, ◌↔◌, ◌++◌, ◌∷◌, [], IsTrue, IsFalse, IfOk, MatchOption};
 ghost use Rattle.mica_words.specs.declared.entry.TheConstants.{SLOTS};
 ghost use Rattle.mica_words.specs.Entry.{entry_of, entry_tag as entry_tag_of, entry_offset as entry_offset_of};

@@ -1,4 +1,4 @@
-//! The index of a partition in store mode, after the MICA paper: each main bucket has a chain of buckets,
+//! The index of a partition in store mode: each main bucket has a chain of buckets,
 //! with as many spare ones behind it as its entries need.
 //!
 //! The layer above may rely on this: a chain's entries are a list (`entries_of`), which `place`, `replace`

@@ -1,4 +1,4 @@
-//! Items in the circular log of cache mode, after the MICA paper: a put appends its item at the tail, over the
+//! Items in the circular log of cache mode: a put appends its item at the tail, over the
 //! oldest items, or writes its value into the room that the key's item has.
 //!
 //! The layer above may rely on this: after `append` and `rewrite` the owner's state is the one with the item

@@ -1,4 +1,4 @@
--- Failures of tries fit while epochs rise.
+-- Failures of tries fit while epochs rise, and what stands in a list of them.
 use Rattle.epoch_core.proofs.Vocabulary.{Contains, Contains-append_cases, Contains-push_cases, FailsFit, Failure, IsFailure, IsMain, List, OwnerState}
 use Rattle.epoch_core.proofs.Vocabulary.{Shape, [], arith, epoch_in, inl, inr, refl, subst, suc, sym, zero, ℕ, ◌++◌, ◌∷◌, ◌≡◌, ◌≤◌, ◌⊎◌}
 pub use Rattle.std.proofs.lemmas.List.Elements.{Contains-append_cases as in_both, Contains-append_left as in_left, Contains-push as in_last}

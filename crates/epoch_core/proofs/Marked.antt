@@ -1,4 +1,4 @@
--- The bucket whose write is marked, and the buckets that its write may change.
+-- The bucket whose write is marked, and the buckets that its write may change, with the bit that says whether two numbers are the same.
 use Rattle.epoch_core.proofs.Vocabulary.{Begun, Bool, Idle, InChain, IsBucket, IsFreeSpare, IsMain, Kept, List, Marked, OwnerState, Phase, PhaseFits}
 use Rattle.epoch_core.proofs.Vocabulary.{WhenMarked, Write, ap, arith, begun_in, bucket_in, bucket_of-below, dite, epoch_in, eq-eqb, false}
 use Rattle.epoch_core.proofs.Vocabulary.{if◌then◌else◌, inl, inr, marked_in, nat_eq, ne_eqb, pow_pos, refl, subst, sym, true, ℕ, ℕ_discrete}

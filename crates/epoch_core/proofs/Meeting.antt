@@ -1,5 +1,5 @@
 -- What an owner has met changes nothing else of what is kept of it.
-use Rattle.epoch_core.proofs.Vocabulary.{FailsFit, Grows, HasChains, InChain, IsDense, IsMain, IsPrefix, IsReached, Kept, OwnerState, by_entry}
+use Rattle.epoch_core.proofs.Vocabulary.{FailsFit, Grows, HasChains, IsDense, IsMain, IsPrefix, IsReached, Kept, OwnerState, by_entry}
 use Rattle.epoch_core.proofs.Vocabulary.{by_item, by_link, le_refl, marked_in, options_in, refl, ℕ, ◌≡◌}
 use Rattle.epoch_core.specs.declared.state.Met.{Met}
 use Rattle.epoch_core.proofs.Carried.{Carries, stands_on}
@@ -9,12 +9,6 @@ use Rattle.epoch_core.proofs.Prefixes.{prefix_same}
 module _ (o : OwnerState) (met : Met) (closed : ℕ) where
   abbrev p : OwnerState
   p = record o { met = met; closed = closed }
-
-  pub chain_on : (b c : ℕ) → InChain o b c → InChain p b c
-  chain_on b c h = h
-
-  pub chain_back : (b c : ℕ) → InChain p b c → InChain o b c
-  chain_back b c h = h
 
   pub dense_on : (b : ℕ) → IsDense o b → IsDense p b
   dense_on b d = assumption

@@ -1,4 +1,4 @@
-//! The lossy index of cache mode, after the MICA paper: in each bucket, entries of a tag and an item's
+//! The lossy index of cache mode: in each bucket, entries of a tag and an item's
 //! offset. An entry whose item the log has passed stays until its slot is taken, and a full bucket gives up its
 //! oldest entry.
 //!

@@ -1,4 +1,4 @@
-//! A get by loads alone, after the MICA paper: the reader compares the bucket's epoch before and after its loads,
+//! A get by loads alone: the reader compares the bucket's epoch before and after its loads,
 //! and uses nothing that it loaded where the epoch was odd or moved.
 //!
 //! The layer above may rely on this: `Hit` and `Miss` are what the machine answers at the history that the seat

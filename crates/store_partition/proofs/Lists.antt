@@ -9,7 +9,7 @@ use Rattle.store_partition.proofs.Words.{used_within, words_of, words_of-fills, 
 pub once_by : (xs : List ℕ) → ((i j : ℕ) → i < length xs → j < length xs → at xs i ≡ at xs j → i ≡ j) → AllDiffer xs
 once_by xs places i j d less m same = grind (arith, places i j, get_or_default xs i 0 d, get_or_default xs j d 0)
 
--- a list has no element, one, or at most one
+-- an empty list has no element, and one of at most one element has one
 pub nothing : {X A : Type 0} (x : X) → Contains [] x → A
 nothing x has = absurd (let less = has.1 in omega arith)
 

@@ -20,13 +20,16 @@ pub trait OnTable: Drop {
     /// The mode that it is for.
     ghost mode: { Mode };
 
+    /// The owner's state, as the partition has it.
     ghost state: { Self → OwnerState };
 
+    /// A partition with nothing in it, over a table made for these options.
     fn new(alloc: Global, options: &Options) -> Result<Self, NoMemory>
         requires valid { IsValid options.now }
         requires mode { options.now.mode ≡ Self.mode }
         ensures made { IfOk result (λ p. Self.state p ≡ as_made (shape_of options.now)) };
 
+    /// Gives back the owner's seat; the words of the table stay as they are.
     fn into_seat(self) -> OwnerSeat
         ensures { owner_state result ≡ Self.state self };
 }
