@@ -8,9 +8,7 @@ use mica_io::{Bytes, NoMemory};
 use mica_model::{Op, Write};
 use owner_queue::{Job, JobReceiver, JobSender, Message, job_queue};
 use std::alloc::Global;
-use std::process::Abort;
 use std::sync::Wait;
-use std::test::Fail;
 use std::thread::{Threads, join};
 
 const JOBS: u64 = 100;
@@ -53,15 +51,13 @@ fn deletion(alloc: Global) -> Result<Write, NoMemory>
 fn is_in_turn(next: &mut [u64; 2], message: &Message) -> bool
     requires { sender_of message.now < 2 }
 {
-    match message {
-        Message::Job(job) => {
-            let from = job.sender as usize;
-            let is_next = job.ticket == next[from];
-            next[from] = job.ticket.saturating_add(1);
-            is_next
-        }
-        Message::End(_) => true,
-    }
+    let Message::Job(Job { sender, ticket, .. }) = message else {
+        return true;
+    };
+    let from = *sender as usize;
+    let is_next = next[from] == *ticket;
+    next[from] = ticket.saturating_add(1);
+    is_next
 }
 
 // Takes all messages of two senders, and tells whether all jobs came, each in its turn.
@@ -127,12 +123,21 @@ fn send_both<W: Threads + Wait + Sync>(
     )
 }
 
-#[test]
-fn jobs_of_two_threads_come_each_in_their_order(rt: HostRuntime) -> Result<(), Fail> {
-    let (mut senders, receiver) = job_queue(rt.alloc(), 2, 100)?;
-    let (Some(second), Some(first)) = (senders.list.pop(), senders.list.pop()) else {
-        unreachable!()
+// Whether the jobs of two senders come, each in its turn.
+fn is_exchanged<W: Threads + Wait + Sync>(rt: &W, alloc: Global) -> bool {
+    let Ok((mut senders, receiver)) = job_queue(alloc, 2, 100) else {
+        return false;
     };
-    assert!(rt; exchange(&rt, rt.alloc(), first, second, receiver));
-    Ok(())
+    let Some(second) = senders.list.pop() else {
+        return false;
+    };
+    let Some(first) = senders.list.pop() else {
+        return false;
+    };
+    exchange(rt, alloc, first, second, receiver)
+}
+
+#[test]
+fn jobs_of_two_threads_come_each_in_their_order(rt: HostRuntime) {
+    assert!(rt; is_exchanged(&rt, rt.alloc()));
 }
