@@ -2,61 +2,48 @@
 
 ghost use Rattle.std.specs.Prelude.{◌≡◌, false, IsTrue};
 
-use mica_io::{ReadFault, Source, StdSink, StdSource, read_up_to, write_all};
+use mica_io::{Source, StdSink, StdSource, read_up_to, write_all};
 use std::alloc::Global;
 use std::io::{self, ErrorKind, Read, Write};
-use std::test::Fail;
 
-/// A reader of one byte at a time, whose third read fails.
+/// A reader of the bytes 1 to 5, one at a time. The read that would give one of them fails.
 #[derive(Drop)]
 struct Flaky {
-    next: u8,
+    given: u8,
+    fails_at: u8,
 }
 
 impl Read for Flaky {
     fn read(&mut self, buf: &mut [u8]) -> io::Result<usize> {
-        self.next = self.next.saturating_add(1);
-        if self.next == 3 {
+        self.given = self.given.saturating_add(1);
+        if self.given == self.fails_at {
             return Err(ErrorKind::Other.into());
         }
-        if self.next > 5 || buf.is_empty() {
+        if self.given > 5 || buf.is_empty() {
             return Ok(0);
         }
-        buf[0] = self.next;
+        buf[0] = self.given;
         Ok(1)
     }
 }
 
-/// A writer that takes nothing.
-#[derive(Drop)]
-enum Unwilling {
-    TakesNone,
-    Fails,
+fn flaky_source(fails_at: u8) -> StdSource<Flaky>
+    ensures { ⟦<StdSource<Flaky> as Source>⟧.has_ended result ≡ false }
+{
+    StdSource::new(Flaky { given: 0, fails_at })
 }
 
-impl Write for Unwilling {
-    fn write(&mut self, _buf: &[u8]) -> io::Result<usize> {
-        match self {
-            Unwilling::TakesNone => Ok(0),
-            Unwilling::Fails => Err(ErrorKind::BrokenPipe.into()),
-        }
-    }
-
-    fn flush(&mut self) -> io::Result<()> {
-        Ok(())
-    }
-}
-
-/// What a source over a reader of `abc` gives.
-fn read_abc(alloc: Global) -> Result<Vec<u8>, ReadFault> {
-    read_up_to(alloc, &mut StdSource::new(b"abc".as_slice()), 3)
+/// Whether all is read from a source over a reader that does not fail, as much as the limit allows.
+fn is_read_whole(alloc: Global) -> bool {
+    let Ok(bytes) = read_up_to(alloc, &mut flaky_source(9), 5) else {
+        return false;
+    };
+    bytes.as_slice() == [1, 2, 3, 4, 5].as_slice()
 }
 
 #[test]
-fn a_source_gives_what_the_reader_gives(rt: HostRuntime) -> Result<(), Fail> {
-    let bytes = read_abc(rt.alloc())?;
-    assert!(rt; bytes.as_slice() == b"abc".as_slice());
-    Ok(())
+fn a_source_gives_what_the_reader_gives(rt: HostRuntime) {
+    assert!(rt; is_read_whole(rt.alloc()));
 }
 
 /// Whether the next read gives this byte, or fails.
@@ -74,7 +61,7 @@ fn is_next<S: Source>(source: &mut S, given: Option<u8>) -> bool
 
 #[test]
 fn a_reader_fails_once(rt: HostRuntime) {
-    let mut source = StdSource::new(Flaky { next: 0 });
+    let mut source = flaky_source(3);
     let is_read = is_next(&mut source, Some(1))
         && is_next(&mut source, Some(2))
         && is_next(&mut source, None)
@@ -83,17 +70,50 @@ fn a_reader_fails_once(rt: HostRuntime) {
     assert!(rt; is_read);
 }
 
-#[test]
-fn a_sink_writes_to_the_writer(rt: HostRuntime) {
-    let mut written = Vec::new(rt.alloc());
-    let mut sink = StdSink::new(&mut written);
-    let is_taken = write_all(&mut sink, b"put 1 ").is_ok()
-        && write_all(&mut sink, b"stored\n").is_ok();
-    assert!(rt; is_taken && written.as_slice() == b"put 1 stored\n".as_slice());
+/// A writer that takes these bytes alone, one at a time, and then none. Another byte fails.
+#[derive(Drop)]
+struct Picky {
+    wanted: &'static [u8],
 }
 
+impl Write for Picky {
+    fn write(&mut self, buf: &[u8]) -> io::Result<usize> {
+        match (self.wanted, buf) {
+            ([], _) | (_, []) => Ok(0),
+            ([wanted, rest @ ..], [byte, ..]) => {
+                if wanted != byte {
+                    return Err(ErrorKind::BrokenPipe.into());
+                }
+                self.wanted = rest;
+                Ok(1)
+            }
+        }
+    }
+
+    fn flush(&mut self) -> io::Result<()> {
+        Ok(())
+    }
+}
+
+fn picky_sink(wanted: &'static [u8]) -> StdSink<Picky> {
+    StdSink::new(Picky { wanted })
+}
+
+fn takes(sink: &mut StdSink<Picky>, text: &[u8]) -> bool {
+    write_all(sink, text).is_ok()
+}
+
+// The full stop fits only after all that comes before it.
+#[test]
+fn a_sink_writes_to_the_writer(rt: HostRuntime) {
+    let mut sink = picky_sink(b"put 1 stored\n.");
+    assert!(rt;
+        takes(&mut sink, b"put 1 ") && takes(&mut sink, b"stored\n") && takes(&mut sink, b".")
+    );
+}
+
+// One writer takes nothing, and one fails.
 #[test]
 fn an_unwilling_writer_is_a_fault(rt: HostRuntime) {
-    assert!(rt; write_all(&mut StdSink::new(Unwilling::TakesNone), b"a").is_err());
-    assert!(rt; write_all(&mut StdSink::new(Unwilling::Fails), b"a").is_err());
+    assert!(rt; !takes(&mut picky_sink(b""), b"a") && !takes(&mut picky_sink(b"b"), b"a"));
 }

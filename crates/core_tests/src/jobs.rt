@@ -1,15 +1,14 @@
 //! Two threads that send jobs to one queue, and a third that takes them.
-ghost use Rattle.std.specs.Prelude.{◌≡◌, ◌<◌, ℕ, [], true};
-ghost use Rattle.owner_queue.specs.Messages.{has_end};
+ghost use Rattle.std.specs.Prelude.{◌≡◌, ◌<◌, ℕ, [], true, IfOk};
+ghost use Rattle.mica_model.specs.Write.{IsWrite};
+ghost use Rattle.owner_queue.specs.Messages.{has_end, sender_of};
 ghost use Rattle.owner_queue.specs.JobEnds.{outbox, inbox};
 
-use mica_io::Bytes;
+use mica_io::{Bytes, NoMemory};
 use mica_model::{Op, Write};
 use owner_queue::{Job, JobReceiver, JobSender, Message, job_queue};
 use std::alloc::Global;
-use std::process::Abort;
 use std::sync::Wait;
-use std::test::Fail;
 use std::thread::{Threads, join};
 
 const JOBS: u64 = 100;
@@ -21,27 +20,48 @@ fn send_jobs<W: Wait>(rt: &W, alloc: Global, sender: JobSender, number: u32) -> 
 {
     let mut sender = sender;
     for ticket in 0..JOBS {
-        let Ok(key) = Bytes::copy(alloc, b"k") else {
+        let Ok(write) = deletion(alloc) else {
             break;
         };
-        let write = Write {
-            op: Op::Del,
-            key,
-            value: Bytes::empty(alloc),
-        };
-        let job = Job {
-            sender: number,
-            ticket,
-            write,
-        };
-        sender.send(rt, Message::Job(job));
+        sender.send(
+            rt,
+            Message::Job(Job {
+                sender: number,
+                ticket,
+                write,
+            }),
+        );
     }
     sender.send(rt, Message::End(number));
     sender
 }
 
-// Takes all messages of two senders. Gives the tickets that they would send next, where each came in its turn.
-fn take_jobs<W: Wait>(rt: &W, receiver: JobReceiver) -> (JobReceiver, Option<[u64; 2]>)
+fn deletion(alloc: Global) -> Result<Write, NoMemory>
+    ensures { IfOk result IsWrite }
+{
+    let key = Bytes::copy(alloc, b"k")?;
+    Ok(Write {
+        op: Op::Del,
+        key,
+        value: Bytes::empty(alloc),
+    })
+}
+
+// Whether the message is the next of its sender, whose next ticket is told for the message after it.
+fn is_in_turn(next: &mut [u64; 2], message: &Message) -> bool
+    requires { sender_of message.now < 2 }
+{
+    let Message::Job(Job { sender, ticket, .. }) = message else {
+        return true;
+    };
+    let from = *sender as usize;
+    let is_next = next[from] == *ticket;
+    next[from] = ticket.saturating_add(1);
+    is_next
+}
+
+// Takes all messages of two senders, and tells whether all jobs came, each in its turn.
+fn take_jobs<W: Wait>(rt: &W, receiver: JobReceiver) -> (JobReceiver, bool)
     requires { receiver ≡ inbox receiver.queue 2 100 [] }
     ensures queue { result.0.queue ≡ receiver.queue }
     ensures ended { (p : ℕ) → p < 2 → has_end p result.0.taken ≡ true }
@@ -50,17 +70,12 @@ fn take_jobs<W: Wait>(rt: &W, receiver: JobReceiver) -> (JobReceiver, Option<[u6
     let mut next = [0; 2];
     let mut in_turn = true;
     for _ in rt.forever() {
-        match receiver.recv(rt) {
-            Some(Message::Job(job)) => {
-                let from = job.sender as usize;
-                in_turn = in_turn && job.ticket == next[from];
-                next[from] = job.ticket.saturating_add(1);
-            }
-            Some(Message::End(_)) => {}
-            None => break,
-        }
+        let Some(message) = receiver.recv(rt) else {
+            break;
+        };
+        in_turn = is_in_turn(&mut next, &message) && in_turn;
     }
-    (receiver, if in_turn { Some(next) } else { None })
+    (receiver, in_turn && next == [JOBS, JOBS])
 }
 
 // Each end of the queue in a thread of its own, and then both senders taken in.
@@ -70,12 +85,12 @@ fn exchange<W: Threads + Wait + Sync>(
     first: JobSender,
     second: JobSender,
     receiver: JobReceiver,
-) -> Option<[u64; 2]>
+) -> bool
     requires first { first ≡ outbox receiver.queue 0 100 [] }
     requires second { second ≡ outbox receiver.queue 1 100 [] }
     requires receiver { receiver ≡ inbox receiver.queue 2 100 [] }
 {
-    let ((first, second), (receiver, next)) = join(
+    let ((first, second), (receiver, came)) = join(
         rt,
         || -> (JobSender, JobSender)
             requires { (first ≡ outbox first.queue 0 100 []) × (second ≡ outbox second.queue 1 100 []) }
@@ -87,7 +102,7 @@ fn exchange<W: Threads + Wait + Sync>(
     let mut receiver = receiver;
     receiver.take_in(first);
     receiver.take_in(second);
-    next
+    came
 }
 
 fn send_both<W: Threads + Wait + Sync>(
@@ -108,13 +123,21 @@ fn send_both<W: Threads + Wait + Sync>(
     )
 }
 
-#[test]
-fn jobs_of_two_threads_come_each_in_their_order(rt: HostRuntime) -> Result<(), Fail> {
-    let (mut senders, receiver) = job_queue(rt.alloc(), 2, 100)?;
-    let (Some(second), Some(first)) = (senders.list.pop(), senders.list.pop()) else {
-        unreachable!()
+// Whether the jobs of two senders come, each in its turn.
+fn is_exchanged<W: Threads + Wait + Sync>(rt: &W, alloc: Global) -> bool {
+    let Ok((mut senders, receiver)) = job_queue(alloc, 2, 100) else {
+        return false;
     };
-    let next = exchange(&rt, rt.alloc(), first, second, receiver);
-    assert!(rt; next == Some([JOBS, JOBS]));
-    Ok(())
+    let Some(second) = senders.list.pop() else {
+        return false;
+    };
+    let Some(first) = senders.list.pop() else {
+        return false;
+    };
+    exchange(rt, alloc, first, second, receiver)
+}
+
+#[test]
+fn jobs_of_two_threads_come_each_in_their_order(rt: HostRuntime) {
+    assert!(rt; is_exchanged(&rt, rt.alloc()));
 }

@@ -8,8 +8,6 @@ mod adapters;
 #[cfg(test)]
 mod cache_put;
 #[cfg(test)]
-mod drawn_heap;
-#[cfg(test)]
 mod every_cut;
 #[cfg(test)]
 mod heap;

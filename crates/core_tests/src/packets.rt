@@ -4,13 +4,11 @@ ghost use Rattle.std.specs.Prelude.{All, IfOk};
 ghost use Rattle.batch_packets.specs.ReplyGrammar.{IsReply};
 
 use batch_packets::{
-    Batch, BatchFault, Reply, Request, Want, is_batch, read_batch, read_replies, write_batch,
+    BatchFault, Reply, Request, Want, is_batch, read_batch, read_replies, write_batch,
     write_replies,
 };
-use mica_io::Bytes;
+use mica_io::{Bytes, NoMemory};
 use std::alloc::Global;
-use std::process::Abort;
-use std::test::Fail;
 
 // Number 7: ticket 1 puts `1` at `a`, ticket 2 gets `a`.
 static BATCH: [u8; 29] = [
@@ -33,93 +31,120 @@ static BAD_BATCH: [u8; 26] = [
     0x09, 0x00, 0x00, 0x00, 0x00, 0x00, 0x00, 0x00, 0x00, 0x00, 0x00, 0x00, 0x00, 0x00, 0x00, 0x00,
 ];
 
-fn is_request(request: &Request, want: Want, ticket: u32, key: &[u8], value: &[u8]) -> bool {
-    request.want == want
+fn is_text(bytes: &Bytes, text: &[u8]) -> bool {
+    bytes.bytes() == text
+}
+
+/// What a request asks for, its key and its value.
+type Asked = (Want, &'static [u8], &'static [u8]);
+
+fn is_asked(request: &Request, ticket: u32, asked: &Asked) -> bool {
+    request.want == asked.0
         && request.ticket == ticket
-        && request.key.bytes() == key
-        && request.value.bytes() == value
+        && is_text(&request.key, asked.1)
+        && is_text(&request.value, asked.2)
 }
 
-fn is_worked_batch(batch: &Batch) -> bool {
-    batch.number == 7
-        && match batch.requests.as_slice() {
-            [put, get] => {
-                is_request(put, Want::Put, 1, b"a", b"1")
-                    && is_request(get, Want::Get, 2, b"a", b"")
-            }
-            _ => false,
+/// Whether these are the requests, under tickets that rise by 1 from the first.
+fn are_asked(requests: &[Request], first: u32, asked: &[Asked]) -> bool {
+    if requests.len() != asked.len() {
+        return false;
+    }
+    let mut ticket = first;
+    for at in 0..requests.len() {
+        if !is_asked(&requests[at], ticket, &asked[at]) {
+            return false;
         }
+        ticket = ticket.saturating_add(1);
+    }
+    true
 }
 
-#[test]
-fn a_batch_is_read_and_written(rt: HostRuntime) -> Result<(), Fail> {
-    let batch = read_batch(rt.alloc(), &BATCH)?;
-    assert!(rt; is_worked_batch(&batch));
-    let text = write_batch(rt.alloc(), &batch)?;
-    assert!(rt; text.bytes() == BATCH.as_slice());
-    Ok(())
-}
-
-/// A reply's status, ticket, stamp and value.
-type Told = (u8, u32, u64, &'static [u8]);
-
-static TOLD: [Told; 2] = [(2, 1, 1, b""), (0, 2, 1, b"1")];
-
-static TOLD_BAD: [Told; 1] = [(9, 0, 0, b"")];
-
-fn is_told(reply: &Reply, told: &Told) -> bool {
-    reply.status == told.0
-        && reply.ticket == told.1
-        && reply.stamp == told.2
-        && reply.value.bytes() == told.3
-}
-
-/// Whether the datagram is read as these replies.
-fn are_told(alloc: Global, datagram: &[u8], told: &[Told]) -> Result<bool, Fail> {
-    let read = read_replies(alloc, datagram)?;
-    let replies = read.replies.as_slice();
-    Ok(
-        replies.len() == told.len()
-            && replies
-                .iter()
-                .zip(told.iter())
-                .all(|(reply, told)| is_told(reply, told)),
-    )
-}
-
-#[test]
-fn replies_are_read(rt: HostRuntime) -> Result<(), Fail> {
-    assert!(rt; are_told(rt.alloc(), &REPLIES, &TOLD)?);
-    Ok(())
-}
-
-#[test]
-fn the_reply_to_a_bad_batch_is_read(rt: HostRuntime) -> Result<(), Fail> {
-    assert!(rt; are_told(rt.alloc(), &BAD_BATCH, &TOLD_BAD)?);
-    Ok(())
-}
-
-/// Reads replies of this number, and tells whether they are written back as one datagram of the same bytes.
-fn is_written_back(alloc: Global, bytes: &[u8], number: u32) -> Result<bool, Fail> {
-    let read = read_replies(alloc, bytes)?;
-    let written = write_replies(alloc, read.replies.as_slice(), number)?;
-    let is_same = match written.as_slice() {
-        [one] => one.bytes() == bytes,
-        _ => false,
+/// Whether a batch of this number and these requests is read, and written as the same bytes.
+fn is_batch_of(alloc: Global, text: &[u8], number: u32, first: u32, asked: &[Asked]) -> bool {
+    let Ok(batch) = read_batch(alloc, text) else {
+        return false;
     };
-    Ok(is_same && read.number == number)
+    if batch.number != number || !are_asked(batch.requests.as_slice(), first, asked) {
+        return false;
+    }
+    if !is_batch(&batch) {
+        return false;
+    }
+    let Ok(written) = write_batch(alloc, &batch) else {
+        return false;
+    };
+    is_text(&written, text)
 }
+
+static ASKED: [Asked; 2] = [(Want::Put, b"a", b"1"), (Want::Get, b"a", b"")];
 
 #[test]
-fn replies_are_written(rt: HostRuntime) -> Result<(), Fail> {
-    assert!(rt; is_written_back(rt.alloc(), &REPLIES, 7)?);
-    assert!(rt; is_written_back(rt.alloc(), &BAD_BATCH, 0)?);
-    Ok(())
+fn a_batch_is_read_and_written(rt: HostRuntime) {
+    assert!(rt; is_batch_of(rt.alloc(), &BATCH, 7, 1, &ASKED));
 }
 
-fn expect_fault(rt: &(impl Abort + AllocGlobal), bytes: &[u8], fault: BatchFault) {
-    let found = read_batch(rt.alloc(), bytes).err();
-    assert!(rt; found == Some(fault), "{found:?} for {fault:?}");
+/// A reply's status, stamp and value.
+type Told = (u8, u64, &'static [u8]);
+
+fn is_told(reply: &Reply, ticket: u32, told: &Told) -> bool {
+    reply.status == told.0
+        && reply.ticket == ticket
+        && reply.stamp == told.1
+        && is_text(&reply.value, told.2)
+}
+
+/// Whether these are the replies, under tickets that rise by 1 from the first.
+fn are_told(replies: &[Reply], first: u32, told: &[Told]) -> bool {
+    if replies.len() != told.len() {
+        return false;
+    }
+    let mut ticket = first;
+    for at in 0..replies.len() {
+        if !is_told(&replies[at], ticket, &told[at]) {
+            return false;
+        }
+        ticket = ticket.saturating_add(1);
+    }
+    true
+}
+
+/// Whether the replies are written as one datagram of this text.
+fn are_written(alloc: Global, replies: &[Reply], number: u32, text: &[u8]) -> bool
+    requires { All (IsReply 1) replies.now }
+{
+    let Ok(written) = write_replies(alloc, replies, number) else {
+        return false;
+    };
+    match written.as_slice() {
+        [one] => is_text(one, text),
+        _ => false,
+    }
+}
+
+/// Whether these replies to the batch of this number are read, and written as the same bytes.
+fn are_replies_of(alloc: Global, text: &[u8], number: u32, first: u32, told: &[Told]) -> bool {
+    let Ok(read) = read_replies(alloc, text) else {
+        return false;
+    };
+    let replies = read.replies.as_slice();
+    read.number == number
+        && are_told(replies, first, told)
+        && are_written(alloc, replies, number, text)
+}
+
+static TOLD: [Told; 2] = [(2, 1, b""), (0, 1, b"1")];
+
+static TOLD_BAD: [Told; 1] = [(9, 0, b"")];
+
+#[test]
+fn replies_are_read_and_written(rt: HostRuntime) {
+    assert!(rt; are_replies_of(rt.alloc(), &REPLIES, 7, 1, &TOLD));
+    assert!(rt; are_replies_of(rt.alloc(), &BAD_BATCH, 0, 0, &TOLD_BAD));
+}
+
+fn has_fault(alloc: Global, text: &[u8], fault: BatchFault) -> bool {
+    read_batch(alloc, text).err() == Some(fault)
 }
 
 /// A byte of the batch that is changed, and the fault that it makes.
@@ -140,28 +165,33 @@ static CHANGES: [(usize, u8, BatchFault); 14] = [
     (22, 1, BatchFault::Length),
 ];
 
-fn changed(alloc: Global, at: usize, byte: u8) -> Result<Vec<u8>, Fail> {
-    let mut bytes = Vec::from_slice(alloc, &BATCH)?;
-    if let Some(changed) = bytes.get_mut(at) {
-        *changed = byte;
+fn changed(at: usize, byte: u8) -> [u8; 29] {
+    let mut text = BATCH;
+    if at < 29 {
+        text[at] = byte;
     }
-    Ok(bytes)
+    text
 }
 
 #[test]
-fn a_changed_byte_is_a_fault(rt: HostRuntime) -> Result<(), Fail> {
+fn a_changed_byte_is_a_fault(rt: HostRuntime) {
     for (at, byte, fault) in &CHANGES {
-        let bytes = changed(rt.alloc(), *at, *byte)?;
-        expect_fault(&rt, bytes.as_slice(), *fault);
+        assert!(rt; has_fault(rt.alloc(), &changed(*at, *byte), *fault));
     }
-    Ok(())
 }
 
 #[test]
 fn a_batch_cut_short_is_a_fault(rt: HostRuntime) {
     for len in 0..29 {
-        expect_fault(&rt, &BATCH[..len], BatchFault::Short);
+        assert!(rt; has_fault(rt.alloc(), &BATCH[..len], BatchFault::Short));
     }
+}
+
+/// The batch, and zeros after it.
+fn lengthened() -> [u8; 1473] {
+    let mut text = [0; 1473];
+    text[..29].copy_from_slice(&BATCH);
+    text
 }
 
 /// A length, and the fault of the batch with zeros up to it.
@@ -171,91 +201,78 @@ static LENGTHENED: [(usize, BatchFault); 3] = [
     (1473, BatchFault::Length),
 ];
 
-/// The batch, and zeros up to a length.
-fn lengthened(alloc: Global, len: usize) -> Result<Vec<u8>, Fail> {
-    let mut bytes = Vec::from_slice(alloc, &BATCH)?;
-    bytes.resize(len, 0)?;
-    Ok(bytes)
+/// The first bytes of a text, so many where it has them.
+fn front(text: &[u8], len: usize) -> &[u8] {
+    &text[..len.min(text.len())]
 }
 
 #[test]
-fn more_bytes_are_a_fault(rt: HostRuntime) -> Result<(), Fail> {
+fn more_bytes_are_a_fault(rt: HostRuntime) {
+    let text = lengthened();
     for (len, fault) in &LENGTHENED {
-        let bytes = lengthened(rt.alloc(), *len)?;
-        expect_fault(&rt, bytes.as_slice(), *fault);
+        assert!(rt; has_fault(rt.alloc(), front(&text, *len), *fault));
     }
-    Ok(())
 }
 
-/// Whether a batch with this text is read, may be written, and is written as the same bytes.
-fn is_batch_written_back(alloc: Global, bytes: &[u8], count: usize) -> Result<bool, Fail> {
-    let batch = read_batch(alloc, bytes)?;
-    if batch.requests.as_slice().len() != count || !is_batch(&batch) {
-        return Ok(false);
+/// The text of a batch that gets the key `a` under each of the tickets from 0 to 162, with another count of them.
+fn many_gets(count: u8) -> [u8; 1477] {
+    let mut text = [0; 1477];
+    text[..5].copy_from_slice(b"MICA\x01");
+    text[5] = count;
+    for ticket in 0..163_u8 {
+        let at = 10 + 9 * ticket as usize;
+        text[at + 1] = 1;
+        text[at + 4] = ticket;
+        text[at + 8] = b'a';
     }
-    let text = write_batch(alloc, &batch)?;
-    Ok(text.bytes() == bytes)
+    text
 }
 
-/// The text of a batch that gets the key `a` under each of the tickets from 0 on.
-fn many_gets(alloc: Global, count: u8) -> Result<Vec<u8>, Fail> {
-    let mut bytes = Vec::from_slice(alloc, b"MICA")?;
-    bytes.extend_from_slice(&[1, count, 0, 0, 0, 0])?;
-    for ticket in 0..count {
-        bytes.extend_from_slice(&[0, 1, 0, 0, ticket, 0, 0, 0, b'a'])?;
-    }
-    Ok(bytes)
-}
+static GETS: [Asked; 162] = [(Want::Get, b"a", b""); 162];
 
 // The shortest request has nine bytes, so 162 of them fill a datagram of 1,472 bytes.
 #[test]
-fn a_full_batch_is_written_back(rt: HostRuntime) -> Result<(), Fail> {
-    let full = many_gets(rt.alloc(), 162)?;
-    assert!(rt; is_batch_written_back(rt.alloc(), full.as_slice(), 162)?);
-    let longer = many_gets(rt.alloc(), 163)?;
-    expect_fault(&rt, longer.as_slice(), BatchFault::Length);
-    Ok(())
+fn a_full_batch_is_read_and_written(rt: HostRuntime) {
+    assert!(rt; is_batch_of(rt.alloc(), front(&many_gets(162), 1468), 0, 0, &GETS));
+    assert!(rt; has_fault(rt.alloc(), &many_gets(163), BatchFault::Length));
 }
 
-/// Whether a datagram has so many replies, whose tickets begin with this one and rise by 1.
-fn has_tickets(alloc: Global, datagram: &[u8], first: u32, count: usize) -> Result<bool, Fail> {
-    let read = read_replies(alloc, datagram)?;
-    let replies = read.replies.as_slice();
-    let mut tickets = (first..).zip(replies.iter());
-    Ok(replies.len() == count && tickets.all(|(ticket, reply)| reply.ticket == ticket))
-}
-
-fn hundred_misses(alloc: Global) -> Result<Vec<Reply>, Fail>
+fn hundred_misses(alloc: Global) -> Result<Vec<Reply>, NoMemory>
     ensures { IfOk result (λ replies. All (IsReply 1) replies.items) }
 {
     let mut replies = Vec::new(alloc);
     for ticket in 0..100 {
-        let value = Bytes::copy(alloc, b"")?;
         replies.push(Reply {
             status: 1,
             ticket,
             stamp: 0,
-            value,
+            value: Bytes::empty(alloc),
         })?;
     }
     Ok(replies)
 }
 
-/// Whether the first datagram has 91 of a hundred replies, and the second the rest.
-fn are_split(alloc: Global, datagrams: &[Bytes]) -> Result<bool, Fail> {
-    match datagrams {
+static MISSES: [Told; 100] = [(1, 0, b""); 100];
+
+/// Whether a hundred replies are written as a datagram of 91 and one of the rest.
+fn are_split(alloc: Global) -> bool {
+    let Ok(replies) = hundred_misses(alloc) else {
+        return false;
+    };
+    let Ok(written) = write_replies(alloc, replies.as_slice(), 7) else {
+        return false;
+    };
+    match written.as_slice() {
         [full, rest] => {
-            Ok(has_tickets(alloc, full.bytes(), 0, 91)? && has_tickets(alloc, rest.bytes(), 91, 9)?)
+            are_replies_of(alloc, full.bytes(), 7, 0, &MISSES[..91])
+                && are_replies_of(alloc, rest.bytes(), 7, 91, &MISSES[91..])
         }
-        _ => Ok(false),
+        _ => false,
     }
 }
 
 // A reply without a value has 16 bytes, so 91 of them fill a datagram.
 #[test]
-fn replies_are_split(rt: HostRuntime) -> Result<(), Fail> {
-    let replies = hundred_misses(rt.alloc())?;
-    let datagrams = write_replies(rt.alloc(), replies.as_slice(), 7)?;
-    assert!(rt; are_split(rt.alloc(), datagrams.as_slice())?);
-    Ok(())
+fn replies_are_split(rt: HostRuntime) {
+    assert!(rt; are_split(rt.alloc()));
 }
