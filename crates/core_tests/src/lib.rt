@@ -10,8 +10,6 @@ mod cache_put;
 #[cfg(test)]
 mod drawn_heap;
 #[cfg(test)]
-mod every_cut;
-#[cfg(test)]
 mod heap;
 #[cfg(test)]
 mod jobs;
@@ -35,8 +33,6 @@ mod same_as_machine;
 mod schedules;
 #[cfg(test)]
 mod scripts;
-#[cfg(test)]
-mod settled;
 #[cfg(test)]
 mod torn_get;
 #[cfg(test)]
