@@ -4,12 +4,9 @@ ghost use Rattle.std.specs.Prelude.{◌≡◌, ◌<◌};
 ghost use Rattle.epoch_core.specs.OwnerState.{as_made};
 ghost use Rattle.core_tests.specs.CachePut.{one_bucket, IsMarked};
 
-use crate::partitions::{cache_over, write};
-use epoch_core::{
-    OwnerEvent, OwnerWords, Partition, PlainWords, Shape, WordAt, holds_key, write_item,
-};
+use crate::scripts::{Script, Written, stored_words};
+use epoch_core::{OwnerEvent, OwnerWords, PlainWords, Shape, WordAt, holds_key, write_item};
 use mica_model::{Mode, Op, Options, Outcome};
-use std::process::Abort;
 use std::test::Fail;
 
 const ONE_BUCKET: Shape = Shape {
@@ -110,22 +107,24 @@ fn a_key_under_another_hash(rt: HostRuntime) -> Result<(), Fail> {
     Ok(())
 }
 
-const OPTIONS: Options = Options {
-    mode: Mode::Cache,
-    partitions: 1,
-    buckets: 1,
-    spares: 0,
-    words: 1024,
-    readers: 1,
-    tries: 1,
-    wear: 68_719_476_736,
+static PUT: Script = Script {
+    options: Options {
+        mode: Mode::Cache,
+        partitions: 1,
+        buckets: 1,
+        spares: 0,
+        words: 1024,
+        readers: 1,
+        tries: 1,
+        wear: 68_719_476_736,
+    },
+    writes: &[Written(Op::Put, b"a", b"1", Outcome::Stored)],
+    key: b"a",
 };
 
 #[test]
 fn a_partition_stores_the_same_words(rt: HostRuntime) -> Result<(), Fail> {
-    let mut partition = cache_over(&rt, &OPTIONS, 8)?;
-    let outcome = write(&mut partition, Op::Put, b"a", b"1");
-    let words = partition.into_words();
-    assert!(rt; outcome == Some(Outcome::Stored) && words.events() == EVENTS.as_slice());
+    let words = stored_words(&rt, &PUT)?;
+    assert!(rt; words.events() == EVENTS.as_slice());
     Ok(())
 }

@@ -1,20 +1,18 @@
 //! Seats and notes that an owner lends to threads, and takes back.
-ghost use Rattle.std.specs.Prelude.{◌≡◌, IfOk};
-ghost use Rattle.epoch_core.specs.declared.state.Phase.TheVariants.{Idle};
+ghost use Rattle.std.specs.Prelude.{◌≡◌};
 
 use crate::partitions::write;
-use cache_partition::CachePartition;
 use epoch_core::{LendPartition, Partition, Shape};
 use mica_model::{ItemBuf, Mode, Op, Options, Outcome};
 use optimistic_get::{Got, get};
-use partition_table::{OwnerSeat, ReaderSeat, Tables, make};
+use partition_table::{OwnerSeat, Tables, make};
 use std::alloc::AllocGlobal;
 use std::process::Abort;
 use std::test::Fail;
 use std::thread::{Threads, join};
 use store_partition::StorePartition;
 
-const STORE: Options = Options {
+const ONE_BUCKET: Options = Options {
     mode: Mode::Store,
     partitions: 1,
     buckets: 1,
@@ -25,37 +23,31 @@ const STORE: Options = Options {
     wear: 68_719_476_736,
 };
 
-// The most of all: 3,211,265 words.
-const LARGEST: Options = Options {
-    buckets: 65_536,
-    spares: 65_536,
-    words: 1_048_576,
-    ..STORE
-};
+// The options of a partition, and how many words it has: one bucket, and the most of all.
+static TABLES: [(Options, usize); 2] = [
+    (ONE_BUCKET, 1_058),
+    (
+        Options {
+            buckets: 65_536,
+            spares: 65_536,
+            words: 1_048_576,
+            ..ONE_BUCKET
+        },
+        3_211_265,
+    ),
+];
 
-const CACHE: Options = Options {
-    mode: Mode::Cache,
-    spares: 0,
-    ..STORE
-};
-
-/// An empty partition of store mode over a table.
+/// An empty partition of store mode over a table of so many words.
 fn store_table(
     rt: &(impl Abort + AllocGlobal),
     options: &Options,
+    count: usize,
 ) -> Result<StorePartition<OwnerSeat>, Fail> {
     assert!(rt; options.is_valid() && options.mode == Mode::Store);
-    let words = make(rt.alloc(), &Shape::of(options))?;
+    let shape = Shape::of(options);
+    assert!(rt; shape.word_count() == count);
+    let words = make(rt.alloc(), &shape)?;
     Ok(StorePartition::new(rt.alloc(), words)?)
-}
-
-/// An empty partition of cache mode over a table.
-fn cache_table(
-    rt: &(impl Abort + AllocGlobal),
-    options: &Options,
-) -> Result<CachePartition<OwnerSeat>, Fail> {
-    assert!(rt; options.is_valid() && options.mode == Mode::Cache);
-    Ok(CachePartition::new(make(rt.alloc(), &Shape::of(options))?))
 }
 
 /// Whether a put of `a` is stored.
@@ -65,100 +57,65 @@ fn is_stored<P: Partition>(partition: &mut P, value: &[u8]) -> bool
     write(partition, Op::Put, b"a", value) == Some(Outcome::Stored)
 }
 
-/// A get of `a` in a thread of its own, by a seat that the owner takes back.
-fn get_elsewhere<P: LendPartition<Reader = ReaderSeat>>(
-    rt: &(impl AllocGlobal + Threads + Sync),
-    partition: &mut P,
-) -> Result<(Got, ItemBuf), Fail> {
-    let mut out = ItemBuf::new(rt.alloc())?;
-    let mut seat = partition.lend()?;
-    let ((got, out, seat), ()) = join(
-        rt,
-        move || {
-            let got = get(&mut seat, b"a", 3, &mut out);
-            (got, out, seat)
-        },
-        || (),
-    );
-    partition.meet(seat);
-    Ok((got, out))
+/// The partition after a get beside a put, what the get answered, and whether both puts were stored.
+#[derive(Drop)]
+struct Lent {
+    partition: StorePartition<OwnerSeat>,
+    got: Got,
+    out: ItemBuf,
+    are_stored: bool,
 }
 
-// A thread gets with a seat and without a runtime, and the owner takes the seat back and goes on.
-#[test]
-fn a_lent_seat_reads_in_a_thread_of_its_own(rt: HostRuntime) -> Result<(), Fail> {
-    let mut partition = store_table(&rt, &STORE)?;
-    assert!(rt; is_stored(&mut partition, b"1"));
-    let (got, out) = get_elsewhere(&rt, &mut partition)?;
-    assert!(rt; got == Got::Hit { stamp: 1 } && out.value() == b"1".as_slice());
-    assert!(rt; write(&mut partition, Op::Del, b"a", b"") == Some(Outcome::Deleted));
-    Ok(())
-}
-
-/// Whether the get beside the put of `22` is answered by the value before it or after it, each with its own stamp.
-fn is_one_of_both(got: Got, value: &[u8], before: u64, after: u64) -> bool {
-    let old = got == Got::Hit { stamp: before } && value == b"1".as_slice();
-    let new = got == Got::Hit { stamp: after } && value == b"22".as_slice();
-    before < after && (old || new)
-}
-
-/// A get of `a` beside a put of `22`. Gives its answer, the put's outcome, and the stamp after both.
+/// Lends a seat, puts `1` to `a` and notes it. Then a thread tells the seat this note and a note of the seat's own, and
+/// gets `a` by it without a runtime, while the owner puts `22`. The owner takes the seat back.
 fn get_beside_put(
     rt: &(impl AllocGlobal + Threads + Sync),
-    partition: CachePartition<OwnerSeat>,
-) -> Result<(Got, ItemBuf, Outcome, u64), Fail> {
+    partition: StorePartition<OwnerSeat>,
+) -> Result<Lent, Fail> {
     let mut partition = partition;
     let mut out = ItemBuf::new(rt.alloc())?;
     let mut seat = partition.lend()?;
-    let ((got, out), (outcome, stamp)) = join(
+    let is_first_stored = is_stored(&mut partition, b"1");
+    let note = partition.note();
+    let ((got, out, seat), (is_second_stored, mut partition)) = join(
         rt,
         move || {
+            seat.tell(note);
+            let own = seat.note();
+            seat.tell(own);
             let got = get(&mut seat, b"a", u32::MAX, &mut out);
-            (got, out)
+            (got, out, seat)
         },
-        move || (partition.put(b"a", b"22"), partition.stamp()),
+        move || (is_stored(&mut partition, b"22"), partition),
     );
-    Ok((got, out, outcome, stamp))
-}
-
-// Each value goes with its own stamp.
-#[test]
-fn a_get_beside_a_put_answers_one_of_both(rt: HostRuntime) -> Result<(), Fail> {
-    let mut partition = cache_table(&rt, &CACHE)?;
-    assert!(rt; is_stored(&mut partition, b"1"));
-    let before = partition.stamp();
-    let (got, out, outcome, after) = get_beside_put(&rt, partition)?;
-    assert!(rt; outcome == Outcome::Stored && is_one_of_both(got, out.value(), before, after));
-    Ok(())
-}
-
-/// Tells a seat that has not seen the put of `a` a note that has, and a note of its own, and gets `a` by it. Gives whether
-/// the put was stored, and the get's answer.
-fn get_told(
-    rt: &(impl AllocGlobal + Threads + Sync),
-    partition: &mut StorePartition<OwnerSeat>,
-) -> Result<(bool, Got), Fail>
-    ensures { IfOk result (λ r. (⟦<StorePartition<OwnerSeat> as Partition>⟧.owner partition.new).phase ≡ Idle) }
-{
-    let mut out = ItemBuf::new(rt.alloc())?;
-    let mut seat = partition.lend()?;
-    let is_put = is_stored(partition, b"1");
-    let note = partition.note();
-    let (note, ()) = join(rt, move || note, || ());
-    seat.tell(note);
-    let own = seat.note();
-    seat.tell(own);
-    let got = get(&mut seat, b"a", 1, &mut out);
     partition.meet(seat);
-    Ok((is_put, got))
+    Ok(Lent {
+        partition,
+        got,
+        out,
+        are_stored: is_first_stored && is_second_stored,
+    })
 }
 
-// What a note has seen, and a reader's note of it, is told to a seat that has not. Then the owner's seat is kept.
-#[test]
-fn a_note_goes_through_a_thread(rt: HostRuntime) -> Result<(), Fail> {
-    let mut partition = store_table(&rt, &STORE)?;
-    let (is_put, got) = get_told(&rt, &mut partition)?;
-    assert!(rt; is_put && got == Got::Hit { stamp: 1 });
+/// Whether the get is answered by the value before the second put or by the one after it, each with its own stamp.
+fn is_one_of_both(got: Got, value: &[u8]) -> bool {
+    match got {
+        Got::Hit { stamp: 1 } => value == b"1".as_slice(),
+        Got::Hit { stamp: 2 } => value == b"22".as_slice(),
+        _ => false,
+    }
+}
+
+// The owner deletes the key after it took the seat back, and then its seat is kept.
+fn expect_lent(
+    rt: &(impl Abort + AllocGlobal + Threads + Sync),
+    options: &Options,
+    count: usize,
+) -> Result<(), Fail> {
+    let lent = get_beside_put(rt, store_table(rt, options, count)?)?;
+    assert!(rt; lent.are_stored && is_one_of_both(lent.got, lent.out.value()));
+    let mut partition = lent.partition;
+    assert!(rt; write(&mut partition, Op::Del, b"a", b"") == Some(Outcome::Deleted));
     let mut tables = Tables::new();
     assert!(rt; tables.len() == 0);
     tables.keep(partition.into_words());
@@ -166,29 +123,10 @@ fn a_note_goes_through_a_thread(rt: HostRuntime) -> Result<(), Fail> {
     Ok(())
 }
 
-/// A get of `a` by a seat that the owner takes back.
-fn get_here<P: LendPartition<Reader = ReaderSeat>>(
-    rt: &impl AllocGlobal,
-    partition: &mut P,
-) -> Result<(Got, ItemBuf), Fail> {
-    let mut out = ItemBuf::new(rt.alloc())?;
-    let mut seat = partition.lend()?;
-    let got = get(&mut seat, b"a", 1, &mut out);
-    partition.meet(seat);
-    Ok((got, out))
-}
-
-/// Whether the options are valid, and a partition has so many words.
-fn has_words(options: &Options, count: usize) -> bool {
-    options.is_valid() && Shape::of(options).word_count() == count
-}
-
 #[test]
-fn the_largest_table_is_made(rt: HostRuntime) -> Result<(), Fail> {
-    assert!(rt; has_words(&LARGEST, 3_211_265));
-    let mut partition = store_table(&rt, &LARGEST)?;
-    assert!(rt; is_stored(&mut partition, b"1"));
-    let (got, out) = get_here(&rt, &mut partition)?;
-    assert!(rt; got == Got::Hit { stamp: 1 } && out.value() == b"1".as_slice());
+fn a_lent_seat_reads_in_a_thread_beside_a_put(rt: HostRuntime) -> Result<(), Fail> {
+    for (options, count) in &TABLES {
+        expect_lent(&rt, options, *count)?;
+    }
     Ok(())
 }

@@ -8,8 +8,6 @@ mod adapters;
 #[cfg(test)]
 mod cache_put;
 #[cfg(test)]
-mod every_cut;
-#[cfg(test)]
 mod heap;
 #[cfg(test)]
 mod jobs;
@@ -33,8 +31,6 @@ mod same_as_machine;
 mod schedules;
 #[cfg(test)]
 mod scripts;
-#[cfg(test)]
-mod settled;
 #[cfg(test)]
 mod torn_get;
 #[cfg(test)]

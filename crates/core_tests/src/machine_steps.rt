@@ -7,25 +7,25 @@ use std::alloc::{AllocGlobal, Global};
 use std::process::Abort;
 use std::test::Fail;
 
-/// A call of a machine, and what it must answer. A value is so many times a text.
+/// A call of a machine, and what it must answer.
 enum Step {
-    Put(&'static str, &'static str, usize, Outcome, u64),
-    Del(&'static str, Outcome, u64),
-    Hit(&'static str, &'static str, usize),
-    Miss(&'static str),
-    Fate(&'static str, Fate),
+    Put(&'static [u8], &'static [u8], Outcome, u64),
+    Del(&'static [u8], Outcome, u64),
+    Hit(&'static [u8], &'static [u8]),
+    Miss(&'static [u8]),
+    Fate(&'static [u8], Fate),
 }
 
 // Makes the write, and tells whether it is one that may have this outcome, and has it and this stamp.
 fn is_replied(
     alloc: Global,
     machine: &mut Machine,
-    write: (Op, &str, &str),
+    op: Op,
+    key: &[u8],
+    value: &[u8],
     outcome: Outcome,
     stamp: u64,
 ) -> Result<bool, NoMemory> {
-    let (op, key, value) = write;
-    let (key, value) = (key.as_bytes(), value.as_bytes());
     Ok(
         machine.allows(op, key, value, outcome)
             && machine.apply(alloc, op, key, value)? == Some(outcome)
@@ -34,37 +34,35 @@ fn is_replied(
 }
 
 fn has_answer(
-    alloc: Global,
     machine: &Machine,
-    key: &str,
+    key: &[u8],
     answer: Answer,
     value: &[u8],
-) -> Result<bool, NoMemory> {
-    let mut out = ItemBuf::new(alloc)?;
-    Ok(machine.answer(key.as_bytes(), &mut out) == answer && out.value() == value)
+    out: &mut ItemBuf,
+) -> bool {
+    machine.answer(key, out) == answer && out.value() == value
 }
 
 impl Step {
     /// Makes the call, and tells whether it answers so.
-    fn holds(&self, alloc: Global, machine: &mut Machine) -> Result<bool, NoMemory> {
+    fn holds(
+        &self,
+        alloc: Global,
+        machine: &mut Machine,
+        out: &mut ItemBuf,
+    ) -> Result<bool, NoMemory> {
         match self {
-            Step::Put(key, text, times, outcome, stamp) => {
-                let value = text.repeat(alloc, *times)?;
-                let put = (Op::Put, *key, value.as_str());
-                is_replied(alloc, machine, put, *outcome, *stamp)
+            Step::Put(key, value, outcome, stamp) => {
+                is_replied(alloc, machine, Op::Put, key, value, *outcome, *stamp)
             }
             Step::Del(key, outcome, stamp) => {
-                is_replied(alloc, machine, (Op::Del, *key, ""), *outcome, *stamp)
+                is_replied(alloc, machine, Op::Del, key, b"", *outcome, *stamp)
             }
-            Step::Hit(key, text, times) => {
-                let value = text.repeat(alloc, *times)?;
-                has_answer(alloc, machine, key, Answer::Hit, value.as_bytes())
-            }
-            Step::Miss(key) => has_answer(alloc, machine, key, Answer::Miss, b""),
+            Step::Hit(key, value) => Ok(has_answer(machine, key, Answer::Hit, value, out)),
+            Step::Miss(key) => Ok(has_answer(machine, key, Answer::Miss, b"", out)),
             Step::Fate(key, fate) => {
-                let mut out = ItemBuf::new(alloc)?;
-                let is_hit = machine.answer(key.as_bytes(), &mut out) == Answer::Hit;
-                Ok(machine.fate(key.as_bytes()) == Some(*fate) && is_hit == (*fate == Fate::Held))
+                let is_hit = machine.answer(key, out) == Answer::Hit;
+                Ok(machine.fate(key) == Some(*fate) && is_hit == (*fate == Fate::Held))
             }
         }
     }
@@ -89,20 +87,6 @@ const STORE: Options = Options {
     ..CACHE
 };
 
-// The number of the first step that does not hold, from 0.
-fn first_failed(
-    alloc: Global,
-    machine: &mut Machine,
-    steps: &[Step],
-) -> Result<Option<usize>, NoMemory> {
-    for (number, step) in steps.iter().enumerate() {
-        if !step.holds(alloc, machine)? || !machine.is_counted() {
-            return Ok(Some(number));
-        }
-    }
-    Ok(None)
-}
-
 fn expect_steps(
     rt: &(impl Abort + AllocGlobal),
     options: &Options,
@@ -110,121 +94,136 @@ fn expect_steps(
 ) -> Result<(), Fail> {
     assert!(rt; options.is_valid());
     let mut machine = Machine::new(rt.alloc(), options)?;
-    let failed = first_failed(rt.alloc(), &mut machine, steps)?;
-    assert!(rt; failed.is_none(), "{failed:?}");
+    let mut out = ItemBuf::new(rt.alloc())?;
+    let mut number = 0u32;
+    for step in steps {
+        let holds = step.holds(rt.alloc(), &mut machine, &mut out)?;
+        assert!(rt; holds && machine.is_counted(), "step {number}");
+        number = number.saturating_add(1);
+    }
+    Ok(())
+}
+
+fn expect_tables(
+    rt: &(impl Abort + AllocGlobal),
+    tables: &[(Options, &[Step])],
+) -> Result<(), Fail> {
+    for (options, steps) in tables {
+        expect_steps(rt, options, steps)?;
+    }
     Ok(())
 }
 
 // A value that fits the room of its key is kept in place, and a longer one is appended.
 const IN_PLACE: &[Step] = &[
-    Step::Put("a", "1", 1, Outcome::Stored, 262_144),
-    Step::Hit("a", "1", 1),
-    Step::Put("a", "2", 1, Outcome::Stored, 262_145),
-    Step::Hit("a", "2", 1),
-    Step::Put("a", "123456789", 1, Outcome::Stored, 589_825),
-    Step::Hit("a", "123456789", 1),
-    Step::Del("a", Outcome::Deleted, 589_826),
-    Step::Fate("a", Fate::Deleted(4)),
-    Step::Del("a", Outcome::Absent, 589_827),
-    Step::Fate("a", Fate::Deleted(4)),
-    Step::Fate("b", Fate::Never),
+    Step::Put(b"a", b"1", Outcome::Stored, 262_144),
+    Step::Hit(b"a", b"1"),
+    Step::Put(b"a", b"2", Outcome::Stored, 262_145),
+    Step::Hit(b"a", b"2"),
+    Step::Put(b"a", b"123456789", Outcome::Stored, 589_825),
+    Step::Hit(b"a", b"123456789"),
+    Step::Del(b"a", Outcome::Deleted, 589_826),
+    Step::Fate(b"a", Fate::Deleted(4)),
+    Step::Del(b"a", Outcome::Absent, 589_827),
+    Step::Fate(b"a", Fate::Deleted(4)),
+    Step::Fate(b"b", Fate::Never),
 ];
 
 // Each of the first items has 128 words, where there are 256.
 const PASSED: &[Step] = &[
-    Step::Put("a", "x", 1000, Outcome::Stored, 8_388_608),
-    Step::Put("b", "x", 1000, Outcome::Stored, 16_777_216),
-    Step::Hit("a", "x", 1000),
-    Step::Put("c", "1", 1, Outcome::Stored, 17_039_360),
-    Step::Fate("a", Fate::Passed(3)),
-    Step::Fate("b", Fate::Held),
-    Step::Hit("b", "x", 1000),
-    Step::Fate("d", Fate::Never),
+    Step::Put(b"a", &[b'x'; 1000], Outcome::Stored, 8_388_608),
+    Step::Put(b"b", &[b'x'; 1000], Outcome::Stored, 16_777_216),
+    Step::Hit(b"a", &[b'x'; 1000]),
+    Step::Put(b"c", b"1", Outcome::Stored, 17_039_360),
+    Step::Fate(b"a", Fate::Passed(3)),
+    Step::Fate(b"b", Fate::Held),
+    Step::Hit(b"b", &[b'x'; 1000]),
+    Step::Fate(b"d", Fate::Never),
 ];
 
 // A bucket has 15 places.
 const DISPLACED: &[Step] = &[
-    Step::Put("k01", "1", 1, Outcome::Stored, 262_144),
-    Step::Put("k02", "1", 1, Outcome::Stored, 524_288),
-    Step::Put("k03", "1", 1, Outcome::Stored, 786_432),
-    Step::Put("k04", "1", 1, Outcome::Stored, 1_048_576),
-    Step::Put("k05", "1", 1, Outcome::Stored, 1_310_720),
-    Step::Put("k06", "1", 1, Outcome::Stored, 1_572_864),
-    Step::Put("k07", "1", 1, Outcome::Stored, 1_835_008),
-    Step::Put("k08", "1", 1, Outcome::Stored, 2_097_152),
-    Step::Put("k09", "1", 1, Outcome::Stored, 2_359_296),
-    Step::Put("k10", "1", 1, Outcome::Stored, 2_621_440),
-    Step::Put("k11", "1", 1, Outcome::Stored, 2_883_584),
-    Step::Put("k12", "1", 1, Outcome::Stored, 3_145_728),
-    Step::Put("k13", "1", 1, Outcome::Stored, 3_407_872),
-    Step::Put("k14", "1", 1, Outcome::Stored, 3_670_016),
-    Step::Put("k15", "1", 1, Outcome::Stored, 3_932_160),
-    Step::Put("k16", "1", 1, Outcome::Stored, 4_194_304),
-    Step::Fate("k01", Fate::Displaced(16)),
-    Step::Hit("k02", "1", 1),
+    Step::Put(b"k01", b"1", Outcome::Stored, 262_144),
+    Step::Put(b"k02", b"1", Outcome::Stored, 524_288),
+    Step::Put(b"k03", b"1", Outcome::Stored, 786_432),
+    Step::Put(b"k04", b"1", Outcome::Stored, 1_048_576),
+    Step::Put(b"k05", b"1", Outcome::Stored, 1_310_720),
+    Step::Put(b"k06", b"1", Outcome::Stored, 1_572_864),
+    Step::Put(b"k07", b"1", Outcome::Stored, 1_835_008),
+    Step::Put(b"k08", b"1", Outcome::Stored, 2_097_152),
+    Step::Put(b"k09", b"1", Outcome::Stored, 2_359_296),
+    Step::Put(b"k10", b"1", Outcome::Stored, 2_621_440),
+    Step::Put(b"k11", b"1", Outcome::Stored, 2_883_584),
+    Step::Put(b"k12", b"1", Outcome::Stored, 3_145_728),
+    Step::Put(b"k13", b"1", Outcome::Stored, 3_407_872),
+    Step::Put(b"k14", b"1", Outcome::Stored, 3_670_016),
+    Step::Put(b"k15", b"1", Outcome::Stored, 3_932_160),
+    Step::Put(b"k16", b"1", Outcome::Stored, 4_194_304),
+    Step::Fate(b"k01", Fate::Displaced(16)),
+    Step::Hit(b"k02", b"1"),
 ];
 
 // What the log passes goes before the index displaces any: the last put passes `a`.
 const PASSED_FIRST: &[Step] = &[
-    Step::Put("a", "x", 1024, Outcome::Stored, 8_585_216),
-    Step::Put("b", "x", 560, Outcome::Stored, 13_369_344),
-    Step::Put("k01", "1", 1, Outcome::Stored, 13_631_488),
-    Step::Put("k02", "1", 1, Outcome::Stored, 13_893_632),
-    Step::Put("k03", "1", 1, Outcome::Stored, 14_155_776),
-    Step::Put("k04", "1", 1, Outcome::Stored, 14_417_920),
-    Step::Put("k05", "1", 1, Outcome::Stored, 14_680_064),
-    Step::Put("k06", "1", 1, Outcome::Stored, 14_942_208),
-    Step::Put("k07", "1", 1, Outcome::Stored, 15_204_352),
-    Step::Put("k08", "1", 1, Outcome::Stored, 15_466_496),
-    Step::Put("k09", "1", 1, Outcome::Stored, 15_728_640),
-    Step::Put("k10", "1", 1, Outcome::Stored, 15_990_784),
-    Step::Put("k11", "1", 1, Outcome::Stored, 16_252_928),
-    Step::Put("k12", "1", 1, Outcome::Stored, 16_515_072),
-    Step::Put("k13", "1", 1, Outcome::Stored, 16_777_216),
-    Step::Put("z", "1", 1, Outcome::Stored, 17_039_360),
-    Step::Fate("a", Fate::Passed(16)),
-    Step::Hit("b", "x", 560),
-    Step::Hit("k01", "1", 1),
+    Step::Put(b"a", &[b'x'; 1024], Outcome::Stored, 8_585_216),
+    Step::Put(b"b", &[b'x'; 560], Outcome::Stored, 13_369_344),
+    Step::Put(b"k01", b"1", Outcome::Stored, 13_631_488),
+    Step::Put(b"k02", b"1", Outcome::Stored, 13_893_632),
+    Step::Put(b"k03", b"1", Outcome::Stored, 14_155_776),
+    Step::Put(b"k04", b"1", Outcome::Stored, 14_417_920),
+    Step::Put(b"k05", b"1", Outcome::Stored, 14_680_064),
+    Step::Put(b"k06", b"1", Outcome::Stored, 14_942_208),
+    Step::Put(b"k07", b"1", Outcome::Stored, 15_204_352),
+    Step::Put(b"k08", b"1", Outcome::Stored, 15_466_496),
+    Step::Put(b"k09", b"1", Outcome::Stored, 15_728_640),
+    Step::Put(b"k10", b"1", Outcome::Stored, 15_990_784),
+    Step::Put(b"k11", b"1", Outcome::Stored, 16_252_928),
+    Step::Put(b"k12", b"1", Outcome::Stored, 16_515_072),
+    Step::Put(b"k13", b"1", Outcome::Stored, 16_777_216),
+    Step::Put(b"z", b"1", Outcome::Stored, 17_039_360),
+    Step::Fate(b"a", Fate::Passed(16)),
+    Step::Hit(b"b", &[b'x'; 560]),
+    Step::Hit(b"k01", b"1"),
 ];
 
 const EMPTY: &[Step] = &[
-    Step::Del("a", Outcome::Absent, 1),
-    Step::Fate("a", Fate::Never),
-    Step::Put("a", "", 1, Outcome::Stored, 196_609),
-    Step::Hit("a", "", 1),
+    Step::Del(b"a", Outcome::Absent, 1),
+    Step::Fate(b"a", Fate::Never),
+    Step::Put(b"a", b"", Outcome::Stored, 196_609),
+    Step::Hit(b"a", b""),
 ];
 
 // Items of 131 words each, where there are 256.
 const REFUSED: &[Step] = &[
-    Step::Put("a", "x", 1024, Outcome::Stored, 1),
-    Step::Put("b", "x", 1024, Outcome::FullBlock, 1),
-    Step::Miss("b"),
+    Step::Put(b"a", &[b'x'; 1024], Outcome::Stored, 1),
+    Step::Put(b"b", &[b'x'; 1024], Outcome::FullBlock, 1),
+    Step::Miss(b"b"),
 ];
 
 // An item of 131 words shrinks and grows in its room. One of 126 words does not fit beside it, one of 125 words does.
 const GROWN: &[Step] = &[
-    Step::Put("a", "x", 1024, Outcome::Stored, 1),
-    Step::Put("a", "1", 1, Outcome::Stored, 2),
-    Step::Hit("a", "1", 1),
-    Step::Put("b", "x", 977, Outcome::FullBlock, 2),
-    Step::Put("b", "x", 976, Outcome::Stored, 3),
-    Step::Put("b", "x", 977, Outcome::FullBlock, 3),
-    Step::Put("a", "x", 1024, Outcome::Stored, 4),
-    Step::Del("a", Outcome::Deleted, 5),
+    Step::Put(b"a", &[b'x'; 1024], Outcome::Stored, 1),
+    Step::Put(b"a", b"1", Outcome::Stored, 2),
+    Step::Hit(b"a", b"1"),
+    Step::Put(b"b", &[b'x'; 977], Outcome::FullBlock, 2),
+    Step::Put(b"b", &[b'x'; 976], Outcome::Stored, 3),
+    Step::Put(b"b", &[b'x'; 977], Outcome::FullBlock, 3),
+    Step::Put(b"a", &[b'x'; 1024], Outcome::Stored, 4),
+    Step::Del(b"a", Outcome::Deleted, 5),
 ];
 
 const ABSENT: &[Step] = &[
-    Step::Miss("a"),
-    Step::Del("a", Outcome::Absent, 1),
-    Step::Miss("a"),
+    Step::Miss(b"a"),
+    Step::Del(b"a", Outcome::Absent, 1),
+    Step::Miss(b"a"),
 ];
 
 const WORN: &[Step] = &[
-    Step::Put("a", "1", 1, Outcome::Stored, 1),
-    Step::Put("b", "1", 1, Outcome::Stored, 2),
-    Step::Put("c", "1", 1, Outcome::Worn, 2),
-    Step::Del("a", Outcome::Worn, 2),
-    Step::Hit("a", "1", 1),
+    Step::Put(b"a", b"1", Outcome::Stored, 1),
+    Step::Put(b"b", b"1", Outcome::Stored, 2),
+    Step::Put(b"c", b"1", Outcome::Worn, 2),
+    Step::Del(b"a", Outcome::Worn, 2),
+    Step::Hit(b"a", b"1"),
 ];
 
 const SMALL_CACHE: Options = Options {
@@ -242,10 +241,7 @@ static CACHE_STEPS: [(Options, &[Step]); 5] = [
 
 #[test]
 fn steps_of_the_cache_machine(rt: HostRuntime) -> Result<(), Fail> {
-    for (options, steps) in &CACHE_STEPS {
-        expect_steps(&rt, options, steps)?;
-    }
-    Ok(())
+    expect_tables(&rt, &CACHE_STEPS)
 }
 
 const SMALL_STORE: Options = Options {
@@ -262,8 +258,5 @@ static STORE_STEPS: [(Options, &[Step]); 4] = [
 
 #[test]
 fn steps_of_the_store_machine(rt: HostRuntime) -> Result<(), Fail> {
-    for (options, steps) in &STORE_STEPS {
-        expect_steps(&rt, options, steps)?;
-    }
-    Ok(())
+    expect_tables(&rt, &STORE_STEPS)
 }

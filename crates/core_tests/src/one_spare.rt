@@ -1,8 +1,11 @@
 //! A bucket of sixteen keys in store mode, whose one spare bucket is taken, given back and taken again.
 
-use crate::partitions::{read, store_over, write};
-use epoch_core::{OwnerEvent, Partition, PlainWords};
-use mica_model::{Answer, ItemBuf, Mode, Op, Options, Outcome};
+use crate::machine::Machine;
+use crate::partitions::store_over;
+use crate::same_as_machine::{agree_on_get, agreed};
+use crate::scripts::Written;
+use epoch_core::{OwnerEvent, Partition};
+use mica_model::{ItemBuf, Mode, Op, Options, Outcome};
 use std::alloc::AllocGlobal;
 use std::process::Abort;
 use std::test::Fail;
@@ -25,45 +28,26 @@ const ENTRY_OF_K16: u64 = 0x8119_0000_0000_003c;
 
 const ENTRY_OF_K17: u64 = 0x8019_0000_0000_0008;
 
-/// A call of the partition, and what it must answer.
-enum Step {
-    Put(&'static str, &'static str),
-    Del(&'static str),
-    Hit(&'static str, &'static str),
-    Miss(&'static str),
-}
-
-impl Step {
-    fn key(&self) -> &'static str {
-        match self {
-            Step::Put(key, _) | Step::Hit(key, _) | Step::Del(key) | Step::Miss(key) => key,
-        }
-    }
-}
-
-static STEPS: [Step; 22] = [
-    Step::Put("k01", "1"),
-    Step::Put("k02", "2"),
-    Step::Put("k03", "3"),
-    Step::Put("k04", "4"),
-    Step::Put("k05", "5"),
-    Step::Put("k06", "6"),
-    Step::Put("k07", "7"),
-    Step::Put("k08", "8"),
-    Step::Put("k09", "9"),
-    Step::Put("k10", "10"),
-    Step::Put("k11", "11"),
-    Step::Put("k12", "12"),
-    Step::Put("k13", "13"),
-    Step::Put("k14", "14"),
-    Step::Put("k15", "15"),
-    Step::Put("k16", "16"),
-    Step::Del("k03"),
-    Step::Hit("k16", "16"),
-    Step::Miss("k03"),
-    Step::Put("k17", "17"),
-    Step::Del("k16"),
-    Step::Miss("k16"),
+static WRITES: [Written; 19] = [
+    Written(Op::Put, b"k01", b"1", Outcome::Stored),
+    Written(Op::Put, b"k02", b"2", Outcome::Stored),
+    Written(Op::Put, b"k03", b"3", Outcome::Stored),
+    Written(Op::Put, b"k04", b"4", Outcome::Stored),
+    Written(Op::Put, b"k05", b"5", Outcome::Stored),
+    Written(Op::Put, b"k06", b"6", Outcome::Stored),
+    Written(Op::Put, b"k07", b"7", Outcome::Stored),
+    Written(Op::Put, b"k08", b"8", Outcome::Stored),
+    Written(Op::Put, b"k09", b"9", Outcome::Stored),
+    Written(Op::Put, b"k10", b"10", Outcome::Stored),
+    Written(Op::Put, b"k11", b"11", Outcome::Stored),
+    Written(Op::Put, b"k12", b"12", Outcome::Stored),
+    Written(Op::Put, b"k13", b"13", Outcome::Stored),
+    Written(Op::Put, b"k14", b"14", Outcome::Stored),
+    Written(Op::Put, b"k15", b"15", Outcome::Stored),
+    Written(Op::Put, b"k16", b"16", Outcome::Stored),
+    Written(Op::Del, b"k03", b"", Outcome::Deleted),
+    Written(Op::Put, b"k17", b"17", Outcome::Stored),
+    Written(Op::Del, b"k16", b"", Outcome::Deleted),
 ];
 
 // What happens to the third slot, to the spare bucket and to the link.
@@ -81,33 +65,21 @@ static CHANGES: [OwnerEvent; 11] = [
     OwnerEvent::PutLink(0, 0),
 ];
 
-// Makes the call, and tells whether it answers so.
-fn holds<P: Partition>(partition: &mut P, step: &Step, out: &mut ItemBuf) -> bool {
-    let key = step.key().as_bytes();
-    match step {
-        Step::Put(_, value) => {
-            write(partition, Op::Put, key, value.as_bytes()) == Some(Outcome::Stored)
+// Makes the writes, after each of which the partition and the machine answer the same to both keys that are deleted.
+fn expect_writes<P: Partition>(
+    rt: &(impl Abort + AllocGlobal),
+    partition: &mut P,
+    machine: &mut Machine,
+) -> Result<(), Fail> {
+    let mut found = ItemBuf::new(rt.alloc())?;
+    let mut wanted = ItemBuf::new(rt.alloc())?;
+    for Written(op, key, value, outcome) in &WRITES {
+        assert!(rt; agreed(rt.alloc(), partition, machine, *op, key, value)? == Some(*outcome));
+        for read in [b"k03", b"k16"] {
+            assert!(rt; agree_on_get(partition, machine, read, &mut found, &mut wanted));
         }
-        Step::Del(_) => write(partition, Op::Del, key, b"") == Some(Outcome::Deleted),
-        Step::Hit(_, value) => {
-            read(partition, key, out) == Some(Answer::Hit) && out.value() == value.as_bytes()
-        }
-        Step::Miss(_) => read(partition, key, out) == Some(Answer::Miss),
     }
-}
-
-// The number of the first step that does not hold, from 0.
-fn first_failed<P: Partition>(partition: &mut P, out: &mut ItemBuf) -> Option<usize> {
-    STEPS.iter().position(|step| !holds(partition, step, out))
-}
-
-// The partition's words after the steps.
-fn words_after_steps(rt: &(impl Abort + AllocGlobal)) -> Result<PlainWords, Fail> {
-    let mut out = ItemBuf::new(rt.alloc())?;
-    let mut partition = store_over(rt, &ONE_SPARE, 256)?;
-    let failed = first_failed(&mut partition, &mut out);
-    assert!(rt; failed.is_none(), "{failed:?}");
-    Ok(partition.into_words())
+    Ok(())
 }
 
 fn is_change(event: &OwnerEvent) -> bool {
@@ -119,7 +91,10 @@ fn is_change(event: &OwnerEvent) -> bool {
 
 #[test]
 fn the_last_entry_moves_and_the_spare_is_taken_again(rt: HostRuntime) -> Result<(), Fail> {
-    let words = words_after_steps(&rt)?;
+    let mut partition = store_over(&rt, &ONE_SPARE, 256)?;
+    let mut machine = Machine::new(rt.alloc(), &ONE_SPARE)?;
+    expect_writes(&rt, &mut partition, &mut machine)?;
+    let words = partition.into_words();
     assert!(rt;
         words
             .events()

@@ -42,9 +42,9 @@ impl Refused {
     }
 }
 
-// What the partition does with the write, where the machine does the same. Where the partition finds no block for a put it
-// changes nothing, and the machine might choose another answer.
-fn agreed<P: Partition>(
+/// What the partition does with the write, where the machine does the same. Where the partition finds no block for a put it
+/// changes nothing, and the machine might choose another answer.
+pub(crate) fn agreed<P: Partition>(
     alloc: Global,
     partition: &mut P,
     machine: &mut Machine,
@@ -61,17 +61,19 @@ fn agreed<P: Partition>(
     Ok(None)
 }
 
-fn agree_on_get<P: Partition>(
-    alloc: Global,
+/// Whether both answer the same to the key.
+pub(crate) fn agree_on_get<P: Partition>(
     partition: &mut P,
     machine: &Machine,
     key: &[u8],
-) -> Result<bool, NoMemory> {
-    let mut found = ItemBuf::new(alloc)?;
-    let mut wanted = ItemBuf::new(alloc)?;
-    let answer = read(partition, key, &mut found);
-    Ok(answer == Some(machine.answer(key, &mut wanted)) && found.value() == wanted.value())
+    found: &mut ItemBuf,
+    wanted: &mut ItemBuf,
+) -> bool {
+    read(partition, key, found) == Some(machine.answer(key, wanted))
+        && found.value() == wanted.value()
 }
+
+static VALUE: [u8; 90] = [b'x'; 90];
 
 // Whether both do the same with a write or a get of one of 60 keys.
 fn agree<P: Partition>(
@@ -80,18 +82,20 @@ fn agree<P: Partition>(
     machine: &mut Machine,
     draw: u64,
     refused: &mut Refused,
-) -> Result<bool, Fail> {
-    let number = draw % 60;
-    let key = format!(in alloc; "k{number}")?;
-    let key = key.as_bytes();
+) -> Result<bool, NoMemory> {
+    let number = (draw % 60) as u8;
+    let key = [b'k', b'0' + number / 10, b'0' + number % 10];
     match draw / 60 % 8 {
         0 | 1 | 2 | 3 => {
-            let value = "x".repeat(alloc, (draw / 480 % 90) as usize)?;
-            let value = value.as_bytes();
-            Ok(refused.counts(agreed(alloc, partition, machine, Op::Put, key, value)?))
+            let value = &VALUE[..(draw / 480 % 90) as usize];
+            Ok(refused.counts(agreed(alloc, partition, machine, Op::Put, &key, value)?))
         }
-        4 | 5 => Ok(agreed(alloc, partition, machine, Op::Del, key, b"")?.is_some()),
-        _ => Ok(agree_on_get(alloc, partition, machine, key)?),
+        4 | 5 => Ok(agreed(alloc, partition, machine, Op::Del, &key, b"")?.is_some()),
+        _ => {
+            let mut found = ItemBuf::new(alloc)?;
+            let mut wanted = ItemBuf::new(alloc)?;
+            Ok(agree_on_get(partition, machine, &key, &mut found, &mut wanted))
+        }
     }
 }
 

@@ -1,13 +1,10 @@
-//! Four scripts, and gets of one try after each number of their events, judged by the plain machine at the carried
-//! stamp.
+//! Six scripts, and gets of one try between their events, judged by the plain machine at the carried stamp.
 
-use crate::scripts::{Judge, MOST_EVENTS, Script, Written, count_events, expect_after_loads};
-use mica_model::{Mode, Op, Options};
-use std::alloc::AllocGlobal;
-use std::process::Abort;
+use crate::scripts::{Cuts, Script, Written, expect_script};
+use mica_model::{Mode, Op, Options, Outcome};
 use std::test::Fail;
 
-const MODEST: Options = Options {
+const CACHE: Options = Options {
     mode: Mode::Cache,
     partitions: 1,
     buckets: 1,
@@ -18,123 +15,151 @@ const MODEST: Options = Options {
     wear: 68_719_476_736,
 };
 
-/// The most loads before the cut, which are more than one try makes.
-const LOADS: u32 = 180;
+const STORE: Options = Options {
+    mode: Mode::Store,
+    spares: 1,
+    ..CACHE
+};
 
-/// Gets of the key after every number of events, and so many loads more before the next event, or before all that are
-/// left. Each kind of answer comes.
-fn expect_script(rt: &(impl Abort + AllocGlobal), script: Script<'_>) -> Result<(), Fail> {
-    let mut judge = Judge::new(rt, script)?;
-    let count = count_events(rt, script)?;
-    assert!(rt; count < MOST_EVENTS);
-    for first in 0..count + 1 {
-        expect_after_loads(rt, script, &mut judge, first, LOADS, count.min(first + 1))?;
-        expect_after_loads(rt, script, &mut judge, first, LOADS, count)?;
-    }
-    assert!(rt; judge.has_seen_each_kind());
-    Ok(())
+const EVERY_TWO: Cuts = Cuts {
+    every_two: true,
+    loads: 25,
+};
+
+// One try of a long item makes fewer loads.
+const LONG: Cuts = Cuts {
+    every_two: false,
+    loads: 180,
+};
+
+// One try of a short item in the second bucket of a chain makes fewer loads.
+const ALONG_THE_CHAIN: Cuts = Cuts {
+    every_two: false,
+    loads: 48,
+};
+
+static CACHE_WRITES: Script = Script {
+    options: Options { wear: 100, ..CACHE },
+    writes: &[
+        Written(Op::Put, b"a", b"1", Outcome::Stored),
+        Written(Op::Put, b"a", b"2", Outcome::Stored),
+        Written(Op::Del, b"a", b"", Outcome::Deleted),
+    ],
+    key: b"a",
+};
+
+#[test]
+fn every_cut_of_cache_mode(rt: HostRuntime) -> Result<(), Fail> {
+    expect_script(&rt, &CACHE_WRITES, EVERY_TWO)
 }
 
-static PASSED: [Written; 3] = [
-    (Op::Put, "a", "x", 1000),
-    (Op::Put, "b", "x", 1000),
-    (Op::Put, "b", "x", 1001),
-];
+static STORE_WRITES: Script = Script {
+    options: Options { wear: 100, ..STORE },
+    writes: &[
+        Written(Op::Put, b"a", b"1", Outcome::Stored),
+        Written(Op::Del, b"a", b"", Outcome::Deleted),
+        Written(Op::Put, b"b", b"2", Outcome::Stored),
+    ],
+    key: b"a",
+};
+
+#[test]
+fn every_cut_of_store_mode(rt: HostRuntime) -> Result<(), Fail> {
+    expect_script(&rt, &STORE_WRITES, EVERY_TWO)
+}
+
+static PASSED: Script = Script {
+    options: Options {
+        buckets: 2,
+        ..CACHE
+    },
+    writes: &[
+        Written(Op::Put, b"a", &[b'x'; 1000], Outcome::Stored),
+        Written(Op::Put, b"b", &[b'x'; 1000], Outcome::Stored),
+        Written(Op::Put, b"b", &[b'x'; 1001], Outcome::Stored),
+    ],
+    key: b"a",
+};
 
 // The last put passes `a`, and changes nothing of the bucket that is read.
 #[test]
 fn an_item_is_passed(rt: HostRuntime) -> Result<(), Fail> {
-    expect_script(
-        &rt,
-        Script {
-            options: Options {
-                buckets: 2,
-                ..MODEST
-            },
-            writes: &PASSED,
-            key: "a",
-        },
-    )
+    expect_script(&rt, &PASSED, LONG)
 }
 
-static KEPT: [Written; 3] = [
-    (Op::Put, "a", "1", 1),
-    (Op::Put, "a", "2", 1),
-    (Op::Put, "a", "3", 1),
-];
+static KEPT: Script = Script {
+    options: Options { wear: 2, ..CACHE },
+    writes: &[
+        Written(Op::Put, b"a", b"1", Outcome::Stored),
+        Written(Op::Put, b"a", b"2", Outcome::Stored),
+        Written(Op::Put, b"a", b"3", Outcome::Worn),
+    ],
+    key: b"a",
+};
 
 // The third put comes to a worn partition.
 #[test]
 fn an_item_is_kept_in_place(rt: HostRuntime) -> Result<(), Fail> {
-    expect_script(
-        &rt,
-        Script {
-            options: Options { wear: 2, ..MODEST },
-            writes: &KEPT,
-            key: "a",
-        },
-    )
+    expect_script(&rt, &KEPT, LONG)
 }
 
-static MOVED: [Written; 17] = [
-    (Op::Put, "k01", "1", 1),
-    (Op::Put, "k02", "1", 1),
-    (Op::Put, "k03", "1", 1),
-    (Op::Put, "k04", "1", 1),
-    (Op::Put, "k05", "1", 1),
-    (Op::Put, "k06", "1", 1),
-    (Op::Put, "k07", "1", 1),
-    (Op::Put, "k08", "1", 1),
-    (Op::Put, "k09", "1", 1),
-    (Op::Put, "k10", "1", 1),
-    (Op::Put, "k11", "1", 1),
-    (Op::Put, "k12", "1", 1),
-    (Op::Put, "k13", "1", 1),
-    (Op::Put, "k14", "1", 1),
-    (Op::Put, "k15", "1", 1),
-    (Op::Put, "k16", "1", 1),
-    (Op::Del, "k03", "", 1),
+const MOVED: &[Written] = &[
+    Written(Op::Put, b"k01", b"1", Outcome::Stored),
+    Written(Op::Put, b"k02", b"1", Outcome::Stored),
+    Written(Op::Put, b"k03", b"1", Outcome::Stored),
+    Written(Op::Put, b"k04", b"1", Outcome::Stored),
+    Written(Op::Put, b"k05", b"1", Outcome::Stored),
+    Written(Op::Put, b"k06", b"1", Outcome::Stored),
+    Written(Op::Put, b"k07", b"1", Outcome::Stored),
+    Written(Op::Put, b"k08", b"1", Outcome::Stored),
+    Written(Op::Put, b"k09", b"1", Outcome::Stored),
+    Written(Op::Put, b"k10", b"1", Outcome::Stored),
+    Written(Op::Put, b"k11", b"1", Outcome::Stored),
+    Written(Op::Put, b"k12", b"1", Outcome::Stored),
+    Written(Op::Put, b"k13", b"1", Outcome::Stored),
+    Written(Op::Put, b"k14", b"1", Outcome::Stored),
+    Written(Op::Put, b"k15", b"1", Outcome::Stored),
+    Written(Op::Put, b"k16", b"1", Outcome::Stored),
+    Written(Op::Del, b"k03", b"", Outcome::Deleted),
 ];
+
+static LAST_KEY: Script = Script {
+    options: Options {
+        words: 1024,
+        ..STORE
+    },
+    writes: MOVED,
+    key: b"k16",
+};
+
+static DELETED_KEY: Script = Script {
+    options: Options {
+        words: 1024,
+        ..STORE
+    },
+    writes: MOVED,
+    key: b"k03",
+};
 
 // The sixteenth key goes to a spare, and comes back to the slot of the third.
 #[test]
 fn an_entry_moves_along_its_chain(rt: HostRuntime) -> Result<(), Fail> {
-    for key in ["k16", "k03"] {
-        expect_script(
-            &rt,
-            Script {
-                options: Options {
-                    mode: Mode::Store,
-                    spares: 1,
-                    words: 1024,
-                    ..MODEST
-                },
-                writes: &MOVED,
-                key,
-            },
-        )?;
-    }
-    Ok(())
+    expect_script(&rt, &LAST_KEY, ALONG_THE_CHAIN)?;
+    expect_script(&rt, &DELETED_KEY, ALONG_THE_CHAIN)
 }
 
-static FREED: [Written; 3] = [
-    (Op::Put, "a", "x", 1024),
-    (Op::Del, "a", "", 1),
-    (Op::Put, "b", "x", 1000),
-];
+static FREED: Script = Script {
+    options: Options { spares: 0, ..STORE },
+    writes: &[
+        Written(Op::Put, b"a", &[b'x'; 1024], Outcome::Stored),
+        Written(Op::Del, b"a", b"", Outcome::Deleted),
+        Written(Op::Put, b"b", &[b'x'; 1000], Outcome::Stored),
+    ],
+    key: b"a",
+};
 
 // The words of `a` are given back, and written again as those of `b`.
 #[test]
 fn a_freed_block_is_used_again(rt: HostRuntime) -> Result<(), Fail> {
-    expect_script(
-        &rt,
-        Script {
-            options: Options {
-                mode: Mode::Store,
-                ..MODEST
-            },
-            writes: &FREED,
-            key: "a",
-        },
-    )
+    expect_script(&rt, &FREED, LONG)
 }

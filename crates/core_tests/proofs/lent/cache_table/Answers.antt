@@ -1,9 +1,0 @@
-use Rattle.std.proofs.Common.{sym, ap, ◌∙◌}
-use Rattle.epoch_core.specs.declared.state.OwnerState.{OwnerState}
-use Rattle.epoch_core.specs.OwnerState.{as_made}
-use Rattle.core_tests.proofs.lent.cache_table.Goals as goal
-
-pub new-requires-clause-made : goal.new-requires-clause-made
-new-requires-clause-made g c =
-    let made = c.in_ok-make.ensures.made in
-    made ∙ ap as_made (sym (ap (λ (o : OwnerState). o.shape) made))
