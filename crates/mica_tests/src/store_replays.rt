@@ -338,8 +338,8 @@ static FULL: [Run; 2] = [
     Run {
         words: SMALL,
         input: "\
-put a V(1024)
-put b V(1024)
+put a (1024)
+put b (1024)
 sync
 get b
 ",
@@ -354,13 +354,13 @@ get 1 miss
     Run {
         words: SMALL,
         input: "\
-put a V(488)
-put b V(488)
-put c V(488)
-put d V(488)
+put a (488)
+put b (488)
+put c (488)
+put d (488)
 del a
 del c
-put e V(700)
+put e (700)
 ",
         output: "\
 put 1 stored
