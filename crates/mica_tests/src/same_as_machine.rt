@@ -39,11 +39,25 @@ fn outcome_words(outcome: Outcome) -> &'static [u8] {
     }
 }
 
-/// Appends the parts and a line feed.
-fn add_line(text: &mut Vec<u8>, parts: &[&[u8]]) -> Result<(), NoMemory> {
-    for part in parts {
-        text.extend_from_slice(part)?;
+fn answer_words(answer: Answer) -> &'static [u8] {
+    match answer {
+        Answer::Hit => b" hit ",
+        Answer::Miss => b" miss",
     }
+}
+
+/// Appends the four parts and a line feed.
+fn add_line(
+    text: &mut Vec<u8>,
+    first: &[u8],
+    second: &[u8],
+    third: &[u8],
+    fourth: &[u8],
+) -> Result<(), NoMemory> {
+    text.extend_from_slice(first)?;
+    text.extend_from_slice(second)?;
+    text.extend_from_slice(third)?;
+    text.extend_from_slice(fourth)?;
     text.push(b'\n')?;
     Ok(())
 }
@@ -66,36 +80,43 @@ impl Asked {
         assert!(rt; write_fits(op, key, value));
         let said = outcome_words(self.machine.apply(rt.alloc(), op, key, value)?);
         let stamp = self.stamp(rt.alloc())?;
-        let (word, gap) = match op {
-            Op::Put => (b"put ".as_slice(), b" ".as_slice()),
-            Op::Del => (b"del ".as_slice(), b"".as_slice()),
-        };
-        add_line(&mut self.trace, &[word, key, gap, value])?;
-        add_line(
-            &mut self.report,
-            &[word, stamp.as_bytes(), b" ".as_slice(), said],
-        )?;
+        match op {
+            Op::Put => {
+                add_line(&mut self.trace, b"put ", key, b" ", value)?;
+                add_line(&mut self.report, b"put ", stamp.as_bytes(), b" ", said)?;
+            }
+            Op::Del => {
+                add_line(&mut self.trace, b"del ", key, b"", value)?;
+                add_line(&mut self.report, b"del ", stamp.as_bytes(), b" ", said)?;
+            }
+        }
         Ok(())
     }
 
-    /// Adds a get in a round of its own.
+    /// Adds a get.
     fn add_get(&mut self, alloc: Global, key: &[u8]) -> Result<(), Fail> {
         let mut out = ItemBuf::new(alloc)?;
-        let said = match self.machine.answer(key, &mut out) {
-            Answer::Hit => b" hit ".as_slice(),
-            Answer::Miss => b" miss".as_slice(),
-        };
+        let said = answer_words(self.machine.answer(key, &mut out));
         let stamp = self.stamp(alloc)?;
-        let (get, sync) = (b"sync\nget ".as_slice(), b"\nsync".as_slice());
-        add_line(&mut self.trace, &[get, key, sync])?;
+        add_line(&mut self.trace, b"get ", key, b"", b"")?;
         add_line(
             &mut self.report,
-            &[get, stamp.as_bytes(), said, out.value(), sync],
+            b"get ",
+            stamp.as_bytes(),
+            said,
+            out.value(),
         )?;
         Ok(())
     }
 
-    /// Adds a write or a get of one of the keys.
+    /// Adds the end of a round.
+    fn add_sync(&mut self) -> Result<(), NoMemory> {
+        self.trace.extend_from_slice(b"sync\n")?;
+        self.report.extend_from_slice(b"sync\n")?;
+        Ok(())
+    }
+
+    /// Adds a write of one of the keys, or a get of it in a round of its own.
     fn add_drawn(&mut self, rt: &(impl Abort + AllocGlobal), draw: u64) -> Result<(), Fail> {
         let key = KEYS[(draw % 40) as usize];
         match draw / 40 % 8 {
@@ -104,7 +125,12 @@ impl Asked {
                 self.add_write(rt, Op::Put, key, &LETTERS[..len])
             }
             4 => self.add_write(rt, Op::Del, key, b""),
-            _ => self.add_get(rt.alloc(), key),
+            _ => {
+                self.add_sync()?;
+                self.add_get(rt.alloc(), key)?;
+                self.add_sync()?;
+                Ok(())
+            }
         }
     }
 }

@@ -18,8 +18,8 @@ const FOUND: Run = Run {
     ..EMPTY
 };
 
-// What a put leaves for a get, with one partition and with the defaults.
-static RETURNS: [Run; 5] = [
+// What a put leaves for a get, with one partition, with the defaults, and with the largest table.
+static RETURNS: [Run; 6] = [
     EMPTY,
     FOUND,
     Run {
@@ -32,6 +32,10 @@ static RETURNS: [Run; 5] = [
     },
     Run {
         words: "replay --mode=store",
+        ..FOUND
+    },
+    Run {
+        words: "replay --mode store --partitions 1 --buckets 65536 --spares 65536 --words 1048576 --readers 1 --tries 1",
         ..FOUND
     },
 ];
