@@ -1,9 +1,10 @@
 //! Single datagrams through a front that owns its partitions.
+ghost use Rattle.std.specs.Prelude.{◌≤◌};
 
 use crate::datagrams::{BAD_BATCH, BATCH, NO_BATCHES, REPLIES};
 use mica_io::FreeGate;
 use mica_model::{Mode, Options};
-use mica_serve::{SoloFront, serve_batch};
+use mica_serve::{Front, SoloFront, serve_batch};
 use std::process::Abort;
 use std::sync::Wait;
 use std::test::Fail;
@@ -20,27 +21,40 @@ const OPTIONS: Options = Options {
     wear: 68_719_476_736,
 };
 
-// A new front answers the datagram with this one.
-fn expect_reply(
+// The front answers the datagram with this one.
+fn expect_reply<F: Front>(
     rt: &(impl Abort + AllocGlobal + Threads + Wait + Sync),
+    front: &mut F,
     from: &[u8],
     reply: &[u8],
-) -> Result<(), Fail> {
-    let mut front = SoloFront::new(rt.alloc(), &OPTIONS)?;
-    let replies = serve_batch(rt, rt.alloc(), &mut front, from, &FreeGate)?;
+) -> Result<(), Fail>
+    requires { 255 ≤ F.left front.old }
+{
+    let replies = serve_batch(rt, rt.alloc(), front, from, &FreeGate)?;
     assert!(rt; replies.len() == 1 && replies[0].bytes() == reply);
     Ok(())
 }
 
+// A new front answers the datagram with this one.
+fn expect_new(
+    rt: &(impl Abort + AllocGlobal + Threads + Wait + Sync),
+    from: &[u8],
+    reply: &[u8],
+) -> Result<(), Fail> {
+    assert!(rt; OPTIONS.is_valid());
+    let mut front = SoloFront::new(rt.alloc(), &OPTIONS)?;
+    expect_reply(rt, &mut front, from, reply)
+}
+
 #[test]
 fn a_put_and_a_get_are_answered_in_order(rt: HostRuntime) -> Result<(), Fail> {
-    expect_reply(&rt, BATCH, REPLIES)
+    expect_new(&rt, BATCH, REPLIES)
 }
 
 #[test]
 fn what_is_no_batch_is_refused(rt: HostRuntime) -> Result<(), Fail> {
     for from in &NO_BATCHES {
-        expect_reply(&rt, from, BAD_BATCH)?;
+        expect_new(&rt, from, BAD_BATCH)?;
     }
     Ok(())
 }

@@ -1,9 +1,9 @@
 //! Runs of the top call over bytes in memory.
 
-ghost use Rattle.std.specs.Prelude.{◌≡◌};
+ghost use Rattle.std.specs.Prelude.{◌≡◌, false};
 
 use mica_cmd::{Status, mica};
-use mica_io::{FreeGate, Gate, MemNet, MemSink, MemSource, Net, NoMemory};
+use mica_io::{FreeGate, Gate, MemNet, MemSink, MemSource, Net, NoMemory, Sink, Source};
 use partition_table::Tables;
 use std::alloc::Global;
 use std::process::Abort;
@@ -86,20 +86,39 @@ pub fn spelled(alloc: Global, text: &str) -> Result<Vec<u8>, NoMemory> {
     Ok(all)
 }
 
+/// The status of the top call, and how many tables it keeps.
+fn status_of<S: Source, K: Sink, N: Net, G: Gate>(
+    rt: &(impl Abort + AllocGlobal + Threads + Wait + Sync),
+    line: &str,
+    source: &mut S,
+    sink: &mut K,
+    net: &mut N,
+    gate: &G,
+) -> Result<(Status, u32), Fail>
+    requires source { S.has_ended source.old ≡ false }
+    requires net { N.binds net.old ≡ 0 }
+{
+    let alloc = rt.alloc();
+    let words = words_of(alloc, line)?;
+    let mut tables = Tables::new();
+    let words = words.as_slice();
+    let status = mica(rt, alloc, words, source, sink, net, gate, &mut tables);
+    Ok((status, tables.len()))
+}
+
 /// Runs the words over the input and the net.
-pub fn run_over<G: Gate>(
+pub fn run_over<N: Net, G: Gate>(
     rt: &(impl Abort + AllocGlobal + Threads + Wait + Sync),
     outside: &Outside,
     gate: &G,
-    net: &mut MemNet,
+    net: &mut N,
     line: &str,
     input: &[u8],
 ) -> Result<End, Fail>
-    requires { ⟦<MemNet as Net>⟧.binds net.old ≡ 0 }
+    requires { N.binds net.old ≡ 0 }
 {
     assert!(rt; outside.source_piece > 0 && outside.sink_piece > 0);
     let alloc = rt.alloc();
-    let words = words_of(alloc, line)?;
     let mut source = MemSource::new(alloc, input, outside.source_piece, &[outside.source_fails])?;
     let mut sink = MemSink::new(
         alloc,
@@ -107,21 +126,11 @@ pub fn run_over<G: Gate>(
         outside.sink_piece,
         &[outside.sink_fails],
     )?;
-    let mut tables = Tables::new();
-    let status = mica(
-        rt,
-        alloc,
-        words.as_slice(),
-        &mut source,
-        &mut sink,
-        net,
-        gate,
-        &mut tables,
-    );
+    let (status, tables) = status_of(rt, line, &mut source, &mut sink, net, gate)?;
     Ok(End {
         status,
         sink,
-        tables: tables.len(),
+        tables,
     })
 }
 

@@ -17,6 +17,19 @@ static KEYS: [&[u8]; 40] = [
     b"k30", b"k31", b"k32", b"k33", b"k34", b"k35", b"k36", b"k37", b"k38", b"k39",
 ];
 
+// What a report says of the outcomes, in their order.
+static OUTCOMES: [&[u8]; 6] = [
+    b"stored",
+    b"deleted",
+    b"absent",
+    b"full spare",
+    b"full block",
+    b"worn",
+];
+
+// The same of the answers, with what stands around it.
+static ANSWERS: [&[u8]; 2] = [b" hit ", b" miss"];
+
 // Each value is a part of this.
 static LETTERS: [u8; 90] = [b'x'; 90];
 
@@ -29,21 +42,11 @@ struct Asked {
 }
 
 fn outcome_words(outcome: Outcome) -> &'static [u8] {
-    match outcome {
-        Outcome::Stored => b"stored",
-        Outcome::Deleted => b"deleted",
-        Outcome::Absent => b"absent",
-        Outcome::FullSpare => b"full spare",
-        Outcome::FullBlock => b"full block",
-        Outcome::Worn => b"worn",
-    }
+    OUTCOMES[outcome as usize]
 }
 
 fn answer_words(answer: Answer) -> &'static [u8] {
-    match answer {
-        Answer::Hit => b" hit ",
-        Answer::Miss => b" miss",
-    }
+    ANSWERS[answer as usize]
 }
 
 /// Appends the four parts and a line feed.

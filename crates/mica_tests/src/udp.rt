@@ -19,10 +19,10 @@ fn new_end(rt: &(impl Abort + Sockets)) -> (UdpEnd, u16)
 }
 
 /// The end receives this much of the datagram that comes next.
-fn expect_datagram(rt: &impl Abort, end: &mut UdpEnd, given: &[u8])
-    requires { ⟦<UdpEnd as Datagrams>⟧.has_ended end.old ≡ false }
-    ensures open { ⟦<UdpEnd as Datagrams>⟧.has_ended end.new ≡ false }
-    ensures received { ⟦<UdpEnd as Datagrams>⟧.has_received end.new ≡ true }
+fn expect_datagram<D: Datagrams>(rt: &impl Abort, end: &mut D, given: &[u8])
+    requires { D.has_ended end.old ≡ false }
+    ensures open { D.has_ended end.new ≡ false }
+    ensures received { D.has_received end.new ≡ true }
 {
     let mut out = [0; 8];
     let Ok(Some(count)) = end.recv(&mut out) else {
