@@ -1,7 +1,8 @@
 //! Replays of traces in cache mode.
 
-use crate::runs::{Run, expect_output, expect_runs};
+use crate::runs::{OUTSIDE, Run, expect_between, expect_runs, spelled};
 use mica_cmd::Status;
+use mica_io::NoMemory;
 use std::alloc::Global;
 use std::fmt::Write;
 use std::test::Fail;
@@ -149,7 +150,7 @@ static EXTREMES: [Run; 2] = [
         ..EMPTY
     },
     Run {
-        input: "put V(255) V(1024)\n",
+        input: "put (255) (1024)\n",
         output: "put 10616832 stored\n",
         ..EMPTY
     },
@@ -159,8 +160,8 @@ static EXTREMES: [Run; 2] = [
 static PASSED: [Run; 1] = [Run {
     words: SHORT,
     input: "\
-put a V(1000)
-put b V(1000)
+put a (1000)
+put b (1000)
 sync
 get a
 sync
@@ -173,12 +174,12 @@ get b
 put 8388608 stored
 put 16777216 stored
 sync
-get 16777216 hit V(1000)
+get 16777216 hit (1000)
 sync
 put 17039360 stored
 sync
 get 17039360 miss
-get 17039360 hit V(1000)
+get 17039360 hit (1000)
 ",
     ..EMPTY
 }];
@@ -187,8 +188,8 @@ get 17039360 hit V(1000)
 static DEAD_FIRST: [Run; 1] = [Run {
     words: SHORT,
     input: "\
-put a V(1024)
-put b V(560)
+put a (1024)
+put b (560)
 put k01 1
 put k02 1
 put k03 1
@@ -227,7 +228,7 @@ put 16777216 stored
 put 17039360 stored
 sync
 get 17039360 miss
-get 17039360 hit V(560)
+get 17039360 hit (560)
 get 17039360 hit 1
 ",
     ..EMPTY
@@ -263,42 +264,36 @@ fn a_dead_entry_gives_way_first(rt: HostRuntime) -> Result<(), Fail> {
     expect_runs(&rt, &DEAD_FIRST)
 }
 
-// A line for each of so many puts that are kept in place, from this stamp on.
-fn kept_lines(alloc: Global, from: u64, count: u64) -> Result<String, Fail> {
-    let mut text = String::new(alloc);
-    for i in 0..count {
-        let stamp = from.wrapping_add(i);
-        writeln!(text, "put {stamp} stored")?;
+// Two long values, 65,535 puts that are kept in place, one that is not, and a delete.
+fn worn_input(alloc: Global) -> Result<Vec<u8>, NoMemory> {
+    let mut input = spelled(alloc, "put a (1000)\nput b (1000)\n")?;
+    for _ in 0..65_535 {
+        input.extend_from_slice(b"put b 1\n")?;
     }
-    Ok(text)
+    input.extend_from_slice(b"put a 1\ndel b\n")?;
+    Ok(input)
 }
 
-// Two long values, so many puts that are kept, one that is not, and a delete.
-fn worn_input(alloc: Global, kept: usize) -> Result<String, Fail> {
-    let value = "x".repeat(alloc, 1000)?;
-    let value = value.as_str();
-    let kept = "put b 1\n".repeat(alloc, kept)?;
-    let kept = kept.as_str();
-    Ok(format!(in alloc; "put a {value}\nput b {value}\n{kept}put a 1\ndel b\n")?)
-}
-
-fn worn_output(alloc: Global, kept: u64) -> Result<String, Fail> {
-    let lines = kept_lines(alloc, 16_777_217, kept)?;
-    let lines = lines.as_str();
-    Ok(format!(in alloc;
-        "put 8388608 stored\nput 16777216 stored\n{lines}put 17104895 stored\ndel 17104896 deleted\n"
-    )?)
+// Each put that is kept has a stamp of its own.
+fn worn_output(alloc: Global) -> Result<String, Fail> {
+    let mut output = String::from_str(alloc, "put 8388608 stored\nput 16777216 stored\n")?;
+    for stamp in 16_777_217..16_842_752u64 {
+        writeln!(output, "put {stamp} stored")?;
+    }
+    output.push_str("put 17104895 stored\ndel 17104896 deleted\n")?;
+    Ok(output)
 }
 
 // At the next multiple of 65,536 a kept put would be passed at once, so it is appended.
 #[test]
 fn stamps_wear_the_tail(rt: HostRuntime) -> Result<(), Fail> {
-    let input = worn_input(rt.alloc(), 65_535)?;
-    let output = worn_output(rt.alloc(), 65_535)?;
-    expect_output(
+    let input = worn_input(rt.alloc())?;
+    let output = worn_output(rt.alloc())?;
+    expect_between(
         &rt,
+        &OUTSIDE,
         SHORT,
-        input.as_bytes(),
+        input.as_slice(),
         Status::Done,
         output.as_bytes(),
     )

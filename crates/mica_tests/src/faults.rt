@@ -7,7 +7,8 @@ use std::sync::Wait;
 use std::test::Fail;
 use std::thread::Threads;
 
-/// A run over a source whose reads take a byte each. One read or one write fails, by its number from 1.
+/// A run over a source whose reads take a byte each. One read or one write fails, by its number from 1. None fails that
+/// has the number 0.
 #[derive(Clone, Copy)]
 struct Fault {
     words: &'static str,
@@ -20,24 +21,21 @@ struct Fault {
     output: &'static [u8],
 }
 
-// No call of this number is made.
-const NONE: u32 = 1_000_000;
-
 const REPORT: &[u8; 30] = b"put 1 stored\nsync\nget 1 hit 1\n";
 
 /// A run whose writes take a byte each too. Nothing fails.
 const SOUND: Fault = Fault {
     words: "replay --mode store",
     input: b"put a 1\nsync\nget a\n",
-    read: NONE,
-    write: NONE,
+    read: 0,
+    write: 0,
     piece: 1,
     room: 100,
     status: Status::Done,
     output: REPORT,
 };
 
-static FAULTS: [Fault; 11] = [
+static FAULTS: [Fault; 15] = [
     Fault {
         write: 1,
         piece: 4,
@@ -117,7 +115,27 @@ static FAULTS: [Fault; 11] = [
         output: b"",
         ..SOUND
     },
+    // The second write of a generated trace, and that of a summary.
+    Fault {
+        words: "gen --ops 1 --gets 0",
+        write: 2,
+        piece: 4,
+        status: Status::WriteFault,
+        output: b"put ",
+        ..SOUND
+    },
+    Fault {
+        words: "bench --mode store --ops 1",
+        write: 2,
+        piece: 4,
+        status: Status::WriteFault,
+        output: b"line",
+        ..SOUND
+    },
     SOUND,
+    // There are 20 reads and 30 writes.
+    Fault { read: 21, ..SOUND },
+    Fault { write: 31, ..SOUND },
 ];
 
 /// The status of a run with this fault, and what was written until then.
@@ -127,9 +145,9 @@ fn expect_fault(
 ) -> Result<(), Fail> {
     let outside = Outside {
         source_piece: 1,
-        source_fails: &[fault.read],
+        source_fails: fault.read,
         sink_piece: fault.piece,
-        sink_fails: &[fault.write],
+        sink_fails: fault.write,
         room: fault.room,
     };
     expect_between(
@@ -153,29 +171,25 @@ fn a_read_or_a_write_fails(rt: HostRuntime) -> Result<(), Fail> {
 // Each of the 19 bytes is a read, and so is the end.
 #[test]
 fn each_read_fails_in_turn(rt: HostRuntime) -> Result<(), Fail> {
+    let mut fault = SOUND;
+    fault.status = Status::ReadFault;
+    fault.output = b"read fault\n";
     for read in 1..21 {
-        let fault = Fault {
-            read,
-            status: Status::ReadFault,
-            output: b"read fault\n",
-            ..SOUND
-        };
+        fault.read = read;
         expect_fault(&rt, &fault)?;
     }
-    expect_fault(&rt, &Fault { read: 21, ..SOUND })
+    Ok(())
 }
 
 // Each of the 30 bytes is a write. The bytes before the one that fails are taken.
 #[test]
 fn each_write_fails_in_turn(rt: HostRuntime) -> Result<(), Fail> {
+    let mut fault = SOUND;
+    fault.status = Status::WriteFault;
     for taken in 0..30u32 {
-        let fault = Fault {
-            write: taken + 1,
-            status: Status::WriteFault,
-            output: &REPORT[..taken as usize],
-            ..SOUND
-        };
+        fault.write = taken + 1;
+        fault.output = &REPORT[..taken as usize];
         expect_fault(&rt, &fault)?;
     }
-    expect_fault(&rt, &Fault { write: 31, ..SOUND })
+    Ok(())
 }

@@ -13,11 +13,9 @@ mod datagrams;
 #[cfg(test)]
 mod faults;
 #[cfg(test)]
-mod fronts;
-#[cfg(test)]
-mod generated_runs;
-#[cfg(test)]
 mod generated_traces;
+#[cfg(test)]
+mod meeting;
 #[cfg(test)]
 mod refused_traces;
 #[cfg(test)]

@@ -1,6 +1,6 @@
-//! Inputs that are no trace, and inputs at the limits of a trace.
+//! Inputs that are no trace, inputs at the limits of a trace, and a trace that is cut.
 
-use crate::runs::{Run, expect_output, expect_runs};
+use crate::runs::{OUTSIDE, Run, expect_between, expect_runs};
 use mica_cmd::Status;
 use std::process::Abort;
 use std::sync::Wait;
@@ -102,31 +102,183 @@ static BAD_LINES: [Run; 20] = [
 
 static LONG_LINES: [Run; 6] = [
     Run {
-        input: "put a V(1025)\nget\n",
+        input: "put a (1025)\nget\n",
         ..BAD
     },
     Run {
-        input: "put a V(1278)\nget\n",
+        input: "put a (1278)\nget\n",
         ..BAD
     },
     Run {
-        input: "put a V(1279)\nget\n",
+        input: "put a (1279)\nget\n",
         output: "long line 1\n",
         ..BAD
     },
     Run {
-        input: "get V(256)\nget\n",
+        input: "get (256)\nget\n",
         ..BAD
     },
     Run {
-        input: "get V(1281)\nget\n",
+        input: "get (1281)\nget\n",
         output: "long line 1\n",
         ..BAD
     },
     Run {
-        input: "V(2000)\nget\n",
+        input: "(2000)\nget\n",
         output: "long line 1\n",
         ..BAD
+    },
+];
+
+// Bytes without a line feed, as many as a source may give, and one more.
+static LONG_INPUTS: [Run; 2] = [
+    Run {
+        input: "(16777216)",
+        output: "long line 1\n",
+        ..BAD
+    },
+    Run {
+        input: "(16777217)",
+        status: Status::TraceLong,
+        output: "trace too long\n",
+        ..BAD
+    },
+];
+
+const TAKEN: Run = Run {
+    words: STORE,
+    input: "",
+    status: Status::Done,
+    output: "",
+};
+
+// A trace that is cut at each of its bytes. A line may lack its feed at the end.
+static CUT: [Run; 20] = [
+    TAKEN,
+    Run { input: "p", ..BAD },
+    Run { input: "pu", ..BAD },
+    Run {
+        input: "put",
+        ..BAD
+    },
+    Run {
+        input: "put ",
+        ..BAD
+    },
+    Run {
+        input: "put a",
+        ..BAD
+    },
+    Run {
+        input: "put a ",
+        output: "put 1 stored\n",
+        ..TAKEN
+    },
+    Run {
+        input: "put a 1",
+        output: "put 1 stored\n",
+        ..TAKEN
+    },
+    Run {
+        input: "put a 1\n",
+        output: "put 1 stored\n",
+        ..TAKEN
+    },
+    Run {
+        input: "put a 1\ns",
+        output: "bad line 2\n",
+        ..BAD
+    },
+    Run {
+        input: "put a 1\nsy",
+        output: "bad line 2\n",
+        ..BAD
+    },
+    Run {
+        input: "put a 1\nsyn",
+        output: "bad line 2\n",
+        ..BAD
+    },
+    Run {
+        input: "put a 1\nsync",
+        output: "put 1 stored\nsync\n",
+        ..TAKEN
+    },
+    Run {
+        input: "put a 1\nsync\n",
+        output: "put 1 stored\nsync\n",
+        ..TAKEN
+    },
+    Run {
+        input: "put a 1\nsync\ng",
+        output: "bad line 3\n",
+        ..BAD
+    },
+    Run {
+        input: "put a 1\nsync\nge",
+        output: "bad line 3\n",
+        ..BAD
+    },
+    Run {
+        input: "put a 1\nsync\nget",
+        output: "bad line 3\n",
+        ..BAD
+    },
+    Run {
+        input: "put a 1\nsync\nget ",
+        output: "bad line 3\n",
+        ..BAD
+    },
+    Run {
+        input: "put a 1\nsync\nget a",
+        output: "put 1 stored\nsync\nget 1 hit 1\n",
+        ..TAKEN
+    },
+    Run {
+        input: "put a 1\nsync\nget a\n",
+        output: "put 1 stored\nsync\nget 1 hit 1\n",
+        ..TAKEN
+    },
+];
+
+/// Like lines, and what they give: this text so many times.
+struct Like {
+    line: &'static str,
+    lines: u32,
+    status: Status,
+    output: &'static str,
+    times: u32,
+}
+
+// As many rounds and lines as a trace may have, and one more.
+static LIKE: [Like; 4] = [
+    Like {
+        line: "sync\n",
+        lines: 4_095,
+        status: Status::Done,
+        output: "sync\n",
+        times: 4_095,
+    },
+    Like {
+        line: "sync\n",
+        lines: 4_096,
+        status: Status::TraceRefused,
+        output: "too many rounds\n",
+        times: 1,
+    },
+    Like {
+        line: "get a\n",
+        lines: 100_000,
+        status: Status::Done,
+        output: "get 0 miss\n",
+        times: 100_000,
+    },
+    Like {
+        line: "get a\n",
+        lines: 100_001,
+        status: Status::TraceRefused,
+        output: "too many lines\n",
+        times: 1,
     },
 ];
 
@@ -140,81 +292,37 @@ fn long_lines(rt: HostRuntime) -> Result<(), Fail> {
     expect_runs(&rt, &LONG_LINES)
 }
 
-/// So many like lines give this.
-fn expect_lines(
-    rt: &(impl Abort + AllocGlobal + Threads + Wait + Sync),
-    line: &str,
-    count: usize,
-    status: Status,
-    output: &str,
-) -> Result<(), Fail> {
-    let input = line.repeat(rt.alloc(), count)?;
-    expect_output(rt, STORE, input.as_bytes(), status, output.as_bytes())
-}
-
-#[test]
-fn rounds_at_their_limit(rt: HostRuntime) -> Result<(), Fail> {
-    let report = "sync\n".repeat(rt.alloc(), 4095)?;
-    expect_lines(&rt, "sync\n", 4095, Status::Done, report.as_str())?;
-    expect_lines(
-        &rt,
-        "sync\n",
-        4096,
-        Status::TraceRefused,
-        "too many rounds\n",
-    )
-}
-
-#[test]
-fn lines_at_their_limit(rt: HostRuntime) -> Result<(), Fail> {
-    let report = "get 0 miss\n".repeat(rt.alloc(), 100_000)?;
-    expect_lines(&rt, "get a\n", 100_000, Status::Done, report.as_str())?;
-    expect_lines(
-        &rt,
-        "get a\n",
-        100_001,
-        Status::TraceRefused,
-        "too many lines\n",
-    )
-}
-
-/// So many bytes without a line feed give this.
-fn expect_bytes(
-    rt: &(impl Abort + AllocGlobal + Threads + Wait + Sync),
-    count: usize,
-    status: Status,
-    output: &[u8],
-) -> Result<(), Fail> {
-    let input = vec![in rt.alloc(); b'x'; count]?;
-    expect_output(rt, STORE, input.as_slice(), status, output)
-}
-
 #[test]
 fn bytes_at_their_limit(rt: HostRuntime) -> Result<(), Fail> {
-    expect_bytes(&rt, 16_777_216, Status::TraceRefused, b"long line 1\n")?;
-    expect_bytes(&rt, 16_777_217, Status::TraceLong, b"trace too long\n")
-}
-
-const WHOLE: &[u8; 19] = b"put a 1\nsync\nget a\n";
-
-/// How a run of the trace ends that is cut to this length. A line may lack its feed at the end.
-fn end_of_prefix(len: usize) -> (Status, &'static str) {
-    match len {
-        0 => (Status::Done, ""),
-        1..=5 => (Status::TraceRefused, "bad line 1\n"),
-        6..=8 => (Status::Done, "put 1 stored\n"),
-        9..=11 => (Status::TraceRefused, "bad line 2\n"),
-        12..=13 => (Status::Done, "put 1 stored\nsync\n"),
-        14..=17 => (Status::TraceRefused, "bad line 3\n"),
-        _ => (Status::Done, "put 1 stored\nsync\nget 1 hit 1\n"),
-    }
+    expect_runs(&rt, &LONG_INPUTS)
 }
 
 #[test]
 fn a_trace_is_cut_at_each_byte(rt: HostRuntime) -> Result<(), Fail> {
-    for len in 0..20usize {
-        let (status, output) = end_of_prefix(len);
-        expect_output(&rt, STORE, &WHOLE[..len], status, output.as_bytes())?;
+    expect_runs(&rt, &CUT)
+}
+
+/// The run over like lines.
+fn expect_like(
+    rt: &(impl Abort + AllocGlobal + Threads + Wait + Sync),
+    like: &Like,
+) -> Result<(), Fail> {
+    let input = like.line.repeat(rt.alloc(), like.lines as usize)?;
+    let output = like.output.repeat(rt.alloc(), like.times as usize)?;
+    expect_between(
+        rt,
+        &OUTSIDE,
+        STORE,
+        input.as_bytes(),
+        like.status,
+        output.as_bytes(),
+    )
+}
+
+#[test]
+fn rounds_and_lines_at_their_limit(rt: HostRuntime) -> Result<(), Fail> {
+    for like in &LIKE {
+        expect_like(&rt, like)?;
     }
     Ok(())
 }

@@ -1,13 +1,14 @@
 //! Words that are no command's, and words that are.
 
-use crate::runs::expect_output;
+use crate::runs::{OUTSIDE, expect_between};
 use mica_cmd::Status;
 use std::process::Abort;
 use std::sync::Wait;
 use std::test::Fail;
 use std::thread::Threads;
 
-static REFUSED: [&str; 16] = [
+static REFUSED: [&str; 84] = [
+    // No command, or one with no options.
     "",
     " ",
     "repla",
@@ -24,9 +25,7 @@ static REFUSED: [&str; 16] = [
     "serve --mode store --port 80 --batches 1",
     "gen --ops 0",
     "bench",
-];
-
-static REFUSED_SHAPES: [&str; 24] = [
+    // Options that are none of the command's, or not in its form.
     "replay --mode",
     "replay --mode=",
     "replay --mode --words 256",
@@ -51,9 +50,7 @@ static REFUSED_SHAPES: [&str; 24] = [
     "replay --mode store --colour red",
     "replay --mode store --seed 1",
     "replay --mode store --port 9000",
-];
-
-static REFUSED_VALUES: [&str; 32] = [
+    // Values out of their ranges, or no numbers.
     "replay --mode Store",
     "replay --mode stor",
     "replay --mode=store=store",
@@ -86,6 +83,19 @@ static REFUSED_VALUES: [&str; 32] = [
     "replay --mode store --wear 18446744073709551616",
     "replay --mode store --wear 18446744073709551617",
     "replay --mode store --wear 100000000000000000000000000000001",
+    // Generated traces with such options and values, or with values that are not valid together.
+    "gen --mode store",
+    "gen --seed 18446744073709551616",
+    "gen --ops 0",
+    "gen --ops 100001",
+    "gen --key-len 7",
+    "gen --value-len 1025",
+    "gen --every 0",
+    "gen --gets 60 --dels 41",
+    "gen --ops 100000 --every 1000",
+    "gen --ops 4097 --every 1",
+    "gen --ops 100000 --every 100000 --key-len 128 --value-len 1024",
+    "bench --seed 7",
 ];
 
 static ACCEPTED: [&str; 6] = [
@@ -105,27 +115,17 @@ fn expect_lines(
     output: &[u8],
 ) -> Result<(), Fail> {
     for line in lines {
-        expect_output(rt, line, b"get a\n", status, output)?;
+        expect_between(rt, &OUTSIDE, line, b"get a\n", status, output)?;
     }
     Ok(())
 }
 
 #[test]
-fn no_command(rt: HostRuntime) -> Result<(), Fail> {
+fn words_that_are_no_command_are_refused(rt: HostRuntime) -> Result<(), Fail> {
     expect_lines(&rt, &REFUSED, Status::Usage, b"usage\n")
 }
 
 #[test]
-fn no_options(rt: HostRuntime) -> Result<(), Fail> {
-    expect_lines(&rt, &REFUSED_SHAPES, Status::Usage, b"usage\n")
-}
-
-#[test]
-fn no_values(rt: HostRuntime) -> Result<(), Fail> {
-    expect_lines(&rt, &REFUSED_VALUES, Status::Usage, b"usage\n")
-}
-
-#[test]
-fn a_command_and_its_options(rt: HostRuntime) -> Result<(), Fail> {
+fn a_command_and_its_options_are_taken(rt: HostRuntime) -> Result<(), Fail> {
     expect_lines(&rt, &ACCEPTED, Status::Done, b"get 0 miss\n")
 }

@@ -1,9 +1,9 @@
 //! Runs of the top call over bytes in memory.
 
-ghost use Rattle.std.specs.Prelude.{◌≡◌};
+ghost use Rattle.std.specs.Prelude.{◌≡◌, false};
 
 use mica_cmd::{Status, mica};
-use mica_io::{FreeGate, Gate, MemNet, MemSink, MemSource, Net, NoMemory};
+use mica_io::{FreeGate, Gate, MemNet, MemSink, MemSource, Net, NoMemory, Sink, Source};
 use partition_table::Tables;
 use std::alloc::Global;
 use std::process::Abort;
@@ -11,7 +11,7 @@ use std::sync::Wait;
 use std::test::Fail;
 use std::thread::Threads;
 
-/// A run, and how it ends. The words are parted by one space. In the input and the output `V(n)` stands for `n` letters
+/// A run, and how it ends. The words are parted by one space. In the input and the output `(n)` stands for `n` letters
 /// `x`.
 pub struct Run {
     pub words: &'static str,
@@ -20,22 +20,33 @@ pub struct Run {
     pub output: &'static str,
 }
 
-/// How a run ended, and what it wrote.
+/// How a run ended, what it wrote, and how many tables it kept.
 #[derive(Drop)]
 pub struct End {
     pub status: Status,
     pub sink: MemSink,
+    pub tables: u32,
 }
 
-/// How the outside moves bytes, and the calls on it that fail, by their numbers from 1.
+/// How the outside moves bytes, and the number of the read and of the write that fails, from 1. None fails that has
+/// the number 0.
 #[derive(Clone, Copy)]
-pub struct Outside<'a> {
+pub struct Outside {
     pub source_piece: u32,
-    pub source_fails: &'a [u32],
+    pub source_fails: u32,
     pub sink_piece: u32,
-    pub sink_fails: &'a [u32],
+    pub sink_fails: u32,
     pub room: u32,
 }
+
+/// An outside that moves some bytes at a time, and never fails.
+pub const OUTSIDE: Outside = Outside {
+    source_piece: 4093,
+    source_fails: 0,
+    sink_piece: 1021,
+    sink_fails: 0,
+    room: 2_000_000,
+};
 
 /// The words of a command line that are parted by one space.
 fn words_of(alloc: Global, line: &str) -> Result<Vec<String>, NoMemory> {
@@ -49,57 +60,84 @@ fn words_of(alloc: Global, line: &str) -> Result<Vec<String>, NoMemory> {
     Ok(words)
 }
 
-/// The text with each `V(n)` spelled out.
-fn spelled(alloc: Global, text: &str) -> Result<String, NoMemory> {
-    let mut all = String::new(alloc);
-    let mut is_first = true;
-    for part in text.split("V(") {
-        match part.split_once(')') {
-            Some((count, rest)) if !is_first => {
-                let value = "x".repeat(alloc, count.parse::<usize>().unwrap_or(0))?;
-                all.push_str(value.as_str())?;
-                all.push_str(rest)?;
+/// The text with each `(n)` spelled out.
+pub fn spelled(alloc: Global, text: &str) -> Result<Vec<u8>, NoMemory> {
+    let mut all = Vec::new(alloc);
+    let mut is_count = false;
+    let mut count = 0u32;
+    for &byte in text.as_bytes() {
+        match byte {
+            b'(' => is_count = true,
+            b')' => {
+                for _ in 0..count {
+                    all.push(b'x')?;
+                }
+                is_count = false;
+                count = 0;
             }
-            _ => all.push_str(part)?,
+            b'0'..=b'9' if is_count => {
+                count = count
+                    .saturating_mul(10)
+                    .saturating_add(u32::from(byte - b'0'));
+            }
+            _ => all.push(byte)?,
         }
-        is_first = false;
     }
     Ok(all)
 }
 
-/// Runs the words over the input and the net.
-pub fn run_over<G: Gate>(
+/// The status of the top call, and how many tables it keeps.
+fn status_of<S: Source, K: Sink, N: Net, G: Gate>(
     rt: &(impl Abort + AllocGlobal + Threads + Wait + Sync),
-    outside: &Outside<'_>,
+    line: &str,
+    source: &mut S,
+    sink: &mut K,
+    net: &mut N,
     gate: &G,
-    net: &mut MemNet,
+) -> Result<(Status, u32), Fail>
+    requires source { S.has_ended source.old ≡ false }
+    requires net { N.binds net.old ≡ 0 }
+{
+    let alloc = rt.alloc();
+    let words = words_of(alloc, line)?;
+    let mut tables = Tables::new();
+    let words = words.as_slice();
+    let status = mica(rt, alloc, words, source, sink, net, gate, &mut tables);
+    Ok((status, tables.len()))
+}
+
+/// Runs the words over the input and the net.
+pub fn run_over<N: Net, G: Gate>(
+    rt: &(impl Abort + AllocGlobal + Threads + Wait + Sync),
+    outside: &Outside,
+    gate: &G,
+    net: &mut N,
     line: &str,
     input: &[u8],
 ) -> Result<End, Fail>
-    requires { ⟦<MemNet as Net>⟧.binds net.old ≡ 0 }
+    requires { N.binds net.old ≡ 0 }
 {
     assert!(rt; outside.source_piece > 0 && outside.sink_piece > 0);
     let alloc = rt.alloc();
-    let words = words_of(alloc, line)?;
-    let mut source = MemSource::new(alloc, input, outside.source_piece, outside.source_fails)?;
-    let mut sink = MemSink::new(alloc, outside.room, outside.sink_piece, outside.sink_fails)?;
-    let status = mica(
-        rt,
+    let mut source = MemSource::new(alloc, input, outside.source_piece, &[outside.source_fails])?;
+    let mut sink = MemSink::new(
         alloc,
-        words.as_slice(),
-        &mut source,
-        &mut sink,
-        net,
-        gate,
-        &mut Tables::new(),
-    );
-    Ok(End { status, sink })
+        outside.room,
+        outside.sink_piece,
+        &[outside.sink_fails],
+    )?;
+    let (status, tables) = status_of(rt, line, &mut source, &mut sink, net, gate)?;
+    Ok(End {
+        status,
+        sink,
+        tables,
+    })
 }
 
 /// Runs the words over the input, and over a net that has no port.
 pub fn run_words<G: Gate>(
     rt: &(impl Abort + AllocGlobal + Threads + Wait + Sync),
-    outside: &Outside<'_>,
+    outside: &Outside,
     gate: &G,
     line: &str,
     input: &[u8],
@@ -110,15 +148,24 @@ pub fn run_words<G: Gate>(
 
 /// Compares the status and all that was written.
 pub fn expect_end(rt: &impl Abort, line: &str, end: &End, status: Status, output: &[u8]) {
-    let found = end.status;
-    assert!(rt; found == status, "{line}: {found:?}");
-    assert!(rt; end.sink.taken() == output, "{line}: other bytes");
+    let is_end = end.status == status && end.sink.taken() == output;
+    assert!(rt; is_end, "{line}");
+}
+
+/// Whether this is one of the wanted.
+pub fn is_one_of(found: &[u8], wanted: &[&[u8]]) -> bool {
+    for one in wanted {
+        if found == *one {
+            return true;
+        }
+    }
+    false
 }
 
 /// Runs the words over the input, and compares the status and all that was written.
 pub fn expect_between(
     rt: &(impl Abort + AllocGlobal + Threads + Wait + Sync),
-    outside: &Outside<'_>,
+    outside: &Outside,
     line: &str,
     input: &[u8],
     status: Status,
@@ -129,35 +176,15 @@ pub fn expect_between(
     Ok(())
 }
 
-/// The same over an outside that moves some bytes at a time, and never fails.
-pub fn expect_output(
-    rt: &(impl Abort + AllocGlobal + Threads + Wait + Sync),
-    line: &str,
-    input: &[u8],
-    status: Status,
-    output: &[u8],
-) -> Result<(), Fail> {
-    let outside = Outside {
-        source_piece: 4093,
-        source_fails: &[],
-        sink_piece: 1021,
-        sink_fails: &[],
-        room: 2_000_000,
-    };
-    expect_between(rt, &outside, line, input, status, output)
-}
-
-/// The same over an outside that moves few bytes at a time.
+/// The same for a row, over an outside that moves few bytes at a time.
 fn expect_run(
     rt: &(impl Abort + AllocGlobal + Threads + Wait + Sync),
     run: &Run,
 ) -> Result<(), Fail> {
     let outside = Outside {
         source_piece: 7,
-        source_fails: &[],
         sink_piece: 5,
-        sink_fails: &[],
-        room: 65_536,
+        ..OUTSIDE
     };
     let input = spelled(rt.alloc(), run.input)?;
     let output = spelled(rt.alloc(), run.output)?;
@@ -165,9 +192,9 @@ fn expect_run(
         rt,
         &outside,
         run.words,
-        input.as_bytes(),
+        input.as_slice(),
         run.status,
-        output.as_bytes(),
+        output.as_slice(),
     )
 }
 

@@ -1,134 +1,141 @@
 //! A replay in cache mode and the plain machine of cache mode, on the same drawn writes and gets.
 
-use crate::runs::expect_output;
+use crate::runs::{OUTSIDE, expect_between};
 use mica_cmd::Status;
+use mica_io::NoMemory;
 use mica_model::{Answer, CacheMachine, ItemBuf, Mode, Op, Options, Outcome, write_fits};
 use std::alloc::Global;
-use std::fmt::Write;
 use std::process::Abort;
 use std::sync::Wait;
 use std::test::Fail;
 use std::thread::Threads;
 
-/// A trace, and what the machine says to it, as a report.
+static KEYS: [&[u8]; 40] = [
+    b"k0", b"k1", b"k2", b"k3", b"k4", b"k5", b"k6", b"k7", b"k8", b"k9", //
+    b"k10", b"k11", b"k12", b"k13", b"k14", b"k15", b"k16", b"k17", b"k18", b"k19", //
+    b"k20", b"k21", b"k22", b"k23", b"k24", b"k25", b"k26", b"k27", b"k28", b"k29", //
+    b"k30", b"k31", b"k32", b"k33", b"k34", b"k35", b"k36", b"k37", b"k38", b"k39",
+];
+
+// What a report says of the outcomes, in their order.
+static OUTCOMES: [&[u8]; 6] = [
+    b"stored",
+    b"deleted",
+    b"absent",
+    b"full spare",
+    b"full block",
+    b"worn",
+];
+
+// The same of the answers, with what stands around it.
+static ANSWERS: [&[u8]; 2] = [b" hit ", b" miss"];
+
+// Each value is a part of this.
+static LETTERS: [u8; 90] = [b'x'; 90];
+
+/// A machine, a trace, and what the machine says to it, as a report.
 #[derive(Drop)]
-struct Texts {
-    trace: String,
-    report: String,
+struct Asked {
+    machine: CacheMachine,
+    trace: Vec<u8>,
+    report: Vec<u8>,
 }
 
-fn outcome_words(outcome: Outcome) -> &'static str {
-    match outcome {
-        Outcome::Stored => "stored",
-        Outcome::Deleted => "deleted",
-        Outcome::Absent => "absent",
-        Outcome::FullSpare => "full spare",
-        Outcome::FullBlock => "full block",
-        Outcome::Worn => "worn",
+fn outcome_words(outcome: Outcome) -> &'static [u8] {
+    OUTCOMES[outcome as usize]
+}
+
+fn answer_words(answer: Answer) -> &'static [u8] {
+    ANSWERS[answer as usize]
+}
+
+/// Appends the four parts and a line feed.
+fn add_line(
+    text: &mut Vec<u8>,
+    first: &[u8],
+    second: &[u8],
+    third: &[u8],
+    fourth: &[u8],
+) -> Result<(), NoMemory> {
+    text.extend_from_slice(first)?;
+    text.extend_from_slice(second)?;
+    text.extend_from_slice(third)?;
+    text.extend_from_slice(fourth)?;
+    text.push(b'\n')?;
+    Ok(())
+}
+
+impl Asked {
+    /// The machine's stamp, as text.
+    fn stamp(&self, alloc: Global) -> Result<String, Fail> {
+        let stamp = self.machine.stamp();
+        Ok(format!(in alloc; "{stamp}")?)
     }
-}
 
-fn apply(
-    rt: &impl Abort,
-    alloc: Global,
-    machine: &mut CacheMachine,
-    op: Op,
-    key: &str,
-    value: &str,
-) -> Result<&'static str, Fail> {
-    assert!(rt; write_fits(op, key.as_bytes(), value.as_bytes()));
-    let outcome = machine.apply(alloc, op, key.as_bytes(), value.as_bytes())?;
-    Ok(outcome_words(outcome))
-}
-
-fn add_put(
-    rt: &impl Abort,
-    alloc: Global,
-    machine: &mut CacheMachine,
-    texts: &mut Texts,
-    key: &str,
-    value: &str,
-) -> Result<(), Fail> {
-    let outcome = apply(rt, alloc, machine, Op::Put, key, value)?;
-    let stamp = machine.stamp();
-    writeln!(texts.trace, "put {key} {value}")?;
-    writeln!(texts.report, "put {stamp} {outcome}")?;
-    Ok(())
-}
-
-fn add_del(
-    rt: &impl Abort,
-    alloc: Global,
-    machine: &mut CacheMachine,
-    texts: &mut Texts,
-    key: &str,
-) -> Result<(), Fail> {
-    let outcome = apply(rt, alloc, machine, Op::Del, key, "")?;
-    let stamp = machine.stamp();
-    writeln!(texts.trace, "del {key}")?;
-    writeln!(texts.report, "del {stamp} {outcome}")?;
-    Ok(())
-}
-
-// A get in a round of its own. Each value is of `x` alone.
-fn add_get(
-    alloc: Global,
-    machine: &CacheMachine,
-    texts: &mut Texts,
-    key: &str,
-) -> Result<(), Fail> {
-    writeln!(texts.trace, "sync\nget {key}\nsync")?;
-    let stamp = machine.stamp();
-    let mut out = ItemBuf::new(alloc)?;
-    match machine.answer(key.as_bytes(), &mut out) {
-        Answer::Hit => {
-            let value = "x".repeat(alloc, out.value().len().min(1024))?;
-            let value = value.as_str();
-            writeln!(texts.report, "sync\nget {stamp} hit {value}\nsync")?;
+    /// Adds a write. A delete has no value.
+    fn add_write(
+        &mut self,
+        rt: &(impl Abort + AllocGlobal),
+        op: Op,
+        key: &[u8],
+        value: &[u8],
+    ) -> Result<(), Fail> {
+        assert!(rt; write_fits(op, key, value));
+        let said = outcome_words(self.machine.apply(rt.alloc(), op, key, value)?);
+        let stamp = self.stamp(rt.alloc())?;
+        match op {
+            Op::Put => {
+                add_line(&mut self.trace, b"put ", key, b" ", value)?;
+                add_line(&mut self.report, b"put ", stamp.as_bytes(), b" ", said)?;
+            }
+            Op::Del => {
+                add_line(&mut self.trace, b"del ", key, b"", value)?;
+                add_line(&mut self.report, b"del ", stamp.as_bytes(), b" ", said)?;
+            }
         }
-        Answer::Miss => writeln!(texts.report, "sync\nget {stamp} miss\nsync")?,
+        Ok(())
     }
-    Ok(())
-}
 
-// A write or a get of one of 40 keys.
-fn add_drawn(
-    rt: &(impl Abort + AllocGlobal),
-    machine: &mut CacheMachine,
-    texts: &mut Texts,
-    draw: u64,
-) -> Result<(), Fail> {
-    let alloc = rt.alloc();
-    let number = draw % 40;
-    let key = format!(in alloc; "k{number}")?;
-    match draw / 40 % 8 {
-        0 | 1 | 2 | 3 => {
-            let value = "x".repeat(alloc, (draw / 320 % 90) as usize)?;
-            add_put(rt, alloc, machine, texts, key.as_str(), value.as_str())
+    /// Adds a get.
+    fn add_get(&mut self, alloc: Global, key: &[u8]) -> Result<(), Fail> {
+        let mut out = ItemBuf::new(alloc)?;
+        let said = answer_words(self.machine.answer(key, &mut out));
+        let stamp = self.stamp(alloc)?;
+        add_line(&mut self.trace, b"get ", key, b"", b"")?;
+        add_line(
+            &mut self.report,
+            b"get ",
+            stamp.as_bytes(),
+            said,
+            out.value(),
+        )?;
+        Ok(())
+    }
+
+    /// Adds the end of a round.
+    fn add_sync(&mut self) -> Result<(), NoMemory> {
+        self.trace.extend_from_slice(b"sync\n")?;
+        self.report.extend_from_slice(b"sync\n")?;
+        Ok(())
+    }
+
+    /// Adds a write of one of the keys, or a get of it in a round of its own.
+    fn add_drawn(&mut self, rt: &(impl Abort + AllocGlobal), draw: u64) -> Result<(), Fail> {
+        let key = KEYS[(draw % 40) as usize];
+        match draw / 40 % 8 {
+            0..=3 => {
+                let len = (draw / 320 % 90) as usize;
+                self.add_write(rt, Op::Put, key, &LETTERS[..len])
+            }
+            4 => self.add_write(rt, Op::Del, key, b""),
+            _ => {
+                self.add_sync()?;
+                self.add_get(rt.alloc(), key)?;
+                self.add_sync()?;
+                Ok(())
+            }
         }
-        4 => add_del(rt, alloc, machine, texts, key.as_str()),
-        _ => add_get(alloc, machine, texts, key.as_str()),
     }
-}
-
-// So many drawn writes and gets.
-fn drawn_texts(
-    rt: &(impl Abort + AllocGlobal),
-    machine: &mut CacheMachine,
-    count: u32,
-) -> Result<Texts, Fail> {
-    let mut texts = Texts {
-        trace: String::new(rt.alloc()),
-        report: String::new(rt.alloc()),
-    };
-    let mut state = 1u64;
-    for _ in 0..count {
-        state = state
-            .wrapping_mul(6_364_136_223_846_793_005)
-            .wrapping_add(1_442_695_040_888_963_407);
-        add_drawn(rt, machine, &mut texts, (state >> 33) % 0x4000_0000)?;
-    }
-    Ok(texts)
 }
 
 const OPTIONS: Options = Options {
@@ -147,8 +154,19 @@ const WORDS: &str =
 
 #[test]
 fn a_replay_says_what_the_machine_says(rt: HostRuntime) -> Result<(), Fail> {
-    let mut machine = CacheMachine::new(rt.alloc(), &OPTIONS)?;
-    let texts = drawn_texts(&rt, &mut machine, 4000)?;
-    let (trace, report) = (texts.trace.as_bytes(), texts.report.as_bytes());
-    expect_output(&rt, WORDS, trace, Status::Done, report)
+    let alloc = rt.alloc();
+    let mut asked = Asked {
+        machine: CacheMachine::new(alloc, &OPTIONS)?,
+        trace: Vec::new(alloc),
+        report: Vec::new(alloc),
+    };
+    let mut state = 1u64;
+    for _ in 0..4000 {
+        state = state
+            .wrapping_mul(6_364_136_223_846_793_005)
+            .wrapping_add(1_442_695_040_888_963_407);
+        asked.add_drawn(&rt, (state >> 33) % 0x4000_0000)?;
+    }
+    let (trace, report) = (asked.trace.as_slice(), asked.report.as_slice());
+    expect_between(&rt, &OUTSIDE, WORDS, trace, Status::Done, report)
 }

@@ -18,8 +18,8 @@ const FOUND: Run = Run {
     ..EMPTY
 };
 
-// What a put leaves for a get, with one partition and with the defaults.
-static RETURNS: [Run; 5] = [
+// What a put leaves for a get, with one partition, with the defaults, and with the largest table.
+static RETURNS: [Run; 6] = [
     EMPTY,
     FOUND,
     Run {
@@ -32,6 +32,10 @@ static RETURNS: [Run; 5] = [
     },
     Run {
         words: "replay --mode=store",
+        ..FOUND
+    },
+    Run {
+        words: "replay --mode store --partitions 1 --buckets 65536 --spares 65536 --words 1048576 --readers 1 --tries 1",
         ..FOUND
     },
 ];
@@ -338,8 +342,8 @@ static FULL: [Run; 2] = [
     Run {
         words: SMALL,
         input: "\
-put a V(1024)
-put b V(1024)
+put a (1024)
+put b (1024)
 sync
 get b
 ",
@@ -354,13 +358,13 @@ get 1 miss
     Run {
         words: SMALL,
         input: "\
-put a V(488)
-put b V(488)
-put c V(488)
-put d V(488)
+put a (488)
+put b (488)
+put c (488)
+put d (488)
 del a
 del c
-put e V(700)
+put e (700)
 ",
         output: "\
 put 1 stored
