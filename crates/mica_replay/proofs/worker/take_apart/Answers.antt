@@ -1,6 +1,22 @@
 use Rattle.std.proofs.Common.{arith, length-append, ◌∷◌, [], ◌∙◌, sym, ap, ◌++◌}
+use Rattle.std.proofs.lemmas.Iterator.Adapters.{YieldsList-from_vec}
+use Rattle.std.proofs.lemmas.Iterator.Consumers.{YieldsList-turn}
 use Rattle.mica_replay.proofs.WorkerParts.{readers_push, readers_same, readers_fed, owners_push, owners_same, owners_fed, senders_reader, senders_owner, senders_fed}
 use Rattle.mica_replay.proofs.worker.take_apart.Goals as goal
+
+pub push_reserved-requires : goal.push_reserved-requires
+push_reserved-requires g c =
+    let began = c.into_iter-worker-iterator.ensures.into_iter_gives in
+    let all = YieldsList-from_vec c.args.workers.items began.0 (omega (arith, began.1, c.args.workers.ok)) in
+    let turn = YieldsList-turn all c.loop-worker.yielded c.loop-worker.worker-iterator c.loop-worker.yielded_by c.next.result c.next.new.self c.in-Some.worker c.in-Some.is c.next.ensures.steps in
+    omega (arith, turn.0, c.args.workers.ok, c.loop-worker.invariant.readers_len, c.loop-worker.invariant.readers_room)
+
+pub push_reserved-requires-in-Owner : goal.push_reserved-requires-in-Owner
+push_reserved-requires-in-Owner g c =
+    let began = c.into_iter-worker-iterator.ensures.into_iter_gives in
+    let all = YieldsList-from_vec c.args.workers.items began.0 (omega (arith, began.1, c.args.workers.ok)) in
+    let turn = YieldsList-turn all c.loop-worker.yielded c.loop-worker.worker-iterator c.loop-worker.yielded_by c.next.result c.next.new.self c.in-Some.worker c.in-Some.is c.next.ensures.steps in
+    omega (arith, turn.0, c.args.workers.ok, c.loop-worker.invariant.owners_len, c.loop-worker.invariant.owners_room)
 
 pub loop-worker-preserved-in-Reader : goal.loop-worker-preserved-in-Reader
 loop-worker-preserved-in-Reader g c =
