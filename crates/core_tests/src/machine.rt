@@ -11,8 +11,8 @@ use std::alloc::Global;
 /// The machine of a mode.
 #[derive(Drop)]
 pub(crate) enum Machine {
-    Cache(CacheMachine),
-    Store(StoreMachine),
+    Cache(Box<CacheMachine>),
+    Store(Box<StoreMachine>),
 }
 
 impl Machine {
@@ -21,8 +21,14 @@ impl Machine {
         requires { IsValid options.now }
     {
         match options.mode {
-            Mode::Cache => Ok(Machine::Cache(CacheMachine::new(alloc, options)?)),
-            Mode::Store => Ok(Machine::Store(StoreMachine::new(alloc, options)?)),
+            Mode::Cache => {
+                let machine = CacheMachine::new(alloc, options)?;
+                Ok(Machine::Cache(Box::new(alloc, machine)?))
+            }
+            Mode::Store => {
+                let machine = StoreMachine::new(alloc, options)?;
+                Ok(Machine::Store(Box::new(alloc, machine)?))
+            }
         }
     }
 

@@ -92,15 +92,34 @@ fn known_by(alloc: Global, machine: &Machine, key: &[u8]) -> Result<Known, NoMem
     })
 }
 
+// Puts what the machine answers to the key behind what it answered before.
+fn add_known(
+    alloc: Global,
+    machine: &Machine,
+    key: &[u8],
+    all: &mut Vec<Known>,
+) -> Result<(), NoMemory> {
+    let known = known_by(alloc, machine, key)?;
+    all.push(known)?;
+    Ok(())
+}
+
+// Makes the write, and tells whether the machine gives its reply.
+fn is_replied(alloc: Global, machine: &mut Machine, written: &Written) -> Result<bool, NoMemory> {
+    let Written(op, key, value, outcome) = written;
+    Ok(machine.apply(alloc, *op, key, value)? == Some(*outcome))
+}
+
 // What the machine answers before the writes, and after each.
 fn known_answers(rt: &(impl Abort + AllocGlobal), script: &Script) -> Result<Vec<Known>, Fail> {
     assert!(rt; script.options.is_valid());
-    let mut machine = Machine::new(rt.alloc(), &script.options)?;
-    let mut all = Vec::new(rt.alloc());
-    all.push(known_by(rt.alloc(), &machine, script.key)?)?;
-    for Written(op, key, value, outcome) in script.writes {
-        assert!(rt; machine.apply(rt.alloc(), *op, key, value)? == Some(*outcome));
-        all.push(known_by(rt.alloc(), &machine, script.key)?)?;
+    let alloc = rt.alloc();
+    let mut machine = Machine::new(alloc, &script.options)?;
+    let mut all = Vec::new(alloc);
+    add_known(alloc, &machine, script.key, &mut all)?;
+    for written in script.writes {
+        assert!(rt; is_replied(alloc, &mut machine, written)?);
+        add_known(alloc, &machine, script.key, &mut all)?;
     }
     Ok(all)
 }
