@@ -36,7 +36,7 @@ static LETTERS: [u8; 90] = [b'x'; 90];
 /// A machine, a trace, and what the machine says to it, as a report.
 #[derive(Drop)]
 struct Asked {
-    machine: CacheMachine,
+    machine: Box<CacheMachine>,
     trace: Vec<u8>,
     report: Vec<u8>,
 }
@@ -156,7 +156,7 @@ const WORDS: &str =
 fn a_replay_says_what_the_machine_says(rt: HostRuntime) -> Result<(), Fail> {
     let alloc = rt.alloc();
     let mut asked = Asked {
-        machine: CacheMachine::new(alloc, &OPTIONS)?,
+        machine: Box::new(alloc, CacheMachine::new(alloc, &OPTIONS)?)?,
         trace: Vec::new(alloc),
         report: Vec::new(alloc),
     };
