@@ -1,5 +1,8 @@
 //! UDP sockets of this machine.
-ghost use Rattle.std.specs.Prelude.{◌≡◌, ◌+◌, ◌≤◌, false, None, is_some, length, IfOk};
+ghost use Rattle.std.specs.Prelude.{◌≡◌, ◌+◌, ◌≤◌, ◌<◌, ◌⊎◌, ◌==◌, true, false, None, is_some, is_err, length, IfOk, IfSome, OnErr, if◌then◌else◌};
+ghost use Rattle.mica_io.specs.Faults.{Rose, faults_after};
+ghost use Rattle.mica_io.specs.Traffic.{new_traffic};
+ghost use Rattle.mica_io.specs.Ports.{BindsEnd};
 
 use crate::{Datagrams, Failed, Net};
 use std::io::ErrorKind;
@@ -55,6 +58,18 @@ fn receive(socket: &UdpSocket, out: &mut [u8]) -> Result<(usize, SocketAddr), Fa
     Err(Failed)
 }
 
+/// Sends the piece whole. A send that the system interrupts begins again.
+fn send(socket: &UdpSocket, piece: &[u8], peer: SocketAddr) -> Result<(), Failed> {
+    for _ in 0..u64::MAX {
+        match socket.send_to(piece, peer) {
+            Ok(count) if count == piece.len() => return Ok(()),
+            Err(error) if error.kind() == ErrorKind::Interrupted => {}
+            _ => break,
+        }
+    }
+    Err(Failed)
+}
+
 impl Datagrams for UdpEnd {
     ghost port = { λ e. e.port };
 
@@ -68,7 +83,17 @@ impl Datagrams for UdpEnd {
 
     ghost script = { λ _. None };
 
-    fn recv(&mut self, out: &mut [u8]) -> Result<Option<usize>, Failed> {
+    fn recv(&mut self, out: &mut [u8]) -> Result<Option<usize>, Failed>
+        requires { 0 < length out.old }
+        ensures fits { IfOk result (λ got. IfSome got (λ n. n ≤ length out.old)) }
+        ensures some { IfOk result (λ got. is_some got ≡ true) }
+        ensures received { IfOk result (λ _. is_some self.new.peer ≡ true) }
+        ensures still_received { OnErr result (self.new.peer ≡ self.old.peer) }
+        ensures cause { OnErr result (Rose self.old.faults self.new.faults) }
+        ensures never_fall { self.old.faults ≤ self.new.faults }
+        ensures counted { self.new.faults ≡ faults_after (is_err result) self.old.faults }
+        ensures port { self.new.port ≡ self.old.port }
+    {
         let Ok((count, peer)) = receive(&self.socket, out) else {
             self.faults = self.faults.saturating_add(1);
             return Err(Failed);
@@ -77,17 +102,23 @@ impl Datagrams for UdpEnd {
         Ok(Some(count))
     }
 
-    fn reply(&mut self, piece: &[u8]) -> Result<(), Failed> {
+    fn reply(&mut self, piece: &[u8]) -> Result<(), Failed>
+        requires some { 0 < length piece.now }
+        requires peer { is_some self.old.peer ≡ true }
+        ensures peer { self.new.peer ≡ self.old.peer }
+        ensures cause { OnErr result (Rose self.old.faults self.new.faults) }
+        ensures never_fall { self.old.faults ≤ self.new.faults }
+        ensures counted { self.new.faults ≡ faults_after (is_err result) self.old.faults }
+        ensures port { self.new.port ≡ self.old.port }
+    {
         let Some(peer) = self.peer else {
             unreachable!();
         };
-        match self.socket.send_to(piece, peer) {
-            Ok(count) if count == piece.len() => Ok(()),
-            _ => {
-                self.faults = self.faults.saturating_add(1);
-                Err(Failed)
-            }
+        let sent = send(&self.socket, piece, peer);
+        if sent.is_err() {
+            self.faults = self.faults.saturating_add(1);
         }
+        sent
     }
 }
 
@@ -106,7 +137,24 @@ impl<'a, R: Sockets> Net for UdpNet<'a, R> {
 
     ghost fails = { λ _. None };
 
-    fn bind(&mut self, port: u16) -> Result<UdpEnd, Failed> {
+    fn bind(&mut self, port: u16) -> Result<UdpEnd, Failed>
+        requires { self.old.binds ≡ 0 ⊎ port ≡ self.old.first + self.old.binds }
+        ensures binds { self.new.binds ≡ self.old.binds + 1 }
+        ensures first { self.new.first ≡ (if self.old.binds == 0 then port else self.old.first) }
+        ensures refused { self.new.refused
+            ≡ (if is_err result then self.old.refused + 1 else self.old.refused) }
+        ensures port { IfOk result (λ e. e.port ≡ port) }
+        ensures no_faults { IfOk result (λ e. e.faults ≡ 0) }
+        ensures open { IfOk result (λ e. ⟦<UdpEnd as Datagrams>⟧.has_ended e ≡ false) }
+        ensures unused { IfOk result (λ e. ⟦<UdpEnd as Datagrams>⟧.has_received e ≡ false) }
+        ensures fresh { IfOk result (λ e. IfSome (⟦<UdpEnd as Datagrams>⟧.traffic e) (λ t. t ≡ new_traffic t.left)) }
+        ensures bound { IfOk result (λ e. IfSome (⟦<UdpNet<'a, R> as Net>⟧.ports self.old) (λ old. BindsEnd old port
+            (⟦<UdpEnd as Datagrams>⟧.traffic e) (⟦<UdpEnd as Datagrams>⟧.script e) (⟦<UdpNet<'a, R> as Net>⟧.ports self.new))) }
+        ensures unbound { OnErr result (⟦<UdpNet<'a, R> as Net>⟧.ports self.new ≡ ⟦<UdpNet<'a, R> as Net>⟧.ports self.old) }
+        ensures cause { OnErr result (Rose self.old.faults self.new.faults) }
+        ensures never_fall { self.old.faults ≤ self.new.faults }
+        ensures counted { self.new.faults ≡ faults_after (is_err result) self.old.faults }
+    {
         if self.binds == 0 {
             self.first = port;
         }
