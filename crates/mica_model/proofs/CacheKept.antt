@@ -12,7 +12,7 @@ use Rattle.mica_words.specs.Stamp.{tail_of}
 use Rattle.mica_model.specs.declared.options.Options.{Options}
 use Rattle.mica_model.specs.declared.write.Write.{Write}
 use Rattle.mica_model.specs.declared.write.Op.{Op}
-use Rattle.mica_model.specs.declared.write.Op.TheVariants.{Put, Del}
+use Rattle.mica_model.specs.declared.write.Op.TheVariants.{Put, Add, Touch, Del}
 use Rattle.mica_model.specs.Limits.{most_added}
 use Rattle.mica_model.specs.Write.{IsWrite, HasValueOf, size_of}
 use Rattle.mica_model.specs.Cache as cache
@@ -56,17 +56,23 @@ start_kept options = record {
   stamp = omega arith;
 }
 
+-- a value that an operation has fits, and no value does
+
+none_fits : (value : List ℕ) → value ≡ [] → ValueFits value
+none_fits value none = let empty : length value ≡ 0 = ap length none in omega arith
+
+pub fits_by : (op : Op) (value : List ℕ) → HasValueOf op value → ValueFits value
+fits_by Put value fits = fits
+fits_by Add value fits = fits
+fits_by Touch value none = none_fits value none
+fits_by Del value none = none_fits value none
+
 -- the largest item has the most words
-size_by : (op : Op) (key value : List ℕ) → KeyFits key → HasValueOf op value → item_size key value ≤ largest_item
-size_by Put key value key_fits fits = let short = key_fits.1 in omega arith
-size_by Del key value key_fits none = let short = key_fits.1 in let empty : length value ≡ 0 = ap length none in omega arith
+pub item_at_most : (key value : List ℕ) → KeyFits key → ValueFits value → item_size key value ≤ largest_item
+item_at_most key value key_fits fits = let short = key_fits.1 in omega arith
 
 pub size_at_most : (write : Write) → IsWrite write → size_of write ≤ largest_item
-size_at_most write is = size_by write.op write.key write.value is.key is.value
-
-value_by : (op : Op) (value : List ℕ) → HasValueOf op value → ValueFits value
-value_by Put value fits = fits
-value_by Del value none = let empty : length value ≡ 0 = ap length none in omega arith
+size_at_most write is = item_at_most write.key write.value is.key (fits_by write.op write.value is.value)
 
 -- a room of an append moves the tail on by as many words
 pub tail_past : (stamp size : ℕ) → tail_of (stamp + 65536 * size) ≡ tail_of stamp + size
@@ -158,25 +164,25 @@ module _ (options : Options) (s : Cache) (kept : IsKept options s) (write : Writ
   pub others_laid : IsLaid 0 (tail_of s.stamp) (others write.key s.records)
   others_laid = laid.laid_filter (λ r. not (has_key write.key r)) 0 (tail_of s.stamp) s.records kept.laid
 
-  appended : ValueFits write.value → IsWritten options s write (cs.after_append s (new_record s write.key write.value))
-  appended value =
-      let size : size_of write ≤ largest_item = size_at_most write is in
-      let some : 0 < size_of write = omega arith in
-      let count = λ (bucket : ℕ). sum_by_push (λ (r : Record). cond (is_in_bucket options bucket r) 1 0) (others write.key s.records) (new_record s write.key write.value) in
+  appended : (value : List ℕ) → ValueFits value → AreBytes value → IsWritten options s write (cs.after_append s (new_record s write.key value))
+  appended value fits bytes =
+      let size : item_size write.key value ≤ largest_item = item_at_most write.key value is.key fits in
+      let some : 0 < item_size write.key value = omega arith in
+      let count = λ (bucket : ℕ). sum_by_push (λ (r : Record). cond (is_in_bucket options bucket r) 1 0) (others write.key s.records) (new_record s write.key value) in
       record {
-        laid = subst (λ (n : ℕ). IsLaid 0 n (others write.key s.records ++ new_record s write.key write.value ∷ [])) (sym (tail_past s.stamp (size_of write))) (laid.laid_push 0 (tail_of s.stamp) (others write.key s.records) (new_record s write.key write.value) refl others_laid);
-        unique = laid.unique_push (others write.key s.records) (new_record s write.key write.value) (others_lack write.key s.records) (laid.unique_filter (λ r. not (has_key write.key r)) s.records kept.unique);
-        are = found.all_push IsRecord (others write.key s.records) (new_record s write.key write.value) (found.all_filter IsRecord (λ r. not (has_key write.key r)) s.records kept.are)
-            (record { key = is.key; key_bytes = is.key_bytes; value = value; value_bytes = is.value_bytes; size = omega arith; room = size });
+        laid = subst (λ (n : ℕ). IsLaid 0 n (others write.key s.records ++ new_record s write.key value ∷ [])) (sym (tail_past s.stamp (item_size write.key value))) (laid.laid_push 0 (tail_of s.stamp) (others write.key s.records) (new_record s write.key value) refl others_laid);
+        unique = laid.unique_push (others write.key s.records) (new_record s write.key value) (others_lack write.key s.records) (laid.unique_filter (λ r. not (has_key write.key r)) s.records kept.unique);
+        are = found.all_push IsRecord (others write.key s.records) (new_record s write.key value) (found.all_filter IsRecord (λ r. not (has_key write.key r)) s.records kept.are)
+            (record { key = is.key; key_bytes = is.key_bytes; value = fits; value_bytes = bytes; size = omega arith; room = size });
         here =
             let all = count (bucket_of write.key options.buckets) in
             let few = fewer (bucket_of write.key options.buckets) in
-            let one : cond (is_in_bucket options (bucket_of write.key options.buckets) (new_record s write.key write.value)) 1 0 ≤ 1 = elim (is_in_bucket options (bucket_of write.key options.buckets) (new_record s write.key write.value)) as (λ b. cond b 1 0 ≤ 1) [ true ↦ omega arith | false ↦ omega arith ] in
+            let one : cond (is_in_bucket options (bucket_of write.key options.buckets) (new_record s write.key value)) 1 0 ≤ 1 = elim (is_in_bucket options (bucket_of write.key options.buckets) (new_record s write.key value)) as (λ b. cond b 1 0 ≤ 1) [ true ↦ omega arith | false ↦ omega arith ] in
             omega arith;
         there = λ bucket other.
             let all = count bucket in
             let few = fewer bucket in
-            let none : cond {A = ℕ} (is_in_bucket options bucket (new_record s write.key write.value)) 1 0 ≡ 0 = ap (λ (b : Bool). cond {A = ℕ} b 1 0) (ne_eqb (bucket_of write.key options.buckets) bucket other) in
+            let none : cond {A = ℕ} (is_in_bucket options bucket (new_record s write.key value)) 1 0 ≡ 0 = ap (λ (b : Bool). cond {A = ℕ} b 1 0) (ne_eqb (bucket_of write.key options.buckets) bucket other) in
             omega arith;
         least = omega arith;
         most = omega arith;
@@ -215,11 +221,26 @@ module _ (options : Options) (s : Cache) (kept : IsKept options s) (write : Writ
       }
 
   put : ValueFits write.value → (o : Option Record) → kept_record options s write ≡ o → IsWritten options s write (cs.after_put o s write)
-  put value None at = appended value
+  put value None at = appended write.value value is.value_bytes
   put value (Some held) at = rewrites value held (keeps_put options s write held at)
+
+  -- a touch appends the value that its key has
+  touched : (o : Option Record) → record_of s write.key ≡ o → IsWritten options s write (cs.after_touch o s write)
+  touched None at = record {
+    laid = laid.laid_later 0 (tail_of s.stamp) (tail_of (s.stamp + 1)) s.records (omega arith) kept.laid;
+    unique = kept.unique;
+    are = kept.are;
+    here = let few = kept.buckets (bucket_of write.key options.buckets) in omega arith;
+    there = λ bucket other. kept.buckets bucket;
+    least = omega arith;
+    most = omega arith;
+  }
+  touched (Some held) at = let fine = found.found_has IsRecord (has_key write.key) s.records held kept.are at in appended held.value fine.value fine.value_bytes
 
   by_op : (op : Op) → HasValueOf op write.value → IsWritten options s write (cs.after_op op options s write)
   by_op Put value = put value (kept_record options s write) refl
+  by_op Add value = appended write.value value is.value_bytes
+  by_op Touch none = touched (record_of s write.key) refl
   by_op Del none = deleted
 
   pub after_write_is : IsWritten options s write (cs.after_write options s write)

@@ -1,9 +1,9 @@
 -- The laws of the cache machine's states, over lawful histories.
-use Rattle.std.proofs.Common.{is_some, ◌≡◌, ℕ, ◌+◌, ◌*◌, ◌≤◌, ◌<◌, ◌⊎◌, List, [], ◌∷◌, ◌++◌, length, Option, Some, None, Bool, true, false, cond, not, refl, sym, ap, ◌∙◌, subst, arith, ◌≢◌, eqb}
+use Rattle.std.proofs.Common.{is_some, ◌≡◌, ℕ, ◌+◌, ◌*◌, ◌≤◌, ◌<◌, ◌⊎◌, List, [], ◌∷◌, ◌++◌, length, Option, Some, None, Bool, true, false, cond, not, refl, sym, ap, ◌∙◌, subst, arith, ◌≢◌, eqb, leb}
 use Rattle.std.specs.List.{find, filter, fold, AllByRecursion as AllOf, count_by}
 use Rattle.std.specs.Prelude.{map, option_map}
 use Rattle.std.proofs.lemmas.Option.{same_Some}
-use Rattle.std.proofs.lemmas.Bool.{leb-true, le-leb, eqb-true, ne_eqb}
+use Rattle.std.proofs.lemmas.Bool.{leb-true, le-leb, eqb-true, ne_eqb, true≢false}
 use Rattle.std.proofs.lemmas.List.Sums.{sum_by_push}
 use Rattle.std.proofs.lemmas.List.Elements.{filter-append}
 use Rattle.mica_words.specs.declared.entry.TheConstants.{SLOTS}
@@ -16,17 +16,19 @@ use Rattle.mica_model.specs.declared.options.Mode.TheVariants.{Cache as CacheMod
 use Rattle.mica_model.specs.declared.options.Mode.{Mode}
 use Rattle.mica_model.specs.declared.write.Write.{Write}
 use Rattle.mica_model.specs.declared.write.Op.{Op}
-use Rattle.mica_model.specs.declared.write.Op.TheVariants.{Put, Del}
+use Rattle.mica_model.specs.declared.write.Op.TheVariants.{Put, Add, Touch, Del}
 use Rattle.mica_model.specs.Options.{IsValid}
 use Rattle.mica_model.specs.Limits.{most_added}
-use Rattle.mica_model.specs.Write.{IsWrite, size_of}
+use Rattle.mica_model.specs.declared.write.Outcome.{Outcome}
+use Rattle.mica_model.specs.declared.write.Outcome.TheVariants.{Stored, FullBlock, Worn}
+use Rattle.mica_model.specs.Write.{GivesValue, IsWrite, is_accepted, size_of}
 use Rattle.mica_model.specs.Cache.{Record, Cache, has_key, record_of, value_in, is_live}
 use Rattle.mica_model.specs.CacheStep as cs
 use Rattle.mica_model.specs.CacheStep.{others, new_record, kept_record, without_first, is_in_bucket}
-use Rattle.mica_model.specs.History.{History, State, cache_state, store_state, after, start, state_of, accepted_in}
+use Rattle.mica_model.specs.History.{Allows, History, IsAcceptedAfter, State, cache_state, store_state, after, start, state_of, accepted_in}
 use Rattle.mica_model.proofs.Found as found
 use Rattle.mica_model.proofs.Laid as laid
-use Rattle.mica_model.proofs.CacheKept.{others_lack, count_map, IsRecord, IsKept, KeepsPut, keeps_put, start_kept, after_kept, after_write_is, begin_of, offset_of, rewritten, rewritten_key, left_of, live_of, here_of, size_at_most, tail_past}
+use Rattle.mica_model.proofs.CacheKept.{others_lack, count_map, IsRecord, IsKept, KeepsPut, keeps_put, start_kept, after_kept, after_write_is, begin_of, offset_of, rewritten, rewritten_key, left_of, live_of, here_of, item_at_most, fits_by, tail_past}
 use Rattle.mica_model.proofs.Histories.{accepted_is_length}
 use Rattle.mica_model.proofs.Rises.{after_rises}
 
@@ -101,13 +103,22 @@ module _ (options : Options) (s : Cache) (write : Write) (key : List ℕ) (other
   others_same : find (has_key key) (others write.key s.records) ≡ record_of s key
   others_same = found.found_filter_all (has_key key) (λ r. not (has_key write.key r)) (λ r here. ap not (not_written r here)) s.records
 
+  append_same : (value : List ℕ) → record_of (cs.after_append s (new_record s write.key value)) key ≡ record_of s key
+  append_same value = found.found_push_other (has_key key) (others write.key s.records) (new_record s write.key value) (laid.has_other_key key (new_record s write.key value) (λ same. other (sym same))) ∙ others_same
+
   put_same : (o : Option Record) → record_of (cs.after_put o s write) key ≡ record_of s key
-  put_same None = found.found_push_other (has_key key) (others write.key s.records) (new_record s write.key write.value) (laid.has_other_key key (new_record s write.key write.value) (λ same. other (sym same))) ∙ others_same
+  put_same None = append_same write.value
   put_same (Some held) = find_map (has_key key) (rewritten write) (λ r. ap (λ k. has_key key (record r { key = k })) (rewritten_key write r))
       (λ r here. ap (λ b. cond b (record r { value = write.value }) r) (not_written r here)) s.records
 
+  touch_same : (o : Option Record) → record_of (cs.after_touch o s write) key ≡ record_of s key
+  touch_same None = refl
+  touch_same (Some held) = append_same held.value
+
   op_same : (op : Op) → record_of (cs.after_op op options s write) key ≡ record_of s key
   op_same Put = put_same (kept_record options s write)
+  op_same Add = append_same write.value
+  op_same Touch = touch_same (record_of s write.key)
   op_same Del = others_same
 
   -- the write itself touches the written key alone
@@ -145,18 +156,22 @@ module _ (options : Options) (s : Cache) (kept : IsKept options s) (write : Writ
       left_same (live_of options written)
       ∙ found.found_filter (has_key key) (live_test options written) written.records r (written_same options s write key other_key ∙ found_before) (le-leb (tail_of written.stamp) (r.offset + options.words) live)
 
--- What a put's key has after the write itself: its item.
+-- What a write's key has after the write itself: its item.
 module _ (options : Options) (s : Cache) (write : Write) where
+  -- a record that is appended is its key's
+  pub appended_own : (value : List ℕ) → record_of (cs.after_append s (new_record s write.key value)) write.key ≡ Some (new_record s write.key value)
+  appended_own value =
+      let new = new_record s write.key value in
+      found.found_append_none (has_key write.key) (others write.key s.records) (new ∷ []) (others_lack write.key s.records)
+      ∙ ap (λ b. cond b (Some new) None) (laid.has_its_key write.key new refl)
+
+  -- a touch appends the value that its key has
+  pub touched_is : (held : Record) → write.op ≡ Touch → record_of s write.key ≡ Some held → cs.after_write options s write ≡ cs.after_append s (new_record s write.key held.value)
+  touched_is held op at = ap (λ (z : Op). cs.after_op z options s write) op ∙ ap (λ (o : Option Record). cs.after_touch o s write) at
+
   pub written_own : (o : Option Record) → kept_record options s write ≡ o
       → (r : Record) × (record_of (cs.after_put o s write) write.key ≡ Some r) × (r.offset ≡ begin_of o s) × (item_size r.key r.value ≡ size_of write)
-  written_own None at =
-      let new = new_record s write.key write.value in (
-        new,
-        found.found_append_none (has_key write.key) (others write.key s.records) (new ∷ []) (others_lack write.key s.records)
-            ∙ ap (λ b. cond b (Some new) None) (laid.has_its_key write.key new refl),
-        refl,
-        refl,
-      )
+  written_own None at = (new_record s write.key write.value, appended_own write.value, refl, refl)
   written_own (Some held) at =
       let keeps = keeps_put options s write held at in (
         record held { value = write.value },
@@ -174,61 +189,110 @@ module _ (options : Options) (s : Cache) (write : Write) where
       let size = own.3 in
       subst (λ (o : Option Record). cs.IsInItem o p) (sym (ap (λ (op : Op). record_of (cs.after_op op options s write) write.key) at ∙ own.1)) (omega arith, omega arith)
 
--- A put's own record survives its step.
-module _ (options : Options) (valid : IsValid options) (s : Cache) (kept : IsKept options s) (write : Write) (is : IsWrite write) where
+-- An item that the log is asked to store, and stores, has no more words than the log.
+module _ (options : Options) (write : Write) where
+  by_words : (b : Bool) → leb (size_of write) options.words ≡ b → is_accepted (cond b Stored FullBlock) ≡ true → size_of write ≤ options.words
+  by_words true fits accepted = leb-true (size_of write) options.words fits
+  by_words false short accepted = absurd (true≢false (sym accepted))
+
+  pub reply_fits : (op : Op) (found : Bool) → GivesValue op → is_accepted (cs.reply_of op options write found) ≡ true → size_of write ≤ options.words
+  reply_fits Put found gives accepted = by_words (leb (size_of write) options.words) refl accepted
+  reply_fits Add true gives accepted = absurd (true≢false (sym accepted))
+  reply_fits Add false gives accepted = by_words (leb (size_of write) options.words) refl accepted
+  reply_fits Touch found gives accepted = absurd gives
+  reply_fits Del found gives accepted = absurd gives
+
+  by_wear : (b : Bool) (outcome : Outcome) → is_accepted (cond b Worn outcome) ≡ true → is_accepted outcome ≡ true
+  by_wear true outcome accepted = absurd (true≢false (sym accepted))
+  by_wear false outcome accepted = accepted
+
+  words_suffice : (s : Cache) → is_accepted (cs.reply options s write) ≡ true → GivesValue write.op → size_of write ≤ options.words
+  unfolding cs.reply
+  words_suffice s accepted gives =
+      reply_fits write.op (is_some (record_of s write.key)) gives
+      (by_wear (cs.is_worn options s) (cs.reply_of write.op options write (is_some (record_of s write.key))) accepted)
+
+  pub accepted_fits : (s : Cache) (now : State) → now ≡ cache_state s → (outcome : Outcome) → is_accepted outcome ≡ true → Allows options now write outcome
+      → GivesValue write.op → size_of write ≤ options.words
+  accepted_fits s now at outcome accepted allowed =
+      let is : outcome ≡ cs.reply options s write = subst (λ (z : State). Allows options z write outcome) at allowed in
+      words_suffice s (ap is_accepted (sym is) ∙ accepted)
+
+-- The record of the written key survives its step.
+module _ (options : Options) (s : Cache) (kept : IsKept options s) (write : Write) (is : IsWrite write)
+    (few : GivesValue write.op → size_of write ≤ options.words) where
   abbrev put_of : Option Record → Cache
   put_of o = cs.after_put o s write
 
-  -- a put that appends
+  -- a record that is appended
 
-  new_is : has_key write.key (new_record s write.key write.value) ≡ true
-  new_is = laid.has_its_key write.key (new_record s write.key write.value) refl
+  module _ (value : List ℕ) (short : item_size write.key value ≤ options.words) where
+    abbrev new : Record
+    new = new_record s write.key value
 
-  alone : find (has_key write.key) (new_record s write.key write.value ∷ []) ≡ Some (new_record s write.key write.value)
-  alone = ap (λ b. cond b (Some (new_record s write.key write.value)) None) new_is
+    abbrev appended : Cache
+    appended = cs.after_append s (new_record s write.key value)
 
-  new_live : live_test options (put_of None) (new_record s write.key write.value) ≡ true
-  new_live =
-      let size : size_of write ≤ largest_item = size_at_most write is in
-      let least = valid.words.0 in
-      let tail = tail_past s.stamp (size_of write) in
-      le-leb (tail_of (s.stamp + 65536 * size_of write)) (tail_of s.stamp + options.words) (omega arith)
+    new_is : has_key write.key new ≡ true
+    new_is = laid.has_its_key write.key new refl
 
-  live_others : List Record
-  live_others = filter (live_test options (put_of None)) (others write.key s.records)
+    alone : find (has_key write.key) (new ∷ []) ≡ Some new
+    alone = ap (λ b. cond b (Some new) None) new_is
 
-  live_are : live_of options (put_of None) ≡ filter (live_test options (put_of None)) (others write.key s.records) ++ new_record s write.key write.value ∷ []
-  live_are = filter-append (live_test options (put_of None)) (others write.key s.records) (new_record s write.key write.value ∷ [])
-      ∙ ap (λ b. filter (live_test options (put_of None)) (others write.key s.records) ++ cond b (new_record s write.key write.value ∷ []) []) new_live
+    new_live : live_test options appended new ≡ true
+    new_live =
+        let tail = tail_past s.stamp (item_size write.key value) in
+        le-leb (tail_of (s.stamp + 65536 * item_size write.key value)) (tail_of s.stamp + options.words) (omega arith)
 
-  few_others : count_by (here_of options write) (filter (live_test options (put_of None)) (others write.key s.records)) ≤ SLOTS
-  few_others =
-      let one = found.count_filter (here_of options write) (live_test options (put_of None)) (others write.key s.records) in
-      let two = found.count_filter (here_of options write) (λ r. not (has_key write.key r)) s.records in
-      let few = kept.buckets (bucket_of write.key options.buckets) in
-      omega arith
+    live_others : List Record
+    live_others = filter (live_test options appended) (others write.key s.records)
 
-  found_left : (rs : List Record) → find (has_key write.key) rs ≡ None → count_by (here_of options write) rs ≤ SLOTS
-      → find (has_key write.key) (left_of options write (rs ++ new_record s write.key write.value ∷ [])) ≡ Some (new_record s write.key write.value)
-  found_left rs none few =
-      elim (eqb (count_by (here_of options write) (rs ++ new_record s write.key write.value ∷ [])) (SLOTS + 1)) as (λ b. eqb (count_by (here_of options write) (rs ++ new_record s write.key write.value ∷ [])) (SLOTS + 1) ≡ b
-      → find (has_key write.key) (cond b (without_first (here_of options write) (rs ++ new_record s write.key write.value ∷ [])) (rs ++ new_record s write.key write.value ∷ [])) ≡ Some (new_record s write.key write.value)) [
-        | true ↦ λ full.
-            let is_full = eqb-true (count_by (here_of options write) (rs ++ new_record s write.key write.value ∷ [])) (SLOTS + 1) full in
-            let all = sum_by_push (λ (r : Record). cond {A = ℕ} (here_of options write r) 1 0) rs (new_record s write.key write.value) in
-            let one : cond {A = ℕ} (here_of options write (new_record s write.key write.value)) 1 0 ≤ 1 = elim (here_of options write (new_record s write.key write.value)) as (λ b. cond {A = ℕ} b 1 0 ≤ 1) [ true ↦ omega arith | false ↦ omega arith ] in
-            let some : 0 < count_by (here_of options write) rs = omega arith in
-            ap (find (has_key write.key)) (found.without_first_push (here_of options write) rs (new_record s write.key write.value) some)
-            ∙ found.found_append_none (has_key write.key) (without_first (here_of options write) rs) (new_record s write.key write.value ∷ []) (found.missed_without_first (has_key write.key) (here_of options write) rs none)
-            ∙ alone
-        | false ↦ λ room. found.found_append_none (has_key write.key) rs (new_record s write.key write.value ∷ []) none ∙ alone
-      ] refl
+    live_are : live_of options appended ≡ filter (live_test options appended) (others write.key s.records) ++ new ∷ []
+    live_are = filter-append (live_test options appended) (others write.key s.records) (new ∷ [])
+        ∙ ap (λ b. filter (live_test options appended) (others write.key s.records) ++ cond b (new ∷ []) []) new_live
 
-  appended_stays : find (has_key write.key) (left_of options write (live_of options (put_of None))) ≡ Some (new_record s write.key write.value)
-  appended_stays =
-      let rs = filter (live_test options (put_of None)) (others write.key s.records) in
-      ap (λ all. find (has_key write.key) (left_of options write all)) live_are
-      ∙ found_left rs (found.missed_filter (has_key write.key) (live_test options (put_of None)) (others write.key s.records) (others_lack write.key s.records)) few_others
+    few_others : count_by (here_of options write) (filter (live_test options appended) (others write.key s.records)) ≤ SLOTS
+    few_others =
+        let one = found.count_filter (here_of options write) (live_test options appended) (others write.key s.records) in
+        let two = found.count_filter (here_of options write) (λ r. not (has_key write.key r)) s.records in
+        let few = kept.buckets (bucket_of write.key options.buckets) in
+        omega arith
+
+    found_left : (rs : List Record) → find (has_key write.key) rs ≡ None → count_by (here_of options write) rs ≤ SLOTS
+        → find (has_key write.key) (left_of options write (rs ++ new ∷ [])) ≡ Some new
+    found_left rs none few =
+        elim (eqb (count_by (here_of options write) (rs ++ new ∷ [])) (SLOTS + 1)) as (λ b. eqb (count_by (here_of options write) (rs ++ new ∷ [])) (SLOTS + 1) ≡ b
+        → find (has_key write.key) (cond b (without_first (here_of options write) (rs ++ new ∷ [])) (rs ++ new ∷ [])) ≡ Some new) [
+          | true ↦ λ full.
+              let is_full = eqb-true (count_by (here_of options write) (rs ++ new ∷ [])) (SLOTS + 1) full in
+              let all = sum_by_push (λ (r : Record). cond {A = ℕ} (here_of options write r) 1 0) rs new in
+              let one : cond {A = ℕ} (here_of options write new) 1 0 ≤ 1 = elim (here_of options write new) as (λ b. cond {A = ℕ} b 1 0 ≤ 1) [ true ↦ omega arith | false ↦ omega arith ] in
+              let some : 0 < count_by (here_of options write) rs = omega arith in
+              ap (find (has_key write.key)) (found.without_first_push (here_of options write) rs new some)
+              ∙ found.found_append_none (has_key write.key) (without_first (here_of options write) rs) (new ∷ []) (found.missed_without_first (has_key write.key) (here_of options write) rs none)
+              ∙ alone
+          | false ↦ λ room. found.found_append_none (has_key write.key) rs (new ∷ []) none ∙ alone
+        ] refl
+
+    appended_stays : find (has_key write.key) (left_of options write (live_of options (cs.after_append s (new_record s write.key value)))) ≡ Some (new_record s write.key value)
+    appended_stays =
+        let rs = filter (live_test options appended) (others write.key s.records) in
+        ap (λ all. find (has_key write.key) (left_of options write all)) live_are
+        ∙ found_left rs (found.missed_filter (has_key write.key) (live_test options appended) (others write.key s.records) (others_lack write.key s.records)) few_others
+
+    -- so it is the key's after the step
+    appended_held : cs.after_write options s write ≡ cs.after_append s (new_record s write.key value)
+        → record_of (cs.after options s write) write.key ≡ Some (new_record s write.key value)
+    unfolding cs.after
+    appended_held written = ap (λ (t : Cache). find (has_key write.key) (left_of options write (live_of options t))) written ∙ appended_stays
+
+    -- and the words of its item are in its room
+    own_appended : cs.after_write options s write ≡ cs.after_append s (new_record s write.key value) → (p : ℕ)
+        → cs.IsInItem (record_of (cs.after_append s (new_record s write.key value)) write.key) p
+        → (r : Record) × (record_of (cs.after options s write) write.key ≡ Some r) × (r.offset ≤ p) × (p < r.offset + r.room)
+    own_appended written p item =
+        let here = subst (λ (o : Option Record). cs.IsInItem o p) (appended_own options s write value) item in
+        (new_record s write.key value, appended_held written, here.0, here.1)
 
   -- a put that is kept
 
@@ -259,28 +323,54 @@ module _ (options : Options) (valid : IsValid options) (s : Cache) (kept : IsKep
     pub offset : held.offset ≡ begin_of o s
     pub size : size_of write ≤ held.room
 
-  put_record_by : (o : Option Record) → kept_record options s write ≡ o → PutRecord (put_of o) o
-  put_record_by None at = record { held = new_record s write.key write.value; stays = appended_stays; value = refl; offset = refl; size = omega arith }
-  put_record_by (Some held) at =
+  put_record_by : GivesValue write.op → (o : Option Record) → kept_record options s write ≡ o → PutRecord (put_of o) o
+  put_record_by gives None at =
+      record { held = new_record s write.key write.value; stays = appended_stays write.value (few gives); value = refl; offset = refl; size = omega arith }
+  put_record_by gives (Some held) at =
       let keeps = keeps_put options s write held at in
       record { held = record held { value = write.value }; stays = rewritten_stays held keeps; value = refl; offset = refl; size = keeps.fits }
 
-  put_record_of : (op : Op) → op ≡ Put → PutRecord (cs.after_op op options s write) (kept_record options s write)
-  put_record_of Put at = put_record_by (kept_record options s write) refl
-  put_record_of Del at = cc
+  put_record_of : GivesValue write.op → (op : Op) → op ≡ Put → PutRecord (cs.after_op op options s write) (kept_record options s write)
+  put_record_of gives Put at = put_record_by gives (kept_record options s write) refl
+  put_record_of gives Add at = cc
+  put_record_of gives Touch at = cc
+  put_record_of gives Del at = cc
 
-  written_by : (op : Op) → op ≡ Put → is_some (record_of (cs.after_op op options s write) write.key) ≡ true
-  written_by Put at = ap is_some (written_own options s write (kept_record options s write) refl).1
-  written_by Del at = cc
+  written_by : (op : Op) → GivesValue op → is_some (record_of (cs.after_op op options s write) write.key) ≡ true
+  written_by Put gives = ap is_some (written_own options s write (kept_record options s write) refl).1
+  written_by Add gives = ap is_some (appended_own options s write write.value)
+  written_by Touch gives = absurd gives
+  written_by Del gives = absurd gives
 
   -- after a put, its key has a record of its value, whose room has the item
   pub put_held : write.op ≡ Put → (r : Record) × (record_of (cs.after options s write) write.key ≡ Some r) × (r.value ≡ write.value) × (r.offset ≡ offset_of options s write) × (size_of write ≤ r.room)
   unfolding cs.after
-  put_held at = let p = put_record_of write.op at in (p.held, p.stays, p.value, p.offset, p.size)
+  put_held at = let p = put_record_of (subst GivesValue (sym at) tt) write.op at in (p.held, p.stays, p.value, p.offset, p.size)
+
+  held_by : (op : Op) → write.op ≡ op → GivesValue op → (r : Record) × (record_of (cs.after options s write) write.key ≡ Some r)
+  held_by Put at gives = let mine = put_held at in (mine.0, mine.1)
+  held_by Add at gives =
+      (new_record s write.key write.value, appended_held write.value (few (subst GivesValue (sym at) gives)) (ap (λ (op : Op). cs.after_op op options s write) at))
+  held_by Touch at gives = absurd gives
+  held_by Del at gives = absurd gives
+
+  -- a write that gives a value leaves its key a record
+  pub value_held : GivesValue write.op → (r : Record) × (record_of (cs.after options s write) write.key ≡ Some r)
+  value_held gives = held_by write.op refl gives
 
   -- and so it has one after the write itself
-  pub written_held : write.op ≡ Put → is_some (record_of (cs.after_write options s write) write.key) ≡ true
-  written_held at = written_by write.op at
+  pub written_held : GivesValue write.op → is_some (record_of (cs.after_write options s write) write.key) ≡ true
+  written_held gives = written_by write.op gives
+
+  -- what a key has whose record is touched fits the log, since its room ends at the tail and the log has not passed where it begins
+  touched_fits : (held : Record) → record_of s write.key ≡ Some held → item_size write.key held.value ≤ options.words
+  touched_fits held at = let window = window_kept options s kept write.key held at in let fits = fits_kept options s kept write.key held at in omega (arith, window.0, window.1, fits.4)
+
+  own_touched : (o : Option Record) → record_of s write.key ≡ o → cs.after_write options s write ≡ cs.after_touch o s write → (p : ℕ)
+      → cs.IsInItem (record_of (cs.after_touch o s write) write.key) p
+      → (r : Record) × (record_of (cs.after options s write) write.key ≡ Some r) × (r.offset ≤ p) × (p < r.offset + r.room)
+  own_touched None at written p item = absurd (subst (λ (o : Option Record). cs.IsInItem o p) at item)
+  own_touched (Some held) at written p item = own_appended held.value (touched_fits held at) written p item
 
   own_by : (op : Op) → write.op ≡ op → (p : ℕ) → cs.IsInItem (record_of (cs.after_op op options s write) write.key) p
       → (r : Record) × (record_of (cs.after options s write) write.key ≡ Some r) × (r.offset ≤ p) × (p < r.offset + r.room)
@@ -295,6 +385,8 @@ module _ (options : Options) (valid : IsValid options) (s : Cache) (kept : IsKep
       let least = here.0 in
       let most = here.1 in
       (mine.0, mine.1, omega arith, omega arith)
+  own_by Add at p item = own_appended write.value (few (subst GivesValue (sym at) tt)) (ap (λ (op : Op). cs.after_op op options s write) at) p item
+  own_by Touch at p item = own_touched (record_of s write.key) refl (ap (λ (op : Op). cs.after_op op options s write) at) p item
   own_by Del at p item = absurd (subst (λ (o : Option Record). cs.IsInItem o p) (others_lack write.key s.records) item)
 
   pub own_kept : (p : ℕ) → cs.IsOfItem options s write p → (r : Record) × (record_of (cs.after options s write) write.key ≡ Some r) × (r.offset ≤ p) × (p < r.offset + r.room)
@@ -341,10 +433,12 @@ module _ (options : Options) (history : History) (writes : AllOf IsWrite history
   apart = apart_kept options (cs.after options before write) now_kept
 
 -- a word of the write's item is in the room of its key's record
-pub own : (options : Options) → IsValid options → (history : History) → AllOf IsWrite history → (write : Write) → IsWrite write → (before : Cache) → state_of options history ≡ cache_state before
-    → (p : ℕ) → cs.IsOfItem options before write p
+pub own : (options : Options) (history : History) → AllOf IsWrite history → (write : Write) → IsWrite write → IsAcceptedAfter options history write
+    → (before : Cache) → state_of options history ≡ cache_state before → (p : ℕ) → cs.IsOfItem options before write p
     → (r : Record) × (record_of (cs.after options before write) write.key ≡ Some r) × (r.offset ≤ p) × (p < r.offset + r.room)
-own options valid history writes write is before at = own_kept options valid before (kept_in options history writes before at) write is
+own options history writes write is accepted before at =
+    own_kept options before (kept_in options history writes before at) write is
+    (accepted_fits options write before (state_of options history) at accepted.0 accepted.1 accepted.2)
 
 -- the tail never falls
 pub tail_rises : (options : Options) (s : Cache) (write : Write) → tail_of s.stamp ≤ tail_of (cs.after options s write).stamp

@@ -8,7 +8,7 @@ use Rattle.std.specs.Global.{Vec}
 use Rattle.mica_model.specs.declared.options.Options.{Options}
 use Rattle.mica_model.specs.declared.write.Write.{Write}
 use Rattle.mica_model.specs.declared.write.Op.{Op}
-use Rattle.mica_model.specs.declared.write.Op.TheVariants.{Put, Del}
+use Rattle.mica_model.specs.declared.write.Op.TheVariants.{Put, Add, Touch, Del}
 use Rattle.mica_model.specs.declared.write.Outcome.{Outcome}
 use Rattle.mica_model.specs.declared.write.Outcome.TheVariants.{Worn}
 use Rattle.mica_model.specs.declared.fate.Fate.{Fate}
@@ -39,6 +39,12 @@ same_accepted Put options s write = put_same (cs.kept_record options s write)
     put_same : (o : Option cache.Record) → (cs.after_put o s write).accepted ≡ s.accepted
     put_same None = refl
     put_same (Some held) = refl
+same_accepted Add options s write = refl
+same_accepted Touch options s write = touch_same (cache.record_of s write.key)
+  where
+    touch_same : (o : Option cache.Record) → (cs.after_touch o s write).accepted ≡ s.accepted
+    touch_same None = refl
+    touch_same (Some held) = refl
 same_accepted Del options s write = refl
 
 written_accepted : (options : Options) (s : Cache) (write : Write) → (cs.after_write options s write).accepted ≡ s.accepted
@@ -138,7 +144,7 @@ module _ (a : Inside) (m : IsMachine a) where
               fate_snoc a.options a.log.items write key
               ∙ ap (λ (t : Cache). fate_after a.options t write (length a.log.items + 1) key was) state_is
               ∙ ap (λ (n : ℕ). fate_after a.options a.state write n key was) (sym count)
-              ∙ fate_step a.options m.valid a.state kept write is number (notes_of a.fates) right noted fate written noted_fates key was (m.fates key)
+              ∙ fate_step a.options m.valid a.state kept write is number (notes_of a.fates) right noted fate written (ap is_accepted (sym replied_unworn) ∙ done) noted_fates key was (m.fates key)
               ∙ sym (ap (λ (n : Notes). fate_in n key) (fates_are ∙ ap (λ (t : Cache). marked_displaced (Displaced number) (displaced_record a.options write.key (cs.without_passed a.options t).records)
               (marked_passed (Passed number) a.options.words t.stamp t.records noted)) wrote_is))
 

@@ -7,6 +7,8 @@ use Rattle.std.proofs.lemmas.Bool.{eq-eqb, ne_eqb, le-leb, lt-leb, and_from, and
 use Rattle.std.proofs.lemmas.Option.{none-some}
 use Rattle.mica_words.specs.declared.entry.TheConstants.{SLOTS}
 use Rattle.mica_words.specs.Hash.{bucket_of}
+use Rattle.mica_words.specs.Item.{item_size}
+use Rattle.mica_words.specs.Stamp.{tail_of}
 use Rattle.mica_model.specs.declared.options.Options.{Options}
 use Rattle.mica_model.specs.declared.write.Write.{Write}
 use Rattle.mica_model.specs.Write.{size_of}
@@ -17,7 +19,7 @@ use Rattle.mica_model.specs.CacheFields.{displaced_at, displaced_record, kept_pl
 use Rattle.mica_model.proofs.Places.{removed_at, kept_all, found_at, missed_all}
 use Rattle.mica_model.proofs.CacheKept.{rewritten}
 use Rattle.mica_model.proofs.Found.{missed_all as missed_each}
-use Rattle.mica_model.proofs.Laid.{key_is}
+use Rattle.mica_model.proofs.Laid.{found_key, key_is}
 
 -- the record that is displaced goes
 
@@ -98,6 +100,20 @@ pub appended_is : (s : Cache) (write : Write) (records : List Record) (new : Rec
 appended_is s write records new size is new_is size_is =
     ap (λ (rs : List Record). record s { records = rs; stamp = s.stamp + 65536 * size }) (is ∙ ap (λ r. cs.others write.key s.records ++ r ∷ []) new_is)
     ∙ ap (λ (n : ℕ). record s { records = cs.others write.key s.records ++ cs.new_record s write.key write.value ∷ []; stamp = s.stamp + 65536 * n }) size_is
+
+-- a touch, by the key's record
+
+pub touched_is : (s : Cache) (write : Write) (records : List Record) (held new : Record) (size : ℕ) → record_of s write.key ≡ Some held → records ≡ cs.others write.key s.records ++ new ∷ []
+    → new ≡ record held { offset = tail_of s.stamp; room = size } → size ≡ item_size write.key held.value
+    → record s { records = records; stamp = s.stamp + 65536 * size } ≡ cs.after_touch (record_of s write.key) s write
+touched_is s write records held new size found is new_is size_is =
+    let added : new ≡ cs.new_record s write.key held.value = new_is ∙ λ i. record { key = found_key write.key s.records held found i; value = held.value; offset = tail_of s.stamp; room = size_is i } in
+    ap (λ (rs : List Record). record s { records = rs; stamp = s.stamp + 65536 * size }) (is ∙ ap (λ r. cs.others write.key s.records ++ r ∷ []) added)
+    ∙ ap (λ (n : ℕ). record s { records = cs.others write.key s.records ++ cs.new_record s write.key held.value ∷ []; stamp = s.stamp + 65536 * n }) size_is
+    ∙ sym (ap (λ o. cs.after_touch o s write) found)
+
+pub untouched_is : (s : Cache) (write : Write) → position (has_key write.key) s.records ≡ None → record s { stamp = s.stamp + 1 } ≡ cs.after_touch (record_of s write.key) s write
+untouched_is s write none = sym (ap (λ o. cs.after_touch o s write) (missed_all (has_key write.key) s.records none))
 
 -- a put that is kept at a place
 

@@ -1,23 +1,24 @@
 -- The fates that the machine keeps, after a step.
-use Rattle.std.proofs.Common.{◌≡◌, ℕ, List, Bool, true, false, cond, not, ◌&&◌, refl, sym, ap, ◌∙◌, is_some, ◌≢◌}
+use Rattle.std.proofs.Common.{◌≡◌, ℕ, List, Option, Some, None, Bool, true, false, cond, not, ◌&&◌, refl, sym, ap, ◌∙◌, subst, is_some, ◌≢◌, leb}
 use Rattle.std.specs.Str.{bytes_eq}
 use Rattle.std.proofs.lemmas.Bool.{true≢false}
 use Rattle.std.proofs.lemmas.Slice.Eq.{bytes_eq-Decides}
 use Rattle.mica_model.specs.declared.options.Options.{Options}
 use Rattle.mica_model.specs.declared.write.Write.{Write}
 use Rattle.mica_model.specs.declared.write.Op.{Op}
-use Rattle.mica_model.specs.declared.write.Op.TheVariants.{Put, Del}
+use Rattle.mica_model.specs.declared.write.Op.TheVariants.{Put, Add, Touch, Del}
+use Rattle.mica_model.specs.declared.write.Outcome.TheVariants.{Stored, FullBlock}
 use Rattle.mica_model.specs.declared.fate.Fate.{Fate}
 use Rattle.mica_model.specs.declared.fate.Fate.TheVariants.{Deleted, Displaced, Passed, Held}
 use Rattle.mica_model.specs.Options.{IsValid}
-use Rattle.mica_model.specs.Write.{IsWrite}
-use Rattle.mica_model.specs.Cache.{Cache}
+use Rattle.mica_model.specs.Write.{GivesValue, IsWrite, is_accepted, size_of}
+use Rattle.mica_model.specs.Cache.{Cache, Record, record_of}
 use Rattle.mica_model.specs.CacheStep as cs
 use Rattle.mica_model.specs.CacheFields.{IsUnique, Notes, fate_in, fate_written, marked_passed, marked_displaced, displaced_record}
 use Rattle.mica_model.specs.Fate.{has_record, fate_after}
 use Rattle.mica_model.proofs.Laid as laid
 use Rattle.mica_model.proofs.CacheKept.{others_lack, IsKept, after_write_is}
-use Rattle.mica_model.proofs.CacheLaws.{written_same, written_held}
+use Rattle.mica_model.proofs.CacheLaws.{appended_own, reply_fits, written_same, written_held}
 use Rattle.mica_model.proofs.FateLaws.{pick, live_wrote, left_live}
 use Rattle.mica_model.proofs.FateMarks.{has, has_note, passed_fate, passed_has, displaced_fate, held_has}
 
@@ -34,9 +35,19 @@ pick_same false false false false n written before up up' held gone = gone refl
 pick_same had wrote false true n written before up up' held gone = absurd (true≢false (sym (up refl)))
 pick_same had false true left n written before up up' held gone = absurd (true≢false (sym (up' refl)))
 
+-- a write that is to store an item and is accepted is stored
+stored_by : (options : Options) (write : Write) → is_accepted (cs.reply_to_item options write) ≡ true → cs.reply_to_item options write ≡ Stored
+stored_by options write done = elim (leb (size_of write) options.words) as (λ b. is_accepted (cond b Stored FullBlock) ≡ true → cond b Stored FullBlock ≡ Stored) [ true ↦ λ e. refl | false ↦ λ e. cc ] done
+
+-- an add that is accepted found no record
+added_by : (options : Options) (write : Write) (found : Bool) → is_accepted (cs.reply_of Add options write found) ≡ true → cs.reply_of Add options write found ≡ Stored
+added_by options write true done = cc
+added_by options write false done = stored_by options write done
+
 module _ (options : Options) (valid : IsValid options) (s : Cache) (kept : IsKept options s) (write : Write) (is : IsWrite write) (n : ℕ) (log : Notes)
     (right : (key : List ℕ) → has_record s key ≡ true → fate_in log key ≡ Held)
     (noted : Notes) (fate : Fate) (fate_is : fate ≡ fate_written (cs.reply_of write.op options write (has_record s write.key)) n (fate_in log write.key))
+    (done : is_accepted (cs.reply_of write.op options write (has_record s write.key)) ≡ true)
     (notes : (key : List ℕ) → fate_in noted key ≡ cond (bytes_eq write.key key) fate (fate_in log key)) where
   abbrev one : Cache
   one = cs.after_write options s write
@@ -49,13 +60,27 @@ module _ (options : Options) (valid : IsValid options) (s : Cache) (kept : IsKep
 
   -- of the written key
 
-  own_held : (op : Op) → op ≡ write.op → has_record (cs.after_op op options s write) write.key ≡ true → fate_written (cs.reply_of op options write (has_record s write.key)) n (fate_in log write.key) ≡ Held
-  own_held Put at here = refl
-  own_held Del at here = absurd (true≢false (sym here ∙ ap is_some (others_lack write.key s.records)))
+  touch_held : (o : Option Record) → record_of s write.key ≡ o → has_record (cs.after_touch o s write) write.key ≡ true → fate_written (cs.reply_of Touch options write (is_some o)) n (fate_in log write.key) ≡ Held
+  touch_held None at here = absurd (true≢false (sym here ∙ ap is_some at))
+  touch_held (Some held) at here = refl
+
+  own_held : (op : Op) → op ≡ write.op → is_accepted (cs.reply_of op options write (has_record s write.key)) ≡ true → has_record (cs.after_op op options s write) write.key ≡ true
+      → fate_written (cs.reply_of op options write (has_record s write.key)) n (fate_in log write.key) ≡ Held
+  own_held Put at done here = ap (λ o. fate_written o n (fate_in log write.key)) (stored_by options write done)
+  own_held Add at done here = ap (λ o. fate_written o n (fate_in log write.key)) (added_by options write (has_record s write.key) done)
+  own_held Touch at done here = touch_held (record_of s write.key) refl here
+  own_held Del at done here = absurd (true≢false (sym here ∙ ap is_some (others_lack write.key s.records)))
+
+  touch_gone : (o : Option Record) → record_of s write.key ≡ o → has_record (cs.after_touch o s write) write.key ≡ false
+      → fate_written (cs.reply_of Touch options write (is_some o)) n (fate_in log write.key) ≡ cond (is_some o) (Deleted n) (fate_in log write.key)
+  touch_gone None at gone = refl
+  touch_gone (Some held) at gone = absurd (true≢false (sym (ap is_some (appended_own options s write held.value)) ∙ gone))
 
   own_gone : (op : Op) → op ≡ write.op → has_record (cs.after_op op options s write) write.key ≡ false
       → fate_written (cs.reply_of op options write (has_record s write.key)) n (fate_in log write.key) ≡ cond (has_record s write.key) (Deleted n) (fate_in log write.key)
-  own_gone Put at gone = absurd (true≢false (sym (written_held options valid s kept write is (sym at)) ∙ (ap (λ (op : Op). has_record (cs.after_op op options s write) write.key) (sym at) ∙ gone)))
+  own_gone Put at gone = absurd (true≢false (sym (written_held options s kept write is (λ gives. reply_fits options write write.op (has_record s write.key) gives done) (subst GivesValue at tt)) ∙ (ap (λ (op : Op). has_record (cs.after_op op options s write) write.key) (sym at) ∙ gone)))
+  own_gone Add at gone = absurd (true≢false (sym (written_held options s kept write is (λ gives. reply_fits options write write.op (has_record s write.key) gives done) (subst GivesValue at tt)) ∙ (ap (λ (op : Op). has_record (cs.after_op op options s write) write.key) (sym at) ∙ gone)))
+  own_gone Touch at gone = touch_gone (record_of s write.key) refl gone
   own_gone Del at gone = elim (has_record s write.key) as (λ b. fate_written (cs.reply_of Del options write b) n (fate_in log write.key) ≡ cond b (Deleted n) (fate_in log write.key)) [ true ↦ refl | false ↦ refl ]
 
   -- of each key, after the write itself
@@ -64,7 +89,7 @@ module _ (options : Options) (valid : IsValid options) (s : Cache) (kept : IsKep
   wrote_held key here = notes key ∙ elim (bytes_eq write.key key) as (λ b. bytes_eq write.key key ≡ b → cond b fate (fate_in log key) ≡ Held) [
     | true ↦ λ same.
         let own : write.key ≡ key = (bytes_eq-Decides write.key key).0 same in
-        fate_is ∙ own_held write.op refl (ap (has_record (cs.after_write options s write)) own ∙ here)
+        fate_is ∙ own_held write.op refl done (ap (has_record (cs.after_write options s write)) own ∙ here)
     | false ↦ λ other.
         let differ : key ≢ write.key = λ e. true≢false (sym ((bytes_eq-Decides write.key key).1 (sym e)) ∙ other) in
         right key (ap is_some (sym (written_same options s write key differ)) ∙ here)

@@ -9,9 +9,9 @@ use Rattle.mica_model.specs.declared.options.Mode.{Mode}
 use Rattle.mica_model.specs.declared.options.Mode.TheVariants.{Cache as CacheMode, Store as StoreMode}
 use Rattle.mica_model.specs.declared.write.Write.{Write}
 use Rattle.mica_model.specs.declared.write.Op.{Op}
-use Rattle.mica_model.specs.declared.write.Op.TheVariants.{Put, Del}
+use Rattle.mica_model.specs.declared.write.Op.TheVariants.{Put, Add, Del, Touch}
 use Rattle.mica_model.specs.declared.write.Outcome.{Outcome}
-use Rattle.mica_model.specs.declared.write.Outcome.TheVariants.{Stored, Deleted, Absent, FullSpare, FullBlock, Worn}
+use Rattle.mica_model.specs.declared.write.Outcome.TheVariants.{Stored, Deleted, Absent, Touched, FullSpare, FullBlock, Worn, Exists}
 use Rattle.mica_model.specs.Write.{is_accepted}
 use Rattle.mica_model.specs.Cache as cache
 use Rattle.mica_model.specs.CacheStep as cs
@@ -52,11 +52,23 @@ snoc_from options before (w ∷ later) write is accepted =
 pub history_snoc : (options : Options) (history : History) (write : Write) → IsHistory options history → IsAcceptedAfter options history write → IsHistory options (history ++ write ∷ [])
 history_snoc options history write is accepted = snoc_from options [] history write is accepted
 
+-- the last write of a history is accepted after those before it
+
+last_from : (options : Options) (before later : History) (write : Write) → IsHistoryFrom options before (later ++ write ∷ []) → IsAcceptedAfter options (before ++ later) write
+last_from options before [] write is = subst (λ (h : History). IsAcceptedAfter options h write) (sym (append-nil before)) is.0
+last_from options before (w ∷ later) write is =
+    subst (λ (h : History). IsAcceptedAfter options h write) (append_assoc before (w ∷ []) later) (last_from options (before ++ w ∷ []) later write is.1)
+
+pub last_accepted : (options : Options) (history : History) (write : Write) → IsHistory options (history ++ write ∷ []) → IsAcceptedAfter options history write
+last_accepted options history write is = last_from options [] history write is
+
 -- the machine has accepted as many writes as the history has
 
 store_accepted : (op : Op) (s : store.Store) (write : Write) → (ss.after_op op s write).accepted ≡ s.accepted + 1
 store_accepted Put s write = refl
+store_accepted Add s write = refl
 store_accepted Del s write = refl
+store_accepted Touch s write = refl
 
 pub accepted_after : (options : Options) (now : State) (write : Write) → accepted_in (after options now write) ≡ accepted_in now + 1
 unfolding cs.after ss.after
@@ -91,9 +103,11 @@ store_unworn : (options : Options) (s : store.Store) (write : Write) (outcome : 
 store_unworn options s write Stored accepted is = let not_worn = is.0 in omega arith
 store_unworn options s write Deleted accepted is = let not_worn = is.0 in omega arith
 store_unworn options s write Absent accepted is = let not_worn = is.0 in omega arith
+store_unworn options s write Touched accepted is = let not_worn = is.0 in omega arith
 store_unworn options s write FullSpare accepted is = cc
 store_unworn options s write FullBlock accepted is = cc
 store_unworn options s write Worn accepted is = cc
+store_unworn options s write Exists accepted is = cc
 
 unworn_in : (options : Options) (now : State) (write : Write) (outcome : Outcome) → is_accepted outcome ≡ true → Allows options now write outcome → accepted_in now < options.wear
 unworn_in options (cache_state s) write outcome accepted is = cache_unworn options s write outcome accepted is

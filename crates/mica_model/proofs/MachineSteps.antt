@@ -1,27 +1,25 @@
 -- Accepted writes, by the fields of the machine.
-use Rattle.std.proofs.Common.{◌≡◌, ℕ, List, ◌+◌, ◌<◌, ◌≤◌, ◌⊎◌, ⊎_elim, refl, sym, ap, ◌∙◌, subst, arith, cond, true}
+use Rattle.std.proofs.Common.{◌≡◌, ℕ, List, ◌+◌, ◌<◌, ◌≤◌, ◌⊎◌, ⊎_elim, inl, inr, None, refl, sym, ap, ◌∙◌, subst, arith}
 use Rattle.std.proofs.Math.Nat.{mod-lt, one-le-pow}
 use Rattle.std.specs.Prelude.{max}
 use Rattle.std.specs.FinMap.{get, insert, remove}
 use Rattle.mica_words.specs.Hash.{fnv1a, bucket_of}
 use Rattle.mica_words.specs.Item.{item_size}
+use Rattle.mica_model.specs.declared.options.Options.{Options}
 use Rattle.mica_model.specs.declared.write.Op.{Op}
-use Rattle.mica_model.specs.declared.write.Op.TheVariants.{Put, Del}
+use Rattle.mica_model.specs.declared.write.Op.TheVariants.{Put, Add, Del, Touch}
 use Rattle.mica_model.specs.declared.write.Outcome.{Outcome}
-use Rattle.mica_model.specs.declared.write.Outcome.TheVariants.{Stored, Deleted, Absent}
+use Rattle.mica_model.specs.declared.write.Outcome.TheVariants.{Stored, Deleted, Absent, Touched}
+use Rattle.mica_model.specs.declared.write.Write.{Write}
 use Rattle.mica_model.specs.declared.store_machine.StoreMachine.TheInside.{Inside}
-use Rattle.mica_model.specs.Write.{GivesValue, write_of, is_accepted}
+use Rattle.mica_model.specs.Write.{GivesValue, write_of}
 use Rattle.mica_model.specs.Store.{Store, room_of, rooms, spares_in_use}
 use Rattle.mica_model.specs.StoreStep.{Allows, after}
 use Rattle.mica_model.specs.CellTable.{Table, with_cells}
 use Rattle.mica_model.specs.StoreMachineFields.{IsMachine}
 use Rattle.mica_model.specs.History.{IsStep, store_state}
+use Rattle.mica_model.proofs.CellSums.{remove_none}
 use Rattle.mica_model.proofs.StoreSteps.{put_state, put_rooms, put_spares, delete_rooms, delete_spares}
-
--- an operation that gives no value is a delete
-pub gives_none : (op : Op) → ¬ (GivesValue op) → op ≡ Del
-gives_none Put none = absurd (none tt)
-gives_none Del none = refl
 
 -- the machine with another table, after an accepted write
 abbrev pub accepting : Inside → Table → Inside
@@ -29,6 +27,14 @@ accepting a table = record { options = a.options; table = table; stamp = a.stamp
 
 abbrev pub store_of : Inside → Store
 store_of a = record { cells = a.table.cells; stamp = a.stamp; accepted = a.accepted }
+
+-- a partition that replies so is not worn
+pub is_alive : (options : Options) (s : Store) (write : Write) (outcome : Outcome) → (outcome ≡ Absent) ⊎ (outcome ≡ Touched) → Allows options s write outcome
+    → ¬ (options.wear ≤ s.accepted)
+is_alive options s write outcome which allowed = ⊎_elim
+    (λ is. subst (λ o. Allows options s write o → ¬ (options.wear ≤ s.accepted)) (sym is) (λ absent. absent.0) allowed)
+    (λ is. subst (λ o. Allows options s write o → ¬ (options.wear ≤ s.accepted)) (sym is) (λ touched. touched.0) allowed)
+    which
 
 bucket_within : (key : List ℕ) (buckets : ℕ) → 0 < buckets → bucket_of key buckets < buckets
 unfolding bucket_of
@@ -61,18 +67,11 @@ module _ (a : Inside) (m : IsMachine a) (op : Op) (key value : List ℕ) where
           ∙ ap store_state (sym (put_state a.options (store_of a) op key value room takes op allowed.1.0.0));
     }
 
-  module _ (outcome : Outcome) (which : (outcome ≡ Deleted) ⊎ (outcome ≡ Absent)) (allowed : Allows a.options (store_of a) (write_of op key value) outcome)
-      (table : Table) (new : table ≡ with_cells a.table (remove a.table.cells key)) where
-    deletes : (op ≡ Del) × (is_accepted outcome ≡ true) × (¬ (a.options.wear ≤ a.accepted))
-    deletes =
-        ⊎_elim (λ is. let there = subst (Allows a.options (store_of a) (write_of op key value)) is allowed in (there.1.0, ap is_accepted is, there.0))
-        (λ is. let there = subst (Allows a.options (store_of a) (write_of op key value)) is allowed in (gives_none op there.1.0, ap is_accepted is, there.0))
-        which
-
+  module _ (allowed : Allows a.options (store_of a) (write_of op key value) Deleted) (table : Table) (new : table ≡ with_cells a.table (remove a.table.cells key)) where
     pub delete_keeps : IsMachine (accepting a table)
     delete_keeps =
         let words = delete_rooms (store_of a) key in
-        let alive = deletes.2 in
+        let alive = allowed.0 in
         let bound = m.words in
         let less : rooms (remove a.table.cells key) ≤ a.options.words = omega arith in
         record {
@@ -88,11 +87,38 @@ module _ (a : Inside) (m : IsMachine a) (op : Op) (key value : List ℕ) where
     unfolding after
     delete_state = refl
 
-    pub delete_steps : IsStep a.options (store_state (store_of a)) (write_of op key value) outcome (store_state (store_of (accepting a table)))
+    pub delete_steps : IsStep a.options (store_state (store_of a)) (write_of op key value) Deleted (store_state (store_of (accepting a table)))
     delete_steps = record {
       allowed = allowed;
       result = ap (λ (t : Table). store_state (record { cells = t.cells; stamp = a.stamp + 1; accepted = a.accepted + 1 })) new
           ∙ ap store_state (sym delete_state)
-          ∙ ap (λ o. store_state (after (store_of a) (write_of o key value))) (sym deletes.0)
-          ∙ ap (λ b. cond b (store_state (after (store_of a) (write_of op key value))) (store_state (store_of a))) (sym deletes.1);
+          ∙ ap (λ o. store_state (after (store_of a) (write_of o key value))) (sym allowed.1.0);
     }
+
+  -- a write that changes no key: a touch, or a delete of a key that is not there
+  pub stay_keeps : ¬ (a.options.wear ≤ a.accepted) → IsMachine (accepting a a.table)
+  stay_keeps alive = record {
+    valid = m.valid;
+    buckets = m.buckets;
+    words = m.words;
+    spares = m.spares;
+    stamp = ap (λ n. n + 1) m.stamp;
+    accepted = omega arith;
+  }
+
+  stay_state : (op_ : Op) → (op_ ≡ Touch) ⊎ (¬ (GivesValue op_) × (get a.table.cells key ≡ None)) → after (store_of a) (write_of op_ key value) ≡ store_of (accepting a a.table)
+  unfolding after
+  stay_state Put which = ⊎_elim (λ is. cc) (λ none. absurd (none.0 tt)) which
+  stay_state Add which = ⊎_elim (λ is. cc) (λ none. absurd (none.0 tt)) which
+  stay_state Del which =
+      ⊎_elim (λ is. cc) (λ none. ap (λ cells. record { cells = cells; stamp = a.stamp + 1; accepted = a.accepted + 1 }) (sym (remove_none a.table.cells key none.1))) which
+  stay_state Touch which = refl
+
+  pub stay_steps : (outcome : Outcome) → (outcome ≡ Absent) ⊎ (outcome ≡ Touched) → Allows a.options (store_of a) (write_of op key value) outcome
+      → IsStep a.options (store_state (store_of a)) (write_of op key value) outcome (store_state (store_of (accepting a a.table)))
+  stay_steps outcome which allowed = ⊎_elim
+      (λ is. subst (λ o. Allows a.options (store_of a) (write_of op key value) o → IsStep a.options (store_state (store_of a)) (write_of op key value) o (store_state (store_of (accepting a a.table)))) (sym is)
+      (λ absent. record { allowed = absent; result = ap store_state (sym (stay_state op (inr absent.1))) }) allowed)
+      (λ is. subst (λ o. Allows a.options (store_of a) (write_of op key value) o → IsStep a.options (store_state (store_of a)) (write_of op key value) o (store_state (store_of (accepting a a.table)))) (sym is)
+      (λ touched. record { allowed = touched; result = ap store_state (sym (stay_state op (inl touched.1.0))) }) allowed)
+      which

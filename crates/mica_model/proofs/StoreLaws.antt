@@ -15,7 +15,7 @@ use Rattle.mica_model.specs.declared.options.Mode.{Mode}
 use Rattle.mica_model.specs.declared.options.Mode.TheVariants.{Cache as CacheMode, Store as StoreMode}
 use Rattle.mica_model.specs.declared.write.Write.{Write}
 use Rattle.mica_model.specs.declared.write.Op.{Op}
-use Rattle.mica_model.specs.declared.write.Op.TheVariants.{Put, Del}
+use Rattle.mica_model.specs.declared.write.Op.TheVariants.{Put, Add, Del, Touch}
 use Rattle.mica_model.specs.Write.{IsWrite, HasValueOf, size_of}
 use Rattle.mica_model.specs.Store.{Cell, Store, start as store_start}
 use Rattle.mica_model.specs.StoreStep as ss
@@ -39,10 +39,15 @@ bytes_differ key key' differ = false_from_ne_true (same_bytes key key') (λ e. d
 
 -- a write touches its own key alone
 
-op_same : (op : Op) (s : Store) (write : Write) (key : List ℕ) → key ≢ write.key → get (ss.after_op op s write).cells key ≡ get s.cells key
-op_same Put s write key other =
+put_same : (s : Store) (write : Write) (key : List ℕ) → key ≢ write.key → get (ss.after_put s write).cells key ≡ get s.cells key
+put_same s write key other =
     get-insert nat_list_cmp_total s.cells write.key (record { value = write.value; room = ss.room_after (get s.cells write.key) (size_of write) }) key
     ∙ ap (λ b. cond b (Some (record { value = write.value; room = ss.room_after (get s.cells write.key) (size_of write) })) (get s.cells key)) (bytes_differ key write.key other)
+
+op_same : (op : Op) (s : Store) (write : Write) (key : List ℕ) → key ≢ write.key → get (ss.after_op op s write).cells key ≡ get s.cells key
+op_same Put s write key other = put_same s write key other
+op_same Add s write key other = put_same s write key other
+op_same Touch s write key other = refl
 op_same Del s write key other = get-remove nat_list_cmp_total s.cells write.key key ∙ ap (λ b. cond b None (get s.cells key)) (bytes_differ key write.key other)
 
 pub others_same : (s : Store) (write : Write) (key : List ℕ) → key ≢ write.key → get (ss.after s write).cells key ≡ get s.cells key
@@ -84,8 +89,8 @@ module _ (s : Store) (kept : IsKept s) (write : Write) (is : IsWrite write) wher
       let rooms = room_by (get s.cells write.key) (size_of write) (size_at_most write is) (λ cell found. (kept.are write.key cell found).room) in
       record { key_fits = is.key; key_bytes = is.key_bytes; value = value; value_bytes = is.value_bytes; size = rooms.0; room = rooms.1 }
 
-  after_op_kept : (op : Op) → HasValueOf op write.value → IsKept (ss.after_op op s write)
-  after_op_kept Put value = record {
+  after_put_kept : ValueFits write.value → IsKept (ss.after_put s write)
+  after_put_kept value = record {
     are = λ key cell found. elim (same_bytes key write.key) as (λ b. same_bytes key write.key ≡ b → cond b (Some put_cell) (get s.cells key) ≡ Some cell → IsCell key cell) [
       | true ↦ λ same e.
           subst (λ (k : List ℕ). IsCell k cell) (sym (bytes_are_same key write.key same)) (subst (IsCell write.key) (same_Some put_cell cell e) (put_cell_is value))
@@ -93,6 +98,11 @@ module _ (s : Store) (kept : IsKept s) (write : Write) (is : IsWrite write) wher
     ] refl (sym (get-insert nat_list_cmp_total s.cells write.key put_cell key) ∙ found);
     stamp = let e = kept.stamp in omega arith;
   }
+
+  after_op_kept : (op : Op) → HasValueOf op write.value → IsKept (ss.after_op op s write)
+  after_op_kept Put value = after_put_kept value
+  after_op_kept Add value = after_put_kept value
+  after_op_kept Touch none = record { are = kept.are; stamp = (let e = kept.stamp in omega arith) }
   after_op_kept Del none = record {
     are = λ key cell found. elim (same_bytes key write.key) as (λ b. cond b None (get s.cells key) ≡ Some cell → IsCell key cell) [
       | true ↦ λ e. cc

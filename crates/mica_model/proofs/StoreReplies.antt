@@ -5,16 +5,16 @@ use Rattle.std.specs.FinMap.{get}
 use Rattle.std.proofs.lemmas.Bool.{false≢true}
 use Rattle.mica_model.specs.declared.options.Options.{Options}
 use Rattle.mica_model.specs.declared.write.Op.{Op}
-use Rattle.mica_model.specs.declared.write.Op.TheVariants.{Put, Del}
+use Rattle.mica_model.specs.declared.write.Op.TheVariants.{Put, Add, Del, Touch}
 use Rattle.mica_model.specs.declared.write.Outcome.{Outcome}
-use Rattle.mica_model.specs.declared.write.Outcome.TheVariants.{Stored, Deleted, Absent, FullSpare, FullBlock, Worn}
+use Rattle.mica_model.specs.declared.write.Outcome.TheVariants.{Stored, Deleted, Absent, Touched, FullSpare, FullBlock, Worn, Exists}
 use Rattle.mica_model.specs.declared.write.Write.{Write}
-use Rattle.mica_model.specs.Write.{write_of}
+use Rattle.mica_model.specs.Write.{GivesValue, Replaces, write_of}
 use Rattle.mica_model.specs.Cache as cache
 use Rattle.mica_model.specs.CacheStep as cs
 use Rattle.mica_model.specs.Store.{Cell, Store}
 use Rattle.mica_model.specs.History.{State, cache_state, store_state, accepted_in, Allows as AllowsIn}
-use Rattle.mica_model.specs.StoreStep.{Allows, AllowsUnworn, IsWorn, FitsRoom, NeedsSpare, NeedsBlock, HasWords, MayLackBlock}
+use Rattle.mica_model.specs.StoreStep.{Allows, AllowsUnworn, IsWorn, FitsRoom, NeedsSpare, NeedsBlock, Stores}
 
 no_cell : (P : Cell → Type 0) (o : Option Cell) → o ≡ None → IsSomeAnd o P → ⊥
 no_cell P o none some = subst (λ p. IsSomeAnd p P) none some
@@ -23,6 +23,8 @@ pub when_worn : (options : Options) (s : Store) (write : Write) → IsWorn optio
 when_worn options s write worn Stored = (λ e. cc, λ a. absurd (a.0 worn))
 when_worn options s write worn Deleted = (λ e. cc, λ a. absurd (a.0 worn))
 when_worn options s write worn Absent = (λ e. cc, λ a. absurd (a.0 worn))
+when_worn options s write worn Touched = (λ e. cc, λ a. absurd (a.0 worn))
+when_worn options s write worn Exists = (λ e. cc, λ a. absurd (a.0 worn))
 when_worn options s write worn FullSpare = (λ e. cc, λ a. absurd (a.0 worn))
 when_worn options s write worn FullBlock = (λ e. cc, λ a. absurd (a.0 worn))
 when_worn options s write worn Worn = (λ e. worn, λ a. refl)
@@ -36,49 +38,98 @@ pub worn_in : (options : Options) (now : State) (write : Write) → options.wear
 worn_in options (cache_state s) write worn outcome = let is = worn_reply options s write worn in (λ e. e ∙ sym is, λ a. a ∙ is)
 worn_in options (store_state s) write worn outcome = when_worn options s write worn outcome
 
+no_none : (o : Option Cell) → o ≡ None → IsSome o → ⊥
+no_none o none some = false≢true (subst IsSome none some)
+
+-- an operation that gives a value is no delete and no touch, and an add is none that replaces one
+
+no_delete : (op : Op) → GivesValue op → op ≡ Del → ⊥
+no_delete op gives is = subst GivesValue is gives
+
+no_touch : (op : Op) → GivesValue op → op ≡ Touch → ⊥
+no_touch op gives is = subst GivesValue is gives
+
+pub replaces : (op : Op) → GivesValue op → op ≢ Add → Replaces op
+replaces Put gives other = tt
+replaces Add gives other = absurd (other refl)
+replaces Del gives other = gives
+replaces Touch gives other = gives
+
+no_add : (s : Store) (op : Op) (key value : List ℕ) → Stores s (write_of op key value) → op ≡ Add → IsSome (get s.cells key) → ⊥
+no_add s op key value stores is some = ⊎_elim (λ can. subst Replaces is can) (λ none. no_none (get s.cells key) none some) stores.1
+
 module _ (options : Options) (s : Store) (key value : List ℕ) (alive : ¬ (IsWorn options s)) where
-  -- a delete of a key that has a value, and of one that has none
-  pub of_present : IsSome (get s.cells key) → (outcome : Outcome) → (outcome ≡ Deleted) ↔ Allows options s (write_of Del key value) outcome
-  of_present some Stored = (λ e. cc, λ a. absurd a.1.0.0)
-  of_present some Deleted = (λ e. (alive, (refl, some)), λ a. refl)
-  of_present some Absent = (λ e. cc, λ a. absurd (false≢true (subst IsSome a.1.1 some)))
-  of_present some FullSpare = (λ e. cc, λ a. absurd a.1.0)
-  of_present some FullBlock = (λ e. cc, λ a. absurd a.1.0.stores.0)
-  of_present some Worn = (λ e. cc, λ a. absurd (alive a))
+  -- a delete and a touch of a key that has a value, and either of one that has none
+  pub of_deleted : IsSome (get s.cells key) → (outcome : Outcome) → (outcome ≡ Deleted) ↔ Allows options s (write_of Del key value) outcome
+  of_deleted some Stored = (λ e. cc, λ a. absurd a.1.0.0)
+  of_deleted some Deleted = (λ e. (alive, (refl, some)), λ a. refl)
+  of_deleted some Absent = (λ e. cc, λ a. absurd (no_none _ a.1.1 some))
+  of_deleted some Touched = (λ e. cc, λ a. let no : Del ≡ Touch = a.1.0 in cc)
+  of_deleted some FullSpare = (λ e. cc, λ a. absurd a.1.0)
+  of_deleted some FullBlock = (λ e. cc, λ a. absurd a.1.0.stores.0)
+  of_deleted some Worn = (λ e. cc, λ a. absurd (alive a))
+  of_deleted some Exists = (λ e. cc, λ a. let no : Del ≡ Add = a.1.0 in cc)
 
-  pub of_absent : get s.cells key ≡ None → (outcome : Outcome) → (outcome ≡ Absent) ↔ Allows options s (write_of Del key value) outcome
-  of_absent none Stored = (λ e. cc, λ a. absurd a.1.0.0)
-  of_absent none Deleted = (λ e. cc, λ a. absurd (false≢true (subst IsSome none a.1.1)))
-  of_absent none Absent = (λ e. (alive, ((λ gives. gives), none)), λ a. refl)
-  of_absent none FullSpare = (λ e. cc, λ a. absurd a.1.0)
-  of_absent none FullBlock = (λ e. cc, λ a. absurd a.1.0.stores.0)
-  of_absent none Worn = (λ e. cc, λ a. absurd (alive a))
+  pub of_touched : IsSome (get s.cells key) → (outcome : Outcome) → (outcome ≡ Touched) ↔ Allows options s (write_of Touch key value) outcome
+  of_touched some Stored = (λ e. cc, λ a. absurd a.1.0.0)
+  of_touched some Deleted = (λ e. cc, λ a. let no : Touch ≡ Del = a.1.0 in cc)
+  of_touched some Absent = (λ e. cc, λ a. absurd (no_none _ a.1.1 some))
+  of_touched some Touched = (λ e. (alive, (refl, some)), λ a. refl)
+  of_touched some FullSpare = (λ e. cc, λ a. absurd a.1.0)
+  of_touched some FullBlock = (λ e. cc, λ a. absurd a.1.0.stores.0)
+  of_touched some Worn = (λ e. cc, λ a. absurd (alive a))
+  of_touched some Exists = (λ e. cc, λ a. let no : Touch ≡ Add = a.1.0 in cc)
 
-  abbrev put : Write
-  put = write_of Put key value
+  pub of_absent : (op : Op) → ¬ (GivesValue op) → get s.cells key ≡ None → (outcome : Outcome) → (outcome ≡ Absent) ↔ Allows options s (write_of op key value) outcome
+  of_absent op other none Stored = (λ e. cc, λ a. absurd (other a.1.0.0))
+  of_absent op other none Deleted = (λ e. cc, λ a. absurd (no_none _ none a.1.1))
+  of_absent op other none Absent = (λ e. (alive, (other, none)), λ a. refl)
+  of_absent op other none Touched = (λ e. cc, λ a. absurd (no_none _ none a.1.1))
+  of_absent op other none FullSpare = (λ e. cc, λ a. absurd (other a.1.0))
+  of_absent op other none FullBlock = (λ e. cc, λ a. absurd (other a.1.0.stores.0))
+  of_absent op other none Worn = (λ e. cc, λ a. absurd (alive a))
+  of_absent op other none Exists = (λ e. cc, λ a. absurd (no_none _ none a.1.1))
 
-  -- a put that its key's room takes, one that lacks a spare, and one that needs a block
-  pub of_fit : FitsRoom s (write_of Put key value) → (outcome : Outcome) → (outcome ≡ Stored) ↔ Allows options s (write_of Put key value) outcome
-  of_fit fits Stored = (λ e. (alive, ((tt, inl tt), inl fits)), λ a. refl)
-  of_fit fits Deleted = (λ e. cc, λ a. let no : Put ≡ Del = a.1.0 in cc)
-  of_fit fits Absent = (λ e. cc, λ a. absurd (a.1.0 tt))
-  of_fit fits FullSpare = (λ e. cc, λ a. absurd (no_cell _ (get s.cells key) a.1.1.is_new fits))
-  of_fit fits FullBlock = (λ e. cc, λ a. absurd (a.1.0.no_room fits))
-  of_fit fits Worn = (λ e. cc, λ a. absurd (alive a))
+  -- an add of a key that has a value
+  pub of_exists : IsSome (get s.cells key) → (outcome : Outcome) → (outcome ≡ Exists) ↔ Allows options s (write_of Add key value) outcome
+  of_exists some Stored = (λ e. cc, λ a. absurd (no_add s Add key value a.1.0 refl some))
+  of_exists some Deleted = (λ e. cc, λ a. let no : Add ≡ Del = a.1.0 in cc)
+  of_exists some Absent = (λ e. cc, λ a. absurd (a.1.0 tt))
+  of_exists some Touched = (λ e. cc, λ a. let no : Add ≡ Touch = a.1.0 in cc)
+  of_exists some FullSpare = (λ e. cc, λ a. absurd (no_none _ a.1.1.is_new some))
+  of_exists some FullBlock = (λ e. cc, λ a. absurd (no_add s Add key value a.1.0.stores refl some))
+  of_exists some Worn = (λ e. cc, λ a. absurd (alive a))
+  of_exists some Exists = (λ e. (alive, (refl, some)), λ a. refl)
 
-  pub of_lack : NeedsSpare options s key → (outcome : Outcome) → (outcome ≡ FullSpare) ↔ Allows options s (write_of Put key value) outcome
-  of_lack lacks Stored = (λ e. cc, λ a. ⊎_elim (λ fits. absurd (no_cell _ (get s.cells key) lacks.is_new fits)) (λ has. absurd (has.0.has_spare lacks)) a.1.1)
-  of_lack lacks Deleted = (λ e. cc, λ a. let no : Put ≡ Del = a.1.0 in cc)
-  of_lack lacks Absent = (λ e. cc, λ a. absurd (a.1.0 tt))
-  of_lack lacks FullSpare = (λ e. (alive, (tt, lacks)), λ a. refl)
-  of_lack lacks FullBlock = (λ e. cc, λ a. absurd (a.1.0.has_spare lacks))
-  of_lack lacks Worn = (λ e. cc, λ a. absurd (alive a))
+  module _ (op : Op) (gives : GivesValue op) where
+    -- a put that its key's room takes, a write that lacks a spare, and one that needs a block
+    pub of_fit : Stores s (write_of op key value) → FitsRoom s (write_of op key value) → (outcome : Outcome) → (outcome ≡ Stored) ↔ Allows options s (write_of op key value) outcome
+    of_fit stores fits Stored = (λ e. (alive, (stores, inl fits)), λ a. refl)
+    of_fit stores fits Deleted = (λ e. cc, λ a. absurd (no_delete op gives a.1.0))
+    of_fit stores fits Absent = (λ e. cc, λ a. absurd (a.1.0 gives))
+    of_fit stores fits Touched = (λ e. cc, λ a. absurd (no_touch op gives a.1.0))
+    of_fit stores fits FullSpare = (λ e. cc, λ a. absurd (no_cell _ (get s.cells key) a.1.1.is_new fits))
+    of_fit stores fits FullBlock = (λ e. cc, λ a. absurd (a.1.0.no_room fits))
+    of_fit stores fits Worn = (λ e. cc, λ a. absurd (alive a))
+    of_fit stores fits Exists = (λ e. cc, λ a. absurd (no_add s op key value stores a.1.0 a.1.1))
 
-  module _ (needs : NeedsBlock options s (write_of Put key value)) where
-    pub of_others : (outcome : Outcome) → outcome ≢ Stored → outcome ≢ FullBlock → ¬ (Allows options s (write_of Put key value) outcome)
-    of_others Stored no_stored no_full a = no_stored refl
-    of_others Deleted no_stored no_full a = let no : Put ≡ Del = a.1.0 in cc
-    of_others Absent no_stored no_full a = a.1.0 tt
-    of_others FullSpare no_stored no_full a = needs.has_spare a.1.1
-    of_others FullBlock no_stored no_full a = no_full refl
-    of_others Worn no_stored no_full a = alive a
+    pub of_lack : NeedsSpare options s key → (outcome : Outcome) → (outcome ≡ FullSpare) ↔ Allows options s (write_of op key value) outcome
+    of_lack lacks Stored = (λ e. cc, λ a. ⊎_elim (λ fits. absurd (no_cell _ (get s.cells key) lacks.is_new fits)) (λ has. absurd (has.0.has_spare lacks)) a.1.1)
+    of_lack lacks Deleted = (λ e. cc, λ a. absurd (no_delete op gives a.1.0))
+    of_lack lacks Absent = (λ e. cc, λ a. absurd (a.1.0 gives))
+    of_lack lacks Touched = (λ e. cc, λ a. absurd (no_touch op gives a.1.0))
+    of_lack lacks FullSpare = (λ e. (alive, (gives, lacks)), λ a. refl)
+    of_lack lacks FullBlock = (λ e. cc, λ a. absurd (a.1.0.has_spare lacks))
+    of_lack lacks Worn = (λ e. cc, λ a. absurd (alive a))
+    of_lack lacks Exists = (λ e. cc, λ a. absurd (no_none _ lacks.is_new a.1.1))
+
+    module _ (needs : NeedsBlock options s (write_of op key value)) where
+      pub of_others : (outcome : Outcome) → outcome ≢ Stored → outcome ≢ FullBlock → ¬ (Allows options s (write_of op key value) outcome)
+      of_others Stored no_stored no_full a = no_stored refl
+      of_others Deleted no_stored no_full a = no_delete op gives a.1.0
+      of_others Absent no_stored no_full a = a.1.0 gives
+      of_others Touched no_stored no_full a = no_touch op gives a.1.0
+      of_others FullSpare no_stored no_full a = needs.has_spare a.1.1
+      of_others FullBlock no_stored no_full a = no_full refl
+      of_others Worn no_stored no_full a = alive a
+      of_others Exists no_stored no_full a = no_add s op key value needs.stores a.1.0 a.1.1

@@ -9,10 +9,10 @@ use Rattle.mica_words.specs.Hash.{bucket_of}
 use Rattle.mica_words.specs.Item.{item_size}
 use Rattle.mica_model.specs.declared.options.Options.{Options}
 use Rattle.mica_model.specs.declared.write.Op.{Op}
-use Rattle.mica_model.specs.declared.write.Op.TheVariants.{Put, Del}
+use Rattle.mica_model.specs.declared.write.Op.TheVariants.{Put, Add, Del, Touch}
 use Rattle.mica_model.specs.Write.{GivesValue, write_of}
 use Rattle.mica_model.specs.Store.{Cell, Store, room_of, rooms, keys_in, spares_in_use}
-use Rattle.mica_model.specs.StoreStep.{FitsRoom, NeedsBlock, HasWords, room_after, after}
+use Rattle.mica_model.specs.StoreStep.{FitsRoom, NeedsBlock, HasWords, room_after, after_put, after}
 use Rattle.mica_model.proofs.CellSums.{rooms_insert, rooms_remove, remove_none}
 use Rattle.mica_model.proofs.TableSteps.{new_spares, over_spares, less_spares, less_here}
 
@@ -32,10 +32,15 @@ module _ (options : Options) (s : Store) (op : Op) (key value : List ℕ) (room 
   abbrev pub new_cell : Cell
   new_cell = record { value = value; room = room }
 
+  put_given : after_put s (write_of op key value) ≡ record { cells = insert s.cells key new_cell; stamp = s.stamp + 1; accepted = s.accepted + 1 }
+  put_given = ap (λ r. record { cells = insert s.cells key (record { value = value; room = r }); stamp = s.stamp + 1; accepted = s.accepted + 1 }) (room_is (get s.cells key) (item_size key value) ∙ sym takes)
+
   pub put_state : (op_ : Op) → GivesValue op_ → after s (write_of op_ key value) ≡ record { cells = insert s.cells key new_cell; stamp = s.stamp + 1; accepted = s.accepted + 1 }
   unfolding after
-  put_state Put gives = ap (λ r. record { cells = insert s.cells key (record { value = value; room = r }); stamp = s.stamp + 1; accepted = s.accepted + 1 }) (room_is (get s.cells key) (item_size key value) ∙ sym takes)
+  put_state Put gives = put_given
+  put_state Add gives = put_given
   put_state Del gives = absurd gives
+  put_state Touch gives = absurd gives
 
   pub put_rooms : FitsRoom s (write_of op key value) ⊎ (NeedsBlock options s (write_of op key value) × HasWords options s (write_of op key value))
       → rooms s.cells ≤ options.words → rooms (insert s.cells key new_cell) ≤ options.words

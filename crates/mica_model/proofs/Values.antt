@@ -11,7 +11,7 @@ use Rattle.mica_model.specs.declared.options.Options.{Options}
 use Rattle.mica_model.specs.declared.options.Mode.{Mode}
 use Rattle.mica_model.specs.declared.options.Mode.TheVariants.{Cache as CacheMode, Store as StoreMode}
 use Rattle.mica_model.specs.declared.write.Op.{Op}
-use Rattle.mica_model.specs.declared.write.Op.TheVariants.{Put, Del}
+use Rattle.mica_model.specs.declared.write.Op.TheVariants.{Put, Add, Touch, Del}
 use Rattle.mica_model.specs.declared.write.Write.{Write}
 use Rattle.mica_model.specs.Cache.{Record, Cache, has_key, is_live}
 use Rattle.mica_model.specs.Cache as cache
@@ -37,12 +37,21 @@ module _ (P : List ℕ → Type 0) where
   rewritten write true r fits has = fits
   rewritten write false r fits has = has
 
+  append_are : (s : Cache) (key value : List ℕ) → P value → AllOf (λ r. P r.value) s.records → AllOf (λ r. P r.value) (cs.after_append s (cs.new_record s key value)).records
+  append_are s key value fits all = all_push (λ r. P r.value) _ (cs.new_record s key value) (all_filter (λ r. P r.value) _ s.records all) fits
+
   put_are : (found : Option Record) (s : Cache) (write : Write) → P write.value → AllOf (λ r. P r.value) s.records → AllOf (λ r. P r.value) (cs.after_put found s write).records
-  put_are None s write fits all = all_push (λ r. P r.value) _ (cs.new_record s write.key write.value) (all_filter (λ r. P r.value) _ s.records all) fits
+  put_are None s write fits all = append_are s write.key write.value fits all
   put_are (Some held) s write fits all = all_map (λ r. P r.value) _ s.records (λ r has. rewritten write (has_key write.key r) r fits has) all
+
+  touch_are : (found : Option Record) (s : Cache) (write : Write) → cache.record_of s write.key ≡ found → AllOf (λ r. P r.value) s.records → AllOf (λ r. P r.value) (cs.after_touch found s write).records
+  touch_are None s write at all = all
+  touch_are (Some held) s write at all = append_are s write.key held.value (found_has (λ r. P r.value) (has_key write.key) s.records held all at) all
 
   cache_op_are : (op : Op) (options : Options) (s : Cache) (write : Write) → (GivesValue op → P write.value) → AllOf (λ r. P r.value) s.records → AllOf (λ r. P r.value) (cs.after_op op options s write).records
   cache_op_are Put options s write fits all = put_are (cs.kept_record options s write) s write (fits tt) all
+  cache_op_are Add options s write fits all = append_are s write.key write.value (fits tt) all
+  cache_op_are Touch options s write fits all = touch_are (cache.record_of s write.key) s write refl all
   cache_op_are Del options s write fits all = all_filter (λ r. P r.value) _ s.records all
 
   displaced_are : (b : Bool) (here : Record → Bool) (rs : List Record) → AllOf (λ r. P r.value) rs → AllOf (λ r. P r.value) (cond b (cs.without_first here rs) rs)
@@ -60,11 +69,13 @@ module _ (P : List ℕ → Type 0) where
   store_op_are : (op : Op) (s : Store) (write : Write) → (GivesValue op → P write.value) → ((k : List ℕ) (c : Cell) → get s.cells k ≡ Some c → P c.value)
       → (k : List ℕ) (c : Cell) → get (ss.after_op op s write).cells k ≡ Some c → P c.value
   store_op_are Put s write fits all k c is = store_put_are s write.key _ (fits tt) all k c is
+  store_op_are Add s write fits all k c is = store_put_are s write.key _ (fits tt) all k c is
   store_op_are Del s write fits all k c is =
       elim (eq_by_cmp (slice_cmp nat_cmp) k write.key) as (λ b. cond b None (get s.cells k) ≡ Some c → P c.value) [
         | true ↦ λ e. absurd (cc)
         | false ↦ λ e. all k c e
       ] (sym (get-remove nat_list_cmp_total s.cells write.key k) ∙ is)
+  store_op_are Touch s write fits all k c is = all k c is
 
   pub after_are : (options : Options) (now : State) (write : Write) → (GivesValue write.op → P write.value) → ValuesAre now → ValuesAre (after options now write)
   unfolding cs.after ss.after

@@ -6,13 +6,14 @@ use Rattle.std.specs.Cmp.Lexicographic.{slice_cmp}
 use Rattle.std.specs.BTreeMap.{is_at}
 use Rattle.std.specs.Map.{lookup}
 use Rattle.mica_words.specs.Hash.{bucket_of}
+use Rattle.mica_words.specs.Item.{ValueFits}
 use Rattle.mica_words.specs.declared.entry.TheConstants.{SLOTS}
 use Rattle.mica_model.specs.declared.options.Options.{Options}
 use Rattle.mica_model.specs.declared.fates.Fates.{Fates}
 use Rattle.mica_model.specs.declared.fate.Fate.{Fate}
 use Rattle.mica_model.specs.declared.fate.Fate.TheVariants.{Never, Deleted as Gone, Held}
 use Rattle.mica_model.specs.declared.write.Outcome.{Outcome}
-use Rattle.mica_model.specs.declared.write.Outcome.TheVariants.{Stored, Deleted}
+use Rattle.mica_model.specs.declared.write.Outcome.TheVariants.{Stored, Deleted, Touched}
 use Rattle.mica_model.specs.declared.write.Write.{Write}
 use Rattle.mica_model.specs.Cache.{Record, Cache, has_key, is_live}
 use Rattle.mica_model.specs.CacheStep.{kept_record, is_in_bucket}
@@ -26,6 +27,10 @@ IsUnique (r ∷ rs) = (find (has_key r.key) rs ≡ None) × IsUnique rs
 abbrev pub AreRising : List Record → Type 0
 AreRising [] = Unit {0}
 AreRising (r ∷ rs) = AllByRecursion (λ later. r.offset ≤ later.offset) rs × AreRising rs
+
+-- their values fit
+abbrev pub AreShort : List Record → Type 0
+AreShort records = AllByRecursion (λ held. ValueFits held.value) records
 
 -- how many records at the front a log of this many words has passed
 abbrev pub passed_front : ℕ → ℕ → List Record → ℕ
@@ -84,5 +89,6 @@ marked_displaced fate (Some held) notes = marked held.key fate notes
 -- the fate of a key once a write to it had an outcome, where it had another before
 abbrev pub fate_written : Outcome → ℕ → Fate → Fate
 fate_written Stored number before = Held
+fate_written Touched number before = Held
 fate_written Deleted number before = Gone number
 fate_written _ number before = before

@@ -151,7 +151,7 @@ fn fate_after(outcome: Outcome, number: u64, before: Fate) -> Fate
     ensures { result ≡ fate_written outcome number before }
 {
     match outcome {
-        Outcome::Stored => Fate::Held,
+        Outcome::Stored | Outcome::Touched => Fate::Held,
         Outcome::Deleted => Fate::Deleted(number),
         _ => before,
     }

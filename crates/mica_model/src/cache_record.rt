@@ -95,6 +95,14 @@ impl CacheRecord {
         bucket_of(self.hash, options.buckets) == bucket
     }
 
+    /// It begins at this offset now, in this room.
+    pub fn renew(&mut self, offset: u64, room: u32)
+        ensures { self.new ≡ record self.old { offset = offset; room = room } }
+    {
+        self.offset = offset;
+        self.room = room;
+    }
+
     pub fn rewrite(&mut self, value: Bytes)
         ensures { self.new ≡ record self.old { value = value } }
     {

@@ -2,8 +2,8 @@
 ghost use Rattle.std.specs.Prelude.{◌≡◌, ◌+◌, ◌≤◌, ◌<◌, [], ◌↔◌, IsTrue, IfSome, OnOk, OnErr, length, drop, is_some, option_copied, position, count_by, vec_len, vec_capacity};
 ghost use Rattle.mica_words.specs.Item.{KeyFits, ValueFits};
 ghost use Rattle.mica_model.specs.Cache.{start, has_key, is_live, record_of, value_in};
-ghost use Rattle.mica_model.specs.CacheFields.{IsUnique, displaced_at, kept_place, passed_front, without_at};
-ghost use Rattle.mica_model.specs.CacheStep.{after_append, new_record, after_put, after_delete, after_write, reply, kept_record, is_in_bucket};
+ghost use Rattle.mica_model.specs.CacheFields.{AreShort, IsUnique, displaced_at, kept_place, passed_front, without_at};
+ghost use Rattle.mica_model.specs.CacheStep.{after_append, new_record, after_put, after_touch, after_delete, after_write, reply, kept_record, is_in_bucket};
 ghost use Rattle.mica_model.specs.Limits.{most_stamp};
 ghost use Rattle.mica_model.specs.declared.options.TheConstants.{MAX_WEAR};
 ghost use Rattle.mica_model.specs.Options.{IsValid};
@@ -59,6 +59,14 @@ impl CacheState {
         self.accepted
     }
 
+    /// Stamp and count become those of the partition whose part it is: each write that they count was to other keys.
+    pub fn catch_up(&mut self, stamp: u64, accepted: u64)
+        ensures { self.new ≡ record self.old { stamp = stamp; accepted = accepted } }
+    {
+        self.stamp = stamp;
+        self.accepted = accepted;
+    }
+
     pub fn records(&self) -> &[CacheRecord]
         ensures { result.now ≡ self.now.records }
     {
@@ -87,15 +95,22 @@ impl CacheState {
     /// The reply to a write.
     #[tactic(auto, unfolding(crate::specs::CacheStep::reply))]
     pub fn reply(&self, options: &Options, op: Op, key: &[u8], value: &[u8]) -> Outcome
+        requires key { KeyFits key.now }
+        requires value { HasValueOf op value.now }
         ensures { result ≡ reply options.now self.now (write_of op key.now value.now) }
     {
         if self.accepted >= options.wear {
             return Outcome::Worn;
         }
         match op {
-            Op::Put => Outcome::Stored,
+            Op::Add if self.holds(key) => Outcome::Exists,
+            Op::Put | Op::Add if item_size(key.len(), value.len()) <= options.words => {
+                Outcome::Stored
+            }
+            Op::Put | Op::Add => Outcome::FullBlock,
+            Op::Touch if self.holds(key) => Outcome::Touched,
             Op::Del if self.holds(key) => Outcome::Deleted,
-            Op::Del => Outcome::Absent,
+            Op::Touch | Op::Del => Outcome::Absent,
         }
     }
 
@@ -108,6 +123,8 @@ impl CacheState {
         value: &[u8],
         outcome: Outcome,
     ) -> bool
+        requires key { KeyFits key.now }
+        requires value { HasValueOf op value.now }
         ensures { IsTrue result
             ↔ (outcome ≡ reply options.now self.now (write_of op key.now value.now)) }
     {
@@ -127,6 +144,7 @@ impl CacheState {
         requires value { HasValueOf op value.now }
         requires stamp { self.old.stamp ≤ most_stamp }
         requires unique { IsUnique self.old.records }
+        requires values { AreShort self.old.records }
 
         ensures ok { OnOk result
             (self.new ≡ after_write options.now self.old (write_of op key.now value.now)) }
@@ -134,6 +152,11 @@ impl CacheState {
     {
         match op {
             Op::Put => self.put(alloc, options, key, value)?,
+            Op::Add => {
+                let found = find_record(&self.records, key);
+                self.append(alloc, found, key, value)?
+            }
+            Op::Touch => self.touch(key),
             Op::Del => self.delete(key),
         }
         Ok(())
@@ -222,6 +245,26 @@ impl CacheState {
         self.records.push_reserved(record);
         self.stamp += 65536 * u64::from(size);
         Ok(())
+    }
+
+    // The key's record, if it has one, becomes the last, in a room of its item's size.
+    fn touch(&mut self, key: &[u8])
+        requires key { KeyFits key.now }
+        requires stamp { self.old.stamp ≤ most_stamp }
+        requires unique { IsUnique self.old.records }
+        requires values { AreShort self.old.records }
+        ensures { self.new
+            ≡ after_touch (record_of self.old key.now) self.old (write_of Op.Touch key.now []) }
+    {
+        let Some(at) = find_record(&self.records, key) else {
+            self.stamp += 1;
+            return;
+        };
+        let mut record = self.records.remove(at);
+        let size = item_size(key.len(), record.value().len());
+        record.renew(tail_of(self.stamp), size);
+        self.records.push_reserved(record);
+        self.stamp += 65536 * u64::from(size);
     }
 
     fn delete(&mut self, key: &[u8])

@@ -7,7 +7,7 @@ ghost use Rattle.mica_words.specs.Item.{words_for, KeyFits, ValueFits};
 pub const MAX_KEY_LEN: usize = 255;
 
 /// The longest value, in bytes.
-pub const MAX_VALUE_LEN: usize = 1024;
+pub const MAX_VALUE_LEN: usize = 8192;
 
 /// The words of an item whose key and value have these lengths in bytes.
 pub fn item_size(key_len: usize, value_len: usize) -> u32

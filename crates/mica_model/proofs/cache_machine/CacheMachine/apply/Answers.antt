@@ -1,11 +1,14 @@
 use Rattle.std.proofs.Common.{◌≡◌, ◌+◌, [], ◌∷◌, ◌++◌, true, ap, sym, ◌∙◌, subst, arith}
+use Rattle.mica_words.specs.Item.{ValueFits}
 use Rattle.mica_model.specs.declared.write.Write.{Write}
 use Rattle.mica_model.specs.Cache.{Cache}
 use Rattle.mica_model.specs.CacheFields.{AreRising, notes_of, fate_written}
 use Rattle.mica_model.specs.History.{History}
 use Rattle.mica_model.specs.Logged.{Logged, IsLoggedStep}
 use Rattle.mica_model.specs.Write.{IsWrite, is_accepted, write_of}
+use Rattle.mica_model.proofs.CacheKept.{IsRecord}
 use Rattle.mica_model.proofs.CacheLaws.{stamp_bound}
+use Rattle.mica_model.proofs.Found.{all_weaker}
 use Rattle.mica_model.proofs.Histories.{within_wear}
 use Rattle.mica_model.proofs.CacheMachineSteps.{kept, rising, refused_step, unworn, accepted_step, wrote_count, dropped_count, machine_after}
 use Rattle.mica_model.proofs.cache_machine.CacheMachine.apply.Goals.{After-copy, After-reply-outcome, After-count}
@@ -44,6 +47,10 @@ write-requires-clause-stamp c =
 
 pub write-requires-clause-unique : goal.write-requires-clause-unique
 write-requires-clause-unique c = (kept c.self.inside c.self.invariant).unique
+
+pub write-requires-clause-values : goal.write-requires-clause-values
+write-requires-clause-values c =
+    all_weaker IsRecord (λ held. ValueFits held.value) (λ held fine. fine.value) c.self.inside.state.records (kept c.self.inside c.self.invariant).are
 
 pub drop_dead-requires-clause-rising : goal.drop_dead-requires-clause-rising
 drop_dead-requires-clause-rising c =

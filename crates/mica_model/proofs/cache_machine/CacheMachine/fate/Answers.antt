@@ -17,6 +17,6 @@ returns-clause-fate c = is c ∙ ap (λ (m : Logged). fate_of m.options m.histor
 pub returns-clause-never : goal.returns-clause-never
 returns-clause-never c =
     let a = c.self.inside in
-    let law = never_is_no_value a.options c.self.invariant.valid a.log.items c.self.invariant.writes c.args.key.now in
+    let law = never_is_no_value a.options c.self.invariant.mode a.log.items c.self.invariant.lawful c.self.invariant.writes c.args.key.now in
     subst (λ (m : Logged). (c.get.result ≡ Never) ↔ AllByRecursion (GivesNoValue c.args.key.now) m.history) c.self.view_is
     (subst (λ (f : Fate). (f ≡ Never) ↔ AllByRecursion (GivesNoValue c.args.key.now) a.log.items) (sym (is c)) law)

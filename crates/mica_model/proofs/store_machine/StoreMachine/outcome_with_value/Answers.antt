@@ -1,12 +1,11 @@
 use Rattle.std.proofs.Common.{◌<◌, ◌≤◌, refl, sym, subst, arith}
-use Rattle.mica_model.specs.declared.write.Op.TheVariants.{Put}
 use Rattle.mica_model.specs.declared.write.Outcome.TheVariants.{FullSpare}
 use Rattle.mica_model.specs.Write.{write_of}
 use Rattle.mica_model.specs.CellTable.{LacksSpare}
 use Rattle.mica_model.specs.StoreStep.{NeedsSpare}
 use Rattle.mica_model.specs.Machine.{Machine}
 use Rattle.mica_model.specs.History.{Allows, accepted_in}
-use Rattle.mica_model.proofs.store_machine.StoreMachine.outcome_of_put.Goals as goal
+use Rattle.mica_model.proofs.store_machine.StoreMachine.outcome_with_value.Goals as goal
 
 pub returns-in-None-clause-allowed : goal.returns-in-None-clause-allowed
 returns-in-None-clause-allowed c =
@@ -18,5 +17,5 @@ returns-in-None-clause-allowed c =
     let needs : NeedsSpare a.options (record { cells = a.table.cells; stamp = a.stamp; accepted = a.accepted }) key =
     let here = subst (λ b. LacksSpare (record { buckets = b; cells = a.table.cells }) key a.options.spares) c.self.invariant.buckets lacks in
     record { is_new = sym none; some = here.some; full = here.full; none_left = here.none_left } in
-    subst (λ (m : Machine). Allows m.options m.state (write_of Put key c.args.value.now) FullSpare) c.self.view_is
-    ((λ worn. let old : a.options.wear ≤ a.accepted = worn in omega arith), (tt, needs))
+    subst (λ (m : Machine). Allows m.options m.state (write_of c.args.op key c.args.value.now) FullSpare) c.self.view_is
+    ((λ worn. let old : a.options.wear ≤ a.accepted = worn in omega arith), (c.requires.op, needs))
