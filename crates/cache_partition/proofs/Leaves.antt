@@ -4,7 +4,7 @@ use Rattle.mica_model.specs.CacheStep as cs
 use Rattle.mica_model.proofs.Found as found
 use Rattle.mica_model.proofs.Laid as laid
 use Rattle.cache_partition.proofs.Words.{AllOf, Bool, Cache, Del, HasNoSlot, IsDistinct, IsDistinct-cons, IsLaid, IsUnique, IsWrite, IsWritten, List}
-use Rattle.cache_partition.proofs.Words.{None, Op, Option, Put, Record, SLOTS, Some, StandsFor, Write, [], after_write_is, all_filter, all_passes}
+use Rattle.cache_partition.proofs.Words.{None, Op, Option, Put, Touch, Record, SLOTS, Some, StandsFor, Write, [], after_write_is, all_filter, all_passes}
 use Rattle.cache_partition.proofs.Words.{all_weaker, ap, arith, bucket_in, cases_Bool, cases_lt, cond, count_by, count_cons, entry_in, entry_offset}
 use Rattle.cache_partition.proofs.Words.{eq-eqb, eqb, eqb-true, false, filter, find, found_has, has_key, has_other_key, here_of, inl, inr, is_its_key}
 use Rattle.cache_partition.proofs.Words.{is_live, keeps_put, kept_record, laid_found, le-leb, le-length_from_below, leb-true, left_of, length}
@@ -115,6 +115,9 @@ module _ (h : Held) (w : Write) where
   pub is_appended : w.op ≡ Put → kept_record (options_in h.o) h.m w ≡ None → made ≡ cs.after_append h.m (new_record h.m w.key w.value)
   is_appended op at = ap (λ (z : Op). cs.after_op z (options_in h.o) h.m w) op ∙ ap (λ (z : Option Record). cs.after_put z h.m w) at
 
+  pub is_untouched : w.op ≡ Touch → record_of h.m w.key ≡ None → made ≡ record h.m { stamp = h.m.stamp + 1 }
+  is_untouched op none = ap (λ (z : Op). cs.after_op z (options_in h.o) h.m w) op ∙ ap (λ (z : Option Record). cs.after_touch z h.m w) none
+
   -- its stamp is the step's
   pub step_stamp : new.stamp ≡ made.stamp
   unfolding cs.after
@@ -133,12 +136,8 @@ module _ (h : Held) (w : Write) where
       ∙ (laid.found_map (rewritten w) (rewritten_key w) w.key h.m.records held keeps.is
       ∙ (λ j. Some (cond (found.found_passes (has_key w.key) h.m.records held keeps.is j) (record held { key = laid.found_key w.key h.m.records held keeps.is j; value = w.value }) held)))
 
-  pub appended_own : w.op ≡ Put → kept_record (options_in h.o) h.m w ≡ None → record_of made w.key ≡ Some (new_record h.m w.key w.value)
-  appended_own op at =
-      let added = new_record h.m w.key w.value in
-      ap (λ (z : Cache). record_of z w.key) (is_appended op at)
-      ∙ (found.found_append_none (has_key w.key) (others w.key h.m.records) (added ∷ []) (others_lack w.key h.m.records)
-      ∙ ap (λ b. cond b (Some added) None) (is_its_key w.key added refl))
+  pub untouched_none : w.op ≡ Touch → record_of h.m w.key ≡ None → record_of made w.key ≡ None
+  untouched_none op none = ap (λ (z : Cache). record_of z w.key) (is_untouched op none) ∙ none
 
   -- Then the log passes
 

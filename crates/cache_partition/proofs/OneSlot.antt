@@ -1,17 +1,17 @@
 -- Where a write changes one slot of its bucket, the words stand for the machine's state after it.
 use Rattle.mica_model.specs.CacheStep as cs
-use Rattle.cache_partition.proofs.Words.{AcceptedWrite, Cache, Cell, Del, GivesWay, Has, HasLiveEntry, HasNoSlot, HoldsOfNone, IsOffset, IsPassed}
-use Rattle.cache_partition.proofs.Words.{Keeps, Kept, List, Mode, None, OwnerState, Put, PutsEntry, Record, SLOTS, Some, Spells, StandsFor, State, []}
+use Rattle.cache_partition.proofs.Words.{AcceptedWrite, Cache, Cell, GivesWay, Has, HasLiveEntry, HasNoSlot, HoldsOfNone, IsOffset, IsPassed}
+use Rattle.cache_partition.proofs.Words.{Keeps, Kept, List, Mode, None, Option, OwnerState, PutsEntry, Record, SLOTS, Some, Spells, StandsFor, State, []}
 use Rattle.cache_partition.proofs.Words.{after, alone, ap, arith, bucket_in, cache_state, cell_at, count_by, dite, empty, entry_in, entry_offset}
-use Rattle.cache_partition.proofs.Words.{entry_puts, entry_puts_other, entry_tag, find, fits_kept, get_or, here_of, inl, inr, item_at, item_in}
-use Rattle.cache_partition.proofs.Words.{item_put, item_puts_entry, item_words, length, length-item_words, main, offset_of, oldest, only_key}
-use Rattle.cache_partition.proofs.Words.{options_in, other_rooms, passed, put_entry, put_item, put_long, put_others, put_words, record_of, refl}
+use Rattle.cache_partition.proofs.Words.{entry_puts, entry_puts_other, entry_tag, find, fits_kept, found_key, get_or, here_of, inl, inr, item_at, item_in}
+use Rattle.cache_partition.proofs.Words.{item_put, item_puts_entry, item_size, item_words, length, length-item_words, main, oldest, only_key}
+use Rattle.cache_partition.proofs.Words.{options_in, other_rooms, passed, put_entry, put_long, put_others, put_words, record_of, refl}
 use Rattle.cache_partition.proofs.Words.{room_in, room_is, same_Some, same_cell, same_or_other, spells_item, spells_on, stamp_in, stamp_rises}
 use Rattle.cache_partition.proofs.Words.{stands_cached, state_after, state_in, stood, subst, sym, tag_of, tail_of, window_kept, written, written_same}
 use Rattle.cache_partition.proofs.Words.{written_state, ℕ, ℕ_discrete, ◌+◌, ◌<◌, ◌∙◌, ◌≡◌, ◌≢◌, ◌≤◌, ◌⊎◌}
 use Rattle.cache_partition.proofs.Held.{HasSlot, Held, has_in, in_main, live_entry, live_is, machine, of_others, one_slot, record_in, slot_key}
 use Rattle.cache_partition.proofs.Held.{slot_of, slot_record, stamp_is}
-use Rattle.cache_partition.proofs.Leaves.{Leaves, deleted_none, made, some_found, step_stamp}
+use Rattle.cache_partition.proofs.Leaves.{Leaves, made, some_found, step_stamp}
 use Rattle.cache_partition.proofs.Leaves as leaves
 
 module _ (h : Held) (a : AcceptedWrite h.o) where
@@ -80,7 +80,7 @@ module _ (h : Held) (a : AcceptedWrite h.o) where
             let room : room_in h.o x ≡ r.room = room_is h.o h.kept b x key (cell_at r).0 at.spelt in
             let keeps : Keeps h.o a words x = λ k l.
             subst (λ (z : ℕ). item_in q (z + k) ≡ item_in h.o (z + k)) at.offset (effect.others (r.offset + k) (λ j less same.
-            other_rooms (options_in h.o) h.kept.shape.ranges h.o.history h.kept.history.writes a.w a.is h.m h.before (p + j) (belongs j less) key other r left k (omega arith) (omega arith))) in
+            other_rooms (options_in h.o) h.o.history h.kept.history.writes a.w a.is (a.outcome, a.accepted, a.may) h.m h.before (p + j) (belongs j less) key other r left k (omega arith) (omega arith))) in
             let has = subst (λ (z : ℕ). Has (state_in q) key (cell_at r).0 z) at.offset (has_in n key r left) in
             spells_on h.o a words b x keeps key (cell_at r).0 has at.spelt
 
@@ -147,28 +147,29 @@ module _ (h : Held) (a : AcceptedWrite h.o) where
             let keys' = only_key q t b b x' x' z'.key key (cell_at z'.r).0 cell z'.now sp' refl in
             (sym (alone q t h.mode b c e.in_chain) ∙ alone q t h.mode b c' e'.in_chain, one i x i' x' z z' (keys ∙ sym keys')))
 
-      -- a delete
-      pub deleted : a.w.op ≡ Del → (slot x : ℕ) → Before slot → Effect slot x 0 [] → ((y : ℕ) → ¬ (HasLiveEntry q b b slot y)) → StandsFor q b
-      deleted op slot x before effect none =
-          stands slot x 0 [] before effect (λ j less. absurd (omega arith)) (λ y e. absurd (none y e)) (λ r is. cc (sym (deleted_none h a.w op) ∙ is))
+      -- a write that leaves its key no record
+      pub emptied : record_of (made h a.w) a.w.key ≡ None → (slot x : ℕ) → Before slot → Effect slot x 0 [] → ((y : ℕ) → ¬ (HasLiveEntry q b b slot y)) → StandsFor q b
+      emptied gone slot x before effect none =
+          stands slot x 0 [] before effect (λ j less. absurd (omega arith)) (λ y e. absurd (none y e)) (λ r is. cc (sym gone ∙ is))
 
-      -- a put, which leaves its key this record with the new value: the slot's entry and item spell it
-      pub put : a.w.op ≡ Put → (slot x : ℕ) → Before slot → slot < SLOTS → (r : Record) → record_of (made h a.w) a.w.key ≡ Some (record r { value = a.w.value })
-          → offset_of (options_in h.o) h.m a.w ≡ r.offset → tail_of (made h a.w).stamp ≤ r.offset + h.o.shape.words → x ≢ 0 → entry_offset x ≡ r.offset → entry_tag x ≡ tag_of a.w.key
-          → Effect slot x r.offset (item_words r.room a.w.key a.w.value) → StandsFor q b
-      put op slot x before below r found begin live some offset tag effect =
-          let new : Record = record r { value = a.w.value } in
+      -- a write that leaves its key this record: the slot's entry and item spell it
+      pub stored : (slot x : ℕ) → Before slot → slot < SLOTS → (r : Record) → record_of (made h a.w) a.w.key ≡ Some r
+          → tail_of (made h a.w).stamp ≤ r.offset + h.o.shape.words → x ≢ 0 → entry_offset x ≡ r.offset → entry_tag x ≡ tag_of a.w.key
+          → Effect slot x r.offset (item_words r.room a.w.key r.value) → StandsFor q b
+      stored slot x before below r found live some offset tag effect =
           let stamp = stamp_is n ∙ step_stamp h a.w in
           let its_offset : entry_offset (entry_in q b slot) ≡ r.offset = ap entry_offset effect.here ∙ offset in
-          let long = length-item_words r.room a.w.key a.w.value in
-          let spelt = spells_item q t b (entry_in q b slot) a.w.key (cell_at new).0 refl
-          (subst (λ (z : ℕ). Has (state_in q) a.w.key (cell_at new).0 z) (sym its_offset) (has_in n a.w.key new (before.leaves.on a.w.key new found live before.own)))
+          let long = length-item_words r.room a.w.key r.value in
+          let key : r.key ≡ a.w.key = found_key a.w.key (made h a.w).records r found in
+          let spelt = spells_item q t b (entry_in q b slot) a.w.key (cell_at r).0 refl
+          (subst (λ (z : ℕ). Has (state_in q) a.w.key (cell_at r).0 z) (sym its_offset) (has_in n a.w.key r (before.leaves.on a.w.key r found live before.own)))
           (subst (λ (z : Mode). IsOffset z h.o.shape.words (entry_offset (entry_in q b slot))) (sym h.mode) tt)
           (ap entry_tag effect.here ∙ tag) (λ i l. ap (λ (z : ℕ). item_in q (z + i)) its_offset ∙ effect.items i (omega arith)) in
-          stands slot x r.offset (item_words r.room a.w.key a.w.value) before effect
-          (λ j less. put_item (options_in h.o) h.m a.w op (r.offset + j) (omega arith) (omega arith))
-          (λ y e. (new, subst (λ (z : ℕ). Spells q b z a.w.key (cell_at new).0) e.found spelt))
-          (λ r is. live_entry n b slot (entry_in q b slot) below refl (λ none. some (sym effect.here ∙ none)) (omega arith))
+          stands slot x r.offset (item_words r.room a.w.key r.value) before effect
+          (λ j less. subst (λ (found : Option Record). cs.IsInItem found (r.offset + j)) (sym found)
+          (omega arith, subst (λ (k : List ℕ). r.offset + j < r.offset + item_size k r.value) (sym key) (omega arith)))
+          (λ y e. (r, subst (λ (z : ℕ). Spells q b z a.w.key (cell_at r).0) e.found spelt))
+          (λ r' is. live_entry n b slot (entry_in q b slot) below refl (λ none. some (sym effect.here ∙ none)) (omega arith))
 
   -- where words alone were put, and where an entry was put after them
   module _ (p : ℕ) (xs : List ℕ) (few : length xs ≤ h.o.shape.words) (slot x : ℕ) where

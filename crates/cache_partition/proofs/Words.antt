@@ -14,18 +14,19 @@ pub use Rattle.mica_words.proofs.Fields.{entry_not_empty, entry_offset-entry_of,
 pub use Rattle.mica_words.proofs.Hashes.{bucket_of_hash, tag_of-range, tag_of_hash}
 pub use Rattle.mica_words.proofs.ItemWords.{length-item_words}
 pub use Rattle.mica_words.proofs.Sizes.{item_size-most}
+pub use Rattle.mica_words.specs.Item.{ValueFits}
 pub use Rattle.mica_words.specs.Entry.{entry_of, entry_offset, entry_tag}
 pub use Rattle.mica_words.specs.Hash.{hash_bucket, hash_tag, tag_of}
 pub use Rattle.mica_words.specs.declared.entry.TheConstants.{SLOTS}
 pub use Rattle.mica_words.specs.Spelling.{item_words}
 pub use Rattle.mica_words.specs.Stamp.{tail_of}
-pub use Rattle.mica_model.proofs.CacheKept.{IsKept, IsWritten, after_write_is, begin_of, here_of, keeps_put, left_of, live_of, offset_of, others_lack}
-pub use Rattle.mica_model.proofs.CacheKept.{rewritten, rewritten_key, size_at_most}
-pub use Rattle.mica_model.proofs.CacheLaws.{fits_kept, kept_in, put_item, window_kept, written_same}
+pub use Rattle.mica_model.proofs.CacheKept.{IsKept, IsWritten, after_write_is, here_of, keeps_put, left_of, live_of, others_lack, tail_past}
+pub use Rattle.mica_model.proofs.CacheKept.{rewritten, rewritten_key}
+pub use Rattle.mica_model.proofs.CacheLaws.{appended_own, fits_kept, kept_in, reply_fits, touched_is, window_kept, written_same}
 pub use Rattle.mica_model.proofs.FateLaws.{miss_is_not_held}
 pub use Rattle.mica_model.proofs.Found.{all_filter, all_passes, all_weaker, count_cons, found_has, missed_all}
 pub use Rattle.mica_model.proofs.Histories.{accepted_is_length}
-pub use Rattle.mica_model.proofs.Laid.{IsLaid, has_its_key as is_its_key, has_other_key, laid_found}
+pub use Rattle.mica_model.proofs.Laid.{IsLaid, found_key, has_its_key as is_its_key, has_other_key, laid_found}
 pub use Rattle.mica_model.proofs.Rises.{stamp_rises}
 pub use Rattle.mica_model.proofs.Stamps.{stamp_small}
 pub use Rattle.mica_model.specs.Answer.{IsAnswer}
@@ -38,9 +39,9 @@ pub use Rattle.mica_model.specs.Write.{IsWrite, is_accepted, size_of, write_of}
 pub use Rattle.mica_model.specs.declared.options.Options.{Options}
 pub use Rattle.mica_model.specs.declared.write.Answer.{Answer}
 pub use Rattle.mica_model.specs.declared.write.Op.{Op}
-pub use Rattle.mica_model.specs.declared.write.Op.TheVariants.{Del, Put}
+pub use Rattle.mica_model.specs.declared.write.Op.TheVariants.{Add, Del, Put, Touch}
 pub use Rattle.mica_model.specs.declared.write.Outcome.{Outcome}
-pub use Rattle.mica_model.specs.declared.write.Outcome.TheVariants.{Absent, Deleted, Stored, Worn}
+pub use Rattle.mica_model.specs.declared.write.Outcome.TheVariants.{Absent, Deleted, Exists, FullBlock, Stored, Touched, Worn}
 pub use Rattle.epoch_core.proofs.Vocabulary.{AreBytes, Bool, Cache as CacheMode, Cell, Has, HasLiveEntry, IfSome, IsLiveItem, IsMain, Kept, KeyFits}
 pub use Rattle.epoch_core.proofs.Vocabulary.{List, MayGive, Mode, None, Option, Some, Spells, StandsFor, State, Write, [], after, answer_of, ap}
 pub use Rattle.epoch_core.proofs.Vocabulary.{arith, bucket_in, cache_state, cached_in, cases_lt, cell_at, cond, count_by, dite, entry_in, eq-eqb}
@@ -54,7 +55,7 @@ pub use Rattle.epoch_core.proofs.Keys.{has_its_key}
 pub use Rattle.epoch_core.proofs.Log.{other_rooms, room_is}
 pub use Rattle.epoch_core.proofs.Machine.{found_record}
 pub use Rattle.epoch_core.proofs.PartitionLaws.{AcceptedWrite, Keeps, accepted_step, ended_gains, item_room, main, main_of, marked, marked_item}
-pub use Rattle.epoch_core.proofs.PartitionLaws.{may_begin, may_end, may_mark, new_stamp, only_key, put_entry, put_item as item_put, put_long}
+pub use Rattle.epoch_core.proofs.PartitionLaws.{may_begin, may_end, may_mark, new_stamp, only_key, put_entry, put_item as item_put, put_long, refused_step}
 pub use Rattle.epoch_core.proofs.PartitionLaws.{put_others, put_same, put_stamp, put_words, same_cell, same_or_other, spells_item, spells_on}
 pub use Rattle.epoch_core.proofs.PartitionLaws.{spelt_key, stands_idle, stood, worn_step, written, written_marked, written_state}
 pub use Rattle.epoch_core.specs.Events.{MayBegin, MayEnd, MayMark}
@@ -65,9 +66,10 @@ pub use Rattle.epoch_core.specs.declared.shape.Shape.{Shape}
 pub use Rattle.epoch_core.specs.declared.state.OwnerState.{OwnerState}
 pub use Rattle.epoch_core.specs.declared.state.Phase.TheVariants.{Idle}
 pub use Rattle.circular_log.proofs.SpeltItem.{spelt_item}
-pub use Rattle.circular_log.specs.LogItem.{IsItem, room_at}
+pub use Rattle.circular_log.specs.LogItem.{HasItem, IsItem, room_at}
+pub use Rattle.circular_log.specs.LogCarry.{Carries, IsTouchOf, MayCarry}
 pub use Rattle.circular_log.specs.LogWrite.{LeavesItem, MayAppend, MayRewrite, with_item, written_record}
 pub use Rattle.lossy_index.specs.Place.{GivesWay, HoldsOfNone, Takes, empty, oldest, passed}
 pub use Rattle.lossy_index.specs.Slot.{HasNoSlot, IsFoundAt, IsPassed, IsSlotOf, offset_in}
 pub use Rattle.cache_partition.specs.Gained.{Gains, MayWrite, marked_with}
-pub use Rattle.cache_partition.specs.Sought.{had_record, had_record_by, kept_offset, kept_offset_by}
+pub use Rattle.cache_partition.specs.Sought.{AppendsBy, AppendsValue, IsTaken, had_record, had_record_by, kept_offset, kept_offset_by}

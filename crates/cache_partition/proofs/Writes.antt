@@ -1,32 +1,47 @@
 -- A write from its begin to its end: when its events may happen, and what it has made of the partition.
 use Rattle.mica_model.specs.CacheStep as cs
 use Rattle.std.proofs.lemmas.Grind.{common_steps}
-use Rattle.cache_partition.proofs.Words.{AcceptedWrite, Allows, AreBytes, Begins, Bool, Cache, CacheMode, Del, Ends, Gains, HasNoSlot, Idle, IsMain}
+use Rattle.cache_partition.proofs.Words.{AcceptedWrite, Add, Allows, AppendsBy, AppendsValue, Carries, FullBlock, IsItem, IsTaken, IsTouchOf, Stored, Touch, appended_own, found_key, offset_in, refused_step, spelt_item, tail_past, touched_is, window_kept}
+use Rattle.cache_partition.proofs.Words.{Allows, AreBytes, Begins, Bool, Cache, CacheMode, Del, Ends, Gains, HasNoSlot, Idle, IsMain}
 use Rattle.cache_partition.proofs.Words.{IsOwnerStep, IsSlotOf, IsWrite, Kept, KeyFits, LeavesItem, List, MatchOption, MayAppend, MayBegin, MayEnd}
 use Rattle.cache_partition.proofs.Words.{MayGive, MayMark, MayRewrite, MayWrite, None, Op, Option, Options, Outcome, OwnerState, Put, PutsEntry}
 use Rattle.cache_partition.proofs.Words.{Record, SLOTS, Some, SpellsItem, StandsFor, State, Takes, Worn, Write, [], accepted_in, accepted_is_length}
-use Rattle.cache_partition.proofs.Words.{accepted_step, after, ap, arith, begin_of, bucket_in, cached_in, cell_at, cond, ended_gains, entry_in}
+use Rattle.cache_partition.proofs.Words.{accepted_step, after, ap, arith, bucket_in, cached_in, cell_at, cond, ended_gains, entry_in}
 use Rattle.cache_partition.proofs.Words.{entry_not_empty, entry_of, entry_offset, entry_offset-entry_of, entry_tag-entry_of, false, fits_kept}
 use Rattle.cache_partition.proofs.Words.{had_record, had_record_by, is_accepted, is_live, is_some, item_in, item_room, item_size, item_words}
 use Rattle.cache_partition.proofs.Words.{keeps_put, kept_offset, kept_offset_by, kept_record, leb-false, length, length-item_words, lt-leb, main}
 use Rattle.cache_partition.proofs.Words.{marked, marked_in, marked_item, marked_with, may_begin, may_end, may_mark, most_stamp, nat_le, nat_tests}
 use Rattle.cache_partition.proofs.Words.{new_record, option_map, options_in, put_entry, put_same, put_stamp, put_words, record_of, refl, room_at}
-use Rattle.cache_partition.proofs.Words.{room_in, room_is, size_at_most, size_of, stamp_in, stamp_of, stamp_of_state, stamp_small, state_after}
+use Rattle.cache_partition.proofs.Words.{room_in, room_is, size_of, stamp_in, stamp_of, stamp_of_state, stamp_small, state_after}
 use Rattle.cache_partition.proofs.Words.{state_snoc, stood, subst, sym, tag_of, tag_of-range, tail_of, then_some, true, with_item, write_of, written}
 use Rattle.cache_partition.proofs.Words.{written_marked, written_record, ℕ, ◌&&◌, ◌*◌, ◌++◌, ◌+◌, ◌<◌, ◌^◌, ◌∙◌, ◌∷◌, ◌≡◌, ◌≤◌, ◌⊎◌}
 use Rattle.cache_partition.proofs.Leaves as leaves
 use Rattle.cache_partition.proofs.Held.{Held, found_slot, held, machine, no_record, slot_of, stamp_is, stands_at}
-use Rattle.cache_partition.proofs.OneSlot.{Before, dead_slot, deleted, entry_effect, own_slot, put, put_effect, slot_that_gives_way}
+use Rattle.cache_partition.proofs.OneSlot.{Before, dead_slot, emptied, entry_effect, own_slot, put_effect, slot_that_gives_way, stored}
 use Rattle.cache_partition.proofs.Leaves.{made}
 
 -- Replies
 
-reply_accepted : (op : Op) (options : Options) (w : Write) (found : Bool) → is_accepted (cs.reply_of op options w found) ≡ true
-reply_accepted Put options w found = refl
-reply_accepted Del options w true = refl
-reply_accepted Del options w false = refl
+-- a put is stored where its item is not longer than the log
+pub put_stored : (o : OwnerState) (w : Write) → nat_le (size_of w) o.shape.words ≡ true → (found : Bool) → cs.reply_of Put (options_in o) w found ≡ Stored
+put_stored o w fits found = ap (λ b. cond b Stored FullBlock) fits
 
--- before the partition is worn no write is refused
+pub put_refused : (o : OwnerState) (w : Write) → nat_le (size_of w) o.shape.words ≡ false → (found : Bool) → cs.reply_of Put (options_in o) w found ≡ FullBlock
+put_refused o w fits found = ap (λ b. cond b Stored FullBlock) fits
+
+-- and so is an add of a key without a record
+pub add_reply : (o : OwnerState) (w : Write) (found : Bool) → found ≡ false → cs.reply_of Add (options_in o) w found ≡ cs.reply_to_item (options_in o) w
+add_reply o w found none = ap (cs.reply_of Add (options_in o) w) none
+
+-- a delete and a touch are accepted
+
+pub delete_taken : (o : OwnerState) (key value : List ℕ) → IsTaken o (write_of Del key value)
+delete_taken o key value = elim (had_record o key) as (λ b. is_accepted (cs.reply_of Del (options_in o) (write_of Del key value) b) ≡ true) [ true ↦ refl | false ↦ refl ]
+
+pub touch_taken : (o : OwnerState) (key value : List ℕ) → IsTaken o (write_of Touch key value)
+touch_taken o key value = elim (had_record o key) as (λ b. is_accepted (cs.reply_of Touch (options_in o) (write_of Touch key value) b) ≡ true) [ true ↦ refl | false ↦ refl ]
+
+-- before the partition is worn the machine gives this reply
 may_give : (o : OwnerState) → MayWrite o → (w : Write) → MayGive (options_in o) o.history w (cs.reply_of w.op (options_in o) w (had_record o w.key))
 unfolding cs.reply
 may_give o may w =
@@ -40,12 +55,20 @@ pub may_write : (o : OwnerState) → o.phase ≡ Idle → o.shape.mode ≡ Cache
 may_write o idle mode few = record { idle = idle; cached = mode; not_worn = leb-false o.shape.wear (length o.history) few }
 
 -- a step that gains the write
-pub gained_step : (o new : OwnerState) → MayWrite o → (w : Write) (outcome : Outcome) → Gains o new w → outcome ≡ cs.reply_of w.op (options_in o) w (had_record o w.key) → IsOwnerStep o new w outcome
-gained_step o new may w outcome gained is = subst (IsOwnerStep o new w) (sym is)
-    (accepted_step o new may.idle w (cs.reply_of w.op (options_in o) w (had_record o w.key)) (reply_accepted w.op (options_in o) w (had_record o w.key)) (may_give o may w) gained)
+pub gained_step : (o new : OwnerState) → MayWrite o → (w : Write) (outcome : Outcome) → is_accepted outcome ≡ true → Gains o new w → outcome ≡ cs.reply_of w.op (options_in o) w (had_record o w.key)
+    → IsOwnerStep o new w outcome
+gained_step o new may w outcome accepted gained is =
+    accepted_step o new may.idle w outcome accepted (subst (MayGive (options_in o) o.history w) (sym is) (may_give o may w)) gained
+
+-- and one that refuses it
+pub left_step : (o : OwnerState) → MayWrite o → (w : Write) (outcome : Outcome) → is_accepted outcome ≡ false → outcome ≡ cs.reply_of w.op (options_in o) w (had_record o w.key) → IsOwnerStep o o w outcome
+left_step o may w outcome refused is = refused_step o may.idle w outcome refused (subst (MayGive (options_in o) o.history w) (sym is) (may_give o may w))
 
 pub delete_is : (key : List ℕ) → KeyFits key → AreBytes key → IsWrite (write_of Del key [])
 delete_is key key_fits key_bytes = record { key = key_fits; key_bytes = key_bytes; value = refl; value_bytes = λ k. omega arith }
+
+pub touch_is : (key : List ℕ) → KeyFits key → AreBytes key → IsWrite (write_of Touch key [])
+touch_is key key_fits key_bytes = record { key = key_fits; key_bytes = key_bytes; value = refl; value_bytes = λ k. omega arith }
 
 -- the stamp stays far below the limit of a word
 pub stamp_limit : (o : OwnerState) → Kept o → (stamp : ℕ) → stamp ≡ stamp_in o → stamp ≤ most_stamp
@@ -68,15 +91,15 @@ pub record Rewrites (o : OwnerState) (w : Write) (b t p : ℕ) : Type 0 where
   pub may : MayRewrite (marked_with o b w t) p w.key w.value
   pub closes : (q : OwnerState) → q ≡ with_item (marked_with o b w t) p (room_at (marked_with o b w t) p) w.key w.value → Kept q → Closes o w b t q
 
--- the item of a put at the tail of the log is stored
-abbrev pub HasStored : OwnerState → Write → ℕ → ℕ → ℕ → OwnerState → Type 0
-HasStored o w b t p q = q ≡ with_item (marked_with o b w t) p (item_size w.key w.value) w.key w.value
+-- the item of a write that appends one with this value is stored at the tail of the log
+abbrev pub HasStored : OwnerState → Write → ℕ → ℕ → ℕ → List ℕ → OwnerState → Type 0
+HasStored o w b t p value q = q ≡ with_item (marked_with o b w t) p (item_size w.key value) w.key value
 
--- and of such a put
-pub record Appends (o : OwnerState) (w : Write) (b t p : ℕ) : Type 0 where
-  pub may : MayAppend (marked_with o b w t) p w.key w.value
-  pub ready : (q : OwnerState) → HasStored o w b t p q → (marked_in q.phase b ≡ 1) × IsMain q.shape b
-  pub closes : (old : Option ℕ) → MatchOption old (HasNoSlot o b w.key) (IsSlotOf o b w.key) → (q q' : OwnerState) (slot tag : ℕ) → HasStored o w b t p q
+-- and of such a write
+pub record Appends (o : OwnerState) (w : Write) (b t p : ℕ) (value : List ℕ) : Type 0 where
+  pub may : MayAppend (marked_with o b w t) p w.key value
+  pub ready : (q : OwnerState) → HasStored o w b t p value q → (marked_in q.phase b ≡ 1) × IsMain q.shape b
+  pub closes : (old : Option ℕ) → MatchOption old (HasNoSlot o b w.key) (IsSlotOf o b w.key) → (q q' : OwnerState) (slot tag : ℕ) → HasStored o w b t p value q
       → Takes q b old slot → tag ≡ tag_of w.key → q' ≡ after (PutsEntry b slot (entry_of tag p)) q → Kept q' → Closes o w b t q'
 
 -- the record that keeps a put, by its offset
@@ -113,13 +136,36 @@ module _ (o : OwnerState) (s : Kept o) (may : MayWrite o) (w : Write) (is : IsWr
       let r = held_by (Some p) keeps in
       ap (λ (n : ℕ). n + 1) (stamp_is h) ∙ sym (stamp_after _ (leaves.is_rewritten h w r.0 op r.1))
 
-  pub stamp_appended : w.op ≡ Put → kept_offset o w ≡ None → stamp_in o + 65536 * size_of w ≡ stamp_of (options_in o) (o.history ++ w ∷ [])
-  stamp_appended op keeps =
-      ap (λ (n : ℕ). n + 65536 * size_of w) (stamp_is h) ∙ sym (stamp_after _ (leaves.is_appended h w op (held_by None keeps)))
+  appends_made : (value : List ℕ) → AppendsValue o w value → made h w ≡ cs.after_append h.m (new_record h.m w.key value)
+  appends_made value adds = subst (λ (z : State). AppendsBy (options_in o) z w value) h.before adds
+
+  pub stamp_appended : (value : List ℕ) → AppendsValue o w value → stamp_in o + 65536 * item_size w.key value ≡ stamp_of (options_in o) (o.history ++ w ∷ [])
+  stamp_appended value adds =
+      ap (λ (n : ℕ). n + 65536 * item_size w.key value) (stamp_is h) ∙ sym (stamp_after _ (appends_made value adds))
+
+  pub stamp_untouched : w.op ≡ Touch → record_of h.m w.key ≡ None → stamp_in o + 1 ≡ stamp_of (options_in o) (o.history ++ w ∷ [])
+  stamp_untouched op none = ap (λ (n : ℕ). n + 1) (stamp_is h) ∙ sym (stamp_after _ (leaves.is_untouched h w op none))
+
+  -- Which writes append
+
+  adds_by : (value : List ℕ) → made h w ≡ cs.after_append h.m (new_record h.m w.key value) → AppendsValue o w value
+  adds_by value is = subst (λ (z : State). AppendsBy (options_in o) z w value) (sym h.before) is
+
+  -- a put that is not kept
+  pub put_appends : w.op ≡ Put → kept_offset o w ≡ None → AppendsValue o w w.value
+  put_appends op keeps = adds_by w.value (leaves.is_appended h w op (held_by None keeps))
+
+  -- an add
+  pub add_appends : w.op ≡ Add → AppendsValue o w w.value
+  add_appends op = adds_by w.value (ap (λ (z : Op). cs.after_op z (options_in o) h.m w) op)
+
+  -- a touch of a key that has a record
+  pub touch_appends : w.op ≡ Touch → (r : Record) → record_of h.m w.key ≡ Some r → AppendsValue o w r.value
+  touch_appends op r at = adds_by r.value (touched_is (options_in o) h.m w r op at)
 
   -- The write is marked by this stamp
 
-  module _ (t : ℕ) (stamp : t ≡ stamp_of (options_in o) (o.history ++ w ∷ [])) where
+  module _ (taken : IsTaken o w) (t : ℕ) (stamp : t ≡ stamp_of (options_in o) (o.history ++ w ∷ [])) where
     abbrev accepted : AcceptedWrite o
     accepted = record {
       kept = s;
@@ -128,7 +174,7 @@ module _ (o : OwnerState) (s : Kept o) (may : MayWrite o) (w : Write) (is : IsWr
       w = w;
       is = is;
       outcome = cs.reply_of w.op (options_in o) w (had_record o w.key);
-      accepted = reply_accepted w.op (options_in o) w (had_record o w.key);
+      accepted = taken;
       may = may_give o may w;
       t = t;
       stamp = stamp;
@@ -144,6 +190,14 @@ module _ (o : OwnerState) (s : Kept o) (may : MayWrite o) (w : Write) (is : IsWr
       stamp = λ new e. stamp ∙ ap (λ (z : OwnerState). stamp_of (options_in z) z.history) (sym e);
     }
 
+    -- a write that leaves its key no record, as before
+    leaves_none : record_of (made h w) w.key ≡ None → HasNoSlot o b w.key → (q : OwnerState) → q ≡ marked_with o b w t → Kept q → Closes o w b t q
+    leaves_none gone lacks q at k =
+        let none : length {A = ℕ} [] ≤ o.shape.words = omega arith in
+        closes (marked o accepted).words
+        (emptied h accepted (marked o accepted).words (subst Kept at k) gone SLOTS _ (dead_slot h accepted lacks SLOTS (omega arith) (λ last. gone) (λ key r at live. let below = at.entry.in_bucket in absurd (omega arith)))
+        (put_effect h accepted 0 [] none SLOTS _ refl) (λ y e. let below = e.in_bucket in absurd (omega arith))) q at
+
     -- A delete
 
     pub deletes : w.op ≡ Del → (c : ℕ) → c ≡ b → Deletes o w c t
@@ -154,23 +208,29 @@ module _ (o : OwnerState) (s : Kept o) (may : MayWrite o) (w : Write) (is : IsWr
               let own = found_slot h b (stood o accepted) w.key refl is.key_bytes slot found in
               let effect = entry_effect h accepted 0 [] none slot 0 found.in_bucket in
               closes (after (PutsEntry b slot 0) (marked o accepted)).words
-              (deleted h accepted (after (PutsEntry b slot 0) (marked o accepted)).words (subst Kept at k) op slot 0 (own_slot h accepted slot own.0 own.1) effect
+              (emptied h accepted (after (PutsEntry b slot 0) (marked o accepted)).words (subst Kept at k) (leaves.deleted_none h w op) slot 0 (own_slot h accepted slot own.0 own.1) effect
               (λ y e. e.live.0 (sym e.found ∙ effect.here))) q at;
-          absent = λ lacks q at k. closes (marked o accepted).words
-              (deleted h accepted (marked o accepted).words (subst Kept at k) op SLOTS _ (dead_slot h accepted lacks SLOTS (omega arith) (λ last. leaves.deleted_none h w op) (λ key r at live. let below = at.entry.in_bucket in absurd (omega arith)))
-              (put_effect h accepted 0 [] none SLOTS _ refl) (λ y e. let below = e.in_bucket in absurd (omega arith))) q at;
+          absent = λ lacks q at k. leaves_none (leaves.deleted_none h w op) lacks q at k;
         }
+
+    -- A touch of a key without a record
+
+    pub untouched : w.op ≡ Touch → (c : ℕ) → c ≡ b → HasNoSlot o c w.key → (q : OwnerState) → q ≡ marked_with o c w t → Kept q → Closes o w c t q
+    untouched op c here lacks q at k =
+        let none = no_record h c (stands_at h may.idle w.key c here) w.key (sym here) lacks in
+        subst (λ (z : ℕ). Closes o w z t q) (sym here)
+        (leaves_none (leaves.untouched_none h w op none) (subst (λ (z : ℕ). HasNoSlot o z w.key) here lacks) q (at ∙ ap (λ (z : ℕ). marked_with o z w t) here) k)
 
     -- A put
 
-    few_words : (room : ℕ) → length (item_words room w.key w.value) ≤ o.shape.words
-    few_words room = omega (arith, length-item_words room w.key w.value, size_at_most w is, s.shape.ranges.words.0)
+    few_words : (room : ℕ) (value : List ℕ) → item_size w.key value ≤ o.shape.words → length (item_words room w.key value) ≤ o.shape.words
+    few_words room value short = omega (arith, length-item_words room w.key value, short)
 
     -- it leaves its key this record
-    leaves_item : (p room : ℕ) → record_of (made h w) w.key ≡ Some (record { key = w.key; value = w.value; offset = p; room = room })
-        → LeavesItem (marked o accepted) p room w.key w.value
-    leaves_item p room found =
-        subst (λ (z : State). written_record (options_in o) z w ≡ Some (record { key = w.key; value = w.value; offset = p; room = room })) (sym h.before) found
+    leaves_item : (p room : ℕ) (value : List ℕ) → record_of (made h w) w.key ≡ Some (record { key = w.key; value = value; offset = p; room = room })
+        → LeavesItem (marked o accepted) p room w.key value
+    leaves_item p room value found =
+        subst (λ (z : State). written_record (options_in o) z w ≡ Some (record { key = w.key; value = value; offset = p; room = room })) (sym h.before) found
 
     pub rewrites : w.op ≡ Put → (c p : ℕ) → c ≡ b → kept_offset o w ≡ Some p → Rewrites o w c t p
     rewrites op c p here keeps =
@@ -181,75 +241,91 @@ module _ (o : OwnerState) (s : Kept o) (may : MayWrite o) (w : Write) (is : IsWr
         let there : SpellsItem (marked o accepted) r.0.offset w.key (cell_at r.0).0 = λ i l.
         marked_item o accepted (r.0.offset + i) ∙ (ap (λ (z : ℕ). item_in o (z + i)) at.1.offset ∙ at.1.spelt.item i l) in
         let room = item_room (marked o accepted) r.0.offset w.key (cell_at r.0).0 (fits_kept (options_in o) h.m (machine h) w.key r.0 kept.is).5 there in
-        let words = put_words o accepted r.0.offset xs (few_words r.0.room) in
+        let window = window_kept (options_in o) h.m (machine h) w.key r.0 kept.is in
+        let few = few_words r.0.room w.value (omega (arith, kept.fits, window.0, window.1)) in
+        let words = put_words o accepted r.0.offset xs few in
         subst (λ (z : ℕ). Rewrites o w z t p) (sym here) (subst (Rewrites o w b t) r.2 record {
           may = record {
             cell = (cell_at r.0).0;
             there = there;
-            leaves = leaves_item r.0.offset r.0.room (leaves.rewritten_own h w r.0 op r.1);
+            leaves = leaves_item r.0.offset r.0.room w.value (leaves.rewritten_own h w r.0 op r.1);
           };
           closes = λ q at_q k.
-              let is = at_q ∙ (ap (λ (n : ℕ). with_item (marked o accepted) r.0.offset n w.key w.value) room ∙ put_same o accepted r.0.offset xs (few_words r.0.room)) in
+              let is = at_q ∙ (ap (λ (n : ℕ). with_item (marked o accepted) r.0.offset n w.key w.value) room ∙ put_same o accepted r.0.offset xs few) in
               let live : tail_of (made h w).stamp ≤ r.0.offset + o.shape.words =
               omega (arith, kept.live, ap (λ (z : Cache). tail_of z.stamp) (leaves.is_rewritten h w r.0 op r.1)) in
-              closes words (put h accepted words (subst Kept is k) op at.0 (entry_in o b at.0) (own_slot h accepted at.0 r.0 at.1) at.1.entry.in_bucket (record r.0 { key = w.key })
-              (leaves.rewritten_own h w r.0 op r.1) (ap (λ (z : Option Record). begin_of z h.m) r.1) live at.1.entry.live.0 (sym at.1.offset) at.1.spelt.tag
-              (put_effect h accepted r.0.offset xs (few_words r.0.room) at.0 (entry_in o b at.0)
-              (put_entry o accepted r.0.offset xs (few_words r.0.room) b at.0 (let main = main o accepted in omega arith) at.1.entry.in_bucket))) q is;
+              closes words (stored h accepted words (subst Kept is k) at.0 (entry_in o b at.0) (own_slot h accepted at.0 r.0 at.1) at.1.entry.in_bucket (record r.0 { key = w.key; value = w.value })
+              (leaves.rewritten_own h w r.0 op r.1) live at.1.entry.live.0 (sym at.1.offset) at.1.spelt.tag
+              (put_effect h accepted r.0.offset xs few at.0 (entry_in o b at.0)
+              (put_entry o accepted r.0.offset xs few b at.0 (let main = main o accepted in omega arith) at.1.entry.in_bucket))) q is;
         })
 
-    module _ (op : w.op ≡ Put) (keeps : kept_offset o w ≡ None) where
+    -- A write that appends
+
+    module _ (value : List ℕ) (short : item_size w.key value ≤ o.shape.words) (adds : AppendsValue o w value) where
       abbrev p : ℕ
       p = tail_of h.m.stamp
 
       abbrev xs : List ℕ
-      xs = item_words (item_size w.key w.value) w.key w.value
+      xs = item_words (item_size w.key value) w.key value
 
       few : length xs ≤ o.shape.words
-      few = few_words (item_size w.key w.value)
+      few = few_words (item_size w.key value) value short
 
-      abbrev stored : OwnerState
-      stored = written o accepted (put_words o accepted p xs few)
+      abbrev filled : OwnerState
+      filled = written o accepted (put_words o accepted p xs few)
 
-      stored_stamp : tail_of (stamp_in stored) ≡ tail_of (made h w).stamp
-      stored_stamp = ap tail_of (put_stamp o accepted p xs few ∙ (stamp ∙ stamp_after (made h w) refl))
+      filled_stamp : tail_of (stamp_in filled) ≡ tail_of (made h w).stamp
+      filled_stamp = ap tail_of (put_stamp o accepted p xs few ∙ (stamp ∙ stamp_after (made h w) refl))
 
-      its_own : record_of (made h w) w.key ≡ Some (new_record h.m w.key w.value)
-      its_own = leaves.appended_own h w op (held_by None keeps)
+      its_own : record_of (made h w) w.key ≡ Some (new_record h.m w.key value)
+      its_own = ap (λ (z : Cache). record_of z w.key) (appends_made value adds) ∙ appended_own (options_in o) h.m w value
 
       own_live : tail_of (made h w).stamp ≤ p + o.shape.words
-      own_live = let most = (leaves.written h w is).most in let least = s.shape.ranges.words.0 in let now = stamp_is h in omega arith
+      own_live = omega (arith, short, tail_past h.m.stamp (item_size w.key value), ap (λ (z : Cache). tail_of z.stamp) (appends_made value adds))
 
-      before : (old : Option ℕ) (slot : ℕ) → MatchOption old (HasNoSlot o b w.key) (IsSlotOf o b w.key) → Takes stored b old slot → (slot < SLOTS) × Before h accepted slot
-      before None slot none gives = slot_that_gives_way h accepted none (new_record h.m w.key w.value) its_own refl own_live stored refl
-          (λ i l. put_entry o accepted p xs few b i (let main = main o accepted in omega arith) l) stored_stamp slot gives
+      before : (old : Option ℕ) (slot : ℕ) → MatchOption old (HasNoSlot o b w.key) (IsSlotOf o b w.key) → Takes filled b old slot → (slot < SLOTS) × Before h accepted slot
+      before None slot none gives = slot_that_gives_way h accepted none (new_record h.m w.key value) its_own refl own_live filled refl
+          (λ i l. put_entry o accepted p xs few b i (let main = main o accepted in omega arith) l) filled_stamp slot gives
       before (Some old) slot found same =
           let its : IsSlotOf o b w.key slot = subst (IsSlotOf o b w.key) (sym same) found in
           let own = found_slot h b (stood o accepted) w.key refl is.key_bytes slot its in
           (its.in_bucket, own_slot h accepted slot own.0 own.1)
 
-      stands : (slot : ℕ) → (slot < SLOTS) × Before h accepted slot → Kept (after (PutsEntry b slot (entry_of (tag_of w.key) p)) stored)
-          → StandsFor (after (PutsEntry b slot (entry_of (tag_of w.key) p)) stored) b
+      stands : (slot : ℕ) → (slot < SLOTS) × Before h accepted slot → Kept (after (PutsEntry b slot (entry_of (tag_of w.key) p)) filled)
+          → StandsFor (after (PutsEntry b slot (entry_of (tag_of w.key) p)) filled) b
       stands slot spelt k =
           let low : p < 2 ^ 48 = omega (arith, stamp_limit o s h.m.stamp (sym (stamp_is h))) in
-          put h accepted (after (PutsEntry b slot (entry_of (tag_of w.key) p)) stored).words k op slot (entry_of (tag_of w.key) p) spelt.1 spelt.0 (new_record h.m w.key w.value)
-          its_own (ap (λ (z : Option Record). begin_of z h.m) (held_by None keeps)) own_live (entry_not_empty (tag_of w.key) p (tag_of-range w.key).0)
+          stored h accepted (after (PutsEntry b slot (entry_of (tag_of w.key) p)) filled).words k slot (entry_of (tag_of w.key) p) spelt.1 spelt.0 (new_record h.m w.key value)
+          its_own own_live (entry_not_empty (tag_of w.key) p (tag_of-range w.key).0)
           (entry_offset-entry_of (tag_of w.key) p low) (entry_tag-entry_of (tag_of w.key) p low) (entry_effect h accepted p xs few slot (entry_of (tag_of w.key) p) spelt.0)
 
-      appends_here : Appends o w b t p
+      appends_here : Appends o w b t p value
       appends_here = record {
-        may = leaves_item p (item_size w.key w.value) its_own;
+        may = leaves_item p (item_size w.key value) value its_own;
         ready = λ q at. subst (λ (z : OwnerState). (marked_in z.phase b ≡ 1) × IsMain z.shape b) (sym (at ∙ put_same o accepted p xs few))
             (written_marked o accepted (put_words o accepted p xs few), main o accepted);
         closes = λ old found q q' slot tag at takes tag_is entry k.
             let is = at ∙ put_same o accepted p xs few in
             let entry_is = entry ∙ (λ j. after (PutsEntry b slot (entry_of (tag_is j) p)) (is j)) in
-            closes (after (PutsEntry b slot (entry_of (tag_of w.key) p)) stored).words
+            closes (after (PutsEntry b slot (entry_of (tag_of w.key) p)) filled).words
             (stands slot (before old slot found (subst (λ (z : OwnerState). Takes z b old slot) is takes)) (subst Kept entry_is k)) q' entry_is;
       }
 
-      pub appends : (c at : ℕ) → c ≡ b → at ≡ tail_of (stamp_in o) → Appends o w c t at
-      appends c at here tail = subst (λ (z : ℕ). Appends o w z t at) (sym here) (subst (Appends o w b t) (sym (tail ∙ ap tail_of (stamp_is h))) appends_here)
+      pub appends : (c at : ℕ) → c ≡ b → at ≡ tail_of (stamp_in o) → Appends o w c t at value
+      appends c at here tail = subst (λ (z : ℕ). Appends o w z t at value) (sym here)
+          (subst (λ (z : ℕ). Appends o w b t z value) (sym (tail ∙ ap tail_of (stamp_is h))) appends_here)
+
+    -- A touch of a key that has a record: its item may be carried from where it stands to the tail
+
+    pub may_carry : w.op ≡ Touch → (c from at : ℕ) → c ≡ b → (r : Record) → record_of h.m w.key ≡ Some r → r.offset ≡ from → SpellsItem o from w.key (cell_at r).0 → at ≡ tail_of (stamp_in o)
+        → Carries (marked_with o c w t) from at r
+    may_carry op c from at here r found offset item tail =
+        let key : r.key ≡ w.key = found_key w.key h.m.records r found in
+        subst (λ (z : ℕ). Carries (marked_with o z w t) from at r) (sym here) record {
+          touched = subst (λ (z : State). IsTouchOf z w from at r) (sym h.before) (op, found, offset, tail ∙ ap tail_of (stamp_is h));
+          there = subst (λ (k : List ℕ). SpellsItem (marked o accepted) from k (cell_at r).0) (sym key) (λ i l. marked_item o accepted (from + i) ∙ item i l);
+        }
 
   -- Where a put is kept, by its key's slot
 
@@ -270,3 +346,26 @@ module _ (o : OwnerState) (s : Kept o) (may : MayWrite o) (w : Write) (is : IsWr
       (λ j. then_some ((may_keep ∙ (λ j. nat_le (size_of w) (room_held j) && is_live o.shape.words (stamp_held j + 1) (offset_held j))) j) (offset_held j))
       ∙ (elim (cs.may_keep (options_in o) h.m w own.0) as (λ b. then_some b own.0.offset ≡ offset_of_kept (cond b (Some own.0) None)) [ true ↦ refl | false ↦ refl ]
       ∙ (ap (λ (z : Option Record). offset_of_kept (cs.kept_if (options_in o) h.m w z)) (sym own.1.is) ∙ sym kept_is))
+
+-- A key's slot, and the item that its entry names, before a touch
+pub record HasItemAt (o : OwnerState) (s : Kept o) (may : MayWrite o) (key : List ℕ) (offset : ℕ) : Type 0 where
+  pub r : Record
+  pub is : record_of (held o s may.cached).m key ≡ Some r
+  pub offset_is : r.offset ≡ offset
+  pub item : IsItem o offset key (cell_at r).0
+  pub short : item_size key r.value ≤ o.shape.words
+
+pub item_of_slot : (o : OwnerState) (s : Kept o) (may : MayWrite o) (key : List ℕ) → AreBytes key → (b slot offset : ℕ) → b ≡ bucket_in o key → IsSlotOf o b key slot → offset ≡ offset_in o b slot
+    → HasItemAt o s may key offset
+item_of_slot o s may key bytes b slot offset here found is =
+    let h = held o s may.cached in
+    let own = found_slot h b (stands_at h may.idle key b here) key (sym here) bytes slot found in
+    let window = window_kept (options_in o) h.m (machine h) key own.0 own.1.is in
+    let fits = fits_kept (options_in o) h.m (machine h) key own.0 own.1.is in
+    record {
+      r = own.0;
+      is = own.1.is;
+      offset_is = own.1.offset ∙ sym is;
+      item = subst (λ (p : ℕ). IsItem o p key (cell_at own.0).0) (sym is) (spelt_item o s b _ key (cell_at own.0).0 own.1.spelt);
+      short = omega (arith, window.0, window.1, fits.4);
+    }

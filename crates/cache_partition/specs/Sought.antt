@@ -1,10 +1,11 @@
 -- What the words tell of a key before a write.
-use Rattle.std.specs.Prelude.{◌≡◌, ℕ, Bool, false, List, Option, None, IfSome, MatchOption, is_some, option_map}
+use Rattle.std.specs.Prelude.{◌≡◌, ℕ, Bool, true, false, List, Option, None, IfSome, MatchOption, is_some, option_map}
 use Rattle.mica_words.specs.Hash.{fnv1a}
 use Rattle.mica_model.specs.declared.options.Options.{Options}
 use Rattle.mica_model.specs.declared.write.Write.{Write}
 use Rattle.mica_model.specs.Cache.{record_of}
-use Rattle.mica_model.specs.CacheStep.{kept_record}
+use Rattle.mica_model.specs.CacheStep.{kept_record, new_record, after_append, after_write, reply_of}
+use Rattle.mica_model.specs.Write.{is_accepted}
 use Rattle.mica_model.specs.History.{State, cache_state, store_state}
 use Rattle.epoch_core.specs.declared.state.OwnerState.{OwnerState}
 use Rattle.epoch_core.specs.OwnerState.{stamp_in, options_in, state_in, bucket_in}
@@ -35,3 +36,15 @@ had_record_by (store_state s) key = false
 -- whether the log has a record of the key
 abbrev pub had_record : OwnerState → List ℕ → Bool
 had_record o key = had_record_by (state_in o) key
+
+-- the machine of a partition that is not worn accepts the write
+abbrev pub IsTaken : OwnerState → Write → Type 0
+IsTaken o write = is_accepted (reply_of write.op (options_in o) write (had_record o write.key)) ≡ true
+
+abbrev pub AppendsBy : Options → State → Write → List ℕ → Type 0
+AppendsBy options (cache_state s) write value = after_write options s write ≡ after_append s (new_record s write.key value)
+AppendsBy options (store_state s) write value = ⊥
+
+-- the write appends a record of its key, with this value
+abbrev pub AppendsValue : OwnerState → Write → List ℕ → Type 0
+AppendsValue o write value = AppendsBy (options_in o) (state_in o) write value

@@ -1,21 +1,27 @@
 //! The partition and its calls.
-ghost use Rattle.std.specs.Prelude.{◌≡◌, ◌≢◌, length, nat_le};
-ghost use Rattle.mica_words.specs.Item.{KeyFits};
+ghost use Rattle.std.specs.Prelude.{◌≡◌, ◌≢◌, [], length, nat_le};
+ghost use Rattle.mica_words.specs.Item.{KeyFits, ValueFits, item_size as item_size_of};
 ghost use Rattle.mica_model.specs.Answer.{IsAnswer};
 ghost use Rattle.mica_model.specs.Fate.{fate_of};
 ghost use Rattle.mica_model.specs.declared.fate.Fate.TheVariants.{Held};
 ghost use Rattle.mica_model.specs.declared.options.Mode.TheVariants.{Cache};
+ghost use Rattle.mica_model.specs.declared.write.Op.TheVariants.{Add, Touch};
+ghost use Rattle.mica_model.specs.Write.{write_of};
 ghost use Rattle.mica_model.specs.History.{stamp_of, answer_of};
 ghost use Rattle.epoch_core.specs.declared.state.Phase.TheVariants.{Idle};
 ghost use Rattle.epoch_core.specs.Shape.{IsValidShape};
 ghost use Rattle.epoch_core.specs.OwnerState.{options_in, as_made};
+ghost use Rattle.epoch_core.specs.OwnerStep.{IsOwnerStep};
 
 use crate::reading::value_of;
 use crate::removing::remove;
-use crate::writing::put;
+use crate::seeking::seek;
+use crate::touching::touch;
+use crate::writing::{put, put_at_tail};
 use epoch_core::{LendPartition, LendWords, OwnerWords, Partition};
 use mica_io::NoMemory;
-use mica_model::{Answer, ItemBuf, Outcome};
+use mica_model::{Answer, ItemBuf, Op, Outcome};
+use mica_words::item_size;
 
 /// A partition over an owner's words, with its stamp and the number of accepted writes at hand.
 #[derive(Drop)]
@@ -53,6 +59,15 @@ impl<W: OwnerWords> CachePartition<W> {
         self.words
     }
 
+    // Whether the item is not longer than the log.
+    fn fits_log(&self, key: &[u8], value: &[u8]) -> bool
+        requires key { KeyFits key.now }
+        requires value { ValueFits value.now }
+        ensures { result ≡ nat_le (item_size_of key.now value.now) (W.owner self.now.words).shape.words }
+    {
+        item_size(key.len(), value.len()) <= self.words.shape().words
+    }
+
     // Whether as many writes were accepted as the partition may bear.
     fn is_worn(&self) -> bool
         ensures worn { result ≡ nat_le (W.owner self.now.words).shape.wear
@@ -72,9 +87,42 @@ impl<W: OwnerWords> Partition for CachePartition<W> {
         if self.is_worn() {
             return Outcome::Worn;
         }
+        if !self.fits_log(key, value) {
+            return Outcome::FullBlock;
+        }
         self.stamp = put(&mut self.words, key, value);
         self.accepted += 1;
         Outcome::Stored
+    }
+
+    fn add(&mut self, key: &[u8], value: &[u8]) -> Outcome {
+        if self.is_worn() {
+            return Outcome::Worn;
+        }
+        let sought = seek(&mut self.words, key);
+        if sought.slot.is_some() {
+            return Outcome::Exists;
+        }
+        if !self.fits_log(key, value) {
+            return Outcome::FullBlock;
+        }
+        self.stamp = put_at_tail(&mut self.words, &sought, Op::Add, key, value);
+        self.accepted += 1;
+        Outcome::Stored
+    }
+
+    fn touch(&mut self, key: &[u8]) -> Outcome {
+        if self.is_worn() {
+            return Outcome::Worn;
+        }
+        let touched = touch(&mut self.words, key);
+        self.stamp = touched.stamp;
+        self.accepted += 1;
+        if touched.has_record {
+            Outcome::Touched
+        } else {
+            Outcome::Absent
+        }
     }
 
     fn del(&mut self, key: &[u8]) -> Outcome {

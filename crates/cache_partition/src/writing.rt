@@ -1,13 +1,13 @@
-//! A put, by its events: in the room that the key's item has, else at the tail of the log.
+//! A put or an add, by its events: in the room that the key's item has, else at the tail of the log.
 ghost use Rattle.std.specs.Prelude.{◌≡◌, Some, None};
 ghost use Rattle.mica_words.specs.Item.{KeyFits, ValueFits};
 ghost use Rattle.mica_model.specs.declared.write.Op.TheVariants.{Put};
-ghost use Rattle.mica_model.specs.Write.{IsWrite, write_of};
+ghost use Rattle.mica_model.specs.Write.{GivesValue, IsWrite, write_of};
 ghost use Rattle.mica_model.specs.History.{stamp_of};
 ghost use Rattle.epoch_core.specs.OwnerState.{options_in};
 ghost use Rattle.epoch_core.specs.Kept.{Kept};
 ghost use Rattle.cache_partition.specs.Gained.{MayWrite, Gains};
-ghost use Rattle.cache_partition.specs.Sought.{IsSought, kept_offset};
+ghost use Rattle.cache_partition.specs.Sought.{AppendsValue, IsSought, IsTaken, kept_offset};
 
 use crate::seeking::{Sought, begin, seek};
 use circular_log::{append_hashed, is_live, rewrite};
@@ -21,6 +21,7 @@ pub(crate) fn put<W: OwnerWords>(words: &mut W, key: &[u8], value: &[u8]) -> u64
     requires may { MayWrite (W.owner words.old) }
     requires key { KeyFits key.now }
     requires value { ValueFits value.now }
+    requires taken { IsTaken (W.owner words.old) (write_of Put key.now value.now) }
     ensures gains { Gains (W.owner words.old) (W.owner words.new)
         (write_of Put key.entry.now value.entry.now) }
     ensures stamp { result ≡ stamp_of (options_in (W.owner words.new)) (W.owner words.new).history }
@@ -29,7 +30,7 @@ pub(crate) fn put<W: OwnerWords>(words: &mut W, key: &[u8], value: &[u8]) -> u64
     let sought = seek(words, key);
     match offset_that_keeps(words, &sought, key, value) {
         Some(offset) => put_in_place(words, &sought, offset, key, value),
-        None => put_at_tail(words, &sought, key, value),
+        None => put_at_tail(words, &sought, Op::Put, key, value),
     }
 }
 
@@ -67,6 +68,7 @@ fn put_in_place<W: OwnerWords>(
     requires kept { Kept (W.owner words.old) }
     requires may { MayWrite (W.owner words.old) }
     requires write { IsWrite (write_of Put key.now value.now) }
+    requires taken { IsTaken (W.owner words.old) (write_of Put key.now value.now) }
     requires sought { IsSought (W.owner words.old) key.now sought.now }
     requires in_place { kept_offset (W.owner words.old) (write_of Put key.now value.now)
         ≡ Some offset }
@@ -82,21 +84,30 @@ fn put_in_place<W: OwnerWords>(
     stamp
 }
 
-// The put appends its item, which the key's slot names afterwards.
-fn put_at_tail<W: OwnerWords>(words: &mut W, sought: &Sought, key: &[u8], value: &[u8]) -> u64
+/// The write appends its item, which the key's slot names afterwards, and the new stamp is answered.
+pub(crate) fn put_at_tail<W: OwnerWords>(
+    words: &mut W,
+    sought: &Sought,
+    op: Op,
+    key: &[u8],
+    value: &[u8],
+) -> u64
+    requires gives { GivesValue op }
     requires kept { Kept (W.owner words.old) }
     requires may { MayWrite (W.owner words.old) }
-    requires write { IsWrite (write_of Put key.now value.now) }
+    requires value { ValueFits value.now }
+    requires write { IsWrite (write_of op key.now value.now) }
+    requires taken { IsTaken (W.owner words.old) (write_of op key.now value.now) }
     requires sought { IsSought (W.owner words.old) key.now sought.now }
-    requires at_tail { kept_offset (W.owner words.old) (write_of Put key.now value.now) ≡ None }
+    requires at_tail { AppendsValue (W.owner words.old) (write_of op key.now value.now) value.now }
     ensures gains { Gains (W.owner words.old) (W.owner words.new)
-        (write_of Put key.entry.now value.entry.now) }
+        (write_of op key.entry.now value.entry.now) }
     ensures stamp { result ≡ stamp_of (options_in (W.owner words.new)) (W.owner words.new).history }
     ensures home { W.home words.new ≡ W.home words.old }
 {
     let tail = tail_of(sought.stamp);
     let stamp = sought.stamp + 65_536 * u64::from(item_size(key.len(), value.len()));
-    begin(words, sought.bucket, Op::Put, key, value, stamp);
+    begin(words, sought.bucket, op, key, value, stamp);
     append_hashed(words, tail, key, sought.hash, value);
     place(words, sought.bucket, sought.slot, tag_of(sought.hash), tail);
     words.end_write(sought.bucket);

@@ -14,22 +14,17 @@ use Rattle.mica_words.proofs.PackedBytes.{length-words}
 use Rattle.mica_model.specs.Store.{Cell}
 use Rattle.epoch_core.specs.declared.state.OwnerState.{OwnerState}
 use Rattle.epoch_core.specs.OwnerState.{item_in}
-use Rattle.circular_log.specs.LogItem.{IsItem}
-
--- the item words from the offset on, this many
-abbrev pub words_from : OwnerState → ℕ → ℕ → List ℕ
-words_from o p zero = []
-words_from o p (suc n) = words_from o p n ++ item_in o (p + n) ∷ []
+use Rattle.circular_log.specs.LogItem.{IsItem, words_from}
 
 -- their bytes
 abbrev pub bytes_from : OwnerState → ℕ → ℕ → List ℕ
 bytes_from o p n = flat_map (to_le_bytes w64) (words_from o p n)
 
-length-words_from : (o : OwnerState) (p n : ℕ) → length (words_from o p n) ≡ n
+pub length-words_from : (o : OwnerState) (p n : ℕ) → length (words_from o p n) ≡ n
 length-words_from o p zero = refl
 length-words_from o p (suc n) = omega (arith, length-words_from o p n, length-append (words_from o p n) (item_in o (p + n) ∷ []))
 
-word_from : (o : OwnerState) (p n k : ℕ) → k < n → get_or (words_from o p n) k 0 ≡ item_in o (p + k)
+pub word_from : (o : OwnerState) (p n k : ℕ) → k < n → get_or (words_from o p n) k 0 ≡ item_in o (p + k)
 word_from o p zero k below = absurd (omega arith)
 word_from o p (suc n) k below =
     let long = length-words_from o p n in

@@ -1,2 +1,3 @@
 pub mod LogItem
 pub mod LogWrite
+pub mod LogCarry

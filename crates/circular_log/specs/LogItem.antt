@@ -1,6 +1,6 @@
 -- An item of the log, by its words.
-use Rattle.std.specs.Prelude.{◌≡◌, ℕ, ◌<◌, List}
-use Rattle.mica_words.specs.Item.{KeyFits, ValueFits}
+use Rattle.std.specs.Prelude.{◌≡◌, ℕ, zero, suc, ◌+◌, ◌<◌, List, [], ◌∷◌, ◌++◌}
+use Rattle.mica_words.specs.Item.{KeyFits, ValueFits, item_size}
 use Rattle.mica_words.specs.Packing.{AreBytes}
 use Rattle.mica_words.specs.Header.{header_room}
 use Rattle.mica_model.specs.Store.{Cell}
@@ -23,6 +23,15 @@ HasItem o p = (key : List ℕ) × (cell : Cell) × IsItem o p key cell
 -- the value of the item at the offset
 abbrev pub IsValueAt : OwnerState → ℕ → List ℕ → Type 0
 IsValueAt o p value = (key : List ℕ) (cell : Cell) → IsItem o p key cell → value ≡ cell.value
+
+-- the words of the item at the offset
+abbrev pub IsSizeAt : OwnerState → ℕ → ℕ → Type 0
+IsSizeAt o p size = (key : List ℕ) (cell : Cell) → IsItem o p key cell → size ≡ item_size key cell.value
+
+-- the item words from the offset on, this many
+abbrev pub words_from : OwnerState → ℕ → ℕ → List ℕ
+words_from o p zero = []
+words_from o p (suc n) = words_from o p n ++ item_in o (p + n) ∷ []
 
 -- the room of the item at the offset, by its header
 abbrev pub room_at : OwnerState → ℕ → ℕ

@@ -1,11 +1,12 @@
 -- A word of the marked write in cache mode is in no room of a live item of another bucket: the log's window and its rooms say so.
-use Rattle.epoch_core.proofs.Vocabulary.{AllByRecursion, Cell, Has, History, IsValid, IsWrite, Kept, List, Options, OwnerState, Phase, PhaseFits}
+use Rattle.epoch_core.proofs.Vocabulary.{AllByRecursion, Cell, Has, History, IsWrite, Kept, List, Options, OwnerState, Phase, PhaseFits}
 use Rattle.epoch_core.proofs.Vocabulary.{Some, Spells, State, Write, ap, arith, bucket_in, cache_state, cases_lt, div-add-mod, entry_offset, inl, inr}
 use Rattle.epoch_core.proofs.Vocabulary.{marked_in, mul-le-mul_left, mul-suc, options_in, room_in, state_in, state_of, state_snoc, subst, sym}
 use Rattle.epoch_core.proofs.Vocabulary.{tail_of, ℕ, ◌%◌, ◌*◌, ◌+◌, ◌/◌, ◌<◌, ◌∙◌, ◌≡◌, ◌≢◌, ◌≤◌, ◌⊎◌}
 use Rattle.mica_model.specs.Cache.{Cache, Record, record_of}
 use Rattle.mica_model.specs.CacheStep as cs
-use Rattle.mica_model.specs.History.{after}
+use Rattle.mica_model.specs.History.{after, IsAcceptedAfter, IsHistory}
+use Rattle.mica_model.proofs.Histories.{last_accepted}
 use Rattle.mica_model.proofs.CacheLaws.{window, apart, own}
 use Rattle.epoch_core.proofs.Keys.{item_room}
 use Rattle.epoch_core.proofs.Machine.{all_parts, found_record, has_fits}
@@ -39,12 +40,12 @@ spelt_record o s b entry key cell sp now at =
     (found.0, found.1, found.2, sym (room_is o s b entry key cell sp ∙ ap (λ (z : Cell). z.room) found.3))
 
 -- a word of the write's item is in no room of what the log has of another key
-pub other_rooms : (options : Options) → IsValid options → (history : History) → AllByRecursion IsWrite history → (write : Write) → IsWrite write
-    → (before : Cache) → state_of options history ≡ cache_state before → (p : ℕ) → cs.IsOfItem options before write p
+pub other_rooms : (options : Options) (history : History) → AllByRecursion IsWrite history → (write : Write) → IsWrite write
+    → IsAcceptedAfter options history write → (before : Cache) → state_of options history ≡ cache_state before → (p : ℕ) → cs.IsOfItem options before write p
     → (key : List ℕ) → key ≢ write.key → (r : Record) → record_of (cs.after options before write) key ≡ Some r
     → (i : ℕ) → i < r.room → (r.offset + i) % options.words ≢ p % options.words
-other_rooms options valid history writes write is before at p item key differ r found i below same =
-    let mine = own options valid history writes write is before at p item in
+other_rooms options history writes write is accepted before at p item key differ r found i below same =
+    let mine = own options history writes write is accepted before at p item in
     let there = window options history writes write is before at key r found in
     let here = window options history writes write is before at write.key mine.0 mine.1 in
     let one : r.offset + i ≡ p = one_place options.words (tail_of (cs.after options before write).stamp) (r.offset + i) p same
@@ -62,4 +63,5 @@ log_spares o s b write history before c slot entry other p is at belongs l n h i
     let r = spelt_record o s other entry some.0 some.1 some.2 (cs.after (options_in o) before write) now in
     let differ : some.0 ≢ write.key = λ same. n (sym some.2.bucket ∙ (ap (bucket_in o) same ∙ sym fits.0)) in
     let place : (r.0.offset + i.0) % o.shape.words ≡ p % o.shape.words = rw r.2 (omega (arith, i.2)) in
-    other_rooms (options_in o) s.shape.ranges history all.0 write all.1 before at p belongs some.0 differ r.0 r.1 i.0 (omega (arith, r.3, i.1)) place
+    let accepted = last_accepted (options_in o) history write (subst (IsHistory (options_in o)) fits.1 s.history.accepted) in
+    other_rooms (options_in o) history all.0 write all.1 accepted before at p belongs some.0 differ r.0 r.1 i.0 (omega (arith, r.3, i.1)) place

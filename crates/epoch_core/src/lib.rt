@@ -24,7 +24,7 @@ pub use event::{Event, OwnerEvent};
 pub use item::{holds_key, holds_key_hashed, rewrite_item, write_item, write_item_hashed};
 pub use lend_partition::LendPartition;
 pub use lending::LendWords;
-pub use partition::Partition;
+pub use partition::{Partition, write_to};
 pub use plain::{Alone, Blank, Diary, PlainWords};
 pub use reader::{Cut, Known, ReaderState, Try};
 pub use reading::ReaderWords;

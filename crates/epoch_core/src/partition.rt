@@ -2,15 +2,15 @@
 ghost use Rattle.std.specs.Prelude.{◌≡◌, [], length};
 ghost use Rattle.atomic_table.specs.Seated.{TableId};
 ghost use Rattle.mica_words.specs.Item.{KeyFits, ValueFits};
-ghost use Rattle.mica_model.specs.declared.write.Op.TheVariants.{Put, Del};
-ghost use Rattle.mica_model.specs.Write.{write_of};
+ghost use Rattle.mica_model.specs.declared.write.Op.TheVariants.{Put, Add, Touch, Del};
+ghost use Rattle.mica_model.specs.Write.{HasValueOf, write_of};
 ghost use Rattle.mica_model.specs.History.{stamp_of, answer_of};
 ghost use Rattle.mica_model.specs.Answer.{IsAnswer};
 ghost use Rattle.epoch_core.specs.declared.state.OwnerState.{OwnerState};
 ghost use Rattle.epoch_core.specs.OwnerState.{options_in};
 ghost use Rattle.epoch_core.specs.OwnerStep.{IsOwnerStep};
 
-use mica_model::{Answer, ItemBuf, Outcome};
+use mica_model::{Answer, ItemBuf, Op, Outcome};
 
 /// A partition, each of whose writes is a step of its machine. No call takes memory.
 pub trait Partition {
@@ -25,6 +25,21 @@ pub trait Partition {
         requires value { ValueFits value.now }
         ensures step { IsOwnerStep (owner self.old) (owner self.new)
             (write_of Put key.now value.now) result }
+        ensures home { home self.new ≡ home self.old };
+
+    /// Stores the value where the key has none.
+    fn add(&mut self, key: &[u8], value: &[u8]) -> Outcome
+        requires key { KeyFits key.now }
+        requires value { ValueFits value.now }
+        ensures step { IsOwnerStep (owner self.old) (owner self.new)
+            (write_of Add key.now value.now) result }
+        ensures home { home self.new ≡ home self.old };
+
+    /// Keeps the value that the key has, whose item is the newest in cache mode.
+    fn touch(&mut self, key: &[u8]) -> Outcome
+        requires { KeyFits key.now }
+        ensures step { IsOwnerStep (owner self.old) (owner self.new)
+            (write_of Touch key.now []) result }
         ensures home { home self.new ≡ home self.old };
 
     fn del(&mut self, key: &[u8]) -> Outcome
@@ -49,4 +64,19 @@ pub trait Partition {
     /// How many writes were accepted.
     fn accepted(&self) -> u64
         ensures { result ≡ length (owner self.now).history };
+}
+
+/// Does a write in the partition. The value is empty where the operation has none.
+pub fn write_to<P: Partition>(part: &mut P, op: Op, key: &[u8], value: &[u8]) -> Outcome
+    requires key { KeyFits key.now }
+    requires value { HasValueOf op value.now }
+    ensures step { IsOwnerStep (P.owner part.old) (P.owner part.new) (write_of op key.now value.now) result }
+    ensures home { P.home part.new ≡ P.home part.old }
+{
+    match op {
+        Op::Put => part.put(key, value),
+        Op::Add => part.add(key, value),
+        Op::Touch => part.touch(key),
+        Op::Del => part.del(key),
+    }
 }

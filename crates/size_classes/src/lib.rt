@@ -25,10 +25,11 @@ pub fn class_of(words: u32) -> u32
     31 + 2 * (highest - 5) + (words >> (highest - 1)) % 2
 }
 
-/// The least size of the class: no size of it is below.
+/// The least size of the class: it is of the class, and no size of it is below.
 pub fn least_of(class: u32) -> u32
     requires { class < CLASSES }
-    ensures { (words : ℕ) → 1 ≤ words → words < 2 ^ 32 → class_of words ≡ class → result ≤ words }
+    ensures own { class_of result ≡ class }
+    ensures least { (words : ℕ) → 1 ≤ words → words < 2 ^ 32 → class_of words ≡ class → result ≤ words }
 {
     if class < 31 {
         return class + 1;

@@ -1,6 +1,6 @@
 -- What a write makes of the machine's cells: one key has another cell, or none.
 use Rattle.mica_model.specs.StoreStep as ss
-use Rattle.store_partition.proofs.Words.{Cell, Cells, Del, List, None, Op, Option, Put, Some, Store, Write, ap, arith, bucket_of, cond}
+use Rattle.store_partition.proofs.Words.{Add, Cell, Cells, Del, GivesValue, List, None, Op, Option, Put, Some, Touch, Store, Write, ap, arith, bucket_of, cond}
 use Rattle.store_partition.proofs.Words.{eq_by_cmp_equiv, get, get-insert, get-remove, insert, is_some, keys_in, keys_over, len, len-insert}
 use Rattle.store_partition.proofs.Words.{len-remove, less_here, less_others, nat_list_cmp_total, new_here, new_others, refl, remove, remove_none}
 use Rattle.store_partition.proofs.Words.{room_of, rooms, rooms_insert, rooms_remove, size_of, subst, sym, ℕ, ◌+◌, ◌-◌, ◌<◌, ◌∙◌, ◌≡◌, ◌≢◌}
@@ -44,14 +44,39 @@ module _ (buckets b : ℕ) (cells : Cells) (key : List ℕ) (here : b ≡ bucket
         room = omega (arith, rooms_remove cells key, ap room_of has);
       }
 
--- the cell that a write leaves its key
+-- the cell that a put gives its key
+abbrev pub cell_put : Store → Write → Cell
+cell_put s w = record { value = w.value; room = ss.room_after (get s.cells w.key) (size_of w) }
+
+-- the cell that a write leaves its key, if it does
 abbrev pub cell_left : Op → Store → Write → Option Cell
-cell_left Put s w = Some (record { value = w.value; room = ss.room_after (get s.cells w.key) (size_of w) })
+cell_left Put s w = Some (cell_put s w)
+cell_left Add s w = Some (cell_put s w)
+cell_left Touch s w = get s.cells w.key
 cell_left Del s w = None
 
+-- what a write that gives a value does
+pub cell_given : (op : Op) (s : Store) (w : Write) → GivesValue op → cell_left op s w ≡ Some (cell_put s w)
+cell_given Put s w gives = refl
+cell_given Add s w gives = refl
+cell_given Touch s w gives = absurd gives
+cell_given Del s w gives = absurd gives
+
+-- and one that gives none leaves a key without a cell so
+pub none_left : (op : Op) (s : Store) (w : Write) → ¬ (GivesValue op) → get s.cells w.key ≡ None → cell_left op s w ≡ None
+none_left Put s w other none = absurd (other tt)
+none_left Add s w other none = absurd (other tt)
+none_left Touch s w other none = none
+none_left Del s w other none = refl
+
+left_put : (s : Store) (w : Write) → get (ss.after_put s w).cells w.key ≡ Some (cell_put s w)
+left_put s w = get-insert nat_list_cmp_total s.cells w.key (cell_put s w) w.key
+    ∙ ap (λ b. cond b (Some (cell_put s w)) (get s.cells w.key)) ((eq_by_cmp_equiv nat_list_cmp_total).refl w.key)
+
 left_by : (op : Op) (s : Store) (w : Write) → get (ss.after_op op s w).cells w.key ≡ cell_left op s w
-left_by Put s w = get-insert nat_list_cmp_total s.cells w.key (record { value = w.value; room = ss.room_after (get s.cells w.key) (size_of w) }) w.key
-    ∙ ap (λ b. cond b (cell_left Put s w) (get s.cells w.key)) ((eq_by_cmp_equiv nat_list_cmp_total).refl w.key)
+left_by Put s w = left_put s w
+left_by Add s w = left_put s w
+left_by Touch s w = refl
 left_by Del s w = get-remove nat_list_cmp_total s.cells w.key w.key ∙ ap (λ b. cond b None (get s.cells w.key)) ((eq_by_cmp_equiv nat_list_cmp_total).refl w.key)
 
 pub left : (s : Store) (w : Write) → get (ss.after s w).cells w.key ≡ cell_left w.op s w
@@ -61,6 +86,8 @@ left s w = left_by w.op s w
 module _ (buckets b : ℕ) (s : Store) (w : Write) (here : b ≡ bucket_of w.key buckets) (low : b < buckets) where
   exchanges_by : (op : Op) → Exchanges buckets b s.cells (ss.after_op op s w).cells (get s.cells w.key) (cell_left op s w)
   exchanges_by Put = inserted buckets b s.cells w.key here low _ (get s.cells w.key) refl
+  exchanges_by Add = inserted buckets b s.cells w.key here low _ (get s.cells w.key) refl
+  exchanges_by Touch = record { here = refl; there = λ c other. refl; all = omega arith; room = refl }
   exchanges_by Del = deleted buckets b s.cells w.key here low (get s.cells w.key) refl
 
   pub exchanges : Exchanges buckets b s.cells (ss.after s w).cells (get s.cells w.key) (get (ss.after s w).cells w.key)

@@ -1,7 +1,7 @@
 -- A partition between two writes: what its entries tell of the machine's cells and of the heap's blocks, what they answer to a get, and which
--- outcomes the machine allows a put.
+-- outcomes the machine allows a put or an add.
 use Rattle.chained_index.proofs.Lists.{AllDiffer, differ_apart, differ_moved}
-use Rattle.store_partition.proofs.Words.{SLOTS, Allows, AreBytes, AreParts, Block, Cell, Contains, Contains-append_right, Contains-get_or}
+use Rattle.store_partition.proofs.Words.{SLOTS, Add, Allows, Bool, Exists, IsSome, AreBytes, AreParts, Block, Cell, Contains, Contains-append_right, Contains-get_or}
 use Rattle.store_partition.proofs.Words.{Contains-permutation, Has, HasKey, HasNoSpot, Index, IsBlockList, IsBucket, IsMain, IsPermutation}
 use Rattle.store_partition.proofs.Words.{IsPermutation-refl, IsPermutation-sym, IsSpotOf, Kept, List, ListStands, MayGive, None, Option, Outcome}
 use Rattle.store_partition.proofs.Words.{OwnerState, RoomsApart, Some, Spells, Spot, Store, Write, [], accepted_in, accepted_is_length, ap, arith, at}
@@ -10,8 +10,9 @@ use Rattle.store_partition.proofs.Words.{get_or_default, has_its_key, item_at, k
 use Rattle.store_partition.proofs.Words.{is_within, view, number_of, only_key, options_in, refl, room_in, room_is, rooms, same_Some, spelt_key}
 use Rattle.store_partition.proofs.Words.{spot_at, spot_entry, stands_idle, state_in, store_state, stored_in, subst, sym, used_block, used_blocks}
 use Rattle.store_partition.proofs.Words.{words_of, ℕ, ◌%◌, ◌++◌, ◌+◌, ◌/◌, ◌<◌, ◌^◌, ◌∙◌, ◌∷◌, ◌≡◌, ◌≢◌, ◌≤◌, HasItem, IsItem, IsValueAt, answer_of}
-use Rattle.store_partition.proofs.Words.{option_map, value_in, FullBlock, FullSpare, IsOwnerStep, IsSomeAnd, IsTaken, LacksPlace, MayLack, Put}
+use Rattle.store_partition.proofs.Words.{option_map, value_in, FullBlock, FullSpare, IsOwnerStep, IsSomeAnd, IsTaken, LacksPlace, MayLack, GivesValue, Op, Replaces}
 use Rattle.store_partition.proofs.Words.{Stored, free_spares, inl, inr, item_size, nil_from_length, refused_step, spares_in_use, subst₂}
+use Rattle.store_partition.proofs.Words.{false, leb, leb-false, leb-true, true, true≢false}
 use Rattle.store_partition.proofs.Words.{sum_by_popped, used_blocks-taken, words_of-fills, words_parted, write_of, ◌*◌, ◌-◌}
 use Rattle.store_partition.proofs.Lists.{block_within, nothing, once_by, same_or_apart, single, added, list_on}
 use Rattle.store_partition.proofs.Cells.{one_or_none}
@@ -262,11 +263,11 @@ module _ (h : Held) (key : List ℕ) (b : ℕ) where
   pub answer_none : b ≡ bucket_in h.o key → HasNoSpot h.o b key → answer_of (options_in h.o) h.o.history key ≡ None
   answer_none here none = answer ∙ ap (option_map (λ cell. cell.value)) (has_none h key b here none)
 
--- Which outcomes the machine allows a put: stored in the room that the key has or in a block, or refused for want of a spare bucket or a block
+-- Which outcomes the machine allows a put or an add: stored in the room that the key has or in a block, or refused for want of a spare bucket or a block
 
-module _ (h : Held) (key value : List ℕ) (b : ℕ) (here : b ≡ bucket_in h.o key) where
+module _ (h : Held) (op : Op) (gives : GivesValue op) (key value : List ℕ) (b : ℕ) (here : b ≡ bucket_in h.o key) where
   abbrev w : Write
-  w = write_of Put key value
+  w = write_of op key value
 
   abbrev size : ℕ
   size = item_size key value
@@ -286,33 +287,33 @@ module _ (h : Held) (key value : List ℕ) (b : ℕ) (here : b ≡ bucket_in h.o
     none_free = nil_from_length h.index.free (let left = needs.none_left in let all = counted in omega arith);
   }
 
-  -- which puts need a block
+  -- which of them need a block
 
-  pub grown_needs : (spot : Spot) → Known h key b spot → room_in h.o (spot_entry h.o spot) < size → ss.NeedsBlock (options_in h.o) (m h) w
-  grown_needs spot k grows = record {
-    stores = (tt, inl tt);
+  pub grown_needs : Replaces op → (spot : Spot) → Known h key b spot → room_in h.o (spot_entry h.o spot) < size → ss.NeedsBlock (options_in h.o) (m h) w
+  grown_needs replaces spot k grows = record {
+    stores = (gives, inl replaces);
     no_room = λ fits. (let small = subst (λ z. IsSomeAnd z (λ cell. size ≤ cell.room)) k.has fits in let same = k.room in omega arith);
     has_spare = λ needs. cc (sym needs.is_new ∙ k.has);
   }
 
   pub new_needs : HasNoSpot h.o b key → ¬ (LacksPlace h.index h.o b) → ss.NeedsBlock (options_in h.o) (m h) w
   new_needs none places = record {
-    stores = (tt, inl tt);
+    stores = (gives, inr (has_none h key b here none));
     no_room = λ fits. absurd (subst (λ z. IsSomeAnd z (λ cell. size ≤ cell.room)) (has_none h key b here none) fits);
     has_spare = λ spare. places (lacks_place spare);
   }
 
   -- before the partition is worn
   module _ (unworn : length h.o.history < h.o.shape.wear) where
-    pub stored_in_room : (spot : Spot) (k : Known h key b spot) → size ≤ k.cell.room → Allows (options_in h.o) (store_state (m h)) w Stored
-    stored_in_room spot k fits = (not_worn h unworn, ((tt, inl tt), inl (subst (λ z. IsSomeAnd z (λ cell. size ≤ cell.room)) (sym k.has) fits)))
+    pub stored_in_room : Replaces op → (spot : Spot) (k : Known h key b spot) → size ≤ k.cell.room → Allows (options_in h.o) (store_state (m h)) w Stored
+    stored_in_room replaces spot k fits = (not_worn h unworn, ((gives, inl replaces), inl (subst (λ z. IsSomeAnd z (λ cell. size ≤ cell.room)) (sym k.has) fits)))
 
     pub stored_taken : ss.NeedsBlock (options_in h.o) (m h) w → (blocks : List Block) (place : ℕ) → IsTaken h.blocks blocks place size → IsBlockList (words_of h.blocks) blocks
         → Allows (options_in h.o) (store_state (m h)) w Stored
     stored_taken needs blocks place taken list =
         let more = sum_by_popped (λ (y : Block). y.size) _ _ _ (added _ _ _ (used_blocks-taken h.blocks blocks place size taken)) in
         let total = words_of-fills 0 h.o.shape.words blocks (list_on h.o.shape.words h.blocks blocks h.parts.list list).fills in
-        (not_worn h unworn, ((tt, inl tt), inr (needs, omega (arith, words_parted blocks, as_rooms h))))
+        (not_worn h unworn, (needs.stores, inr (needs, omega (arith, words_parted blocks, as_rooms h))))
 
     pub full_spare : HasNoSpot h.o b key → LacksPlace h.index h.o b → IsOwnerStep h.o h.o w FullSpare
     full_spare none lacks =
@@ -322,7 +323,7 @@ module _ (h : Held) (key value : List ℕ) (b : ℕ) (here : b ≡ bucket_in h.o
           full = ap (λ n. n % SLOTS) (sym own_keys) ∙ lacks.full;
           none_left = omega (arith, counted, ap length lacks.none_free);
         } in
-        refused_step h.o h.parts.idle w FullSpare refl (may_give h w FullSpare (not_worn h unworn, (tt, needs)))
+        refused_step h.o h.parts.idle w FullSpare refl (may_give h w FullSpare (not_worn h unworn, (gives, needs)))
 
     pub full_block : ss.NeedsBlock (options_in h.o) (m h) w → MayLack h.blocks size → IsOwnerStep h.o h.o w FullBlock
     full_block needs lack =
@@ -332,3 +333,16 @@ module _ (h : Held) (key value : List ℕ) (b : ℕ) (here : b ≡ bucket_in h.o
           not_worn h unworn,
           (needs, subst₂ (λ k l. h.o.shape.words ≤ (k + 1) * (size - 1) + l) (as_cells h) (as_rooms h) words),
         ))
+
+-- an add of a key that has an item is refused
+pub already : (h : Held) (key value : List ℕ) (b : ℕ) (spot : Spot) → Known h key b spot → length h.o.history < h.o.shape.wear
+    → IsOwnerStep h.o h.o (write_of Add key value) Exists
+already h key value b spot k unworn = refused_step h.o h.parts.idle (write_of Add key value) Exists refl
+    (may_give h (write_of Add key value) Exists (not_worn h unworn, (refl, subst IsSome (sym k.has) refl)))
+
+-- a test that tells where a number is reached tells where it is not
+pub not_reached : (most n : ℕ) (test : Bool) → (most ≤ n → test ≡ true) → test ≡ false → n < most
+not_reached most n test reached not = elim (leb most n) as (λ b. leb most n ≡ b → n < most) [
+  | true ↦ λ e. absurd (true≢false (sym (reached (leb-true most n e)) ∙ not))
+  | false ↦ λ e. leb-false most n e
+] refl

@@ -4,7 +4,7 @@ pub use Rattle.epoch_core.proofs.Vocabulary.{IsValidShape, Kept, KeyFits, List, 
 pub use Rattle.epoch_core.proofs.Vocabulary.{WhenMarked, [], after as after_event, answer_of, ap, arith, as_made, bucket_in, bucket_of, cond, dite}
 pub use Rattle.epoch_core.proofs.Vocabulary.{drop, false, fnv1a, get_or_default, header_room, if◌then◌else◌, inl, inr, is_some, item_at, item_events}
 pub use Rattle.epoch_core.proofs.Vocabulary.{item_in, item_size, length, length-append, length-set, link_in, marked_in, not, option_map, options_in}
-pub use Rattle.epoch_core.proofs.Vocabulary.{plays, puts_from, refl, room_in, slice_index, stamp_of, start, state_in, state_snoc, store_state}
+pub use Rattle.epoch_core.proofs.Vocabulary.{ValueFits, plays, puts_from, refl, room_in, slice_index, stamp_of, start, state_in, state_snoc, store_state}
 pub use Rattle.epoch_core.proofs.Vocabulary.{stored_in, subst, suc, sym, take, true, value_in, zero, ℕ, ℕ_discrete, ◌%◌, ◌*◌, ◌++◌, ◌+◌, ◌-◌, ◌<◌}
 pub use Rattle.epoch_core.proofs.Vocabulary.{◌^◌, ◌∙◌, ◌∷◌, ◌≡◌, ◌≢◌, ◌≤◌, ◌⊎◌}
 pub use Rattle.chained_index.proofs.Words.{Cells, ChangesChain, Contains-append_left, Contains-append_right, Contains-get_or, Contains-permutation}
@@ -19,8 +19,8 @@ pub use Rattle.std.proofs.Props.{props}
 pub use Rattle.std.proofs.lemmas.Bool.Decides.{Decides-and}
 pub use Rattle.std.proofs.lemmas.Map.Made.{is_member-Decides}
 pub use Rattle.std.specs.Bool.{Decides}
-pub use Rattle.std.specs.Prelude.{IsSome, IsSomeAnd, remove as list_remove, slice_set, swap_remove, ◌&&◌}
-pub use Rattle.std.proofs.lemmas.Bool.{cond-false, cond-true, le-leb, lt-leb}
+pub use Rattle.std.specs.Prelude.{IsSome, IsSomeAnd, MatchOption, remove as list_remove, slice_set, swap_remove, ◌&&◌}
+pub use Rattle.std.proofs.lemmas.Bool.{cond-false, cond-true, le-leb, leb-false, leb-true, lt-leb}
 pub use Rattle.std.proofs.lemmas.List.{set_split}
 pub use Rattle.std.proofs.lemmas.List.Sorted.{IsPermutation-middle, IsPermutation-remove, IsPermutation-swap_remove, IsPermutation-to_front}
 pub use Rattle.std.proofs.lemmas.List.Sorted.{length_permutation, sum_by-IsPermutation, sum_by_popped}
@@ -42,13 +42,13 @@ pub use Rattle.mica_model.proofs.StoreLaws.{others_same, stamp_is_length}
 pub use Rattle.mica_model.proofs.TableSteps.{less_here, less_others, new_here, new_others}
 pub use Rattle.mica_model.specs.History.{Allows, accepted_in, after, stamp_in}
 pub use Rattle.mica_model.specs.Store.{Store, room_of, rooms}
-pub use Rattle.mica_model.specs.Write.{IsWrite, is_accepted, size_of, write_of}
+pub use Rattle.mica_model.specs.Write.{GivesValue, HasValueOf, IsWrite, Replaces, is_accepted, size_of, write_of}
 pub use Rattle.mica_model.specs.declared.options.Mode.{Mode}
 pub use Rattle.mica_model.specs.declared.options.Mode.TheVariants.{Cache as CacheMode, Store as StoreMode}
 pub use Rattle.mica_model.specs.declared.write.Op.{Op}
-pub use Rattle.mica_model.specs.declared.write.Op.TheVariants.{Del, Put}
+pub use Rattle.mica_model.specs.declared.write.Op.TheVariants.{Add, Del, Put, Touch}
 pub use Rattle.mica_model.specs.declared.write.Outcome.{Outcome}
-pub use Rattle.mica_model.specs.declared.write.Outcome.TheVariants.{Absent, Deleted, FullBlock, FullSpare, Stored}
+pub use Rattle.mica_model.specs.declared.write.Outcome.TheVariants.{Absent, Deleted, Exists, FullBlock, FullSpare, Stored, Touched}
 pub use Rattle.mica_model.specs.declared.write.Write.{Write}
 pub use Rattle.epoch_core.proofs.Keeps.{kept_after}
 pub use Rattle.epoch_core.proofs.Keys.{has_its_key}

@@ -1,31 +1,31 @@
 -- The kinds of write, each an exchange of its key's entry and block: a put in the room that the key has, one that takes a block for a key
--- that has an item or none, and a delete of a key that has an item or none.
+-- that has an item or, as an add, for one that has none, a delete of a key that has an item, and a write that has its events alone.
 use Rattle.mica_model.specs.StoreStep as ss
-use Rattle.store_partition.proofs.Words.{SLOTS, Absent, AcceptedWrite, All-contains, Allows, AreBytes, BelongsTo, Block, CanPlay, Cell, ChangesChain}
+use Rattle.store_partition.proofs.Words.{SLOTS, Absent, AcceptedWrite, Add, All-contains, Allows, AreBytes, BelongsTo, Block, CanPlay, Cell, ChangesChain}
 use Rattle.store_partition.proofs.Words.{Contains, Contains-append_right, Contains-get_or, Contains-permutation, Del, Deleted, Has, HasKey}
 use Rattle.store_partition.proofs.Words.{HasKeyWords, HasNoSpot, HasUsed, Index, IsBlockList, IsIndexOf, IsMain, IsOffset, IsPermutation}
 use Rattle.store_partition.proofs.Words.{IsPermutation-refl, IsPermutation-remove, IsPermutation-sym, IsPermutation-to_front, IsSome, IsTaken, IsUsed}
-use Rattle.store_partition.proofs.Words.{IsWrite, Kept, KeyFits, LacksPlace, List, Outcome, OwnerState, Put, PutsWord, Some, SparesOthers, Spells}
-use Rattle.store_partition.proofs.Words.{SpellsItem, Spot, Stored, WhenMarked, Write, [], after_event, ap, arith, at, bucket_in, can_put, chained}
+use Rattle.store_partition.proofs.Words.{IsWrite, GivesValue, HasValueOf, Keeps, Kept, KeyFits, LacksPlace, IsSpotOf, List, MatchOption, None, Op, Option, Outcome, OwnerState, Put, PutsWord, Replaces, Some, SparesOthers, Spells}
+use Rattle.store_partition.proofs.Words.{SpellsItem, Spot, Stored, Touch, Touched, ValueFits, WhenMarked, Write, [], after_event, ap, arith, at, bucket_in, can_put, chained}
 use Rattle.store_partition.proofs.Words.{cond-false, cond-true, entries_of, entry_of, entry_offset, entry_offset-entry_of, entry_tag}
 use Rattle.store_partition.proofs.Words.{entry_tag-entry_of, get, header_room, inl, inr, is_accepted, item_at, item_events, item_in, item_room}
 use Rattle.store_partition.proofs.Words.{item_size, item_words, kept_after, kept_marked, le-leb, leb, length, length-item_words, list_remove, lt-leb}
 use Rattle.store_partition.proofs.Words.{marked, marked_in, marked_in_bucket, marked_item, number_of, options_in, place_at, plays, put_entry}
-use Rattle.store_partition.proofs.Words.{put_item, put_link, put_others, put_same, put_words, puts_from, refl, room_in, room_of, size_at_most}
-use Rattle.store_partition.proofs.Words.{size_of, slice_set, spells_item, spot_entry, store_state, subst, subst₂, swap_remove, sym, tag_of}
+use Rattle.store_partition.proofs.Words.{put_item, put_link, put_others, put_same, put_words, puts_from, refl, room_in, room_of, room_same, size_at_most}
+use Rattle.store_partition.proofs.Words.{size_of, slice_set, spells_item, spells_on, spot_entry, store_state, subst, subst₂, swap_remove, sym, tag_of}
 use Rattle.store_partition.proofs.Words.{taken_apart, taken_within, true, used_block, used_blocks, used_blocks-taken, words_of, write_of, written, ℕ}
 use Rattle.store_partition.proofs.Words.{◌%◌, ◌++◌, ◌+◌, ◌<◌, ◌^◌, ◌∙◌, ◌∷◌, ◌≡◌, ◌≢◌, ◌≤◌, ◌⊎◌}
 use Rattle.store_partition.proofs.Lists.{Gave, Heap, added, heap_gives, heap_kept, list_on, nothing, removed, same_or_apart, set_moved, single}
 use Rattle.store_partition.proofs.Lists.{swap_moved}
-use Rattle.store_partition.proofs.Cells.{cell_left, left, one_or_none}
-use Rattle.store_partition.proofs.Held.{HasBlock, Held, IsOther, Known, Split, before, has_none, m, not_worn, other_bucket, same_word, split_none}
+use Rattle.store_partition.proofs.Cells.{cell_given, left, none_left, one_or_none}
+use Rattle.store_partition.proofs.Held.{HasBlock, Held, IsOther, Known, Split, before, has_none, known, m, not_worn, other_bucket, same_word, split_none}
 use Rattle.store_partition.proofs.Held.{used, within, stored_in_room, stored_taken}
 use Rattle.store_partition.proofs.Events.{Base, Closes, Opens, accepts, base, main, marked_at, marked_base, may_open, now, number_in, number_is}
 use Rattle.store_partition.proofs.Events.{when_marked, finished, later, same_chain}
 
 -- a block for the put's item, apart from the rooms of all other keys
 pub record Room (h : Held) (a : AcceptedWrite h.o) (from room : ℕ) : Type 0 where
-  pub put : a.w.op ≡ Put
+  pub gives : GivesValue a.w.op
   pub few : size_of a.w ≤ room
   pub small : room < 65536
   pub block : from + room ≤ h.o.shape.words
@@ -94,7 +94,7 @@ module _ (h : Held) (a : AcceptedWrite h.o) (from room : ℕ) (r : Room h a from
       cell = record { value = a.w.value; room = room }
 
       has_it : get (later h a) a.w.key ≡ Some cell
-      has_it = left (m h) a.w ∙ (ap (λ op. cell_left op (m h) a.w) r.put ∙ ap (λ n. Some (record { value = a.w.value; room = n })) (sym r.takes))
+      has_it = left (m h) a.w ∙ (cell_given a.w.op (m h) a.w r.gives ∙ ap (λ n. Some (record { value = a.w.value; room = n })) (sym r.takes))
 
       item : (words : List ℕ) → ChangesChain o3 (written h.o a words) b ys → SpellsItem (written h.o a words) (entry_offset e) a.w.key cell
       item words now_change i l =
@@ -179,33 +179,33 @@ pub record DelKnown (o : OwnerState) (index : Index) (blocks : List Block) (w : 
   pub small : old < 2 ^ 32
   pub gives : HasUsed blocks old
 
--- and of one that finds none.
-pub record DelAbsent (o : OwnerState) (index : Index) (blocks : List Block) (w : Write) (b t : ℕ) : Type 0 where
+-- and of a write that has its events alone.
+pub record MarkOnly (o : OwnerState) (index : Index) (blocks : List Block) (w : Write) (b t : ℕ) (outcome : Outcome) : Type 0 where
   pub opens : Opens o w b t
-  pub closes : (o2 : OwnerState) → o2 ≡ marked_in_bucket o b w t → Closes o w Absent b t index (λ bs. bs ≡ blocks) o2
+  pub closes : (o2 : OwnerState) → o2 ≡ marked_in_bucket o b w t → Closes o w outcome b t index (λ bs. bs ≡ blocks) o2
 
--- A put
+-- A put, or an add
 
-module _ (h : Held) (key value : List ℕ) (is : IsWrite (write_of Put key value)) (unworn : length h.o.history < h.o.shape.wear)
+module _ (h : Held) (op : Op) (gives : GivesValue op) (key value : List ℕ) (is : IsWrite (write_of op key value)) (unworn : length h.o.history < h.o.shape.wear)
     (n : ℕ) (counted : n ≡ length h.o.history) (b : ℕ) (here : b ≡ bucket_in h.o key) where
-  abbrev stored : Allows (options_in h.o) (store_state (m h)) (write_of Put key value) Stored → AcceptedWrite h.o
-  stored allowed = accepts h (write_of Put key value) is unworn n counted Stored refl allowed
+  abbrev stored : Allows (options_in h.o) (store_state (m h)) (write_of op key value) Stored → AcceptedWrite h.o
+  stored allowed = accepts h (write_of op key value) is unworn n counted Stored refl allowed
 
   abbrev size : ℕ
   size = item_size key value
 
   -- in the room that the key has
-  module _ (spot : Spot) (k : Known h key b spot) (offset room : ℕ) (offset_is : offset ≡ entry_offset (spot_entry h.o spot))
+  module _ (replaces : Replaces op) (spot : Spot) (k : Known h key b spot) (offset room : ℕ) (offset_is : offset ≡ entry_offset (spot_entry h.o spot))
       (room_is : room ≡ room_in h.o (spot_entry h.o spot)) (fits : size ≤ room) where
     abbrev a : AcceptedWrite h.o
-    a = stored (stored_in_room h key value b here unworn spot k (let same = k.room in omega (arith, room_is)))
+    a = stored (stored_in_room h op gives key value b here unworn replaces spot k (let same = k.room in omega (arith, room_is)))
 
     own_block : Contains (used_blocks h.blocks) (used_block offset room)
     own_block = subst₂ (λ p n. Contains (used_blocks h.blocks) (used_block p n)) (sym offset_is) (sym room_is) k.block
 
     r : Room h a offset room
     r = record {
-      put = refl;
+      gives = gives;
       few = fits;
       small = omega (arith, room_is);
       block = let all = k.within in let same = k.room in omega arith;
@@ -218,7 +218,7 @@ module _ (h : Held) (key value : List ℕ) (is : IsWrite (write_of Put key value
           ];
     }
 
-    pub in_room : PutInRoom h.o h.index h.blocks (write_of Put key value) b (n + 1) offset room
+    pub in_room : PutInRoom h.o h.index h.blocks (write_of op key value) b (n + 1) offset room
     in_room = record {
       opens = may_open h a b here;
       item = can_item h a offset room r b here;
@@ -241,9 +241,9 @@ module _ (h : Held) (key value : List ℕ) (is : IsWrite (write_of Put key value
 
   -- in a block that was taken
   module _ (blocks : List Block) (place : ℕ) (taken : IsTaken h.blocks blocks place size) (list_now : IsBlockList (words_of h.blocks) blocks)
-      (needs : ss.NeedsBlock (options_in h.o) (m h) (write_of Put key value)) where
+      (needs : ss.NeedsBlock (options_in h.o) (m h) (write_of op key value)) where
     abbrev w : AcceptedWrite h.o
-    w = stored (stored_taken h key value b here unworn needs blocks place taken list_now)
+    w = stored (stored_taken h op gives key value b here unworn needs blocks place taken list_now)
 
     list : IsBlockList h.o.shape.words blocks
     list = list_on h.o.shape.words h.blocks blocks h.parts.list list_now
@@ -266,9 +266,9 @@ module _ (h : Held) (key value : List ℕ) (is : IsWrite (write_of Put key value
 
     new_room : size ≡ ss.room_after (get (m h).cells key) size → Room h w place size
     new_room takes = record {
-      put = refl;
+      gives = gives;
       few = omega arith;
-      small = let few = size_at_most (write_of Put key value) is in omega arith;
+      small = let few = size_at_most (write_of op key value) is in omega arith;
       block = block;
       takes = takes;
       apart = λ c x other. clear_of (entry_offset x) (room_in h.o x) (used h c other.main x other.among);
@@ -286,7 +286,7 @@ module _ (h : Held) (key value : List ℕ) (is : IsWrite (write_of Put key value
       has_old : Contains (used_blocks blocks) (used_block old k.cell.room)
       has_old = still _ (Contains-append_right (used_block place size ∷ []) (used_blocks h.blocks) _ its)
 
-      pub grown : PutGrown h.o h.index blocks (write_of Put key value) b (n + 1) place spot old
+      pub grown : PutGrown h.o h.index blocks (write_of op key value) b (n + 1) place spot old
       grown = record {
         opens = may_open h w b here;
         item = can_item h w place size larger b here;
@@ -321,7 +321,7 @@ module _ (h : Held) (key value : List ℕ) (is : IsWrite (write_of Put key value
       first : Room h w place size
       first = new_room (ap (λ z. ss.room_after z size) (sym (has_none h key b here none)))
 
-      pub new : PutNew h.o h.index blocks (write_of Put key value) b (n + 1) place
+      pub new : PutNew h.o h.index blocks (write_of op key value) b (n + 1) place
       new = record {
         opens = may_open h w b here;
         item = can_item h w place size first b here;
@@ -348,21 +348,41 @@ module _ (h : Held) (key value : List ℕ) (is : IsWrite (write_of Put key value
             (still _ (0, omega arith, refl)) (λ y gone. nothing y gone) (λ y gone. nothing y gone) refl (let had = ap room_of (has_none h key b here none) in omega arith);
       }
 
--- A delete
+-- A write that gives no value
+
+-- the reply to one that has its events alone, by the key's spot
+abbrev pub reply_left : Option Spot → Outcome
+reply_left None = Absent
+reply_left (Some spot) = Touched
+
+pub with_value : (op : Op) (value : List ℕ) → GivesValue op → ValueFits value → HasValueOf op value
+with_value Put value gives fits = fits
+with_value Add value gives fits = fits
+with_value Touch value gives fits = absurd gives
+with_value Del value gives fits = absurd gives
+
+pub no_value : (op : Op) → ¬ (GivesValue op) → HasValueOf op []
+no_value Put other = absurd (other tt)
+no_value Add other = absurd (other tt)
+no_value Touch other = refl
+no_value Del other = refl
 
 module _ (h : Held) (key : List ℕ) (fits : KeyFits key) (bytes : AreBytes key) (unworn : length h.o.history < h.o.shape.wear)
     (n : ℕ) (counted : n ≡ length h.o.history) (b : ℕ) (here : b ≡ bucket_in h.o key) where
-  module _ (outcome : Outcome) (accepted : is_accepted outcome ≡ true) (allowed : Allows (options_in h.o) (store_state (m h)) (write_of Del key []) outcome) where
-    abbrev d : AcceptedWrite h.o
-    d = accepts h (write_of Del key []) (record { key = fits; key_bytes = bytes; value = refl; value_bytes = λ k. omega arith }) unworn n counted outcome accepted allowed
+  abbrev kept_list : Heap h.o.shape.words h.blocks h.blocks [] [] (λ bs. bs ≡ h.blocks)
+  kept_list = heap_kept h.o.shape.words h.blocks h.blocks [] h.parts.list (IsPermutation-refl (used_blocks h.blocks))
 
-    -- leaves nothing of the key
-    del_closes : (o2 o4 : OwnerState) → o2 ≡ marked_in_bucket h.o b d.w d.t → (ys : List ℕ) → ChangesChain o2 o4 b ys → Kept o4 → (index : Index) → IsIndexOf index o4
+  module _ (op : Op) (other : ¬ (GivesValue op)) (outcome : Outcome) (accepted : is_accepted outcome ≡ true)
+      (allowed : Allows (options_in h.o) (store_state (m h)) (write_of op key []) outcome) where
+    abbrev d : AcceptedWrite h.o
+    d = accepts h (write_of op key []) (record { key = fits; key_bytes = bytes; value = no_value op other; value_bytes = λ k. omega arith }) unworn n counted outcome accepted allowed
+
+    -- leaves nothing of the key, where the machine has nothing of it then
+    none_closes : get (later h d) key ≡ None → (o2 o4 : OwnerState) → o2 ≡ marked_in_bucket h.o b d.w d.t → (ys : List ℕ) → ChangesChain o2 o4 b ys → Kept o4 → (index : Index) → IsIndexOf index o4
         → (own rest : List ℕ) → Split h key b own rest → IsPermutation ys rest → (given : List Block) (Becomes : List Block → Type 0)
         → Heap h.o.shape.words h.blocks h.blocks [] given Becomes → ((y : Block) → Contains given y → (x : ℕ) × Contains own x × (y.place ≡ entry_offset x))
         → length own ≡ length given → room_of (get (m h).cells key) ≡ words_of given → Closes h.o d.w outcome b d.t index Becomes o4
-    del_closes o2 o4 at ys change kept index known own rest split lists given Becomes heap freed count total =
-        let gone = left (m h) d.w in
+    none_closes gone o2 o4 at ys change kept index known own rest split lists given Becomes heap freed count total =
         finished h d b here o2 o4 (marked_base h d b here o2 at) ys change kept index known h.blocks Becomes (λ words change kept. record {
           own = own;
           rest = rest;
@@ -382,10 +402,54 @@ module _ (h : Held) (key : List ℕ) (fits : KeyFits key) (bytes : AreBytes key)
           total = let none = ap room_of gone in omega (arith, total);
         })
 
+    -- leaves the key's item, where the machine has of it what it had
+    module _ (spot : Spot) (k : Known h key b spot) (has : get (later h d) key ≡ Some k.cell) (o2 : OwnerState) (at : o2 ≡ marked_in_bucket h.o b d.w d.t) where
+      abbrev e : ℕ
+      e = spot_entry h.o spot
+
+      abbrev beside : List ℕ
+      beside = list_remove (entries_of h.o b) k.among.0
+
+      moved : IsPermutation (entries_of h.o b) (e ∷ beside)
+      moved = IsPermutation-remove (entries_of h.o b) k.among.0 e k.among.1 (sym k.among.2)
+
+      own_words : (words : List ℕ) → ChangesChain o2 (written h.o d words) b (entries_of o2 b) → Keeps h.o d words e
+      own_words words change i less =
+          change.rest.items (entry_offset e + i) ∙ (ap (λ (z : OwnerState). item_in z (entry_offset e + i)) (marked_at h d b here o2 at) ∙ marked_item h.o d (entry_offset e + i))
+
+      pub item_closes : Closes h.o d.w outcome b d.t h.index (λ bs. bs ≡ h.blocks) o2
+      item_closes =
+          let z = marked_base h d b here o2 at in
+          finished h d b here o2 o2 z (entries_of o2 b) (same_chain o2 b) z.kept h.index z.index h.blocks (λ bs. bs ≡ h.blocks) (λ words change kept. record {
+            own = e ∷ [];
+            rest = beside;
+            news = e ∷ [];
+            taken = [];
+            given = [];
+            split = k.split beside moved;
+            lists = subst (λ xs. IsPermutation xs (e ∷ beside)) (sym (z.entries b (main h d b here))) moved;
+            few = omega arith;
+            long = sym (ap one_or_none has);
+            spells = λ x new. (
+              k.cell,
+              subst (λ y. Spells (written h.o d words) b y key k.cell) (single e x new)
+                  (spells_on h.o d words b e (own_words words change) key k.cell (subst (λ s. Has s key k.cell (entry_offset e)) (sym (now h d words)) has) k.spells),
+            );
+            heap = kept_list;
+            housed = λ x new. subst (HasBlock (written h.o d words) h.blocks) (single e x new)
+                (subst (λ r. Contains (used_blocks h.blocks) (used_block (entry_offset e) r))
+                (sym (room_same h.o d words e (own_words words change) (let some = k.some in let same = k.room in omega arith))) k.block);
+            freed = λ y gone. nothing y gone;
+            apart = λ y gone. nothing y gone;
+            count = refl;
+            total = ap (λ o. words_of [] + room_of o) (k.has ∙ sym has);
+          })
+
   pub known_gone : (spot : Spot) → Known h key b spot → (old : ℕ) → old ≡ entry_offset (spot_entry h.o spot) → DelKnown h.o h.index h.blocks (write_of Del key []) b (n + 1) spot old
   known_gone spot k old old_is =
+      let none : ¬ (GivesValue Del) = λ gives. gives in
       let allowed : Allows (options_in h.o) (store_state (m h)) (write_of Del key []) Deleted = (not_worn h unworn, (refl, subst IsSome (sym k.has) refl)) in
-      let a = d Deleted refl allowed in
+      let a = d Del none Deleted refl allowed in
       let its = subst₂ (λ p n. Contains (used_blocks h.blocks) (used_block p n)) (sym old_is) k.room k.block in record {
         opens = may_open h a b here;
         removes = λ o2 events.
@@ -398,7 +462,7 @@ module _ (h : Held) (key : List ℕ) (fits : KeyFits key) (bytes : AreBytes key)
             let e = spot_entry h.o spot in
             let rest = swap_remove xs i 0 in
             let moved = swap_moved xs i e (number_in h a b here o2 z spot k.found.used) (number_is h a b here o2 z spot k.found.used) in
-            del_closes Deleted refl allowed o2 o4 events rest change kept index known (e ∷ []) rest
+            none_closes Del none Deleted refl allowed (left (m h) a.w) o2 o4 events rest change kept index known (e ∷ []) rest
             (k.split rest (subst (λ ys. IsPermutation ys (e ∷ rest)) (z.entries b (main h a b here)) moved)) (IsPermutation-refl rest)
             (used_block old k.cell.room ∷ []) (Gave h.blocks old)
             (heap_gives h.o.shape.words h.blocks h.blocks [] h.parts.list (IsPermutation-refl (used_blocks h.blocks)) old k.cell.room k.some its)
@@ -407,15 +471,33 @@ module _ (h : Held) (key : List ℕ) (fits : KeyFits key) (bytes : AreBytes key)
         gives = record { size = k.cell.room; among = its };
       }
 
-  pub absent : HasNoSpot h.o b key → DelAbsent h.o h.index h.blocks (write_of Del key []) b (n + 1)
-  absent none =
-      let allowed : Allows (options_in h.o) (store_state (m h)) (write_of Del key []) Absent = (not_worn h unworn, ((λ gives. gives), has_none h key b here none)) in
-      let a = d Absent refl allowed in record {
+  -- a touch or a delete of a key that has none, and a touch of one that has an item
+
+  pub absent : (op : Op) → ¬ (GivesValue op) → HasNoSpot h.o b key → MarkOnly h.o h.index h.blocks (write_of op key []) b (n + 1) Absent
+  absent op other none =
+      let allowed : Allows (options_in h.o) (store_state (m h)) (write_of op key []) Absent = (not_worn h unworn, (other, has_none h key b here none)) in
+      let a = d op other Absent refl allowed in record {
         opens = may_open h a b here;
         closes = λ o2 events.
             let z = marked_base h a b here o2 events in
-            del_closes Absent refl allowed o2 o2 events (entries_of o2 b) (same_chain o2 b) z.kept h.index z.index [] (entries_of h.o b) (split_none h key b here none)
+            none_closes op other Absent refl allowed (left (m h) a.w ∙ none_left op (m h) a.w other (has_none h key b here none)) o2 o2 events (entries_of o2 b) (same_chain o2 b) z.kept h.index z.index
+            [] (entries_of h.o b) (split_none h key b here none)
             (subst (λ ys. IsPermutation ys (entries_of h.o b)) (sym (z.entries b (main h a b here))) (IsPermutation-refl (entries_of h.o b)))
-            [] (λ bs. bs ≡ h.blocks) (heap_kept h.o.shape.words h.blocks h.blocks [] h.parts.list (IsPermutation-refl (used_blocks h.blocks)))
-            (λ y gone. nothing y gone) refl (ap room_of (has_none h key b here none));
+            [] (λ bs. bs ≡ h.blocks) kept_list (λ y gone. nothing y gone) refl (ap room_of (has_none h key b here none));
       }
+
+  pub touched : (spot : Spot) → Known h key b spot → MarkOnly h.o h.index h.blocks (write_of Touch key []) b (n + 1) Touched
+  touched spot k =
+      let none : ¬ (GivesValue Touch) = λ gives. gives in
+      let allowed : Allows (options_in h.o) (store_state (m h)) (write_of Touch key []) Touched = (not_worn h unworn, (refl, subst IsSome (sym k.has) refl)) in
+      let a = d Touch none Touched refl allowed in record {
+        opens = may_open h a b here;
+        closes = item_closes Touch none Touched refl allowed spot k (left (m h) a.w ∙ k.has);
+      }
+
+  -- by whether the key has one
+  pub marks_only : (op : Op) (spot : Option Spot) → MatchOption spot (¬ (GivesValue op)) (λ found. op ≡ Touch)
+      → MatchOption spot (HasNoSpot h.o b key) (IsSpotOf h.o b key) → MarkOnly h.o h.index h.blocks (write_of op key []) b (n + 1) (reply_left spot)
+  marks_only op None other none = absent op other none
+  marks_only op (Some spot) is found =
+      subst (λ z. MarkOnly h.o h.index h.blocks (write_of z key []) b (n + 1) Touched) (sym is) (touched spot (known h key b here bytes spot found))

@@ -1,11 +1,11 @@
 //! The partition and its calls.
-ghost use Rattle.std.specs.Prelude.{◌≡◌, ◌+◌, ◌<◌, ◌≤◌, ◌↔◌, [], Some, None, IsTrue, IfOk, length};
+ghost use Rattle.std.specs.Prelude.{◌≡◌, ◌+◌, ◌<◌, ◌≤◌, ◌↔◌, [], Some, None, IsTrue, IfOk, MatchOption, length};
 ghost use Rattle.mica_words.specs.Hash.{fnv1a};
 ghost use Rattle.mica_words.specs.Item.{KeyFits, ValueFits, item_size as item_size_of};
 ghost use Rattle.mica_words.specs.Entry.{entry_offset as entry_offset_of};
 ghost use Rattle.mica_model.specs.declared.options.Mode.TheVariants.{Store};
-ghost use Rattle.mica_model.specs.declared.write.Op.TheVariants.{Put, Del};
-ghost use Rattle.mica_model.specs.Write.{write_of};
+ghost use Rattle.mica_model.specs.declared.write.Op.TheVariants.{Put, Add, Touch, Del};
+ghost use Rattle.mica_model.specs.Write.{GivesValue, write_of};
 ghost use Rattle.mica_model.specs.History.{stamp_of};
 ghost use Rattle.epoch_core.specs.declared.state.Phase.TheVariants.{Idle};
 ghost use Rattle.epoch_core.specs.OwnerState.{options_in, as_made};
@@ -159,8 +159,9 @@ impl<W: OwnerWords> StorePartition<W> {
         Outcome::Stored
     }
 
-    // A put of a key that has none.
-    fn put_new(&mut self, bucket: u32, key: &[u8], hash: u64, value: &[u8]) -> Outcome
+    // A put or an add of a key that has none.
+    fn put_new(&mut self, bucket: u32, op: Op, key: &[u8], hash: u64, value: &[u8]) -> Outcome
+        requires op { GivesValue op }
         requires kept { Kept (W.owner self.old.words) }
         requires unworn { length (W.owner self.old.words).history < (W.owner self.old.words).shape.wear }
         requires key { KeyFits key.now }
@@ -168,7 +169,7 @@ impl<W: OwnerWords> StorePartition<W> {
         requires value { ValueFits value.now }
         requires sought { IsSought (W.owner self.old.words) key.now bucket None }
         ensures step { IsOwnerStep (W.owner self.old.words) (W.owner self.new.words)
-            (write_of Put key.entry.now value.entry.now) result }
+            (write_of op key.entry.now value.entry.now) result }
         ensures full { result ≡ Outcome.FullBlock
             → NoneFits self.old.heap (item_size_of key.entry.now value.entry.now) }
         ensures home { W.home self.new.words ≡ W.home self.old.words }
@@ -181,7 +182,7 @@ impl<W: OwnerWords> StorePartition<W> {
             return Outcome::FullBlock;
         };
         let stamp = self.accepted + 1;
-        begin_marked(&mut self.words, bucket, Op::Put, key, value, stamp);
+        begin_marked(&mut self.words, bucket, op, key, value, stamp);
         write_item_hashed(&mut self.words, u64::from(place), size, key, hash, value);
         self.index
             .place(&mut self.words, bucket, tag_of(hash), u64::from(place));
@@ -209,20 +210,25 @@ impl<W: OwnerWords> StorePartition<W> {
         self.accepted = stamp;
     }
 
-    // A delete of a key that has none.
-    fn del_absent(&mut self, bucket: u32, key: &[u8])
+    // A write that has its events alone: a touch, or a delete of a key that has none.
+    fn mark_only(&mut self, bucket: u32, spot: Option<Spot>, op: Op, key: &[u8]) -> Outcome
+        requires op { MatchOption spot (¬ (GivesValue op)) (λ found. op ≡ Touch) }
         requires kept { Kept (W.owner self.old.words) }
         requires unworn { length (W.owner self.old.words).history < (W.owner self.old.words).shape.wear }
         requires key { KeyFits key.now }
-        requires sought { IsSought (W.owner self.old.words) key.now bucket None }
+        requires sought { IsSought (W.owner self.old.words) key.now bucket spot }
         ensures step { IsOwnerStep (W.owner self.old.words) (W.owner self.new.words)
-            (write_of Del key.entry.now []) Outcome.Absent }
+            (write_of op key.entry.now []) result }
         ensures home { W.home self.new.words ≡ W.home self.old.words }
     {
         let stamp = self.accepted + 1;
-        begin_marked(&mut self.words, bucket, Op::Del, key, &[], stamp);
+        begin_marked(&mut self.words, bucket, op, key, &[], stamp);
         self.words.end_write(bucket);
         self.accepted = stamp;
+        match spot {
+            Some(_) => Outcome::Touched,
+            None => Outcome::Absent,
+        }
     }
 }
 
@@ -246,8 +252,35 @@ impl<W: OwnerWords> Partition for StorePartition<W> {
         let place = seek(&mut self.words, &self.index, key);
         match place.spot {
             Some(spot) => self.put_known(place.bucket, spot, key, place.hash, value),
-            None => self.put_new(place.bucket, key, place.hash, value),
+            None => self.put_new(place.bucket, Op::Put, key, place.hash, value),
         }
+    }
+
+    fn add(&mut self, key: &[u8], value: &[u8]) -> Outcome
+        requires key { KeyFits key.now }
+        requires value { ValueFits value.now }
+        ensures step { IsOwnerStep (W.owner self.old.words) (W.owner self.new.words)
+            (write_of Add key.now value.now) result }
+        ensures home { W.home self.new.words ≡ W.home self.old.words }
+        ensures full { result ≡ Outcome.FullBlock
+            → NoneFits self.old.heap (item_size_of key.now value.now) }
+    {
+        if self.is_worn() {
+            return Outcome::Worn;
+        }
+        let place = seek(&mut self.words, &self.index, key);
+        match place.spot {
+            Some(_) => Outcome::Exists,
+            None => self.put_new(place.bucket, Op::Add, key, place.hash, value),
+        }
+    }
+
+    fn touch(&mut self, key: &[u8]) -> Outcome {
+        if self.is_worn() {
+            return Outcome::Worn;
+        }
+        let place = seek(&mut self.words, &self.index, key);
+        self.mark_only(place.bucket, place.spot, Op::Touch, key)
     }
 
     fn del(&mut self, key: &[u8]) -> Outcome {
@@ -260,10 +293,7 @@ impl<W: OwnerWords> Partition for StorePartition<W> {
                 self.del_known(place.bucket, spot, key);
                 Outcome::Deleted
             }
-            None => {
-                self.del_absent(place.bucket, key);
-                Outcome::Absent
-            }
+            None => self.mark_only(place.bucket, None, Op::Del, key),
         }
     }
 

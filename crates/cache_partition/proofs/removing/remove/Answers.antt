@@ -1,7 +1,7 @@
 use Rattle.cache_partition.proofs.Words.{Del, HasNoSlot, IsSlotOf, IsWrite, Kept, MatchOption, MayEnd, Option, OwnerState, PutsEntry, Write, []}
 use Rattle.cache_partition.proofs.Words.{after, ap, arith, marked_with, options_in, refl, stamp_of, subst, sym, write_of, ℕ, ◌++◌, ◌+◌, ◌∙◌, ◌∷◌, ◌≡◌}
 use Rattle.cache_partition.proofs.Held.{found_had, held, stands_at}
-use Rattle.cache_partition.proofs.Writes.{Deletes, delete_is, deletes, stamp_deleted, stamp_limit}
+use Rattle.cache_partition.proofs.Writes.{Deletes, delete_is, delete_taken, deletes, stamp_deleted, stamp_limit}
 use Rattle.cache_partition.proofs.removing.remove.Given.{Over}
 use Rattle.cache_partition.proofs.removing.remove.Goals as goal
 use Rattle.cache_partition.proofs.removing.remove.Goals.{After-seek-sought, in-Some, in_default}
@@ -23,12 +23,15 @@ module _ (g : Over) (c : After-seek-sought g) where
   stamp = ap (λ (n : ℕ). n + 1) c.seek-sought.ensures.sought.stamp ∙ stamp_deleted o kept c.requires.may w is refl
 
   steps : Deletes o w c.seek-sought.result.bucket (c.seek-sought.result.stamp + 1)
-  steps = deletes o kept c.requires.may w is (c.seek-sought.result.stamp + 1) stamp refl c.seek-sought.result.bucket c.seek-sought.ensures.sought.bucket
+  steps = deletes o kept c.requires.may w is (delete_taken o c.args.key.now []) (c.seek-sought.result.stamp + 1) stamp refl c.seek-sought.result.bucket c.seek-sought.ensures.sought.bucket
 
 pub overflow_add-stamp : goal.overflow_add-stamp
 overflow_add-stamp g c =
     let small = stamp_limit (g.W.OwnerWords.owner c.args.words.now) (kept g (goal.at.overflow_add-stamp g c).After-seek-sought) c.seek-sought.result.stamp c.seek-sought.ensures.sought.stamp in
     omega arith
+
+pub begin-requires-clause-taken : goal.begin-requires-clause-taken
+begin-requires-clause-taken g c = delete_taken (g.W.OwnerWords.owner c.seek-sought.new.words) c.args.key.now []
 
 pub begin-requires-clause-stamp : goal.begin-requires-clause-stamp
 begin-requires-clause-stamp g c =

@@ -1,4 +1,4 @@
-use Rattle.cache_partition.proofs.Words.{MayAppend, OwnerState, Put, Write, [], ap, arith, hash_tag, item_size, item_size-most, options_in, refl}
+use Rattle.cache_partition.proofs.Words.{MayAppend, OwnerState, Write, [], ap, arith, had_record, hash_tag, item_size, item_size-most, options_in, refl, reply_fits}
 use Rattle.cache_partition.proofs.Words.{stamp_of, subst, sym, tag_of_hash, tail_of, with_item, write_of, ℕ, ◌*◌, ◌++◌, ◌+◌, ◌∙◌, ◌∷◌, ◌≡◌}
 use Rattle.cache_partition.proofs.Writes.{Appends, Closes, HasStored, appends, stamp_appended, stamp_limit}
 use Rattle.cache_partition.proofs.writing.put_at_tail.Given.{Over}
@@ -8,38 +8,38 @@ use Rattle.cache_partition.proofs.writing.put_at_tail.Goals.{After-append_hashed
 pub overflow_add-stamp : goal.overflow_add-stamp
 overflow_add-stamp g c =
     let small = stamp_limit (g.W.OwnerWords.owner c.args.words.now) c.requires.kept c.args.sought.now.stamp c.requires.sought.stamp in
-    omega (arith, small, item_size-most c.args.key.now c.args.value.now c.requires.write.key c.requires.write.value)
+    omega (arith, small, item_size-most c.args.key.now c.args.value.now c.requires.write.key c.requires.value)
 
 module _ (g : Over) (c : After-from g) where
   abbrev o : OwnerState
   o = g.W.OwnerWords.owner c.args.words.now
 
   abbrev w : Write
-  w = write_of Put c.args.key.now c.args.value.now
+  w = write_of c.args.op c.args.key.now c.args.value.now
 
   abbrev t : ℕ
   t = c.args.sought.now.stamp + 65536 * c.from.result
 
   stamp : t ≡ stamp_of (options_in o) (o.history ++ w ∷ [])
   stamp = (λ j. c.requires.sought.stamp j + 65536 * (c.from.ensures ∙ c.item_size.ensures) j)
-      ∙ stamp_appended o c.requires.kept c.requires.may w c.requires.write refl c.requires.at_tail
+      ∙ stamp_appended o c.requires.kept c.requires.may w c.requires.write c.args.value.now c.requires.at_tail
 
-  steps : Appends o w c.args.sought.now.bucket t c.tail_of-tail.result
-  steps = appends o c.requires.kept c.requires.may w c.requires.write t stamp refl c.requires.at_tail c.args.sought.now.bucket c.tail_of-tail.result
+  steps : Appends o w c.args.sought.now.bucket t c.tail_of-tail.result c.args.value.now
+  steps = appends o c.requires.kept c.requires.may w c.requires.write c.requires.taken t stamp c.args.value.now (reply_fits (options_in o) w c.args.op (had_record o c.args.key.now) c.requires.gives c.requires.taken) c.requires.at_tail c.args.sought.now.bucket c.tail_of-tail.result
       c.requires.sought.bucket (c.tail_of-tail.ensures ∙ ap tail_of c.requires.sought.stamp)
 
 -- the item is stored
-stored : (g : Over) (c : After-append_hashed g) → HasStored (g.W.OwnerWords.owner c.args.words.now) (write_of Put c.args.key.now c.args.value.now) c.args.sought.now.bucket
-    (c.args.sought.now.stamp + 65536 * c.from.result) c.tail_of-tail.result (g.W.OwnerWords.owner c.append_hashed.new.words)
+stored : (g : Over) (c : After-append_hashed g) → HasStored (g.W.OwnerWords.owner c.args.words.now) (write_of c.args.op c.args.key.now c.args.value.now) c.args.sought.now.bucket
+    (c.args.sought.now.stamp + 65536 * c.from.result) c.tail_of-tail.result c.args.value.now (g.W.OwnerWords.owner c.append_hashed.new.words)
 stored g c = c.append_hashed.ensures.item
     ∙ ap (λ (q : OwnerState). with_item q c.tail_of-tail.result (item_size c.args.key.now c.args.value.now) c.args.key.now c.args.value.now) c.begin.ensures.marked
 
 -- and its slot names it
-closes : (g : Over) (c : After-place g) → Appends (g.W.OwnerWords.owner c.args.words.now) (write_of Put c.args.key.now c.args.value.now) c.args.sought.now.bucket
-    (c.args.sought.now.stamp + 65536 * c.from.result) c.tail_of-tail.result
-    → HasStored (g.W.OwnerWords.owner c.args.words.now) (write_of Put c.args.key.now c.args.value.now) c.args.sought.now.bucket
-    (c.args.sought.now.stamp + 65536 * c.from.result) c.tail_of-tail.result (g.W.OwnerWords.owner c.append_hashed.new.words)
-    → Closes (g.W.OwnerWords.owner c.args.words.now) (write_of Put c.args.key.now c.args.value.now) c.args.sought.now.bucket (c.args.sought.now.stamp + 65536 * c.from.result)
+closes : (g : Over) (c : After-place g) → Appends (g.W.OwnerWords.owner c.args.words.now) (write_of c.args.op c.args.key.now c.args.value.now) c.args.sought.now.bucket
+    (c.args.sought.now.stamp + 65536 * c.from.result) c.tail_of-tail.result c.args.value.now
+    → HasStored (g.W.OwnerWords.owner c.args.words.now) (write_of c.args.op c.args.key.now c.args.value.now) c.args.sought.now.bucket
+    (c.args.sought.now.stamp + 65536 * c.from.result) c.tail_of-tail.result c.args.value.now (g.W.OwnerWords.owner c.append_hashed.new.words)
+    → Closes (g.W.OwnerWords.owner c.args.words.now) (write_of c.args.op c.args.key.now c.args.value.now) c.args.sought.now.bucket (c.args.sought.now.stamp + 65536 * c.from.result)
     (g.W.OwnerWords.owner c.place.new.words)
 closes g c steps stored = steps.closes c.args.sought.now.slot c.requires.sought.found _ _ c.place.result c.tag_of.result stored c.place.ensures.slot
     (c.tag_of.ensures ∙ (ap hash_tag c.requires.sought.hash ∙ sym (tag_of_hash c.args.key.now))) c.place.ensures.entry c.place.ensures.kept

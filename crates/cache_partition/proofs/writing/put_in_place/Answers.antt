@@ -16,7 +16,7 @@ module _ (g : Over) (c : Start g) where
   stamp = ap (λ (n : ℕ). n + 1) c.requires.sought.stamp ∙ stamp_rewritten o c.requires.kept c.requires.may w c.requires.write c.args.offset refl c.requires.in_place
 
   steps : Rewrites o w c.args.sought.now.bucket (c.args.sought.now.stamp + 1) c.args.offset
-  steps = rewrites o c.requires.kept c.requires.may w c.requires.write (c.args.sought.now.stamp + 1) stamp refl c.args.sought.now.bucket c.args.offset c.requires.sought.bucket c.requires.in_place
+  steps = rewrites o c.requires.kept c.requires.may w c.requires.write c.requires.taken (c.args.sought.now.stamp + 1) stamp refl c.args.sought.now.bucket c.args.offset c.requires.sought.bucket c.requires.in_place
 
 closes : (g : Over) (c : After-rewrite g) → Rewrites (g.W.OwnerWords.owner c.args.words.now) (write_of Put c.args.key.now c.args.value.now)
     c.args.sought.now.bucket (c.args.sought.now.stamp + 1) c.args.offset

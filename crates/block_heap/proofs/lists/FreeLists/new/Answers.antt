@@ -8,7 +8,7 @@ use Rattle.block_heap.proofs.lists.FreeLists.new.Goals as goal
 pub loop-class-preserved : goal.loop-class-preserved
 loop-class-preserved c =
     let before = c.loop-class.invariant in
-    let room = room_enough c.args.words c.loop-class.class c.least_of.result (vec_capacity c.in_ok-list.list) c.least_of.ensures c.in_ok-list.ensures.exact in
+    let room = room_enough c.args.words c.loop-class.class c.least_of.result (vec_capacity c.in_ok-list.list) c.least_of.ensures.least c.in_ok-list.ensures.exact in
     record {
       count = omega (arith, c.in_ok-push.ensures.len, c.push.new.self.ok, before.count);
       empty = rw c.in_ok-push.ensures.items (empty_more _ c.loop-class.lists.items c.in_ok-list.list before.empty c.in_ok-list.ensures.items);

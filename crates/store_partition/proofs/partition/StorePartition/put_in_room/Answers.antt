@@ -13,8 +13,8 @@ steps g c key_bytes value_bytes =
     let s = c.args.self.now in
     let r = c.requires in
     let h = held (g.W.OwnerWords.owner s.words) r.kept s.index s.heap s.parts in
-    in_room h c.args.key.now c.args.value.now (record { key = r.key; key_bytes = key_bytes; value = r.value; value_bytes = value_bytes }) r.unworn s.accepted s.counted
-    c.args.bucket r.sought.bucket c.args.spot (known h c.args.key.now c.args.bucket r.sought.bucket key_bytes c.args.spot r.sought.found)
+    in_room h Put tt c.args.key.now c.args.value.now (record { key = r.key; key_bytes = key_bytes; value = r.value; value_bytes = value_bytes }) r.unworn s.accepted s.counted
+    c.args.bucket r.sought.bucket tt c.args.spot (known h c.args.key.now c.args.bucket r.sought.bucket key_bytes c.args.spot r.sought.found)
     c.args.block.offset c.args.block.room r.offset r.room r.fits
 
 put : (g : Over) (c : After-rewrite_item g) → HasPut (g.W.OwnerWords.owner c.args.self.now.words) (write_of Put c.args.key.now c.args.value.now) c.args.bucket

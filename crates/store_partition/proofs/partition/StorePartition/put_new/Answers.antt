@@ -1,10 +1,10 @@
 use Rattle.store_partition.proofs.Words.{rules, AreBytes, CanPlay, ChangesChain, FullBlock, FullSpare, Index, IsOwnerStep, IsTaken, LacksPlace}
-use Rattle.store_partition.proofs.Words.{MayLack, OwnerState, Put, Stored, Write, [], ap, arith, entries_of, entry_of, hash_tag, item_events}
+use Rattle.store_partition.proofs.Words.{MayLack, OwnerState, Stored, Write, [], ap, arith, entries_of, entry_of, hash_tag, item_events}
 use Rattle.store_partition.proofs.Words.{item_size, marked_in_bucket, plays, refl, size_of, subst, subst₂, sym, tag_of_hash, true≢false, write_of, ℕ}
 use Rattle.store_partition.proofs.Words.{◌++◌, ◌+◌, ◌∙◌, ◌∷◌, ◌≡◌}
 use Rattle.store_partition.proofs.Held.{Held, main_at, full_block, full_spare, new_needs}
 use Rattle.store_partition.proofs.Events.{Closes}
-use Rattle.store_partition.proofs.Writes.{HasPut, PutNew, new}
+use Rattle.store_partition.proofs.Writes.{HasPut, PutNew, new, with_value}
 use Rattle.store_partition.proofs.Parts.{held}
 use Rattle.store_partition.proofs.partition.StorePartition.put_new.Given.{Over}
 use Rattle.store_partition.proofs.partition.StorePartition.put_new.Goals.{After-place, After-write_item_hashed, In-Some, Start}
@@ -15,11 +15,11 @@ module _ (g : Over) (c : Start g) where
   h = held (g.W.OwnerWords.owner c.args.self.now.words) c.requires.kept c.args.self.now.index c.args.self.now.heap c.args.self.now.parts
 
   abbrev w : Write
-  w = write_of Put c.args.key.now c.args.value.now
+  w = write_of c.args.op c.args.key.now c.args.value.now
 
 -- the block was taken
 steps : (g : Over) (c : In-Some g) → PutNew (g.W.OwnerWords.owner c.args.self.now.words) c.args.self.now.index c.take.new.self
-    (write_of Put c.args.key.now c.args.value.now) c.args.bucket (c.args.self.now.accepted + 1) c.in-Some.place
+    (write_of c.args.op c.args.key.now c.args.value.now) c.args.bucket (c.args.self.now.accepted + 1) c.in-Some.place
 steps g c =
     let s = c.args.self.now in
     let r = c.requires in
@@ -28,20 +28,21 @@ steps g c =
     let key_bytes : AreBytes c.args.key.now = λ k. omega (arith, c.type_inv.key k) in
     let value_bytes : AreBytes c.args.value.now = λ k. omega (arith, c.type_inv.value k) in
     let places : ¬ (LacksPlace s.index o c.args.bucket) = λ lacks. true≢false (c.if-not-has_place.ensures.place.1 lacks) in
-    new h c.args.key.now c.args.value.now (record { key = r.key; key_bytes = key_bytes; value = r.value; value_bytes = value_bytes }) r.unworn s.accepted s.counted
+    new h c.args.op r.op c.args.key.now c.args.value.now
+    (record { key = r.key; key_bytes = key_bytes; value = with_value c.args.op c.args.value.now r.op r.value; value_bytes = value_bytes }) r.unworn s.accepted s.counted
     c.args.bucket r.sought.bucket c.take.new.self c.in-Some.place (subst (IsTaken s.heap c.take.new.self c.in-Some.place) c.item_size-size.ensures c.in-Some.ensures.taken)
-    c.take.ensures.blocks (new_needs h c.args.key.now c.args.value.now c.args.bucket r.sought.bucket r.sought.found places) r.sought.found places
+    c.take.ensures.blocks (new_needs h c.args.op r.op c.args.key.now c.args.value.now c.args.bucket r.sought.bucket r.sought.found places) r.sought.found places
 
 -- its item is put
-put : (g : Over) (c : After-write_item_hashed g) → HasPut (g.W.OwnerWords.owner c.args.self.now.words) (write_of Put c.args.key.now c.args.value.now) c.args.bucket
+put : (g : Over) (c : After-write_item_hashed g) → HasPut (g.W.OwnerWords.owner c.args.self.now.words) (write_of c.args.op c.args.key.now c.args.value.now) c.args.bucket
     (c.args.self.now.accepted + 1) c.in-Some.place (item_size c.args.key.now c.args.value.now) (g.W.OwnerWords.owner c.write_item_hashed.new.words)
 put g c = c.write_item_hashed.ensures.events
     ∙ (λ i. plays (item_events (c.from.ensures i) (c.item_size-size.ensures i) c.args.key.now c.args.value.now)
-    ((c.begin_marked.ensures.events ∙ ap (λ z. marked_in_bucket z c.args.bucket (write_of Put c.args.key.now c.args.value.now) (c.args.self.now.accepted + 1))
+    ((c.begin_marked.ensures.events ∙ ap (λ z. marked_in_bucket z c.args.bucket (write_of c.args.op c.args.key.now c.args.value.now) (c.args.self.now.accepted + 1))
     c.has_place.ensures.same) i))
 
 -- and its entry
-closed : (g : Over) (c : After-place g) (o : OwnerState) (index : Index) (t : ℕ) → let w = write_of Put c.args.key.now c.args.value.now in
+closed : (g : Over) (c : After-place g) (o : OwnerState) (index : Index) (t : ℕ) → let w = write_of c.args.op c.args.key.now c.args.value.now in
     PutNew o index c.take.new.self w c.args.bucket t c.in-Some.place → HasPut o w c.args.bucket t c.in-Some.place (size_of w) (g.W.OwnerWords.owner c.write_item_hashed.new.words)
     → Closes o w Stored c.args.bucket t c.place.new.self (λ bs. bs ≡ c.take.new.self) (g.W.OwnerWords.owner c.place.new.words)
 closed g c o index t steps put =
@@ -60,15 +61,15 @@ pub returns-then-not-has_place-clause-step : goal.returns-then-not-has_place-cla
 returns-then-not-has_place-clause-step g c =
     let z = (goal.at.returns-then-not-has_place-clause-step g c).Start in
     subst (λ n. IsOwnerStep (h g z).o n (w g z) FullSpare) (sym c.has_place.ensures.same)
-    (full_spare (h g z) c.args.key.now c.args.value.now c.args.bucket c.requires.sought.bucket c.requires.unworn c.requires.sought.found (c.if-not-has_place.ensures.place.0 refl))
+    (full_spare (h g z) c.args.op c.requires.op c.args.key.now c.args.value.now c.args.bucket c.requires.sought.bucket c.requires.unworn c.requires.sought.found (c.if-not-has_place.ensures.place.0 refl))
 
 pub returns-in_default-clause-step : goal.returns-in_default-clause-step
 returns-in_default-clause-step g c =
     let z = (goal.at.returns-in_default-clause-step g c).Start in
-    let needs = new_needs (h g z) c.args.key.now c.args.value.now c.args.bucket c.requires.sought.bucket c.requires.sought.found
+    let needs = new_needs (h g z) c.args.op c.requires.op c.args.key.now c.args.value.now c.args.bucket c.requires.sought.bucket c.requires.sought.found
     (λ lacks. true≢false (c.if-not-has_place.ensures.place.1 lacks)) in
     subst (λ n. IsOwnerStep (h g z).o n (w g z) FullBlock) (sym c.has_place.ensures.same)
-    (full_block (h g z) c.args.key.now c.args.value.now c.args.bucket c.requires.sought.bucket c.requires.unworn needs
+    (full_block (h g z) c.args.op c.requires.op c.args.key.now c.args.value.now c.args.bucket c.requires.sought.bucket c.requires.unworn needs
     (subst (MayLack c.args.self.now.heap) c.item_size-size.ensures c.in_default.ensures.may_lack))
 
 pub begin_marked-requires : goal.begin_marked-requires
