@@ -1,26 +1,28 @@
 -- Batches of requests, by cases on bytes.
-use Rattle.std.specs.Prelude.{◌≡◌, ◌+◌, ◌^◌, ◌<◌, ◌≤◌, ◌==◌, ◌&&◌, ℕ, Bool, List, ◌∷◌, ◌++◌, length, drop, slice_index, nat_lt, nat_le, codes, IsTrue, All, if◌then◌else◌}
+use Rattle.std.specs.Prelude.{◌≡◌, ◌+◌, ◌^◌, ◌<◌, ◌≤◌, ◌==◌, ◌&&◌, ◌||◌, ℕ, Bool, List, ◌∷◌, ◌++◌, length, drop, slice_index, nat_lt, nat_le, codes, IsTrue, All, if◌then◌else◌}
 use Rattle.std.specs.Int.{w16, w32, to_le_bytes, from_le_bytes}
 use Rattle.mica_words.specs.Item.{KeyFits}
 use Rattle.batch_packets.specs.declared.batch.Want.{Want}
-use Rattle.batch_packets.specs.declared.batch.Want.TheVariants.{Get, Put, Del}
+use Rattle.batch_packets.specs.declared.batch.Want.TheVariants.{Get, Put, Del, Add, Touch}
 use Rattle.batch_packets.specs.declared.batch.Request.{Request}
 use Rattle.batch_packets.specs.declared.batch.Batch.{Batch}
-use Rattle.batch_packets.specs.Datagram.{is_version, value_limit, datagram_text, FitsDatagram, Kind}
+use Rattle.batch_packets.specs.Datagram.{is_version, max_value_len, datagram_text, FitsDatagram, Kind}
 
 -- the byte of an operation
-abbrev pub operation_of : Want → ℕ
+unfoldable pub operation_of : Want → ℕ
 operation_of Get = 0
 operation_of Put = 1
 operation_of Del = 2
+operation_of Add = 3
+operation_of Touch = 4
 
--- whether a version has the operation of this byte
+-- whether a version has the operation of this byte: the last two are of the second alone
 abbrev pub is_operation : ℕ → ℕ → Bool
-is_operation version operation = nat_lt operation 3
+is_operation version operation = nat_lt operation 3 || (version == 2 && nat_lt operation 5)
 
 -- the bytes that a value of this operation may have
 abbrev pub longest_value : ℕ → ℕ → ℕ
-longest_value version operation = if operation == 1 then value_limit version else 0
+longest_value version operation = if operation == 1 || operation == 3 then max_value_len version else 0
 
 -- a request that a version may have
 pub record IsRequest (version : ℕ) (request : Request) : Type 0 where
@@ -42,20 +44,16 @@ request_text request =
 abbrev pub batch_magic : List ℕ
 batch_magic = codes "MICA"
 
--- the version of a batch; there is one as yet
-abbrev pub version_of : Batch → ℕ
-version_of batch = 1
-
 -- the text of a batch
 unfoldable pub batch_text : Batch → List ℕ
 batch_text batch =
-    datagram_text batch_magic request_text (version_of batch) batch.number batch.requests
+    datagram_text batch_magic request_text batch.version batch.number batch.requests
 
 -- a batch that has a text: there is such a version, it fits a datagram, and each request is one of its version
 pub record IsBatch (batch : Batch) : Type 0 where
-  pub version : IsTrue (is_version (version_of batch))
-  pub fits : FitsDatagram request_text (version_of batch) batch.requests
-  pub each : All (IsRequest (version_of batch)) batch.requests
+  pub version : IsTrue (is_version batch.version)
+  pub fits : FitsDatagram request_text batch.version batch.requests
+  pub each : All (IsRequest batch.version) batch.requests
 
 -- the bytes are the text of this batch
 pub record SpellsBatch (bytes : List ℕ) (batch : Batch) : Type 0 where

@@ -1,28 +1,25 @@
 -- What batches and replies have in common: a header, and items one after another.
 -- All numbers are little endian.
-use Rattle.std.specs.Prelude.{◌<◌, ◌≤◌, ◌==◌, ◌+◌, ℕ, zero, suc, Bool, not, List, [], ◌∷◌, ◌++◌, length, drop, slice_index, nat_eq, nat_lt, Option}
+use Rattle.std.specs.Prelude.{◌<◌, ◌≤◌, ◌==◌, ◌||◌, ◌+◌, ℕ, zero, suc, Bool, not, List, [], ◌∷◌, ◌++◌, length, drop, slice_index, nat_eq, nat_lt, Option, if◌then◌else◌}
 use Rattle.std.specs.Int.{w32, to_le_bytes}
 use Rattle.std.specs.List.{flat_map, starts_with}
-use Rattle.batch_packets.specs.declared.header.TheConstants.{HEADER_LEN, MOST, LIMIT, VALUE_LIMIT}
+use Rattle.mica_words.specs.declared.item.TheConstants.{MAX_VALUE_LEN}
+use Rattle.batch_packets.specs.declared.header.TheConstants.{HEADER_LEN, MAX_ITEMS, MAX_DATAGRAM_LEN_V1, MAX_DATAGRAM_LEN_V2, MAX_VALUE_LEN_V1}
 use Rattle.batch_packets.specs.declared.fault.BatchFault.{BatchFault}
 use Rattle.batch_packets.specs.declared.fault.BatchFault.TheVariants.{Short, Magic, Version, Count, Length, Op, Trailing}
 use Rattle.batch_packets.specs.Faults.{first_of, or_later}
 
 -- whether there is such a version
 abbrev pub is_version : ℕ → Bool
-is_version version = version == 1
+is_version version = version == 1 || version == 2
 
 -- how many bytes a datagram of a version may have
-abbrev pub limit_of : ℕ → ℕ
-limit_of version = LIMIT
+abbrev pub max_datagram_len : ℕ → ℕ
+max_datagram_len version = if version == 1 then MAX_DATAGRAM_LEN_V1 else MAX_DATAGRAM_LEN_V2
 
--- how many bytes a datagram of any version may have
-abbrev pub largest_limit : ℕ
-largest_limit = limit_of 1
-
--- how many bytes a value of a version may have
-abbrev pub value_limit : ℕ → ℕ
-value_limit version = VALUE_LIMIT
+-- how many bytes a value of a version may have: the second takes all that the store takes
+abbrev pub max_value_len : ℕ → ℕ
+max_value_len version = if version == 1 then MAX_VALUE_LEN_V1 else MAX_VALUE_LEN
 
 -- the bytes of a header: a magic, the version, how many items follow, and the batch's number
 abbrev pub header_text : List ℕ → ℕ → ℕ → ℕ → List ℕ
@@ -37,8 +34,8 @@ datagram_text magic text version number items =
 pub record FitsDatagram {Item : Type 0} (text : Item → List ℕ) (version : ℕ) (items : List Item)
     : Type 0 where
   pub some : 0 < length items
-  pub few : length items ≤ MOST
-  pub short : HEADER_LEN + length (flat_map text items) ≤ limit_of version
+  pub few : length items ≤ MAX_ITEMS
+  pub short : HEADER_LEN + length (flat_map text items) ≤ max_datagram_len version
 
 -- What the two kinds of datagram differ in: the magic, and what the bytes of an item say of it. The
 -- bytes of an item are those from its first one on.
@@ -64,10 +61,11 @@ count_at bytes = slice_index bytes 5
 -- the first fault of a header, in this order
 abbrev pub header_fault : List ℕ → List ℕ → Option BatchFault
 header_fault magic bytes = first_of
-    ((nat_lt largest_limit (length bytes), Length)
+    ((nat_lt MAX_DATAGRAM_LEN_V2 (length bytes), Length)
     ∷ (nat_lt (length bytes) HEADER_LEN, Short)
     ∷ (not (starts_with nat_eq bytes magic), Magic)
     ∷ (not (is_version (version_at bytes)), Version)
+    ∷ (nat_lt (max_datagram_len (version_at bytes)) (length bytes), Length)
     ∷ (count_at bytes == 0, Count)
     ∷ [])
 

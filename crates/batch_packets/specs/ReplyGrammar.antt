@@ -3,16 +3,20 @@ use Rattle.std.specs.Prelude.{◌≡◌, ◌+◌, ◌^◌, ◌<◌, ◌≤◌, �
 use Rattle.std.specs.Int.{w16, w32, w64, to_le_bytes, from_le_bytes}
 use Rattle.batch_packets.specs.declared.replies.Reply.{Reply}
 use Rattle.batch_packets.specs.declared.replies.Replies.{Replies}
-use Rattle.batch_packets.specs.Datagram.{is_version, value_limit, datagram_text, FitsDatagram, Kind}
+use Rattle.batch_packets.specs.Datagram.{is_version, max_value_len, datagram_text, FitsDatagram, Kind}
 
 -- Whether a version has this status: 0 hit, 1 miss, 2 stored, 3 deleted, 4 absent, 5 full spare,
--- 6 full block, 7 worn, 9 bad batch.
+-- 6 full block and 7 worn in both; 9 bad batch and 10 a hit of a longer value in the first; 11 exists
+-- and 12 touched in the second.
 abbrev pub is_status : ℕ → ℕ → Bool
-is_status version status = nat_lt status 8 || status == 9
+is_status version status =
+    nat_lt status 8
+    || (version == 1 && (status == 9 || status == 10))
+    || (version == 2 && (status == 11 || status == 12))
 
 -- the bytes that a value of this status may have: a hit alone has one
 abbrev pub longest_value : ℕ → ℕ → ℕ
-longest_value version status = if status == 0 then value_limit version else 0
+longest_value version status = if status == 0 then max_value_len version else 0
 
 -- a reply that a version may have
 pub record IsReply (version : ℕ) (reply : Reply) : Type 0 where
@@ -39,19 +43,15 @@ unfoldable pub replies_datagram : ℕ → ℕ → List Reply → List ℕ
 replies_datagram version number replies =
     datagram_text replies_magic reply_text version number replies
 
--- the version of replies; there is one as yet
-abbrev pub version_of : Replies → ℕ
-version_of replies = 1
-
 -- the text of replies
 abbrev pub replies_text : Replies → List ℕ
-replies_text replies = replies_datagram (version_of replies) replies.number replies.replies
+replies_text replies = replies_datagram replies.version replies.number replies.replies
 
 -- replies that have a text: there is such a version, they fit a datagram, and each is one of its version
 pub record IsReplies (replies : Replies) : Type 0 where
-  pub version : IsTrue (is_version (version_of replies))
-  pub fits : FitsDatagram reply_text (version_of replies) replies.replies
-  pub each : All (IsReply (version_of replies)) replies.replies
+  pub version : IsTrue (is_version replies.version)
+  pub fits : FitsDatagram reply_text replies.version replies.replies
+  pub each : All (IsReply replies.version) replies.replies
 
 -- the bytes are the text of these replies
 pub record SpellsReplies (bytes : List ℕ) (replies : Replies) : Type 0 where

@@ -1,9 +1,10 @@
 //! Batches of requests, read from bytes and written.
-ghost use Rattle.std.specs.Prelude.{◌≡◌, ◌≤◌, ◌↔◌, false, length, All, IsTrue, IfOk, IfSome, IfNone, IsOkUnless};
+ghost use Rattle.std.specs.Prelude.{◌≡◌, ◌≤◌, ◌↔◌, ◌+◌, ℕ, false, length, All, IsTrue, IfOk, IfSome, IfNone, IsOkUnless};
 ghost use Rattle.batch_packets.specs.Faults.{AgreesWith};
-ghost use Rattle.batch_packets.specs.Datagram.{first_fault};
+ghost use Rattle.batch_packets.specs.declared.header.TheConstants.{HEADER_LEN};
+ghost use Rattle.batch_packets.specs.Datagram.{is_version, max_datagram_len, first_fault};
 
-use crate::header::{LIMIT, MOST, VALUE_LIMIT};
+use crate::header::{MAX_ITEMS, is_version, max_datagram_len, max_value_len};
 use crate::item::{Item, len_of, read_datagram, write_datagram};
 use crate::{BatchFault, Datagram};
 use mica_io::{Bytes, NoMemory};
@@ -17,9 +18,13 @@ pub enum Want {
     Get,
     Put,
     Del,
+    /// Of version 2.
+    Add,
+    /// Of version 2.
+    Touch,
 }
 
-/// A request of a client. Its reply repeats the ticket. The value is empty unless it is a put.
+/// A request of a client. Its reply repeats the ticket. The value is empty unless it is a put or an add.
 #[derive(Debug, Drop)]
 pub struct Request {
     pub want: Want,
@@ -65,9 +70,10 @@ impl From<Vec<Request>> for RequestList {
     }
 }
 
-/// The requests of one datagram. The replies repeat its number.
+/// The requests of one datagram. The replies have its version and repeat its number.
 #[derive(Debug, Drop)]
 pub struct Batch {
+    pub version: u8,
     pub number: u32,
     pub requests: RequestList,
 }
@@ -75,18 +81,34 @@ pub struct Batch {
 impl Want {
     ghost use Rattle.batch_packets.specs.BatchGrammar.{operation_of, is_operation, longest_value};
 
-    fn of(byte: u8) -> Option<Want>
+    #[tactic(auto, unfolding(crate::specs::BatchGrammar::operation_of))]
+    fn of(version: u8, byte: u8) -> Option<Want>
         ensures known { IfSome result (λ want. byte ≡ operation_of want) }
-        ensures unknown { IfNone result (is_operation 1 byte ≡ false) }
+        ensures has { IfSome result (λ want. IsTrue (is_operation version byte)) }
+        ensures unknown { IfNone result (is_operation version byte ≡ false) }
     {
         match byte {
             0 => Some(Want::Get),
             1 => Some(Want::Put),
             2 => Some(Want::Del),
+            3 if version == 2 => Some(Want::Add),
+            4 if version == 2 => Some(Want::Touch),
             _ => None,
         }
     }
 
+    /// Whether a version has this operation.
+    #[tactic(auto, unfolding(crate::specs::BatchGrammar::operation_of))]
+    fn is_of(self, version: u8) -> bool
+        ensures { result ≡ is_operation version (operation_of self) }
+    {
+        match self {
+            Want::Get | Want::Put | Want::Del => true,
+            Want::Add | Want::Touch => version == 2,
+        }
+    }
+
+    #[tactic(auto, unfolding(crate::specs::BatchGrammar::operation_of))]
     fn byte(self) -> u8
         ensures { result ≡ operation_of self }
     {
@@ -94,15 +116,18 @@ impl Want {
             Want::Get => 0,
             Want::Put => 1,
             Want::Del => 2,
+            Want::Add => 3,
+            Want::Touch => 4,
         }
     }
 
-    fn longest_value(self) -> usize
-        ensures { result ≡ longest_value 1 (operation_of self) }
+    #[tactic(auto, unfolding(crate::specs::BatchGrammar::operation_of))]
+    fn longest_value(self, version: u8) -> usize
+        ensures { result ≡ longest_value version (operation_of self) }
     {
         match self {
-            Want::Put => VALUE_LIMIT,
-            Want::Get | Want::Del => 0,
+            Want::Put | Want::Add => max_value_len(version),
+            Want::Get | Want::Del | Want::Touch => 0,
         }
     }
 }
@@ -117,7 +142,7 @@ impl Item for Request {
 
     ghost text = { request_text };
 
-    ghost is_item = { IsRequest 1 };
+    ghost is_item = { IsRequest };
 
     ghost is_in_range = { IsInRange };
 
@@ -126,16 +151,16 @@ impl Item for Request {
     }
 
     #[tactic(auto, unfolding(crate::specs::BatchGrammar::request_text))]
-    fn read(alloc: Global, from: &[u8]) -> Result<(Request, &[u8]), BatchFault> {
+    fn read(alloc: Global, version: u8, from: &[u8]) -> Result<(Request, &[u8]), BatchFault> {
         let [operation, key_len, v0, v1, t0, t1, t2, t3, texts @ ..] = from else {
             return Err(BatchFault::Short);
         };
-        let Some(want) = Want::of(*operation) else {
+        let Some(want) = Want::of(version, *operation) else {
             return Err(BatchFault::Op);
         };
         let key_len = usize::from(*key_len);
         let value_len = usize::from(u16::from_le_bytes([*v0, *v1]));
-        if key_len == 0 || value_len > want.longest_value() {
+        if key_len == 0 || value_len > want.longest_value(version) {
             return Err(BatchFault::Length);
         }
         if texts.len() < key_len + value_len {
@@ -179,25 +204,30 @@ pub fn read_batch(alloc: Global, from: &[u8]) -> Result<Batch, BatchFault>
     ensures only { (batch : Batch) → SpellsBatch from.now batch
         → IsOkUnless result BatchFault.NoMemory }
 {
-    let (number, requests) = read_datagram(alloc, from)?;
+    let (header, requests) = read_datagram(alloc, from)?;
     Ok(Batch {
-        number,
+        version: header.version,
+        number: header.number,
         requests: RequestList::from(requests),
     })
 }
 
-/// Whether this is a request of version 1.
-pub fn is_request(request: &Request) -> bool
-    ensures { IsTrue result ↔ IsRequest 1 request.now }
+/// Whether a batch of this version may have the request.
+pub fn is_request(version: u8, request: &Request) -> bool
+    ensures { IsTrue result ↔ IsRequest version request.now }
 {
     let value = request.value.bytes();
-    key_fits(request.key.bytes()) && value.len() <= request.want.longest_value()
+    request.want.is_of(version)
+        && key_fits(request.key.bytes())
+        && value.len() <= request.want.longest_value(version)
 }
 
 /// How many bytes a request adds to the text of its batch.
 pub fn request_len(request: &Request) -> usize
-    requires { IsRequest 1 request.now }
-    ensures { result ≡ length (request_text request.now) }
+    requires { (version : ℕ) × IsTrue (is_version version) × IsRequest version request.now }
+    ensures len { result ≡ length (request_text request.now) }
+    ensures fits { (version : ℕ) → IsTrue (is_version version) → IsRequest version request.now
+        → HEADER_LEN + result ≤ max_datagram_len version }
 {
     request.size()
 }
@@ -205,8 +235,9 @@ pub fn request_len(request: &Request) -> usize
 /// How many bytes the text of a batch has.
 #[tactic(auto, unfolding(crate::specs::BatchGrammar::batch_text))]
 pub fn batch_len(batch: &Batch) -> usize
-    requires lawful { All (IsRequest 1) batch.now.requests }
-    requires few { length batch.now.requests ≤ MOST }
+    requires version { IsTrue (is_version batch.now.version) }
+    requires lawful { All (IsRequest batch.now.version) batch.now.requests }
+    requires few { length batch.now.requests ≤ MAX_ITEMS }
     ensures { result ≡ length (batch_text batch.now) }
 {
     len_of(batch.requests.as_slice())
@@ -218,10 +249,13 @@ pub fn is_batch(batch: &Batch) -> bool
     ensures { IsTrue result ↔ IsBatch batch.now }
 {
     let requests = batch.requests.as_slice();
-    !requests.is_empty()
-        && requests.len() <= MOST
-        && requests.iter().all(is_request)
-        && batch_len(batch) <= LIMIT
+    is_version(batch.version)
+        && !requests.is_empty()
+        && requests.len() <= MAX_ITEMS
+        && requests
+            .iter()
+            .all(|request| is_request(batch.version, request))
+        && batch_len(batch) <= max_datagram_len(batch.version)
 }
 
 /// The text of a batch.
@@ -231,5 +265,11 @@ pub fn write_batch(alloc: Global, batch: &Batch) -> Result<Datagram, NoMemory>
     ensures { IfOk result (λ text. text ≡ batch_text batch.now) }
 {
     let requests = batch.requests.as_slice();
-    write_datagram(alloc, batch.number, requests, len_of(requests))
+    write_datagram(
+        alloc,
+        batch.version,
+        batch.number,
+        requests,
+        len_of(requests),
+    )
 }

@@ -17,7 +17,10 @@ pub use batch::{
     write_batch,
 };
 pub use fault::BatchFault;
-pub use header::{HEADER_LEN, LIMIT, MOST};
+pub use header::{
+    HEADER_LEN, MAX_DATAGRAM_LEN_V1, MAX_DATAGRAM_LEN_V2, MAX_ITEMS, MAX_VALUE_LEN_V1, is_version,
+    max_datagram_len, max_value_len,
+};
 pub use laws::one_reading;
 pub use replies::{Replies, Reply, ReplyList, read_replies, write_replies};
 

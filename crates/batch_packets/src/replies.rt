@@ -1,9 +1,9 @@
 //! Replies, read from bytes and split into datagrams.
-ghost use Rattle.std.specs.Prelude.{◌≡◌, ◌<◌, ◌≤◌, ◌+◌, length, take, drop, All, IfOk, IsOkUnless};
+ghost use Rattle.std.specs.Prelude.{◌≡◌, ◌<◌, ◌≤◌, ◌+◌, length, take, drop, All, IsTrue, IfOk, IsOkUnless};
 ghost use Rattle.batch_packets.specs.Faults.{AgreesWith};
-ghost use Rattle.batch_packets.specs.Datagram.{first_fault};
+ghost use Rattle.batch_packets.specs.Datagram.{is_version, first_fault};
 
-use crate::header::{HEADER_LEN, LIMIT, MOST, VALUE_LIMIT, read_u64};
+use crate::header::{HEADER_LEN, MAX_ITEMS, max_datagram_len, max_value_len, read_u64};
 use crate::item::{Item, read_datagram, write_datagram};
 use crate::{BatchFault, Datagram};
 use mica_io::{Bytes, NoMemory};
@@ -13,8 +13,8 @@ use std::marker::Model;
 /// The reply to one request, whose ticket it repeats. The value is empty unless it is a hit.
 #[derive(Debug, Drop)]
 pub struct Reply {
-    /// 0 hit, 1 miss, 2 stored, 3 deleted, 4 absent, 5 full spare, 6 full block, 7 worn, or 9 bad
-    /// batch.
+    /// 0 hit, 1 miss, 2 stored, 3 deleted, 4 absent, 5 full spare, 6 full block or 7 worn; in version 1
+    /// also 9 bad batch and 10 a hit of a longer value; in version 2 also 11 exists and 12 touched.
     pub status: u8,
     pub ticket: u32,
     pub stamp: u64,
@@ -61,6 +61,7 @@ impl From<Vec<Reply>> for ReplyList {
 /// The replies of one datagram, with the number of their batch.
 #[derive(Debug, Drop)]
 pub struct Replies {
+    pub version: u8,
     pub number: u32,
     pub replies: ReplyList,
 }
@@ -70,16 +71,25 @@ ghost use Rattle.batch_packets.specs.ReplyGrammar.{IsReply, SpellsReplies, reply
 ghost use Rattle.batch_packets.specs.Splitting.{BeginsWith, SplitsInto};
 ghost use Rattle.std.specs.List.{flat_map};
 
-fn is_status(byte: u8) -> bool
-    ensures { result ≡ is_status 1 byte }
+fn is_status(version: u8, byte: u8) -> bool
+    ensures { result ≡ is_status version byte }
 {
-    byte < 8 || byte == 9
+    match byte {
+        0..=7 => true,
+        9 | 10 => version == 1,
+        11 | 12 => version == 2,
+        _ => false,
+    }
 }
 
-fn longest_value(status: u8) -> usize
-    ensures { result ≡ longest_value 1 status }
+fn longest_value(version: u8, status: u8) -> usize
+    ensures { result ≡ longest_value version status }
 {
-    if status == 0 { VALUE_LIMIT } else { 0 }
+    if status == 0 {
+        max_value_len(version)
+    } else {
+        0
+    }
 }
 
 impl Item for Reply {
@@ -89,7 +99,7 @@ impl Item for Reply {
 
     ghost text = { reply_text };
 
-    ghost is_item = { IsReply 1 };
+    ghost is_item = { IsReply };
 
     ghost is_in_range = { IsInRange };
 
@@ -98,18 +108,18 @@ impl Item for Reply {
     }
 
     #[tactic(auto, unfolding(crate::specs::ReplyGrammar::reply_text))]
-    fn read(alloc: Global, from: &[u8]) -> Result<(Reply, &[u8]), BatchFault> {
+    fn read(alloc: Global, version: u8, from: &[u8]) -> Result<(Reply, &[u8]), BatchFault> {
         let [status, zero, v0, v1, t0, t1, t2, t3, after @ ..] = from else {
             return Err(BatchFault::Short);
         };
         let Some((stamp, texts)) = read_u64(after) else {
             return Err(BatchFault::Short);
         };
-        if !is_status(*status) || *zero != 0 {
+        if !is_status(version, *status) || *zero != 0 {
             return Err(BatchFault::Op);
         }
         let value_len = usize::from(u16::from_le_bytes([*v0, *v1]));
-        if value_len > longest_value(*status) {
+        if value_len > longest_value(version, *status) {
             return Err(BatchFault::Length);
         }
         if texts.len() < value_len {
@@ -151,26 +161,29 @@ pub fn read_replies(alloc: Global, from: &[u8]) -> Result<Replies, BatchFault>
     ensures only { (replies : Replies) → SpellsReplies from.now replies
         → IsOkUnless result BatchFault.NoMemory }
 {
-    let (number, replies) = read_datagram(alloc, from)?;
+    let (header, replies) = read_datagram(alloc, from)?;
     Ok(Replies {
-        number,
+        version: header.version,
+        number: header.number,
         replies: ReplyList::from(replies),
     })
 }
 
-/// How many of the replies go into the next datagram, and the length of its text.
-fn fitting(replies: &[Reply]) -> (usize, usize)
-    requires lawful { All (IsReply 1) replies.now }
+/// How many of the replies go into the next datagram of a version, and the length of its text.
+fn fitting(version: u8, replies: &[Reply]) -> (usize, usize)
+    requires version { IsTrue (is_version version) }
+    requires lawful { All (IsReply version) replies.now }
     requires some { 0 < length replies.now }
     ensures within { result.0 ≤ length replies.now }
-    ensures begin { BeginsWith 1 replies.now
+    ensures begin { BeginsWith version replies.now
         (take result.0 replies.now) (drop result.0 replies.now) }
     ensures len { result.1 ≡ HEADER_LEN + length (flat_map reply_text (take result.0 replies.now)) }
 {
+    let limit = max_datagram_len(version);
     let mut len = HEADER_LEN;
     for (count, reply) in replies.iter().enumerate() {
         let size = reply.size();
-        if count == MOST || len + size > LIMIT {
+        if count == MAX_ITEMS || len + size > limit {
             return (count, len);
         }
         len += size;
@@ -178,21 +191,23 @@ fn fitting(replies: &[Reply]) -> (usize, usize)
     (replies.len(), len)
 }
 
-/// The datagrams of the replies to the batch of this number: each takes as many replies as fit.
+/// The datagrams of the replies to the batch of this number and version: each takes as many replies as fit.
 pub fn write_replies(
     alloc: Global,
     replies: &[Reply],
     number: u32,
+    version: u8,
 ) -> Result<Vec<Datagram>, NoMemory>
-    requires { All (IsReply 1) replies.now }
-    ensures { IfOk result (λ datagrams. SplitsInto 1 number replies.now datagrams.items) }
+    requires version { IsTrue (is_version version) }
+    requires each { All (IsReply version) replies.now }
+    ensures { IfOk result (λ datagrams. SplitsInto version number replies.now datagrams.items) }
 {
     let mut datagrams = Vec::new(alloc);
     let mut rest = replies;
     while !rest.is_empty() {
-        let (count, len) = fitting(rest);
+        let (count, len) = fitting(version, rest);
         let (now, later) = rest.split_at(count);
-        datagrams.push(write_datagram(alloc, number, now, len)?)?;
+        datagrams.push(write_datagram(alloc, version, number, now, len)?)?;
         rest = later;
     }
     Ok(datagrams)

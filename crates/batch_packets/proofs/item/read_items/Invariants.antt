@@ -9,7 +9,7 @@ invariant-loop g l =
     record {
       text : l.from ≡ flat_map item.text l.items.items ++ l.rest;
       count : length l.items.items ≡ l.counter;
-      lawful : All item.is_item l.items.items;
+      lawful : All (item.is_item l.version) l.items.items;
       in_range : All item.is_in_range l.items.items;
-      faults : items_fault item.kind 1 l.count l.from ≡ items_fault item.kind 1 (l.count - l.counter) l.rest;
+      faults : items_fault item.kind l.version l.count l.from ≡ items_fault item.kind l.version (l.count - l.counter) l.rest;
     }

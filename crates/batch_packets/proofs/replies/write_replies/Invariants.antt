@@ -7,8 +7,8 @@ use Rattle.batch_packets.proofs.replies.write_replies.Given as goal
 
 abbrev pub invariant-loop-rest : goal.invariant-loop-rest
 invariant-loop-rest l = record {
-  lawful : All (IsReply 1) l.rest;
-  carry : (more : List (List ℕ)) → SplitsInto 1 l.number l.rest more → SplitsInto 1 l.number l.replies (l.datagrams.items ++ more);
+  lawful : All (IsReply l.version) l.rest;
+  carry : (more : List (List ℕ)) → SplitsInto l.version l.number l.rest more → SplitsInto l.version l.number l.replies (l.datagrams.items ++ more);
 }
 
 abbrev pub decreases-loop-rest : goal.decreases-loop-rest
