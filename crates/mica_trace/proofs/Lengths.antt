@@ -4,7 +4,7 @@ use Rattle.std.specs.List.{AllByRecursion}
 use Rattle.mica_words.specs.declared.item.TheConstants.{MAX_KEY_LEN, MAX_VALUE_LEN}
 use Rattle.mica_trace.specs.declared.limits.TheConstants.{MAX_LINE_LEN}
 use Rattle.mica_trace.specs.declared.line.TraceOp.{TraceOp}
-use Rattle.mica_trace.specs.declared.line.TraceOp.TheVariants.{Put, Del, Get, Sync}
+use Rattle.mica_trace.specs.declared.line.TraceOp.TheVariants.{Put, Add, Del, Touch, Get, Sync}
 use Rattle.mica_trace.specs.declared.line.TraceLine.{TraceLine}
 use Rattle.mica_trace.specs.TraceGrammar.{HasFields, IsTraceLine, line_text, trace_text}
 use Rattle.mica_trace.proofs.LineLemmas.{text_length}
@@ -15,6 +15,8 @@ pub record HasShortFields (key value : List ℕ) : Type 0 where
 
 short_fields : (op : TraceOp) (key value : List ℕ) → HasFields op key value → HasShortFields key value
 short_fields Put key value fields = record { key_len = fields.0.0.1; value_len = fields.1.0 }
+short_fields Add key value fields = record { key_len = fields.0.0.1; value_len = fields.1.0 }
+short_fields Touch key value fields = let none = ap length fields.1 in record { key_len = fields.0.0.1; value_len = omega arith }
 short_fields Del key value fields = let none = ap length fields.1 in record { key_len = fields.0.0.1; value_len = omega arith }
 short_fields Get key value fields = let none = ap length fields.1 in record { key_len = fields.0.0.1; value_len = omega arith }
 short_fields Sync key value fields = let none = ap length fields.0 in let no_value = ap length fields.1 in record { key_len = omega arith; value_len = omega arith }

@@ -5,7 +5,7 @@ use Rattle.std.proofs.lemmas.Bool.{false≢true}
 use Rattle.std.proofs.lemmas.List.Sums.{sum_by-cons}
 use Rattle.mica_trace.specs.declared.limits.TheConstants.{MAX_LINE_LEN}
 use Rattle.mica_trace.specs.declared.line.TraceOp.{TraceOp}
-use Rattle.mica_trace.specs.declared.line.TraceOp.TheVariants.{Put, Del, Get, Sync}
+use Rattle.mica_trace.specs.declared.line.TraceOp.TheVariants.{Put, Add, Del, Touch, Get, Sync}
 use Rattle.mica_trace.specs.declared.line.TraceLine.{TraceLine}
 use Rattle.mica_trace.specs.Lines.{onto_first, lines_of, Lacks}
 use Rattle.mica_trace.specs.TraceGrammar.{IsKey, IsValue, HasFields, op_text, IsTextOf, is_sync, is_sync_op, syncs_in}
@@ -31,19 +31,25 @@ key_lacks_space (b ∷ key) all = ((λ is. let here = all.0 in omega arith), key
 pub no_line : (text : List ℕ) → text ≢ codes "sync"
     → ((key : List ℕ) → text ≡ codes "get " ++ key → ¬ (IsKey key))
     → ((key : List ℕ) → text ≡ codes "del " ++ key → ¬ (IsKey key))
+    → ((key : List ℕ) → text ≡ codes "touch " ++ key → ¬ (IsKey key))
     → ((key value : List ℕ) → text ≡ codes "put " ++ (key ++ 32 ∷ value) → IsKey key → ¬ (IsValue value))
+    → ((key value : List ℕ) → text ≡ codes "add " ++ (key ++ 32 ∷ value) → IsKey key → ¬ (IsValue value))
     → (line : TraceLine) → ¬ (IsTextOf text line)
-no_line text no_sync no_get no_del no_put line is = by line.op line.key line.value is.0 is.1
+no_line text no_sync no_get no_del no_touch no_put no_add line is = by line.op line.key line.value is.0 is.1
   where
     by : (op : TraceOp) (key value : List ℕ) → HasFields op key value → text ≡ op_text op key value → ⊥
     by Put key value fields spelled = no_put key value spelled fields.0 fields.1
+    by Add key value fields spelled = no_add key value spelled fields.0 fields.1
     by Del key value fields spelled = no_del key spelled fields.0
+    by Touch key value fields spelled = no_touch key spelled fields.0
     by Get key value fields spelled = no_get key spelled fields.0
     by Sync key value fields spelled = no_sync spelled
 
 op_text_length : (op : TraceOp) (key value : List ℕ) → HasFields op key value → length (op_text op key value) ≤ MAX_LINE_LEN
 op_text_length Put key value fields = let k = fields.0.0.1 in let v = fields.1.0 in omega (arith, length-append key (32 ∷ value))
+op_text_length Add key value fields = let k = fields.0.0.1 in let v = fields.1.0 in omega (arith, length-append key (32 ∷ value))
 op_text_length Del key value fields = let k = fields.0.0.1 in omega arith
+op_text_length Touch key value fields = let k = fields.0.0.1 in omega arith
 op_text_length Get key value fields = let k = fields.0.0.1 in omega arith
 op_text_length Sync key value fields = omega arith
 
@@ -53,7 +59,9 @@ text_length text line is = subst (λ t. length t ≤ MAX_LINE_LEN) (sym is.1) (o
 
 sync_op : (op : TraceOp) (key value : List ℕ) → codes "sync" ≡ op_text op key value → is_sync_op op ≡ true
 sync_op Put key value same = absurd (false≢true (sym (ap (λ t. eqb (get_or t 0 0) 115) same)))
+sync_op Add key value same = absurd (false≢true (sym (ap (λ t. eqb (get_or t 0 0) 115) same)))
 sync_op Del key value same = absurd (false≢true (sym (ap (λ t. eqb (get_or t 0 0) 115) same)))
+sync_op Touch key value same = absurd (false≢true (sym (ap (λ t. eqb (get_or t 0 0) 115) same)))
 sync_op Get key value same = absurd (false≢true (sym (ap (λ t. eqb (get_or t 0 0) 115) same)))
 sync_op Sync key value same = refl
 
@@ -63,7 +71,9 @@ sync_text text line is same = sync_op line.op line.key line.value (sym same ∙ 
 
 text_sync_op : (op : TraceOp) (key value : List ℕ) → is_sync_op op ≡ true → op_text op key value ≡ codes "sync"
 text_sync_op Put key value is = absurd (cc)
+text_sync_op Add key value is = absurd (cc)
 text_sync_op Del key value is = absurd (cc)
+text_sync_op Touch key value is = absurd (cc)
 text_sync_op Get key value is = absurd (cc)
 text_sync_op Sync key value is = refl
 

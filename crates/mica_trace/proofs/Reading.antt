@@ -73,13 +73,13 @@ AllZip_valid (t ∷ texts) [] all = absurd all
 AllZip_valid (t ∷ texts) (l ∷ lines) all = (all.0.0, AllZip_valid texts lines all.1)
 
 -- of two readings of one list of texts, the line behind the first texts, as many lines and as many syncs
-record Behind (texts : List (List ℕ)) (at : List ℕ) (before lines : List TraceLine) : Type 0 where
-  line : TraceLine
-  is : IsTextOf at line
-  long : length before < length lines
-  syncs : syncs_in before + cond (is_sync line) 1 0 ≤ syncs_in lines
+pub record Behind (texts : List (List ℕ)) (at : List ℕ) (before lines : List TraceLine) : Type 0 where
+  pub line : TraceLine
+  pub is : IsTextOf at line
+  pub long : length before < length lines
+  pub syncs : syncs_in before + cond (is_sync line) 1 0 ≤ syncs_in lines
 
-behind : (texts : List (List ℕ)) (at : List ℕ) (later : List (List ℕ)) (before lines : List TraceLine)
+pub behind : (texts : List (List ℕ)) (at : List ℕ) (later : List (List ℕ)) (before lines : List TraceLine)
     → AllZip IsTextOf texts before → AllZip IsTextOf (texts ++ at ∷ later) lines → Behind texts at before lines
 behind [] at later [] [] one all = absurd all
 behind [] at later [] (l ∷ lines) one all =
@@ -96,7 +96,7 @@ behind (t ∷ texts) at later (b ∷ before) (l ∷ lines) one all =
     let syncs = rest.syncs in
     record { line = rest.line; is = rest.is; long = omega arith; syncs = omega arith }
 
-no_lines : (fault : TraceFault) (texts : List (List ℕ)) (at : List ℕ) (before lines : List TraceLine) → Behind texts at before lines → IsWithinLimits lines
+pub no_lines : (fault : TraceFault) (texts : List (List ℕ)) (at : List ℕ) (before lines : List TraceLine) → Behind texts at before lines → IsWithinLimits lines
     → IsFaultOf (length before + 1) (syncs_in before) at fault → ⊥
 no_lines TooManyLines texts at before lines rest within is = let long = rest.long in let few = within.few_lines in omega arith
 no_lines (LongLine m) texts at before lines rest within is = let most = text_length at rest.line rest.is in let long = is.2 in omega arith

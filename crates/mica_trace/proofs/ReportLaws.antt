@@ -5,9 +5,9 @@ use Rattle.std.specs.Fmt.{decimal}
 use Rattle.std.specs.Str.Parse.{AllDigits}
 use Rattle.std.proofs.lemmas.Fmt.{decimal_injective, digits_decimal}
 use Rattle.std.proofs.lemmas.Str.Parse.{numerals_by_value, tells_digits, digit_at}
-use Rattle.mica_model.specs.declared.write.Op.TheVariants.{Put, Del}
+use Rattle.mica_model.specs.declared.write.Op.TheVariants.{Put, Add, Touch, Del}
 use Rattle.mica_model.specs.declared.write.Outcome.{Outcome}
-use Rattle.mica_model.specs.declared.write.Outcome.TheVariants.{Stored, Deleted, Absent, FullSpare, FullBlock, Worn}
+use Rattle.mica_model.specs.declared.write.Outcome.TheVariants.{Stored, Deleted, Absent, Touched, FullSpare, FullBlock, Worn, Exists}
 use Rattle.mica_trace.specs.declared.report.Line.{Line}
 use Rattle.mica_trace.specs.declared.report.Line.TheVariants.{Wrote, Hit, Miss, Sync}
 use Rattle.mica_trace.specs.Lines.{Lacks}
@@ -32,9 +32,11 @@ words_lack : (outcome : Outcome) → Lacks 10 (outcome_words outcome)
 words_lack Stored = search rules
 words_lack Deleted = search rules
 words_lack Absent = search rules
+words_lack Touched = search rules
 words_lack FullSpare = search rules
 words_lack FullBlock = search rules
 words_lack Worn = search rules
+words_lack Exists = search rules
 
 stamped : (n : ℕ) (reply : List ℕ) → IsStamp n → Lacks 10 reply → Lacks 10 (decimal n ++ 32 ∷ reply)
 stamped n reply is lacks = Lacks_append 10 (decimal n) (32 ∷ reply) (decimal_lacks 10 n (omega arith) is) ((λ e. omega arith), lacks)
@@ -42,6 +44,8 @@ stamped n reply is lacks = Lacks_append 10 (decimal n) (32 ∷ reply) (decimal_l
 -- a line has no line feed
 pub line_lacks : (line : Line) → IsPrintable line → Lacks 10 (report_line_text line)
 line_lacks (Wrote Put outcome stamp) is = Lacks_append 10 (codes "put ") _ (search rules) (stamped stamp (outcome_words outcome) is.1 (words_lack outcome))
+line_lacks (Wrote Add outcome stamp) is = Lacks_append 10 (codes "add ") _ (search rules) (stamped stamp (outcome_words outcome) is.1 (words_lack outcome))
+line_lacks (Wrote Touch outcome stamp) is = Lacks_append 10 (codes "touch ") _ (search rules) (stamped stamp (outcome_words outcome) is.1 (words_lack outcome))
 line_lacks (Wrote Del outcome stamp) is = Lacks_append 10 (codes "del ") _ (search rules) (stamped stamp (outcome_words outcome) is.1 (words_lack outcome))
 line_lacks (Hit stamp value) is =
     let front = Lacks_append 10 (codes "get ") (decimal stamp) (search rules) (decimal_lacks 10 stamp (omega arith) is.1) in
@@ -63,16 +67,18 @@ one_reply m n a b m_is n_is same =
 abbrev outcome_at : List ℕ → Outcome
 outcome_at words =
     let first = get_or words 0 0 in
-    cond (eqb first 115) Stored (cond (eqb first 100) Deleted (cond (eqb first 97) Absent (cond (eqb first 119) Worn
-    (cond (eqb (get_or words 5 0) 115) FullSpare FullBlock))))
+    cond (eqb first 115) Stored (cond (eqb first 100) Deleted (cond (eqb first 97) Absent (cond (eqb first 116) Touched
+    (cond (eqb first 119) Worn (cond (eqb first 101) Exists (cond (eqb (get_or words 5 0) 115) FullSpare FullBlock))))))
 
 outcome_is : (outcome : Outcome) → outcome_at (outcome_words outcome) ≡ outcome
 outcome_is Stored = refl
 outcome_is Deleted = refl
 outcome_is Absent = refl
+outcome_is Touched = refl
 outcome_is FullSpare = refl
 outcome_is FullBlock = refl
 outcome_is Worn = refl
+outcome_is Exists = refl
 
 -- what stands behind a line's stamp
 abbrev reply_in : Line → List ℕ
@@ -84,23 +90,32 @@ reply_in Sync = []
 -- the line, by the first byte of its text, its stamp and what stands behind that
 abbrev line_by : ℕ → ℕ → List ℕ → Line
 line_by first stamp reply =
-    cond (eqb first 112) (Wrote Put (outcome_at reply) stamp) (cond (eqb first 100) (Wrote Del (outcome_at reply) stamp)
-    (cond (eqb first 115) Sync (cond (eqb (get_or reply 0 0) 104) (Hit stamp (drop 4 reply)) (Miss stamp))))
+    cond (eqb first 112) (Wrote Put (outcome_at reply) stamp) (cond (eqb first 97) (Wrote Add (outcome_at reply) stamp)
+    (cond (eqb first 116) (Wrote Touch (outcome_at reply) stamp) (cond (eqb first 100) (Wrote Del (outcome_at reply) stamp)
+    (cond (eqb first 115) Sync (cond (eqb (get_or reply 0 0) 104) (Hit stamp (drop 4 reply)) (Miss stamp))))))
 
 line_is : (line : Line) → line_by (get_or (report_line_text line) 0 0) (printed_stamp line) (reply_in line) ≡ line
 line_is (Wrote Put outcome stamp) = ap (λ o. Wrote Put o stamp) (outcome_is outcome)
+line_is (Wrote Add outcome stamp) = ap (λ o. Wrote Add o stamp) (outcome_is outcome)
+line_is (Wrote Touch outcome stamp) = ap (λ o. Wrote Touch o stamp) (outcome_is outcome)
 line_is (Wrote Del outcome stamp) = ap (λ o. Wrote Del o stamp) (outcome_is outcome)
 line_is (Hit stamp value) = refl
 line_is (Miss stamp) = refl
 line_is Sync = refl
 
--- the text of a line is a sync's, or has its stamp and reply behind four bytes
+-- what stands behind the first word of a line and its space: a touch's word has five bytes, each other one three
+abbrev behind_word : List ℕ → List ℕ
+behind_word text = drop (cond (eqb (get_or text 0 0) 116) 6 4) text
+
+-- the text of a line is a sync's, or has its stamp and reply behind a word and a space
 record HasReply (line : Line) : Type 0 where
   stamp : IsStamp (printed_stamp line)
-  rest : drop 4 (report_line_text line) ≡ decimal (printed_stamp line) ++ 32 ∷ reply_in line
+  rest : behind_word (report_line_text line) ≡ decimal (printed_stamp line) ++ 32 ∷ reply_in line
 
 kinds : (line : Line) → IsPrintable line → (line ≡ Sync) ⊎ HasReply line
 kinds (Wrote Put outcome stamp) is = inr (record { stamp = is.1; rest = refl })
+kinds (Wrote Add outcome stamp) is = inr (record { stamp = is.1; rest = refl })
+kinds (Wrote Touch outcome stamp) is = inr (record { stamp = is.1; rest = refl })
 kinds (Wrote Del outcome stamp) is = inr (record { stamp = is.1; rest = refl })
 kinds (Hit stamp value) is = inr (record { stamp = is.1; rest = append_assoc (decimal stamp) (codes " hit ") value })
 kinds (Miss stamp) is = inr (record { stamp = is.1; rest = refl })
@@ -108,7 +123,7 @@ kinds Sync is = inl refl
 
 no_sync : (line : Line) → HasReply line → report_line_text line ≡ codes "sync" → ⊥
 no_sync line is same =
-    let long = ap length (sym is.rest ∙ ap (drop 4) same) in
+    let long = ap length (sym is.rest ∙ ap behind_word same) in
     omega (arith, length-append {A = ℕ})
 
 one_text : (a b : Line) → IsPrintable a → IsPrintable b → report_line_text a ≡ report_line_text b → a ≡ b
@@ -121,7 +136,7 @@ one_text a b left right same = elim (kinds a left) [
     | inl sync ↦ absurd (no_sync a reply (same ∙ ap report_line_text sync))
     | inr reply' ↦
         let first = ap (λ t. get_or t 0 0) same in
-        let parts = one_reply (printed_stamp a) (printed_stamp b) (reply_in a) (reply_in b) reply.stamp reply'.stamp (sym reply.rest ∙ ap (drop 4) same ∙ reply'.rest) in
+        let parts = one_reply (printed_stamp a) (printed_stamp b) (reply_in a) (reply_in b) reply.stamp reply'.stamp (sym reply.rest ∙ ap behind_word same ∙ reply'.rest) in
         let stamps = parts.stamp in
         let replies = parts.reply in
         let whole : line_by (get_or (report_line_text a) 0 0) (printed_stamp a) (reply_in a) ≡ line_by (get_or (report_line_text b) 0 0) (printed_stamp b) (reply_in b) = cc in

@@ -7,7 +7,7 @@ use Rattle.std.proofs.lemmas.List.{append-nil}
 use Rattle.std.proofs.lemmas.Bool.{false≢true}
 use Rattle.std.proofs.lemmas.Option.{none-some}
 use Rattle.mica_model.specs.declared.write.Op.{Op}
-use Rattle.mica_model.specs.declared.write.Op.TheVariants.{Put, Del}
+use Rattle.mica_model.specs.declared.write.Op.TheVariants.{Put, Add, Touch, Del}
 use Rattle.mica_model.specs.declared.write.Outcome.{Outcome}
 use Rattle.mica_trace.specs.declared.report.Line.{Line}
 use Rattle.mica_trace.specs.declared.report.Line.TheVariants.{Wrote, Hit, Miss, Sync}
@@ -106,11 +106,29 @@ first a b same = eq-eqb (get_or a 0 0) (get_or b 0 0) (ap (λ t. get_or t 0 0) s
 no_wrote : (op : Op) (text : List ℕ) → ((o : Outcome) (n : ℕ) → HasOutcome op o → IsStamp n → text ≢ decimal n ++ 32 ∷ outcome_words o)
     → SpellsNoLine (op_word op ++ 32 ∷ text)
 no_wrote Put text none (Wrote Put o n) is = none o n is.0.0 is.0.1 (ap (drop 4) is.1)
+no_wrote Put text none (Wrote Add o n) is = false≢true (first _ _ is.1)
+no_wrote Put text none (Wrote Touch o n) is = false≢true (first _ _ is.1)
 no_wrote Put text none (Wrote Del o n) is = false≢true (first _ _ is.1)
 no_wrote Put text none (Hit n value) is = false≢true (first _ _ is.1)
 no_wrote Put text none (Miss n) is = false≢true (first _ _ is.1)
 no_wrote Put text none Sync is = false≢true (first _ _ is.1)
+no_wrote Add text none (Wrote Put o n) is = false≢true (first _ _ is.1)
+no_wrote Add text none (Wrote Add o n) is = none o n is.0.0 is.0.1 (ap (drop 4) is.1)
+no_wrote Add text none (Wrote Touch o n) is = false≢true (first _ _ is.1)
+no_wrote Add text none (Wrote Del o n) is = false≢true (first _ _ is.1)
+no_wrote Add text none (Hit n value) is = false≢true (first _ _ is.1)
+no_wrote Add text none (Miss n) is = false≢true (first _ _ is.1)
+no_wrote Add text none Sync is = false≢true (first _ _ is.1)
+no_wrote Touch text none (Wrote Put o n) is = false≢true (first _ _ is.1)
+no_wrote Touch text none (Wrote Add o n) is = false≢true (first _ _ is.1)
+no_wrote Touch text none (Wrote Touch o n) is = none o n is.0.0 is.0.1 (ap (drop 6) is.1)
+no_wrote Touch text none (Wrote Del o n) is = false≢true (first _ _ is.1)
+no_wrote Touch text none (Hit n value) is = false≢true (first _ _ is.1)
+no_wrote Touch text none (Miss n) is = false≢true (first _ _ is.1)
+no_wrote Touch text none Sync is = false≢true (first _ _ is.1)
 no_wrote Del text none (Wrote Put o n) is = false≢true (first _ _ is.1)
+no_wrote Del text none (Wrote Add o n) is = false≢true (first _ _ is.1)
+no_wrote Del text none (Wrote Touch o n) is = false≢true (first _ _ is.1)
 no_wrote Del text none (Wrote Del o n) is = none o n is.0.0 is.0.1 (ap (drop 4) is.1)
 no_wrote Del text none (Hit n value) is = false≢true (first _ _ is.1)
 no_wrote Del text none (Miss n) is = false≢true (first _ _ is.1)
@@ -126,6 +144,8 @@ no_outcome op text words s stamp is none = no_wrote op text (λ o n has n_is sam
 pub no_answer : (text answer : List ℕ) (s : ℕ) → IsStamp s → text ≡ decimal s ++ 32 ∷ answer → answer ≢ codes "miss"
     → ((value : List ℕ) → IsValue value → answer ≢ codes "hit " ++ value) → SpellsNoLine (codes "get " ++ text)
 no_answer text answer s stamp is no_miss no_hit (Wrote Put o n) spells = false≢true (first _ _ spells.1)
+no_answer text answer s stamp is no_miss no_hit (Wrote Add o n) spells = false≢true (first _ _ spells.1)
+no_answer text answer s stamp is no_miss no_hit (Wrote Touch o n) spells = false≢true (first _ _ spells.1)
 no_answer text answer s stamp is no_miss no_hit (Wrote Del o n) spells = false≢true (first _ _ spells.1)
 no_answer text answer s stamp is no_miss no_hit (Hit n value) spells =
     no_hit value spells.0.0

@@ -5,7 +5,7 @@ use Rattle.std.proofs.lemmas.List.{append-nil}
 use Rattle.mica_words.proofs.Hashes.{partition_of-below}
 use Rattle.mica_words.specs.Packing.{AreBytes}
 use Rattle.mica_model.specs.declared.options.Options.{Options}
-use Rattle.mica_model.specs.declared.write.Op.TheVariants.{Put as PutOp, Del as DelOp}
+use Rattle.mica_model.specs.declared.write.Op.TheVariants.{Put as PutOp, Add as AddOp, Touch as TouchOp, Del as DelOp}
 use Rattle.mica_model.specs.declared.write.Write.{Write}
 use Rattle.mica_model.specs.Options.{IsValid}
 use Rattle.mica_model.specs.Write.{IsWrite, is_accepted}
@@ -14,7 +14,7 @@ use Rattle.mica_model.specs.Run.{RunStep, IsRunFrom, history_of}
 use Rattle.mica_model.proofs.Histories.{history_snoc}
 use Rattle.mica_model.proofs.Stamps.{stamp_small}
 use Rattle.mica_trace.specs.declared.line.TraceOp.{TraceOp}
-use Rattle.mica_trace.specs.declared.line.TraceOp.TheVariants.{Put, Del, Get, Sync}
+use Rattle.mica_trace.specs.declared.line.TraceOp.TheVariants.{Put, Add, Del, Touch, Get, Sync}
 use Rattle.mica_trace.specs.declared.line.TraceLine.{TraceLine}
 use Rattle.mica_trace.specs.declared.report.Line.{Line}
 use Rattle.mica_trace.specs.declared.report.Line.TheVariants.{Wrote, Hit, Miss, Sync as SyncLine}
@@ -41,8 +41,14 @@ pub line_write : (op : TraceOp) (key value : List ℕ) (write : Write) → HasFi
 line_write Put key value write fields is =
     let e : record { op = PutOp; key = key; value = value } ≡ write = cc in
     subst IsWrite e (record { key = fields.0.0; key_bytes = low_bytes key (visible 33 key fields.0.1); value = fields.1.0; value_bytes = low_bytes value (visible 32 value fields.1.1) })
+line_write Add key value write fields is =
+    let e : record { op = AddOp; key = key; value = value } ≡ write = cc in
+    subst IsWrite e (record { key = fields.0.0; key_bytes = low_bytes key (visible 33 key fields.0.1); value = fields.1.0; value_bytes = low_bytes value (visible 32 value fields.1.1) })
 line_write Del key value write fields is =
     let e : record { op = DelOp; key = key; value = value } ≡ write = cc in
+    subst IsWrite e (record { key = fields.0.0; key_bytes = low_bytes key (visible 33 key fields.0.1); value = fields.1; value_bytes = subst AreBytes (sym fields.1) (low_bytes [] tt) })
+line_write Touch key value write fields is =
+    let e : record { op = TouchOp; key = key; value = value } ≡ write = cc in
     subst IsWrite e (record { key = fields.0.0; key_bytes = low_bytes key (visible 33 key fields.0.1); value = fields.1; value_bytes = subst AreBytes (sym fields.1) (low_bytes [] tt) })
 line_write Get key value write fields is = absurd (cc)
 line_write Sync key value write fields is = absurd (cc)
@@ -107,13 +113,21 @@ module _ (options : Options) (valid : IsValid options) where
       step_fits : (op : TraceOp) (printed : Line) → HasFields op line.key line.value → AllByRecursion Fits (steps_of options p trace report)
           → AllByRecursion Fits (cons_option (step_by (write_by op line.key line.value) printed) (steps_of options p trace report))
       step_fits Put (Wrote o outcome s) fields rest = (line_write Put line.key line.value _ fields refl, rest)
+      step_fits Add (Wrote o outcome s) fields rest = (line_write Add line.key line.value _ fields refl, rest)
       step_fits Del (Wrote o outcome s) fields rest = (line_write Del line.key line.value _ fields refl, rest)
+      step_fits Touch (Wrote o outcome s) fields rest = (line_write Touch line.key line.value _ fields refl, rest)
       step_fits Put (Hit s v) fields rest = rest
+      step_fits Add (Hit s v) fields rest = rest
       step_fits Put (Miss s) fields rest = rest
+      step_fits Add (Miss s) fields rest = rest
       step_fits Put SyncLine fields rest = rest
+      step_fits Add SyncLine fields rest = rest
       step_fits Del (Hit s v) fields rest = rest
+      step_fits Touch (Hit s v) fields rest = rest
       step_fits Del (Miss s) fields rest = rest
+      step_fits Touch (Miss s) fields rest = rest
       step_fits Del SyncLine fields rest = rest
+      step_fits Touch SyncLine fields rest = rest
       step_fits Get printed fields rest = rest
       step_fits Sync printed fields rest = rest
 
@@ -126,13 +140,21 @@ module _ (options : Options) (valid : IsValid options) where
   line_small : (op : TraceOp) (key value : List ℕ) (r : Line) (rest : List RunStep) → IsKindOf op r
       → AllByRecursion (λ step. IsStamp step.stamp) (cons_option (step_by (write_by op key value) r) rest) → (op ≡ Get → IsStamp (printed_stamp r)) → IsStamp (printed_stamp r)
   line_small Put key value (Wrote o outcome s) rest kind steps get = steps.0
+  line_small Add key value (Wrote o outcome s) rest kind steps get = steps.0
   line_small Put key value (Hit s v) rest kind steps get = absurd kind
+  line_small Add key value (Hit s v) rest kind steps get = absurd kind
   line_small Put key value (Miss s) rest kind steps get = absurd kind
+  line_small Add key value (Miss s) rest kind steps get = absurd kind
   line_small Put key value SyncLine rest kind steps get = absurd kind
+  line_small Add key value SyncLine rest kind steps get = absurd kind
   line_small Del key value (Wrote o outcome s) rest kind steps get = steps.0
+  line_small Touch key value (Wrote o outcome s) rest kind steps get = steps.0
   line_small Del key value (Hit s v) rest kind steps get = absurd kind
+  line_small Touch key value (Hit s v) rest kind steps get = absurd kind
   line_small Del key value (Miss s) rest kind steps get = absurd kind
+  line_small Touch key value (Miss s) rest kind steps get = absurd kind
   line_small Del key value SyncLine rest kind steps get = absurd kind
+  line_small Touch key value SyncLine rest kind steps get = absurd kind
   line_small Get key value r rest kind steps get = get refl
   line_small Sync key value (Wrote o outcome s) rest kind steps get = absurd kind
   line_small Sync key value (Hit s v) rest kind steps get = absurd kind

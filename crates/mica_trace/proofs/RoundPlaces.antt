@@ -7,7 +7,7 @@ use Rattle.mica_model.specs.declared.options.Options.{Options}
 use Rattle.mica_model.specs.declared.write.Write.{Write}
 use Rattle.mica_model.specs.Run.{RunStep}
 use Rattle.mica_trace.specs.declared.line.TraceOp.{TraceOp}
-use Rattle.mica_trace.specs.declared.line.TraceOp.TheVariants.{Put, Del, Get, Sync}
+use Rattle.mica_trace.specs.declared.line.TraceOp.TheVariants.{Put, Add, Del, Touch, Get, Sync}
 use Rattle.mica_trace.specs.declared.line.TraceLine.{TraceLine}
 use Rattle.mica_trace.specs.declared.report.Line.{Line}
 use Rattle.mica_trace.specs.declared.report.Line.TheVariants.{Wrote, Hit, Miss, Sync as SyncLine}
@@ -111,16 +111,24 @@ module _ (options : Options) (p : ℕ) where
   count_step : (op : TraceOp) (key value : List ℕ) (printed : Line) (steps : List RunStep) (writes : List Write) → IsKindOf op printed → length steps ≡ length writes
       → length (cons_option (step_by (write_by op key value) printed) steps) ≡ length (cons_option (write_by op key value) writes)
   count_step Put key value (Wrote op outcome s) steps writes kind same = ap suc same
+  count_step Add key value (Wrote op outcome s) steps writes kind same = ap suc same
   count_step Del key value (Wrote op outcome s) steps writes kind same = ap suc same
+  count_step Touch key value (Wrote op outcome s) steps writes kind same = ap suc same
   count_step Get key value (Hit s found) steps writes kind same = same
   count_step Get key value (Miss s) steps writes kind same = same
   count_step Sync key value SyncLine steps writes kind same = same
   count_step Put key value (Hit s found) steps writes kind same = absurd kind
+  count_step Add key value (Hit s found) steps writes kind same = absurd kind
   count_step Put key value (Miss s) steps writes kind same = absurd kind
+  count_step Add key value (Miss s) steps writes kind same = absurd kind
   count_step Put key value SyncLine steps writes kind same = absurd kind
+  count_step Add key value SyncLine steps writes kind same = absurd kind
   count_step Del key value (Hit s found) steps writes kind same = absurd kind
+  count_step Touch key value (Hit s found) steps writes kind same = absurd kind
   count_step Del key value (Miss s) steps writes kind same = absurd kind
+  count_step Touch key value (Miss s) steps writes kind same = absurd kind
   count_step Del key value SyncLine steps writes kind same = absurd kind
+  count_step Touch key value SyncLine steps writes kind same = absurd kind
   count_step Get key value (Wrote op outcome s) steps writes kind same = absurd kind
   count_step Get key value SyncLine steps writes kind same = absurd kind
   count_step Sync key value (Wrote op outcome s) steps writes kind same = absurd kind

@@ -3,14 +3,14 @@
 use Rattle.std.proofs.Common.{◌≡◌, ℕ, zero, suc, List, [], ◌∷◌, ◌++◌, slice_get, Option, Some, None, refl, sym, ap, ◌∙◌, subst, cond, true, false}
 use Rattle.std.specs.List.{AllByRecursion, AllZip, cons_option, fold}
 use Rattle.mica_model.specs.declared.options.Options.{Options}
-use Rattle.mica_model.specs.declared.write.Op.TheVariants.{Put as PutOp, Del as DelOp}
+use Rattle.mica_model.specs.declared.write.Op.TheVariants.{Put as PutOp, Add as AddOp, Touch as TouchOp, Del as DelOp}
 use Rattle.mica_model.specs.declared.write.Write.{Write}
 use Rattle.mica_model.specs.Write.{GivesValue, is_accepted}
 use Rattle.mica_model.specs.History.{History, State, IsPrefix, MayGive, after, start, state_of}
 use Rattle.mica_model.specs.Run.{RunStep, accepted_write, history_of, IsRunFrom}
 use Rattle.mica_model.proofs.Values.{ValuesAre, start_are, after_are, value_is}
 use Rattle.mica_trace.specs.declared.line.TraceOp.{TraceOp}
-use Rattle.mica_trace.specs.declared.line.TraceOp.TheVariants.{Put, Del, Get, Sync}
+use Rattle.mica_trace.specs.declared.line.TraceOp.TheVariants.{Put, Add, Del, Touch, Get, Sync}
 use Rattle.mica_trace.specs.declared.line.TraceLine.{TraceLine}
 use Rattle.mica_trace.specs.declared.report.Line.{Line}
 use Rattle.mica_trace.specs.declared.report.Line.TheVariants.{Wrote, Hit, Miss, Sync as SyncLine}
@@ -52,21 +52,37 @@ written Put key value (Wrote op outcome s) h fields all =
       | true ↦ ((λ gives. fields.1), all)
       | false ↦ all
     ]
+written Add key value (Wrote op outcome s) h fields all =
+    elim (is_accepted outcome) as (λ b. AllByRecursion StoresValue (cons_option (cond b (Some (record { op = AddOp; key = key; value = value })) None) [] ++ h)) [
+      | true ↦ ((λ gives. fields.1), all)
+      | false ↦ all
+    ]
 written Del key value (Wrote op outcome s) h fields all =
     elim (is_accepted outcome) as (λ b. AllByRecursion StoresValue (cons_option (cond b (Some (record { op = DelOp; key = key; value = value })) None) [] ++ h)) [
       | true ↦ ((λ gives. absurd gives), all)
       | false ↦ all
     ]
+written Touch key value (Wrote op outcome s) h fields all =
+    elim (is_accepted outcome) as (λ b. AllByRecursion StoresValue (cons_option (cond b (Some (record { op = TouchOp; key = key; value = value })) None) [] ++ h)) [
+      | true ↦ ((λ gives. absurd gives), all)
+      | false ↦ all
+    ]
 written Put key value (Hit s v) h fields all = all
+written Add key value (Hit s v) h fields all = all
 written Put key value (Miss s) h fields all = all
+written Add key value (Miss s) h fields all = all
 written Put key value SyncLine h fields all = all
+written Add key value SyncLine h fields all = all
 written Del key value (Hit s v) h fields all = all
+written Touch key value (Hit s v) h fields all = all
 written Del key value (Miss s) h fields all = all
+written Touch key value (Miss s) h fields all = all
 written Del key value SyncLine h fields all = all
+written Touch key value SyncLine h fields all = all
 written Get key value r h fields all = all
 written Sync key value r h fields all = all
 
-history_first : (o : Option RunStep) (steps : List RunStep) → history_of (cons_option o steps) ≡ history_of (cons_option o []) ++ history_of steps
+pub history_first : (o : Option RunStep) (steps : List RunStep) → history_of (cons_option o steps) ≡ history_of (cons_option o []) ++ history_of steps
 history_first None steps = refl
 history_first (Some step) steps = by (accepted_write step)
   where
@@ -100,14 +116,24 @@ step_stands : (options : Options) (history : History) (op : TraceOp) (key value 
     → ((step : RunStep) → step_by (write_by op key value) r ≡ Some step → MayGive options history step.write step.outcome) → IsReportLine r
 step_stands options history Put key value w (Wrote op outcome s) kind is may =
     subst (λ o. HasOutcome o outcome) (sym kind) (has_outcome options (state_of options history) (record { op = PutOp; key = key; value = value }) outcome (may _ refl))
+step_stands options history Add key value w (Wrote op outcome s) kind is may =
+    subst (λ o. HasOutcome o outcome) (sym kind) (has_outcome options (state_of options history) (record { op = AddOp; key = key; value = value }) outcome (may _ refl))
 step_stands options history Del key value w (Wrote op outcome s) kind is may =
     subst (λ o. HasOutcome o outcome) (sym kind) (has_outcome options (state_of options history) (record { op = DelOp; key = key; value = value }) outcome (may _ refl))
+step_stands options history Touch key value w (Wrote op outcome s) kind is may =
+    subst (λ o. HasOutcome o outcome) (sym kind) (has_outcome options (state_of options history) (record { op = TouchOp; key = key; value = value }) outcome (may _ refl))
 step_stands options history Put key value w (Hit s v) kind is may = absurd kind
+step_stands options history Add key value w (Hit s v) kind is may = absurd kind
 step_stands options history Put key value w (Miss s) kind is may = absurd kind
+step_stands options history Add key value w (Miss s) kind is may = absurd kind
 step_stands options history Put key value w SyncLine kind is may = absurd kind
+step_stands options history Add key value w SyncLine kind is may = absurd kind
 step_stands options history Del key value w (Hit s v) kind is may = absurd kind
+step_stands options history Touch key value w (Hit s v) kind is may = absurd kind
 step_stands options history Del key value w (Miss s) kind is may = absurd kind
+step_stands options history Touch key value w (Miss s) kind is may = absurd kind
 step_stands options history Del key value w SyncLine kind is may = absurd kind
+step_stands options history Touch key value w SyncLine kind is may = absurd kind
 step_stands options history Get key value w r kind is may = absurd (cc)
 step_stands options history Sync key value w r kind is may = absurd (cc)
 

@@ -2,7 +2,7 @@
 use Rattle.std.proofs.Common.{◌≡◌, ℕ, List, [], ◌∷◌, ◌++◌, drop, get_or, eqb, cond, refl, sym, ap, ◌∙◌, subst, ◌⊎◌}
 use Rattle.std.specs.List.{AllZip}
 use Rattle.mica_trace.specs.declared.line.TraceOp.{TraceOp}
-use Rattle.mica_trace.specs.declared.line.TraceOp.TheVariants.{Put, Del, Get, Sync}
+use Rattle.mica_trace.specs.declared.line.TraceOp.TheVariants.{Put, Add, Del, Touch, Get, Sync}
 use Rattle.mica_trace.specs.declared.line.TraceLine.{TraceLine}
 use Rattle.mica_trace.specs.Lines.{lines_of}
 use Rattle.mica_trace.specs.TraceGrammar.{HasFields, op_text, IsTextOf, IsTrace, trace_text}
@@ -11,18 +11,24 @@ use Rattle.mica_trace.proofs.LineLemmas.{key_lacks_space}
 
 -- the operation of a line, by the first byte of its text
 abbrev op_at : List ℕ → TraceOp
-op_at text = let first = get_or text 0 0 in cond (eqb first 112) Put (cond (eqb first 100) Del (cond (eqb first 103) Get Sync))
+op_at text = let first = get_or text 0 0 in
+    cond (eqb first 112) Put (cond (eqb first 97) Add (cond (eqb first 100) Del (cond (eqb first 116) Touch (cond (eqb first 103) Get Sync))))
 
 op_is : (op : TraceOp) (key value : List ℕ) → op_at (op_text op key value) ≡ op
 op_is Put key value = refl
+op_is Add key value = refl
 op_is Del key value = refl
+op_is Touch key value = refl
 op_is Get key value = refl
 op_is Sync key value = refl
 
 same_fields : (op : TraceOp) (k v l w : List ℕ) → HasFields op k v → HasFields op l w → op_text op k v ≡ op_text op l w → (k ≡ l) × (v ≡ w)
 same_fields Put k v l w left right same =
     one_split 32 k v l w (key_lacks_space k left.0.1) (key_lacks_space l right.0.1) (ap (drop 4) same)
+same_fields Add k v l w left right same =
+    one_split 32 k v l w (key_lacks_space k left.0.1) (key_lacks_space l right.0.1) (ap (drop 4) same)
 same_fields Del k v l w left right same = (ap (drop 4) same, left.1 ∙ sym right.1)
+same_fields Touch k v l w left right same = (ap (drop 6) same, left.1 ∙ sym right.1)
 same_fields Get k v l w left right same = (ap (drop 4) same, left.1 ∙ sym right.1)
 same_fields Sync k v l w left right same = (left.0 ∙ sym right.0, left.1 ∙ sym right.1)
 
@@ -37,7 +43,7 @@ one_line text a b left right =
     (sym left.1 ∙ right.1 ∙ ap (λ o. op_text o b.key b.value) (sym op)) in
     same_line a.op b.op a.key b.key a.value b.value op fields.0 fields.1
 
-one_list : (texts : List (List ℕ)) (a b : List TraceLine) → AllZip IsTextOf texts a → AllZip IsTextOf texts b → a ≡ b
+pub one_list : (texts : List (List ℕ)) (a b : List TraceLine) → AllZip IsTextOf texts a → AllZip IsTextOf texts b → a ≡ b
 one_list [] [] [] left right = refl
 one_list [] [] (y ∷ b) left right = absurd right
 one_list [] (x ∷ a) b left right = absurd left

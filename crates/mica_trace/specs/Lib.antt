@@ -3,5 +3,8 @@ pub mod TraceGrammar
 pub mod ReportGrammar
 pub mod Rounds
 pub mod LawfulReport
+pub mod LineReply
 pub mod ExactReport
 pub mod RoundReport
+pub mod TextParts
+pub mod Printed

@@ -3,9 +3,9 @@ use Rattle.std.specs.Prelude.{◌≡◌, ◌≢◌, ℕ, ◌+◌, ◌<◌, ◌^�
 use Rattle.std.specs.List.{AllByRecursion}
 use Rattle.std.specs.Fmt.{decimal}
 use Rattle.mica_model.specs.declared.write.Op.{Op}
-use Rattle.mica_model.specs.declared.write.Op.TheVariants.{Put, Del}
+use Rattle.mica_model.specs.declared.write.Op.TheVariants.{Put, Add, Touch, Del}
 use Rattle.mica_model.specs.declared.write.Outcome.{Outcome}
-use Rattle.mica_model.specs.declared.write.Outcome.TheVariants.{Stored, Deleted, Absent, FullSpare, FullBlock, Worn}
+use Rattle.mica_model.specs.declared.write.Outcome.TheVariants.{Stored, Deleted, Absent, Touched, FullSpare, FullBlock, Worn, Exists}
 use Rattle.mica_trace.specs.declared.report.Line.{Line}
 use Rattle.mica_trace.specs.declared.report.Line.TheVariants.{Wrote, Hit, Miss, Sync}
 use Rattle.mica_trace.specs.declared.report_reader.ReportFault.{ReportFault}
@@ -14,15 +14,19 @@ use Rattle.mica_trace.specs.TraceGrammar.{IsValue}
 
 abbrev pub op_word : Op → List ℕ
 op_word Put = codes "put"
+op_word Add = codes "add"
+op_word Touch = codes "touch"
 op_word Del = codes "del"
 
 abbrev pub outcome_words : Outcome → List ℕ
 outcome_words Stored = codes "stored"
 outcome_words Deleted = codes "deleted"
 outcome_words Absent = codes "absent"
+outcome_words Touched = codes "touched"
 outcome_words FullSpare = codes "full spare"
 outcome_words FullBlock = codes "full block"
 outcome_words Worn = codes "worn"
+outcome_words Exists = codes "exists"
 
 -- the outcomes that an operation may have
 abbrev pub HasOutcome : Op → Outcome → Type 0
@@ -30,6 +34,14 @@ HasOutcome Put Stored = Unit {0}
 HasOutcome Put FullSpare = Unit {0}
 HasOutcome Put FullBlock = Unit {0}
 HasOutcome Put Worn = Unit {0}
+HasOutcome Add Stored = Unit {0}
+HasOutcome Add Exists = Unit {0}
+HasOutcome Add FullSpare = Unit {0}
+HasOutcome Add FullBlock = Unit {0}
+HasOutcome Add Worn = Unit {0}
+HasOutcome Touch Touched = Unit {0}
+HasOutcome Touch Absent = Unit {0}
+HasOutcome Touch Worn = Unit {0}
 HasOutcome Del Deleted = Unit {0}
 HasOutcome Del Absent = Unit {0}
 HasOutcome Del Worn = Unit {0}

@@ -4,11 +4,11 @@ use Rattle.std.specs.List.{filter_map}
 use Rattle.mica_words.specs.Hash.{partition_of}
 use Rattle.mica_model.specs.declared.options.Options.{Options}
 use Rattle.mica_model.specs.declared.write.Op.{Op}
-use Rattle.mica_model.specs.declared.write.Op.TheVariants.{Put as PutOp, Del as DelOp}
+use Rattle.mica_model.specs.declared.write.Op.TheVariants.{Put as PutOp, Add as AddOp, Touch as TouchOp, Del as DelOp}
 use Rattle.mica_model.specs.declared.write.Write.{Write}
 use Rattle.mica_model.specs.Write.{write_of}
 use Rattle.mica_trace.specs.declared.line.TraceOp.{TraceOp}
-use Rattle.mica_trace.specs.declared.line.TraceOp.TheVariants.{Put, Del, Get, Sync}
+use Rattle.mica_trace.specs.declared.line.TraceOp.TheVariants.{Put, Add, Del, Touch, Get, Sync}
 use Rattle.mica_trace.specs.declared.line.TraceLine.{TraceLine}
 use Rattle.mica_trace.specs.TraceGrammar.{is_sync, syncs_in}
 
@@ -25,7 +25,9 @@ lines_before (line ∷ lines) (suc round) = line ∷ lines_before lines (if is_s
 -- what an operation does with its key, where it is a write
 abbrev pub op_of : TraceOp → Option Op
 op_of Put = Some PutOp
+op_of Add = Some AddOp
 op_of Del = Some DelOp
+op_of Touch = Some TouchOp
 op_of Get = None
 op_of Sync = None
 

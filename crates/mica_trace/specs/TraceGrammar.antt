@@ -4,7 +4,7 @@ use Rattle.std.specs.List.{AllByRecursion, AllZip}
 use Rattle.std.specs.Fmt.{decimal}
 use Rattle.mica_trace.specs.declared.limits.TheConstants.{MAX_LINES, MAX_LINE_LEN, MAX_ROUNDS}
 use Rattle.mica_trace.specs.declared.line.TraceOp.{TraceOp}
-use Rattle.mica_trace.specs.declared.line.TraceOp.TheVariants.{Put, Del, Get, Sync}
+use Rattle.mica_trace.specs.declared.line.TraceOp.TheVariants.{Put, Add, Del, Touch, Get, Sync}
 use Rattle.mica_trace.specs.declared.line.TraceLine.{TraceLine}
 use Rattle.mica_trace.specs.declared.line.TraceFault.{TraceFault}
 use Rattle.mica_trace.specs.declared.line.TraceFault.TheVariants.{BadLine, LongLine, TooManyLines, TooManyRounds, NoMemory}
@@ -22,7 +22,9 @@ IsValue value = ValueFits value × AllByRecursion (λ b. (32 ≤ b) × (b ≤ 12
 -- what an operation has for key and value
 abbrev pub HasFields : TraceOp → List ℕ → List ℕ → Type 0
 HasFields Put key value = IsKey key × IsValue value
+HasFields Add key value = IsKey key × IsValue value
 HasFields Del key value = IsKey key × (value ≡ [])
+HasFields Touch key value = IsKey key × (value ≡ [])
 HasFields Get key value = IsKey key × (value ≡ [])
 HasFields Sync key value = (key ≡ []) × (value ≡ [])
 
@@ -32,7 +34,9 @@ IsTraceLine line = HasFields line.op line.key line.value
 
 abbrev pub op_text : TraceOp → List ℕ → List ℕ → List ℕ
 op_text Put key value = codes "put " ++ key ++ 32 ∷ value
+op_text Add key value = codes "add " ++ key ++ 32 ∷ value
 op_text Del key value = codes "del " ++ key
+op_text Touch key value = codes "touch " ++ key
 op_text Get key value = codes "get " ++ key
 op_text Sync key value = codes "sync"
 

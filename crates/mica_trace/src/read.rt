@@ -21,13 +21,15 @@ fn are_between(text: &[u8], least: u8, most: u8) -> bool
     all
 }
 
-fn is_key(key: &[u8]) -> bool
+/// Whether it is a key that a trace may have.
+pub fn is_key(key: &[u8]) -> bool
     ensures { IsTrue result ↔ IsKey key.now }
 {
     key_fits(key) && are_between(key, 33, 126)
 }
 
-pub(crate) fn is_value(value: &[u8]) -> bool
+/// Whether it is a value that a trace may have.
+pub fn is_value(value: &[u8]) -> bool
     ensures { IsTrue result ↔ IsValue value.now }
 {
     value_fits(value) && are_between(value, 32, 126)
@@ -64,9 +66,10 @@ fn read_key_line(alloc: Global, op: TraceOp, key: &[u8]) -> Result<TraceLine, Li
     })
 }
 
-fn read_put(alloc: Global, rest: &[u8]) -> Result<TraceLine, LineFault>
+// A line that has a key and a value, which the first space parts.
+fn read_value_line(alloc: Global, op: TraceOp, rest: &[u8]) -> Result<TraceLine, LineFault>
     ensures found { IfOk result (λ line.
-        (line.op ≡ TraceOp.Put) × IsKey line.key × IsValue line.value × (rest.now ≡ line.key ++ 32 ∷ line.value)) }
+        (line.op ≡ op) × IsKey line.key × IsValue line.value × (rest.now ≡ line.key ++ 32 ∷ line.value)) }
     ensures bad { IsErrOf result LineFault.Bad → (key value : List ℕ) → IsKey key → IsValue value
         → ¬ (rest.now ≡ key ++ 32 ∷ value) }
 {
@@ -77,7 +80,7 @@ fn read_put(alloc: Global, rest: &[u8]) -> Result<TraceLine, LineFault>
         return Err(LineFault::Bad);
     }
     Ok(TraceLine {
-        op: TraceOp::Put,
+        op,
         key: Bytes::copy(alloc, key)?,
         value: Bytes::copy(alloc, value)?,
     })
@@ -96,8 +99,14 @@ fn read_line(alloc: Global, text: &[u8]) -> Result<TraceLine, LineFault>
     if let Some(key) = after_word(text, b"del ") {
         return read_key_line(alloc, TraceOp::Del, key);
     }
-    match after_word(text, b"put ") {
-        Some(rest) => read_put(alloc, rest),
+    if let Some(key) = after_word(text, b"touch ") {
+        return read_key_line(alloc, TraceOp::Touch, key);
+    }
+    if let Some(rest) = after_word(text, b"put ") {
+        return read_value_line(alloc, TraceOp::Put, rest);
+    }
+    match after_word(text, b"add ") {
+        Some(rest) => read_value_line(alloc, TraceOp::Add, rest),
         None => Err(LineFault::Bad),
     }
 }

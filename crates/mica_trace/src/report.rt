@@ -1,9 +1,10 @@
 //! Reports and their lines.
-ghost use Rattle.std.specs.Prelude.{◌≡◌, ◌≤◌, ◌<◌, ◌∷◌, ◌++◌, [], length, vec_len, slice_get, string_bytes, IfOk, OnOk, OnErr};
+ghost use Rattle.std.specs.Prelude.{◌≡◌, ◌↔◌, ◌≤◌, ◌<◌, ◌∷◌, ◌++◌, [], length, vec_len, slice_get, string_bytes, IfOk, IsTrue, OnOk, OnErr};
 ghost use Rattle.std.specs.Option.{option_copied};
-ghost use Rattle.mica_trace.specs.ReportGrammar.{report_line_text, IsReportLine, op_word, outcome_words};
+ghost use Rattle.mica_trace.specs.ReportGrammar.{report_line_text, HasOutcome, IsReportLine, op_word, outcome_words};
 
 use crate::append::append_line;
+use crate::read::is_value;
 use itoa::Buffer;
 use mica_io::{Bytes, NoMemory};
 use mica_model::{Op, Outcome};
@@ -26,6 +27,41 @@ pub enum Line {
         stamp: u64,
     },
     Sync,
+}
+
+impl Line {
+    /// Whether a report may have it: its outcome is one of its operation's, its value one of a trace's.
+    pub fn is_report_line(&self) -> bool
+        ensures { IsTrue result ↔ IsReportLine self.now }
+    {
+        match self {
+            Line::Wrote { op, outcome, .. } => has_outcome(*op, *outcome),
+            Line::Hit { value, .. } => is_value(value.bytes()),
+            Line::Miss { .. } | Line::Sync => true,
+        }
+    }
+}
+
+// Whether it is one of the outcomes that the operation may have.
+fn has_outcome(op: Op, outcome: Outcome) -> bool
+    ensures { IsTrue result ↔ HasOutcome op outcome }
+{
+    match op {
+        Op::Put => matches!(
+            outcome,
+            Outcome::Stored | Outcome::FullSpare | Outcome::FullBlock | Outcome::Worn
+        ),
+        Op::Add => matches!(
+            outcome,
+            Outcome::Stored
+                | Outcome::Exists
+                | Outcome::FullSpare
+                | Outcome::FullBlock
+                | Outcome::Worn
+        ),
+        Op::Touch => matches!(outcome, Outcome::Touched | Outcome::Absent | Outcome::Worn),
+        Op::Del => matches!(outcome, Outcome::Deleted | Outcome::Absent | Outcome::Worn),
+    }
 }
 
 /// A list of lines.
@@ -91,6 +127,8 @@ fn op_text(op: Op) -> &'static str
 {
     match op {
         Op::Put => "put",
+        Op::Add => "add",
+        Op::Touch => "touch",
         Op::Del => "del",
     }
 }
@@ -102,9 +140,11 @@ fn outcome_text(outcome: Outcome) -> &'static str
         Outcome::Stored => "stored",
         Outcome::Deleted => "deleted",
         Outcome::Absent => "absent",
+        Outcome::Touched => "touched",
         Outcome::FullSpare => "full spare",
         Outcome::FullBlock => "full block",
         Outcome::Worn => "worn",
+        Outcome::Exists => "exists",
     }
 }
 

@@ -69,6 +69,33 @@ fn put_outcome(words: &[u8]) -> Option<Outcome>
     }
 }
 
+// An add has the outcomes of a put, and one more.
+fn add_outcome(words: &[u8]) -> Option<Outcome>
+    ensures { MatchOption result ((o : Outcome) → HasOutcome Op.Add o → words.now ≢ outcome_words o)
+        (λ o. HasOutcome Op.Add o × (words.now ≡ outcome_words o)) }
+{
+    if words == b"exists".as_slice() {
+        Some(Outcome::Exists)
+    } else {
+        put_outcome(words)
+    }
+}
+
+fn touch_outcome(words: &[u8]) -> Option<Outcome>
+    ensures { MatchOption result ((o : Outcome) → HasOutcome Op.Touch o → words.now ≢ outcome_words o)
+        (λ o. HasOutcome Op.Touch o × (words.now ≡ outcome_words o)) }
+{
+    if words == b"touched".as_slice() {
+        Some(Outcome::Touched)
+    } else if words == b"absent".as_slice() {
+        Some(Outcome::Absent)
+    } else if words == b"worn".as_slice() {
+        Some(Outcome::Worn)
+    } else {
+        None
+    }
+}
+
 fn del_outcome(words: &[u8]) -> Option<Outcome>
     ensures { MatchOption result ((o : Outcome) → HasOutcome Op.Del o → words.now ≢ outcome_words o)
         (λ o. HasOutcome Op.Del o × (words.now ≡ outcome_words o)) }
@@ -91,6 +118,8 @@ fn outcome_of(op: Op, words: &[u8]) -> Option<Outcome>
 {
     match op {
         Op::Put => put_outcome(words),
+        Op::Add => add_outcome(words),
+        Op::Touch => touch_outcome(words),
         Op::Del => del_outcome(words),
     }
 }
@@ -141,6 +170,12 @@ fn read_report_line(alloc: Global, text: &[u8]) -> Result<Line, LineFault>
     }
     if let Some(rest) = after_word(text, b"put ") {
         return read_wrote(Op::Put, rest);
+    }
+    if let Some(rest) = after_word(text, b"add ") {
+        return read_wrote(Op::Add, rest);
+    }
+    if let Some(rest) = after_word(text, b"touch ") {
+        return read_wrote(Op::Touch, rest);
     }
     match after_word(text, b"del ") {
         Some(rest) => read_wrote(Op::Del, rest),

@@ -4,7 +4,7 @@ ghost use Rattle.mica_trace.specs.Lines.{lines_of, Lacks};
 
 use memchr::memchr;
 
-// The bytes before the first such byte and those after it, if there is one.
+/// The bytes before the first such byte and those after it, if there is one.
 pub fn split_at_byte(text: &[u8], byte: u8) -> Option<(&[u8], &[u8])>
     ensures { MatchOption result (Lacks byte text.now)
         (λ parts. (text.now ≡ parts.0.now ++ byte ∷ parts.1.now) × Lacks byte parts.0.now) }

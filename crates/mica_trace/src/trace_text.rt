@@ -15,7 +15,9 @@ fn put_line(line: &TraceLine, out: &mut Vec<u8>) -> Result<(), NoMemory>
     let (key, value) = (line.key.bytes(), line.value.bytes());
     match line.op {
         TraceOp::Put => append_line(out, &[b"put ".as_slice(), key, b" ".as_slice(), value]),
+        TraceOp::Add => append_line(out, &[b"add ".as_slice(), key, b" ".as_slice(), value]),
         TraceOp::Del => append_line(out, &[b"del ".as_slice(), key]),
+        TraceOp::Touch => append_line(out, &[b"touch ".as_slice(), key]),
         TraceOp::Get => append_line(out, &[b"get ".as_slice(), key]),
         TraceOp::Sync => append_line(out, &[b"sync".as_slice()]),
     }
@@ -31,8 +33,9 @@ fn text_len(lines: &[TraceLine]) -> usize
     for line in lines {
         let (key, value) = (line.key.bytes().len(), line.value.bytes().len());
         len += match line.op {
-            TraceOp::Put => 6 + key + value,
+            TraceOp::Put | TraceOp::Add => 6 + key + value,
             TraceOp::Del | TraceOp::Get => 5 + key,
+            TraceOp::Touch => 7 + key,
             TraceOp::Sync => 5,
         };
     }

@@ -1,7 +1,7 @@
 use Rattle.std.proofs.Common.{◌<◌, ap, length, arith}
 use Rattle.mica_trace.proofs.Lengths.{short_at, taken_length}
 use Rattle.mica_trace.proofs.trace_text.text_len.Goals as goal
-use Rattle.mica_trace.proofs.trace_text.text_len.Goals.{in-Put, in-Del, in-Sync}
+use Rattle.mica_trace.proofs.trace_text.text_len.Goals.{in-Put, in-Del, in-Touch, in-Sync}
 
 pub overflow_add-len-in-loop-line : goal.overflow_add-len-in-loop-line
 overflow_add-len-in-loop-line c =
@@ -15,4 +15,4 @@ overflow_add-len-in-loop-line c =
     let few = c.requires.within.few_lines in
     let key_len = short.key_len in
     let value_len = short.value_len in
-    elim c.match-line.branch [ in-Put w ↦ omega arith | in-Del w ↦ omega arith | in-Sync w ↦ omega arith ]
+    elim c.match-line.branch [ in-Put w ↦ omega arith | in-Del w ↦ omega arith | in-Touch w ↦ omega arith | in-Sync w ↦ omega arith ]

@@ -4,8 +4,8 @@ use Rattle.mica_trace.specs.Lines.{Lacks}
 use Rattle.mica_trace.specs.TraceGrammar.{IsKey, IsValue}
 use Rattle.mica_trace.proofs.LineLemmas.{key_lacks_space}
 use Rattle.mica_trace.proofs.TextLaws.{one_split, lacks_or_has}
-use Rattle.mica_trace.proofs.read.read_put.Goals as goal
-use Rattle.mica_trace.proofs.read.read_put.Goals.{then-not-is_key-via-then-not-is_key, then-not-is_key-via-else-not-is_key+then-not-is_value}
+use Rattle.mica_trace.proofs.read.read_value_line.Goals as goal
+use Rattle.mica_trace.proofs.read.read_value_line.Goals.{then-not-is_key-via-then-not-is_key, then-not-is_key-via-else-not-is_key+then-not-is_value}
 
 pub returns-in_default-clause-bad : goal.returns-in_default-clause-bad
 returns-in_default-clause-bad c is key value key_is value_is same =
