@@ -4,7 +4,7 @@ use Rattle.std.specs.List.{All, count_by}
 use Rattle.std.proofs.lemmas.List.{length_push, get_or_push}
 use Rattle.std.proofs.lemmas.List.Elements.{filter_map-append, All-pop}
 use Rattle.std.proofs.lemmas.List.Sums.{sum_by-append, sum_by-cons}
-use Rattle.owner_queue.proofs.Keeps.{from_append}
+use Rattle.ruled_queue.proofs.Keeps.{from_append}
 use Rattle.owner_queue.specs.declared.message.Message.{Message}
 use Rattle.owner_queue.specs.declared.message.Message.TheVariants as kind
 use Rattle.owner_queue.specs.Messages.{sender_of, ticket_of, is_end, sent_by, MayFollow, write_in, writes_in}

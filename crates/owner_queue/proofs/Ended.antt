@@ -3,8 +3,8 @@ use Rattle.std.proofs.Common.{◌≡◌, ℕ, true, true≢false, List, [], ◌�
 use Rattle.std.specs.List.{list_any}
 use Rattle.owner_queue.specs.declared.message.Message.{Message}
 use Rattle.owner_queue.specs.Messages.{sender_of, is_end, sent_by, has_end, MayFollow}
-use Rattle.owner_queue.specs.Delivery.{MayBeSent}
-use Rattle.owner_queue.proofs.Keeps.{from_append}
+use Rattle.ruled_queue.specs.Delivery.{MayBeSent}
+use Rattle.ruled_queue.proofs.Keeps.{from_append}
 
 settled : (jobs : ℕ) (got rest sent : List Message) → sent ≡ got ++ rest → MayBeSent MayFollow jobs sent → list_any is_end got ≡ true → got ≡ sent
 settled jobs got [] sent e lawful ended = sym (append-nil got) ∙ sym e

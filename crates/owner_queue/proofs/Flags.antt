@@ -7,11 +7,11 @@ use Rattle.std.proofs.lemmas.Option.{slice_get_within, slice_get-get_or}
 use Rattle.std.proofs.Math.ListN.{length-set}
 use Rattle.owner_queue.specs.declared.message.Message.{Message}
 use Rattle.owner_queue.specs.declared.message.Message.TheVariants as kind
-use Rattle.owner_queue.specs.declared.rule.Knows.{Knows}
+use Rattle.ruled_queue.specs.declared.rule.Knows.{Knows}
 use Rattle.owner_queue.specs.Messages.{sender_of, is_end, sent_by, has_end}
-use Rattle.owner_queue.specs.Delivery.{receiver}
+use Rattle.ruled_queue.specs.Delivery.{receiver}
 use Rattle.owner_queue.specs.JobEnds.{HasFlags}
-use Rattle.owner_queue.proofs.Keeps.{from_own, from_other, from_append, same_or_not}
+use Rattle.ruled_queue.proofs.Keeps.{from_own, from_other, from_append, same_or_not}
 
 or_false : (b : Bool) → (b || false) ≡ b
 or_false true = refl

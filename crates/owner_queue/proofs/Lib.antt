@@ -1,4 +1,3 @@
-pub mod Keeps
 pub mod Flags
 pub mod Ended
 pub mod OneSender

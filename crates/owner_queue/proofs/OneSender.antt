@@ -5,7 +5,7 @@ use Rattle.partition_table.specs.declared.reader.Note.{Note}
 use Rattle.partition_table.specs.Seats.{note_state, note_home}
 use Rattle.owner_queue.specs.AckOrder.{only_sender, AckMayFollow, AckMayFollowAt}
 use Rattle.owner_queue.specs.AckEnds.{BeginsAcks}
-use Rattle.owner_queue.specs.Delivery.{from_sender}
+use Rattle.ruled_queue.specs.Delivery.{from_sender}
 
 from_only : (acks : List Ack) → from_sender only_sender 0 acks ≡ acks
 from_only [] = refl

@@ -7,10 +7,10 @@ use mathlib.Core.Logic.{dite}
 use native.Mathlib.Decide.{ℕ_discrete}
 use Rattle.mica_model.specs.declared.options.Options.{Options}
 use Rattle.mica_model.specs.declared.write.Op.{Op}
-use Rattle.mica_model.specs.declared.write.Op.TheVariants.{Put, Del}
+use Rattle.mica_model.specs.declared.write.Op.TheVariants.{Put, Add, Touch, Del}
 use Rattle.mica_model.specs.declared.write.Write.{Write}
 use Rattle.mica_model.specs.declared.write.Outcome.{Outcome}
-use Rattle.mica_model.specs.declared.write.Outcome.TheVariants.{Stored, Deleted, Absent, FullSpare, FullBlock, Worn}
+use Rattle.mica_model.specs.declared.write.Outcome.TheVariants.{Stored, Deleted, Absent, Touched, FullSpare, FullBlock, Worn, Exists}
 use Rattle.mica_model.specs.Write.{GivesValue, Replaces, is_accepted, size_of}
 use Rattle.mica_model.specs.Store.{Cell, Store}
 use Rattle.mica_model.specs.StoreStep as ss
@@ -37,11 +37,16 @@ number_from x c e = omega arith
 
 gives_once : (op : Op) → IsProp (GivesValue op)
 gives_once Put = hlevel props
+gives_once Add = hlevel props
+gives_once Touch = hlevel props
 gives_once Del = hlevel props
 
-replaces : (op : Op) → GivesValue op → Replaces op
-replaces Put gives = tt
-replaces Del gives = absurd gives
+-- whether an operation replaces a value can be seen of it, and of an add it is known that its key has none
+stores_whole : (op : Op) (o : Option Cell) → ∥ GivesValue op × (Replaces op ⊎ (o ≡ None)) ∥₁ → GivesValue op × (Replaces op ⊎ (o ≡ None))
+stores_whole Put o has = (tt, inl tt)
+stores_whole Add o has = (tt, inr (∥∥₁_elim has (hlevel props) (λ a. elim a.1 as (λ _. o ≡ None) [ inl replaces ↦ absurd replaces | inr none ↦ none ])))
+stores_whole Touch o has = absurd (∥∥₁_elim has (hlevel props) (λ a. a.0))
+stores_whole Del o has = absurd (∥∥₁_elim has (hlevel props) (λ a. a.0))
 
 module _ (options : Options) (s : Store) (write : Write) where
   fits_or_not : (o : Option Cell) → (IsSomeAnd o (λ cell. size_of write ≤ cell.room)) ⊎ ¬ (IsSomeAnd o (λ cell. size_of write ≤ cell.room))
@@ -67,18 +72,20 @@ module _ (options : Options) (s : Store) (write : Write) where
   )
     where
       stores : ss.Stores s write
-      stores = let gives = ∥∥₁_elim has (gives_once write.op) (λ a. a.1.0.0) in (gives, inl (replaces write.op gives))
+      stores = stores_whole write.op (get s.cells write.key) (∥∥₁_elim has (hlevel props) (λ a. ∣ a.1.0 ∣₁))
 
   allows_whole : (outcome : Outcome) → ∥ ss.Allows options s write outcome ∥₁ → ss.Allows options s write outcome
   allows_whole Stored has = stored_whole has
   allows_whole Deleted has = (∥∥₁_elim has (hlevel props) (λ a. a.0), ∥∥₁_elim has (hlevel props) (λ a. a.1))
+  allows_whole Touched has = (∥∥₁_elim has (hlevel props) (λ a. a.0), ∥∥₁_elim has (hlevel props) (λ a. a.1))
+  allows_whole Exists has = (∥∥₁_elim has (hlevel props) (λ a. a.0), ∥∥₁_elim has (hlevel props) (λ a. a.1))
   allows_whole Absent has = (∥∥₁_elim has (hlevel props) (λ a. a.0), ∥∥₁_elim has (hlevel props) (λ a. a.1))
   allows_whole FullSpare has = (∥∥₁_elim has (hlevel props) (λ a. a.0), (∥∥₁_elim has (gives_once write.op) (λ a. a.1.0), ∥∥₁_elim has (hlevel props) (λ a. a.1.1)))
   allows_whole FullBlock has = (
     ∥∥₁_elim has (hlevel props) (λ a. a.0),
     (
       record {
-        stores = let gives = ∥∥₁_elim has (gives_once write.op) (λ a. a.1.0.stores.0) in (gives, inl (replaces write.op gives));
+        stores = stores_whole write.op (get s.cells write.key) (∥∥₁_elim has (hlevel props) (λ a. ∣ a.1.0.stores ∣₁));
         no_room = ∥∥₁_elim has (hlevel props) (λ a. a.1.0.no_room);
         has_spare = ∥∥₁_elim has (hlevel props) (λ a. a.1.0.has_spare);
       },

@@ -3,7 +3,7 @@ use Rattle.std.specs.Prelude.{◌≡◌, List, ◌++◌}
 use Rattle.atomic_table.specs.Seated.{TableId}
 use Rattle.epoch_core.specs.declared.shape.Shape.{Shape}
 use Rattle.owner_queue.specs.declared.ack.Ack.{Ack}
-use Rattle.owner_queue.specs.Ends.{Queue}
+use Rattle.ruled_queue.specs.Ends.{Queue}
 
 -- an end: its queue, the table that the notes are of with its shape, and what it sent or took
 pub record AckBox : Type 0 where

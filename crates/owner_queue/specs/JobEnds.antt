@@ -1,7 +1,7 @@
 -- What contracts see of the ends of a queue of jobs.
 use Rattle.std.specs.Prelude.{◌≡◌, ℕ, ◌<◌, Bool, List, slice_get, Some}
 use Rattle.owner_queue.specs.declared.message.Message.{Message}
-use Rattle.owner_queue.specs.Ends.{Queue}
+use Rattle.ruled_queue.specs.Ends.{Queue}
 use Rattle.owner_queue.specs.Messages.{has_end}
 
 -- a sender: its queue, its number, how many jobs it may send, and what it sent

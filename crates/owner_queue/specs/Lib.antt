@@ -1,6 +1,4 @@
 pub mod Messages
-pub mod Delivery
-pub mod Ends
 pub mod JobEnds
 pub mod Acked
 pub mod AckOrder

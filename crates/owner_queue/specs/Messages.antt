@@ -5,7 +5,7 @@ use Rattle.mica_model.specs.declared.write.Write.{Write}
 use Rattle.mica_model.specs.Write.{IsWrite}
 use Rattle.owner_queue.specs.declared.message.Message.{Message}
 use Rattle.owner_queue.specs.declared.message.Message.TheVariants as kind
-use Rattle.owner_queue.specs.Delivery as delivery
+use Rattle.ruled_queue.specs.Delivery as delivery
 
 abbrev pub sender_of : Message → ℕ
 sender_of (kind.Job j) = j.sender

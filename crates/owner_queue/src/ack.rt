@@ -2,9 +2,10 @@
 ghost use Rattle.owner_queue.specs.Acked.{IsAcked};
 ghost use Rattle.partition_table.specs.Seats.{note_state};
 
-use crate::rule::Queued;
 use mica_model::{Outcome, Write};
 use partition_table::Note;
+use ruled_queue::{Queued, Terms};
+use std::marker::Brand;
 
 /// What an owner replied to a job, with the job's write moved back, and a note that has seen it.
 #[derive(Drop)]
@@ -26,4 +27,10 @@ impl Queued<Note> for Ack {
     ghost follows = { AckMayFollowAt };
 
     ghost unset = { no_note };
+}
+
+impl Terms<Ack, Note> for Brand {
+    ghost use Rattle.owner_queue.specs.AckOrder.{no_note};
+
+    ghost terms = { no_note };
 }

@@ -6,11 +6,10 @@ ghost use Rattle.owner_queue.specs.AckOrder.{AckMayFollow};
 ghost use Rattle.owner_queue.specs.AckEnds.{ack_box, BeginsAcks};
 
 use crate::ack::Ack;
-use crate::moves::{CAPACITY, put, take};
-use crate::rule::{InOrder, Knows, NewSender, TakenIn, Terms, Whole};
 use crossbeam_channel::{Pass, RuledReceiver, RuledSender, bounded_with};
 use mica_io::NoMemory;
 use partition_table::{Note, ReaderSeat};
+use ruled_queue::{CAPACITY, InOrder, Knows, NewSender, TakenIn, Terms, Whole, put, take};
 use std::alloc::Global;
 use std::marker::{Brand, Model};
 use std::sync::Wait;
@@ -26,8 +25,8 @@ impl Model for AckSender {
     ghost use Rattle.std.specs.Prelude.{◌≡◌};
     ghost use Rattle.crossbeam_channel.specs.Claims.{IsSeatAt};
     ghost use Rattle.crossbeam_channel.specs.Ends.{sends_on, ruled_capacity};
-    ghost use Rattle.owner_queue.specs.Delivery.{sender};
-    ghost use Rattle.owner_queue.specs.Ends.{capacity, queue_of, known};
+    ghost use Rattle.ruled_queue.specs.Delivery.{sender};
+    ghost use Rattle.ruled_queue.specs.Ends.{capacity, queue_of, known};
     ghost use Rattle.partition_table.specs.Seats.{note_state, note_home};
     ghost use Rattle.owner_queue.specs.AckEnds.{AckBox, ack_box};
 
@@ -52,7 +51,7 @@ impl Model for AckReceiver {
     ghost use Rattle.std.specs.Prelude.{◌≡◌, true, false};
     ghost use Rattle.crossbeam_channel.specs.Claims.{IsSeatAt};
     ghost use Rattle.crossbeam_channel.specs.Ends.{receives_on, ruled_capacity};
-    ghost use Rattle.owner_queue.specs.Ends.{capacity, queue_of, known};
+    ghost use Rattle.ruled_queue.specs.Ends.{capacity, queue_of, known};
     ghost use Rattle.partition_table.specs.Seats.{note_state, note_home};
     ghost use Rattle.owner_queue.specs.AckEnds.{AckBox, ack_box};
 
@@ -71,7 +70,7 @@ impl AckSender {
         requires { AckMayFollow self.old.table self.old.shape self.old.list ack }
         ensures { self.new ≡ ack_box self.old.queue self.old.table self.old.shape (self.old.list ++ ack ∷ []) }
     {
-        put(rt, &self.end, &mut self.pass, ack);
+        put(rt, 0, &self.end, &mut self.pass, ack);
     }
 }
 
@@ -82,7 +81,7 @@ impl AckReceiver {
         ensures order { AckMayFollow self.old.table self.old.shape self.old.list result }
         ensures acked { IsAcked (note_state result.note) result.write result.outcome result.stamp }
     {
-        take(rt, &self.end, &mut self.pass)
+        take(rt, 0, &self.end, &mut self.pass)
     }
 
     /// Ends the sender. What was taken begins what it sent.
@@ -105,7 +104,7 @@ pub fn ack_queue(alloc: Global, of: &ReaderSeat) -> Result<(AckSender, AckReceiv
     make::<Brand>(alloc, of)
 }
 
-fn make<J: Terms<Note>>(
+fn make<J: Terms<Ack, Note>>(
     alloc: Global,
     _of: &ReaderSeat,
 ) -> Result<(AckSender, AckReceiver), NoMemory>

@@ -3,17 +3,14 @@ ghost use Rattle.std.specs.Prelude.{◌≡◌};
 ghost use Rattle.mica_model.specs.Write.{IsWrite};
 ghost use Rattle.epoch_core.specs.OwnerStep.{IsOwnerStep};
 
-use epoch_core::LendPartition;
-use mica_model::{Op, Outcome, Write};
+use epoch_core::{Partition, write_to};
+use mica_model::{Outcome, Write};
 
 /// Does the write in the partition.
-pub fn apply_write<P: LendPartition>(part: &mut P, write: &Write) -> Outcome
+pub fn apply_write<P: Partition>(part: &mut P, write: &Write) -> Outcome
     requires { IsWrite write.now }
     ensures step { IsOwnerStep (P.owner part.old) (P.owner part.new) write.now result }
     ensures home { P.home part.new ≡ P.home part.old }
 {
-    match write.op {
-        Op::Put => part.put(write.key.bytes(), write.value.bytes()),
-        Op::Del => part.del(write.key.bytes()),
-    }
+    write_to(part, write.op, write.key.bytes(), write.value.bytes())
 }

@@ -4,10 +4,9 @@ ghost use Rattle.owner_queue.specs.Messages.{sender_of, sent_by, has_end, MayFol
 ghost use Rattle.owner_queue.specs.JobEnds.{outbox, inbox};
 
 use crate::message::Message;
-use crate::moves::{CAPACITY, put, take};
-use crate::rule::{InOrder, Knows, NewSender, TakenIn, Terms, Whole};
 use crossbeam_channel::{Pass, RuledReceiver, RuledSender, bounded_with};
 use mica_io::NoMemory;
+use ruled_queue::{CAPACITY, InOrder, Knows, NewSender, TakenIn, Terms, Whole, put, take};
 use std::alloc::Global;
 use std::marker::{Brand, Model};
 use std::sync::Wait;
@@ -23,8 +22,8 @@ impl Model for JobSender {
     ghost use Rattle.std.specs.Prelude.{◌≡◌};
     ghost use Rattle.crossbeam_channel.specs.Claims.{IsSeatAt};
     ghost use Rattle.crossbeam_channel.specs.Ends.{sends_on, ruled_capacity};
-    ghost use Rattle.owner_queue.specs.Delivery.{sender};
-    ghost use Rattle.owner_queue.specs.Ends.{capacity, queue_of, known};
+    ghost use Rattle.ruled_queue.specs.Delivery.{sender};
+    ghost use Rattle.ruled_queue.specs.Ends.{capacity, queue_of, known};
     ghost use Rattle.owner_queue.specs.JobEnds.{Outbox, outbox};
 
     ghost Value = { Outbox };
@@ -43,7 +42,7 @@ impl JobSender {
         requires order { MayFollow self.old.jobs self.old.sent message }
         ensures { self.new ≡ outbox self.old.queue self.old.number self.old.jobs (self.old.sent ++ message ∷ []) }
     {
-        put(rt, &self.end, &mut self.pass, message);
+        put(rt, 0, &self.end, &mut self.pass, message);
     }
 }
 
@@ -68,7 +67,7 @@ impl Model for JobReceiver {
     ghost use Rattle.std.specs.Prelude.{◌≡◌, ◌≤◌, true, false};
     ghost use Rattle.crossbeam_channel.specs.Claims.{IsSeatAt};
     ghost use Rattle.crossbeam_channel.specs.Ends.{receives_on, ruled_capacity};
-    ghost use Rattle.owner_queue.specs.Ends.{capacity, queue_of, known};
+    ghost use Rattle.ruled_queue.specs.Ends.{capacity, queue_of, known};
     ghost use Rattle.owner_queue.specs.JobEnds.{Inbox, inbox, HasFlags};
 
     ghost Value = { Inbox };
@@ -96,7 +95,7 @@ impl JobReceiver {
         if all_true(&self.ended, self.senders) {
             return None;
         }
-        let message = take(rt, &self.end, &mut self.pass);
+        let message = take(rt, 0, &self.end, &mut self.pass);
         if let Message::End(sender) = &message {
             self.ended[*sender as usize] = true;
         }
@@ -143,7 +142,7 @@ pub fn job_queue(
     make::<Brand>(alloc, senders, jobs)
 }
 
-fn make<J: Terms<u64>>(
+fn make<J: Terms<Message, u64>>(
     alloc: Global,
     senders: u32,
     jobs: u32,

@@ -9,8 +9,6 @@ mod acks;
 mod applying;
 mod jobs;
 mod message;
-mod moves;
-mod rule;
 
 pub use ack::Ack;
 pub use acks::{AckReceiver, AckSender, ack_queue};

@@ -2,8 +2,9 @@
 ghost use Rattle.std.specs.Prelude.{◌≡◌};
 ghost use Rattle.owner_queue.specs.Messages.{sender_of};
 
-use crate::rule::Queued;
 use mica_model::Write;
+use ruled_queue::{Queued, Terms};
+use std::marker::Brand;
 
 /// A write for an owner, from one sender. The tickets of a sender's jobs rise.
 #[derive(Drop)]
@@ -40,4 +41,8 @@ impl Queued<u64> for Message {
     ghost follows = { MayFollow };
 
     ghost unset = { 0 };
+}
+
+impl Terms<Message, u64> for Brand {
+    ghost terms = { 0 };
 }

@@ -1,6 +1,6 @@
 use Rattle.std.proofs.Common.{rules}
 use Rattle.owner_queue.specs.AckOrder.{no_note}
-use Rattle.owner_queue.proofs.Keeps.{begins, first_fork}
+use Rattle.ruled_queue.proofs.Keeps.{begins, first_fork}
 use Rattle.owner_queue.proofs.acks.make.Goals as goal
 
 pub bounded_with-requires-clause-rule : goal.bounded_with-requires-clause-rule

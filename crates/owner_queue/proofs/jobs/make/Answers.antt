@@ -1,4 +1,4 @@
-use Rattle.owner_queue.proofs.Keeps.{begins, fork_rule}
+use Rattle.ruled_queue.proofs.Keeps.{begins, fork_rule}
 use Rattle.owner_queue.proofs.jobs.make.Goals as goal
 
 pub bounded_with-requires-clause-rule : goal.bounded_with-requires-clause-rule

@@ -1,7 +1,7 @@
 use Rattle.std.proofs.Common.{◌≡◌, ℕ, ◌<◌, ◌⊎◌, true, false, [], slice_get, Some, vec_len}
 use Rattle.crossbeam_channel.specs.Claims.{IsSeatAt}
 use Rattle.crossbeam_channel.specs.Ends.{sends_on}
-use Rattle.owner_queue.specs.Ends.{queue_of, known}
+use Rattle.ruled_queue.specs.Ends.{queue_of, known}
 use Rattle.owner_queue.specs.JobEnds.{outbox}
 use Rattle.owner_queue.proofs.jobs.make.Given as goal
 

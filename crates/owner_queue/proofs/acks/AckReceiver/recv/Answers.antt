@@ -1,7 +1,7 @@
 use Rattle.std.proofs.Common.{subst}
 use Rattle.owner_queue.specs.AckOrder.{AckMayFollow}
 use Rattle.owner_queue.specs.AckEnds.{AckBox}
-use Rattle.owner_queue.specs.Ends.{known}
+use Rattle.ruled_queue.specs.Ends.{known}
 use Rattle.owner_queue.proofs.OneSender.{follows_all}
 use Rattle.owner_queue.proofs.Whole.{acked_whole}
 use Rattle.owner_queue.proofs.acks.AckReceiver.recv.Goals as goal

@@ -1,8 +1,8 @@
 use Rattle.std.proofs.Common.{ap, subst}
-use Rattle.owner_queue.specs.Ends.{known}
+use Rattle.ruled_queue.specs.Ends.{known}
 use Rattle.owner_queue.specs.AckEnds.{AckBox, BeginsAcks}
 use Rattle.owner_queue.specs.AckOrder.{only_sender, AckMayFollowAt}
-use Rattle.owner_queue.proofs.Keeps.{merges, learn_rule, whole_rule}
+use Rattle.ruled_queue.proofs.Keeps.{merges, learn_rule, whole_rule}
 use Rattle.owner_queue.proofs.OneSender.{begins_with}
 use Rattle.owner_queue.proofs.acks.AckReceiver.take_in.Goals as goal
 

@@ -1,6 +1,6 @@
 use Rattle.std.proofs.Common.{ap, ◌∙◌, arith}
 use Rattle.owner_queue.specs.Messages.{sender_of}
-use Rattle.owner_queue.specs.Ends.{known}
+use Rattle.ruled_queue.specs.Ends.{known}
 use Rattle.owner_queue.proofs.Flags.{flags_after_end}
 use Rattle.owner_queue.proofs.jobs.JobReceiver.recv.Goals as goal
 

@@ -1,8 +1,8 @@
 use Rattle.std.proofs.Common.{◌≡◌, true, ap, sym, subst}
 use Rattle.owner_queue.specs.Messages.{sender_of, sent_by, has_end, MayFollow}
-use Rattle.owner_queue.specs.Ends.{known}
+use Rattle.ruled_queue.specs.Ends.{known}
 use Rattle.owner_queue.specs.JobEnds.{Outbox, Inbox}
-use Rattle.owner_queue.proofs.Keeps.{merges, learn_rule, whole_rule}
+use Rattle.ruled_queue.proofs.Keeps.{merges, learn_rule, whole_rule}
 use Rattle.owner_queue.proofs.Ended.{settles}
 use Rattle.owner_queue.proofs.jobs.JobReceiver.take_in.Goals as goal
 

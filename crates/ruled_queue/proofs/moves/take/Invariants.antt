@@ -1,8 +1,8 @@
 use Rattle.std.proofs.Common.{◌≡◌}
 use Rattle.crossbeam_channel.specs.Claims.{IsSeatAt}
 use Rattle.crossbeam_channel.specs.Ends.{receives_on}
-use Rattle.owner_queue.specs.Ends.{known}
-use Rattle.owner_queue.proofs.moves.take.Given as goal
+use Rattle.ruled_queue.specs.Ends.{known}
+use Rattle.ruled_queue.proofs.moves.take.Given as goal
 
 abbrev pub invariant-loop : goal.invariant-loop
 invariant-loop g l = IsSeatAt (receives_on l.end) l.pass × (known l.pass ≡ known l.initial.pass)

@@ -2,9 +2,8 @@
 ghost use Rattle.std.specs.Prelude.{ℕ, List};
 
 use crossbeam_channel::protocol::{Join, Lesson, Outcome, Protocol, Split};
-use partition_table::Note;
 use std::collections::LinkedList;
-use std::marker::{Brand, PhantomData};
+use std::marker::PhantomData;
 
 /// What goes through a queue whose ends agreed on terms.
 pub trait Queued<S>: Drop {
@@ -34,33 +33,23 @@ pub struct Knows<T, S> {
 pub struct InOrder;
 
 impl<S, T: Queued<S>> Protocol<T, Knows<T, S>> for InOrder {
-    ghost use Rattle.owner_queue.specs.Delivery.{Delivers, newborn};
+    ghost use Rattle.ruled_queue.specs.Delivery.{Delivers, newborn};
 
     ghost holds = { Delivers T.sender T.follows };
 
     ghost first = { newborn T.unset };
 }
 
-/// The terms of a queue.
-pub trait Terms<S> {
+/// The terms of a queue through which T goes. Whoever makes it picks them.
+pub trait Terms<T, S> {
     ghost terms: { S };
-}
-
-impl Terms<u64> for Brand {
-    ghost terms = { 0 };
-}
-
-impl Terms<Note> for Brand {
-    ghost use Rattle.owner_queue.specs.AckOrder.{no_note};
-
-    ghost terms = { no_note };
 }
 
 // A new sender is cut from the receiver.
 pub struct NewSender<J>(PhantomData<J>);
 
-impl<T, S, J: Terms<S>> Split<Knows<T, S>> for NewSender<J> {
-    ghost use Rattle.owner_queue.specs.Delivery.{with_sender, new_sender};
+impl<T, S, J: Terms<T, S>> Split<Knows<T, S>> for NewSender<J> {
+    ghost use Rattle.ruled_queue.specs.Delivery.{with_sender, new_sender};
 
     ghost left = { λ v. with_sender J.terms v };
 
@@ -71,7 +60,7 @@ impl<T, S, J: Terms<S>> Split<Knows<T, S>> for NewSender<J> {
 pub struct TakenIn;
 
 impl<S, T: Queued<S>> Join<Knows<T, S>> for TakenIn {
-    ghost use Rattle.owner_queue.specs.Delivery.{told_by, nobody};
+    ghost use Rattle.ruled_queue.specs.Delivery.{told_by, nobody};
 
     ghost both = { told_by };
 
@@ -81,7 +70,7 @@ impl<S, T: Queued<S>> Join<Knows<T, S>> for TakenIn {
 pub struct Sends;
 
 impl<T, S> Outcome<T, Knows<T, S>> for Sends {
-    ghost use Rattle.owner_queue.specs.Delivery.{HasSent};
+    ghost use Rattle.ruled_queue.specs.Delivery.{HasSent};
 
     ghost then = { HasSent };
 }
@@ -95,7 +84,7 @@ impl<T, S> Lesson<T, Knows<T, S>> for Sends {
 pub struct Takes;
 
 impl<S, T: Queued<S>> Outcome<T, Knows<T, S>> for Takes {
-    ghost use Rattle.owner_queue.specs.Delivery.{HasTaken};
+    ghost use Rattle.ruled_queue.specs.Delivery.{HasTaken};
 
     ghost then = { HasTaken T.sender T.follows };
 }
@@ -110,7 +99,7 @@ impl<T, S> Lesson<T, Knows<T, S>> for Takes {
 pub struct Whole;
 
 impl<S, T: Queued<S>> Lesson<T, Knows<T, S>> for Whole {
-    ghost use Rattle.owner_queue.specs.Delivery.{IsWhole};
+    ghost use Rattle.ruled_queue.specs.Delivery.{IsWhole};
 
     ghost fact = { IsWhole T.sender T.follows };
 }

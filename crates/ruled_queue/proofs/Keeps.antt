@@ -8,8 +8,8 @@ use mathlib.Core.Option.{some, some-ne-none}
 use lib.ListN.{get_elem?}
 use Rattle.crossbeam_channel.specs.Fifo.{Pushes, Pops, Forks, Merges, Learns}
 use Rattle.atomic_table.proofs.Lists.{at_set, at_snoc}
-use Rattle.owner_queue.specs.declared.rule.Knows.{Knows}
-use Rattle.owner_queue.specs.Delivery.{sender, receiver, newborn, nobody, with_sender, new_sender, told_by, from_sender, MayBeSent, Fits, Delivers, HasSent, HasTaken, IsWhole}
+use Rattle.ruled_queue.specs.declared.rule.Knows.{Knows}
+use Rattle.ruled_queue.specs.Delivery.{sender, receiver, newborn, nobody, with_sender, new_sender, told_by, from_sender, MayBeSent, Fits, Delivers, HasSent, HasTaken, IsWhole}
 
 -- whether two numbers are the same
 pub same_or_not : (p q : ℕ) → (p ≡ q) ⊎ (p ≢ q)

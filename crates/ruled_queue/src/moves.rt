@@ -2,8 +2,8 @@
 ghost use Rattle.std.specs.Prelude.{◌≡◌, ◌<◌, ◌≤◌, ◌++◌, [], ◌∷◌, ℕ, true, false, IfOk, slice_get, Some, vec_len};
 ghost use Rattle.crossbeam_channel.specs.Claims.{IsSeatAt};
 ghost use Rattle.crossbeam_channel.specs.Ends.{sends_on, receives_on};
-ghost use Rattle.owner_queue.specs.Delivery.{from_sender, sender, receiver};
-ghost use Rattle.owner_queue.specs.Ends.{known};
+ghost use Rattle.ruled_queue.specs.Delivery.{from_sender, sender, receiver};
+ghost use Rattle.ruled_queue.specs.Ends.{known};
 
 use crate::rule::{InOrder, Knows, Queued, Sends, Takes};
 use crossbeam_channel::{Pass, RuledReceiver, RuledSender};
@@ -13,12 +13,10 @@ use std::thread;
 /// How many messages may wait in a queue.
 pub const CAPACITY: usize = 64;
 
-// How often an end that has to wait gives its core to others before it sleeps. To wake a thread costs far more.
-const YIELDS: u32 = 8;
-
-/// Puts a message at the back.
+/// Puts a message at the back. An end that has to wait gives its core to others so many times before it sleeps.
 pub fn put<S, T: Queued<S>, R: Wait>(
     rt: &R,
+    yields: u32,
     end: &RuledSender<T, Knows<T, S>, InOrder>,
     pass: &mut Pass<T, Knows<T, S>>,
     message: T,
@@ -31,7 +29,7 @@ pub fn put<S, T: Queued<S>, R: Wait>(
     ensures view { known pass.new ≡ sender (known pass.old).number (known pass.old).terms ((known pass.old).sent ++ message ∷ []) }
 {
     let mut message = message;
-    for _yielded in 0..YIELDS {
+    for _yielded in 0..yields {
         match end.try_send_as::<Sends, R>(rt, pass, message) {
             Ok(()) => return,
             Err(error) => message = error.into_inner(),
@@ -47,9 +45,10 @@ pub fn put<S, T: Queued<S>, R: Wait>(
     unreachable!()
 }
 
-/// Takes the front.
+/// Takes the front. An end that has to wait gives its core to others so many times before it sleeps.
 pub fn take<S, T: Queued<S>, R: Wait>(
     rt: &R,
+    yields: u32,
     end: &RuledReceiver<T, Knows<T, S>, InOrder>,
     pass: &mut Pass<T, Knows<T, S>>,
 ) -> T
@@ -60,7 +59,7 @@ pub fn take<S, T: Queued<S>, R: Wait>(
     ensures sender { T.sender result < (known pass.old).number }
     ensures order { T.follows (known pass.old).terms (from_sender T.sender (T.sender result) (known pass.old).taken) result }
 {
-    for _yielded in 0..YIELDS {
+    for _yielded in 0..yields {
         if let Ok(message) = end.try_recv_as::<Takes, R>(rt, pass) {
             return message;
         }
