@@ -1,8 +1,7 @@
 -- Owners that were fed by their queues ran the round's writes.
 use Rattle.std.proofs.Common.{◌≡◌, ℕ, zero, suc, ◌<◌, ◌≤◌, List, [], ◌∷◌, ◌++◌, length, slice_get, slice_index_or, map, Some, refl, sym, ap, ◌∙◌, subst, arith, true, All}
-use Rattle.std.specs.List.{AllZip, AllByRecursion}
+use Rattle.std.specs.List.{AllByRecursion}
 use Rattle.std.specs.Vec.Iter.{into_iter_items}
-use Rattle.std.proofs.lemmas.Slice.Zip.{AllZip-long}
 use Rattle.std.specs.Prelude.{option_map}
 use Rattle.std.proofs.lemmas.List.{length-map}
 use Rattle.std.proofs.lemmas.Option.{slice_get_within, get_or_from_slice_get, slice_get-map}
@@ -17,7 +16,7 @@ use Rattle.epoch_core.specs.declared.state.OwnerState.{OwnerState}
 use Rattle.owner_queue.specs.declared.message.Message.{Message}
 use Rattle.owner_queue.specs.declared.message.Message.TheVariants as kind
 use Rattle.owner_queue.specs.Messages.{sent_by, has_end, writes_in}
-use Rattle.owner_queue.specs.Ends.{Queue}
+use Rattle.ruled_queue.specs.Ends.{Queue}
 use Rattle.owner_queue.specs.JobEnds.{Outbox, Inbox, outbox}
 use Rattle.mica_replay.specs.declared.feeder.Feed.{Feed}
 use Rattle.mica_replay.specs.declared.feeder.Feeder.{Feeder}
@@ -30,23 +29,18 @@ use Rattle.mica_replay.specs.Replies.{HasWritten, RepliesTo}
 use Rattle.mica_replay.specs.RoundJobs.{jobs_from}
 use Rattle.mica_replay.specs.RoundRun.{ReaderPart}
 use Rattle.mica_replay.specs.Shares.{HasWrites, IsShared}
-use Rattle.mica_replay.specs.Workers.{IsReadyOwner, IsFedOwner, OwnerFed, OwnerRan, OwnersRan}
+use Rattle.mica_replay.specs.Workers.{IsReadyOwner, IsFedOwner, OwnerFed, OwnersFed, OwnerRan, OwnersRan}
 use Rattle.mica_replay.proofs.JobOrder.{ready, writes_in-jobs}
 use Rattle.mica_replay.proofs.JobRuns.{ran_all}
 use Rattle.mica_replay.proofs.OwnerRuns.{writes_at_few}
 use Rattle.mica_replay.proofs.ReaderSteps.{at_within}
+use Rattle.mica_replay.proofs.RoundSteps.{at_each}
 
 all_at : {X : Type 0} (Q : X → Type 0) (xs : List X) (i : ℕ) (x : X) → All Q xs → slice_get xs i ≡ Some x → Q x
 all_at Q xs i x all at = subst Q (get_or_from_slice_get xs i x x at) (all i x (slice_get_within xs i x at))
 
 all_from : {X : Type 0} (Q : X → Type 0) (xs : List X) → ((i : ℕ) (x : X) → slice_get xs i ≡ Some x → Q x) → All Q xs
 all_from Q xs each i d less = let at = at_within xs i less in subst Q (sym (get_or_from_slice_get xs i at.0 d at.1)) (each i at.0 at.1)
-
-zip_at : {X : Type 0} (Q : X → X → Type 0) (xs ys : List X) (i : ℕ) (x y : X) → AllZip Q xs ys → slice_get xs i ≡ Some x → slice_get ys i ≡ Some y → Q x y
-zip_at Q [] ys i x y zip is_x is_y = absurd (cc)
-zip_at Q (a ∷ xs) [] i x y zip is_x is_y = absurd zip
-zip_at Q (a ∷ xs) (b ∷ ys) zero x y zip is_x is_y = let e : a ≡ x = cc in let f : b ≡ y = cc in subst (λ (z : _ × _). Q z.0 z.1) (λ i. (e i, f i)) zip.0
-zip_at Q (a ∷ xs) (b ∷ ys) (suc i) x y zip is_x is_y = zip_at Q xs ys i x y zip.1 is_x is_y
 
 placed_by : {X : Type 0} (Q : X → X → Type 0) (xs ys : List X) → length ys ≡ length xs → ((i : ℕ) (x y : X) → slice_get xs i ≡ Some x → slice_get ys i ≡ Some y → Q x y)
     → (i : ℕ) (d : X) → i < length xs → Q (slice_index_or xs i d) (slice_index_or ys i d)
@@ -114,9 +108,9 @@ module _ {P : Type 0} {owner : P → OwnerState} {home : P → TableId} {options
       ))
       r.in_hand
 
-  module _ (ran : List (OwnerWork P)) (senders : List Outbox) (zip : AllZip (OwnerFed owner home) fed ran) (has_fed : HasFed f senders) where
+  module _ (ran : List (OwnerWork P)) (senders : List Outbox) (zip : OwnersFed owner home fed ran) (has_fed : HasFed f senders) where
     ran_many : length ran ≡ length olds
-    ran_many = AllZip-long (OwnerFed owner home) fed ran zip ∙ r.queues.many
+    ran_many = zip.0 ∙ r.queues.many
 
     -- what the sender of an owner's queue sent in all
     record Sent (p : ℕ) (ran_owner : OwnerWork P) (sender : Outbox) : Type 0 where
@@ -138,7 +132,7 @@ module _ {P : Type 0} {owner : P → OwnerState} {home : P → TableId} {options
           new = new.0;
           first = first;
           place = place;
-          fed_owner = zip_at (OwnerFed owner home) fed ran p new.0 v zip new.1 is_v;
+          fed_owner = at_each (OwnerFed owner home) fed ran zip.0 zip.1 p new.0 v new.1 is_v;
           sent = has_fed.each p first sender it.1 is_sender
               ∙ ap (λ (l : List Feed). outbox first.queue first.number first.jobs (jobs_for p l ++ kind.End first.number ∷ [])) r.in_hand
               ∙ ap (λ (l : List Message). outbox first.queue first.number first.jobs (l ++ kind.End first.number ∷ [])) (r.made p)

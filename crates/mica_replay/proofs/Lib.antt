@@ -10,11 +10,9 @@ pub mod RoundEnds
 pub mod LineShares
 pub mod RoundPrints
 pub mod OneRound
-pub mod WorkerParts
 pub mod JobRuns
 pub mod Feeders
 pub mod RoundJobs
 pub mod JobOrder
 pub mod QueueSteps
 pub mod FedRound
-pub mod TextParts

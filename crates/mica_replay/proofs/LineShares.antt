@@ -1,5 +1,6 @@
 -- One line more of a round that is shared out.
 use Rattle.std.proofs.Common.{◌≡◌, ℕ, zero, suc, ◌+◌, ◌<◌, ◌≤◌, ◌^◌, ◌%◌, ◌==◌, ◌⊎◌, inl, inr, List, [], ◌∷◌, ◌++◌, length, take, get_or, slice_get, slice_set, Option, Some, None, refl, sym, ap, ◌∙◌, subst, arith, cond, Bool, true, false, eq-eqb, ne_eqb, append-nil, All, IsSomeAnd, IsSome}
+use Rattle.std.specs.Prelude.{option_map}
 use Rattle.std.specs.List.{cons_option}
 use Rattle.std.proofs.lemmas.List.{length-set}
 use Rattle.std.proofs.lemmas.List.Elements.{filter_map-append}
@@ -8,11 +9,12 @@ use Rattle.std.proofs.lemmas.Option.{slice_get_within}
 use Rattle.mica_model.specs.declared.options.Options.{Options}
 use Rattle.mica_model.specs.declared.write.Write.{Write}
 use Rattle.mica_trace.specs.declared.line.TraceOp.{TraceOp}
-use Rattle.mica_trace.specs.declared.line.TraceOp.TheVariants.{Put, Del, Get, Sync}
-use Rattle.mica_model.specs.declared.write.Op.TheVariants.{Put as PutOp, Del as DelOp}
+use Rattle.mica_trace.specs.declared.line.TraceOp.TheVariants.{Put, Add, Del, Touch, Get, Sync}
+use Rattle.mica_model.specs.declared.write.Op.{Op}
+use Rattle.mica_model.specs.declared.write.Op.TheVariants.{Put as PutOp, Add as AddOp, Touch as TouchOp, Del as DelOp}
 use Rattle.mica_model.specs.Write.{write_of}
 use Rattle.mica_trace.specs.declared.line.TraceLine.{TraceLine}
-use Rattle.mica_trace.specs.Rounds.{partition_in, is_in_partition, write_by, write_in, writes_of, is_get_op}
+use Rattle.mica_trace.specs.Rounds.{partition_in, is_in_partition, op_of, write_by, write_in, writes_of, is_get_op}
 use Rattle.mica_trace.specs.RoundReport.{is_get, gets_in, gets_of}
 use Rattle.mica_replay.specs.LineNumbers.{write_at, writes_at, lines_at, NamesWrite, NamesGet}
 use Rattle.mica_replay.specs.Lending.{OwnerPart}
@@ -67,36 +69,41 @@ gets_none options trace g reader_parts without = record {
 pub sync_no_write : (op : TraceOp) (key value : List ℕ) → op ≡ Sync → write_by op key value ≡ None
 sync_no_write Sync key value is = refl
 sync_no_write Put key value is = absurd (cc)
+sync_no_write Add key value is = absurd (cc)
 sync_no_write Del key value is = absurd (cc)
+sync_no_write Touch key value is = absurd (cc)
 sync_no_write Get key value is = absurd (cc)
 
 pub get_no_write : (op : TraceOp) (key value : List ℕ) → op ≡ Get → write_by op key value ≡ None
 get_no_write Get key value is = refl
 get_no_write Put key value is = absurd (cc)
+get_no_write Add key value is = absurd (cc)
 get_no_write Del key value is = absurd (cc)
+get_no_write Touch key value is = absurd (cc)
 get_no_write Sync key value is = absurd (cc)
 
 pub write_no_get : (op : TraceOp) (key value : List ℕ) (write : Write) → write_by op key value ≡ Some write → is_get_op op ≡ false
 write_no_get Put key value write is = refl
+write_no_get Add key value write is = refl
 write_no_get Del key value write is = refl
+write_no_get Touch key value write is = refl
 write_no_get Get key value write is = absurd (cc)
 write_no_get Sync key value write is = absurd (cc)
 
-put_is_write : (op : TraceOp) (key value : List ℕ) → op ≡ Put → (write : Write) × (write_by op key value ≡ Some write)
-put_is_write Put key value is = (write_of PutOp key value, refl)
-put_is_write Del key value is = absurd (cc)
-put_is_write Get key value is = absurd (cc)
-put_is_write Sync key value is = absurd (cc)
+-- an operation that changes its key
+abbrev pub IsWriteOp : TraceOp → Type 0
+IsWriteOp op = (op ≡ Put) ⊎ ((op ≡ Add) ⊎ ((op ≡ Del) ⊎ (op ≡ Touch)))
 
-del_is_write : (op : TraceOp) (key value : List ℕ) → op ≡ Del → (write : Write) × (write_by op key value ≡ Some write)
-del_is_write Del key value is = (write_of DelOp key value, refl)
-del_is_write Put key value is = absurd (cc)
-del_is_write Get key value is = absurd (cc)
-del_is_write Sync key value is = absurd (cc)
+some_op : (op : TraceOp) → IsWriteOp op → (does : Op) × (op_of op ≡ Some does)
+some_op op (inl is) = (PutOp, ap op_of is)
+some_op op (inr (inl is)) = (AddOp, ap op_of is)
+some_op op (inr (inr (inl is))) = (DelOp, ap op_of is)
+some_op op (inr (inr (inr is))) = (TouchOp, ap op_of is)
 
-pub either_is_write : (op : TraceOp) (key value : List ℕ) → (op ≡ Put) ⊎ (op ≡ Del) → (write : Write) × (write_by op key value ≡ Some write)
-either_is_write op key value (inl is) = put_is_write op key value is
-either_is_write op key value (inr is) = del_is_write op key value is
+pub op_is_write : (op : TraceOp) (key value : List ℕ) → IsWriteOp op → (write : Write) × (write_by op key value ≡ Some write)
+op_is_write op key value is =
+    let some = some_op op is in
+    (write_of some.0 key value, ap (option_map (λ does. write_of does key value)) some.1)
 
 module _ (options : Options) (trace : List TraceLine) (lines : List TraceLine) (line : TraceLine) where
   writes_push : (p : ℕ) → writes_of options p (lines ++ line ∷ []) ≡ writes_of options p lines ++ cons_option (write_in options p line) []

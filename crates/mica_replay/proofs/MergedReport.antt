@@ -13,7 +13,7 @@ use Rattle.mica_model.specs.declared.write.Outcome.{Outcome}
 use Rattle.mica_model.specs.History.{History, IsPrefix}
 use Rattle.mica_model.specs.Run.{RunStep, IsRunFrom, history_of}
 use Rattle.mica_trace.specs.declared.line.TraceOp.{TraceOp}
-use Rattle.mica_trace.specs.declared.line.TraceOp.TheVariants.{Put, Del, Get, Sync}
+use Rattle.mica_trace.specs.declared.line.TraceOp.TheVariants.{Put, Add, Del, Touch, Get, Sync}
 use Rattle.mica_trace.specs.declared.line.TraceLine.{TraceLine}
 use Rattle.mica_trace.specs.declared.report.Line.{Line}
 use Rattle.mica_trace.specs.declared.report.Line.TheVariants.{Wrote, Hit, Miss, Sync as SyncLine}
@@ -46,7 +46,9 @@ data Kind (line : TraceLine) : Type 0 where
 
 kind_of : (op : TraceOp) (key value : List ℕ) → Kind (record { op = op; key = key; value = value })
 kind_of Put key value = is_written _ refl
+kind_of Add key value = is_written _ refl
 kind_of Del key value = is_written _ refl
+kind_of Touch key value = is_written _ refl
 kind_of Get key value = is_got refl
 kind_of Sync key value = is_synced refl
 
@@ -56,7 +58,9 @@ sync_stands Sync (Wrote op outcome s) is kind = absurd kind
 sync_stands Sync (Hit s v) is kind = absurd kind
 sync_stands Sync (Miss s) is kind = absurd kind
 sync_stands Put r is kind = absurd (cc)
+sync_stands Add r is kind = absurd (cc)
 sync_stands Del r is kind = absurd (cc)
+sync_stands Touch r is kind = absurd (cc)
 sync_stands Get r is kind = absurd (cc)
 
 pub kind_at : (lines : List TraceLine) (report : List Line) (n : ℕ) (line : TraceLine) (r : Line) → AllZip HasKind lines report → slice_get lines n ≡ Some line → slice_get report n ≡ Some r → HasKind line r

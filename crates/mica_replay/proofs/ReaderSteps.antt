@@ -11,7 +11,7 @@ use Rattle.mica_model.specs.declared.options.Options.{Options}
 use Rattle.mica_model.specs.Options.{IsValid}
 use Rattle.mica_model.specs.History.{History, IsPrefix}
 use Rattle.mica_trace.specs.declared.line.TraceOp.{TraceOp}
-use Rattle.mica_trace.specs.declared.line.TraceOp.TheVariants.{Put, Del, Get, Sync}
+use Rattle.mica_trace.specs.declared.line.TraceOp.TheVariants.{Put, Add, Del, Touch, Get, Sync}
 use Rattle.mica_trace.specs.declared.line.TraceLine.{TraceLine}
 use Rattle.mica_trace.specs.declared.report.Line.{Line}
 use Rattle.mica_trace.specs.TraceGrammar.{HasFields, IsTraceLine}
@@ -49,7 +49,9 @@ read_kind Get (Hit stamp) buffer is = tt
 read_kind Get (Miss stamp) buffer is = tt
 read_kind Get (Again first last) buffer is = tt
 read_kind Put got buffer is = absurd (cc)
+read_kind Add got buffer is = absurd (cc)
 read_kind Del got buffer is = absurd (cc)
+read_kind Touch got buffer is = absurd (cc)
 read_kind Sync got buffer is = absurd (cc)
 
 pub read_not_again : (old new : ReaderState) (key : List ℕ) (got : Got) (buffer : List ℕ) → IsRead old key got buffer new → IsNotAgain got
@@ -180,7 +182,9 @@ seen_one olds mids p mid new so_far at more = record {
 pub key_of_get : (op : TraceOp) (key value : List ℕ) → op ≡ Get → HasFields op key value → KeyFits key
 key_of_get Get key value is fields = fields.0.0
 key_of_get Put key value is fields = absurd (cc)
+key_of_get Add key value is fields = absurd (cc)
 key_of_get Del key value is fields = absurd (cc)
+key_of_get Touch key value is fields = absurd (cc)
 key_of_get Sync key value is fields = absurd (cc)
 
 pub each_at : {X : Type 0} (P : X → Type 0) (xs : List X) (n : ℕ) (x : X) → AllByRecursion P xs → slice_get xs n ≡ Some x → P x

@@ -10,17 +10,16 @@ use Rattle.mica_words.specs.Hash.{fnv1a, hash_partition}
 use Rattle.mica_words.proofs.Hashes.{partition_of_hash, partition_of-below}
 use Rattle.mica_model.specs.declared.options.Options.{Options}
 use Rattle.mica_model.specs.declared.write.Op.{Op}
-use Rattle.mica_model.specs.declared.write.Op.TheVariants.{Put as PutOp, Del as DelOp}
 use Rattle.mica_model.specs.declared.write.Outcome.{Outcome}
 use Rattle.mica_model.specs.declared.write.Write.{Write}
 use Rattle.mica_model.specs.Options.{IsValid}
 use Rattle.mica_trace.specs.declared.line.TraceLine.{TraceLine}
 use Rattle.mica_trace.specs.declared.line.TraceOp.{TraceOp}
-use Rattle.mica_trace.specs.declared.line.TraceOp.TheVariants.{Put, Del, Get, Sync}
+use Rattle.mica_trace.specs.declared.line.TraceOp.TheVariants.{Put, Add, Del, Touch, Get, Sync}
 use Rattle.mica_trace.specs.declared.report.Line.{Line}
 use Rattle.mica_trace.specs.declared.report.Line.TheVariants.{Wrote, Sync as SyncLine}
-use Rattle.mica_trace.specs.LawfulReport.{IsKindOf}
-use Rattle.mica_trace.specs.Rounds.{is_get_op, is_in_partition, partition_in, write_by, write_in, writes_of}
+use Rattle.mica_trace.specs.LawfulReport.{IsReplyTo, IsKindOf}
+use Rattle.mica_trace.specs.Rounds.{is_get_op, is_in_partition, partition_in, op_of, write_by, write_in, writes_of}
 use Rattle.mica_trace.specs.RoundReport.{HasKind, is_get, gets_in, gets_of}
 use Rattle.mica_trace.proofs.ListParts.{length_zip}
 use Rattle.owner_queue.proofs.Lists.{set_cases}
@@ -28,7 +27,7 @@ use Rattle.mica_replay.specs.Lending.{OwnerPart}
 use Rattle.mica_replay.specs.Merged.{AreEnough, HasMerged, IsMerged}
 use Rattle.mica_replay.specs.Replies.{Reply}
 use Rattle.mica_replay.specs.RoundRun.{replies_of}
-use Rattle.mica_replay.proofs.LineShares.{gets_push, sync_no_write, get_no_write, write_no_get, either_is_write, take_most}
+use Rattle.mica_replay.proofs.LineShares.{IsWriteOp, gets_push, sync_no_write, get_no_write, write_no_get, op_is_write, take_most}
 use Rattle.mica_replay.proofs.MergedReport.{AreEven, kind_at, merges_sync, evens_sync, merges_write, evens_write, merges_get, evens_get}
 use Rattle.mica_replay.proofs.OwnerRuns.{filter_map_shorter}
 use Rattle.mica_replay.proofs.ReaderSteps.{at_within}
@@ -80,18 +79,15 @@ was : {p q : ℕ} {A B : Type 0} → (p ≢ q) → ((p ≡ q) × A) ⊎ ((p ≢ 
 was not (inl same) = absurd (not same.0)
 was not (inr other) = other.1
 
-wrote_kind : (op : TraceOp) (own : Op) → (op ≡ Put) ⊎ (op ≡ Del) → (op ≡ Put → own ≡ PutOp) × (op ≡ Del → own ≡ DelOp) → (o : Outcome) (s : ℕ) → IsKindOf op (Wrote own o s)
-wrote_kind Put own is by o s = by.0 refl
-wrote_kind Del own is by o s = by.1 refl
-wrote_kind Get own (inl is) by o s = absurd (cc)
-wrote_kind Get own (inr is) by o s = absurd (cc)
-wrote_kind Sync own (inl is) by o s = absurd (cc)
-wrote_kind Sync own (inr is) by o s = absurd (cc)
+wrote_kind : (op : TraceOp) (own : Op) → op_of op ≡ Some own → (o : Outcome) (s : ℕ) → IsKindOf op (Wrote own o s)
+wrote_kind op own is o s = subst (λ does. IsReplyTo does own) (sym is) refl
 
 sync_kind : (op : TraceOp) → op ≡ Sync → IsKindOf op SyncLine
 sync_kind Sync is = tt
 sync_kind Put is = absurd (cc)
+sync_kind Add is = absurd (cc)
 sync_kind Del is = absurd (cc)
+sync_kind Touch is = absurd (cc)
 sync_kind Get is = absurd (cc)
 
 -- what is printed for the first lines, and what is left of the replies, by how many were taken, and of the readers' lines
@@ -119,7 +115,7 @@ pub record HasPrinted (options : Options) (first : ℕ) (lines : List TraceLine)
 
 -- the owner of a write's key, how many of its replies are printed, and all of them
 pub record IsNext (options : Options) (line : TraceLine) (dones : List (List Reply)) (cursors : List ℕ) (p n : ℕ) (all : List Reply) : Type 0 where
-  pub op : (line.op ≡ Put) ⊎ (line.op ≡ Del)
+  pub op : IsWriteOp line.op
   pub here : p ≡ partition_in options line
   pub owner : slice_get dones p ≡ Some all
   pub cursor : slice_get cursors p ≡ Some n
@@ -286,7 +282,7 @@ module _ {W X : Type 0} {f : W → OwnerPart} {h : X → List Line} (l : AtLine 
       })
 
   -- a write, of which the owner of its key has the next reply
-  pub next_of : (l.line.op ≡ Put) ⊎ (l.line.op ≡ Del) → (bytes : List ℕ) (hash p n : ℕ) (owner : W) → bytes ≡ l.line.key → hash ≡ fnv1a bytes → p ≡ hash_partition hash l.options.partitions
+  pub next_of : IsWriteOp l.line.op → (bytes : List ℕ) (hash p n : ℕ) (owner : W) → bytes ≡ l.line.key → hash ≡ fnv1a bytes → p ≡ hash_partition hash l.options.partitions
       → owner ≡ get_or l.owners p owner → n ≡ get_or l.cursors p n → IsNext l.options l.line dones l.cursors p n (replies_of (f (get_or l.owners p owner)))
   next_of op bytes hash p n owner bytes_are hash_is p_is owner_is n_is =
       let here : p ≡ partition_in l.options l.line
@@ -306,7 +302,7 @@ module _ {W X : Type 0} {f : W → OwnerPart} {h : X → List Line} (l : AtLine 
 
   module _ {p n : ℕ} {all : List Reply} (next : IsNext l.options l.line dones l.cursors p n all) where
     write : (w : Write) × (write_by l.line.op l.line.key l.line.value ≡ Some w)
-    write = either_is_write l.line.op l.line.key l.line.value next.op
+    write = op_is_write l.line.op l.line.key l.line.value next.op
 
     done_at : (d : List Reply) × (slice_get so_far.done p ≡ Some d) × (d ≡ take n all) × (length d ≡ n)
     done_at =
@@ -341,13 +337,13 @@ module _ {W X : Type 0} {f : W → OwnerPart} {h : X → List Line} (l : AtLine 
         let less = l.less in
         (can_reply, omega arith)
 
-    pub printed_write : (op : Op) (outcome : Outcome) (stamp : ℕ) → (l.line.op ≡ Put → op ≡ PutOp) × (l.line.op ≡ Del → op ≡ DelOp) → slice_get all n ≡ Some (outcome, stamp)
+    pub printed_write : (op : Op) (outcome : Outcome) (stamp : ℕ) → op_of l.line.op ≡ Some op → slice_get all n ≡ Some (outcome, stamp)
         → Then (l.report ++ Wrote op outcome stamp ∷ []) (slice_set l.cursors p (n + 1)) l.found l.gets
     printed_write op outcome stamp is reply =
         let d = done_at in
         let r = Wrote op outcome stamp in
         let here = partition_in l.options l.line in
-        let kind = wrote_kind l.line.op op next.op is outcome stamp in
+        let kind = wrote_kind l.line.op op is outcome stamp in
         let no_get = write_no_get l.line.op l.line.key l.line.value write.0 write.1 in
         let at_done : slice_get so_far.done here ≡ Some d.0 = subst (λ (m : ℕ). slice_get so_far.done m ≡ Some d.0) next.here d.1 in
         let done_here : (q : ℕ) (x : List Reply) → slice_get (slice_set so_far.done here (d.0 ++ (outcome, stamp) ∷ [])) q ≡ Some x

@@ -14,4 +14,3 @@ pub mod JobReplies
 pub mod Feeds
 pub mod RoundJobs
 pub mod Queues
-pub mod TextParts

@@ -1,5 +1,5 @@
 -- What the workers of a round have in hand, and what each makes of it.
-use Rattle.std.specs.Prelude.{◌≡◌, ℕ, ◌<◌, ◌≤◌, ◌^◌, List, [], ◌∷◌, ◌++◌, length, true, map, All, slice_index_or, IfSome}
+use Rattle.std.specs.Prelude.{◌≡◌, ℕ, ◌<◌, ◌≤◌, ◌^◌, List, [], length, true, map, All, slice_index_or, IfSome}
 use Rattle.atomic_table.specs.Seated.{TableId}
 use Rattle.mica_model.specs.declared.options.Options.{Options}
 use Rattle.mica_trace.specs.declared.line.TraceLine.{TraceLine}
@@ -7,16 +7,11 @@ use Rattle.epoch_core.specs.declared.state.OwnerState.{OwnerState}
 use Rattle.epoch_core.specs.declared.reader.ReaderState.{ReaderState}
 use Rattle.mica_replay.specs.declared.worker.OwnerWork.{OwnerWork}
 use Rattle.mica_replay.specs.declared.worker.ReaderWork.{ReaderWork}
-use Rattle.mica_replay.specs.declared.worker.Worker.{Worker}
-use Rattle.mica_replay.specs.declared.worker.Worker.TheVariants.{Reader, Owner, Feeder as Feed}
 use Rattle.mica_replay.specs.LineNumbers.{writes_at, lines_at, NamesWrite, NamesGet}
 use Rattle.mica_replay.specs.ReaderGets.{AreSeatsOf, HaveRead}
 use Rattle.mica_replay.specs.Replies.{HasWritten}
-use Rattle.mica_replay.specs.declared.feeder.Feeder.{Feeder}
-use Rattle.mica_replay.specs.Feeds.{IsReadyFeeder, HasFed}
 use Rattle.mica_replay.specs.JobReplies.{RepliesToJobs}
 use Rattle.owner_queue.specs.Messages.{has_end}
-use Rattle.owner_queue.specs.JobEnds.{Outbox}
 
 module _ {P : Type 0} where
   -- an owner with lines to write, and room for the replies
@@ -39,6 +34,9 @@ module _ {P : Type 0} where
       pub replied : RepliesToJobs (owner w.part) (owner v.part) w.jobs v.jobs w.done v.done
       pub ended : has_end 0 v.jobs.taken ≡ true
       pub at_home : home v.part ≡ home w.part
+
+    abbrev pub OwnersFed : List (OwnerWork P) → List (OwnerWork P) → Type 0
+    OwnersFed xs ys = (length ys ≡ length xs) × ((i : ℕ) (d : OwnerWork P) → i < length xs → OwnerFed (slice_index_or xs i d) (slice_index_or ys i d))
 
   module _ (owner : P → OwnerState) (home : P → TableId) (trace : List TraceLine) where
     pub record OwnerRan (w v : OwnerWork P) : Type 0 where
@@ -66,45 +64,3 @@ module _ {R : Type 0} where
 
     abbrev pub ReadersRan : List (ReaderWork R) → List (ReaderWork R) → Type 0
     ReadersRan xs ys = (length ys ≡ length xs) × ((i : ℕ) (d : ReaderWork R) → i < length xs → ReaderRan (slice_index_or xs i d) (slice_index_or ys i d))
-
-module _ {P R : Type 0} where
-  abbrev pub IsReadyWorker : (R → ReaderState) → List TraceLine → Options → Worker P R → Type 0
-  IsReadyWorker reader trace options (Reader r) = IsReadyReader reader trace options r
-  IsReadyWorker reader trace options (Owner w) = IsFedOwner w
-  IsReadyWorker reader trace options (Feed f) = IsReadyFeeder f
-
-  module _ (owner : P → OwnerState) (home : P → TableId) (reader : R → ReaderState) (seat_home : R → TableId) (trace : List TraceLine) (options : Options) where
-    abbrev pub WorkerRan : Worker P R → Worker P R → Type 0
-    WorkerRan (Reader r) (Reader t) = ReaderRan reader seat_home trace options r t
-    WorkerRan (Owner w) (Owner v) = OwnerFed owner home w v
-    WorkerRan (Feed f) (Feed h) = HasFed f h.senders.items
-    WorkerRan _ _ = ⊥
-
-    abbrev pub WorkersRan : List (Worker P R) → List (Worker P R) → Type 0
-    WorkersRan xs ys = (length ys ≡ length xs) × ((i : ℕ) (d : Worker P R) → i < length xs → WorkerRan (slice_index_or xs i d) (slice_index_or ys i d))
-
-module _ {P R : Type 0} where
-  -- the readers among the workers, in order
-  abbrev pub readers_in : List (Worker P R) → List (ReaderWork R)
-  readers_in [] = []
-  readers_in (Reader r ∷ ws) = r ∷ readers_in ws
-  readers_in (Owner w ∷ ws) = readers_in ws
-  readers_in (Feed f ∷ ws) = readers_in ws
-
-  -- the owners among them
-  abbrev pub owners_in : List (Worker P R) → List (OwnerWork P)
-  owners_in [] = []
-  owners_in (Reader r ∷ ws) = owners_in ws
-  owners_in (Owner w ∷ ws) = w ∷ owners_in ws
-  owners_in (Feed f ∷ ws) = owners_in ws
-
-  -- the senders of the last feeder among them, or these where there is none
-  abbrev pub senders_in : List Outbox → List (Worker P R) → List Outbox
-  senders_in senders [] = senders
-  senders_in senders (Reader r ∷ ws) = senders_in senders ws
-  senders_in senders (Owner w ∷ ws) = senders_in senders ws
-  senders_in senders (Feed f ∷ ws) = senders_in f.senders.items ws
-
-  -- all workers of a round
-  abbrev pub all_workers : List (ReaderWork R) → List (OwnerWork P) → Feeder → List (Worker P R)
-  all_workers readers owners feeder = (map Reader readers ++ map Owner owners) ++ Feed feeder ∷ []

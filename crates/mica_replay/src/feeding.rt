@@ -48,11 +48,20 @@ pub(crate) fn run_fed<
 {
     let feeds = make_feeds(alloc, options, &trace.lines()[from as usize..to as usize])?;
     let senders = open_queues(alloc, owners)?;
-    let feeder = Feeder {
+    let mut feeder = Feeder {
         senders,
         feeds: feeds.into_iter(),
     };
-    let senders = run_all(rt, alloc, trace, options, gate, feeder, owners, readers)?;
-    take_senders_in(owners, senders);
+    run_all(
+        rt,
+        alloc,
+        trace,
+        options,
+        gate,
+        &mut feeder,
+        owners,
+        readers,
+    );
+    take_senders_in(owners, feeder.senders);
     Ok(())
 }

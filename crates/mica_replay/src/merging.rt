@@ -2,6 +2,7 @@
 ghost use Rattle.std.specs.Prelude.{◌≡◌, ◌<◌, ◌+◌, ◌⊎◌, ◌∷◌, ◌^◌, IfOk, OnOk, Some, map, length, slice_get};
 ghost use Rattle.std.specs.Vec.Iter.{into_iter_items};
 ghost use Rattle.mica_model.specs.Options.{IsValid};
+ghost use Rattle.mica_trace.specs.Rounds.{op_of};
 ghost use Rattle.mica_replay.specs.Lending.{owner_part};
 ghost use Rattle.mica_replay.specs.RoundRun.{reader_part, replies_of, found_of};
 ghost use Rattle.mica_replay.specs.Shares.{Each, KeepsGets};
@@ -66,12 +67,14 @@ fn next_line(lines: &mut IntoIter<Line, Global>) -> Line
 
 // The operation of a write.
 fn write_op(op: TraceOp) -> Op
-    requires { (op ≡ TraceOp.Put) ⊎ (op ≡ TraceOp.Del) }
-    ensures { (op ≡ TraceOp.Put → result ≡ Op.Put) × (op ≡ TraceOp.Del → result ≡ Op.Del) }
+    requires { (op ≡ TraceOp.Put) ⊎ ((op ≡ TraceOp.Add) ⊎ ((op ≡ TraceOp.Del) ⊎ (op ≡ TraceOp.Touch))) }
+    ensures { op_of op ≡ Some result }
 {
     match op {
         TraceOp::Put => Op::Put,
+        TraceOp::Add => Op::Add,
         TraceOp::Del => Op::Del,
+        TraceOp::Touch => Op::Touch,
         TraceOp::Get | TraceOp::Sync => unreachable!(),
     }
 }
@@ -96,7 +99,7 @@ pub(crate) fn print_round<P: Partition>(
     let mut gets = first;
     for line in lines {
         let printed = match line.op {
-            TraceOp::Put | TraceOp::Del => {
+            TraceOp::Put | TraceOp::Add | TraceOp::Del | TraceOp::Touch => {
                 let partition = partition_of(
                     key_hash(line.key.bytes()),
                     options.partitions,

@@ -1,21 +1,17 @@
 //! A replay: a trace's report, written as a whole.
-ghost use Rattle.std.specs.Prelude.{◌≡◌, ◌≤◌, ◌<◌, ◌*◌, ℕ, [], length, take, IfSome, IfOk, OnOk, OnErr, IsErrOf};
-ghost use Rattle.std.specs.List.{AllByRecursion};
-ghost use Rattle.std.specs.Io.KnownBytes.{Appends};
+ghost use Rattle.std.specs.Prelude.{◌≡◌, ◌≤◌, [], OnOk, IsErrOf};
 ghost use Rattle.mica_io.specs.Faults.{Rose};
 ghost use Rattle.mica_model.specs.Options.{IsValid};
-ghost use Rattle.mica_trace.specs.ReportGrammar.{report_text, IsReportLine};
 ghost use Rattle.mica_replay.specs.Printed.{PrintsReport, PrintsPart};
-ghost use Rattle.mica_replay.specs.TextParts.{part_of, joined, AreTexts};
 
 use crate::run_trace;
-use mica_io::{Bytes, Failed, Gate, NoMemory, Sink, write_all};
+use mica_io::{Failed, Gate, NoMemory, Sink};
 use mica_model::Options;
-use mica_trace::{Line, Report, Trace, put_report_line};
+use mica_trace::{Trace, texts_of, write_texts};
 use partition_table::Tables;
 use std::alloc::Global;
 use std::sync::Wait;
-use std::thread::{Threads, for_each_mut};
+use std::thread::Threads;
 
 /// Why a replay did not end.
 #[derive(Clone, Copy, Debug, PartialEq, Eq)]
@@ -45,119 +41,6 @@ impl From<Failed> for ReplayFault {
     }
 }
 
-// The most bytes of a line without a value, with its line feed.
-const SHORT_LINE: usize = "put 18446744073709551615 full block\n".len();
-
-// The least lines of a part but the last: the text of fewer is not worth a thread of its own.
-const PART_LINES: usize = 4_096;
-
-// Room for the text of the lines, so that it never grows.
-fn room_for(lines: &[Line]) -> usize {
-    let mut room = 0usize;
-    for line in lines {
-        let value_len = match line {
-            Line::Hit { value, .. } => value.bytes().len(),
-            Line::Wrote { .. } | Line::Miss { .. } | Line::Sync => 0,
-        };
-        room = room.saturating_add(value_len).saturating_add(SHORT_LINE);
-    }
-    room
-}
-
-// The text of the lines.
-fn text_of(alloc: Global, lines: &[Line]) -> Result<Vec<u8>, NoMemory>
-    requires { AllByRecursion IsReportLine lines.now }
-    ensures { IfOk result (λ text. text.items ≡ report_text lines.now) }
-{
-    let mut text = Vec::with_capacity(alloc, room_for(lines))?;
-    for line in lines {
-        put_report_line(line, &mut text)?;
-    }
-    Ok(text)
-}
-
-// The text of the part of this number, where each has so many lines and the last one those that are left. None at
-// want of memory.
-fn text_of_part(alloc: Global, report: &Report, part: usize, size: usize) -> Option<Bytes>
-    requires lines { AllByRecursion IsReportLine report.now }
-    requires within { part * size ≤ length report.now }
-    ensures { IfSome result (λ text. text ≡ report_text (part_of size report.now part)) }
-{
-    let rest = &report.lines()[part * size..];
-    match text_of(alloc, &rest[..size.min(rest.len())]) {
-        Ok(text) => Some(text.into()),
-        Err(_) => None,
-    }
-}
-
-// The texts of the report's parts, side by side in threads: None in the place of one for which there was no memory.
-fn make_texts<W: Threads + Wait + Sync>(
-    rt: &W,
-    alloc: Global,
-    report: &Report,
-    size: usize,
-    threads: usize,
-) -> Result<Vec<Option<Bytes>>, NoMemory>
-    requires some { (0 < size) × (0 < threads) }
-    requires lines { AllByRecursion IsReportLine report.now }
-    ensures many { IfOk result (λ texts. length report.now ≤ length texts.items * size) }
-    ensures made { IfOk result (λ texts. AreTexts size report.now texts.items) }
-{
-    let parts = report.lines().len().div_ceil(size);
-    let mut texts = Vec::with_capacity(alloc, parts)?;
-    for _ in 0..parts {
-        texts.push_reserved(None);
-    }
-    for_each_mut(
-        rt,
-        texts.as_mut_slice(),
-        threads,
-        &|part, text|
-            requires { AllByRecursion IsReportLine report.now × (part * size ≤ length report.now) }
-            ensures { IfSome text.exit.now (λ t. t ≡ report_text (part_of size report.entry.now part)) }
-        {
-            *text = text_of_part(alloc, report, part, size);
-        },
-    );
-    Ok(texts)
-}
-
-// The report's text in parts of so many lines.
-fn texts_of<W: Threads + Wait + Sync>(
-    rt: &W,
-    alloc: Global,
-    report: &Report,
-    size: usize,
-    threads: usize,
-) -> Result<Vec<Bytes>, NoMemory>
-    requires some { (0 < size) × (0 < threads) }
-    requires lines { AllByRecursion IsReportLine report.now }
-    ensures { IfOk result (λ texts. joined texts.items ≡ report_text report.now) }
-{
-    let mut texts = Vec::new(alloc);
-    for made in make_texts(rt, alloc, report, size, threads)? {
-        match made {
-            Some(text) => texts.push(text)?,
-            None => return Err(NoMemory),
-        }
-    }
-    Ok(texts)
-}
-
-// Writes the texts, one after another.
-fn write_texts<K: Sink>(sink: &mut K, texts: &[Bytes]) -> Result<(), Failed>
-    ensures ok { OnOk result (Appends (K.taken sink.old) (K.taken sink.new) (joined texts.now)) }
-    ensures prefix { OnErr result ((n : ℕ) × (n < length (joined texts.now))
-        × Appends (K.taken sink.old) (K.taken sink.new) (take n (joined texts.now))) }
-    ensures cause { OnErr result (Rose (K.faults sink.old) (K.faults sink.new)) }
-    ensures never_fall { K.faults sink.old ≤ K.faults sink.new }
-{
-    for text in texts {
-        write_all(sink, text.bytes())?;
-    }
-    Ok(())
-}
-
 /// Writes a lawful report of the trace, and keeps the owners' seats. Its whole text is made before the first byte
 /// is written.
 pub fn replay<W: Threads + Wait + Sync, K: Sink, G: Gate>(
@@ -179,9 +62,7 @@ pub fn replay<W: Threads + Wait + Sync, K: Sink, G: Gate>(
     ensures never_fall { K.faults sink.old ≤ K.faults sink.new }
 {
     let report = run_trace(rt, alloc, options, trace, gate, tables)?;
-    let threads = options.readers as usize;
-    let size = report.lines().len().div_ceil(threads).max(PART_LINES);
-    let texts = match texts_of(rt, alloc, &report, size, threads) {
+    let texts = match texts_of(rt, alloc, &report, options.readers as usize) {
         Ok(texts) => texts,
         Err(NoMemory) => {
             *tables = Tables::new();

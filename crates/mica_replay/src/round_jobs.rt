@@ -20,7 +20,9 @@ fn write_of_line(alloc: Global, line: &TraceLine) -> Result<Option<Write>, NoMem
 {
     let op = match line.op {
         TraceOp::Put => Op::Put,
+        TraceOp::Add => Op::Add,
         TraceOp::Del => Op::Del,
+        TraceOp::Touch => Op::Touch,
         TraceOp::Get | TraceOp::Sync => return Ok(None),
     };
     Ok(Some(Write {

@@ -23,6 +23,7 @@ use std::sync::Wait;
 use std::thread::{Threads, for_each_mut};
 use store_partition::StorePartition;
 use table_partition::OnTable;
+use thread_rehearsal::rehearse;
 
 // The partitions, each made in a thread of its own: None in the place of one for which there was no memory.
 fn make_parts<W: Threads + Wait + Sync, P: OnTable + Partition + Send>(
@@ -135,6 +136,7 @@ fn run_on<
     ensures ok { IfOk result (λ report. IsReplayed options.now trace.now report tables.new) }
     ensures none { OnErr result (tables.new ≡ []) }
 {
+    rehearse(rt, alloc, options.readers + options.partitions + 1)?;
     let mut owners = make_owners::<W, P>(rt, alloc, options)?;
     let mut readers = make_readers::<ReaderSeat>(alloc, options)?;
     let report = run_rounds(rt, alloc, options, trace, gate, &mut owners, &mut readers)?;

@@ -79,7 +79,7 @@ fn share<P: Partition, R: ReaderWords>(
                 reader.gets.push(number)?;
                 gets += 1;
             }
-            TraceOp::Put | TraceOp::Del => {
+            TraceOp::Put | TraceOp::Add | TraceOp::Del | TraceOp::Touch => {
                 let partition = partition_of(key_hash(line.key.bytes()), options.partitions);
                 let owner = &mut owners[partition as usize];
                 owner.writes.push(number)?;

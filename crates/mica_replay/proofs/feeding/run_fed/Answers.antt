@@ -44,9 +44,9 @@ run_all-requires-clause-feeder g c κs within =
 pub take_senders_in-requires : goal.take_senders_in-requires
 take_senders_in-requires g c =
     may_take (opened g (goal.at.take_senders_in-requires g c).In_ok-senders c.into_iter.result c.into_iter.ensures.rest)
-    c.run_all.new.owners.items c.in_ok-senders-2.senders.items c.in_ok-senders-2.ensures.owners c.in_ok-senders-2.ensures.fed
+    c.run_all.new.owners.items c.run_all.new.feeder.senders.items c.run_all.ensures.owners c.run_all.ensures.fed
 
 pub returns-clause-owners : goal.returns-clause-owners
 returns-clause-owners g c =
     owners_ran (opened g (goal.at.returns-clause-owners g c).In_ok-senders c.into_iter.result c.into_iter.ensures.rest)
-    c.run_all.new.owners.items c.in_ok-senders-2.senders.items c.in_ok-senders-2.ensures.owners c.in_ok-senders-2.ensures.fed c.take_senders_in.new.owners.items c.take_senders_in.ensures
+    c.run_all.new.owners.items c.run_all.new.feeder.senders.items c.run_all.ensures.owners c.run_all.ensures.fed c.take_senders_in.new.owners.items c.take_senders_in.ensures

@@ -12,7 +12,7 @@ use Rattle.mica_replay.specs.Lending.{owner_part}
 use Rattle.mica_replay.specs.RoundRun.{reader_part}
 use Rattle.mica_replay.proofs.RoundSteps.{seen_at}
 use Rattle.mica_replay.proofs.RoundEnds.{part_more}
-use Rattle.mica_replay.proofs.LineShares.{gets_push, writes_skip, gets_skip, writes_give, gets_give, sync_no_write, get_no_write, write_no_get, either_is_write}
+use Rattle.mica_replay.proofs.LineShares.{gets_push, writes_skip, gets_skip, writes_give, gets_give, sync_no_write, get_no_write, write_no_get, op_is_write}
 use Rattle.mica_replay.proofs.sharing.share.Goals as goal
 use Rattle.mica_replay.proofs.sharing.share.Goals.{in-Get+in_ok-push-in-Get, in-Put+in_ok-push-in-Put, in-Sync}
 
@@ -63,7 +63,7 @@ loop-number-preserved g c =
           let old = w.index_mut-owner.result.now in
           let p = w.partition_of-partition.result in
           let new : OwnerWork g.row.P.Denot = record old { writes = w.push-in-Put.new.self } in
-          let write = either_is_write line.op line.key line.value w.in-Put.is in
+          let write = op_is_write line.op line.key line.value w.in-Put.is in
           let no_get = write_no_get line.op line.key line.value write.0 write.1 in
           let none = pushed ∙ ap (λ b. gets_in lines + cond b 1 0) no_get in
           let same = w.gets-is in
