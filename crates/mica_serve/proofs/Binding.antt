@@ -1,13 +1,15 @@
 -- Ends that are bound one after another, and come back one after another.
-use Rattle.std.proofs.Common.{◌≡◌, ℕ, zero, suc, ◌+◌, ◌<◌, ◌≤◌, ◌⊎◌, inl, inr, true, false, cond, List, [], ◌∷◌, ◌++◌, length, map, Option, Some, None, refl, sym, ap, ◌∙◌, subst, append_assoc, take, drop, slice_get, eqb, eqb-true, arith, length-append}
-use Rattle.std.specs.Prelude.{◌≢◌, IfSome, IfNone, is_some}
+use Rattle.std.proofs.Common.{◌≡◌, ℕ, zero, suc, ◌+◌, ◌<◌, ◌≤◌, ◌⊎◌, inl, inr, true, false, cond, List, [], ◌∷◌, ◌++◌, length, map, Option, Some, None, refl, sym, ap, ◌∙◌, subst, append_assoc, take, drop, slice_get, get_or, eqb, eqb-true, arith, length-append}
+use Rattle.std.specs.Prelude.{◌≢◌, IfSome, IfNone, is_some, min, sum_by}
 use Rattle.std.proofs.lemmas.Bool.{eq-eqb, ne_eqb, true≢false, cases_lt}
 use Rattle.mica_io.specs.Traffic.{Traffic, EndScript}
 use Rattle.mica_io.specs.Ports.{Port, Ports, out, back, with_port, BindsEnd}
 use Rattle.mica_serve.specs.Ends.{EndFacts, IsNewEnd, AreNewEnds, WaitedAt, BindsEnds, ReleasesEnds, TellAll}
 use Rattle.mica_io.specs.Faults.{Rose, LAST_COUNT}
-use Rattle.std.proofs.lemmas.List.{take_at, take-append-drop, length_push}
-use Rattle.std.proofs.lemmas.Option.{slice_get_within}
+use Rattle.std.proofs.lemmas.List.{take_at, take-append-drop, length_push, length-map}
+use Rattle.std.proofs.Math.ListN.{drop_of_length-le}
+use Rattle.std.proofs.lemmas.Option.{slice_get_within, get_or_from_slice_get}
+use Rattle.std.proofs.lemmas.List.Sums.{sum_by-drop_more}
 use Rattle.mica_serve.specs.NetRun.{OnPorts}
 
 -- what stands at a place of a list with one more element
@@ -85,6 +87,16 @@ pub record Releasing (first : ℕ) (ends : List EndFacts) (k : ℕ) (before now 
       → now (first + i) ≡ back traffic end.has_ended
   pub others : (q : ℕ) → ((i : ℕ) → i < length ends → q ≢ first + i) → now q ≡ before q
 
+-- at first all are out
+pub releasing_none : (first : ℕ) (ends : List EndFacts) (k : ℕ) (o : Option Ports) → length ends ≡ k → IfSome o (λ all. (i : ℕ) → i < k → all (first + i) ≡ out)
+    → OnPorts (Releasing first ends k) o o
+releasing_none first ends k None many outs = refl
+releasing_none first ends k (Some x) many outs = record {
+  still = outs;
+  came = λ i e t le is told. absurd (omega (arith, slice_get_within ends i e is));
+  others = λ q other. refl;
+}
+
 pub one_released : (first : ℕ) (ends : List EndFacts) (j : ℕ) (end : EndFacts) (traffic : Traffic) (before now : Ports)
     → Releasing first ends (suc j) before now → slice_get ends j ≡ Some end → end.traffic ≡ Some traffic
     → Releasing first ends j before (with_port (first + j) (back traffic end.has_ended) now)
@@ -150,6 +162,25 @@ rose_on a b c le (inr last) = inr last
 pub rose_before : (a b c : ℕ) → a ≤ b → Rose a b → b ≤ c → Rose a c
 rose_before a b c under (inl lt) le = inl (omega arith)
 rose_before a b c under (inr last) le = elim (cases_lt LAST_COUNT c) as (λ _. Rose a c) [ inl past ↦ inl (omega arith) | inr upto ↦ inr (omega arith) ]
+
+-- no end was released yet
+pub counts_none : {X : Type 0} (facts : X → EndFacts) (items : List X) (a : ℕ) → min a LAST_COUNT ≡ min (a + sum_by (λ e. e.faults) (drop (length items) (map facts items))) LAST_COUNT
+counts_none facts items a =
+    let none : drop (length items) (map facts items) ≡ [] = drop_of_length-le (map facts items) (let many = length-map items facts in omega arith) in
+    let sum : sum_by (λ (e : EndFacts). e.faults) (drop (length items) (map facts items)) ≡ 0 = ap (sum_by (λ (e : EndFacts). e.faults)) none in
+    omega (arith, sum)
+
+-- a count rose by one end's faults, behind those that were released before
+pub counts_more : (ends : List EndFacts) (n : ℕ) (end : EndFacts) (a b c : ℕ) → slice_get ends n ≡ Some end → c ≡ min (b + end.faults) LAST_COUNT
+    → min b LAST_COUNT ≡ min (a + sum_by (λ e. e.faults) (drop (n + 1) ends)) LAST_COUNT → min c LAST_COUNT ≡ min (a + sum_by (λ e. e.faults) (drop n ends)) LAST_COUNT
+counts_more ends n end a b c is now before =
+    let one : get_or ends n end ≡ end = get_or_from_slice_get ends n end end is in
+    let all = sum_by-drop_more (λ (e : EndFacts). e.faults) ends n end (slice_get_within ends n end is) in
+    let here : (get_or ends n end).faults ≡ end.faults = ap (λ (e : EndFacts). e.faults) one in
+    added_up a b c end.faults (sum_by (λ e. e.faults) (drop (n + 1) ends)) (sum_by (λ e. e.faults) (drop n ends)) (omega (arith, all, here)) now before
+  where
+    added_up : (a b c f rest all : ℕ) → all ≡ f + rest → c ≡ min (b + f) LAST_COUNT → min b LAST_COUNT ≡ min (a + rest) LAST_COUNT → min c LAST_COUNT ≡ min (a + all) LAST_COUNT
+    added_up a b c f rest all whole now before = omega arith
 
 at_seam : {X : Type 0} (xs : List X) (x : X) (ys : List X) → slice_get (xs ++ x ∷ ys) (length xs) ≡ Some x
 at_seam [] x ys = refl

@@ -1,13 +1,13 @@
 -- What each front came to is what all of them come to.
-use Rattle.std.proofs.Common.{◌≡◌, ℕ, zero, suc, ◌+◌, ◌<◌, ◌≤◌, Bool, true, false, List, [], ◌∷◌, ◌++◌, length, map, Option, Some, None, refl, sym, ap, ◌∙◌, subst, slice_get, take, arith}
+use Rattle.std.proofs.Common.{◌≡◌, ℕ, zero, suc, ◌+◌, ◌<◌, ◌≤◌, ◌⊎◌, inl, inr, Bool, true, false, List, [], ◌∷◌, ◌++◌, length, map, Option, Some, None, refl, sym, ap, ◌∙◌, subst, slice_get, take, arith}
 use Rattle.std.specs.Prelude.{◌≢◌, is_some, sum_by, option_map, Result, Ok, Err}
 use Rattle.std.specs.List.{filter, All}
-use Rattle.std.proofs.lemmas.List.{append-nil, length-map, length-take, take-append-drop}
+use Rattle.std.proofs.lemmas.List.{append-nil, length-map, length-take, length-take-le, take-append-drop}
 use Rattle.std.proofs.Math.Nat.{min-le_left}
 use Rattle.std.proofs.lemmas.List.Sums.{sum_by-cons}
-use Rattle.std.proofs.lemmas.Bool.{true≢false}
+use Rattle.std.proofs.lemmas.Bool.{true≢false, cases_lt, lt-ltb}
 use Rattle.std.proofs.lemmas.Option.{slice_get_within, slice_get-map, same_Some}
-use Rattle.mica_io.specs.Traffic.{Traffic}
+use Rattle.mica_io.specs.Traffic.{Datagram, Traffic}
 use Rattle.mica_model.specs.declared.options.Options.{Options}
 use Rattle.partition_table.specs.declared.tables.Entry.{Entry}
 use Rattle.mica_serve.specs.declared.ports.Totals.{Totals}
@@ -16,9 +16,9 @@ use Rattle.mica_serve.specs.declared.ports.ServeFault.TheVariants.{Net, NoMemory
 use Rattle.mica_serve.specs.Turn.{gets_of}
 use Rattle.mica_serve.specs.Dealing.{Dealing, turns_in}
 use Rattle.mica_serve.specs.Session.{Sessions, AnswersInOrder, count_of_writes}
-use Rattle.mica_serve.specs.Served.{Counts, has_no_turns}
+use Rattle.mica_serve.specs.Served.{IsThrough, Counts, has_no_turns}
 use Rattle.mica_serve.specs.Beside.{AnsweredBeside}
-use Rattle.mica_serve.specs.Ends.{OnTraffic, EndFacts, KeepsEnd, TellAll, DealsWithEnd, DealsInPartWithEnd, MeansForEnds, ServesAll, ServesFronts, ServesEnd, BeginsEnd, IsUpTo}
+use Rattle.mica_serve.specs.Ends.{OnTraffic, EndFacts, KeepsEnd, TellAll, DealsWithEnd, DealsInPartWithEnd, MayStopAtEnd, StopsBeside, MeansForEnds, ServesAll, ServesFronts, ServesEnd, BeginsEnd, IsUpTo}
 use Rattle.mica_serve.specs.FrontRuns.{FrontRun, MeansForFront, RunsFront, RunFronts, AreTakenIn, closed_in, RanAll, sum_of_totals, SumsUp}
 use Rattle.mica_serve.proofs.ServedBeside.{closed_gets}
 
@@ -58,16 +58,41 @@ sum_of_cons t all = λ i. record {
 
 -- an end that was served was also dealt with in part
 begins : (options : Options) (now next : Sessions) (left left_after batches : ℕ) (ended : Bool) (totals : Totals) (had has : Traffic)
-    → (s : ServesEnd options false now left batches ended totals next left_after had has) → BeginsEnd batches s.dealings had has
+    → (s : ServesEnd options false now left batches ended totals next left_after had has) → BeginsEnd batches s.dealings [] had has
 begins options now next left left_after batches ended totals had has s =
     let got : has.received ≡ take batches had.left = ap (λ (t : Traffic). t.received) s.told in
     record {
       in_order = sym (take-append-drop batches had.left) ∙ ap (λ (t : Traffic). t.received ++ t.left) (sym s.told);
       few = subst (λ (n : ℕ). n ≤ batches) (sym (ap length got ∙ length-take batches had.left)) (min-le_left batches (length had.left));
-      asked = s.asked ∙ sym got;
+      asked = append-nil (map (λ d. d.datagram) s.dealings) ∙ s.asked ∙ sym got;
       each = s.each;
       sent = ([], ap (λ (t : Traffic). t.sent) (sym s.told) ∙ sym (append-nil has.sent));
     }
+
+-- and to its end
+came_through : (options : Options) (now next : Sessions) (left left_after batches : ℕ) (ended : Bool) (totals : Totals) (had has : Traffic)
+    → (s : ServesEnd options false now left batches ended totals next left_after had has) → IsThrough batches has ended s.dealings
+came_through options now next left left_after batches ended totals had has s =
+    (ap (λ (t : Traffic). t.sent) s.told, by (cases_lt (length had.left) batches))
+  where
+    by : (length had.left < batches) ⊎ (batches ≤ length had.left) → (ended ≡ true) ⊎ (length has.received ≡ batches)
+    by (inl lt) = inl (s.at_end ∙ lt-ltb (length had.left) batches lt)
+    by (inr le) = inr (ap (λ (t : Traffic). length t.received) s.told ∙ length-take-le batches had.left le)
+
+module _ {Y : Type 0} where
+  consed : (Q : ℕ → Y → Type 0) (one : Y) → Q 0 one → (rest : List Y) → ((i : ℕ) (y : Y) → slice_get rest i ≡ Some y → Q (suc i) y)
+      → (i : ℕ) (y : Y) → slice_get (one ∷ rest) i ≡ Some y → Q i y
+  consed Q one here rest later zero y is = let same : one ≡ y = cc in subst (Q 0) same here
+  consed Q one here rest later (suc i) y is = later i y is
+
+  -- one for each place
+  pub chosen : (Q : ℕ → Y → Type 0) (n : ℕ) → ((i : ℕ) → i < n → (y : Y) × Q i y)
+      → (ys : List Y) × (length ys ≡ n) × ((i : ℕ) (y : Y) → slice_get ys i ≡ Some y → Q i y)
+  chosen Q zero has = ([], refl, λ i y is. absurd (cc))
+  chosen Q (suc n) has =
+      let one = has 0 (omega arith) in
+      let rest = chosen (λ i. Q (suc i)) n (λ i lt. has (suc i) (omega arith)) in
+      (one.0 ∷ rest.0, ap suc rest.1, consed Q one.0 one.1 rest.0 rest.2)
 
 module _ (options : Options) (batches : ℕ) where
   -- what the fronts made of ends that tell, where all were served
@@ -196,20 +221,88 @@ module _ (options : Options) (batches : ℕ) where
   answer_at (r ∷ rs) zero answer is = (r, refl, cc)
   answer_at (r ∷ rs) (suc f) answer is = answer_at rs f answer is
 
-  in_part : (r : FrontRun) (b a : EndFacts) (answer : Result Totals ServeFault) → r.answer ≡ answer → answer ≢ Err NoMemory → MeansForFront answer options batches r b a → is_some b.traffic ≡ true
-      → DealsInPartWithEnd batches b a
-  in_part r b a (Ok t) is other means tells =
+  -- what a front dealt with, where there was memory
+  record Stopped (r : FrontRun) (b a : EndFacts) (dealings : List Dealing) : Type 0 where
+    pub may : MayStopAtEnd batches dealings b a
+    pub answers : AnswersInOrder options false r.old (turns_in dealings) r.new
+    pub few : r.left ≤ r.left_after + count_of_writes (turns_in dealings)
+
+  stopped : (r : FrontRun) (b a : EndFacts) (answer : Result Totals ServeFault) → answer ≢ Err NoMemory → MeansForFront answer options batches r b a → is_some b.traffic ≡ true
+      → (dealings : List Dealing) × Stopped r b a dealings
+  stopped r b a (Ok t) other means tells =
       let told = told_of _ b.traffic a.traffic tells means.2 in
-      (told.0, told.1, told.4.dealings, told.2, told.3, begins options r.old r.new r.left r.left_after batches a.has_ended t told.0 told.1 told.4)
-  in_part r b a (Err Net) is other means tells =
+      let s = told.4 in (
+        s.dealings,
+        record {
+          may = record {
+            part = record { had = told.0; has = told.1; had_is = told.2; has_is = told.3; begins = begins options r.old r.new r.left r.left_after batches a.has_ended t told.0 told.1 s };
+            through = inl (came_through options r.old r.new r.left r.left_after batches a.has_ended t told.0 told.1 s);
+          };
+          answers = s.answers;
+          few = s.few;
+        },
+      )
+  stopped r b a (Err Net) other means tells =
       let told = told_of _ b.traffic a.traffic tells means.1 in
-      (told.0, told.1, told.4.dealings, told.2, told.3, told.4.begins)
-  in_part r b a (Err NoMemory) is other means tells = absurd (other refl)
+      let s = told.4 in (
+        s.dealings,
+        record {
+          may = record { part = record { had = told.0; has = told.1; had_is = told.2; has_is = told.3; begins = s.begins }; through = inr means.0 };
+          answers = s.answers;
+          few = s.few;
+        },
+      )
+  stopped r b a (Err NoMemory) other means tells = absurd (other refl)
+
+  in_part : (r : FrontRun) (b a : EndFacts) (answer : Result Totals ServeFault) → MeansForFront answer options batches r b a → is_some b.traffic ≡ true
+      → (dealings : List Dealing) × (unread : List Datagram) × (length unread ≤ 1) × DealsInPartWithEnd batches dealings unread b a
+  in_part r b a (Ok t) means tells = let s = stopped r b a (Ok t) (λ e. cc) means tells in (s.0, [], omega arith, s.1.may.part)
+  in_part r b a (Err Net) means tells = let s = stopped r b a (Err Net) (λ e. cc) means tells in (s.0, [], omega arith, s.1.may.part)
+  in_part r b a (Err NoMemory) means tells =
+      let told = told_of _ b.traffic a.traffic tells means in
+      (told.4.dealings, told.4.unread, told.4.one, record { had = told.0; has = told.1; had_is = told.2; has_is = told.3; begins = told.4.begins })
 
   -- what is kept: the seats where all were served, and else nothing
   abbrev pub KeepsWhere : Result Totals ServeFault → List FrontRun → List Entry → Type 0
   KeepsWhere (Ok totals) rs kept = AreTakenIn options rs kept
-  KeepsWhere (Err fault) rs kept = kept ≡ []
+  KeepsWhere (Err fault) rs kept = (kept ≡ []) × (left : List Entry) × AreTakenIn options rs left
+
+  -- what one of these fronts dealt with
+  record StoppedAt (rs : List FrontRun) (olds news : List EndFacts) (f : ℕ) (dealings : List Dealing) : Type 0 where
+    pub run : FrontRun
+    pub before : EndFacts
+    pub after : EndFacts
+    pub ran : slice_get rs f ≡ Some run
+    pub was : slice_get olds f ≡ Some before
+    pub is : slice_get news f ≡ Some after
+    pub stopped : Stopped run before after dealings
+
+  -- what all fronts dealt with beside each other, where there was memory for all
+  all_stopped : (rs : List FrontRun) (left : List Entry) (olds news : List EndFacts) → RunFronts options batches rs olds news → AreTakenIn options rs left
+      → ((f : ℕ) (r : FrontRun) → slice_get rs f ≡ Some r → r.answer ≢ Err NoMemory) → TellAll olds → StopsBeside options batches olds news
+  all_stopped rs left olds news run taken other tell = record {
+    fronts = all.0;
+    runs = taken.runs;
+    many = all.1;
+    each = λ f d b a is is' is''.
+        let q = all.2 f d is in
+        let old : q.before ≡ b = same_Some q.before b (sym q.was ∙ is') in
+        let new : q.after ≡ a = same_Some q.after a (sym q.is ∙ is'') in
+        subst (λ (x : EndFacts). MayStopAtEnd batches d x a) old (subst (λ (x : EndFacts). MayStopAtEnd batches d q.before x) new q.stopped.may);
+    ran = record { run = taken.ran.run; no_others = λ p lt. subst (λ (n : ℕ). All (λ q. q.front < n) (taken.runs p)) (sym (all.1 ∙ run.many_before)) (taken.ran.no_others p lt) };
+    answered = λ f d is.
+        let q = all.2 f d is in
+        let t = taken.each f q.run q.ran in
+        (q.run.old, q.run.new, record { answers = q.stopped.answers; starts = t.starts; seen = t.seen; took = t.took; few = omega (arith, t.sent, q.stopped.few) });
+  }
+    where
+      all : (ds : List (List Dealing)) × (length ds ≡ length olds) × ((f : ℕ) (d : List Dealing) → slice_get ds f ≡ Some d → StoppedAt rs olds news f d)
+      all = chosen (StoppedAt rs olds news) (length olds) (λ f lt.
+          let r = some_at rs f (omega (arith, lt, run.many_before)) in
+          let b = some_at olds f lt in
+          let a = some_at news f (omega (arith, lt, run.many_before, run.many_after)) in
+          let s = stopped r.0 b.0 a.0 r.0.answer (other f r.0 r.1) (run.each f r.0 b.0 a.0 r.1 b.1 a.1).means (tell f b.0 b.1) in
+          (s.0, record { run = r.0; before = b.0; after = a.0; ran = r.1; was = b.1; is = a.1; stopped = s.1 }))
 
   pub gathered : (some : 1 ≤ options.partitions) (rs : List FrontRun) (kept : List Entry) (olds news : List EndFacts) (run : RunFronts options batches rs olds news)
       (answer : Result Totals ServeFault) → SumsUp (map (λ (r : FrontRun). r.answer) rs) answer → KeepsWhere answer rs kept → ServesFronts options batches answer kept olds news
@@ -218,6 +311,9 @@ module _ (options : Options) (batches : ℕ) where
     keeps = λ i b a is is'.
         let r = some_at rs i (omega (arith, slice_get_within olds i b is, run.many_before)) in
         (run.each i r.0 b a r.1 is is').keeps;
+    begun = λ tell i b a is is'.
+        let r = some_at rs i (omega (arith, slice_get_within olds i b is, run.many_before)) in
+        in_part r.0 b a r.0.answer (run.each i r.0 b a r.1 is is').means (tell i b is);
     means = means answer sums keeps;
   }
     where
@@ -240,7 +336,7 @@ module _ (options : Options) (batches : ℕ) where
           let b = some_at olds sums.0 (omega (arith, slice_get_within rs sums.0 r.0 r.1, run.many_before)) in
           let a = some_at news sums.0 (omega (arith, slice_get_within rs sums.0 r.0 r.1, run.many_after)) in
           let m = subst (λ x. MeansForFront x options batches r.0 b.0 a.0) r.2 (run.each sums.0 r.0 b.0 a.0 r.1 b.1 a.1).means in (
-            none,
+            none.0,
             record {
               front = sums.0;
               old = b.0;
@@ -248,14 +344,14 @@ module _ (options : Options) (batches : ℕ) where
               was = b.1;
               is = a.1;
               rose = m.0;
-              stops = λ tell. let t = told_of _ b.0.traffic a.0.traffic (tell sums.0 b.0 b.1) m.1 in record { had = t.0; has = t.1; had_is = t.2; has_is = t.3; leaves = t.4 };
+              stops = λ tell.
+                  let t = told_of _ b.0.traffic a.0.traffic (tell sums.0 b.0 b.1) m.1 in
+                  record { dealings = t.4.dealings; part = record { had = t.0; has = t.1; had_is = t.2; has_is = t.3; begins = t.4.begins }; short = t.4.short };
             },
-            λ tell i x y is is'.
-                let q = some_at rs i (omega (arith, slice_get_within olds i x is, run.many_before)) in
-                let at : slice_get (map (λ (r : FrontRun). r.answer) rs) i ≡ Some q.0.answer = slice_get-map (λ (r : FrontRun). r.answer) rs i ∙ ap (option_map (λ (r : FrontRun). r.answer)) q.1 in
-                in_part q.0 x y q.0.answer refl (λ e. sums.2 i (at ∙ ap Some e)) (run.each i q.0 x y q.1 is is').means (tell i x is),
+            all_stopped rs none.1 olds news run none.2
+                (λ f q is e. sums.2 f (slice_get-map (λ (r : FrontRun). r.answer) rs f ∙ ap (option_map (λ (r : FrontRun). r.answer)) is ∙ ap Some e)),
           )
-      means (Err NoMemory) sums none = none
+      means (Err NoMemory) sums none = none.0
 
   -- what is kept of the seats that the owners may leave
   abbrev pub KeepsOf : Result Totals ServeFault → List Entry → List Entry → Type 0
@@ -269,7 +365,7 @@ module _ (options : Options) (batches : ℕ) where
     where
       by : (answer : Result Totals ServeFault) → KeepsOf answer left kept → KeepsWhere answer ran.fronts kept
       by (Ok totals) same = subst (AreTakenIn options ran.fronts) (sym same) ran.taken
-      by (Err fault) none = none
+      by (Err fault) none = (none, left, ran.taken)
 
   -- as many answers as ends, and each that counts counts no more than its front was given
   pub few_answers : (left : List Entry) (answers : List (Result Totals ServeFault)) (olds news : List EndFacts) → RanAll options batches left answers olds news → length answers ≡ length olds

@@ -30,33 +30,33 @@ module _ (options : Options) (is_alone : Bool) where
   count_append one two = ap length (filter-append (λ t. is_some (write_in t.request)) one two) ∙ length-append _ _
 
   -- one request more
-  pub one_more : (old between new : Sessions) (left left_before left_after : ℕ) (requests : List Request) (request : Request) (replies : List Reply) (reply : Reply)
-      → AnswersAll options is_alone old left requests between left_before replies → RepliesTo options is_alone between request new reply
+  pub one_more : (version : ℕ) (old between new : Sessions) (left left_before left_after : ℕ) (requests : List Request) (request : Request) (replies : List Reply) (reply : Reply)
+      → AnswersAll options is_alone version old left requests between left_before replies → RepliesTo options is_alone version between request new reply
       → left_before ≤ left_after + writes_of_one request
-      → AnswersAll options is_alone old left (requests ++ request ∷ []) new left_after (replies ++ reply ∷ [])
-  one_more old between new left left_before left_after requests request replies reply all one few =
+      → AnswersAll options is_alone version old left (requests ++ request ∷ []) new left_after (replies ++ reply ∷ [])
+  one_more version old between new left left_before left_after requests request replies reply all one few =
       let turn = turn_of in
       let single : count_of_writes (turn ∷ []) ≡ writes_of_one request = by (is_some (write_in request)) in
       record {
         turns = all.turns ++ turn ∷ [];
         asked = map-append (λ t. t.request) all.turns (turn ∷ []) ∙ ap (λ r. r ++ request ∷ []) all.asked;
         replied = map-append (λ t. t.reply) all.turns (turn ∷ []) ∙ ap (λ r. r ++ reply ∷ []) all.replied;
-        each = All-append (IsTurn 1) all.turns (turn ∷ []) all.each (All-from_recursion (IsTurn 1) (turn ∷ []) (one.is, tt));
+        each = All-append (IsTurn version) all.turns (turn ∷ []) all.each (All-from_recursion (IsTurn version) (turn ∷ []) (one.is, tt));
         answers = answers_append all.turns (turn ∷ []) old between new all.answers (new, one.answers, λ q. refl);
         few = omega (arith, all.few, few, single, count_append all.turns (turn ∷ []));
       }
     where
       turn_of : Turn
-      turn_of = record { version = 1; request = request; reply = reply }
+      turn_of = record { version = version; request = request; reply = reply }
 
       by : (b : Bool) → length (cond b (turn_of ∷ []) []) ≡ cond b 1 0
       by true = refl
       by false = refl
 
   -- those that were answered are a beginning of all
-  pub first_of : (old new : Sessions) (left left_after : ℕ) (requests done later : List Request) (replies : List Reply)
-      → AnswersAll options is_alone old left done new left_after replies → requests ≡ done ++ later → AnswersFirst options is_alone old left requests new left_after
-  first_of old new left left_after requests done later replies all is = record {
+  pub first_of : (version : ℕ) (old new : Sessions) (left left_after : ℕ) (requests done later : List Request) (replies : List Reply)
+      → AnswersAll options is_alone version old left done new left_after replies → requests ≡ done ++ later → AnswersFirst options is_alone old left requests new left_after
+  first_of version old new left left_after requests done later replies all is = record {
     turns = all.turns;
     later = later;
     begins = is ∙ ap (λ (d : List Request). d ++ later) (sym all.asked);

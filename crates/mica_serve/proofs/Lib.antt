@@ -1,4 +1,5 @@
 pub mod InOrder
+pub mod Statuses
 pub mod Replying
 pub mod Alone
 pub mod Fronts
@@ -23,7 +24,6 @@ pub mod QueueSteps
 pub mod JobCounts
 pub mod TakenIn
 pub mod LentParts
-pub mod WorkerParts
 pub mod FrontEnds
 pub mod Meetings
 pub mod RunAll

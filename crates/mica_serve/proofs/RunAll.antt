@@ -1,5 +1,5 @@
 -- The workers of a server: that they may run and meet, and what they came to.
-use Rattle.std.proofs.Common.{◌≡◌, ℕ, suc, ◌*◌, ◌≤◌, List, [], ◌∷◌, ◌++◌, length, map, Some, refl, sym, ap, ◌∙◌, subst, slice_get, arith, All}
+use Rattle.std.proofs.Common.{◌≡◌, ℕ, suc, ◌*◌, ◌<◌, ◌≤◌, List, [], ◌∷◌, length, map, Some, refl, sym, ap, ◌∙◌, subst, slice_get, slice_index_or, arith, All}
 use Rattle.std.specs.List.{AllZip, AllByRecursion}
 use Rattle.std.proofs.lemmas.List.{length-map}
 use Rattle.std.proofs.lemmas.List.Elements.{All-from_recursion}
@@ -18,22 +18,26 @@ use Rattle.mica_serve.specs.declared.ports.Ports.{Ports}
 use Rattle.mica_serve.specs.declared.queue_front.FrontPart.{FrontPart}
 use Rattle.mica_serve.specs.declared.worker.OwnerTask.{OwnerTask}
 use Rattle.mica_serve.specs.declared.worker.FrontTask.{FrontTask}
-use Rattle.mica_serve.specs.declared.worker.Worker.{Worker}
-use Rattle.mica_serve.specs.declared.worker.Worker.TheVariants.{Owner, Front}
 use Rattle.mica_serve.specs.Ends.{EndFacts, AreOpen}
 use Rattle.mica_serve.specs.FrontRuns.{RanAll}
 use Rattle.mica_serve.specs.Hands.{OwnerEnd, IsReadyOwner, IsNewOwner, AreFrontsOf, RanOwner, MayMeetAll, HaveMetAll}
 use Rattle.mica_serve.specs.OwnerWork.{IsNewAckBox}
 use Rattle.mica_serve.specs.QueueFront.{QueueView}
-use Rattle.mica_serve.specs.Tasks.{owner_end, IsReadyFront, IsReadyWorker, FrontRan, WorkersRan, owners_in, fronts_in}
+use Rattle.mica_serve.specs.Tasks.{owner_end, IsReadyTask, TaskRan, OwnersRan, IsReadyFront, FrontRan, FrontsRan}
 use Rattle.mica_serve.proofs.Gathered.{some_at}
-use Rattle.mica_serve.proofs.WorkerParts.{all_ready, owners_ran, fronts_ran}
 use Rattle.mica_serve.proofs.TakenIn.{HaveRan, owner_at, may_meet, ran_all, map_at, at_map}
 
 -- what each place has, all have
 all_places : {X : Type 0} (Q : X → Type 0) (xs : List X) → ((i : ℕ) (x : X) → slice_get xs i ≡ Some x → Q x) → AllByRecursion Q xs
 all_places Q [] each = tt
 all_places Q (x ∷ xs) each = (each 0 x refl, all_places Q xs (λ i. each (suc i)))
+
+-- what holds at each place, read with any element for the places outside, place by place
+zipped : {X : Type 0} (Q : X → X → Type 0) (xs ys : List X) → length ys ≡ length xs → ((i : ℕ) (d : X) → i < length xs → Q (slice_index_or xs i d) (slice_index_or ys i d)) → AllZip Q xs ys
+zipped Q [] [] many each = tt
+zipped Q [] (y ∷ ys) many each = absurd (omega arith)
+zipped Q (x ∷ xs) [] many each = absurd (omega arith)
+zipped Q (x ∷ xs) (y ∷ ys) many each = (each 0 x (omega arith), zipped Q xs ys (omega arith) (λ i d less. each (suc i) d (omega arith)))
 
 zip_maps : {X Y : Type 0} (Q : Y → Y → Type 0) (g : X → Y) (xs ys : List X) → AllZip (λ x y. Q (g x) (g y)) xs ys → AllZip Q (map g xs) (map g ys)
 zip_maps Q g [] [] z = tt
@@ -61,25 +65,20 @@ module _ {P D : Type 0} (owner : P → OwnerState) (home : P → TableId) (facts
     pub fronts : map (λ (t : FrontTask D). t.front) tasks ≡ map (λ (v : QueueView). Some v) views
     pub own_ends : map (λ (t : FrontTask D). t.end) tasks ≡ ends
 
-  -- and these they are after all of them ran as workers
+  -- and these they are after all of them ran
   pub record Ran (os : List (OwnerTask P)) (views : List QueueView) (tasks : List (FrontTask D)) (ends : List D) (owners : List (OwnerTask P)) (served : List (FrontTask D)) : Type 0 where
     pub paired : Paired os views tasks ends
-    pub ws : List (Worker P D)
-    pub vs : List (Worker P D)
-    pub gathered : ws ≡ map Owner os ++ map Front tasks
-    pub ran : WorkersRan owner home ports.batches facts ws vs
-    pub owners_are : owners ≡ owners_in vs
-    pub served_are : served ≡ fronts_in vs
+    pub owners_ran : OwnersRan owner home os owners
+    pub fronts_ran : FrontsRan ports.batches facts tasks served
 
   module _ {os : List (OwnerTask P)} {views : List QueueView} {tasks : List (FrontTask D)} {ends : List D} where
     -- all may run
-    pub ready : Paired os views tasks ends → AreOpen (map facts ends) → (ws : List (Worker P D)) → ws ≡ map Owner os ++ map Front tasks → All (IsReadyWorker owner home ports.batches facts) ws
-    ready paired opens ws are =
-        subst (All (IsReadyWorker owner home ports.batches facts)) (sym are)
-        (all_ready owner home ports.batches facts os tasks
-        (All-from_recursion (λ (t : OwnerTask P). IsReadyOwner (end_of_owner t)) os (all_places (λ (t : OwnerTask P). IsReadyOwner (end_of_owner t)) os
-        (λ p t at. ready_owner options ports.fronts (255 * ports.batches) (end_of_owner t) (paired.opened.lent.fresh p (end_of_owner t) (at_map end_of_owner os p t at)))))
-        (All-from_recursion (IsReadyFront ports.batches facts) tasks (all_places (IsReadyFront ports.batches facts) tasks (front_ready paired opens))))
+    pub owners_ready : Paired os views tasks ends → All (IsReadyTask owner home) os
+    owners_ready paired = All-from_recursion (IsReadyTask owner home) os (all_places (IsReadyTask owner home) os
+        (λ p t at. ready_owner options ports.fronts (255 * ports.batches) (end_of_owner t) (paired.opened.lent.fresh p (end_of_owner t) (at_map end_of_owner os p t at))))
+
+    pub fronts_ready : Paired os views tasks ends → AreOpen (map facts ends) → All (IsReadyFront ports.batches facts) tasks
+    fronts_ready paired opens = All-from_recursion (IsReadyFront ports.batches facts) tasks (all_places (IsReadyFront ports.batches facts) tasks (front_ready paired opens))
       where
         front_ready : Paired os views tasks ends → AreOpen (map facts ends) → (f : ℕ) (t : FrontTask D) → slice_get tasks f ≡ Some t → IsReadyFront ports.batches facts t
         front_ready paired opens f t at =
@@ -91,27 +90,13 @@ module _ {P D : Type 0} (owner : P → OwnerState) (home : P → TableId) (facts
             let left : v.0.left ≡ 255 * ports.batches = ap (λ (w : QueueView). w.left) (paired.opened.each f v.0 v.1) in
             record { front = v.0; front_is = sym v.2; left = omega (arith, left); unended = is.0; fresh = is.1 }
 
-    pub has_ran : 1 ≤ options.partitions → AreFrontsOf options ports.fronts (255 * ports.batches) (map end_of_owner os) views → map (λ (t : FrontTask D). t.front) tasks ≡ map (λ (v : QueueView). Some v) views
-        → map (λ (t : FrontTask D). t.end) tasks ≡ ends → {ws : List (Worker P D)} (vs : List (Worker P D)) {owners : List (OwnerTask P)} {served : List (FrontTask D)} → ws ≡ map Owner os ++ map Front tasks
-        → WorkersRan owner home ports.batches facts ws vs → owners ≡ owners_in vs → served ≡ fronts_in vs → Ran os views tasks ends owners served
-    has_ran some opened fronts own_ends {ws} vs gathered ran owners_are served_are = record {
-      paired = record { some = some; opened = opened; fronts = fronts; own_ends = own_ends };
-      ws = ws;
-      vs = vs;
-      gathered = gathered;
-      ran = ran;
-      owners_are = owners_are;
-      served_are = served_are;
-    }
-
     module _ {owners : List (OwnerTask P)} {served : List (FrontTask D)} (r : Ran os views tasks ends owners served) where
       all : HaveRan ports.batches facts options ports.fronts (255 * ports.batches) (map end_of_owner os) (map end_of_owner owners) views tasks served
       all = record {
         some = r.paired.some;
         opened = r.paired.opened;
-        owners_ran = zip_maps RanOwner end_of_owner os owners
-            (subst (λ (l : List (OwnerTask P)). AllZip (λ o v. RanOwner (end_of_owner o) (end_of_owner v)) os l) (sym r.owners_are) (owners_ran owner home ports.batches facts os tasks r.ws r.vs r.gathered r.ran));
-        fronts_ran = subst (λ (l : List (FrontTask D)). AllZip (FrontRan ports.batches facts) tasks l) (sym r.served_are) (fronts_ran owner home ports.batches facts os tasks r.ws r.vs r.gathered r.ran);
+        owners_ran = zip_maps RanOwner end_of_owner os owners (zipped (TaskRan owner home) os owners r.owners_ran.0 r.owners_ran.1);
+        fronts_ran = zipped (FrontRan ports.batches facts) tasks served r.fronts_ran.0 r.fronts_ran.1;
         views_are = r.paired.fronts;
       }
 

@@ -4,14 +4,12 @@ use Rattle.std.specs.List.{AllZip, All}
 use Rattle.std.proofs.lemmas.List.{append-nil, length-map}
 use Rattle.std.proofs.lemmas.Option.{slice_get-map}
 use Rattle.std.specs.Prelude.{option_map}
-use Rattle.mica_io.specs.Ports.{Ports}
 use Rattle.mica_model.specs.declared.options.Options.{Options}
 use Rattle.mica_model.specs.Run.{RunStep}
-use Rattle.mica_serve.specs.declared.ports.Ports.{Ports as PortOptions}
 use Rattle.mica_serve.specs.Turn.{Turn, writes_of, gets_of}
 use Rattle.mica_serve.specs.Dealing.{Dealing, turns_in}
 use Rattle.mica_serve.specs.Session.{Acknowledged, Told, Sessions}
-use Rattle.mica_serve.specs.Served.{Placed, ServesPort, ServesGet, IsGetAt, RepliesStep, Served, steps_by, history_in}
+use Rattle.mica_serve.specs.Served.{Placed, ServesGet, IsGetAt, RepliesStep, AnswersLawfully, steps_by, history_in}
 use Rattle.mica_serve.specs.Beside.{closed_of, AnsweredBeside, RunsPartitions}
 use Rattle.mica_serve.proofs.Fronts.{order_of}
 use Rattle.mica_serve.proofs.Among.{StandAmong, stand_few, stand_all, stand_append}
@@ -57,17 +55,13 @@ module _ (options : Options) (some : 1 ≤ options.partitions) (runs : ℕ → L
       let tells = t.4 in
       omega (arith, ap closed_of tells.is, tells.closed, t.3)
 
--- what is known of each front makes all of them served
-pub served_beside : (options : Options) → 1 ≤ options.partitions → (runs : ℕ → List Placed) (fronts : List (List Dealing)) (ports : PortOptions) (before after : Ports)
-    → length fronts ≡ ports.fronts → RunsPartitions options (length fronts) runs
-    → ((f : ℕ) (dealings : List Dealing) → slice_get fronts f ≡ Some dealings → ServesPort ports.batches (before (ports.port + f)) (after (ports.port + f)) dealings)
+-- what is known of each front makes all that was answered lawful
+pub lawful_beside : (options : Options) → 1 ≤ options.partitions → (runs : ℕ → List Placed) (fronts : List (List Dealing)) → RunsPartitions options (length fronts) runs
     → ((f : ℕ) (dealings : List Dealing) → slice_get fronts f ≡ Some dealings
     → (old : Sessions) × (new : Sessions) × AnsweredBeside options runs f (turns_in dealings) old new)
-    → Served options ports before after fronts runs
-served_beside options some runs fronts ports before after many ran datagrams each =
+    → AnswersLawfully options (map turns_in fronts) runs
+lawful_beside options some runs fronts ran each =
     record {
-      many = many;
-      datagrams = datagrams;
       writes = λ p lt. record {
         run = ran.run p lt;
         each = λ f turns is. let own = dealt f turns is in subst (λ (ts : List Turn). AllZip RepliesStep (writes_of options p ts) (steps_by f (runs p))) own.2
@@ -75,7 +69,10 @@ served_beside options some runs fronts ports before after many ran datagrams eac
         no_others = subst (λ (n : ℕ). All (λ q. q.front < n) (runs p)) (sym (length-map fronts turns_in)) (ran.no_others p lt);
       };
       order = λ p f lt. order_of options f [] (runs p) (ran.run p lt);
-      gets = λ p f dealings n turn lt is asks. let k = each f dealings is in gets_of_run options some runs f (turns_in dealings) k.0 k.1 k.2 p n turn lt asks;
+      gets = λ p f turns n turn lt is.
+          let own = dealt f turns is in
+          subst (λ (ts : List Turn). IsGetAt options p ts n turn → ServesGet options (history_in (runs p)) ts n turn) own.2
+          (let k = each f own.0 own.1 in gets_of_run options some runs f (turns_in own.0) k.0 k.1 k.2 p n turn lt);
     }
   where
     dealt : (f : ℕ) (turns : List Turn) → slice_get (map turns_in fronts) f ≡ Some turns → (dealings : List Dealing) × (slice_get fronts f ≡ Some dealings) × (turns_in dealings ≡ turns)

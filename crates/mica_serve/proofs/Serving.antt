@@ -1,19 +1,19 @@
 -- The datagrams of one end, one after another.
-use Rattle.std.proofs.Common.{◌≡◌, ℕ, suc, ◌+◌, ◌<◌, inl, inr, Bool, true, false, cond, List, [], ◌∷◌, ◌++◌, length, map, take, drop, Option, Some, None, refl, sym, ap, ◌∙◌, subst, append_assoc, eqb, arith, length-append}
-use Rattle.std.specs.Prelude.{sum_by}
+use Rattle.std.proofs.Common.{◌≡◌, ℕ, suc, ◌+◌, ◌<◌, ◌≤◌, inl, inr, Bool, true, false, cond, List, [], ◌∷◌, ◌++◌, length, map, take, drop, Option, Some, None, refl, sym, ap, ◌∙◌, subst, append_assoc, eqb, arith, length-append}
+use Rattle.std.specs.Prelude.{sum_by, IfSome}
 use Rattle.std.specs.List.{filter}
 use Rattle.std.proofs.lemmas.List.{append-nil, map-append, length-map, length-drop, take-append-drop}
 use Rattle.std.proofs.lemmas.Grind.{flat_map-append}
 use Rattle.std.proofs.lemmas.List.Sums.{sum_by-cons}
 use Rattle.std.proofs.lemmas.List.Elements.{All-append, All-from_recursion, filter-append}
-use Rattle.mica_io.specs.Traffic.{Datagram, Traffic, Sent}
+use Rattle.mica_io.specs.Traffic.{Datagram, Traffic, Sent, new_traffic}
 use Rattle.mica_model.specs.declared.options.Options.{Options}
 use Rattle.mica_serve.specs.declared.ports.Totals.{Totals}
 use Rattle.mica_serve.specs.Turn.{Turn}
 use Rattle.mica_serve.specs.Dealing.{Dealing, IsDealing, turns_in, due_after, due_to}
 use Rattle.mica_serve.specs.Session.{Sessions, AnswersInOrder, count_of_writes}
 use Rattle.mica_serve.specs.Served.{Counts, has_no_turns}
-use Rattle.mica_serve.specs.Ends.{OnTraffic, ServesOne, StopsOne, ServesSome, LeavesEnd, counted}
+use Rattle.mica_serve.specs.Ends.{OnTraffic, ServesOne, StopsOne, LeavesUnread, ServesSome, LeavesEnd, WantsAtEnd, counted}
 use Rattle.mica_serve.proofs.InOrder.{answers_append, count_append}
 
 -- two facts, one after the other
@@ -109,9 +109,11 @@ module _ (options : Options) (is_alone : Bool) (old : Sessions) (left : ℕ) whe
       }
 
   -- a fault came
-  pub stops_at : (n batches : ℕ) (totals : Totals) (new : Sessions) (left_after : ℕ) (a b c : Traffic) → n < batches
-      → ServesSome options is_alone old left n totals new left_after a b → StopsOne b c → LeavesEnd batches false a c
-  stops_at n batches totals new left_after a b c lt some (inl same) =
+  pub stops_at : (n batches : ℕ) (totals : Totals) (between new : Sessions) (left_before left_after : ℕ) (a b c : Traffic) → n < batches
+      → ServesSome options is_alone old left n totals between left_before a b → StopsOne options is_alone between left_before new left_after b c
+      → LeavesEnd options is_alone old left batches false new left_after a c
+  stops_at n batches totals between new left_before left_after a b c lt some (inl unmoved) =
+      let same = unmoved.0 in
       let datagrams = datagrams_of some.dealings in
       let many : length datagrams ≡ n = omega (arith, length-map some.dealings (λ x. x.datagram), some.many) in
       let got : c.received ≡ datagrams = ap (λ (t : Traffic). t.received) same ∙ some.received in
@@ -121,13 +123,15 @@ module _ (options : Options) (is_alone : Bool) (old : Sessions) (left : ℕ) whe
         begins = record {
           in_order = some.split ∙ ap (λ (x : List Datagram). x ++ b.left) (sym got) ∙ ap (λ (t : Traffic). c.received ++ t.left) (sym same);
           few = omega (arith, ap length got, many, lt);
-          asked = sym got;
+          asked = append-nil datagrams ∙ sym got;
           each = some.each;
           sent = ([], sym sent ∙ sym (append-nil c.sent));
         };
         short = inr (refl, omega (arith, ap length got, many, lt));
+        answers = subst (λ (s : Sessions). AnswersInOrder options is_alone old (turns_in some.dealings) s) (sym unmoved.1) some.answers;
+        few = omega (arith, some.few, unmoved.2);
       }
-  stops_at n batches totals new left_after a b c lt some (inr h) =
+  stops_at n batches totals between new left_before left_after a b c lt some (inr h) =
       let d = h.dealing in
       let datagrams = datagrams_of some.dealings in
       let all : datagrams_of (some.dealings ++ d ∷ []) ≡ datagrams ++ d.datagram ∷ [] = map-append (λ x. x.datagram) some.dealings (d ∷ []) in
@@ -152,7 +156,7 @@ module _ (options : Options) (is_alone : Bool) (old : Sessions) (left : ℕ) whe
           in_order = some.split ∙ ap (λ (l : List Datagram). datagrams ++ l) (h.next ∙ ap (λ (t : Traffic). d.datagram ∷ t.left) (sym told))
               ∙ sym (append_assoc datagrams (d.datagram ∷ []) c.left) ∙ ap (λ (x : List Datagram). x ++ c.left) (sym got);
           few = omega (arith, ap length got, length-append datagrams (d.datagram ∷ []), many, lt);
-          asked = all ∙ sym got;
+          asked = append-nil (datagrams_of (some.dealings ++ d ∷ [])) ∙ all ∙ sym got;
           each = All-append IsDealing some.dealings (d ∷ []) some.each (All-from_recursion IsDealing (d ∷ []) (h.is, tt));
           sent = (later, whole);
         };
@@ -164,4 +168,40 @@ module _ (options : Options) (is_alone : Bool) (old : Sessions) (left : ℕ) whe
           length-drop k d.replies,
           h.part.1,
         ));
+        answers = subst (λ (ts : List Turn). AnswersInOrder options is_alone old ts new) (sym (turns_more some.dealings d))
+            (answers_append options is_alone (turns_in some.dealings) d.turns old between new some.answers h.answers);
+        few = omega (arith, some.few, h.few, ap count_of_writes (turns_more some.dealings d), count_append options is_alone (turns_in some.dealings) d.turns);
       }
+
+  -- a datagram was received, and there was no memory to deal with it
+  pub wants_at : (n batches : ℕ) (totals : Totals) (new : Sessions) (left_after : ℕ) (a b c : Traffic) → n < batches
+      → ServesSome options is_alone old left n totals new left_after a b → LeavesUnread b c → WantsAtEnd batches a c
+  wants_at n batches totals new left_after a b c lt some h =
+      let datagrams = datagrams_of some.dealings in
+      let many : length datagrams ≡ n = omega (arith, length-map some.dealings (λ x. x.datagram), some.many) in
+      let got : c.received ≡ datagrams ++ h.0 ∷ [] = ap (λ (t : Traffic). t.received) h.3 ∙ ap (λ (r : List Datagram). r ++ h.0 ∷ []) some.received in
+      let sent : c.sent ≡ due_to some.dealings = ap (λ (t : Traffic). t.sent) h.3 ∙ some.sent in
+      record {
+        dealings = some.dealings;
+        unread = h.0 ∷ [];
+        one = omega arith;
+        begins = record {
+          in_order = some.split ∙ ap (λ (l : List Datagram). datagrams ++ l) (h.2 ∙ ap (λ (t : Traffic). h.0 ∷ t.left) (sym h.3))
+              ∙ sym (append_assoc datagrams (h.0 ∷ []) c.left) ∙ ap (λ (x : List Datagram). x ++ c.left) (sym got);
+          few = omega (arith, ap length got, length-append datagrams (h.0 ∷ []), many, lt);
+          asked = sym got;
+          each = some.each;
+          sent = ([], sym sent ∙ sym (append-nil c.sent));
+        };
+      }
+
+-- there was no memory before anything was received
+pub wants_fresh : (batches : ℕ) (a : Option Traffic) → IfSome a (λ t. t ≡ new_traffic t.left) → OnTraffic (WantsAtEnd batches) a a
+wants_fresh batches None fresh = tt
+wants_fresh batches (Some t) fresh =
+    subst (λ (x : Traffic). WantsAtEnd batches x x) (sym fresh) (record {
+      dealings = [];
+      unread = [];
+      one = omega arith;
+      begins = record { in_order = refl; few = omega arith; asked = refl; each = All-from_recursion IsDealing [] tt; sent = ([], refl) };
+    })

@@ -1,26 +1,30 @@
 -- What a whole run makes of the ports: bound, served, released.
-use Rattle.std.proofs.Common.{◌≡◌, ℕ, ◌+◌, ◌-◌, ◌<◌, ◌≤◌, ◌⊎◌, inl, inr, true, List, [], length, take, drop, Option, Some, None, refl, sym, ap, ◌∙◌, subst, slice_get, arith}
-use Rattle.std.specs.Prelude.{◌≢◌, is_some, nat_lt, Result, Ok, Err, IfSome}
+use Rattle.std.proofs.Common.{◌≡◌, ℕ, ◌+◌, ◌-◌, ◌<◌, ◌≤◌, ◌⊎◌, inl, inr, true, List, [], ◌++◌, length, map, take, drop, Option, Some, None, refl, sym, ap, ◌∙◌, subst, slice_get, arith}
+use Rattle.std.specs.Prelude.{◌≢◌, is_some, nat_lt, min, sum_by, Result, Ok, Err, IfSome}
+use Rattle.std.specs.List.{AllZip}
 use Rattle.std.proofs.lemmas.Bool.{cases_lt}
 use Rattle.std.proofs.lemmas.List.Elements.{All-from_recursion}
-use Rattle.std.proofs.lemmas.Option.{slice_get_within}
+use Rattle.std.proofs.lemmas.Option.{slice_get_within, same_Some}
+use Rattle.std.proofs.lemmas.List.{append-nil, length-map}
+use Rattle.std.proofs.lemmas.List.Sums.{sum-map}
 use Rattle.mica_io.specs.Traffic.{Datagram, Traffic, new_traffic}
 use Rattle.mica_io.specs.Ports.{Port, Ports, out, back, is_waiting}
 use Rattle.mica_model.specs.declared.options.Options.{Options}
 use Rattle.mica_serve.specs.declared.ports.Ports.{Ports as PortOptions}
 use Rattle.mica_serve.specs.declared.ports.Totals.{Totals}
-use Rattle.mica_serve.specs.Dealing.{Dealing, IsDealing, due_to}
+use Rattle.mica_serve.specs.Turn.{Turn, writes_of}
+use Rattle.mica_serve.specs.Dealing.{Dealing, IsDealing, turns_in, due_to}
 use Rattle.partition_table.specs.declared.tables.Entry.{Entry}
 use Rattle.mica_serve.specs.Beside.{ServesOnTables}
-use Rattle.mica_serve.specs.Served.{ServesPort, LeavesPort, IsCutShort, IsStopped, StopsShort}
-use Rattle.mica_io.specs.Faults.{Rose}
+use Rattle.mica_serve.specs.Served.{ServesPort, RepliesStep, LeavesPort, BeginsPorts, IsThrough, IsCutShort, IsStopped, StopsShort}
+use Rattle.mica_io.specs.Faults.{Rose, LAST_COUNT}
 use Rattle.mica_serve.specs.declared.ports.ServeFault.{ServeFault}
 use Rattle.mica_serve.specs.declared.ports.ServeFault.TheVariants.{Net, NoMemory}
-use Rattle.mica_serve.specs.NetRun.{NetFacts, OnPorts, ReleasesAll, ReleasesNet, KeepsNet, BindsAndServes, FailsToBind, MeansForRun, HasNoFault, HasStopped, IsCauseOf}
-use Rattle.mica_serve.specs.Ends.{EndFacts, TellAll, AreNewEnds, AreAtPorts, BindsEnds, ReleasesEnds, DealsWithEnd, DealsInPartWithEnd, DealsInPartWithAll, StopsSome, ServesAll, ServesFronts, MeansForEnds, KeepsEnd}
-use Rattle.mica_serve.proofs.Binding.{rose_on, rose_before}
-use Rattle.mica_serve.proofs.Gathered.{same_kept, some_at}
-use Rattle.mica_serve.proofs.ServedBeside.{served_beside}
+use Rattle.mica_serve.specs.NetRun.{NetFacts, OnPorts, CountsFaults, ReleasesAll, ReleasesNet, KeepsNet, BindsAndServes, FailsToBind, MeansForRun, HasNoFault, HasStopped, IsCauseOf}
+use Rattle.mica_serve.specs.Ends.{EndFacts, TellAll, AreNewEnds, AreAtPorts, BindsEnds, ReleasesEnds, DealsWithEnd, DealsInPartWithEnd, BeginsEnds, MayStopAtEnd, StopsSome, StopsBeside, ServesAll, ServesFronts, MeansForEnds, KeepsEnd}
+use Rattle.mica_serve.proofs.Binding.{rose_on, rose_before, from_map}
+use Rattle.mica_serve.proofs.Gathered.{same_kept, some_at, chosen}
+use Rattle.mica_serve.proofs.ServedBeside.{lawful_beside}
 use Rattle.mica_serve.proofs.Through.{cut_short}
 
 -- ends that were bound where a net tells its ports tell their traffic
@@ -85,19 +89,18 @@ module _ (ports : PortOptions) (olds news : List EndFacts) (before mid after : P
       }
 
   -- a front that was served in part leaves its port so
-  port_left : (batches : ℕ) (f : ℕ) (b a : EndFacts) → slice_get olds f ≡ Some b → slice_get news f ≡ Some a → DealsInPartWithEnd batches b a
-      → LeavesPort batches (before (ports.port + f)) (after (ports.port + f))
-  port_left batches f b a is is' d =
+  port_left : (batches : ℕ) (f : ℕ) (dealings : List Dealing) (unread : List Datagram) (b a : EndFacts) → slice_get olds f ≡ Some b → slice_get news f ≡ Some a
+      → DealsInPartWithEnd batches dealings unread b a → LeavesPort batches (before (ports.port + f)) (after (ports.port + f)) dealings unread
+  port_left batches f dealings unread b a is is' d =
       let w = bound.each f b is in
       let told = w.told in
-      let had_is = d.3 in
-      let had : d.0 ≡ new_traffic w.datagrams = cc in
-      let begins = d.5 in
+      let had_is = d.had_is in
+      let had : d.had ≡ new_traffic w.datagrams = cc in
+      let begins = d.begins in
       inr (
-        d.1,
+        d.has,
         a.has_ended,
-        d.2,
-        released.each f a d.1 is' d.4,
+        released.each f a d.has is' d.has_is,
         record {
           datagrams = w.datagrams;
           script = w.foretold;
@@ -110,55 +113,172 @@ module _ (ports : PortOptions) (olds news : List EndFacts) (before mid after : P
         },
       )
 
-  pub each_left : (batches : ℕ) → DealsInPartWithAll batches olds news → (f : ℕ) → f < ports.fronts → LeavesPort batches (before (ports.port + f)) (after (ports.port + f))
-  each_left batches part f lt = elim (cases_lt f (length olds)) as (λ _. LeavesPort batches (before (ports.port + f)) (after (ports.port + f))) [
-    | inl below ↦
-        let b = some_at olds f below in
-        let a = some_at news f (omega (arith, below, many)) in
-        port_left batches f b.0 a.0 b.1 a.1 (part f b.0 a.0 b.1 a.1)
-    | inr past ↦ inl (untouched (ports.port + f) (λ i below e. absurd (omega arith)))
-  ]
+  pub all_begun : BeginsEnds ports.batches olds news → BeginsPorts ports before after
+  all_begun part f lt = by (cases_lt f (length olds))
+    where
+      by : (f < length olds) ⊎ (length olds ≤ f) → (dealings : List Dealing) × (unread : List Datagram) × (length unread ≤ 1)
+          × LeavesPort ports.batches (before (ports.port + f)) (after (ports.port + f)) dealings unread
+      by (inl below) =
+          let b = some_at olds f below in
+          let a = some_at news f (omega (arith, below, many)) in
+          let p = part f b.0 a.0 b.1 a.1 in
+          (p.0, p.1, p.2, port_left ports.batches f p.0 p.1 b.0 a.0 b.1 a.1 p.3)
+      by (inr past) = ([], [], omega arith, inl (untouched (ports.port + f) (λ i below e. absurd (omega arith)), refl, refl))
 
   pub stopped_some : (batches : ℕ) (s : StopsSome batches olds news) → (f : ℕ) × (f < ports.fronts) × IsStopped batches (before (ports.port + f)) (after (ports.port + f))
   stopped_some batches s =
       let tell = bound_tell ports.port olds before mid bound in
       let stops = s.stops tell in
       let w = bound.each s.front s.old s.was in
-      let leaves = stops.leaves in
-      let cut = cut_short batches stops.has s.new.has_ended leaves.dealings leaves.begins.each leaves.begins.asked leaves.begins.sent leaves.short in (
+      let part = stops.part in
+      let asked = sym (append-nil (map (λ d. d.datagram) stops.dealings)) ∙ part.begins.asked in
+      let cut = cut_short batches part.has s.new.has_ended stops.dealings part.begins.each asked part.begins.sent stops.short in (
         s.front,
         omega (arith, slice_get_within olds s.front s.old s.was),
-        (ap is_waiting w.waited, subst (λ (p : Port). IsCutShort batches p) (sym (released.each s.front s.new stops.has s.is stops.has_is)) cut),
+        (ap is_waiting w.waited, subst (λ (p : Port). IsCutShort batches p) (sym (released.each s.front s.new part.has s.is part.has_is)) cut),
       )
+
+  -- a front dealt with nothing
+  record DealtNothing (f : ℕ) (dealings : List Dealing) : Type 0 where
+    pub none : dealings ≡ []
+    pub left : LeavesPort ports.batches (before (ports.port + f)) (after (ports.port + f)) dealings []
+
+  module _ (options : Options) (bind_failed : Type 0) (counts : ℕ → Type 0) where
+    -- a bind failed, so no front dealt with anything
+    pub none_stopped : bind_failed → ((i : ℕ) (b a : EndFacts) → slice_get olds i ≡ Some b → slice_get news i ≡ Some a → DealsInPartWithEnd ports.batches [] [] b a)
+        → StopsShort options ports bind_failed counts before after
+    none_stopped failed part = record {
+      fronts = nothing.0;
+      runs = λ p. [];
+      many = nothing.1;
+      each = λ f d is. (nothing.2 f d is).left;
+      answered = record {
+        writes = λ p lt. record {
+          run = tt;
+          each = λ f turns is. subst (λ (ts : List Turn). AllZip RepliesStep (writes_of options p ts) []) (sym (none_asked f turns is)) tt;
+          no_others = All-from_recursion (λ q. q.front < length (map turns_in nothing.0)) [] tt;
+        };
+        order = λ p f lt i j d less within. absurd (omega arith);
+        gets = λ p f turns n turn lt is asks.
+            let asked = asks.asked in
+            let none : slice_get [] n ≡ Some turn = ap (λ (ts : List Turn). slice_get ts n) (sym (none_asked f turns is)) ∙ asked in
+            absurd (cc);
+      };
+      some = inl failed;
+      blamed = inl failed;
+    }
+      where
+        began : (f : ℕ) → f < ports.fronts → (f < length olds) ⊎ (length olds ≤ f) → (d : List Dealing) × DealtNothing f d
+        began f lt (inl below) =
+            let b = some_at olds f below in
+            let a = some_at news f (omega (arith, below, many)) in
+            ([], record { none = refl; left = port_left ports.batches f [] [] b.0 a.0 b.1 a.1 (part f b.0 a.0 b.1 a.1) })
+        began f lt (inr past) = ([], record { none = refl; left = inl (untouched (ports.port + f) (λ i below e. absurd (omega arith)), refl, refl) })
+
+        nothing : (ds : List (List Dealing)) × (length ds ≡ ports.fronts) × ((f : ℕ) (d : List Dealing) → slice_get ds f ≡ Some d → DealtNothing f d)
+        nothing = chosen DealtNothing ports.fronts (λ f lt. began f lt (cases_lt f (length olds)))
+
+        none_asked : (f : ℕ) (turns : List Turn) → slice_get (map turns_in nothing.0) f ≡ Some turns → turns ≡ []
+        none_asked f turns is =
+            let d = from_map turns_in nothing.0 f turns is in
+            sym d.2 ∙ ap turns_in (nothing.2 f d.0 d.1).none
+
+    -- a front stopped, and what all dealt with beside each other is lawful
+    pub all_stopped : 1 ≤ options.partitions → length olds ≡ ports.fronts → StopsSome ports.batches olds news
+        → counts (sum_by (λ e. e.faults) news) → StopsBeside options ports.batches olds news → StopsShort options ports bind_failed counts before after
+    all_stopped some full stops counted all = record {
+      fronts = all.fronts;
+      runs = all.runs;
+      many = all.many ∙ full;
+      each = λ f d is. let e = ends_at f d is in port_left ports.batches f d [] e.0 e.1 e.2 e.3 e.4.part;
+      answered = lawful_beside options some all.runs all.fronts all.ran all.answered;
+      some = inr (stopped_some ports.batches stops);
+      blamed = inr (record {
+        faults = map (λ (e : EndFacts). e.faults) news;
+        many = length-map news (λ (e : EndFacts). e.faults) ∙ many ∙ full;
+        counted = subst counts (sym (sum-map (λ (e : EndFacts). e.faults) news)) counted;
+        through = λ f d is none.
+            let e = ends_at f d is in
+            let m = from_map (λ (e : EndFacts). e.faults) news f 0 none in
+            let same : m.0 ≡ e.1 = same_Some m.0 e.1 (sym m.1 ∙ e.3) in
+            let own : e.1.faults ≡ 0 = ap (λ (x : EndFacts). x.faults) (sym same) ∙ m.2 in
+            let p = e.4.part in (
+              p.has,
+              e.1.has_ended,
+              released.each f e.1 p.has e.3 p.has_is,
+              elim e.4.through as (λ _. IsThrough ports.batches p.has e.1.has_ended d) [
+                | inl through ↦ through
+                | inr rose ↦ absurd (unfaulted e.0.faults e.1.faults own rose)
+              ],
+            );
+      });
+    }
+      where
+        unfaulted : (a b : ℕ) → b ≡ 0 → Rose a b → ⊥
+        unfaulted a b none (inl lt) = absurd (omega arith)
+        unfaulted a b none (inr last) = absurd (omega arith)
+
+        ends_at : (f : ℕ) (d : List Dealing) → slice_get all.fronts f ≡ Some d
+            → (b : EndFacts) × (a : EndFacts) × (slice_get olds f ≡ Some b) × (slice_get news f ≡ Some a) × MayStopAtEnd ports.batches d b a
+        ends_at f d is =
+            let lt = slice_get_within all.fronts f d is in
+            let b = some_at olds f (omega (arith, lt, all.many)) in
+            let a = some_at news f (omega (arith, lt, all.many, many)) in
+            (b.0, a.0, b.1, a.1, all.each f d b.0 a.0 is b.1 a.1)
 
   pub all_served : (options : Options) (totals : Totals) (kept : List Entry) → 1 ≤ options.partitions → length olds ≡ ports.fronts
       → ServesAll options ports.batches totals kept olds news → ServesOnTables options ports totals kept before after
   all_served options totals kept some full all = record {
     fronts = all.fronts;
     runs = all.runs;
-    served = served_beside options some all.runs all.fronts ports before after (all.many ∙ full) all.ran
-        (λ f dealings is.
-        let lt = slice_get_within all.fronts f dealings is in
-        let b = some_at olds f (omega (arith, lt, all.many)) in
-        let a = some_at news f (omega (arith, lt, all.many, many)) in
-        port_served ports.batches f dealings b.0 a.0 b.1 a.1 (all.each f dealings b.0 a.0 is b.1 a.1))
-        all.answered;
+    served = record {
+      many = all.many ∙ full;
+      datagrams = λ f dealings is.
+          let lt = slice_get_within all.fronts f dealings is in
+          let b = some_at olds f (omega (arith, lt, all.many)) in
+          let a = some_at news f (omega (arith, lt, all.many, many)) in
+          port_served ports.batches f dealings b.0 a.0 b.1 a.1 (all.each f dealings b.0 a.0 is b.1 a.1);
+      answered = lawful_beside options some all.runs all.fronts all.ran all.answered;
+    };
     counted = all.counted;
     tables = all.tables;
   }
 
 -- ends that were bound and not served were left at their beginning
-pub none_served : (batches first : ℕ) (ends : List EndFacts) (before mid : Ports) → BindsEnds first ends before mid → DealsInPartWithAll batches ends ends
+pub none_served : (batches first : ℕ) (ends : List EndFacts) (before mid : Ports) → BindsEnds first ends before mid
+    → (i : ℕ) (b a : EndFacts) → slice_get ends i ≡ Some b → slice_get ends i ≡ Some a → DealsInPartWithEnd batches [] [] b a
 none_served batches first ends before mid bound i b a is is' =
     let w = bound.each i b is in
-    let same : b ≡ a = cc in (
-      new_traffic w.datagrams,
-      new_traffic w.datagrams,
-      [],
-      w.told,
-      ap (λ (e : EndFacts). e.traffic) (sym same) ∙ w.told,
-      record { in_order = refl; few = omega arith; asked = refl; each = All-from_recursion IsDealing [] tt; sent = ([], refl) },
-    )
+    let same : b ≡ a = cc in
+    record {
+      had = new_traffic w.datagrams;
+      has = new_traffic w.datagrams;
+      had_is = w.told;
+      has_is = ap (λ (e : EndFacts). e.traffic) (sym same) ∙ w.told;
+      begins = record { in_order = refl; few = omega arith; asked = refl; each = All-from_recursion IsDealing [] tt; sent = ([], refl) };
+    }
+
+-- and so they are, where they are new
+pub none_begun : (batches first : ℕ) (ends : List EndFacts) → AreNewEnds first ends → TellAll ends → BeginsEnds batches ends ends
+none_begun batches first ends new tell i b a is is' = by b.traffic refl (tell i b is) (new i b is).fresh
+  where
+    by : (t : Option Traffic) → b.traffic ≡ t → is_some b.traffic ≡ true → IfSome b.traffic (λ t. t ≡ new_traffic t.left)
+        → (dealings : List Dealing) × (unread : List Datagram) × (length unread ≤ 1) × DealsInPartWithEnd batches dealings unread b a
+    by None e never fresh = absurd (cc)
+    by (Some t) e told fresh =
+        let same : b ≡ a = cc in
+        let is : t ≡ new_traffic t.left = subst (λ (o : Option Traffic). IfSome o (λ t. t ≡ new_traffic t.left)) e fresh in (
+          [],
+          [],
+          omega arith,
+          record {
+            had = new_traffic t.left;
+            has = new_traffic t.left;
+            had_is = e ∙ ap Some is;
+            has_is = ap (λ (x : EndFacts). x.traffic) (sym same) ∙ e ∙ ap Some is;
+            begins = record { in_order = refl; few = omega arith; asked = refl; each = All-from_recursion IsDealing [] tt; sent = ([], refl) };
+          },
+        )
 
 -- what was kept of ends that were bound
 pub kept_at : (first : ℕ) (olds news : List EndFacts) → length news ≡ length olds → AreNewEnds first olds
@@ -190,6 +310,9 @@ module _ (options : Options) (some : 1 ≤ options.partitions) (ports : PortOpti
     released = on_ports_then _ _ (ReleasesAll ports)
         (λ x y z b r. all_back ports run.olds news x y z run.many run.within b r (kept_tell run.olds news run.many run.keeps (bound_tell ports.port run.olds x y b)))
         before.ports mid.ports after.ports run.bound rel.told;
+    begun = on_ports_then _ _ (BeginsPorts ports)
+        (λ x y z b r. all_begun ports run.olds news x y z run.many run.within b r (run.begun (bound_tell ports.port run.olds x y b)))
+        before.ports mid.ports after.ports run.bound rel.told;
   }
 
   no_faults : (totals : Totals) (run : BindsAndServes options ports (Ok totals) kept before mid news) → HasNoFault before after
@@ -207,31 +330,32 @@ module _ (options : Options) (some : 1 ≤ options.partitions) (ports : PortOpti
           run.means.2.1 i o.0 a o.1 at (b.each i o.0 o.1).scripted ∙ (run.are_new i o.0 o.1).no_faults)
           ∙ run.means.1 (ap is_some is)
 
-  stops : (run : BindsAndServes options ports (Err Net) kept before mid news) → HasStopped ports before after
+  stops : (run : BindsAndServes options ports (Err Net) kept before mid news) → HasStopped options ports before after
   stops run = by run.means
     where
       by : (FailsToBind before mid run.olds news × (kept ≡ []))
-          ⊎ ((kept ≡ []) × StopsSome ports.batches run.olds news × (TellAll run.olds → DealsInPartWithAll ports.batches run.olds news)) → HasStopped ports before after
+          ⊎ ((length run.olds ≡ ports.fronts) × (is_some before.fails ≡ true → mid.faults ≡ before.faults)
+          × MeansForEnds (Err Net) options ports.batches kept run.olds news) → HasStopped options ports before after
       by (inl h) = record {
         rose = rose_before before.faults mid.faults after.faults run.never_fall h.0.rose rel.never_fall;
-        stopped = on_ports_then _ _ (StopsShort ports (before.refused < after.refused))
-            (λ x y z b r. record {
-              each = each_left ports run.olds news x y z run.many run.within b r ports.batches
-                  (subst (λ (n : List EndFacts). DealsInPartWithAll ports.batches run.olds n) (sym h.0.untouched) (none_served ports.batches ports.port run.olds x y b));
-              some = inl (omega (arith, h.0.refused, rel.refused));
-            })
+        stopped = on_ports_then _ _ (StopsShort options ports (before.refused < after.refused) (CountsFaults before after))
+            (λ x y z b r. none_stopped ports run.olds news x y z run.many run.within b r options (before.refused < after.refused) (CountsFaults before after)
+            (omega (arith, h.0.refused, rel.refused))
+            (subst (λ (n : List EndFacts). (i : ℕ) (b a : EndFacts) → slice_get run.olds i ≡ Some b → slice_get n i ≡ Some a → DealsInPartWithEnd ports.batches [] [] b a)
+            (sym h.0.untouched) (none_served ports.batches ports.port run.olds x y b)))
             before.ports mid.ports after.ports run.bound rel.told;
       }
       by (inr h) =
-          let zero_is : h.1.old.faults ≡ 0 = (run.are_new h.1.front h.1.old h.1.was).no_faults in
-          let some : 0 < h.1.new.faults = elim h.1.rose as (λ _. 0 < h.1.new.faults) [ inl lt ↦ omega (arith, zero_is) | inr last ↦ omega (arith, last) ] in
+          let stops = h.2.1 in
+          let zero_is : stops.old.faults ≡ 0 = (run.are_new stops.front stops.old stops.was).no_faults in
+          let some' : 0 < stops.new.faults = elim stops.rose as (λ _. 0 < stops.new.faults) [ inl lt ↦ omega (arith, zero_is) | inr last ↦ omega (arith, last) ] in
           record {
-            rose = rose_on before.faults mid.faults after.faults run.never_fall (rel.cause h.1.front h.1.new h.1.is some);
-            stopped = on_ports_then _ _ (StopsShort ports (before.refused < after.refused))
-                (λ x y z b r. record {
-                  each = each_left ports run.olds news x y z run.many run.within b r ports.batches (h.2 (bound_tell ports.port run.olds x y b));
-                  some = inr (stopped_some ports run.olds news x y z run.many run.within b r ports.batches h.1);
-                })
+            rose = rose_on before.faults mid.faults after.faults run.never_fall (rel.cause stops.front stops.new stops.is some');
+            stopped = on_ports_then _ _ (StopsShort options ports (before.refused < after.refused) (CountsFaults before after))
+                (λ x y z b r. all_stopped ports run.olds news x y z run.many run.within b r options (before.refused < after.refused) (CountsFaults before after)
+                some h.0 stops
+                (λ told. rel.counted (ap is_some run.fails ∙ told) ∙ ap (λ (n : ℕ). min (n + sum_by (λ (e : EndFacts). e.faults) news) LAST_COUNT) (h.1 told))
+                (h.2.2 (bound_tell ports.port run.olds x y b)))
                 before.ports mid.ports after.ports run.bound rel.told;
           }
 
@@ -246,9 +370,9 @@ module _ (options : Options) (some : 1 ≤ options.partitions) (ports : PortOpti
   }
   cause (Err Net) run = (unkept run.means, stops run)
     where
-      unkept : {A B C : Type 0} → (A × (kept ≡ [])) ⊎ ((kept ≡ []) × B × C) → kept ≡ []
+      unkept : {A B C D E : Type 0} → (A × (kept ≡ [])) ⊎ (B × C × ((kept ≡ []) × D × E)) → kept ≡ []
       unkept (inl h) = h.1
-      unkept (inr h) = h.0
+      unkept (inr h) = h.2.0
   cause (Err NoMemory) run = run.means
 
 -- the run up to the release
@@ -268,6 +392,7 @@ module _ (ports : PortOptions) (before mid : NetFacts) (olds : List EndFacts) (a
     fails = fails;
     binds = binds;
     first = first;
+    begun = none_begun ports.batches ports.port olds are_new;
     means = subst (λ (r : Result Totals ServeFault). MeansForRun r options ports kept before mid olds olds) (sym is) (inl (record { rose = rose; refused = refused; untouched = refl }, none));
   }
 
@@ -285,12 +410,13 @@ module _ (ports : PortOptions) (before mid : NetFacts) (olds : List EndFacts) (a
     fails = fails;
     binds = binds;
     first = first;
+    begun = s.begun;
     means = by answer s.means;
   }
     where
       by : (answer : Result Totals ServeFault) → MeansForEnds answer options ports.batches kept olds news → MeansForRun answer options ports kept before mid olds news
       by (Ok totals) m = (full, steady, m)
-      by (Err Net) m = inr m
+      by (Err Net) m = inr (full, steady, m)
       by (Err NoMemory) m = m
 
 -- the ports of the ends are out until they are released, and the ends tell what they did
@@ -306,3 +432,21 @@ pub tell_until : (first : ℕ) (olds news : List EndFacts) (a b : Option Ports) 
 tell_until first olds news None b many kept p = subst (λ (o : Option Ports). IfSome o (λ all. TellAll news)) (sym p) tt
 tell_until first olds news (Some x) None many kept p = absurd p
 tell_until first olds news (Some x) (Some y) many kept p = kept_tell olds news many kept (bound_tell first olds x y p)
+
+-- a net that was left as it was
+pub net_kept : (ports : PortOptions) (net : NetFacts) → net.binds ≡ 0 → KeepsNet ports net net
+net_kept ports net unbound = record {
+  binds = omega (arith, unbound);
+  first = λ some. absurd (omega (arith, unbound));
+  never_fall = omega arith;
+  released = by net.ports;
+  begun = nothing net.ports;
+}
+  where
+    by : (o : Option Ports) → OnPorts (ReleasesAll ports) o o
+    by None = refl
+    by (Some x) = record { released = λ port is. is; others = λ port other. refl }
+
+    nothing : (o : Option Ports) → OnPorts (BeginsPorts ports) o o
+    nothing None = refl
+    nothing (Some x) = λ f lt. ([], [], omega arith, inl (refl, refl, refl))

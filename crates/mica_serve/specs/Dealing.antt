@@ -2,7 +2,7 @@
 use Rattle.std.specs.Prelude.{◌≡◌, ◌⊎◌, ℕ, suc, List, [], ◌∷◌, ◌++◌, map, flat_map, All}
 use Rattle.mica_io.specs.Traffic.{Datagram, Sent}
 use Rattle.batch_packets.specs.declared.batch.Batch.{Batch}
-use Rattle.batch_packets.specs.BatchGrammar.{SpellsBatch, version_of}
+use Rattle.batch_packets.specs.BatchGrammar.{SpellsBatch}
 use Rattle.batch_packets.specs.ReplyGrammar.{IsReply, replies_text}
 use Rattle.batch_packets.specs.Splitting.{SplitsInto}
 use Rattle.mica_serve.specs.Turn.{Turn, bad_batch_reply}
@@ -24,15 +24,16 @@ pub record AnswersBatch (dealing : Dealing) : Type 0 where
   pub batch : Batch
   pub spelled : SpellsBatch dealing.datagram batch
   pub requests : map (λ t. t.request) dealing.turns ≡ batch.requests
-  pub each : All (IsTurn (version_of batch)) dealing.turns
-  pub split : SplitsInto (version_of batch) batch.number (map (λ t. t.reply) dealing.turns) dealing.replies
+  pub each : All (IsTurn batch.version) dealing.turns
+  pub split : SplitsInto batch.version batch.number (map (λ t. t.reply) dealing.turns) dealing.replies
 
 -- the bytes are the text of no batch
 abbrev pub IsNoBatch : Datagram → Type 0
 IsNoBatch bytes = (batch : Batch) → ¬ (SpellsBatch bytes batch)
 
+-- it is of the first version, whatever came
 abbrev pub bad_batch_text : Datagram
-bad_batch_text = replies_text (record { number = 0; replies = bad_batch_reply ∷ [] })
+bad_batch_text = replies_text (record { version = 1; number = 0; replies = bad_batch_reply ∷ [] })
 
 -- the datagram is no batch: one reply says so
 pub record RefusesBatch (dealing : Dealing) : Type 0 where

@@ -10,7 +10,7 @@ use Rattle.mica_serve.specs.declared.ports.ServeFault.TheVariants.{Net, NoMemory
 use Rattle.partition_table.specs.declared.tables.Entry.{Entry}
 use Rattle.mica_serve.specs.Dealing.{Dealing, IsDealing, turns_in, due_to}
 use Rattle.mica_serve.specs.Session.{Sessions, AnswersInOrder, count_of_writes}
-use Rattle.mica_serve.specs.Served.{Placed, BeginsAs, Counts}
+use Rattle.mica_serve.specs.Served.{Placed, BeginsAs, IsThrough, Counts}
 use Rattle.mica_serve.specs.Beside.{AnsweredBeside, RunsPartitions, AreServedTables, HaveShapes}
 
 -- One end
@@ -53,17 +53,26 @@ pub record ServesOne (options : Options) (is_alone : Bool) (old : Sessions) (lef
   pub answers : AnswersInOrder options is_alone old dealing.turns new
   pub few : left ≤ left_after + count_of_writes dealing.turns
 
--- one datagram was received, and a proper beginning of what is due to it was sent
-pub record SendsShort (before after : Traffic) : Type 0 where
+-- one datagram was received and dealt with, and a proper beginning of what is due to it was sent
+pub record SendsShort (options : Options) (is_alone : Bool) (old : Sessions) (left : ℕ) (new : Sessions) (left_after : ℕ) (before after : Traffic)
+    : Type 0 where
   pub dealing : Dealing
   pub later : List Datagram
   pub next : before.left ≡ dealing.datagram ∷ later
   pub is : IsDealing dealing
   pub part : SendsPart dealing.replies (received_one dealing.datagram later before) after
+  pub answers : AnswersInOrder options is_alone old dealing.turns new
+  pub few : left ≤ left_after + count_of_writes dealing.turns
 
 -- a fault came before a datagram was received, or before all that is due to it was sent
-abbrev pub StopsOne : Traffic → Traffic → Type 0
-StopsOne before after = (after ≡ before) ⊎ SendsShort before after
+abbrev pub StopsOne : Options → Bool → Sessions → ℕ → Sessions → ℕ → Traffic → Traffic → Type 0
+StopsOne options is_alone old left new left_after before after =
+    ((after ≡ before) × (new ≡ old) × (left_after ≡ left)) ⊎ SendsShort options is_alone old left new left_after before after
+
+-- one datagram was received, and nothing was sent
+abbrev pub LeavesUnread : Traffic → Traffic → Type 0
+LeavesUnread before after =
+    (datagram : Datagram) × (later : List Datagram) × (before.left ≡ datagram ∷ later) × (after ≡ received_one datagram later before)
 
 -- totals after one more datagram of so many requests
 abbrev pub counted : ℕ → Totals → Totals
@@ -113,11 +122,12 @@ pub record ServesEnd (options : Options) (is_alone : Bool) (old : Sessions) (lef
   pub few : left ≤ left_after + count_of_writes (turns_in dealings)
   pub counts : Counts (dealings ∷ []) totals
 
--- What a front made of an end in part: it received a beginning of the datagrams, at most so many, and sent a beginning of what is due to them.
-pub record BeginsEnd (batches : ℕ) (dealings : List Dealing) (before after : Traffic) : Type 0 where
+-- What a front made of an end in part: it received a beginning of the datagrams, at most so many, dealt with all of these but the last ones that
+-- are unread, and sent a beginning of what is due to those that it dealt with.
+pub record BeginsEnd (batches : ℕ) (dealings : List Dealing) (unread : List Datagram) (before after : Traffic) : Type 0 where
   pub in_order : before.left ≡ after.received ++ after.left
   pub few : length after.received ≤ batches
-  pub asked : map (λ d. d.datagram) dealings ≡ after.received
+  pub asked : map (λ d. d.datagram) dealings ++ unread ≡ after.received
   pub each : All IsDealing dealings
   pub sent : BeginsAs after.sent (due_to dealings)
 
@@ -126,11 +136,21 @@ abbrev pub IsShort : ℕ → List Dealing → Bool → Traffic → Type 0
 IsShort batches dealings ended after =
     (length after.sent < length (due_to dealings)) ⊎ ((ended ≡ false) × (length after.received < batches))
 
--- what a front left of an end at a fault
-pub record LeavesEnd (batches : ℕ) (ended : Bool) (before after : Traffic) : Type 0 where
+-- what a front left of an end at a fault, and that it answered all that it dealt with
+pub record LeavesEnd (options : Options) (is_alone : Bool) (old : Sessions) (left : ℕ) (batches : ℕ) (ended : Bool) (new : Sessions) (left_after : ℕ)
+    (before after : Traffic) : Type 0 where
   pub dealings : List Dealing
-  pub begins : BeginsEnd batches dealings before after
+  pub begins : BeginsEnd batches dealings [] before after
   pub short : IsShort batches dealings ended after
+  pub answers : AnswersInOrder options is_alone old (turns_in dealings) new
+  pub few : left ≤ left_after + count_of_writes (turns_in dealings)
+
+-- what a front left of an end at want of memory: one datagram at most is unread
+pub record WantsAtEnd (batches : ℕ) (before after : Traffic) : Type 0 where
+  pub dealings : List Dealing
+  pub unread : List Datagram
+  pub one : length unread ≤ 1
+  pub begins : BeginsEnd batches dealings unread before after
 
 -- All ends
 
@@ -201,18 +221,29 @@ pub record DealsWithEnd (batches : ℕ) (dealings : List Dealing) (before after 
   pub at_end : after.has_ended ≡ nat_lt (length had.left) batches
 
 -- what it made of an end in part, or left untouched
-abbrev pub DealsInPartWithEnd : ℕ → EndFacts → EndFacts → Type 0
-DealsInPartWithEnd batches before after =
-    (had : Traffic) × (has : Traffic) × (dealings : List Dealing)
-    × (before.traffic ≡ Some had) × (after.traffic ≡ Some has) × BeginsEnd batches dealings had has
-
--- it stopped at a fault
-pub record StopsEnd (batches : ℕ) (before after : EndFacts) : Type 0 where
+pub record DealsInPartWithEnd (batches : ℕ) (dealings : List Dealing) (unread : List Datagram) (before after : EndFacts) : Type 0 where
   pub had : Traffic
   pub has : Traffic
   pub had_is : before.traffic ≡ Some had
   pub has_is : after.traffic ≡ Some has
-  pub leaves : LeavesEnd batches after.has_ended had has
+  pub begins : BeginsEnd batches dealings unread had has
+
+-- each end was dealt with at least in part, and one datagram of it at most is unread
+abbrev pub BeginsEnds : ℕ → List EndFacts → List EndFacts → Type 0
+BeginsEnds batches before after =
+    (i : ℕ) (old new : EndFacts) → slice_get before i ≡ Some old → slice_get after i ≡ Some new
+    → (dealings : List Dealing) × (unread : List Datagram) × (length unread ≤ 1) × DealsInPartWithEnd batches dealings unread old new
+
+-- it stopped at a fault
+pub record StopsEnd (batches : ℕ) (before after : EndFacts) : Type 0 where
+  pub dealings : List Dealing
+  pub part : DealsInPartWithEnd batches dealings [] before after
+  pub short : IsShort batches dealings after.has_ended part.has
+
+-- it was dealt with in part, and to the end where no fault came
+pub record MayStopAtEnd (batches : ℕ) (dealings : List Dealing) (before after : EndFacts) : Type 0 where
+  pub part : DealsInPartWithEnd batches dealings [] before after
+  pub through : IsThrough batches part.has after.has_ended dealings ⊎ Rose before.faults after.faults
 
 -- an end keeps its port, its count does not fall, and it goes on telling what it told
 pub record KeepsEnd (before after : EndFacts) : Type 0 where
@@ -252,17 +283,23 @@ abbrev pub HasNoEndFault : List EndFacts → List EndFacts → Type 0
 HasNoEndFault before after = (i : ℕ) (old new : EndFacts) → slice_get before i ≡ Some old → slice_get after i ≡ Some new → old.has_script ≡ true
     → new.faults ≡ old.faults
 
--- each end was dealt with at least in part
-abbrev pub DealsInPartWithAll : ℕ → List EndFacts → List EndFacts → Type 0
-DealsInPartWithAll batches before after = (i : ℕ) (old new : EndFacts) → slice_get before i ≡ Some old → slice_get after i ≡ Some new
-    → DealsInPartWithEnd batches old new
+-- each front dealt with its end in part, beside the others
+pub record StopsBeside (options : Options) (batches : ℕ) (before after : List EndFacts) : Type 0 where
+  pub fronts : List (List Dealing)
+  pub runs : ℕ → List Placed
+  pub many : length fronts ≡ length before
+  pub each : (f : ℕ) (dealings : List Dealing) (b a : EndFacts) → slice_get fronts f ≡ Some dealings → slice_get before f ≡ Some b → slice_get after f ≡ Some a
+      → MayStopAtEnd batches dealings b a
+  pub ran : RunsPartitions options (length fronts) runs
+  pub answered : (f : ℕ) (dealings : List Dealing) → slice_get fronts f ≡ Some dealings
+      → (old : Sessions) × (new : Sessions) × AnsweredBeside options runs f (turns_in dealings) old new
 
--- What each answer says of the ends and of the tables that are kept. Want of memory says nothing of the ends.
+-- what each answer says of the ends and of the tables that are kept
 abbrev pub MeansForEnds : Result Totals ServeFault → Options → ℕ → List Entry → List EndFacts → List EndFacts → Type 0
 MeansForEnds (Ok totals) options batches kept before after =
     HaveShapes options kept × HasNoEndFault before after × (TellAll before → ServesAll options batches totals kept before after)
 MeansForEnds (Err Net) options batches kept before after =
-    (kept ≡ []) × StopsSome batches before after × (TellAll before → DealsInPartWithAll batches before after)
+    (kept ≡ []) × StopsSome batches before after × (TellAll before → StopsBeside options batches before after)
 MeansForEnds (Err NoMemory) options batches kept before after = kept ≡ []
 
 -- the fronts were served, beside each other
@@ -270,4 +307,5 @@ pub record ServesFronts (options : Options) (batches : ℕ) (answer : Result Tot
     : Type 0 where
   pub many : length after ≡ length before
   pub keeps : (i : ℕ) (b a : EndFacts) → slice_get before i ≡ Some b → slice_get after i ≡ Some a → KeepsEnd b a
+  pub begun : TellAll before → BeginsEnds batches before after
   pub means : MeansForEnds answer options batches kept before after

@@ -1,5 +1,5 @@
 -- What the fronts of a server came to, each beside the others, and what their owners took in of them.
-use Rattle.std.specs.Prelude.{false, ◌≡◌, ◌≢◌, ◌+◌, ◌<◌, ◌≤◌, ℕ, true, List, ◌++◌, map, length, slice_get, Some, sum_by, ⊤, Result, Ok, Err}
+use Rattle.std.specs.Prelude.{false, ◌≡◌, ◌≢◌, ◌+◌, ◌<◌, ◌≤◌, ℕ, true, List, ◌++◌, map, length, slice_get, Some, sum_by, Result, Ok, Err}
 use Rattle.mica_io.specs.Faults.{Rose}
 use Rattle.mica_model.specs.declared.options.Options.{Options}
 use Rattle.mica_model.specs.History.{IsPrefix}
@@ -11,7 +11,7 @@ use Rattle.mica_serve.specs.declared.ports.ServeFault.TheVariants.{Net, NoMemory
 use Rattle.mica_serve.specs.Session.{Told, Sessions}
 use Rattle.mica_serve.specs.Served.{Placed, steps_by, history_in}
 use Rattle.mica_serve.specs.Beside.{closed_of, total_below, IsUntold, RunsPartitions, HaveShapes}
-use Rattle.mica_serve.specs.Ends.{EndFacts, OnTraffic, ServesEnd, LeavesEnd, KeepsEnd, IsUpTo}
+use Rattle.mica_serve.specs.Ends.{EndFacts, OnTraffic, ServesEnd, LeavesEnd, WantsAtEnd, KeepsEnd, IsUpTo}
 
 -- a front before and after it was served: its answer, its sessions, and how many writes it could still be given
 pub record FrontRun : Type 0 where
@@ -21,14 +21,14 @@ pub record FrontRun : Type 0 where
   pub left : ℕ
   pub left_after : ℕ
 
--- what each answer of a front says of its end; want of memory says nothing
+-- what each answer of a front says of its end
 abbrev pub MeansForFront : Result Totals ServeFault → Options → ℕ → FrontRun → EndFacts → EndFacts → Type 0
 MeansForFront (Ok totals) options batches run before after =
     IsUpTo batches totals × (before.has_script ≡ true → after.faults ≡ before.faults)
     × OnTraffic (ServesEnd options false run.old run.left batches after.has_ended totals run.new run.left_after) before.traffic after.traffic
 MeansForFront (Err Net) options batches run before after =
-    Rose before.faults after.faults × OnTraffic (LeavesEnd batches after.has_ended) before.traffic after.traffic
-MeansForFront (Err NoMemory) options batches run before after = ⊤
+    Rose before.faults after.faults × OnTraffic (LeavesEnd options false run.old run.left batches after.has_ended run.new run.left_after) before.traffic after.traffic
+MeansForFront (Err NoMemory) options batches run before after = OnTraffic (WantsAtEnd batches) before.traffic after.traffic
 
 -- a front was served at its end
 pub record RunsFront (options : Options) (batches : ℕ) (run : FrontRun) (before after : EndFacts) : Type 0 where

@@ -1,16 +1,16 @@
 -- What a net tells before and after a call.
-use Rattle.std.specs.Prelude.{◌≡◌, ◌≢◌, ◌+◌, ◌⊎◌, ℕ, ◌<◌, ◌≤◌, true, List, [], length, slice_get, Option, Some, None, is_some, IfSome, Result, Ok, Err}
+use Rattle.std.specs.Prelude.{◌≡◌, ◌≢◌, ◌+◌, ◌⊎◌, ℕ, ◌<◌, ◌≤◌, true, List, [], length, slice_get, Option, Some, None, is_some, IfSome, min, sum_by, Result, Ok, Err}
 use Rattle.mica_io.specs.Ports.{Ports, out}
-use Rattle.mica_io.specs.Faults.{Rose}
+use Rattle.mica_io.specs.Faults.{Rose, LAST_COUNT}
 use Rattle.mica_model.specs.declared.options.Options.{Options}
 use Rattle.mica_serve.specs.declared.ports.Ports.{Ports as PortOptions}
 use Rattle.mica_serve.specs.declared.ports.Totals.{Totals}
 use Rattle.mica_serve.specs.declared.ports.ServeFault.{ServeFault}
 use Rattle.mica_serve.specs.declared.ports.ServeFault.TheVariants.{Net, NoMemory}
 use Rattle.partition_table.specs.declared.tables.Entry.{Entry}
-use Rattle.mica_serve.specs.Served.{Serves, StopsShort}
+use Rattle.mica_serve.specs.Served.{Serves, StopsShort, BeginsPorts}
 use Rattle.mica_serve.specs.Beside.{ServesOnTables, HaveShapes}
-use Rattle.mica_serve.specs.Ends.{EndFacts, AreNewEnds, BindsEnds, ReleasesEnds, KeepsEnd, MeansForEnds}
+use Rattle.mica_serve.specs.Ends.{EndFacts, AreNewEnds, BindsEnds, ReleasesEnds, KeepsEnd, TellAll, BeginsEnds, MeansForEnds}
 
 -- what contracts see of a net at one moment
 pub record NetFacts : Type 0 where
@@ -47,10 +47,14 @@ pub record HasServed (options : Options) (ports : PortOptions) (totals : Totals)
   pub served : OnPorts (Serves options ports totals) before.ports after.ports
   pub no_fault : HasNoFault before after
 
--- a fault of the net stopped a front or a bind
-pub record HasStopped (ports : PortOptions) (before after : NetFacts) : Type 0 where
+-- where the net tells its failing binds beforehand, its count rose by so many, as far as it can count
+abbrev pub CountsFaults : NetFacts → NetFacts → ℕ → Type 0
+CountsFaults before after faults = is_some before.fails ≡ true → min after.faults LAST_COUNT ≡ min (before.faults + faults) LAST_COUNT
+
+-- A fault of the net stopped a front or a bind. What was answered until then is lawful.
+pub record HasStopped (options : Options) (ports : PortOptions) (before after : NetFacts) : Type 0 where
   pub rose : Rose before.faults after.faults
-  pub stopped : OnPorts (StopsShort ports (before.refused < after.refused)) before.ports after.ports
+  pub stopped : OnPorts (StopsShort options ports (before.refused < after.refused) (CountsFaults before after)) before.ports after.ports
 
 -- the fronts served, the totals count what they did, and these are the tables of their partitions
 pub record HasServedOnTables (options : Options) (ports : PortOptions) (totals : Totals) (kept : List Entry) (before after : NetFacts) : Type 0 where
@@ -58,10 +62,10 @@ pub record HasServedOnTables (options : Options) (ports : PortOptions) (totals :
   pub no_fault : HasNoFault before after
   pub shapes : HaveShapes options kept
 
--- What each answer says of the net and of the tables that are kept. Want of memory says nothing of the net.
+-- What each answer says of the net and of the tables that are kept. Want of memory says nothing more of the net than `KeepsNet`.
 abbrev pub IsCauseOf : Result Totals ServeFault → Options → PortOptions → List Entry → NetFacts → NetFacts → Type 0
 IsCauseOf (Ok totals) options ports kept before after = HasServedOnTables options ports totals kept before after
-IsCauseOf (Err Net) options ports kept before after = (kept ≡ []) × HasStopped ports before after
+IsCauseOf (Err Net) options ports kept before after = (kept ≡ []) × HasStopped options ports before after
 IsCauseOf (Err NoMemory) options ports kept before after = kept ≡ []
 
 -- no end is out that was not out before, and only ports of fronts changed
@@ -69,12 +73,13 @@ pub record ReleasesAll (ports : PortOptions) (before after : Ports) : Type 0 whe
   pub released : (port : ℕ) → after port ≡ out → before port ≡ out
   pub others : (port : ℕ) → ((f : ℕ) → f < ports.fronts → port ≢ ports.port + f) → after port ≡ before port
 
--- whatever the answer: at most one bind for each front, from the first port on, and each end is back
+-- Whatever the answer: at most one bind for each front, from the first port on, each end is back, and what was sent is a beginning of what is due.
 pub record KeepsNet (ports : PortOptions) (before after : NetFacts) : Type 0 where
   pub binds : after.binds ≤ ports.fronts
   pub first : 0 < after.binds → after.first ≡ ports.port
   pub never_fall : before.faults ≤ after.faults
   pub released : OnPorts (ReleasesAll ports) before.ports after.ports
+  pub begun : OnPorts (BeginsPorts ports) before.ports after.ports
 
 -- a bind failed, and no end was served
 pub record FailsToBind (before after : NetFacts) (olds news : List EndFacts) : Type 0 where
@@ -88,7 +93,9 @@ MeansForRun (Ok totals) options ports kept before after olds news =
     (length olds ≡ ports.fronts) × (is_some before.fails ≡ true → after.faults ≡ before.faults)
     × MeansForEnds (Ok totals) options ports.batches kept olds news
 MeansForRun (Err Net) options ports kept before after olds news =
-    (FailsToBind before after olds news × (kept ≡ [])) ⊎ MeansForEnds (Err Net) options ports.batches kept olds news
+    (FailsToBind before after olds news × (kept ≡ []))
+    ⊎ ((length olds ≡ ports.fronts) × (is_some before.fails ≡ true → after.faults ≡ before.faults)
+    × MeansForEnds (Err Net) options ports.batches kept olds news)
 MeansForRun (Err NoMemory) options ports kept before after olds news = kept ≡ []
 
 -- The ports were bound, up to the first bind that failed, and the fronts served; these ends are left to be released.
@@ -104,6 +111,7 @@ pub record BindsAndServes (options : Options) (ports : PortOptions) (answer : Re
   pub fails : after.fails ≡ before.fails
   pub binds : after.binds ≤ ports.fronts
   pub first : 0 < after.binds → after.first ≡ ports.port
+  pub begun : TellAll olds → BeginsEnds ports.batches olds news
   pub means : MeansForRun answer options ports kept before after olds news
 
 -- the ends were released, and the net tells what they tell
@@ -111,6 +119,7 @@ pub record ReleasesNet (first : ℕ) (ends : List EndFacts) (before after : NetF
   pub told : OnPorts (ReleasesEnds first ends) before.ports after.ports
   pub cause : (i : ℕ) (end : EndFacts) → slice_get ends i ≡ Some end → 0 < end.faults → Rose before.faults after.faults
   pub steady : is_some before.fails ≡ true → ((i : ℕ) (end : EndFacts) → slice_get ends i ≡ Some end → end.faults ≡ 0) → after.faults ≡ before.faults
+  pub counted : CountsFaults before after (sum_by (λ e. e.faults) ends)
   pub never_fall : before.faults ≤ after.faults
   pub binds : after.binds ≡ before.binds
   pub first_is : after.first ≡ before.first

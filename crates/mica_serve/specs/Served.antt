@@ -1,5 +1,5 @@
 -- What the fronts of a server received and replied to.
-use Rattle.std.specs.Prelude.{◌≡◌, ◌+◌, ◌<◌, ◌≤◌, ◌==◌, ◌⊎◌, ℕ, Bool, true, List, ◌++◌, take, drop, map, length, slice_get, nat_lt, Some, None, if◌then◌else◌, AllPairs, All, sum_by, filter}
+use Rattle.std.specs.Prelude.{◌≡◌, ◌+◌, ◌<◌, ◌≤◌, ◌==◌, ◌⊎◌, ℕ, Bool, true, List, [], ◌++◌, sum, take, drop, map, length, slice_get, nat_lt, Some, None, if◌then◌else◌, AllPairs, All, sum_by, filter}
 use Rattle.std.specs.List.{filter_map, AllZip}
 use Rattle.mica_io.specs.Traffic.{Datagram, Traffic, EndScript, Sent}
 use Rattle.mica_io.specs.Ports.{Port, Ports, waiting, back, is_waiting}
@@ -76,16 +76,20 @@ pub record IsGetAt (options : Options) (partition : ℕ) (turns : List Turn) (n 
 abbrev pub history_in : List Placed → History
 history_in placed = history_of (steps_in placed)
 
+-- The writes of all fronts are one run of each partition's machine, and each get is its answer, no older than what its front was told.
+pub record AnswersLawfully (options : Options) (fronts : List (List Turn)) (runs : ℕ → List Placed) : Type 0 where
+  pub writes : (p : ℕ) → p < options.partitions → ServesWrites options p fronts (runs p)
+  pub order : (p f : ℕ) → p < options.partitions → AllPairs NoFall (steps_by f (runs p))
+  pub gets : (p f : ℕ) (turns : List Turn) (n : ℕ) (turn : Turn) → p < options.partitions → slice_get fronts f ≡ Some turns
+      → IsGetAt options p turns n turn → ServesGet options (history_in (runs p)) turns n turn
+
 -- What the ports of a net tell before and after, what each front made of its datagrams, and a run of each partition's machine.
 pub record Served (options : Options) (ports : PortOptions) (before after : Ports) (fronts : List (List Dealing)) (runs : ℕ → List Placed)
     : Type 0 where
   pub many : length fronts ≡ ports.fronts
   pub datagrams : (f : ℕ) (dealings : List Dealing) → slice_get fronts f ≡ Some dealings
       → ServesPort ports.batches (before (ports.port + f)) (after (ports.port + f)) dealings
-  pub writes : (p : ℕ) → p < options.partitions → ServesWrites options p (map turns_in fronts) (runs p)
-  pub order : (p f : ℕ) → p < options.partitions → AllPairs NoFall (steps_by f (runs p))
-  pub gets : (p f : ℕ) (dealings : List Dealing) (n : ℕ) (turn : Turn) → p < options.partitions → slice_get fronts f ≡ Some dealings
-      → IsGetAt options p (turns_in dealings) n turn → ServesGet options (history_in (runs p)) (turns_in dealings) n turn
+  pub answered : AnswersLawfully options (map turns_in fronts) runs
 
 abbrev pub has_no_turns : Dealing → Bool
 has_no_turns dealing = length dealing.turns == 0
@@ -109,28 +113,38 @@ pub record Serves (options : Options) (ports : PortOptions) (totals : Totals) (b
 abbrev pub BeginsAs : List Sent → List Sent → Type 0
 BeginsAs begun all = (later : List Sent) × (all ≡ begun ++ later)
 
--- The front received a beginning of the datagrams of its port, at most so many of them, and sent a beginning of what is due to these.
-pub record BeginsPort (batches : ℕ) (before : Port) (traffic : Traffic) (dealings : List Dealing) : Type 0 where
+-- The front received a beginning of the datagrams of its port, at most so many of them, dealt with all of these but the last ones that are
+-- unread, and sent a beginning of what is due to those that it dealt with.
+pub record BeginsPort (batches : ℕ) (before : Port) (traffic : Traffic) (dealings : List Dealing) (unread : List Datagram) : Type 0 where
   pub datagrams : List Datagram
   pub script : EndScript
   pub waited : before ≡ waiting datagrams script
   pub in_order : datagrams ≡ traffic.received ++ traffic.left
   pub few : length traffic.received ≤ batches
-  pub received : map (λ e. e.datagram) dealings ≡ traffic.received
+  pub received : map (λ e. e.datagram) dealings ++ unread ≡ traffic.received
   pub each : All IsDealing dealings
   pub sent : BeginsAs traffic.sent (due_to dealings)
+
+-- the port of a front is as it was, or its end is back
+abbrev pub LeavesPort : ℕ → Port → Port → List Dealing → List Datagram → Type 0
+LeavesPort batches before after dealings unread =
+    ((after ≡ before) × (dealings ≡ []) × (unread ≡ []))
+    ⊎ ((traffic : Traffic) × (ended : Bool) × (after ≡ back traffic ended) × BeginsPort batches before traffic dealings unread)
+
+-- what was sent from each port is a beginning of what is due to what came there, of which one datagram at most is unread
+abbrev pub BeginsPorts : PortOptions → Ports → Ports → Type 0
+BeginsPorts ports before after =
+    (f : ℕ) → f < ports.fronts → (dealings : List Dealing) × (unread : List Datagram) × (length unread ≤ 1)
+    × LeavesPort ports.batches (before (ports.port + f)) (after (ports.port + f)) dealings unread
 
 -- all that is due was sent, and the datagrams ended, or so many were received
 abbrev pub IsThrough : ℕ → Traffic → Bool → List Dealing → Type 0
 IsThrough batches traffic ended dealings =
     (traffic.sent ≡ due_to dealings) × ((ended ≡ true) ⊎ (length traffic.received ≡ batches))
 
--- the port of a front is as it was, or its end is back
-abbrev pub LeavesPort : ℕ → Port → Port → Type 0
-LeavesPort batches before after =
-    (after ≡ before)
-    ⊎ ((traffic : Traffic) × (ended : Bool) × (dealings : List Dealing)
-    × (after ≡ back traffic ended) × BeginsPort batches before traffic dealings)
+-- the end of a front is back, and the front is through
+abbrev pub CameThrough : ℕ → Port → List Dealing → Type 0
+CameThrough batches after dealings = (traffic : Traffic) × (ended : Bool) × (after ≡ back traffic ended) × IsThrough batches traffic ended dealings
 
 -- the end of a front is back, and the front is not through, whatever else may be due to its datagrams
 abbrev pub IsCutShort : ℕ → Port → Type 0
@@ -143,7 +157,22 @@ IsCutShort batches after = ⊥
 abbrev pub IsStopped : ℕ → Port → Port → Type 0
 IsStopped batches before after = (is_waiting before ≡ true) × IsCutShort batches after
 
--- each front stopped or was through, and a bind failed or some front is not through
-pub record StopsShort (ports : PortOptions) (bind_failed : Type 0) (before after : Ports) : Type 0 where
-  pub each : (f : ℕ) → f < ports.fronts → LeavesPort ports.batches (before (ports.port + f)) (after (ports.port + f))
+-- So many faults of each front's own are all that the net counted, and a front that had none came through.
+pub record BlamesFronts (ports : PortOptions) (counts : ℕ → Type 0) (fronts : List (List Dealing)) (after : Ports) : Type 0 where
+  pub faults : List ℕ
+  pub many : length faults ≡ ports.fronts
+  pub counted : counts (sum faults)
+  pub through : (f : ℕ) (dealings : List Dealing) → slice_get fronts f ≡ Some dealings → slice_get faults f ≡ Some 0
+      → CameThrough ports.batches (after (ports.port + f)) dealings
+
+-- Each front began its port with these dealings, and all that was answered is lawful. A bind failed, or some front is not through, and each that
+-- is not had a fault of its own.
+pub record StopsShort (options : Options) (ports : PortOptions) (bind_failed : Type 0) (counts : ℕ → Type 0) (before after : Ports) : Type 0 where
+  pub fronts : List (List Dealing)
+  pub runs : ℕ → List Placed
+  pub many : length fronts ≡ ports.fronts
+  pub each : (f : ℕ) (dealings : List Dealing) → slice_get fronts f ≡ Some dealings
+      → LeavesPort ports.batches (before (ports.port + f)) (after (ports.port + f)) dealings []
+  pub answered : AnswersLawfully options (map turns_in fronts) runs
   pub some : bind_failed ⊎ ((f : ℕ) × (f < ports.fronts) × IsStopped ports.batches (before (ports.port + f)) (after (ports.port + f)))
+  pub blamed : bind_failed ⊎ BlamesFronts ports counts fronts after

@@ -13,7 +13,7 @@ use Rattle.batch_packets.specs.declared.batch.Request.{Request}
 use Rattle.batch_packets.specs.BatchGrammar.{SpellsBatch}
 use Rattle.owner_queue.specs.declared.message.Message.{Message}
 use Rattle.owner_queue.specs.declared.ack.Ack.{Ack}
-use Rattle.owner_queue.specs.Ends.{Queue}
+use Rattle.ruled_queue.specs.Ends.{Queue}
 use Rattle.owner_queue.specs.Acked.{IsReplyAt}
 use Rattle.mica_serve.specs.Dealing.{Dealing, IsDealing}
 use Rattle.mica_serve.specs.Turn.{Turn, write_in, partition_in, write_reply, get_reply}

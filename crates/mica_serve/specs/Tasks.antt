@@ -8,8 +8,6 @@ use Rattle.mica_serve.specs.declared.ports.Totals.{Totals}
 use Rattle.mica_serve.specs.declared.ports.ServeFault.{ServeFault}
 use Rattle.mica_serve.specs.declared.worker.OwnerTask.{OwnerTask}
 use Rattle.mica_serve.specs.declared.worker.FrontTask.{FrontTask}
-use Rattle.mica_serve.specs.declared.worker.Worker.{Worker}
-use Rattle.mica_serve.specs.declared.worker.Worker.TheVariants.{Owner, Front}
 use Rattle.mica_serve.specs.declared.running.Room.{Room}
 use Rattle.mica_serve.specs.declared.running.Server.{Server}
 use Rattle.mica_serve.specs.declared.ports.Ports.{Ports}
@@ -46,43 +44,30 @@ module _ {D : Type 0} where
     pub front_is : old.front ≡ Some front
     pub ran : RanFront batches front new.answer new.parts.items (facts old.end) (facts new.end)
 
-module _ {P D : Type 0} where
-  module _ (owner : P → OwnerState) (home : P → TableId) (batches : ℕ) (facts : D → EndFacts) where
-    abbrev pub IsReadyWorker : Worker P D → Type 0
-    IsReadyWorker (Owner task) = IsReadyOwner (owner_end owner home task)
-    IsReadyWorker (Front task) = IsReadyFront batches facts task
+module _ {D : Type 0} (batches : ℕ) (facts : D → EndFacts) where
+  abbrev pub FrontsRan : List (FrontTask D) → List (FrontTask D) → Type 0
+  FrontsRan xs ys = (length ys ≡ length xs) × ((i : ℕ) (d : FrontTask D) → i < length xs → FrontRan batches facts (slice_index_or xs i d) (slice_index_or ys i d))
 
-    abbrev pub WorkerRan : Worker P D → Worker P D → Type 0
-    WorkerRan (Owner old) (Owner new) = RanOwner (owner_end owner home old) (owner_end owner home new)
-    WorkerRan (Front old) (Front new) = FrontRan batches facts old new
-    WorkerRan _ _ = ⊥
+module _ {P : Type 0} (owner : P → OwnerState) (home : P → TableId) where
+  abbrev pub IsReadyTask : OwnerTask P → Type 0
+  IsReadyTask task = IsReadyOwner (owner_end owner home task)
 
-    abbrev pub WorkersRan : List (Worker P D) → List (Worker P D) → Type 0
-    WorkersRan xs ys = (length ys ≡ length xs) × ((i : ℕ) (d : Worker P D) → i < length xs → WorkerRan (slice_index_or xs i d) (slice_index_or ys i d))
+  abbrev pub TaskRan : OwnerTask P → OwnerTask P → Type 0
+  TaskRan old new = RanOwner (owner_end owner home old) (owner_end owner home new)
 
-  -- the owners among the workers, in order
-  abbrev pub owners_in : List (Worker P D) → List (OwnerTask P)
-  owners_in [] = []
-  owners_in (Owner task ∷ workers) = task ∷ owners_in workers
-  owners_in (Front task ∷ workers) = owners_in workers
+  abbrev pub OwnersRan : List (OwnerTask P) → List (OwnerTask P) → Type 0
+  OwnersRan xs ys = (length ys ≡ length xs) × ((i : ℕ) (d : OwnerTask P) → i < length xs → TaskRan (slice_index_or xs i d) (slice_index_or ys i d))
 
-  -- the fronts among them
-  abbrev pub fronts_in : List (Worker P D) → List (FrontTask D)
-  fronts_in [] = []
-  fronts_in (Owner task ∷ workers) = fronts_in workers
-  fronts_in (Front task ∷ workers) = task ∷ fronts_in workers
-
-  -- empty rows with room for so many workers, and for what they come to
-  pub record IsRoom (owners fronts : ℕ) (room : Room P D) : Type 0 where
-    pub workers : (room.workers.items ≡ []) × (owners + fronts ≤ vec_capacity room.workers)
-    pub served_owners : (room.served_owners.items ≡ []) × (owners + fronts ≤ vec_capacity room.served_owners)
+module _ {D : Type 0} where
+  -- empty rows with room for so many fronts, and for what they come to
+  pub record IsRoom (fronts : ℕ) (room : Room D) : Type 0 where
     pub paired : (room.paired.items ≡ []) × (fronts ≤ vec_capacity room.paired)
-    pub served_fronts : (room.served_fronts.items ≡ []) × (owners + fronts ≤ vec_capacity room.served_fronts)
     pub ends : (room.ends.items ≡ []) × (fronts ≤ vec_capacity room.ends)
     pub hands : (room.hands.items ≡ []) × (fronts ≤ vec_capacity room.hands)
     pub answers : (room.answers.items ≡ []) × (fronts ≤ vec_capacity room.answers)
 
+module _ {P D : Type 0} where
   -- the owners as made, a front before them for each port, and room for all
   pub record IsServer (owner : P → OwnerState) (home : P → TableId) (options : Options) (ports : Ports) (server : Server P D) : Type 0 where
     pub made : AreFrontsOf options ports.fronts (255 * ports.batches) (map (owner_end owner home) server.owners.items) server.fronts.items
-    pub room : IsRoom (length server.owners.items) (length server.fronts.items) server.room
+    pub room : IsRoom (length server.fronts.items) server.room

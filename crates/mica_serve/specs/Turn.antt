@@ -1,16 +1,17 @@
 -- A request and its reply.
-use Rattle.std.specs.Prelude.{ℕ, ◌==◌, ◌&&◌, List, [], Option, Some, None, is_some, is_none, filter}
+use Rattle.std.specs.Prelude.{ℕ, ◌==◌, ◌&&◌, Bool, List, [], length, nat_lt, Option, Some, None, is_some, is_none, filter, if◌then◌else◌}
 use Rattle.mica_words.specs.Hash.{partition_of}
 use Rattle.mica_model.specs.declared.options.Options.{Options}
-use Rattle.mica_model.specs.declared.write.Op.TheVariants.{Put as PutOp, Del as DelOp}
+use Rattle.mica_model.specs.declared.write.Op.TheVariants.{Put as PutOp, Del as DelOp, Add as AddOp, Touch as TouchOp}
 use Rattle.mica_model.specs.declared.write.Outcome.{Outcome}
-use Rattle.mica_model.specs.declared.write.Outcome.TheVariants.{Stored, Deleted, Absent, FullSpare, FullBlock, Worn}
+use Rattle.mica_model.specs.declared.write.Outcome.TheVariants.{Stored, Deleted, Absent, Touched, FullSpare, FullBlock, Worn, Exists}
 use Rattle.mica_model.specs.declared.write.Write.{Write}
 use Rattle.mica_model.specs.declared.write.Answer.{Answer}
 use Rattle.mica_model.specs.declared.write.Answer.TheVariants.{Hit, Miss}
 use Rattle.mica_model.specs.Write.{write_of}
+use Rattle.batch_packets.specs.declared.header.TheConstants.{MAX_VALUE_LEN_V1}
 use Rattle.batch_packets.specs.declared.batch.Want.{Want}
-use Rattle.batch_packets.specs.declared.batch.Want.TheVariants.{Get, Put, Del}
+use Rattle.batch_packets.specs.declared.batch.Want.TheVariants.{Get, Put, Del, Add, Touch}
 use Rattle.batch_packets.specs.declared.batch.Request.{Request}
 use Rattle.batch_packets.specs.declared.replies.Reply.{Reply}
 
@@ -24,6 +25,8 @@ abbrev pub write_by : Want → List ℕ → List ℕ → Option Write
 write_by Get key value = None
 write_by Put key value = Some (write_of PutOp key value)
 write_by Del key value = Some (write_of DelOp key value)
+write_by Add key value = Some (write_of AddOp key value)
+write_by Touch key value = Some (write_of TouchOp key value)
 
 -- the write of a request, where it is no get
 abbrev pub write_in : Request → Option Write
@@ -43,7 +46,7 @@ abbrev pub gets_of : Options → ℕ → List Turn → List Turn
 gets_of options partition turns =
     filter (λ t. is_none (write_in t.request) && (partition_in options t == partition)) turns
 
--- the status of a write's reply
+-- the status of a write's reply; the last two are of an add and a touch, which the second version alone has
 abbrev pub status_of : Outcome → ℕ
 status_of Stored = 2
 status_of Deleted = 3
@@ -51,6 +54,8 @@ status_of Absent = 4
 status_of FullSpare = 5
 status_of FullBlock = 6
 status_of Worn = 7
+status_of Exists = 11
+status_of Touched = 12
 
 -- the status of a get's reply
 abbrev pub status_at : Answer → ℕ
@@ -61,10 +66,19 @@ status_at Miss = 1
 abbrev pub write_reply : ℕ → Outcome → ℕ → Reply
 write_reply ticket outcome stamp = record { status = status_of outcome; ticket = ticket; stamp = stamp; value = [] }
 
--- the reply to a get, in a version, where the key has this value or none
+-- whether a value is too long for the replies of a version, as it may be for those of the first
+abbrev pub is_too_long : ℕ → List ℕ → Bool
+is_too_long version value = (version == 1) && nat_lt MAX_VALUE_LEN_V1 (length value)
+
+-- The reply to a get, in a version, where the key has this value or none. A hit of a value that is too long has a status of its own.
 abbrev pub get_reply : ℕ → ℕ → ℕ → Option (List ℕ) → Reply
 get_reply version ticket stamp None = record { status = status_at Miss; ticket = ticket; stamp = stamp; value = [] }
-get_reply version ticket stamp (Some value) = record { status = status_at Hit; ticket = ticket; stamp = stamp; value = value }
+get_reply version ticket stamp (Some value) = record {
+  status = if is_too_long version value then 10 else status_at Hit;
+  ticket = ticket;
+  stamp = stamp;
+  value = if is_too_long version value then [] else value;
+}
 
 -- the reply to bytes that are no batch
 abbrev pub bad_batch_reply : Reply

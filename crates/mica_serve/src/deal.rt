@@ -1,16 +1,19 @@
 //! What a front makes of one datagram.
-ghost use Rattle.std.specs.Prelude.{◌≡◌, ◌≢◌, ◌+◌, ◌<◌, ◌≤◌, ◌⊎◌, ◌∷◌, [], List, length, All, Some, None, IfOk, OnErr};
+ghost use Rattle.std.specs.Prelude.{◌≡◌, ◌≢◌, ◌+◌, ◌<◌, ◌≤◌, ◌⊎◌, ◌∷◌, [], ℕ, List, length, All, Option, Some, None, IfOk, OnErr};
+ghost use Rattle.mica_model.specs.Answer.{IsAnswer};
 ghost use Rattle.mica_model.specs.Write.{HasValueOf, write_of};
 ghost use Rattle.batch_packets.specs.BatchGrammar.{IsRequest, IsBatch};
 ghost use Rattle.batch_packets.specs.Splitting.{SplitsInto};
 ghost use Rattle.batch_packets.specs.declared.replies.Reply.{Reply};
-ghost use Rattle.mica_serve.specs.Turn.{Turn, status_of, status_at, write_in};
+ghost use Rattle.mica_serve.specs.Turn.{Turn, status_of, status_at, write_in, get_reply};
 ghost use Rattle.mica_serve.specs.Dealing.{bad_batch_text};
 ghost use Rattle.mica_serve.specs.Session.{DealsWith, DealsInPart, writes_of_one};
 ghost use Rattle.mica_serve.specs.Answering.{RepliesTo, AnswersAll, AnswersFirst};
 
 use crate::front::Front;
-use batch_packets::{Batch, BatchFault, Datagram, Reply, Request, Want, read_batch, write_replies};
+use batch_packets::{
+    Batch, BatchFault, Datagram, MAX_VALUE_LEN_V1, Reply, Request, Want, read_batch, write_replies,
+};
 use mica_io::{Bytes, Gate, NoMemory};
 use mica_model::{Answer, ItemBuf, Op, Outcome};
 use std::alloc::Global;
@@ -35,6 +38,8 @@ fn status_of(outcome: Outcome) -> u8
         Outcome::FullSpare => 5,
         Outcome::FullBlock => 6,
         Outcome::Worn => 7,
+        Outcome::Exists => 11,
+        Outcome::Touched => 12,
     }
 }
 
@@ -53,14 +58,15 @@ fn written<R: Threads + Wait + Sync, F: Front>(
     rt: &R,
     alloc: Global,
     front: &mut F,
+    version: u8,
     op: Op,
     request: &Request,
 ) -> Result<Reply, NoMemory>
-    requires request { IsRequest 1 request.now }
+    requires request { IsRequest version request.now }
     requires value { HasValueOf op request.now.value }
     requires write { write_in request.now ≡ Some (write_of op request.now.key request.now.value) }
     requires left { 0 < F.left front.old }
-    ensures replied { IfOk result (RepliesTo (F.options front.old) F.is_alone (F.sessions front.old) request.now (F.sessions front.new)) }
+    ensures replied { IfOk result (RepliesTo (F.options front.old) F.is_alone version (F.sessions front.old) request.now (F.sessions front.new)) }
     ensures err { OnErr result (front.new ≡ front.old) }
     ensures left { F.left front.old ≤ F.left front.new + 1 }
     ensures options { F.options front.new ≡ F.options front.old }
@@ -75,31 +81,54 @@ fn written<R: Threads + Wait + Sync, F: Front>(
     })
 }
 
+/// The reply to a get whose answer this is: of a hit with the value, or of a miss with none.
+fn get_reply(
+    alloc: Global,
+    version: u8,
+    ticket: u32,
+    answer: Answer,
+    stamp: u64,
+    value: &[u8],
+) -> Result<Reply, NoMemory>
+    ensures { IfOk result (λ reply. (found : Option (List ℕ)) → IsAnswer answer value.now found
+        → reply ≡ get_reply version ticket stamp found) }
+{
+    if version == 1 && value.len() > MAX_VALUE_LEN_V1 {
+        return Ok(Reply {
+            status: 10,
+            ticket,
+            stamp,
+            value: Bytes::empty(alloc),
+        });
+    }
+    Ok(Reply {
+        status: status_at(answer),
+        ticket,
+        stamp,
+        value: Bytes::copy(alloc, value)?,
+    })
+}
+
 /// The reply to a get.
 fn got<R: Threads + Wait + Sync, F: Front>(
     rt: &R,
     alloc: Global,
     front: &mut F,
+    version: u8,
     request: &Request,
     out: &mut ItemBuf,
 ) -> Result<Reply, NoMemory>
-    requires request { IsRequest 1 request.now }
+    requires request { IsRequest version request.now }
     requires get { write_in request.now ≡ None }
-    ensures replied { IfOk result (RepliesTo (F.options front.old) F.is_alone (F.sessions front.old) request.now (F.sessions front.new)) }
+    ensures replied { IfOk result (RepliesTo (F.options front.old) F.is_alone version (F.sessions front.old) request.now (F.sessions front.new)) }
     ensures err { OnErr result ((reply : Reply)
-        × RepliesTo (F.options front.old) F.is_alone (F.sessions front.old) request.now (F.sessions front.new) reply) }
+        × RepliesTo (F.options front.old) F.is_alone version (F.sessions front.old) request.now (F.sessions front.new) reply) }
     ensures left { F.left front.new ≡ F.left front.old }
     ensures options { F.options front.new ≡ F.options front.old }
     ensures stands { F.stands front.new ≡ F.stands front.old }
 {
     let (answer, stamp) = front.read(rt, request.key.bytes(), out);
-    let value = Bytes::copy(alloc, out.value())?;
-    Ok(Reply {
-        status: status_at(answer),
-        ticket: request.ticket,
-        stamp,
-        value,
-    })
+    get_reply(alloc, version, request.ticket, answer, stamp, out.value())
 }
 
 /// The reply to one request.
@@ -107,22 +136,25 @@ fn reply_to<R: Threads + Wait + Sync, F: Front>(
     rt: &R,
     alloc: Global,
     front: &mut F,
+    version: u8,
     request: &Request,
     out: &mut ItemBuf,
 ) -> Result<Reply, NoMemory>
-    requires request { IsRequest 1 request.now }
+    requires request { IsRequest version request.now }
     requires left { 0 < F.left front.old }
-    ensures replied { IfOk result (RepliesTo (F.options front.old) F.is_alone (F.sessions front.old) request.now (F.sessions front.new)) }
+    ensures replied { IfOk result (RepliesTo (F.options front.old) F.is_alone version (F.sessions front.old) request.now (F.sessions front.new)) }
     ensures err { OnErr result ((front.new ≡ front.old) ⊎ ((reply : Reply)
-        × RepliesTo (F.options front.old) F.is_alone (F.sessions front.old) request.now (F.sessions front.new) reply)) }
+        × RepliesTo (F.options front.old) F.is_alone version (F.sessions front.old) request.now (F.sessions front.new) reply)) }
     ensures left { F.left front.old ≤ F.left front.new + writes_of_one request.now }
     ensures options { F.options front.new ≡ F.options front.old }
     ensures stands { F.stands front.new ≡ F.stands front.old }
 {
     match request.want {
-        Want::Get => got(rt, alloc, front, request, out),
-        Want::Put => written(rt, alloc, front, Op::Put, request),
-        Want::Del => written(rt, alloc, front, Op::Del, request),
+        Want::Get => got(rt, alloc, front, version, request, out),
+        Want::Put => written(rt, alloc, front, version, Op::Put, request),
+        Want::Del => written(rt, alloc, front, version, Op::Del, request),
+        Want::Add => written(rt, alloc, front, version, Op::Add, request),
+        Want::Touch => written(rt, alloc, front, version, Op::Touch, request),
     }
 }
 
@@ -131,14 +163,15 @@ fn reply_to_all<R: Threads + Wait + Sync, F: Front, G: Gate>(
     rt: &R,
     alloc: Global,
     front: &mut F,
+    version: u8,
     requests: &[Request],
     gate: &G,
     out: &mut ItemBuf,
 ) -> Result<Vec<Reply>, NoMemory>
-    requires each { All (IsRequest 1) requests.now }
+    requires each { All (IsRequest version) requests.now }
     requires few { length requests.now ≤ 255 }
     requires left { 255 ≤ F.left front.old }
-    ensures all { IfOk result (λ replies. AnswersAll (F.options front.old) F.is_alone (F.sessions front.old) (F.left front.old)
+    ensures all { IfOk result (λ replies. AnswersAll (F.options front.old) F.is_alone version (F.sessions front.old) (F.left front.old)
         requests.now (F.sessions front.new) (F.left front.new) replies.items) }
     ensures first { OnErr result (AnswersFirst (F.options front.old) F.is_alone (F.sessions front.old) (F.left front.old)
         requests.now (F.sessions front.new) (F.left front.new)) }
@@ -149,7 +182,7 @@ fn reply_to_all<R: Threads + Wait + Sync, F: Front, G: Gate>(
     let mut replies = Vec::with_capacity(alloc, requests.len())?;
     for (number, request) in requests.iter().enumerate() {
         gate.turn(0, number as u32);
-        replies.push(reply_to(rt, alloc, front, request, out)?)?;
+        replies.push(reply_to(rt, alloc, front, version, request, out)?)?;
     }
     Ok(replies)
 }
@@ -164,7 +197,7 @@ fn bad_batch(alloc: Global) -> Result<Vec<Datagram>, NoMemory>
         stamp: 0,
         value: Bytes::empty(alloc),
     };
-    write_replies(alloc, &[reply], 0)
+    write_replies(alloc, &[reply], 0, 1)
 }
 
 /// What is made of bytes that are no batch, unless memory ran out over them.
@@ -193,8 +226,8 @@ fn answer<R: Threads + Wait + Sync, F: Front, G: Gate>(
     requires batch { IsBatch batch.now }
     requires left { 255 ≤ F.left front.old }
     ensures dealt { IfOk result (λ dealt. (replies : List Reply)
-        × (dealt.requests ≡ length batch.now.requests) × SplitsInto 1 batch.now.number replies dealt.replies.items
-        × AnswersAll (F.options front.old) F.is_alone (F.sessions front.old) (F.left front.old)
+        × (dealt.requests ≡ length batch.now.requests) × SplitsInto batch.now.version batch.now.number replies dealt.replies.items
+        × AnswersAll (F.options front.old) F.is_alone batch.now.version (F.sessions front.old) (F.left front.old)
         batch.now.requests (F.sessions front.new) (F.left front.new) replies) }
     ensures first { OnErr result (AnswersFirst (F.options front.old) F.is_alone (F.sessions front.old) (F.left front.old)
         batch.now.requests (F.sessions front.new) (F.left front.new)) }
@@ -203,9 +236,9 @@ fn answer<R: Threads + Wait + Sync, F: Front, G: Gate>(
     ensures stands { F.stands front.new ≡ F.stands front.old }
 {
     let requests = batch.requests.as_slice();
-    let replies = reply_to_all(rt, alloc, front, requests, gate, out)?;
+    let replies = reply_to_all(rt, alloc, front, batch.version, requests, gate, out)?;
     Ok(Dealt {
-        replies: write_replies(alloc, replies.as_slice(), batch.number)?,
+        replies: write_replies(alloc, replies.as_slice(), batch.number, batch.version)?,
         requests: requests.len() as u32,
     })
 }

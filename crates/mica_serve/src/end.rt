@@ -2,13 +2,13 @@
 ghost use Rattle.std.specs.Prelude.{◌≡◌, ◌*◌, ◌+◌, ◌<◌, ◌≤◌, true, false, length, is_some, is_none, All, ⊤, IfOk, IfSome, IfNone, OnOk, OnErr, IsErrOf};
 ghost use Rattle.mica_io.specs.Faults.{Rose};
 ghost use Rattle.mica_io.specs.Traffic.{new_traffic};
-ghost use Rattle.mica_serve.specs.Ends.{OnTraffic, SendsAll, SendsPart, IsAtEnd, ServesOne, StopsOne, ServesEnd, LeavesEnd, IsUpTo};
+ghost use Rattle.mica_serve.specs.Ends.{OnTraffic, SendsAll, SendsPart, IsAtEnd, ServesOne, StopsOne, LeavesUnread, ServesEnd, LeavesEnd, WantsAtEnd, IsUpTo};
 
 use crate::deal::deal;
 use crate::front::Front;
 use crate::gate::FrontGate;
 use crate::ports::{ServeFault, Totals};
-use batch_packets::Datagram;
+use batch_packets::{Datagram, MAX_DATAGRAM_LEN_V2};
 use mica_io::{Datagrams, Failed, Gate, NoMemory};
 use mica_model::ItemBuf;
 use std::alloc::Global;
@@ -16,7 +16,7 @@ use std::sync::Wait;
 use std::thread::Threads;
 
 /// The room for one datagram: a byte more than the longest batch, so that a longer one is still too long.
-pub const ROOM: usize = 1_473;
+pub const ROOM: usize = MAX_DATAGRAM_LEN_V2 + 1;
 
 /// Sends the replies to one datagram.
 fn send_all<D: Datagrams>(end: &mut D, replies: &[Datagram]) -> Result<(), Failed>
@@ -56,7 +56,10 @@ fn serve_one<R: Threads + Wait + Sync, F: Front, D: Datagrams, G: Gate>(
     ensures at_end { IfOk result (λ got. IfNone got (OnTraffic IsAtEnd (D.traffic end.old) (D.traffic end.new))) }
     ensures untouched { IfOk result (λ got. IfNone got (front.new ≡ front.old)) }
     ensures ended { IfOk result (λ got. D.has_ended end.new ≡ is_none got) }
-    ensures stopped { IsErrOf result ServeFault.Net → OnTraffic StopsOne (D.traffic end.old) (D.traffic end.new) }
+    ensures stopped { IsErrOf result ServeFault.Net → OnTraffic (StopsOne (F.options front.old) F.is_alone
+        (F.sessions front.old) (F.left front.old) (F.sessions front.new) (F.left front.new))
+        (D.traffic end.old) (D.traffic end.new) }
+    ensures unread { IsErrOf result ServeFault.NoMemory → OnTraffic LeavesUnread (D.traffic end.old) (D.traffic end.new) }
     ensures open { IsErrOf result ServeFault.Net → D.has_ended end.new ≡ false }
     ensures cause { IsErrOf result ServeFault.Net → Rose (D.faults end.old) (D.faults end.new) }
     ensures few { IfOk result (λ got. IfSome got (λ requests. requests ≤ 255)) }
@@ -98,7 +101,9 @@ pub(crate) fn serve_end<R: Threads + Wait + Sync, F: Front, D: Datagrams, G: Gat
     ensures served { IfOk result (λ totals. OnTraffic (ServesEnd (F.options front.old) F.is_alone (F.sessions front.old) (F.left front.old)
         batches (D.has_ended end.new) totals (F.sessions front.new) (F.left front.new))
         (D.traffic end.old) (D.traffic end.new)) }
-    ensures stopped { IsErrOf result ServeFault.Net → OnTraffic (LeavesEnd batches (D.has_ended end.new)) (D.traffic end.old) (D.traffic end.new) }
+    ensures stopped { IsErrOf result ServeFault.Net → OnTraffic (LeavesEnd (F.options front.old) F.is_alone (F.sessions front.old) (F.left front.old)
+        batches (D.has_ended end.new) (F.sessions front.new) (F.left front.new)) (D.traffic end.old) (D.traffic end.new) }
+    ensures wants { IsErrOf result ServeFault.NoMemory → OnTraffic (WantsAtEnd batches) (D.traffic end.old) (D.traffic end.new) }
     ensures cause { IsErrOf result ServeFault.Net → Rose (D.faults end.old) (D.faults end.new) }
     ensures small { IfOk result (IsUpTo batches) }
     ensures steady { OnOk result (is_some (D.script end.old) ≡ true → D.faults end.new ≡ D.faults end.old) }

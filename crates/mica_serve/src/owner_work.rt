@@ -68,5 +68,4 @@ pub(crate) fn serve_owner<W: Wait, P: LendPartition<Reader = ReaderSeat, Note = 
             None => break,
         }
     }
-    gate.turn(worker, call);
 }

@@ -163,7 +163,7 @@ fn serve_on<
         (net_facts N.faults N.binds N.first N.refused N.ports N.fails net.old)
         (net_facts N.faults N.binds N.first N.refused N.ports N.fails net.new) }
 {
-    let server = Server::<P, N::End>::open(alloc, options, ports)?;
+    let server = Server::<P, N::End>::open(rt, alloc, options, ports)?;
     let mut ends = Vec::with_capacity(alloc, ports.fronts as usize)?;
     let answer = bind_and_serve(
         rt, alloc, options, ports, server, net, &mut ends, gate, tables,

@@ -14,9 +14,7 @@ use crate::meeting::meet_all;
 use crate::opening::open_all;
 use crate::ports::{Ports, ServeFault, Totals};
 use crate::queue_front::{FrontPart, QueueFront};
-use crate::worker::{
-    FrontTask, OwnerTask, Worker, gather, pair_up, part_fronts, run_workers, take_apart,
-};
+use crate::worker::{FrontTask, OwnerTask, pair_up, part_fronts, run_workers};
 use epoch_core::LendPartition;
 use mica_io::{Datagrams, Gate, NoMemory};
 use mica_model::Options;
@@ -26,30 +24,24 @@ use std::mem;
 use std::sync::Wait;
 use std::thread::Threads;
 use table_partition::OnTable;
+use thread_rehearsal::rehearse;
 
 /// The room for all workers and for what they come to.
 #[derive(Drop)]
-pub(crate) struct Room<P, D> {
-    workers: Vec<Worker<P, D>>,
-    served_owners: Vec<OwnerTask<P>>,
+pub(crate) struct Room<D> {
     paired: Vec<FrontTask<D>>,
-    served_fronts: Vec<FrontTask<D>>,
     ends: Vec<D>,
     hands: Vec<Vec<FrontPart>>,
     answers: Vec<Result<Totals, ServeFault>>,
 }
 
-impl<P: Drop, D: Drop> Room<P, D> {
-    pub fn new(alloc: Global, owners: usize, fronts: usize) -> Result<Room<P, D>, NoMemory>
-        requires { owners + fronts ≤ 32 }
-        ensures { IfOk result (IsRoom owners fronts) }
+impl<D: Drop> Room<D> {
+    pub fn new(alloc: Global, fronts: usize) -> Result<Room<D>, NoMemory>
+        requires { fronts ≤ 16 }
+        ensures { IfOk result (IsRoom fronts) }
     {
-        let count = owners + fronts;
         Ok(Room {
-            workers: Vec::with_capacity(alloc, count)?,
-            served_owners: Vec::with_capacity(alloc, count)?,
             paired: Vec::with_capacity(alloc, fronts)?,
-            served_fronts: Vec::with_capacity(alloc, count)?,
             ends: Vec::with_capacity(alloc, fronts)?,
             hands: Vec::with_capacity(alloc, fronts)?,
             answers: Vec::with_capacity(alloc, fronts)?,
@@ -62,20 +54,27 @@ impl<P: Drop, D: Drop> Room<P, D> {
 pub(crate) struct Server<P, D> {
     owners: Vec<OwnerTask<P>>,
     fronts: Vec<QueueFront>,
-    room: Room<P, D>,
+    room: Room<D>,
 }
 
 impl<P: OnTable + LendPartition<Reader = ReaderSeat, Note = Note>, D: Drop> Server<P, D> {
-    pub fn open(alloc: Global, options: &Options, ports: &Ports) -> Result<Server<P, D>, NoMemory>
+    /// Whether the workers can have their threads is asked first.
+    pub fn open<W: Threads + Wait + Sync>(
+        rt: &W,
+        alloc: Global,
+        options: &Options,
+        ports: &Ports,
+    ) -> Result<Server<P, D>, NoMemory>
         requires valid { IsValid options.now }
         requires mode { options.now.mode ≡ P.mode }
         requires same { (p : P) → P.state p ≡ P.owner p }
         requires ports { IsValidPorts ports.now }
         ensures { IfOk result (IsServer P.owner P.home options.now ports.now) }
     {
+        rehearse(rt, alloc, options.partitions + ports.fronts)?;
         let mut fronts = Vec::with_capacity(alloc, ports.fronts as usize)?;
         let owners = open_all(alloc, options, ports, &mut fronts)?;
-        let room = Room::new(alloc, owners.len(), fronts.len())?;
+        let room = Room::new(alloc, fronts.len())?;
         Ok(Server {
             owners,
             fronts,
@@ -111,18 +110,13 @@ pub(crate) fn run_all<
     ensures idle { (p : ℕ) (task : OwnerTask P) → slice_get result.0.items p ≡ Some task → (P.owner task.part).phase ≡ Idle }
 {
     let Room {
-        workers,
-        served_owners,
         paired,
-        served_fronts,
         ends: room_of_ends,
         hands,
         answers,
     } = server.room;
-    let mut workers = workers;
-    let mut served_owners = served_owners;
+    let mut owners = server.owners;
     let mut paired = paired;
-    let mut served_fronts = served_fronts;
     let mut hands = hands;
     let mut answers = answers;
     let ends_before = mem::replace(ends, room_of_ends);
@@ -133,10 +127,8 @@ pub(crate) fn run_all<
         options.partitions,
         &mut paired,
     );
-    gather(server.owners, paired, &mut workers);
-    run_workers(rt, alloc, ports.batches, gate, &mut workers);
-    take_apart(workers, &mut served_owners, &mut served_fronts);
-    part_fronts(served_fronts, ends, &mut hands, &mut answers);
-    meet_all(&mut served_owners, hands);
-    (served_owners, answers)
+    run_workers(rt, alloc, ports.batches, gate, &mut owners, &mut paired);
+    part_fronts(paired, ends, &mut hands, &mut answers);
+    meet_all(&mut owners, hands);
+    (owners, answers)
 }

@@ -11,13 +11,12 @@ ghost use Rattle.mica_model.specs.Write.{HasValueOf, write_of};
 ghost use Rattle.epoch_core.specs.declared.state.OwnerState.{OwnerState};
 ghost use Rattle.epoch_core.specs.Shape.{shape_of};
 ghost use Rattle.epoch_core.specs.OwnerState.{as_made};
-ghost use Rattle.epoch_core.specs.OwnerStep.{IsOwnerStep};
 ghost use Rattle.mica_serve.specs.Solo.{Solo, StepsPartition, IsNewSolo, history_at, alone_with, sessions_in};
 ghost use Rattle.mica_serve.specs.Owners.{solo_of};
 
 use crate::front::Front;
 use cache_partition::CachePartition;
-use epoch_core::{Partition, PlainWords, Shape};
+use epoch_core::{Partition, PlainWords, Shape, write_to};
 use mica_io::NoMemory;
 use mica_model::{Answer, ItemBuf, Mode, Op, Options, Outcome};
 use mica_words::{key_hash, partition_of};
@@ -102,18 +101,6 @@ impl<P: Fresh + Partition + Drop> Owned<P> {
             options: *options,
             parts,
         })
-    }
-}
-
-/// One write to a partition.
-fn write_to<P: Partition>(part: &mut P, op: Op, key: &[u8], value: &[u8]) -> Outcome
-    requires key { KeyFits key.now }
-    requires value { HasValueOf op value.now }
-    ensures { IsOwnerStep (P.owner part.old) (P.owner part.new) (write_of op key.now value.now) result }
-{
-    match op {
-        Op::Put => part.put(key, value),
-        Op::Del => part.del(key),
     }
 }
 

@@ -1,9 +1,10 @@
 //! The workers of a server: each owner and each front, in a thread of its own.
-ghost use Rattle.std.specs.Prelude.{◌≡◌, ◌*◌, ◌+◌, ◌<◌, ◌≤◌, ◌++◌, [], ℕ, All, length, map, vec_len, vec_capacity, Some};
+ghost use Rattle.std.specs.Thread.{IsSync};
+ghost use Rattle.std.specs.Prelude.{◌≡◌, ◌≤◌, [], All, length, map, vec_len, vec_capacity, Some};
 ghost use Rattle.partition_table.specs.declared.reader.Note.{Note};
 ghost use Rattle.partition_table.specs.Seats.{note_state, note_home};
 ghost use Rattle.mica_serve.specs.Hands.{IsReadyOwner, RanOwner};
-ghost use Rattle.mica_serve.specs.Tasks.{owner_end, IsReadyFront, FrontRan, IsReadyWorker, WorkerRan, WorkersRan, owners_in, fronts_in};
+ghost use Rattle.mica_serve.specs.Tasks.{owner_end, IsReadyTask, TaskRan, OwnersRan, IsReadyFront, FrontRan, FrontsRan};
 ghost use Rattle.mica_serve.specs.Ends.{end_facts};
 
 use crate::end::serve_end;
@@ -15,9 +16,8 @@ use mica_io::{Datagrams, Gate};
 use owner_queue::{AckSender, JobReceiver};
 use partition_table::{Note, ReaderSeat};
 use std::alloc::Global;
-use std::mem;
 use std::sync::Wait;
-use std::thread::{Threads, for_each_mut};
+use std::thread::{Threads, for_each_mut, join_mut};
 
 /// An owner with its queue, and its end of a queue of answers to each front.
 #[derive(Drop)]
@@ -38,13 +38,6 @@ pub struct FrontTask<D> {
     pub answer: Result<Totals, ServeFault>,
     /// What the front had in hand when it ended.
     pub parts: Vec<FrontPart>,
-}
-
-/// A worker of a server.
-#[derive(Drop)]
-pub enum Worker<P, D> {
-    Owner(OwnerTask<P>),
-    Front(FrontTask<D>),
 }
 
 impl<P: LendPartition<Reader = ReaderSeat, Note = Note>> OwnerTask<P> {
@@ -92,47 +85,79 @@ impl<D: Datagrams> FrontTask<D> {
     }
 }
 
-impl<P: LendPartition<Reader = ReaderSeat, Note = Note>, D: Datagrams> Worker<P, D> {
-    fn run<W: Threads + Wait + Sync, G: Gate>(
-        &mut self,
-        rt: &W,
-        alloc: Global,
-        batches: u32,
-        gate: &G,
-    )
-        requires notes { (n : Note) → (P.noted n ≡ note_state n) × (P.note_home n ≡ note_home n) }
-        requires ready { IsReadyWorker P.owner P.home batches (end_facts D.port D.traffic D.faults D.has_ended D.script) self.old }
-        ensures { WorkerRan P.owner P.home batches (end_facts D.port D.traffic D.faults D.has_ended D.script) self.old self.new }
-    {
-        match self {
-            Worker::Owner(owner) => owner.run(rt, gate),
-            Worker::Front(front) => front.run(rt, alloc, batches, gate),
-        }
-    }
+// Runs the owners side by side, each in a thread of its own.
+fn run_owners<
+    W: Threads + Wait + Sync,
+    P: LendPartition<Reader = ReaderSeat, Note = Note> + Drop + Send,
+    G: Gate,
+>(rt: &W, gate: &G, owners: &mut Vec<OwnerTask<P>>)
+    requires notes { (n : Note) → (P.noted n ≡ note_state n) × (P.note_home n ≡ note_home n) }
+    requires ready { All (IsReadyTask P.owner P.home) owners.old.items }
+    ensures { OwnersRan P.owner P.home owners.old.items owners.new.items }
+{
+    let threads = owners.len().max(1);
+    for_each_mut(
+        rt,
+        owners.as_mut_slice(),
+        threads,
+        &|_, owner|
+            requires { ((n : Note) → (P.noted n ≡ note_state n) × (P.note_home n ≡ note_home n)) × IsReadyTask P.owner P.home owner.now }
+            ensures { TaskRan P.owner P.home owner.entry.now owner.exit.now }
+        { owner.run(rt, gate) },
+    );
 }
 
-// Runs all workers side by side.
+// Runs the fronts side by side, each in a thread of its own.
+fn run_fronts<W: Threads + Wait + Sync, D: Datagrams + Drop + Send, G: Gate>(
+    rt: &W,
+    alloc: Global,
+    batches: u32,
+    gate: &G,
+    fronts: &mut Vec<FrontTask<D>>,
+)
+    requires { All (IsReadyFront batches (end_facts D.port D.traffic D.faults D.has_ended D.script)) fronts.old.items }
+    ensures { FrontsRan batches (end_facts D.port D.traffic D.faults D.has_ended D.script) fronts.old.items fronts.new.items }
+{
+    let threads = fronts.len().max(1);
+    for_each_mut(
+        rt,
+        fronts.as_mut_slice(),
+        threads,
+        &|_, front|
+            requires { IsReadyFront batches (end_facts D.port D.traffic D.faults D.has_ended D.script) front.now }
+            ensures { FrontRan batches (end_facts D.port D.traffic D.faults D.has_ended D.script) front.entry.now front.exit.now }
+        { front.run(rt, alloc, batches, gate) },
+    );
+}
+
+/// Runs all owners and all fronts side by side.
 pub(crate) fn run_workers<
     W: Threads + Wait + Sync,
     P: LendPartition<Reader = ReaderSeat, Note = Note> + Drop + Send,
     D: Datagrams + Drop + Send,
     G: Gate,
->(rt: &W, alloc: Global, batches: u32, gate: &G, workers: &mut Vec<Worker<P, D>>)
+>(
+    rt: &W,
+    alloc: Global,
+    batches: u32,
+    gate: &G,
+    owners: &mut Vec<OwnerTask<P>>,
+    fronts: &mut Vec<FrontTask<D>>,
+)
     requires notes { (n : Note) → (P.noted n ≡ note_state n) × (P.note_home n ≡ note_home n) }
-    requires some { 0 < length workers.old.items }
-    requires ready { All (IsReadyWorker P.owner P.home batches (end_facts D.port D.traffic D.faults D.has_ended D.script)) workers.old.items }
-    ensures { WorkersRan P.owner P.home batches (end_facts D.port D.traffic D.faults D.has_ended D.script) workers.old.items workers.new.items }
+    requires owners { All (IsReadyTask P.owner P.home) owners.old.items }
+    requires fronts { All (IsReadyFront batches (end_facts D.port D.traffic D.faults D.has_ended D.script)) fronts.old.items }
+    ensures owners { OwnersRan P.owner P.home owners.old.items owners.new.items }
+    ensures fronts { FrontsRan batches (end_facts D.port D.traffic D.faults D.has_ended D.script) fronts.old.items fronts.new.items }
 {
-    let threads = workers.len();
-    for_each_mut(
+    join_mut(
         rt,
-        workers.as_mut_slice(),
-        threads,
-        &|_, worker|
-            requires { ((n : Note) → (P.noted n ≡ note_state n) × (P.note_home n ≡ note_home n))
-                × IsReadyWorker P.owner P.home batches (end_facts D.port D.traffic D.faults D.has_ended D.script) worker.now }
-            ensures { WorkerRan P.owner P.home batches (end_facts D.port D.traffic D.faults D.has_ended D.script) worker.entry.now worker.exit.now }
-        { worker.run(rt, alloc, batches, gate) },
+        &mut ||
+            requires { IsSync W.row × IsSync G.row × ((n : Note) → (P.noted n ≡ note_state n) × (P.note_home n ≡ note_home n)) × All (IsReadyTask P.owner P.home) owners.now.items }
+        { run_owners(rt, gate, owners) },
+        &mut ||
+            requires { IsSync W.row × IsSync G.row × All (IsReadyFront batches (end_facts D.port D.traffic D.faults D.has_ended D.script)) fronts.now.items }
+        { run_fronts(rt, alloc, batches, gate, fronts) },
     );
 }
 
@@ -166,62 +191,6 @@ pub(crate) fn pair_up<D: Drop>(
             parts: Vec::new(alloc),
         });
         worker += 1;
-    }
-}
-
-// The owners, each as a worker behind those that are there.
-fn add_owners<P: Drop, D: Drop>(owners: Vec<OwnerTask<P>>, workers: &mut Vec<Worker<P, D>>)
-    requires room { vec_len workers.old + vec_len owners ≤ vec_capacity workers.old }
-    ensures items { workers.new.items ≡ workers.old.items ++ map Worker.Owner owners.items }
-    ensures capacity { vec_capacity workers.new ≡ vec_capacity workers.old }
-{
-    for owner in owners {
-        workers.push_reserved(Worker::Owner(owner));
-    }
-}
-
-// The fronts, each as a worker behind those that are there.
-fn add_fronts<P: Drop, D: Drop>(fronts: Vec<FrontTask<D>>, workers: &mut Vec<Worker<P, D>>)
-    requires room { vec_len workers.old + vec_len fronts ≤ vec_capacity workers.old }
-    ensures items { workers.new.items ≡ workers.old.items ++ map Worker.Front fronts.items }
-    ensures capacity { vec_capacity workers.new ≡ vec_capacity workers.old }
-{
-    for front in fronts {
-        workers.push_reserved(Worker::Front(front));
-    }
-}
-
-// The owners and the fronts, each as a worker.
-pub(crate) fn gather<P: Drop, D: Drop>(
-    owners: Vec<OwnerTask<P>>,
-    fronts: Vec<FrontTask<D>>,
-    workers: &mut Vec<Worker<P, D>>,
-)
-    requires none { workers.old.items ≡ [] }
-    requires room { vec_len owners + vec_len fronts ≤ vec_capacity workers.old }
-    ensures items { workers.new.items ≡ map Worker.Owner owners.items ++ map Worker.Front fronts.items }
-{
-    add_owners(owners, workers);
-    add_fronts(fronts, workers);
-}
-
-// The owners and the fronts among the workers, in order.
-pub(crate) fn take_apart<P: Drop, D: Drop>(
-    workers: Vec<Worker<P, D>>,
-    owners: &mut Vec<OwnerTask<P>>,
-    fronts: &mut Vec<FrontTask<D>>,
-)
-    requires none { (owners.old.items ≡ []) × (fronts.old.items ≡ []) }
-    requires owners { vec_len workers ≤ vec_capacity owners.old }
-    requires fronts { vec_len workers ≤ vec_capacity fronts.old }
-    ensures owners { owners.new.items ≡ owners_in workers.items }
-    ensures fronts { fronts.new.items ≡ fronts_in workers.items }
-{
-    for worker in workers {
-        match worker {
-            Worker::Owner(owner) => owners.push_reserved(owner),
-            Worker::Front(front) => fronts.push_reserved(front),
-        }
     }
 }
 

@@ -7,6 +7,6 @@ use Rattle.mica_serve.proofs.deal.bad_batch.Goals as goal
 pub returns : goal.returns
 returns c =
     IfOk-weaker c.write_replies.result _ _
-    (λ datagrams split. one_datagram 0 _ datagrams.items split
-    ∙ ap (λ v. replies_text (record { number = 0; replies = record { status = 9; ticket = 0; stamp = 0; value = v } ∷ [] }) ∷ []) c.empty.ensures)
+    (λ datagrams split. one_datagram 1 0 _ datagrams.items split
+    ∙ ap (λ v. replies_text (record { version = 1; number = 0; replies = record { status = 9; ticket = 0; stamp = 0; value = v } ∷ [] }) ∷ []) c.empty.ensures)
     c.write_replies.ensures

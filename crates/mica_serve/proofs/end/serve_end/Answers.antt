@@ -2,22 +2,41 @@ use Rattle.std.proofs.Common.{rules, ◌≡◌, ◌≤◌, ◌+◌, ℕ, Bool, t
 use Rattle.std.specs.Prelude.{IfSome}
 use Rattle.mica_model.specs.declared.options.Options.{Options}
 use Rattle.mica_serve.specs.declared.ports.Totals.{Totals}
-use Rattle.mica_serve.specs.Ends.{OnTraffic, StopsOne, ServesOne, ServesSome, LeavesEnd}
-use Rattle.mica_serve.proofs.Serving.{on_traffic_then, serves_more, stops_at}
+use Rattle.mica_serve.specs.Ends.{OnTraffic, StopsOne, LeavesUnread, ServesOne, ServesSome, LeavesEnd}
+use Rattle.mica_serve.proofs.Serving.{on_traffic_then, serves_more, stops_at, wants_at, wants_fresh}
 use Rattle.mica_serve.proofs.end.serve_end.Goals as goal
 
 pub returns-in_err-requests-clause-stopped : goal.returns-in_err-requests-clause-stopped
 returns-in_err-requests-clause-stopped g c failed =
-    let n = c.loop.counter in
+    let options = g.F.Front.options c.args.front.now in
+    let old = g.F.Front.sessions c.args.front.now in
+    let left = g.F.Front.left c.args.front.now in
+    let between = g.F.Front.sessions c.loop.front in
+    let left_before = g.F.Front.left c.loop.front in
+    let new = g.F.Front.sessions c.serve_one.new.front in
+    let left_after = g.F.Front.left c.serve_one.new.front in
     let a = g.D.Datagrams.traffic c.args.end.now in
     let b = g.D.Datagrams.traffic c.loop.end in
     let after = g.D.Datagrams.traffic c.serve_one.new.end in
-    let stopped : OnTraffic StopsOne b after = search rules in
+    let stopped : OnTraffic (StopsOne (g.F.Front.options c.loop.front) g.F.Front.is_alone between left_before new left_after) b after = search rules in
+    let same = subst (λ (o : Options). OnTraffic (StopsOne o g.F.Front.is_alone between left_before new left_after) b after) c.loop.invariant.2 stopped in
     let still : g.D.Datagrams.has_ended c.serve_one.new.end ≡ false = search rules in
-    subst (λ (e : Bool). OnTraffic (LeavesEnd c.args.batches e) a after) (sym still)
+    subst (λ (e : Bool). OnTraffic (LeavesEnd options g.F.Front.is_alone old left c.args.batches e new left_after) a after) (sym still)
     (on_traffic_then
-    (λ x y z p q. stops_at (g.F.Front.options c.args.front.now) g.F.Front.is_alone (g.F.Front.sessions c.args.front.now) (g.F.Front.left c.args.front.now) n c.args.batches c.loop.totals
-    (g.F.Front.sessions c.loop.front) (g.F.Front.left c.loop.front) x y z c.loop-test.true p q) a b after c.loop.invariant.0 stopped)
+    (λ x y z p q. stops_at options g.F.Front.is_alone old left c.loop.counter c.args.batches c.loop.totals between new left_before left_after x y z c.loop-test.true p q)
+    a b after c.loop.invariant.0 same)
+
+pub returns-in_err-requests-clause-wants : goal.returns-in_err-requests-clause-wants
+returns-in_err-requests-clause-wants g c failed =
+    let b = g.D.Datagrams.traffic c.loop.end in
+    let after = g.D.Datagrams.traffic c.serve_one.new.end in
+    let unread : OnTraffic LeavesUnread b after = search rules in
+    on_traffic_then
+    (λ x y z p q. wants_at (g.F.Front.options c.args.front.now) g.F.Front.is_alone (g.F.Front.sessions c.args.front.now) (g.F.Front.left c.args.front.now) c.loop.counter c.args.batches
+    c.loop.totals (g.F.Front.sessions c.loop.front) (g.F.Front.left c.loop.front) x y z c.loop-test.true p q) (g.D.Datagrams.traffic c.args.end.now) b after c.loop.invariant.0 unread
+
+pub returns-in_err-out-clause-wants : goal.returns-in_err-out-clause-wants
+returns-in_err-out-clause-wants g c failed = wants_fresh c.args.batches (g.D.Datagrams.traffic c.args.end.now) c.requires.fresh
 
 pub loop-preserved : goal.loop-preserved
 loop-preserved g c =

@@ -5,7 +5,7 @@ use Rattle.std.proofs.lemmas.List.Elements.{All-from_recursion}
 use Rattle.mica_io.specs.Traffic.{Datagram, ReceivesNext}
 use Rattle.mica_serve.specs.Ends.{OnTraffic, SendsAll, SendsPart}
 use Rattle.mica_serve.proofs.Through.{each_some, none_empty}
-use Rattle.mica_serve.proofs.OneEnd.{served_one, short_one}
+use Rattle.mica_serve.proofs.OneEnd.{served_one, short_one, unread_one, stays_one}
 use Rattle.mica_serve.proofs.end.serve_one.Goals as goal
 
 pub send_all-requires-clause-some : goal.send_all-requires-clause-some
@@ -36,3 +36,14 @@ returns-clause-served g c =
     dealt.2 dealt.1
     (subst (λ (r : List Datagram). OnTraffic (SendsAll r) (g.D.Datagrams.traffic c.recv.new.self) (g.D.Datagrams.traffic c.send_all.new.end)) c.as_slice.ensures.value
     c.in_ok-send_all.ensures.sent)
+
+pub returns-in_err-count-clause-stopped : goal.returns-in_err-count-clause-stopped
+returns-in_err-count-clause-stopped g c _ =
+    stays_one (g.F.Front.options c.args.front.now) g.F.Front.is_alone (g.F.Front.sessions c.args.front.now) (g.F.Front.left c.args.front.now)
+    (g.D.Datagrams.traffic c.args.end.now) (g.D.Datagrams.traffic c.recv.new.self) c.in_err-count.ensures.untaken
+
+pub returns-in_err-dealt-clause-unread : goal.returns-in_err-dealt-clause-unread
+returns-in_err-dealt-clause-unread g c _ =
+    unread_one (length c.args.room.now) (take c.in-Some.count c.recv.new.out) (g.D.Datagrams.traffic c.args.end.now) (g.D.Datagrams.traffic c.recv.new.self)
+    (subst (λ (o : Option _). IfSome o (λ n. IfSome (g.D.Datagrams.traffic c.args.end.now)
+    (λ t. ReceivesNext t (take n c.recv.new.out) (length c.args.room.now) (g.D.Datagrams.traffic c.recv.new.self)))) c.in-Some.is c.in_ok-count.ensures.next)

@@ -1,12 +1,15 @@
-use Rattle.std.proofs.Common.{rules, ◌≡◌, ◌<◌, inl, inr, ◌++◌, ℕ, suc, ◌+◌, take, length, map, slice_get, Some, sym, ap, ◌∙◌, subst, arith}
-use Rattle.std.specs.Prelude.{is_some, option_map}
+use Rattle.std.proofs.Common.{rules, ◌≡◌, ◌<◌, inl, inr, ◌++◌, ℕ, suc, ◌+◌, take, drop, length, vec_len, map, slice_get, Some, sym, ap, ◌∙◌, subst, arith}
+use Rattle.std.specs.Prelude.{is_some, option_map, min, sum_by, IfSome}
 use Rattle.std.specs.Option.{option_to_list}
-use Rattle.std.proofs.lemmas.Option.{slice_get-map}
+use Rattle.std.proofs.Math.Seq.{take-length}
+use Rattle.std.proofs.lemmas.List.{length-map}
+use Rattle.std.proofs.lemmas.Option.{slice_get-map, slice_get_within}
 use Rattle.std.proofs.lemmas.Bool.{cases_lt}
-use Rattle.mica_io.specs.Faults.{Rose}
+use Rattle.mica_io.specs.Faults.{Rose, LAST_COUNT}
+use Rattle.mica_io.specs.Ports.{out}
 use Rattle.mica_serve.specs.Ends.{EndFacts, end_facts}
 use Rattle.mica_serve.specs.NetRun.{OnPorts}
-use Rattle.mica_serve.proofs.Binding.{Releasing, popped, still_out, tells_at, released_more, all_told, when_some, from_map, rose_on, rose_before}
+use Rattle.mica_serve.proofs.Binding.{Releasing, releasing_none, popped, still_out, tells_at, released_more, all_told, counts_none, counts_more, when_some, from_map, rose_on, rose_before}
 use Rattle.mica_serve.proofs.run.release_all.Given as given
 use Rattle.mica_serve.proofs.run.release_all.Goals as goal
 use Rattle.mica_serve.proofs.run.release_all.Goals.{In-Some}
@@ -37,6 +40,23 @@ release-requires g c =
     let many : length c.loop-end.ends.items ≡ suc (length new) = omega (arith, p.2) in
     still_out c.args.first ends (length c.loop-end.ends.items) (length new) (g.N.End.Datagrams.port end) (g.N.Net.ports c.args.net.now) (g.N.Net.ports c.loop-end.net) inv.1
     (omega (arith, many)) (c.requires.ports (length new) (facts g end) here)
+
+pub loop-end-init : goal.loop-end-init
+loop-end-init g c =
+    let items = c.args.ends.items in
+    let size : vec_len c.args.ends ≡ length items = search rules in (
+      sym (take-length items),
+      releasing_none c.args.first (map (facts g) items) (length items) (g.N.Net.ports c.args.net.now) (length-map items (facts g))
+          (subst (λ (n : ℕ). IfSome (g.N.Net.ports c.args.net.now) (λ all. (i : ℕ) → i < n → all (c.args.first + i) ≡ out)) size c.requires.out),
+      search rules,
+      search rules,
+      search rules,
+      search rules,
+      search rules,
+      λ i e le is some. absurd (omega (arith, slice_get_within items i e is, le)),
+      search rules,
+      λ told. counts_none (facts g) items (g.N.Net.faults c.args.net.now),
+    )
 
 pub loop-end-preserved : goal.loop-end-preserved
 loop-end-preserved g c =
@@ -69,6 +89,9 @@ loop-end-preserved g c =
             (rel.cause (subst (λ x. 0 < g.N.End.Datagrams.faults x) same some))
       ],
       λ told none. when_some (g.N.Net.fails c.loop-end.net) (ap is_some inv.3 ∙ told) rel.unmoved (none (length new) end p.1) ∙ inv.8 told none,
+      λ told. counts_more ends (length new) (facts g end) (g.N.Net.faults c.args.net.now) (g.N.Net.faults c.loop-end.net) (g.N.Net.faults c.release.new.self) here
+          (when_some (g.N.Net.fails c.loop-end.net) (ap is_some inv.3 ∙ told) rel.counted)
+          (inv.9 told ∙ ap (λ (n : ℕ). min (g.N.Net.faults c.args.net.now + sum_by (λ e. e.faults) (drop n ends)) LAST_COUNT) p.2),
     )
 
 pub returns : goal.returns
@@ -81,6 +104,7 @@ returns g c =
           (subst (λ (n : ℕ). OnPorts (Releasing c.args.first ends n) (g.N.Net.ports c.args.net.now) (g.N.Net.ports c.loop-end.net)) none inv.1);
       cause = λ i f is some. let m = from_map (facts g) c.args.ends.items i f is in inv.7 i m.0 (omega (arith, none)) m.1 (subst (λ (x : EndFacts). 0 < x.faults) (sym m.2) some);
       steady = λ told zero_all. inv.8 told (λ i e is. zero_all i (facts g e) (slice_get-map (facts g) c.args.ends.items i ∙ ap (option_map (facts g)) is));
+      counted = λ told. inv.9 told ∙ ap (λ (n : ℕ). min (g.N.Net.faults c.args.net.now + sum_by (λ e. e.faults) (drop n ends)) LAST_COUNT) none;
       never_fall = inv.2;
       binds = inv.4;
       first_is = inv.5;

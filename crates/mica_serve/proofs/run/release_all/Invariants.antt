@@ -1,6 +1,6 @@
-use Rattle.std.proofs.Common.{◌≡◌, ◌≤◌, ◌<◌, ℕ, true, map, length, take, slice_get, Some}
-use Rattle.std.specs.Prelude.{is_some}
-use Rattle.mica_io.specs.Faults.{Rose}
+use Rattle.std.proofs.Common.{◌≡◌, ◌≤◌, ◌<◌, ℕ, true, map, length, take, drop, ◌+◌, slice_get, Some}
+use Rattle.std.specs.Prelude.{is_some, min, sum_by}
+use Rattle.mica_io.specs.Faults.{Rose, LAST_COUNT}
 use Rattle.mica_serve.specs.NetRun.{OnPorts}
 use Rattle.mica_serve.specs.Ends.{end_facts}
 use Rattle.mica_serve.proofs.Binding.{Releasing}
@@ -19,6 +19,8 @@ invariant-loop-end g l =
     → Rose (g.N.Net.faults l.initial.net) (g.N.Net.faults l.net))
     × (is_some (g.N.Net.fails l.initial.net) ≡ true → ((i : ℕ) (e : g.row.N-End.Denot) → slice_get l.initial.ends.items i ≡ Some e → g.N.End.Datagrams.faults e ≡ 0)
     → g.N.Net.faults l.net ≡ g.N.Net.faults l.initial.net)
+    × (is_some (g.N.Net.fails l.initial.net) ≡ true → min (g.N.Net.faults l.net) LAST_COUNT
+    ≡ min (g.N.Net.faults l.initial.net + sum_by (λ e. e.faults) (drop (length l.ends.items) (map (end_facts g.N.End.Datagrams.port g.N.End.Datagrams.traffic g.N.End.Datagrams.faults g.N.End.Datagrams.has_ended g.N.End.Datagrams.script) l.initial.ends.items))) LAST_COUNT)
 
 abbrev pub decreases-loop-end : goal.decreases-loop-end
 decreases-loop-end g l = length l.ends.items

@@ -4,7 +4,7 @@ use Rattle.std.proofs.lemmas.List.{length-map}
 use Rattle.mica_io.specs.Ports.{out}
 use Rattle.mica_serve.specs.Ends.{EndFacts, end_facts}
 use Rattle.mica_serve.specs.NetRun.{NetFacts, net_facts}
-use Rattle.mica_serve.proofs.Whole.{kept_at, out_until, tell_until, keeps, cause}
+use Rattle.mica_serve.proofs.Whole.{kept_at, out_until, tell_until, keeps, cause, net_kept}
 use Rattle.mica_serve.proofs.run.serve_on.Given as given
 use Rattle.mica_serve.proofs.run.serve_on.Goals as goal
 
@@ -41,3 +41,9 @@ pub returns-clause-kept : goal.returns-clause-kept
 returns-clause-kept g c =
     keeps c.args.options.now c.requires.options.partitions.0 c.args.ports.now c.bind_and_serve-answer.new.tables (net_at g c.args.net.now) (net_at g c.bind_and_serve-answer.new.net) (net_at g c.release_all.new.net)
     (map (facts g) c.bind_and_serve-answer.new.ends.items) c.release_all.ensures c.bind_and_serve-answer.result c.bind_and_serve-answer.ensures
+
+pub returns-in_err-server-clause-kept : goal.returns-in_err-server-clause-kept
+returns-in_err-server-clause-kept g c = net_kept c.args.ports.now (net_at g c.args.net.now) c.requires.unbound
+
+pub returns-in_err-ends-clause-kept : goal.returns-in_err-ends-clause-kept
+returns-in_err-ends-clause-kept g c = net_kept c.args.ports.now (net_at g c.args.net.now) c.requires.unbound

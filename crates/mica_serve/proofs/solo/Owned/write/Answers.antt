@@ -20,7 +20,7 @@ returns g c =
     let below : at < length parts = omega (arith, number, low, c.self.invariant.1) in
     let step : RunStep = record { write = write_of c.args.op key c.args.value.now; outcome = c.write_to-outcome.result; stamp = c.stamp.result } in
     let taken = put_back g.P.Partition.owner options parts at part c.write_to-outcome.new.part step.write step.outcome step.stamp
-    below c.index_mut-part.ensures.value (c.self.invariant.2 at part below) c.write_to-outcome.ensures c.stamp.ensures in
+    below c.index_mut-part.ensures.value (c.self.invariant.2 at part below) c.write_to-outcome.ensures.step c.stamp.ensures in
     let old : Solo = record { options = options; histories = map (history_in g.P.Partition.owner) parts } in
     let new : Solo = record { options = options; histories = map (history_in g.P.Partition.owner) (slice_set parts at c.write_to-outcome.new.part) } in
     subst (λ (s : Solo). StepsPartition s (partition_of key s.options.partitions) step new) c.self.view_is (subst (λ (p : ℕ). StepsPartition old p step new) number taken)

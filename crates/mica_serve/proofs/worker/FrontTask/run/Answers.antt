@@ -23,6 +23,6 @@ returns g c =
         ended = c.end.ensures.ended;
         run = runs_front old.options c.args.batches (record { answer = c.serve_end-self.result; old = sessions_of old.parts; new = sessions_of new.parts; left = old.left; left_after = new.left }) b a
             (record { port = served.port; never_fall = served.never_fall; tells = tells_still b.traffic a.traffic served.tells; scripted = served.script })
-            served.served served.stopped served.cause served.small served.steady;
+            served.served served.stopped served.wants served.cause served.small served.steady;
       };
     }
