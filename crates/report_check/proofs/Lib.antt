@@ -1,0 +1,14 @@
+pub mod Walks
+pub mod Histories
+pub mod Counts
+pub mod RoundEnds
+pub mod Moments
+pub mod Machines
+pub mod Fitting
+pub mod Asking
+pub mod SettledGets
+pub mod Judging
+pub mod Stepping
+pub mod Partitions
+pub mod LastStamps
+pub mod Found

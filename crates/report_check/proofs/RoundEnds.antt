@@ -1,0 +1,104 @@
+-- Where rounds begin and end.
+use Rattle.std.proofs.Common.{◌≡◌, ℕ, zero, suc, ◌+◌, ◌<◌, ◌≤◌, List, [], ◌∷◌, length, take, Some, refl, sym, ap, ◌∙◌, arith, cond, true, false, slice_get, leb, leb-true, leb-false}
+use Rattle.std.proofs.lemmas.Option.{slice_get_within}
+use Rattle.mica_trace.specs.declared.line.TraceLine.{TraceLine}
+use Rattle.mica_trace.specs.TraceGrammar.{is_sync, syncs_in}
+use Rattle.mica_trace.specs.Rounds.{lines_before}
+use Rattle.mica_trace.proofs.LineLemmas.{syncs_cons, syncs_push}
+use Rattle.report_check.specs.Moments.{StartsRound, IsRound}
+use Rattle.report_check.proofs.Histories.{take_one, take_past}
+
+no_lines : (lines : List TraceLine) → lines_before lines 0 ≡ []
+no_lines [] = refl
+no_lines (l ∷ lines) = refl
+
+-- the next round begins behind a sync
+pub behind_sync : (lines : List TraceLine) (n : ℕ) (line : TraceLine) → slice_get lines n ≡ Some line → is_sync line ≡ true
+    → lines_before lines (suc (syncs_in (take n lines))) ≡ take (suc n) lines
+behind_sync [] n line is sync = absurd (cc)
+behind_sync (l ∷ lines) zero line is sync =
+    let same : l ≡ line = cc in
+    let here : is_sync l ≡ true = ap is_sync same ∙ sync in
+    ap (λ ls. l ∷ ls) (ap (λ b. lines_before lines (cond b 0 1)) here ∙ no_lines lines)
+behind_sync (l ∷ lines) (suc n) line is sync =
+    let later = behind_sync lines n line is sync in
+    let counted = syncs_cons l (take n lines) in
+    ap (λ ls. l ∷ ls)
+    (elim (is_sync l) as (λ b. syncs_in (l ∷ take n lines) ≡ cond b 1 0 + syncs_in (take n lines)
+    → lines_before lines (cond b (syncs_in (l ∷ take n lines)) (suc (syncs_in (l ∷ take n lines)))) ≡ take (suc n) lines) [
+      | true ↦ λ c. let at : syncs_in (l ∷ take n lines) ≡ suc (syncs_in (take n lines)) = omega arith in ap (lines_before lines) at ∙ later
+      | false ↦ λ c. let at : suc (syncs_in (l ∷ take n lines)) ≡ suc (syncs_in (take n lines)) = omega arith in ap (lines_before lines) at ∙ later
+    ] counted)
+
+-- the last round ends with the lines
+pub past_syncs : (lines : List TraceLine) (k : ℕ) → syncs_in lines < k → lines_before lines k ≡ lines
+past_syncs [] k less = refl
+past_syncs (l ∷ lines) zero less = absurd (omega arith)
+past_syncs (l ∷ lines) (suc k) less =
+    let counted = syncs_cons l lines in
+    ap (λ ls. l ∷ ls)
+    (elim (is_sync l) as (λ b. syncs_in (l ∷ lines) ≡ cond b 1 0 + syncs_in lines → lines_before lines (cond b k (suc k)) ≡ lines) [
+      | true ↦ λ c. past_syncs lines k (omega arith)
+      | false ↦ λ c. past_syncs lines (suc k) (omega arith)
+    ] counted)
+
+pub starts : (lines : List TraceLine) → StartsRound lines 0
+starts lines = no_lines lines
+
+-- one line more
+pub syncs_more : (lines : List TraceLine) (n : ℕ) (line : TraceLine) → slice_get lines n ≡ Some line
+    → syncs_in (take (n + 1) lines) ≡ syncs_in (take n lines) + cond (is_sync line) 1 0
+syncs_more lines n line is = ap syncs_in (take_one lines n line is) ∙ syncs_push (take n lines) line
+
+pub next_starts : (lines : List TraceLine) (n : ℕ) (line : TraceLine) → slice_get lines n ≡ Some line → is_sync line ≡ true → StartsRound lines (n + 1)
+next_starts lines n line is sync =
+    let more = syncs_more lines n line is ∙ ap (λ b. syncs_in (take n lines) + cond b 1 0) sync in
+    let at : syncs_in (take (n + 1) lines) ≡ suc (syncs_in (take n lines)) = omega arith in
+    let place : suc n ≡ n + 1 = omega arith in
+    ap (lines_before lines) at ∙ behind_sync lines n line is sync ∙ ap (λ k. take k lines) place
+
+-- How far a round goes
+
+abbrev pub IsInside : List TraceLine → ℕ → ℕ → Type 0
+IsInside lines from to = (n : ℕ) → from ≤ n → n ≤ to → syncs_in (take n lines) ≡ syncs_in (take from lines)
+
+pub inside_one : (lines : List TraceLine) (from : ℕ) → IsInside lines from from
+inside_one lines from n low high = let e : n ≡ from = omega arith in ap (λ k. syncs_in (take k lines)) e
+
+pub inside_more : (lines : List TraceLine) (from place : ℕ) (line : TraceLine) → slice_get lines place ≡ Some line → is_sync line ≡ false → from ≤ place → IsInside lines from place → IsInside lines from (place + 1)
+inside_more lines from place line is denied low inside n low' high =
+    elim (leb n place) as (λ t. leb n place ≡ t → syncs_in (take n lines) ≡ syncs_in (take from lines)) [
+      | true ↦ λ e. inside n low' (leb-true n place e)
+      | false ↦ λ f.
+          let above = leb-false n place f in
+          let at : n ≡ place + 1 = omega arith in
+          let one = syncs_more lines place line is ∙ ap (λ b. syncs_in (take place lines) + cond b 1 0) denied in
+          let before = inside place low (omega arith) in
+          ap (λ k. syncs_in (take k lines)) at ∙ omega arith
+    ] refl
+
+pub round_to_sync : (lines : List TraceLine) (from place : ℕ) (line : TraceLine) → StartsRound lines from → slice_get lines place ≡ Some line → is_sync line ≡ true → from ≤ place
+    → IsInside lines from place → IsRound lines from (place + 1)
+round_to_sync lines from place line begins is sync low inside = record {
+  starts = begins;
+  low = omega arith;
+  high = (let less = slice_get_within lines place line is in omega arith);
+  ends =
+      let before = inside place low (omega arith) in
+      let at : syncs_in (take from lines) + 1 ≡ suc (syncs_in (take place lines)) = omega arith in
+      let next : suc place ≡ place + 1 = omega arith in
+      ap (lines_before lines) at ∙ behind_sync lines place line is sync ∙ ap (λ k. take k lines) next;
+  inside = λ n low' less. inside n low' (omega arith);
+}
+
+pub round_to_end : (lines : List TraceLine) (from : ℕ) → StartsRound lines from → from ≤ length lines → IsInside lines from (length lines) → IsRound lines from (length lines)
+round_to_end lines from begins low inside =
+    let whole : take (length lines) lines ≡ lines = take_past lines (length lines) (omega arith) in
+    let all : syncs_in lines ≡ syncs_in (take from lines) = ap syncs_in (sym whole) ∙ inside (length lines) low (omega arith) in
+    record {
+      starts = begins;
+      low = low;
+      high = omega arith;
+      ends = past_syncs lines (syncs_in (take from lines) + 1) (omega arith) ∙ sym whole;
+      inside = λ n low' less. inside n low' (omega arith);
+    }

@@ -1,0 +1,7 @@
+pub mod FirstUnlawful
+pub mod Machines
+pub mod Moments
+pub mod Earlier
+pub mod Settling
+pub mod Judged
+pub mod Found
