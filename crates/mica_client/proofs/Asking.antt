@@ -1,0 +1,121 @@
+-- All batches, one after another: what is left of them, and what is known of the answers.
+use Rattle.std.proofs.Common.{◌≡◌, inl, ℕ, ◌+◌, ◌||◌, Bool, true, false, not, List, [], ◌∷◌, map, length, refl, sym, ap, subst, ◌∙◌, arith, Option, Some, None, Ok, Err}
+use Rattle.std.specs.List.{All, AllByRecursion}
+use Rattle.std.proofs.lemmas.Bool.{or_parts, not-false, not_from_true}
+use Rattle.mica_trace.specs.declared.line.TraceLine.{TraceLine}
+use Rattle.mica_trace.specs.declared.report.Line.{Line}
+use Rattle.batch_packets.specs.declared.batch.Request.{Request}
+use Rattle.batch_packets.specs.BatchGrammar.{IsBatch}
+use Rattle.mica_client.specs.declared.options.AskOptions.{AskOptions}
+use Rattle.mica_client.specs.declared.batches.Group.{Group}
+use Rattle.mica_client.specs.declared.fault.AskFault.{AskFault}
+use Rattle.mica_client.specs.declared.fault.AskFault.TheVariants.{NoMemory}
+use Rattle.mica_client.specs.declared.options.TheConstants.{VERSION}
+use Rattle.mica_client.proofs.Running.{went_none}
+use Rattle.mica_client.specs.Talk.{Talk, OnTalk, Passes}
+use Rattle.mica_client.specs.Batches.{numbered, groups_of}
+use Rattle.mica_client.specs.Answers.{Answers, unanswered, is_answered, HasTicketIn, AreFor, IsOfTrace, KeepsAnswers, KeepsAll}
+use Rattle.mica_client.specs.Exchange.{Standing, start, standing_at, lacks_answer, IsWhole, ComesTo, IsCauseOf, MeansForAsk, AsksAll}
+
+abbrev pub Grows : Answers → Answers → Type 0
+Grows old new = (ticket : ℕ) → is_answered old ticket ≡ true → is_answered new ticket ≡ true
+
+abbrev pub Answered : Answers → Group → Type 0
+Answered answers group = lacks_answer answers group.requests ≡ false
+
+abbrev pub OfTrace : List TraceLine → List Group → Type 0
+OfTrace trace groups = AllByRecursion (λ group. AllByRecursion (IsOfTrace trace) group.requests) groups
+
+abbrev pub AreBatches : List Group → Type 0
+AreBatches groups = (n : ℕ) → AllByRecursion (λ group. IsBatch (record { version = VERSION; number = n; requests = group.requests })) groups
+
+abbrev pub HaveTickets : ℕ → List Group → Type 0
+HaveTickets lines groups = AllByRecursion (λ group. All (HasTicketIn lines) group.requests) groups
+
+still_answered : (old new : Answers) (requests : List Request) → Grows old new → lacks_answer old requests ≡ false → lacks_answer new requests ≡ false
+still_answered old new [] grows h = refl
+still_answered old new (r ∷ rs) grows h =
+    let parts = or_parts (not (is_answered old r.ticket)) (lacks_answer old rs) h in
+    let known = grows r.ticket (not-false (is_answered old r.ticket) parts.0) in
+    let no : not (is_answered new r.ticket) ≡ false = not_from_true (is_answered new r.ticket) known in
+    ap (λ (b : Bool). b || lacks_answer new rs) no ∙ still_answered old new rs grows parts.1
+
+-- these batches of all are left, behind so many
+pub record Going (groups rest : List Group) (number : ℕ) (old now : Answers) : Type 0 where
+  pub count : number + length rest ≡ length groups
+  pub batches : AreBatches rest
+  pub tickets : HaveTickets (length now) rest
+  pub answered : (final : Answers) → Grows now final → AllByRecursion (Answered final) rest → AllByRecursion (Answered final) groups
+  pub len : length now ≡ length old
+  pub known : Grows old now
+  pub lines : (trace : List TraceLine) → OfTrace trace groups → AreFor trace old → OfTrace trace rest × AreFor trace now
+
+pub going_none : (groups : List Group) (answers : Answers) → AreBatches groups → HaveTickets (length answers) groups → Going groups groups 0 answers answers
+going_none groups answers batches tickets = record {
+  count = omega arith;
+  batches = batches;
+  tickets = tickets;
+  answered = λ final grows h. h;
+  len = refl;
+  known = λ t h. h;
+  lines = λ trace of h. (of, h);
+}
+
+pub going_more : (groups rest : List Group) (group : Group) (number : ℕ) (old mid new : Answers) → Going groups (group ∷ rest) number old mid → KeepsAnswers group.requests mid new
+    → lacks_answer new group.requests ≡ false → Going groups rest (number + 1) old new
+going_more groups rest group number old mid new going keeps done = record {
+  count = omega (arith, going.count);
+  batches = λ n. (going.batches n).1;
+  tickets = subst (λ (n : ℕ). HaveTickets n rest) (sym keeps.len) going.tickets.1;
+  answered = λ final grows h. going.answered final (λ t k. grows t (keeps.known t k)) (still_answered new final group.requests grows done, h);
+  len = keeps.len ∙ going.len;
+  known = λ t h. keeps.known t (going.known t h);
+  lines = λ trace of h. let before = going.lines trace of h in (before.0.1, keeps.lines trace before.0.0 before.1);
+}
+
+pub all_answered : (groups : List Group) (number : ℕ) (old new : Answers) → Going groups [] number old new → AllByRecursion (Answered new) groups
+all_answered groups number old new going = going.answered new (λ t h. h) tt
+
+pub keeps_all : (groups : List Group) (number : ℕ) (old new : Answers) → Going groups [] number old new → KeepsAll groups old new
+keeps_all groups number old new going = record { len = going.len; known = going.known; lines = λ trace of h. (going.lines trace of h).1 }
+
+-- What is said of the whole
+
+pub nothing_asked : (before : Standing) (x : Option Talk) → OnTalk (Passes (MeansForAsk (Err NoMemory) before)) x x
+nothing_asked before None = tt
+nothing_asked before (Some t) = record { between = []; went = went_none t; fact = inl (before, refl, tt) }
+
+module _ (options : AskOptions) (trace : List TraceLine) (groups : List Group) (answers : Answers) (groups_are : groups ≡ groups_of options trace) (answers_are : answers ≡ unanswered trace) where
+  begins : standing_at (numbered 0 groups) None answers ≡ start options trace
+  begins =
+      ap (λ (gs : List Group). standing_at (numbered 0 gs) None answers) groups_are
+      ∙ ap (λ (a : Answers). standing_at (numbered 0 (groups_of options trace)) None a) answers_are
+
+  pub fault_asked : (fault : AskFault) (x y : Option Talk) → OnTalk (Passes (IsCauseOf fault (standing_at (numbered 0 groups) None answers))) x y → OnTalk (Passes (MeansForAsk (Err fault) (start options trace))) x y
+  fault_asked fault x y h = subst (λ (s : Standing). OnTalk (Passes (IsCauseOf fault s)) x y) begins h
+
+  memory_fact : (new : Answers) (a b : Talk) → Passes (AsksAll (numbered 0 groups) answers new) a b → Passes (MeansForAsk (Err NoMemory) (start options trace)) a b
+  memory_fact new a b p = record {
+    between = p.between;
+    went = p.went;
+    fact = subst (λ (s : Standing). IsCauseOf NoMemory s p.between b.left) begins (inl (p.fact.0, p.fact.1, tt));
+  }
+
+  pub memory_asked : (new : Answers) (x y : Option Talk) → OnTalk (Passes (AsksAll (numbered 0 groups) answers new)) x y → OnTalk (Passes (MeansForAsk (Err NoMemory) (start options trace))) x y
+  memory_asked new None y h = tt
+  memory_asked new (Some a) None h = absurd h
+  memory_asked new (Some a) (Some b) h = memory_fact new a b h
+
+  report_fact : (new : Answers) (report : List Line) → new ≡ map (λ line. Some line) report → (a b : Talk) → Passes (AsksAll (numbered 0 groups) answers new) a b
+      → Passes (MeansForAsk (Ok report) (start options trace)) a b
+  report_fact new report is a b p = record {
+    between = p.between;
+    went = p.went;
+    fact = subst (λ (s : Standing). ComesTo s p.between (λ at. IsWhole at × (at.answers ≡ map (λ line. Some line) report))) begins (p.fact.0, p.fact.1, (p.fact.2.0, p.fact.2.1 ∙ is));
+  }
+
+  pub report_asked : (new : Answers) (report : List Line) → new ≡ map (λ line. Some line) report → (x y : Option Talk) → OnTalk (Passes (AsksAll (numbered 0 groups) answers new)) x y
+      → OnTalk (Passes (MeansForAsk (Ok report) (start options trace))) x y
+  report_asked new report is None y h = tt
+  report_asked new report is (Some a) None h = absurd h
+  report_asked new report is (Some a) (Some b) h = report_fact new report is a b h

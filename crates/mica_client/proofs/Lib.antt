@@ -1,0 +1,10 @@
+pub mod Taking
+pub mod Cutting
+pub mod Running
+pub mod Sending
+pub mod Cut
+pub mod Asking
+pub mod Whole
+pub mod Passing
+pub mod Replied
+pub mod Deciding

@@ -1,0 +1,299 @@
+-- What replies make of the answers: none that was known is lost, each reply makes one known, and each is a line for its line of the trace.
+use Rattle.std.proofs.Common.{◌≡◌, ◌≤◌, ◌<◌, ℕ, zero, suc, ◌+◌, ◌-◌, ◌==◌, Bool, true, false, List, [], ◌∷◌, length, refl, sym, ap, subst, ◌∙◌, arith, get_or, set, cond, Option, Some, None, is_some, is_none, Result, Ok, Err, option_map, option_and_then}
+use Rattle.std.specs.Prelude.{slice_get, find, nat_le}
+use Rattle.std.specs.List.{All, AllByRecursion, list_all}
+use Rattle.std.proofs.lemmas.Bool.{eqb-true, leb-true, and_parts}
+use Rattle.std.proofs.lemmas.List.{length-set}
+use Rattle.std.proofs.lemmas.List.Sums.{sum_by-set}
+use Rattle.std.proofs.lemmas.List.Elements.{recursion_from_All}
+use Rattle.mica_words.specs.declared.item.TheConstants.{MAX_VALUE_LEN}
+use Rattle.mica_words.specs.Item.{ValueFits}
+use Rattle.mica_model.specs.declared.write.Op.{Op}
+use Rattle.mica_model.specs.declared.write.Op.TheVariants.{Put as PutOp, Add as AddOp, Touch as TouchOp, Del as DelOp}
+use Rattle.mica_model.specs.declared.write.Outcome.{Outcome}
+use Rattle.mica_model.specs.declared.write.Outcome.TheVariants.{Stored, Deleted, Absent, Touched, FullSpare, FullBlock, Worn, Exists}
+use Rattle.mica_trace.specs.declared.line.TraceOp.{TraceOp}
+use Rattle.mica_trace.specs.declared.line.TraceOp.TheVariants as op
+use Rattle.mica_trace.specs.declared.line.TraceLine.{TraceLine}
+use Rattle.mica_trace.specs.declared.report.Line.{Line}
+use Rattle.mica_trace.specs.declared.report.Line.TheVariants.{Hit, Miss}
+use Rattle.mica_trace.specs.LawfulReport.{IsLineFor, IsKindOf, IsReplyTo}
+use Rattle.mica_trace.specs.Rounds.{op_of}
+use Rattle.mica_trace.specs.ReportGrammar.{IsReportLine, HasOutcome}
+use Rattle.batch_packets.specs.declared.batch.Want.{Want}
+use Rattle.batch_packets.specs.declared.batch.Want.TheVariants.{Put, Add, Del, Touch, Get}
+use Rattle.batch_packets.specs.declared.batch.Request.{Request}
+use Rattle.batch_packets.specs.declared.batch.Batch.{Batch}
+use Rattle.batch_packets.specs.declared.replies.Reply.{Reply}
+use Rattle.batch_packets.specs.ReplyGrammar.{IsReply}
+use Rattle.mica_client.specs.declared.options.TheConstants.{VERSION}
+use Rattle.mica_client.specs.declared.fault.AskFault.{AskFault}
+use Rattle.mica_client.specs.declared.fault.AskFault.TheVariants.{Stranger, Double}
+use Rattle.mica_client.specs.Batches.{request_of, want_of}
+use Rattle.mica_client.specs.Answers.{Answers, HasTicketIn, wrote, is_answered, line_of, line_of_get, outcome_of_put, outcome_of_add, outcome_of_touch, outcome_of_del, is_printable, want_at, by_line, by_want, after_one, after_replies, go_on, open_answers, AreFor, IsOfTrace, KeepsAnswers}
+
+-- a list of answers with one more known
+
+known_set : (answers : Answers) (i : ℕ) (line : Line) (n : ℕ) → is_some (option_and_then (λ a. a) (slice_get answers n)) ≡ true → is_some (option_and_then (λ a. a) (slice_get (set answers i (Some line)) n)) ≡ true
+known_set [] i line n h = h
+known_set (x ∷ xs) zero line zero h = refl
+known_set (x ∷ xs) zero line (suc n) h = h
+known_set (x ∷ xs) (suc i) line zero h = h
+known_set (x ∷ xs) (suc i) line (suc n) h = known_set xs i line n h
+
+none_known : (answer : Option Line) → is_some answer ≡ false → is_none answer ≡ true
+none_known None h = refl
+none_known (Some line) h = absurd (cc)
+
+open_at : (answers : Answers) (i : ℕ) (d : Option Line) → i < length answers → is_some (option_and_then (λ a. a) (slice_get answers i)) ≡ false → is_none (get_or answers i d) ≡ true
+open_at [] i d within h = absurd (omega arith)
+open_at (x ∷ xs) zero d within h = none_known x h
+open_at (x ∷ xs) (suc i) d within h = open_at xs i d (omega arith) h
+
+abbrev none_count : Option Line → ℕ
+none_count a = cond (is_none a) 1 0
+
+open_set : (answers : Answers) (i : ℕ) (line : Line) → i < length answers
+    → is_some (option_and_then (λ a. a) (slice_get answers i)) ≡ false → open_answers (set answers i (Some line)) + 1 ≡ open_answers answers
+open_set answers i line within h =
+    let was : is_none (get_or answers i None) ≡ true = open_at answers i None within h in
+    let one : none_count (get_or answers i None) ≡ 1 = ap (λ b. cond b 1 0) was in
+    let sums : open_answers (set answers i (Some line)) + none_count (get_or answers i None) ≡ open_answers answers + 0 = sum_by-set none_count answers i (Some line) None within in
+    omega (arith, sums, one)
+
+for_set : (trace : List TraceLine) (answers : Answers) (i : ℕ) (line : TraceLine) (printed : Line) → slice_get trace i ≡ Some line → IsLineFor line printed → AreFor trace answers → AreFor trace (set answers i (Some printed))
+for_set [] [] i line printed at fits all = absurd (cc)
+for_set [] (y ∷ ys) i line printed at fits all = absurd all
+for_set (x ∷ xs) [] i line printed at fits all = absurd all
+for_set (x ∷ xs) (y ∷ ys) zero line printed at fits all = (let same : line ≡ x = cc in subst (λ l. IsLineFor l printed) same fits, all.1)
+for_set (x ∷ xs) (y ∷ ys) (suc i) line printed at fits all = (all.0, for_set xs ys i line printed at fits all.1)
+
+-- the request with a ticket
+
+pub record Asked (fact : Request → Type 0) (ticket : ℕ) (want : Want) : Type 0 where
+  pub request : Request
+  pub holds : fact request
+  pub ticket_is : request.ticket ≡ ticket
+  pub want_is : request.want ≡ want
+
+pub asked : (fact : Request → Type 0) (requests : List Request) (ticket : ℕ) (want : Want) → AllByRecursion fact requests
+    → want_at requests ticket ≡ Some want → Asked fact ticket want
+asked fact [] ticket want all h = absurd (cc)
+asked fact (r ∷ rs) ticket want all h = by (r.ticket == ticket) refl h (λ k. asked fact rs ticket want all.1 k)
+  where
+    by : (b : Bool) → (r.ticket == ticket) ≡ b → option_map (λ request. request.want) (cond b (Some r) (find (λ request. request.ticket == ticket) rs)) ≡ Some want
+        → (want_at rs ticket ≡ Some want → Asked fact ticket want) → Asked fact ticket want
+    by true e k later = record { request = r; holds = all.0; ticket_is = eqb-true _ _ e; want_is = cc }
+    by false e k later = later k
+
+-- what one reply that shows nothing made of the answers
+
+pub record TookOne (batch : Batch) (reply : Reply) (old new : Answers) : Type 0 where
+  pub want : Want
+  pub line : Line
+  pub at : want_at batch.requests reply.ticket ≡ Some want
+  pub unknown : is_answered old reply.ticket ≡ false
+  pub means : line_of want reply ≡ Some line
+  pub made : new ≡ set old (reply.ticket - 1) (Some line)
+
+took_line : (batch : Batch) (reply : Reply) (old new : Answers) (want : Want) (line : Option Line) → want_at batch.requests reply.ticket ≡ Some want → is_answered old reply.ticket ≡ false → line_of want reply ≡ line
+    → by_line line reply old ≡ Ok new → TookOne batch reply old new
+took_line batch reply old new want None at unknown means h = absurd (cc)
+took_line batch reply old new want (Some line) at unknown means h = record { want = want; line = line; at = at; unknown = unknown; means = means; made = cc }
+
+took_want : (batch : Batch) (reply : Reply) (old new : Answers) (want : Option Want) → want_at batch.requests reply.ticket ≡ want → by_want want reply old ≡ Ok new → TookOne batch reply old new
+took_want batch reply old new None at h = absurd (cc)
+took_want batch reply old new (Some want) at h = by (is_answered old reply.ticket) refl h
+  where
+    by : (b : Bool) → is_answered old reply.ticket ≡ b → cond b (Err (Double reply.ticket)) (by_line (line_of want reply) reply old) ≡ Ok new → TookOne batch reply old new
+    by true e k = absurd (cc)
+    by false e k = took_line batch reply old new want (line_of want reply) at e refl k
+
+pub took_one : (batch : Batch) (number : ℕ) (reply : Reply) (old new : Answers) → after_one batch number reply old ≡ Ok new → TookOne batch reply old new
+took_one batch number reply old new h = by (number == batch.number) refl h
+  where
+    by : (b : Bool) → (number == batch.number) ≡ b → cond b (by_want (want_at batch.requests reply.ticket) reply old) (Err (Stranger reply.ticket)) ≡ Ok new → TookOne batch reply old new
+    by true e k = took_want batch reply old new (want_at batch.requests reply.ticket) refl k
+    by false e k = absurd (cc)
+
+-- the line of a reply is one for the line that was asked
+
+all_printable : (value : List ℕ) → list_all is_printable value ≡ true → AllByRecursion (λ b. (32 ≤ b) × (b ≤ 126)) value
+all_printable [] h = tt
+all_printable (b ∷ bs) h =
+    let parts = and_parts (is_printable b) (list_all is_printable bs) h in
+    let both = and_parts (nat_le 32 b) (nat_le b 126) parts.0 in
+    ((leb-true 32 b both.0, leb-true b 126 both.1), all_printable bs parts.1)
+
+pick : (P : Outcome → Type 0) (b : Bool) (x : Outcome) (rest : Option Outcome) (outcome : Outcome) → P x → (rest ≡ Some outcome → P outcome) → cond b (Some x) rest ≡ Some outcome → P outcome
+pick P true x rest outcome px next h = let same : x ≡ outcome = cc in subst P same px
+pick P false x rest outcome px next h = next h
+
+no_outcome : (P : Outcome → Type 0) (outcome : Outcome) → None ≡ Some outcome → P outcome
+no_outcome P outcome h = absurd (cc)
+
+put_outcome : (s : ℕ) (outcome : Outcome) → outcome_of_put s ≡ Some outcome → HasOutcome PutOp outcome
+put_outcome s outcome =
+    let P = λ (o : Outcome). HasOutcome PutOp o in
+    pick P (s == 2) Stored _ outcome tt (pick P (s == 5) FullSpare _ outcome tt (pick P (s == 6) FullBlock _ outcome tt (pick P (s == 7) Worn None outcome tt (no_outcome P outcome))))
+
+add_outcome : (s : ℕ) (outcome : Outcome) → outcome_of_add s ≡ Some outcome → HasOutcome AddOp outcome
+add_outcome s outcome =
+    let P = λ (o : Outcome). HasOutcome AddOp o in
+    pick P (s == 11) Exists _ outcome tt (pick P (s == 2) Stored _ outcome tt (pick P (s == 5) FullSpare _ outcome tt (pick P (s == 6) FullBlock _ outcome tt (pick P (s == 7) Worn None outcome tt (no_outcome P outcome)))))
+
+touch_outcome : (s : ℕ) (outcome : Outcome) → outcome_of_touch s ≡ Some outcome → HasOutcome TouchOp outcome
+touch_outcome s outcome =
+    let P = λ (o : Outcome). HasOutcome TouchOp o in
+    pick P (s == 12) Touched _ outcome tt (pick P (s == 4) Absent _ outcome tt (pick P (s == 7) Worn None outcome tt (no_outcome P outcome)))
+
+del_outcome : (s : ℕ) (outcome : Outcome) → outcome_of_del s ≡ Some outcome → HasOutcome DelOp outcome
+del_outcome s outcome =
+    let P = λ (o : Outcome). HasOutcome DelOp o in
+    pick P (s == 3) Deleted _ outcome tt (pick P (s == 4) Absent _ outcome tt (pick P (s == 7) Worn None outcome tt (no_outcome P outcome)))
+
+-- a report line of the operation's kind
+abbrev pub IsFor : TraceOp → Line → Type 0
+IsFor asked line = IsReportLine line × IsKindOf asked line
+
+wrote_line : (asked : TraceOp) (does : Op) (stamp : ℕ) (outcome : Option Outcome) (line : Line) → op_of asked ≡ Some does → ((o : Outcome) → outcome ≡ Some o → HasOutcome does o)
+    → option_map (wrote does stamp) outcome ≡ Some line → IsFor asked line
+wrote_line asked does stamp None line kind has h = absurd (cc)
+wrote_line asked does stamp (Some o) line kind has h =
+    let same : wrote does stamp o ≡ line = cc in
+    subst (IsFor asked) same (has o refl, subst (λ k. IsReplyTo k does) (sym kind) refl)
+
+get_line : (reply : Reply) (line : Line) → IsReply VERSION reply → line_of_get reply ≡ Some line → IsFor op.Get line
+get_line reply line lawful h = by (reply.status == 0) refl h
+  where
+    hit : (b : Bool) → list_all is_printable reply.value ≡ b → ValueFits reply.value → cond b (Some (Hit reply.stamp reply.value)) None ≡ Some line → IsFor op.Get line
+    hit true e short k = let same : Hit reply.stamp reply.value ≡ line = cc in subst (IsFor op.Get) same ((short, all_printable reply.value e), tt)
+    hit false e short k = absurd (cc)
+
+    miss : (b : Bool) → cond b (Some (Miss reply.stamp)) None ≡ Some line → IsFor op.Get line
+    miss true k = let same : Miss reply.stamp ≡ line = cc in subst (IsFor op.Get) same (tt, tt)
+    miss false k = absurd (cc)
+
+    by : (b : Bool) → (reply.status == 0) ≡ b
+        → cond b (cond (list_all is_printable reply.value) (Some (Hit reply.stamp reply.value)) None) (cond (reply.status == 1) (Some (Miss reply.stamp)) None) ≡ Some line → IsFor op.Get line
+    by true e k = hit (list_all is_printable reply.value) refl (subst (λ b. length reply.value ≤ cond b MAX_VALUE_LEN 0) e lawful.value) k
+    by false e k = miss (reply.status == 1) k
+
+op_line : (asked : TraceOp) (want : Want) (reply : Reply) (line : Line) → want_of asked ≡ Some want → IsReply VERSION reply → line_of want reply ≡ Some line → IsFor asked line
+op_line op.Put want reply line is lawful h =
+    let same : want ≡ Put = cc in
+    wrote_line op.Put PutOp reply.stamp (outcome_of_put reply.status) line refl (λ o e. put_outcome reply.status o e) (subst (λ w. line_of w reply ≡ Some line) same h)
+op_line op.Add want reply line is lawful h =
+    let same : want ≡ Add = cc in
+    wrote_line op.Add AddOp reply.stamp (outcome_of_add reply.status) line refl (λ o e. add_outcome reply.status o e) (subst (λ w. line_of w reply ≡ Some line) same h)
+op_line op.Touch want reply line is lawful h =
+    let same : want ≡ Touch = cc in
+    wrote_line op.Touch TouchOp reply.stamp (outcome_of_touch reply.status) line refl (λ o e. touch_outcome reply.status o e) (subst (λ w. line_of w reply ≡ Some line) same h)
+op_line op.Del want reply line is lawful h =
+    let same : want ≡ Del = cc in
+    wrote_line op.Del DelOp reply.stamp (outcome_of_del reply.status) line refl (λ o e. del_outcome reply.status o e) (subst (λ w. line_of w reply ≡ Some line) same h)
+op_line op.Get want reply line is lawful h =
+    let same : want ≡ Get = cc in get_line reply line lawful (subst (λ w. line_of w reply ≡ Some line) same h)
+op_line op.Sync want reply line is lawful h = absurd (cc)
+
+-- what a request has of its line
+pub record OfLine (n : ℕ) (asked : TraceOp) (key value : List ℕ) (request : Request) : Type 0 where
+  pub want : want_of asked ≡ Some request.want
+  pub ticket : request.ticket ≡ n + 1
+  pub key_is : request.key ≡ key
+  pub value_is : request.value ≡ value
+
+pub of_line : (n : ℕ) (line : TraceLine) (request : Request) → request_of n line ≡ Some request → OfLine n line.op line.key line.value request
+of_line n line request h = by (want_of line.op) refl h
+  where
+    by : (want : Option Want) → want_of line.op ≡ want → option_map (λ want. record { want = want; ticket = n + 1; key = line.key; value = line.value }) want ≡ Some request
+        → OfLine n line.op line.key line.value request
+    by None e k = absurd (cc)
+    by (Some want) e k =
+        let it : Request = record { want = want; ticket = n + 1; key = line.key; value = line.value } in
+        let same : it ≡ request = cc in
+        record {
+          want = e ∙ ap (λ (r : Request). Some r.want) same;
+          ticket = sym (ap (λ (r : Request). r.ticket) same);
+          key_is = sym (ap (λ (r : Request). r.key) same);
+          value_is = sym (ap (λ (r : Request). r.value) same);
+        }
+
+-- one reply
+
+pub record KeepsOne (requests : List Request) (old new : Answers) : Type 0 where
+  pub keeps : KeepsAnswers requests old new
+  pub one_less : open_answers new + 1 ≡ open_answers old
+
+pub keeps_one : (batch : Batch) (reply : Reply) (old new : Answers) → TookOne batch reply old new → IsReply VERSION reply → All (HasTicketIn (length old)) batch.requests → KeepsOne batch.requests old new
+keeps_one batch reply old new took lawful tickets =
+    let t = reply.ticket in
+    let found = asked (HasTicketIn (length old)) batch.requests t took.want (recursion_from_All _ batch.requests tickets) took.at in
+    let low : 1 ≤ t = subst (λ n. 1 ≤ n) found.ticket_is found.holds.0 in
+    let high : t ≤ length old = subst (λ n. n ≤ length old) found.ticket_is found.holds.1 in
+    let made = took.made in
+    record {
+      keeps = record {
+        len = ap length made ∙ length-set old (t - 1) (Some took.line);
+        known = λ n h. subst (λ a. is_answered a n ≡ true) (sym made) (known_set old (t - 1) took.line (n - 1) h);
+        lines = λ trace of so_far. subst (AreFor trace) (sym made) (lawful_line batch reply old took lawful trace of so_far);
+      };
+      one_less = subst (λ a. open_answers a + 1 ≡ open_answers old) (sym made) (open_set old (t - 1) took.line (omega arith) took.unknown);
+    }
+  where
+    lawful_line : (batch : Batch) (reply : Reply) (old : Answers) {new : Answers} (took : TookOne batch reply old new) → IsReply VERSION reply → (trace : List TraceLine) → AllByRecursion (IsOfTrace trace) batch.requests
+        → AreFor trace old → AreFor trace (set old (reply.ticket - 1) (Some took.line))
+    lawful_line batch reply old took lawful trace of so_far =
+        let found = asked (IsOfTrace trace) batch.requests reply.ticket took.want of took.at in
+        let h = found.holds in
+        let line = of_line h.place h.line found.request h.is in
+        let place : reply.ticket - 1 ≡ h.place = omega (arith, line.ticket, found.ticket_is) in
+        for_set trace old (reply.ticket - 1) h.line took.line (ap (slice_get trace) place ∙ h.at)
+        (op_line h.line.op took.want reply took.line (line.want ∙ ap (λ (w : Want). Some w) found.want_is) lawful took.means) so_far
+
+-- a datagram of replies
+
+pub record KeepsMany (requests : List Request) (many : ℕ) (old new : Answers) : Type 0 where
+  pub keeps : KeepsAnswers requests old new
+  pub less : open_answers new + many ≡ open_answers old
+
+pub keeps_none : (requests : List Request) (answers : Answers) → KeepsAnswers requests answers answers
+keeps_none requests answers = record { len = refl; known = λ t h. h; lines = λ trace of h. h }
+
+pub keeps_both : (requests : List Request) (a b c : Answers) → KeepsAnswers requests a b → KeepsAnswers requests b c → KeepsAnswers requests a c
+keeps_both requests a b c x y = record {
+  len = y.len ∙ x.len;
+  known = λ t h. y.known t (x.known t h);
+  lines = λ trace of h. y.lines trace of (x.lines trace of h);
+}
+
+pub keeps_replies : (batch : Batch) (number : ℕ) (replies : List Reply) (old new : Answers) → after_replies batch number replies old ≡ Ok new
+    → AllByRecursion (IsReply VERSION) replies → All (HasTicketIn (length old)) batch.requests → KeepsMany batch.requests (length replies) old new
+keeps_replies batch number [] old new h lawful tickets =
+    let same : old ≡ new = cc in
+    record {
+      keeps = subst (KeepsAnswers batch.requests old) same (keeps_none batch.requests old);
+      less = let e : open_answers new ≡ open_answers old = ap (λ (a : Answers). open_answers a) (sym same) in omega (arith, e);
+    }
+keeps_replies batch number (r ∷ rs) old new h lawful tickets =
+    by (after_one batch number r old) refl h (λ mid k t. keeps_replies batch number rs mid new k lawful.1 t)
+  where
+    by : (x : Result Answers AskFault) → after_one batch number r old ≡ x → go_on x (after_replies batch number rs) ≡ Ok new
+        → ((mid : Answers) → after_replies batch number rs mid ≡ Ok new → All (HasTicketIn (length mid)) batch.requests → KeepsMany batch.requests (length rs) mid new)
+        → KeepsMany batch.requests (length (r ∷ rs)) old new
+    by (Err fault) e k later = absurd (cc)
+    by (Ok mid) e k later =
+        let first = keeps_one batch r old mid (took_one batch number r old mid e) lawful.0 tickets in
+        let rest = later mid k (subst (λ (n : ℕ). All (HasTicketIn n) batch.requests) (sym first.keeps.len) tickets) in
+        record { keeps = keeps_both batch.requests old mid new first.keeps rest.keeps; less = omega (arith, first.one_less, rest.less) }
+
+-- the lengths alone
+pub same_length : (batch : Batch) (number : ℕ) (reply : Reply) (old new : Answers) → after_one batch number reply old ≡ Ok new → length new ≡ length old
+same_length batch number reply old new h =
+    let took = took_one batch number reply old new h in ap (λ (a : Answers). length a) took.made ∙ length-set old (reply.ticket - 1) (Some took.line)
+
+-- the ticket of a request of the batch is that of a line
+pub ticket_in : (lines : ℕ) (requests : List Request) (ticket : ℕ) (want : Want) → All (HasTicketIn lines) requests → want_at requests ticket ≡ Some want → (1 ≤ ticket) × (ticket ≤ lines)
+ticket_in lines requests ticket want all h =
+    let found = asked (HasTicketIn lines) requests ticket want (recursion_from_All _ requests all) h in
+    (subst (λ (n : ℕ). 1 ≤ n) found.ticket_is found.holds.0, subst (λ (n : ℕ). n ≤ lines) found.ticket_is found.holds.1)

@@ -1,0 +1,47 @@
+use Rattle.std.proofs.Common.{◌≡◌, ◌≤◌, ◌<◌, ◌∙◌, ℕ, List, length, ap, sym, subst, arith}
+use Rattle.std.specs.List.{AllByRecursion, AllZip}
+use Rattle.mica_trace.specs.declared.line.TraceLine.{TraceLine}
+use Rattle.mica_trace.specs.TraceGrammar.{IsTraceLine}
+use Rattle.mica_trace.specs.LawfulReport.{IsLineFor}
+use Rattle.mica_client.specs.declared.batches.Group.{Group}
+use Rattle.mica_client.specs.Batches.{groups_of}
+use Rattle.mica_client.specs.Answers.{Answers, KeepsAll}
+use Rattle.mica_client.proofs.Asking.{AreBatches, HaveTickets, Answered}
+use Rattle.mica_client.proofs.Cutting.{few_groups}
+use Rattle.mica_client.proofs.Whole.{are_batches, have_tickets, all_known, report_lines}
+use Rattle.std.proofs.lemmas.List.{length-map}
+use Rattle.mica_client.proofs.exchange.ask.Goals as goal
+
+pub ask_all-requires-clause-batches : goal.ask_all-requires-clause-batches
+ask_all-requires-clause-batches g c =
+    subst AreBatches (sym c.in-Ok.ensures) (are_batches c.args.options.now c.lines-lines.result.now c.requires (subst (AllByRecursion IsTraceLine) (sym c.lines-lines.ensures.same) c.lines-lines.ensures.lines))
+
+pub ask_all-requires-clause-tickets : goal.ask_all-requires-clause-tickets
+ask_all-requires-clause-tickets g c =
+    let lines = c.lines-lines.result.now in
+    let long : length lines ≡ length c.in-Ok-unanswered.answers.items = sym (ap (λ (a : Answers). length a) c.in-Ok-unanswered.ensures ∙ length-map lines _) in
+    subst (λ (n : ℕ). HaveTickets n c.in-Ok.groups.items) long (subst (HaveTickets (length lines)) (sym c.in-Ok.ensures) (have_tickets c.args.options.now lines))
+
+pub ask_all-requires-clause-few : goal.ask_all-requires-clause-few
+ask_all-requires-clause-few g c =
+    let lines = c.lines-lines.result.now in
+    let short : length lines ≤ 100000 = let l = c.lines-lines.ensures.within.few_lines in let same = ap (λ (x : List TraceLine). length x) c.lines-lines.ensures.same in omega (arith, l, same) in
+    subst (λ (groups : List Group). length groups < 4294967295) (sym c.in-Ok.ensures) (few_groups c.args.options.now lines c.requires.partitions.1 short)
+
+pub report_of-requires-clause-known : goal.report_of-requires-clause-known
+report_of-requires-clause-known g c =
+    let lines = c.lines-lines.result.now in
+    let new = c.ask_all.new.answers.items in
+    let e = c.in-Ok-ask_all.ensures in
+    let keeps = subst (λ (old : Answers). KeepsAll (groups_of c.args.options.now lines) old new) c.in-Ok-unanswered.ensures
+    (subst (λ (groups : List Group). KeepsAll groups c.in-Ok-unanswered.answers.items new) c.in-Ok.ensures e.keeps) in
+    all_known c.args.options.now lines new c.requires (subst (AllByRecursion (Answered new)) c.in-Ok.ensures e.answered) keeps
+
+pub returns-in-Ok-report_of-clause-lines : goal.returns-in-Ok-report_of-clause-lines
+returns-in-Ok-report_of-clause-lines g c =
+    let lines = c.lines-lines.result.now in
+    let new = c.ask_all.new.answers.items in
+    let e = c.in-Ok-ask_all.ensures in
+    let keeps = subst (λ (old : Answers). KeepsAll (groups_of c.args.options.now lines) old new) c.in-Ok-unanswered.ensures
+    (subst (λ (groups : List Group). KeepsAll groups c.in-Ok-unanswered.answers.items new) c.in-Ok.ensures e.keeps) in
+    subst (λ (l : List TraceLine). AllZip IsLineFor l c.in-Ok-report_of.report) c.lines-lines.ensures.same (report_lines c.args.options.now lines new c.in-Ok-report_of.report keeps c.in-Ok-report_of.ensures)

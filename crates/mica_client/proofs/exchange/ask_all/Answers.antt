@@ -1,0 +1,62 @@
+use Rattle.std.proofs.Common.{◌≡◌, ◌+◌, [], List, arith, refl, ◌∙◌, sym, subst}
+use Rattle.std.proofs.lemmas.List.{nil_from_length}
+use Rattle.std.specs.Vec.Iter.{into_iter_items}
+use Rattle.mica_client.specs.declared.batches.Group.{Group}
+use Rattle.mica_client.specs.Talk.{OnTalk, Passes}
+use Rattle.mica_client.specs.Batches.{numbered, ask_of}
+use Rattle.mica_client.proofs.Running.{SoFar, so_far_none, so_far_more, so_far_stop}
+use Rattle.mica_client.proofs.Asking.{Going, going_none, going_more, all_answered}
+use Rattle.mica_client.proofs.exchange.ask_all.Goals as goal
+
+pub loop-group-init : goal.loop-group-init
+loop-group-init g c =
+    let groups = c.args.groups.items in
+    let old = c.args.answers.now.items in
+    let all : groups ≡ into_iter_items c.into_iter-group-iterator.result = sym c.into_iter-group-iterator.ensures.into_iter_gives.0 in
+    record {
+      going = subst (λ (rest : List Group). Going groups rest 0 old old) all (going_none groups old c.requires.batches c.requires.tickets);
+      asks = subst (λ (rest : List Group). OnTalk (Passes (SoFar (numbered 0 groups) (numbered 0 rest) old old)) (g.L.Link.talk c.args.link.now) (g.L.Link.talk c.args.link.now)) all
+          (so_far_none (numbered 0 groups) old (g.L.Link.talk c.args.link.now));
+      ended = refl;
+      faults = omega arith;
+    }
+
+pub ask_one-requires-clause-batch : goal.ask_one-requires-clause-batch
+ask_one-requires-clause-batch g c =
+    let going = subst (λ (rest : List Group). Going c.args.groups.items rest c.loop-group.number c.args.answers.now.items c.loop-group.answers.items) c.in-Some.ensures.steps.0 c.loop-group.invariant.going in
+    (going.batches c.loop-group.number).0
+
+pub returns-in-Err-clause-stops : goal.returns-in-Err-clause-stops
+returns-in-Err-clause-stops g c =
+    let groups = c.args.groups.items in
+    let old = c.args.answers.now.items in
+    let mid = c.loop-group.answers.items in
+    let number = c.loop-group.number in
+    let rest = into_iter_items c.next.new.self in
+    let before = subst (λ (r : List Group). OnTalk (Passes (SoFar (numbered 0 groups) (numbered number r) old mid)) (g.L.Link.talk c.args.link.now) (g.L.Link.talk c.loop-group.link)) c.in-Some.ensures.steps.0 c.loop-group.invariant.asks in
+    so_far_stop c.in-Err.fault (numbered 0 groups) (numbered (number + 1) rest) (ask_of number c.in-Some.group) old mid _ _ _ before c.in-Err.ensures.stops
+
+pub loop-group-preserved : goal.loop-group-preserved
+loop-group-preserved g c =
+    let groups = c.args.groups.items in
+    let old = c.args.answers.now.items in
+    let mid = c.loop-group.answers.items in
+    let new = c.ask_one.new.answers.items in
+    let number = c.loop-group.number in
+    let rest = into_iter_items c.next.new.self in
+    let i = c.loop-group.invariant in
+    let e = c.in-Ok.ensures in
+    let going = subst (λ (r : List Group). Going groups r number old mid) c.in-Some.ensures.steps.0 i.going in
+    let before = subst (λ (r : List Group). OnTalk (Passes (SoFar (numbered 0 groups) (numbered number r) old mid)) (g.L.Link.talk c.args.link.now) (g.L.Link.talk c.loop-group.link)) c.in-Some.ensures.steps.0 i.asks in
+    record {
+      going = going_more groups rest c.in-Some.group number old mid new going e.keeps e.answered;
+      asks = so_far_more (numbered 0 groups) (numbered (number + 1) rest) (ask_of number c.in-Some.group) old mid new _ _ _ before e.asks e.answered;
+      ended = e.ended ∙ i.ended;
+      faults = omega (arith, i.faults, e.never_fall);
+    }
+
+pub returns-clause-answered : goal.returns-clause-answered
+returns-clause-answered g c =
+    let none : into_iter_items c.loop-group.group-iterator ≡ [] = nil_from_length (into_iter_items c.loop-group.group-iterator) (omega (arith, c.loop-group.group-iterator.rest.ok, c.in-None.ensures.steps.0)) in
+    let going = subst (λ (r : List Group). Going c.args.groups.items r c.loop-group.number c.args.answers.now.items c.loop-group.answers.items) none c.loop-group.invariant.going in
+    all_answered c.args.groups.items c.loop-group.number c.args.answers.now.items c.loop-group.answers.items going

@@ -1,0 +1,33 @@
+use Rattle.std.proofs.Common.{◌≡◌, ◌∙◌, true, arith, length, ap, sym, subst, ℕ, List}
+use Rattle.std.specs.List.{All}
+use Rattle.mica_client.specs.Answers.{Answers, HasTicketIn}
+use Rattle.mica_client.specs.Exchange.{lacks_answer}
+use Rattle.mica_client.proofs.Running.{asks_more, asks_stop}
+use Rattle.mica_client.proofs.Taking.{keeps_both}
+use Rattle.mica_client.proofs.Cutting.{batch_some}
+use Rattle.mica_client.proofs.exchange.ask_one.Goals as goal
+
+pub receiving-preserved : goal.receiving-preserved
+receiving-preserved g c =
+    let i = c.receiving.invariant in
+    let e = c.in-Ok.ensures in
+    record {
+      asks = asks_more (record { port = c.args.port; batch = c.args.batch.now }) c.args.answers.now.items c.receiving.answers.items c.receive_one.new.answers.items _ _ _ i.asks e.taken;
+      keeps = keeps_both c.args.batch.now.requests c.args.answers.now.items c.receiving.answers.items c.receive_one.new.answers.items i.keeps e.keeps;
+      tickets = subst (λ (n : ℕ). All (HasTicketIn n) c.args.batch.now.requests) (sym e.keeps.len) i.tickets;
+      room = omega (arith, i.room, c.receive_one.auto.room);
+      ended = e.ended ∙ i.ended;
+      faults = omega (arith, i.faults, e.never_fall);
+    }
+
+pub returns-in-Err-clause-stops : goal.returns-in-Err-clause-stops
+returns-in-Err-clause-stops g c =
+    let waited : lacks_answer c.receiving.answers.items c.args.batch.now.requests ≡ true =
+    ap (λ (a : Answers). lacks_answer a c.args.batch.now.requests) (sym c.as_slice.ensures.value) ∙ sym c.lacks_answer.ensures ∙ c.receiving-test.true in
+    asks_stop (record { port = c.args.port; batch = c.args.batch.now }) c.args.answers.now.items c.receiving.answers.items waited _ _ _ _ c.receiving.invariant.asks c.in-Err.ensures.stops
+
+pub send-requires : goal.send-requires
+send-requires g c =
+    let text = c.bytes.ensures ∙ c.in_ok-datagram.ensures in
+    let some = batch_some c.args.batch.now in
+    omega (arith, ap (λ (b : List ℕ). length b) text, some)

@@ -1,0 +1,151 @@
+-- What replies make of the lines that a report is to have.
+use Rattle.std.specs.Prelude.{◌≡◌, ◌≤◌, true, ℕ, ◌-◌, ◌==◌, ◌&&◌, Bool, List, [], ◌∷◌, map, length, slice_get, slice_set, nat_le, find, count_by, is_some, is_none, IfSome, if◌then◌else◌, Option, Some, None, option_map, option_and_then, Result, Ok, Err}
+use Rattle.std.specs.List.{list_all, AllZip, AllByRecursion}
+use Rattle.mica_model.specs.declared.write.Op.{Op}
+use Rattle.mica_model.specs.declared.write.Op.TheVariants.{Put as PutOp, Add as AddOp, Touch as TouchOp, Del as DelOp}
+use Rattle.mica_model.specs.declared.write.Outcome.{Outcome}
+use Rattle.mica_model.specs.declared.write.Outcome.TheVariants.{Stored, Deleted, Absent, Touched, FullSpare, FullBlock, Worn, Exists}
+use Rattle.mica_trace.specs.declared.line.TraceLine.{TraceLine}
+use Rattle.mica_trace.specs.declared.report.Line.{Line}
+use Rattle.mica_trace.specs.declared.report.Line.TheVariants.{Wrote, Hit, Miss, Sync}
+use Rattle.mica_trace.specs.TraceGrammar.{is_sync}
+use Rattle.mica_trace.specs.LawfulReport.{IsLineFor}
+use Rattle.batch_packets.specs.declared.batch.Want.{Want}
+use Rattle.batch_packets.specs.declared.batch.Want.TheVariants.{Put, Add, Del, Touch, Get}
+use Rattle.batch_packets.specs.declared.batch.Request.{Request}
+use Rattle.batch_packets.specs.declared.batch.Batch.{Batch}
+use Rattle.batch_packets.specs.declared.replies.Reply.{Reply}
+use Rattle.mica_client.specs.declared.fault.AskFault.{AskFault}
+use Rattle.mica_client.specs.declared.batches.Group.{Group}
+use Rattle.mica_client.specs.Batches.{request_of}
+use Rattle.mica_client.specs.declared.fault.AskFault.TheVariants.{Stranger, Double, Wrong}
+
+-- for each line of a trace the line of the report, where it is known
+abbrev pub Answers : Type 0
+Answers = List (Option Line)
+
+-- before any reply: a sync needs none
+abbrev pub unanswered : List TraceLine → Answers
+unanswered trace = map (λ line. if is_sync line then Some Sync else None) trace
+
+-- the answer that a ticket has; tickets count from 1
+abbrev pub answer_of : Answers → ℕ → Option Line
+answer_of answers ticket = option_and_then (λ answer. answer) (slice_get answers (ticket - 1))
+
+abbrev pub is_answered : Answers → ℕ → Bool
+is_answered answers ticket = is_some (answer_of answers ticket)
+
+-- the ticket is that of one of so many lines
+abbrev pub HasTicketIn : ℕ → Request → Type 0
+HasTicketIn lines request = (1 ≤ request.ticket) × (request.ticket ≤ lines)
+
+abbrev pub AnswerIsKnown : Option Line → Type 0
+AnswerIsKnown answer = is_some answer ≡ true
+
+-- a byte that a value of a trace may have
+abbrev pub is_printable : ℕ → Bool
+is_printable b = nat_le 32 b && nat_le b 126
+
+-- the line of a get's reply, where it has one: 0 is a hit, 1 a miss
+abbrev pub line_of_get : Reply → Option Line
+line_of_get reply =
+    if reply.status == 0 then (if list_all is_printable reply.value then Some (Hit reply.stamp reply.value) else None)
+    else (if reply.status == 1 then Some (Miss reply.stamp) else None)
+
+-- the outcome of a put's reply, where it has one
+abbrev pub outcome_of_put : ℕ → Option Outcome
+outcome_of_put status =
+    if status == 2 then Some Stored else (if status == 5 then Some FullSpare
+    else (if status == 6 then Some FullBlock else (if status == 7 then Some Worn else None)))
+
+-- the outcome of an add's reply, where it has one: that of a put, or that there was a value
+abbrev pub outcome_of_add : ℕ → Option Outcome
+outcome_of_add status = if status == 11 then Some Exists else outcome_of_put status
+
+-- the outcome of a touch's reply, where it has one
+abbrev pub outcome_of_touch : ℕ → Option Outcome
+outcome_of_touch status =
+    if status == 12 then Some Touched else (if status == 4 then Some Absent else (if status == 7 then Some Worn else None))
+
+-- the outcome of a delete's reply, where it has one
+abbrev pub outcome_of_del : ℕ → Option Outcome
+outcome_of_del status =
+    if status == 3 then Some Deleted else (if status == 4 then Some Absent else (if status == 7 then Some Worn else None))
+
+abbrev pub wrote : Op → ℕ → Outcome → Line
+wrote op stamp outcome = Wrote op outcome stamp
+
+-- the line that a reply means, where its status is one of the operation's
+abbrev pub line_of : Want → Reply → Option Line
+line_of Get reply = line_of_get reply
+line_of Put reply = option_map (wrote PutOp reply.stamp) (outcome_of_put reply.status)
+line_of Add reply = option_map (wrote AddOp reply.stamp) (outcome_of_add reply.status)
+line_of Touch reply = option_map (wrote TouchOp reply.stamp) (outcome_of_touch reply.status)
+line_of Del reply = option_map (wrote DelOp reply.stamp) (outcome_of_del reply.status)
+
+-- what the request with this ticket asks for
+abbrev pub want_at : List Request → ℕ → Option Want
+want_at requests ticket = option_map (λ request. request.want) (find (λ request. request.ticket == ticket) requests)
+
+-- the line is the answer to its ticket, where the reply means one
+abbrev pub by_line : Option Line → Reply → Answers → Result Answers AskFault
+by_line None reply answers = Err (Wrong reply.ticket)
+by_line (Some line) reply answers = Ok (slice_set answers (reply.ticket - 1) (Some line))
+
+-- the same, where the ticket is one of the batch
+abbrev pub by_want : Option Want → Reply → Answers → Result Answers AskFault
+by_want None reply answers = Err (Stranger reply.ticket)
+by_want (Some want) reply answers =
+    if is_answered answers reply.ticket then Err (Double reply.ticket) else by_line (line_of want reply) reply answers
+
+-- what a reply in a datagram of this number makes of the answers while the batch waits, or what it shows
+abbrev pub after_one : Batch → ℕ → Reply → Answers → Result Answers AskFault
+after_one batch number reply answers =
+    if number == batch.number then by_want (want_at batch.requests reply.ticket) reply answers
+    else Err (Stranger reply.ticket)
+
+-- a fault that a reply shows
+abbrev pub IsOfReply : AskFault → Type 0
+IsOfReply (Stranger ticket) = Unit {0}
+IsOfReply (Double ticket) = Unit {0}
+IsOfReply (Wrong ticket) = Unit {0}
+IsOfReply fault = ⊥
+
+-- the second, which goes on with the answers, where the first shows nothing
+abbrev pub go_on : Result Answers AskFault → (Answers → Result Answers AskFault) → Result Answers AskFault
+go_on (Ok answers) next = next answers
+go_on (Err fault) next = Err fault
+
+-- what the replies of a datagram make of the answers, or what the first of them shows that shows anything
+abbrev pub after_replies : Batch → ℕ → List Reply → Answers → Result Answers AskFault
+after_replies batch number [] answers = Ok answers
+after_replies batch number (reply ∷ replies) answers =
+    go_on (after_one batch number reply answers) (after_replies batch number replies)
+
+-- each answer that is known is a line for the line of the trace
+abbrev pub AreFor : List TraceLine → Answers → Type 0
+AreFor trace answers = AllZip (λ line answer. IfSome answer (IsLineFor line)) trace answers
+
+-- the request is that of a line of the trace
+pub record IsOfTrace (trace : List TraceLine) (request : Request) : Type 0 where
+  pub place : ℕ
+  pub line : TraceLine
+  pub at : slice_get trace place ≡ Some line
+  pub is : request_of place line ≡ Some request
+
+-- how many answers are not known
+abbrev pub open_answers : Answers → ℕ
+open_answers answers = count_by (λ answer. is_none answer) answers
+
+-- what answers to a batch make of the answers: none that was known is lost
+pub record KeepsAnswers (requests : List Request) (old new : Answers) : Type 0 where
+  pub len : length new ≡ length old
+  pub known : (ticket : ℕ) → is_answered old ticket ≡ true → is_answered new ticket ≡ true
+  pub lines : (trace : List TraceLine) → AllByRecursion (IsOfTrace trace) requests → AreFor trace old → AreFor trace new
+
+-- the same of all batches
+pub record KeepsAll (groups : List Group) (old new : Answers) : Type 0 where
+  pub len : length new ≡ length old
+  pub known : (ticket : ℕ) → is_answered old ticket ≡ true → is_answered new ticket ≡ true
+  pub lines : (trace : List TraceLine) → AllByRecursion (λ group. AllByRecursion (IsOfTrace trace) group.requests) groups
+      → AreFor trace old → AreFor trace new

@@ -1,0 +1,9 @@
+-- The ranges of the options of a client.
+use Rattle.mica_model.specs.Options.{InRange}
+use Rattle.mica_client.specs.declared.options.AskOptions.{AskOptions}
+
+pub record IsValidAsk (options : AskOptions) : Type 0 where
+  pub port : InRange 1024 65000 options.port
+  pub partitions : InRange 1 16 options.partitions
+  pub fronts : InRange 1 16 options.fronts
+  pub per : InRange 1 255 options.per

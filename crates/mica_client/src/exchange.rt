@@ -1,0 +1,227 @@
+//! The exchange with a server.
+ghost use Rattle.std.specs.Prelude.{◌≡◌, ◌<◌, ◌≤◌, ◌||◌, true, false, ℕ, None, length, All, IfOk, IfErr, OnOk, IsErrOf};
+ghost use Rattle.std.specs.List.{AllZip, AllByRecursion};
+ghost use Rattle.mica_io.specs.Faults.{Rose};
+ghost use Rattle.mica_trace.specs.LawfulReport.{IsLineFor};
+ghost use Rattle.batch_packets.specs.BatchGrammar.{IsBatch};
+ghost use Rattle.batch_packets.specs.ReplyGrammar.{IsReplies};
+ghost use Rattle.mica_client.specs.declared.options.TheConstants.{VERSION};
+ghost use Rattle.mica_client.specs.AskOptions.{IsValidAsk};
+ghost use Rattle.mica_client.specs.Talk.{OnTalk, Passes};
+ghost use Rattle.mica_client.specs.Batches.{numbered};
+ghost use Rattle.mica_client.specs.Answers.{HasTicketIn, KeepsAnswers, KeepsAll, open_answers};
+ghost use Rattle.mica_client.specs.Exchange.{lacks_answer, start, standing_at, SpellsAnswers, IsUnread, AnswersBatch, IsCauseOf, MeansForAsk, Receives, StopsReading, StopsOne, Asks, StopsAsking, AsksAll, IsOfReading, is_lost};
+
+use crate::answers::{is_answered, report_of, take_replies, unanswered};
+use crate::batches::{Group, groups_of};
+use crate::link::Link;
+use crate::{AskFault, AskOptions, VERSION};
+use batch_packets::{Batch, BatchFault, MAX_DATAGRAM_LEN_V2, Replies, read_replies, write_batch};
+use mica_io::NoMemory;
+use mica_trace::{Line, Report, Trace};
+use std::alloc::Global;
+
+/// The room for one datagram: a byte more than the longest, so that a longer one is still too long.
+pub const ROOM: usize = MAX_DATAGRAM_LEN_V2 + 1;
+
+// Whether some request of the batch has no answer.
+fn lacks_answer(batch: &Batch, answers: &[Option<Line>]) -> bool
+    ensures { result ≡ lacks_answer answers.now batch.now.requests }
+{
+    batch
+        .requests
+        .as_slice()
+        .iter()
+        .any(|request| !is_answered(answers, request.ticket))
+}
+
+// The replies whose text the bytes are, or why there are none.
+fn replies_in(alloc: Global, from: &[u8]) -> Result<Replies, AskFault>
+    ensures replies { IfOk result (SpellsAnswers from.now) }
+    ensures lawful { IfOk result IsReplies }
+    ensures version { IfOk result (λ replies. replies.version ≡ VERSION) }
+    ensures unread { IsErrOf result AskFault.Unread → IsUnread from.now }
+    ensures fault { IfErr result IsOfReading }
+    ensures not_lost { is_lost result ≡ false }
+{
+    let replies = match read_replies(alloc, from) {
+        Ok(replies) => replies,
+        Err(BatchFault::NoMemory) => return Err(AskFault::NoMemory),
+        Err(_) => return Err(AskFault::Unread),
+    };
+    if replies.version != VERSION {
+        return Err(AskFault::Unread);
+    }
+    Ok(replies)
+}
+
+// Receives one datagram and reads its replies.
+fn receive<L: Link>(alloc: Global, link: &mut L, room: &mut [u8]) -> Result<Replies, AskFault>
+    requires { length room.old ≡ ROOM }
+    ensures replies { IfOk result (λ replies. OnTalk (Receives (λ bytes. SpellsAnswers bytes replies))
+        (L.talk link.old) (L.talk link.new)) }
+    ensures lawful { IfOk result IsReplies }
+    ensures version { IfOk result (λ replies. replies.version ≡ VERSION) }
+    ensures stops { IfErr result (λ fault. OnTalk (StopsReading fault) (L.talk link.old) (L.talk link.new)) }
+    ensures cause { IsErrOf result AskFault.Link → Rose (L.faults link.old) (L.faults link.new) }
+    ensures never_fall { L.faults link.old ≤ L.faults link.new }
+    ensures ended { L.has_ended link.new ≡ (is_lost result || L.has_ended link.old) }
+{
+    match link.recv(room)? {
+        Some(count) => replies_in(alloc, &room[..count]),
+        None => Err(AskFault::Lost),
+    }
+}
+
+// Receives one datagram and takes its replies, while the batch waits.
+fn receive_one<L: Link>(
+    alloc: Global,
+    link: &mut L,
+    batch: &Batch,
+    answers: &mut Vec<Option<Line>>,
+    room: &mut [u8],
+) -> Result<(), AskFault>
+    requires waits { lacks_answer answers.old.items batch.now.requests ≡ true }
+    requires tickets { All (HasTicketIn (length answers.old.items)) batch.now.requests }
+    requires room { length room.old ≡ ROOM }
+    ensures taken { OnOk result (OnTalk (Receives (λ bytes. AnswersBatch batch.now answers.old.items bytes answers.new.items))
+        (L.talk link.old) (L.talk link.new)) }
+    ensures keeps { OnOk result (KeepsAnswers batch.now.requests answers.old.items answers.new.items) }
+    ensures fewer { OnOk result (open_answers answers.new.items < open_answers answers.old.items) }
+    ensures stops { IfErr result (λ fault. OnTalk (StopsOne fault batch.now answers.old.items) (L.talk link.old) (L.talk link.new)) }
+    ensures cause { IsErrOf result AskFault.Link → Rose (L.faults link.old) (L.faults link.new) }
+    ensures never_fall { L.faults link.old ≤ L.faults link.new }
+    ensures ended { L.has_ended link.new ≡ (is_lost result || L.has_ended link.old) }
+{
+    match receive(alloc, link, room) {
+        Ok(replies) => {
+            let Replies {
+                version: _,
+                number,
+                replies,
+            } = replies;
+            match take_replies(batch, number, replies.into_vec(), answers) {
+                Ok(()) => Ok(()),
+                Err(fault) => Err(fault),
+            }
+        }
+        Err(fault) => Err(fault),
+    }
+}
+
+// Sends one batch, and receives until each of its requests is answered.
+fn ask_one<L: Link>(
+    alloc: Global,
+    link: &mut L,
+    port: u16,
+    batch: &Batch,
+    answers: &mut Vec<Option<Line>>,
+    room: &mut [u8],
+) -> Result<(), AskFault>
+    requires batch { IsBatch batch.now }
+    requires tickets { All (HasTicketIn (length answers.old.items)) batch.now.requests }
+    requires room { length room.old ≡ ROOM }
+    ensures asks { OnOk result (OnTalk (Passes (Asks (record { port = port; batch = batch.now }) answers.old.items answers.new.items))
+        (L.talk link.old) (L.talk link.new)) }
+    ensures answered { OnOk result (lacks_answer answers.new.items batch.now.requests ≡ false) }
+    ensures keeps { OnOk result (KeepsAnswers batch.now.requests answers.old.items answers.new.items) }
+    ensures stops { IfErr result (λ fault. OnTalk (Passes (StopsAsking fault (record { port = port; batch = batch.now }) answers.old.items))
+        (L.talk link.old) (L.talk link.new)) }
+    ensures cause { IsErrOf result AskFault.Link → Rose (L.faults link.old) (L.faults link.new) }
+    ensures never_fall { L.faults link.old ≤ L.faults link.new }
+    ensures ended { L.has_ended link.new ≡ (is_lost result || L.has_ended link.old) }
+{
+    let datagram = write_batch(alloc, batch)?;
+    link.send(port, datagram.bytes())?;
+    'receiving: while lacks_answer(batch, answers.as_slice()) {
+        match receive_one(alloc, link, batch, answers, room) {
+            Ok(()) => {}
+            Err(fault) => return Err(fault),
+        }
+    }
+    Ok(())
+}
+
+// Asks for all batches, in order.
+fn ask_all<L: Link>(
+    alloc: Global,
+    link: &mut L,
+    groups: Vec<Group>,
+    answers: &mut Vec<Option<Line>>,
+) -> Result<(), AskFault>
+    requires batches { (n : ℕ) → AllByRecursion (λ group. IsBatch (record { version = VERSION; number = n; requests = group.requests })) groups.items }
+    requires tickets { AllByRecursion (λ group. All (HasTicketIn (length answers.old.items)) group.requests) groups.items }
+    requires few { length groups.items < 4294967295 }
+    ensures asks { OnOk result (OnTalk (Passes (AsksAll (numbered 0 groups.items) answers.old.items answers.new.items))
+        (L.talk link.old) (L.talk link.new)) }
+    ensures answered { OnOk result (AllByRecursion (λ group. lacks_answer answers.new.items group.requests ≡ false) groups.items) }
+    ensures keeps { OnOk result (KeepsAll groups.items answers.old.items answers.new.items) }
+    ensures stops { IfErr result (λ fault. OnTalk (Passes (IsCauseOf fault (standing_at (numbered 0 groups.items) None answers.old.items)))
+        (L.talk link.old) (L.talk link.new)) }
+    ensures cause { IsErrOf result AskFault.Link → Rose (L.faults link.old) (L.faults link.new) }
+    ensures never_fall { L.faults link.old ≤ L.faults link.new }
+    ensures ended { L.has_ended link.new ≡ (is_lost result || L.has_ended link.old) }
+{
+    let mut room = [0; ROOM];
+    let mut number = 0;
+    for group in groups {
+        let batch = Batch {
+            version: VERSION,
+            number,
+            requests: group.requests,
+        };
+        match ask_one(alloc, link, group.port, &batch, answers, &mut room) {
+            Ok(()) => number += 1,
+            Err(fault) => return Err(fault),
+        }
+    }
+    Ok(())
+}
+
+/// Asks a server for all that the trace says, and makes the report of its replies: line n is what the reply to ticket n means.
+///
+/// The batches are those of each round, in it of each partition. One is on its way at a time, and waits until each of its tickets
+/// is answered; nothing is sent again, and the first fault ends the exchange. `options.partitions` and `options.fronts` must be the
+/// server's, or a key's batch goes to a front of another partition. `sent_in_order`, `answered_once` and `one_cause` say what the
+/// clause `told` means for the datagrams.
+///
+/// ```text
+/// let mut link = MemLink::new(alloc, 1_000, &[], &[])?;
+/// link.add(alloc, &stored)?;  // the replies to batch 0
+/// match ask(alloc, &options, &trace, &mut link) {
+///     Ok(report) => print_report(&report),
+///     Err(fault) => eprintln!(rt; "{fault}"),  // as `lost`, or `wrong 3`
+/// }
+/// ```
+pub fn ask<L: Link>(
+    alloc: Global,
+    options: &AskOptions,
+    trace: &Trace,
+    link: &mut L,
+) -> Result<Report, AskFault>
+    requires { IsValidAsk options.now }
+
+    // What passed shows the answer.
+    ensures told { OnTalk (Passes (MeansForAsk result (start options.now trace.now))) (L.talk link.old) (L.talk link.new) }
+    ensures cause { IsErrOf result AskFault.Link → Rose (L.faults link.old) (L.faults link.new) }
+    ensures never_fall { L.faults link.old ≤ L.faults link.new }
+    ensures ended { L.has_ended link.new ≡ (is_lost result || L.has_ended link.old) }
+    // The report has a line for each line of the trace, by its operation.
+    ensures lines { IfOk result (AllZip IsLineFor trace.now) }
+{
+    let lines = trace.lines();
+    let Ok(groups) = groups_of(alloc, options, lines) else {
+        return Err(AskFault::NoMemory);
+    };
+    let Ok(mut answers) = unanswered(alloc, lines) else {
+        return Err(AskFault::NoMemory);
+    };
+    match ask_all(alloc, link, groups, &mut answers) {
+        Ok(()) => {}
+        Err(fault) => return Err(fault),
+    }
+    match report_of(alloc, answers) {
+        Ok(report) => Ok(report),
+        Err(NoMemory) => Err(AskFault::NoMemory),
+    }
+}
