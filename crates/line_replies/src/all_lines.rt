@@ -1,0 +1,33 @@
+//! All lines of a trace, on one thread.
+ghost use Rattle.std.specs.Prelude.{◌≡◌, IfOk, OnOk, List, [], length, map};
+ghost use Rattle.mica_model.specs.Options.{IsValid};
+ghost use Rattle.line_replies.specs.Answered.{AreAnswered};
+
+use crate::line::reply_to;
+use epoch_core::Partition;
+use mica_io::NoMemory;
+use mica_model::{ItemBuf, Options};
+use mica_trace::{Report, Trace};
+use mica_words::{key_hash, partition_of};
+use std::alloc::Global;
+
+/// The exact report of a trace, each of whose lines its partition answers before the next one.
+pub fn reply_to_all<P: Partition>(
+    alloc: Global,
+    options: &Options,
+    trace: &Trace,
+    parts: &mut Vec<P>,
+) -> Result<Report, NoMemory>
+    requires valid { IsValid options.now }
+    requires made { AreAnswered options.now [] [] (map (λ p. P.owner p) parts.old.items) }
+    ensures { IfOk result (λ report. AreAnswered options.now trace.now report (map (λ p. P.owner p) parts.new.items)) }
+{
+    let mut report = Report::with_capacity(alloc, trace.len())?;
+    let mut value = ItemBuf::new(alloc)?;
+    for line in trace.lines() {
+        let partition = partition_of(key_hash(line.key.bytes()), options.partitions);
+        let part = &mut parts[partition as usize];
+        report.push(reply_to(alloc, part, line, &mut value)?)?;
+    }
+    Ok(report)
+}

@@ -1,0 +1,71 @@
+//! One line.
+ghost use Rattle.std.specs.Prelude.{◌≡◌, IfOk, OnErr};
+ghost use Rattle.mica_words.specs.Item.{KeyFits};
+ghost use Rattle.mica_model.specs.Write.{HasValueOf, write_of};
+ghost use Rattle.mica_trace.specs.TraceGrammar.{IsTraceLine};
+ghost use Rattle.line_replies.specs.Replied.{IsWritten, IsReplied, IsAnswered};
+
+use epoch_core::{Partition, write_to};
+use mica_io::{Bytes, NoMemory};
+use mica_model::{Answer, ItemBuf, Op};
+use mica_trace::{Line, TraceLine};
+use std::alloc::Global;
+
+// The report line of a get.
+fn answer<P: Partition>(
+    alloc: Global,
+    part: &mut P,
+    key: &[u8],
+    value: &mut ItemBuf,
+) -> Result<Line, NoMemory>
+    requires { KeyFits key.now }
+    ensures answer { IfOk result (IsAnswered (P.owner part.old) key.now) }
+    ensures same { P.owner part.new ≡ P.owner part.old }
+{
+    match part.get(key, value) {
+        Answer::Hit => {
+            let value = Bytes::copy(alloc, value.value())?;
+            Ok(Line::Hit {
+                stamp: part.stamp(),
+                value,
+            })
+        }
+        Answer::Miss => Ok(Line::Miss {
+            stamp: part.stamp(),
+        }),
+    }
+}
+
+// Does a write, and gives its report line.
+fn write<P: Partition>(part: &mut P, op: Op, key: &[u8], value: &[u8]) -> Line
+    requires key { KeyFits key.now }
+    requires value { HasValueOf op value.now }
+    ensures { IsWritten (P.owner part.old) (P.owner part.new) (write_of op key.now value.now) result }
+{
+    let outcome = write_to(part, op, key, value);
+    Line::Wrote {
+        op,
+        outcome,
+        stamp: part.stamp(),
+    }
+}
+
+/// Does what a line asks of its partition, and gives what is printed for it. The buffer is for a value that is found.
+/// After want of memory the partition is as it was.
+pub fn reply_to<P: Partition>(
+    alloc: Global,
+    part: &mut P,
+    line: &TraceLine,
+    value: &mut ItemBuf,
+) -> Result<Line, NoMemory>
+    requires { IsTraceLine line.now }
+    ensures ok { IfOk result (IsReplied (P.owner part.old) (P.owner part.new) line.now) }
+    ensures err { OnErr result (P.owner part.new ≡ P.owner part.old) }
+{
+    let (key, given) = (line.key.bytes(), line.value.bytes());
+    match line.op.write_op() {
+        Some(op) => Ok(write(part, op, key, given)),
+        None if line.is_sync() => Ok(Line::Sync),
+        None => answer(alloc, part, key, value),
+    }
+}
