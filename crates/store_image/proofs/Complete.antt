@@ -1,0 +1,200 @@
+-- Bytes without a fault are the text of an image.
+use Rattle.std.proofs.Common.{◌≡◌, ℕ, zero, suc, ◌+◌, ◌-◌, ◌^◌, ◌<◌, ◌≤◌, Bool, true, false, not, ltb, eqb, cond, List, [], ◌∷◌, ◌++◌, length, take, drop, Option, Some, None, refl, sym, ap, ◌∙◌, subst, arith, append_assoc, get_or}
+use Rattle.std.specs.Prelude.{nat_lt, nat_eq, ◌==◌, ◌||◌, ◌&&◌, slice_index}
+use Rattle.std.specs.Int.{w16, w32, from_le_bytes, to_le_bytes}
+use Rattle.std.specs.List.{flat_map, AllByRecursion, starts_with}
+use Rattle.std.proofs.lemmas.Bool.{ltb-false, eqb-false, eqb-true, true≢false}
+use Rattle.std.proofs.lemmas.Nat.{le_bytes_2, le_bytes_4}
+use Rattle.std.proofs.lemmas.Slice.Eq.{bytes_eq-Decides}
+use Rattle.std.proofs.lemmas.List.{length-take-le, take-append-drop, drop-drop, get_or-drop, length-drop, length_push}
+use Rattle.mica_words.specs.Packing.{AreBytes}
+use Rattle.mica_words.specs.Item.{KeyFits, ValueFits}
+use Rattle.mica_words.specs.declared.item.TheConstants.{MAX_VALUE_LEN}
+use Rattle.store_image.specs.declared.fault.ImageFault.{ImageFault}
+use Rattle.store_image.specs.declared.image.Pair.{Pair}
+use Rattle.store_image.specs.declared.image.TheConstants.{MAGIC, VERSION}
+use Rattle.store_image.specs.ImageGrammar.{IsPair, KeysRise, SpellsImage, or_later, header_text, header_fault, pair_text, image_text, key_len_at, value_len_at, pair_len_at, key_at, value_at, count_at, are_between, is_above, last_key, lengths_fault, texts_fault, pair_fault, pairs_fault, first_fault}
+use Rattle.store_image.proofs.PairLaws.{pair_in}
+use Rattle.store_image.proofs.Rising.{all_push, none_rise, rises_more, last_more}
+use Rattle.store_image.proofs.Texts.{both, between_all}
+use Rattle.store_image.proofs.Walk.{texts_more, spelled}
+
+-- no fault of two is none of each
+neither : (first later : Option ImageFault) → or_later first later ≡ None → (first ≡ None) × (later ≡ None)
+neither None later e = (refl, e)
+neither (Some fault) later e = absurd (cc)
+
+-- a test that does not hold, and what comes after it
+passed : (test : Bool) (fault : ImageFault) (later : Option ImageFault) → cond test (Some fault) later ≡ None → (test ≡ false) × (later ≡ None)
+passed true fault later e = absurd (cc)
+passed false fault later e = (refl, e)
+
+no_or : (a b : Bool) → (a || b) ≡ false → (a ≡ false) × (b ≡ false)
+no_or true b e = absurd (true≢false e)
+no_or false b e = (refl, e)
+
+is_not : (a : Bool) → not a ≡ false → a ≡ true
+is_not true e = refl
+is_not false e = absurd (true≢false e)
+
+bytes_left : (n : ℕ) (bytes : List ℕ) → AreBytes bytes → AreBytes (drop n bytes)
+bytes_left n bytes are k = subst (λ (m : ℕ). m < 256) (sym (get_or-drop n bytes k 0)) (are (n + k))
+
+-- The pair at the front of bytes without a fault there
+
+module _ (bytes : List ℕ) (are : AreBytes bytes) (none : lengths_fault bytes ≡ None) where
+  -- what its lengths say
+  pub lengths_are : (3 ≤ length bytes) × (0 < key_len_at bytes) × (value_len_at bytes ≤ MAX_VALUE_LEN) × (pair_len_at bytes ≤ length bytes)
+  lengths_are =
+      let one = passed _ _ _ none in
+      let two = passed _ _ _ one.1 in
+      let three = passed _ _ _ two.1 in
+      let lengths = no_or _ _ two.0 in
+      let some = eqb-false (key_len_at bytes) 0 lengths.0 in (
+        ltb-false (length bytes) 3 one.0,
+        above (key_len_at bytes) some,
+        ltb-false MAX_VALUE_LEN (value_len_at bytes) lengths.1,
+        ltb-false (length bytes) (pair_len_at bytes) three.0,
+      )
+    where
+      above : (n : ℕ) → (n ≡ 0 → ⊥) → 0 < n
+      above zero some = absurd (some refl)
+      above (suc n) some = omega arith
+
+-- its text
+text_by : (b v0 v1 : ℕ) (texts : List ℕ) → AreBytes (b ∷ v0 ∷ v1 ∷ texts) → pair_len_at (b ∷ v0 ∷ v1 ∷ texts) ≤ length (b ∷ v0 ∷ v1 ∷ texts)
+    → b ∷ v0 ∷ v1 ∷ texts ≡ pair_text (pair_in (b ∷ v0 ∷ v1 ∷ texts)) ++ drop (pair_len_at (b ∷ v0 ∷ v1 ∷ texts)) (b ∷ v0 ∷ v1 ∷ texts)
+unfolding pair_text
+text_by b v0 v1 texts are long =
+    let bytes = b ∷ v0 ∷ v1 ∷ texts in
+    let v = from_le_bytes w16 (v0 ∷ v1 ∷ texts) in
+    let key = take b texts in
+    let after = drop b texts in
+    let value = take v after in
+    let left : length after ≡ length texts - b = length-drop b texts in
+    let key_len : length key ≡ b = length-take-le b texts (omega arith) in
+    let value_len : length value ≡ v = length-take-le v after (omega arith) in
+    let two : to_le_bytes w16 v ≡ v0 ∷ v1 ∷ [] = le_bytes_2 (v0 ∷ v1 ∷ []) v refl below refl in
+    let size : pair_len_at bytes ≡ suc (suc (suc (b + v))) = omega arith in
+    let rest : drop (pair_len_at bytes) bytes ≡ drop v after = ap (λ (n : ℕ). drop n bytes) size ∙ sym (drop-drop v b texts) in
+    let whole : (key ++ value) ++ drop v after ≡ texts
+    = append_assoc key value (drop v after) ∙ ap (λ (t : List ℕ). key ++ t) (take-append-drop v after) ∙ take-append-drop b texts in
+    sym (
+    ap (λ (n : ℕ). ((n ∷ to_le_bytes w16 (length value)) ++ key ++ value) ++ drop (pair_len_at bytes) bytes) key_len
+    ∙ ap (λ (t : List ℕ). ((b ∷ t) ++ key ++ value) ++ drop (pair_len_at bytes) bytes) (ap (to_le_bytes w16) value_len ∙ two)
+    ∙ ap (λ (t : List ℕ). b ∷ v0 ∷ v1 ∷ ((key ++ value) ++ t)) rest
+    ∙ ap (λ (t : List ℕ). b ∷ v0 ∷ v1 ∷ t) whole
+    )
+  where
+    below : (i : ℕ) → get_or (v0 ∷ v1 ∷ []) i 0 < 256
+    below zero = are 1
+    below (suc zero) = are 2
+    below (suc (suc i)) = omega arith
+
+text_is : (bytes : List ℕ) → AreBytes bytes → 3 ≤ length bytes → pair_len_at bytes ≤ length bytes → bytes ≡ pair_text (pair_in bytes) ++ drop (pair_len_at bytes) bytes
+text_is [] are some long = absurd (omega arith)
+text_is (b ∷ []) are some long = absurd (omega arith)
+text_is (b ∷ v0 ∷ []) are some long = absurd (omega arith)
+text_is (b ∷ v0 ∷ v1 ∷ texts) are some long = text_by b v0 v1 texts are long
+
+module _ (last : Option (List ℕ)) (bytes : List ℕ) (are : AreBytes bytes) (none : pair_fault last bytes ≡ None) where
+  parts : (lengths_fault bytes ≡ None) × (texts_fault last (key_at bytes) (value_at bytes) ≡ None)
+  parts = neither _ _ none
+
+  order : ((are_between 33 126 (key_at bytes) && are_between 32 126 (value_at bytes)) ≡ true) × (is_above last (key_at bytes) ≡ true)
+  order =
+      let one = passed _ _ _ parts.1 in
+      let two = passed _ _ _ one.1 in
+      (is_not _ one.0, is_not _ two.0)
+
+  pub pair_fits : IsPair (pair_in bytes)
+  pair_fits =
+      let lengths = lengths_are bytes are parts.0 in
+      let good : (are_between 33 126 (key_at bytes) ≡ true) × (are_between 32 126 (value_at bytes) ≡ true) = both _ _ order.0 in
+      let first : key_len_at bytes < 256 = are 0 in
+      let left : length (drop 3 bytes) ≡ length bytes - 3 = length-drop 3 bytes in
+      let after : length (drop (key_len_at bytes) (drop 3 bytes)) ≡ length (drop 3 bytes) - key_len_at bytes = length-drop (key_len_at bytes) (drop 3 bytes) in
+      let key : length (key_at bytes) ≡ key_len_at bytes = length-take-le (key_len_at bytes) (drop 3 bytes) (omega (arith, lengths.3)) in
+      let value : length (value_at bytes) ≡ value_len_at bytes = length-take-le (value_len_at bytes) (drop (key_len_at bytes) (drop 3 bytes)) (omega (arith, lengths.3)) in
+      let key_fits : KeyFits (key_at bytes) = (omega (arith, lengths.1), omega arith) in
+      let value_fits : ValueFits (value_at bytes) = omega (arith, lengths.2) in
+      ((key_fits, between_all 33 126 (key_at bytes) good.0), (value_fits, between_all 32 126 (value_at bytes) good.1))
+
+  pub pair_there : bytes ≡ pair_text (pair_in bytes) ++ drop (pair_len_at bytes) bytes
+  pair_there = let lengths = lengths_are bytes are parts.0 in text_is bytes are lengths.0 lengths.3
+
+  pub above : is_above last (key_at bytes) ≡ true
+  above = order.1
+
+-- so many pairs without a fault behind others
+image_of_rest : (count : ℕ) (pairs : List Pair) (from rest : List ℕ) → AreBytes rest → AllByRecursion IsPair pairs → KeysRise pairs → length pairs + count < 2 ^ 32
+    → from ≡ header_text (length pairs + count) ++ (flat_map pair_text pairs ++ rest) → pairs_fault (last_key pairs) count rest ≡ None → (all : List Pair) × SpellsImage from all
+unfolding pairs_fault
+image_of_rest zero pairs from rest are each rise few is none =
+    let end = passed _ _ _ none in
+    let empty : length rest ≡ 0 = let no = ltb-false 0 (length rest) end.0 in omega arith in (
+      pairs,
+      record {
+        image = record { each = each; rise = rise; few = omega arith };
+        text = spelled from (length pairs + 0) pairs rest is empty (omega arith);
+      },
+    )
+image_of_rest (suc count) pairs from rest are each rise few is none =
+    let parts : (pair_fault (last_key pairs) rest ≡ None) × (pairs_fault (Some (key_at rest)) count (drop (pair_len_at rest) rest) ≡ None) = neither _ _ none in
+    let pair = pair_in rest in
+    let after = drop (pair_len_at rest) rest in
+    let long = length_push pairs pair in
+    let number : length pairs + suc count ≡ length (pairs ++ pair ∷ []) + count = omega arith in
+    image_of_rest count (pairs ++ pair ∷ []) from after (bytes_left (pair_len_at rest) rest are)
+    (all_push IsPair pairs pair each (pair_fits (last_key pairs) rest are parts.0)) (rises_more pairs pair rise (above (last_key pairs) rest are parts.0)) (omega arith)
+    (is ∙ ap (λ (n : ℕ). header_text n ++ (flat_map pair_text pairs ++ rest)) number
+    ∙ ap (λ (t : List ℕ). header_text (length (pairs ++ pair ∷ []) + count) ++ t)
+    (texts_more pairs pair (flat_map pair_text pairs ++ rest) rest after refl (pair_there (last_key pairs) rest are parts.0)))
+    (ap (λ (o : Option (List ℕ)). pairs_fault o count after) (last_more pairs pair) ∙ parts.1)
+
+-- The header
+
+header_by : (b0 b1 b2 b3 b4 b5 b6 b7 b8 : ℕ) (rest : List ℕ) → AreBytes (b0 ∷ b1 ∷ b2 ∷ b3 ∷ b4 ∷ b5 ∷ b6 ∷ b7 ∷ b8 ∷ rest)
+    → starts_with nat_eq (b0 ∷ b1 ∷ b2 ∷ b3 ∷ b4 ∷ b5 ∷ b6 ∷ b7 ∷ b8 ∷ rest) MAGIC ≡ true → (b4 == VERSION) ≡ true
+    → b0 ∷ b1 ∷ b2 ∷ b3 ∷ b4 ∷ b5 ∷ b6 ∷ b7 ∷ b8 ∷ rest ≡ header_text (count_at (b0 ∷ b1 ∷ b2 ∷ b3 ∷ b4 ∷ b5 ∷ b6 ∷ b7 ∷ b8 ∷ rest)) ++ rest
+header_by b0 b1 b2 b3 b4 b5 b6 b7 b8 rest are starts version =
+    let first : b0 ∷ b1 ∷ b2 ∷ b3 ∷ [] ≡ MAGIC = sym ((bytes_eq-Decides MAGIC (b0 ∷ b1 ∷ b2 ∷ b3 ∷ [])).0 starts) in
+    let fifth : b4 ≡ VERSION = eqb-true b4 VERSION version in
+    let n = from_le_bytes w32 (b5 ∷ b6 ∷ b7 ∷ b8 ∷ rest) in
+    let four : to_le_bytes w32 n ≡ b5 ∷ b6 ∷ b7 ∷ b8 ∷ [] = le_bytes_4 (b5 ∷ b6 ∷ b7 ∷ b8 ∷ []) n refl below refl in
+    let back : b5 ∷ b6 ∷ b7 ∷ b8 ∷ [] ≡ to_le_bytes w32 n = sym four in
+    λ i. (first i ++ (fifth i ∷ back i)) ++ rest
+  where
+    below : (i : ℕ) → get_or (b5 ∷ b6 ∷ b7 ∷ b8 ∷ []) i 0 < 256
+    below zero = are 5
+    below (suc zero) = are 6
+    below (suc (suc zero)) = are 7
+    below (suc (suc (suc zero))) = are 8
+    below (suc (suc (suc (suc i)))) = omega arith
+
+header_is : (bytes : List ℕ) → AreBytes bytes → 9 ≤ length bytes → starts_with nat_eq bytes MAGIC ≡ true → (slice_index bytes 4 == VERSION) ≡ true → bytes ≡ header_text (count_at bytes) ++ drop 9 bytes
+header_is (b0 ∷ b1 ∷ b2 ∷ b3 ∷ b4 ∷ b5 ∷ b6 ∷ b7 ∷ b8 ∷ rest) are long starts version = header_by b0 b1 b2 b3 b4 b5 b6 b7 b8 rest are starts version
+header_is bytes are long starts version = absurd (omega arith)
+
+-- a number of four bytes
+few_counted : (bytes : List ℕ) → AreBytes bytes → count_at bytes < 2 ^ 32
+few_counted bytes are =
+    let a = bytes_left 5 bytes are in
+    let b0 = a 0 in
+    let b1 = a 1 in
+    let b2 = a 2 in
+    let b3 = a 3 in
+    omega arith
+
+pub faultless_is_image : (bytes : List ℕ) → AreBytes bytes → first_fault bytes ≡ None → (pairs : List Pair) × SpellsImage bytes pairs
+unfolding first_fault
+faultless_is_image bytes are none =
+    let parts = neither _ _ none in
+    let one = passed _ _ _ parts.0 in
+    let two = passed _ _ _ one.1 in
+    let three = passed _ _ _ two.1 in
+    let is = header_is bytes are (ltb-false (length bytes) 9 one.0) (is_not _ two.0) (is_not _ three.0) in
+    let few = few_counted bytes are in
+    let same : count_at bytes ≡ length {A = Pair} [] + count_at bytes = omega arith in
+    image_of_rest (count_at bytes) [] bytes (drop 9 bytes) (bytes_left 9 bytes are) tt none_rise (omega arith)
+    (is ∙ ap (λ (n : ℕ). header_text n ++ drop 9 bytes) same) parts.1

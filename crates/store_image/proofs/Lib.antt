@@ -1,0 +1,11 @@
+pub mod PairLaws
+pub mod Walk
+pub mod ImagePairs
+pub mod PutOnly
+pub mod Rising
+pub mod Texts
+pub mod Faultless
+pub mod Keys
+pub mod Left
+pub mod Complete
+pub mod Unpacked

@@ -1,0 +1,51 @@
+use Rattle.std.proofs.Common.{◌≡◌, ◌≤◌, ◌<◌, ◌^◌, ◌++◌, ◌∷◌, [], ℕ, List, Option, Some, None, length, map, take, Bor, refl, sym, ap, ◌∙◌, arith, append-nil}
+use Rattle.std.specs.List.{cons_option}
+use Rattle.std.proofs.lemmas.List.{map-append, length-map, take_all}
+use Rattle.mica_trace.specs.declared.line.TraceLine.{TraceLine}
+use Rattle.store_image.specs.PutKeys.{put_key, put_keys, has_key}
+use Rattle.store_image.proofs.Keys.{sorted_texts, same_keys, keys_more, no_key, own_key_of, few_keys}
+use Rattle.store_image.proofs.made.keys_of.Goals.{then-gives_value+in_ok-push, else-gives_value}
+use Rattle.store_image.proofs.made.keys_of.Goals as goal
+
+abbrev now : Bor (List ℕ) → List ℕ
+now k = k.now
+
+pub loop-line-preserved : goal.loop-line-preserved
+loop-line-preserved c =
+    let line = c.line-item.result in
+    let lines = c.args.lines.now in
+    let i = c.loop-line.line-index in
+    let keys = c.loop-line.keys.items in
+    let more = keys_more lines i line c.loop-line-test.true c.line-item.is in
+    elim c.if-gives_value.branch [
+      | then-gives_value+in_ok-push w ↦
+          let some : put_key line ≡ Some line.key = own_key_of line.op line.key (sym w.if-gives_value.ensures) in
+          let key = w.bytes.result in
+          let pushed : map now w.push.new.self.items ≡ map now keys ++ key.now ∷ [] = ap (map now) w.in_ok-push.ensures.items ∙ map-append now keys (key ∷ []) in
+          rw w.keys-is (pushed ∙ ap (λ (ks : List (List ℕ)). ks ++ key.now ∷ []) c.loop-line.invariant ∙ ap (λ (k : List ℕ). put_keys (take i lines) ++ k ∷ []) w.bytes.ensures
+          ∙ sym (more ∙ ap (λ (o : Option (List ℕ)). put_keys (take i lines) ++ cons_option o []) some))
+      | else-gives_value w ↦
+          let none = no_key line.op line.key (sym w.if-gives_value.ensures) in
+          rw w.keys-is (c.loop-line.invariant ∙ sym (more ∙ ap (λ (o : Option (List ℕ)). put_keys (take i lines) ++ cons_option o []) none ∙ append-nil (put_keys (take i lines))))
+    ]
+
+pub returns-clause-rise : goal.returns-clause-rise
+returns-clause-rise c = sorted_texts now c.sort.new.self.items c.dedup.new.self.items c.in_ok-sort.ensures.sorted c.dedup.ensures.filtered
+
+pub returns-clause-all : goal.returns-clause-all
+returns-clause-all c = λ key.
+    let lines = c.args.lines.now in
+    let whole : take c.loop-line.line-index lines ≡ lines = take_all c.loop-line.line-index lines c.loop-line-test.false in
+    same_keys now c.loop-line.keys.items c.sort.new.self.items c.dedup.new.self.items key c.in_ok-sort.ensures.permutation c.dedup.ensures.filtered
+    ∙ ap (λ (ks : List (List ℕ)). has_key ks key) (c.loop-line.invariant ∙ ap put_keys whole)
+
+pub returns-clause-few : goal.returns-clause-few
+returns-clause-few c =
+    let lines = c.args.lines.now in
+    let whole : take c.loop-line.line-index lines ≡ lines = take_all c.loop-line.line-index lines c.loop-line-test.false in
+    let many : length c.loop-line.keys.items ≡ length (put_keys lines) = sym (length-map c.loop-line.keys.items now) ∙ ap length (c.loop-line.invariant ∙ ap put_keys whole) in
+    let few = few_keys lines in
+    let limit = c.requires.few_lines in
+    let left = c.dedup.ensures.bound in
+    let sorted = c.in_ok-sort.ensures.len in
+    omega arith

@@ -1,0 +1,9 @@
+use Rattle.std.proofs.Common.{◌≡◌, vec_len}
+use Rattle.std.specs.List.{All}
+use Rattle.epoch_core.specs.Shape.{shape_of}
+use Rattle.epoch_core.specs.OwnerState.{as_made}
+use Rattle.epoch_core.specs.Seats.{diary_of}
+use Rattle.store_image.proofs.made.make_parts.Given as goal
+
+abbrev pub invariant-loop : goal.invariant-loop
+invariant-loop l = (vec_len l.parts ≡ l.counter) × All (λ p. (diary_of p.words).owner ≡ as_made (shape_of l.options)) l.parts.items

@@ -1,0 +1,6 @@
+pub mod ImageGrammar
+pub mod ImageLines
+pub mod PutKeys
+pub mod Answers
+pub mod ImageOf
+pub mod Unpacked
