@@ -1,9 +1,11 @@
-//! The program: the top call over standard input, standard output and the UDP sockets of this machine.
+//! The program: the top call over standard input, standard output and UDP sockets of this machine.
 #![tactic(auto)]
 
+use mica_client::UdpLink;
 use mica_cmd::run_program;
 use mica_io::{FreeGate, StdSink, StdSource, UdpNet};
 use partition_table::Tables;
+use std::env;
 use std::process::ExitCode;
 
 fn main(rt: HostRuntime) -> ExitCode {
@@ -11,13 +13,16 @@ fn main(rt: HostRuntime) -> ExitCode {
     let mut sink = StdSink::new(rt.stdout());
     let mut net = UdpNet::new(&rt);
     let mut tables = Tables::new();
+    let mut link = UdpLink::new(&rt);
     run_program(
         &rt,
-        &rt,
+        rt.alloc(),
+        env::args(&rt),
         &mut source,
         &mut sink,
         &mut net,
         &FreeGate,
         &mut tables,
+        &mut link,
     )
 }

@@ -39,8 +39,9 @@ other_name name this differs = elim (bytes_eq name this) as (λ b. bytes_eq name
 ] refl
 
 -- a name that no command has
-pub no_command : (name : Text) (words : List Text) → name ≢ codes "replay" → name ≢ codes "serve" → name ≢ codes "gen" → name ≢ codes "bench" → command_named name words ≡ None
-no_command name words replay serve gen bench = rw (other_name name (codes "replay") replay, other_name name (codes "serve") serve, other_name name (codes "gen") gen, other_name name (codes "bench") bench) refl
+pub no_command : (name : Text) (words : List Text) → name ≢ codes "replay" → name ≢ codes "serve" → name ≢ codes "gen" → name ≢ codes "bench" → name ≢ codes "check" → name ≢ codes "exclusive" → name ≢ codes "ask" → name ≢ codes "image"
+    → name ≢ codes "unpack" → command_named name words ≡ None
+no_command name words replay serve gen bench check exclusive ask image unpack = rw (other_name name (codes "replay") replay, other_name name (codes "serve") serve, other_name name (codes "gen") gen, other_name name (codes "bench") bench, other_name name (codes "check") check, other_name name (codes "exclusive") exclusive, other_name name (codes "ask") ask, other_name name (codes "image") image, other_name name (codes "unpack") unpack) refl
 
 pub gen_valid : (given : Text → Option Text) (generator : GenOptions) → gen_options given ≡ Some generator → is_valid generator ≡ true
 gen_valid given generator is =

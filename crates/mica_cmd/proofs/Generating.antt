@@ -16,12 +16,12 @@ use Rattle.std.proofs.lemmas.Str.Parse.{numerals_by_value, tells_digits, digit_a
 use Rattle.rand_pcg.specs.Lcg.{Lcg, started, increment_of, next_state, state_after}
 use Rattle.rand_pcg.specs.Pcg.{multiplier_64, pcg32}
 use Rattle.mica_trace.specs.declared.line.TraceOp.{TraceOp}
-use Rattle.mica_trace.specs.declared.line.TraceOp.TheVariants.{Put, Del, Get, Sync}
+use Rattle.mica_trace.specs.declared.line.TraceOp.TheVariants.{Put, Add, Del, Touch, Get, Sync}
 use Rattle.mica_trace.specs.declared.line.TraceLine.{TraceLine}
 use Rattle.mica_trace.specs.TraceGrammar.{trace_text, line_text, op_text, IsKey, IsValue, IsTraceLine, is_sync, is_sync_op, sync_line, syncs_in, IsWithinLimits}
 use Rattle.mica_trace.proofs.LineLemmas.{syncs_cons}
 use Rattle.mica_trace.specs.declared.limits.TheConstants.{MAX_LINES, MAX_ROUNDS}
-use Rattle.mica_cmd.specs.declared.top.TheConstants.{MAX_SOURCE_LEN}
+use Rattle.mica_cmd.specs.declared.input.TheConstants.{MAX_SOURCE_LEN}
 use Rattle.mica_cmd.specs.declared.gen_options.GenOptions.{GenOptions}
 use Rattle.mica_cmd.specs.GenOptions.{are_in_ranges, has_room, is_valid, syncs_of, longest_text}
 use Rattle.mica_cmd.specs.Generator.{generator, word, op_by, key_number, padded, key_by, value_by, operation, ends_round, lines_at, generated}
@@ -201,13 +201,31 @@ first_next options n = ap (first_lines options) (add-one n) ∙ first_more optio
 
 -- no operation is a sync
 
-no_sync_by : (a b : Bool) → is_sync_op (cond a Get (cond b Del Put)) ≡ false
-no_sync_by true b = refl
-no_sync_by false true = refl
-no_sync_by false false = refl
+-- the operations that a generator makes
+abbrev IsMade : TraceOp → Type 0
+IsMade Put = Unit {0}
+IsMade Del = Unit {0}
+IsMade Get = Unit {0}
+IsMade _ = ⊥
+
+made_by : (a b : Bool) → IsMade (cond a Get (cond b Del Put))
+made_by true b = tt
+made_by false true = tt
+made_by false false = tt
+
+made : (options : GenOptions) (w : ℕ) → IsMade (op_by options w)
+made options w = made_by (nat_lt (w % 100) options.gets) (nat_lt (w % 100) (options.gets + options.dels))
+
+no_sync_op : (op : TraceOp) → IsMade op → is_sync_op op ≡ false
+no_sync_op Put is = refl
+no_sync_op Add is = absurd is
+no_sync_op Del is = refl
+no_sync_op Touch is = absurd is
+no_sync_op Get is = refl
+no_sync_op Sync is = absurd is
 
 no_sync : (options : GenOptions) (w : ℕ) → is_sync_op (op_by options w) ≡ false
-no_sync options w = no_sync_by (nat_lt (w % 100) options.gets) (nat_lt (w % 100) (options.gets + options.dels))
+no_sync options w = no_sync_op (op_by options w) (made options w)
 
 -- each operation is a line of a trace
 
@@ -218,12 +236,14 @@ few_keys options facts spot w = go (nat_lt (spot % 100) options.hot)
     go true = let most = facts.keys_high in let low : 0 < max (options.keys / 100) 1 = omega arith in omega arith
     go false = let low = facts.keys_low in let most = facts.keys_high in omega arith
 
-has_fields : (options : GenOptions) (op : TraceOp) (key : List ℕ) (i : ℕ) → is_sync_op op ≡ false → IsKey key → IsValue (padded options.value_len i)
+has_fields : (options : GenOptions) (op : TraceOp) (key : List ℕ) (i : ℕ) → IsMade op → IsKey key → IsValue (padded options.value_len i)
     → IsTraceLine (record { op = op; key = key; value = value_by options op i })
-has_fields options Put key i plain key_is value_is = (key_is, value_is)
-has_fields options Del key i plain key_is value_is = (key_is, refl)
-has_fields options Get key i plain key_is value_is = (key_is, refl)
-has_fields options Sync key i plain key_is value_is = absurd (false≢true (sym plain))
+has_fields options Put key i is key_is value_is = (key_is, value_is)
+has_fields options Del key i is key_is value_is = (key_is, refl)
+has_fields options Get key i is key_is value_is = (key_is, refl)
+has_fields options Add key i is key_is value_is = absurd is
+has_fields options Touch key i is key_is value_is = absurd is
+has_fields options Sync key i is key_is value_is = absurd is
 
 visible_value : (text : List ℕ) → AllByRecursion (λ b. (33 ≤ b) × (b ≤ 126)) text → AllByRecursion (λ b. (32 ≤ b) × (b ≤ 126)) text
 visible_value [] all = tt
@@ -249,7 +269,7 @@ module _ (options : GenOptions) (facts : GenFacts options) where
 
   operation_fits : (i : ℕ) → i < options.ops → IsTraceLine (operation options i)
   operation_fits i less =
-      has_fields options (op_by options (word options (3 * i))) _ i (no_sync options (word options (3 * i)))
+      has_fields options (op_by options (word options (3 * i))) _ i (made options (word options (3 * i)))
       (is_key (key_number options (word options (3 * i + 1)) (word options (3 * i + 2))) (few_keys options facts _ _)) (is_value i less)
 
   lines_fit : (i : ℕ) → i < options.ops → AllByRecursion IsTraceLine (lines_at options i)
@@ -363,12 +383,14 @@ text_append xs ys = ap length (flat_map-append (λ line. line_text line ++ 10 �
 text_of_one : (line : TraceLine) → length (trace_text (line ∷ [])) ≡ length (line_text line) + 1
 text_of_one line = ap length (append-nil (line_text line ++ 10 ∷ [])) ∙ length-append (line_text line) (10 ∷ [])
 
-op_length : (options : GenOptions) (op : TraceOp) (key : List ℕ) (i : ℕ) → is_sync_op op ≡ false → length key ≡ options.key_len → length (padded options.value_len i) ≡ options.value_len
+op_length : (options : GenOptions) (op : TraceOp) (key : List ℕ) (i : ℕ) → IsMade op → length key ≡ options.key_len → length (padded options.value_len i) ≡ options.value_len
     → length (op_text op key (value_by options op i)) ≤ 5 + options.key_len + options.value_len
-op_length options Put key i plain key_is value_is = let parts = length-append key (32 ∷ padded options.value_len i) in omega arith
-op_length options Del key i plain key_is value_is = omega arith
-op_length options Get key i plain key_is value_is = omega arith
-op_length options Sync key i plain key_is value_is = absurd (false≢true (sym plain))
+op_length options Put key i is key_is value_is = let parts = length-append key (32 ∷ padded options.value_len i) in omega arith
+op_length options Del key i is key_is value_is = omega arith
+op_length options Get key i is key_is value_is = omega arith
+op_length options Add key i is key_is value_is = absurd is
+op_length options Touch key i is key_is value_is = absurd is
+op_length options Sync key i is key_is value_is = absurd is
 
 module _ (options : GenOptions) (facts : GenFacts options) where
   operation_length : (i : ℕ) → i < options.ops → length (line_text (operation options i)) ≤ 5 + options.key_len + options.value_len
@@ -382,7 +404,7 @@ module _ (options : GenOptions) (facts : GenFacts options) where
       let key = length_padded (options.key_len - 1) number (omega arith) in
       let key_is : length (key_by options number) ≡ options.key_len = omega arith in
       let value_digits = five_digits i (omega arith) in
-      op_length options (op_by options (word options (3 * i))) (key_by options number) i (no_sync options (word options (3 * i))) key_is (length_padded options.value_len i (omega arith))
+      op_length options (op_by options (word options (3 * i))) (key_by options number) i (made options (word options (3 * i))) key_is (length_padded options.value_len i (omega arith))
 
   length_at : (i : ℕ) → i < options.ops → length (trace_text (lines_at options i)) ≤ 6 + options.key_len + options.value_len + 5 * cond (ends_round options i) 1 0
   length_at i less = go (ends_round options i) (operation_length i less)

@@ -1,5 +1,5 @@
 -- The values of options, and why they are valid.
-use Rattle.std.proofs.Common.{◌≡◌, ℕ, zero, suc, ◌/◌, ◌%◌, ◌^◌, ◌≤◌, Option, Some, None, Bool, true, false, true≢false, count_ones, nat_le, ◌&&◌, codes, ap, sym, refl, subst, unwrap_or, option_map, if◌then◌else◌, arith, inl, inr}
+use Rattle.std.proofs.Common.{◌≡◌, ℕ, zero, suc, ◌/◌, ◌%◌, ◌^◌, ◌≤◌, Option, Some, None, Bool, true, false, true≢false, count_ones, nat_le, ◌&&◌, codes, ap, sym, refl, ◌∙◌, subst, unwrap_or, option_map, if◌then◌else◌, arith, inl, inr}
 use lib.Count.{ones, ones_step}
 use Rattle.std.proofs.lemmas.Nat.{zero_from_ones, ones_le_self}
 use Rattle.std.proofs.lemmas.Bool.{leb-true}
@@ -11,11 +11,15 @@ use Rattle.std.specs.Int.{is_power_of_two}
 use Rattle.std.specs.Str.Parse.{digits_value}
 use Rattle.mica_model.specs.declared.options.TheConstants.{MAX_WEAR}
 use Rattle.mica_model.specs.declared.options.Options.{Options}
+use Rattle.mica_model.specs.declared.options.Mode.{Mode}
+use Rattle.mica_model.specs.declared.options.Mode.TheVariants.{Store}
+use Rattle.mica_client.specs.declared.options.AskOptions.{AskOptions}
+use Rattle.mica_client.specs.AskOptions.{IsValidAsk}
 use Rattle.mica_model.specs.Options.{InRange, IsValid}
 use Rattle.mica_serve.specs.declared.ports.Ports.{Ports}
 use Rattle.mica_serve.specs.PortOptions.{IsValidPorts}
 use Rattle.mica_cmd.specs.Words.{Text}
-use Rattle.mica_cmd.specs.CommandLine.{mode, partitions, buckets, spares, words, readers, tries, wear, port, fronts, batches, number, required_number, number_of, is_number, value_by, value_of, replay_options, serve_options, port_options, ◌>>=◌}
+use Rattle.mica_cmd.specs.CommandLine.{mode, partitions, buckets, spares, words, readers, tries, wear, port, fronts, batches, number, required_number, number_of, is_number, value_by, value_of, options_with, replay_options, serve_options, without_readers, exclusive_options, image_options, ask_options, per, port_options, ◌>>=◌}
 
 same_number : (a b : ℕ) → Some a ≡ Some b → a ≡ b
 same_number a b e = ap (λ o. unwrap_or o 0) e
@@ -78,10 +82,9 @@ both_told (Some a) next b is = (a, refl, is)
 same_options : (a b : Options) → Some a ≡ Some b → a ≡ b
 same_options a b e = ap (λ o. unwrap_or o a) e
 
-pub replay_valid : (given : Text → Option Text) (options : Options) → replay_options given ≡ Some options → IsValid options
-replay_valid given options is =
-    let m = both_told (value_of mode given) _ options is in
-    let p = both_told (value_of partitions given) _ options m.2 in
+pub with_valid : (mode : Mode) (given : Text → Option Text) (options : Options) → options_with mode given ≡ Some options → IsValid options
+with_valid mode given options is =
+    let p = both_told (value_of partitions given) _ options is in
     let b = both_told (value_of buckets given) _ options p.2 in
     let s = both_told (value_of spares given) _ options b.2 in
     let w = both_told (value_of words given) _ options s.2 in
@@ -98,6 +101,9 @@ replay_valid given options is =
       tries = value_bounds tries.name 1 1000 100 (given tries.name) t.0 (omega arith, omega arith) t.1;
       wear = value_bounds wear.name 1 MAX_WEAR MAX_WEAR (given wear.name) e.0 (omega arith, omega arith) e.1;
     })
+
+pub replay_valid : (given : Text → Option Text) (options : Options) → replay_options given ≡ Some options → IsValid options
+replay_valid given options is = let m = both_told (value_of mode given) _ options is in with_valid m.0 given options m.2
 
 -- a value that must be given lies in its range
 pub required_bounds : (name : Text) (least most : ℕ) (given : Option Text) (n : ℕ) → value_by (required_number name least most) given ≡ Some n → InRange least most n
@@ -121,6 +127,56 @@ with_one_reader (Some o) options valid is =
 
 pub serve_valid : (given : Text → Option Text) (options : Options) → serve_options given ≡ Some options → IsValid options
 serve_valid given options is = with_one_reader (replay_options given) options (replay_valid given) is
+
+without_readers_valid : (read : Option Options) (options : Options) → ((o : Options) → read ≡ Some o → IsValid o) → option_map without_readers read ≡ Some options → IsValid options
+without_readers_valid None options valid is = absurd (none-some options is)
+without_readers_valid (Some o) options valid is =
+    let v = valid o refl in
+    subst IsValid (same_options (without_readers o) options is) (record {
+      partitions = v.partitions;
+      buckets = v.buckets;
+      spares = v.spares;
+      words = v.words;
+      readers = (omega arith, omega arith);
+      tries = (omega arith, omega arith);
+      wear = v.wear;
+    })
+
+pub exclusive_valid : (given : Text → Option Text) (options : Options) → exclusive_options given ≡ Some options → IsValid options
+exclusive_valid given options is = without_readers_valid (replay_options given) options (replay_valid given) is
+
+-- the mode of options that were read is the one that was given
+mode_kept : (read : Option Options) (options : Options) → ((o : Options) → read ≡ Some o → o.mode ≡ Store) → option_map without_readers read ≡ Some options → options.mode ≡ Store
+mode_kept None options same is = absurd (none-some options is)
+mode_kept (Some o) options same is = ap (λ (x : Options). x.mode) (sym (same_options (without_readers o) options is)) ∙ same o refl
+
+with_mode : (mode : Mode) (given : Text → Option Text) (options : Options) → options_with mode given ≡ Some options → options.mode ≡ mode
+with_mode mode given options is =
+    let p = both_told (value_of partitions given) _ options is in
+    let b = both_told (value_of buckets given) _ options p.2 in
+    let s = both_told (value_of spares given) _ options b.2 in
+    let w = both_told (value_of words given) _ options s.2 in
+    let r = both_told (value_of readers given) _ options w.2 in
+    let t = both_told (value_of tries given) _ options r.2 in
+    let e = both_told (value_of wear given) _ options t.2 in
+    ap (λ (x : Options). x.mode) (sym (same_options _ options e.2))
+
+pub image_valid : (given : Text → Option Text) (options : Options) → image_options given ≡ Some options → IsValid options × (options.mode ≡ Store)
+image_valid given options is = (without_readers_valid (options_with Store given) options (with_valid Store given) is, mode_kept (options_with Store given) options (with_mode Store given) is)
+
+pub ask_valid : (given : Text → Option Text) (options : AskOptions) → ask_options given ≡ Some options → IsValidAsk options
+ask_valid given options is =
+    let p = both_told (value_of port given) _ options is in
+    let n = both_told (value_of partitions given) _ options p.2 in
+    let f = both_told (value_of fronts given) _ options n.2 in
+    let e = both_told (value_of per given) _ options f.2 in
+    let made : AskOptions = record { port = p.0; partitions = n.0; fronts = f.0; per = e.0 } in
+    subst IsValidAsk (ap (λ o. unwrap_or o made) e.2) (record {
+      port = required_bounds port.name 1024 65000 (given port.name) p.0 p.1;
+      partitions = value_bounds partitions.name 1 16 4 (given partitions.name) n.0 (omega arith, omega arith) n.1;
+      fronts = value_bounds fronts.name 1 16 1 (given fronts.name) f.0 (omega arith, omega arith) f.1;
+      per = value_bounds per.name 1 255 32 (given per.name) e.0 (omega arith, omega arith) e.1;
+    })
 
 pub ports_valid : (given : Text → Option Text) (ports : Ports) → port_options given ≡ Some ports → IsValidPorts ports
 ports_valid given ports is =

@@ -1,5 +1,5 @@
 -- The commands, their options, and the command that words give.
-use Rattle.std.specs.Prelude.{◌≡◌, ⊤, ℕ, ◌&&◌, Bool, true, false, List, [], ◌∷◌, ◌++◌, Result, Ok, Err, Option, Some, None, if◌then◌else◌, option_and_then, option_map, codes, bytes_eq}
+use Rattle.std.specs.Prelude.{◌≡◌, ⊤, ℕ, ◌&&◌, Bool, true, false, List, [], ◌∷◌, ◌++◌, Result, Ok, Err, Option, Some, None, if◌then◌else◌, find, option_and_then, option_map, codes, bytes_eq}
 use Rattle.std.specs.Int.{is_power_of_two, is_in_range}
 use Rattle.std.specs.Str.{all_ascii_digits}
 use Rattle.std.specs.Str.Parse.{digits_value}
@@ -11,9 +11,11 @@ use Rattle.mica_model.specs.Options.{IsValid}
 use Rattle.mica_serve.specs.declared.ports.Ports.{Ports}
 use Rattle.mica_serve.specs.PortOptions.{IsValidPorts}
 use Rattle.mica_cmd.specs.declared.command.Command.{Command}
-use Rattle.mica_cmd.specs.declared.command.Command.TheVariants.{Replay, Serve, Gen, Bench}
+use Rattle.mica_cmd.specs.declared.command.Command.TheVariants.{Replay, Serve, Gen, Bench, Check, Exclusive, Ask, Image, Unpack}
 use Rattle.mica_cmd.specs.declared.command.WordsFault.{WordsFault}
 use Rattle.mica_cmd.specs.declared.command.WordsFault.TheVariants.{Usage, NoMemory}
+use Rattle.mica_client.specs.declared.options.AskOptions.{AskOptions}
+use Rattle.mica_client.specs.AskOptions.{IsValidAsk}
 use Rattle.mica_cmd.specs.declared.gen_options.GenOptions.{GenOptions}
 use Rattle.mica_cmd.specs.GenOptions.{is_valid}
 use Rattle.mica_cmd.specs.Words.{Text, given_by, text_of}
@@ -98,6 +100,10 @@ fronts = number (codes "fronts") 1 16 1
 abbrev pub batches : Setting ℕ
 batches = required_number (codes "batches") 1 1000000
 
+-- the most requests of a client's batch
+abbrev pub per : Setting ℕ
+per = number (codes "per") 1 255 32
+
 -- the options of a generated trace
 abbrev pub seed : Setting ℕ
 seed = number (codes "seed") 0 18446744073709551615 1
@@ -144,10 +150,9 @@ value >>= next = option_and_then next value
 abbrev pub replay_names : List Text
 replay_names = mode.name ∷ partitions.name ∷ buckets.name ∷ spares.name ∷ words.name ∷ readers.name ∷ tries.name ∷ wear.name ∷ []
 
--- the options of `replay`
-abbrev pub replay_options : (Text → Option Text) → Option Options
-replay_options given =
-    value_of mode given >>= λ mode.
+-- the options of partitions of this mode
+abbrev pub options_with : Mode → (Text → Option Text) → Option Options
+options_with mode given =
     value_of partitions given >>= λ partitions.
     value_of buckets given >>= λ buckets.
     value_of spares given >>= λ spares.
@@ -166,6 +171,10 @@ replay_options given =
       wear = wear;
     })
 
+-- the options of `replay`, which gives the mode too
+abbrev pub replay_options : (Text → Option Text) → Option Options
+replay_options given = value_of mode given >>= λ mode. options_with mode given
+
 -- the names of the options of `serve`
 abbrev pub serve_names : List Text
 serve_names = mode.name ∷ partitions.name ∷ buckets.name ∷ spares.name ∷ words.name ∷ tries.name ∷ wear.name ∷ port.name ∷ fronts.name ∷ batches.name ∷ []
@@ -173,6 +182,43 @@ serve_names = mode.name ∷ partitions.name ∷ buckets.name ∷ spares.name ∷
 -- the partitions of `serve`, which has no option `--readers`: the number stands at 1
 abbrev pub serve_options : (Text → Option Text) → Option Options
 serve_options given = option_map (λ (options : Options). record options { readers = 1 }) (replay_options given)
+
+-- the names of the options of `image`
+abbrev pub image_names : List Text
+image_names = partitions.name ∷ buckets.name ∷ spares.name ∷ words.name ∷ wear.name ∷ []
+
+-- the names of the options of `exclusive`
+abbrev pub exclusive_names : List Text
+exclusive_names = mode.name ∷ image_names
+
+-- options of a run in which owners alone read: the numbers of readers and of tries stand at 1
+abbrev pub without_readers : Options → Options
+without_readers options = record options { readers = 1; tries = 1 }
+
+-- the options of `exclusive`
+abbrev pub exclusive_options : (Text → Option Text) → Option Options
+exclusive_options given = option_map without_readers (replay_options given)
+
+-- the options of `image`, which is in store mode
+abbrev pub image_options : (Text → Option Text) → Option Options
+image_options given = option_map without_readers (options_with Store given)
+
+-- `unpack` has no options
+abbrev pub unpack_names : List Text
+unpack_names = []
+
+-- the names of the options of `ask`
+abbrev pub ask_names : List Text
+ask_names = port.name ∷ partitions.name ∷ fronts.name ∷ per.name ∷ []
+
+-- the options of `ask`
+abbrev pub ask_options : (Text → Option Text) → Option AskOptions
+ask_options given =
+    value_of port given >>= λ port.
+    value_of partitions given >>= λ partitions.
+    value_of fronts given >>= λ fronts.
+    value_of per given >>= λ per.
+    Some (record { port = port; partitions = partitions; fronts = fronts; per = per })
 
 -- the ports of `serve`
 abbrev pub port_options : (Text → Option Text) → Option Ports
@@ -231,18 +277,48 @@ gen_given given = option_map (λ generator. Gen generator) (gen_options given)
 abbrev pub bench_given : (Text → Option Text) → Option Command
 bench_given given = replay_options given >>= λ options. option_map (λ generator. Bench options generator) (gen_options given)
 
+abbrev pub check_given : (Text → Option Text) → Option Command
+check_given given = option_map (λ options. Check options) (replay_options given)
+
+abbrev pub exclusive_given : (Text → Option Text) → Option Command
+exclusive_given given = option_map (λ options. Exclusive options) (exclusive_options given)
+
+abbrev pub ask_given : (Text → Option Text) → Option Command
+ask_given given = option_map (λ options. Ask options) (ask_options given)
+
+abbrev pub image_given : (Text → Option Text) → Option Command
+image_given given = option_map (λ options. Image options) (image_options given)
+
+abbrev pub unpack_given : (Text → Option Text) → Option Command
+unpack_given given = Some Unpack
+
 -- what words give as options of these names
 abbrev pub read_as : List Text → ((Text → Option Text) → Option Command) → List Text → Option Command
 read_as names meaning words = given_by names words >>= λ given. meaning (text_of given)
 
+-- a command as it is read: its name, the names of its options, and what it is by the texts that they were given
+pub record Form : Type 0 where
+  pub name : Text
+  pub options : List Text
+  pub meaning : (Text → Option Text) → Option Command
+
+-- all commands
+abbrev pub forms : List Form
+forms =
+    record { name = codes "replay"; options = replay_names; meaning = replay_given }
+    ∷ record { name = codes "serve"; options = serve_names; meaning = serve_given }
+    ∷ record { name = codes "gen"; options = gen_names; meaning = gen_given }
+    ∷ record { name = codes "bench"; options = bench_names; meaning = bench_given }
+    ∷ record { name = codes "check"; options = replay_names; meaning = check_given }
+    ∷ record { name = codes "exclusive"; options = exclusive_names; meaning = exclusive_given }
+    ∷ record { name = codes "ask"; options = ask_names; meaning = ask_given }
+    ∷ record { name = codes "image"; options = image_names; meaning = image_given }
+    ∷ record { name = codes "unpack"; options = unpack_names; meaning = unpack_given }
+    ∷ []
+
 -- the command of this name, with these words behind it
 abbrev pub command_named : Text → List Text → Option Command
-command_named name words =
-    if bytes_eq name (codes "replay") then read_as replay_names replay_given words
-    else (if bytes_eq name (codes "serve") then read_as serve_names serve_given words
-    else (if bytes_eq name (codes "gen") then read_as gen_names gen_given words
-    else (if bytes_eq name (codes "bench") then read_as bench_names bench_given words
-    else None)))
+command_named name words = find (λ form. bytes_eq name form.name) forms >>= λ form. read_as form.options form.meaning words
 
 -- the command that words give: the first is its name, and the rest are its options
 abbrev pub command_of : List Text → Option Command
@@ -255,6 +331,11 @@ IsValidCommand (Replay options) = IsValid options
 IsValidCommand (Serve options ports) = IsValid options × IsValidPorts ports
 IsValidCommand (Gen generator) = is_valid generator ≡ true
 IsValidCommand (Bench options generator) = IsValid options × (is_valid generator ≡ true)
+IsValidCommand (Check options) = IsValid options
+IsValidCommand (Exclusive options) = IsValid options
+IsValidCommand (Ask options) = IsValidAsk options
+IsValidCommand (Image options) = IsValid options × (options.mode ≡ Store)
+IsValidCommand Unpack = ⊤
 
 -- what is read of words that give this command, or none: want of memory may come with any
 abbrev pub IsReadingOf : Option Command → Result Command WordsFault → Type 0

@@ -3,6 +3,7 @@ use Rattle.std.specs.Prelude.{◌≡◌, ℕ, Bool, true, List, Option}
 use Rattle.std.specs.Io.KnownBytes.{IsAtEnd}
 use Rattle.partition_table.specs.declared.tables.Entry.{Entry}
 use Rattle.mica_serve.specs.NetRun.{NetFacts}
+use Rattle.mica_client.specs.Talk.{Talk}
 
 -- a source: the bytes that it has left, where it tells them, whether a read has answered that it ended, and its count of faults
 pub record SourceFacts : Type 0 where
@@ -10,10 +11,28 @@ pub record SourceFacts : Type 0 where
   pub has_ended : Bool
   pub faults : ℕ
 
+-- by what a source tells
+abbrev pub source_facts : {S : Type 0} → (S → Option (List ℕ)) → (S → Bool) → (S → ℕ) → S → SourceFacts
+source_facts left has_ended faults = λ s. record { left = left s; has_ended = has_ended s; faults = faults s }
+
 -- a sink: the bytes that it took, where it tells them, and its count of faults
 pub record SinkFacts : Type 0 where
   pub taken : Option (List ℕ)
   pub faults : ℕ
+
+-- by what a sink tells
+abbrev pub sink_facts : {K : Type 0} → (K → Option (List ℕ)) → (K → ℕ) → K → SinkFacts
+sink_facts taken faults = λ k. record { taken = taken k; faults = faults k }
+
+-- a link: its datagrams, where it tells them, whether a receive has answered that it ended, and its count of faults
+pub record LinkFacts : Type 0 where
+  pub talk : Option Talk
+  pub has_ended : Bool
+  pub faults : ℕ
+
+-- by what a link tells
+abbrev pub link_facts : {L : Type 0} → (L → Option Talk) → (L → Bool) → (L → ℕ) → L → LinkFacts
+link_facts talk has_ended faults = λ l. record { talk = talk l; has_ended = has_ended l; faults = faults l }
 
 -- all that a run touches; the tables keep the owners' seats of a run that has ended
 pub record Outside : Type 0 where
@@ -21,6 +40,11 @@ pub record Outside : Type 0 where
   pub sink : SinkFacts
   pub net : NetFacts
   pub tables : List Entry
+  pub link : LinkFacts
+
+-- of its parts
+abbrev pub outside : SourceFacts → SinkFacts → NetFacts → List Entry → LinkFacts → Outside
+outside source sink net tables link = record { source = source; sink = sink; net = net; tables = tables; link = link }
 
 -- the source was read to its end
 pub record IsReadUp (source : SourceFacts) : Type 0 where

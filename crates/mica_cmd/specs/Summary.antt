@@ -4,9 +4,9 @@ use Rattle.std.specs.List.{fold, zip}
 use Rattle.std.specs.Fmt.{decimal}
 use Rattle.mica_model.specs.declared.options.Options.{Options}
 use Rattle.mica_model.specs.declared.write.Outcome.{Outcome}
-use Rattle.mica_model.specs.declared.write.Outcome.TheVariants.{Stored, Deleted, Absent, FullSpare, FullBlock, Worn}
+use Rattle.mica_model.specs.declared.write.Outcome.TheVariants.{Stored, Deleted, Absent, Touched, FullSpare, FullBlock, Worn, Exists}
 use Rattle.mica_trace.specs.declared.line.TraceOp.{TraceOp}
-use Rattle.mica_trace.specs.declared.line.TraceOp.TheVariants.{Put, Del, Get, Sync}
+use Rattle.mica_trace.specs.declared.line.TraceOp.TheVariants.{Put, Add, Del, Touch, Get, Sync}
 use Rattle.mica_trace.specs.declared.line.TraceLine.{TraceLine}
 use Rattle.mica_trace.specs.declared.report.Line.{Line}
 use Rattle.mica_trace.specs.declared.report.Line.TheVariants.{Wrote}
@@ -14,7 +14,9 @@ use Rattle.mica_trace.specs.Rounds.{partition_in}
 
 abbrev pub is_op : TraceOp → TraceOp → Bool
 is_op Put Put = true
+is_op Add Add = true
 is_op Del Del = true
+is_op Touch Touch = true
 is_op Get Get = true
 is_op Sync Sync = true
 is_op _ _ = false
@@ -23,9 +25,11 @@ abbrev pub is_outcome : Outcome → Outcome → Bool
 is_outcome Stored Stored = true
 is_outcome Deleted Deleted = true
 is_outcome Absent Absent = true
+is_outcome Touched Touched = true
 is_outcome FullSpare FullSpare = true
 is_outcome FullBlock FullBlock = true
 is_outcome Worn Worn = true
+is_outcome Exists Exists = true
 is_outcome _ _ = false
 
 -- the line prints this outcome of a write

@@ -1,10 +1,14 @@
 //! The commands, and the words that give them.
 ghost use Rattle.std.specs.Prelude.{◌≡◌, map, string_bytes};
-ghost use Rattle.mica_cmd.specs.CommandLine.{bench_given, bench_names, command_of, gen_given, gen_names, read_as, replay_given, replay_names, serve_given, serve_names, IsReadingOf};
+ghost use Rattle.mica_cmd.specs.CommandLine.{ask_given, ask_names, bench_given, bench_names, check_given, command_of, exclusive_given, exclusive_names, image_given, image_names, unpack_given, unpack_names, gen_given, gen_names, read_as, replay_given, replay_names, serve_given, serve_names, IsReadingOf};
 
 use crate::GenOptions;
 use crate::clap_command::matches_of;
-use crate::option_values::{gen_options, port_options, replay_options, serve_options};
+use crate::option_values::{
+    ask_options, exclusive_options, gen_options, image_options, port_options, replay_options,
+    serve_options,
+};
+use mica_client::AskOptions;
 use mica_model::Options;
 use mica_serve::Ports;
 use std::alloc::Global;
@@ -20,6 +24,16 @@ pub enum Command {
     Gen(GenOptions),
     /// To run a generated trace and print a summary.
     Bench(Options, GenOptions),
+    /// To judge the report that the source gives behind a trace.
+    Check(Options),
+    /// To replay the trace that the source gives, with owners that read too.
+    Exclusive(Options),
+    /// To ask a server for the trace that the source gives.
+    Ask(AskOptions),
+    /// To print the image of the store that the trace leaves.
+    Image(Options),
+    /// To print the pairs of the image that the source gives.
+    Unpack,
 }
 
 /// Why there is no command: the words give none, or there was no memory to read them.
@@ -52,6 +66,14 @@ static SERVE_OPTIONS: [&str; 10] = [
     "fronts",
     "batches",
 ];
+
+static EXCLUSIVE_OPTIONS: [&str; 6] = ["mode", "partitions", "buckets", "spares", "words", "wear"];
+
+static IMAGE_OPTIONS: [&str; 5] = ["partitions", "buckets", "spares", "words", "wear"];
+
+static ASK_OPTIONS: [&str; 4] = ["port", "partitions", "fronts", "per"];
+
+static UNPACK_OPTIONS: [&str; 0] = [];
 
 static GEN_OPTIONS: [&str; 9] = [
     "seed",
@@ -131,6 +153,53 @@ fn read_bench(alloc: Global, words: &[String]) -> Result<Command, WordsFault>
     }
 }
 
+fn read_check(alloc: Global, words: &[String]) -> Result<Command, WordsFault>
+    ensures { IsReadingOf (read_as replay_names check_given (map string_bytes words.now)) result }
+{
+    let found = matches_of(alloc, "check", REPLAY_OPTIONS.as_slice(), words)?;
+    match replay_options(&found) {
+        Some(options) => Ok(Command::Check(options)),
+        None => Err(WordsFault::Usage),
+    }
+}
+
+fn read_exclusive(alloc: Global, words: &[String]) -> Result<Command, WordsFault>
+    ensures { IsReadingOf (read_as exclusive_names exclusive_given (map string_bytes words.now)) result }
+{
+    let found = matches_of(alloc, "exclusive", EXCLUSIVE_OPTIONS.as_slice(), words)?;
+    match exclusive_options(&found) {
+        Some(options) => Ok(Command::Exclusive(options)),
+        None => Err(WordsFault::Usage),
+    }
+}
+
+fn read_ask(alloc: Global, words: &[String]) -> Result<Command, WordsFault>
+    ensures { IsReadingOf (read_as ask_names ask_given (map string_bytes words.now)) result }
+{
+    let found = matches_of(alloc, "ask", ASK_OPTIONS.as_slice(), words)?;
+    match ask_options(&found) {
+        Some(options) => Ok(Command::Ask(options)),
+        None => Err(WordsFault::Usage),
+    }
+}
+
+fn read_image(alloc: Global, words: &[String]) -> Result<Command, WordsFault>
+    ensures { IsReadingOf (read_as image_names image_given (map string_bytes words.now)) result }
+{
+    let found = matches_of(alloc, "image", IMAGE_OPTIONS.as_slice(), words)?;
+    match image_options(&found) {
+        Some(options) => Ok(Command::Image(options)),
+        None => Err(WordsFault::Usage),
+    }
+}
+
+fn read_unpack(alloc: Global, words: &[String]) -> Result<Command, WordsFault>
+    ensures { IsReadingOf (read_as unpack_names unpack_given (map string_bytes words.now)) result }
+{
+    matches_of(alloc, "unpack", UNPACK_OPTIONS.as_slice(), words)?;
+    Ok(Command::Unpack)
+}
+
 /// The command that the words after the program's name give.
 pub fn read_words(alloc: Global, words: &[String]) -> Result<Command, WordsFault>
     ensures { IsReadingOf (command_of (map string_bytes words.now)) result }
@@ -143,6 +212,11 @@ pub fn read_words(alloc: Global, words: &[String]) -> Result<Command, WordsFault
         "serve" => read_serve(alloc, rest),
         "gen" => read_gen(alloc, rest),
         "bench" => read_bench(alloc, rest),
+        "check" => read_check(alloc, rest),
+        "exclusive" => read_exclusive(alloc, rest),
+        "ask" => read_ask(alloc, rest),
+        "image" => read_image(alloc, rest),
+        "unpack" => read_unpack(alloc, rest),
         _ => Err(WordsFault::Usage),
     }
 }

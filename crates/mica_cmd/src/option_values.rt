@@ -2,10 +2,11 @@
 ghost use Rattle.std.specs.Prelude.{◌≡◌, Some, None, option_map, option_and_then};
 ghost use Rattle.std.specs.Int.{is_power_of_two};
 ghost use Rattle.clap.specs.Matches.{first_value, found_of};
-ghost use Rattle.mica_cmd.specs.CommandLine.{begins_number, mode, buckets, number, required_number, number_of, value_of, replay_options, serve_options, port_options, gen_options};
+ghost use Rattle.mica_cmd.specs.CommandLine.{begins_number, mode, buckets, number, required_number, number_of, value_of, options_with, replay_options, serve_options, without_readers, exclusive_options, image_options, ask_options, port_options, gen_options};
 
 use crate::GenOptions;
 use clap::ArgMatches;
+use mica_client::AskOptions;
 use mica_model::{MAX_WEAR, Mode, Options};
 use mica_serve::Ports;
 
@@ -83,12 +84,12 @@ fn buckets(found: &ArgMatches<'_>) -> Option<u32>
     }
 }
 
-/// The options of `replay`, or `None` where one is missing or its text is no value of it.
-pub fn replay_options(found: &ArgMatches<'_>) -> Option<Options>
-    ensures { result ≡ replay_options (first_value (found_of found.now)) }
+/// The options of partitions of the mode, or `None` where a text is no value of its option.
+pub fn options_with(found: &ArgMatches<'_>, mode: Mode) -> Option<Options>
+    ensures { result ≡ options_with mode (first_value (found_of found.now)) }
 {
     Some(Options {
-        mode: mode(found)?,
+        mode,
         partitions: count(found, "partitions", 1, 16, 4)?,
         buckets: buckets(found)?,
         spares: count(found, "spares", 0, 65_536, 1_024)?,
@@ -99,6 +100,13 @@ pub fn replay_options(found: &ArgMatches<'_>) -> Option<Options>
     })
 }
 
+/// The options of `replay`, or `None` where one is missing or its text is no value of it.
+pub fn replay_options(found: &ArgMatches<'_>) -> Option<Options>
+    ensures { result ≡ replay_options (first_value (found_of found.now)) }
+{
+    options_with(found, mode(found)?)
+}
+
 /// The partitions of `serve`, which has no readers to count.
 pub fn serve_options(found: &ArgMatches<'_>) -> Option<Options>
     ensures { result ≡ serve_options (first_value (found_of found.now)) }
@@ -107,6 +115,43 @@ pub fn serve_options(found: &ArgMatches<'_>) -> Option<Options>
     Some(Options {
         readers: 1,
         ..options
+    })
+}
+
+// The same options for a run in which owners alone read.
+fn without_readers(options: Options) -> Options
+    ensures { result ≡ without_readers options }
+{
+    Options {
+        readers: 1,
+        tries: 1,
+        ..options
+    }
+}
+
+/// The options of `exclusive`, which has no readers to count, and no tries.
+pub fn exclusive_options(found: &ArgMatches<'_>) -> Option<Options>
+    ensures { result ≡ exclusive_options (first_value (found_of found.now)) }
+{
+    Some(without_readers(replay_options(found)?))
+}
+
+/// The options of `image`, which is in store mode.
+pub fn image_options(found: &ArgMatches<'_>) -> Option<Options>
+    ensures { result ≡ image_options (first_value (found_of found.now)) }
+{
+    Some(without_readers(options_with(found, Mode::Store)?))
+}
+
+/// The options of `ask`, or `None` where one is missing or its text is no value of it.
+pub fn ask_options(found: &ArgMatches<'_>) -> Option<AskOptions>
+    ensures { result ≡ ask_options (first_value (found_of found.now)) }
+{
+    Some(AskOptions {
+        port: required(found, "port", 1_024, 65_000)? as u16,
+        partitions: count(found, "partitions", 1, 16, 4)?,
+        fronts: count(found, "fronts", 1, 16, 1)?,
+        per: count(found, "per", 1, 255, 32)?,
     })
 }
 

@@ -1,34 +1,52 @@
 //! The whole program: its words, and the number that it ends with.
-ghost use Rattle.std.specs.Prelude.{◌≡◌, [], false};
+ghost use Rattle.std.specs.Prelude.{◌≡◌, [], IfOk, Some, drop, false, map, string_bytes};
 ghost use Rattle.std.specs.Process.{exit_status};
-ghost use Rattle.mica_cmd.specs.Outside.{Outside, SourceFacts, SinkFacts};
-ghost use Rattle.mica_cmd.specs.Exit.{exit_number, Exits};
+ghost use Rattle.std.specs.Vec.Iter.{into_iter_items};
 ghost use Rattle.mica_serve.specs.NetRun.{net_facts};
+ghost use Rattle.mica_cmd.specs.Outside.{outside, source_facts, sink_facts, link_facts};
+ghost use Rattle.mica_cmd.specs.Exit.{all_words_of, words_of, exit_number, Exits};
 
 use crate::{Status, mica};
+use mica_client::Link;
 use mica_io::{Gate, Net, NoMemory, Sink, Source};
 use partition_table::Tables;
-use std::env;
-use std::io::ErrorKind;
+use std::alloc::Global;
+use std::env::Args;
+use std::io::{self, ErrorKind};
 use std::process::ExitCode;
-use std::rt::Env;
 use std::sync::Wait;
 use std::thread::Threads;
 
-// The words after the program's name. Words that are no text count as none, which no command has.
-fn words(rt: &HostRuntime) -> Result<Vec<String>, NoMemory> {
-    let mut words = Vec::new(rt.alloc());
-    match env::args(rt) {
-        Ok(args) => {
-            for word in args.skip(1) {
-                words.push(word)?;
-            }
-            Ok(words)
-        }
+fn gathered(alloc: Global, args: Args) -> Result<Vec<String>, NoMemory>
+    ensures { IfOk result (λ words. words.items ≡ into_iter_items args) }
+{
+    let mut words = Vec::new(alloc);
+    let mut left = args;
+    while let Some(word) = left.next() {
+        words.push(word)?;
+    }
+    Ok(words)
+}
+
+// All words, the program's name first.
+fn all_words(alloc: Global, args: io::Result<Args>) -> Result<Vec<String>, NoMemory>
+    ensures { IfOk result (λ words. all_words_of string_bytes args ≡ Some (map string_bytes words.items)) }
+{
+    match args {
+        Ok(args) => gathered(alloc, args),
         Err(error) => match error.kind() {
             ErrorKind::OutOfMemory => Err(NoMemory),
-            _ => Ok(words),
+            _ => Ok(Vec::new(alloc)),
         },
+    }
+}
+
+fn behind_name(words: &[String]) -> &[String]
+    ensures { result.now ≡ drop 1 words.now }
+{
+    match words.split_first() {
+        Some((_, behind)) => behind,
+        None => words,
     }
 }
 
@@ -38,44 +56,39 @@ fn exit_code(status: Status) -> ExitCode
     ExitCode::from(status as u8)
 }
 
-/// Carries out the command that the program's words give, and ends with the number of its status. `threads` is the
-/// same runtime, which may start threads in `main` alone.
-pub fn run_program<W: Threads + Wait + Sync, S: Source, K: Sink, N: Net, G: Gate>(
-    rt: &HostRuntime,
-    threads: &W,
+/// Carries out the command that the program's words give, which are `env::args(&rt)` in `main`, and ends with the number of
+/// its status. Only a `rt` that may start threads, as in `main`, serves.
+pub fn run_program<W: Threads + Wait + Sync, S: Source, K: Sink, N: Net, G: Gate, L: Link>(
+    rt: &W,
+    alloc: Global,
+    args: io::Result<Args>,
     source: &mut S,
     sink: &mut K,
     net: &mut N,
     gate: &G,
     tables: &mut Tables,
+    link: &mut L,
 ) -> ExitCode
     requires source { S.has_ended source.old ≡ false }
     requires net { N.binds net.old ≡ 0 }
     requires tables { tables.old ≡ [] }
-    ensures { Exits
-        (record {
-          source = record { left = S.left source.old; has_ended = S.has_ended source.old; faults = S.faults source.old };
-          sink = record { taken = K.taken sink.old; faults = K.faults sink.old };
-          net = net_facts N.faults N.binds N.first N.refused N.ports N.fails net.old;
-          tables = tables.old;
-        })
-        (record {
-          source = record { left = S.left source.new; has_ended = S.has_ended source.new; faults = S.faults source.new };
-          sink = record { taken = K.taken sink.new; faults = K.faults sink.new };
-          net = net_facts N.faults N.binds N.first N.refused N.ports N.fails net.new;
-          tables = tables.new;
-        }) (exit_status result) }
+    ensures { Exits (words_of string_bytes args)
+        (outside (source_facts S.left S.has_ended S.faults source.old) (sink_facts K.taken K.faults sink.old)
+        (net_facts N.faults N.binds N.first N.refused N.ports N.fails net.old) tables.old (link_facts L.talk L.has_ended L.faults link.old))
+        (outside (source_facts S.left S.has_ended S.faults source.new) (sink_facts K.taken K.faults sink.new)
+        (net_facts N.faults N.binds N.first N.refused N.ports N.fails net.new) tables.new (link_facts L.talk L.has_ended L.faults link.new)) (exit_status result) }
 {
-    match words(rt) {
+    match all_words(alloc, args) {
         Ok(words) => exit_code(mica(
-            threads,
-            rt.alloc(),
-            words.as_slice(),
+            rt,
+            alloc,
+            behind_name(words.as_slice()),
             source,
             sink,
             net,
             gate,
             tables,
+            link,
         )),
         Err(NoMemory) => exit_code(Status::NoMemory),
     }

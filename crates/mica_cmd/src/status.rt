@@ -15,4 +15,13 @@ pub enum Status {
     ReadFault,
     WriteFault,
     NetFault,
+    /// A line of the report is none that the trace allows.
+    Unlawful,
+    /// What the source gave behind the trace is no report.
+    ReportRefused,
+    /// A server's reply is none that was asked for.
+    ReplyRefused,
+    LinkFault,
+    /// What the source gave is no image.
+    ImageRefused,
 }

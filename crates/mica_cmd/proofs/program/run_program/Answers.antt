@@ -1,7 +1,12 @@
-use Rattle.std.proofs.Common.{[], None}
-use Rattle.mica_cmd.specs.declared.status.Status.TheVariants.{NoMemory}
-use Rattle.mica_cmd.proofs.Endings.{memory_promises}
+use Rattle.std.proofs.Common.{◌∙◌, ap, drop, string_bytes}
+use Rattle.mica_cmd.specs.Exit.{words_of}
+use Rattle.mica_cmd.proofs.Exiting.{no_memory_exits, words_exit}
 use Rattle.mica_cmd.proofs.program.run_program.Goals as goal
 
+pub returns-in-Ok : goal.returns-in-Ok
+returns-in-Ok g c =
+    words_exit string_bytes _ c.in-Ok.words.items c.behind_name.result.now c.mica.result c.in-Ok.ensures (c.behind_name.ensures ∙ ap (drop 1) c.as_slice.ensures.value)
+    _ _ _ c.exit_code.ensures c.mica.ensures
+
 pub returns-in-Err : goal.returns-in-Err
-returns-in-Err g c = record { words = []; status = NoMemory; told = c.exit_code-in-Err.ensures; kept = memory_promises None _ c.requires.net }
+returns-in-Err g c = no_memory_exits (words_of string_bytes c.args.args) _ _ c.requires.net c.exit_code-in-Err.ensures

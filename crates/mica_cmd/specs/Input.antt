@@ -1,0 +1,78 @@
+-- What is due of a command that reads the source, and what it reads.
+use Rattle.std.specs.Prelude.{◌≡◌, ◌≢◌, ℕ, ◌+◌, ◌≤◌, ◌⊎◌, List, [], ◌∷◌, ◌++◌, length, codes, IfSome}
+use Rattle.std.specs.Option.{IsSomeAnd}
+use Rattle.std.specs.Io.KnownBytes.{Consumes}
+use Rattle.mica_io.specs.Faults.{Rose}
+use Rattle.mica_trace.specs.declared.line.TraceLine.{TraceLine}
+use Rattle.mica_trace.specs.declared.line.TraceFault.{TraceFault}
+use Rattle.mica_trace.specs.declared.line.TraceFault.TheVariants.{NoMemory as NoRoom}
+use Rattle.mica_trace.specs.TraceGrammar.{IsTrace, IsNoTrace, Refuses, fault_text}
+use Rattle.mica_cmd.specs.declared.input.TheConstants.{MAX_SOURCE_LEN}
+use Rattle.mica_cmd.specs.declared.status.Status.{Status}
+use Rattle.mica_cmd.specs.declared.status.Status.TheVariants.{Done, TraceRefused, TraceLong, ReadFault}
+use Rattle.mica_cmd.specs.Outside.{SourceFacts, SinkFacts, Outside}
+use Rattle.mica_cmd.specs.Headline.{IsTooLong, ReadsWhole, ByBytes, ByTrace}
+use Rattle.mica_cmd.specs.Promise.{IsUnwritten, IsWritten}
+
+-- a line that names what went wrong
+abbrev pub line_of : List ℕ → List ℕ
+line_of text = text ++ 10 ∷ []
+
+-- a text of this kind is due with Done, and none with another status
+abbrev pub AtDone : (List ℕ → Type 0) → Status → List ℕ → Type 0
+AtDone is_due Done text = is_due text
+AtDone is_due _ text = ⊥
+
+-- the text that is due of a source: the line of too many bytes, the line of a read that failed, or what is due by all its bytes
+abbrev pub IsDueOfInput : (Status → List ℕ → List ℕ → Type 0) → SourceFacts → SourceFacts → Status → List ℕ → Type 0
+IsDueOfInput is_due old new TraceLong text = IfSome old.left IsTooLong × (text ≡ line_of (codes "trace too long"))
+IsDueOfInput is_due old new ReadFault text = Rose old.faults new.faults × (text ≡ line_of (codes "read fault"))
+IsDueOfInput is_due old new status text = ByBytes (is_due status) old new text
+
+-- the line of the first fault of bytes that are no trace
+pub record IsRefusalLine (bytes text : List ℕ) : Type 0 where
+  pub fault : TraceFault
+  pub named : fault ≢ NoRoom
+  pub refused : Refuses bytes fault
+  pub no_trace : IsNoTrace bytes
+  pub spelled : text ≡ line_of (fault_text fault)
+
+-- the text that is due of bytes: the line of their first fault, or what is due by the trace that they spell
+abbrev pub IsDueOfTrace : (Status → List TraceLine → List ℕ → Type 0) → Status → List ℕ → List ℕ → Type 0
+IsDueOfTrace is_due TraceRefused bytes text = IsRefusalLine bytes text
+IsDueOfTrace is_due status bytes text = ByTrace (is_due status) bytes text
+
+-- no count of faults of source and sink rose
+pub record IsUntroubled (old new : Outside) : Type 0 where
+  pub source : ¬ (Rose old.source.faults new.source.faults)
+  pub sink : ¬ (Rose old.sink.faults new.sink.faults)
+
+-- the source tells too many bytes, or bytes of this kind
+abbrev pub TellsInput : (Status → List ℕ → Type 0) → SourceFacts → Status → Type 0
+TellsInput is_kind source status =
+    IsSomeAnd source.left (λ bytes. ((status ≡ TraceLong) × IsTooLong bytes) ⊎ (¬ (IsTooLong bytes) × is_kind status bytes))
+
+-- the bytes are no trace, or one with which this status comes
+abbrev pub IsKindOfTrace : (Status → List TraceLine → Type 0) → Status → List ℕ → Type 0
+IsKindOfTrace is_kind status bytes =
+    ((status ≡ TraceRefused) × IsNoTrace bytes) ⊎ ((trace : List TraceLine) × IsTrace bytes trace × is_kind status trace)
+
+-- nothing is due by bytes, or by a trace, that were only read
+abbrev pub NoneByBytes : Status → List ℕ → List ℕ → Type 0
+NoneByBytes status bytes text = ⊥
+
+abbrev pub NoneByTrace : Status → List TraceLine → List ℕ → Type 0
+NoneByTrace status trace text = ⊥
+
+-- the source gave at most one byte more than shows that a trace is too long
+abbrev pub ReadsInput : SourceFacts → SourceFacts → Type 0
+ReadsInput old new = (bytes : List ℕ) × (length bytes ≤ MAX_SOURCE_LEN + 1) × Consumes old.left new.left bytes
+
+-- the source gave this trace, and was read to its end
+abbrev pub GivesTrace : SourceFacts → SourceFacts → List TraceLine → Type 0
+GivesTrace old new trace = (bytes : List ℕ) × ReadsWhole old new bytes × IsTrace bytes trace
+
+-- what became of a trace that was refused for the fault
+abbrev pub IsRefusedWith : TraceFault → SinkFacts → SinkFacts → Status → Type 0
+IsRefusedWith fault old new result =
+    IsUnwritten old new result ⊎ ((fault ≢ NoRoom) × IsWritten TraceRefused (line_of (fault_text fault)) old new result)

@@ -1,0 +1,61 @@
+//! The command `bench`.
+ghost use Rattle.std.specs.Prelude.{◌≡◌, [], IfOk, true};
+ghost use Rattle.mica_model.specs.Options.{IsValid};
+ghost use Rattle.mica_serve.specs.NetRun.{NetFacts};
+ghost use Rattle.mica_cmd.specs.GenOptions.{is_valid};
+ghost use Rattle.mica_cmd.specs.Outside.{outside, SourceFacts, sink_facts, LinkFacts};
+ghost use Rattle.mica_cmd.specs.Promise.{KeepsPromise};
+ghost use Rattle.mica_cmd.specs.Promises.{bench_promise, IsSeatedSummary};
+
+use crate::output::write_due;
+use crate::{GenOptions, Status, gen_trace, put_summary};
+use mica_io::{Gate, NoMemory, Sink};
+use mica_model::Options;
+use mica_replay::run_trace;
+use partition_table::Tables;
+use std::alloc::Global;
+use std::sync::Wait;
+use std::thread::Threads;
+
+/// Runs the trace that the options generate, and prints the summary.
+pub fn bench_command<W: Threads + Wait + Sync, K: Sink, G: Gate>(
+    rt: &W,
+    alloc: Global,
+    options: &Options,
+    generator: &GenOptions,
+    sink: &mut K,
+    gate: &G,
+    tables: &mut Tables,
+) -> Status
+    requires options { IsValid options.now }
+    requires generator { is_valid generator.now ≡ true }
+    requires tables { tables.old ≡ [] }
+    ensures { (source : SourceFacts) → (net : NetFacts) → (link : LinkFacts) → KeepsPromise (bench_promise options.now generator.now)
+        (outside source (sink_facts K.taken K.faults sink.old) net tables.old link)
+        (outside source (sink_facts K.taken K.faults sink.new) net tables.new link) result }
+{
+    match summary_of_run(rt, alloc, options, generator, gate, tables) {
+        Ok(text) => write_due(sink, text.as_slice(), Status::Done),
+        Err(NoMemory) => Status::NoMemory,
+    }
+}
+
+fn summary_of_run<W: Threads + Wait + Sync, G: Gate>(
+    rt: &W,
+    alloc: Global,
+    options: &Options,
+    generator: &GenOptions,
+    gate: &G,
+    tables: &mut Tables,
+) -> Result<Vec<u8>, NoMemory>
+    requires options { IsValid options.now }
+    requires generator { is_valid generator.now ≡ true }
+    requires tables { tables.old ≡ [] }
+    ensures { IfOk result (λ text. IsSeatedSummary options.now generator.now tables.new text.items) }
+{
+    let trace = gen_trace(alloc, generator)?;
+    let report = run_trace(rt, alloc, options, &trace, gate, tables)?;
+    let mut text = Vec::new(alloc);
+    put_summary(options, &trace, &report, &mut text)?;
+    Ok(text)
+}

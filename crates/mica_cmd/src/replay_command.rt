@@ -1,0 +1,45 @@
+//! The command `replay`.
+ghost use Rattle.std.specs.Prelude.{◌≡◌, [], false};
+ghost use Rattle.mica_model.specs.Options.{IsValid};
+ghost use Rattle.mica_serve.specs.NetRun.{NetFacts};
+ghost use Rattle.mica_cmd.specs.Outside.{outside, source_facts, sink_facts, LinkFacts};
+ghost use Rattle.mica_cmd.specs.Promise.{KeepsPromise};
+ghost use Rattle.mica_cmd.specs.Promises.{replay_promise};
+
+use crate::Status;
+use crate::input::read_input;
+use mica_io::{Gate, Sink, Source};
+use mica_model::Options;
+use mica_replay::{ReplayFault, replay};
+use partition_table::Tables;
+use std::alloc::Global;
+use std::sync::Wait;
+use std::thread::Threads;
+
+/// Replays the trace that the source gives, and prints the report.
+pub fn replay_command<W: Threads + Wait + Sync, S: Source, K: Sink, G: Gate>(
+    rt: &W,
+    alloc: Global,
+    options: &Options,
+    source: &mut S,
+    sink: &mut K,
+    gate: &G,
+    tables: &mut Tables,
+) -> Status
+    requires open { S.has_ended source.old ≡ false }
+    requires valid { IsValid options.now }
+    requires tables { tables.old ≡ [] }
+    ensures { (net : NetFacts) → (link : LinkFacts) → KeepsPromise (replay_promise options.now)
+        (outside (source_facts S.left S.has_ended S.faults source.old) (sink_facts K.taken K.faults sink.old) net tables.old link)
+        (outside (source_facts S.left S.has_ended S.faults source.new) (sink_facts K.taken K.faults sink.new) net tables.new link) result }
+{
+    let trace = match read_input(alloc, source, sink) {
+        Ok(trace) => trace,
+        Err(status) => return status,
+    };
+    match replay(rt, alloc, options, &trace, sink, gate, tables) {
+        Ok(()) => Status::Done,
+        Err(ReplayFault::Write) => Status::WriteFault,
+        Err(ReplayFault::NoMemory) => Status::NoMemory,
+    }
+}

@@ -1,0 +1,61 @@
+//! The command `serve`.
+ghost use Rattle.std.specs.Prelude.{◌≡◌, []};
+ghost use Rattle.mica_model.specs.Options.{IsValid};
+ghost use Rattle.mica_serve.specs.PortOptions.{IsValidPorts};
+ghost use Rattle.mica_serve.specs.NetRun.{net_facts};
+ghost use Rattle.mica_cmd.specs.Outside.{outside, SourceFacts, sink_facts, LinkFacts};
+ghost use Rattle.mica_cmd.specs.Promise.{KeepsPromise, IsTold};
+ghost use Rattle.mica_cmd.specs.Promises.{serve_promise, totals_text};
+
+use crate::Status;
+use crate::output::write_due;
+use mica_io::{Gate, Net, Sink};
+use mica_model::Options;
+use mica_serve::{Ports, ServeFault, Totals, serve};
+use partition_table::Tables;
+use std::alloc::Global;
+use std::sync::Wait;
+use std::thread::Threads;
+
+/// Serves the ports, and prints the totals.
+pub fn serve_command<W: Threads + Wait + Sync, K: Sink, N: Net, G: Gate>(
+    rt: &W,
+    alloc: Global,
+    options: &Options,
+    ports: &Ports,
+    sink: &mut K,
+    net: &mut N,
+    gate: &G,
+    tables: &mut Tables,
+) -> Status
+    requires options { IsValid options.now }
+    requires ports { IsValidPorts ports.now }
+    requires unbound { N.binds net.old ≡ 0 }
+    requires tables { tables.old ≡ [] }
+    ensures { (source : SourceFacts) → (link : LinkFacts) → KeepsPromise (serve_promise options.now ports.now)
+        (outside source (sink_facts K.taken K.faults sink.old)
+        (net_facts N.faults N.binds N.first N.refused N.ports N.fails net.old) tables.old link)
+        (outside source (sink_facts K.taken K.faults sink.new)
+        (net_facts N.faults N.binds N.first N.refused N.ports N.fails net.new) tables.new link) result }
+{
+    match serve(rt, alloc, options, ports, net, gate, tables) {
+        Ok(totals) => print_totals(alloc, totals, sink),
+        Err(ServeFault::Net) => write_due(sink, b"net fault\n", Status::NetFault),
+        Err(ServeFault::NoMemory) => Status::NoMemory,
+    }
+}
+
+fn print_totals<K: Sink>(alloc: Global, totals: Totals, sink: &mut K) -> Status
+    ensures { IsTold Status.Done (totals_text totals)
+        (sink_facts K.taken K.faults sink.old) (sink_facts K.taken K.faults sink.new) result }
+{
+    let Totals {
+        batches,
+        requests,
+        bad,
+    } = totals;
+    match format!(in alloc; "batches {batches} requests {requests} bad {bad}\n") {
+        Ok(line) => write_due(sink, line.as_bytes(), Status::Done),
+        Err(_) => Status::NoMemory,
+    }
+}
