@@ -74,6 +74,10 @@ impl Machine {
         }
     }
 
+    pub(crate) fn is_store(&self) -> bool {
+        matches!(self, Machine::Store(_))
+    }
+
     /// Whether the stamp of store mode is the number of accepted writes.
     pub(crate) fn is_counted(&self) -> bool {
         match self {

@@ -10,6 +10,8 @@ use std::test::Fail;
 /// A call of a machine, and what it must answer.
 enum Step {
     Put(&'static [u8], &'static [u8], Outcome, u64),
+    Add(&'static [u8], &'static [u8], Outcome, u64),
+    Touch(&'static [u8], Outcome, u64),
     Del(&'static [u8], Outcome, u64),
     Hit(&'static [u8], &'static [u8]),
     Miss(&'static [u8]),
@@ -54,6 +56,12 @@ impl Step {
         match self {
             Step::Put(key, value, outcome, stamp) => {
                 is_replied(alloc, machine, Op::Put, key, value, *outcome, *stamp)
+            }
+            Step::Add(key, value, outcome, stamp) => {
+                is_replied(alloc, machine, Op::Add, key, value, *outcome, *stamp)
+            }
+            Step::Touch(key, outcome, stamp) => {
+                is_replied(alloc, machine, Op::Touch, key, b"", *outcome, *stamp)
             }
             Step::Del(key, outcome, stamp) => {
                 is_replied(alloc, machine, Op::Del, key, b"", *outcome, *stamp)
@@ -113,6 +121,89 @@ fn expect_tables(
     }
     Ok(())
 }
+
+// An add stores no second value, a touch appends the value of its key anew, and a touch of no key only counts.
+const ADDED: &[Step] = &[
+    Step::Add(b"a", b"1", Outcome::Stored, 262_144),
+    Step::Add(b"a", b"2", Outcome::Exists, 262_144),
+    Step::Touch(b"a", Outcome::Touched, 524_288),
+    Step::Fate(b"a", Fate::Held),
+    Step::Touch(b"b", Outcome::Absent, 524_289),
+    Step::Fate(b"b", Fate::Never),
+    Step::Hit(b"a", b"1"),
+];
+
+// A touched item has the room that it needs, and not the larger one that it had.
+const TOUCHED: &[Step] = &[
+    Step::Put(b"a", b"123456789", Outcome::Stored, 327_680),
+    Step::Put(b"a", b"1", Outcome::Stored, 327_681),
+    Step::Touch(b"a", Outcome::Touched, 589_825),
+    Step::Put(b"a", b"12345678", Outcome::Stored, 589_826),
+    Step::Put(b"a", b"123456789", Outcome::Stored, 917_506),
+    Step::Fate(b"a", Fate::Held),
+];
+
+// The touched key is the bucket's newest. A key that was displaced has no value, so an add of it is stored.
+const SPARED: &[Step] = &[
+    Step::Put(b"k01", b"1", Outcome::Stored, 262_144),
+    Step::Put(b"k02", b"1", Outcome::Stored, 524_288),
+    Step::Put(b"k03", b"1", Outcome::Stored, 786_432),
+    Step::Put(b"k04", b"1", Outcome::Stored, 1_048_576),
+    Step::Put(b"k05", b"1", Outcome::Stored, 1_310_720),
+    Step::Put(b"k06", b"1", Outcome::Stored, 1_572_864),
+    Step::Put(b"k07", b"1", Outcome::Stored, 1_835_008),
+    Step::Put(b"k08", b"1", Outcome::Stored, 2_097_152),
+    Step::Put(b"k09", b"1", Outcome::Stored, 2_359_296),
+    Step::Put(b"k10", b"1", Outcome::Stored, 2_621_440),
+    Step::Put(b"k11", b"1", Outcome::Stored, 2_883_584),
+    Step::Put(b"k12", b"1", Outcome::Stored, 3_145_728),
+    Step::Put(b"k13", b"1", Outcome::Stored, 3_407_872),
+    Step::Put(b"k14", b"1", Outcome::Stored, 3_670_016),
+    Step::Put(b"k15", b"1", Outcome::Stored, 3_932_160),
+    Step::Touch(b"k01", Outcome::Touched, 4_194_304),
+    Step::Put(b"k16", b"1", Outcome::Stored, 4_456_448),
+    Step::Fate(b"k01", Fate::Held),
+    Step::Fate(b"k02", Fate::Displaced(17)),
+    Step::Add(b"k02", b"2", Outcome::Stored, 4_718_592),
+    Step::Fate(b"k02", Fate::Held),
+    Step::Fate(b"k03", Fate::Displaced(18)),
+];
+
+// The tail is as many words past the item as the log has, so the item is written over itself.
+const OVER_ITSELF: &[Step] = &[
+    Step::Put(b"a", &[b'x'; 1000], Outcome::Stored, 8_388_608),
+    Step::Put(b"b", &[b'y'; 1000], Outcome::Stored, 16_777_216),
+    Step::Touch(b"a", Outcome::Touched, 25_165_824),
+    Step::Hit(b"a", &[b'x'; 1000]),
+    Step::Hit(b"b", &[b'y'; 1000]),
+    Step::Touch(b"b", Outcome::Touched, 33_554_432),
+    Step::Touch(b"b", Outcome::Touched, 41_943_040),
+    Step::Fate(b"a", Fate::Passed(5)),
+    Step::Hit(b"b", &[b'y'; 1000]),
+];
+
+// An item that is longer than the log is refused, but an add of a key that is there is refused before.
+const LONGER_THAN_THE_LOG: &[Step] = &[
+    Step::Add(b"a", b"1", Outcome::Stored, 262_144),
+    Step::Add(b"a", &[b'x'; 8192], Outcome::Exists, 262_144),
+    Step::Add(b"b", &[b'x'; 8192], Outcome::FullBlock, 262_144),
+    Step::Put(b"a", &[b'x'; 8192], Outcome::FullBlock, 262_144),
+    Step::Put(b"c", &[b'x'; 2025], Outcome::FullBlock, 262_144),
+    Step::Hit(b"a", b"1"),
+    Step::Put(b"c", &[b'x'; 2024], Outcome::Stored, 17_039_360),
+    Step::Fate(b"a", Fate::Passed(2)),
+    Step::Touch(b"c", Outcome::Touched, 33_816_576),
+    Step::Hit(b"c", &[b'x'; 2024]),
+];
+
+// A touch of an absent key is an accepted write.
+const WORN_BY_TOUCHES: &[Step] = &[
+    Step::Touch(b"b", Outcome::Absent, 1),
+    Step::Add(b"a", b"1", Outcome::Stored, 262_145),
+    Step::Add(b"a", b"2", Outcome::Worn, 262_145),
+    Step::Touch(b"a", Outcome::Worn, 262_145),
+    Step::Hit(b"a", b"1"),
+];
 
 // A value that fits the room of its key is kept in place, and a longer one is appended.
 const IN_PLACE: &[Step] = &[
@@ -212,6 +303,16 @@ const GROWN: &[Step] = &[
     Step::Del(b"a", Outcome::Deleted, 5),
 ];
 
+// The same in store mode, where an add that finds its key needs no block.
+const ADDED_IN_STORE: &[Step] = &[
+    Step::Add(b"a", &[b'x'; 1024], Outcome::Stored, 1),
+    Step::Add(b"a", &[b'x'; 1024], Outcome::Exists, 1),
+    Step::Add(b"b", &[b'x'; 1024], Outcome::FullBlock, 1),
+    Step::Touch(b"a", Outcome::Touched, 2),
+    Step::Touch(b"b", Outcome::Absent, 3),
+    Step::Hit(b"a", &[b'x'; 1024]),
+];
+
 const ABSENT: &[Step] = &[
     Step::Miss(b"a"),
     Step::Del(b"a", Outcome::Absent, 1),
@@ -231,7 +332,13 @@ const SMALL_CACHE: Options = Options {
     ..CACHE
 };
 
-static CACHE_STEPS: [(Options, &[Step]); 5] = [
+static CACHE_STEPS: [(Options, &[Step]); 11] = [
+    (CACHE, ADDED),
+    (CACHE, TOUCHED),
+    (CACHE, SPARED),
+    (SMALL_CACHE, OVER_ITSELF),
+    (SMALL_CACHE, LONGER_THAN_THE_LOG),
+    (Options { wear: 2, ..CACHE }, WORN_BY_TOUCHES),
     (CACHE, IN_PLACE),
     (SMALL_CACHE, PASSED),
     (CACHE, DISPLACED),
@@ -249,7 +356,8 @@ const SMALL_STORE: Options = Options {
     ..STORE
 };
 
-static STORE_STEPS: [(Options, &[Step]); 4] = [
+static STORE_STEPS: [(Options, &[Step]); 5] = [
+    (SMALL_STORE, ADDED_IN_STORE),
     (SMALL_STORE, REFUSED),
     (SMALL_STORE, GROWN),
     (STORE, ABSENT),

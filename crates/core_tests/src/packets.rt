@@ -1,14 +1,16 @@
 //! Batches and replies as bytes.
 
-ghost use Rattle.std.specs.Prelude.{All, IfOk};
-ghost use Rattle.batch_packets.specs.ReplyGrammar.{IsReply};
+ghost use Rattle.std.specs.Prelude.{All, IfOk, IsTrue};
+ghost use Rattle.batch_packets.specs.Datagram.{is_version};
+ghost use Rattle.batch_packets.specs.ReplyGrammar.{IsReply, IsReplies};
 
 use batch_packets::{
-    BatchFault, Reply, Request, Want, is_batch, read_batch, read_replies, write_batch,
+    BatchFault, Replies, Reply, Request, Want, is_batch, read_batch, read_replies, write_batch,
     write_replies,
 };
 use mica_io::{Bytes, NoMemory};
 use std::alloc::Global;
+use std::test::Fail;
 
 // Number 7: ticket 1 puts `1` at `a`, ticket 2 gets `a`.
 static BATCH: [u8; 29] = [
@@ -109,11 +111,12 @@ fn are_told(replies: &[Reply], first: u32, told: &[Told]) -> bool {
     true
 }
 
-/// Whether the replies are written as one datagram of this text.
-fn are_written(alloc: Global, replies: &[Reply], number: u32, text: &[u8]) -> bool
-    requires { All (IsReply 1) replies.now }
+/// Whether the replies are written as one datagram of this text, in their version.
+fn are_written(alloc: Global, read: &Replies, text: &[u8]) -> bool
+    requires { IsReplies read.now }
 {
-    let Ok(written) = write_replies(alloc, replies, number) else {
+    let replies = read.replies.as_slice();
+    let Ok(written) = write_replies(alloc, replies, read.number, read.version) else {
         return false;
     };
     match written.as_slice() {
@@ -127,10 +130,9 @@ fn are_replies_of(alloc: Global, text: &[u8], number: u32, first: u32, told: &[T
     let Ok(read) = read_replies(alloc, text) else {
         return false;
     };
-    let replies = read.replies.as_slice();
     read.number == number
-        && are_told(replies, first, told)
-        && are_written(alloc, replies, number, text)
+        && are_told(read.replies.as_slice(), first, told)
+        && are_written(alloc, &read, text)
 }
 
 static TOLD: [Told; 2] = [(2, 1, b""), (0, 1, b"1")];
@@ -148,11 +150,12 @@ fn has_fault(alloc: Global, text: &[u8], fault: BatchFault) -> bool {
 }
 
 /// A byte of the batch that is changed, and the fault that it makes.
-static CHANGES: [(usize, u8, BatchFault); 14] = [
+static CHANGES: [(usize, u8, BatchFault); 15] = [
     (0, 0x4e, BatchFault::Magic),
     (3, 0x52, BatchFault::Magic),
     (4, 9, BatchFault::Version),
     (4, 0, BatchFault::Version),
+    (4, 3, BatchFault::Version),
     (5, 0, BatchFault::Count),
     (5, 1, BatchFault::Trailing),
     (5, 3, BatchFault::Short),
@@ -180,25 +183,107 @@ fn a_changed_byte_is_a_fault(rt: HostRuntime) {
     }
 }
 
+// Number 7 in version 2: ticket 1 adds `1` at `a`, ticket 2 touches `a`.
+static ADD_AND_TOUCH: [u8; 29] = [
+    0x4d, 0x49, 0x43, 0x41, 0x02, 0x02, 0x07, 0x00, 0x00, 0x00, //
+    0x03, 0x01, 0x01, 0x00, 0x01, 0x00, 0x00, 0x00, 0x61, 0x31, //
+    0x04, 0x01, 0x00, 0x00, 0x02, 0x00, 0x00, 0x00, 0x61,
+];
+
+static ADDED: [Asked; 2] = [(Want::Add, b"a", b"1"), (Want::Touch, b"a", b"")];
+
+#[test]
+fn a_batch_of_version_2_is_read_and_written(rt: HostRuntime) {
+    assert!(rt; is_batch_of(rt.alloc(), &ADD_AND_TOUCH, 7, 1, &ADDED));
+}
+
 #[test]
 fn a_batch_cut_short_is_a_fault(rt: HostRuntime) {
-    for len in 0..29 {
-        assert!(rt; has_fault(rt.alloc(), &BATCH[..len], BatchFault::Short));
+    for text in [&BATCH, &ADD_AND_TOUCH] {
+        for len in 0..29 {
+            assert!(rt; has_fault(rt.alloc(), &text[..len], BatchFault::Short));
+        }
     }
 }
 
-/// The batch, and zeros after it.
-fn lengthened() -> [u8; 1473] {
-    let mut text = [0; 1473];
+/// What each byte is changed to.
+static BYTES: [u8; 6] = [0, 1, 2, 3, 4, 255];
+
+/// The faults of the batch of each version with each of its bytes changed to each of these: of magic, version, count, operation and
+/// length, short, or with bytes that trail; none where it is still a batch. Made by another program.
+static CHANGED: [[&[u8; 6]; 29]; 2] = [
+    [
+        b"MMMMMM", b"MMMMMM", b"MMMMMM", b"MMMMMM", b"V..VVV", b"CT.SSS", b"......", b"......",
+        b"......", b"......", b"L.LOOO", b"L.LSSS", b"O.LSSS", b".SSSLL", b"......", b"......",
+        b"......", b"......", b"......", b"......", b"...OOO", b"L.SSSS", b".LLLLL", b".LLLLL",
+        b"......", b"......", b"......", b"......", b"......",
+    ],
+    [
+        b"MMMMMM", b"MMMMMM", b"MMMMMM", b"MMMMMM", b"VO.VVV", b"CT.SSS", b"......", b"......",
+        b"......", b"......", b"L.L.LO", b"L.LSSS", b"O.LSSS", b".SSSSL", b"......", b"......",
+        b"......", b"......", b"......", b"......", b".....O", b"L.SSSS", b".LLLLL", b".LLLLL",
+        b"......", b"......", b"......", b"......", b"......",
+    ],
+];
+
+fn fault_of(letter: u8) -> Option<BatchFault> {
+    match letter {
+        b'M' => Some(BatchFault::Magic),
+        b'V' => Some(BatchFault::Version),
+        b'C' => Some(BatchFault::Count),
+        b'O' => Some(BatchFault::Op),
+        b'L' => Some(BatchFault::Length),
+        b'S' => Some(BatchFault::Short),
+        b'T' => Some(BatchFault::Trailing),
+        _ => None,
+    }
+}
+
+/// Whether the text with this byte changed to each of the bytes has these faults.
+fn has_faults(alloc: Global, text: &[u8; 29], at: usize, faults: &[u8; 6]) -> bool {
+    for i in 0..6 {
+        let mut changed = *text;
+        if at < 29 {
+            changed[at] = BYTES[i];
+        }
+        if read_batch(alloc, &changed).err() != fault_of(faults[i]) {
+            return false;
+        }
+    }
+    true
+}
+
+#[test]
+fn each_byte_is_changed(rt: HostRuntime) {
+    for at in 0..29 {
+        assert!(rt;
+            has_faults(rt.alloc(), &BATCH, at, CHANGED[0][at]),
+            "at {at}"
+        );
+        assert!(rt;
+            has_faults(rt.alloc(), &ADD_AND_TOUCH, at, CHANGED[1][at]),
+            "at {at}"
+        );
+    }
+}
+
+/// The batch in a version, and zeros after it.
+fn lengthened(version: u8) -> [u8; 9001] {
+    let mut text = [0; 9001];
     text[..29].copy_from_slice(&BATCH);
+    text[4] = version;
     text
 }
 
-/// A length, and the fault of the batch with zeros up to it.
-static LENGTHENED: [(usize, BatchFault); 3] = [
-    (30, BatchFault::Trailing),
-    (1472, BatchFault::Trailing),
-    (1473, BatchFault::Length),
+/// A version and a length, and the fault of the batch with zeros up to it.
+static LENGTHENED: [(u8, usize, BatchFault); 7] = [
+    (1, 30, BatchFault::Trailing),
+    (1, 1472, BatchFault::Trailing),
+    (1, 1473, BatchFault::Length),
+    (2, 1473, BatchFault::Trailing),
+    (2, 9000, BatchFault::Trailing),
+    (3, 9000, BatchFault::Version),
+    (3, 9001, BatchFault::Length),
 ];
 
 /// The first bytes of a text, so many where it has them.
@@ -208,18 +293,18 @@ fn front(text: &[u8], len: usize) -> &[u8] {
 
 #[test]
 fn more_bytes_are_a_fault(rt: HostRuntime) {
-    let text = lengthened();
-    for (len, fault) in &LENGTHENED {
-        assert!(rt; has_fault(rt.alloc(), front(&text, *len), *fault));
+    for (version, len, fault) in &LENGTHENED {
+        assert!(rt; has_fault(rt.alloc(), front(&lengthened(*version), *len), *fault));
     }
 }
 
-/// The text of a batch that gets the key `a` under each of the tickets from 0 to 162, with another count of them.
-fn many_gets(count: u8) -> [u8; 1477] {
-    let mut text = [0; 1477];
-    text[..5].copy_from_slice(b"MICA\x01");
+/// The text of a batch that gets the key `a` under each of the tickets from 0 to 255, with another version and count of them.
+fn many_gets(version: u8, count: u8) -> [u8; 2314] {
+    let mut text = [0; 2314];
+    text[..4].copy_from_slice(b"MICA");
+    text[4] = version;
     text[5] = count;
-    for ticket in 0..163_u8 {
+    for ticket in 0..=255_u8 {
         let at = 10 + 9 * ticket as usize;
         text[at + 1] = 1;
         text[at + 4] = ticket;
@@ -228,20 +313,54 @@ fn many_gets(count: u8) -> [u8; 1477] {
     text
 }
 
-static GETS: [Asked; 162] = [(Want::Get, b"a", b""); 162];
+static GETS: [Asked; 255] = [(Want::Get, b"a", b""); 255];
 
-// The shortest request has nine bytes, so 162 of them fill a datagram of 1,472 bytes.
+// The shortest request has nine bytes, so 162 of them fill a datagram of version 1. Version 2 has room for more than the count tells.
 #[test]
 fn a_full_batch_is_read_and_written(rt: HostRuntime) {
-    assert!(rt; is_batch_of(rt.alloc(), front(&many_gets(162), 1468), 0, 0, &GETS));
-    assert!(rt; has_fault(rt.alloc(), &many_gets(163), BatchFault::Length));
+    let alloc = rt.alloc();
+    assert!(rt; is_batch_of(alloc, front(&many_gets(1, 162), 1468), 0, 0, &GETS[..162]));
+    assert!(rt; has_fault(alloc, front(&many_gets(1, 163), 1477), BatchFault::Length));
+    assert!(rt; is_batch_of(alloc, front(&many_gets(2, 255), 2305), 0, 0, &GETS));
+    assert!(rt; has_fault(alloc, &many_gets(2, 255), BatchFault::Trailing));
 }
 
-fn hundred_misses(alloc: Global) -> Result<Vec<Reply>, NoMemory>
-    ensures { IfOk result (λ replies. All (IsReply 1) replies.items) }
+/// A put of 8,192 letters `x` at `a`, and gets of the longest key, which fill the most bytes of version 2; and one byte more.
+fn longest_batch() -> [u8; 9001] {
+    let mut text = [b'x'; 9001];
+    text[..10].copy_from_slice(b"MICA\x02\x04\x00\x00\x00\x00");
+    text[10..19].copy_from_slice(b"\x01\x01\x00\x20\x00\x00\x00\x00a");
+    for ticket in 1..4_u8 {
+        let at = 7948 + 263 * ticket as usize;
+        for place in 0..8 {
+            text[at + place] = 0;
+        }
+        text[at + 1] = 255;
+        text[at + 4] = ticket;
+    }
+    text
+}
+
+static LONGEST: [Asked; 4] = [
+    (Want::Put, b"a", &[b'x'; 8192]),
+    (Want::Get, &[b'x'; 255], b""),
+    (Want::Get, &[b'x'; 255], b""),
+    (Want::Get, &[b'x'; 255], b""),
+];
+
+#[test]
+fn the_longest_batch_is_read_and_written(rt: HostRuntime) {
+    let text = longest_batch();
+    assert!(rt; is_batch_of(rt.alloc(), front(&text, 9000), 0, 0, &LONGEST));
+    assert!(rt; has_fault(rt.alloc(), &text, BatchFault::Length));
+}
+
+/// So many misses, under tickets from 0.
+fn misses(alloc: Global, version: u8, count: u32) -> Result<Vec<Reply>, NoMemory>
+    ensures { IfOk result (λ replies. All (IsReply version) replies.items) }
 {
     let mut replies = Vec::new(alloc);
-    for ticket in 0..100 {
+    for ticket in 0..count {
         replies.push(Reply {
             status: 1,
             ticket,
@@ -252,27 +371,34 @@ fn hundred_misses(alloc: Global) -> Result<Vec<Reply>, NoMemory>
     Ok(replies)
 }
 
-static MISSES: [Told; 100] = [(1, 0, b""); 100];
+static MISSES: [Told; 300] = [(1, 0, b""); 300];
 
-/// Whether a hundred replies are written as a datagram of 91 and one of the rest.
-fn are_split(alloc: Global) -> bool {
-    let Ok(replies) = hundred_misses(alloc) else {
+/// Whether these are all replies, written as a datagram of so many and one of the rest.
+fn are_split(alloc: Global, replies: &[Reply], version: u8, first: usize) -> bool
+    requires version { IsTrue (is_version version) }
+    requires replies { All (IsReply version) replies.now }
+{
+    let Ok(written) = write_replies(alloc, replies, 7, version) else {
         return false;
     };
-    let Ok(written) = write_replies(alloc, replies.as_slice(), 7) else {
+    let count = replies.len();
+    if first > count || count > 300 {
         return false;
-    };
+    }
     match written.as_slice() {
         [full, rest] => {
-            are_replies_of(alloc, full.bytes(), 7, 0, &MISSES[..91])
-                && are_replies_of(alloc, rest.bytes(), 7, 91, &MISSES[91..])
+            are_replies_of(alloc, full.bytes(), 7, 0, &MISSES[..first])
+                && are_replies_of(alloc, rest.bytes(), 7, first as u32, &MISSES[first..count])
         }
         _ => false,
     }
 }
 
-// A reply without a value has 16 bytes, so 91 of them fill a datagram.
+// A reply without a value has 16 bytes, so 91 of them fill a datagram of version 1. Version 2 has room for more than the count tells.
 #[test]
-fn replies_are_split(rt: HostRuntime) {
-    assert!(rt; are_split(rt.alloc()));
+fn replies_are_split(rt: HostRuntime) -> Result<(), Fail> {
+    let alloc = rt.alloc();
+    assert!(rt; are_split(alloc, misses(alloc, 1, 100)?.as_slice(), 1, 91));
+    assert!(rt; are_split(alloc, misses(alloc, 2, 300)?.as_slice(), 2, 255));
+    Ok(())
 }

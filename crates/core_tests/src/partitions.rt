@@ -31,7 +31,7 @@ pub(crate) fn store_over(
     Ok(StorePartition::new(rt.alloc(), words)?)
 }
 
-/// Makes the write, where its key and its value fit. A delete leaves the value unread.
+/// Makes the write, where its key and its value fit. A touch and a delete leave the value unread.
 pub(crate) fn write<P: Partition>(
     partition: &mut P,
     op: Op,
@@ -45,6 +45,8 @@ pub(crate) fn write<P: Partition>(
     }
     match op {
         Op::Put => Some(partition.put(key, value)),
+        Op::Add => Some(partition.add(key, value)),
+        Op::Touch => Some(partition.touch(key)),
         Op::Del => Some(partition.del(key)),
     }
 }

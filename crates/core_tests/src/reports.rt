@@ -31,10 +31,14 @@ fn is_printed_again(alloc: Global, text: &[u8], lines: u32) -> bool {
     report.len() == lines && is_printed(alloc, &report, text)
 }
 
-static REPORTS: [(&[u8], u32); 4] = [
+static REPORTS: [(&[u8], u32); 5] = [
     (b"", 0),
     (b"put 1 stored\nsync\nget 1 hit 1\n", 3),
     (b"put 0 full spare\nput 0 full block\nput 0 worn\n", 3),
+    (
+        b"add 1 stored\nadd 1 exists\nadd 1 full block\ntouch 2 touched\ntouch 3 absent\ntouch 3 worn\n",
+        6,
+    ),
     (
         b"del 1 deleted\ndel 2 absent\ndel 2 worn\nget 2 hit \nget 18446744073709551615 miss\n",
         5,
@@ -53,11 +57,14 @@ fn is_first_bad(alloc: Global, text: &[u8], line: u32) -> bool {
     text.len() < 4_294_967_296 && read_report(alloc, text).err() == Some(ReportFault::BadLine(line))
 }
 
-static BAD_LINES: [(&[u8], u32); 5] = [
+static BAD_LINES: [(&[u8], u32); 8] = [
     (b"get 01 miss\n", 1),
     (b"put 1 stored\nsync\nget 1 hit 1", 3),
     (b"sync\nget 18446744073709551616 miss\nput 1 absent\n", 2),
     (b"put 1 deleted\n", 1),
+    (b"put 1 exists\n", 1),
+    (b"add 1 stored\nadd 1 touched\n", 2),
+    (b"touch 1 stored\n", 1),
     (b"\n", 1),
 ];
 

@@ -20,12 +20,13 @@ const OPTIONS: Options = Options {
     wear: 1900,
 };
 
-/// How often a put was refused, for each cause.
+/// How often a write was refused, for each cause.
 #[derive(Clone, Copy)]
 struct Refused {
     spare: u32,
     block: u32,
     worn: u32,
+    exists: u32,
 }
 
 impl Refused {
@@ -35,15 +36,16 @@ impl Refused {
             Some(Outcome::FullSpare) => self.spare = self.spare.saturating_add(1),
             Some(Outcome::FullBlock) => self.block = self.block.saturating_add(1),
             Some(Outcome::Worn) => self.worn = self.worn.saturating_add(1),
-            Some(Outcome::Stored | Outcome::Deleted | Outcome::Absent) => {}
+            Some(Outcome::Exists) => self.exists = self.exists.saturating_add(1),
+            Some(Outcome::Stored | Outcome::Deleted | Outcome::Absent | Outcome::Touched) => {}
             None => return false,
         }
         true
     }
 }
 
-/// What the partition does with the write, where the machine does the same. Where the partition finds no block for a put it
-/// changes nothing, and the machine might choose another answer.
+/// What the partition does with the write, where the machine does the same. In store mode the machine might choose another answer
+/// where the partition finds no block, and has to allow this one.
 pub(crate) fn agreed<P: Partition>(
     alloc: Global,
     partition: &mut P,
@@ -53,12 +55,12 @@ pub(crate) fn agreed<P: Partition>(
     value: &[u8],
 ) -> Result<Option<Outcome>, NoMemory> {
     let outcome = write(partition, op, key, value);
-    if (op == Op::Put && outcome == Some(Outcome::FullBlock))
-        || outcome == machine.apply(alloc, op, key, value)?
-    {
-        return Ok(outcome);
-    }
-    Ok(None)
+    let agrees = if outcome == Some(Outcome::FullBlock) && machine.is_store() {
+        machine.allows(op, key, value, Outcome::FullBlock)
+    } else {
+        outcome == machine.apply(alloc, op, key, value)?
+    };
+    Ok(if agrees { outcome } else { None })
 }
 
 /// Whether both answer the same to the key.
@@ -85,12 +87,14 @@ fn agree<P: Partition>(
 ) -> Result<bool, NoMemory> {
     let number = (draw % 60) as u8;
     let key = [b'k', b'0' + number / 10, b'0' + number % 10];
-    match draw / 60 % 8 {
+    let value = &VALUE[..(draw / 600 % 90) as usize];
+    match draw / 60 % 10 {
         0 | 1 | 2 | 3 => {
-            let value = &VALUE[..(draw / 480 % 90) as usize];
             Ok(refused.counts(agreed(alloc, partition, machine, Op::Put, &key, value)?))
         }
-        4 | 5 => Ok(agreed(alloc, partition, machine, Op::Del, &key, b"")?.is_some()),
+        4 => Ok(refused.counts(agreed(alloc, partition, machine, Op::Add, &key, value)?)),
+        5 => Ok(agreed(alloc, partition, machine, Op::Touch, &key, b"")?.is_some()),
+        6 | 7 => Ok(agreed(alloc, partition, machine, Op::Del, &key, b"")?.is_some()),
         _ => {
             let mut found = ItemBuf::new(alloc)?;
             let mut wanted = ItemBuf::new(alloc)?;
@@ -110,6 +114,7 @@ fn expect_same<P: Partition>(
         spare: 0,
         block: 0,
         worn: 0,
+        exists: 0,
     };
     let mut state = 1u64;
     for _ in 0..count {
@@ -130,6 +135,6 @@ fn a_partition_does_what_the_machine_does(rt: HostRuntime) -> Result<(), Fail> {
     let mut partition = store_over(&rt, &OPTIONS, 0)?;
     let mut machine = Machine::new(rt.alloc(), &OPTIONS)?;
     let refused = expect_same(&rt, &mut partition, &mut machine, 4000)?;
-    assert!(rt; refused.spare > 0 && refused.block > 0 && refused.worn > 0);
+    assert!(rt; refused.spare > 0 && refused.block > 0 && refused.worn > 0 && refused.exists > 0);
     Ok(())
 }

@@ -1,4 +1,4 @@
-//! Six scripts, and gets of one try between their events, judged by the plain machine at the carried stamp.
+//! Seven scripts, and gets of one try between their events, judged by the plain machine at the carried stamp.
 
 use crate::scripts::{Cuts, Script, Written, expect_script};
 use mica_model::{Mode, Op, Options, Outcome};
@@ -85,6 +85,22 @@ static PASSED: Script = Script {
 #[test]
 fn an_item_is_passed(rt: HostRuntime) -> Result<(), Fail> {
     expect_script(&rt, &PASSED, LONG)
+}
+
+static TOUCHED: Script = Script {
+    options: CACHE,
+    writes: &[
+        Written(Op::Put, b"a", &[b'x'; 1000], Outcome::Stored),
+        Written(Op::Put, b"b", &[b'x'; 1000], Outcome::Stored),
+        Written(Op::Touch, b"a", b"", Outcome::Touched),
+    ],
+    key: b"a",
+};
+
+// The touch writes the item of `a` over itself.
+#[test]
+fn a_touched_item_is_read_while_it_is_written(rt: HostRuntime) -> Result<(), Fail> {
+    expect_script(&rt, &TOUCHED, LONG)
 }
 
 static KEPT: Script = Script {

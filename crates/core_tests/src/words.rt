@@ -212,7 +212,8 @@ fn sizes_of_items(rt: HostRuntime) {
             item_size(9, 8),
             item_size(1, 1000),
             item_size(255, 1024),
-        ] == [3, 4, 5, 4, 5, 128, 162]
+            item_size(255, 8192),
+        ] == [3, 4, 5, 4, 5, 128, 162, 1058]
     );
 }
 
@@ -222,14 +223,14 @@ static FITTING: [(usize, bool, bool); 6] = [
     (1, true, true),
     (255, true, true),
     (256, false, true),
-    (1024, false, true),
-    (1025, false, false),
+    (8192, false, true),
+    (8193, false, false),
 ];
 
-static ZEROS: [u8; 1025] = [0; 1025];
+static ZEROS: [u8; 8193] = [0; 8193];
 
 fn fits(len: usize, is_key: bool, is_value: bool) -> bool {
-    len <= 1025 && key_fits(&ZEROS[..len]) == is_key && value_fits(&ZEROS[..len]) == is_value
+    len <= 8193 && key_fits(&ZEROS[..len]) == is_key && value_fits(&ZEROS[..len]) == is_value
 }
 
 #[test]

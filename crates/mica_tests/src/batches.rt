@@ -1,7 +1,7 @@
 //! Single datagrams through a front that owns its partitions.
 ghost use Rattle.std.specs.Prelude.{◌≤◌};
 
-use crate::datagrams::{BAD_BATCH, BATCH, NO_BATCHES, REPLIES};
+use crate::datagrams::{ADD_AND_TOUCH, BAD_BATCH, BATCH, NO_BATCHES, REPLIES, STORED_AND_TOUCHED};
 use mica_io::FreeGate;
 use mica_model::{Mode, Options};
 use mica_serve::{Front, SoloFront, serve_batch};
@@ -57,4 +57,10 @@ fn what_is_no_batch_is_refused(rt: HostRuntime) -> Result<(), Fail> {
         expect_new(&rt, from, BAD_BATCH)?;
     }
     Ok(())
+}
+
+// An add and a touch are of version 2 alone, and the reply is of the batch's version.
+#[test]
+fn an_add_and_a_touch_are_answered_in_version_2(rt: HostRuntime) -> Result<(), Fail> {
+    expect_new(&rt, ADD_AND_TOUCH, STORED_AND_TOUCHED)
 }

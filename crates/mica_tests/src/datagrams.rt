@@ -34,7 +34,7 @@ pub const TWO_MISSES: &[&[u8]] = &[
         \x01\x00\x00\x00\x02\x00\x00\x00\x01\x00\x00\x00\x00\x00\x00\x00",
 ];
 
-/// The batch with its end cut off, with a byte behind it, and with one byte changed; and the longest datagram that is too long.
+/// The batch with its end cut off, with a byte behind it, and with one byte changed; and the shortest datagram that is too long.
 pub static NO_BATCHES: [&[u8]; 9] = [
     b"\
         MICA\x01\x02\x07\x00\x00\x00\
@@ -67,8 +67,20 @@ pub static NO_BATCHES: [&[u8]; 9] = [
         MICA\x01\x02\x07\x00\x00\x00\
         \x01\x00\x01\x00\x01\x00\x00\x00a1\
         \x00\x01\x00\x00\x02\x00\x00\x00a",
-    &[0; 1_473],
+    &[0; 9_001],
 ];
+
+/// Number 7 in version 2: ticket 1 adds `1` at `a`, ticket 2 touches `a`.
+pub const ADD_AND_TOUCH: &[u8] = b"\
+    MICA\x02\x02\x07\x00\x00\x00\
+    \x03\x01\x01\x00\x01\x00\x00\x00a1\
+    \x04\x01\x00\x00\x02\x00\x00\x00a";
+
+/// The replies to it: stored with the stamp 1, and touched with the stamp 2.
+pub const STORED_AND_TOUCHED: &[u8] = b"\
+    MICR\x02\x02\x07\x00\x00\x00\
+    \x02\x00\x00\x00\x01\x00\x00\x00\x01\x00\x00\x00\x00\x00\x00\x00\
+    \x0c\x00\x00\x00\x02\x00\x00\x00\x02\x00\x00\x00\x00\x00\x00\x00";
 
 /// The reply to bytes that are no batch.
 pub const BAD_BATCH: &[u8] = b"\

@@ -1,25 +1,15 @@
-//! The tests of the commands and of the server, whose ends were found by hand or by another program: runs of the top call
-//! over bytes in memory, single datagrams, fronts beside each other, and datagrams over real sockets.
+//! The tests of the commands and of the server that rows of data can't say: workers that meet at a gate, a replay beside the plain
+//! machine, single datagrams, and datagrams over real sockets. The rows of the top call are the data of the program `rows`.
 #![tactic(auto)]
 
 #[cfg(test)]
 mod batches;
 #[cfg(test)]
-mod benches;
-#[cfg(test)]
-mod cache_replays;
-#[cfg(test)]
 mod datagrams;
 #[cfg(test)]
-mod faults;
-#[cfg(test)]
-mod generated_traces;
+mod exclusive;
 #[cfg(test)]
 mod meeting;
-#[cfg(test)]
-mod refused_traces;
-#[cfg(test)]
-mod refused_words;
 #[cfg(test)]
 mod rounds;
 #[cfg(test)]
@@ -28,7 +18,5 @@ mod runs;
 mod same_as_machine;
 #[cfg(test)]
 mod served;
-#[cfg(test)]
-mod store_replays;
 #[cfg(test)]
 mod udp;

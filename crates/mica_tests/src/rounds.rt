@@ -1,9 +1,9 @@
 //! Readers beside the owner in one round, and the calls of the gate.
 
 use crate::meeting::Meeting;
-use crate::runs::{OUTSIDE, is_one_of, run_words};
+use crate::runs::{is_one_of, run_words};
 use mica_cmd::Status;
-use mica_io::{FreeGate, Gate};
+use mica_io::Gate;
 use std::process::Abort;
 use std::sync::Wait;
 use std::sync::atomic::{AtomicU64, Ordering};
@@ -16,45 +16,25 @@ const ONE_READER: &str =
 const TWO_READERS: &str =
     "replay --mode store --partitions 1 --buckets 1 --spares 4 --words 1024 --readers 2 --tries 1000";
 
+const TWO_OWNERS: &str =
+    "replay --mode store --partitions 2 --buckets 1 --spares 4 --words 1024 --readers 1 --tries 1000";
+
 /// Two puts and two gets of one key in one round.
 const ONE_ROUND: &[u8] = b"put a 1\nput a 2\nget a\nget a\n";
 
-/// What may be reported of that round: each get is answered before the puts, between them or after them.
-static REPORTS: [&[u8]; 9] = [
-    b"put 1 stored\nput 2 stored\nget 0 miss\nget 0 miss\n",
-    b"put 1 stored\nput 2 stored\nget 0 miss\nget 1 hit 1\n",
-    b"put 1 stored\nput 2 stored\nget 0 miss\nget 2 hit 2\n",
-    b"put 1 stored\nput 2 stored\nget 1 hit 1\nget 0 miss\n",
+/// What may be reported of that round where the first get is answered between the puts.
+static REPORTS: [&[u8]; 2] = [
     b"put 1 stored\nput 2 stored\nget 1 hit 1\nget 1 hit 1\n",
     b"put 1 stored\nput 2 stored\nget 1 hit 1\nget 2 hit 2\n",
-    b"put 1 stored\nput 2 stored\nget 2 hit 2\nget 0 miss\n",
-    b"put 1 stored\nput 2 stored\nget 2 hit 2\nget 1 hit 1\n",
-    b"put 1 stored\nput 2 stored\nget 2 hit 2\nget 2 hit 2\n",
 ];
-
-/// Runs the round, whose report is one of these.
-fn expect_round<G: Gate>(
-    rt: &(impl Abort + AllocGlobal + Threads + Wait + Sync),
-    gate: &G,
-    words: &str,
-    reports: &[&[u8]],
-) -> Result<(), Fail> {
-    let end = run_words(rt, &OUTSIDE, gate, words, ONE_ROUND)?;
-    assert!(rt; end.status == Status::Done && is_one_of(end.sink.taken(), reports));
-    Ok(())
-}
-
-#[test]
-fn two_readers_answer_beside_the_owner(rt: HostRuntime) -> Result<(), Fail> {
-    expect_round(&rt, &FreeGate, TWO_READERS, &REPORTS)
-}
 
 // The reader is held before its first get until the owner came to its second write, and the owner there until the
 // reader came to its second get. So the first get is answered between the puts.
 #[test]
 fn the_workers_of_a_round_meet_at_the_gate(rt: HostRuntime) -> Result<(), Fail> {
     let gate = Meeting::new(0, 0, 1);
-    expect_round(&rt, &gate, ONE_READER, &REPORTS[3..6])?;
+    let end = run_words(&rt, &gate, ONE_READER, ONE_ROUND)?;
+    assert!(rt; end.status == Status::Done && is_one_of(end.sink.taken(), &REPORTS));
     assert!(rt; !gate.is_missed());
     Ok(())
 }
@@ -76,13 +56,14 @@ impl Gate for Counts {
 /// How often each worker calls the gate with each number.
 fn expect_calls(
     rt: &(impl Abort + AllocGlobal + Threads + Wait + Sync),
+    words: &str,
     input: &[u8],
     calls: u64,
 ) -> Result<(), Fail> {
     let gate = Counts {
         calls: AtomicU64::new(0),
     };
-    let end = run_words(rt, &OUTSIDE, &gate, TWO_READERS, input)?;
+    let end = run_words(rt, &gate, words, input)?;
     assert!(rt; end.status == Status::Done && gate.calls.load(Ordering::SeqCst) == calls);
     Ok(())
 }
@@ -94,13 +75,25 @@ fn each_worker_calls_the_gate_before_each_operation_and_once_more(
 ) -> Result<(), Fail> {
     expect_calls(
         &rt,
+        TWO_READERS,
         b"get a\nput a 1\nget a\nput a 2\nget a\n",
         0x0000_0111_0011_0111,
     )
 }
 
+// The workers are the reader and then the owners in the order of their partitions: of `foobar`, and of `a`.
+#[test]
+fn each_owner_calls_the_gate_behind_the_readers(rt: HostRuntime) -> Result<(), Fail> {
+    expect_calls(
+        &rt,
+        TWO_OWNERS,
+        b"get a\nput a 1\nget a\nput foobar 1\nput a 2\nget a\n",
+        0x0000_0111_0011_1111,
+    )
+}
+
 #[test]
 fn an_empty_round_is_run(rt: HostRuntime) -> Result<(), Fail> {
-    expect_calls(&rt, b"", 0x0000_0001_0001_0001)?;
-    expect_calls(&rt, b"sync\n", 0x0000_0002_0002_0002)
+    expect_calls(&rt, TWO_READERS, b"", 0x0000_0001_0001_0001)?;
+    expect_calls(&rt, TWO_READERS, b"sync\n", 0x0000_0002_0002_0002)
 }

@@ -1,8 +1,8 @@
 //! A replay in cache mode and the plain machine of cache mode, on the same drawn writes and gets.
 
-use crate::runs::{OUTSIDE, expect_between};
+use crate::runs::run_words;
 use mica_cmd::Status;
-use mica_io::NoMemory;
+use mica_io::{FreeGate, NoMemory};
 use mica_model::{Answer, CacheMachine, ItemBuf, Mode, Op, Options, Outcome, write_fits};
 use std::alloc::Global;
 use std::process::Abort;
@@ -18,14 +18,19 @@ static KEYS: [&[u8]; 40] = [
 ];
 
 // What a report says of the outcomes, in their order.
-static OUTCOMES: [&[u8]; 6] = [
+static OUTCOMES: [&[u8]; 8] = [
     b"stored",
     b"deleted",
     b"absent",
+    b"touched",
     b"full spare",
     b"full block",
     b"worn",
+    b"exists",
 ];
+
+// What begins the line of each operation, in their order.
+static OPS: [&[u8]; 4] = [b"put ", b"add ", b"touch ", b"del "];
 
 // The same of the answers, with what stands around it.
 static ANSWERS: [&[u8]; 2] = [b" hit ", b" miss"];
@@ -43,6 +48,10 @@ struct Asked {
 
 fn outcome_words(outcome: Outcome) -> &'static [u8] {
     OUTCOMES[outcome as usize]
+}
+
+fn op_words(op: Op) -> &'static [u8] {
+    OPS[op as usize]
 }
 
 fn answer_words(answer: Answer) -> &'static [u8] {
@@ -72,7 +81,7 @@ impl Asked {
         Ok(format!(in alloc; "{stamp}")?)
     }
 
-    /// Adds a write. A delete has no value.
+    /// Adds a write. A touch and a delete have no value.
     fn add_write(
         &mut self,
         rt: &(impl Abort + AllocGlobal),
@@ -83,16 +92,12 @@ impl Asked {
         assert!(rt; write_fits(op, key, value));
         let said = outcome_words(self.machine.apply(rt.alloc(), op, key, value)?);
         let stamp = self.stamp(rt.alloc())?;
-        match op {
-            Op::Put => {
-                add_line(&mut self.trace, b"put ", key, b" ", value)?;
-                add_line(&mut self.report, b"put ", stamp.as_bytes(), b" ", said)?;
-            }
-            Op::Del => {
-                add_line(&mut self.trace, b"del ", key, b"", value)?;
-                add_line(&mut self.report, b"del ", stamp.as_bytes(), b" ", said)?;
-            }
-        }
+        let gap = match op {
+            Op::Put | Op::Add => b" ".as_slice(),
+            Op::Touch | Op::Del => b"".as_slice(),
+        };
+        add_line(&mut self.trace, op_words(op), key, gap, value)?;
+        add_line(&mut self.report, op_words(op), stamp.as_bytes(), b" ", said)?;
         Ok(())
     }
 
@@ -122,12 +127,12 @@ impl Asked {
     /// Adds a write of one of the keys, or a get of it in a round of its own.
     fn add_drawn(&mut self, rt: &(impl Abort + AllocGlobal), draw: u64) -> Result<(), Fail> {
         let key = KEYS[(draw % 40) as usize];
-        match draw / 40 % 8 {
-            0..=3 => {
-                let len = (draw / 320 % 90) as usize;
-                self.add_write(rt, Op::Put, key, &LETTERS[..len])
-            }
-            4 => self.add_write(rt, Op::Del, key, b""),
+        let value = &LETTERS[..(draw / 400 % 90) as usize];
+        match draw / 40 % 10 {
+            0..=3 => self.add_write(rt, Op::Put, key, value),
+            4 => self.add_write(rt, Op::Add, key, value),
+            5 => self.add_write(rt, Op::Touch, key, b""),
+            6 => self.add_write(rt, Op::Del, key, b""),
             _ => {
                 self.add_sync()?;
                 self.add_get(rt.alloc(), key)?;
@@ -167,6 +172,7 @@ fn a_replay_says_what_the_machine_says(rt: HostRuntime) -> Result<(), Fail> {
             .wrapping_add(1_442_695_040_888_963_407);
         asked.add_drawn(&rt, (state >> 33) % 0x4000_0000)?;
     }
-    let (trace, report) = (asked.trace.as_slice(), asked.report.as_slice());
-    expect_between(&rt, &OUTSIDE, WORDS, trace, Status::Done, report)
+    let end = run_words(&rt, &FreeGate, WORDS, asked.trace.as_slice())?;
+    assert!(rt; end.status == Status::Done && end.sink.taken() == asked.report.as_slice());
+    Ok(())
 }

@@ -1,0 +1,10 @@
+use Rattle.std.proofs.Common.{◌≡◌, true}
+use Rattle.mica_io.specs.Ports.{takes_datagram}
+use Rattle.mica_io.specs.MemoryPorts.{ports_in}
+use Rattle.rows.proofs.run.add_peer.Given as goal
+
+abbrev pub invariant-loop-datagram : goal.invariant-loop-datagram
+invariant-loop-datagram l = record {
+  takes : takes_datagram (ports_in l.net.ports.items l.port) ≡ true;
+  binds : l.net.binds ≡ l.initial.net.binds;
+}
