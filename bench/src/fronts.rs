@@ -3,7 +3,7 @@
 use crate::hash::{key_hash, partition_of};
 use crate::machine::{Options, Outcome};
 use crate::number_of;
-use crate::packets::{MOST, Replies, Request, read_batch, status_of};
+use crate::packets::{Head, LONGEST, LONGEST_VALUE, Replies, Request, read_batch, status_of};
 use crate::table::{Owner, Table};
 use std::collections::HashMap;
 use std::error::Error;
@@ -44,8 +44,8 @@ fn run_owner(mut owner: Owner<'_>, jobs: &Receiver<Job>, acks: &[SyncSender<Ack>
 
 fn replies_to(front: usize, parts: &[Part<'_>], datagram: &[u8], value: &mut Vec<u8>) -> Replies {
     let mut replies = Replies::default();
-    let Some((number, requests)) = read_batch(datagram) else {
-        replies.push(0, 9, 0, 0, b"");
+    let Some((head, requests)) = read_batch(datagram) else {
+        replies.push(&Head { version: 1, number: 0 }, 9, 0, 0, b"");
         return replies;
     };
     for (ticket, request) in requests {
@@ -56,7 +56,7 @@ fn replies_to(front: usize, parts: &[Part<'_>], datagram: &[u8], value: &mut Vec
             Request::Get { .. } => {
                 value.clear();
                 let (stamp, is_hit) = part.table.get(hash, key, value);
-                replies.push(number, u8::from(!is_hit), ticket, stamp, if is_hit { value } else { b"" });
+                replies.push(&head, u8::from(!is_hit), ticket, stamp, if is_hit { value } else { b"" });
                 continue;
             }
             Request::Put { value, .. } => Some(value.to_vec()),
@@ -64,14 +64,14 @@ fn replies_to(front: usize, parts: &[Part<'_>], datagram: &[u8], value: &mut Vec
         };
         part.jobs.send(Job { front, hash, key: key.to_vec(), value: written }).expect("an owner");
         let (outcome, stamp) = part.acks.recv().expect("an owner");
-        replies.push(number, status_of(outcome), ticket, stamp, b"");
+        replies.push(&head, status_of(outcome), ticket, stamp, b"");
     }
     replies
 }
 
 fn run_front(front: usize, parts: &[Part<'_>], socket: &UdpSocket, batches: u64) -> io::Result<()> {
-    let mut room = [0; MOST + 1];
-    let mut value = Vec::with_capacity(1_024);
+    let mut room = [0; LONGEST + 1];
+    let mut value = Vec::with_capacity(LONGEST_VALUE);
     for _ in 0..batches {
         let (len, peer) = socket.recv_from(&mut room)?;
         for reply in replies_to(front, parts, &room[..len], &mut value).datagrams {

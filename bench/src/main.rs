@@ -1,12 +1,14 @@
 //! Plain Rust of the same rules as `mica`, to measure beside it: `replay` answers each line at its place on one
-//! thread, `rounds` and `queues` run owners and readers in threads over tables of atomic words, `values` does so over
-//! lines that own their bytes, `gen` prints a trace, `serve` answers datagrams on one thread, `fronts` at many ports
+//! thread, `rounds` and `queues` run owners and readers in threads over tables of atomic words, `kept` starts these threads
+//! once, `values` does as `queues` over lines that own their bytes, `gen` prints a trace, `serve` answers datagrams on one thread, `fronts` at many ports
 //! with owners in threads, and `load` sends them.
 
 mod cache;
 mod fronts;
 mod generate;
 mod hash;
+mod kept;
+mod load;
 mod machine;
 mod packets;
 mod rounds;
@@ -142,6 +144,7 @@ fn report(command: &str, options: &Options) -> Result<Vec<u8>, Box<dyn Error>> {
     Ok(match (command, options.mode) {
         ("rounds", _) => rounds::run(options, &lines, Feed::Lists),
         ("queues", _) => rounds::run(options, &lines, Feed::Queues),
+        ("kept", _) => kept::run(options, &lines),
         ("values", _) => values::run(options, &lines),
         (_, Mode::Cache) => replay(&mut make(options, Cache::new), &lines),
         (_, Mode::Store) => replay(&mut make(options, Store::new), &lines),
@@ -149,13 +152,13 @@ fn report(command: &str, options: &Options) -> Result<Vec<u8>, Box<dyn Error>> {
 }
 
 fn run(words: &[String]) -> Result<(), Box<dyn Error>> {
-    const COMMANDS: &str = "replay, rounds, queues, values, gen, serve, fronts or load";
+    const COMMANDS: &str = "replay, rounds, queues, kept, values, gen, serve, fronts or load";
     let (command, rest) = words.split_first().ok_or(COMMANDS)?;
     let words = read_options(rest)?;
     let out = match command.as_str() {
         "gen" => generate::trace_of(&words)?,
-        "load" => server::load(&words)?,
-        "replay" | "rounds" | "queues" | "values" => report(command, &options_of(&words)?)?,
+        "load" => load::load(&words)?,
+        "replay" | "rounds" | "queues" | "kept" | "values" => report(command, &options_of(&words)?)?,
         "fronts" => fronts::serve(&words, &options_of(&words)?)?,
         "serve" => {
             let options = options_of(&words)?;

@@ -1,9 +1,11 @@
-//! Datagrams of version 1: batches of requests, and replies to them.
+//! Datagrams: batches of requests and replies to them, as the servers here read them in both versions, of gets, puts and deletes.
 
 use crate::machine::Outcome;
 
-/// The most bytes of a datagram.
-pub const MOST: usize = 1_472;
+/// The most bytes of a datagram of any version.
+pub const LONGEST: usize = 9_000;
+/// The most bytes of a value.
+pub const LONGEST_VALUE: usize = 8_192;
 const HEADER: usize = 10;
 
 pub enum Request<'a> {
@@ -16,10 +18,22 @@ fn number_at(bytes: &[u8], at: usize) -> Option<u32> {
     Some(u32::from_le_bytes(bytes.get(at..at + 4)?.try_into().ok()?))
 }
 
-/// The number of a batch, and its requests with their tickets.
-pub fn read_batch(bytes: &[u8]) -> Option<(u32, Vec<(u32, Request<'_>)>)> {
-    let count = *bytes.get(5)?;
-    if bytes.len() > MOST || &bytes[..5] != b"MICA\x01" || count == 0 {
+/// The most bytes of a datagram and of a value.
+fn limits(version: u8) -> (usize, usize) {
+    if version == 1 { (1_472, 1_024) } else { (LONGEST, LONGEST_VALUE) }
+}
+
+/// The version and the number of a batch.
+pub struct Head {
+    pub version: u8,
+    pub number: u32,
+}
+
+/// What a batch begins with, and its requests with their tickets.
+pub fn read_batch(bytes: &[u8]) -> Option<(Head, Vec<(u32, Request<'_>)>)> {
+    let (version, count) = (*bytes.get(4)?, *bytes.get(5)?);
+    let (most, longest) = limits(version);
+    if bytes.len() > most || &bytes[..4] != b"MICA" || !matches!(version, 1 | 2) || count == 0 {
         return None;
     }
     let number = number_at(bytes, 6)?;
@@ -32,7 +46,7 @@ pub fn read_batch(bytes: &[u8]) -> Option<(u32, Vec<(u32, Request<'_>)>)> {
         let (key, value) = rest.get(8..8 + key_len + value_len)?.split_at(key_len);
         let request = match rest[0] {
             0 if value_len == 0 => Request::Get { key },
-            1 if value_len <= 1_024 => Request::Put { key, value },
+            1 if value_len <= longest => Request::Put { key, value },
             2 if value_len == 0 => Request::Del { key },
             _ => return None,
         };
@@ -42,7 +56,7 @@ pub fn read_batch(bytes: &[u8]) -> Option<(u32, Vec<(u32, Request<'_>)>)> {
         requests.push((ticket, request));
         rest = &rest[8 + key_len + value_len..];
     }
-    rest.is_empty().then_some((number, requests))
+    rest.is_empty().then_some((Head { version, number }, requests))
 }
 
 /// Replies in datagrams, each filled before the next one begins.
@@ -52,12 +66,15 @@ pub struct Replies {
 }
 
 impl Replies {
-    pub fn push(&mut self, number: u32, status: u8, ticket: u32, stamp: u64, value: &[u8]) {
-        let has_room = |datagram: &Vec<u8>| datagram.len() + 16 + value.len() <= MOST && datagram[5] < 255;
+    pub fn push(&mut self, head: &Head, status: u8, ticket: u32, stamp: u64, value: &[u8]) {
+        let (most, longest) = limits(head.version);
+        let (status, value) = if value.len() > longest { (10, b"".as_slice()) } else { (status, value) };
+        let has_room = |datagram: &Vec<u8>| datagram.len() + 16 + value.len() <= most && datagram[5] < 255;
         if !self.datagrams.last().is_some_and(has_room) {
-            let mut datagram = Vec::with_capacity(MOST);
-            datagram.extend_from_slice(b"MICR\x01\x00");
-            datagram.extend_from_slice(&number.to_le_bytes());
+            let mut datagram = Vec::with_capacity(most);
+            datagram.extend_from_slice(b"MICR");
+            datagram.extend_from_slice(&[head.version, 0]);
+            datagram.extend_from_slice(&head.number.to_le_bytes());
             self.datagrams.push(datagram);
         }
         let Some(datagram) = self.datagrams.last_mut() else {
@@ -84,10 +101,10 @@ pub fn status_of(outcome: Outcome) -> u8 {
 }
 
 /// A batch of requests, each an operation, a key and a value.
-pub fn batch_of(number: u32, requests: &[(u8, Vec<u8>, Vec<u8>)]) -> Vec<u8> {
-    let mut bytes = Vec::with_capacity(MOST);
-    bytes.extend_from_slice(b"MICA\x01");
-    bytes.push(requests.len() as u8);
+pub fn batch_of(version: u8, number: u32, requests: &[(u8, &[u8], &[u8])]) -> Vec<u8> {
+    let mut bytes = Vec::with_capacity(limits(version).0);
+    bytes.extend_from_slice(b"MICA");
+    bytes.extend_from_slice(&[version, requests.len() as u8]);
     bytes.extend_from_slice(&number.to_le_bytes());
     for (ticket, (op, key, value)) in requests.iter().enumerate() {
         bytes.extend_from_slice(&[*op, key.len() as u8]);

@@ -2,6 +2,7 @@
 
 use crate::hash::{key_hash, partition_of};
 use crate::machine::{Options, Outcome};
+use crate::packets::LONGEST_VALUE;
 use crate::table::{Owner, Table};
 use crate::trace::Line;
 use crate::{put_get, put_write};
@@ -20,11 +21,11 @@ pub enum Feed {
     Queues,
 }
 
-type Write<'a> = (u64, Line<'a>);
+pub type Write<'a> = (u64, Line<'a>);
 
 /// A line's text lies in its worker's buffer, one after another.
 #[derive(Default)]
-struct Printed {
+pub struct Printed {
     text: Vec<u8>,
     ends: Vec<usize>,
 }
@@ -35,7 +36,7 @@ impl Printed {
     }
 }
 
-fn run_owner<'a>(owner: &mut Owner<'_>, count: usize, writes: impl Iterator<Item = Write<'a>>) -> Vec<(Outcome, u64)> {
+pub fn run_owner<'a>(owner: &mut Owner<'_>, count: usize, writes: impl Iterator<Item = Write<'a>>) -> Vec<(Outcome, u64)> {
     let mut replies = Vec::with_capacity(count);
     for (hash, line) in writes {
         let outcome = match line {
@@ -48,9 +49,9 @@ fn run_owner<'a>(owner: &mut Owner<'_>, count: usize, writes: impl Iterator<Item
     replies
 }
 
-fn run_reader(tables: &[Table], gets: &[(u64, &[u8])]) -> Printed {
+pub fn run_reader(tables: &[Table], gets: &[(u64, &[u8])]) -> Printed {
     let mut printed = Printed::default();
-    let mut value = Vec::with_capacity(1_024);
+    let mut value = Vec::with_capacity(LONGEST_VALUE);
     for &(hash, key) in gets {
         value.clear();
         let (stamp, is_hit) = tables[partition_of(hash, tables.len())].get(hash, key, &mut value);
@@ -64,9 +65,42 @@ fn run_reader(tables: &[Table], gets: &[(u64, &[u8])]) -> Printed {
 }
 
 /// Sends each write to the queue of its partition, in order.
-fn feed<'a>(jobs: Vec<Write<'a>>, queues: Vec<SyncSender<Write<'a>>>) {
+pub fn feed<'a>(jobs: Vec<Write<'a>>, queues: Vec<SyncSender<Write<'a>>>) {
     for job in jobs {
         queues[partition_of(job.0, queues.len())].send(job).expect("an owner");
+    }
+}
+
+/// The lines of a round, shared out: how many writes each partition has, the writes in order, and the gets of each reader.
+pub struct Shares<'a> {
+    pub counts: Vec<usize>,
+    pub writes: Vec<Write<'a>>,
+    pub gets: Vec<Vec<(u64, &'a [u8])>>,
+}
+
+impl<'a> Shares<'a> {
+    /// The gets go to the readers in turn, from this number on, which is raised by each.
+    pub fn of(options: &Options, round: &[Line<'a>], next_get: &mut usize) -> Shares<'a> {
+        let mut shares = Shares {
+            counts: vec![0; options.partitions],
+            writes: Vec::new(),
+            gets: vec![Vec::new(); options.readers],
+        };
+        for &line in round {
+            match line {
+                Line::Put { key, .. } | Line::Del { key } => {
+                    let hash = key_hash(key);
+                    shares.counts[partition_of(hash, options.partitions)] += 1;
+                    shares.writes.push((hash, line));
+                }
+                Line::Get { key } => {
+                    shares.gets[*next_get % options.readers].push((key_hash(key), key));
+                    *next_get += 1;
+                }
+                Line::Sync => (),
+            }
+        }
+        shares
     }
 }
 
@@ -76,38 +110,21 @@ pub fn run(options: &Options, lines: &[Line<'_>], fed: Feed) -> Vec<u8> {
     let mut out = Vec::with_capacity(32 * lines.len());
     let mut next_get = 0;
     for round in lines.split_inclusive(|line| matches!(line, Line::Sync)) {
-        let mut counts = vec![0; options.partitions];
-        let mut writes = vec![Vec::new(); options.partitions];
-        let mut jobs = Vec::new();
-        let mut gets = vec![Vec::new(); options.readers];
         let first_get = next_get;
-        for &line in round {
-            match line {
-                Line::Put { key, .. } | Line::Del { key } => {
-                    let hash = key_hash(key);
-                    let partition = partition_of(hash, options.partitions);
-                    counts[partition] += 1;
-                    match fed {
-                        Feed::Lists => writes[partition].push((hash, line)),
-                        Feed::Queues => jobs.push((hash, line)),
-                    }
-                }
-                Line::Get { key } => {
-                    gets[next_get % options.readers].push((key_hash(key), key));
-                    next_get += 1;
-                }
-                Line::Sync => (),
-            }
+        let Shares { counts, writes, gets } = Shares::of(options, round, &mut next_get);
+        let mut lists = vec![Vec::new(); options.partitions];
+        if fed == Feed::Lists {
+            writes.iter().for_each(|write| lists[partition_of(write.0, options.partitions)].push(*write));
         }
-        let (tables, writes, gets) = (&tables, &writes, &gets);
+        let (tables, lists, gets) = (&tables, &lists, &gets);
         let (replies, printed): (Vec<_>, Vec<_>) = thread::scope(|scope| {
             let mut queues = Vec::new();
             let owners: Vec<_> = owners
                 .iter_mut()
-                .zip(writes)
+                .zip(lists)
                 .zip(counts)
-                .map(|((owner, writes), count)| match fed {
-                    Feed::Lists => scope.spawn(move || run_owner(owner, count, writes.iter().copied())),
+                .map(|((owner, list), count)| match fed {
+                    Feed::Lists => scope.spawn(move || run_owner(owner, count, list.iter().copied())),
                     Feed::Queues => {
                         let (sender, receiver): (_, Receiver<Write<'_>>) = sync_channel(WAITING);
                         queues.push(sender);
@@ -116,7 +133,7 @@ pub fn run(options: &Options, lines: &[Line<'_>], fed: Feed) -> Vec<u8> {
                 })
                 .collect();
             if fed == Feed::Queues {
-                scope.spawn(move || feed(jobs, queues));
+                scope.spawn(move || feed(writes, queues));
             }
             let readers: Vec<_> = gets.iter().map(|gets| scope.spawn(move || run_reader(tables, gets))).collect();
             (
@@ -125,14 +142,11 @@ pub fn run(options: &Options, lines: &[Line<'_>], fed: Feed) -> Vec<u8> {
             )
         });
         merge(round, first_get, &replies, &printed, &mut out);
-        if round.is_empty() {
-            break;
-        }
     }
     out
 }
 
-fn merge(
+pub fn merge(
     round: &[Line<'_>],
     first_get: usize,
     replies: &[Vec<(Outcome, u64)>],

@@ -2,6 +2,7 @@
 
 use crate::hash::{bucket_of, item_size, tag_of};
 use crate::machine::{Mode, Options, Outcome};
+use crate::packets::LONGEST_VALUE;
 use std::sync::atomic::{AtomicU64, Ordering::SeqCst};
 
 const SLOTS: usize = 15;
@@ -77,7 +78,7 @@ impl Table {
         let header = self.load(self.item_at(offset));
         let len = (header >> 32) as usize;
         let is_key = (header >> 16) as usize & 0xffff == key.len()
-            && len <= 1_024
+            && len <= LONGEST_VALUE
             && self.load(self.item_at(offset + 1)) == hash
             && (2..).zip(key.chunks(8)).all(|(at, part)| self.load(self.item_at(offset + at)) == word_of(part));
         is_key.then_some(len)

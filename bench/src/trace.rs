@@ -1,5 +1,6 @@
 //! Traces: one line an operation.
 
+use crate::packets::LONGEST_VALUE;
 use std::fmt;
 
 #[derive(Clone, Copy)]
@@ -32,7 +33,7 @@ impl fmt::Display for TraceFault {
 const MAX_LINES: usize = 100_000;
 const MAX_SYNCS: usize = 4_095;
 const MAX_KEY: usize = 255;
-const MAX_VALUE: usize = 1_024;
+const MAX_VALUE: usize = LONGEST_VALUE;
 const MAX_LINE: usize = 4 + MAX_KEY + 1 + MAX_VALUE;
 
 fn is_key(text: &[u8]) -> bool {

@@ -2,6 +2,7 @@
 
 use crate::hash::{key_hash, partition_of};
 use crate::machine::{Options, Outcome};
+use crate::packets::LONGEST_VALUE;
 use crate::rounds::WAITING;
 use crate::table::{Owner, Table};
 use crate::trace;
@@ -62,7 +63,7 @@ fn run_owner(owner: &mut Owner<'_>, count: usize, writes: Receiver<Write>) -> Ve
 
 fn run_reader(tables: &[Table], trace: &[TraceLine], gets: &[usize]) -> Vec<Line> {
     let mut lines = Vec::with_capacity(gets.len());
-    let mut value = Vec::with_capacity(1_024);
+    let mut value = Vec::with_capacity(LONGEST_VALUE);
     for &number in gets {
         let key = &trace[number].key;
         let hash = key_hash(key);
