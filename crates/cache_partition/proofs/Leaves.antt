@@ -1,8 +1,8 @@
 -- What a step of the cache machine leaves: of the records once the write is made those that the log has not passed, but for one that is displaced.
 -- And how many of them the written bucket has: as many as it has live slots, and the written key's own.
-use Rattle.mica_model.specs.CacheStep as cs
-use Rattle.mica_model.proofs.Found as found
-use Rattle.mica_model.proofs.Laid as laid
+use Rattle.partition_model.specs.CacheStep as cs
+use Rattle.partition_model.proofs.Found as found
+use Rattle.partition_model.proofs.Laid as laid
 use Rattle.cache_partition.proofs.Words.{AllOf, Bool, Cache, Del, HasNoSlot, IsDistinct, IsDistinct-cons, IsLaid, IsUnique, IsWrite, IsWritten, List}
 use Rattle.cache_partition.proofs.Words.{None, Op, Option, Put, Touch, Record, SLOTS, Some, StandsFor, Write, [], after_write_is, all_filter, all_passes}
 use Rattle.cache_partition.proofs.Words.{all_weaker, ap, arith, bucket_in, cases_Bool, cases_lt, cond, count_by, count_cons, entry_in, entry_offset}

@@ -1,5 +1,5 @@
 -- Where a write changes one slot of its bucket, the words stand for the machine's state after it.
-use Rattle.mica_model.specs.CacheStep as cs
+use Rattle.partition_model.specs.CacheStep as cs
 use Rattle.cache_partition.proofs.Words.{AcceptedWrite, Cache, Cell, GivesWay, Has, HasLiveEntry, HasNoSlot, HoldsOfNone, IsOffset, IsPassed}
 use Rattle.cache_partition.proofs.Words.{Keeps, Kept, List, Mode, None, Option, OwnerState, PutsEntry, Record, SLOTS, Some, Spells, StandsFor, State, []}
 use Rattle.cache_partition.proofs.Words.{after, alone, ap, arith, bucket_in, cache_state, cell_at, count_by, dite, empty, entry_in, entry_offset}

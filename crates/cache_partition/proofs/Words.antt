@@ -20,28 +20,28 @@ pub use Rattle.mica_words.specs.Hash.{hash_bucket, hash_tag, tag_of}
 pub use Rattle.mica_words.specs.declared.entry.TheConstants.{SLOTS}
 pub use Rattle.mica_words.specs.Spelling.{item_words}
 pub use Rattle.mica_words.specs.Stamp.{tail_of}
-pub use Rattle.mica_model.proofs.CacheKept.{IsKept, IsWritten, after_write_is, here_of, keeps_put, left_of, live_of, others_lack, tail_past}
-pub use Rattle.mica_model.proofs.CacheKept.{rewritten, rewritten_key}
-pub use Rattle.mica_model.proofs.CacheLaws.{appended_own, fits_kept, kept_in, reply_fits, touched_is, window_kept, written_same}
-pub use Rattle.mica_model.proofs.FateLaws.{miss_is_not_held}
-pub use Rattle.mica_model.proofs.Found.{all_filter, all_passes, all_weaker, count_cons, found_has, missed_all}
-pub use Rattle.mica_model.proofs.Histories.{accepted_is_length}
-pub use Rattle.mica_model.proofs.Laid.{IsLaid, found_key, has_its_key as is_its_key, has_other_key, laid_found}
-pub use Rattle.mica_model.proofs.Rises.{stamp_rises}
-pub use Rattle.mica_model.proofs.Stamps.{stamp_small}
-pub use Rattle.mica_model.specs.Answer.{IsAnswer}
-pub use Rattle.mica_model.specs.Cache.{Cache, Record, has_key, is_live, record_of}
-pub use Rattle.mica_model.specs.CacheFields.{IsUnique}
-pub use Rattle.mica_model.specs.CacheStep.{kept_record, new_record, others, reply_of, without_first}
-pub use Rattle.mica_model.specs.History.{Allows, accepted_in, after as state_after, stamp_in as stamp_of_state}
-pub use Rattle.mica_model.specs.Limits.{most_stamp}
-pub use Rattle.mica_model.specs.Write.{IsWrite, is_accepted, size_of, write_of}
-pub use Rattle.mica_model.specs.declared.options.Options.{Options}
-pub use Rattle.mica_model.specs.declared.write.Answer.{Answer}
-pub use Rattle.mica_model.specs.declared.write.Op.{Op}
-pub use Rattle.mica_model.specs.declared.write.Op.TheVariants.{Add, Del, Put, Touch}
-pub use Rattle.mica_model.specs.declared.write.Outcome.{Outcome}
-pub use Rattle.mica_model.specs.declared.write.Outcome.TheVariants.{Absent, Deleted, Exists, FullBlock, Stored, Touched, Worn}
+pub use Rattle.partition_model.proofs.CacheKept.{IsKept, IsWritten, after_write_is, here_of, keeps_put, left_of, live_of, others_lack, tail_past}
+pub use Rattle.partition_model.proofs.CacheKept.{rewritten, rewritten_key}
+pub use Rattle.partition_model.proofs.CacheLaws.{appended_own, fits_kept, kept_in, reply_fits, touched_is, window_kept, written_same}
+pub use Rattle.partition_model.proofs.FateLaws.{miss_is_not_held}
+pub use Rattle.partition_model.proofs.Found.{all_filter, all_passes, all_weaker, count_cons, found_has, missed_all}
+pub use Rattle.partition_model.proofs.Histories.{accepted_is_length}
+pub use Rattle.partition_model.proofs.Laid.{IsLaid, found_key, has_its_key as is_its_key, has_other_key, laid_found}
+pub use Rattle.partition_model.proofs.Rises.{stamp_rises}
+pub use Rattle.partition_model.proofs.Stamps.{stamp_small}
+pub use Rattle.partition_model.specs.Answer.{IsAnswer}
+pub use Rattle.partition_model.specs.Cache.{Cache, Record, has_key, is_live, record_of}
+pub use Rattle.partition_model.specs.Records.{IsUnique}
+pub use Rattle.partition_model.specs.CacheStep.{kept_record, new_record, others, reply_of, without_first}
+pub use Rattle.partition_model.specs.History.{Allows, accepted_in, after as state_after, stamp_in as stamp_of_state}
+pub use Rattle.partition_model.specs.Limits.{most_stamp}
+pub use Rattle.partition_model.specs.Write.{IsWrite, is_accepted, size_of, write_of}
+pub use Rattle.partition_model.specs.declared.options.Options.{Options}
+pub use Rattle.partition_model.specs.declared.write.Answer.{Answer}
+pub use Rattle.partition_model.specs.declared.write.Op.{Op}
+pub use Rattle.partition_model.specs.declared.write.Op.TheVariants.{Add, Del, Put, Touch}
+pub use Rattle.partition_model.specs.declared.write.Outcome.{Outcome}
+pub use Rattle.partition_model.specs.declared.write.Outcome.TheVariants.{Absent, Deleted, Exists, FullBlock, Stored, Touched, Worn}
 pub use Rattle.epoch_core.proofs.Vocabulary.{AreBytes, Bool, Cache as CacheMode, Cell, Has, HasLiveEntry, IfSome, IsLiveItem, IsMain, Kept, KeyFits}
 pub use Rattle.epoch_core.proofs.Vocabulary.{List, MayGive, Mode, None, Option, Some, Spells, StandsFor, State, Write, [], after, answer_of, ap}
 pub use Rattle.epoch_core.proofs.Vocabulary.{arith, bucket_in, cache_state, cached_in, cases_lt, cell_at, cond, count_by, dite, entry_in, eq-eqb}

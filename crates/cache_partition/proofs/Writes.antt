@@ -1,5 +1,5 @@
 -- A write from its begin to its end: when its events may happen, and what it has made of the partition.
-use Rattle.mica_model.specs.CacheStep as cs
+use Rattle.partition_model.specs.CacheStep as cs
 use Rattle.std.proofs.lemmas.Grind.{common_steps}
 use Rattle.cache_partition.proofs.Words.{AcceptedWrite, Add, Allows, AppendsBy, AppendsValue, Carries, FullBlock, IsItem, IsTaken, IsTouchOf, Stored, Touch, appended_own, found_key, offset_in, refused_step, spelt_item, tail_past, touched_is, window_kept}
 use Rattle.cache_partition.proofs.Words.{Allows, AreBytes, Begins, Bool, Cache, CacheMode, Del, Ends, Gains, HasNoSlot, Idle, IsMain}

@@ -1,7 +1,7 @@
 -- One accepted write, from a state between writes to the next one.
 use Rattle.std.specs.Prelude.{◌≡◌, ℕ, ◌<◌, ◌∷◌, [], ◌++◌, length}
-use Rattle.mica_model.specs.declared.options.Mode.TheVariants.{Cache}
-use Rattle.mica_model.specs.declared.write.Write.{Write}
+use Rattle.partition_model.specs.declared.options.Mode.TheVariants.{Cache}
+use Rattle.partition_model.specs.declared.write.Write.{Write}
 use Rattle.epoch_core.specs.declared.state.OwnerState.{OwnerState}
 use Rattle.epoch_core.specs.declared.state.Phase.TheVariants.{Idle}
 use Rattle.epoch_core.specs.declared.event.Event.TheVariants.{Begins, Marks}

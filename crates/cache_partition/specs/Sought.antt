@@ -1,12 +1,12 @@
 -- What the words tell of a key before a write.
 use Rattle.std.specs.Prelude.{◌≡◌, ℕ, Bool, true, false, List, Option, None, IfSome, MatchOption, is_some, option_map}
 use Rattle.mica_words.specs.Hash.{fnv1a}
-use Rattle.mica_model.specs.declared.options.Options.{Options}
-use Rattle.mica_model.specs.declared.write.Write.{Write}
-use Rattle.mica_model.specs.Cache.{record_of}
-use Rattle.mica_model.specs.CacheStep.{kept_record, new_record, after_append, after_write, reply_of}
-use Rattle.mica_model.specs.Write.{is_accepted}
-use Rattle.mica_model.specs.History.{State, cache_state, store_state}
+use Rattle.partition_model.specs.declared.options.Options.{Options}
+use Rattle.partition_model.specs.declared.write.Write.{Write}
+use Rattle.partition_model.specs.Cache.{record_of}
+use Rattle.partition_model.specs.CacheStep.{kept_record, new_record, after_append, after_write, reply_of}
+use Rattle.partition_model.specs.Write.{is_accepted}
+use Rattle.partition_model.specs.History.{State, cache_state, store_state}
 use Rattle.epoch_core.specs.declared.state.OwnerState.{OwnerState}
 use Rattle.epoch_core.specs.OwnerState.{stamp_in, options_in, state_in, bucket_in}
 use Rattle.cache_partition.specs.declared.seeking.Sought.{Sought}

@@ -1,13 +1,13 @@
 //! The partition and its calls.
 ghost use Rattle.std.specs.Prelude.{◌≡◌, ◌≢◌, [], length, nat_le};
 ghost use Rattle.mica_words.specs.Item.{KeyFits, ValueFits, item_size as item_size_of};
-ghost use Rattle.mica_model.specs.Answer.{IsAnswer};
-ghost use Rattle.mica_model.specs.Fate.{fate_of};
-ghost use Rattle.mica_model.specs.declared.fate.Fate.TheVariants.{Held};
-ghost use Rattle.mica_model.specs.declared.options.Mode.TheVariants.{Cache};
-ghost use Rattle.mica_model.specs.declared.write.Op.TheVariants.{Add, Touch};
-ghost use Rattle.mica_model.specs.Write.{write_of};
-ghost use Rattle.mica_model.specs.History.{stamp_of, answer_of};
+ghost use Rattle.partition_model.specs.Answer.{IsAnswer};
+ghost use Rattle.partition_model.specs.Fate.{fate_of};
+ghost use Rattle.partition_model.specs.declared.fate.Fate.TheVariants.{Held};
+ghost use Rattle.partition_model.specs.declared.options.Mode.TheVariants.{Cache};
+ghost use Rattle.partition_model.specs.declared.write.Op.TheVariants.{Add, Touch};
+ghost use Rattle.partition_model.specs.Write.{write_of};
+ghost use Rattle.partition_model.specs.History.{stamp_of, answer_of};
 ghost use Rattle.epoch_core.specs.declared.state.Phase.TheVariants.{Idle};
 ghost use Rattle.epoch_core.specs.Shape.{IsValidShape};
 ghost use Rattle.epoch_core.specs.OwnerState.{options_in, as_made};
@@ -20,8 +20,8 @@ use crate::touching::touch;
 use crate::writing::{put, put_at_tail};
 use epoch_core::{LendPartition, LendWords, OwnerWords, Partition};
 use mica_io::NoMemory;
-use mica_model::{Answer, ItemBuf, Op, Outcome};
 use mica_words::item_size;
+use partition_model::{Answer, ItemBuf, Op, Outcome};
 
 /// A partition over an owner's words, with its stamp and the number of accepted writes at hand.
 #[derive(Drop)]

@@ -2,8 +2,8 @@
 ghost use Rattle.std.specs.Prelude.{◌≡◌, ◌++◌, ◌∷◌, []};
 ghost use Rattle.mica_words.specs.Hash.{fnv1a};
 ghost use Rattle.mica_words.specs.Item.{KeyFits};
-ghost use Rattle.mica_model.specs.Write.{IsWrite, write_of};
-ghost use Rattle.mica_model.specs.History.{stamp_of};
+ghost use Rattle.partition_model.specs.Write.{IsWrite, write_of};
+ghost use Rattle.partition_model.specs.History.{stamp_of};
 ghost use Rattle.epoch_core.specs.Shape.{IsMain};
 ghost use Rattle.epoch_core.specs.OwnerState.{options_in, bucket_in};
 ghost use Rattle.epoch_core.specs.Kept.{Kept};
@@ -12,8 +12,8 @@ ghost use Rattle.cache_partition.specs.Sought.{IsSought, IsTaken};
 
 use epoch_core::{OwnerWords, WordAt};
 use lossy_index::find_hashed;
-use mica_model::Op;
 use mica_words::{bucket_of, key_hash};
+use partition_model::Op;
 
 /// A key's hash, its bucket, its slot there if it has one, with the offset in the slot's entry, and the stamp.
 #[derive(Drop)]

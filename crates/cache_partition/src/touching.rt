@@ -1,9 +1,9 @@
 //! A touch, by its events: the key's item is carried to the tail of the log, where it has one.
 ghost use Rattle.std.specs.Prelude.{◌≡◌, [], Some, None};
 ghost use Rattle.mica_words.specs.Item.{KeyFits};
-ghost use Rattle.mica_model.specs.declared.write.Op.TheVariants.{Touch};
-ghost use Rattle.mica_model.specs.Write.{IsWrite, write_of};
-ghost use Rattle.mica_model.specs.History.{stamp_of};
+ghost use Rattle.partition_model.specs.declared.write.Op.TheVariants.{Touch};
+ghost use Rattle.partition_model.specs.Write.{IsWrite, write_of};
+ghost use Rattle.partition_model.specs.History.{stamp_of};
 ghost use Rattle.epoch_core.specs.OwnerState.{options_in};
 ghost use Rattle.epoch_core.specs.Kept.{Kept};
 ghost use Rattle.cache_partition.specs.Gained.{MayWrite, Gains};
@@ -13,8 +13,8 @@ use crate::seeking::{Sought, begin, seek};
 use circular_log::{carry, size_at};
 use epoch_core::OwnerWords;
 use lossy_index::place;
-use mica_model::Op;
 use mica_words::{tag_of, tail_of};
+use partition_model::Op;
 
 /// What a touch gives: the new stamp, and whether the key has a record.
 #[derive(Drop)]

@@ -1,9 +1,9 @@
 //! A put or an add, by its events: in the room that the key's item has, else at the tail of the log.
 ghost use Rattle.std.specs.Prelude.{◌≡◌, Some, None};
 ghost use Rattle.mica_words.specs.Item.{KeyFits, ValueFits};
-ghost use Rattle.mica_model.specs.declared.write.Op.TheVariants.{Put};
-ghost use Rattle.mica_model.specs.Write.{GivesValue, IsWrite, write_of};
-ghost use Rattle.mica_model.specs.History.{stamp_of};
+ghost use Rattle.partition_model.specs.declared.write.Op.TheVariants.{Put};
+ghost use Rattle.partition_model.specs.Write.{GivesValue, IsWrite, write_of};
+ghost use Rattle.partition_model.specs.History.{stamp_of};
 ghost use Rattle.epoch_core.specs.OwnerState.{options_in};
 ghost use Rattle.epoch_core.specs.Kept.{Kept};
 ghost use Rattle.cache_partition.specs.Gained.{MayWrite, Gains};
@@ -13,8 +13,8 @@ use crate::seeking::{Sought, begin, seek};
 use circular_log::{append_hashed, is_live, rewrite};
 use epoch_core::{OwnerWords, WordAt};
 use lossy_index::place;
-use mica_model::Op;
 use mica_words::{header_room, item_size, tag_of, tail_of};
+use partition_model::Op;
 
 /// Stores the value for the key, and answers the new stamp.
 pub(crate) fn put<W: OwnerWords>(words: &mut W, key: &[u8], value: &[u8]) -> u64

@@ -33,10 +33,10 @@ pub use Rattle.epoch_core.specs.declared.shape.Shape.{Shape}
 pub use Rattle.epoch_core.specs.declared.state.OwnerState.{OwnerState}
 pub use Rattle.epoch_core.specs.declared.state.Phase.{Phase}
 pub use Rattle.epoch_core.specs.declared.state.Phase.TheVariants.{Idle, Begun, Marked}
-unfoldable pub use Rattle.mica_model.specs.Store.{spares_below}
-pub use Rattle.mica_model.specs.Store.{spares_behind, Cells, keys_in, spares_in_use}
-pub use Rattle.mica_model.specs.declared.options.Mode.{Mode}
-pub use Rattle.mica_model.specs.declared.options.Mode.TheVariants.{Store}
+unfoldable pub use Rattle.partition_model.specs.Store.{spares_below}
+pub use Rattle.partition_model.specs.Store.{spares_behind, Cells, keys_in, spares_in_use}
+pub use Rattle.partition_model.specs.declared.options.Mode.{Mode}
+pub use Rattle.partition_model.specs.declared.options.Mode.TheVariants.{Store}
 pub use Rattle.mica_words.specs.declared.entry.TheConstants.{SLOTS}
 pub use Rattle.mica_words.specs.Entry.{entry_offset, entry_tag, entry_of}
 unfoldable pub use Rattle.mica_words.specs.Hash.{tag_of}

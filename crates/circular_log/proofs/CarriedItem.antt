@@ -9,15 +9,15 @@ use Rattle.mica_words.specs.Packing.{packed}
 use Rattle.mica_words.specs.Spelling.{item_words}
 use Rattle.mica_words.specs.Stamp.{tail_of}
 use Rattle.mica_words.proofs.ItemWords.{item_words_are, length-item_words}
-use Rattle.mica_model.specs.declared.write.Write.{Write}
-use Rattle.mica_model.specs.Write.{IsWrite}
-use Rattle.mica_model.specs.Cache.{Cache, Record, has_key, record_of}
-use Rattle.mica_model.specs.CacheStep.{after_write}
-use Rattle.mica_model.specs.History.{History, State, cache_state, store_state, state_of}
-use Rattle.mica_model.proofs.CacheKept.{IsRecord}
-use Rattle.mica_model.proofs.CacheLaws.{appended_own, kept_in, touched_is, window_kept}
-use Rattle.mica_model.proofs.Found.{found_has}
-use Rattle.mica_model.proofs.Laid.{found_key}
+use Rattle.partition_model.specs.declared.write.Write.{Write}
+use Rattle.partition_model.specs.Write.{IsWrite}
+use Rattle.partition_model.specs.Cache.{Cache, Record, has_key, record_of}
+use Rattle.partition_model.specs.CacheStep.{after_write}
+use Rattle.partition_model.specs.History.{History, State, cache_state, store_state, state_of}
+use Rattle.partition_model.proofs.CacheKept.{IsRecord}
+use Rattle.partition_model.proofs.CacheLaws.{appended_own, kept_in, touched_is, window_kept}
+use Rattle.partition_model.proofs.Found.{found_has}
+use Rattle.partition_model.proofs.Laid.{found_key}
 use Rattle.epoch_core.specs.declared.event.Event.TheVariants.{PutsWord}
 use Rattle.epoch_core.specs.declared.state.OwnerState.{OwnerState}
 use Rattle.epoch_core.specs.declared.state.Phase.{Phase}

@@ -11,7 +11,7 @@ use Rattle.mica_words.specs.Packing.{packed, unpacked}
 use Rattle.mica_words.proofs.Fields.{header_key_len-header_of, header_value_len-header_of}
 use Rattle.mica_words.proofs.ItemWords.{header_word, value_word, same_value}
 use Rattle.mica_words.proofs.PackedBytes.{length-words}
-use Rattle.mica_model.specs.Store.{Cell}
+use Rattle.partition_model.specs.Store.{Cell}
 use Rattle.epoch_core.specs.declared.state.OwnerState.{OwnerState}
 use Rattle.epoch_core.specs.OwnerState.{item_in}
 use Rattle.circular_log.specs.LogItem.{IsItem, words_from}

@@ -6,18 +6,18 @@ use Rattle.mica_words.specs.Item.{item_size}
 use Rattle.mica_words.specs.Spelling.{item_words}
 use Rattle.mica_words.specs.Stamp.{tail_of}
 use Rattle.mica_words.proofs.ItemWords.{length-item_words}
-use Rattle.mica_model.specs.declared.write.Write.{Write}
-use Rattle.mica_model.specs.Write.{IsWrite}
-use Rattle.mica_model.specs.Cache.{Record, has_key}
-use Rattle.mica_model.specs.CacheStep.{IsInItem, after_write}
-use Rattle.mica_model.specs.Limits.{most_stamp}
-use Rattle.mica_model.specs.History.{History, State, cache_state, store_state, state_of, stamp_in, stamp_of}
-use Rattle.mica_model.proofs.CacheKept.{IsRecord, after_write_is}
-use Rattle.mica_model.proofs.CacheLaws.{kept_in}
-use Rattle.mica_model.proofs.Found.{found_has}
-use Rattle.mica_model.proofs.Laid.{laid_found}
-use Rattle.mica_model.proofs.Rises.{stamp_rises}
-use Rattle.mica_model.proofs.Stamps.{stamp_small}
+use Rattle.partition_model.specs.declared.write.Write.{Write}
+use Rattle.partition_model.specs.Write.{IsWrite}
+use Rattle.partition_model.specs.Cache.{Record, has_key}
+use Rattle.partition_model.specs.CacheStep.{IsInItem, after_write}
+use Rattle.partition_model.specs.Limits.{most_stamp}
+use Rattle.partition_model.specs.History.{History, State, cache_state, store_state, state_of, stamp_in, stamp_of}
+use Rattle.partition_model.proofs.CacheKept.{IsRecord, after_write_is}
+use Rattle.partition_model.proofs.CacheLaws.{kept_in}
+use Rattle.partition_model.proofs.Found.{found_has}
+use Rattle.partition_model.proofs.Laid.{laid_found}
+use Rattle.partition_model.proofs.Rises.{stamp_rises}
+use Rattle.partition_model.proofs.Stamps.{stamp_small}
 use Rattle.epoch_core.specs.declared.state.OwnerState.{OwnerState}
 use Rattle.epoch_core.specs.declared.state.Phase.{Phase}
 use Rattle.epoch_core.specs.declared.state.Phase.TheVariants.{Idle, Begun, Marked}

@@ -1,7 +1,7 @@
 -- The item that an entry spells stands at its offset.
 use Rattle.std.proofs.Common.{ℕ, List}
 use Rattle.mica_words.specs.Entry.{entry_offset}
-use Rattle.mica_model.specs.Store.{Cell}
+use Rattle.partition_model.specs.Store.{Cell}
 use Rattle.epoch_core.specs.declared.state.OwnerState.{OwnerState}
 use Rattle.epoch_core.specs.Kept.{Kept}
 use Rattle.epoch_core.specs.OwnerState.{options_in}

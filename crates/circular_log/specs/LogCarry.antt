@@ -2,10 +2,10 @@
 use Rattle.std.specs.Prelude.{◌≡◌, ◌≢◌, ℕ, ◌+◌, ◌<◌, Some}
 use Rattle.mica_words.specs.Item.{item_size}
 use Rattle.mica_words.specs.Stamp.{tail_of}
-use Rattle.mica_model.specs.declared.write.Write.{Write}
-use Rattle.mica_model.specs.declared.write.Op.TheVariants.{Touch}
-use Rattle.mica_model.specs.Cache.{Record, record_of}
-use Rattle.mica_model.specs.History.{State, cache_state, store_state, state_of}
+use Rattle.partition_model.specs.declared.write.Write.{Write}
+use Rattle.partition_model.specs.declared.write.Op.TheVariants.{Touch}
+use Rattle.partition_model.specs.Cache.{Record, record_of}
+use Rattle.partition_model.specs.History.{State, cache_state, store_state, state_of}
 use Rattle.epoch_core.specs.declared.shape.Shape.{Shape}
 use Rattle.epoch_core.specs.declared.state.OwnerState.{OwnerState}
 use Rattle.epoch_core.specs.Layout.{item_at}

@@ -3,7 +3,7 @@ use Rattle.std.specs.Prelude.{◌≡◌, ℕ, zero, suc, ◌+◌, ◌<◌, List,
 use Rattle.mica_words.specs.Item.{KeyFits, ValueFits, item_size}
 use Rattle.mica_words.specs.Packing.{AreBytes}
 use Rattle.mica_words.specs.Header.{header_room}
-use Rattle.mica_model.specs.Store.{Cell}
+use Rattle.partition_model.specs.Store.{Cell}
 use Rattle.epoch_core.specs.declared.state.OwnerState.{OwnerState}
 use Rattle.epoch_core.specs.OwnerState.{item_in}
 use Rattle.epoch_core.specs.StandsFor.{SpellsItem}

@@ -2,12 +2,12 @@
 use Rattle.std.specs.Prelude.{◌≡◌, ℕ, List, Option, Some, None}
 use Rattle.mica_words.specs.Item.{item_size}
 use Rattle.mica_words.specs.Spelling.{item_words}
-use Rattle.mica_model.specs.declared.options.Options.{Options}
-use Rattle.mica_model.specs.declared.write.Write.{Write}
-use Rattle.mica_model.specs.Cache.{Record, record_of}
-use Rattle.mica_model.specs.CacheStep.{after_write}
-use Rattle.mica_model.specs.History.{State, cache_state, store_state, state_of}
-use Rattle.mica_model.specs.Store.{Cell}
+use Rattle.partition_model.specs.declared.options.Options.{Options}
+use Rattle.partition_model.specs.declared.write.Write.{Write}
+use Rattle.partition_model.specs.Cache.{Record, record_of}
+use Rattle.partition_model.specs.CacheStep.{after_write}
+use Rattle.partition_model.specs.History.{State, cache_state, store_state, state_of}
+use Rattle.partition_model.specs.Store.{Cell}
 use Rattle.epoch_core.specs.declared.state.OwnerState.{OwnerState}
 use Rattle.epoch_core.specs.OwnerState.{options_in}
 use Rattle.epoch_core.specs.StandsFor.{SpellsItem}

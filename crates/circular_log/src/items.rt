@@ -7,8 +7,8 @@ ghost use Rattle.circular_log.specs.LogItem.{HasItem, IsValueAt, room_at};
 ghost use Rattle.circular_log.specs.LogWrite.{MayAppend, MayRewrite, with_item};
 
 use epoch_core::{OwnerWords, WordAt, rewrite_item, write_item_hashed};
-use mica_model::ItemBuf;
 use mica_words::{header_key_len, header_room, header_value_len, item_size, key_hash};
+use partition_model::ItemBuf;
 
 /// Writes the marked write's item at the offset, in a room of the item's size.
 pub fn append<W: OwnerWords>(words: &mut W, offset: u64, key: &[u8], value: &[u8])

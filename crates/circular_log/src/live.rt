@@ -1,6 +1,6 @@
 //! Which items the log has not passed.
 ghost use Rattle.std.specs.Prelude.{◌≡◌, ◌<◌, ◌^◌};
-ghost use Rattle.mica_model.specs.Cache.{is_live};
+ghost use Rattle.partition_model.specs.Cache.{is_live};
 
 use mica_words::tail_of;
 

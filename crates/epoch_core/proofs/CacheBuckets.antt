@@ -2,7 +2,7 @@
 use Rattle.epoch_core.proofs.Vocabulary.{Cache, Cell, Has, HasChain, HasLiveEntry, InChain, IsAmong, IsMain, Kept, List, Mode, OwnerState, RoomsApart}
 use Rattle.epoch_core.proofs.Vocabulary.{Spells, StandsFor, ap, arith, bucket_in, cached_in, entry_offset, inl, inr, link_in, options_in, state_in}
 use Rattle.epoch_core.proofs.Vocabulary.{subst, sym, tail_of, ℕ, ◌%◌, ◌+◌, ◌∙◌, ◌≡◌, ◌≢◌}
-use Rattle.mica_model.proofs.CacheLaws.{kept_in, window_kept, apart_kept}
+use Rattle.partition_model.proofs.CacheLaws.{kept_in, window_kept, apart_kept}
 use Rattle.epoch_core.proofs.Log.{one_place, spelt_record}
 use Rattle.epoch_core.proofs.Machine.{same_cell}
 

@@ -3,11 +3,11 @@ use Rattle.epoch_core.proofs.Vocabulary.{AllByRecursion, Cell, Has, History, IsW
 use Rattle.epoch_core.proofs.Vocabulary.{Some, Spells, State, Write, ap, arith, bucket_in, cache_state, cases_lt, div-add-mod, entry_offset, inl, inr}
 use Rattle.epoch_core.proofs.Vocabulary.{marked_in, mul-le-mul_left, mul-suc, options_in, room_in, state_in, state_of, state_snoc, subst, sym}
 use Rattle.epoch_core.proofs.Vocabulary.{tail_of, ℕ, ◌%◌, ◌*◌, ◌+◌, ◌/◌, ◌<◌, ◌∙◌, ◌≡◌, ◌≢◌, ◌≤◌, ◌⊎◌}
-use Rattle.mica_model.specs.Cache.{Cache, Record, record_of}
-use Rattle.mica_model.specs.CacheStep as cs
-use Rattle.mica_model.specs.History.{after, IsAcceptedAfter, IsHistory}
-use Rattle.mica_model.proofs.Histories.{last_accepted}
-use Rattle.mica_model.proofs.CacheLaws.{window, apart, own}
+use Rattle.partition_model.specs.Cache.{Cache, Record, record_of}
+use Rattle.partition_model.specs.CacheStep as cs
+use Rattle.partition_model.specs.History.{after, IsAcceptedAfter, IsHistory}
+use Rattle.partition_model.proofs.Histories.{last_accepted}
+use Rattle.partition_model.proofs.CacheLaws.{window, apart, own}
 use Rattle.epoch_core.proofs.Keys.{item_room}
 use Rattle.epoch_core.proofs.Machine.{all_parts, found_record, has_fits}
 use Rattle.epoch_core.proofs.Marked.{bit_else}

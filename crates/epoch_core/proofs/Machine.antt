@@ -3,13 +3,13 @@ use Rattle.epoch_core.proofs.Vocabulary.{AllByRecursion, AreBytes, Cell, Has, Hi
 use Rattle.epoch_core.proofs.Vocabulary.{Options, Some, State, ValueFits, Write, [], ap, arith, bucket_of, cache_state, cached_in, cell_at, get}
 use Rattle.epoch_core.proofs.Vocabulary.{item_size, option_map, refl, same_Some, stamp_of, state_of, state_snoc, store_state, stored_in, subst, sym}
 use Rattle.epoch_core.proofs.Vocabulary.{ℕ, ◌++◌, ◌<◌, ◌∙◌, ◌∷◌, ◌≡◌, ◌≢◌, ◌≤◌}
-use Rattle.mica_model.specs.Cache.{Cache, Record, record_of}
-use Rattle.mica_model.specs.CacheStep as cs
-use Rattle.mica_model.specs.StoreStep as ss
-use Rattle.mica_model.specs.History.{after, stamp_in}
-use Rattle.mica_model.proofs.CacheLaws.{others_back, others_on, record_fits}
-use Rattle.mica_model.proofs.Rises.{stamp_rises}
-use Rattle.mica_model.proofs.StoreLaws.{cell_fits, others_same}
+use Rattle.partition_model.specs.Cache.{Cache, Record, record_of}
+use Rattle.partition_model.specs.CacheStep as cs
+use Rattle.partition_model.specs.StoreStep as ss
+use Rattle.partition_model.specs.History.{after, stamp_in}
+use Rattle.partition_model.proofs.CacheLaws.{others_back, others_on, record_fits}
+use Rattle.partition_model.proofs.Rises.{stamp_rises}
+use Rattle.partition_model.proofs.StoreLaws.{cell_fits, others_same}
 use Rattle.epoch_core.proofs.Vocabulary.{Cache as CacheMode, Store as StoreMode}
 
 -- what all of a list have, its front and its last have

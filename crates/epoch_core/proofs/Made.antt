@@ -4,9 +4,9 @@ use Rattle.epoch_core.proofs.Vocabulary.{Store, [], arith, as_made, entry_at, ep
 use Rattle.epoch_core.proofs.Vocabulary.{replicate, start, suc, sym, word_count, zero, ℕ, ◌∙◌, ◌≡◌}
 use Rattle.std.specs.Ordering.{nat_cmp}
 use Rattle.std.specs.Cmp.Lexicographic.{slice_cmp}
-use Rattle.mica_model.specs.Cache as cache
-use Rattle.mica_model.specs.Store as store
-use Rattle.mica_model.specs.History.{stamp_in}
+use Rattle.partition_model.specs.Cache as cache
+use Rattle.partition_model.specs.Store as store
+use Rattle.partition_model.specs.History.{stamp_in}
 use Rattle.epoch_core.proofs.Failing.{in_none}
 
 zeros : (n i : ℕ) → ◌≡◌ {A = ℕ} (get_or (replicate n 0) i 0) 0

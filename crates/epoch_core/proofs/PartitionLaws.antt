@@ -8,9 +8,9 @@ use Rattle.epoch_core.proofs.Vocabulary.{puts_from, refl, room_in, stamp_at, sta
 use Rattle.epoch_core.proofs.Vocabulary.{tag_of, true, true≢false, word_count, ℕ, ◌++◌, ◌+◌, ◌<◌, ◌∙◌, ◌∷◌, ◌≡◌, ◌≢◌, ◌≤◌, ◌⊎◌}
 use Rattle.std.specs.Str.{bytes_eq}
 use Rattle.std.proofs.lemmas.Slice.Eq.{bytes_eq-Decides}
-use Rattle.mica_model.specs.Cache as cache
-use Rattle.mica_model.specs.CacheStep as cs
-use Rattle.mica_model.specs.History.{Allows, accepted_in, after as state_after}
+use Rattle.partition_model.specs.Cache as cache
+use Rattle.partition_model.specs.CacheStep as cs
+use Rattle.partition_model.specs.History.{Allows, accepted_in, after as state_after}
 use Rattle.epoch_core.specs.OwnerStep.{IsOwnerStep}
 use Rattle.epoch_core.proofs.Carried.{changed, spells_there}
 use Rattle.epoch_core.proofs.EventWords.{other, stamp_marks}

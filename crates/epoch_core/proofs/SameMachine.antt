@@ -2,7 +2,7 @@
 use Rattle.epoch_core.proofs.Vocabulary.{History, InRange, IsValid, IsValidShape, MayGive, Mode, Options, Outcome, Write}
 use Rattle.epoch_core.proofs.Vocabulary.{ap, arith, options_of, shape_of, spares_in, state_of, ℕ, ◌≡◌}
 use Rattle.epoch_core.proofs.Vocabulary.{Cache as CacheMode, Store as StoreMode}
-use Rattle.mica_model.proofs.SameMachine as machine
+use Rattle.partition_model.proofs.SameMachine as machine
 
 spares_in_range : (mode : Mode) (spares : ℕ) → InRange 0 65536 spares → InRange 0 65536 (spares_in mode spares)
 spares_in_range CacheMode spares range = (omega arith, omega arith)

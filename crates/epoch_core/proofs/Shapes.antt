@@ -3,7 +3,7 @@ use Rattle.epoch_core.proofs.Vocabulary.{Cache, IsValidShape, Mode, Shape, Store
 use Rattle.std.proofs.lemmas.Bool.Decides.{nat_tests}
 use Rattle.std.proofs.lemmas.Grind.{common_steps}
 use Rattle.std.specs.Int.{is_power_of_two}
-use Rattle.mica_model.proofs.PowersOfTwo.{small_power_of_two, power_is_small}
+use Rattle.partition_model.proofs.PowersOfTwo.{small_power_of_two, power_is_small}
 
 few_spares : (mode : Mode) (spares : ℕ) → spares ≤ spares_in mode 65536 → (spares ≤ 65536) × (mode ≡ Cache → spares ≡ 0)
 few_spares Cache spares less = (omega arith, λ is. omega arith)

@@ -5,7 +5,7 @@ use Rattle.epoch_core.proofs.Vocabulary.{by_entry, by_item, by_link, cache_state
 use Rattle.epoch_core.proofs.Vocabulary.{header_key_len, header_value_len, inl, inr, item_at, item_in, item_size, length, link_at, link_in}
 use Rattle.epoch_core.proofs.Vocabulary.{option_map, options_in, packed, refl, same_value, slice_index, stamp_of, state_in, store_state, subst, suc}
 use Rattle.epoch_core.proofs.Vocabulary.{sym, unpacked, value_in, value_word, words_for, zero, ℕ, ◌+◌, ◌<◌, ◌∙◌, ◌∷◌, ◌≡◌, ◌≢◌}
-use Rattle.mica_model.specs.Cache.{Record, record_of}
+use Rattle.partition_model.specs.Cache.{Record, record_of}
 use Rattle.epoch_core.specs.Spelt.{HasLinks, HasLoad, IsNoEntryOf, ShowsItem, ShowsOther, SpellsAnswer, by_hash, by_item as by_other, by_key_len}
 use Rattle.epoch_core.specs.Spelt.{by_key_word, by_offset, by_stamp, by_tag, by_value_len}
 use Rattle.epoch_core.proofs.Machine.{Fits, found_record, has_fits}

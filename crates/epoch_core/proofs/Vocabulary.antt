@@ -13,13 +13,13 @@ pub use Rattle.mica_words.specs.Hash.{bucket_of, fnv1a, tag_of}
 pub use Rattle.mica_words.specs.Header.{header_key_len, header_of, header_room, header_value_len}
 pub use Rattle.mica_words.specs.Item.{KeyFits, ValueFits, item_size, words_for}
 pub use Rattle.mica_words.specs.Packing.{AreBytes, packed, unpacked}
-pub use Rattle.mica_model.proofs.Histories.{accepted_is_length, cached_in, history_snoc, state_snoc, stored_in}
-pub use Rattle.mica_model.specs.History.{History, IsPrefix, MayGive, State, answer_of, cache_state, stamp_of, start, state_of, store_state, value_in}
-pub use Rattle.mica_model.specs.History.{writes_to_bucket}
-pub use Rattle.mica_model.specs.Store.{Cell}
-pub use Rattle.mica_model.specs.declared.options.Mode.{Mode}
-pub use Rattle.mica_model.specs.declared.options.Mode.TheVariants.{Cache, Store}
-pub use Rattle.mica_model.specs.declared.write.Write.{Write}
+pub use Rattle.partition_model.proofs.Histories.{accepted_is_length, cached_in, history_snoc, state_snoc, stored_in}
+pub use Rattle.partition_model.specs.History.{History, IsPrefix, MayGive, State, answer_of, cache_state, stamp_of, start, state_of, store_state, value_in}
+pub use Rattle.partition_model.specs.History.{writes_to_bucket}
+pub use Rattle.partition_model.specs.Store.{Cell}
+pub use Rattle.partition_model.specs.declared.options.Mode.{Mode}
+pub use Rattle.partition_model.specs.declared.options.Mode.TheVariants.{Cache, Store}
+pub use Rattle.partition_model.specs.declared.write.Write.{Write}
 pub use Rattle.epoch_core.specs.Chain.{HasChains, InChain, IsAmong, IsDense, IsFreeSpare}
 pub use Rattle.epoch_core.specs.Events.{BelongsTo, CanPlay, IsAllowed, IsItsBucket, MayBegin, MayEnd, MayMark, MayPutLink, MayPutWord, SparesOthers}
 pub use Rattle.epoch_core.specs.Events.{WhenMarked, after, history_after, item_events, phase_after, place_of, plays, puts_from, word_after}
@@ -49,11 +49,11 @@ pub use Rattle.epoch_core.specs.Joins.{ended_in, known, lent, longer, met_by, no
 pub use Rattle.epoch_core.specs.declared.reader.Try.{Try}
 pub use Rattle.epoch_core.specs.declared.scripted.Book.{Book}
 pub use Rattle.epoch_core.specs.declared.scripted.Plan.{Plan}
-pub use Rattle.mica_model.specs.Options.{InRange, IsValid}
-pub use Rattle.mica_model.specs.Write.{IsWrite, is_accepted, write_of}
-pub use Rattle.mica_model.specs.declared.options.Options.{Options}
-pub use Rattle.mica_model.specs.declared.write.Outcome.{Outcome}
-pub use Rattle.mica_model.specs.declared.write.Outcome.TheVariants.{FullBlock, FullSpare, Stored, Worn}
+pub use Rattle.partition_model.specs.Options.{InRange, IsValid}
+pub use Rattle.partition_model.specs.Write.{IsWrite, is_accepted, write_of}
+pub use Rattle.partition_model.specs.declared.options.Options.{Options}
+pub use Rattle.partition_model.specs.declared.write.Outcome.{Outcome}
+pub use Rattle.partition_model.specs.declared.write.Outcome.TheVariants.{FullBlock, FullSpare, Stored, Worn}
 pub use Rattle.mica_words.proofs.Hashes.{bucket_of-below}
 pub use Rattle.mica_words.proofs.ItemWords.{hash_word, header_word, packed_key_word, same_value, value_word}
 pub use Rattle.mica_words.proofs.PackedBytes.{length-packed, same_from_words}

@@ -2,10 +2,10 @@
 use Rattle.std.specs.Prelude.{◌≡◌, ◌≢◌, ℕ, ◌+◌, ◌<◌, ◌^◌, ◌⊎◌, List, [], ◌∷◌, ◌++◌, length, slice_index, slice_set}
 use Rattle.mica_words.specs.declared.entry.TheConstants.{SLOTS}
 use Rattle.mica_words.specs.Spelling.{item_words}
-use Rattle.mica_model.specs.declared.write.Write.{Write}
-use Rattle.mica_model.specs.Write.{IsWrite}
-use Rattle.mica_model.specs.CacheStep.{IsOfItem}
-use Rattle.mica_model.specs.History.{History, State, cache_state, store_state, state_of, stamp_of, IsAcceptedAfter}
+use Rattle.partition_model.specs.declared.write.Write.{Write}
+use Rattle.partition_model.specs.Write.{IsWrite}
+use Rattle.partition_model.specs.CacheStep.{IsOfItem}
+use Rattle.partition_model.specs.History.{History, State, cache_state, store_state, state_of, stamp_of, IsAcceptedAfter}
 use Rattle.epoch_core.specs.declared.shape.Shape.{Shape}
 use Rattle.epoch_core.specs.declared.state.OwnerState.{OwnerState}
 use Rattle.epoch_core.specs.declared.state.Phase.{Phase}

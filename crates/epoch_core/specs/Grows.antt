@@ -1,6 +1,6 @@
 -- What no event of an owner takes away: the law by which what is kept of each reader outlives each event.
 use Rattle.std.specs.Prelude.{◌≡◌, ℕ, ◌%◌, ◌≤◌, slice_index}
-use Rattle.mica_model.specs.History.{IsPrefix}
+use Rattle.partition_model.specs.History.{IsPrefix}
 use Rattle.epoch_core.specs.declared.state.OwnerState.{OwnerState}
 use Rattle.epoch_core.specs.Shape.{IsMain}
 use Rattle.epoch_core.specs.OwnerState.{epoch_in}

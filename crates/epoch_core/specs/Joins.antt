@@ -1,6 +1,6 @@
 -- What a split and a join make of the states of owners and readers.
 use Rattle.std.specs.Prelude.{◌+◌, [], ◌∷◌, ◌++◌, length, nat_lt, if◌then◌else◌, None}
-use Rattle.mica_model.specs.History.{History}
+use Rattle.partition_model.specs.History.{History}
 use Rattle.epoch_core.specs.declared.state.OwnerState.{OwnerState}
 use Rattle.epoch_core.specs.declared.state.Phase.{Phase}
 use Rattle.epoch_core.specs.declared.state.Phase.TheVariants.{Marked}

@@ -1,8 +1,8 @@
 -- What every event keeps of an owner's state.
 use Rattle.std.specs.Prelude.{◌≡◌, ℕ, ◌+◌, ◌*◌, ◌<◌, ◌≤◌, [], ◌∷◌, ◌++◌, length}
 use Rattle.std.specs.List.{AllByRecursion}
-use Rattle.mica_model.specs.Write.{IsWrite}
-use Rattle.mica_model.specs.History.{History, IsHistory, IsPrefix, stamp_of}
+use Rattle.partition_model.specs.Write.{IsWrite}
+use Rattle.partition_model.specs.History.{History, IsHistory, IsPrefix, stamp_of}
 use Rattle.epoch_core.specs.declared.shape.Shape.{Shape}
 use Rattle.epoch_core.specs.declared.state.OwnerState.{OwnerState}
 use Rattle.epoch_core.specs.declared.state.Phase.{Phase}

@@ -3,8 +3,8 @@ use Rattle.std.specs.Prelude.{◌≡◌, ◌≢◌, ℕ, ◌+◌, ◌<◌, ◌�
 use Rattle.mica_words.specs.declared.entry.TheConstants.{SLOTS}
 use Rattle.mica_words.specs.Entry.{entry_offset}
 use Rattle.mica_words.specs.Stamp.{tail_of}
-use Rattle.mica_model.specs.declared.options.Mode.{Mode}
-use Rattle.mica_model.specs.declared.options.Mode.TheVariants.{Cache, Store}
+use Rattle.partition_model.specs.declared.options.Mode.{Mode}
+use Rattle.partition_model.specs.declared.options.Mode.TheVariants.{Cache, Store}
 use Rattle.epoch_core.specs.declared.shape.Shape.{Shape}
 use Rattle.epoch_core.specs.declared.state.OwnerState.{OwnerState}
 use Rattle.epoch_core.specs.OwnerState.{stamp_in, entry_in}

@@ -1,8 +1,8 @@
 -- An owner's state: its words by their meaning, its machine's state, and its phase.
 use Rattle.std.specs.Prelude.{ℕ, ◌==◌, List, [], if◌then◌else◌, slice_index, replicate}
 use Rattle.mica_words.specs.Hash.{bucket_of}
-use Rattle.mica_model.specs.declared.options.Options.{Options}
-use Rattle.mica_model.specs.History.{State, state_of, writes_to_bucket}
+use Rattle.partition_model.specs.declared.options.Options.{Options}
+use Rattle.partition_model.specs.History.{State, state_of, writes_to_bucket}
 use Rattle.epoch_core.specs.declared.shape.Shape.{Shape}
 use Rattle.epoch_core.specs.declared.shape.WordAt.{WordAt}
 use Rattle.epoch_core.specs.declared.state.OwnerState.{OwnerState}

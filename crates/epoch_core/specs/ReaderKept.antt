@@ -2,7 +2,7 @@
 use Rattle.std.specs.Prelude.{◌≡◌, ℕ, ◌*◌, ◌%◌, ◌≤◌, List, Contains, slice_index, Option, IfSome}
 use Rattle.mica_words.specs.Hash.{bucket_of}
 use Rattle.mica_words.specs.Packing.{AreBytes}
-use Rattle.mica_model.specs.History.{IsPrefix, stamp_of, answer_of, writes_to_bucket}
+use Rattle.partition_model.specs.History.{IsPrefix, stamp_of, answer_of, writes_to_bucket}
 use Rattle.epoch_core.specs.declared.shape.Shape.{Shape}
 use Rattle.epoch_core.specs.declared.state.OwnerState.{OwnerState}
 use Rattle.epoch_core.specs.declared.reader.Cut.{Cut}

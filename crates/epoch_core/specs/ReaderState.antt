@@ -1,6 +1,6 @@
 -- A reader's state, and what each of its loads makes of it.
 use Rattle.std.specs.Prelude.{ℕ, ◌+◌, ◌%◌, ◌==◌, [], ◌∷◌, ◌++◌, List, Option, Some, None, if◌then◌else◌, is_some}
-use Rattle.mica_model.specs.History.{History}
+use Rattle.partition_model.specs.History.{History}
 use Rattle.epoch_core.specs.declared.shape.Shape.{Shape}
 use Rattle.epoch_core.specs.declared.state.Failure.{Failure}
 use Rattle.epoch_core.specs.declared.reader.Try.{Try}

@@ -3,10 +3,10 @@ use Rattle.std.specs.Prelude.{◌≡◌, ℕ, zero, suc, ◌+◌, ◌-◌, ◌<�
 use mathlib.Core.Option.{some}
 use lib.ListN.{get_elem?}
 use Rattle.atomic_table.specs.Table.{State, Me, Step}
-use Rattle.mica_model.specs.declared.write.Op.TheVariants.{Del}
-use Rattle.mica_model.specs.declared.write.Write.{Write}
-use Rattle.mica_model.specs.Write.{write_of}
-use Rattle.mica_model.specs.History.{History}
+use Rattle.partition_model.specs.declared.write.Op.TheVariants.{Del}
+use Rattle.partition_model.specs.declared.write.Write.{Write}
+use Rattle.partition_model.specs.Write.{write_of}
+use Rattle.partition_model.specs.History.{History}
 use Rattle.epoch_core.specs.declared.shape.Shape.{Shape}
 use Rattle.epoch_core.specs.declared.event.Event.{Event}
 use Rattle.epoch_core.specs.declared.event.OwnerEvent.{OwnerEvent}

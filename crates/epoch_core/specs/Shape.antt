@@ -1,11 +1,11 @@
 -- The shape of a partition, and the options that its machine goes by.
 use Rattle.std.specs.Prelude.{◌≡◌, ℕ, ◌+◌, ◌<◌, ◌≤◌, Bool, ◌&&◌, nat_le}
 use Rattle.std.specs.Int.{is_power_of_two}
-use Rattle.mica_model.specs.declared.options.Mode.{Mode}
-use Rattle.mica_model.specs.declared.options.Mode.TheVariants.{Cache, Store}
-use Rattle.mica_model.specs.declared.options.Options.{Options}
-use Rattle.mica_model.specs.declared.options.TheConstants.{MAX_WEAR}
-use Rattle.mica_model.specs.Options.{IsValid}
+use Rattle.partition_model.specs.declared.options.Mode.{Mode}
+use Rattle.partition_model.specs.declared.options.Mode.TheVariants.{Cache, Store}
+use Rattle.partition_model.specs.declared.options.Options.{Options}
+use Rattle.partition_model.specs.declared.options.TheConstants.{MAX_WEAR}
+use Rattle.partition_model.specs.Options.{IsValid}
 use Rattle.epoch_core.specs.declared.shape.Shape.{Shape}
 
 -- there are no spares in cache mode

@@ -1,5 +1,5 @@
 //! The events of an owner.
-use mica_model::Write;
+use partition_model::Write;
 
 /// An event as it is kept in memory: all of it but the write of a mark.
 #[derive(Clone, Copy, Debug, PartialEq, Eq)]

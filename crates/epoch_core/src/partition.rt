@@ -2,15 +2,15 @@
 ghost use Rattle.std.specs.Prelude.{◌≡◌, [], length};
 ghost use Rattle.atomic_table.specs.Seated.{TableId};
 ghost use Rattle.mica_words.specs.Item.{KeyFits, ValueFits};
-ghost use Rattle.mica_model.specs.declared.write.Op.TheVariants.{Put, Add, Touch, Del};
-ghost use Rattle.mica_model.specs.Write.{HasValueOf, write_of};
-ghost use Rattle.mica_model.specs.History.{stamp_of, answer_of};
-ghost use Rattle.mica_model.specs.Answer.{IsAnswer};
+ghost use Rattle.partition_model.specs.declared.write.Op.TheVariants.{Put, Add, Touch, Del};
+ghost use Rattle.partition_model.specs.Write.{HasValueOf, write_of};
+ghost use Rattle.partition_model.specs.History.{stamp_of, answer_of};
+ghost use Rattle.partition_model.specs.Answer.{IsAnswer};
 ghost use Rattle.epoch_core.specs.declared.state.OwnerState.{OwnerState};
 ghost use Rattle.epoch_core.specs.OwnerState.{options_in};
 ghost use Rattle.epoch_core.specs.OwnerStep.{IsOwnerStep};
 
-use mica_model::{Answer, ItemBuf, Op, Outcome};
+use partition_model::{Answer, ItemBuf, Op, Outcome};
 
 /// A partition, each of whose writes is a step of its machine. No call takes memory.
 pub trait Partition {

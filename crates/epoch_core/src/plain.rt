@@ -13,7 +13,7 @@ use crate::state::OwnerState;
 use crate::words::OwnerWords;
 use atomic_table::{Play, Seat, Shared, Table, TableRule};
 use mica_io::NoMemory;
-use mica_model::Op;
+use partition_model::Op;
 use std::alloc::Global;
 use std::collections::LinkedList;
 use std::marker::{Brand, PhantomData};

@@ -1,7 +1,7 @@
 //! What a reader knows of its partition. Contracts alone see it: no value of these types is made.
 use crate::shape::Shape;
 use crate::state::Failure;
-use mica_model::Write;
+use partition_model::Write;
 use std::collections::LinkedList;
 
 /// What a try had when it loaded the stamp: the owner's history at that load, and the loads before it.

@@ -2,7 +2,7 @@
 ghost use Rattle.std.specs.Prelude.{◌≡◌, ℕ, ◌*◌, ◌<◌, ◌≤◌, ◌⊎◌, true, is_some, Option, IfSome};
 ghost use Rattle.atomic_table.specs.Seated.{TableId};
 ghost use Rattle.mica_words.specs.declared.entry.TheConstants.{SLOTS};
-ghost use Rattle.mica_model.specs.History.{IsPrefix, stamp_of, writes_to_bucket};
+ghost use Rattle.partition_model.specs.History.{IsPrefix, stamp_of, writes_to_bucket};
 ghost use Rattle.epoch_core.specs.declared.reader.ReaderState.{ReaderState};
 ghost use Rattle.epoch_core.specs.declared.scripted.Plan.{Plan};
 ghost use Rattle.epoch_core.specs.Shape.{options_of, IsValidShape, IsMain, IsSpare, IsBucket};

@@ -1,11 +1,11 @@
 //! The shape of a partition, and its words by their meaning.
 ghost use Rattle.std.specs.Prelude.{◌≡◌, ◌↔◌, IsTrue, ◌+◌, ◌*◌, ◌%◌, ◌<◌};
-ghost use Rattle.mica_model.specs.Options.{IsValid};
+ghost use Rattle.partition_model.specs.Options.{IsValid};
 ghost use Rattle.epoch_core.specs.Shape.{shape_of, IsValidShape, is_in_range};
 ghost use Rattle.epoch_core.specs.Layout.{bucket_words, main_words, entries_at, place_at, word_count};
 
-use mica_model::{MAX_WEAR, Mode, Options};
 use mica_words::SLOTS;
+use partition_model::{MAX_WEAR, Mode, Options};
 
 /// A bucket's entries and its link.
 const BUCKET_WORDS: usize = SLOTS as usize + 1;

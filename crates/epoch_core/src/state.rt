@@ -1,6 +1,6 @@
 //! What an owner knows of its partition. Contracts alone see it: no value of these types is made.
 use crate::shape::Shape;
-use mica_model::Write;
+use partition_model::Write;
 use std::collections::LinkedList;
 
 /// How far the write is that the owner is at.

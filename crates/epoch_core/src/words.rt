@@ -1,7 +1,7 @@
 //! The owner's words.
 ghost use Rattle.std.specs.Prelude.{◌≡◌};
 ghost use Rattle.atomic_table.specs.Seated.{TableId};
-ghost use Rattle.mica_model.specs.Write.{write_of};
+ghost use Rattle.partition_model.specs.Write.{write_of};
 ghost use Rattle.epoch_core.specs.declared.state.OwnerState.{OwnerState};
 ghost use Rattle.epoch_core.specs.declared.event.Event.TheVariants.{Begins, Marks, PutsWord, PutsEntry, PutsLink, Ends};
 ghost use Rattle.epoch_core.specs.Shape.{IsValidShape};
@@ -11,7 +11,7 @@ ghost use Rattle.epoch_core.specs.Events.{MayBegin, MayMark, MayPutWord, MayPutE
 ghost use Rattle.epoch_core.specs.Kept.{Kept};
 
 use crate::shape::{Shape, WordAt};
-use mica_model::Op;
+use partition_model::Op;
 
 /// The words of a partition, in the hands of their one owner. Each method that stores is one event; none takes memory or
 /// refuses.

@@ -3,8 +3,10 @@ use Rattle.std.proofs.Common.{◌≡◌, ℕ, ◌+◌, ◌<◌, ◌==◌, inl, i
 use Rattle.std.specs.Prelude.{◌&&◌}
 use Rattle.std.specs.List.{list_any}
 use Rattle.std.proofs.lemmas.List.{take_more, length-take-le, length-set}
-use Rattle.std.proofs.lemmas.Option.{slice_get_within, slice_get_read}
-use Rattle.mica_model.specs.declared.options.Options.{Options}
+use Rattle.std.proofs.lemmas.Option.{slice_get_within, slice_get_read, same_Some}
+use Rattle.list_laws.proofs.UpTo.{UpTo, up_one}
+use Rattle.list_laws.proofs.Places.{element_at, set_cases}
+use Rattle.partition_model.specs.declared.options.Options.{Options}
 use Rattle.mica_trace.specs.declared.line.TraceLine.{TraceLine}
 use Rattle.mica_trace.specs.TraceGrammar.{is_sync}
 use Rattle.mica_trace.specs.Rounds.{partition_in, is_in_partition}
@@ -15,7 +17,6 @@ use Rattle.exclusive_replay.specs.declared.feeder.Feeder.{Feeder}
 use Rattle.exclusive_replay.specs.Sent.{is_end, MayFollow}
 use Rattle.exclusive_replay.specs.LineEnds.{LineBox, line_box}
 use Rattle.exclusive_replay.specs.Workers.{numbered, IsReadyFeeder, HasFed}
-use Rattle.exclusive_replay.proofs.Places.{set_cases, at_within, same_at, UpTo, up_one}
 
 -- the numbers of a partition's lines, as they are sent
 abbrev pub sent_from : Options → ℕ → ℕ → List TraceLine → List Sent
@@ -55,7 +56,7 @@ module _ (options : Options) (trace : List TraceLine) (f : Feeder) (ready : IsRe
   feed_none = record {
     many = refl;
     each = λ p old new is_old is_new.
-        let same : new ≡ old = same_at (sym is_new ∙ is_old) in
+        let same : new ≡ old = same_Some _ _ (sym is_new ∙ is_old) in
         same ∙ ap (λ (l : List Sent). line_box old.queue old.lines l) (ready.fresh p old is_old).0;
   }
 
@@ -81,7 +82,7 @@ module _ (options : Options) (trace : List TraceLine) (f : Feeder) (ready : IsRe
       was =
           let many = so_far.many in
           let within = slice_get_within news queue now at in
-          let old = at_within f.senders.items queue (omega arith) in
+          let old = element_at f.senders.items queue (omega arith) in
           (old.0, old.1, so_far.each queue old.0 now old.1 at)
 
       pub may_follow : MayFollow now.lines now.list (sent.Line n)
@@ -125,8 +126,8 @@ module _ (options : Options) (trace : List TraceLine) (f : Feeder) (ready : IsRe
       sent_by =
           let many = ends.many in
           let all = so_far.many in
-          let mid = at_within mids p (omega arith) in
-          let old = at_within f.senders.items p (omega arith) in
+          let mid = element_at mids p (omega arith) in
+          let old = element_at f.senders.items p (omega arith) in
           let same : now ≡ mid.0 = ends.later p mid.0 now (omega arith) mid.1 at in
           (old.0, same ∙ so_far.each p old.0 mid.0 old.1 mid.1)
 
@@ -147,7 +148,7 @@ module _ (options : Options) (trace : List TraceLine) (f : Feeder) (ready : IsRe
       each = λ p old new is_old is_new.
           let less = slice_get_within last p new is_new in
           let many = ends.many in
-          let mid = at_within mids p (omega arith) in
+          let mid = element_at mids p (omega arith) in
           let lines = so_far.each p old mid.0 is_old mid.1 in
           ends.done p mid.0 new (omega arith) mid.1 is_new ∙ ap (λ (o : LineBox). line_box o.queue o.lines (o.list ++ sent.End ∷ [])) lines
           ∙ ap (λ (l : List TraceLine). line_box old.queue old.lines (sent_from options p 0 l ++ sent.End ∷ [])) all;

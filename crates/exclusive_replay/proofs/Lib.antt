@@ -1,7 +1,6 @@
 pub mod MergedLines
 pub mod OneSender
 pub mod OwnerRuns
-pub mod Places
 pub mod Fed
 pub mod Shares
 pub mod RunParts

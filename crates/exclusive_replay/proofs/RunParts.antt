@@ -1,8 +1,9 @@
 -- The owners and the feeder of a run, before it and after it.
-use Rattle.std.proofs.Common.{◌≡◌, ℕ, zero, suc, ◌+◌, ◌<◌, length-append, List, [], ◌∷◌, ◌++◌, length, map, slice_get, slice_index_or, Some, IfSome, refl, sym, ap, ◌∙◌, subst, append-nil, arith, All}
+use Rattle.std.proofs.Common.{◌≡◌, ℕ, zero, suc, ◌+◌, length-append, List, [], ◌∷◌, ◌++◌, length, map, slice_get, Some, IfSome, refl, sym, ap, ◌∙◌, subst, append-nil, arith, All}
 use Rattle.std.specs.List.{AllZip}
 use Rattle.std.proofs.lemmas.List.Elements.{All-cons, All-nil}
-use Rattle.mica_model.specs.declared.options.Options.{Options}
+use Rattle.list_laws.proofs.AllElements.{all_zipped}
+use Rattle.partition_model.specs.declared.options.Options.{Options}
 use Rattle.mica_trace.specs.declared.line.TraceLine.{TraceLine}
 use Rattle.line_replies.specs.Replied.{HasReplied}
 use Rattle.exclusive_replay.specs.declared.owner.Owner.{Owner}
@@ -12,13 +13,6 @@ use Rattle.exclusive_replay.specs.LineEnds.{LineBox, line_box}
 use Rattle.exclusive_replay.specs.OwnPart.{owner_of}
 use Rattle.exclusive_replay.specs.Workers.{IsReadyOwner, OwnerRan, OwnersRan, IsReadyFeeder, HasFed, lines_at, messages_for}
 use Rattle.exclusive_replay.specs.Run.{IsMade, AreMade, HaveRun}
-
--- what holds at each place, read with any element for the places outside
-zipped : {X : Type 0} (Q : X → X → Type 0) (xs ys : List X) → length ys ≡ length xs → ((i : ℕ) (d : X) → i < length xs → Q (slice_index_or xs i d) (slice_index_or ys i d)) → AllZip Q xs ys
-zipped Q [] [] many each = tt
-zipped Q [] (y ∷ ys) many each = absurd (omega arith)
-zipped Q (x ∷ xs) [] many each = absurd (omega arith)
-zipped Q (x ∷ xs) (y ∷ ys) many each = (each 0 x (omega arith), zipped Q xs ys (omega arith) (λ i d less. each (suc i) d (omega arith)))
 
 module _ (options : Options) (trace : List TraceLine) where
   -- before the run
@@ -83,7 +77,7 @@ module _ (options : Options) (trace : List TraceLine) where
   pub all_run : (os vs : List Owner) (olds news : List LineBox) → AreMade options trace os olds → OwnersRan trace os vs → HasFed options trace olds news
       → HaveRun options trace 0 vs news
   all_run os vs olds news made ran fed =
-      have_run 0 os vs olds news made.each (zipped _ os vs ran.0 ran.1) fed.many (λ i old new is_old is_new.
+      have_run 0 os vs olds news made.each (all_zipped _ os vs ran.0 ran.1) fed.many (λ i old new is_old is_new.
       let here : i ≡ 0 + i = omega arith in
       fed.each i old new is_old is_new ∙ ap (λ (n : ℕ). line_box old.queue old.lines (messages_for options n trace)) here)
 

@@ -1,8 +1,8 @@
 -- What an owner printed is the replies to its partition's lines.
 use Rattle.std.proofs.Common.{◌≡◌, ℕ, suc, ◌+◌, List, [], ◌∷◌, ◌++◌, map, filter, Some, refl, ap, ◌∙◌, subst, cond, true, false, slice_get, arith}
 use Rattle.std.specs.List.{cons_option}
-use Rattle.mica_model.specs.declared.options.Options.{Options}
-use Rattle.mica_model.specs.History.{History}
+use Rattle.partition_model.specs.declared.options.Options.{Options}
+use Rattle.partition_model.specs.History.{History}
 use Rattle.mica_trace.specs.declared.line.TraceLine.{TraceLine}
 use Rattle.mica_trace.specs.declared.report.Line.{Line}
 use Rattle.mica_trace.specs.LineReply.{is_for, lines_for, history_with, RepliesTo}

@@ -1,7 +1,7 @@
 -- A run: what is made for it, and what its workers leave.
 use Rattle.std.specs.Prelude.{◌≡◌, ℕ, ◌+◌, true, List, [], ◌∷◌, length, IfSome}
 use Rattle.std.specs.List.{AllZip}
-use Rattle.mica_model.specs.declared.options.Options.{Options}
+use Rattle.partition_model.specs.declared.options.Options.{Options}
 use Rattle.mica_trace.specs.declared.line.TraceLine.{TraceLine}
 use Rattle.epoch_core.specs.OwnerState.{as_made}
 use Rattle.epoch_core.specs.Shape.{shape_of}

@@ -1,12 +1,12 @@
 //! The worker that feeds the owners.
 ghost use Rattle.std.specs.Prelude.{◌≡◌, length};
-ghost use Rattle.mica_model.specs.Options.{IsValid};
+ghost use Rattle.partition_model.specs.Options.{IsValid};
 ghost use Rattle.exclusive_replay.specs.Workers.{IsReadyFeeder, HasFed};
 
 use crate::queue::{LineSender, Sent};
-use mica_model::Options;
 use mica_trace::Trace;
 use mica_words::{key_hash, partition_of};
+use partition_model::Options;
 use std::sync::Wait;
 
 /// One sender for each partition's queue.

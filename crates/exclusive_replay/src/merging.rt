@@ -1,7 +1,7 @@
 //! What the owners printed, in the order of the trace.
 ghost use Rattle.std.specs.Prelude.{◌≡◌, ◌<◌, ◌∷◌, [], ℕ, List, false, Some, IfOk, map, length, slice_get};
 ghost use Rattle.std.specs.Vec.Iter.{into_iter_items};
-ghost use Rattle.mica_model.specs.Options.{IsValid};
+ghost use Rattle.partition_model.specs.Options.{IsValid};
 ghost use Rattle.mica_trace.specs.declared.report.Line.{Line};
 ghost use Rattle.mica_trace.specs.TraceGrammar.{is_sync};
 ghost use Rattle.mica_trace.specs.Rounds.{partition_in};
@@ -9,9 +9,9 @@ ghost use Rattle.mica_trace.specs.ExactReport.{ExactReport};
 ghost use Rattle.exclusive_replay.specs.Merged.{AreReplied, TakesNext};
 
 use mica_io::NoMemory;
-use mica_model::Options;
 use mica_trace::{Line, Report, Trace, TraceLine};
 use mica_words::{key_hash, partition_of};
+use partition_model::Options;
 use std::alloc::Global;
 use std::vec::IntoIter;
 

@@ -7,8 +7,8 @@ use crate::part::OwnPart;
 use crate::queue::{LineReceiver, Sent};
 use line_replies::reply_to;
 use mica_io::{Gate, NoMemory};
-use mica_model::ItemBuf;
 use mica_trace::{Line, Trace};
+use partition_model::ItemBuf;
 use std::alloc::Global;
 use std::sync::Wait;
 

@@ -1,6 +1,6 @@
 //! A partition of either mode, over words of one thread.
 ghost use Rattle.std.specs.Prelude.{◌≡◌, IfOk};
-ghost use Rattle.mica_model.specs.Options.{IsValid};
+ghost use Rattle.partition_model.specs.Options.{IsValid};
 ghost use Rattle.epoch_core.specs.Shape.{shape_of};
 ghost use Rattle.epoch_core.specs.OwnerState.{as_made};
 ghost use Rattle.exclusive_replay.specs.OwnPart.{owner_of};
@@ -8,7 +8,7 @@ ghost use Rattle.exclusive_replay.specs.OwnPart.{owner_of};
 use cache_partition::CachePartition;
 use epoch_core::{Partition, PlainWords, Shape};
 use mica_io::NoMemory;
-use mica_model::{Answer, ItemBuf, Mode, Options, Outcome};
+use partition_model::{Answer, ItemBuf, Mode, Options, Outcome};
 use std::alloc::Global;
 use store_partition::StorePartition;
 

@@ -1,7 +1,7 @@
 //! A trace whose owners read as well as write: one owner for each partition, each fed by a queue.
 ghost use Rattle.std.specs.Prelude.{◌≡◌, ◌<◌, [], ◌∷◌, true, Some, IfOk, length};
 ghost use Rattle.std.specs.Vec.Iter.{into_iter_items};
-ghost use Rattle.mica_model.specs.Options.{IsValid};
+ghost use Rattle.partition_model.specs.Options.{IsValid};
 ghost use Rattle.mica_trace.specs.ExactReport.{ExactReport};
 ghost use Rattle.exclusive_replay.specs.Sent.{has_end};
 ghost use Rattle.exclusive_replay.specs.Run.{AreMade, HaveRun};
@@ -13,8 +13,8 @@ use crate::part::OwnPart;
 use crate::queue::{LineSender, line_queue};
 use crate::worker::run_workers;
 use mica_io::{Gate, NoMemory};
-use mica_model::{ItemBuf, Options};
 use mica_trace::{Line, Report, Trace};
+use partition_model::{ItemBuf, Options};
 use std::alloc::Global;
 use std::sync::Wait;
 use std::thread::Threads;

@@ -1,14 +1,14 @@
 //! The workers of a run: each owner, and the one that feeds them, in a thread of its own.
 ghost use Rattle.std.specs.Prelude.{All};
 ghost use Rattle.std.specs.Thread.{IsSync};
-ghost use Rattle.mica_model.specs.Options.{IsValid};
+ghost use Rattle.partition_model.specs.Options.{IsValid};
 ghost use Rattle.exclusive_replay.specs.Workers.{IsReadyOwner, OwnerRan, OwnersRan, IsReadyFeeder, HasFed};
 
 use crate::feeder::Feeder;
 use crate::owner::Owner;
 use mica_io::Gate;
-use mica_model::Options;
 use mica_trace::Trace;
+use partition_model::Options;
 use std::alloc::Global;
 use std::sync::Wait;
 use std::thread::{Threads, for_each_mut, join_mut};

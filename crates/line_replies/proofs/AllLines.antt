@@ -2,10 +2,10 @@
 use Rattle.std.proofs.Common.{◌≡◌, ℕ, List, [], ◌∷◌, ◌++◌, length, Some, refl, sym, ap, ◌∙◌, subst, true, false, slice_get, eq-eqb}
 use Rattle.std.specs.List.{AllByRecursion}
 use Rattle.std.proofs.lemmas.Bool.{eqb-true}
-use Rattle.mica_model.specs.declared.options.Options.{Options}
-use Rattle.mica_model.specs.Options.{IsValid}
-use Rattle.mica_model.specs.History.{History, MayGive, stamp_of, State, stamp_in}
-use Rattle.mica_model.specs.Run.{RunStep, IsRunFrom, history_of}
+use Rattle.partition_model.specs.declared.options.Options.{Options}
+use Rattle.partition_model.specs.Options.{IsValid}
+use Rattle.partition_model.specs.History.{History, MayGive, stamp_of, State, stamp_in}
+use Rattle.partition_model.specs.Run.{RunStep, IsRunFrom, history_of}
 use Rattle.mica_trace.specs.declared.line.TraceLine.{TraceLine}
 use Rattle.mica_trace.specs.declared.report.Line.{Line}
 use Rattle.mica_trace.specs.declared.report.Line.TheVariants.{Wrote, Hit, Miss, Sync as SyncLine}
@@ -19,8 +19,8 @@ use Rattle.epoch_core.specs.declared.state.OwnerState.{OwnerState}
 use Rattle.epoch_core.specs.OwnerState.{options_in}
 use Rattle.epoch_core.specs.Shape.{shape_of, options_of, spares_in}
 use Rattle.epoch_core.proofs.SameMachine.{same_state}
-use Rattle.mica_model.proofs.SameMachine as machine
-use Rattle.mica_model.specs.declared.options.Mode.{Mode}
+use Rattle.partition_model.proofs.SameMachine as machine
+use Rattle.partition_model.specs.declared.options.Mode.{Mode}
 use Rattle.line_replies.specs.Replied.{IsReplied}
 use Rattle.line_replies.specs.Answered.{IsOwnerAfter, AreAnswered}
 

@@ -3,14 +3,14 @@ use Rattle.std.proofs.Common.{◌≡◌, ℕ, List, [], ◌∷◌, ◌++◌, Som
 use Rattle.std.specs.Prelude.{option_map}
 use Rattle.std.specs.List.{cons_option}
 use Rattle.mica_words.specs.Item.{KeyFits}
-use Rattle.mica_model.specs.declared.options.Options.{Options}
-use Rattle.mica_model.specs.declared.write.Op.{Op}
-use Rattle.mica_model.specs.declared.write.Op.TheVariants.{Put as PutOp, Add as AddOp, Touch as TouchOp, Del as DelOp}
-use Rattle.mica_model.specs.declared.write.Write.{Write}
-use Rattle.mica_model.specs.declared.write.Outcome.{Outcome}
-use Rattle.mica_model.specs.Write.{HasValueOf, write_of, is_accepted}
-use Rattle.mica_model.specs.Run.{IsRunFrom, history_of}
-use Rattle.mica_model.specs.History.{History, stamp_of}
+use Rattle.partition_model.specs.declared.options.Options.{Options}
+use Rattle.partition_model.specs.declared.write.Op.{Op}
+use Rattle.partition_model.specs.declared.write.Op.TheVariants.{Put as PutOp, Add as AddOp, Touch as TouchOp, Del as DelOp}
+use Rattle.partition_model.specs.declared.write.Write.{Write}
+use Rattle.partition_model.specs.declared.write.Outcome.{Outcome}
+use Rattle.partition_model.specs.Write.{HasValueOf, write_of, is_accepted}
+use Rattle.partition_model.specs.Run.{IsRunFrom, history_of}
+use Rattle.partition_model.specs.History.{History, stamp_of}
 use Rattle.mica_trace.specs.declared.line.TraceOp.{TraceOp}
 use Rattle.mica_trace.specs.declared.line.TraceOp.TheVariants.{Put, Add, Touch, Del, Get, Sync}
 use Rattle.mica_trace.specs.declared.line.TraceLine.{TraceLine}

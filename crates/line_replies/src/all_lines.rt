@@ -1,14 +1,14 @@
 //! All lines of a trace, on one thread.
 ghost use Rattle.std.specs.Prelude.{◌≡◌, IfOk, OnOk, List, [], length, map};
-ghost use Rattle.mica_model.specs.Options.{IsValid};
+ghost use Rattle.partition_model.specs.Options.{IsValid};
 ghost use Rattle.line_replies.specs.Answered.{AreAnswered};
 
 use crate::line::reply_to;
 use epoch_core::Partition;
 use mica_io::NoMemory;
-use mica_model::{ItemBuf, Options};
 use mica_trace::{Report, Trace};
 use mica_words::{key_hash, partition_of};
+use partition_model::{ItemBuf, Options};
 use std::alloc::Global;
 
 /// The exact report of a trace, each of whose lines its partition answers before the next one.

@@ -1,14 +1,14 @@
 //! One line.
 ghost use Rattle.std.specs.Prelude.{◌≡◌, IfOk, OnErr};
 ghost use Rattle.mica_words.specs.Item.{KeyFits};
-ghost use Rattle.mica_model.specs.Write.{HasValueOf, write_of};
+ghost use Rattle.partition_model.specs.Write.{HasValueOf, write_of};
 ghost use Rattle.mica_trace.specs.TraceGrammar.{IsTraceLine};
 ghost use Rattle.line_replies.specs.Replied.{IsWritten, IsReplied, IsAnswered};
 
 use epoch_core::{Partition, write_to};
 use mica_io::{Bytes, NoMemory};
-use mica_model::{Answer, ItemBuf, Op};
 use mica_trace::{Line, TraceLine};
+use partition_model::{Answer, ItemBuf, Op};
 use std::alloc::Global;
 
 // The report line of a get.

@@ -5,33 +5,34 @@ use Rattle.std.specs.Str.{bytes_eq}
 use Rattle.std.proofs.lemmas.Bool.{true≢false}
 use Rattle.mica_words.specs.Stamp.{tail_of}
 use Rattle.std.specs.Global.{Vec}
-use Rattle.mica_model.specs.declared.options.Options.{Options}
-use Rattle.mica_model.specs.declared.write.Write.{Write}
-use Rattle.mica_model.specs.declared.write.Op.{Op}
-use Rattle.mica_model.specs.declared.write.Op.TheVariants.{Put, Add, Touch, Del}
-use Rattle.mica_model.specs.declared.write.Outcome.{Outcome}
-use Rattle.mica_model.specs.declared.write.Outcome.TheVariants.{Worn}
-use Rattle.mica_model.specs.declared.fate.Fate.{Fate}
-use Rattle.mica_model.specs.declared.fate.Fate.TheVariants.{Displaced, Passed, Held}
+use Rattle.partition_model.specs.declared.options.Options.{Options}
+use Rattle.partition_model.specs.declared.write.Write.{Write}
+use Rattle.partition_model.specs.declared.write.Op.{Op}
+use Rattle.partition_model.specs.declared.write.Op.TheVariants.{Put, Add, Touch, Del}
+use Rattle.partition_model.specs.declared.write.Outcome.{Outcome}
+use Rattle.partition_model.specs.declared.write.Outcome.TheVariants.{Worn}
+use Rattle.partition_model.specs.declared.fate.Fate.{Fate}
+use Rattle.partition_model.specs.declared.fate.Fate.TheVariants.{Displaced, Passed, Held}
 use Rattle.mica_model.specs.declared.fates.Fates.{Fates}
 use Rattle.mica_model.specs.declared.cache_machine.CacheMachine.TheInside.{Inside}
 use Rattle.mica_model.specs.CacheInside.{IsMachine, logged_of}
-use Rattle.mica_model.specs.Write.{IsWrite, is_accepted}
-use Rattle.mica_model.specs.Cache as cache
-use Rattle.mica_model.specs.Cache.{Cache}
-use Rattle.mica_model.specs.CacheStep as cs
-use Rattle.mica_model.specs.CacheFields.{AreRising, Notes, notes_of, fate_in, marked, fate_written, marked_passed, marked_displaced, displaced_record}
-use Rattle.mica_model.specs.Fate.{has_record, fate_of, fate_after}
-use Rattle.mica_model.specs.History.{History, State, cache_state, accepted_in, after, state_of, IsHistory, Allows}
+use Rattle.partition_model.specs.Write.{IsWrite, is_accepted}
+use Rattle.partition_model.specs.Cache as cache
+use Rattle.partition_model.specs.Cache.{Cache}
+use Rattle.partition_model.specs.CacheStep as cs
+use Rattle.partition_model.specs.Records.{AreRising}
+use Rattle.mica_model.specs.CacheFields.{Notes, notes_of, fate_in, marked, fate_written, marked_passed, marked_displaced, displaced_record}
+use Rattle.partition_model.specs.Fate.{has_record, fate_of, fate_after}
+use Rattle.partition_model.specs.History.{History, State, cache_state, accepted_in, after, state_of, IsHistory, Allows}
 use Rattle.mica_model.specs.Logged.{IsLoggedStep}
-use Rattle.mica_model.proofs.CacheKept.{IsKept, after_write_is}
-use Rattle.mica_model.proofs.CacheLaws.{kept_in}
+use Rattle.partition_model.proofs.CacheKept.{IsKept, after_write_is}
+use Rattle.partition_model.proofs.CacheLaws.{kept_in}
 use Rattle.mica_model.proofs.Passed.{laid_rising}
-use Rattle.mica_model.proofs.FateLaws.{cache_of, state_is_cache, fate_snoc, right_in}
+use Rattle.partition_model.proofs.FateLaws.{cache_of, state_is_cache, fate_snoc, right_in}
 use Rattle.mica_model.proofs.FateSteps.{fate_step}
 use Rattle.mica_model.proofs.FateMarks.{has_note, written_fates}
-use Rattle.mica_model.proofs.Found.{all_push}
-use Rattle.mica_model.proofs.Histories.{accepted_is_length, cache_unworn, state_snoc, history_snoc}
+use Rattle.partition_model.proofs.Found.{all_push}
+use Rattle.partition_model.proofs.Histories.{accepted_is_length, cache_unworn, state_snoc, history_snoc}
 
 same_accepted : (op : Op) (options : Options) (s : Cache) (write : Write) → (cs.after_op op options s write).accepted ≡ s.accepted
 same_accepted Put options s write = put_same (cs.kept_record options s write)

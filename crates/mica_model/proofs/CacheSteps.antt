@@ -9,17 +9,18 @@ use Rattle.mica_words.specs.declared.entry.TheConstants.{SLOTS}
 use Rattle.mica_words.specs.Hash.{bucket_of}
 use Rattle.mica_words.specs.Item.{item_size}
 use Rattle.mica_words.specs.Stamp.{tail_of}
-use Rattle.mica_model.specs.declared.options.Options.{Options}
-use Rattle.mica_model.specs.declared.write.Write.{Write}
-use Rattle.mica_model.specs.Write.{size_of}
-use Rattle.mica_model.specs.Cache.{Record, Cache, has_key, record_of, is_live, value_in}
-use Rattle.mica_model.specs.CacheStep as cs
-use Rattle.mica_model.specs.CacheStep.{is_in_bucket, without_first, kept_record, may_keep, kept_if}
-use Rattle.mica_model.specs.CacheFields.{displaced_at, displaced_record, kept_place, IsUnique, without_at}
+use Rattle.partition_model.specs.declared.options.Options.{Options}
+use Rattle.partition_model.specs.declared.write.Write.{Write}
+use Rattle.partition_model.specs.Write.{size_of}
+use Rattle.partition_model.specs.Cache.{Record, Cache, has_key, record_of, is_live, value_in}
+use Rattle.partition_model.specs.CacheStep as cs
+use Rattle.partition_model.specs.CacheStep.{is_in_bucket, without_first, kept_record, may_keep, kept_if}
+use Rattle.mica_model.specs.CacheFields.{displaced_at, displaced_record, kept_place, without_at}
+use Rattle.partition_model.specs.Records.{IsUnique}
 use Rattle.mica_model.proofs.Places.{removed_at, kept_all, found_at, missed_all}
-use Rattle.mica_model.proofs.CacheKept.{rewritten}
-use Rattle.mica_model.proofs.Found.{missed_all as missed_each}
-use Rattle.mica_model.proofs.Laid.{found_key, key_is}
+use Rattle.partition_model.proofs.CacheKept.{rewritten}
+use Rattle.partition_model.proofs.Found.{missed_all as missed_each}
+use Rattle.partition_model.proofs.Laid.{found_key, key_is}
 
 -- the record that is displaced goes
 

@@ -2,32 +2,27 @@
 use Rattle.std.proofs.Common.{◌≡◌, ℕ, List, [], ◌∷◌, length, Option, Some, None, refl, sym, ap, ◌∙◌, subst, cond, Ordering, Bool, true, false, T, ◌&&◌}
 use Rattle.std.specs.Prelude.{not}
 use Rattle.std.specs.Option.{option_map}
-use Rattle.std.specs.Ordering.{nat_cmp, is_eq, is_lt, eq_by_cmp, match_ordering}
+use Rattle.std.specs.Ordering.{is_eq, is_lt, eq_by_cmp, match_ordering}
 use Rattle.std.specs.declared.cmp.Ordering.TheVariants.{Less, Equal, Greater}
 use Rattle.std.specs.Cmp.{eq_by_cmp_equiv}
-use Rattle.std.specs.Cmp.Lexicographic.{slice_cmp, nat_list_cmp_total}
+use Rattle.std.specs.Cmp.Lexicographic.{nat_list_cmp_total}
 use Rattle.std.specs.Global.{Vec}
 use Rattle.std.specs.BTreeMap.{insert_entry, is_at}
 use Rattle.std.specs.List.{AllByRecursion}
 use Rattle.std.specs.List.Sorted.{IsStrictlySortedBy}
 use Rattle.std.specs.Map.{lookup, remove_entry, keys_of}
-use Rattle.std.specs.FinMap.{find, put, is_sorted, get, len, insert, remove, entries, empty, from_sorted, same_entries_map, entries-from_sorted, entries-insert, get-from_sorted, get-remove, same_map, empty_of_len, len-entries, slice_cmp-IsAntisymmetric, nat_cmp-IsAntisymmetric}
+use Rattle.std.specs.FinMap.{find, put, is_sorted, get, len, insert, remove, entries, from_sorted, same_entries_map, entries-from_sorted, entries-insert, get-from_sorted, get-remove, same_map, len-entries}
 use Rattle.std.specs.FinMap.Entries.{below_all, where_key, is_sorted-put, is_sorted-where_key, find-where_key, by_order}
 use Rattle.std.proofs.lemmas.List.{length-map}
 use Rattle.std.proofs.lemmas.Map.Keys.{sorted_head, sorted_tail}
 use Rattle.mica_model.specs.declared.cell.Cell.{Cell as CellInCode}
-use Rattle.mica_model.specs.Store.{Cell}
+use Rattle.partition_model.specs.Store.{Cell}
+use Rattle.partition_model.proofs.CellSums.{by_bytes, exact}
 use Rattle.mica_model.specs.CellTable.{cell_of}
 use Rattle.mica_model.specs.CellTableFields.{entries_of}
 
-abbrev pub by_bytes : List ℕ → List ℕ → Ordering
-by_bytes = slice_cmp nat_cmp
-
 abbrev pub by_items : Vec ℕ → Vec ℕ → Ordering
 by_items x y = by_bytes x.items y.items
-
-pub exact : (x y : List ℕ) → by_bytes x y ≡ Equal → x ≡ y
-exact = slice_cmp-IsAntisymmetric nat_cmp-IsAntisymmetric
 
 -- whether a key of the tree has these bytes
 abbrev pub has_bytes : List ℕ → Vec ℕ → Bool
@@ -135,6 +130,3 @@ module _ (es : List (Vec ℕ × CellInCode)) (sorted : T (is_sorted by_bytes (en
       ∙ ap (λ b. cond b None (find by_bytes q (entries_of es))) ((eq_by_cmp_equiv nat_list_cmp_total).symm key q)
       ∙ ap (cond (eq_by_cmp by_bytes q key) None) (sym (get-from_sorted by_bytes (entries_of es) q sorted))
       ∙ sym (get-remove nat_list_cmp_total (from_sorted (entries_of es)) key q))
-
-pub no_cells : from_sorted {X = Cell} {R = by_bytes} [] ≡ empty
-no_cells = empty_of_len (from_sorted []) (len-entries (from_sorted []) ∙ ap length (entries-from_sorted by_bytes [] tt))

@@ -1,5 +1,5 @@
 -- The fates that marking gives, against those of a step.
-use Rattle.std.proofs.Common.{◌+◌, ◌≡◌, ℕ, List, [], ◌∷◌, ◌++◌, Option, Some, None, Bool, true, false, cond, not, ◌&&◌, refl, sym, ap, ◌∙◌, is_some, ◌≢◌, eqb}
+use Rattle.std.proofs.Common.{◌+◌, ◌≡◌, ℕ, List, [], ◌∷◌, Option, Some, None, Bool, true, false, cond, not, ◌&&◌, refl, sym, ap, ◌∙◌, is_some, ◌≢◌, eqb}
 use Rattle.std.specs.List.{find, filter, count_by}
 use Rattle.std.specs.Str.{bytes_eq}
 use Rattle.std.specs.Prelude.{option_map, unwrap_or}
@@ -8,14 +8,15 @@ use Rattle.std.proofs.lemmas.Bool.{true≢false, false_from_ne_true}
 use Rattle.std.proofs.lemmas.Slice.Eq.{bytes_eq-Decides}
 use Rattle.mica_words.specs.declared.entry.TheConstants.{SLOTS}
 use Rattle.mica_words.specs.Hash.{bucket_of}
-use Rattle.mica_model.specs.declared.options.Options.{Options}
-use Rattle.mica_model.specs.declared.fate.Fate.{Fate}
-use Rattle.mica_model.specs.declared.fate.Fate.TheVariants.{Never, Held}
-use Rattle.mica_model.specs.Cache.{Record, has_key, is_live}
-use Rattle.mica_model.specs.CacheStep.{without_first, is_in_bucket}
-use Rattle.mica_model.specs.CacheFields.{IsUnique, Notes, fate_in, marked, marked_passed, marked_displaced, displaced_record}
-use Rattle.mica_model.proofs.Found as found
-use Rattle.mica_model.proofs.Laid as laid
+use Rattle.partition_model.specs.declared.options.Options.{Options}
+use Rattle.partition_model.specs.declared.fate.Fate.{Fate}
+use Rattle.partition_model.specs.declared.fate.Fate.TheVariants.{Never, Held}
+use Rattle.partition_model.specs.Cache.{Record, has_key, is_live}
+use Rattle.partition_model.specs.CacheStep.{without_first, is_in_bucket}
+use Rattle.partition_model.specs.Records.{IsUnique}
+use Rattle.mica_model.specs.CacheFields.{Notes, fate_in, marked, marked_passed, marked_displaced, displaced_record}
+use Rattle.partition_model.proofs.Found as found
+use Rattle.partition_model.proofs.Laid as laid
 
 abbrev pub has_note : Notes → List ℕ → Bool
 has_note notes key = is_some (notes key)

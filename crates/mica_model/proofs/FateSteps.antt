@@ -3,23 +3,24 @@ use Rattle.std.proofs.Common.{◌≡◌, ℕ, List, Option, Some, None, Bool, tr
 use Rattle.std.specs.Str.{bytes_eq}
 use Rattle.std.proofs.lemmas.Bool.{true≢false}
 use Rattle.std.proofs.lemmas.Slice.Eq.{bytes_eq-Decides}
-use Rattle.mica_model.specs.declared.options.Options.{Options}
-use Rattle.mica_model.specs.declared.write.Write.{Write}
-use Rattle.mica_model.specs.declared.write.Op.{Op}
-use Rattle.mica_model.specs.declared.write.Op.TheVariants.{Put, Add, Touch, Del}
-use Rattle.mica_model.specs.declared.write.Outcome.TheVariants.{Stored, FullBlock}
-use Rattle.mica_model.specs.declared.fate.Fate.{Fate}
-use Rattle.mica_model.specs.declared.fate.Fate.TheVariants.{Deleted, Displaced, Passed, Held}
-use Rattle.mica_model.specs.Options.{IsValid}
-use Rattle.mica_model.specs.Write.{GivesValue, IsWrite, is_accepted, size_of}
-use Rattle.mica_model.specs.Cache.{Cache, Record, record_of}
-use Rattle.mica_model.specs.CacheStep as cs
-use Rattle.mica_model.specs.CacheFields.{IsUnique, Notes, fate_in, fate_written, marked_passed, marked_displaced, displaced_record}
-use Rattle.mica_model.specs.Fate.{has_record, fate_after}
-use Rattle.mica_model.proofs.Laid as laid
-use Rattle.mica_model.proofs.CacheKept.{others_lack, IsKept, after_write_is}
-use Rattle.mica_model.proofs.CacheLaws.{appended_own, reply_fits, written_same, written_held}
-use Rattle.mica_model.proofs.FateLaws.{pick, live_wrote, left_live}
+use Rattle.partition_model.specs.declared.options.Options.{Options}
+use Rattle.partition_model.specs.declared.write.Write.{Write}
+use Rattle.partition_model.specs.declared.write.Op.{Op}
+use Rattle.partition_model.specs.declared.write.Op.TheVariants.{Put, Add, Touch, Del}
+use Rattle.partition_model.specs.declared.write.Outcome.TheVariants.{Stored, FullBlock}
+use Rattle.partition_model.specs.declared.fate.Fate.{Fate}
+use Rattle.partition_model.specs.declared.fate.Fate.TheVariants.{Deleted, Displaced, Passed, Held}
+use Rattle.partition_model.specs.Options.{IsValid}
+use Rattle.partition_model.specs.Write.{GivesValue, IsWrite, is_accepted, size_of}
+use Rattle.partition_model.specs.Cache.{Cache, Record, record_of}
+use Rattle.partition_model.specs.CacheStep as cs
+use Rattle.partition_model.specs.Records.{IsUnique}
+use Rattle.mica_model.specs.CacheFields.{Notes, fate_in, fate_written, marked_passed, marked_displaced, displaced_record}
+use Rattle.partition_model.specs.Fate.{has_record, fate_after}
+use Rattle.partition_model.proofs.Laid as laid
+use Rattle.partition_model.proofs.CacheKept.{others_lack, IsKept, after_write_is}
+use Rattle.partition_model.proofs.CacheLaws.{appended_own, reply_fits, written_same, written_held}
+use Rattle.partition_model.proofs.FateLaws.{pick, live_wrote, left_live}
 use Rattle.mica_model.proofs.FateMarks.{has, has_note, passed_fate, passed_has, displaced_fate, held_has}
 
 pick_same : (had wrote live left : Bool) (n : ℕ) (written before : Fate) → (left ≡ true → live ≡ true) → (live ≡ true → wrote ≡ true)

@@ -5,20 +5,20 @@ use Rattle.std.specs.Prelude.{max}
 use Rattle.std.specs.FinMap.{get, insert, remove}
 use Rattle.mica_words.specs.Hash.{fnv1a, bucket_of}
 use Rattle.mica_words.specs.Item.{item_size}
-use Rattle.mica_model.specs.declared.options.Options.{Options}
-use Rattle.mica_model.specs.declared.write.Op.{Op}
-use Rattle.mica_model.specs.declared.write.Op.TheVariants.{Put, Add, Del, Touch}
-use Rattle.mica_model.specs.declared.write.Outcome.{Outcome}
-use Rattle.mica_model.specs.declared.write.Outcome.TheVariants.{Stored, Deleted, Absent, Touched}
-use Rattle.mica_model.specs.declared.write.Write.{Write}
+use Rattle.partition_model.specs.declared.options.Options.{Options}
+use Rattle.partition_model.specs.declared.write.Op.{Op}
+use Rattle.partition_model.specs.declared.write.Op.TheVariants.{Put, Add, Del, Touch}
+use Rattle.partition_model.specs.declared.write.Outcome.{Outcome}
+use Rattle.partition_model.specs.declared.write.Outcome.TheVariants.{Stored, Deleted, Absent, Touched}
+use Rattle.partition_model.specs.declared.write.Write.{Write}
 use Rattle.mica_model.specs.declared.store_machine.StoreMachine.TheInside.{Inside}
-use Rattle.mica_model.specs.Write.{GivesValue, write_of}
-use Rattle.mica_model.specs.Store.{Store, room_of, rooms, spares_in_use}
-use Rattle.mica_model.specs.StoreStep.{Allows, after}
+use Rattle.partition_model.specs.Write.{GivesValue, write_of}
+use Rattle.partition_model.specs.Store.{Store, room_of, rooms, spares_in_use}
+use Rattle.partition_model.specs.StoreStep.{Allows, after}
 use Rattle.mica_model.specs.CellTable.{Table, with_cells}
 use Rattle.mica_model.specs.StoreMachineFields.{IsMachine}
-use Rattle.mica_model.specs.History.{IsStep, store_state}
-use Rattle.mica_model.proofs.CellSums.{remove_none}
+use Rattle.partition_model.specs.History.{IsStep, store_state}
+use Rattle.partition_model.proofs.CellSums.{remove_none}
 use Rattle.mica_model.proofs.StoreSteps.{put_state, put_rooms, put_spares, delete_rooms, delete_spares}
 
 -- the machine with another table, after an accepted write

@@ -4,23 +4,23 @@ use Rattle.std.specs.List.{find, AllByRecursion as AllOf}
 use Rattle.std.specs.Str.{bytes_eq}
 use Rattle.std.proofs.lemmas.Bool.{true≢false}
 use Rattle.std.proofs.lemmas.Slice.Eq.{bytes_eq-Decides}
-use Rattle.mica_model.specs.declared.options.Options.{Options}
-use Rattle.mica_model.specs.declared.write.Write.{Write}
-use Rattle.mica_model.specs.declared.write.Op.{Op}
-use Rattle.mica_model.specs.declared.write.Op.TheVariants.{Put, Add, Touch, Del}
-use Rattle.mica_model.specs.declared.fate.Fate.{Fate}
-use Rattle.mica_model.specs.declared.fate.Fate.TheVariants.{Never, Deleted, Displaced, Passed, Held}
-use Rattle.mica_model.specs.Write.{GivesValue, IsWrite, size_of}
-use Rattle.mica_model.specs.Cache as cache
-use Rattle.mica_model.specs.Cache.{Record, Cache, has_key, record_of}
-use Rattle.mica_model.specs.CacheStep as cs
-use Rattle.mica_model.specs.Fate.{GivesNoValue, has_record, fate_after, fate_from, fate_of}
-use Rattle.mica_model.specs.History.{History, IsHistory, IsHistoryFrom, State, after, cache_state, start, state_of}
-use Rattle.mica_model.specs.declared.options.Mode.TheVariants.{Cache as CacheMode}
-use Rattle.mica_model.proofs.CacheKept.{others_lack, IsKept, start_kept, after_kept}
-use Rattle.mica_model.proofs.CacheLaws.{accepted_fits, written_same, value_held}
-use Rattle.mica_model.proofs.Histories.{state_snoc}
-use Rattle.mica_model.proofs.FateLaws.{pick, live_wrote, left_live}
+use Rattle.partition_model.specs.declared.options.Options.{Options}
+use Rattle.partition_model.specs.declared.write.Write.{Write}
+use Rattle.partition_model.specs.declared.write.Op.{Op}
+use Rattle.partition_model.specs.declared.write.Op.TheVariants.{Put, Add, Touch, Del}
+use Rattle.partition_model.specs.declared.fate.Fate.{Fate}
+use Rattle.partition_model.specs.declared.fate.Fate.TheVariants.{Never, Deleted, Displaced, Passed, Held}
+use Rattle.partition_model.specs.Write.{GivesValue, IsWrite, size_of}
+use Rattle.partition_model.specs.Cache as cache
+use Rattle.partition_model.specs.Cache.{Record, Cache, has_key, record_of}
+use Rattle.partition_model.specs.CacheStep as cs
+use Rattle.partition_model.specs.Fate.{GivesNoValue, has_record, fate_after, fate_from, fate_of}
+use Rattle.partition_model.specs.History.{History, IsHistory, IsHistoryFrom, State, after, cache_state, start, state_of}
+use Rattle.partition_model.specs.declared.options.Mode.TheVariants.{Cache as CacheMode}
+use Rattle.partition_model.proofs.CacheKept.{others_lack, IsKept, start_kept, after_kept}
+use Rattle.partition_model.proofs.CacheLaws.{accepted_fits, written_same, value_held}
+use Rattle.partition_model.proofs.Histories.{state_snoc}
+use Rattle.partition_model.proofs.FateLaws.{pick, live_wrote, left_live}
 
 -- a fate that is another stays another
 

@@ -1,16 +1,17 @@
 -- The records that a log has passed stand in front, and what it is to drop and to mark them.
-use Rattle.std.proofs.Common.{◌≡◌, ℕ, zero, suc, ◌+◌, ◌≤◌, ◌<◌, List, [], ◌∷◌, length, drop, take, Option, Some, None, Bool, true, false, cond, not, refl, sym, ap, ◌∙◌, arith, position, remove, leb}
+use Rattle.std.proofs.Common.{◌≡◌, ℕ, suc, ◌+◌, ◌≤◌, ◌<◌, List, [], ◌∷◌, length, drop, take, Option, Some, None, Bool, true, false, cond, not, refl, sym, ap, ◌∙◌, arith, position}
 use Rattle.std.specs.Prelude.{IfSome}
-use Rattle.std.specs.List.{find, filter, AllByRecursion as AllOf, position_or_len}
+use Rattle.std.specs.List.{find, filter, AllByRecursion as AllOf}
 use Rattle.std.proofs.lemmas.List.Quantifiers.{position-Some}
 use Rattle.std.proofs.lemmas.Bool.{leb-true, le-leb}
 use Rattle.mica_words.specs.Stamp.{tail_of}
-use Rattle.mica_model.specs.declared.fate.Fate.{Fate}
-use Rattle.mica_model.specs.Cache.{Record, has_key, is_live}
-use Rattle.mica_model.specs.CacheStep.{others, without_first}
-use Rattle.mica_model.specs.CacheFields.{AreRising, IsUnique, Notes, marked, marked_passed, passed_front, without_at}
-use Rattle.mica_model.proofs.Laid.{IsLaid, key_is}
-use Rattle.mica_model.proofs.Found.{missed_all}
+use Rattle.partition_model.specs.declared.fate.Fate.{Fate}
+use Rattle.partition_model.specs.Cache.{Record, has_key, is_live}
+use Rattle.partition_model.specs.CacheStep.{others, without_first}
+use Rattle.partition_model.specs.Records.{AreRising, IsUnique}
+use Rattle.mica_model.specs.CacheFields.{Notes, marked, marked_passed, passed_front, without_at}
+use Rattle.partition_model.proofs.Laid.{IsLaid, key_is}
+use Rattle.partition_model.proofs.Found.{missed_all}
 use Rattle.mica_model.proofs.Places.{removed_at, kept_all}
 
 -- laid records rise

@@ -7,9 +7,9 @@ use Rattle.std.proofs.lemmas.List.Elements.{recursion_from_All}
 use Rattle.std.proofs.lemmas.List.Quantifiers.{position-Some}
 use Rattle.std.proofs.lemmas.List.Sums.{fails_before_first, prefix_len-le-length}
 use Rattle.std.proofs.lemmas.Option.{none-some, same_Some}
-use Rattle.mica_model.specs.Cache.{Record}
-use Rattle.mica_model.specs.CacheStep.{without_first}
-use Rattle.mica_model.proofs.Found.{missed}
+use Rattle.partition_model.specs.Cache.{Record}
+use Rattle.partition_model.specs.CacheStep.{without_first}
+use Rattle.partition_model.proofs.Found.{missed}
 
 module _ {X : Type 0} (p : X → Bool) where
   found_first : (xs : List X) (i : ℕ) (d : X) → i < length xs → p (get_or xs i d) ≡ true → ((k : ℕ) → k < i → p (get_or xs k d) ≡ false) → find p xs ≡ Some (get_or xs i d)

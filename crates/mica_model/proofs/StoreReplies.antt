@@ -1,20 +1,20 @@
 -- Which outcomes a write to the store may have, case by case.
-use Rattle.std.proofs.Common.{◌≡◌, ◌≢◌, ◌↔◌, ◌≤◌, List, ℕ, ⊎_elim, inl, inr, Option, Some, None, refl, sym, ap, ◌∙◌, subst, cond, is_some, le-leb}
+use Rattle.std.proofs.Common.{◌≡◌, ◌≢◌, ◌↔◌, ◌≤◌, List, ℕ, ⊎_elim, inl, Option, None, refl, sym, ap, ◌∙◌, subst, cond, is_some, le-leb}
 use Rattle.std.specs.Prelude.{IsSome, IsSomeAnd}
 use Rattle.std.specs.FinMap.{get}
 use Rattle.std.proofs.lemmas.Bool.{false≢true}
-use Rattle.mica_model.specs.declared.options.Options.{Options}
-use Rattle.mica_model.specs.declared.write.Op.{Op}
-use Rattle.mica_model.specs.declared.write.Op.TheVariants.{Put, Add, Del, Touch}
-use Rattle.mica_model.specs.declared.write.Outcome.{Outcome}
-use Rattle.mica_model.specs.declared.write.Outcome.TheVariants.{Stored, Deleted, Absent, Touched, FullSpare, FullBlock, Worn, Exists}
-use Rattle.mica_model.specs.declared.write.Write.{Write}
-use Rattle.mica_model.specs.Write.{GivesValue, Replaces, write_of}
-use Rattle.mica_model.specs.Cache as cache
-use Rattle.mica_model.specs.CacheStep as cs
-use Rattle.mica_model.specs.Store.{Cell, Store}
-use Rattle.mica_model.specs.History.{State, cache_state, store_state, accepted_in, Allows as AllowsIn}
-use Rattle.mica_model.specs.StoreStep.{Allows, AllowsUnworn, IsWorn, FitsRoom, NeedsSpare, NeedsBlock, Stores}
+use Rattle.partition_model.specs.declared.options.Options.{Options}
+use Rattle.partition_model.specs.declared.write.Op.{Op}
+use Rattle.partition_model.specs.declared.write.Op.TheVariants.{Put, Add, Del, Touch}
+use Rattle.partition_model.specs.declared.write.Outcome.{Outcome}
+use Rattle.partition_model.specs.declared.write.Outcome.TheVariants.{Stored, Deleted, Absent, Touched, FullSpare, FullBlock, Worn, Exists}
+use Rattle.partition_model.specs.declared.write.Write.{Write}
+use Rattle.partition_model.specs.Write.{GivesValue, Replaces, write_of}
+use Rattle.partition_model.specs.Cache as cache
+use Rattle.partition_model.specs.CacheStep as cs
+use Rattle.partition_model.specs.Store.{Cell, Store}
+use Rattle.partition_model.specs.History.{State, cache_state, store_state, accepted_in, Allows as AllowsIn}
+use Rattle.partition_model.specs.StoreStep.{Allows, IsWorn, FitsRoom, NeedsSpare, NeedsBlock, Stores}
 
 no_cell : (P : Cell → Type 0) (o : Option Cell) → o ≡ None → IsSomeAnd o P → ⊥
 no_cell P o none some = subst (λ p. IsSomeAnd p P) none some

@@ -7,14 +7,14 @@ use Rattle.std.proofs.lemmas.Bool.Decides.{eqb_tells}
 use Rattle.mica_words.specs.declared.entry.TheConstants.{SLOTS}
 use Rattle.mica_words.specs.Hash.{bucket_of}
 use Rattle.mica_words.specs.Item.{item_size}
-use Rattle.mica_model.specs.declared.options.Options.{Options}
-use Rattle.mica_model.specs.declared.write.Op.{Op}
-use Rattle.mica_model.specs.declared.write.Op.TheVariants.{Put, Add, Del, Touch}
-use Rattle.mica_model.specs.Write.{GivesValue, write_of}
-use Rattle.mica_model.specs.Store.{Cell, Store, room_of, rooms, keys_in, spares_in_use}
-use Rattle.mica_model.specs.StoreStep.{FitsRoom, NeedsBlock, HasWords, room_after, after_put, after}
-use Rattle.mica_model.proofs.CellSums.{rooms_insert, rooms_remove, remove_none}
-use Rattle.mica_model.proofs.TableSteps.{new_spares, over_spares, less_spares, less_here}
+use Rattle.partition_model.specs.declared.options.Options.{Options}
+use Rattle.partition_model.specs.declared.write.Op.{Op}
+use Rattle.partition_model.specs.declared.write.Op.TheVariants.{Put, Add, Del, Touch}
+use Rattle.partition_model.specs.Write.{GivesValue, write_of}
+use Rattle.partition_model.specs.Store.{Cell, Store, room_of, rooms, keys_in, spares_in_use}
+use Rattle.partition_model.specs.StoreStep.{FitsRoom, NeedsBlock, HasWords, room_after, after_put, after}
+use Rattle.partition_model.proofs.CellSums.{rooms_insert, rooms_remove, remove_none}
+use Rattle.partition_model.proofs.BucketSums.{new_spares, over_spares, less_spares, less_here}
 
 room_is : (o : Option Cell) (size : ℕ) → room_after o size ≡ max (room_of o) size
 room_is None size = omega arith

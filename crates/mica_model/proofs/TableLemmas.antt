@@ -1,23 +1,33 @@
 -- A table of cells, before and after a put or a removal.
-use Rattle.std.proofs.Common.{◌≡◌, ℕ, List, ◌+◌, ◌-◌, ◌<◌, ◌≤◌, ◌^◌, Option, Some, None, length, get_or, sym, ap, ◌∙◌, subst, arith}
+use Rattle.std.proofs.Common.{◌≡◌, ◌≢◌, ℕ, List, ◌+◌, ◌-◌, ◌<◌, ◌≤◌, ◌^◌, Option, Some, None, length, get_or, sym, ap, ◌∙◌, subst, arith, ⊎_elim}
 use Rattle.std.specs.Prelude.{slice_index, slice_set}
 use Rattle.std.specs.Option.{option_map}
 use Rattle.std.specs.Global.{Vec}
 use Rattle.std.specs.BTreeMap.{BTreeMap, IsOrdered, insert_entry}
 use Rattle.std.specs.Map.{lookup, remove_entry}
 use Rattle.std.specs.FinMap.{get, insert, remove, from_sorted}
-use Rattle.std.proofs.lemmas.List.{length-set}
+use Rattle.std.proofs.lemmas.List.{length-set, get_or-set_same, get_or-set_other}
+use Rattle.std.proofs.lemmas.Bool.Decides.{eqb_tells}
 use Rattle.std.proofs.lemmas.Grind.{get_or_default_zero}
 use Rattle.mica_words.specs.Hash.{bucket_of}
 use Rattle.mica_model.specs.declared.bucket_keys.BucketKeys.{BucketKeys}
 use Rattle.mica_model.specs.declared.cell.Cell.{Cell as CellInCode}
 use Rattle.mica_model.specs.declared.cell_table.CellTable.TheInside.{Inside}
-use Rattle.mica_model.specs.Store.{Cell, Cells, room_of, rooms, keys_in, spares_behind, spares_in_use}
+use Rattle.partition_model.specs.Store.{Cell, Cells, room_of, rooms, keys_in, spares_behind, spares_in_use}
 use Rattle.mica_model.specs.CellTable.{Table, cell_of}
 use Rattle.mica_model.specs.CellTableFields.{entries_of, cells_of, table_of, HasCounts, IsTable}
-use Rattle.mica_model.proofs.CellEntries.{by_bytes, by_items, has_bytes, sorted_entries, get_cell, put_cell, removed_cell}
-use Rattle.mica_model.proofs.CellSums.{rooms_insert, rooms_remove, keys_over, spares_among}
-use Rattle.mica_model.proofs.TableSteps.{counts_change, new_here, new_others, new_spares, over_spares, less_here, less_others, less_spares}
+use Rattle.mica_model.proofs.CellEntries.{by_items, has_bytes, sorted_entries, get_cell, put_cell, removed_cell}
+use Rattle.partition_model.proofs.CellSums.{by_bytes, rooms_insert, rooms_remove, keys_over, spares_among}
+use Rattle.partition_model.proofs.BucketSums.{new_here, new_others, new_spares, over_spares, less_here, less_others, less_spares}
+
+-- one bucket has another number of keys
+counts_change : (buckets : ℕ) (counts : List ℕ) (m n : Cells) (bucket k : ℕ) → length counts ≡ buckets → bucket < buckets
+    → HasCounts buckets counts m → keys_in buckets bucket n ≡ k → ((other : ℕ) → other ≢ bucket → keys_in buckets other n ≡ keys_in buckets other m)
+    → HasCounts buckets (slice_set counts bucket k) n
+counts_change buckets counts m n bucket k len within has new others j j_within =
+    ⊎_elim (λ equal. let same = equal.1 in ap (slice_index (slice_set counts bucket k)) same ∙ get_or-set_same counts bucket k 0 (subst (λ n. bucket < n) (sym len) within) ∙ sym new ∙ ap (λ b. keys_in buckets b n) (sym same))
+    (λ differs. get_or-set_other counts bucket j k 0 differs.1 ∙ has j j_within ∙ sym (others j differs.1))
+    (eqb_tells j bucket)
 
 -- the key's bucket
 pub record InBucket (a : Inside) (key : List ℕ) (bucket : ℕ) : Type 0 where

@@ -1,36 +1,21 @@
 -- The fields of the cache machine, as its methods speak of them.
-use Rattle.std.specs.Prelude.{◌≡◌, ℕ, ◌≤◌, ◌+◌, ◌==◌, Bool, List, [], ◌∷◌, Option, Some, None, is_some, find, remove, map, fold, count_by, position, option_map, unwrap_or, bytes_eq, if◌then◌else◌}
-use Rattle.std.specs.List.{AllByRecursion, position_or_len}
+use Rattle.std.specs.Prelude.{ℕ, ◌+◌, ◌==◌, Bool, List, Option, Some, None, is_some, find, remove, fold, count_by, position, option_map, unwrap_or, bytes_eq, if◌then◌else◌}
+use Rattle.std.specs.List.{position_or_len}
 use Rattle.std.specs.Ordering.{nat_cmp}
 use Rattle.std.specs.Cmp.Lexicographic.{slice_cmp}
 use Rattle.std.specs.BTreeMap.{is_at}
 use Rattle.std.specs.Map.{lookup}
 use Rattle.mica_words.specs.Hash.{bucket_of}
-use Rattle.mica_words.specs.Item.{ValueFits}
 use Rattle.mica_words.specs.declared.entry.TheConstants.{SLOTS}
-use Rattle.mica_model.specs.declared.options.Options.{Options}
+use Rattle.partition_model.specs.declared.options.Options.{Options}
 use Rattle.mica_model.specs.declared.fates.Fates.{Fates}
-use Rattle.mica_model.specs.declared.fate.Fate.{Fate}
-use Rattle.mica_model.specs.declared.fate.Fate.TheVariants.{Never, Deleted as Gone, Held}
-use Rattle.mica_model.specs.declared.write.Outcome.{Outcome}
-use Rattle.mica_model.specs.declared.write.Outcome.TheVariants.{Stored, Deleted, Touched}
-use Rattle.mica_model.specs.declared.write.Write.{Write}
-use Rattle.mica_model.specs.Cache.{Record, Cache, has_key, is_live}
-use Rattle.mica_model.specs.CacheStep.{kept_record, is_in_bucket}
-
--- no key has two records
-abbrev pub IsUnique : List Record → Type 0
-IsUnique [] = Unit {0}
-IsUnique (r ∷ rs) = (find (has_key r.key) rs ≡ None) × IsUnique rs
-
--- the records' offsets rise
-abbrev pub AreRising : List Record → Type 0
-AreRising [] = Unit {0}
-AreRising (r ∷ rs) = AllByRecursion (λ later. r.offset ≤ later.offset) rs × AreRising rs
-
--- their values fit
-abbrev pub AreShort : List Record → Type 0
-AreShort records = AllByRecursion (λ held. ValueFits held.value) records
+use Rattle.partition_model.specs.declared.fate.Fate.{Fate}
+use Rattle.partition_model.specs.declared.fate.Fate.TheVariants.{Never, Deleted as Gone, Held}
+use Rattle.partition_model.specs.declared.write.Outcome.{Outcome}
+use Rattle.partition_model.specs.declared.write.Outcome.TheVariants.{Stored, Deleted, Touched}
+use Rattle.partition_model.specs.declared.write.Write.{Write}
+use Rattle.partition_model.specs.Cache.{Record, Cache, has_key, is_live}
+use Rattle.partition_model.specs.CacheStep.{kept_record, is_in_bucket}
 
 -- how many records at the front a log of this many words has passed
 abbrev pub passed_front : ℕ → ℕ → List Record → ℕ

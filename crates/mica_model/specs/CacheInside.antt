@@ -1,14 +1,14 @@
 -- What the cache machine's fields stand for.
 use Rattle.std.specs.Prelude.{◌≡◌, ℕ, List}
 use Rattle.std.specs.List.{AllByRecursion}
-use Rattle.mica_model.specs.declared.options.Mode.TheVariants.{Cache as CacheMode}
+use Rattle.partition_model.specs.declared.options.Mode.TheVariants.{Cache as CacheMode}
 use Rattle.mica_model.specs.declared.cache_machine.CacheMachine.TheInside.{Inside}
 use Rattle.mica_model.specs.CacheFields.{notes_of, fate_in}
-use Rattle.mica_model.specs.Fate.{fate_of}
-use Rattle.mica_model.specs.History.{IsHistory, state_of, cache_state}
+use Rattle.partition_model.specs.Fate.{fate_of}
+use Rattle.partition_model.specs.History.{IsHistory, state_of, cache_state}
 use Rattle.mica_model.specs.Logged.{Logged}
-use Rattle.mica_model.specs.Options.{IsValid}
-use Rattle.mica_model.specs.Write.{IsWrite}
+use Rattle.partition_model.specs.Options.{IsValid}
+use Rattle.partition_model.specs.Write.{IsWrite}
 
 abbrev pub logged_of : Inside → Logged
 logged_of machine = record { options = machine.options; history = machine.log.items }

@@ -5,7 +5,7 @@ use Rattle.std.specs.FinMap as map
 use Rattle.mica_words.specs.Hash.{bucket_of}
 use Rattle.mica_words.specs.declared.entry.TheConstants.{SLOTS}
 use Rattle.mica_model.specs.declared.cell.Cell.{Cell as CellInCode}
-use Rattle.mica_model.specs.Store.{Cell, Cells, keys_in, spares_in_use}
+use Rattle.partition_model.specs.Store.{Cell, Cells, keys_in, spares_in_use}
 use Rattle.mica_model.specs.Codes.{text_code, cell_code}
 
 pub record Table : Type 0 where

@@ -7,7 +7,7 @@ use Rattle.std.specs.FinMap.{from_sorted}
 use Rattle.std.specs.BTreeMap.{IsOrdered}
 use Rattle.mica_model.specs.declared.cell.Cell.{Cell as CellInCode}
 use Rattle.mica_model.specs.declared.cell_table.CellTable.TheInside.{Inside}
-use Rattle.mica_model.specs.Store.{Cell, Cells, rooms, keys_in, spares_in_use}
+use Rattle.partition_model.specs.Store.{Cell, Cells, rooms, keys_in, spares_in_use}
 use Rattle.mica_model.specs.CellTable.{Table, cell_of}
 
 abbrev pub entries_of : List (Vec ℕ × CellInCode) → List (List ℕ × Cell)

@@ -3,12 +3,12 @@ use Rattle.std.specs.Prelude.{◌≡◌, ℕ, ◌⊎◌, Bool, true, false, refl
 use Rattle.std.proofs.Common.{inl, inr}
 use Rattle.std.specs.Coded.{Coded, code_by, coded×, coded⊎, coded_ℕ, coded_bool, coded_list}
 use Rattle.std.specs.FinMap as map
-use Rattle.mica_model.specs.declared.options.Options.{Options}
-use Rattle.mica_model.specs.declared.options.Mode.{Mode}
-use Rattle.mica_model.specs.declared.options.Mode.TheVariants.{Cache as CacheMode, Store as StoreMode}
-use Rattle.mica_model.specs.Cache.{Record, Cache}
-use Rattle.mica_model.specs.Store.{Cell, Cells, Store}
-use Rattle.mica_model.specs.History.{State, cache_state, store_state}
+use Rattle.partition_model.specs.declared.options.Options.{Options}
+use Rattle.partition_model.specs.declared.options.Mode.{Mode}
+use Rattle.partition_model.specs.declared.options.Mode.TheVariants.{Cache as CacheMode, Store as StoreMode}
+use Rattle.partition_model.specs.Cache.{Record, Cache}
+use Rattle.partition_model.specs.Store.{Cell, Cells, Store}
+use Rattle.partition_model.specs.History.{State, cache_state, store_state}
 
 abbrev pub text_code : Coded (List ℕ)
 text_code = coded_list coded_ℕ

@@ -1,9 +1,9 @@
 -- What the fields of a store machine mean.
 use Rattle.std.specs.Prelude.{◌≡◌, ◌≤◌}
 use Rattle.mica_model.specs.declared.store_machine.StoreMachine.TheInside.{Inside}
-use Rattle.mica_model.specs.Options.{IsValid}
-use Rattle.mica_model.specs.Store.{rooms, spares_in_use}
-use Rattle.mica_model.specs.History.{store_state}
+use Rattle.partition_model.specs.Options.{IsValid}
+use Rattle.partition_model.specs.Store.{rooms, spares_in_use}
+use Rattle.partition_model.specs.History.{store_state}
 use Rattle.mica_model.specs.Machine.{Machine}
 
 abbrev pub machine_of : Inside → Machine

@@ -1,6 +1,6 @@
 //! How many keys each bucket has, and the spares that are in use behind all of them.
 ghost use Rattle.std.specs.Prelude.{◌≡◌, ◌+◌, ◌<◌, ◌≤◌, ◌^◌, length, slice_index, slice_set, replicate, IfOk};
-ghost use Rattle.mica_model.specs.Store.{spares_behind};
+ghost use Rattle.partition_model.specs.Store.{spares_behind};
 
 use mica_io::NoMemory;
 use mica_words::SLOTS;

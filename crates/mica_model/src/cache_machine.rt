@@ -2,19 +2,20 @@
 ghost use Rattle.std.specs.Prelude.{◌≡◌, ◌↔◌, IsTrue, IfOk, OnErr, length};
 ghost use Rattle.std.specs.List.{AllByRecursion};
 ghost use Rattle.mica_words.specs.Item.{KeyFits};
-ghost use Rattle.mica_model.specs.Answer.{IsAnswer};
-ghost use Rattle.mica_model.specs.CacheFields.{AreRising, displaced_record, fate_written, marked_displaced, marked_passed, notes_of};
-ghost use Rattle.mica_model.specs.CacheStep.{without_displaced, without_passed};
-ghost use Rattle.mica_model.specs.Fate.{GivesNoValue, fate_of};
-ghost use Rattle.mica_model.specs.History.{MayGive, answer_of, stamp_of};
+ghost use Rattle.partition_model.specs.Answer.{IsAnswer};
+ghost use Rattle.partition_model.specs.Records.{AreRising};
+ghost use Rattle.mica_model.specs.CacheFields.{displaced_record, fate_written, marked_displaced, marked_passed, notes_of};
+ghost use Rattle.partition_model.specs.CacheStep.{without_displaced, without_passed};
+ghost use Rattle.partition_model.specs.Fate.{GivesNoValue, fate_of};
+ghost use Rattle.partition_model.specs.History.{MayGive, answer_of, stamp_of};
 ghost use Rattle.mica_model.specs.Logged.{IsLoggedStep, new_log};
-ghost use Rattle.mica_model.specs.Options.{IsValid};
-ghost use Rattle.mica_model.specs.Write.{HasValueOf, write_of};
+ghost use Rattle.partition_model.specs.Options.{IsValid};
+ghost use Rattle.partition_model.specs.Write.{HasValueOf, write_of};
 
 use crate::cache_state::CacheState;
 use crate::fates::{Fates, mark_passed};
-use crate::{Answer, Fate, ItemBuf, Mode, Op, Options, Outcome, Write};
 use mica_io::{Bytes, NoMemory};
+use partition_model::{Answer, Fate, ItemBuf, Mode, Op, Options, Outcome, Write};
 use std::alloc::Global;
 use std::marker::Model;
 

@@ -1,13 +1,13 @@
 //! A record of the cache machine.
 ghost use Rattle.std.specs.Prelude.{◌≡◌, ◌≤◌};
 ghost use Rattle.mica_words.specs.Hash.{fnv1a};
-ghost use Rattle.mica_model.specs.Cache.{has_key, is_live as is_live_at};
-ghost use Rattle.mica_model.specs.CacheStep.{is_in_bucket as is_in};
-ghost use Rattle.mica_model.specs.Options.{IsValid};
+ghost use Rattle.partition_model.specs.Cache.{has_key, is_live as is_live_at};
+ghost use Rattle.partition_model.specs.CacheStep.{is_in_bucket as is_in};
+ghost use Rattle.partition_model.specs.Options.{IsValid};
 
-use crate::Options;
 use mica_io::Bytes;
 use mica_words::{bucket_of, key_hash, tail_of};
+use partition_model::Options;
 use std::marker::Model;
 
 /// What the log has of a key, and the key's hash, so that no step hashes the keys of other records.
@@ -23,7 +23,7 @@ pub struct CacheRecord {
 impl Model for CacheRecord {
     ghost use Rattle.std.specs.Prelude.{◌≡◌};
     ghost use Rattle.mica_words.specs.Hash.{fnv1a};
-    ghost use Rattle.mica_model.specs.Cache.{Record};
+    ghost use Rattle.partition_model.specs.Cache.{Record};
     ghost use Rattle.mica_model.specs.Codes.{record_code};
 
     ghost Value = { Record };

@@ -1,18 +1,19 @@
 //! The state of a partition in cache mode, and the rules of a step.
 ghost use Rattle.std.specs.Prelude.{◌≡◌, ◌+◌, ◌≤◌, ◌<◌, [], ◌↔◌, IsTrue, IfSome, OnOk, OnErr, length, drop, is_some, option_copied, position, count_by, vec_len, vec_capacity};
 ghost use Rattle.mica_words.specs.Item.{KeyFits, ValueFits};
-ghost use Rattle.mica_model.specs.Cache.{start, has_key, is_live, record_of, value_in};
-ghost use Rattle.mica_model.specs.CacheFields.{AreShort, IsUnique, displaced_at, kept_place, passed_front, without_at};
-ghost use Rattle.mica_model.specs.CacheStep.{after_append, new_record, after_put, after_touch, after_delete, after_write, reply, kept_record, is_in_bucket};
-ghost use Rattle.mica_model.specs.Limits.{most_stamp};
-ghost use Rattle.mica_model.specs.declared.options.TheConstants.{MAX_WEAR};
-ghost use Rattle.mica_model.specs.Options.{IsValid};
-ghost use Rattle.mica_model.specs.Write.{HasValueOf, write_of};
+ghost use Rattle.partition_model.specs.Cache.{start, has_key, is_live, record_of, value_in};
+ghost use Rattle.partition_model.specs.Records.{AreShort, IsUnique};
+ghost use Rattle.mica_model.specs.CacheFields.{displaced_at, kept_place, passed_front, without_at};
+ghost use Rattle.partition_model.specs.CacheStep.{after_append, new_record, after_put, after_touch, after_delete, after_write, reply, kept_record, is_in_bucket};
+ghost use Rattle.partition_model.specs.Limits.{most_stamp};
+ghost use Rattle.partition_model.specs.declared.options.TheConstants.{MAX_WEAR};
+ghost use Rattle.partition_model.specs.Options.{IsValid};
+ghost use Rattle.partition_model.specs.Write.{HasValueOf, write_of};
 
 use crate::cache_record::CacheRecord;
-use crate::{Op, Options, Outcome};
 use mica_io::{Bytes, NoMemory};
 use mica_words::{SLOTS, bucket_of, item_size, key_hash, tail_of};
+use partition_model::{Op, Options, Outcome};
 use std::alloc::Global;
 use std::marker::Model;
 
@@ -26,7 +27,7 @@ pub struct CacheState {
 }
 
 impl Model for CacheState {
-    ghost use Rattle.mica_model.specs.Cache.{Cache};
+    ghost use Rattle.partition_model.specs.Cache.{Cache};
     ghost use Rattle.mica_model.specs.Codes.{cache_code};
 
     ghost Value = { Cache };
@@ -93,7 +94,7 @@ impl CacheState {
     }
 
     /// The reply to a write.
-    #[tactic(auto, unfolding(crate::specs::CacheStep::reply))]
+    #[tactic(auto, unfolding(partition_model::specs::CacheStep::reply))]
     pub fn reply(&self, options: &Options, op: Op, key: &[u8], value: &[u8]) -> Outcome
         requires key { KeyFits key.now }
         requires value { HasValueOf op value.now }

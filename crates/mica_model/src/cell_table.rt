@@ -5,7 +5,7 @@ ghost use Rattle.std.specs.Option.{option_map};
 ghost use Rattle.mica_words.specs.Hash.{bucket_of};
 ghost use Rattle.mica_words.specs.Item.{ValueFits};
 ghost use Rattle.mica_words.specs.declared.entry.TheConstants.{SLOTS};
-ghost use Rattle.mica_model.specs.Store.{room_of, rooms, spares_in_use};
+ghost use Rattle.partition_model.specs.Store.{room_of, rooms, spares_in_use};
 ghost use Rattle.mica_model.specs.CellTable.{LacksSpare, with_cells, cell_of};
 
 use crate::bucket_keys::BucketKeys;

@@ -1,18 +1,18 @@
 -- In cache mode a trace has one exact report, and in both modes one with the same lines for its writes.
 use Rattle.std.proofs.Common.{◌≡◌, ℕ, ◌⊎◌, inl, inr, List, [], ◌∷◌, ◌++◌, length, Some, None, IsSome, refl, sym, ap, ◌∙◌, subst, arith, slice_get, cond, append_assoc, length-append}
 use Rattle.std.specs.List.{cons_option}
-use Rattle.mica_model.specs.declared.options.Options.{Options}
-use Rattle.mica_model.specs.declared.options.Mode.TheVariants.{Cache}
-use Rattle.mica_model.specs.declared.write.Op.{Op}
-use Rattle.mica_model.specs.declared.write.Op.TheVariants.{Put as PutOp, Add as AddOp, Touch as TouchOp, Del as DelOp}
-use Rattle.mica_model.specs.declared.write.Write.{Write}
-use Rattle.mica_model.specs.declared.write.Outcome.{Outcome}
-use Rattle.mica_model.specs.Options.{IsValid}
-use Rattle.mica_model.specs.Write.{is_accepted, write_of}
-use Rattle.mica_model.specs.Run.{IsRunFrom}
-use Rattle.mica_model.specs.CacheStep.{reply}
-use Rattle.mica_model.specs.History.{State, History, Allows, MayGive, stamp_of}
-use Rattle.mica_model.proofs.Histories.{cached_in}
+use Rattle.partition_model.specs.declared.options.Options.{Options}
+use Rattle.partition_model.specs.declared.options.Mode.TheVariants.{Cache}
+use Rattle.partition_model.specs.declared.write.Op.{Op}
+use Rattle.partition_model.specs.declared.write.Op.TheVariants.{Put as PutOp, Add as AddOp, Touch as TouchOp, Del as DelOp}
+use Rattle.partition_model.specs.declared.write.Write.{Write}
+use Rattle.partition_model.specs.declared.write.Outcome.{Outcome}
+use Rattle.partition_model.specs.Options.{IsValid}
+use Rattle.partition_model.specs.Write.{is_accepted, write_of}
+use Rattle.partition_model.specs.Run.{IsRunFrom}
+use Rattle.partition_model.specs.CacheStep.{reply}
+use Rattle.partition_model.specs.History.{State, History, Allows, MayGive, stamp_of}
+use Rattle.partition_model.proofs.Histories.{cached_in}
 use Rattle.mica_trace.specs.declared.line.TraceOp.{TraceOp}
 use Rattle.mica_trace.specs.declared.line.TraceOp.TheVariants.{Put, Add, Touch, Del, Get, Sync}
 use Rattle.mica_trace.specs.declared.line.TraceLine.{TraceLine}

@@ -1,17 +1,17 @@
 -- The outcomes that a machine may give are those that a report may have.
 use Rattle.std.proofs.Common.{◌≡◌, refl, sym, subst, cond, true, false, Bool}
 use Rattle.std.specs.Prelude.{is_some, nat_le}
-use Rattle.mica_model.specs.declared.options.Options.{Options}
-use Rattle.mica_model.specs.declared.write.Op.{Op}
-use Rattle.mica_model.specs.declared.write.Op.TheVariants.{Put as PutOp, Add as AddOp, Touch as TouchOp, Del as DelOp}
-use Rattle.mica_model.specs.declared.write.Write.{Write}
-use Rattle.mica_model.specs.declared.write.Outcome.{Outcome}
-use Rattle.mica_model.specs.declared.write.Outcome.TheVariants.{Stored, Deleted, Absent, Touched, FullSpare, FullBlock, Worn, Exists}
-use Rattle.mica_model.specs.Write.{GivesValue, size_of}
-use Rattle.mica_model.specs.Cache as cache
-use Rattle.mica_model.specs.CacheStep as cs
-use Rattle.mica_model.specs.StoreStep as ss
-use Rattle.mica_model.specs.History.{State, cache_state, store_state, Allows}
+use Rattle.partition_model.specs.declared.options.Options.{Options}
+use Rattle.partition_model.specs.declared.write.Op.{Op}
+use Rattle.partition_model.specs.declared.write.Op.TheVariants.{Put as PutOp, Add as AddOp, Touch as TouchOp, Del as DelOp}
+use Rattle.partition_model.specs.declared.write.Write.{Write}
+use Rattle.partition_model.specs.declared.write.Outcome.{Outcome}
+use Rattle.partition_model.specs.declared.write.Outcome.TheVariants.{Stored, Deleted, Absent, Touched, FullSpare, FullBlock, Worn, Exists}
+use Rattle.partition_model.specs.Write.{GivesValue, size_of}
+use Rattle.partition_model.specs.Cache as cache
+use Rattle.partition_model.specs.CacheStep as cs
+use Rattle.partition_model.specs.StoreStep as ss
+use Rattle.partition_model.specs.History.{State, cache_state, store_state, Allows}
 use Rattle.mica_trace.specs.ReportGrammar.{HasOutcome}
 
 -- each operation may find the partition worn

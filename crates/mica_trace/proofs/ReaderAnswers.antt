@@ -1,8 +1,8 @@
 -- A reader's answers in a partition, found at their places.
 use Rattle.std.proofs.Common.{◌≡◌, ℕ, zero, suc, ◌+◌, ◌<◌, ◌%◌, ◌==◌, List, [], ◌∷◌, length, take, Some, refl, ap, ◌∙◌, subst, arith, slice_get, zip, cond, true, false}
 use Rattle.std.proofs.lemmas.List.Sums.{sum_by-cons}
-use Rattle.mica_model.specs.declared.options.Options.{Options}
-use Rattle.mica_model.specs.History.{History, IsPrefix}
+use Rattle.partition_model.specs.declared.options.Options.{Options}
+use Rattle.partition_model.specs.History.{History, IsPrefix}
 use Rattle.mica_trace.specs.declared.line.TraceLine.{TraceLine}
 use Rattle.mica_trace.specs.declared.report.Line.{Line}
 use Rattle.mica_trace.specs.Rounds.{is_in_partition}

@@ -6,9 +6,9 @@ use Rattle.std.specs.Result.{result_ok}
 use Rattle.std.proofs.lemmas.List.{append-nil}
 use Rattle.std.proofs.lemmas.Bool.{false≢true}
 use Rattle.std.proofs.lemmas.Option.{none-some}
-use Rattle.mica_model.specs.declared.write.Op.{Op}
-use Rattle.mica_model.specs.declared.write.Op.TheVariants.{Put, Add, Touch, Del}
-use Rattle.mica_model.specs.declared.write.Outcome.{Outcome}
+use Rattle.partition_model.specs.declared.write.Op.{Op}
+use Rattle.partition_model.specs.declared.write.Op.TheVariants.{Put, Add, Touch, Del}
+use Rattle.partition_model.specs.declared.write.Outcome.{Outcome}
 use Rattle.mica_trace.specs.declared.report.Line.{Line}
 use Rattle.mica_trace.specs.declared.report.Line.TheVariants.{Wrote, Hit, Miss, Sync}
 use Rattle.mica_trace.specs.Lines.{Lacks}

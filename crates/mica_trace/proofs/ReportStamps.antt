@@ -4,15 +4,15 @@ use Rattle.std.specs.List.{AllByRecursion, AllZip, cons_option}
 use Rattle.std.proofs.lemmas.List.{append-nil}
 use Rattle.mica_words.proofs.Hashes.{partition_of-below}
 use Rattle.mica_words.specs.Packing.{AreBytes}
-use Rattle.mica_model.specs.declared.options.Options.{Options}
-use Rattle.mica_model.specs.declared.write.Op.TheVariants.{Put as PutOp, Add as AddOp, Touch as TouchOp, Del as DelOp}
-use Rattle.mica_model.specs.declared.write.Write.{Write}
-use Rattle.mica_model.specs.Options.{IsValid}
-use Rattle.mica_model.specs.Write.{IsWrite, is_accepted}
-use Rattle.mica_model.specs.History.{History, IsHistory, MayGive, stamp_of}
-use Rattle.mica_model.specs.Run.{RunStep, IsRunFrom, history_of}
-use Rattle.mica_model.proofs.Histories.{history_snoc}
-use Rattle.mica_model.proofs.Stamps.{stamp_small}
+use Rattle.partition_model.specs.declared.options.Options.{Options}
+use Rattle.partition_model.specs.declared.write.Op.TheVariants.{Put as PutOp, Add as AddOp, Touch as TouchOp, Del as DelOp}
+use Rattle.partition_model.specs.declared.write.Write.{Write}
+use Rattle.partition_model.specs.Options.{IsValid}
+use Rattle.partition_model.specs.Write.{IsWrite, is_accepted}
+use Rattle.partition_model.specs.History.{History, IsHistory, MayGive, stamp_of}
+use Rattle.partition_model.specs.Run.{RunStep, IsRunFrom, history_of}
+use Rattle.partition_model.proofs.Histories.{history_snoc}
+use Rattle.partition_model.proofs.Stamps.{stamp_small}
 use Rattle.mica_trace.specs.declared.line.TraceOp.{TraceOp}
 use Rattle.mica_trace.specs.declared.line.TraceOp.TheVariants.{Put, Add, Del, Touch, Get, Sync}
 use Rattle.mica_trace.specs.declared.line.TraceLine.{TraceLine}

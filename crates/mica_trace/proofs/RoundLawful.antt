@@ -6,10 +6,10 @@ use Rattle.std.proofs.lemmas.List.{take-append-le}
 use Rattle.std.proofs.lemmas.List.Elements.{filter_map-append}
 use Rattle.std.proofs.lemmas.List.Sums.{sum_by-append}
 use Rattle.mica_words.proofs.Hashes.{partition_of-below}
-use Rattle.mica_model.specs.declared.options.Options.{Options}
-use Rattle.mica_model.specs.Options.{IsValid}
-use Rattle.mica_model.specs.History.{History, IsPrefix, stamp_of}
-use Rattle.mica_model.specs.Run.{RunStep, IsRun, history_of}
+use Rattle.partition_model.specs.declared.options.Options.{Options}
+use Rattle.partition_model.specs.Options.{IsValid}
+use Rattle.partition_model.specs.History.{History, IsPrefix, stamp_of}
+use Rattle.partition_model.specs.Run.{RunStep, IsRun, history_of}
 use Rattle.mica_trace.specs.declared.line.TraceOp.{TraceOp}
 use Rattle.mica_trace.specs.declared.line.TraceOp.TheVariants.{Get}
 use Rattle.mica_trace.specs.declared.line.TraceLine.{TraceLine}
@@ -19,7 +19,7 @@ use Rattle.mica_trace.specs.TraceGrammar.{syncs_in}
 use Rattle.mica_trace.specs.Rounds.{partition_in, writes_of, lines_before, round_of, round_begin, round_end, reader_of, is_get_op}
 use Rattle.mica_trace.specs.LawfulReport.{IsLineFor, step_in, steps_of, history_after, Answers, IsGetAt, IsAnsweredInRound, printed_stamp, LawfulReport}
 use Rattle.mica_trace.specs.RoundReport.{EndsRound, IsOneRound, is_get, gets_in, history_in, IsRoundReport}
-use Rattle.mica_model.proofs.Rises.{prefix_rises}
+use Rattle.partition_model.proofs.Rises.{prefix_rises}
 use Rattle.mica_trace.proofs.ListParts.{same_part, zip-append, zip_at, AllZip-append, length_zip, take_past}
 use Rattle.mica_trace.proofs.Prefixes.{prefix_trans, prefix_between, history-append, run-append, step_of_prefix}
 use Rattle.mica_trace.proofs.RoundPlaces.{before_old, before_whole, before_all, round_old, round_low, round_new, writes_before_low, steps_count}

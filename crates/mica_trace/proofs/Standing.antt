@@ -2,13 +2,13 @@
 -- line of the trace.
 use Rattle.std.proofs.Common.{◌≡◌, ℕ, zero, suc, List, [], ◌∷◌, ◌++◌, slice_get, Option, Some, None, refl, sym, ap, ◌∙◌, subst, cond, true, false}
 use Rattle.std.specs.List.{AllByRecursion, AllZip, cons_option, fold}
-use Rattle.mica_model.specs.declared.options.Options.{Options}
-use Rattle.mica_model.specs.declared.write.Op.TheVariants.{Put as PutOp, Add as AddOp, Touch as TouchOp, Del as DelOp}
-use Rattle.mica_model.specs.declared.write.Write.{Write}
-use Rattle.mica_model.specs.Write.{GivesValue, is_accepted}
-use Rattle.mica_model.specs.History.{History, State, IsPrefix, MayGive, after, start, state_of}
-use Rattle.mica_model.specs.Run.{RunStep, accepted_write, history_of, IsRunFrom}
-use Rattle.mica_model.proofs.Values.{ValuesAre, start_are, after_are, value_is}
+use Rattle.partition_model.specs.declared.options.Options.{Options}
+use Rattle.partition_model.specs.declared.write.Op.TheVariants.{Put as PutOp, Add as AddOp, Touch as TouchOp, Del as DelOp}
+use Rattle.partition_model.specs.declared.write.Write.{Write}
+use Rattle.partition_model.specs.Write.{GivesValue, is_accepted}
+use Rattle.partition_model.specs.History.{History, State, IsPrefix, MayGive, after, start, state_of}
+use Rattle.partition_model.specs.Run.{RunStep, accepted_write, history_of, IsRunFrom}
+use Rattle.partition_model.proofs.Values.{ValuesAre, start_are, after_are, value_is}
 use Rattle.mica_trace.specs.declared.line.TraceOp.{TraceOp}
 use Rattle.mica_trace.specs.declared.line.TraceOp.TheVariants.{Put, Add, Del, Touch, Get, Sync}
 use Rattle.mica_trace.specs.declared.line.TraceLine.{TraceLine}

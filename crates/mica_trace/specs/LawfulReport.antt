@@ -1,11 +1,11 @@
 -- What makes a report lawful for options and a trace.
 use Rattle.std.specs.Prelude.{◌≡◌, ℕ, ◌<◌, ◌≤◌, List, take, slice_get, Option, Some, None, if◌then◌else◌}
 use Rattle.std.specs.List.{filter_map, zip, AllZip}
-use Rattle.mica_model.specs.declared.options.Options.{Options}
-use Rattle.mica_model.specs.declared.write.Op.{Op}
-use Rattle.mica_model.specs.declared.write.Write.{Write}
-use Rattle.mica_model.specs.History.{History}
-use Rattle.mica_model.specs.Run.{RunStep, IsRun, history_of, IsAnswerAt}
+use Rattle.partition_model.specs.declared.options.Options.{Options}
+use Rattle.partition_model.specs.declared.write.Op.{Op}
+use Rattle.partition_model.specs.declared.write.Write.{Write}
+use Rattle.partition_model.specs.History.{History}
+use Rattle.partition_model.specs.Run.{RunStep, IsRun, history_of, IsAnswerAt}
 use Rattle.mica_trace.specs.declared.line.TraceOp.{TraceOp}
 use Rattle.mica_trace.specs.declared.line.TraceOp.TheVariants.{Get, Sync}
 use Rattle.mica_trace.specs.declared.line.TraceLine.{TraceLine}

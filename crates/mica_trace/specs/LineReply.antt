@@ -1,9 +1,9 @@
 -- What a partition answers to one line of a trace, at the line's place.
 use Rattle.std.specs.Prelude.{◌≡◌, ℕ, Bool, not, ◌&&◌, List, [], ◌∷◌, ◌++◌, filter}
 use Rattle.std.specs.List.{cons_option}
-use Rattle.mica_model.specs.declared.options.Options.{Options}
-use Rattle.mica_model.specs.History.{History}
-use Rattle.mica_model.specs.Run.{RunStep, IsRunFrom, history_of}
+use Rattle.partition_model.specs.declared.options.Options.{Options}
+use Rattle.partition_model.specs.History.{History}
+use Rattle.partition_model.specs.Run.{RunStep, IsRunFrom, history_of}
 use Rattle.mica_trace.specs.declared.line.TraceOp.TheVariants.{Get}
 use Rattle.mica_trace.specs.declared.line.TraceLine.{TraceLine}
 use Rattle.mica_trace.specs.declared.report.Line.{Line}

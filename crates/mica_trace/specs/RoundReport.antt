@@ -1,9 +1,9 @@
 -- One round of a trace: whose its gets are, and what a report has for its lines.
 use Rattle.std.specs.Prelude.{◌≡◌, ℕ, ◌+◌, ◌<◌, ◌%◌, ◌==◌, Bool, true, false, List, [], ◌∷◌, ◌++◌, count_by, filter, zip, if◌then◌else◌}
 use Rattle.std.specs.List.{AllZip}
-use Rattle.mica_model.specs.declared.options.Options.{Options}
-use Rattle.mica_model.specs.History.{History, IsPrefix}
-use Rattle.mica_model.specs.Run.{IsRunFrom, history_of}
+use Rattle.partition_model.specs.declared.options.Options.{Options}
+use Rattle.partition_model.specs.History.{History, IsPrefix}
+use Rattle.partition_model.specs.Run.{IsRunFrom, history_of}
 use Rattle.mica_trace.specs.declared.line.TraceLine.{TraceLine}
 use Rattle.mica_trace.specs.declared.report.Line.{Line}
 use Rattle.mica_trace.specs.TraceGrammar.{is_sync}

@@ -1,7 +1,7 @@
 //! What the grammars of traces and reports say of texts.
 ghost use Rattle.std.specs.Prelude.{◌≡◌, ◌⊎◌, ◌++◌, ◌∷◌, [], ℕ, List};
-ghost use Rattle.mica_model.specs.declared.options.Options.{Options};
-ghost use Rattle.mica_model.specs.Options.{IsValid};
+ghost use Rattle.partition_model.specs.declared.options.Options.{Options};
+ghost use Rattle.partition_model.specs.Options.{IsValid};
 ghost use Rattle.mica_trace.specs.declared.line.TraceFault.{TraceFault};
 ghost use Rattle.mica_trace.specs.declared.line.TraceLine.{TraceLine};
 ghost use Rattle.mica_trace.specs.declared.report.Line.{Line};
@@ -10,7 +10,7 @@ ghost use Rattle.mica_trace.specs.ReportGrammar.{IsFirstBadLine, IsReport, repor
 ghost use Rattle.mica_trace.specs.LawfulReport.{LawfulReport};
 ghost use Rattle.mica_trace.specs.ExactReport.{ExactReport, AgreeOnWrites};
 
-use mica_model::Mode;
+use partition_model::Mode;
 
 /// A text is that of at most one trace, and of at most one report. Two texts of one trace differ in the last line feed
 /// alone, and a report has one text.

@@ -7,7 +7,7 @@ use crate::append::append_line;
 use crate::read::is_value;
 use itoa::Buffer;
 use mica_io::{Bytes, NoMemory};
-use mica_model::{Op, Outcome};
+use partition_model::{Op, Outcome};
 use std::alloc::Global;
 use std::marker::Model;
 

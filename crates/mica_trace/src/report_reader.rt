@@ -1,7 +1,7 @@
 //! Reads reports.
 ghost use Rattle.std.specs.Prelude.{◌≡◌, ◌≢◌, ◌<◌, ◌∷◌, ◌++◌, ℕ, List, length, codes, IfOk, IfErr, IsErrOf, MatchOption};
 ghost use Rattle.std.specs.Fmt.{decimal};
-ghost use Rattle.mica_model.specs.declared.write.Outcome.{Outcome};
+ghost use Rattle.partition_model.specs.declared.write.Outcome.{Outcome};
 ghost use Rattle.mica_trace.specs.ReportGrammar.{HasOutcome, outcome_words, op_word, IsStamp, SpellsLine, SpellsNoLine, IsReport, RefusesReport};
 
 use crate::read::{LineFault, is_value};
@@ -9,7 +9,7 @@ use crate::split::{after_word, split_at_byte};
 use crate::{Line, Report};
 use itoa::Buffer;
 use mica_io::{Bytes, NoMemory};
-use mica_model::{Op, Outcome};
+use partition_model::{Op, Outcome};
 use std::alloc::Global;
 use std::str;
 

@@ -1,11 +1,11 @@
 -- What an owner gains with one write.
 use Rattle.std.proofs.Common.{◌≡◌, ℕ, List, [], ◌∷◌, ◌++◌, Some, None, true, false, cond, sym, ap, ◌∙◌, subst, append-nil}
 use Rattle.std.specs.List.{cons_option}
-use Rattle.mica_model.specs.declared.write.Write.{Write}
-use Rattle.mica_model.specs.declared.write.Outcome.{Outcome}
-use Rattle.mica_model.specs.Write.{is_accepted}
-use Rattle.mica_model.specs.History.{History}
-use Rattle.mica_model.specs.Run.{history_of}
+use Rattle.partition_model.specs.declared.write.Write.{Write}
+use Rattle.partition_model.specs.declared.write.Outcome.{Outcome}
+use Rattle.partition_model.specs.Write.{is_accepted}
+use Rattle.partition_model.specs.History.{History}
+use Rattle.partition_model.specs.Run.{history_of}
 use Rattle.epoch_core.specs.declared.state.OwnerState.{OwnerState}
 use Rattle.epoch_core.specs.OwnerStep.{IsOwnerStep}
 

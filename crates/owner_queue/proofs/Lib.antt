@@ -5,4 +5,3 @@ pub mod Whole
 pub mod Counting
 pub mod OnlySender
 pub mod Gains
-pub mod Lists

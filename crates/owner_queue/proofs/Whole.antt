@@ -5,17 +5,17 @@ use Rattle.std.proofs.Props.{props}
 use Rattle.std.specs.FinMap.{get}
 use mathlib.Core.Logic.{dite}
 use native.Mathlib.Decide.{ℕ_discrete}
-use Rattle.mica_model.specs.declared.options.Options.{Options}
-use Rattle.mica_model.specs.declared.write.Op.{Op}
-use Rattle.mica_model.specs.declared.write.Op.TheVariants.{Put, Add, Touch, Del}
-use Rattle.mica_model.specs.declared.write.Write.{Write}
-use Rattle.mica_model.specs.declared.write.Outcome.{Outcome}
-use Rattle.mica_model.specs.declared.write.Outcome.TheVariants.{Stored, Deleted, Absent, Touched, FullSpare, FullBlock, Worn, Exists}
-use Rattle.mica_model.specs.Write.{GivesValue, Replaces, is_accepted, size_of}
-use Rattle.mica_model.specs.Store.{Cell, Store}
-use Rattle.mica_model.specs.StoreStep as ss
-use Rattle.mica_model.specs.History.{History, State, cache_state, store_state, IsCut, MayGive, Allows, state_of, stamp_of}
-use Rattle.mica_model.proofs.Rises.{one_cut}
+use Rattle.partition_model.specs.declared.options.Options.{Options}
+use Rattle.partition_model.specs.declared.write.Op.{Op}
+use Rattle.partition_model.specs.declared.write.Op.TheVariants.{Put, Add, Touch, Del}
+use Rattle.partition_model.specs.declared.write.Write.{Write}
+use Rattle.partition_model.specs.declared.write.Outcome.{Outcome}
+use Rattle.partition_model.specs.declared.write.Outcome.TheVariants.{Stored, Deleted, Absent, Touched, FullSpare, FullBlock, Worn, Exists}
+use Rattle.partition_model.specs.Write.{GivesValue, Replaces, is_accepted, size_of}
+use Rattle.partition_model.specs.Store.{Cell, Store}
+use Rattle.partition_model.specs.StoreStep as ss
+use Rattle.partition_model.specs.History.{History, State, cache_state, store_state, IsCut, MayGive, Allows, state_of, stamp_of}
+use Rattle.partition_model.proofs.Rises.{one_cut}
 use Rattle.epoch_core.specs.Shape.{options_of}
 use Rattle.epoch_core.specs.declared.reader.ReaderState.{ReaderState}
 use Rattle.owner_queue.specs.Acked.{IsReplyAt, IsAcked}

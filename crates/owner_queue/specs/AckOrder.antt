@@ -1,7 +1,7 @@
 -- In what order acknowledgements may be sent.
 use Rattle.std.specs.Prelude.{◌≡◌, ℕ, ◌<◌, ◌≤◌, true, List, [], All, refl}
 use Rattle.atomic_table.specs.Seated.{TableId}
-use Rattle.mica_model.specs.Write.{is_accepted}
+use Rattle.partition_model.specs.Write.{is_accepted}
 use Rattle.epoch_core.specs.declared.shape.Shape.{Shape}
 use Rattle.epoch_core.specs.ReaderState.{newcomer}
 use Rattle.partition_table.specs.declared.reader.Note.{Note}

@@ -1,8 +1,8 @@
 -- Jobs, ends, and in what order one sender may send them.
 use Rattle.std.specs.Prelude.{Option, Some, None, ◌≡◌, ℕ, ◌<◌, Bool, true, false, List, All}
 use Rattle.std.specs.List.{list_any, filter_map}
-use Rattle.mica_model.specs.declared.write.Write.{Write}
-use Rattle.mica_model.specs.Write.{IsWrite}
+use Rattle.partition_model.specs.declared.write.Write.{Write}
+use Rattle.partition_model.specs.Write.{IsWrite}
 use Rattle.owner_queue.specs.declared.message.Message.{Message}
 use Rattle.owner_queue.specs.declared.message.Message.TheVariants as kind
 use Rattle.ruled_queue.specs.Delivery as delivery

@@ -2,7 +2,7 @@
 ghost use Rattle.owner_queue.specs.Acked.{IsAcked};
 ghost use Rattle.partition_table.specs.Seats.{note_state};
 
-use mica_model::{Outcome, Write};
+use partition_model::{Outcome, Write};
 use partition_table::Note;
 use ruled_queue::{Queued, Terms};
 use std::marker::Brand;

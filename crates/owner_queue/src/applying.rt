@@ -1,10 +1,10 @@
 //! What an owner does with the write of a job.
 ghost use Rattle.std.specs.Prelude.{◌≡◌};
-ghost use Rattle.mica_model.specs.Write.{IsWrite};
+ghost use Rattle.partition_model.specs.Write.{IsWrite};
 ghost use Rattle.epoch_core.specs.OwnerStep.{IsOwnerStep};
 
 use epoch_core::{Partition, write_to};
-use mica_model::{Outcome, Write};
+use partition_model::{Outcome, Write};
 
 /// Does the write in the partition.
 pub fn apply_write<P: Partition>(part: &mut P, write: &Write) -> Outcome

@@ -2,7 +2,7 @@
 ghost use Rattle.std.specs.Prelude.{◌≡◌};
 ghost use Rattle.owner_queue.specs.Messages.{sender_of};
 
-use mica_model::Write;
+use partition_model::Write;
 use ruled_queue::{Queued, Terms};
 use std::marker::Brand;
 

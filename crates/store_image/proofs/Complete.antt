@@ -7,6 +7,7 @@ use Rattle.std.proofs.lemmas.Bool.{ltb-false, eqb-false, eqb-true, true≢false}
 use Rattle.std.proofs.lemmas.Nat.{le_bytes_2, le_bytes_4}
 use Rattle.std.proofs.lemmas.Slice.Eq.{bytes_eq-Decides}
 use Rattle.std.proofs.lemmas.List.{length-take-le, take-append-drop, drop-drop, get_or-drop, length-drop, length_push}
+use Rattle.list_laws.proofs.AllElements.{all_push}
 use Rattle.mica_words.specs.Packing.{AreBytes}
 use Rattle.mica_words.specs.Item.{KeyFits, ValueFits}
 use Rattle.mica_words.specs.declared.item.TheConstants.{MAX_VALUE_LEN}
@@ -15,7 +16,7 @@ use Rattle.store_image.specs.declared.image.Pair.{Pair}
 use Rattle.store_image.specs.declared.image.TheConstants.{MAGIC, VERSION}
 use Rattle.store_image.specs.ImageGrammar.{IsPair, KeysRise, SpellsImage, or_later, header_text, header_fault, pair_text, image_text, key_len_at, value_len_at, pair_len_at, key_at, value_at, count_at, are_between, is_above, last_key, lengths_fault, texts_fault, pair_fault, pairs_fault, first_fault}
 use Rattle.store_image.proofs.PairLaws.{pair_in}
-use Rattle.store_image.proofs.Rising.{all_push, none_rise, rises_more, last_more}
+use Rattle.store_image.proofs.Rising.{none_rise, rises_more, last_more}
 use Rattle.store_image.proofs.Texts.{both, between_all}
 use Rattle.store_image.proofs.Walk.{texts_more, spelled}
 

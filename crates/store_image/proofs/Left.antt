@@ -10,10 +10,10 @@ use Rattle.std.proofs.lemmas.List.Elements.{filter_map-append}
 use Rattle.std.proofs.lemmas.Option.{slice_get-map, slice_get-get_or}
 use Rattle.mica_words.specs.Hash.{partition_of}
 use Rattle.mica_words.proofs.Hashes.{partition_of-below}
-use Rattle.mica_model.specs.declared.options.Options.{Options}
-use Rattle.mica_model.specs.declared.options.Mode.TheVariants.{Store}
-use Rattle.mica_model.specs.Options.{IsValid}
-use Rattle.mica_model.specs.History.{answer_of, stamp_of, value_in as value_by, State}
+use Rattle.partition_model.specs.declared.options.Options.{Options}
+use Rattle.partition_model.specs.declared.options.Mode.TheVariants.{Store}
+use Rattle.partition_model.specs.Options.{IsValid}
+use Rattle.partition_model.specs.History.{answer_of, stamp_of, value_in as value_by, State}
 use Rattle.mica_trace.specs.declared.line.TraceLine.{TraceLine}
 use Rattle.mica_trace.specs.declared.report.Line.{Line}
 use Rattle.mica_trace.specs.declared.report.Line.TheVariants.{Hit}

@@ -8,20 +8,20 @@ use Rattle.std.specs.Ordering.{nat_cmp, eq_by_cmp}
 use Rattle.std.specs.Cmp.Lexicographic.{slice_cmp, nat_list_cmp_total}
 use Rattle.std.proofs.lemmas.Bool.{true≢false}
 use Rattle.std.proofs.lemmas.Slice.Eq.{bytes_eq-Decides}
-use Rattle.mica_model.specs.declared.options.Options.{Options}
-use Rattle.mica_model.specs.declared.options.Mode.{Mode}
-use Rattle.mica_model.specs.declared.options.Mode.TheVariants.{Store as StoreMode}
-use Rattle.mica_model.specs.declared.write.Op.{Op}
-use Rattle.mica_model.specs.declared.write.Op.TheVariants.{Put as PutOp, Add as AddOp, Touch as TouchOp, Del as DelOp}
-use Rattle.mica_model.specs.declared.write.Write.{Write}
-use Rattle.mica_model.specs.declared.write.Outcome.{Outcome}
-use Rattle.mica_model.specs.Write.{is_accepted, GivesValue, write_of}
-use Rattle.mica_model.specs.Fate.{GivesNoValue}
-use Rattle.mica_model.specs.Store as store
-use Rattle.mica_model.specs.StoreStep as ss
-use Rattle.mica_model.specs.History.{History, State, store_state, after, start, answer_of, value_in}
-use Rattle.mica_model.specs.Run.{RunStep, history_of}
-use Rattle.mica_model.proofs.StoreLaws.{others_same}
+use Rattle.partition_model.specs.declared.options.Options.{Options}
+use Rattle.partition_model.specs.declared.options.Mode.{Mode}
+use Rattle.partition_model.specs.declared.options.Mode.TheVariants.{Store as StoreMode}
+use Rattle.partition_model.specs.declared.write.Op.{Op}
+use Rattle.partition_model.specs.declared.write.Op.TheVariants.{Put as PutOp, Add as AddOp, Touch as TouchOp, Del as DelOp}
+use Rattle.partition_model.specs.declared.write.Write.{Write}
+use Rattle.partition_model.specs.declared.write.Outcome.{Outcome}
+use Rattle.partition_model.specs.Write.{is_accepted, GivesValue, write_of}
+use Rattle.partition_model.specs.Fate.{GivesNoValue}
+use Rattle.partition_model.specs.Store as store
+use Rattle.partition_model.specs.StoreStep as ss
+use Rattle.partition_model.specs.History.{History, State, store_state, after, start, answer_of, value_in}
+use Rattle.partition_model.specs.Run.{RunStep, history_of}
+use Rattle.partition_model.proofs.StoreLaws.{others_same}
 use Rattle.mica_trace.specs.declared.line.TraceOp.{TraceOp}
 use Rattle.mica_trace.specs.declared.line.TraceOp.TheVariants.{Put, Add, Touch, Del, Get, Sync}
 use Rattle.mica_trace.specs.declared.line.TraceLine.{TraceLine}

@@ -9,6 +9,7 @@ use Rattle.std.specs.Ordering.{nat_cmp, is_lt}
 use Rattle.std.specs.Cmp.Lexicographic.{slice_cmp, nat_list_cmp_total}
 use Rattle.std.proofs.lemmas.List.{map-append, length-map}
 use Rattle.std.proofs.lemmas.Option.{slice_get-map}
+use Rattle.list_laws.proofs.AllElements.{all_push}
 use Rattle.store_image.specs.declared.image.Pair.{Pair}
 use Rattle.store_image.specs.ImageGrammar.{key_of, KeysRise, is_above, last_key}
 
@@ -23,10 +24,6 @@ less Greater e = absurd (cc)
 all_last : {X : Type 0} (P : X → Type 0) (xs : List X) (x : X) → AllByRecursion P (xs ++ x ∷ []) → P x
 all_last P [] x all = all.0
 all_last P (y ∷ xs) x all = all_last P xs x all.1
-
-pub all_push : {X : Type 0} (P : X → Type 0) (xs : List X) (x : X) → AllByRecursion P xs → P x → AllByRecursion P (xs ++ x ∷ [])
-all_push P [] x all one = (one, tt)
-all_push P (y ∷ xs) x all one = (all.0, all_push P xs x all.1 one)
 
 abbrev last_of : List (List ℕ) → Option (List ℕ)
 last_of keys = slice_get keys (length keys - 1)

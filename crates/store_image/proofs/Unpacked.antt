@@ -12,19 +12,19 @@ use Rattle.std.specs.Cmp.Lexicographic.{slice_cmp, nat_list_cmp_total}
 use Rattle.std.proofs.lemmas.Bool.{true≢false, eqb-true}
 use Rattle.std.proofs.lemmas.Slice.Eq.{bytes_eq-Decides}
 use Rattle.mica_words.specs.Hash.{partition_of}
-use Rattle.mica_model.specs.declared.options.Options.{Options}
-use Rattle.mica_model.specs.declared.options.Mode.{Mode}
-use Rattle.mica_model.specs.declared.options.Mode.TheVariants.{Store as StoreMode}
-use Rattle.mica_model.specs.declared.write.Op.{Op}
-use Rattle.mica_model.specs.declared.write.Op.TheVariants.{Put as PutOp}
-use Rattle.mica_model.specs.declared.write.Outcome.{Outcome}
-use Rattle.mica_model.specs.declared.write.Write.{Write}
-use Rattle.mica_model.specs.Write.{is_accepted, write_of, size_of}
-use Rattle.mica_model.specs.Store as store
-use Rattle.mica_model.specs.StoreStep as ss
-use Rattle.mica_model.specs.History.{History, State, store_state, after, start, answer_of, value_in as value_by}
-use Rattle.mica_model.specs.Run.{RunStep, history_of}
-use Rattle.mica_model.proofs.StoreLaws.{others_same}
+use Rattle.partition_model.specs.declared.options.Options.{Options}
+use Rattle.partition_model.specs.declared.options.Mode.{Mode}
+use Rattle.partition_model.specs.declared.options.Mode.TheVariants.{Store as StoreMode}
+use Rattle.partition_model.specs.declared.write.Op.{Op}
+use Rattle.partition_model.specs.declared.write.Op.TheVariants.{Put as PutOp}
+use Rattle.partition_model.specs.declared.write.Outcome.{Outcome}
+use Rattle.partition_model.specs.declared.write.Write.{Write}
+use Rattle.partition_model.specs.Write.{is_accepted, write_of, size_of}
+use Rattle.partition_model.specs.Store as store
+use Rattle.partition_model.specs.StoreStep as ss
+use Rattle.partition_model.specs.History.{History, State, store_state, after, start, answer_of, value_in as value_by}
+use Rattle.partition_model.specs.Run.{RunStep, history_of}
+use Rattle.partition_model.proofs.StoreLaws.{others_same}
 use Rattle.mica_trace.specs.declared.line.TraceLine.{TraceLine}
 use Rattle.mica_trace.specs.declared.report.Line.{Line}
 use Rattle.mica_trace.specs.declared.report.Line.TheVariants.{Wrote, Hit, Miss, Sync as SyncLine}

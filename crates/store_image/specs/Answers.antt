@@ -1,7 +1,7 @@
 -- What partitions answer to keys.
 use Rattle.std.specs.Prelude.{ℕ, List, slice_get, Option, Some, None, option_and_then}
 use Rattle.mica_words.specs.Hash.{partition_of}
-use Rattle.mica_model.specs.History.{answer_of}
+use Rattle.partition_model.specs.History.{answer_of}
 use Rattle.epoch_core.specs.declared.state.OwnerState.{OwnerState}
 use Rattle.epoch_core.specs.OwnerState.{options_in}
 

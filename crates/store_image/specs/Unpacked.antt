@@ -1,7 +1,7 @@
 -- An image replayed from nothing.
 use Rattle.std.specs.Prelude.{◌≡◌, true, List}
 use Rattle.std.specs.List.{AllByRecursion}
-use Rattle.mica_model.specs.Write.{is_accepted}
+use Rattle.partition_model.specs.Write.{is_accepted}
 use Rattle.mica_trace.specs.declared.report.Line.{Line}
 use Rattle.mica_trace.specs.declared.report.Line.TheVariants.{Wrote}
 

@@ -1,7 +1,7 @@
 //! What the grammar of images says.
 ghost use Rattle.std.specs.Prelude.{◌≡◌, ℕ, List, None};
 ghost use Rattle.mica_words.specs.Packing.{AreBytes};
-ghost use Rattle.mica_model.specs.declared.options.Options.{Options};
+ghost use Rattle.partition_model.specs.declared.options.Options.{Options};
 ghost use Rattle.mica_trace.specs.declared.report.Line.{Line};
 ghost use Rattle.mica_trace.specs.ExactReport.{ExactReport};
 ghost use Rattle.store_image.specs.declared.image.Pair.{Pair};
@@ -10,7 +10,7 @@ ghost use Rattle.store_image.specs.ImageLines.{put_lines};
 ghost use Rattle.store_image.specs.ImageOf.{HasPairsOf};
 ghost use Rattle.store_image.specs.Unpacked.{RefusesNothing};
 
-use mica_model::Mode;
+use partition_model::Mode;
 
 /// Bytes are the text of one image at most, and an image has one text.
 pub fn one_image()

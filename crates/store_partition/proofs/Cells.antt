@@ -1,5 +1,5 @@
 -- What a write makes of the machine's cells: one key has another cell, or none.
-use Rattle.mica_model.specs.StoreStep as ss
+use Rattle.partition_model.specs.StoreStep as ss
 use Rattle.store_partition.proofs.Words.{Add, Cell, Cells, Del, GivesValue, List, None, Op, Option, Put, Some, Touch, Store, Write, ap, arith, bucket_of, cond}
 use Rattle.store_partition.proofs.Words.{eq_by_cmp_equiv, get, get-insert, get-remove, insert, is_some, keys_in, keys_over, len, len-insert}
 use Rattle.store_partition.proofs.Words.{len-remove, less_here, less_others, nat_list_cmp_total, new_here, new_others, refl, remove, remove_none}

@@ -1,6 +1,6 @@
 -- The events of a write: when each may happen, what it makes of its key's entry and block, and the one theorem of all writes: after it the words
 -- of its bucket stand for the machine's state, and the index and the heap are the partition's once it has ended.
-use Rattle.mica_model.specs.StoreStep as ss
+use Rattle.partition_model.specs.StoreStep as ss
 use Rattle.store_partition.proofs.Words.{AcceptedWrite, Allows, AreParts, Begins, Block, Ends, Index, IsBucket, IsIndexOf, IsMain, IsOwnerStep}
 use Rattle.store_partition.proofs.Words.{IsUsed, IsWrite, Keeps, Kept, List, Marked, MayBegin, MayEnd, MayMark, Outcome, OwnerState, Spot, StandsFor}
 use Rattle.store_partition.proofs.Words.{WhenMarked, Write, [], after, after_event, all_more, all_on, ap, at, bit_same, bucket_in, chain_inside}

@@ -17,7 +17,7 @@ use Rattle.store_partition.proofs.Words.{sum_by_popped, used_blocks-taken, words
 use Rattle.store_partition.proofs.Lists.{block_within, nothing, once_by, same_or_apart, single, added, list_on}
 use Rattle.store_partition.proofs.Cells.{one_or_none}
 use Rattle.circular_log.proofs.SpeltItem.{spelt_item}
-use Rattle.mica_model.specs.StoreStep as ss
+use Rattle.partition_model.specs.StoreStep as ss
 
 -- an owner's state, with the index and the blocks that go with it
 pub record Held : Type 0 where

@@ -1,5 +1,5 @@
 -- The parts of a partition: what is only said to hold of them holds, those over words as made, and those of an owner that has met a reader.
-use Rattle.mica_model.specs.Store as store
+use Rattle.partition_model.specs.Store as store
 use Rattle.chained_index.specs.ChainEntries.{buckets_from, buckets_of, entries_in, entries_of}
 use Rattle.store_partition.proofs.Words.{AreParts, Block, Bool, CacheMode, Cell, Contains, Decides, Decides-and, Decides-eqb, Fills, Has, Index}
 use Rattle.store_partition.proofs.Words.{IsIndexOf, IsMain, IsMerged, IsValidShape, Kept, List, Met, Mode, OwnerState, Shape, StoreMode, [], ap}

@@ -35,21 +35,21 @@ pub use Rattle.mica_words.proofs.ItemWords.{length-item_words}
 pub use Rattle.mica_words.specs.declared.entry.TheConstants.{SLOTS}
 pub use Rattle.mica_words.specs.Hash.{hash_bucket, hash_tag, tag_of}
 pub use Rattle.mica_words.specs.Spelling.{item_words}
-pub use Rattle.mica_model.proofs.CacheKept.{size_at_most}
-pub use Rattle.mica_model.proofs.CellSums.{keys_over, no_keys, no_rooms, remove_none, rooms_insert, rooms_remove}
-pub use Rattle.mica_model.proofs.Histories.{accepted_is_length}
-pub use Rattle.mica_model.proofs.StoreLaws.{others_same, stamp_is_length}
-pub use Rattle.mica_model.proofs.TableSteps.{less_here, less_others, new_here, new_others}
-pub use Rattle.mica_model.specs.History.{Allows, accepted_in, after, stamp_in}
-pub use Rattle.mica_model.specs.Store.{Store, room_of, rooms}
-pub use Rattle.mica_model.specs.Write.{GivesValue, HasValueOf, IsWrite, Replaces, is_accepted, size_of, write_of}
-pub use Rattle.mica_model.specs.declared.options.Mode.{Mode}
-pub use Rattle.mica_model.specs.declared.options.Mode.TheVariants.{Cache as CacheMode, Store as StoreMode}
-pub use Rattle.mica_model.specs.declared.write.Op.{Op}
-pub use Rattle.mica_model.specs.declared.write.Op.TheVariants.{Add, Del, Put, Touch}
-pub use Rattle.mica_model.specs.declared.write.Outcome.{Outcome}
-pub use Rattle.mica_model.specs.declared.write.Outcome.TheVariants.{Absent, Deleted, Exists, FullBlock, FullSpare, Stored, Touched}
-pub use Rattle.mica_model.specs.declared.write.Write.{Write}
+pub use Rattle.partition_model.proofs.CacheKept.{size_at_most}
+pub use Rattle.partition_model.proofs.CellSums.{keys_over, no_keys, no_rooms, remove_none, rooms_insert, rooms_remove}
+pub use Rattle.partition_model.proofs.Histories.{accepted_is_length}
+pub use Rattle.partition_model.proofs.StoreLaws.{others_same, stamp_is_length}
+pub use Rattle.partition_model.proofs.BucketSums.{less_here, less_others, new_here, new_others}
+pub use Rattle.partition_model.specs.History.{Allows, accepted_in, after, stamp_in}
+pub use Rattle.partition_model.specs.Store.{Store, room_of, rooms}
+pub use Rattle.partition_model.specs.Write.{GivesValue, HasValueOf, IsWrite, Replaces, is_accepted, size_of, write_of}
+pub use Rattle.partition_model.specs.declared.options.Mode.{Mode}
+pub use Rattle.partition_model.specs.declared.options.Mode.TheVariants.{Cache as CacheMode, Store as StoreMode}
+pub use Rattle.partition_model.specs.declared.write.Op.{Op}
+pub use Rattle.partition_model.specs.declared.write.Op.TheVariants.{Add, Del, Put, Touch}
+pub use Rattle.partition_model.specs.declared.write.Outcome.{Outcome}
+pub use Rattle.partition_model.specs.declared.write.Outcome.TheVariants.{Absent, Deleted, Exists, FullBlock, FullSpare, Stored, Touched}
+pub use Rattle.partition_model.specs.declared.write.Write.{Write}
 pub use Rattle.epoch_core.proofs.Keeps.{kept_after}
 pub use Rattle.epoch_core.proofs.Keys.{has_its_key}
 pub use Rattle.epoch_core.proofs.Machine.{all_more}

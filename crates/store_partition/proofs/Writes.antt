@@ -1,6 +1,6 @@
 -- The kinds of write, each an exchange of its key's entry and block: a put in the room that the key has, one that takes a block for a key
 -- that has an item or, as an add, for one that has none, a delete of a key that has an item, and a write that has its events alone.
-use Rattle.mica_model.specs.StoreStep as ss
+use Rattle.partition_model.specs.StoreStep as ss
 use Rattle.store_partition.proofs.Words.{SLOTS, Absent, AcceptedWrite, Add, All-contains, Allows, AreBytes, BelongsTo, Block, CanPlay, Cell, ChangesChain}
 use Rattle.store_partition.proofs.Words.{Contains, Contains-append_right, Contains-get_or, Contains-permutation, Del, Deleted, Has, HasKey}
 use Rattle.store_partition.proofs.Words.{HasKeyWords, HasNoSpot, HasUsed, Index, IsBlockList, IsIndexOf, IsMain, IsOffset, IsPermutation}

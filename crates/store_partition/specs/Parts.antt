@@ -2,10 +2,10 @@
 use Rattle.std.specs.Prelude.{◌≡◌, ℕ, ◌<◌, List, length, slice_index, Contains}
 use Rattle.std.specs.FinMap.{empty, len}
 use Rattle.mica_words.specs.Entry.{entry_offset}
-use Rattle.mica_model.specs.declared.options.Mode.TheVariants.{Store}
-use Rattle.mica_model.specs.declared.write.Write.{Write}
-use Rattle.mica_model.specs.Store.{Cells, rooms, keys_in}
-use Rattle.mica_model.specs.History.{State, cache_state, store_state}
+use Rattle.partition_model.specs.declared.options.Mode.TheVariants.{Store}
+use Rattle.partition_model.specs.declared.write.Write.{Write}
+use Rattle.partition_model.specs.Store.{Cells, rooms, keys_in}
+use Rattle.partition_model.specs.History.{State, cache_state, store_state}
 use Rattle.epoch_core.specs.declared.state.OwnerState.{OwnerState}
 use Rattle.epoch_core.specs.declared.state.Phase.TheVariants.{Idle}
 use Rattle.epoch_core.specs.declared.event.Event.TheVariants.{Begins, Marks}

@@ -3,10 +3,10 @@ ghost use Rattle.std.specs.Prelude.{◌≡◌, ◌+◌, ◌<◌, ◌≤◌, ◌�
 ghost use Rattle.mica_words.specs.Hash.{fnv1a};
 ghost use Rattle.mica_words.specs.Item.{KeyFits, ValueFits, item_size as item_size_of};
 ghost use Rattle.mica_words.specs.Entry.{entry_offset as entry_offset_of};
-ghost use Rattle.mica_model.specs.declared.options.Mode.TheVariants.{Store};
-ghost use Rattle.mica_model.specs.declared.write.Op.TheVariants.{Put, Add, Touch, Del};
-ghost use Rattle.mica_model.specs.Write.{GivesValue, write_of};
-ghost use Rattle.mica_model.specs.History.{stamp_of};
+ghost use Rattle.partition_model.specs.declared.options.Mode.TheVariants.{Store};
+ghost use Rattle.partition_model.specs.declared.write.Op.TheVariants.{Put, Add, Touch, Del};
+ghost use Rattle.partition_model.specs.Write.{GivesValue, write_of};
+ghost use Rattle.partition_model.specs.History.{stamp_of};
 ghost use Rattle.epoch_core.specs.declared.state.Phase.TheVariants.{Idle};
 ghost use Rattle.epoch_core.specs.OwnerState.{options_in, as_made};
 ghost use Rattle.epoch_core.specs.OwnerStep.{IsOwnerStep};
@@ -25,8 +25,8 @@ use epoch_core::{
     LendPartition, LendWords, OwnerWords, Partition, rewrite_item, write_item_hashed,
 };
 use mica_io::NoMemory;
-use mica_model::{Answer, ItemBuf, Op, Outcome};
 use mica_words::{item_size, tag_of};
+use partition_model::{Answer, ItemBuf, Op, Outcome};
 use std::alloc::Global;
 
 /// A partition over an owner's words. Its stamp is the number of accepted writes.

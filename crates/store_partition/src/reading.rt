@@ -4,8 +4,8 @@ ghost use Rattle.mica_words.specs.declared.entry.TheConstants.{SLOTS};
 ghost use Rattle.mica_words.specs.Hash.{fnv1a};
 ghost use Rattle.mica_words.specs.Item.{KeyFits};
 ghost use Rattle.mica_words.specs.Entry.{entry_offset as entry_offset_of};
-ghost use Rattle.mica_model.specs.Answer.{IsAnswer};
-ghost use Rattle.mica_model.specs.History.{answer_of};
+ghost use Rattle.partition_model.specs.Answer.{IsAnswer};
+ghost use Rattle.partition_model.specs.History.{answer_of};
 ghost use Rattle.epoch_core.specs.Shape.{IsBucket};
 ghost use Rattle.epoch_core.specs.OwnerState.{options_in};
 ghost use Rattle.epoch_core.specs.StandsFor.{room_in};
@@ -19,8 +19,8 @@ use block_heap::Heap;
 use chained_index::{ChainedIndex, Spot};
 use circular_log::item_at;
 use epoch_core::{OwnerWords, WordAt};
-use mica_model::{Answer, ItemBuf};
 use mica_words::{bucket_of, entry_offset, header_room, key_hash};
+use partition_model::{Answer, ItemBuf};
 
 /// A key's hash, its bucket, and the spot of its entry there if it has one.
 #[derive(Drop)]

@@ -1,7 +1,7 @@
 use Rattle.std.proofs.Common.{◌≡◌, ℕ, ◌+◌, ◌-◌, ◌<◌, ap, sym, ◌∙◌, subst, arith, length}
 use Rattle.mica_words.specs.Item.{item_size}
 use Rattle.mica_words.proofs.Sizes.{item_size-most}
-use Rattle.mica_model.specs.Cache.{Record}
+use Rattle.partition_model.specs.Cache.{Record}
 use Rattle.epoch_core.specs.declared.shape.Shape.{Shape}
 use Rattle.epoch_core.specs.declared.state.OwnerState.{OwnerState}
 use Rattle.epoch_core.specs.Kept.{Kept}

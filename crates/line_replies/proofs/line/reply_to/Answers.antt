@@ -1,5 +1,5 @@
 use Rattle.std.proofs.Common.{ℕ, List, sym, ◌∙◌, subst}
-use Rattle.mica_model.specs.Write.{write_of}
+use Rattle.partition_model.specs.Write.{write_of}
 use Rattle.line_replies.specs.Replied.{IsWritten}
 use Rattle.line_replies.proofs.Lines.{replied_write}
 use Rattle.line_replies.proofs.line.reply_to.Goals as goal

@@ -1,9 +1,9 @@
 use Rattle.std.proofs.Common.{◌≡◌, ℕ, List, Option, ap, sym, ◌∙◌, Some, None, get_or, take, drop}
-use Rattle.mica_model.specs.declared.options.Options.{Options}
-use Rattle.mica_model.specs.declared.fate.Fate.TheVariants.{Displaced, Passed}
-use Rattle.mica_model.specs.Cache.{Cache, Record}
+use Rattle.partition_model.specs.declared.options.Options.{Options}
+use Rattle.partition_model.specs.declared.fate.Fate.TheVariants.{Displaced, Passed}
+use Rattle.partition_model.specs.Cache.{Cache, Record}
 use Rattle.mica_model.specs.CacheFields.{Notes, displaced_at, marked, marked_passed, marked_displaced, notes_of, without_at}
-use Rattle.mica_model.specs.CacheStep.{without_passed}
+use Rattle.partition_model.specs.CacheStep.{without_passed}
 use Rattle.mica_model.proofs.CacheSteps.{displaced_found, displaced_goes, displaced_missed}
 use Rattle.mica_model.proofs.Passed.{passed_dropped, passed_marked}
 use Rattle.mica_model.proofs.cache_machine.drop_dead.Goals as goal

@@ -1,6 +1,6 @@
 use Rattle.std.proofs.Common.{◌≡◌, subst}
-use Rattle.mica_model.specs.declared.write.Write.{Write}
-use Rattle.mica_model.specs.Write.{write_of}
+use Rattle.partition_model.specs.declared.write.Write.{Write}
+use Rattle.partition_model.specs.Write.{write_of}
 use Rattle.epoch_core.specs.OwnerStep.{IsOwnerStep}
 use Rattle.owner_queue.proofs.applying.apply_write.Goals as goal
 

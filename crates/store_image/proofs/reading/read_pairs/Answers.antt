@@ -1,9 +1,10 @@
 use Rattle.std.proofs.Common.{◌≡◌, ◌+◌, ◌-◌, ◌++◌, ◌∷◌, [], true, ℕ, List, Option, Some, None, length, refl, sym, ap, ◌∙◌, subst, arith, rules}
 use Rattle.std.specs.List.{flat_map}
 use Rattle.std.proofs.lemmas.List.{length_push}
+use Rattle.list_laws.proofs.AllElements.{all_push}
 use Rattle.store_image.specs.declared.image.Pair.{Pair}
 use Rattle.store_image.specs.ImageGrammar.{IsPair, IsFirst, header_text, pair_text, pair_fault, pairs_fault, first_fault, is_above, last_key, key_at}
-use Rattle.store_image.proofs.Rising.{all_push, none_rise, rises_more, last_more}
+use Rattle.store_image.proofs.Rising.{none_rise, rises_more, last_more}
 use Rattle.store_image.proofs.Texts.{header_passed, header_first}
 use Rattle.store_image.proofs.Walk.{goes_on, ends, trails, is_done, texts_more, is_first, spelled}
 use Rattle.store_image.proofs.reading.read_pairs.Goals as goal

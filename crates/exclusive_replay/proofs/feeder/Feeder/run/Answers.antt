@@ -1,12 +1,12 @@
 use Rattle.std.proofs.Common.{◌≡◌, ◌+◌, ◌<◌, ◌≤◌, ◌∷◌, [], ℕ, zero, suc, List, length, take, get_or, slice_set, refl, sym, ap, ◌∙◌, subst, arith}
 use Rattle.std.proofs.lemmas.Option.{slice_get_read}
+use Rattle.list_laws.proofs.UpTo.{UpTo, up_none}
 use Rattle.mica_words.specs.Hash.{fnv1a, hash_partition}
 use Rattle.mica_words.proofs.Hashes.{partition_of_hash, partition_of-below}
 use Rattle.mica_trace.specs.declared.line.TraceLine.{TraceLine}
 use Rattle.mica_trace.specs.Rounds.{partition_in}
 use Rattle.exclusive_replay.specs.declared.feeder.Feeder.{Feeder}
 use Rattle.exclusive_replay.specs.LineEnds.{LineBox}
-use Rattle.exclusive_replay.proofs.Places.{UpTo, up_none}
 use Rattle.exclusive_replay.proofs.Fed.{IsFeeding, HasEnded, feed_none, feed_sync, may_follow, feed_one, may_end, ends_one, has_fed}
 use Rattle.exclusive_replay.proofs.feeder.Feeder.run.Goals.{then-not-is_sync, else-not-is_sync}
 use Rattle.exclusive_replay.proofs.feeder.Feeder.run.Goals as goal

@@ -1,4 +1,4 @@
-use Rattle.exclusive_replay.proofs.Places.{UpTo}
+use Rattle.list_laws.proofs.UpTo.{UpTo}
 use Rattle.exclusive_replay.proofs.Fed.{IsFeeding, HasEnded}
 use Rattle.exclusive_replay.proofs.feeder.Feeder.run.Given as goal
 

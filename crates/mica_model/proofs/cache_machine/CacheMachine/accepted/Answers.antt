@@ -1,7 +1,7 @@
 use Rattle.std.proofs.Common.{ap, sym, ◌∙◌, length}
-use Rattle.mica_model.specs.History.{accepted_in}
+use Rattle.partition_model.specs.History.{accepted_in}
 use Rattle.mica_model.specs.Logged.{Logged}
-use Rattle.mica_model.proofs.Histories.{accepted_is_length}
+use Rattle.partition_model.proofs.Histories.{accepted_is_length}
 use Rattle.mica_model.proofs.cache_machine.CacheMachine.accepted.Goals as goal
 
 pub returns : goal.returns

@@ -1,7 +1,7 @@
 use Rattle.std.proofs.Common.{◌↔◌, IsTrue, sym, subst}
-use Rattle.mica_model.specs.History.{State, Allows, MayGive}
+use Rattle.partition_model.specs.History.{State, Allows, MayGive}
 use Rattle.mica_model.specs.Logged.{Logged}
-use Rattle.mica_model.specs.Write.{write_of}
+use Rattle.partition_model.specs.Write.{write_of}
 use Rattle.mica_model.proofs.cache_machine.CacheMachine.allows.Goals as goal
 
 pub returns : goal.returns

@@ -1,10 +1,10 @@
 use Rattle.std.proofs.Common.{◌≡◌, ap, sym, ◌∙◌, Some, None, refl}
-use Rattle.mica_model.specs.Cache.{value_in}
-use Rattle.mica_model.specs.Fate.{fate_of}
-use Rattle.mica_model.specs.History.{value_in as value_of}
+use Rattle.partition_model.specs.Cache.{value_in}
+use Rattle.partition_model.specs.Fate.{fate_of}
+use Rattle.partition_model.specs.History.{value_in as value_of}
 use Rattle.mica_model.specs.Logged.{Logged}
-use Rattle.mica_model.proofs.CacheLaws.{kept_in, value_kept}
-use Rattle.mica_model.proofs.FateLaws.{hit_is_held, miss_is_not_held}
+use Rattle.partition_model.proofs.CacheLaws.{kept_in, value_kept}
+use Rattle.partition_model.proofs.FateLaws.{hit_is_held, miss_is_not_held}
 use Rattle.mica_model.proofs.cache_machine.CacheMachine.answer.Goals as goal
 
 pub set-requires : goal.set-requires

@@ -1,15 +1,16 @@
 use Rattle.std.proofs.Common.{◌≡◌, ◌+◌, [], ◌∷◌, ◌++◌, true, ap, sym, ◌∙◌, subst, arith}
 use Rattle.mica_words.specs.Item.{ValueFits}
-use Rattle.mica_model.specs.declared.write.Write.{Write}
-use Rattle.mica_model.specs.Cache.{Cache}
-use Rattle.mica_model.specs.CacheFields.{AreRising, notes_of, fate_written}
-use Rattle.mica_model.specs.History.{History}
+use Rattle.partition_model.specs.declared.write.Write.{Write}
+use Rattle.partition_model.specs.Cache.{Cache}
+use Rattle.partition_model.specs.Records.{AreRising}
+use Rattle.mica_model.specs.CacheFields.{notes_of, fate_written}
+use Rattle.partition_model.specs.History.{History}
 use Rattle.mica_model.specs.Logged.{Logged, IsLoggedStep}
-use Rattle.mica_model.specs.Write.{IsWrite, is_accepted, write_of}
-use Rattle.mica_model.proofs.CacheKept.{IsRecord}
-use Rattle.mica_model.proofs.CacheLaws.{stamp_bound}
-use Rattle.mica_model.proofs.Found.{all_weaker}
-use Rattle.mica_model.proofs.Histories.{within_wear}
+use Rattle.partition_model.specs.Write.{IsWrite, is_accepted, write_of}
+use Rattle.partition_model.proofs.CacheKept.{IsRecord}
+use Rattle.partition_model.proofs.CacheLaws.{stamp_bound}
+use Rattle.partition_model.proofs.Found.{all_weaker}
+use Rattle.partition_model.proofs.Histories.{within_wear}
 use Rattle.mica_model.proofs.CacheMachineSteps.{kept, rising, refused_step, unworn, accepted_step, wrote_count, dropped_count, machine_after}
 use Rattle.mica_model.proofs.cache_machine.CacheMachine.apply.Goals.{After-copy, After-reply-outcome, After-count}
 use Rattle.mica_model.proofs.cache_machine.CacheMachine.apply.Goals as goal

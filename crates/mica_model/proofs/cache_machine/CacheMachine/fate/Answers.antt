@@ -1,8 +1,8 @@
 use Rattle.std.proofs.Common.{◌≡◌, ◌↔◌, ap, sym, ◌∙◌, subst}
 use Rattle.std.specs.List.{AllByRecursion}
-use Rattle.mica_model.specs.declared.fate.Fate.{Fate}
-use Rattle.mica_model.specs.declared.fate.Fate.TheVariants.{Never}
-use Rattle.mica_model.specs.Fate.{GivesNoValue, fate_of}
+use Rattle.partition_model.specs.declared.fate.Fate.{Fate}
+use Rattle.partition_model.specs.declared.fate.Fate.TheVariants.{Never}
+use Rattle.partition_model.specs.Fate.{GivesNoValue, fate_of}
 use Rattle.mica_model.specs.Logged.{Logged}
 use Rattle.mica_model.proofs.NeverLaw.{never_is_no_value}
 use Rattle.mica_model.proofs.cache_machine.CacheMachine.fate.Goals as goal

@@ -1,9 +1,9 @@
 use Rattle.std.proofs.Common.{◌≡◌, ap, sym, ◌∙◌, subst}
-use Rattle.mica_model.specs.declared.options.Mode.{Mode}
+use Rattle.partition_model.specs.declared.options.Mode.{Mode}
 use Rattle.mica_model.specs.CacheFields.{Notes, fate_in}
-use Rattle.mica_model.specs.Fate.{fate_of}
-use Rattle.mica_model.specs.History.{History, IsHistory, start, state_of, cache_state}
-use Rattle.mica_model.specs.Write.{IsWrite}
+use Rattle.partition_model.specs.Fate.{fate_of}
+use Rattle.partition_model.specs.History.{History, IsHistory, start, state_of, cache_state}
+use Rattle.partition_model.specs.Write.{IsWrite}
 use Rattle.std.specs.List.{AllByRecursion}
 use Rattle.mica_model.proofs.cache_machine.CacheMachine.new.Goals as goal
 

@@ -1,9 +1,10 @@
 use Rattle.std.proofs.Common.{◌≡◌, ◌+◌, ap, sym, ◌∙◌, subst, [], position}
-use Rattle.mica_model.specs.declared.write.Op.TheVariants.{Del}
-use Rattle.mica_model.specs.Cache.{Cache, has_key}
-use Rattle.mica_model.specs.CacheFields.{IsUnique, without_at}
-use Rattle.mica_model.specs.CacheStep.{after_delete}
-use Rattle.mica_model.specs.Write.{write_of}
+use Rattle.partition_model.specs.declared.write.Op.TheVariants.{Del}
+use Rattle.partition_model.specs.Cache.{Cache, has_key}
+use Rattle.partition_model.specs.Records.{IsUnique}
+use Rattle.mica_model.specs.CacheFields.{without_at}
+use Rattle.partition_model.specs.CacheStep.{after_delete}
+use Rattle.partition_model.specs.Write.{write_of}
 use Rattle.mica_model.proofs.Passed.{found_goes, found_within}
 use Rattle.mica_model.proofs.cache_state.CacheState.delete.Goals as goal
 

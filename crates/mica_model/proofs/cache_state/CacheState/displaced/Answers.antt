@@ -1,6 +1,6 @@
 use Rattle.std.proofs.Common.{◌≡◌, ap, sym, ◌∙◌}
 use Rattle.mica_words.specs.Hash.{bucket_of, hash_bucket}
-use Rattle.mica_model.specs.Cache.{Cache}
+use Rattle.partition_model.specs.Cache.{Cache}
 use Rattle.mica_model.specs.CacheFields.{displaced_at}
 use Rattle.mica_model.proofs.CacheSteps.{displaced_not_full, displaced_full}
 use Rattle.mica_model.proofs.cache_state.CacheState.displaced.Goals as goal

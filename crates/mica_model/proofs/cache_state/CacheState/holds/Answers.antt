@@ -1,5 +1,5 @@
 use Rattle.std.proofs.Common.{ap, ◌∙◌, is_some}
-use Rattle.mica_model.specs.Cache.{Cache, has_key, record_of}
+use Rattle.partition_model.specs.Cache.{Cache, has_key, record_of}
 use Rattle.mica_model.proofs.Places.{is_some_position}
 use Rattle.mica_model.proofs.cache_state.CacheState.holds.Goals as goal
 

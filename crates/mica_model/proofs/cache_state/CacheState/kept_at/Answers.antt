@@ -1,8 +1,8 @@
 use Rattle.std.proofs.Common.{◌≡◌, ◌≤◌, ◌<◌, ap, sym, ◌∙◌, Some, position, arith}
-use Rattle.mica_model.specs.declared.write.Op.TheVariants.{Put}
-use Rattle.mica_model.specs.Cache.{Cache, has_key}
+use Rattle.partition_model.specs.declared.write.Op.TheVariants.{Put}
+use Rattle.partition_model.specs.Cache.{Cache, has_key}
 use Rattle.mica_model.specs.CacheFields.{kept_place}
-use Rattle.mica_model.specs.Write.{write_of, size_of}
+use Rattle.partition_model.specs.Write.{write_of, size_of}
 use Rattle.mica_model.proofs.CacheSteps.{kept_yes, kept_no, may_true, may_short, may_passed}
 use Rattle.mica_model.proofs.cache_state.CacheState.kept_at.Goals as goal
 use Rattle.mica_model.proofs.cache_state.CacheState.kept_at.Goals.{else-item_size-room-via-then-item_size-room+else-is_live, else-item_size-room-via-else-item_size-room}

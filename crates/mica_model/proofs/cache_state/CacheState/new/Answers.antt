@@ -1,5 +1,5 @@
 use Rattle.std.proofs.Common.{ap}
-use Rattle.mica_model.specs.Cache.{start}
+use Rattle.partition_model.specs.Cache.{start}
 use Rattle.mica_model.proofs.cache_state.CacheState.new.Goals as goal
 
 pub returns : goal.returns

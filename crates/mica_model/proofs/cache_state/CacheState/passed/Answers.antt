@@ -1,5 +1,5 @@
 use Rattle.std.proofs.Common.{ap, sym, ◌∙◌, length}
-use Rattle.mica_model.specs.Cache.{Cache, Record, is_live}
+use Rattle.partition_model.specs.Cache.{Cache, Record, is_live}
 use Rattle.mica_model.specs.CacheFields.{passed_front}
 use Rattle.mica_model.proofs.Places.{front_of_place, front_of_none}
 use Rattle.mica_model.proofs.cache_state.CacheState.passed.Goals as goal

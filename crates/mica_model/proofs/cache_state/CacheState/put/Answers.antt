@@ -1,9 +1,10 @@
 use Rattle.std.proofs.Common.{◌≡◌, ◌+◌, ap, sym, ◌∙◌, subst, Some, None, slice_set}
-use Rattle.mica_model.specs.declared.write.Op.TheVariants.{Put}
-use Rattle.mica_model.specs.Cache.{Record, Cache}
-use Rattle.mica_model.specs.CacheFields.{IsUnique, kept_place}
-use Rattle.mica_model.specs.CacheStep.{after_put, kept_record}
-use Rattle.mica_model.specs.Write.{write_of}
+use Rattle.partition_model.specs.declared.write.Op.TheVariants.{Put}
+use Rattle.partition_model.specs.Cache.{Record, Cache}
+use Rattle.partition_model.specs.Records.{IsUnique}
+use Rattle.mica_model.specs.CacheFields.{kept_place}
+use Rattle.partition_model.specs.CacheStep.{after_put, kept_record}
+use Rattle.partition_model.specs.Write.{write_of}
 use Rattle.mica_model.proofs.CacheSteps.{appends, rewritten_is}
 use Rattle.mica_model.proofs.cache_state.CacheState.put.Goals as goal
 

@@ -1,11 +1,12 @@
-use Rattle.std.proofs.Common.{◌≡◌, ◌++◌, ◌∷◌, [], ap, sym, ◌∙◌, subst, arith, length, Some, None, get_or, position}
+use Rattle.std.proofs.Common.{◌≡◌, ◌++◌, ◌∷◌, [], ap, sym, ◌∙◌, subst, arith, length, Some, None, position}
 use Rattle.mica_words.specs.Item.{item_size}
 use Rattle.mica_words.specs.Stamp.{tail_of}
-use Rattle.mica_model.specs.declared.write.Op.TheVariants.{Touch}
-use Rattle.mica_model.specs.Cache.{Cache, Record, has_key, record_of}
-use Rattle.mica_model.specs.CacheFields.{IsUnique, without_at}
-use Rattle.mica_model.specs.CacheStep.{after_touch, others}
-use Rattle.mica_model.specs.Write.{write_of}
+use Rattle.partition_model.specs.declared.write.Op.TheVariants.{Touch}
+use Rattle.partition_model.specs.Cache.{Cache, Record, has_key, record_of}
+use Rattle.partition_model.specs.Records.{IsUnique}
+use Rattle.mica_model.specs.CacheFields.{without_at}
+use Rattle.partition_model.specs.CacheStep.{after_touch, others}
+use Rattle.partition_model.specs.Write.{write_of}
 use Rattle.mica_model.proofs.CacheSteps.{touched_is, untouched_is}
 use Rattle.mica_model.proofs.Passed.{found_goes}
 use Rattle.mica_model.proofs.Places.{found_at}

@@ -1,5 +1,5 @@
 use Rattle.std.proofs.Common.{◌≡◌, ap, sym, ◌∙◌, Some, None, position}
-use Rattle.mica_model.specs.Cache.{Cache, has_key, value_in}
+use Rattle.partition_model.specs.Cache.{Cache, has_key, value_in}
 use Rattle.mica_model.proofs.CacheSteps.{value_at, no_value}
 use Rattle.mica_model.proofs.cache_state.CacheState.value.Goals as goal
 

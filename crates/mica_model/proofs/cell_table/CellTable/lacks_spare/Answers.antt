@@ -2,7 +2,7 @@ use Rattle.std.proofs.Common.{◌≡◌, ◌<◌, ◌%◌, sym, ap, ◌∙◌, s
 use Rattle.std.proofs.lemmas.Bool.{false≢true}
 use Rattle.mica_words.specs.declared.entry.TheConstants.{SLOTS}
 use Rattle.mica_words.specs.Hash.{bucket_of}
-use Rattle.mica_model.specs.Store.{keys_in}
+use Rattle.partition_model.specs.Store.{keys_in}
 use Rattle.mica_model.specs.CellTable.{LacksSpare}
 use Rattle.mica_model.specs.CellTableFields.{cells_of}
 use Rattle.mica_model.proofs.TableLemmas.{in_bucket, count_is, read_count}

@@ -2,10 +2,9 @@ use Rattle.std.proofs.Common.{sym, ap, ◌∙◌, length, arith}
 use Rattle.std.specs.Prelude.{slice_index}
 use Rattle.std.specs.FinMap.{from_sorted}
 use Rattle.std.proofs.lemmas.List.{get_or-replicate, length-replicate}
-use Rattle.mica_model.specs.Store.{keys_in, rooms, spares_in_use}
+use Rattle.partition_model.specs.Store.{keys_in, rooms, spares_in_use}
 use Rattle.mica_model.specs.CellTableFields.{entries_of, HasCounts}
-use Rattle.mica_model.proofs.CellEntries.{by_bytes, no_cells}
-use Rattle.mica_model.proofs.CellSums.{no_keys, no_rooms, no_spares}
+use Rattle.partition_model.proofs.CellSums.{by_bytes, no_cells, no_keys, no_rooms, no_spares}
 use Rattle.mica_model.proofs.cell_table.CellTable.new.Goals as goal
 
 pub invariant_of-result : goal.invariant_of-result

@@ -3,7 +3,7 @@ use Rattle.std.specs.Option.{option_map}
 use Rattle.std.specs.BTreeMap.{insert_entry}
 use Rattle.std.specs.FinMap.{get, insert}
 use Rattle.mica_model.specs.declared.cell.Cell.{Cell as CellInCode}
-use Rattle.mica_model.specs.Store.{Cell, room_of, rooms, spares_behind, spares_in_use}
+use Rattle.partition_model.specs.Store.{Cell, room_of, rooms, spares_behind, spares_in_use}
 use Rattle.mica_model.specs.CellTable.{Table, cell_of, with_cells}
 use Rattle.mica_model.specs.CellTableFields.{cells_of, table_of}
 use Rattle.mica_model.proofs.CellEntries.{by_items}

@@ -1,6 +1,6 @@
 use Rattle.std.proofs.Common.{◌≡◌, refl, ap, ◌∙◌, arith, Some}
 use Rattle.std.specs.FinMap.{get, remove}
-use Rattle.mica_model.specs.Store.{spares_behind}
+use Rattle.partition_model.specs.Store.{spares_behind}
 use Rattle.mica_model.specs.CellTable.{Table, cell_of, with_cells}
 use Rattle.mica_model.specs.CellTableFields.{cells_of, table_of}
 use Rattle.mica_model.proofs.TableLemmas.{InBucket, in_bucket, found, room_among, after_remove, read_count, counted, less_count, table_less}

@@ -1,7 +1,7 @@
 use Rattle.std.proofs.Common.{◌≡◌, Option, Some, None, Bor, refl, sym, ap, ◌∙◌, false, is_some}
 use Rattle.std.specs.Prelude.{not}
 use Rattle.std.specs.Option.{option_copied}
-use Rattle.mica_model.specs.declared.fate.Fate.{Fate}
+use Rattle.partition_model.specs.declared.fate.Fate.{Fate}
 use Rattle.mica_model.specs.CacheFields.{fate_in}
 use Rattle.mica_model.proofs.FateNotes.{notes_in, added_fates}
 use Rattle.mica_model.proofs.fates.Fates.add.Goals as goal

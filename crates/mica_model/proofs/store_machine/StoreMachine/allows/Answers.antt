@@ -1,5 +1,5 @@
 use Rattle.std.proofs.Common.{refl}
-use Rattle.mica_model.specs.Write.{write_of}
+use Rattle.partition_model.specs.Write.{write_of}
 use Rattle.mica_model.proofs.StoreReplies.{worn_in}
 use Rattle.mica_model.proofs.store_machine.StoreMachine.allows.Goals as goal
 

@@ -2,12 +2,11 @@ use Rattle.std.proofs.Common.{◌↔◌, ◌<◌, ◌≤◌, ◌∙◌, IsTrue, 
 use Rattle.std.specs.Prelude.{IsSomeAnd}
 use Rattle.std.proofs.lemmas.Bool.{false≢true}
 use Rattle.mica_words.specs.Item.{item_size}
-use Rattle.mica_model.specs.declared.write.Op.TheVariants.{Add}
-use Rattle.mica_model.specs.Write.{write_of}
+use Rattle.partition_model.specs.Write.{write_of}
 use Rattle.mica_model.specs.CellTable.{LacksSpare}
-use Rattle.mica_model.specs.StoreStep.{IsWorn, NeedsSpare, NeedsBlock}
+use Rattle.partition_model.specs.StoreStep.{IsWorn, NeedsSpare, NeedsBlock}
 use Rattle.mica_model.specs.Machine.{Machine}
-use Rattle.mica_model.specs.History.{Allows, accepted_in}
+use Rattle.partition_model.specs.History.{Allows, accepted_in}
 use Rattle.mica_model.proofs.MachineSteps.{store_of}
 use Rattle.mica_model.proofs.StoreReplies.{of_lack, of_others, replaces}
 use Rattle.mica_model.proofs.store_machine.StoreMachine.allows_value.Goals as goal

@@ -1,6 +1,6 @@
 use Rattle.std.proofs.Common.{refl}
-use Rattle.mica_model.specs.declared.write.Outcome.TheVariants.{Worn}
-use Rattle.mica_model.specs.Write.{write_of}
+use Rattle.partition_model.specs.declared.write.Outcome.TheVariants.{Worn}
+use Rattle.partition_model.specs.Write.{write_of}
 use Rattle.mica_model.proofs.StoreReplies.{worn_in}
 use Rattle.mica_model.proofs.store_machine.StoreMachine.outcome_of.Goals as goal
 

@@ -1,10 +1,10 @@
 use Rattle.std.proofs.Common.{◌<◌, ◌≤◌, refl, sym, subst, arith}
-use Rattle.mica_model.specs.declared.write.Outcome.TheVariants.{FullSpare}
-use Rattle.mica_model.specs.Write.{write_of}
+use Rattle.partition_model.specs.declared.write.Outcome.TheVariants.{FullSpare}
+use Rattle.partition_model.specs.Write.{write_of}
 use Rattle.mica_model.specs.CellTable.{LacksSpare}
-use Rattle.mica_model.specs.StoreStep.{NeedsSpare}
+use Rattle.partition_model.specs.StoreStep.{NeedsSpare}
 use Rattle.mica_model.specs.Machine.{Machine}
-use Rattle.mica_model.specs.History.{Allows, accepted_in}
+use Rattle.partition_model.specs.History.{Allows, accepted_in}
 use Rattle.mica_model.proofs.store_machine.StoreMachine.outcome_with_value.Goals as goal
 
 pub returns-in-None-clause-allowed : goal.returns-in-None-clause-allowed

@@ -1,0 +1,142 @@
+-- Histories, in both modes: the case of the state, one write more, and how many writes there are.
+use Rattle.std.proofs.Common.{◌≡◌, ◌+◌, ◌≤◌, ◌<◌, [], ◌∷◌, ◌++◌, length, true, false, cond, refl, sym, ap, ◌∙◌, subst, arith, append_assoc}
+use Rattle.std.specs.List.{fold}
+use Rattle.std.specs.Prelude.{is_some}
+use Rattle.std.proofs.lemmas.Bool.{true≢false, leb-false}
+use Rattle.std.proofs.lemmas.List.{append-nil}
+use Rattle.partition_model.specs.declared.options.Options.{Options}
+use Rattle.partition_model.specs.declared.options.Mode.{Mode}
+use Rattle.partition_model.specs.declared.options.Mode.TheVariants.{Cache as CacheMode, Store as StoreMode}
+use Rattle.partition_model.specs.declared.write.Write.{Write}
+use Rattle.partition_model.specs.declared.write.Op.{Op}
+use Rattle.partition_model.specs.declared.write.Op.TheVariants.{Put, Add, Del, Touch}
+use Rattle.partition_model.specs.declared.write.Outcome.{Outcome}
+use Rattle.partition_model.specs.declared.write.Outcome.TheVariants.{Stored, Deleted, Absent, Touched, FullSpare, FullBlock, Worn, Exists}
+use Rattle.partition_model.specs.Write.{is_accepted}
+use Rattle.partition_model.specs.Cache as cache
+use Rattle.partition_model.specs.CacheStep as cs
+use Rattle.partition_model.specs.Store as store
+use Rattle.partition_model.specs.StoreStep as ss
+use Rattle.partition_model.specs.History.{History, State, cache_state, store_state, after, start, state_of, accepted_in, Allows, IsAcceptedAfter, IsHistoryFrom, IsHistory, IsStep}
+use Rattle.partition_model.proofs.Rises.{fold-snoc}
+
+-- the state after one write more
+pub state_snoc : (options : Options) (history : History) (write : Write) → state_of options (history ++ write ∷ []) ≡ after options (state_of options history) write
+state_snoc options history write = fold-snoc options (start options.mode) history write
+
+-- the case of the state goes by the mode
+
+cached_after : (options : Options) (s : cache.Cache) (history : History) → (c : cache.Cache) × (fold (after options) (cache_state s) history ≡ cache_state c)
+cached_after options s [] = (s, refl)
+cached_after options s (write ∷ history) = cached_after options (cs.after options s write) history
+
+stored_after : (options : Options) (s : store.Store) (history : History) → (c : store.Store) × (fold (after options) (store_state s) history ≡ store_state c)
+stored_after options s [] = (s, refl)
+stored_after options s (write ∷ history) = stored_after options (ss.after s write) history
+
+pub cached_in : (options : Options) → options.mode ≡ CacheMode → (history : History) → (s : cache.Cache) × (state_of options history ≡ cache_state s)
+cached_in options is history =
+    subst (λ (mode : Mode). (s : cache.Cache) × (fold (after options) (start mode) history ≡ cache_state s)) (sym is) (cached_after options cache.start history)
+
+pub stored_in : (options : Options) → options.mode ≡ StoreMode → (history : History) → (s : store.Store) × (state_of options history ≡ store_state s)
+stored_in options is history =
+    subst (λ (mode : Mode). (s : store.Store) × (fold (after options) (start mode) history ≡ store_state s)) (sym is) (stored_after options store.start history)
+
+-- one accepted write more is a history
+
+snoc_from : (options : Options) (before later : History) (write : Write) → IsHistoryFrom options before later → IsAcceptedAfter options (before ++ later) write → IsHistoryFrom options before (later ++ write ∷ [])
+snoc_from options before [] write is accepted = (subst (λ (h : History). IsAcceptedAfter options h write) (append-nil before) accepted, tt)
+snoc_from options before (w ∷ later) write is accepted =
+    (is.0, snoc_from options (before ++ w ∷ []) later write is.1 (subst (λ (h : History). IsAcceptedAfter options h write) (sym (append_assoc before (w ∷ []) later)) accepted))
+
+pub history_snoc : (options : Options) (history : History) (write : Write) → IsHistory options history → IsAcceptedAfter options history write → IsHistory options (history ++ write ∷ [])
+history_snoc options history write is accepted = snoc_from options [] history write is accepted
+
+-- the last write of a history is accepted after those before it
+
+last_from : (options : Options) (before later : History) (write : Write) → IsHistoryFrom options before (later ++ write ∷ []) → IsAcceptedAfter options (before ++ later) write
+last_from options before [] write is = subst (λ (h : History). IsAcceptedAfter options h write) (sym (append-nil before)) is.0
+last_from options before (w ∷ later) write is =
+    subst (λ (h : History). IsAcceptedAfter options h write) (append_assoc before (w ∷ []) later) (last_from options (before ++ w ∷ []) later write is.1)
+
+pub last_accepted : (options : Options) (history : History) (write : Write) → IsHistory options (history ++ write ∷ []) → IsAcceptedAfter options history write
+last_accepted options history write is = last_from options [] history write is
+
+-- the machine has accepted as many writes as the history has
+
+store_accepted : (op : Op) (s : store.Store) (write : Write) → (ss.after_op op s write).accepted ≡ s.accepted + 1
+store_accepted Put s write = refl
+store_accepted Add s write = refl
+store_accepted Del s write = refl
+store_accepted Touch s write = refl
+
+pub accepted_after : (options : Options) (now : State) (write : Write) → accepted_in (after options now write) ≡ accepted_in now + 1
+unfolding cs.after ss.after
+accepted_after options (cache_state s) write = refl
+accepted_after options (store_state s) write = store_accepted write.op s write
+
+accepted_from : (options : Options) (now : State) (history : History) → accepted_in (fold (after options) now history) ≡ accepted_in now + length history
+accepted_from options now [] = omega arith
+accepted_from options now (write ∷ history) =
+    let rest = accepted_from options (after options now write) history in let one = accepted_after options now write in omega arith
+
+accepted_start : (mode : Mode) → accepted_in (start mode) ≡ 0
+unfolding cache.start store.start
+accepted_start CacheMode = refl
+accepted_start StoreMode = refl
+
+pub accepted_is_length : (options : Options) (history : History) → accepted_in (state_of options history) ≡ length history
+accepted_is_length options history =
+    let all = accepted_from options (start options.mode) history in let none = accepted_start options.mode in omega arith
+
+-- and no more than the partition may bear
+
+pub cache_unworn : (options : Options) (s : cache.Cache) (write : Write) (outcome : Outcome) → is_accepted outcome ≡ true → outcome ≡ cs.reply options s write → s.accepted < options.wear
+unfolding cs.reply
+cache_unworn options s write outcome accepted is =
+    elim (cs.is_worn options s) as (λ b. cs.is_worn options s ≡ b → outcome ≡ cond b Worn (cs.reply_of write.op options write (is_some (cache.record_of s write.key))) → s.accepted < options.wear) [
+      | true ↦ λ worn e. absurd (true≢false (sym accepted ∙ ap is_accepted e))
+      | false ↦ λ unworn e. leb-false options.wear s.accepted unworn
+    ] refl is
+
+store_unworn : (options : Options) (s : store.Store) (write : Write) (outcome : Outcome) → is_accepted outcome ≡ true → ss.Allows options s write outcome → s.accepted < options.wear
+store_unworn options s write Stored accepted is = let not_worn = is.0 in omega arith
+store_unworn options s write Deleted accepted is = let not_worn = is.0 in omega arith
+store_unworn options s write Absent accepted is = let not_worn = is.0 in omega arith
+store_unworn options s write Touched accepted is = let not_worn = is.0 in omega arith
+store_unworn options s write FullSpare accepted is = cc
+store_unworn options s write FullBlock accepted is = cc
+store_unworn options s write Worn accepted is = cc
+store_unworn options s write Exists accepted is = cc
+
+unworn_in : (options : Options) (now : State) (write : Write) (outcome : Outcome) → is_accepted outcome ≡ true → Allows options now write outcome → accepted_in now < options.wear
+unworn_in options (cache_state s) write outcome accepted is = cache_unworn options s write outcome accepted is
+unworn_in options (store_state s) write outcome accepted is = store_unworn options s write outcome accepted is
+
+pub unworn : (options : Options) (history : History) (write : Write) → IsAcceptedAfter options history write → accepted_in (state_of options history) < options.wear
+unworn options history write is = unworn_in options (state_of options history) write is.0 is.1 is.2
+
+wear_from : (options : Options) (before later : History) → accepted_in (state_of options before) ≤ options.wear → IsHistoryFrom options before later → accepted_in (state_of options (before ++ later)) ≤ options.wear
+wear_from options before [] few is = subst (λ (h : History). accepted_in (state_of options h) ≤ options.wear) (sym (append-nil before)) few
+wear_from options before (write ∷ later) few is =
+    let one = ap accepted_in (state_snoc options before write) ∙ accepted_after options (state_of options before) write in
+    let less = unworn options before write is.0 in
+    subst (λ (h : History). accepted_in (state_of options h) ≤ options.wear) (append_assoc before (write ∷ []) later)
+    (wear_from options (before ++ write ∷ []) later (omega arith) is.1)
+
+pub within_wear : (options : Options) (history : History) → IsHistory options history → length history ≤ options.wear
+within_wear options history is =
+    let none = accepted_start options.mode in
+    let all = wear_from options [] history (omega arith) is in
+    let count = accepted_is_length options history in
+    omega arith
+
+-- a step that is refused leaves the state, and one that is accepted adds its write
+
+pub refused_leaves : (options : Options) (old : State) (write : Write) (outcome : Outcome) (new : State) → IsStep options old write outcome new → is_accepted outcome ≡ false → new ≡ old
+refused_leaves options old write outcome new step refused = step.result ∙ ap (λ b. cond b (after options old write) old) refused
+
+pub accepted_adds : (options : Options) (history : History) (write : Write) (outcome : Outcome) (new : State) → IsStep options (state_of options history) write outcome new → is_accepted outcome ≡ true
+    → (new ≡ state_of options (history ++ write ∷ [])) × IsAcceptedAfter options history write
+accepted_adds options history write outcome new step accepted =
+    (step.result ∙ ap (λ b. cond b (after options (state_of options history) write) (state_of options history)) accepted ∙ sym (state_snoc options history write), (outcome, accepted, step.allowed))

@@ -1,0 +1,12 @@
+pub mod Options
+pub mod Write
+pub mod Answer
+pub mod Cache
+pub mod Records
+pub mod CacheStep
+pub mod Fate
+pub mod Store
+pub mod StoreStep
+pub mod History
+pub mod Run
+pub mod Limits

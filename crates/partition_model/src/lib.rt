@@ -1,0 +1,19 @@
+//! What a partition is: writes and their outcomes, answers, options, and the laws of its histories.
+//!
+//! Every layer above is measured by the definitions in `specs/`: the state of each mode and its step, the histories
+//! and runs that the steps make, the answers to gets, and the fate of a key in cache mode. The machines that take
+//! these steps stand in `mica_model`.
+#![tactic(auto)]
+
+mod fate;
+mod item_buf;
+mod laws;
+mod options;
+mod ranges;
+mod write;
+
+pub use fate::Fate;
+pub use item_buf::ItemBuf;
+pub use laws::one_cut;
+pub use options::{MAX_WEAR, Mode, Options};
+pub use write::{Answer, Op, Outcome, Write, write_fits};
