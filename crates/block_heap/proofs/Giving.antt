@@ -11,7 +11,8 @@ use Rattle.block_heap.specs.Tags.{HasBlock, EndsFree, IsLastFree, IsFirstFree}
 use Rattle.block_heap.proofs.Order.{words_of-append, words_of-cons, front_fills, back_fills, back_merged, fills_instead, merged_instead}
 use Rattle.block_heap.proofs.Merging.{joined_apart, joined_begins, merged_fills, merged_merged, merged_same, merged_behind}
 use Rattle.block_heap.proofs.Counting.{used_more, used_same}
-use Rattle.block_heap.proofs.TagLaws.{parted, from-le-end}
+use Rattle.block_heap.proofs.TagLaws.{from-le-end}
+use Rattle.block_heap.proofs.Places.{parted}
 use Rattle.block_heap.proofs.Listing.{free_within}
 
 -- a list stays a block list where a block is given back

@@ -1,36 +1,34 @@
 -- What a change of the blocks and of their lists keeps.
 use Rattle.std.proofs.Common.{◌≡◌, ◌≢◌, ℕ, ◌+◌, ◌-◌, ◌<◌, ◌≤◌, Option, Some, None, List, [], ◌∷◌, ◌++◌, length, refl, sym, ap, ◌∙◌, subst, arith, append_assoc}
 use Rattle.std.specs.List.{Contains}
-use Rattle.std.specs.List.Sorted.{IsPermutation}
 use Rattle.std.specs.Prelude.{IfSome}
 use Rattle.size_classes.specs.Classes.{class_of}
 use Rattle.size_classes.proofs.Rising.{below_sixty_four}
 use Rattle.block_heap.specs.declared.block.Block.{Block}
 use Rattle.block_heap.specs.Blocks.{free_block, used_block, IsFree, IsBlockList, words_of}
 use Rattle.block_heap.specs.Changes.{rest_of, IsTaken}
-use Rattle.block_heap.specs.Lists.{list_of, AreListed, IsUnlisted, MayLie}
+use Rattle.block_heap.specs.Lists.{AreListed, IsUnlisted, IsWithout}
 use Rattle.block_heap.specs.Inside.{IsHeap, IsListable, blocks_in}
-use Rattle.block_heap.proofs.Places.{free_is}
-use Rattle.block_heap.proofs.TagLaws.{parted}
+use Rattle.block_heap.proofs.Places.{free_is, parted, in_middle}
 use Rattle.block_heap.proofs.Taking.{IsBlockList-taken, words_of-list, rest_is, rest_none}
-use Rattle.block_heap.proofs.Listing.{listed_added, listed_removed, listed_beside, unlisted, may_lie, free_within, in_middle, place_listed}
+use Rattle.block_heap.proofs.Listing.{listed_added, listed_removed, listed_beside, unlisted, may_lie, free_within, place_listed}
 use Rattle.block_heap.proofs.Finding.{free_size}
 
-pub heap_with : (blocks now : List Block) (words : ℕ) (lists new : List (List ℕ)) → IsHeap blocks words lists → IsBlockList (words_of blocks) now → AreListed new now → IsHeap now words new
+pub heap_with : (blocks now : List Block) (words : ℕ) (lists new : ℕ → List ℕ) → IsHeap blocks words lists → IsBlockList (words_of blocks) now → AreListed new now → IsHeap now words new
 heap_with blocks now words lists new heap list listed =
     let same = words_of-list (words_of blocks) now list in
     record { list = subst (λ n. IsBlockList n now) (sym same) list; listed = listed; same = heap.same ∙ sym same; limit = omega (arith, same, heap.limit) }
 
 -- A free block whose place may be added to the list of its class.
-pub record IsAddable (words : ℕ) (lists : List (List ℕ)) (block : Block) : Type 0 where
+pub record IsAddable (words : ℕ) (lists : ℕ → List ℕ) (block : Block) : Type 0 where
   pub some : 1 ≤ block.size
   pub limit : block.size ≤ 1048576
   pub few : class_of block.size < 64
   pub within : block.place < words
   pub unlisted : IsUnlisted lists block.place
-  pub room : MayLie words (class_of block.size) (length (list_of lists (class_of block.size)) + 1)
+  pub room : length (lists (class_of block.size)) < words
 
-pub addable : (words : ℕ) (lists : List (List ℕ)) (now before after : List Block) (block : Block) → words ≤ 1048576 → IsBlockList words now → now ≡ before ++ block ∷ after → IsFree block → AreListed lists (before ++ after)
+pub addable : (words : ℕ) (lists : ℕ → List ℕ) (now before after : List Block) (block : Block) → words ≤ 1048576 → IsBlockList words now → now ≡ before ++ block ∷ after → IsFree block → AreListed lists (before ++ after)
     → IsAddable words lists block
 addable words lists now before after block limit list is free listed =
     let own = subst (IsBlockList words) is list in
@@ -44,11 +42,11 @@ addable words lists now before after block limit list is free listed =
       few = few;
       within = omega arith;
       unlisted = unlisted lists before after block words own.fills listed;
-      room = may_lie lists before after block words limit few free own.fills own.merged listed;
+      room = may_lie lists before after block words few free own.fills listed;
     }
 
 -- A free block is taken: it has left its list, and its first words are used.
-pub record Taken (blocks now : List Block) (mid : List (List ℕ)) (block : Block) (need : ℕ) : Type 0 where
+pub record Taken (blocks now : List Block) (mid : ℕ → List ℕ) (block : Block) (need : ℕ) : Type 0 where
   pub before : List Block
   pub after : List Block
   pub now_is : now ≡ before ++ used_block block.place need ∷ (rest_of (block.place + need) (block.size - need) ++ after)
@@ -56,8 +54,8 @@ pub record Taken (blocks now : List Block) (mid : List (List ℕ)) (block : Bloc
   pub taken : IsTaken blocks now block.place need
   pub list : IsBlockList (words_of blocks) now
 
-pub taken_block : (blocks now : List Block) (words : ℕ) (lists mid : List (List ℕ)) (block : Block) (need : ℕ) → IsHeap blocks words lists → 1 ≤ need → need ≤ block.size → Contains blocks block → IsFree block
-    → (class : ℕ) → class ≡ class_of block.size → IsPermutation (list_of lists class) (block.place ∷ list_of mid class) → ((other : ℕ) → other ≢ class → list_of mid other ≡ list_of lists other)
+pub taken_block : (blocks now : List Block) (words : ℕ) (lists mid : ℕ → List ℕ) (block : Block) (need : ℕ) → IsHeap blocks words lists → 1 ≤ need → need ≤ block.size → Contains blocks block → IsFree block
+    → (class : ℕ) → class ≡ class_of block.size → IsWithout (lists class) (mid class) block.place → ((other : ℕ) → other < 64 → other ≢ class → mid other ≡ lists other)
     → ((before after : List Block) → blocks ≡ before ++ block ∷ after → now ≡ before ++ used_block block.place need ∷ (rest_of (block.place + need) (block.size - need) ++ after))
     → Taken blocks now mid block need
 taken_block blocks now words lists mid block need heap some enough among free class is removed others cut =
@@ -74,14 +72,14 @@ taken_block blocks now words lists mid block need heap some enough among free cl
       before = parts.0;
       after = parts.1;
       now_is = cut parts.0 parts.1 parts.2;
-      listed = listed_removed lists mid parts.0 parts.1 block free (subst (λ c. IsPermutation (list_of lists c) (block.place ∷ list_of mid c)) is removed)
-          (subst (λ (c : ℕ). (other : ℕ) → other ≢ c → list_of mid other ≡ list_of lists other) is others) (subst (AreListed lists) parts.2 heap.listed);
+      listed = listed_removed lists mid parts.0 parts.1 block free (subst (λ c. IsWithout (lists c) (mid c) block.place) is removed)
+          (subst (λ (c : ℕ). (other : ℕ) → other < 64 → other ≢ c → mid other ≡ lists other) is others) (subst (AreListed lists) parts.2 heap.listed);
       taken = taken;
       list = IsBlockList-taken (words_of blocks) blocks now block.place need (omega arith) heap.list taken;
     }
 
 -- all of its words are used
-pub taken_whole : (blocks now : List Block) (words : ℕ) (lists mid : List (List ℕ)) (block : Block) (need : ℕ) → IsHeap blocks words lists → block.size ≤ need → Taken blocks now mid block need → IsHeap now words mid
+pub taken_whole : (blocks now : List Block) (words : ℕ) (lists mid : ℕ → List ℕ) (block : Block) (need : ℕ) → IsHeap blocks words lists → block.size ≤ need → Taken blocks now mid block need → IsHeap now words mid
 taken_whole blocks now words lists mid block need heap all taken =
     let none : block.size - need ≡ 0 = omega arith in
     let is : now ≡ taken.before ++ used_block block.place need ∷ taken.after =
@@ -89,13 +87,13 @@ taken_whole blocks now words lists mid block need heap all taken =
     heap_with blocks now words lists mid heap taken.list (subst (AreListed mid) (sym is) (listed_beside mid taken.before taken.after (used_block block.place need) refl taken.listed))
 
 -- the rest of it is free
-pub record IsRest (blocks now : List Block) (mid : List (List ℕ)) (rest : Block) : Type 0 where
+pub record IsRest (blocks now : List Block) (mid : ℕ → List ℕ) (rest : Block) : Type 0 where
   pub before : List Block
   pub after : List Block
   pub is : now ≡ before ++ rest ∷ after
   pub listed : AreListed mid (before ++ after)
 
-pub taken_part : (blocks now : List Block) (mid : List (List ℕ)) (block : Block) (need : ℕ) → need < block.size → Taken blocks now mid block need → IsRest blocks now mid (free_block (block.place + need) (block.size - need))
+pub taken_part : (blocks now : List Block) (mid : ℕ → List ℕ) (block : Block) (need : ℕ) → need < block.size → Taken blocks now mid block need → IsRest blocks now mid (free_block (block.place + need) (block.size - need))
 taken_part blocks now mid block need part taken =
     let used = used_block block.place need in
     let rest = free_block (block.place + need) (block.size - need) in
@@ -110,32 +108,31 @@ taken_part blocks now mid block need part taken =
     }
 
 -- room in a list, for a class and words that are told
-pub room_for : (words told class : ℕ) (lists : List (List ℕ)) (block : Block) → IsAddable words lists block → told ≡ words → class ≡ class_of block.size → MayLie told class (length (list_of lists class) + 1)
-room_for words told class lists block may same is =
-    subst (λ w. MayLie w class (length (list_of lists class) + 1)) (sym same) (subst (λ c. MayLie words c (length (list_of lists c) + 1)) (sym is) may.room)
+pub room_for : (words told class : ℕ) (lists : ℕ → List ℕ) (block : Block) → IsAddable words lists block → told ≡ words → class ≡ class_of block.size → length (lists class) < told
+room_for words told class lists block may same is = (let room = may.room in omega (arith, ap (λ c. length (lists c)) is))
 
 -- a free block's place is added, and all free blocks are listed
-pub heap_added : (blocks now : List Block) (words : ℕ) (lists mid new : List (List ℕ)) (before after : List Block) (block : Block) → IsHeap blocks words lists → IsBlockList (words_of blocks) now → now ≡ before ++ block ∷ after → IsFree block → AreListed mid (before ++ after)
-    → (class : ℕ) → class ≡ class_of block.size → list_of new class ≡ list_of mid class ++ block.place ∷ [] → ((other : ℕ) → other ≢ class → list_of new other ≡ list_of mid other) → IsHeap now words new
+pub heap_added : (blocks now : List Block) (words : ℕ) (lists mid new : ℕ → List ℕ) (before after : List Block) (block : Block) → IsHeap blocks words lists → IsBlockList (words_of blocks) now → now ≡ before ++ block ∷ after → IsFree block → AreListed mid (before ++ after)
+    → (class : ℕ) → class ≡ class_of block.size → new class ≡ mid class ++ block.place ∷ [] → ((other : ℕ) → other < 64 → other ≢ class → new other ≡ mid other) → IsHeap now words new
 heap_added blocks now words lists mid new before after block heap list is free listed class of added others =
     heap_with blocks now words lists new heap list
     (subst (AreListed new) (sym is)
-    (listed_added mid new before after block free (subst (λ c. list_of new c ≡ list_of mid c ++ block.place ∷ []) of added)
-    (subst (λ (c : ℕ). (other : ℕ) → other ≢ c → list_of new other ≡ list_of mid other) of others) listed))
+    (listed_added mid new before after block free (subst (λ c. new c ≡ mid c ++ block.place ∷ []) of added)
+    (subst (λ (c : ℕ). (other : ℕ) → other < 64 → other ≢ c → new other ≡ mid other) of others) listed))
 
-pub same_words : (blocks : List Block) (words told : ℕ) (lists : List (List ℕ)) → IsHeap blocks words lists → told ≡ words → IsHeap blocks told lists
+pub same_words : (blocks : List Block) (words told : ℕ) (lists : ℕ → List ℕ) → IsHeap blocks words lists → told ≡ words → IsHeap blocks told lists
 same_words blocks words told lists heap same = subst (λ n. IsHeap blocks n lists) (sym same) heap
 
 -- a neighbour leaves its list
-pub neighbour_left : (lists new : List (List ℕ)) (neighbour : Option Block) (block : Block) → neighbour ≡ Some block → IsListable lists neighbour → (class : ℕ) → class ≡ class_of block.size → IsPermutation (list_of lists class) (block.place ∷ list_of new class)
-    → ((other : ℕ) → other ≢ class → list_of new other ≡ list_of lists other) → (before after : List Block) → AreListed lists (before ++ (blocks_in neighbour ++ after)) → AreListed new (before ++ after)
+pub neighbour_left : (lists new : ℕ → List ℕ) (neighbour : Option Block) (block : Block) → neighbour ≡ Some block → IsListable lists neighbour → (class : ℕ) → class ≡ class_of block.size → IsWithout (lists class) (new class) block.place
+    → ((other : ℕ) → other < 64 → other ≢ class → new other ≡ lists other) → (before after : List Block) → AreListed lists (before ++ (blocks_in neighbour ++ after)) → AreListed new (before ++ after)
 neighbour_left lists new neighbour block some listable class is removed others before after listed =
     let free = (subst (IsListable lists) some listable).0 in
-    listed_removed lists new before after block free (subst (λ c. IsPermutation (list_of lists c) (block.place ∷ list_of new c)) is removed)
-    (subst (λ (c : ℕ). (other : ℕ) → other ≢ c → list_of new other ≡ list_of lists other) is others) (subst (λ n. AreListed lists (before ++ (blocks_in n ++ after))) some listed)
+    listed_removed lists new before after block free (subst (λ c. IsWithout (lists c) (new c) block.place) is removed)
+    (subst (λ (c : ℕ). (other : ℕ) → other < 64 → other ≢ c → new other ≡ lists other) is others) (subst (λ n. AreListed lists (before ++ (blocks_in n ++ after))) some listed)
 
 -- a free neighbour can leave its list
-pub listable : (blocks : List Block) (words : ℕ) (lists mid : List (List ℕ)) (neighbour : Option Block) (front back before after : List Block) → IsHeap blocks words lists → blocks ≡ front ++ (blocks_in neighbour ++ back) → AreListed mid (before ++ (blocks_in neighbour ++ after))
+pub listable : (blocks : List Block) (words : ℕ) (lists mid : ℕ → List ℕ) (neighbour : Option Block) (front back before after : List Block) → IsHeap blocks words lists → blocks ≡ front ++ (blocks_in neighbour ++ back) → AreListed mid (before ++ (blocks_in neighbour ++ after))
     → IfSome neighbour IsFree → IsListable mid neighbour
 listable blocks words lists mid None front back before after heap is listed free = tt
 listable blocks words lists mid (Some block) front back before after heap is listed free =

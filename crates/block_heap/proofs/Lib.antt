@@ -5,6 +5,7 @@ pub mod Counting
 pub mod Taking
 pub mod UsedBlocks
 pub mod TagLaws
+pub mod LinkLaws
 pub mod ListLaws
 pub mod Listing
 pub mod Keeping

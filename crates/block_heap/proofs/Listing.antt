@@ -1,17 +1,15 @@
 -- The lists of places against the free blocks.
-use Rattle.std.proofs.Common.{◌≡◌, ◌≢◌, ℕ, zero, suc, ◌+◌, ◌*◌, ◌^◌, ◌<◌, ◌≤◌, ◌⊎◌, inl, inr, Bool, true, false, cond, eqb, List, [], ◌∷◌, ◌++◌, length, get_or, refl, sym, ap, ◌∙◌, subst, arith}
+use Rattle.std.proofs.Common.{◌≡◌, ◌≢◌, ℕ, zero, suc, ◌+◌, ◌<◌, ◌≤◌, ◌⊎◌, inl, inr, Bool, true, false, cond, eqb, List, [], ◌∷◌, ◌++◌, length, get_or, refl, sym, ap, ◌∙◌, subst, arith}
 use Rattle.std.specs.List.{Contains, sum_by}
-use Rattle.std.specs.List.Sorted.{IsPermutation}
-use Rattle.std.proofs.lemmas.List.Sorted.{sum_by-IsPermutation}
-use Rattle.std.proofs.lemmas.List.Sums.{sum_by-cons, sum_by-append, sum_by_push, sum_by-remove}
+use Rattle.std.proofs.lemmas.List.Sums.{sum_by-cons, sum_by-append, sum_by_push}
 use Rattle.std.proofs.lemmas.Bool.{cases_eq, eq-eqb, ne_eqb}
 use Rattle.size_classes.specs.Classes.{class_of}
 use Rattle.block_heap.specs.declared.block.Block.{Block}
-use Rattle.block_heap.specs.Blocks.{free_block, Fills, IsFree, BeginsFree, IsMerged, words_of}
-use Rattle.block_heap.specs.Lists.{list_of, count_in, AreListed, IsUnlisted, IsLeast, MayLie}
+use Rattle.block_heap.specs.Blocks.{free_block, Fills, IsFree, words_of}
+use Rattle.block_heap.specs.Lists.{count_in, AreListed, IsUnlisted, IsWithout}
 use Rattle.block_heap.proofs.Order.{words_of-cons, words_of-fills, back_fills}
-use Rattle.block_heap.proofs.Places.{free_is}
-use Rattle.block_heap.proofs.TagLaws.{parted, from-le-end}
+use Rattle.block_heap.proofs.Places.{free_is, parted, in_middle}
+use Rattle.block_heap.proofs.TagLaws.{from-le-end}
 
 -- what a block counts in a list
 pub used_counts : (class : ℕ) (weight : ℕ → ℕ) (block : Block) → block.used ≡ true → count_in class weight block ≡ 0
@@ -32,50 +30,49 @@ other_counts class weight block other = by block.used
     by false = none
 
 -- a free block's place is added to the list of its class
-pub listed_added : (lists new : List (List ℕ)) (before after : List Block) (block : Block) → IsFree block → list_of new (class_of block.size) ≡ list_of lists (class_of block.size) ++ block.place ∷ []
-    → ((other : ℕ) → other ≢ class_of block.size → list_of new other ≡ list_of lists other) → AreListed lists (before ++ after) → AreListed new (before ++ block ∷ after)
+pub listed_added : (lists new : ℕ → List ℕ) (before after : List Block) (block : Block) → IsFree block → new (class_of block.size) ≡ lists (class_of block.size) ++ block.place ∷ []
+    → ((other : ℕ) → other < 64 → other ≢ class_of block.size → new other ≡ lists other) → AreListed lists (before ++ after) → AreListed new (before ++ block ∷ after)
 listed_added lists new before after block free added others listed class few weight = by (cases_eq class (class_of block.size))
   where
     all : sum_by (count_in class weight) (before ++ block ∷ after) ≡ sum_by (count_in class weight) (before ++ after) + count_in class weight block
     all = omega (arith, sum_by-append (count_in class weight) before (block ∷ after), sum_by-cons (count_in class weight) block after, sum_by-append (count_in class weight) before after)
 
-    by : (class ≡ class_of block.size) ⊎ (class ≡ class_of block.size → ⊥) → sum_by weight (list_of new class) ≡ sum_by (count_in class weight) (before ++ block ∷ after)
+    by : (class ≡ class_of block.size) ⊎ (class ≡ class_of block.size → ⊥) → sum_by weight (new class) ≡ sum_by (count_in class weight) (before ++ block ∷ after)
     by (inl e) =
         let own = free_counts class weight block free (sym e) in
-        let list : sum_by weight (list_of new class) ≡ sum_by weight (list_of lists class) + weight block.place =
-        ap (λ c. sum_by weight (list_of new c)) e ∙ ap (sum_by weight) added ∙ sum_by_push weight (list_of lists (class_of block.size)) block.place ∙ ap (λ c. sum_by weight (list_of lists c) + weight block.place) (sym e) in
+        let list : sum_by weight (new class) ≡ sum_by weight (lists class) + weight block.place =
+        ap (λ c. sum_by weight (new c)) e ∙ ap (sum_by weight) added ∙ sum_by_push weight (lists (class_of block.size)) block.place ∙ ap (λ c. sum_by weight (lists c) + weight block.place) (sym e) in
         omega (arith, all, own, list, listed class few weight)
     by (inr ne) =
         let none = other_counts class weight block (λ e. ne (sym e)) in
-        let list = ap (sum_by weight) (others class ne) in
+        let list = ap (sum_by weight) (others class few ne) in
         omega (arith, all, none, list, listed class few weight)
 
 -- it leaves that list
-pub listed_removed : (lists new : List (List ℕ)) (before after : List Block) (block : Block) → IsFree block → IsPermutation (list_of lists (class_of block.size)) (block.place ∷ list_of new (class_of block.size))
-    → ((other : ℕ) → other ≢ class_of block.size → list_of new other ≡ list_of lists other) → AreListed lists (before ++ block ∷ after) → AreListed new (before ++ after)
+pub listed_removed : (lists new : ℕ → List ℕ) (before after : List Block) (block : Block) → IsFree block → IsWithout (lists (class_of block.size)) (new (class_of block.size)) block.place
+    → ((other : ℕ) → other < 64 → other ≢ class_of block.size → new other ≡ lists other) → AreListed lists (before ++ block ∷ after) → AreListed new (before ++ after)
 listed_removed lists new before after block free removed others listed class few weight = by (cases_eq class (class_of block.size))
   where
     all : sum_by (count_in class weight) (before ++ block ∷ after) ≡ sum_by (count_in class weight) (before ++ after) + count_in class weight block
     all = omega (arith, sum_by-append (count_in class weight) before (block ∷ after), sum_by-cons (count_in class weight) block after, sum_by-append (count_in class weight) before after)
 
-    by : (class ≡ class_of block.size) ⊎ (class ≡ class_of block.size → ⊥) → sum_by weight (list_of new class) ≡ sum_by (count_in class weight) (before ++ after)
+    by : (class ≡ class_of block.size) ⊎ (class ≡ class_of block.size → ⊥) → sum_by weight (new class) ≡ sum_by (count_in class weight) (before ++ after)
     by (inl e) =
         let own = free_counts class weight block free (sym e) in
-        let moved = sum_by-IsPermutation weight (list_of lists (class_of block.size)) (block.place ∷ list_of new (class_of block.size)) removed in
-        let new_list = ap (λ c. sum_by weight (list_of new c)) e in
-        let old_list = ap (λ c. sum_by weight (list_of lists c)) e in
-        omega (arith, all, own, moved, new_list, old_list, sum_by-cons weight block.place (list_of new (class_of block.size)), listed class few weight)
+        let new_list : sum_by weight (new class) ≡ sum_by weight (removed.before ++ removed.after) = ap (λ c. sum_by weight (new c)) e ∙ ap (sum_by weight) removed.now in
+        let old_list : sum_by weight (lists class) ≡ sum_by weight (removed.before ++ block.place ∷ removed.after) = ap (λ c. sum_by weight (lists c)) e ∙ ap (sum_by weight) removed.was in
+        omega (arith, all, own, new_list, old_list, sum_by-append weight removed.before (block.place ∷ removed.after), sum_by-cons weight block.place removed.after, sum_by-append weight removed.before removed.after, listed class few weight)
     by (inr ne) =
         let none = other_counts class weight block (λ e. ne (sym e)) in
-        let list = ap (sum_by weight) (others class ne) in
+        let list = ap (sum_by weight) (others class few ne) in
         omega (arith, all, none, list, listed class few weight)
 
 -- a used block changes no list
-pub listed_beside : (lists : List (List ℕ)) (before after : List Block) (block : Block) → block.used ≡ true → AreListed lists (before ++ after) → AreListed lists (before ++ block ∷ after)
+pub listed_beside : (lists : ℕ → List ℕ) (before after : List Block) (block : Block) → block.used ≡ true → AreListed lists (before ++ after) → AreListed lists (before ++ block ∷ after)
 listed_beside lists before after block used listed class few weight =
     omega (arith, sum_by-append (count_in class weight) before (block ∷ after), sum_by-cons (count_in class weight) block after, sum_by-append (count_in class weight) before after, used_counts class weight block used, listed class few weight)
 
-pub listed_without : (lists : List (List ℕ)) (before after : List Block) (block : Block) → block.used ≡ true → AreListed lists (before ++ block ∷ after) → AreListed lists (before ++ after)
+pub listed_without : (lists : ℕ → List ℕ) (before after : List Block) (block : Block) → block.used ≡ true → AreListed lists (before ++ block ∷ after) → AreListed lists (before ++ after)
 listed_without lists before after block used listed class few weight =
     omega (arith, sum_by-append (count_in class weight) before (block ∷ after), sum_by-cons (count_in class weight) block after, sum_by-append (count_in class weight) before after, used_counts class weight block used, listed class few weight)
 
@@ -102,13 +99,13 @@ counts class weight blocks block among free is =
     omega (arith, ap (sum_by (count_in class weight)) parts.2, sum_by-append (count_in class weight) parts.0 (block ∷ parts.1), sum_by-cons (count_in class weight) block parts.1, free_counts class weight block free is)
 
 -- a free block's place is listed
-pub place_listed : (lists : List (List ℕ)) (blocks : List Block) (block : Block) (class : ℕ) → class < 64 → class_of block.size ≡ class → AreListed lists blocks → Contains blocks block → IsFree block → Contains (list_of lists class) block.place
+pub place_listed : (lists : ℕ → List ℕ) (blocks : List Block) (block : Block) (class : ℕ) → class < 64 → class_of block.size ≡ class → AreListed lists blocks → Contains blocks block → IsFree block → Contains (lists class) block.place
 place_listed lists blocks block class few is listed among free =
     let one : at block.place block.place ≡ 1 = ap (λ t. cond t 1 0) (eq-eqb block.place block.place refl) in
-    counted (list_of lists class) block.place (omega (arith, counts class (at block.place) blocks block among free is, listed class few (at block.place), one))
+    counted (lists class) block.place (omega (arith, counts class (at block.place) blocks block among free is, listed class few (at block.place), one))
 
 -- and no list is empty that has one
-pub list_filled : (lists : List (List ℕ)) (blocks : List Block) (block : Block) (class : ℕ) → class < 64 → class_of block.size ≡ class → AreListed lists blocks → Contains blocks block → IsFree block → 0 < length (list_of lists class)
+pub list_filled : (lists : ℕ → List ℕ) (blocks : List Block) (block : Block) (class : ℕ) → class < 64 → class_of block.size ≡ class → AreListed lists blocks → Contains blocks block → IsFree block → 0 < length (lists class)
 list_filled lists blocks block class few is listed among free = (let place = place_listed lists blocks block class few is listed among free in let lt = place.1 in omega arith)
 
 -- a free block of a class
@@ -136,10 +133,11 @@ found (block ∷ blocks) class place some = by (found blocks class place) block.
     by more false free (inl is) (inl here) = record { size = block.size; among = (0, omega arith, free_is block free ∙ ap (λ p. free_block p block.size) here); is = is }
 
 -- a listed place is a free block's of its class
-pub block_listed : (lists : List (List ℕ)) (blocks : List Block) (class k place : ℕ) → class < 64 → AreListed lists blocks → k < length (list_of lists class) → get_or (list_of lists class) k 0 ≡ place → HasFree blocks class place
-block_listed lists blocks class k place few listed short is =
-    let one : at place (get_or (list_of lists class) k 0) ≡ 1 = ap (λ t. cond t 1 0) (eq-eqb (get_or (list_of lists class) k 0) place is) in
-    found blocks class place (omega (arith, sum_by-remove (at place) (list_of lists class) k 0 short, one, listed class few (at place)))
+pub block_listed : (lists : ℕ → List ℕ) (blocks : List Block) (class place : ℕ) → class < 64 → AreListed lists blocks → Contains (lists class) place → HasFree blocks class place
+block_listed lists blocks class place few listed among =
+    let one : at place place ≡ 1 = ap (λ t. cond t 1 0) (eq-eqb place place refl) in
+    let parts = parted (lists class) place among in
+    found blocks class place (omega (arith, ap (sum_by (at place)) parts.2, sum_by-append (at place) parts.0 (place ∷ parts.1), sum_by-cons (at place) place parts.1, one, listed class few (at place)))
 
 -- where a block lies among others
 lies_from : (from end : ℕ) (blocks : List Block) (block : Block) → Fills from blocks end → Contains blocks block → (from ≤ block.place) × (0 < block.size) × (block.place + block.size ≤ end)
@@ -152,10 +150,6 @@ lies_from from end blocks block fills among =
 
 pub free_within : (words : ℕ) (blocks : List Block) (block : Block) → Fills 0 blocks words → Contains blocks block → (0 < block.size) × (block.place + block.size ≤ words)
 free_within words blocks block fills among = (let lies = lies_from 0 words blocks block fills among in (lies.1, lies.2))
-
-pub in_middle : (before after : List Block) (block : Block) → Contains (before ++ block ∷ after) block
-in_middle [] after block = (0, omega arith, refl)
-in_middle (b ∷ before) after block = (let rest = in_middle before after block in (suc rest.0, (let lt = rest.1 in omega arith), rest.2))
 
 -- no other block begins where a block does
 alone : (from end : ℕ) (before after : List Block) (block other : Block) (k : ℕ) → Fills from (before ++ block ∷ after) end → k < length (before ++ after) → get_or (before ++ after) k other ≡ other → other.place ≡ block.place → ⊥
@@ -175,57 +169,44 @@ alone from end (b ∷ before) after block other zero fills lt is same =
 alone from end (b ∷ before) after block other (suc k) fills lt is same = alone (from + b.size) end before after block other k fills.2 (omega arith) is same
 
 -- a block beside those that are listed is in no list
-pub unlisted : (lists : List (List ℕ)) (before after : List Block) (block : Block) (words : ℕ) → Fills 0 (before ++ block ∷ after) words → AreListed lists (before ++ after) → IsUnlisted lists block.place
-unlisted lists before after block words fills listed class k few short is =
-    let has = block_listed lists (before ++ after) class k block.place few listed short is in
+pub unlisted : (lists : ℕ → List ℕ) (before after : List Block) (block : Block) (words : ℕ) → Fills 0 (before ++ block ∷ after) words → AreListed lists (before ++ after) → IsUnlisted lists block.place
+unlisted lists before after block words fills listed class few among =
+    let has = block_listed lists (before ++ after) class block.place few listed among in
     alone 0 words before after block (free_block block.place has.size) has.among.0 fills has.among.1 has.among.2 refl
 
--- how many free blocks of a class there may be
+-- how many free blocks of a class there are
 abbrev number : ℕ → List Block → ℕ
 number class blocks = sum_by (count_in class (λ _. 1)) blocks
 
-abbrev AreFew : ℕ → ℕ → List Block → Type 0
-AreFew class least blocks = (number class blocks * (least + 1) ≤ words_of blocks + 1) × ((BeginsFree blocks → ⊥) → number class blocks * (least + 1) ≤ words_of blocks)
-
-few_by : (class least end from : ℕ) (block : Block) (blocks : List Block) (u : Bool) → block.used ≡ u → IsLeast class least → end < 2 ^ 32 → Fills from (block ∷ blocks) end
-    → ((IsFree block × BeginsFree blocks) → ⊥) → (class_of block.size ≡ class) ⊎ (class_of block.size ≡ class → ⊥) → AreFew class least blocks → AreFew class least (block ∷ blocks)
-few_by class least end from block blocks true used is_least limit fills not_both _ few =
-    let same : number class (block ∷ blocks) ≡ number class blocks = omega (arith, sum_by-cons (count_in class (λ _. 1)) block blocks, used_counts class (λ _. 1) block used) in
-    let product = ap (λ n. n * (least + 1)) same in
+-- no more than words
+number-le : (class from end : ℕ) (blocks : List Block) → Fills from blocks end → number class blocks ≤ words_of blocks
+number-le class from end [] fills = omega arith
+number-le class from end (block ∷ blocks) fills =
     let some = fills.1 in
-    let so_far = few.0 in
-    (omega (arith, product, words_of-cons block blocks), λ _. omega (arith, product, words_of-cons block blocks))
-few_by class least end from block blocks false free is_least limit fills not_both (inr other) few =
-    let same : number class (block ∷ blocks) ≡ number class blocks = omega (arith, sum_by-cons (count_in class (λ _. 1)) block blocks, other_counts class (λ _. 1) block other) in
-    let product = ap (λ n. n * (least + 1)) same in
-    let so_far = few.1 (λ begins. not_both (free, begins)) in
-    (omega (arith, product, words_of-cons block blocks), λ used. absurd (used free))
-few_by class least end from block blocks false free is_least limit fills not_both (inl is) few =
-    let more : number class (block ∷ blocks) ≡ suc (number class blocks) = omega (arith, sum_by-cons (count_in class (λ _. 1)) block blocks, free_counts class (λ _. 1) block free is) in
-    let product : number class (block ∷ blocks) * (least + 1) ≡ number class blocks * (least + 1) + (least + 1) = ap (λ n. n * (least + 1)) more ∙ omega arith in
-    let so_far = few.1 (λ begins. not_both (free, begins)) in
-    let le = from-le-end (from + block.size) end blocks fills.2 in
-    let some = fills.1 in
-    let short = is_least block.size some (omega arith) is in
-    (omega (arith, product, words_of-cons block blocks), λ used. absurd (used free))
+    omega (arith, number-le class (from + block.size) end blocks fills.2, one block.used (eqb (class_of block.size) class), sum_by-cons (count_in class (λ _. 1)) block blocks, words_of-cons block blocks)
+  where
+    one : (u t : Bool) → cond u 0 (cond t 1 0) ≤ 1
+    one true t = omega arith
+    one false true = omega arith
+    one false false = omega arith
 
-are_few : (class least end from : ℕ) (blocks : List Block) → IsLeast class least → end < 2 ^ 32 → Fills from blocks end → IsMerged blocks → AreFew class least blocks
-are_few class least end from [] is_least limit fills merged = (omega arith, λ _. omega arith)
-are_few class least end from (block ∷ blocks) is_least limit fills merged =
-    few_by class least end from block blocks block.used refl is_least limit fills merged.0 (cases_eq (class_of block.size) class) (are_few class least end (from + block.size) blocks is_least limit fills.2 merged.1)
-
--- there is room for one more block in the list of its class
-pub may_lie : (lists : List (List ℕ)) (before after : List Block) (block : Block) (words : ℕ) → words ≤ 1048576 → class_of block.size < 64 → IsFree block → Fills 0 (before ++ block ∷ after) words → IsMerged (before ++ block ∷ after)
-    → AreListed lists (before ++ after) → MayLie words (class_of block.size) (length (list_of lists (class_of block.size)) + 1)
-may_lie lists before after block words limit few free fills merged listed = λ least is_least.
+-- one block more may be listed
+pub may_lie : (lists : ℕ → List ℕ) (before after : List Block) (block : Block) (words : ℕ) → class_of block.size < 64 → IsFree block → Fills 0 (before ++ block ∷ after) words → AreListed lists (before ++ after)
+    → length (lists (class_of block.size)) < words
+may_lie lists before after block words few free fills listed =
     let class = class_of block.size in
-    let may = (are_few class least words 0 (before ++ block ∷ after) is_least (omega arith) fills merged).0 in
     let ones = count_in class (λ _. 1) in
-    let long : sum_by (λ _. 1) (list_of lists class) ≡ length (list_of lists class) = ones_length (list_of lists class) in
-    let same : number class (before ++ block ∷ after) ≡ length (list_of lists class) + 1 =
-    omega (arith, sum_by-append ones before (block ∷ after), sum_by-cons ones block after, sum_by-append ones before after, free_counts class (λ _. 1) block free refl, listed class few (λ _. 1), long) in
-    let total = words_of-fills 0 words (before ++ block ∷ after) fills in
-    subst (λ n. n * (least + 1) ≤ words + 1) same (omega (arith, may, total))
+    omega (
+      arith,
+      number-le class 0 words (before ++ block ∷ after) fills,
+      words_of-fills 0 words (before ++ block ∷ after) fills,
+      sum_by-append ones before (block ∷ after),
+      sum_by-cons ones block after,
+      sum_by-append ones before after,
+      free_counts class (λ _. 1) block free refl,
+      listed class few (λ _. 1),
+      ones_length (lists class),
+    )
   where
     ones_length : (xs : List ℕ) → sum_by (λ _. 1) xs ≡ length xs
     ones_length [] = refl

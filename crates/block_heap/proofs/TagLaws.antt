@@ -8,7 +8,7 @@ use Rattle.block_heap.specs.Blocks.{free_block, used_block, Fills, IsFree, Begin
 use Rattle.block_heap.specs.Changes.{rest_of}
 use Rattle.block_heap.specs.Tags.{tag_at, IsTagged, AreTagged, blocks_from, blocks_of, TellBlocks, OthersStay, EndsFree}
 use Rattle.block_heap.proofs.Order.{words_of-fills, front_fills, back_fills, fills-append}
-use Rattle.block_heap.proofs.Places.{last_of}
+use Rattle.block_heap.proofs.Places.{last_of, parted}
 
 pub from-le-end : (from end : ℕ) (blocks : List Block) → Fills from blocks end → from ≤ end
 from-le-end from end blocks fills = (let e = words_of-fills from end blocks fills in omega arith)
@@ -106,13 +106,6 @@ begins_at at from end words [] after some fills whole = absurd (omega arith)
 begins_at at from end words (block ∷ middle) after some fills whole = sym whole.0 ∙ fills.0
 
 -- a list's block, with those before and after it
-pub parted : (blocks : List Block) (block : Block) → Contains blocks block → (before : List Block) × (after : List Block) × (blocks ≡ before ++ block ∷ after)
-parted [] block among = absurd (let lt = among.1 in omega arith)
-parted (b ∷ blocks) block (zero, lt, is) = ([], blocks, ap (λ x. x ∷ blocks) is)
-parted (b ∷ blocks) block (suc k, lt, is) =
-    let rest = parted blocks block (k, omega arith, is) in
-    (b ∷ rest.0, rest.1, ap (λ xs. b ∷ xs) rest.2)
-
 -- the tags of a block, and where its words lie
 pub record LiesIn (sizes : List ℕ) (used : List Bool) (block : Block) : Type 0 where
   pub tagged : IsTagged sizes used block

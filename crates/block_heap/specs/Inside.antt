@@ -1,12 +1,12 @@
 -- What the heap keeps.
-use Rattle.std.specs.Prelude.{◌≡◌, ℕ, ◌≤◌, Option, Some, None, List, [], ◌∷◌, Contains, IfSome, ◌<◌, slice_index}
+use Rattle.std.specs.Prelude.{◌≡◌, ℕ, ◌≤◌, Option, Some, None, List, [], ◌∷◌, Contains, IfSome, ◌<◌}
 use Rattle.size_classes.specs.Classes.{class_of}
 use Rattle.block_heap.specs.declared.block.Block.{Block}
 use Rattle.block_heap.specs.Blocks.{free_block, IsFree, IsBlockList, free_sizes, words_of}
-use Rattle.block_heap.specs.Lists.{list_of, AreListed}
+use Rattle.block_heap.specs.Lists.{AreListed}
 
--- a block list, and the lists of its free blocks, with a position for each of its words
-pub record IsHeap (blocks : List Block) (words : ℕ) (lists : List (List ℕ)) : Type 0 where
+-- a block list, and the lists of its free blocks, with a place for each of its words
+pub record IsHeap (blocks : List Block) (words : ℕ) (lists : ℕ → List ℕ) : Type 0 where
   pub list : IsBlockList (words_of blocks) blocks
   pub listed : AreListed lists blocks
   pub same : words ≡ words_of blocks
@@ -23,21 +23,24 @@ words_in None = 0
 words_in (Some block) = block.size
 
 -- a neighbour is free, and stands in the list of its class
-abbrev pub IsListable : List (List ℕ) → Option Block → Type 0
+abbrev pub IsListable : (ℕ → List ℕ) → Option Block → Type 0
 IsListable lists neighbour =
-    IfSome neighbour (λ block. IsFree block × (1 ≤ block.size) × (block.size ≤ 1048576) × Contains (list_of lists (class_of block.size)) block.place)
+    IfSome neighbour (λ block. IsFree block × (1 ≤ block.size) × (block.size ≤ 1048576) × Contains (lists (class_of block.size)) block.place)
 
 -- a free block begins at the place
 pub record HasFreeAt (blocks : List Block) (place : ℕ) : Type 0 where
   pub size : ℕ
   pub among : Contains blocks (free_block place size)
 
--- so many places of a list have blocks of fewer words than are needed
-abbrev pub AreShort : List Block → List ℕ → ℕ → ℕ → Type 0
-AreShort blocks list need count =
-    (k : ℕ) (block : Block) → k < count → Contains blocks block → block.place ≡ slice_index list k → block.size < need
+-- a free block begins at each place of a list
+abbrev pub HaveFree : List Block → List ℕ → Type 0
+HaveFree blocks list = (place : ℕ) → Contains list place → HasFreeAt blocks place
 
--- the largest size at so many places of a list, or 0 where there is none
-pub record IsMost (blocks : List Block) (list : List ℕ) (count most : ℕ) : Type 0 where
-  pub bound : (k : ℕ) (block : Block) → k < count → Contains blocks block → block.place ≡ slice_index list k → block.size ≤ most
+-- the blocks at the places of a list have fewer words than are needed
+abbrev pub AreShort : List Block → List ℕ → ℕ → Type 0
+AreShort blocks list need = (block : Block) → Contains blocks block → Contains list block.place → block.size < need
+
+-- the largest size at the places of a list, or 0 where there is none
+pub record IsMost (blocks : List Block) (list : List ℕ) (most : ℕ) : Type 0 where
+  pub bound : (block : Block) → Contains blocks block → Contains list block.place → block.size ≤ most
   pub found : 0 < most → Contains (free_sizes blocks) most

@@ -1,5 +1,6 @@
 pub mod Blocks
 pub mod Changes
 pub mod Tags
+pub mod Links
 pub mod Lists
 pub mod Inside

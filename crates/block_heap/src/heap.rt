@@ -3,8 +3,9 @@ ghost use Rattle.std.specs.Prelude.{◌≡◌, ◌+◌, ◌<◌, ◌≤◌, ◌�
 ghost use Rattle.block_heap.specs.declared.block.Block.{Block};
 ghost use Rattle.block_heap.specs.Blocks.{free_block, IsBlockList, HasUsed, NoneFits, MayLack, IsFree, IsLargest, words_of};
 ghost use Rattle.block_heap.specs.Changes.{IsTaken, IsGiven};
+ghost use Rattle.block_heap.specs.Links.{list_of};
 ghost use Rattle.block_heap.specs.Lists.{AreListed};
-ghost use Rattle.block_heap.specs.Inside.{IsListable, blocks_in, words_in, HasFreeAt, AreShort, IsMost};
+ghost use Rattle.block_heap.specs.Inside.{IsListable, blocks_in, words_in, HaveFree, AreShort, IsMost};
 
 use crate::block::Block;
 use crate::lists::FreeLists;
@@ -24,21 +25,22 @@ pub struct Heap {
 impl Model for Heap {
     ghost use Rattle.std.specs.Prelude.{List};
     ghost use Rattle.block_heap.specs.declared.block.Block.{Block};
+    ghost use Rattle.block_heap.specs.Links.{list_of};
     ghost use Rattle.block_heap.specs.Inside.{IsHeap};
 
     ghost Value = { List Block };
 
     ghost view = { λ s. s.blocks };
 
-    ghost invariant = { λ s. IsHeap s.blocks s.free.0 s.free.1 };
+    ghost invariant = { λ s. IsHeap s.blocks s.free.0 (list_of s.free) };
 }
 
 // Takes a free neighbour out of its list, and tells how many words it has.
 fn unlist(free: &mut FreeLists, neighbour: Option<Block>) -> u32
-    requires { IsListable free.old.1 neighbour }
+    requires { IsListable (list_of free.old) neighbour }
     ensures size { result ≡ words_in neighbour }
     ensures words { free.new.0 ≡ free.old.0 }
-    ensures listed { (before after : List Block) → AreListed free.old.1 (before ++ (blocks_in neighbour ++ after)) → AreListed free.new.1 (before ++ after) }
+    ensures listed { (before after : List Block) → AreListed (list_of free.old) (before ++ (blocks_in neighbour ++ after)) → AreListed (list_of free.new) (before ++ after) }
 {
     let Some(block) = neighbour else {
         return 0;
@@ -47,29 +49,35 @@ fn unlist(free: &mut FreeLists, neighbour: Option<Block>) -> u32
     block.size
 }
 
-// The first block of the list that has as many words as are needed.
-fn first_fit(blocks: &TaggedBlocks, list: &[u32], need: u32) -> Option<Block>
-    requires { All (HasFreeAt blocks.now) list.now }
-    ensures none { IfNone result (AreShort blocks.now list.now need (length list.now)) }
+// The first block of a class that has as many words as are needed.
+fn first_fit(blocks: &TaggedBlocks, free: &FreeLists, class: u32, need: u32) -> Option<Block>
+    requires class { class < 64 }
+    requires have { HaveFree blocks.now (list_of free.now class) }
+    ensures none { IfNone result (AreShort blocks.now (list_of free.now class) need) }
     ensures some { IfSome result (λ block. Contains blocks.now block × IsFree block × (need ≤ block.size)) }
 {
-    for place in list {
-        let size = blocks.size_at(*place);
+    let mut listed = free.first(class);
+    while let Some(place) = listed {
+        let size = blocks.size_at(place);
         if size >= need {
-            return Some(Block::free(*place, size));
+            return Some(Block::free(place, size));
         }
+        listed = free.after(place);
     }
     None
 }
 
-// The words of the largest block of the list.
-fn most_words(blocks: &TaggedBlocks, list: &[u32]) -> u32
-    requires { All (HasFreeAt blocks.now) list.now }
-    ensures { IsMost blocks.now list.now (length list.now) result }
+// The words of the largest block of a class.
+fn most_words(blocks: &TaggedBlocks, free: &FreeLists, class: u32) -> u32
+    requires class { class < 64 }
+    requires have { HaveFree blocks.now (list_of free.now class) }
+    ensures { IsMost blocks.now (list_of free.now class) result }
 {
     let mut most = 0;
-    for listed in list {
-        most = most.max(blocks.size_at(*listed));
+    let mut listed = free.first(class);
+    while let Some(place) = listed {
+        most = most.max(blocks.size_at(place));
+        listed = free.after(place);
     }
     most
 }
@@ -99,11 +107,11 @@ impl Heap {
             return None;
         }
         let class = class_of(need);
-        if let Some(block) = first_fit(&self.blocks, self.free.list(class), need) {
+        if let Some(block) = first_fit(&self.blocks, &self.free, class, need) {
             return Some(block);
         }
         let next = self.free.next_above(class)?;
-        let place = self.free.list(next)[0];
+        let place = self.free.first(next)?;
         Some(Block::free(place, self.blocks.size_at(place)))
     }
 
@@ -149,6 +157,6 @@ impl Heap {
         let Some(last) = self.free.last() else {
             return 0;
         };
-        most_words(&self.blocks, self.free.list(last))
+        most_words(&self.blocks, &self.free, last)
     }
 }

@@ -7,6 +7,7 @@
 
 mod block;
 mod heap;
+mod links;
 mod lists;
 mod tagged;
 

@@ -1,32 +1,36 @@
 //! The places of free blocks, in lists by class.
-ghost use Rattle.std.specs.Prelude.{◌≡◌, ◌≢◌, ◌^◌, ◌+◌, ◌<◌, ◌≤◌, ℕ, Bool, [], ◌∷◌, ◌++◌, List, length, IfOk, IfSome, IfNone, Contains, slice_index, if◌then◌else◌};
+ghost use Rattle.std.specs.Prelude.{◌≡◌, ◌≢◌, ◌+◌, ◌<◌, ◌≤◌, ℕ, Bool, [], ◌∷◌, ◌++◌, List, length, IfOk, IfSome, IfNone, Contains, if◌then◌else◌};
 ghost use Rattle.std.specs.Int.{bit_at};
-ghost use Rattle.std.specs.List.Sorted.{IsPermutation};
-ghost use Rattle.block_heap.specs.Lists.{list_of, MayLie, IsUnlisted};
+ghost use Rattle.block_heap.specs.Links.{node_of, list_of};
+ghost use Rattle.block_heap.specs.Lists.{IsUnlisted, IsListed, IsWithout, left_from};
 
+use crate::links::{Link, join, reach};
 use mica_io::NoMemory;
-use size_classes::least_of;
+use size_classes::CLASSES;
 use std::alloc::Global;
 use std::marker::Model;
 
-// A list is a vector, and each place has its position there, so that any of them can leave it.
+const HEADS: usize = CLASSES as usize;
+
+// The lists are rings of links, each with a node for its head, so that any place can leave its list. A place has its node
+// behind those of the heads, and no node is made before a place at it or behind it is listed.
 #[derive(Drop)]
 pub struct FreeLists {
-    lists: Vec<Vec<u32>>,
-    positions: Vec<u32>,
+    words: u32,
+    links: Vec<Link>,
     filled: u64,
 }
 
 impl Model for FreeLists {
-    ghost use Rattle.std.specs.Prelude.{List, ℕ, map, length, vec_capacity};
-    ghost use Rattle.block_heap.specs.Lists.{KeepsLists, HaveRoom};
+    ghost use Rattle.std.specs.Prelude.{List, ℕ, vec_capacity};
+    ghost use Rattle.block_heap.specs.declared.links.Link.{Link};
+    ghost use Rattle.block_heap.specs.Lists.{KeepsLists};
 
-    ghost Value = { ℕ × List (List ℕ) };
+    ghost Value = { ℕ × List Link };
 
-    ghost view = { λ s. (length s.positions.items, map (λ list. list.items) s.lists.items) };
+    ghost view = { λ s. (s.words, s.links.items) };
 
-    ghost invariant = { λ s. KeepsLists (map (λ list. list.items) s.lists.items) s.positions.items s.filled
-        × HaveRoom (length s.positions.items) (map (λ list. vec_capacity list) s.lists.items) };
+    ghost invariant = { λ s. KeepsLists s.words s.links.items (vec_capacity s.links) s.filled };
 }
 
 // The bits with one of them on or off.
@@ -41,38 +45,45 @@ fn with_bit(bits: u64, at: u32, on: bool) -> u64
 
 impl FreeLists {
     pub fn new(alloc: Global, words: u32) -> Result<Self, NoMemory>
-        requires some { 1 ≤ words }
-        requires limit { words ≤ 1048576 }
+        requires { words ≤ 1048576 }
         ensures words { IfOk result (λ lists. lists.0 ≡ words) }
-        ensures empty { IfOk result (λ lists. (class : ℕ) → list_of lists.1 class ≡ []) }
+        ensures empty { IfOk result (λ lists. (class : ℕ) → class < 64 → list_of lists class ≡ []) }
     {
-        let mut lists = Vec::with_capacity(alloc, 64)?;
-        for class in 0..64 {
-            let room = (words as usize + 1) / (least_of(class) as usize + 1);
-            let list = Vec::with_capacity(alloc, room)?;
-            lists.push(list)?;
+        let mut links = Vec::with_capacity(alloc, words as usize + HEADS)?;
+        for class in 0..CLASSES {
+            links.push_reserved(Link {
+                next: class,
+                prev: class,
+            });
         }
-        let positions = vec![in alloc; 0; words as usize]?;
         Ok(FreeLists {
-            lists,
-            positions,
+            words,
+            links,
             filled: 0,
         })
     }
 
-    // The places of a class.
-    pub fn list(&self, class: u32) -> &[u32]
+    // The first place of a class.
+    pub fn first(&self, class: u32) -> Option<u32>
         requires { class < 64 }
-        ensures { result.now ≡ list_of self.now.1 class }
+        ensures { left_from (list_of self.now) result ≡ list_of self.now class }
     {
-        self.lists[class as usize].as_slice()
+        self.links[class as usize].next.checked_sub(CLASSES)
+    }
+
+    // The place behind this one in its list.
+    pub fn after(&self, place: u32) -> Option<u32>
+        requires { IsListed (list_of self.now) place }
+        ensures { left_from (list_of self.now) result ≡ list_of self.now (node_of place) }
+    {
+        self.links[place as usize + HEADS].next.checked_sub(CLASSES)
     }
 
     // The next class above that has a place.
     pub fn next_above(&self, class: u32) -> Option<u32>
         requires { class < 64 }
-        ensures some { IfSome result (λ next. (class < next) × (next < 64) × (0 < length (list_of self.now.1 next))) }
-        ensures none { IfNone result ((next : ℕ) → class < next → next < 64 → length (list_of self.now.1 next) ≡ 0) }
+        ensures some { IfSome result (λ next. (class < next) × (next < 64) × (0 < length (list_of self.now next))) }
+        ensures none { IfNone result ((next : ℕ) → class < next → next < 64 → length (list_of self.now next) ≡ 0) }
     {
         let later = (self.filled >> class) >> 1;
         if later == 0 {
@@ -83,9 +94,9 @@ impl FreeLists {
 
     // The last class that has a place.
     pub fn last(&self) -> Option<u32>
-        ensures some { IfSome result (λ last. (last < 64) × (0 < length (list_of self.now.1 last))
-            × ((above : ℕ) → last < above → above < 64 → length (list_of self.now.1 above) ≡ 0)) }
-        ensures none { IfNone result ((class : ℕ) → class < 64 → length (list_of self.now.1 class) ≡ 0) }
+        ensures some { IfSome result (λ last. (last < 64) × (0 < length (list_of self.now last))
+            × ((above : ℕ) → last < above → above < 64 → length (list_of self.now above) ≡ 0)) }
+        ensures none { IfNone result ((class : ℕ) → class < 64 → length (list_of self.now class) ≡ 0) }
     {
         if self.filled == 0 {
             return None;
@@ -93,36 +104,36 @@ impl FreeLists {
         Some(63 - self.filled.leading_zeros())
     }
 
-    // Adds a place to the list of a class.
+    // Adds a place at the end of the list of a class.
     pub fn add(&mut self, class: u32, place: u32)
         requires class { class < 64 }
         requires within { place < self.old.0 }
-        requires unlisted { IsUnlisted self.old.1 place }
-        requires room { MayLie self.old.0 class (length (list_of self.old.1 class) + 1) }
+        requires unlisted { IsUnlisted (list_of self.old) place }
+        requires room { length (list_of self.old class) < self.old.0 }
         ensures words { self.new.0 ≡ self.old.0 }
-        ensures added { list_of self.new.1 class ≡ list_of self.old.1 class ++ place ∷ [] }
-        ensures others { (other : ℕ) → other ≢ class → list_of self.new.1 other ≡ list_of self.old.1 other }
+        ensures added { list_of self.new class ≡ list_of self.old class ++ place ∷ [] }
+        ensures others { (other : ℕ) → other < 64 → other ≢ class → list_of self.new other ≡ list_of self.old other }
     {
-        let list = &mut self.lists[class as usize];
-        self.positions[place as usize] = list.len() as u32;
-        list.push(place).unwrap();
+        let last = self.links[class as usize].prev;
+        let node = place + CLASSES;
+        reach(&mut self.links, node);
+        join(&mut self.links, last, node);
+        join(&mut self.links, node, class);
         self.filled = with_bit(self.filled, class, true);
     }
 
     // Takes a place out of the list of its class.
     pub fn remove(&mut self, class: u32, place: u32)
         requires class { class < 64 }
-        requires listed { Contains (list_of self.old.1 class) place }
+        requires listed { Contains (list_of self.old class) place }
         ensures words { self.new.0 ≡ self.old.0 }
-        ensures removed { IsPermutation (list_of self.old.1 class) (place ∷ list_of self.new.1 class) }
-        ensures others { (other : ℕ) → other ≢ class → list_of self.new.1 other ≡ list_of self.old.1 other }
+        ensures removed { IsWithout (list_of self.old class) (list_of self.new class) place }
+        ensures others { (other : ℕ) → other < 64 → other ≢ class → list_of self.new other ≡ list_of self.old other }
     {
-        let list = &mut self.lists[class as usize];
-        let at = self.positions[place as usize];
-        let last = list[list.len() - 1];
-        self.positions[last as usize] = at;
-        let _ = list.swap_remove(at as usize);
-        let some = !list.is_empty();
+        let links = &mut self.links;
+        let link = links[place as usize + HEADS];
+        join(links, link.prev, link.next);
+        let some = links[class as usize].next >= CLASSES;
         self.filled = with_bit(self.filled, class, some);
     }
 }

@@ -6,7 +6,7 @@ use lib.Seq.{set-get_or}
 use Rattle.atomic_table.specs.Table.{State, step, keeps, stepped, opening, Allows, Splits, Joins}
 use Rattle.atomic_table.proofs.Lists.{at_set, at_snoc, set_again, set_else, at_longer}
 use Rattle.std.proofs.Math.Nat.{mod-eq_of_lt}
-use Rattle.mica_model.specs.History.{History, IsPrefix, stamp_of, writes_to_bucket}
+use Rattle.partition_model.specs.History.{History, IsPrefix, stamp_of, writes_to_bucket}
 use Rattle.epoch_core.specs.declared.shape.Shape.{Shape}
 use Rattle.epoch_core.specs.declared.event.Event.{Event}
 use Rattle.epoch_core.specs.declared.state.OwnerState.{OwnerState}

@@ -1,7 +1,7 @@
 -- What each kind of step tells: of the seat before, the number found or stored, and the seat after.
 use Rattle.std.specs.Prelude.{◌≡◌, ℕ, ◌*◌, ◌≤◌, ◌⊎◌, slice_index}
 use Rattle.atomic_table.specs.Table.{Step}
-use Rattle.mica_model.specs.History.{History, IsPrefix, stamp_of, writes_to_bucket}
+use Rattle.partition_model.specs.History.{History, IsPrefix, stamp_of, writes_to_bucket}
 use Rattle.epoch_core.specs.declared.event.Event.{Event}
 use Rattle.epoch_core.specs.declared.reader.ReaderState.{ReaderState}
 use Rattle.epoch_core.specs.Shape.{options_of, IsSpare, IsBucket}

@@ -3,7 +3,7 @@ use Rattle.std.specs.Prelude.{◌≡◌, ℕ, [], Bool, true, false}
 use mathlib.Core.Option.{some}
 use lib.ListN.{get_elem?}
 use Rattle.atomic_table.specs.Table.{State, Me}
-use Rattle.mica_model.specs.declared.options.Mode.TheVariants.{Cache}
+use Rattle.partition_model.specs.declared.options.Mode.TheVariants.{Cache}
 use Rattle.epoch_core.specs.declared.shape.Shape.{Shape}
 use Rattle.epoch_core.specs.declared.state.OwnerState.{OwnerState}
 use Rattle.epoch_core.specs.declared.reader.ReaderState.{ReaderState}

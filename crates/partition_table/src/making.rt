@@ -13,17 +13,34 @@ use mica_io::NoMemory;
 use std::alloc::Global;
 use std::sync::Arc;
 
-/// A partition whose words are 0, in the hands of its owner.
-pub fn make(alloc: Global, shape: &Shape) -> Result<OwnerSeat, NoMemory>
-    requires { IsValidShape shape.now }
+/// As many zeros as a partition has words, for the making of any number of partitions of this shape.
+pub fn zeros_for(alloc: Global, shape: &Shape) -> Result<Vec<u64>, NoMemory>
+    ensures { IfOk result (λ zeros. zeros.items ≡ (as_made shape.now).words) }
+{
+    let zeros = vec![in alloc; 0u64; shape.word_count()]?;
+    Ok(zeros)
+}
+
+/// A partition whose words are 0, in the hands of its owner. The zeros are lent, and are the caller's afterwards.
+pub fn make_over(alloc: Global, shape: &Shape, zeros: &[u64]) -> Result<OwnerSeat, NoMemory>
+    requires valid { IsValidShape shape.now }
+    requires zeros { zeros.now ≡ (as_made shape.now).words }
     ensures made { IfOk result (λ s. owner_state s ≡ as_made shape.now) }
 {
-    let words = vec![in alloc; 0u64; shape.word_count()]?;
-    let (table, seat) = Table::of_words(alloc, words.as_slice(), shape)?;
+    let (table, seat) = Table::of_words(alloc, zeros, shape)?;
     let table: Arc<PartitionTable, Global> = Arc::new(alloc, table)?;
     Ok(OwnerSeat {
         table,
         seat,
         places: Places::new(shape),
     })
+}
+
+/// A partition whose words are 0, with a row of zeros of its own.
+pub fn make(alloc: Global, shape: &Shape) -> Result<OwnerSeat, NoMemory>
+    requires { IsValidShape shape.now }
+    ensures made { IfOk result (λ s. owner_state s ≡ as_made shape.now) }
+{
+    let zeros = zeros_for(alloc, shape)?;
+    make_over(alloc, shape, zeros.as_slice())
 }

@@ -14,7 +14,7 @@ use crate::rule::{PartitionTable, View};
 use atomic_table::Seat;
 use epoch_core::{LendWords, OwnerEvent, OwnerWords, Shape, WordAt};
 use mica_io::NoMemory;
-use mica_model::Op;
+use partition_model::Op;
 use std::alloc::Global;
 use std::marker::Brand;
 use std::sync::Arc;

@@ -1,7 +1,7 @@
 //! A seat that reads, and a note of what one has seen.
 ghost use Rattle.std.specs.Prelude.{◌≡◌, ◌<◌, true, [], Some, None};
 ghost use Rattle.std.specs.Arc.{arc_value};
-ghost use Rattle.mica_model.specs.History.{IsPrefix};
+ghost use Rattle.partition_model.specs.History.{IsPrefix};
 ghost use Rattle.epoch_core.specs.declared.reader.Try.{Try};
 ghost use Rattle.epoch_core.specs.Shape.{is_in_range, IsMain};
 ghost use Rattle.epoch_core.specs.Layout.{word_count};

@@ -6,7 +6,7 @@ ghost use Rattle.partition_table.specs.Tabled.{entry_of};
 
 use crate::owner::OwnerSeat;
 use epoch_core::Shape;
-use mica_model::Write;
+use partition_model::Write;
 use std::collections::LinkedList;
 use std::marker::Model;
 

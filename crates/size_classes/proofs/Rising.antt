@@ -1,8 +1,8 @@
 -- The class of a size never falls.
-use Rattle.std.proofs.Common.{◌≡◌, ℕ, zero, suc, ◌+◌, ◌-◌, ◌*◌, ◌/◌, ◌%◌, ◌^◌, ◌<◌, ◌≤◌, refl, ap, subst, arith, ◌⊎◌, inl, inr, ◌∙◌}
+use Rattle.std.proofs.Common.{◌≡◌, ℕ, suc, ◌+◌, ◌-◌, ◌*◌, ◌/◌, ◌^◌, ◌<◌, ◌≤◌, refl, ap, subst, arith, ◌⊎◌, inl, inr, ◌∙◌}
 use Rattle.std.specs.Int.{bit_at}
 use Rattle.std.proofs.Math.Pow.{pow_mono, shr_mono}
-use Rattle.std.proofs.Math.Nat.{div-mul-le_self, lt_of_mul-lt-mul_right, mul-div_cancel, mul-le-mul_right, mod-eq_of_lt}
+use Rattle.std.proofs.Math.Nat.{div-mul-le_self, lt_of_mul-lt-mul_right}
 use Rattle.std.proofs.lemmas.Nat.{leading_top, pow_pos, le-div, pow-add}
 use Rattle.std.proofs.lemmas.Nat.Bits.{bit_at-lt}
 use Rattle.std.proofs.lemmas.Bool.{le-ltb, lt-ltb, cases_lt}
@@ -99,68 +99,3 @@ below_sixty_four words some few = by (cases_lt words 32)
     by (inr least) =
         let high = below_power (highest_bit words) 21 words (between words some (omega arith)).low (omega arith) in
         omega (arith, class_large words least, bit_at-lt words (highest_bit words - 1))
-
--- each size of a class from 31 on is the number that its two highest bits make, or more
-pub least_large : (words class : ℕ) → 1 ≤ words → words < 2 ^ 32 → class_of words ≡ class → 31 ≤ class → (2 + (class - 31) % 2) * 2 ^ (4 + (class - 31) / 2) ≤ words
-least_large words class some limit is more = by (cases_lt words 32)
-  where
-    by : (words < 32) ⊎ (32 ≤ words) → (2 + (class - 31) % 2) * 2 ^ (4 + (class - 31) / 2) ≤ words
-    by (inl small) = absurd (omega (arith, class_small words small))
-    by (inr least) =
-        let h = halves words least limit in
-        let bit = bit_at words (highest_bit words - 1) in
-        let five = h.five in
-        let few = bit_at-lt words (highest_bit words - 1) in
-        let half : class - 31 ≡ 2 * (highest_bit words - 5) + bit = omega (arith, class_large words least) in
-        let low : (class - 31) % 2 ≡ bit = omega arith in
-        let high : 4 + (class - 31) / 2 ≡ highest_bit words - 1 = omega arith in
-        let whole : 2 + bit ≡ words / 2 ^ (highest_bit words - 1) = (let bits = h.bits in omega arith) in
-        rw (low, high, whole) (div-mul-le_self words (2 ^ (highest_bit words - 1)))
-
-pub least_small : (words class : ℕ) → 1 ≤ words → class_of words ≡ class → class < 31 → class + 1 ≤ words
-least_small words class some is few = by (cases_lt words 32)
-  where
-    by : (words < 32) ⊎ (32 ≤ words) → class + 1 ≤ words
-    by (inl small) = omega (arith, class_small words small)
-    by (inr least) = absurd (omega (arith, class_large words least))
-
-twice_or_more : (p bit : ℕ) → 2 * p ≤ (2 + bit) * p
-twice_or_more p bit = mul-le-mul_right p (omega arith)
-
-under_four : (p bit : ℕ) → bit < 2 → (2 + bit) * p ≤ 3 * p
-under_four p bit few = mul-le-mul_right p (omega arith)
-
-own_small : (k bit : ℕ) → bit < 2 → k ≤ 20 → (2 + bit) * 2 ^ k < 2 ^ 32
-own_small k bit few most =
-    let high : 2 ^ k ≤ 2 ^ 20 = pow_mono most in
-    let less = under_four (2 ^ k) bit few in
-    omega arith
-
--- the number that a class's two highest bits make is of the class
-own_large : (k bit : ℕ) → bit < 2 → 4 ≤ k → k ≤ 20 → class_of ((2 + bit) * 2 ^ k) ≡ 31 + 2 * (k - 4) + bit
-own_large k bit few least most =
-    let words = (2 + bit) * 2 ^ k in
-    let low : 2 ^ 4 ≤ 2 ^ k = pow_mono least in
-    let twice = twice_or_more (2 ^ k) bit in
-    let less = under_four (2 ^ k) bit few in
-    let one = pow-add 2 k 1 in
-    let two = pow-add 2 k 2 in
-    let positive = pow_pos k in
-    let some : 32 ≤ words = omega arith in
-    let limit : words < 2 ^ 32 = own_small k bit few most in
-    let h = between words (omega arith) limit in
-    let above : k + 1 < highest_bit words + 1 = below_power (k + 1) (highest_bit words + 1) words (omega arith) h.high in
-    let below : highest_bit words < k + 2 = below_power (highest_bit words) (k + 2) words h.low (omega arith) in
-    let place : highest_bit words - 1 ≡ k = omega arith in
-    let bits = subst (λ j. bit_at words j + 2 ≡ words / 2 ^ j) place (halves words some limit).bits in
-    let whole : words / 2 ^ k ≡ 2 + bit = mul-div_cancel (2 + bit) positive in
-    let own : bit_at words (highest_bit words - 1) ≡ bit = ap (bit_at words) place ∙ omega arith in
-    omega (arith, class_large words some)
-
-pub own_least : (class : ℕ) → 31 ≤ class → class < 64 → class_of ((2 + (class - 31) % 2) * 2 ^ (4 + (class - 31) / 2) % 4294967296) ≡ class
-own_least class more less =
-    let bit = (class - 31) % 2 in
-    let k = 4 + (class - 31) / 2 in
-    let few : bit < 2 = omega arith in
-    let most : k ≤ 20 = omega arith in
-    ap class_of (mod-eq_of_lt (own_small k bit few most)) ∙ own_large k bit few (omega arith) most ∙ omega arith

@@ -4,7 +4,7 @@
 //! of a class above that of a need is always large enough.
 #![tactic(auto)]
 
-ghost use Rattle.std.specs.Prelude.{◌≡◌, ◌<◌, ◌≤◌, ◌^◌, ℕ};
+ghost use Rattle.std.specs.Prelude.{◌≡◌, ◌<◌, ◌≤◌, ℕ};
 ghost use Rattle.size_classes.specs.Classes.{class_of};
 
 /// How many classes there are.
@@ -23,17 +23,4 @@ pub fn class_of(words: u32) -> u32
     }
     let highest = 31 - words.leading_zeros();
     31 + 2 * (highest - 5) + (words >> (highest - 1)) % 2
-}
-
-/// The least size of the class: it is of the class, and no size of it is below.
-pub fn least_of(class: u32) -> u32
-    requires { class < CLASSES }
-    ensures own { class_of result ≡ class }
-    ensures least { (words : ℕ) → 1 ≤ words → words < 2 ^ 32 → class_of words ≡ class → result ≤ words }
-{
-    if class < 31 {
-        return class + 1;
-    }
-    let half = class - 31;
-    (2 + half % 2) << (4 + half / 2)
 }

@@ -5,6 +5,7 @@ use Rattle.block_heap.specs.Changes.{IsGiven}
 use Rattle.block_heap.specs.Inside.{blocks_in}
 use Rattle.block_heap.specs.Lists.{AreListed}
 use Rattle.block_heap.specs.Tags.{Covers}
+use Rattle.block_heap.specs.Links.{list_of}
 use Rattle.block_heap.proofs.Giving.{UsedAt, IsFound, IsBlockList-given, has_block, read_at, found, one_of, one_is, before_right}
 use Rattle.block_heap.proofs.Listing.{listed_without}
 use Rattle.block_heap.proofs.Keeping.{IsAddable, addable, listable, room_for, heap_added, same_words}
@@ -39,19 +40,19 @@ pub unlist-before-requires : goal.unlist-before-requires
 unlist-before-requires c =
     let f = found_at (goal.at.unlist-before-requires c).After-free_at-right in
     let rest = used_block c.args.place c.size_at-size.result ∷ (blocks_in c.free_at-right.result ++ f.parts.back) in
-    listable c.self.inside.blocks c.self.inside.free.0 c.self.inside.free.1 c.self.inside.free.1 c.free_before-left.result f.parts.front rest f.parts.front rest c.self.invariant f.parts.was
-    (subst (AreListed c.self.inside.free.1) f.parts.was c.self.invariant.listed) f.parts.left_free
+    listable c.self.inside.blocks c.self.inside.free.0 (list_of c.self.inside.free) (list_of c.self.inside.free) c.free_before-left.result f.parts.front rest f.parts.front rest c.self.invariant f.parts.was
+    (subst (AreListed (list_of c.self.inside.free)) f.parts.was c.self.invariant.listed) f.parts.left_free
 
 pub unlist-after-requires : goal.unlist-after-requires
 unlist-after-requires c =
     let f = found_at (goal.at.unlist-after-requires c).After-free_at-right in
     let used = used_block c.args.place c.size_at-size.result in
     let rest = blocks_in c.free_at-right.result ++ f.parts.back in
-    listable c.self.inside.blocks c.self.inside.free.0 c.self.inside.free.1 c.unlist-before.new.free.1 c.free_at-right.result
+    listable c.self.inside.blocks c.self.inside.free.0 (list_of c.self.inside.free) (list_of c.unlist-before.new.free) c.free_at-right.result
     (f.parts.front ++ (blocks_in c.free_before-left.result ++ used ∷ [])) f.parts.back f.parts.front f.parts.back c.self.invariant
     (before_right (words_of c.self.inside.blocks) c.self.inside.blocks c.args.place c.size_at-size.result c.free_before-left.result c.free_at-right.result f.parts)
-    (listed_without c.unlist-before.new.free.1 f.parts.front rest used refl
-    (c.unlist-before.ensures.listed f.parts.front (used ∷ rest) (subst (AreListed c.self.inside.free.1) f.parts.was c.self.invariant.listed))) f.parts.right_free
+    (listed_without (list_of c.unlist-before.new.free) f.parts.front rest used refl
+    (c.unlist-before.ensures.listed f.parts.front (used ∷ rest) (subst (AreListed (list_of c.self.inside.free)) f.parts.was c.self.invariant.listed))) f.parts.right_free
 
 pub overflow_sub-place : goal.overflow_sub-place
 overflow_sub-place c = (let f = found_at (goal.at.overflow_sub-place c).After-free_at-right in let enough = f.parts.enough in omega (arith, c.unlist-before.ensures.size))
@@ -100,16 +101,16 @@ module _ (c : After-replace) where
   list : IsBlockList (words_of c.self.inside.blocks) c.replace.new.self
   list = IsBlockList-given (words_of c.self.inside.blocks) c.self.inside.blocks c.replace.new.self c.args.place c.self.invariant.list given
 
-  listed : AreListed c.unlist-after.new.free.1 (f.parts.front ++ f.parts.back)
+  listed : AreListed (list_of c.unlist-after.new.free) (f.parts.front ++ f.parts.back)
   listed =
       let rest = blocks_in c.free_at-right.result ++ f.parts.back in
       let used = used_block c.args.place c.size_at-size.result in
-      c.unlist-after.ensures.listed f.parts.front f.parts.back (listed_without c.unlist-before.new.free.1 f.parts.front rest used refl
-      (c.unlist-before.ensures.listed f.parts.front (used ∷ rest) (subst (AreListed c.self.inside.free.1) f.parts.was c.self.invariant.listed)))
+      c.unlist-after.ensures.listed f.parts.front f.parts.back (listed_without (list_of c.unlist-before.new.free) f.parts.front rest used refl
+      (c.unlist-before.ensures.listed f.parts.front (used ∷ rest) (subst (AreListed (list_of c.self.inside.free)) f.parts.was c.self.invariant.listed)))
 
-  may_add : IsAddable (words_of c.self.inside.blocks) c.unlist-after.new.free.1 c.free-block.result
-  may_add = subst (IsAddable (words_of c.self.inside.blocks) c.unlist-after.new.free.1) (sym is_made)
-      (addable (words_of c.self.inside.blocks) c.unlist-after.new.free.1 c.replace.new.self f.parts.front f.parts.back made c.self.invariant.limit list now_is refl listed)
+  may_add : IsAddable (words_of c.self.inside.blocks) (list_of c.unlist-after.new.free) c.free-block.result
+  may_add = subst (IsAddable (words_of c.self.inside.blocks) (list_of c.unlist-after.new.free)) (sym is_made)
+      (addable (words_of c.self.inside.blocks) (list_of c.unlist-after.new.free) c.replace.new.self f.parts.front f.parts.back made c.self.invariant.limit list now_is refl listed)
 
 pub class_of-requires-clause-some : goal.class_of-requires-clause-some
 class_of-requires-clause-some c = (may_add (goal.at.class_of-requires-clause-some c).After-replace).some
@@ -127,15 +128,15 @@ add-requires-clause-unlisted c = (may_add (goal.at.add-requires-clause-unlisted 
 
 pub add-requires-clause-room : goal.add-requires-clause-room
 add-requires-clause-room c =
-    room_for (words_of c.self.inside.blocks) c.unlist-after.new.free.0 c.class_of.result c.unlist-after.new.free.1 c.free-block.result
+    room_for (words_of c.self.inside.blocks) c.unlist-after.new.free.0 c.class_of.result (list_of c.unlist-after.new.free) c.free-block.result
     (may_add (goal.at.add-requires-clause-room c).After-replace) (c.unlist-after.ensures.words ∙ c.unlist-before.ensures.words ∙ c.self.invariant.same) c.class_of.ensures.formula
 
 pub invariant_of-self : goal.invariant_of-self
 invariant_of-self c =
     let r = (goal.at.invariant_of-self c).After-replace in
     let f = f r in
-    same_words c.replace.new.self c.self.inside.free.0 c.add.new.self.0 c.add.new.self.1
-    (heap_added c.self.inside.blocks c.replace.new.self c.self.inside.free.0 c.self.inside.free.1 c.unlist-after.new.free.1 c.add.new.self.1
+    same_words c.replace.new.self c.self.inside.free.0 c.add.new.self.0 (list_of c.add.new.self)
+    (heap_added c.self.inside.blocks c.replace.new.self c.self.inside.free.0 (list_of c.self.inside.free) (list_of c.unlist-after.new.free) (list_of c.add.new.self)
     f.parts.front f.parts.back c.free-block.result c.self.invariant (list r) (now_is r ∙ ap (λ b. f.parts.front ++ b ∷ f.parts.back) (sym (is_made r)))
     (subst IsFree (sym (is_made r)) refl) (listed r) c.class_of.result c.class_of.ensures.formula c.add.ensures.added c.add.ensures.others)
     (c.add.ensures.words ∙ c.unlist-after.ensures.words ∙ c.unlist-before.ensures.words)

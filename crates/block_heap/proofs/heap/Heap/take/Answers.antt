@@ -3,6 +3,7 @@ use Rattle.std.specs.List.{Contains}
 use Rattle.block_heap.specs.declared.block.Block.{Block}
 use Rattle.block_heap.specs.Blocks.{free_block, NoneFits, IsBlockList, words_of}
 use Rattle.block_heap.specs.Changes.{IsTaken}
+use Rattle.block_heap.specs.Links.{list_of}
 use Rattle.block_heap.proofs.Counting.{not_none_fits}
 use Rattle.block_heap.proofs.Listing.{place_listed}
 use Rattle.block_heap.proofs.Keeping.{Taken, IsRest, IsAddable, taken_block, taken_whole, taken_part, addable, room_for, heap_added, same_words}
@@ -13,25 +14,25 @@ pub remove-requires-clause-listed : goal.remove-requires-clause-listed
 remove-requires-clause-listed c =
     let fit = c.in_ok-block.ensures.some in
     let among = subst (λ (bs : List Block). Contains bs c.in_ok-block.block) (sym c.self.view_is) fit.0 in
-    place_listed c.self.inside.free.1 c.self.inside.blocks c.in_ok-block.block c.class_of.result c.class_of.ensures.below (sym c.class_of.ensures.formula) c.self.invariant.listed among fit.1
+    place_listed (list_of c.self.inside.free) c.self.inside.blocks c.in_ok-block.block c.class_of.result c.class_of.ensures.below (sym c.class_of.ensures.formula) c.self.invariant.listed among fit.1
 
-abbrev taken : (c : After-cut) → Taken c.self.inside.blocks c.cut.new.self c.remove.new.self.1 c.in_ok-block.block c.args.need
+abbrev taken : (c : After-cut) → Taken c.self.inside.blocks c.cut.new.self (list_of c.remove.new.self) c.in_ok-block.block c.args.need
 taken c =
     let fit = c.in_ok-block.ensures.some in
     let among = subst (λ (bs : List Block). Contains bs c.in_ok-block.block) (sym c.self.view_is) fit.0 in
-    taken_block c.self.inside.blocks c.cut.new.self c.self.inside.free.0 c.self.inside.free.1 c.remove.new.self.1 c.in_ok-block.block c.args.need c.self.invariant c.requires fit.2 among fit.1
+    taken_block c.self.inside.blocks c.cut.new.self c.self.inside.free.0 (list_of c.self.inside.free) (list_of c.remove.new.self) c.in_ok-block.block c.args.need c.self.invariant c.requires fit.2 among fit.1
     c.class_of.result c.class_of.ensures.formula c.remove.ensures.removed c.remove.ensures.others c.cut.ensures
 
 abbrev rest_of_it : (c : After-cut) → Block
 rest_of_it c = free_block (c.in_ok-block.block.place + c.args.need) (c.in_ok-block.block.size - c.args.need)
 
-abbrev part : (c : After-cut) → c.args.need < c.in_ok-block.block.size → IsRest c.self.inside.blocks c.cut.new.self c.remove.new.self.1 (rest_of_it c)
-part c some = taken_part c.self.inside.blocks c.cut.new.self c.remove.new.self.1 c.in_ok-block.block c.args.need some (taken c)
+abbrev part : (c : After-cut) → c.args.need < c.in_ok-block.block.size → IsRest c.self.inside.blocks c.cut.new.self (list_of c.remove.new.self) (rest_of_it c)
+part c some = taken_part c.self.inside.blocks c.cut.new.self (list_of c.remove.new.self) c.in_ok-block.block c.args.need some (taken c)
 
-abbrev rest : (c : After-cut) → c.args.need < c.in_ok-block.block.size → IsAddable (words_of c.self.inside.blocks) c.remove.new.self.1 (rest_of_it c)
+abbrev rest : (c : After-cut) → c.args.need < c.in_ok-block.block.size → IsAddable (words_of c.self.inside.blocks) (list_of c.remove.new.self) (rest_of_it c)
 rest c some =
     let part = part c some in
-    addable (words_of c.self.inside.blocks) c.remove.new.self.1 c.cut.new.self part.before part.after (rest_of_it c) c.self.invariant.limit (taken c).list part.is refl part.listed
+    addable (words_of c.self.inside.blocks) (list_of c.remove.new.self) c.cut.new.self part.before part.after (rest_of_it c) c.self.invariant.limit (taken c).list part.is refl part.listed
 
 pub overflow_add-block : goal.overflow_add-block
 overflow_add-block c = (let rest = rest (goal.at.overflow_add-block c).After-cut c.if-need-block.true in let within = rest.within in omega (arith, c.self.invariant.limit))
@@ -44,20 +45,20 @@ add-requires-clause-unlisted c = (rest (goal.at.add-requires-clause-unlisted c).
 
 pub add-requires-clause-room : goal.add-requires-clause-room
 add-requires-clause-room c =
-    room_for (words_of c.self.inside.blocks) c.remove.new.self.0 c.class_of-then-need-block.result c.remove.new.self.1 (free_block (c.in_ok-block.block.place + c.args.need) (c.in_ok-block.block.size - c.args.need)) (rest (goal.at.add-requires-clause-room c).After-cut c.if-need-block.true) (c.remove.ensures.words ∙ c.self.invariant.same) c.class_of-then-need-block.ensures.formula
+    room_for (words_of c.self.inside.blocks) c.remove.new.self.0 c.class_of-then-need-block.result (list_of c.remove.new.self) (free_block (c.in_ok-block.block.place + c.args.need) (c.in_ok-block.block.size - c.args.need)) (rest (goal.at.add-requires-clause-room c).After-cut c.if-need-block.true) (c.remove.ensures.words ∙ c.self.invariant.same) c.class_of-then-need-block.ensures.formula
 
 pub invariant_of-self : goal.invariant_of-self
 invariant_of-self c =
     let part = part (goal.at.invariant_of-self c).After-cut c.if-need-block.true in
-    same_words c.cut.new.self c.self.inside.free.0 c.add.new.self.0 c.add.new.self.1
-    (heap_added c.self.inside.blocks c.cut.new.self c.self.inside.free.0 c.self.inside.free.1 c.remove.new.self.1 c.add.new.self.1 part.before part.after
+    same_words c.cut.new.self c.self.inside.free.0 c.add.new.self.0 (list_of c.add.new.self)
+    (heap_added c.self.inside.blocks c.cut.new.self c.self.inside.free.0 (list_of c.self.inside.free) (list_of c.remove.new.self) (list_of c.add.new.self) part.before part.after
     (free_block (c.in_ok-block.block.place + c.args.need) (c.in_ok-block.block.size - c.args.need)) c.self.invariant (taken (goal.at.invariant_of-self c).After-cut).list part.is refl part.listed
     c.class_of-then-need-block.result c.class_of-then-need-block.ensures.formula c.add.ensures.added c.add.ensures.others) (c.add.ensures.words ∙ c.remove.ensures.words)
 
 pub invariant_of-self-else-need-block : goal.invariant_of-self-else-need-block
 invariant_of-self-else-need-block c =
-    same_words c.cut.new.self c.self.inside.free.0 c.remove.new.self.0 c.remove.new.self.1
-    (taken_whole c.self.inside.blocks c.cut.new.self c.self.inside.free.0 c.self.inside.free.1 c.remove.new.self.1 c.in_ok-block.block c.args.need c.self.invariant (omega arith) (taken (goal.at.invariant_of-self-else-need-block c).After-cut)) c.remove.ensures.words
+    same_words c.cut.new.self c.self.inside.free.0 c.remove.new.self.0 (list_of c.remove.new.self)
+    (taken_whole c.self.inside.blocks c.cut.new.self c.self.inside.free.0 (list_of c.self.inside.free) (list_of c.remove.new.self) c.in_ok-block.block c.args.need c.self.invariant (omega arith) (taken (goal.at.invariant_of-self-else-need-block c).After-cut)) c.remove.ensures.words
 
 pub returns-then-need-block-clause-none : goal.returns-then-need-block-clause-none
 returns-then-need-block-clause-none c =

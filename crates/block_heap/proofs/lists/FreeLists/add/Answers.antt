@@ -1,49 +1,31 @@
-use Rattle.std.proofs.Common.{◌+◌, ◌<◌, ◌∷◌, ◌++◌, [], ℕ, List, length, map, sym, ap, ◌∙◌, subst, arith}
+use Rattle.std.proofs.Common.{◌<◌, ◌∷◌, ◌++◌, [], length, sym, ap, ◌∙◌, subst, arith}
 use Rattle.std.specs.Prelude.{vec_capacity}
-use Rattle.std.proofs.lemmas.List.{length-map, length-set, get_or-map}
-use Rattle.block_heap.specs.Lists.{list_of, MayLie, IsUnlisted}
-use Rattle.block_heap.proofs.ListLaws.{picked, added_list, set_others, keeps_with, rooms_kept, few_places}
+use Rattle.block_heap.specs.Links.{list_of}
+use Rattle.block_heap.specs.Lists.{IsUnlisted}
+use Rattle.block_heap.proofs.ListLaws.{Changed, last_node, adds_last, added, head_link}
 use Rattle.block_heap.proofs.lists.FreeLists.add.Goals as goal
+use Rattle.block_heap.proofs.lists.FreeLists.add.Goals.{After-with_bit-self-inside}
 
-pub overflow_cast-len : goal.overflow_cast-len
-overflow_cast-len c =
-    let few = few_places c.args.self.now.0 c.args.class (length (list_of c.args.self.now.1 c.args.class)) c.requires.room in
-    let words = ap (λ v. v.0) c.self.view_is in
-    let lists = ap (λ v. length (list_of v.1 c.args.class)) c.self.view_is in
-    let known : c.args.class < length c.self.inside.lists.items = omega (arith, c.self.invariant.0.count, length-map c.self.inside.lists.items (λ list. list.items)) in
-    let here = ap length (picked (λ list. list.items) c.self.inside.lists.items c.args.class c.index_mut-list.result.now known c.index_mut-list.ensures.value) in
-    omega (arith, c.self.invariant.0.limit, c.len.ensures)
+pub join-requires-clause-node : goal.join-requires-clause-node
+join-requires-clause-node c =
+    let last = ap (λ l. l.prev) (head_link c.self.inside.words c.self.inside.links.items _ c.self.inside.filled c.self.invariant c.args.class c.requires.class c.index.result.now c.index.ensures) in
+    let within = (last_node c.self.inside.words c.self.inside.links.items _ c.self.inside.filled c.self.invariant c.args.class c.requires.class).1 in
+    omega (arith, c.reach.ensures.stay)
 
-pub unwrap-requires : goal.unwrap-requires
-unwrap-requires c =
-    let words = ap (λ v. v.0) c.self.view_is in
-    let lists = ap (λ v. length (list_of v.1 c.args.class)) c.self.view_is in
-    let known : c.args.class < length c.self.inside.lists.items = omega (arith, c.self.invariant.0.count, length-map c.self.inside.lists.items (λ list. list.items)) in
-    let here = ap length (picked (λ list. list.items) c.self.inside.lists.items c.args.class c.index_mut-list.result.now known c.index_mut-list.ensures.value) in
-    let may = subst (λ v. MayLie v.0 c.args.class (length (list_of v.1 c.args.class) + 1)) (sym c.self.view_is) c.requires.room in
-    let enough = c.self.invariant.1 c.args.class c.requires.class (length (list_of (map (λ list. list.items) c.self.inside.lists.items) c.args.class) + 1) may in
-    let room = get_or-map (λ list. vec_capacity list) c.self.inside.lists.items c.args.class c.index_mut-list.result.now 0 known in
-    let same = ap (λ list. vec_capacity list) c.index_mut-list.ensures.value in
-    c.push.ensures.succeeds (omega arith)
+abbrev now : (c : After-with_bit-self-inside) → Changed c.self.inside.words c.self.inside.links.items c.join-2.new.links.items (vec_capacity c.join-2.new.links) c.with_bit-self-inside.result c.args.class (list_of (c.self.inside.words, c.self.inside.links.items) c.args.class ++ c.args.place ∷ [])
+now c =
+    let unlisted = subst (λ v. IsUnlisted (list_of v) c.args.place) (sym c.self.view_is) c.requires.unlisted in
+    let room = subst (λ v. length (list_of v c.args.class) < v.0) (sym c.self.view_is) c.requires.room in
+    added c.self.inside.words c.self.inside.links.items _ c.self.inside.filled c.self.invariant c.args.class c.requires.class c.join-2.new.links.items _ c.args.place c.with_bit-self-inside.result unlisted room
+    (adds_last c.self.inside.words c.self.inside.links.items _ c.self.inside.filled c.self.invariant c.args.class c.requires.class c.reach.new.links.items c.join.new.links.items c.join-2.new.links.items c.args.place c.index.result.now
+    unlisted c.reach.ensures.nodes c.reach.ensures.stay c.reach.ensures.same c.index.ensures c.join.ensures.joined c.join-2.ensures.joined)
+    (omega (arith, c.reach.ensures.capacity, c.join.ensures.capacity, c.join-2.ensures.capacity)) (omega arith) c.with_bit-self-inside.ensures.here c.with_bit-self-inside.ensures.others
 
 pub invariant_of-self : goal.invariant_of-self
-invariant_of-self c =
-    let known : c.args.class < length c.self.inside.lists.items = omega (arith, c.self.invariant.0.count, length-map c.self.inside.lists.items (λ list. list.items)) in
-    let items = rw c.unwrap.ensures at c.push.ensures.items in
-    let words = ap (λ v. v.0) c.self.view_is in (
-      keeps_with _ c.self.inside.lists.items c.self.inside.positions.items c.self.inside.filled c.args.class c.args.place c.len.result c.with_bit-self-inside.result c.index_mut-list.result.now c.push.new.self
-          c.self.invariant.0 c.requires.class c.index_mut-list.ensures.value items (omega (arith, c.len.ensures)) (omega arith) (omega (arith, c.requires.within))
-          (subst (λ v. IsUnlisted v.1 c.args.place) (sym c.self.view_is) c.requires.unlisted) c.with_bit-self-inside.ensures.here c.with_bit-self-inside.ensures.others,
-      rooms_kept _ c.self.inside.lists.items c.args.class (length c.self.inside.positions.items) _ c.index_mut-list.result.now c.push.new.self known c.index_mut-list.ensures.value c.push.ensures.capacity (length-set c.self.inside.positions.items c.args.place c.len.result) c.self.invariant.1,
-    )
+invariant_of-self c = (now (goal.at.invariant_of-self c).After-with_bit-self-inside).keeps
 
 pub returns-clause-added : goal.returns-clause-added
-returns-clause-added c =
-    let known : c.args.class < length c.self.inside.lists.items = omega (arith, c.self.invariant.0.count, length-map c.self.inside.lists.items (λ list. list.items)) in
-    let items = rw c.unwrap.ensures at c.push.ensures.items in
-    added_list (λ list. list.items) c.self.inside.lists.items c.args.class c.args.place c.index_mut-list.result.now c.push.new.self known c.index_mut-list.ensures.value items
-    ∙ ap (λ (v : ℕ × List (List ℕ)). list_of v.1 c.args.class ++ c.args.place ∷ []) c.self.view_is
+returns-clause-added c = (now (goal.at.returns-clause-added c).After-with_bit-self-inside).own ∙ ap (λ v. list_of v c.args.class ++ c.args.place ∷ []) c.self.view_is
 
 pub returns-clause-others : goal.returns-clause-others
-returns-clause-others c = λ other ne.
-    set_others (λ list. list.items) c.self.inside.lists.items c.args.class other c.push.new.self ne ∙ ap (λ (v : ℕ × List (List ℕ)). list_of v.1 other) c.self.view_is
+returns-clause-others c = λ other less ne. (now (goal.at.returns-clause-others c).After-with_bit-self-inside).others other less ne ∙ ap (λ v. list_of v other) c.self.view_is

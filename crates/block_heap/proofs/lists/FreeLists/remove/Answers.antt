@@ -1,78 +1,44 @@
-use Rattle.std.proofs.Common.{◌≡◌, ◌-◌, ◌<◌, ℕ, List, length, get_or, sym, ap, ◌∙◌, subst, arith}
+use Rattle.std.proofs.Common.{◌+◌, sym, ap, ◌∙◌, subst, arith}
 use Rattle.std.specs.List.{Contains}
-use Rattle.std.proofs.lemmas.List.{length-map, length-set}
-use Rattle.block_heap.specs.Lists.{list_of}
-use Rattle.block_heap.proofs.ListLaws.{picked, keeps_without, rooms_kept, listed_some, listed_at, last_within, set_list, set_others, left_out, bit_of}
+use Rattle.std.specs.Prelude.{vec_capacity}
+use Rattle.block_heap.specs.declared.links.Link.{Link}
+use Rattle.block_heap.specs.Links.{list_of}
+use Rattle.block_heap.proofs.LinkLaws.{read_link}
+use Rattle.block_heap.proofs.ListLaws.{Left, Node, node_there, left}
 use Rattle.block_heap.proofs.lists.FreeLists.remove.Goals as goal
+use Rattle.block_heap.proofs.lists.FreeLists.remove.Goals.{After-self, After-with_bit-self-inside}
 
-pub index-at-requires : goal.index-at-requires
-index-at-requires c =
-    let known : c.args.class < length c.self.inside.lists.items = omega (arith, c.self.invariant.0.count, length-map c.self.inside.lists.items (λ list. list.items)) in
-    let is = picked (λ list. list.items) c.self.inside.lists.items c.args.class c.index_mut-list.result.now known c.index_mut-list.ensures.value in
-    let listed = subst (λ (v : ℕ × List (List ℕ)). Contains (list_of v.1 c.args.class) c.args.place) (sym c.self.view_is) c.requires.listed in
-    let some = listed_some _ c.self.inside.positions.items c.self.inside.filled c.args.class c.args.place c.index_mut-list.result.now.items c.self.invariant.0 c.requires.class is listed in
-    (let within = some.1 in omega arith)
+abbrev node : (c : After-self) → Node c.self.inside.words c.self.inside.links.items (vec_capacity c.self.inside.links) c.self.inside.filled c.self.invariant c.args.class c.requires.class c.args.place (subst (λ v. Contains (list_of v c.args.class) c.args.place) (sym c.self.view_is) c.requires.listed)
+node c = node_there c.self.inside.words c.self.inside.links.items _ c.self.inside.filled c.self.invariant c.args.class c.requires.class c.args.place _
 
-pub overflow_sub-len : goal.overflow_sub-len
-overflow_sub-len c =
-    let known : c.args.class < length c.self.inside.lists.items = omega (arith, c.self.invariant.0.count, length-map c.self.inside.lists.items (λ list. list.items)) in
-    let is = picked (λ list. list.items) c.self.inside.lists.items c.args.class c.index_mut-list.result.now known c.index_mut-list.ensures.value in
-    let listed = subst (λ (v : ℕ × List (List ℕ)). Contains (list_of v.1 c.args.class) c.args.place) (sym c.self.view_is) c.requires.listed in
-    let some = listed_some _ c.self.inside.positions.items c.self.inside.filled c.args.class c.args.place c.index_mut-list.result.now.items c.self.invariant.0 c.requires.class is listed in
-    (let one = some.0 in omega (arith, c.len.ensures))
+pub index-link-requires : goal.index-link-requires
+index-link-requires c = (let within = (node (goal.at.index-link-requires c).After-self).within in omega arith)
 
-pub index-last-requires : goal.index-last-requires
-index-last-requires c =
-    let known : c.args.class < length c.self.inside.lists.items = omega (arith, c.self.invariant.0.count, length-map c.self.inside.lists.items (λ list. list.items)) in
-    let is = picked (λ list. list.items) c.self.inside.lists.items c.args.class c.index_mut-list.result.now known c.index_mut-list.ensures.value in
-    let listed = subst (λ (v : ℕ × List (List ℕ)). Contains (list_of v.1 c.args.class) c.args.place) (sym c.self.view_is) c.requires.listed in
-    let some = listed_some _ c.self.inside.positions.items c.self.inside.filled c.args.class c.args.place c.index_mut-list.result.now.items c.self.invariant.0 c.requires.class is listed in
-    (let one = some.0 in omega (arith, c.len.ensures))
+pub join-requires-clause-node : goal.join-requires-clause-node
+join-requires-clause-node c =
+    let at = node (goal.at.join-requires-clause-node c).After-self in
+    let prev = ap (λ (l : Link). l.prev) (read_link c.self.inside.links.items (c.args.place + 64) c.index-link.result.now at.within c.index-link.ensures) in
+    (let within = at.before_within in omega arith)
 
-pub index_mut-requires : goal.index_mut-requires
-index_mut-requires c =
-    let known : c.args.class < length c.self.inside.lists.items = omega (arith, c.self.invariant.0.count, length-map c.self.inside.lists.items (λ list. list.items)) in
-    let is = picked (λ list. list.items) c.self.inside.lists.items c.args.class c.index_mut-list.result.now known c.index_mut-list.ensures.value in
-    let listed = subst (λ (v : ℕ × List (List ℕ)). Contains (list_of v.1 c.args.class) c.args.place) (sym c.self.view_is) c.requires.listed in
-    let some = listed_some _ c.self.inside.positions.items c.self.inside.filled c.args.class c.args.place c.index_mut-list.result.now.items c.self.invariant.0 c.requires.class is listed in
-    let end : c.len.result - 1 ≡ length c.index_mut-list.result.now.items - 1 = omega (arith, c.len.ensures) in
-    let last : c.index-last.result.now ≡ get_or c.index_mut-list.result.now.items (length c.index_mut-list.result.now.items - 1) c.index-last.result.now =
-    c.index-last.ensures ∙ ap (λ n. get_or c.index_mut-list.result.now.items n c.index-last.result.now) end in
-    (let within = last_within _ c.self.inside.positions.items c.self.inside.filled c.args.class c.index-last.result.now c.index_mut-list.result.now.items c.self.invariant.0 c.requires.class is some.0 last in omega arith)
+pub join-requires-clause-after : goal.join-requires-clause-after
+join-requires-clause-after c =
+    let at = node (goal.at.join-requires-clause-after c).After-self in
+    let next = ap (λ (l : Link). l.next) (read_link c.self.inside.links.items (c.args.place + 64) c.index-link.result.now at.within c.index-link.ensures) in
+    (let within = at.after_within in omega arith)
 
-pub swap_remove-requires : goal.swap_remove-requires
-swap_remove-requires c =
-    let known : c.args.class < length c.self.inside.lists.items = omega (arith, c.self.invariant.0.count, length-map c.self.inside.lists.items (λ list. list.items)) in
-    let is = picked (λ list. list.items) c.self.inside.lists.items c.args.class c.index_mut-list.result.now known c.index_mut-list.ensures.value in
-    let listed = subst (λ (v : ℕ × List (List ℕ)). Contains (list_of v.1 c.args.class) c.args.place) (sym c.self.view_is) c.requires.listed in
-    let at = listed_at _ c.self.inside.positions.items c.self.inside.filled c.args.class c.args.place c.index-at.result.now c.index_mut-list.result.now.items c.self.invariant.0 c.requires.class is listed c.index-at.ensures in
-    (let lt = at.0 in omega arith)
+abbrev now : (c : After-with_bit-self-inside) → Left c.self.inside.words c.self.inside.links.items c.join.new.links.items (vec_capacity c.join.new.links) c.with_bit-self-inside.result c.args.class c.args.place
+now c =
+    left c.self.inside.words c.self.inside.links.items _ c.self.inside.filled c.self.invariant c.args.class c.requires.class c.args.place (subst (λ v. Contains (list_of v c.args.class) c.args.place) (sym c.self.view_is) c.requires.listed)
+    c.join.new.links.items c.index-link.result.now c.index.result.now (vec_capacity c.join.new.links) c.with_bit-self-inside.result c.index-link.ensures c.join.ensures.joined (omega (arith, c.join.ensures.capacity)) (omega arith)
+    c.index.ensures c.with_bit-self-inside.ensures.here c.with_bit-self-inside.ensures.others
 
 pub invariant_of-self : goal.invariant_of-self
-invariant_of-self c =
-    let known : c.args.class < length c.self.inside.lists.items = omega (arith, c.self.invariant.0.count, length-map c.self.inside.lists.items (λ list. list.items)) in
-    let is = picked (λ list. list.items) c.self.inside.lists.items c.args.class c.index_mut-list.result.now known c.index_mut-list.ensures.value in
-    let listed = subst (λ (v : ℕ × List (List ℕ)). Contains (list_of v.1 c.args.class) c.args.place) (sym c.self.view_is) c.requires.listed in
-    let some = listed_some _ c.self.inside.positions.items c.self.inside.filled c.args.class c.args.place c.index_mut-list.result.now.items c.self.invariant.0 c.requires.class is listed in
-    let end : c.len.result - 1 ≡ length c.index_mut-list.result.now.items - 1 = omega (arith, c.len.ensures) in
-    let last : c.index-last.result.now ≡ get_or c.index_mut-list.result.now.items (length c.index_mut-list.result.now.items - 1) c.index-last.result.now =
-    c.index-last.ensures ∙ ap (λ n. get_or c.index_mut-list.result.now.items n c.index-last.result.now) end in (
-      keeps_without _ c.self.inside.lists.items c.self.inside.positions.items c.self.inside.filled c.args.class c.index-at.result.now c.index-last.result.now c.with_bit-self-inside.result c.index_mut-list.result.now c.swap_remove.new.self
-          c.self.invariant.0 c.requires.class c.index_mut-list.ensures.value (omega arith) some.0 last (omega (arith, c.swap_remove.ensures.len))
-          (λ d more. c.swap_remove.ensures.by_index.0 d (omega arith) ∙ ap (λ n. get_or c.index_mut-list.result.now.items n d) (omega arith)) (λ k d ne more. c.swap_remove.ensures.by_index.1 k d ne (omega arith))
-          (bit_of _ (length c.swap_remove.new.self.items) _ _ c.is_empty-some.ensures (omega arith) c.with_bit-self-inside.ensures.here) c.with_bit-self-inside.ensures.others,
-      rooms_kept _ c.self.inside.lists.items c.args.class (length c.self.inside.positions.items) _ c.index_mut-list.result.now c.swap_remove.new.self known c.index_mut-list.ensures.value (omega (arith, c.swap_remove.ensures.capacity)) (length-set c.self.inside.positions.items c.index-last.result.now c.index-at.result.now) c.self.invariant.1,
-    )
+invariant_of-self c = (now (goal.at.invariant_of-self c).After-with_bit-self-inside).all.keeps
 
 pub returns-clause-removed : goal.returns-clause-removed
 returns-clause-removed c =
-    let known : c.args.class < length c.self.inside.lists.items = omega (arith, c.self.invariant.0.count, length-map c.self.inside.lists.items (λ list. list.items)) in
-    let is = picked (λ list. list.items) c.self.inside.lists.items c.args.class c.index_mut-list.result.now known c.index_mut-list.ensures.value in
-    let listed = subst (λ (v : ℕ × List (List ℕ)). Contains (list_of v.1 c.args.class) c.args.place) (sym c.self.view_is) c.requires.listed in
-    let at = listed_at _ c.self.inside.positions.items c.self.inside.filled c.args.class c.args.place c.index-at.result.now c.index_mut-list.result.now.items c.self.invariant.0 c.requires.class is listed c.index-at.ensures in
-    left_out _ c.index_mut-list.result.now.items _ c.index-at.result.now c.args.place c.swap_remove.result at.0 at.1 c.swap_remove.ensures.value
-    (set_list (λ list. list.items) c.self.inside.lists.items c.args.class c.swap_remove.new.self known ∙ c.swap_remove.ensures.items) (ap (λ (v : ℕ × List (List ℕ)). list_of v.1 c.args.class) (sym c.self.view_is) ∙ is)
+    let without = (now (goal.at.returns-clause-removed c).After-with_bit-self-inside).without in
+    record { before = without.before; after = without.after; was = ap (λ v. list_of v c.args.class) (sym c.self.view_is) ∙ without.was; now = without.now }
 
 pub returns-clause-others : goal.returns-clause-others
-returns-clause-others c = λ other ne.
-    set_others (λ list. list.items) c.self.inside.lists.items c.args.class other c.swap_remove.new.self ne ∙ ap (λ (v : ℕ × List (List ℕ)). list_of v.1 other) c.self.view_is
+returns-clause-others c = λ other less ne. (now (goal.at.returns-clause-others c).After-with_bit-self-inside).all.others other less ne ∙ ap (λ v. list_of v other) c.self.view_is

@@ -3,7 +3,8 @@ use Rattle.std.specs.List.{Contains}
 use Rattle.block_heap.specs.declared.block.Block.{Block}
 use Rattle.block_heap.specs.Blocks.{free_block, used_block}
 use Rattle.block_heap.specs.Tags.{IsTagged, OthersStay}
-use Rattle.block_heap.proofs.TagLaws.{Cut, one_written, cut_told, cut_whole, cut_part, lies_in, parted}
+use Rattle.block_heap.proofs.Places.{parted}
+use Rattle.block_heap.proofs.TagLaws.{Cut, one_written, cut_told, cut_whole, cut_part, lies_in}
 use Rattle.block_heap.proofs.tagged.TaggedBlocks.cut.Goals as goal
 
 pub tag-requires-clause-within : goal.tag-requires-clause-within

@@ -1,4 +1,4 @@
-use Rattle.mica_model.specs.Write.{write_of}
+use Rattle.partition_model.specs.Write.{write_of}
 use Rattle.epoch_core.specs.Diary.{event_of}
 use Rattle.partition_table.proofs.owner.OwnerSeatOwnerWords.put_link.Given as goal
 

@@ -1,0 +1,198 @@
+-- Rings of links that stay rings where a place is added or leaves.
+use Rattle.std.proofs.Common.{◌≡◌, ◌≢◌, ℕ, zero, suc, ◌-◌, ◌<◌, ◌≤◌, Bool, true, false, cond, List, [], ◌∷◌, ◌++◌, length, get_or, refl, sym, ap, ◌∙◌, subst, arith, length-append, append_assoc}
+use Rattle.std.specs.List.{Contains}
+use Rattle.std.proofs.lemmas.List.{get_or_default}
+use Rattle.std.proofs.lemmas.Bool.{lt-ltb, le-ltb}
+use Rattle.std.proofs.Math.Dec.{ltb}
+use Rattle.block_heap.specs.declared.links.Link.{Link}
+use Rattle.block_heap.specs.Links.{node_of, link_of, next_of, prev_of, places_after, LeadOver, AreJoined}
+use Rattle.block_heap.proofs.Places.{parted}
+
+-- the links tell the places that they lead over
+pub told_places : (links : List Link) (most node : ℕ) (places : List ℕ) (end : ℕ) → LeadOver links node places end → end < 64 → length places ≤ most → places_after links most node ≡ places
+unfolding places_after
+told_places links zero node [] end leads few enough = refl
+told_places links (suc most) node [] end leads few enough = rw (leads.0, lt-ltb end 64 few) refl
+told_places links zero node (place ∷ places) end leads few enough = absurd (omega arith)
+told_places links (suc most) node (place ∷ places) end leads few enough =
+    let back : node_of place - 64 ≡ place = omega arith in
+    rw (leads.0, le-ltb (node_of place) 64 (omega arith), back, told_places links most (node_of place) places end leads.3 few (omega arith)) refl
+
+pub few_places : (links : List Link) (most node : ℕ) → length (places_after links most node) ≤ most
+unfolding places_after
+few_places links zero node = omega arith
+few_places links (suc most) node = by (ltb (next_of links node) 64) (few_places links most (next_of links node))
+  where
+    by : (b : Bool) → length (places_after links most (next_of links node)) ≤ most → length (cond b [] ((next_of links node - 64) ∷ places_after links most (next_of links node))) ≤ suc most
+    by true few = omega arith
+    by false few = omega arith
+
+-- the links as far as a place, and from there on
+pub leads_to : (links : List Link) (node : ℕ) (before after : List ℕ) (place end : ℕ) → LeadOver links node (before ++ place ∷ after) end
+    → LeadOver links node before (node_of place) × (node_of place < length links) × LeadOver links (node_of place) after end
+leads_to links node [] after place end leads = ((leads.0, leads.1), leads.2, leads.3)
+leads_to links node (p ∷ before) after place end leads =
+    let rest = leads_to links (node_of p) before after place end leads.3 in
+    ((leads.0, leads.1, leads.2, rest.0), rest.1, rest.2)
+
+-- from a node there is one way to a head
+one_way : (links : List Link) (node : ℕ) (xs ys : List ℕ) (end other : ℕ) → end < 64 → other < 64 → LeadOver links node xs end → LeadOver links node ys other → (length xs ≡ length ys) × (end ≡ other)
+one_way links node [] [] end other few less a b = (refl, sym a.0 ∙ b.0)
+one_way links node [] (y ∷ ys) end other few less a b = absurd (let e : end ≡ node_of y = sym a.0 ∙ b.0 in omega arith)
+one_way links node (x ∷ xs) [] end other few less a b = absurd (let e : node_of x ≡ other = sym a.0 ∙ b.0 in omega arith)
+one_way links node (x ∷ xs) (y ∷ ys) end other few less a b =
+    let e : node_of y ≡ node_of x = sym b.0 ∙ a.0 in
+    let rest = one_way links (node_of x) xs ys end other few less a.3 (subst (λ n. LeadOver links n ys other) e b.3) in
+    ((let same = rest.0 in omega arith), rest.1)
+
+-- none of the places is this one
+abbrev pub Lack : List ℕ → ℕ → Type 0
+Lack [] place = Unit {0}
+Lack (x ∷ xs) place = (x ≢ place) × Lack xs place
+
+pub lack : (xs : List ℕ) (place : ℕ) → (Contains xs place → ⊥) → Lack xs place
+lack [] place none = tt
+lack (x ∷ xs) place none = (λ e. none (0, omega arith, e), lack xs place (λ among. none (suc among.0, (let lt = among.1 in omega arith), among.2)))
+
+-- a place stands once in its ring
+pub record Once (links : List Link) (class place : ℕ) (list : List ℕ) : Type 0 where
+  pub before : List ℕ
+  pub after : List ℕ
+  pub whole : list ≡ before ++ place ∷ after
+  pub none_before : Lack before place
+  pub none_after : Lack after place
+  pub leads : LeadOver links class (before ++ place ∷ after) class
+  pub on : LeadOver links (node_of place) after class
+
+-- no way to a head comes back to the node that it leads from
+no_return : (links : List Link) (class place : ℕ) (before after : List ℕ) → class < 64 → LeadOver links (node_of place) (before ++ place ∷ after) class → ⊥
+no_return links class place before after few leads =
+    let same = (one_way links (node_of place) (before ++ place ∷ after) after class class few few leads (leads_to links (node_of place) before after place class leads).2).0 in
+    omega (arith, length-append before (place ∷ after))
+
+pub once : (links : List Link) (class place : ℕ) (list : List ℕ) → class < 64 → LeadOver links class list class → Contains list place → Once links class place list
+once links class place list few leads among = record {
+  before = parts.0;
+  after = parts.1;
+  whole = parts.2;
+  none_before = lack parts.0 place (λ more. first (parted parts.0 place more));
+  none_after = lack parts.1 place (λ more. later (parted parts.1 place more));
+  leads = here;
+  on = on;
+}
+  where
+    parts : (before : List ℕ) × (after : List ℕ) × (list ≡ before ++ place ∷ after)
+    parts = parted list place among
+
+    here : LeadOver links class (parts.0 ++ place ∷ parts.1) class
+    here = subst (λ xs. LeadOver links class xs class) parts.2 leads
+
+    on : LeadOver links (node_of place) parts.1 class
+    on = (leads_to links class parts.0 parts.1 place class here).2
+
+    first : (before : List ℕ) × (after : List ℕ) × (parts.0 ≡ before ++ place ∷ after) → ⊥
+    first (u, v, is) =
+        let whole : parts.0 ++ place ∷ parts.1 ≡ u ++ place ∷ (v ++ place ∷ parts.1) = ap (λ xs. xs ++ place ∷ parts.1) is ∙ append_assoc u (place ∷ v) (place ∷ parts.1) in
+        no_return links class place v parts.1 few (leads_to links class u (v ++ place ∷ parts.1) place class (subst (λ xs. LeadOver links class xs class) whole here)).2
+
+    later : (before : List ℕ) × (after : List ℕ) × (parts.1 ≡ before ++ place ∷ after) → ⊥
+    later (u, v, is) = no_return links class place u v few (subst (λ xs. LeadOver links (node_of place) xs class) is on)
+
+-- a place of one ring stands in no other
+pub elsewhere : (links : List Link) (class other place : ℕ) (after list : List ℕ) → class < 64 → other < 64 → other ≢ class → LeadOver links (node_of place) after class → LeadOver links other list other → Lack list place
+elsewhere links class other place after list few less ne on leads = lack list place (λ among.
+    (let there = once links other place list less leads among in
+    ne (sym (one_way links (node_of place) after there.after class other few less on there.on).1)))
+
+-- a link as the code reads it
+pub read_link : (links : List Link) (node : ℕ) (link : Link) → node < length links → link ≡ get_or links node link → link ≡ link_of links node
+read_link links node link within read = read ∙ get_or_default links node link _ within
+
+-- the nodes at both ends of a way
+pub last_leads : (links : List Link) (node : ℕ) (places : List ℕ) (end : ℕ) → node < length links → LeadOver links node places end → (next_of links (prev_of links end) ≡ end) × (prev_of links end < length links)
+last_leads links node [] end within leads = (ap (next_of links) leads.1 ∙ leads.0, subst (λ n. n < length links) (sym leads.1) within)
+last_leads links node (place ∷ places) end within leads = last_leads links (node_of place) places end leads.2 leads.3
+
+-- the last one is no other place's
+pub last_differs : (links : List Link) (node : ℕ) (places : List ℕ) (end place : ℕ) → node ≢ node_of place → Lack places place → LeadOver links node places end → prev_of links end ≢ node_of place
+last_differs links node [] end place ne none leads = λ e. ne (sym leads.1 ∙ e)
+last_differs links node (p ∷ places) end place ne none leads = last_differs links (node_of p) places end place (λ e. none.0 (omega arith)) none.1 leads.3
+
+pub first_leads : (links : List Link) (node : ℕ) (places : List ℕ) (end : ℕ) → end < length links → LeadOver links node places end → (prev_of links (next_of links node) ≡ node) × (next_of links node < length links)
+first_leads links node [] end within leads = (ap (prev_of links) leads.0 ∙ leads.1, subst (λ n. n < length links) (sym leads.0) within)
+first_leads links node (place ∷ places) end within leads = (ap (prev_of links) leads.0 ∙ leads.1, subst (λ n. n < length links) (sym leads.0) leads.2)
+
+-- A place leaves: the node before it and the node after it are joined.
+module _ (old new : List Link) (place : ℕ) (joined : AreJoined old new (prev_of old (node_of place)) (next_of old (node_of place)))
+    (before : next_of old (prev_of old (node_of place)) ≡ node_of place) (after : prev_of old (next_of old (node_of place)) ≡ node_of place) where
+  -- nodes that are not its own stay side by side
+  stay : (node next : ℕ) → node ≢ node_of place → next ≢ node_of place → next_of old node ≡ next → prev_of old next ≡ node → (next_of new node ≡ next) × (prev_of new next ≡ node)
+  stay node next ne other on back = (
+    joined.others_next node (λ e. other (sym on ∙ ap (next_of old) e ∙ before)) ∙ on,
+    joined.others_prev next (λ e. ne (sym back ∙ ap (prev_of old) e ∙ after)) ∙ back,
+  )
+
+  pub stay_beside : (node : ℕ) (places : List ℕ) (end : ℕ) → node ≢ node_of place → end ≢ node_of place → Lack places place → LeadOver old node places end → LeadOver new node places end
+  stay_beside node [] end ne other none leads = stay node end ne other leads.0 leads.1
+  stay_beside node (p ∷ places) end ne other none leads =
+      let differ : node_of p ≢ node_of place = λ e. none.0 (omega arith) in
+      let links = stay node (node_of p) ne differ leads.0 leads.1 in
+      (links.0, links.1, subst (λ n. node_of p < n) (sym joined.len) leads.2, stay_beside (node_of p) places end differ other none.1 leads.3)
+
+  -- the two nodes beside it are side by side
+  meet : (node next : ℕ) → prev_of old (node_of place) ≡ node → next_of old (node_of place) ≡ next → (next_of new node ≡ next) × (prev_of new next ≡ node)
+  meet node next from to = (ap (next_of new) (sym from) ∙ joined.next ∙ to, ap (prev_of new) (sym to) ∙ joined.prev ∙ from)
+
+  pub leads_without : (node : ℕ) (xs ys : List ℕ) (end : ℕ) → node ≢ node_of place → end ≢ node_of place → Lack xs place → Lack ys place → LeadOver old node (xs ++ place ∷ ys) end → LeadOver new node (xs ++ ys) end
+  leads_without node [] [] end ne other none none_after leads = meet node end leads.1 leads.3.0
+  leads_without node [] (y ∷ ys) end ne other none none_after leads =
+      let differ : node_of y ≢ node_of place = λ e. none_after.0 (omega arith) in
+      let links = meet node (node_of y) leads.1 leads.3.0 in
+      (links.0, links.1, subst (λ n. node_of y < n) (sym joined.len) leads.3.2, stay_beside (node_of y) ys end differ other none_after.1 leads.3.3)
+  leads_without node (x ∷ xs) ys end ne other none none_after leads =
+      let differ : node_of x ≢ node_of place = λ e. none.0 (omega arith) in
+      let links = stay node (node_of x) ne differ leads.0 leads.1 in
+      (links.0, links.1, subst (λ n. node_of x < n) (sym joined.len) leads.2, leads_without (node_of x) xs ys end differ other none.1 none_after leads.3)
+
+-- A place is added: its node stands between the last node of a ring and the head.
+pub record Adds (old new : List Link) (last node class : ℕ) : Type 0 where
+  pub within : node < length new
+  pub len : length old ≤ length new
+  pub last_next : next_of new last ≡ node
+  pub node_next : next_of new node ≡ class
+  pub node_prev : prev_of new node ≡ last
+  pub class_prev : prev_of new class ≡ node
+  pub others_next : (other : ℕ) → other ≢ last → other ≢ node → next_of new other ≡ next_of old other
+  pub others_prev : (other : ℕ) → other ≢ node → other ≢ class → prev_of new other ≡ prev_of old other
+
+pub adds : (old reached mid new : List Link) (last node class : ℕ) → last ≢ node → node ≢ class → node < length reached → length old ≤ length reached → ((at : ℕ) → link_of reached at ≡ link_of old at) → AreJoined reached mid last node → AreJoined mid new node class
+    → Adds old new last node class
+adds old reached mid new last node class apart ne within len same first second = record {
+  within = omega (arith, first.len, second.len);
+  len = omega (arith, first.len, second.len);
+  last_next = second.others_next last apart ∙ first.next;
+  node_next = second.next;
+  node_prev = second.others_prev node ne ∙ first.prev;
+  class_prev = second.prev;
+  others_next = λ other not_last not_node. second.others_next other not_node ∙ first.others_next other not_last ∙ ap (λ (l : Link). l.next) (same other);
+  others_prev = λ other not_node not_class. second.others_prev other not_class ∙ first.others_prev other not_node ∙ ap (λ (l : Link). l.prev) (same other);
+}
+
+module _ (old new : List Link) (place class : ℕ) (few : class < 64) (added : Adds old new (prev_of old class) (node_of place) class) (last : next_of old (prev_of old class) ≡ class) where
+  go_on : (node next : ℕ) → node ≢ node_of place → next ≢ node_of place → next ≢ class → next_of old node ≡ next → prev_of old next ≡ node → (next_of new node ≡ next) × (prev_of new next ≡ node)
+  go_on node next ne other not_class on back =
+      (added.others_next node (λ e. not_class (sym on ∙ ap (next_of old) e ∙ last)) ne ∙ on, added.others_prev next other not_class ∙ back)
+
+  pub added_beside : (node : ℕ) (places : List ℕ) (end : ℕ) → node ≢ node_of place → end ≢ node_of place → end ≢ class → Lack places place → LeadOver old node places end → LeadOver new node places end
+  added_beside node [] end ne other not_class none leads = go_on node end ne other not_class leads.0 leads.1
+  added_beside node (p ∷ places) end ne other not_class none leads =
+      let differ : node_of p ≢ node_of place = λ e. none.0 (omega arith) in
+      let links = go_on node (node_of p) ne differ (λ e. omega arith) leads.0 leads.1 in
+      (links.0, links.1, (let within = leads.2 in omega (arith, added.len)), added_beside (node_of p) places end differ other not_class none.1 leads.3)
+
+  pub leads_with : (node : ℕ) (places : List ℕ) → node ≢ node_of place → Lack places place → LeadOver old node places class → LeadOver new node (places ++ place ∷ []) class
+  leads_with node [] ne none leads = (ap (next_of new) (sym leads.1) ∙ added.last_next, added.node_prev ∙ leads.1, added.within, (added.node_next, added.class_prev))
+  leads_with node (p ∷ places) ne none leads =
+      let differ : node_of p ≢ node_of place = λ e. none.0 (omega arith) in
+      let links = go_on node (node_of p) ne differ (λ e. omega arith) leads.0 leads.1 in
+      (links.0, links.1, (let within = leads.2 in omega (arith, added.len)), leads_with (node_of p) places differ none.1 leads.3)
