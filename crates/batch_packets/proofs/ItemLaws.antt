@@ -1,14 +1,12 @@
 -- Items in a row, whatever their kind: their text has no fault, and gives them back.
-use Rattle.std.proofs.Common.{◌≡◌, ℕ, ◌^◌, ◌<◌, ◌≤◌, true, false, eqb, List, [], ◌∷◌, ◌++◌, length, drop, Option, None, refl, sym, ap, ◌∙◌, arith}
-use Rattle.std.specs.Prelude.{nat_eq, nat_lt, IsTrue}
+use Rattle.std.proofs.Common.{◌≡◌, ℕ, ◌+◌, ◌^◌, ◌<◌, ◌≤◌, Bool, true, false, eqb, List, [], ◌∷◌, ◌++◌, length, drop, Option, Some, None, refl, sym, ap, ◌∙◌, arith}
+use Rattle.std.specs.Prelude.{nat_eq, nat_lt, IsTrue, if◌then◌else◌}
 use Rattle.std.specs.List.{flat_map, AllByRecursion, starts_with}
 use Rattle.std.proofs.lemmas.Bool.{le-ltb, ne_eqb, cond_both}
 use Rattle.std.proofs.lemmas.List.{drop_at}
 use Rattle.batch_packets.specs.declared.header.TheConstants.{HEADER_LEN, MAX_DATAGRAM_LEN_V1, MAX_DATAGRAM_LEN_V2, MAX_VALUE_LEN_V1}
 use Rattle.mica_words.specs.declared.item.TheConstants.{MAX_VALUE_LEN}
 use Rattle.batch_packets.specs.declared.fault.BatchFault.{BatchFault}
-use Rattle.batch_packets.specs.declared.fault.BatchFault.TheVariants.{Short, Magic, Version, Count, Length, Op, Trailing, NoMemory}
-use Rattle.batch_packets.specs.Faults.{IsFirst}
 use Rattle.batch_packets.specs.Datagram.{Kind, is_version, max_datagram_len, max_value_len, item_fault, items_fault, first_fault, version_at, count_at}
 
 -- what the text of an item of a version tells of it, whatever follows
@@ -46,6 +44,13 @@ within_largest version = cond_both (eqb version 1) MAX_DATAGRAM_LEN_V1 MAX_DATAG
 pub header_within : (version : ℕ) → HEADER_LEN ≤ max_datagram_len version
 header_within version = cond_both (eqb version 1) MAX_DATAGRAM_LEN_V1 MAX_DATAGRAM_LEN_V2 (λ n. HEADER_LEN ≤ n) (λ e. omega arith) (λ e. omega arith)
 
+-- an item of a value alone fits a datagram of each version
+pub value_room : (version : ℕ) → HEADER_LEN + 16 + max_value_len version ≤ max_datagram_len version
+value_room version = room (eqb version 1) where
+  room : (first : Bool) → HEADER_LEN + 16 + (if first then MAX_VALUE_LEN_V1 else MAX_VALUE_LEN) ≤ (if first then MAX_DATAGRAM_LEN_V1 else MAX_DATAGRAM_LEN_V2)
+  room true = omega arith
+  room false = omega arith
+
 -- no version has a value whose length needs more than two bytes
 pub value_within : (version : ℕ) → max_value_len version < 2 ^ 16
 value_within version = cond_both (eqb version 1) MAX_VALUE_LEN_V1 MAX_VALUE_LEN (λ n. n < 2 ^ 16) (λ e. omega arith) (λ e. omega arith)
@@ -61,13 +66,6 @@ no_first_fault kind bytes version count known short long magic version_is count_
     let d : nat_eq count 0 ≡ false = ne_eqb count 0 (λ e. omega arith) in
     rw (a, b, magic, version_is, known, c, count_is, d, none) refl
 
--- where there is no fault, want of memory alone is left
-pub memory_alone : (first : Option BatchFault) (fault : BatchFault) → first ≡ None → IsFirst first fault → fault ≡ NoMemory
-memory_alone first NoMemory none h = refl
-memory_alone first Short none h = absurd cc
-memory_alone first Magic none h = absurd cc
-memory_alone first Version none h = absurd cc
-memory_alone first Count none h = absurd cc
-memory_alone first Length none h = absurd cc
-memory_alone first Op none h = absurd cc
-memory_alone first Trailing none h = absurd cc
+-- there is no fault where there is none
+pub no_fault_is : (first : Option BatchFault) (fault : BatchFault) → first ≡ None → first ≡ Some fault → ⊥
+no_fault_is first fault none is = cc

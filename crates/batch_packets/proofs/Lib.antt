@@ -2,4 +2,5 @@ pub mod ItemLaws
 pub mod RequestLaws
 pub mod ReplyLaws
 pub mod Walk
-pub mod Splits
+pub mod Taking
+pub mod Filling

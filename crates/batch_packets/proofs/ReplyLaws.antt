@@ -22,7 +22,7 @@ reply_at bytes = record {
   value = take (value_len_at bytes) (drop 16 bytes);
 }
 
-longest : (version status : ℕ) → longest_value version status ≤ max_value_len version
+pub longest : (version status : ℕ) → longest_value version status ≤ max_value_len version
 longest version status = cond_both (eqb status 0) (max_value_len version) 0 (λ n. n ≤ max_value_len version) (λ e. omega arith) (λ e. omega arith)
 
 status_is : (x : Reply) (rest : List ℕ) → status_at (reply_text x ++ rest) ≡ x.status

@@ -1,19 +1,20 @@
 -- What the text of a request tells of it.
 use Rattle.std.proofs.Common.{◌≡◌, ℕ, ◌+◌, ◌^◌, ◌<◌, ◌≤◌, true, false, ltb, leb, List, ◌++◌, length, take, drop, None, refl, sym, ap, ◌∙◌, append_assoc, arith, length-append}
-use Rattle.std.specs.Prelude.{◌==◌, if◌then◌else◌}
+use Rattle.std.specs.Prelude.{◌==◌, IsTrue, if◌then◌else◌}
 use Rattle.std.specs.List.{flat_map, All, AllByRecursion}
 use Rattle.std.proofs.lemmas.List.Elements.{recursion_from_All}
 use Rattle.std.specs.Int.{w32, from_le_bytes}
 use Rattle.std.proofs.lemmas.Bool.{le-ltb, le-leb, lt-ltb}
 use Rattle.std.proofs.lemmas.List.{take_at, drop_at}
 use Rattle.std.proofs.lemmas.Nat.{from_le_bytes-to_le_bytes_4}
-use Rattle.batch_packets.specs.declared.header.TheConstants.{HEADER_LEN}
+use Rattle.batch_packets.specs.declared.header.TheConstants.{HEADER_LEN, MAX_ITEMS}
 use Rattle.batch_packets.specs.declared.batch.Request.{Request}
 use Rattle.batch_packets.specs.declared.batch.Want.{Want}
 use Rattle.batch_packets.specs.declared.batch.Want.TheVariants.{Get, Put, Del, Add, Touch}
 use Rattle.batch_packets.specs.declared.batch.Batch.{Batch}
-use Rattle.batch_packets.specs.Datagram.{item_fault, first_fault, version_at, count_at, max_value_len}
-use Rattle.batch_packets.specs.BatchGrammar.{IsRequest, IsInRange, request_text, batch_kind, is_operation, longest_value, operation_of, operation_at, key_len_at, value_len_at, batch_text, SpellsBatch}
+use Rattle.batch_packets.specs.Datagram.{SpellsItems, is_version, max_datagram_len, header_text, item_fault, first_fault, version_at, count_at, max_value_len}
+use Rattle.batch_packets.specs.BatchGrammar.{IsRequest, IsInRange, request_text, batch_kind, is_operation, longest_value, operation_of, operation_at, key_len_at, value_len_at, batch_magic, batch_text, SpellsBatch}
+use Rattle.batch_packets.proofs.Taking.{is_text, fit}
 use Rattle.batch_packets.proofs.ItemLaws.{Tells, value_within, no_faults, one_list, no_first_fault}
 
 want_at : ℕ → Want
@@ -131,3 +132,14 @@ one_batch bytes a b p q =
     let requests : a.requests ≡ b.requests = one_list batch_kind a.version request_text request_at a.requests b.requests (requests_tell a.version a.requests p.lawful.each p.in_range) (requests_tell a.version b.requests (rw version q.lawful.each) q.in_range) count texts in
     let made : ℕ → ℕ → List Request → Batch = λ v n rs. record { version = v; number = n; requests = rs } in
     ap (λ v. made v a.number a.requests) version ∙ ap (λ n. made b.version n a.requests) number ∙ ap (made b.version b.number) requests
+
+-- requests behind a header are a batch
+pub is_batch_of : (bytes rest : List ℕ) (version count number : ℕ) (requests : List Request) → bytes ≡ header_text batch_magic version count number ++ rest → length requests ≡ count → SpellsItems request_text IsRequest IsInRange version rest requests
+    → IsTrue (is_version version) → 0 < count → count ≤ MAX_ITEMS → length bytes ≤ max_datagram_len version → number < 2 ^ 32 → SpellsBatch bytes (record { version = version; number = number; requests = requests })
+unfolding batch_text
+is_batch_of bytes rest version count number requests whole few spells known some most short in_range = record {
+  text = is_text request_text IsRequest IsInRange version batch_magic bytes rest count number requests whole few spells;
+  lawful = record { version = known; fits = fit request_text IsRequest IsInRange version batch_magic bytes rest count number requests whole few spells refl some most short; each = spells.each };
+  number = in_range;
+  in_range = spells.in_range;
+}

@@ -1,6 +1,6 @@
 -- What batches and replies have in common: a header, and items one after another.
 -- All numbers are little endian.
-use Rattle.std.specs.Prelude.{◌<◌, ◌≤◌, ◌==◌, ◌||◌, ◌+◌, ℕ, zero, suc, Bool, not, List, [], ◌∷◌, ◌++◌, length, drop, slice_index, nat_eq, nat_lt, Option, if◌then◌else◌}
+use Rattle.std.specs.Prelude.{◌≡◌, ◌<◌, ◌≤◌, ◌==◌, ◌||◌, ◌+◌, ℕ, zero, suc, Bool, not, List, [], ◌∷◌, ◌++◌, length, drop, slice_index, nat_eq, nat_lt, All, Option, if◌then◌else◌}
 use Rattle.std.specs.Int.{w32, to_le_bytes}
 use Rattle.std.specs.List.{flat_map, starts_with}
 use Rattle.mica_words.specs.declared.item.TheConstants.{MAX_VALUE_LEN}
@@ -36,6 +36,13 @@ pub record FitsDatagram {Item : Type 0} (text : Item → List ℕ) (version : �
   pub some : 0 < length items
   pub few : length items ≤ MAX_ITEMS
   pub short : HEADER_LEN + length (flat_map text items) ≤ max_datagram_len version
+
+-- the bytes are the texts of these items of a version, one after another
+pub record SpellsItems {Item : Type 0} (text : Item → List ℕ) (is_item : ℕ → Item → Type 0) (is_in_range : Item → Type 0)
+    (version : ℕ) (bytes : List ℕ) (items : List Item) : Type 0 where
+  pub texts : bytes ≡ flat_map text items
+  pub each : All (is_item version) items
+  pub in_range : All is_in_range items
 
 -- What the two kinds of datagram differ in: the magic, and what the bytes of an item say of it. The
 -- bytes of an item are those from its first one on.

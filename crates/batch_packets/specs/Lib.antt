@@ -3,3 +3,5 @@ pub mod Datagram
 pub mod BatchGrammar
 pub mod ReplyGrammar
 pub mod Splitting
+pub mod Filling
+pub mod Unread

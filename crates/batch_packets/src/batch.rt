@@ -1,11 +1,15 @@
 //! Batches of requests, read from bytes and written.
-ghost use Rattle.std.specs.Prelude.{◌≡◌, ◌≤◌, ◌↔◌, ◌+◌, ℕ, false, length, All, IsTrue, IfOk, IfSome, IfNone, IsOkUnless};
+ghost use Rattle.std.specs.Prelude.{◌≡◌, ◌≤◌, ◌↔◌, ◌+◌, ◌++◌, ℕ, false, length, All, IsTrue, IfOk, OnOk, IfSome, IfNone, IsOkUnless};
+ghost use Rattle.std.specs.List.{flat_map};
 ghost use Rattle.batch_packets.specs.Faults.{AgreesWith};
 ghost use Rattle.batch_packets.specs.declared.header.TheConstants.{HEADER_LEN};
 ghost use Rattle.batch_packets.specs.Datagram.{is_version, max_datagram_len, first_fault};
 
-use crate::header::{MAX_ITEMS, is_version, max_datagram_len, max_value_len};
-use crate::item::{Item, len_of, read_datagram, write_datagram};
+use crate::checking::{RequestRef, check_batch};
+use crate::header::{
+    HEADER_LEN, Header, MAX_ITEMS, is_version, max_datagram_len, max_value_len, put_header,
+};
+use crate::item::Item;
 use crate::{BatchFault, Datagram};
 use mica_io::{Bytes, NoMemory};
 use mica_words::key_fits;
@@ -82,7 +86,7 @@ impl Want {
     ghost use Rattle.batch_packets.specs.BatchGrammar.{operation_of, is_operation, longest_value};
 
     #[tactic(auto, unfolding(crate::specs::BatchGrammar::operation_of))]
-    fn of(version: u8, byte: u8) -> Option<Want>
+    pub(crate) fn of(version: u8, byte: u8) -> Option<Want>
         ensures known { IfSome result (λ want. byte ≡ operation_of want) }
         ensures has { IfSome result (λ want. IsTrue (is_operation version byte)) }
         ensures unknown { IfNone result (is_operation version byte ≡ false) }
@@ -122,7 +126,7 @@ impl Want {
     }
 
     #[tactic(auto, unfolding(crate::specs::BatchGrammar::operation_of))]
-    fn longest_value(self, version: u8) -> usize
+    pub(crate) fn longest_value(self, version: u8) -> usize
         ensures { result ≡ longest_value version (operation_of self) }
     {
         match self {
@@ -135,55 +139,24 @@ impl Want {
 ghost use Rattle.batch_packets.specs.declared.batch.Batch.{Batch};
 ghost use Rattle.batch_packets.specs.BatchGrammar.{IsRequest, IsBatch, SpellsBatch, request_text, batch_text, batch_kind};
 
-impl Item for Request {
-    ghost use Rattle.batch_packets.specs.BatchGrammar.{IsRequest, IsInRange, request_text, batch_kind};
-
-    ghost kind = { batch_kind };
-
-    ghost text = { request_text };
-
-    ghost is_item = { IsRequest };
-
-    ghost is_in_range = { IsInRange };
-
-    fn magic() -> [u8; 4] {
-        *b"MICA"
-    }
-
+impl Request {
+    /// How many bytes its text has. One request always fits a datagram of its version.
     #[tactic(auto, unfolding(crate::specs::BatchGrammar::request_text))]
-    fn read(alloc: Global, version: u8, from: &[u8]) -> Result<(Request, &[u8]), BatchFault> {
-        let [operation, key_len, v0, v1, t0, t1, t2, t3, texts @ ..] = from else {
-            return Err(BatchFault::Short);
-        };
-        let Some(want) = Want::of(version, *operation) else {
-            return Err(BatchFault::Op);
-        };
-        let key_len = usize::from(*key_len);
-        let value_len = usize::from(u16::from_le_bytes([*v0, *v1]));
-        if key_len == 0 || value_len > want.longest_value(version) {
-            return Err(BatchFault::Length);
-        }
-        if texts.len() < key_len + value_len {
-            return Err(BatchFault::Short);
-        }
-        let (key, after_key) = texts.split_at(key_len);
-        let (value, rest) = after_key.split_at(value_len);
-        let request = Request {
-            want,
-            ticket: u32::from_le_bytes([*t0, *t1, *t2, *t3]),
-            key: Bytes::copy(alloc, key)?,
-            value: Bytes::copy(alloc, value)?,
-        };
-        Ok((request, rest))
-    }
-
-    #[tactic(auto, unfolding(crate::specs::BatchGrammar::request_text))]
-    fn size(&self) -> usize {
+    fn size(&self) -> usize
+        requires { (version : ℕ) × IsTrue (is_version version) × IsRequest version self.now }
+        ensures size { result ≡ length (request_text self.now) }
+        ensures fits { (version : ℕ) → IsTrue (is_version version) → IsRequest version self.now
+            → HEADER_LEN + result ≤ max_datagram_len version }
+    {
         8 + self.key.bytes().len() + self.value.bytes().len()
     }
 
+    /// Appends its text.
     #[tactic(auto, unfolding(crate::specs::BatchGrammar::request_text))]
-    fn put(&self, out: &mut Vec<u8>) -> Result<(), NoMemory> {
+    fn put(&self, out: &mut Vec<u8>) -> Result<(), NoMemory>
+        requires { (version : ℕ) × IsTrue (is_version version) × IsRequest version self.now }
+        ensures { OnOk result (out.new.items ≡ out.old.items ++ request_text self.now) }
+    {
         let key = self.key.bytes();
         let value = self.value.bytes();
         out.extend_from_slice(&[self.want.byte(), key.len() as u8])?;
@@ -195,6 +168,19 @@ impl Item for Request {
     }
 }
 
+/// The length of the text of a batch of a version.
+fn len_of(requests: &[Request]) -> usize
+    requires lawful { (version : ℕ) × IsTrue (is_version version) × All (IsRequest version) requests.now }
+    requires few { length requests.now ≤ MAX_ITEMS }
+    ensures { result ≡ HEADER_LEN + length (flat_map request_text requests.now) }
+{
+    let mut len = HEADER_LEN;
+    for request in requests {
+        len += request.size();
+    }
+    len
+}
+
 /// The batch whose text the bytes are.
 #[tactic(auto, unfolding(crate::specs::BatchGrammar::batch_text))]
 pub fn read_batch(alloc: Global, from: &[u8]) -> Result<Batch, BatchFault>
@@ -204,11 +190,15 @@ pub fn read_batch(alloc: Global, from: &[u8]) -> Result<Batch, BatchFault>
     ensures only { (batch : Batch) → SpellsBatch from.now batch
         → IsOkUnless result BatchFault.NoMemory }
 {
-    let (header, requests) = read_datagram(alloc, from)?;
+    let (header, mut requests) = check_batch(from)?;
+    let mut list = Vec::with_capacity(alloc, usize::from(header.count))?;
+    for _ in 0..header.count {
+        list.push_reserved(requests.next_request().to_request(alloc)?);
+    }
     Ok(Batch {
         version: header.version,
         number: header.number,
-        requests: RequestList::from(requests),
+        requests: RequestList::from(list),
     })
 }
 
@@ -265,11 +255,15 @@ pub fn write_batch(alloc: Global, batch: &Batch) -> Result<Datagram, NoMemory>
     ensures { IfOk result (λ text. text ≡ batch_text batch.now) }
 {
     let requests = batch.requests.as_slice();
-    write_datagram(
-        alloc,
-        batch.version,
-        batch.number,
-        requests,
-        len_of(requests),
-    )
+    let mut text = Vec::with_capacity(alloc, len_of(requests))?;
+    let header = Header {
+        version: batch.version,
+        count: requests.len() as u8,
+        number: batch.number,
+    };
+    put_header(&mut text, RequestRef::magic(), header)?;
+    for request in requests {
+        request.put(&mut text)?;
+    }
+    Ok(Bytes::from(text))
 }

@@ -2,7 +2,7 @@
 ghost use Rattle.std.specs.Prelude.{◌≡◌};
 
 use mica_io::NoMemory;
-use std::alloc::AllocFailed;
+use std::alloc::AllocError;
 use std::error::Error;
 use std::fmt;
 
@@ -53,12 +53,12 @@ impl From<NoMemory> for BatchFault {
     }
 }
 
-impl<T: Drop> From<AllocFailed<T>> for BatchFault {
+impl From<AllocError> for BatchFault {
     ghost use Rattle.batch_packets.specs.declared.fault.BatchFault.TheVariants.{NoMemory};
 
     ghost from_gives = { λ _ e. e ≡ NoMemory };
 
-    fn from(_: AllocFailed<T>) -> Self {
+    fn from(_: AllocError) -> Self {
         BatchFault::NoMemory
     }
 }

@@ -1,5 +1,5 @@
 //! The header that every datagram begins with.
-ghost use Rattle.std.specs.Prelude.{◌≡◌, ◌<◌, ◌≤◌, ◌++◌, Some, None, length, drop, IsTrue, IfOk, IfErr, IfSome, IfNone, OnOk};
+ghost use Rattle.std.specs.Prelude.{◌≡◌, ◌^◌, ◌<◌, ◌≤◌, ◌++◌, Some, None, length, drop, vec_capacity, IsTrue, IfOk, IfErr, IfSome, IfNone, OnOk};
 ghost use Rattle.std.specs.Int.{w64, to_le_bytes};
 ghost use Rattle.batch_packets.specs.Datagram.{header_text, header_fault, version_at, count_at, is_version, max_datagram_len, max_value_len};
 
@@ -9,6 +9,9 @@ use mica_words::MAX_VALUE_LEN;
 
 /// The bytes of a header.
 pub const HEADER_LEN: usize = 10;
+
+/// Where a header says how many items follow.
+pub const COUNT_AT: usize = 5;
 
 /// The most items of a datagram.
 pub const MAX_ITEMS: usize = 255;
@@ -78,6 +81,7 @@ pub fn read_header(magic: [u8; 4], from: &[u8]) -> Result<(Header, &[u8]), Batch
     ensures text { IfOk result (λ x. from.now ≡ header_text magic x.0.version x.0.count x.0.number ++ x.1.now) }
     ensures version { IfOk result (λ x. IsTrue (is_version x.0.version)) }
     ensures some { IfOk result (λ x. 0 < x.0.count) }
+    ensures number { IfOk result (λ x. x.0.number < 2 ^ 32) }
     ensures short { IfOk result (λ x. length from.now ≤ max_datagram_len x.0.version) }
     ensures no_fault { OnOk result (header_fault magic from.now ≡ None) }
     ensures fields { IfOk result (λ x. (version_at from.now ≡ x.0.version) × (count_at from.now ≡ x.0.count) × (drop HEADER_LEN from.now ≡ x.1.now)) }
@@ -111,7 +115,8 @@ pub fn read_header(magic: [u8; 4], from: &[u8]) -> Result<(Header, &[u8]), Batch
 
 /// Appends a header.
 pub fn put_header(out: &mut Vec<u8>, magic: [u8; 4], header: Header) -> Result<(), NoMemory>
-    ensures { OnOk result (out.new.items ≡ out.old.items ++ header_text magic header.version header.count header.number) }
+    ensures text { OnOk result (out.new.items ≡ out.old.items ++ header_text magic header.version header.count header.number) }
+    ensures room { vec_capacity out.old ≤ vec_capacity out.new }
 {
     out.extend_from_slice(&magic)?;
     out.extend_from_slice(&[header.version, header.count])?;

@@ -6,23 +6,27 @@
 #![tactic(auto)]
 
 mod batch;
+mod checking;
 mod fault;
 mod header;
 mod item;
 mod laws;
 mod replies;
+mod reply_text;
 
 pub use batch::{
     Batch, Request, RequestList, Want, batch_len, is_batch, is_request, read_batch, request_len,
     write_batch,
 };
+pub use checking::{RequestRef, Requests, check_batch};
 pub use fault::BatchFault;
 pub use header::{
-    HEADER_LEN, MAX_DATAGRAM_LEN_V1, MAX_DATAGRAM_LEN_V2, MAX_ITEMS, MAX_VALUE_LEN_V1, is_version,
-    max_datagram_len, max_value_len,
+    HEADER_LEN, Header, MAX_DATAGRAM_LEN_V1, MAX_DATAGRAM_LEN_V2, MAX_ITEMS, MAX_VALUE_LEN_V1,
+    is_version, max_datagram_len, max_value_len,
 };
 pub use laws::one_reading;
 pub use replies::{Replies, Reply, ReplyList, read_replies, write_replies};
+pub use reply_text::ReplyText;
 
 /// The text of a batch, or of replies.
 pub type Datagram = mica_io::Bytes;

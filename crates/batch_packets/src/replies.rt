@@ -1,11 +1,11 @@
 //! Replies, read from bytes and split into datagrams.
-ghost use Rattle.std.specs.Prelude.{◌≡◌, ◌<◌, ◌≤◌, ◌+◌, length, take, drop, All, IsTrue, IfOk, IsOkUnless};
+ghost use Rattle.std.specs.Prelude.{◌≡◌, All, IsTrue, IfOk, IsOkUnless};
 ghost use Rattle.batch_packets.specs.Faults.{AgreesWith};
 ghost use Rattle.batch_packets.specs.Datagram.{is_version, first_fault};
 
-use crate::header::{HEADER_LEN, MAX_ITEMS, max_datagram_len, max_value_len, read_u64};
-use crate::item::{Item, read_datagram, write_datagram};
-use crate::{BatchFault, Datagram};
+use crate::header::{max_value_len, read_u64};
+use crate::item::{Item, check_datagram, next_item};
+use crate::{BatchFault, Datagram, ReplyText};
 use mica_io::{Bytes, NoMemory};
 use std::alloc::Global;
 use std::marker::Model;
@@ -67,9 +67,8 @@ pub struct Replies {
 }
 
 ghost use Rattle.batch_packets.specs.declared.replies.Replies.{Replies};
-ghost use Rattle.batch_packets.specs.ReplyGrammar.{IsReply, SpellsReplies, reply_text, replies_kind, is_status, longest_value};
-ghost use Rattle.batch_packets.specs.Splitting.{BeginsWith, SplitsInto};
-ghost use Rattle.std.specs.List.{flat_map};
+ghost use Rattle.batch_packets.specs.ReplyGrammar.{IsReply, SpellsReplies, replies_kind, is_status, longest_value};
+ghost use Rattle.batch_packets.specs.Splitting.{SplitsInto};
 
 fn is_status(version: u8, byte: u8) -> bool
     ensures { result ≡ is_status version byte }
@@ -92,8 +91,39 @@ fn longest_value(version: u8, status: u8) -> usize
     }
 }
 
-impl Item for Reply {
-    ghost use Rattle.batch_packets.specs.ReplyGrammar.{IsReply, IsInRange, reply_text, replies_kind};
+/// A reply whose value lies in the bytes that it is read from. Clauses see it as the reply.
+#[derive(Drop)]
+pub struct ReplyRef<'a> {
+    status: u8,
+    ticket: u32,
+    stamp: u64,
+    value: &'a [u8],
+}
+
+impl<'a> Model for ReplyRef<'a> {
+    ghost use Rattle.batch_packets.specs.declared.replies.Reply.{Reply};
+
+    ghost Value = { Reply };
+
+    ghost view = { λ r. record { status = r.status; ticket = r.ticket; stamp = r.stamp; value = r.value.now } };
+}
+
+impl<'a> ReplyRef<'a> {
+    /// The reply with a value of its own.
+    fn to_reply(&self, alloc: Global) -> Result<Reply, NoMemory>
+        ensures { IfOk result (λ reply. reply ≡ self.now) }
+    {
+        Ok(Reply {
+            status: self.status,
+            ticket: self.ticket,
+            stamp: self.stamp,
+            value: Bytes::copy(alloc, self.value)?,
+        })
+    }
+}
+
+impl<'a> Item<'a> for ReplyRef<'a> {
+    ghost use Rattle.batch_packets.specs.ReplyGrammar.{IsReply, IsInRange, reply_text, replies_magic, replies_kind};
 
     ghost kind = { replies_kind };
 
@@ -103,12 +133,14 @@ impl Item for Reply {
 
     ghost is_in_range = { IsInRange };
 
-    fn magic() -> [u8; 4] {
+    fn magic() -> [u8; 4]
+        ensures { result ≡ replies_magic }
+    {
         *b"MICR"
     }
 
     #[tactic(auto, unfolding(crate::specs::ReplyGrammar::reply_text))]
-    fn read(alloc: Global, version: u8, from: &[u8]) -> Result<(Reply, &[u8]), BatchFault> {
+    fn read(version: u8, from: &'a [u8]) -> Result<(ReplyRef<'a>, &'a [u8]), BatchFault> {
         let [status, zero, v0, v1, t0, t1, t2, t3, after @ ..] = from else {
             return Err(BatchFault::Short);
         };
@@ -126,29 +158,13 @@ impl Item for Reply {
             return Err(BatchFault::Short);
         }
         let (value, rest) = texts.split_at(value_len);
-        let reply = Reply {
+        let reply = ReplyRef {
             status: *status,
             ticket: u32::from_le_bytes([*t0, *t1, *t2, *t3]),
             stamp,
-            value: Bytes::copy(alloc, value)?,
+            value,
         };
         Ok((reply, rest))
-    }
-
-    #[tactic(auto, unfolding(crate::specs::ReplyGrammar::reply_text))]
-    fn size(&self) -> usize {
-        16 + self.value.bytes().len()
-    }
-
-    #[tactic(auto, unfolding(crate::specs::ReplyGrammar::reply_text))]
-    fn put(&self, out: &mut Vec<u8>) -> Result<(), NoMemory> {
-        let value = self.value.bytes();
-        out.extend_from_slice(&[self.status, 0])?;
-        out.extend_from_slice(&(value.len() as u16).to_le_bytes())?;
-        out.extend_from_slice(&self.ticket.to_le_bytes())?;
-        out.extend_from_slice(&self.stamp.to_le_bytes())?;
-        out.extend_from_slice(value)?;
-        Ok(())
     }
 }
 
@@ -161,34 +177,18 @@ pub fn read_replies(alloc: Global, from: &[u8]) -> Result<Replies, BatchFault>
     ensures only { (replies : Replies) → SpellsReplies from.now replies
         → IsOkUnless result BatchFault.NoMemory }
 {
-    let (header, replies) = read_datagram(alloc, from)?;
+    let (header, mut rest) = check_datagram::<ReplyRef>(from)?;
+    let mut replies = Vec::with_capacity(alloc, usize::from(header.count))?;
+    for _ in 0..header.count {
+        let (reply, after) = next_item::<ReplyRef>(header.version, rest);
+        replies.push_reserved(reply.to_reply(alloc)?);
+        rest = after;
+    }
     Ok(Replies {
         version: header.version,
         number: header.number,
         replies: ReplyList::from(replies),
     })
-}
-
-/// How many of the replies go into the next datagram of a version, and the length of its text.
-fn fitting(version: u8, replies: &[Reply]) -> (usize, usize)
-    requires version { IsTrue (is_version version) }
-    requires lawful { All (IsReply version) replies.now }
-    requires some { 0 < length replies.now }
-    ensures within { result.0 ≤ length replies.now }
-    ensures begin { BeginsWith version replies.now
-        (take result.0 replies.now) (drop result.0 replies.now) }
-    ensures len { result.1 ≡ HEADER_LEN + length (flat_map reply_text (take result.0 replies.now)) }
-{
-    let limit = max_datagram_len(version);
-    let mut len = HEADER_LEN;
-    for (count, reply) in replies.iter().enumerate() {
-        let size = reply.size();
-        if count == MAX_ITEMS || len + size > limit {
-            return (count, len);
-        }
-        len += size;
-    }
-    (replies.len(), len)
 }
 
 /// The datagrams of the replies to the batch of this number and version: each takes as many replies as fit.
@@ -202,13 +202,9 @@ pub fn write_replies(
     requires each { All (IsReply version) replies.now }
     ensures { IfOk result (λ datagrams. SplitsInto version number replies.now datagrams.items) }
 {
-    let mut datagrams = Vec::new(alloc);
-    let mut rest = replies;
-    while !rest.is_empty() {
-        let (count, len) = fitting(version, rest);
-        let (now, later) = rest.split_at(count);
-        datagrams.push(write_datagram(alloc, version, number, now, len)?)?;
-        rest = later;
+    let mut text = ReplyText::new(alloc, version, number)?;
+    for reply in replies {
+        text.add(reply.status, reply.ticket, reply.stamp, reply.value.bytes())?;
     }
-    Ok(datagrams)
+    text.finish()
 }

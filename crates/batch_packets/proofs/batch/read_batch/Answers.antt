@@ -1,9 +1,14 @@
-use Rattle.std.proofs.lemmas.Result.{err_from_is_err_and}
-use Rattle.batch_packets.proofs.ItemLaws.{memory_alone}
-use Rattle.batch_packets.proofs.RequestLaws.{batch_has_no_fault}
+use Rattle.std.proofs.Common.{arith}
+use Rattle.batch_packets.specs.Unread.{HasLeft}
+use Rattle.batch_packets.proofs.Taking.{some_left, one_read}
 use Rattle.batch_packets.proofs.batch.read_batch.Goals as goal
 
-pub returns-in_err-header-clause-only : goal.returns-in_err-header-clause-only
-returns-in_err-header-clause-only c = λ batch spells.
-    let p = err_from_is_err_and c.from_residual.result c.from_residual.ensures.1 in
-    rw (p.1, p.2) (memory_alone _ c.in_err-header.field-0.0 (batch_has_no_fault c.args.from.now batch spells) c.in_err-header.ensures.fault)
+pub next_request-requires : goal.next_request-requires
+next_request-requires c = record { some = some_left _ _ _ _ _ c.loop.invariant.reading c.loop-test.true }
+
+pub loop-preserved : goal.loop-preserved
+loop-preserved c = record {
+  len = omega (arith, c.push_reserved.ensures.len, c.loop.invariant.len);
+  room = omega (arith, c.push_reserved.ensures.capacity, c.loop.invariant.room);
+  reading = rw (c.push_reserved.ensures.items, c.in_ok-to_request.ensures) (one_read _ _ _ _ _ (HasLeft c.next_request.new.self) c.next_request.result c.loop.invariant.reading c.loop-test.true c.next_request.ensures.taken);
+}

@@ -2,7 +2,7 @@ use Rattle.std.proofs.Common.{◌≡◌, ◌+◌, sym, ap, arith, ◌∙◌, dro
 use Rattle.std.proofs.lemmas.List.{take_rest, get_or-drop}
 use Rattle.batch_packets.specs.BatchGrammar.{key_len_at, value_len_at}
 use Rattle.batch_packets.proofs.Walk.{after_two}
-use Rattle.batch_packets.proofs.batch.RequestItem.read.Goals as goal
+use Rattle.batch_packets.proofs.checking.RequestRefItem.read.Goals as goal
 
 pub returns-clause-rest : goal.returns-clause-rest
 returns-clause-rest c =

@@ -2,7 +2,7 @@ use Rattle.std.proofs.Common.{◌≡◌, ◌+◌, drop, sym, ap, ◌∙◌, arit
 use Rattle.std.proofs.lemmas.List.{take_rest, drop-drop, get_or-drop}
 use Rattle.batch_packets.specs.ReplyGrammar.{value_len_at}
 use Rattle.batch_packets.proofs.Walk.{after_one}
-use Rattle.batch_packets.proofs.replies.ReplyItem.read.Goals as goal
+use Rattle.batch_packets.proofs.replies.ReplyRefItem.read.Goals as goal
 
 pub returns-clause-rest : goal.returns-clause-rest
 returns-clause-rest c =
