@@ -1,8 +1,8 @@
 -- Writes whose replies stand, in order, among the steps of a machine.
 use Rattle.std.proofs.Common.{◌≤◌, ◌⊎◌, inl, inr, List, [], ◌∷◌, ◌++◌, length, arith}
 use Rattle.std.specs.List.{AllZip}
-use Rattle.mica_model.specs.Run.{RunStep}
-use Rattle.mica_serve.specs.Turn.{Turn}
+use Rattle.partition_model.specs.Run.{RunStep}
+use Rattle.mica_fronts.specs.Turn.{Turn}
 use Rattle.mica_serve.specs.Served.{RepliesStep}
 
 -- each write has a step of its own, and the steps stand in the order of the writes

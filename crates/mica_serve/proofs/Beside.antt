@@ -3,20 +3,26 @@ use Rattle.std.proofs.Common.{◌≡◌, ℕ, zero, suc, ◌+◌, ◌<◌, ◌�
 use Rattle.std.specs.Prelude.{is_some, is_none, ◌&&◌}
 use Rattle.std.proofs.lemmas.Bool.{true≢false, eq-eqb}
 use Rattle.std.proofs.lemmas.List.{append-nil, map-append}
-use Rattle.mica_model.specs.declared.options.Options.{Options}
-use Rattle.mica_model.specs.declared.write.Write.{Write}
-use Rattle.mica_model.specs.History.{History, IsPrefix, stamp_of, answer_of}
-use Rattle.mica_model.specs.Run.{RunStep}
+use Rattle.std.proofs.lemmas.Bool.{and_right}
+use Rattle.std.proofs.lemmas.List.Elements.{filter-append}
+use Rattle.partition_model.specs.declared.options.Options.{Options}
+use Rattle.partition_model.specs.declared.write.Write.{Write}
+use Rattle.partition_model.specs.History.{History, IsPrefix, stamp_of, answer_of}
+use Rattle.partition_model.specs.Run.{RunStep}
 use Rattle.epoch_core.proofs.Prefixes.{prefix_then}
-use Rattle.mica_serve.specs.Turn.{Turn, write_in, partition_in, writes_of, gets_of, get_reply}
-use Rattle.mica_serve.specs.Session.{Acknowledged, Told, Session, Sessions, TellsWrite, TellsRead, Answers, AnswersBy, AnswersInOrder}
+use Rattle.mica_fronts.specs.Turn.{Turn, write_in, partition_in, writes_of, gets_of, get_reply}
+use Rattle.mica_fronts.specs.Session.{Acknowledged, Told, Session, Sessions, TellsWrite, TellsRead, Answers, AnswersBy, AnswersInOrder}
 use Rattle.mica_serve.specs.Served.{ServesGet, IsGetAt}
-use Rattle.mica_serve.proofs.Alone.{stamp_grows, stamp_in_get, both, filter_cons}
+use Rattle.mica_fronts.proofs.Runs.{stamp_grows}
 use Rattle.mica_serve.proofs.Among.{StandAmong, stand_append, stand_after}
 
 -- the stamp of a beginning is no greater
 pub stamp_begins : (options : Options) (begun all : History) → IsPrefix begun all → stamp_of options begun ≤ stamp_of options all
 stamp_begins options begun all begins = let grows = stamp_grows options begun begins.0 in omega (arith, ap (stamp_of options) begins.1)
+
+stamp_in_get : (version ticket stamp : ℕ) (value : Option (List ℕ)) → (get_reply version ticket stamp value).stamp ≡ stamp
+stamp_in_get version ticket stamp None = refl
+stamp_in_get version ticket stamp (Some value) = refl
 
 module _ (options : Options) (p : ℕ) where
   -- What a front that told this tells after these requests: more answers, among which its writes stand, and one closed try for each get.
@@ -95,8 +101,8 @@ module _ (options : Options) (p : ℕ) where
           is = ap (λ s. s.told) same ∙ tells;
           more = [];
           acks = sym (append-nil told.acks);
-          stand = subst (λ (b : Bool). StandAmong (cond b (turn ∷ []) []) []) (sym (both (is_some (write_in turn.request)) (eqb (partition_in options turn) p) away)) tt;
-          closed = omega (arith, ap (λ (b : Bool). length (cond b (turn ∷ []) [])) (both (is_none (write_in turn.request)) (eqb (partition_in options turn) p) away));
+          stand = subst (λ (b : Bool). StandAmong (cond b (turn ∷ []) []) []) (sym (and_right (is_some (write_in turn.request)) (eqb (partition_in options turn) p) away)) tt;
+          closed = omega (arith, ap (λ (b : Bool). length (cond b (turn ∷ []) [])) (and_right (is_none (write_in turn.request)) (eqb (partition_in options turn) p) away));
         };
       }
 
@@ -112,8 +118,8 @@ module _ (options : Options) (p : ℕ) where
   tells_more : (old : Told) (turn : Turn) (turns : List Turn) (between new : Option Told) (one : TellsTurns old (turn ∷ []) between)
       → TellsTurns one.told turns new → TellsTurns old (turn ∷ turns) new
   tells_more old turn turns between new one rest =
-      let writes = filter_cons options p (λ x. is_some (write_in x.request) && eqb (partition_in options x) p) turn turns in
-      let gets = filter_cons options p (λ x. is_none (write_in x.request) && eqb (partition_in options x) p) turn turns in
+      let writes = sym (filter-append (λ x. is_some (write_in x.request) && eqb (partition_in options x) p) (turn ∷ []) turns) in
+      let gets = sym (filter-append (λ x. is_none (write_in x.request) && eqb (partition_in options x) p) (turn ∷ []) turns) in
       record {
         told = rest.told;
         is = rest.is;

@@ -1,12 +1,12 @@
 -- Ends that are bound one after another, and come back one after another.
-use Rattle.std.proofs.Common.{◌≡◌, ℕ, zero, suc, ◌+◌, ◌<◌, ◌≤◌, ◌⊎◌, inl, inr, true, false, cond, List, [], ◌∷◌, ◌++◌, length, map, Option, Some, None, refl, sym, ap, ◌∙◌, subst, append_assoc, take, drop, slice_get, get_or, eqb, eqb-true, arith, length-append}
+use Rattle.std.proofs.Common.{◌≡◌, ℕ, zero, suc, ◌+◌, ◌<◌, ◌≤◌, ◌⊎◌, inl, inr, true, false, cond, List, [], ◌∷◌, ◌++◌, length, map, Option, Some, None, refl, sym, ap, ◌∙◌, subst, drop, slice_get, get_or, eqb, eqb-true, arith, length-append}
 use Rattle.std.specs.Prelude.{◌≢◌, IfSome, IfNone, is_some, min, sum_by}
 use Rattle.std.proofs.lemmas.Bool.{eq-eqb, ne_eqb, true≢false, cases_lt}
 use Rattle.mica_io.specs.Traffic.{Traffic, EndScript}
 use Rattle.mica_io.specs.Ports.{Port, Ports, out, back, with_port, BindsEnd}
 use Rattle.mica_serve.specs.Ends.{EndFacts, IsNewEnd, AreNewEnds, WaitedAt, BindsEnds, ReleasesEnds, TellAll}
 use Rattle.mica_io.specs.Faults.{Rose, LAST_COUNT}
-use Rattle.std.proofs.lemmas.List.{take_at, take-append-drop, length_push, length-map}
+use Rattle.std.proofs.lemmas.List.{length-map}
 use Rattle.std.proofs.Math.ListN.{drop_of_length-le}
 use Rattle.std.proofs.lemmas.Option.{slice_get_within, get_or_from_slice_get}
 use Rattle.std.proofs.lemmas.List.Sums.{sum_by-drop_more}
@@ -182,22 +182,6 @@ counts_more ends n end a b c is now before =
     added_up : (a b c f rest all : ℕ) → all ≡ f + rest → c ≡ min (b + f) LAST_COUNT → min b LAST_COUNT ≡ min (a + rest) LAST_COUNT → min c LAST_COUNT ≡ min (a + all) LAST_COUNT
     added_up a b c f rest all whole now before = omega arith
 
-at_seam : {X : Type 0} (xs : List X) (x : X) (ys : List X) → slice_get (xs ++ x ∷ ys) (length xs) ≡ Some x
-at_seam [] x ys = refl
-at_seam (z ∷ xs) x ys = at_seam xs x ys
-
--- the last of a beginning was popped
-pub popped : {X : Type 0} (initial old new : List X) (end : X) → old ≡ take (length old) initial → old ≡ new ++ end ∷ []
-    → (new ≡ take (length new) initial) × (slice_get initial (length new) ≡ Some end) × (length old ≡ length new + 1)
-popped initial old new end begins last =
-    let rest = drop (length old) initial in
-    let whole : initial ≡ new ++ end ∷ rest =
-    sym (take-append-drop (length old) initial) ∙ ap (λ t. t ++ rest) (sym begins ∙ last) ∙ append_assoc new (end ∷ []) rest in (
-      sym (ap (take (length new)) whole ∙ take_at new (end ∷ rest) (length new) refl),
-      ap (λ l. slice_get l (length new)) whole ∙ at_seam new end rest,
-      ap length last ∙ length_push new end,
-    )
-
 pub still_out : (first : ℕ) (ends : List EndFacts) (n j port : ℕ) (a b : Option Ports) → OnPorts (Releasing first ends n) a b → j < n → port ≡ first + j
     → IfSome b (λ all. all port ≡ out)
 still_out first ends n j port None b p lt is = subst (λ (o : Option Ports). IfSome o (λ all. all port ≡ out)) (sym p) tt
@@ -208,9 +192,3 @@ pub tells_at : (ends : List EndFacts) (j : ℕ) (end : EndFacts) (a : Option Por
     → IfSome a (λ _. is_some end.traffic ≡ true)
 tells_at ends j end None h is = tt
 tells_at ends j end (Some x) h is = h j end is
-
-pub from_map : {X Y : Type 0} (f : X → Y) (xs : List X) (i : ℕ) (y : Y) → slice_get (map f xs) i ≡ Some y → (x : X) × (slice_get xs i ≡ Some x) × (f x ≡ y)
-from_map f [] zero y is = absurd (cc)
-from_map f [] (suc i) y is = absurd (cc)
-from_map f (x ∷ xs) zero y is = (x, refl, cc)
-from_map f (x ∷ xs) (suc i) y is = from_map f xs i y is

@@ -4,11 +4,13 @@ use Rattle.std.specs.Prelude.{is_some, false, IfOk, OnOk, IsErrOf, Result, Ok, E
 use Rattle.std.proofs.lemmas.Bool.{true≢false}
 use Rattle.mica_io.specs.Faults.{Rose}
 use Rattle.mica_io.specs.Traffic.{Traffic}
-use Rattle.mica_model.specs.declared.options.Options.{Options}
-use Rattle.mica_serve.specs.declared.ports.Totals.{Totals}
-use Rattle.mica_serve.specs.declared.ports.ServeFault.{ServeFault}
-use Rattle.mica_serve.specs.declared.ports.ServeFault.TheVariants.{Net, NoMemory}
-use Rattle.mica_serve.specs.Ends.{EndFacts, OnTraffic, ServesEnd, LeavesEnd, WantsAtEnd, KeepsEnd, IsUpTo}
+use Rattle.partition_model.specs.declared.options.Options.{Options}
+use Rattle.mica_fronts.specs.declared.totals.Totals.{Totals}
+use Rattle.mica_fronts.specs.declared.totals.ServeFault.{ServeFault}
+use Rattle.mica_fronts.specs.declared.totals.ServeFault.TheVariants.{Net, NoMemory}
+use Rattle.mica_serve.specs.Ends.{EndFacts, KeepsEnd}
+use Rattle.mica_fronts.specs.OneEnd.{OnTraffic, ServesEnd, LeavesEnd, WantsAtEnd}
+use Rattle.mica_fronts.specs.Totals.{IsUpTo}
 use Rattle.mica_serve.specs.FrontRuns.{FrontRun, MeansForFront, RunsFront}
 
 pub runs_front : (options : Options) (batches : ℕ) (run : FrontRun) (b a : EndFacts) → KeepsEnd b a

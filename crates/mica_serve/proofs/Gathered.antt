@@ -7,18 +7,22 @@ use Rattle.std.proofs.Math.Nat.{min-le_left}
 use Rattle.std.proofs.lemmas.List.Sums.{sum_by-cons}
 use Rattle.std.proofs.lemmas.Bool.{true≢false, cases_lt, lt-ltb}
 use Rattle.std.proofs.lemmas.Option.{slice_get_within, slice_get-map, same_Some}
+use Rattle.list_laws.proofs.Places.{element_at}
 use Rattle.mica_io.specs.Traffic.{Datagram, Traffic}
-use Rattle.mica_model.specs.declared.options.Options.{Options}
+use Rattle.partition_model.specs.declared.options.Options.{Options}
 use Rattle.partition_table.specs.declared.tables.Entry.{Entry}
-use Rattle.mica_serve.specs.declared.ports.Totals.{Totals}
-use Rattle.mica_serve.specs.declared.ports.ServeFault.{ServeFault}
-use Rattle.mica_serve.specs.declared.ports.ServeFault.TheVariants.{Net, NoMemory}
-use Rattle.mica_serve.specs.Turn.{gets_of}
-use Rattle.mica_serve.specs.Dealing.{Dealing, turns_in}
-use Rattle.mica_serve.specs.Session.{Sessions, AnswersInOrder, count_of_writes}
-use Rattle.mica_serve.specs.Served.{IsThrough, Counts, has_no_turns}
+use Rattle.mica_fronts.specs.declared.totals.Totals.{Totals}
+use Rattle.mica_fronts.specs.declared.totals.ServeFault.{ServeFault}
+use Rattle.mica_fronts.specs.declared.totals.ServeFault.TheVariants.{Net, NoMemory}
+use Rattle.mica_fronts.specs.Turn.{gets_of}
+use Rattle.mica_fronts.specs.Dealing.{Dealing, turns_in}
+use Rattle.mica_fronts.specs.Session.{Sessions, AnswersInOrder, count_of_writes}
+use Rattle.mica_serve.specs.Served.{IsThrough}
+use Rattle.mica_fronts.specs.Totals.{Counts, has_no_turns}
 use Rattle.mica_serve.specs.Beside.{AnsweredBeside}
-use Rattle.mica_serve.specs.Ends.{OnTraffic, EndFacts, KeepsEnd, TellAll, DealsWithEnd, DealsInPartWithEnd, MayStopAtEnd, StopsBeside, MeansForEnds, ServesAll, ServesFronts, ServesEnd, BeginsEnd, IsUpTo}
+use Rattle.mica_fronts.specs.OneEnd.{OnTraffic, ServesEnd, BeginsEnd}
+use Rattle.mica_serve.specs.Ends.{EndFacts, KeepsEnd, TellAll, DealsWithEnd, DealsInPartWithEnd, MayStopAtEnd, StopsBeside, MeansForEnds, ServesAll, ServesFronts}
+use Rattle.mica_fronts.specs.Totals.{IsUpTo}
 use Rattle.mica_serve.specs.FrontRuns.{FrontRun, MeansForFront, RunsFront, RunFronts, AreTakenIn, closed_in, RanAll, sum_of_totals, SumsUp}
 use Rattle.mica_serve.proofs.ServedBeside.{closed_gets}
 
@@ -31,11 +35,6 @@ told_of : (P : Traffic → Traffic → Type 0) (before after : Option Traffic) �
 told_of P None after never h = absurd (true≢false (sym never))
 told_of P (Some had) None tells h = absurd h
 told_of P (Some had) (Some has) tells h = (had, has, refl, refl, h)
-
-pub some_at : {X : Type 0} (xs : List X) (i : ℕ) → i < length xs → (x : X) × (slice_get xs i ≡ Some x)
-some_at [] i lt = absurd (omega arith)
-some_at (x ∷ xs) zero lt = (x, refl)
-some_at (x ∷ xs) (suc i) lt = some_at xs i (omega arith)
 
 abbrev as_ok : Totals → Result Totals ServeFault
 as_ok totals = Ok totals
@@ -211,7 +210,7 @@ module _ (options : Options) (batches : ℕ) where
       answered : (taken : AreTakenIn options rs kept) (b : Built rs totals olds news) (f : ℕ) (d : List Dealing) → slice_get b.fronts f ≡ Some d
           → (old : Sessions) × (new : Sessions) × AnsweredBeside options taken.runs f (turns_in d) old new
       answered taken b f d is =
-          let r = some_at rs f (omega (arith, slice_get_within b.fronts f d is, b.many)) in
+          let r = element_at rs f (omega (arith, slice_get_within b.fronts f d is, b.many)) in
           (r.0.old, r.0.new, one taken b f r.0 d r.1 is)
 
   answer_at : (rs : List FrontRun) (f : ℕ) (answer : Result Totals ServeFault) → slice_get (map (λ (r : FrontRun). r.answer) rs) f ≡ Some answer
@@ -298,9 +297,9 @@ module _ (options : Options) (batches : ℕ) where
     where
       all : (ds : List (List Dealing)) × (length ds ≡ length olds) × ((f : ℕ) (d : List Dealing) → slice_get ds f ≡ Some d → StoppedAt rs olds news f d)
       all = chosen (StoppedAt rs olds news) (length olds) (λ f lt.
-          let r = some_at rs f (omega (arith, lt, run.many_before)) in
-          let b = some_at olds f lt in
-          let a = some_at news f (omega (arith, lt, run.many_before, run.many_after)) in
+          let r = element_at rs f (omega (arith, lt, run.many_before)) in
+          let b = element_at olds f lt in
+          let a = element_at news f (omega (arith, lt, run.many_before, run.many_after)) in
           let s = stopped r.0 b.0 a.0 r.0.answer (other f r.0 r.1) (run.each f r.0 b.0 a.0 r.1 b.1 a.1).means (tell f b.0 b.1) in
           (s.0, record { run = r.0; before = b.0; after = a.0; ran = r.1; was = b.1; is = a.1; stopped = s.1 }))
 
@@ -309,10 +308,10 @@ module _ (options : Options) (batches : ℕ) where
   gathered some rs kept olds news run answer sums keeps = record {
     many = run.many_after ∙ sym run.many_before;
     keeps = λ i b a is is'.
-        let r = some_at rs i (omega (arith, slice_get_within olds i b is, run.many_before)) in
+        let r = element_at rs i (omega (arith, slice_get_within olds i b is, run.many_before)) in
         (run.each i r.0 b a r.1 is is').keeps;
     begun = λ tell i b a is is'.
-        let r = some_at rs i (omega (arith, slice_get_within olds i b is, run.many_before)) in
+        let r = element_at rs i (omega (arith, slice_get_within olds i b is, run.many_before)) in
         in_part r.0 b a r.0.answer (run.each i r.0 b a r.1 is is').means (tell i b is);
     means = means answer sums keeps;
   }
@@ -321,8 +320,8 @@ module _ (options : Options) (batches : ℕ) where
       means (Ok totals) sums taken = (
         taken.shapes,
         λ i b a is is' scripted.
-            let r = some_at rs i (omega (arith, slice_get_within olds i b is, run.many_before)) in
-            let t = some_at sums.0 i (omega (arith, slice_get_within olds i b is, run.many_before, ap length sums.1, length-map rs (λ (r : FrontRun). r.answer), length-map {B = Result Totals ServeFault} sums.0 (λ (t : Totals). Ok t))) in
+            let r = element_at rs i (omega (arith, slice_get_within olds i b is, run.many_before)) in
+            let t = element_at sums.0 i (omega (arith, slice_get_within olds i b is, run.many_before, ap length sums.1, length-map rs (λ (r : FrontRun). r.answer), length-map {B = Result Totals ServeFault} sums.0 (λ (t : Totals). Ok t))) in
             let at : slice_get (map (λ (r : FrontRun). r.answer) rs) i ≡ Some r.0.answer = slice_get-map (λ (r : FrontRun). r.answer) rs i ∙ ap (option_map (λ (r : FrontRun). r.answer)) r.1 in
             let at' : slice_get (map as_ok sums.0) i ≡ Some (as_ok t.0) = slice_get-map as_ok sums.0 i ∙ ap (option_map as_ok) t.1 in
             let both = ap (λ (l : List (Result Totals ServeFault)). slice_get l i) sums.1 in
@@ -333,8 +332,8 @@ module _ (options : Options) (batches : ℕ) where
       )
       means (Err Net) sums none =
           let r = answer_at rs sums.0 (Err Net) sums.1 in
-          let b = some_at olds sums.0 (omega (arith, slice_get_within rs sums.0 r.0 r.1, run.many_before)) in
-          let a = some_at news sums.0 (omega (arith, slice_get_within rs sums.0 r.0 r.1, run.many_after)) in
+          let b = element_at olds sums.0 (omega (arith, slice_get_within rs sums.0 r.0 r.1, run.many_before)) in
+          let a = element_at news sums.0 (omega (arith, slice_get_within rs sums.0 r.0 r.1, run.many_after)) in
           let m = subst (λ x. MeansForFront x options batches r.0 b.0 a.0) r.2 (run.each sums.0 r.0 b.0 a.0 r.1 b.1 a.1).means in (
             none.0,
             record {
@@ -375,7 +374,7 @@ module _ (options : Options) (batches : ℕ) where
       → (f : ℕ) (totals : Totals) → slice_get answers f ≡ Some (Ok totals) → IsUpTo 1000000 totals
   small_answers left answers olds news ran few f totals is =
       let r = answer_at ran.fronts f (Ok totals) (ap (λ l. slice_get l f) (sym ran.answers_are) ∙ is) in
-      let b = some_at olds f (omega (arith, slice_get_within ran.fronts f r.0 r.1, ran.run.many_before)) in
-      let a = some_at news f (omega (arith, slice_get_within ran.fronts f r.0 r.1, ran.run.many_after)) in
+      let b = element_at olds f (omega (arith, slice_get_within ran.fronts f r.0 r.1, ran.run.many_before)) in
+      let a = element_at news f (omega (arith, slice_get_within ran.fronts f r.0 r.1, ran.run.many_after)) in
       let up = (subst (λ x. MeansForFront x options batches r.0 b.0 a.0) r.2 (ran.run.each f r.0 b.0 a.0 r.1 b.1 a.1).means).0 in
       record { datagrams = omega (arith, up.datagrams, few); requests = omega (arith, up.requests, few); refused = omega (arith, up.refused, few) }

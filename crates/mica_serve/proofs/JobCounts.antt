@@ -5,16 +5,16 @@ use Rattle.std.specs.List.{cons_option, filter}
 use Rattle.std.proofs.lemmas.List.{take_all}
 use Rattle.std.proofs.lemmas.List.Sums.{sum_by_more}
 use Rattle.std.proofs.lemmas.Option.{get_or_from_slice_get}
-use Rattle.mica_model.specs.Run.{RunStep}
+use Rattle.list_laws.proofs.Places.{element_at}
+use Rattle.partition_model.specs.Run.{RunStep}
 use Rattle.owner_queue.specs.declared.message.Job.{Job}
 use Rattle.owner_queue.specs.declared.message.Message.{Message}
 use Rattle.owner_queue.specs.declared.message.Message.TheVariants as message
 use Rattle.owner_queue.specs.Messages.{sent_by}
-use Rattle.mica_serve.specs.Session.{Acknowledged}
-use Rattle.mica_serve.specs.Served.{steps_by}
-use Rattle.mica_serve.specs.OwnerWork.{DoneJob, jobs_in, job_of, placed_in, answers_to}
+use Rattle.mica_fronts.specs.Session.{Acknowledged}
+use Rattle.mica_fronts.specs.Placed.{steps_by}
+use Rattle.mica_fronts.specs.OwnerWork.{DoneJob, jobs_in, job_of, placed_in, answers_to}
 use Rattle.mica_serve.specs.Beside.{total_below}
-use Rattle.mica_serve.proofs.Gathered.{some_at}
 
 -- the steps of a front are those of its answers
 pub steps_answered : (f : ℕ) (done : List DoneJob) → steps_by f (placed_in done) ≡ map (λ (a : Acknowledged). a.step) (answers_to f done)
@@ -82,7 +82,7 @@ total_few g h xs le = subst (λ (l : List _). total_below (length xs) g ≤ sum_
     upto zero low = omega arith
     upto (suc n) low =
         let rest = upto n (omega arith) in
-        let x = some_at xs n (omega arith) in
+        let x = element_at xs n (omega arith) in
         let one = le n x.0 x.1 in
         let more = sum_by_more h xs n x.0 (omega arith) in
         let same = ap h (get_or_from_slice_get xs n x.0 x.0 x.1) in

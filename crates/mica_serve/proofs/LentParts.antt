@@ -6,8 +6,9 @@ use Rattle.std.proofs.lemmas.Bool.{cases_lt}
 use Rattle.std.proofs.lemmas.List.{length-set, length_push}
 use Rattle.std.proofs.lemmas.List.Elements.{All-from_recursion}
 use Rattle.std.proofs.lemmas.Option.{slice_get_within, same_Some}
+use Rattle.list_laws.proofs.Places.{at_last, element_at, set_cases}
 use Rattle.atomic_table.specs.Seated.{TableId}
-use Rattle.mica_model.specs.declared.options.Options.{Options}
+use Rattle.partition_model.specs.declared.options.Options.{Options}
 use Rattle.epoch_core.specs.declared.state.OwnerState.{OwnerState}
 use Rattle.epoch_core.specs.declared.reader.ReaderState.{ReaderState}
 use Rattle.epoch_core.specs.Shape.{shape_of}
@@ -15,22 +16,16 @@ use Rattle.epoch_core.specs.Joins.{lent}
 use Rattle.partition_table.specs.Seats.{reader_state, reader_home}
 use Rattle.owner_queue.specs.JobEnds.{Outbox, outbox, Inbox}
 use Rattle.owner_queue.specs.AckEnds.{AckBox, ack_box}
-use Rattle.owner_queue.proofs.Lists.{set_cases}
-use Rattle.mica_serve.specs.declared.queue_front.FrontPart.{FrontPart}
-use Rattle.mica_serve.specs.QueueFront.{IsNewPart}
+use Rattle.mica_fronts.specs.declared.queue_front.FrontPart.{FrontPart}
+use Rattle.mica_fronts.specs.QueueFront.{IsNewPart}
 use Rattle.mica_serve.specs.Hands.{OwnerEnd, IsNewOwner, IsLentBy, AreLent, LendsOneMore}
 use Rattle.mica_serve.proofs.Binding.{at_snoc}
-use Rattle.mica_serve.proofs.Gathered.{some_at}
 
 get_left : {X : Type 0} (xs : List X) (y x : X) (i : ℕ) → slice_get xs i ≡ Some x → slice_get (xs ++ y ∷ []) i ≡ Some x
 get_left [] y x zero is = absurd (cc)
 get_left [] y x (suc i) is = absurd (cc)
 get_left (z ∷ xs) y x zero is = is
 get_left (z ∷ xs) y x (suc i) is = get_left xs y x i is
-
-get_last : {X : Type 0} (xs : List X) (y : X) → slice_get (xs ++ y ∷ []) (length xs) ≡ Some y
-get_last [] y = refl
-get_last (z ∷ xs) y = get_last xs y
 
 abbrev owner_with : OwnerState → TableId → Inbox → List AckBox → OwnerEnd
 owner_with state table jobs acks = record { state = state; table = table; jobs = jobs; acks = acks }
@@ -75,7 +70,7 @@ module _ (most : ℕ) (state : OwnerState) (table : TableId) (jobs : Inbox) wher
                   table = home;
                   jobs = sends;
                   acks = answers;
-                  answers = subst (λ (n : ℕ). slice_get (acks ++ part.acks ∷ []) n ≡ Some part.acks) so_far.acks_many (get_last acks part.acks);
+                  answers = subst (λ (n : ℕ). slice_get (acks ++ part.acks ∷ []) n ≡ Some part.acks) so_far.acks_many (at_last acks part.acks);
                 }),
               )
           | inr other ↦
@@ -122,11 +117,11 @@ hands_more options fronts most owners owner hands after so_far one = record {
         | inr h ↦ subst (λ (x : OwnerEnd). IsNewOwner options fronts most x) h.1 (subst (λ (n : ℕ). IsNewOwner options n most owner) so_far.many one.made)
       ];
   each_many = λ f own is.
-      let old = some_at hands f (omega (arith, slice_get_within after f own is, one.many)) in
+      let old = element_at hands f (omega (arith, slice_get_within after f own is, one.many)) in
       let l = one.each f old.0 own old.1 is in
       ap length l.1 ∙ length_push old.0 l.0 ∙ ap (λ n. n + 1) (so_far.each_many f old.0 old.1) ∙ sym (length_push owners owner);
   each = λ f p own part o is part_at o_at.
-      let old = some_at hands f (omega (arith, slice_get_within after f own is, one.many)) in
+      let old = element_at hands f (omega (arith, slice_get_within after f own is, one.many)) in
       let l = one.each f old.0 own old.1 is in
       let at : slice_get (old.0 ++ l.0 ∷ []) p ≡ Some part = ap (λ (x : List FrontPart). slice_get x p) (sym l.1) ∙ part_at in
       by f p part o old.0 old.1 l.0 l.2 (at_snoc old.0 l.0 p part at) (at_snoc owners owner p o o_at);

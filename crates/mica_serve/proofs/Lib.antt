@@ -1,14 +1,6 @@
-pub mod InOrder
-pub mod Statuses
-pub mod Replying
-pub mod Alone
 pub mod Fronts
-pub mod Through
-pub mod Cut
-pub mod SoloSteps
-pub mod OneEnd
+pub mod CutShort
 pub mod Opened
-pub mod Serving
 pub mod Binding
 pub mod Among
 pub mod Beside
@@ -18,9 +10,6 @@ pub mod Gathered
 pub mod SumsUp
 pub mod Whole
 pub mod Tabled
-pub mod Telling
-pub mod OwnerSteps
-pub mod QueueSteps
 pub mod JobCounts
 pub mod TakenIn
 pub mod LentParts

@@ -5,13 +5,12 @@ use Rattle.std.proofs.lemmas.Bool.{cases_lt}
 use Rattle.std.proofs.lemmas.List.{length-set, length_push, take_all, take-append-le}
 use Rattle.std.proofs.lemmas.List.Sums.{sum_by-cons}
 use Rattle.std.proofs.lemmas.Option.{slice_get_within, same_Some}
+use Rattle.list_laws.proofs.Places.{element_at, set_cases}
 use Rattle.partition_table.specs.Seats.{reader_state}
-use Rattle.mica_model.specs.History.{History, IsPrefix}
+use Rattle.partition_model.specs.History.{History, IsPrefix}
 use Rattle.owner_queue.specs.Messages.{sent_by, has_end}
-use Rattle.mica_serve.specs.declared.queue_front.FrontPart.{FrontPart}
+use Rattle.mica_fronts.specs.declared.queue_front.FrontPart.{FrontPart}
 use Rattle.mica_serve.specs.Hands.{OwnerEnd, MayMeet, HasMet, MeetsPart, MayMeetHand, MeetsHand, MayMeetAll, HaveMetAll, closed_by, closed_at}
-use Rattle.owner_queue.proofs.Lists.{set_cases}
-use Rattle.mica_serve.proofs.Gathered.{some_at}
 
 -- the owners from a place on took in their parts, and those before it are as they were
 pub record PartsMetFrom (from : ℕ) (parts : List FrontPart) (olds news : List OwnerEnd) : Type 0 where
@@ -57,7 +56,7 @@ parts_all parts olds news met = record { many = met.many; each = λ p part old n
 pub part_may : (from : ℕ) (parts : List FrontPart) (olds mids : List OwnerEnd) (part : FrontPart) (mid : OwnerEnd) → MayMeetHand olds parts → PartsMetFrom (from + 1) parts olds mids
     → slice_get parts from ≡ Some part → slice_get mids from ≡ Some mid → (f : ℕ) × (length mid.acks ≡ f + 1) × MayMeet f mid part
 part_may from parts olds mids part mid may so_far is at =
-    let old = some_at olds from (omega (arith, slice_get_within mids from mid at, so_far.many)) in
+    let old = element_at olds from (omega (arith, slice_get_within mids from mid at, so_far.many)) in
     let same : mid ≡ old.0 = so_far.before from old.0 mid (omega arith) old.1 at in
     subst (λ (x : OwnerEnd). (f : ℕ) × (length x.acks ≡ f + 1) × MayMeet f x part) (sym same) (may.front, may.last from old.0 old.1, may.each from part old.0 is old.1)
 
@@ -130,10 +129,10 @@ module _ (k : ℕ) (hands : List (List FrontPart)) (olds mids : List OwnerEnd) (
     many = may.many k own is ∙ sym so_far.many;
     front = k;
     last = λ p mid at.
-        let old = some_at olds p (omega (arith, slice_get_within mids p mid at, so_far.many)) in
+        let old = element_at olds p (omega (arith, slice_get_within mids p mid at, so_far.many)) in
         ap length (so_far.acks p old.0 mid old.1 at) ∙ take_long old.0.acks (k + 1) (omega (arith, may.fronts p old.0 old.1, slice_get_within hands k own is));
     each = λ p part mid part_at at.
-        let old = some_at olds p (omega (arith, slice_get_within mids p mid at, so_far.many)) in
+        let old = element_at olds p (omega (arith, slice_get_within mids p mid at, so_far.many)) in
         let m = may.each k p own part old.0 is part_at old.1 in
         let same = so_far.same p old.0 mid old.1 at in
         record {
@@ -150,8 +149,8 @@ module _ (k : ℕ) (hands : List (List FrontPart)) (olds mids : List OwnerEnd) (
     many = meets.many ∙ so_far.many;
     met = λ f p h part old low at part_at old_at. by f p h part old at part_at old_at (cases_lt k f) low;
     same = λ p old new old_at new_at.
-        let mid = some_at mids p (omega (arith, slice_get_within news p new new_at, meets.many)) in
-        let part = some_at own p (omega (arith, slice_get_within news p new new_at, meets.many, so_far.many, may.many k own is)) in
+        let mid = element_at mids p (omega (arith, slice_get_within news p new new_at, meets.many)) in
+        let part = element_at own p (omega (arith, slice_get_within news p new new_at, meets.many, so_far.many, may.many k own is)) in
         let m = meets.each p part.0 mid.0 new part.1 mid.1 new_at in
         let same = so_far.same p old mid.0 old_at mid.1 in
         let closed : mid.0.state.closed + (reader_state part.0.seat).closed ≡ old.state.closed + sum_by (closed_at p) (drop k hands) =
@@ -170,8 +169,8 @@ module _ (k : ℕ) (hands : List (List FrontPart)) (olds mids : List OwnerEnd) (
           acks = new.acks;
         });
     acks = λ p old new old_at new_at.
-        let mid = some_at mids p (omega (arith, slice_get_within news p new new_at, meets.many)) in
-        let part = some_at own p (omega (arith, slice_get_within news p new new_at, meets.many, so_far.many, may.many k own is)) in
+        let mid = element_at mids p (omega (arith, slice_get_within news p new new_at, meets.many)) in
+        let part = element_at own p (omega (arith, slice_get_within news p new new_at, meets.many, so_far.many, may.many k own is)) in
         let m = meets.each p part.0 mid.0 new part.1 mid.1 new_at in
         take_less old.acks new.acks m.answers k (sym (so_far.acks p old mid.0 old_at mid.1) ∙ m.acks) (new_long p old mid.0 new m old_at mid.1);
   }
@@ -190,8 +189,8 @@ module _ (k : ℕ) (hands : List (List FrontPart)) (olds mids : List OwnerEnd) (
           let number : f ≡ k = omega arith in
           let hand : h ≡ own = same_Some _ _ (sym at ∙ ap (slice_get hands) number ∙ is) in
           let part_here : slice_get own p ≡ Some part = ap (λ l. slice_get l p) (sym hand) ∙ part_at in
-          let mid = some_at mids p (omega (arith, slice_get_within olds p old old_at, so_far.many)) in
-          let new = some_at news p (omega (arith, slice_get_within olds p old old_at, so_far.many, meets.many)) in
+          let mid = element_at mids p (omega (arith, slice_get_within olds p old old_at, so_far.many)) in
+          let new = element_at news p (omega (arith, slice_get_within olds p old old_at, so_far.many, meets.many)) in
           let m = meets.each p part mid.0 new.0 part_here mid.1 new.1 in
           let same = so_far.same p old mid.0 old_at mid.1 in
           let last : length new.0.acks ≡ f = new_long p old mid.0 new.0 m old_at mid.1 ∙ sym number in
@@ -213,7 +212,3 @@ fronts_all owners after hands met = record {
 pub last_of : {X : Type 0} (xs : List X) → 0 < length xs → (n : ℕ) × (length xs ≡ n + 1)
 last_of [] some = absurd (omega arith)
 last_of (x ∷ xs) some = (length xs, omega arith)
-
-pub get_last : {X : Type 0} (xs : List X) (x : X) → slice_get (xs ++ x ∷ []) (length xs) ≡ Some x
-get_last [] x = refl
-get_last (y ∷ xs) x = get_last xs x

@@ -3,15 +3,16 @@ use Rattle.std.proofs.Common.{◌≡◌, ℕ, suc, ◌+◌, ◌<◌, inl, inr, L
 use Rattle.std.proofs.lemmas.List.{length-map, map_push, map-set}
 use Rattle.std.proofs.lemmas.Option.{slice_get_within, slice_get-map, same_Some}
 use Rattle.std.specs.Prelude.{option_map}
-use Rattle.mica_model.specs.declared.options.Options.{Options}
+use Rattle.list_laws.proofs.Places.{at_seam}
+use Rattle.partition_model.specs.declared.options.Options.{Options}
 use Rattle.epoch_core.specs.declared.state.OwnerState.{OwnerState}
 use Rattle.epoch_core.specs.Joins.{lent}
 use Rattle.epoch_core.specs.Shape.{shape_of}
 use Rattle.epoch_core.specs.OwnerState.{as_made}
 use Rattle.owner_queue.specs.JobEnds.{Outbox, outbox, Inbox, inbox}
 use Rattle.owner_queue.specs.AckEnds.{AckBox, ack_box}
-use Rattle.mica_serve.specs.declared.queue_front.FrontPart.{FrontPart}
-use Rattle.mica_serve.specs.QueueFront.{QueueView, IsNewPart, queue_view}
+use Rattle.mica_fronts.specs.declared.queue_front.FrontPart.{FrontPart}
+use Rattle.mica_fronts.specs.QueueFront.{QueueView, IsNewPart, queue_view}
 use Rattle.mica_serve.specs.Hands.{OwnerEnd, IsLentBy, LendsPart, AreSendersOf, LendsEach, AreLent, LendsOneMore}
 use Rattle.mica_serve.proofs.Binding.{at_snoc}
 use Rattle.mica_serve.proofs.LentParts.{LendsTo, lends_none, lends_one, hands_more, new_parts}
@@ -131,15 +132,11 @@ module _ (options : Options) (fronts most : ℕ) where
       subst (λ (l : List OwnerEnd). AreLent options fronts most l hands') (sym (ap (map f) is ∙ map_push f owners new))
       (hands_more options fronts most (map f owners) (f new) hands hands' lent more)
 
-  get_mid : {X : Type 0} (xs : List X) (y : X) (zs : List X) → slice_get (xs ++ y ∷ zs) (length xs) ≡ Some y
-  get_mid [] y zs = refl
-  get_mid (x ∷ xs) y zs = get_mid xs y zs
-
   module _ (owners : List OwnerEnd) (made : List QueueView) (n : ℕ) (number : n ≡ length made) where
     module _ (hands : List (List FrontPart)) (own : List FrontPart) (more : List (List FrontPart)) (head : hands ≡ own ∷ more) (lent : AreLent options fronts most owners (parts_of made ++ hands)) where
       here : slice_get (parts_of made ++ hands) n ≡ Some own
       here = ap (λ (h : List (List FrontPart)). slice_get (parts_of made ++ h) n) head ∙ ap (slice_get (parts_of made ++ own ∷ more)) (number ∙ sym (length-map made (λ (front : QueueView). front.parts)))
-          ∙ get_mid (parts_of made) own more
+          ∙ at_seam (parts_of made) own more
 
       pub next_long : length own ≡ length owners
       next_long = lent.each_many n own here

@@ -4,9 +4,9 @@ use Rattle.std.specs.Prelude.{is_some, ◌&&◌}
 use Rattle.std.specs.List.{filter}
 use Rattle.std.proofs.lemmas.Bool.{eq-eqb, ne_eqb, cases_lt}
 use Rattle.mica_words.proofs.Hashes.{partition_of-below}
-use Rattle.mica_model.specs.declared.options.Options.{Options}
-use Rattle.mica_serve.specs.Turn.{Turn, write_in, partition_in, writes_of}
-use Rattle.mica_serve.specs.Session.{count_of_writes}
+use Rattle.partition_model.specs.declared.options.Options.{Options}
+use Rattle.mica_fronts.specs.Turn.{Turn, write_in, partition_in, writes_of}
+use Rattle.mica_fronts.specs.Session.{count_of_writes}
 use Rattle.mica_serve.specs.Beside.{total_below}
 
 pub total_add : (n : ℕ) (f g : ℕ → ℕ) → total_below n (λ p. f p + g p) ≡ total_below n f + total_below n g

@@ -1,13 +1,15 @@
 -- The workers of a server: that they may run and meet, and what they came to.
-use Rattle.std.proofs.Common.{◌≡◌, ℕ, suc, ◌*◌, ◌<◌, ◌≤◌, List, [], ◌∷◌, length, map, Some, refl, sym, ap, ◌∙◌, subst, slice_get, slice_index_or, arith, All}
-use Rattle.std.specs.List.{AllZip, AllByRecursion}
+use Rattle.std.proofs.Common.{◌≡◌, ℕ, ◌*◌, ◌≤◌, List, [], ◌∷◌, length, map, Some, sym, ap, ◌∙◌, subst, slice_get, arith, All}
+use Rattle.std.specs.List.{AllZip}
 use Rattle.std.proofs.lemmas.List.{length-map}
 use Rattle.std.proofs.lemmas.List.Elements.{All-from_recursion}
 use Rattle.std.proofs.lemmas.Simd.{map-map}
 use Rattle.std.proofs.lemmas.Slice.Zip.{AllZip-long}
 use Rattle.std.proofs.lemmas.Option.{slice_get_within}
+use Rattle.list_laws.proofs.Places.{at_map, element_at, from_map}
+use Rattle.list_laws.proofs.AllElements.{all_places, all_zipped}
 use Rattle.atomic_table.specs.Seated.{TableId}
-use Rattle.mica_model.specs.declared.options.Options.{Options}
+use Rattle.partition_model.specs.declared.options.Options.{Options}
 use Rattle.epoch_core.specs.declared.state.OwnerState.{OwnerState}
 use Rattle.epoch_core.specs.declared.state.Phase.TheVariants.{Idle}
 use Rattle.partition_table.specs.Tabled.{entry_in}
@@ -15,29 +17,16 @@ use Rattle.partition_table.specs.declared.tables.Entry.{Entry}
 use Rattle.owner_queue.specs.JobEnds.{Inbox}
 use Rattle.owner_queue.specs.AckEnds.{AckBox}
 use Rattle.mica_serve.specs.declared.ports.Ports.{Ports}
-use Rattle.mica_serve.specs.declared.queue_front.FrontPart.{FrontPart}
+use Rattle.mica_fronts.specs.declared.queue_front.FrontPart.{FrontPart}
 use Rattle.mica_serve.specs.declared.worker.OwnerTask.{OwnerTask}
 use Rattle.mica_serve.specs.declared.worker.FrontTask.{FrontTask}
 use Rattle.mica_serve.specs.Ends.{EndFacts, AreOpen}
 use Rattle.mica_serve.specs.FrontRuns.{RanAll}
 use Rattle.mica_serve.specs.Hands.{OwnerEnd, IsReadyOwner, IsNewOwner, AreFrontsOf, RanOwner, MayMeetAll, HaveMetAll}
-use Rattle.mica_serve.specs.OwnerWork.{IsNewAckBox}
-use Rattle.mica_serve.specs.QueueFront.{QueueView}
+use Rattle.mica_fronts.specs.OwnerWork.{IsNewAckBox}
+use Rattle.mica_fronts.specs.QueueFront.{QueueView}
 use Rattle.mica_serve.specs.Tasks.{owner_end, IsReadyTask, TaskRan, OwnersRan, IsReadyFront, FrontRan, FrontsRan}
-use Rattle.mica_serve.proofs.Gathered.{some_at}
-use Rattle.mica_serve.proofs.TakenIn.{HaveRan, owner_at, may_meet, ran_all, map_at, at_map}
-
--- what each place has, all have
-all_places : {X : Type 0} (Q : X → Type 0) (xs : List X) → ((i : ℕ) (x : X) → slice_get xs i ≡ Some x → Q x) → AllByRecursion Q xs
-all_places Q [] each = tt
-all_places Q (x ∷ xs) each = (each 0 x refl, all_places Q xs (λ i. each (suc i)))
-
--- what holds at each place, read with any element for the places outside, place by place
-zipped : {X : Type 0} (Q : X → X → Type 0) (xs ys : List X) → length ys ≡ length xs → ((i : ℕ) (d : X) → i < length xs → Q (slice_index_or xs i d) (slice_index_or ys i d)) → AllZip Q xs ys
-zipped Q [] [] many each = tt
-zipped Q [] (y ∷ ys) many each = absurd (omega arith)
-zipped Q (x ∷ xs) [] many each = absurd (omega arith)
-zipped Q (x ∷ xs) (y ∷ ys) many each = (each 0 x (omega arith), zipped Q xs ys (omega arith) (λ i d less. each (suc i) d (omega arith)))
+use Rattle.mica_serve.proofs.TakenIn.{HaveRan, owner_at, may_meet, ran_all}
 
 zip_maps : {X Y : Type 0} (Q : Y → Y → Type 0) (g : X → Y) (xs ys : List X) → AllZip (λ x y. Q (g x) (g y)) xs ys → AllZip Q (map g xs) (map g ys)
 zip_maps Q g [] [] z = tt
@@ -83,7 +72,7 @@ module _ {P D : Type 0} (owner : P → OwnerState) (home : P → TableId) (facts
         front_ready : Paired os views tasks ends → AreOpen (map facts ends) → (f : ℕ) (t : FrontTask D) → slice_get tasks f ≡ Some t → IsReadyFront ports.batches facts t
         front_ready paired opens f t at =
             let here : slice_get (map (λ (v : QueueView). Some v) views) f ≡ Some t.front = ap (λ l. slice_get l f) (sym paired.fronts) ∙ at_map (λ (t : FrontTask D). t.front) tasks f t at in
-            let v = map_at (λ (v : QueueView). Some v) views f t.front here in
+            let v = from_map (λ (v : QueueView). Some v) views f t.front here in
             let own : slice_get (map facts ends) f ≡ Some (facts t.end) =
             at_map facts ends f t.end (ap (λ l. slice_get l f) (sym paired.own_ends) ∙ at_map (λ (t : FrontTask D). t.end) tasks f t at) in
             let is = opens f (facts t.end) own in
@@ -95,8 +84,8 @@ module _ {P D : Type 0} (owner : P → OwnerState) (home : P → TableId) (facts
       all = record {
         some = r.paired.some;
         opened = r.paired.opened;
-        owners_ran = zip_maps RanOwner end_of_owner os owners (zipped (TaskRan owner home) os owners r.owners_ran.0 r.owners_ran.1);
-        fronts_ran = zipped (FrontRan ports.batches facts) tasks served r.fronts_ran.0 r.fronts_ran.1;
+        owners_ran = zip_maps RanOwner end_of_owner os owners (all_zipped (TaskRan owner home) os owners r.owners_ran.0 r.owners_ran.1);
+        fronts_ran = all_zipped (FrontRan ports.batches facts) tasks served r.fronts_ran.0 r.fronts_ran.1;
         views_are = r.paired.fronts;
       }
 
@@ -134,7 +123,7 @@ module _ {P D : Type 0} (owner : P → OwnerState) (home : P → TableId) (facts
         idle p task at =
             let one = length-map after end_of_owner in
             let two = length-map owners end_of_owner in
-            let now = some_at (map end_of_owner owners) p (omega (arith, slice_get_within after p task at, met.many)) in
+            let now = element_at (map end_of_owner owners) p (omega (arith, slice_get_within after p task at, met.many)) in
             let z = owner_at all p now.0 now.1 in
             let same = met.same p now.0 (end_of_owner task) now.1 (at_map end_of_owner after p task at) in
             ap (λ (o : OwnerEnd). o.state.phase) same ∙ ap (λ (s : OwnerState). s.phase) z.ran.served.gained ∙ ap (λ (s : OwnerState). s.phase) z.new.state

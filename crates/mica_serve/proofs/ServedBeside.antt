@@ -4,12 +4,13 @@ use Rattle.std.specs.List.{AllZip, All}
 use Rattle.std.proofs.lemmas.List.{append-nil, length-map}
 use Rattle.std.proofs.lemmas.Option.{slice_get-map}
 use Rattle.std.specs.Prelude.{option_map}
-use Rattle.mica_model.specs.declared.options.Options.{Options}
-use Rattle.mica_model.specs.Run.{RunStep}
-use Rattle.mica_serve.specs.Turn.{Turn, writes_of, gets_of}
-use Rattle.mica_serve.specs.Dealing.{Dealing, turns_in}
-use Rattle.mica_serve.specs.Session.{Acknowledged, Told, Sessions}
-use Rattle.mica_serve.specs.Served.{Placed, ServesGet, IsGetAt, RepliesStep, AnswersLawfully, steps_by, history_in}
+use Rattle.partition_model.specs.declared.options.Options.{Options}
+use Rattle.partition_model.specs.Run.{RunStep}
+use Rattle.mica_fronts.specs.Turn.{Turn, writes_of, gets_of}
+use Rattle.mica_fronts.specs.Dealing.{Dealing, turns_in}
+use Rattle.mica_fronts.specs.Session.{Acknowledged, Told, Sessions}
+use Rattle.mica_fronts.specs.Placed.{Placed, steps_by, history_in}
+use Rattle.mica_serve.specs.Served.{ServesGet, IsGetAt, RepliesStep, AnswersLawfully}
 use Rattle.mica_serve.specs.Beside.{closed_of, AnsweredBeside, RunsPartitions}
 use Rattle.mica_serve.proofs.Fronts.{order_of}
 use Rattle.mica_serve.proofs.Among.{StandAmong, stand_few, stand_all, stand_append}

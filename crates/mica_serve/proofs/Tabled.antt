@@ -1,10 +1,10 @@
 -- A server with its tables is one that served.
 use Rattle.std.proofs.Common.{Option, Some, None, List}
 use Rattle.mica_io.specs.Ports.{Ports}
-use Rattle.mica_model.specs.declared.options.Options.{Options}
+use Rattle.partition_model.specs.declared.options.Options.{Options}
 use Rattle.partition_table.specs.declared.tables.Entry.{Entry}
 use Rattle.mica_serve.specs.declared.ports.Ports.{Ports as PortOptions}
-use Rattle.mica_serve.specs.declared.ports.Totals.{Totals}
+use Rattle.mica_fronts.specs.declared.totals.Totals.{Totals}
 use Rattle.mica_serve.specs.Served.{Serves}
 use Rattle.mica_serve.specs.Beside.{ServesOnTables}
 use Rattle.mica_serve.specs.NetRun.{NetFacts, OnPorts, HasServed, HasServedOnTables}

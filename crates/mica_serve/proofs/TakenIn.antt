@@ -8,9 +8,11 @@ use Rattle.std.proofs.lemmas.Simd.{map-map}
 use Rattle.std.proofs.lemmas.List.Elements.{All-from_recursion, recursion_from_All}
 use Rattle.std.proofs.lemmas.Slice.Zip.{AllZip-long}
 use Rattle.std.proofs.lemmas.Option.{slice_get-map, slice_get_within, same_Some}
-use Rattle.mica_model.specs.declared.options.Options.{Options}
-use Rattle.mica_model.specs.History.{History, IsPrefix, stamp_in}
-use Rattle.mica_model.specs.Run.{RunStep, IsRun, IsRunFrom, history_of}
+use Rattle.list_laws.proofs.AllElements.{all_at}
+use Rattle.list_laws.proofs.Places.{at_map, from_map, element_at}
+use Rattle.partition_model.specs.declared.options.Options.{Options}
+use Rattle.partition_model.specs.History.{History, IsPrefix, stamp_in}
+use Rattle.partition_model.specs.Run.{RunStep, IsRun, IsRunFrom, history_of}
 use Rattle.epoch_core.specs.declared.state.OwnerState.{OwnerState}
 use Rattle.epoch_core.specs.Shape.{shape_of, options_of}
 use Rattle.epoch_core.specs.OwnerState.{options_in}
@@ -25,30 +27,18 @@ use Rattle.owner_queue.specs.declared.message.Job.{Job}
 use Rattle.owner_queue.specs.Messages.{sender_of}
 use Rattle.owner_queue.specs.JobEnds.{Outbox, Inbox}
 use Rattle.owner_queue.specs.AckEnds.{AckBox}
-use Rattle.owner_queue.proofs.Lists.{all_at}
-use Rattle.mica_serve.specs.declared.queue_front.FrontPart.{FrontPart}
+use Rattle.mica_fronts.specs.declared.queue_front.FrontPart.{FrontPart}
 use Rattle.mica_serve.specs.declared.worker.FrontTask.{FrontTask}
-use Rattle.mica_serve.specs.Session.{Acknowledged, Stand, Told, Session}
-use Rattle.mica_serve.specs.Served.{Placed, steps_in, steps_by, history_in}
+use Rattle.mica_fronts.specs.Session.{Acknowledged, Stand, Told, Session}
+use Rattle.mica_fronts.specs.Placed.{Placed, steps_in, steps_by, history_in}
 use Rattle.mica_serve.specs.Beside.{closed_of, total_below}
-use Rattle.mica_serve.specs.QueueFront.{QueueView, IsFrontPart, queue_view, stand_of, told_by, session_or_none, sessions_of, ended_part, acknowledged_by}
-use Rattle.mica_serve.specs.OwnerWork.{DoneJob, jobs_in, job_of, placed_in}
+use Rattle.mica_fronts.specs.QueueFront.{QueueView, IsFrontPart, queue_view, stand_of, told_by, session_or_none, sessions_of, ended_part, acknowledged_by}
+use Rattle.mica_fronts.specs.OwnerWork.{DoneJob, jobs_in, job_of, placed_in}
 use Rattle.mica_serve.specs.Ends.{EndFacts}
 use Rattle.mica_serve.specs.FrontRuns.{FrontRun, RunsFront, RunFronts, RanAll, IsTakenIn, AreTakenIn, closed_in}
 use Rattle.mica_serve.specs.Hands.{OwnerEnd, IsNewOwner, IsLentBy, AreFrontsOf, RanOwner, MayMeet, HasMet, MayMeetAll, HaveMetAll, closed_by, closed_at, met_after}
 use Rattle.mica_serve.specs.Tasks.{FrontRan}
-use Rattle.mica_serve.proofs.Gathered.{some_at}
 use Rattle.mica_serve.proofs.JobCounts.{steps_answered, few_answered, total_few}
-
--- what stands in a list at a place of its map
-pub map_at : {X Y : Type 0} (g : X → Y) (xs : List X) (i : ℕ) (y : Y) → slice_get (map g xs) i ≡ Some y → (x : X) × (slice_get xs i ≡ Some x) × (g x ≡ y)
-map_at g [] zero y is = absurd (cc)
-map_at g [] (suc i) y is = absurd (cc)
-map_at g (x ∷ xs) zero y is = (x, refl, cc)
-map_at g (x ∷ xs) (suc i) y is = map_at g xs i y is
-
-pub at_map : {X Y : Type 0} (g : X → Y) (xs : List X) (i : ℕ) (x : X) → slice_get xs i ≡ Some x → slice_get (map g xs) i ≡ Some (g x)
-at_map g xs i x is = slice_get-map g xs i ∙ ap (option_map g) is
 
 -- a run of the shape's machine is one of the options'
 run_as : (options : Options) (history : History) (steps : List RunStep) → IsRunFrom (options_of (shape_of options)) history steps → IsRunFrom options history steps
@@ -156,7 +146,7 @@ module _ {D : Type 0} {batches : ℕ} {facts : D → EndFacts} {options : Option
       }
 
   owner_of : (p : ℕ) → p < options.partitions → (owner : OwnerEnd) × OwnerAt p owner
-  owner_of p low = let o = some_at owners p (omega (arith, owners_long)) in (o.0, owner_at p o.0 o.1)
+  owner_of p low = let o = element_at owners p (omega (arith, owners_long)) in (o.0, owner_at p o.0 o.1)
 
   -- a front after it ran, as it was before
   record FrontAt (f : ℕ) (n : FrontTask D) : Type 0 where
@@ -175,7 +165,7 @@ module _ {D : Type 0} {batches : ℕ} {facts : D → EndFacts} {options : Option
   front_at f n at =
       let m = made_at run_of olds news all.fronts_ran f n at in
       let r = m.both in
-      let v = map_at (λ (v : QueueView). Some v) views f (Some r.front)
+      let v = from_map (λ (v : QueueView). Some v) views f (Some r.front)
       (ap (λ l. slice_get l f) (sym all.views_are) ∙ at_map (λ (t : FrontTask D). t.front) olds f m.from m.at ∙ ap Some r.front_is) in
       let here : slice_get views f ≡ Some r.front = v.1 ∙ v.2 in
       let parts_at = at_map (λ (v : QueueView). v.parts) views f r.front here in
@@ -196,7 +186,7 @@ module _ {D : Type 0} {batches : ℕ} {facts : D → EndFacts} {options : Option
 
   front_of : (f : ℕ) (run : FrontRun) → slice_get runs f ≡ Some run → (n : FrontTask D) × (a : FrontAt f n) × (run_of a.old n a.ran ≡ run)
   front_of f run at =
-      let n = some_at news f (omega (arith, slice_get_within runs f run at, made_long run_of olds news all.fronts_ran)) in
+      let n = element_at news f (omega (arith, slice_get_within runs f run at, made_long run_of olds news all.fronts_ran)) in
       let a = front_at f n.0 n.1 in
       (n.0, a, same_Some _ _ (sym a.run_is ∙ at))
 
@@ -215,8 +205,8 @@ module _ {D : Type 0} {batches : ℕ} {facts : D → EndFacts} {options : Option
   part_at : {f p : ℕ} {n : FrontTask D} {owner : OwnerEnd} (a : FrontAt f n) (o : OwnerAt p owner) (part : FrontPart) → slice_get n.parts.items p ≡ Some part → PartAt a o part
   part_at {f} {p} {n} a o part at =
       let new = a.ran.ran.new in
-      let e = map_at (ended_part new.number) new.parts p part (ap (λ l. slice_get l p) (sym a.ran.ran.ended) ∙ at) in
-      let first = some_at a.ran.front.parts p (omega (arith, slice_get_within n.parts.items p part at, a.hand_many, a.many)) in
+      let e = from_map (ended_part new.number) new.parts p part (ap (λ l. slice_get l p) (sym a.ran.ran.ended) ∙ at) in
+      let first = element_at a.ran.front.parts p (omega (arith, slice_get_within n.parts.items p part at, a.hand_many, a.many)) in
       record {
         at = at;
         first = first.0;
@@ -231,7 +221,7 @@ module _ {D : Type 0} {batches : ℕ} {facts : D → EndFacts} {options : Option
 
   part_of : {f p : ℕ} {n : FrontTask D} {owner : OwnerEnd} (a : FrontAt f n) (o : OwnerAt p owner) → (part : FrontPart) × PartAt a o part
   part_of {f} {p} {n} {owner} a o =
-      let part = some_at n.parts.items p (omega (arith, slice_get_within owners p owner o.at, owners_long, a.hand_many)) in
+      let part = element_at n.parts.items p (omega (arith, slice_get_within owners p owner o.at, owners_long, a.hand_many)) in
       (part.0, part_at a o part.0 part.1)
 
   front_low : {f : ℕ} {n : FrontTask D} → FrontAt f n → f < fronts
@@ -262,10 +252,10 @@ module _ {D : Type 0} {batches : ℕ} {facts : D → EndFacts} {options : Option
   may_meet = record {
     fronts = λ p owner at. acks_many (owner_at p owner at) ∙ sym news_long ∙ sym (length-map news hand_of);
     many = λ f own at.
-        let n = map_at hand_of news f own at in
+        let n = from_map hand_of news f own at in
         ap length (sym n.2) ∙ (front_at f n.0 n.1).hand_many ∙ sym owners_long;
     each = λ f p own part owner at part_is owner_is.
-        let n = map_at hand_of news f own at in
+        let n = from_map hand_of news f own at in
         let a = front_at f n.0 n.1 in
         let o = owner_at p owner owner_is in
         may_meet_part a o part (part_at a o part (ap (λ l. slice_get l p) n.2 ∙ part_is));
@@ -312,7 +302,7 @@ module _ {D : Type 0} {batches : ℕ} {facts : D → EndFacts} {options : Option
       took = λ p told low told_is.
           let o = owner_of p low in
           let x = part_of a o.1 in
-          let box = some_at o.0.acks f (omega (arith, front_low a, acks_many o.1)) in
+          let box = element_at o.0.acks f (omega (arith, front_low a, acks_many o.1)) in
           let begun = (met_part a o.1 x.0 x.1).begins box.0 box.1 in
           let sent = (o.1.ran.served.sent f x.1.first.acks box.0 x.1.lent.answers box.1).answers in
           let own : told_by x.1.last ≡ told = same_Some _ _ (sym (ap (λ (y : Option FrontPart). (session_or_none y).told) x.1.last_at) ∙ told_is) in
@@ -349,8 +339,8 @@ module _ {D : Type 0} {batches : ℕ} {facts : D → EndFacts} {options : Option
     -- what is left of an owner after all meetings
     met_owner : (p : ℕ) (entry : Entry) → slice_get kept p ≡ Some entry → (owner : OwnerEnd) × (new : OwnerEnd) × OwnerAt p owner × (entry ≡ entry_in (met_after p hands owner new).state)
     met_owner p entry is =
-        let new = map_at (λ (o : OwnerEnd). entry_in o.state) after p entry is in
-        let owner = some_at owners p (omega (arith, slice_get_within after p new.0 new.1, met.many)) in
+        let new = from_map (λ (o : OwnerEnd). entry_in o.state) after p entry is in
+        let owner = element_at owners p (omega (arith, slice_get_within after p new.0 new.1, met.many)) in
         (owner.0, new.0, owner_at p owner.0 owner.1, sym new.2 ∙ ap (λ (o : OwnerEnd). entry_in o.state) (met.same p owner.0 new.0 owner.1 new.1))
 
     taken : AreTakenIn options runs kept

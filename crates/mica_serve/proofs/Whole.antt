@@ -1,5 +1,5 @@
 -- What a whole run makes of the ports: bound, served, released.
-use Rattle.std.proofs.Common.{◌≡◌, ℕ, ◌+◌, ◌-◌, ◌<◌, ◌≤◌, ◌⊎◌, inl, inr, true, List, [], ◌++◌, length, map, take, drop, Option, Some, None, refl, sym, ap, ◌∙◌, subst, slice_get, arith}
+use Rattle.std.proofs.Common.{◌≡◌, ℕ, ◌+◌, ◌-◌, ◌<◌, ◌≤◌, ◌⊎◌, inl, inr, true, List, [], length, map, take, drop, Option, Some, None, refl, sym, ap, ◌∙◌, subst, slice_get, arith}
 use Rattle.std.specs.Prelude.{◌≢◌, is_some, nat_lt, min, sum_by, Result, Ok, Err, IfSome}
 use Rattle.std.specs.List.{AllZip}
 use Rattle.std.proofs.lemmas.Bool.{cases_lt}
@@ -7,25 +7,26 @@ use Rattle.std.proofs.lemmas.List.Elements.{All-from_recursion}
 use Rattle.std.proofs.lemmas.Option.{slice_get_within, same_Some}
 use Rattle.std.proofs.lemmas.List.{append-nil, length-map}
 use Rattle.std.proofs.lemmas.List.Sums.{sum-map}
+use Rattle.list_laws.proofs.Places.{element_at, from_map}
 use Rattle.mica_io.specs.Traffic.{Datagram, Traffic, new_traffic}
 use Rattle.mica_io.specs.Ports.{Port, Ports, out, back, is_waiting}
-use Rattle.mica_model.specs.declared.options.Options.{Options}
+use Rattle.partition_model.specs.declared.options.Options.{Options}
 use Rattle.mica_serve.specs.declared.ports.Ports.{Ports as PortOptions}
-use Rattle.mica_serve.specs.declared.ports.Totals.{Totals}
-use Rattle.mica_serve.specs.Turn.{Turn, writes_of}
-use Rattle.mica_serve.specs.Dealing.{Dealing, IsDealing, turns_in, due_to}
+use Rattle.mica_fronts.specs.declared.totals.Totals.{Totals}
+use Rattle.mica_fronts.specs.Turn.{Turn, writes_of}
+use Rattle.mica_fronts.specs.Dealing.{Dealing, IsDealing, turns_in, due_to}
 use Rattle.partition_table.specs.declared.tables.Entry.{Entry}
 use Rattle.mica_serve.specs.Beside.{ServesOnTables}
 use Rattle.mica_serve.specs.Served.{ServesPort, RepliesStep, LeavesPort, BeginsPorts, IsThrough, IsCutShort, IsStopped, StopsShort}
 use Rattle.mica_io.specs.Faults.{Rose, LAST_COUNT}
-use Rattle.mica_serve.specs.declared.ports.ServeFault.{ServeFault}
-use Rattle.mica_serve.specs.declared.ports.ServeFault.TheVariants.{Net, NoMemory}
+use Rattle.mica_fronts.specs.declared.totals.ServeFault.{ServeFault}
+use Rattle.mica_fronts.specs.declared.totals.ServeFault.TheVariants.{Net, NoMemory}
 use Rattle.mica_serve.specs.NetRun.{NetFacts, OnPorts, CountsFaults, ReleasesAll, ReleasesNet, KeepsNet, BindsAndServes, FailsToBind, MeansForRun, HasNoFault, HasStopped, IsCauseOf}
 use Rattle.mica_serve.specs.Ends.{EndFacts, TellAll, AreNewEnds, AreAtPorts, BindsEnds, ReleasesEnds, DealsWithEnd, DealsInPartWithEnd, BeginsEnds, MayStopAtEnd, StopsSome, StopsBeside, ServesAll, ServesFronts, MeansForEnds, KeepsEnd}
-use Rattle.mica_serve.proofs.Binding.{rose_on, rose_before, from_map}
-use Rattle.mica_serve.proofs.Gathered.{same_kept, some_at, chosen}
+use Rattle.mica_serve.proofs.Binding.{rose_on, rose_before}
+use Rattle.mica_serve.proofs.Gathered.{same_kept, chosen}
 use Rattle.mica_serve.proofs.ServedBeside.{lawful_beside}
-use Rattle.mica_serve.proofs.Through.{cut_short}
+use Rattle.mica_serve.proofs.CutShort.{cut_short}
 
 -- ends that were bound where a net tells its ports tell their traffic
 pub bound_tell : (first : ℕ) (ends : List EndFacts) (before mid : Ports) → BindsEnds first ends before mid → TellAll ends
@@ -59,7 +60,7 @@ module _ (ports : PortOptions) (olds news : List EndFacts) (before mid after : P
     all_back = record {
       released = λ q is_out. elim (among ports.port (length olds) q) as (λ _. before q ≡ out) [
         | inl h ↦
-            let a = some_at news h.0 (omega (arith, h.1, many)) in
+            let a = element_at news h.0 (omega (arith, h.1, many)) in
             let b = came_back h.0 a.0 a.1 in
             let here : after q ≡ back b.0 a.0.has_ended = ap after h.2 ∙ b.2 in
             absurd (cc)
@@ -119,8 +120,8 @@ module _ (ports : PortOptions) (olds news : List EndFacts) (before mid after : P
       by : (f < length olds) ⊎ (length olds ≤ f) → (dealings : List Dealing) × (unread : List Datagram) × (length unread ≤ 1)
           × LeavesPort ports.batches (before (ports.port + f)) (after (ports.port + f)) dealings unread
       by (inl below) =
-          let b = some_at olds f below in
-          let a = some_at news f (omega (arith, below, many)) in
+          let b = element_at olds f below in
+          let a = element_at news f (omega (arith, below, many)) in
           let p = part f b.0 a.0 b.1 a.1 in
           (p.0, p.1, p.2, port_left ports.batches f p.0 p.1 b.0 a.0 b.1 a.1 p.3)
       by (inr past) = ([], [], omega arith, inl (untouched (ports.port + f) (λ i below e. absurd (omega arith)), refl, refl))
@@ -170,8 +171,8 @@ module _ (ports : PortOptions) (olds news : List EndFacts) (before mid after : P
       where
         began : (f : ℕ) → f < ports.fronts → (f < length olds) ⊎ (length olds ≤ f) → (d : List Dealing) × DealtNothing f d
         began f lt (inl below) =
-            let b = some_at olds f below in
-            let a = some_at news f (omega (arith, below, many)) in
+            let b = element_at olds f below in
+            let a = element_at news f (omega (arith, below, many)) in
             ([], record { none = refl; left = port_left ports.batches f [] [] b.0 a.0 b.1 a.1 (part f b.0 a.0 b.1 a.1) })
         began f lt (inr past) = ([], record { none = refl; left = inl (untouched (ports.port + f) (λ i below e. absurd (omega arith)), refl, refl) })
 
@@ -222,8 +223,8 @@ module _ (ports : PortOptions) (olds news : List EndFacts) (before mid after : P
             → (b : EndFacts) × (a : EndFacts) × (slice_get olds f ≡ Some b) × (slice_get news f ≡ Some a) × MayStopAtEnd ports.batches d b a
         ends_at f d is =
             let lt = slice_get_within all.fronts f d is in
-            let b = some_at olds f (omega (arith, lt, all.many)) in
-            let a = some_at news f (omega (arith, lt, all.many, many)) in
+            let b = element_at olds f (omega (arith, lt, all.many)) in
+            let a = element_at news f (omega (arith, lt, all.many, many)) in
             (b.0, a.0, b.1, a.1, all.each f d b.0 a.0 is b.1 a.1)
 
   pub all_served : (options : Options) (totals : Totals) (kept : List Entry) → 1 ≤ options.partitions → length olds ≡ ports.fronts
@@ -235,8 +236,8 @@ module _ (ports : PortOptions) (olds news : List EndFacts) (before mid after : P
       many = all.many ∙ full;
       datagrams = λ f dealings is.
           let lt = slice_get_within all.fronts f dealings is in
-          let b = some_at olds f (omega (arith, lt, all.many)) in
-          let a = some_at news f (omega (arith, lt, all.many, many)) in
+          let b = element_at olds f (omega (arith, lt, all.many)) in
+          let a = element_at news f (omega (arith, lt, all.many, many)) in
           port_served ports.batches f dealings b.0 a.0 b.1 a.1 (all.each f dealings b.0 a.0 is b.1 a.1);
       answered = lawful_beside options some all.runs all.fronts all.ran all.answered;
     };
@@ -284,13 +285,13 @@ none_begun batches first ends new tell i b a is is' = by b.traffic refl (tell i 
 pub kept_at : (first : ℕ) (olds news : List EndFacts) → length news ≡ length olds → AreNewEnds first olds
     → ((i : ℕ) (b a : EndFacts) → slice_get olds i ≡ Some b → slice_get news i ≡ Some a → KeepsEnd b a) → AreAtPorts first news
 kept_at first olds news many new kept i a is =
-    let b = some_at olds i (omega (arith, many, slice_get_within news i a is)) in
+    let b = element_at olds i (omega (arith, many, slice_get_within news i a is)) in
     (kept i b.0 a b.1 is).port ∙ (new i b.0 b.1).port_is
 
 pub kept_tell : (olds news : List EndFacts) → length news ≡ length olds
     → ((i : ℕ) (b a : EndFacts) → slice_get olds i ≡ Some b → slice_get news i ≡ Some a → KeepsEnd b a) → TellAll olds → TellAll news
 kept_tell olds news many kept tell i a is =
-    let b = some_at olds i (omega (arith, many, slice_get_within news i a is)) in
+    let b = element_at olds i (omega (arith, many, slice_get_within news i a is)) in
     (kept i b.0 a b.1 is).tells (tell i b.0 b.1)
 
 on_ports_then : (P Q R : Ports → Ports → Type 0) → ((a b c : Ports) → P a b → Q b c → R a c) → (a b c : Option Ports)
@@ -326,7 +327,7 @@ module _ (options : Options) (some : 1 ≤ options.partitions) (ports : PortOpti
       by (Some x) (Some y) (Some l) is b =
           rel.steady (ap is_some (run.fails ∙ is))
           (λ i a at.
-          let o = some_at run.olds i (omega (arith, run.many, slice_get_within news i a at)) in
+          let o = element_at run.olds i (omega (arith, run.many, slice_get_within news i a at)) in
           run.means.2.1 i o.0 a o.1 at (b.each i o.0 o.1).scripted ∙ (run.are_new i o.0 o.1).no_faults)
           ∙ run.means.1 (ap is_some is)
 

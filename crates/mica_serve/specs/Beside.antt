@@ -1,17 +1,19 @@
 -- What is known of fronts that were served beside each other, once their owners have taken in what each of them has in hand.
 use Rattle.std.specs.Prelude.{false, ◌≡◌, ◌+◌, ◌<◌, ◌≤◌, ℕ, zero, suc, List, ◌++◌, [], map, length, slice_get, Option, Some, None, All, sum_by}
-use Rattle.mica_model.specs.declared.options.Options.{Options}
-use Rattle.mica_model.specs.History.{IsPrefix}
-use Rattle.mica_model.specs.Run.{RunStep, IsRun}
+use Rattle.partition_model.specs.declared.options.Options.{Options}
+use Rattle.partition_model.specs.History.{IsPrefix}
+use Rattle.partition_model.specs.Run.{RunStep, IsRun}
 use Rattle.epoch_core.specs.Shape.{shape_of}
 use Rattle.partition_table.specs.declared.tables.Entry.{Entry}
 use Rattle.mica_serve.specs.declared.ports.Ports.{Ports as PortOptions}
-use Rattle.mica_serve.specs.declared.ports.Totals.{Totals}
+use Rattle.mica_fronts.specs.declared.totals.Totals.{Totals}
 use Rattle.mica_io.specs.Ports.{Ports}
-use Rattle.mica_serve.specs.Turn.{Turn, gets_of}
-use Rattle.mica_serve.specs.Dealing.{Dealing, turns_in}
-use Rattle.mica_serve.specs.Session.{Told, Sessions, AnswersInOrder, count_of_writes}
-use Rattle.mica_serve.specs.Served.{Placed, steps_in, steps_by, history_in, Served, Counts}
+use Rattle.mica_fronts.specs.Turn.{Turn, gets_of}
+use Rattle.mica_fronts.specs.Dealing.{Dealing, turns_in}
+use Rattle.mica_fronts.specs.Session.{Told, Sessions, AnswersInOrder, count_of_writes}
+use Rattle.mica_fronts.specs.Placed.{Placed, steps_in, steps_by, history_in}
+use Rattle.mica_serve.specs.Served.{Served}
+use Rattle.mica_fronts.specs.Totals.{Counts}
 
 abbrev pub closed_of : Option Told → ℕ
 closed_of None = 0

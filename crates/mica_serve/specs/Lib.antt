@@ -1,14 +1,6 @@
 pub mod PortOptions
-pub mod Turn
-pub mod Dealing
-pub mod Session
-pub mod Answering
 pub mod Served
 pub mod Beside
-pub mod QueueFront
-pub mod OwnerWork
-pub mod Solo
-pub mod Owners
 pub mod Ends
 pub mod NetRun
 pub mod FrontRuns

@@ -1,16 +1,19 @@
 -- What the fronts of a server received and replied to.
-use Rattle.std.specs.Prelude.{◌≡◌, ◌+◌, ◌<◌, ◌≤◌, ◌==◌, ◌⊎◌, ℕ, Bool, true, List, [], ◌++◌, sum, take, drop, map, length, slice_get, nat_lt, Some, None, if◌then◌else◌, AllPairs, All, sum_by, filter}
-use Rattle.std.specs.List.{filter_map, AllZip}
-use Rattle.mica_io.specs.Traffic.{Datagram, Traffic, EndScript, Sent}
+use Rattle.std.specs.Prelude.{◌≡◌, ◌+◌, ◌<◌, ◌≤◌, ◌⊎◌, ℕ, Bool, true, List, [], ◌++◌, sum, take, drop, map, length, slice_get, nat_lt, Some, None, AllPairs, All}
+use Rattle.std.specs.List.{AllZip}
+use Rattle.mica_io.specs.Traffic.{Datagram, Traffic, EndScript}
 use Rattle.mica_io.specs.Ports.{Port, Ports, waiting, back, is_waiting}
-use Rattle.mica_model.specs.declared.options.Options.{Options}
-use Rattle.mica_model.specs.Write.{is_accepted}
-use Rattle.mica_model.specs.History.{History, IsPrefix, stamp_of, answer_of}
-use Rattle.mica_model.specs.Run.{RunStep, IsRun, history_of}
+use Rattle.partition_model.specs.declared.options.Options.{Options}
+use Rattle.partition_model.specs.Write.{is_accepted}
+use Rattle.partition_model.specs.History.{History, IsPrefix, stamp_of, answer_of}
+use Rattle.partition_model.specs.Run.{RunStep, IsRun}
 use Rattle.mica_serve.specs.declared.ports.Ports.{Ports as PortOptions}
-use Rattle.mica_serve.specs.declared.ports.Totals.{Totals}
-use Rattle.mica_serve.specs.Turn.{Turn, write_in, partition_in, writes_of, write_reply, get_reply}
-use Rattle.mica_serve.specs.Dealing.{Dealing, IsDealing, turns_in, due_to}
+use Rattle.mica_fronts.specs.declared.totals.Totals.{Totals}
+use Rattle.mica_fronts.specs.Turn.{Turn, write_in, partition_in, writes_of, write_reply, get_reply}
+use Rattle.mica_fronts.specs.Dealing.{Dealing, IsDealing, turns_in, due_to}
+use Rattle.mica_fronts.specs.Placed.{Placed, steps_by, steps_in, history_in}
+use Rattle.mica_fronts.specs.OneEnd.{BeginsAs}
+use Rattle.mica_fronts.specs.Totals.{Counts}
 
 -- One front and its port
 
@@ -26,18 +29,6 @@ pub record ServesPort (batches : ℕ) (before after : Port) (dealings : List Dea
   pub each : All IsDealing dealings
 
 -- Partitions
-
--- a step of a partition's machine, and the front whose write it answers
-pub record Placed : Type 0 where
-  pub front : ℕ
-  pub step : RunStep
-
--- the steps of one front
-abbrev pub steps_by : ℕ → List Placed → List RunStep
-steps_by front placed = filter_map (λ q. if q.front == front then Some q.step else None) placed
-
-abbrev pub steps_in : List Placed → List RunStep
-steps_in placed = map (λ q. q.step) placed
 
 -- the reply to a write is that of the step
 pub record RepliesStep (turn : Turn) (step : RunStep) : Type 0 where
@@ -72,10 +63,6 @@ pub record IsGetAt (options : Options) (partition : ℕ) (turns : List Turn) (n 
 
 -- All fronts
 
--- the history of a partition: the accepted writes of all fronts, in the order of their stamps
-abbrev pub history_in : List Placed → History
-history_in placed = history_of (steps_in placed)
-
 -- The writes of all fronts are one run of each partition's machine, and each get is its answer, no older than what its front was told.
 pub record AnswersLawfully (options : Options) (fronts : List (List Turn)) (runs : ℕ → List Placed) : Type 0 where
   pub writes : (p : ℕ) → p < options.partitions → ServesWrites options p fronts (runs p)
@@ -91,15 +78,6 @@ pub record Served (options : Options) (ports : PortOptions) (before after : Port
       → ServesPort ports.batches (before (ports.port + f)) (after (ports.port + f)) dealings
   pub answered : AnswersLawfully options (map turns_in fronts) runs
 
-abbrev pub has_no_turns : Dealing → Bool
-has_no_turns dealing = length dealing.turns == 0
-
--- the datagrams received, the requests in those that were batches, and the others
-pub record Counts (fronts : List (List Dealing)) (totals : Totals) : Type 0 where
-  pub batches : totals.batches ≡ sum_by length fronts
-  pub requests : totals.requests ≡ sum_by (λ dealings. length (turns_in dealings)) fronts
-  pub bad : totals.bad ≡ sum_by (λ dealings. length (filter has_no_turns dealings)) fronts
-
 -- the fronts served, and the totals count what they did
 pub record Serves (options : Options) (ports : PortOptions) (totals : Totals) (before after : Ports) : Type 0 where
   pub fronts : List (List Dealing)
@@ -108,10 +86,6 @@ pub record Serves (options : Options) (ports : PortOptions) (totals : Totals) (b
   pub counted : Counts fronts totals
 
 -- Where a fault came
-
--- a list of datagrams begins as the other
-abbrev pub BeginsAs : List Sent → List Sent → Type 0
-BeginsAs begun all = (later : List Sent) × (all ≡ begun ++ later)
 
 -- The front received a beginning of the datagrams of its port, at most so many of them, dealt with all of these but the last ones that are
 -- unread, and sent a beginning of what is due to those that it dealt with.

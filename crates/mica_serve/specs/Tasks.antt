@@ -1,18 +1,18 @@
 -- What the workers of a server have to do, and what each makes of it.
-use Rattle.std.specs.Prelude.{◌≡◌, ◌*◌, ◌+◌, ◌<◌, ◌≤◌, ℕ, false, List, [], ◌∷◌, map, length, slice_index_or, Some, IfSome, vec_capacity, Result}
+use Rattle.std.specs.Prelude.{◌≡◌, ◌*◌, ◌<◌, ◌≤◌, ℕ, false, List, [], map, length, slice_index_or, Some, IfSome, vec_capacity, Result}
 use Rattle.atomic_table.specs.Seated.{TableId}
 use Rattle.mica_io.specs.Traffic.{new_traffic}
 use Rattle.epoch_core.specs.declared.state.OwnerState.{OwnerState}
-use Rattle.mica_serve.specs.declared.queue_front.FrontPart.{FrontPart}
-use Rattle.mica_serve.specs.declared.ports.Totals.{Totals}
-use Rattle.mica_serve.specs.declared.ports.ServeFault.{ServeFault}
+use Rattle.mica_fronts.specs.declared.queue_front.FrontPart.{FrontPart}
+use Rattle.mica_fronts.specs.declared.totals.Totals.{Totals}
+use Rattle.mica_fronts.specs.declared.totals.ServeFault.{ServeFault}
 use Rattle.mica_serve.specs.declared.worker.OwnerTask.{OwnerTask}
 use Rattle.mica_serve.specs.declared.worker.FrontTask.{FrontTask}
 use Rattle.mica_serve.specs.declared.running.Room.{Room}
 use Rattle.mica_serve.specs.declared.running.Server.{Server}
 use Rattle.mica_serve.specs.declared.ports.Ports.{Ports}
-use Rattle.mica_model.specs.declared.options.Options.{Options}
-use Rattle.mica_serve.specs.QueueFront.{QueueView, IsQueueFront, stand_of, sessions_of, ended_part}
+use Rattle.partition_model.specs.declared.options.Options.{Options}
+use Rattle.mica_fronts.specs.QueueFront.{QueueView, IsQueueFront, stand_of, sessions_of, ended_part}
 use Rattle.mica_serve.specs.Ends.{EndFacts}
 use Rattle.mica_serve.specs.FrontRuns.{RunsFront}
 use Rattle.mica_serve.specs.Hands.{OwnerEnd, IsReadyOwner, RanOwner, AreFrontsOf}

@@ -1,9 +1,9 @@
 //! The answers of all fronts as one.
 ghost use Rattle.std.specs.Prelude.{◌≡◌, ◌≤◌, ℕ, Some, length, slice_get, Ok};
-ghost use Rattle.mica_serve.specs.Ends.{IsUpTo};
+ghost use Rattle.mica_fronts.specs.Totals.{IsUpTo};
 ghost use Rattle.mica_serve.specs.FrontRuns.{SumsUp};
 
-use crate::ports::{ServeFault, Totals};
+use mica_fronts::{ServeFault, Totals};
 
 /// The sum of the totals, or the fault of a front: want of memory of any is that of all.
 pub(crate) fn sum_up(answers: &[Result<Totals, ServeFault>]) -> Result<Totals, ServeFault>

@@ -1,12 +1,11 @@
 //! What the fronts have in hand comes back to the owners.
-ghost use Rattle.std.specs.Prelude.{◌≡◌, ◌+◌, ◌<◌, ◌≤◌, ℕ, [], ◌∷◌, ◌++◌, map, length, slice_get, vec_len, Some};
-ghost use Rattle.partition_table.specs.Seats.{reader_state, reader_home};
+ghost use Rattle.std.specs.Prelude.{◌≡◌, ◌+◌, ◌<◌, ℕ, map, length, vec_len, Some};
 ghost use Rattle.mica_serve.specs.Hands.{MayMeet, MeetsPart, MayMeetHand, MeetsHand, MayMeetAll, HaveMetAll};
 ghost use Rattle.mica_serve.specs.Tasks.{owner_end};
 
-use crate::queue_front::FrontPart;
 use crate::worker::OwnerTask;
 use epoch_core::LendPartition;
+use mica_fronts::FrontPart;
 use partition_table::{Note, ReaderSeat};
 
 impl<P: LendPartition<Reader = ReaderSeat, Note = Note>> OwnerTask<P> {

@@ -1,22 +1,22 @@
 //! Owners and fronts as made, with their queues and seats, before any of them starts.
-ghost use Rattle.std.specs.Prelude.{◌≡◌, ◌*◌, ◌<◌, ◌≤◌, [], ℕ, IfOk, OnOk, map, length, slice_get, vec_len};
-ghost use Rattle.mica_model.specs.Options.{IsValid};
-ghost use Rattle.epoch_core.specs.Shape.{shape_of};
+ghost use Rattle.std.specs.Prelude.{◌≡◌, ◌*◌, ◌<◌, ◌≤◌, [], IfOk, OnOk, map, length, vec_len};
+ghost use Rattle.partition_model.specs.Options.{IsValid};
 ghost use Rattle.epoch_core.specs.OwnerState.{as_made};
+ghost use Rattle.epoch_core.specs.Shape.{shape_of};
 ghost use Rattle.mica_serve.specs.PortOptions.{IsValidPorts};
 ghost use Rattle.mica_serve.specs.Hands.{LendsPart, AreSendersOf, LendsEach, AreLent, LendsOneMore, AreFrontsOf};
 ghost use Rattle.mica_serve.specs.Tasks.{owner_end};
 
 use crate::ports::Ports;
-use crate::queue_front::{FrontPart, QueueFront};
 use crate::worker::OwnerTask;
-use epoch_core::{LendPartition, Partition};
+use epoch_core::{LendPartition, Partition, Shape};
+use mica_fronts::{FrontPart, QueueFront};
 use mica_io::NoMemory;
-use mica_model::Options;
 use owner_queue::{JobSender, ack_queue, job_queue};
-use partition_table::{Note, ReaderSeat};
+use partition_model::Options;
+use partition_table::{Note, ReaderSeat, zeros_for};
+use seated_partition::OnTable;
 use std::alloc::Global;
-use table_partition::OnTable;
 
 impl<P: LendPartition<Reader = ReaderSeat, Note = Note>> OwnerTask<P> {
     // Lends one more front a part: a seat, its sender to the owner, and an end of a queue of answers from there.
@@ -62,6 +62,7 @@ fn lend_all<P: LendPartition<Reader = ReaderSeat, Note = Note>>(
 fn open_owner<P: OnTable + LendPartition<Reader = ReaderSeat, Note = Note>>(
     alloc: Global,
     options: &Options,
+    zeros: &[u64],
     most: u32,
     worker: u32,
     hands: &mut Vec<Vec<FrontPart>>,
@@ -69,11 +70,12 @@ fn open_owner<P: OnTable + LendPartition<Reader = ReaderSeat, Note = Note>>(
     requires valid { IsValid options.now }
     requires mode { options.now.mode ≡ P.mode }
     requires same { (p : P) → P.state p ≡ P.owner p }
+    requires zeros { zeros.now ≡ (as_made (shape_of options.now)).words }
     requires some { (1 ≤ vec_len hands.old) × (vec_len hands.old ≤ 16) }
     ensures { IfOk result (λ task. LendsOneMore options.now most (owner_end P.owner P.home task)
         (map (λ own. own.items) hands.old.items) (map (λ own. own.items) hands.new.items)) }
 {
-    let part = P::new(alloc, options)?;
+    let part = P::over(alloc, options, zeros)?;
     let (senders, jobs) = job_queue(alloc, hands.len() as u32, most)?;
     let acks = Vec::with_capacity(alloc, hands.len())?;
     let mut owner = OwnerTask {
@@ -105,9 +107,11 @@ fn open_owners<P: OnTable + LendPartition<Reader = ReaderSeat, Note = Note>>(
     for _ in 0..ports.fronts {
         hands.push(Vec::with_capacity(alloc, options.partitions as usize)?)?;
     }
+    let zeros = zeros_for(alloc, &Shape::of(options))?;
+    let zeros = zeros.as_slice();
     let mut owners = Vec::with_capacity(alloc, options.partitions as usize)?;
     for p in 0..options.partitions {
-        let owner = open_owner(alloc, options, 255 * ports.batches, p, hands)?;
+        let owner = open_owner(alloc, options, zeros, 255 * ports.batches, p, hands)?;
         owners.push(owner)?;
     }
     Ok(owners)

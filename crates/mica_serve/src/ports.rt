@@ -1,8 +1,5 @@
-//! The ports of a server, and what a run of it comes to.
-ghost use Rattle.std.specs.Prelude.{◌≡◌, ◌↔◌, IsTrue};
-
-use mica_io::{Failed, NoMemory};
-use std::alloc::AllocError;
+//! The ports of a server.
+ghost use Rattle.std.specs.Prelude.{◌↔◌, IsTrue};
 
 /// The first port, how many fronts there are, one behind each port from there on, and how many datagrams a front takes.
 #[derive(Clone, Copy, Debug, PartialEq, Eq)]
@@ -10,92 +7,6 @@ pub struct Ports {
     pub port: u16,
     pub fronts: u32,
     pub batches: u32,
-}
-
-/// How many datagrams were received, how many requests stood in those that were batches, and how many were none.
-#[derive(Clone, Copy, Debug, PartialEq, Eq)]
-pub struct Totals {
-    pub batches: u64,
-    pub requests: u64,
-    pub bad: u64,
-}
-
-/// Why the fronts were not served to their ends.
-#[derive(Clone, Copy, Debug, PartialEq, Eq)]
-pub enum ServeFault {
-    /// A bind failed, or a front could not receive or send.
-    Net,
-    NoMemory,
-}
-
-impl Totals {
-    ghost use Rattle.std.specs.Prelude.{◌≡◌, ◌<◌, ◌+◌};
-    ghost use Rattle.mica_serve.specs.Ends.{added, counted, none_counted};
-
-    pub(crate) fn none() -> Totals
-        ensures { result ≡ none_counted }
-    {
-        Totals {
-            batches: 0,
-            requests: 0,
-            bad: 0,
-        }
-    }
-
-    pub(crate) fn add(&mut self, other: Totals)
-        requires batches { self.old.batches + other.batches < 18446744073709551616 }
-        requires requests { self.old.requests + other.requests < 18446744073709551616 }
-        requires bad { self.old.bad + other.bad < 18446744073709551616 }
-        ensures { self.new ≡ added self.old other }
-    {
-        self.batches += other.batches;
-        self.requests += other.requests;
-        self.bad += other.bad;
-    }
-
-    /// Counts one more datagram, of so many requests.
-    pub(crate) fn count(&mut self, requests: u32)
-        requires batches { self.old.batches < 4294967296 }
-        requires requests { self.old.requests < 2305843009213693952 }
-        requires bad { self.old.bad < 4294967296 }
-        ensures { self.new ≡ counted requests self.old }
-    {
-        self.batches += 1;
-        self.requests += u64::from(requests);
-        if requests == 0 {
-            self.bad += 1;
-        }
-    }
-}
-
-impl From<NoMemory> for ServeFault {
-    ghost use Rattle.mica_serve.specs.declared.ports.ServeFault.TheVariants.{NoMemory};
-
-    ghost from_gives = { λ _ e. e ≡ NoMemory };
-
-    fn from(_: NoMemory) -> Self {
-        ServeFault::NoMemory
-    }
-}
-
-impl From<AllocError> for ServeFault {
-    ghost use Rattle.mica_serve.specs.declared.ports.ServeFault.TheVariants.{NoMemory};
-
-    ghost from_gives = { λ _ e. e ≡ NoMemory };
-
-    fn from(_: AllocError) -> Self {
-        ServeFault::NoMemory
-    }
-}
-
-impl From<Failed> for ServeFault {
-    ghost use Rattle.mica_serve.specs.declared.ports.ServeFault.TheVariants.{Net};
-
-    ghost from_gives = { λ _ e. e ≡ Net };
-
-    fn from(_: Failed) -> Self {
-        ServeFault::Net
-    }
 }
 
 impl Ports {

@@ -1,8 +1,8 @@
 //! The server: its ports bound, its fronts and owners run side by side, its ends released and its tables kept.
-ghost use Rattle.std.specs.Prelude.{◌≡◌, ◌+◌, ◌<◌, ◌≤◌, ℕ, [], true, map, length, vec_len, vec_capacity, slice_get, is_some, Some, IfOk, IfSome, OnOk, OnErr, IsErrOf};
+ghost use Rattle.std.specs.Prelude.{◌≡◌, ◌+◌, ◌<◌, ◌≤◌, ℕ, [], true, map, vec_len, vec_capacity, is_some, Some, IfSome, OnOk, OnErr};
 ghost use Rattle.mica_io.specs.Faults.{Rose};
 ghost use Rattle.mica_io.specs.Ports.{out};
-ghost use Rattle.mica_model.specs.Options.{IsValid};
+ghost use Rattle.partition_model.specs.Options.{IsValid};
 ghost use Rattle.partition_table.specs.declared.reader.Note.{Note};
 ghost use Rattle.partition_table.specs.Seats.{note_state, note_home};
 ghost use Rattle.mica_serve.specs.PortOptions.{IsValidPorts};
@@ -11,19 +11,20 @@ ghost use Rattle.mica_serve.specs.Tasks.{IsServer};
 ghost use Rattle.mica_serve.specs.NetRun.{OnPorts, ReleasesNet, BindsAndServes, IsCauseOf, KeepsNet, net_facts};
 
 use crate::answers::sum_up;
-use crate::ports::{Ports, ServeFault, Totals};
+use crate::ports::Ports;
 use crate::running::{Server, run_all};
 use crate::tables::keep_all;
 use cache_partition::CachePartition;
 use epoch_core::LendPartition;
+use mica_fronts::{ServeFault, Totals};
 use mica_io::{Datagrams, Failed, Gate, Net};
-use mica_model::{Mode, Options};
+use partition_model::{Mode, Options};
 use partition_table::{Note, OwnerSeat, ReaderSeat, Tables};
+use seated_partition::OnTable;
 use std::alloc::Global;
 use std::sync::Wait;
 use std::thread::Threads;
 use store_partition::StorePartition;
-use table_partition::OnTable;
 
 /// Binds a port for each front, in order, up to the first bind that fails.
 fn bind_all<N: Net>(net: &mut N, ports: &Ports, ends: &mut Vec<N::End>) -> Result<(), Failed>

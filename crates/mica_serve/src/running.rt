@@ -1,6 +1,6 @@
 //! All workers of a server, from their room to the last meeting.
-ghost use Rattle.std.specs.Prelude.{◌≡◌, ◌*◌, ◌+◌, ◌≤◌, [], ℕ, IfOk, length, map, slice_get, Some};
-ghost use Rattle.mica_model.specs.Options.{IsValid};
+ghost use Rattle.std.specs.Prelude.{◌≡◌, ◌+◌, ◌≤◌, ℕ, IfOk, length, map, slice_get, Some};
+ghost use Rattle.partition_model.specs.Options.{IsValid};
 ghost use Rattle.epoch_core.specs.declared.state.Phase.TheVariants.{Idle};
 ghost use Rattle.partition_table.specs.Tabled.{entry_in};
 ghost use Rattle.partition_table.specs.declared.reader.Note.{Note};
@@ -8,22 +8,22 @@ ghost use Rattle.partition_table.specs.Seats.{note_state, note_home};
 ghost use Rattle.mica_serve.specs.PortOptions.{IsValidPorts};
 ghost use Rattle.mica_serve.specs.Ends.{AreOpen, end_facts};
 ghost use Rattle.mica_serve.specs.FrontRuns.{RanAll};
-ghost use Rattle.mica_serve.specs.Tasks.{owner_end, IsRoom, IsServer};
+ghost use Rattle.mica_serve.specs.Tasks.{IsRoom, IsServer};
 
 use crate::meeting::meet_all;
 use crate::opening::open_all;
-use crate::ports::{Ports, ServeFault, Totals};
-use crate::queue_front::{FrontPart, QueueFront};
+use crate::ports::Ports;
 use crate::worker::{FrontTask, OwnerTask, pair_up, part_fronts, run_workers};
 use epoch_core::LendPartition;
+use mica_fronts::{FrontPart, QueueFront, ServeFault, Totals};
 use mica_io::{Datagrams, Gate, NoMemory};
-use mica_model::Options;
+use partition_model::Options;
 use partition_table::{Note, ReaderSeat};
+use seated_partition::OnTable;
 use std::alloc::Global;
 use std::mem;
 use std::sync::Wait;
 use std::thread::Threads;
-use table_partition::OnTable;
 use thread_rehearsal::rehearse;
 
 /// The room for all workers and for what they come to.

@@ -6,7 +6,7 @@ ghost use Rattle.partition_table.specs.Tabled.{entry_in};
 use crate::worker::OwnerTask;
 use epoch_core::Partition;
 use partition_table::Tables;
-use table_partition::OnTable;
+use seated_partition::OnTable;
 
 /// Keeps the seats of all owners, in order.
 pub(crate) fn keep_all<P: OnTable + Partition>(owners: Vec<OwnerTask<P>>, tables: &mut Tables)

@@ -7,11 +7,8 @@ ghost use Rattle.mica_serve.specs.Hands.{IsReadyOwner, RanOwner};
 ghost use Rattle.mica_serve.specs.Tasks.{owner_end, IsReadyTask, TaskRan, OwnersRan, IsReadyFront, FrontRan, FrontsRan};
 ghost use Rattle.mica_serve.specs.Ends.{end_facts};
 
-use crate::end::serve_end;
-use crate::owner_work::serve_owner;
-use crate::ports::{ServeFault, Totals};
-use crate::queue_front::{FrontPart, QueueFront};
 use epoch_core::LendPartition;
+use mica_fronts::{FrontPart, QueueFront, ServeFault, Totals, serve_end, serve_owner};
 use mica_io::{Datagrams, Gate};
 use owner_queue::{AckSender, JobReceiver};
 use partition_table::{Note, ReaderSeat};

@@ -6,9 +6,9 @@ use Rattle.mica_words.specs.Hash.{bucket_of, tag_of}
 use Rattle.mica_words.specs.Entry.{entry_tag, entry_offset}
 use Rattle.mica_words.specs.Packing.{AreBytes}
 use Rattle.mica_words.proofs.Hashes.{tag_of-range}
-use Rattle.mica_model.specs.declared.options.Mode.{Mode}
-use Rattle.mica_model.specs.declared.options.Mode.TheVariants.{Cache, Store}
-use Rattle.mica_model.specs.History.{History, IsPrefix, stamp_of, answer_of, writes_to_bucket}
+use Rattle.partition_model.specs.declared.options.Mode.{Mode}
+use Rattle.partition_model.specs.declared.options.Mode.TheVariants.{Cache, Store}
+use Rattle.partition_model.specs.History.{History, IsPrefix, stamp_of, answer_of, writes_to_bucket}
 use Rattle.epoch_core.specs.declared.shape.Shape.{Shape}
 use Rattle.epoch_core.specs.declared.state.Phase.{Phase}
 use Rattle.epoch_core.specs.declared.state.Phase.TheVariants.{Idle}

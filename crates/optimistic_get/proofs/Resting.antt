@@ -1,14 +1,11 @@
 -- The answer of one try of a script that is settled.
 use Rattle.std.proofs.Common.{◌≡◌, ℕ, List, false, sym, ap, ◌∙◌, subst, Option}
-use Rattle.mica_model.specs.declared.write.Answer.{Answer}
-use Rattle.mica_model.specs.History.{History, answer_of}
-use Rattle.mica_model.specs.Answer.{IsAnswer}
-use Rattle.epoch_core.specs.declared.shape.Shape.{Shape}
-use Rattle.epoch_core.specs.declared.state.OwnerState.{OwnerState}
+use Rattle.partition_model.specs.declared.write.Answer.{Answer}
+use Rattle.partition_model.specs.History.{answer_of}
+use Rattle.partition_model.specs.Answer.{IsAnswer}
 use Rattle.epoch_core.specs.declared.reader.ReaderState.{ReaderState}
 use Rattle.epoch_core.specs.declared.scripted.Scripted.{Scripted}
 use Rattle.epoch_core.specs.Shape.{options_of}
-use Rattle.epoch_core.specs.OwnerState.{options_in}
 use Rattle.epoch_core.specs.Script.{IsSettled}
 use Rattle.epoch_core.specs.Seats.{book_of}
 use Rattle.epoch_core.proofs.Settling.{at_rest, same_owner, settled_still}

@@ -1,7 +1,7 @@
 -- What a get comes to that is asked again until it answers.
 use Rattle.std.specs.Prelude.{[], ◌≡◌, ℕ, ◌+◌, List, ◌++◌, length, Option, Some, None}
-use Rattle.mica_model.specs.History.{IsPrefix}
-use Rattle.mica_model.specs.Run.{IsAnswerAt}
+use Rattle.partition_model.specs.History.{IsPrefix}
+use Rattle.partition_model.specs.Run.{IsAnswerAt}
 use Rattle.epoch_core.specs.declared.state.Failure.{Failure}
 use Rattle.epoch_core.specs.declared.reader.ReaderState.{ReaderState}
 use Rattle.epoch_core.specs.Shape.{options_of}

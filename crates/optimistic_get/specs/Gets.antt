@@ -1,6 +1,6 @@
 -- What a try and a get make of a reader's state, and what they answer.
 use Rattle.std.specs.Prelude.{◌≡◌, ℕ, ◌+◌, ◌*◌, ◌%◌, ◌==◌, ◌<◌, ◌≤◌, ◌++◌, Bool, true, false, if◌then◌else◌, List, [], ◌∷◌, length, sum_by, Contains, Option, Some, None}
-use Rattle.mica_model.specs.History.{IsPrefix, stamp_of, answer_of, writes_to_bucket}
+use Rattle.partition_model.specs.History.{IsPrefix, stamp_of, answer_of, writes_to_bucket}
 use Rattle.epoch_core.specs.declared.shape.Shape.{Shape}
 use Rattle.epoch_core.specs.declared.state.Failure.{Failure}
 use Rattle.epoch_core.specs.declared.reader.ReaderState.{ReaderState}

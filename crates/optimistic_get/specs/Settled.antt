@@ -1,8 +1,8 @@
 -- Gets by a plan that has no event left.
 use Rattle.std.specs.Prelude.{◌≡◌, ℕ, ◌+◌, ◌<◌, List, false}
-use Rattle.mica_model.specs.declared.write.Answer.{Answer}
-use Rattle.mica_model.specs.History.{answer_of}
-use Rattle.mica_model.specs.Answer.{IsAnswer}
+use Rattle.partition_model.specs.declared.write.Answer.{Answer}
+use Rattle.partition_model.specs.History.{answer_of}
+use Rattle.partition_model.specs.Answer.{IsAnswer}
 use Rattle.epoch_core.specs.declared.state.OwnerState.{OwnerState}
 use Rattle.epoch_core.specs.declared.reader.ReaderState.{ReaderState}
 use Rattle.epoch_core.specs.declared.scripted.Plan.{Plan}

@@ -1,11 +1,13 @@
 //! A get that is asked again until it answers.
 ghost use Rattle.std.specs.Prelude.{◌≡◌, ◌<◌};
+ghost use Rattle.mica_words.specs.Hash.{fnv1a};
 ghost use Rattle.mica_words.specs.Item.{KeyFits};
 ghost use Rattle.optimistic_get.specs.Asked.{IsRead};
 
-use crate::getting::{Got, get};
+use crate::getting::{Got, get_hashed};
 use epoch_core::ReaderWords;
-use mica_model::ItemBuf;
+use mica_words::key_hash;
+use partition_model::ItemBuf;
 use std::sync::Wait;
 use std::thread;
 
@@ -23,8 +25,26 @@ pub fn ask<W: Wait, R: ReaderWords>(
     ensures answered { IsRead (R.reader seat.old) key.now result out.new (R.reader seat.new) }
     ensures home { R.home seat.new ≡ R.home seat.old }
 {
+    ask_hashed(rt, seat, key, key_hash(key), tries, out)
+}
+
+/// As `ask`, for a key whose hash is at hand.
+pub fn ask_hashed<W: Wait, R: ReaderWords>(
+    rt: &W,
+    seat: &mut R,
+    key: &[u8],
+    hash: u64,
+    tries: u32,
+    out: &mut ItemBuf,
+) -> Got
+    requires key { KeyFits key.now }
+    requires hashed { hash ≡ fnv1a key.now }
+    requires tries { 0 < tries }
+    ensures answered { IsRead (R.reader seat.old) key.now result out.new (R.reader seat.new) }
+    ensures home { R.home seat.new ≡ R.home seat.old }
+{
     for _ in rt.forever() {
-        match get(seat, key, tries, out) {
+        match get_hashed(seat, key, hash, tries, out) {
             Got::Again { .. } => thread::yield_now(),
             got => return got,
         }

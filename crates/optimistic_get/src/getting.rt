@@ -1,14 +1,14 @@
 //! The get.
 ghost use Rattle.std.specs.Prelude.{◌≡◌, ◌<◌};
-ghost use Rattle.mica_words.specs.Hash.{bucket_of as bucket_of_key};
+ghost use Rattle.mica_words.specs.Hash.{bucket_of as bucket_of_key, fnv1a};
 ghost use Rattle.mica_words.specs.Item.{KeyFits};
 ghost use Rattle.optimistic_get.specs.Gets.{Answers};
 
 use crate::trying::try_get;
 use crate::wanted::Wanted;
 use epoch_core::ReaderWords;
-use mica_model::ItemBuf;
 use mica_words::{bucket_of, key_hash};
+use partition_model::ItemBuf;
 use std::hint::spin_loop;
 
 /// What a get answers.
@@ -41,7 +41,24 @@ pub fn get<R: ReaderWords>(seat: &mut R, key: &[u8], tries: u32, out: &mut ItemB
         tries key.now result out.new (R.reader seat.new) }
     ensures home { R.home seat.new ≡ R.home seat.old }
 {
-    let hash = key_hash(key);
+    get_hashed(seat, key, key_hash(key), tries, out)
+}
+
+/// As `get`, for a key whose hash is at hand.
+pub fn get_hashed<R: ReaderWords>(
+    seat: &mut R,
+    key: &[u8],
+    hash: u64,
+    tries: u32,
+    out: &mut ItemBuf,
+) -> Got
+    requires key { KeyFits key.now }
+    requires hashed { hash ≡ fnv1a key.now }
+    requires tries { 0 < tries }
+    ensures answers { Answers (R.reader seat.old) (bucket_of_key key.now (R.reader seat.old).shape.buckets)
+        tries key.now result out.new (R.reader seat.new) }
+    ensures home { R.home seat.new ≡ R.home seat.old }
+{
     let bucket = bucket_of(hash, seat.shape().buckets);
     let wanted = Wanted { key, hash };
     for _try in 1..tries {

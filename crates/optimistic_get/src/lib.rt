@@ -14,6 +14,6 @@ mod settled;
 mod trying;
 mod wanted;
 
-pub use asking::ask;
-pub use getting::{Got, get};
+pub use asking::{ask, ask_hashed};
+pub use getting::{Got, get, get_hashed};
 pub use settled::get_settled;

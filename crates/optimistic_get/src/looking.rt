@@ -8,8 +8,8 @@ ghost use Rattle.optimistic_get.specs.Loading.{loads_in, GoesOn, HasWords, Lacks
 
 use crate::wanted::Wanted;
 use epoch_core::ReaderWords;
-use mica_model::{ItemBuf, Mode};
 use mica_words::{MAX_VALUE_LEN, header_key_len, header_value_len, item_size, packed_word};
+use partition_model::{ItemBuf, Mode};
 
 // Whether the words from the offset on are those that the bytes are packed into. It loads up to the first that is not.
 fn holds_packed<R: ReaderWords>(seat: &mut R, offset: u64, bytes: &[u8]) -> bool

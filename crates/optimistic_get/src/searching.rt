@@ -7,8 +7,8 @@ ghost use Rattle.optimistic_get.specs.Search.{Weighs, Scans, Searches};
 use crate::looking::look;
 use crate::wanted::Wanted;
 use epoch_core::ReaderWords;
-use mica_model::ItemBuf;
 use mica_words::{SLOTS, entry_offset, entry_tag, tag_of};
+use partition_model::ItemBuf;
 
 // Whether an item at the offset begins later than the best one.
 fn is_later(best: Option<u64>, offset: u64) -> bool

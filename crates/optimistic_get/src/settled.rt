@@ -8,8 +8,8 @@ use crate::getting::Got;
 use crate::trying::try_get;
 use crate::wanted::Wanted;
 use epoch_core::{ReaderWords, Scripted};
-use mica_model::{Answer, ItemBuf};
 use mica_words::{bucket_of, key_hash};
+use partition_model::{Answer, ItemBuf};
 
 /// The machine's answer after the events that were played, by one try.
 pub fn get_settled(seat: &mut Scripted, key: &[u8], out: &mut ItemBuf) -> Answer

@@ -10,8 +10,8 @@ use crate::getting::Got;
 use crate::searching::search;
 use crate::wanted::Wanted;
 use epoch_core::{ReaderWords, Shape};
-use mica_model::{ItemBuf, Mode};
 use mica_words::tail_of;
+use partition_model::{ItemBuf, Mode};
 
 // Whether the log has not passed the item by the stamp. In store mode it never does.
 fn is_live(shape: &Shape, offset: u64, stamp: u64) -> bool

@@ -3,9 +3,9 @@ use Rattle.std.specs.Option.{option_to_list}
 use Rattle.std.specs.Prelude.{option_map}
 use Rattle.std.proofs.lemmas.List.{length-map, take_all}
 use Rattle.std.proofs.lemmas.Option.{slice_get-map}
+use Rattle.list_laws.proofs.Places.{popped}
 use Rattle.mica_serve.specs.declared.worker.OwnerTask.{OwnerTask}
 use Rattle.mica_serve.specs.Tasks.{owner_end}
-use Rattle.mica_serve.proofs.Binding.{popped}
 use Rattle.mica_serve.proofs.Meetings.{FrontsMetFrom, fronts_none, fronts_one, fronts_all, hand_may}
 use Rattle.mica_serve.proofs.meeting.meet_all.Goals as goal
 

@@ -3,11 +3,11 @@ use Rattle.std.specs.Option.{option_to_list}
 use Rattle.std.specs.Prelude.{option_map}
 use Rattle.std.proofs.lemmas.List.{length-map, map-set, take_all}
 use Rattle.std.proofs.lemmas.Option.{slice_get_within, slice_get_read, slice_get-map}
+use Rattle.list_laws.proofs.Places.{popped}
 use Rattle.mica_serve.specs.declared.worker.OwnerTask.{OwnerTask}
-use Rattle.mica_serve.specs.declared.queue_front.FrontPart.{FrontPart}
+use Rattle.mica_fronts.specs.declared.queue_front.FrontPart.{FrontPart}
 use Rattle.mica_serve.specs.Hands.{OwnerEnd, MayMeet}
 use Rattle.mica_serve.specs.Tasks.{owner_end}
-use Rattle.mica_serve.proofs.Binding.{popped}
 use Rattle.mica_serve.proofs.Meetings.{PartsMetFrom, parts_none, parts_one, parts_all, part_may}
 use Rattle.mica_serve.proofs.meeting.meet_front.Given as given
 use Rattle.mica_serve.proofs.meeting.meet_front.Goals as goal

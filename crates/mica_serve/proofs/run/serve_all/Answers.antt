@@ -4,10 +4,11 @@ use Rattle.std.proofs.lemmas.List.{length-map}
 use Rattle.std.proofs.lemmas.Result.{err_from_is_err_and}
 use Rattle.partition_table.specs.declared.tables.Entry.{Entry}
 use Rattle.partition_table.specs.Tabled.{entry_in}
-use Rattle.mica_serve.specs.declared.ports.Totals.{Totals}
-use Rattle.mica_serve.specs.declared.ports.ServeFault.{ServeFault}
+use Rattle.mica_fronts.specs.declared.totals.Totals.{Totals}
+use Rattle.mica_fronts.specs.declared.totals.ServeFault.{ServeFault}
 use Rattle.mica_serve.specs.declared.worker.OwnerTask.{OwnerTask}
-use Rattle.mica_serve.specs.Ends.{EndFacts, IsUpTo, ServesFronts, end_facts}
+use Rattle.mica_serve.specs.Ends.{EndFacts, ServesFronts, end_facts}
+use Rattle.mica_fronts.specs.Totals.{IsUpTo}
 use Rattle.mica_serve.specs.FrontRuns.{SumsUp}
 use Rattle.mica_serve.proofs.Gathered.{all_ran, few_answers, small_answers}
 use Rattle.mica_serve.proofs.run.serve_all.Given as given

@@ -1,8 +1,7 @@
-use Rattle.std.proofs.Common.{◌≡◌, List, map, vec_capacity, sym, ap, ◌∙◌, subst, arith}
+use Rattle.std.proofs.Common.{◌≡◌, map, vec_capacity, sym, ap, ◌∙◌, subst, arith}
 use Rattle.std.proofs.lemmas.Simd.{map-map}
 use Rattle.partition_table.specs.Tabled.{entry_in}
 use Rattle.mica_serve.specs.declared.worker.FrontTask.{FrontTask}
-use Rattle.mica_serve.specs.declared.queue_front.FrontPart.{FrontPart}
 use Rattle.mica_serve.specs.Ends.{EndFacts, end_facts}
 use Rattle.mica_serve.specs.FrontRuns.{RanAll}
 use Rattle.mica_serve.proofs.RunAll.{Paired, Ran, owners_ready, fronts_ready, served_long, meeting, all_came, idle}

@@ -2,12 +2,13 @@ use Rattle.std.proofs.Common.{◌≡◌, ◌+◌, ℕ, [], ◌∷◌, ◌++◌, 
 use Rattle.std.specs.Option.{option_to_list}
 use Rattle.std.proofs.lemmas.List.{length_push}
 use Rattle.std.proofs.lemmas.Option.{same_Some}
-use Rattle.mica_model.specs.History.{History, IsPrefix}
+use Rattle.list_laws.proofs.Places.{at_last}
+use Rattle.partition_model.specs.History.{History, IsPrefix}
 use Rattle.epoch_core.specs.declared.state.OwnerState.{OwnerState}
 use Rattle.partition_table.specs.Seats.{reader_state}
 use Rattle.owner_queue.specs.AckEnds.{AckBox, BeginsAcks}
 use Rattle.owner_queue.specs.Messages.{sent_by, has_end}
-use Rattle.mica_serve.proofs.Meetings.{last_of, get_last}
+use Rattle.mica_serve.proofs.Meetings.{last_of}
 use Rattle.mica_serve.proofs.worker.OwnerTask.meet.Goals as goal
 
 pub take_in-requires-clause-queue : goal.take_in-requires-clause-queue
@@ -28,7 +29,7 @@ take_in-requires-2 g c =
     let rest = c.pop.new.self.items in
     let is : c.args.self.now.acks.items ≡ rest ++ c.in-Some.answers ∷ [] = c.pop.ensures.items ∙ ap (λ o. rest ++ option_to_list o) c.in-Some.is in
     let may = c.requires.may (length rest) (ap length is ∙ length_push rest c.in-Some.answers) in
-    may.acks c.in-Some.answers (ap (λ l. slice_get l (length rest)) is ∙ get_last rest c.in-Some.answers)
+    may.acks c.in-Some.answers (ap (λ l. slice_get l (length rest)) is ∙ at_last rest c.in-Some.answers)
 
 pub meet-requires : goal.meet-requires
 meet-requires g c =
@@ -54,7 +55,7 @@ returns g c =
       met = record {
         whole = ap (λ (m : ℕ). sent_by m old.jobs.taken) (sym may.number) ∙ c.take_in.ensures.whole;
         begins = λ a at.
-            subst (λ (b : AckBox). BeginsAcks part.acks.list b.list) (same_Some _ _ (sym (ap (λ l. slice_get l (length rest)) is ∙ get_last rest c.in-Some.answers) ∙ at)) c.take_in-2.ensures.begins;
+            subst (λ (b : AckBox). BeginsAcks part.acks.list b.list) (same_Some _ _ (sym (ap (λ l. slice_get l (length rest)) is ∙ at_last rest c.in-Some.answers) ∙ at)) c.take_in-2.ensures.begins;
         seen = subst (λ (h : History). IsPrefix (reader_state part.seat).seen h) (ap (λ (o : OwnerState). o.history) met)
             (subst (λ (h : History). IsPrefix h (owner new).history) (ap (λ (o : OwnerState). o.met.seen) met) c.meet.ensures.kept.met_seen);
       };

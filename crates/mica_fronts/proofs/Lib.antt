@@ -1,0 +1,12 @@
+pub mod Runs
+pub mod InOrder
+pub mod Statuses
+pub mod Replying
+pub mod SentReplies
+pub mod Cut
+pub mod OneEnd
+pub mod Serving
+pub mod SoloSteps
+pub mod QueueSteps
+pub mod Telling
+pub mod OwnerSteps

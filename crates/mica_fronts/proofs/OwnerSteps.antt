@@ -1,0 +1,332 @@
+-- What an owner makes of one message more.
+use Rattle.std.proofs.Common.{◌≡◌, ◌≢◌, ℕ, ◌<◌, ◌≤◌, ◌==◌, inl, inr, Bool, true, false, List, [], ◌∷◌, ◌++◌, length, map, Some, None, slice_get, slice_set, length-set, refl, sym, ap, ◌∙◌, subst, arith, cond, append-nil, append_assoc, eq-eqb, ne_eqb}
+use Rattle.std.specs.List.{All, cons_option}
+use Rattle.std.proofs.lemmas.List.{map-append}
+use Rattle.std.proofs.lemmas.List.Elements.{filter_map-append, filter-append, All-nil, All-same, All-push, All-weaker, recursion_from_All}
+use Rattle.std.proofs.lemmas.Bool.{true≢false}
+use Rattle.list_laws.proofs.Places.{set_cases}
+use Rattle.list_laws.proofs.AllElements.{All-after, All-before, all_at}
+use Rattle.atomic_table.specs.Seated.{TableId}
+use Rattle.partition_model.specs.declared.options.Options.{Options}
+use Rattle.partition_model.specs.declared.write.Outcome.{Outcome}
+use Rattle.partition_model.specs.declared.write.Write.{Write}
+use Rattle.partition_model.specs.Write.{IsWrite, is_accepted}
+use Rattle.partition_model.specs.History.{History, IsPrefix, MayGive, stamp_of}
+use Rattle.partition_model.specs.Run.{RunStep, history_of, IsRunFrom}
+use Rattle.epoch_core.specs.declared.shape.Shape.{Shape}
+use Rattle.epoch_core.specs.declared.state.OwnerState.{OwnerState}
+use Rattle.epoch_core.specs.declared.state.Phase.{Phase}
+use Rattle.epoch_core.specs.declared.state.Phase.TheVariants.{Idle}
+use Rattle.epoch_core.specs.declared.reader.ReaderState.{ReaderState}
+use Rattle.epoch_core.specs.Shape.{options_of}
+use Rattle.epoch_core.specs.Joins.{ended_in, lent}
+use Rattle.epoch_core.proofs.Prefixes.{prefix_same}
+use Rattle.partition_table.specs.Seats.{note_state, note_home}
+use Rattle.partition_model.proofs.Rises.{stamp_rises}
+use Rattle.epoch_core.specs.OwnerState.{options_in}
+use Rattle.epoch_core.specs.OwnerStep.{IsOwnerStep}
+use Rattle.owner_queue.specs.declared.ack.Ack.{Ack}
+use Rattle.owner_queue.specs.declared.message.Job.{Job}
+use Rattle.owner_queue.specs.declared.message.Message.{Message}
+use Rattle.owner_queue.specs.declared.message.Message.TheVariants as kind
+use Rattle.owner_queue.specs.Messages.{sender_of, ticket_of, sent_by, MayFollow}
+use Rattle.owner_queue.specs.Acked.{IsReplyAt, IsAcked}
+use Rattle.owner_queue.specs.AckOrder.{AckMayFollow}
+use Rattle.owner_queue.specs.AckEnds.{AckBox, ack_box}
+use Rattle.owner_queue.specs.JobEnds.{Inbox, inbox}
+use Rattle.owner_queue.proofs.Gains.{step_gains}
+use Rattle.mica_fronts.specs.Placed.{Placed, steps_in, history_in}
+use Rattle.mica_fronts.specs.QueueFront.{acknowledged_by}
+use Rattle.mica_fronts.specs.OwnerWork.{DoneJob, job_in, jobs_in, job_of, placed_in, answers_to, IsAckBoxOf, IsNewAckBox, IsSent, HasDone, HasAnsweredJobs}
+use Rattle.mica_fronts.proofs.Runs.{stamp_grows, history_append, run_append}
+
+-- the acknowledgements to a front: those of its jobs, whose tickets nothing bounds but what bounds those of its messages
+pub record AckedTo (home : TableId) (owner : OwnerState) (front : ℕ) (taken : List Message) (box : AckBox) : Type 0 where
+  pub of : IsAckBoxOf home owner box
+  pub below : (bound : ℕ) → All (λ m. ticket_of m < bound) (sent_by front taken) → All (λ a. a.ticket < bound) box.list
+
+-- what was done until now
+pub record IsServing (home now_home : TableId) (old new : OwnerState) (from to : Inbox) (before after : List AckBox) : Type 0 where
+  pub home_is : now_home ≡ home
+  pub served : HasAnsweredJobs old new from to before after
+  pub each : (front : ℕ) (box : AckBox) → slice_get after front ≡ Some box → AckedTo home new front to.taken box
+
+-- nothing was done yet
+pub serves_none : (home : TableId) (o : OwnerState) (from : Inbox) (boxes : List AckBox) → from.taken ≡ [] → All (IsNewAckBox home o) boxes → IsServing home home o o from from boxes boxes
+serves_none home o from boxes fresh new = record {
+  home_is = refl;
+  served = record {
+    queue = refl;
+    low = All-same (λ m. sender_of m < from.senders) from.taken [] fresh (All-nil (λ m. sender_of m < from.senders));
+    done = [];
+    jobs = sym (ap jobs_in fresh);
+    run = tt;
+    gained = ap (λ (h : History). record o { history = h }) (sym (append-nil o.history));
+    fronts = refl;
+    sent = λ front was box at at'.
+        let same : was ≡ box = cc in
+        record {
+          same = ap (λ (b : AckBox). ack_box b.queue b.table b.shape box.list) (sym same);
+          answers = ap (map acknowledged_by) (new_at front box at').none;
+        };
+  };
+  each = λ front box at.
+      let it = new_at front box at in
+      record {
+        of = record {
+          table = it.table;
+          shape = it.shape;
+          stamps = All-same (λ a. a.stamp ≤ stamp_of (options_in o) o.history) box.list [] it.none (All-nil (λ a. a.stamp ≤ stamp_of (options_in o) o.history));
+        };
+        below = λ bound all. All-same (λ a. a.ticket < bound) box.list [] it.none (All-nil (λ a. a.ticket < bound));
+      };
+}
+  where
+    new_at : (front : ℕ) (box : AckBox) → slice_get boxes front ≡ Some box → IsNewAckBox home o box
+    new_at front box at = all_at (IsNewAckBox home o) boxes front box (recursion_from_All (IsNewAckBox home o) boxes new) at
+
+module _ (home now_home : TableId) (old mid : OwnerState) (from now to : Inbox) (before after : List AckBox) (m : Message)
+    (so_far : IsServing home now_home old mid from now before after)
+    (is : to ≡ inbox now.queue now.senders now.jobs (now.taken ++ m ∷ [])) (low : sender_of m < now.senders) where
+  taken_is : to.taken ≡ now.taken ++ m ∷ []
+  taken_is = ap (λ (i : Inbox). i.taken) is
+
+  queue_is : to ≡ inbox from.queue from.senders from.jobs to.taken
+  queue_is = is ∙ ap (λ (i : Inbox). inbox i.queue i.senders i.jobs (now.taken ++ m ∷ [])) so_far.served.queue ∙ ap (inbox from.queue from.senders from.jobs) (sym taken_is)
+
+  low_is : sender_of m < from.senders
+  low_is = subst (λ n. sender_of m < n) (ap (λ (i : Inbox). i.senders) so_far.served.queue) low
+
+  low_more : All (λ x. sender_of x < from.senders) to.taken
+  low_more = All-same (λ x. sender_of x < from.senders) to.taken (now.taken ++ m ∷ []) taken_is (All-push (λ x. sender_of x < from.senders) now.taken m so_far.served.low low_is)
+
+  sent_more : (front : ℕ) → sent_by front to.taken ≡ sent_by front now.taken ++ sent_by front (m ∷ [])
+  sent_more front = ap (sent_by front) taken_is ∙ filter-append (λ x. sender_of x == front) now.taken (m ∷ [])
+
+  below_still : (front : ℕ) (box : AckBox) → AckedTo home mid front now.taken box → (bound : ℕ) → All (λ x. ticket_of x < bound) (sent_by front to.taken) → All (λ a. a.ticket < bound) box.list
+  below_still front box it bound all = it.below bound (All-before (λ x. ticket_of x < bound) (sent_by front now.taken) (sent_by front (m ∷ [])) (subst (All (λ x. ticket_of x < bound)) (sent_more front) all))
+
+  jobs_more : jobs_in to.taken ≡ jobs_in now.taken ++ jobs_in (m ∷ [])
+  jobs_more = ap jobs_in taken_is ∙ filter_map-append job_in now.taken (m ∷ [])
+
+  pub serves_end : jobs_in (m ∷ []) ≡ [] → IsServing home now_home old mid from to before after
+  serves_end none = record {
+    home_is = so_far.home_is;
+    served = record {
+      queue = queue_is;
+      low = low_more;
+      done = so_far.served.done;
+      jobs = so_far.served.jobs ∙ sym (jobs_more ∙ ap (λ l. jobs_in now.taken ++ l) none ∙ append-nil (jobs_in now.taken));
+      run = so_far.served.run;
+      gained = so_far.served.gained;
+      fronts = so_far.served.fronts;
+      sent = so_far.served.sent;
+    };
+    each = λ front box at. let it = so_far.each front box at in record { of = it.of; below = below_still front box it };
+  }
+
+  pub front_below : (job : Job) → m ≡ kind.Job job → length before ≡ from.senders → job.sender < length after
+  front_below job job_is fronts = omega (arith, ap sender_of job_is, low_is, fronts, so_far.served.fronts)
+
+  module _ (job : Job) (job_is : m ≡ kind.Job job) (fronts : length before ≡ from.senders) (box : AckBox) (there : slice_get after job.sender ≡ Some box) where
+    here : AckedTo home mid job.sender now.taken box
+    here = so_far.each job.sender box there
+
+    pub job_fits : MayFollow now.jobs (sent_by (sender_of m) now.taken) m → IsWrite job.write
+    job_fits may = (subst (λ (x : Message). MayFollow now.jobs (sent_by (sender_of x) now.taken) x) job_is may).fit
+
+    pub box_of : IsAckBoxOf now_home mid box
+    box_of = subst (λ (h : TableId). IsAckBoxOf h mid box) (sym so_far.home_is) here.of
+
+    pub ticket_above : MayFollow now.jobs (sent_by (sender_of m) now.taken) m → All (λ a. a.ticket < job.ticket) box.list
+    ticket_above may = here.below job.ticket ((subst (λ (x : Message). MayFollow now.jobs (sent_by (sender_of x) now.taken) x) job_is may).rises refl)
+
+    module _ (new_home : TableId) (new : OwnerState) (sent : AckBox) (did : HasDone now_home new_home mid new job box sent) where
+      step : RunStep
+      step = record { write = job.write; outcome = did.ack.outcome; stamp = did.ack.stamp }
+
+      one : DoneJob
+      one = record { front = job.sender; answer = record { ticket = job.ticket; step = step } }
+
+      so : List DoneJob
+      so = so_far.served.done
+
+      steps : List RunStep
+      steps = steps_in (placed_in so)
+
+      gains : new ≡ record mid { words = new.words; history = mid.history ++ history_of (step ∷ []) }
+      unfolding step
+      gains = step_gains mid new job.write did.ack.outcome did.ack.stamp did.step
+
+      mid_history : mid.history ≡ old.history ++ history_of steps
+      unfolding steps so
+      mid_history = ap (λ (o : OwnerState). o.history) so_far.served.gained
+
+      mid_options : options_in mid ≡ options_in old
+      mid_options = ap options_in so_far.served.gained
+
+      new_options : options_in new ≡ options_in mid
+      new_options = ap options_in gains
+
+      new_history : new.history ≡ mid.history ++ history_of (step ∷ [])
+      new_history = ap (λ (o : OwnerState). o.history) gains
+
+      steps_more : steps_in (placed_in (so ++ one ∷ [])) ≡ steps ++ step ∷ []
+      unfolding steps one
+      steps_more = ap steps_in (map-append (λ (it : DoneJob). record { front = it.front; step = it.answer.step }) so (one ∷ [])) ∙ map-append (λ (q : Placed). q.step) (placed_in so) (placed_in (one ∷ []))
+
+      run_more : IsRunFrom (options_in old) old.history (steps_in (placed_in (so ++ one ∷ [])))
+      unfolding steps step so
+      run_more =
+          let may = subst (λ (y : Options × History). MayGive y.0 y.1 job.write did.ack.outcome) (λ i. (mid_options i, mid_history i)) did.step.allowed in
+          let stamped : did.ack.stamp ≡ stamp_of (options_in old) ((old.history ++ history_of steps) ++ history_of (step ∷ []))
+          = did.stamped ∙ ap (λ (y : Options × History). stamp_of y.0 y.1) (λ i. ((new_options ∙ mid_options) i, (new_history ∙ ap (λ h. h ++ history_of (step ∷ [])) mid_history) i)) in
+          subst (IsRunFrom (options_in old) old.history) (sym steps_more) (run_append (options_in old) old.history steps (step ∷ []) so_far.served.run (may, stamped, tt))
+
+      gained_more : new ≡ record old { words = new.words; history = old.history ++ history_in (placed_in (so ++ one ∷ [])) }
+      unfolding steps so
+      gained_more = gains ∙ ap (λ (o : OwnerState). record o { words = new.words; history = o.history ++ history_of (step ∷ []) }) so_far.served.gained
+          ∙ ap (λ (h : History). record old { words = new.words; history = h })
+          (append_assoc old.history (history_of steps) (history_of (step ∷ [])) ∙ ap (λ h. old.history ++ h) (sym (history_append steps (step ∷ [])) ∙ ap history_of (sym steps_more)))
+
+      answers_more : (front : ℕ) → answers_to front (so ++ one ∷ []) ≡ answers_to front so ++ answers_to front (one ∷ [])
+      answers_more front = filter_map-append (λ (it : DoneJob). cond (it.front == front) (Some it.answer) None) so (one ∷ [])
+
+      own_answer : answers_to job.sender (one ∷ []) ≡ one.answer ∷ []
+      unfolding one
+      own_answer = ap (λ b. cons_option (cond b (Some one.answer) None) []) (eq-eqb job.sender job.sender refl)
+
+      other_answer : (front : ℕ) → job.sender ≢ front → answers_to front (one ∷ []) ≡ []
+      unfolding one
+      other_answer front other = ap (λ b. cons_option (cond b (Some one.answer) None) []) (ne_eqb job.sender front other)
+
+      ack_is : acknowledged_by did.ack ≡ one.answer
+      unfolding one step
+      ack_is = λ i. record { ticket = did.ticket i; step = record { write = did.write i; outcome = did.ack.outcome; stamp = did.ack.stamp } }
+
+      list_is : sent.list ≡ box.list ++ did.ack ∷ []
+      list_is = ap (λ (b : AckBox). b.list) did.sent
+
+      sent_here : (was : AckBox) → slice_get before job.sender ≡ Some was → IsSent job.sender (so ++ one ∷ []) was sent
+      unfolding so
+      sent_here was at =
+          let it = so_far.served.sent job.sender was box at there in
+          record {
+            same = did.sent ∙ ap (λ (b : AckBox). ack_box b.queue b.table b.shape (box.list ++ did.ack ∷ [])) it.same ∙ ap (ack_box was.queue was.table was.shape) (sym list_is);
+            answers = ap (map acknowledged_by) list_is ∙ map-append acknowledged_by box.list (did.ack ∷ [])
+                ∙ (λ i. it.answers i ++ ack_is i ∷ []) ∙ sym (answers_more job.sender ∙ ap (λ l. answers_to job.sender so ++ l) own_answer);
+          }
+
+      sent_there : (front : ℕ) (was other : AckBox) → job.sender ≢ front → IsSent front so was other → IsSent front (so ++ one ∷ []) was other
+      sent_there front was other differs it = record {
+        same = it.same;
+        answers = it.answers ∙ sym (answers_more front ∙ ap (λ l. answers_to front so ++ l) (other_answer front differs) ∙ append-nil (answers_to front so));
+      }
+
+      up : stamp_of (options_in mid) mid.history ≤ stamp_of (options_in new) new.history
+      up =
+          let more = stamp_grows (options_in mid) mid.history (history_of (step ∷ [])) in
+          let same = ap (λ (y : Options × History). stamp_of y.0 y.1) (λ i. (new_options i, new_history i)) in
+          omega arith
+
+      shape_is : new.shape ≡ mid.shape
+      shape_is = ap (λ (o : OwnerState). o.shape) gains
+
+      no_above : (b : AckBox) → IsAckBoxOf home mid b → All (λ a. a.stamp ≤ stamp_of (options_in new) new.history) b.list
+      no_above b it = All-weaker (λ a. a.stamp ≤ stamp_of (options_in mid) mid.history) (λ a. a.stamp ≤ stamp_of (options_in new) new.history) (λ a le. omega (arith, up, le)) b.list it.stamps
+
+      each_here : AckedTo home new job.sender to.taken sent
+      each_here = record {
+        of = record {
+          table = ap (λ (b : AckBox). b.table) did.sent ∙ here.of.table;
+          shape = ap (λ (b : AckBox). b.shape) did.sent ∙ here.of.shape ∙ sym shape_is;
+          stamps = All-same (λ a. a.stamp ≤ stamp_of (options_in new) new.history) sent.list (box.list ++ did.ack ∷ []) list_is
+              (All-push (λ a. a.stamp ≤ stamp_of (options_in new) new.history) box.list did.ack (no_above box here.of) (omega (arith, did.stamped)));
+        };
+        below = λ bound all.
+            let last = All-after (λ x. ticket_of x < bound) (sent_by job.sender now.taken) m (subst (All (λ x. ticket_of x < bound)) (sent_more job.sender ∙ ap (λ l. sent_by job.sender now.taken ++ l) own_message) all) in
+            let ticket = ap ticket_of job_is in
+            All-same (λ a. a.ticket < bound) sent.list (box.list ++ did.ack ∷ []) list_is
+            (All-push (λ a. a.ticket < bound) box.list did.ack (below_still job.sender box here bound all) (omega (arith, last, ticket, did.ticket)));
+      }
+        where
+          own_message : sent_by job.sender (m ∷ []) ≡ m ∷ []
+          own_message = ap (λ b. cond b (m ∷ []) []) (eq-eqb (sender_of m) job.sender (ap sender_of job_is))
+
+      each_there : (front : ℕ) (other : AckBox) → AckedTo home mid front now.taken other → AckedTo home new front to.taken other
+      each_there front other it = record {
+        of = record { table = it.of.table; shape = it.of.shape ∙ sym shape_is; stamps = no_above other it.of };
+        below = below_still front other it;
+      }
+
+      pub serves_job : IsServing home new_home old new from to before (slice_set after job.sender sent)
+      unfolding so one step
+      serves_job = record {
+        home_is = did.home ∙ so_far.home_is;
+        served = record {
+          queue = queue_is;
+          low = low_more;
+          done = so ++ one ∷ [];
+          jobs = map-append job_of so (one ∷ []) ∙ (λ i. so_far.served.jobs i ++ job ∷ []) ∙ sym (jobs_more ∙ ap (λ (x : Message). jobs_in now.taken ++ jobs_in (x ∷ [])) job_is);
+          run = run_more;
+          gained = gained_more;
+          fronts = length-set after job.sender sent ∙ so_far.served.fronts;
+          sent = λ front was other at at'.
+              elim (set_cases after job.sender sent front other at') as (λ _. IsSent front (so ++ one ∷ []) was other) [
+                | inl same ↦ subst (λ (y : ℕ × AckBox). IsSent y.0 (so ++ one ∷ []) was y.1) (λ i. (same.0 i, same.1 i)) (sent_here was (ap (slice_get before) same.0 ∙ at))
+                | inr differs ↦ sent_there front was other differs.0 (so_far.served.sent front was other at differs.1)
+              ];
+        };
+        each = λ front other at.
+            elim (set_cases after job.sender sent front other at) as (λ _. AckedTo home new front to.taken other) [
+              | inl same ↦ subst (λ (y : ℕ × AckBox). AckedTo home new y.0 to.taken y.1) (λ i. (same.0 i, same.1 i)) each_here
+              | inr differs ↦ each_there front other (so_far.each front other differs.1)
+            ];
+      }
+
+-- The acknowledgement of one step
+
+module _ (mid new : OwnerState) (write : Write) (outcome : Outcome) (stamp : ℕ) (step : IsOwnerStep mid new write outcome) (stamped : stamp ≡ stamp_of (options_in new) new.history) where
+  same_shape : new.shape ≡ mid.shape
+  same_shape = ap (λ (o : OwnerState). o.shape) (step_gains mid new write outcome stamp step)
+
+  may : MayGive (options_in new) mid.history write outcome
+  may = subst (λ (s : Shape). MayGive (options_of s) mid.history write outcome) (sym same_shape) step.allowed
+
+  reply : (b : Bool) → new ≡ cond b (record mid { words = new.words; history = mid.history ++ write ∷ [] }) mid → IsReplyAt b (options_in new) new.history write outcome
+  reply true is = (mid.history, ap (λ (o : OwnerState). o.history) is, may)
+  reply false is = subst (λ (h : History). MayGive (options_in new) h write outcome) (sym (ap (λ (o : OwnerState). o.history) is)) may
+
+  pub step_acked : (note : ReaderState) → note ≡ lent new → new.phase ≡ Idle → IsAcked note write outcome stamp
+  step_acked note is idle = subst (λ (r : ReaderState). IsAcked r write outcome stamp) (sym is) (record {
+    cut = new.history;
+    is_cut = record { begins = prefix_same new.history; stamped = sym stamped };
+    ended = subst (λ (p : Phase). IsPrefix new.history (ended_in p new.history)) (sym idle) (prefix_same new.history);
+    reply = reply (is_accepted outcome) step.gained;
+  })
+
+  stamp_up : (b : Bool) → new ≡ cond b (record mid { words = new.words; history = mid.history ++ write ∷ [] }) mid → b ≡ true → stamp_of (options_in mid) mid.history < stamp
+  stamp_up true is _ =
+      let one = stamp_rises (options_in mid) mid.history write in
+      let here = ap (λ (y : Shape × History). stamp_of (options_of y.0) y.1) (λ i. (same_shape i, ap (λ (o : OwnerState). o.history) is i)) in
+      omega arith
+  stamp_up false is off = absurd (true≢false (sym off))
+
+  stamp_no_less : stamp_of (options_in mid) mid.history ≤ stamp
+  stamp_no_less =
+      let gains = step_gains mid new write outcome stamp step in
+      let more = stamp_grows (options_in mid) mid.history (history_of (record { write = write; outcome = outcome; stamp = stamp } ∷ [])) in
+      let here = ap (λ (y : Shape × History). stamp_of (options_of y.0) y.1) (λ i. (same_shape i, ap (λ (o : OwnerState). o.history) gains i)) in
+      omega arith
+
+  pub ack_may_follow : (home : TableId) (box : AckBox) (ack : Ack) → IsAckBoxOf home mid box → All (λ a. a.ticket < ack.ticket) box.list
+      → note_home ack.note ≡ home → note_state ack.note ≡ lent new → ack.outcome ≡ outcome → ack.stamp ≡ stamp → AckMayFollow box.table box.shape box.list ack
+  ack_may_follow home box ack of above at_home noted outcome_is stamp_is = record {
+    note = at_home ∙ sym of.table;
+    same = ap (λ (r : ReaderState). r.shape) noted ∙ same_shape ∙ sym of.shape;
+    ticket = above;
+    stamp = All-weaker (λ a. a.stamp ≤ stamp_of (options_in mid) mid.history) (λ a. a.stamp ≤ ack.stamp) (λ a le. omega (arith, le, stamp_no_less, stamp_is)) box.list of.stamps;
+    accepted = λ yes.
+        let up = stamp_up (is_accepted outcome) step.gained (ap is_accepted (sym outcome_is) ∙ yes) in
+        All-weaker (λ a. a.stamp ≤ stamp_of (options_in mid) mid.history) (λ a. a.stamp < ack.stamp) (λ a le. omega (arith, le, up, stamp_is)) box.list of.stamps;
+  }

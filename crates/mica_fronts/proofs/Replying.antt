@@ -1,0 +1,144 @@
+-- The reply to one request, and to bytes that are no batch.
+use Rattle.std.proofs.Common.{◌≡◌, ◌<◌, inl, inr, ℕ, Bool, true, false, eqb, ltb, List, [], ◌∷◌, ◌++◌, length, None, refl, sym, ap, ◌∙◌, subst, arith, length-append, Some}
+use Rattle.std.specs.Prelude.{Result, Ok, Err, Option, IfSome}
+use Rattle.std.proofs.lemmas.List.{append-nil}
+use Rattle.std.specs.Result.{OnErr}
+use Rattle.std.proofs.lemmas.Bool.{ltb-false}
+use Rattle.mica_words.specs.Item.{ValueFits}
+use Rattle.mica_words.specs.Hash.{partition_of}
+use Rattle.partition_model.specs.declared.options.Options.{Options}
+use Rattle.partition_model.specs.declared.write.Answer.{Answer}
+use Rattle.partition_model.specs.declared.write.Answer.TheVariants.{Hit, Miss}
+use Rattle.partition_model.specs.declared.write.Op.{Op}
+use Rattle.partition_model.specs.declared.write.Outcome.{Outcome}
+use Rattle.partition_model.specs.declared.write.Write.{Write}
+use Rattle.partition_model.specs.Write.{write_of, is_accepted}
+use Rattle.partition_model.specs.Answer.{IsAnswer}
+use Rattle.batch_packets.specs.declared.header.TheConstants.{MAX_VALUE_LEN_V1}
+use Rattle.batch_packets.specs.declared.batch.Request.{Request}
+use Rattle.batch_packets.specs.declared.batch.Batch.{Batch}
+use Rattle.batch_packets.specs.BatchGrammar.{IsRequest, SpellsBatch}
+use Rattle.batch_packets.specs.declared.replies.Reply.{Reply}
+use Rattle.batch_packets.specs.ReplyGrammar.{replies_text, IsReply}
+use Rattle.batch_packets.specs.Splitting.{SplitsInto}
+use Rattle.mica_fronts.specs.Turn.{Turn, write_in, partition_in, status_of, write_reply, get_reply}
+use Rattle.mica_fronts.specs.Session.{Sessions, Writes, Reads, ChangesOnly, AnswersBy, DealsWith}
+use Rattle.mica_fronts.specs.Dealing.{IsNoBatch, bad_batch_text}
+use Rattle.mica_fronts.specs.Answering.{RepliesTo, AnswersAll}
+use Rattle.mica_fronts.proofs.Statuses.{replied_status}
+
+pub err_anyway : {T E : Type 0} {X : Type 0} (r : Result T E) → X → OnErr r X
+err_anyway (Ok t) x = tt
+err_anyway (Err e) x = x
+
+-- a reply to a get is of its version
+lawful_get : (version ticket stamp : ℕ) (value : Option (List ℕ)) → IfSome value ValueFits → IsReply version (get_reply version ticket stamp value)
+lawful_get version ticket stamp None fits = record { status = refl; value = omega arith }
+lawful_get version ticket stamp (Some v) fits = by (eqb version 1) (ltb MAX_VALUE_LEN_V1 (length v)) refl refl
+  where
+    by : (first long : Bool) → eqb version 1 ≡ first → ltb MAX_VALUE_LEN_V1 (length v) ≡ long → IsReply version (get_reply version ticket stamp (Some v))
+    by true true is over = record { status = rw (is, over) refl; value = rw (is, over) (omega arith) }
+    by true false is under = record { status = rw (is, under) refl; value = rw (is, under) (ltb-false _ _ under) }
+    by false long is over = record { status = rw is refl; value = rw is fits }
+
+-- the value of an answer fits where the buffer does
+fits_of : (answer : Answer) (buffer : List ℕ) (value : Option (List ℕ)) → ValueFits buffer → IsAnswer answer buffer value → IfSome value ValueFits
+fits_of Hit buffer value fits is = subst (λ (o : Option (List ℕ)). IfSome o ValueFits) (sym is) fits
+fits_of Miss buffer value fits is = subst (λ (o : Option (List ℕ)). IfSome o ValueFits) (sym is.0) tt
+
+-- the reply to a get
+pub get_replied : (options : Options) (is_alone : Bool) (version : ℕ) (old new : Sessions) (request : Request) (key : List ℕ) (answer : Answer) (buffer : List ℕ) (stamp : ℕ) (value : Option (List ℕ))
+    → write_in request ≡ None → key ≡ request.key → ValueFits buffer → IsAnswer answer buffer value
+    → Reads options is_alone (old (partition_of key options.partitions)) key stamp value (new (partition_of key options.partitions))
+    → ChangesOnly (partition_of key options.partitions) old new
+    → RepliesTo options is_alone version old request new (get_reply version request.ticket stamp value)
+get_replied options is_alone version old new request key answer buffer stamp value none same fits is reads others =
+    let turn : Turn = record { version = version; request = request; reply = get_reply version request.ticket stamp value } in
+    let p = partition_in options turn in
+    record {
+      is = record { version_is = refl; ticket = ticket_in value; lawful = lawful_get version request.ticket stamp value (fits_of answer buffer value fits is) };
+      answers = record {
+        one = subst (λ (w : Option Write). AnswersBy options is_alone w (old p) turn (new p)) (sym none)
+            (stamp, value, refl, subst (λ (k : List ℕ). Reads options is_alone (old (partition_of k options.partitions)) k stamp value (new (partition_of k options.partitions))) same reads);
+        others = subst (λ (k : List ℕ). ChangesOnly (partition_of k options.partitions) old new) same others;
+      };
+    }
+  where
+    ticket_in : (value : Option (List ℕ)) → (get_reply version request.ticket stamp value).ticket ≡ request.ticket
+    ticket_in None = refl
+    ticket_in (Some v) = refl
+
+-- the reply to a write
+pub write_replied : (options : Options) (is_alone : Bool) (version : ℕ) (old new : Sessions) (request : Request) (op : Op) (key value : List ℕ) (outcome : Outcome) (stamp : ℕ)
+    → IsRequest version request → write_in request ≡ Some (write_of op request.key request.value) → key ≡ request.key → value ≡ request.value
+    → Writes options is_alone (old (partition_of key options.partitions)) (record { write = write_of op key value; outcome = outcome; stamp = stamp }) (new (partition_of key options.partitions))
+    → ChangesOnly (partition_of key options.partitions) old new
+    → RepliesTo options is_alone version old request new (record { status = status_of outcome; ticket = request.ticket; stamp = stamp; value = [] })
+write_replied options is_alone version old new request op key value outcome stamp lawful is same_key same_value writes others =
+    let turn : Turn = record { version = version; request = request; reply = record { status = status_of outcome; ticket = request.ticket; stamp = stamp; value = [] } } in
+    let p = partition_in options turn in
+    let write = write_of op request.key request.value in
+    let by_value = subst (λ (v : List ℕ). Writes options is_alone (old (partition_of key options.partitions)) (record { write = write_of op key v; outcome = outcome; stamp = stamp }) (new (partition_of key options.partitions))) same_value writes in
+    let here = subst (λ (k : List ℕ). Writes options is_alone (old (partition_of k options.partitions)) (record { write = write_of op k request.value; outcome = outcome; stamp = stamp }) (new (partition_of k options.partitions))) same_key by_value in
+    record {
+      is = record {
+        version_is = refl;
+        ticket = refl;
+        lawful = record {
+          status = replied_status version request.want request.key request.value lawful.operation options (is_accepted outcome) here.cut write outcome is here.reply;
+          value = omega arith;
+        };
+      };
+      answers = record {
+        one = subst (λ (w : Option Write). AnswersBy options is_alone w (old p) turn (new p)) (sym is) (
+          outcome,
+          ap (write_reply request.ticket outcome) (sym here.last),
+          subst (λ s. Writes options is_alone (old p) (record { write = write; outcome = outcome; stamp = s }) (new p)) (sym here.last) here,
+        );
+        others = subst (λ (k : List ℕ). ChangesOnly (partition_of k options.partitions) old new) same_key others;
+      };
+    }
+
+-- one reply is one datagram
+pub one_datagram : (version number : ℕ) (reply : Reply) (datagrams : List (List ℕ)) → SplitsInto version number (reply ∷ []) datagrams
+    → datagrams ≡ replies_text (record { version = version; number = number; replies = reply ∷ [] }) ∷ []
+one_datagram version number reply [] h = absurd (cc)
+one_datagram version number reply (d ∷ datagrams) h = by h.0 h.1 h.2.whole h.2.fits.some h.3 datagrams h.4
+  where
+    by : (group later : List Reply) → reply ∷ [] ≡ group ++ later → 0 < length group → d ≡ replies_text (record { version = version; number = number; replies = group })
+        → (datagrams : List (List ℕ)) → SplitsInto version number later datagrams → d ∷ datagrams ≡ replies_text (record { version = version; number = number; replies = reply ∷ [] }) ∷ []
+    by group later whole some text [] rest =
+        let len = ap length whole ∙ length-append group later in
+        let none : later ≡ [] = rest in
+        let one : group ≡ reply ∷ [] = sym (whole ∙ ap (λ (l : List Reply). group ++ l) none ∙ append-nil group) in
+        ap (λ (t : List ℕ). t ∷ []) (text ∙ ap (λ (g : List Reply). replies_text (record { version = version; number = number; replies = g })) one)
+    by group later whole some text (e ∷ datagrams) rest =
+        let len = ap length whole ∙ length-append group later in
+        let more = ap length rest.2.whole ∙ length-append rest.0 rest.1 in
+        let much = rest.2.fits.some in
+        absurd (omega arith)
+
+-- bytes with a fault are no batch, and get the one refusal
+pub refuses : (options : Options) (is_alone : Bool) (sessions : Sessions) (left : ℕ) (bytes : List ℕ) (replies : List (List ℕ)) → IsNoBatch bytes
+    → replies ≡ bad_batch_text ∷ [] → DealsWith options is_alone sessions left (record { datagram = bytes; turns = []; replies = replies }) sessions left
+refuses options is_alone sessions left bytes replies none is = record {
+  is = inr (record { no_batch = none; no_turns = refl; replies = is });
+  answers = λ q. refl;
+  few = omega arith;
+}
+
+-- all requests of a batch were answered
+pub answered : (options : Options) (is_alone : Bool) (old new : Sessions) (left left_after : ℕ) (bytes : List ℕ) (batch : Batch) (replies : List Reply) (datagrams : List (List ℕ))
+    → SpellsBatch bytes batch → (all : AnswersAll options is_alone batch.version old left batch.requests new left_after replies) → SplitsInto batch.version batch.number replies datagrams
+    → DealsWith options is_alone old left (record { datagram = bytes; turns = all.turns; replies = datagrams }) new left_after
+answered options is_alone old new left left_after bytes batch replies datagrams spelled all split = record {
+  is = inl (record {
+    batch = batch;
+    spelled = spelled;
+    requests = all.asked;
+    each = all.each;
+    split = subst (λ (r : List Reply). SplitsInto batch.version batch.number r datagrams) (sym all.replied) split;
+  });
+  answers = all.answers;
+  few = all.few;
+}

@@ -1,0 +1,170 @@
+-- What a step of one partition makes of a front that is alone: its history alone gains.
+use Rattle.std.proofs.Common.{◌≡◌, ℕ, zero, suc, ◌<◌, ◌≤◌, Bool, true, false, cond, List, [], ◌∷◌, ◌++◌, length, map, slice_set, slice_index_or, None, Some, refl, sym, ap, ◌∙◌, subst, arith}
+use Rattle.std.specs.Prelude.{◌≢◌, Option}
+use Rattle.std.proofs.Math.Seq.{map-set_same}
+use Rattle.std.specs.List.{cons_option, AllByRecursion}
+use Rattle.std.proofs.lemmas.List.{append-nil, length-map, map-set}
+use Rattle.partition_model.specs.declared.options.Options.{Options}
+use Rattle.partition_model.specs.declared.write.Write.{Write}
+use Rattle.partition_model.specs.declared.write.Outcome.{Outcome}
+use Rattle.partition_model.specs.Write.{is_accepted}
+use Rattle.partition_model.specs.declared.write.Answer.{Answer}
+use Rattle.partition_model.specs.Answer.{IsAnswer}
+use Rattle.partition_model.specs.History.{History, MayGive, stamp_of, stamp_in, value_in, answer_of}
+use Rattle.partition_model.specs.Run.{RunStep, history_of}
+use Rattle.partition_model.proofs.Rises.{stamp_rises}
+use Rattle.epoch_core.specs.declared.state.OwnerState.{OwnerState}
+use Rattle.epoch_core.specs.declared.shape.Shape.{Shape}
+use Rattle.epoch_core.specs.Shape.{shape_of, options_of}
+use Rattle.epoch_core.specs.OwnerState.{options_in, as_made}
+use Rattle.epoch_core.specs.OwnerStep.{IsOwnerStep}
+use Rattle.epoch_core.proofs.SameMachine.{same_state, same_may_give}
+use Rattle.owner_queue.specs.Acked.{IsReplyAt}
+use Rattle.mica_fronts.specs.Session.{Session, Writes, ChangesOnly}
+use Rattle.mica_fronts.specs.Solo.{Solo, StepsPartition, history_at, alone_with, sessions_in}
+use Rattle.mica_fronts.proofs.Runs.{stamp_grows}
+
+-- what a step makes of its owner's history, by the options
+pub record Stepped (options : Options) (old new : OwnerState) (write : Write) (outcome : Outcome) : Type 0 where
+  pub may : MayGive options old.history write outcome
+  pub gained : (stamp : ℕ) → new.history ≡ old.history ++ history_of (record { write = write; outcome = outcome; stamp = stamp } ∷ [])
+  pub shape : new.shape ≡ old.shape
+
+pub stepped : (options : Options) (old new : OwnerState) (write : Write) (outcome : Outcome) → old.shape ≡ shape_of options → IsOwnerStep old new write outcome → Stepped options old new write outcome
+stepped options old new write outcome shaped step = record {
+  may = same_may_give options old.history write outcome (subst (λ s. MayGive (options_of s) old.history write outcome) shaped step.allowed);
+  gained = λ stamp. ap (λ (o : OwnerState). o.history) step.gained ∙ by (is_accepted outcome);
+  shape = ap (λ (o : OwnerState). o.shape) step.gained ∙ shapes (is_accepted outcome);
+}
+  where
+    by : (b : Bool) → (cond b (record old { words = new.words; history = old.history ++ write ∷ [] }) old).history
+        ≡ old.history ++ cons_option (cond b (Some write) None) []
+    by true = refl
+    by false = sym (append-nil old.history)
+
+    shapes : (b : Bool) → (cond b (record old { words = new.words; history = old.history ++ write ∷ [] }) old).shape ≡ old.shape
+    shapes true = refl
+    shapes false = refl
+
+-- a stamp by the shape is that by the options
+pub same_stamp : (options : Options) (owner : OwnerState) → owner.shape ≡ shape_of options → stamp_of (options_in owner) owner.history ≡ stamp_of options owner.history
+same_stamp options owner shaped = ap (λ s. stamp_of (options_of s) owner.history) shaped ∙ ap stamp_in (same_state options owner.history)
+
+-- an answer by the shape is that by the options
+pub same_answer : (options : Options) (owner : OwnerState) (key : List ℕ) → owner.shape ≡ shape_of options → answer_of (options_in owner) owner.history key ≡ answer_of options owner.history key
+same_answer options owner key shaped = ap (λ s. answer_of (options_of s) owner.history key) shaped ∙ ap (λ s. value_in s key) (same_state options owner.history)
+
+-- the history of a partition that was changed, and of another
+pub history_set : (histories : List History) (p : ℕ) (history : History) → p < length histories → history_at (slice_set histories p history) p ≡ history
+history_set [] p history lt = absurd (omega arith)
+history_set (h ∷ histories) zero history lt = refl
+history_set (h ∷ histories) (suc p) history lt = history_set histories p history (omega arith)
+
+pub history_others : (histories : List History) (p q : ℕ) (history : History) → q ≢ p → history_at (slice_set histories p history) q ≡ history_at histories q
+history_others [] p q history other = refl
+history_others (h ∷ histories) zero zero history other = absurd (other refl)
+history_others (h ∷ histories) zero (suc q) history other = refl
+history_others (h ∷ histories) (suc p) zero history other = refl
+history_others (h ∷ histories) (suc p) (suc q) history other = history_others histories p q history (λ e. other (ap suc e))
+
+module _ {P : Type 0} (owner : P → OwnerState) where
+  abbrev pub history_in : P → History
+  history_in part = (owner part).history
+
+  pub history_map : (parts : List P) (at : ℕ) (d : P) → at < length parts → history_at (map history_in parts) at ≡ history_in (slice_index_or parts at d)
+  history_map [] at d lt = absurd (omega arith)
+  history_map (part ∷ parts) zero d lt = refl
+  history_map (part ∷ parts) (suc at) d lt = history_map parts at d (omega arith)
+
+  -- partitions as made have no history
+  pub none_made : (shape : Shape) (parts : List P) (p : ℕ) → AllByRecursion (λ part. owner part ≡ as_made shape) parts → history_at (map history_in parts) p ≡ []
+  none_made shape [] p all = refl
+  none_made shape (part ∷ parts) zero all = ap (λ (o : OwnerState). o.history) all.0
+  none_made shape (part ∷ parts) (suc p) all = none_made shape parts p all.1
+
+  -- one partition took a step, and was put back
+  pub put_back : (options : Options) (parts : List P) (at : ℕ) (part new : P) (write : Write) (outcome : Outcome) (stamp : ℕ)
+      → at < length parts → part ≡ slice_index_or parts at part → (owner (slice_index_or parts at part)).shape ≡ shape_of options
+      → IsOwnerStep (owner part) (owner new) write outcome → stamp ≡ stamp_of (options_in (owner new)) (owner new).history
+      → StepsPartition (record { options = options; histories = map history_in parts }) at (record { write = write; outcome = outcome; stamp = stamp })
+      (record { options = options; histories = map history_in (slice_set parts at new) })
+  put_back options parts at part new write outcome stamp below there shape step stamped =
+      let shaped = ap (λ (p : P). (owner p).shape) there ∙ shape in
+      let s = stepped options (owner part) (owner new) write outcome shaped step in
+      let before : history_at (map history_in parts) at ≡ history_in part = history_map parts at part below ∙ ap history_in (sym there) in
+      let gained : history_in new ≡ history_at (map history_in parts) at ++ history_of (record { write = write; outcome = outcome; stamp = stamp } ∷ []) =
+      s.gained stamp ∙ ap (λ (h : History). h ++ history_of (record { write = write; outcome = outcome; stamp = stamp } ∷ [])) (sym before) in
+      record {
+        here = omega (arith, length-map parts history_in);
+        may = subst (λ (h : History). MayGive options h write outcome) (sym before) s.may;
+        stamped = stamped ∙ same_stamp options (owner new) (s.shape ∙ shaped) ∙ ap (stamp_of options) gained;
+        gained = ap (λ (hs : List History). record { options = options; histories = hs })
+            (map-set history_in parts at new ∙ ap (λ (h : History). slice_set (map history_in parts) at h) gained);
+      }
+
+  -- a partition answered, and was put back
+  pub read_there : (options : Options) (parts : List P) (at p : ℕ) (part after : P) (key : List ℕ) (answer : Answer) (buffer : List ℕ) (stamp : ℕ)
+      → at ≡ p → at < length parts → part ≡ slice_index_or parts at part → (owner (slice_index_or parts at part)).shape ≡ shape_of options → owner after ≡ owner part
+      → IsAnswer answer buffer (answer_of (options_in (owner part)) (owner part).history key) → stamp ≡ stamp_of (options_in (owner after)) (owner after).history
+      → IsAnswer answer buffer (answer_of options (history_at (map history_in parts) p) key) × (stamp ≡ stamp_of options (history_at (map history_in parts) p))
+  read_there options parts at p part after key answer buffer stamp number below there shape same is stamped =
+      let shaped = ap (λ (p : P). (owner p).shape) there ∙ shape in
+      let here : history_in part ≡ history_at (map history_in parts) p =
+      ap history_in there ∙ sym (history_map parts at part below) ∙ ap (history_at (map history_in parts)) number in (
+        subst (λ (v : Option (List ℕ)). IsAnswer answer buffer v)
+            (same_answer options (owner part) key shaped ∙ ap (λ (h : History). answer_of options h key) here) is,
+        stamped ∙ ap (λ (o : OwnerState). stamp_of (options_in o) o.history) same ∙ same_stamp options (owner part) shaped ∙ ap (stamp_of options) here,
+      )
+
+  pub read_back : (parts : List P) (at : ℕ) (part after : P) → part ≡ slice_index_or parts at part → owner after ≡ owner part
+      → map history_in (slice_set parts at after) ≡ map history_in parts
+  read_back parts at part after there same = map-set_same history_in parts at after part (ap (λ (o : OwnerState). o.history) same ∙ ap history_in there)
+
+module _ (old : Solo) (p : ℕ) (step : RunStep) (new : Solo) (h : StepsPartition old p step new) where
+  before : History
+  before = history_at old.histories p
+
+  after : History
+  after = before ++ history_of (step ∷ [])
+
+  session : sessions_in new p ≡ alone_with old.options after
+  unfolding before after
+  session = ap (λ (s : Solo). alone_with s.options (history_at s.histories p)) h.gained ∙ ap (alone_with old.options) (history_set old.histories p _ h.here)
+
+  reply : (b : Bool) → is_accepted step.outcome ≡ b → IsReplyAt b old.options after step.write step.outcome
+  unfolding before after
+  reply true is = (before, ap (λ b. before ++ cons_option (cond b (Some step.write) None) []) is, h.may)
+  reply false is = subst (λ (x : History). MayGive old.options x step.write step.outcome)
+      (sym (ap (λ b. before ++ cons_option (cond b (Some step.write) None) []) is ∙ append-nil before)) h.may
+
+  rises : (b : Bool) → is_accepted step.outcome ≡ b → b ≡ true → stamp_of old.options before < step.stamp
+  unfolding before after
+  rises true is _ =
+      let one = stamp_rises old.options before step.write in
+      let same = ap (λ b. before ++ cons_option (cond b (Some step.write) None) []) is in
+      omega (arith, h.stamped, ap (stamp_of old.options) same)
+  rises false is none = absurd (cc)
+
+  grows : stamp_of old.options before ≤ step.stamp
+  unfolding before after
+  grows = omega (arith, h.stamped, stamp_grows old.options before (history_of (step ∷ [])))
+
+  -- the step is what a front that is alone answers
+  pub writes_alone : Writes old.options true (sessions_in old p) step (sessions_in new p)
+  unfolding before after
+  writes_alone = subst (λ (s : Session). Writes old.options true (sessions_in old p) step s) (sym session) (record {
+    grows = (history_of (step ∷ []), refl);
+    cut = after;
+    at = record { begins = ([], sym (append-nil after)); stamped = sym h.stamped };
+    reply = reply (is_accepted step.outcome) refl;
+    done = (history_of (step ∷ []), refl);
+    ended = ([], sym (append-nil after));
+    order = grows;
+    rises = λ accepted. rises (is_accepted step.outcome) refl accepted;
+    last = sym h.stamped;
+    alone = λ _. ((h.may, h.stamped, tt), refl);
+    told = refl;
+  })
+
+  pub changes_only : ChangesOnly p (sessions_in old) (sessions_in new)
+  changes_only q other = ap (λ (s : Solo). alone_with s.options (history_at s.histories q)) h.gained ∙ ap (alone_with old.options) (history_others old.histories p q _ other)

@@ -1,0 +1,194 @@
+-- What a front knows once it has told its seat the note of an acknowledgement, and once its seat has answered a get.
+use Rattle.std.proofs.Common.{◌≡◌, ℕ, ◌<◌, ◌≤◌, Bool, true, false, List, [], ◌∷◌, ◌++◌, length, map, Option, Some, None, refl, sym, ap, ◌∙◌, subst, arith, append-nil, append_assoc, length-append}
+use Rattle.std.specs.List.{All, AllByRecursion, fold}
+use Rattle.std.proofs.lemmas.Bool.{true≢false}
+use Rattle.std.proofs.lemmas.List.{map-append}
+use Rattle.std.proofs.lemmas.List.Elements.{recursion_from_All}
+use Rattle.list_laws.proofs.AllElements.{before_all}
+use Rattle.partition_model.specs.declared.options.Options.{Options}
+use Rattle.partition_model.specs.declared.write.Answer.{Answer}
+use Rattle.partition_model.specs.declared.write.Answer.TheVariants.{Hit, Miss}
+use Rattle.partition_model.specs.declared.write.Outcome.{Outcome}
+use Rattle.partition_model.specs.declared.write.Write.{Write}
+use Rattle.partition_model.specs.Answer.{IsAnswer}
+use Rattle.partition_model.specs.Write.{is_accepted}
+use Rattle.partition_model.specs.History.{History, IsPrefix, stamp_in, stamp_of}
+use Rattle.partition_model.proofs.Rises.{stamp_rises}
+use Rattle.epoch_core.specs.declared.shape.Shape.{Shape}
+use Rattle.epoch_core.specs.declared.reader.ReaderState.{ReaderState}
+use Rattle.epoch_core.specs.Shape.{shape_of, options_of}
+use Rattle.epoch_core.specs.ReaderState.{stamped}
+use Rattle.epoch_core.specs.Joins.{told}
+use Rattle.epoch_core.proofs.SameMachine.{same_state, same_may_give}
+use Rattle.epoch_core.proofs.Prefixes.{prefix_then}
+use Rattle.partition_table.specs.Seats.{reader_state, reader_home, note_state}
+use Rattle.optimistic_get.specs.declared.getting.Got.{Got}
+use Rattle.optimistic_get.specs.declared.getting.Got.TheVariants.{Hit as GotHit, Miss as GotMiss}
+use Rattle.optimistic_get.specs.Asked.{IsReadAt, IsRead}
+use Rattle.optimistic_get.proofs.Repeated.{same_answer}
+use Rattle.owner_queue.specs.declared.ack.Ack.{Ack}
+use Rattle.owner_queue.specs.declared.message.Job.{Job}
+use Rattle.owner_queue.specs.declared.message.Message.TheVariants as message
+use Rattle.owner_queue.specs.Acked.{IsReplyAt, IsAcked}
+use Rattle.owner_queue.specs.AckOrder.{AckMayFollow}
+use Rattle.owner_queue.specs.AckEnds.{AckBox, ack_box}
+use Rattle.owner_queue.specs.JobEnds.{Outbox, outbox}
+use Rattle.mica_fronts.specs.declared.queue_front.FrontPart.{FrontPart}
+use Rattle.mica_fronts.specs.Session.{Writes, Reads, TellsStep}
+use Rattle.mica_fronts.specs.QueueFront.{IsWhole, HasTakenMore, HasAwaited, PartWrites, PartReads, acknowledged_by, last_stamp, told_by, session_of}
+
+-- The last stamp
+
+last_of : (acks : List Ack) (ack : Ack) (z : ℕ) → fold (λ stamp a. a.stamp) z (acks ++ ack ∷ []) ≡ ack.stamp
+last_of [] ack z = refl
+last_of (a ∷ acks) ack z = last_of acks ack a.stamp
+
+-- whatever holds of a number and of each stamp holds of the last
+last_is : (P : ℕ → Type 0) (acks : List Ack) (z : ℕ) → P z → AllByRecursion (λ a. P a.stamp) acks → P (fold (λ stamp a. a.stamp) z acks)
+last_is P [] z first all = first
+last_is P (a ∷ acks) z first all = last_is P acks a.stamp all.0 all.1
+
+-- Acknowledgements taken
+
+pub awaits_none : (box : AckBox) → HasTakenMore box box
+awaits_none box = record { more = []; taken = ap (ack_box box.queue box.table box.shape) (sym (append-nil box.list)) }
+
+module _ (old mid new : AckBox) (ack : Ack) (so_far : HasTakenMore old mid) (is : new ≡ ack_box mid.queue mid.table mid.shape (mid.list ++ ack ∷ [])) where
+  taken_more : new ≡ ack_box old.queue old.table old.shape (old.list ++ so_far.more ++ ack ∷ [])
+  taken_more = is ∙ ap (λ (b : AckBox). ack_box b.queue b.table b.shape (b.list ++ ack ∷ [])) so_far.taken
+
+  pub awaits_more : HasTakenMore old new
+  awaits_more = record { more = so_far.more ++ ack ∷ []; taken = taken_more ∙ ap (ack_box old.queue old.table old.shape) (append_assoc old.list so_far.more (ack ∷ [])) }
+
+  pub awaits_this : (ticket : ℕ) (write : Write) → AckMayFollow mid.table mid.shape mid.list ack → IsAcked (note_state ack.note) ack.write ack.outcome ack.stamp → ack.ticket ≡ ticket → ack.write ≡ write
+      → HasAwaited old ticket write ack new
+  awaits_this ticket write order acked ticket_is write_is = record {
+    more = so_far.more;
+    taken = taken_more;
+    order = subst (λ (b : AckBox). AckMayFollow b.table b.shape b.list ack) so_far.taken order;
+    acked = acked;
+    ticket_is = ticket_is;
+    write_is = write_is;
+  }
+
+-- A reply by the options of the shape is one by the options
+
+same_reply : (options : Options) (b : Bool) (cut : History) (write : Write) (outcome : Outcome) → IsReplyAt b (options_of (shape_of options)) cut write outcome → IsReplyAt b options cut write outcome
+same_reply options true cut write outcome is = (is.0, is.1, same_may_give options is.0 write outcome is.2)
+same_reply options false cut write outcome is = same_may_give options cut write outcome is
+
+-- the stamp after an accepted write is above 0
+above_none : (options : Options) (b : Bool) (cut : History) (write : Write) (outcome : Outcome) (stamp : ℕ) → stamp_of options cut ≡ stamp → IsReplyAt b options cut write outcome → b ≡ true → 0 < stamp
+above_none options true cut write outcome stamp is reply _ =
+    let one = stamp_rises options reply.0 write in
+    let here = ap (stamp_of options) reply.1 in
+    omega arith
+above_none options false cut write outcome stamp is reply off = absurd (true≢false (sym off))
+
+module _ (old new : FrontPart) (job : Job) (ack : Ack) (whole : IsWhole old) (awaited : HasAwaited old.acks job.ticket job.write ack new.acks)
+    (jobs : new.jobs ≡ outbox old.jobs.queue old.jobs.number old.jobs.jobs (old.jobs.sent ++ message.Job job ∷ []))
+    (event : reader_state new.seat ≡ stamped (reader_state new.seat).seen (told (reader_state old.seat) (note_state ack.note)))
+    (seen : IsPrefix (reader_state old.seat).seen (reader_state new.seat).seen × IsPrefix (note_state ack.note).seen (reader_state new.seat).seen)
+    (done : IsPrefix (reader_state old.seat).done (reader_state new.seat).done × IsPrefix (note_state ack.note).done (reader_state new.seat).done) where
+  list : new.acks.list ≡ old.acks.list ++ awaited.more ++ ack ∷ []
+  list = ap (λ (b : AckBox). b.list) awaited.taken
+
+  earlier : (P : ℕ → Type 0) → P 0 → All (λ a. P a.stamp) (old.acks.list ++ awaited.more) → P (last_stamp old.acks.list)
+  earlier P none all = last_is P old.acks.list 0 none (before_all (λ a. P a.stamp) old.acks.list awaited.more (recursion_from_All (λ a. P a.stamp) (old.acks.list ++ awaited.more) all))
+
+  tells : TellsStep (told_by old) (record { write = job.write; outcome = ack.outcome; stamp = ack.stamp }) (told_by new)
+  tells = record {
+    stand = ap (λ (y : AckBox × Outbox). record { jobs = y.1.queue; number = y.1.number; most = y.1.jobs; acks = y.0.queue; table = y.0.table }) (λ i. (awaited.taken i, jobs i));
+    more = map acknowledged_by awaited.more;
+    ticket = ack.ticket;
+    acks = ap (map acknowledged_by) list ∙ map-append acknowledged_by (old.acks.list ++ awaited.more) (ack ∷ [])
+        ∙ ap (λ l. l ++ map acknowledged_by (ack ∷ [])) (map-append acknowledged_by old.acks.list awaited.more)
+        ∙ ap (λ (w : Write). map acknowledged_by old.acks.list ++ map acknowledged_by awaited.more ++ record { ticket = ack.ticket; step = record { write = w; outcome = ack.outcome; stamp = ack.stamp } } ∷ []) awaited.write_is;
+    closed = ap (λ (r : ReaderState). r.closed) event;
+  }
+
+  module _ (options : Options) (shape : (reader_state old.seat).shape ≡ shape_of options) where
+    note_shape : (note_state ack.note).shape ≡ shape_of options
+    note_shape = awaited.order.same ∙ whole.shape ∙ shape
+
+    acked : IsAcked (note_state ack.note) job.write ack.outcome ack.stamp
+    acked = subst (λ (w : Write). IsAcked (note_state ack.note) w ack.outcome ack.stamp) awaited.write_is awaited.acked
+
+    stamp_is : stamp_of options acked.cut ≡ ack.stamp
+    stamp_is = sym (ap stamp_in (same_state options acked.cut)) ∙ subst (λ (s : Shape). stamp_of (options_of s) acked.cut ≡ ack.stamp) note_shape acked.is_cut.stamped
+
+    reply : IsReplyAt (is_accepted ack.outcome) options acked.cut job.write ack.outcome
+    reply = same_reply options (is_accepted ack.outcome) acked.cut job.write ack.outcome
+        (subst (λ (s : Shape). IsReplyAt (is_accepted ack.outcome) (options_of s) acked.cut job.write ack.outcome) note_shape acked.reply)
+
+    pub written : Writes options false (session_of old) (record { write = job.write; outcome = ack.outcome; stamp = ack.stamp }) (session_of new)
+    written = record {
+      grows = seen.0;
+      cut = acked.cut;
+      at = record { begins = prefix_then acked.cut (note_state ack.note).seen (reader_state new.seat).seen acked.is_cut.begins seen.1; stamped = stamp_is };
+      reply = reply;
+      done = done.0;
+      ended = prefix_then acked.cut (note_state ack.note).done (reader_state new.seat).done acked.ended done.1;
+      order = earlier (λ n. n ≤ ack.stamp) (omega arith) awaited.order.stamp;
+      rises = λ accepted. earlier (λ n. n < ack.stamp) (above_none options (is_accepted ack.outcome) acked.cut job.write ack.outcome ack.stamp stamp_is reply accepted) (awaited.order.accepted accepted);
+      last = ap last_stamp list ∙ last_of (old.acks.list ++ awaited.more) ack 0;
+      alone = λ off. absurd (true≢false (sym off));
+      told = (told_by new, refl, tells);
+    }
+
+  pub part_writes : (home : (reader_home new.seat) ≡ reader_home old.seat) → PartWrites old job ack.outcome ack.stamp new
+  part_writes home = record {
+    jobs = jobs;
+    stays = record {
+      shape = ap (λ (r : ReaderState). r.shape) event;
+      home = home;
+      acks = awaited.taken ∙ ap (λ l. record { queue = old.acks.queue; table = old.acks.table; shape = old.acks.shape; list = l }) (sym list);
+    };
+    written = written;
+  }
+
+-- A get
+
+was_read : (options : Options) (old new : FrontPart) (key : List ℕ) (stamp : ℕ) (value : Option (List ℕ)) → (reader_state old.seat).shape ≡ shape_of options
+    → new.jobs ≡ old.jobs → new.acks ≡ old.acks → IsReadAt (reader_state old.seat) key stamp value (reader_state new.seat)
+    → Reads options false (session_of old) key stamp value (session_of new)
+was_read options old new key stamp value shape jobs acks read =
+    let seat = read.seat in
+    let failed = length-append (reader_state old.seat).fails seat.more in
+    let fails = ap length seat.fails in
+    record {
+      grows = seat.seen;
+      answer = same_answer options (reader_state old.seat).shape (reader_state new.seat).seen key stamp value shape read.answer;
+      done = seat.done;
+      last = ap (λ (b : AckBox). last_stamp b.list) acks;
+      alone = λ off. absurd (true≢false (sym off));
+      told = (
+        length seat.more,
+        ap Some (λ i. record {
+          stand = record { jobs = (jobs i).queue; number = (jobs i).number; most = (jobs i).jobs; acks = (acks i).queue; table = (acks i).table };
+          acks = map acknowledged_by (acks i).list;
+          tried = seat.tried i;
+          failed = (fails ∙ failed) i;
+          closed = seat.closed i;
+        }),
+      );
+    }
+
+module _ (old new : FrontPart) (key : List ℕ) (stamp : ℕ) (buffer : List ℕ) (jobs : new.jobs ≡ old.jobs) (acks : new.acks ≡ old.acks) (home : reader_home new.seat ≡ reader_home old.seat) where
+  part_reads : (answer : Answer) (value : Option (List ℕ)) → IsAnswer answer buffer value → IsReadAt (reader_state old.seat) key stamp value (reader_state new.seat) → PartReads old key answer stamp buffer new
+  part_reads answer value is read = record {
+    jobs = jobs;
+    acks = acks;
+    stays = record { shape = read.seat.shape; home = home; acks = acks ∙ ap (λ (b : AckBox). ack_box old.acks.queue old.acks.table old.acks.shape b.list) (sym acks) };
+    value = value;
+    is = is;
+    read = λ options shape. was_read options old new key stamp value shape jobs acks read;
+  }
+
+  pub reads_hit : (got : Got) → got ≡ GotHit stamp → IsRead (reader_state old.seat) key got buffer (reader_state new.seat) → PartReads old key Hit stamp buffer new
+  reads_hit got is read = part_reads Hit (Some buffer) refl (subst (λ (g : Got). IsRead (reader_state old.seat) key g buffer (reader_state new.seat)) is read)
+
+  pub reads_miss : (got : Got) → got ≡ GotMiss stamp → IsRead (reader_state old.seat) key got buffer (reader_state new.seat) → PartReads old key Miss stamp buffer new
+  reads_miss got is read =
+      let it = subst (λ (g : Got). IsRead (reader_state old.seat) key g buffer (reader_state new.seat)) is read in
+      part_reads Miss None (refl, it.1) it.0

@@ -1,0 +1,16 @@
+use Rattle.std.proofs.Common.{[], sym}
+use Rattle.std.proofs.lemmas.Bool.{true≢false}
+use Rattle.std.proofs.lemmas.Result.{IfOk-weaker}
+use Rattle.mica_fronts.proofs.Replying.{refuses}
+use Rattle.mica_fronts.proofs.deal.deal.Goals as goal
+
+pub returns-in-Err-clause-dealt : goal.returns-in-Err-clause-dealt
+returns-in-Err-clause-dealt g c =
+    IfOk-weaker c.refuse.result _ _
+    (λ dealt made. (
+      [],
+      made.0,
+      refuses (g.F.Front.options c.args.front.now) g.F.Front.is_alone (g.F.Front.sessions c.args.front.now) (g.F.Front.left c.args.front.now) c.args.from.now dealt.replies.items
+          (λ batch spelled. true≢false (sym (c.in-Err.ensures.only batch spelled))) made.1,
+    ))
+    c.refuse.ensures

@@ -1,0 +1,17 @@
+use Rattle.std.proofs.Common.{◌∙◌, sym, subst}
+use Rattle.partition_model.specs.declared.write.Write.{Write}
+use Rattle.mica_fronts.specs.declared.queue_front.FrontPart.{FrontPart}
+use Rattle.mica_fronts.specs.QueueFront.{HasAwaited}
+use Rattle.mica_fronts.proofs.Telling.{part_writes}
+use Rattle.mica_fronts.proofs.queue_front.FrontPart.write.Goals as goal
+
+pub tell-requires : goal.tell-requires
+tell-requires g c = c.await_ack-ack.ensures.order.note ∙ c.requires.whole.home
+
+pub returns : goal.returns
+returns g c =
+    let old = c.args.self.now in
+    let ack = c.await_ack-ack.result in
+    let new : FrontPart = record { seat = c.tell.new.self; jobs = c.send.new.self; acks = c.await_ack-ack.new.acks } in
+    let awaited = subst (λ (w : Write). HasAwaited old.acks c.args.job.ticket w ack new.acks) (sym c.requires.write) c.await_ack-ack.ensures in
+    part_writes old new c.args.job ack c.requires.whole awaited c.send.ensures c.tell.ensures.event c.tell.ensures.seen c.tell.ensures.done c.tell.ensures.home

@@ -1,0 +1,11 @@
+pub mod Turn
+pub mod Dealing
+pub mod Session
+pub mod Answering
+pub mod Placed
+pub mod Totals
+pub mod OneEnd
+pub mod QueueFront
+pub mod OwnerWork
+pub mod Solo
+pub mod Owners

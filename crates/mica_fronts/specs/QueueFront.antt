@@ -1,0 +1,148 @@
+-- What contracts see of a front before owners in other threads.
+use Rattle.std.specs.Prelude.{◌≡◌, ℕ, ◌+◌, ◌<◌, false, List, [], ◌∷◌, ◌++◌, All, map, length, fold, sum_by, slice_get, Option, Some, None}
+use Rattle.std.specs.List.{list_any}
+use Rattle.partition_model.specs.declared.options.Options.{Options}
+use Rattle.partition_model.specs.declared.write.Answer.{Answer}
+use Rattle.partition_model.specs.declared.write.Outcome.{Outcome}
+use Rattle.partition_model.specs.declared.write.Write.{Write}
+use Rattle.partition_model.specs.Answer.{IsAnswer}
+use Rattle.partition_model.specs.Options.{IsValid}
+use Rattle.epoch_core.specs.Shape.{shape_of}
+use Rattle.partition_table.specs.Seats.{reader_state, reader_home, note_state}
+use Rattle.owner_queue.specs.declared.ack.Ack.{Ack}
+use Rattle.owner_queue.specs.declared.message.Job.{Job}
+use Rattle.owner_queue.specs.declared.message.Message.TheVariants as message
+use Rattle.owner_queue.specs.Messages.{ticket_of, is_end}
+use Rattle.owner_queue.specs.JobEnds.{outbox}
+use Rattle.owner_queue.specs.Acked.{IsAcked}
+use Rattle.owner_queue.specs.AckOrder.{AckMayFollow}
+use Rattle.owner_queue.specs.AckEnds.{AckBox, ack_box}
+use Rattle.mica_fronts.specs.declared.queue_front.FrontPart.{FrontPart}
+use Rattle.mica_fronts.specs.Session.{Acknowledged, Stand, Told, Session, Sessions, Writes, Reads}
+
+-- the options, the front's number in each queue of jobs, the ticket of its next job, how many writes it may still be given, and what it
+-- holds of each partition
+pub record QueueView : Type 0 where
+  pub options : Options
+  pub number : ℕ
+  pub next : ℕ
+  pub left : ℕ
+  pub parts : List FrontPart
+
+abbrev pub queue_view : Options → ℕ → ℕ → ℕ → List FrontPart → QueueView
+queue_view options number next left parts =
+    record { options = options; number = number; next = next; left = left; parts = parts }
+
+-- the seat is of the table whose notes the acknowledgements have
+pub record IsWhole (part : FrontPart) : Type 0 where
+  pub home : part.acks.table ≡ reader_home part.seat
+  pub shape : part.acks.shape ≡ (reader_state part.seat).shape
+
+-- Of one partition: the seat, the queue of jobs and that of acknowledgements belong together. Of the front only jobs were sent there, under
+-- tickets below the next one.
+pub record IsFrontPart (front : QueueView) (part : FrontPart) : Type 0 where
+  pub shape : (reader_state part.seat).shape ≡ shape_of front.options
+  pub whole : IsWhole part
+  pub sender : part.jobs.number ≡ front.number
+  pub most : part.jobs.jobs ≡ front.next + front.left
+  pub unended : list_any is_end part.jobs.sent ≡ false
+  pub tickets : All (λ m. ticket_of m < front.next) part.jobs.sent
+
+-- A front has a part of each partition, and each job that it sent took one from what it may be given.
+pub record IsQueueFront (front : QueueView) : Type 0 where
+  pub valid : IsValid front.options
+  pub many : length front.parts ≡ front.options.partitions
+  pub each : All (IsFrontPart front) front.parts
+  pub sent : sum_by (λ part. length part.jobs.sent) front.parts ≡ front.next
+  pub few : front.next + front.left < 4294967296
+
+-- a part that a front begins with
+pub record IsNewPart (options : Options) (number most : ℕ) (part : FrontPart) : Type 0 where
+  pub shape : (reader_state part.seat).shape ≡ shape_of options
+  pub whole : IsWhole part
+  pub fresh : part.jobs ≡ outbox part.jobs.queue number most []
+
+-- the part once the front's end was sent to the owner
+abbrev pub ended_part : ℕ → FrontPart → FrontPart
+ended_part number part = record part {
+  jobs = outbox part.jobs.queue part.jobs.number part.jobs.jobs (part.jobs.sent ++ message.End number ∷ []);
+}
+
+-- What contracts see of it as a front
+
+abbrev pub acknowledged_by : Ack → Acknowledged
+acknowledged_by ack =
+    record { ticket = ack.ticket; step = record { write = ack.write; outcome = ack.outcome; stamp = ack.stamp } }
+
+-- the stamp of the last of them, 0 before the first
+abbrev pub last_stamp : List Ack → ℕ
+last_stamp acks = fold (λ stamp ack. ack.stamp) 0 acks
+
+-- where the front stands before the owner
+abbrev pub stand_of : FrontPart → Stand
+stand_of part =
+    record { jobs = part.jobs.queue; number = part.jobs.number; most = part.jobs.jobs; acks = part.acks.queue; table = part.acks.table }
+
+abbrev pub told_by : FrontPart → Told
+told_by part = record {
+  stand = stand_of part;
+  acks = map acknowledged_by part.acks.list;
+  tried = (reader_state part.seat).tried;
+  failed = length (reader_state part.seat).fails;
+  closed = (reader_state part.seat).closed;
+}
+
+abbrev pub session_of : FrontPart → Session
+session_of part = record {
+  seen = (reader_state part.seat).seen;
+  done = (reader_state part.seat).done;
+  last = last_stamp part.acks.list;
+  told = Some (told_by part);
+}
+
+-- nothing was seen of a partition that there is not
+abbrev pub session_or_none : Option FrontPart → Session
+session_or_none None = record { seen = []; done = []; last = 0; told = None }
+session_or_none (Some part) = session_of part
+
+abbrev pub sessions_of : List FrontPart → Sessions
+sessions_of parts = λ p. session_or_none (slice_get parts p)
+
+-- What its calls make of one partition
+
+-- some acknowledgements were taken, or none
+pub record HasTakenMore (old new : AckBox) : Type 0 where
+  pub more : List Ack
+  pub taken : new ≡ ack_box old.queue old.table old.shape (old.list ++ more)
+
+-- Acknowledgements were taken, the last of them the one of the ticket and the write.
+pub record HasAwaited (old : AckBox) (ticket : ℕ) (write : Write) (ack : Ack) (new : AckBox) : Type 0 where
+  pub more : List Ack
+  pub taken : new ≡ ack_box old.queue old.table old.shape (old.list ++ more ++ ack ∷ [])
+  pub order : AckMayFollow old.table old.shape (old.list ++ more) ack
+  pub acked : IsAcked (note_state ack.note) ack.write ack.outcome ack.stamp
+  pub ticket_is : ack.ticket ≡ ticket
+  pub write_is : ack.write ≡ write
+
+-- the ends and the table of a part are the same
+pub record StaysPart (old new : FrontPart) : Type 0 where
+  pub shape : (reader_state new.seat).shape ≡ (reader_state old.seat).shape
+  pub home : reader_home new.seat ≡ reader_home old.seat
+  pub acks : new.acks ≡ ack_box old.acks.queue old.acks.table old.acks.shape new.acks.list
+
+-- One job was sent, and answered.
+pub record PartWrites (old : FrontPart) (job : Job) (outcome : Outcome) (stamp : ℕ) (new : FrontPart) : Type 0 where
+  pub jobs : new.jobs ≡ outbox old.jobs.queue old.jobs.number old.jobs.jobs (old.jobs.sent ++ message.Job job ∷ [])
+  pub stays : StaysPart old new
+  pub written : (options : Options) → (reader_state old.seat).shape ≡ shape_of options
+      → Writes options false (session_of old) (record { write = job.write; outcome = outcome; stamp = stamp }) (session_of new)
+
+-- A get was answered.
+pub record PartReads (old : FrontPart) (key : List ℕ) (answer : Answer) (stamp : ℕ) (buffer : List ℕ) (new : FrontPart) : Type 0 where
+  pub jobs : new.jobs ≡ old.jobs
+  pub acks : new.acks ≡ old.acks
+  pub stays : StaysPart old new
+  pub value : Option (List ℕ)
+  pub is : IsAnswer answer buffer value
+  pub read : (options : Options) → (reader_state old.seat).shape ≡ shape_of options
+      → Reads options false (session_of old) key stamp value (session_of new)

@@ -1,0 +1,85 @@
+-- A request and its reply.
+use Rattle.std.specs.Prelude.{ℕ, ◌==◌, ◌&&◌, Bool, List, [], length, nat_lt, Option, Some, None, is_some, is_none, filter, if◌then◌else◌}
+use Rattle.mica_words.specs.Hash.{partition_of}
+use Rattle.partition_model.specs.declared.options.Options.{Options}
+use Rattle.partition_model.specs.declared.write.Op.TheVariants.{Put as PutOp, Del as DelOp, Add as AddOp, Touch as TouchOp}
+use Rattle.partition_model.specs.declared.write.Outcome.{Outcome}
+use Rattle.partition_model.specs.declared.write.Outcome.TheVariants.{Stored, Deleted, Absent, Touched, FullSpare, FullBlock, Worn, Exists}
+use Rattle.partition_model.specs.declared.write.Write.{Write}
+use Rattle.partition_model.specs.declared.write.Answer.{Answer}
+use Rattle.partition_model.specs.declared.write.Answer.TheVariants.{Hit, Miss}
+use Rattle.partition_model.specs.Write.{write_of}
+use Rattle.batch_packets.specs.declared.header.TheConstants.{MAX_VALUE_LEN_V1}
+use Rattle.batch_packets.specs.declared.batch.Want.{Want}
+use Rattle.batch_packets.specs.declared.batch.Want.TheVariants.{Get, Put, Del, Add, Touch}
+use Rattle.batch_packets.specs.declared.batch.Request.{Request}
+use Rattle.batch_packets.specs.declared.replies.Reply.{Reply}
+
+-- the version is that of the request's batch
+pub record Turn : Type 0 where
+  pub version : ℕ
+  pub request : Request
+  pub reply : Reply
+
+abbrev pub write_by : Want → List ℕ → List ℕ → Option Write
+write_by Get key value = None
+write_by Put key value = Some (write_of PutOp key value)
+write_by Del key value = Some (write_of DelOp key value)
+write_by Add key value = Some (write_of AddOp key value)
+write_by Touch key value = Some (write_of TouchOp key value)
+
+-- the write of a request, where it is no get
+abbrev pub write_in : Request → Option Write
+write_in request = write_by request.want request.key request.value
+
+-- the partition of a request's key
+abbrev pub partition_in : Options → Turn → ℕ
+partition_in options turn = partition_of turn.request.key options.partitions
+
+-- the writes among the turns, in one partition
+abbrev pub writes_of : Options → ℕ → List Turn → List Turn
+writes_of options partition turns =
+    filter (λ t. is_some (write_in t.request) && (partition_in options t == partition)) turns
+
+-- the gets among the turns, in one partition
+abbrev pub gets_of : Options → ℕ → List Turn → List Turn
+gets_of options partition turns =
+    filter (λ t. is_none (write_in t.request) && (partition_in options t == partition)) turns
+
+-- the status of a write's reply; the last two are of an add and a touch, which the second version alone has
+abbrev pub status_of : Outcome → ℕ
+status_of Stored = 2
+status_of Deleted = 3
+status_of Absent = 4
+status_of FullSpare = 5
+status_of FullBlock = 6
+status_of Worn = 7
+status_of Exists = 11
+status_of Touched = 12
+
+-- the status of a get's reply
+abbrev pub status_at : Answer → ℕ
+status_at Hit = 0
+status_at Miss = 1
+
+-- the reply to a write
+abbrev pub write_reply : ℕ → Outcome → ℕ → Reply
+write_reply ticket outcome stamp = record { status = status_of outcome; ticket = ticket; stamp = stamp; value = [] }
+
+-- whether a value is too long for the replies of a version, as it may be for those of the first
+abbrev pub is_too_long : ℕ → List ℕ → Bool
+is_too_long version value = (version == 1) && nat_lt MAX_VALUE_LEN_V1 (length value)
+
+-- The reply to a get, in a version, where the key has this value or none. A hit of a value that is too long has a status of its own.
+abbrev pub get_reply : ℕ → ℕ → ℕ → Option (List ℕ) → Reply
+get_reply version ticket stamp None = record { status = status_at Miss; ticket = ticket; stamp = stamp; value = [] }
+get_reply version ticket stamp (Some value) = record {
+  status = if is_too_long version value then 10 else status_at Hit;
+  ticket = ticket;
+  stamp = stamp;
+  value = if is_too_long version value then [] else value;
+}
+
+-- the reply to bytes that are no batch
+abbrev pub bad_batch_reply : Reply
+bad_batch_reply = record { status = 9; ticket = 0; stamp = 0; value = [] }

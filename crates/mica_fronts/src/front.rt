@@ -1,0 +1,72 @@
+//! What stands behind one port.
+ghost use Rattle.std.specs.Prelude.{◌≡◌, ◌+◌, ◌<◌, ◌≤◌, ℕ, Bool, List, Option, IfOk, OnErr};
+ghost use Rattle.mica_words.specs.Item.{KeyFits};
+ghost use Rattle.mica_words.specs.Hash.{partition_of};
+ghost use Rattle.partition_model.specs.declared.options.Options.{Options};
+ghost use Rattle.partition_model.specs.Answer.{IsAnswer};
+ghost use Rattle.partition_model.specs.Write.{HasValueOf, write_of};
+ghost use Rattle.mica_fronts.specs.Session.{Stand, Sessions, ChangesOnly, Writes, Reads};
+
+use mica_io::NoMemory;
+use partition_model::{Answer, ItemBuf, Op, Outcome};
+use std::alloc::Global;
+use std::sync::Wait;
+use std::thread::Threads;
+
+/// What stands behind one port: it answers writes and gets, each before the next one.
+pub trait Front {
+    /// The options of its partitions. No call changes them.
+    ghost options: { Self → Options };
+
+    /// Where it stands before each owner in another thread, by their partitions. No call changes it.
+    ghost stands: { Self → List Stand };
+
+    /// What it has seen of each partition.
+    ghost sessions: { Self → Sessions };
+
+    /// How many writes it may still be given.
+    ghost left: { Self → ℕ };
+
+    /// Whether nobody else writes its partitions.
+    ghost is_alone: { Bool };
+
+    /// The outcome of a write, and the stamp after it.
+    fn write<R: Threads + Wait + Sync>(
+        &mut self,
+        rt: &R,
+        alloc: Global,
+        op: Op,
+        key: &[u8],
+        value: &[u8],
+    ) -> Result<(Outcome, u64), NoMemory>
+        requires key { KeyFits key.now }
+        requires value { HasValueOf op value.now }
+        requires left { 0 < left self.old }
+
+        ensures written { IfOk result (λ r. let p = partition_of key.entry.now (options self.old).partitions in
+            Writes (options self.old) is_alone (sessions self.old p)
+            (record { write = write_of op key.entry.now value.entry.now; outcome = r.0; stamp = r.1 }) (sessions self.new p)) }
+        ensures others { IfOk result (λ _.
+            ChangesOnly (partition_of key.entry.now (options self.old).partitions) (sessions self.old) (sessions self.new)) }
+        ensures err { OnErr result (self.new ≡ self.old) }
+        ensures left { left self.old ≤ left self.new + 1 }
+        ensures options { options self.new ≡ options self.old }
+        ensures stands { stands self.new ≡ stands self.old };
+
+    /// The machine's answer, and its stamp. The buffer has the value of a hit, and is empty at a miss.
+    fn read<R: Threads + Wait + Sync>(
+        &mut self,
+        rt: &R,
+        key: &[u8],
+        out: &mut ItemBuf,
+    ) -> (Answer, u64)
+        requires key { KeyFits key.now }
+
+        ensures answer { let p = partition_of key.entry.now (options self.old).partitions in
+            (value : Option (List ℕ)) × IsAnswer result.0 out.new value
+            × Reads (options self.old) is_alone (sessions self.old p) key.entry.now result.1 value (sessions self.new p) }
+        ensures others { ChangesOnly (partition_of key.entry.now (options self.old).partitions) (sessions self.old) (sessions self.new) }
+        ensures left { left self.new ≡ left self.old }
+        ensures options { options self.new ≡ options self.old }
+        ensures stands { stands self.new ≡ stands self.old };
+}

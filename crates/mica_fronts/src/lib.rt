@@ -1,0 +1,23 @@
+//! What stands behind a port: it answers the requests of each datagram in order, each before the next one.
+//!
+//! `serve_batch` says what is made of one datagram, and `serve_end` what is made of all that an end gives. A `SoloFront` owns its partitions.
+//! A `QueueFront` sends its writes to the owners, whose workers are `serve_owner`, and gets by loads of its own.
+#![tactic(auto)]
+
+mod batch;
+mod deal;
+mod end;
+mod front;
+mod gate;
+mod owner_work;
+mod queue_front;
+mod solo;
+mod totals;
+
+pub use batch::serve_batch;
+pub use end::serve_end;
+pub use front::Front;
+pub use owner_work::serve_owner;
+pub use queue_front::{FrontPart, QueueFront};
+pub use solo::SoloFront;
+pub use totals::{ServeFault, Totals};

@@ -1,0 +1,220 @@
+//! A front before owners in other threads.
+ghost use Rattle.std.specs.Prelude.{◌≡◌, ◌<◌, All, IsTrue, map, vec_len};
+ghost use Rattle.mica_words.specs.Hash.{fnv1a};
+ghost use Rattle.mica_words.specs.Item.{KeyFits};
+ghost use Rattle.partition_model.specs.Options.{IsValid};
+ghost use Rattle.partition_model.specs.Write.{write_of};
+ghost use Rattle.owner_queue.specs.declared.message.Message.TheVariants as message;
+ghost use Rattle.owner_queue.specs.Messages.{MayFollow};
+ghost use Rattle.mica_fronts.specs.QueueFront.{IsWhole, IsNewPart, IsQueueFront, HasAwaited, PartWrites, PartReads, queue_view, ended_part};
+
+use crate::front::Front;
+use mica_io::{Bytes, NoMemory};
+use mica_words::{key_hash, partition_of};
+use optimistic_get::{Got, ask_hashed};
+use owner_queue::{Ack, AckReceiver, Job, JobSender, Message};
+use partition_model::{Answer, ItemBuf, Op, Options, Outcome, Write};
+use partition_table::ReaderSeat;
+use std::alloc::Global;
+use std::marker::Model;
+use std::sync::Wait;
+use std::thread::Threads;
+
+/// What a front holds of one partition.
+#[derive(Drop)]
+pub struct FrontPart {
+    pub seat: ReaderSeat,
+    pub jobs: JobSender,
+    pub acks: AckReceiver,
+}
+
+/// Whether it is the acknowledgement of this ticket and write.
+fn is_of(ack: &Ack, ticket: u64, op: Op, key: &[u8], value: &[u8]) -> bool
+    ensures ticket { IsTrue result → ack.now.ticket ≡ ticket }
+    ensures write { IsTrue result → ack.now.write ≡ write_of op key.now value.now }
+{
+    let write = &ack.write;
+    ack.ticket == ticket
+        && write.op == op
+        && write.key.bytes() == key
+        && write.value.bytes() == value
+}
+
+/// Takes acknowledgements until one has this ticket and write.
+fn await_ack<R: Wait>(
+    rt: &R,
+    acks: &mut AckReceiver,
+    ticket: u64,
+    op: Op,
+    key: &[u8],
+    value: &[u8],
+) -> Ack
+    ensures { HasAwaited acks.old ticket (write_of op key.now value.now) result acks.new }
+{
+    for _ in rt.forever() {
+        let ack = acks.recv(rt);
+        if is_of(&ack, ticket, op, key, value) {
+            return ack;
+        }
+    }
+    unreachable!()
+}
+
+impl FrontPart {
+    /// Sends the job, and tells the seat the note of its acknowledgement. The write is that of the job.
+    fn write<R: Wait>(
+        &mut self,
+        rt: &R,
+        job: Job,
+        op: Op,
+        key: &[u8],
+        value: &[u8],
+    ) -> (Outcome, u64)
+        requires whole { IsWhole self.old }
+        requires own { job.sender ≡ self.old.jobs.number }
+        requires order { MayFollow self.old.jobs.jobs self.old.jobs.sent (message.Job job) }
+        requires write { job.write ≡ write_of op key.now value.now }
+        ensures { PartWrites self.old job result.0 result.1 self.new }
+    {
+        let ticket = job.ticket;
+        self.jobs.send(rt, Message::Job(job));
+        let ack = await_ack(rt, &mut self.acks, ticket, op, key, value);
+        self.seat.tell(ack.note);
+        (ack.outcome, ack.stamp)
+    }
+
+    /// Asks the seat until it answers.
+    fn read<R: Wait>(
+        &mut self,
+        rt: &R,
+        key: &[u8],
+        hash: u64,
+        tries: u32,
+        out: &mut ItemBuf,
+    ) -> (Answer, u64)
+        requires key { KeyFits key.now }
+        requires hashed { hash ≡ fnv1a key.now }
+        requires tries { 0 < tries }
+        ensures { PartReads self.old key.now result.0 result.1 out.new self.new }
+    {
+        match ask_hashed(rt, &mut self.seat, key, hash, tries, out) {
+            Got::Hit { stamp } => (Answer::Hit, stamp),
+            Got::Miss { stamp } => (Answer::Miss, stamp),
+            Got::Again { .. } => unreachable!(),
+        }
+    }
+
+    /// Sends the front's end to the owner.
+    fn end<R: Wait>(&mut self, rt: &R, number: u32)
+        requires own { number ≡ self.old.jobs.number }
+        requires order { MayFollow self.old.jobs.jobs self.old.jobs.sent (message.End number) }
+        ensures { self.new ≡ ended_part number self.old }
+    {
+        self.jobs.send(rt, Message::End(number));
+    }
+}
+
+/// A front that sends its writes to the owners, and gets by loads of its own.
+#[derive(Drop)]
+pub struct QueueFront {
+    options: Options,
+    number: u32,
+    next: u64,
+    left: u32,
+    parts: Vec<FrontPart>,
+}
+
+impl Model for QueueFront {
+    ghost use Rattle.mica_fronts.specs.QueueFront.{QueueView, IsQueueFront, queue_view};
+
+    ghost Value = { QueueView };
+
+    ghost view = { λ f. queue_view f.options f.number f.next f.left f.parts.items };
+
+    ghost invariant = { λ f. IsQueueFront (queue_view f.options f.number f.next f.left f.parts.items) };
+}
+
+impl QueueFront {
+    /// A front that may send so many jobs in all.
+    pub fn new(options: &Options, number: u32, most: u32, parts: Vec<FrontPart>) -> QueueFront
+        requires valid { IsValid options.now }
+        requires many { vec_len parts ≡ options.now.partitions }
+        requires each { All (IsNewPart options.now number most) parts.items }
+        ensures { result ≡ queue_view options.now number 0 most parts.items }
+    {
+        QueueFront {
+            options: *options,
+            number,
+            next: 0,
+            left: most,
+            parts,
+        }
+    }
+
+    /// Sends its end to each owner.
+    pub fn end<R: Wait>(self, rt: &R) -> Vec<FrontPart>
+        ensures front { IsQueueFront self }
+        ensures ended { result.items ≡ map (ended_part self.number) self.parts }
+    {
+        let QueueFront {
+            number,
+            mut parts,
+            ..
+        } = self;
+        for part in parts.iter_mut() {
+            part.end(rt, number);
+        }
+        parts
+    }
+}
+
+impl Front for QueueFront {
+    ghost use Rattle.std.specs.Prelude.{false, map};
+    ghost use Rattle.mica_fronts.specs.QueueFront.{sessions_of, stand_of};
+
+    ghost options = { λ f. f.options };
+
+    ghost stands = { λ f. map stand_of f.parts };
+
+    ghost sessions = { λ f. sessions_of f.parts };
+
+    ghost left = { λ f. f.left };
+
+    ghost is_alone = { false };
+
+    fn write<R: Threads + Wait + Sync>(
+        &mut self,
+        rt: &R,
+        alloc: Global,
+        op: Op,
+        key: &[u8],
+        value: &[u8],
+    ) -> Result<(Outcome, u64), NoMemory> {
+        let write = Write {
+            op,
+            key: Bytes::copy(alloc, key)?,
+            value: Bytes::copy(alloc, value)?,
+        };
+        let job = Job {
+            sender: self.number,
+            ticket: self.next,
+            write,
+        };
+        let at = partition_of(key_hash(key), self.options.partitions) as usize;
+        let answer = self.parts[at].write(rt, job, op, key, value);
+        self.next += 1;
+        self.left -= 1;
+        Ok(answer)
+    }
+
+    fn read<R: Threads + Wait + Sync>(
+        &mut self,
+        rt: &R,
+        key: &[u8],
+        out: &mut ItemBuf,
+    ) -> (Answer, u64) {
+        let hash = key_hash(key);
+        let at = partition_of(hash, self.options.partitions) as usize;
+        self.parts[at].read(rt, key, hash, self.options.tries, out)
+    }
+}
