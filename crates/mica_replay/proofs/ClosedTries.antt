@@ -2,7 +2,7 @@
 use Rattle.std.proofs.Common.{◌≡◌, ℕ, zero, suc, ◌+◌, ◌<◌, ◌%◌, ◌==◌, ◌&&◌, List, [], ◌∷◌, length, refl, sym, ap, ◌∙◌, subst, arith, cond, true, false, eq-eqb, ne_eqb, eqb-true, Bool, true≢false, ◌≢◌}
 use Rattle.std.specs.List.{count_by}
 use Rattle.std.proofs.lemmas.List.Sums.{sum_by-cons}
-use Rattle.mica_model.specs.declared.options.Options.{Options}
+use Rattle.partition_model.specs.declared.options.Options.{Options}
 use Rattle.mica_trace.specs.Rounds.{is_in_partition}
 use Rattle.mica_trace.specs.RoundReport.{Pair, is_get, pairs_of, pairs_in}
 use Rattle.mica_replay.specs.Between.{sum_to}

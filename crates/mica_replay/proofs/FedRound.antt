@@ -4,11 +4,13 @@ use Rattle.std.specs.List.{AllByRecursion}
 use Rattle.std.specs.Vec.Iter.{into_iter_items}
 use Rattle.std.specs.Prelude.{option_map}
 use Rattle.std.proofs.lemmas.List.{length-map}
-use Rattle.std.proofs.lemmas.Option.{slice_get_within, get_or_from_slice_get, slice_get-map}
+use Rattle.std.proofs.lemmas.Option.{slice_get_within, get_or_from_slice_get, slice_get-map, same_Some}
+use Rattle.list_laws.proofs.Places.{element_at}
+use Rattle.list_laws.proofs.AllElements.{All-at}
 use Rattle.atomic_table.specs.Seated.{TableId}
-use Rattle.mica_model.specs.declared.options.Options.{Options}
-use Rattle.mica_model.specs.Options.{IsValid}
-use Rattle.mica_model.specs.declared.write.Write.{Write}
+use Rattle.partition_model.specs.declared.options.Options.{Options}
+use Rattle.partition_model.specs.Options.{IsValid}
+use Rattle.partition_model.specs.declared.write.Write.{Write}
 use Rattle.mica_trace.specs.declared.line.TraceLine.{TraceLine}
 use Rattle.mica_trace.specs.TraceGrammar.{IsTraceLine}
 use Rattle.mica_trace.specs.Rounds.{writes_of}
@@ -33,14 +35,10 @@ use Rattle.mica_replay.specs.Workers.{IsReadyOwner, IsFedOwner, OwnerFed, Owners
 use Rattle.mica_replay.proofs.JobOrder.{ready, writes_in-jobs}
 use Rattle.mica_replay.proofs.JobRuns.{ran_all}
 use Rattle.mica_replay.proofs.OwnerRuns.{writes_at_few}
-use Rattle.mica_replay.proofs.ReaderSteps.{at_within}
 use Rattle.mica_replay.proofs.RoundSteps.{at_each}
 
-all_at : {X : Type 0} (Q : X → Type 0) (xs : List X) (i : ℕ) (x : X) → All Q xs → slice_get xs i ≡ Some x → Q x
-all_at Q xs i x all at = subst Q (get_or_from_slice_get xs i x x at) (all i x (slice_get_within xs i x at))
-
 all_from : {X : Type 0} (Q : X → Type 0) (xs : List X) → ((i : ℕ) (x : X) → slice_get xs i ≡ Some x → Q x) → All Q xs
-all_from Q xs each i d less = let at = at_within xs i less in subst Q (sym (get_or_from_slice_get xs i at.0 d at.1)) (each i at.0 at.1)
+all_from Q xs each i d less = let at = element_at xs i less in subst Q (sym (get_or_from_slice_get xs i at.0 d at.1)) (each i at.0 at.1)
 
 placed_by : {X : Type 0} (Q : X → X → Type 0) (xs ys : List X) → length ys ≡ length xs → ((i : ℕ) (x y : X) → slice_get xs i ≡ Some x → slice_get ys i ≡ Some y → Q x y)
     → (i : ℕ) (d : X) → i < length xs → Q (slice_index_or xs i d) (slice_index_or ys i d)
@@ -75,19 +73,19 @@ module _ {P : Type 0} {owner : P → OwnerState} {home : P → TableId} {options
   placed_at : (p : ℕ) (new : OwnerWork P) (sender : Outbox) → slice_get fed p ≡ Some new → slice_get f.senders.items p ≡ Some sender → Place p new sender
   placed_at p new sender is_new is_sender =
       let less = slice_get_within fed p new is_new in
-      let old = at_within olds p (omega (arith, less, r.queues.many)) in
+      let old = element_at olds p (omega (arith, less, r.queues.many)) in
       record { old = old.0; at = old.1; is = r.queues.each p old.0 new sender old.1 is_new is_sender }
 
   owner_place : (p : ℕ) (new : OwnerWork P) → slice_get fed p ≡ Some new → (sender : Outbox) × (slice_get f.senders.items p ≡ Some sender) × Place p new sender
   owner_place p new is_new =
       let less = slice_get_within fed p new is_new in
-      let sender = at_within f.senders.items p (omega (arith, less, r.queues.many, r.queues.senders_many)) in
+      let sender = element_at f.senders.items p (omega (arith, less, r.queues.many, r.queues.senders_many)) in
       (sender.0, sender.1, placed_at p new sender.0 is_new sender.1)
 
   pub fed_ready : All IsFedOwner fed
   fed_ready = all_from IsFedOwner fed (λ p new is_new.
       let here = (owner_place p new is_new).2 in
-      let was = all_at (IsReadyOwner trace) olds p here.old r.ready_owners here.at in
+      let was = All-at (IsReadyOwner trace) olds p here.old r.ready_owners here.at in
       let done_same : new.done ≡ here.old.done = ap (λ (w : OwnerWork P). w.done) here.is.same in
       record {
         one = ap (λ (j : Inbox). j.senders) here.is.jobs_are;
@@ -99,7 +97,7 @@ module _ {P : Type 0} {owner : P → OwnerState} {home : P → TableId} {options
   feeder_ready valid fit =
       ready options lines r.feeds f valid fit r.made (r.queues.senders_many ∙ (sym (length-map olds part) ∙ r.shared.many)) (λ p sender is_sender.
       let less = slice_get_within f.senders.items p sender is_sender in
-      let new = at_within fed p (omega (arith, less, r.queues.many, r.queues.senders_many)) in
+      let new = element_at fed p (omega (arith, less, r.queues.many, r.queues.senders_many)) in
       let here = placed_at p new.0 sender new.1 is_sender in
       let n : ℕ = length here.old.writes.items in (
         n,
@@ -123,7 +121,7 @@ module _ {P : Type 0} {owner : P → OwnerState} {home : P → TableId} {options
     sent_at : (p : ℕ) (v : OwnerWork P) (sender : Outbox) → slice_get ran p ≡ Some v → slice_get senders p ≡ Some sender → Sent p v sender
     sent_at p v sender is_v is_sender =
         let less = slice_get_within ran p v is_v in
-        let new = at_within fed p (omega (arith, less, ran_many, r.queues.many)) in
+        let new = element_at fed p (omega (arith, less, ran_many, r.queues.many)) in
         let it = owner_place p new.0 new.1 in
         let place : Place p new.0 it.0 = it.2 in
         let n : ℕ = length place.old.writes.items in
@@ -159,16 +157,13 @@ module _ {P : Type 0} {owner : P → OwnerState} {home : P → TableId} {options
         in_ran v p is_v = ap (λ l. slice_get l p) (sym taken.same) ∙ is_v
 
         sender_of_place : (p : ℕ) (v : OwnerWork P) → slice_get ran p ≡ Some v → (sender : Outbox) × (slice_get senders p ≡ Some sender)
-        sender_of_place p v at = at_within senders p (omega (arith, slice_get_within ran p v at, may_take.many))
+        sender_of_place p v at = element_at senders p (omega (arith, slice_get_within ran p v at, may_take.many))
 
         whole_at : (p : ℕ) (v : OwnerWork P) (at : slice_get ran p ≡ Some v) → Sent p v (sender_of_place p v at).0
         whole_at p v at = let sender = sender_of_place p v at in sent_at p v sender.0 at sender.1
 
         old_is : (p : ℕ) (old : OwnerWork P) → slice_get olds p ≡ Some old → (v : OwnerWork P) (at : slice_get ran p ≡ Some v) → (whole_at p v at).place.old ≡ old
-        old_is p old is_old v at = same_at (sym (whole_at p v at).place.at ∙ is_old)
-          where
-            same_at : {Z : Type 0} {x y : Z} → Some x ≡ Some y → x ≡ y
-            same_at is = cc
+        old_is p old is_old v at = same_Some _ _ (sym (whole_at p v at).place.at ∙ is_old)
 
         one : (p : ℕ) (v : OwnerWork P) (at : slice_get ran p ≡ Some v) → OwnerRan owner home trace (whole_at p v at).place.old v
         one p v at =
@@ -179,7 +174,7 @@ module _ {P : Type 0} {owner : P → OwnerState} {home : P → TableId} {options
             let sent : List Message = jobs_from 0 (writes_of options p lines) ++ kind.End 0 ∷ [] in
             let whole : sent_by 0 v.jobs.taken ≡ sent
             = subst (λ (n : ℕ). sent_by n v.jobs.taken ≡ sender.0.sent) (ap (λ (o : Outbox). o.number) it.sent) (taken.whole p v sender.0 at sender.1) ∙ ap (λ (o : Outbox). o.sent) it.sent in
-            let was = all_at (IsReadyOwner trace) olds p old r.ready_owners it.place.at in
+            let was = All-at (IsReadyOwner trace) olds p old r.ready_owners it.place.at in
             let none : it.new.done.list ≡ [] = ap (λ (w : OwnerWork P). w.done.list) same ∙ was.none in
             let replied : RepliesTo (owner it.new.part) (owner v.part) (writes_in sent) it.new.done v.done
             = ran_all (owner it.new.part) (owner v.part) it.new.jobs v.jobs it.new.done v.done sent (ap (λ (j : Inbox). j.taken) it.place.is.jobs_are) (ap (λ (j : Inbox). j.senders) it.place.is.jobs_are) it.fed_owner.replied whole in
@@ -203,7 +198,7 @@ shared_writes options trace lines g owner_parts given reader_parts asked shared 
 }
   where
     was : (p : ℕ) (w : OwnerPart) → slice_get given p ≡ Some w → (old : OwnerPart) × (slice_get owner_parts p ≡ Some old)
-    was p w at = at_within owner_parts p (omega (arith, slice_get_within given p w at, shared.owners.many))
+    was p w at = element_at owner_parts p (omega (arith, slice_get_within given p w at, shared.owners.many))
 
     here : (p : ℕ) (w : OwnerPart) (at : slice_get given p ≡ Some w) → HasWrites options trace lines p (was p w at).0 w
     here p w at = (shared.owners.each p (was p w at).0 w (was p w at).1 at).0

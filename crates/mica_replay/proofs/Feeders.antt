@@ -3,19 +3,15 @@ use Rattle.std.proofs.Common.{◌≡◌, ℕ, ◌+◌, ◌<◌, ◌==◌, inl, i
 use Rattle.std.specs.List.{list_any}
 use Rattle.std.specs.Vec.Iter.{into_iter_items}
 use Rattle.std.proofs.lemmas.List.{length-set}
-use Rattle.std.proofs.lemmas.Option.{slice_get_read, slice_get_within}
+use Rattle.std.proofs.lemmas.Option.{slice_get_read, slice_get_within, same_Some}
+use Rattle.list_laws.proofs.UpTo.{UpTo, up_one}
+use Rattle.list_laws.proofs.Places.{element_at, set_cases}
 use Rattle.owner_queue.specs.declared.message.Message.TheVariants as kind
 use Rattle.owner_queue.specs.Messages.{is_end, MayFollow}
 use Rattle.owner_queue.specs.JobEnds.{Outbox, outbox}
 use Rattle.mica_replay.specs.declared.feeder.Feed.{Feed}
 use Rattle.mica_replay.specs.declared.feeder.Feeder.{Feeder}
 use Rattle.mica_replay.specs.Feeds.{jobs_for, IsReadyFeeder, HasFed}
-use Rattle.owner_queue.proofs.Lists.{set_cases}
-use Rattle.mica_replay.proofs.ReaderSteps.{at_within}
-use Rattle.mica_replay.proofs.RoundSteps.{UpTo, up_one}
-
-same_at : {Z : Type 0} {x y : Z} → Some x ≡ Some y → x ≡ y
-same_at is = cc
 
 -- the first of the jobs were sent
 pub record IsFeeding (f h : Feeder) : Type 0 where
@@ -30,7 +26,7 @@ feeds_none f ready = record {
   split = refl;
   many = refl;
   each = λ p old new is_old is_new.
-      let same : new ≡ old = same_at (sym is_new ∙ is_old) in
+      let same : new ≡ old = same_Some _ _ (sym is_new ∙ is_old) in
       same ∙ ap (λ l. outbox old.queue old.number old.jobs l) (ready.none p old is_old).0;
 }
 
@@ -109,8 +105,8 @@ module _ (f h : Feeder) (ready : IsReadyFeeder f) (so_far : IsFeeding f h) where
     was =
         let many = ends.many in
         let all = so_far.many in
-        let mid = at_within h.senders.items p (omega arith) in
-        let old = at_within f.senders.items p (omega arith) in
+        let mid = element_at h.senders.items p (omega arith) in
+        let old = element_at f.senders.items p (omega arith) in
         let same : now ≡ mid.0 = ends.later p mid.0 now (omega arith) mid.1 at in
         (old.0, old.1, same ∙ so_far.each p old.0 mid.0 old.1 mid.1)
 
@@ -136,7 +132,7 @@ module _ (f h : Feeder) (ready : IsReadyFeeder f) (so_far : IsFeeding f h) where
     each = λ p old new is_old is_new.
         let less = slice_get_within last.senders.items p new is_new in
         let many = ends.many in
-        let mid = at_within h.senders.items p (omega arith) in
+        let mid = element_at h.senders.items p (omega arith) in
         let jobs = so_far.each p old mid.0 is_old mid.1 in
         let zero_here = (ready.none p old is_old).1 in
         ends.done p mid.0 new (omega arith) mid.1 is_new ∙ ap (λ (o : Outbox). outbox o.queue o.number o.jobs (o.sent ++ kind.End 0 ∷ [])) jobs

@@ -5,11 +5,12 @@ use Rattle.std.specs.Vec.Iter.{into_iter_items}
 use Rattle.std.proofs.lemmas.List.{map-append}
 use Rattle.std.proofs.lemmas.Bool.{cases_lt}
 use Rattle.std.proofs.lemmas.List.Elements.{filter-append, All-from_recursion}
+use Rattle.list_laws.proofs.Places.{element_at}
 use Rattle.mica_words.proofs.Hashes.{partition_of-below}
-use Rattle.mica_model.specs.declared.options.Options.{Options}
-use Rattle.mica_model.specs.declared.write.Write.{Write}
-use Rattle.mica_model.specs.Options.{IsValid}
-use Rattle.mica_model.specs.Write.{IsWrite}
+use Rattle.partition_model.specs.declared.options.Options.{Options}
+use Rattle.partition_model.specs.declared.write.Write.{Write}
+use Rattle.partition_model.specs.Options.{IsValid}
+use Rattle.partition_model.specs.Write.{IsWrite}
 use Rattle.mica_trace.specs.declared.line.TraceLine.{TraceLine}
 use Rattle.mica_trace.specs.TraceGrammar.{IsTraceLine}
 use Rattle.mica_trace.specs.Rounds.{partition_in, is_in_partition, write_by, writes_of}
@@ -22,7 +23,6 @@ use Rattle.mica_replay.specs.declared.feeder.Feed.{Feed}
 use Rattle.mica_replay.specs.declared.feeder.Feeder.{Feeder}
 use Rattle.mica_replay.specs.Feeds.{jobs_for, IsReadyFeeder}
 use Rattle.mica_replay.specs.RoundJobs.{jobs_from}
-use Rattle.mica_replay.proofs.ReaderSteps.{at_within}
 
 -- Each write of a trace line fits.
 
@@ -97,7 +97,7 @@ ready options lines feeds f valid fit made many fresh in_hand = record {
       = sym (made q) ∙ ap (jobs_for q) (sym in_hand ∙ is) ∙ jobs_for-append q before (feed ∷ later) ∙ ap (λ l. jobs_for q before ++ l) (jobs_for-own feed later) in
       let here = job_at 0 (writes_of options q lines) (jobs_for q before) (jobs_for q later) (kind.Job feed.job) (writes_fit options q lines fit) split in
       let inside : q < options.partitions = within q (let less = here.less in omega arith) in
-      let sender = at_within f.senders.items q (omega arith) in
+      let sender = element_at f.senders.items q (omega arith) in
       let it = fresh q sender.0 sender.1 in
       let jobs_is : sender.0.jobs ≡ it.0 = ap (λ (o : Outbox). o.jobs) it.1 in
       let ticket = here.ticket in (

@@ -1,32 +1,28 @@
 -- One line more of a round that is shared out.
 use Rattle.std.proofs.Common.{◌≡◌, ℕ, zero, suc, ◌+◌, ◌<◌, ◌≤◌, ◌^◌, ◌%◌, ◌==◌, ◌⊎◌, inl, inr, List, [], ◌∷◌, ◌++◌, length, take, get_or, slice_get, slice_set, Option, Some, None, refl, sym, ap, ◌∙◌, subst, arith, cond, Bool, true, false, eq-eqb, ne_eqb, append-nil, All, IsSomeAnd, IsSome}
-use Rattle.std.specs.Prelude.{option_map}
+use Rattle.std.specs.Prelude.{option_map, is_some}
 use Rattle.std.specs.List.{cons_option}
-use Rattle.std.proofs.lemmas.List.{length-set}
+use Rattle.std.proofs.lemmas.List.{length-set, map_push, get_or-map}
 use Rattle.std.proofs.lemmas.List.Elements.{filter_map-append}
 use Rattle.std.proofs.lemmas.List.Sums.{sum_by-append}
 use Rattle.std.proofs.lemmas.Option.{slice_get_within}
-use Rattle.mica_model.specs.declared.options.Options.{Options}
-use Rattle.mica_model.specs.declared.write.Write.{Write}
+use Rattle.list_laws.proofs.Places.{element_at, set_cases}
+use Rattle.partition_model.specs.declared.options.Options.{Options}
+use Rattle.partition_model.specs.declared.write.Write.{Write}
 use Rattle.mica_trace.specs.declared.line.TraceOp.{TraceOp}
 use Rattle.mica_trace.specs.declared.line.TraceOp.TheVariants.{Put, Add, Del, Touch, Get, Sync}
-use Rattle.mica_model.specs.declared.write.Op.{Op}
-use Rattle.mica_model.specs.declared.write.Op.TheVariants.{Put as PutOp, Add as AddOp, Touch as TouchOp, Del as DelOp}
-use Rattle.mica_model.specs.Write.{write_of}
+use Rattle.partition_model.specs.declared.write.Op.{Op}
+use Rattle.partition_model.specs.declared.write.Op.TheVariants.{Put as PutOp, Add as AddOp, Touch as TouchOp, Del as DelOp}
+use Rattle.partition_model.specs.Write.{write_of}
 use Rattle.mica_trace.specs.declared.line.TraceLine.{TraceLine}
 use Rattle.mica_trace.specs.Rounds.{partition_in, is_in_partition, op_of, write_by, write_in, writes_of, is_get_op}
 use Rattle.mica_trace.specs.RoundReport.{is_get, gets_in, gets_of}
-use Rattle.mica_replay.specs.LineNumbers.{write_at, writes_at, lines_at, NamesWrite, NamesGet}
+use Rattle.mica_replay.specs.LineNumbers.{home_in, homes_of, write_at, writes_at, lines_at, NamesWrite, NamesGet}
 use Rattle.mica_replay.specs.Lending.{OwnerPart}
 use Rattle.mica_replay.specs.RoundRun.{ReaderPart}
 use Rattle.mica_replay.specs.Shares.{Each, KeepsOwner, KeepsReader, HasNoWrites, HasNoGets, HasWrites, HasGets, HasRoom, AreWithoutWrites, AreWithoutGets, IsShared}
-use Rattle.owner_queue.proofs.Lists.{set_cases}
-use Rattle.mica_replay.proofs.ReaderSteps.{at_within}
 use Rattle.mica_replay.proofs.OwnerRuns.{writes_at_push}
 use Rattle.mica_replay.proofs.MergedReport.{gets_by-push, itself, length_snoc}
-
-same_at : {Z : Type 0} {x y : Z} → Some x ≡ Some y → x ≡ y
-same_at is = cc
 
 all_more : {X : Type 0} (Q : X → Type 0) (xs : List X) (x : X) → All Q xs → Q x → All Q (xs ++ x ∷ [])
 all_more Q [] x all one = λ i d less. (let at : 0 ≡ i = omega arith in subst (λ (n : ℕ). Q (get_or (x ∷ []) n d)) at one)
@@ -35,36 +31,6 @@ all_more Q (y ∷ xs) x all one = λ i d less.
       | zero ↦ λ l. all 0 d (omega arith)
       | suc n ↦ λ l. all_more Q xs x (λ k e below. all (suc k) e (omega arith)) one n d (omega arith)
     ] less
-
-pub writes_none : (options : Options) (trace : List TraceLine) (owner_parts : List OwnerPart) → AreWithoutWrites options owner_parts → Each (HasWrites options trace []) owner_parts owner_parts
-writes_none options trace owner_parts without = record {
-  many = refl;
-  each = λ p old new is_old is_new.
-      let same : old ≡ new = same_at (sym is_old ∙ is_new) in
-      subst (λ (w : OwnerPart). HasWrites options trace [] p old w) same
-      (let none : [] ≡ old.writes = sym (without.none p old is_old) in
-      record {
-        keeps = record { state = refl; table = refl; worker = refl };
-        writes = ap (writes_at trace) (sym none);
-        named = subst (All (NamesWrite trace)) none (λ i d less. absurd (omega arith));
-        few = subst (λ (l : List ℕ). length l ≤ 0) none (omega arith);
-      });
-}
-
-pub gets_none : (options : Options) (trace : List TraceLine) (g : ℕ) (reader_parts : List ReaderPart) → AreWithoutGets options reader_parts → Each (HasGets options trace g []) reader_parts reader_parts
-gets_none options trace g reader_parts without = record {
-  many = refl;
-  each = λ q old new is_old is_new.
-      let same : old ≡ new = same_at (sym is_old ∙ is_new) in
-      subst (λ (t : ReaderPart). HasGets options trace g [] q old t) same
-      (let none : [] ≡ old.gets = sym (without.none q old is_old) in
-      record {
-        keeps = record { seats = refl; tables = refl; worker = refl };
-        gets = ap (lines_at trace) (sym none);
-        named = subst (All (NamesGet trace)) none (λ i d less. absurd (omega arith));
-        few = subst (λ (l : List ℕ). length l ≤ 0) none (omega arith);
-      });
-}
 
 pub sync_no_write : (op : TraceOp) (key value : List ℕ) → op ≡ Sync → write_by op key value ≡ None
 sync_no_write Sync key value is = refl
@@ -104,6 +70,23 @@ pub op_is_write : (op : TraceOp) (key value : List ℕ) → IsWriteOp op → (wr
 op_is_write op key value is =
     let some = some_op op is in
     (write_of some.0 key value, ap (option_map (λ does. write_of does key value)) some.1)
+
+pub no_home : (options : Options) (line : TraceLine) → write_at line ≡ None → 0 ≡ home_in options line
+no_home options line none = sym (ap (λ o. cond (is_some o) (partition_in options line) 0) none)
+
+pub own_home : (options : Options) (line : TraceLine) (write : Write) → write_at line ≡ Some write → home_in options line ≡ partition_in options line
+own_home options line write is = ap (λ o. cond (is_some o) (partition_in options line) 0) is
+
+pub home_push : (options : Options) (lines more : List TraceLine) (line : TraceLine) (homes news : List ℕ) (home : ℕ) → more ≡ lines ++ line ∷ [] → homes ≡ homes_of options lines → news ≡ homes ++ home ∷ []
+    → home ≡ home_in options line → news ≡ homes_of options more
+home_push options lines more line homes news home one so_far pushed is =
+    pushed ∙ (λ i. so_far i ++ is i ∷ []) ∙ sym (ap (homes_of options) one ∙ map_push (home_in options) lines line)
+
+-- the home of a line that is a write
+pub home_at : (options : Options) (lines : List TraceLine) (homes : List ℕ) (k : ℕ) (line : TraceLine) (write : Write) → homes ≡ homes_of options lines → k < length lines → line ≡ get_or lines k line
+    → write_at line ≡ Some write → get_or homes k 0 ≡ partition_in options line
+home_at options lines homes k line write homes_are less line_is is_write =
+    ap (λ (hs : List ℕ). get_or hs k 0) homes_are ∙ get_or-map (home_in options) lines k line 0 less ∙ ap (home_in options) (sym line_is) ∙ own_home options line write is_write
 
 module _ (options : Options) (trace : List TraceLine) (lines : List TraceLine) (line : TraceLine) where
   writes_push : (p : ℕ) → writes_of options p (lines ++ line ∷ []) ≡ writes_of options p lines ++ cons_option (write_in options p line) []
@@ -215,7 +198,7 @@ cleared_works options owner_parts mids many clear = record {
   none = λ p w is.
       let less = slice_get_within mids p w is in
       let all = clear.many in
-      let old = at_within owner_parts p (omega arith) in
+      let old = element_at owner_parts p (omega arith) in
       (clear.each p old.0 w old.1 is).none;
 }
 
@@ -225,7 +208,7 @@ cleared_turns options reader_parts mids many clear = record {
   none = λ q t is.
       let less = slice_get_within mids q t is in
       let all = clear.many in
-      let old = at_within reader_parts q (omega arith) in
+      let old = element_at reader_parts q (omega arith) in
       (clear.each q old.0 t old.1 is).none;
 }
 
@@ -234,7 +217,7 @@ pub few_writes : (options : Options) (trace lines : List TraceLine) (owner_parts
 few_writes options trace lines owner_parts mids n most low share p w is =
     let less = slice_get_within mids p w is in
     let all = share.many in
-    let old = at_within owner_parts p (omega arith) in
+    let old = element_at owner_parts p (omega arith) in
     let few = (share.each p old.0 w old.1 is).few in
     omega arith
 
@@ -248,8 +231,8 @@ shared options trace g lines owner_parts cleared given news reader_parts emptied
         let less = slice_get_within owner_parts p old is_old in
         let one = clear.many in
         let two = share.many in
-        let a = at_within cleared p (omega arith) in
-        let b = at_within given p (omega arith) in
+        let a = element_at cleared p (omega arith) in
+        let b = element_at given p (omega arith) in
         let none = clear.each p old a.0 is_old a.1 in
         let has = share.each p a.0 b.0 a.1 b.1 in
         let fits = room.each p b.0 new b.1 is_new in (
@@ -268,7 +251,7 @@ shared options trace g lines owner_parts cleared given news reader_parts emptied
     each = λ q old new is_old is_new.
         let less = slice_get_within reader_parts q old is_old in
         let one = empty.many in
-        let a = at_within emptied q (omega arith) in
+        let a = element_at emptied q (omega arith) in
         let none = empty.each q old a.0 is_old a.1 in
         let has = gets.each q a.0 new a.1 is_new in
         record {

@@ -1,13 +1,14 @@
 -- From a round to the next: the report stays lawful, and each owner is where it leaves off.
-use Rattle.std.proofs.Common.{◌≡◌, ℕ, zero, suc, ◌+◌, ◌<◌, ◌&&◌, List, [], ◌∷◌, ◌++◌, length, zip, take, slice_get, Some, refl, sym, ap, ◌∙◌, subst, arith, cond, take_all}
+use Rattle.std.proofs.Common.{◌≡◌, ℕ, ◌+◌, ◌<◌, ◌&&◌, List, [], ◌∷◌, ◌++◌, length, zip, take, slice_get, Some, refl, sym, ap, ◌∙◌, subst, arith, cond, take_all}
 use Rattle.std.specs.List.{AllByRecursion, count_by, filter_map}
 use Rattle.std.proofs.lemmas.List.Elements.{filter_map-append}
 use Rattle.std.proofs.lemmas.List.Sums.{sum_by-append, sum_by-cons}
-use Rattle.std.proofs.lemmas.Option.{slice_get_within}
-use Rattle.mica_model.specs.declared.options.Options.{Options}
-use Rattle.mica_model.specs.Options.{IsValid}
-use Rattle.mica_model.specs.History.{History, IsPrefix, stamp_in}
-use Rattle.mica_model.specs.Run.{RunStep, IsRunFrom, history_of}
+use Rattle.std.proofs.lemmas.Option.{slice_get_within, same_Some}
+use Rattle.list_laws.proofs.Places.{element_at}
+use Rattle.partition_model.specs.declared.options.Options.{Options}
+use Rattle.partition_model.specs.Options.{IsValid}
+use Rattle.partition_model.specs.History.{History, IsPrefix, stamp_in}
+use Rattle.partition_model.specs.Run.{RunStep, IsRunFrom, history_of}
 use Rattle.mica_trace.specs.declared.line.TraceLine.{TraceLine}
 use Rattle.mica_trace.specs.declared.report.Line.{Line}
 use Rattle.mica_trace.specs.TraceGrammar.{IsTraceLine}
@@ -43,11 +44,6 @@ run_as options history (step ∷ steps) run = (
   run.1 ∙ ap stamp_in (same_state options (history ++ history_of (step ∷ []))),
   run_as options (history ++ history_of (step ∷ [])) steps run.2,
 )
-
-at_within : {X : Type 0} (xs : List X) (n : ℕ) → n < length xs → (x : X) × (slice_get xs n ≡ Some x)
-at_within [] n less = absurd (omega arith)
-at_within (x ∷ xs) zero less = (x, refl)
-at_within (x ∷ xs) (suc n) less = at_within xs n (omega arith)
 
 -- before any line
 pub starts : (options : Options) (owners : List OwnerState) → length owners ≡ options.partitions → ((p : ℕ) (owner : OwnerState) → slice_get owners p ≡ Some owner → owner ≡ as_made (shape_of options))
@@ -97,10 +93,10 @@ module _ (options : Options) (valid : IsValid options) (before round : List Trac
       let one = here.owners_done in
       let two = here.owners_ran in
       let three = here.owners_met in
-      let old = at_within owners p less in
-      let ran = at_within ran_owners p (omega arith) in
-      let met = at_within met_owners p (omega arith) in
-      let replies = at_within done p (omega arith) in
+      let old = element_at owners p less in
+      let ran = element_at ran_owners p (omega arith) in
+      let met = element_at met_owners p (omega arith) in
+      let replies = element_at done p (omega arith) in
       record { old = old.0; ran = ran.0; met = met.0; replies = replies.0; is_old = old.1; is_ran = ran.1; is_met = met.1; is_done = replies.1 }
 
   -- what the owner's history has gained by the round
@@ -121,7 +117,7 @@ module _ (options : Options) (valid : IsValid options) (before round : List Trac
         let count = here.owners_done in
         let less = slice_get_within done p replies is_done in
         let it = of p (omega arith) in
-        let same : it.replies ≡ replies = same_at (sym it.is_done ∙ is_done) in
+        let same : it.replies ≡ replies = same_Some _ _ (sym it.is_done ∙ is_done) in
         let was = so_far.each p it.old it.is_old in
         let wrote = here.writes p it.old it.ran it.replies it.is_old it.is_ran it.is_done in
         let by_shape = subst (λ (s : Shape). IsRunFrom (options_of s) it.old.history (steps_with (writes_of options p round) it.replies)) was.shape wrote.run in
@@ -134,7 +130,7 @@ module _ (options : Options) (valid : IsValid options) (before round : List Trac
         let less = slice_get_within done p replies is_done in
         let low = slice_get_within found q lines is_found in
         let it = of p (omega arith) in
-        let same : it.replies ≡ replies = same_at (sym it.is_done ∙ is_done) in
+        let same : it.replies ≡ replies = same_Some _ _ (sym it.is_done ∙ is_done) in
         let was = so_far.each p it.old it.is_old in
         let seat = here.seats_of q p (omega arith) (omega arith) in
         let read = here.reads q p it.old lines seat.0 it.is_old is_found seat.1 in
@@ -145,9 +141,6 @@ module _ (options : Options) (valid : IsValid options) (before round : List Trac
           subst (λ (h : History). AnswersRise options h (pairs_in options p (zip (gets_of options q (gets_in before) round) lines)) seat.0.seen) was.history read.answers,
         );
   }
-    where
-      same_at : {X : Type 0} {x y : X} → Some x ≡ Some y → x ≡ y
-      same_at is = cc
 
   reported : IsRoundReport options before report round printed
   reported = merged_report options valid before report round printed done found lines_before lines_here worked merged
@@ -167,7 +160,7 @@ module _ (options : Options) (valid : IsValid options) (before round : List Trac
       let many = so_far.many in
       let readers = here.readers in
       let less = slice_get_within owners p it.old it.is_old in
-      let lines = at_within found q (omega arith) in
+      let lines = element_at found q (omega arith) in
       let seat = here.seats_of q p below (omega arith) in
       let read = here.reads q p it.old lines.0 seat.0 it.is_old lines.1 seat.1 in
       let none : 0 + length (pairs_in options p (zip (gets_of options q (gets_in before) round) lines.0)) ≡ length (pairs_in options p (zip (gets_of options q (gets_in before) round) lines.0)) = omega arith in
@@ -194,7 +187,7 @@ module _ (options : Options) (valid : IsValid options) (before round : List Trac
         let count = here.owners_met in
         let less = slice_get_within met_owners p owner is in
         let it = of p (omega arith) in
-        let same : it.met ≡ owner = same_at (sym it.is_met ∙ is) in
+        let same : it.met ≡ owner = same_Some _ _ (sym it.is_met ∙ is) in
         let was = so_far.each p it.old it.is_old in
         let wrote = here.writes p it.old it.ran it.replies it.is_old it.is_ran it.is_done in
         let met = here.meets p it.ran it.met it.is_ran it.is_met in
@@ -205,9 +198,6 @@ module _ (options : Options) (valid : IsValid options) (before round : List Trac
           idle = met.phase ∙ ap (λ (o : OwnerState). o.phase) wrote.gained ∙ was.idle;
         });
   }
-    where
-      same_at : {X : Type 0} {x y : X} → Some x ≡ Some y → x ≡ y
-      same_at is = cc
 
 -- after the last round, the kept seats are those of the run
 pub ends : (options : Options) (trace : List TraceLine) (report : List Line) (owners : List OwnerState) (kept : List Entry) → IsReplaying options trace report owners → length kept ≡ length owners

@@ -4,9 +4,10 @@ use Rattle.std.specs.Prelude.{option_map}
 use Rattle.std.specs.List.{AllZip, AllByRecursion}
 use Rattle.std.proofs.lemmas.List.{length-map}
 use Rattle.std.proofs.lemmas.List.Sums.{sum_by-cons, sum_by-append}
-use Rattle.std.proofs.lemmas.Option.{slice_get-map, slice_get_within}
-use Rattle.mica_model.specs.declared.options.Options.{Options}
-use Rattle.mica_model.specs.Options.{IsValid}
+use Rattle.std.proofs.lemmas.Option.{slice_get-map, slice_get_within, same_Some}
+use Rattle.list_laws.proofs.Places.{element_at}
+use Rattle.partition_model.specs.declared.options.Options.{Options}
+use Rattle.partition_model.specs.Options.{IsValid}
 use Rattle.mica_trace.specs.declared.line.TraceLine.{TraceLine}
 use Rattle.mica_trace.specs.declared.report.Line.{Line}
 use Rattle.mica_trace.specs.TraceGrammar.{IsTraceLine}
@@ -23,14 +24,10 @@ use Rattle.mica_replay.specs.Lending.{OwnerPart, lent_part}
 use Rattle.mica_replay.specs.RoundRun.{ReaderPart, AreReady, HasRunRound, IsSplit, AreFree, state_of_owner, replies_of, found_of}
 use Rattle.mica_replay.specs.Shares.{Each, KeepsGets, IsShared}
 use Rattle.mica_replay.specs.Merged.{AreEnough, HasMerged}
-use Rattle.mica_replay.proofs.ReaderSteps.{at_within}
 use Rattle.mica_replay.proofs.RoundSteps.{same_map}
 use Rattle.mica_replay.proofs.RoundShares.{shares, found_is}
 use Rattle.mica_replay.proofs.NextRound.{next_round}
 use Rattle.mica_replay.proofs.FedRound.{shared_writes}
-
-same_at : {Z : Type 0} {x y : Z} → Some x ≡ Some y → x ≡ y
-same_at is = cc
 
 -- a round shared out among owners and readers, who are as the rounds before left them
 pub record ToRun : Type 0 where
@@ -74,12 +71,12 @@ module _ (r : ToRun) where
     writes = λ p w is.
         let less = slice_get_within r.given p w is in
         let many = r.shared.owners.many in
-        let old = at_within r.owner_parts p (omega arith) in
+        let old = element_at r.owner_parts p (omega arith) in
         (r.shared.owners.each p old.0 w old.1 is).0.writes;
     gets = λ q t is.
         let less = slice_get_within r.asked q t is in
         let many = r.shared.readers.many in
-        let old = at_within r.reader_parts q (omega arith) in
+        let old = element_at r.reader_parts q (omega arith) in
         (r.shared.readers.each q old.0 t old.1 is).gets;
   }
 
@@ -90,7 +87,7 @@ module _ (r : ToRun) where
     each_owner = λ p w is.
         let less = slice_get_within r.given p w is in
         let many = r.shared.owners.many in
-        let old = at_within r.owner_parts p (omega arith) in
+        let old = element_at r.owner_parts p (omega arith) in
         let it = r.shared.owners.each p old.0 w old.1 is in
         let at = slice_get-map state_of_owner r.owner_parts p ∙ ap (option_map state_of_owner) old.1 in
         record {
@@ -102,7 +99,7 @@ module _ (r : ToRun) where
     each_reader = λ q t is.
         let less = slice_get_within r.asked q t is in
         let many = r.shared.readers.many in
-        let old = at_within r.reader_parts q (omega arith) in
+        let old = element_at r.reader_parts q (omega arith) in
         let it = r.shared.readers.each q old.0 t old.1 is in
         record { seats = it.keeps.seats ∙ r.free.none q old.0 old.1; named = it.named; few = let most = it.few in omega arith };
   }
@@ -129,8 +126,8 @@ module _ (r : ToRun) where
           let two = after.run.ran in
           let three = length-map r.given state_of_owner in
           let four = length-map after.run.ran_owners state_of_owner in
-          let old = at_within (map state_of_owner r.given) p (omega arith) in
-          let ran = at_within (map state_of_owner after.run.ran_owners) p (omega arith) in
+          let old = element_at (map state_of_owner r.given) p (omega arith) in
+          let ran = element_at (map state_of_owner after.run.ran_owners) p (omega arith) in
           (here.writes p old.0 ran.0 replies old.1 ran.1 is_done).many;
       gets = λ q lines is.
           let less = slice_get_within after.found q lines is in
@@ -138,11 +135,11 @@ module _ (r : ToRun) where
           let many = asked_many in
           let one = after.run.seated in
           let two = after.run.left in
-          let own = at_within after.run.seats q (omega arith) in
-          let turn = at_within r.asked q (omega arith) in
-          let new = at_within after.left_readers q (omega arith) in
+          let own = element_at after.run.seats q (omega arith) in
+          let turn = element_at r.asked q (omega arith) in
+          let new = element_at after.left_readers q (omega arith) in
           let turned = after.run.read q turn.0 new.0 own.0 turn.1 new.1 own.1 in
-          let found_here : new.0.found ≡ Some lines = same_at (sym (slice_get-map found_of after.left_readers q ∙ ap (option_map found_of) new.1) ∙ ap (λ l. slice_get l q) after.all_found
+          let found_here : new.0.found ≡ Some lines = same_Some _ _ (sym (slice_get-map found_of after.left_readers q ∙ ap (option_map found_of) new.1) ∙ ap (λ l. slice_get l q) after.all_found
           ∙ (slice_get-map (λ (l : List Line). Some l) after.found q ∙ ap (option_map (λ (l : List Line). Some l)) is)) in
           let read = found_is new.0.found (λ (l : List Line). HaveRead r.options (lines_at r.trace turn.0.gets) l (map lent_part r.given) own.0) lines found_here turned.read in
           subst (λ (l : List TraceLine). AllZip HasKind l lines) (split.gets q turn.0 turn.1) read.lines;
@@ -166,9 +163,9 @@ module _ (r : ToRun) where
           let one = keeps.many in
           let two = after.run.left in
           let three = after.run.seated in
-          let new = at_within after.left_readers q (omega arith) in
-          let old = at_within r.asked q (omega arith) in
-          let own = at_within after.run.seats q (omega arith) in
+          let new = element_at after.left_readers q (omega arith) in
+          let old = element_at r.asked q (omega arith) in
+          let own = element_at after.run.seats q (omega arith) in
           (keeps.each q new.0 t new.1 is).keeps.seats ∙ (after.run.read q old.0 new.0 own.0 old.1 new.1 own.1).none;
     }
 

@@ -3,11 +3,12 @@ use Rattle.std.proofs.Common.{◌≡◌, ℕ, ◌-◌, ◌<◌, List, [], ◌∷
 use Rattle.std.specs.List.{cons_option, filter_map}
 use Rattle.std.proofs.lemmas.List.{map-append, length_push}
 use Rattle.std.proofs.lemmas.List.Elements.{filter_map-append}
-use Rattle.mica_model.specs.declared.options.Options.{Options}
-use Rattle.mica_model.specs.declared.write.Write.{Write}
-use Rattle.mica_model.specs.declared.write.Outcome.{Outcome}
-use Rattle.mica_model.specs.History.{History, MayGive, stamp_of}
-use Rattle.mica_model.specs.Run.{RunStep, history_of, IsRunFrom}
+use Rattle.list_laws.proofs.Places.{length-filter_map-le}
+use Rattle.partition_model.specs.declared.options.Options.{Options}
+use Rattle.partition_model.specs.declared.write.Write.{Write}
+use Rattle.partition_model.specs.declared.write.Outcome.{Outcome}
+use Rattle.partition_model.specs.History.{History, MayGive, stamp_of}
+use Rattle.partition_model.specs.Run.{RunStep, history_of, IsRunFrom}
 use Rattle.mica_trace.specs.declared.line.TraceLine.{TraceLine}
 use Rattle.epoch_core.specs.declared.state.OwnerState.{OwnerState}
 use Rattle.epoch_core.specs.OwnerState.{options_in}
@@ -72,18 +73,10 @@ writes_at_push trace numbers number line write is_line is_write =
     ∙ filter_map-append write_at (lines_at trace numbers) (line ∷ [])
     ∙ ap (λ o. writes_at trace numbers ++ cons_option o []) is_write
 
-pub filter_map_shorter : {X Y : Type 0} (h : X → Option Y) (xs : List X) → length (filter_map h xs) ≤ length xs
-filter_map_shorter h [] = omega arith
-filter_map_shorter h (x ∷ xs) =
-    elim (h x) as (λ o. length (cons_option o (filter_map h xs)) ≤ length (x ∷ xs)) [
-      | None ↦ let rest = filter_map_shorter h xs in omega arith
-      | Some y ↦ let rest = filter_map_shorter h xs in omega arith
-    ]
-
 pub writes_at_few : (trace : List TraceLine) (numbers : List ℕ) → length (writes_at trace numbers) ≤ length numbers
 writes_at_few trace numbers =
-    let one = filter_map_shorter (slice_get trace) numbers in
-    let two = filter_map_shorter write_at (lines_at trace numbers) in
+    let one = length-filter_map-le (slice_get trace) numbers in
+    let two = length-filter_map-le write_at (lines_at trace numbers) in
     omega arith
 
 pub some_and : {X : Type 0} (o : Option X) (P : X → Type 0) → IsSomeAnd o P → (x : X) × (o ≡ Some x) × P x

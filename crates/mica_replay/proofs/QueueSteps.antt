@@ -1,15 +1,12 @@
 -- One queue more, and one sender more that is taken in.
 use Rattle.std.proofs.Common.{◌≡◌, ℕ, zero, suc, ◌+◌, ◌<◌, ◌≤◌, ◌⊎◌, inl, inr, List, [], ◌∷◌, ◌++◌, length, slice_get, slice_set, Some, refl, sym, ap, ◌∙◌, subst, arith, true, length-append}
 use Rattle.std.proofs.lemmas.List.{length_push, length-set}
-use Rattle.std.proofs.lemmas.Option.{slice_get_within}
+use Rattle.std.proofs.lemmas.Option.{slice_get_within, same_Some}
+use Rattle.list_laws.proofs.Places.{at_seam, set_same, set_cases}
 use Rattle.owner_queue.specs.Messages.{sent_by, has_end}
 use Rattle.owner_queue.specs.JobEnds.{Outbox}
 use Rattle.mica_replay.specs.declared.worker.OwnerWork.{OwnerWork}
 use Rattle.mica_replay.specs.Queues.{HasQueue, HaveQueues, MayTakeIn, HaveTakenIn}
-use Rattle.owner_queue.proofs.Lists.{set_cases}
-
-same_at : {Z : Type 0} {x y : Z} → Some x ≡ Some y → x ≡ y
-same_at is = cc
 
 at_push : {X : Type 0} (xs : List X) (x : X) (i : ℕ) (y : X) → slice_get (xs ++ x ∷ []) i ≡ Some y → ((i ≡ length xs) × (x ≡ y)) ⊎ (slice_get xs i ≡ Some y)
 at_push [] x zero y is = inl (refl, cc)
@@ -19,15 +16,6 @@ at_push (z ∷ xs) x (suc i) y is = elim (at_push xs x i y is) as (λ _. ((suc i
   | inl here ↦ inl (ap suc here.0, here.1)
   | inr front ↦ inr front
 ]
-
-at_next : {X : Type 0} (xs : List X) (x : X) (rest : List X) → slice_get (xs ++ x ∷ rest) (length xs) ≡ Some x
-at_next [] x rest = refl
-at_next (y ∷ xs) x rest = at_next xs x rest
-
-set_same : {X : Type 0} (xs : List X) (i : ℕ) (x : X) → slice_get xs i ≡ Some x → slice_set xs i x ≡ xs
-set_same [] i x is = refl
-set_same (y ∷ xs) zero x is = cc
-set_same (y ∷ xs) (suc i) x is = ap (λ l. y ∷ l) (set_same xs i x is)
 
 -- the last of one element is the first
 pub only_one : (items rest : List Outbox) (last first : Outbox) → items ≡ rest ++ last ∷ [] → length items ≡ 1 → slice_get items 0 ≡ Some first → last ≡ first
@@ -47,7 +35,7 @@ module _ {P : Type 0} where
     many = refl;
     senders_many = refl;
     done = λ i old new sender is_old is_new is_sender. absurd (cc);
-    later = λ i old new from is_old is_new. same_at (sym is_new ∙ is_old);
+    later = λ i old new from is_old is_new. same_Some _ _ (sym is_new ∙ is_old);
   }
 
   pub queues_one : (p : ℕ) (olds mids : List (OwnerWork P)) (senders : List Outbox) (mid new : OwnerWork P) (sender : Outbox) → QueuesTo p olds mids senders → slice_get mids p ≡ Some mid
@@ -80,9 +68,6 @@ module _ {P : Type 0} where
   pub queues_all : (n : ℕ) (olds news : List (OwnerWork P)) (senders : List Outbox) → length olds ≡ n → QueuesTo n olds news senders → HaveQueues olds news senders
   queues_all n olds news senders long all = record { many = all.many; senders_many = all.senders_many ∙ sym long; each = all.done }
 
-  pub takes_none : (olds : List (OwnerWork P)) → HaveTakenIn olds olds []
-  takes_none olds = record { same = refl; whole = λ p w sender is is_sender. absurd (cc) }
-
   -- the owner at the place of the next sender takes it in, and is as it was
   pub takes_in_one : (olds news : List (OwnerWork P)) (senders : List Outbox) (sender : Outbox) (w new : OwnerWork P) → HaveTakenIn olds news senders → slice_get news (length senders) ≡ Some w
       → new ≡ w → sent_by sender.number w.jobs.taken ≡ sender.sent → HaveTakenIn olds (slice_set news (length senders) new) (senders ++ sender ∷ [])
@@ -91,7 +76,7 @@ module _ {P : Type 0} where
     whole = λ p x s is_x is_s.
         elim (at_push senders sender p s is_s) as (λ _. sent_by s.number x.jobs.taken ≡ s.sent) [
           | inl here ↦
-              let the_owner : w ≡ x = same_at (sym at ∙ ap (λ l. slice_get l (length senders)) so_far.same ∙ ap (slice_get olds) (sym here.0) ∙ is_x) in
+              let the_owner : w ≡ x = same_Some _ _ (sym at ∙ ap (λ l. slice_get l (length senders)) so_far.same ∙ ap (slice_get olds) (sym here.0) ∙ is_x) in
               subst (λ (y : Outbox × OwnerWork P). sent_by y.0.number y.1.jobs.taken ≡ y.0.sent) (λ i. (here.1 i, the_owner i)) whole
           | inr front ↦ so_far.whole p x s is_x front
         ];
@@ -104,4 +89,4 @@ module _ {P : Type 0} where
     next_below = omega (arith, ap length left, length-append yielded (sender ∷ rest), may.many, ap length so_far.same)
 
     pub next_may : (w : OwnerWork P) → slice_get news (length yielded) ≡ Some w → (sender.queue ≡ w.jobs.queue) × (has_end sender.number w.jobs.taken ≡ true)
-    next_may w at = may.each (length yielded) w sender (ap (λ l. slice_get l (length yielded)) (sym so_far.same) ∙ at) (ap (λ l. slice_get l (length yielded)) left ∙ at_next yielded sender rest)
+    next_may w at = may.each (length yielded) w sender (ap (λ l. slice_get l (length yielded)) (sym so_far.same) ∙ at) (ap (λ l. slice_get l (length yielded)) left ∙ at_seam yielded sender rest)

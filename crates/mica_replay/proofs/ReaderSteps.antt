@@ -1,15 +1,15 @@
 -- A reader's answers, one after another.
 use Rattle.std.proofs.Common.{◌≡◌, ◌≢◌, ℕ, zero, suc, ◌+◌, ◌<◌, inl, inr, List, [], ◌∷◌, ◌++◌, length, map, zip, take, slice_get, slice_set, Some, None, refl, sym, ap, ◌∙◌, subst, arith, cond, append-nil, length-set, eq-eqb, ne_eqb, get_or}
 use Rattle.std.specs.List.{All, AllByRecursion, cons_option}
-use Rattle.std.proofs.lemmas.Option.{slice_get_within, get_or_from_slice_get, slice_get_read, slice_get-map}
+use Rattle.std.proofs.lemmas.Option.{slice_get_within, get_or_from_slice_get, slice_get_read}
 use Rattle.std.proofs.lemmas.List.{length_push, take_more, map-set, length-map}
 use Rattle.std.proofs.lemmas.List.Elements.{filter_map-append, filter-append}
-use Rattle.std.specs.Prelude.{option_map}
+use Rattle.list_laws.proofs.Places.{at_map, element_at, set_same, set_cases}
 use Rattle.mica_words.specs.Item.{KeyFits}
 use Rattle.mica_words.proofs.Hashes.{partition_of-below}
-use Rattle.mica_model.specs.declared.options.Options.{Options}
-use Rattle.mica_model.specs.Options.{IsValid}
-use Rattle.mica_model.specs.History.{History, IsPrefix}
+use Rattle.partition_model.specs.declared.options.Options.{Options}
+use Rattle.partition_model.specs.Options.{IsValid}
+use Rattle.partition_model.specs.History.{History, IsPrefix}
 use Rattle.mica_trace.specs.declared.line.TraceOp.{TraceOp}
 use Rattle.mica_trace.specs.declared.line.TraceOp.TheVariants.{Put, Add, Del, Touch, Get, Sync}
 use Rattle.mica_trace.specs.declared.line.TraceLine.{TraceLine}
@@ -24,13 +24,12 @@ use Rattle.epoch_core.specs.declared.reader.ReaderState.{ReaderState}
 use Rattle.mica_trace.specs.RoundReport.{Pair, pairs_in, AnswersRise}
 use Rattle.optimistic_get.specs.Asked.{SeatAnswers, IsRead}
 use Rattle.optimistic_get.proofs.Repeated.{no_answers, seat_further, same_answer}
-use Rattle.mica_replay.specs.Answered.{IsNotAgain, line_of}
+use Rattle.mica_replay.specs.Answered.{line_of}
 use Rattle.mica_replay.specs.LineNumbers.{lines_at, NamesGet}
 use Rattle.mica_replay.specs.ReaderGets.{HasRead, HaveRead, AreSeatsOf, HaveSeenMore}
 use Rattle.mica_trace.specs.RoundReport.{HasKind}
 use Rattle.mica_trace.proofs.ListParts.{zip-append, AllZip-append, length_zip}
 use Rattle.mica_trace.proofs.Prefixes.{prefix_same, prefix_trans}
-use Rattle.owner_queue.proofs.Lists.{set_cases}
 use Rattle.mica_replay.proofs.OwnerRuns.{some_and}
 
 -- One get more
@@ -54,20 +53,11 @@ read_kind Del got buffer is = absurd (cc)
 read_kind Touch got buffer is = absurd (cc)
 read_kind Sync got buffer is = absurd (cc)
 
-pub read_not_again : (old new : ReaderState) (key : List ℕ) (got : Got) (buffer : List ℕ) → IsRead old key got buffer new → IsNotAgain got
-read_not_again old new key (Hit stamp) buffer is = tt
-read_not_again old new key (Miss stamp) buffer is = tt
-read_not_again old new key (Again first last) buffer is = is
-
 -- answers behind others
 answers_push : (options : Options) (pairs : List Pair) (pair : Pair) (seen mid last : History) → AnswersRise options seen pairs mid → IsPrefix mid last → Answers options last pair.0.key pair.1
     → AnswersRise options seen (pairs ++ pair ∷ []) last
 answers_push options [] pair seen mid last on further answer = (last, prefix_trans seen mid last on further, answer, prefix_same last)
 answers_push options (first ∷ pairs) pair seen mid last on further answer = (on.0, on.1, on.2, answers_push options pairs pair on.0 mid last on.3 further answer)
-
-answers_further : (options : Options) (pairs : List Pair) (seen mid last : History) → AnswersRise options seen pairs mid → IsPrefix mid last → AnswersRise options seen pairs last
-answers_further options [] seen mid last on further = prefix_trans seen mid last on further
-answers_further options (pair ∷ pairs) seen mid last on further = (on.0, on.1, on.2, answers_further options pairs on.0 mid last on.3 further)
 
 module _ (options : Options) (gets : List TraceLine) (found : List Line) (line : TraceLine) (printed : Line) (same : length found ≡ length gets) where
   pairs_push : (p : ℕ) → pairs_in options p (zip (gets ++ line ∷ []) (found ++ printed ∷ [])) ≡ pairs_in options p (zip gets found) ++ pairs_in options p ((line, printed) ∷ [])
@@ -138,23 +128,13 @@ reads_seen options gets found olds news read = record {
 
 -- Seats
 
-pub set_same : {X : Type 0} (xs : List X) (p : ℕ) (x : X) → slice_get xs p ≡ Some x → slice_set xs p x ≡ xs
-set_same [] p x is = refl
-set_same (y ∷ xs) zero x is = let same : y ≡ x = cc in ap (λ z. z ∷ xs) (sym same)
-set_same (y ∷ xs) (suc p) x is = ap (λ zs. y ∷ zs) (set_same xs p x is)
-
-pub at_within : {X : Type 0} (xs : List X) (n : ℕ) → n < length xs → (x : X) × (slice_get xs n ≡ Some x)
-at_within [] n less = absurd (omega arith)
-at_within (x ∷ xs) zero less = (x, refl)
-at_within (x ∷ xs) (suc n) less = at_within xs n (omega arith)
-
 -- a seat keeps the options' shape
 pub shape_kept : (options : Options) (gets : List TraceLine) (found : List Line) (olds mids : List ReaderState) (p : ℕ) (mid : ReaderState) → AreSeatsOf options olds → HaveRead options gets found olds mids
     → slice_get mids p ≡ Some mid → mid.shape ≡ shape_of options
 shape_kept options gets found olds mids p mid seats read at =
     let many = read.seats in
     let less = slice_get_within mids p mid at in
-    let was = at_within olds p (omega arith) in
+    let was = element_at olds p (omega arith) in
     (read.each p was.0 mid was.1 at).seat.shape ∙ seats.shapes p was.0 was.1
 
 pub read_goes : (old new : ReaderState) (key : List ℕ) (got : Got) (buffer : List ℕ) → IsRead old key got buffer new → (new.shape ≡ old.shape) × IsPrefix old.seen new.seen
@@ -219,9 +199,6 @@ number_within trace numbers k named less =
 -- Seats as they lie in memory, of which contracts see one fact each
 
 module _ {X : Type 0} (f : X → ReaderState) where
-  map_at : {T : Type 0} (h : X → T) (items : List X) (p : ℕ) (old : X) → slice_get items p ≡ Some old → slice_get (map h items) p ≡ Some (h old)
-  map_at h items p old at = slice_get-map h items p ∙ ap (option_map h) at
-
   pub seat_at : (options : Options) (line : TraceLine) (gets : List TraceLine) (found : List Line) (olds : List ReaderState) (items : List X) (p : ℕ) (old : X) → IsValid options
       → AreSeatsOf options olds → HaveRead options gets found olds (map f items) → p ≡ partition_in options line → old ≡ get_or items p old → slice_get items p ≡ Some old
   seat_at options line gets found olds items p old valid seats read at is =
@@ -234,17 +211,17 @@ module _ {X : Type 0} (f : X → ReaderState) where
   pub seen_at : (olds : List ReaderState) (items : List X) (p : ℕ) (old new : X) → HaveSeenMore olds (map f items) → slice_get items p ≡ Some old
       → ((f new).shape ≡ (f old).shape) × IsPrefix (f old).seen (f new).seen → HaveSeenMore olds (map f (slice_set items p new))
   seen_at olds items p old new so_far at more =
-      subst (HaveSeenMore olds) (sym (map-set f items p new)) (seen_one olds (map f items) p (f old) (f new) so_far (map_at f items p old at) more)
+      subst (HaveSeenMore olds) (sym (map-set f items p new)) (seen_one olds (map f items) p (f old) (f new) so_far (at_map f items p old at) more)
 
   pub homes_at : {T : Type 0} (h : X → T) (items : List X) (p : ℕ) (old new : X) (was : List T) → map h items ≡ was → slice_get items p ≡ Some old → h new ≡ h old → map h (slice_set items p new) ≡ was
   homes_at h items p old new was so_far at same =
-      map-set h items p new ∙ ap (slice_set (map h items) p) same ∙ set_same (map h items) p (h old) (map_at h items p old at) ∙ so_far
+      map-set h items p new ∙ ap (slice_set (map h items) p) same ∙ set_same (map h items) p (h old) (at_map h items p old at) ∙ so_far
 
   pub read_at : (options : Options) (gets : List TraceLine) (found : List Line) (olds : List ReaderState) (items : List X) (p : ℕ) (old new : X) (line : TraceLine) (key : List ℕ) (got : Got) (buffer : List ℕ)
       → AreSeatsOf options olds → HaveRead options gets found olds (map f items) → p ≡ partition_in options line → slice_get items p ≡ Some old → line.op ≡ Get → key ≡ line.key
       → IsRead (f old) key got buffer (f new) → HaveRead options (gets ++ line ∷ []) (found ++ line_of got buffer ∷ []) olds (map f (slice_set items p new))
   read_at options gets found olds items p old new line key got buffer seats so_far here at get same_key read =
-      let at_here : slice_get (map f items) (partition_in options line) ≡ Some (f old) = subst (λ (q : ℕ). slice_get (map f items) q ≡ Some (f old)) here (map_at f items p old at) in
+      let at_here : slice_get (map f items) (partition_in options line) ≡ Some (f old) = subst (λ (q : ℕ). slice_get (map f items) q ≡ Some (f old)) here (at_map f items p old at) in
       let shape = shape_kept options gets found olds (map f items) (partition_in options line) (f old) seats so_far at_here in
       let read_key = subst (λ (k : List ℕ). IsRead (f old) k got buffer (f new)) same_key read in
       let one = reads_one options gets found olds (map f items) line (line_of got buffer) (f old) (f new) so_far (read_kind line.op got buffer get) at_here (read_line options (f old) (f new) line.key got buffer shape read_key) in

@@ -9,10 +9,6 @@ use Rattle.mica_trace.specs.RoundReport.{EndsRound, IsOneRound}
 abbrev pub IsNoSync : TraceLine → Type 0
 IsNoSync line = is_sync line ≡ false
 
-pub all_push : {X : Type 0} (Q : X → Type 0) (xs : List X) (x : X) → AllByRecursion Q xs → Q x → AllByRecursion Q (xs ++ x ∷ [])
-all_push Q [] x all one = (one, tt)
-all_push Q (y ∷ xs) x all one = (all.0, all_push Q xs x all.1 one)
-
 pub one_round : (xs : List TraceLine) (x : TraceLine) → AllByRecursion IsNoSync xs → IsOneRound (xs ++ x ∷ [])
 one_round [] x all = tt
 one_round (y ∷ []) x all = (all.0, tt)

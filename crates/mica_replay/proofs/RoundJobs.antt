@@ -1,10 +1,11 @@
 -- The jobs of one line more.
 use Rattle.std.proofs.Common.{◌≡◌, ◌≢◌, ℕ, ◌+◌, ◌≤◌, ◌==◌, List, [], ◌∷◌, ◌++◌, length, slice_get, slice_set, inl, inr, Option, Some, None, refl, sym, ap, ◌∙◌, arith, cond, Bool, true, false, true≢false, eq-eqb, ne_eqb, eqb-true, append-nil}
-use Rattle.std.specs.List.{cons_option, filter_map}
+use Rattle.std.specs.List.{cons_option}
 use Rattle.std.proofs.lemmas.List.{length_push, length-set}
 use Rattle.std.proofs.lemmas.List.Elements.{filter_map-append}
-use Rattle.mica_model.specs.declared.options.Options.{Options}
-use Rattle.mica_model.specs.declared.write.Write.{Write}
+use Rattle.list_laws.proofs.Places.{length-filter_map-le, set_cases}
+use Rattle.partition_model.specs.declared.options.Options.{Options}
+use Rattle.partition_model.specs.declared.write.Write.{Write}
 use Rattle.mica_trace.specs.declared.line.TraceLine.{TraceLine}
 use Rattle.mica_trace.specs.Rounds.{partition_in, write_in, writes_of}
 use Rattle.owner_queue.specs.declared.message.Message.TheVariants as kind
@@ -13,7 +14,6 @@ use Rattle.mica_replay.specs.Feeds.{jobs_for}
 use Rattle.mica_replay.specs.LineNumbers.{write_at}
 use Rattle.mica_replay.specs.RoundJobs.{jobs_from, HasFeeds}
 use Rattle.mica_replay.proofs.Feeders.{jobs_for-push}
-use Rattle.owner_queue.proofs.Lists.{set_cases}
 
 jobs_from-push : (n : ℕ) (writes : List Write) (write : Write) → jobs_from n (writes ++ write ∷ []) ≡ jobs_from n writes ++ kind.Job (record { sender = 0; ticket = n + length writes; write = write }) ∷ []
 jobs_from-push n [] write = ap (λ t. kind.Job (record { sender = 0; ticket = t; write = write }) ∷ []) (omega arith)
@@ -21,17 +21,9 @@ jobs_from-push n (w ∷ writes) write =
     ap (λ l. kind.Job (record { sender = 0; ticket = n; write = w }) ∷ l)
     (jobs_from-push (n + 1) writes write ∙ ap (λ t. jobs_from (n + 1) writes ++ kind.Job (record { sender = 0; ticket = t; write = write }) ∷ []) (omega arith))
 
-filter_map_shorter : {X Y : Type 0} (h : X → Option Y) (xs : List X) → length (filter_map h xs) ≤ length xs
-filter_map_shorter h [] = omega arith
-filter_map_shorter h (x ∷ xs) =
-    elim (h x) as (λ o. length (cons_option o (filter_map h xs)) ≤ length (x ∷ xs)) [
-      | None ↦ let rest = filter_map_shorter h xs in omega arith
-      | Some y ↦ let rest = filter_map_shorter h xs in omega arith
-    ]
-
 -- a queue has no more jobs than there are lines
 pub few_jobs : (options : Options) (p : ℕ) (lines : List TraceLine) → length (writes_of options p lines) ≤ length lines
-few_jobs options p lines = filter_map_shorter (write_in options p) lines
+few_jobs options p lines = length-filter_map-le (write_in options p) lines
 
 pub feeds_none : (options : Options) (tickets : List ℕ) → length tickets ≡ options.partitions → ((p t : ℕ) → slice_get tickets p ≡ Some t → t ≡ 0) → HasFeeds options [] [] tickets
 feeds_none options tickets many zeros = record { jobs = λ p. refl; many = many; next = zeros }

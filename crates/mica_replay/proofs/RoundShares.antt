@@ -2,9 +2,10 @@
 use Rattle.std.proofs.Common.{◌≡◌, ℕ, List, length, map, slice_get, Option, Some, None, sym, ap, ◌∙◌, subst, arith, IfSome}
 use Rattle.std.specs.Prelude.{option_map, option_and_then}
 use Rattle.std.proofs.lemmas.List.{length-map}
-use Rattle.std.proofs.lemmas.Option.{slice_get-map, slice_get_within}
-use Rattle.mica_model.specs.declared.options.Options.{Options}
-use Rattle.mica_model.specs.declared.write.Write.{Write}
+use Rattle.std.proofs.lemmas.Option.{slice_get-map, slice_get_within, same_Some}
+use Rattle.list_laws.proofs.Places.{element_at, from_map}
+use Rattle.partition_model.specs.declared.options.Options.{Options}
+use Rattle.partition_model.specs.declared.write.Write.{Write}
 use Rattle.mica_trace.specs.declared.line.TraceLine.{TraceLine}
 use Rattle.mica_trace.specs.declared.report.Line.{Line}
 use Rattle.mica_trace.specs.Rounds.{writes_of}
@@ -17,15 +18,10 @@ use Rattle.mica_replay.specs.Replies.{Reply, HasWritten}
 use Rattle.mica_replay.specs.Between.{HasMet, HasRound}
 use Rattle.mica_replay.specs.Lending.{OwnerPart, lent_part}
 use Rattle.mica_replay.specs.RoundRun.{ReaderPart, HasRunRound, IsSplit, state_of_owner, replies_of}
-use Rattle.mica_replay.proofs.ReaderSteps.{at_within}
-use Rattle.mica_replay.proofs.RoundSteps.{seen_back}
-
-same_at : {Z : Type 0} {x y : Z} → Some x ≡ Some y → x ≡ y
-same_at is = cc
 
 pub found_is : (o : Option (List Line)) (P : List Line → Type 0) (lines : List Line) → o ≡ Some lines → IfSome o P → P lines
 found_is None P lines is holds = absurd (cc)
-found_is (Some own) P lines is holds = subst P (same_at is) holds
+found_is (Some own) P lines is holds = subst P (same_Some _ _ is) holds
 
 -- `found` are the lines that the readers found, none of whom lacked memory
 pub shares : (options : Options) (trace before round : List TraceLine) (owner_parts news : List OwnerPart) (reader_parts left_readers : List ReaderPart) (found : List (List Line))
@@ -51,31 +47,31 @@ shares options trace before round owner_parts news reader_parts left_readers fou
       owners_met = omega arith;
       readers = omega arith;
       seats_of = λ q p below low.
-          let own = at_within run.seats q (omega arith) in
-          let old = at_within reader_parts q (omega arith) in
-          let new = at_within left_readers q (omega arith) in
+          let own = element_at run.seats q (omega arith) in
+          let old = element_at reader_parts q (omega arith) in
+          let new = element_at left_readers q (omega arith) in
           let turned = run.read q old.0 new.0 own.0 old.1 new.1 own.1 in
           let many = turned.many in
-          let seat = at_within own.0 p (omega arith) in
+          let seat = element_at own.0 p (omega arith) in
           (seat.0, ap (λ o. option_and_then (λ l. slice_get l p) o) own.1 ∙ seat.1);
       writes = λ p old ran replies is_old is_ran is_done.
-          let was = seen_back state_of_owner owner_parts p old is_old in
-          let now = seen_back state_of_owner run.ran_owners p ran is_ran in
-          let done = seen_back replies_of run.ran_owners p replies is_done in
-          let same : now.0 ≡ done.0 = same_at (sym now.1 ∙ done.1) in
+          let was = from_map state_of_owner owner_parts p old is_old in
+          let now = from_map state_of_owner run.ran_owners p ran is_ran in
+          let done = from_map replies_of run.ran_owners p replies is_done in
+          let same : now.0 ≡ done.0 = same_Some _ _ (sym now.1 ∙ done.1) in
           let wrote = (run.wrote p was.0 now.0 was.1 now.1).0 in
           let by_lines = subst (λ (ws : List Write). HasWritten was.0.state now.0.state ws now.0.done.list) (split.writes p was.0 was.1) wrote in
           subst (λ (rs : List Reply). HasWritten old ran (writes_of options p round) rs) (ap (λ (w : OwnerPart). w.done.list) same ∙ done.2)
           (subst (λ (o : OwnerState). HasWritten old o (writes_of options p round) now.0.done.list) now.2
           (subst (λ (o : OwnerState). HasWritten o now.0.state (writes_of options p round) now.0.done.list) was.2 by_lines));
       reads = λ q p old lines seat is_old is_found is_seat.
-          let was = seen_back state_of_owner owner_parts p old is_old in
+          let was = from_map state_of_owner owner_parts p old is_old in
           let low = slice_get_within found q lines is_found in
-          let own = at_within run.seats q (omega arith) in
-          let turn = at_within reader_parts q (omega arith) in
-          let new = at_within left_readers q (omega arith) in
+          let own = element_at run.seats q (omega arith) in
+          let turn = element_at reader_parts q (omega arith) in
+          let new = element_at left_readers q (omega arith) in
           let turned = run.read q turn.0 new.0 own.0 turn.1 new.1 own.1 in
-          let is : new.0.found ≡ Some lines = same_at (sym (slice_get-map (λ (t : ReaderPart). t.found) left_readers q ∙ ap (option_map (λ (t : ReaderPart). t.found)) new.1)
+          let is : new.0.found ≡ Some lines = same_Some _ _ (sym (slice_get-map (λ (t : ReaderPart). t.found) left_readers q ∙ ap (option_map (λ (t : ReaderPart). t.found)) new.1)
           ∙ ap (λ l. slice_get l q) all_found ∙ (slice_get-map (λ (l : List Line). Some l) found q ∙ ap (option_map (λ (l : List Line). Some l)) is_found)) in
           let read = found_is new.0.found (λ (l : List Line). HaveRead options (lines_at trace turn.0.gets) l (map lent_part owner_parts) own.0) lines is turned.read in
           let seat_here : slice_get own.0 p ≡ Some seat = ap (λ o. option_and_then (λ l. slice_get l p) o) (sym own.1) ∙ is_seat in
@@ -84,8 +80,8 @@ shares options trace before round owner_parts news reader_parts left_readers fou
           subst (λ (ls : List TraceLine). HasRead options p ls lines (lent old) seat) (split.gets q turn.0 turn.1)
           (subst (λ (o : OwnerState). HasRead options p (lines_at trace turn.0.gets) lines (lent o) seat) was.2 here);
       meets = λ p ran met is_ran is_met.
-          let was = seen_back state_of_owner run.ran_owners p ran is_ran in
-          let now = seen_back state_of_owner news p met is_met in
+          let was = from_map state_of_owner run.ran_owners p ran is_ran in
+          let now = from_map state_of_owner news p met is_met in
           let it = (run.meets p was.0 now.0 was.1 now.1).met in
           subst (λ (n : ℕ). HasMet n run.seats p ran met) readers
           (subst (λ (o : OwnerState). HasMet (length reader_parts) run.seats p ran o) now.2 (subst (λ (o : OwnerState). HasMet (length reader_parts) run.seats p o now.0.state) was.2 it));

@@ -1,16 +1,18 @@
 -- A round from the lending of its seats to the last meeting.
-use Rattle.std.proofs.Common.{◌≡◌, ℕ, zero, suc, ◌+◌, ◌<◌, ◌≤◌, ◌^◌, inl, inr, List, [], ◌∷◌, ◌++◌, length, map, get_or, slice_get, slice_set, slice_index_or, Option, Some, refl, sym, ap, ◌∙◌, subst, arith, All, IfSome, Result, Ok, Err, OnErr, ◌==◌, ◌≢◌, true, false, eq-eqb, eqb-true, true≢false}
+use Rattle.std.proofs.Common.{◌≡◌, ℕ, zero, suc, ◌+◌, ◌<◌, ◌≤◌, ◌^◌, List, [], ◌∷◌, ◌++◌, length, map, get_or, slice_get, slice_set, slice_index_or, Option, Some, refl, sym, ap, ◌∙◌, subst, arith, All, IfSome, Result, Ok, Err, OnErr, ◌==◌, ◌≢◌, true, false, eq-eqb, eqb-true, true≢false}
 use Rattle.std.specs.Prelude.{option_map, option_and_then}
-use Rattle.std.proofs.lemmas.List.{map-set, length-map, length-set}
-use Rattle.std.proofs.lemmas.Option.{slice_get_read, slice_get-map, slice_get_within, get_or_from_slice_get}
+use Rattle.std.proofs.lemmas.List.{map-set, length-map}
+use Rattle.std.proofs.lemmas.Option.{slice_get_read, slice_get-map, slice_get_within, get_or_from_slice_get, same_Some}
+use Rattle.list_laws.proofs.Places.{from_map, element_at}
+use Rattle.list_laws.proofs.UpTo.{UpTo, up_one}
 use Rattle.atomic_table.specs.Seated.{TableId}
-use Rattle.mica_model.specs.declared.options.Options.{Options}
+use Rattle.partition_model.specs.declared.options.Options.{Options}
 use Rattle.mica_trace.specs.declared.line.TraceLine.{TraceLine}
 use Rattle.mica_trace.specs.declared.report.Line.{Line}
 use Rattle.epoch_core.specs.declared.reader.ReaderState.{ReaderState}
 use Rattle.mica_replay.specs.declared.worker.OwnerWork.{OwnerWork}
 use Rattle.mica_replay.specs.declared.worker.ReaderWork.{ReaderWork}
-use Rattle.mica_model.specs.History.{IsPrefix}
+use Rattle.partition_model.specs.History.{IsPrefix}
 use Rattle.epoch_core.specs.declared.state.OwnerState.{OwnerState}
 use Rattle.mica_replay.specs.LineNumbers.{lines_at, writes_at, NamesGet}
 use Rattle.mica_replay.specs.ReaderGets.{AreSeatsOf, HaveRead}
@@ -20,45 +22,6 @@ use Rattle.mica_replay.specs.Between.{seat_of, closed_of, sum_to}
 use Rattle.mica_replay.specs.Lending.{OwnerPart, owner_part, lent_part, table_in, HaveMet}
 use Rattle.mica_replay.specs.RoundRun.{ReaderPart, reader_part, IsReadyOwnerPart, AreReady, HasMetReaders, HasRunRound}
 use Rattle.mica_replay.specs.Shares.{Each}
-use Rattle.owner_queue.proofs.Lists.{set_cases}
-use Rattle.mica_replay.proofs.ReaderSteps.{at_within}
-
--- the first q elements have changed so, and those behind them have not changed
-pub record UpTo {X : Type 0} (R : X → X → Type 0) (q : ℕ) (olds news : List X) : Type 0 where
-  pub many : length news ≡ length olds
-  pub done : (i : ℕ) (old new : X) → i < q → slice_get olds i ≡ Some old → slice_get news i ≡ Some new → R old new
-  pub later : (i : ℕ) (old new : X) → q ≤ i → slice_get olds i ≡ Some old → slice_get news i ≡ Some new → new ≡ old
-
-pub up_none : {X : Type 0} (R : X → X → Type 0) (xs : List X) → UpTo R 0 xs xs
-up_none R xs = record {
-  many = refl;
-  done = λ i old new less is_old is_new. absurd (omega arith);
-  later = λ i old new from is_old is_new. same_at (sym is_new ∙ is_old);
-}
-  where
-    same_at : {Z : Type 0} {x y : Z} → Some x ≡ Some y → x ≡ y
-    same_at is = cc
-
-pub up_one : {X : Type 0} (R : X → X → Type 0) (q : ℕ) (olds mids : List X) (mid new : X) → UpTo R q olds mids → slice_get mids q ≡ Some mid → R mid new → UpTo R (q + 1) olds (slice_set mids q new)
-up_one {X = X} R q olds mids mid new so_far at one = record {
-  many = length-set mids q new ∙ so_far.many;
-  done = λ i old x less is_old is_new.
-      elim (set_cases mids q new i x is_new) as (λ _. R old x) [
-        | inl same ↦
-            let is_old_here : slice_get olds q ≡ Some old = subst (λ (n : ℕ). slice_get olds n ≡ Some old) (sym same.0) is_old in
-            let was : mid ≡ old = so_far.later q old mid (omega arith) is_old_here at in
-            subst (λ (y : X). R old y) same.1 (subst (λ (y : X). R y new) was one)
-        | inr other ↦ so_far.done i old x (before i less other.0) is_old other.1
-      ];
-  later = λ i old x from is_old is_new.
-      elim (set_cases mids q new i x is_new) as (λ _. x ≡ old) [
-        | inl same ↦ let here = same.0 in absurd (omega arith)
-        | inr other ↦ so_far.later i old x (omega arith) is_old other.1
-      ];
-}
-  where
-    before : (i : ℕ) → i < q + 1 → (q ≡ i → ⊥) → i < q
-    before i less other = omega arith
 
 pub up_all : {X : Type 0} (R : X → X → Type 0) (n : ℕ) (olds news : List X) → length news ≤ n → UpTo R n olds news → Each (λ (_ : ℕ). R) olds news
 up_all R n olds news all so_far = record {
@@ -84,7 +47,7 @@ pub not_yet : {X Y : Type 0} (f : X → Y) (R : Y → Y → Type 0) (olds : List
 not_yet f R olds items q old so_far less is =
     let many = so_far.many in
     let long = length-map items f in
-    let first = at_within olds q (omega arith) in
+    let first = element_at olds q (omega arith) in
     let same : f old ≡ first.0 = so_far.later q first.0 (f old) (omega arith) first.1 (seen_at f items q old less is) in
     first.1 ∙ ap (λ y. Some y) (sym same)
 
@@ -92,16 +55,10 @@ pub none_seen : {X Y : Type 0} (f : X → Y) (items : List X) → map f items �
 none_seen f [] is = refl
 none_seen f (x ∷ xs) is = absurd (cc)
 
--- an element that is seen is one of the list
-pub seen_back : {X Y : Type 0} (f : X → Y) (items : List X) (n : ℕ) (y : Y) → slice_get (map f items) n ≡ Some y → (x : X) × (slice_get items n ≡ Some x) × (f x ≡ y)
-seen_back f [] n y is = absurd (cc)
-seen_back f (x ∷ items) zero y is = (x, refl, cc)
-seen_back f (x ∷ items) (suc n) y is = seen_back f items n y is
-
 pub all_by : {X Y : Type 0} (f : X → Y) (P : X → Type 0) (Q : Y → Type 0) (items : List X) → ((x : X) → Q (f x) → P x) → ((n : ℕ) (y : Y) → slice_get (map f items) n ≡ Some y → Q y) → All P items
 all_by f P Q items step each =
     λ n d less.
-    let at = at_within items n less in
+    let at = element_at items n less in
     let is = get_or_from_slice_get items n at.0 d at.1 in
     subst P (sym is) (step at.0 (each n (f at.0) (slice_get-map f items n ∙ ap (option_map f) at.1)))
 
@@ -150,26 +107,6 @@ pub record HaveMetTo (q : ℕ) (seats : List (List ReaderState)) (ran_owners new
   pub many : length news ≡ length ran_owners
   pub each : (p : ℕ) (ran new : OwnerPart) → slice_get ran_owners p ≡ Some ran → slice_get news p ≡ Some new → MetTo q seats p ran new
 
-same_at : {Z : Type 0} {x y : Z} → Some x ≡ Some y → x ≡ y
-same_at is = cc
-
-pub met_nobody : (seats : List (List ReaderState)) (owner_parts : List OwnerPart) → HaveMetTo 0 seats owner_parts owner_parts
-met_nobody seats owner_parts = record {
-  many = refl;
-  each = λ p ran new is_ran is_new.
-      subst (λ (w : OwnerPart). MetTo 0 seats p ran w) (same_at (sym is_ran ∙ is_new)) (record {
-        shape = refl;
-        history = refl;
-        phase = refl;
-        closed = omega arith;
-        seen = λ i seat less is. absurd (omega arith);
-        table = refl;
-        worker = refl;
-        writes = refl;
-        done = refl;
-      });
-}
-
 -- a reader's seat of a partition
 seat_is : (seats : List (List ReaderState)) (q p : ℕ) (own : List ReaderState) → slice_get seats q ≡ Some own → seat_of seats q p ≡ slice_get own p
 seat_is seats q p own is = ap (λ o. option_and_then (λ l. slice_get l p) o) is
@@ -182,8 +119,8 @@ met_more q seats ran_owners mids news own so_far is_his full met = record {
       let one = so_far.many in
       let two = met.many in
       let less = slice_get_within ran_owners p ran is_ran in
-      let mid = at_within mids p (omega arith) in
-      let seat = at_within own p (omega arith) in
+      let mid = element_at mids p (omega arith) in
+      let seat = element_at own p (omega arith) in
       let was = so_far.each p ran mid.0 is_ran mid.1 in
       let now = met.each p seat.0 mid.0 new seat.1 mid.1 is_new in
       let here : seat_of seats q p ≡ Some seat.0 = seat_is seats q p own is_his ∙ seat.1 in
@@ -200,7 +137,7 @@ met_more q seats ran_owners mids news own so_far is_his full met = record {
               | true ↦ λ e.
                   let at : i ≡ q = eqb-true i q e in
                   let is_here : seat_of seats q p ≡ Some s = subst (λ (n : ℕ). seat_of seats n p ≡ Some s) at is in
-                  subst (λ (x : ReaderState). IsPrefix x.seen new.state.history) (same_at (sym here ∙ is_here)) now.seen
+                  subst (λ (x : ReaderState). IsPrefix x.seen new.state.history) (same_Some _ _ (sym here ∙ is_here)) now.seen
               | false ↦ λ e.
                   let other : i ≢ q = λ same. absurd (true≢false (sym (eq-eqb i q same) ∙ e)) in
                   subst (IsPrefix s.seen) same_history (was.seen i s (under i other below) is)
@@ -263,7 +200,7 @@ module _ {P R : Type 0} (owner : P → OwnerState) (home : P → TableId) (reade
   lends_none readers q old so_far less is =
       let many = so_far.many in
       let long = length-map readers t in
-      let first = at_within reader_parts q (omega arith) in
+      let first = element_at reader_parts q (omega arith) in
       let here = seen_at t readers q old less is in
       let same : t old ≡ first.0 = so_far.later q first.0 (t old) (omega arith) first.1 here in
       none_seen reader old.seats.items (ap (λ (x : ReaderPart). x.seats) same ∙ (ready.each_reader q first.0 first.1).seats)
@@ -282,7 +219,7 @@ module _ {P R : Type 0} (owner : P → OwnerState) (home : P → TableId) (reade
   lent_seats = record {
     many = length-map owner_parts lent_part ∙ ready.owners;
     shapes = λ p seat is.
-        let back = seen_back lent_part owner_parts p seat is in
+        let back = from_map lent_part owner_parts p seat is in
         ap (λ (s : ReaderState). s.shape) (sym back.2) ∙ (ready.each_owner p back.0 back.1).shape;
   }
 
@@ -293,13 +230,13 @@ module _ {P R : Type 0} (owner : P → OwnerState) (home : P → TableId) (reade
       let many = lent.many in
       let long = length-map readers t in
       let less = slice_get_within (map t readers) q new is_new in
-      let first = at_within reader_parts q (omega arith) in
+      let first = element_at reader_parts q (omega arith) in
       (first.0, first.1, lent.done q first.0 new (omega arith) first.1 is_new)
 
   pub readers_ready : (readers : List (ReaderWork R)) (n : ℕ) → length readers ≤ n → UpTo (IsLent owner_parts) n reader_parts (map t readers) → All (IsReadyReader reader trace options) readers
   readers_ready readers n all lent =
       λ k d less.
-      let one = at_within readers k less in
+      let one = element_at readers k less in
       let is = get_or_from_slice_get readers k one.0 d one.1 in
       let it = lent_at readers n all lent k (t one.0) (slice_get-map t readers k ∙ ap (option_map t) one.1) in
       let was = ready.each_reader k it.0 it.1 in
@@ -337,13 +274,13 @@ module _ {P R : Type 0} {owner : P → OwnerState} {home : P → TableId} {reade
 
   answered : (q : ℕ) (old mid : ReaderPart) → slice_get reader_parts q ≡ Some old → slice_get (map reader_seen r.mids) q ≡ Some mid → HasAnswered trace options owner_parts old mid
   answered q old mid is_old is_mid =
-      let back = seen_back reader_seen r.mids q mid is_mid in
+      let back = from_map reader_seen r.mids q mid is_mid in
       let many = r.reading.0 in
       let less = slice_get_within r.mids q back.0 back.1 in
-      let was = at_within r.lents q (omega arith) in
+      let was = element_at r.lents q (omega arith) in
       let one = at_each (ReaderRan reader at trace options) r.lents r.mids r.reading.0 r.reading.1 q was.0 back.0 was.1 back.1 in
       let it = lent_at owner home reader at trace options owner_parts reader_parts r.ready r.lents r.count r.all r.lent q (reader_seen was.0) (slice_get-map reader_seen r.lents q ∙ ap (option_map reader_seen) was.1) in
-      let same_old : it.0 ≡ old = same_at (sym it.1 ∙ is_old) in
+      let same_old : it.0 ≡ old = same_Some _ _ (sym it.1 ∙ is_old) in
       subst (HasAnswered trace options owner_parts old) back.2 (subst (λ (x : ReaderPart). HasAnswered trace options owner_parts x (reader_seen back.0)) same_old (record {
         many = sym (length-map back.0.seats.items (λ s. at s) ∙ sym (length-map back.0.seats.items (λ s. reader s))) ∙ ap length (one.at_home ∙ it.2.tables) ∙ length-map owner_parts table_in;
         tables = one.at_home ∙ it.2.tables;
@@ -356,8 +293,8 @@ module _ {P R : Type 0} {owner : P → OwnerState} {home : P → TableId} {reade
   ran_same : (p : ℕ) (old ran : OwnerPart) → slice_get owner_parts p ≡ Some old → slice_get (map owner_seen r.ran_owners) p ≡ Some ran → HasWritten old.state ran.state (writes_at trace old.writes) ran.done.list
       × (ran.table ≡ old.table) × (ran.worker ≡ old.worker) × (ran.writes ≡ old.writes)
   ran_same p old ran is_old is_ran =
-      let back = seen_back owner_seen r.ran_owners p ran is_ran in
-      let first = seen_back owner_seen r.owners p old (subst (λ (ws : List OwnerPart). slice_get ws p ≡ Some old) (sym r.same) is_old) in
+      let back = from_map owner_seen r.ran_owners p ran is_ran in
+      let first = from_map owner_seen r.owners p old (subst (λ (ws : List OwnerPart). slice_get ws p ≡ Some old) (sym r.same) is_old) in
       let one = at_each (OwnerRan owner home trace) r.owners r.ran_owners r.owned.0 r.owned.1 p first.0 back.0 first.1 back.1 in
       let here : HasWritten (owner first.0.part) (owner back.0.part) (writes_at trace first.0.writes.items) back.0.done.list × (home back.0.part ≡ home first.0.part) × (back.0.worker ≡ first.0.worker) × (back.0.writes.items ≡ first.0.writes.items) = (one.written, one.at_home, one.worker, ap (λ w. w.items) one.writes) in
       subst (λ (w : OwnerPart). HasWritten old.state w.state (writes_at trace old.writes) w.done.list × (w.table ≡ old.table) × (w.worker ≡ old.worker) × (w.writes ≡ old.writes)) back.2
@@ -376,7 +313,7 @@ module _ {P R : Type 0} {owner : P → OwnerState} {home : P → TableId} {reade
   mid_at q readers old left less is =
       let many = left.many in
       let long = length-map readers reader_seen in
-      let one = at_within (map reader_seen r.mids) q (omega arith) in
+      let one = element_at (map reader_seen r.mids) q (omega arith) in
       let was = left.later q one.0 (reader_seen old) (omega arith) one.1 (seen_at reader_seen readers q old less is) in
       one.1 ∙ ap (λ (x : ReaderPart). Some x) (sym was)
 
@@ -387,7 +324,7 @@ module _ {P R : Type 0} {owner : P → OwnerState} {home : P → TableId} {reade
       let many = r.reading.0 in
       let count = length-map r.lents reader_seen in
       let first = r.lent.many in
-      at_within reader_parts q (omega arith)
+      element_at reader_parts q (omega arith)
 
   pub homes_same : (q : ℕ) (readers : List (ReaderWork R)) (now : List (OwnerWork P)) (old : ReaderWork R) → UpTo HasLeft q (map reader_seen r.mids) (map reader_seen readers) → HaveMetTo q given (map owner_seen r.ran_owners) (map owner_seen now)
       → q < length readers → old ≡ get_or readers q old → map at old.seats.items ≡ map table_in (map owner_seen now)
@@ -430,7 +367,7 @@ module _ {P R : Type 0} {owner : P → OwnerState} {home : P → TableId} {reade
         left = omega arith;
         wrote = ran_same;
         read = λ n old new own is_old is_new is_his.
-            let back = seen_back (λ (x : ReaderPart). x.seats) (map reader_seen r.mids) n own is_his in
+            let back = from_map (λ (x : ReaderPart). x.seats) (map reader_seen r.mids) n own is_his in
             let it = answered n old back.0 is_old back.1 in
             let low = slice_get_within (map reader_seen readers) n new is_new in
             let gone = left.done n back.0 new (omega arith) back.1 is_new in
@@ -454,7 +391,7 @@ on_err_any (Err e) p = p
 -- what is seen of each element is seen of one more
 pub each_more : {X Y : Type 0} (f : X → Y) (Q : Y → Type 0) (items : List X) (x : X) → ((i : ℕ) (y : Y) → slice_get (map f items) i ≡ Some y → Q y) → Q (f x)
     → (i : ℕ) (y : Y) → slice_get (map f (items ++ x ∷ [])) i ≡ Some y → Q y
-each_more f Q [] x each one zero y is = subst Q (same_at is) one
+each_more f Q [] x each one zero y is = subst Q (same_Some _ _ is) one
 each_more f Q [] x each one (suc i) y is = absurd (cc)
 each_more f Q (z ∷ items) x each one zero y is = each zero y is
 each_more f Q (z ∷ items) x each one (suc i) y is = each_more f Q items x (λ k w at. each (suc k) w at) one i y is

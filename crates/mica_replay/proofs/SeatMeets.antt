@@ -1,17 +1,16 @@
 -- Seats lent by each owner in turn, and seats that meet their owners.
-use Rattle.std.proofs.Common.{◌≡◌, ℕ, ◌+◌, ◌<◌, ◌≤◌, inl, inr, List, [], ◌∷◌, ◌++◌, length, map, take, get_or, slice_get, slice_set, Some, refl, sym, ap, ◌∙◌, subst, arith, take-append-drop, append_assoc, drop}
+use Rattle.std.proofs.Common.{◌≡◌, ℕ, ◌+◌, ◌<◌, ◌≤◌, inl, inr, List, [], ◌∷◌, ◌++◌, length, map, take, get_or, slice_get, slice_set, Some, refl, sym, ap, ◌∙◌, subst, arith}
 use Rattle.std.specs.Prelude.{option_map}
-use Rattle.std.proofs.lemmas.List.{map-set, map-append, length-map, length-set, length_push, take_more, take_all, take-append-le}
-use Rattle.std.proofs.lemmas.Option.{slice_get_read, slice_get-map, slice_get_within, get_or_from_slice_get}
+use Rattle.std.proofs.lemmas.List.{map-set, map-append, length-map, length-set, take_more}
+use Rattle.std.proofs.lemmas.Option.{slice_get_read, slice_get-map, slice_get_within, get_or_from_slice_get, same_Some}
+use Rattle.list_laws.proofs.Places.{popped, element_at, set_cases, set_same}
 use Rattle.atomic_table.specs.Seated.{TableId}
-use Rattle.mica_model.specs.History.{History, IsPrefix}
+use Rattle.partition_model.specs.History.{History, IsPrefix}
 use Rattle.epoch_core.specs.declared.state.OwnerState.{OwnerState}
 use Rattle.epoch_core.specs.Kept.{Kept}
 use Rattle.epoch_core.specs.declared.reader.ReaderState.{ReaderState}
 use Rattle.epoch_core.specs.Joins.{met_by}
-use Rattle.mica_replay.specs.Lending.{OwnerPart, MeetsSeat, HaveMet}
-use Rattle.owner_queue.proofs.Lists.{set_cases}
-use Rattle.mica_replay.proofs.ReaderSteps.{set_same, at_within}
+use Rattle.mica_replay.specs.Lending.{OwnerPart, MeetsSeat}
 
 module _ {X Y : Type 0} (f : X → Y) where
   -- an element that is seen as before leaves the list as it is seen
@@ -32,32 +31,11 @@ module _ {X Y : Type 0} (f : X → Y) where
       ∙ ap (λ z. take p (map k was) ++ z ∷ []) (gives ∙ sym (get_or_from_slice_get (map k was) p (k (f old)) (h seat) at_k))
       ∙ sym (take_more (map k was) p (h seat) within)
 
--- the first n of a list, where one was taken off its end
-pub popped : {X : Type 0} (all now new : List X) (x : X) → now ≡ take (length now) all → now ≡ new ++ x ∷ [] → (new ≡ take (length new) all) × (slice_get all (length new) ≡ Some x) × (length now ≡ length new + 1)
-popped all now new x front is =
-    let n : length now ≡ length new + 1 = ap length is ∙ length_push new x in
-    let whole : new ++ x ∷ drop (length now) all ≡ all = sym (append_assoc new (x ∷ []) (drop (length now) all)) ∙ ap (λ l. l ++ drop (length now) all) (sym is ∙ front) ∙ take-append-drop (length now) all in (
-      sym (ap (take (length new)) (sym whole) ∙ take-append-le (length new) new (x ∷ drop (length now) all) (omega arith) ∙ take_all (length new) new (omega arith)),
-      ap (λ l. slice_get l (length new)) (sym whole) ∙ at_end new x (drop (length now) all),
-      n,
-    )
-  where
-    at_end : {X : Type 0} (xs : List X) (x : X) (ys : List X) → slice_get (xs ++ x ∷ ys) (length xs) ≡ Some x
-    at_end [] x ys = refl
-    at_end (y ∷ xs) x ys = at_end xs x ys
-
 -- the owners from a place on have met their seats, and those before it are as they were
 pub record MetFrom (from : ℕ) (seats : List ReaderState) (olds news : List OwnerPart) : Type 0 where
   pub many : length news ≡ length olds
   pub before : (p : ℕ) (old new : OwnerPart) → p < from → slice_get olds p ≡ Some old → slice_get news p ≡ Some new → new ≡ old
   pub met : (p : ℕ) (seat : ReaderState) (old new : OwnerPart) → from ≤ p → slice_get seats p ≡ Some seat → slice_get olds p ≡ Some old → slice_get news p ≡ Some new → MeetsSeat seat old new
-
-pub met_none : (seats : List ReaderState) (owner_parts : List OwnerPart) (n : ℕ) → length seats ≤ n → MetFrom n seats owner_parts owner_parts
-met_none seats owner_parts n most = record {
-  many = refl;
-  before = λ p old new less is_old is_new. cc;
-  met = λ p seat old new from is_seat is_old is_new. let within = slice_get_within seats p seat is_seat in absurd (omega arith);
-}
 
 pub met_one : (from : ℕ) (seats : List ReaderState) (olds mids : List OwnerPart) (seat : ReaderState) (mid new : OwnerPart) → MetFrom (from + 1) seats olds mids → slice_get seats from ≡ Some seat → slice_get mids from ≡ Some mid
     → MeetsSeat seat mid new → MetFrom from seats olds (slice_set mids from new)
@@ -73,29 +51,20 @@ met_one from seats olds mids seat mid new so_far is_seat at meets = record {
         | inl same ↦
             let is_s_here : slice_get seats from ≡ Some s = subst (λ (q : ℕ). slice_get seats q ≡ Some s) (sym same.0) is_s in
             let is_old_here : slice_get olds from ≡ Some old = subst (λ (q : ℕ). slice_get olds q ≡ Some old) (sym same.0) is_old in
-            let one : seat ≡ s = same_at (sym is_seat ∙ is_s_here) in
+            let one : seat ≡ s = same_Some _ _ (sym is_seat ∙ is_s_here) in
             let two : mid ≡ old = so_far.before from old mid (omega arith) is_old_here at in
             subst (λ (x : OwnerPart). MeetsSeat s old x) same.1 (subst (λ (x : OwnerPart). MeetsSeat s x new) two (subst (λ (x : ReaderState). MeetsSeat x mid new) one meets))
         | inr other ↦ so_far.met p s old n (past p low other.0) is_s is_old other.1
       ];
 }
   where
-    same_at : {X : Type 0} {x y : X} → Some x ≡ Some y → x ≡ y
-    same_at is = cc
-
     past : (p : ℕ) → from ≤ p → (from ≡ p → ⊥) → from + 1 ≤ p
     past p low other = omega arith
-
-pub met_all : (seats : List ReaderState) (olds news : List OwnerPart) → MetFrom 0 seats olds news → HaveMet seats olds news
-met_all seats olds news met = record { many = met.many; each = λ p seat old new is_seat is_old is_new. met.met p seat old new (omega arith) is_seat is_old is_new }
 
 -- the table of a place, where seats and owners have the same tables
 pub table_at : {S X T : Type 0} (h : S → T) (k : X → T) (seats : List S) (items : List X) (p : ℕ) (seat : S) (item : X) → map h seats ≡ map k items → slice_get seats p ≡ Some seat → slice_get items p ≡ Some item → h seat ≡ k item
 table_at h k seats items p seat item same is_seat is_item =
-    same_at (sym (slice_get-map h seats p ∙ ap (option_map h) is_seat) ∙ ap (λ ts. slice_get ts p) same ∙ (slice_get-map k items p ∙ ap (option_map k) is_item))
-  where
-    same_at : {Z : Type 0} {x y : Z} → Some x ≡ Some y → x ≡ y
-    same_at is = cc
+    same_Some _ _ (sym (slice_get-map h seats p ∙ ap (option_map h) is_seat) ∙ ap (λ ts. slice_get ts p) same ∙ (slice_get-map k items p ∙ ap (option_map k) is_item))
 
 pub meets_by : (old new : OwnerPart) (r : ReaderState) → new.state ≡ met_by old.state r → Kept new.state → new.table ≡ old.table → new.worker ≡ old.worker → new.writes ≡ old.writes → new.done ≡ old.done → MeetsSeat r old new
 meets_by old new r met kept table worker writes done = record {
@@ -135,7 +104,7 @@ module _ {S X : Type 0} (r : S → ReaderState) (h : S → TableId) (f : X → O
       let many = met.many in
       let five = length-map items f in
       let low = within in
-      let was = at_within (map f first) (length rest) (omega arith) in
+      let was = element_at (map f first) (length rest) (omega arith) in
       let count = it.2 in
       let same_work : f old ≡ was.0 = met.before (length rest) was.0 (f old) (omega arith) was.1 at_now in
       table_at h (λ (w : OwnerPart). w.table) all (map f first) (length rest) seat was.0 same it.1 was.1 ∙ ap (λ (w : OwnerPart). w.table) (sym same_work)

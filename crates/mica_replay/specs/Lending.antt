@@ -1,7 +1,7 @@
 -- What contracts see of an owner in a round, and what a meeting makes of it.
 use Rattle.std.specs.Prelude.{◌≡◌, ℕ, ◌+◌, List, length, slice_get, Some}
 use Rattle.atomic_table.specs.Seated.{TableId}
-use Rattle.mica_model.specs.History.{IsPrefix}
+use Rattle.partition_model.specs.History.{IsPrefix}
 use Rattle.epoch_core.specs.declared.state.OwnerState.{OwnerState}
 use Rattle.epoch_core.specs.declared.reader.ReaderState.{ReaderState}
 use Rattle.mica_replay.specs.declared.worker.OwnerWork.{OwnerWork}

@@ -1,7 +1,7 @@
 -- What is printed for a round, taken from what its workers have.
 use Rattle.std.specs.Prelude.{◌≡◌, ℕ, List, ◌++◌, length, zip, slice_get, Some}
 use Rattle.std.specs.List.{AllZip}
-use Rattle.mica_model.specs.declared.options.Options.{Options}
+use Rattle.partition_model.specs.declared.options.Options.{Options}
 use Rattle.mica_trace.specs.declared.line.TraceLine.{TraceLine}
 use Rattle.mica_trace.specs.declared.report.Line.{Line}
 use Rattle.mica_trace.specs.Rounds.{writes_of}

@@ -1,6 +1,6 @@
 -- What a replay prints and keeps.
 use Rattle.std.specs.Prelude.{ℕ, List, Option}
-use Rattle.mica_model.specs.declared.options.Options.{Options}
+use Rattle.partition_model.specs.declared.options.Options.{Options}
 use Rattle.mica_trace.specs.declared.line.TraceLine.{TraceLine}
 use Rattle.mica_trace.specs.Printed as printed
 use Rattle.partition_table.specs.declared.tables.Entry.{Entry}

@@ -1,8 +1,8 @@
 -- What a reader's gets come to: of its seats, one for each partition, and of its lines, one for each get.
 use Rattle.std.specs.Prelude.{◌≡◌, ℕ, List, length, zip, slice_get, Some}
 use Rattle.std.specs.List.{AllZip}
-use Rattle.mica_model.specs.declared.options.Options.{Options}
-use Rattle.mica_model.specs.History.{IsPrefix}
+use Rattle.partition_model.specs.declared.options.Options.{Options}
+use Rattle.partition_model.specs.History.{IsPrefix}
 use Rattle.epoch_core.specs.declared.reader.ReaderState.{ReaderState}
 use Rattle.epoch_core.specs.Shape.{shape_of}
 use Rattle.optimistic_get.specs.Asked.{SeatAnswers}

@@ -1,6 +1,6 @@
 -- What a run leaves in the tables that it keeps, beside its report.
 use Rattle.std.specs.Prelude.{◌≡◌, ℕ, ◌&&◌, List, length, count_by, slice_get, Some}
-use Rattle.mica_model.specs.declared.options.Options.{Options}
+use Rattle.partition_model.specs.declared.options.Options.{Options}
 use Rattle.mica_trace.specs.declared.line.TraceLine.{TraceLine}
 use Rattle.mica_trace.specs.declared.report.Line.{Line}
 use Rattle.mica_trace.specs.Rounds.{is_in_partition, writes_of}

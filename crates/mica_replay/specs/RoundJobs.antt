@@ -1,7 +1,7 @@
 -- The jobs of a round.
 use Rattle.std.specs.Prelude.{◌≡◌, ℕ, ◌+◌, List, [], ◌∷◌, length, slice_get, Some}
-use Rattle.mica_model.specs.declared.write.Write.{Write}
-use Rattle.mica_model.specs.declared.options.Options.{Options}
+use Rattle.partition_model.specs.declared.write.Write.{Write}
+use Rattle.partition_model.specs.declared.options.Options.{Options}
 use Rattle.mica_trace.specs.declared.line.TraceLine.{TraceLine}
 use Rattle.mica_trace.specs.Rounds.{writes_of}
 use Rattle.mica_replay.specs.declared.feeder.Feed.{Feed}

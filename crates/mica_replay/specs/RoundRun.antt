@@ -1,7 +1,7 @@
 -- What a round, run whole, makes of its owners and readers.
 use Rattle.std.specs.Prelude.{◌≡◌, ℕ, ◌<◌, ◌≤◌, ◌^◌, ◌+◌, ◌-◌, List, [], length, map, take, drop, slice_get, Option, Some, IfSome, All}
 use Rattle.atomic_table.specs.Seated.{TableId}
-use Rattle.mica_model.specs.declared.options.Options.{Options}
+use Rattle.partition_model.specs.declared.options.Options.{Options}
 use Rattle.mica_trace.specs.declared.line.TraceLine.{TraceLine}
 use Rattle.mica_trace.specs.declared.report.Line.{Line}
 use Rattle.epoch_core.specs.Shape.{shape_of}

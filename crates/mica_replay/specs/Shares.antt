@@ -1,6 +1,6 @@
 -- How a round is shared out among its workers.
 use Rattle.std.specs.Prelude.{◌≡◌, ℕ, ◌≤◌, List, [], length, slice_get, Some, All}
-use Rattle.mica_model.specs.declared.options.Options.{Options}
+use Rattle.partition_model.specs.declared.options.Options.{Options}
 use Rattle.mica_trace.specs.declared.line.TraceLine.{TraceLine}
 use Rattle.mica_trace.specs.Rounds.{writes_of}
 use Rattle.mica_trace.specs.RoundReport.{gets_of}

@@ -3,7 +3,7 @@ ghost use Rattle.std.specs.Prelude.{◌≡◌, ◌<◌, ◌-◌, ◌+◌, ◌∷
 ghost use Rattle.mica_replay.specs.Replies.{replies_with};
 
 use mica_io::NoMemory;
-use mica_model::Outcome;
+use partition_model::Outcome;
 use std::alloc::Global;
 use std::marker::Model;
 

@@ -1,8 +1,9 @@
 //! The owners of a round, each fed by its queue, beside the readers.
 ghost use Rattle.std.specs.Prelude.{◌≡◌, ◌<◌, ◌≤◌, ◌-◌, OnOk, All, length, map, take, drop};
-ghost use Rattle.mica_model.specs.Options.{IsValid};
+ghost use Rattle.partition_model.specs.Options.{IsValid};
 ghost use Rattle.partition_table.specs.Seats.{reader_state, reader_home};
 ghost use Rattle.mica_replay.specs.Lending.{owner_part};
+ghost use Rattle.mica_replay.specs.LineNumbers.{homes_of};
 ghost use Rattle.mica_replay.specs.Queues.{AreWritesOf};
 ghost use Rattle.mica_replay.specs.Workers.{IsReadyOwner, OwnersRan, IsReadyReader, ReadersRan};
 
@@ -12,8 +13,8 @@ use crate::round_jobs::make_feeds;
 use crate::worker::{OwnerWork, ReaderWork, run_all};
 use epoch_core::LendPartition;
 use mica_io::{Gate, NoMemory};
-use mica_model::Options;
 use mica_trace::Trace;
+use partition_model::Options;
 use partition_table::{Note, ReaderSeat};
 use std::alloc::Global;
 use std::sync::Wait;
@@ -33,11 +34,13 @@ pub(crate) fn run_fed<
     gate: &G,
     from: u32,
     to: u32,
+    homes: &[u32],
     owners: &mut Vec<OwnerWork<P>>,
     readers: &mut Vec<ReaderWork<ReaderSeat>>,
 ) -> Result<(), NoMemory>
     requires valid { IsValid options.now }
     requires bounds { (from ≤ to) × (to ≤ length trace.now) }
+    requires homes { homes.now ≡ homes_of options.now (take (to - from) (drop from trace.now)) }
     requires owners { All (IsReadyOwner trace.now) owners.old.items }
     requires readers { All (IsReadyReader reader_state trace.now options.now) readers.old.items }
     requires shared { AreWritesOf options.now trace.now (take (to - from) (drop from trace.now))
@@ -46,7 +49,8 @@ pub(crate) fn run_fed<
     ensures readers { OnOk result (ReadersRan reader_state reader_home trace.now options.now
         readers.old.items readers.new.items) }
 {
-    let feeds = make_feeds(alloc, options, &trace.lines()[from as usize..to as usize])?;
+    let lines = &trace.lines()[from as usize..to as usize];
+    let feeds = make_feeds(alloc, options, lines, homes)?;
     let senders = open_queues(alloc, owners)?;
     let mut feeder = Feeder {
         senders,

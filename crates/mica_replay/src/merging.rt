@@ -1,9 +1,10 @@
 //! What is printed for a round.
 ghost use Rattle.std.specs.Prelude.{◌≡◌, ◌<◌, ◌+◌, ◌⊎◌, ◌∷◌, ◌^◌, IfOk, OnOk, Some, map, length, slice_get};
 ghost use Rattle.std.specs.Vec.Iter.{into_iter_items};
-ghost use Rattle.mica_model.specs.Options.{IsValid};
+ghost use Rattle.partition_model.specs.Options.{IsValid};
 ghost use Rattle.mica_trace.specs.Rounds.{op_of};
 ghost use Rattle.mica_replay.specs.Lending.{owner_part};
+ghost use Rattle.mica_replay.specs.LineNumbers.{homes_of};
 ghost use Rattle.mica_replay.specs.RoundRun.{reader_part, replies_of, found_of};
 ghost use Rattle.mica_replay.specs.Shares.{Each, KeepsGets};
 ghost use Rattle.mica_replay.specs.Merged.{AreEnough, HasMerged};
@@ -12,9 +13,8 @@ use crate::done::Done;
 use crate::worker::{OwnerWork, ReaderWork};
 use epoch_core::{Partition, ReaderWords};
 use mica_io::NoMemory;
-use mica_model::{Op, Options, Outcome};
 use mica_trace::{Line, Report, TraceLine, TraceOp};
-use mica_words::{key_hash, partition_of};
+use partition_model::{Op, Options, Outcome};
 use std::alloc::Global;
 use std::vec::IntoIter;
 
@@ -84,12 +84,14 @@ pub(crate) fn print_round<P: Partition>(
     alloc: Global,
     options: &Options,
     lines: &[TraceLine],
+    homes: &[u32],
     first: u32,
     owners: &[OwnerWork<P>],
     found: &mut [IntoIter<Line, Global>],
     report: &mut Report,
 ) -> Result<(), NoMemory>
     requires valid { IsValid options.now }
+    requires homes { homes.now ≡ homes_of options.now lines.now }
     requires enough { AreEnough options.now first lines.now (map replies_of (map (λ w. owner_part P.owner P.home w) owners.now)) (map (λ it. into_iter_items it) found.old) }
     requires count { (first + length lines.now < 2 ^ 32) × (length report.old + length lines.now < 2 ^ 32) }
     ensures { OnOk result (HasMerged options.now first lines.now report.old report.new
@@ -97,13 +99,11 @@ pub(crate) fn print_round<P: Partition>(
 {
     let mut replied = vec![in alloc; 0u32; owners.len()]?;
     let mut gets = first;
-    for line in lines {
+    for number in 0..lines.len() {
+        let line = &lines[number];
         let printed = match line.op {
             TraceOp::Put | TraceOp::Add | TraceOp::Del | TraceOp::Touch => {
-                let partition = partition_of(
-                    key_hash(line.key.bytes()),
-                    options.partitions,
-                ) as usize;
+                let partition = homes[number] as usize;
                 let (outcome, stamp) = next_reply(&owners[partition].done, &mut replied[partition]);
                 Line::Wrote {
                     op: write_op(line.op),

@@ -1,13 +1,13 @@
 //! A replay: a trace's report, written as a whole.
 ghost use Rattle.std.specs.Prelude.{◌≡◌, ◌≤◌, [], OnOk, IsErrOf};
 ghost use Rattle.mica_io.specs.Faults.{Rose};
-ghost use Rattle.mica_model.specs.Options.{IsValid};
+ghost use Rattle.partition_model.specs.Options.{IsValid};
 ghost use Rattle.mica_replay.specs.Printed.{PrintsReport, PrintsPart};
 
 use crate::run_trace;
 use mica_io::{Failed, Gate, NoMemory, Sink};
-use mica_model::Options;
 use mica_trace::{Trace, texts_of, write_texts};
+use partition_model::Options;
 use partition_table::Tables;
 use std::alloc::Global;
 use std::sync::Wait;

@@ -3,17 +3,17 @@ ghost use Rattle.std.specs.Prelude.{◌≡◌, ◌<◌, ◌^◌, All, length, ma
 ghost use Rattle.std.specs.Option.{option_copied};
 ghost use Rattle.std.specs.Vec.Iter.{into_iter_items};
 ghost use Rattle.mica_words.specs.Item.{KeyFits};
-ghost use Rattle.mica_model.specs.Options.{IsValid};
+ghost use Rattle.partition_model.specs.Options.{IsValid};
 ghost use Rattle.mica_replay.specs.Answered.{IsNotAgain, line_of};
 ghost use Rattle.mica_replay.specs.LineNumbers.{lines_at, NamesGet};
 ghost use Rattle.mica_replay.specs.ReaderGets.{AreSeatsOf, HaveRead, HaveSeenMore};
 
 use epoch_core::ReaderWords;
 use mica_io::{Bytes, Gate, NoMemory};
-use mica_model::{ItemBuf, Options};
 use mica_trace::{Line, Trace};
 use mica_words::{key_hash, partition_of};
-use optimistic_get::{Got, ask};
+use optimistic_get::{Got, ask_hashed};
+use partition_model::{ItemBuf, Options};
 use std::alloc::Global;
 use std::marker::Model;
 use std::sync::Wait;
@@ -103,8 +103,10 @@ pub fn run_reader<W: Threads + Wait + Sync, R: ReaderWords, G: Gate>(
     for number in gets {
         gate.turn(worker, call);
         let key = lines[*number as usize].key.bytes();
-        let partition = partition_of(key_hash(key), options.partitions) as usize;
-        let got = ask(rt, &mut seats[partition], key, options.tries, &mut out);
+        let hash = key_hash(key);
+        let partition = partition_of(hash, options.partitions) as usize;
+        let seat = &mut seats[partition];
+        let got = ask_hashed(rt, seat, key, hash, options.tries, &mut out);
         found.push_reserved(line_of(alloc, got, &out)?);
         call += 1;
     }

@@ -1,8 +1,9 @@
 //! A round from the lending of its seats to the last meeting.
 ghost use Rattle.std.specs.Prelude.{◌≡◌, ◌<◌, ◌≤◌, ◌-◌, OnOk, All, map, length, take, drop};
-ghost use Rattle.mica_model.specs.Options.{IsValid};
+ghost use Rattle.partition_model.specs.Options.{IsValid};
 ghost use Rattle.partition_table.specs.Seats.{reader_state, reader_home};
 ghost use Rattle.mica_replay.specs.Lending.{owner_part};
+ghost use Rattle.mica_replay.specs.LineNumbers.{homes_of};
 ghost use Rattle.mica_replay.specs.Queues.{AreWritesOf};
 ghost use Rattle.mica_replay.specs.RoundRun.{reader_part, AreReady, HasRunRound};
 
@@ -11,8 +12,8 @@ use crate::lending::{lend_all, meet_all};
 use crate::worker::{OwnerWork, ReaderWork};
 use epoch_core::LendPartition;
 use mica_io::{Gate, NoMemory};
-use mica_model::Options;
 use mica_trace::Trace;
+use partition_model::Options;
 use partition_table::{Note, ReaderSeat};
 use std::alloc::Global;
 use std::sync::Wait;
@@ -31,6 +32,7 @@ pub(crate) fn run_round<
     gate: &G,
     from: u32,
     to: u32,
+    homes: &[u32],
     owners: &mut Vec<OwnerWork<P>>,
     readers: &mut Vec<ReaderWork<ReaderSeat>>,
 ) -> Result<(), NoMemory>
@@ -39,6 +41,7 @@ pub(crate) fn run_round<
         (map (λ w. owner_part P.owner P.home w) owners.old.items)
         (map (λ r. reader_part reader_state reader_home r) readers.old.items) }
     requires bounds { (from ≤ to) × (to ≤ length trace.now) }
+    requires homes { homes.now ≡ homes_of options.now (take (to - from) (drop from trace.now)) }
     requires shared { AreWritesOf options.now trace.now (take (to - from) (drop from trace.now))
         (map (λ w. owner_part P.owner P.home w) owners.old.items) }
     ensures ran { OnOk result (HasRunRound trace.now options.now
@@ -51,7 +54,9 @@ pub(crate) fn run_round<
         let reader = &mut readers[q];
         lend_all(owners, &mut reader.seats)?;
     }
-    run_fed(rt, alloc, trace, options, gate, from, to, owners, readers)?;
+    run_fed(
+        rt, alloc, trace, options, gate, from, to, homes, owners, readers,
+    )?;
     for q in 0..readers.len() {
         let reader = &mut readers[q];
         meet_all(owners, &mut reader.seats);

@@ -1,6 +1,6 @@
 //! All rounds of a trace.
 ghost use Rattle.std.specs.Prelude.{◌≡◌, ◌<◌, ◌≤◌, ◌-◌, [], IfOk, OnOk, MatchOption, map, length, take, drop};
-ghost use Rattle.mica_model.specs.Options.{IsValid};
+ghost use Rattle.partition_model.specs.Options.{IsValid};
 ghost use Rattle.mica_trace.specs.RoundReport.{EndsRound, IsOneRound, gets_in};
 ghost use Rattle.mica_replay.specs.Lending.{owner_part};
 ghost use Rattle.partition_table.specs.Seats.{reader_state, reader_home};
@@ -13,8 +13,8 @@ use crate::sharing::split_round;
 use crate::worker::{OwnerWork, ReaderWork};
 use epoch_core::LendPartition;
 use mica_io::{Gate, NoMemory};
-use mica_model::Options;
 use mica_trace::{Report, Trace, TraceLine};
+use partition_model::Options;
 use partition_table::{Note, ReaderSeat};
 use std::alloc::Global;
 use std::sync::Wait;
@@ -64,13 +64,17 @@ fn run_one<
         (map state_of_owner (map (λ w. owner_part P.owner P.home w) owners.new.items))) }
     ensures readers { OnOk result (AreFree options.now (map (λ r. reader_part reader_state reader_home r) readers.new.items)) }
 {
-    let next = split_round(alloc, options, trace, from, to, gets, owners, readers)?;
-    run_round(rt, alloc, trace, options, gate, from, to, owners, readers)?;
+    let (next, homes) = split_round(alloc, options, trace, from, to, gets, owners, readers)?;
+    let homes = homes.as_slice();
+    run_round(
+        rt, alloc, trace, options, gate, from, to, homes, owners, readers,
+    )?;
     let mut found = collect(alloc, readers)?;
     print_round(
         alloc,
         options,
         &trace.lines()[from as usize..to as usize],
+        homes,
         gets,
         owners.as_slice(),
         found.as_mut_slice(),

@@ -1,6 +1,6 @@
 //! A trace from its owners' making to the keeping of their seats.
 ghost use Rattle.std.specs.Prelude.{◌≡◌, ◌≤◌, ◌+◌, ◌++◌, [], ℕ, Some, All, IfOk, IfSome, OnErr, map, length, slice_get};
-ghost use Rattle.mica_model.specs.Options.{IsValid};
+ghost use Rattle.partition_model.specs.Options.{IsValid};
 ghost use Rattle.epoch_core.specs.declared.state.Phase.TheVariants.{Idle};
 ghost use Rattle.epoch_core.specs.Shape.{shape_of};
 ghost use Rattle.epoch_core.specs.OwnerState.{as_made};
@@ -12,17 +12,17 @@ use crate::done::Done;
 use crate::rounds::run_rounds;
 use crate::worker::{OwnerWork, ReaderWork};
 use cache_partition::CachePartition;
-use epoch_core::{LendPartition, Partition, ReaderWords};
+use epoch_core::{LendPartition, Partition, ReaderWords, Shape};
 use mica_io::{Gate, NoMemory};
-use mica_model::{Mode, Options};
 use mica_trace::{Report, Trace};
 use owner_queue::job_queue;
-use partition_table::{Note, OwnerSeat, ReaderSeat, Tables};
+use partition_model::{Mode, Options};
+use partition_table::{Note, OwnerSeat, ReaderSeat, Tables, zeros_for};
+use seated_partition::OnTable;
 use std::alloc::Global;
 use std::sync::Wait;
 use std::thread::{Threads, for_each_mut};
 use store_partition::StorePartition;
-use table_partition::OnTable;
 use thread_rehearsal::rehearse;
 
 // The partitions, each made in a thread of its own: None in the place of one for which there was no memory.
@@ -37,6 +37,8 @@ fn make_parts<W: Threads + Wait + Sync, P: OnTable + Partition + Send>(
     ensures made { IfOk result (λ parts. All (λ part. IfSome part (λ p. P.state p ≡ as_made (shape_of options.now))) parts.items) }
 {
     let threads = options.partitions as usize;
+    let zeros = zeros_for(alloc, &Shape::of(options))?;
+    let zeros = zeros.as_slice();
     let mut parts = Vec::with_capacity(alloc, threads)?;
     for _ in 0..threads {
         parts.push_reserved(None);
@@ -46,10 +48,10 @@ fn make_parts<W: Threads + Wait + Sync, P: OnTable + Partition + Send>(
         parts.as_mut_slice(),
         threads,
         &|_, part|
-            requires { IsValid options.now × (options.now.mode ≡ P.mode) }
+            requires { IsValid options.now × (options.now.mode ≡ P.mode) × (zeros.now ≡ (as_made (shape_of options.now)).words) }
             ensures { IfSome part.exit.now (λ p. P.state p ≡ as_made (shape_of options.entry.now)) }
         {
-            *part = P::new(alloc, options).ok();
+            *part = P::over(alloc, options, zeros).ok();
         },
     );
     Ok(parts)

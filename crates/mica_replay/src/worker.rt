@@ -1,7 +1,7 @@
 //! The workers of a round: each owner and each reader, with its part of the round, and the feeder, in a thread of its own.
 ghost use Rattle.std.specs.Thread.{IsSync};
 ghost use Rattle.std.specs.Prelude.{All};
-ghost use Rattle.mica_model.specs.Options.{IsValid};
+ghost use Rattle.partition_model.specs.Options.{IsValid};
 ghost use Rattle.partition_table.specs.Seats.{reader_state, reader_home};
 ghost use Rattle.mica_replay.specs.Workers.{IsReadyReader, ReaderRan, ReadersRan, IsFedOwner, OwnerFed, OwnersFed};
 ghost use Rattle.mica_replay.specs.Feeds.{IsReadyFeeder, HasFed};
@@ -12,9 +12,9 @@ use crate::owner::run_owner;
 use crate::reader::{Found, run_reader};
 use epoch_core::{LendPartition, ReaderWords};
 use mica_io::Gate;
-use mica_model::Options;
 use mica_trace::Trace;
 use owner_queue::JobReceiver;
+use partition_model::Options;
 use partition_table::{Note, ReaderSeat};
 use std::alloc::Global;
 use std::sync::Wait;

@@ -1,8 +1,8 @@
 use Rattle.std.proofs.Common.{◌≡◌, Some, map, take}
 use Rattle.std.specs.Vec.Iter.{into_iter_items}
+use Rattle.list_laws.proofs.UpTo.{UpTo}
 use Rattle.mica_replay.specs.RoundRun.{reader_part, found_of}
 use Rattle.mica_replay.specs.Shares.{KeepsGets}
-use Rattle.mica_replay.proofs.RoundSteps.{UpTo}
 use Rattle.mica_replay.proofs.merging.collect.Given as goal
 
 abbrev pub invariant-loop-q : goal.invariant-loop-q

@@ -1,4 +1,4 @@
-use Rattle.std.proofs.Common.{◌≡◌, ◌+◌, List, [], length, map, take, get_or, slice_get, slice_set, Some, refl, sym, ap, ◌∙◌, subst, arith, Result, Ok, Err, OnErr}
+use Rattle.std.proofs.Common.{◌≡◌, ◌+◌, List, [], length, map, take, get_or, slice_get, slice_set, Some, refl, sym, ap, ◌∙◌, subst, arith}
 use Rattle.std.proofs.lemmas.List.{length_push}
 use Rattle.mica_words.specs.Hash.{fnv1a, hash_partition}
 use Rattle.mica_words.proofs.Hashes.{partition_of_hash}
@@ -11,7 +11,7 @@ use Rattle.mica_replay.specs.ReaderGets.{HaveRead}
 use Rattle.mica_replay.proofs.ReaderSteps.{reads_none, number_within, IsGetOf, get_of, seat_at, seen_at, homes_at, read_at, reads_seen, read_goes}
 use Rattle.mica_replay.proofs.RoundSteps.{on_err_any}
 use Rattle.mica_replay.proofs.reader.run_reader.Given.{Over}
-use Rattle.mica_replay.proofs.reader.run_reader.Goals.{After-ask-got, After-bytes-key}
+use Rattle.mica_replay.proofs.reader.run_reader.Goals.{After-ask_hashed-got, After-bytes-key}
 use Rattle.mica_replay.proofs.reader.run_reader.Goals as goal
 
 get : (g : Over) (c : After-bytes-key g) → IsGetOf c.args.trace.now c.args.gets.now c.loop-number.number-index c.index-lines-number.result
@@ -22,7 +22,7 @@ get g c =
     (c.index-lines-number.is ∙ ap (λ (ls : List TraceLine). get_or ls (get_or numbers c.loop-number.number-index 0) line) c.lines-lines.ensures.same)
 
 -- the seat that is asked
-module _ (g : Over) (c : After-ask-got g) where
+module _ (g : Over) (c : After-ask_hashed-got g) where
   abbrev seat : g.row.R.Denot → ReaderState
   seat s = g.R.ReaderWords.reader s
 
@@ -33,16 +33,16 @@ module _ (g : Over) (c : After-ask-got g) where
   same_key = c.bytes-key.ensures ∙ ap (λ (l : TraceLine). l.key) (sym c.index-lines-number.is)
 
   at : c.partition_of-partition.result ≡ partition_in c.args.options.now c.index-lines-number.result
-  at = c.partition_of-partition.ensures ∙ ap (λ n. hash_partition n c.args.options.now.partitions) (c.key_hash.ensures ∙ ap fnv1a same_key)
+  at = c.partition_of-partition.ensures ∙ ap (λ n. hash_partition n c.args.options.now.partitions) (c.key_hash-hash.ensures ∙ ap fnv1a same_key)
       ∙ sym (partition_of_hash c.index-lines-number.result.key c.args.options.now.partitions)
 
-  here : slice_get c.loop-number.seats.items c.partition_of-partition.result ≡ Some c.index_mut.result.now
+  here : slice_get c.loop-number.seats.items c.partition_of-partition.result ≡ Some c.index_mut-seat.result.now
   here = seat_at seat c.args.options.now c.index-lines-number.result gets c.loop-number.found.items (map seat c.args.seats.now.items) c.loop-number.seats.items
-      c.partition_of-partition.result c.index_mut.result.now c.requires.valid c.requires.seats c.loop-number.invariant.read at c.index_mut.ensures.value
+      c.partition_of-partition.result c.index_mut-seat.result.now c.requires.valid c.requires.seats c.loop-number.invariant.read at c.index_mut-seat.ensures.value
 
-  homes : map (λ s. g.R.ReaderWords.home s) (slice_set c.loop-number.seats.items c.partition_of-partition.result c.ask-got.new.seat) ≡ map (λ s. g.R.ReaderWords.home s) c.args.seats.now.items
-  homes = homes_at seat (λ s. g.R.ReaderWords.home s) c.loop-number.seats.items c.partition_of-partition.result c.index_mut.result.now c.ask-got.new.seat _
-      c.loop-number.invariant.homes here c.ask-got.ensures.home
+  homes : map (λ s. g.R.ReaderWords.home s) (slice_set c.loop-number.seats.items c.partition_of-partition.result c.ask_hashed-got.new.seat) ≡ map (λ s. g.R.ReaderWords.home s) c.args.seats.now.items
+  homes = homes_at seat (λ s. g.R.ReaderWords.home s) c.loop-number.seats.items c.partition_of-partition.result c.index_mut-seat.result.now c.ask_hashed-got.new.seat _
+      c.loop-number.invariant.homes here c.ask_hashed-got.ensures.home
 
 pub loop-number-init : goal.loop-number-init
 loop-number-init g c =
@@ -61,34 +61,34 @@ bounds-lines-number g c =
     let same = ap length c.lines-lines.ensures.same in
     omega arith
 
-pub ask-got-requires-clause-key : goal.ask-got-requires-clause-key
-ask-got-requires-clause-key g c =
-    subst KeyFits (sym (c.bytes-key.ensures ∙ ap (λ (l : TraceLine). l.key) (sym c.index-lines-number.is))) (get g (goal.at.ask-got-requires-clause-key g c).After-bytes-key).key
+pub ask_hashed-got-requires-clause-key : goal.ask_hashed-got-requires-clause-key
+ask_hashed-got-requires-clause-key g c =
+    subst KeyFits (sym (c.bytes-key.ensures ∙ ap (λ (l : TraceLine). l.key) (sym c.index-lines-number.is))) (get g (goal.at.ask_hashed-got-requires-clause-key g c).After-bytes-key).key
 
 pub returns-in_err-line_of-clause-seen : goal.returns-in_err-line_of-clause-seen
 returns-in_err-line_of-clause-seen g c =
-    let z = (goal.at.returns-in_err-line_of-clause-seen g c).After-ask-got in
+    let z = (goal.at.returns-in_err-line_of-clause-seen g c).After-ask_hashed-got in
     let f = seat g z in
     let olds = map f c.args.seats.now.items in
     let items = c.loop-number.seats.items in
-    let old = c.index_mut.result.now in
-    let new = c.ask-got.new.seat in
+    let old = c.index_mut-seat.result.now in
+    let new = c.ask_hashed-got.new.seat in
     on_err_any c.from_residual-in_err-line_of.result
     (seen_at f olds items c.partition_of-partition.result old new (reads_seen c.args.options.now (gets g z) c.loop-number.found.items olds (map f items) c.loop-number.invariant.read) (here g z)
-    (read_goes (f old) (f new) c.bytes-key.result.now c.ask-got.result c.ask-got.new.out c.ask-got.ensures.answered))
+    (read_goes (f old) (f new) c.bytes-key.result.now c.ask_hashed-got.result c.ask_hashed-got.new.out c.ask_hashed-got.ensures.answered))
 
 pub returns-in_err-line_of-clause-homes : goal.returns-in_err-line_of-clause-homes
-returns-in_err-line_of-clause-homes g c = homes g (goal.at.returns-in_err-line_of-clause-homes g c).After-ask-got
+returns-in_err-line_of-clause-homes g c = homes g (goal.at.returns-in_err-line_of-clause-homes g c).After-ask_hashed-got
 
 pub loop-number-preserved : goal.loop-number-preserved
 loop-number-preserved g c =
-    let z = (goal.at.loop-number-preserved g c).After-ask-got in
+    let z = (goal.at.loop-number-preserved g c).After-ask_hashed-got in
     let of = get g (goal.at.loop-number-preserved g c).After-bytes-key in
     let found = c.loop-number.found.items in
     record {
       read = rw (of.more, c.push_reserved.ensures.items, c.in_ok-line_of.ensures)
-          (read_at (seat g z) c.args.options.now (gets g z) found (map (seat g z) c.args.seats.now.items) c.loop-number.seats.items c.partition_of-partition.result c.index_mut.result.now c.ask-got.new.seat _
-          c.bytes-key.result.now c.ask-got.result c.ask-got.new.out c.requires.seats c.loop-number.invariant.read (at g z) (here g z) of.get (same_key g z) c.ask-got.ensures.answered);
+          (read_at (seat g z) c.args.options.now (gets g z) found (map (seat g z) c.args.seats.now.items) c.loop-number.seats.items c.partition_of-partition.result c.index_mut-seat.result.now c.ask_hashed-got.new.seat _
+          c.bytes-key.result.now c.ask_hashed-got.result c.ask_hashed-got.new.out c.requires.seats c.loop-number.invariant.read (at g z) (here g z) of.get (same_key g z) c.ask_hashed-got.ensures.answered);
       homes = homes g z;
       room = omega (arith, c.loop-number.invariant.room, c.push_reserved.ensures.capacity);
       found = ap length c.push_reserved.ensures.items ∙ length_push found c.in_ok-line_of.field-0 ∙ ap (λ n. n + 1) c.loop-number.invariant.found;

@@ -1,7 +1,8 @@
 use Rattle.std.proofs.Common.{◌≡◌, map}
+use Rattle.list_laws.proofs.UpTo.{UpTo}
 use Rattle.mica_replay.specs.Lending.{owner_part}
 use Rattle.mica_replay.specs.RoundRun.{ReaderPart, reader_part}
-use Rattle.mica_replay.proofs.RoundSteps.{UpTo, IsLent, HasLeft, HaveMetTo}
+use Rattle.mica_replay.proofs.RoundSteps.{IsLent, HasLeft, HaveMetTo}
 use Rattle.partition_table.specs.Seats.{reader_state, reader_home}
 use Rattle.mica_replay.proofs.round.run_round.Given as goal
 

@@ -1,9 +1,10 @@
 use Rattle.std.proofs.Common.{◌≡◌, ◌-◌, ◌<◌, length, take, drop, get_or, sym, ap, ◌∙◌, subst, arith, take_all}
 use Rattle.std.specs.List.{AllByRecursion}
 use Rattle.std.proofs.lemmas.List.{take_more, length-drop}
+use Rattle.list_laws.proofs.AllElements.{all_push}
 use Rattle.mica_trace.specs.TraceGrammar.{is_sync}
 use Rattle.mica_trace.specs.RoundReport.{EndsRound, IsOneRound}
-use Rattle.mica_replay.proofs.RoundEnds.{IsNoSync, all_push, one_round, whole_round, ends_round, part_more}
+use Rattle.mica_replay.proofs.RoundEnds.{IsNoSync, one_round, whole_round, ends_round, part_more}
 use Rattle.mica_replay.proofs.rounds.next_sync.Goals as goal
 
 pub returns-then-is_sync : goal.returns-then-is_sync

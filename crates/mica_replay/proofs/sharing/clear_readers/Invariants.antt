@@ -1,7 +1,7 @@
 use Rattle.std.proofs.Common.{map}
+use Rattle.list_laws.proofs.UpTo.{UpTo}
 use Rattle.mica_replay.specs.RoundRun.{reader_part}
 use Rattle.mica_replay.specs.Shares.{HasNoGets}
-use Rattle.mica_replay.proofs.RoundSteps.{UpTo}
 use Rattle.mica_replay.proofs.sharing.clear_readers.Given as goal
 
 abbrev pub invariant-loop-q : goal.invariant-loop-q

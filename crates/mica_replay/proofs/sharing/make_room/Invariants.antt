@@ -1,7 +1,7 @@
 use Rattle.std.proofs.Common.{map}
+use Rattle.list_laws.proofs.UpTo.{UpTo}
 use Rattle.mica_replay.specs.Lending.{owner_part}
 use Rattle.mica_replay.specs.Shares.{HasRoom}
-use Rattle.mica_replay.proofs.RoundSteps.{UpTo}
 use Rattle.mica_replay.proofs.sharing.make_room.Given as goal
 
 abbrev pub invariant-loop-p : goal.invariant-loop-p

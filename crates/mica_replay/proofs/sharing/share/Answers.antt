@@ -12,7 +12,7 @@ use Rattle.mica_replay.specs.Lending.{owner_part}
 use Rattle.mica_replay.specs.RoundRun.{reader_part}
 use Rattle.mica_replay.proofs.RoundSteps.{seen_at}
 use Rattle.mica_replay.proofs.RoundEnds.{part_more}
-use Rattle.mica_replay.proofs.LineShares.{gets_push, writes_skip, gets_skip, writes_give, gets_give, sync_no_write, get_no_write, write_no_get, op_is_write}
+use Rattle.mica_replay.proofs.LineShares.{no_home, own_home, home_push, gets_push, writes_skip, gets_skip, writes_give, gets_give, sync_no_write, get_no_write, write_no_get, op_is_write}
 use Rattle.mica_replay.proofs.sharing.share.Goals as goal
 use Rattle.mica_replay.proofs.sharing.share.Goals.{in-Get+in_ok-push-in-Get, in-Put+in_ok-push-in-Put, in-Sync}
 
@@ -45,6 +45,7 @@ loop-number-preserved g c =
           let q = c.loop-number.gets % options.readers in
           let new : ReaderWork g.row.R.Denot = record old { gets = w.push.new.self } in
           let no_write = get_no_write line.op line.key line.value w.in-Get.is in
+          let home = w.home-is ∙ no_home options line no_write in
           let one = pushed ∙ ap (λ b. gets_in lines + cond b 1 0) (ap is_get_op w.in-Get.is) in
           let same = w.gets-is in
           let some = c.requires.valid.readers.0 in
@@ -54,6 +55,7 @@ loop-number-preserved g c =
           let at : slice_get left_readers q ≡ Some (t old) = seen_at t c.loop-number.readers.items q old within w.index_mut-reader.ensures.value in
           record {
             gets = omega arith;
+            homes = home_push options lines _ line c.loop-number.homes.items _ _ more inv.homes c.in_ok-push.ensures.items home;
             few = omega arith;
             owners = rw (w.owners-is, more) (writes_skip options trace lines line olds mids no_write inv.owners);
             readers = rw (w.readers-is, more, map-set t c.loop-number.readers.items q new) (gets_give options trace lines line c.args.first reader_parts left_readers number q (t old) (t new)
@@ -69,24 +71,29 @@ loop-number-preserved g c =
           let same = w.gets-is in
           let here : p ≡ partition_in options line
           = w.partition_of-partition.ensures ∙ ap (λ h. hash_partition h options.partitions) (w.key_hash.ensures ∙ ap fnv1a w.bytes.ensures) ∙ sym (partition_of_hash line.key options.partitions) in
+          let home = w.home-is ∙ here ∙ sym (own_home options line write.0 write.1) in
           let below = partition_of-below line.key options.partitions c.requires.valid.partitions.0 in
           let within : p < length c.loop-number.owners.items = omega (arith, length-map c.loop-number.owners.items f, inv.owners.many, c.requires.owners.many) in
           let at : slice_get mids p ≡ Some (f old) = seen_at f c.loop-number.owners.items p old within w.index_mut-owner.ensures.value in
           record {
             gets = omega arith;
+            homes = home_push options lines _ line c.loop-number.homes.items _ _ more inv.homes c.in_ok-push.ensures.items home;
             few = omega arith;
             owners = rw (w.owners-is, more, map-set f c.loop-number.owners.items p new) (writes_give options trace lines line olds mids number p write.0 (f old) (f new)
                 inv.owners write.1 here is_line at (record { state = refl; table = refl; worker = refl }) w.in_ok-push-in-Put.ensures.items);
             readers = rw (w.readers-is, more) (gets_skip options trace lines line c.args.first reader_parts left_readers no_get inv.readers);
           }
       | in-Sync w ↦
+          let no_write = sync_no_write line.op line.key line.value w.in-Sync.is in
+          let home = w.home-is ∙ no_home options line no_write in
           let no_get = ap is_get_op w.in-Sync.is in
           let none = pushed ∙ ap (λ b. gets_in lines + cond b 1 0) no_get in
           let same = w.gets-is in
           record {
             gets = omega arith;
+            homes = home_push options lines _ line c.loop-number.homes.items _ _ more inv.homes c.in_ok-push.ensures.items home;
             few = omega arith;
-            owners = rw (w.owners-is, more) (writes_skip options trace lines line olds mids (sync_no_write line.op line.key line.value w.in-Sync.is) inv.owners);
+            owners = rw (w.owners-is, more) (writes_skip options trace lines line olds mids no_write inv.owners);
             readers = rw (w.readers-is, more) (gets_skip options trace lines line c.args.first reader_parts left_readers no_get inv.readers);
           }
     ]

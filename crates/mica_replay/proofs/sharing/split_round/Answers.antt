@@ -20,10 +20,10 @@ share-requires-clause-readers g c =
 pub make_room-requires : goal.make_room-requires
 make_room-requires g c = record {
   few = few_writes c.args.options.now c.args.trace.now (take (c.args.to - c.args.from) (drop c.args.from c.args.trace.now)) _ _ (c.args.to - c.args.from)
-      (take_most (c.args.to - c.args.from) (drop c.args.from c.args.trace.now)) (omega (arith, c.ranges.to.fits)) c.in_ok-gets.ensures.owners;
+      (take_most (c.args.to - c.args.from) (drop c.args.from c.args.trace.now)) (omega (arith, c.ranges.to.fits)) c.in_ok-shared.ensures.owners;
 }
 
 pub returns-clause-shared : goal.returns-clause-shared
 returns-clause-shared g c =
     shared c.args.options.now c.args.trace.now c.args.first (take (c.args.to - c.args.from) (drop c.args.from c.args.trace.now)) _ _ _ _ _ _ _
-    c.clear_owners.ensures c.clear_readers.ensures c.in_ok-gets.ensures.owners c.in_ok-gets.ensures.readers c.in_ok-make_room.ensures
+    c.clear_owners.ensures c.clear_readers.ensures c.in_ok-shared.ensures.owners c.in_ok-shared.ensures.readers c.in_ok-make_room.ensures

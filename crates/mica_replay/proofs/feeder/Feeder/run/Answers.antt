@@ -1,10 +1,10 @@
-use Rattle.std.proofs.Common.{◌≡◌, ◌+◌, ◌++◌, ◌∷◌, [], List, length, slice_set, refl, sym, ap, ◌∙◌, subst, arith}
+use Rattle.std.proofs.Common.{◌≡◌, ◌+◌, ◌++◌, ◌∷◌, length, slice_set, refl, sym, ap, ◌∙◌, subst, arith}
 use Rattle.std.specs.Option.{option_to_list}
 use Rattle.std.specs.Vec.Iter.{into_iter_items}
 use Rattle.std.proofs.lemmas.List.{nil_from_length}
 use Rattle.std.proofs.lemmas.Option.{slice_get_read}
+use Rattle.list_laws.proofs.UpTo.{UpTo}
 use Rattle.owner_queue.specs.JobEnds.{Outbox}
-use Rattle.mica_replay.proofs.RoundSteps.{UpTo}
 use Rattle.mica_replay.proofs.Feeders.{HasEnded, in_range, feeds_one, zero_is, may_end, ends_one, has_fed}
 use Rattle.mica_replay.proofs.feeder.Feeder.run.Goals as goal
 

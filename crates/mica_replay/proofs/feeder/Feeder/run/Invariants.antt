@@ -1,5 +1,5 @@
 use Rattle.std.specs.Vec.Iter.{into_iter_len}
-use Rattle.mica_replay.proofs.RoundSteps.{UpTo}
+use Rattle.list_laws.proofs.UpTo.{UpTo}
 use Rattle.mica_replay.proofs.Feeders.{IsFeeding, HasEnded}
 use Rattle.mica_replay.proofs.feeder.Feeder.run.Given as goal
 
