@@ -2,6 +2,7 @@
 use Rattle.std.proofs.Common.{◌≡◌, ◌≢◌, ℕ, zero, suc, ◌+◌, ◌<◌, ◌≤◌, List, [], ◌∷◌, ◌++◌, length, take, Some, None, refl, sym, subst, arith, true, false, ltb, ltb-true, ltb-false, slice_get}
 use Rattle.std.specs.List.{AllZip}
 use Rattle.std.proofs.lemmas.Option.{slice_get_past}
+use Rattle.list_laws.proofs.Places.{element_at}
 use Rattle.mica_trace.specs.declared.line.TraceLine.{TraceLine}
 use Rattle.mica_trace.specs.declared.report.Line.{Line}
 use Rattle.mica_trace.specs.LawfulReport.{IsLineFor}
@@ -9,11 +10,6 @@ use Rattle.mica_trace.proofs.ListParts.{AllZip-append}
 use Rattle.report_check.specs.FirstUnlawful.{Misfits, IsMisfit, IsFirst}
 use Rattle.report_check.proofs.Histories.{take_one, take_past, get_take}
 use Rattle.report_check.proofs.Walks.{all_fit}
-
-pub some_at : {X : Type 0} (xs : List X) (n : ℕ) → n < length xs → (x : X) × (slice_get xs n ≡ Some x)
-some_at [] n less = absurd (omega arith)
-some_at (x ∷ xs) zero less = (x, refl)
-some_at (x ∷ xs) (suc n) less = some_at xs n (omega arith)
 
 pub fit_more : (trace : List TraceLine) (report : List Line) (n : ℕ) (line : TraceLine) (printed : Line) → slice_get trace n ≡ Some line → slice_get report n ≡ Some printed
     → IsLineFor line printed → AllZip IsLineFor (take n trace) (take n report) → AllZip IsLineFor (take (n + 1) trace) (take (n + 1) report)
@@ -48,13 +44,13 @@ first_end trace report n low low' apart past all = record {
           | true ↦ λ f. absurd (past less (ltb-true n (length report) f))
           | false ↦ λ f. ltb-false n (length report) f
         ] refl) in
-        let some = some_at trace n less in
+        let some = element_at trace n less in
         subst (λ o. Misfits o (slice_get report n)) (sym some.1) (subst (λ o. Misfits (Some some.0) o) (sym none) tt)
     | false ↦ λ f.
         let high = ltb-false n (length trace) f in
         let none = slice_get_past trace n high in
         let other : length report ≢ n = apart (omega arith) in
-        let some = some_at report n (omega arith) in
+        let some = element_at report n (omega arith) in
         subst (λ o. Misfits o (slice_get report n)) (sym none) (subst (λ o. Misfits None o) (sym some.1) tt)
   ] refl;
   before = λ m less. fit_before trace report n m all less;

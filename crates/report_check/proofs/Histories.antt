@@ -5,10 +5,10 @@ use Rattle.std.proofs.lemmas.Option.{slice_get_within, get_or_from_slice_get}
 use Rattle.std.proofs.lemmas.List.{take_more}
 use Rattle.std.proofs.Math.Seq.{take-append_seam}
 use Rattle.std.proofs.lemmas.List.Elements.{filter_map-append}
-use Rattle.mica_model.specs.declared.options.Options.{Options}
-use Rattle.mica_model.specs.History.{IsPrefix, stamp_of}
-use Rattle.mica_model.specs.Run.{RunStep, history_of}
-use Rattle.mica_model.proofs.Rises.{prefix_rises, one_cut}
+use Rattle.partition_model.specs.declared.options.Options.{Options}
+use Rattle.partition_model.specs.History.{IsPrefix, stamp_of}
+use Rattle.partition_model.specs.Run.{RunStep, history_of}
+use Rattle.partition_model.proofs.Rises.{prefix_rises, one_cut}
 use Rattle.mica_trace.specs.declared.line.TraceLine.{TraceLine}
 use Rattle.mica_trace.specs.declared.report.Line.{Line}
 use Rattle.mica_trace.specs.Rounds.{partition_in, write_by, write_in, writes_of}

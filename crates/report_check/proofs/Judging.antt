@@ -1,7 +1,7 @@
 -- Gets judged one after another by one state.
 use Rattle.std.proofs.Common.{◌≡◌, ℕ, ◌+◌, ◌<◌, ◌≤◌, ◌⊎◌, inl, inr, List, length, Option, Some, None, IfSome, refl, sym, subst, arith, ltb, ltb-true, ltb-false, true, false, slice_get}
 use Rattle.std.proofs.lemmas.Option.{IfSome_then, slice_get_within}
-use Rattle.mica_model.specs.History.{State, stamp_in}
+use Rattle.partition_model.specs.History.{State, stamp_in}
 use Rattle.mica_trace.specs.declared.line.TraceLine.{TraceLine}
 use Rattle.mica_trace.specs.declared.report.Line.{Line}
 use Rattle.report_check.specs.declared.asked.Asked.{Asked}

@@ -1,7 +1,9 @@
 -- The last stamps of the readers in a partition, line by line.
-use Rattle.std.proofs.Common.{◌≡◌, ◌≢◌, ℕ, zero, suc, ◌+◌, ◌<◌, ◌≤◌, ◌%◌, List, [], ◌∷◌, length, take, get_or, set, replicate, Some, refl, sym, ap, ◌∙◌, subst, arith, cond, true, false, eqb, eqb-true, ltb, ltb-true, ltb-false, slice_get, get_or-set_same, get_or-set_other, length-set}
+use Rattle.std.proofs.Common.{◌≡◌, ◌≢◌, ℕ, zero, suc, ◌+◌, ◌<◌, ◌≤◌, ◌%◌, List, [], ◌∷◌, length, get_or, set, replicate, Some, None, refl, sym, ap, ◌∙◌, subst, arith, true, false, eqb, eqb-true, ltb, ltb-true, ltb-false, slice_get, get_or-set_same, get_or-set_other, length-set}
 use borrow.Author.Tests.{eqb-false}
-use Rattle.mica_model.specs.declared.options.Options.{Options}
+use Rattle.std.proofs.lemmas.Bool.{true≢false}
+use Rattle.std.proofs.lemmas.Option.{slice_get_within}
+use Rattle.partition_model.specs.declared.options.Options.{Options}
 use Rattle.mica_trace.specs.declared.line.TraceOp.{TraceOp}
 use Rattle.mica_trace.specs.declared.line.TraceOp.TheVariants.{Put, Add, Del, Touch, Get, Sync}
 use Rattle.mica_trace.specs.declared.line.TraceLine.{TraceLine}
@@ -9,9 +11,12 @@ use Rattle.mica_trace.specs.declared.report.Line.{Line}
 use Rattle.mica_trace.specs.ReportGrammar.{printed_stamp}
 use Rattle.mica_trace.specs.Rounds.{is_get_op, partition_in, reader_of}
 use Rattle.mica_trace.specs.LawfulReport.{IsGetAt}
-use Rattle.mica_trace.specs.RoundReport.{is_get, gets_in}
+use Rattle.mica_trace.specs.RoundReport.{is_get}
+use Rattle.report_check.specs.declared.sharing.OwnLine.{OwnLine}
 use Rattle.report_check.specs.FirstUnlawful.{FallsBehind}
-use Rattle.report_check.proofs.Counts.{gets_more}
+use Rattle.report_check.specs.Judged.{IsFirstFall}
+use Rattle.report_check.specs.Shared.{HasNone, AreLinesOf}
+use Rattle.report_check.proofs.OwnLines.{skip_to}
 
 pub is_get_true : (op : TraceOp) → is_get_op op ≡ true → op ≡ Get
 is_get_true Get is = refl
@@ -21,6 +26,14 @@ is_get_true Del is = absurd (cc)
 is_get_true Touch is = absurd (cc)
 is_get_true Sync is = absurd (cc)
 
+-- a line that is none stands at no get
+pub no_get_here : (trace : List TraceLine) (report : List Line) (place : ℕ) (line : TraceLine) → slice_get trace place ≡ Some line → is_get line ≡ false
+    → (l : TraceLine) (printed : Line) → ¬ (IsGetAt trace report place l printed)
+no_get_here trace report place line is denied l printed get =
+    let here = get.asked in
+    let same : line ≡ l = cc in
+    absurd (true≢false (sym (ap is_get_op get.get) ∙ ap is_get (sym same) ∙ denied))
+
 pub same_default : (xs : List ℕ) (n d e : ℕ) → n < length xs → get_or xs n d ≡ get_or xs n e
 same_default [] n d e less = absurd (omega arith)
 same_default (x ∷ xs) zero d e less = refl
@@ -28,8 +41,7 @@ same_default (x ∷ xs) (suc n) d e less = same_default xs n d e (omega arith)
 
 module _ (options : Options) (p : ℕ) (trace : List TraceLine) (report : List Line) where
   -- no get before the place falls behind, and the greatest stamp of each reader there is known
-  pub record HasNoFall (place gets : ℕ) (last : List ℕ) : Type 0 where
-    pub count : gets ≡ gets_in (take place trace)
+  pub record HasNoFall (place : ℕ) (last : List ℕ) : Type 0 where
     pub many : length last ≡ options.readers
     pub bound : (m : ℕ) (line : TraceLine) (printed : Line) → m < place → IsGetAt trace report m line printed → partition_in options line ≡ p
         → printed_stamp printed ≤ get_or last (reader_of options trace m) 0
@@ -47,23 +59,18 @@ module _ (options : Options) (p : ℕ) (trace : List TraceLine) (report : List L
   many_zeros zero = refl
   many_zeros (suc n) = ap suc (many_zeros n)
 
-  pub none_yet : HasNoFall 0 0 (replicate options.readers 0)
+  pub none_yet : HasNoFall 0 (replicate options.readers 0)
   none_yet = record {
-    count = refl;
     many = many_zeros options.readers;
     bound = λ m line printed less get inside. absurd (omega arith);
     source = λ q some. let zero_there = zeros options.readers q in absurd (omega arith);
     none = λ m line printed less get inside falls. absurd (omega arith);
   }
 
-  -- the reader of the get at the place
-  pub reader_here : (place gets : ℕ) (last : List ℕ) → HasNoFall place gets last → gets % options.readers ≡ reader_of options trace place
-  reader_here place gets last so_far = ap (λ n. n % options.readers) so_far.count
-
   -- a stamp below the greatest one falls behind
-  pub falls_here : (place gets : ℕ) (last : List ℕ) (line : TraceLine) (printed : Line) → HasNoFall place gets last → IsGetAt trace report place line printed → partition_in options line ≡ p
+  pub falls_here : (place : ℕ) (last : List ℕ) (line : TraceLine) (printed : Line) → HasNoFall place last → IsGetAt trace report place line printed → partition_in options line ≡ p
       → printed_stamp printed < get_or last (reader_of options trace place) 0 → FallsBehind options trace report place line printed
-  falls_here place gets last line printed so_far get inside less =
+  falls_here place last line printed so_far get inside less =
       let found = so_far.source (reader_of options trace place) (omega arith) in
       let stamp = found.7 in
       record {
@@ -78,9 +85,9 @@ module _ (options : Options) (p : ℕ) (trace : List TraceLine) (report : List L
       }
 
   -- one place more, where no get of the partition stands
-  pub no_get : (place gets more : ℕ) (last : List ℕ) (line : TraceLine) → slice_get trace place ≡ Some line → more ≡ gets + cond (is_get line) 1 0
-      → (is_get line ≡ true → partition_in options line ≢ p) → HasNoFall place gets last → HasNoFall (place + 1) more last
-  no_get place gets more last line is counted other so_far =
+  pub no_get : (place : ℕ) (last : List ℕ) (line : TraceLine) → slice_get trace place ≡ Some line
+      → (is_get line ≡ true → partition_in options line ≢ p) → HasNoFall place last → HasNoFall (place + 1) last
+  no_get place last line is other so_far =
       let here : (m : ℕ) (l : TraceLine) (printed : Line) → m < place + 1 → IsGetAt trace report m l printed → partition_in options l ≡ p → m < place = λ m l printed less get inside.
       elim (ltb m place) as (λ t. ltb m place ≡ t → m < place) [
         | true ↦ λ e. ltb-true m place e
@@ -93,7 +100,6 @@ module _ (options : Options) (p : ℕ) (trace : List TraceLine) (report : List L
             absurd (other is_here (ap (partition_in options) same ∙ inside))
       ] refl in
       record {
-        count = counted ∙ ap (λ n. n + cond (is_get line) 1 0) so_far.count ∙ sym (gets_more trace place line is);
         many = so_far.many;
         bound = λ m l printed less get inside. so_far.bound m l printed (here m l printed less get inside) get inside;
         source = λ q some. let found = so_far.source q some in let less = found.3 in (found.0, found.1, found.2, omega arith, found.4, found.5, found.6, found.7);
@@ -101,19 +107,17 @@ module _ (options : Options) (p : ℕ) (trace : List TraceLine) (report : List L
       }
 
   -- one place more, with a get that doesn't fall
-  pub one_get : (place gets : ℕ) (last : List ℕ) (line : TraceLine) (printed : Line) → HasNoFall place gets last → IsGetAt trace report place line printed → partition_in options line ≡ p
+  pub one_get : (place : ℕ) (last : List ℕ) (line : TraceLine) (printed : Line) → HasNoFall place last → IsGetAt trace report place line printed → partition_in options line ≡ p
       → get_or last (reader_of options trace place) 0 ≤ printed_stamp printed → reader_of options trace place < options.readers
-      → HasNoFall (place + 1) (gets + 1) (set last (reader_of options trace place) (printed_stamp printed))
-  one_get place gets last line printed so_far get inside low below =
+      → HasNoFall (place + 1) (set last (reader_of options trace place) (printed_stamp printed))
+  one_get place last line printed so_far get inside low below =
       let reader = reader_of options trace place in
       let stamp = printed_stamp printed in
       let many = so_far.many in
       let within : reader < length last = omega arith in
-      let one : is_get line ≡ true = ap is_get_op get.get in
       let at_reader : get_or (set last reader stamp) reader 0 ≡ stamp = get_or-set_same last reader stamp 0 within in
       let at_other : (q : ℕ) → q ≢ reader → get_or (set last reader stamp) q 0 ≡ get_or last q 0 = λ q other. get_or-set_other last reader q stamp 0 other in
       record {
-        count = ap (λ n. n + 1) so_far.count ∙ ap (λ b. gets_in (take place trace) + cond b 1 0) (sym one) ∙ sym (gets_more trace place line get.asked);
         many = length-set last reader stamp ∙ so_far.many;
         bound = λ m l r less is in_p. elim (ltb m place) as (λ t. ltb m place ≡ t → printed_stamp r ≤ get_or (set last reader stamp) (reader_of options trace m) 0) [
           | true ↦ λ e.
@@ -164,3 +168,77 @@ module _ (options : Options) (p : ℕ) (trace : List TraceLine) (report : List L
             | true ↦ λ e. let is = eqb-true q reader e in let one = same is in let two = at is in omega arith
             | false ↦ λ f. let two = other (eqb-false q reader f) in omega arith
           ] refl
+
+-- over the lines of other partitions
+pub no_fall_over : (options : Options) (p : ℕ) (trace : List TraceLine) (report : List Line) (place end : ℕ) (last : List ℕ) → place ≤ end → end ≤ length trace → HasNone options p trace place end
+    → HasNoFall options p trace report place last → HasNoFall options p trace report end last
+no_fall_over options p trace report place end last low high none so_far =
+    skip_to options p trace (λ n. HasNoFall options p trace report n last) (λ n line is outside at. no_get options p trace report n last line is (λ _. outside) at) place end low high none so_far
+
+-- Before the lines of a partition that are left none of its gets falls behind.
+pub record NoneFell (options : Options) (p : ℕ) (trace : List TraceLine) (report : List Line) (lines : List OwnLine) (last : List ℕ) : Type 0 where
+  pub place : ℕ
+  pub left : AreLinesOf options p trace place (length trace) lines
+  pub so_far : HasNoFall options p trace report place last
+
+module _ (options : Options) (p : ℕ) (trace : List TraceLine) (report : List Line) (last : List ℕ) where
+  pub none_fell_before : (own : OwnLine) (later : List OwnLine) → NoneFell options p trace report (own ∷ later) last → HasNoFall options p trace report own.place last
+  none_fell_before own later fell =
+      let less = fell.left.2 in
+      no_fall_over options p trace report fell.place own.place last fell.left.1 (omega arith) fell.left.3 fell.so_far
+
+  pub none_fell_at_end : NoneFell options p trace report [] last → HasNoFall options p trace report (length trace) last
+  none_fell_at_end fell = no_fall_over options p trace report fell.place (length trace) last fell.left.0 (omega arith) fell.left.1 fell.so_far
+
+  pub none_fell_by_line : (own : OwnLine) (later : List OwnLine) → NoneFell options p trace report (own ∷ later) last
+      → ((line : TraceLine) → slice_get trace own.place ≡ Some line → is_get line ≡ false) → NoneFell options p trace report later last
+  none_fell_by_line own later fell other =
+      let here = fell.left.0 in
+      record {
+        place = own.place + 1;
+        left = fell.left.4;
+        so_far = no_get options p trace report own.place last here.line here.is (λ yes. absurd (true≢false (sym yes ∙ other here.line here.is))) (none_fell_before own later fell);
+      }
+
+  pub none_fell_by_get : (own : OwnLine) (later : List OwnLine) (line : TraceLine) (printed : Line) → NoneFell options p trace report (own ∷ later) last → IsGetAt trace report own.place line printed
+      → get_or last (own.gets % options.readers) 0 ≤ printed_stamp printed → 1 ≤ options.readers
+      → NoneFell options p trace report later (set last (own.gets % options.readers) (printed_stamp printed))
+  none_fell_by_get own later line printed fell get low some =
+      let here = fell.left.0 in
+      let reader : own.gets % options.readers ≡ reader_of options trace own.place = ap (λ n. n % options.readers) here.gets in
+      let at = here.is in
+      let at' = get.asked in
+      let same : here.line ≡ line = cc in
+      let below : reader_of options trace own.place < options.readers = omega arith in
+      record {
+        place = own.place + 1;
+        left = fell.left.4;
+        so_far = subst (λ q. HasNoFall options p trace report (own.place + 1) (set last q (printed_stamp printed))) (sym reader)
+            (one_get options p trace report own.place last line printed (none_fell_before own later fell) get (ap (partition_in options) (sym same) ∙ here.inside)
+            (subst (λ q. get_or last q 0 ≤ printed_stamp printed) reader low) below);
+      }
+
+  -- the get that falls
+  pub first_to_fall : (own : OwnLine) (later : List OwnLine) (line : TraceLine) (printed : Line) → NoneFell options p trace report (own ∷ later) last → IsGetAt trace report own.place line printed
+      → printed_stamp printed < get_or last (own.gets % options.readers) 0 → IsFirstFall options p trace report (Some own.place)
+  first_to_fall own later line printed fell get less =
+      let here = fell.left.0 in
+      let reader : own.gets % options.readers ≡ reader_of options trace own.place = ap (λ n. n % options.readers) here.gets in
+      let at = here.is in
+      let at' = get.asked in
+      let same : here.line ≡ line = cc in
+      let so_far = none_fell_before own later fell in (
+        (
+          line,
+          printed,
+          get,
+          falls_here options p trace report own.place last line printed so_far get (ap (partition_in options) (sym same) ∙ here.inside)
+              (subst (λ q. printed_stamp printed < get_or last q 0) reader less),
+        ),
+        so_far.none,
+      )
+
+  pub none_to_fall : NoneFell options p trace report [] last → IsFirstFall options p trace report None
+  none_to_fall fell n line printed get inside falls =
+      let less = slice_get_within trace n line get.asked in
+      (none_fell_at_end fell).none n line printed less get inside falls

@@ -3,8 +3,12 @@ pub mod Histories
 pub mod Counts
 pub mod RoundEnds
 pub mod Moments
-pub mod Machines
+pub mod Filters
+pub mod BucketSteps
+pub mod Buckets
 pub mod Fitting
+pub mod Taking
+pub mod OwnLines
 pub mod Asking
 pub mod SettledGets
 pub mod Judging

@@ -1,14 +1,23 @@
 -- The rounds of a partition, one behind another.
-use Rattle.std.proofs.Common.{◌≡◌, ℕ, ◌≤◌, List, Option, Some, None, refl, sym, arith, true, false, ltb, ltb-true, ltb-false, is_some}
-use Rattle.std.proofs.lemmas.Bool.{false≢true}
-use Rattle.std.specs.List.{AllZip}
-use Rattle.mica_model.specs.declared.options.Options.{Options}
+use Rattle.std.proofs.Common.{◌≡◌, ℕ, ◌<◌, ◌≤◌, List, [], ◌∷◌, length, take, drop, Option, Some, None, refl, sym, ap, ◌∙◌, subst, arith, get_or, length-drop, ◌+◌, ◌-◌, true, false, ltb, ltb-true, ltb-false, leb, is_some}
+use Rattle.std.specs.List.{AllZip, position_or_len}
+use Rattle.std.proofs.lemmas.List.{drop-drop, take_rest}
+use Rattle.partition_model.specs.declared.options.Options.{Options}
+use Rattle.partition_model.specs.Run.{IsRun}
 use Rattle.mica_trace.specs.declared.line.TraceLine.{TraceLine}
 use Rattle.mica_trace.specs.declared.report.Line.{Line}
-use Rattle.mica_trace.specs.LawfulReport.{IsLineFor, IsAnsweredInRound}
-use Rattle.report_check.specs.Moments.{IsRound, IsAnsweredBetween}
-use Rattle.report_check.specs.Judged.{IsFirstWithout, IsFirstMissed}
+use Rattle.mica_trace.specs.LawfulReport.{IsLineFor, IsAnsweredInRound, steps_of}
+use Rattle.mica_trace.proofs.ListParts.{length_zip}
+use Rattle.report_check.specs.declared.machine.Machine.{Machine}
+use Rattle.report_check.specs.declared.partition.Judged.TheVariants.{Run}
+use Rattle.report_check.specs.declared.sharing.OwnLine.{OwnLine}
+use Rattle.report_check.specs.Machines.{IsAfter}
+use Rattle.report_check.specs.Moments.{history_at, IsRound, IsAnsweredBetween, AreRounds}
+use Rattle.report_check.specs.Judged.{IsBeforeRound, IsFirstWithout, IsFirstMissed, IsJudged, IsJudgedRound}
+use Rattle.report_check.specs.Shared.{AreLinesOf}
+use Rattle.report_check.proofs.Histories.{take_past}
 use Rattle.report_check.proofs.Moments.{in_round, at_moment}
+use Rattle.report_check.proofs.OwnLines.{cut_within, left_one, lines_cut, read_same}
 
 -- the first of two options that has something
 abbrev pub first_some : Option ℕ → Option ℕ → Option ℕ
@@ -42,11 +51,91 @@ module _ (options : Options) (p : ℕ) (trace : List TraceLine) (report : List L
       )
   missed_more (Some j) found olds news = (olds.0, (let less = olds.1 in let le = round.low in omega arith), olds.2, olds.3)
 
-module _ (options : Options) (p : ℕ) (trace : List TraceLine) (report : List Line) (to : ℕ) where
-  pub at_none : (missed found : Option ℕ) → is_some missed ≡ false → IsFirstMissed options p trace report to (first_some missed found) → IsFirstMissed options p trace report to found
-  at_none None found is first = first
-  at_none (Some k) found is first = absurd (false≢true (sym is))
+-- The machine stands between two rounds of a partition: its writes so far are a run, and the first get that was missed is known.
+pub record StandsBetween (options : Options) (p : ℕ) (trace : List TraceLine) (report : List Line) (ends : List ℕ) (lines : List OwnLine) (machine : Machine) (missed : Option ℕ) : Type 0 where
+  pub from : ℕ
+  pub rounds : AreRounds trace from ends
+  pub left : AreLinesOf options p trace from (length trace) lines
+  pub run : IsRun options (steps_of options p (take from trace) (take from report))
+  pub after : IsAfter options (history_at options p trace report from) machine
+  pub first : IsFirstMissed options p trace report from missed
 
-  pub at_some : (missed found : Option ℕ) → is_some missed ≡ true → IsFirstMissed options p trace report to (first_some missed found) → IsFirstMissed options p trace report to missed
-  at_some None found is first = absurd (false≢true is)
-  at_some (Some k) found is first = first
+module _ (options : Options) (p : ℕ) (trace : List TraceLine) (report : List Line) (all : AllZip IsLineFor trace report) where
+  pub stands_at_start : (ends : List ℕ) (lines : List OwnLine) (machine : Machine) → AreRounds trace 0 ends → AreLinesOf options p trace 0 (length trace) lines
+      → IsAfter options [] machine → StandsBetween options p trace report ends lines machine None
+  stands_at_start ends lines machine rounds are after = record {
+    from = 0;
+    rounds = rounds;
+    left = are;
+    run = tt;
+    after = after;
+    first = λ n line printed low less get inside. absurd (omega arith);
+  }
+
+  -- the lines of the next round, and those that are left
+  pub before_round : (to : ℕ) (later : List ℕ) (lines : List OwnLine) (machine : Machine) (missed : Option ℕ) → (between : StandsBetween options p trace report (to ∷ later) lines machine missed)
+      → IsBeforeRound options p trace report between.from to (take (position_or_len (λ own. leb to own.place) lines) lines) machine
+      × AreLinesOf options p trace to (length trace) (drop (position_or_len (λ own. leb to own.place) lines) lines)
+  before_round to later lines machine missed between =
+      let round = between.rounds.0 in
+      let cut = lines_cut options p trace between.from to (length trace) lines round.low round.high between.left in
+      (record { own = cut.0; high = round.high; run = between.run; after = between.after }, cut.1)
+
+  pub stands_behind : (to : ℕ) (later : List ℕ) (lines : List OwnLine) (old machine : Machine) (missed found : Option ℕ) → (between : StandsBetween options p trace report (to ∷ later) lines old missed)
+      → IsJudgedRound options p trace report between.from to machine (Run found)
+      → StandsBetween options p trace report later (drop (position_or_len (λ own. leb to own.place) lines) lines) machine (first_some missed found)
+  stands_behind to later lines old machine missed found between judged = record {
+    from = to;
+    rounds = between.rounds.1;
+    left = (before_round to later lines old missed between).1;
+    run = judged.0;
+    after = judged.1;
+    first = missed_more options p trace report all between.from to between.rounds.0 missed found between.first judged.2;
+  }
+
+  pub judged_at_end : (lines : List OwnLine) (machine : Machine) (missed : Option ℕ) → StandsBetween options p trace report [] lines machine missed → IsJudged options p trace report (Run missed)
+  judged_at_end lines machine missed between =
+      let at = between.rounds in
+      let same = length_zip IsLineFor trace report all in (
+        subst (λ (ls : List TraceLine). IsRun options (steps_of options p ls report)) (take_past trace between.from (omega arith))
+            (subst (λ (rs : List Line). IsRun options (steps_of options p (take between.from trace) rs)) (take_past report between.from (omega arith)) between.run),
+        subst (λ m. IsFirstMissed options p trace report m missed) at between.first,
+      )
+
+-- the one that the code keeps
+pub first_is : (missed found now : Option ℕ) → (is_some missed ≡ false → now ≡ found) → (is_some missed ≡ true → now ≡ missed) → now ≡ first_some missed found
+first_is None found now none some = none refl
+first_is (Some k) found now none some = some refl
+
+-- One round, by the number of its end and by how many lines were gone through before it.
+module _ (options : Options) (p : ℕ) (trace : List TraceLine) (report : List Line) (all : AllZip IsLineFor trace report) (ends : List ℕ) (round : ℕ) (lines : List OwnLine) (first count : ℕ)
+    (less : round < length ends) (count_is : count ≡ position_or_len (λ own. leb (get_or ends round 0) own.place) (take (length lines - first) (drop first lines))) where
+  abbrev to : ℕ
+  to = get_or ends round 0
+
+  abbrev rest : List OwnLine
+  rest = take (length lines - first) (drop first lines)
+
+  pub lines_within : first ≤ length lines → first + count ≤ length lines
+  lines_within low =
+      let short = cut_within to rest in
+      let many = ap length (take_rest lines first) ∙ length-drop first lines in
+      omega arith
+
+  module _ (machine : Machine) (missed : Option ℕ) (between : StandsBetween options p trace report (drop round ends) (drop first lines) machine missed) where
+    abbrev pub here : StandsBetween options p trace report (to ∷ drop (round + 1) ends) rest machine missed
+    here = subst (λ es. StandsBetween options p trace report es rest machine missed) (left_one ends round to less (read_same ends round 0 less))
+        (subst (λ (ls : List OwnLine). StandsBetween options p trace report (drop round ends) ls machine missed) (sym (take_rest lines first)) between)
+
+    pub next_round : IsBeforeRound options p trace report here.from to (take count rest) machine
+    next_round = subst (λ k. IsBeforeRound options p trace report here.from to (take k rest) machine) (sym count_is)
+        (before_round options p trace report all to (drop (round + 1) ends) rest machine missed here).0
+
+    pub round_behind : (new : Machine) (found now : Option ℕ) → IsJudgedRound options p trace report here.from to new (Run found) → now ≡ first_some missed found
+        → StandsBetween options p trace report (drop (round + 1) ends) (drop (first + count) lines) new now
+    round_behind new found now judged is =
+        let left : drop (position_or_len (λ (own : OwnLine). leb to own.place) rest) rest ≡ drop (first + count) lines =
+        ap (λ k. drop k rest) (sym count_is) ∙ ap (drop count) (take_rest lines first) ∙ drop-drop count first lines in
+        subst (λ o. StandsBetween options p trace report (drop (round + 1) ends) (drop (first + count) lines) new o) (sym is)
+        (subst (λ (ls : List OwnLine). StandsBetween options p trace report (drop (round + 1) ends) ls new (first_some missed found)) left
+        (stands_behind options p trace report all to (drop (round + 1) ends) rest machine new missed found here judged))

@@ -1,11 +1,11 @@
 -- Where rounds begin and end.
-use Rattle.std.proofs.Common.{◌≡◌, ℕ, zero, suc, ◌+◌, ◌<◌, ◌≤◌, List, [], ◌∷◌, length, take, Some, refl, sym, ap, ◌∙◌, arith, cond, true, false, slice_get, leb, leb-true, leb-false}
+use Rattle.std.proofs.Common.{◌≡◌, ℕ, zero, suc, ◌+◌, ◌<◌, ◌≤◌, ◌⊎◌, inl, List, [], ◌∷◌, ◌++◌, length, take, Some, refl, sym, ap, ◌∙◌, subst, arith, append_assoc, append-nil, cond, true, false, slice_get, leb, leb-true, leb-false}
 use Rattle.std.proofs.lemmas.Option.{slice_get_within}
 use Rattle.mica_trace.specs.declared.line.TraceLine.{TraceLine}
 use Rattle.mica_trace.specs.TraceGrammar.{is_sync, syncs_in}
 use Rattle.mica_trace.specs.Rounds.{lines_before}
 use Rattle.mica_trace.proofs.LineLemmas.{syncs_cons, syncs_push}
-use Rattle.report_check.specs.Moments.{StartsRound, IsRound}
+use Rattle.report_check.specs.Moments.{StartsRound, IsRound, AreRounds}
 use Rattle.report_check.proofs.Histories.{take_one, take_past}
 
 no_lines : (lines : List TraceLine) → lines_before lines 0 ≡ []
@@ -102,3 +102,26 @@ round_to_end lines from begins low inside =
       ends = past_syncs lines (syncs_in (take from lines) + 1) (omega arith) ∙ sym whole;
       inside = λ n low' less. inside n low' (omega arith);
     }
+
+-- Where the rounds end up to a place: with the ends that are left they are all.
+
+pub record AreEndsTo (lines : List TraceLine) (from : ℕ) (ends : List ℕ) : Type 0 where
+  pub high : from ≤ length lines
+  pub begins : StartsRound lines from ⊎ (from ≡ length lines)
+  pub whole : (later : List ℕ) → AreRounds lines from later → AreRounds lines 0 (ends ++ later)
+
+pub ends_none : (lines : List TraceLine) → AreEndsTo lines 0 []
+ends_none lines = record { high = omega arith; begins = inl (starts lines); whole = λ later are. are }
+
+pub ends_more : (lines : List TraceLine) (from to : ℕ) (ends : List ℕ) → AreEndsTo lines from ends → IsRound lines from to → StartsRound lines to ⊎ (to ≡ length lines)
+    → AreEndsTo lines to (ends ++ to ∷ [])
+ends_more lines from to ends so_far round next = record {
+  high = round.high;
+  begins = next;
+  whole = λ later are. subst (AreRounds lines 0) (sym (append_assoc ends (to ∷ []) later)) (so_far.whole (to ∷ later) (round, are));
+}
+
+pub ends_all : (lines : List TraceLine) (from : ℕ) (ends : List ℕ) → AreEndsTo lines from ends → length lines ≤ from → AreRounds lines 0 ends
+ends_all lines from ends so_far past =
+    let high = so_far.high in
+    subst (AreRounds lines 0) (append-nil ends) (so_far.whole [] (omega arith))

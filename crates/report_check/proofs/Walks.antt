@@ -2,10 +2,10 @@
 use Rattle.std.proofs.Common.{◌≡◌, ℕ, zero, suc, ◌↔◌, inl, inr, List, [], ◌∷◌, ◌++◌, take, Some, None, refl, sym, ap, ◌∙◌, subst, arith, cond, true, false, append_assoc, append-nil, ltb, ltb-true, ltb-false, slice_get, eq-eqb}
 use Rattle.std.specs.List.{AllZip, cons_option}
 use Rattle.mica_words.proofs.Hashes.{partition_of-below}
-use Rattle.mica_model.specs.declared.options.Options.{Options}
-use Rattle.mica_model.specs.Options.{IsValid}
-use Rattle.mica_model.specs.History.{History}
-use Rattle.mica_model.specs.Run.{RunStep, IsRunFrom, history_of}
+use Rattle.partition_model.specs.declared.options.Options.{Options}
+use Rattle.partition_model.specs.Options.{IsValid}
+use Rattle.partition_model.specs.History.{History}
+use Rattle.partition_model.specs.Run.{RunStep, IsRunFrom, history_of}
 use Rattle.mica_trace.specs.declared.line.TraceLine.{TraceLine}
 use Rattle.mica_trace.specs.declared.report.Line.{Line}
 use Rattle.mica_trace.specs.Rounds.{partition_in, write_by}

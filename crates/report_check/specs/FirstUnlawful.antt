@@ -1,7 +1,7 @@
 -- The first line of a report that breaks a rule, as three walks over its lines find it.
 use Rattle.std.specs.Prelude.{◌≡◌, ℕ, ◌+◌, ◌<◌, ◌⊎◌, List, [], ◌∷◌, take, slice_get, Option, Some, None}
-use Rattle.mica_model.specs.declared.options.Options.{Options}
-use Rattle.mica_model.specs.Run.{RunStep, IsRunFrom}
+use Rattle.partition_model.specs.declared.options.Options.{Options}
+use Rattle.partition_model.specs.Run.{RunStep, IsRunFrom}
 use Rattle.mica_trace.specs.declared.line.TraceLine.{TraceLine}
 use Rattle.mica_trace.specs.declared.report.Line.{Line}
 use Rattle.mica_trace.specs.ReportGrammar.{printed_stamp}

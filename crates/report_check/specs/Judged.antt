@@ -1,9 +1,9 @@
 -- What is found of one partition.
 use Rattle.std.specs.Prelude.{◌≡◌, ℕ, ◌<◌, ◌≤◌, ◌⊎◌, List, [], ◌++◌, length, take, slice_get, Option, Some, None, IfSome}
 use Rattle.std.specs.List.{cons_option}
-use Rattle.mica_model.specs.declared.options.Options.{Options}
-use Rattle.mica_model.specs.History.{History}
-use Rattle.mica_model.specs.Run.{RunStep, IsRun, IsRunFrom, history_of}
+use Rattle.partition_model.specs.declared.options.Options.{Options}
+use Rattle.partition_model.specs.History.{History}
+use Rattle.partition_model.specs.Run.{RunStep, IsRun, IsRunFrom, history_of}
 use Rattle.mica_trace.specs.declared.line.TraceLine.{TraceLine}
 use Rattle.mica_trace.specs.declared.report.Line.{Line}
 use Rattle.mica_trace.specs.Rounds.{partition_in, write_by}
@@ -12,11 +12,13 @@ use Rattle.report_check.specs.declared.asked.Asked.{Asked}
 use Rattle.report_check.specs.declared.machine.Machine.{Machine}
 use Rattle.report_check.specs.declared.settling.Settling.{Settling}
 use Rattle.report_check.specs.declared.partition.Judged.{Judged}
+use Rattle.report_check.specs.declared.sharing.OwnLine.{OwnLine}
 use Rattle.report_check.specs.declared.partition.Judged.TheVariants.{Wrong, Run}
 use Rattle.report_check.specs.FirstUnlawful.{IsWrongWrite, FallsBehind}
 use Rattle.report_check.specs.Machines.{IsAfter}
 use Rattle.report_check.specs.Moments.{history_at, IsAnsweredBetween}
 use Rattle.report_check.specs.Settling.{IsMissedBy}
+use Rattle.report_check.specs.Shared.{AreLinesOf}
 
 -- the step that is printed for a line, if it is a write's
 abbrev pub step_at : TraceLine → Line → List RunStep
@@ -47,6 +49,13 @@ IsFirstWithout P options p trace report from to (Some found) =
     (from ≤ found) × (found < to)
     × ((line : TraceLine) × (printed : Line) × IsGetAt trace report found line printed × (partition_in options line ≡ p) × (¬ (P found line printed)))
     × ((n : ℕ) (line : TraceLine) (printed : Line) → from ≤ n → n < found → IsGetAt trace report n line printed → partition_in options line ≡ p → P n line printed)
+
+-- The machine stands before a round of the partition, whose lines there these are.
+pub record IsBeforeRound (options : Options) (p : ℕ) (trace : List TraceLine) (report : List Line) (from to : ℕ) (lines : List OwnLine) (machine : Machine) : Type 0 where
+  pub own : AreLinesOf options p trace from to lines
+  pub high : to ≤ length trace
+  pub run : IsRun options (steps_of options p (take from trace) (take from report))
+  pub after : IsAfter options (history_at options p trace report from) machine
 
 -- what was found in one round of it, behind which the machine stands
 abbrev pub IsJudgedRound : Options → ℕ → List TraceLine → List Line → ℕ → ℕ → Machine → Judged → Type 0

@@ -1,7 +1,7 @@
 -- Moments of a partition's history: each lies before a line of the trace, or at its end.
-use Rattle.std.specs.Prelude.{◌≡◌, ℕ, ◌+◌, ◌<◌, ◌≤◌, List, length, take}
-use Rattle.mica_model.specs.declared.options.Options.{Options}
-use Rattle.mica_model.specs.History.{History}
+use Rattle.std.specs.Prelude.{◌≡◌, ℕ, ◌+◌, ◌<◌, ◌≤◌, List, [], ◌∷◌, length, take}
+use Rattle.partition_model.specs.declared.options.Options.{Options}
+use Rattle.partition_model.specs.History.{History}
 use Rattle.mica_trace.specs.declared.line.TraceLine.{TraceLine}
 use Rattle.mica_trace.specs.declared.report.Line.{Line}
 use Rattle.mica_trace.specs.TraceGrammar.{syncs_in}
@@ -24,6 +24,11 @@ pub record IsRound (trace : List TraceLine) (from to : ℕ) : Type 0 where
   pub high : to ≤ length trace
   pub ends : lines_before trace (syncs_in (take from trace) + 1) ≡ take to trace
   pub inside : (n : ℕ) → from ≤ n → n < to → round_of trace n ≡ syncs_in (take from trace)
+
+-- where the rounds end from a place on
+abbrev pub AreRounds : List TraceLine → ℕ → List ℕ → Type 0
+AreRounds trace from [] = from ≡ length trace
+AreRounds trace from (to ∷ later) = IsRound trace from to × AreRounds trace to later
 
 -- the get at the place, in the partition
 pub record IsGetIn (options : Options) (p : ℕ) (trace : List TraceLine) (report : List Line) (place : ℕ) : Type 0 where

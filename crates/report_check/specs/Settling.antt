@@ -1,7 +1,7 @@
 -- The gets of a round, in the order of their stamps, and how far the machine has settled them.
 use Rattle.std.specs.Prelude.{◌≡◌, ℕ, ◌<◌, ◌≤◌, ◌⊎◌, List, length, slice_get, Option, Some, IfSome, IsSomeAnd}
-use Rattle.mica_model.specs.declared.options.Options.{Options}
-use Rattle.mica_model.specs.History.{State, stamp_in, stamp_of}
+use Rattle.partition_model.specs.declared.options.Options.{Options}
+use Rattle.partition_model.specs.History.{State, stamp_in, stamp_of}
 use Rattle.mica_trace.specs.declared.line.TraceLine.{TraceLine}
 use Rattle.mica_trace.specs.declared.report.Line.{Line}
 use Rattle.mica_trace.specs.ReportGrammar.{printed_stamp}
@@ -9,6 +9,7 @@ use Rattle.mica_trace.specs.Rounds.{partition_in}
 use Rattle.mica_trace.specs.LawfulReport.{IsGetAt}
 use Rattle.report_check.specs.declared.asked.Asked.{Asked}
 use Rattle.report_check.specs.declared.settling.Settling.{Settling}
+use Rattle.report_check.specs.declared.sharing.OwnLine.{OwnLine}
 use Rattle.report_check.specs.Machines.{AnswersIn}
 use Rattle.report_check.specs.Moments.{history_at, IsAnsweredBetween}
 
@@ -21,6 +22,13 @@ pub record IsAsked (options : Options) (p : ℕ) (trace : List TraceLine) (repor
   pub low : from ≤ asked.place
   pub high : asked.place < to
   pub stamp : asked.stamp ≡ printed_stamp printed
+
+-- the gets among these lines, in some order
+pub record AreGetsAmong (trace : List TraceLine) (report : List Line) (lines : List OwnLine) (asked : List Asked) : Type 0 where
+  pub each : (j : ℕ) (a : Asked) → slice_get asked j ≡ Some a → (i : ℕ) × (own : OwnLine) × (slice_get lines i ≡ Some own) × (a.place ≡ own.place)
+      × (line : TraceLine) × (printed : Line) × IsGetAt trace report a.place line printed × (a.stamp ≡ printed_stamp printed)
+  pub all : (i : ℕ) (own : OwnLine) (line : TraceLine) (printed : Line) → slice_get lines i ≡ Some own → IsGetAt trace report own.place line printed
+      → (j : ℕ) × (slice_get asked j ≡ Some (record { stamp = printed_stamp printed; place = own.place }))
 
 -- all of them
 pub record AreAsked (options : Options) (p : ℕ) (trace : List TraceLine) (report : List Line) (from to : ℕ) (asked : List Asked) : Type 0 where

@@ -1,17 +1,16 @@
 //! The gets of a round, in the order of their stamps.
 ghost use Rattle.std.specs.Prelude.{◌≡◌, ◌≤◌, ◌<◌, length, IfOk};
-ghost use Rattle.std.specs.List.{AllZip};
-ghost use Rattle.mica_model.specs.Options.{IsValid};
+ghost use Rattle.std.specs.List.{AllByRecursion};
 ghost use Rattle.mica_trace.specs.ReportGrammar.{printed_stamp};
-ghost use Rattle.mica_trace.specs.LawfulReport.{IsLineFor};
 ghost use Rattle.mica_trace.specs.RoundReport.{is_get};
 ghost use Rattle.mica_trace.specs.Rounds.{partition_in};
-ghost use Rattle.report_check.specs.Settling.{AreAsked, AreRising};
+ghost use Rattle.report_check.specs.Settling.{AreGetsAmong, AreRising};
 
+use crate::sharing::OwnLine;
 use mica_io::NoMemory;
-use mica_model::Options;
 use mica_trace::{Line, TraceLine, TraceOp};
 use mica_words::{key_hash, partition_of};
+use partition_model::Options;
 use std::alloc::Global;
 
 /// A get: the stamp that is printed for it, and its place.
@@ -44,26 +43,22 @@ pub fn printed_stamp(line: &Line) -> u64
     }
 }
 
-/// The gets of the partition between two places, in the order of their stamps.
-pub fn gets_between(
+/// The gets among the lines of a partition, in the order of their stamps.
+pub fn gets_among(
     alloc: Global,
-    options: &Options,
-    p: u32,
     trace: &[TraceLine],
     report: &[Line],
-    from: usize,
-    to: usize,
+    lines: &[OwnLine],
 ) -> Result<Vec<Asked>, NoMemory>
-    requires valid { IsValid options.now }
-    requires within { (from ≤ to) × (to ≤ length trace.now) }
+    requires within { AllByRecursion (λ own. own.place < length trace.now) lines.now }
     requires same { length report.now ≡ length trace.now }
-    ensures all { IfOk result (λ asked. AreAsked options.now p trace.now report.now from to asked.items) }
+    ensures all { IfOk result (λ asked. AreGetsAmong trace.now report.now lines.now asked.items) }
     ensures rising { IfOk result (λ asked. AreRising asked.items) }
 {
     let mut asked = Vec::new(alloc);
-    for place in from..to {
-        let line = &trace[place];
-        if is_get(line) && partition_in(options, line) == p {
+    for at in 0..lines.len() {
+        let place = lines[at].place;
+        if is_get(&trace[place]) {
             asked.push(Asked {
                 stamp: printed_stamp(&report[place]),
                 place,

@@ -1,7 +1,7 @@
 //! The verdict on a report.
 ghost use Rattle.std.specs.Prelude.{◌≡◌, ◌↔◌, ◌<◌, ◌≤◌, ◌+◌, ◌^◌, ℕ, length, IfOk};
 ghost use Rattle.std.specs.List.{AllZip, AllByRecursion};
-ghost use Rattle.mica_model.specs.Options.{IsValid};
+ghost use Rattle.partition_model.specs.Options.{IsValid};
 ghost use Rattle.mica_trace.specs.TraceGrammar.{IsTraceLine};
 ghost use Rattle.mica_trace.specs.LawfulReport.{IsLineFor, LawfulReport};
 ghost use Rattle.report_check.specs.FirstUnlawful.{IsVerdict, IsUnlawfulAt};
@@ -10,10 +10,12 @@ ghost use Rattle.report_check.specs.Found.{AreFound, with_judged, with_fall};
 use crate::falls::first_fall;
 use crate::fits::first_misfit;
 use crate::partition::{Judged, judge_partition};
+use crate::rounds::round_ends;
 use crate::settling::earlier;
+use crate::sharing::share_out;
 use mica_io::NoMemory;
-use mica_model::Options;
 use mica_trace::{Line, MAX_LINES, Report, Trace, TraceLine};
+use partition_model::Options;
 use std::alloc::Global;
 
 /// What is found of a report. Lines count from 1.
@@ -78,9 +80,12 @@ fn judge_all(
         write: None,
         get: None,
     };
+    let ends = round_ends(alloc, trace)?;
+    let shared = share_out(alloc, options, trace)?;
     for p in 0..options.partitions {
-        let judged = judge_partition(alloc, options, p, trace, report)?;
-        let fall = first_fall(alloc, options, p, trace, report)?;
+        let lines = shared[p as usize].as_slice();
+        let judged = judge_partition(alloc, options, trace, report, ends.as_slice(), lines)?;
+        let fall = first_fall(alloc, options, trace, report, lines)?;
         found = with_fall(with_judged(found, judged), fall);
     }
     Ok(found)

@@ -5,8 +5,8 @@ ghost use Rattle.mica_trace.specs.Rounds.{op_of};
 ghost use Rattle.mica_trace.specs.LawfulReport.{IsKindOf, IsLineFor, IsReplyTo};
 ghost use Rattle.report_check.specs.FirstUnlawful.{IsFirst, IsMisfit};
 
-use mica_model::Op;
 use mica_trace::{Line, TraceLine, TraceOp};
+use partition_model::Op;
 
 fn is_reply_to(asked: TraceOp, replied: Op) -> bool
     ensures { IsTrue result ↔ IsReplyTo (op_of asked) replied }

@@ -1,7 +1,7 @@
 //! What the definition of a verdict says of itself.
 ghost use Rattle.std.specs.Prelude.{◌≡◌, List};
-ghost use Rattle.mica_model.specs.declared.options.Options.{Options};
-ghost use Rattle.mica_model.specs.Options.{IsValid};
+ghost use Rattle.partition_model.specs.declared.options.Options.{Options};
+ghost use Rattle.partition_model.specs.Options.{IsValid};
 ghost use Rattle.mica_trace.specs.declared.line.TraceLine.{TraceLine};
 ghost use Rattle.mica_trace.specs.declared.report.Line.{Line};
 ghost use Rattle.report_check.specs.declared.check.Verdict.{Verdict};

@@ -1,21 +1,21 @@
 //! The machine of a partition, in either mode.
-ghost use Rattle.std.specs.Prelude.{◌≡◌, ◌↔◌, ◌∷◌, ◌++◌, [], true, IsTrue, IfOk, OnOk};
+ghost use Rattle.std.specs.Prelude.{◌≡◌, ◌↔◌, [], IsTrue, IfOk, MatchBool};
 ghost use Rattle.mica_words.specs.Item.{KeyFits};
-ghost use Rattle.mica_model.specs.declared.write.Outcome.{Outcome};
-ghost use Rattle.mica_model.specs.Answer.{IsAnswer};
-ghost use Rattle.mica_model.specs.History.{Allows, after, stamp_in, value_in};
-ghost use Rattle.mica_model.specs.Options.{IsValid};
-ghost use Rattle.mica_model.specs.Write.{HasValueOf, is_accepted, write_of};
-ghost use Rattle.report_check.specs.Machines.{options_in, state_in, AnswersIn, IsAfter, IsOfMode};
+ghost use Rattle.partition_model.specs.Answer.{IsAnswer};
+ghost use Rattle.partition_model.specs.History.{Allows, IsStep, State, stamp_in, value_in};
+ghost use Rattle.partition_model.specs.Options.{IsValid};
+ghost use Rattle.partition_model.specs.Write.{HasValueOf, write_of};
+ghost use Rattle.report_check.specs.Machines.{options_in, AnswersIn, IsAfter, IsAt, Takes};
 
+use crate::cache_buckets::CacheBuckets;
 use mica_io::NoMemory;
-use mica_model::{Answer, CacheMachine, ItemBuf, Mode, Op, Options, Outcome, StoreMachine};
+use mica_model::{Answer, ItemBuf, Mode, Op, Options, Outcome, StoreMachine};
 use mica_trace::Line;
 use std::alloc::Global;
 
 #[derive(Drop)]
 pub enum Machine {
-    Cache(CacheMachine),
+    Cache(CacheBuckets),
     Store(StoreMachine),
 }
 
@@ -26,13 +26,13 @@ impl Machine {
         ensures { IfOk result (IsAfter options.now []) }
     {
         match options.mode {
-            Mode::Cache => Ok(Machine::Cache(CacheMachine::new(alloc, options)?)),
+            Mode::Cache => Ok(Machine::Cache(CacheBuckets::new(alloc, options)?)),
             Mode::Store => Ok(Machine::Store(StoreMachine::new(alloc, options)?)),
         }
     }
 
     pub fn stamp(&self) -> u64
-        ensures { result ≡ stamp_in (state_in self.now) }
+        ensures { (state : State) → IsAt state self.now → result ≡ stamp_in state }
     {
         match self {
             Machine::Cache(machine) => machine.stamp(),
@@ -40,41 +40,35 @@ impl Machine {
         }
     }
 
-    /// Whether the machine may reply this to a write.
-    pub fn allows(&self, op: Op, key: &[u8], value: &[u8], outcome: Outcome) -> bool
+    /// Takes a write, if the machine may give it this outcome, and says whether it may. A write that is refused changes nothing.
+    pub fn take(
+        &mut self,
+        alloc: Global,
+        op: Op,
+        key: &[u8],
+        value: &[u8],
+        outcome: Outcome,
+    ) -> Result<bool, NoMemory>
         requires key { KeyFits key.now }
         requires value { HasValueOf op value.now }
-        ensures { IsTrue result
-            ↔ Allows (options_in self.now) (state_in self.now) (write_of op key.now value.now) outcome }
+        requires at { (state : State) × IsAt state self.old }
+        ensures { IfOk result (λ may. (state : State) → IsAt state self.old
+            → MatchBool may (Takes state (write_of op key.now value.now) outcome self.old self.new)
+            (¬ (Allows (options_in self.old) state (write_of op key.now value.now) outcome))) }
     {
         match self {
-            Machine::Cache(machine) => machine.allows(op, key, value, outcome),
-            Machine::Store(machine) => machine.allows(op, key, value, outcome),
+            Machine::Cache(machine) => {
+                let may = machine.take(alloc, op, key, value, outcome)?;
+                Ok(may)
+            }
+            Machine::Store(machine) => take_in_store(machine, alloc, op, key, value, outcome),
         }
-    }
-
-    /// Takes a write that may be accepted.
-    pub fn write(&mut self, alloc: Global, op: Op, key: &[u8], value: &[u8]) -> Result<(), NoMemory>
-        requires key { KeyFits key.now }
-        requires value { HasValueOf op value.now }
-        requires mode { IsOfMode self.old }
-        requires accepted { (outcome : Outcome) × (is_accepted outcome ≡ true)
-            × Allows (options_in self.old) (state_in self.old) (write_of op key.now value.now) outcome }
-        ensures state { OnOk result (state_in self.new
-            ≡ after (options_in self.old) (state_in self.old) (write_of op key.now value.now)) }
-        ensures options { options_in self.new ≡ options_in self.old }
-        ensures mode { IsOfMode self.new }
-    {
-        match self {
-            Machine::Cache(machine) => machine.apply(alloc, op, key, value)?,
-            Machine::Store(machine) => machine.apply(alloc, op, key, value)?,
-        };
-        Ok(())
     }
 
     /// Whether the line is what the machine answers to a get now. The buffer is for the value.
     pub fn answers(&self, key: &[u8], printed: &Line, out: &mut ItemBuf) -> bool
-        ensures { IsTrue result ↔ AnswersIn (state_in self.now) key.now printed.now }
+        requires { (state : State) × IsAt state self.now }
+        ensures { (state : State) → IsAt state self.now → IsTrue result ↔ AnswersIn state key.now printed.now }
     {
         match printed {
             Line::Hit { stamp, value } => {
@@ -90,11 +84,36 @@ impl Machine {
     }
 
     fn answer(&self, key: &[u8], out: &mut ItemBuf) -> Answer
-        ensures { IsAnswer result out.new (value_in (state_in self.now) key.now) }
+        requires { (state : State) × IsAt state self.now }
+        ensures { (state : State) → IsAt state self.now → IsAnswer result out.new (value_in state key.now) }
     {
         match self {
             Machine::Cache(machine) => machine.answer(key, out),
             Machine::Store(machine) => machine.answer(key, out),
         }
     }
+}
+
+// Takes a write, if the machine may give it this outcome, and says whether it may.
+fn take_in_store(
+    machine: &mut StoreMachine,
+    alloc: Global,
+    op: Op,
+    key: &[u8],
+    value: &[u8],
+    outcome: Outcome,
+) -> Result<bool, NoMemory>
+    requires key { KeyFits key.now }
+    requires value { HasValueOf op value.now }
+    ensures step { IfOk result (λ may. MatchBool may (IsStep machine.old.options machine.old.state (write_of op key.now value.now) outcome machine.new.state)
+        (¬ (Allows machine.old.options machine.old.state (write_of op key.now value.now) outcome))) }
+    ensures options { machine.new.options ≡ machine.old.options }
+{
+    if !machine.allows(op, key, value, outcome) {
+        return Ok(false);
+    }
+    if outcome.is_accepted() {
+        machine.apply(alloc, op, key, value)?;
+    }
+    Ok(true)
 }

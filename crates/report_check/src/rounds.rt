@@ -1,11 +1,13 @@
 //! Where rounds end.
-ghost use Rattle.std.specs.Prelude.{◌≡◌, ◌⊎◌, ◌<◌, ◌≤◌, length};
-ghost use Rattle.report_check.specs.Moments.{IsRound, StartsRound};
+ghost use Rattle.std.specs.Prelude.{◌≡◌, ◌⊎◌, ◌<◌, ◌≤◌, length, IfOk};
+ghost use Rattle.report_check.specs.Moments.{AreRounds, IsRound, StartsRound};
 
+use mica_io::NoMemory;
 use mica_trace::TraceLine;
+use std::alloc::Global;
 
-/// The end of the round that begins at the place: behind its sync, or the end of the trace.
-pub fn round_end(trace: &[TraceLine], from: usize) -> usize
+// The end of the round that begins at the place: behind its sync, or the end of the trace.
+fn round_end(trace: &[TraceLine], from: usize) -> usize
     requires within { from < length trace.now }
     requires starts { StartsRound trace.now from }
     ensures round { IsRound trace.now from result }
@@ -18,4 +20,18 @@ pub fn round_end(trace: &[TraceLine], from: usize) -> usize
         }
     }
     trace.len()
+}
+
+/// Where each round ends.
+pub fn round_ends(alloc: Global, trace: &[TraceLine]) -> Result<Vec<usize>, NoMemory>
+    ensures { IfOk result (λ ends. AreRounds trace.now 0 ends.items) }
+{
+    let mut ends = Vec::new(alloc);
+    let mut from = 0;
+    while from < trace.len() {
+        let to = round_end(trace, from);
+        ends.push(to)?;
+        from = to;
+    }
+    Ok(ends)
 }

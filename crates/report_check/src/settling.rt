@@ -4,14 +4,14 @@ ghost use Rattle.mica_trace.specs.declared.line.TraceLine.{TraceLine};
 ghost use Rattle.mica_trace.specs.declared.report.Line.{Line};
 ghost use Rattle.mica_trace.specs.LawfulReport.{IsGetAt};
 ghost use Rattle.report_check.specs.Earlier.{earlier};
-ghost use Rattle.mica_model.specs.History.{stamp_in};
-ghost use Rattle.report_check.specs.Machines.{state_in};
+ghost use Rattle.partition_model.specs.History.{State, stamp_in};
+ghost use Rattle.report_check.specs.Machines.{IsAt};
 ghost use Rattle.report_check.specs.Settling.{AnswersNow, AreGets, AreRising, HasJudged, IsAhead};
 
 use crate::asked::Asked;
 use crate::machine::Machine;
-use mica_model::ItemBuf;
 use mica_trace::{Line, TraceLine};
+use partition_model::ItemBuf;
 
 /// How many gets are settled, and the place of the first that was missed.
 #[derive(Clone, Copy, Debug)]
@@ -38,8 +38,9 @@ fn answers_at(
     place: usize,
     out: &mut ItemBuf,
 ) -> bool
-    requires { (line : TraceLine) × (printed : Line) × IsGetAt trace.now report.now place line printed }
-    ensures { IsTrue result ↔ AnswersNow (state_in machine.now) trace.now report.now place }
+    requires get { (line : TraceLine) × (printed : Line) × IsGetAt trace.now report.now place line printed }
+    requires at { (state : State) × IsAt state machine.now }
+    ensures { (state : State) → IsAt state machine.now → IsTrue result ↔ AnswersNow state trace.now report.now place }
 {
     let line = &trace[place];
     machine.answers(line.key.bytes(), &report[place], out)
@@ -57,8 +58,9 @@ pub fn judge(
     requires high { settling.next ≤ length asked.now }
     requires gets { AreGets trace.now report.now asked.now }
     requires rising { AreRising asked.now }
-    ensures judged { HasJudged (state_in machine.now) trace.now report.now asked.now settling result }
-    ensures ahead { IsAhead (stamp_in (state_in machine.now)) asked.now result.next }
+    requires at { (state : State) × IsAt state machine.now }
+    ensures judged { (state : State) → IsAt state machine.now → HasJudged state trace.now report.now asked.now settling result }
+    ensures ahead { (state : State) → IsAt state machine.now → IsAhead (stamp_in state) asked.now result.next }
 {
     let stamp = machine.stamp();
     let mut next = settling.next;

@@ -1,96 +1,118 @@
-use Rattle.std.proofs.Common.{◌≡◌, ◌+◌, ◌<◌, ◌≤◌, ◌%◌, length, get_or, slice_get, Some, cond, true, false, refl, sym, ap, ◌∙◌, arith}
-use Rattle.std.proofs.lemmas.Bool.{false≢true}
-use Rattle.std.proofs.lemmas.Option.{slice_get_read, slice_get_within}
+use Rattle.std.proofs.Common.{◌≡◌, ◌+◌, ◌<◌, ◌≤◌, ◌%◌, List, [], ◌∷◌, ℕ, drop, length, length-set, get_or, slice_get, replicate, Some, refl, sym, ap, ◌∙◌, subst, arith}
+use Rattle.std.specs.List.{AllByRecursion}
+use Rattle.std.proofs.lemmas.List.{length-replicate}
+use Rattle.std.proofs.lemmas.Option.{slice_get_read, slice_get-get_or}
+use Rattle.mica_trace.specs.declared.line.TraceLine.{TraceLine}
+use Rattle.mica_trace.specs.declared.report.Line.{Line}
 use Rattle.mica_trace.specs.ReportGrammar.{printed_stamp}
-use Rattle.mica_trace.specs.Rounds.{reader_of}
 use Rattle.mica_trace.specs.LawfulReport.{IsGetAt}
 use Rattle.mica_trace.specs.RoundReport.{is_get}
-use Rattle.report_check.proofs.LastStamps.{is_get_true, same_default, reader_here, falls_here, no_get, one_get}
+use Rattle.report_check.specs.declared.sharing.OwnLine.{OwnLine}
+use Rattle.report_check.specs.Shared.{AreLinesOf}
+use Rattle.report_check.proofs.LastStamps.{HasNoFall, NoneFell, is_get_true, same_default, none_yet, none_fell_by_line, none_fell_by_get, first_to_fall, none_to_fall}
+use Rattle.report_check.proofs.OwnLines.{all_seen, all_within, left_one, left_none, read_same}
 use Rattle.report_check.proofs.falls.first_fall.Goals as goal
-use Rattle.report_check.proofs.falls.first_fall.Goals.{then-partition_in-p+else-stamp-index, else-partition_in-p}
+use Rattle.report_check.proofs.falls.first_fall.Goals.{then-is_get+else-stamp-index, else-is_get}
 
-pub loop-place-preserved-then-not-is_get : goal.loop-place-preserved-then-not-is_get
-loop-place-preserved-then-not-is_get c =
+abbrev none : OwnLine
+none = record { place = 0; gets = 0 }
+
+-- the line that is looked at, and the stamp of its reader
+here : (trace : List TraceLine) (lines : List OwnLine) (at : ℕ) (line : TraceLine) → at < length lines → AllByRecursion (λ (own : OwnLine). own.place < length trace) lines
+    → line ≡ get_or trace (get_or lines at none).place line → slice_get trace (get_or lines at none).place ≡ Some line
+here trace lines at line less within is =
+    slice_get_read trace (length trace) (get_or lines at none).place line refl
+    (all_seen (λ (own : OwnLine). own.place < length trace) lines at (get_or lines at none) within (slice_get-get_or lines at none less)) is
+
+answered : (trace : List TraceLine) (report : List Line) (lines : List OwnLine) (at : ℕ) (printed : Line) → at < length lines → AllByRecursion (λ (own : OwnLine). own.place < length trace) lines
+    → length report ≡ length trace → printed ≡ get_or report (get_or lines at none).place printed → slice_get report (get_or lines at none).place ≡ Some printed
+answered trace report lines at printed less within same is =
+    let inside = all_seen (λ (own : OwnLine). own.place < length trace) lines at (get_or lines at none) within (slice_get-get_or lines at none less) in
+    slice_get_read report (length report) (get_or lines at none).place printed refl (omega arith) is
+
+left : (lines : List OwnLine) (at : ℕ) → at < length lines → drop at lines ≡ get_or lines at none ∷ drop (at + 1) lines
+left lines at less = left_one lines at (get_or lines at none) less (read_same lines at none less)
+
+stamp_of : (last : List ℕ) (reader readers found : ℕ) → length last ≡ readers → 1 ≤ readers → found ≡ get_or last (reader % readers) found → found ≡ get_or last (reader % readers) 0
+stamp_of last reader readers found many some is = is ∙ same_default last (reader % readers) found 0 (omega arith)
+
+pub loop-at-init : goal.loop-at-init
+loop-at-init c =
     let options = c.args.options.now in
-    let trace = c.args.trace.now in
-    let place = c.loop-place.place in
-    let gets = c.loop-place.gets in
-    let line = c.index-trace-place.result in
-    let is_line : slice_get trace place ≡ Some line = slice_get_read trace (length trace) place line refl c.loop-place-test.true c.index-trace-place.is in
-    let other : is_get line ≡ false = sym c.is_get.ensures ∙ c.if-not-is_get.true in
-    let same : gets ≡ gets + cond false 1 0 = omega arith in
-    let few = c.loop-place.invariant.few in
+    let zeros : c.in_ok-last.last.items ≡ replicate options.readers 0 = c.in_ok-last.ensures.items_if_clones_equal (λ y e. e) in
     record {
-      few = omega arith;
-      so_far = no_get options c.args.p trace c.args.report.now place gets gets c.loop-place.last.items line is_line (same ∙ ap (λ b. gets + cond b 1 0) (sym other))
-          (λ here. absurd (false≢true (sym other ∙ here))) c.loop-place.invariant.so_far;
+      many = ap length zeros ∙ length-replicate options.readers 0;
+      fell = λ p are. record {
+        place = 0;
+        left = are;
+        so_far = subst (HasNoFall options p c.args.trace.now c.args.report.now 0) (sym zeros) (none_yet options p c.args.trace.now c.args.report.now);
+      };
     }
 
 pub returns-then-stamp-index : goal.returns-then-stamp-index
-returns-then-stamp-index c =
+returns-then-stamp-index c = λ p are.
     let options = c.args.options.now in
-    let p = c.args.p in
     let trace = c.args.trace.now in
     let report = c.args.report.now in
-    let place = c.loop-place.place in
-    let gets = c.loop-place.gets in
-    let last = c.loop-place.last.items in
-    let line = c.index-trace-place.result in
-    let printed = c.index-report-place.result in
-    let so_far = c.loop-place.invariant.so_far in
-    let is_line : slice_get trace place ≡ Some line = slice_get_read trace (length trace) place line refl c.loop-place-test.true c.index-trace-place.is in
-    let less' : place < length report = omega (arith, c.requires.same, c.loop-place-test.true) in
-    let is_printed : slice_get report place ≡ Some printed = slice_get_read report (length report) place printed refl less' c.index-report-place.is in
-    let get : IsGetAt trace report place line printed = record { asked = is_line; answered = is_printed; get = is_get_true line.op (sym c.is_get.ensures ∙ c.if-not-is_get.false) } in
-    let reader = reader_here options p trace report place gets last so_far in
-    let some = c.requires.valid.readers.0 in
-    let many = so_far.many in
-    let within : gets % options.readers < length last = omega arith in
-    let value = c.index.ensures ∙ same_default last (gets % options.readers) _ 0 within ∙ ap (λ q. get_or last q 0) reader in
-    let stamp = c.printed_stamp-stamp.ensures in
-    let less : printed_stamp printed < get_or last (reader_of options trace place) 0 = omega (arith, c.if-stamp-index.true) in (
-      (line, printed, get, falls_here options p trace report place gets last line printed so_far get (sym c.partition_in.ensures ∙ c.if-partition_in-p.true) less),
-      so_far.none,
-    )
+    let lines = c.args.lines.now in
+    let at = c.loop-at.at in
+    let last = c.loop-at.last.items in
+    let less = c.loop-at-test.true in
+    let own = get_or lines at none in
+    let within = all_within options c.requires.own.0 trace 0 (length trace) lines c.requires.own.1 in
+    let line = c.index-trace-own.result in
+    let printed = c.index-report-own.result in
+    let get : IsGetAt trace report own.place line printed = record {
+      asked = here trace lines at line less within c.index-trace-own.is;
+      answered = answered trace report lines at printed less within c.requires.same c.index-report-own.is;
+      get = is_get_true line.op (sym c.is_get.ensures ∙ c.if-is_get.true);
+    } in
+    let found = stamp_of last own.gets options.readers c.index.result.now c.loop-at.invariant.many c.requires.valid.readers.0 c.index.ensures in
+    first_to_fall options p trace report last own (drop (at + 1) lines) line printed
+    (subst (λ (ls : List OwnLine). NoneFell options p trace report ls last) (left lines at less) (c.loop-at.invariant.fell p are)) get
+    (omega (arith, c.if-stamp-index.true, c.printed_stamp-stamp.ensures))
 
-pub loop-place-preserved : goal.loop-place-preserved
-loop-place-preserved c =
+pub loop-at-preserved : goal.loop-at-preserved
+loop-at-preserved c =
     let options = c.args.options.now in
-    let p = c.args.p in
     let trace = c.args.trace.now in
     let report = c.args.report.now in
-    let place = c.loop-place.place in
-    let gets = c.loop-place.gets in
-    let last = c.loop-place.last.items in
-    let line = c.index-trace-place.result in
-    let so_far = c.loop-place.invariant.so_far in
-    let is_line : slice_get trace place ≡ Some line = slice_get_read trace (length trace) place line refl c.loop-place-test.true c.index-trace-place.is in
-    let here : is_get line ≡ true = sym c.is_get.ensures ∙ c.if-not-is_get.false in
-    let few = c.loop-place.invariant.few in
-    record {
-      few = omega arith;
-      so_far = elim c.if-partition_in-p.branch [
-        | then-partition_in-p+else-stamp-index w ↦
-            let printed = w.index-report-place.result in
-            let less' : place < length report = omega (arith, c.requires.same, c.loop-place-test.true) in
-            let is_printed : slice_get report place ≡ Some printed = slice_get_read report (length report) place printed refl less' w.index-report-place.is in
-            let get : IsGetAt trace report place line printed = record { asked = is_line; answered = is_printed; get = is_get_true line.op here } in
-            let reader = reader_here options p trace report place gets last so_far in
-            let some = c.requires.valid.readers.0 in
-            let many = so_far.many in
-            let within : gets % options.readers < length last = omega arith in
-            let value = w.index.ensures ∙ same_default last (gets % options.readers) _ 0 within ∙ ap (λ q. get_or last q 0) reader in
-            let stamp = w.printed_stamp-stamp.ensures in
-            let low : get_or last (reader_of options trace place) 0 ≤ printed_stamp printed = omega (arith, w.if-stamp-index.false) in
-            let below : reader_of options trace place < options.readers = omega arith in
-            rw (w.last-is, stamp, reader) (one_get options p trace report place gets last line printed so_far get (sym c.partition_in.ensures ∙ w.if-partition_in-p.true) low below)
-        | else-partition_in-p w ↦
-            rw w.last-is (no_get options p trace report place gets (gets + 1) last line is_line (ap (λ b. gets + cond b 1 0) (sym here)) (λ _ e. w.if-partition_in-p.false (c.partition_in.ensures ∙ e)) so_far)
-      ];
-    }
+    let lines = c.args.lines.now in
+    let at = c.loop-at.at in
+    let last = c.loop-at.last.items in
+    let less = c.loop-at-test.true in
+    let own = get_or lines at none in
+    let within = all_within options c.requires.own.0 trace 0 (length trace) lines c.requires.own.1 in
+    let line = c.index-trace-own.result in
+    let is_line = here trace lines at line less within c.index-trace-own.is in
+    let many = c.loop-at.invariant.many in
+    let fell = λ (p : ℕ) (are : AreLinesOf options p trace 0 (length trace) lines).
+    subst (λ (ls : List OwnLine). NoneFell options p trace report ls last) (left lines at less) (c.loop-at.invariant.fell p are) in
+    elim c.if-is_get.branch [
+      | then-is_get+else-stamp-index w ↦
+          let printed = w.index-report-own.result in
+          let get : IsGetAt trace report own.place line printed = record {
+            asked = is_line;
+            answered = answered trace report lines at printed less within c.requires.same w.index-report-own.is;
+            get = is_get_true line.op (sym c.is_get.ensures ∙ w.if-is_get.true);
+          } in
+          let found = stamp_of last own.gets options.readers w.index.result.now many c.requires.valid.readers.0 w.index.ensures in
+          let low : get_or last (own.gets % options.readers) 0 ≤ printed_stamp printed = omega (arith, w.if-stamp-index.false, w.printed_stamp-stamp.ensures) in
+          rw (w.last-is, w.printed_stamp-stamp.ensures) (record {
+            many = length-set last (own.gets % options.readers) (printed_stamp printed) ∙ many;
+            fell = λ p are. none_fell_by_get options p trace report last own (drop (at + 1) lines) line printed (fell p are) get low c.requires.valid.readers.0;
+          })
+      | else-is_get w ↦
+          rw w.last-is (record {
+            many = many;
+            fell = λ p are. none_fell_by_line options p trace report last own (drop (at + 1) lines) (fell p are)
+                (λ l is. let same : line ≡ l = cc in ap is_get (sym same) ∙ sym c.is_get.ensures ∙ w.if-is_get.false);
+          })
+    ]
 
 pub returns : goal.returns
-returns c =
-    λ n line printed get inside falls.
-    let less = slice_get_within c.args.trace.now n line get.asked in
-    c.loop-place.invariant.so_far.none n line printed (omega (arith, c.loop-place-test.false)) get inside falls
+returns c = λ p are.
+    let lines = c.args.lines.now in
+    let none_left : drop c.loop-at.at lines ≡ [] = left_none lines c.loop-at.at c.loop-at-test.false in
+    none_to_fall c.args.options.now p c.args.trace.now c.args.report.now c.loop-at.last.items
+    (subst (λ (ls : List OwnLine). NoneFell c.args.options.now p c.args.trace.now c.args.report.now ls c.loop-at.last.items) none_left (c.loop-at.invariant.fell p are))

@@ -1,59 +1,81 @@
-use Rattle.std.proofs.Common.{◌≡◌, inl, length, take, List, not, ap, ◌∙◌, subst, arith}
-use Rattle.mica_model.specs.Run.{IsRun}
-use Rattle.mica_trace.specs.declared.line.TraceLine.{TraceLine}
-use Rattle.mica_trace.specs.declared.report.Line.{Line}
-use Rattle.mica_trace.specs.LawfulReport.{IsLineFor, steps_of}
-use Rattle.mica_trace.proofs.ListParts.{length_zip}
+use Rattle.std.proofs.Common.{List, ℕ, drop, get_or, not, sym, ap, ◌∙◌, subst, arith}
+use Rattle.std.proofs.lemmas.Bool.{false≢true}
 use Rattle.report_check.specs.declared.partition.Judged.{Judged}
-use Rattle.report_check.specs.Judged.{IsJudgedRound, IsFirstMissed}
-use Rattle.report_check.proofs.Histories.{take_past}
-use Rattle.report_check.proofs.RoundEnds.{starts}
-use Rattle.report_check.proofs.Partitions.{missed_more, at_none, at_some}
+use Rattle.report_check.specs.Judged.{IsJudgedRound}
+use Rattle.report_check.proofs.OwnLines.{all_within, left_none}
+use Rattle.report_check.proofs.Partitions.{StandsBetween, stands_at_start, first_is, here, lines_within, next_round, round_behind, judged_at_end}
 use Rattle.report_check.proofs.partition.judge_partition.Goals as goal
 use Rattle.report_check.proofs.partition.judge_partition.Goals.{then-is_none, else-is_none}
 
-pub loop-from-init : goal.loop-from-init
-loop-from-init c = record {
-  high = omega arith;
-  starts = inl (starts c.args.trace.now);
-  run = tt;
-  after = c.in_ok-machine.ensures;
-  missed = λ n line printed low less get inside. absurd (omega arith);
+pub loop-round-init : goal.loop-round-init
+loop-round-init c = record {
+  within = omega arith;
+  stands = λ p are. stands_at_start c.args.options.now p c.args.trace.now c.args.report.now c.requires.lines c.args.ends.now c.args.lines.now c.in_ok-machine.machine c.requires.ends are c.in_ok-machine.ensures;
 }
 
-pub loop-from-preserved : goal.loop-from-preserved
-loop-from-preserved c =
+pub judge_round-requires-clause-within : goal.judge_round-requires-clause-within
+judge_round-requires-clause-within c =
+    let own = c.requires.own in
+    all_within c.args.options.now own.0 c.args.trace.now _ _ _
+    (next_round c.args.options.now own.0 c.args.trace.now c.args.report.now c.requires.lines c.args.ends.now c.loop-round.round c.args.lines.now c.loop-round.first c.count_before-count.result
+    c.loop-round-test.true c.count_before-count.ensures c.loop-round.machine c.loop-round.missed (c.loop-round.invariant.stands own.0 own.1)).own
+
+pub judge_round-requires-clause-before : goal.judge_round-requires-clause-before
+judge_round-requires-clause-before c =
+    let own = c.requires.own in (
+      c.args.options.now,
+      own.0,
+      _,
+      _,
+      next_round c.args.options.now own.0 c.args.trace.now c.args.report.now c.requires.lines c.args.ends.now c.loop-round.round c.args.lines.now c.loop-round.first c.count_before-count.result
+          c.loop-round-test.true c.count_before-count.ensures c.loop-round.machine c.loop-round.missed (c.loop-round.invariant.stands own.0 own.1),
+    )
+
+pub returns-in-Wrong : goal.returns-in-Wrong
+returns-in-Wrong c = λ p are.
     let options = c.args.options.now in
-    let p = c.args.p in
     let trace = c.args.trace.now in
     let report = c.args.report.now in
-    let from = c.loop-from.from in
-    let to = c.round_end-to.result in
-    let judged = subst (λ (j : Judged). IsJudgedRound options p trace report from to c.judge_round.new.machine j) c.in-Run.is c.in_ok-place.ensures in
-    let round = c.round_end-to.ensures.round in
-    let all = missed_more options p trace report c.requires.lines from to round c.loop-from.missed c.in-Run.found c.loop-from.invariant.missed judged.2 in
+    let ends = c.args.ends.now in
+    let round = c.loop-round.round in
+    let between = c.loop-round.invariant.stands p are in
+    let from = (here options p trace report c.requires.lines ends round c.args.lines.now c.loop-round.first c.count_before-count.result c.loop-round-test.true c.count_before-count.ensures
+    c.loop-round.machine c.loop-round.missed between).from in
+    let before = next_round options p trace report c.requires.lines ends round c.args.lines.now c.loop-round.first c.count_before-count.result
+    c.loop-round-test.true c.count_before-count.ensures c.loop-round.machine c.loop-round.missed between in
+    subst (λ (j : Judged). IsJudgedRound options p trace report from (get_or ends round 0) c.judge_round.new.machine j) c.in-Wrong.is (c.in_ok-place.ensures options p from (get_or ends round 0) before)
+
+pub loop-round-preserved : goal.loop-round-preserved
+loop-round-preserved c =
+    let options = c.args.options.now in
+    let trace = c.args.trace.now in
+    let report = c.args.report.now in
+    let missed = c.loop-round.missed in
+    let found = c.in-Run.found in
     record {
-      high = round.high;
-      starts = c.round_end-to.ensures.next;
-      run = judged.0;
-      after = judged.1;
-      missed = elim c.if-is_none.branch [
-        | then-is_none w ↦ rw w.missed-is (at_none options p trace report to c.loop-from.missed c.in-Run.found (c.is_none.ensures ∙ ap not w.if-is_none.true) all)
-        | else-is_none w ↦ rw w.missed-is (at_some options p trace report to c.loop-from.missed c.in-Run.found (c.is_none.ensures ∙ ap not w.if-is_none.false) all)
-      ];
+      within = lines_within options 0 trace report c.requires.lines c.args.ends.now c.loop-round.round c.args.lines.now c.loop-round.first c.count_before-count.result
+          c.loop-round-test.true c.count_before-count.ensures c.loop-round.invariant.within;
+      stands = λ p are.
+          let between = c.loop-round.invariant.stands p are in
+          let before = next_round options p trace report c.requires.lines c.args.ends.now c.loop-round.round c.args.lines.now c.loop-round.first c.count_before-count.result
+          c.loop-round-test.true c.count_before-count.ensures c.loop-round.machine missed between in
+          let to = get_or c.args.ends.now c.loop-round.round 0 in
+          let from = (here options p trace report c.requires.lines c.args.ends.now c.loop-round.round c.args.lines.now c.loop-round.first c.count_before-count.result
+          c.loop-round-test.true c.count_before-count.ensures c.loop-round.machine missed between).from in
+          round_behind options p trace report c.requires.lines c.args.ends.now c.loop-round.round c.args.lines.now c.loop-round.first c.count_before-count.result
+          c.loop-round-test.true c.count_before-count.ensures c.loop-round.machine missed between c.judge_round.new.machine found c.if-is_none.missed
+          (subst (λ (j : Judged). IsJudgedRound options p trace report from to c.judge_round.new.machine j) c.in-Run.is (c.in_ok-place.ensures options p from to before))
+          (elim c.if-is_none.branch [
+            | then-is_none w ↦ first_is missed found _ (λ _. w.missed-is) (λ some. absurd (false≢true (sym (c.is_none.ensures ∙ ap not w.if-is_none.true) ∙ some)))
+            | else-is_none w ↦ first_is missed found _ (λ none. absurd (false≢true (sym none ∙ c.is_none.ensures ∙ ap not w.if-is_none.false))) (λ _. w.missed-is)
+          ]);
     }
 
 pub returns : goal.returns
-returns c =
+returns c = λ p are.
     let options = c.args.options.now in
-    let p = c.args.p in
     let trace = c.args.trace.now in
     let report = c.args.report.now in
-    let high = c.loop-from.invariant.high in
-    let at : c.loop-from.from ≡ length trace = omega arith in
-    let same = length_zip IsLineFor trace report c.requires.lines in
-    let run = c.loop-from.invariant.run in (
-      subst (λ (ls : List TraceLine). IsRun options (steps_of options p ls report)) (take_past trace c.loop-from.from (omega arith))
-          (subst (λ (rs : List Line). IsRun options (steps_of options p (take c.loop-from.from trace) rs)) (take_past report c.loop-from.from (omega arith)) run),
-      subst (λ m. IsFirstMissed options p trace report m c.loop-from.missed) at c.loop-from.invariant.missed,
-    )
+    let lines = drop c.loop-round.first c.args.lines.now in
+    judged_at_end options p trace report c.requires.lines lines c.loop-round.machine c.loop-round.missed
+    (subst (λ (es : List ℕ). StandsBetween options p trace report es lines c.loop-round.machine c.loop-round.missed) (left_none c.args.ends.now c.loop-round.round c.loop-round-test.false) (c.loop-round.invariant.stands p are))

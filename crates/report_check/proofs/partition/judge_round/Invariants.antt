@@ -1,9 +1,9 @@
-use Rattle.std.proofs.Common.{◌≤◌}
-use Rattle.report_check.proofs.Stepping.{Stands}
+use Rattle.std.proofs.Common.{ℕ, drop}
+use Rattle.partition_model.specs.declared.options.Options.{Options}
+use Rattle.report_check.specs.Judged.{IsBeforeRound}
+use Rattle.report_check.proofs.Stepping.{GoesOn}
 use Rattle.report_check.proofs.partition.judge_round.Given as goal
 
-abbrev pub invariant-loop-place : goal.invariant-loop-place
-invariant-loop-place l = record {
-  low : l.from ≤ l.place;
-  stands : Stands l.options l.p l.trace l.report l.from l.place l.asked.items l.machine l.settling;
-}
+abbrev pub invariant-loop-at : goal.invariant-loop-at
+invariant-loop-at l = (options : Options) (p from to : ℕ) → IsBeforeRound options p l.trace l.report from to l.lines l.fn.machine
+    → GoesOn options p l.trace l.report from to (drop l.at l.lines) l.asked.items l.machine l.settling

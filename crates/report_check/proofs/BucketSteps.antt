@@ -1,0 +1,173 @@
+-- A step of cache mode, bucket by bucket: in the bucket of its key it is the step of that bucket alone, and in another it is what the log passes.
+use Rattle.std.proofs.Common.{◌≡◌, ◌≢◌, ℕ, ◌+◌, List, [], ◌∷◌, ◌++◌, Option, Some, None, Bool, true, false, cond, not, refl, sym, ap, ◌∙◌, arith, eqb, eqb-true, leb-true}
+use Rattle.std.specs.List.{filter, count_by}
+use Rattle.std.specs.Prelude.{is_some}
+use Rattle.std.proofs.lemmas.Bool.{eq-eqb, ne_eqb, le-leb, true≢false}
+use Rattle.std.proofs.lemmas.List.Elements.{filter-append}
+use Rattle.mica_words.specs.declared.entry.TheConstants.{SLOTS}
+use Rattle.mica_words.specs.Hash.{bucket_of}
+use Rattle.mica_words.specs.Stamp.{tail_of}
+use Rattle.partition_model.specs.declared.options.Options.{Options}
+use Rattle.partition_model.specs.declared.write.Write.{Write}
+use Rattle.partition_model.specs.declared.write.Op.{Op}
+use Rattle.partition_model.specs.declared.write.Op.TheVariants.{Put, Add, Touch, Del}
+use Rattle.partition_model.specs.declared.write.Outcome.TheVariants.{Worn}
+use Rattle.partition_model.specs.Cache.{Record, Cache, has_key, is_live, record_of}
+use Rattle.partition_model.specs.CacheStep as cs
+use Rattle.partition_model.specs.CacheStep.{is_in_bucket, kept_if, kept_record, new_record, others, without_first}
+use Rattle.partition_model.proofs.CacheKept.{rewritten, rewritten_key}
+use Rattle.partition_model.proofs.CacheLaws.{tail_rises}
+use Rattle.partition_model.proofs.Found.{found_filter_all}
+use Rattle.partition_model.proofs.Laid.{key_is}
+use Rattle.report_check.specs.Machines.{part_of}
+use Rattle.report_check.proofs.Filters.{filter_swap, filter_weaker, filter_map_same, filter_map_none, count_filtered, first_filtered, first_of_others}
+
+module _ (options : Options) (s : Cache) (write : Write) where
+  abbrev own : ℕ
+  own = bucket_of write.key options.buckets
+
+  abbrev here : Record → Bool
+  here = is_in_bucket options own
+
+  abbrev part : Cache
+  part = part_of options own s
+
+  own_key : (r : Record) → has_key write.key r ≡ true → here r ≡ true
+  own_key r is = eq-eqb (bucket_of r.key options.buckets) own (ap (λ k. bucket_of k options.buckets) (key_is write.key r is))
+
+  pub own_record : record_of part write.key ≡ record_of s write.key
+  own_record = found_filter_all (has_key write.key) here own_key s.records
+
+  pub own_reply : cs.reply options part write ≡ cs.reply options s write
+  unfolding cs.reply
+  own_reply = ap (λ o. cond (cs.is_worn options s) Worn (cs.reply_of write.op options write (is_some o))) own_record
+
+  -- the write itself
+
+  own_append : (value : List ℕ) → cs.after_append part (new_record part write.key value) ≡ part_of options own (cs.after_append s (new_record s write.key value))
+  own_append value =
+      let new = new_record s write.key value in
+      ap (λ (rs : List Record). record (cs.after_append s new) { records = rs })
+      (ap (λ rs. rs ++ new ∷ []) (filter_swap (λ r. not (has_key write.key r)) here s.records)
+      ∙ ap (λ b. filter here (others write.key s.records) ++ cond b (new ∷ []) []) (sym (eq-eqb own own refl))
+      ∙ sym (filter-append here (others write.key s.records) (new ∷ [])))
+
+  own_rewrite : cs.after_rewrite part write ≡ part_of options own (cs.after_rewrite s write)
+  own_rewrite =
+      ap (λ (rs : List Record). record (cs.after_rewrite s write) { records = rs })
+      (sym (filter_map_same here (rewritten write) (λ r. ap (λ k. eqb (bucket_of k options.buckets) own) (rewritten_key write r)) s.records))
+
+  own_delete : cs.after_delete part write ≡ part_of options own (cs.after_delete s write)
+  own_delete = ap (λ (rs : List Record). record (cs.after_delete s write) { records = rs }) (filter_swap (λ r. not (has_key write.key r)) here s.records)
+
+  same_kept : (o : Option Record) → kept_if options part write o ≡ kept_if options s write o
+  same_kept None = refl
+  same_kept (Some held) = refl
+
+  own_kept : kept_record options part write ≡ kept_record options s write
+  own_kept = ap (kept_if options part write) own_record ∙ same_kept (record_of s write.key)
+
+  own_put : (o : Option Record) → cs.after_put o part write ≡ part_of options own (cs.after_put o s write)
+  own_put None = own_append write.value
+  own_put (Some held) = own_rewrite
+
+  own_touch : (o : Option Record) → cs.after_touch o part write ≡ part_of options own (cs.after_touch o s write)
+  own_touch None = refl
+  own_touch (Some held) = own_append held.value
+
+  own_op : (op : Op) → cs.after_op op options part write ≡ part_of options own (cs.after_op op options s write)
+  own_op Put = ap (λ o. cs.after_put o part write) own_kept ∙ own_put (kept_record options s write)
+  own_op Add = own_append write.value
+  own_op Touch = ap (λ o. cs.after_touch o part write) own_record ∙ own_touch (record_of s write.key)
+  own_op Del = own_delete
+
+  -- what the log passes, and what is displaced
+
+  abbrev live : List Record
+  live = filter (λ held. is_live options.words (cs.after_write options s write).stamp held.offset) (cs.after_write options s write).records
+
+  abbrev left : List Record → List Record
+  left rs = cond (eqb (count_by here rs) (SLOTS + 1)) (without_first here rs) rs
+
+  own_left : (rs : List Record) → left (filter here rs) ≡ filter here (left rs)
+  own_left rs =
+      ap (λ n. cond (eqb n (SLOTS + 1)) (without_first here (filter here rs)) (filter here rs)) (count_filtered here rs)
+      ∙ elim (eqb (count_by here rs) (SLOTS + 1)) as (λ b. cond b (without_first here (filter here rs)) (filter here rs) ≡ filter here (cond b (without_first here rs) rs)) [
+        | true ↦ first_filtered here rs
+        | false ↦ refl
+      ]
+
+  pub own_after : cs.after options part write ≡ part_of options own (cs.after options s write)
+  unfolding cs.after
+  own_after =
+      ap (λ (t : Cache). record (cs.without_displaced options write.key (cs.without_passed options t)) { accepted = s.accepted + 1 }) (own_op write.op)
+      ∙ ap (λ (rs : List Record). record (cs.after_write options s write) { records = rs; accepted = s.accepted + 1 })
+      (ap left (filter_swap (λ held. is_live options.words (cs.after_write options s write).stamp held.offset) here (cs.after_write options s write).records) ∙ own_left live)
+
+  -- in another bucket
+
+  module _ (bucket : ℕ) (other : own ≢ bucket) where
+    abbrev there : Record → Bool
+    there = is_in_bucket options bucket
+
+    apart : (r : Record) → there r ≡ true → here r ≡ false
+    apart r is = ne_eqb (bucket_of r.key options.buckets) own (λ e. other (sym e ∙ eqb-true (bucket_of r.key options.buckets) bucket is))
+
+    other_key : (r : Record) → there r ≡ true → has_key write.key r ≡ false
+    other_key r is = elim (has_key write.key r) as (λ b. has_key write.key r ≡ b → b ≡ false) [
+      | true ↦ λ yes. absurd (true≢false (sym (own_key r yes) ∙ apart r is))
+      | false ↦ λ _. refl
+    ] refl
+
+    other_others : filter there (others write.key s.records) ≡ filter there s.records
+    other_others = filter_weaker (λ r. not (has_key write.key r)) there (λ r is. ap not (other_key r is)) s.records
+
+    other_append : (value : List ℕ) → filter there (cs.after_append s (new_record s write.key value)).records ≡ filter there s.records
+    other_append value =
+        let new = new_record s write.key value in
+        filter-append there (others write.key s.records) (new ∷ [])
+        ∙ ap (λ b. filter there (others write.key s.records) ++ cond b (new ∷ []) []) (ne_eqb own bucket other)
+        ∙ append_nil (filter there (others write.key s.records)) ∙ other_others
+      where
+        append_nil : (rs : List Record) → rs ++ [] ≡ rs
+        append_nil [] = refl
+        append_nil (r ∷ rs) = ap (λ l. r ∷ l) (append_nil rs)
+
+    other_rewrite : filter there (cs.after_rewrite s write).records ≡ filter there s.records
+    other_rewrite =
+        filter_map_same there (rewritten write) (λ r. ap (λ k. eqb (bucket_of k options.buckets) bucket) (rewritten_key write r)) s.records
+        ∙ filter_map_none there (rewritten write) (λ r is. ap (λ b. cond b (record r { value = write.value }) r) (other_key r is)) s.records
+
+    other_put : (o : Option Record) → filter there (cs.after_put o s write).records ≡ filter there s.records
+    other_put None = other_append write.value
+    other_put (Some held) = other_rewrite
+
+    other_touch : (o : Option Record) → filter there (cs.after_touch o s write).records ≡ filter there s.records
+    other_touch None = refl
+    other_touch (Some held) = other_append held.value
+
+    other_op : (op : Op) → filter there (cs.after_op op options s write).records ≡ filter there s.records
+    other_op Put = other_put (kept_record options s write)
+    other_op Add = other_append write.value
+    other_op Touch = other_touch (record_of s write.key)
+    other_op Del = other_others
+
+    other_left : (rs : List Record) → filter there (left rs) ≡ filter there rs
+    other_left rs = elim (eqb (count_by here rs) (SLOTS + 1)) as (λ b. filter there (cond b (without_first here rs) rs) ≡ filter there rs) [
+      | true ↦ first_of_others here there apart rs
+      | false ↦ refl
+    ]
+
+    pub other_after : filter there (cs.after options s write).records ≡ filter (λ held. is_live options.words (cs.after options s write).stamp held.offset) (filter there s.records)
+    unfolding cs.after
+    other_after =
+        other_left live
+        ∙ filter_swap there (λ held. is_live options.words (cs.after_write options s write).stamp held.offset) (cs.after_write options s write).records
+        ∙ ap (filter (λ held. is_live options.words (cs.after_write options s write).stamp held.offset)) (other_op write.op)
+
+  -- what the log has not passed after the write, it had not before
+  pub live_before : (r : Record) → is_live options.words (cs.after options s write).stamp r.offset ≡ true → is_live options.words s.stamp r.offset ≡ true
+  live_before r is =
+      let low = leb-true (tail_of (cs.after options s write).stamp) (r.offset + options.words) is in
+      let rises = tail_rises options s write in
+      le-leb (tail_of s.stamp) (r.offset + options.words) (omega arith)

@@ -1,0 +1,60 @@
+use Rattle.std.proofs.Common.{List, Option, ℕ, sym, ap, ◌∙◌, subst, arith}
+use Rattle.mica_words.specs.Item.{ValueFits}
+use Rattle.mica_words.specs.Stamp.{tail_of}
+use Rattle.partition_model.specs.Cache.{Cache, Record}
+use Rattle.mica_model.specs.CacheFields.{displaced_at, without_at}
+use Rattle.partition_model.specs.Records.{AreRising}
+use Rattle.partition_model.specs.CacheStep.{after_write, without_passed}
+use Rattle.partition_model.specs.Write.{IsWrite, write_of}
+use Rattle.partition_model.proofs.CacheKept.{IsRecord, after_write_is}
+use Rattle.mica_model.proofs.CacheSteps.{displaced_goes}
+use Rattle.partition_model.proofs.Found.{all_weaker}
+use Rattle.mica_model.proofs.Passed.{laid_rising}
+use Rattle.report_check.proofs.Buckets.{after_is, bucket_kept}
+use Rattle.report_check.proofs.cache_buckets.write.Goals as goal
+
+pub write-requires-clause-stamp : goal.write-requires-clause-stamp
+write-requires-clause-stamp c =
+    let part = c.requires.part in
+    let most = (bucket_kept c.args.options.now part.0 c.args.bucket.now _ part.1 part.2).stamp in
+    let less = c.requires.unworn in
+    let wear = c.requires.valid.wear.1 in
+    omega arith
+
+pub write-requires-clause-unique : goal.write-requires-clause-unique
+write-requires-clause-unique c = let part = c.requires.part in (bucket_kept c.args.options.now part.0 c.args.bucket.now _ part.1 part.2).unique
+
+pub write-requires-clause-values : goal.write-requires-clause-values
+write-requires-clause-values c =
+    let part = c.requires.part in
+    all_weaker IsRecord (λ held. ValueFits held.value) (λ held fine. fine.value) c.args.bucket.now.records (bucket_kept c.args.options.now part.0 c.args.bucket.now _ part.1 part.2).are
+
+pub drop_passed-requires : goal.drop_passed-requires
+drop_passed-requires c =
+    let options = c.args.options.now in
+    let s = c.args.bucket.now in
+    let part = c.requires.part in
+    let write = write_of c.args.op c.args.key.now c.args.value.now in
+    let is : IsWrite write = record {
+      key = c.requires.key;
+      key_bytes = λ k. omega (arith, c.type_inv.key k);
+      value = c.requires.value;
+      value_bytes = λ k. omega (arith, c.type_inv.value k);
+    } in
+    let wrote = after_write options s write in
+    subst (λ (t : Cache). AreRising t.records) (sym c.in_ok-write.ensures.ok)
+    (laid_rising 0 (tail_of wrote.stamp) wrote.records (after_write_is options s (bucket_kept options part.0 s _ part.1 part.2) write is).laid)
+
+pub returns : goal.returns
+returns c =
+    let options = c.args.options.now in
+    let key = c.args.key.now in
+    let wrote = c.write.new.self in
+    let left = without_passed options wrote in
+    let place = c.displaced-displaced.ensures ∙ ap (λ (t : Cache). displaced_at options key t.records) c.drop_passed.ensures in
+    c.count.ensures
+    ∙ after_is options c.args.bucket.now (write_of c.args.op key c.args.value.now) wrote c.remove.new.self c.in_ok-write.ensures.ok
+    (c.remove.ensures
+    ∙ ap (λ (t : Cache). record t { records = without_at c.displaced-displaced.result t.records }) c.drop_passed.ensures
+    ∙ ap (λ (at : Option ℕ). record left { records = without_at at left.records }) place
+    ∙ ap (λ (rs : List Record). record left { records = rs }) (displaced_goes options key left.records))
