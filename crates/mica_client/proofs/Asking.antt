@@ -1,6 +1,6 @@
 -- All batches, one after another: what is left of them, and what is known of the answers.
 use Rattle.std.proofs.Common.{◌≡◌, inl, ℕ, ◌+◌, ◌||◌, Bool, true, false, not, List, [], ◌∷◌, map, length, refl, sym, ap, subst, ◌∙◌, arith, Option, Some, None, Ok, Err}
-use Rattle.std.specs.List.{All, AllByRecursion}
+use Rattle.std.specs.List.{AllByRecursion}
 use Rattle.std.proofs.lemmas.Bool.{or_parts, not-false, not_from_true}
 use Rattle.mica_trace.specs.declared.line.TraceLine.{TraceLine}
 use Rattle.mica_trace.specs.declared.report.Line.{Line}
@@ -14,7 +14,7 @@ use Rattle.mica_client.specs.declared.options.TheConstants.{VERSION}
 use Rattle.mica_client.proofs.Running.{went_none}
 use Rattle.mica_client.specs.Talk.{Talk, OnTalk, Passes}
 use Rattle.mica_client.specs.Batches.{numbered, groups_of}
-use Rattle.mica_client.specs.Answers.{Answers, unanswered, is_answered, HasTicketIn, AreFor, IsOfTrace, KeepsAnswers, KeepsAll}
+use Rattle.mica_client.specs.Answers.{Answers, unanswered, is_answered, HasTickets, AreFor, IsOfTrace, KeepsAnswers, KeepsAll}
 use Rattle.mica_client.specs.Exchange.{Standing, start, standing_at, lacks_answer, IsWhole, ComesTo, IsCauseOf, MeansForAsk, AsksAll}
 
 abbrev pub Grows : Answers → Answers → Type 0
@@ -30,7 +30,7 @@ abbrev pub AreBatches : List Group → Type 0
 AreBatches groups = (n : ℕ) → AllByRecursion (λ group. IsBatch (record { version = VERSION; number = n; requests = group.requests })) groups
 
 abbrev pub HaveTickets : ℕ → List Group → Type 0
-HaveTickets lines groups = AllByRecursion (λ group. All (HasTicketIn lines) group.requests) groups
+HaveTickets lines groups = AllByRecursion (λ group. HasTickets lines group.requests) groups
 
 still_answered : (old new : Answers) (requests : List Request) → Grows old new → lacks_answer old requests ≡ false → lacks_answer new requests ≡ false
 still_answered old new [] grows h = refl

@@ -1,9 +1,17 @@
 -- The batches of a trace have the requests of its lines and no others, each fits a datagram, and they are few.
-use Rattle.std.proofs.Common.{◌≡◌, ◌≤◌, ◌<◌, ◌⊎◌, inl, inr, ℕ, zero, suc, ◌+◌, ◌*◌, ◌-◌, ◌==◌, ◌||◌, Bool, true, false, List, [], ◌∷◌, ◌++◌, map, length, refl, sym, ap, subst, ◌∙◌, arith, cond, Option, Some, None, option_map, eq-eqb, length-append, append_assoc, append-nil, IsTrue, take, drop, get_or, length-drop}
-use Rattle.std.specs.Prelude.{nat_le, nat_lt, filter, flat_map, slice_get}
-use Rattle.std.specs.List.{AllByRecursion, range_with_len}
+use Rattle.std.proofs.Common.{◌≡◌, ◌≤◌, ◌<◌, ◌⊎◌, inl, inr, ℕ, zero, suc, ◌+◌, ◌*◌, ◌-◌, ◌==◌, ◌||◌, Bool, true, false, List, [], ◌∷◌, ◌++◌, length, refl, sym, ap, subst, ◌∙◌, arith, cond, Option, Some, None, option_map, eq-eqb, length-append, append_assoc, append-nil, IsTrue, take, drop, get_or, length-drop}
+use Rattle.std.proofs.Math.ListN.{get_or-append}
+use Rattle.std.proofs.Math.Nat.{mul-le-mul_left}
+use Rattle.std.specs.Prelude.{nat_le, nat_lt, filter, flat_map, position, slice_get, slice_range}
+use Rattle.std.specs.List.{AllByRecursion, range_with_len, position_from}
 use Rattle.std.proofs.lemmas.Bool.{cases_eq, leb-true, ltb-true, and_parts, and_from, le-leb, lt-ltb}
-use Rattle.std.proofs.lemmas.List.{length-map, length-take-le, take_more, at_drop_more, get_or-drop}
+use Rattle.std.proofs.lemmas.List.{drop-drop, get_or-append-add, take_all}
+use Rattle.std.proofs.lemmas.List.Folds.{flat_map-map}
+use Rattle.std.proofs.lemmas.List.Quantifiers.{position-Some}
+use Rattle.std.proofs.lemmas.List.Sums.{length-filter, count_by-le-length}
+use Rattle.std.proofs.lemmas.Iterator.Adapters.{position_from-zero}
+use Rattle.std.proofs.lemmas.List.Elements.{All-from_recursion}
+use Rattle.std.proofs.lemmas.List.Kept.{AllPairs-cons, AllPairs-filter}
 use Rattle.std.proofs.lemmas.Grind.{flat_map-append}
 use Rattle.mica_words.specs.Hash.{partition_of}
 use Rattle.mica_words.specs.Item.{KeyFits}
@@ -15,7 +23,7 @@ use Rattle.mica_trace.specs.declared.line.TraceOp.TheVariants as op
 use Rattle.mica_trace.specs.declared.line.TraceLine.{TraceLine}
 use Rattle.batch_packets.specs.declared.batch.Want.{Want}
 use Rattle.batch_packets.specs.declared.batch.Want.TheVariants.{Put as PutWant, Add as AddWant, Del as DelWant, Touch as TouchWant, Get as GetWant}
-use Rattle.mica_trace.specs.TraceGrammar.{IsTraceLine, IsKey, HasFields, is_sync, is_sync_op}
+use Rattle.mica_trace.specs.TraceGrammar.{IsTraceLine, IsKey, HasFields, is_sync, is_sync_op, sync_line}
 use Rattle.batch_packets.specs.declared.batch.Request.{Request}
 use Rattle.batch_packets.specs.Datagram.{FitsDatagram}
 use Rattle.batch_packets.specs.BatchGrammar.{IsRequest, request_text, batch_text, operation_of, is_operation, longest_value}
@@ -24,7 +32,8 @@ use Rattle.mica_client.specs.declared.options.AskOptions.{AskOptions}
 use Rattle.mica_client.specs.declared.batches.Group.{Group}
 use Rattle.mica_client.specs.AskOptions.{IsValidAsk}
 use Rattle.mica_client.proofs.Taking.{of_line}
-use Rattle.mica_client.specs.Batches.{want_of, request_of, in_front, requests_from, on_line, rounds_from, joins, last_batch, cut, is_in_partition, groups_at, groups_in, groups_of_round, groups_of, parts_of, text_len, port_of}
+use Rattle.mica_client.specs.Batches.{want_of, request_of, in_front, requests_from, on_line, rounds_from, joins, last_batch, cut, is_in_partition, groups_at, groups_in, groups_of_round, groups_of, text_len, port_of}
+use Rattle.mica_client.specs.Answers.{TicketsRise}
 
 -- a fact of each of two lists, and of both together
 pub all_append : {X : Type 0} (P : X → Type 0) (xs ys : List X) → AllByRecursion P xs → AllByRecursion P ys → AllByRecursion P (xs ++ ys)
@@ -44,106 +53,119 @@ all_filter P test [] h = tt
 all_filter P test (x ∷ xs) h =
     elim (test x) as (λ b. AllByRecursion P (cond b (x ∷ filter test xs) (filter test xs))) [ true ↦ (h.0, all_filter P test xs h.1) | false ↦ all_filter P test xs h.1 ]
 
--- Each request of a batch is one of a line
-
 partition_below : (key : List ℕ) (partitions : ℕ) → 0 < partitions → partition_of key partitions < partitions
 unfolding partition_of
 partition_below key partitions some = omega arith
 
-module _ (P : Request → Type 0) where
-  all_rounds : (round : List Request) (n : ℕ) (lines : List TraceLine) → AllByRecursion P round → AllByRecursion P (requests_from n lines)
-      → AllByRecursion (AllByRecursion P) (rounds_from round n lines)
-  all_rounds round n [] a h = (a, tt)
-  all_rounds round n (line ∷ lines) a h =
-      elim (request_of n line) as (λ x. AllByRecursion P (in_front x (requests_from (n + 1) lines))
-      → AllByRecursion (AllByRecursion P) (on_line x round (λ r. rounds_from r (n + 1) lines))) [
-        | None ↦ λ h. (a, all_rounds [] (n + 1) lines tt h)
-        | Some r ↦ λ h. all_rounds (round ++ r ∷ []) (n + 1) lines (all_append P round (r ∷ []) a (h.0, tt)) h.1
-      ] h
+-- No request is lost
 
-  all_last : (group : List Request) → AllByRecursion P group → AllByRecursion (AllByRecursion P) (last_batch group)
-  all_last [] a = tt
-  all_last (r ∷ rs) a = (a, tt)
+abbrev flat : List (List Request) → List Request
+flat batches = flat_map (λ batch. batch) batches
 
-  all_cut : (per : ℕ) (group requests : List Request) → AllByRecursion P group → AllByRecursion P requests → AllByRecursion (AllByRecursion P) (cut per group requests)
-  all_cut per group [] a h = all_last group a
-  all_cut per group (r ∷ rs) a h =
-      elim (joins per group r) as (λ b. AllByRecursion (AllByRecursion P) (cond b (cut per (group ++ r ∷ []) rs) (group ∷ cut per (r ∷ []) rs))) [
-        | true ↦ all_cut per (group ++ r ∷ []) rs (all_append P group (r ∷ []) a (h.0, tt)) h.1
-        | false ↦ (a, all_cut per (r ∷ []) rs (h.0, tt) h.1)
-      ]
+flat_last : (group : List Request) → flat (last_batch group) ≡ group
+flat_last [] = refl
+flat_last (r ∷ rs) = append-nil (r ∷ rs)
 
-  all_at : (port : ℕ) (batches : List (List Request)) → AllByRecursion (AllByRecursion P) batches → AllByRecursion (λ g. AllByRecursion P g.requests) (groups_at port batches)
-  all_at port [] h = tt
-  all_at port (b ∷ bs) h = (h.0, all_at port bs h.1)
+flat_cut : (per : ℕ) (group requests : List Request) → flat (cut per group requests) ≡ group ++ requests
+flat_cut per group [] = flat_last group ∙ sym (append-nil group)
+flat_cut per group (r ∷ rs) =
+    elim (joins per group r) as (λ b. flat (cond b (cut per (group ++ r ∷ []) rs) (group ∷ cut per (r ∷ []) rs)) ≡ group ++ r ∷ rs) [
+      | true ↦ flat_cut per (group ++ r ∷ []) rs ∙ append_assoc group (r ∷ []) rs
+      | false ↦ ap (λ (l : List Request). group ++ l) (flat_cut per (r ∷ []) rs)
+    ]
 
-  all_range : (options : AskOptions) (round : List Request) (a n : ℕ) → AllByRecursion P round → AllByRecursion (λ g. AllByRecursion P g.requests) (flat_map (groups_in options round) (range_with_len a n))
-  all_range options round a zero h = tt
-  all_range options round a (suc n) h =
-      all_append (λ g. AllByRecursion P g.requests) (groups_in options round a) (flat_map (groups_in options round) (range_with_len (a + 1) n))
-      (all_at (port_of options a) (cut options.per [] (filter (is_in_partition options a) round)) (all_cut options.per [] (filter (is_in_partition options a) round) tt (all_filter P (is_in_partition options a) round h)))
-      (all_range options round (a + 1) n h)
+flat_rounds : (round : List Request) (n : ℕ) (lines : List TraceLine) → flat (rounds_from round n lines) ≡ round ++ requests_from n lines
+flat_rounds round n [] = refl
+flat_rounds round n (line ∷ lines) =
+    elim (request_of n line) as (λ x. flat (on_line x round (λ r. rounds_from r (n + 1) lines)) ≡ round ++ in_front x (requests_from (n + 1) lines)) [
+      | None ↦ ap (λ (l : List Request). round ++ l) (flat_rounds [] (n + 1) lines)
+      | Some r ↦ flat_rounds (round ++ r ∷ []) (n + 1) lines ∙ append_assoc round (r ∷ []) (requests_from (n + 1) lines)
+    ]
 
-  all_flat : (options : AskOptions) (rounds : List (List Request)) → AllByRecursion (AllByRecursion P) rounds → AllByRecursion (λ g. AllByRecursion P g.requests) (flat_map (groups_of_round options) rounds)
-  all_flat options [] h = tt
-  all_flat options (round ∷ rounds) h =
-      all_append (λ g. AllByRecursion P g.requests) (groups_of_round options round) (flat_map (groups_of_round options) rounds)
-      (all_range options round 0 options.partitions h.0) (all_flat options rounds h.1)
+-- What holds of all requests holds of each batch
 
-  pub all_groups : (options : AskOptions) (trace : List TraceLine) → AllByRecursion P (requests_from 0 trace) → AllByRecursion (λ g. AllByRecursion P g.requests) (groups_of options trace)
-  all_groups options trace h = all_flat options (rounds_from [] 0 trace) (all_rounds [] 0 trace tt h)
+-- a fact of requests that holds of their parts, and of those that pass a test
+pub record HoldsOfParts (Q : List Request → Type 0) : Type 0 where
+  both : (xs ys : List Request) → Q (xs ++ ys) → Q xs × Q ys
+  sifted : (test : Request → Bool) (xs : List Request) → Q xs → Q (filter test xs)
 
-  -- Each line has its request in a batch
+pub of_each : (P : Request → Type 0) → HoldsOfParts (AllByRecursion P)
+of_each P = record { both = all_parts P; sifted = λ test xs h. all_filter P test xs h }
 
-  back_rounds : (round : List Request) (n : ℕ) (lines : List TraceLine) → AllByRecursion (AllByRecursion P) (rounds_from round n lines)
-      → AllByRecursion P round × AllByRecursion P (requests_from n lines)
-  back_rounds round n [] h = (h.0, tt)
-  back_rounds round n (line ∷ lines) h =
-      elim (request_of n line) as (λ x. AllByRecursion (AllByRecursion P) (on_line x round (λ r. rounds_from r (n + 1) lines))
-      → AllByRecursion P round × AllByRecursion P (in_front x (requests_from (n + 1) lines))) [
-        | None ↦ λ h. (h.0, (back_rounds [] (n + 1) lines h.1).1)
-        | Some r ↦ λ h. let parts = back_rounds (round ++ r ∷ []) (n + 1) lines h in let both = all_parts P round (r ∷ []) parts.0 in (both.0, (both.1.0, parts.1))
-      ] h
+pub of_rise : HoldsOfParts TicketsRise
+of_rise = record {
+  both = λ xs ys h.
+      let long = length-append xs ys in (
+        λ i j d before within. subst (λ (r : Request). r.ticket < (get_or xs j d).ticket) (get_or-append xs ys d i (omega arith))
+            (subst (λ (r : Request). (get_or (xs ++ ys) i d).ticket < r.ticket) (get_or-append xs ys d j within) (h i j d before (omega (arith, long)))),
+        λ i j d before within. subst (λ (r : Request). r.ticket < (get_or ys j d).ticket) (get_or-append-add xs ys i d)
+            (subst (λ (r : Request). (get_or (xs ++ ys) (length xs + i) d).ticket < r.ticket) (get_or-append-add xs ys j d) (h (length xs + i) (length xs + j) d (omega arith) (omega (arith, long)))),
+      );
+  sifted = λ test xs h. AllPairs-filter (λ one later. one.ticket < later.ticket) test xs h;
+}
 
-  back_last : (group : List Request) → AllByRecursion (AllByRecursion P) (last_batch group) → AllByRecursion P group
-  back_last [] h = tt
-  back_last (r ∷ rs) h = h.0
+each_part : {Q : List Request → Type 0} → HoldsOfParts Q → (batches : List (List Request)) → Q (flat batches) → AllByRecursion Q batches
+each_part of [] h = tt
+each_part of (b ∷ bs) h = let both = of.both b (flat bs) h in (both.0, each_part of bs both.1)
 
-  back_cut : (per : ℕ) (group requests : List Request) → AllByRecursion (AllByRecursion P) (cut per group requests) → AllByRecursion P group × AllByRecursion P requests
-  back_cut per group [] h = (back_last group h, tt)
-  back_cut per group (r ∷ rs) h =
-      elim (joins per group r) as (λ b. AllByRecursion (AllByRecursion P) (cond b (cut per (group ++ r ∷ []) rs) (group ∷ cut per (r ∷ []) rs))
-      → AllByRecursion P group × AllByRecursion P (r ∷ rs)) [
-        | true ↦ λ h. let parts = back_cut per (group ++ r ∷ []) rs h in let both = all_parts P group (r ∷ []) parts.0 in (both.0, (both.1.0, parts.1))
-        | false ↦ λ h. let parts = back_cut per (r ∷ []) rs h.1 in (h.0, (parts.0.0, parts.1))
-      ] h
+each_round : {Q : List Request → Type 0} → HoldsOfParts Q → (trace : List TraceLine) → Q (requests_from 0 trace) → AllByRecursion Q (rounds_from [] 0 trace)
+each_round {Q} of trace h = each_part of (rounds_from [] 0 trace) (subst Q (sym (flat_rounds [] 0 trace)) h)
 
-  back_at : (port : ℕ) (batches : List (List Request)) → AllByRecursion (λ g. AllByRecursion P g.requests) (groups_at port batches) → AllByRecursion (AllByRecursion P) batches
-  back_at port [] h = tt
-  back_at port (b ∷ bs) h = (h.0, back_at port bs h.1)
+abbrev own_batches : AskOptions → List Request → ℕ → List (List Request)
+own_batches options round p = cut options.per [] (filter (is_in_partition options p) round)
 
-  back_range : (options : AskOptions) (round : List Request) (a n : ℕ) → AllByRecursion (λ g. AllByRecursion P g.requests) (flat_map (groups_in options round) (range_with_len a n))
+-- a fact of each batch, by one of its round
+module _ (Q R : List Request → Type 0) (options : AskOptions) (own : (round : List Request) (p : ℕ) → R round → AllByRecursion Q (own_batches options round p)) where
+  each_at : (port : ℕ) (batches : List (List Request)) → AllByRecursion Q batches → AllByRecursion (λ g. Q g.requests) (groups_at port batches)
+  each_at port [] h = tt
+  each_at port (b ∷ bs) h = (h.0, each_at port bs h.1)
+
+  each_own : (round : List Request) (a n : ℕ) → R round → AllByRecursion (λ g. Q g.requests) (flat_map (groups_in options round) (range_with_len a n))
+  each_own round a zero h = tt
+  each_own round a (suc n) h =
+      all_append (λ g. Q g.requests) (groups_in options round a) (flat_map (groups_in options round) (range_with_len (a + 1) n))
+      (each_at (port_of options a) (own_batches options round a) (own round a h)) (each_own round (a + 1) n h)
+
+  each_group : (rounds : List (List Request)) → AllByRecursion R rounds → AllByRecursion (λ g. Q g.requests) (flat_map (groups_of_round options) rounds)
+  each_group [] h = tt
+  each_group (round ∷ rounds) h =
+      all_append (λ g. Q g.requests) (groups_of_round options round) (flat_map (groups_of_round options) rounds) (each_own round 0 options.partitions h.0) (each_group rounds h.1)
+
+pub all_groups : {Q : List Request → Type 0} → HoldsOfParts Q → (options : AskOptions) (trace : List TraceLine) → Q (requests_from 0 trace) → AllByRecursion (λ g. Q g.requests) (groups_of options trace)
+all_groups {Q} of options trace h =
+    each_group Q Q options
+    (λ round p own. each_part of (own_batches options round p) (subst Q (sym (flat_cut options.per [] (filter (is_in_partition options p) round))) (of.sifted (is_in_partition options p) round own)))
+    (rounds_from [] 0 trace) (each_round of trace h)
+
+-- What holds of each batch holds of all requests
+
+module _ (P : Request → Type 0) (options : AskOptions) where
+  abbrev pub InEach : List Group → Type 0
+  InEach groups = AllByRecursion (λ g. AllByRecursion P g.requests) groups
+
+  of_groups : (port : ℕ) (batches : List (List Request)) → InEach (groups_at port batches) → AllByRecursion P (flat batches)
+  of_groups port [] h = tt
+  of_groups port (b ∷ bs) h = all_append P b (flat bs) h.0 (of_groups port bs h.1)
+
+  of_own : (round : List Request) (a n : ℕ) → InEach (flat_map (groups_in options round) (range_with_len a n))
       → (p : ℕ) → a ≤ p → p < a + n → AllByRecursion P (filter (is_in_partition options p) round)
-  back_range options round a zero h p low high = absurd (omega arith)
-  back_range options round a (suc n) h p low high =
+  of_own round a zero h p low high = absurd (omega arith)
+  of_own round a (suc n) h p low high =
       let parts = all_parts (λ g. AllByRecursion P g.requests) (groups_in options round a) (flat_map (groups_in options round) (range_with_len (a + 1) n)) h in
-      by (cases_eq a p) parts.0 (λ more. back_range options round (a + 1) n parts.1 p more (omega arith))
+      by (cases_eq a p) (subst (AllByRecursion P) (flat_cut options.per [] (filter (is_in_partition options a) round)) (of_groups (port_of options a) (own_batches options round a) parts.0))
+      (λ more. of_own round (a + 1) n parts.1 p more (omega arith))
     where
-      by : ((a ≡ p) ⊎ (a ≡ p → ⊥)) → AllByRecursion (λ g. AllByRecursion P g.requests) (groups_in options round a)
-          → (a + 1 ≤ p → AllByRecursion P (filter (is_in_partition options p) round)) → AllByRecursion P (filter (is_in_partition options p) round)
-      by (inl e) first later =
-          subst (λ (q : ℕ). AllByRecursion P (filter (is_in_partition options q) round)) e
-          (back_cut options.per [] (filter (is_in_partition options a) round)
-          (back_at (port_of options a) (cut options.per [] (filter (is_in_partition options a) round)) first)).1
+      by : ((a ≡ p) ⊎ (a ≡ p → ⊥)) → AllByRecursion P (filter (is_in_partition options a) round) → (a + 1 ≤ p → AllByRecursion P (filter (is_in_partition options p) round))
+          → AllByRecursion P (filter (is_in_partition options p) round)
+      by (inl e) first later = subst (λ (q : ℕ). AllByRecursion P (filter (is_in_partition options q) round)) e first
       by (inr ne) first later = later (omega arith)
 
-  back_filter : (options : AskOptions) (round : List Request) → 0 < options.partitions
-      → ((p : ℕ) → p < options.partitions → AllByRecursion P (filter (is_in_partition options p) round)) → AllByRecursion P round
-  back_filter options [] some h = tt
-  back_filter options (r ∷ rs) some h =
+  of_round : (round : List Request) → 0 < options.partitions → ((p : ℕ) → p < options.partitions → AllByRecursion P (filter (is_in_partition options p) round)) → AllByRecursion P round
+  of_round [] some h = tt
+  of_round (r ∷ rs) some h =
       let p : ℕ = partition_of r.key options.partitions in
       let own = subst (λ b. AllByRecursion P (cond b (r ∷ filter (is_in_partition options p) rs) (filter (is_in_partition options p) rs))) (eq-eqb p p refl) (h p (partition_below r.key options.partitions some)) in
-      (own.0, back_filter options rs some (λ q below. later q (h q below)))
+      (own.0, of_round rs some (λ q below. later q (h q below)))
     where
       later : (q : ℕ) → AllByRecursion P (filter (is_in_partition options q) (r ∷ rs)) → AllByRecursion P (filter (is_in_partition options q) rs)
       later q all =
@@ -152,14 +174,14 @@ module _ (P : Request → Type 0) where
             | false ↦ λ a. a
           ] all
 
-  back_flat : (options : AskOptions) (rounds : List (List Request)) → 0 < options.partitions → AllByRecursion (λ g. AllByRecursion P g.requests) (flat_map (groups_of_round options) rounds) → AllByRecursion (AllByRecursion P) rounds
-  back_flat options [] some h = tt
-  back_flat options (round ∷ rounds) some h =
+  of_rounds : (rounds : List (List Request)) → 0 < options.partitions → InEach (flat_map (groups_of_round options) rounds) → AllByRecursion P (flat rounds)
+  of_rounds [] some h = tt
+  of_rounds (round ∷ rounds) some h =
       let parts = all_parts (λ g. AllByRecursion P g.requests) (groups_of_round options round) (flat_map (groups_of_round options) rounds) h in
-      (back_filter options round some (λ p below. back_range options round 0 options.partitions parts.0 p (omega arith) (omega arith)), back_flat options rounds some parts.1)
+      all_append P round (flat rounds) (of_round round some (λ p below. of_own round 0 options.partitions parts.0 p (omega arith) (omega arith))) (of_rounds rounds some parts.1)
 
-  pub all_lines : (options : AskOptions) (trace : List TraceLine) → 0 < options.partitions → AllByRecursion (λ g. AllByRecursion P g.requests) (groups_of options trace) → AllByRecursion P (requests_from 0 trace)
-  all_lines options trace some h = (back_rounds [] 0 trace (back_flat options (rounds_from [] 0 trace) some h)).1
+  pub all_lines : (trace : List TraceLine) → 0 < options.partitions → InEach (groups_of options trace) → AllByRecursion P (requests_from 0 trace)
+  all_lines trace some h = subst (AllByRecursion P) (flat_rounds [] 0 trace) (of_rounds (rounds_from [] 0 trace) some h)
 
 -- Each batch fits a datagram
 
@@ -222,27 +244,11 @@ module _ (per : ℕ) (some : 1 ≤ per) (few : per ≤ 255) where
       by true e more next = more e
       by false e more next = (full e a, next)
 
-  fits_at : (port : ℕ) (batches : List (List Request)) → AllByRecursion Fits batches → AllByRecursion (λ g. Fits g.requests) (groups_at port batches)
-  fits_at port [] h = tt
-  fits_at port (b ∷ bs) h = (h.0, fits_at port bs h.1)
-
-fits_range : (options : AskOptions) (round : List Request) (a n : ℕ) → IsValidAsk options → AllByRecursion (IsRequest VERSION) round → AllByRecursion (λ g. Fits g.requests) (flat_map (groups_in options round) (range_with_len a n))
-fits_range options round a zero valid h = tt
-fits_range options round a (suc n) valid h =
-    let own = filter (is_in_partition options a) round in
-    all_append (λ g. Fits g.requests) (groups_in options round a) (flat_map (groups_in options round) (range_with_len (a + 1) n))
-    (fits_at options.per valid.per.0 valid.per.1 (port_of options a) (cut options.per [] own)
-    (fits_cut options.per valid.per.0 valid.per.1 [] own (inl refl) (all_filter (IsRequest VERSION) (is_in_partition options a) round h)))
-    (fits_range options round (a + 1) n valid h)
-
-fits_flat : (options : AskOptions) (rounds : List (List Request)) → IsValidAsk options → AllByRecursion (AllByRecursion (IsRequest VERSION)) rounds → AllByRecursion (λ g. Fits g.requests) (flat_map (groups_of_round options) rounds)
-fits_flat options [] valid h = tt
-fits_flat options (round ∷ rounds) valid h =
-    all_append (λ g. Fits g.requests) (groups_of_round options round) (flat_map (groups_of_round options) rounds)
-    (fits_range options round 0 options.partitions valid h.0) (fits_flat options rounds valid h.1)
-
 pub groups_fit : (options : AskOptions) (trace : List TraceLine) → IsValidAsk options → AllByRecursion (IsRequest VERSION) (requests_from 0 trace) → AllByRecursion (λ g. Fits g.requests) (groups_of options trace)
-groups_fit options trace valid h = fits_flat options (rounds_from [] 0 trace) valid (all_rounds (IsRequest VERSION) [] 0 trace tt h)
+groups_fit options trace valid h =
+    each_group Fits (AllByRecursion (IsRequest VERSION)) options
+    (λ round p own. fits_cut options.per valid.per.0 valid.per.1 [] (filter (is_in_partition options p) round) (inl refl) (all_filter (IsRequest VERSION) (is_in_partition options p) round own))
+    (rounds_from [] 0 trace) (each_round (of_each (IsRequest VERSION)) trace h)
 
 -- One request more
 
@@ -343,6 +349,18 @@ each_request P n (line ∷ lines) each =
     by None e later = later
     by (Some r) e later = (each 0 line r refl (ap (λ (m : ℕ). request_of m line) (let z : n + 0 ≡ n = omega arith in z) ∙ e), later)
 
+pub requests_rise : (n : ℕ) (lines : List TraceLine) → TicketsRise (requests_from n lines)
+requests_rise n [] = λ i j d before within. absurd (omega arith)
+requests_rise n (line ∷ lines) = by (request_of n line) refl (requests_rise (n + 1) lines)
+  where
+    by : (x : Option Request) → request_of n line ≡ x → TicketsRise (requests_from (n + 1) lines) → TicketsRise (in_front x (requests_from (n + 1) lines))
+    by None e later = later
+    by (Some r) e later =
+        let own = (of_line n line r e).ticket in
+        AllPairs-cons (λ one later. one.ticket < later.ticket) r (requests_from (n + 1) lines)
+        (All-from_recursion (λ other. r.ticket < other.ticket) (requests_from (n + 1) lines)
+        (each_request (λ other. r.ticket < other.ticket) (n + 1) lines (λ k l other at is. let t = (of_line (n + 1 + k) l other is).ticket in omega (arith, own, t)))) later
+
 line_at : (lines : List TraceLine) (k : ℕ) (line : TraceLine) → AllByRecursion IsTraceLine lines → slice_get lines k ≡ Some line → IsTraceLine line
 line_at [] k line all at = absurd (cc)
 line_at (x ∷ xs) zero line all at = let same : x ≡ line = cc in subst IsTraceLine same all.0
@@ -372,16 +390,6 @@ partition_more options round before groups after p so_far more =
     ∙ ap (λ (l : List Group). before ++ l) (sym (range_more (groups_in options round) 0 p))
     ∙ ap (λ (m : ℕ). before ++ flat_map (groups_in options round) (range_with_len 0 m)) (let e : suc p ≡ p + 1 = omega arith in e)
 
-requests_append : (n : ℕ) (xs : List TraceLine) (x : TraceLine) → requests_from n (xs ++ x ∷ []) ≡ requests_from n xs ++ in_front (request_of (n + length xs) x) []
-requests_append n [] x = ap (λ (m : ℕ). in_front (request_of m x) []) (let e : n ≡ n + 0 = omega arith in e)
-requests_append n (y ∷ ys) x =
-    by (request_of n y) (requests_append (n + 1) ys x ∙ ap (λ (m : ℕ). requests_from (n + 1) ys ++ in_front (request_of m x) []) (let e : n + 1 + length ys ≡ n + suc (length ys) = omega arith in e))
-  where
-    by : (o : Option Request) → requests_from (n + 1) (ys ++ x ∷ []) ≡ requests_from (n + 1) ys ++ in_front (request_of (n + suc (length ys)) x) []
-        → in_front o (requests_from (n + 1) (ys ++ x ∷ [])) ≡ in_front o (requests_from (n + 1) ys) ++ in_front (request_of (n + suc (length ys)) x) []
-    by None e = e
-    by (Some r) e = ap (λ (l : List Request). r ∷ l) e
-
 abbrev request_with : ℕ → TraceLine → Want → Request
 request_with n line want = record { want = want; ticket = n + 1; key = line.key; value = line.value }
 
@@ -408,136 +416,136 @@ other_some n line h = by line.op h
     by op.Touch e = (request_with n line TouchWant, refl)
     by op.Get e = (request_with n line GetWant, refl)
 
--- One line of a trace more
+-- One round more
 
-take_map : {A B : Type 0} (f : A → B) (n : ℕ) (xs : List A) → take n (map f xs) ≡ map f (take n xs)
-take_map f zero xs = refl
-take_map f (suc n) [] = refl
-take_map f (suc n) (x ∷ xs) = ap (λ l. f x ∷ l) (take_map f n xs)
+sync_round : (round : List Request) (n k next : ℕ) (lines : List TraceLine) → next ≡ n + suc k → k < length lines → is_sync (get_or lines k sync_line) ≡ true
+    → ((j : ℕ) → j < k → is_sync (get_or lines j sync_line) ≡ false) → rounds_from round n lines ≡ (round ++ requests_from n (take k lines)) ∷ rounds_from [] next (drop (suc k) lines)
+sync_round round n k next [] place within at before = absurd (omega arith)
+sync_round round n zero next (x ∷ xs) place within at before =
+    ap (λ (o : Option Request). on_line o round (λ r. rounds_from r (n + 1) xs)) (sync_none n x at)
+    ∙ ap (λ (m : ℕ). round ∷ rounds_from [] m xs) (let e : n + 1 ≡ next = omega (arith, place) in e)
+    ∙ ap (λ (r : List Request). r ∷ rounds_from [] next xs) (sym (append-nil round))
+sync_round round n (suc k) next (x ∷ xs) place within at before =
+    let some = other_some n x (before 0 (omega arith)) in
+    let rest = requests_from (n + 1) (take k xs) in
+    ap (λ (o : Option Request). on_line o round (λ r. rounds_from r (n + 1) xs)) some.1
+    ∙ sync_round (round ++ some.0 ∷ []) (n + 1) k next xs (omega (arith, place)) (omega arith) at (λ j below. before (suc j) (omega arith))
+    ∙ ap (λ (r : List Request). r ∷ rounds_from [] next (drop (suc k) xs)) (append_assoc round (some.0 ∷ []) rest)
+    ∙ ap (λ (o : Option Request). (round ++ in_front o rest) ∷ rounds_from [] next (drop (suc k) xs)) (sym some.1)
 
-drop_map : {A B : Type 0} (f : A → B) (n : ℕ) (xs : List A) → drop n (map f xs) ≡ map f (drop n xs)
-drop_map f zero xs = refl
-drop_map f (suc n) [] = refl
-drop_map f (suc n) (x ∷ xs) = drop_map f n xs
+last_round : (round : List Request) (n i : ℕ) (lines : List TraceLine) → position_from is_sync i lines ≡ None → rounds_from round n lines ≡ (round ++ requests_from n lines) ∷ []
+last_round round n i [] h = ap (λ (r : List Request). r ∷ []) (sym (append-nil round))
+last_round round n i (x ∷ xs) h = by (is_sync x) refl h (λ r k. last_round r (n + 1) (i + 1) xs k)
+  where
+    by : (b : Bool) → is_sync x ≡ b → cond b (Some i) (position_from is_sync (i + 1) xs) ≡ None
+        → ((r : List Request) → position_from is_sync (i + 1) xs ≡ None → rounds_from r (n + 1) xs ≡ (r ++ requests_from (n + 1) xs) ∷ [])
+        → rounds_from round n (x ∷ xs) ≡ (round ++ requests_from n (x ∷ xs)) ∷ []
+    by true e k later = absurd (cc)
+    by false e k later =
+        let some = other_some n x e in
+        ap (λ (o : Option Request). on_line o round (λ r. rounds_from r (n + 1) xs)) some.1
+        ∙ later (round ++ some.0 ∷ []) k
+        ∙ ap (λ (r : List Request). r ∷ []) (append_assoc round (some.0 ∷ []) (requests_from (n + 1) xs))
+        ∙ ap (λ (o : Option Request). (round ++ in_front o (requests_from (n + 1) xs)) ∷ []) (sym some.1)
 
-pub parts_range : (options : AskOptions) (lines : List TraceLine) (parts : List ℕ) (k n : ℕ) → parts ≡ parts_of options lines → take n (drop k parts) ≡ parts_of options (take n (drop k lines))
-parts_range options lines parts k n is =
-    let f = λ (line : TraceLine). partition_of line.key options.partitions in
-    ap (λ (p : List ℕ). take n (drop k p)) is ∙ ap (λ (p : List ℕ). take n p) (drop_map f k lines) ∙ take_map f n (drop k lines)
+-- the lines from the first of a round on
+abbrev rest_of : List TraceLine → ℕ → List TraceLine
+rest_of lines first = slice_range lines first (length lines)
 
-pub parts_rest : (options : AskOptions) (lines : List TraceLine) (parts : List ℕ) (k : ℕ) → parts ≡ parts_of options lines
-    → take (length parts - k) (drop k parts) ≡ parts_of options (take (length lines - k) (drop k lines))
-parts_rest options lines parts k is =
-    let f = λ (line : TraceLine). partition_of line.key options.partitions in
-    let long : length parts ≡ length lines = ap (λ (p : List ℕ). length p) is ∙ length-map lines f in
-    ap (λ (n : ℕ). take (n - k) (drop k parts)) long ∙ parts_range options lines parts k (length lines - k) is
+rest_is : (lines : List TraceLine) (first : ℕ) → rest_of lines first ≡ drop first lines
+rest_is lines first = take_all (length lines - first) (drop first lines) (omega (arith, length-drop first lines))
 
-next_line : (lines : List TraceLine) (n : ℕ) (x : TraceLine) → n < length lines → x ≡ get_or lines n x → drop n lines ≡ x ∷ drop (n + 1) lines
-next_line lines n x within is = at_drop_more (λ (l : List TraceLine). l) lines n x within ∙ ap (λ (y : TraceLine). y ∷ drop (n + 1) lines) (sym is)
+pub sync_within : (lines : List TraceLine) (first len : ℕ) → position is_sync (rest_of lines first) ≡ Some len → first + (len + 1) ≤ length lines
+sync_within lines first len place =
+    let below = (position-Some is_sync (rest_of lines first) len sync_line place).0 in
+    let same = ap (λ (l : List TraceLine). length l) (rest_is lines first) in
+    omega (arith, below, same, length-drop first lines)
 
-pub sync_step : (options : AskOptions) (lines : List TraceLine) (all groups after : List Group) (first n : ℕ) (x : TraceLine) → n < length lines → x ≡ get_or lines n x → is_sync x ≡ true
-    → groups ++ flat_map (groups_of_round options) (rounds_from (requests_from first (take (n - first) (drop first lines))) n (drop n lines)) ≡ all
-    → after ≡ groups ++ groups_of_round options (requests_from first (take (n - first) (drop first lines)))
-    → after ++ flat_map (groups_of_round options) (rounds_from (requests_from (n + 1) (take (n + 1 - (n + 1)) (drop (n + 1) lines))) (n + 1) (drop (n + 1) lines)) ≡ all
-sync_step options lines all groups after first n x within is sync so_far more =
-    let round = requests_from first (take (n - first) (drop first lines)) in
-    let rest = drop (n + 1) lines in
-    let none : n + 1 - (n + 1) ≡ 0 = omega arith in
-    ap (λ (m : ℕ). after ++ flat_map (groups_of_round options) (rounds_from (requests_from (n + 1) (take m rest)) (n + 1) rest)) none
-    ∙ ap (λ (l : List Group). l ++ flat_map (groups_of_round options) (rounds_from [] (n + 1) rest)) more
-    ∙ append_assoc groups (groups_of_round options round) (flat_map (groups_of_round options) (rounds_from [] (n + 1) rest))
-    ∙ ap (λ (o : Option Request). groups ++ flat_map (groups_of_round options) (on_line o round (λ r. rounds_from r (n + 1) rest))) (sym (sync_none n x sync))
-    ∙ ap (λ (l : List TraceLine). groups ++ flat_map (groups_of_round options) (rounds_from round n l)) (sym (next_line lines n x within is))
+pub round_more : (options : AskOptions) (lines : List TraceLine) (all groups after : List Group) (first len : ℕ) → position is_sync (rest_of lines first) ≡ Some len
+    → groups ++ flat_map (groups_of_round options) (rounds_from [] first (drop first lines)) ≡ all
+    → after ≡ groups ++ groups_of_round options (requests_from first (slice_range lines first (first + len)))
+    → after ++ flat_map (groups_of_round options) (rounds_from [] (first + (len + 1)) (drop (first + (len + 1)) lines)) ≡ all
+round_more options lines all groups after first len place so_far more =
+    let rest = drop first lines in
+    let found = position-Some is_sync rest len sync_line (ap (position is_sync) (sym (rest_is lines first)) ∙ place) in
+    let next : ℕ = first + (len + 1) in
+    let left : drop next lines ≡ drop (suc len) rest = ap (λ (m : ℕ). drop m lines) (let e : next ≡ first + suc len = omega arith in e) ∙ sym (drop-drop (suc len) first lines) in
+    ap (λ (l : List Group). l ++ flat_map (groups_of_round options) (rounds_from [] next (drop next lines))) more
+    ∙ append_assoc groups (groups_of_round options (requests_from first (slice_range lines first (first + len)))) (flat_map (groups_of_round options) (rounds_from [] next (drop next lines)))
+    ∙ ap (λ (m : ℕ). groups ++ (groups_of_round options (requests_from first (take m rest)) ++ flat_map (groups_of_round options) (rounds_from [] next (drop next lines)))) (let e : first + len - first ≡ len = omega arith in e)
+    ∙ ap (λ (l : List TraceLine). groups ++ (groups_of_round options (requests_from first (take len rest)) ++ flat_map (groups_of_round options) (rounds_from [] next l))) left
+    ∙ ap (λ (rounds : List (List Request)). groups ++ flat_map (groups_of_round options) rounds) (sym (sync_round [] first len next rest (omega arith) found.0 found.1 found.2))
     ∙ so_far
 
-round_more : (lines : List TraceLine) (first n : ℕ) (x : TraceLine) (r : Request) → first ≤ n → n < length lines → x ≡ get_or lines n x → request_of n x ≡ Some r
-    → requests_from first (take (n + 1 - first) (drop first lines)) ≡ requests_from first (take (n - first) (drop first lines)) ++ r ∷ []
-round_more lines first n x r order within is some =
-    let own = drop first lines in
-    let k = n - first in
-    let long = length-drop first lines in
-    let k_below : k < length own = omega (arith, long) in
-    let more : n + 1 - first ≡ k + 1 = omega arith in
-    let at : first + k ≡ n = omega arith in
-    let here : get_or own k x ≡ x = get_or-drop first lines k x ∙ ap (λ (m : ℕ). get_or lines m x) at ∙ sym is in
-    let count : length (take k own) ≡ k = length-take-le k own (omega arith) in
-    let place : first + length (take k own) ≡ n = omega (arith, count, at) in
-    ap (λ (m : ℕ). requests_from first (take m own)) more
-    ∙ ap (λ (l : List TraceLine). requests_from first l) (take_more own k x k_below)
-    ∙ ap (λ (y : TraceLine). requests_from first (take k own ++ y ∷ [])) here
-    ∙ requests_append first (take k own) x
-    ∙ ap (λ (m : ℕ). requests_from first (take k own) ++ in_front (request_of m x) []) place
-    ∙ ap (λ (o : Option Request). requests_from first (take k own) ++ in_front o []) some
-
-pub other_step : (options : AskOptions) (lines : List TraceLine) (all groups : List Group) (first n : ℕ) (x : TraceLine) → first ≤ n → n < length lines → x ≡ get_or lines n x → is_sync x ≡ false
-    → groups ++ flat_map (groups_of_round options) (rounds_from (requests_from first (take (n - first) (drop first lines))) n (drop n lines)) ≡ all
-    → groups ++ flat_map (groups_of_round options) (rounds_from (requests_from first (take (n + 1 - first) (drop first lines))) (n + 1) (drop (n + 1) lines)) ≡ all
-other_step options lines all groups first n x order within is other so_far =
-    let round = requests_from first (take (n - first) (drop first lines)) in
-    let rest = drop (n + 1) lines in
-    let some = other_some n x other in
-    ap (λ (q : List Request). groups ++ flat_map (groups_of_round options) (rounds_from q (n + 1) rest)) (round_more lines first n x some.0 order within is some.1)
-    ∙ ap (λ (o : Option Request). groups ++ flat_map (groups_of_round options) (on_line o round (λ r. rounds_from r (n + 1) rest))) (sym some.1)
-    ∙ ap (λ (l : List TraceLine). groups ++ flat_map (groups_of_round options) (rounds_from round n l)) (sym (next_line lines n x within is))
+pub round_last : (options : AskOptions) (lines : List TraceLine) (all groups after : List Group) (first : ℕ) → position is_sync (rest_of lines first) ≡ None
+    → groups ++ flat_map (groups_of_round options) (rounds_from [] first (drop first lines)) ≡ all → after ≡ groups ++ groups_of_round options (requests_from first (rest_of lines first)) → after ≡ all
+round_last options lines all groups after first none so_far more =
+    let rest = rest_of lines first in
+    more
+    ∙ ap (λ (l : List Group). groups ++ l) (sym (append-nil (groups_of_round options (requests_from first rest))))
+    ∙ ap (λ (rounds : List (List Request)). groups ++ flat_map (groups_of_round options) rounds) (sym (last_round [] first 0 rest (sym (position_from-zero is_sync rest) ∙ none)))
+    ∙ ap (λ (l : List TraceLine). groups ++ flat_map (groups_of_round options) (rounds_from [] first l)) (rest_is lines first)
     ∙ so_far
 
--- The batches are few
+-- The batches are few: each has a request, and no request is in two batches of one partition
 
-few_last : (group : List Request) → length (last_batch group) ≤ 1
-few_last [] = omega arith
-few_last (r ∷ rs) = omega arith
+abbrev all_of : List Group → List Request
+all_of groups = flat_map (λ g. g.requests) groups
 
-few_cut : (per : ℕ) (group requests : List Request) → length (cut per group requests) ≤ 2 * length requests + 1
-few_cut per group [] = let last = few_last group in omega arith
-few_cut per group (r ∷ rs) =
-    elim (joins per group r) as (λ b. length (cond b (cut per (group ++ r ∷ []) rs) (group ∷ cut per (r ∷ []) rs)) ≤ 2 * suc (length rs) + 1) [
-      | true ↦ (let more = few_cut per (group ++ r ∷ []) rs in omega arith)
-      | false ↦ (let more = few_cut per (r ∷ []) rs in omega arith)
-    ]
+have_some : (groups : List Group) → AllByRecursion (λ g. Fits g.requests) groups → length groups ≤ length (all_of groups)
+have_some [] h = omega arith
+have_some (g ∷ gs) h =
+    let more = have_some gs h.1 in
+    let some = h.0.some in
+    let both = length-append g.requests (all_of gs) in
+    omega (arith, more, some, both)
 
-few_filter : (test : Request → Bool) (xs : List Request) → length (filter test xs) ≤ length xs
-few_filter test [] = omega arith
-few_filter test (x ∷ xs) =
-    elim (test x) as (λ b. length (cond b (x ∷ filter test xs) (filter test xs)) ≤ suc (length xs)) [
-      | true ↦ (let more = few_filter test xs in omega arith)
-      | false ↦ (let more = few_filter test xs in omega arith)
-    ]
+own_count : (options : AskOptions) (round : List Request) (p : ℕ) → length (all_of (groups_in options round p)) ≤ length round
+own_count options round p =
+    let test = is_in_partition options p in
+    let own : all_of (groups_in options round p) ≡ filter test round = flat_map-map (λ (g : Group). g.requests) _ (own_batches options round p) ∙ flat_cut options.per [] (filter test round) in
+    let long = ap (λ (l : List Request). length l) own in
+    let passing = length-filter test round in
+    let few = count_by-le-length test round in
+    omega (arith, long, passing, few)
 
-few_range : (options : AskOptions) (round : List Request) (a n : ℕ) → length (flat_map (groups_in options round) (range_with_len a n)) ≤ n * (2 * length round + 1)
-few_range options round a zero = omega arith
-few_range options round a (suc n) =
-    let own = filter (is_in_partition options a) round in
-    let batches = cut options.per [] own in
-    let more = few_range options round (a + 1) n in
-    let here : length (groups_in options round a) ≡ length batches = length-map batches _ in
-    let count = few_cut options.per [] own in
-    let fewer = few_filter (is_in_partition options a) round in
-    let both = length-append (groups_in options round a) (flat_map (groups_in options round) (range_with_len (a + 1) n)) in
-    let times : suc n * (2 * length round + 1) ≡ (2 * length round + 1) + n * (2 * length round + 1) = omega arith in
-    omega (arith, more, here, count, fewer, both, times)
+range_count : (options : AskOptions) (round : List Request) (a n : ℕ) → length (all_of (flat_map (groups_in options round) (range_with_len a n))) ≤ length round * n
+range_count options round a zero = omega arith
+range_count options round a (suc n) =
+    let here = groups_in options round a in
+    let later = flat_map (groups_in options round) (range_with_len (a + 1) n) in
+    let split = ap (λ (l : List Request). length l) (flat_map-append (λ (g : Group). g.requests) here later) in
+    let both = length-append (all_of here) (all_of later) in
+    let own = own_count options round a in
+    let more = range_count options round (a + 1) n in
+    let times : length round * suc n ≡ length round + length round * n = omega arith in
+    omega (arith, split, both, own, more, times)
 
-few_round : (options : AskOptions) (round : List Request) → options.partitions ≤ 16 → length (groups_of_round options round) ≤ 16 * (2 * length round + 1)
-few_round options round most =
-    let range = few_range options round 0 options.partitions in
-    let wide : options.partitions * (2 * length round + 1) ≤ 16 * (2 * length round + 1) = grind (arith, most) in
-    omega (arith, range, wide)
+rounds_count : (options : AskOptions) (rounds : List (List Request)) → options.partitions ≤ 16 → length (all_of (flat_map (groups_of_round options) rounds)) ≤ 16 * length (flat rounds)
+rounds_count options [] most = omega arith
+rounds_count options (round ∷ rounds) most =
+    let later = flat_map (groups_of_round options) rounds in
+    let split = ap (λ (l : List Request). length l) (flat_map-append (λ (g : Group). g.requests) (groups_of_round options round) later) in
+    let both = length-append (all_of (groups_of_round options round)) (all_of later) in
+    let own = range_count options round 0 options.partitions in
+    let wide = mul-le-mul_left (length round) most in
+    let more = rounds_count options rounds most in
+    let long = length-append round (flat rounds) in
+    omega (arith, split, both, own, wide, more, long)
 
-few_flat : (options : AskOptions) (round : List Request) (n : ℕ) (lines : List TraceLine) → options.partitions ≤ 16
-    → length (flat_map (groups_of_round options) (rounds_from round n lines)) ≤ 32 * (length round + length lines) + 16 * length lines + 16
-few_flat options round n [] most =
-    let here = few_round options round most in
-    let both = length-append (groups_of_round options round) [] in
-    omega (arith, here, both)
-few_flat options round n (line ∷ lines) most =
-    elim (request_of n line) as (λ x. length (flat_map (groups_of_round options) (on_line x round (λ r. rounds_from r (n + 1) lines)))
-    ≤ 32 * (length round + suc (length lines)) + 16 * suc (length lines) + 16) [
-      | None ↦ (let here = few_round options round most in let more = few_flat options [] (n + 1) lines most in
-          let both = length-append (groups_of_round options round) (flat_map (groups_of_round options) (rounds_from [] (n + 1) lines)) in omega (arith, here, more, both))
-      | Some r ↦ (let more = few_flat options (round ++ r ∷ []) (n + 1) lines most in let long = length-append round (r ∷ []) in omega (arith, more, long))
-    ]
+requests_count : (n : ℕ) (lines : List TraceLine) → length (requests_from n lines) ≤ length lines
+requests_count n [] = omega arith
+requests_count n (line ∷ lines) =
+    let more = requests_count (n + 1) lines in
+    elim (request_of n line) as (λ x. length (in_front x (requests_from (n + 1) lines)) ≤ suc (length lines)) [ None ↦ omega (arith, more) | Some r ↦ omega (arith, more) ]
 
-pub few_groups : (options : AskOptions) (trace : List TraceLine) → options.partitions ≤ 16 → length trace ≤ 100000 → length (groups_of options trace) < 4294967295
-few_groups options trace most few = let all = few_flat options [] 0 trace most in omega (arith, all, few)
+pub few_groups : (options : AskOptions) (trace : List TraceLine) → IsValidAsk options → AllByRecursion IsTraceLine trace → length trace ≤ 100000 → length (groups_of options trace) < 4294967295
+few_groups options trace valid lawful few =
+    let some = have_some (groups_of options trace) (groups_fit options trace valid (requests_lawful 0 trace lawful)) in
+    let all = rounds_count options (rounds_from [] 0 trace) valid.partitions.1 in
+    let long = ap (λ (l : List Request). length l) (flat_rounds [] 0 trace) in
+    let own = requests_count 0 trace in
+    omega (arith, some, all, long, own, few)
 
 -- the text of a batch is not empty
 pub batch_some : (batch : Batch) → 0 < length (batch_text batch)

@@ -8,3 +8,4 @@ pub mod Whole
 pub mod Passing
 pub mod Replied
 pub mod Deciding
+pub mod Searching

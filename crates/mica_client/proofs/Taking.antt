@@ -1,17 +1,17 @@
 -- What replies make of the answers: none that was known is lost, each reply makes one known, and each is a line for its line of the trace.
 use Rattle.std.proofs.Common.{◌≡◌, ◌≤◌, ◌<◌, ℕ, zero, suc, ◌+◌, ◌-◌, ◌==◌, Bool, true, false, List, [], ◌∷◌, length, refl, sym, ap, subst, ◌∙◌, arith, get_or, set, cond, Option, Some, None, is_some, is_none, Result, Ok, Err, option_map, option_and_then}
 use Rattle.std.specs.Prelude.{slice_get, find, nat_le}
-use Rattle.std.specs.List.{All, AllByRecursion, list_all}
+use Rattle.std.specs.List.{AllByRecursion, list_all}
 use Rattle.std.proofs.lemmas.Bool.{eqb-true, leb-true, and_parts}
 use Rattle.std.proofs.lemmas.List.{length-set}
 use Rattle.std.proofs.lemmas.List.Sums.{sum_by-set}
 use Rattle.std.proofs.lemmas.List.Elements.{recursion_from_All}
 use Rattle.mica_words.specs.declared.item.TheConstants.{MAX_VALUE_LEN}
 use Rattle.mica_words.specs.Item.{ValueFits}
-use Rattle.mica_model.specs.declared.write.Op.{Op}
-use Rattle.mica_model.specs.declared.write.Op.TheVariants.{Put as PutOp, Add as AddOp, Touch as TouchOp, Del as DelOp}
-use Rattle.mica_model.specs.declared.write.Outcome.{Outcome}
-use Rattle.mica_model.specs.declared.write.Outcome.TheVariants.{Stored, Deleted, Absent, Touched, FullSpare, FullBlock, Worn, Exists}
+use Rattle.partition_model.specs.declared.write.Op.{Op}
+use Rattle.partition_model.specs.declared.write.Op.TheVariants.{Put as PutOp, Add as AddOp, Touch as TouchOp, Del as DelOp}
+use Rattle.partition_model.specs.declared.write.Outcome.{Outcome}
+use Rattle.partition_model.specs.declared.write.Outcome.TheVariants.{Stored, Deleted, Absent, Touched, FullSpare, FullBlock, Worn, Exists}
 use Rattle.mica_trace.specs.declared.line.TraceOp.{TraceOp}
 use Rattle.mica_trace.specs.declared.line.TraceOp.TheVariants as op
 use Rattle.mica_trace.specs.declared.line.TraceLine.{TraceLine}
@@ -30,7 +30,7 @@ use Rattle.mica_client.specs.declared.options.TheConstants.{VERSION}
 use Rattle.mica_client.specs.declared.fault.AskFault.{AskFault}
 use Rattle.mica_client.specs.declared.fault.AskFault.TheVariants.{Stranger, Double}
 use Rattle.mica_client.specs.Batches.{request_of, want_of}
-use Rattle.mica_client.specs.Answers.{Answers, HasTicketIn, wrote, is_answered, line_of, line_of_get, outcome_of_put, outcome_of_add, outcome_of_touch, outcome_of_del, is_printable, want_at, by_line, by_want, after_one, after_replies, go_on, open_answers, AreFor, IsOfTrace, KeepsAnswers}
+use Rattle.mica_client.specs.Answers.{Answers, HasTicketIn, HasTickets, wrote, is_answered, line_of, line_of_get, outcome_of_put, outcome_of_add, outcome_of_touch, outcome_of_del, is_printable, want_at, by_line, by_want, after_one, after_replies, go_on, open_answers, AreFor, IsOfTrace, KeepsAnswers}
 
 -- a list of answers with one more known
 
@@ -221,14 +221,17 @@ of_line n line request h = by (want_of line.op) refl h
 
 -- one reply
 
+pub same_tickets : {requests : List Request} {a b : ℕ} → a ≡ b → HasTickets a requests → HasTickets b requests
+same_tickets {requests} same has = subst (λ (n : ℕ). HasTickets n requests) same has
+
 pub record KeepsOne (requests : List Request) (old new : Answers) : Type 0 where
   pub keeps : KeepsAnswers requests old new
   pub one_less : open_answers new + 1 ≡ open_answers old
 
-pub keeps_one : (batch : Batch) (reply : Reply) (old new : Answers) → TookOne batch reply old new → IsReply VERSION reply → All (HasTicketIn (length old)) batch.requests → KeepsOne batch.requests old new
+pub keeps_one : (batch : Batch) (reply : Reply) (old new : Answers) → TookOne batch reply old new → IsReply VERSION reply → HasTickets (length old) batch.requests → KeepsOne batch.requests old new
 keeps_one batch reply old new took lawful tickets =
     let t = reply.ticket in
-    let found = asked (HasTicketIn (length old)) batch.requests t took.want (recursion_from_All _ batch.requests tickets) took.at in
+    let found = asked (HasTicketIn (length old)) batch.requests t took.want (recursion_from_All _ batch.requests tickets.within) took.at in
     let low : 1 ≤ t = subst (λ n. 1 ≤ n) found.ticket_is found.holds.0 in
     let high : t ≤ length old = subst (λ n. n ≤ length old) found.ticket_is found.holds.1 in
     let made = took.made in
@@ -268,7 +271,7 @@ keeps_both requests a b c x y = record {
 }
 
 pub keeps_replies : (batch : Batch) (number : ℕ) (replies : List Reply) (old new : Answers) → after_replies batch number replies old ≡ Ok new
-    → AllByRecursion (IsReply VERSION) replies → All (HasTicketIn (length old)) batch.requests → KeepsMany batch.requests (length replies) old new
+    → AllByRecursion (IsReply VERSION) replies → HasTickets (length old) batch.requests → KeepsMany batch.requests (length replies) old new
 keeps_replies batch number [] old new h lawful tickets =
     let same : old ≡ new = cc in
     record {
@@ -279,12 +282,12 @@ keeps_replies batch number (r ∷ rs) old new h lawful tickets =
     by (after_one batch number r old) refl h (λ mid k t. keeps_replies batch number rs mid new k lawful.1 t)
   where
     by : (x : Result Answers AskFault) → after_one batch number r old ≡ x → go_on x (after_replies batch number rs) ≡ Ok new
-        → ((mid : Answers) → after_replies batch number rs mid ≡ Ok new → All (HasTicketIn (length mid)) batch.requests → KeepsMany batch.requests (length rs) mid new)
+        → ((mid : Answers) → after_replies batch number rs mid ≡ Ok new → HasTickets (length mid) batch.requests → KeepsMany batch.requests (length rs) mid new)
         → KeepsMany batch.requests (length (r ∷ rs)) old new
     by (Err fault) e k later = absurd (cc)
     by (Ok mid) e k later =
         let first = keeps_one batch r old mid (took_one batch number r old mid e) lawful.0 tickets in
-        let rest = later mid k (subst (λ (n : ℕ). All (HasTicketIn n) batch.requests) (sym first.keeps.len) tickets) in
+        let rest = later mid k (same_tickets (sym first.keeps.len) tickets) in
         record { keeps = keeps_both batch.requests old mid new first.keeps rest.keeps; less = omega (arith, first.one_less, rest.less) }
 
 -- the lengths alone
@@ -293,7 +296,7 @@ same_length batch number reply old new h =
     let took = took_one batch number reply old new h in ap (λ (a : Answers). length a) took.made ∙ length-set old (reply.ticket - 1) (Some took.line)
 
 -- the ticket of a request of the batch is that of a line
-pub ticket_in : (lines : ℕ) (requests : List Request) (ticket : ℕ) (want : Want) → All (HasTicketIn lines) requests → want_at requests ticket ≡ Some want → (1 ≤ ticket) × (ticket ≤ lines)
+pub ticket_in : (lines : ℕ) (requests : List Request) (ticket : ℕ) (want : Want) → HasTickets lines requests → want_at requests ticket ≡ Some want → (1 ≤ ticket) × (ticket ≤ lines)
 ticket_in lines requests ticket want all h =
-    let found = asked (HasTicketIn lines) requests ticket want (recursion_from_All _ requests all) h in
+    let found = asked (HasTicketIn lines) requests ticket want (recursion_from_All _ requests all.within) h in
     (subst (λ (n : ℕ). 1 ≤ n) found.ticket_is found.holds.0, subst (λ (n : ℕ). n ≤ lines) found.ticket_is found.holds.1)

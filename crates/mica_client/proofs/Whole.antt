@@ -21,10 +21,10 @@ use Rattle.mica_client.specs.declared.batches.Group.{Group}
 use Rattle.mica_client.specs.declared.options.TheConstants.{VERSION}
 use Rattle.mica_client.specs.AskOptions.{IsValidAsk}
 use Rattle.mica_client.specs.Batches.{groups_of, requests_from, request_of, in_front}
-use Rattle.mica_client.specs.Answers.{Answers, unanswered, is_answered, HasTicketIn, AreFor, IsOfTrace, KeepsAll, AnswerIsKnown}
+use Rattle.mica_client.specs.Answers.{Answers, unanswered, is_answered, HasTicketIn, TicketsRise, HasTickets, AreFor, IsOfTrace, KeepsAll, AnswerIsKnown}
 use Rattle.mica_client.specs.Exchange.{lacks_answer}
 use Rattle.mica_client.proofs.Taking.{of_line}
-use Rattle.mica_client.proofs.Cutting.{Fits, groups_fit, all_groups, all_lines, each_request, requests_lawful, other_some, all_each}
+use Rattle.mica_client.proofs.Cutting.{Fits, of_each, of_rise, groups_fit, all_groups, all_lines, each_request, requests_lawful, requests_rise, other_some, all_each}
 use Rattle.mica_client.proofs.Asking.{AreBatches, HaveTickets, OfTrace, Answered}
 
 all_both : {X : Type 0} (P Q R : X → Type 0) → ((x : X) → P x → Q x → R x) → (xs : List X) → AllByRecursion P xs → AllByRecursion Q xs → AllByRecursion R xs
@@ -36,17 +36,19 @@ are_batches options trace valid lawful n =
     let requests = requests_lawful 0 trace lawful in
     all_both (λ (g : Group). Fits g.requests) (λ (g : Group). AllByRecursion (IsRequest VERSION) g.requests) (λ (g : Group). IsBatch (record { version = VERSION; number = n; requests = g.requests }))
     (λ g fits each. record { version = refl; fits = fits; each = All-from_recursion (IsRequest VERSION) g.requests each })
-    (groups_of options trace) (groups_fit options trace valid requests) (all_groups (IsRequest VERSION) options trace requests)
+    (groups_of options trace) (groups_fit options trace valid requests) (all_groups (of_each (IsRequest VERSION)) options trace requests)
 
 pub have_tickets : (options : AskOptions) (trace : List TraceLine) → HaveTickets (length trace) (groups_of options trace)
 have_tickets options trace =
     let P = λ (r : Request). HasTicketIn (length trace) r in
     let each = each_request P 0 trace (λ k line r at is. let of = of_line (0 + k) line r is in let t = of.ticket in let within = slice_get_within trace k line at in (omega (arith, t), omega (arith, t, within))) in
-    all_each (λ (g : Group). AllByRecursion P g.requests) (λ (g : Group). All P g.requests) (λ g all. All-from_recursion P g.requests all) (groups_of options trace) (all_groups P options trace each)
+    all_both (λ (g : Group). AllByRecursion P g.requests) (λ (g : Group). TicketsRise g.requests) (λ (g : Group). HasTickets (length trace) g.requests)
+    (λ g all rise. record { within = All-from_recursion P g.requests all; rise = rise })
+    (groups_of options trace) (all_groups (of_each P) options trace each) (all_groups of_rise options trace (requests_rise 0 trace))
 
 pub of_trace : (options : AskOptions) (trace : List TraceLine) → OfTrace trace (groups_of options trace)
 of_trace options trace =
-    all_groups (IsOfTrace trace) options trace
+    all_groups (of_each (IsOfTrace trace)) options trace
     (each_request (IsOfTrace trace) 0 trace (λ k line r at is. record { place = k; line = line; at = at; is = ap (λ (m : ℕ). request_of m line) (let e : k ≡ 0 + k = omega arith in e) ∙ is }))
 
 -- Each line has its answer

@@ -1,10 +1,10 @@
 -- What replies make of the lines that a report is to have.
-use Rattle.std.specs.Prelude.{◌≡◌, ◌≤◌, true, ℕ, ◌-◌, ◌==◌, ◌&&◌, Bool, List, [], ◌∷◌, map, length, slice_get, slice_set, nat_le, find, count_by, is_some, is_none, IfSome, if◌then◌else◌, Option, Some, None, option_map, option_and_then, Result, Ok, Err}
-use Rattle.std.specs.List.{list_all, AllZip, AllByRecursion}
-use Rattle.mica_model.specs.declared.write.Op.{Op}
-use Rattle.mica_model.specs.declared.write.Op.TheVariants.{Put as PutOp, Add as AddOp, Touch as TouchOp, Del as DelOp}
-use Rattle.mica_model.specs.declared.write.Outcome.{Outcome}
-use Rattle.mica_model.specs.declared.write.Outcome.TheVariants.{Stored, Deleted, Absent, Touched, FullSpare, FullBlock, Worn, Exists}
+use Rattle.std.specs.Prelude.{◌≡◌, ◌≤◌, ◌<◌, true, ℕ, ◌-◌, ◌==◌, ◌&&◌, Bool, List, [], ◌∷◌, map, length, slice_get, slice_set, nat_le, find, count_by, is_some, is_none, IfSome, if◌then◌else◌, Option, Some, None, option_map, option_and_then, Result, Ok, Err}
+use Rattle.std.specs.List.{All, AllPairs, list_all, AllZip, AllByRecursion}
+use Rattle.partition_model.specs.declared.write.Op.{Op}
+use Rattle.partition_model.specs.declared.write.Op.TheVariants.{Put as PutOp, Add as AddOp, Touch as TouchOp, Del as DelOp}
+use Rattle.partition_model.specs.declared.write.Outcome.{Outcome}
+use Rattle.partition_model.specs.declared.write.Outcome.TheVariants.{Stored, Deleted, Absent, Touched, FullSpare, FullBlock, Worn, Exists}
 use Rattle.mica_trace.specs.declared.line.TraceLine.{TraceLine}
 use Rattle.mica_trace.specs.declared.report.Line.{Line}
 use Rattle.mica_trace.specs.declared.report.Line.TheVariants.{Wrote, Hit, Miss, Sync}
@@ -38,6 +38,15 @@ is_answered answers ticket = is_some (answer_of answers ticket)
 -- the ticket is that of one of so many lines
 abbrev pub HasTicketIn : ℕ → Request → Type 0
 HasTicketIn lines request = (1 ≤ request.ticket) × (request.ticket ≤ lines)
+
+-- each ticket is below those of the later requests
+abbrev pub TicketsRise : List Request → Type 0
+TicketsRise requests = AllPairs (λ one later. one.ticket < later.ticket) requests
+
+-- the tickets are those of so many lines, and rise
+pub record HasTickets (lines : ℕ) (requests : List Request) : Type 0 where
+  pub within : All (HasTicketIn lines) requests
+  pub rise : TicketsRise requests
 
 abbrev pub AnswerIsKnown : Option Line → Type 0
 AnswerIsKnown answer = is_some answer ≡ true

@@ -1,5 +1,5 @@
 -- The ranges of the options of a client.
-use Rattle.mica_model.specs.Options.{InRange}
+use Rattle.partition_model.specs.Options.{InRange}
 use Rattle.mica_client.specs.declared.options.AskOptions.{AskOptions}
 
 pub record IsValidAsk (options : AskOptions) : Type 0 where

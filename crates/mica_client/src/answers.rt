@@ -1,14 +1,14 @@
 //! What replies make of the lines that a report is to have.
 ghost use Rattle.std.specs.Prelude.{◌≡◌, ◌<◌, ◌≤◌, ◌-◌, length, map, option_map, false, All, Ok, Err, Some, IfErr, IfOk, OnOk};
 ghost use Rattle.std.specs.List.{list_all};
-ghost use Rattle.mica_client.specs.Answers.{unanswered, is_answered, is_printable, line_of_get, outcome_of_put, outcome_of_add, outcome_of_touch, outcome_of_del, wrote, line_of, want_at, after_one, after_replies, HasTicketIn, AnswerIsKnown, IsOfReply};
+ghost use Rattle.mica_client.specs.Answers.{unanswered, is_answered, is_printable, line_of_get, outcome_of_put, outcome_of_add, outcome_of_touch, outcome_of_del, wrote, line_of, want_at, after_one, after_replies, TicketsRise, HasTickets, AnswerIsKnown, IsOfReply};
 ghost use Rattle.mica_client.specs.Exchange.{is_lost};
 
 use crate::AskFault;
 use batch_packets::{Batch, Reply, Request, Want};
 use mica_io::NoMemory;
-use mica_model::{Op, Outcome};
 use mica_trace::{Line, Report, TraceLine};
+use partition_model::{Op, Outcome};
 use std::alloc::Global;
 
 /// The answers before any reply: a sync needs none.
@@ -135,12 +135,13 @@ fn line_of(want: Want, reply: Reply) -> Option<Line>
 
 // What the request with this ticket asks for.
 fn want_at(requests: &[Request], ticket: u32) -> Option<Want>
+    requires { TicketsRise requests.now }
     ensures { result ≡ want_at requests.now ticket }
 {
-    requests
-        .iter()
-        .find(|request| request.ticket == ticket)
-        .map(|request| request.want)
+    match requests.binary_search_by_key(&ticket, |request| request.ticket) {
+        Ok(place) => Some(requests[place].want),
+        Err(_) => None,
+    }
 }
 
 // Takes one reply of a datagram of this number, while the batch waits.
@@ -150,7 +151,7 @@ fn take_reply(
     reply: Reply,
     answers: &mut Vec<Option<Line>>,
 ) -> Result<(), AskFault>
-    requires { All (HasTicketIn (length answers.old.items)) batch.now.requests }
+    requires { HasTickets (length answers.old.items) batch.now.requests }
     ensures taken { OnOk result (after_one batch.now number reply answers.old.items ≡ Ok answers.new.items) }
     ensures shown { IfErr result (λ fault. after_one batch.now number reply answers.old.items ≡ Err fault) }
     ensures fault { IfErr result IsOfReply }
@@ -180,7 +181,7 @@ pub fn take_replies(
     replies: Vec<Reply>,
     answers: &mut Vec<Option<Line>>,
 ) -> Result<(), AskFault>
-    requires { All (HasTicketIn (length answers.old.items)) batch.now.requests }
+    requires { HasTickets (length answers.old.items) batch.now.requests }
     ensures taken { OnOk result (after_replies batch.now number replies.items answers.old.items ≡ Ok answers.new.items) }
     ensures shown { IfErr result (λ fault. after_replies batch.now number replies.items answers.old.items ≡ Err fault) }
     ensures fault { IfErr result IsOfReply }

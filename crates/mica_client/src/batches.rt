@@ -1,9 +1,9 @@
 //! The batches that a trace is sent in.
-ghost use Rattle.std.specs.Prelude.{◌≡◌, ◌<◌, ◌≤◌, ◌+◌, ◌∷◌, ◌++◌, [], List, length, filter, IfOk, OnOk};
+ghost use Rattle.std.specs.Prelude.{◌≡◌, ◌<◌, ◌≤◌, ◌+◌, ◌∷◌, ◌++◌, [], List, length, filter, position, IfOk, OnOk};
 ghost use Rattle.std.specs.List.{AllByRecursion};
 ghost use Rattle.mica_words.specs.Hash.{partition_of};
 ghost use Rattle.mica_trace.specs.declared.line.TraceLine.{TraceLine};
-ghost use Rattle.mica_trace.specs.TraceGrammar.{IsTraceLine};
+ghost use Rattle.mica_trace.specs.TraceGrammar.{IsTraceLine, is_sync};
 ghost use Rattle.mica_client.specs.declared.options.AskOptions.{AskOptions};
 ghost use Rattle.batch_packets.specs.declared.batch.Request.{Request};
 ghost use Rattle.batch_packets.specs.BatchGrammar.{IsRequest};
@@ -203,28 +203,6 @@ fn push_partition(
     )
 }
 
-// The batches of a round.
-fn push_round(
-    alloc: Global,
-    options: &AskOptions,
-    first: u32,
-    lines: &[TraceLine],
-    parts: &[u32],
-    groups: &mut Vec<Group>,
-) -> Result<(), NoMemory>
-    requires valid { IsValidAsk options.now }
-    requires lawful { AllByRecursion IsTraceLine lines.now }
-    requires parts { parts.now ≡ parts_of options.now lines.now }
-    requires few { first + length lines.now ≤ 100000 }
-    ensures { OnOk result (groups.new.items
-        ≡ groups.old.items ++ groups_of_round options.now (requests_from first lines.now)) }
-{
-    for partition in 0..options.partitions {
-        push_partition(alloc, options, partition, first, lines, parts, groups)?;
-    }
-    Ok(())
-}
-
 // The partition of a line's key.
 #[tactic(auto, unfolding(mica_words::specs::Hash::partition_of))]
 fn part_of(options: &AskOptions, line: &TraceLine) -> u32
@@ -246,6 +224,35 @@ fn parts_of(alloc: Global, options: &AskOptions, lines: &[TraceLine]) -> Result<
     Ok(parts)
 }
 
+// The batches of a round, which begins with line `first`.
+fn push_round(
+    alloc: Global,
+    options: &AskOptions,
+    first: u32,
+    lines: &[TraceLine],
+    groups: &mut Vec<Group>,
+) -> Result<(), NoMemory>
+    requires valid { IsValidAsk options.now }
+    requires lawful { AllByRecursion IsTraceLine lines.now }
+    requires few { first + length lines.now ≤ 100000 }
+    ensures { OnOk result (groups.new.items
+        ≡ groups.old.items ++ groups_of_round options.now (requests_from first lines.now)) }
+{
+    let parts = parts_of(alloc, options, lines)?;
+    let parts = parts.as_slice();
+    for partition in 0..options.partitions {
+        push_partition(alloc, options, partition, first, lines, parts, groups)?;
+    }
+    Ok(())
+}
+
+// The place of the first sync.
+fn first_sync(lines: &[TraceLine]) -> Option<usize>
+    ensures { result ≡ position is_sync lines.now }
+{
+    lines.iter().position(|line| line.is_sync())
+}
+
 /// The batches that the lines of a trace are sent in, in order.
 pub fn groups_of(
     alloc: Global,
@@ -257,30 +264,13 @@ pub fn groups_of(
     requires few { length lines.now ≤ 100000 }
     ensures { IfOk result (λ groups. groups.items ≡ groups_of options.now lines.now) }
 {
-    let parts = parts_of(alloc, options, lines)?;
-    let parts = parts.as_slice();
     let mut groups = Vec::new(alloc);
     let mut first = 0;
-    for (number, line) in lines.iter().enumerate() {
-        if line.is_sync() {
-            push_round(
-                alloc,
-                options,
-                first as u32,
-                &lines[first..number],
-                &parts[first..number],
-                &mut groups,
-            )?;
-            first = number + 1;
-        }
+    while let Some(len) = first_sync(&lines[first..]) {
+        let round = &lines[first..first + len];
+        push_round(alloc, options, first as u32, round, &mut groups)?;
+        first += len + 1;
     }
-    push_round(
-        alloc,
-        options,
-        first as u32,
-        &lines[first..],
-        &parts[first..],
-        &mut groups,
-    )?;
+    push_round(alloc, options, first as u32, &lines[first..], &mut groups)?;
     Ok(groups)
 }

@@ -1,5 +1,5 @@
 //! The exchange with a server.
-ghost use Rattle.std.specs.Prelude.{◌≡◌, ◌<◌, ◌≤◌, ◌||◌, true, false, ℕ, None, length, All, IfOk, IfErr, OnOk, IsErrOf};
+ghost use Rattle.std.specs.Prelude.{◌≡◌, ◌<◌, ◌≤◌, ◌||◌, true, false, ℕ, None, length, IfOk, IfErr, OnOk, IsErrOf};
 ghost use Rattle.std.specs.List.{AllZip, AllByRecursion};
 ghost use Rattle.mica_io.specs.Faults.{Rose};
 ghost use Rattle.mica_trace.specs.LawfulReport.{IsLineFor};
@@ -9,7 +9,7 @@ ghost use Rattle.mica_client.specs.declared.options.TheConstants.{VERSION};
 ghost use Rattle.mica_client.specs.AskOptions.{IsValidAsk};
 ghost use Rattle.mica_client.specs.Talk.{OnTalk, Passes};
 ghost use Rattle.mica_client.specs.Batches.{numbered};
-ghost use Rattle.mica_client.specs.Answers.{HasTicketIn, KeepsAnswers, KeepsAll, open_answers};
+ghost use Rattle.mica_client.specs.Answers.{HasTickets, KeepsAnswers, KeepsAll, open_answers};
 ghost use Rattle.mica_client.specs.Exchange.{lacks_answer, start, standing_at, SpellsAnswers, IsUnread, AnswersBatch, IsCauseOf, MeansForAsk, Receives, StopsReading, StopsOne, Asks, StopsAsking, AsksAll, IsOfReading, is_lost};
 
 use crate::answers::{is_answered, report_of, take_replies, unanswered};
@@ -82,7 +82,7 @@ fn receive_one<L: Link>(
     room: &mut [u8],
 ) -> Result<(), AskFault>
     requires waits { lacks_answer answers.old.items batch.now.requests ≡ true }
-    requires tickets { All (HasTicketIn (length answers.old.items)) batch.now.requests }
+    requires tickets { HasTickets (length answers.old.items) batch.now.requests }
     requires room { length room.old ≡ ROOM }
     ensures taken { OnOk result (OnTalk (Receives (λ bytes. AnswersBatch batch.now answers.old.items bytes answers.new.items))
         (L.talk link.old) (L.talk link.new)) }
@@ -119,7 +119,7 @@ fn ask_one<L: Link>(
     room: &mut [u8],
 ) -> Result<(), AskFault>
     requires batch { IsBatch batch.now }
-    requires tickets { All (HasTicketIn (length answers.old.items)) batch.now.requests }
+    requires tickets { HasTickets (length answers.old.items) batch.now.requests }
     requires room { length room.old ≡ ROOM }
     ensures asks { OnOk result (OnTalk (Passes (Asks (record { port = port; batch = batch.now }) answers.old.items answers.new.items))
         (L.talk link.old) (L.talk link.new)) }
@@ -150,7 +150,7 @@ fn ask_all<L: Link>(
     answers: &mut Vec<Option<Line>>,
 ) -> Result<(), AskFault>
     requires batches { (n : ℕ) → AllByRecursion (λ group. IsBatch (record { version = VERSION; number = n; requests = group.requests })) groups.items }
-    requires tickets { AllByRecursion (λ group. All (HasTicketIn (length answers.old.items)) group.requests) groups.items }
+    requires tickets { AllByRecursion (λ group. HasTickets (length answers.old.items) group.requests) groups.items }
     requires few { length groups.items < 4294967295 }
     ensures asks { OnOk result (OnTalk (Passes (AsksAll (numbered 0 groups.items) answers.old.items answers.new.items))
         (L.talk link.old) (L.talk link.new)) }

@@ -26,7 +26,7 @@ pub ask_all-requires-clause-few : goal.ask_all-requires-clause-few
 ask_all-requires-clause-few g c =
     let lines = c.lines-lines.result.now in
     let short : length lines ≤ 100000 = let l = c.lines-lines.ensures.within.few_lines in let same = ap (λ (x : List TraceLine). length x) c.lines-lines.ensures.same in omega (arith, l, same) in
-    subst (λ (groups : List Group). length groups < 4294967295) (sym c.in-Ok.ensures) (few_groups c.args.options.now lines c.requires.partitions.1 short)
+    subst (λ (groups : List Group). length groups < 4294967295) (sym c.in-Ok.ensures) (few_groups c.args.options.now lines c.requires (subst (AllByRecursion IsTraceLine) (sym c.lines-lines.ensures.same) c.lines-lines.ensures.lines) short)
 
 pub report_of-requires-clause-known : goal.report_of-requires-clause-known
 report_of-requires-clause-known g c =

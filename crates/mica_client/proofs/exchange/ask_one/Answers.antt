@@ -1,9 +1,8 @@
-use Rattle.std.proofs.Common.{◌≡◌, ◌∙◌, true, arith, length, ap, sym, subst, ℕ, List}
-use Rattle.std.specs.List.{All}
-use Rattle.mica_client.specs.Answers.{Answers, HasTicketIn}
+use Rattle.std.proofs.Common.{◌≡◌, ◌∙◌, true, arith, length, ap, sym, ℕ, List}
+use Rattle.mica_client.specs.Answers.{Answers}
 use Rattle.mica_client.specs.Exchange.{lacks_answer}
 use Rattle.mica_client.proofs.Running.{asks_more, asks_stop}
-use Rattle.mica_client.proofs.Taking.{keeps_both}
+use Rattle.mica_client.proofs.Taking.{keeps_both, same_tickets}
 use Rattle.mica_client.proofs.Cutting.{batch_some}
 use Rattle.mica_client.proofs.exchange.ask_one.Goals as goal
 
@@ -14,7 +13,7 @@ receiving-preserved g c =
     record {
       asks = asks_more (record { port = c.args.port; batch = c.args.batch.now }) c.args.answers.now.items c.receiving.answers.items c.receive_one.new.answers.items _ _ _ i.asks e.taken;
       keeps = keeps_both c.args.batch.now.requests c.args.answers.now.items c.receiving.answers.items c.receive_one.new.answers.items i.keeps e.keeps;
-      tickets = subst (λ (n : ℕ). All (HasTicketIn n) c.args.batch.now.requests) (sym e.keeps.len) i.tickets;
+      tickets = same_tickets (sym e.keeps.len) i.tickets;
       room = omega (arith, i.room, c.receive_one.auto.room);
       ended = e.ended ∙ i.ended;
       faults = omega (arith, i.faults, e.never_fall);

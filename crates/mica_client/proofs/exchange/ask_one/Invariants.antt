@@ -1,7 +1,6 @@
 use Rattle.std.proofs.Common.{◌≡◌, ◌≤◌, length}
-use Rattle.std.specs.List.{All}
 use Rattle.mica_client.specs.Talk.{OnTalk, Passes}
-use Rattle.mica_client.specs.Answers.{HasTicketIn, KeepsAnswers, open_answers}
+use Rattle.mica_client.specs.Answers.{HasTickets, KeepsAnswers, open_answers}
 use Rattle.mica_client.specs.declared.exchange.TheConstants.{ROOM}
 use Rattle.mica_client.specs.Exchange.{Asks}
 use Rattle.mica_client.proofs.exchange.ask_one.Given as goal
@@ -10,7 +9,7 @@ abbrev pub invariant-receiving : goal.invariant-receiving
 invariant-receiving g l = record {
   asks : OnTalk (Passes (Asks (record { port = l.port; batch = l.batch }) l.fn.answers.items l.answers.items)) (g.L.Link.talk l.fn.link) (g.L.Link.talk l.link);
   keeps : KeepsAnswers l.batch.requests l.fn.answers.items l.answers.items;
-  tickets : All (HasTicketIn (length l.answers.items)) l.batch.requests;
+  tickets : HasTickets (length l.answers.items) l.batch.requests;
   room : length l.room ≡ ROOM;
   ended : g.L.Link.has_ended l.link ≡ g.L.Link.has_ended l.fn.link;
   faults : g.L.Link.faults l.fn.link ≤ g.L.Link.faults l.link;
