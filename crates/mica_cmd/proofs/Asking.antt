@@ -15,7 +15,7 @@ use Rattle.mica_cmd.specs.declared.status.Status.{Status}
 use Rattle.mica_cmd.specs.declared.status.Status.TheVariants.{Done, WriteFault}
 use Rattle.mica_cmd.specs.Outside.{SinkFacts, Outside}
 use Rattle.mica_cmd.specs.Promise.{IsDue, AppendsPart, KeepsPromise, WritesDue, IsTold}
-use Rattle.mica_cmd.specs.Input.{line_of, IsDueOfInput, IsDueOfTrace, NoneByTrace, ReadsInput, GivesTrace}
+use Rattle.mica_cmd.specs.Input.{with_line_feed, IsDueOfInput, IsDueOfTrace, NoneByTrace, ReadsInput, GivesTrace}
 use Rattle.mica_cmd.specs.Promises.{AnswersAs, fault_status, IsFaultLine, IsDueOfAsk, IsToldFault, ask_promise}
 use Rattle.mica_cmd.proofs.Keeping.{keeps_promise, stopped_trace}
 use Rattle.mica_cmd.proofs.Settled.{settles_ask}
@@ -38,8 +38,8 @@ module _ (options : AskOptions) (old new : Outside) where
 
   module _ (trace : List TraceLine) (given : GivesTrace old.source new.source trace) where
     -- the line of a fault is due with its status
-    fault_due : (fault : AskFault) → fault ≢ NoRoom → IsFaultLine options trace old new (fault_status fault) (line_of (ask_fault_text fault))
-        → IsDue (IsDueOfInput (IsDueOfTrace (IsDueOfAsk options old new)) old.source new.source) (fault_status fault) (line_of (ask_fault_text fault))
+    fault_due : (fault : AskFault) → fault ≢ NoRoom → IsFaultLine options trace old new (fault_status fault) (with_line_feed (ask_fault_text fault))
+        → IsDue (IsDueOfInput (IsDueOfTrace (IsDueOfAsk options old new)) old.source new.source) (fault_status fault) (with_line_feed (ask_fault_text fault))
     fault_due NoRoom named is = absurd (named refl)
     fault_due Unread named is = (given.0, given.1, (trace, given.2, is))
     fault_due (Stranger t) named is = (given.0, given.1, (trace, given.2, is))
@@ -66,7 +66,7 @@ module _ (options : AskOptions) (old new : Outside) where
           | inl memory ↦ inl memory
           | inr written ↦ inr (
             fault_status fault,
-            line_of (ask_fault_text fault),
+            with_line_feed (ask_fault_text fault),
             fault_due fault written.0 (record { fault = fault; status_is = refl; cause = answers; ended = ended; rose = rose; spelled = refl }),
             written.1,
           )

@@ -12,8 +12,8 @@ use Rattle.report_check.specs.declared.check.Verdict.{Verdict}
 use Rattle.report_check.specs.declared.check.Verdict.TheVariants.{Lawful as Legal, Unlawful as Illegal}
 use Rattle.report_check.specs.FirstUnlawful.{IsVerdict}
 use Rattle.mica_cmd.specs.CheckParts.{HasParts}
-use Rattle.mica_model.specs.declared.options.Options.{Options}
-use Rattle.mica_model.specs.Options.{IsValid}
+use Rattle.partition_model.specs.declared.options.Options.{Options}
+use Rattle.partition_model.specs.Options.{IsValid}
 use Rattle.mica_cmd.specs.declared.finding.Finding.{Finding}
 use Rattle.mica_cmd.specs.declared.finding.Finding.TheVariants.{Lawful, Unlawful, NoReport, BadReport, NoTrace}
 use Rattle.mica_cmd.specs.declared.status.Status.{Status}
@@ -22,7 +22,7 @@ use Rattle.mica_cmd.specs.Outside.{SourceFacts, Outside}
 use Rattle.mica_cmd.specs.Headline.{ReadsWhole}
 use Rattle.mica_cmd.specs.Findings.{FindsOfReport, FindsBehind, FindsOfParts, finding_by, Finds, finding_text, status_of}
 use Rattle.mica_cmd.specs.Promise.{IsDue, KeepsPromise, WritesDue, IsTold}
-use Rattle.mica_cmd.specs.Input.{line_of, IsDueOfInput, NoneByBytes, ReadsInput}
+use Rattle.mica_cmd.specs.Input.{with_line_feed, IsDueOfInput, NoneByBytes, ReadsInput}
 use Rattle.mica_cmd.specs.Promises.{IsDueOfCheck, IsKindOfCheck, check_promise}
 use Rattle.mica_cmd.proofs.Keeping.{Settles, keeps_promise, unwritten_promise, stopped_input, told_due}
 use Rattle.mica_cmd.proofs.Settled.{settles_input}
@@ -34,7 +34,7 @@ settles_check options valid =
     (λ _ _ status free bytes text is told. is.2 ∙ one_finding options valid bytes is.0 told.0 is.1 told.1 ∙ sym told.2)
 
 finding_due : (options : Options) (old new : SourceFacts) (bytes : List ℕ) (finding : Finding) → ReadsWhole old new bytes → Finds options bytes finding
-    → IsDue (IsDueOfInput (IsDueOfCheck options) old new) (status_of finding) (line_of (finding_text finding))
+    → IsDue (IsDueOfInput (IsDueOfCheck options) old new) (status_of finding) (with_line_feed (finding_text finding))
 finding_due options old new bytes Lawful read finds = (bytes, read, (Lawful, finds, refl, refl))
 finding_due options old new bytes (Unlawful n) read finds = (bytes, read, (Unlawful n, finds, refl, refl))
 finding_due options old new bytes NoReport read finds = (bytes, read, (NoReport, finds, refl, refl))
@@ -49,11 +49,11 @@ module _ (options : Options) (valid : IsValid options) (old new : Outside) where
       (stopped_input (IsDueOfCheck options) old.source new.source old.sink new.sink result writes) reads net tables link
 
   pub check_told : (bytes : List ℕ) (finding : Finding) (result : Status) → ReadsWhole old.source new.source bytes → Finds options bytes finding
-      → IsTold (status_of finding) (line_of (finding_text finding)) old.sink new.sink result
+      → IsTold (status_of finding) (with_line_feed (finding_text finding)) old.sink new.sink result
       → ReadsInput old.source new.source → new.net ≡ old.net → new.tables ≡ old.tables → new.link ≡ old.link → KeepsPromise (check_promise options) old new result
   check_told bytes finding result read finds told reads net tables link =
       keeps_promise (check_promise options) (settles_check options valid) old new result
-      (told_due (IsDueOfInput (IsDueOfCheck options) old.source new.source) old.sink new.sink (status_of finding) (line_of (finding_text finding)) result (finding_due options old.source new.source bytes finding read finds) told) reads net tables link
+      (told_due (IsDueOfInput (IsDueOfCheck options) old.source new.source) old.sink new.sink (status_of finding) (with_line_feed (finding_text finding)) result (finding_due options old.source new.source bytes finding read finds) told) reads net tables link
 
   pub check_unwritten : new.sink ≡ old.sink → ReadsInput old.source new.source → new.net ≡ old.net → new.tables ≡ old.tables → new.link ≡ old.link → KeepsPromise (check_promise options) old new NoMemory
   check_unwritten same reads net tables link = unwritten_promise (check_promise options) (settles_check options valid) old new same reads net tables link

@@ -3,7 +3,7 @@ use Rattle.std.proofs.Common.{◌≡◌, ◌⊎◌, ℕ, ◌+◌, inl, inr, List
 use Rattle.std.specs.Prelude.{IfSome}
 use Rattle.std.specs.Io.KnownBytes.{Appends, Consumes}
 use Rattle.mica_io.specs.Faults.{Rose}
-use Rattle.mica_model.specs.declared.options.Options.{Options}
+use Rattle.partition_model.specs.declared.options.Options.{Options}
 use Rattle.mica_trace.specs.declared.line.TraceLine.{TraceLine}
 use Rattle.mica_trace.specs.declared.line.TraceFault.{TraceFault}
 use Rattle.mica_trace.specs.declared.line.TraceFault.TheVariants.{NoMemory as NoRoom}
@@ -13,20 +13,20 @@ use Rattle.mica_trace.specs.declared.report.Line.{Line}
 use Rattle.mica_trace.specs.Printed.{PrintsText, PrintsPart}
 use Rattle.mica_replay.specs.Replayed.{IsReplayed}
 use Rattle.mica_serve.specs.declared.ports.Ports.{Ports}
-use Rattle.mica_serve.specs.declared.ports.Totals.{Totals}
-use Rattle.mica_serve.specs.declared.ports.ServeFault.{ServeFault}
-use Rattle.mica_serve.specs.declared.ports.ServeFault.TheVariants.{Net}
+use Rattle.mica_fronts.specs.declared.totals.Totals.{Totals}
+use Rattle.mica_fronts.specs.declared.totals.ServeFault.{ServeFault}
+use Rattle.mica_fronts.specs.declared.totals.ServeFault.TheVariants.{Net}
 use Rattle.mica_serve.specs.NetRun.{NetFacts, HasServedOnTables, IsCauseOf, KeepsNet}
 use Rattle.mica_serve.proofs.Tabled.{has_served}
 use Rattle.mica_trace.specs.ReportGrammar.{report_text}
-use Rattle.mica_cmd.specs.declared.input.TheConstants.{MAX_SOURCE_LEN}
+use Rattle.mica_commands.specs.declared.limits.TheConstants.{MAX_SOURCE_LEN}
 use Rattle.mica_cmd.specs.declared.status.Status.{Status}
 use Rattle.mica_cmd.specs.declared.status.Status.TheVariants.{Done, TraceRefused, WriteFault, NetFault}
-use Rattle.mica_cmd.specs.declared.gen_options.GenOptions.{GenOptions}
+use Rattle.mica_commands.specs.declared.gen_options.GenOptions.{GenOptions}
 use Rattle.mica_cmd.specs.Outside.{SourceFacts, SinkFacts, LinkFacts, Outside, outside}
 use Rattle.mica_cmd.specs.Headline.{IsTooLong, ReadsWhole}
 use Rattle.mica_cmd.specs.Promise.{KeepsPromise, IsWritten, WritesDue, IsTold}
-use Rattle.mica_cmd.specs.Input.{line_of, IsDueOfInput, IsDueOfTrace, NoneByTrace, ReadsInput, GivesTrace, IsRefusedWith}
+use Rattle.mica_cmd.specs.Input.{with_line_feed, IsDueOfInput, IsDueOfTrace, NoneByTrace, ReadsInput, GivesTrace, IsRefusedWith}
 use Rattle.mica_cmd.specs.Promises.{replay_promise, IsDueOfReplay, serve_promise, bench_promise, IsSeatedSummary, IsSeatedService, totals_text}
 use Rattle.mica_cmd.proofs.Keeping.{keeps_promise, stopped_trace, told_due, trace_not_done, seats_of}
 use Rattle.mica_cmd.proofs.Settled.{settles_replay, settles_serve, settles_bench, never_done}
@@ -51,7 +51,7 @@ refused_due old new before after input fault result read why either =
         | inl is ↦ absurd (written.0 is)
         | inr bad ↦ inr (
           TraceRefused,
-          line_of (fault_text fault),
+          with_line_feed (fault_text fault),
           (input, read, record { fault = fault; named = written.0; refused = bad.0; no_trace = bad.1; spelled = refl }),
           written.1,
         )
@@ -128,11 +128,11 @@ serve_done options ports totals old new result served net same link printed =
 
 -- a server that a fault of the net stopped
 pub serve_stopped : (options : Options) (ports : Ports) (fault : ServeFault) (old new : Outside) (result : Status) → fault ≡ Net → IsCauseOf (Err fault) options ports new.tables old.net new.net
-    → KeepsNet ports old.net new.net → new.source ≡ old.source → new.link ≡ old.link → IsWritten NetFault (line_of (codes "net fault")) old.sink new.sink result
+    → KeepsNet ports old.net new.net → new.source ≡ old.source → new.link ≡ old.link → IsWritten NetFault (with_line_feed (codes "net fault")) old.sink new.sink result
     → KeepsPromise (serve_promise options ports) old new result
 serve_stopped options ports fault old new result is cause net same link written =
     let stopped = subst (λ e. IsCauseOf (Err e) options ports new.tables old.net new.net) is cause in
-    keeps_promise (serve_promise options ports) (settles_serve options ports) old new result (inr (NetFault, line_of (codes "net fault"), (stopped.1, refl), written)) same net
+    keeps_promise (serve_promise options ports) (settles_serve options ports) old new result (inr (NetFault, with_line_feed (codes "net fault"), (stopped.1, refl), written)) same net
     (λ done.
     elim written as (λ _. (text : List ℕ) × IsSeatedService options ports old new text × Appends old.sink.taken new.sink.taken text) [
       | inl all ↦ let no : NetFault ≡ Done = sym all.0 ∙ done in absurd (cc)

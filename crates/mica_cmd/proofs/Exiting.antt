@@ -10,8 +10,8 @@ use Rattle.std.specs.declared.io.ErrorKind.{ErrorKind}
 use Rattle.std.specs.declared.io.ErrorKind.TheVariants.{OutOfMemory}
 use Rattle.mica_cmd.specs.declared.status.Status.{Status}
 use Rattle.mica_cmd.specs.declared.status.Status.TheVariants.{NoMemory}
-use Rattle.mica_cmd.specs.Words.{Text}
-use Rattle.mica_cmd.specs.CommandLine.{command_of}
+use Rattle.mica_commands.specs.Words.{Text}
+use Rattle.mica_commands.specs.CommandLine.{command_of}
 use Rattle.mica_cmd.specs.Outside.{Outside}
 use Rattle.mica_cmd.specs.Promise.{KeepsPromise}
 use Rattle.mica_cmd.specs.Promises.{promise_of}
@@ -39,3 +39,8 @@ pub words_exit : {S : Type 0} (text : S → Text) (all : Option (List Text)) (wo
 words_exit text all words behind status are is old new number told kept =
     subst (λ ws. Exits ws old new number) (sym (ap (option_map (λ ws. drop 1 ws)) are ∙ ap (λ ws. Some ws) (drop-map text 1 words ∙ ap (map text) (sym is))))
     (status, told, kept)
+
+-- whatever is known of the words, the number is that of a status
+pub ends_with_status : (words : Option (List Text)) (old new : Outside) (number : ℕ) → Exits words old new number → (status : Status) × (number ≡ exit_number status)
+ends_with_status None old new number exits = (NoMemory, exits.0)
+ends_with_status (Some words) old new number exits = (exits.0, exits.1)

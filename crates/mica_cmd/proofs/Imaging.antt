@@ -2,7 +2,7 @@
 use Rattle.std.proofs.Common.{◌≡◌, ◌≢◌, inl, inr, ℕ, List, Some, Result, Ok, Err, refl}
 use Rattle.std.specs.Prelude.{IfOk}
 use Rattle.mica_io.specs.declared.fault.NoMemory.{NoMemory as OutOfMemory}
-use Rattle.mica_model.specs.declared.options.Options.{Options}
+use Rattle.partition_model.specs.declared.options.Options.{Options}
 use Rattle.mica_trace.specs.declared.line.TraceLine.{TraceLine}
 use Rattle.mica_trace.specs.TraceGrammar.{trace_text}
 use Rattle.store_image.specs.declared.made.Imaged.{Imaged}
@@ -17,7 +17,7 @@ use Rattle.mica_cmd.specs.declared.status.Status.TheVariants.{Done, ImageRefused
 use Rattle.mica_cmd.specs.Outside.{SourceFacts, SinkFacts}
 use Rattle.mica_cmd.specs.Headline.{ReadsWhole}
 use Rattle.mica_cmd.specs.Promise.{WritesDue, IsTold}
-use Rattle.mica_cmd.specs.Input.{line_of, IsDueOfInput}
+use Rattle.mica_cmd.specs.Input.{with_line_feed, IsDueOfInput}
 use Rattle.mica_cmd.specs.Promises.{IsImageText, IsDueOfUnpack, IsRefusedImage}
 use Rattle.mica_cmd.proofs.Keeping.{told_due}
 
@@ -47,5 +47,5 @@ module _ (old new : SourceFacts) (before after : SinkFacts) (result : Status) (b
       → WritesDue (IsDueOfInput IsDueOfUnpack old new) before after result
   image_refused_due fault read first either = elim either as (λ _. WritesDue (IsDueOfInput IsDueOfUnpack old new) before after result) [
     | inl memory ↦ inl memory
-    | inr written ↦ inr (ImageRefused, line_of (fault_name fault), (bytes, read, (fault, first_is bytes fault first written.0, refl)), written.1)
+    | inr written ↦ inr (ImageRefused, with_line_feed (fault_name fault), (bytes, read, (fault, first_is bytes fault first written.0, refl)), written.1)
   ]

@@ -1,7 +1,7 @@
 -- Bytes have findings of one status alone.
 use Rattle.std.proofs.Common.{◌≡◌, ℕ, List, Option, Some, None, refl, subst}
-use Rattle.mica_model.specs.declared.options.Options.{Options}
-use Rattle.mica_model.specs.Options.{IsValid}
+use Rattle.partition_model.specs.declared.options.Options.{Options}
+use Rattle.partition_model.specs.Options.{IsValid}
 use Rattle.mica_trace.specs.declared.line.TraceLine.{TraceLine}
 use Rattle.mica_trace.proofs.TraceLaws.{one_trace}
 use Rattle.mica_trace.proofs.ReportLaws.{one_report}

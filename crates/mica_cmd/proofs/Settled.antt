@@ -3,7 +3,7 @@ use Rattle.std.proofs.Common.{◌≡◌, ℕ, List, [], Option, Some, None, inl,
 use Rattle.std.proofs.KnownBytes.{Consumes-nil, Keeps-refl}
 use Rattle.mica_io.specs.Faults.{Rose}
 use Rattle.mica_io.specs.Ports.{Ports as NetPorts}
-use Rattle.mica_model.specs.declared.options.Options.{Options}
+use Rattle.partition_model.specs.declared.options.Options.{Options}
 use Rattle.mica_trace.specs.declared.line.TraceLine.{TraceLine}
 use Rattle.mica_serve.specs.declared.ports.Ports.{Ports}
 use Rattle.mica_serve.specs.Served.{BeginsPorts}
@@ -13,11 +13,11 @@ use Rattle.store_image.specs.declared.image.Pair.{Pair}
 use Rattle.store_image.specs.declared.fault.ImageFault.{ImageFault}
 use Rattle.store_image.specs.ImageGrammar.{SpellsImage, first_fault}
 use Rattle.store_image.proofs.Faultless.{image_has_no_fault}
-use Rattle.mica_cmd.specs.declared.command.Command.{Command}
-use Rattle.mica_cmd.specs.declared.command.Command.TheVariants.{Replay, Serve, Gen, Bench, Check, Exclusive, Ask, Image, Unpack}
+use Rattle.mica_commands.specs.declared.command.Command.{Command}
+use Rattle.mica_commands.specs.declared.command.Command.TheVariants.{Replay, Serve, Gen, Bench, Check, Exclusive, Ask, Image, Unpack}
 use Rattle.mica_cmd.specs.declared.status.Status.{Status}
 use Rattle.mica_cmd.specs.declared.status.Status.TheVariants.{Done, Usage, NoMemory, NetFault, ImageRefused}
-use Rattle.mica_cmd.specs.declared.gen_options.GenOptions.{GenOptions}
+use Rattle.mica_commands.specs.declared.gen_options.GenOptions.{GenOptions}
 use Rattle.mica_cmd.specs.Outside.{SourceFacts, Outside}
 use Rattle.mica_cmd.specs.Headline.{IsLawfulText}
 use Rattle.mica_cmd.specs.Promise.{KeepsPromise}

@@ -8,8 +8,8 @@ use Rattle.std.specs.declared.io.ErrorKind.{ErrorKind}
 use Rattle.std.specs.declared.io.ErrorKind.TheVariants.{OutOfMemory}
 use Rattle.mica_cmd.specs.declared.status.Status.{Status}
 use Rattle.mica_cmd.specs.declared.status.Status.TheVariants.{Done, Usage, NoMemory, TraceRefused, TraceLong, ReadFault, WriteFault, NetFault, Unlawful, ReportRefused, ReplyRefused, LinkFault, ImageRefused}
-use Rattle.mica_cmd.specs.Words.{Text}
-use Rattle.mica_cmd.specs.CommandLine.{command_of}
+use Rattle.mica_commands.specs.Words.{Text}
+use Rattle.mica_commands.specs.CommandLine.{command_of}
 use Rattle.mica_cmd.specs.Outside.{Outside}
 use Rattle.mica_cmd.specs.Promise.{KeepsPromise}
 use Rattle.mica_cmd.specs.Promises.{promise_of}

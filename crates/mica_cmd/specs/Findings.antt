@@ -1,7 +1,7 @@
 -- What the command `check` finds of the bytes that the source gave.
 use Rattle.std.specs.Prelude.{◌≢◌, ⊤, ℕ, List, ◌++◌, codes, Option, Some, None}
 use Rattle.std.specs.Fmt.{decimal}
-use Rattle.mica_model.specs.declared.options.Options.{Options}
+use Rattle.partition_model.specs.declared.options.Options.{Options}
 use Rattle.mica_trace.specs.declared.line.TraceLine.{TraceLine}
 use Rattle.mica_trace.specs.declared.line.TraceFault.TheVariants.{NoMemory as NoRoom}
 use Rattle.mica_trace.specs.declared.report.Line.{Line}

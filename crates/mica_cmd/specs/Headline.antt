@@ -3,13 +3,13 @@
 -- report of it (`IsLawfulText`).
 use Rattle.std.specs.Prelude.{◌≡◌, ℕ, ◌<◌, List, length}
 use Rattle.std.specs.Io.KnownBytes.{Appends, Consumes}
-use Rattle.mica_model.specs.declared.options.Options.{Options}
+use Rattle.partition_model.specs.declared.options.Options.{Options}
 use Rattle.mica_trace.specs.declared.line.TraceLine.{TraceLine}
 use Rattle.mica_trace.specs.declared.report.Line.{Line}
 use Rattle.mica_trace.specs.TraceGrammar.{IsTrace}
 use Rattle.mica_trace.specs.ReportGrammar.{report_text}
 use Rattle.mica_trace.specs.LawfulReport.{LawfulReport}
-use Rattle.mica_cmd.specs.declared.input.TheConstants.{MAX_SOURCE_LEN}
+use Rattle.mica_commands.specs.declared.limits.TheConstants.{MAX_SOURCE_LEN}
 use Rattle.mica_cmd.specs.Outside.{SourceFacts, SinkFacts, IsReadUp}
 
 -- the bytes are more than a source may give

@@ -7,7 +7,7 @@ use Rattle.mica_trace.specs.declared.line.TraceLine.{TraceLine}
 use Rattle.mica_trace.specs.declared.line.TraceFault.{TraceFault}
 use Rattle.mica_trace.specs.declared.line.TraceFault.TheVariants.{NoMemory as NoRoom}
 use Rattle.mica_trace.specs.TraceGrammar.{IsTrace, IsNoTrace, Refuses, fault_text}
-use Rattle.mica_cmd.specs.declared.input.TheConstants.{MAX_SOURCE_LEN}
+use Rattle.mica_commands.specs.declared.limits.TheConstants.{MAX_SOURCE_LEN}
 use Rattle.mica_cmd.specs.declared.status.Status.{Status}
 use Rattle.mica_cmd.specs.declared.status.Status.TheVariants.{Done, TraceRefused, TraceLong, ReadFault}
 use Rattle.mica_cmd.specs.Outside.{SourceFacts, SinkFacts, Outside}
@@ -15,8 +15,8 @@ use Rattle.mica_cmd.specs.Headline.{IsTooLong, ReadsWhole, ByBytes, ByTrace}
 use Rattle.mica_cmd.specs.Promise.{IsUnwritten, IsWritten}
 
 -- a line that names what went wrong
-abbrev pub line_of : List ℕ → List ℕ
-line_of text = text ++ 10 ∷ []
+abbrev pub with_line_feed : List ℕ → List ℕ
+with_line_feed text = text ++ 10 ∷ []
 
 -- a text of this kind is due with Done, and none with another status
 abbrev pub AtDone : (List ℕ → Type 0) → Status → List ℕ → Type 0
@@ -25,8 +25,8 @@ AtDone is_due _ text = ⊥
 
 -- the text that is due of a source: the line of too many bytes, the line of a read that failed, or what is due by all its bytes
 abbrev pub IsDueOfInput : (Status → List ℕ → List ℕ → Type 0) → SourceFacts → SourceFacts → Status → List ℕ → Type 0
-IsDueOfInput is_due old new TraceLong text = IfSome old.left IsTooLong × (text ≡ line_of (codes "trace too long"))
-IsDueOfInput is_due old new ReadFault text = Rose old.faults new.faults × (text ≡ line_of (codes "read fault"))
+IsDueOfInput is_due old new TraceLong text = IfSome old.left IsTooLong × (text ≡ with_line_feed (codes "trace too long"))
+IsDueOfInput is_due old new ReadFault text = Rose old.faults new.faults × (text ≡ with_line_feed (codes "read fault"))
 IsDueOfInput is_due old new status text = ByBytes (is_due status) old new text
 
 -- the line of the first fault of bytes that are no trace
@@ -35,7 +35,7 @@ pub record IsRefusalLine (bytes text : List ℕ) : Type 0 where
   pub named : fault ≢ NoRoom
   pub refused : Refuses bytes fault
   pub no_trace : IsNoTrace bytes
-  pub spelled : text ≡ line_of (fault_text fault)
+  pub spelled : text ≡ with_line_feed (fault_text fault)
 
 -- the text that is due of bytes: the line of their first fault, or what is due by the trace that they spell
 abbrev pub IsDueOfTrace : (Status → List TraceLine → List ℕ → Type 0) → Status → List ℕ → List ℕ → Type 0
@@ -75,4 +75,4 @@ GivesTrace old new trace = (bytes : List ℕ) × ReadsWhole old new bytes × IsT
 -- what became of a trace that was refused for the fault
 abbrev pub IsRefusedWith : TraceFault → SinkFacts → SinkFacts → Status → Type 0
 IsRefusedWith fault old new result =
-    IsUnwritten old new result ⊎ ((fault ≢ NoRoom) × IsWritten TraceRefused (line_of (fault_text fault)) old new result)
+    IsUnwritten old new result ⊎ ((fault ≢ NoRoom) × IsWritten TraceRefused (with_line_feed (fault_text fault)) old new result)

@@ -6,9 +6,3 @@ pub mod CheckParts
 pub mod Findings
 pub mod Promises
 pub mod Exit
-pub mod Words
-pub mod CommandLine
-pub mod ClapCommand
-pub mod GenOptions
-pub mod Generator
-pub mod Summary

@@ -2,7 +2,7 @@
 use Rattle.std.specs.Prelude.{◌≡◌, ◌≢◌, ◌⊎◌, ◌||◌, ℕ, List, [], ◌∷◌, ◌++◌, codes, Option, Some, None, Result, Ok, Err}
 use Rattle.std.specs.Fmt.{decimal}
 use Rattle.mica_io.specs.Faults.{Rose}
-use Rattle.mica_model.specs.declared.options.Options.{Options}
+use Rattle.partition_model.specs.declared.options.Options.{Options}
 use Rattle.mica_trace.specs.declared.line.TraceLine.{TraceLine}
 use Rattle.mica_trace.specs.declared.report.Line.{Line}
 use Rattle.mica_trace.specs.TraceGrammar.{trace_text}
@@ -25,21 +25,21 @@ use Rattle.store_image.specs.ImageLines.{put_lines}
 use Rattle.store_image.specs.ImageOf.{IsImaged}
 use Rattle.mica_replay.specs.Replayed.{IsReplayed}
 use Rattle.mica_serve.specs.declared.ports.Ports.{Ports}
-use Rattle.mica_serve.specs.declared.ports.Totals.{Totals}
+use Rattle.mica_fronts.specs.declared.totals.Totals.{Totals}
 use Rattle.mica_serve.specs.NetRun.{NetFacts, HasServed, HasServedOnTables, HasStopped, KeepsNet}
-use Rattle.mica_cmd.specs.declared.command.Command.{Command}
-use Rattle.mica_cmd.specs.declared.command.Command.TheVariants.{Replay, Serve, Gen, Bench, Check, Exclusive, Ask, Image, Unpack}
+use Rattle.mica_commands.specs.declared.command.Command.{Command}
+use Rattle.mica_commands.specs.declared.command.Command.TheVariants.{Replay, Serve, Gen, Bench, Check, Exclusive, Ask, Image, Unpack}
 use Rattle.mica_cmd.specs.declared.status.Status.{Status}
 use Rattle.mica_cmd.specs.declared.status.Status.TheVariants.{Done, Usage, NoMemory, NetFault, ReplyRefused, LinkFault, ImageRefused}
-use Rattle.mica_cmd.specs.declared.gen_options.GenOptions.{GenOptions}
-use Rattle.mica_cmd.specs.Generator.{generated}
-use Rattle.mica_cmd.specs.Summary.{summary_text}
+use Rattle.mica_commands.specs.declared.gen_options.GenOptions.{GenOptions}
+use Rattle.mica_commands.specs.Generator.{generated}
+use Rattle.mica_commands.specs.Summary.{summary_text}
 use Rattle.mica_cmd.specs.declared.finding.Finding.{Finding}
 use Rattle.mica_cmd.specs.Findings.{Finds, finding_text, status_of}
 use Rattle.mica_cmd.specs.Outside.{SourceFacts, SinkFacts, Outside}
 use Rattle.mica_cmd.specs.Headline.{ByBytes, ByTrace, IsLawfulText, Prints}
 use Rattle.mica_cmd.specs.Promise.{Promise, IsUnwritten, IsWritten}
-use Rattle.mica_cmd.specs.Input.{line_of, AtDone, IsDueOfInput, IsDueOfTrace, IsUntroubled, TellsInput, IsKindOfTrace, ReadsInput, GivesTrace}
+use Rattle.mica_cmd.specs.Input.{with_line_feed, AtDone, IsDueOfInput, IsDueOfTrace, IsUntroubled, TellsInput, IsKindOfTrace, ReadsInput, GivesTrace}
 
 -- ---- what commands share
 
@@ -121,7 +121,7 @@ totals_text totals =
 -- the totals of what was served, or the line of a fault of the net that stopped it
 abbrev pub IsDueOfServe : Options → Ports → Outside → Outside → Status → List ℕ → Type 0
 IsDueOfServe options ports old new Done text = (totals : Totals) × HasServed options ports totals old.net new.net × (text ≡ totals_text totals)
-IsDueOfServe options ports old new NetFault text = HasStopped options ports old.net new.net × (text ≡ line_of (codes "net fault"))
+IsDueOfServe options ports old new NetFault text = HasStopped options ports old.net new.net × (text ≡ with_line_feed (codes "net fault"))
 IsDueOfServe options ports old new _ text = ⊥
 
 -- the totals are those of a server whose owners' seats the tables keep
@@ -166,7 +166,7 @@ bench_promise options generator = record (output_promise (λ old new. AtDone (Is
 
 abbrev pub IsDueOfCheck : Options → Status → List ℕ → List ℕ → Type 0
 IsDueOfCheck options status bytes text =
-    (finding : Finding) × Finds options bytes finding × (status ≡ status_of finding) × (text ≡ line_of (finding_text finding))
+    (finding : Finding) × Finds options bytes finding × (status ≡ status_of finding) × (text ≡ with_line_feed (finding_text finding))
 
 abbrev pub IsKindOfCheck : Options → Status → List ℕ → Type 0
 IsKindOfCheck options status bytes = (finding : Finding) × Finds options bytes finding × (status ≡ status_of finding)
@@ -209,7 +209,7 @@ pub record IsFaultLine (options : AskOptions) (trace : List TraceLine) (old new 
   pub cause : AnswersAs options trace old new (Err fault)
   pub ended : new.link.has_ended ≡ (is_lost_fault fault || old.link.has_ended)
   pub rose : fault ≡ Link → Rose old.link.faults new.link.faults
-  pub spelled : text ≡ line_of (ask_fault_text fault)
+  pub spelled : text ≡ with_line_feed (ask_fault_text fault)
 
 abbrev pub IsDueOfAsk : AskOptions → Outside → Outside → Status → List TraceLine → List ℕ → Type 0
 IsDueOfAsk options old new Done trace text = IsAnswerText options trace old new text
@@ -218,7 +218,7 @@ IsDueOfAsk options old new status trace text = IsFaultLine options trace old new
 -- what became of the line of a fault of the exchange
 abbrev pub IsToldFault : AskFault → SinkFacts → SinkFacts → Status → Type 0
 IsToldFault fault old new result =
-    IsUnwritten old new result ⊎ ((fault ≢ NoRoom) × IsWritten (fault_status fault) (line_of (ask_fault_text fault)) old new result)
+    IsUnwritten old new result ⊎ ((fault ≢ NoRoom) × IsWritten (fault_status fault) (with_line_feed (ask_fault_text fault)) old new result)
 
 -- no trace tells beforehand what a server answers
 abbrev pub IsNeverTold : Status → List TraceLine → Type 0
@@ -251,7 +251,7 @@ image_promise options = trace_promise (IsDueOfImage options) IsAlwaysDone
 -- a line for each pair, or the line of the first fault of bytes that are no image
 abbrev pub IsDueOfUnpack : Status → List ℕ → List ℕ → Type 0
 IsDueOfUnpack Done bytes text = (pairs : List Pair) × SpellsImage bytes pairs × (text ≡ trace_text (put_lines pairs))
-IsDueOfUnpack ImageRefused bytes text = (fault : ImageFault) × (first_fault bytes ≡ Some fault) × (text ≡ line_of (fault_name fault))
+IsDueOfUnpack ImageRefused bytes text = (fault : ImageFault) × (first_fault bytes ≡ Some fault) × (text ≡ with_line_feed (fault_name fault))
 IsDueOfUnpack _ bytes text = ⊥
 
 -- the bytes are an image, or have a first fault
@@ -266,12 +266,12 @@ unpack_promise = input_promise (λ old new. IsDueOfUnpack) IsKindOfUnpack
 -- what became of an image that was refused for the fault
 abbrev pub IsRefusedImage : ImageFault → SinkFacts → SinkFacts → Status → Type 0
 IsRefusedImage fault old new result =
-    IsUnwritten old new result ⊎ ((fault ≢ NoSpace) × IsWritten ImageRefused (line_of (fault_name fault)) old new result)
+    IsUnwritten old new result ⊎ ((fault ≢ NoSpace) × IsWritten ImageRefused (with_line_feed (fault_name fault)) old new result)
 
 -- ---- words that give no command
 
 abbrev pub IsDueOfNoCommand : Outside → Outside → Status → List ℕ → Type 0
-IsDueOfNoCommand old new Usage text = text ≡ line_of (codes "usage")
+IsDueOfNoCommand old new Usage text = text ≡ with_line_feed (codes "usage")
 IsDueOfNoCommand old new _ text = ⊥
 
 abbrev pub usage_promise : Promise

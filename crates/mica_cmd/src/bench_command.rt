@@ -1,17 +1,18 @@
 //! The command `bench`.
 ghost use Rattle.std.specs.Prelude.{◌≡◌, [], IfOk, true};
-ghost use Rattle.mica_model.specs.Options.{IsValid};
+ghost use Rattle.partition_model.specs.Options.{IsValid};
 ghost use Rattle.mica_serve.specs.NetRun.{NetFacts};
-ghost use Rattle.mica_cmd.specs.GenOptions.{is_valid};
+ghost use Rattle.mica_commands.specs.GenOptions.{is_valid};
 ghost use Rattle.mica_cmd.specs.Outside.{outside, SourceFacts, sink_facts, LinkFacts};
 ghost use Rattle.mica_cmd.specs.Promise.{KeepsPromise};
 ghost use Rattle.mica_cmd.specs.Promises.{bench_promise, IsSeatedSummary};
 
+use crate::Status;
 use crate::output::write_due;
-use crate::{GenOptions, Status, gen_trace, put_summary};
+use mica_commands::{GenOptions, gen_trace, put_summary};
 use mica_io::{Gate, NoMemory, Sink};
-use mica_model::Options;
 use mica_replay::run_trace;
+use partition_model::Options;
 use partition_table::Tables;
 use std::alloc::Global;
 use std::sync::Wait;

@@ -1,12 +1,12 @@
 //! The command `check`.
 ghost use Rattle.std.specs.Prelude.{◌≡◌, ◌≢◌, ◌<◌, List, length, option_map, false, IfOk, IfSome, MatchResult};
-ghost use Rattle.mica_model.specs.Options.{IsValid};
+ghost use Rattle.partition_model.specs.Options.{IsValid};
 ghost use Rattle.mica_serve.specs.NetRun.{NetFacts};
 ghost use Rattle.partition_table.specs.declared.tables.Entry.{Entry};
 ghost use Rattle.mica_cmd.specs.Outside.{outside, source_facts, sink_facts, LinkFacts};
 ghost use Rattle.mica_cmd.specs.Findings.{Finds, FindsOfReport, FindsBehind, finding_text, status_of};
 ghost use Rattle.mica_cmd.specs.Promise.{KeepsPromise, IsTold};
-ghost use Rattle.mica_cmd.specs.Input.{line_of};
+ghost use Rattle.mica_cmd.specs.Input.{with_line_feed};
 ghost use Rattle.mica_cmd.specs.Promises.{check_promise};
 
 use crate::Status;
@@ -15,8 +15,8 @@ use crate::finding::Finding;
 use crate::input::read_source;
 use crate::output::write_due;
 use mica_io::{NoMemory, Sink, Source};
-use mica_model::Options;
 use mica_trace::{ReportFault, Trace, TraceFault, read_report, read_trace};
+use partition_model::Options;
 use report_check::check_report;
 use std::alloc::Global;
 
@@ -103,7 +103,7 @@ fn find(alloc: Global, options: &Options, bytes: &[u8]) -> Result<Finding, NoMem
 }
 
 fn tell<K: Sink>(alloc: Global, sink: &mut K, finding: Finding) -> Status
-    ensures { IsTold (status_of finding) (line_of (finding_text finding))
+    ensures { IsTold (status_of finding) (with_line_feed (finding_text finding))
         (sink_facts K.taken K.faults sink.old) (sink_facts K.taken K.faults sink.new) result }
 {
     let status = finding.status();

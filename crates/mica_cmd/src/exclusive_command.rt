@@ -1,6 +1,6 @@
 //! The command `exclusive`.
 ghost use Rattle.std.specs.Prelude.{◌≡◌, false, List};
-ghost use Rattle.mica_model.specs.Options.{IsValid};
+ghost use Rattle.partition_model.specs.Options.{IsValid};
 ghost use Rattle.mica_serve.specs.NetRun.{NetFacts};
 ghost use Rattle.partition_table.specs.declared.tables.Entry.{Entry};
 ghost use Rattle.mica_cmd.specs.Outside.{outside, source_facts, sink_facts, LinkFacts};
@@ -11,7 +11,7 @@ use crate::Status;
 use crate::input::read_input;
 use exclusive_replay::{ExclusiveFault, exclusive};
 use mica_io::{Gate, Sink, Source};
-use mica_model::Options;
+use partition_model::Options;
 use std::alloc::Global;
 use std::sync::Wait;
 use std::thread::Threads;

@@ -1,6 +1,6 @@
 //! The command `image`.
 ghost use Rattle.std.specs.Prelude.{◌≡◌, false, List, IfOk};
-ghost use Rattle.mica_model.specs.Options.{IsValid};
+ghost use Rattle.partition_model.specs.Options.{IsValid};
 ghost use Rattle.mica_serve.specs.NetRun.{NetFacts};
 ghost use Rattle.partition_table.specs.declared.tables.Entry.{Entry};
 ghost use Rattle.mica_cmd.specs.Outside.{outside, source_facts, sink_facts, LinkFacts};
@@ -11,8 +11,8 @@ use crate::Status;
 use crate::input::read_input;
 use crate::output::write_due;
 use mica_io::{Bytes, NoMemory, Sink, Source};
-use mica_model::{Mode, Options};
 use mica_trace::Trace;
+use partition_model::{Mode, Options};
 use std::alloc::Global;
 use store_image::{image_of, write_image};
 

@@ -7,12 +7,10 @@ ghost use Rattle.mica_cmd.specs.Input.{NoneByBytes, NoneByTrace, IsRefusedWith, 
 
 use crate::Status;
 use crate::output::write_due;
+use mica_commands::MAX_SOURCE_LEN;
 use mica_io::{ReadFault, Sink, Source, read_up_to};
 use mica_trace::{Trace, TraceFault, read_trace};
 use std::alloc::Global;
-
-/// The most bytes that a source may give.
-pub const MAX_SOURCE_LEN: usize = 16_777_216;
 
 /// The bytes of the source, read to its end. Where they can't be had, what is due is written, and the answer is its status.
 pub fn read_source<S: Source, K: Sink>(

@@ -1,6 +1,6 @@
 //! The command `replay`.
 ghost use Rattle.std.specs.Prelude.{◌≡◌, [], false};
-ghost use Rattle.mica_model.specs.Options.{IsValid};
+ghost use Rattle.partition_model.specs.Options.{IsValid};
 ghost use Rattle.mica_serve.specs.NetRun.{NetFacts};
 ghost use Rattle.mica_cmd.specs.Outside.{outside, source_facts, sink_facts, LinkFacts};
 ghost use Rattle.mica_cmd.specs.Promise.{KeepsPromise};
@@ -9,8 +9,8 @@ ghost use Rattle.mica_cmd.specs.Promises.{replay_promise};
 use crate::Status;
 use crate::input::read_input;
 use mica_io::{Gate, Sink, Source};
-use mica_model::Options;
 use mica_replay::{ReplayFault, replay};
+use partition_model::Options;
 use partition_table::Tables;
 use std::alloc::Global;
 use std::sync::Wait;

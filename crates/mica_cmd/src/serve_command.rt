@@ -1,6 +1,6 @@
 //! The command `serve`.
 ghost use Rattle.std.specs.Prelude.{◌≡◌, []};
-ghost use Rattle.mica_model.specs.Options.{IsValid};
+ghost use Rattle.partition_model.specs.Options.{IsValid};
 ghost use Rattle.mica_serve.specs.PortOptions.{IsValidPorts};
 ghost use Rattle.mica_serve.specs.NetRun.{net_facts};
 ghost use Rattle.mica_cmd.specs.Outside.{outside, SourceFacts, sink_facts, LinkFacts};
@@ -10,8 +10,8 @@ ghost use Rattle.mica_cmd.specs.Promises.{serve_promise, totals_text};
 use crate::Status;
 use crate::output::write_due;
 use mica_io::{Gate, Net, Sink};
-use mica_model::Options;
 use mica_serve::{Ports, ServeFault, Totals, serve};
+use partition_model::Options;
 use partition_table::Tables;
 use std::alloc::Global;
 use std::sync::Wait;

@@ -1,11 +1,12 @@
 //! The top call: from the words of a command to its status, its text and what it leaves.
 ghost use Rattle.std.specs.Prelude.{◌≡◌, [], map, string_bytes, false};
 ghost use Rattle.mica_serve.specs.NetRun.{net_facts};
-ghost use Rattle.mica_cmd.specs.CommandLine.{command_of};
+ghost use Rattle.mica_commands.specs.CommandLine.{command_of};
 ghost use Rattle.mica_cmd.specs.Outside.{outside, source_facts, sink_facts, link_facts};
 ghost use Rattle.mica_cmd.specs.Promise.{KeepsPromise};
 ghost use Rattle.mica_cmd.specs.Promises.{promise_of};
 
+use crate::Status;
 use crate::ask_command::ask_command;
 use crate::bench_command::bench_command;
 use crate::check_command::check_command;
@@ -16,8 +17,8 @@ use crate::output::write_due;
 use crate::replay_command::replay_command;
 use crate::serve_command::serve_command;
 use crate::unpack_command::unpack_command;
-use crate::{Command, Status, WordsFault, read_words};
 use mica_client::Link;
+use mica_commands::{Command, WordsFault, read_words};
 use mica_io::{Gate, Net, Sink, Source};
 use partition_table::Tables;
 use std::alloc::Global;

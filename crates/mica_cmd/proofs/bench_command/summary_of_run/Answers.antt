@@ -1,7 +1,7 @@
 use Rattle.std.proofs.Common.{List, ◌++◌, ap, ◌∙◌, subst}
 use Rattle.mica_trace.specs.declared.line.TraceLine.{TraceLine}
 use Rattle.mica_replay.specs.Replayed.{IsReplayed}
-use Rattle.mica_cmd.specs.Summary.{summary_text}
+use Rattle.mica_commands.specs.Summary.{summary_text}
 use Rattle.mica_cmd.proofs.bench_command.summary_of_run.Goals as goal
 
 pub returns : goal.returns

@@ -1,7 +1,7 @@
 use Rattle.std.proofs.Common.{List, ℕ, refl, ap, subst}
 use Rattle.mica_cmd.specs.Outside.{sink_facts}
 use Rattle.mica_cmd.specs.Promise.{IsTold}
-use Rattle.mica_cmd.specs.Input.{line_of}
+use Rattle.mica_cmd.specs.Input.{with_line_feed}
 use Rattle.mica_cmd.specs.Findings.{Finds, finding_text, status_of}
 use Rattle.mica_cmd.proofs.Checking.{check_stopped, check_told, check_unwritten}
 use Rattle.mica_cmd.proofs.check_command.check_command.Goals as goal
@@ -14,7 +14,7 @@ returns-in-Ok-find g c =
     let finding = c.in-Ok-find.finding in
     let facts = sink_facts g.K.Sink.taken g.K.Sink.faults in
     let finds = subst (λ (bytes : List ℕ). Finds c.args.options.now bytes finding) c.as_slice.ensures.value c.in-Ok-find.ensures in
-    let told = subst (λ s. IsTold (status_of finding) (line_of (finding_text finding)) (facts s) (facts c.tell.new.sink) c.tell.result) c.in-Ok.ensures.unwritten c.tell.ensures in
+    let told = subst (λ s. IsTold (status_of finding) (with_line_feed (finding_text finding)) (facts s) (facts c.tell.new.sink) c.tell.result) c.in-Ok.ensures.unwritten c.tell.ensures in
     λ net kept link. check_told c.args.options.now c.requires.valid _ _ c.in-Ok.bytes.items finding _ c.in-Ok.ensures.all finds told c.in-Ok.ensures.reads refl refl refl
 
 pub returns : goal.returns

@@ -1,7 +1,7 @@
 use Rattle.std.proofs.Common.{Err, inl, inr, codes, refl, ap, arith}
 use Rattle.std.proofs.KnownBytes.{Keeps-refl}
 use Rattle.mica_cmd.specs.declared.status.Status.TheVariants.{TraceLong, ReadFault}
-use Rattle.mica_cmd.specs.Input.{line_of}
+use Rattle.mica_cmd.specs.Input.{with_line_feed}
 use Rattle.mica_cmd.proofs.Ending.{long_source}
 use Rattle.mica_cmd.proofs.input.read_source.Goals as goal
 
@@ -22,7 +22,7 @@ returns-in-Err-Failed g c =
     record {
       all = tt;
       unwritten = tt;
-      stopped = inr (ReadFault, line_of (codes "read fault"), (read.cause (ap Err c.in-Err-Failed.field-0-is), refl), c.write_due.ensures);
+      stopped = inr (ReadFault, with_line_feed (codes "read fault"), (read.cause (ap Err c.in-Err-Failed.field-0-is), refl), c.write_due.ensures);
       reads = read.took;
     }
 
@@ -32,7 +32,7 @@ returns-in-Err-Long g c =
     record {
       all = tt;
       unwritten = tt;
-      stopped = inr (TraceLong, line_of (codes "trace too long"), (long_source _ _ (read.long (ap Err c.in-Err-Long.field-0-is)), refl), c.write_due-in-Err-Long.ensures);
+      stopped = inr (TraceLong, with_line_feed (codes "trace too long"), (long_source _ _ (read.long (ap Err c.in-Err-Long.field-0-is)), refl), c.write_due-in-Err-Long.ensures);
       reads = read.took;
     }
 

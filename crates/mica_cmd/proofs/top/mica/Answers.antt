@@ -1,9 +1,9 @@
 use Rattle.std.proofs.Common.{Err, inr, codes, refl, subst, map, string_bytes}
 use Rattle.mica_serve.specs.NetRun.{net_facts}
-use Rattle.mica_cmd.specs.CommandLine.{command_of, IsValidCommand, IsReadingOf}
+use Rattle.mica_commands.specs.CommandLine.{command_of, IsValidCommand, IsReadingOf}
 use Rattle.mica_cmd.specs.Outside.{source_facts, link_facts}
 use Rattle.mica_cmd.specs.declared.status.Status.TheVariants.{Usage}
-use Rattle.mica_cmd.specs.Input.{line_of}
+use Rattle.mica_cmd.specs.Input.{with_line_feed}
 use Rattle.mica_cmd.specs.Promises.{usage_promise}
 use Rattle.mica_cmd.proofs.Keeping.{keeps_promise}
 use Rattle.mica_cmd.proofs.Settled.{settles_usage, given_promise, memory_promise, no_promise}
@@ -81,7 +81,7 @@ returns-in-Ok-Unpack g c =
 pub returns-in-Err-Usage : goal.returns-in-Err-Usage
 returns-in-Err-Usage g c =
     let none = subst (λ e. IsReadingOf (command_of (map string_bytes c.args.words.now)) (Err e)) c.in-Err-Usage.field-0-is c.in-Err-Usage.ensures in
-    no_promise _ _ _ _ none (keeps_promise usage_promise settles_usage _ _ _ (inr (Usage, line_of (codes "usage"), refl, c.write_due.ensures)) refl refl refl refl)
+    no_promise _ _ _ _ none (keeps_promise usage_promise settles_usage _ _ _ (inr (Usage, with_line_feed (codes "usage"), refl, c.write_due.ensures)) refl refl refl refl)
 
 pub returns-in-Err-NoMemory : goal.returns-in-Err-NoMemory
 returns-in-Err-NoMemory g c = memory_promise _ _ c.requires.net

@@ -1,0 +1,6 @@
+pub mod Words
+pub mod CommandLine
+pub mod ClapCommand
+pub mod GenOptions
+pub mod Generator
+pub mod Summary

@@ -1,0 +1,24 @@
+//! What the program can be asked: its commands and the words that give them, generated traces, and summaries of runs.
+//!
+//! A caller may rely on this: words give the command of the grammar in `specs/CommandLine.antt`, and are refused exactly
+//! where it gives none. Options that were read are valid. A generated trace is that of its options, word for word of the
+//! generator, and a summary is that of its trace and its report.
+#![tactic(auto)]
+
+mod clap_command;
+mod command;
+mod draw;
+mod gen_options;
+mod generated_text;
+mod generator;
+mod limits;
+mod option_values;
+mod spelling;
+mod summary;
+
+pub use command::{Command, WordsFault, read_words};
+pub use gen_options::GenOptions;
+pub use generated_text::gen_text;
+pub use generator::gen_trace;
+pub use limits::MAX_SOURCE_LEN;
+pub use summary::put_summary;
