@@ -8,11 +8,11 @@ use Rattle.mica_words.specs.Hash.{fnv1a, tag_of, bucket_of}
 use Rattle.mica_words.specs.Header.{header_room}
 use Rattle.mica_words.specs.Item.{item_size}
 use Rattle.mica_words.proofs.ItemWords.{header_word}
-use Rattle.mica_model.specs.Cache as cache
-use Rattle.mica_model.specs.Cache.{Cache, Record, has_key, record_of}
-use Rattle.mica_model.specs.CacheStep as cs
-use Rattle.mica_model.specs.History.{State, cache_state, state_of, stamp_in as stamp_of_state}
-use Rattle.mica_model.specs.Store.{Cell}
+use Rattle.partition_model.specs.Cache as cache
+use Rattle.partition_model.specs.Cache.{Cache, Record, has_key, record_of}
+use Rattle.partition_model.specs.CacheStep as cs
+use Rattle.partition_model.specs.History.{State, cache_state, state_of, stamp_in as stamp_of_state}
+use Rattle.partition_model.specs.Store.{Cell}
 use Rattle.epoch_core.specs.declared.shape.Shape.{Shape}
 use Rattle.epoch_core.specs.declared.state.OwnerState.{OwnerState}
 use Rattle.epoch_core.specs.declared.state.Phase.{Phase}

@@ -4,11 +4,11 @@ use Rattle.std.proofs.lemmas.List.{length-replicate, get_or-replicate}
 use Rattle.mica_words.specs.Packing.{AreBytes}
 use Rattle.mica_words.proofs.Hashes.{bucket_of-below}
 use Rattle.mica_words.specs.Hash.{bucket_of}
-use Rattle.mica_model.specs.declared.write.Outcome.TheVariants.{Stored}
-use Rattle.mica_model.specs.Cache as cache
-use Rattle.mica_model.specs.CacheStep as cs
-use Rattle.mica_model.specs.History.{History, IsAcceptedAfter, stamp_of}
-use Rattle.mica_model.specs.Write.{IsWrite}
+use Rattle.partition_model.specs.declared.write.Outcome.TheVariants.{Stored}
+use Rattle.partition_model.specs.Cache as cache
+use Rattle.partition_model.specs.CacheStep as cs
+use Rattle.partition_model.specs.History.{History, IsAcceptedAfter, stamp_of}
+use Rattle.partition_model.specs.Write.{IsWrite}
 use Rattle.epoch_core.specs.declared.shape.Shape.{Shape}
 use Rattle.epoch_core.specs.declared.state.OwnerState.{OwnerState}
 use Rattle.epoch_core.specs.declared.state.Phase.TheVariants.{Begun, Marked}

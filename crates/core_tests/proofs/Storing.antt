@@ -3,7 +3,7 @@ use Rattle.std.proofs.Common.{◌≡◌, ℕ, suc, ◌+◌, ◌<◌, ◌⊎◌, 
 use Rattle.mica_words.specs.Entry.{entry_of}
 use Rattle.mica_words.specs.Spelling.{item_words}
 use Rattle.mica_words.proofs.ItemWords.{length-item_words}
-use Rattle.mica_model.specs.Store.{Cell}
+use Rattle.partition_model.specs.Store.{Cell}
 use Rattle.epoch_core.specs.declared.shape.Shape.{Shape}
 use Rattle.epoch_core.specs.declared.state.OwnerState.{OwnerState}
 use Rattle.epoch_core.specs.declared.state.Phase.{Phase}

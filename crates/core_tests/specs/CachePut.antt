@@ -1,9 +1,9 @@
 -- One put of cache mode, in a partition with one bucket.
 use Rattle.std.specs.Prelude.{◌≡◌, ℕ, ◌<◌, [], ◌∷◌}
-use Rattle.mica_model.specs.declared.options.Mode.TheVariants.{Cache}
-use Rattle.mica_model.specs.declared.write.Op.TheVariants.{Put}
-use Rattle.mica_model.specs.declared.write.Write.{Write}
-use Rattle.mica_model.specs.Write.{write_of}
+use Rattle.partition_model.specs.declared.options.Mode.TheVariants.{Cache}
+use Rattle.partition_model.specs.declared.write.Op.TheVariants.{Put}
+use Rattle.partition_model.specs.declared.write.Write.{Write}
+use Rattle.partition_model.specs.Write.{write_of}
 use Rattle.epoch_core.specs.declared.shape.Shape.{Shape}
 use Rattle.epoch_core.specs.declared.state.OwnerState.{OwnerState}
 use Rattle.epoch_core.specs.declared.state.Phase.TheVariants.{Marked}

@@ -6,7 +6,7 @@ ghost use Rattle.core_tests.specs.CachePut.{one_bucket, IsMarked};
 
 use crate::scripts::{Script, Written, stored_words};
 use epoch_core::{OwnerEvent, OwnerWords, PlainWords, Shape, WordAt, holds_key, write_item};
-use mica_model::{Mode, Op, Options, Outcome};
+use partition_model::{Mode, Op, Options, Outcome};
 use std::test::Fail;
 
 const ONE_BUCKET: Shape = Shape {

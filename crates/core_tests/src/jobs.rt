@@ -1,12 +1,12 @@
 //! Two threads that send jobs to one queue, and a third that takes them.
 ghost use Rattle.std.specs.Prelude.{◌≡◌, ◌<◌, ℕ, [], true, IfOk};
-ghost use Rattle.mica_model.specs.Write.{IsWrite};
+ghost use Rattle.partition_model.specs.Write.{IsWrite};
 ghost use Rattle.owner_queue.specs.Messages.{has_end, sender_of};
 ghost use Rattle.owner_queue.specs.JobEnds.{outbox, inbox};
 
 use mica_io::{Bytes, NoMemory};
-use mica_model::{Op, Write};
 use owner_queue::{Job, JobReceiver, JobSender, Message, job_queue};
+use partition_model::{Op, Write};
 use std::alloc::Global;
 use std::sync::Wait;
 use std::thread::{Threads, join};

@@ -3,8 +3,8 @@ ghost use Rattle.std.specs.Prelude.{◌≡◌};
 
 use crate::partitions::write;
 use epoch_core::{LendPartition, Partition, Shape};
-use mica_model::{ItemBuf, Mode, Op, Options, Outcome};
 use optimistic_get::{Got, get};
+use partition_model::{ItemBuf, Mode, Op, Options, Outcome};
 use partition_table::{OwnerSeat, Tables, make};
 use std::alloc::AllocGlobal;
 use std::process::Abort;

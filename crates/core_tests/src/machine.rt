@@ -1,6 +1,6 @@
 //! The plain machine of either mode.
 
-ghost use Rattle.mica_model.specs.Options.{IsValid};
+ghost use Rattle.partition_model.specs.Options.{IsValid};
 
 use mica_io::NoMemory;
 use mica_model::{

@@ -2,7 +2,7 @@
 
 use crate::machine::Machine;
 use mica_io::NoMemory;
-use mica_model::{Answer, Fate, ItemBuf, Mode, Op, Options, Outcome};
+use partition_model::{Answer, Fate, ItemBuf, Mode, Op, Options, Outcome};
 use std::alloc::{AllocGlobal, Global};
 use std::process::Abort;
 use std::test::Fail;

@@ -5,7 +5,7 @@ use crate::partitions::store_over;
 use crate::same_as_machine::{agree_on_get, agreed};
 use crate::scripts::Written;
 use epoch_core::{OwnerEvent, Partition};
-use mica_model::{ItemBuf, Mode, Op, Options, Outcome};
+use partition_model::{ItemBuf, Mode, Op, Options, Outcome};
 use std::alloc::AllocGlobal;
 use std::process::Abort;
 use std::test::Fail;

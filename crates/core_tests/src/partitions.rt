@@ -3,8 +3,8 @@ ghost use Rattle.std.specs.Prelude.{◌≡◌};
 
 use cache_partition::CachePartition;
 use epoch_core::{Partition, PlainWords, Shape};
-use mica_model::{Answer, ItemBuf, Mode, Op, Options, Outcome};
 use mica_words::{key_fits, value_fits};
+use partition_model::{Answer, ItemBuf, Mode, Op, Options, Outcome};
 use std::alloc::AllocGlobal;
 use std::process::Abort;
 use std::test::Fail;

@@ -4,7 +4,7 @@ use crate::machine::Machine;
 use crate::partitions::{read, store_over, write};
 use epoch_core::Partition;
 use mica_io::NoMemory;
-use mica_model::{ItemBuf, Mode, Op, Options, Outcome};
+use partition_model::{ItemBuf, Mode, Op, Options, Outcome};
 use std::alloc::Global;
 use std::process::Abort;
 use std::test::Fail;

@@ -1,7 +1,7 @@
 //! Seven scripts, and gets of one try between their events, judged by the plain machine at the carried stamp.
 
 use crate::scripts::{Cuts, Script, Written, expect_script};
-use mica_model::{Mode, Op, Options, Outcome};
+use partition_model::{Mode, Op, Options, Outcome};
 use std::test::Fail;
 
 const CACHE: Options = Options {

@@ -2,8 +2,8 @@
 
 use crate::scripts::{Script, Written, seat_of};
 use epoch_core::Scripted;
-use mica_model::{Answer, ItemBuf, Mode, Op, Options, Outcome};
 use optimistic_get::{Got, get, get_settled};
+use partition_model::{Answer, ItemBuf, Mode, Op, Options, Outcome};
 use std::alloc::AllocGlobal;
 use std::process::Abort;
 use std::test::Fail;

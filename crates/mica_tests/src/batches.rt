@@ -3,8 +3,8 @@ ghost use Rattle.std.specs.Prelude.{◌≤◌};
 
 use crate::datagrams::{ADD_AND_TOUCH, BAD_BATCH, BATCH, NO_BATCHES, REPLIES, STORED_AND_TOUCHED};
 use mica_io::FreeGate;
-use mica_model::{Mode, Options};
 use mica_serve::{Front, SoloFront, serve_batch};
+use partition_model::{Mode, Options};
 use std::process::Abort;
 use std::sync::Wait;
 use std::test::Fail;

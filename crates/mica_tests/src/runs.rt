@@ -1,10 +1,10 @@
 //! Runs of the top call over bytes in memory.
 
-ghost use Rattle.std.specs.Prelude.{◌≡◌, false};
+ghost use Rattle.std.specs.Prelude.{◌≡◌};
 
-use mica_client::MemLink;
+use mica_client::{Link, MemLink};
 use mica_cmd::{Status, mica};
-use mica_io::{Gate, MemNet, MemSink, MemSource, Net, NoMemory, Sink, Source};
+use mica_io::{Gate, MemNet, MemSink, MemSource, Net, NoMemory};
 use partition_table::Tables;
 use std::alloc::Global;
 use std::process::Abort;
@@ -32,38 +32,42 @@ fn words_of(alloc: Global, line: &str) -> Result<Vec<String>, NoMemory> {
     Ok(words)
 }
 
-/// The status of the top call, and how many tables it keeps.
-fn status_of<S: Source, K: Sink, N: Net, G: Gate>(
-    rt: &(impl Abort + AllocGlobal + Threads + Wait + Sync),
-    line: &str,
-    source: &mut S,
-    sink: &mut K,
-    net: &mut N,
+/// Runs the words over the input, the net and the link. Some bytes move at a time, and no call of the source or the sink fails.
+pub fn run_between<W: Threads + Wait + Sync, N: Net, G: Gate, L: Link>(
+    rt: &W,
+    alloc: Global,
     gate: &G,
-) -> Result<(Status, u32), Fail>
-    requires source { S.has_ended source.old ≡ false }
-    requires net { N.binds net.old ≡ 0 }
+    net: &mut N,
+    link: &mut L,
+    line: &str,
+    input: &[u8],
+) -> Result<End, NoMemory>
+    requires { N.binds net.old ≡ 0 }
 {
-    let alloc = rt.alloc();
     let words = words_of(alloc, line)?;
-    let mut tables = Tables::new();
-    let mut link = MemLink::new(alloc, 0, &[], &[])?;
     let words = words.as_slice();
+    let mut source = MemSource::new(alloc, input, 4093, &[])?;
+    let mut sink = MemSink::new(alloc, 2_000_000, 1021, &[])?;
+    let mut tables = Tables::new();
     let status = mica(
         rt,
         alloc,
         words,
-        source,
-        sink,
+        &mut source,
+        &mut sink,
         net,
         gate,
         &mut tables,
-        &mut link,
+        link,
     );
-    Ok((status, tables.len()))
+    Ok(End {
+        status,
+        sink,
+        tables: tables.len(),
+    })
 }
 
-/// Runs the words over the input and the net. Some bytes move at a time, and no call of the source or the sink fails.
+/// Runs the words over the input and the net, and over a link that has nothing.
 pub fn run_over<N: Net, G: Gate>(
     rt: &(impl Abort + AllocGlobal + Threads + Wait + Sync),
     gate: &G,
@@ -74,14 +78,8 @@ pub fn run_over<N: Net, G: Gate>(
     requires { N.binds net.old ≡ 0 }
 {
     let alloc = rt.alloc();
-    let mut source = MemSource::new(alloc, input, 4093, &[])?;
-    let mut sink = MemSink::new(alloc, 2_000_000, 1021, &[])?;
-    let (status, tables) = status_of(rt, line, &mut source, &mut sink, net, gate)?;
-    Ok(End {
-        status,
-        sink,
-        tables,
-    })
+    let mut link = MemLink::new(alloc, 0, &[], &[])?;
+    Ok(run_between(rt, alloc, gate, net, &mut link, line, input)?)
 }
 
 /// Runs the words over the input, and over a net that has no port.

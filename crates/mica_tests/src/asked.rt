@@ -1,0 +1,209 @@
+//! A client beside the server that it asks: two runs of the top call, whose datagrams pass real sockets.
+ghost use Rattle.std.specs.Prelude.{◌≡◌, false};
+
+use crate::runs::{End, run_between};
+use mica_client::UdpLink;
+use mica_cmd::Status;
+use mica_io::{Failed, FreeGate, MemNet, Net, NoMemory, UdpNet};
+use std::alloc::Global;
+use std::net::{Net as Sockets, TcpListener, TcpStream};
+use std::process::Abort;
+use std::sync::Wait;
+use std::sync::atomic::{AtomicBool, AtomicU32, Ordering};
+use std::test::Fail;
+use std::thread::{Threads, join, yield_now};
+
+/// What a server of two fronts and two partitions is asked. `serve` and `ask` are the further words of each, and `totals` what the
+/// server prints. The key `apple` is of partition 0, and `pear` of partition 1.
+struct Row {
+    serve: &'static str,
+    ask: &'static str,
+    trace: &'static [u8],
+    report: &'static [u8],
+    totals: &'static [u8],
+}
+
+static ROWS: [Row; 2] = [
+    // Three rounds with requests and an empty one, each partition's requests of a round in one batch.
+    Row {
+        serve: "--mode store --batches 3",
+        ask: "",
+        trace: b"put apple red\nput pear green\nget apple\nget pear\nsync\n\
+            put apple yellow\nadd pear blue\nsync\n\
+            sync\n\
+            get apple\ntouch pear\ndel apple\nget pear\nget apple\n",
+        report: b"put 1 stored\nput 1 stored\nget 1 hit red\nget 1 hit green\nsync\n\
+            put 2 stored\nadd 1 exists\nsync\n\
+            sync\n\
+            get 2 hit yellow\ntouch 2 touched\ndel 3 deleted\nget 2 hit green\nget 3 miss\n",
+        totals: b"batches 6 requests 11 bad 0\n",
+    },
+    // Each request in a batch of its own.
+    Row {
+        serve: "--mode cache --batches 3",
+        ask: " --per 1",
+        trace: b"put apple red\nput pear green\nget apple\nget pear\nput apple blue\ndel pear\n",
+        report: b"put 262144 stored\nput 262144 stored\nget 262144 hit red\nget 262144 hit green\nput 262145 stored\ndel 262145 deleted\n",
+        totals: b"batches 6 requests 6 bad 0\n",
+    },
+];
+
+/// What the client's thread sees of the server's.
+#[derive(Drop)]
+struct Progress {
+    bound: AtomicU32,
+    has_ended: AtomicBool,
+}
+
+/// A net that tells how many ports it bound.
+#[derive(Drop)]
+struct WatchedNet<'a, N> {
+    net: N,
+    progress: &'a Progress,
+}
+
+impl<'a, N: Net> Net for WatchedNet<'a, N> {
+    type End = N::End;
+
+    ghost faults = { λ n. N.faults n.net };
+
+    ghost binds = { λ n. N.binds n.net };
+
+    ghost first = { λ n. N.first n.net };
+
+    ghost refused = { λ n. N.refused n.net };
+
+    ghost ports = { λ n. N.ports n.net };
+
+    ghost fails = { λ n. N.fails n.net };
+
+    fn bind(&mut self, port: u16) -> Result<N::End, Failed> {
+        let bound = self.net.bind(port);
+        if bound.is_ok() {
+            self.progress.bound.fetch_add(1, Ordering::SeqCst);
+        }
+        bound
+    }
+
+    fn release(&mut self, end: N::End) {
+        self.net.release(end);
+    }
+}
+
+/// Waits until both ports are bound. Where the server ends before, they never are.
+fn is_bound(progress: &Progress) -> bool {
+    for _ in 0..u64::MAX {
+        if progress.bound.load(Ordering::SeqCst) == 2 {
+            return true;
+        }
+        if progress.has_ended.load(Ordering::SeqCst) {
+            return false;
+        }
+        yield_now();
+    }
+    false
+}
+
+/// The server's run, to the end of its fronts.
+fn serve_row<W: Threads + Wait + Sockets + Sync>(
+    rt: &W,
+    alloc: Global,
+    port: u16,
+    row: &Row,
+    progress: &Progress,
+) -> Result<End, NoMemory> {
+    let words = format!(in alloc;
+        "serve --port {port} --fronts 2 --partitions 2 {}",
+        row.serve
+    )?;
+    let mut net = WatchedNet {
+        net: UdpNet::new(rt),
+        progress,
+    };
+    let mut link = UdpLink::new(rt);
+    let end = run_between(
+        rt,
+        alloc,
+        &FreeGate,
+        &mut net,
+        &mut link,
+        words.as_str(),
+        b"",
+    );
+    progress.has_ended.store(true, Ordering::SeqCst);
+    end
+}
+
+/// The client's run, where the server has its ports.
+fn ask_row<W: Threads + Wait + Sockets + Sync>(
+    rt: &W,
+    alloc: Global,
+    port: u16,
+    row: &Row,
+    progress: &Progress,
+) -> Result<Option<End>, NoMemory> {
+    if !is_bound(progress) {
+        return Ok(None);
+    }
+    let words = format!(in alloc; "ask --port {port} --fronts 2 --partitions 2{}", row.ask)?;
+    let mut net = MemNet::new(alloc, &[])?;
+    let mut link = UdpLink::new(rt);
+    let end = run_between(
+        rt,
+        alloc,
+        &FreeGate,
+        &mut net,
+        &mut link,
+        words.as_str(),
+        row.trace,
+    )?;
+    Ok(Some(end))
+}
+
+/// Serves and asks side by side. Where a port is taken nobody asks.
+fn serve_and_ask<W: Threads + Wait + Sockets<Listener = TcpListener, Stream = TcpStream> + Sync>(
+    rt: &W,
+    alloc: Global,
+    port: u16,
+    row: &Row,
+) -> Result<(End, Option<End>), NoMemory> {
+    let progress = Progress {
+        bound: AtomicU32::new(0),
+        has_ended: AtomicBool::new(false),
+    };
+    let (served, asked) = join(
+        rt,
+        || serve_row(rt, alloc, port, row, &progress),
+        || ask_row(rt, alloc, port, row, &progress),
+    );
+    Ok((served?, asked?))
+}
+
+/// What the two print, at the first two ports that are free.
+fn expect_report<
+    W: Abort
+        + AllocGlobal
+        + Threads
+        + Wait
+        + Sockets<Listener = TcpListener, Stream = TcpStream>
+        + Sync,
+>(rt: &W, row: &Row) -> Result<(), Fail> {
+    for place in 0..100u16 {
+        let (served, asked) = serve_and_ask(rt, rt.alloc(), 47_200 + 2 * place, row)?;
+        if let Some(asked) = asked {
+            assert!(rt; asked.status == Status::Done && asked.sink.taken() == row.report);
+            assert!(rt; served.status == Status::Done && served.sink.taken() == row.totals);
+            return Ok(());
+        }
+        assert!(rt; served.status == Status::NetFault);
+    }
+    panic!(rt; "no two ports are free");
+}
+
+#[test]
+fn a_client_asks_two_fronts_over_sockets(rt: HostRuntime) -> Result<(), Fail> {
+    for row in &ROWS {
+        expect_report(&rt, row)?;
+    }
+    Ok(())
+}
