@@ -1,12 +1,13 @@
 //! Plain Rust of the same rules as `mica`, to measure beside it: `replay` answers each line at its place on one
 //! thread, `rounds` and `queues` run owners and readers in threads over tables of atomic words, `kept` starts these threads
-//! once, `values` does as `queues` over lines that own their bytes, `gen` prints a trace, `serve` answers datagrams on one thread, `fronts` at many ports
-//! with owners in threads, and `load` sends them.
+//! once, `values` does as `queues` over lines that own their bytes, `gen` prints a trace, `image` and `unpack` write and read an
+//! image, `serve` answers datagrams on one thread, `fronts` at many ports with owners in threads, and `load` sends them.
 
 mod cache;
 mod fronts;
 mod generate;
 mod hash;
+mod image;
 mod kept;
 mod load;
 mod machine;
@@ -136,10 +137,15 @@ fn make<M>(options: &Options, machine: fn(&Options) -> M) -> Vec<M> {
     (0..options.partitions).map(|_| machine(options)).collect()
 }
 
-/// The report of the trace on standard input.
-fn report(command: &str, options: &Options) -> Result<Vec<u8>, Box<dyn Error>> {
+fn input() -> io::Result<Vec<u8>> {
     let mut text = Vec::new();
     io::stdin().lock().read_to_end(&mut text)?;
+    Ok(text)
+}
+
+/// The report of the trace on standard input.
+fn report(command: &str, options: &Options) -> Result<Vec<u8>, Box<dyn Error>> {
+    let text = input()?;
     let lines = read_trace(&text).map_err(|fault| fault.to_string())?;
     Ok(match (command, options.mode) {
         ("rounds", _) => rounds::run(options, &lines, Feed::Lists),
@@ -152,11 +158,17 @@ fn report(command: &str, options: &Options) -> Result<Vec<u8>, Box<dyn Error>> {
 }
 
 fn run(words: &[String]) -> Result<(), Box<dyn Error>> {
-    const COMMANDS: &str = "replay, rounds, queues, kept, values, gen, serve, fronts or load";
+    const COMMANDS: &str = "replay, rounds, queues, kept, values, gen, image, unpack, serve, fronts or load";
     let (command, rest) = words.split_first().ok_or(COMMANDS)?;
     let words = read_options(rest)?;
     let out = match command.as_str() {
         "gen" => generate::trace_of(&words)?,
+        "image" => {
+            let text = input()?;
+            let lines = read_trace(&text).map_err(|fault| fault.to_string())?;
+            image::image_of(&mut make(&options_of(&words)?, Store::new), &lines)
+        }
+        "unpack" => image::unpacked(&input()?).ok_or("no image")?,
         "load" => load::load(&words)?,
         "replay" | "rounds" | "queues" | "kept" | "values" => report(command, &options_of(&words)?)?,
         "fronts" => fronts::serve(&words, &options_of(&words)?)?,

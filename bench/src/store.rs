@@ -51,6 +51,10 @@ impl Store {
     fn is_chain_full(&self, bucket: usize) -> bool {
         self.keys[bucket] > 0 && self.keys[bucket].is_multiple_of(15)
     }
+
+    pub fn pairs(&self) -> impl Iterator<Item = (&[u8], &[u8])> {
+        self.cells.iter().map(|(key, cell)| (&**key, &*cell.value))
+    }
 }
 
 impl Machine for Store {
