@@ -3,7 +3,7 @@
 use crate::hash::{key_hash, partition_of};
 use crate::machine::Machine;
 use crate::store::Store;
-use crate::trace::Line;
+use crate::trace::{Line, is_key, is_value};
 
 const MAGIC: &[u8] = b"MIMG\x01";
 const HEADER_LEN: usize = 9;
@@ -42,7 +42,7 @@ pub fn image_of(machines: &mut [Store], lines: &[Line<'_>]) -> Vec<u8> {
     out
 }
 
-/// The `put` lines of an image, or none where the bytes are no image. Texts are not looked at.
+/// The `put` lines of an image, or none where the bytes are no image.
 pub fn unpacked(image: &[u8]) -> Option<Vec<u8>> {
     let (header, mut rest) = image.split_at_checked(HEADER_LEN)?;
     let count = u32::from_le_bytes(header.strip_prefix(MAGIC)?.try_into().ok()?);
@@ -52,7 +52,7 @@ pub fn unpacked(image: &[u8]) -> Option<Vec<u8>> {
         let (lens, after) = rest.split_at_checked(3)?;
         let (key, after) = after.split_at_checked(usize::from(lens[0]))?;
         let (value, after) = after.split_at_checked(usize::from(u16::from_le_bytes([lens[1], lens[2]])))?;
-        if key <= last {
+        if key.is_empty() || key <= last || !is_key(key) || !is_value(value) {
             return None;
         }
         out.extend_from_slice(b"put ");

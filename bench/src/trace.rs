@@ -36,11 +36,11 @@ const MAX_KEY: usize = 255;
 const MAX_VALUE: usize = LONGEST_VALUE;
 const MAX_LINE: usize = 4 + MAX_KEY + 1 + MAX_VALUE;
 
-fn is_key(text: &[u8]) -> bool {
+pub fn is_key(text: &[u8]) -> bool {
     (1..=MAX_KEY).contains(&text.len()) && text.iter().all(|b| (0x21..=0x7e).contains(b))
 }
 
-fn is_value(text: &[u8]) -> bool {
+pub fn is_value(text: &[u8]) -> bool {
     text.len() <= MAX_VALUE && text.iter().all(|b| (0x20..=0x7e).contains(b))
 }
 
