@@ -3,6 +3,7 @@ use Rattle.std.proofs.Common.{◌≡◌, ℕ, zero, suc, ◌<◌, ◌≤◌, inl
 use Rattle.std.specs.List.Sorted.{IsNonDecreasingBy}
 use Rattle.std.proofs.lemmas.Option.{slice_get_within, get_or_from_slice_get, slice_get_read}
 use Rattle.std.proofs.lemmas.List.Sorted.{Contains-permutation, IsPermutation-sym}
+use Rattle.std.proofs.lemmas.Grind.{common_steps}
 use Rattle.partition_model.specs.declared.options.Options.{Options}
 use Rattle.mica_trace.specs.declared.line.TraceLine.{TraceLine}
 use Rattle.mica_trace.specs.declared.report.Line.{Line}
@@ -32,12 +33,6 @@ slice_get_last [] x = refl
 slice_get_last (y ∷ xs) x = slice_get_last xs x
 
 module _ (trace : List TraceLine) (report : List Line) where
-  pub among_none : AreGetsAmong trace report [] []
-  among_none = record {
-    each = λ j a is. absurd (cc);
-    all = λ i own line printed is get. absurd (cc);
-  }
-
   abbrev IsGetOf : List OwnLine → Asked → Type 0
   IsGetOf lines a = (i : ℕ) × (own : OwnLine) × (slice_get lines i ≡ Some own) × (a.place ≡ own.place)
       × (line : TraceLine) × (printed : Line) × IsGetAt trace report a.place line printed × (a.stamp ≡ printed_stamp printed)
@@ -66,10 +61,7 @@ module _ (trace : List TraceLine) (report : List Line) where
   among_push lines own asked line printed get so_far =
       let new : Asked = record { stamp = printed_stamp printed; place = own.place } in
       record {
-        each = λ j a at. elim (slice_get-append asked (new ∷ []) j a at) as (λ _. IsGetOf (lines ++ own ∷ []) a) [
-          | inl front ↦ longer lines own a (so_far.each j a front.1)
-          | inr back ↦ subst (IsGetOf (lines ++ own ∷ [])) (only back.0 new a back.2) (length lines, own, slice_get_last lines own, refl, line, printed, get, refl)
-        ];
+        each = λ j a at. grind (arith, common_steps, slice_get-append asked (new ∷ []) j a at, longer lines own a, only, slice_get_last lines own);
         all = λ i o l r at get'. elim (slice_get-append lines (own ∷ []) i o at) as (λ _. (j : ℕ) × (slice_get (asked ++ new ∷ []) j ≡ Some (record { stamp = printed_stamp r; place = o.place }))) [
           | inl front ↦ let found = so_far.all i o l r front.1 get' in (found.0, slice_get_front asked (new ∷ []) found.0 _ found.1)
           | inr back ↦
@@ -120,10 +112,4 @@ module _ (trace : List TraceLine) (report : List Line) where
 
 pub rising : (asked : List Asked) → IsNonDecreasingBy (λ a. a.stamp) asked → AreRising asked
 rising asked up i j a b le at_i at_j =
-    let less = slice_get_within asked j b at_j in
-    let one = get_or_from_slice_get asked i a a at_i in
-    let two = get_or_from_slice_get asked j b a at_j in
-    let rise = up i j a le less in
-    let stamps = ap (λ (x : Asked). x.stamp) one in
-    let stamps' = ap (λ (x : Asked). x.stamp) two in
-    omega arith
+    grind (arith, common_steps, slice_get_within asked j b at_j, get_or_from_slice_get asked i a a at_i, get_or_from_slice_get asked j b a at_j)

@@ -1,9 +1,10 @@
 -- A step of cache mode, bucket by bucket: in the bucket of its key it is the step of that bucket alone, and in another it is what the log passes.
-use Rattle.std.proofs.Common.{◌≡◌, ◌≢◌, ℕ, ◌+◌, List, [], ◌∷◌, ◌++◌, Option, Some, None, Bool, true, false, cond, not, refl, sym, ap, ◌∙◌, arith, eqb, eqb-true, leb-true}
+use Rattle.std.proofs.Common.{◌≡◌, ◌≢◌, ℕ, ◌+◌, List, [], ◌∷◌, ◌++◌, Option, Some, None, Bool, true, false, cond, not, refl, sym, ap, ◌∙◌, arith, eqb, eqb-true, leb-true, rules}
 use Rattle.std.specs.List.{filter, count_by}
 use Rattle.std.specs.Prelude.{is_some}
 use Rattle.std.proofs.lemmas.Bool.{eq-eqb, ne_eqb, le-leb, true≢false}
 use Rattle.std.proofs.lemmas.List.Elements.{filter-append}
+use Rattle.std.proofs.lemmas.Grind.{common_steps}
 use Rattle.mica_words.specs.declared.entry.TheConstants.{SLOTS}
 use Rattle.mica_words.specs.Hash.{bucket_of}
 use Rattle.mica_words.specs.Stamp.{tail_of}
@@ -45,17 +46,10 @@ module _ (options : Options) (s : Cache) (write : Write) where
   -- the write itself
 
   own_append : (value : List ℕ) → cs.after_append part (new_record part write.key value) ≡ part_of options own (cs.after_append s (new_record s write.key value))
-  own_append value =
-      let new = new_record s write.key value in
-      ap (λ (rs : List Record). record (cs.after_append s new) { records = rs })
-      (ap (λ rs. rs ++ new ∷ []) (filter_swap (λ r. not (has_key write.key r)) here s.records)
-      ∙ ap (λ b. filter here (others write.key s.records) ++ cond b (new ∷ []) []) (sym (eq-eqb own own refl))
-      ∙ sym (filter-append here (others write.key s.records) (new ∷ [])))
+  own_append value = grind (arith, common_steps, filter_swap, eq-eqb own own refl, filter-append here (others write.key s.records))
 
   own_rewrite : cs.after_rewrite part write ≡ part_of options own (cs.after_rewrite s write)
-  own_rewrite =
-      ap (λ (rs : List Record). record (cs.after_rewrite s write) { records = rs })
-      (sym (filter_map_same here (rewritten write) (λ r. ap (λ k. eqb (bucket_of k options.buckets) own) (rewritten_key write r)) s.records))
+  own_rewrite = grind (arith, common_steps, filter_map_same here (rewritten write), rewritten write, rewritten_key write)
 
   own_delete : cs.after_delete part write ≡ part_of options own (cs.after_delete s write)
   own_delete = ap (λ (rs : List Record). record (cs.after_delete s write) { records = rs }) (filter_swap (λ r. not (has_key write.key r)) here s.records)
@@ -90,19 +84,11 @@ module _ (options : Options) (s : Cache) (write : Write) where
   left rs = cond (eqb (count_by here rs) (SLOTS + 1)) (without_first here rs) rs
 
   own_left : (rs : List Record) → left (filter here rs) ≡ filter here (left rs)
-  own_left rs =
-      ap (λ n. cond (eqb n (SLOTS + 1)) (without_first here (filter here rs)) (filter here rs)) (count_filtered here rs)
-      ∙ elim (eqb (count_by here rs) (SLOTS + 1)) as (λ b. cond b (without_first here (filter here rs)) (filter here rs) ≡ filter here (cond b (without_first here rs) rs)) [
-        | true ↦ first_filtered here rs
-        | false ↦ refl
-      ]
+  own_left rs = grind (arith, common_steps, count_filtered here rs, first_filtered here rs)
 
   pub own_after : cs.after options part write ≡ part_of options own (cs.after options s write)
   unfolding cs.after
-  own_after =
-      ap (λ (t : Cache). record (cs.without_displaced options write.key (cs.without_passed options t)) { accepted = s.accepted + 1 }) (own_op write.op)
-      ∙ ap (λ (rs : List Record). record (cs.after_write options s write) { records = rs; accepted = s.accepted + 1 })
-      (ap left (filter_swap (λ held. is_live options.words (cs.after_write options s write).stamp held.offset) here (cs.after_write options s write).records) ∙ own_left live)
+  own_after = search (rules, own_op write.op, filter_swap, own_left live)
 
   -- in another bucket
 
@@ -114,10 +100,7 @@ module _ (options : Options) (s : Cache) (write : Write) where
     apart r is = ne_eqb (bucket_of r.key options.buckets) own (λ e. other (sym e ∙ eqb-true (bucket_of r.key options.buckets) bucket is))
 
     other_key : (r : Record) → there r ≡ true → has_key write.key r ≡ false
-    other_key r is = elim (has_key write.key r) as (λ b. has_key write.key r ≡ b → b ≡ false) [
-      | true ↦ λ yes. absurd (true≢false (sym (own_key r yes) ∙ apart r is))
-      | false ↦ λ _. refl
-    ] refl
+    other_key r is = grind (arith, common_steps, true≢false, own_key r, apart r is)
 
     other_others : filter there (others write.key s.records) ≡ filter there s.records
     other_others = filter_weaker (λ r. not (has_key write.key r)) there (λ r is. ap not (other_key r is)) s.records
@@ -135,8 +118,7 @@ module _ (options : Options) (s : Cache) (write : Write) where
 
     other_rewrite : filter there (cs.after_rewrite s write).records ≡ filter there s.records
     other_rewrite =
-        filter_map_same there (rewritten write) (λ r. ap (λ k. eqb (bucket_of k options.buckets) bucket) (rewritten_key write r)) s.records
-        ∙ filter_map_none there (rewritten write) (λ r is. ap (λ b. cond b (record r { value = write.value }) r) (other_key r is)) s.records
+        grind (arith, common_steps, filter_map_same there (rewritten write), rewritten write, rewritten_key write, filter_map_none there (rewritten write), other_key)
 
     other_put : (o : Option Record) → filter there (cs.after_put o s write).records ≡ filter there s.records
     other_put None = other_append write.value
@@ -160,10 +142,7 @@ module _ (options : Options) (s : Cache) (write : Write) where
 
     pub other_after : filter there (cs.after options s write).records ≡ filter (λ held. is_live options.words (cs.after options s write).stamp held.offset) (filter there s.records)
     unfolding cs.after
-    other_after =
-        other_left live
-        ∙ filter_swap there (λ held. is_live options.words (cs.after_write options s write).stamp held.offset) (cs.after_write options s write).records
-        ∙ ap (filter (λ held. is_live options.words (cs.after_write options s write).stamp held.offset)) (other_op write.op)
+    other_after = grind (arith, common_steps, other_left live, filter_swap there, other_op write.op)
 
   -- what the log has not passed after the write, it had not before
   pub live_before : (r : Record) → is_live options.words (cs.after options s write).stamp r.offset ≡ true → is_live options.words s.stamp r.offset ≡ true

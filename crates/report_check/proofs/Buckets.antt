@@ -2,10 +2,11 @@
 use Rattle.std.proofs.Common.{◌≡◌, ◌≢◌, ℕ, zero, suc, ◌+◌, ◌<◌, ◌≤◌, List, [], ◌∷◌, ◌++◌, length, length-set, set, get_or, slice_get, Some, true, false, not, refl, sym, ap, ◌∙◌, subst, arith, eqb, eqb-true, ◌&&◌}
 use borrow.Author.Tests.{eqb-false}
 use Rattle.std.specs.Global.{Vec}
-use Rattle.std.specs.List.{find, filter}
+use Rattle.std.specs.List.{find}
 use Rattle.std.proofs.lemmas.Bool.{eq-eqb, le-leb}
 use Rattle.std.proofs.lemmas.Option.{slice_get_read}
 use Rattle.std.proofs.lemmas.List.Sums.{prefix_len-le-length}
+use Rattle.std.proofs.lemmas.Grind.{common_steps}
 use Rattle.mica_words.specs.Hash.{bucket_of}
 use Rattle.mica_words.specs.Stamp.{tail_of}
 use Rattle.partition_model.specs.declared.options.Options.{Options}
@@ -16,12 +17,11 @@ use Rattle.partition_model.specs.Cache.{Record, Cache, has_key, is_live, record_
 use Rattle.mica_model.specs.CacheFields.{passed_front}
 use Rattle.partition_model.specs.CacheStep as cs
 use Rattle.partition_model.specs.CacheStep.{is_in_bucket}
-use Rattle.partition_model.specs.History.{after as after_in, start as start_in}
+use Rattle.partition_model.specs.History.{after as after_in}
 use Rattle.partition_model.specs.Options.{IsValid}
 use Rattle.partition_model.specs.Write.{IsWrite}
 use Rattle.partition_model.proofs.CacheKept.{IsKept}
 use Rattle.partition_model.proofs.CacheLaws.{kept_in}
-use Rattle.mica_model.proofs.CacheMachineSteps.{wrote_count}
 use Rattle.partition_model.proofs.Found.{all_filter, all_push, all_weaker, count_filter, found_filter_all}
 use Rattle.partition_model.proofs.Histories.{state_snoc}
 use Rattle.partition_model.proofs.Laid.{laid_filter, unique_filter, key_is}
@@ -37,9 +37,7 @@ seen_set [] i j new x is = absurd (cc)
 seen_set (y ∷ xs) zero zero new x is = ((λ _. cc), (λ other. absurd (other refl)))
 seen_set (y ∷ xs) zero (suc j) new x is = ((λ same. absurd (omega arith)), (λ _. is))
 seen_set (y ∷ xs) (suc i) zero new x is = ((λ same. absurd (omega arith)), (λ _. is))
-seen_set (y ∷ xs) (suc i) (suc j) new x is =
-    let later = seen_set xs i j new x is in
-    ((λ same. later.0 (omega arith)), (λ other. later.1 (λ same. other (ap suc same))))
+seen_set (y ∷ xs) (suc i) (suc j) new x is = grind (arith, common_steps, seen_set xs i j new x is)
 
 pub reached_kept : (options : Options) (s : Cache) → IsReached options s → IsKept options s
 reached_kept options s reached = kept_in options reached.0 reached.1 s reached.2
@@ -89,9 +87,7 @@ pub set_parts : (options : Options) (buckets : List Cache) (at : ℕ) (new s : C
 set_parts options buckets at new s kept is others bucket held here =
     let seen = seen_set buckets at bucket new held here in
     elim (eqb bucket at) as (λ b. eqb bucket at ≡ b → HasPart options bucket s held) [
-      | true ↦ λ e.
-          let same = eqb-true bucket at e in
-          subst (HasPart options bucket s) (sym (seen.0 same ∙ is ∙ ap (λ b. part_of options b s) (sym same))) (part_is options bucket s kept)
+      | true ↦ λ e. grind (arith, common_steps, eqb-true bucket at e, part_is options bucket s kept)
       | false ↦ λ f. let other = eqb-false bucket at f in others bucket held other (seen.1 other)
     ] refl
 
@@ -101,13 +97,7 @@ module _ (options : Options) (s : Cache) (reached : IsReached options s) (write 
 
   -- a bucket after a write to a key of another
   pub other_part : (bucket : ℕ) (held : Cache) → bucket_of write.key options.buckets ≢ bucket → HasPart options bucket s held → HasPart options bucket (cs.after options s write) held
-  other_part bucket held other has = record {
-    rising = has.rising;
-    live =
-        sym (filter_weaker (λ r. is_live options.words s.stamp r.offset) (λ r. is_live options.words (cs.after options s write).stamp r.offset) (live_before options s write) held.records)
-        ∙ ap (filter (λ r. is_live options.words (cs.after options s write).stamp r.offset)) has.live
-        ∙ sym (other_after options s write bucket other);
-  }
+  other_part bucket held other has = grind (arith, common_steps, filter_weaker, live_before options s write, other_after options s write bucket other)
 
 -- The buckets once one was met.
 module _ (options : Options) (olds news : Vec Cache) (stamp accepted : ℕ) (s : Cache) (are : AreBuckets s (record { options = options; buckets = olds; stamp = stamp; accepted = accepted })) (at : ℕ) (b : Cache)
@@ -144,19 +134,11 @@ module _ (options : Options) (olds news : Vec Cache) (stamp accepted : ℕ) (s :
             (subst (λ (bs : List Cache). slice_get bs bucket ≡ Some held) items here);
       }
 
--- a bucket without records stands for the empty partition
-pub first_part : (options : Options) (bucket : ℕ) → HasPart options bucket cache.start cache.start
-unfolding cache.start
-first_part options bucket = record { rising = tt; live = refl }
-
 -- an accepted write, step by step
 pub after_is : (options : Options) (s : Cache) (write : Write) (wrote dropped : Cache) → wrote ≡ cs.after_write options s write
     → dropped ≡ cs.without_displaced options write.key (cs.without_passed options wrote) → record dropped { accepted = dropped.accepted + 1 } ≡ cs.after options s write
 unfolding cs.after
-after_is options s write wrote dropped wrote_is dropped_is =
-    ap (λ (t : Cache). record t { accepted = t.accepted + 1 }) (dropped_is ∙ ap (λ (t : Cache). cs.without_displaced options write.key (cs.without_passed options t)) wrote_is)
-    ∙ ap (λ (n : ℕ). record (cs.without_displaced options write.key (cs.without_passed options (cs.after_write options s write))) { accepted = n + 1 })
-    (wrote_count options s write (cs.after_write options s write) refl)
+after_is options s write wrote dropped wrote_is dropped_is = grind (arith, common_steps)
 
 -- what the log has passed stands in front of the records
 pub front_within : (words stamp : ℕ) (records : List Record) → passed_front words stamp records ≤ length records
@@ -173,35 +155,16 @@ module _ (m : CacheBuckets) (s : Cache) (are : AreBuckets s m) (number : ℕ) (h
 
   -- that catches up
   pub caught_at : cs.without_passed m.options (record held { stamp = m.stamp; accepted = m.accepted }) ≡ part_of m.options number s
-  caught_at =
-      ap (λ n. cs.without_passed m.options (record held { stamp = n; accepted = m.accepted })) are.stamp
-      ∙ ap (λ n. cs.without_passed m.options (record held { stamp = s.stamp; accepted = n })) are.accepted
-      ∙ caught_up m.options number s held part_at
+  caught_at = grind (arith, common_steps, caught_up m.options number s held part_at, part_at)
 
   -- where a key's record is found
   pub found_in : (key : List ℕ) (records : List Record) → number ≡ bucket_of key m.options.buckets → records ≡ held.records
       → find (λ r. has_key key r && is_live m.options.words m.stamp r.offset) records ≡ record_of s key
-  found_in key records own same =
-      ap (find (λ r. has_key key r && is_live m.options.words m.stamp r.offset)) same
-      ∙ ap (λ n. find (λ r. has_key key r && is_live m.options.words n r.offset) held.records) are.stamp
-      ∙ value_by m.options s held key (subst (λ n. HasPart m.options n s held) own part_at)
+  found_in key records own same = grind (arith, common_steps, value_by m.options s held key, part_at)
 
 -- the buckets of the empty partition
 pub first_buckets : (options : Options) (buckets : Vec Cache) → IsValid options → options.mode ≡ CacheMode → length buckets.items ≡ options.buckets
     → ((bucket : ℕ) (held : Cache) → slice_get buckets.items bucket ≡ Some held → held ≡ cache.start)
     → AreBuckets cache.start (record { options = options; buckets = buckets; stamp = 0; accepted = 0 })
 unfolding cache.start
-first_buckets options buckets valid mode many empty = record {
-  valid = valid;
-  reached = ([], tt, ap start_in mode);
-  stamp = refl;
-  accepted = refl;
-  many = many;
-  each = λ bucket held here. subst (HasPart options bucket cache.start) (sym (empty bucket held here)) (first_part options bucket);
-}
-
-pub empty_push : {X : Type 0} (xs : List X) (x : X) → ((i : ℕ) (y : X) → slice_get xs i ≡ Some y → y ≡ x) → (i : ℕ) (y : X) → slice_get (xs ++ x ∷ []) i ≡ Some y → y ≡ x
-empty_push [] x all zero y is = cc
-empty_push [] x all (suc i) y is = absurd (cc)
-empty_push (z ∷ xs) x all zero y is = all 0 y is
-empty_push (z ∷ xs) x all (suc i) y is = empty_push xs x (λ j w here. all (suc j) w here) i y is
+first_buckets options buckets valid mode many empty = grind (arith, common_steps)

@@ -1,51 +1,36 @@
 -- The first line that stands for no line of the trace.
-use Rattle.std.proofs.Common.{◌≡◌, ◌≢◌, ℕ, zero, suc, ◌+◌, ◌<◌, ◌≤◌, List, [], ◌∷◌, ◌++◌, length, take, Some, None, refl, sym, subst, arith, true, false, ltb, ltb-true, ltb-false, slice_get}
+use Rattle.std.proofs.Common.{◌≡◌, ◌≢◌, ℕ, zero, suc, ◌+◌, ◌<◌, ◌≤◌, List, [], ◌∷◌, length, take, Some, None, refl, sym, subst, arith, true, false, ltb, ltb-true, ltb-false, slice_get, rules}
 use Rattle.std.specs.List.{AllZip}
 use Rattle.std.proofs.lemmas.Option.{slice_get_past}
+use Rattle.std.proofs.lemmas.Grind.{common_steps}
 use Rattle.list_laws.proofs.Places.{element_at}
 use Rattle.mica_trace.specs.declared.line.TraceLine.{TraceLine}
 use Rattle.mica_trace.specs.declared.report.Line.{Line}
 use Rattle.mica_trace.specs.LawfulReport.{IsLineFor}
 use Rattle.mica_trace.proofs.ListParts.{AllZip-append}
 use Rattle.report_check.specs.FirstUnlawful.{Misfits, IsMisfit, IsFirst}
-use Rattle.report_check.proofs.Histories.{take_one, take_past, get_take}
+use Rattle.report_check.proofs.Histories.{take_one, get_take}
 use Rattle.report_check.proofs.Walks.{all_fit}
 
 pub fit_more : (trace : List TraceLine) (report : List Line) (n : ℕ) (line : TraceLine) (printed : Line) → slice_get trace n ≡ Some line → slice_get report n ≡ Some printed
     → IsLineFor line printed → AllZip IsLineFor (take n trace) (take n report) → AllZip IsLineFor (take (n + 1) trace) (take (n + 1) report)
 fit_more trace report n line printed asked answered fits all =
-    subst (λ (ls : List TraceLine). AllZip IsLineFor ls (take (n + 1) report)) (sym (take_one trace n line asked))
-    (subst (λ (rs : List Line). AllZip IsLineFor (take n trace ++ line ∷ []) rs) (sym (take_one report n printed answered))
-    (AllZip-append IsLineFor (take n trace) (line ∷ []) (take n report) (printed ∷ []) all (fits, tt)))
+    grind (arith, common_steps, take_one trace n line asked, take_one report n printed answered, AllZip-append IsLineFor (take n trace) (line ∷ []) (take n report) (printed ∷ []) all (fits, tt))
 
 fit_before : (trace : List TraceLine) (report : List Line) (n m : ℕ) → AllZip IsLineFor (take n trace) (take n report) → m < n → ¬ (IsMisfit trace report m)
 fit_before trace report n m all less bad =
-    all_fit (take n trace) (take n report) all m
-    (subst (λ o. Misfits o (slice_get (take n report) m)) (sym (get_take trace n m less)) (subst (λ o. Misfits (slice_get trace m) o) (sym (get_take report n m less)) bad))
+    search (rules, all_fit (take n trace) (take n report) all m, slice_get (take n report) m, get_take trace n m less, slice_get trace m, get_take report n m less)
 
 pub first_here : (trace : List TraceLine) (report : List Line) (n : ℕ) (line : TraceLine) (printed : Line) → slice_get trace n ≡ Some line → slice_get report n ≡ Some printed
     → ¬ (IsLineFor line printed) → AllZip IsLineFor (take n trace) (take n report) → IsFirst (IsMisfit trace report) n
-first_here trace report n line printed asked answered denied all = record {
-  holds = subst (λ o. Misfits o (slice_get report n)) (sym asked) (subst (λ o. Misfits (Some line) o) (sym answered) denied);
-  before = λ m less. fit_before trace report n m all less;
-}
-
-pub all_fits : (trace : List TraceLine) (report : List Line) (n : ℕ) → length trace ≤ n → length report ≤ n → AllZip IsLineFor (take n trace) (take n report) → AllZip IsLineFor trace report
-all_fits trace report n low low' all =
-    subst (λ (ls : List TraceLine). AllZip IsLineFor ls report) (take_past trace n low) (subst (λ (rs : List Line). AllZip IsLineFor (take n trace) rs) (take_past report n low') all)
+first_here trace report n line printed asked answered denied all = grind (arith, common_steps, fit_before trace report n)
 
 pub first_end : (trace : List TraceLine) (report : List Line) (n : ℕ) → n ≤ length trace → n ≤ length report → (length trace ≡ n → length report ≢ n) → (n < length trace → n < length report → ⊥)
     → AllZip IsLineFor (take n trace) (take n report) → IsFirst (IsMisfit trace report) n
 first_end trace report n low low' apart past all = record {
   holds = elim (ltb n (length trace)) as (λ t. ltb n (length trace) ≡ t → IsMisfit trace report n) [
     | true ↦ λ e.
-        let less = ltb-true n (length trace) e in
-        let none = slice_get_past report n (elim (ltb n (length report)) as (λ t. ltb n (length report) ≡ t → length report ≤ n) [
-          | true ↦ λ f. absurd (past less (ltb-true n (length report) f))
-          | false ↦ λ f. ltb-false n (length report) f
-        ] refl) in
-        let some = element_at trace n less in
-        subst (λ o. Misfits o (slice_get report n)) (sym some.1) (subst (λ o. Misfits (Some some.0) o) (sym none) tt)
+        grind (arith, common_steps, ltb-true n (length trace) e, slice_get_past report n, ltb-true n (length report), ltb-false n (length report), element_at trace n)
     | false ↦ λ f.
         let high = ltb-false n (length trace) f in
         let none = slice_get_past trace n high in

@@ -1,12 +1,12 @@
 -- What is found of one partition more.
-use Rattle.std.proofs.Common.{◌≡◌, ℕ, ◌+◌, ◌<◌, ◌≤◌, ◌⊎◌, inl, inr, List, [], length, take, Option, Some, None, refl, sym, ◌∙◌, subst, arith, true, false, cond, ltb, ltb-true, ltb-false, eqb, eqb-true, slice_get, ◌∷◌}
-use borrow.Author.Tests.{eqb-false}
+use Rattle.std.proofs.Common.{◌≡◌, ℕ, ◌+◌, ◌<◌, ◌≤◌, ◌⊎◌, inl, inr, List, length, Option, Some, None, refl, arith, true, false, cond, ltb, ltb-true, ltb-false, slice_get}
 use Rattle.std.proofs.lemmas.Option.{slice_get_within}
 use Rattle.std.specs.List.{AllZip}
+use Rattle.std.proofs.lemmas.Grind.{common_steps}
 use Rattle.mica_words.proofs.Hashes.{partition_of-below}
 use Rattle.partition_model.specs.declared.options.Options.{Options}
 use Rattle.partition_model.specs.Options.{IsValid}
-use Rattle.partition_model.specs.Run.{IsRun, IsRunFrom}
+use Rattle.partition_model.specs.Run.{IsRun}
 use Rattle.mica_trace.specs.declared.line.TraceLine.{TraceLine}
 use Rattle.mica_trace.specs.declared.report.Line.{Line}
 use Rattle.mica_trace.specs.ReportGrammar.{printed_stamp}
@@ -19,7 +19,6 @@ use Rattle.report_check.specs.Earlier.{earlier}
 use Rattle.report_check.specs.FirstUnlawful.{IsNowhere, IsWrongWrite, FallsBehind, IsWrongGet, IsFirstUnlawful}
 use Rattle.report_check.specs.Judged.{IsFirstWrong, IsFirstMissed, IsFirstFall, IsJudged}
 use Rattle.report_check.specs.Found.{with_judged, with_fall, IsWriteOf, IsRight, IsGetOf, AreFound}
-use Rattle.mica_trace.specs.RoundReport.{history_in}
 use Rattle.report_check.proofs.Walks.{all_fit, run_right}
 use Rattle.report_check.proofs.Histories.{get_take, take_lower}
 
@@ -36,11 +35,7 @@ least_both : (Bad One Two : ℕ → Type 0) (a b : Option ℕ) → IsLeast Bad O
 least_both Bad One Two None None one two = λ n. (one n, two n)
 least_both Bad One Two None (Some k) one two = (two.0, λ n less. (one n, two.1 n less))
 least_both Bad One Two (Some j) None one two = (one.0, λ n less. (one.1 n less, two n))
-least_both Bad One Two (Some j) (Some k) one two =
-    elim (ltb j k) as (λ t. ltb j k ≡ t → IsLeast Bad (λ n. One n × Two n) (cond t (Some j) (Some k))) [
-      | true ↦ λ e. let low = ltb-true j k e in (one.0, λ n less. (one.1 n less, two.1 n (omega arith)))
-      | false ↦ λ f. let low = ltb-false j k f in (two.0, λ n less. (one.1 n (omega arith), two.1 n less))
-    ] refl
+least_both Bad One Two (Some j) (Some k) one two = grind (arith, common_steps)
 
 least_weaker : (Bad One Two : ℕ → Type 0) (a : Option ℕ) → ((n : ℕ) → One n → Two n) → IsLeast Bad One a → IsLeast Bad Two a
 least_weaker Bad One Two None weaker one = λ n. weaker n (one n)
@@ -48,59 +43,29 @@ least_weaker Bad One Two (Some k) weaker one = (one.0, λ n less. weaker n (one.
 
 never : (write : Option ℕ) (k : ℕ) → earlier write k ≡ None → ⊥
 never None k is = cc
-never (Some j) k is =
-    elim (ltb j k) as (λ t. cond t (Some j) (Some k) ≡ None → ⊥) [
-      | true ↦ λ e. cc
-      | false ↦ λ e. cc
-    ] is
+never (Some j) k is = grind (arith, common_steps)
 
 module _ (options : Options) (trace : List TraceLine) (report : List Line) where
   -- a partition below the next number is below this one, or it is the new one
   split : (p q : ℕ) → q < p + 1 → (q < p) ⊎ (q ≡ p)
-  split p q less =
-      elim (eqb q p) as (λ t. eqb q p ≡ t → (q < p) ⊎ (q ≡ p)) [
-        | true ↦ λ e. inr (eqb-true q p e)
-        | false ↦ λ f. let other = eqb-false q p f in inl (omega arith)
-      ] refl
+  split p q less = grind (arith, common_steps)
 
   -- Writes
 
   -- no write before the first wrong one is wrong
   right_before : (p k n : ℕ) (line : TraceLine) → IsFirstWrong options p trace report k → n < k → slice_get trace n ≡ Some line → partition_in options line ≡ p → ¬ (IsWrongWrite options trace report n)
   right_before p k n line first less asked inside wrong =
-      let lines = take k trace in
-      let printed = take k report in
-      let here : slice_get lines n ≡ Some line = get_take trace k n less ∙ asked in
-      let cut : IsWrongWrite options lines printed n = record {
-        line = wrong.line;
-        printed = wrong.printed;
-        asked = get_take trace k n less ∙ wrong.asked;
-        answered = get_take report k n less ∙ wrong.answered;
-        step = wrong.step;
-        written = wrong.written;
-        wrong = λ run. wrong.wrong
-            (subst (λ (ls : List TraceLine). IsRunFrom options (history_in options (partition_in options wrong.line) ls (take n report)) (wrong.step ∷ [])) (take_lower trace k n (omega arith))
-            (subst (λ (rs : List Line). IsRunFrom options (history_in options (partition_in options wrong.line) (take n lines) rs) (wrong.step ∷ [])) (take_lower report k n (omega arith)) run));
-      } in
-      run_right options p lines printed n line first.run here inside cut
+      grind (arith, common_steps, get_take trace k n less, get_take report k n less, take_lower trace k n (omega arith), take_lower report k n (omega arith), run_right options p)
 
   runs_more : (p : ℕ) → ((q : ℕ) → q < p → IsRun options (steps_of options q trace report)) → IsRun options (steps_of options p trace report)
       → (q : ℕ) → q < p + 1 → IsRun options (steps_of options q trace report)
-  runs_more p olds new q less =
-      elim (split p q less) as (λ _. IsRun options (steps_of options q trace report)) [
-        | inl below ↦ olds q below
-        | inr same ↦ subst (λ q. IsRun options (steps_of options q trace report)) (sym same) new
-      ]
+  runs_more p olds new q less = grind (arith, common_steps)
 
   abbrev RightBefore : ℕ → ℕ → Type 0
   RightBefore many n = (line : TraceLine) → slice_get trace n ≡ Some line → partition_in options line < many → ¬ (IsWrongWrite options trace report n)
 
   right_more : (p n : ℕ) → RightBefore p n → ((line : TraceLine) → slice_get trace n ≡ Some line → partition_in options line ≡ p → ¬ (IsWrongWrite options trace report n)) → RightBefore (p + 1) n
-  right_more p n olds new line asked less =
-      elim (split p (partition_in options line) less) as (λ _. ¬ (IsWrongWrite options trace report n)) [
-        | inl below ↦ olds line asked below
-        | inr same ↦ new line asked same
-      ]
+  right_more p n olds new line asked less = grind (arith, common_steps)
 
   write_wrong : (p k : ℕ) (write : Option ℕ) → IsWriteOf options p trace report write → IsFirstWrong options p trace report k → IsWriteOf options (p + 1) trace report (earlier write k)
   write_wrong p k None olds first = (
@@ -109,12 +74,8 @@ module _ (options : Options) (trace : List TraceLine) (report : List Line) where
   )
   write_wrong p k (Some j) olds first =
       elim (ltb j k) as (λ t. ltb j k ≡ t → IsWriteOf options (p + 1) trace report (cond t (Some j) (Some k))) [
-        | true ↦ λ e.
-            let low = ltb-true j k e in
-            (olds.0, λ n line less. right_more p n (λ l. olds.1 n l less) (λ l asked inside. right_before p k n l first (omega arith) asked inside) line)
-        | false ↦ λ f.
-            let low = ltb-false j k f in
-            (first.wrong, λ n line less. right_more p n (λ l. olds.1 n l (omega arith)) (λ l asked inside. right_before p k n l first less asked inside) line)
+        | true ↦ λ e. grind (arith, common_steps, ltb-true j k e, right_more p, right_before p k)
+        | false ↦ λ f. grind (arith, common_steps, ltb-false j k f, right_more p, right_before p k)
       ] refl
 
   write_run : (p : ℕ) (write : Option ℕ) → IsWriteOf options p trace report write → IsRun options (steps_of options p trace report) → IsWriteOf options (p + 1) trace report write
@@ -169,30 +130,13 @@ module _ (options : Options) (trace : List TraceLine) (report : List Line) where
   -- one partition more
   pub found_more : (p : ℕ) (found : Found) (judged : Judged) (fall : Option ℕ) → AreFound options p trace report found → IsJudged options p trace report judged
       → IsFirstFall options p trace report fall → AreFound options (p + 1) trace report (with_fall (with_judged found judged) fall)
-  found_more p found (Wrong k) None olds judged falls = record {
-    write = write_wrong p k found.write olds.write judged;
-    get = λ none. absurd (never found.write k none);
-  }
-  found_more p found (Wrong k) (Some f) olds judged falls = record {
-    write = write_wrong p k found.write olds.write judged;
-    get = λ none. absurd (never found.write k none);
-  }
-  found_more p found (Run None) None olds judged falls = record {
-    write = write_run p found.write olds.write judged.0;
-    get = λ none. get_more p found.get None None (olds.get none) judged.1 falls;
-  }
-  found_more p found (Run None) (Some f) olds judged falls = record {
-    write = write_run p found.write olds.write judged.0;
-    get = λ none. get_more p found.get None (Some f) (olds.get none) judged.1 falls;
-  }
-  found_more p found (Run (Some m)) None olds judged falls = record {
-    write = write_run p found.write olds.write judged.0;
-    get = λ none. get_more p found.get (Some m) None (olds.get none) judged.1 falls;
-  }
-  found_more p found (Run (Some m)) (Some f) olds judged falls = record {
-    write = write_run p found.write olds.write judged.0;
-    get = λ none. get_more p found.get (Some m) (Some f) (olds.get none) judged.1 falls;
-  }
+  found_more p found (Wrong k) None olds judged falls = grind (arith, common_steps, write_wrong p k found.write olds.write judged, never found.write k)
+  found_more p found (Wrong k) (Some f) olds judged falls = grind (arith, common_steps, write_wrong p k found.write olds.write judged, never found.write k)
+  found_more p found (Run None) None olds judged falls = grind (arith, common_steps, write_run p found.write olds.write judged.0, get_more p found.get None None)
+  found_more p found (Run None) (Some f) olds judged falls = grind (arith, common_steps, write_run p found.write olds.write judged.0, get_more p found.get None (Some f))
+  found_more p found (Run (Some m)) None olds judged falls = grind (arith, common_steps, write_run p found.write olds.write judged.0, get_more p found.get (Some m) None)
+  found_more p found (Run (Some m)) (Some f) olds judged falls =
+      grind (arith, common_steps, write_run p found.write olds.write judged.0, get_more p found.get (Some m) (Some f))
 
   -- All partitions
 

@@ -1,18 +1,19 @@
 -- The history of a partition, line by line.
-use Rattle.std.proofs.Common.{◌≡◌, ℕ, zero, suc, ◌+◌, ◌<◌, ◌≤◌, List, [], ◌∷◌, ◌++◌, length, take, drop, Option, Some, None, refl, sym, ap, ◌∙◌, subst, arith, cond, true, false, leb, leb-true, leb-false, zip, slice_get, append-nil, length-append, take-append-drop, ne_eqb, eq-eqb, ◌≢◌}
+use Rattle.std.proofs.Common.{◌≡◌, ℕ, zero, suc, ◌+◌, ◌<◌, ◌≤◌, List, [], ◌∷◌, ◌++◌, length, take, drop, Option, Some, None, refl, sym, ap, ◌∙◌, subst, arith, leb-true, leb-false, zip, slice_get, append-nil, length-append, take-append-drop, ne_eqb, eq-eqb, ◌≢◌}
 use Rattle.std.specs.List.{AllZip, filter_map, cons_option}
 use Rattle.std.proofs.lemmas.Option.{slice_get_within, get_or_from_slice_get}
 use Rattle.std.proofs.lemmas.List.{take_more}
 use Rattle.std.proofs.Math.Seq.{take-append_seam}
 use Rattle.std.proofs.lemmas.List.Elements.{filter_map-append}
+use Rattle.std.proofs.lemmas.Grind.{common_steps}
 use Rattle.partition_model.specs.declared.options.Options.{Options}
 use Rattle.partition_model.specs.History.{IsPrefix, stamp_of}
 use Rattle.partition_model.specs.Run.{RunStep, history_of}
 use Rattle.partition_model.proofs.Rises.{prefix_rises, one_cut}
 use Rattle.mica_trace.specs.declared.line.TraceLine.{TraceLine}
 use Rattle.mica_trace.specs.declared.report.Line.{Line}
-use Rattle.mica_trace.specs.Rounds.{partition_in, write_by, write_in, writes_of}
-use Rattle.mica_trace.specs.LawfulReport.{IsLineFor, step_by, step_in, steps_of, history_after}
+use Rattle.mica_trace.specs.Rounds.{partition_in, write_in, writes_of}
+use Rattle.mica_trace.specs.LawfulReport.{IsLineFor, step_in, steps_of, history_after}
 use Rattle.mica_trace.proofs.ListParts.{zip-append}
 use Rattle.mica_trace.proofs.Prefixes.{history-append}
 use Rattle.mica_trace.proofs.RoundPlaces.{steps_count}
@@ -66,23 +67,24 @@ module _ (options : Options) (p : ℕ) (trace : List TraceLine) (report : List L
   steps_more : (n : ℕ) (line : TraceLine) (printed : Line) → slice_get trace n ≡ Some line → slice_get report n ≡ Some printed
       → steps_to (n + 1) ≡ steps_to n ++ cons_option (step_in options p (line, printed)) []
   steps_more n line printed asked answered =
-      ap (λ (ls : List TraceLine). steps_of options p ls (take (n + 1) report)) (take_one trace n line asked)
-      ∙ ap (λ (rs : List Line). steps_of options p (take n trace ++ line ∷ []) rs) (take_one report n printed answered)
-      ∙ ap (filter_map (step_in options p)) (zip-append (take n trace) (line ∷ []) (take n report) (printed ∷ []) (same_take trace report n same))
-      ∙ filter_map-append (step_in options p) (zip (take n trace) (take n report)) ((line, printed) ∷ [])
+      grind (
+        arith,
+        common_steps,
+        take_one trace n line asked,
+        take_one report n printed answered,
+        zip-append (take n trace) (line ∷ []) (take n report) (printed ∷ []) (same_take trace report n same),
+        same_take trace report n same,
+        filter_map-append (step_in options p) (zip (take n trace) (take n report)) ((line, printed) ∷ []),
+      )
 
   pub steps_here : (n : ℕ) (line : TraceLine) (printed : Line) → slice_get trace n ≡ Some line → slice_get report n ≡ Some printed → partition_in options line ≡ p
       → steps_to (n + 1) ≡ steps_to n ++ step_at line printed
-  steps_here n line printed asked answered inside =
-      steps_more n line printed asked answered
-      ∙ ap (λ b. steps_to n ++ cons_option (cond b (step_by (write_by line.op line.key line.value) printed) None) []) (eq-eqb (partition_in options line) p inside)
+  steps_here n line printed asked answered inside = grind (arith, common_steps, steps_more n line printed asked answered, eq-eqb (partition_in options line) p inside)
 
   pub steps_there : (n : ℕ) (line : TraceLine) (printed : Line) → slice_get trace n ≡ Some line → slice_get report n ≡ Some printed → partition_in options line ≢ p
       → steps_to (n + 1) ≡ steps_to n
   steps_there n line printed asked answered outside =
-      steps_more n line printed asked answered
-      ∙ ap (λ b. steps_to n ++ cons_option (cond b (step_by (write_by line.op line.key line.value) printed) None) []) (ne_eqb (partition_in options line) p outside)
-      ∙ append-nil (steps_to n)
+      grind (arith, common_steps, steps_more n line printed asked answered, ne_eqb (partition_in options line) p outside, append-nil (steps_to n))
 
   pub history_here : (n : ℕ) (line : TraceLine) (printed : Line) → slice_get trace n ≡ Some line → slice_get report n ≡ Some printed → partition_in options line ≡ p
       → history_at options p trace report (n + 1) ≡ history_at options p trace report n ++ history_of (step_at line printed)
@@ -111,9 +113,7 @@ module _ (options : Options) (p : ℕ) (trace : List TraceLine) (report : List L
       )
 
   pub history_grows : (m n : ℕ) → m ≤ n → IsPrefix (history_at options p trace report m) (history_at options p trace report n)
-  history_grows m n le =
-      let parts = steps_parts m n le in
-      (history_of parts.0, ap history_of parts.1 ∙ history-append (steps_to m) parts.0)
+  history_grows m n le = grind (arith, common_steps, steps_parts m n le, history-append (steps_to m))
 
   pub stamps_grow : (m n : ℕ) → m ≤ n → stamp_of options (history_at options p trace report m) ≤ stamp_of options (history_at options p trace report n)
   stamps_grow m n le = prefix_rises options _ _ (history_grows m n le)
@@ -168,23 +168,10 @@ module _ (options : Options) (p : ℕ) (trace : List TraceLine) (report : List L
 
   pub writes_rise : (m d : ℕ) → writes_to m ≤ writes_to (m + d)
   writes_rise m zero = let e : m + 0 ≡ m = omega arith in subst (λ k. writes_to m ≤ writes_to k) (sym e) (omega arith)
-  writes_rise m (suc d) =
-      let e : m + suc d ≡ m + d + 1 = omega arith in
-      let one = writes_one (m + d) in
-      let before = writes_rise m d in
-      subst (λ k. writes_to m ≤ writes_to k) (sym e) (let low = one.0 in omega arith)
+  writes_rise m (suc d) = grind (arith, common_steps, writes_one (m + d), writes_rise m d)
 
   -- each number of writes between two moments is that of a moment between them
   pub some_moment : (from d i : ℕ) → writes_to from ≤ i → i ≤ writes_to (from + d) → (m : ℕ) × (from ≤ m) × (m ≤ from + d) × (writes_to m ≡ i)
-  some_moment from zero i low high =
-      let e : from + 0 ≡ from = omega arith in
-      let at : i ≤ writes_to from = subst (λ k. i ≤ writes_to k) e high in
-      (from, omega arith, omega arith, omega arith)
+  some_moment from zero i low high = grind (arith, common_steps)
   some_moment from (suc d) i low high =
-      let e : from + suc d ≡ from + d + 1 = omega arith in
-      let at : i ≤ writes_to (from + d + 1) = subst (λ k. i ≤ writes_to k) e high in
-      let one = writes_one (from + d) in
-      elim (leb i (writes_to (from + d))) as (λ b. leb i (writes_to (from + d)) ≡ b → (m : ℕ) × (from ≤ m) × (m ≤ from + suc d) × (writes_to m ≡ i)) [
-        | true ↦ λ t. let before = some_moment from d i low (leb-true i (writes_to (from + d)) t) in (before.0, before.1, (let le = before.2 in omega arith), before.3)
-        | false ↦ λ f. let above = leb-false i (writes_to (from + d)) f in let most = one.1 in (from + d + 1, omega arith, omega arith, omega arith)
-      ] refl
+      grind (arith, common_steps, writes_one (from + d), some_moment from d i low, leb-true i (writes_to (from + d)), leb-false i (writes_to (from + d)))

@@ -3,6 +3,7 @@ use Rattle.std.proofs.Common.{◌≡◌, ◌≢◌, ℕ, zero, suc, ◌+◌, ◌
 use borrow.Author.Tests.{eqb-false}
 use Rattle.std.proofs.lemmas.Bool.{true≢false}
 use Rattle.std.proofs.lemmas.Option.{slice_get_within}
+use Rattle.std.proofs.lemmas.Grind.{common_steps}
 use Rattle.partition_model.specs.declared.options.Options.{Options}
 use Rattle.mica_trace.specs.declared.line.TraceOp.{TraceOp}
 use Rattle.mica_trace.specs.declared.line.TraceOp.TheVariants.{Put, Add, Del, Touch, Get, Sync}
@@ -29,10 +30,7 @@ is_get_true Sync is = absurd (cc)
 -- a line that is none stands at no get
 pub no_get_here : (trace : List TraceLine) (report : List Line) (place : ℕ) (line : TraceLine) → slice_get trace place ≡ Some line → is_get line ≡ false
     → (l : TraceLine) (printed : Line) → ¬ (IsGetAt trace report place l printed)
-no_get_here trace report place line is denied l printed get =
-    let here = get.asked in
-    let same : line ≡ l = cc in
-    absurd (true≢false (sym (ap is_get_op get.get) ∙ ap is_get (sym same) ∙ denied))
+no_get_here trace report place line is denied l printed get = grind (arith, common_steps)
 
 pub same_default : (xs : List ℕ) (n d e : ℕ) → n < length xs → get_or xs n d ≡ get_or xs n e
 same_default [] n d e less = absurd (omega arith)
@@ -55,34 +53,13 @@ module _ (options : Options) (p : ℕ) (trace : List TraceLine) (report : List L
   zeros (suc n) zero = refl
   zeros (suc n) (suc q) = zeros n q
 
-  many_zeros : (n : ℕ) → let none : ℕ = 0 in length (replicate n none) ≡ n
-  many_zeros zero = refl
-  many_zeros (suc n) = ap suc (many_zeros n)
-
   pub none_yet : HasNoFall 0 (replicate options.readers 0)
-  none_yet = record {
-    many = many_zeros options.readers;
-    bound = λ m line printed less get inside. absurd (omega arith);
-    source = λ q some. let zero_there = zeros options.readers q in absurd (omega arith);
-    none = λ m line printed less get inside falls. absurd (omega arith);
-  }
+  none_yet = grind (arith, common_steps)
 
   -- a stamp below the greatest one falls behind
   pub falls_here : (place : ℕ) (last : List ℕ) (line : TraceLine) (printed : Line) → HasNoFall place last → IsGetAt trace report place line printed → partition_in options line ≡ p
       → printed_stamp printed < get_or last (reader_of options trace place) 0 → FallsBehind options trace report place line printed
-  falls_here place last line printed so_far get inside less =
-      let found = so_far.source (reader_of options trace place) (omega arith) in
-      let stamp = found.7 in
-      record {
-        place = found.0;
-        earlier = found.3;
-        other = found.1;
-        answer = found.2;
-        get = found.4;
-        reader = found.6;
-        partition = found.5 ∙ sym inside;
-        greater = omega arith;
-      }
+  falls_here place last line printed so_far get inside less = grind (arith, common_steps)
 
   -- one place more, where no get of the partition stands
   pub no_get : (place : ℕ) (last : List ℕ) (line : TraceLine) → slice_get trace place ≡ Some line
@@ -91,13 +68,7 @@ module _ (options : Options) (p : ℕ) (trace : List TraceLine) (report : List L
       let here : (m : ℕ) (l : TraceLine) (printed : Line) → m < place + 1 → IsGetAt trace report m l printed → partition_in options l ≡ p → m < place = λ m l printed less get inside.
       elim (ltb m place) as (λ t. ltb m place ≡ t → m < place) [
         | true ↦ λ e. ltb-true m place e
-        | false ↦ λ f.
-            let high = ltb-false m place f in
-            let at : m ≡ place = omega arith in
-            let asked : slice_get trace place ≡ Some l = subst (λ n. slice_get trace n ≡ Some l) at get.asked in
-            let same : line ≡ l = cc in
-            let is_here : is_get line ≡ true = ap is_get same ∙ ap is_get_op get.get in
-            absurd (other is_here (ap (partition_in options) same ∙ inside))
+        | false ↦ λ f. grind (arith, common_steps)
       ] refl in
       record {
         many = so_far.many;
@@ -184,59 +155,26 @@ pub record NoneFell (options : Options) (p : ℕ) (trace : List TraceLine) (repo
 module _ (options : Options) (p : ℕ) (trace : List TraceLine) (report : List Line) (last : List ℕ) where
   pub none_fell_before : (own : OwnLine) (later : List OwnLine) → NoneFell options p trace report (own ∷ later) last → HasNoFall options p trace report own.place last
   none_fell_before own later fell =
-      let less = fell.left.2 in
-      no_fall_over options p trace report fell.place own.place last fell.left.1 (omega arith) fell.left.3 fell.so_far
+      grind (arith, common_steps, no_fall_over options p trace report fell.place own.place last fell.left.1 (omega arith) fell.left.3 fell.so_far)
 
   pub none_fell_at_end : NoneFell options p trace report [] last → HasNoFall options p trace report (length trace) last
   none_fell_at_end fell = no_fall_over options p trace report fell.place (length trace) last fell.left.0 (omega arith) fell.left.1 fell.so_far
 
   pub none_fell_by_line : (own : OwnLine) (later : List OwnLine) → NoneFell options p trace report (own ∷ later) last
       → ((line : TraceLine) → slice_get trace own.place ≡ Some line → is_get line ≡ false) → NoneFell options p trace report later last
-  none_fell_by_line own later fell other =
-      let here = fell.left.0 in
-      record {
-        place = own.place + 1;
-        left = fell.left.4;
-        so_far = no_get options p trace report own.place last here.line here.is (λ yes. absurd (true≢false (sym yes ∙ other here.line here.is))) (none_fell_before own later fell);
-      }
+  none_fell_by_line own later fell other = grind (arith, common_steps, no_get options p trace report own.place last, true≢false, none_fell_before own later fell)
 
   pub none_fell_by_get : (own : OwnLine) (later : List OwnLine) (line : TraceLine) (printed : Line) → NoneFell options p trace report (own ∷ later) last → IsGetAt trace report own.place line printed
       → get_or last (own.gets % options.readers) 0 ≤ printed_stamp printed → 1 ≤ options.readers
       → NoneFell options p trace report later (set last (own.gets % options.readers) (printed_stamp printed))
   none_fell_by_get own later line printed fell get low some =
-      let here = fell.left.0 in
-      let reader : own.gets % options.readers ≡ reader_of options trace own.place = ap (λ n. n % options.readers) here.gets in
-      let at = here.is in
-      let at' = get.asked in
-      let same : here.line ≡ line = cc in
-      let below : reader_of options trace own.place < options.readers = omega arith in
-      record {
-        place = own.place + 1;
-        left = fell.left.4;
-        so_far = subst (λ q. HasNoFall options p trace report (own.place + 1) (set last q (printed_stamp printed))) (sym reader)
-            (one_get options p trace report own.place last line printed (none_fell_before own later fell) get (ap (partition_in options) (sym same) ∙ here.inside)
-            (subst (λ q. get_or last q 0 ≤ printed_stamp printed) reader low) below);
-      }
+      grind (arith, common_steps, one_get options p trace report own.place last line printed (none_fell_before own later fell) get, none_fell_before own later fell)
 
   -- the get that falls
   pub first_to_fall : (own : OwnLine) (later : List OwnLine) (line : TraceLine) (printed : Line) → NoneFell options p trace report (own ∷ later) last → IsGetAt trace report own.place line printed
       → printed_stamp printed < get_or last (own.gets % options.readers) 0 → IsFirstFall options p trace report (Some own.place)
   first_to_fall own later line printed fell get less =
-      let here = fell.left.0 in
-      let reader : own.gets % options.readers ≡ reader_of options trace own.place = ap (λ n. n % options.readers) here.gets in
-      let at = here.is in
-      let at' = get.asked in
-      let same : here.line ≡ line = cc in
-      let so_far = none_fell_before own later fell in (
-        (
-          line,
-          printed,
-          get,
-          falls_here options p trace report own.place last line printed so_far get (ap (partition_in options) (sym same) ∙ here.inside)
-              (subst (λ q. printed_stamp printed < get_or last q 0) reader less),
-        ),
-        so_far.none,
-      )
+      grind (arith, common_steps, none_fell_before own later fell, falls_here options p trace report own.place last line printed)
 
   pub none_to_fall : NoneFell options p trace report [] last → IsFirstFall options p trace report None
   none_to_fall fell n line printed get inside falls =

@@ -1,11 +1,11 @@
 -- A get is answered in its round exactly where it is at a moment between the round's ends.
-use Rattle.std.proofs.Common.{◌≡◌, ℕ, suc, ◌+◌, ◌-◌, ◌<◌, ◌≤◌, List, length, take, sym, ap, ◌∙◌, subst, arith}
+use Rattle.std.proofs.Common.{◌≡◌, ℕ, ◌+◌, ◌-◌, ◌<◌, ◌≤◌, List, length, sym, ap, ◌∙◌, subst, arith}
 use Rattle.std.specs.List.{AllZip}
+use Rattle.std.proofs.lemmas.Grind.{common_steps}
 use Rattle.partition_model.specs.declared.options.Options.{Options}
 use Rattle.partition_model.specs.History.{History}
 use Rattle.mica_trace.specs.declared.line.TraceLine.{TraceLine}
 use Rattle.mica_trace.specs.declared.report.Line.{Line}
-use Rattle.mica_trace.specs.TraceGrammar.{syncs_in}
 use Rattle.mica_trace.specs.Rounds.{partition_in, round_of, lines_before, writes_of, round_begin, round_end}
 use Rattle.mica_trace.specs.LawfulReport.{IsLineFor, history_after, Answers, IsGetAt, IsAnsweredInRound}
 use Rattle.mica_trace.proofs.ListParts.{length_zip}
@@ -20,10 +20,7 @@ module _ (options : Options) (trace : List TraceLine) (report : List Line) (all 
   begins p n low high = ap (λ (ls : List TraceLine). length (writes_of options p ls)) (ap (lines_before trace) (round.inside n low high) ∙ round.starts)
 
   ends : (p n : ℕ) → from ≤ n → n < to → round_end options p trace (round_of trace n) ≡ writes_to options p trace report same to
-  ends p n low high =
-      let here = round.inside n low high in
-      let next : suc (round_of trace n) ≡ syncs_in (take from trace) + 1 = omega arith in
-      ap (λ (ls : List TraceLine). length (writes_of options p ls)) (ap (lines_before trace) next ∙ round.ends)
+  ends p n low high = grind (arith, common_steps)
 
   pub in_round : (p n : ℕ) (line : TraceLine) (printed : Line) → from ≤ n → n < to → IsGetAt trace report n line printed → partition_in options line ≡ p
       → IsAnsweredBetween options p trace report from to n → IsAnsweredInRound options trace report n line printed

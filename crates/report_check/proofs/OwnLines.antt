@@ -1,11 +1,12 @@
 -- The lines of a partition, shared out, cut at a place, and gone through.
-use Rattle.std.proofs.Common.{◌≡◌, ◌≢◌, ℕ, zero, suc, ◌+◌, ◌-◌, ◌<◌, ◌≤◌, List, [], ◌∷◌, ◌++◌, length, take, drop, set, slice_get, get_or, Some, true, false, cond, not, refl, sym, ap, ◌∙◌, subst, arith, ltb, ltb-true, ltb-false, leb, leb-true, leb-false, eqb, eqb-true, append_assoc, append-nil, length-set, drop-cons}
+use Rattle.std.proofs.Common.{◌≡◌, ◌≢◌, ℕ, zero, suc, ◌+◌, ◌-◌, ◌<◌, ◌≤◌, List, [], ◌∷◌, ◌++◌, length, take, drop, set, slice_get, get_or, Some, true, false, cond, not, refl, sym, ◌∙◌, subst, arith, ltb, ltb-true, ltb-false, leb, leb-false, eqb, eqb-true, append_assoc, append-nil, length-set}
 use Rattle.std.proofs.Math.Seq.{drop-nil}
 use borrow.Author.Tests.{eqb-false}
 use Rattle.std.specs.Global.{Vec}
 use Rattle.std.specs.List.{position_or_len, AllByRecursion as AllOf}
 use Rattle.std.proofs.lemmas.List.Sums.{prefix_len-le-length}
 use Rattle.std.proofs.lemmas.Option.{slice_get_within}
+use Rattle.std.proofs.lemmas.Grind.{common_steps}
 use Rattle.list_laws.proofs.Places.{element_at}
 use Rattle.partition_model.specs.declared.options.Options.{Options}
 use Rattle.mica_trace.specs.declared.line.TraceLine.{TraceLine}
@@ -20,10 +21,7 @@ module _ (options : Options) (p : ℕ) (trace : List TraceLine) where
   none_there n m line low high is = absurd (omega arith)
 
   none_joined : (from place to : ℕ) → HasNone options p trace from place → HasNone options p trace place to → HasNone options p trace from to
-  none_joined from place to one two n line low high is = elim (ltb n place) as (λ b. ltb n place ≡ b → partition_in options line ≢ p) [
-    | true ↦ λ e. one n line low (ltb-true n place e) is
-    | false ↦ λ f. two n line (ltb-false n place f) high is
-  ] refl
+  none_joined from place to one two n line low high is = grind (arith, common_steps)
 
   -- the place where they begin may lie further in front
   pub earlier_lines : (from place to : ℕ) (lines : List OwnLine) → from ≤ place → HasNone options p trace from place
@@ -36,13 +34,8 @@ module _ (options : Options) (p : ℕ) (trace : List TraceLine) where
   pub own_at : (from to : ℕ) (lines : List OwnLine) (i : ℕ) (own : OwnLine) → AreLinesOf options p trace from to lines → slice_get lines i ≡ Some own
       → IsOwn options p trace own × (from ≤ own.place) × (own.place < to)
   own_at from to [] i own are is = absurd (cc)
-  own_at from to (x ∷ later) zero own are is =
-      let same : x ≡ own = cc in subst (λ (o : OwnLine). IsOwn options p trace o × (from ≤ o.place) × (o.place < to)) same (are.0, are.1, are.2)
-  own_at from to (x ∷ later) (suc i) own are is =
-      let found = own_at (x.place + 1) to later i own are.4 is in
-      let low = found.1 in
-      let first = are.1 in
-      (found.0, omega arith, found.2)
+  own_at from to (x ∷ later) zero own are is = grind (arith, common_steps)
+  own_at from to (x ∷ later) (suc i) own are is = grind (arith, common_steps, own_at (x.place + 1) to later i own are.4 is)
 
   pub line_among : (from to : ℕ) (lines : List OwnLine) (n : ℕ) (line : TraceLine) → AreLinesOf options p trace from to lines → from ≤ n → n < to → slice_get trace n ≡ Some line → partition_in options line ≡ p
       → (i : ℕ) × (own : OwnLine) × (slice_get lines i ≡ Some own) × (own.place ≡ n)
@@ -78,11 +71,7 @@ module _ (options : Options) (p : ℕ) (trace : List TraceLine) where
       let count = position_or_len (λ (o : OwnLine). leb place o.place) later in
       elim (leb place own.place) as (λ b. leb place own.place ≡ b
       → AreLinesOf options p trace from place (take (cond (not b) (1 + count) 0) (own ∷ later)) × AreLinesOf options p trace place to (drop (cond (not b) (1 + count) 0) (own ∷ later))) [
-        | true ↦ λ e.
-            let behind = leb-true place own.place e in (
-              (low, λ n line low' high' is. are.3 n line low' (omega arith) is),
-              (are.0, behind, are.2, (λ n line low' high' is. are.3 n line (omega arith) high' is), are.4),
-            )
+        | true ↦ λ e. grind (arith, common_steps)
         | false ↦ λ f.
             let before = leb-false place own.place f in
             let cut = lines_cut (own.place + 1) place to later (omega arith) high are.4 in
@@ -102,15 +91,11 @@ module _ (options : Options) (p : ℕ) (trace : List TraceLine) where
         (skip from d (omega arith) (λ n line low less at. none n line low (omega arith) at) is))
 
     pub skip_to : (from to : ℕ) → from ≤ to → to ≤ length trace → HasNone options p trace from to → P from → P to
-    skip_to from to low high none is =
-        let e : from + (to - from) ≡ to = omega arith in
-        subst P e (skip from (to - from) (omega arith) (λ n line low' less at. none n line low' (omega arith) at) is)
+    skip_to from to low high none is = grind (arith, common_steps, skip from (to - from) (omega arith))
 
 -- the next of those that are left
 pub left_one : {X : Type 0} (xs : List X) (at : ℕ) (x : X) → at < length xs → x ≡ get_or xs at x → drop at xs ≡ x ∷ drop (at + 1) xs
-left_one xs at x less is =
-    let e : suc at ≡ at + 1 = omega arith in
-    drop-cons xs at x less ∙ ap (λ y. y ∷ drop (suc at) xs) (sym is) ∙ ap (λ n. x ∷ drop n xs) e
+left_one xs at x less is = grind (arith, common_steps)
 
 -- and none, behind the last
 pub left_none : {X : Type 0} (xs : List X) (at : ℕ) → length xs ≤ at → drop at xs ≡ []
@@ -127,13 +112,6 @@ read_same [] at d less = absurd (omega arith)
 read_same (x ∷ xs) zero d less = refl
 read_same (x ∷ xs) (suc at) d less = read_same xs at d (omega arith)
 
-pub empties_push : (xs : List (Vec OwnLine)) (x : Vec OwnLine) → x.items ≡ [] → ((i : ℕ) (y : Vec OwnLine) → slice_get xs i ≡ Some y → y.items ≡ [])
-    → (i : ℕ) (y : Vec OwnLine) → slice_get (xs ++ x ∷ []) i ≡ Some y → y.items ≡ []
-empties_push [] x empty all zero y is = cc
-empties_push [] x empty all (suc i) y is = absurd (cc)
-empties_push (z ∷ xs) x empty all zero y is = all 0 y is
-empties_push (z ∷ xs) x empty all (suc i) y is = empties_push xs x empty (λ j w here. all (suc j) w here) i y is
-
 pub all_seen : {X : Type 0} (P : X → Type 0) (xs : List X) (i : ℕ) (x : X) → AllOf P xs → slice_get xs i ≡ Some x → P x
 all_seen P [] i x all is = absurd (cc)
 all_seen P (y ∷ xs) zero x all is = let same : y ≡ x = cc in subst P same all.0
@@ -149,10 +127,7 @@ pub record AreSharedTo (options : Options) (trace : List TraceLine) (place : ℕ
 module _ (options : Options) (trace : List TraceLine) where
   pub shared_none : (shared : List (Vec OwnLine)) → length shared ≡ options.partitions → ((p : ℕ) (own : Vec OwnLine) → slice_get shared p ≡ Some own → own.items ≡ [])
       → AreSharedTo options trace 0 shared
-  shared_none shared many empty = record {
-    many = many;
-    each = λ p own is rest are. subst (λ (ls : List OwnLine). AreLinesOf options p trace 0 (length trace) (ls ++ rest)) (sym (empty p own is)) are;
-  }
+  shared_none shared many empty = grind (arith, common_steps)
 
   pub shared_more : (place gets : ℕ) (line : TraceLine) (shared : List (Vec OwnLine)) (p : ℕ) (old new : Vec OwnLine) → AreSharedTo options trace place shared → slice_get trace place ≡ Some line
       → p ≡ partition_in options line → slice_get shared p ≡ Some old → new.items ≡ old.items ++ record { place = place; gets = gets } ∷ [] → gets ≡ gets_in (take place trace)
@@ -163,24 +138,11 @@ module _ (options : Options) (trace : List TraceLine) where
         let seen = seen_set shared p q new own here in
         elim (eqb q p) as (λ b. eqb q p ≡ b → AreLinesOf options q trace 0 (length trace) (own.items ++ rest)) [
           | true ↦ λ e.
-              let same = eqb-true q p e in
-              let one : OwnLine = record { place = place; gets = gets } in
-              let all : own.items ++ rest ≡ old.items ++ (one ∷ rest) = ap (λ (o : Vec OwnLine). o.items ++ rest) (seen.0 same) ∙ ap (λ ls. ls ++ rest) pushed ∙ append_assoc old.items (one ∷ []) rest in
-              subst (AreLinesOf options q trace 0 (length trace)) (sym all)
-              (so_far.each q old (subst (λ n. slice_get shared n ≡ Some old) (sym same) at) (one ∷ rest)
-              (record { line = line; is = is; inside = sym inside ∙ sym same; gets = counted }, omega arith, slice_get_within trace place line is, none_there options q trace place, are))
+              grind (arith, common_steps, eqb-true q p e, append_assoc old.items, slice_get_within trace place line is, none_there options q trace place)
           | false ↦ λ f.
-              let other = eqb-false q p f in
-              so_far.each q own (seen.1 other) rest (earlier_lines options q trace place (place + 1) (length trace) rest (omega arith)
-              (λ n l low high at' in_q.
-              let e : n ≡ place = omega arith in
-              let there : slice_get trace place ≡ Some l = subst (λ m. slice_get trace m ≡ Some l) e at' in
-              let same : line ≡ l = cc in
-              other (sym in_q ∙ ap (partition_in options) (sym same) ∙ sym inside)) are)
+              grind (arith, common_steps, eqb-false q p f, earlier_lines options q trace place (place + 1) (length trace) rest (omega arith))
         ] refl;
   }
 
   pub shared_all : (shared : List (Vec OwnLine)) → AreSharedTo options trace (length trace) shared → (p : ℕ) (own : Vec OwnLine) → slice_get shared p ≡ Some own → AreLinesOf options p trace 0 (length trace) own.items
-  shared_all shared so_far p own is =
-      subst (AreLinesOf options p trace 0 (length trace)) (append-nil own.items)
-      (so_far.each p own is [] (omega arith, none_there options p trace (length trace)))
+  shared_all shared so_far p own is = grind (arith, common_steps, append-nil own.items, none_there options p trace (length trace))

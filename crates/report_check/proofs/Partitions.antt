@@ -1,7 +1,8 @@
 -- The rounds of a partition, one behind another.
-use Rattle.std.proofs.Common.{◌≡◌, ℕ, ◌<◌, ◌≤◌, List, [], ◌∷◌, length, take, drop, Option, Some, None, refl, sym, ap, ◌∙◌, subst, arith, get_or, length-drop, ◌+◌, ◌-◌, true, false, ltb, ltb-true, ltb-false, leb, is_some}
+use Rattle.std.proofs.Common.{◌≡◌, ℕ, ◌<◌, ◌≤◌, List, [], ◌∷◌, length, take, drop, Option, Some, None, refl, sym, subst, arith, get_or, length-drop, ◌+◌, ◌-◌, true, false, ltb, ltb-true, ltb-false, leb, is_some}
 use Rattle.std.specs.List.{AllZip, position_or_len}
 use Rattle.std.proofs.lemmas.List.{drop-drop, take_rest}
+use Rattle.std.proofs.lemmas.Grind.{common_steps}
 use Rattle.partition_model.specs.declared.options.Options.{Options}
 use Rattle.partition_model.specs.Run.{IsRun}
 use Rattle.mica_trace.specs.declared.line.TraceLine.{TraceLine}
@@ -63,35 +64,19 @@ pub record StandsBetween (options : Options) (p : ℕ) (trace : List TraceLine) 
 module _ (options : Options) (p : ℕ) (trace : List TraceLine) (report : List Line) (all : AllZip IsLineFor trace report) where
   pub stands_at_start : (ends : List ℕ) (lines : List OwnLine) (machine : Machine) → AreRounds trace 0 ends → AreLinesOf options p trace 0 (length trace) lines
       → IsAfter options [] machine → StandsBetween options p trace report ends lines machine None
-  stands_at_start ends lines machine rounds are after = record {
-    from = 0;
-    rounds = rounds;
-    left = are;
-    run = tt;
-    after = after;
-    first = λ n line printed low less get inside. absurd (omega arith);
-  }
+  stands_at_start ends lines machine rounds are after = grind (arith, common_steps)
 
   -- the lines of the next round, and those that are left
   pub before_round : (to : ℕ) (later : List ℕ) (lines : List OwnLine) (machine : Machine) (missed : Option ℕ) → (between : StandsBetween options p trace report (to ∷ later) lines machine missed)
       → IsBeforeRound options p trace report between.from to (take (position_or_len (λ own. leb to own.place) lines) lines) machine
       × AreLinesOf options p trace to (length trace) (drop (position_or_len (λ own. leb to own.place) lines) lines)
-  before_round to later lines machine missed between =
-      let round = between.rounds.0 in
-      let cut = lines_cut options p trace between.from to (length trace) lines round.low round.high between.left in
-      (record { own = cut.0; high = round.high; run = between.run; after = between.after }, cut.1)
+  before_round to later lines machine missed between = grind (arith, common_steps, lines_cut options p trace between.from to (length trace) lines)
 
   pub stands_behind : (to : ℕ) (later : List ℕ) (lines : List OwnLine) (old machine : Machine) (missed found : Option ℕ) → (between : StandsBetween options p trace report (to ∷ later) lines old missed)
       → IsJudgedRound options p trace report between.from to machine (Run found)
       → StandsBetween options p trace report later (drop (position_or_len (λ own. leb to own.place) lines) lines) machine (first_some missed found)
-  stands_behind to later lines old machine missed found between judged = record {
-    from = to;
-    rounds = between.rounds.1;
-    left = (before_round to later lines old missed between).1;
-    run = judged.0;
-    after = judged.1;
-    first = missed_more options p trace report all between.from to between.rounds.0 missed found between.first judged.2;
-  }
+  stands_behind to later lines old machine missed found between judged =
+      grind (arith, common_steps, before_round to later lines old missed between, missed_more options p trace report all between.from to between.rounds.0 missed found between.first judged.2)
 
   pub judged_at_end : (lines : List OwnLine) (machine : Machine) (missed : Option ℕ) → StandsBetween options p trace report [] lines machine missed → IsJudged options p trace report (Run missed)
   judged_at_end lines machine missed between =
@@ -117,10 +102,7 @@ module _ (options : Options) (p : ℕ) (trace : List TraceLine) (report : List L
   rest = take (length lines - first) (drop first lines)
 
   pub lines_within : first ≤ length lines → first + count ≤ length lines
-  lines_within low =
-      let short = cut_within to rest in
-      let many = ap length (take_rest lines first) ∙ length-drop first lines in
-      omega arith
+  lines_within low = grind (arith, common_steps, cut_within to rest, take_rest lines first, length-drop first lines)
 
   module _ (machine : Machine) (missed : Option ℕ) (between : StandsBetween options p trace report (drop round ends) (drop first lines) machine missed) where
     abbrev pub here : StandsBetween options p trace report (to ∷ drop (round + 1) ends) rest machine missed
@@ -128,14 +110,9 @@ module _ (options : Options) (p : ℕ) (trace : List TraceLine) (report : List L
         (subst (λ (ls : List OwnLine). StandsBetween options p trace report (drop round ends) ls machine missed) (sym (take_rest lines first)) between)
 
     pub next_round : IsBeforeRound options p trace report here.from to (take count rest) machine
-    next_round = subst (λ k. IsBeforeRound options p trace report here.from to (take k rest) machine) (sym count_is)
-        (before_round options p trace report all to (drop (round + 1) ends) rest machine missed here).0
+    next_round = grind (arith, common_steps, before_round options p trace report all to (drop (round + 1) ends) rest machine missed here)
 
     pub round_behind : (new : Machine) (found now : Option ℕ) → IsJudgedRound options p trace report here.from to new (Run found) → now ≡ first_some missed found
         → StandsBetween options p trace report (drop (round + 1) ends) (drop (first + count) lines) new now
     round_behind new found now judged is =
-        let left : drop (position_or_len (λ (own : OwnLine). leb to own.place) rest) rest ≡ drop (first + count) lines =
-        ap (λ k. drop k rest) (sym count_is) ∙ ap (drop count) (take_rest lines first) ∙ drop-drop count first lines in
-        subst (λ o. StandsBetween options p trace report (drop (round + 1) ends) (drop (first + count) lines) new o) (sym is)
-        (subst (λ (ls : List OwnLine). StandsBetween options p trace report (drop (round + 1) ends) ls new (first_some missed found)) left
-        (stands_behind options p trace report all to (drop (round + 1) ends) rest machine new missed found here judged))
+        grind (arith, common_steps, take_rest lines first, drop-drop count first lines, stands_behind options p trace report all to (drop (round + 1) ends) rest machine new missed found here judged)

@@ -1,6 +1,7 @@
 -- Where rounds begin and end.
-use Rattle.std.proofs.Common.{◌≡◌, ℕ, zero, suc, ◌+◌, ◌<◌, ◌≤◌, ◌⊎◌, inl, List, [], ◌∷◌, ◌++◌, length, take, Some, refl, sym, ap, ◌∙◌, subst, arith, append_assoc, append-nil, cond, true, false, slice_get, leb, leb-true, leb-false}
+use Rattle.std.proofs.Common.{◌≡◌, ℕ, zero, suc, ◌+◌, ◌<◌, ◌≤◌, ◌⊎◌, inl, List, [], ◌∷◌, ◌++◌, length, take, Some, refl, sym, ap, ◌∙◌, arith, append-nil, cond, true, false, slice_get, rules}
 use Rattle.std.proofs.lemmas.Option.{slice_get_within}
+use Rattle.std.proofs.lemmas.Grind.{common_steps}
 use Rattle.mica_trace.specs.declared.line.TraceLine.{TraceLine}
 use Rattle.mica_trace.specs.TraceGrammar.{is_sync, syncs_in}
 use Rattle.mica_trace.specs.Rounds.{lines_before}
@@ -16,10 +17,7 @@ no_lines (l ∷ lines) = refl
 pub behind_sync : (lines : List TraceLine) (n : ℕ) (line : TraceLine) → slice_get lines n ≡ Some line → is_sync line ≡ true
     → lines_before lines (suc (syncs_in (take n lines))) ≡ take (suc n) lines
 behind_sync [] n line is sync = absurd (cc)
-behind_sync (l ∷ lines) zero line is sync =
-    let same : l ≡ line = cc in
-    let here : is_sync l ≡ true = ap is_sync same ∙ sync in
-    ap (λ ls. l ∷ ls) (ap (λ b. lines_before lines (cond b 0 1)) here ∙ no_lines lines)
+behind_sync (l ∷ lines) zero line is sync = grind (arith, common_steps, no_lines lines)
 behind_sync (l ∷ lines) (suc n) line is sync =
     let later = behind_sync lines n line is sync in
     let counted = syncs_cons l (take n lines) in
@@ -51,45 +49,16 @@ pub syncs_more : (lines : List TraceLine) (n : ℕ) (line : TraceLine) → slice
 syncs_more lines n line is = ap syncs_in (take_one lines n line is) ∙ syncs_push (take n lines) line
 
 pub next_starts : (lines : List TraceLine) (n : ℕ) (line : TraceLine) → slice_get lines n ≡ Some line → is_sync line ≡ true → StartsRound lines (n + 1)
-next_starts lines n line is sync =
-    let more = syncs_more lines n line is ∙ ap (λ b. syncs_in (take n lines) + cond b 1 0) sync in
-    let at : syncs_in (take (n + 1) lines) ≡ suc (syncs_in (take n lines)) = omega arith in
-    let place : suc n ≡ n + 1 = omega arith in
-    ap (lines_before lines) at ∙ behind_sync lines n line is sync ∙ ap (λ k. take k lines) place
+next_starts lines n line is sync = search (rules, syncs_more lines n line is, behind_sync lines n line is sync)
 
 -- How far a round goes
 
 abbrev pub IsInside : List TraceLine → ℕ → ℕ → Type 0
 IsInside lines from to = (n : ℕ) → from ≤ n → n ≤ to → syncs_in (take n lines) ≡ syncs_in (take from lines)
 
-pub inside_one : (lines : List TraceLine) (from : ℕ) → IsInside lines from from
-inside_one lines from n low high = let e : n ≡ from = omega arith in ap (λ k. syncs_in (take k lines)) e
-
-pub inside_more : (lines : List TraceLine) (from place : ℕ) (line : TraceLine) → slice_get lines place ≡ Some line → is_sync line ≡ false → from ≤ place → IsInside lines from place → IsInside lines from (place + 1)
-inside_more lines from place line is denied low inside n low' high =
-    elim (leb n place) as (λ t. leb n place ≡ t → syncs_in (take n lines) ≡ syncs_in (take from lines)) [
-      | true ↦ λ e. inside n low' (leb-true n place e)
-      | false ↦ λ f.
-          let above = leb-false n place f in
-          let at : n ≡ place + 1 = omega arith in
-          let one = syncs_more lines place line is ∙ ap (λ b. syncs_in (take place lines) + cond b 1 0) denied in
-          let before = inside place low (omega arith) in
-          ap (λ k. syncs_in (take k lines)) at ∙ omega arith
-    ] refl
-
 pub round_to_sync : (lines : List TraceLine) (from place : ℕ) (line : TraceLine) → StartsRound lines from → slice_get lines place ≡ Some line → is_sync line ≡ true → from ≤ place
     → IsInside lines from place → IsRound lines from (place + 1)
-round_to_sync lines from place line begins is sync low inside = record {
-  starts = begins;
-  low = omega arith;
-  high = (let less = slice_get_within lines place line is in omega arith);
-  ends =
-      let before = inside place low (omega arith) in
-      let at : syncs_in (take from lines) + 1 ≡ suc (syncs_in (take place lines)) = omega arith in
-      let next : suc place ≡ place + 1 = omega arith in
-      ap (lines_before lines) at ∙ behind_sync lines place line is sync ∙ ap (λ k. take k lines) next;
-  inside = λ n low' less. inside n low' (omega arith);
-}
+round_to_sync lines from place line begins is sync low inside = search (rules, starts, slice_get_within lines place line is, behind_sync lines place line is sync)
 
 pub round_to_end : (lines : List TraceLine) (from : ℕ) → StartsRound lines from → from ≤ length lines → IsInside lines from (length lines) → IsRound lines from (length lines)
 round_to_end lines from begins low inside =
@@ -115,13 +84,7 @@ ends_none lines = record { high = omega arith; begins = inl (starts lines); whol
 
 pub ends_more : (lines : List TraceLine) (from to : ℕ) (ends : List ℕ) → AreEndsTo lines from ends → IsRound lines from to → StartsRound lines to ⊎ (to ≡ length lines)
     → AreEndsTo lines to (ends ++ to ∷ [])
-ends_more lines from to ends so_far round next = record {
-  high = round.high;
-  begins = next;
-  whole = λ later are. subst (AreRounds lines 0) (sym (append_assoc ends (to ∷ []) later)) (so_far.whole (to ∷ later) (round, are));
-}
+ends_more lines from to ends so_far round next = grind (arith, common_steps)
 
 pub ends_all : (lines : List TraceLine) (from : ℕ) (ends : List ℕ) → AreEndsTo lines from ends → length lines ≤ from → AreRounds lines 0 ends
-ends_all lines from ends so_far past =
-    let high = so_far.high in
-    subst (AreRounds lines 0) (append-nil ends) (so_far.whole [] (omega arith))
+ends_all lines from ends so_far past = grind (arith, common_steps, append-nil ends)

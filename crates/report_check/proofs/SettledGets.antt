@@ -1,6 +1,7 @@
 -- The gets that are settled, moment by moment.
-use Rattle.std.proofs.Common.{◌≡◌, ℕ, ◌+◌, ◌<◌, ◌≤◌, ◌⊎◌, inl, inr, List, length, Option, Some, None, refl, sym, ap, ◌∙◌, subst, arith, ltb, ltb-true, ltb-false, true, false, slice_get, cond}
+use Rattle.std.proofs.Common.{◌≡◌, ℕ, ◌+◌, ◌<◌, ◌≤◌, ◌⊎◌, inl, inr, List, length, Option, Some, None, refl, sym, subst, arith, ltb, ltb-true, ltb-false, true, false, slice_get}
 use Rattle.std.proofs.lemmas.Option.{IfSome_then, MatchOption-at_some}
+use Rattle.std.proofs.lemmas.Grind.{common_steps}
 use Rattle.partition_model.specs.declared.options.Options.{Options}
 use Rattle.partition_model.specs.History.{History, state_of, stamp_of}
 use Rattle.mica_trace.specs.declared.line.TraceLine.{TraceLine}
@@ -25,48 +26,19 @@ answers_after options history key (Hit s value) is = is
 answers_after options history key (Miss s) is = is
 answers_after options history key Sync is = absurd is
 
-pub answers_in : (options : Options) (history : History) (key : List ℕ) (printed : Line) → Answers options history key printed → AnswersIn (state_of options history) key printed
-answers_in options history key (Wrote op outcome s) is = absurd is
-answers_in options history key (Hit s value) is = is
-answers_in options history key (Miss s) is = is
-answers_in options history key Sync is = absurd is
-
-pub stamp_answered : (options : Options) (history : History) (key : List ℕ) (printed : Line) → Answers options history key printed → printed_stamp printed ≡ stamp_of options history
-stamp_answered options history key (Wrote op outcome s) is = absurd is
-stamp_answered options history key (Hit s value) is = is.0
-stamp_answered options history key (Miss s) is = is.0
-stamp_answered options history key Sync is = absurd is
-
 -- Places
-
-pub missed_least : (missed : Option ℕ) (m n : ℕ) → m ≤ n → IsMissedBy missed m → IsMissedBy missed n
-missed_least None m n le is = absurd is
-missed_least (Some k) m n le is = let low : k ≤ m = is in let goal : k ≤ n = omega arith in goal
 
 pub earlier_here : (missed : Option ℕ) (place : ℕ) → IsMissedBy (earlier missed place) place
 earlier_here None place = let goal : place ≤ place = omega arith in goal
-earlier_here (Some k) place =
-    elim (ltb k place) as (λ b. ltb k place ≡ b → IsMissedBy (cond b (Some k) (Some place)) place) [
-      | true ↦ λ e. let less = ltb-true k place e in let goal : k ≤ place = omega arith in goal
-      | false ↦ λ e. let goal : place ≤ place = omega arith in goal
-    ] refl
+earlier_here (Some k) place = grind (arith, common_steps)
 
 pub earlier_kept : (missed : Option ℕ) (place n : ℕ) → IsMissedBy missed n → IsMissedBy (earlier missed place) n
 earlier_kept None place n is = absurd is
-earlier_kept (Some k) place n is =
-    let low : k ≤ n = is in
-    elim (ltb k place) as (λ b. ltb k place ≡ b → IsMissedBy (cond b (Some k) (Some place)) n) [
-      | true ↦ λ e. low
-      | false ↦ λ e. let more = ltb-false k place e in let goal : place ≤ n = omega arith in goal
-    ] refl
+earlier_kept (Some k) place n is = grind (arith, common_steps)
 
 pub earlier_one : (missed : Option ℕ) (place : ℕ) → (earlier missed place ≡ missed) ⊎ (earlier missed place ≡ Some place)
 earlier_one None place = inr refl
-earlier_one (Some k) place =
-    elim (ltb k place) as (λ b. (cond b (Some k) (Some place) ≡ Some k) ⊎ (cond b (Some k) (Some place) ≡ Some place)) [
-      | true ↦ inl refl
-      | false ↦ inr refl
-    ]
+earlier_one (Some k) place = grind (arith, common_steps)
 
 module _ (options : Options) (p : ℕ) (trace : List TraceLine) (report : List Line) (same : length report ≡ length trace) (from : ℕ) (asked : List Asked) (gets : AreGets trace report asked) where
   abbrev history : ℕ → History
@@ -77,44 +49,16 @@ module _ (options : Options) (p : ℕ) (trace : List TraceLine) (report : List L
 
   -- the stamp of a get is that of the moment at which it is answered
   stamp_between : (now j : ℕ) (a : Asked) → slice_get asked j ≡ Some a → (b : Between now a.place) → a.stamp ≡ stamp_of options (history b.moment)
-  stamp_between now j a is b =
-      let found = gets j a is in
-      let one = found.2.answered in
-      let two = b.get.answered in
-      let printed = found.1 in
-      let other = b.printed in
-      let same_printed : printed ≡ other = cc in
-      found.3 ∙ ap printed_stamp same_printed ∙ stamp_answered options (history b.moment) b.line.key b.printed b.answers
+  stamp_between now j a is b = grind (arith, common_steps)
 
   longer : (now later place : ℕ) → now ≤ later → Between now place → Between later place
-  longer now later place le b = record {
-    line = b.line;
-    printed = b.printed;
-    get = b.get;
-    moment = b.moment;
-    low = b.low;
-    high = (let high = b.high in omega arith);
-    answers = b.answers;
-  }
+  longer now later place le b = grind (arith, common_steps)
 
   at_now : (now place : ℕ) → from ≤ now → AnswersNow (state_of options (history now)) trace report place → Between now place
-  at_now now place low is = record {
-    line = is.line;
-    printed = is.printed;
-    get = is.get;
-    moment = now;
-    low = low;
-    high = omega arith;
-    answers = answers_after options (history now) is.line.key is.printed is.answers;
-  }
+  at_now now place low is = grind (arith, common_steps)
 
   now_at : (now later place : ℕ) (b : Between later place) → b.moment ≡ now → AnswersNow (state_of options (history now)) trace report place
-  now_at now later place b is = record {
-    line = b.line;
-    printed = b.printed;
-    get = b.get;
-    answers = answers_in options (history now) b.line.key b.printed (subst (λ m. Answers options (history m) b.line.key b.printed) is b.answers);
-  }
+  now_at now later place b is = grind (arith, common_steps)
 
   -- an answer at a later moment is one at this moment, where the get's stamp is not above it
   not_later : (now j : ℕ) (a : Asked) → slice_get asked j ≡ Some a → from ≤ now → a.stamp ≤ stamp_of options (history now) → Between (now + 1) a.place → Between now a.place
@@ -137,9 +81,7 @@ module _ (options : Options) (p : ℕ) (trace : List TraceLine) (report : List L
               high = omega arith;
               answers = subst (λ (h : History). Answers options h b.line.key b.printed) (sym one) b.answers;
             }
-        | false ↦ λ f.
-            let below = ltb-false now b.moment f in
-            record { line = b.line; printed = b.printed; get = b.get; moment = b.moment; low = b.low; high = below; answers = b.answers }
+        | false ↦ λ f. grind (arith, common_steps)
       ] refl
 
   -- nor is one at any moment before, where the get's stamp is above it
@@ -147,29 +89,13 @@ module _ (options : Options) (p : ℕ) (trace : List TraceLine) (report : List L
   not_before now later j a is above b =
       elim (ltb now b.moment) as (λ t. ltb now b.moment ≡ t → now < b.moment) [
         | true ↦ λ e. ltb-true now b.moment e
-        | false ↦ λ f.
-            let low = ltb-false now b.moment f in
-            let stamp = stamp_between later j a is b in
-            let rise = stamps_grow options p trace report same b.moment now low in
-            absurd (omega arith)
+        | false ↦ λ f. grind (arith, common_steps, ltb-false now b.moment f, stamp_between later j a is b, stamps_grow options p trace report same b.moment now)
       ] refl
 
   -- the first moment settles the gets up to its stamp
   pub settled_first : (new : Settling) → HasJudged (state_of options (history from)) trace report asked (record { next = 0; missed = None }) new
       → IsAhead (stamp_of options (history from)) asked new.next → IsSettled options p trace report from from asked new
-  settled_first new judged ahead = record {
-    high = judged.high;
-    passed = λ j a less is. judged.passed j a (omega arith) less is;
-    ahead = ahead;
-    judged = λ j a less is. elim (judged.judged j a (omega arith) less is) as (λ _. Between from a.place ⊎ IsMissedBy new.missed a.place) [
-      | inl now ↦ inl (at_now from a.place (omega arith) now)
-      | inr missed ↦ inr missed
-    ];
-    missed = IfSome_then new.missed judged.missed (λ n is. elim is as (λ _. (j : ℕ) × (a : Asked) × (j < new.next) × (slice_get asked j ≡ Some a) × (n ≡ a.place) × (¬ (Between from a.place))) [
-      | inl none ↦ absurd (cc)
-      | inr found ↦ (found.0, found.1, found.3, found.4, found.5, (λ b. found.6 (now_at from from (found.1).place b (let low = b.low in let high = b.high in omega arith))))
-    ]);
-  }
+  settled_first new judged ahead = grind (arith, common_steps, at_now from, now_at from from)
 
   -- and each next one those up to its own
   pub settled_more : (now : ℕ) (old new : Settling) → from ≤ now → IsSettled options p trace report from now asked old
@@ -177,21 +103,10 @@ module _ (options : Options) (p : ℕ) (trace : List TraceLine) (report : List L
       → IsSettled options p trace report from (now + 1) asked new
   settled_more now old new low settled judged ahead = record {
     high = judged.high;
-    passed = λ j a less is. elim (ltb j old.next) as (λ t. ltb j old.next ≡ t → a.stamp ≤ stamp_of options (history (now + 1))) [
-      | true ↦ λ e. let before = settled.passed j a (ltb-true j old.next e) is in let rise = stamps_grow options p trace report same now (now + 1) (omega arith) in omega arith
-      | false ↦ λ f. judged.passed j a (ltb-false j old.next f) less is
-    ] refl;
+    passed = λ j a less is. grind (arith, common_steps, ltb-true j old.next, stamps_grow options p trace report same now (now + 1) (omega arith), ltb-false j old.next);
     ahead = ahead;
-    judged = λ j a less is. elim (ltb j old.next) as (λ t. ltb j old.next ≡ t → Between (now + 1) a.place ⊎ IsMissedBy new.missed a.place) [
-      | true ↦ λ e. elim (settled.judged j a (ltb-true j old.next e) is) as (λ _. Between (now + 1) a.place ⊎ IsMissedBy new.missed a.place) [
-        | inl b ↦ inl (longer now (now + 1) a.place (omega arith) b)
-        | inr missed ↦ inr (judged.kept a.place missed)
-      ]
-      | false ↦ λ f. elim (judged.judged j a (ltb-false j old.next f) less is) as (λ _. Between (now + 1) a.place ⊎ IsMissedBy new.missed a.place) [
-        | inl here ↦ inl (at_now (now + 1) a.place (omega arith) here)
-        | inr missed ↦ inr missed
-      ]
-    ] refl;
+    judged = λ j a less is.
+        grind (arith, common_steps, ltb-true j old.next, longer now (now + 1) a.place (omega arith), ltb-false j old.next, at_now (now + 1) a.place (omega arith));
     missed = IfSome_then new.missed judged.missed (λ n is. elim is as (λ _. (j : ℕ) × (a : Asked) × (j < new.next) × (slice_get asked j ≡ Some a) × (n ≡ a.place) × (¬ (Between (now + 1) a.place))) [
       | inl was ↦
           let found = MatchOption-at_some _ (λ n. (j : ℕ) × (a : Asked) × (j < old.next) × (slice_get asked j ≡ Some a) × (n ≡ a.place) × (¬ (Between now a.place))) n was settled.missed in
@@ -219,12 +134,8 @@ module _ (options : Options) (p : ℕ) (trace : List TraceLine) (report : List L
     high = settled.high;
     passed = λ j a less at. subst (λ (h : History). a.stamp ≤ stamp_of options h) (sym is) (settled.passed j a less at);
     ahead = subst (λ (h : History). IsAhead (stamp_of options h) asked old.next) (sym is) settled.ahead;
-    judged = λ j a less at. elim (settled.judged j a less at) as (λ _. Between (now + 1) a.place ⊎ IsMissedBy old.missed a.place) [
-      | inl b ↦ inl (longer now (now + 1) a.place (omega arith) b)
-      | inr missed ↦ inr missed
-    ];
-    missed = IfSome_then old.missed settled.missed (λ n found.
-        (found.0, found.1, found.2, found.3, found.4, (λ b. found.5 (not_later now found.0 found.1 found.3 low (settled.passed found.0 found.1 found.2 found.3) b))));
+    judged = λ j a less at. grind (arith, common_steps, longer now (now + 1) a.place (omega arith));
+    missed = grind (arith, common_steps);
   }
 
   -- in the end, the first that is not answered

@@ -1,16 +1,14 @@
 -- A round of a partition, line by line.
-use Rattle.std.proofs.Common.{◌≡◌, ◌≢◌, ℕ, ◌+◌, ◌≤◌, List, [], ◌∷◌, length, take, Some, None, refl, sym, ap, ◌∙◌, subst, arith, slice_get, Bool, true, false, MatchBool}
+use Rattle.std.proofs.Common.{◌≡◌, ◌≢◌, ℕ, ◌+◌, ◌≤◌, List, [], ◌∷◌, length, take, Some, None, sym, ap, ◌∙◌, subst, arith, slice_get, Bool, true, false, MatchBool}
 use Rattle.std.proofs.lemmas.Bool.{false≢true}
-use Rattle.std.specs.List.{cons_option}
 use Rattle.list_laws.proofs.Places.{element_at}
 use Rattle.partition_model.specs.declared.options.Options.{Options}
-use Rattle.partition_model.specs.History.{History, State, state_of, stamp_in}
-use Rattle.partition_model.specs.Run.{RunStep, IsRun, IsRunFrom}
+use Rattle.partition_model.specs.History.{History, State, stamp_in}
+use Rattle.partition_model.specs.Run.{IsRun, IsRunFrom}
 use Rattle.mica_trace.specs.declared.line.TraceLine.{TraceLine}
 use Rattle.mica_trace.specs.declared.report.Line.{Line}
-use Rattle.mica_trace.specs.Rounds.{partition_in, write_by}
-use Rattle.mica_trace.specs.LawfulReport.{step_by, steps_of}
-use Rattle.mica_trace.specs.RoundReport.{history_in}
+use Rattle.mica_trace.specs.Rounds.{partition_in}
+use Rattle.mica_trace.specs.LawfulReport.{steps_of}
 use Rattle.mica_trace.proofs.Prefixes.{run-append}
 use Rattle.report_check.specs.declared.asked.Asked.{Asked}
 use Rattle.report_check.specs.declared.machine.Machine.{Machine}
@@ -22,6 +20,7 @@ use Rattle.report_check.specs.Judged.{step_at, TakesStep, IsFirstWrong}
 use Rattle.report_check.specs.Shared.{HasNone, AreLinesOf}
 use Rattle.report_check.specs.Settling.{AreGets, HasJudged, IsAhead, IsSettled}
 use Rattle.std.proofs.lemmas.Option.{slice_get_within}
+use Rattle.std.proofs.lemmas.Grind.{common_steps}
 use Rattle.report_check.proofs.OwnLines.{skip_to}
 use Rattle.report_check.proofs.Histories.{steps_here, steps_there, history_here, history_there}
 use Rattle.report_check.proofs.SettledGets.{settled_first, settled_more, settled_same}
@@ -39,13 +38,7 @@ module _ (options : Options) (p : ℕ) (trace : List TraceLine) (report : List L
 
   pub stands_first : (machine : Machine) (new : Settling) → IsRun options (steps_of options p (take from trace) (take from report)) → IsAfter options (history_at options p trace report from) machine
       → Judges machine (record { next = 0; missed = None }) new → Stands options p trace report from from asked machine new
-  stands_first machine new run after judges = record {
-    run = run;
-    after = after;
-    settled =
-        let judged = judges (state_of options (history_at options p trace report from)) after.at in
-        settled_first options p trace report same from asked gets new judged.0 judged.1;
-  }
+  stands_first machine new run after judges = grind (arith, common_steps, settled_first options p trace report same from asked gets new)
 
   -- a line of the partition
   pub stands_here : (place : ℕ) (line : TraceLine) (printed : Line) (old machine : Machine) (settling new : Settling) → from ≤ place → slice_get trace place ≡ Some line → slice_get report place ≡ Some printed
@@ -58,45 +51,26 @@ module _ (options : Options) (p : ℕ) (trace : List TraceLine) (report : List L
         run = subst (λ steps. IsRunFrom options [] steps) (sym (steps_here options p trace report same place line printed is_line is_printed inside))
             (run-append options [] (steps_of options p (take place trace) (take place report)) (step_at line printed) stands.run takes.run);
         after = after;
-        settled =
-            let judged = judges (state_of options (history_at options p trace report (place + 1))) after.at in
-            settled_more options p trace report same from asked gets place settling new low stands.settled judged.0 judged.1;
+        settled = grind (arith, common_steps, settled_more options p trace report same from asked gets place settling new low stands.settled);
       }
 
   -- a line of another
   pub stands_there : (place : ℕ) (line : TraceLine) (printed : Line) (machine : Machine) (settling : Settling) → from ≤ place → slice_get trace place ≡ Some line → slice_get report place ≡ Some printed
       → partition_in options line ≢ p → Stands options p trace report from place asked machine settling → Stands options p trace report from (place + 1) asked machine settling
   stands_there place line printed machine settling low is_line is_printed outside stands =
-      let kept = history_there options p trace report same place line printed is_line is_printed outside in
-      record {
-        run = subst (λ steps. IsRunFrom options [] steps) (sym (steps_there options p trace report same place line printed is_line is_printed outside)) stands.run;
-        after = subst (λ (h : History). IsAfter options h machine) (sym kept) stands.after;
-        settled = settled_same options p trace report same from asked gets place settling low kept stands.settled;
-      }
+      grind (
+        arith,
+        common_steps,
+        history_there options p trace report same place line printed is_line is_printed outside,
+        steps_there options p trace report same place line printed is_line is_printed outside,
+        settled_same options p trace report same from asked gets place settling low,
+      )
 
   -- a write that the machine may not take
   pub wrong_here : (place : ℕ) (line : TraceLine) (printed : Line) (machine : Machine) (settling : Settling) → slice_get trace place ≡ Some line → slice_get report place ≡ Some printed
       → partition_in options line ≡ p → Stands options p trace report from place asked machine settling → ¬ (IsRunFrom options (history_at options p trace report place) (step_at line printed))
       → IsFirstWrong options p trace report place
-  wrong_here place line printed machine settling is_line is_printed inside stands denied =
-      let step : (step : RunStep) × (step_by (write_by line.op line.key line.value) printed ≡ Some step) = elim (step_by (write_by line.op line.key line.value) printed)
-      as (λ o. ¬ (IsRunFrom options (history_at options p trace report place) (cons_option o [])) → (step : RunStep) × (o ≡ Some step)) [
-        | None ↦ λ none. absurd (none tt)
-        | Some step ↦ λ _. (step, refl)
-      ] denied in
-      record {
-        run = stands.run;
-        wrong = record {
-          line = line;
-          printed = printed;
-          asked = is_line;
-          answered = is_printed;
-          step = step.0;
-          written = step.1;
-          wrong = λ run. denied (subst (λ o. IsRunFrom options (history_at options p trace report place) (cons_option o [])) (sym step.1)
-              (subst (λ q. IsRunFrom options (history_in options q (take place trace) (take place report)) (step.0 ∷ [])) inside run));
-        };
-      }
+  wrong_here place line printed machine settling is_line is_printed inside stands denied = grind (arith, common_steps)
 
 -- what a step that may be taken, or may not, says
 pub took : (may : Bool) (options : Options) (history : History) (line : TraceLine) (printed : Line) (machine : Machine) → may ≡ true
@@ -131,10 +105,7 @@ module _ (options : Options) (p : ℕ) (trace : List TraceLine) (report : List L
   -- before the next of them
   pub stands_before : (own : OwnLine) (later : List OwnLine) → GoesOn options p trace report from to (own ∷ later) asked machine settling
       → Stands options p trace report from own.place asked machine settling
-  stands_before own later on =
-      let less = on.left.2 in
-      let high = on.high in
-      stands_over on.place own.place on.low on.left.1 (omega arith) on.left.3 on.stands
+  stands_before own later on = grind (arith, common_steps, stands_over on.place own.place on.low on.left.1 (omega arith) on.left.3 on.stands)
 
   pub stands_at_end : GoesOn options p trace report from to [] asked machine settling → Stands options p trace report from to asked machine settling
   stands_at_end on = stands_over on.place to on.low on.left.0 on.high on.left.1 on.stands

@@ -1,9 +1,8 @@
 -- The step that is printed for a write, and what the machine says of it.
-use Rattle.std.proofs.Common.{◌≡◌, ◌≢◌, ℕ, [], ◌∷◌, ◌++◌, Option, Some, None, Bool, true, false, cond, refl, sym, ap, ◌∙◌, subst, append-nil, eqb, eqb-true, MatchBool}
-use borrow.Author.Tests.{eqb-false}
-use Rattle.std.specs.List.{cons_option}
+use Rattle.std.proofs.Common.{◌≡◌, ℕ, [], ◌∷◌, ◌++◌, Option, Some, None, Bool, true, false, cond, refl, sym, ap, subst, eqb, MatchBool, arith}
 use Rattle.std.specs.Prelude.{option_map}
 use Rattle.std.proofs.lemmas.Bool.{false≢true}
+use Rattle.std.proofs.lemmas.Grind.{common_steps}
 use Rattle.partition_model.specs.declared.options.Options.{Options}
 use Rattle.partition_model.specs.declared.write.Op.{Op}
 use Rattle.partition_model.specs.declared.write.Write.{Write}
@@ -13,11 +12,10 @@ use Rattle.partition_model.specs.CacheStep.{reply}
 use Rattle.partition_model.specs.History.{History, State, cache_state, Allows, IsStep, after, state_of, stamp_in}
 use Rattle.partition_model.specs.Run.{RunStep, IsRunFrom, history_of}
 use Rattle.partition_model.specs.Write.{is_accepted, write_of}
-use Rattle.partition_model.proofs.Histories.{state_snoc}
 use Rattle.mica_trace.specs.declared.line.TraceLine.{TraceLine}
 use Rattle.mica_trace.specs.declared.report.Line.TheVariants.{Wrote}
 use Rattle.mica_trace.specs.Rounds.{op_of, write_by}
-use Rattle.mica_trace.specs.LawfulReport.{IsReplyTo, step_by}
+use Rattle.mica_trace.specs.LawfulReport.{IsReplyTo}
 use Rattle.report_check.specs.declared.cache_buckets.CacheBuckets.{CacheBuckets}
 use Rattle.report_check.specs.declared.machine.Machine.{Machine}
 use Rattle.report_check.specs.declared.machine.Machine.TheVariants.{Cache as OfCache}
@@ -38,49 +36,19 @@ module _ (options : Options) (history : History) (line : TraceLine) (op : Op) (o
   written : write_by line.op line.key line.value ≡ Some write
   written = ap (option_map (λ does. write_of does line.key line.value)) (by_reply (op_of line.op) op replies)
 
-  step_is : step_at line (Wrote op outcome stamp) ≡ step ∷ []
-  step_is = ap (λ w. cons_option (step_by w (Wrote op outcome stamp)) []) written
-
   -- the state behind it
   now_is : state_of options (history ++ history_of (step ∷ [])) ≡ cond (is_accepted outcome) (after options (state_of options history) write) (state_of options history)
-  now_is = elim (is_accepted outcome) as (λ b. state_of options (history ++ cons_option (cond b (Some write) None) []) ≡ cond b (after options (state_of options history) write) (state_of options history)) [
-    | true ↦ state_snoc options history write
-    | false ↦ ap (state_of options) (append-nil history)
-  ]
-
-  module _ (old new : Machine) (was : IsAfter options history old) (takes : Takes (state_of options history) write outcome old new) where
-    taken_step : IsStep options (state_of options history) write outcome takes.now
-    taken_step = subst (λ o. IsStep o (state_of options history) write outcome takes.now) was.options_are takes.step
-
-    same_now : takes.now ≡ state_of options (history ++ history_of (step ∷ []))
-    same_now = taken_step.result ∙ sym now_is
-
-    pub takes_step : stamp_in takes.now ≡ stamp → TakesStep options history line (Wrote op outcome stamp) new
-    takes_step is = record {
-      run = subst (IsRunFrom options history) (sym step_is) (taken_step.allowed, sym is ∙ ap stamp_in same_now, tt);
-      after = subst (λ steps. IsAfter options (history ++ history_of steps) new) (sym step_is)
-          (record { options_are = takes.options ∙ was.options_are; at = subst (λ s. IsAt s new) same_now takes.at });
-    }
-
-    pub stamped_wrong : stamp_in takes.now ≢ stamp → ¬ (IsRunFrom options history (step_at line (Wrote op outcome stamp)))
-    stamped_wrong other run = let parts = subst (IsRunFrom options history) step_is run in other (ap stamp_in same_now ∙ sym parts.1)
+  now_is = grind (arith, common_steps)
 
   pub not_taken : (old : Machine) → IsAfter options history old → ¬ (Allows (options_in old) (state_of options history) write outcome) → ¬ (IsRunFrom options history (step_at line (Wrote op outcome stamp)))
-  not_taken old was denied run =
-      let parts = subst (IsRunFrom options history) step_is run in
-      denied (subst (λ o. Allows o (state_of options history) write outcome) (sym was.options_are) parts.0)
+  not_taken old was denied run = grind (arith, common_steps)
 
   module _ (old new : Machine) (was : IsAfter options history old) where
     -- the machine may take it, and then has a stamp
     pub stamped : (may : Bool) → MatchBool may (Takes (state_of options history) write outcome old new) (¬ (Allows (options_in old) (state_of options history) write outcome)) → may ≡ true
         → (found : ℕ) → ((state : State) → IsAt state new → found ≡ stamp_in state)
         → MatchBool (eqb found stamp) (TakesStep options history line (Wrote op outcome stamp) new) (¬ (IsRunFrom options history (step_at line (Wrote op outcome stamp))))
-    stamped true takes is found stamps =
-        let at = stamps takes.now takes.at in
-        elim (eqb found stamp) as (λ b. eqb found stamp ≡ b → MatchBool b (TakesStep options history line (Wrote op outcome stamp) new) (¬ (IsRunFrom options history (step_at line (Wrote op outcome stamp))))) [
-          | true ↦ λ e. takes_step old new was takes (sym at ∙ eqb-true found stamp e)
-          | false ↦ λ f. stamped_wrong old new was takes (λ same. eqb-false found stamp f (at ∙ same))
-        ] refl
+    stamped true takes is found stamps = grind (arith, common_steps)
     stamped false takes is found stamps = absurd (false≢true is)
 
     -- it may not
@@ -102,6 +70,4 @@ machine_takes m new true write outcome says self is state at =
       at = (taken.now, refl, taken.buckets);
       options = taken.options;
     })
-machine_takes m new false write outcome says self is state at =
-    let here : IsAt state (OfCache m) = subst (IsAt state) is at in
-    λ allowed. says here.0 here.2 (subst (λ s. Allows m.options s write outcome) here.1 (subst (λ (x : Machine). Allows (options_in x) state write outcome) is allowed))
+machine_takes m new false write outcome says self is state at = grind (arith, common_steps)

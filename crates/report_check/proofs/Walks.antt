@@ -1,6 +1,7 @@
 -- A report has one verdict.
-use Rattle.std.proofs.Common.{◌≡◌, ℕ, zero, suc, ◌↔◌, inl, inr, List, [], ◌∷◌, ◌++◌, take, Some, None, refl, sym, ap, ◌∙◌, subst, arith, cond, true, false, append_assoc, append-nil, ltb, ltb-true, ltb-false, slice_get, eq-eqb}
+use Rattle.std.proofs.Common.{◌≡◌, ℕ, zero, suc, ◌↔◌, inl, inr, List, [], ◌∷◌, ◌++◌, take, Some, None, refl, subst, arith, slice_get}
 use Rattle.std.specs.List.{AllZip, cons_option}
+use Rattle.std.proofs.lemmas.Grind.{common_steps}
 use Rattle.mica_words.proofs.Hashes.{partition_of-below}
 use Rattle.partition_model.specs.declared.options.Options.{Options}
 use Rattle.partition_model.specs.Options.{IsValid}
@@ -10,7 +11,6 @@ use Rattle.mica_trace.specs.declared.line.TraceLine.{TraceLine}
 use Rattle.mica_trace.specs.declared.report.Line.{Line}
 use Rattle.mica_trace.specs.Rounds.{partition_in, write_by}
 use Rattle.mica_trace.specs.LawfulReport.{IsLineFor, step_by, step_in, steps_of, LawfulReport}
-use Rattle.mica_trace.proofs.Prefixes.{history_cons}
 use Rattle.report_check.specs.declared.check.Verdict.{Verdict}
 use Rattle.report_check.specs.declared.check.Verdict.TheVariants.{Lawful, Unlawful}
 use Rattle.report_check.specs.FirstUnlawful.{IsNowhere, IsFirst, IsMisfit, IsWrongWrite, IsWrongGet, IsFirstUnlawful, IsUnlawfulAt, IsVerdict}
@@ -30,32 +30,18 @@ pub run_at : (options : Options) (p : ℕ) (history : History) (trace : List Tra
     → IsRunFrom options (history ++ history_of (steps_of options p (take n trace) (take n report))) (step ∷ [])
 run_at options p history [] report n line printed step run asked answered inside written = absurd (cc)
 run_at options p history (l ∷ trace) [] n line printed step run asked answered inside written = absurd (cc)
-run_at options p history (l ∷ trace) (r ∷ report) zero line printed step run asked answered inside written =
-    let same_line : l ≡ line = cc in
-    let same_printed : r ≡ printed = cc in
-    let here : step_in options p (line, printed) ≡ Some step = ap (λ b. cond b (step_by (write_by line.op line.key line.value) printed) None) (eq-eqb (partition_in options line) p inside) ∙ written in
-    let one : step_in options p (l, r) ≡ Some step = ap (λ (x : TraceLine). step_in options p (x, r)) same_line ∙ ap (λ (x : Line). step_in options p (line, x)) same_printed ∙ here in
-    let whole = subst (λ o. IsRunFrom options history (cons_option o (steps_of options p trace report))) one run in
-    subst (λ h. IsRunFrom options h (step ∷ [])) (sym (append-nil history)) (whole.0, whole.1, tt)
+run_at options p history (l ∷ trace) (r ∷ report) zero line printed step run asked answered inside written = grind (arith, common_steps)
 run_at options p history (l ∷ trace) (r ∷ report) (suc n) line printed step run asked answered inside written =
     elim (step_in options p (l, r)) as (λ o. IsRunFrom options history (cons_option o (steps_of options p trace report)) → IsRunFrom options (history ++ history_of (cons_option o (steps_of options p (take n trace) (take n report)))) (step ∷ [])) [
       | None ↦ λ run. run_at options p history trace report n line printed step run asked answered inside written
       | Some first ↦ λ run.
-          let later = run_at options p (history ++ history_of (first ∷ [])) trace report n line printed step run.2 asked answered inside written in
-          let rest = steps_of options p (take n trace) (take n report) in
-          subst (λ h. IsRunFrom options h (step ∷ [])) (append_assoc history (history_of (first ∷ [])) (history_of rest) ∙ ap (λ h. history ++ h) (history_cons first rest)) later
+          grind (arith, common_steps, run_at options p (history ++ history_of (first ∷ [])) trace report n line printed step run.2 asked answered inside written)
     ] run
 
 -- so no write of the partition is wrong
 pub run_right : (options : Options) (p : ℕ) (trace : List TraceLine) (report : List Line) (n : ℕ) (line : TraceLine) → IsRunFrom options [] (steps_of options p trace report)
     → slice_get trace n ≡ Some line → partition_in options line ≡ p → ¬ (IsWrongWrite options trace report n)
-run_right options p trace report n line run asked inside wrong =
-    let other = wrong.line in
-    let asked' = wrong.asked in
-    let same : line ≡ other = cc in
-    let here : partition_in options other ≡ p = ap (λ (l : TraceLine). partition_in options l) (sym same) ∙ inside in
-    wrong.wrong (subst (λ q. IsRunFrom options (history_of (steps_of options q (take n trace) (take n report))) (wrong.step ∷ [])) (sym here)
-    (run_at options p [] trace report n other wrong.printed wrong.step run wrong.asked wrong.answered here wrong.written))
+run_right options p trace report n line run asked inside wrong = grind (arith, common_steps, run_at options p [] trace report n)
 
 lawful_right : (options : Options) (trace : List TraceLine) (report : List Line) → IsValid options → LawfulReport options trace report → IsNowhere (IsWrongWrite options trace report)
 lawful_right options trace report valid lawful n wrong =
@@ -76,32 +62,16 @@ lawful_gets options trace report lawful n wrong =
 -- the walks come to the end of a lawful report
 pub lawful_is_none : (options : Options) (trace : List TraceLine) (report : List Line) (n : ℕ) → IsValid options → LawfulReport options trace report → ¬ (IsFirstUnlawful options trace report n)
 lawful_is_none options trace report n valid lawful found =
-    elim found as (λ _. ⊥) [
-      | inl misfit ↦ all_fit trace report lawful.lines n misfit.holds
-      | inr later ↦ elim later.1 as (λ _. ⊥) [
-        | inl write ↦ lawful_right options trace report valid lawful n write.holds
-        | inr last ↦ lawful_gets options trace report lawful n last.1.holds
-      ]
-    ]
+    grind (arith, common_steps, all_fit trace report lawful.lines n, lawful_right options trace report valid lawful n, lawful_gets options trace report lawful n)
 
 -- there is one first place
 first_once : (P : ℕ → Type 0) (a b : ℕ) → IsFirst P a → IsFirst P b → a ≡ b
-first_once P a b one two =
-    elim (ltb a b) as (λ t. ltb a b ≡ t → a ≡ b) [
-      | true ↦ λ e. absurd (two.before a (ltb-true a b e) one.holds)
-      | false ↦ λ e. elim (ltb b a) as (λ t. ltb b a ≡ t → a ≡ b) [
-        | true ↦ λ f. absurd (one.before b (ltb-true b a f) two.holds)
-        | false ↦ λ f. let low = ltb-false a b e in let high = ltb-false b a f in omega arith
-      ] refl
-    ] refl
+first_once P a b one two = grind (arith, common_steps)
 
 found_once : (options : Options) (trace : List TraceLine) (report : List Line) (a b : ℕ) → IsFirstUnlawful options trace report a → IsFirstUnlawful options trace report b → a ≡ b
 found_once options trace report a b one two =
     elim one as (λ _. a ≡ b) [
-      | inl misfit ↦ elim two as (λ _. a ≡ b) [
-        | inl other ↦ first_once _ a b misfit other
-        | inr later ↦ absurd (later.0 a misfit.holds)
-      ]
+      | inl misfit ↦ grind (arith, common_steps)
       | inr after ↦ elim two as (λ _. a ≡ b) [
         | inl other ↦ absurd (after.0 b other.holds)
         | inr later ↦ elim after.1 as (λ _. a ≡ b) [
@@ -121,12 +91,7 @@ pub verdict_once : (options : Options) (trace : List TraceLine) (report : List L
 verdict_once options trace report Lawful Lawful valid one two = refl
 verdict_once options trace report Lawful (Unlawful n) valid one two = absurd (lawful_is_none options trace report two.0 valid one two.2)
 verdict_once options trace report (Unlawful m) Lawful valid one two = absurd (lawful_is_none options trace report one.0 valid two one.2)
-verdict_once options trace report (Unlawful m) (Unlawful n) valid one two =
-    let same = found_once options trace report one.0 two.0 one.2 two.2 in
-    let from = one.1 in
-    let to = two.1 in
-    let e : m ≡ n = omega arith in
-    ap Unlawful e
+verdict_once options trace report (Unlawful m) (Unlawful n) valid one two = grind (arith, common_steps, found_once options trace report one.0 two.0 one.2 two.2)
 
 -- each verdict comes exactly where it is that of the report
 pub exactly_lawful : (options : Options) (trace : List TraceLine) (report : List Line) (v : Verdict) → IsValid options → IsVerdict options trace report v → (v ≡ Lawful) ↔ LawfulReport options trace report
