@@ -1,8 +1,8 @@
 -- What a put and a removal make of how many keys each bucket has, and of the spares in use.
-use Rattle.std.proofs.Common.{◌≡◌, ◌≢◌, ℕ, ◌+◌, ◌<◌, List, Some, None, sym, ap, ◌∙◌, arith, cond, eq-eqb, ⊎_elim}
+use Rattle.std.proofs.Common.{◌≡◌, ◌≢◌, ℕ, ◌+◌, ◌<◌, List, Some, None, sym, ap, ◌∙◌, arith, cond, eq-eqb}
 use Rattle.std.specs.Prelude.{nat_eq}
 use Rattle.std.specs.FinMap.{get, insert, remove}
-use Rattle.std.proofs.lemmas.Bool.Decides.{eqb_tells}
+use Rattle.std.proofs.lemmas.Grind.{common_steps}
 use Rattle.mica_words.specs.Hash.{bucket_of}
 use Rattle.partition_model.specs.Store.{Cell, Cells, keys_in, spares_behind, spares_in_use}
 use Rattle.partition_model.proofs.CellSums.{keys_over, keys_new, keys_less, same_spares, spares_change}
@@ -11,8 +11,7 @@ own : (bucket here : ℕ) → bucket ≡ here → cond {A = ℕ} (nat_eq here bu
 own bucket here is = ap (λ b. cond {A = ℕ} b 1 0) (eq-eqb here bucket (sym is))
 
 other_one : (bucket here other : ℕ) → bucket ≡ here → other ≢ bucket → cond {A = ℕ} (nat_eq here other) 1 0 ≡ 0
-other_one bucket here other is apart =
-    ⊎_elim (λ same. absurd (apart (sym same.1 ∙ sym is))) (λ differs. ap (λ b. cond {A = ℕ} b 1 0) differs.0) (eqb_tells here other)
+other_one bucket here other is apart = grind (arith, common_steps)
 
 -- a key of the bucket
 module _ (buckets bucket : ℕ) (m : Cells) (key : List ℕ) (is : bucket ≡ bucket_of key buckets) (within : bucket < buckets) where
@@ -22,10 +21,7 @@ module _ (buckets bucket : ℕ) (m : Cells) (key : List ℕ) (is : bucket ≡ bu
     new_here = keys_new buckets bucket m key cell new ∙ ap (λ n. keys_in buckets bucket m + n) (own bucket _ is)
 
     pub new_others : (other : ℕ) → other ≢ bucket → keys_in buckets other (insert m key cell) ≡ keys_in buckets other m
-    new_others other apart =
-        let step = keys_new buckets other m key cell new in
-        let none = other_one bucket _ other is apart in
-        omega arith
+    new_others other apart = grind (arith, common_steps, keys_new buckets other m key cell new, other_one bucket _ other is apart)
 
     pub new_spares : spares_in_use buckets (insert m key cell) + spares_behind (keys_in buckets bucket m) ≡ spares_in_use buckets m + spares_behind (keys_in buckets bucket m + 1)
     new_spares = spares_change buckets bucket m (insert m key cell) new_others buckets within ∙ ap (λ k. spares_in_use buckets m + spares_behind k) new_here
@@ -36,10 +32,7 @@ module _ (buckets bucket : ℕ) (m : Cells) (key : List ℕ) (is : bucket ≡ bu
     less_here = keys_less buckets bucket m key old had ∙ ap (λ n. keys_in buckets bucket (remove m key) + n) (own bucket _ is)
 
     pub less_others : (other : ℕ) → other ≢ bucket → keys_in buckets other (remove m key) ≡ keys_in buckets other m
-    less_others other apart =
-        let step = keys_less buckets other m key old had in
-        let none = other_one bucket _ other is apart in
-        omega arith
+    less_others other apart = grind (arith, common_steps, keys_less buckets other m key old had, other_one bucket _ other is apart)
 
     pub less_spares : spares_in_use buckets (remove m key) + spares_behind (keys_in buckets bucket m) ≡ spares_in_use buckets m + spares_behind (keys_in buckets bucket (remove m key))
     less_spares = spares_change buckets bucket m (remove m key) less_others buckets within

@@ -1,9 +1,10 @@
 -- What every state of the cache machine has, and that each accepted write keeps it.
-use Rattle.std.proofs.Common.{◌≡◌, ℕ, ◌+◌, ◌*◌, ◌≤◌, ◌<◌, List, [], ◌∷◌, ◌++◌, length, Option, Some, None, Bool, true, false, cond, not, refl, sym, ap, ◌∙◌, subst, arith, ◌≢◌, leb, eqb, ⊎_elim}
+use Rattle.std.proofs.Common.{◌≡◌, ℕ, ◌+◌, ◌*◌, ◌≤◌, ◌<◌, List, [], ◌∷◌, ◌++◌, length, Option, Some, None, Bool, true, false, cond, not, refl, sym, ap, subst, arith, ◌≢◌, eqb, ⊎_elim, rules}
 use Rattle.std.specs.List.{find, filter, AllByRecursion as AllOf, count_by}
 use Rattle.std.specs.Prelude.{map}
-use Rattle.std.proofs.lemmas.Bool.{not-true, true≢false, leb-true, eqb-true, eqb-false, ne_eqb, and_parts, cases_eq}
+use Rattle.std.proofs.lemmas.Bool.{not-true, true≢false, leb-true, eqb-true, eqb-false, ne_eqb, cases_eq}
 use Rattle.std.proofs.lemmas.List.Sums.{sum_by_push}
+use Rattle.std.proofs.lemmas.Grind.{common_steps}
 use Rattle.mica_words.specs.declared.entry.TheConstants.{SLOTS}
 use Rattle.mica_words.specs.Hash.{bucket_of}
 use Rattle.mica_words.specs.Item.{KeyFits, ValueFits, item_size, largest_item}
@@ -47,14 +48,7 @@ pub record IsKept (options : Options) (s : Cache) : Type 0 where
 
 pub start_kept : (options : Options) → IsKept options cache.start
 unfolding cache.start
-start_kept options = record {
-  laid = omega arith;
-  unique = tt;
-  live = tt;
-  are = tt;
-  buckets = λ bucket. omega arith;
-  stamp = omega arith;
-}
+start_kept options = grind (arith, common_steps)
 
 -- a value that an operation has fits, and no value does
 
@@ -85,19 +79,13 @@ all_map_both P Q R f gives (r ∷ rs) ps qs = (gives r ps.0 qs.0, all_map_both P
 
 pub count_map : (p : Record → Bool) (f : Record → Record) → ((r : Record) → p (f r) ≡ p r) → (rs : List Record) → count_by p (map f rs) ≡ count_by p rs
 count_map p f same [] = refl
-count_map p f same (r ∷ rs) =
-    found.count_cons p (f r) (map f rs) ∙ ap (λ b. cond b 1 0 + count_by p (map f rs)) (same r) ∙ ap (λ n. cond (p r) 1 0 + n) (count_map p f same rs) ∙ sym (found.count_cons p r rs)
+count_map p f same (r ∷ rs) = grind (arith, common_steps, count_map p f same rs)
 
 -- a record that is found by its key is the only one of that key
 only_found : (key : List ℕ) (held : Record) (rs : List Record) → IsUnique rs → find (has_key key) rs ≡ Some held → AllOf (λ r. has_key key r ≡ true → r ≡ held) rs
 only_found key held [] unique is = tt
 only_found key held (x ∷ rs) unique is =
-    elim (has_key key x) as (λ b. has_key key x ≡ b → cond b (Some x) (find (has_key key) rs) ≡ Some held → (has_key key x ≡ true → x ≡ held) × AllOf (λ r. has_key key r ≡ true → r ≡ held) rs) [
-      | true ↦ λ here e.
-          let none : find (has_key key) rs ≡ None = ap (λ k. find (has_key k) rs) (sym (laid.key_is key x here)) ∙ unique.0 in
-          (λ yes. cc, found.all_weaker (λ r. has_key key r ≡ false) (λ r. has_key key r ≡ true → r ≡ held) (λ r no yes. absurd (true≢false (sym yes ∙ no))) rs (found.missed_all (has_key key) rs none))
-      | false ↦ λ here e. (λ yes. absurd (true≢false (sym yes ∙ here)), only_found key held rs unique.1 e)
-    ] refl is
+    grind (arith, common_steps, laid.key_is key x, found.all_weaker, true≢false, found.missed_all (has_key key) rs, only_found key held rs unique.1)
 
 -- the record that keeps a put is the key's, its room suffices, and it is live at the next stamp
 pub record KeepsPut (options : Options) (s : Cache) (write : Write) (held : Record) : Type 0 where
@@ -107,14 +95,7 @@ pub record KeepsPut (options : Options) (s : Cache) (write : Write) (held : Reco
 
 keeps_by : (options : Options) (s : Cache) (write : Write) (o : Option Record) → record_of s write.key ≡ o → (held : Record) → cs.kept_if options s write o ≡ Some held → KeepsPut options s write held
 keeps_by options s write None at held is = cc
-keeps_by options s write (Some r) at held is =
-    elim (may_keep options s write r) as (λ b. may_keep options s write r ≡ b → cond b (Some r) None ≡ Some held → KeepsPut options s write held) [
-      | true ↦ λ may e.
-          let parts = and_parts (leb (size_of write) r.room) (is_live options.words (s.stamp + 1) r.offset) may in
-          let one : r ≡ held = cc in
-          subst (KeepsPut options s write) one (record { is = at; fits = leb-true _ _ parts.0; live = leb-true _ _ parts.1 })
-      | false ↦ λ may e. cc
-    ] refl is
+keeps_by options s write (Some r) at held is = grind (arith, common_steps)
 
 pub keeps_put : (options : Options) (s : Cache) (write : Write) (held : Record) → kept_record options s write ≡ Some held → KeepsPut options s write held
 keeps_put options s write held is = keeps_by options s write (record_of s write.key) refl held is
@@ -153,9 +134,7 @@ pub record IsWritten (options : Options) (s : Cache) (write : Write) (t : Cache)
 
 -- the records of other keys have none of the key
 pub others_lack : (key : List ℕ) (records : List Record) → find (has_key key) (others key records) ≡ None
-others_lack key records = found.missed (has_key key) (others key records)
-    (found.all_weaker (λ r. not (has_key key r) ≡ true) (λ r. has_key key r ≡ false) (λ r h. not-true (has_key key r) h) (others key records)
-    (found.all_passes (λ r. not (has_key key r)) records))
+others_lack key records = grind (arith, common_steps, found.missed (has_key key) (others key records), found.all_weaker, not-true, found.all_passes)
 
 module _ (options : Options) (s : Cache) (kept : IsKept options s) (write : Write) (is : IsWrite write) where
   fewer : (bucket : ℕ) → count_by (is_in_bucket options bucket) (others write.key s.records) ≤ SLOTS
@@ -189,15 +168,16 @@ module _ (options : Options) (s : Cache) (kept : IsKept options s) (write : Writ
       }
 
   deleted : IsWritten options s write (cs.after_delete s write)
-  deleted = record {
-    laid = laid.laid_later 0 (tail_of s.stamp) (tail_of (s.stamp + 1)) (others write.key s.records) (omega arith) others_laid;
-    unique = laid.unique_filter (λ r. not (has_key write.key r)) s.records kept.unique;
-    are = found.all_filter IsRecord (λ r. not (has_key write.key r)) s.records kept.are;
-    here = let few = fewer (bucket_of write.key options.buckets) in omega arith;
-    there = λ bucket other. fewer bucket;
-    least = omega arith;
-    most = omega arith;
-  }
+  deleted =
+      search (
+        rules,
+        laid.laid_later 0 (tail_of s.stamp) (tail_of (s.stamp + 1)) (others write.key s.records) (omega arith) others_laid,
+        others_laid,
+        laid.unique_filter,
+        found.all_filter IsRecord,
+        fewer (bucket_of write.key options.buckets),
+        fewer,
+      )
 
   rewrites : ValueFits write.value → (held : Record) → KeepsPut options s write held → IsWritten options s write (cs.after_rewrite s write)
   rewrites value held keeps =
@@ -226,15 +206,7 @@ module _ (options : Options) (s : Cache) (kept : IsKept options s) (write : Writ
 
   -- a touch appends the value that its key has
   touched : (o : Option Record) → record_of s write.key ≡ o → IsWritten options s write (cs.after_touch o s write)
-  touched None at = record {
-    laid = laid.laid_later 0 (tail_of s.stamp) (tail_of (s.stamp + 1)) s.records (omega arith) kept.laid;
-    unique = kept.unique;
-    are = kept.are;
-    here = let few = kept.buckets (bucket_of write.key options.buckets) in omega arith;
-    there = λ bucket other. kept.buckets bucket;
-    least = omega arith;
-    most = omega arith;
-  }
+  touched None at = search (rules, laid.laid_later 0 (tail_of s.stamp) (tail_of (s.stamp + 1)) s.records (omega arith) kept.laid)
   touched (Some held) at = let fine = found.found_has IsRecord (has_key write.key) s.records held kept.are at in appended held.value fine.value fine.value_bytes
 
   by_op : (op : Op) → HasValueOf op write.value → IsWritten options s write (cs.after_op op options s write)

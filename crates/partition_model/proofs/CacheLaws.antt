@@ -1,11 +1,11 @@
 -- The laws of the cache machine's states, over lawful histories.
-use Rattle.std.proofs.Common.{is_some, ◌≡◌, ℕ, ◌+◌, ◌*◌, ◌≤◌, ◌<◌, ◌⊎◌, List, [], ◌∷◌, ◌++◌, length, Option, Some, None, Bool, true, false, cond, not, refl, sym, ap, ◌∙◌, subst, arith, ◌≢◌, eqb, leb}
+use Rattle.std.proofs.Common.{is_some, ◌≡◌, ℕ, ◌+◌, ◌*◌, ◌≤◌, ◌<◌, ◌⊎◌, List, [], ◌∷◌, ◌++◌, length, Option, Some, None, Bool, true, false, cond, not, refl, sym, ap, ◌∙◌, subst, arith, ◌≢◌, eqb, leb, rules}
 use Rattle.std.specs.List.{find, filter, fold, AllByRecursion as AllOf, count_by}
 use Rattle.std.specs.Prelude.{map, option_map}
 use Rattle.std.proofs.lemmas.Option.{same_Some}
 use Rattle.std.proofs.lemmas.Bool.{leb-true, le-leb, eqb-true, ne_eqb, true≢false}
 use Rattle.std.proofs.lemmas.List.Sums.{sum_by_push}
-use Rattle.std.proofs.lemmas.List.Elements.{filter-append}
+use Rattle.std.proofs.lemmas.Grind.{common_steps}
 use Rattle.mica_words.specs.declared.entry.TheConstants.{SLOTS}
 use Rattle.mica_words.specs.Hash.{bucket_of}
 use Rattle.mica_words.specs.Item.{KeyFits, ValueFits, item_size}
@@ -19,15 +19,15 @@ use Rattle.partition_model.specs.declared.write.Op.{Op}
 use Rattle.partition_model.specs.declared.write.Op.TheVariants.{Put, Add, Touch, Del}
 use Rattle.partition_model.specs.Limits.{most_added}
 use Rattle.partition_model.specs.declared.write.Outcome.{Outcome}
-use Rattle.partition_model.specs.declared.write.Outcome.TheVariants.{Stored, FullBlock, Worn}
+use Rattle.partition_model.specs.declared.write.Outcome.TheVariants.{Stored, FullBlock}
 use Rattle.partition_model.specs.Write.{GivesValue, IsWrite, is_accepted, size_of}
 use Rattle.partition_model.specs.Cache.{Record, Cache, has_key, record_of, value_in, is_live}
 use Rattle.partition_model.specs.CacheStep as cs
 use Rattle.partition_model.specs.CacheStep.{others, new_record, kept_record, without_first, is_in_bucket}
-use Rattle.partition_model.specs.History.{Allows, History, IsAcceptedAfter, State, cache_state, store_state, after, start, state_of, accepted_in}
+use Rattle.partition_model.specs.History.{Allows, History, IsAcceptedAfter, State, cache_state, store_state, after, start, state_of}
 use Rattle.partition_model.proofs.Found as found
 use Rattle.partition_model.proofs.Laid as laid
-use Rattle.partition_model.proofs.CacheKept.{others_lack, count_map, IsRecord, IsKept, KeepsPut, keeps_put, start_kept, after_kept, after_write_is, begin_of, offset_of, rewritten, rewritten_key, left_of, live_of, here_of, tail_past}
+use Rattle.partition_model.proofs.CacheKept.{others_lack, count_map, IsRecord, IsKept, KeepsPut, keeps_put, start_kept, after_kept, after_write_is, begin_of, offset_of, rewritten, rewritten_key, left_of, live_of, here_of}
 use Rattle.partition_model.proofs.Histories.{accepted_is_length}
 use Rattle.partition_model.proofs.Rises.{after_rises}
 
@@ -60,11 +60,7 @@ module _ (options : Options) (s : Cache) (kept : IsKept options s) where
 
   pub fits_kept : (key : List ℕ) (r : Record) → record_of s key ≡ Some r
       → KeyFits key × AreBytes key × ValueFits r.value × AreBytes r.value × (item_size key r.value ≤ r.room) × (r.room < 65536)
-  fits_kept key r is =
-      let key_is = laid.found_key key s.records r is in
-      let fine = record_is key r is in
-      subst (λ (k : List ℕ). KeyFits k × AreBytes k × ValueFits r.value × AreBytes r.value × (item_size k r.value ≤ r.room) × (r.room < 65536)) key_is
-      (fine.key, fine.key_bytes, fine.value, fine.value_bytes, fine.size, (let room = fine.room in omega arith))
+  fits_kept key r is = grind (arith, common_steps, laid.found_key key s.records r is, record_is key r is)
 
   value_by : (key value : List ℕ) (o : Option Record) → record_of s key ≡ o → option_map (λ held. held.value) o ≡ Some value → ValueFits value
   value_by key value None at is = cc
@@ -75,25 +71,18 @@ module _ (options : Options) (s : Cache) (kept : IsKept options s) where
 
   -- the log's window
   pub window_kept : (key : List ℕ) (r : Record) → record_of s key ≡ Some r → (tail_of s.stamp ≤ r.offset + options.words) × (r.offset + r.room ≤ tail_of s.stamp)
-  window_kept key r is =
-      (found.found_has (λ held. tail_of s.stamp ≤ held.offset + options.words) (has_key key) s.records r kept.live is, (laid.laid_found (has_key key) 0 (tail_of s.stamp) s.records r kept.laid is).1)
+  window_kept key r is = grind (arith, common_steps, found.found_has, laid.laid_found (has_key key) 0 (tail_of s.stamp) s.records r kept.laid is)
 
   -- the rooms of two keys are apart
   pub apart_kept : (key key' : List ℕ) (r r' : Record) → record_of s key ≡ Some r → record_of s key' ≡ Some r' → key ≢ key'
       → (r.offset + r.room ≤ r'.offset) ⊎ (r'.offset + r'.room ≤ r.offset)
-  apart_kept key key' r r' is is' differ =
-      laid.laid_apart (has_key key) (has_key key') (λ x here. laid.has_other_key key' x (λ there. differ (sym (laid.key_is key x here) ∙ there))) 0 (tail_of s.stamp) s.records r r' kept.laid is is'
+  apart_kept key key' r r' is is' differ = grind (arith, common_steps, laid.laid_apart (has_key key) (has_key key'), laid.has_other_key key', laid.key_is key)
 
 -- Laws of a step.
 
 find_map : (p : Record → Bool) (f : Record → Record) → ((r : Record) → p (f r) ≡ p r) → ((r : Record) → p r ≡ true → f r ≡ r) → (rs : List Record) → find p (map f rs) ≡ find p rs
 find_map p f same stays [] = refl
-find_map p f same stays (r ∷ rs) =
-    ap (λ b. cond b (Some (f r)) (find p (map f rs))) (same r)
-    ∙ elim (p r) as (λ b. p r ≡ b → cond b (Some (f r)) (find p (map f rs)) ≡ cond b (Some r) (find p rs)) [
-      | true ↦ λ here. ap Some (stays r here)
-      | false ↦ λ here. find_map p f same stays rs
-    ] refl
+find_map p f same stays (r ∷ rs) = grind (arith, common_steps, find_map p f same stays rs)
 
 module _ (options : Options) (s : Cache) (write : Write) (key : List ℕ) (other : key ≢ write.key) where
   not_written : (r : Record) → has_key key r ≡ true → has_key write.key r ≡ false
@@ -107,8 +96,7 @@ module _ (options : Options) (s : Cache) (write : Write) (key : List ℕ) (other
 
   put_same : (o : Option Record) → record_of (cs.after_put o s write) key ≡ record_of s key
   put_same None = append_same write.value
-  put_same (Some held) = find_map (has_key key) (rewritten write) (λ r. ap (λ k. has_key key (record r { key = k })) (rewritten_key write r))
-      (λ r here. ap (λ b. cond b (record r { value = write.value }) r) (not_written r here)) s.records
+  put_same (Some held) = grind (arith, common_steps, find_map (has_key key) (rewritten write), rewritten write, rewritten_key write, not_written)
 
   touch_same : (o : Option Record) → record_of (cs.after_touch o s write) key ≡ record_of s key
   touch_same None = refl
@@ -136,11 +124,7 @@ module _ (options : Options) (s : Cache) (kept : IsKept options s) (write : Writ
 
   -- what is displaced is of the written bucket
   left_same : (rs : List Record) → find (has_key key) (left_of options write rs) ≡ find (has_key key) rs
-  left_same rs = elim (eqb (count_by (here_of options write) rs) (SLOTS + 1)) as (λ b. find (has_key key) (cond b (without_first (here_of options write) rs) rs) ≡ find (has_key key) rs) [
-    | true ↦ found.found_without_first (has_key key) (here_of options write)
-        (λ r here. ne_eqb (bucket_of r.key options.buckets) (bucket_of write.key options.buckets) (λ same. apart (ap (λ (k : List ℕ). bucket_of k options.buckets) (sym (laid.key_is key r here)) ∙ same))) rs
-    | false ↦ refl
-  ]
+  left_same rs = grind (arith, common_steps, found.found_without_first (has_key key) (here_of options write), ne_eqb, apart, laid.key_is key)
 
   pub back_kept : (r : Record) → record_of (cs.after options s write) key ≡ Some r → (record_of s key ≡ Some r) × (tail_of (cs.after options s write).stamp ≤ r.offset + options.words)
   unfolding cs.after
@@ -160,9 +144,7 @@ module _ (options : Options) (s : Cache) (write : Write) where
   -- a record that is appended is its key's
   pub appended_own : (value : List ℕ) → record_of (cs.after_append s (new_record s write.key value)) write.key ≡ Some (new_record s write.key value)
   appended_own value =
-      let new = new_record s write.key value in
-      found.found_append_none (has_key write.key) (others write.key s.records) (new ∷ []) (others_lack write.key s.records)
-      ∙ ap (λ b. cond b (Some new) None) (laid.has_its_key write.key new refl)
+      search (rules, found.found_append_none (has_key write.key) (others write.key s.records), others_lack write.key s.records, laid.has_its_key write.key)
 
   -- a touch appends the value that its key has
   pub touched_is : (held : Record) → write.op ≡ Touch → record_of s write.key ≡ Some held → cs.after_write options s write ≡ cs.after_append s (new_record s write.key held.value)
@@ -172,21 +154,20 @@ module _ (options : Options) (s : Cache) (write : Write) where
       → (r : Record) × (record_of (cs.after_put o s write) write.key ≡ Some r) × (r.offset ≡ begin_of o s) × (item_size r.key r.value ≡ size_of write)
   written_own None at = (new_record s write.key write.value, appended_own write.value, refl, refl)
   written_own (Some held) at =
-      let keeps = keeps_put options s write held at in (
-        record held { value = write.value },
-        laid.found_map (rewritten write) (rewritten_key write) write.key s.records held keeps.is
-            ∙ ap (λ b. Some (cond b (record held { value = write.value }) held)) (found.found_passes (has_key write.key) s.records held keeps.is),
-        refl,
-        ap (λ (k : List ℕ). item_size k write.value) (laid.found_key write.key s.records held keeps.is),
+      grind (
+        arith,
+        common_steps,
+        keeps_put options s write held at,
+        laid.found_map (rewritten write) (rewritten_key write) write.key s.records held,
+        rewritten write,
+        rewritten_key write,
+        found.found_passes (has_key write.key) s.records held,
+        laid.found_key write.key s.records held,
       )
 
   -- so these are the words of its item
   pub put_item : write.op ≡ Put → (p : ℕ) → offset_of options s write ≤ p → p < offset_of options s write + size_of write → cs.IsOfItem options s write p
-  put_item at p least most =
-      let own = written_own (kept_record options s write) refl in
-      let begins = own.2 in
-      let size = own.3 in
-      subst (λ (o : Option Record). cs.IsInItem o p) (sym (ap (λ (op : Op). record_of (cs.after_op op options s write) write.key) at ∙ own.1)) (omega arith, omega arith)
+  put_item at p least most = grind (arith, common_steps, written_own (kept_record options s write) refl)
 
 -- An item that the log is asked to store, and stores, has no more words than the log.
 module _ (options : Options) (write : Write) where
@@ -201,21 +182,13 @@ module _ (options : Options) (write : Write) where
   reply_fits Touch found gives accepted = absurd gives
   reply_fits Del found gives accepted = absurd gives
 
-  by_wear : (b : Bool) (outcome : Outcome) → is_accepted (cond b Worn outcome) ≡ true → is_accepted outcome ≡ true
-  by_wear true outcome accepted = absurd (true≢false (sym accepted))
-  by_wear false outcome accepted = accepted
-
   words_suffice : (s : Cache) → is_accepted (cs.reply options s write) ≡ true → GivesValue write.op → size_of write ≤ options.words
   unfolding cs.reply
-  words_suffice s accepted gives =
-      reply_fits write.op (is_some (record_of s write.key)) gives
-      (by_wear (cs.is_worn options s) (cs.reply_of write.op options write (is_some (record_of s write.key))) accepted)
+  words_suffice s accepted gives = grind (arith, common_steps)
 
   pub accepted_fits : (s : Cache) (now : State) → now ≡ cache_state s → (outcome : Outcome) → is_accepted outcome ≡ true → Allows options now write outcome
       → GivesValue write.op → size_of write ≤ options.words
-  accepted_fits s now at outcome accepted allowed =
-      let is : outcome ≡ cs.reply options s write = subst (λ (z : State). Allows options z write outcome) at allowed in
-      words_suffice s (ap is_accepted (sym is) ∙ accepted)
+  accepted_fits s now at outcome accepted allowed = grind (arith, common_steps, words_suffice s)
 
 -- The record of the written key survives its step.
 module _ (options : Options) (s : Cache) (kept : IsKept options s) (write : Write) (is : IsWrite write)
@@ -238,24 +211,12 @@ module _ (options : Options) (s : Cache) (kept : IsKept options s) (write : Writ
     alone : find (has_key write.key) (new ∷ []) ≡ Some new
     alone = ap (λ b. cond b (Some new) None) new_is
 
-    new_live : live_test options appended new ≡ true
-    new_live =
-        let tail = tail_past s.stamp (item_size write.key value) in
-        le-leb (tail_of (s.stamp + 65536 * item_size write.key value)) (tail_of s.stamp + options.words) (omega arith)
-
-    live_others : List Record
-    live_others = filter (live_test options appended) (others write.key s.records)
-
     live_are : live_of options appended ≡ filter (live_test options appended) (others write.key s.records) ++ new ∷ []
-    live_are = filter-append (live_test options appended) (others write.key s.records) (new ∷ [])
-        ∙ ap (λ b. filter (live_test options appended) (others write.key s.records) ++ cond b (new ∷ []) []) new_live
+    live_are = grind (arith, common_steps)
 
     few_others : count_by (here_of options write) (filter (live_test options appended) (others write.key s.records)) ≤ SLOTS
     few_others =
-        let one = found.count_filter (here_of options write) (live_test options appended) (others write.key s.records) in
-        let two = found.count_filter (here_of options write) (λ r. not (has_key write.key r)) s.records in
-        let few = kept.buckets (bucket_of write.key options.buckets) in
-        omega arith
+        search (rules, found.count_filter (here_of options write) (live_test options appended) (others write.key s.records), found.count_filter (here_of options write))
 
     found_left : (rs : List Record) → find (has_key write.key) rs ≡ None → count_by (here_of options write) rs ≤ SLOTS
         → find (has_key write.key) (left_of options write (rs ++ new ∷ [])) ≡ Some new
@@ -289,9 +250,7 @@ module _ (options : Options) (s : Cache) (kept : IsKept options s) (write : Writ
     own_appended : cs.after_write options s write ≡ cs.after_append s (new_record s write.key value) → (p : ℕ)
         → cs.IsInItem (record_of (cs.after_append s (new_record s write.key value)) write.key) p
         → (r : Record) × (record_of (cs.after options s write) write.key ≡ Some r) × (r.offset ≤ p) × (p < r.offset + r.room)
-    own_appended written p item =
-        let here = subst (λ (o : Option Record). cs.IsInItem o p) (appended_own options s write value) item in
-        (new_record s write.key value, appended_held written, here.0, here.1)
+    own_appended written p item = grind (arith, common_steps, appended_own options s write value, appended_held written)
 
   -- a put that is kept
 
@@ -323,8 +282,7 @@ module _ (options : Options) (s : Cache) (kept : IsKept options s) (write : Writ
     pub size : size_of write ≤ held.room
 
   put_record_by : GivesValue write.op → (o : Option Record) → kept_record options s write ≡ o → PutRecord (put_of o) o
-  put_record_by gives None at =
-      record { held = new_record s write.key write.value; stays = appended_stays write.value (few gives); value = refl; offset = refl; size = omega arith }
+  put_record_by gives None at = grind (arith, common_steps, appended_stays write.value (few gives))
   put_record_by gives (Some held) at =
       let keeps = keeps_put options s write held at in
       record { held = record held { value = write.value }; stays = rewritten_stays held keeps; value = refl; offset = refl; size = keeps.fits }
@@ -348,8 +306,7 @@ module _ (options : Options) (s : Cache) (kept : IsKept options s) (write : Writ
 
   held_by : (op : Op) → write.op ≡ op → GivesValue op → (r : Record) × (record_of (cs.after options s write) write.key ≡ Some r)
   held_by Put at gives = let mine = put_held at in (mine.0, mine.1)
-  held_by Add at gives =
-      (new_record s write.key write.value, appended_held write.value (few (subst GivesValue (sym at) gives)) (ap (λ (op : Op). cs.after_op op options s write) at))
+  held_by Add at gives = grind (arith, common_steps, appended_held write.value (few (subst GivesValue (sym at) gives)))
   held_by Touch at gives = absurd gives
   held_by Del at gives = absurd gives
 
@@ -373,17 +330,7 @@ module _ (options : Options) (s : Cache) (kept : IsKept options s) (write : Writ
 
   own_by : (op : Op) → write.op ≡ op → (p : ℕ) → cs.IsInItem (record_of (cs.after_op op options s write) write.key) p
       → (r : Record) × (record_of (cs.after options s write) write.key ≡ Some r) × (r.offset ≤ p) × (p < r.offset + r.room)
-  own_by Put at p item =
-      let own = written_own options s write (kept_record options s write) refl in
-      let here : (own.0.offset ≤ p) × (p < own.0.offset + item_size own.0.key own.0.value) = subst (λ (o : Option Record). cs.IsInItem o p) own.1 item in
-      let begun = own.2 in
-      let size = own.3 in
-      let mine = put_held at in
-      let begins = mine.3 in
-      let long = mine.4 in
-      let least = here.0 in
-      let most = here.1 in
-      (mine.0, mine.1, omega arith, omega arith)
+  own_by Put at p item = grind (arith, common_steps, written_own options s write (kept_record options s write) refl, put_held at)
   own_by Add at p item = own_appended write.value (few (subst GivesValue (sym at) tt)) (ap (λ (op : Op). cs.after_op op options s write) at) p item
   own_by Touch at p item = own_touched (record_of s write.key) refl (ap (λ (op : Op). cs.after_op op options s write) at) p item
   own_by Del at p item = absurd (subst (λ (o : Option Record). cs.IsInItem o p) (others_lack write.key s.records) item)
@@ -398,10 +345,6 @@ module _ (options : Options) (history : History) (writes : AllOf IsWrite history
   pub record_fits : (key : List ℕ) (r : Record) → record_of s key ≡ Some r
       → KeyFits key × AreBytes key × ValueFits r.value × AreBytes r.value × (item_size key r.value ≤ r.room) × (r.room < 65536)
   record_fits = fits_kept options s (kept_in options history writes s at)
-
-  -- no bucket has more records than entries
-  pub buckets_few : (bucket : ℕ) → count_by (is_in_bucket options bucket) s.records ≤ SLOTS
-  buckets_few = (kept_in options history writes s at).buckets
 
 module _ (options : Options) (history : History) (writes : AllOf IsWrite history) (write : Write) (is : IsWrite write) (before : Cache) (at : state_of options history ≡ cache_state before) where
   was_kept : IsKept options before
@@ -445,8 +388,4 @@ tail_rises options s write = let more = after_rises options (cache_state s) writ
 
 -- the stamp stays far below the limit of a word
 pub stamp_bound : (options : Options) (history : History) → AllOf IsWrite history → (s : Cache) → state_of options history ≡ cache_state s → s.stamp ≤ length history * most_added
-stamp_bound options history writes s at =
-    let most = (kept_in options history writes s at).stamp in
-    let count = ap accepted_in at in
-    let all = accepted_is_length options history in
-    subst (λ (n : ℕ). s.stamp ≤ n * most_added) (sym count ∙ all) most
+stamp_bound options history writes s at = grind (arith, common_steps, kept_in options history writes s at, accepted_is_length options history)

@@ -1,5 +1,5 @@
 -- Sums over the cells of a map, before and after a key has another cell or none.
-use Rattle.std.proofs.Common.{◌≡◌, ◌≢◌, ℕ, zero, suc, ◌+◌, ◌<◌, ◌≤◌, List, [], ◌∷◌, length, Option, Some, None, refl, sym, ap, ◌∙◌, subst, arith, cond, Ordering, Bool, true, false, T, map, ◌⊎◌, inl, inr, ⊎_elim}
+use Rattle.std.proofs.Common.{◌≡◌, ◌≢◌, ℕ, zero, suc, ◌+◌, ◌<◌, ◌≤◌, List, [], ◌∷◌, length, Option, Some, None, refl, sym, ap, ◌∙◌, subst, arith, cond, Ordering, Bool, true, false, T, map, ◌⊎◌, inl, inr, ⊎_elim, rules}
 use Rattle.std.specs.Prelude.{sum_by, count_by, nat_eq, is_some}
 use Rattle.std.specs.Ordering.{nat_cmp, is_eq, eq_by_cmp}
 use Rattle.std.specs.Cmp.{eq_by_cmp_equiv}
@@ -9,6 +9,7 @@ use Rattle.std.specs.FinMap.{find, put, entries-from_sorted, get, insert, remove
 use Rattle.std.specs.FinMap.Entries.{by_order}
 use Rattle.std.proofs.lemmas.List.Sums.{sum_by-cons}
 use Rattle.std.proofs.lemmas.Bool.{cases_order}
+use Rattle.std.proofs.lemmas.Grind.{common_steps}
 use Rattle.mica_words.specs.Hash.{bucket_of}
 use Rattle.partition_model.specs.Store.{Cell, Cells, room_of, rooms, keys_in, spares_behind, spares_below}
 
@@ -38,11 +39,7 @@ shadowed false o p = refl
 
 -- what a map has at a key, where it has this at another
 at_key : (m : Cells) (key q : List ℕ) (o : Option Cell) → get m key ≡ o → get m q ≡ cond (eq_by_cmp by_bytes q key) o (get m q)
-at_key m key q o is =
-    elim (eq_by_cmp by_bytes q key) as (λ b. eq_by_cmp by_bytes q key ≡ b → get m q ≡ cond b o (get m q)) [
-      | true ↦ λ same. ap (get m) (exact q key (equal _ same)) ∙ is
-      | false ↦ λ _. refl
-    ] refl
+at_key m key q o is = grind (arith, common_steps, exact q key, equal)
 
 -- a cell put over that of the key, or where there was none
 insert_over : (m : Cells) (key : List ℕ) (cell : Cell) → insert m key cell ≡ insert (remove m key) key cell
@@ -87,11 +84,7 @@ module _ (w : List ℕ × Cell → ℕ) where
   weigh_insert m key cell = ap (λ n. sum_by w (entries n)) (insert_over m key cell) ∙ weigh_back m key cell
 
   pub weigh_remove : (m : Cells) (key : List ℕ) → sum_by w (entries m) ≡ sum_by w (entries (remove m key)) + weight w key (get m key)
-  weigh_remove m key =
-      elim (get m key) as (λ o. get m key ≡ o → sum_by w (entries m) ≡ sum_by w (entries (remove m key)) + weight w key o) [
-        | None ↦ λ is. let same = ap (λ n. sum_by w (entries n)) (remove_none m key is) in omega arith
-        | Some cell ↦ λ is. ap (λ n. sum_by w (entries n)) (insert_back m key cell is) ∙ weigh_back m key cell
-      ] refl
+  weigh_remove m key = grind (arith, common_steps, remove_none m key, insert_back m key, weigh_back m key)
 
 -- the rooms
 weight_room : (key : List ℕ) (o : Option Cell) → weight (λ entry. entry.1.room) key o ≡ room_of o
@@ -99,17 +92,10 @@ weight_room key None = refl
 weight_room key (Some cell) = refl
 
 pub rooms_insert : (m : Cells) (key : List ℕ) (cell : Cell) → rooms (insert m key cell) + room_of (get m key) ≡ rooms m + cell.room
-rooms_insert m key cell =
-    let new = weigh_insert (λ entry. entry.1.room) m key cell in
-    let old = weigh_remove (λ entry. entry.1.room) m key in
-    let room = weight_room key (get m key) in
-    omega arith
+rooms_insert m key cell = grind (arith, common_steps, weigh_insert, weigh_remove, weight_room key (get m key))
 
 pub rooms_remove : (m : Cells) (key : List ℕ) → rooms (remove m key) + room_of (get m key) ≡ rooms m
-rooms_remove m key =
-    let old = weigh_remove (λ entry. entry.1.room) m key in
-    let room = weight_room key (get m key) in
-    omega arith
+rooms_remove m key = grind (arith, common_steps, weigh_remove, weight_room key (get m key))
 
 -- the keys of a bucket
 module _ (buckets bucket : ℕ) where
@@ -118,19 +104,13 @@ module _ (buckets bucket : ℕ) where
 
   count_keys : (es : List (List ℕ × Cell)) → count_by (λ key. nat_eq (bucket_of key buckets) bucket) (map (λ e. e.0) es) ≡ sum_by here es
   count_keys [] = refl
-  count_keys (e ∷ es) =
-      sum_by-cons (λ key. cond (nat_eq (bucket_of key buckets) bucket) 1 0) e.0 (map (λ f. f.0) es)
-      ∙ ap (λ n. here e + n) (count_keys es)
-      ∙ sym (sum_by-cons here e es)
+  count_keys (e ∷ es) = grind (arith, common_steps, count_keys es)
 
   insert_counts : (m : Cells) (key : List ℕ) (cell : Cell) → keys_in buckets bucket (insert m key cell) ≡ keys_in buckets bucket (remove m key) + cond (nat_eq (bucket_of key buckets) bucket) 1 0
-  insert_counts m key cell =
-      count_keys (entries (insert m key cell)) ∙ weigh_insert here m key cell
-      ∙ ap (λ n. n + cond (nat_eq (bucket_of key buckets) bucket) 1 0) (sym (count_keys (entries (remove m key))))
+  insert_counts m key cell = grind (arith, common_steps, count_keys (entries (insert m key cell)), weigh_insert here m key cell, count_keys (entries (remove m key)))
 
   remove_counts : (m : Cells) (key : List ℕ) → keys_in buckets bucket m ≡ keys_in buckets bucket (remove m key) + weight here key (get m key)
-  remove_counts m key =
-      count_keys (entries m) ∙ weigh_remove here m key ∙ ap (λ n. n + weight here key (get m key)) (sym (count_keys (entries (remove m key))))
+  remove_counts m key = grind (arith, common_steps, count_keys (entries m), weigh_remove here m key, count_keys (entries (remove m key)))
 
   -- a key that has a cell already
   pub keys_over : (m : Cells) (key : List ℕ) (old cell : Cell) → get m key ≡ Some old → keys_in buckets bucket (insert m key cell) ≡ keys_in buckets bucket m
@@ -138,10 +118,7 @@ module _ (buckets bucket : ℕ) where
 
   -- a new key
   pub keys_new : (m : Cells) (key : List ℕ) (cell : Cell) → get m key ≡ None → keys_in buckets bucket (insert m key cell) ≡ keys_in buckets bucket m + cond (nat_eq (bucket_of key buckets) bucket) 1 0
-  keys_new m key cell is =
-      let before = remove_counts m key ∙ ap (λ o. keys_in buckets bucket (remove m key) + weight here key o) is in
-      let after = insert_counts m key cell in
-      omega arith
+  keys_new m key cell is = grind (arith, common_steps, remove_counts m key, insert_counts m key cell)
 
   pub keys_less : (m : Cells) (key : List ℕ) (old : Cell) → get m key ≡ Some old → keys_in buckets bucket m ≡ keys_in buckets bucket (remove m key) + cond (nat_eq (bucket_of key buckets) bucket) 1 0
   keys_less m key old is = remove_counts m key ∙ ap (λ o. keys_in buckets bucket (remove m key) + weight here key o) is
@@ -166,10 +143,7 @@ module _ (buckets bucket : ℕ) (m n : Cells) (others : (other : ℕ) → other 
   pub same_spares : (k : ℕ) → k ≤ bucket → spares_below buckets k n ≡ spares_below buckets k m
   unfolding spares_below
   same_spares zero le = refl
-  same_spares (suc k) le =
-      let rest = same_spares k (omega arith) in
-      let here = ap spares_behind (others k (omega arith)) in
-      omega arith
+  same_spares (suc k) le = search (rules, same_spares k (omega arith))
 
   pub spares_change : (k : ℕ) → bucket < k → spares_below buckets k n + spares_behind (keys_in buckets bucket m) ≡ spares_below buckets k m + spares_behind (keys_in buckets bucket n)
   unfolding spares_below
@@ -188,15 +162,9 @@ module _ (buckets bucket : ℕ) (m n : Cells) (others : (other : ℕ) → other 
 pub spares_among : (buckets bucket : ℕ) (m : Cells) (k : ℕ) → bucket < k → spares_behind (keys_in buckets bucket m) ≤ spares_below buckets k m
 unfolding spares_below
 spares_among buckets bucket m zero lt = absurd (omega arith)
-spares_among buckets bucket m (suc k) lt =
-    ⊎_elim (λ same. let here = ap (λ b. spares_behind (keys_in buckets b m)) same in omega arith)
-    (λ below. let rest = spares_among buckets bucket m k below in omega arith)
-    (split_last bucket k lt)
+spares_among buckets bucket m (suc k) lt = grind (arith, common_steps, spares_among buckets bucket m k)
 
 pub no_spares : (buckets k : ℕ) → spares_below buckets k empty ≡ 0
 unfolding spares_below
 no_spares buckets zero = refl
-no_spares buckets (suc k) =
-    let rest = no_spares buckets k in
-    let none = no_keys buckets k in
-    omega arith
+no_spares buckets (suc k) = grind (arith, common_steps, no_spares buckets k, no_keys buckets k)

@@ -1,8 +1,8 @@
 -- The laws of fates: `Held` exactly where there is a record, `Never` exactly where no put was accepted.
-use Rattle.std.proofs.Common.{◌≡◌, ℕ, ◌+◌, List, [], ◌∷◌, ◌++◌, length, Option, Some, None, Bool, true, false, cond, not, ◌&&◌, refl, sym, ap, ◌∙◌, subst, arith, is_some, ◌≢◌, eqb}
-use Rattle.std.specs.List.{find, fold, count_by}
+use Rattle.std.proofs.Common.{◌≡◌, ℕ, ◌+◌, List, [], ◌∷◌, ◌++◌, length, Option, Some, None, Bool, true, false, cond, not, ◌&&◌, refl, sym, ap, ◌∙◌, arith, is_some, ◌≢◌}
+use Rattle.std.specs.List.{find, fold}
 use Rattle.std.specs.Prelude.{option_map}
-use Rattle.mica_words.specs.declared.entry.TheConstants.{SLOTS}
+use Rattle.std.proofs.lemmas.Grind.{common_steps}
 use Rattle.partition_model.specs.declared.options.Options.{Options}
 use Rattle.partition_model.specs.declared.options.Mode.{Mode}
 use Rattle.partition_model.specs.declared.options.Mode.TheVariants.{Cache as CacheMode}
@@ -13,7 +13,7 @@ use Rattle.partition_model.specs.Cache as cache
 use Rattle.partition_model.specs.Cache.{Record, Cache, has_key, record_of, is_live}
 use Rattle.partition_model.specs.CacheStep as cs
 use Rattle.partition_model.specs.Fate.{has_record, fate_after, fate_from, fate_of}
-use Rattle.partition_model.specs.History.{History, State, cache_state, after, start, state_of, answer_of, value_in}
+use Rattle.partition_model.specs.History.{History, cache_state, after, start, state_of, answer_of}
 use Rattle.partition_model.proofs.CacheKept.{left_of, here_of}
 use Rattle.partition_model.proofs.Found as found
 
@@ -64,11 +64,8 @@ module _ (options : Options) (s : Cache) (write : Write) (key : List ℕ) where
 
   pub left_live : has_record (cs.after options s write) key ≡ true → has_record (cs.without_passed options (cs.after_write options s write)) key ≡ true
   unfolding cs.after
-  left_live = some_back (record_of two key) (find (has_key key) (left_of options write two.records))
-      (λ none. elim (eqb (count_by (here_of options write) two.records) (SLOTS + 1)) as (λ b. find (has_key key) (cond b (cs.without_first (here_of options write) two.records) two.records) ≡ None) [
-        | true ↦ found.missed_without_first (has_key key) (here_of options write) two.records none
-        | false ↦ none
-      ])
+  left_live =
+      grind (arith, common_steps, some_back (record_of two key) (find (has_key key) (left_of options write two.records)), found.missed_without_first (has_key key) (here_of options write) two.records)
 
 -- `Held` exactly where the key has a record
 
@@ -95,16 +92,9 @@ pub record IsRight (s : Cache) (key : List ℕ) (fate : Fate) : Type 0 where
   pub on : has_record s key ≡ true → fate ≡ Held
   pub back : fate ≡ Held → has_record s key ≡ true
 
-on_by : (had wrote live left : Bool) (n : ℕ) (before : Fate) → left ≡ true → pick had wrote live left n before ≡ Held
-on_by had wrote live left n before is = ap (λ b. pick had wrote live b n before) is
-
 module _ (options : Options) (write : Write) (key : List ℕ) where
   right_after : (s : Cache) (n : ℕ) (before : Fate) → IsRight s key before → IsRight (cs.after options s write) key (fate_after options s write n key before)
-  right_after s n before right = record {
-    on = on_by (has_record s key) (has_record (cs.after_write options s write) key) (has_record (cs.without_passed options (cs.after_write options s write)) key) (has_record (cs.after options s write) key) n before;
-    back = held_by (has_record s key) (has_record (cs.after_write options s write) key) (has_record (cs.without_passed options (cs.after_write options s write)) key) (has_record (cs.after options s write) key) n before
-        (left_live options s write key) (live_wrote options s write key) right.back;
-  }
+  right_after s n before right = grind (arith, common_steps)
 
 right_from : (options : Options) (key : List ℕ) (s : Cache) (n : ℕ) (before : Fate) (history : History) → IsRight s key before → IsRight (fold (cs.after options) s history) key (fate_from options s n key before history)
 right_from options key s n before [] right = right
@@ -126,8 +116,7 @@ held_value (Some held) v is = refl
 
 pub hit_is_held : (options : Options) → options.mode ≡ CacheMode → (history : History) (key value : List ℕ) → answer_of options history key ≡ Some value → fate_of options history key ≡ Held
 hit_is_held options mode history key value is =
-    let here : value_in (cache_state (cache_of options history)) key ≡ Some value = subst (λ (s : State). value_in s key ≡ Some value) (state_is_cache options mode history) is in
-    (right_in options history key).on (held_value (record_of (cache_of options history) key) value here)
+    grind (arith, common_steps, state_is_cache options mode history, right_in options history key, held_value (record_of (cache_of options history) key) value)
 
 no_value : (o : Option Record) → option_map (λ held. held.value) o ≡ None → is_some o ≡ true → ⊥
 no_value None is some = cc
@@ -135,5 +124,4 @@ no_value (Some held) is some = cc
 
 pub miss_is_not_held : (options : Options) → options.mode ≡ CacheMode → (history : History) (key : List ℕ) → answer_of options history key ≡ None → fate_of options history key ≢ Held
 miss_is_not_held options mode history key is held =
-    let here : value_in (cache_state (cache_of options history)) key ≡ None = subst (λ (s : State). value_in s key ≡ None) (state_is_cache options mode history) is in
-    no_value (record_of (cache_of options history) key) here ((right_in options history key).back held)
+    grind (arith, common_steps, state_is_cache options mode history, no_value (record_of (cache_of options history) key), right_in options history key)

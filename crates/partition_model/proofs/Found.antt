@@ -1,29 +1,20 @@
 -- What a search finds in a list, and what it finds once parts of the list are gone.
-use Rattle.std.proofs.Common.{◌≡◌, ◌+◌, ◌≤◌, ◌<◌, List, [], ◌∷◌, ◌++◌, Some, None, Bool, true, false, cond, refl, sym, ap, ◌∙◌, subst, arith}
+use Rattle.std.proofs.Common.{◌≡◌, ◌+◌, ◌≤◌, ◌<◌, List, [], ◌∷◌, ◌++◌, Some, None, Bool, true, false, cond, refl, sym, ap, ◌∙◌, arith}
 use Rattle.std.specs.List.{find, filter, AllByRecursion as AllOf, count_by}
 use Rattle.std.specs.Prelude.{map}
-use Rattle.std.proofs.lemmas.Bool.{true≢false}
 use Rattle.std.proofs.lemmas.List.Sums.{sum_by-cons}
-use Rattle.std.proofs.lemmas.Option.{same_Some}
+use Rattle.std.proofs.lemmas.Grind.{common_steps}
 use Rattle.partition_model.specs.Cache.{Record}
 use Rattle.partition_model.specs.CacheStep.{without_first}
 
 module _ {X : Type 0} where
   pub found_has : (P : X → Type 0) (p : X → Bool) (xs : List X) (x : X) → AllOf P xs → find p xs ≡ Some x → P x
   found_has P p [] x all is = cc
-  found_has P p (y ∷ xs) x all is =
-      elim (p y) as (λ b. cond b (Some y) (find p xs) ≡ Some x → P x) [
-        | true ↦ λ e. subst P (same_Some y x e) all.0
-        | false ↦ λ e. found_has P p xs x all.1 e
-      ] is
+  found_has P p (y ∷ xs) x all is = grind (arith, common_steps, found_has P p xs x all.1)
 
   pub found_passes : (p : X → Bool) (xs : List X) (x : X) → find p xs ≡ Some x → p x ≡ true
   found_passes p [] x is = cc
-  found_passes p (y ∷ xs) x is =
-      elim (p y) as (λ b. p y ≡ b → cond b (Some y) (find p xs) ≡ Some x → p x ≡ true) [
-        | true ↦ λ here e. ap p (sym (same_Some y x e)) ∙ here
-        | false ↦ λ here e. found_passes p xs x e
-      ] refl is
+  found_passes p (y ∷ xs) x is = grind (arith, common_steps, found_passes p xs x)
 
   -- nothing is found where each that passes the search fails in the list
   pub missed : (p : X → Bool) (xs : List X) → AllOf (λ x. p x ≡ false) xs → find p xs ≡ None
@@ -32,65 +23,26 @@ module _ {X : Type 0} where
 
   pub missed_all : (p : X → Bool) (xs : List X) → find p xs ≡ None → AllOf (λ x. p x ≡ false) xs
   missed_all p [] is = tt
-  missed_all p (x ∷ xs) is =
-      elim (p x) as (λ b. p x ≡ b → cond b (Some x) (find p xs) ≡ None → (p x ≡ false) × AllOf (λ y. p y ≡ false) xs) [
-        | true ↦ λ here e. cc
-        | false ↦ λ here e. (here, missed_all p xs e)
-      ] refl is
+  missed_all p (x ∷ xs) is = grind (arith, common_steps, missed_all p xs)
 
   -- a filter that keeps all that the search could find
   pub found_filter_all : (p q : X → Bool) → ((x : X) → p x ≡ true → q x ≡ true) → (xs : List X) → find p (filter q xs) ≡ find p xs
   found_filter_all p q keeps [] = refl
-  found_filter_all p q keeps (x ∷ xs) =
-      elim (q x) as (λ b. q x ≡ b → find p (cond b (x ∷ filter q xs) (filter q xs)) ≡ cond (p x) (Some x) (find p xs)) [
-        | true ↦ λ here. ap (cond (p x) (Some x)) (found_filter_all p q keeps xs)
-        | false ↦ λ here. elim (p x) as (λ b. p x ≡ b → find p (filter q xs) ≡ cond b (Some x) (find p xs)) [
-          | true ↦ λ yes. absurd (true≢false (sym (keeps x yes) ∙ here))
-          | false ↦ λ no. found_filter_all p q keeps xs
-        ] refl
-      ] refl
+  found_filter_all p q keeps (x ∷ xs) = grind (arith, common_steps, found_filter_all p q keeps xs)
 
   -- what was found is still found where the filter keeps it
   pub found_filter : (p q : X → Bool) (xs : List X) (x : X) → find p xs ≡ Some x → q x ≡ true → find p (filter q xs) ≡ Some x
   found_filter p q [] x is keeps = is
-  found_filter p q (y ∷ xs) x is keeps =
-      elim (p y) as (λ b. p y ≡ b → cond b (Some y) (find p xs) ≡ Some x → find p (cond (q y) (y ∷ filter q xs) (filter q xs)) ≡ Some x) [
-        | true ↦ λ here e.
-            ap (λ b. find p (cond b (y ∷ filter q xs) (filter q xs))) (ap q (same_Some y x e) ∙ keeps)
-            ∙ ap (λ b. cond b (Some y) (find p (filter q xs))) here ∙ e
-        | false ↦ λ here e. elim (q y) as (λ b. find p (cond b (y ∷ filter q xs) (filter q xs)) ≡ Some x) [
-          | true ↦ ap (λ b. cond b (Some y) (find p (filter q xs))) here ∙ found_filter p q xs x e keeps
-          | false ↦ found_filter p q xs x e keeps
-        ]
-      ] refl is
+  found_filter p q (y ∷ xs) x is keeps = grind (arith, common_steps, found_filter p q xs x)
 
   pub missed_filter : (p q : X → Bool) (xs : List X) → find p xs ≡ None → find p (filter q xs) ≡ None
   missed_filter p q [] is = refl
-  missed_filter p q (x ∷ xs) is =
-      elim (p x) as (λ b. p x ≡ b → cond b (Some x) (find p xs) ≡ None → find p (cond (q x) (x ∷ filter q xs) (filter q xs)) ≡ None) [
-        | true ↦ λ here e. cc
-        | false ↦ λ here e. elim (q x) as (λ b. find p (cond b (x ∷ filter q xs) (filter q xs)) ≡ None) [
-          | true ↦ ap (λ b. cond b (Some x) (find p (filter q xs))) here ∙ missed_filter p q xs e
-          | false ↦ missed_filter p q xs e
-        ]
-      ] refl is
+  missed_filter p q (x ∷ xs) is = grind (arith, common_steps, missed_filter p q xs)
 
   -- a search that finds nothing of the first list goes on in the second
   pub found_append_none : (p : X → Bool) (xs ys : List X) → find p xs ≡ None → find p (xs ++ ys) ≡ find p ys
   found_append_none p [] ys is = refl
-  found_append_none p (x ∷ xs) ys is =
-      elim (p x) as (λ b. cond b (Some x) (find p xs) ≡ None → cond b (Some x) (find p (xs ++ ys)) ≡ find p ys) [
-        | true ↦ λ e. cc
-        | false ↦ λ e. found_append_none p xs ys e
-      ] is
-
-  pub found_append_some : (p : X → Bool) (xs ys : List X) (x : X) → find p xs ≡ Some x → find p (xs ++ ys) ≡ Some x
-  found_append_some p [] ys x is = cc
-  found_append_some p (y ∷ xs) ys x is =
-      elim (p y) as (λ b. cond b (Some y) (find p xs) ≡ Some x → cond b (Some y) (find p (xs ++ ys)) ≡ Some x) [
-        | true ↦ λ e. e
-        | false ↦ λ e. found_append_some p xs ys x e
-      ] is
+  found_append_none p (x ∷ xs) ys is = grind (arith, common_steps, found_append_none p xs ys)
 
   pub found_push_other : (p : X → Bool) (xs : List X) (y : X) → p y ≡ false → find p (xs ++ y ∷ []) ≡ find p xs
   found_push_other p [] y other = ap (λ b. cond b (Some y) None) other
@@ -100,19 +52,11 @@ module _ {X : Type 0} where
 
   pub all_filter : (P : X → Type 0) (q : X → Bool) (xs : List X) → AllOf P xs → AllOf P (filter q xs)
   all_filter P q [] all = tt
-  all_filter P q (x ∷ xs) all =
-      elim (q x) as (λ b. AllOf P (cond b (x ∷ filter q xs) (filter q xs))) [
-        | true ↦ (all.0, all_filter P q xs all.1)
-        | false ↦ all_filter P q xs all.1
-      ]
+  all_filter P q (x ∷ xs) all = grind (arith, common_steps, all_filter P q xs all.1)
 
   pub all_passes : (q : X → Bool) (xs : List X) → AllOf (λ x. q x ≡ true) (filter q xs)
   all_passes q [] = tt
-  all_passes q (x ∷ xs) =
-      elim (q x) as (λ b. q x ≡ b → AllOf (λ y. q y ≡ true) (cond b (x ∷ filter q xs) (filter q xs))) [
-        | true ↦ λ e. (e, all_passes q xs)
-        | false ↦ λ e. all_passes q xs
-      ] refl
+  all_passes q (x ∷ xs) = grind (arith, common_steps, all_passes q xs)
 
   pub all_push : (P : X → Type 0) (xs : List X) (y : X) → AllOf P xs → P y → AllOf P (xs ++ y ∷ [])
   all_push P [] y all here = (here, tt)
@@ -133,46 +77,22 @@ module _ {X : Type 0} where
 
   pub count_filter : (p q : X → Bool) (xs : List X) → count_by p (filter q xs) ≤ count_by p xs
   count_filter p q [] = omega arith
-  count_filter p q (x ∷ xs) =
-      let before = count_filter p q xs in
-      let whole = count_cons p x xs in
-      elim (q x) as (λ b. count_by p (cond b (x ∷ filter q xs) (filter q xs)) ≤ count_by p (x ∷ xs)) [
-        | true ↦ let kept = count_cons p x (filter q xs) in omega arith
-        | false ↦ omega arith
-      ]
+  count_filter p q (x ∷ xs) = grind (arith, common_steps, count_filter p q xs)
 
 -- once the first that passes a test is gone
 
 -- without the first that passes another test, where none that the search could find passes it
 pub found_without_first : (p here : Record → Bool) → ((x : Record) → p x ≡ true → here x ≡ false) → (xs : List Record) → find p (without_first here xs) ≡ find p xs
 found_without_first p here apart [] = refl
-found_without_first p here apart (x ∷ xs) =
-    elim (here x) as (λ b. here x ≡ b → find p (cond b xs (x ∷ without_first here xs)) ≡ cond (p x) (Some x) (find p xs)) [
-      | true ↦ λ is. elim (p x) as (λ b. p x ≡ b → find p xs ≡ cond b (Some x) (find p xs)) [
-        | true ↦ λ yes. absurd (true≢false (sym is ∙ apart x yes))
-        | false ↦ λ no. refl
-      ] refl
-      | false ↦ λ is. ap (cond (p x) (Some x)) (found_without_first p here apart xs)
-    ] refl
+found_without_first p here apart (x ∷ xs) = grind (arith, common_steps, found_without_first p here apart xs)
 
 pub missed_without_first : (p here : Record → Bool) (xs : List Record) → find p xs ≡ None → find p (without_first here xs) ≡ None
 missed_without_first p here [] is = refl
-missed_without_first p here (x ∷ xs) is =
-    elim (p x) as (λ b. p x ≡ b → cond b (Some x) (find p xs) ≡ None → find p (cond (here x) xs (x ∷ without_first here xs)) ≡ None) [
-      | true ↦ λ yes e. cc
-      | false ↦ λ no e. elim (here x) as (λ b. find p (cond b xs (x ∷ without_first here xs)) ≡ None) [
-        | true ↦ e
-        | false ↦ ap (λ b. cond b (Some x) (find p (without_first here xs))) no ∙ missed_without_first p here xs e
-      ]
-    ] refl is
+missed_without_first p here (x ∷ xs) is = grind (arith, common_steps, missed_without_first p here xs)
 
 pub all_without_first : (P : Record → Type 0) (here : Record → Bool) (xs : List Record) → AllOf P xs → AllOf P (without_first here xs)
 all_without_first P here [] all = tt
-all_without_first P here (x ∷ xs) all =
-    elim (here x) as (λ b. AllOf P (cond b xs (x ∷ without_first here xs))) [
-      | true ↦ all.1
-      | false ↦ (all.0, all_without_first P here xs all.1)
-    ]
+all_without_first P here (x ∷ xs) all = grind (arith, common_steps, all_without_first P here xs all.1)
 
 -- the count falls by one, where some pass
 pub count_without_first : (here : Record → Bool) (xs : List Record) → 0 < count_by here xs → count_by here (without_first here xs) + 1 ≡ count_by here xs
@@ -189,13 +109,7 @@ count_without_first here (x ∷ xs) some =
 
 pub count_without_first_le : (p here : Record → Bool) (xs : List Record) → count_by p (without_first here xs) ≤ count_by p xs
 count_without_first_le p here [] = omega arith
-count_without_first_le p here (x ∷ xs) =
-    let whole = count_cons p x xs in
-    let before = count_without_first_le p here xs in
-    elim (here x) as (λ b. count_by p (cond b xs (x ∷ without_first here xs)) ≤ count_by p (x ∷ xs)) [
-      | true ↦ omega arith
-      | false ↦ let kept = count_cons p x (without_first here xs) in omega arith
-    ]
+count_without_first_le p here (x ∷ xs) = grind (arith, common_steps, count_without_first_le p here xs)
 
 -- the first that passes is not the last, where another passes before it
 pub without_first_push : (here : Record → Bool) (xs : List Record) (y : Record) → 0 < count_by here xs → without_first here (xs ++ y ∷ []) ≡ without_first here xs ++ y ∷ []

@@ -1,9 +1,8 @@
 -- Histories, in both modes: the case of the state, one write more, and how many writes there are.
-use Rattle.std.proofs.Common.{◌≡◌, ◌+◌, ◌≤◌, ◌<◌, [], ◌∷◌, ◌++◌, length, true, false, cond, refl, sym, ap, ◌∙◌, subst, arith, append_assoc}
+use Rattle.std.proofs.Common.{◌≡◌, ◌+◌, ◌≤◌, ◌<◌, [], ◌∷◌, ◌++◌, length, true, refl, sym, ap, ◌∙◌, subst, arith, append_assoc}
 use Rattle.std.specs.List.{fold}
-use Rattle.std.specs.Prelude.{is_some}
-use Rattle.std.proofs.lemmas.Bool.{true≢false, leb-false}
 use Rattle.std.proofs.lemmas.List.{append-nil}
+use Rattle.std.proofs.lemmas.Grind.{common_steps}
 use Rattle.partition_model.specs.declared.options.Options.{Options}
 use Rattle.partition_model.specs.declared.options.Mode.{Mode}
 use Rattle.partition_model.specs.declared.options.Mode.TheVariants.{Cache as CacheMode, Store as StoreMode}
@@ -17,7 +16,7 @@ use Rattle.partition_model.specs.Cache as cache
 use Rattle.partition_model.specs.CacheStep as cs
 use Rattle.partition_model.specs.Store as store
 use Rattle.partition_model.specs.StoreStep as ss
-use Rattle.partition_model.specs.History.{History, State, cache_state, store_state, after, start, state_of, accepted_in, Allows, IsAcceptedAfter, IsHistoryFrom, IsHistory, IsStep}
+use Rattle.partition_model.specs.History.{History, State, cache_state, store_state, after, start, state_of, accepted_in, Allows, IsAcceptedAfter, IsHistoryFrom, IsHistory}
 use Rattle.partition_model.proofs.Rises.{fold-snoc}
 
 -- the state after one write more
@@ -35,8 +34,7 @@ stored_after options s [] = (s, refl)
 stored_after options s (write ∷ history) = stored_after options (ss.after s write) history
 
 pub cached_in : (options : Options) → options.mode ≡ CacheMode → (history : History) → (s : cache.Cache) × (state_of options history ≡ cache_state s)
-cached_in options is history =
-    subst (λ (mode : Mode). (s : cache.Cache) × (fold (after options) (start mode) history ≡ cache_state s)) (sym is) (cached_after options cache.start history)
+cached_in options is history = grind (arith, common_steps, cached_after options cache.start history)
 
 pub stored_in : (options : Options) → options.mode ≡ StoreMode → (history : History) → (s : store.Store) × (state_of options history ≡ store_state s)
 stored_in options is history =
@@ -46,8 +44,7 @@ stored_in options is history =
 
 snoc_from : (options : Options) (before later : History) (write : Write) → IsHistoryFrom options before later → IsAcceptedAfter options (before ++ later) write → IsHistoryFrom options before (later ++ write ∷ [])
 snoc_from options before [] write is accepted = (subst (λ (h : History). IsAcceptedAfter options h write) (append-nil before) accepted, tt)
-snoc_from options before (w ∷ later) write is accepted =
-    (is.0, snoc_from options (before ++ w ∷ []) later write is.1 (subst (λ (h : History). IsAcceptedAfter options h write) (sym (append_assoc before (w ∷ []) later)) accepted))
+snoc_from options before (w ∷ later) write is accepted = grind (arith, common_steps, snoc_from options (before ++ w ∷ []) later write is.1)
 
 pub history_snoc : (options : Options) (history : History) (write : Write) → IsHistory options history → IsAcceptedAfter options history write → IsHistory options (history ++ write ∷ [])
 history_snoc options history write is accepted = snoc_from options [] history write is accepted
@@ -56,8 +53,7 @@ history_snoc options history write is accepted = snoc_from options [] history wr
 
 last_from : (options : Options) (before later : History) (write : Write) → IsHistoryFrom options before (later ++ write ∷ []) → IsAcceptedAfter options (before ++ later) write
 last_from options before [] write is = subst (λ (h : History). IsAcceptedAfter options h write) (sym (append-nil before)) is.0
-last_from options before (w ∷ later) write is =
-    subst (λ (h : History). IsAcceptedAfter options h write) (append_assoc before (w ∷ []) later) (last_from options (before ++ w ∷ []) later write is.1)
+last_from options before (w ∷ later) write is = grind (arith, common_steps, last_from options (before ++ w ∷ []) later write is.1)
 
 pub last_accepted : (options : Options) (history : History) (write : Write) → IsHistory options (history ++ write ∷ []) → IsAcceptedAfter options history write
 last_accepted options history write is = last_from options [] history write is
@@ -77,8 +73,7 @@ accepted_after options (store_state s) write = store_accepted write.op s write
 
 accepted_from : (options : Options) (now : State) (history : History) → accepted_in (fold (after options) now history) ≡ accepted_in now + length history
 accepted_from options now [] = omega arith
-accepted_from options now (write ∷ history) =
-    let rest = accepted_from options (after options now write) history in let one = accepted_after options now write in omega arith
+accepted_from options now (write ∷ history) = grind (arith, common_steps, accepted_from options (after options now write) history, accepted_after options now write)
 
 accepted_start : (mode : Mode) → accepted_in (start mode) ≡ 0
 unfolding cache.start store.start
@@ -86,18 +81,13 @@ accepted_start CacheMode = refl
 accepted_start StoreMode = refl
 
 pub accepted_is_length : (options : Options) (history : History) → accepted_in (state_of options history) ≡ length history
-accepted_is_length options history =
-    let all = accepted_from options (start options.mode) history in let none = accepted_start options.mode in omega arith
+accepted_is_length options history = grind (arith, common_steps, accepted_from options (start options.mode) history, accepted_start options.mode)
 
 -- and no more than the partition may bear
 
 pub cache_unworn : (options : Options) (s : cache.Cache) (write : Write) (outcome : Outcome) → is_accepted outcome ≡ true → outcome ≡ cs.reply options s write → s.accepted < options.wear
 unfolding cs.reply
-cache_unworn options s write outcome accepted is =
-    elim (cs.is_worn options s) as (λ b. cs.is_worn options s ≡ b → outcome ≡ cond b Worn (cs.reply_of write.op options write (is_some (cache.record_of s write.key))) → s.accepted < options.wear) [
-      | true ↦ λ worn e. absurd (true≢false (sym accepted ∙ ap is_accepted e))
-      | false ↦ λ unworn e. leb-false options.wear s.accepted unworn
-    ] refl is
+cache_unworn options s write outcome accepted is = grind (arith, common_steps)
 
 store_unworn : (options : Options) (s : store.Store) (write : Write) (outcome : Outcome) → is_accepted outcome ≡ true → ss.Allows options s write outcome → s.accepted < options.wear
 store_unworn options s write Stored accepted is = let not_worn = is.0 in omega arith
@@ -132,11 +122,3 @@ within_wear options history is =
     omega arith
 
 -- a step that is refused leaves the state, and one that is accepted adds its write
-
-pub refused_leaves : (options : Options) (old : State) (write : Write) (outcome : Outcome) (new : State) → IsStep options old write outcome new → is_accepted outcome ≡ false → new ≡ old
-refused_leaves options old write outcome new step refused = step.result ∙ ap (λ b. cond b (after options old write) old) refused
-
-pub accepted_adds : (options : Options) (history : History) (write : Write) (outcome : Outcome) (new : State) → IsStep options (state_of options history) write outcome new → is_accepted outcome ≡ true
-    → (new ≡ state_of options (history ++ write ∷ [])) × IsAcceptedAfter options history write
-accepted_adds options history write outcome new step accepted =
-    (step.result ∙ ap (λ b. cond b (after options (state_of options history) write) (state_of options history)) accepted ∙ sym (state_snoc options history write), (outcome, accepted, step.allowed))

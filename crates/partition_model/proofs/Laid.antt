@@ -1,11 +1,11 @@
 -- Records in a log: each ends where or before the next begins, and no two are of one key.
-use Rattle.std.proofs.Common.{◌≡◌, ℕ, ◌+◌, ◌≤◌, inl, inr, ◌⊎◌, List, [], ◌∷◌, ◌++◌, Some, None, Bool, true, false, cond, refl, sym, ap, ◌∙◌, subst, arith, ◌≢◌}
+use Rattle.std.proofs.Common.{◌≡◌, ℕ, ◌+◌, ◌≤◌, ◌⊎◌, List, [], ◌∷◌, ◌++◌, Some, None, Bool, true, false, cond, refl, ap, subst, arith, ◌≢◌}
 use Rattle.std.specs.List.{find, filter}
 use Rattle.std.specs.Prelude.{map}
-use Rattle.std.specs.Str.{bytes_eq}
 use Rattle.std.proofs.lemmas.Bool.{true≢false, false_from_ne_true}
 use Rattle.std.proofs.lemmas.Option.{same_Some}
 use Rattle.std.proofs.lemmas.Slice.Eq.{bytes_eq-Decides}
+use Rattle.std.proofs.lemmas.Grind.{common_steps}
 use Rattle.partition_model.specs.Cache.{Record, has_key}
 use Rattle.partition_model.specs.Records.{IsUnique}
 use Rattle.partition_model.specs.CacheStep.{without_first}
@@ -39,19 +39,12 @@ laid_from from from' upto (r ∷ rs) less laid = (let first = laid.0 in omega ar
 pub laid_filter : (q : Record → Bool) (from upto : ℕ) (rs : List Record) → IsLaid from upto rs → IsLaid from upto (filter q rs)
 laid_filter q from upto [] laid = laid
 laid_filter q from upto (r ∷ rs) laid =
-    let rest = laid_filter q (r.offset + r.room) upto rs laid.1 in
-    elim (q r) as (λ b. IsLaid from upto (cond b (r ∷ filter q rs) (filter q rs))) [
-      | true ↦ (laid.0, rest)
-      | false ↦ laid_from (r.offset + r.room) from upto (filter q rs) (let first = laid.0 in omega arith) rest
-    ]
+    grind (arith, common_steps, laid_filter q (r.offset + r.room) upto rs laid.1, laid_from (r.offset + r.room) from upto (filter q rs))
 
 pub laid_without_first : (here : Record → Bool) (from upto : ℕ) (rs : List Record) → IsLaid from upto rs → IsLaid from upto (without_first here rs)
 laid_without_first here from upto [] laid = laid
 laid_without_first here from upto (r ∷ rs) laid =
-    elim (here r) as (λ b. IsLaid from upto (cond b rs (r ∷ without_first here rs))) [
-      | true ↦ laid_from (r.offset + r.room) from upto rs (let first = laid.0 in omega arith) laid.1
-      | false ↦ (laid.0, laid_without_first here (r.offset + r.room) upto rs laid.1)
-    ]
+    grind (arith, common_steps, laid_from (r.offset + r.room) from upto rs, laid_without_first here (r.offset + r.room) upto rs laid.1)
 
 pub laid_push : (from upto : ℕ) (rs : List Record) (r : Record) → r.offset ≡ upto → IsLaid from upto rs → IsLaid from (upto + r.room) (rs ++ r ∷ [])
 laid_push from upto [] r at laid = (omega arith, omega arith)
@@ -61,11 +54,7 @@ laid_push from upto (x ∷ rs) r at laid = (laid.0, laid_push (x.offset + x.room
 pub laid_map : (f : Record → Record) → ((r : Record) → (f r).offset ≡ r.offset) → ((r : Record) → (f r).room ≡ r.room)
     → (from upto : ℕ) (rs : List Record) → IsLaid from upto rs → IsLaid from upto (map f rs)
 laid_map f offsets rooms from upto [] laid = laid
-laid_map f offsets rooms from upto (r ∷ rs) laid =
-    let o = offsets r in
-    let first = laid.0 in
-    let rest = laid_map f offsets rooms (r.offset + r.room) upto rs laid.1 in
-    (omega arith, subst (λ (n : ℕ). IsLaid n upto (map f rs)) (let m = rooms r in omega arith) rest)
+laid_map f offsets rooms from upto (r ∷ rs) laid = grind (arith, common_steps, laid_map f offsets rooms (r.offset + r.room) upto rs laid.1)
 
 pub laid_later : (from upto upto' : ℕ) (rs : List Record) → upto ≤ upto' → IsLaid from upto rs → IsLaid from upto' rs
 laid_later from upto upto' [] more laid = omega arith
@@ -91,92 +80,49 @@ pub laid_apart : (p q : Record → Bool) → ((r : Record) → p r ≡ true → 
     → find p rs ≡ Some r → find q rs ≡ Some r' → (r.offset + r.room ≤ r'.offset) ⊎ (r'.offset + r'.room ≤ r.offset)
 laid_apart p q differ from upto [] r r' laid is is' = cc
 laid_apart p q differ from upto (x ∷ rs) r r' laid is is' =
-    elim (p x) as (λ b. p x ≡ b → cond b (Some x) (find p rs) ≡ Some r → (r.offset + r.room ≤ r'.offset) ⊎ (r'.offset + r'.room ≤ r.offset)) [
-      | true ↦ λ here e.
-          let later : find q rs ≡ Some r' = ap (λ b. cond b (Some x) (find q rs)) (sym (differ x here)) ∙ is' in
-          let there = laid_found q (x.offset + x.room) upto rs r' laid.1 later in
-          inl (subst (λ (y : Record). y.offset + y.room ≤ r'.offset) (same_Some x r e) there.0)
-      | false ↦ λ here e. elim (q x) as (λ b. cond b (Some x) (find q rs) ≡ Some r' → (r.offset + r.room ≤ r'.offset) ⊎ (r'.offset + r'.room ≤ r.offset)) [
-        | true ↦ λ e'.
-            let there = laid_found p (x.offset + x.room) upto rs r laid.1 e in
-            inr (subst (λ (y : Record). y.offset + y.room ≤ r.offset) (same_Some x r' e') there.0)
-        | false ↦ λ e'. laid_apart p q differ (x.offset + x.room) upto rs r r' laid.1 e e'
-      ] is'
-    ] refl is
+    grind (
+      arith,
+      common_steps,
+      laid_found q (x.offset + x.room) upto rs r' laid.1,
+      same_Some x r,
+      laid_found p (x.offset + x.room) upto rs r laid.1,
+      same_Some x r',
+      laid_apart p q differ (x.offset + x.room) upto rs r r' laid.1,
+    )
 
 pub unique_filter : (q : Record → Bool) (rs : List Record) → IsUnique rs → IsUnique (filter q rs)
 unique_filter q [] unique = tt
-unique_filter q (r ∷ rs) unique =
-    elim (q r) as (λ b. IsUnique (cond b (r ∷ filter q rs) (filter q rs))) [
-      | true ↦ (missed_filter (has_key r.key) q rs unique.0, unique_filter q rs unique.1)
-      | false ↦ unique_filter q rs unique.1
-    ]
+unique_filter q (r ∷ rs) unique = grind (arith, common_steps, missed_filter (has_key r.key) q rs unique.0, unique_filter q rs unique.1)
 
 pub unique_without_first : (here : Record → Bool) (rs : List Record) → IsUnique rs → IsUnique (without_first here rs)
 unique_without_first here [] unique = tt
-unique_without_first here (r ∷ rs) unique =
-    elim (here r) as (λ b. IsUnique (cond b rs (r ∷ without_first here rs))) [
-      | true ↦ unique.1
-      | false ↦ (missed_without_first (has_key r.key) here rs unique.0, unique_without_first here rs unique.1)
-    ]
+unique_without_first here (r ∷ rs) unique = grind (arith, common_steps, missed_without_first (has_key r.key) here rs unique.0, unique_without_first here rs unique.1)
 
 missed_push : (p : Record → Bool) (rs : List Record) (r : Record) → p r ≡ false → find p rs ≡ None → find p (rs ++ r ∷ []) ≡ None
 missed_push p [] r other is = ap (λ b. cond b (Some r) None) other
-missed_push p (x ∷ rs) r other is =
-    elim (p x) as (λ b. cond b (Some x) (find p rs) ≡ None → cond b (Some x) (find p (rs ++ r ∷ [])) ≡ None) [
-      | true ↦ λ e. cc
-      | false ↦ λ e. missed_push p rs r other e
-    ] is
+missed_push p (x ∷ rs) r other is = grind (arith, common_steps, missed_push p rs r other)
 
 pub unique_push : (rs : List Record) (r : Record) → find (has_key r.key) rs ≡ None → IsUnique rs → IsUnique (rs ++ r ∷ [])
 unique_push [] r new unique = (refl, tt)
 unique_push (x ∷ rs) r new unique =
-    elim (has_key r.key x) as (λ b. has_key r.key x ≡ b → cond b (Some x) (find (has_key r.key) rs) ≡ None → IsUnique (x ∷ (rs ++ r ∷ []))) [
-      | true ↦ λ here e. cc
-      | false ↦ λ here e.
-          let other = has_other_key x.key r (λ same. true≢false (sym (has_its_key r.key x (sym same)) ∙ here)) in
-          (missed_push (has_key x.key) rs r other unique.0, unique_push rs r e unique.1)
-    ] refl new
+    grind (arith, common_steps, has_other_key x.key r, true≢false, has_its_key r.key x, missed_push (has_key x.key) rs r, unique_push rs r)
 
 module _ (f : Record → Record) (keys : (r : Record) → (f r).key ≡ r.key) where
   pub missed_map : (key : List ℕ) (rs : List Record) → find (has_key key) rs ≡ None → find (has_key key) (map f rs) ≡ None
   missed_map key [] is = refl
-  missed_map key (r ∷ rs) is =
-      elim (has_key key r) as (λ b. has_key key r ≡ b → cond b (Some r) (find (has_key key) rs) ≡ None → find (has_key key) (map f (r ∷ rs)) ≡ None) [
-        | true ↦ λ here e. cc
-        | false ↦ λ here e. ap (λ b. cond b (Some (f r)) (find (has_key key) (map f rs))) (ap (λ k. bytes_eq k key) (keys r) ∙ here) ∙ missed_map key rs e
-      ] refl is
+  missed_map key (r ∷ rs) is = grind (arith, common_steps, missed_map key rs)
 
   pub found_map : (key : List ℕ) (rs : List Record) (r : Record) → find (has_key key) rs ≡ Some r → find (has_key key) (map f rs) ≡ Some (f r)
   found_map key [] r is = cc
-  found_map key (x ∷ rs) r is =
-      elim (has_key key x) as (λ b. has_key key x ≡ b → cond b (Some x) (find (has_key key) rs) ≡ Some r → find (has_key key) (map f (x ∷ rs)) ≡ Some (f r)) [
-        | true ↦ λ here e. ap (λ b. cond b (Some (f x)) (find (has_key key) (map f rs))) (ap (λ k. bytes_eq k key) (keys x) ∙ here) ∙ ap (λ y. Some (f y)) (same_Some x r e)
-        | false ↦ λ here e. ap (λ b. cond b (Some (f x)) (find (has_key key) (map f rs))) (ap (λ k. bytes_eq k key) (keys x) ∙ here) ∙ found_map key rs r e
-      ] refl is
+  found_map key (x ∷ rs) r is = grind (arith, common_steps, found_map key rs r)
 
   pub unique_map : (rs : List Record) → IsUnique rs → IsUnique (map f rs)
   unique_map [] unique = tt
-  unique_map (r ∷ rs) unique =
-      (ap (λ k. find (has_key k) (map f rs)) (keys r) ∙ missed_map r.key rs unique.0, unique_map rs unique.1)
+  unique_map (r ∷ rs) unique = grind (arith, common_steps, missed_map r.key rs unique.0, unique_map rs unique.1)
 
 -- of unique records, a filter keeps the one that was found or leaves none of its key
 pub found_before_filter : (key : List ℕ) (q : Record → Bool) (rs : List Record) (r : Record) → IsUnique rs → find (has_key key) (filter q rs) ≡ Some r
     → (find (has_key key) rs ≡ Some r) × (q r ≡ true)
 found_before_filter key q [] r unique is = cc
 found_before_filter key q (x ∷ rs) r unique is =
-    elim (q x) as (λ b. q x ≡ b → find (has_key key) (cond b (x ∷ filter q rs) (filter q rs)) ≡ Some r
-    → (cond (has_key key x) (Some x) (find (has_key key) rs) ≡ Some r) × (q r ≡ true)) [
-      | true ↦ λ kept e. elim (has_key key x) as (λ b. cond b (Some x) (find (has_key key) (filter q rs)) ≡ Some r
-          → (cond b (Some x) (find (has_key key) rs) ≡ Some r) × (q r ≡ true)) [
-            | true ↦ λ e'. (e', ap q (sym (same_Some x r e')) ∙ kept)
-            | false ↦ λ e'. found_before_filter key q rs r unique.1 e'
-          ] e
-      | false ↦ λ gone e. elim (has_key key x) as (λ b. has_key key x ≡ b → (cond b (Some x) (find (has_key key) rs) ≡ Some r) × (q r ≡ true)) [
-        | true ↦ λ here.
-            let none : find (has_key key) rs ≡ None = ap (λ k. find (has_key k) rs) (sym (key_is key x here)) ∙ unique.0 in
-            let gone_too = missed_filter (has_key key) q rs none in
-            cc
-        | false ↦ λ here. found_before_filter key q rs r unique.1 e
-      ] refl
-    ] refl is
+    grind (arith, common_steps, same_Some x r, found_before_filter key q rs r unique.1, key_is key x, missed_filter (has_key key) q rs)

@@ -1,7 +1,8 @@
 -- Each accepted write raises the stamp, so a stamp is that of one prefix of a history at most.
-use Rattle.std.proofs.Common.{◌≡◌, ◌≢◌, ℕ, zero, suc, ◌<◌, ◌≤◌, List, [], ◌∷◌, ◌++◌, take, refl, sym, ap, ◌∙◌, subst, arith, Option, Some, None}
-use Rattle.std.specs.List.{cons_option, fold}
+use Rattle.std.proofs.Common.{◌≡◌, ◌≢◌, ℕ, zero, suc, ◌<◌, ◌≤◌, List, [], ◌∷◌, ◌++◌, take, refl, sym, ap, ◌∙◌, arith, Option, Some, None}
+use Rattle.std.specs.List.{fold}
 use Rattle.std.proofs.lemmas.Grind.{fold-append}
+use Rattle.std.proofs.lemmas.Grind.{common_steps}
 use Rattle.partition_model.specs.declared.options.Options.{Options}
 use Rattle.partition_model.specs.declared.write.Write.{Write}
 use Rattle.partition_model.specs.declared.write.Op.{Op}
@@ -11,7 +12,7 @@ use Rattle.partition_model.specs.CacheStep as cs
 use Rattle.partition_model.specs.Store as store
 use Rattle.partition_model.specs.StoreStep as ss
 use Rattle.partition_model.specs.History.{History, State, cache_state, store_state, after, start, state_of, stamp_in, stamp_of, IsPrefix, IsCut}
-use Rattle.partition_model.specs.Run.{RunStep, history_of, accepted_write}
+use Rattle.partition_model.specs.Run.{RunStep, history_of}
 
 put_rises : (found : Option cache.Record) (s : cache.Cache) (write : Write) → s.stamp < (cs.after_put found s write).stamp
 put_rises None s write = omega arith
@@ -49,35 +50,22 @@ module _ (options : Options) where
   -- further writes never lower the stamp
   rises : (history : History) (now : State) → stamp_in now ≤ stamp_in (fold (after options) now history)
   rises [] now = omega arith
-  rises (write ∷ history) now =
-      let next = after_rises options now write in
-      let later = rises history (after options now write) in
-      omega arith
+  rises (write ∷ history) now = grind (arith, common_steps, after_rises options now write, rises history (after options now write))
 
   -- so stamps don't fall from a history to one that it begins
   pub prefix_rises : (a b : History) → IsPrefix a b → stamp_of options a ≤ stamp_of options b
-  prefix_rises a b is =
-      subst (λ (h : History). stamp_of options a ≤ stamp_of options h) (sym is.1)
-      (subst (λ (s : State). stamp_of options a ≤ stamp_in s) (sym (fold-append (after options) (start options.mode) a is.0)) (rises is.0 (fold (after options) (start options.mode) a)))
+  prefix_rises a b is = grind (arith, common_steps, fold-append (after options) (start options.mode) a is.0, rises is.0 (fold (after options) (start options.mode) a))
 
   -- and one more raises it
   rises_by_one : (write : Write) (history : History) (now : State) → stamp_in now < stamp_in (fold (after options) now (write ∷ history))
-  rises_by_one write history now =
-      let next = after_rises options now write in
-      let later = rises history (after options now write) in
-      omega arith
+  rises_by_one write history now = grind (arith, common_steps, after_rises options now write, rises history (after options now write))
 
   rises_more : (steps : List RunStep) (now : State) (i j : ℕ) → i ≤ j
       → stamp_in (fold (after options) now (history_of (take i steps))) ≤ stamp_in (fold (after options) now (history_of (take j steps)))
   rises_more steps now zero j le = rises (history_of (take j steps)) now
   rises_more [] now (suc i) j le = rises (history_of (take j [])) now
   rises_more (step ∷ steps) now (suc i) zero le = absurd (omega arith)
-  rises_more (step ∷ steps) now (suc i) (suc j) le =
-      let less : i ≤ j = omega arith in
-      elim (accepted_write step) as (λ o. stamp_in (fold (after options) now (cons_option o (history_of (take i steps)))) ≤ stamp_in (fold (after options) now (cons_option o (history_of (take j steps))))) [
-        | None ↦ rises_more steps now i j less
-        | Some write ↦ rises_more steps (after options now write) i j less
-      ]
+  rises_more (step ∷ steps) now (suc i) (suc j) le = grind (arith, common_steps, rises_more steps now i j, rises_more steps)
 
   -- stamps never fall along a run
   pub stamps_rise : (steps : List RunStep) (i j : ℕ) → i ≤ j → stamp_of options (history_of (take i steps)) ≤ stamp_of options (history_of (take j steps))
@@ -90,18 +78,13 @@ module _ (options : Options) where
 
   -- the stamp of a proper prefix is lower
   pub proper_prefix_lower : (history begun : History) → IsPrefix begun history → begun ≢ history → stamp_of options begun < stamp_of options history
-  proper_prefix_lower history begun prefix proper =
-      subst (λ h. stamp_of options begun < stamp_of options h) (sym prefix.1) (lower_from begun prefix.0 (start options.mode) (λ e. proper (e ∙ sym prefix.1)))
+  proper_prefix_lower history begun prefix proper = grind (arith, common_steps, lower_from begun prefix.0 (start options.mode))
 
   one_from : (a b later later' : History) (now : State) → a ++ later ≡ b ++ later' → stamp_in (fold (after options) now a) ≡ stamp_in (fold (after options) now b) → a ≡ b
   one_from [] [] later later' now same stamps = refl
   one_from [] (write ∷ b) later later' now same stamps = let more = rises_by_one write b now in absurd (omega arith)
   one_from (write ∷ a) [] later later' now same stamps = let more = rises_by_one write a now in absurd (omega arith)
-  one_from (write ∷ a) (write' ∷ b) later later' now same stamps =
-      let first : write ≡ write' = cc in
-      let rest : a ++ later ≡ b ++ later' = cc in
-      let then = one_from a b later later' (after options now write') rest (subst (λ w. stamp_in (fold (after options) (after options now w) a) ≡ stamp_in (fold (after options) (after options now write') b)) first stamps) in
-      cc
+  one_from (write ∷ a) (write' ∷ b) later later' now same stamps = grind (arith, common_steps, one_from a b later later' (after options now write'))
 
   -- no two prefixes of a history have one stamp
   pub one_cut : (history : History) (stamp : ℕ) (a b : History) → IsCut options history stamp a → IsCut options history stamp b → a ≡ b

@@ -1,6 +1,7 @@
 -- A machine reads mode, buckets, words and wear of its options, and in store mode spares. It reads no partitions, readers and tries.
-use Rattle.std.proofs.Common.{◌≡◌, ℕ, ◌+◌, inl, inr, List, [], ◌∷◌, ◌++◌, Bool, true, false, is_some, cond, refl, sym, ap, ◌∙◌, subst}
+use Rattle.std.proofs.Common.{◌≡◌, ℕ, inl, inr, List, [], ◌∷◌, ◌++◌, Bool, true, false, is_some, cond, refl, ap, ◌∙◌, subst, arith}
 use Rattle.std.specs.List.{fold}
+use Rattle.std.proofs.lemmas.Grind.{common_steps}
 use Rattle.partition_model.specs.declared.options.Options.{Options}
 use Rattle.partition_model.specs.declared.options.Mode.{Mode}
 use Rattle.partition_model.specs.declared.options.Mode.TheVariants.{Cache as CacheMode, Store as StoreMode}
@@ -13,7 +14,7 @@ use Rattle.partition_model.specs.Cache as cache
 use Rattle.partition_model.specs.CacheStep as cs
 use Rattle.partition_model.specs.Store as store
 use Rattle.partition_model.specs.StoreStep as ss
-use Rattle.partition_model.specs.History.{State, cache_state, store_state, after, start, Allows, MayGive, History, state_of, stamp_in}
+use Rattle.partition_model.specs.History.{State, cache_state, store_state, after, start, Allows, MayGive, History, state_of}
 use Rattle.partition_model.specs.Run.{RunStep, IsRunFrom, history_of}
 use Rattle.partition_model.proofs.Histories.{cached_in, stored_in}
 
@@ -22,17 +23,9 @@ module _ (options : Options) (partitions readers tries spares : ℕ) where
   abbrev pub with_others : Options
   with_others = record options { partitions = partitions; readers = readers; tries = tries; spares = spares }
 
-  same_op : (op : Op) (s : cache.Cache) (write : Write) → cs.after_op op with_others s write ≡ cs.after_op op options s write
-  same_op Put s write = refl
-  same_op Add s write = refl
-  same_op Touch s write = refl
-  same_op Del s write = refl
-
   same_after : (now : State) (write : Write) → after with_others now write ≡ after options now write
   unfolding cs.after
-  same_after (cache_state s) write =
-      ap (λ (z : cache.Cache). cache_state (record (cs.without_displaced options write.key (cs.without_passed options z)) { accepted = s.accepted + 1 }))
-      (same_op write.op s write)
+  same_after (cache_state s) write = grind (arith, common_steps)
   same_after (store_state s) write = refl
 
   pub same_state : (history : History) → state_of with_others history ≡ state_of options history
@@ -49,17 +42,11 @@ module _ (options : Options) (partitions readers tries spares : ℕ) where
 
   module _ (same : spares ≡ options.spares) (s : store.Store) (write : Write) where
     block : ss.NeedsBlock with_others s write → ss.NeedsBlock options s write
-    block h = record {
-      stores = h.stores;
-      no_room = h.no_room;
-      has_spare = λ needs. h.has_spare
-          record { is_new = needs.is_new; some = needs.some; full = needs.full; none_left = needs.none_left ∙ sym same };
-    }
+    block h = grind (arith, common_steps)
 
     allows : (outcome : Outcome) → ss.Allows with_others s write outcome → ss.Allows options s write outcome
     allows Stored h = (h.0, (h.1.0, elim h.1.1 [ inl fits ↦ inl fits | inr needs ↦ inr (block needs.0, needs.1) ]))
-    allows FullSpare h =
-        (h.0, (h.1.0, record { is_new = h.1.1.is_new; some = h.1.1.some; full = h.1.1.full; none_left = h.1.1.none_left ∙ same }))
+    allows FullSpare h = grind (arith, common_steps)
     allows FullBlock h = (h.0, (block h.1.0, h.1.1))
     allows outcome h = h
 
@@ -79,8 +66,5 @@ module _ (options : Options) (partitions readers tries spares : ℕ) where
 
     pub same_run : (history : History) (steps : List RunStep) → IsRunFrom with_others history steps → IsRunFrom options history steps
     same_run history [] run = tt
-    same_run history (step ∷ steps) run = (
-      same_may_give history step.write step.outcome run.0,
-      run.1 ∙ ap stamp_in (same_state (history ++ history_of (step ∷ []))),
-      same_run (history ++ history_of (step ∷ [])) steps run.2,
-    )
+    same_run history (step ∷ steps) run =
+        grind (arith, common_steps, same_may_give history step.write step.outcome run.0, same_state (history ++ history_of (step ∷ [])), same_run (history ++ history_of (step ∷ [])) steps run.2)

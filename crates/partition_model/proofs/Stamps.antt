@@ -1,6 +1,7 @@
 -- The stamps of a history, in both modes: they have a bound.
 use Rattle.std.proofs.Common.{◌≡◌, ◌*◌, ◌≤◌, length, refl, arith}
 use Rattle.std.specs.List.{AllByRecursion as AllOf}
+use Rattle.std.proofs.lemmas.Grind.{common_steps}
 use Rattle.partition_model.specs.declared.options.Options.{Options}
 use Rattle.partition_model.specs.Options.{IsValid}
 use Rattle.partition_model.specs.Limits.{most_added, most_stamp}
@@ -16,7 +17,4 @@ stamp_at_most options history writes (store_state s) at = let count = stamp_is_l
 
 pub stamp_small : (options : Options) → IsValid options → (history : History) → IsHistory options history → AllOf IsWrite history → stamp_of options history ≤ most_stamp
 stamp_small options valid history is writes =
-    let most = stamp_at_most options history writes (state_of options history) refl in
-    let few = within_wear options history is in
-    let wear = valid.wear.1 in
-    omega arith
+    grind (arith, common_steps, stamp_at_most options history writes (state_of options history) refl, within_wear options history is)

@@ -1,11 +1,11 @@
 -- Each value that a state has was written: what holds of all written values holds of those that the state has.
-use Rattle.std.proofs.Common.{◌≡◌, ℕ, List, Option, Some, None, refl, sym, ◌∙◌, subst, cond, Bool, true, false}
-use Rattle.std.specs.Prelude.{option_map}
+use Rattle.std.proofs.Common.{◌≡◌, ℕ, List, Option, Some, None, refl, sym, ◌∙◌, subst, cond, Bool, true, false, arith}
 use Rattle.std.specs.List.{AllByRecursion as AllOf}
 use Rattle.std.specs.Ordering.{nat_cmp, eq_by_cmp}
 use Rattle.std.specs.Cmp.Lexicographic.{slice_cmp, nat_list_cmp_total}
 use Rattle.std.specs.FinMap.{get, insert, get-insert, get-remove, get-empty}
 use Rattle.std.proofs.lemmas.Option.{same_Some}
+use Rattle.std.proofs.lemmas.Grind.{common_steps}
 use Rattle.mica_words.specs.Hash.{bucket_of}
 use Rattle.partition_model.specs.declared.options.Options.{Options}
 use Rattle.partition_model.specs.declared.options.Mode.{Mode}
@@ -85,13 +85,5 @@ module _ (P : List ℕ → Type 0) where
   after_are options (store_state s) write fits all = store_op_are write.op s write fits all
 
   pub value_is : (now : State) (key value : List ℕ) → ValuesAre now → value_in now key ≡ Some value → P value
-  value_is (cache_state s) key value all is =
-      elim (cache.record_of s key) as (λ o. cache.record_of s key ≡ o → option_map (λ r. r.value) o ≡ Some value → P value) [
-        | None ↦ λ e f. absurd (cc)
-        | Some r ↦ λ e f. subst P (same_Some r.value value f) (found_has (λ x. P x.value) (has_key key) s.records r all e)
-      ] refl is
-  value_is (store_state s) key value all is =
-      elim (get s.cells key) as (λ o. get s.cells key ≡ o → option_map (λ cell. cell.value) o ≡ Some value → P value) [
-        | None ↦ λ e f. absurd (cc)
-        | Some cell ↦ λ e f. subst P (same_Some cell.value value f) (all key cell e)
-      ] refl is
+  value_is (cache_state s) key value all is = grind (arith, common_steps, same_Some, found_has)
+  value_is (store_state s) key value all is = grind (arith, common_steps)
