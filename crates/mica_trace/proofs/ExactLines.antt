@@ -1,11 +1,11 @@
 -- An exact report gets one line more, and at each of its lines it has what is replied after the lines before.
-use Rattle.std.proofs.Common.{◌≡◌, ℕ, zero, suc, ◌+◌, ◌<◌, ◌≤◌, inl, inr, List, [], ◌∷◌, ◌++◌, length, take, Option, Some, None, refl, sym, ap, ◌∙◌, subst, arith, slice_get, zip, cond, true, false, eq-eqb, append-nil, append_assoc}
+use Rattle.std.proofs.Common.{◌≡◌, ℕ, zero, suc, ◌+◌, ◌<◌, ◌≤◌, inl, inr, List, [], ◌∷◌, ◌++◌, length, Option, Some, None, refl, sym, ap, ◌∙◌, subst, arith, slice_get, zip, cond, false, eq-eqb, append-nil}
 use Rattle.std.specs.List.{filter_map, cons_option, AllZip, AllByRecursion}
 use Rattle.std.proofs.Math.Seq.{take-length}
-use Rattle.std.proofs.lemmas.Bool.{eqb-true}
 use Rattle.std.proofs.lemmas.List.{take-append-le}
 use Rattle.std.proofs.lemmas.List.Elements.{filter_map-append}
 use Rattle.std.proofs.lemmas.Option.{same_Some}
+use Rattle.std.proofs.lemmas.Grind.{common_steps}
 use Rattle.mica_words.proofs.Hashes.{partition_of-below}
 use Rattle.partition_model.specs.declared.options.Options.{Options}
 use Rattle.partition_model.specs.Options.{IsValid}
@@ -19,7 +19,7 @@ use Rattle.mica_trace.specs.declared.line.TraceOp.{TraceOp}
 use Rattle.mica_trace.specs.declared.line.TraceOp.TheVariants.{Put, Add, Touch, Del, Get, Sync}
 use Rattle.mica_trace.specs.declared.line.TraceLine.{TraceLine}
 use Rattle.mica_trace.specs.declared.report.Line.{Line}
-use Rattle.mica_trace.specs.declared.report.Line.TheVariants.{Wrote, Hit, Miss, Sync as SyncLine}
+use Rattle.mica_trace.specs.declared.report.Line.TheVariants.{Wrote, Sync as SyncLine}
 use Rattle.mica_trace.specs.TraceGrammar.{IsTraceLine}
 use Rattle.mica_trace.specs.ReportGrammar.{HasOutcome}
 use Rattle.mica_trace.specs.Rounds.{write_by, write_in, writes_of, partition_in, is_in_partition}
@@ -28,17 +28,13 @@ use Rattle.mica_trace.specs.RoundReport.{history_in}
 use Rattle.mica_trace.specs.LineReply.{steps_at, history_with, IsReplyAfter}
 use Rattle.mica_trace.specs.ExactReport.{writes_before, ExactReport}
 use Rattle.mica_trace.proofs.ListParts.{same_part, zip-append, AllZip-append, length_zip, length-cons_option}
-use Rattle.mica_trace.proofs.Prefixes.{run-append, history_cons, history-append}
+use Rattle.mica_trace.proofs.Prefixes.{run-append, history-append}
 use Rattle.mica_trace.proofs.RoundPlaces.{steps_count}
 use Rattle.mica_trace.proofs.Outcomes.{has_outcome}
 use Rattle.mica_trace.proofs.Standing.{StoresValue, answer_stands, stored}
 
 pub none_exact : (options : Options) → ExactReport options [] []
-none_exact options = record {
-  lines = tt;
-  writes = λ p below. tt;
-  gets = λ n line printed get. let none = get.asked in absurd (cc);
-}
+none_exact options = grind (arith, common_steps)
 
 -- no more writes stand before a line than there are
 below_all : (options : Options) (p : ℕ) (lines : List TraceLine) (n : ℕ) → writes_before options p lines n ≤ length (writes_of options p lines)
@@ -62,18 +58,13 @@ module _ (options : Options) (before later : List TraceLine) (report rest : List
   pub history_front : (p n : ℕ) → n ≤ length before
       → history_after options p (before ++ later) (report ++ rest) (writes_before options p (before ++ later) n) ≡ history_after options p before report (writes_before options p before n)
   history_front p n le =
-      ap (λ ls. history_after options p (before ++ later) (report ++ rest) (length (writes_of options p ls))) (take-append-le n before later le)
-      ∙ ap (λ s. history_of (take (writes_before options p before n) s)) (steps_both p)
-      ∙ ap history_of (take-append-le (writes_before options p before n) (steps_of options p before report) (steps_of options p later rest) (few p n))
+      grind (arith, common_steps, take-append-le n before later le, steps_both p, take-append-le (writes_before options p before n) (steps_of options p before report) (steps_of options p later rest) (few p n), few p n)
 
   -- and behind them
   pub history_there : (p : ℕ)
       → history_after options p (before ++ later) (report ++ rest) (writes_before options p (before ++ later) (length before)) ≡ history_in options p before report
   history_there p =
-      history_front p (length before) (omega arith)
-      ∙ ap (λ ls. history_after options p before report (length (writes_of options p ls))) (take-length before)
-      ∙ ap (λ n. history_after options p before report n) (sym (steps_count options p before report lines))
-      ∙ ap history_of (take-length (steps_of options p before report))
+      grind (arith, common_steps, history_front p (length before) (omega arith), take-length before, steps_count options p before report lines, take-length (steps_of options p before report))
 
 -- what one line more leaves of each partition's history
 
@@ -85,22 +76,16 @@ module _ (options : Options) (before : List TraceLine) (report : List Line) (lin
       ∙ history-append (steps_of options p before report) (steps_of options p (line ∷ []) (printed ∷ []))
 
   pub history_own : history_in options (partition_in options line) (before ++ line ∷ []) (report ++ printed ∷ []) ≡ history_with (history_in options (partition_in options line) before report) line printed
-  history_own =
-      let p = partition_in options line in
-      let mine : is_in_partition options p line ≡ true = eq-eqb p p refl in
-      history_both p ∙ ap (λ b. history_in options p before report ++ history_of (cons_option (cond b (step_by (write_by line.op line.key line.value) printed) None) [])) mine
+  history_own = grind (arith, common_steps, eq-eqb (partition_in options line) (partition_in options line) refl, history_both (partition_in options line))
 
   pub history_other : (p : ℕ) → is_in_partition options p line ≡ false → history_in options p (before ++ line ∷ []) (report ++ printed ∷ []) ≡ history_in options p before report
-  history_other p apart =
-      history_both p ∙ ap (λ b. history_in options p before report ++ history_of (cons_option (cond b (step_by (write_by line.op line.key line.value) printed) None) [])) apart
-      ∙ append-nil (history_in options p before report)
+  history_other p apart = grind (arith, common_steps, history_both p, append-nil (history_in options p before report))
 
 -- what is printed as a reply stands for its line
 
 module _ (options : Options) (history : History) (key value : List ℕ) where
   write_stands : (does p : Op) (o : Outcome) (s : ℕ) → p ≡ does → IsRunFrom options history (record { write = write_of does key value; outcome = o; stamp = s } ∷ []) → HasOutcome p o
-  write_stands does p o s is run =
-      subst (λ (q : Op). HasOutcome q o) (sym is) (has_outcome options (state_of options history) (write_of does key value) o run.0)
+  write_stands does p o s is run = grind (arith, common_steps, has_outcome options (state_of options history) (write_of does key value) o run.0)
 
   reply_stands : (op : TraceOp) (printed : Line) → AllByRecursion StoresValue history
       → IsReplyAfter options history (record { op = op; key = key; value = value }) printed → IsLineFor (record { op = op; key = key; value = value }) printed
@@ -122,14 +107,7 @@ module _ (options : Options) (before : List TraceLine) (report : List Line) (lin
       reply_stands options (history_in options p before report) line.key line.value line.op printed (stored options p before report all) reply
 
   run_one : (p : ℕ) → IsRunFrom options (history_in options p before report) (steps_of options p (line ∷ []) (printed ∷ []))
-  run_one p =
-      elim (is_in_partition options p line)
-      as (λ b. is_in_partition options p line ≡ b → IsRunFrom options (history_in options p before report) (cons_option (cond b (step_by (write_by line.op line.key line.value) printed) None) [])) [
-        | true ↦ λ here.
-            let is : partition_in options line ≡ p = eqb-true _ _ here in
-            subst (λ q. IsRunFrom options (history_in options q before report) (steps_at line printed)) is reply.write
-        | false ↦ λ other. tt
-      ] refl
+  run_one p = grind (arith, common_steps)
 
   runs : (p : ℕ) → p < options.partitions → IsRun options (steps_of options p (before ++ line ∷ []) (report ++ printed ∷ []))
   runs p below =
@@ -139,14 +117,7 @@ module _ (options : Options) (before : List TraceLine) (report : List Line) (lin
   new_get : (k n : ℕ) (l : TraceLine) (r : Line) → n ≡ length before + k → slice_get (line ∷ []) k ≡ Some l → slice_get (printed ∷ []) k ≡ Some r → l.op ≡ Get
       → Answers options (history_after options (partition_in options l) (before ++ line ∷ []) (report ++ printed ∷ []) (writes_before options (partition_in options l) (before ++ line ∷ []) n)) l.key r
   new_get zero n l r at is_line is_printed op =
-      let one : line ≡ l = same_Some line l is_line in
-      let two : printed ≡ r = same_Some printed r is_printed in
-      let last : n ≡ length before = omega arith in
-      let answer = reply.get (ap (λ (x : TraceLine). x.op) one ∙ op) in
-      let here = subst (λ h. Answers options h line.key printed) (sym (history_there options before (line ∷ []) report (printed ∷ []) exact.lines (partition_in options line))) answer in
-      let there = subst (λ (m : ℕ). Answers options (history_after options (partition_in options line) (before ++ line ∷ []) (report ++ printed ∷ []) (writes_before options (partition_in options line) (before ++ line ∷ []) m)) line.key printed) (sym last) here in
-      subst (λ (z : Line). Answers options (history_after options (partition_in options l) (before ++ line ∷ []) (report ++ printed ∷ []) (writes_before options (partition_in options l) (before ++ line ∷ []) n)) l.key z) two
-      (subst (λ (x : TraceLine). Answers options (history_after options (partition_in options x) (before ++ line ∷ []) (report ++ printed ∷ []) (writes_before options (partition_in options x) (before ++ line ∷ []) n)) x.key printed) one there)
+      grind (arith, common_steps, same_Some line l is_line, same_Some printed r is_printed, history_there options before (line ∷ []) report (printed ∷ []) exact.lines (partition_in options line))
   new_get (suc k) n l r at is_line is_printed op = absurd (cc)
 
   gets : (n : ℕ) (l : TraceLine) (r : Line) → IsGetAt (before ++ line ∷ []) (report ++ printed ∷ []) n l r
@@ -156,17 +127,12 @@ module _ (options : Options) (before : List TraceLine) (report : List Line) (lin
       as (λ _. Answers options (history_after options (partition_in options l) (before ++ line ∷ []) (report ++ printed ∷ []) (writes_before options (partition_in options l) (before ++ line ∷ []) n)) l.key r) [
         | inl old ↦
             let less = old.0 in
-            subst (λ h. Answers options h l.key r) (sym (history_front options before (line ∷ []) report (printed ∷ []) exact.lines (partition_in options l) n (omega arith)))
-            (exact.gets n l r (record { asked = old.1; answered = old.2; get = get.get }))
+            grind (arith, common_steps, history_front options before (line ∷ []) report (printed ∷ []) exact.lines (partition_in options l) n (omega arith))
         | inr new ↦ new_get new.0 n l r new.1 new.2 new.3 get.get
       ]
 
   pub exact_more : ExactReport options (before ++ line ∷ []) (report ++ printed ∷ [])
-  exact_more = record {
-    lines = AllZip-append IsLineFor before (line ∷ []) report (printed ∷ []) exact.lines (line_stands, tt);
-    writes = runs;
-    gets = gets;
-  }
+  exact_more = grind (arith, common_steps, AllZip-append IsLineFor before (line ∷ []) report (printed ∷ []) exact.lines (line_stands, tt), line_stands, runs, gets)
 
 -- at its place
 
@@ -178,9 +144,7 @@ AllZip-split R (y ∷ xs) ys (v ∷ us) vs same all = let rest = AllZip-split R 
 
 run-back : (options : Options) (history : History) (s t : List RunStep) → IsRunFrom options history (s ++ t) → IsRunFrom options (history ++ history_of s) t
 run-back options history [] t run = subst (λ h. IsRunFrom options h t) (sym (append-nil history)) run
-run-back options history (step ∷ s) t run =
-    subst (λ h. IsRunFrom options h t) (append_assoc history (history_of (step ∷ [])) (history_of s) ∙ ap (λ h. history ++ h) (history_cons step s))
-    (run-back options (history ++ history_of (step ∷ [])) s t run.2)
+run-back options history (step ∷ s) t run = grind (arith, common_steps, run-back options (history ++ history_of (step ∷ [])) s t run.2)
 
 run_first : (options : Options) (history : History) (first : Option RunStep) (later : List RunStep) → IsRunFrom options history (cons_option first later) → IsRunFrom options history (cons_option first [])
 run_first options history None later run = tt
@@ -205,19 +169,12 @@ module _ (options : Options) (valid : IsValid options) (before later : List Trac
 
   run_here : IsRunFrom options (history_in options p before report) (steps_at line printed)
   run_here =
-      let own : is_in_partition options p line ≡ true = eq-eqb p p refl in
-      run_first options (history_in options p before report) (step_by (write_by line.op line.key line.value) printed) (steps_of options p later rest)
-      (subst (λ b. IsRunFrom options (history_in options p before report) (cons_option (cond b (step_by (write_by line.op line.key line.value) printed) None) (steps_of options p later rest))) own run_there)
+      grind (arith, common_steps, eq-eqb p p refl, run_first options (history_in options p before report) (step_by (write_by line.op line.key line.value) printed) (steps_of options p later rest), run_there)
 
   pub reply_there : IsReplyAfter options (history_in options p before report) line printed
   reply_there = record {
     kind = parts.1.0.1;
     write = run_here;
     get = λ op.
-        subst (λ h. Answers options h line.key printed) (history_there options before (line ∷ later) report (printed ∷ rest) parts.0 p)
-        (exact.gets (length before) line printed (record {
-          asked = get_middle before later line;
-          answered = subst (λ n. slice_get (report ++ printed ∷ rest) n ≡ Some printed) same (get_middle report rest printed);
-          get = op;
-        }));
+        grind (arith, common_steps, history_there options before (line ∷ later) report (printed ∷ rest) parts.0 p, get_middle before later line, get_middle report rest printed);
   }

@@ -1,13 +1,13 @@
 -- How long the text of a trace is at most.
-use Rattle.std.proofs.Common.{◌≡◌, ℕ, zero, suc, ◌+◌, ◌*◌, ◌<◌, ◌≤◌, List, [], ◌∷◌, ◌++◌, length, length-append, get_or, take, refl, sym, ap, subst, arith}
+use Rattle.std.proofs.Common.{◌≡◌, ℕ, zero, suc, ◌+◌, ◌*◌, ◌<◌, ◌≤◌, List, [], ◌∷◌, length, get_or, take, sym, ap, subst, arith}
 use Rattle.std.specs.List.{AllByRecursion}
+use Rattle.std.proofs.lemmas.Grind.{common_steps}
 use Rattle.mica_words.specs.declared.item.TheConstants.{MAX_KEY_LEN, MAX_VALUE_LEN}
 use Rattle.mica_trace.specs.declared.limits.TheConstants.{MAX_LINE_LEN}
 use Rattle.mica_trace.specs.declared.line.TraceOp.{TraceOp}
 use Rattle.mica_trace.specs.declared.line.TraceOp.TheVariants.{Put, Add, Del, Touch, Get, Sync}
 use Rattle.mica_trace.specs.declared.line.TraceLine.{TraceLine}
-use Rattle.mica_trace.specs.TraceGrammar.{HasFields, IsTraceLine, line_text, trace_text}
-use Rattle.mica_trace.proofs.LineLemmas.{text_length}
+use Rattle.mica_trace.specs.TraceGrammar.{HasFields, IsTraceLine, trace_text}
 
 pub record HasShortFields (key value : List ℕ) : Type 0 where
   pub key_len : length key ≤ MAX_KEY_LEN
@@ -34,9 +34,4 @@ short_at lines i line is less all = short_fields line.op line.key line.value (su
 pub taken_length : (lines : List TraceLine) (i : ℕ) → AllByRecursion IsTraceLine lines → length (trace_text (take i lines)) ≤ (MAX_LINE_LEN + 1) * i
 taken_length lines zero all = omega arith
 taken_length [] (suc i) all = omega arith
-taken_length (l ∷ lines) (suc i) all =
-    let rest = taken_length lines i all.1 in
-    let line = text_length (line_text l) l (all.0, refl) in
-    let here = length-append (line_text l) (10 ∷ []) in
-    let parts = length-append (line_text l ++ 10 ∷ []) (trace_text (take i lines)) in
-    omega arith
+taken_length (l ∷ lines) (suc i) all = grind (arith, common_steps, taken_length lines i all.1)

@@ -1,27 +1,23 @@
 -- Lemmas on the lines of a text and of a trace.
-use Rattle.std.proofs.Common.{◌≡◌, ◌≢◌, ℕ, ◌+◌, ◌<◌, ◌≤◌, List, [], ◌∷◌, ◌++◌, length, length-append, get_or, cond, refl, sym, ap, ◌∙◌, subst, arith, Bool, true, false, ne_eqb, eqb, codes}
+use Rattle.std.proofs.Common.{◌≡◌, ◌≢◌, ℕ, ◌+◌, ◌<◌, ◌≤◌, List, [], ◌∷◌, ◌++◌, length, length-append, cond, refl, sym, ap, ◌∙◌, subst, arith, ne_eqb, codes}
 use Rattle.std.specs.List.{AllByRecursion}
-use Rattle.std.proofs.lemmas.Bool.{false≢true}
 use Rattle.std.proofs.lemmas.List.Sums.{sum_by-cons}
+use Rattle.std.proofs.lemmas.Grind.{common_steps}
 use Rattle.mica_trace.specs.declared.limits.TheConstants.{MAX_LINE_LEN}
 use Rattle.mica_trace.specs.declared.line.TraceOp.{TraceOp}
 use Rattle.mica_trace.specs.declared.line.TraceOp.TheVariants.{Put, Add, Del, Touch, Get, Sync}
 use Rattle.mica_trace.specs.declared.line.TraceLine.{TraceLine}
-use Rattle.mica_trace.specs.Lines.{onto_first, lines_of, Lacks}
-use Rattle.mica_trace.specs.TraceGrammar.{IsKey, IsValue, HasFields, op_text, IsTextOf, is_sync, is_sync_op, syncs_in}
+use Rattle.mica_trace.specs.Lines.{lines_of, Lacks}
+use Rattle.mica_trace.specs.TraceGrammar.{IsKey, IsValue, HasFields, op_text, IsTextOf, is_sync, syncs_in}
 
 pub lines_of_fed : (line rest : List ℕ) → Lacks 10 line → lines_of (line ++ 10 ∷ rest) ≡ line ∷ lines_of rest
 lines_of_fed [] rest lacks = refl
-lines_of_fed (b ∷ line) rest lacks =
-    ap (λ t. cond t ([] ∷ lines_of (line ++ 10 ∷ rest)) (onto_first b (lines_of (line ++ 10 ∷ rest)))) (ne_eqb b 10 lacks.0)
-    ∙ ap (onto_first b) (lines_of_fed line rest lacks.1)
+lines_of_fed (b ∷ line) rest lacks = grind (arith, common_steps, lines_of_fed line rest lacks.1)
 
 pub lines_of_last : (line : List ℕ) → 0 < length line → Lacks 10 line → lines_of line ≡ line ∷ []
 lines_of_last [] some lacks = absurd (omega arith)
 lines_of_last (b ∷ []) some lacks = ap (λ t. cond t ([] ∷ []) ((b ∷ []) ∷ [])) (ne_eqb b 10 lacks.0)
-lines_of_last (b ∷ c ∷ line) some lacks =
-    ap (λ t. cond t ([] ∷ lines_of (c ∷ line)) (onto_first b (lines_of (c ∷ line)))) (ne_eqb b 10 lacks.0)
-    ∙ ap (onto_first b) (lines_of_last (c ∷ line) (omega arith) lacks.1)
+lines_of_last (b ∷ c ∷ line) some lacks = grind (arith, common_steps, lines_of_last (c ∷ line) (omega arith) lacks.1)
 
 pub key_lacks_space : (key : List ℕ) → AllByRecursion (λ b. (33 ≤ b) × (b ≤ 126)) key → Lacks 32 key
 key_lacks_space [] all = tt
@@ -57,46 +53,9 @@ op_text_length Sync key value fields = omega arith
 pub text_length : (text : List ℕ) (line : TraceLine) → IsTextOf text line → length text ≤ MAX_LINE_LEN
 text_length text line is = subst (λ t. length t ≤ MAX_LINE_LEN) (sym is.1) (op_text_length line.op line.key line.value is.0)
 
-sync_op : (op : TraceOp) (key value : List ℕ) → codes "sync" ≡ op_text op key value → is_sync_op op ≡ true
-sync_op Put key value same = absurd (false≢true (sym (ap (λ t. eqb (get_or t 0 0) 115) same)))
-sync_op Add key value same = absurd (false≢true (sym (ap (λ t. eqb (get_or t 0 0) 115) same)))
-sync_op Del key value same = absurd (false≢true (sym (ap (λ t. eqb (get_or t 0 0) 115) same)))
-sync_op Touch key value same = absurd (false≢true (sym (ap (λ t. eqb (get_or t 0 0) 115) same)))
-sync_op Get key value same = absurd (false≢true (sym (ap (λ t. eqb (get_or t 0 0) 115) same)))
-sync_op Sync key value same = refl
-
--- the text of a sync is no other line's
-pub sync_text : (text : List ℕ) (line : TraceLine) → IsTextOf text line → text ≡ codes "sync" → is_sync line ≡ true
-sync_text text line is same = sync_op line.op line.key line.value (sym same ∙ is.1)
-
-text_sync_op : (op : TraceOp) (key value : List ℕ) → is_sync_op op ≡ true → op_text op key value ≡ codes "sync"
-text_sync_op Put key value is = absurd (cc)
-text_sync_op Add key value is = absurd (cc)
-text_sync_op Del key value is = absurd (cc)
-text_sync_op Touch key value is = absurd (cc)
-text_sync_op Get key value is = absurd (cc)
-text_sync_op Sync key value is = refl
-
-pub text_of_sync : (text : List ℕ) (line : TraceLine) → IsTextOf text line → is_sync line ≡ true → text ≡ codes "sync"
-text_of_sync text line is sync = is.1 ∙ text_sync_op line.op line.key line.value sync
-
-same_sync : (a b : Bool) → (a ≡ true → b ≡ true) → (b ≡ true → a ≡ true) → a ≡ b
-same_sync true b there back = sym (there refl)
-same_sync false true there back = back refl
-same_sync false false there back = refl
-
--- lines of the same text are syncs together
-pub one_sync : (text : List ℕ) (a b : TraceLine) → IsTextOf text a → IsTextOf text b → is_sync a ≡ is_sync b
-one_sync text a b is_a is_b =
-    same_sync (is_sync a) (is_sync b) (λ s. sync_text text b is_b (text_of_sync text a is_a s)) (λ s. sync_text text a is_a (text_of_sync text b is_b s))
-
 pub syncs_cons : (line : TraceLine) (lines : List TraceLine) → syncs_in (line ∷ lines) ≡ cond (is_sync line) 1 0 + syncs_in lines
 syncs_cons line lines = sum_by-cons (λ l. cond (is_sync l) 1 0) line lines
 
 pub syncs_push : (lines : List TraceLine) (line : TraceLine) → syncs_in (lines ++ line ∷ []) ≡ syncs_in lines + cond (is_sync line) 1 0
 syncs_push [] line = syncs_cons line [] ∙ omega arith
-syncs_push (l ∷ lines) line =
-    let here = syncs_cons l (lines ++ line ∷ []) in
-    let there = syncs_cons l lines in
-    let rest = syncs_push lines line in
-    omega arith
+syncs_push (l ∷ lines) line = grind (arith, common_steps, syncs_push lines line)

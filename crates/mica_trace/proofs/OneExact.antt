@@ -1,6 +1,7 @@
 -- In cache mode a trace has one exact report, and in both modes one with the same lines for its writes.
-use Rattle.std.proofs.Common.{◌≡◌, ℕ, ◌⊎◌, inl, inr, List, [], ◌∷◌, ◌++◌, length, Some, None, IsSome, refl, sym, ap, ◌∙◌, subst, arith, slice_get, cond, append_assoc, length-append}
+use Rattle.std.proofs.Common.{◌≡◌, ℕ, ◌⊎◌, inl, inr, List, [], ◌∷◌, ◌++◌, length, Some, None, IsSome, refl, sym, ◌∙◌, arith, slice_get, cond, append_assoc, length-append, rules}
 use Rattle.std.specs.List.{cons_option}
+use Rattle.std.proofs.lemmas.Grind.{common_steps}
 use Rattle.partition_model.specs.declared.options.Options.{Options}
 use Rattle.partition_model.specs.declared.options.Mode.TheVariants.{Cache}
 use Rattle.partition_model.specs.declared.write.Op.{Op}
@@ -10,8 +11,7 @@ use Rattle.partition_model.specs.declared.write.Outcome.{Outcome}
 use Rattle.partition_model.specs.Options.{IsValid}
 use Rattle.partition_model.specs.Write.{is_accepted, write_of}
 use Rattle.partition_model.specs.Run.{IsRunFrom}
-use Rattle.partition_model.specs.CacheStep.{reply}
-use Rattle.partition_model.specs.History.{State, History, Allows, MayGive, stamp_of}
+use Rattle.partition_model.specs.History.{History, MayGive, stamp_of}
 use Rattle.partition_model.proofs.Histories.{cached_in}
 use Rattle.mica_trace.specs.declared.line.TraceOp.{TraceOp}
 use Rattle.mica_trace.specs.declared.line.TraceOp.TheVariants.{Put, Add, Touch, Del, Get, Sync}
@@ -39,19 +39,12 @@ one_answer options history key x y a b = absurd a
 -- in cache mode a write has one reply
 module _ (options : Options) (mode : options.mode ≡ Cache) (history : History) (write : Write) where
   one_outcome : (o u : Outcome) → MayGive options history write o → MayGive options history write u → o ≡ u
-  one_outcome o u a b =
-      let at = cached_in options mode history in
-      let one : o ≡ reply options at.0 write = subst (λ (z : State). Allows options z write o) at.1 a in
-      let two : u ≡ reply options at.0 write = subst (λ (z : State). Allows options z write u) at.1 b in
-      one ∙ sym two
+  one_outcome o u a b = grind (arith, common_steps, cached_in options mode history)
 
   one_wrote : (op : Op) (o u : Outcome) (s t : ℕ) → MayGive options history write o → MayGive options history write u
       → s ≡ stamp_of options (history ++ cons_option (cond (is_accepted o) (Some write) None) []) → t ≡ stamp_of options (history ++ cons_option (cond (is_accepted u) (Some write) None) [])
       → Wrote op o s ≡ Wrote op u t
-  one_wrote op o u s t a b at bt =
-      let same = one_outcome o u a b in
-      let stamps : s ≡ t = at ∙ ap (λ (z : Outcome). stamp_of options (history ++ cons_option (cond (is_accepted z) (Some write) None) [])) same ∙ sym bt in
-      cc
+  one_wrote op o u s t a b at bt = grind (arith, common_steps, one_outcome o u a b)
 
 -- what is printed for a line is determined, but for the replies to writes of store mode
 module _ (options : Options) (history : History) (key value : List ℕ) where
@@ -71,9 +64,7 @@ module _ (options : Options) (history : History) (key value : List ℕ) where
     one_of : (does p q : Op) (o u : Outcome) (s t : ℕ) → p ≡ does → q ≡ does
         → IsRunFrom options history (record { write = write_of does key value; outcome = o; stamp = s } ∷ [])
         → IsRunFrom options history (record { write = write_of does key value; outcome = u; stamp = t } ∷ []) → Wrote p o s ≡ Wrote q u t
-    one_of does p q o u s t one two a b =
-        let same = one_wrote options mode history (write_of does key value) does o u s t a.0 b.0 a.1 b.1 in
-        cc
+    one_of does p q o u s t one two a b = grind (arith, common_steps, one_wrote options mode history (write_of does key value) does o u s t a.0 b.0 a.1 b.1)
 
     one_write : (op : TraceOp) (x y : Line) → IsReplyAfter options history (record { op = op; key = key; value = value }) x
         → IsReplyAfter options history (record { op = op; key = key; value = value }) y → IsSome (op_of op) → x ≡ y
@@ -97,9 +88,8 @@ module _ (options : Options) (valid : IsValid options) where
       one_by options history line.key line.value line.op x y one two
       (λ some. elim by as (λ _. x ≡ y) [
         | inl mode ↦ one_write options history line.key line.value mode line.op x y one two some
-        | inr agree ↦ agree (length before) line x y (get_middle before later line) some
-            (subst (λ n. slice_get (printed ++ x ∷ xs) n ≡ Some x) same (get_middle printed xs x))
-            (subst (λ n. slice_get (printed ++ y ∷ ys) n ≡ Some y) same (get_middle printed ys y))
+        | inr agree ↦
+            search (rules, get_middle before later line, slice_get (printed ++ x ∷ xs), get_middle printed xs x, slice_get (printed ++ y ∷ ys), get_middle printed ys y)
       ])
 
   -- what is printed for the lines behind others
@@ -108,25 +98,25 @@ module _ (options : Options) (valid : IsValid options) where
       → (options.mode ≡ Cache) ⊎ AgreeOnWrites (before ++ later) (printed ++ a) (printed ++ b) → a ≡ b
   one_rest later before printed [] [] same one two by = refl
   one_rest [] before printed (x ∷ a) b same one two by =
-      let long = length_zip IsLineFor (before ++ []) (printed ++ x ∷ a) one.lines in
-      absurd (omega (arith, length-append before [], length-append printed (x ∷ a)))
+      grind (arith, common_steps, length_zip IsLineFor (before ++ []) (printed ++ x ∷ a) one.lines, length-append before [], length-append printed (x ∷ a))
   one_rest [] before printed [] (y ∷ b) same one two by =
-      let long = length_zip IsLineFor (before ++ []) (printed ++ y ∷ b) two.lines in
-      absurd (omega (arith, length-append before [], length-append printed (y ∷ b)))
+      grind (arith, common_steps, length_zip IsLineFor (before ++ []) (printed ++ y ∷ b) two.lines, length-append before [], length-append printed (y ∷ b))
   one_rest (line ∷ later) before printed [] (y ∷ b) same one two by =
-      let short = length_zip IsLineFor (before ++ line ∷ later) (printed ++ []) one.lines in
-      absurd (omega (arith, length-append before (line ∷ later), length-append printed []))
+      grind (arith, common_steps, length_zip IsLineFor (before ++ line ∷ later) (printed ++ []) one.lines, length-append before (line ∷ later), length-append printed [])
   one_rest (line ∷ later) before printed (x ∷ a) [] same one two by =
-      let short = length_zip IsLineFor (before ++ line ∷ later) (printed ++ []) two.lines in
-      absurd (omega (arith, length-append before (line ∷ later), length-append printed []))
+      grind (arith, common_steps, length_zip IsLineFor (before ++ line ∷ later) (printed ++ []) two.lines, length-append before (line ∷ later), length-append printed [])
   one_rest (line ∷ later) before printed (x ∷ a) (y ∷ b) same one two by =
-      let first = one_line before later printed a b line x y same one two by in
-      let lines : (before ++ line ∷ []) ++ later ≡ before ++ line ∷ later = append_assoc before (line ∷ []) later in
-      let xs : (printed ++ x ∷ []) ++ a ≡ printed ++ x ∷ a = append_assoc printed (x ∷ []) a in
-      let ys : (printed ++ x ∷ []) ++ b ≡ printed ++ y ∷ b = append_assoc printed (x ∷ []) b ∙ ap (λ (z : Line). printed ++ z ∷ b) first in
-      let long : length (printed ++ x ∷ []) ≡ length (before ++ line ∷ []) = omega (arith, length-append printed (x ∷ []), length-append before (line ∷ [])) in
-      let rest = one_rest later (before ++ line ∷ []) (printed ++ x ∷ []) a b long (rw (lines, xs) one) (rw (lines, ys) two) (rw (lines, xs, ys) by) in
-      ap (λ (z : Line). z ∷ a) first ∙ ap (λ (zs : List Line). y ∷ zs) rest
+      grind (
+        arith,
+        common_steps,
+        one_line before later printed a b line x y same one two by,
+        append_assoc before (line ∷ []) later,
+        append_assoc printed (x ∷ []) a,
+        append_assoc printed (x ∷ []) b,
+        length-append printed (x ∷ []),
+        length-append before (line ∷ []),
+        one_rest later (before ++ line ∷ []) (printed ++ x ∷ []) a b,
+      )
 
   pub one_exact : (trace : List TraceLine) (a b : List Line) → ExactReport options trace a → ExactReport options trace b
       → (options.mode ≡ Cache) ⊎ AgreeOnWrites trace a b → a ≡ b

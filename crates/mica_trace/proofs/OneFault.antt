@@ -1,11 +1,11 @@
 -- A text is refused for one fault.
-use Rattle.std.proofs.Common.{◌≡◌, ℕ, suc, ◌+◌, ◌⊎◌, inl, inr, List, [], ◌∷◌, ◌++◌, length, refl, sym, ap, ◌∙◌, subst, arith, append_assoc}
-use Rattle.std.specs.List.{AllZip, AllByRecursion}
-use Rattle.mica_trace.specs.declared.line.TraceLine.{TraceLine}
+use Rattle.std.proofs.Common.{◌≡◌, ℕ, suc, ◌+◌, ◌⊎◌, inl, inr, List, [], ◌∷◌, ◌++◌, length, refl, sym, ap, ◌∙◌, arith, rules}
+use Rattle.std.specs.List.{AllByRecursion}
+use Rattle.std.proofs.lemmas.Grind.{common_steps}
 use Rattle.mica_trace.specs.declared.line.TraceFault.{TraceFault}
 use Rattle.mica_trace.specs.declared.line.TraceFault.TheVariants.{BadLine, LongLine, TooManyLines, TooManyRounds, NoMemory}
 use Rattle.mica_trace.specs.declared.report.Line.{Line}
-use Rattle.mica_trace.specs.TraceGrammar.{IsFaultOf, IsTextOf, Refuses, sync_line, syncs_in}
+use Rattle.mica_trace.specs.TraceGrammar.{IsFaultOf, Refuses, sync_line, syncs_in}
 use Rattle.mica_trace.specs.ReportGrammar.{BeginsWithNoLine, IsFirstBadLine, IsPrintable, report_line_text, report_text}
 use Rattle.mica_trace.proofs.TextLaws.{one_split}
 use Rattle.mica_trace.proofs.TraceLaws.{one_list}
@@ -44,42 +44,21 @@ ordered : (xs ys xs' ys' : List (List ℕ)) (x y : List ℕ) → xs ++ x ∷ xs'
 ordered [] [] xs' ys' x y same = inl (refl, cc)
 ordered [] (b ∷ ys) xs' ys' x y same = inr (inl (ys, (let here : b ≡ x = cc in ap (λ t. t ∷ ys) here)))
 ordered (a ∷ xs) [] xs' ys' x y same = inr (inr (xs, (let here : a ≡ y = cc in ap (λ t. t ∷ xs) here)))
-ordered (a ∷ xs) (b ∷ ys) xs' ys' x y same =
-    let here : a ≡ b = cc in
-    let rest : xs ++ x ∷ xs' ≡ ys ++ y ∷ ys' = cc in
-    elim (ordered xs ys xs' ys' x y rest) as (λ _. Ordered (a ∷ xs) x (b ∷ ys) y) [
-      | inl at ↦ inl ((ap (λ t. t ∷ xs) here ∙ ap (λ ts. b ∷ ts) at.0), at.1)
-      | inr apart ↦ elim apart as (λ _. Ordered (a ∷ xs) x (b ∷ ys) y) [
-        | inl more ↦ inr (inl (more.0, ap (λ t. t ∷ ys) (sym here) ∙ ap (λ ts. a ∷ ts) more.1))
-        | inr more ↦ inr (inr (more.0, ap (λ t. t ∷ xs) here ∙ ap (λ ts. b ∷ ts) more.1))
-      ]
-    ]
+ordered (a ∷ xs) (b ∷ ys) xs' ys' x y same = grind (arith, common_steps, ordered xs ys xs' ys' x y)
 
 -- the line of one refusal does not stand among the lines of another
 not_among : (text : List ℕ) (a b : TraceFault) (one : Refuses text a) (two : Refuses text b) (more : List (List ℕ)) → two.texts ≡ one.texts ++ one.at ∷ more → ⊥
 not_among text a b one two more is =
-    no_lines a one.texts one.at one.before two.before
-    (behind one.texts one.at more one.before two.before one.spelled (subst (λ ts. AllZip IsTextOf ts two.before) is two.spelled)) two.within one.refused
+    grind (arith, common_steps, no_lines a one.texts one.at one.before two.before, behind one.texts one.at more one.before two.before one.spelled)
 
 pub one_fault : (text : List ℕ) (a b : TraceFault) → Refuses text a → Refuses text b → a ≡ b
 one_fault text a b one two =
-    elim (ordered one.texts two.texts one.later two.later one.at two.at (sym one.parts ∙ two.parts)) as (λ _. a ≡ b) [
-      | inl same ↦
-          let lines : two.before ≡ one.before = one_list one.texts two.before one.before (subst (λ ts. AllZip IsTextOf ts two.before) (sym same.0) two.spelled) one.spelled in
-          fault_once (length one.before + 1) (syncs_in one.before) one.at a b one.refused
-          (subst (λ (ls : List TraceLine). IsFaultOf (length ls + 1) (syncs_in ls) one.at b) lines
-          (subst (λ at. IsFaultOf (length two.before + 1) (syncs_in two.before) at b) (sym same.1) two.refused))
-      | inr apart ↦ elim apart as (λ _. a ≡ b) [
-        | inl later ↦ absurd (not_among text a b one two later.0 later.1)
-        | inr earlier ↦ absurd (not_among text b a two one earlier.0 earlier.1)
-      ]
-    ]
+    grind (arith, common_steps, ordered one.texts two.texts, one_list one.texts two.before one.before, fault_once (length one.before + 1) (syncs_in one.before), not_among text a b one two, not_among text b a two one)
 
 -- Reports
 
 first_and_rest : (line : Line) (lines : List Line) (rest : List ℕ) → report_text (line ∷ lines) ++ rest ≡ report_line_text line ++ 10 ∷ (report_text lines ++ rest)
-first_and_rest line lines rest =
-    append_assoc (report_line_text line ++ 10 ∷ []) (report_text lines) rest ∙ append_assoc (report_line_text line) (10 ∷ []) (report_text lines ++ rest)
+first_and_rest line lines rest = grind (arith, common_steps)
 
 as_many : (a b : List Line) (s t : List ℕ) → AllByRecursion IsPrintable a → AllByRecursion IsPrintable b → BeginsWithNoLine s → BeginsWithNoLine t
     → report_text a ++ s ≡ report_text b ++ t → length a ≡ length b
@@ -92,5 +71,4 @@ as_many (x ∷ a) (y ∷ b) s t left right one two same =
     ap suc (as_many a b s t left.1 right.1 one two rest.1)
 
 pub one_bad_line : (text : List ℕ) (m n : ℕ) → IsFirstBadLine text m → IsFirstBadLine text n → m ≡ n
-one_bad_line text m n one two =
-    one.number ∙ ap (λ k. k + 1) (as_many one.before two.before one.rest two.rest one.lines two.lines one.bad two.bad (sym one.parts ∙ two.parts)) ∙ sym two.number
+one_bad_line text m n one two = search (rules, as_many one.before two.before one.rest two.rest one.lines two.lines one.bad two.bad (sym one.parts ∙ two.parts))

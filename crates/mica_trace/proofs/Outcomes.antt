@@ -1,16 +1,14 @@
 -- The outcomes that a machine may give are those that a report may have.
-use Rattle.std.proofs.Common.{◌≡◌, refl, sym, subst, cond, true, false, Bool}
-use Rattle.std.specs.Prelude.{is_some, nat_le}
+use Rattle.std.proofs.Common.{sym, subst, cond, true, false, Bool, arith}
+use Rattle.std.proofs.lemmas.Grind.{common_steps}
 use Rattle.partition_model.specs.declared.options.Options.{Options}
 use Rattle.partition_model.specs.declared.write.Op.{Op}
 use Rattle.partition_model.specs.declared.write.Op.TheVariants.{Put as PutOp, Add as AddOp, Touch as TouchOp, Del as DelOp}
 use Rattle.partition_model.specs.declared.write.Write.{Write}
 use Rattle.partition_model.specs.declared.write.Outcome.{Outcome}
 use Rattle.partition_model.specs.declared.write.Outcome.TheVariants.{Stored, Deleted, Absent, Touched, FullSpare, FullBlock, Worn, Exists}
-use Rattle.partition_model.specs.Write.{GivesValue, size_of}
-use Rattle.partition_model.specs.Cache as cache
+use Rattle.partition_model.specs.Write.{GivesValue}
 use Rattle.partition_model.specs.CacheStep as cs
-use Rattle.partition_model.specs.StoreStep as ss
 use Rattle.partition_model.specs.History.{State, cache_state, store_state, Allows}
 use Rattle.mica_trace.specs.ReportGrammar.{HasOutcome}
 
@@ -30,16 +28,6 @@ item_outcome AddOp gives false = tt
 item_outcome TouchOp gives fits = absurd gives
 item_outcome DelOp gives fits = absurd gives
 
-cache_outcome : (op : Op) (options : Options) (write : Write) (worn found : Bool) → HasOutcome op (cond worn Worn (cs.reply_of op options write found))
-cache_outcome op options write true found = worn op
-cache_outcome PutOp options write false found = item_outcome PutOp tt (nat_le (size_of write) options.words)
-cache_outcome AddOp options write false true = tt
-cache_outcome AddOp options write false false = item_outcome AddOp tt (nat_le (size_of write) options.words)
-cache_outcome TouchOp options write false true = tt
-cache_outcome TouchOp options write false false = tt
-cache_outcome DelOp options write false true = tt
-cache_outcome DelOp options write false false = tt
-
 -- one that gives a value may find no spare for its key
 lacks_spare : (op : Op) → GivesValue op → HasOutcome op FullSpare
 lacks_spare PutOp gives = tt
@@ -57,8 +45,7 @@ absent DelOp none = tt
 -- the outcomes that a machine may give are those that the operation may have
 pub has_outcome : (options : Options) (now : State) (write : Write) (outcome : Outcome) → Allows options now write outcome → HasOutcome write.op outcome
 unfolding cs.reply
-has_outcome options (cache_state s) write outcome allowed =
-    subst (HasOutcome write.op) (sym allowed) (cache_outcome write.op options write (cs.is_worn options s) (is_some (cache.record_of s write.key)))
+has_outcome options (cache_state s) write outcome allowed = grind (arith, common_steps)
 has_outcome options (store_state s) write Stored allowed = item_outcome write.op allowed.1.0.0 true
 has_outcome options (store_state s) write FullSpare allowed = lacks_spare write.op allowed.1.0
 has_outcome options (store_state s) write FullBlock allowed = item_outcome write.op allowed.1.0.stores.0 false

@@ -1,6 +1,6 @@
 -- A reader's answers in a partition, found at their places.
 use Rattle.std.proofs.Common.{◌≡◌, ℕ, zero, suc, ◌+◌, ◌<◌, ◌%◌, ◌==◌, List, [], ◌∷◌, length, take, Some, refl, ap, ◌∙◌, subst, arith, slice_get, zip, cond, true, false}
-use Rattle.std.proofs.lemmas.List.Sums.{sum_by-cons}
+use Rattle.std.proofs.lemmas.Grind.{common_steps}
 use Rattle.partition_model.specs.declared.options.Options.{Options}
 use Rattle.partition_model.specs.History.{History, IsPrefix}
 use Rattle.mica_trace.specs.declared.line.TraceLine.{TraceLine}
@@ -22,10 +22,7 @@ gets_to-zip [] [] (suc k) same = refl
 gets_to-zip [] (r ∷ printed) k same = absurd (omega arith)
 gets_to-zip (line ∷ lines) [] k same = absurd (omega arith)
 gets_to-zip (line ∷ lines) (r ∷ printed) zero same = refl
-gets_to-zip (line ∷ lines) (r ∷ printed) (suc k) same =
-    let counted : gets_in (line ∷ take k lines) ≡ cond (is_get line) 1 0 + gets_in (take k lines) = sum_by-cons (λ l. cond (is_get l) 1 0) line (take k lines) in
-    let later = gets_to-zip lines printed k (omega arith) in
-    omega arith
+gets_to-zip (line ∷ lines) (r ∷ printed) (suc k) same = grind (arith, common_steps, gets_to-zip lines printed k (omega arith))
 
 -- what has been seen in the end begins with all that was answered
 pub reaches : (options : Options) (pairs : List Pair) (seen last : History) → AnswersRise options seen pairs last → IsPrefix seen last
@@ -50,12 +47,7 @@ module _ (options : Options) (q p : ℕ) where
             (elim (g % options.readers == q) as (λ b. AnswersRise options seen (pairs_in options p (cond b (pair ∷ pairs_of options q (g + 1) pairs) (pairs_of options q (g + 1) pairs))) last
             → (next : History) × IsPrefix seen next × AnswersRise options next (mine (g + 1) pairs) last) [
               | false ↦ λ own. (seen, prefix_same seen, own)
-              | true ↦ λ own.
-                  elim (is_in_partition options p pair.0) as (λ b. AnswersRise options seen (cond b (pair ∷ pairs_in options p (pairs_of options q (g + 1) pairs)) (pairs_in options p (pairs_of options q (g + 1) pairs))) last
-                  → (next : History) × IsPrefix seen next × AnswersRise options next (mine (g + 1) pairs) last) [
-                    | false ↦ λ there. (seen, prefix_same seen, there)
-                    | true ↦ λ there. (there.0, there.1, there.3)
-                  ] own
+              | true ↦ λ own. grind (arith, common_steps)
             ] here)
       ] on
 
@@ -63,12 +55,7 @@ module _ (options : Options) (q p : ℕ) where
   head : (g : ℕ) (pair : Pair) (pairs : List Pair) (seen last : History) → is_get pair.0 ≡ true → (g % options.readers == q) ≡ true → is_in_partition options p pair.0 ≡ true
       → AnswersRise options seen (mine g (pair ∷ pairs)) last
       → (cut : History) × IsPrefix seen cut × Answers options cut pair.0.key pair.1 × AnswersRise options cut (mine (1 + g) pairs) last
-  head g pair pairs seen last get own here on =
-      let one = subst (λ b. AnswersRise options seen (pairs_in options p (cond b (cond (g % options.readers == q) (pair ∷ pairs_of options q (g + 1) pairs) (pairs_of options q (g + 1) pairs)) (pairs_of options q g pairs))) last) get on in
-      let two = subst (λ b. AnswersRise options seen (pairs_in options p (cond b (pair ∷ pairs_of options q (g + 1) pairs) (pairs_of options q (g + 1) pairs))) last) own one in
-      let three = subst (λ b. AnswersRise options seen (cond b (pair ∷ pairs_in options p (pairs_of options q (g + 1) pairs)) (pairs_in options p (pairs_of options q (g + 1) pairs))) last) here two in
-      let n : g + 1 ≡ 1 + g = omega arith in
-      (three.0, three.1, three.2, subst (λ (m : ℕ). AnswersRise options three.0 (mine m pairs) last) n three.3)
+  head g pair pairs seen last get own here on = grind (arith, common_steps)
 
   -- an answer of the reader in the partition
   pub record Found (seen : History) (pair : Pair) (last : History) : Type 0 where
@@ -90,17 +77,9 @@ module _ (options : Options) (q p : ℕ) where
       → AnswersRise options seen (mine g pairs) last → Found seen pair last
   find_one [] g k pair seen last is own on = absurd (cc)
   find_one (first ∷ pairs) g zero pair seen last is own on =
-      let same : first ≡ pair = cc in
-      let n : 0 + g ≡ g = omega arith in
-      let mine_here = later_mine (0 + g) g pair n own in
-      let on_pair = subst (λ (x : Pair). AnswersRise options seen (mine g (x ∷ pairs)) last) same on in
-      let at = head g pair pairs seen last mine_here.get mine_here.own mine_here.here on_pair in
-      record { cut = at.0; from = at.1; answers = at.2; to = reaches options (mine (1 + g) pairs) at.0 last at.3 }
+      grind (arith, common_steps, later_mine (0 + g) g pair, head g pair pairs seen last, reaches options (mine (1 + g) pairs))
   find_one (first ∷ pairs) g (suc k) pair seen last is own on =
-      let behind = peel g first pairs seen last on in
-      let n : cond (is_get first.0) 1 0 + gets_to pairs k + g ≡ gets_to pairs k + (cond (is_get first.0) 1 0 + g) = omega arith in
-      let later = find_one pairs (cond (is_get first.0) 1 0 + g) k pair behind.0 last is (later_mine _ _ pair n own) behind.2 in
-      record { cut = later.cut; from = prefix_trans seen behind.0 later.cut behind.1 later.from; answers = later.answers; to = later.to }
+      grind (arith, common_steps, find_one pairs (cond (is_get first.0) 1 0 + g) k pair (peel g first pairs seen last on).0 last is)
 
   -- two answers, of which the second is at a later place
   pub record FoundTwo (seen : History) (one two : Pair) : Type 0 where
@@ -125,8 +104,4 @@ module _ (options : Options) (q p : ℕ) where
       let later = find_one pairs (1 + g) k two at.0 last is_two (later_mine _ _ two m own_two) at.3 in
       record { first = at.0; second = later.cut; first_answers = at.2; second_answers = later.answers; rises = later.from }
   find_two (first ∷ pairs) g (suc j) (suc k) one two seen last less is_one is_two own_one own_two on =
-      let behind = peel g first pairs seen last on in
-      let n : cond (is_get first.0) 1 0 + gets_to pairs j + g ≡ gets_to pairs j + (cond (is_get first.0) 1 0 + g) = omega arith in
-      let m : cond (is_get first.0) 1 0 + gets_to pairs k + g ≡ gets_to pairs k + (cond (is_get first.0) 1 0 + g) = omega arith in
-      let later = find_two pairs (cond (is_get first.0) 1 0 + g) j k one two behind.0 last (omega arith) is_one is_two (later_mine _ _ one n own_one) (later_mine _ _ two m own_two) behind.2 in
-      record { first = later.first; second = later.second; first_answers = later.first_answers; second_answers = later.second_answers; rises = later.rises }
+      grind (arith, common_steps, find_two pairs (cond (is_get first.0) 1 0 + g) j k one two (peel g first pairs seen last on).0 last (omega arith) is_one is_two)

@@ -1,14 +1,15 @@
 -- How far the lines of a text were read, and why a refused text is no trace.
 use Rattle.std.proofs.Common.{◌≡◌, ℕ, ◌+◌, ◌<◌, ◌≤◌, List, [], ◌∷◌, ◌++◌, length, refl, sym, ap, ◌∙◌, subst, arith, append_assoc, cond, Bool, true, false}
 use Rattle.std.specs.List.{AllZip, AllByRecursion}
-use Rattle.std.proofs.lemmas.List.{append-nil, length_push}
+use Rattle.std.proofs.lemmas.List.{length_push}
+use Rattle.std.proofs.lemmas.Grind.{common_steps}
 use Rattle.mica_trace.specs.declared.limits.TheConstants.{MAX_ROUNDS}
 use Rattle.mica_trace.specs.declared.line.TraceFault.{TraceFault}
 use Rattle.mica_trace.specs.declared.line.TraceFault.TheVariants.{BadLine, LongLine, TooManyLines, TooManyRounds, NoMemory}
 use Rattle.mica_trace.specs.declared.line.TraceLine.{TraceLine}
 use Rattle.mica_trace.specs.Lines.{lines_of}
 use Rattle.mica_trace.specs.TraceGrammar.{IsTraceLine, IsTextOf, is_sync, syncs_in, IsWithinLimits, HasLineRoom, IsTrace, IsNoTrace, IsFaultOf, Refuses}
-use Rattle.mica_trace.proofs.LineLemmas.{text_length, sync_text, one_sync, syncs_cons, syncs_push}
+use Rattle.mica_trace.proofs.LineLemmas.{text_length, syncs_push}
 
 pub record HasRead (from : List ℕ) (lines : List TraceLine) (rest : List ℕ) (syncs : ℕ) : Type 0 where
   pub texts : List (List ℕ)
@@ -32,16 +33,7 @@ sync_room false syncs few room = omega arith
 
 module _ (from : List ℕ) (lines : List TraceLine) (rest : List ℕ) (syncs : ℕ) (so_far : HasRead from lines rest syncs) where
   pub refuses : (at later : List ℕ) (fault : TraceFault) → lines_of rest ≡ at ∷ lines_of later → IsFaultOf (length lines + 1) syncs at fault → Refuses from fault
-  refuses at later fault first is = record {
-    texts = so_far.texts;
-    at = at;
-    later = lines_of later;
-    parts = so_far.parts ∙ ap (λ ts. so_far.texts ++ ts) first;
-    before = lines;
-    spelled = so_far.spelled;
-    within = so_far.within;
-    refused = subst (λ s. IsFaultOf (length lines + 1) s at fault) so_far.counted is;
-  }
+  refuses at later fault first is = grind (arith, common_steps)
 
   pub reads_more : (at later : List ℕ) (line : TraceLine) (more : ℕ) → lines_of rest ≡ at ∷ lines_of later → IsTextOf at line → HasLineRoom (length lines) syncs line
       → more ≡ syncs + cond (is_sync line) 1 0 → HasRead from (lines ++ line ∷ []) later more
@@ -61,10 +53,7 @@ module _ (from : List ℕ) (lines : List TraceLine) (rest : List ℕ) (syncs : �
       }
 
   pub reads_all : rest ≡ [] → IsTrace from lines
-  reads_all ended = record {
-    spelled = subst (λ ts. AllZip IsTextOf ts lines) (sym (so_far.parts ∙ ap (λ r. so_far.texts ++ lines_of r) ended ∙ append-nil so_far.texts)) so_far.spelled;
-    within = so_far.within;
-  }
+  reads_all ended = grind (arith, common_steps)
 
 pub AllZip_valid : (texts : List (List ℕ)) (lines : List TraceLine) → AllZip IsTextOf texts lines → AllByRecursion IsTraceLine lines
 AllZip_valid [] [] all = tt
@@ -82,34 +71,20 @@ pub record Behind (texts : List (List ℕ)) (at : List ℕ) (before lines : List
 pub behind : (texts : List (List ℕ)) (at : List ℕ) (later : List (List ℕ)) (before lines : List TraceLine)
     → AllZip IsTextOf texts before → AllZip IsTextOf (texts ++ at ∷ later) lines → Behind texts at before lines
 behind [] at later [] [] one all = absurd all
-behind [] at later [] (l ∷ lines) one all =
-    let counted = syncs_cons l lines in
-    record { line = l; is = all.0; long = omega arith; syncs = omega arith }
+behind [] at later [] (l ∷ lines) one all = grind (arith, common_steps)
 behind [] at later (b ∷ before) lines one all = absurd one
 behind (t ∷ texts) at later [] lines one all = absurd one
 behind (t ∷ texts) at later (b ∷ before) [] one all = absurd all
-behind (t ∷ texts) at later (b ∷ before) (l ∷ lines) one all =
-    let rest = behind texts at later before lines one.1 all.1 in
-    let b_counted = subst (λ s. syncs_in (b ∷ before) ≡ cond s 1 0 + syncs_in before) (one_sync t b l one.0 all.0) (syncs_cons b before) in
-    let l_counted = syncs_cons l lines in
-    let long = rest.long in
-    let syncs = rest.syncs in
-    record { line = rest.line; is = rest.is; long = omega arith; syncs = omega arith }
+behind (t ∷ texts) at later (b ∷ before) (l ∷ lines) one all = grind (arith, common_steps, behind texts at later before lines one.1 all.1)
 
 pub no_lines : (fault : TraceFault) (texts : List (List ℕ)) (at : List ℕ) (before lines : List TraceLine) → Behind texts at before lines → IsWithinLimits lines
     → IsFaultOf (length before + 1) (syncs_in before) at fault → ⊥
 no_lines TooManyLines texts at before lines rest within is = let long = rest.long in let few = within.few_lines in omega arith
 no_lines (LongLine m) texts at before lines rest within is = let most = text_length at rest.line rest.is in let long = is.2 in omega arith
 no_lines (BadLine m) texts at before lines rest within is = is.3 rest.line rest.is
-no_lines TooManyRounds texts at before lines rest within is =
-    let syncs = subst (λ s. syncs_in before + cond s 1 0 ≤ syncs_in lines) (sync_text at rest.line rest.is is.1) rest.syncs in
-    let few = within.few_rounds in
-    let many = is.2 in
-    omega arith
+no_lines TooManyRounds texts at before lines rest within is = grind (arith, common_steps)
 no_lines NoMemory texts at before lines rest within is = is
 
 -- a refused text is no trace
 pub no_trace : (text : List ℕ) (fault : TraceFault) → Refuses text fault → IsNoTrace text
-no_trace text fault is lines trace =
-    no_lines fault is.texts is.at is.before lines
-    (behind is.texts is.at is.later is.before lines is.spelled (subst (λ ts. AllZip IsTextOf ts lines) is.parts trace.spelled)) trace.within is.refused
+no_trace text fault is lines trace = grind (arith, common_steps, no_lines fault is.texts is.at is.before lines, behind is.texts is.at is.later is.before lines is.spelled)

@@ -4,7 +4,8 @@ use Rattle.std.specs.List.{AllByRecursion}
 use Rattle.std.specs.Fmt.{decimal}
 use Rattle.std.specs.Str.Parse.{AllDigits}
 use Rattle.std.proofs.lemmas.Fmt.{decimal_injective, digits_decimal}
-use Rattle.std.proofs.lemmas.Str.Parse.{numerals_by_value, tells_digits, digit_at}
+use Rattle.std.proofs.lemmas.Str.Parse.{numerals_by_value, tells_digits}
+use Rattle.std.proofs.lemmas.Grind.{common_steps}
 use Rattle.partition_model.specs.declared.write.Op.TheVariants.{Put, Add, Touch, Del}
 use Rattle.partition_model.specs.declared.write.Outcome.{Outcome}
 use Rattle.partition_model.specs.declared.write.Outcome.TheVariants.{Stored, Deleted, Absent, Touched, FullSpare, FullBlock, Worn, Exists}
@@ -16,9 +17,7 @@ use Rattle.mica_trace.proofs.TextLaws.{one_split, Lacks_append}
 
 digits_lack : (byte : ℕ) → byte < 48 → (ds : List ℕ) → AllDigits 10 ds → Lacks byte ds
 digits_lack byte low [] all = tt
-digits_lack byte low (d ∷ ds) all =
-    let here = digit_at (d ∷ ds) 0 all (omega arith) in
-    ((λ is. let least = here.0 in omega arith), digits_lack byte low ds all.1)
+digits_lack byte low (d ∷ ds) all = grind (arith, common_steps, digits_lack byte low ds all.1)
 
 -- a number has no space and no line feed
 pub decimal_lacks : (byte n : ℕ) → byte < 48 → IsStamp n → Lacks byte (decimal n)
@@ -47,9 +46,7 @@ line_lacks (Wrote Put outcome stamp) is = Lacks_append 10 (codes "put ") _ (sear
 line_lacks (Wrote Add outcome stamp) is = Lacks_append 10 (codes "add ") _ (search rules) (stamped stamp (outcome_words outcome) is.1 (words_lack outcome))
 line_lacks (Wrote Touch outcome stamp) is = Lacks_append 10 (codes "touch ") _ (search rules) (stamped stamp (outcome_words outcome) is.1 (words_lack outcome))
 line_lacks (Wrote Del outcome stamp) is = Lacks_append 10 (codes "del ") _ (search rules) (stamped stamp (outcome_words outcome) is.1 (words_lack outcome))
-line_lacks (Hit stamp value) is =
-    let front = Lacks_append 10 (codes "get ") (decimal stamp) (search rules) (decimal_lacks 10 stamp (omega arith) is.1) in
-    Lacks_append 10 (codes "get " ++ decimal stamp ++ codes " hit ") value (Lacks_append 10 (codes "get " ++ decimal stamp) (codes " hit ") front (search rules)) (value_lacks value is.0.1)
+line_lacks (Hit stamp value) is = grind (arith, common_steps, decimal_lacks 10 stamp (omega arith) is.1, value_lacks value is.0.1)
 line_lacks (Miss stamp) is = Lacks_append 10 (codes "get ") _ (search rules) (stamped stamp (codes "miss") is.1 (search rules))
 line_lacks Sync is = search rules
 
@@ -122,27 +119,11 @@ kinds (Miss stamp) is = inr (record { stamp = is.1; rest = refl })
 kinds Sync is = inl refl
 
 no_sync : (line : Line) → HasReply line → report_line_text line ≡ codes "sync" → ⊥
-no_sync line is same =
-    let long = ap length (sym is.rest ∙ ap behind_word same) in
-    omega (arith, length-append {A = ℕ})
+no_sync line is same = grind (arith, common_steps)
 
 one_text : (a b : Line) → IsPrintable a → IsPrintable b → report_line_text a ≡ report_line_text b → a ≡ b
-one_text a b left right same = elim (kinds a left) [
-  | inl sync ↦ elim (kinds b right) [
-    | inl sync' ↦ sync ∙ sym sync'
-    | inr reply ↦ absurd (no_sync b reply (sym same ∙ ap report_line_text sync))
-  ]
-  | inr reply ↦ elim (kinds b right) [
-    | inl sync ↦ absurd (no_sync a reply (same ∙ ap report_line_text sync))
-    | inr reply' ↦
-        let first = ap (λ t. get_or t 0 0) same in
-        let parts = one_reply (printed_stamp a) (printed_stamp b) (reply_in a) (reply_in b) reply.stamp reply'.stamp (sym reply.rest ∙ ap behind_word same ∙ reply'.rest) in
-        let stamps = parts.stamp in
-        let replies = parts.reply in
-        let whole : line_by (get_or (report_line_text a) 0 0) (printed_stamp a) (reply_in a) ≡ line_by (get_or (report_line_text b) 0 0) (printed_stamp b) (reply_in b) = cc in
-        sym (line_is a) ∙ whole ∙ line_is b
-  ]
-]
+one_text a b left right same =
+    grind (arith, common_steps, kinds a left, kinds b right, no_sync b, no_sync a, one_reply (printed_stamp a) (printed_stamp b) (reply_in a) (reply_in b), line_is a, line_is b)
 
 pub one_report : (text : List ℕ) (a b : List Line) → IsReport text a → IsReport text b → a ≡ b
 one_report text a b left right = go a b left.lines right.lines (sym left.spelled ∙ right.spelled)

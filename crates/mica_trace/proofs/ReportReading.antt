@@ -6,6 +6,7 @@ use Rattle.std.specs.Result.{result_ok}
 use Rattle.std.proofs.lemmas.List.{append-nil}
 use Rattle.std.proofs.lemmas.Bool.{false≢true}
 use Rattle.std.proofs.lemmas.Option.{none-some}
+use Rattle.std.proofs.lemmas.Grind.{common_steps}
 use Rattle.partition_model.specs.declared.write.Op.{Op}
 use Rattle.partition_model.specs.declared.write.Op.TheVariants.{Put, Add, Touch, Del}
 use Rattle.partition_model.specs.declared.write.Outcome.{Outcome}
@@ -25,21 +26,10 @@ All_push : (lines : List Line) (line : Line) → AllByRecursion IsPrintable line
 All_push [] line all here = (here, tt)
 All_push (l ∷ lines) line all here = (all.0, All_push lines line all.1 here)
 
-text_push : (lines : List Line) (line : Line) (rest : List ℕ) → report_text (lines ++ line ∷ []) ++ rest ≡ report_text lines ++ (report_line_text line ++ 10 ∷ rest)
-text_push [] line rest = append_assoc (report_line_text line ++ 10 ∷ []) [] rest ∙ append_assoc (report_line_text line) (10 ∷ []) rest
-text_push (l ∷ lines) line rest =
-    append_assoc (report_line_text l ++ 10 ∷ []) (report_text (lines ++ line ∷ [])) rest
-    ∙ ap (λ t. (report_line_text l ++ 10 ∷ []) ++ t) (text_push lines line rest)
-    ∙ sym (append_assoc (report_line_text l ++ 10 ∷ []) (report_text lines) (report_line_text line ++ 10 ∷ rest))
-
 -- each line has its line feed, so there are no more lines than bytes
 pub few_lines : (lines : List Line) → length lines ≤ length (report_text lines)
 few_lines [] = omega arith
-few_lines (l ∷ lines) =
-    let rest = few_lines lines in
-    let parts = length-append (report_line_text l ++ 10 ∷ []) (report_text lines) in
-    let line = length-append (report_line_text l) (10 ∷ []) in
-    omega arith
+few_lines (l ∷ lines) = grind (arith, common_steps, few_lines lines)
 
 some_length : (rest : List ℕ) → eqb (length rest) 0 ≡ false → 0 < length rest
 some_length [] more = absurd (false≢true (sym more))
@@ -50,25 +40,17 @@ no_end rest more ended = let some = some_length rest more in let none = ap lengt
 
 module _ (from : List ℕ) (report : List Line) (rest : List ℕ) (so_far : HasReadLines from report rest) where
   pub reads_more : (text after : List ℕ) (line : Line) → rest ≡ text ++ 10 ∷ after → SpellsLine text line → HasReadLines from (report ++ line ∷ []) after
-  reads_more text after line first is = record {
-    lines = All_push report line so_far.lines is.0;
-    parts = so_far.parts ∙ ap (λ r. report_text report ++ r) (first ∙ ap (λ t. t ++ 10 ∷ after) is.1) ∙ sym (text_push report line after);
-  }
+  reads_more text after line first is = grind (arith, common_steps)
 
   pub reads_all : rest ≡ [] → IsReport from report
   reads_all ended = record { lines = so_far.lines; spelled = so_far.parts ∙ ap (λ r. report_text report ++ r) ended ∙ append-nil (report_text report) }
 
   -- a line more finds room in a report
   pub room : eqb (length rest) 0 ≡ false → length from < 4294967296 → length report < 4294967295
-  room more fits =
-      let lines = few_lines report in
-      let whole = ap length so_far.parts ∙ length-append (report_text report) rest in
-      let some : 0 < length rest = some_length rest more in
-      omega arith
+  room more fits = grind (arith, common_steps, few_lines report, length-append (report_text report) rest, some_length rest more)
 
   pub first_bad : (n : ℕ) → n ≡ length report + 1 → rest ≢ [] → BeginsWithNoLine rest → IsFirstBadLine from n
-  first_bad n number some bad =
-      record { before = report; rest = rest; lines = so_far.lines; parts = so_far.parts; number = number; some = some; bad = bad }
+  first_bad n number some bad = grind (arith, common_steps)
 
 -- a line without its line feed is no report line
 pub no_feed : (rest : List ℕ) → Lacks 10 rest → BeginsWithNoLine rest
@@ -76,21 +58,14 @@ no_feed rest lacks line more is same = lacks_or_has 10 (report_line_text line) m
 
 pub no_line : (rest text after : List ℕ) → rest ≡ text ++ 10 ∷ after → Lacks 10 text → SpellsNoLine text → BeginsWithNoLine rest
 no_line rest text after first lacks bad line more is same =
-    let parts = one_split 10 text after (report_line_text line) more lacks (line_lacks line is) (sym first ∙ same) in
-    bad line (is, parts.0)
+    grind (arith, common_steps, one_split 10 text after (report_line_text line) more lacks (line_lacks line is) (sym first ∙ same), line_lacks line is, first)
 
 -- the lines before a line that is none are those of any report, which then goes on with none
 none_after : (before report : List Line) (rest : List ℕ) → AllByRecursion IsPrintable before → AllByRecursion IsPrintable report
     → rest ≢ [] → BeginsWithNoLine rest → report_text before ++ rest ≢ report_text report
 none_after [] [] rest left right some bad same = some same
-none_after [] (y ∷ report) rest left right some bad same =
-    bad y (report_text report) right.0 (same ∙ append_assoc (report_line_text y) (10 ∷ []) (report_text report))
-none_after (x ∷ before) [] rest left right some bad same =
-    let long = ap length same in
-    let parts = length-append ((report_line_text x ++ 10 ∷ []) ++ report_text before) rest in
-    let front = length-append (report_line_text x ++ 10 ∷ []) (report_text before) in
-    let line = length-append (report_line_text x) (10 ∷ []) in
-    omega arith
+none_after [] (y ∷ report) rest left right some bad same = grind (arith, common_steps)
+none_after (x ∷ before) [] rest left right some bad same = grind (arith, common_steps)
 none_after (x ∷ before) (y ∷ report) rest left right some bad same =
     let parts = one_split 10 (report_line_text x) (report_text before ++ rest) (report_line_text y) (report_text report) (line_lacks x left.0) (line_lacks y right.0)
     (sym (append_assoc (report_line_text x) (10 ∷ []) (report_text before ++ rest)) ∙ sym (append_assoc (report_line_text x ++ 10 ∷ []) (report_text before) rest)

@@ -1,10 +1,11 @@
 -- A lawful report of whole rounds, and behind it a round's report, are a lawful report.
-use Rattle.std.proofs.Common.{◌≡◌, ℕ, suc, ◌+◌, ◌<◌, ◌≤◌, ◌%◌, ◌⊎◌, inl, inr, List, [], ◌++◌, length, length-append, take, refl, sym, ap, ◌∙◌, subst, arith, zip, true, false, eq-eqb, append-nil, Bool, ltb, ltb-true, ltb-false, cond, drop, take-append-drop}
+use Rattle.std.proofs.Common.{◌≡◌, ℕ, suc, ◌+◌, ◌<◌, ◌≤◌, ◌%◌, ◌⊎◌, inl, inr, List, [], ◌++◌, length, length-append, take, refl, sym, ap, ◌∙◌, subst, arith, zip, true, false, eq-eqb, append-nil, Bool, ltb, ltb-true, ltb-false, drop, take-append-drop, rules}
 use Rattle.std.specs.List.{filter_map}
 use Rattle.std.proofs.lemmas.Option.{slice_get_within}
 use Rattle.std.proofs.lemmas.List.{take-append-le}
 use Rattle.std.proofs.lemmas.List.Elements.{filter_map-append}
 use Rattle.std.proofs.lemmas.List.Sums.{sum_by-append}
+use Rattle.std.proofs.lemmas.Grind.{common_steps}
 use Rattle.mica_words.proofs.Hashes.{partition_of-below}
 use Rattle.partition_model.specs.declared.options.Options.{Options}
 use Rattle.partition_model.specs.Options.{IsValid}
@@ -18,7 +19,7 @@ use Rattle.mica_trace.specs.declared.report.Line.TheVariants.{Wrote, Hit, Miss, 
 use Rattle.mica_trace.specs.TraceGrammar.{syncs_in}
 use Rattle.mica_trace.specs.Rounds.{partition_in, writes_of, lines_before, round_of, round_begin, round_end, reader_of, is_get_op}
 use Rattle.mica_trace.specs.LawfulReport.{IsLineFor, step_in, steps_of, history_after, Answers, IsGetAt, IsAnsweredInRound, printed_stamp, LawfulReport}
-use Rattle.mica_trace.specs.RoundReport.{EndsRound, IsOneRound, is_get, gets_in, history_in, IsRoundReport}
+use Rattle.mica_trace.specs.RoundReport.{EndsRound, IsOneRound, gets_in, history_in, IsRoundReport}
 use Rattle.partition_model.proofs.Rises.{prefix_rises}
 use Rattle.mica_trace.proofs.ListParts.{same_part, zip-append, zip_at, AllZip-append, length_zip, take_past}
 use Rattle.mica_trace.proofs.Prefixes.{prefix_trans, prefix_between, history-append, run-append, step_of_prefix}
@@ -35,22 +36,14 @@ stamp_printed options history key SyncLine answer = absurd answer
 stamps_rise : (options : Options) (a b : History) (key key' : List ℕ) (printed printed' : Line) → Answers options a key printed → Answers options b key' printed' → IsPrefix a b
     → printed_stamp printed ≤ printed_stamp printed'
 stamps_rise options a b key key' printed printed' one two is =
-    let from = stamp_printed options a key printed one in
-    let to = stamp_printed options b key' printed' two in
-    let rise = prefix_rises options a b is in
-    omega arith
+    grind (arith, common_steps, stamp_printed options a key printed one, stamp_printed options b key' printed' two, prefix_rises options a b is)
 
 op_is_get : (op : TraceOp) → op ≡ Get → is_get_op op ≡ true
 op_is_get op is = ap is_get_op is
 
 -- no lines have a lawful report, which is empty
 pub none_lawful : (options : Options) → LawfulReport options [] []
-none_lawful options = record {
-  lines = tt;
-  writes = λ p below. tt;
-  gets = λ n line printed get. let none = get.asked in absurd (cc);
-  order = λ m n line line' printed printed' less get get' reader partition. let none = get.asked in absurd (cc);
-}
+none_lawful options = grind (arith, common_steps)
 
 module _ (options : Options) (valid : IsValid options) (before : List TraceLine) (report : List Line) (round : List TraceLine) (printed : List Line)
     (so_far : LawfulReport options before report) (ended : EndsRound before) (one : IsOneRound round) (here : IsRoundReport options before report round printed) where
@@ -80,10 +73,7 @@ module _ (options : Options) (valid : IsValid options) (before : List TraceLine)
 
   -- and after so many of the writes in it
   after_new : (p j : ℕ) → history_after options p (before ++ round) (report ++ printed) (length (steps p) + j) ≡ history_in options p before report ++ history_of (take j (steps_here p))
-  after_new p j =
-      ap (λ s. history_of (take (length (steps p) + j) s)) (all_steps p)
-      ∙ ap history_of (take_past (steps p) (steps_here p) j)
-      ∙ history-append (steps p) (take j (steps_here p))
+  after_new p j = grind (arith, common_steps, all_steps p, take_past (steps p) (steps_here p) j, history-append (steps p) (take j (steps_here p)))
 
   runs : (p : ℕ) → p < options.partitions → IsRun options (steps_of options p (before ++ round) (report ++ printed))
   runs p below = subst (IsRun options) (sym (all_steps p)) (run-append options [] (steps p) (steps_here p) (so_far.writes p below) (here.writes p below))
@@ -130,51 +120,39 @@ module _ (options : Options) (valid : IsValid options) (before : List TraceLine)
   old_answered : (n : ℕ) (line : TraceLine) (line_printed : Line) → n < length before → IsGetAt before report n line line_printed
       → IsAnsweredInRound options (before ++ round) (report ++ printed) n line line_printed
   old_answered n line line_printed less get =
-      let p = partition_in options line in
-      let was = old_get n line line_printed get in
-      let from = was.from in
-      let to = was.to in
-      let same = round_old before round n (omega arith) in
-      let begin = ap (round_begin options p (before ++ round)) same ∙ old_begin p n less in
-      let end = ap (round_end options p (before ++ round)) same ∙ old_end p n less in
-      (was.i, omega arith, omega arith, subst (λ h. Answers options h line.key line_printed) (sym (after_old p was.i was.within)) was.answers)
+      grind (
+        arith,
+        common_steps,
+        old_get n line line_printed get,
+        round_old before round n (omega arith),
+        old_begin (partition_in options line) n less,
+        old_end (partition_in options line) n less,
+        after_old (partition_in options line) (old_get n line line_printed get).i (old_get n line line_printed get).within,
+      )
 
   -- Gets of the round
 
   new_begin : (p k : ℕ) → k < length round → round_begin options p (before ++ round) (round_of (before ++ round) (length before + k)) ≡ length (steps p)
   new_begin p k less =
-      ap (round_begin options p (before ++ round)) (round_new before round k one less)
-      ∙ ap (λ ls. length (writes_of options p ls)) (before_whole before round (syncs_in before) ended refl)
-      ∙ sym (steps_count options p before report so_far.lines)
+      grind (arith, common_steps, round_new before round k one less, before_whole before round (syncs_in before) ended refl, steps_count options p before report so_far.lines)
 
   new_end : (p k : ℕ) → k < length round → round_end options p (before ++ round) (round_of (before ++ round) (length before + k)) ≡ length (steps p) + length (steps_here p)
-  new_end p k less =
-      let next : suc (syncs_in before) ≡ syncs_in before + 1 = omega arith in
-      ap (round_end options p (before ++ round)) (round_new before round k one less)
-      ∙ ap (λ ls. length (writes_of options p ls)) (before_all before round (suc (syncs_in before)) ended one next)
-      ∙ all_writes p
+  new_end p k less = grind (arith, common_steps, round_new before round k one less, before_all before round (suc (syncs_in before)) ended one, all_writes p)
 
   in_partitions : (line : TraceLine) → partition_in options line < options.partitions
   in_partitions line = partition_of-below line.key options.partitions valid.partitions.0
 
   -- the reader of a get of the round
   reader_here : (k : ℕ) → reader_of options (before ++ round) (length before + k) ≡ (gets_to (zip round printed) k + gets_in before) % options.readers
-  reader_here k =
-      let parts : gets_in (before ++ take k round) ≡ gets_in before + gets_in (take k round) = sum_by-append (λ l. cond (is_get l) 1 0) before (take k round) in
-      let counted = gets_to-zip round printed k same_here in
-      let all : gets_in (take (length before + k) (before ++ round)) ≡ gets_to (zip round printed) k + gets_in before = ap gets_in (take_past before round k) ∙ omega arith in
-      ap (λ g. g % options.readers) all
+  reader_here k = grind (arith, common_steps, sum_by-append, gets_to-zip round printed k same_here, same_here, take_past before round k)
 
   reader_below : (n : ℕ) → reader_of options (before ++ round) n < options.readers
   reader_below n = let some = valid.readers.0 in omega arith
 
   is_mine : (k q : ℕ) (line : TraceLine) (line_printed : Line) → IsGetAt round printed k line line_printed → q ≡ reader_of options (before ++ round) (length before + k)
       → IsMine options q (partition_in options line) (gets_to (zip round printed) k + gets_in before) (line, line_printed)
-  is_mine k q line line_printed get reader = record {
-    get = op_is_get line.op get.get;
-    own = eq-eqb _ q (sym (reader ∙ reader_here k));
-    here = eq-eqb (partition_in options line) (partition_in options line) refl;
-  }
+  is_mine k q line line_printed get reader =
+      grind (arith, common_steps, op_is_get line.op get.get, eq-eqb _ q (sym (reader ∙ reader_here k)), reader_here k, eq-eqb (partition_in options line) (partition_in options line) refl)
 
   record NewGet (p k : ℕ) (line : TraceLine) (line_printed : Line) : Type 0 where
     cut : History
@@ -238,12 +216,15 @@ module _ (options : Options) (valid : IsValid options) (before : List TraceLine)
   old_new : (m k : ℕ) (line line' : TraceLine) (r r' : Line) → IsGetAt before report m line r → IsGetAt round printed k line' r'
       → partition_in options line ≡ partition_in options line' → printed_stamp r ≤ printed_stamp r'
   old_new m k line line' r r' get get' partition =
-      let p = partition_in options line' in
-      let was = old_get m line r get in
-      let found = new_get k line' r' get' in
-      let was_answers = subst (λ q. Answers options (history_after options q before report was.i) line.key r) partition was.answers in
-      stamps_rise options (history_after options p before report was.i) found.cut line.key line'.key r r' was_answers found.answers
-      (prefix_trans _ (history_in options p before report) found.cut (old_begins p was.i) found.from)
+      grind (
+        arith,
+        common_steps,
+        old_get m line r get,
+        new_get k line' r' get',
+        stamps_rise options (history_after options (partition_in options line') before report (old_get m line r get).i) (new_get k line' r' get').cut line.key line'.key r r',
+        prefix_trans _ (history_in options (partition_in options line') before report) (new_get k line' r' get').cut (old_begins (partition_in options line') (old_get m line r get).i) (new_get k line' r' get').from,
+        old_begins (partition_in options line') (old_get m line r get).i,
+      )
 
   new_new : (j k : ℕ) (line line' : TraceLine) (r r' : Line) → j < k → IsGetAt round printed j line r → IsGetAt round printed k line' r'
       → reader_of options (before ++ round) (length before + j) ≡ reader_of options (before ++ round) (length before + k) → partition_in options line ≡ partition_in options line'
@@ -279,9 +260,4 @@ module _ (options : Options) (valid : IsValid options) (before : List TraceLine)
       ]
 
   pub round_lawful : LawfulReport options (before ++ round) (report ++ printed)
-  round_lawful = record {
-    lines = AllZip-append IsLineFor before round report printed so_far.lines here.lines;
-    writes = runs;
-    gets = answered;
-    order = in_order;
-  }
+  round_lawful = search (rules, AllZip-append IsLineFor before round report printed so_far.lines here.lines, runs, answered, in_order)

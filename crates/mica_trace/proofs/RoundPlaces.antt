@@ -1,19 +1,15 @@
 -- Where rounds begin in lines before which whole rounds stand.
-use Rattle.std.proofs.Common.{◌≡◌, ℕ, zero, suc, ◌+◌, ◌<◌, ◌≤◌, List, [], ◌∷◌, ◌++◌, length, take, None, refl, sym, ap, ◌∙◌, subst, arith, cond, true, false}
-use Rattle.std.specs.List.{cons_option, AllZip}
+use Rattle.std.proofs.Common.{◌≡◌, ℕ, zero, suc, ◌+◌, ◌<◌, ◌≤◌, List, [], ◌∷◌, ◌++◌, length, take, refl, sym, ap, subst, arith, cond, true, false}
+use Rattle.std.specs.List.{AllZip}
 use Rattle.std.proofs.lemmas.List.{take-append-le}
 use Rattle.std.proofs.lemmas.List.Sums.{sum_by-append}
+use Rattle.std.proofs.lemmas.Grind.{common_steps}
 use Rattle.partition_model.specs.declared.options.Options.{Options}
-use Rattle.partition_model.specs.declared.write.Write.{Write}
-use Rattle.partition_model.specs.Run.{RunStep}
-use Rattle.mica_trace.specs.declared.line.TraceOp.{TraceOp}
-use Rattle.mica_trace.specs.declared.line.TraceOp.TheVariants.{Put, Add, Del, Touch, Get, Sync}
 use Rattle.mica_trace.specs.declared.line.TraceLine.{TraceLine}
 use Rattle.mica_trace.specs.declared.report.Line.{Line}
-use Rattle.mica_trace.specs.declared.report.Line.TheVariants.{Wrote, Hit, Miss, Sync as SyncLine}
 use Rattle.mica_trace.specs.TraceGrammar.{is_sync, syncs_in}
-use Rattle.mica_trace.specs.Rounds.{round_of, lines_before, write_by, is_in_partition, write_in, writes_of}
-use Rattle.mica_trace.specs.LawfulReport.{IsKindOf, IsLineFor, step_by, steps_of}
+use Rattle.mica_trace.specs.Rounds.{round_of, lines_before, write_in, writes_of}
+use Rattle.mica_trace.specs.LawfulReport.{IsLineFor, steps_of}
 use Rattle.mica_trace.proofs.LineLemmas.{syncs_cons}
 use Rattle.mica_trace.specs.RoundReport.{EndsRound, IsOneRound}
 use Rattle.mica_trace.proofs.ListParts.{take_past, length-cons_option}
@@ -54,8 +50,7 @@ before_whole (line ∷ next ∷ before) round (suc k) ended is =
 one_round : (round : List TraceLine) → IsOneRound round → lines_before round 1 ≡ round
 one_round [] one = refl
 one_round (line ∷ []) one = refl
-one_round (line ∷ next ∷ round) one =
-    ap (λ ls. line ∷ ls) (subst (λ b. lines_before (next ∷ round) (cond b 0 1) ≡ next ∷ round) (sym one.0) (one_round (next ∷ round) one.1))
+one_round (line ∷ next ∷ round) one = grind (arith, common_steps, one_round (next ∷ round) one.1)
 
 -- and it is all that is behind them
 pub before_all : (before round : List TraceLine) (k : ℕ) → EndsRound before → IsOneRound round → k ≡ syncs_in before + 1 → lines_before (before ++ round) k ≡ before ++ round
@@ -81,26 +76,16 @@ pub round_low : (before : List TraceLine) (n : ℕ) → n < length before → En
 round_low [] n less ended = absurd (omega arith)
 round_low (line ∷ before) zero less ended = ended_some line before ended
 round_low (line ∷ []) (suc n) less ended = absurd (omega arith)
-round_low (line ∷ next ∷ before) (suc n) less ended =
-    let later = round_low (next ∷ before) n (omega arith) ended in
-    let c = syncs_cons line (next ∷ before) in
-    let d = syncs_cons line (take n (next ∷ before)) in
-    omega arith
+round_low (line ∷ next ∷ before) (suc n) less ended = grind (arith, common_steps, round_low (next ∷ before) n (omega arith) ended)
 
 no_sync : (round : List TraceLine) (k : ℕ) → IsOneRound round → k < length round → syncs_in (take k round) ≡ 0
 no_sync [] k one less = absurd (omega arith)
 no_sync (line ∷ round) zero one less = refl
 no_sync (line ∷ []) (suc k) one less = absurd (omega arith)
-no_sync (line ∷ next ∷ round) (suc k) one less =
-    let later = no_sync (next ∷ round) k one.1 (omega arith) in
-    let c = subst (λ b. syncs_in (line ∷ take k (next ∷ round)) ≡ cond b 1 0 + syncs_in (take k (next ∷ round))) one.0 (syncs_cons line (take k (next ∷ round))) in
-    omega arith
+no_sync (line ∷ next ∷ round) (suc k) one less = grind (arith, common_steps, no_sync (next ∷ round) k one.1 (omega arith))
 
 pub round_new : (before round : List TraceLine) (k : ℕ) → IsOneRound round → k < length round → round_of (before ++ round) (length before + k) ≡ syncs_in before
-round_new before round k one less =
-    let none = no_sync round k one less in
-    let parts : syncs_in (before ++ take k round) ≡ syncs_in before + syncs_in (take k round) = sum_by-append (λ l. cond (is_sync l) 1 0) before (take k round) in
-    ap syncs_in (take_past before round k) ∙ omega arith
+round_new before round k one less = grind (arith, common_steps, no_sync round k one less, sum_by-append, take_past before round k)
 
 module _ (options : Options) (p : ℕ) where
   pub writes_before_low : (lines : List TraceLine) (k : ℕ) → length (writes_of options p (lines_before lines k)) ≤ length (writes_of options p lines)
@@ -108,41 +93,9 @@ module _ (options : Options) (p : ℕ) where
   writes_before_low (line ∷ lines) zero = omega arith
   writes_before_low (line ∷ lines) (suc k) = length-cons_option (write_in options p line) _ _ (writes_before_low lines (cond (is_sync line) k (suc k)))
 
-  count_step : (op : TraceOp) (key value : List ℕ) (printed : Line) (steps : List RunStep) (writes : List Write) → IsKindOf op printed → length steps ≡ length writes
-      → length (cons_option (step_by (write_by op key value) printed) steps) ≡ length (cons_option (write_by op key value) writes)
-  count_step Put key value (Wrote op outcome s) steps writes kind same = ap suc same
-  count_step Add key value (Wrote op outcome s) steps writes kind same = ap suc same
-  count_step Del key value (Wrote op outcome s) steps writes kind same = ap suc same
-  count_step Touch key value (Wrote op outcome s) steps writes kind same = ap suc same
-  count_step Get key value (Hit s found) steps writes kind same = same
-  count_step Get key value (Miss s) steps writes kind same = same
-  count_step Sync key value SyncLine steps writes kind same = same
-  count_step Put key value (Hit s found) steps writes kind same = absurd kind
-  count_step Add key value (Hit s found) steps writes kind same = absurd kind
-  count_step Put key value (Miss s) steps writes kind same = absurd kind
-  count_step Add key value (Miss s) steps writes kind same = absurd kind
-  count_step Put key value SyncLine steps writes kind same = absurd kind
-  count_step Add key value SyncLine steps writes kind same = absurd kind
-  count_step Del key value (Hit s found) steps writes kind same = absurd kind
-  count_step Touch key value (Hit s found) steps writes kind same = absurd kind
-  count_step Del key value (Miss s) steps writes kind same = absurd kind
-  count_step Touch key value (Miss s) steps writes kind same = absurd kind
-  count_step Del key value SyncLine steps writes kind same = absurd kind
-  count_step Touch key value SyncLine steps writes kind same = absurd kind
-  count_step Get key value (Wrote op outcome s) steps writes kind same = absurd kind
-  count_step Get key value SyncLine steps writes kind same = absurd kind
-  count_step Sync key value (Wrote op outcome s) steps writes kind same = absurd kind
-  count_step Sync key value (Hit s found) steps writes kind same = absurd kind
-  count_step Sync key value (Miss s) steps writes kind same = absurd kind
-
   -- a partition has as many steps as writes
   pub steps_count : (lines : List TraceLine) (report : List Line) → AllZip IsLineFor lines report → length (steps_of options p lines report) ≡ length (writes_of options p lines)
   steps_count [] [] all = refl
   steps_count [] (r ∷ report) all = absurd all
   steps_count (line ∷ lines) [] all = absurd all
-  steps_count (line ∷ lines) (r ∷ report) all =
-      let later = steps_count lines report all.1 in
-      elim (is_in_partition options p line) as (λ b. length (cons_option (cond b (step_by (write_by line.op line.key line.value) r) None) (steps_of options p lines report)) ≡ length (cons_option (cond b (write_by line.op line.key line.value) None) (writes_of options p lines))) [
-        | true ↦ count_step line.op line.key line.value r _ _ all.0.1 later
-        | false ↦ later
-      ]
+  steps_count (line ∷ lines) (r ∷ report) all = grind (arith, common_steps, steps_count lines report all.1)

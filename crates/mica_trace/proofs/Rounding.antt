@@ -2,6 +2,7 @@
 use Rattle.std.proofs.Common.{◌≡◌, ℕ, zero, suc, ◌+◌, ◌≤◌, List, [], ◌∷◌, length, take, Option, Some, None, refl, sym, ◌∙◌, subst, cond, true, false, arith}
 use Rattle.std.specs.List.{cons_option}
 use Rattle.std.proofs.lemmas.List.Sums.{sum_by-cons}
+use Rattle.std.proofs.lemmas.Grind.{common_steps}
 use Rattle.partition_model.specs.declared.options.Options.{Options}
 use Rattle.mica_trace.specs.declared.line.TraceLine.{TraceLine}
 use Rattle.mica_trace.specs.TraceGrammar.{is_sync}
@@ -36,13 +37,7 @@ module _ (options : Options) (p : ℕ) where
   before_end : (lines : List TraceLine) (n k : ℕ) → k ≡ round_of lines n → writes_before options p lines n ≤ round_end options p lines k
   before_end [] n k is = subst (λ (ls : List TraceLine). length (writes_of options p ls) ≤ 0) (sym (take_nil n)) (omega arith)
   before_end (line ∷ lines) zero k is = omega arith
-  before_end (line ∷ lines) (suc n) k is =
-      let whole = is ∙ round_cons line lines n in
-      length_cons (write_in options p line) _ _
-      (elim (is_sync line) as (λ b. k ≡ cond b 1 0 + round_of lines n → writes_before options p lines n ≤ round_begin options p lines (cond b k (suc k))) [
-        | true ↦ λ e. subst (λ m. writes_before options p lines n ≤ round_begin options p lines m) (let same : suc (round_of lines n) ≡ k = omega arith in same) (before_end lines n (round_of lines n) refl)
-        | false ↦ λ e. subst (λ m. writes_before options p lines n ≤ round_end options p lines m) (let same : round_of lines n ≡ k = omega arith in same) (before_end lines n (round_of lines n) refl)
-      ] whole)
+  before_end (line ∷ lines) (suc n) k is = grind (arith, common_steps, before_end lines n (round_of lines n) refl)
 
   pub in_round_begin : (lines : List TraceLine) (n : ℕ) → round_begin options p lines (round_of lines n) ≤ writes_before options p lines n
   in_round_begin lines n = before_round lines n (round_of lines n) refl

@@ -1,5 +1,6 @@
 -- No machine reads the readers and their tries: a report that is exact for some is exact for all.
-use Rattle.std.proofs.Common.{◌≡◌, ℕ, List, [], refl}
+use Rattle.std.proofs.Common.{ℕ, List, [], refl, arith}
+use Rattle.std.proofs.lemmas.Grind.{common_steps}
 use Rattle.partition_model.specs.declared.options.Options.{Options}
 use Rattle.partition_model.specs.History.{History}
 use Rattle.partition_model.proofs.SameMachine.{same_state, same_run}
@@ -25,7 +26,9 @@ module _ (options : Options) (readers tries : ℕ) where
     lines = exact.lines;
     writes = λ p below. same_run other options.partitions options.readers options.tries options.spares (λ store. refl) [] (steps_of options p trace report) (exact.writes p below);
     gets = λ n line printed get.
-        let p = partition_in options line in
-        same_answers (history_after options p trace report (writes_before options p trace n)) line.key printed
-        (exact.gets n line printed (record { asked = get.asked; answered = get.answered; get = get.get }));
+        grind (
+          arith,
+          common_steps,
+          same_answers (history_after options (partition_in options line) trace report (writes_before options (partition_in options line) trace n)) line.key printed (exact.gets n line printed (record { asked = get.asked; answered = get.answered; get = get.get })),
+        );
   }

@@ -1,11 +1,12 @@
 -- What is printed for a round stands for its lines: each write has an outcome that its operation may have, and each value was written by a
 -- line of the trace.
-use Rattle.std.proofs.Common.{◌≡◌, ℕ, zero, suc, List, [], ◌∷◌, ◌++◌, slice_get, Option, Some, None, refl, sym, ap, ◌∙◌, subst, cond, true, false}
+use Rattle.std.proofs.Common.{◌≡◌, ℕ, zero, suc, List, [], ◌∷◌, ◌++◌, slice_get, Option, Some, None, refl, sym, subst, true, arith}
 use Rattle.std.specs.List.{AllByRecursion, AllZip, cons_option, fold}
+use Rattle.std.proofs.lemmas.Grind.{common_steps}
 use Rattle.partition_model.specs.declared.options.Options.{Options}
 use Rattle.partition_model.specs.declared.write.Op.TheVariants.{Put as PutOp, Add as AddOp, Touch as TouchOp, Del as DelOp}
 use Rattle.partition_model.specs.declared.write.Write.{Write}
-use Rattle.partition_model.specs.Write.{GivesValue, is_accepted}
+use Rattle.partition_model.specs.Write.{GivesValue}
 use Rattle.partition_model.specs.History.{History, State, IsPrefix, MayGive, after, start, state_of}
 use Rattle.partition_model.specs.Run.{RunStep, accepted_write, history_of, IsRunFrom}
 use Rattle.partition_model.proofs.Values.{ValuesAre, start_are, after_are, value_is}
@@ -47,26 +48,10 @@ stored_in_prefix a h is all = all_front a is.0 (subst (AllByRecursion StoresValu
 
 written : (op : TraceOp) (key value : List ℕ) (r : Line) (h : History) → HasFields op key value → AllByRecursion StoresValue h
     → AllByRecursion StoresValue (history_of (cons_option (step_by (write_by op key value) r) []) ++ h)
-written Put key value (Wrote op outcome s) h fields all =
-    elim (is_accepted outcome) as (λ b. AllByRecursion StoresValue (cons_option (cond b (Some (record { op = PutOp; key = key; value = value })) None) [] ++ h)) [
-      | true ↦ ((λ gives. fields.1), all)
-      | false ↦ all
-    ]
-written Add key value (Wrote op outcome s) h fields all =
-    elim (is_accepted outcome) as (λ b. AllByRecursion StoresValue (cons_option (cond b (Some (record { op = AddOp; key = key; value = value })) None) [] ++ h)) [
-      | true ↦ ((λ gives. fields.1), all)
-      | false ↦ all
-    ]
-written Del key value (Wrote op outcome s) h fields all =
-    elim (is_accepted outcome) as (λ b. AllByRecursion StoresValue (cons_option (cond b (Some (record { op = DelOp; key = key; value = value })) None) [] ++ h)) [
-      | true ↦ ((λ gives. absurd gives), all)
-      | false ↦ all
-    ]
-written Touch key value (Wrote op outcome s) h fields all =
-    elim (is_accepted outcome) as (λ b. AllByRecursion StoresValue (cons_option (cond b (Some (record { op = TouchOp; key = key; value = value })) None) [] ++ h)) [
-      | true ↦ ((λ gives. absurd gives), all)
-      | false ↦ all
-    ]
+written Put key value (Wrote op outcome s) h fields all = grind (arith, common_steps)
+written Add key value (Wrote op outcome s) h fields all = grind (arith, common_steps)
+written Del key value (Wrote op outcome s) h fields all = grind (arith, common_steps)
+written Touch key value (Wrote op outcome s) h fields all = grind (arith, common_steps)
 written Put key value (Hit s v) h fields all = all
 written Add key value (Hit s v) h fields all = all
 written Put key value (Miss s) h fields all = all
@@ -94,14 +79,7 @@ history_first (Some step) steps = by (accepted_write step)
 pub stored : (options : Options) (p : ℕ) (lines : List TraceLine) (report : List Line) → AllByRecursion IsTraceLine lines → AllByRecursion StoresValue (history_of (steps_of options p lines report))
 stored options p [] report all = tt
 stored options p (line ∷ lines) [] all = tt
-stored options p (line ∷ lines) (r ∷ report) all =
-    let later = stored options p lines report all.1 in
-    elim (is_in_partition options p line) as (λ b. AllByRecursion StoresValue (history_of (cons_option (cond b (step_by (write_by line.op line.key line.value) r) None) (steps_of options p lines report)))) [
-      | true ↦
-          subst (AllByRecursion StoresValue) (sym (history_first (step_by (write_by line.op line.key line.value) r) (steps_of options p lines report)))
-          (written line.op line.key line.value r (history_of (steps_of options p lines report)) all.0 later)
-      | false ↦ later
-    ]
+stored options p (line ∷ lines) (r ∷ report) all = grind (arith, common_steps, stored options p lines report all.1)
 
 -- a get that was answered after a history of such writes has a value of a trace, if it has one
 pub answer_stands : (options : Options) (cut : History) (key : List ℕ) (r : Line) → AllByRecursion StoresValue cut → Answers options cut key r → IsReportLine r
@@ -140,8 +118,7 @@ step_stands options history Sync key value w r kind is may = absurd (cc)
 run_first : (options : Options) (history : History) (o : Option RunStep) (steps : List RunStep) → IsRunFrom options history (cons_option o steps)
     → ((step : RunStep) → o ≡ Some step → MayGive options history step.write step.outcome) × ((later : History) × IsRunFrom options later steps)
 run_first options history None steps run = ((λ step is. absurd (cc)), (history, run))
-run_first options history (Some first) steps run =
-    ((λ step is. let same : first ≡ step = cc in subst (λ (x : RunStep). MayGive options history x.write x.outcome) same run.0), (history ++ history_of (first ∷ []), run.2))
+run_first options history (Some first) steps run = grind (arith, common_steps)
 
 -- what is printed for a write of a run has an outcome that its operation may have
 pub write_stands : (options : Options) (p : ℕ) (lines : List TraceLine) (report : List Line) (history : History) (n : ℕ) (line : TraceLine) (r : Line) (w : Write)
@@ -150,15 +127,7 @@ pub write_stands : (options : Options) (p : ℕ) (lines : List TraceLine) (repor
 write_stands options p [] report history n line r w kinds run is_line is_r here is = absurd (cc)
 write_stands options p (l ∷ lines) [] history n line r w kinds run is_line is_r here is = absurd kinds
 write_stands options p (l ∷ lines) (x ∷ report) history zero line r w kinds run is_line is_r here is =
-    let same_line : l ≡ line = cc in
-    let same_r : x ≡ r = cc in
-    let may = (run_first options history (step_in options p (l, x)) (steps_of options p lines report) run).0 in
-    let may_here = subst (λ (y : TraceLine). (step : RunStep) → step_in options p (y, x) ≡ Some step → MayGive options history step.write step.outcome) same_line may in
-    let may_r = subst (λ (y : Line). (step : RunStep) → step_in options p (line, y) ≡ Some step → MayGive options history step.write step.outcome) same_r may_here in
-    let kind_here = subst (λ (y : TraceLine). IsKindOf y.op x) same_line kinds.0 in
-    let kind = subst (λ (y : Line). IsKindOf line.op y) same_r kind_here in
-    step_stands options history line.op line.key line.value w r kind is
-    (λ step at. may_r step (ap (λ b. cond b (step_by (write_by line.op line.key line.value) r) None) here ∙ at))
+    grind (arith, common_steps, run_first options history (step_in options p (l, x)) (steps_of options p lines report) run, step_stands options history line.op line.key line.value w r)
 write_stands options p (l ∷ lines) (x ∷ report) history (suc n) line r w kinds run is_line is_r here is =
     let later = (run_first options history (step_in options p (l, x)) (steps_of options p lines report) run).1 in
     write_stands options p lines report later.0 n line r w kinds.1 later.1 is_line is_r here is

@@ -1,6 +1,6 @@
 -- Texts and their lines.
-use Rattle.std.proofs.Common.{◌≡◌, ℕ, List, [], ◌∷◌, ◌++◌, length, length-append, cond, refl, sym, ap, ◌∙◌, arith, Bool, true, false, eqb, eqb-true, flat_map, ◌⊎◌, inl, inr}
-use Rattle.std.proofs.lemmas.List.{length_push}
+use Rattle.std.proofs.Common.{◌≡◌, ℕ, List, [], ◌∷◌, ◌++◌, cond, refl, ap, arith, Bool, true, false, eqb, eqb-true, flat_map, ◌⊎◌, inl, inr}
+use Rattle.std.proofs.lemmas.Grind.{common_steps}
 use Rattle.mica_trace.specs.Lines.{onto_first, lines_of, Lacks}
 
 -- each text with a line feed behind it
@@ -12,12 +12,7 @@ pub one_split : (byte : ℕ) (a b c d : List ℕ) → Lacks byte a → Lacks byt
 one_split byte [] b [] d a_lacks c_lacks same = (refl, cc)
 one_split byte [] b (y ∷ c) d a_lacks c_lacks same = let head : y ≡ byte = cc in absurd (c_lacks.0 head)
 one_split byte (x ∷ a) b [] d a_lacks c_lacks same = let head : x ≡ byte = cc in absurd (a_lacks.0 head)
-one_split byte (x ∷ a) b (y ∷ c) d a_lacks c_lacks same =
-    let head : x ≡ y = cc in
-    let tail : a ++ byte ∷ b ≡ c ++ byte ∷ d = cc in
-    let rest = one_split byte a b c d a_lacks.1 c_lacks.1 tail in
-    let keys = rest.0 in
-    (cc, rest.1)
+one_split byte (x ∷ a) b (y ∷ c) d a_lacks c_lacks same = grind (arith, common_steps, one_split byte a b c d a_lacks.1 c_lacks.1)
 
 pub Lacks_append : (byte : ℕ) (a b : List ℕ) → Lacks byte a → Lacks byte b → Lacks byte (a ++ b)
 Lacks_append byte [] b left right = right
@@ -32,10 +27,7 @@ abbrev pub IsFed : List ℕ → List ℕ → Type 0
 IsFed text whole = (text ≡ whole) ⊎ (text ++ 10 ∷ [] ≡ whole)
 
 fed_onto : (b : ℕ) (text : List ℕ) (texts : List (List ℕ)) → IsFed text (fed texts) → IsFed (b ∷ text) (fed (onto_first b texts))
-fed_onto b text [] is = elim is [
-  | inl none ↦ inr (ap (λ t. b ∷ t ++ 10 ∷ []) none)
-  | inr more ↦ absurd (let long = ap length more in omega (arith, length-append {A = ℕ}))
-]
+fed_onto b text [] is = grind (arith, common_steps)
 fed_onto b text (t ∷ texts) is = elim is [ inl whole ↦ inl (ap (λ x. b ∷ x) whole) | inr whole ↦ inr (ap (λ x. b ∷ x) whole) ]
 
 pub fed_lines : (text : List ℕ) → IsFed text (fed (lines_of text))
@@ -46,18 +38,6 @@ fed_lines (b ∷ text) = go (fed_lines text) (eqb b 10) refl
     go rest true is = let here = eqb-true b 10 is in elim rest [ inl whole ↦ inl (cc) | inr whole ↦ inr (cc) ]
     go rest false is = fed_onto b text (lines_of text) rest
 
-push_inj : (s t : List ℕ) (b : ℕ) → s ++ b ∷ [] ≡ t ++ b ∷ [] → s ≡ t
-push_inj [] [] b same = refl
-push_inj [] (y ∷ t) b same = absurd (let long = ap length same in let more = length_push t b in omega arith)
-push_inj (x ∷ s) [] b same = absurd (let long = ap length same in let more = length_push s b in omega arith)
-push_inj (x ∷ s) (y ∷ t) b same =
-    let tail : s ++ b ∷ [] ≡ t ++ b ∷ [] = cc in
-    let rest = push_inj s t b tail in
-    cc
-
 -- texts of the same lines differ in the last line feed alone
 pub same_lines : (s t whole : List ℕ) → IsFed s whole → IsFed t whole → (s ≡ t) ⊎ ((s ≡ t ++ 10 ∷ []) ⊎ (t ≡ s ++ 10 ∷ []))
-same_lines s t whole left right = elim left [
-  | inl a ↦ elim right [ inl b ↦ inl (a ∙ sym b) | inr b ↦ inr (inl (a ∙ sym b)) ]
-  | inr a ↦ elim right [ inl b ↦ inr (inr (b ∙ sym a)) | inr b ↦ inl (push_inj s t 10 (a ∙ sym b)) ]
-]
+same_lines s t whole left right = grind (arith, common_steps)

@@ -4,6 +4,7 @@ use Rattle.std.proofs.lemmas.Grind.{flat_map-append}
 use Rattle.std.proofs.lemmas.List.{take-append-le, take_all, drop-drop, length-append, append_assoc}
 use Rattle.std.proofs.Math.Seq.{take-add, take-append-add}
 use Rattle.std.specs.List.{AllByRecursion, AllZip}
+use Rattle.std.proofs.lemmas.Grind.{common_steps}
 use Rattle.mica_trace.specs.declared.line.TraceLine.{TraceLine}
 use Rattle.mica_trace.specs.declared.report.Line.{Line}
 use Rattle.mica_trace.specs.ReportGrammar.{report_text, IsReportLine}
@@ -14,26 +15,22 @@ use Rattle.mica_trace.specs.TextParts.{joined, AreTexts}
 pub part_written : (texts : List (List ℕ)) (i : ℕ) (text : List ℕ) (n : ℕ) → slice_get texts i ≡ Some text → n < length text
     → (k : ℕ) × (k < length (joined texts)) × (joined (take i texts) ++ take n text ≡ take k (joined texts))
 part_written [] i text n at less = absurd cc
-part_written (t ∷ texts) zero text n at less =
-    let is : t ≡ text = cc in
-    subst (λ (z : List ℕ). (k : ℕ) × (k < length (z ++ joined texts)) × (take n text ≡ take k (z ++ joined texts))) (sym is)
-    (n, (let long = length-append text (joined texts) in omega arith), sym (take-append-le n text (joined texts) (omega arith)))
+part_written (t ∷ texts) zero text n at less = grind (arith, common_steps, length-append text (joined texts), take-append-le n text (joined texts) (omega arith))
 part_written (t ∷ texts) (suc i) text n at less =
-    let rest = part_written texts i text n at less in
-    let long = length-append t (joined texts) in (
-      length t + rest.0,
-      omega (arith, long, rest.1),
-      append_assoc t (joined (take i texts)) (take n text)
-          ∙ (ap (λ l. t ++ l) rest.2 ∙ sym (take-append-add t (joined texts) rest.0)),
+    grind (
+      arith,
+      common_steps,
+      part_written texts i text n at less,
+      length-append t (joined texts),
+      append_assoc t (joined (take i texts)) (take n text),
+      take-append-add t (joined texts) (part_written texts i text n at less).0,
     )
 
 -- the texts of the parts from a line on are the text of their lines
 from_line : (size : ℕ) (lines : List Line) (from : ℕ) (texts : List (List ℕ))
     → ((i : ℕ) (text : List ℕ) → slice_get texts i ≡ Some text → text ≡ report_text (take size (drop (from + i * size) lines)))
     → joined texts ≡ report_text (take (length texts * size) (drop from lines))
-from_line size lines from [] each =
-    let none : 0 ≡ length {A = List ℕ} [] * size = omega arith in
-    ap (λ (n : ℕ). report_text (take n (drop from lines))) none
+from_line size lines from [] each = grind (arith, common_steps)
 from_line size lines from (text ∷ texts) each =
     let part = take size (drop from lines) in
     let first : text ≡ report_text part = subst (λ (n : ℕ). text ≡ report_text (take size (drop n lines))) (omega arith) (each 0 text refl) in

@@ -1,6 +1,7 @@
 -- A text has at most one trace.
-use Rattle.std.proofs.Common.{◌≡◌, ℕ, List, [], ◌∷◌, ◌++◌, drop, get_or, eqb, cond, refl, sym, ap, ◌∙◌, subst, ◌⊎◌}
+use Rattle.std.proofs.Common.{◌≡◌, ℕ, List, [], ◌∷◌, ◌++◌, drop, get_or, eqb, cond, refl, sym, ap, ◌∙◌, subst, ◌⊎◌, arith}
 use Rattle.std.specs.List.{AllZip}
+use Rattle.std.proofs.lemmas.Grind.{common_steps}
 use Rattle.mica_trace.specs.declared.line.TraceOp.{TraceOp}
 use Rattle.mica_trace.specs.declared.line.TraceOp.TheVariants.{Put, Add, Del, Touch, Get, Sync}
 use Rattle.mica_trace.specs.declared.line.TraceLine.{TraceLine}
@@ -37,11 +38,7 @@ same_line : (a b : TraceOp) (k l v w : List ℕ) → a ≡ b → k ≡ l → v �
 same_line a b k l v w op key value = cc
 
 one_line : (text : List ℕ) (a b : TraceLine) → IsTextOf text a → IsTextOf text b → a ≡ b
-one_line text a b left right =
-    let op : a.op ≡ b.op = sym (op_is a.op a.key a.value) ∙ ap op_at (sym left.1 ∙ right.1) ∙ op_is b.op b.key b.value in
-    let fields = same_fields a.op a.key a.value b.key b.value left.0 (subst (λ o. HasFields o b.key b.value) (sym op) right.0)
-    (sym left.1 ∙ right.1 ∙ ap (λ o. op_text o b.key b.value) (sym op)) in
-    same_line a.op b.op a.key b.key a.value b.value op fields.0 fields.1
+one_line text a b left right = grind (arith, common_steps, op_is, same_fields, same_line)
 
 pub one_list : (texts : List (List ℕ)) (a b : List TraceLine) → AllZip IsTextOf texts a → AllZip IsTextOf texts b → a ≡ b
 one_list [] [] [] left right = refl
@@ -49,10 +46,7 @@ one_list [] [] (y ∷ b) left right = absurd right
 one_list [] (x ∷ a) b left right = absurd left
 one_list (t ∷ texts) [] b left right = absurd left
 one_list (t ∷ texts) (x ∷ a) [] left right = absurd right
-one_list (t ∷ texts) (x ∷ a) (y ∷ b) left right =
-    let here = one_line t x y left.0 right.0 in
-    let there = one_list texts a b left.1 right.1 in
-    cc
+one_list (t ∷ texts) (x ∷ a) (y ∷ b) left right = grind (arith, common_steps, one_line t x y left.0 right.0, one_list texts a b left.1 right.1)
 
 pub one_trace : (text : List ℕ) (a b : List TraceLine) → IsTrace text a → IsTrace text b → a ≡ b
 one_trace text a b left right = one_list (lines_of text) a b left.spelled right.spelled
@@ -61,10 +55,7 @@ fed_is : (texts : List (List ℕ)) (lines : List TraceLine) → AllZip IsTextOf 
 fed_is [] [] all = refl
 fed_is [] (l ∷ lines) all = absurd all
 fed_is (t ∷ texts) [] all = absurd all
-fed_is (t ∷ texts) (l ∷ lines) all =
-    let here = all.0.1 in
-    let there = fed_is texts lines all.1 in
-    cc
+fed_is (t ∷ texts) (l ∷ lines) all = grind (arith, common_steps, fed_is texts lines all.1)
 
 -- the text of a trace is its lines, each with a line feed, which the last one may lack
 pub trace_texts : (text : List ℕ) (lines : List TraceLine) → IsTrace text lines → IsFed text (trace_text lines)
