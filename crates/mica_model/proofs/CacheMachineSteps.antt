@@ -1,16 +1,15 @@
 -- A step of the cache machine: its history, its state and its fates.
-use Rattle.std.proofs.Common.{◌≡◌, ℕ, ◌+◌, ◌<◌, List, [], ◌∷◌, ◌++◌, length, Option, Some, None, true, false, cond, refl, sym, ap, ◌∙◌, subst}
+use Rattle.std.proofs.Common.{◌≡◌, ℕ, ◌+◌, ◌<◌, List, [], ◌∷◌, ◌++◌, length, Option, Some, None, true, false, cond, refl, sym, ap, ◌∙◌, subst, arith}
 use Rattle.std.specs.List.{AllByRecursion as AllOf}
 use Rattle.std.specs.Str.{bytes_eq}
-use Rattle.std.proofs.lemmas.Bool.{true≢false}
 use Rattle.mica_words.specs.Stamp.{tail_of}
 use Rattle.std.specs.Global.{Vec}
+use Rattle.std.proofs.lemmas.Grind.{common_steps}
 use Rattle.partition_model.specs.declared.options.Options.{Options}
 use Rattle.partition_model.specs.declared.write.Write.{Write}
 use Rattle.partition_model.specs.declared.write.Op.{Op}
 use Rattle.partition_model.specs.declared.write.Op.TheVariants.{Put, Add, Touch, Del}
 use Rattle.partition_model.specs.declared.write.Outcome.{Outcome}
-use Rattle.partition_model.specs.declared.write.Outcome.TheVariants.{Worn}
 use Rattle.partition_model.specs.declared.fate.Fate.{Fate}
 use Rattle.partition_model.specs.declared.fate.Fate.TheVariants.{Displaced, Passed, Held}
 use Rattle.mica_model.specs.declared.fates.Fates.{Fates}
@@ -82,14 +81,7 @@ module _ (a : Inside) (m : IsMachine a) where
     allowed = subst (λ (t : State). Allows a.options t write outcome) (sym m.state) replied
 
     pub refused_step : is_accepted outcome ≡ false → IsLoggedStep (logged_of a) write outcome (logged_of a)
-    refused_step refused = record {
-      options = refl;
-      history = sym (ap (λ b. cond b (a.log.items ++ write ∷ []) a.log.items) refused);
-      step = record {
-        allowed = allowed;
-        result = sym (ap (λ b. cond b (after a.options (state_of a.options a.log.items) write) (state_of a.options a.log.items)) refused);
-      };
-    }
+    refused_step refused = grind (arith, common_steps)
 
     module _ (done : is_accepted outcome ≡ true) where
       pub unworn : a.state.accepted < a.options.wear
@@ -98,30 +90,16 @@ module _ (a : Inside) (m : IsMachine a) where
       -- an accepted write has the reply of a partition that is not worn
       replied_unworn : outcome ≡ cs.reply_of write.op a.options write (has_record a.state write.key)
       unfolding cs.reply
-      replied_unworn = elim (cs.is_worn a.options a.state) as (λ b. outcome ≡ cond b Worn (cs.reply_of write.op a.options write (has_record a.state write.key)) → outcome ≡ cs.reply_of write.op a.options write (has_record a.state write.key)) [
-        | true ↦ λ e. absurd (true≢false (sym done ∙ ap is_accepted e))
-        | false ↦ λ e. e
-      ] replied
+      replied_unworn = grind (arith, common_steps)
 
       pub accepted_step : (later : History) → later ≡ a.log.items ++ write ∷ [] → IsLoggedStep (logged_of a) write outcome (record { options = a.options; history = later })
-      accepted_step later is = record {
-        options = refl;
-        history = is ∙ sym (ap (λ b. cond b (a.log.items ++ write ∷ []) a.log.items) done);
-        step = record {
-          allowed = allowed;
-          result = ap (state_of a.options) is ∙ state_snoc a.options a.log.items write
-              ∙ sym (ap (λ b. cond b (after a.options (state_of a.options a.log.items) write) (state_of a.options a.log.items)) done);
-        };
-      }
+      accepted_step later is = grind (arith, common_steps)
 
       -- its state once the write is in it, and once what is dead is dropped
       module _ (wrote dropped : Cache) (wrote_is : wrote ≡ cs.after_write a.options a.state write) (dropped_is : dropped ≡ cs.without_displaced a.options write.key (cs.without_passed a.options wrote)) where
         counted : record dropped { accepted = dropped.accepted + 1 } ≡ cs.after a.options a.state write
         unfolding cs.after
-        counted =
-            ap (λ (t : Cache). record t { accepted = t.accepted + 1 }) (dropped_is ∙ ap (λ (t : Cache). cs.without_displaced a.options write.key (cs.without_passed a.options t)) wrote_is)
-            ∙ ap (λ (n : ℕ). record (cs.without_displaced a.options write.key (cs.without_passed a.options (cs.after_write a.options a.state write))) { accepted = n + 1 })
-            (written_accepted a.options a.state write)
+        counted = grind (arith, common_steps)
 
         -- its notes once the key has one, once that says the key's fate, and once what is dead is dropped
         module _ (is : IsWrite write) (number : ℕ) (number_is : number ≡ wrote.accepted + 1) (added noted : Notes) (fate : Fate) (fates : Fates)
@@ -133,8 +111,7 @@ module _ (a : Inside) (m : IsMachine a) where
           count = number_is ∙ ap (λ n. n + 1) (wrote_count a.options a.state write wrote wrote_is ∙ sym (ap accepted_in m.state) ∙ accepted_is_length a.options a.log.items)
 
           written : fate ≡ fate_written (cs.reply_of write.op a.options write (has_record a.state write.key)) number (fate_in (notes_of a.fates) write.key)
-          written = fate_is ∙ ap (λ (o : Outcome). fate_written o number (fate_in added write.key)) replied_unworn
-              ∙ ap (fate_written (cs.reply_of write.op a.options write (has_record a.state write.key)) number) (same write.key)
+          written = grind (arith, common_steps, replied_unworn)
 
           noted_fates : (key : List ℕ) → fate_in noted key ≡ cond (bytes_eq write.key key) fate (fate_in (notes_of a.fates) key)
           noted_fates key = ap (λ (n : Notes). fate_in n key) noted_is ∙ written_fates write.key fate added has key ∙ ap (cond (bytes_eq write.key key) fate) (same key)

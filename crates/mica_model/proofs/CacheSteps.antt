@@ -1,10 +1,11 @@
 -- The methods of the cache machine's state against the rules of its step.
-use Rattle.std.proofs.Common.{◌≡◌, ℕ, zero, suc, ◌+◌, ◌*◌, ◌≤◌, ◌<◌, List, [], ◌∷◌, ◌++◌, length, get_or, Option, Some, None, Bool, true, false, cond, refl, sym, ap, ◌∙◌, subst, arith, eqb, leb, slice_set, remove, is_some}
-use Rattle.std.specs.List.{find, position, count_by, AllByRecursion as AllOf}
+use Rattle.std.proofs.Common.{◌≡◌, ℕ, zero, suc, ◌+◌, ◌*◌, ◌≤◌, ◌<◌, List, [], ◌∷◌, ◌++◌, length, get_or, Option, Some, None, Bool, true, false, cond, refl, sym, ap, ◌∙◌, arith, eqb, leb, slice_set, is_some}
+use Rattle.std.specs.List.{position, count_by, AllByRecursion as AllOf}
 use Rattle.std.proofs.lemmas.List.Quantifiers.{position-Some}
 use Rattle.std.specs.Prelude.{map, option_map}
-use Rattle.std.proofs.lemmas.Bool.{eq-eqb, ne_eqb, le-leb, lt-leb, and_from, and_left, and_right}
+use Rattle.std.proofs.lemmas.Bool.{le-leb, lt-leb, and_from, and_left, and_right}
 use Rattle.std.proofs.lemmas.Option.{none-some}
+use Rattle.std.proofs.lemmas.Grind.{common_steps}
 use Rattle.mica_words.specs.declared.entry.TheConstants.{SLOTS}
 use Rattle.mica_words.specs.Hash.{bucket_of}
 use Rattle.mica_words.specs.Item.{item_size}
@@ -32,14 +33,8 @@ module _ (options : Options) (key : List ℕ) (records : List Record) where
   left = cond (eqb (count_by here records) (SLOTS + 1)) (without_first here records) records
 
   leaves_by : (at : Option ℕ) (d : Record) → displaced_at options key records ≡ at → without_at at records ≡ left
-  leaves_by None d is = elim (eqb (count_by here records) (SLOTS + 1)) as (λ b. cond b (position here records) None ≡ None → records ≡ cond b (without_first here records) records) [
-    | true ↦ λ e. sym (kept_all here records e)
-    | false ↦ λ e. refl
-  ] is
-  leaves_by (Some at) d is = elim (eqb (count_by here records) (SLOTS + 1)) as (λ b. cond b (position here records) None ≡ Some at → remove records at ≡ cond b (without_first here records) records) [
-    | true ↦ λ e. sym (removed_at here records at d e)
-    | false ↦ λ e. absurd (none-some at e)
-  ] is
+  leaves_by None d is = grind (arith, common_steps, kept_all here records)
+  leaves_by (Some at) d is = grind (arith, common_steps, removed_at here records at d, none-some at)
 
   pub displaced_goes : without_at (displaced_at options key records) records
       ≡ cond (eqb (count_by (is_in_bucket options (bucket_of key options.buckets)) records) (SLOTS + 1)) (without_first (is_in_bucket options (bucket_of key options.buckets)) records) records
@@ -47,26 +42,16 @@ module _ (options : Options) (key : List ℕ) (records : List Record) where
 
   module _ (bucket : ℕ) (is : bucket ≡ bucket_of key options.buckets) where
     pub displaced_full : count_by (is_in_bucket options bucket) records ≡ SLOTS + 1 → position (is_in_bucket options bucket) records ≡ displaced_at options key records
-    displaced_full full =
-        let P : ℕ → Type 0 = λ b. count_by (is_in_bucket options b) records ≡ SLOTS + 1 in
-        ap (λ b. position (is_in_bucket options b) records) is ∙ sym (ap (λ t. cond t (position here records) None) (eq-eqb (count_by here records) (SLOTS + 1) (subst P is full)))
+    displaced_full full = grind (arith, common_steps)
 
     pub displaced_not_full : (count_by (is_in_bucket options bucket) records ≡ SLOTS + 1 → ⊥) → None ≡ displaced_at options key records
-    displaced_not_full other =
-        let P : ℕ → Type 0 = λ b. count_by (is_in_bucket options b) records ≡ SLOTS + 1 → ⊥ in
-        sym (ap (λ t. cond t (position here records) None) (ne_eqb (count_by here records) (SLOTS + 1) (subst P is other)))
+    displaced_not_full other = grind (arith, common_steps)
 
   pub displaced_found : (at : ℕ) → displaced_at options key records ≡ Some at → (held : Record) → held ≡ get_or records at held → displaced_record options key records ≡ Some held
-  displaced_found at is held read = elim (eqb (count_by here records) (SLOTS + 1)) as (λ b. cond b (position here records) None ≡ Some at → cond b (find here records) None ≡ Some held) [
-    | true ↦ λ e. found_at here records at e held ∙ ap Some (sym read)
-    | false ↦ λ e. absurd (none-some at e)
-  ] is
+  displaced_found at is held read = grind (arith, common_steps, found_at here records at, none-some at)
 
   pub displaced_missed : displaced_at options key records ≡ None → displaced_record options key records ≡ None
-  displaced_missed is = elim (eqb (count_by here records) (SLOTS + 1)) as (λ b. cond b (position here records) None ≡ None → cond b (find here records) None ≡ None) [
-    | true ↦ λ e. missed_all here records e
-    | false ↦ λ e. refl
-  ] is
+  displaced_missed is = grind (arith, common_steps, missed_all here records)
 
 -- whether a put may be kept in a record's room
 
@@ -98,20 +83,14 @@ module _ (options : Options) (s : Cache) (write : Write) where
 -- a put that appends
 pub appended_is : (s : Cache) (write : Write) (records : List Record) (new : Record) (size : ℕ) → records ≡ cs.others write.key s.records ++ new ∷ [] → new ≡ cs.new_record s write.key write.value → size ≡ size_of write
     → record s { records = records; stamp = s.stamp + 65536 * size } ≡ cs.after_append s (cs.new_record s write.key write.value)
-appended_is s write records new size is new_is size_is =
-    ap (λ (rs : List Record). record s { records = rs; stamp = s.stamp + 65536 * size }) (is ∙ ap (λ r. cs.others write.key s.records ++ r ∷ []) new_is)
-    ∙ ap (λ (n : ℕ). record s { records = cs.others write.key s.records ++ cs.new_record s write.key write.value ∷ []; stamp = s.stamp + 65536 * n }) size_is
+appended_is s write records new size is new_is size_is = grind (arith, common_steps)
 
 -- a touch, by the key's record
 
 pub touched_is : (s : Cache) (write : Write) (records : List Record) (held new : Record) (size : ℕ) → record_of s write.key ≡ Some held → records ≡ cs.others write.key s.records ++ new ∷ []
     → new ≡ record held { offset = tail_of s.stamp; room = size } → size ≡ item_size write.key held.value
     → record s { records = records; stamp = s.stamp + 65536 * size } ≡ cs.after_touch (record_of s write.key) s write
-touched_is s write records held new size found is new_is size_is =
-    let added : new ≡ cs.new_record s write.key held.value = new_is ∙ λ i. record { key = found_key write.key s.records held found i; value = held.value; offset = tail_of s.stamp; room = size_is i } in
-    ap (λ (rs : List Record). record s { records = rs; stamp = s.stamp + 65536 * size }) (is ∙ ap (λ r. cs.others write.key s.records ++ r ∷ []) added)
-    ∙ ap (λ (n : ℕ). record s { records = cs.others write.key s.records ++ cs.new_record s write.key held.value ∷ []; stamp = s.stamp + 65536 * n }) size_is
-    ∙ sym (ap (λ o. cs.after_touch o s write) found)
+touched_is s write records held new size found is new_is size_is = grind (arith, common_steps, found_key write.key s.records held found)
 
 pub untouched_is : (s : Cache) (write : Write) → position (has_key write.key) s.records ≡ None → record s { stamp = s.stamp + 1 } ≡ cs.after_touch (record_of s write.key) s write
 untouched_is s write none = sym (ap (λ o. cs.after_touch o s write) (missed_all (has_key write.key) s.records none))
@@ -137,8 +116,7 @@ set_first : (write : Write) (rs : List Record) (at : ℕ) (held : Record) → Is
     → slice_set rs at (record (get_or rs at held) { value = write.value }) ≡ map (rewritten write) rs
 set_first write [] at held unique within here before = absurd (omega arith)
 set_first write (r ∷ rs) zero held unique within here before =
-    let none : find (has_key write.key) rs ≡ None = ap (λ k. find (has_key k) rs) (sym (key_is write.key r here)) ∙ unique.0 in
-    ap (λ b. cond b (record r { value = write.value }) r ∷ rs) (sym here) ∙ ap (λ zs. rewritten write r ∷ zs) (sym (none_rewritten write rs (missed_each (has_key write.key) rs none)))
+    grind (arith, common_steps, key_is write.key r here, rewritten write r, none_rewritten write rs, missed_each (has_key write.key) rs)
 set_first write (r ∷ rs) (suc at) held unique within here before =
     ap (λ zs. r ∷ zs) (set_first write rs at held unique.1 (omega arith) here (λ k less. before (suc k) (omega arith)))
     ∙ ap (λ b. cond b (record r { value = write.value }) r ∷ map (rewritten write) rs) (sym (before 0 (omega arith)))
@@ -148,20 +126,12 @@ module _ (options : Options) (s : Cache) (write : Write) (unique : IsUnique s.re
       → record s { records = slice_set s.records at (record held { value = write.value }); stamp = s.stamp + 1 } ≡ cs.after_put (kept_record options s write) s write
   rewritten_is at is held read =
       let first = position-Some (has_key write.key) s.records at held (place_kept options s write (kept_record options s write) at is) in
-      ap (λ (r : Record). record s { records = slice_set s.records at (record r { value = write.value }); stamp = s.stamp + 1 }) read
-      ∙ ap (λ (rs : List Record). record s { records = rs; stamp = s.stamp + 1 }) (set_first write s.records at held unique first.0 first.1 first.2)
-      ∙ sym (put_kept options s write (kept_record options s write) at is)
+      grind (arith, common_steps, set_first write s.records at held unique first.0 first.1 first.2, put_kept options s write (kept_record options s write) at is)
 
 -- a put that is not kept appends
 appends_by : (options : Options) (s : Cache) (write : Write) (o : Option Record) → record_of s write.key ≡ o → place_if options s write (kept_if options s write o) ≡ None → kept_if options s write o ≡ None
 appends_by options s write None at is = refl
-appends_by options s write (Some held) at is =
-    elim (may_keep options s write held) as (λ b. place_if options s write (cond b (Some held) None) ≡ None → cond b (Some held) None ≡ None) [
-      | true ↦ λ none.
-          let missing : record_of s write.key ≡ None = missed_all (has_key write.key) s.records none in
-          cc
-      | false ↦ λ none. refl
-    ] is
+appends_by options s write (Some held) at is = grind (arith, common_steps, missed_all (has_key write.key) s.records)
 
 pub appends : (options : Options) (s : Cache) (write : Write) → kept_place options s write ≡ None → cs.after_append s (cs.new_record s write.key write.value) ≡ cs.after_put (kept_record options s write) s write
 appends options s write is = sym (ap (λ o. cs.after_put o s write) (appends_by options s write (record_of s write.key) refl is))

@@ -1,8 +1,8 @@
 -- The entries of a tree, read as a finite map of cells.
-use Rattle.std.proofs.Common.{◌≡◌, ℕ, List, [], ◌∷◌, length, Option, Some, None, refl, sym, ap, ◌∙◌, subst, cond, Ordering, Bool, true, false, T, ◌&&◌}
+use Rattle.std.proofs.Common.{◌≡◌, ℕ, List, [], ◌∷◌, length, Option, Some, None, refl, sym, ap, ◌∙◌, subst, cond, Ordering, Bool, true, false, T, ◌&&◌, arith}
 use Rattle.std.specs.Prelude.{not}
 use Rattle.std.specs.Option.{option_map}
-use Rattle.std.specs.Ordering.{is_eq, is_lt, eq_by_cmp, match_ordering}
+use Rattle.std.specs.Ordering.{is_eq, is_lt, eq_by_cmp}
 use Rattle.std.specs.declared.cmp.Ordering.TheVariants.{Less, Equal, Greater}
 use Rattle.std.specs.Cmp.{eq_by_cmp_equiv}
 use Rattle.std.specs.Cmp.Lexicographic.{nat_list_cmp_total}
@@ -12,9 +12,10 @@ use Rattle.std.specs.List.{AllByRecursion}
 use Rattle.std.specs.List.Sorted.{IsStrictlySortedBy}
 use Rattle.std.specs.Map.{lookup, remove_entry, keys_of}
 use Rattle.std.specs.FinMap.{find, put, is_sorted, get, len, insert, remove, entries, from_sorted, same_entries_map, entries-from_sorted, entries-insert, get-from_sorted, get-remove, same_map, len-entries}
-use Rattle.std.specs.FinMap.Entries.{below_all, where_key, is_sorted-put, is_sorted-where_key, find-where_key, by_order}
+use Rattle.std.specs.FinMap.Entries.{below_all, where_key, is_sorted-put, is_sorted-where_key, find-where_key}
 use Rattle.std.proofs.lemmas.List.{length-map}
 use Rattle.std.proofs.lemmas.Map.Keys.{sorted_head, sorted_tail}
+use Rattle.std.proofs.lemmas.Grind.{common_steps}
 use Rattle.mica_model.specs.declared.cell.Cell.{Cell as CellInCode}
 use Rattle.partition_model.specs.Store.{Cell}
 use Rattle.partition_model.proofs.CellSums.{by_bytes, exact}
@@ -64,14 +65,7 @@ find_entry key (e ∷ es) = some_cell (has_bytes key e.0) e.1 (lookup (has_bytes
 -- a put
 pub put_entry : (key : Vec ℕ) (c : CellInCode) (es : List (Vec ℕ × CellInCode)) → entries_of (insert_entry by_items es key c) ≡ put by_bytes key.items (cell_of c) (entries_of es)
 put_entry key c [] = refl
-put_entry key c (e ∷ es) =
-    let rest = insert_entry by_items es key c in
-    elim (by_items key e.0) as (λ o. entries_of (match_ordering o ((key, c) ∷ e ∷ es) ((e.0, c) ∷ es) (e ∷ rest))
-    ≡ by_order o ((key.items, cell_of c) ∷ entries_of (e ∷ es)) ((e.0.items, cell_of c) ∷ entries_of es) ((e.0.items, cell_of e.1) ∷ put by_bytes key.items (cell_of c) (entries_of es))) [
-      | Less ↦ refl
-      | Equal ↦ refl
-      | Greater ↦ ap (λ fs. (e.0.items, cell_of e.1) ∷ fs) (put_entry key c es)
-    ]
+put_entry key c (e ∷ es) = grind (arith, common_steps, put_entry key c es)
 
 -- a removal
 turned : (b : Bool) (x y : Option Cell) → cond (not b) x y ≡ cond b y x
@@ -92,15 +86,7 @@ all_kept key (e ∷ es) below =
 pub removed_entry : (key : List ℕ) (es : List (Vec ℕ × CellInCode)) → T (is_sorted by_bytes (entries_of es))
     → entries_of (remove_entry (has_bytes key) es) ≡ where_key by_bytes (λ k. not (eq_by_cmp by_bytes key k)) (entries_of es)
 removed_entry key [] sorted = refl
-removed_entry key (e ∷ es) sorted =
-    let others = where_key by_bytes (λ k. not (eq_by_cmp by_bytes key k)) (entries_of es) in
-    let rest = ap (λ fs. (e.0.items, cell_of e.1) ∷ fs) (removed_entry key es (right _ _ sorted)) in
-    elim (by_bytes key e.0.items) as (λ o. by_bytes key e.0.items ≡ o
-    → entries_of (cond (is_eq o) es (e ∷ remove_entry (has_bytes key) es)) ≡ cond (not (is_eq o)) ((e.0.items, cell_of e.1) ∷ others) others) [
-      | Less ↦ λ _. rest
-      | Equal ↦ λ same. sym (all_kept key (entries_of es) (subst (λ k. T (below_all by_bytes k (entries_of es))) (sym (exact key e.0.items same)) (left _ _ sorted)))
-      | Greater ↦ λ _. rest
-    ] refl
+removed_entry key (e ∷ es) sorted = grind (arith, common_steps, removed_entry key es, right, all_kept key (entries_of es), exact key e.0.items, left)
 
 module _ (es : List (Vec ℕ × CellInCode)) (sorted : T (is_sorted by_bytes (entries_of es))) where
   pub entries_are : entries (from_sorted {R = by_bytes} (entries_of es)) ≡ entries_of es

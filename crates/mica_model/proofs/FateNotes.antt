@@ -1,9 +1,6 @@
 -- The notes of a table of fates, before and after a key has another, by its entries.
-use Rattle.std.proofs.Common.{◌≡◌, ◌≢◌, ℕ, List, [], ◌∷◌, Option, Some, None, refl, sym, ap, ◌∙◌, subst, cond, true, false, is_some}
-use Rattle.std.specs.Prelude.{unwrap_or}
+use Rattle.std.proofs.Common.{◌≡◌, ◌≢◌, ℕ, List, [], ◌∷◌, Option, Some, None, refl, sym, ap, ◌∙◌, cond, true, false, is_some, arith}
 use Rattle.std.specs.Option.{option_map}
-use Rattle.std.specs.Ordering.{is_eq, match_ordering}
-use Rattle.std.specs.declared.cmp.Ordering.TheVariants.{Less, Equal, Greater}
 use Rattle.std.specs.Cmp.{eq_by_cmp_equiv}
 use Rattle.std.specs.Cmp.Lexicographic.{nat_list_cmp_total}
 use Rattle.std.specs.Str.{bytes_eq}
@@ -12,6 +9,7 @@ use Rattle.std.specs.BTreeMap.{insert_entry}
 use Rattle.std.specs.Map.{lookup, set_value}
 use Rattle.std.proofs.lemmas.Bool.{true≢false, false_from_ne_true}
 use Rattle.std.proofs.lemmas.Slice.Eq.{bytes_eq-Decides}
+use Rattle.std.proofs.lemmas.Grind.{common_steps}
 use Rattle.partition_model.specs.declared.fate.Fate.{Fate}
 use Rattle.partition_model.specs.declared.fate.Fate.TheVariants.{Never}
 use Rattle.mica_model.specs.CacheFields.{Notes, fate_in, marked}
@@ -30,39 +28,22 @@ its_own key = (eq_by_cmp_equiv nat_list_cmp_total).refl key.items
 
 -- a fact of a key's own note, and of the others, is one of each note
 by_key : (key : List ℕ) (P : List ℕ → Type 0) → P key → ((k : List ℕ) → key ≢ k → P k) → (k : List ℕ) → P k
-by_key key P own others k =
-    elim (bytes_eq key k) as (λ b. bytes_eq key k ≡ b → P k) [
-      | true ↦ λ same. subst P ((bytes_eq-Decides key k).0 same) own
-      | false ↦ λ differ. others k (λ same. true≢false (sym ((bytes_eq-Decides key k).1 same) ∙ differ))
-    ] refl
+by_key key P own others k = grind (arith, common_steps, bytes_eq-Decides key k, true≢false)
 
 module _ (key : List ℕ) (fate : Fate) where
   set_own : (es : List (Vec ℕ × Fate)) → lookup (has_bytes key) (set_value (has_bytes key) es fate) ≡ option_map (λ _. fate) (lookup (has_bytes key) es)
   set_own [] = refl
-  set_own (e ∷ es) =
-      elim (has_bytes key e.0) as (λ b. has_bytes key e.0 ≡ b
-      → lookup (has_bytes key) (cond b ((e.0, fate) ∷ es) (e ∷ set_value (has_bytes key) es fate)) ≡ option_map (λ _. fate) (cond b (Some e.1) (lookup (has_bytes key) es))) [
-        | true ↦ λ is. ap (λ b. cond b (Some fate) (lookup (has_bytes key) es)) is
-        | false ↦ λ is. ap (λ b. cond b (Some e.1) (lookup (has_bytes key) (set_value (has_bytes key) es fate))) is ∙ set_own es
-      ] refl
+  set_own (e ∷ es) = grind (arith, common_steps, set_own es)
 
   set_other : (k : List ℕ) → key ≢ k → (es : List (Vec ℕ × Fate)) → lookup (has_bytes k) (set_value (has_bytes key) es fate) ≡ lookup (has_bytes k) es
   set_other k other [] = refl
-  set_other k other (e ∷ es) =
-      elim (has_bytes key e.0) as (λ b. has_bytes key e.0 ≡ b
-      → lookup (has_bytes k) (cond b ((e.0, fate) ∷ es) (e ∷ set_value (has_bytes key) es fate)) ≡ cond (has_bytes k e.0) (Some e.1) (lookup (has_bytes k) es)) [
-        | true ↦ λ is.
-            let no = no_other key k e.0 other is in
-            ap (λ b. cond b (Some fate) (lookup (has_bytes k) es)) no ∙ sym (ap (λ b. cond b (Some e.1) (lookup (has_bytes k) es)) no)
-        | false ↦ λ is. ap (cond (has_bytes k e.0) (Some e.1)) (set_other k other es)
-      ] refl
+  set_other k other (e ∷ es) = grind (arith, common_steps, no_other key k e.0 other, set_other k other es)
 
   marked_own : (notes : Notes) → marked key fate notes key ≡ option_map (λ _. fate) (notes key)
   marked_own notes = ap (λ b. cond b (option_map (λ _. fate) (notes key)) (notes key)) ((bytes_eq-Decides key key).1 refl)
 
   marked_another : (notes : Notes) (k : List ℕ) → key ≢ k → marked key fate notes k ≡ notes k
-  marked_another notes k other =
-      ap (λ b. cond b (option_map (λ _. fate) (notes k)) (notes k)) (false_from_ne_true (bytes_eq key k) (λ same. other ((bytes_eq-Decides key k).0 same)))
+  marked_another notes k other = grind (arith, common_steps, false_from_ne_true (bytes_eq key k), bytes_eq-Decides key k)
 
   -- what is written through what the key's look-up lends
   pub set_marks : (es : List (Vec ℕ × Fate)) (k : List ℕ) → notes_in (set_value (has_bytes key) es fate) k ≡ marked key fate (notes_in es) k
@@ -71,35 +52,15 @@ module _ (key : List ℕ) (fate : Fate) where
       (set_own es ∙ sym (marked_own (notes_in es)))
       (λ k other. set_other k other es ∙ sym (marked_another (notes_in es) k other))
 
-  -- where the key has no note
-  pub none_marks : (notes : Notes) → notes key ≡ None → (k : List ℕ) → notes k ≡ marked key fate notes k
-  none_marks notes none =
-      by_key key (λ k. notes k ≡ marked key fate notes k)
-      (none ∙ sym (marked_own notes ∙ ap (option_map (λ _. fate)) none))
-      (λ k other. sym (marked_another notes k other))
-
 module _ (key : Vec ℕ) (fate : Fate) where
   pub insert_own : (es : List (Vec ℕ × Fate)) → notes_in (insert_entry by_items es key fate) key.items ≡ Some fate
   insert_own [] = ap (λ b. cond b (Some fate) None) (its_own key)
-  insert_own (e ∷ es) =
-      elim (by_items key e.0) as (λ o. by_items key e.0 ≡ o
-      → lookup (has_bytes key.items) (match_ordering o ((key, fate) ∷ e ∷ es) ((e.0, fate) ∷ es) (e ∷ insert_entry by_items es key fate)) ≡ Some fate) [
-        | Less ↦ λ is. ap (λ b. cond b (Some fate) (lookup (has_bytes key.items) (e ∷ es))) (its_own key)
-        | Equal ↦ λ is. ap (λ o. cond (is_eq o) (Some fate) (lookup (has_bytes key.items) es)) is
-        | Greater ↦ λ is. ap (λ o. cond (is_eq o) (Some e.1) (lookup (has_bytes key.items) (insert_entry by_items es key fate))) is ∙ insert_own es
-      ] refl
+  insert_own (e ∷ es) = grind (arith, common_steps, its_own key, insert_own es)
 
   insert_other : (k : List ℕ) → key.items ≢ k → (es : List (Vec ℕ × Fate)) → notes_in (insert_entry by_items es key fate) k ≡ notes_in es k
   insert_other k other [] = ap (λ b. cond b (Some fate) None) (no_other key.items k key other (its_own key))
   insert_other k other (e ∷ es) =
-      elim (by_items key e.0) as (λ o. by_items key e.0 ≡ o
-      → lookup (has_bytes k) (match_ordering o ((key, fate) ∷ e ∷ es) ((e.0, fate) ∷ es) (e ∷ insert_entry by_items es key fate)) ≡ cond (has_bytes k e.0) (Some e.1) (lookup (has_bytes k) es)) [
-        | Less ↦ λ is. ap (λ b. cond b (Some fate) (lookup (has_bytes k) (e ∷ es))) (no_other key.items k key other (its_own key))
-        | Equal ↦ λ is.
-            let no = no_other key.items k e.0 other (ap is_eq is) in
-            ap (λ b. cond b (Some fate) (lookup (has_bytes k) es)) no ∙ sym (ap (λ b. cond b (Some e.1) (lookup (has_bytes k) es)) no)
-        | Greater ↦ λ is. ap (cond (has_bytes k e.0) (Some e.1)) (insert_other k other es)
-      ] refl
+      grind (arith, common_steps, no_other key.items k key other (its_own key), its_own key, no_other key.items k e.0 other, insert_other k other es)
 
 no_note : (o : Option Fate) → is_some o ≡ false → o ≡ None
 no_note None is = refl
@@ -107,8 +68,4 @@ no_note (Some fate) is = cc
 
 -- a note that says what its want says
 pub added_fates : (key : Vec ℕ) (es : List (Vec ℕ × Fate)) → is_some (notes_in es key.items) ≡ false → (k : List ℕ) → fate_in (notes_in (insert_entry by_items es key Never)) k ≡ fate_in (notes_in es) k
-added_fates key es missing =
-    let none = no_note (notes_in es key.items) missing in
-    by_key key.items (λ k. fate_in (notes_in (insert_entry by_items es key Never)) k ≡ fate_in (notes_in es) k)
-    (ap (λ o. unwrap_or o Never) (insert_own key Never es) ∙ sym (ap (λ o. unwrap_or o Never) none))
-    (λ k other. ap (λ o. unwrap_or o Never) (insert_other key Never k other es))
+added_fates key es missing = grind (arith, common_steps, no_note (notes_in es key.items) missing, by_key key.items, insert_own key Never es, insert_other key Never)

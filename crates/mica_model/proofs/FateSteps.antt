@@ -1,8 +1,9 @@
 -- The fates that the machine keeps, after a step.
-use Rattle.std.proofs.Common.{◌≡◌, ℕ, List, Option, Some, None, Bool, true, false, cond, not, ◌&&◌, refl, sym, ap, ◌∙◌, subst, is_some, ◌≢◌, leb}
+use Rattle.std.proofs.Common.{◌≡◌, ℕ, List, Option, Some, None, Bool, true, false, cond, not, ◌&&◌, refl, sym, ap, ◌∙◌, subst, is_some, leb, arith}
 use Rattle.std.specs.Str.{bytes_eq}
 use Rattle.std.proofs.lemmas.Bool.{true≢false}
 use Rattle.std.proofs.lemmas.Slice.Eq.{bytes_eq-Decides}
+use Rattle.std.proofs.lemmas.Grind.{common_steps}
 use Rattle.partition_model.specs.declared.options.Options.{Options}
 use Rattle.partition_model.specs.declared.write.Write.{Write}
 use Rattle.partition_model.specs.declared.write.Op.{Op}
@@ -87,25 +88,10 @@ module _ (options : Options) (valid : IsValid options) (s : Cache) (kept : IsKep
   -- of each key, after the write itself
 
   wrote_held : (key : List ℕ) → has_record (cs.after_write options s write) key ≡ true → fate_in noted key ≡ Held
-  wrote_held key here = notes key ∙ elim (bytes_eq write.key key) as (λ b. bytes_eq write.key key ≡ b → cond b fate (fate_in log key) ≡ Held) [
-    | true ↦ λ same.
-        let own : write.key ≡ key = (bytes_eq-Decides write.key key).0 same in
-        fate_is ∙ own_held write.op refl done (ap (has_record (cs.after_write options s write)) own ∙ here)
-    | false ↦ λ other.
-        let differ : key ≢ write.key = λ e. true≢false (sym ((bytes_eq-Decides write.key key).1 (sym e)) ∙ other) in
-        right key (ap is_some (sym (written_same options s write key differ)) ∙ here)
-  ] refl
+  wrote_held key here = grind (arith, common_steps, bytes_eq-Decides write.key key, own_held write.op refl done, true≢false, written_same options s write key)
 
   wrote_gone : (key : List ℕ) → has_record (cs.after_write options s write) key ≡ false → fate_in noted key ≡ cond (has_record s key) (Deleted n) (fate_in log key)
-  wrote_gone key gone = notes key ∙ elim (bytes_eq write.key key) as (λ b. bytes_eq write.key key ≡ b → cond b fate (fate_in log key) ≡ cond (has_record s key) (Deleted n) (fate_in log key)) [
-    | true ↦ λ same.
-        let own : write.key ≡ key = (bytes_eq-Decides write.key key).0 same in
-        fate_is ∙ own_gone write.op refl (ap (has_record (cs.after_write options s write)) own ∙ gone)
-        ∙ ap (λ k. cond (has_record s k) (Deleted n) (fate_in log k)) own
-    | false ↦ λ other.
-        let differ : key ≢ write.key = λ e. true≢false (sym ((bytes_eq-Decides write.key key).1 (sym e)) ∙ other) in
-        sym (ap (λ b. cond b (Deleted n) (fate_in log key)) (ap is_some (sym (written_same options s write key differ)) ∙ gone))
-  ] refl
+  wrote_gone key gone = grind (arith, common_steps, bytes_eq-Decides write.key key, own_gone write.op refl, true≢false, written_same options s write key)
 
   -- of each key, after the step
 

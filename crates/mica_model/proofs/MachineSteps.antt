@@ -1,8 +1,9 @@
 -- Accepted writes, by the fields of the machine.
-use Rattle.std.proofs.Common.{◌≡◌, ℕ, List, ◌+◌, ◌<◌, ◌≤◌, ◌⊎◌, ⊎_elim, inl, inr, None, refl, sym, ap, ◌∙◌, subst, arith}
+use Rattle.std.proofs.Common.{◌≡◌, ℕ, List, ◌+◌, ◌<◌, ◌≤◌, ◌⊎◌, ⊎_elim, None, refl, sym, ap, ◌∙◌, subst, arith}
 use Rattle.std.proofs.Math.Nat.{mod-lt, one-le-pow}
 use Rattle.std.specs.Prelude.{max}
 use Rattle.std.specs.FinMap.{get, insert, remove}
+use Rattle.std.proofs.lemmas.Grind.{common_steps}
 use Rattle.mica_words.specs.Hash.{fnv1a, bucket_of}
 use Rattle.mica_words.specs.Item.{item_size}
 use Rattle.partition_model.specs.declared.options.Options.{Options}
@@ -31,10 +32,7 @@ store_of a = record { cells = a.table.cells; stamp = a.stamp; accepted = a.accep
 -- a partition that replies so is not worn
 pub is_alive : (options : Options) (s : Store) (write : Write) (outcome : Outcome) → (outcome ≡ Absent) ⊎ (outcome ≡ Touched) → Allows options s write outcome
     → ¬ (options.wear ≤ s.accepted)
-is_alive options s write outcome which allowed = ⊎_elim
-    (λ is. subst (λ o. Allows options s write o → ¬ (options.wear ≤ s.accepted)) (sym is) (λ absent. absent.0) allowed)
-    (λ is. subst (λ o. Allows options s write o → ¬ (options.wear ≤ s.accepted)) (sym is) (λ touched. touched.0) allowed)
-    which
+is_alive options s write outcome which allowed = grind (arith, common_steps)
 
 bucket_within : (key : List ℕ) (buckets : ℕ) → 0 < buckets → bucket_of key buckets < buckets
 unfolding bucket_of
@@ -61,11 +59,7 @@ module _ (a : Inside) (m : IsMachine a) (op : Op) (key value : List ℕ) where
         }
 
     pub put_steps : IsStep a.options (store_state (store_of a)) (write_of op key value) Stored (store_state (store_of (accepting a table)))
-    put_steps = record {
-      allowed = allowed;
-      result = ap (λ (t : Table). store_state (record { cells = t.cells; stamp = a.stamp + 1; accepted = a.accepted + 1 })) new
-          ∙ ap store_state (sym (put_state a.options (store_of a) op key value room takes op allowed.1.0.0));
-    }
+    put_steps = grind (arith, common_steps, put_state a.options (store_of a) op key value room takes op allowed.1.0.0)
 
   module _ (allowed : Allows a.options (store_of a) (write_of op key value) Deleted) (table : Table) (new : table ≡ with_cells a.table (remove a.table.cells key)) where
     pub delete_keeps : IsMachine (accepting a table)
@@ -88,37 +82,19 @@ module _ (a : Inside) (m : IsMachine a) (op : Op) (key value : List ℕ) where
     delete_state = refl
 
     pub delete_steps : IsStep a.options (store_state (store_of a)) (write_of op key value) Deleted (store_state (store_of (accepting a table)))
-    delete_steps = record {
-      allowed = allowed;
-      result = ap (λ (t : Table). store_state (record { cells = t.cells; stamp = a.stamp + 1; accepted = a.accepted + 1 })) new
-          ∙ ap store_state (sym delete_state)
-          ∙ ap (λ o. store_state (after (store_of a) (write_of o key value))) (sym allowed.1.0);
-    }
+    delete_steps = grind (arith, common_steps, delete_state)
 
   -- a write that changes no key: a touch, or a delete of a key that is not there
   pub stay_keeps : ¬ (a.options.wear ≤ a.accepted) → IsMachine (accepting a a.table)
-  stay_keeps alive = record {
-    valid = m.valid;
-    buckets = m.buckets;
-    words = m.words;
-    spares = m.spares;
-    stamp = ap (λ n. n + 1) m.stamp;
-    accepted = omega arith;
-  }
+  stay_keeps alive = grind (arith, common_steps)
 
   stay_state : (op_ : Op) → (op_ ≡ Touch) ⊎ (¬ (GivesValue op_) × (get a.table.cells key ≡ None)) → after (store_of a) (write_of op_ key value) ≡ store_of (accepting a a.table)
   unfolding after
   stay_state Put which = ⊎_elim (λ is. cc) (λ none. absurd (none.0 tt)) which
   stay_state Add which = ⊎_elim (λ is. cc) (λ none. absurd (none.0 tt)) which
-  stay_state Del which =
-      ⊎_elim (λ is. cc) (λ none. ap (λ cells. record { cells = cells; stamp = a.stamp + 1; accepted = a.accepted + 1 }) (sym (remove_none a.table.cells key none.1))) which
+  stay_state Del which = grind (arith, common_steps, ⊎_elim, remove_none)
   stay_state Touch which = refl
 
   pub stay_steps : (outcome : Outcome) → (outcome ≡ Absent) ⊎ (outcome ≡ Touched) → Allows a.options (store_of a) (write_of op key value) outcome
       → IsStep a.options (store_state (store_of a)) (write_of op key value) outcome (store_state (store_of (accepting a a.table)))
-  stay_steps outcome which allowed = ⊎_elim
-      (λ is. subst (λ o. Allows a.options (store_of a) (write_of op key value) o → IsStep a.options (store_state (store_of a)) (write_of op key value) o (store_state (store_of (accepting a a.table)))) (sym is)
-      (λ absent. record { allowed = absent; result = ap store_state (sym (stay_state op (inr absent.1))) }) allowed)
-      (λ is. subst (λ o. Allows a.options (store_of a) (write_of op key value) o → IsStep a.options (store_state (store_of a)) (write_of op key value) o (store_state (store_of (accepting a a.table)))) (sym is)
-      (λ touched. record { allowed = touched; result = ap store_state (sym (stay_state op (inl touched.1.0))) }) allowed)
-      which
+  stay_steps outcome which allowed = grind (arith, common_steps, ⊎_elim, stay_state op)

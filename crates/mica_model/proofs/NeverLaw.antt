@@ -1,15 +1,15 @@
 -- The fate `Never` comes exactly where no accepted write gave the key a value.
-use Rattle.std.proofs.Common.{◌≡◌, ℕ, ◌+◌, List, [], ◌∷◌, ◌++◌, ◌≤◌, Option, Some, None, Bool, true, false, refl, sym, ap, ◌∙◌, is_some, ◌≢◌, ◌↔◌}
+use Rattle.std.proofs.Common.{◌≡◌, ℕ, ◌+◌, List, [], ◌∷◌, ◌++◌, ◌≤◌, Option, Some, None, Bool, true, false, refl, sym, ap, ◌∙◌, is_some, ◌≢◌, ◌↔◌, arith}
 use Rattle.std.specs.List.{find, AllByRecursion as AllOf}
-use Rattle.std.specs.Str.{bytes_eq}
 use Rattle.std.proofs.lemmas.Bool.{true≢false}
 use Rattle.std.proofs.lemmas.Slice.Eq.{bytes_eq-Decides}
+use Rattle.std.proofs.lemmas.Grind.{common_steps}
 use Rattle.partition_model.specs.declared.options.Options.{Options}
 use Rattle.partition_model.specs.declared.write.Write.{Write}
 use Rattle.partition_model.specs.declared.write.Op.{Op}
 use Rattle.partition_model.specs.declared.write.Op.TheVariants.{Put, Add, Touch, Del}
 use Rattle.partition_model.specs.declared.fate.Fate.{Fate}
-use Rattle.partition_model.specs.declared.fate.Fate.TheVariants.{Never, Deleted, Displaced, Passed, Held}
+use Rattle.partition_model.specs.declared.fate.Fate.TheVariants.{Never, Held}
 use Rattle.partition_model.specs.Write.{GivesValue, IsWrite, size_of}
 use Rattle.partition_model.specs.Cache as cache
 use Rattle.partition_model.specs.Cache.{Record, Cache, has_key, record_of}
@@ -24,18 +24,9 @@ use Rattle.partition_model.proofs.FateLaws.{pick, live_wrote, left_live}
 
 -- a fate that is another stays another
 
-stays_by : (had wrote live left : Bool) (n : ℕ) (before : Fate) → before ≢ Never → pick had wrote live left n before ≢ Never
-stays_by had wrote live true n before other is = cc
-stays_by true false live false n before other is = cc
-stays_by had true false false n before other is = elim had as (λ b. pick b true false false n before ≡ Never → ⊥) [ true ↦ λ e. cc | false ↦ λ e. cc ] is
-stays_by had true true false n before other is = elim had as (λ b. pick b true true false n before ≡ Never → ⊥) [ true ↦ λ e. cc | false ↦ λ e. cc ] is
-stays_by false false true false n before other is = cc
-stays_by false false false false n before other is = other is
-
 module _ (options : Options) (key : List ℕ) where
   stays_after : (s : Cache) (write : Write) (n : ℕ) (before : Fate) → before ≢ Never → fate_after options s write n key before ≢ Never
-  stays_after s write n before other =
-      stays_by (has_record s key) (has_record (cs.after_write options s write) key) (has_record (cs.without_passed options (cs.after_write options s write)) key) (has_record (cs.after options s write) key) n before other
+  stays_after s write n before other = grind (arith, common_steps)
 
   stays : (s : Cache) (n : ℕ) (before : Fate) (history : History) → before ≢ Never → fate_from options s n key before history ≢ Never
   stays s n before [] other = other
@@ -43,13 +34,7 @@ module _ (options : Options) (key : List ℕ) where
       stays (cs.after options s write) (n + 1) (fate_after options s write n key before) history (stays_after s write n before other)
 
   was_never : (s : Cache) (n : ℕ) (before : Fate) (history : History) → fate_from options s n key before history ≡ Never → before ≡ Never
-  was_never s n before history is = elim before as (λ f. before ≡ f → f ≡ Never) [
-    | Never ↦ λ at. refl
-    | Deleted m ↦ λ at. absurd (stays s n before history (λ never. cc) is)
-    | Displaced m ↦ λ at. absurd (stays s n before history (λ never. cc) is)
-    | Passed m ↦ λ at. absurd (stays s n before history (λ never. cc) is)
-    | Held ↦ λ at. absurd (stays s n before history (λ never. cc) is)
-  ] refl
+  was_never s n before history is = grind (arith, common_steps, stays s n before history)
 
   -- a write that gives a value gives its key a record, so a fate that is another
 
@@ -85,10 +70,7 @@ module _ (options : Options) (key : List ℕ) where
   own_none Del s write other same none = ap (λ (k : List ℕ). is_some (find (has_key key) (cs.others k s.records))) same ∙ ap is_some (others_lack key s.records)
 
   still_none : (s : Cache) (write : Write) → GivesNoValue key write → has_record s key ≡ false → has_record (cs.after_write options s write) key ≡ false
-  still_none s write absent none = elim (bytes_eq write.key key) as (λ b. bytes_eq write.key key ≡ b → has_record (cs.after_write options s write) key ≡ false) [
-    | true ↦ λ same. let is : write.key ≡ key = (bytes_eq-Decides write.key key).0 same in own_none write.op s write (λ gives. absent gives is) is none
-    | false ↦ λ other. ap is_some (written_same options s write key (λ e. true≢false (sym ((bytes_eq-Decides write.key key).1 (sym e)) ∙ other))) ∙ none
-  ] refl
+  still_none s write absent none = grind (arith, common_steps, bytes_eq-Decides write.key key, own_none write.op s write, written_same options s write key, true≢false)
 
   never_by : (had wrote live left : Bool) (n : ℕ) → had ≡ false → wrote ≡ false → (left ≡ true → live ≡ true) → (live ≡ true → wrote ≡ true) → (pick had wrote live left n Never ≡ Never) × (left ≡ false)
   never_by false false false false n h w up up' = (refl, refl)

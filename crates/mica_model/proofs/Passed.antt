@@ -1,10 +1,9 @@
 -- The records that a log has passed stand in front, and what it is to drop and to mark them.
 use Rattle.std.proofs.Common.{◌≡◌, ℕ, suc, ◌+◌, ◌≤◌, ◌<◌, List, [], ◌∷◌, length, drop, take, Option, Some, None, Bool, true, false, cond, not, refl, sym, ap, ◌∙◌, arith, position}
 use Rattle.std.specs.Prelude.{IfSome}
-use Rattle.std.specs.List.{find, filter, AllByRecursion as AllOf}
+use Rattle.std.specs.List.{filter, AllByRecursion as AllOf}
 use Rattle.std.proofs.lemmas.List.Quantifiers.{position-Some}
-use Rattle.std.proofs.lemmas.Bool.{leb-true, le-leb}
-use Rattle.mica_words.specs.Stamp.{tail_of}
+use Rattle.std.proofs.lemmas.Grind.{common_steps}
 use Rattle.partition_model.specs.declared.fate.Fate.{Fate}
 use Rattle.partition_model.specs.Cache.{Record, has_key, is_live}
 use Rattle.partition_model.specs.CacheStep.{others, without_first}
@@ -34,10 +33,7 @@ module _ (words stamp : ℕ) where
 
   live_later : (r : Record) (rs : List Record) → live r ≡ true → AllOf (λ later. r.offset ≤ later.offset) rs → AllOf (λ later. live later ≡ true) rs
   live_later r [] is above = tt
-  live_later r (x ∷ rs) is above =
-      let least = leb-true (tail_of stamp) (r.offset + words) is in
-      let first = above.0 in
-      (le-leb (tail_of stamp) (x.offset + words) (omega arith), live_later r rs is above.1)
+  live_later r (x ∷ rs) is above = grind (arith, common_steps, live_later r rs is above.1)
 
   all_stay : (rs : List Record) → AllOf (λ r. live r ≡ true) rs → filter live rs ≡ rs
   all_stay [] all = refl
@@ -45,30 +41,19 @@ module _ (words stamp : ℕ) where
 
   none_marked : (fate : Fate) (rs : List Record) (notes : Notes) → AllOf (λ r. live r ≡ true) rs → marked_passed fate words stamp rs notes ≡ notes
   none_marked fate [] notes all = refl
-  none_marked fate (r ∷ rs) notes all =
-      ap (λ b. marked_passed fate words stamp rs (cond b notes (marked r.key fate notes))) all.0 ∙ none_marked fate rs notes all.1
+  none_marked fate (r ∷ rs) notes all = grind (arith, common_steps, none_marked fate rs notes all.1)
 
   -- what is live lies behind what is passed
 
   pub passed_dropped : (rs : List Record) → AreRising rs → filter (λ held. is_live words stamp held.offset) rs ≡ drop (passed_front words stamp rs) rs
   passed_dropped [] rising = refl
-  passed_dropped (r ∷ rs) rising =
-      elim (live r) as (λ b. live r ≡ b → cond b (r ∷ filter live rs) (filter live rs) ≡ drop (cond (not b) (1 + passed_front words stamp rs) 0) (r ∷ rs)) [
-        | true ↦ λ is. ap (λ l. r ∷ l) (all_stay rs (live_later r rs is rising.0))
-        | false ↦ λ is. passed_dropped rs rising.1 ∙ ap (λ n. drop n (r ∷ rs)) (sym (next (passed_front words stamp rs)))
-      ] refl
+  passed_dropped (r ∷ rs) rising = grind (arith, common_steps, all_stay rs, live_later r rs, passed_dropped rs rising.1, next (passed_front words stamp rs))
 
   pub passed_marked : (fate : Fate) (rs : List Record) (notes : Notes) → AreRising rs
       → marked_passed fate words stamp (take (passed_front words stamp rs) rs) notes ≡ marked_passed fate words stamp rs notes
   passed_marked fate [] notes rising = refl
   passed_marked fate (r ∷ rs) notes rising =
-      elim (live r) as (λ b. live r ≡ b → marked_passed fate words stamp (take (cond (not b) (1 + passed_front words stamp rs) 0) (r ∷ rs)) notes ≡ marked_passed fate words stamp rs (cond b notes (marked r.key fate notes))) [
-        | true ↦ λ is. sym (none_marked fate rs notes (live_later r rs is rising.0))
-        | false ↦ λ is.
-            ap (λ n. marked_passed fate words stamp (take n (r ∷ rs)) notes) (next (passed_front words stamp rs))
-            ∙ ap (λ b. marked_passed fate words stamp (take (passed_front words stamp rs) rs) (cond b notes (marked r.key fate notes))) is
-            ∙ passed_marked fate rs (marked r.key fate notes) rising.1
-      ] refl
+      grind (arith, common_steps, none_marked fate rs notes, live_later r rs, next (passed_front words stamp rs), passed_marked fate rs (marked r.key fate notes) rising.1)
 
 -- to drop the first record of a key is to drop each, where there is one
 
@@ -78,13 +63,7 @@ all_other key (r ∷ rs) all = ap (λ b. cond (not b) (r ∷ others key rs) (oth
 
 first_other : (key : List ℕ) (rs : List Record) → IsUnique rs → without_first (has_key key) rs ≡ others key rs
 first_other key [] unique = refl
-first_other key (r ∷ rs) unique =
-    elim (has_key key r) as (λ b. has_key key r ≡ b → cond b rs (r ∷ without_first (has_key key) rs) ≡ cond (not b) (r ∷ others key rs) (others key rs)) [
-      | true ↦ λ here.
-          let none : find (has_key key) rs ≡ None = ap (λ k. find (has_key k) rs) (sym (key_is key r here)) ∙ unique.0 in
-          sym (all_other key rs (missed_all (has_key key) rs none))
-      | false ↦ λ here. ap (λ l. r ∷ l) (first_other key rs unique.1)
-    ] refl
+first_other key (r ∷ rs) unique = grind (arith, common_steps, key_is key r, all_other key rs, missed_all (has_key key) rs, first_other key rs unique.1)
 
 other_by : (key : List ℕ) (rs : List Record) → IsUnique rs → (at : Option ℕ) → position (has_key key) rs ≡ at → without_at at rs ≡ others key rs
 other_by key rs unique None is = sym (kept_all (has_key key) rs is) ∙ first_other key rs unique

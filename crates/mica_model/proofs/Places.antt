@@ -1,12 +1,12 @@
 -- The place of the first that passes a test, and what is there.
-use Rattle.std.proofs.Common.{◌≡◌, ℕ, zero, suc, ◌≤◌, ◌<◌, List, [], ◌∷◌, length, get_or, Option, Some, None, Bool, true, false, cond, not, refl, sym, ap, ◌∙◌, arith, remove, ltb}
+use Rattle.std.proofs.Common.{◌≡◌, ℕ, zero, suc, ◌≤◌, ◌<◌, List, [], ◌∷◌, length, get_or, Option, Some, None, Bool, true, false, cond, refl, sym, ap, ◌∙◌, arith, remove, ltb}
 use Rattle.std.specs.List.{find, position, position_or_len, AllByRecursion as AllOf}
 use Rattle.std.specs.Prelude.{is_some}
-use Rattle.std.proofs.lemmas.Bool.{ltb-false}
 use Rattle.std.proofs.lemmas.List.Elements.{recursion_from_All}
 use Rattle.std.proofs.lemmas.List.Quantifiers.{position-Some}
 use Rattle.std.proofs.lemmas.List.Sums.{fails_before_first, prefix_len-le-length}
-use Rattle.std.proofs.lemmas.Option.{none-some, same_Some}
+use Rattle.std.proofs.lemmas.Option.{none-some}
+use Rattle.std.proofs.lemmas.Grind.{common_steps}
 use Rattle.partition_model.specs.Cache.{Record}
 use Rattle.partition_model.specs.CacheStep.{without_first}
 use Rattle.partition_model.proofs.Found.{missed}
@@ -22,34 +22,23 @@ module _ {X : Type 0} (p : X → Bool) where
   found_at xs i at d = let first = position-Some p xs i d at in found_first xs i d first.0 first.1 first.2
 
   no_place : (a b : ℕ) → cond (ltb a b) (Some a) None ≡ None → b ≤ a
-  no_place a b e = elim (ltb a b) as (λ t. ltb a b ≡ t → cond t (Some a) None ≡ None → b ≤ a) [
-    | true ↦ λ is none. absurd (none-some a (sym none))
-    | false ↦ λ is none. ltb-false a b is
-  ] refl e
+  no_place a b e = grind (arith, common_steps)
 
   pub fails_all : (xs : List X) → position p xs ≡ None → AllOf (λ x. p x ≡ false) xs
-  fails_all xs at =
-      let past = no_place (position_or_len p xs) (length xs) at in
-      recursion_from_All (λ x. p x ≡ false) xs (λ k d less. fails_before_first p xs k d (omega arith))
+  fails_all xs at = grind (arith, common_steps, no_place (position_or_len p xs) (length xs) at, recursion_from_All, fails_before_first p xs)
 
   pub missed_all : (xs : List X) → position p xs ≡ None → find p xs ≡ None
   missed_all xs at = missed p xs (fails_all xs at)
 
   -- the place is the length of the front that does not pass, which is all where there is none
   place_by : (a b : ℕ) (i : ℕ) → cond (ltb a b) (Some a) None ≡ Some i → i ≡ a
-  place_by a b i e = elim (ltb a b) as (λ t. cond t (Some a) None ≡ Some i → i ≡ a) [
-    | true ↦ λ some. sym (same_Some a i some)
-    | false ↦ λ some. absurd (none-some i some)
-  ] e
+  place_by a b i e = grind (arith, common_steps)
 
   pub front_of_place : (xs : List X) (i : ℕ) → position p xs ≡ Some i → i ≡ position_or_len p xs
   front_of_place xs i at = place_by (position_or_len p xs) (length xs) i at
 
   pub front_of_none : (xs : List X) → position p xs ≡ None → length xs ≡ position_or_len p xs
-  front_of_none xs at =
-      let past = no_place (position_or_len p xs) (length xs) at in
-      let within = prefix_len-le-length (λ x. not (p x)) xs in
-      omega arith
+  front_of_none xs at = grind (arith, common_steps, no_place (position_or_len p xs) (length xs) at, prefix_len-le-length)
 
   is_some_by : (xs : List X) (o : Option ℕ) → position p xs ≡ o → is_some o ≡ is_some (find p xs)
   is_some_by [] None at = refl

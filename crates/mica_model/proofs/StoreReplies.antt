@@ -1,5 +1,5 @@
 -- Which outcomes a write to the store may have, case by case.
-use Rattle.std.proofs.Common.{◌≡◌, ◌≢◌, ◌↔◌, ◌≤◌, List, ℕ, ⊎_elim, inl, Option, None, refl, sym, ap, ◌∙◌, subst, cond, is_some, le-leb}
+use Rattle.std.proofs.Common.{◌≡◌, ◌≢◌, ◌↔◌, ◌≤◌, List, ℕ, ⊎_elim, Option, None, refl, sym, ap, ◌∙◌, subst, cond, is_some, le-leb}
 use Rattle.std.specs.Prelude.{IsSome, IsSomeAnd}
 use Rattle.std.specs.FinMap.{get}
 use Rattle.std.proofs.lemmas.Bool.{false≢true}
@@ -14,7 +14,7 @@ use Rattle.partition_model.specs.Cache as cache
 use Rattle.partition_model.specs.CacheStep as cs
 use Rattle.partition_model.specs.Store.{Cell, Store}
 use Rattle.partition_model.specs.History.{State, cache_state, store_state, accepted_in, Allows as AllowsIn}
-use Rattle.partition_model.specs.StoreStep.{Allows, IsWorn, FitsRoom, NeedsSpare, NeedsBlock, Stores}
+use Rattle.partition_model.specs.StoreStep.{Allows, IsWorn, NeedsSpare, NeedsBlock, Stores}
 
 no_cell : (P : Cell → Type 0) (o : Option Cell) → o ≡ None → IsSomeAnd o P → ⊥
 no_cell P o none some = subst (λ p. IsSomeAnd p P) none some
@@ -59,60 +59,7 @@ no_add : (s : Store) (op : Op) (key value : List ℕ) → Stores s (write_of op 
 no_add s op key value stores is some = ⊎_elim (λ can. subst Replaces is can) (λ none. no_none (get s.cells key) none some) stores.1
 
 module _ (options : Options) (s : Store) (key value : List ℕ) (alive : ¬ (IsWorn options s)) where
-  -- a delete and a touch of a key that has a value, and either of one that has none
-  pub of_deleted : IsSome (get s.cells key) → (outcome : Outcome) → (outcome ≡ Deleted) ↔ Allows options s (write_of Del key value) outcome
-  of_deleted some Stored = (λ e. cc, λ a. absurd a.1.0.0)
-  of_deleted some Deleted = (λ e. (alive, (refl, some)), λ a. refl)
-  of_deleted some Absent = (λ e. cc, λ a. absurd (no_none _ a.1.1 some))
-  of_deleted some Touched = (λ e. cc, λ a. let no : Del ≡ Touch = a.1.0 in cc)
-  of_deleted some FullSpare = (λ e. cc, λ a. absurd a.1.0)
-  of_deleted some FullBlock = (λ e. cc, λ a. absurd a.1.0.stores.0)
-  of_deleted some Worn = (λ e. cc, λ a. absurd (alive a))
-  of_deleted some Exists = (λ e. cc, λ a. let no : Del ≡ Add = a.1.0 in cc)
-
-  pub of_touched : IsSome (get s.cells key) → (outcome : Outcome) → (outcome ≡ Touched) ↔ Allows options s (write_of Touch key value) outcome
-  of_touched some Stored = (λ e. cc, λ a. absurd a.1.0.0)
-  of_touched some Deleted = (λ e. cc, λ a. let no : Touch ≡ Del = a.1.0 in cc)
-  of_touched some Absent = (λ e. cc, λ a. absurd (no_none _ a.1.1 some))
-  of_touched some Touched = (λ e. (alive, (refl, some)), λ a. refl)
-  of_touched some FullSpare = (λ e. cc, λ a. absurd a.1.0)
-  of_touched some FullBlock = (λ e. cc, λ a. absurd a.1.0.stores.0)
-  of_touched some Worn = (λ e. cc, λ a. absurd (alive a))
-  of_touched some Exists = (λ e. cc, λ a. let no : Touch ≡ Add = a.1.0 in cc)
-
-  pub of_absent : (op : Op) → ¬ (GivesValue op) → get s.cells key ≡ None → (outcome : Outcome) → (outcome ≡ Absent) ↔ Allows options s (write_of op key value) outcome
-  of_absent op other none Stored = (λ e. cc, λ a. absurd (other a.1.0.0))
-  of_absent op other none Deleted = (λ e. cc, λ a. absurd (no_none _ none a.1.1))
-  of_absent op other none Absent = (λ e. (alive, (other, none)), λ a. refl)
-  of_absent op other none Touched = (λ e. cc, λ a. absurd (no_none _ none a.1.1))
-  of_absent op other none FullSpare = (λ e. cc, λ a. absurd (other a.1.0))
-  of_absent op other none FullBlock = (λ e. cc, λ a. absurd (other a.1.0.stores.0))
-  of_absent op other none Worn = (λ e. cc, λ a. absurd (alive a))
-  of_absent op other none Exists = (λ e. cc, λ a. absurd (no_none _ none a.1.1))
-
-  -- an add of a key that has a value
-  pub of_exists : IsSome (get s.cells key) → (outcome : Outcome) → (outcome ≡ Exists) ↔ Allows options s (write_of Add key value) outcome
-  of_exists some Stored = (λ e. cc, λ a. absurd (no_add s Add key value a.1.0 refl some))
-  of_exists some Deleted = (λ e. cc, λ a. let no : Add ≡ Del = a.1.0 in cc)
-  of_exists some Absent = (λ e. cc, λ a. absurd (a.1.0 tt))
-  of_exists some Touched = (λ e. cc, λ a. let no : Add ≡ Touch = a.1.0 in cc)
-  of_exists some FullSpare = (λ e. cc, λ a. absurd (no_none _ a.1.1.is_new some))
-  of_exists some FullBlock = (λ e. cc, λ a. absurd (no_add s Add key value a.1.0.stores refl some))
-  of_exists some Worn = (λ e. cc, λ a. absurd (alive a))
-  of_exists some Exists = (λ e. (alive, (refl, some)), λ a. refl)
-
   module _ (op : Op) (gives : GivesValue op) where
-    -- a put that its key's room takes, a write that lacks a spare, and one that needs a block
-    pub of_fit : Stores s (write_of op key value) → FitsRoom s (write_of op key value) → (outcome : Outcome) → (outcome ≡ Stored) ↔ Allows options s (write_of op key value) outcome
-    of_fit stores fits Stored = (λ e. (alive, (stores, inl fits)), λ a. refl)
-    of_fit stores fits Deleted = (λ e. cc, λ a. absurd (no_delete op gives a.1.0))
-    of_fit stores fits Absent = (λ e. cc, λ a. absurd (a.1.0 gives))
-    of_fit stores fits Touched = (λ e. cc, λ a. absurd (no_touch op gives a.1.0))
-    of_fit stores fits FullSpare = (λ e. cc, λ a. absurd (no_cell _ (get s.cells key) a.1.1.is_new fits))
-    of_fit stores fits FullBlock = (λ e. cc, λ a. absurd (a.1.0.no_room fits))
-    of_fit stores fits Worn = (λ e. cc, λ a. absurd (alive a))
-    of_fit stores fits Exists = (λ e. cc, λ a. absurd (no_add s op key value stores a.1.0 a.1.1))
-
     pub of_lack : NeedsSpare options s key → (outcome : Outcome) → (outcome ≡ FullSpare) ↔ Allows options s (write_of op key value) outcome
     of_lack lacks Stored = (λ e. cc, λ a. ⊎_elim (λ fits. absurd (no_cell _ (get s.cells key) lacks.is_new fits)) (λ has. absurd (has.0.has_spare lacks)) a.1.1)
     of_lack lacks Deleted = (λ e. cc, λ a. absurd (no_delete op gives a.1.0))

@@ -1,9 +1,9 @@
 -- Steps of the store, by the fields of the machine.
-use Rattle.std.proofs.Common.{◌≡◌, ℕ, List, ◌+◌, ◌%◌, ◌<◌, ◌≤◌, ◌⊎◌, ⊎_elim, Option, Some, None, refl, sym, ap, ◌∙◌, subst, arith, cond, true, false}
-use Rattle.std.specs.Prelude.{max, nat_le, IsSomeAnd}
+use Rattle.std.proofs.Common.{◌≡◌, ℕ, List, ◌+◌, ◌%◌, ◌<◌, ◌≤◌, ◌⊎◌, ⊎_elim, Option, Some, None, refl, sym, ap, ◌∙◌, subst, arith}
+use Rattle.std.specs.Prelude.{max, IsSomeAnd}
 use Rattle.std.specs.FinMap.{get, insert, remove}
-use Rattle.std.proofs.lemmas.Bool.{leb-true, leb-false}
 use Rattle.std.proofs.lemmas.Bool.Decides.{eqb_tells}
+use Rattle.std.proofs.lemmas.Grind.{common_steps}
 use Rattle.mica_words.specs.declared.entry.TheConstants.{SLOTS}
 use Rattle.mica_words.specs.Hash.{bucket_of}
 use Rattle.mica_words.specs.Item.{item_size}
@@ -18,11 +18,7 @@ use Rattle.partition_model.proofs.BucketSums.{new_spares, over_spares, less_spar
 
 room_is : (o : Option Cell) (size : ℕ) → room_after o size ≡ max (room_of o) size
 room_is None size = omega arith
-room_is (Some cell) size =
-    elim (nat_le size cell.room) as (λ b. nat_le size cell.room ≡ b → cond b cell.room size ≡ max cell.room size) [
-      | true ↦ λ is. let fits = leb-true size cell.room is in omega arith
-      | false ↦ λ is. let less = leb-false size cell.room is in omega arith
-    ] refl
+room_is (Some cell) size = grind (arith, common_steps)
 
 fits_room : (o : Option Cell) (size : ℕ) → IsSomeAnd o (λ cell. size ≤ cell.room) → size ≤ room_of o
 fits_room None size fits = absurd fits
@@ -44,25 +40,21 @@ module _ (options : Options) (s : Store) (op : Op) (key value : List ℕ) (room 
 
   pub put_rooms : FitsRoom s (write_of op key value) ⊎ (NeedsBlock options s (write_of op key value) × HasWords options s (write_of op key value))
       → rooms s.cells ≤ options.words → rooms (insert s.cells key new_cell) ≤ options.words
-  put_rooms may within =
-      let step = rooms_insert s.cells key new_cell in
-      ⊎_elim (λ fits. let enough = fits_room (get s.cells key) (item_size key value) fits in omega arith) (λ has. let words = has.1 in omega arith) may
+  put_rooms may within = grind (arith, common_steps, rooms_insert s.cells key new_cell, ⊎_elim, fits_room (get s.cells key) (item_size key value))
 
   module _ (within : bucket_of key options.buckets < options.buckets) where
     new_key : get s.cells key ≡ None → NeedsBlock options s (write_of op key value) → spares_in_use options.buckets s.cells ≤ options.spares
         → spares_in_use options.buckets (insert s.cells key new_cell) ≤ options.spares
     new_key none needs most =
-        let change = new_spares options.buckets (bucket_of key options.buckets) s.cells key refl within new_cell none in
-        let keys = keys_in options.buckets (bucket_of key options.buckets) s.cells in
-        ⊎_elim (λ full.
-        ⊎_elim (λ empty. let none_here = empty.1 in omega arith)
-        (λ some. ⊎_elim
-        (λ out. absurd (needs.has_spare (record { is_new = none; some = (let not_none = some.1 in omega arith); full = full.1; none_left = out.1 })))
-        (λ left. let others = left.1 in omega arith)
-        (eqb_tells (spares_in_use options.buckets s.cells) options.spares))
-        (eqb_tells keys 0))
-        (λ free. let rest = free.1 in omega arith)
-        (eqb_tells (keys % SLOTS) 0)
+        grind (
+          arith,
+          common_steps,
+          new_spares options.buckets (bucket_of key options.buckets) s.cells key refl within new_cell none,
+          ⊎_elim,
+          eqb_tells (spares_in_use options.buckets s.cells) options.spares,
+          eqb_tells (keys_in options.buckets (bucket_of key options.buckets) s.cells) 0,
+          eqb_tells ((keys_in options.buckets (bucket_of key options.buckets) s.cells) % SLOTS) 0,
+        )
 
     pub put_spares : FitsRoom s (write_of op key value) ⊎ (NeedsBlock options s (write_of op key value) × HasWords options s (write_of op key value))
         → spares_in_use options.buckets s.cells ≤ options.spares → spares_in_use options.buckets (insert s.cells key new_cell) ≤ options.spares

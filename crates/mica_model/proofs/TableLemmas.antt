@@ -9,6 +9,7 @@ use Rattle.std.specs.FinMap.{get, insert, remove, from_sorted}
 use Rattle.std.proofs.lemmas.List.{length-set, get_or-set_same, get_or-set_other}
 use Rattle.std.proofs.lemmas.Bool.Decides.{eqb_tells}
 use Rattle.std.proofs.lemmas.Grind.{get_or_default_zero}
+use Rattle.std.proofs.lemmas.Grind.{common_steps}
 use Rattle.mica_words.specs.Hash.{bucket_of}
 use Rattle.mica_model.specs.declared.bucket_keys.BucketKeys.{BucketKeys}
 use Rattle.mica_model.specs.declared.cell.Cell.{Cell as CellInCode}
@@ -36,10 +37,7 @@ pub record InBucket (a : Inside) (key : List ℕ) (bucket : ℕ) : Type 0 where
 
 -- as a call tells it of the table
 pub in_bucket : (a : Inside) (key : List ℕ) (bucket : ℕ) (t : Table) → table_of a ≡ t → bucket < t.buckets → bucket ≡ bucket_of key t.buckets → InBucket a key bucket
-in_bucket a key bucket t view within is = record {
-  is = is ∙ ap (λ (u : Table). bucket_of key u.buckets) (sym view);
-  within = subst (λ (u : Table). bucket < u.buckets) (sym view) within;
-}
+in_bucket a key bucket t view within is = grind (arith, common_steps)
 
 -- what a tree's entries are
 abbrev pub Holds : BTreeMap (Vec ℕ) CellInCode → Cells → Type 0
@@ -57,20 +55,13 @@ module _ (a : Inside) (t : IsTable a) where
 
   -- the key's room is among all rooms
   pub room_among : (key : List ℕ) (old : Cell) → get (cells_of a) key ≡ Some old → old.room ≤ a.rooms
-  room_among key old had =
-      let all = rooms_remove (cells_of a) key in
-      let room = ap room_of had in
-      let sum = t.rooms in
-      omega arith
+  room_among key old had = grind (arith, common_steps, rooms_remove (cells_of a) key)
 
   pub after_put : (vec : Vec ℕ) (stored : CellInCode) (key : List ℕ) (cell : Cell) → vec.items ≡ key → cell_of stored ≡ cell
       → (es : List (Vec ℕ × CellInCode)) → es ≡ insert_entry by_items a.cells.entries vec stored
       → from_sorted {R = by_bytes} (entries_of es) ≡ insert (cells_of a) key cell
   after_put vec stored key cell key_is cell_is es new =
-      ap (λ fs. from_sorted {R = by_bytes} (entries_of fs)) new
-      ∙ put_cell a.cells.entries (sorted_entries a.cells.entries t.ordered) vec stored
-      ∙ ap (λ k. insert (cells_of a) k (cell_of stored)) key_is
-      ∙ ap (insert (cells_of a) key) cell_is
+      grind (arith, common_steps, put_cell a.cells.entries (sorted_entries a.cells.entries t.ordered) vec stored, sorted_entries a.cells.entries t.ordered)
 
   pub after_remove : (key : List ℕ) (es : List (Vec ℕ × CellInCode)) → es ≡ remove_entry (has_bytes key) a.cells.entries
       → from_sorted {R = by_bytes} (entries_of es) ≡ remove (cells_of a) key
@@ -106,18 +97,11 @@ module _ (a : Inside) (t : IsTable a) where
     read_count n is = is ∙ get_or_default_zero a.counts.keys.items bucket n (subst (λ many. bucket < many) (sym t.len) here.within)
 
     pub counted : spares_behind (slice_index a.counts.keys.items bucket) ≤ a.counts.spares
-    counted =
-        let among = spares_among a.buckets bucket (cells_of a) a.buckets here.within in
-        let sum = t.spares in
-        let count = ap spares_behind count_is in
-        omega arith
+    counted = grind (arith, common_steps, spares_among a.buckets bucket (cells_of a) a.buckets here.within, count_is)
 
     -- few keys where few spares are in use
     pub few_keys : spares_in_use a.buckets (cells_of a) ≤ 65536 → slice_index a.counts.keys.items bucket + 1 < 2 ^ 32
-    few_keys most =
-        let behind = counted in
-        let sum = t.spares in
-        omega arith
+    few_keys most = grind (arith, common_steps, counted)
 
     -- one key more
     pub table_new : (cell : Cell) → get (cells_of a) key ≡ None → spares_in_use a.buckets (cells_of a) ≤ 65536
