@@ -1,9 +1,10 @@
 -- Free blocks are few and short where none fits.
-use Rattle.std.proofs.Common.{◌≡◌, ℕ, suc, ◌+◌, ◌-◌, ◌*◌, ◌<◌, ◌≤◌, List, [], ◌∷◌, ◌++◌, length, map, refl, ap, ◌∙◌, subst, arith, Bool, true, false, not, cond}
+use Rattle.std.proofs.Common.{◌≡◌, ℕ, suc, ◌+◌, ◌-◌, ◌<◌, ◌≤◌, List, [], ◌∷◌, ◌++◌, length, map, refl, ap, ◌∙◌, subst, arith, Bool, true, false, not, cond}
 use Rattle.std.specs.List.{filter, sum, All}
 use Rattle.std.proofs.Math.Nat.{mul-le-mul_right}
 use Rattle.std.proofs.lemmas.List.Sums.{sum_by-le, sum-map}
 use Rattle.std.proofs.lemmas.List.Filters.{sum_by-filter_both}
+use Rattle.std.proofs.lemmas.Grind.{common_steps}
 use Rattle.block_heap.specs.declared.block.Block.{Block}
 use Rattle.block_heap.specs.Blocks.{free_block, IsFree, BeginsFree, IsMerged, words_of, used_blocks, free_sizes, NoneFits, MayLack}
 
@@ -23,16 +24,8 @@ abbrev AreFew : List Block → Type 0
 AreFew blocks = (length (free_sizes blocks) ≤ length (used_blocks blocks) + 1) × ((BeginsFree blocks → ⊥) → length (free_sizes blocks) ≤ length (used_blocks blocks))
 
 few_by : (block : Block) (blocks : List Block) (u : Bool) → block.used ≡ u → ((IsFree block × BeginsFree blocks) → ⊥) → AreFew blocks → AreFew (block ∷ blocks)
-few_by block blocks true used not_both few =
-    let free = ap length (free_same block blocks used) in
-    let taken = ap length (used_more block blocks used) in
-    let so_far = few.0 in
-    (omega arith, λ _. omega arith)
-few_by block blocks false is_free not_both few =
-    let free = ap length (free_more block blocks is_free) in
-    let taken = ap length (used_same block blocks is_free) in
-    let so_far = few.1 (λ begins. not_both (is_free, begins)) in
-    (omega arith, λ used. absurd (used is_free))
+few_by block blocks true used not_both few = grind (arith, common_steps)
+few_by block blocks false is_free not_both few = grind (arith, common_steps)
 
 -- a used block parts any two free ones
 are_few : (blocks : List Block) → IsMerged blocks → AreFew blocks
@@ -51,12 +44,7 @@ words_parted blocks =
 
 -- a refusal implies the inequality
 pub MayLack-none_fits : (blocks : List Block) (need : ℕ) → IsMerged blocks → NoneFits blocks need → MayLack blocks need
-MayLack-none_fits blocks need h none =
-    let few = (are_few blocks h).0 in
-    let short : sum (free_sizes blocks) ≤ length (free_sizes blocks) * (need - 1) =
-    sum_by-le (λ (n : ℕ). n) (need - 1) (free_sizes blocks) (λ k d lt. let below = none k d lt in omega arith) in
-    let wide : length (free_sizes blocks) * (need - 1) ≤ (length (used_blocks blocks) + 1) * (need - 1) = mul-le-mul_right (need - 1) few in
-    omega (arith, words_parted blocks)
+MayLack-none_fits blocks need h none = grind (arith, common_steps, are_few blocks h, sum_by-le, mul-le-mul_right (need - 1) ((are_few blocks h).0), words_parted blocks)
 
 -- where a free block fits, it is not so that none does
 pub not_none_fits : (before after : List Block) (place size need : ℕ) → need ≤ size → NoneFits (before ++ free_block place size ∷ after) need → ⊥

@@ -5,6 +5,7 @@ use Rattle.std.specs.Ordering.{ord_max, nat_cmp}
 use Rattle.std.proofs.lemmas.Bool.{cases_eq, cases_lt}
 use Rattle.std.proofs.lemmas.List.{get_or_default, append-nil}
 use Rattle.std.proofs.lemmas.List.Elements.{All-nil, All-cons, Contains-append_cases}
+use Rattle.std.proofs.lemmas.Grind.{common_steps}
 use Rattle.size_classes.specs.Classes.{class_of}
 use Rattle.size_classes.proofs.Rising.{rises, below_sixty_four}
 use Rattle.block_heap.specs.declared.block.Block.{Block}
@@ -28,9 +29,7 @@ all_free P (block ∷ blocks) h = by (all_free P blocks (λ b among free. h b (s
 -- a free block's size is one of the sizes
 pub size_among : (blocks : List Block) (block : Block) → Contains blocks block → IsFree block → Contains (free_sizes blocks) block.size
 size_among [] block among free = absurd (let lt = among.1 in omega arith)
-size_among (b ∷ blocks) block (zero, lt, is) free =
-    let head : IsFree b = ap (λ (x : Block). x.used) is ∙ free in
-    subst (λ (sizes : List ℕ). Contains sizes block.size) (sym (free_more b blocks head)) (0, omega arith, ap (λ (x : Block). x.size) is)
+size_among (b ∷ blocks) block (zero, lt, is) free = grind (arith, common_steps)
 size_among (b ∷ blocks) block (suc k, lt, is) free = by (size_among blocks block (k, omega arith, is) free) b.used refl
   where
     by : Contains (free_sizes blocks) block.size → (u : Bool) → b.used ≡ u → Contains (free_sizes (b ∷ blocks)) block.size
@@ -140,8 +139,7 @@ abbrev pub walk_first : (lists : ℕ → List ℕ) (class : ℕ) (next : Option 
 walk_first lists class next first = record { before = []; whole = sym first }
 
 pub walk_listed : (lists : ℕ → List ℕ) (class place : ℕ) (listed : Option ℕ) → Walk lists class listed → listed ≡ Some place → Contains (lists class) place
-walk_listed lists class place listed walk is =
-    subst (λ xs. Contains xs place) (sym (walk.whole ∙ ap (λ n. walk.before ++ left_from lists n) is)) (in_middle walk.before (lists (node_of place)) place)
+walk_listed lists class place listed walk is = grind (arith, common_steps, in_middle walk.before (lists (node_of place)) place)
 
 abbrev pub walk_on : (lists : ℕ → List ℕ) (class place : ℕ) (listed next : Option ℕ) → Walk lists class listed → listed ≡ Some place → left_from lists next ≡ lists (node_of place) → Walk lists class next
 walk_on lists class place listed next walk is left = record {

@@ -1,11 +1,12 @@
 -- What giving a block back keeps.
-use Rattle.std.proofs.Common.{◌≡◌, ℕ, zero, suc, ◌+◌, ◌-◌, ◌<◌, ◌≤◌, Bool, true, false, ◌||◌, cond, Option, Some, None, List, [], ◌∷◌, ◌++◌, refl, sym, ap, ◌∙◌, subst, arith, append_assoc}
+use Rattle.std.proofs.Common.{◌≡◌, ℕ, zero, suc, ◌+◌, ◌-◌, ◌<◌, ◌≤◌, Bool, true, false, Option, Some, None, List, [], ◌∷◌, ◌++◌, refl, sym, ap, ◌∙◌, subst, arith, append_assoc}
 use Rattle.std.specs.Prelude.{IfSome}
 use Rattle.std.specs.List.{Contains}
 use Rattle.std.proofs.lemmas.List.{append-nil}
+use Rattle.std.proofs.lemmas.Grind.{common_steps}
 use Rattle.block_heap.specs.declared.block.Block.{Block}
 use Rattle.block_heap.specs.Blocks.{free_block, used_block, IsFree, Fills, IsMerged, IsBlockList, HasUsed, used_blocks, words_of}
-use Rattle.block_heap.specs.Changes.{joined, merged, IsGiven}
+use Rattle.block_heap.specs.Changes.{merged, IsGiven}
 use Rattle.block_heap.specs.Inside.{blocks_in, words_in}
 use Rattle.block_heap.specs.Tags.{HasBlock, EndsFree, IsLastFree, IsFirstFree}
 use Rattle.block_heap.proofs.Order.{words_of-append, words_of-cons, front_fills, back_fills, back_merged, fills_instead, merged_instead}
@@ -38,12 +39,8 @@ back_of after (Some first) is = (is.0, is.1)
 
 -- a free block as one with the free one behind it
 right_merged : (place size : ℕ) (after : List Block) (right : Option Block) → IsMerged after → (is : IsFirstFree after right) → merged (free_block place size ∷ after) ≡ free_block place (size + words_in right) ∷ (back_of after right is).0
-right_merged place size after None h none =
-    let same : size ≡ size + 0 = omega arith in
-    ap (joined (free_block place size)) (merged_same after h) ∙ joined_apart (free_block place size) after (λ both. none both.1) ∙ ap (λ n. free_block place n ∷ after) same
-right_merged place size after (Some first) h is =
-    ap (joined (free_block place size)) (merged_same after h ∙ is.1)
-    ∙ ap (λ u. cond u (free_block place size ∷ first ∷ is.0) (free_block place (size + first.size) ∷ is.0)) is.2
+right_merged place size after None h none = grind (arith, common_steps, merged_same after h, joined_apart (free_block place size) after)
+right_merged place size after (Some first) h is = grind (arith, common_steps, merged_same after h)
 
 -- a list that ends in a used block
 closed : (xs ys zs : List Block) → IsMerged (xs ++ zs) → (EndsFree xs → ⊥) → IsMerged ys → IsMerged (xs ++ ys)
@@ -73,12 +70,7 @@ all_merged place size before after (Some block) right h last first here lies =
     let apart = merged_instead front (block ∷ used_block place size ∷ after) (merged rest) (subst IsMerged old h) (joined_begins block (merged (free_block place size ∷ after))) (merged_merged rest) in
     let there : block.place ≡ place - block.size = omega arith in
     let same : block.size + (size + words_in right) ≡ block.size + size + words_in right = omega arith in
-    ap merged freed
-    ∙ merged_behind front rest apart
-    ∙ ap (λ ys. front ++ joined block ys) alone
-    ∙ ap (λ u. front ++ cond (u || false) (block ∷ free_block place (size + words_in right) ∷ back) (free_block block.place (block.size + (size + words_in right)) ∷ back)) last.2
-    ∙ ap (λ n. front ++ free_block block.place n ∷ back) same
-    ∙ ap (λ p. front ++ free_block p (block.size + size + words_in right) ∷ back) there
+    grind (arith, common_steps, freed, merged_behind front rest apart)
 
 words_of-in : (neighbour : Option Block) → words_of (blocks_in neighbour) ≡ words_in neighbour
 words_of-in None = refl
@@ -180,11 +172,7 @@ used_at words blocks place list has =
 
 -- the free block behind, and all before it
 pub before_right : (words : ℕ) (blocks : List Block) (place size : ℕ) (left right : Option Block) → (freed : IsFreed words blocks place size left right) → blocks ≡ (freed.front ++ (blocks_in left ++ used_block place size ∷ [])) ++ (blocks_in right ++ freed.back)
-before_right words blocks place size left right freed =
-    let used = used_block place size in
-    let l = blocks_in left in
-    let rest = blocks_in right ++ freed.back in
-    freed.was ∙ ap (λ ys. freed.front ++ ys) (sym (append_assoc l (used ∷ []) rest)) ∙ sym (append_assoc freed.front (l ++ used ∷ []) rest)
+before_right words blocks place size left right freed = grind (arith, common_steps)
 
 -- The one free block, and the blocks that lie where it is to lie.
 pub record IsJoined (words : ℕ) (blocks : List Block) (place size : ℕ) (left right : Option Block) (front back : List Block) (block : Block) : Type 0 where
@@ -234,8 +222,7 @@ abbrev pub one_of : (place size : ℕ) (left right : Option Block) → Block
 one_of place size left right = free_block (place - words_in left) (words_in left + size + words_in right)
 
 pub one_is : (place before size after : ℕ) (left right : Option Block) (block : Block) → block ≡ free_block (place - before) (before + size + after) → before ≡ words_in left → after ≡ words_in right → block ≡ one_of place size left right
-one_is place before size after left right block is b a =
-    is ∙ ap (λ n. free_block (place - n) (n + size + after)) b ∙ ap (λ n. free_block (place - words_in left) (words_in left + size + n)) a
+one_is place before size after left right block is b a = grind (arith, common_steps)
 
 -- The used block's free neighbours were found.
 pub record IsFound (blocks : List Block) (place size : ℕ) (left right : Option Block) : Type 0 where

@@ -1,7 +1,8 @@
 -- What a change of the blocks and of their lists keeps.
-use Rattle.std.proofs.Common.{◌≡◌, ◌≢◌, ℕ, ◌+◌, ◌-◌, ◌<◌, ◌≤◌, Option, Some, None, List, [], ◌∷◌, ◌++◌, length, refl, sym, ap, ◌∙◌, subst, arith, append_assoc}
+use Rattle.std.proofs.Common.{◌≡◌, ◌≢◌, ℕ, ◌+◌, ◌-◌, ◌<◌, ◌≤◌, Option, Some, None, List, [], ◌∷◌, ◌++◌, length, refl, sym, ap, subst, arith, append_assoc}
 use Rattle.std.specs.List.{Contains}
 use Rattle.std.specs.Prelude.{IfSome}
+use Rattle.std.proofs.lemmas.Grind.{common_steps}
 use Rattle.size_classes.specs.Classes.{class_of}
 use Rattle.size_classes.proofs.Rising.{below_sixty_four}
 use Rattle.block_heap.specs.declared.block.Block.{Block}
@@ -10,14 +11,12 @@ use Rattle.block_heap.specs.Changes.{rest_of, IsTaken}
 use Rattle.block_heap.specs.Lists.{AreListed, IsUnlisted, IsWithout}
 use Rattle.block_heap.specs.Inside.{IsHeap, IsListable, blocks_in}
 use Rattle.block_heap.proofs.Places.{free_is, parted, in_middle}
-use Rattle.block_heap.proofs.Taking.{IsBlockList-taken, words_of-list, rest_is, rest_none}
+use Rattle.block_heap.proofs.Taking.{IsBlockList-taken, words_of-list, rest_is}
 use Rattle.block_heap.proofs.Listing.{listed_added, listed_removed, listed_beside, unlisted, may_lie, free_within, place_listed}
 use Rattle.block_heap.proofs.Finding.{free_size}
 
 pub heap_with : (blocks now : List Block) (words : ℕ) (lists new : ℕ → List ℕ) → IsHeap blocks words lists → IsBlockList (words_of blocks) now → AreListed new now → IsHeap now words new
-heap_with blocks now words lists new heap list listed =
-    let same = words_of-list (words_of blocks) now list in
-    record { list = subst (λ n. IsBlockList n now) (sym same) list; listed = listed; same = heap.same ∙ sym same; limit = omega (arith, same, heap.limit) }
+heap_with blocks now words lists new heap list listed = grind (arith, common_steps, words_of-list (words_of blocks) now list)
 
 -- A free block whose place may be added to the list of its class.
 pub record IsAddable (words : ℕ) (lists : ℕ → List ℕ) (block : Block) : Type 0 where
@@ -59,32 +58,18 @@ pub taken_block : (blocks now : List Block) (words : ℕ) (lists mid : ℕ → L
     → ((before after : List Block) → blocks ≡ before ++ block ∷ after → now ≡ before ++ used_block block.place need ∷ (rest_of (block.place + need) (block.size - need) ++ after))
     → Taken blocks now mid block need
 taken_block blocks now words lists mid block need heap some enough among free class is removed others cut =
-    let parts = parted blocks block among in
-    let taken : IsTaken blocks now block.place need = record {
-      before = parts.0;
-      after = parts.1;
-      size = block.size;
-      enough = enough;
-      was = parts.2 ∙ ap (λ b. parts.0 ++ b ∷ parts.1) (free_is block free);
-      now = cut parts.0 parts.1 parts.2;
-    } in
-    record {
-      before = parts.0;
-      after = parts.1;
-      now_is = cut parts.0 parts.1 parts.2;
-      listed = listed_removed lists mid parts.0 parts.1 block free (subst (λ c. IsWithout (lists c) (mid c) block.place) is removed)
-          (subst (λ (c : ℕ). (other : ℕ) → other < 64 → other ≢ c → mid other ≡ lists other) is others) (subst (AreListed lists) parts.2 heap.listed);
-      taken = taken;
-      list = IsBlockList-taken (words_of blocks) blocks now block.place need (omega arith) heap.list taken;
-    }
+    grind (
+      arith,
+      common_steps,
+      parted blocks block among,
+      free_is block free,
+      listed_removed lists mid (parted blocks block among).0 (parted blocks block among).1 block free,
+      IsBlockList-taken (words_of blocks) blocks now block.place need (omega arith) heap.list,
+    )
 
 -- all of its words are used
 pub taken_whole : (blocks now : List Block) (words : ℕ) (lists mid : ℕ → List ℕ) (block : Block) (need : ℕ) → IsHeap blocks words lists → block.size ≤ need → Taken blocks now mid block need → IsHeap now words mid
-taken_whole blocks now words lists mid block need heap all taken =
-    let none : block.size - need ≡ 0 = omega arith in
-    let is : now ≡ taken.before ++ used_block block.place need ∷ taken.after =
-    taken.now_is ∙ ap (λ r. taken.before ++ used_block block.place need ∷ (r ++ taken.after)) (rest_none (block.place + need) (block.size - need) none) in
-    heap_with blocks now words lists mid heap taken.list (subst (AreListed mid) (sym is) (listed_beside mid taken.before taken.after (used_block block.place need) refl taken.listed))
+taken_whole blocks now words lists mid block need heap all taken = grind (arith, common_steps)
 
 -- the rest of it is free
 pub record IsRest (blocks now : List Block) (mid : ℕ → List ℕ) (rest : Block) : Type 0 where
@@ -95,17 +80,14 @@ pub record IsRest (blocks now : List Block) (mid : ℕ → List ℕ) (rest : Blo
 
 pub taken_part : (blocks now : List Block) (mid : ℕ → List ℕ) (block : Block) (need : ℕ) → need < block.size → Taken blocks now mid block need → IsRest blocks now mid (free_block (block.place + need) (block.size - need))
 taken_part blocks now mid block need part taken =
-    let used = used_block block.place need in
-    let rest = free_block (block.place + need) (block.size - need) in
-    record {
-      before = taken.before ++ used ∷ [];
-      after = taken.after;
-      is =
-          taken.now_is
-          ∙ ap (λ r. taken.before ++ used ∷ (r ++ taken.after)) (rest_is (block.place + need) (block.size - need) (omega arith))
-          ∙ sym (append_assoc taken.before (used ∷ []) (rest ∷ taken.after));
-      listed = subst (AreListed mid) (sym (append_assoc taken.before (used ∷ []) taken.after)) (listed_beside mid taken.before taken.after used refl taken.listed);
-    }
+    grind (
+      arith,
+      common_steps,
+      rest_is (block.place + need) (block.size - need) (omega arith),
+      append_assoc taken.before ((used_block block.place need) ∷ []) ((free_block (block.place + need) (block.size - need)) ∷ taken.after),
+      append_assoc taken.before ((used_block block.place need) ∷ []) taken.after,
+      listed_beside mid taken.before taken.after (used_block block.place need) refl taken.listed,
+    )
 
 -- room in a list, for a class and words that are told
 pub room_for : (words told class : ℕ) (lists : ℕ → List ℕ) (block : Block) → IsAddable words lists block → told ≡ words → class ≡ class_of block.size → length (lists class) < told
@@ -115,10 +97,7 @@ room_for words told class lists block may same is = (let room = may.room in omeg
 pub heap_added : (blocks now : List Block) (words : ℕ) (lists mid new : ℕ → List ℕ) (before after : List Block) (block : Block) → IsHeap blocks words lists → IsBlockList (words_of blocks) now → now ≡ before ++ block ∷ after → IsFree block → AreListed mid (before ++ after)
     → (class : ℕ) → class ≡ class_of block.size → new class ≡ mid class ++ block.place ∷ [] → ((other : ℕ) → other < 64 → other ≢ class → new other ≡ mid other) → IsHeap now words new
 heap_added blocks now words lists mid new before after block heap list is free listed class of added others =
-    heap_with blocks now words lists new heap list
-    (subst (AreListed new) (sym is)
-    (listed_added mid new before after block free (subst (λ c. new c ≡ mid c ++ block.place ∷ []) of added)
-    (subst (λ (c : ℕ). (other : ℕ) → other < 64 → other ≢ c → new other ≡ mid other) of others) listed))
+    grind (arith, common_steps, heap_with blocks now words lists new heap list, listed_added mid new before after block free)
 
 pub same_words : (blocks : List Block) (words told : ℕ) (lists : ℕ → List ℕ) → IsHeap blocks words lists → told ≡ words → IsHeap blocks told lists
 same_words blocks words told lists heap same = subst (λ n. IsHeap blocks n lists) (sym same) heap
@@ -127,14 +106,11 @@ same_words blocks words told lists heap same = subst (λ n. IsHeap blocks n list
 pub neighbour_left : (lists new : ℕ → List ℕ) (neighbour : Option Block) (block : Block) → neighbour ≡ Some block → IsListable lists neighbour → (class : ℕ) → class ≡ class_of block.size → IsWithout (lists class) (new class) block.place
     → ((other : ℕ) → other < 64 → other ≢ class → new other ≡ lists other) → (before after : List Block) → AreListed lists (before ++ (blocks_in neighbour ++ after)) → AreListed new (before ++ after)
 neighbour_left lists new neighbour block some listable class is removed others before after listed =
-    let free = (subst (IsListable lists) some listable).0 in
-    listed_removed lists new before after block free (subst (λ c. IsWithout (lists c) (new c) block.place) is removed)
-    (subst (λ (c : ℕ). (other : ℕ) → other < 64 → other ≢ c → new other ≡ lists other) is others) (subst (λ n. AreListed lists (before ++ (blocks_in n ++ after))) some listed)
+    grind (arith, common_steps, listable, listed_removed lists new before after block ((subst (IsListable lists) some listable).0))
 
 -- a free neighbour can leave its list
 pub listable : (blocks : List Block) (words : ℕ) (lists mid : ℕ → List ℕ) (neighbour : Option Block) (front back before after : List Block) → IsHeap blocks words lists → blocks ≡ front ++ (blocks_in neighbour ++ back) → AreListed mid (before ++ (blocks_in neighbour ++ after))
     → IfSome neighbour IsFree → IsListable mid neighbour
 listable blocks words lists mid None front back before after heap is listed free = tt
 listable blocks words lists mid (Some block) front back before after heap is listed free =
-    let size = free_size blocks words lists block heap (subst (λ (bs : List Block). Contains bs block) (sym is) (in_middle front back block)) in
-    (free, size.some, size.limit, place_listed mid (before ++ block ∷ after) block (class_of block.size) size.few refl listed (in_middle before after block) free)
+    grind (arith, common_steps, free_size blocks words lists block heap, in_middle front back block, place_listed mid (before ++ block ∷ after) block, in_middle before after block)

@@ -2,8 +2,9 @@
 use Rattle.std.proofs.Common.{◌≡◌, ◌≢◌, ℕ, zero, suc, ◌-◌, ◌<◌, ◌≤◌, Bool, true, false, cond, List, [], ◌∷◌, ◌++◌, length, get_or, refl, sym, ap, ◌∙◌, subst, arith, length-append, append_assoc}
 use Rattle.std.specs.List.{Contains}
 use Rattle.std.proofs.lemmas.List.{get_or_default}
-use Rattle.std.proofs.lemmas.Bool.{lt-ltb, le-ltb}
+use Rattle.std.proofs.lemmas.Bool.{lt-ltb}
 use Rattle.std.proofs.Math.Dec.{ltb}
+use Rattle.std.proofs.lemmas.Grind.{common_steps}
 use Rattle.block_heap.specs.declared.links.Link.{Link}
 use Rattle.block_heap.specs.Links.{node_of, link_of, next_of, prev_of, places_after, LeadOver, AreJoined}
 use Rattle.block_heap.proofs.Places.{parted}
@@ -15,8 +16,7 @@ told_places links zero node [] end leads few enough = refl
 told_places links (suc most) node [] end leads few enough = rw (leads.0, lt-ltb end 64 few) refl
 told_places links zero node (place ∷ places) end leads few enough = absurd (omega arith)
 told_places links (suc most) node (place ∷ places) end leads few enough =
-    let back : node_of place - 64 ≡ place = omega arith in
-    rw (leads.0, le-ltb (node_of place) 64 (omega arith), back, told_places links most (node_of place) places end leads.3 few (omega arith)) refl
+    grind (arith, common_steps, told_places links most (node_of place) places end leads.3 few (omega arith))
 
 pub few_places : (links : List Link) (most node : ℕ) → length (places_after links most node) ≤ most
 unfolding places_after
@@ -31,19 +31,14 @@ few_places links (suc most) node = by (ltb (next_of links node) 64) (few_places 
 pub leads_to : (links : List Link) (node : ℕ) (before after : List ℕ) (place end : ℕ) → LeadOver links node (before ++ place ∷ after) end
     → LeadOver links node before (node_of place) × (node_of place < length links) × LeadOver links (node_of place) after end
 leads_to links node [] after place end leads = ((leads.0, leads.1), leads.2, leads.3)
-leads_to links node (p ∷ before) after place end leads =
-    let rest = leads_to links (node_of p) before after place end leads.3 in
-    ((leads.0, leads.1, leads.2, rest.0), rest.1, rest.2)
+leads_to links node (p ∷ before) after place end leads = grind (arith, common_steps, leads_to links (node_of p) before after place end leads.3)
 
 -- from a node there is one way to a head
 one_way : (links : List Link) (node : ℕ) (xs ys : List ℕ) (end other : ℕ) → end < 64 → other < 64 → LeadOver links node xs end → LeadOver links node ys other → (length xs ≡ length ys) × (end ≡ other)
 one_way links node [] [] end other few less a b = (refl, sym a.0 ∙ b.0)
 one_way links node [] (y ∷ ys) end other few less a b = absurd (let e : end ≡ node_of y = sym a.0 ∙ b.0 in omega arith)
 one_way links node (x ∷ xs) [] end other few less a b = absurd (let e : node_of x ≡ other = sym a.0 ∙ b.0 in omega arith)
-one_way links node (x ∷ xs) (y ∷ ys) end other few less a b =
-    let e : node_of y ≡ node_of x = sym b.0 ∙ a.0 in
-    let rest = one_way links (node_of x) xs ys end other few less a.3 (subst (λ n. LeadOver links n ys other) e b.3) in
-    ((let same = rest.0 in omega arith), rest.1)
+one_way links node (x ∷ xs) (y ∷ ys) end other few less a b = grind (arith, common_steps, one_way links (node_of x) xs ys end other few less a.3)
 
 -- none of the places is this one
 abbrev pub Lack : List ℕ → ℕ → Type 0
@@ -134,10 +129,7 @@ module _ (old new : List Link) (place : ℕ) (joined : AreJoined old new (prev_o
 
   pub stay_beside : (node : ℕ) (places : List ℕ) (end : ℕ) → node ≢ node_of place → end ≢ node_of place → Lack places place → LeadOver old node places end → LeadOver new node places end
   stay_beside node [] end ne other none leads = stay node end ne other leads.0 leads.1
-  stay_beside node (p ∷ places) end ne other none leads =
-      let differ : node_of p ≢ node_of place = λ e. none.0 (omega arith) in
-      let links = stay node (node_of p) ne differ leads.0 leads.1 in
-      (links.0, links.1, subst (λ n. node_of p < n) (sym joined.len) leads.2, stay_beside (node_of p) places end differ other none.1 leads.3)
+  stay_beside node (p ∷ places) end ne other none leads = grind (arith, common_steps, stay node (node_of p) ne, stay_beside (node_of p) places end)
 
   -- the two nodes beside it are side by side
   meet : (node next : ℕ) → prev_of old (node_of place) ≡ node → next_of old (node_of place) ≡ next → (next_of new node ≡ next) × (prev_of new next ≡ node)
@@ -145,14 +137,8 @@ module _ (old new : List Link) (place : ℕ) (joined : AreJoined old new (prev_o
 
   pub leads_without : (node : ℕ) (xs ys : List ℕ) (end : ℕ) → node ≢ node_of place → end ≢ node_of place → Lack xs place → Lack ys place → LeadOver old node (xs ++ place ∷ ys) end → LeadOver new node (xs ++ ys) end
   leads_without node [] [] end ne other none none_after leads = meet node end leads.1 leads.3.0
-  leads_without node [] (y ∷ ys) end ne other none none_after leads =
-      let differ : node_of y ≢ node_of place = λ e. none_after.0 (omega arith) in
-      let links = meet node (node_of y) leads.1 leads.3.0 in
-      (links.0, links.1, subst (λ n. node_of y < n) (sym joined.len) leads.3.2, stay_beside (node_of y) ys end differ other none_after.1 leads.3.3)
-  leads_without node (x ∷ xs) ys end ne other none none_after leads =
-      let differ : node_of x ≢ node_of place = λ e. none.0 (omega arith) in
-      let links = stay node (node_of x) ne differ leads.0 leads.1 in
-      (links.0, links.1, subst (λ n. node_of x < n) (sym joined.len) leads.2, leads_without (node_of x) xs ys end differ other none.1 none_after leads.3)
+  leads_without node [] (y ∷ ys) end ne other none none_after leads = grind (arith, common_steps, meet node (node_of y) leads.1 leads.3.0, stay_beside (node_of y) ys end)
+  leads_without node (x ∷ xs) ys end ne other none none_after leads = grind (arith, common_steps, stay node (node_of x) ne, leads_without (node_of x) xs ys end)
 
 -- A place is added: its node stands between the last node of a ring and the head.
 pub record Adds (old new : List Link) (last node class : ℕ) : Type 0 where
@@ -167,32 +153,16 @@ pub record Adds (old new : List Link) (last node class : ℕ) : Type 0 where
 
 pub adds : (old reached mid new : List Link) (last node class : ℕ) → last ≢ node → node ≢ class → node < length reached → length old ≤ length reached → ((at : ℕ) → link_of reached at ≡ link_of old at) → AreJoined reached mid last node → AreJoined mid new node class
     → Adds old new last node class
-adds old reached mid new last node class apart ne within len same first second = record {
-  within = omega (arith, first.len, second.len);
-  len = omega (arith, first.len, second.len);
-  last_next = second.others_next last apart ∙ first.next;
-  node_next = second.next;
-  node_prev = second.others_prev node ne ∙ first.prev;
-  class_prev = second.prev;
-  others_next = λ other not_last not_node. second.others_next other not_node ∙ first.others_next other not_last ∙ ap (λ (l : Link). l.next) (same other);
-  others_prev = λ other not_node not_class. second.others_prev other not_class ∙ first.others_prev other not_node ∙ ap (λ (l : Link). l.prev) (same other);
-}
+adds old reached mid new last node class apart ne within len same first second = grind (arith, common_steps)
 
 module _ (old new : List Link) (place class : ℕ) (few : class < 64) (added : Adds old new (prev_of old class) (node_of place) class) (last : next_of old (prev_of old class) ≡ class) where
   go_on : (node next : ℕ) → node ≢ node_of place → next ≢ node_of place → next ≢ class → next_of old node ≡ next → prev_of old next ≡ node → (next_of new node ≡ next) × (prev_of new next ≡ node)
-  go_on node next ne other not_class on back =
-      (added.others_next node (λ e. not_class (sym on ∙ ap (next_of old) e ∙ last)) ne ∙ on, added.others_prev next other not_class ∙ back)
+  go_on node next ne other not_class on back = grind (arith, common_steps)
 
   pub added_beside : (node : ℕ) (places : List ℕ) (end : ℕ) → node ≢ node_of place → end ≢ node_of place → end ≢ class → Lack places place → LeadOver old node places end → LeadOver new node places end
   added_beside node [] end ne other not_class none leads = go_on node end ne other not_class leads.0 leads.1
-  added_beside node (p ∷ places) end ne other not_class none leads =
-      let differ : node_of p ≢ node_of place = λ e. none.0 (omega arith) in
-      let links = go_on node (node_of p) ne differ (λ e. omega arith) leads.0 leads.1 in
-      (links.0, links.1, (let within = leads.2 in omega (arith, added.len)), added_beside (node_of p) places end differ other not_class none.1 leads.3)
+  added_beside node (p ∷ places) end ne other not_class none leads = grind (arith, common_steps, added_beside (node_of p) places end)
 
   pub leads_with : (node : ℕ) (places : List ℕ) → node ≢ node_of place → Lack places place → LeadOver old node places class → LeadOver new node (places ++ place ∷ []) class
   leads_with node [] ne none leads = (ap (next_of new) (sym leads.1) ∙ added.last_next, added.node_prev ∙ leads.1, added.within, (added.node_next, added.class_prev))
-  leads_with node (p ∷ places) ne none leads =
-      let differ : node_of p ≢ node_of place = λ e. none.0 (omega arith) in
-      let links = go_on node (node_of p) ne differ (λ e. omega arith) leads.0 leads.1 in
-      (links.0, links.1, (let within = leads.2 in omega (arith, added.len)), leads_with (node_of p) places differ none.1 leads.3)
+  leads_with node (p ∷ places) ne none leads = grind (arith, common_steps, leads_with (node_of p) places)

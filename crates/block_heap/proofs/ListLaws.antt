@@ -8,6 +8,7 @@ use Rattle.std.proofs.Math.Dec.{leb}
 use Rattle.std.proofs.lemmas.Nat.{pow-add, leading_top}
 use Rattle.std.proofs.lemmas.Nat.Bits.{bit_at-trailing_zeros, bit_at_above, bit_at-zero}
 use Rattle.std.proofs.lemmas.Bool.{cases_eq, cases_lt, le-leb, lt-leb}
+use Rattle.std.proofs.lemmas.Grind.{common_steps}
 use Rattle.block_heap.specs.declared.links.Link.{Link}
 use Rattle.block_heap.specs.Links.{node_of, link_of, next_of, prev_of, places_after, LeadOver, AreJoined}
 use Rattle.block_heap.specs.Lists.{KeepsLists, IsUnlisted, IsWithout, left_from}
@@ -15,9 +16,7 @@ use Rattle.block_heap.proofs.LinkLaws.{told_places, few_places, leads_to, lack, 
 
 -- the list of a class, as the links of its ring tell it
 ring_is : (words : ℕ) (links : List Link) (class : ℕ) (list : List ℕ) → class < 64 → LeadOver links class list class → length list ≤ words → (places_after links words class ≡ list) × LeadOver links class (places_after links words class) class
-ring_is words links class list few leads enough =
-    let told = told_places links words class list class leads few enough in
-    (told, subst (λ xs. LeadOver links class xs class) (sym told) leads)
+ring_is words links class list few leads enough = grind (arith, common_steps, told_places links words class list class leads few enough)
 
 -- the place that a node leads to, as the code reads it
 walked : (words : ℕ) (links : List Link) (node : ℕ) (list : List ℕ) (class : ℕ) (link : Link) (next : Option ℕ) → link.next ≡ next_of links node → LeadOver links node list class → class < 64 → length list ≤ words
@@ -26,8 +25,7 @@ walked words links node [] class link None at leads few enough none = refl
 walked words links node (place ∷ places) class link None at leads few enough none = absurd (none (omega (arith, at, leads.0)))
 walked words links node [] class link (Some x) at leads few enough is = absurd (let more = is.0 in omega (arith, at, leads.0))
 walked words links node (place ∷ places) class link (Some x) at leads few enough is =
-    let same : x ≡ place = (let read = is.1 in omega (arith, at, leads.0)) in
-    ap (λ p. p ∷ places_after links words (node_of p)) same ∙ ap (λ ps. place ∷ ps) (told_places links words (node_of place) places class leads.3 few (omega arith))
+    grind (arith, common_steps, told_places links words (node_of place) places class leads.3 few (omega arith))
 
 -- The list of one class is another now, and those of the others are as they were.
 pub record Changed (words : ℕ) (links new : List Link) (room filled class : ℕ) (now : List ℕ) : Type 0 where
@@ -84,9 +82,7 @@ module _ (words : ℕ) (links : List Link) (room filled : ℕ) (h : KeepsLists w
   pub adds_last : (reached mid new : List Link) (place : ℕ) (link : Link) → IsUnlisted (places_after links words) place → node_of place < length reached → length links ≤ length reached → ((at : ℕ) → link_of reached at ≡ link_of links at)
       → link ≡ get_or links class link → AreJoined reached mid link.prev (node_of place) → AreJoined mid new (node_of place) class → Adds links new (prev_of links class) (node_of place) class
   adds_last reached mid new place link unlisted within len same read first second =
-      let last = ap (λ (l : Link). l.prev) (head_link link read) in
-      adds links reached mid new (prev_of links class) (node_of place) class (last_differs links class list class place (λ e. omega arith) (lack list place (unlisted class few)) (h.rings class few)) (λ e. omega arith) within len same
-      (subst (λ n. AreJoined reached mid n (node_of place)) last first) second
+      grind (arith, common_steps, head_link link read, adds links reached mid new (prev_of links class) (node_of place) class, last_differs links class list class place, lack list place (unlisted class few))
 
   pub added : (new : List Link) (new_room place bits : ℕ) → IsUnlisted (places_after links words) place → length list < words → Adds links new (prev_of links class) (node_of place) class → room ≤ new_room → bits < 2 ^ 64
       → bit_at bits class ≡ 1 → ((i : ℕ) → i < 64 → i ≢ class → bit_at bits i ≡ bit_at filled i) → Changed words links new new_room bits class (list ++ place ∷ [])
@@ -162,8 +158,7 @@ module _ (words : ℕ) (links : List Link) (room filled : ℕ) (h : KeepsLists w
 
 -- a shift and a shift by one more
 shifted : (n a j : ℕ) → n / 2 ^ a / 2 / 2 ^ j ≡ n / 2 ^ (a + 1 + j)
-shifted n a j =
-    ap (λ m. m / 2 ^ j) (div-div-eq-div-mul n (2 ^ a) 2) ∙ div-div-eq-div-mul n (2 ^ a * 2) (2 ^ j) ∙ ap (λ m. n / m) (ap (λ m. m * 2 ^ j) (sym (pow-add 2 a 1)) ∙ sym (pow-add 2 (a + 1) j))
+shifted n a j = grind (arith, common_steps, div-div-eq-div-mul n (2 ^ a) 2, div-div-eq-div-mul n (2 ^ a * 2) (2 ^ j), pow-add 2 a 1, pow-add 2 (a + 1) j)
 
 -- the lowest bit above another
 pub above_is : (words : ℕ) (links : List Link) (room filled class : ℕ) → KeepsLists words links room filled → class < 64 → filled / 2 ^ class / 2 ≢ 0
@@ -181,11 +176,7 @@ above_is words links room filled class h few some =
     below i on (inr le) = absurd (omega (arith, bit_at_above filled 64 i h.wide le))
 
 pub none_above : (words : ℕ) (links : List Link) (room filled class next : ℕ) → KeepsLists words links room filled → filled / 2 ^ class / 2 ≡ 0 → class < next → next < 64 → length (places_after links words next) ≡ 0
-none_above words links room filled class next h none lt few =
-    let j = next - (class + 1) in
-    let at : class + 1 + j ≡ next = omega arith in
-    let off : bit_at filled next ≡ 0 = ap (λ i. bit_at filled i) (sym at) ∙ ap (λ n. n % 2) (sym (shifted filled class j)) ∙ ap (λ m. bit_at m j) none ∙ bit_at-zero j in
-    omega (arith, h.bits next few)
+none_above words links room filled class next h none lt few = grind (arith, common_steps, shifted filled class (next - (class + 1)), bit_at-zero (next - (class + 1)))
 
 -- the highest bit
 pub last_filled : (words : ℕ) (links : List Link) (room filled : ℕ) → KeepsLists words links room filled → filled ≢ 0
@@ -197,19 +188,11 @@ last_filled words links room filled h some =
     let one : filled / 2 ^ top.0 ≡ 1 = div-eq_of_lt-le (2 ^ top.0) (let low = top.2 in omega arith) (let high = top.3 in omega (arith, pow-add 2 top.0 1)) in
     let on : bit_at filled top.0 ≡ 1 = ap (λ n. n % 2) one in
     let full : 0 < length (places_after links words top.0) = (let bit = h.bits top.0 lt in omega arith) in
-    subst (λ j. (j < 64) × (0 < length (places_after links words j)) × ((above : ℕ) → j < above → above < 64 → length (places_after links words above) ≡ 0)) e
-    (lt, full, λ above more few. (let bit = h.bits above few in let off = bit_at_above filled (suc top.0) above top.3 (omega arith) in omega arith))
+    grind (arith, common_steps, bit_at_above filled (suc top.0))
 
 -- heads that lead to themselves have no places
 pub no_places : (words : ℕ) (links : List Link) (class : ℕ) → class < 64 → (next_of links class ≡ class) × (prev_of links class ≡ class) → places_after links words class ≡ []
 no_places words links class few leads = told_places links words class [] class leads few (omega arith)
 
 pub keeps_none : (words : ℕ) (links : List Link) (room : ℕ) → words ≤ 1048576 → 64 ≤ length links → words + 64 ≤ room → ((class : ℕ) → class < 64 → (next_of links class ≡ class) × (prev_of links class ≡ class)) → KeepsLists words links room 0
-keeps_none words links room limit heads enough alone = record {
-  limit = limit;
-  heads = heads;
-  enough = enough;
-  wide = omega arith;
-  rings = λ class few. subst (λ xs. LeadOver links class xs class) (sym (no_places words links class few (alone class few))) (alone class few);
-  bits = λ class few. bit_at-zero class ∙ ap (λ xs. min 1 (length xs)) (sym (no_places words links class few (alone class few)));
-}
+keeps_none words links room limit heads enough alone = grind (arith, common_steps, no_places words links, bit_at-zero)

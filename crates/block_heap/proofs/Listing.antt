@@ -3,6 +3,7 @@ use Rattle.std.proofs.Common.{◌≡◌, ◌≢◌, ℕ, zero, suc, ◌+◌, ◌
 use Rattle.std.specs.List.{Contains, sum_by}
 use Rattle.std.proofs.lemmas.List.Sums.{sum_by-cons, sum_by-append, sum_by_push}
 use Rattle.std.proofs.lemmas.Bool.{cases_eq, eq-eqb, ne_eqb}
+use Rattle.std.proofs.lemmas.Grind.{common_steps}
 use Rattle.size_classes.specs.Classes.{class_of}
 use Rattle.block_heap.specs.declared.block.Block.{Block}
 use Rattle.block_heap.specs.Blocks.{free_block, Fills, IsFree, words_of}
@@ -16,8 +17,7 @@ pub used_counts : (class : ℕ) (weight : ℕ → ℕ) (block : Block) → block
 used_counts class weight block used = ap (λ u. cond u 0 (cond (eqb (class_of block.size) class) (weight block.place) 0)) used
 
 pub free_counts : (class : ℕ) (weight : ℕ → ℕ) (block : Block) → IsFree block → class_of block.size ≡ class → count_in class weight block ≡ weight block.place
-free_counts class weight block free is =
-    ap (λ u. cond u 0 (cond (eqb (class_of block.size) class) (weight block.place) 0)) free ∙ ap (λ t. cond t (weight block.place) 0) (eq-eqb (class_of block.size) class is)
+free_counts class weight block free is = grind (arith, common_steps)
 
 pub other_counts : (class : ℕ) (weight : ℕ → ℕ) (block : Block) → class_of block.size ≢ class → count_in class weight block ≡ 0
 other_counts class weight block other = by block.used
@@ -69,12 +69,10 @@ listed_removed lists new before after block free removed others listed class few
 
 -- a used block changes no list
 pub listed_beside : (lists : ℕ → List ℕ) (before after : List Block) (block : Block) → block.used ≡ true → AreListed lists (before ++ after) → AreListed lists (before ++ block ∷ after)
-listed_beside lists before after block used listed class few weight =
-    omega (arith, sum_by-append (count_in class weight) before (block ∷ after), sum_by-cons (count_in class weight) block after, sum_by-append (count_in class weight) before after, used_counts class weight block used, listed class few weight)
+listed_beside lists before after block used listed class few weight = grind (arith, common_steps)
 
 pub listed_without : (lists : ℕ → List ℕ) (before after : List Block) (block : Block) → block.used ≡ true → AreListed lists (before ++ block ∷ after) → AreListed lists (before ++ after)
-listed_without lists before after block used listed class few weight =
-    omega (arith, sum_by-append (count_in class weight) before (block ∷ after), sum_by-cons (count_in class weight) block after, sum_by-append (count_in class weight) before after, used_counts class weight block used, listed class few weight)
+listed_without lists before after block used listed class few weight = grind (arith, common_steps)
 
 -- what counts one place alone
 abbrev at : ℕ → ℕ → ℕ
@@ -94,15 +92,12 @@ counted (x ∷ xs) place some = by (cases_eq x place) (counted xs place)
 
 -- a block among others counts
 counts : (class : ℕ) (weight : ℕ → ℕ) (blocks : List Block) (block : Block) → Contains blocks block → IsFree block → class_of block.size ≡ class → weight block.place ≤ sum_by (count_in class weight) blocks
-counts class weight blocks block among free is =
-    let parts = parted blocks block among in
-    omega (arith, ap (sum_by (count_in class weight)) parts.2, sum_by-append (count_in class weight) parts.0 (block ∷ parts.1), sum_by-cons (count_in class weight) block parts.1, free_counts class weight block free is)
+counts class weight blocks block among free is = grind (arith, common_steps)
 
 -- a free block's place is listed
 pub place_listed : (lists : ℕ → List ℕ) (blocks : List Block) (block : Block) (class : ℕ) → class < 64 → class_of block.size ≡ class → AreListed lists blocks → Contains blocks block → IsFree block → Contains (lists class) block.place
 place_listed lists blocks block class few is listed among free =
-    let one : at block.place block.place ≡ 1 = ap (λ t. cond t 1 0) (eq-eqb block.place block.place refl) in
-    counted (lists class) block.place (omega (arith, counts class (at block.place) blocks block among free is, listed class few (at block.place), one))
+    grind (arith, common_steps, eq-eqb block.place block.place refl, counted (lists class) block.place, counts class (at block.place) blocks block among free is)
 
 -- and no list is empty that has one
 pub list_filled : (lists : ℕ → List ℕ) (blocks : List Block) (block : Block) (class : ℕ) → class < 64 → class_of block.size ≡ class → AreListed lists blocks → Contains blocks block → IsFree block → 0 < length (lists class)
@@ -153,19 +148,9 @@ free_within words blocks block fills among = (let lies = lies_from 0 words block
 
 -- no other block begins where a block does
 alone : (from end : ℕ) (before after : List Block) (block other : Block) (k : ℕ) → Fills from (before ++ block ∷ after) end → k < length (before ++ after) → get_or (before ++ after) k other ≡ other → other.place ≡ block.place → ⊥
-alone from end [] after block other k fills lt is same =
-    let lies = lies_from (from + block.size) end after other fills.2 (k, lt, is) in
-    let some = fills.1 in
-    let here = fills.0 in
-    let later = lies.0 in
-    omega arith
+alone from end [] after block other k fills lt is same = grind (arith, common_steps, lies_from (from + block.size) end after other fills.2 (k, lt, is))
 alone from end (b ∷ before) after block other zero fills lt is same =
-    let lies = lies_from (from + b.size) end (before ++ block ∷ after) block fills.2 (in_middle before after block) in
-    let some = fills.1 in
-    let here = fills.0 in
-    let later = lies.0 in
-    let first = ap (λ (x : Block). x.place) is in
-    omega arith
+    grind (arith, common_steps, lies_from (from + b.size) end (before ++ block ∷ after) block fills.2 (in_middle before after block), in_middle before after block)
 alone from end (b ∷ before) after block other (suc k) fills lt is same = alone (from + b.size) end before after block other k fills.2 (omega arith) is same
 
 -- a block beside those that are listed is in no list

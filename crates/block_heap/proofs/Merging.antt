@@ -1,5 +1,6 @@
 -- What merging free neighbours keeps, and where it changes nothing.
-use Rattle.std.proofs.Common.{◌≡◌, ℕ, ◌+◌, List, [], ◌∷◌, ◌++◌, refl, ap, ◌∙◌, subst, arith, add_assoc, Bool, true, false, ◌||◌, cond}
+use Rattle.std.proofs.Common.{◌≡◌, ℕ, ◌+◌, List, [], ◌∷◌, ◌++◌, refl, ap, ◌∙◌, arith, Bool, true, false, ◌||◌, cond}
+use Rattle.std.proofs.lemmas.Grind.{common_steps}
 use Rattle.block_heap.specs.declared.block.Block.{Block}
 use Rattle.block_heap.specs.Blocks.{free_block, IsFree, Fills, BeginsFree, IsMerged}
 use Rattle.block_heap.specs.Changes.{joined, merged}
@@ -14,10 +15,7 @@ not_both_false false b e h = let f = h.1 in cc
 
 pub joined_fills : (from end : ℕ) (block : Block) (blocks : List Block) → Fills from (block ∷ blocks) end → Fills from (joined block blocks) end
 joined_fills from end block [] h = h
-joined_fills from end block (next ∷ rest) h =
-    let as_one : Fills from (free_block block.place (block.size + next.size) ∷ rest) end =
-    (h.0, (let some = h.1 in omega arith), subst (λ n. Fills n rest end) (add_assoc from block.size next.size) h.2.2) in
-    elim (block.used || next.used) as (λ v. Fills from (cond v (block ∷ next ∷ rest) (free_block block.place (block.size + next.size) ∷ rest)) end) [ true ↦ h | false ↦ as_one ]
+joined_fills from end block (next ∷ rest) h = grind (arith, common_steps)
 
 pub merged_fills : (from end : ℕ) (blocks : List Block) → Fills from blocks end → Fills from (merged blocks) end
 merged_fills from end [] h = h

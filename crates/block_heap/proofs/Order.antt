@@ -1,6 +1,7 @@
 -- Block lists that fill a heap.
-use Rattle.std.proofs.Common.{◌≡◌, ℕ, ◌+◌, ◌≤◌, List, [], ◌∷◌, ◌++◌, length, subst, arith}
+use Rattle.std.proofs.Common.{◌≡◌, ℕ, ◌+◌, List, [], ◌∷◌, ◌++◌, subst, arith}
 use Rattle.std.proofs.lemmas.List.Sums.{sum_by-cons, sum_by-append}
+use Rattle.std.proofs.lemmas.Grind.{common_steps}
 use Rattle.block_heap.specs.declared.block.Block.{Block}
 use Rattle.block_heap.specs.Blocks.{Fills, BeginsFree, IsMerged, words_of}
 
@@ -12,35 +13,19 @@ words_of-append xs ys = sum_by-append (λ (b : Block). b.size) xs ys
 
 pub words_of-fills : (from end : ℕ) (blocks : List Block) → Fills from blocks end → from + words_of blocks ≡ end
 words_of-fills from end [] h = omega arith
-words_of-fills from end (block ∷ blocks) h =
-    let rest = words_of-fills (from + block.size) end blocks h.2 in
-    omega (arith, words_of-cons block blocks)
-
--- a block has a word at least
-pub length-le-words_of : (from end : ℕ) (blocks : List Block) → Fills from blocks end → length blocks ≤ words_of blocks
-length-le-words_of from end [] h = omega arith
-length-le-words_of from end (block ∷ blocks) h =
-    let rest = length-le-words_of (from + block.size) end blocks h.2 in
-    let some = h.1 in
-    omega (arith, words_of-cons block blocks)
+words_of-fills from end (block ∷ blocks) h = grind (arith, common_steps, words_of-fills (from + block.size) end blocks h.2)
 
 pub fills-append : (from end : ℕ) (xs ys : List Block) → Fills from xs (from + words_of xs) → Fills (from + words_of xs) ys end → Fills from (xs ++ ys) end
 fills-append from end [] ys h rest = let e : from + 0 ≡ from = omega arith in subst (λ n. Fills n ys end) e rest
-fills-append from end (x ∷ xs) ys h rest =
-    let e : from + words_of (x ∷ xs) ≡ (from + x.size) + words_of xs = omega (arith, words_of-cons x xs) in
-    (h.0, h.1, fills-append (from + x.size) end xs ys (subst (λ n. Fills (from + x.size) xs n) e h.2) (subst (λ n. Fills n ys end) e rest))
+fills-append from end (x ∷ xs) ys h rest = grind (arith, common_steps, fills-append (from + x.size) end xs ys)
 
 pub front_fills : (from end : ℕ) (xs ys : List Block) → Fills from (xs ++ ys) end → Fills from xs (from + words_of xs)
 front_fills from end [] ys h = omega arith
-front_fills from end (x ∷ xs) ys h =
-    let e : (from + x.size) + words_of xs ≡ from + words_of (x ∷ xs) = omega (arith, words_of-cons x xs) in
-    (h.0, h.1, subst (λ n. Fills (from + x.size) xs n) e (front_fills (from + x.size) end xs ys h.2))
+front_fills from end (x ∷ xs) ys h = grind (arith, common_steps, front_fills (from + x.size) end xs ys h.2)
 
 pub back_fills : (from end : ℕ) (xs ys : List Block) → Fills from (xs ++ ys) end → Fills (from + words_of xs) ys end
 back_fills from end [] ys h = let e : from ≡ from + 0 = omega arith in subst (λ n. Fills n ys end) e h
-back_fills from end (x ∷ xs) ys h =
-    let e : (from + x.size) + words_of xs ≡ from + words_of (x ∷ xs) = omega (arith, words_of-cons x xs) in
-    subst (λ n. Fills n ys end) e (back_fills (from + x.size) end xs ys h.2)
+back_fills from end (x ∷ xs) ys h = grind (arith, common_steps, back_fills (from + x.size) end xs ys h.2)
 
 -- other blocks that fill the same words take their place
 pub fills_instead : (from end : ℕ) (xs ys zs : List Block) → Fills from (xs ++ ys) end → ((at : ℕ) → Fills at ys end → Fills at zs end) → Fills from (xs ++ zs) end

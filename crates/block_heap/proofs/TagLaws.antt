@@ -2,7 +2,8 @@
 use Rattle.std.proofs.Common.{◌≡◌, ℕ, zero, suc, ◌+◌, ◌-◌, ◌<◌, ◌≤◌, Bool, true, false, get_or, List, [], ◌∷◌, ◌++◌, length, refl, sym, ap, ◌∙◌, subst, arith}
 use Rattle.std.specs.List.{Contains}
 use Rattle.std.proofs.lemmas.List.{get_or_default}
-use Rattle.std.proofs.lemmas.Bool.{lt-ltb, le-ltb}
+use Rattle.std.proofs.lemmas.Bool.{le-ltb}
+use Rattle.std.proofs.lemmas.Grind.{common_steps}
 use Rattle.block_heap.specs.declared.block.Block.{Block}
 use Rattle.block_heap.specs.Blocks.{free_block, used_block, Fills, IsFree, BeginsFree, words_of}
 use Rattle.block_heap.specs.Changes.{rest_of}
@@ -18,28 +19,15 @@ pub told : (sizes : List ℕ) (used : List Bool) (most from : ℕ) (blocks : Lis
 unfolding blocks_from
 told sizes used zero from [] fills tagged enough = refl
 told sizes used (suc most) from [] fills tagged enough = rw (le-ltb from (length sizes) (omega arith)) refl
-told sizes used zero from (block ∷ blocks) fills tagged enough =
-    absurd (let le = from-le-end (from + block.size) (length sizes) blocks fills.2 in let some = fills.1 in omega arith)
-told sizes used (suc most) from (block ∷ blocks) fills tagged enough =
-    let le = from-le-end (from + block.size) (length sizes) blocks fills.2 in
-    let some = fills.1 in
-    let first = subst (λ p. tag_at sizes used p ≡ (block.size, block.used)) fills.0 tagged.0.first in
-    let size = ap (λ t. t.0) first in
-    let use_is = ap (λ t. t.1) first in
-    let rest = told sizes used most (from + block.size) blocks fills.2 tagged.1 (omega arith) in
-    rw (lt-ltb from (length sizes) (omega arith), size, use_is, rest) (ap (λ p. record { place = p; size = block.size; used = block.used } ∷ blocks) (sym fills.0))
+told sizes used zero from (block ∷ blocks) fills tagged enough = grind (arith, common_steps)
+told sizes used (suc most) from (block ∷ blocks) fills tagged enough = grind (arith, common_steps, told sizes used most)
 
 -- blocks stay told where the tags of their words stay
 pub kept : (sizes new_sizes : List ℕ) (used new_used : List Bool) (from end : ℕ) (blocks : List Block) → Fills from blocks end
     → ((place : ℕ) → from ≤ place → place < end → tag_at new_sizes new_used place ≡ tag_at sizes used place) → AreTagged sizes used blocks → AreTagged new_sizes new_used blocks
 kept sizes new_sizes used new_used from end [] fills same tagged = tt
 kept sizes new_sizes used new_used from end (block ∷ blocks) fills same tagged =
-    let le = from-le-end (from + block.size) end blocks fills.2 in
-    let some = fills.1 in
-    let here = fills.0 in (
-      record { first = same block.place (omega arith) (omega arith) ∙ tagged.0.first; last = same (block.place + block.size - 1) (omega arith) (omega arith) ∙ tagged.0.last },
-      kept sizes new_sizes used new_used (from + block.size) end blocks fills.2 (λ place ge lt. same place (omega arith) lt) tagged.1,
-    )
+    grind (arith, common_steps, from-le-end (from + block.size) end blocks fills.2, kept sizes new_sizes used new_used (from + block.size) end blocks fills.2)
 
 pub tagged-append : (sizes : List ℕ) (used : List Bool) (xs ys : List Block) → AreTagged sizes used xs → AreTagged sizes used ys → AreTagged sizes used (xs ++ ys)
 tagged-append sizes used [] ys a b = b
@@ -63,8 +51,7 @@ pub record Rewrites (sizes new_sizes : List ℕ) (used new_used : List Bool) (fr
 -- one block's tags are written
 pub one_written : (sizes new_sizes : List ℕ) (used new_used : List Bool) (block : Block) → 0 < block.size → length new_sizes ≡ length sizes → length new_used ≡ length used
     → OthersStay sizes used new_sizes new_used block → Rewrites sizes new_sizes used new_used block.place (block.place + block.size)
-one_written sizes new_sizes used new_used block some len used_len others =
-    record { len = len; used_len = used_len; below = λ place lt. others place (λ e. omega arith) (λ e. omega arith); above = λ place le. others place (λ e. omega arith) (λ e. omega arith) }
+one_written sizes new_sizes used new_used block some len used_len others = grind (arith, common_steps)
 
 -- what the tags tell after they are written
 pub record NowTell (sizes : List ℕ) (used : List Bool) (blocks : List Block) : Type 0 where
@@ -72,9 +59,7 @@ pub record NowTell (sizes : List ℕ) (used : List Bool) (blocks : List Block) :
   pub tell : TellBlocks sizes used (blocks_of sizes used)
 
 pub now_tell : (sizes : List ℕ) (used : List Bool) (blocks : List Block) → TellBlocks sizes used blocks → NowTell sizes used blocks
-now_tell sizes used blocks tell =
-    let view = told sizes used (length sizes) 0 blocks tell.fills tell.tagged (omega arith) in
-    record { view = view; tell = subst (TellBlocks sizes used) (sym view) tell }
+now_tell sizes used blocks tell = grind (arith, common_steps, told sizes used (length sizes) 0 blocks tell.fills tell.tagged (omega arith))
 
 -- other blocks of the same words take the place of some
 pub told_instead : (sizes new_sizes : List ℕ) (used new_used : List Bool) (from end : ℕ) (before middle instead after : List Block) → Rewrites sizes new_sizes used new_used from end
@@ -139,28 +124,21 @@ pub record LastTold (sizes : List ℕ) (used : List Bool) (before : List Block) 
 
 pub seam_within : (sizes : List ℕ) (used : List Bool) (blocks before after : List Block) (place : ℕ) → TellBlocks sizes used blocks → blocks ≡ before ++ after → words_of before ≡ place → place ≤ length sizes
 seam_within sizes used blocks before after place tell whole here =
-    let fills = subst (λ xs. Fills 0 xs (length sizes)) whole tell.fills in
-    let le = from-le-end (0 + words_of before) (length sizes) after (back_fills 0 (length sizes) before after fills) in
-    omega arith
+    grind (arith, common_steps, from-le-end (0 + words_of before) (length sizes) after, back_fills 0 (length sizes) before after)
 
 pub last_told : (sizes : List ℕ) (used : List Bool) (blocks before after : List Block) (place : ℕ) → TellBlocks sizes used blocks → blocks ≡ before ++ after → words_of before ≡ place → 0 < place → LastTold sizes used before place
 last_told sizes used blocks [] after place tell whole here some = absurd (omega arith)
 last_told sizes used blocks (b ∷ bs) after place tell whole here some =
-    let before = b ∷ bs in
-    let split = last_of before (length bs) (omega arith) in
-    let fills = subst (λ xs. Fills 0 xs (length sizes)) whole tell.fills in
-    let front = subst (λ xs. Fills 0 xs (0 + words_of before)) split.2 (front_fills 0 (length sizes) before after fills) in
-    let last = back_fills 0 (0 + words_of before) split.0 (split.1 ∷ []) front in
-    let ends : split.1.place + split.1.size ≡ place = (let at = last.0 in let end = last.2 in omega arith) in
-    let tagged = tagged_back sizes used split.0 (split.1 ∷ []) (subst (AreTagged sizes used) split.2 (tagged_front sizes used before after (subst (AreTagged sizes used) whole tell.tagged))) in
-    record {
-      front = split.0;
-      last = split.1;
-      split = split.2;
-      tag = subst (λ n. tag_at sizes used (n - 1) ≡ (split.1.size, split.1.used)) ends tagged.0.last;
-      ends = ends;
-      within = seam_within sizes used blocks before after place tell whole here;
-    }
+    grind (
+      arith,
+      common_steps,
+      last_of (b ∷ bs) (length bs) (omega arith),
+      front_fills 0 (length sizes) (b ∷ bs) after,
+      back_fills 0 (0 + words_of (b ∷ bs)) (last_of (b ∷ bs) (length bs) (omega arith)).0 ((last_of (b ∷ bs) (length bs) (omega arith)).1 ∷ []),
+      tagged_back sizes used (last_of (b ∷ bs) (length bs) (omega arith)).0 ((last_of (b ∷ bs) (length bs) (omega arith)).1 ∷ []),
+      tagged_front sizes used (b ∷ bs) after,
+      seam_within sizes used blocks (b ∷ bs) after place tell whole here,
+    )
 
 -- the first block from a place on, and what the word there tells
 pub record FirstTold (sizes : List ℕ) (used : List Bool) (after : List Block) (place : ℕ) : Type 0 where
@@ -172,13 +150,10 @@ pub record FirstTold (sizes : List ℕ) (used : List Bool) (after : List Block) 
 
 first_by : (sizes : List ℕ) (used : List Bool) (place : ℕ) (after : List Block) → Fills place after (length sizes) → AreTagged sizes used after → place < length sizes → FirstTold sizes used after place
 first_by sizes used place [] fills tagged lt = absurd (omega arith)
-first_by sizes used place (block ∷ back) fills tagged lt =
-    record { first = block; back = back; split = refl; tag = subst (λ p. tag_at sizes used p ≡ (block.size, block.used)) fills.0 tagged.0.first; here = fills.0 }
+first_by sizes used place (block ∷ back) fills tagged lt = grind (arith, common_steps)
 
 pub after_fills : (sizes : List ℕ) (used : List Bool) (blocks before after : List Block) (place : ℕ) → TellBlocks sizes used blocks → blocks ≡ before ++ after → words_of before ≡ place → Fills place after (length sizes)
-after_fills sizes used blocks before after place tell whole here =
-    let at : 0 + words_of before ≡ place = omega arith in
-    subst (λ n. Fills n after (length sizes)) at (back_fills 0 (length sizes) before after (subst (λ xs. Fills 0 xs (length sizes)) whole tell.fills))
+after_fills sizes used blocks before after place tell whole here = grind (arith, common_steps, back_fills 0 (length sizes) before after)
 
 pub first_told : (sizes : List ℕ) (used : List Bool) (blocks before after : List Block) (place : ℕ) → TellBlocks sizes used blocks → blocks ≡ before ++ after → words_of before ≡ place → place < length sizes → FirstTold sizes used after place
 first_told sizes used blocks before after place tell whole here lt =
@@ -187,18 +162,12 @@ first_told sizes used blocks before after place tell whole here lt =
 -- blocks without words are none
 pub no_words : (from : ℕ) (blocks : List Block) → Fills from blocks from → EndsFree blocks → ⊥
 no_words from [] fills ends = ends
-no_words from (block ∷ blocks) fills ends =
-    let le = from-le-end (from + block.size) from blocks fills.2 in
-    let some = fills.1 in
-    omega arith
+no_words from (block ∷ blocks) fills ends = grind (arith, common_steps, from-le-end (from + block.size) from blocks fills.2)
 
 -- no block begins where the words end
 pub none_behind : (place : ℕ) (after : List Block) → Fills place after place → BeginsFree after → ⊥
 none_behind place [] fills begins = begins
-none_behind place (block ∷ back) fills begins =
-    let le = from-le-end (place + block.size) place back fills.2 in
-    let some = fills.1 in
-    omega arith
+none_behind place (block ∷ back) fills begins = grind (arith, common_steps, from-le-end (place + block.size) place back fills.2)
 
 pub ends_last : (front : List Block) (last : Block) → EndsFree (front ++ last ∷ []) → IsFree last
 ends_last [] last ends = ends
@@ -237,8 +206,7 @@ seam_words place before fills = (let e = words_of-fills 0 place before fills in 
 
 pub seam_below : (sizes : List ℕ) (used : List Bool) (blocks before after : List Block) (place : ℕ) → TellBlocks sizes used blocks → blocks ≡ before ++ after → Fills 0 before place → (place ≡ length sizes → ⊥) → place < length sizes
 seam_below sizes used blocks before after place tell whole here other =
-    let le = seam_within sizes used blocks before after place tell whole (seam_words place before here) in
-    omega arith
+    grind (arith, common_steps, seam_within sizes used blocks before after place tell whole (seam_words place before here), seam_words place before here)
 
 -- a block's first words are one block now, and its last words another
 pub record Cut (sizes new_sizes : List ℕ) (used new_used : List Bool) (block : Block) (need : ℕ) : Type 0 where
@@ -265,15 +233,7 @@ cut_told sizes new_sizes used new_used block need blocks before after cut tell w
 -- all of its words are used
 pub cut_whole : (sizes new_sizes : List ℕ) (used new_used : List Bool) (block : Block) (need : ℕ) → 0 < need → need ≤ block.size → block.size ≤ need → length new_sizes ≡ length sizes → length new_used ≡ length used
     → OthersStay sizes used new_sizes new_used (used_block block.place need) → IsTagged new_sizes new_used (used_block block.place need) → Cut sizes new_sizes used new_used block need
-cut_whole sizes new_sizes used new_used block need some enough all len used_len others tagged =
-    let same : need ≡ block.size = omega arith in
-    let none : block.size - need ≡ 0 = omega arith in
-    record {
-      some = some;
-      enough = enough;
-      writes = subst (λ n. Rewrites sizes new_sizes used new_used block.place (block.place + n)) same (one_written sizes new_sizes used new_used (used_block block.place need) some len used_len others);
-      tagged = (tagged, subst (λ n. AreTagged new_sizes new_used (rest_of (block.place + need) n)) (sym none) tt);
-    }
+cut_whole sizes new_sizes used new_used block need some enough all len used_len others tagged = grind (arith, common_steps)
 
 -- the rest is free
 pub cut_part : (sizes mid_sizes new_sizes : List ℕ) (used mid_used new_used : List Bool) (block : Block) (need : ℕ) → 0 < need → need < block.size

@@ -1,5 +1,6 @@
 -- What taking a block keeps.
-use Rattle.std.proofs.Common.{◌≡◌, ℕ, zero, suc, ◌+◌, ◌-◌, ◌<◌, ◌≤◌, List, [], ◌∷◌, ◌++◌, refl, sym, ap, subst, arith}
+use Rattle.std.proofs.Common.{◌≡◌, ℕ, zero, suc, ◌+◌, ◌-◌, ◌<◌, ◌≤◌, List, [], ◌∷◌, ◌++◌, refl, sym, subst, arith}
+use Rattle.std.proofs.lemmas.Grind.{common_steps}
 use Rattle.block_heap.specs.declared.block.Block.{Block}
 use Rattle.block_heap.specs.Blocks.{free_block, used_block, Fills, IsMerged, IsBlockList, words_of}
 use Rattle.block_heap.specs.Changes.{rest_of, IsTaken}
@@ -10,9 +11,7 @@ rest_fills from end place zero after here h = let e : from + 0 ≡ from = omega 
 rest_fills from end place (suc size) after here h = (here, (omega arith), h)
 
 taken_fills : (from end place size need : ℕ) (after : List Block) → 0 < need → need ≤ size → Fills from (free_block place size ∷ after) end → Fills from (used_block place need ∷ (rest_of (place + need) (size - need) ++ after)) end
-taken_fills from end place size need after some enough h =
-    let e : from + size ≡ (from + need) + (size - need) = omega arith in
-    (h.0, some, rest_fills (from + need) end (place + need) (size - need) after (ap (λ n. n + need) h.0) (subst (λ n. Fills n after end) e h.2))
+taken_fills from end place size need after some enough h = grind (arith, common_steps)
 
 rest_merged : (place size other more : ℕ) (after : List Block) → IsMerged (free_block place size ∷ after) → IsMerged (rest_of other more ++ after)
 rest_merged place size other zero after h = h.1
@@ -42,14 +41,8 @@ words_of-list words blocks list = let e = words_of-fills 0 words blocks list.fil
 -- a block's words lie in the heap
 pub place_within : (words : ℕ) (before after : List Block) (block : Block) → Fills 0 (before ++ block ∷ after) words → block.place + block.size ≤ words
 place_within words before after block h =
-    let here = back_fills 0 words before (block ∷ after) h in
-    let place = here.0 in
-    let end = words_of-fills ((0 + words_of before) + block.size) words after here.2 in
-    omega arith
+    grind (arith, common_steps, back_fills 0 words before (block ∷ after) h, words_of-fills ((0 + words_of before) + block.size) words after (back_fills 0 words before (block ∷ after) h).2)
 
 pub rest_is : (place size : ℕ) → 0 < size → rest_of place size ≡ free_block place size ∷ []
 rest_is place zero some = absurd (omega arith)
 rest_is place (suc size) some = refl
-
-pub rest_none : (place size : ℕ) → size ≡ 0 → rest_of place size ≡ []
-rest_none place size none = ap (rest_of place) none

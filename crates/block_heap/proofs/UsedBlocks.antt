@@ -1,13 +1,13 @@
 -- The used blocks: they lie apart in the heap, taking adds one to them, and giving back removes one.
-use Rattle.std.proofs.Common.{◌≡◌, ℕ, zero, suc, ◌+◌, ◌-◌, ◌≤◌, ◌⊎◌, inl, inr, List, [], ◌∷◌, ◌++◌, refl, sym, ap, ◌∙◌, subst, arith, Bool, true, false, ◌||◌, cond}
+use Rattle.std.proofs.Common.{◌≡◌, ℕ, ◌+◌, ◌≤◌, ◌⊎◌, inl, inr, List, [], ◌∷◌, ◌++◌, refl, sym, ap, ◌∙◌, subst, arith, Bool, true, false}
 use Rattle.std.specs.List.{All, AllPairs}
 use Rattle.std.proofs.lemmas.List.Elements.{All-nil, All-cons, All-weaker, All-filter, All-append, filter-append}
 use Rattle.std.proofs.lemmas.List.Kept.{AllPairs-cons}
+use Rattle.std.proofs.lemmas.Grind.{common_steps}
 use Rattle.block_heap.specs.declared.block.Block.{Block}
 use Rattle.block_heap.specs.Blocks.{free_block, used_block, Fills, IsBlockList, words_of, used_blocks}
-use Rattle.block_heap.specs.Changes.{rest_of, joined, merged, IsTaken, IsGiven}
+use Rattle.block_heap.specs.Changes.{merged, IsTaken, IsGiven}
 use Rattle.block_heap.proofs.Order.{words_of-fills, front_fills, back_fills}
-use Rattle.block_heap.proofs.Merging.{both_false}
 use Rattle.block_heap.proofs.Counting.{used_more, used_same}
 use Rattle.block_heap.proofs.Taking.{place_within}
 
@@ -21,39 +21,13 @@ pub record AddsBlock (old new : List Block) (block : Block) : Type 0 where
 used_blocks-append : (xs ys : List Block) → used_blocks (xs ++ ys) ≡ used_blocks xs ++ used_blocks ys
 used_blocks-append xs ys = filter-append (λ (b : Block). b.used) xs ys
 
-used_blocks-rest : (place size : ℕ) (after : List Block) → used_blocks (rest_of place size ++ after) ≡ used_blocks after
-used_blocks-rest place zero after = refl
-used_blocks-rest place (suc size) after = refl
-
 pub used_blocks-taken : (old new : List Block) (place need : ℕ) → IsTaken old new place need → AddsBlock (used_blocks old) (used_blocks new) (used_block place need)
-used_blocks-taken old new place need taken =
-    let rest = rest_of (place + need) (taken.size - need) in
-    record {
-      before = used_blocks taken.before;
-      after = used_blocks taken.after;
-      was = ap used_blocks taken.was ∙ used_blocks-append taken.before (free_block place taken.size ∷ taken.after);
-      now =
-          ap used_blocks taken.now
-          ∙ used_blocks-append taken.before (used_block place need ∷ (rest ++ taken.after))
-          ∙ ap (λ bs. used_blocks taken.before ++ used_block place need ∷ bs) (used_blocks-rest (place + need) (taken.size - need) taken.after);
-    }
-
-joined_by : (block next : Block) (rest : List Block) (v : Bool) → (block.used || next.used) ≡ v
-    → used_blocks (cond v (block ∷ next ∷ rest) (free_block block.place (block.size + next.size) ∷ rest)) ≡ used_blocks (block ∷ next ∷ rest)
-joined_by block next rest true e = refl
-joined_by block next rest false e =
-    let free = both_false block.used next.used e in
-    sym (used_same block (next ∷ rest) free.0 ∙ used_same next rest free.1)
-
-used_blocks-joined : (block : Block) (blocks : List Block) → used_blocks (joined block blocks) ≡ used_blocks (block ∷ blocks)
-used_blocks-joined block [] = refl
-used_blocks-joined block (next ∷ rest) = joined_by block next rest (block.used || next.used) refl
+used_blocks-taken old new place need taken = grind (arith, common_steps)
 
 -- merging free blocks changes no used one
 pub used_blocks-merged : (blocks : List Block) → used_blocks (merged blocks) ≡ used_blocks blocks
 used_blocks-merged [] = refl
-used_blocks-merged (block ∷ blocks) =
-    used_blocks-joined block (merged blocks) ∙ ap (λ bs. cond block.used (block ∷ bs) bs) (used_blocks-merged blocks)
+used_blocks-merged (block ∷ blocks) = grind (arith, common_steps, used_blocks-merged blocks)
 
 pub used_blocks-given : (old new : List Block) (place : ℕ) → (given : IsGiven old new place) → AddsBlock (used_blocks new) (used_blocks old) (used_block place given.size)
 used_blocks-given old new place given =
@@ -61,9 +35,7 @@ used_blocks-given old new place given =
       before = used_blocks given.before;
       after = used_blocks given.after;
       was =
-          ap used_blocks given.now
-          ∙ used_blocks-merged (given.before ++ free_block place given.size ∷ given.after)
-          ∙ used_blocks-append given.before (free_block place given.size ∷ given.after);
+          grind (arith, common_steps, used_blocks-merged (given.before ++ free_block place given.size ∷ given.after), used_blocks-append given.before (free_block place given.size ∷ given.after));
       now = ap used_blocks given.was ∙ used_blocks-append given.before (used_block place given.size ∷ given.after);
     }
 
@@ -71,11 +43,7 @@ used_blocks-given old new place given =
 all_within : (from end : ℕ) (blocks : List Block) → Fills from blocks end → All (λ block. (from ≤ block.place) × (block.place + block.size ≤ end)) blocks
 all_within from end [] h = All-nil (λ (block : Block). (from ≤ block.place) × (block.place + block.size ≤ end))
 all_within from end (block ∷ blocks) h =
-    let total = words_of-fills (from + block.size) end blocks h.2 in
-    let here = h.0 in
-    All-cons (λ (b : Block). (from ≤ b.place) × (b.place + b.size ≤ end)) block blocks (omega arith, omega arith)
-    (All-weaker (λ (b : Block). (from + block.size ≤ b.place) × (b.place + b.size ≤ end)) (λ b. (from ≤ b.place) × (b.place + b.size ≤ end))
-    (λ b p. (let lower = p.0 in omega arith, p.1)) blocks (all_within (from + block.size) end blocks h.2))
+    grind (arith, common_steps, words_of-fills (from + block.size) end blocks h.2, All-cons, All-weaker, all_within (from + block.size) end blocks h.2)
 
 -- each used block lies in the heap
 pub used_within : (words : ℕ) (blocks : List Block) → IsBlockList words blocks → All (λ block. block.place + block.size ≤ words) (used_blocks blocks)
@@ -107,10 +75,7 @@ used_apart words blocks list = apart 0 words blocks list.fills
 
 -- a taken block lies in the heap
 pub taken_within : (words : ℕ) (old new : List Block) (place need : ℕ) → IsBlockList words old → IsTaken old new place need → place + need ≤ words
-taken_within words old new place need list taken =
-    let inside = place_within words taken.before taken.after (free_block place taken.size) (subst (λ bs. Fills 0 bs words) taken.was list.fills) in
-    let enough = taken.enough in
-    omega arith
+taken_within words old new place need list taken = grind (arith, common_steps, place_within words taken.before taken.after (free_block place taken.size))
 
 -- a taken block lies apart from all that were used before
 pub taken_apart : (words : ℕ) (old new : List Block) (place need : ℕ) → IsBlockList words old → IsTaken old new place need

@@ -9,7 +9,7 @@ pub struct Link {
 }
 
 // Has links for the nodes up to this one.
-pub fn reach(links: &mut Vec<Link>, node: u32)
+pub fn grow_to(links: &mut Vec<Link>, node: u32)
     requires { node < vec_capacity links.old }
     ensures nodes { node < length links.new.items }
     ensures stay { length links.old.items ≤ length links.new.items }

@@ -4,7 +4,7 @@ ghost use Rattle.std.specs.Int.{bit_at};
 ghost use Rattle.block_heap.specs.Links.{node_of, list_of};
 ghost use Rattle.block_heap.specs.Lists.{IsUnlisted, IsListed, IsWithout, left_from};
 
-use crate::links::{Link, join, reach};
+use crate::links::{Link, grow_to, join};
 use mica_io::NoMemory;
 use size_classes::CLASSES;
 use std::alloc::Global;
@@ -116,7 +116,7 @@ impl FreeLists {
     {
         let last = self.links[class as usize].prev;
         let node = place + CLASSES;
-        reach(&mut self.links, node);
+        grow_to(&mut self.links, node);
         join(&mut self.links, last, node);
         join(&mut self.links, node, class);
         self.filled = with_bit(self.filled, class, true);
