@@ -1,9 +1,10 @@
 -- What stands at the places of a list.
-use Rattle.std.proofs.Common.{◌≡◌, ◌≢◌, ℕ, zero, suc, ◌+◌, ◌<◌, ◌≤◌, ◌⊎◌, inl, inr, List, [], ◌∷◌, ◌++◌, length, map, take, drop, Option, Some, None, slice_get, slice_set, refl, sym, ap, ◌∙◌, arith, append_assoc}
-use Rattle.std.specs.List.{filter_map, cons_option}
+use Rattle.std.proofs.Common.{◌≡◌, ◌≢◌, ℕ, zero, suc, ◌+◌, ◌<◌, ◌≤◌, ◌⊎◌, inl, inr, List, [], ◌∷◌, ◌++◌, length, map, take, drop, Option, Some, slice_get, slice_set, refl, ap, ◌∙◌, arith, append_assoc}
+use Rattle.std.specs.List.{filter_map}
 use Rattle.std.specs.Prelude.{option_map}
 use Rattle.std.proofs.lemmas.List.{length_push, take_all, take-append-drop, take-append-le}
 use Rattle.std.proofs.lemmas.Option.{slice_get-map}
+use Rattle.std.proofs.lemmas.Grind.{common_steps}
 
 pub element_at : {X : Type 0} (xs : List X) (n : ℕ) → n < length xs → (x : X) × (slice_get xs n ≡ Some x)
 element_at [] n less = absurd (omega arith)
@@ -21,11 +22,15 @@ at_last xs y = at_seam xs y []
 -- where the last of a beginning was taken off
 pub popped : {X : Type 0} (all now new : List X) (x : X) → now ≡ take (length now) all → now ≡ new ++ x ∷ [] → (new ≡ take (length new) all) × (slice_get all (length new) ≡ Some x) × (length now ≡ length new + 1)
 popped all now new x front is =
-    let n : length now ≡ length new + 1 = ap length is ∙ length_push new x in
-    let whole : new ++ x ∷ drop (length now) all ≡ all = sym (append_assoc new (x ∷ []) (drop (length now) all)) ∙ ap (λ l. l ++ drop (length now) all) (sym is ∙ front) ∙ take-append-drop (length now) all in (
-      sym (ap (take (length new)) (sym whole) ∙ take-append-le (length new) new (x ∷ drop (length now) all) (omega arith) ∙ take_all (length new) new (omega arith)),
-      ap (λ l. slice_get l (length new)) (sym whole) ∙ at_seam new x (drop (length now) all),
-      n,
+    grind (
+      arith,
+      common_steps,
+      length_push new x,
+      append_assoc new (x ∷ []) (drop (length now) all),
+      take-append-drop (length now) all,
+      take-append-le (length new) new (x ∷ drop (length now) all) (omega arith),
+      take_all (length new) new (omega arith),
+      at_seam new x (drop (length now) all),
     )
 
 -- what a map has at a place is of the element there
@@ -39,11 +44,7 @@ from_map f (x ∷ xs) (suc n) y at = from_map f xs n y at
 
 pub length-filter_map-le : {X Y : Type 0} (h : X → Option Y) (xs : List X) → length (filter_map h xs) ≤ length xs
 length-filter_map-le h [] = omega arith
-length-filter_map-le h (x ∷ xs) =
-    elim (h x) as (λ o. length (cons_option o (filter_map h xs)) ≤ length (x ∷ xs)) [
-      | None ↦ let rest = length-filter_map-le h xs in omega arith
-      | Some y ↦ let rest = length-filter_map-le h xs in omega arith
-    ]
+length-filter_map-le h (x ∷ xs) = grind (arith, common_steps, length-filter_map-le h xs)
 
 -- One element set
 
@@ -53,11 +54,7 @@ set_cases [] p x q y is = absurd (cc)
 set_cases (z ∷ xs) zero x zero y is = inl (refl, cc)
 set_cases (z ∷ xs) zero x (suc q) y is = inr ((λ same. omega arith), is)
 set_cases (z ∷ xs) (suc p) x zero y is = inr ((λ same. omega arith), is)
-set_cases (z ∷ xs) (suc p) x (suc q) y is =
-    elim (set_cases xs p x q y is) as (λ _. ((suc p ≡ suc q) × (x ≡ y)) ⊎ ((suc p ≢ suc q) × (slice_get xs q ≡ Some y))) [
-      | inl same ↦ inl (ap suc same.0, same.1)
-      | inr other ↦ inr ((λ same. other.0 (omega arith)), other.1)
-    ]
+set_cases (z ∷ xs) (suc p) x (suc q) y is = grind (arith, common_steps, set_cases xs p x q y is)
 
 pub set_here : {X : Type 0} (xs : List X) (k : ℕ) (x y : X) → slice_get xs k ≡ Some x → slice_get (slice_set xs k y) k ≡ Some y
 set_here [] k x y at = absurd (cc)

@@ -1,7 +1,7 @@
 -- A list whose elements are changed one after another.
-use Rattle.std.proofs.Common.{◌≡◌, ℕ, ◌+◌, ◌<◌, ◌≤◌, inl, inr, List, length, Some, slice_get, slice_set, refl, sym, ◌∙◌, subst, arith}
+use Rattle.std.proofs.Common.{◌≡◌, ℕ, ◌+◌, ◌<◌, ◌≤◌, inl, inr, List, length, Some, slice_get, slice_set, sym, ◌∙◌, subst, arith}
 use Rattle.std.proofs.lemmas.List.{length-set}
-use Rattle.std.proofs.lemmas.Option.{same_Some}
+use Rattle.std.proofs.lemmas.Grind.{common_steps}
 use Rattle.list_laws.proofs.Places.{set_cases}
 
 -- the first of them are changed, and the rest are as they were
@@ -11,11 +11,7 @@ pub record UpTo {X : Type 0} (R : X → X → Type 0) (q : ℕ) (olds news : Lis
   pub later : (i : ℕ) (old new : X) → q ≤ i → slice_get olds i ≡ Some old → slice_get news i ≡ Some new → new ≡ old
 
 pub up_none : {X : Type 0} (R : X → X → Type 0) (xs : List X) → UpTo R 0 xs xs
-up_none R xs = record {
-  many = refl;
-  done = λ i old new less is_old is_new. absurd (omega arith);
-  later = λ i old new from is_old is_new. same_Some _ _ (sym is_new ∙ is_old);
-}
+up_none R xs = grind (arith, common_steps)
 
 pub up_one : {X : Type 0} (R : X → X → Type 0) (q : ℕ) (olds mids : List X) (mid new : X) → UpTo R q olds mids → slice_get mids q ≡ Some mid → R mid new → UpTo R (q + 1) olds (slice_set mids q new)
 up_one {X = X} R q olds mids mid new so_far at one = record {
