@@ -1,10 +1,11 @@
 -- Powers of two, by the one binary digit that is set: the remainder by one is a mask.
-use Rattle.std.proofs.Common.{◌≡◌, ℕ, zero, suc, ◌-◌, ◌/◌, ◌%◌, ◌≤◌, true, bit_and, sym, subst, arith, inl, inr}
+use Rattle.std.proofs.Common.{◌≡◌, ℕ, zero, suc, ◌-◌, ◌/◌, ◌%◌, ◌≤◌, true, bit_and, arith, inl, inr}
 use Rattle.std.proofs.lemmas.Bool.{cases_lt}
 use Rattle.std.proofs.lemmas.Nat.{and_mask, zero_from_ones, ones_le_self}
 use Rattle.std.proofs.Math.Nat.{pow-succ'}
 use Rattle.std.specs.Int.{is_power_of_two, IsPowerOfTwo}
 use Rattle.std.specs.Int.RustNames.{count_ones}
+use Rattle.std.proofs.lemmas.Grind.{common_steps}
 use lib.Count.{ones_step}
 use borrow.Author.Tests.{eqb-true}
 
@@ -25,5 +26,4 @@ power_of_one_digit (suc d) n few one =
 
 pub mask_is_remainder : (n m : ℕ) → is_power_of_two m ≡ true → bit_and n (m - 1) ≡ n % m
 mask_is_remainder n m power =
-    let some = power_of_one_digit m m (omega arith) (eqb-true (count_ones m) 1 power) in
-    subst (λ (z : ℕ). bit_and n (z - 1) ≡ n % z) (sym some.1) (and_mask n some.0)
+    grind (arith, common_steps, power_of_one_digit m m (omega arith) (eqb-true (count_ones m) 1 power), eqb-true (count_ones m) 1 power, bit_and n, and_mask n)

@@ -1,16 +1,8 @@
 -- The ranges of a hash and of what it chooses, and a key's choices by its hash.
-use Rattle.std.proofs.Common.{◌≡◌, ℕ, ◌*◌, ◌%◌, ◌^◌, ◌<◌, ◌≤◌, List, [], ◌∷◌, refl, arith, fold, bit_xor}
+use Rattle.std.proofs.Common.{◌≡◌, ℕ, ◌^◌, ◌<◌, ◌≤◌, List, refl, arith}
 use Rattle.std.proofs.Math.Nat.{mod-lt}
 use Rattle.std.proofs.lemmas.Bool.Decides.{nat_tests}
 use Rattle.mica_words.specs.Hash.{fnv1a, hash_partition, hash_bucket, hash_tag, partition_of, bucket_of, tag_of}
-
-pub fnv1a-below : (key : List ℕ) → fnv1a key < 2 ^ 64
-unfolding fnv1a
-fnv1a-below key = below 14695981039346656037 key (omega arith)
-  where
-    below : (hash : ℕ) (bytes : List ℕ) → hash < 2 ^ 64 → fold (λ hash byte. bit_xor hash byte * 1099511628211 % 2 ^ 64) hash bytes < 2 ^ 64
-    below hash [] small = small
-    below hash (byte ∷ bytes) small = below (bit_xor hash byte * 1099511628211 % 2 ^ 64) bytes (omega arith)
 
 pub hash_partition-below : (hash partitions : ℕ) → 1 ≤ partitions → hash_partition hash partitions < partitions
 hash_partition-below hash partitions some = omega arith

@@ -1,7 +1,8 @@
 -- What stands at each place of an item, and that it determines the key and the value.
-use Rattle.std.proofs.Common.{◌≡◌, ℕ, zero, suc, ◌+◌, ◌<◌, List, [], ◌∷◌, ◌++◌, length, slice_index, refl, sym, ap, ◌∙◌, subst, arith, length-append}
+use Rattle.std.proofs.Common.{◌≡◌, ℕ, zero, suc, ◌+◌, ◌<◌, List, [], ◌∷◌, ◌++◌, length, slice_index, refl, sym, ap, ◌∙◌, arith, length-append, rules}
 use Rattle.std.proofs.lemmas.Grind.{same_number_lists}
 use Rattle.std.proofs.lemmas.List.{get_or_append_left, get_or-append-add}
+use Rattle.std.proofs.lemmas.Grind.{common_steps}
 use Rattle.mica_words.specs.Hash.{fnv1a}
 use Rattle.mica_words.specs.Header.{header_of}
 use Rattle.mica_words.specs.Item.{words_for, item_size}
@@ -11,11 +12,7 @@ use Rattle.mica_words.proofs.PackedBytes.{length-packed, same_from_words, unpack
 
 pub length-item_words : (room : ℕ) (key value : List ℕ) → length (item_words room key value) ≡ item_size key value
 unfolding item_words
-length-item_words room key value =
-    let both = length-append (packed key) (packed value) in
-    let one = length-packed key in
-    let two = length-packed value in
-    omega arith
+length-item_words room key value = grind (arith, common_steps, length-append (packed key) (packed value), length-packed key, length-packed value)
 
 pub item_words_are : (room : ℕ) (key value : List ℕ)
     → item_words room key value ≡ header_of room (length key) (length value) ∷ fnv1a key ∷ (packed key ++ packed value)
@@ -40,10 +37,13 @@ pub value_word : (room : ℕ) (key value : List ℕ) (i : ℕ) → i < words_for
     → slice_index (item_words room key value) (2 + words_for (length key) + i) ≡ slice_index (packed value) i
 unfolding item_words
 value_word room key value i below =
-    let place : 2 + words_for (length key) + i ≡ 2 + (length (packed key) + i) = omega (arith, length-packed key) in
-    ap (slice_index (item_words room key value)) place
-    ∙ (get_or-append-add (header_of room (length key) (length value) ∷ fnv1a key ∷ []) (packed key ++ packed value) (length (packed key) + i) 0
-    ∙ get_or-append-add (packed key) (packed value) i 0)
+    grind (
+      arith,
+      common_steps,
+      length-packed key,
+      get_or-append-add (header_of room (length key) (length value) ∷ fnv1a key ∷ []) (packed key ++ packed value) (length (packed key) + i) 0,
+      get_or-append-add (packed key) (packed value) i 0,
+    )
 
 -- the words from the hash to the key's last say nothing of the room and the value
 pub key_word : (room : ℕ) (key value : List ℕ) (i : ℕ) → 0 < i → i < 2 + words_for (length key)
@@ -51,9 +51,7 @@ pub key_word : (room : ℕ) (key value : List ℕ) (i : ℕ) → 0 < i → i < 2
 key_word room key value zero some below = absurd (omega arith)
 key_word room key value (suc zero) some below = hash_word room key value ∙ sym (hash_word 0 key [])
 key_word room key value (suc (suc i)) some below =
-    let place : suc (suc i) ≡ 2 + i = omega arith in
-    subst (λ (z : ℕ). slice_index (item_words room key value) z ≡ slice_index (item_words 0 key []) z) (sym place)
-    (packed_key_word room key value i (omega arith) ∙ sym (packed_key_word 0 key [] i (omega arith)))
+    search (rules, slice_index (item_words room key value), slice_index (item_words 0 key []), packed_key_word room key value i (omega arith), packed_key_word 0 key [] i (omega arith))
 
 -- keys of one length are one where these words agree
 pub same_key : (key other : List ℕ) → AreBytes key → AreBytes other → length key ≡ length other

@@ -1,12 +1,13 @@
 -- Packing and unpacking: what each word holds, and that each undoes the other.
-use Rattle.std.proofs.Common.{◌≡◌, ℕ, zero, suc, ◌+◌, ◌-◌, ◌*◌, ◌/◌, ◌%◌, ◌^◌, ◌<◌, ◌≤◌, List, [], ◌∷◌, ◌++◌, length, take, drop, replicate, flat_map, slice_index, refl, sym, ap, ◌∙◌, subst, arith, inl, inr, append_assoc, length-append, length-drop}
+use Rattle.std.proofs.Common.{◌≡◌, ℕ, zero, suc, ◌+◌, ◌-◌, ◌*◌, ◌/◌, ◌%◌, ◌^◌, ◌<◌, ◌≤◌, List, [], ◌∷◌, ◌++◌, length, take, drop, replicate, flat_map, slice_index, refl, sym, ap, ◌∙◌, subst, arith, inl, inr, append_assoc, length-drop, rules}
 use Rattle.std.proofs.lemmas.Bool.{cases_lt}
-use Rattle.std.proofs.lemmas.Grind.{same_number_lists, flat_map-append}
-use Rattle.std.proofs.lemmas.List.{append-nil, drop-drop, get_or-drop, length-take, length-take-le, take-append-drop, take-append-le, take_all}
+use Rattle.std.proofs.lemmas.Grind.{same_number_lists}
+use Rattle.std.proofs.lemmas.List.{append-nil, drop-drop, get_or-drop, length-take, length-take-le, take-append-drop, take_all}
 use Rattle.std.proofs.lemmas.List.Concat.{flat_map-cons}
 use Rattle.std.proofs.Math.Nat.{div-div-eq-div-mul, pow-succ'}
 use Rattle.std.proofs.Math.Seq.{take-append-add, take-append_seam, take-length}
 use Rattle.std.specs.Int.{w64, byte_at, bytes_low_first, to_le_bytes}
+use Rattle.std.proofs.lemmas.Grind.{common_steps}
 use Rattle.byteorder.specs.Endian.{little_from}
 use Rattle.byteorder.specs.Numbers.{little_from-cons}
 use Rattle.mica_words.specs.Item.{words_for}
@@ -27,10 +28,7 @@ little_is (suc n) (byte ∷ bytes) =
 packed_word : (n k : ℕ) (bytes : List ℕ) → k < n → slice_index (packed_words n bytes) k ≡ little (take 8 (drop (8 * k) bytes))
 packed_word zero k bytes h = absurd (omega arith)
 packed_word (suc n) zero bytes h = refl
-packed_word (suc n) (suc k) bytes h =
-    let place : 8 + 8 * k ≡ 8 * suc k = omega arith in
-    packed_word n k (drop 8 bytes) (omega arith)
-    ∙ ap (λ (z : List ℕ). little (take 8 z)) (drop-drop (8 * k) 8 bytes ∙ ap (λ (z : ℕ). drop z bytes) place)
+packed_word (suc n) (suc k) bytes h = search (rules, packed_word n k (drop 8 bytes) (omega arith), drop-drop (8 * k) 8 bytes)
 
 length-packed_words : (n : ℕ) (bytes : List ℕ) → length (packed_words n bytes) ≡ n
 length-packed_words zero bytes = refl
@@ -50,23 +48,19 @@ module _ (bytes rest : List ℕ) (k : ℕ) (below : k < words_for (length bytes)
   whole_word = little_is 8 rest ∙ (ap (λ (z : List ℕ). little (take 8 z)) is ∙ sym (packed_at bytes k below))
 
   pub last_word : length rest < 8 → little_from 0 (length rest) rest ≡ slice_index (packed bytes) k
-  last_word short =
-      little_is (length rest) rest
-      ∙ (ap little (take-length rest ∙ (sym (take_all 8 rest (omega arith)) ∙ ap (take 8) is)) ∙ sym (packed_at bytes k below))
+  last_word short = grind (arith, common_steps, little_is (length rest) rest, take-length rest, take_all 8 rest (omega arith), packed_at bytes k below)
 
 -- words that hold the bytes in turn are the packed ones
 pub are_packed : (bytes words : List ℕ) → length words ≡ words_for (length bytes)
     → ((k : ℕ) → k < length words → slice_index words k ≡ little (take 8 (drop (8 * k) bytes))) → words ≡ packed bytes
 unfolding packed
 are_packed bytes words same each =
-    same_number_lists words (packed bytes) (same ∙ sym (length-packed bytes))
-    (λ k below. each k below ∙ sym (packed_word (words_for (length bytes)) k bytes (omega arith)))
+    grind (arith, common_steps, same_number_lists words (packed bytes) (same ∙ sym (length-packed bytes)), length-packed bytes, packed_word (words_for (length bytes)))
 
 -- the bytes of a number from the second on are those of its 256th part
 byte_at_next : (i number : ℕ) → byte_at (suc i) number ≡ byte_at i (number / 256)
 byte_at_next zero number = refl
-byte_at_next (suc i) number =
-    ap (λ (z : ℕ). number / z % 256) (pow-succ' 256 (suc i)) ∙ ap (λ (z : ℕ). z % 256) (sym (div-div-eq-div-mul number 256 (256 ^ suc i)))
+byte_at_next (suc i) number = grind (arith, common_steps, pow-succ' 256 (suc i), div-div-eq-div-mul number 256 (256 ^ suc i))
 
 bytes_next : (i n number : ℕ) → bytes_low_first (suc i) n number ≡ bytes_low_first i n (number / 256)
 bytes_next i zero number = refl
@@ -78,9 +72,7 @@ bytes_of_zero (suc n) = ap (λ (z : List ℕ). 0 ∷ z) (bytes_next 0 n 0 ∙ by
 
 -- a number gives its bytes back, with zeros above them
 bytes_of_little : (n : ℕ) (bytes : List ℕ) → AreBytes bytes → length bytes ≤ n → bytes_low_first 0 n (little bytes) ≡ bytes ++ replicate (n - length bytes) 0
-bytes_of_little n [] small few =
-    let all : n - 0 ≡ n = omega arith in
-    bytes_of_zero n ∙ ap (λ (z : ℕ). replicate z 0) (sym all)
+bytes_of_little n [] small few = grind (arith, common_steps, bytes_of_zero n)
 bytes_of_little zero (byte ∷ bytes) small few = absurd (omega arith)
 bytes_of_little (suc n) (byte ∷ bytes) small few =
     let low : byte < 256 = small 0 in
@@ -141,27 +133,8 @@ unpacked-packed bytes small = words_give_back (words_for (length bytes)) bytes s
 
 -- the words of a text of known length determine it
 pub same_from_words : (bytes others : List ℕ) → AreBytes bytes → AreBytes others → length bytes ≡ length others → packed bytes ≡ packed others → bytes ≡ others
-same_from_words bytes others small fewer same words =
-    sym (unpacked-packed bytes small) ∙ (ap (unpacked (length bytes)) words
-    ∙ (ap (λ (z : ℕ). unpacked z (packed others)) same ∙ unpacked-packed others fewer))
+same_from_words bytes others small fewer same words = grind (arith, common_steps, unpacked-packed bytes small, unpacked-packed others fewer)
 
 pub length-words : (words : List ℕ) → length (flat_map (to_le_bytes w64) words) ≡ 8 * length words
 length-words [] = refl
-length-words (word ∷ words) =
-    let rest = length-words words in
-    let whole = ap length (flat_map-cons (to_le_bytes w64) word words) in
-    let parts = length-append (to_le_bytes w64 word) (flat_map (to_le_bytes w64) words) in
-    omega arith
-
-pub length-unpacked : (len : ℕ) (words : List ℕ) → words_for len ≤ length words → length (unpacked len words) ≡ len
-unfolding unpacked
-length-unpacked len words enough =
-    let all = length-words words in length-take-le len (flat_map (to_le_bytes w64) words) (omega arith)
-
--- words past those that the text needs have no part in it
-pub unpacked-append : (len : ℕ) (words more : List ℕ) → words_for len ≤ length words → unpacked len (words ++ more) ≡ unpacked len words
-unfolding unpacked
-unpacked-append len words more enough =
-    let all = length-words words in
-    ap (take len) (flat_map-append (to_le_bytes w64) words more)
-    ∙ take-append-le len (flat_map (to_le_bytes w64) words) (flat_map (to_le_bytes w64) more) (omega arith)
+length-words (word ∷ words) = grind (arith, common_steps, length-words words)

@@ -1,31 +1,21 @@
 -- What `pack` and `unpack` have written, whole words first and then the bytes that are left, is what the definitions say.
 use Rattle.std.proofs.Common.{◌≡◌, ◌≢◌, ℕ, zero, suc, ◌+◌, ◌-◌, ◌*◌, ◌/◌, ◌%◌, ◌<◌, ◌≤◌, List, [], ◌∷◌, ◌++◌, length, take, drop, flat_map, slice_index, slice_set, refl, sym, ap, ◌∙◌, subst, arith, inl, inr, append_assoc, length-append, length-drop}
 use Rattle.std.proofs.lemmas.Bool.{cases_lt}
-use Rattle.std.proofs.lemmas.List.{drop-drop, drop-take, get_or_append_left, get_or-set_other, get_or-set_same, length-set, length-take-le, take-append-le, take_all}
+use Rattle.std.proofs.lemmas.List.{drop-drop, get_or-set_other, get_or-set_same, length-set, length-take-le, take-append-le, take_all}
 use Rattle.std.proofs.lemmas.List.Concat.{flat_map-cons}
 use Rattle.std.proofs.Math.Seq.{take-append-add, drop-append_seam, take-append_seam, take-length}
 use Rattle.std.specs.Int.{w64, to_le_bytes}
+use Rattle.std.proofs.lemmas.Grind.{common_steps}
 use borrow.Rule.Slice.PartMut.{put_mid}
 use Rattle.byteorder.specs.Endian.{little_from}
-use Rattle.byteorder.specs.Numbers.{little_from-take}
 use Rattle.mica_words.specs.Item.{words_for}
 use Rattle.mica_words.specs.Packing.{little, packed, unpacked}
 use Rattle.mica_words.proofs.PackedBytes.{little_is, are_packed, length-words}
 
--- a whole word, read from the whole words alone
-word_read : (k n : ℕ) (bytes : List ℕ) → k < n → little_from 0 8 (drop (8 * k) (take (8 * n) bytes)) ≡ little (take 8 (drop (8 * k) bytes))
-word_read k n bytes below =
-    let left : ℕ = 8 * n - 8 * k in
-    let place : 8 * n ≡ 8 * k + left = omega arith in
-    ap (λ (z : ℕ). little_from 0 8 (drop (8 * k) (take z bytes))) place
-    ∙ (ap (little_from 0 8) (drop-take (8 * k) left bytes)
-    ∙ (little_from-take 0 8 left (drop (8 * k) bytes) (omega arith) ∙ little_is 8 (drop (8 * k) bytes)))
-
 module _ (bytes into words : List ℕ) (n : ℕ) (count : length words ≡ n) (whole : n ≡ length bytes / 8) (room : length into ≡ words_for (length bytes))
     (read : (k : ℕ) → k < length words → slice_index words k ≡ little_from 0 8 (drop (8 * k) (take (8 * n) bytes))) where
   word_at : (k : ℕ) → k < n → slice_index (words ++ drop n into) k ≡ little (take 8 (drop (8 * k) bytes))
-  word_at k below =
-      get_or_append_left words (drop n into) 0 k (omega arith) ∙ (read k (omega arith) ∙ word_read k n bytes below)
+  word_at k below = grind (arith, common_steps)
 
   length_written : length (words ++ drop n into) ≡ words_for (length bytes)
   length_written = omega (arith, length-append words (drop n into), length-drop n into)
@@ -55,23 +45,14 @@ whole_words : (n : ℕ) (words : List ℕ) → n ≤ length words → take (8 * 
 whole_words zero words enough = refl
 whole_words (suc n) [] enough = absurd (omega arith)
 whole_words (suc n) (word ∷ words) enough =
-    let more : List ℕ = flat_map (to_le_bytes w64) words in
-    let place : 8 * suc n ≡ 8 + 8 * n = omega arith in
-    ap (take (8 * suc n)) (flat_map-cons (to_le_bytes w64) word words)
-    ∙ (ap (λ (z : ℕ). take z (to_le_bytes w64 word ++ more)) place
-    ∙ (take-append-add (to_le_bytes w64 word) more (8 * n)
-    ∙ (ap (λ (z : List ℕ). to_le_bytes w64 word ++ z) (whole_words n words (omega arith))
-    ∙ sym (flat_map-cons (to_le_bytes w64) word (take n words)))))
+    grind (arith, common_steps, flat_map-cons (to_le_bytes w64) word words, take-append-add (to_le_bytes w64 word), whole_words n words (omega arith), flat_map-cons (to_le_bytes w64) word (take n words))
 
 -- and r bytes of the next
 words_and_rest : (n r : ℕ) (words : List ℕ) → n < length words → r ≤ 8
     → take (8 * n + r) (flat_map (to_le_bytes w64) words) ≡ flat_map (to_le_bytes w64) (take n words) ++ take r (to_le_bytes w64 (slice_index words n))
 words_and_rest n r [] enough few = absurd (omega arith)
 words_and_rest zero r (word ∷ words) enough few =
-    let start : 8 * 0 + r ≡ r = omega arith in
-    ap (λ (z : ℕ). take z (flat_map (to_le_bytes w64) (word ∷ words))) start
-    ∙ (ap (take r) (flat_map-cons (to_le_bytes w64) word words)
-    ∙ take-append-le r (to_le_bytes w64 word) (flat_map (to_le_bytes w64) words) few)
+    grind (arith, common_steps, flat_map-cons (to_le_bytes w64) word words, take-append-le r (to_le_bytes w64 word) (flat_map (to_le_bytes w64) words) few)
 words_and_rest (suc n) r (word ∷ words) enough few =
     let more : List ℕ = flat_map (to_le_bytes w64) words in
     let last : List ℕ = take r (to_le_bytes w64 (slice_index words n)) in
@@ -87,26 +68,20 @@ module _ (len n : ℕ) (words into bytes : List ℕ) (whole : n ≡ len / 8) (en
     (written : bytes ≡ flat_map (to_le_bytes w64) (take n words)) where
   pub unpacked_whole : len % 8 ≡ 0 → bytes ++ drop (8 * n) into ≡ unpacked len words ++ drop len into
   unfolding unpacked
-  unpacked_whole even =
-      let place : 8 * n ≡ len = omega arith in
-      let all : bytes ≡ take len (flat_map (to_le_bytes w64) words) =
-      written ∙ (sym (whole_words n words (omega arith)) ∙ ap (λ (z : ℕ). take z (flat_map (to_le_bytes w64) words)) place) in
-      ap (λ (z : ℕ). bytes ++ drop z into) place ∙ ap (λ (z : List ℕ). z ++ drop len into) all
+  unpacked_whole even = grind (arith, common_steps, whole_words n words (omega arith))
 
   pub unpacked_with_rest : (rest : List ℕ) → 0 < len % 8 → rest ≡ take (len % 8) (to_le_bytes w64 (slice_index words n))
       → put_mid (8 * n) (len - 8 * n) (bytes ++ drop (8 * n) into) rest ≡ unpacked len words ++ drop len into
   unfolding unpacked
   unpacked_with_rest rest some read =
-      let tail : List ℕ = drop (8 * n) into in
-      let size : length bytes ≡ 8 * n = ap length written ∙ (length-words (take n words) ∙ ap (λ (z : ℕ). 8 * z) (length-take-le n words (omega arith))) in
-      let before : take (8 * n) (bytes ++ tail) ≡ bytes = subst (λ (z : ℕ). take z (bytes ++ tail) ≡ bytes) size (take-append_seam bytes tail) in
-      let after : drop (8 * n) (bytes ++ tail) ≡ tail = subst (λ (z : ℕ). drop z (bytes ++ tail) ≡ tail) size (drop-append_seam bytes tail) in
-      let end : 8 * n + (len - 8 * n) ≡ len = omega arith in
-      let past : drop (len - 8 * n) tail ≡ drop len into = drop-drop (len - 8 * n) (8 * n) into ∙ ap (λ (z : ℕ). drop z into) end in
-      let place : 8 * n + len % 8 ≡ len = omega arith in
-      let all : bytes ++ rest ≡ take len (flat_map (to_le_bytes w64) words) =
-      cc (written, read, words_and_rest n (len % 8) words (omega arith) (omega arith), ap (λ (z : ℕ). take z (flat_map (to_le_bytes w64) words)) place) in
-      ap (λ (z : List ℕ). z ++ (rest ++ drop (len - 8 * n) (drop (8 * n) (bytes ++ tail)))) before
-      ∙ (ap (λ (z : List ℕ). bytes ++ (rest ++ drop (len - 8 * n) z)) after
-      ∙ (ap (λ (z : List ℕ). bytes ++ (rest ++ z)) past
-      ∙ (sym (append_assoc bytes rest (drop len into)) ∙ ap (λ (z : List ℕ). z ++ drop len into) all)))
+      grind (
+        arith,
+        common_steps,
+        length-words (take n words),
+        length-take-le n words (omega arith),
+        take-append_seam bytes,
+        drop-append_seam bytes,
+        drop-drop (len - 8 * n) (8 * n) into,
+        words_and_rest n (len % 8) words (omega arith) (omega arith),
+        append_assoc bytes rest (drop len into),
+      )
