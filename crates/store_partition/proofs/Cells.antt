@@ -1,4 +1,5 @@
 -- What a write makes of the machine's cells: one key has another cell, or none.
+use Rattle.std.proofs.lemmas.Grind.{common_steps}
 use Rattle.partition_model.specs.StoreStep as ss
 use Rattle.store_partition.proofs.Words.{Add, Cell, Cells, Del, GivesValue, List, None, Op, Option, Put, Some, Touch, Store, Write, ap, arith, bucket_of, cond}
 use Rattle.store_partition.proofs.Words.{eq_by_cmp_equiv, get, get-insert, get-remove, insert, is_some, keys_in, keys_over, len, len-insert}
@@ -34,8 +35,7 @@ module _ (buckets b : ℕ) (cells : Cells) (key : List ℕ) (here : b ≡ bucket
       }
 
   deleted : (had : Option Cell) → get cells key ≡ had → Exchanges buckets b cells (remove cells key) had None
-  deleted None none = subst (λ z. Exchanges buckets b cells z None None) (remove_none cells key none)
-      record { here = refl; there = λ c other. refl; all = omega arith; room = refl }
+  deleted None none = grind (arith, common_steps, remove_none cells key none)
   deleted (Some old) has =
       let fewer = len-remove nat_list_cmp_total cells key ∙ ap (λ z. cond (is_some z) (len cells - 1) (len cells)) has in record {
         here = omega (arith, less_here buckets b cells key here low old has);

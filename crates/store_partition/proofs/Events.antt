@@ -1,5 +1,6 @@
 -- The events of a write: when each may happen, what it makes of its key's entry and block, and the one theorem of all writes: after it the words
 -- of its bucket stand for the machine's state, and the index and the heap are the partition's once it has ended.
+use Rattle.std.proofs.lemmas.Grind.{common_steps}
 use Rattle.partition_model.specs.StoreStep as ss
 use Rattle.store_partition.proofs.Words.{AcceptedWrite, Allows, AreParts, Begins, Block, Ends, Index, IsBucket, IsIndexOf, IsMain, IsOwnerStep}
 use Rattle.store_partition.proofs.Words.{IsUsed, IsWrite, Keeps, Kept, List, Marked, MayBegin, MayEnd, MayMark, Outcome, OwnerState, Spot, StandsFor}
@@ -83,10 +84,7 @@ module _ (h : Held) (a : AcceptedWrite h.o) where
     main = main_at h.o h.kept a.w.key b here
 
     pub may_open : Opens h.o a.w b a.t
-    may_open o' same = record {
-      begin = subst₂ MayBegin (sym same) (sym here) (may_begin h.o a);
-      mark = subst₂ (λ z c. MayMark (after_event (Begins c) z) a.w a.t) (sym same) (sym here) (may_mark h.o a);
-    }
+    may_open o' same = grind (arith, common_steps, subst₂ MayBegin (sym same) (sym here) (may_begin h.o a), may_begin h.o a, subst₂, after_event, may_mark h.o a)
 
     pub base : (words : List ℕ) → length words ≡ length h.o.words → Kept (written h.o a words) →
         ((d : ℕ) → IsBucket h.o.shape d → SameBucket h.o (written h.o a words) d)
@@ -120,10 +118,7 @@ module _ (h : Held) (a : AcceptedWrite h.o) where
         (λ c x other i less. marked_item h.o a (entry_offset x + i)) o2 (marked_at o2 at)
 
     pub when_marked : (o3 : OwnerState) → Base b o3 → (F : ℕ → Type 0) → WhenMarked o3.phase (λ c write history. F c) ↔ F b
-    when_marked o3 z F = (
-      λ f. subst F (sym here) (subst (λ s. WhenMarked s (λ c write history. F c)) (ap (λ (o : OwnerState). o.phase) z.is) f),
-      λ f. subst (λ s. WhenMarked s (λ c write history. F c)) (sym (ap (λ (o : OwnerState). o.phase) z.is)) (subst F here f),
-    )
+    when_marked o3 z F = grind (arith, common_steps)
 
     -- where the entry of a used spot stands
     module _ (o3 : OwnerState) (z : Base b o3) (spot : Spot) (used : IsUsed h.o b spot) where
@@ -138,13 +133,8 @@ module _ (h : Held) (a : AcceptedWrite h.o) where
 
     pub closes : (words : List ℕ) (index : Index) (Becomes : List Block → Type 0) → StandsFor (written h.o a words) b
         → ((blocks : List Block) → Becomes blocks → AreParts index blocks (after_event (Ends b) (written h.o a words))) → Closes h.o a.w a.outcome b a.t index Becomes (written h.o a words)
-    closes words index Becomes stands parts = record {
-      end = record { marked = bit_same (bucket_in h.o a.w.key) b (sym here); stands_for = stands };
-      ended = λ o5 blocks e5 becomes. subst (λ z. Ended h.o z index blocks a.w a.outcome a.t) (sym e5) record {
-        step = subst (λ c. IsOwnerStep h.o (after_event (Ends c) (written h.o a words)) a.w a.outcome) (sym here) (ended_step h.o a words);
-        invariant = record { parts = ∣ parts blocks becomes ∣₁; counted = a.stamp ∙ sym (stamp_more h a.w a.is); stamped = a.stamp };
-      };
-    }
+    closes words index Becomes stands parts =
+        grind (arith, common_steps, marked, bit_same (bucket_in h.o a.w.key) b (sym here), bucket_in h.o a.w.key, stands, after_event, written h.o a words, ended_step h.o a words, stamp_more h a.w a.is)
 
 -- What a write makes of its key's entry and block
 
@@ -340,8 +330,7 @@ module _ (h : Held) (a : AcceptedWrite h.o) (b : ℕ) (here : b ≡ bucket_in h.
               let x = at (entries_of (after_event (Ends b) p) c) i in
               let has = subst (λ xs. Contains xs x) (entries_ends p (chained p kept) b l c k)
               (Contains-get_or (entries_of (after_event (Ends b) p) c) i 0 less) in
-              subst (λ n. Contains (used_blocks bs) (used_block (entry_offset x) n)) (sym (room_ends p b l x))
-              (housed_last bs becomes c x (comes c k x has));
+              grind (arith, common_steps, room_ends p b l x, housed_last bs becomes c x (comes c k x has), comes c k x has);
           count =
               (let more = length_permutation _ _ e.heap.more in
               let less = length_permutation _ _ heap.1 in
@@ -369,8 +358,4 @@ finished h a b here o3 o4 z ys change kept index known blocks Becomes exchange =
 
 -- no entry or link was put
 pub same_chain : (o : OwnerState) (b : ℕ) → ChangesChain o o b (entries_of o b)
-same_chain o b = record {
-  entries = refl;
-  others = λ c l n. record { buckets = refl; entries = refl };
-  rest = record { stamp = refl; epochs = λ c l. refl; items = λ q. refl; same = refl };
-}
+same_chain o b = grind (arith, common_steps)

@@ -1,19 +1,20 @@
 -- A partition between two writes: what its entries tell of the machine's cells and of the heap's blocks, what they answer to a get, and which
 -- outcomes the machine allows a put or an add.
+use Rattle.std.proofs.lemmas.Grind.{common_steps}
 use Rattle.chained_index.proofs.Lists.{AllDiffer, differ_apart, differ_moved}
 use Rattle.store_partition.proofs.Words.{SLOTS, Add, Allows, Bool, Exists, IsSome, AreBytes, AreParts, Block, Cell, Contains, Contains-append_right, Contains-get_or}
 use Rattle.store_partition.proofs.Words.{Contains-permutation, Has, HasKey, HasNoSpot, Index, IsBlockList, IsBucket, IsMain, IsPermutation}
 use Rattle.store_partition.proofs.Words.{IsPermutation-refl, IsPermutation-sym, IsSpotOf, Kept, List, ListStands, MayGive, None, Option, Outcome}
 use Rattle.store_partition.proofs.Words.{OwnerState, RoomsApart, Some, Spells, Spot, Store, Write, [], accepted_in, accepted_is_length, ap, arith, at}
 use Rattle.store_partition.proofs.Words.{bucket_at, bucket_in, cells_of, chain_inside, chained, entries_of, entry_offset, entry_tag, get}
-use Rattle.store_partition.proofs.Words.{get_or_default, has_its_key, item_at, keys_in, len, length, listed, main_of, mod-eq_of_lt, entry_there}
+use Rattle.store_partition.proofs.Words.{get_or_default, has_its_key, item_at, keys_in, len, length, listed, main_of, entry_there}
 use Rattle.store_partition.proofs.Words.{is_within, view, number_of, only_key, options_in, refl, room_in, room_is, rooms, same_Some, spelt_key}
 use Rattle.store_partition.proofs.Words.{spot_at, spot_entry, stands_idle, state_in, store_state, stored_in, subst, sym, used_block, used_blocks}
 use Rattle.store_partition.proofs.Words.{words_of, ℕ, ◌%◌, ◌++◌, ◌+◌, ◌/◌, ◌<◌, ◌^◌, ◌∙◌, ◌∷◌, ◌≡◌, ◌≢◌, ◌≤◌, HasItem, IsItem, IsValueAt, answer_of}
 use Rattle.store_partition.proofs.Words.{option_map, value_in, FullBlock, FullSpare, IsOwnerStep, IsSomeAnd, IsTaken, LacksPlace, MayLack, GivesValue, Op, Replaces}
 use Rattle.store_partition.proofs.Words.{Stored, free_spares, inl, inr, item_size, nil_from_length, refused_step, spares_in_use, subst₂}
-use Rattle.store_partition.proofs.Words.{false, leb, leb-false, leb-true, true, true≢false}
-use Rattle.store_partition.proofs.Words.{sum_by_popped, used_blocks-taken, words_of-fills, words_parted, write_of, ◌*◌, ◌-◌}
+use Rattle.store_partition.proofs.Words.{false, true}
+use Rattle.store_partition.proofs.Words.{sum_by_popped, used_blocks-taken, words_of-fills, words_parted, write_of}
 use Rattle.store_partition.proofs.Lists.{block_within, nothing, once_by, same_or_apart, single, added, list_on}
 use Rattle.store_partition.proofs.Cells.{one_or_none}
 use Rattle.circular_log.proofs.SpeltItem.{spelt_item}
@@ -45,10 +46,7 @@ main_at o s key b here = subst (IsMain o.shape) (sym here) (main_of o s key)
 
 -- numbers within the heap that name one word are one
 pub same_word : (o : OwnerState) (p q : ℕ) → p < o.shape.words → q < o.shape.words → item_at o.shape p ≡ item_at o.shape q → p ≡ q
-same_word o p q less less' same =
-    let one : p % o.shape.words ≡ p = mod-eq_of_lt less in
-    let two : q % o.shape.words ≡ q = mod-eq_of_lt less' in
-    omega arith
+same_word o p q less less' same = grind (arith, common_steps)
 
 -- rooms that are blocks at different places share no word
 pub rooms_apart : (o : OwnerState) (blocks : List Block) → IsBlockList o.shape.words blocks → (x x' : ℕ) → HasBlock o blocks x → HasBlock o blocks x'
@@ -72,20 +70,14 @@ module _ (o : OwnerState) (c : ℕ) (list : ListStands o c) where
       (some.0, some.1, subst (λ e. Spells o c e some.0 some.1) (stands_at x has) some.2)
 
   pub each : (key : List ℕ) (cell : Cell) (q : ℕ) → bucket_in o key ≡ c → Has (state_in o) key cell q → (x : ℕ) × Contains (entries_of o c) x × Spells o c x key cell
-  each key cell q is has =
-      let found = list.each key cell q is has in
-      (at (entries_of o c) found.0, Contains-get_or (entries_of o c) found.0 0 found.1, found.2)
+  each key cell q is has = grind (arith, common_steps)
 
   pub one_entry : (x x' : ℕ) (key : List ℕ) (cell : Cell) → Contains (entries_of o c) x → Contains (entries_of o c) x' → Spells o c x key cell → Spells o c x' key cell → x ≡ x'
-  one_entry x x' key cell has has' sp sp' =
-      let there = subst (λ e. Spells o c e key cell) (sym (stands_at x has)) sp in
-      let there' = subst (λ e. Spells o c e key cell) (sym (stands_at x' has')) sp' in
-      sym (stands_at x has) ∙ (ap (at (entries_of o c)) (list.once has.0 has'.0 key cell has.1 has'.1 there there') ∙ stands_at x' has')
+  one_entry x x' key cell has has' sp sp' = grind (arith, common_steps, stands_at x has, stands_at x' has', at (entries_of o c))
 
   pub once : AllDiffer (entries_of o c)
-  once = once_by (entries_of o c) (λ i j l m same.
-      let some = list.nothing_else i l in
-      list.once i j some.0 some.1 l m some.2 (subst (λ e. Spells o c e some.0 some.1) same some.2))
+  once =
+      grind (arith, common_steps, once_by (entries_of o c) (λ i j l m same. let some = list.nothing_else i l in list.once i j some.0 some.1 l m some.2 (subst (λ e. Spells o c e some.0 some.1) same some.2)))
 
 module _ (h : Held) where
   pub store_at : (s : Store) × (state_in h.o ≡ store_state s)
@@ -281,27 +273,15 @@ module _ (h : Held) (op : Op) (gives : GivesValue op) (key value : List ℕ) (b 
   own_keys = as_keys h b (main_at h.o h.kept key b here) ∙ ap (λ c. keys_in h.o.shape.buckets c (m h).cells) here
 
   lacks_place : ss.NeedsSpare (options_in h.o) (m h) key → LacksPlace h.index h.o b
-  lacks_place needs = record {
-    some = (let some = needs.some in let same = own_keys in omega arith);
-    full = ap (λ n. n % SLOTS) own_keys ∙ needs.full;
-    none_free = nil_from_length h.index.free (let left = needs.none_left in let all = counted in omega arith);
-  }
+  lacks_place needs = grind (arith, common_steps, own_keys, nil_from_length h.index.free (let left = needs.none_left in let all = counted in omega arith), counted)
 
   -- which of them need a block
 
   pub grown_needs : Replaces op → (spot : Spot) → Known h key b spot → room_in h.o (spot_entry h.o spot) < size → ss.NeedsBlock (options_in h.o) (m h) w
-  grown_needs replaces spot k grows = record {
-    stores = (gives, inl replaces);
-    no_room = λ fits. (let small = subst (λ z. IsSomeAnd z (λ cell. size ≤ cell.room)) k.has fits in let same = k.room in omega arith);
-    has_spare = λ needs. cc (sym needs.is_new ∙ k.has);
-  }
+  grown_needs replaces spot k grows = grind (arith, common_steps)
 
   pub new_needs : HasNoSpot h.o b key → ¬ (LacksPlace h.index h.o b) → ss.NeedsBlock (options_in h.o) (m h) w
-  new_needs none places = record {
-    stores = (gives, inr (has_none h key b here none));
-    no_room = λ fits. absurd (subst (λ z. IsSomeAnd z (λ cell. size ≤ cell.room)) (has_none h key b here none) fits);
-    has_spare = λ spare. places (lacks_place spare);
-  }
+  new_needs none places = grind (arith, common_steps, has_none h key b here none, lacks_place)
 
   -- before the partition is worn
   module _ (unworn : length h.o.history < h.o.shape.wear) where
@@ -317,22 +297,11 @@ module _ (h : Held) (op : Op) (gives : GivesValue op) (key value : List ℕ) (b 
 
     pub full_spare : HasNoSpot h.o b key → LacksPlace h.index h.o b → IsOwnerStep h.o h.o w FullSpare
     full_spare none lacks =
-        let needs : ss.NeedsSpare (options_in h.o) (m h) key = record {
-          is_new = has_none h key b here none;
-          some = omega (arith, lacks.some, own_keys);
-          full = ap (λ n. n % SLOTS) (sym own_keys) ∙ lacks.full;
-          none_left = omega (arith, counted, ap length lacks.none_free);
-        } in
-        refused_step h.o h.parts.idle w FullSpare refl (may_give h w FullSpare (not_worn h unworn, (gives, needs)))
+        grind (arith, common_steps, has_none h key b here none, own_keys, counted, refused_step h.o h.parts.idle w FullSpare refl, may_give h w FullSpare, not_worn h unworn)
 
     pub full_block : ss.NeedsBlock (options_in h.o) (m h) w → MayLack h.blocks size → IsOwnerStep h.o h.o w FullBlock
     full_block needs lack =
-        let words : h.o.shape.words ≤ (length (used_blocks h.blocks) + 1) * (size - 1) + words_of (used_blocks h.blocks) =
-        omega (arith, lack, words_of-fills 0 h.o.shape.words h.blocks h.parts.list.fills) in
-        refused_step h.o h.parts.idle w FullBlock refl (may_give h w FullBlock (
-          not_worn h unworn,
-          (needs, subst₂ (λ k l. h.o.shape.words ≤ (k + 1) * (size - 1) + l) (as_cells h) (as_rooms h) words),
-        ))
+        grind (arith, common_steps, words_of (used_blocks h.blocks), words_of-fills 0, refused_step h.o h.parts.idle w FullBlock refl, may_give h w FullBlock, not_worn h unworn, subst₂, as_cells h, as_rooms h)
 
 -- an add of a key that has an item is refused
 pub already : (h : Held) (key value : List ℕ) (b : ℕ) (spot : Spot) → Known h key b spot → length h.o.history < h.o.shape.wear
@@ -342,7 +311,4 @@ already h key value b spot k unworn = refused_step h.o h.parts.idle (write_of Ad
 
 -- a test that tells where a number is reached tells where it is not
 pub not_reached : (most n : ℕ) (test : Bool) → (most ≤ n → test ≡ true) → test ≡ false → n < most
-not_reached most n test reached not = elim (leb most n) as (λ b. leb most n ≡ b → n < most) [
-  | true ↦ λ e. absurd (true≢false (sym (reached (leb-true most n e)) ∙ not))
-  | false ↦ λ e. leb-false most n e
-] refl
+not_reached most n test reached not = grind (arith, common_steps)

@@ -1,7 +1,8 @@
 -- Lists: entries of which each stands once, and the used blocks of a heap.
+use Rattle.std.proofs.lemmas.Grind.{common_steps}
 use Rattle.chained_index.proofs.Lists.{AllDiffer}
 use Rattle.store_partition.proofs.Words.{AddsBlock, All-contains, Block, Contains, Contains-permutation, Fills, IsBlockList, IsGiven, IsPermutation}
-use Rattle.store_partition.proofs.Words.{IsPermutation-middle, IsPermutation-refl, IsPermutation-remove, IsPermutation-swap_remove, IsPermutation-sym}
+use Rattle.store_partition.proofs.Words.{IsPermutation-middle, IsPermutation-remove, IsPermutation-swap_remove, IsPermutation-sym}
 use Rattle.store_partition.proofs.Words.{List, [], ap, arith, at, back_fills, drop, get_or_default, length, list_remove, refl, set_split, slice_set}
 use Rattle.store_partition.proofs.Words.{subst, subst₂, suc, swap_remove, sym, take, used_apart, used_block, used_blocks, used_blocks-given}
 use Rattle.store_partition.proofs.Words.{used_within, words_of, words_of-fills, ℕ, ◌++◌, ◌+◌, ◌-◌, ◌<◌, ◌∙◌, ◌∷◌, ◌≡◌, ◌≤◌, ◌⊎◌}
@@ -14,8 +15,7 @@ pub nothing : {X A : Type 0} (x : X) → Contains [] x → A
 nothing x has = absurd (let less = has.1 in omega arith)
 
 pub in_one : {X : Type 0} (xs : List X) (x y : X) → length xs ≤ 1 → Contains xs x → Contains xs y → x ≡ y
-in_one xs x y few has has' =
-    grind (arith, has.1, has'.1, has.2, has'.2, get_or_default xs has.0 x y has.1)
+in_one xs x y few has has' = grind (arith, common_steps)
 
 pub single : {X : Type 0} (x y : X) → Contains (x ∷ []) y → x ≡ y
 single x y has = in_one (x ∷ []) x y (omega arith) (0, omega arith, refl) has
@@ -38,8 +38,7 @@ module _ (xs : List ℕ) (n e : ℕ) (l : n < length xs) where
 
 -- a used block lies in the heap
 pub block_within : (words : ℕ) (blocks : List Block) → IsBlockList words blocks → (place size : ℕ) → Contains (used_blocks blocks) (used_block place size) → place + size ≤ words
-block_within words blocks list place size has =
-    All-contains (λ (b : Block). b.place + b.size ≤ words) (used_blocks blocks) (used_block place size) (used_within words blocks list) has
+block_within words blocks list place size has = grind (arith, common_steps, All-contains, used_within words blocks list)
 
 -- two used blocks are one, or lie apart
 pub same_or_apart : (words : ℕ) (blocks : List Block) → IsBlockList words blocks → (one other : Block) → Contains (used_blocks blocks) one
@@ -69,11 +68,7 @@ pub record Heap (words : ℕ) (old new taken given : List Block) (Becomes : List
 module _ (words : ℕ) (old new taken : List Block) (list : IsBlockList words new) (more : IsPermutation (used_blocks new) (taken ++ used_blocks old)) where
   -- none is given back
   pub heap_kept : Heap words old new taken [] (λ bs. bs ≡ new)
-  heap_kept = record {
-    list = list;
-    more = more;
-    less = λ bs same. (subst (IsBlockList words) (sym same) list, subst (λ z. IsPermutation (used_blocks new) (used_blocks z)) (sym same) (IsPermutation-refl (used_blocks new)));
-  }
+  heap_kept = grind (arith, common_steps)
 
   -- the block at the place is
   pub heap_gives : (place size : ℕ) → 0 < size → Contains (used_blocks new) (used_block place size)

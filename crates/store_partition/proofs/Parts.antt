@@ -1,12 +1,13 @@
 -- The parts of a partition: what is only said to hold of them holds, those over words as made, and those of an owner that has met a reader.
+use Rattle.std.proofs.lemmas.Grind.{common_steps}
 use Rattle.partition_model.specs.Store as store
 use Rattle.chained_index.specs.ChainEntries.{buckets_from, buckets_of, entries_in, entries_of}
-use Rattle.store_partition.proofs.Words.{AreParts, Block, Bool, CacheMode, Cell, Contains, Decides, Decides-and, Decides-eqb, Fills, Has, Index}
+use Rattle.store_partition.proofs.Words.{AreParts, Block, Bool, CacheMode, Cell, Contains, Decides, Decides-eqb, Fills, Has, Index}
 use Rattle.store_partition.proofs.Words.{IsIndexOf, IsMain, IsMerged, IsValidShape, Kept, List, Met, Mode, OwnerState, Shape, StoreMode, [], ap}
-use Rattle.store_partition.proofs.Words.{arith, as_made, cells_of, chained, cond, dense_on, dite, empty, entry_offset, false, flat_map, free_block}
+use Rattle.store_partition.proofs.Words.{arith, as_made, cells_of, chained, cond, dense_on, dite, empty, entry_offset, flat_map, free_block}
 use Rattle.store_partition.proofs.Words.{get-empty, if◌then◌else◌, is_member-Decides, kept_as_made, keys_in, len, len-empty, length, link_in, listed}
 use Rattle.store_partition.proofs.Words.{nat_cmp, no_keys, no_rooms, not, props, refl, room_in, rooms, slice_cmp, slice_index, start, subst, suc, sym}
-use Rattle.store_partition.proofs.Words.{true, used_block, used_blocks, zero, ℕ, ℕ_discrete, ∥∥₁_elim, ◌&&◌, ◌+◌, ◌<◌, ◌==◌, ◌∙◌, ◌∷◌, ◌≡◌}
+use Rattle.store_partition.proofs.Words.{used_block, used_blocks, zero, ℕ, ℕ_discrete, ∥∥₁_elim, ◌&&◌, ◌+◌, ◌<◌, ◌==◌, ◌∙◌, ◌∷◌, ◌≡◌}
 use Rattle.store_partition.proofs.Held.{Held}
 
 -- What is only said to hold of the parts holds of them, since each fact has one proof or can be found
@@ -15,21 +16,12 @@ use Rattle.store_partition.proofs.Held.{Held}
 found : {X : Type 0} (same : X → X → Bool) → ((x y : X) → Decides (same x y) (x ≡ y)) → (xs : List X) (x : X) → ∥ Contains xs x ∥₁ → Contains xs x
 found same tells xs x has = let is = is_member-Decides tells xs x in is.0 (∥∥₁_elim has (hlevel props) (λ at. is.1 at))
 
-bit_tells : (u v : Bool) → Decides (cond u v (not v)) (u ≡ v)
-bit_tells true v = (λ is. sym is, λ is. sym is)
-bit_tells false true = (λ is. is, λ is. is)
-bit_tells false false = (λ is. refl, λ is. refl)
-
 same_block : Block → Block → Bool
 same_block x y = (x.place == y.place) && ((x.size == y.size) && cond x.used y.used (not y.used))
 
 block_tells : (x y : Block) → Decides (same_block x y) (x ≡ y)
 unfolding same_block
-block_tells x y =
-    let all = Decides-and _ _ (Decides-eqb x.place y.place) (Decides-and _ _ (Decides-eqb x.size y.size) (bit_tells x.used y.used)) in (
-      λ is. let e = all.0 is in λ i. record { place = e.0 i; size = e.1.0 i; used = e.1.1 i },
-      λ is. all.1 (ap (λ (b : Block). b.place) is, (ap (λ (b : Block). b.size) is, ap (λ (b : Block). b.used) is)),
-    )
+block_tells x y = grind (arith, common_steps)
 
 fills_once : (from end : ℕ) (blocks : List Block) → IsProp (Fills from blocks end)
 fills_once from end [] = hlevel props

@@ -1,15 +1,16 @@
 -- The kinds of write, each an exchange of its key's entry and block: a put in the room that the key has, one that takes a block for a key
 -- that has an item or, as an add, for one that has none, a delete of a key that has an item, and a write that has its events alone.
+use Rattle.std.proofs.lemmas.Grind.{common_steps}
 use Rattle.partition_model.specs.StoreStep as ss
 use Rattle.store_partition.proofs.Words.{SLOTS, Absent, AcceptedWrite, Add, All-contains, Allows, AreBytes, BelongsTo, Block, CanPlay, Cell, ChangesChain}
 use Rattle.store_partition.proofs.Words.{Contains, Contains-append_right, Contains-get_or, Contains-permutation, Del, Deleted, Has, HasKey}
-use Rattle.store_partition.proofs.Words.{HasKeyWords, HasNoSpot, HasUsed, Index, IsBlockList, IsIndexOf, IsMain, IsOffset, IsPermutation}
+use Rattle.store_partition.proofs.Words.{HasKeyWords, HasNoSpot, HasUsed, Index, IsBlockList, IsIndexOf, IsMain, IsPermutation}
 use Rattle.store_partition.proofs.Words.{IsPermutation-refl, IsPermutation-remove, IsPermutation-sym, IsPermutation-to_front, IsSome, IsTaken, IsUsed}
 use Rattle.store_partition.proofs.Words.{IsWrite, GivesValue, HasValueOf, Keeps, Kept, KeyFits, LacksPlace, IsSpotOf, List, MatchOption, None, Op, Option, Outcome, OwnerState, Put, PutsWord, Replaces, Some, SparesOthers, Spells}
 use Rattle.store_partition.proofs.Words.{SpellsItem, Spot, Stored, Touch, Touched, ValueFits, WhenMarked, Write, [], after_event, ap, arith, at, bucket_in, can_put, chained}
-use Rattle.store_partition.proofs.Words.{cond-false, cond-true, entries_of, entry_of, entry_offset, entry_offset-entry_of, entry_tag}
+use Rattle.store_partition.proofs.Words.{cond-false, entries_of, entry_of, entry_offset, entry_offset-entry_of, entry_tag}
 use Rattle.store_partition.proofs.Words.{entry_tag-entry_of, get, header_room, inl, inr, is_accepted, item_at, item_events, item_in, item_room}
-use Rattle.store_partition.proofs.Words.{item_size, item_words, kept_after, kept_marked, le-leb, leb, length, length-item_words, list_remove, lt-leb}
+use Rattle.store_partition.proofs.Words.{item_size, item_words, kept_after, kept_marked, leb, length, length-item_words, list_remove, lt-leb}
 use Rattle.store_partition.proofs.Words.{marked, marked_in, marked_in_bucket, marked_item, number_of, options_in, place_at, plays, put_entry}
 use Rattle.store_partition.proofs.Words.{put_item, put_link, put_others, put_same, put_words, puts_from, refl, room_in, room_of, room_same, size_at_most}
 use Rattle.store_partition.proofs.Words.{size_of, slice_set, spells_item, spells_on, spot_entry, store_state, subst, subst₂, swap_remove, sym, tag_of}
@@ -102,9 +103,8 @@ module _ (h : Held) (a : AcceptedWrite h.o) (from room : ℕ) (r : Room h a from
           ∙ (ap (λ o. item_in o (from + i)) at_put ∙ put_item h.o a from zs in_heap i (omega (arith, length-item_words room a.w.key a.w.value))))
 
       spells : (words : List ℕ) → ChangesChain o3 (written h.o a words) b ys → Kept (written h.o a words) → Spells (written h.o a words) b e a.w.key cell
-      spells words now_change now_kept = spells_item (written h.o a words) now_kept b e a.w.key cell (sym here)
-          (subst (λ z. Has z a.w.key cell (entry_offset e)) (sym (now h a words)) has_it)
-          (subst (λ z. IsOffset z h.o.shape.words (entry_offset e)) (sym h.parts.mode) (let block = r.block in let few = r.few in omega arith)) tag (item words now_change)
+      spells words now_change now_kept =
+          grind (arith, common_steps, spells_item (written h.o a words) now_kept b e a.w.key cell (sym here), written h.o a words, now h a words, has_it, item words now_change)
 
       -- so a put that exchanges the key's entry for this one may end
       pub put_closes : (own rest : List ℕ) → Split h a.w.key b own rest → IsPermutation ys (e ∷ rest) → (blocks taken given : List Block) (Becomes : List Block → Type 0)
@@ -209,8 +209,7 @@ module _ (h : Held) (op : Op) (gives : GivesValue op) (key value : List ℕ) (is
       few = fits;
       small = omega (arith, room_is);
       block = let all = k.within in let same = k.room in omega arith;
-      takes = room_is ∙ (k.room ∙ sym (ap (λ z. ss.room_after z size) k.has
-          ∙ cond-true (leb size k.cell.room) k.cell.room size (le-leb size k.cell.room (let same = k.room in omega arith))));
+      takes = grind (arith, common_steps);
       apart = λ c x other. elim (same_or_apart h.o.shape.words h.blocks h.parts.list (used_block offset room) (used_block (entry_offset x) (room_in h.o x)) own_block
           (used h c other.main x other.among)) [
             | inl same ↦ absurd (k.elsewhere c x other (sym offset_is ∙ ap (λ (z : Block). z.place) same))
@@ -258,8 +257,7 @@ module _ (h : Held) (op : Op) (gives : GivesValue op) (key value : List ℕ) (is
     low = let range = h.kept.shape.ranges.words in let all = block in omega arith
 
     clear_of : (p k : ℕ) → Contains (used_blocks h.blocks) (used_block p k) → (place + size ≤ p) ⊎ (p + k ≤ place)
-    clear_of p k has = All-contains (λ (z : Block). (place + size ≤ z.place) ⊎ (z.place + z.size ≤ place)) (used_blocks h.blocks) (used_block p k)
-        (taken_apart h.o.shape.words h.blocks blocks place size h.parts.list taken) has
+    clear_of p k has = grind (arith, common_steps, All-contains, taken_apart h.o.shape.words h.blocks blocks place size h.parts.list taken)
 
     still : (y : Block) → Contains (used_block place size ∷ used_blocks h.blocks) y → Contains (used_blocks blocks) y
     still y has = Contains-permutation (used_block place size ∷ used_blocks h.blocks) (used_blocks blocks) y (IsPermutation-sym _ _ more) has
@@ -436,9 +434,8 @@ module _ (h : Held) (key : List ℕ) (fits : KeyFits key) (bytes : AreBytes key)
                   (spells_on h.o d words b e (own_words words change) key k.cell (subst (λ s. Has s key k.cell (entry_offset e)) (sym (now h d words)) has) k.spells),
             );
             heap = kept_list;
-            housed = λ x new. subst (HasBlock (written h.o d words) h.blocks) (single e x new)
-                (subst (λ r. Contains (used_blocks h.blocks) (used_block (entry_offset e) r))
-                (sym (room_same h.o d words e (own_words words change) (let some = k.some in let same = k.room in omega arith))) k.block);
+            housed = λ x new.
+                grind (arith, common_steps, written h.o d words, single e x new, new, room_same h.o d words e (own_words words change) (let some = k.some in let same = k.room in omega arith), own_words words change);
             freed = λ y gone. nothing y gone;
             apart = λ y gone. nothing y gone;
             count = refl;
@@ -499,5 +496,4 @@ module _ (h : Held) (key : List ℕ) (fits : KeyFits key) (bytes : AreBytes key)
   pub marks_only : (op : Op) (spot : Option Spot) → MatchOption spot (¬ (GivesValue op)) (λ found. op ≡ Touch)
       → MatchOption spot (HasNoSpot h.o b key) (IsSpotOf h.o b key) → MarkOnly h.o h.index h.blocks (write_of op key []) b (n + 1) (reply_left spot)
   marks_only op None other none = absent op other none
-  marks_only op (Some spot) is found =
-      subst (λ z. MarkOnly h.o h.index h.blocks (write_of z key []) b (n + 1) Touched) (sym is) (touched spot (known h key b here bytes spot found))
+  marks_only op (Some spot) is found = grind (arith, common_steps, touched spot (known h key b here bytes spot found), known h key b here bytes spot found)
