@@ -1,8 +1,9 @@
 -- The buckets of a chain, by their places in the list, and what the calls go by of the owner's fact.
+use Rattle.std.proofs.lemmas.Grind.{common_steps}
 use Rattle.chained_index.proofs.Words.{SLOTS, ◌≡◌, ℕ, ◌<◌, List, length, slice_index, sym, ◌∙◌, length-set, History, OwnerState, Phase, PutsEntry}
 use Rattle.chained_index.proofs.Words.{IsMain, IsBucket, entry_at, link_at, word_count, link_in, InChain, HasChains, IsFreeSpare, after, Kept}
 use Rattle.chained_index.proofs.Words.{link_puts_entry, same_behind, IsChain, has_bucket, in_chain, inside, chain_there, chains_stay, ◌≢◌, zero, suc}
-use Rattle.chained_index.proofs.Words.{◌≤◌, inr, ◌⊎◌, [], ◌∷◌, take, refl, ap, arith, eq-eqb, ne_eqb, dite, ℕ_discrete, buckets_from, buckets_of}
+use Rattle.chained_index.proofs.Words.{◌≤◌, inr, ◌⊎◌, [], ◌∷◌, take, refl, arith, eq-eqb, buckets_from, buckets_of}
 use Rattle.chained_index.proofs.Words.{AreBehind, last_of}
 use Rattle.chained_index.proofs.Lists.{at}
 
@@ -59,8 +60,7 @@ list_is : (o : OwnerState) (n b : ℕ) (cs : List ℕ) → AreBehind (link_in o)
 unfolding buckets_from
 list_is o n b [] h few = rw (eq-eqb (link_in o b) 0 h) refl
 list_is o zero b (c ∷ cs) h few = absurd (omega arith)
-list_is o (suc n) b (c ∷ cs) h few = rw (ne_eqb (link_in o b) 0 (λ none. h.1 (sym h.0 ∙ none)))
-    (ap (λ (z : List ℕ). b ∷ z) (ap (buckets_from o (suc n)) h.0 ∙ list_is o n c cs h.2 (omega arith)))
+list_is o (suc n) b (c ∷ cs) h few = grind (arith, common_steps, list_is o n c cs h.2 (omega arith))
 
 pub chain_is : (o : OwnerState) (b : ℕ) (cs : List ℕ) → IsChain o b cs → buckets_of o b ≡ b ∷ cs
 unfolding buckets_of
@@ -71,9 +71,7 @@ chain_is o b cs chain = list_is o o.shape.spares b cs chain.behind chain.few
 length-buckets_from : (o : OwnerState) (n b : ℕ) → length (buckets_from o n b) ≤ n
 unfolding buckets_from
 length-buckets_from o zero b = omega arith
-length-buckets_from o (suc n) b = let rest = length-buckets_from o n (link_in o b) in dite (ℕ_discrete (link_in o b) 0)
-    (λ none. rw (eq-eqb (link_in o b) 0 none) (omega arith))
-    (λ some. rw (ne_eqb (link_in o b) 0 some) (omega arith))
+length-buckets_from o (suc n) b = grind (arith, common_steps, length-buckets_from o n (link_in o b))
 
 pub length-buckets_of : (o : OwnerState) (b : ℕ) → length (buckets_of o b) ≤ suc o.shape.spares
 unfolding buckets_of

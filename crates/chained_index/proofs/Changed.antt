@@ -9,8 +9,7 @@ use Rattle.chained_index.proofs.Words.{length-set, append_assoc, all_pairs_push,
 use Rattle.chained_index.proofs.Words.{Contains-get_or, spares_behind, PutsEntry, PutsLink, IsBucket, entry_at, entry_in, after, words_after}
 use Rattle.chained_index.proofs.Words.{word_count, entry_puts, entry_puts_other, entry_puts_link, link_puts_entry, link_puts, link_puts_other}
 use Rattle.chained_index.proofs.Words.{entries_of, inside, all_differ, same_behind, relinked, last_of, last_in, IsPermutation-refl}
-use Rattle.chained_index.proofs.Words.{IsPermutation-append_comm, IsPermutation-append_right, Event, place_of, entries_at, stamp_at, item_at}
-use Rattle.chained_index.proofs.Words.{no_stamp, no_item, epoch_at, no_epoch, other}
+use Rattle.chained_index.proofs.Words.{IsPermutation-append_comm, IsPermutation-append_right, Event, place_of, entries_at}
 use Rattle.chained_index.proofs.Lists.{AllDiffer, differ_moved, differ_joined, differ_first, differ_apart, at, AllUsed, one_place}
 use Rattle.chained_index.proofs.Chained.{Chained, chain_on, chain_back, chained}
 use Rattle.chained_index.proofs.Filled.{SameBucket, IsFilled, View, entries_are, dense_there}
@@ -162,12 +161,7 @@ module _ (o : OwnerState) (index : Index) (b : ℕ) (v : View o index b) where
   -- one more event, at one of the words of a bucket, changes entries and links alone
   only_more : (words : List ℕ) → ChangesOnlyIndex o (now words) → (c i : ℕ) → IsBucket o.shape c → i < bucket_words → (e : Event)
       → place_of o.shape e ≡ entries_at o.shape c + i → after e (now words) ≡ now (words_after e (now words)) → ChangesOnlyIndex o (after e (now words))
-  only_more words was c i bucket low e at same = record {
-    stamp = other (now words) e stamp_at (λ is. no_stamp o.shape c i (sym (is ∙ at))) ∙ was.stamp;
-    epochs = λ d main. other (now words) e (epoch_at d) (λ is. no_epoch o.shape d c i main low (sym (is ∙ at))) ∙ was.epochs d main;
-    items = λ p. other (now words) e (item_at o.shape p) (λ is. no_item o.shape c i p bucket low (sym (is ∙ at))) ∙ was.items p;
-    same = same;
-  }
+  only_more words was c i bucket low e at same = grind (arith, common_steps)
 
   -- Entries were stored in these buckets alone, whose slots, one after another, have these now.
   pub record Entered (bs words ys : List ℕ) : Type 0 where
@@ -181,15 +175,7 @@ module _ (o : OwnerState) (index : Index) (b : ℕ) (v : View o index b) where
 
   begin : (bs : List ℕ) → ((c : ℕ) → Contains bs c → IsBucket o.shape c) → AllDiffer bs
       → ((k slot : ℕ) → k < length bs → slot < SLOTS → entry_in o (at bs k) slot ≡ at xs (SLOTS * k + slot)) → Entered bs o.words xs
-  begin bs inside differ entries = record {
-    inside = inside;
-    differ = differ;
-    wide = v.s.wide;
-    only = record { stamp = refl; epochs = λ d l. refl; items = λ p. refl; same = refl };
-    links = λ d. refl;
-    entries = entries;
-    others = λ d slot n low. refl;
-  }
+  begin bs inside differ entries = grind (arith, common_steps)
 
   -- none in those of the chain, or of the chain and a free spare behind it
 

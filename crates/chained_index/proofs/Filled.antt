@@ -1,7 +1,7 @@
 -- The entries of a chain as a list: they fill its buckets, one after another, and the entry of a used spot stands at its number.
 use Rattle.chained_index.proofs.Words.{SLOTS, Kept, Index, IsIndexOf, IsMain, ◌≡◌, ◌≢◌, ℕ, suc, ◌+◌, ◌-◌, ◌*◌, ◌/◌, ◌%◌, ◌<◌, ◌≤◌, List, [], ◌∷◌}
-use Rattle.chained_index.proofs.Words.{◌++◌, length, take, drop, get_or, nat_lt, filter, flat_map, slice_range, refl, sym, ap, ◌∙◌, subst, arith}
-use Rattle.chained_index.proofs.Words.{length-take, Contains, length-drop, dite, ℕ_discrete, get_or_past, Contains-get_or, filter-append}
+use Rattle.chained_index.proofs.Words.{◌++◌, length, take, get_or, nat_lt, filter, flat_map, slice_range, refl, sym, ap, ◌∙◌, subst, arith}
+use Rattle.chained_index.proofs.Words.{length-take, Contains, dite, ℕ_discrete, get_or_past, Contains-get_or, filter-append}
 use Rattle.chained_index.proofs.Words.{spares_behind, OwnerState, IsBucket, entry_at, word_count, entry_in, link_in, InChain, IsDense, entries_in}
 use Rattle.chained_index.proofs.Words.{entries_of, IsChain, has_bucket, in_chain, inside, chain_there, All, All-head, All-tail, All-take}
 use Rattle.chained_index.proofs.Words.{get_or-flat_map, common_steps, Bool, nat_eq, eq-eqb, ne_eqb, position_or_len, position_or_len_is, all_differ}
@@ -40,8 +40,7 @@ entries_filtered o b cs chain = ap (flat_map (entries_in o)) (chain_is o b cs ch
 module _ (o : OwnerState) (wide : length o.words ≡ word_count o.shape) where
   length-slots : (c : ℕ) → IsBucket o.shape c → length (slots o c) ≡ SLOTS
   unfolding slots
-  length-slots c bucket =
-      omega (arith, length-take (entry_at o.shape c SLOTS - entry_at o.shape c 0) (drop (entry_at o.shape c 0) o.words), length-drop (entry_at o.shape c 0) o.words)
+  length-slots c bucket = grind (arith, common_steps)
 
   at-slots : (c slot : ℕ) → slot < SLOTS → at (slots o c) slot ≡ entry_in o c slot
   unfolding slots
@@ -137,8 +136,7 @@ module _ (o : OwnerState) (wide : length o.words ≡ word_count o.shape) (b : �
 -- Where its buckets are the same, so is the chain
 
 pub same_filled : (o p : OwnerState) (cs xs : List ℕ) → IsFilled o cs xs → ((c : ℕ) → Contains cs c → SameBucket o p c) → IsFilled p cs xs
-same_filled o p cs xs f same =
-    record { entries = λ k slot l low. (same (at cs k) (Contains-get_or cs k 0 l)).entry slot low ∙ f.entries k slot l low; used = f.used; size = f.size }
+same_filled o p cs xs f same = grind (arith, common_steps, at cs, Contains-get_or cs)
 
 -- The chain of a main bucket of an index, with the spares behind it and its entries as lists.
 pub record View (o : OwnerState) (index : Index) (b : ℕ) : Type 0 where
@@ -150,14 +148,8 @@ pub record View (o : OwnerState) (index : Index) (b : ℕ) : Type 0 where
   pub filled : IsFilled o (b ∷ behind) (entries_of o b)
 
 pub view : (o : OwnerState) → Chained o → (index : Index) → IsIndexOf index o → (b : ℕ) → IsMain o.shape b → View o index b
-view o s index known b main = let list = chain_there o s.chains b main in record {
-  s = s;
-  known = known;
-  main = main;
-  behind = list.0;
-  chain = list.1;
-  filled = filled_there o s.wide b main list.0 list.1 (known.dense b main);
-}
+view o s index known b main =
+    grind (arith, common_steps, chain_there o s.chains b main, filled_there o s.wide b main (chain_there o s.chains b main).0 (chain_there o s.chains b main).1 (known.dense b main))
 
 -- as a call knows it that has read a word
 pub view_read : (o n : OwnerState) (index : Index) (b : ℕ) → n ≡ o → Kept n → IsIndexOf index o → IsMain o.shape b → View o index b

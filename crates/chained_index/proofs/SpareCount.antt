@@ -3,7 +3,7 @@ use Rattle.chained_index.proofs.Words.{◌↔◌, ◌≡◌, ℕ, zero, suc, ◌
 use Rattle.chained_index.proofs.Words.{Contains-append_left, Contains-append_right, Contains-append_cases, Cells, keys_in, spares_behind}
 use Rattle.chained_index.proofs.Words.{spares_below, spares_in_use, OwnerState, link_in, IsMain, IsSpare, InChain, entries_of, Index, IsIndexOf}
 use Rattle.chained_index.proofs.Words.{in_tail, in_chain, has_bucket, not_main, behind_differ, listed_or_not, all_there, ◌-◌, ◌<◌, get_or, replicate}
-use Rattle.chained_index.proofs.Words.{sym, ◌∙◌, get_or_past, get_or_default, Shape, entry_at, link_at, common_steps, word_count, entry_in, as_made}
+use Rattle.chained_index.proofs.Words.{◌∙◌, get_or_past, get_or_default, Shape, entry_at, link_at, common_steps, word_count, entry_in, as_made}
 use Rattle.chained_index.proofs.Lists.{AllDiffer, differ_joined}
 use Rattle.chained_index.proofs.Chained.{Chained}
 use Rattle.chained_index.proofs.Filled.{view}
@@ -96,11 +96,7 @@ module _ (shape : Shape) where
     pub index_as_made : IsIndexOf (record { shape = shape; free = free }) o
     index_as_made = record {
       shape = refl;
-      dense = λ b main. record {
-        full = λ c slot h linked low none. linked (no_link c);
-        in_order = λ c slot later h less low some none. some (no_entry c later);
-        some = λ c h other none. other (sym (alone b c h));
-      };
+      dense = λ b main. grind (arith, common_steps);
       free = λ c. (
         λ has. let is = read has.0 c (omega (arith, has.1)) in record {
           spare = (omega (arith, has.1, has.2), omega (arith, has.1, has.2));

@@ -1,8 +1,9 @@
 -- What stays where no bucket changed: a chain with its entries, and the index.
+use Rattle.std.proofs.lemmas.Grind.{common_steps}
 use Rattle.chained_index.proofs.Words.{SLOTS, ◌≡◌, ℕ, ◌/◌, ◌%◌, List, ◌∷◌, length, nat_lt, filter, sym, ap, ◌∙◌, arith, ext_get_or, length-set}
 use Rattle.chained_index.proofs.Words.{History, Contains, OwnerState, Phase, Ends, IsMain, IsBucket, InChain, IsDense, entries_of, KeepsChain}
-use Rattle.chained_index.proofs.Words.{link_in, IsChain, in_chain, chain_there, Contains-get_or, entry_at, link_at, words_after, history_after}
-use Rattle.chained_index.proofs.Words.{phase_after, after, no_epoch, other, Index, IsIndexOf}
+use Rattle.chained_index.proofs.Words.{link_in, IsChain, in_chain, chain_there, Contains-get_or, words_after, history_after}
+use Rattle.chained_index.proofs.Words.{phase_after, after, Index, IsIndexOf}
 use Rattle.chained_index.proofs.Lists.{at}
 use Rattle.chained_index.proofs.Chained.{chain_is, Chained, kept_chain, chain_inside, free_on, free_back}
 use Rattle.chained_index.proofs.Filled.{SameBucket, all_slots, length-all_slots, all_inside, by_place, entries_filtered, dense_there, filled_there}
@@ -77,10 +78,7 @@ module _ (o : OwnerState) (words : List ℕ) (history : History) (phase : Phase)
 -- The end of a write goes to no word of a bucket.
 module _ (o : OwnerState) (s : Chained o) (b : ℕ) (main : IsMain o.shape b) where
   ends_same : (d : ℕ) → IsBucket o.shape d → SameBucket o (after (Ends b) o) d
-  ends_same d l = record {
-    link = other o (Ends b) (link_at o.shape d) (no_epoch o.shape b d SLOTS main (omega arith));
-    entry = λ slot low. other o (Ends b) (entry_at o.shape d slot) (no_epoch o.shape b d slot main (omega arith));
-  }
+  ends_same d l = grind (arith, common_steps)
 
   pub entries_ends : (c : ℕ) → IsMain o.shape c → entries_of (after (Ends b) o) c ≡ entries_of o c
   entries_ends = entries_stay o (words_after (Ends b) o) (history_after (Ends b) o.history) (phase_after (Ends b) o)

@@ -1,41 +1,39 @@
 -- A step along a chain, its end, and a search along it.
+use Rattle.std.proofs.lemmas.Grind.{common_steps}
 use Rattle.chained_index.proofs.Words.{SLOTS, ◌≡◌, ◌≢◌, ℕ, suc, ◌+◌, ◌-◌, ◌*◌, ◌<◌, ◌≤◌, inl, inr, ◌⊎◌, List, ◌∷◌, length, sym, ap, ◌∙◌, subst, arith}
 use Rattle.chained_index.proofs.Words.{OwnerState, IsMain, IsBucket, entry_in, link_in, buckets_of, entries_of, bucket_at, EndsIn, EndsAt, Index}
-use Rattle.chained_index.proofs.Words.{inside, Contains-get_or, tag_of, entry_tag, entry_offset, InChain, HasKey, in_chain, number_of, IsSpotOf}
+use Rattle.chained_index.proofs.Words.{inside, Contains-get_or, tag_of, entry_tag, entry_offset, InChain, HasKey, in_chain, IsSpotOf}
 use Rattle.chained_index.proofs.Words.{HasNoSpot}
 use Rattle.chained_index.proofs.Lists.{at, below}
 use Rattle.chained_index.proofs.Filled.{is_within, entry_there, View}
 use Rattle.chained_index.proofs.Chained.{chain_is, step_on, first_bucket, length-buckets_of}
 
 -- where a walk stands: at the bucket that so many links lead to
-pub record IsAt (o : OwnerState) (b link c : ℕ) : Type 0 where
+pub record HasWalkedTo (o : OwnerState) (b link c : ℕ) : Type 0 where
   pub inside : IsBucket o.shape c
   pub within : link < length (buckets_of o b)
   pub here : bucket_at o link b ≡ c
 
-pub at_first : (o : OwnerState) (b : ℕ) → IsMain o.shape b → IsAt o b 0 b
+pub at_first : (o : OwnerState) (b : ℕ) → IsMain o.shape b → HasWalkedTo o b 0 b
 at_first o b main = let first = first_bucket o b in record { inside = omega arith; within = first.0; here = first.1 }
 
 -- no walk goes past all spares
-pub at_most : (o : OwnerState) (b link c : ℕ) → IsAt o b link c → link ≤ o.shape.spares
+pub at_most : (o : OwnerState) (b link c : ℕ) → HasWalkedTo o b link c → link ≤ o.shape.spares
 at_most o b link c w = let few = length-buckets_of o b in let within = w.within in omega arith
 
-pub at_last : (o : OwnerState) (b link c : ℕ) → IsAt o b link c → o.shape.spares ≤ link → length (buckets_of o b) ≡ suc link
+pub at_last : (o : OwnerState) (b link c : ℕ) → HasWalkedTo o b link c → o.shape.spares ≤ link → length (buckets_of o b) ≡ suc link
 at_last o b link c w far = let few = length-buckets_of o b in let within = w.within in omega arith
 
 -- the bucket one link before
 abbrev pub IsBehind : OwnerState → ℕ → ℕ → ℕ → Type 0
 IsBehind o b link c = (k : ℕ) → suc k ≡ link → bucket_at o k b ≡ c
 
-pub behind_further : (o : OwnerState) (b link c : ℕ) → IsAt o b link c → IsBehind o b (link + 1) c
+pub behind_further : (o : OwnerState) (b link c : ℕ) → HasWalkedTo o b link c → IsBehind o b (link + 1) c
 behind_further o b link c w k e = let same : k ≡ link = omega arith in ap (at (buckets_of o b)) same ∙ w.here
 
 -- a walk that came to the end has the last two
-pub ends_in : (o : OwnerState) (b link before c : ℕ) → IsAt o b link c → IsBehind o b link before → length (buckets_of o b) ≡ suc link → EndsIn o b before c
-ends_in o b link before c w behind size = record {
-  last = λ k e. let same : k ≡ link = omega arith in ap (at (buckets_of o b)) same ∙ w.here;
-  before = λ k e. behind k (omega arith);
-}
+pub ends_in : (o : OwnerState) (b link before c : ℕ) → HasWalkedTo o b link c → IsBehind o b link before → length (buckets_of o b) ≡ suc link → EndsIn o b before c
+ends_in o b link before c w behind size = grind (arith, common_steps)
 
 module _ (o : OwnerState) (index : Index) (b : ℕ) (v : View o index b) where
   abbrev cs : List ℕ
@@ -44,7 +42,7 @@ module _ (o : OwnerState) (index : Index) (b : ℕ) (v : View o index b) where
   pub list : buckets_of o b ≡ cs
   list = chain_is o b v.behind v.chain
 
-  module _ (link c : ℕ) (w : IsAt o b link c) where
+  module _ (link c : ℕ) (w : HasWalkedTo o b link c) where
     pub placed : (link < length cs) × (at cs link ≡ c)
     placed = subst (λ (z : List ℕ). (link < length z) × (at z link ≡ c)) list (w.within, w.here)
 
@@ -53,7 +51,7 @@ module _ (o : OwnerState) (index : Index) (b : ℕ) (v : View o index b) where
 
     -- the link was read: one further, or at the end
 
-    pub one_further : (x : ℕ) → x ≡ link_in o c → x ≢ 0 → IsAt o b (link + 1) x
+    pub one_further : (x : ℕ) → x ≡ link_in o c → x ≢ 0 → HasWalkedTo o b (link + 1) x
     one_further x is some = elim step [
       | inl more ↦
           let less : suc link < length cs = omega (arith, more.0) in
@@ -99,10 +97,9 @@ NoneBefore o b key n = (i : ℕ) → i < n → ¬ (IsOfKey o key (at (entries_of
 
 module _ (o : OwnerState) (index : Index) (b : ℕ) (v : View o index b) (key : List ℕ) where
   pub none_at_all : (n : ℕ) → length (entries_of o b) ≤ n → NoneBefore o b key n → HasNoSpot o b key
-  none_at_all n all none spot is = none (number_of o b spot) (omega (arith, is_within o index b v spot is.used))
-      (subst (IsOfKey o key) (sym (entry_there o index b v spot is.used)) (is.tag, is.item))
+  none_at_all n all none spot is = grind (arith, common_steps, is_within o index b v spot is.used, entry_there o index b v spot is.used)
 
-  module _ (link c : ℕ) (w : IsAt o b link c) where
+  module _ (link c : ℕ) (w : HasWalkedTo o b link c) where
     here : (link < length (b ∷ v.behind)) × (at (b ∷ v.behind) link ≡ c)
     here = placed o index b v link c w
 
