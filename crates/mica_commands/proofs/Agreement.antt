@@ -1,9 +1,10 @@
 -- clap reads options as the grammar does.
-use Rattle.std.proofs.Common.{◌≡◌, ◌≢◌, ℕ, ◌==◌, ◌&&◌, ◌||◌, Bool, true, false, not, List, [], ◌∷◌, ◌++◌, map, Option, Some, None, sym, refl, ap, ◌∙◌, subst, ⊎_elim, one-add}
-use Rattle.std.specs.Prelude.{find, fold, option_and_then, option_map, slice_get, if◌then◌else◌}
+use Rattle.std.proofs.Common.{◌≡◌, ◌≢◌, ℕ, ◌==◌, ◌&&◌, ◌||◌, Bool, true, false, not, List, [], ◌∷◌, ◌++◌, map, Option, Some, None, sym, refl, ap, ◌∙◌, subst, ⊎_elim, one-add, arith}
+use Rattle.std.specs.Prelude.{fold, if◌then◌else◌}
 use Rattle.std.specs.List.{list_any, before_first, after_first}
 use Rattle.std.specs.Str.{bytes_eq}
-use Rattle.clap.specs.Walk.{Rule, Row, Held, Walk, idle, option, Waiting, positional, walked, walk, settled, finished, has_row, with_default, nothing_held, rows_after, first_of, rows_of}
+use Rattle.std.proofs.lemmas.Grind.{common_steps}
+use Rattle.clap.specs.Walk.{Rule, Row, Held, Walk, idle, option, Waiting, positional, walked, settled, has_row, with_default, nothing_held, rows_after, first_of, rows_of}
 use Rattle.clap.specs.Simple.{is_simple, App, built, entered, matches_of, HasMatchesOf}
 use Rattle.clap.specs.Takes.{is_given as is_there}
 use Rattle.clap.specs.Kinds.{Kinds, or_else, HasKind}
@@ -18,7 +19,7 @@ use Rattle.clap.specs.Faults.{fault_of, turn_fault, walk_fault, settle_fault, de
 use Rattle.clap.specs.Lexer.{strip_byte}
 use Rattle.mica_commands.specs.ClapCommand.{app_with, is_stray, GivesTexts}
 use Rattle.mica_commands.specs.Words.{Text, Given, has_name, is_given, text_of, behind_hyphen, begins_with_hyphen, is_equals_sign, give, given_after, given_by}
-use Rattle.mica_commands.proofs.ClapHolding.{IsFault, at, awaiting, fault_first, filled_options, hold, id_found, long_found, met, no_index, opt, resting, row, row_there, rows, same_bytes, shape, use_is}
+use Rattle.mica_commands.proofs.ClapHolding.{IsFault, at, awaiting, fault_first, filled_options, hold, id_found, long_found, met, no_index, opt, resting, row_there, rows, same_bytes, shape, use_is}
 use Rattle.mica_commands.proofs.StrayWords.{or_left, or_right, and_left, view, stray_texts, View, plain, long}
 
 no_sign : (t : Text) → list_any is_equals_sign t ≡ false → before_first is_equals_sign t ≡ t
@@ -141,10 +142,7 @@ module _ (command : Text) (names : List Text) where
   unfolding walk_fault
   bad [] h even b = b
   bad (x ∷ ws) h even b =
-      elim (view x (or_left (is_stray x) (list_any is_stray ws) even)) as (λ y _. IsFault (faults (at h idle) (y ∷ ws))) [
-        | plain y p ↦ on_bad (at h idle) y ws (plain_turn h y p)
-        | long a t ↦ on_bad (at h idle) (long_text a t) ws (bad_turn h idle a t b)
-      ]
+      grind (arith, common_steps, view x (or_left (is_stray x) (list_any is_stray ws) even), or_left (is_stray x) (list_any is_stray ws) even, at h idle, on_bad (at h idle), plain_turn h, bad_turn h idle)
 
   -- the faults of a dash word on what waits for a value
   awaiting_settles : (given : Given) (n : Text) → has_name n names ≡ true → IsFault (settle_fault rules false (hold given (Some (n, []))))
@@ -186,8 +184,7 @@ module _ (command : Text) (names : List Text) where
       rw (s, known_as) (subst (λ (t : Text). Agrees (at h idle) (long_text a b ∷ ws) (given_after names given (Some t) ws)) n
       (on_good (at h idle) (awaiting given (text_name a b)) (long_text a b) ws _ (named_turn h given a b good s k) (named_walk h given a b good s k) (both.1 given (text_name a b) k even)))
   idle_long a b ws both given h good even false false s k =
-      let known_as : has_name (a ∷ b) names ≡ false = ap (λ t. has_name t names) (sym (no_sign (a ∷ b) s)) ∙ k in
-      rw (s, known_as) (on_bad (at h idle) (long_text a b) ws (unknown_turn h idle a b k))
+      grind (arith, common_steps, no_sign (a ∷ b) s, on_bad (at h idle) (long_text a b) ws (unknown_turn h idle a b k), at h idle, unknown_turn h idle a b k)
 
   wait_plain : (x : Text) (ws : List Text) → Both ws → (given : Given) (n : Text) → has_name n names ≡ true → begins_with_hyphen x ≡ false → list_any is_stray ws ≡ false → Agrees (awaiting given n) (x ∷ ws) (given_after names given (Some n) (x ∷ ws))
   wait_plain x ws both given n known p even = rw p (give_agrees (awaiting given n) (x ∷ ws) ws given n x (is_given n given) refl
@@ -208,10 +205,8 @@ module _ (command : Text) (names : List Text) where
   agrees : (ws : List Text) → Both ws
   unfolding walk_fault
   agrees [] = ((λ given h good even. (good.1, good.2)), λ given n known even. awaiting_settles given n known)
-  agrees (x ∷ ws) = let both = agrees ws in (
-    (λ given h good even. agrees_idle x ws both (view x (or_left (is_stray x) (list_any is_stray ws) even)) given h good (rest_even x ws even)),
-    (λ given n known even. agrees_wait x ws both (view x (or_left (is_stray x) (list_any is_stray ws) even)) given n known (rest_even x ws even)),
-  )
+  agrees (x ∷ ws) =
+      grind (arith, common_steps, agrees ws, agrees_idle x ws (agrees ws), view x, or_left (is_stray x) (list_any is_stray ws), rest_even x ws, agrees_wait x ws (agrees ws))
 
   -- no option has a default or is required
   no_defaults : (rs : List Row) (ms : List Text) → defaults_fault rs (map opt ms) ≡ []
@@ -222,8 +217,7 @@ module _ (command : Text) (names : List Text) where
 
   same_rows : (rs : List Row) (ms : List Text) → fold with_default rs (map opt ms) ≡ rs
   same_rows rs [] = refl
-  same_rows rs (m ∷ ms) =
-      elim (has_row m rs) as (λ t. fold with_default (if t then rs else rs) (map opt ms) ≡ rs) [ true ↦ same_rows rs ms | false ↦ same_rows rs ms ]
+  same_rows rs (m ∷ ms) = grind (arith, common_steps, same_rows rs ms)
 
   none_required : (rs : List Row) (ms : List Text) → list_any (λ a. a.required && not (is_there a.id rs)) (map opt ms) ≡ false
   none_required rs [] = refl
@@ -241,10 +235,7 @@ module _ (command : Text) (names : List Text) where
   entered_no_fault (Some p) = refl
 
   leaf_fault : (ws : List Text) → built_fault leaf nothing_held ws ≡ faults (resting []) ws
-  leaf_fault ws =
-      let stop : Option (Text × List Text) = (walk rules [] nothing_held ws).stopped in
-      let end : Held = ends (resting []) ws in
-      rw (entered_none stop, entered_no_fault stop) (rw (no_defaults (settled rules end).rows names, none_required (finished rules end) names) (ap (or_else (walk_fault (shape command names) [] (resting []) ws)) (or_nil (settle_fault rules false end))))
+  leaf_fault ws = grind (arith, common_steps, entered_none, entered_no_fault, no_defaults, none_required, shape command names, or_nil)
 
   abbrev app : App
   app = app_with command names
@@ -273,11 +264,7 @@ module _ (command : Text) (names : List Text) where
 -- what the getters read
 first_of_rows : (n : Text) (given : Given) → first_of n (rows given) ≡ text_of given n
 first_of_rows n [] = refl
-first_of_rows n (p ∷ ps) =
-    elim (bytes_eq p.0 n) as (λ t. option_and_then (λ r. slice_get r.values 0) (if t then Some (row p) else find (λ r. bytes_eq r.id n) (rows ps)) ≡ option_map (λ q. q.1) (if t then Some p else find (λ q. bytes_eq q.0 n) ps)) [
-      | true ↦ refl
-      | false ↦ first_of_rows n ps
-    ]
+first_of_rows n (p ∷ ps) = grind (arith, common_steps, first_of_rows n ps)
 
 given_read : (command : Text) (names : List Text) (f : Found) (ws : List Text) (r : Option Given) → Exact command names ws r → fault_of (app_with command names) ws ≡ []
     → rows_of f ≡ matches_of (app_with command names) ws → GivesTexts (first_value f) r

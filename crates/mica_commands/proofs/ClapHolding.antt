@@ -1,9 +1,10 @@
 -- How clap holds options, and what they were given.
-use Rattle.std.proofs.Common.{◌≡◌, ℕ, ◌||◌, true, false, true≢false, List, [], ◌∷◌, ◌++◌, map, Option, Some, None, sym, refl, ap, ◌∙◌, append-nil}
+use Rattle.std.proofs.Common.{◌≡◌, ℕ, ◌||◌, true, false, true≢false, List, [], ◌∷◌, ◌++◌, map, Option, Some, None, sym, refl, ap, append-nil, arith}
 use Rattle.std.specs.Prelude.{if◌then◌else◌}
 use Rattle.std.specs.Str.{bytes_eq}
 use Rattle.std.proofs.lemmas.Slice.Eq.{bytes_eq-Decides}
-use Rattle.clap.specs.Walk.{Rule, Row, Held, Walk, idle, option, arg_by_long, arg_by_id, arg_by_index, Waiting, with_values, more_values, has_row, at_row, used}
+use Rattle.std.proofs.lemmas.Grind.{common_steps}
+use Rattle.clap.specs.Walk.{Rule, Row, Held, Walk, idle, option, arg_by_long, arg_by_id, arg_by_index, Waiting, more_values, has_row, at_row, used}
 use Rattle.clap.specs.Simple.{Shape, built, filled, filled_from}
 use Rattle.clap.specs.Kinds.{Kinds, or_else}
 use Rattle.clap.specs.declared.parser.matches.ValueSource.TheVariants.{CommandLine}
@@ -29,11 +30,7 @@ same_bytes a = (bytes_eq-Decides a a).1 refl
 
 pub long_found : (n : Text) (names : List Text) → arg_by_long (map opt names) n ≡ (if has_name n names then Some (opt n) else None)
 long_found n [] = refl
-long_found n (m ∷ ms) =
-    elim (bytes_eq m n) as (λ t. bytes_eq m n ≡ t → (if (t || false) then Some (opt m) else arg_by_long (map opt ms) n) ≡ (if (t || has_name n ms) then Some (opt n) else None)) [
-      | true ↦ λ e. ap (λ (k : Text). Some (opt k)) (same_text m n e)
-      | false ↦ λ _. long_found n ms
-    ] refl
+long_found n (m ∷ ms) = grind (arith, common_steps, same_text m n, long_found n ms)
 
 pub no_index : (i : ℕ) (names : List Text) → arg_by_index (map opt names) i ≡ None
 no_index i [] = refl
@@ -41,11 +38,7 @@ no_index i (n ∷ ns) = no_index i ns
 
 pub id_found : (n : Text) (names : List Text) → has_name n names ≡ true → arg_by_id (map opt names) n ≡ Some (opt n)
 id_found n [] e = absurd (true≢false (sym e))
-id_found n (m ∷ ms) e =
-    elim (bytes_eq m n) as (λ t. bytes_eq m n ≡ t → (t || has_name n ms) ≡ true → (if t then Some (opt m) else arg_by_id (map opt ms) n) ≡ Some (opt n)) [
-      | true ↦ λ same _. ap (λ (k : Text). Some (opt k)) (same_text m n same)
-      | false ↦ λ _ rest. id_found n ms rest
-    ] refl e
+id_found n (m ∷ ms) e = grind (arith, common_steps, same_text m n, id_found n ms)
 
 -- the shape of the built command
 abbrev pub shape : Text → List Text → Shape
@@ -70,11 +63,7 @@ row_there n (p ∷ ps) = ap (λ b. bytes_eq p.0 n || b) (row_there n ps)
 
 pub row_added : (n : Text) (change : Row → List Row) (missing rs : List Row) → has_row n rs ≡ false → at_row n change missing rs ≡ rs ++ missing
 row_added n change missing [] e = refl
-row_added n change missing (r ∷ rs) e =
-    elim (bytes_eq r.id n) as (λ t. (t || has_row n rs) ≡ false → (if t then change r ++ rs else r ∷ at_row n change missing rs) ≡ r ∷ (rs ++ missing)) [
-      | true ↦ λ bad. absurd (true≢false bad)
-      | false ↦ λ rest. ap (λ l. r ∷ l) (row_added n change missing rs rest)
-    ] e
+row_added n change missing (r ∷ rs) e = grind (arith, common_steps, row_added n change missing rs)
 
 pub rows_more : (given : Given) (p : Text × Text) → rows given ++ row p ∷ [] ≡ rows (given ++ p ∷ [])
 rows_more [] p = refl
@@ -82,9 +71,7 @@ rows_more (q ∷ qs) p = ap (λ l. row q ∷ l) (rows_more qs p)
 
 pub use_is : (n v : Text) (given : Given) → is_given n given ≡ false → used (opt n) (v ∷ []) (rows given) ≡ rows (given ++ (n, v) ∷ [])
 use_is n v given fresh =
-    let free : has_row n (rows given) ≡ false = row_there n given ∙ fresh in
-    let gone : at_row n (λ _. []) [] (rows given) ≡ rows given = row_added n (λ _. []) [] (rows given) free ∙ append-nil (rows given) in
-    ap (λ l. with_values n how CommandLine (v ∷ []) l) gone ∙ (row_added n (more_values CommandLine (v ∷ [])) (row (n, v) ∷ []) (rows given) free ∙ rows_more given (n, v))
+    grind (arith, common_steps, row_there n given, row_added n, append-nil (rows given), row_added n (more_values CommandLine (v ∷ [])) (row (n, v) ∷ []) (rows given), rows_more given (n, v))
 
 -- where a walk over the words may stand
 abbrev pub hold : Given → Option (Text × List Text) → Held
@@ -110,7 +97,3 @@ IsFault (k ∷ ks) = Unit {0}
 pub fault_first : (a b : Kinds) → IsFault a → IsFault (or_else a b)
 fault_first [] b h = absurd h
 fault_first (k ∷ ks) b h = tt
-
-pub fault_second : (a b : Kinds) → IsFault b → IsFault (or_else a b)
-fault_second [] b h = h
-fault_second (k ∷ ks) b h = tt

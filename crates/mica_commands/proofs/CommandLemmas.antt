@@ -1,8 +1,9 @@
 -- The command that words give, from what its options were given.
-use Rattle.std.proofs.Common.{◌≡◌, ◌≢◌, List, ◌∷◌, Option, Some, None, Err, true, false, map, codes, ap, sym, refl, ◌∙◌, subst, unwrap_or, if◌then◌else◌}
+use Rattle.std.proofs.Common.{◌≡◌, ◌≢◌, List, ◌∷◌, Option, Some, None, Err, true, false, map, codes, ap, sym, refl, ◌∙◌, subst, unwrap_or, if◌then◌else◌, arith}
 use Rattle.std.specs.Prelude.{bytes_eq}
 use Rattle.std.proofs.lemmas.Slice.Eq.{bytes_eq-Decides}
 use Rattle.std.proofs.lemmas.Option.{none-some}
+use Rattle.std.proofs.lemmas.Grind.{common_steps}
 use Rattle.mica_commands.specs.declared.command.Command.{Command}
 use Rattle.mica_commands.specs.declared.command.WordsFault.{WordsFault}
 use Rattle.mica_commands.specs.declared.command.WordsFault.TheVariants.{Usage, NoMemory}
@@ -33,10 +34,7 @@ pub command_is : {S : Type 0} (text : S → Text) (words : List S) (name : S) (r
 command_is text words name rest is = ap (λ ws. command_of (map text ws)) is
 
 other_name : (name this : Text) → name ≢ this → bytes_eq name this ≡ false
-other_name name this differs = elim (bytes_eq name this) as (λ b. bytes_eq name this ≡ b → b ≡ false) [
-  | true ↦ λ is. absurd (differs ((bytes_eq-Decides name this).0 is))
-  | false ↦ λ _. refl
-] refl
+other_name name this differs = grind (arith, common_steps, bytes_eq-Decides name this)
 
 -- a name that no command has
 pub no_command : (name : Text) (words : List Text) → name ≢ codes "replay" → name ≢ codes "serve" → name ≢ codes "gen" → name ≢ codes "bench" → name ≢ codes "check" → name ≢ codes "exclusive" → name ≢ codes "ask" → name ≢ codes "image"

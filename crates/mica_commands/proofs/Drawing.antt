@@ -1,9 +1,10 @@
 -- The words that an operation draws.
-use Rattle.std.proofs.Common.{◌≡◌, ℕ, zero, suc, ◌+◌, ◌*◌, ap, sym, refl, ◌∙◌, add-one, arith}
+use Rattle.std.proofs.Common.{◌≡◌, ℕ, zero, suc, ◌+◌, ◌*◌, refl, add-one, arith}
+use Rattle.std.proofs.lemmas.Grind.{common_steps}
 use Rattle.rand_pcg.specs.Lcg.{Lcg, next_state, state_after, started, increment_of}
 use Rattle.rand_pcg.specs.Pcg.{multiplier_64, pcg32}
 use Rattle.mica_commands.specs.declared.gen_options.GenOptions.{GenOptions}
-use Rattle.mica_commands.specs.declared.draw.Kind.{Kind}
+use Rattle.mica_commands.specs.declared.draw.OpKind.{OpKind}
 use Rattle.mica_commands.specs.declared.draw.Draw.{Draw}
 use Rattle.mica_commands.specs.Generator.{generator, word, kind_by, key_number, drawn}
 
@@ -14,10 +15,7 @@ step_last w m p (suc n) s = step_last w m p n (next_state w m p s)
 
 next_place : (options : GenOptions) (n k : ℕ) → k ≡ n + 1 → (pcg32 (generator options n)).1 ≡ generator options k
 unfolding state_after
-next_place options n k is =
-    let first = generator options 0 in
-    ap (λ s. let g : Lcg = record { state = s; increment = first.increment } in g) (sym (step_last 64 multiplier_64 first.increment n first.state))
-    ∙ ap (λ i. generator options i) (sym (is ∙ add-one n))
+next_place options n k is = grind (arith, common_steps, step_last 64 multiplier_64 (generator options 0).increment n (generator options 0).state, add-one n)
 
 -- the words that operation i draws, and where they leave the generator
 pub record Draws (options : GenOptions) (i kind spot last : ℕ) (left : Lcg) : Type 0 where
@@ -27,9 +25,7 @@ pub record Draws (options : GenOptions) (i kind spot last : ℕ) (left : Lcg) : 
   pub place : left ≡ generator options (3 * (i + 1))
 
 draw : (options : GenOptions) (n k w : ℕ) (old new : Lcg) → k ≡ n + 1 → old ≡ generator options n → (w, new) ≡ pcg32 old → (w ≡ word options n) × (new ≡ generator options k)
-draw options n k w old new next is drawn =
-    let at = drawn ∙ ap pcg32 is in
-    (ap (λ p. p.0) at, ap (λ p. p.1) at ∙ next_place options n k next)
+draw options n k w old new next is drawn = grind (arith, common_steps, next_place options n k next)
 
 pub draws : (options : GenOptions) (i kind spot last : ℕ) (g0 g1 g2 g3 : Lcg) → g0 ≡ generator options (3 * i)
     → (kind, g1) ≡ pcg32 g0 → (spot, g2) ≡ pcg32 g1 → (last, g3) ≡ pcg32 g2 → Draws options i kind spot last g3
@@ -44,12 +40,6 @@ pub at_start : (options : GenOptions) (g : Lcg) → g ≡ started 64 multiplier_
 unfolding state_after
 at_start options g is = is
 
-same_draw : (k l : Kind) (m n i : ℕ) → k ≡ l → m ≡ n → (let draw : Draw = record { kind = k; key = m; number = i } in draw) ≡ record { kind = l; key = n; number = i }
-same_draw k l m n i kind key = cc
-
-pub draw_is : (options : GenOptions) (i kind spot last : ℕ) (left : Lcg) (k : Kind) (key : ℕ) → Draws options i kind spot last left
+pub draw_is : (options : GenOptions) (i kind spot last : ℕ) (left : Lcg) (k : OpKind) (key : ℕ) → Draws options i kind spot last left
     → k ≡ kind_by options kind → key ≡ key_number options spot last → (let draw : Draw = record { kind = k; key = key; number = i } in draw) ≡ drawn options i
-draw_is options i kind spot last left k key drew kind_is key_is =
-    same_draw k (kind_by options (word options (3 * i))) key (key_number options (word options (3 * i + 1)) (word options (3 * i + 2))) i
-    (kind_is ∙ ap (kind_by options) drew.kind_is)
-    (key_is ∙ ap (λ w. key_number options w last) drew.spot_is ∙ ap (λ w. key_number options (word options (3 * i + 1)) w) drew.last_is)
+draw_is options i kind spot last left k key drew kind_is key_is = grind (arith, common_steps)

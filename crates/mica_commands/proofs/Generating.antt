@@ -1,25 +1,24 @@
 -- What options generate is a trace, within the limits of one.
-use Rattle.std.proofs.Common.{◌≡◌, ◌≢◌, ℕ, zero, suc, ◌+◌, ◌-◌, ◌*◌, ◌/◌, ◌%◌, ◌<◌, ◌≤◌, ◌&&◌, Bool, true, false, nat_lt, List, [], ◌∷◌, ◌++◌, length, length-append, append_assoc, flat_map, replicate, cond, refl, sym, ap, ◌∙◌, subst, arith, eqb, eq-eqb, ne_eqb, ◌⊎◌, inl, inr}
+use Rattle.std.proofs.Common.{◌≡◌, ℕ, zero, suc, ◌+◌, ◌-◌, ◌*◌, ◌/◌, ◌%◌, ◌<◌, ◌≤◌, ◌&&◌, Bool, true, false, nat_lt, List, [], ◌∷◌, ◌++◌, length, length-append, append_assoc, flat_map, replicate, cond, refl, sym, ap, ◌∙◌, subst, arith, eqb}
 use Rattle.std.specs.List.{AllByRecursion, range_with_len}
 use Rattle.std.specs.Fmt.{decimal}
 use Rattle.std.specs.Str.Parse.{AllDigits}
 use Rattle.std.proofs.lemmas.Bool.{lt-ltb, le-ltb}
 use Rattle.std.proofs.Math.Bool.{and-true, and-false}
-use Rattle.std.proofs.Math.Nat.{zero-div, mod-add-div'}
-use Rattle.std.proofs.lemmas.Nat.{div-mul-add}
+use Rattle.std.proofs.Math.Nat.{zero-div}
 use Rattle.std.proofs.lemmas.Grind.{flat_map-append}
 use Rattle.std.proofs.lemmas.Fmt.{digits_decimal}
-use Rattle.std.proofs.lemmas.List.{length-replicate, append-nil}
+use Rattle.std.proofs.lemmas.List.{append-nil}
 use Rattle.std.proofs.lemmas.List.Sums.{sum_by-append}
-use Rattle.std.proofs.lemmas.Str.Parse.{numerals_by_value, tells_digits, digit_at}
+use Rattle.std.proofs.lemmas.Str.Parse.{numerals_by_value, tells_digits}
+use Rattle.std.proofs.lemmas.Grind.{common_steps}
 use Rattle.mica_trace.specs.declared.line.TraceLine.{TraceLine}
 use Rattle.mica_trace.specs.TraceGrammar.{trace_text, line_text, IsKey, IsValue, IsTraceLine, is_sync, sync_line, syncs_in, IsWithinLimits}
-use Rattle.mica_trace.proofs.LineLemmas.{syncs_cons}
 use Rattle.mica_commands.specs.declared.limits.TheConstants.{MAX_SOURCE_LEN}
 use Rattle.mica_commands.specs.declared.gen_options.GenOptions.{GenOptions}
 use Rattle.mica_commands.specs.declared.draw.Draw.{Draw}
-use Rattle.mica_commands.specs.declared.draw.Kind.{Kind}
-use Rattle.mica_commands.specs.declared.draw.Kind.TheVariants.{Put, Del, Get}
+use Rattle.mica_commands.specs.declared.draw.OpKind.{OpKind}
+use Rattle.mica_commands.specs.declared.draw.OpKind.TheVariants.{Put, Del, Get}
 use Rattle.mica_commands.specs.GenOptions.{is_valid, syncs_of}
 use Rattle.mica_commands.specs.Generator.{word, kind_by, key_number, padded, drawn_key, drawn, line_by, drawn_line, drawn_lines, ends_round, generated_at, generated}
 use Rattle.mica_commands.proofs.GenFacts.{GenFacts, gen_facts, five_digits, few_keys}
@@ -32,8 +31,7 @@ All_append P (x ∷ xs) ys left right = (left.0, All_append P xs ys left.1 right
 
 visible_digits : (ds : List ℕ) → AllDigits 10 ds → AllByRecursion (λ b. (33 ≤ b) × (b ≤ 126)) ds
 visible_digits [] all = tt
-visible_digits (d ∷ ds) all = let here = digit_at (d ∷ ds) 0 all (omega arith) in let least = here.0 in let most = here.1 in
-    ((omega arith, omega arith), visible_digits ds all.1)
+visible_digits (d ∷ ds) all = grind (arith, common_steps, visible_digits ds all.1)
 
 visible_zeros : (n : ℕ) → AllByRecursion (λ b. (33 ≤ b) × (b ≤ 126)) (replicate n 48)
 visible_zeros zero = tt
@@ -44,14 +42,8 @@ visible_padded len n less =
     All_append _ (replicate (len - length (decimal n)) 48) (decimal n) (visible_zeros _)
     (visible_digits (decimal n) (digits_decimal (numerals_by_value (AllDigits 10) tells_digits) n (omega arith)))
 
-length_zeros : (n : ℕ) → length (replicate {A = ℕ} n 48) ≡ n
-length_zeros n = length-replicate n 48
-
 length_padded : (len n : ℕ) → length (decimal n) ≤ len → length (padded len n) ≡ len
-length_padded len n fits =
-    let zeros = length_zeros (len - length (decimal n)) in
-    let parts = length-append (replicate (len - length (decimal n)) 48) (decimal n) in
-    omega arith
+length_padded len n fits = grind (arith, common_steps)
 
 -- the lines of n operations from operation i on
 abbrev lines_of : GenOptions → ℕ → ℕ → List TraceLine
@@ -60,9 +52,6 @@ lines_of options i n = flat_map (generated_at options) (range_with_len i n)
 -- the lines that are left from operation i on
 abbrev pub lines_from : GenOptions → ℕ → List TraceLine
 lines_from options i = lines_of options i (options.ops - i)
-
-pub from_first : (options : GenOptions) → lines_from options 0 ≡ generated options
-from_first options = ap (lines_of options 0) (let is : options.ops - 0 ≡ options.ops = omega arith in is)
 
 from_next : (options : GenOptions) (i : ℕ) → i < options.ops → lines_from options i ≡ generated_at options i ++ lines_from options (i + 1)
 from_next options i less = ap (lines_of options i) (let is : options.ops - i ≡ suc (options.ops - (i + 1)) = omega arith in is)
@@ -77,20 +66,19 @@ moved made more next rest whole is left = ap (λ m. m ++ rest) is ∙ append_ass
 pub lines_moved : (options : GenOptions) (i : ℕ) (draw : Draw) (made more : List TraceLine) → i < options.ops → draw ≡ drawn options i
     → more ≡ made ++ drawn_lines options draw → made ++ lines_from options i ≡ generated options → more ++ lines_from options (i + 1) ≡ generated options
 lines_moved options i draw made more less is pushed left =
-    moved made more (generated_at options i) (lines_from options (i + 1)) (generated options) (pushed ∙ ap (λ d. made ++ drawn_lines options d) is)
-    (ap (λ lines. made ++ lines) (sym (from_next options i less)) ∙ left)
+    grind (arith, common_steps, moved made more (generated_at options i) (lines_from options (i + 1)) (generated options), from_next options i less)
 
 pub lines_done : (options : GenOptions) (i : ℕ) (made : List TraceLine) → options.ops ≤ i → made ++ lines_from options i ≡ generated options → made ≡ generated options
 lines_done options i made all left = sym (append-nil made) ∙ ap (λ lines. made ++ lines) (sym (from_last options i all)) ∙ left
 
 -- each operation is a line of a trace, and no sync
 
-no_sync : (kind : Kind) (key value : List ℕ) → is_sync (line_by kind key value) ≡ false
+no_sync : (kind : OpKind) (key value : List ℕ) → is_sync (line_by kind key value) ≡ false
 no_sync Put key value = refl
 no_sync Del key value = refl
 no_sync Get key value = refl
 
-has_fields : (kind : Kind) (key value : List ℕ) → IsKey key → IsValue value → IsTraceLine (line_by kind key value)
+has_fields : (kind : OpKind) (key value : List ℕ) → IsKey key → IsValue value → IsTraceLine (line_by kind key value)
 has_fields Put key value key_is value_is = (key_is, value_is)
 has_fields Del key value key_is value_is = (key_is, refl)
 has_fields Get key value key_is value_is = (key_is, refl)
@@ -138,55 +126,20 @@ module _ (options : GenOptions) (facts : GenFacts options) where
 
 -- how many rounds end
 
-less_or : (a b : ℕ) → a < b → (a + 1 < b) ⊎ (a + 1 ≡ b)
-less_or a zero less = absurd (omega arith)
-less_or zero (suc zero) less = inr refl
-less_or zero (suc (suc b)) less = inl (omega arith)
-less_or (suc a) (suc b) less = elim (less_or a b (omega arith)) [ inl more ↦ inl (omega arith) | inr full ↦ inr (omega arith) ]
-
 -- a whole quotient more, where the remainder comes back to nothing
 div_step : (n d : ℕ) → 1 ≤ d → (n + 1) / d ≡ n / d + cond (eqb ((n + 1) % d) 0) 1 0
-div_step n d some =
-    let parts = mod-add-div' n d in
-    let next = mod-add-div' (n + 1) d in
-    let low : n % d < d = omega arith in
-    elim (less_or (n % d) d low) [
-      | inl more ↦
-          let whole : n + 1 ≡ n / d * d + (n % d + 1) = omega arith in
-          let quotient : (n + 1) / d ≡ n / d = ap (λ x. x / d) whole ∙ div-mul-add (n / d) d (n % d + 1) more in
-          let rest = ap (λ q. (n + 1) % d + q * d) (sym quotient) ∙ next in
-          let remains : (n + 1) % d ≢ 0 = λ none. omega arith in
-          quotient ∙ (let is : n / d ≡ n / d + 0 = omega arith in is) ∙ ap (λ t. n / d + cond t 1 0) (sym (ne_eqb _ 0 remains))
-      | inr full ↦
-          let whole : n + 1 ≡ (n / d + 1) * d + 0 = omega arith in
-          let quotient : (n + 1) / d ≡ n / d + 1 = ap (λ x. x / d) whole ∙ div-mul-add (n / d + 1) d 0 some in
-          let rest = ap (λ q. (n + 1) % d + q * d) (sym quotient) ∙ next in
-          let none : (n + 1) % d ≡ 0 = omega arith in
-          quotient ∙ ap (λ t. n / d + cond t 1 0) (sym (eq-eqb _ 0 none))
-    ]
+div_step n d some = grind (arith, common_steps)
 
 record Counted (lines : List TraceLine) (ops syncs : ℕ) : Type 0 where
   pub syncs_are : syncs_in lines ≡ syncs
   pub lines_are : length lines ≡ ops + syncs
 
 sync_behind : (line : TraceLine) (ends : Bool) → is_sync line ≡ false → Counted (line ∷ cond ends (sync_line ∷ []) []) 1 (cond ends 1 0)
-sync_behind line true plain =
-    let here = syncs_cons line (sync_line ∷ []) ∙ ap (λ t. cond t 1 0 + syncs_in (sync_line ∷ [])) plain in
-    let last = syncs_cons sync_line [] in
-    record { syncs_are = omega arith; lines_are = refl }
-sync_behind line false plain =
-    let here = syncs_cons line [] ∙ ap (λ t. cond t 1 0 + syncs_in []) plain in
-    record { syncs_are = omega arith; lines_are = refl }
+sync_behind line true plain = grind (arith, common_steps)
+sync_behind line false plain = grind (arith, common_steps)
 
 lines_append : {xs ys : List TraceLine} {a b c d n : ℕ} → Counted xs a b → Counted ys c d → n ≡ a + c → Counted (xs ++ ys) n (b + d)
-lines_append {xs} {ys} left right all =
-    let syncs = sum_by-append (λ l. cond (is_sync l) 1 0) xs ys in
-    let long = length-append xs ys in
-    let l_syncs = left.syncs_are in
-    let l_lines = left.lines_are in
-    let r_syncs = right.syncs_are in
-    let r_lines = right.lines_are in
-    record { syncs_are = omega arith; lines_are = omega arith }
+lines_append {xs} {ys} left right all = grind (arith, common_steps)
 
 module _ (options : GenOptions) (facts : GenFacts options) where
   counted_at : (i : ℕ) → Counted (generated_at options i) 1 (cond (ends_round options i) 1 0)
@@ -236,8 +189,7 @@ pub text_moved : (options : GenOptions) (i : ℕ) (draw : Draw) (made more : Lis
     → more ++ trace_text (lines_from options (i + 1)) ≡ trace_text (generated options)
 text_moved options i draw made more less is pushed left =
     let next = ap trace_text (from_next options i less) ∙ text_append (generated_at options i) (lines_from options (i + 1)) in
-    moved made more (trace_text (generated_at options i)) (trace_text (lines_from options (i + 1))) (trace_text (generated options)) (pushed ∙ ap (λ d. made ++ trace_text (drawn_lines options d)) is)
-    (ap (λ text. made ++ text) (sym next) ∙ left)
+    grind (arith, common_steps)
 
 length_text : (xs ys : List TraceLine) → length (trace_text (xs ++ ys)) ≡ length (trace_text xs) + length (trace_text ys)
 length_text xs ys = ap length (text_append xs ys) ∙ length-append (trace_text xs) (trace_text ys)
@@ -245,7 +197,7 @@ length_text xs ys = ap length (text_append xs ys) ∙ length-append (trace_text 
 text_of_one : (line : TraceLine) → length (trace_text (line ∷ [])) ≡ length (line_text line) + 1
 text_of_one line = ap length (append-nil (line_text line ++ 10 ∷ [])) ∙ length-append (line_text line) (10 ∷ [])
 
-line_length : (kind : Kind) (key value : List ℕ) → length (line_text (line_by kind key value)) ≤ 5 + length key + length value
+line_length : (kind : OpKind) (key value : List ℕ) → length (line_text (line_by kind key value)) ≤ 5 + length key + length value
 line_length Put key value = let parts = length-append key (32 ∷ value) in omega arith
 line_length Del key value = omega arith
 line_length Get key value = omega arith
@@ -279,20 +231,11 @@ module _ (options : GenOptions) (facts : GenFacts options) where
   length_in : (n i : ℕ) → i + n ≤ options.ops → length (trace_text (lines_of options i n)) ≤ n * (6 + options.key_len + options.value_len) + 5 * syncs_in (lines_of options i n)
   length_in zero i within = omega arith
   length_in (suc n) i within =
-      let here = length_at i (omega arith) in
-      let rest = length_in n (i + 1) (omega arith) in
-      let counted = (counted_at options facts i).syncs_are in
-      let syncs = sum_by-append (λ l. cond (is_sync l) 1 0) (generated_at options i) (lines_of options (i + 1) n) in
-      let text = length_text (generated_at options i) (lines_of options (i + 1) n) in
-      omega arith
+      grind (arith, common_steps, length_at i (omega arith), length_in n (i + 1) (omega arith), counted_at options facts i, sum_by-append, length_text (generated_at options i) (lines_of options (i + 1) n))
 
   -- the text is no longer than a source may be
   short_text : length (trace_text (generated options)) ≤ MAX_SOURCE_LEN
-  short_text =
-      let syncs = (counted_all options facts).syncs_are in
-      let long = length_in options.ops 0 (omega arith) in
-      let most = facts.bytes in
-      omega arith
+  short_text = grind (arith, common_steps, counted_all options facts, length_in options.ops 0 (omega arith))
 
 pub text_fits : (options : GenOptions) → is_valid options ≡ true → length (trace_text (generated options)) ≤ MAX_SOURCE_LEN
 text_fits options valid = short_text options (gen_facts options valid)

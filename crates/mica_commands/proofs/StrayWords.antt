@@ -3,6 +3,7 @@ use Rattle.std.proofs.Common.{◌≡◌, ℕ, ◌==◌, ◌&&◌, ◌||◌, Bool
 use Rattle.std.specs.Prelude.{option_and_then}
 use Rattle.std.specs.List.{list_any}
 use Rattle.std.proofs.lemmas.Bool.Decides.{nat_tests}
+use Rattle.std.proofs.lemmas.Grind.{common_steps}
 use Rattle.mica_commands.specs.ClapCommand.{is_stray, is_blank}
 use Rattle.mica_commands.specs.Words.{Text, Given, has_name, is_given, behind_hyphen, begins_with_hyphen, Word, named, valued, other, word_by, word_of, on_word, give, given_after, given_by}
 
@@ -38,9 +39,7 @@ view_second x t false e even = absurd (true≢false (rw e at even))
 view_first : (x : ℕ) (t : Text) (s : Bool) → (x == 45) ≡ s → is_stray (x ∷ t) ≡ false → View (x ∷ t)
 view_first x t false e even = plain (x ∷ t) e
 view_first x [] true e even = absurd (true≢false (rw e at even))
-view_first x (y ∷ t) true e even =
-    let h : 45 ≡ x = is_hyphen x e in
-    subst (λ (z : ℕ). View (z ∷ y ∷ t)) h (view_second y t (y == 45) refl (subst (λ (z : ℕ). is_stray (z ∷ y ∷ t) ≡ false) (sym h) even))
+view_first x (y ∷ t) true e even = grind (arith, common_steps, is_hyphen x e, view_second y t (y == 45) refl)
 
 pub view : (x : Text) → is_stray x ≡ false → View x
 view [] even = plain [] refl

@@ -6,6 +6,7 @@ use Rattle.std.proofs.Math.ListN.{length-set}
 use Rattle.std.proofs.lemmas.List.{take_more, take_all, length-take-le, append-nil}
 use Rattle.std.proofs.lemmas.Slice.Zip.{length-zip, get_or-zip}
 use Rattle.std.proofs.lemmas.List.Sums.{fold_more}
+use Rattle.std.proofs.lemmas.Grind.{common_steps}
 use Rattle.partition_model.specs.declared.options.Options.{Options}
 use Rattle.partition_model.specs.declared.write.Op.{Op}
 use Rattle.partition_model.specs.declared.write.Outcome.{Outcome}
@@ -18,8 +19,7 @@ use Rattle.mica_commands.specs.Summary.{stamps_by, last_stamps, number_line, sta
 
 pub noted : (options : Options) (stamps : List ℕ) (line : TraceLine) (printed : Line) (op : Op) (outcome : Outcome) (stamp partition : ℕ)
     → printed ≡ Wrote op outcome stamp → partition ≡ partition_in options line → set stamps partition stamp ≡ stamps_by options stamps line printed
-noted options stamps line printed op outcome stamp partition is here =
-    ap (λ p. set stamps p stamp) here ∙ ap (stamps_by options stamps line) (sym is)
+noted options stamps line printed op outcome stamp partition is here = grind (arith, common_steps)
 
 pub length_by : (options : Options) (stamps : List ℕ) (line : TraceLine) (printed : Line) → length (stamps_by options stamps line printed) ≡ length stamps
 length_by options stamps line (Wrote op outcome stamp) = length-set stamps (partition_in options line) stamp
@@ -34,12 +34,7 @@ stamps_at options trace report i = fold (λ stamps pair. stamps_by options stamp
 pub stamps_more : (options : Options) (trace : List TraceLine) (report : List Line) (i : ℕ) (line : TraceLine) (printed : Line) → length trace ≡ length report → i < length trace
     → line ≡ get_or trace i line → printed ≡ get_or report i printed → stamps_by options (stamps_at options trace report i) line printed ≡ stamps_at options trace report (i + 1)
 stamps_more options trace report i line printed same less line_is printed_is =
-    let long = length-zip trace report in
-    let at = get_or-zip trace report i (line, printed) less (omega arith) in
-    ap (λ l. stamps_by options (stamps_at options trace report i) l printed) line_is
-    ∙ ap (λ r. stamps_by options (stamps_at options trace report i) (get_or trace i line) r) printed_is
-    ∙ ap (λ pair. stamps_by options (stamps_at options trace report i) pair.0 pair.1) (sym at)
-    ∙ sym (fold_more (λ stamps pair. stamps_by options stamps pair.0 pair.1) (replicate options.partitions 0) (zip trace report) i (line, printed) (omega arith))
+    grind (arith, common_steps, length-zip trace report, get_or-zip trace report i (line, printed) less (omega arith), fold_more)
 
 pub stamps_whole : (options : Options) (trace : List TraceLine) (report : List Line) (i : ℕ) → length trace ≡ length report → i ≡ length trace
     → stamps_at options trace report i ≡ last_stamps options trace report
@@ -55,11 +50,7 @@ one_each (l ∷ trace) (r ∷ report) all = ap suc (one_each trace report all.1)
 
 stamps_push : (p : ℕ) (stamps : List ℕ) (stamp : ℕ) → stamps_text p (stamps ++ stamp ∷ []) ≡ stamps_text p stamps ++ number_line (codes "stamp " ++ decimal (p + length stamps)) stamp
 stamps_push p [] stamp = append-nil (number_line (codes "stamp " ++ decimal p) stamp) ∙ ap (λ n. number_line (codes "stamp " ++ decimal n) stamp) (let is : p ≡ p + 0 = omega arith in is)
-stamps_push p (s ∷ stamps) stamp =
-    let rest = stamps_push (p + 1) stamps stamp in
-    let place : p + 1 + length stamps ≡ p + suc (length stamps) = omega arith in
-    ap (λ t. number_line (codes "stamp " ++ decimal p) s ++ t) (rest ∙ ap (λ n. stamps_text (p + 1) stamps ++ number_line (codes "stamp " ++ decimal n) stamp) place)
-    ∙ sym (append_assoc (number_line (codes "stamp " ++ decimal p) s) (stamps_text (p + 1) stamps) (number_line (codes "stamp " ++ decimal (p + suc (length stamps))) stamp))
+stamps_push p (s ∷ stamps) stamp = grind (arith, common_steps, stamps_push (p + 1) stamps stamp)
 
 pub stamp_line : (old text : List ℕ) (stamps : List ℕ) (i : ℕ) → i < length stamps → text ≡ old ++ stamps_text 0 (take i stamps)
     → text ++ codes "stamp " ++ number_line (decimal i) (get_or stamps i 0) ≡ old ++ stamps_text 0 (take (i + 1) stamps)

@@ -9,6 +9,7 @@ use Rattle.std.proofs.Common.{pow-suc}
 use Rattle.std.proofs.lemmas.Option.{none-some}
 use Rattle.std.specs.Int.{is_power_of_two}
 use Rattle.std.specs.Str.Parse.{digits_value}
+use Rattle.std.proofs.lemmas.Grind.{common_steps}
 use Rattle.partition_model.specs.declared.options.TheConstants.{MAX_WEAR}
 use Rattle.partition_model.specs.declared.options.Options.{Options}
 use Rattle.partition_model.specs.declared.options.Mode.{Mode}
@@ -55,11 +56,7 @@ value_bounds name least most default (Some t) n between is = number_bounds least
 
 power_bounds : (o : Option ℕ) (n : ℕ) → ((m : ℕ) → o ≡ Some m → InRange 1 65536 m) → (o >>= λ m. if is_power_of_two m then Some m else None) ≡ Some n → InRange 1 65536 n × (is_power_of_two n ≡ true)
 power_bounds None n within is = absurd (none-some n is)
-power_bounds (Some m) n within is =
-    elim (is_power_of_two m) as (λ p. is_power_of_two m ≡ p → (if p then Some m else None) ≡ Some n → InRange 1 65536 n × (is_power_of_two n ≡ true)) [
-      | true ↦ λ power same. let e = same_number m n same in (subst (InRange 1 65536) e (within m refl), subst (λ k. is_power_of_two k ≡ true) e power)
-      | false ↦ λ _ none. absurd (none-some n none)
-    ] refl is
+power_bounds (Some m) n within is = grind (arith, common_steps)
 
 buckets_bounds : (given : Option Text) (n : ℕ) → value_by buckets given ≡ Some n → InRange 1 65536 n × (is_power_of_two n ≡ true)
 unfolding ones
@@ -113,34 +110,14 @@ required_bounds name least most (Some t) n is = number_bounds least most t n is
 -- the number of readers may be any in its range
 with_one_reader : (read : Option Options) (options : Options) → ((o : Options) → read ≡ Some o → IsValid o) → option_map (λ (o : Options). record o { readers = 1 }) read ≡ Some options → IsValid options
 with_one_reader None options valid is = absurd (none-some options is)
-with_one_reader (Some o) options valid is =
-    let v = valid o refl in
-    subst IsValid (same_options (record o { readers = 1 }) options is) (record {
-      partitions = v.partitions;
-      buckets = v.buckets;
-      spares = v.spares;
-      words = v.words;
-      readers = (omega arith, omega arith);
-      tries = v.tries;
-      wear = v.wear;
-    })
+with_one_reader (Some o) options valid is = grind (arith, common_steps)
 
 pub serve_valid : (given : Text → Option Text) (options : Options) → serve_options given ≡ Some options → IsValid options
 serve_valid given options is = with_one_reader (replay_options given) options (replay_valid given) is
 
 without_readers_valid : (read : Option Options) (options : Options) → ((o : Options) → read ≡ Some o → IsValid o) → option_map without_readers read ≡ Some options → IsValid options
 without_readers_valid None options valid is = absurd (none-some options is)
-without_readers_valid (Some o) options valid is =
-    let v = valid o refl in
-    subst IsValid (same_options (without_readers o) options is) (record {
-      partitions = v.partitions;
-      buckets = v.buckets;
-      spares = v.spares;
-      words = v.words;
-      readers = (omega arith, omega arith);
-      tries = (omega arith, omega arith);
-      wear = v.wear;
-    })
+without_readers_valid (Some o) options valid is = grind (arith, common_steps)
 
 pub exclusive_valid : (given : Text → Option Text) (options : Options) → exclusive_options given ≡ Some options → IsValid options
 exclusive_valid given options is = without_readers_valid (replay_options given) options (replay_valid given) is

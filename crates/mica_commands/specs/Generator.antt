@@ -8,8 +8,8 @@ use Rattle.mica_trace.specs.declared.line.TraceOp.TheVariants as op
 use Rattle.mica_trace.specs.declared.line.TraceLine.{TraceLine}
 use Rattle.mica_trace.specs.TraceGrammar.{sync_line}
 use Rattle.mica_commands.specs.declared.gen_options.GenOptions.{GenOptions}
-use Rattle.mica_commands.specs.declared.draw.Kind.{Kind}
-use Rattle.mica_commands.specs.declared.draw.Kind.TheVariants.{Put, Del, Get}
+use Rattle.mica_commands.specs.declared.draw.OpKind.{OpKind}
+use Rattle.mica_commands.specs.declared.draw.OpKind.TheVariants.{Put, Del, Get}
 use Rattle.mica_commands.specs.declared.draw.Draw.{Draw}
 
 -- PCG32 (XSH RR 64/32) on stream 54, with the seed as its state, after n words
@@ -21,7 +21,7 @@ abbrev pub word : GenOptions → ℕ → ℕ
 word options n = output_xsh_rr (generator options n).state
 
 -- the kind of operation that a word chooses
-abbrev pub kind_by : GenOptions → ℕ → Kind
+abbrev pub kind_by : GenOptions → ℕ → OpKind
 kind_by options word =
     if nat_lt (word % 100) options.gets then Get
     else (if nat_lt (word % 100) (options.gets + options.dels) then Del else Put)
@@ -48,7 +48,7 @@ drawn options i = record {
 }
 
 -- the line of a kind of operation; only a put has a value
-abbrev pub line_by : Kind → List ℕ → List ℕ → TraceLine
+abbrev pub line_by : OpKind → List ℕ → List ℕ → TraceLine
 line_by Put key value = record { op = op.Put; key = key; value = value }
 line_by Del key value = record { op = op.Del; key = key; value = [] }
 line_by Get key value = record { op = op.Get; key = key; value = [] }

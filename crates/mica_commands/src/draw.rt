@@ -12,7 +12,7 @@ const STREAM: u64 = 54;
 
 /// What an operation does with its key.
 #[derive(Clone, Copy, Debug, PartialEq, Eq)]
-pub enum Kind {
+pub enum OpKind {
     Put,
     Del,
     Get,
@@ -21,7 +21,7 @@ pub enum Kind {
 /// An operation before it is spelled.
 #[derive(Clone, Copy, Debug)]
 pub struct Draw {
-    pub kind: Kind,
+    pub kind: OpKind,
     /// The number that its key writes.
     pub key: u32,
     /// Its place among the operations, from 0, which the value of a put writes.
@@ -36,17 +36,17 @@ pub fn start(options: &GenOptions) -> Pcg32
 }
 
 // The kind of operation that a word chooses.
-fn kind_of(options: &GenOptions, word: u32) -> Kind
+fn kind_of(options: &GenOptions, word: u32) -> OpKind
     requires { is_valid options.now ≡ true }
     ensures { result ≡ kind_by options.now word }
 {
     let share = word % 100;
     if share < options.gets {
-        Kind::Get
+        OpKind::Get
     } else if share < options.gets + options.dels {
-        Kind::Del
+        OpKind::Del
     } else {
-        Kind::Put
+        OpKind::Put
     }
 }
 

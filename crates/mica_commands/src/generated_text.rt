@@ -5,7 +5,7 @@ ghost use Rattle.mica_commands.specs.GenOptions.{is_valid};
 ghost use Rattle.mica_commands.specs.Generator.{drawn_line, drawn_lines, generated};
 
 use crate::GenOptions;
-use crate::draw::{Draw, Kind, ends_round, next_draw, start};
+use crate::draw::{Draw, OpKind, ends_round, next_draw, start};
 use crate::spelling::{put_key, put_value};
 use mica_io::NoMemory;
 use std::alloc::Global;
@@ -18,12 +18,12 @@ fn put_line(text: &mut Vec<u8>, options: &GenOptions, draw: &Draw) -> Result<(),
     ensures { OnOk result (text.new.items ≡ text.old.items ++ line_text (drawn_line options.now draw.now) ++ 10 ∷ []) }
 {
     text.extend_from_slice(match draw.kind {
-        Kind::Put => b"put ".as_slice(),
-        Kind::Del => b"del ".as_slice(),
-        Kind::Get => b"get ".as_slice(),
+        OpKind::Put => b"put ".as_slice(),
+        OpKind::Del => b"del ".as_slice(),
+        OpKind::Get => b"get ".as_slice(),
     })?;
     put_key(text, options, draw.key)?;
-    if draw.kind == Kind::Put {
+    if draw.kind == OpKind::Put {
         text.push(b' ')?;
         put_value(text, options, draw.number)?;
     }

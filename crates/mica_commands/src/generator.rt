@@ -4,7 +4,7 @@ ghost use Rattle.mica_trace.specs.TraceGrammar.{trace_text};
 ghost use Rattle.mica_commands.specs.GenOptions.{is_valid};
 ghost use Rattle.mica_commands.specs.Generator.{padded, drawn_key, drawn_line, drawn_lines, generated};
 
-use crate::draw::{Draw, Kind, ends_round, next_draw, start};
+use crate::draw::{Draw, OpKind, ends_round, next_draw, start};
 use crate::spelling::{put_key, put_value};
 use crate::{GenOptions, MAX_SOURCE_LEN};
 use mica_io::{Bytes, NoMemory};
@@ -42,9 +42,9 @@ fn line_of(alloc: Global, options: &GenOptions, draw: &Draw) -> Result<TraceLine
 {
     let key = key_of(alloc, options, draw.key)?;
     let (op, value) = match draw.kind {
-        Kind::Put => (TraceOp::Put, value_of(alloc, options, draw.number)?),
-        Kind::Del => (TraceOp::Del, Bytes::empty(alloc)),
-        Kind::Get => (TraceOp::Get, Bytes::empty(alloc)),
+        OpKind::Put => (TraceOp::Put, value_of(alloc, options, draw.number)?),
+        OpKind::Del => (TraceOp::Del, Bytes::empty(alloc)),
+        OpKind::Get => (TraceOp::Get, Bytes::empty(alloc)),
     };
     Ok(TraceLine { op, key, value })
 }
