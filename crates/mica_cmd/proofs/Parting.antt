@@ -23,9 +23,6 @@ lines_some b bytes =
     by [] = (b ∷ [], [], refl)
     by (line ∷ lines) = (b ∷ line, lines, refl)
 
-onto_more : (b : ℕ) (first : List ℕ) (others more : List (List ℕ)) → onto_first b ((first ∷ others) ++ more) ≡ onto_first b (first ∷ others) ++ more
-onto_more b first others more = refl
-
 -- the lines of whole lines and of what stands behind them
 pub lines_behind : (front rest : List ℕ) → EndsLine front → lines_of (front ++ rest) ≡ lines_of front ++ lines_of rest
 lines_behind [] rest whole = refl
@@ -151,10 +148,6 @@ module _ (bytes : List ℕ) (start : ℕ) (high : start ≤ length bytes) (whole
     first = first;
     parts = inl (sym cut ∙ ap (λ r. take start bytes ++ r) (rest ∙ ap (λ l. l ++ 10 ∷ after) is) ∙ sym (append_assoc (take start bytes) check (10 ∷ after)));
   }
-
-  -- and the last one, without its line feed
-  pub parted_last : (after : List ℕ) → drop start bytes ≡ check → after ≡ [] → IsParted bytes (take start bytes) after
-  parted_last after is none = record { whole = whole; first = first; parts = inr (sym cut ∙ ap (λ r. take start bytes ++ r) is, none) }
 
   -- it is not, and it is the last
   pub none_last : 0 < length (drop start bytes) → Lacks 10 (drop start bytes) → drop start bytes ≢ check → HasNoCheck bytes
