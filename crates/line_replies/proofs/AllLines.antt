@@ -3,9 +3,8 @@ use Rattle.std.proofs.Common.{◌≡◌, ℕ, List, [], ◌∷◌, ◌++◌, len
 use Rattle.std.specs.List.{AllByRecursion}
 use Rattle.std.proofs.lemmas.Bool.{eqb-true}
 use Rattle.partition_model.specs.declared.options.Options.{Options}
-use Rattle.partition_model.specs.Options.{IsValid}
-use Rattle.partition_model.specs.History.{History, MayGive, stamp_of, State, stamp_in}
-use Rattle.partition_model.specs.Run.{RunStep, IsRunFrom, history_of}
+use Rattle.partition_model.specs.History.{History}
+use Rattle.partition_model.specs.Run.{RunStep, IsRunFrom}
 use Rattle.mica_trace.specs.declared.line.TraceLine.{TraceLine}
 use Rattle.mica_trace.specs.declared.report.Line.{Line}
 use Rattle.mica_trace.specs.declared.report.Line.TheVariants.{Wrote, Hit, Miss, Sync as SyncLine}
@@ -16,7 +15,6 @@ use Rattle.mica_trace.specs.RoundReport.{history_in}
 use Rattle.mica_trace.specs.LineReply.{steps_at, history_with, IsReplyAfter}
 use Rattle.mica_trace.proofs.ExactLines.{history_own, history_other, exact_more}
 use Rattle.epoch_core.specs.declared.state.OwnerState.{OwnerState}
-use Rattle.epoch_core.specs.OwnerState.{options_in}
 use Rattle.epoch_core.specs.Shape.{shape_of, options_of, spares_in}
 use Rattle.epoch_core.proofs.SameMachine.{same_state}
 use Rattle.partition_model.proofs.SameMachine as machine

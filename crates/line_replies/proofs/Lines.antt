@@ -1,29 +1,26 @@
 -- The reply to one line, and one line more of all.
-use Rattle.std.proofs.Common.{◌≡◌, ℕ, List, [], ◌∷◌, ◌++◌, Some, None, refl, sym, ap, ◌∙◌, subst, cond, true, false, append-nil}
+use Rattle.std.proofs.Common.{◌≡◌, ℕ, [], ◌∷◌, ◌++◌, Some, None, refl, sym, ap, ◌∙◌, subst, cond, true, false, append-nil}
 use Rattle.std.specs.Prelude.{option_map}
 use Rattle.std.specs.List.{cons_option}
-use Rattle.mica_words.specs.Item.{KeyFits}
-use Rattle.partition_model.specs.declared.options.Options.{Options}
 use Rattle.partition_model.specs.declared.write.Op.{Op}
-use Rattle.partition_model.specs.declared.write.Op.TheVariants.{Put as PutOp, Add as AddOp, Touch as TouchOp, Del as DelOp}
 use Rattle.partition_model.specs.declared.write.Write.{Write}
 use Rattle.partition_model.specs.declared.write.Outcome.{Outcome}
-use Rattle.partition_model.specs.Write.{HasValueOf, write_of, is_accepted}
+use Rattle.partition_model.specs.Write.{write_of, is_accepted}
 use Rattle.partition_model.specs.Run.{IsRunFrom, history_of}
 use Rattle.partition_model.specs.History.{History, stamp_of}
 use Rattle.mica_trace.specs.declared.line.TraceOp.{TraceOp}
 use Rattle.mica_trace.specs.declared.line.TraceOp.TheVariants.{Put, Add, Touch, Del, Get, Sync}
 use Rattle.mica_trace.specs.declared.line.TraceLine.{TraceLine}
 use Rattle.mica_trace.specs.declared.report.Line.{Line}
-use Rattle.mica_trace.specs.declared.report.Line.TheVariants.{Wrote, Hit, Miss, Sync as SyncLine}
-use Rattle.mica_trace.specs.TraceGrammar.{HasFields, is_sync_op}
+use Rattle.mica_trace.specs.declared.report.Line.TheVariants.{Wrote}
+use Rattle.mica_trace.specs.TraceGrammar.{is_sync_op}
 use Rattle.mica_trace.specs.Rounds.{op_of}
-use Rattle.mica_trace.specs.LawfulReport.{IsReplyTo, IsKindOf, step_by}
+use Rattle.mica_trace.specs.LawfulReport.{IsReplyTo, step_by}
 use Rattle.mica_trace.specs.LineReply.{steps_at}
 use Rattle.epoch_core.specs.declared.state.OwnerState.{OwnerState}
 use Rattle.epoch_core.specs.OwnerState.{options_in}
 use Rattle.epoch_core.specs.OwnerStep.{IsOwnerStep}
-use Rattle.line_replies.specs.Replied.{IsAnswered, IsWritten, IsReplied}
+use Rattle.line_replies.specs.Replied.{IsWritten, IsReplied}
 
 -- what an owner gained by a write
 gained : (old new : OwnerState) (write : Write) (outcome : Outcome) → IsOwnerStep old new write outcome
@@ -65,42 +62,11 @@ module _ (old new : OwnerState) (line : TraceLine) (does : Op) (op : op_of line.
   pub replied_write : (printed : Line) → IsWritten old new write printed → IsReplied old new line printed
   replied_write printed is = subst (IsReplied old new line) (sym is.is) (replied_with is.outcome is.stamp is.step is.stamped)
 
--- a line of a trace has the value that its operation has
-pub value_of_line : (op : TraceOp) (key value : List ℕ) (does : Op) → HasFields op key value → op_of op ≡ Some does → HasValueOf does value
-value_of_line Put key value does fields is = let one : PutOp ≡ does = cc in subst (λ (o : Op). HasValueOf o value) one fields.1.0
-value_of_line Add key value does fields is = let one : AddOp ≡ does = cc in subst (λ (o : Op). HasValueOf o value) one fields.1.0
-value_of_line Touch key value does fields is = let one : TouchOp ≡ does = cc in subst (λ (o : Op). HasValueOf o value) one fields.1
-value_of_line Del key value does fields is = let one : DelOp ≡ does = cc in subst (λ (o : Op). HasValueOf o value) one fields.1
-value_of_line Get key value does fields is = absurd (cc)
-value_of_line Sync key value does fields is = absurd (cc)
-
-pub key_of_write : (op : TraceOp) (key value : List ℕ) (does : Op) → HasFields op key value → op_of op ≡ Some does → KeyFits key
-key_of_write Put key value does fields is = fields.0.0
-key_of_write Add key value does fields is = fields.0.0
-key_of_write Touch key value does fields is = fields.0.0
-key_of_write Del key value does fields is = fields.0.0
-key_of_write Get key value does fields is = absurd (cc)
-key_of_write Sync key value does fields is = absurd (cc)
-
 -- a line that changes nothing
 same_owner : (old new : OwnerState) → new ≡ old → new ≡ record old { words = new.words; history = old.history ++ [] }
 same_owner old new e =
     let P : OwnerState → Type 0 = λ o. o ≡ record old { words = o.words; history = old.history ++ [] } in
     subst P (sym e) (ap (λ (h : History). record old { history = h }) (sym (append-nil old.history)))
-
-answer_kind : (old : OwnerState) (key : List ℕ) (printed : Line) → IsAnswered old key printed → IsKindOf Get printed
-answer_kind old key (Hit s v) answer = tt
-answer_kind old key (Miss s) answer = tt
-answer_kind old key (Wrote op outcome s) answer = absurd answer
-answer_kind old key SyncLine answer = absurd answer
-
-pub replied_get : (old new : OwnerState) (line : TraceLine) (printed : Line) → line.op ≡ Get → IsAnswered old line.key printed → new ≡ old → IsReplied old new line printed
-replied_get old new line printed op answer same =
-    let P : TraceOp → Type 0 = λ o. IsReplied old new (record { op = o; key = line.key; value = line.value }) printed in
-    subst P (sym op) (record {
-      reply = record { kind = answer_kind old line.key printed answer; write = tt; get = λ is. answer };
-      gained = same_owner old new same;
-    })
 
 -- what is no write and no sync is a get
 pub is_get : (op : TraceOp) → op_of op ≡ None → is_sync_op op ≡ false → op ≡ Get
@@ -110,19 +76,3 @@ is_get Put none other = absurd (cc)
 is_get Add none other = absurd (cc)
 is_get Touch none other = absurd (cc)
 is_get Del none other = absurd (cc)
-
-pub is_sync_line : (op : TraceOp) → is_sync_op op ≡ true → op ≡ Sync
-is_sync_line Sync is = refl
-is_sync_line Get is = absurd (cc)
-is_sync_line Put is = absurd (cc)
-is_sync_line Add is = absurd (cc)
-is_sync_line Touch is = absurd (cc)
-is_sync_line Del is = absurd (cc)
-
-pub replied_sync : (old : OwnerState) (line : TraceLine) → line.op ≡ Sync → IsReplied old old line SyncLine
-replied_sync old line op =
-    let P : TraceOp → Type 0 = λ o. IsReplied old old (record { op = o; key = line.key; value = line.value }) SyncLine in
-    subst P (sym op) (record {
-      reply = record { kind = tt; write = tt; get = λ none. absurd (cc) };
-      gained = same_owner old old refl;
-    })

@@ -1,9 +1,8 @@
-use Rattle.std.proofs.Common.{◌≡◌, ◌+◌, ◌<◌, ◌≤◌, ◌++◌, ◌∷◌, [], ℕ, List, length, map, take, get_or, set, sym, ap, ◌∙◌, subst, arith}
+use Rattle.std.proofs.Common.{◌≡◌, ◌+◌, ◌<◌, ◌++◌, ◌∷◌, [], List, length, map, take, get_or, set, sym, ap, ◌∙◌, subst, arith}
 use Rattle.std.proofs.lemmas.List.{take_more, length-take-le, length-map}
-use Rattle.mica_words.specs.Hash.{fnv1a, hash_partition, partition_of}
+use Rattle.mica_words.specs.Hash.{fnv1a, hash_partition}
 use Rattle.mica_words.proofs.Hashes.{partition_of_hash, partition_of-below}
 use Rattle.mica_trace.specs.declared.line.TraceLine.{TraceLine}
-use Rattle.mica_trace.specs.declared.report.Line.{Line}
 use Rattle.mica_trace.specs.LawfulReport.{IsLineFor}
 use Rattle.mica_trace.specs.Rounds.{partition_in}
 use Rattle.mica_trace.proofs.ListParts.{length_zip}

@@ -1,4 +1,4 @@
-use Rattle.std.proofs.Common.{◌≡◌, map, take, length}
+use Rattle.std.proofs.Common.{map, take}
 use Rattle.line_replies.specs.Answered.{AreAnswered}
 use Rattle.line_replies.proofs.all_lines.reply_to_all.Given as goal
 
