@@ -1,5 +1,5 @@
 -- The owners and the feeder of a run, before it and after it.
-use Rattle.std.proofs.Common.{◌≡◌, ℕ, zero, suc, ◌+◌, length-append, List, [], ◌∷◌, ◌++◌, length, map, slice_get, Some, IfSome, refl, sym, ap, ◌∙◌, subst, append-nil, arith, All}
+use Rattle.std.proofs.Common.{◌≡◌, ℕ, zero, suc, ◌+◌, List, [], ◌∷◌, ◌++◌, length, slice_get, Some, IfSome, refl, sym, ap, ◌∙◌, subst, arith, All}
 use Rattle.std.specs.List.{AllZip}
 use Rattle.std.proofs.lemmas.List.Elements.{All-cons, All-nil}
 use Rattle.list_laws.proofs.AllElements.{all_zipped}

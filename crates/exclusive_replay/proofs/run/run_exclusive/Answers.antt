@@ -1,4 +1,4 @@
-use Rattle.std.proofs.Common.{◌∙◌, length}
+use Rattle.std.proofs.Common.{◌∙◌}
 use Rattle.exclusive_replay.specs.declared.feeder.Feeder.{Feeder}
 use Rattle.exclusive_replay.proofs.RunParts.{all_ready, feeder_ready, all_run}
 use Rattle.exclusive_replay.proofs.run.run_exclusive.Goals as goal
