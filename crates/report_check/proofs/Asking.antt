@@ -13,7 +13,7 @@ use Rattle.mica_trace.specs.LawfulReport.{IsGetAt}
 use Rattle.mica_trace.proofs.ListParts.{slice_get-append}
 use Rattle.report_check.specs.declared.asked.Asked.{Asked}
 use Rattle.report_check.specs.declared.sharing.OwnLine.{OwnLine}
-use Rattle.report_check.specs.Settling.{AreAsked, AreGetsAmong, AreRising, AreGets}
+use Rattle.report_check.specs.Settling.{AreAsked, AreGetsAmong, StampsRise, AreGets}
 use Rattle.report_check.specs.Shared.{AreLinesOf}
 use Rattle.report_check.proofs.OwnLines.{own_at, line_among}
 
@@ -110,6 +110,6 @@ module _ (trace : List TraceLine) (report : List Line) where
         (one.0, one.1 ∙ ap (λ m. Some (record { stamp = printed_stamp printed; place = m })) found.3);
   }
 
-pub rising : (asked : List Asked) → IsNonDecreasingBy (λ a. a.stamp) asked → AreRising asked
+pub rising : (asked : List Asked) → IsNonDecreasingBy (λ a. a.stamp) asked → StampsRise asked
 rising asked up i j a b le at_i at_j =
     grind (arith, common_steps, slice_get_within asked j b at_j, get_or_from_slice_get asked i a a at_i, get_or_from_slice_get asked j b a at_j)

@@ -9,7 +9,7 @@ use Rattle.report_check.specs.declared.asked.Asked.{Asked}
 use Rattle.report_check.specs.declared.settling.Settling.{Settling}
 use Rattle.report_check.specs.Earlier.{earlier}
 use Rattle.report_check.specs.Judged.{LeavesMissed}
-use Rattle.report_check.specs.Settling.{AnswersNow, IsMissedBy, HasJudged, IsAhead, AreRising}
+use Rattle.report_check.specs.Settling.{AnswersNow, IsMissedBy, HasJudged, IsAhead, StampsRise}
 use Rattle.report_check.proofs.SettledGets.{earlier_here, earlier_kept, earlier_one}
 
 module _ (state : State) (trace : List TraceLine) (report : List Line) (asked : List Asked) where
@@ -50,7 +50,7 @@ module _ (state : State) (trace : List TraceLine) (report : List Line) (asked : 
       }
 
   -- all that are left have greater stamps, where the next one has, or none is left
-  pub ahead_of : (next : ℕ) (a : Asked) → AreRising asked → slice_get asked next ≡ Some a → stamp_in state < a.stamp → IsAhead (stamp_in state) asked next
+  pub ahead_of : (next : ℕ) (a : Asked) → StampsRise asked → slice_get asked next ≡ Some a → stamp_in state < a.stamp → IsAhead (stamp_in state) asked next
   ahead_of next a rising is above j b low at = let rise = rising next j a b low is at in omega arith
 
   pub none_ahead : (next : ℕ) → length asked ≤ next → IsAhead (stamp_in state) asked next

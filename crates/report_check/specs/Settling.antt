@@ -42,8 +42,8 @@ AreGets trace report asked = (j : ℕ) (a : Asked) → slice_get asked j ≡ Som
     → (line : TraceLine) × (printed : Line) × IsGetAt trace report a.place line printed × (a.stamp ≡ printed_stamp printed)
 
 -- their stamps rise
-abbrev pub AreRising : List Asked → Type 0
-AreRising asked = (i j : ℕ) (a b : Asked) → i ≤ j → slice_get asked i ≡ Some a → slice_get asked j ≡ Some b → a.stamp ≤ b.stamp
+abbrev pub StampsRise : List Asked → Type 0
+StampsRise asked = (i j : ℕ) (a b : Asked) → i ≤ j → slice_get asked i ≡ Some a → slice_get asked j ≡ Some b → a.stamp ≤ b.stamp
 
 -- what is printed for the get at a place is what the state answers
 pub record AnswersNow (state : State) (trace : List TraceLine) (report : List Line) (place : ℕ) : Type 0 where

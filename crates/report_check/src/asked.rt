@@ -4,7 +4,7 @@ ghost use Rattle.std.specs.List.{AllByRecursion};
 ghost use Rattle.mica_trace.specs.ReportGrammar.{printed_stamp};
 ghost use Rattle.mica_trace.specs.RoundReport.{is_get};
 ghost use Rattle.mica_trace.specs.Rounds.{partition_in};
-ghost use Rattle.report_check.specs.Settling.{AreGetsAmong, AreRising};
+ghost use Rattle.report_check.specs.Settling.{AreGetsAmong, StampsRise};
 
 use crate::sharing::OwnLine;
 use mica_io::NoMemory;
@@ -53,7 +53,7 @@ pub fn gets_among(
     requires within { AllByRecursion (λ own. own.place < length trace.now) lines.now }
     requires same { length report.now ≡ length trace.now }
     ensures all { IfOk result (λ asked. AreGetsAmong trace.now report.now lines.now asked.items) }
-    ensures rising { IfOk result (λ asked. AreRising asked.items) }
+    ensures rising { IfOk result (λ asked. StampsRise asked.items) }
 {
     let mut asked = Vec::new(alloc);
     for at in 0..lines.len() {

@@ -6,7 +6,7 @@ ghost use Rattle.mica_trace.specs.LawfulReport.{IsGetAt};
 ghost use Rattle.report_check.specs.Earlier.{earlier};
 ghost use Rattle.partition_model.specs.History.{State, stamp_in};
 ghost use Rattle.report_check.specs.Machines.{IsAt};
-ghost use Rattle.report_check.specs.Settling.{AnswersNow, AreGets, AreRising, HasJudged, IsAhead};
+ghost use Rattle.report_check.specs.Settling.{AnswersNow, AreGets, StampsRise, HasJudged, IsAhead};
 
 use crate::asked::Asked;
 use crate::machine::Machine;
@@ -57,7 +57,7 @@ pub fn judge(
 ) -> Settling
     requires high { settling.next ≤ length asked.now }
     requires gets { AreGets trace.now report.now asked.now }
-    requires rising { AreRising asked.now }
+    requires rising { StampsRise asked.now }
     requires at { (state : State) × IsAt state machine.now }
     ensures judged { (state : State) → IsAt state machine.now → HasJudged state trace.now report.now asked.now settling result }
     ensures ahead { (state : State) → IsAt state machine.now → IsAhead (stamp_in state) asked.now result.next }
