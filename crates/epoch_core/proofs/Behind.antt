@@ -3,6 +3,7 @@
 use Rattle.epoch_core.proofs.Vocabulary.{AllPairs, Contains, Contains-append_left, List, [], ap, arith, dite, get_or_default, inl, inr, length, refl}
 use Rattle.epoch_core.proofs.Vocabulary.{subst, suc, sym, ℕ, ℕ_discrete, ◌++◌, ◌<◌, ◌∙◌, ◌∷◌, ◌≡◌, ◌≢◌, ◌⊎◌}
 use Rattle.std.proofs.lemmas.List.Kept.{AllPairs-cons}
+use Rattle.std.proofs.lemmas.Grind.{common_steps}
 use Rattle.epoch_core.proofs.Failing.{in_cons, in_head, in_tail, in_none}
 
 -- the links lead from x through these buckets and end
@@ -40,16 +41,11 @@ module _ (f : ℕ → ℕ) where
   one_list x [] [] h k = refl
   one_list x [] (d ∷ ds) h k = absurd (k.1 (sym k.0 ∙ h))
   one_list x (c ∷ cs) [] h k = absurd (h.1 (sym h.0 ∙ k))
-  one_list x (c ∷ cs) (d ∷ ds) h k =
-      let same : c ≡ d = sym h.0 ∙ k.0 in
-      (λ i. same i ∷ one_list c cs ds h.2 (subst (λ (z : ℕ). AreBehind f z ds) (sym same) k.2) i)
+  one_list x (c ∷ cs) (d ∷ ds) h k = grind (arith, common_steps, one_list c cs ds h.2)
 
   fewer : (x : ℕ) (cs : List ℕ) → AreBehind f x cs → (c : ℕ) → Contains cs c → (ds : List ℕ) × (length ds < length cs) × AreBehind f c ds
   fewer x [] h c i = absurd (in_none c i)
-  fewer x (d ∷ ds) h c i = elim (in_cons d c ds i) [
-    | inl is ↦ (ds, omega arith, subst (λ (z : ℕ). AreBehind f z ds) is h.2)
-    | inr more ↦ (let rest = fewer d ds h.2 c more in (rest.0, omega (arith, rest.1), rest.2))
-  ]
+  fewer x (d ∷ ds) h c i = grind (arith, common_steps, fewer d ds h.2 c)
 
   -- no bucket comes twice
   pub not_again : (x : ℕ) (cs : List ℕ) → AreBehind f x cs → ¬ (Contains cs x)
@@ -74,9 +70,5 @@ module _ (f g : ℕ → ℕ) where
   pub relinked : (c : ℕ) → ((d : ℕ) → d ≢ c → g d ≡ f d) → (rest : List ℕ) → AreBehind g c rest
       → (x : ℕ) (before after : List ℕ) → last_of x before ≡ c → AreBehind f x (before ++ after) → AreBehind g x (before ++ rest)
   relinked c else rest to x [] after is h = subst (λ (z : ℕ). AreBehind g z rest) (sym is) to
-  relinked c else rest to x (d ∷ ds) after is h = (
-    else x (λ same. not_again f x (d ∷ ds ++ after) h
-        (Contains-append_left (d ∷ ds) after x (subst (Contains (d ∷ ds)) (is ∙ sym same) (last_in d ds)))) ∙ h.0,
-    h.1,
-    relinked c else rest to d ds after is h.2,
-  )
+  relinked c else rest to x (d ∷ ds) after is h =
+      grind (arith, common_steps, not_again f x (d ∷ ds ++ after) h, Contains-append_left (d ∷ ds) after x, last_in d ds, relinked c else rest to d ds after is h.2)

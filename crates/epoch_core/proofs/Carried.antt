@@ -1,13 +1,13 @@
 -- What the words stand for in a bucket stays where the words in its reach do, and the machine has the same of its keys.
+use Rattle.std.proofs.lemmas.Grind.{common_steps}
 use Rattle.epoch_core.proofs.Vocabulary.{Cache, Cell, Has, HasChain, HasChains, HasLiveEntry, History, InChain, IsDense, IsInRoom, IsLiveItem, IsMain}
 use Rattle.epoch_core.proofs.Vocabulary.{IsReached, List, Marked, Mode, OwnerState, Phase, Spells, StandsFor, Store, add-zero, ap, arith, by_entry}
-use Rattle.epoch_core.proofs.Vocabulary.{by_item, by_link, dite, entry_at, entry_offset, get_or, header_room, inl, inr, item_at, item_in, item_size}
-use Rattle.epoch_core.proofs.Vocabulary.{link_at, link_in, marked_in, options_in, refl, room_in, stamp_in, stamp_of, state_in, sym, ℕ, ℕ_discrete}
+use Rattle.epoch_core.proofs.Vocabulary.{by_item, by_link, entry_at, entry_offset, get_or, header_room, inl, inr, item_at, item_in, item_size}
+use Rattle.epoch_core.proofs.Vocabulary.{link_at, link_in, marked_in, options_in, refl, room_in, stamp_in, stamp_of, state_in, sym, ℕ}
 use Rattle.epoch_core.proofs.Vocabulary.{◌+◌, ◌<◌, ◌∙◌, ◌≡◌, ◌≢◌, ◌⊎◌}
 use Rattle.epoch_core.proofs.Behind.{same_behind}
 use Rattle.epoch_core.proofs.Walks.{IsChain, chain_there, has_bucket, in_chain}
 use Rattle.epoch_core.proofs.Machine.{HasStill}
-use Rattle.epoch_core.proofs.Marked.{bit_else}
 
 -- the state with other words, another history and another phase
 abbrev pub changed : OwnerState → List ℕ → History → Phase → OwnerState
@@ -20,9 +20,7 @@ pub spells_there : (o new : OwnerState) (b entry : ℕ) (key : List ℕ) (cell :
     → ((i : ℕ) → i < item_size key cell.value
     → item_in (record new { shape = o.shape }) (entry_offset entry + i) ≡ item_in o (entry_offset entry + i))
     → Spells o b entry key cell → Spells (record new { shape = o.shape }) b entry key cell
-spells_there o new b entry key cell has room same sp =
-    let fits = sp.in_room in
-    record { bucket = sp.bucket; has = has; offset = sp.offset; tag = sp.tag; item = λ i l. same i l ∙ sp.item i l; in_room = omega arith }
+spells_there o new b entry key cell has room same sp = grind (arith, common_steps)
 
 -- what has to be known of a bucket
 pub record Carries (o new : OwnerState) (b : ℕ) : Type 0 where
@@ -36,8 +34,7 @@ pub record Carries (o new : OwnerState) (b : ℕ) : Type 0 where
 
 -- of two buckets one has no marked write
 one_unmarked : (phase : Phase) (b c : ℕ) → b ≢ c → (marked_in phase b ≡ 0) ⊎ (marked_in phase c ≡ 0)
-one_unmarked (Marked d write before) b c n =
-    dite (ℕ_discrete d b) (λ is. inr (bit_else d c (λ same. n (sym is ∙ same)))) (λ not. inl (bit_else d b not))
+one_unmarked (Marked d write before) b c n = grind (arith, common_steps)
 one_unmarked phase b c n = inl refl
 
 module _ (o new : OwnerState) where
@@ -68,8 +65,7 @@ module _ (o new : OwnerState) where
 
     dense_on : IsDense o b → IsDense p b
     dense_on d = record {
-      full = λ c slot h linked x none. let before = chain_back c h in
-          d.full c slot before (λ end. linked (link_same c before ∙ end)) x (sym (entry_same c slot before x) ∙ none);
+      full = λ c slot h linked x none. grind (arith, common_steps, chain_back c h, link_same c (chain_back c h), entry_same c slot (chain_back c h) x);
       in_order = λ c slot later h less x used none. let before = chain_back c h in
           d.in_order c slot later before less x (λ empty. used (entry_same c later before x ∙ empty)) (sym (entry_same c slot before (omega arith)) ∙ none);
       some = λ c h other none. let before = chain_back c h in d.some c before other (sym (entry_same c 0 before (omega arith)) ∙ none);
@@ -78,12 +74,7 @@ module _ (o new : OwnerState) where
     -- a live entry
 
     pub back : (c slot entry : ℕ) → HasLiveEntry p b c slot entry → HasLiveEntry o b c slot entry
-    back c slot entry h = let before = chain_back c h.in_chain in record {
-      in_chain = before;
-      in_bucket = h.in_bucket;
-      found = sym (entry_same c slot before h.in_bucket) ∙ h.found;
-      live = (h.live.0, rw k.stamp (k.has.live (entry_offset entry) (rw (sym k.stamp_now) h.live.1)));
-    }
+    back c slot entry h = grind (arith, common_steps, chain_back c h.in_chain, in_chain, entry_same c slot (chain_back c h.in_chain) h.in_bucket)
 
     on : (c slot entry : ℕ) → HasLiveEntry o b c slot entry → IsLiveItem o.shape.mode o.shape.words (stamp_in p) (entry_offset entry)
         → HasLiveEntry p b c slot entry

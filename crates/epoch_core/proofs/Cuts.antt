@@ -1,4 +1,5 @@
 -- How many events are played after so many loads.
+use Rattle.std.proofs.lemmas.Grind.{common_steps}
 use Rattle.epoch_core.proofs.Vocabulary.{List, ap, arith, get_or, get_or_default, get_or_past, length, min, suc, sym, zero, ℕ, ◌+◌, ◌-◌, ◌<◌, ◌∙◌}
 use Rattle.epoch_core.proofs.Vocabulary.{◌≡◌, ◌≤◌}
 use Rattle.epoch_core.specs.Script.{NoneAbove, Rises, cut_at}
@@ -15,9 +16,7 @@ cut_last cuts zero more = absurd (omega arith)
 cut_last cuts (suc m) more = cut_is cuts (suc m) m (omega arith) ∙ ap (λ (z : ℕ). get_or cuts z 0) (omega arith)
 
 pub cut_min : (cuts : List ℕ) (n : ℕ) → cut_at cuts (min n (length cuts) + 1) ≡ cut_at cuts (n + 1)
-cut_min cuts n =
-    cut_is cuts (min n (length cuts) + 1) (min n (length cuts)) (omega arith) ∙ ap (λ (z : ℕ). get_or cuts z 0) (omega arith)
-    ∙ sym (cut_is cuts (n + 1) n (omega arith))
+cut_min cuts n = grind (arith, common_steps)
 
 cut_grows : (cuts : List ℕ) (n m : ℕ) → Rises cuts → n ≤ m → cut_at cuts n ≤ cut_at cuts m
 cut_grows cuts zero m rise more = omega arith
@@ -30,8 +29,7 @@ cut_rises cuts n rise = cut_grows cuts n (n + 1) rise (omega arith)
 
 pub cut_few : (cuts : List ℕ) (most n : ℕ) → NoneAbove most cuts → cut_at cuts n ≤ most
 cut_few cuts most zero few = omega arith
-cut_few cuts most (suc i) few =
-    grind (arith, cut_is cuts (suc i) i, few (min i (length cuts - 1)), get_or_past cuts (min i (length cuts - 1)) 0)
+cut_few cuts most (suc i) few = grind (arith, common_steps, cut_is cuts (suc i) i, get_or_past cuts (min i (length cuts - 1)) 0)
 
 pub still_at_last : (cuts : List ℕ) (n played : ℕ) → Rises cuts → played ≡ cut_at cuts n → played ≡ last cuts → (m : ℕ) → n < m → cut_at cuts m ≡ played
 still_at_last cuts n played rise at end m less =

@@ -1,5 +1,6 @@
 -- The central law: an event leaves the words in reach of a bucket whose even epoch stands still. So whatever is kept of a reader
 -- is kept past it.
+use Rattle.std.proofs.lemmas.Grind.{common_steps}
 use Rattle.epoch_core.proofs.Vocabulary.{Event, Grows, IfSome_then, IsAllowed, IsMain, IsSpelt, Kept, OwnerState, ReaderKept, ReaderState, Shape, Try}
 use Rattle.epoch_core.proofs.Vocabulary.{TryKept, after, ap, arith, epoch_in, refl, subst, sym, ℕ, ◌%◌, ◌∙◌, ◌≡◌}
 use Rattle.epoch_core.proofs.Prefixes.{prefix_then}
@@ -43,13 +44,4 @@ module _ (o p : OwnerState) (g : Grows o p) where
     }
 
   pub reader_grows : (r : ReaderState) → ReaderKept o r → ReaderKept p r
-  reader_grows r k = record {
-    shape = k.shape ∙ sym g.shape;
-    seen = prefix_then r.seen o.history p.history k.seen g.history;
-    done = k.done;
-    met = k.met;
-    ended = λ b main.
-        let was : IsMain o.shape b = rw g.shape at main in rw g.shape (omega (arith, g.rises b was, k.ended b was));
-    fails = fails_rise o p g.shape g.rises r.fails k.fails;
-    current = IfSome_then r.current k.current try_grows;
-  }
+  reader_grows r k = grind (arith, common_steps, prefix_then r.seen o.history p.history k.seen g.history, fails_rise o p g.shape g.rises r.fails k.fails, try_grows)

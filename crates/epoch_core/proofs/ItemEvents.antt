@@ -1,7 +1,8 @@
 -- The words of an item put in four parts: its header, its hash, its key and its value.
+use Rattle.std.proofs.lemmas.Grind.{common_steps}
 use Rattle.epoch_core.proofs.Vocabulary.{CanPlay, HasKeyWords, Kept, KeyFits, List, MayPutWord, OwnerState, PutsWord, [], after, ap, arith, fnv1a}
 use Rattle.epoch_core.proofs.Vocabulary.{get_or, header_of, item_at, item_events, item_in, length, length-packed, packed, plays, puts_from, refl}
-use Rattle.epoch_core.proofs.Vocabulary.{set-get_or, subst, suc, sym, zero, ℕ, ◌++◌, ◌+◌, ◌<◌, ◌∙◌, ◌∷◌, ◌≡◌}
+use Rattle.epoch_core.proofs.Vocabulary.{set-get_or, suc, sym, zero, ℕ, ◌+◌, ◌<◌, ◌∙◌, ◌∷◌, ◌≡◌}
 use Rattle.mica_words.specs.Spelling.{item_words}
 use Rattle.epoch_core.proofs.EventWords.{other}
 use Rattle.epoch_core.proofs.Log.{not_below}
@@ -39,17 +40,11 @@ there_already o p (x ∷ xs) same =
 module _ (o : OwnerState) (p room : ℕ) (key value : List ℕ) where
   pub can_put_parts : CanPlay (item_events p room key value) o → CanPut o p room key value
   unfolding item_words
-  can_put_parts can =
-      let after_hash : OwnerState = hashed o p room key value in
-      let rest = can_play-append after_hash (p + 2) (packed key) (packed value)
-      (subst (λ (z : ℕ). CanPlay (puts_from z (packed key ++ packed value)) after_hash) (omega arith) can.1.1) in
-      record { header = can.0; hash = can.1.0; key_words = rest.0; value_words = rest.1 }
+  can_put_parts can = grind (arith, common_steps, can_play-append)
 
   pub all_put : plays (puts_from (p + 2 + length (packed key)) (packed value)) (keyed o p room key value) ≡ plays (item_events p room key value) o
   unfolding item_words
-  all_put =
-      sym (plays-append (hashed o p room key value) (p + 2) (packed key) (packed value))
-      ∙ ap (λ (z : ℕ). plays (puts_from z (packed key ++ packed value)) (hashed o p room key value)) (omega arith)
+  all_put = grind (arith, common_steps, plays-append (hashed o p room key value) (p + 2) (packed key) (packed value))
 
   -- where the hash and the key are there, the header and the value are all that has to be put
   pub key_stays : Kept o → KeyFits key → HasKeyWords o p key → keyed o p room key value ≡ headed o p room key value

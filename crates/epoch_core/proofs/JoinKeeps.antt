@@ -1,13 +1,12 @@
 -- Splits and joins keep what is kept of owners and readers.
+use Rattle.std.proofs.lemmas.Grind.{common_steps}
 use Rattle.epoch_core.proofs.Vocabulary.{All-contains, All-from_recursion, Grows, History, IsMain, IsPrefix, Kept, Marked, OwnerState, Phase}
-use Rattle.epoch_core.proofs.Vocabulary.{PhaseFits, ReaderKept, ReaderState, Shape, Write, [], ap, arith, begun_in, bucket_of, ended_in, epoch_in}
-use Rattle.epoch_core.proofs.Vocabulary.{known, lent, longer, marked_in, met_by, nat_eq, newcomer, note_of, options_in, refl, told, writes_in}
-use Rattle.epoch_core.proofs.Vocabulary.{writes_to_bucket, ℕ, ◌*◌, ◌+◌, ◌∙◌, ◌∷◌, ◌≡◌, ◌≤◌}
+use Rattle.epoch_core.proofs.Vocabulary.{PhaseFits, ReaderKept, ReaderState, Shape, [], arith, begun_in, ended_in, epoch_in}
+use Rattle.epoch_core.proofs.Vocabulary.{known, lent, longer, marked_in, met_by, newcomer, note_of, options_in, refl, told, writes_in}
+use Rattle.epoch_core.proofs.Vocabulary.{writes_to_bucket, ℕ, ◌*◌, ◌+◌, ◌∷◌, ◌≡◌, ◌≤◌}
 use Rattle.epoch_core.specs.declared.reader.Known.{Known}
 use Rattle.epoch_core.proofs.Prefixes.{prefix_same, prefix_then, longer_as, longer_both}
-use Rattle.epoch_core.proofs.Failing.{in_none, fails_both}
-use Rattle.epoch_core.proofs.Keeps.{count_more}
-use Rattle.epoch_core.proofs.Marked.{bit, bit_le}
+use Rattle.epoch_core.proofs.Failing.{fails_both}
 use Rattle.epoch_core.proofs.Meeting.{met_grows, met_kept}
 
 ended_begins : (o : OwnerState) (phase : Phase) → PhaseFits o phase → IsPrefix (ended_in phase o.history) o.history
@@ -16,24 +15,13 @@ ended_begins o phase fits = prefix_same o.history
 
 ended_below : (o : OwnerState) (phase : Phase) → PhaseFits o phase → (b : ℕ) → epoch_in o b + marked_in phase b ≡ 2 * writes_in o b + begun_in phase b
     → 2 * writes_to_bucket (options_in o) (ended_in phase o.history) b ≤ epoch_in o b
-ended_below o (Marked c write before) fits b e =
-    let more = ap (λ (z : History). writes_to_bucket (options_in o) z b) fits.1
-    ∙ count_more (λ (w : Write). nat_eq (bucket_of w.key o.shape.buckets) b) before write in
-    omega (arith, more, ap (λ (z : ℕ). bit z b) fits.0, bit_le c b)
+ended_below o (Marked c write before) fits b e = grind (arith, common_steps)
 ended_below o phase fits b e = omega arith
 
 -- one that has loaded nothing
 fresh : (o : OwnerState) (shape : Shape) (seen done : History) → shape ≡ o.shape → IsPrefix seen o.history → IsPrefix done seen
     → ((b : ℕ) → IsMain o.shape b → 2 * writes_to_bucket (options_in o) done b ≤ epoch_in o b) → ReaderKept o (newcomer shape seen done)
-fresh o shape seen done same begins ended_first ended = record {
-  shape = same;
-  seen = begins;
-  done = ended_first;
-  met = λ m has. absurd (in_none m has);
-  ended = ended;
-  fails = λ f has. absurd (in_none f has);
-  current = tt;
-}
+fresh o shape seen done same begins ended_first ended = grind (arith, common_steps)
 
 pub lends : (o : OwnerState) → Kept o → ReaderKept o (lent o)
 lends o s = fresh o o.shape o.history (ended_in o.phase o.history) refl (prefix_same o.history) (ended_begins o o.phase s.phase)
@@ -66,8 +54,7 @@ tells_of o r note k k' =
           (λ _. prefix_then r.done r.seen seen k.done seens.1) (λ _. prefix_then note.done note.seen seen k'.done seens.2);
       met = λ m has. All-contains knows (known r ∷ known note ∷ []) m
           (All-from_recursion knows (known r ∷ known note ∷ []) ((seens.1, dones.1), ((seens.2, dones.2), tt))) has;
-      ended = λ b main. longer_as (λ (z : History). 2 * writes_to_bucket (options_in o) z b ≤ epoch_in o b) o.history r.done note.done first second
-          (λ _. k.ended b main) (λ _. k'.ended b main);
+      ended = λ b main. grind (arith, common_steps);
       fails = fails_both o r.fails note.fails k.fails k'.fails;
       current = tt;
     }

@@ -1,9 +1,10 @@
 -- Each event of an owner keeps the owner's fact.
+use Rattle.std.proofs.lemmas.Grind.{common_steps}
 use Rattle.epoch_core.proofs.Vocabulary.{Begins, Bool, Ends, Event, History, IsAllowed, IsLawfulHistory, IsMain, IsPrefix, IsReached, IsWrite, Kept}
 use Rattle.epoch_core.proofs.Vocabulary.{List, Marked, Marks, OwnerState, Phase, PhaseFits, StandsFor, Write, [], after, ap, arith, begun_in}
-use Rattle.epoch_core.proofs.Vocabulary.{bucket_of, by_entry, by_item, by_link, cond, count_by, dite, epoch_at, epoch_in, get_or-set_same}
-use Rattle.epoch_core.proofs.Vocabulary.{history_after, history_snoc, if◌then◌else◌, length-append, length-set, marked_in, nat_eq, options_in}
-use Rattle.epoch_core.proofs.Vocabulary.{phase_after, place_of, refl, stamp_at, stamp_in, stamp_of, subst, sum_by_push, sym, writes_in, ℕ, ℕ_discrete}
+use Rattle.epoch_core.proofs.Vocabulary.{by_entry, by_item, by_link, cond, count_by, dite, epoch_at, epoch_in, get_or-set_same}
+use Rattle.epoch_core.proofs.Vocabulary.{history_after, history_snoc, if◌then◌else◌, length-append, length-set, marked_in, options_in}
+use Rattle.epoch_core.proofs.Vocabulary.{phase_after, place_of, refl, stamp_at, stamp_in, stamp_of, sum_by_push, sym, writes_in, ℕ, ℕ_discrete}
 use Rattle.epoch_core.proofs.Vocabulary.{◌%◌, ◌*◌, ◌++◌, ◌+◌, ◌∙◌, ◌∷◌, ◌≡◌, ◌≢◌, ◌≤◌}
 use Rattle.epoch_core.proofs.Prefixes.{prefix_same, prefix_then}
 use Rattle.epoch_core.proofs.Marked.{bit, bit_same, bit_else, bit_is, calm, ends_main}
@@ -37,8 +38,7 @@ module _ (o : OwnerState) (s : Kept o) where
   -- Epochs
 
   one_more : (b c : ℕ) → IsMain o.shape b → epoch_in (after (Begins b) o) c ≡ epoch_in o c + bit b c
-  one_more b c l =
-      grind (arith, bit_same b c, bit_else b c, s.wide, get_or-set_same o.words (epoch_at b) (epoch_in o b + 1) 0, other o (Begins b) (epoch_at c))
+  one_more b c l = grind (arith, common_steps)
 
   epoch_after : (e : Event) → IsAllowed e o → (c : ℕ) → IsMain o.shape c → epoch_in (after e o) c ≡ epoch_in o c + adds e c
   epoch_after (Begins b) a c l = one_more b c a.main
@@ -52,10 +52,7 @@ module _ (o : OwnerState) (s : Kept o) where
   epochs_after : (e : Event) → IsAllowed e o → (b : ℕ) → IsMain o.shape b
       → epoch_in (after e o) b + marked_in (phase_after e o) b ≡ 2 * writes_in (after e o) b + begun_in (phase_after e o) b
   epochs_after (Begins c) a b l = let was = rw a.idle at s.epochs b l in omega (arith, epoch_after (Begins c) a b l)
-  epochs_after (Marks write n) a b l =
-      let was = rw a.begun at s.epochs b l in
-      let more = count_more (λ (w : Write). nat_eq (bucket_of w.key o.shape.buckets) b) o.history write in
-      omega (arith, epoch_after (Marks write n) a b l)
+  epochs_after (Marks write n) a b l = grind (arith, common_steps)
   epochs_after (Ends c) a b l = let was = rw (marked_is o.phase c a.marked).2 at s.epochs b l in omega (arith, epoch_after (Ends c) a b l)
   epochs_after e a b l = let was = s.epochs b l in let now = epoch_after e a b l in omega arith
 
@@ -66,11 +63,8 @@ module _ (o : OwnerState) (s : Kept o) where
   stamp_after e a = other o e stamp_at (λ is. omega arith) ∙ s.stamp
 
   lawful_after : (e : Event) → IsAllowed e o → IsLawfulHistory o.shape (history_after e o.history)
-  lawful_after (Marks write n) a = record {
-    accepted = history_snoc (options_in o) o.history write s.history.accepted a.accepted;
-    writes = all_more IsWrite o.history write s.history.writes a.fits;
-    not_above_wear = omega (arith, (subst (PhaseFits o) a.begun s.phase).1, length-append o.history (write ∷ []));
-  }
+  lawful_after (Marks write n) a =
+      grind (arith, common_steps, history_snoc (options_in o) o.history write s.history.accepted a.accepted, all_more IsWrite o.history write s.history.writes a.fits, length-append o.history (write ∷ []))
   lawful_after e a = s.history
 
   phase_fits : (e : Event) → IsAllowed e o → PhaseFits (after e o) (phase_after e o)

@@ -1,4 +1,5 @@
 -- Each load of a reader keeps what is kept of it.
+use Rattle.std.proofs.lemmas.Grind.{common_steps}
 use Rattle.epoch_core.proofs.Vocabulary.{Bool, Contains-push_cases, FailsFit, Failure, IfSome, IfSome_then, IsMain, Kept, List, None, Option}
 use Rattle.epoch_core.proofs.Vocabulary.{OwnerState, ReaderKept, ReaderState, Shape, Some, Tells, TellsTry, Try, TryKept, [], ap, arith, epoch_in}
 use Rattle.epoch_core.proofs.Vocabulary.{fails_after, failure, get_or, if◌then◌else◌, inl, inr, le_refl, loaded, new_try, opened, options_of, refl}
@@ -16,8 +17,7 @@ module _ (o : OwnerState) (s : Kept o) (r : ReaderState) (k : ReaderKept o r) wh
   -- a load leaves what was seen
   loaded_keeps : (loads tried closed : ℕ) (fails : List Failure) (current : Option Try) → FailsFit o fails → IfSome current (TryKept o)
       → ReaderKept o (record r { loads = loads; tried = tried; fails = fails; closed = closed; current = current })
-  loaded_keeps loads tried closed fails current fit kept =
-      record { shape = k.shape; seen = k.seen; done = k.done; met = k.met; ended = k.ended; fails = fit; current = kept }
+  loaded_keeps loads tried closed fails current fit kept = grind (arith, common_steps)
 
   -- the first epoch
 

@@ -1,8 +1,9 @@
 -- A word of the marked write in cache mode is in no room of a live item of another bucket: the log's window and its rooms say so.
-use Rattle.epoch_core.proofs.Vocabulary.{AllByRecursion, Cell, Has, History, IsWrite, Kept, List, Options, OwnerState, Phase, PhaseFits}
-use Rattle.epoch_core.proofs.Vocabulary.{Some, Spells, State, Write, ap, arith, bucket_in, cache_state, cases_lt, div-add-mod, entry_offset, inl, inr}
-use Rattle.epoch_core.proofs.Vocabulary.{marked_in, mul-le-mul_left, mul-suc, options_in, room_in, state_in, state_of, state_snoc, subst, sym}
-use Rattle.epoch_core.proofs.Vocabulary.{tail_of, ℕ, ◌%◌, ◌*◌, ◌+◌, ◌/◌, ◌<◌, ◌∙◌, ◌≡◌, ◌≢◌, ◌≤◌, ◌⊎◌}
+use Rattle.std.proofs.lemmas.Grind.{common_steps}
+use Rattle.epoch_core.proofs.Vocabulary.{AllByRecursion, Cell, History, IsWrite, Kept, List, Options, OwnerState, Phase, PhaseFits}
+use Rattle.epoch_core.proofs.Vocabulary.{Some, Spells, State, Write, ap, arith, bucket_in, cache_state, entry_offset}
+use Rattle.epoch_core.proofs.Vocabulary.{marked_in, options_in, room_in, state_in, state_of, state_snoc, subst, sym}
+use Rattle.epoch_core.proofs.Vocabulary.{tail_of, ℕ, ◌%◌, ◌+◌, ◌<◌, ◌∙◌, ◌≡◌, ◌≢◌, ◌≤◌}
 use Rattle.partition_model.specs.Cache.{Cache, Record, record_of}
 use Rattle.partition_model.specs.CacheStep as cs
 use Rattle.partition_model.specs.History.{after, IsAcceptedAfter, IsHistory}
@@ -15,13 +16,8 @@ use Rattle.epoch_core.proofs.Spares.{LogSpares}
 
 -- two places inside one window are one where they are one in the log
 
-quotients : (n q q' r x y : ℕ) → n * q + r ≡ x → n * q' + r ≡ y → x < y → y < x + n → (q < q') ⊎ (q' ≤ q) → ⊥
-quotients n q q' r x y is is' less near (inl up) = let more = mul-le-mul_left n up in omega (arith, more, mul-suc n q)
-quotients n q q' r x y is is' less near (inr down) = let more = mul-le-mul_left n down in omega (arith, more)
-
 pub not_below : (n x y : ℕ) → x % n ≡ y % n → x < y → y < x + n → ⊥
-not_below n x y same less near =
-    quotients n (x / n) (y / n) (x % n) x y (div-add-mod x n) (ap (λ (z : ℕ). n * (y / n) + z) same ∙ div-add-mod y n) less near (cases_lt (x / n) (y / n))
+not_below n x y same less near = grind (arith, common_steps)
 
 pub one_place : (n tail x y : ℕ) → x % n ≡ y % n → tail ≤ x + n → tail ≤ y + n → x < tail → y < tail → x ≡ y
 one_place n tail x y same a b c d = grind (arith, not_below n x y same, not_below n y x (sym same))
@@ -35,9 +31,7 @@ room_is o s b entry key cell sp =
 pub spelt_record : (o : OwnerState) → Kept o → (b entry : ℕ) (key : List ℕ) (cell : Cell) → Spells o b entry key cell
     → (now : Cache) → state_in o ≡ cache_state now
     → (r : Record) × (record_of now key ≡ Some r) × (r.offset ≡ entry_offset entry) × (r.room ≡ room_in o entry)
-spelt_record o s b entry key cell sp now at =
-    let found = found_record (record_of now key) cell (entry_offset entry) (subst (λ (z : State). Has z key cell (entry_offset entry)) at sp.has) in
-    (found.0, found.1, found.2, sym (room_is o s b entry key cell sp ∙ ap (λ (z : Cell). z.room) found.3))
+spelt_record o s b entry key cell sp now at = grind (arith, common_steps, found_record (record_of now key) cell (entry_offset entry), room_is o s b entry key cell sp)
 
 -- a word of the write's item is in no room of what the log has of another key
 pub other_rooms : (options : Options) (history : History) → AllByRecursion IsWrite history → (write : Write) → IsWrite write

@@ -1,4 +1,5 @@
 -- What the machine has, in both modes.
+use Rattle.std.proofs.lemmas.Grind.{common_steps}
 use Rattle.epoch_core.proofs.Vocabulary.{AllByRecursion, AreBytes, Cell, Has, History, IsLiveItem, IsWrite, KeyFits, List, Mode, None, Option}
 use Rattle.epoch_core.proofs.Vocabulary.{Options, Some, State, ValueFits, Write, [], ap, arith, bucket_of, cache_state, cached_in, cell_at, get}
 use Rattle.epoch_core.proofs.Vocabulary.{item_size, option_map, refl, same_Some, stamp_of, state_of, state_snoc, store_state, stored_in, subst, sym}
@@ -28,8 +29,7 @@ Fits key cell = KeyFits key × AreBytes key × ValueFits cell.value × AreBytes 
 pub found_record : (found : Option Record) (cell : Cell) (p : ℕ) → option_map cell_at found ≡ Some (cell, p)
     → (r : Record) × (found ≡ Some r) × (r.offset ≡ p) × (cell ≡ record { value = r.value; room = r.room })
 found_record None cell p e = cc e
-found_record (Some r) cell p e =
-    let same = same_Some (cell_at r) (cell, p) e in (r, refl, ap (λ (z : Cell × ℕ). z.1) same, sym (ap (λ (z : Cell × ℕ). z.0) same))
+found_record (Some r) cell p e = grind (arith, common_steps)
 
 -- it is one cell of a key
 pub same_cell : (now : State) (key : List ℕ) (cell cell' : Cell) (p p' : ℕ) → Has now key cell p → Has now key cell' p' → cell ≡ cell'
@@ -61,8 +61,7 @@ pub record HasStill (mode : Mode) (options : Options) (old new : History) (b : �
 
 -- with no more writes
 pub none_more : (mode : Mode) (options : Options) (history : History) (b : ℕ) → HasStill mode options history history b
-none_more mode options history b =
-    record { live = λ p h. h; back = λ key cell p is h. h; on = λ key cell p is h live. h; live_on = λ key cell p q is h i live. live }
+none_more mode options history b = grind (arith, common_steps)
 
 -- and after a write to another bucket's key
 module _ (options : Options) (history : History) (writes : AllByRecursion IsWrite history) (write : Write) (is : IsWrite write)

@@ -4,6 +4,7 @@ use Rattle.epoch_core.proofs.Vocabulary.{Store, [], arith, as_made, entry_at, ep
 use Rattle.epoch_core.proofs.Vocabulary.{replicate, start, suc, sym, word_count, zero, ℕ, ◌∙◌, ◌≡◌}
 use Rattle.std.specs.Ordering.{nat_cmp}
 use Rattle.std.specs.Cmp.Lexicographic.{slice_cmp}
+use Rattle.std.proofs.lemmas.Grind.{common_steps}
 use Rattle.partition_model.specs.Cache as cache
 use Rattle.partition_model.specs.Store as store
 use Rattle.partition_model.specs.History.{stamp_in}
@@ -40,34 +41,16 @@ module _ (shape : Shape) (valid : IsValidShape shape) where
 
   has_chain : (mode : Mode) (b : ℕ) → HasChain mode o b
   has_chain Cache b = tt
-  has_chain Store b = (
-    record {
-      full = λ c slot h linked x. absurd (linked (no_link c));
-      in_order = λ c slot later h x y used. absurd (used (zeros (word_count shape) (entry_at shape c later)));
-      some = λ c h other. absurd (other (sym (alone b c h)));
-    },
-    λ c d l other h h'. other (alone c d h' ∙ sym (alone b d h)),
-  )
+  has_chain Store b = grind (arith, common_steps)
 
   stands_for : (b : ℕ) → StandsFor o b
-  stands_for b = record {
-    nothing_else = λ c slot entry h. absurd (no_entry b c slot entry h);
-    each = λ key cell p is h. absurd (has_nothing shape.mode key cell p h);
-    once = λ c slot entry c' slot' entry' key cell h. absurd (no_entry b c slot entry h);
-    rooms = λ c slot entry c' slot' entry' h. absurd (no_entry b c slot entry h);
-    apart = λ other c slot entry c' slot' entry' l n m h. absurd (no_entry b c slot entry h);
-    chain = has_chain shape.mode b;
-  }
+  stands_for b = grind (arith, common_steps, no_entry b, has_nothing shape.mode, has_chain shape.mode b)
 
   pub kept_as_made : Kept o
   kept_as_made = record {
     shape = valid;
     wide = length-replicate (word_count shape) 0;
-    chains = record {
-      links = λ c l. inl (no_link c);
-      end = λ b l. inl (no_link b);
-      apart = λ b b' c l l' n h h'. n (alone b c h ∙ sym (alone b' c h'));
-    };
+    chains = grind (arith, common_steps);
     history = record { accepted = tt; writes = tt; not_above_wear = omega arith };
     stamp = zeros (word_count shape) 0 ∙ sym (no_stamp_yet shape.mode);
     epochs = λ b l. omega (arith, zeros (word_count shape) (epoch_at b));

@@ -1,4 +1,5 @@
 -- The bucket whose write is marked, and the buckets that its write may change, with the bit that says whether two numbers are the same.
+use Rattle.std.proofs.lemmas.Grind.{common_steps}
 use Rattle.epoch_core.proofs.Vocabulary.{Begun, Bool, Idle, InChain, IsBucket, IsFreeSpare, IsMain, Kept, List, Marked, OwnerState, Phase, PhaseFits}
 use Rattle.epoch_core.proofs.Vocabulary.{WhenMarked, Write, ap, arith, begun_in, bucket_in, bucket_of-below, dite, epoch_in, eq-eqb, false}
 use Rattle.epoch_core.proofs.Vocabulary.{if◌then◌else◌, inl, inr, marked_in, nat_eq, ne_eqb, pow_pos, refl, subst, sym, true, ℕ, ℕ_discrete}
@@ -24,10 +25,6 @@ bit_is c b e = dite (ℕ_discrete c b) (λ is. is) (λ n. let zero = bit_else c 
 pub tested : (P : Bool → Type 0) (a b : ℕ) → (a ≡ b → P true) → (a ≢ b → P false) → P (nat_eq a b)
 tested P a b same other = dite (ℕ_discrete a b) (λ is. subst P (sym (eq-eqb a b is)) (same is)) (λ n. subst P (sym (ne_eqb a b n)) (other n))
 
-pub begun_le : (phase : Phase) (b : ℕ) → begun_in phase b ≤ 1
-begun_le (Begun c) b = bit_le c b
-begun_le phase b = omega arith
-
 calm_in : (phase : Phase) (b epoch writes : ℕ) → epoch + marked_in phase b ≡ 2 * writes + begun_in phase b → epoch % 2 ≡ 0
     → (begun_in phase b ≡ 0) × (marked_in phase b ≡ 0)
 calm_in Idle b epoch writes is even = (refl, refl)
@@ -44,10 +41,7 @@ module _ (o : OwnerState) (s : Kept o) where
   main_of key = bucket_of-below key o.shape.buckets (subst (λ (z : ℕ). 0 < z) (sym s.shape.ranges.buckets.2) (pow_pos s.shape.ranges.buckets.0))
 
   pub marked_not : (b c : ℕ) (write : Write) (history : List Write) → o.phase ≡ Marked b write history → marked_in o.phase c ≡ 0 → c ≢ b
-  marked_not b c write history is none same =
-      let one : bit b c ≡ 1 = bit_same b c (sym same) in
-      let here : marked_in o.phase c ≡ bit b c = ap (λ (q : Phase). marked_in q c) is in
-      omega arith
+  marked_not b c write history is none same = grind (arith, common_steps)
 
   pub marked_main : (b : ℕ) (write : Write) (history : List Write) → o.phase ≡ Marked b write history → IsMain o.shape b
   marked_main b write history is = subst (IsMain o.shape) (sym (subst (PhaseFits o) is s.phase).0) (main_of write.key)
@@ -59,8 +53,7 @@ module _ (o : OwnerState) (s : Kept o) where
   -- a bucket that the marked write may change is in no chain of an unmarked one
   pub its_bucket : (phase : Phase) → o.phase ≡ phase → (c : ℕ) → WhenMarked phase (λ b write before. InChain o b c ⊎ IsFreeSpare o c)
       → (other : ℕ) → IsMain o.shape other → marked_in o.phase other ≡ 0 → ¬ (InChain o other c)
-  its_bucket (Marked b write before) is c (inl own) other l none =
-      s.chains.apart b other c (marked_main b write before is) l (λ same. marked_not b other write before is none (sym same)) own
+  its_bucket (Marked b write before) is c (inl own) other l none = grind (arith, common_steps, marked_main b write before is, marked_not b other write before is none)
   its_bucket (Marked b write before) is c (inr free) other l none = free.free other l
   its_bucket phase is c h other l none = absurd h
 

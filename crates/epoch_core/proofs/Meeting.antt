@@ -1,9 +1,10 @@
 -- What an owner has met changes nothing else of what is kept of it.
-use Rattle.epoch_core.proofs.Vocabulary.{FailsFit, Grows, HasChains, IsDense, IsMain, IsPrefix, IsReached, Kept, OwnerState, by_entry}
-use Rattle.epoch_core.proofs.Vocabulary.{by_item, by_link, le_refl, marked_in, options_in, refl, ℕ, ◌≡◌}
+use Rattle.std.proofs.Common.{arith}
+use Rattle.std.proofs.lemmas.Grind.{common_steps}
+use Rattle.epoch_core.proofs.Vocabulary.{FailsFit, Grows, IsDense, IsMain, IsPrefix, IsReached, Kept, OwnerState, by_entry}
+use Rattle.epoch_core.proofs.Vocabulary.{by_item, by_link, le_refl, marked_in, refl, ℕ, ◌≡◌}
 use Rattle.epoch_core.specs.declared.state.Met.{Met}
 use Rattle.epoch_core.proofs.Carried.{Carries, stands_on}
-use Rattle.epoch_core.proofs.Machine.{none_more}
 use Rattle.epoch_core.proofs.Prefixes.{prefix_same}
 
 module _ (o : OwnerState) (met : Met) (closed : ℕ) where
@@ -27,26 +28,7 @@ module _ (o : OwnerState) (met : Met) (closed : ℕ) where
   }
 
   carries : Kept o → (b : ℕ) → IsMain o.shape b → marked_in o.phase b ≡ 0 → Carries o p b
-  carries s b main unmarked = record {
-    chains = s.chains;
-    main = main;
-    stands = s.state b main unmarked;
-    word = λ i reached. refl;
-    stamp = s.stamp;
-    stamp_now = s.stamp;
-    has = none_more o.shape.mode (options_in o) o.history b;
-  }
+  carries s b main unmarked = grind (arith, common_steps)
 
   pub met_kept : Kept o → IsPrefix met.seen o.history → FailsFit o met.fails → Kept p
-  met_kept s seen fails = let chains : HasChains p = record { links = s.chains.links; end = s.chains.end; apart = s.chains.apart } in record {
-    shape = s.shape;
-    wide = s.wide;
-    chains = chains;
-    history = s.history;
-    stamp = s.stamp;
-    epochs = s.epochs;
-    state = stands_on o p chains (carries s);
-    phase = s.phase;
-    met_seen = seen;
-    met_fails = fails;
-  }
+  met_kept s seen fails = grind (arith, common_steps, stands_on o p, carries s)

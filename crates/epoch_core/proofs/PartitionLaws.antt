@@ -2,13 +2,13 @@
 use Rattle.epoch_core.proofs.Vocabulary.{AreBytes, Begins, Cell, Ends, Has, HasKey, Idle, IsBucket, IsMain, IsOffset, IsWrite, Kept, List, Marked}
 use Rattle.epoch_core.proofs.Vocabulary.{Marks, MayBegin, MayEnd, MayGive, MayMark, Options, Outcome, OwnerState, Phase, Spells, SpellsItem}
 use Rattle.epoch_core.proofs.Vocabulary.{StandsFor, State, Worn, Write, [], accepted_is_length, add-zero, after, ap, arith, as_made, bucket_in}
-use Rattle.epoch_core.proofs.Vocabulary.{cache_state, cases_Bool, entry_at, entry_in, entry_offset, entry_tag, epoch_at, false, get_or, header_room}
-use Rattle.epoch_core.proofs.Vocabulary.{inl, inr, is_accepted, item_at, item_in, le-leb, length, link_at, link_in, marked_in, options_in, plays}
+use Rattle.epoch_core.proofs.Vocabulary.{cache_state, cases_Bool, entry_at, entry_in, entry_offset, entry_tag, epoch_at, false, get_or}
+use Rattle.epoch_core.proofs.Vocabulary.{is_accepted, item_at, item_in, le-leb, length, link_at, link_in, marked_in, options_in, plays}
 use Rattle.epoch_core.proofs.Vocabulary.{puts_from, refl, room_in, stamp_at, stamp_in, stamp_of, state_in, state_snoc, store_state, subst, sym}
 use Rattle.epoch_core.proofs.Vocabulary.{tag_of, true, true≢false, word_count, ℕ, ◌++◌, ◌+◌, ◌<◌, ◌∙◌, ◌∷◌, ◌≡◌, ◌≢◌, ◌≤◌, ◌⊎◌}
 use Rattle.std.specs.Str.{bytes_eq}
 use Rattle.std.proofs.lemmas.Slice.Eq.{bytes_eq-Decides}
-use Rattle.partition_model.specs.Cache as cache
+use Rattle.std.proofs.lemmas.Grind.{common_steps}
 use Rattle.partition_model.specs.CacheStep as cs
 use Rattle.partition_model.specs.History.{Allows, accepted_in, after as state_after}
 use Rattle.epoch_core.specs.OwnerStep.{IsOwnerStep}
@@ -28,10 +28,7 @@ use Rattle.epoch_core.proofs.Puts.{PutsWords, puts_words}
 
 -- two keys are one, or not
 pub same_or_other : (key key' : List ℕ) → (key ≡ key') ⊎ (key ≢ key')
-same_or_other key key' = elim (cases_Bool (bytes_eq key key')) [
-  | inl is ↦ inl ((bytes_eq-Decides key key').0 is)
-  | inr not ↦ inr (λ same. true≢false (sym ((bytes_eq-Decides key key').1 same) ∙ not))
-]
+same_or_other key key' = grind (arith, common_steps, cases_Bool (bytes_eq key key'), bytes_eq-Decides key key', true≢false)
 
 -- no stamp was given yet
 pub new_stamp : (o : OwnerState) → o ≡ as_made o.shape → 0 ≡ stamp_of (options_in o) o.history
@@ -84,8 +81,7 @@ worn_step o idle full w =
 -- The history gains it, and beside it words alone have changed.
 pub accepted_step : (o new : OwnerState) → o.phase ≡ Idle → (w : Write) (outcome : Outcome) → is_accepted outcome ≡ true → MayGive (options_in o) o.history w outcome
     → new ≡ record o { words = new.words; history = o.history ++ w ∷ [] } → IsOwnerStep o new w outcome
-accepted_step o new idle w outcome accepted may gained =
-    record { allowed = may; gained = rw accepted gained; idle = ap (λ (z : OwnerState). z.phase) gained ∙ idle }
+accepted_step o new idle w outcome accepted may gained = grind (arith, common_steps)
 
 -- an idle owner's state, a write that its machine accepts, and the stamp after it
 pub record AcceptedWrite (o : OwnerState) : Type 0 where
@@ -186,8 +182,7 @@ module _ (o : OwnerState) (a : AcceptedWrite o) where
     Keeps x = (i : ℕ) → i < room_in o x → item_in (written words) (entry_offset x + i) ≡ item_in o (entry_offset x + i)
 
     pub room_same : (x : ℕ) → Keeps x → 0 < room_in o x → room_in (written words) x ≡ room_in o x
-    room_same x keeps some =
-        ap header_room (ap (item_in (written words)) (sym (add-zero (entry_offset x))) ∙ (keeps 0 some ∙ ap (item_in o) (add-zero (entry_offset x))))
+    room_same x keeps some = grind (arith, common_steps, add-zero (entry_offset x))
 
     -- so the entry spells what it spelt, where the machine still has it
     pub spells_on : (c x : ℕ) → Keeps x → (key : List ℕ) (cell : Cell) → Has (state_in (written words)) key cell (entry_offset x)

@@ -1,4 +1,5 @@
 -- Prefixes of histories.
+use Rattle.std.proofs.lemmas.Grind.{common_steps}
 use Rattle.epoch_core.proofs.Vocabulary.{Bool, History, IsPrefix, [], ap, append-nil, append_assoc, arith, false, if◌then◌else◌, length, longer}
 use Rattle.epoch_core.proofs.Vocabulary.{ltb-false, ltb-true, nat_lt, refl, sym, true, ◌++◌, ◌∙◌, ◌∷◌, ◌≡◌, ◌≤◌}
 
@@ -13,11 +14,7 @@ prefix_then a b c x y = (x.0 ++ y.0, y.1 ∙ (ap (λ (z : History). z ++ y.0) x.
 tails : (a b x y : History) → a ++ x ≡ b ++ y → length b ≤ length a → IsPrefix b a
 tails a [] x y e l = (a, refl)
 tails [] (w ∷ b) x y e l = absurd (omega arith)
-tails (v ∷ a) (w ∷ b) x y e l =
-    let rest : a ++ x ≡ b ++ y = cc in
-    let head : v ≡ w = cc in
-    let t = tails a b x y rest (omega arith) in
-    (t.0, λ i. head i ∷ t.1 i)
+tails (v ∷ a) (w ∷ b) x y e l = grind (arith, common_steps, tails a b x y)
 
 -- whatever holds of the longer one where both begin it
 pub longer_as : (P : History → Type 0) (h a b : History) → IsPrefix a h → IsPrefix b h → (IsPrefix b a → P a) → (IsPrefix a b → P b) → P (longer a b)

@@ -1,7 +1,8 @@
 -- Item words put one after another: when each may be put, and what they make of the state.
+use Rattle.std.proofs.lemmas.Grind.{common_steps}
 use Rattle.epoch_core.proofs.Vocabulary.{BelongsTo, Cache, CanPlay, History, Kept, List, Marked, MayPutWord, OwnerState, Phase, PutsWord}
 use Rattle.epoch_core.proofs.Vocabulary.{SparesOthers, State, WhenMarked, Write, [], add-zero, after, ap, arith, cache_state, cached_in, drop}
-use Rattle.epoch_core.proofs.Vocabulary.{drop-cons, get_or, get_or-set_other, get_or-set_same, item_at, length, length-set, marked_in, mod-lt}
+use Rattle.epoch_core.proofs.Vocabulary.{get_or, get_or-set_other, get_or-set_same, item_at, length, length-set, marked_in, mod-lt}
 use Rattle.epoch_core.proofs.Vocabulary.{options_in, plays, puts_from, refl, state_of, store_state, subst, suc, sym, word_count, zero, ℕ, ◌++◌, ◌+◌}
 use Rattle.epoch_core.proofs.Vocabulary.{◌<◌, ◌∙◌, ◌∷◌, ◌≡◌, ◌≢◌, ◌≤◌}
 use Rattle.epoch_core.proofs.Log.{not_below}
@@ -64,24 +65,17 @@ can_put_cached = puts_by (λ o. o.shape.mode ≡ Cache)
 
 pub plays-append : (o : OwnerState) (p : ℕ) (xs ys : List ℕ) → plays (puts_from p (xs ++ ys)) o ≡ plays (puts_from (p + length xs) ys) (plays (puts_from p xs) o)
 plays-append o p [] ys = ap (λ (z : ℕ). plays (puts_from z ys) o) (omega arith)
-plays-append o p (x ∷ xs) ys =
-    plays-append (after (PutsWord p x) o) (p + 1) xs ys
-    ∙ ap (λ (z : ℕ). plays (puts_from z ys) (plays (puts_from p (x ∷ xs)) o)) (omega arith)
+plays-append o p (x ∷ xs) ys = grind (arith, common_steps, plays-append (after (PutsWord p x) o) (p + 1) xs ys)
 
 pub can_play-append : (o : OwnerState) (p : ℕ) (xs ys : List ℕ) → CanPlay (puts_from p (xs ++ ys)) o
     → CanPlay (puts_from p xs) o × CanPlay (puts_from (p + length xs) ys) (plays (puts_from p xs) o)
 can_play-append o p [] ys can = (tt, subst (λ (z : ℕ). CanPlay (puts_from z ys) o) (omega arith) can)
-can_play-append o p (x ∷ xs) ys can =
-    let rest = can_play-append (after (PutsWord p x) o) (p + 1) xs ys can.1 in
-    ((can.0, rest.0), subst (λ (z : ℕ). CanPlay (puts_from z ys) (plays (puts_from p (x ∷ xs)) o)) (omega arith) rest.1)
+can_play-append o p (x ∷ xs) ys can = grind (arith, common_steps, can_play-append (after (PutsWord p x) o) (p + 1) xs ys can.1)
 
 -- one of several words, and those behind it
 pub next_put : (p i : ℕ) (xs : List ℕ) (word : ℕ) → i < length xs → word ≡ get_or xs i 0
     → puts_from (p + i) (drop i xs) ≡ PutsWord (p + i) word ∷ puts_from (p + (i + 1)) (drop (i + 1) xs)
-next_put p i xs word below is =
-    let place : p + i + 1 ≡ p + (i + 1) = omega arith in
-    let more : suc i ≡ i + 1 = omega arith in
-    ap (puts_from (p + i)) (drop-cons xs i 0 below) ∙ (λ j. PutsWord (p + i) (sym is j) ∷ puts_from (place j) (drop (more j) xs))
+next_put p i xs word below is = grind (arith, common_steps)
 
 -- What they make of the state: the words from the offset on are those, and nothing else changed.
 pub record PutsWords (old new : OwnerState) (p : ℕ) (words : List ℕ) : Type 0 where

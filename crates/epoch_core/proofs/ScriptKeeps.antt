@@ -1,8 +1,8 @@
 -- Each step of a script keeps the rule of the one-word table whose seat has a book.
 use Rattle.epoch_core.proofs.Vocabulary.{Begins, Book, CanPlay, Ends, Event, IsAllowed, IsValidShape, Kept, List, OwnerState, Plan, ReaderKept}
 use Rattle.epoch_core.proofs.Vocabulary.{ReaderState, Shape, [], after, ap, append-nil, append_assoc, arith, as_made, drop, drop-cons, get_or, length}
-use Rattle.epoch_core.proofs.Vocabulary.{map, newcomer, owner_event, plays, refl, subst, suc, sym, take, ℕ, ◌++◌, ◌+◌, ◌<◌, ◌^◌, ◌∙◌, ◌∷◌, ◌≡◌}
-use Rattle.std.proofs.Math.Seq.{take-append_seam}
+use Rattle.epoch_core.proofs.Vocabulary.{map, newcomer, owner_event, plays, refl, suc, sym, ℕ, ◌++◌, ◌+◌, ◌<◌, ◌^◌, ◌∙◌, ◌∷◌, ◌≡◌}
+use Rattle.std.proofs.lemmas.Grind.{common_steps}
 use mathlib.Core.Option.{none}
 use Rattle.atomic_table.specs.Table.{Allows, keeps, opening, step}
 use Rattle.epoch_core.specs.declared.event.OwnerEvent.{OwnerEvent}
@@ -56,8 +56,7 @@ more_loads look o r = refl
 
 loads_on : (plan : Plan) (n : ℕ) (looks : List Look) (r : ReaderState) → (reads_on plan n looks r).loads ≡ r.loads + length looks
 loads_on plan n [] r = omega arith
-loads_on plan n (look ∷ looks) r =
-    let next = owner_at plan (n + 1) in omega (arith, loads_on plan (n + 1) looks (look_at look next r), more_loads look next r)
+loads_on plan n (look ∷ looks) r = grind (arith, common_steps, loads_on plan (n + 1) looks (look_at look (owner_at plan (n + 1)) r))
 
 pub loads_counted : (b : Book) → BookFits b → b.reader.loads ≡ length b.looks
 loads_counted b f = omega (arith, loads_on b.plan 0 b.looks (newcomer b.plan.shape [] []), ap (λ (z : ReaderState). z.loads) f.looks)
@@ -65,14 +64,11 @@ loads_counted b f = omega (arith, loads_on b.plan 0 b.looks (newcomer b.plan.sha
 reads_more : (plan : Plan) (n : ℕ) (looks : List Look) (look : Look) (r : ReaderState)
     → reads_on plan n (looks ++ look ∷ []) r ≡ look_at look (owner_at plan (n + length looks + 1)) (reads_on plan n looks r)
 reads_more plan n [] look r = ap (λ (z : ℕ). look_at look (owner_at plan z) r) (omega arith)
-reads_more plan n (l ∷ looks) look r =
-    let q : ReaderState = look_at l (owner_at plan (n + 1)) r in
-    reads_more plan (n + 1) looks look q ∙ ap (λ (z : ℕ). look_at look (owner_at plan z) (reads_on plan (n + 1) looks q)) (omega arith)
+reads_more plan n (l ∷ looks) look r = grind (arith, common_steps, reads_more plan (n + 1) looks look)
 
 -- the owner of the book is the plan's at the next load
 pub owner_then : (b : Book) → BookFits b → IsTime b → b.owner ≡ owner_at b.plan (b.reader.loads + 1)
-owner_then b f time = f.played ∙ ap (λ (z : List Event). plays z (as_made b.plan.shape))
-    (sym (take-append_seam b.played b.rest) ∙ (ap (take (length b.played)) f.script ∙ ap (λ (z : ℕ). take z b.plan.events) time))
+owner_then b f time = grind (arith, common_steps)
 
 book_looks : (look : Look) (b : Book) → BookFits b → MayLook look b.reader → IsTime b → BookFits (look_next look b)
 book_looks look b f may time = let count = loads_counted b f in let number : b.reader.loads + 1 ≡ 0 + length b.looks + 1 = omega arith in record {
@@ -81,8 +77,7 @@ book_looks look b f may time = let count = loads_counted b f in let number : b.r
   script = f.script;
   played = f.played;
   rest = f.rest;
-  looks = (λ i. look_at look ((owner_then b f time ∙ ap (owner_at b.plan) number) i) (f.looks i))
-      ∙ sym (reads_more b.plan 0 b.looks look (newcomer b.plan.shape [] []));
+  looks = grind (arith, common_steps, owner_then b f time, reads_more b.plan 0 b.looks look (newcomer b.plan.shape [] []));
 }
 
 module _ (script : Script) where
@@ -121,11 +116,9 @@ event_fits e o s a = (event_inside o s e a, omega arith)
 
 head_fits : (rest : List Event) (xs : List OwnerEvent) (x : OwnerEvent) (o : OwnerState) → x ∷ xs ≡ map owner_event rest → Kept o → CanPlay rest o → Fits x o.shape o.words
 head_fits [] xs x o is s can = absurd (cc is)
-head_fits (e ∷ es) xs x o is s can =
-    let same : owner_event e ≡ x = cc in subst (λ (z : OwnerEvent). Fits z o.shape o.words) same (event_fits e o s can.0)
+head_fits (e ∷ es) xs x o is s can = grind (arith, common_steps, event_fits e o s can.0)
 
 pub next_fits_memory : (b : Book) (events : List OwnerEvent) (done : ℕ) (x : OwnerEvent) (shape : Shape) (items : List ℕ) → drop done events ≡ map owner_event b.rest → done < length events
     → x ≡ get_or events done x → BookFits b → b.owner.shape ≡ shape → items ≡ b.owner.words → Fits x shape items
 next_fits_memory b events done x shape items is l at f same words =
-    let head : drop done events ≡ x ∷ drop (suc done) events = drop-cons events done x l ∙ ap (λ (z : OwnerEvent). z ∷ drop (suc done) events) (sym at) in
-    rw (sym same) (rw words (head_fits b.rest (drop (suc done) events) x b.owner (sym head ∙ is) f.owner f.rest))
+    grind (arith, common_steps, drop done events, drop (suc done) events, drop-cons events done x l, head_fits b.rest (drop (suc done) events) x b.owner)

@@ -1,10 +1,11 @@
 -- When a script is settled: by its last cut, and whether a write is under way.
-use Rattle.epoch_core.proofs.Vocabulary.{Bool, Idle, IsTrue, List, OwnerState, Phase, Plan, ap, arith, as_made, false, get_or, length, not, plays}
-use Rattle.epoch_core.proofs.Vocabulary.{refl, sym, take, true, ℕ, ◌-◌, ◌<◌, ◌∙◌, ◌≡◌}
+use Rattle.std.proofs.lemmas.Grind.{common_steps}
+use Rattle.epoch_core.proofs.Vocabulary.{Bool, Idle, IsTrue, Phase, Plan, ap, arith, false, get_or, length, not}
+use Rattle.epoch_core.proofs.Vocabulary.{refl, sym, true, ℕ, ◌-◌, ◌<◌, ◌∙◌, ◌≡◌}
 use Rattle.epoch_core.specs.declared.scripted.Scripted.{Scripted}
 use Rattle.epoch_core.specs.Seats.{book_of}
 use Rattle.epoch_core.proofs.Cuts.{last_of_still, still_at_last}
-use Rattle.epoch_core.specs.Script.{IsSettled, Rests, cut_at, is_writing, owner_at}
+use Rattle.epoch_core.specs.Script.{IsSettled, Rests, is_writing, owner_at}
 
 idle_is : (phase : Phase) → is_writing phase ≡ false → phase ≡ Idle
 idle_is Idle e = refl
@@ -12,15 +13,11 @@ idle_is phase e = absurd (cc e)
 
 module _ (s : Scripted) (last : ℕ) (is : last ≡ get_or s.cuts.items (length s.cuts.items - 1) 0) where
   pub settled : s.stage.played ≡ last → s.stage.writing ≡ false → IsSettled (book_of s)
-  settled end calm = record {
-    still = λ m less. ap (λ (z : List ℕ). cut_at z m) s.planned
-        ∙ (still_at_last s.cuts.items (book_of s).reader.loads s.stage.played s.rise s.at (end ∙ is) m less ∙ s.stage.counted);
-    idle = idle_is (book_of s).owner.phase (sym s.stage.begun ∙ calm);
-  }
+  settled end calm =
+      grind (arith, common_steps, still_at_last s.cuts.items (book_of s).reader.loads s.stage.played s.rise s.at (end ∙ is), idle_is (book_of s).owner.phase (sym s.stage.begun ∙ calm), calm)
 
   pub at_end : IsSettled (book_of s) → s.stage.played ≡ last
-  at_end now = last_of_still s.cuts.items (book_of s).reader.loads s.stage.played
-      (λ m less. ap (λ (z : List ℕ). cut_at z m) (sym s.planned) ∙ (now.still m less ∙ sym s.stage.counted)) ∙ sym is
+  at_end now = grind (arith, common_steps, last_of_still s.cuts.items (book_of s).reader.loads s.stage.played)
 
   pub calm : IsSettled (book_of s) → s.stage.writing ≡ false
   calm now = s.stage.begun ∙ ap is_writing now.idle
@@ -33,13 +30,7 @@ quiet_is true quiet = absurd (cc quiet)
 
 module _ (s : Scripted) (settled : IsSettled (book_of s)) where
   pub at_rest : Rests (book_of s).plan (book_of s).reader.loads (book_of s).owner
-  at_rest = record {
-    still = λ n later.
-        let plan : Plan = (book_of s).plan in
-        ap (λ (z : ℕ). plays (take z plan.events) (as_made plan.shape))
-        (settled.still n later ∙ sym s.stage.counted ∙ s.at ∙ ap (λ (z : List ℕ). cut_at z (book_of s).reader.loads) (sym s.planned)) ∙ sym s.finds;
-    idle = settled.idle;
-  }
+  at_rest = grind (arith, common_steps)
 
   -- and so it is after more loads of the same plan
   module _ (t : Scripted) (plan : (book_of t).plan ≡ (book_of s).plan) (later : (book_of s).reader.loads < (book_of t).reader.loads) where
@@ -47,11 +38,7 @@ module _ (s : Scripted) (settled : IsSettled (book_of s)) where
     same_owner = t.finds ∙ ap (λ (z : Plan). owner_at z (book_of t).reader.loads) plan ∙ at_rest.still (book_of t).reader.loads later
 
     same_number : length (book_of s).played ≡ length (book_of t).played
-    same_number = sym (settled.still (book_of t).reader.loads later) ∙ ap (λ (z : Plan). cut_at z.cuts (book_of t).reader.loads) (sym plan)
-        ∙ ap (λ (z : List ℕ). cut_at z (book_of t).reader.loads) t.planned ∙ sym t.at ∙ t.stage.counted
+    same_number = grind (arith, common_steps)
 
     pub settled_still : IsSettled (book_of t)
-    settled_still = record {
-      still = λ n more. ap (λ (z : Plan). cut_at z.cuts n) plan ∙ settled.still n (omega (arith, later, more)) ∙ same_number;
-      idle = ap (λ (z : OwnerState). z.phase) same_owner ∙ settled.idle;
-    }
+    settled_still = grind (arith, common_steps)

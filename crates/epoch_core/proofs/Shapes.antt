@@ -18,21 +18,10 @@ valid_in_range shape is =
     let h : (is_power_of_two shape.buckets ≡ true) × (shape.buckets ≤ 65536) × (shape.spares ≤ spares_in shape.mode 65536)
     × (256 ≤ shape.words) × (shape.words ≤ 1048576) × (1 ≤ shape.wear) × (shape.wear ≤ 68719476736) = grind (arith, nat_tests, common_steps) in
     let few = few_spares shape.mode shape.spares h.2 in record {
-      ranges = record {
-        partitions = (omega arith, omega arith);
-        buckets = small_power_of_two shape.buckets h.0 h.1;
-        spares = (omega arith, few.0);
-        words = (h.3, h.4);
-        readers = (omega arith, omega arith);
-        tries = (omega arith, omega arith);
-        wear = (h.5, h.6);
-      };
+      ranges = grind (arith, common_steps, small_power_of_two shape.buckets h.0 h.1);
       no_spares = few.1;
     }
 
 pub in_range_valid : (shape : Shape) → IsValidShape shape → is_in_range shape ≡ true
 in_range_valid shape valid =
-    let r = valid.ranges in
-    let power : (is_power_of_two shape.buckets ≡ true) × (shape.buckets ≤ 65536) = rw r.buckets.2 (power_is_small r.buckets.0 r.buckets.1) in
-    let few = within_spares shape.mode shape.spares r.spares.1 valid.no_spares in
-    grind (arith, nat_tests, common_steps, power.0, power.1, few, r.words, r.wear)
+    grind (arith, common_steps, power_is_small valid.ranges.buckets.0 valid.ranges.buckets.1, within_spares shape.mode shape.spares valid.ranges.spares.1 valid.no_spares, nat_tests)

@@ -1,4 +1,5 @@
 -- What a try's loads spell, while its bucket's epoch has not moved, is the machine's answer.
+use Rattle.std.proofs.lemmas.Grind.{common_steps}
 use Rattle.epoch_core.proofs.Vocabulary.{AreBytes, Cell, Contains, Has, HasKey, HasLiveEntry, InChain, IsAmong, IsLive, IsSpelt, Kept, List, None}
 use Rattle.epoch_core.proofs.Vocabulary.{Option, OwnerState, Some, Spells, StandsFor, State, Try, TryKept, [], answer_of, ap, arith, bucket_in}
 use Rattle.epoch_core.proofs.Vocabulary.{by_entry, by_item, by_link, cache_state, cell_at, entry_at, entry_in, entry_offset, epoch_in, fnv1a, get}
@@ -8,7 +9,7 @@ use Rattle.epoch_core.proofs.Vocabulary.{sym, unpacked, value_in, value_word, wo
 use Rattle.partition_model.specs.Cache.{Record, record_of}
 use Rattle.epoch_core.specs.Spelt.{HasLinks, HasLoad, IsNoEntryOf, ShowsItem, ShowsOther, SpellsAnswer, by_hash, by_item as by_other, by_key_len}
 use Rattle.epoch_core.specs.Spelt.{by_key_word, by_offset, by_stamp, by_tag, by_value_len}
-use Rattle.epoch_core.proofs.Machine.{Fits, found_record, has_fits}
+use Rattle.epoch_core.proofs.Machine.{Fits, has_fits}
 use Rattle.epoch_core.proofs.Keys.{has_its_key, has_no_other, header_there}
 use Rattle.epoch_core.proofs.Failing.{in_cons, in_head, in_none, in_tail}
 use Rattle.mica_words.proofs.Fields.{header_value_len-header_of}
@@ -16,9 +17,7 @@ use Rattle.mica_words.proofs.Fields.{header_value_len-header_of}
 -- what the machine has is its answer, and the other way round
 
 value_has : (now : State) (key : List ℕ) (cell : Cell) (p : ℕ) → Has now key cell p → value_in now key ≡ Some cell.value
-value_has (cache_state s) key cell p h =
-    let found = found_record (record_of s key) cell p h in
-    ap (option_map (λ (r : Record). r.value)) found.1 ∙ ap (λ (z : Cell). Some z.value) (sym found.3)
+value_has (cache_state s) key cell p h = grind (arith, common_steps)
 value_has (store_state s) key cell p h = ap (option_map (λ (z : Cell). z.value)) h
 
 found_some : {X : Type 0} (value_of : X → List ℕ) (found : Option X) (value : List ℕ) → option_map value_of found ≡ Some value
@@ -80,8 +79,7 @@ module _ (o : OwnerState) (s : Kept o) (t : Try) (k : TryKept o t) (still : epoc
 
     value_len_is : (x : ℕ) → HasLoad t.loads (item_at o.shape (entry_offset entry)) x → header_value_len x ≡ length cell.value
     value_len_is x load =
-        ap header_value_len (sym (header_now x load) ∙ header_there o (entry_offset entry) key cell sp.item)
-        ∙ header_value_len-header_of cell.room (length key) (length cell.value) fits.5 (omega (arith, fits.0))
+        grind (arith, common_steps, header_now x load, header_there o (entry_offset entry) key cell sp.item, header_value_len-header_of cell.room (length key) (length cell.value) fits.5 (omega (arith, fits.0)))
 
     value_word_is : (i x n : ℕ) → n ≡ words_for (length key) → i < words_for (length cell.value)
         → HasLoad t.loads (item_at o.shape (entry_offset entry + 2 + n + i)) x → slice_index (packed cell.value) i ≡ x
@@ -147,8 +145,7 @@ module _ (o : OwnerState) (s : Kept o) (t : Try) (k : TryKept o t) (still : epoc
       } in
       let some = f.nothing_else at.bucket at.slot entry h in
       let same = is_item at.bucket at.slot entry h some.0 some.1 some.2 key value bytes spell.shows.3 in
-      sym is ∙ (sym (ap (λ (z : List ℕ). answer_of (options_in o) o.history z) same.0)
-      ∙ (value_has (state_in o) some.0 some.1 (entry_offset entry) some.2.has ∙ ap (λ (z : List ℕ). Some z) same.1))
+      grind (arith, common_steps, value_has (state_in o) some.0 some.1 (entry_offset entry) some.2.has)
 
   pub spells : IsSpelt o.shape t.bucket record { history = o.history; loads = t.loads }
   spells key value bytes bucket spell = told_answer key bytes bucket value spell (answer_of (options_in o) o.history key) refl

@@ -1,4 +1,5 @@
 -- The chain of a bucket, its first buckets and its end, told by the list of the spares behind it.
+use Rattle.std.proofs.lemmas.Grind.{common_steps}
 use Rattle.epoch_core.proofs.Vocabulary.{Contains, HasChains, InChain, IsAmong, IsBucket, IsMain, IsSpare, List, OwnerState, Shape, [], arith, dite}
 use Rattle.epoch_core.proofs.Vocabulary.{inl, inr, length, link_in, refl, subst, suc, sym, zero, ℕ, ℕ_discrete, ◌∙◌, ◌∷◌, ◌≡◌, ◌≤◌, ◌⊎◌}
 use Rattle.epoch_core.specs.Chain.{EndsWithin, ChainEnds}
@@ -28,10 +29,7 @@ module _ (o : OwnerState) where
   among : (n x : ℕ) (cs : List ℕ) → AreBehind (link_in o) x cs → length cs ≤ n → (c : ℕ) → Contains (x ∷ cs) c → IsAmong o (suc n) x c
   among n x [] h few c i = elim (in_cons x c [] i) [ inl is ↦ inl is | inr more ↦ absurd (in_none c more) ]
   among zero x (d ∷ ds) h few c i = absurd (omega arith)
-  among (suc n) x (d ∷ ds) h few c i = elim (in_cons x c (d ∷ ds) i) [
-    | inl is ↦ inl is
-    | inr more ↦ inr (λ none. h.1 (sym h.0 ∙ none), rw h.0 (among n d ds h.2 (omega arith) c more))
-  ]
+  among (suc n) x (d ∷ ds) h few c i = grind (arith, common_steps, among n d ds h.2 (omega arith) c)
 
 -- These are the spares behind the main bucket b.
 pub record IsChain (o : OwnerState) (b : ℕ) (cs : List ℕ) : Type 0 where
@@ -66,8 +64,7 @@ module _ (o : OwnerState) (links : (c : ℕ) → IsBucket o.shape c → (link_in
 
   pub chain_of : (b : ℕ) (cs : List ℕ) → IsMain o.shape b → AreBehind (link_in o) b cs → IsChain o b cs
   chain_of b cs main h =
-      let spare = all_spare b cs (omega arith) h in
-      record { behind = h; spare = spare; few = at_most cs o.shape.buckets o.shape.spares (behind_differ (link_in o) b cs h) spare }
+      grind (arith, common_steps, all_spare b cs (omega arith) h, at_most cs o.shape.buckets o.shape.spares (behind_differ (link_in o) b cs h) (all_spare b cs (omega arith) h), behind_differ (link_in o) b cs h)
 
 pub chain_there : (o : OwnerState) → HasChains o → (b : ℕ) → IsMain o.shape b → (cs : List ℕ) × IsChain o b cs
 chain_there o s b main = let list = listed_to_end o (suc o.shape.spares) b (s.end b main) in (list.0, chain_of o s.links b list.0 main list.1)
