@@ -1,5 +1,5 @@
 -- What the owners printed, one after another.
-use Rattle.std.proofs.Common.{◌≡◌, ℕ, zero, suc, ◌+◌, ◌<◌, ◌⊎◌, inl, inr, List, [], ◌∷◌, ◌++◌, length, length-append, slice_get, Option, Some, IfSome, Vec, refl, sym, ap, ◌∙◌, subst, arith}
+use Rattle.std.proofs.Common.{◌≡◌, ℕ, zero, suc, ◌+◌, ◌⊎◌, inl, inr, List, [], ◌∷◌, ◌++◌, length, length-append, slice_get, Option, Some, IfSome, Vec, refl, sym, ap, ◌∙◌, subst, arith}
 use Rattle.std.specs.Global.{Global}
 use Rattle.partition_model.specs.declared.options.Options.{Options}
 use Rattle.partition_model.specs.History.{History}
@@ -14,7 +14,6 @@ use Rattle.exclusive_replay.specs.Sent.{numbers_in}
 use Rattle.exclusive_replay.specs.LineEnds.{LineBox}
 use Rattle.exclusive_replay.specs.OwnPart.{owner_of}
 use Rattle.exclusive_replay.specs.Workers.{lines_at}
-use Rattle.exclusive_replay.specs.Merged.{AreReplied}
 use Rattle.exclusive_replay.specs.Run.{HasRun, HaveRun}
 use Rattle.exclusive_replay.proofs.Shares.{share_replied}
 
@@ -45,23 +44,6 @@ one_owner options trace p v sender lines run whole is =
     share_replied options p trace (as_made (shape_of options)) (owner_of v.part) v.queue.list lines.items refl (whole ∙ run.sent)
     (of_some v.printed lines (λ printed. HasReplied (as_made (shape_of options)) (owner_of v.part) (lines_at trace (numbers_in v.queue.list)) printed.items) is run.answered)
 
-pub none_collected : (options : Options) (trace : List TraceLine) (owners : List Owner) (senders : List LineBox) → HaveRun options trace 0 owners senders → length owners ≡ options.partitions
-    → IsCollecting options trace 0 owners senders []
-none_collected options trace owners senders run many = record {
-  rest = run;
-  many = refl;
-  all = omega (arith, many);
-  each = λ p own is. absurd (nothing p own is);
-}
-  where
-    nothing : (p : ℕ) (own : List Line) → slice_get [] p ≡ Some own → ⊥
-    nothing p own is = cc
-
--- the senders of these owners begin with that of the first
-pub has_sender : (options : Options) (trace : List TraceLine) (n : ℕ) (v : Owner) (vs : List Owner) (senders : List LineBox) → HaveRun options trace n (v ∷ vs) senders → 0 < length senders
-has_sender options trace n v vs [] run = absurd run
-has_sender options trace n v vs (s ∷ ss) run = omega arith
-
 pub one_collected : (options : Options) (trace : List TraceLine) (n : ℕ) (v : Owner) (vs : List Owner) (s : LineBox) (ss : List LineBox) (printed : List (List Line)) (lines : Vec Line Global)
     → IsCollecting options trace n (v ∷ vs) (s ∷ ss) printed → v.queue.list ≡ s.list → v.printed ≡ Some lines → IsCollecting options trace (n + 1) vs ss (printed ++ lines.items ∷ [])
 one_collected options trace n v vs s ss printed lines so_far whole is = record {
@@ -76,11 +58,4 @@ one_collected options trace n v vs s ss printed lines so_far whole is = record {
             subst (λ (q : ℕ). (to : History) × RepliesTo options [] (lines_for options q trace) own to) here
             (subst (λ (l : List Line). (to : History) × RepliesTo options [] (lines_for options n trace) l to) last.1 (one_owner options trace n v s lines so_far.rest.0 whole is))
       ];
-}
-
-pub all_collected : (options : Options) (trace : List TraceLine) (n : ℕ) (senders : List LineBox) (printed : List (List Line)) → IsCollecting options trace n [] senders printed
-    → AreReplied options (λ p. []) trace printed
-all_collected options trace n senders printed so_far = record {
-  many = let many = so_far.many in let all = so_far.all in omega (arith, many, all);
-  each = so_far.each;
 }
