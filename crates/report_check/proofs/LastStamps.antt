@@ -53,9 +53,6 @@ module _ (options : Options) (p : ℕ) (trace : List TraceLine) (report : List L
   zeros (suc n) zero = refl
   zeros (suc n) (suc q) = zeros n q
 
-  pub none_yet : HasNoFall 0 (replicate options.readers 0)
-  none_yet = grind (arith, common_steps)
-
   -- a stamp below the greatest one falls behind
   pub falls_here : (place : ℕ) (last : List ℕ) (line : TraceLine) (printed : Line) → HasNoFall place last → IsGetAt trace report place line printed → partition_in options line ≡ p
       → printed_stamp printed < get_or last (reader_of options trace place) 0 → FallsBehind options trace report place line printed

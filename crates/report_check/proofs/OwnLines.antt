@@ -4,7 +4,6 @@ use Rattle.std.proofs.Math.Seq.{drop-nil}
 use borrow.Author.Tests.{eqb-false}
 use Rattle.std.specs.Global.{Vec}
 use Rattle.std.specs.List.{position_or_len, AllByRecursion as AllOf}
-use Rattle.std.proofs.lemmas.List.Sums.{prefix_len-le-length}
 use Rattle.std.proofs.lemmas.Option.{slice_get_within}
 use Rattle.std.proofs.lemmas.Grind.{common_steps}
 use Rattle.list_laws.proofs.Places.{element_at}
@@ -103,9 +102,6 @@ left_none [] at past = drop-nil at
 left_none (x ∷ xs) zero past = absurd (omega arith)
 left_none (x ∷ xs) (suc at) past = left_none xs at (omega arith)
 
-pub cut_within : (place : ℕ) (lines : List OwnLine) → position_or_len (λ own. leb place own.place) lines ≤ length lines
-cut_within place lines = prefix_len-le-length (λ own. not (leb place own.place)) lines
-
 -- as the code reads an element that is there
 pub read_same : {X : Type 0} (xs : List X) (at : ℕ) (d : X) → at < length xs → get_or xs at d ≡ get_or xs at (get_or xs at d)
 read_same [] at d less = absurd (omega arith)
@@ -125,10 +121,6 @@ pub record AreSharedTo (options : Options) (trace : List TraceLine) (place : ℕ
       → AreLinesOf options p trace 0 (length trace) (own.items ++ rest)
 
 module _ (options : Options) (trace : List TraceLine) where
-  pub shared_none : (shared : List (Vec OwnLine)) → length shared ≡ options.partitions → ((p : ℕ) (own : Vec OwnLine) → slice_get shared p ≡ Some own → own.items ≡ [])
-      → AreSharedTo options trace 0 shared
-  shared_none shared many empty = grind (arith, common_steps)
-
   pub shared_more : (place gets : ℕ) (line : TraceLine) (shared : List (Vec OwnLine)) (p : ℕ) (old new : Vec OwnLine) → AreSharedTo options trace place shared → slice_get trace place ≡ Some line
       → p ≡ partition_in options line → slice_get shared p ≡ Some old → new.items ≡ old.items ++ record { place = place; gets = gets } ∷ [] → gets ≡ gets_in (take place trace)
       → AreSharedTo options trace (place + 1) (set shared p new)

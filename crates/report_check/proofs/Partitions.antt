@@ -1,5 +1,5 @@
 -- The rounds of a partition, one behind another.
-use Rattle.std.proofs.Common.{◌≡◌, ℕ, ◌<◌, ◌≤◌, List, [], ◌∷◌, length, take, drop, Option, Some, None, refl, sym, subst, arith, get_or, length-drop, ◌+◌, ◌-◌, true, false, ltb, ltb-true, ltb-false, leb, is_some}
+use Rattle.std.proofs.Common.{◌≡◌, ℕ, ◌<◌, ◌≤◌, List, [], ◌∷◌, length, take, drop, Option, Some, None, refl, sym, subst, arith, get_or, ◌+◌, ◌-◌, true, false, ltb, ltb-true, ltb-false, leb, is_some}
 use Rattle.std.specs.List.{AllZip, position_or_len}
 use Rattle.std.proofs.lemmas.List.{drop-drop, take_rest}
 use Rattle.std.proofs.lemmas.Grind.{common_steps}
@@ -18,7 +18,7 @@ use Rattle.report_check.specs.Judged.{IsBeforeRound, IsFirstWithout, IsFirstMiss
 use Rattle.report_check.specs.Shared.{AreLinesOf}
 use Rattle.report_check.proofs.Histories.{take_past}
 use Rattle.report_check.proofs.Moments.{in_round, at_moment}
-use Rattle.report_check.proofs.OwnLines.{cut_within, left_one, lines_cut, read_same}
+use Rattle.report_check.proofs.OwnLines.{left_one, lines_cut, read_same}
 
 -- the first of two options that has something
 abbrev pub first_some : Option ℕ → Option ℕ → Option ℕ
@@ -62,10 +62,6 @@ pub record StandsBetween (options : Options) (p : ℕ) (trace : List TraceLine) 
   pub first : IsFirstMissed options p trace report from missed
 
 module _ (options : Options) (p : ℕ) (trace : List TraceLine) (report : List Line) (all : AllZip IsLineFor trace report) where
-  pub stands_at_start : (ends : List ℕ) (lines : List OwnLine) (machine : Machine) → AreRounds trace 0 ends → AreLinesOf options p trace 0 (length trace) lines
-      → IsAfter options [] machine → StandsBetween options p trace report ends lines machine None
-  stands_at_start ends lines machine rounds are after = grind (arith, common_steps)
-
   -- the lines of the next round, and those that are left
   pub before_round : (to : ℕ) (later : List ℕ) (lines : List OwnLine) (machine : Machine) (missed : Option ℕ) → (between : StandsBetween options p trace report (to ∷ later) lines machine missed)
       → IsBeforeRound options p trace report between.from to (take (position_or_len (λ own. leb to own.place) lines) lines) machine
@@ -100,9 +96,6 @@ module _ (options : Options) (p : ℕ) (trace : List TraceLine) (report : List L
 
   abbrev rest : List OwnLine
   rest = take (length lines - first) (drop first lines)
-
-  pub lines_within : first ≤ length lines → first + count ≤ length lines
-  lines_within low = grind (arith, common_steps, cut_within to rest, take_rest lines first, length-drop first lines)
 
   module _ (machine : Machine) (missed : Option ℕ) (between : StandsBetween options p trace report (drop round ends) (drop first lines) machine missed) where
     abbrev pub here : StandsBetween options p trace report (to ∷ drop (round + 1) ends) rest machine missed

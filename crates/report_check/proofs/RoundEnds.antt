@@ -82,9 +82,5 @@ pub record AreEndsTo (lines : List TraceLine) (from : ℕ) (ends : List ℕ) : T
 pub ends_none : (lines : List TraceLine) → AreEndsTo lines 0 []
 ends_none lines = record { high = omega arith; begins = inl (starts lines); whole = λ later are. are }
 
-pub ends_more : (lines : List TraceLine) (from to : ℕ) (ends : List ℕ) → AreEndsTo lines from ends → IsRound lines from to → StartsRound lines to ⊎ (to ≡ length lines)
-    → AreEndsTo lines to (ends ++ to ∷ [])
-ends_more lines from to ends so_far round next = grind (arith, common_steps)
-
 pub ends_all : (lines : List TraceLine) (from : ℕ) (ends : List ℕ) → AreEndsTo lines from ends → length lines ≤ from → AreRounds lines 0 ends
 ends_all lines from ends so_far past = grind (arith, common_steps, append-nil ends)

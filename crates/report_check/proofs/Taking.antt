@@ -40,9 +40,6 @@ module _ (options : Options) (history : History) (line : TraceLine) (op : Op) (o
   now_is : state_of options (history ++ history_of (step ∷ [])) ≡ cond (is_accepted outcome) (after options (state_of options history) write) (state_of options history)
   now_is = grind (arith, common_steps)
 
-  pub not_taken : (old : Machine) → IsAfter options history old → ¬ (Allows (options_in old) (state_of options history) write outcome) → ¬ (IsRunFrom options history (step_at line (Wrote op outcome stamp)))
-  not_taken old was denied run = grind (arith, common_steps)
-
   module _ (old new : Machine) (was : IsAfter options history old) where
     -- the machine may take it, and then has a stamp
     pub stamped : (may : Bool) → MatchBool may (Takes (state_of options history) write outcome old new) (¬ (Allows (options_in old) (state_of options history) write outcome)) → may ≡ true
@@ -50,12 +47,6 @@ module _ (options : Options) (history : History) (line : TraceLine) (op : Op) (o
         → MatchBool (eqb found stamp) (TakesStep options history line (Wrote op outcome stamp) new) (¬ (IsRunFrom options history (step_at line (Wrote op outcome stamp))))
     stamped true takes is found stamps = grind (arith, common_steps)
     stamped false takes is found stamps = absurd (false≢true is)
-
-    -- it may not
-    pub unstamped : (may : Bool) → MatchBool may (Takes (state_of options history) write outcome old new) (¬ (Allows (options_in old) (state_of options history) write outcome)) → may ≡ false
-        → MatchBool may (TakesStep options history line (Wrote op outcome stamp) new) (¬ (IsRunFrom options history (step_at line (Wrote op outcome stamp))))
-    unstamped true takes is = absurd (false≢true (sym is))
-    unstamped false denied is = not_taken old was denied
 
 -- the machine of cache mode takes what its buckets do
 pub machine_takes : (m new : CacheBuckets) (may : Bool) (write : Write) (outcome : Outcome)

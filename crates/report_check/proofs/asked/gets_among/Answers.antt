@@ -1,10 +1,10 @@
-use Rattle.std.proofs.Common.{◌≡◌, ◌<◌, Some, List, get_or, slice_get, take, length, refl, sym, ◌∙◌, subst, arith, rules}
+use Rattle.std.proofs.Common.{◌≡◌, ◌<◌, Some, get_or, slice_get, take, length, refl, sym, ◌∙◌, arith, rules}
 use Rattle.std.proofs.lemmas.List.Sorted.{IsNonDecreasingBy-from_sort_by_key}
 use Rattle.std.proofs.lemmas.Option.{slice_get_read, slice_get-get_or}
+use Rattle.std.proofs.lemmas.Grind.{common_steps}
 use Rattle.mica_trace.specs.LawfulReport.{IsGetAt}
 use Rattle.report_check.specs.declared.asked.Asked.{Asked}
 use Rattle.report_check.specs.declared.sharing.OwnLine.{OwnLine}
-use Rattle.report_check.specs.Settling.{AreGetsAmong}
 use Rattle.report_check.proofs.Asking.{among_skip, among_push, among_sorted, rising}
 use Rattle.report_check.proofs.Histories.{take_one, take_past}
 use Rattle.report_check.proofs.LastStamps.{is_get_true, no_get_here}
@@ -14,12 +14,6 @@ use Rattle.report_check.proofs.asked.gets_among.Goals.{then-is_get+in_ok-push, e
 
 abbrev none : OwnLine
 none = record { place = 0; gets = 0 }
-
-pub bounds-report-place : goal.bounds-report-place
-bounds-report-place c =
-    let lines = c.args.lines.now in
-    let within = all_seen (λ (own : OwnLine). own.place < length c.args.trace.now) lines c.loop-at.at (get_or lines c.loop-at.at none) c.requires.within (slice_get-get_or lines c.loop-at.at none c.loop-at-test.true) in
-    omega (arith, c.requires.same)
 
 pub loop-at-preserved : goal.loop-at-preserved
 loop-at-preserved c =
@@ -47,9 +41,7 @@ loop-at-preserved c =
 
 pub returns-clause-all : goal.returns-clause-all
 returns-clause-all c =
-    let whole = take_past c.args.lines.now c.loop-at.at c.loop-at-test.false in
-    among_sorted c.args.trace.now c.args.report.now c.args.lines.now c.loop-at.asked.items _ c.sort_by_key.ensures.permutation
-    (subst (λ (ls : List OwnLine). AreGetsAmong c.args.trace.now c.args.report.now ls c.loop-at.asked.items) whole c.loop-at.invariant)
+    grind (arith, common_steps, take_past c.args.lines.now c.loop-at.at c.loop-at-test.false, among_sorted c.args.trace.now c.args.report.now c.args.lines.now c.loop-at.asked.items _ c.sort_by_key.ensures.permutation)
 
 pub returns-clause-rising : goal.returns-clause-rising
 returns-clause-rising c = rising _ (IsNonDecreasingBy-from_sort_by_key (λ (a : Asked). a.stamp) _ c.in_ok-sort_by_key.ensures.sorted (λ a r q k. search rules))

@@ -1,8 +1,7 @@
-use Rattle.std.proofs.Common.{List, Option, ℕ, sym, ap, ◌∙◌, subst, arith}
-use Rattle.mica_words.specs.Item.{ValueFits}
+use Rattle.std.proofs.Common.{sym, subst, arith}
+use Rattle.std.proofs.lemmas.Grind.{common_steps}
 use Rattle.mica_words.specs.Stamp.{tail_of}
-use Rattle.partition_model.specs.Cache.{Cache, Record}
-use Rattle.mica_model.specs.CacheFields.{displaced_at, without_at}
+use Rattle.partition_model.specs.Cache.{Cache}
 use Rattle.partition_model.specs.Records.{AreRising}
 use Rattle.partition_model.specs.CacheStep.{after_write, without_passed}
 use Rattle.partition_model.specs.Write.{IsWrite, write_of}
@@ -14,20 +13,14 @@ use Rattle.report_check.proofs.Buckets.{after_is, bucket_kept}
 use Rattle.report_check.proofs.cache_buckets.write.Goals as goal
 
 pub write-requires-clause-stamp : goal.write-requires-clause-stamp
-write-requires-clause-stamp c =
-    let part = c.requires.part in
-    let most = (bucket_kept c.args.options.now part.0 c.args.bucket.now _ part.1 part.2).stamp in
-    let less = c.requires.unworn in
-    let wear = c.requires.valid.wear.1 in
-    omega arith
+write-requires-clause-stamp c = grind (arith, common_steps, bucket_kept c.args.options.now c.requires.part.0 c.args.bucket.now _ c.requires.part.1 c.requires.part.2)
 
 pub write-requires-clause-unique : goal.write-requires-clause-unique
 write-requires-clause-unique c = let part = c.requires.part in (bucket_kept c.args.options.now part.0 c.args.bucket.now _ part.1 part.2).unique
 
 pub write-requires-clause-values : goal.write-requires-clause-values
 write-requires-clause-values c =
-    let part = c.requires.part in
-    all_weaker IsRecord (λ held. ValueFits held.value) (λ held fine. fine.value) c.args.bucket.now.records (bucket_kept c.args.options.now part.0 c.args.bucket.now _ part.1 part.2).are
+    grind (arith, common_steps, all_weaker IsRecord, bucket_kept c.args.options.now c.requires.part.0 c.args.bucket.now _ c.requires.part.1 c.requires.part.2)
 
 pub drop_passed-requires : goal.drop_passed-requires
 drop_passed-requires c =
@@ -47,14 +40,9 @@ drop_passed-requires c =
 
 pub returns : goal.returns
 returns c =
-    let options = c.args.options.now in
-    let key = c.args.key.now in
-    let wrote = c.write.new.self in
-    let left = without_passed options wrote in
-    let place = c.displaced-displaced.ensures ∙ ap (λ (t : Cache). displaced_at options key t.records) c.drop_passed.ensures in
-    c.count.ensures
-    ∙ after_is options c.args.bucket.now (write_of c.args.op key c.args.value.now) wrote c.remove.new.self c.in_ok-write.ensures.ok
-    (c.remove.ensures
-    ∙ ap (λ (t : Cache). record t { records = without_at c.displaced-displaced.result t.records }) c.drop_passed.ensures
-    ∙ ap (λ (at : Option ℕ). record left { records = without_at at left.records }) place
-    ∙ ap (λ (rs : List Record). record left { records = rs }) (displaced_goes options key left.records))
+    grind (
+      arith,
+      common_steps,
+      after_is c.args.options.now c.args.bucket.now (write_of c.args.op c.args.key.now c.args.value.now) c.write.new.self c.remove.new.self c.in_ok-write.ensures.ok,
+      displaced_goes c.args.options.now c.args.key.now (without_passed c.args.options.now c.write.new.self).records,
+    )

@@ -1,7 +1,7 @@
-use Rattle.std.proofs.Common.{◌≡◌, ◌+◌, ◌<◌, ◌≤◌, ◌%◌, List, [], ◌∷◌, ℕ, drop, length, length-set, get_or, slice_get, replicate, Some, refl, sym, ap, ◌∙◌, subst, arith}
+use Rattle.std.proofs.Common.{◌≡◌, ◌+◌, ◌<◌, ◌≤◌, ◌%◌, List, [], ◌∷◌, ℕ, drop, length, length-set, get_or, slice_get, Some, refl, sym, ap, ◌∙◌, subst, arith}
 use Rattle.std.specs.List.{AllByRecursion}
-use Rattle.std.proofs.lemmas.List.{length-replicate}
 use Rattle.std.proofs.lemmas.Option.{slice_get_read, slice_get-get_or}
+use Rattle.std.proofs.lemmas.Grind.{common_steps}
 use Rattle.mica_trace.specs.declared.line.TraceLine.{TraceLine}
 use Rattle.mica_trace.specs.declared.report.Line.{Line}
 use Rattle.mica_trace.specs.ReportGrammar.{printed_stamp}
@@ -9,7 +9,7 @@ use Rattle.mica_trace.specs.LawfulReport.{IsGetAt}
 use Rattle.mica_trace.specs.RoundReport.{is_get}
 use Rattle.report_check.specs.declared.sharing.OwnLine.{OwnLine}
 use Rattle.report_check.specs.Shared.{AreLinesOf}
-use Rattle.report_check.proofs.LastStamps.{HasNoFall, NoneFell, is_get_true, same_default, none_yet, none_fell_by_line, none_fell_by_get, first_to_fall, none_to_fall}
+use Rattle.report_check.proofs.LastStamps.{NoneFell, is_get_true, same_default, none_fell_by_line, none_fell_by_get, first_to_fall, none_to_fall}
 use Rattle.report_check.proofs.OwnLines.{all_seen, all_within, left_one, left_none, read_same}
 use Rattle.report_check.proofs.falls.first_fall.Goals as goal
 use Rattle.report_check.proofs.falls.first_fall.Goals.{then-is_get+else-stamp-index, else-is_get}
@@ -21,8 +21,7 @@ none = record { place = 0; gets = 0 }
 here : (trace : List TraceLine) (lines : List OwnLine) (at : ℕ) (line : TraceLine) → at < length lines → AllByRecursion (λ (own : OwnLine). own.place < length trace) lines
     → line ≡ get_or trace (get_or lines at none).place line → slice_get trace (get_or lines at none).place ≡ Some line
 here trace lines at line less within is =
-    slice_get_read trace (length trace) (get_or lines at none).place line refl
-    (all_seen (λ (own : OwnLine). own.place < length trace) lines at (get_or lines at none) within (slice_get-get_or lines at none less)) is
+    grind (arith, common_steps, slice_get_read trace (length trace) (get_or lines at none).place line refl, all_seen, slice_get-get_or lines at none less)
 
 answered : (trace : List TraceLine) (report : List Line) (lines : List OwnLine) (at : ℕ) (printed : Line) → at < length lines → AllByRecursion (λ (own : OwnLine). own.place < length trace) lines
     → length report ≡ length trace → printed ≡ get_or report (get_or lines at none).place printed → slice_get report (get_or lines at none).place ≡ Some printed
@@ -35,19 +34,6 @@ left lines at less = left_one lines at (get_or lines at none) less (read_same li
 
 stamp_of : (last : List ℕ) (reader readers found : ℕ) → length last ≡ readers → 1 ≤ readers → found ≡ get_or last (reader % readers) found → found ≡ get_or last (reader % readers) 0
 stamp_of last reader readers found many some is = is ∙ same_default last (reader % readers) found 0 (omega arith)
-
-pub loop-at-init : goal.loop-at-init
-loop-at-init c =
-    let options = c.args.options.now in
-    let zeros : c.in_ok-last.last.items ≡ replicate options.readers 0 = c.in_ok-last.ensures.items_if_clones_equal (λ y e. e) in
-    record {
-      many = ap length zeros ∙ length-replicate options.readers 0;
-      fell = λ p are. record {
-        place = 0;
-        left = are;
-        so_far = subst (HasNoFall options p c.args.trace.now c.args.report.now 0) (sym zeros) (none_yet options p c.args.trace.now c.args.report.now);
-      };
-    }
 
 pub returns-then-stamp-index : goal.returns-then-stamp-index
 returns-then-stamp-index c = λ p are.

@@ -1,8 +1,7 @@
-use Rattle.std.proofs.Common.{◌≡◌, ◌<◌, length, take, refl, sym, ◌∙◌, subst, arith}
-use Rattle.std.specs.List.{AllZip}
+use Rattle.std.proofs.Common.{◌<◌, length, refl, arith}
 use Rattle.std.proofs.lemmas.Bool.{false≢true}
 use Rattle.std.proofs.lemmas.Option.{slice_get_read}
-use Rattle.mica_trace.specs.LawfulReport.{IsLineFor}
+use Rattle.std.proofs.lemmas.Grind.{common_steps}
 use Rattle.report_check.proofs.Fitting.{fit_more, first_here, first_end}
 use Rattle.report_check.proofs.fits.first_misfit.Goals as goal
 
@@ -15,8 +14,7 @@ returns-then-not-stands_for-clause-first c =
     let printed = c.index-report-place.result in
     let less : n < length trace = omega (arith, c.loop-place-test.true, c.min-shorter.ensures) in
     let less' : n < length report = omega (arith, c.loop-place-test.true, c.min-shorter.ensures) in
-    first_here trace report n line printed (slice_get_read trace (length trace) n line refl less c.index-trace-place.is) (slice_get_read report (length report) n printed refl less' c.index-report-place.is)
-    (λ is. false≢true (sym c.if-not-stands_for.true ∙ c.stands_for.ensures.1 is)) c.loop-place.invariant
+    grind (arith, common_steps, first_here trace report n line printed, slice_get_read trace (length trace) n line refl less, slice_get_read report (length report) n printed refl less', false≢true)
 
 pub loop-place-preserved : goal.loop-place-preserved
 loop-place-preserved c =
@@ -32,10 +30,4 @@ loop-place-preserved c =
 
 pub returns-else-trace-report-clause-first : goal.returns-else-trace-report-clause-first
 returns-else-trace-report-clause-first c =
-    let trace = c.args.trace.now in
-    let report = c.args.report.now in
-    let n = c.min-shorter.result in
-    let at : c.loop-place.place ≡ n = omega arith in
-    let other = c.if-trace-report.false in
-    first_end trace report n (omega (arith, c.min-shorter.ensures)) (omega (arith, c.min-shorter.ensures)) (λ one two. other (one ∙ sym two)) (λ one two. omega (arith, c.min-shorter.ensures))
-    (subst (λ m. AllZip IsLineFor (take m trace) (take m report)) at c.loop-place.invariant)
+    grind (arith, common_steps, first_end c.args.trace.now c.args.report.now c.min-shorter.result (omega (arith, c.min-shorter.ensures)) (omega (arith, c.min-shorter.ensures)))

@@ -1,17 +1,12 @@
-use Rattle.std.proofs.Common.{List, ℕ, drop, get_or, not, sym, ap, ◌∙◌, subst, arith}
+use Rattle.std.proofs.Common.{drop, get_or, not, sym, ap, ◌∙◌, subst, arith}
 use Rattle.std.proofs.lemmas.Bool.{false≢true}
+use Rattle.std.proofs.lemmas.Grind.{common_steps}
 use Rattle.report_check.specs.declared.partition.Judged.{Judged}
 use Rattle.report_check.specs.Judged.{IsJudgedRound}
 use Rattle.report_check.proofs.OwnLines.{all_within, left_none}
-use Rattle.report_check.proofs.Partitions.{StandsBetween, stands_at_start, first_is, here, lines_within, next_round, round_behind, judged_at_end}
+use Rattle.report_check.proofs.Partitions.{first_is, here, next_round, round_behind, judged_at_end}
 use Rattle.report_check.proofs.partition.judge_partition.Goals as goal
 use Rattle.report_check.proofs.partition.judge_partition.Goals.{then-is_none, else-is_none}
-
-pub loop-round-init : goal.loop-round-init
-loop-round-init c = record {
-  within = omega arith;
-  stands = λ p are. stands_at_start c.args.options.now p c.args.trace.now c.args.report.now c.requires.lines c.args.ends.now c.args.lines.now c.in_ok-machine.machine c.requires.ends are c.in_ok-machine.ensures;
-}
 
 pub judge_round-requires-clause-within : goal.judge_round-requires-clause-within
 judge_round-requires-clause-within c =
@@ -53,8 +48,7 @@ loop-round-preserved c =
     let missed = c.loop-round.missed in
     let found = c.in-Run.found in
     record {
-      within = lines_within options 0 trace report c.requires.lines c.args.ends.now c.loop-round.round c.args.lines.now c.loop-round.first c.count_before-count.result
-          c.loop-round-test.true c.count_before-count.ensures c.loop-round.invariant.within;
+      within = grind (arith, common_steps);
       stands = λ p are.
           let between = c.loop-round.invariant.stands p are in
           let before = next_round options p trace report c.requires.lines c.args.ends.now c.loop-round.round c.args.lines.now c.loop-round.first c.count_before-count.result
@@ -77,5 +71,4 @@ returns c = λ p are.
     let trace = c.args.trace.now in
     let report = c.args.report.now in
     let lines = drop c.loop-round.first c.args.lines.now in
-    judged_at_end options p trace report c.requires.lines lines c.loop-round.machine c.loop-round.missed
-    (subst (λ (es : List ℕ). StandsBetween options p trace report es lines c.loop-round.machine c.loop-round.missed) (left_none c.args.ends.now c.loop-round.round c.loop-round-test.false) (c.loop-round.invariant.stands p are))
+    grind (arith, common_steps, judged_at_end options p trace report c.requires.lines lines c.loop-round.machine c.loop-round.missed, left_none c.args.ends.now c.loop-round.round c.loop-round-test.false)

@@ -1,6 +1,7 @@
 use Rattle.std.proofs.Common.{◌≡◌, ◌+◌, ◌<◌, ◌∷◌, ℕ, List, drop, get_or, length, slice_get, Some, None, refl, subst, arith}
 use Rattle.std.proofs.lemmas.Option.{slice_get_read, slice_get-get_or}
 use Rattle.std.specs.List.{AllByRecursion}
+use Rattle.std.proofs.lemmas.Grind.{common_steps}
 use Rattle.partition_model.specs.History.{stamp_in}
 use Rattle.mica_trace.specs.declared.line.TraceLine.{TraceLine}
 use Rattle.mica_trace.specs.declared.report.Line.{Line}
@@ -45,17 +46,13 @@ loop-at-init c = λ options p from to before.
 
 pub bounds-report-place : goal.bounds-report-place
 bounds-report-place c =
-    let lines = c.args.lines.now in
-    let within = all_seen (λ (own : OwnLine). own.place < length c.args.trace.now) lines c.loop-at.at (get_or lines c.loop-at.at none) c.requires.within (slice_get-get_or lines c.loop-at.at none c.loop-at-test.true) in
-    let same = length_zip IsLineFor c.args.trace.now c.args.report.now c.requires.lines in
-    omega arith
+    grind (arith, common_steps, all_seen, slice_get-get_or c.args.lines.now c.loop-at.at none c.loop-at-test.true, length_zip IsLineFor c.args.trace.now c.args.report.now c.requires.lines)
 
 -- the lines at the next of the places
 is_line : (trace : List TraceLine) (lines : List OwnLine) (at : ℕ) (line : TraceLine) → at < length lines → AllByRecursion (λ (own : OwnLine). own.place < length trace) lines
     → line ≡ get_or trace (get_or lines at none).place line → slice_get trace (get_or lines at none).place ≡ Some line
 is_line trace lines at line less within is =
-    slice_get_read trace (length trace) (get_or lines at none).place line refl
-    (all_seen (λ (own : OwnLine). own.place < length trace) lines at (get_or lines at none) within (slice_get-get_or lines at none less)) is
+    grind (arith, common_steps, slice_get_read trace (length trace) (get_or lines at none).place line refl, all_seen, slice_get-get_or lines at none less)
 
 is_printed : (trace : List TraceLine) (report : List Line) (lines : List OwnLine) (at : ℕ) (printed : Line) → at < length lines → AllByRecursion (λ (own : OwnLine). own.place < length trace) lines
     → length report ≡ length trace → printed ≡ get_or report (get_or lines at none).place printed → slice_get report (get_or lines at none).place ≡ Some printed

@@ -1,4 +1,5 @@
-use Rattle.std.proofs.Common.{List, ℕ, MatchBool, sym, ap, ◌∙◌, subst, nat_eq}
+use Rattle.std.proofs.Common.{List, ℕ, MatchBool, sym, ap, ◌∙◌, subst, nat_eq, arith}
+use Rattle.std.proofs.lemmas.Grind.{common_steps}
 use Rattle.partition_model.specs.declared.write.Write.{Write}
 use Rattle.partition_model.specs.History.{Allows, state_of}
 use Rattle.partition_model.specs.Run.{IsRunFrom}
@@ -7,7 +8,7 @@ use Rattle.mica_trace.specs.declared.report.Line.{Line}
 use Rattle.mica_trace.specs.LawfulReport.{IsKindOf}
 use Rattle.report_check.specs.Judged.{step_at, TakesStep}
 use Rattle.report_check.specs.Machines.{options_in, Takes}
-use Rattle.report_check.proofs.Taking.{stamped, unstamped}
+use Rattle.report_check.proofs.Taking.{stamped}
 use Rattle.report_check.proofs.partition.take_step.Goals as goal
 
 pub returns-then-may : goal.returns-then-may
@@ -33,5 +34,4 @@ returns-else-may c = λ options history was.
     let state = state_of options history in
     let same = ap (λ (key : List ℕ). write_of op key c.bytes-value.result.now) c.bytes-key.ensures ∙ ap (λ (value : List ℕ). write_of op line.key value) c.bytes-value.ensures in
     let said = subst (λ (w : Write). MatchBool may (Takes state w c.in-Wrote.outcome old new) (¬ (Allows (options_in old) state w c.in-Wrote.outcome))) same (c.in_ok-may-in-Wrote.ensures state was.at) in
-    subst (λ (r : Line). MatchBool may (TakesStep options history line r new) (¬ (IsRunFrom options history (step_at line r)))) (sym c.in-Wrote.is)
-    (unstamped options history line op c.in-Wrote.outcome c.in-Wrote.stamp (subst (λ (r : Line). IsKindOf line.op r) c.in-Wrote.is c.requires.stands.1) old new was may said c.if-may.false)
+    grind (arith, common_steps)

@@ -1,6 +1,7 @@
-use Rattle.std.proofs.Common.{◌≡◌, ◌<◌, inl, length, refl, sym, ◌∙◌, subst, arith}
+use Rattle.std.proofs.Common.{◌<◌, length, refl, sym, ◌∙◌, arith}
 use Rattle.std.proofs.lemmas.Option.{slice_get_read}
-use Rattle.report_check.proofs.RoundEnds.{IsInside, round_to_sync, round_to_end, next_starts}
+use Rattle.std.proofs.lemmas.Grind.{common_steps}
+use Rattle.report_check.proofs.RoundEnds.{round_to_sync, round_to_end, next_starts}
 use Rattle.report_check.proofs.rounds.round_end.Goals as goal
 
 pub returns-then-is_sync-clause-round : goal.returns-then-is_sync-clause-round
@@ -14,15 +15,7 @@ returns-then-is_sync-clause-round c =
 
 pub returns-then-is_sync-clause-next : goal.returns-then-is_sync-clause-next
 returns-then-is_sync-clause-next c =
-    let lines = c.args.trace.now in
-    let place = c.loop-place.place in
-    let line = c.index-trace-place.result in
-    let less : place < length lines = omega arith in
-    inl (next_starts lines place line (slice_get_read lines (length lines) place line refl less c.index-trace-place.is) (sym c.is_sync.ensures ∙ c.if-is_sync.true))
+    grind (arith, common_steps, next_starts c.args.trace.now c.loop-place.place c.index-trace-place.result, slice_get_read c.args.trace.now (length c.args.trace.now) c.loop-place.place c.index-trace-place.result refl)
 
 pub returns-clause-round : goal.returns-clause-round
-returns-clause-round c =
-    let lines = c.args.trace.now in
-    let at : c.loop-place.place ≡ length lines = omega arith in
-    let within = c.requires.within in
-    round_to_end lines c.args.from c.requires.starts (omega arith) (subst (IsInside lines c.args.from) at c.loop-place.invariant.inside)
+returns-clause-round c = grind (arith, common_steps, round_to_end c.args.trace.now c.args.from c.requires.starts (omega arith))

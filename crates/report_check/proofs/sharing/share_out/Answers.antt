@@ -1,24 +1,15 @@
-use Rattle.std.proofs.Common.{◌≡◌, ◌+◌, ◌<◌, length, take, slice_get, Some, cond, refl, sym, ap, ◌∙◌, subst, arith}
+use Rattle.std.proofs.Common.{◌≡◌, ◌+◌, ◌<◌, length, take, slice_get, Some, cond, refl, sym, ap, ◌∙◌, arith}
 use Rattle.std.proofs.lemmas.Option.{slice_get_read}
+use Rattle.std.proofs.lemmas.Grind.{common_steps}
 use Rattle.mica_words.proofs.Hashes.{partition_of-below}
 use Rattle.mica_trace.specs.RoundReport.{gets_in}
 use Rattle.report_check.proofs.Counts.{gets_more}
-use Rattle.report_check.proofs.OwnLines.{AreSharedTo, shared_none, shared_more, shared_all}
+use Rattle.report_check.proofs.OwnLines.{shared_more, shared_all}
 use Rattle.report_check.proofs.sharing.share_out.Goals as goal
 use Rattle.report_check.proofs.sharing.share_out.Goals.{then-is_get, else-is_get}
 
-pub loop-place-init : goal.loop-place-init
-loop-place-init c = record {
-  few = omega arith;
-  counted = refl;
-  shared = shared_none c.args.options.now c.args.trace.now c.loop.shared.items (omega (arith, c.loop.invariant.many)) c.loop.invariant.empty;
-}
-
 pub index_mut-own-requires : goal.index_mut-own-requires
-index_mut-own-requires c =
-    let below = partition_of-below c.index-trace-place.result.key c.args.options.now.partitions c.requires.valid.partitions.0 in
-    let many = c.loop-place.invariant.shared.many in
-    omega (arith, c.partition_in.ensures)
+index_mut-own-requires c = grind (arith, common_steps, partition_of-below c.index-trace-place.result.key c.args.options.now.partitions c.requires.valid.partitions.0)
 
 pub loop-place-preserved : goal.loop-place-preserved
 loop-place-preserved c =
@@ -48,10 +39,4 @@ loop-place-preserved c =
     ]
 
 pub returns : goal.returns
-returns c =
-    let shared = c.loop-place.invariant.shared in
-    let e : c.loop-place.place ≡ length c.args.trace.now = omega arith in
-    record {
-      many = shared.many;
-      each = shared_all c.args.options.now c.args.trace.now c.loop-place.shared.items (subst (λ n. AreSharedTo c.args.options.now c.args.trace.now n c.loop-place.shared.items) e shared);
-    }
+returns c = grind (arith, common_steps, shared_all c.args.options.now c.args.trace.now c.loop-place.shared.items)

@@ -1,9 +1,9 @@
-use Rattle.std.proofs.Common.{◌≡◌, true, false, cond, refl, sym, ap, ◌∙◌, arith}
+use Rattle.std.proofs.Common.{◌≡◌, true, false, refl, sym, ap, ◌∙◌, arith}
 use Rattle.std.proofs.lemmas.Bool.{false≢true}
 use Rattle.std.specs.Vec.{with_item}
+use Rattle.std.proofs.lemmas.Grind.{common_steps}
 use Rattle.partition_model.specs.Cache.{Cache}
 use Rattle.partition_model.specs.CacheStep.{after, reply}
-use Rattle.partition_model.specs.History.{cache_state}
 use Rattle.partition_model.specs.Write.{IsWrite, is_accepted, write_of}
 use Rattle.partition_model.proofs.Histories.{cache_unworn}
 use Rattle.report_check.specs.Machines.{part_of}
@@ -54,10 +54,7 @@ returns-in_ok-write c = λ s are.
     let accepted : is_accepted c.args.outcome ≡ true = sym c.is_accepted.ensures ∙ c.if-is_accepted.true in
     record {
       now = after m.options s write;
-      step = record {
-        allowed = c.replies.ensures.0 c.if-not-replies.false ∙ ap (λ (b : Cache). reply m.options b write) part ∙ own_reply m.options s write;
-        result = sym (ap (λ b. cond b (cache_state (after m.options s write)) (cache_state s)) accepted);
-      };
+      step = grind (arith, common_steps, own_reply m.options s write);
       buckets = are_after m.options m.buckets (with_item m.buckets number c.write.new.bucket) m.stamp m.accepted s are number c.write.new.bucket refl write is c.bucket_number-at.ensures.value
           (c.in_ok-write.ensures ∙ ap (λ (b : Cache). after m.options b write) caught) c.stamp-self.result c.accepted-self.result c.stamp-self.ensures c.accepted-self.ensures;
       options = refl;
@@ -73,10 +70,7 @@ returns-else-is_accepted c = λ s are.
     let refused : is_accepted c.args.outcome ≡ false = sym c.is_accepted.ensures ∙ c.if-is_accepted.false in
     record {
       now = s;
-      step = record {
-        allowed = c.replies.ensures.0 c.if-not-replies.false ∙ ap (λ (b : Cache). reply m.options b write) part ∙ own_reply m.options s write;
-        result = sym (ap (λ b. cond b (cache_state (after m.options s write)) (cache_state s)) refused);
-      };
+      step = grind (arith, common_steps, own_reply m.options s write);
       buckets = are_met m.options m.buckets (with_item m.buckets number c.catch_up.new.bucket) m.stamp m.accepted s are number c.catch_up.new.bucket refl caught;
       options = refl;
     }
