@@ -5,15 +5,15 @@ use Rattle.std.proofs.lemmas.Bool.{or_parts, not-false, not_from_true}
 use Rattle.mica_trace.specs.declared.line.TraceLine.{TraceLine}
 use Rattle.mica_trace.specs.declared.report.Line.{Line}
 use Rattle.batch_packets.specs.declared.batch.Request.{Request}
+use Rattle.batch_packets.specs.declared.batch.Batch.{Batch}
 use Rattle.batch_packets.specs.BatchGrammar.{IsBatch}
 use Rattle.mica_client.specs.declared.options.AskOptions.{AskOptions}
-use Rattle.mica_client.specs.declared.batches.Group.{Group}
 use Rattle.mica_client.specs.declared.fault.AskFault.{AskFault}
 use Rattle.mica_client.specs.declared.fault.AskFault.TheVariants.{NoMemory}
 use Rattle.mica_client.specs.declared.options.TheConstants.{VERSION}
 use Rattle.mica_client.proofs.Running.{went_none}
 use Rattle.mica_client.specs.Talk.{Talk, OnTalk, Passes}
-use Rattle.mica_client.specs.Batches.{numbered, groups_of}
+use Rattle.mica_client.specs.Batches.{Group, ask_of, numbered, groups_of}
 use Rattle.mica_client.specs.Answers.{Answers, unanswered, is_answered, HasTickets, AreFor, IsOfTrace, KeepsAnswers, KeepsAll}
 use Rattle.mica_client.specs.Exchange.{Standing, start, standing_at, lacks_answer, IsWhole, ComesTo, IsCauseOf, MeansForAsk, AsksAll}
 
@@ -39,6 +39,10 @@ still_answered old new (r ∷ rs) grows h =
     let known = grows r.ticket (not-false (is_answered old r.ticket) parts.0) in
     let no : not (is_answered new r.ticket) ≡ false = not_from_true (is_answered new r.ticket) known in
     ap (λ (b : Bool). b || lacks_answer new rs) no ∙ still_answered old new rs grows parts.1
+
+-- the batch of this number of a group, at its port
+pub ask_is : {number port : ℕ} {group : Group} {batch : Batch} → port ≡ group.port → batch ≡ (ask_of number group).batch → record { port = port; batch = batch } ≡ ask_of number group
+ask_is {batch = batch} port_is batch_is = λ i. record { port = port_is i; batch = batch_is i }
 
 -- these batches of all are left, behind so many
 pub record Going (groups rest : List Group) (number : ℕ) (old now : Answers) : Type 0 where

@@ -3,7 +3,7 @@ use Rattle.mica_client.specs.Answers.{Answers}
 use Rattle.mica_client.specs.Exchange.{lacks_answer}
 use Rattle.mica_client.proofs.Running.{asks_more, asks_stop}
 use Rattle.mica_client.proofs.Taking.{keeps_both, same_tickets}
-use Rattle.mica_client.proofs.Cutting.{batch_some}
+use Rattle.mica_client.proofs.Fitting.{batch_some}
 use Rattle.mica_client.proofs.exchange.ask_one.Goals as goal
 
 pub receiving-preserved : goal.receiving-preserved
