@@ -11,7 +11,7 @@ use Rattle.mica_client.specs.declared.options.AskOptions.{AskOptions}
 use Rattle.mica_client.specs.declared.fault.AskFault.{AskFault}
 use Rattle.mica_client.specs.declared.fault.AskFault.TheVariants.{NoMemory}
 use Rattle.mica_client.specs.declared.options.TheConstants.{VERSION}
-use Rattle.mica_client.proofs.Running.{went_none}
+use Rattle.mica_client.proofs.Running.{on_each, went_none}
 use Rattle.mica_client.specs.Talk.{Talk, OnTalk, Passes}
 use Rattle.mica_client.specs.Batches.{Group, ask_of, numbered, groups_of}
 use Rattle.mica_client.specs.Answers.{Answers, unanswered, is_answered, HasTickets, AreFor, IsOfTrace, KeepsAnswers, KeepsAll}
@@ -98,28 +98,21 @@ module _ (options : AskOptions) (trace : List TraceLine) (groups : List Group) (
   pub fault_asked : (fault : AskFault) (x y : Option Talk) → OnTalk (Passes (IsCauseOf fault (standing_at (numbered 0 groups) None answers))) x y → OnTalk (Passes (MeansForAsk (Err fault) (start options trace))) x y
   fault_asked fault x y h = subst (λ (s : Standing). OnTalk (Passes (IsCauseOf fault s)) x y) begins h
 
-  memory_fact : (new : Answers) (a b : Talk) → Passes (AsksAll (numbered 0 groups) answers new) a b → Passes (MeansForAsk (Err NoMemory) (start options trace)) a b
-  memory_fact new a b p = record {
-    between = p.between;
-    went = p.went;
-    fact = subst (λ (s : Standing). IsCauseOf NoMemory s p.between b.left) begins (inl (p.fact.0, p.fact.1, tt));
-  }
-
   pub memory_asked : (new : Answers) (x y : Option Talk) → OnTalk (Passes (AsksAll (numbered 0 groups) answers new)) x y → OnTalk (Passes (MeansForAsk (Err NoMemory) (start options trace))) x y
-  memory_asked new None y h = tt
-  memory_asked new (Some a) None h = absurd h
-  memory_asked new (Some a) (Some b) h = memory_fact new a b h
-
-  report_fact : (new : Answers) (report : List Line) → new ≡ map (λ line. Some line) report → (a b : Talk) → Passes (AsksAll (numbered 0 groups) answers new) a b
-      → Passes (MeansForAsk (Ok report) (start options trace)) a b
-  report_fact new report is a b p = record {
-    between = p.between;
-    went = p.went;
-    fact = subst (λ (s : Standing). ComesTo s p.between (λ at. IsWhole at × (at.answers ≡ map (λ line. Some line) report))) begins (p.fact.0, p.fact.1, (p.fact.2.0, p.fact.2.1 ∙ is));
-  }
+  memory_asked new x y h =
+      on_each (Passes (AsksAll (numbered 0 groups) answers new)) (Passes (MeansForAsk (Err NoMemory) (start options trace)))
+      (λ a b p. record {
+        between = p.between;
+        went = p.went;
+        fact = subst (λ (s : Standing). IsCauseOf NoMemory s p.between b.left) begins (inl (p.fact.0, p.fact.1, tt));
+      }) x y h
 
   pub report_asked : (new : Answers) (report : List Line) → new ≡ map (λ line. Some line) report → (x y : Option Talk) → OnTalk (Passes (AsksAll (numbered 0 groups) answers new)) x y
       → OnTalk (Passes (MeansForAsk (Ok report) (start options trace))) x y
-  report_asked new report is None y h = tt
-  report_asked new report is (Some a) None h = absurd h
-  report_asked new report is (Some a) (Some b) h = report_fact new report is a b h
+  report_asked new report is x y h =
+      on_each (Passes (AsksAll (numbered 0 groups) answers new)) (Passes (MeansForAsk (Ok report) (start options trace)))
+      (λ a b p. record {
+        between = p.between;
+        went = p.went;
+        fact = subst (λ (s : Standing). ComesTo s p.between (λ at. IsWhole at × (at.answers ≡ map (λ line. Some line) report))) begins (p.fact.0, p.fact.1, (p.fact.2.0, p.fact.2.1 ∙ is));
+      }) x y h
