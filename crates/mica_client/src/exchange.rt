@@ -109,13 +109,14 @@ fn receive_one<L: Link>(
     }
 }
 
-// Sends one batch, and receives until each of its requests is answered.
+// Sends one batch, and receives until each of its requests is answered. `text` is where it is written.
 fn ask_one<L: Link>(
     alloc: Global,
     link: &mut L,
     port: u16,
     batch: &LineBatch,
     answers: &mut Vec<Option<Line>>,
+    text: &mut Vec<u8>,
     room: &mut [u8],
 ) -> Result<(), AskFault>
     requires batch { IsBatch batch.now }
@@ -131,8 +132,8 @@ fn ask_one<L: Link>(
     ensures never_fall { L.faults link.old ≤ L.faults link.new }
     ensures ended { L.has_ended link.new ≡ (is_lost result || L.has_ended link.old) }
 {
-    let datagram = batch.write(alloc)?;
-    link.send(port, datagram.bytes())?;
+    batch.write(text)?;
+    link.send(port, text.as_slice())?;
     'receiving: while lacks_answer(batch, answers.as_slice()) {
         match receive_one(alloc, link, batch, answers, room) {
             Ok(()) => {}
@@ -162,12 +163,13 @@ fn ask_all<L: Link>(
     ensures never_fall { L.faults link.old ≤ L.faults link.new }
     ensures ended { L.has_ended link.new ≡ (is_lost result || L.has_ended link.old) }
 {
+    let mut text = Vec::new(alloc);
     let mut room = [0; ROOM];
     let mut number = 0;
     for group in groups {
         let port = group.port();
         let batch = group.into_batch(number);
-        match ask_one(alloc, link, port, &batch, answers, &mut room) {
+        match ask_one(alloc, link, port, &batch, answers, &mut text, &mut room) {
             Ok(()) => number += 1,
             Err(fault) => return Err(fault),
         }

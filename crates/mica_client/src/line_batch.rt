@@ -1,15 +1,14 @@
 //! Requests whose keys and values lie in the lines of a trace, and batches of them, written straight into the bytes of a datagram.
-ghost use Rattle.std.specs.Prelude.{◌≡◌, ◌<◌, ◌≤◌, ◌+◌, ◌++◌, length, All, IfOk, OnOk};
+ghost use Rattle.std.specs.Prelude.{◌≡◌, ◌<◌, ◌≤◌, ◌+◌, ◌++◌, length, OnOk};
 ghost use Rattle.batch_packets.specs.declared.header.TheConstants.{HEADER_LEN, MAX_DATAGRAM_LEN_V2};
 ghost use Rattle.batch_packets.specs.BatchGrammar.{IsRequest, IsBatch, operation_of, request_text, batch_text};
 ghost use Rattle.mica_client.specs.declared.options.TheConstants.{VERSION};
 ghost use Rattle.mica_client.specs.Batches.{want_of, request_of, ask_of};
 
 use crate::VERSION;
-use batch_packets::{Datagram, MAX_DATAGRAM_LEN_V2, Want};
-use mica_io::{Bytes, NoMemory};
+use batch_packets::Want;
+use mica_io::NoMemory;
 use mica_trace::{TraceLine, TraceOp};
-use std::alloc::Global;
 use std::marker::Model;
 
 /// The request of a line of a trace, which lends its key and value. Clauses see it as the request.
@@ -140,29 +139,29 @@ impl<'a> LineBatch<'a> {
         self.requests.as_slice()
     }
 
-    /// Its text.
-    pub fn write(&self, alloc: Global) -> Result<Datagram, NoMemory>
+    /// Puts its text in place of what `out` has.
+    pub fn write(&self, out: &mut Vec<u8>) -> Result<(), NoMemory>
         requires { IsBatch self.now }
-        ensures { IfOk result (λ text. text ≡ batch_text self.now) }
+        ensures { OnOk result (out.new.items ≡ batch_text self.now) }
     {
-        write_batch(alloc, self.number, self.requests.as_slice())
+        write_batch(self.number, self.requests.as_slice(), out)
     }
 }
 
-/// The text of the batch of this number and these requests.
+/// Puts the text of the batch of this number and these requests in place of what `out` has.
 #[tactic(auto, unfolding(batch_packets::specs::BatchGrammar::batch_text))]
-fn write_batch(alloc: Global, number: u32, requests: &[LineRequest]) -> Result<Datagram, NoMemory>
+fn write_batch(number: u32, requests: &[LineRequest], out: &mut Vec<u8>) -> Result<(), NoMemory>
     requires { IsBatch (record { version = VERSION; number = number; requests = requests.now }) }
-    ensures { IfOk result (λ text. text ≡ batch_text (record { version = VERSION; number = number; requests = requests.now })) }
+    ensures { OnOk result (out.new.items ≡ batch_text (record { version = VERSION; number = number; requests = requests.now })) }
 {
-    let mut text = Vec::with_capacity(alloc, MAX_DATAGRAM_LEN_V2)?;
     let [n0, n1, n2, n3] = number.to_le_bytes();
     let count = requests.len() as u8;
-    text.extend_from_slice(&[b'M', b'I', b'C', b'A', VERSION, count, n0, n1, n2, n3])?;
+    out.clear();
+    out.extend_from_slice(&[b'M', b'I', b'C', b'A', VERSION, count, n0, n1, n2, n3])?;
     for request in requests {
-        request.put(&mut text)?;
+        request.put(out)?;
     }
-    Ok(Bytes::from(text))
+    Ok(())
 }
 
 /// The requests of one batch, and the port that it goes to.

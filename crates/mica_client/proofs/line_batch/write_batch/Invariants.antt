@@ -7,4 +7,4 @@ use Rattle.mica_client.proofs.line_batch.write_batch.Given as goal
 
 abbrev pub invariant-loop-request : goal.invariant-loop-request
 invariant-loop-request l =
-    l.text.items ≡ header_text batch_magic VERSION (length l.requests) l.number ++ flat_map request_text (take l.request-index l.requests)
+    l.out.items ≡ header_text batch_magic VERSION (length l.requests) l.number ++ flat_map request_text (take l.request-index l.requests)
