@@ -1,5 +1,4 @@
 use Rattle.std.proofs.Common.{◌≡◌, ◌∙◌, true, arith, rules, length, ap, sym, ℕ, List}
-use Rattle.mica_client.specs.Answers.{Answers}
 use Rattle.mica_client.specs.Exchange.{lacks_answer}
 use Rattle.mica_client.proofs.Running.{asks_more, asks_stop}
 use Rattle.mica_client.proofs.Taking.{keeps_both, same_tickets}
