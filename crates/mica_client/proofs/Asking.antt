@@ -5,15 +5,15 @@ use Rattle.std.proofs.lemmas.Bool.{or_parts, not-false, not_from_true}
 use Rattle.mica_trace.specs.declared.line.TraceLine.{TraceLine}
 use Rattle.mica_trace.specs.declared.report.Line.{Line}
 use Rattle.batch_packets.specs.declared.batch.Request.{Request}
+use Rattle.batch_packets.specs.declared.batch.Batch.{Batch}
 use Rattle.batch_packets.specs.BatchGrammar.{IsBatch}
 use Rattle.mica_client.specs.declared.options.AskOptions.{AskOptions}
-use Rattle.mica_client.specs.declared.batches.Group.{Group}
 use Rattle.mica_client.specs.declared.fault.AskFault.{AskFault}
 use Rattle.mica_client.specs.declared.fault.AskFault.TheVariants.{NoMemory}
 use Rattle.mica_client.specs.declared.options.TheConstants.{VERSION}
-use Rattle.mica_client.proofs.Running.{went_none}
+use Rattle.mica_client.proofs.Running.{on_each, went_none}
 use Rattle.mica_client.specs.Talk.{Talk, OnTalk, Passes}
-use Rattle.mica_client.specs.Batches.{numbered, groups_of}
+use Rattle.mica_client.specs.Batches.{Group, ask_of, numbered, groups_of}
 use Rattle.mica_client.specs.Answers.{Answers, unanswered, is_answered, HasTickets, AreFor, IsOfTrace, KeepsAnswers, KeepsAll}
 use Rattle.mica_client.specs.Exchange.{Standing, start, standing_at, lacks_answer, IsWhole, ComesTo, IsCauseOf, MeansForAsk, AsksAll}
 
@@ -39,6 +39,10 @@ still_answered old new (r ∷ rs) grows h =
     let known = grows r.ticket (not-false (is_answered old r.ticket) parts.0) in
     let no : not (is_answered new r.ticket) ≡ false = not_from_true (is_answered new r.ticket) known in
     ap (λ (b : Bool). b || lacks_answer new rs) no ∙ still_answered old new rs grows parts.1
+
+-- the batch of this number of a group, at its port
+pub ask_is : {number port : ℕ} {group : Group} {batch : Batch} → port ≡ group.port → batch ≡ (ask_of number group).batch → record { port = port; batch = batch } ≡ ask_of number group
+ask_is {batch = batch} port_is batch_is = λ i. record { port = port_is i; batch = batch_is i }
 
 -- these batches of all are left, behind so many
 pub record Going (groups rest : List Group) (number : ℕ) (old now : Answers) : Type 0 where
@@ -94,28 +98,21 @@ module _ (options : AskOptions) (trace : List TraceLine) (groups : List Group) (
   pub fault_asked : (fault : AskFault) (x y : Option Talk) → OnTalk (Passes (IsCauseOf fault (standing_at (numbered 0 groups) None answers))) x y → OnTalk (Passes (MeansForAsk (Err fault) (start options trace))) x y
   fault_asked fault x y h = subst (λ (s : Standing). OnTalk (Passes (IsCauseOf fault s)) x y) begins h
 
-  memory_fact : (new : Answers) (a b : Talk) → Passes (AsksAll (numbered 0 groups) answers new) a b → Passes (MeansForAsk (Err NoMemory) (start options trace)) a b
-  memory_fact new a b p = record {
-    between = p.between;
-    went = p.went;
-    fact = subst (λ (s : Standing). IsCauseOf NoMemory s p.between b.left) begins (inl (p.fact.0, p.fact.1, tt));
-  }
-
   pub memory_asked : (new : Answers) (x y : Option Talk) → OnTalk (Passes (AsksAll (numbered 0 groups) answers new)) x y → OnTalk (Passes (MeansForAsk (Err NoMemory) (start options trace))) x y
-  memory_asked new None y h = tt
-  memory_asked new (Some a) None h = absurd h
-  memory_asked new (Some a) (Some b) h = memory_fact new a b h
-
-  report_fact : (new : Answers) (report : List Line) → new ≡ map (λ line. Some line) report → (a b : Talk) → Passes (AsksAll (numbered 0 groups) answers new) a b
-      → Passes (MeansForAsk (Ok report) (start options trace)) a b
-  report_fact new report is a b p = record {
-    between = p.between;
-    went = p.went;
-    fact = subst (λ (s : Standing). ComesTo s p.between (λ at. IsWhole at × (at.answers ≡ map (λ line. Some line) report))) begins (p.fact.0, p.fact.1, (p.fact.2.0, p.fact.2.1 ∙ is));
-  }
+  memory_asked new x y h =
+      on_each (Passes (AsksAll (numbered 0 groups) answers new)) (Passes (MeansForAsk (Err NoMemory) (start options trace)))
+      (λ a b p. record {
+        between = p.between;
+        went = p.went;
+        fact = subst (λ (s : Standing). IsCauseOf NoMemory s p.between b.left) begins (inl (p.fact.0, p.fact.1, tt));
+      }) x y h
 
   pub report_asked : (new : Answers) (report : List Line) → new ≡ map (λ line. Some line) report → (x y : Option Talk) → OnTalk (Passes (AsksAll (numbered 0 groups) answers new)) x y
       → OnTalk (Passes (MeansForAsk (Ok report) (start options trace))) x y
-  report_asked new report is None y h = tt
-  report_asked new report is (Some a) None h = absurd h
-  report_asked new report is (Some a) (Some b) h = report_fact new report is a b h
+  report_asked new report is x y h =
+      on_each (Passes (AsksAll (numbered 0 groups) answers new)) (Passes (MeansForAsk (Ok report) (start options trace)))
+      (λ a b p. record {
+        between = p.between;
+        went = p.went;
+        fact = subst (λ (s : Standing). ComesTo s p.between (λ at. IsWhole at × (at.answers ≡ map (λ line. Some line) report))) begins (p.fact.0, p.fact.1, (p.fact.2.0, p.fact.2.1 ∙ is));
+      }) x y h

@@ -1,3 +1,5 @@
+pub mod Requests
+pub mod Fitting
 pub mod Taking
 pub mod Cutting
 pub mod Running

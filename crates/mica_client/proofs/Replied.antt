@@ -5,6 +5,8 @@ use Rattle.std.specs.List.{AllByRecursion}
 use Rattle.std.proofs.lemmas.Bool.{eqb-true, eqb-false, ne_eqb}
 use Rattle.std.proofs.lemmas.List.Elements.{filter-append}
 use Rattle.std.proofs.lemmas.Option.{slice_get_within}
+use Rattle.list_laws.proofs.AllElements.{all_push}
+use Rattle.list_laws.proofs.Places.{set_here, set_elsewhere}
 use Rattle.mica_trace.specs.declared.line.TraceOp.{TraceOp}
 use Rattle.mica_trace.specs.declared.line.TraceOp.TheVariants as op
 use Rattle.mica_trace.specs.declared.line.TraceLine.{TraceLine}
@@ -16,27 +18,15 @@ use Rattle.batch_packets.specs.declared.batch.Request.{Request}
 use Rattle.batch_packets.specs.declared.batch.Batch.{Batch}
 use Rattle.batch_packets.specs.declared.replies.Reply.{Reply}
 use Rattle.mica_client.specs.declared.options.AskOptions.{AskOptions}
-use Rattle.mica_client.specs.declared.batches.Group.{Group}
 use Rattle.mica_client.specs.declared.fault.AskFault.{AskFault}
 use Rattle.mica_client.specs.Talk.{Passed, sent, received}
-use Rattle.mica_client.specs.Batches.{Ask, groups_of, numbered, want_of}
+use Rattle.mica_client.specs.Batches.{Group, Ask, groups_of, numbered, want_of}
 use Rattle.mica_client.specs.Answers.{Answers, unanswered, line_of, after_one, after_replies, go_on, IsOfTrace}
 use Rattle.mica_client.specs.Exchange.{Standing, start, Runs, ComesTo, IsWhole}
 use Rattle.mica_client.specs.Replied.{RepliesIn, with_ticket, IsReplied, IsRepliedOnce}
-use Rattle.mica_client.proofs.Taking.{TookOne, took_one, asked, of_line}
+use Rattle.mica_client.proofs.Requests.{of_line}
+use Rattle.mica_client.proofs.Taking.{TookOne, took_one, asked}
 use Rattle.mica_client.proofs.Whole.{of_trace}
-
-set_same : {X : Type 0} (xs : List X) (i : ℕ) (x y : X) → slice_get xs i ≡ Some y → slice_get (set xs i x) i ≡ Some x
-set_same [] i x y h = absurd (cc)
-set_same (z ∷ zs) zero x y h = refl
-set_same (z ∷ zs) (suc i) x y h = set_same zs i x y h
-
-set_other : {X : Type 0} (xs : List X) (i j : ℕ) (x : X) → (i ≡ j → ⊥) → slice_get (set xs i x) j ≡ slice_get xs j
-set_other [] i j x h = refl
-set_other (z ∷ zs) zero zero x h = absurd (h refl)
-set_other (z ∷ zs) zero (suc j) x h = refl
-set_other (z ∷ zs) (suc i) zero x h = refl
-set_other (z ∷ zs) (suc i) (suc j) x h = set_other zs i j x (λ e. h (ap (λ (n : ℕ). suc n) e))
 
 -- one reply more
 ticket_more : (t : ℕ) (replies : List Reply) (r : Reply) (b : Bool) → (r.ticket == t) ≡ b → with_ticket t (replies ++ r ∷ []) ≡ with_ticket t replies ++ cond b (r ∷ []) []
@@ -60,10 +50,6 @@ pub record Replied (trace : List TraceLine) (replies : List Reply) (answers : An
 none_first : (want : Option Want) (replies : List Reply) (answer : Option Line) → is_some answer ≡ false → IsAnswer want replies answer → replies ≡ []
 none_first want replies None unknown h = h
 none_first want replies (Some printed) unknown h = absurd (cc)
-
-all_more : (P : Reply → Type 0) (replies later : List Reply) → AllByRecursion P replies → AllByRecursion P later → AllByRecursion P (replies ++ later)
-all_more P [] later a b = b
-all_more P (r ∷ rs) later a b = (a.0, all_more P rs later a.1 b)
 
 abbrev pub OfRequests : List TraceLine → List Request → Type 0
 OfRequests trace requests = AllByRecursion (IsOfTrace trace) requests
@@ -103,7 +89,7 @@ module _ (trace : List TraceLine) (replies : List Reply) (reply : Reply) (old : 
       let none = none_first _ _ before.answer unknown before.is in
       record {
         answer = Some printed;
-        at = set_same old to.place (Some printed) before.answer before.at;
+        at = set_here old to.place before.answer (Some printed) before.at;
         is = (reply, ticket_more (to.place + 1) replies reply true (eq-eqb _ _ to.ticket_is) ∙ ap (λ (l : List Reply). l ++ reply ∷ []) none, means);
       }
 
@@ -113,14 +99,14 @@ module _ (trace : List TraceLine) (replies : List Reply) (reply : Reply) (old : 
       let no : (reply.ticket == n + 1) ≡ false = ne_eqb reply.ticket (n + 1) (λ e. apart (let t = to.ticket_is in omega (arith, t, e))) in
       record {
         answer = before.answer;
-        at = set_other old to.place n (Some printed) apart ∙ before.at;
+        at = set_elsewhere old to.place n (Some printed) (λ e. apart (sym e)) ∙ before.at;
         is = subst (λ (l : List Reply). IsAnswer (want_of line.op) l before.answer) (sym (ticket_more (n + 1) replies reply false no ∙ append-nil (with_ticket (n + 1) replies))) before.is;
       }
 
   replied_more : Replied trace (replies ++ reply ∷ []) new
   replied_more = record {
     each = λ n line at. by n line at (to.place == n) refl;
-    tickets = all_more (λ (r : Reply). (1 ≤ r.ticket) × (r.ticket ≤ length trace)) replies (reply ∷ []) so_far.tickets ((let t = to.ticket_is in omega (arith, t), let t = to.ticket_is in let within = slice_get_within trace to.place to.line to.at in omega (arith, t, within)), tt);
+    tickets = all_push (λ (r : Reply). (1 ≤ r.ticket) × (r.ticket ≤ length trace)) replies reply so_far.tickets (let t = to.ticket_is in omega (arith, t), let t = to.ticket_is in let within = slice_get_within trace to.place to.line to.at in omega (arith, t, within));
   }
     where
       by : (n : ℕ) (line : TraceLine) → slice_get trace n ≡ Some line → (b : Bool) → (to.place == n) ≡ b → AnswerAt new n (want_of line.op) (with_ticket (n + 1) (replies ++ reply ∷ []))

@@ -13,6 +13,12 @@ use Rattle.mica_client.specs.declared.exchange.TheConstants.{ROOM}
 use Rattle.mica_client.proofs.Cut.{cut_spells, cut_unread}
 use Rattle.mica_client.specs.Exchange.{Standing, standing_at, waits, waits_for, lacks_answer, Steps, Runs, IsWhole, ComesTo, StopsAt, IsCauseOf, IsUnread, IsOfReading, SpellsAnswers, AnswersBatch, ShowsFault, Receives, StopsReading, StopsOne, Asks, StopsAsking, AsksAll}
 
+-- a fact of what was told gives another
+pub on_each : (P Q : Talk → Talk → Type 0) → ((a b : Talk) → P a b → Q a b) → (x y : Option Talk) → OnTalk P x y → OnTalk Q x y
+on_each P Q gives None y p = tt
+on_each P Q gives (Some a) None p = absurd p
+on_each P Q gives (Some a) (Some b) p = gives a b p
+
 -- two facts of what was told, one after the other
 pub on_both : (P Q R : Talk → Talk → Type 0) → ((a b c : Talk) → P a b → Q b c → R a c) → (x y z : Option Talk) → OnTalk P x y → OnTalk Q y z → OnTalk R x z
 on_both P Q R both None y z p q = tt
@@ -85,11 +91,6 @@ receives_cut P Q gives (Some t) y faults given room wide next p =
       fact_of = gives next.datagram (subst P (next.cut ∙ ap (λ (n : ℕ). take n next.datagram) wide) p);
     })
 
-pub receives_as : (P Q : Datagram → Type 0) → ((d : Datagram) → P d → Q d) → (x y : Option Talk) → OnTalk (Receives P) x y → OnTalk (Receives Q) x y
-receives_as P Q gives None y p = tt
-receives_as P Q gives (Some a) None p = absurd p
-receives_as P Q gives (Some a) (Some b) p = record { bytes = p.bytes; faults = p.faults; went = p.went; fact_of = gives p.bytes p.fact_of }
-
 pub replies_told : (r : Result Replies AskFault) (x y : Option Talk) (faults : ℕ) (given : List ℕ) (room : ℕ) → room ≡ ROOM → IfSome x (λ t. ReceivesNext t faults given room y)
     → IfOk r (SpellsAnswers given) → IfOk r (λ replies. OnTalk (Receives (λ bytes. SpellsAnswers bytes replies)) x y)
 replies_told (Ok replies) x y faults given room wide next p =
@@ -127,9 +128,7 @@ as_step (Double t) batch answers a b s = absurd s
 as_step (Wrong t) batch answers a b s = absurd s
 
 pub stops_reading : (fault : AskFault) (batch : Batch) (answers : Answers) (x y : Option Talk) → OnTalk (StopsReading fault) x y → OnTalk (StopsOne fault batch answers) x y
-stops_reading fault batch answers None y s = tt
-stops_reading fault batch answers (Some a) None s = absurd s
-stops_reading fault batch answers (Some a) (Some b) s = as_step fault batch answers a b s
+stops_reading fault batch answers x y s = on_each (StopsReading fault) (StopsOne fault batch answers) (as_step fault batch answers) x y s
 
 -- and so is one that a reply shows
 shown_step : (fault : AskFault) (batch : Batch) (answers : Answers) (a b : Talk) → IsOfReply fault → Receives (λ bytes. ShowsFault batch answers bytes fault) a b → StopsOne fault batch answers a b
@@ -142,9 +141,7 @@ shown_step (Double t) batch answers a b is s = s
 shown_step (Wrong t) batch answers a b is s = s
 
 pub stops_shown : (fault : AskFault) (batch : Batch) (answers : Answers) (x y : Option Talk) → IsOfReply fault → OnTalk (Receives (λ bytes. ShowsFault batch answers bytes fault)) x y → OnTalk (StopsOne fault batch answers) x y
-stops_shown fault batch answers None y is s = tt
-stops_shown fault batch answers (Some a) None is s = absurd s
-stops_shown fault batch answers (Some a) (Some b) is s = shown_step fault batch answers a b is s
+stops_shown fault batch answers x y is s = on_each (Receives (λ bytes. ShowsFault batch answers bytes fault)) (StopsOne fault batch answers) (λ a b s. shown_step fault batch answers a b is s) x y s
 
 -- One batch
 
@@ -294,10 +291,10 @@ so_far_stop fault asks rest ask old mid x y z p q =
     }
 
 pub so_far_all : (asks : List Ask) (old new : Answers) (x y : Option Talk) → OnTalk (Passes (SoFar asks [] old new)) x y → OnTalk (Passes (AsksAll asks old new)) x y
-so_far_all asks old new None y p = tt
-so_far_all asks old new (Some a) None p = absurd p
-so_far_all asks old new (Some a) (Some b) p = record {
-  between = p.between;
-  went = p.went;
-  fact = (standing_at [] p.fact.0 new, p.fact.1, (record { all_sent = refl; answered = p.fact.2 }, refl));
-}
+so_far_all asks old new x y p =
+    on_each (Passes (SoFar asks [] old new)) (Passes (AsksAll asks old new))
+    (λ a b p. record {
+      between = p.between;
+      went = p.went;
+      fact = (standing_at [] p.fact.0 new, p.fact.1, (record { all_sent = refl; answered = p.fact.2 }, refl));
+    }) x y p

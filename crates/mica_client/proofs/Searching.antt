@@ -26,14 +26,16 @@ module _ (requests : List Request) (rise : TicketsRise requests) (ticket : ℕ) 
   unlike : (n : ℕ) → (n ≡ ticket → ⊥) → (n == ticket) ≡ false
   unlike n h = grind (arith, nat_tests, h)
 
-  -- the request at the place that the search gives
-  pub want_found : (place : ℕ) (d : Request) → IsSearchInRange (Ok place) (length requests) → IsBinarySearchResult (λ r. nat_cmp r.ticket ticket) requests (Ok place)
-      → want_at requests ticket ≡ Some (get_or requests place d).want
-  want_found place d within found =
-      let here : (get_or requests place d).ticket ≡ ticket = ranked _ ticket _ (sym (found d)) in
+  -- the request at a place where the ticket is found
+  pub want_here : (place : ℕ) (d : Request) → place < length requests → (get_or requests place d).ticket ≡ ticket → want_at requests ticket ≡ Some (get_or requests place d).want
+  want_here place d within here =
       found_at (λ rs. want_at rs ticket) (λ r. r.ticket == ticket) (λ r. Some r.want) None refl one_more requests place d within
       (λ k before. unlike _ (λ same. let below = rise k place d before within in omega (arith, below, same, here)))
       (grind (arith, nat_tests, here))
+
+  pub want_found : (place : ℕ) (d : Request) → IsSearchInRange (Ok place) (length requests) → IsBinarySearchResult (λ r. nat_cmp r.ticket ticket) requests (Ok place)
+      → want_at requests ticket ≡ Some (get_or requests place d).want
+  want_found place d within found = want_here place d within (ranked _ ticket _ (sym (found d)))
 
   pub want_missing : (place : ℕ) → IsSearchInRange (Err place) (length requests) → IsBinarySearchResult (λ r. nat_cmp r.ticket ticket) requests (Err place) → want_at requests ticket ≡ None
   want_missing place within parted = by requests refl

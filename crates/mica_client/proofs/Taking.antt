@@ -29,7 +29,8 @@ use Rattle.batch_packets.specs.ReplyGrammar.{IsReply}
 use Rattle.mica_client.specs.declared.options.TheConstants.{VERSION}
 use Rattle.mica_client.specs.declared.fault.AskFault.{AskFault}
 use Rattle.mica_client.specs.declared.fault.AskFault.TheVariants.{Stranger, Double}
-use Rattle.mica_client.specs.Batches.{request_of, want_of}
+use Rattle.mica_client.specs.Batches.{want_of}
+use Rattle.mica_client.proofs.Requests.{of_line}
 use Rattle.mica_client.specs.Answers.{Answers, HasTicketIn, HasTickets, wrote, is_answered, line_of, line_of_get, outcome_of_put, outcome_of_add, outcome_of_touch, outcome_of_del, is_printable, want_at, by_line, by_want, after_one, after_replies, go_on, open_answers, AreFor, IsOfTrace, KeepsAnswers}
 
 -- a list of answers with one more known
@@ -195,29 +196,6 @@ op_line op.Del want reply line is lawful h =
 op_line op.Get want reply line is lawful h =
     let same : want ≡ Get = cc in get_line reply line lawful (subst (λ w. line_of w reply ≡ Some line) same h)
 op_line op.Sync want reply line is lawful h = absurd (cc)
-
--- what a request has of its line
-pub record OfLine (n : ℕ) (asked : TraceOp) (key value : List ℕ) (request : Request) : Type 0 where
-  pub want : want_of asked ≡ Some request.want
-  pub ticket : request.ticket ≡ n + 1
-  pub key_is : request.key ≡ key
-  pub value_is : request.value ≡ value
-
-pub of_line : (n : ℕ) (line : TraceLine) (request : Request) → request_of n line ≡ Some request → OfLine n line.op line.key line.value request
-of_line n line request h = by (want_of line.op) refl h
-  where
-    by : (want : Option Want) → want_of line.op ≡ want → option_map (λ want. record { want = want; ticket = n + 1; key = line.key; value = line.value }) want ≡ Some request
-        → OfLine n line.op line.key line.value request
-    by None e k = absurd (cc)
-    by (Some want) e k =
-        let it : Request = record { want = want; ticket = n + 1; key = line.key; value = line.value } in
-        let same : it ≡ request = cc in
-        record {
-          want = e ∙ ap (λ (r : Request). Some r.want) same;
-          ticket = sym (ap (λ (r : Request). r.ticket) same);
-          key_is = sym (ap (λ (r : Request). r.key) same);
-          value_is = sym (ap (λ (r : Request). r.value) same);
-        }
 
 -- one reply
 

@@ -17,14 +17,13 @@ use Rattle.mica_trace.specs.LawfulReport.{IsLineFor, IsKindOf}
 use Rattle.batch_packets.specs.declared.batch.Request.{Request}
 use Rattle.batch_packets.specs.BatchGrammar.{IsBatch, IsRequest}
 use Rattle.mica_client.specs.declared.options.AskOptions.{AskOptions}
-use Rattle.mica_client.specs.declared.batches.Group.{Group}
 use Rattle.mica_client.specs.declared.options.TheConstants.{VERSION}
 use Rattle.mica_client.specs.AskOptions.{IsValidAsk}
-use Rattle.mica_client.specs.Batches.{groups_of, requests_from, request_of, in_front}
+use Rattle.mica_client.specs.Batches.{Group, groups_of, requests_from, request_of, in_front}
 use Rattle.mica_client.specs.Answers.{Answers, unanswered, is_answered, HasTicketIn, TicketsRise, HasTickets, AreFor, IsOfTrace, KeepsAll, AnswerIsKnown}
 use Rattle.mica_client.specs.Exchange.{lacks_answer}
-use Rattle.mica_client.proofs.Taking.{of_line}
-use Rattle.mica_client.proofs.Cutting.{Fits, of_each, of_rise, groups_fit, all_groups, all_lines, each_request, requests_lawful, requests_rise, other_some, all_each}
+use Rattle.mica_client.proofs.Requests.{of_line, other_some, each_request, requests_rise, requests_lawful}
+use Rattle.mica_client.proofs.Fitting.{Fits, of_each, of_rise, groups_fit, all_groups, all_lines, all_each}
 use Rattle.mica_client.proofs.Asking.{AreBatches, HaveTickets, OfTrace, Answered}
 
 all_both : {X : Type 0} (P Q R : X → Type 0) → ((x : X) → P x → Q x → R x) → (xs : List X) → AllByRecursion P xs → AllByRecursion Q xs → AllByRecursion R xs

@@ -16,8 +16,7 @@ use Rattle.batch_packets.specs.declared.batch.Request.{Request}
 use Rattle.batch_packets.specs.declared.batch.Batch.{Batch}
 use Rattle.batch_packets.specs.declared.replies.Reply.{Reply}
 use Rattle.mica_client.specs.declared.fault.AskFault.{AskFault}
-use Rattle.mica_client.specs.declared.batches.Group.{Group}
-use Rattle.mica_client.specs.Batches.{request_of}
+use Rattle.mica_client.specs.Batches.{Group, request_of}
 use Rattle.mica_client.specs.declared.fault.AskFault.TheVariants.{Stranger, Double, Wrong}
 
 -- for each line of a trace the line of the report, where it is known

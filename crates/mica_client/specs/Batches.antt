@@ -14,7 +14,6 @@ use Rattle.batch_packets.specs.BatchGrammar.{request_text}
 use Rattle.batch_packets.specs.Datagram.{max_datagram_len}
 use Rattle.mica_client.specs.declared.options.TheConstants.{VERSION}
 use Rattle.mica_client.specs.declared.options.AskOptions.{AskOptions}
-use Rattle.mica_client.specs.declared.batches.Group.{Group}
 
 -- what a line asks for; a sync asks for nothing
 abbrev pub want_of : TraceOp → Option Want
@@ -73,16 +72,21 @@ cut per group (request ∷ later) =
 abbrev pub port_of : AskOptions → ℕ → ℕ
 port_of options partition = options.port + partition % options.fronts
 
--- the partition of each line's key
-abbrev pub parts_of : AskOptions → List TraceLine → List ℕ
-parts_of options lines = map (λ line. partition_of line.key options.partitions) lines
-
 abbrev pub is_in_partition : AskOptions → ℕ → Request → Bool
 is_in_partition options partition request = partition_of request.key options.partitions == partition
+
+-- the requests of one batch, and the port that it goes to
+pub record Group : Type 0 where
+  pub port : ℕ
+  pub requests : List Request
 
 -- batches that go to one port
 abbrev pub groups_at : ℕ → List (List Request) → List Group
 groups_at port batches = map (λ requests. record { port = port; requests = requests }) batches
+
+-- the batches of a port, where these are full, and the last one takes the requests that follow
+abbrev pub batches_with : ℕ → ℕ → List Group → List Request → List Request → List Group
+batches_with per port full last later = full ++ groups_at port (cut per last later)
 
 -- the batches of one partition in a round
 abbrev pub groups_in : AskOptions → List Request → ℕ → List Group

@@ -1,6 +1,7 @@
 pub mod Talk
 pub mod AskOptions
 pub mod Batches
+pub mod Cutting
 pub mod Answers
 pub mod Exchange
 pub mod Replied

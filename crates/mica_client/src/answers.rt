@@ -5,7 +5,8 @@ ghost use Rattle.mica_client.specs.Answers.{unanswered, is_answered, is_printabl
 ghost use Rattle.mica_client.specs.Exchange.{is_lost};
 
 use crate::AskFault;
-use batch_packets::{Batch, Reply, Request, Want};
+use crate::line_batch::{LineBatch, LineRequest};
+use batch_packets::{Reply, Want};
 use mica_io::NoMemory;
 use mica_trace::{Line, Report, TraceLine};
 use partition_model::{Op, Outcome};
@@ -42,10 +43,15 @@ fn is_printable(byte: u8) -> bool
     32 <= byte && byte <= 126
 }
 
+// There is no early exit, so that many bytes are judged at a time.
 fn is_text(value: &[u8]) -> bool
     ensures { result ≡ list_all is_printable value.now }
 {
-    value.iter().all(|byte| is_printable(*byte))
+    let mut all = true;
+    for byte in value {
+        all &= is_printable(*byte);
+    }
+    all
 }
 
 fn line_of_get(reply: Reply) -> Option<Line>
@@ -133,21 +139,27 @@ fn line_of(want: Want, reply: Reply) -> Option<Line>
     }
 }
 
-// What the request with this ticket asks for.
-fn want_at(requests: &[Request], ticket: u32) -> Option<Want>
+// What the request with this ticket asks for. It is looked for at the likely place first.
+fn want_at(requests: &[LineRequest], likely: usize, ticket: u32) -> Option<Want>
     requires { TicketsRise requests.now }
     ensures { result ≡ want_at requests.now ticket }
 {
-    match requests.binary_search_by_key(&ticket, |request| request.ticket) {
-        Ok(place) => Some(requests[place].want),
+    if let Some(request) = requests.get(likely) {
+        if request.ticket() == ticket {
+            return Some(request.want());
+        }
+    }
+    match requests.binary_search_by_key(&ticket, |request| request.ticket()) {
+        Ok(place) => Some(requests[place].want()),
         Err(_) => None,
     }
 }
 
-// Takes one reply of a datagram of this number, while the batch waits.
+// Takes one reply of a datagram of this number, while the batch waits. Its request is looked for at the likely place first.
 fn take_reply(
-    batch: &Batch,
+    batch: &LineBatch,
     number: u32,
+    likely: usize,
     reply: Reply,
     answers: &mut Vec<Option<Line>>,
 ) -> Result<(), AskFault>
@@ -158,10 +170,10 @@ fn take_reply(
     ensures not_lost { is_lost result ≡ false }
 {
     let ticket = reply.ticket;
-    if number != batch.number {
+    if number != batch.number() {
         return Err(AskFault::Stranger(ticket));
     }
-    let Some(want) = want_at(batch.requests.as_slice(), ticket) else {
+    let Some(want) = want_at(batch.requests(), likely, ticket) else {
         return Err(AskFault::Stranger(ticket));
     };
     if is_answered(answers.as_slice(), ticket) {
@@ -176,7 +188,7 @@ fn take_reply(
 
 /// Takes the replies of a datagram of this number, while the batch waits. After a fault some of them were taken.
 pub fn take_replies(
-    batch: &Batch,
+    batch: &LineBatch,
     number: u32,
     replies: Vec<Reply>,
     answers: &mut Vec<Option<Line>>,
@@ -187,8 +199,11 @@ pub fn take_replies(
     ensures fault { IfErr result IsOfReply }
     ensures not_lost { is_lost result ≡ false }
 {
+    // A server answers in the order of the requests.
+    let mut likely = 0usize;
     for reply in replies {
-        take_reply(batch, number, reply, answers)?;
+        take_reply(batch, number, likely, reply, answers)?;
+        likely = likely.saturating_add(1);
     }
     Ok(())
 }

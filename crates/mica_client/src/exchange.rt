@@ -13,10 +13,11 @@ ghost use Rattle.mica_client.specs.Answers.{HasTickets, KeepsAnswers, KeepsAll, 
 ghost use Rattle.mica_client.specs.Exchange.{lacks_answer, start, standing_at, SpellsAnswers, IsUnread, AnswersBatch, IsCauseOf, MeansForAsk, Receives, StopsReading, StopsOne, Asks, StopsAsking, AsksAll, IsOfReading, is_lost};
 
 use crate::answers::{is_answered, report_of, take_replies, unanswered};
-use crate::batches::{Group, groups_of};
+use crate::batches::groups_of;
+use crate::line_batch::{Group, LineBatch};
 use crate::link::Link;
 use crate::{AskFault, AskOptions, VERSION};
-use batch_packets::{Batch, BatchFault, MAX_DATAGRAM_LEN_V2, Replies, read_replies, write_batch};
+use batch_packets::{BatchFault, MAX_DATAGRAM_LEN_V2, Replies, read_replies};
 use mica_io::NoMemory;
 use mica_trace::{Line, Report, Trace};
 use std::alloc::Global;
@@ -25,14 +26,13 @@ use std::alloc::Global;
 pub const ROOM: usize = MAX_DATAGRAM_LEN_V2 + 1;
 
 // Whether some request of the batch has no answer.
-fn lacks_answer(batch: &Batch, answers: &[Option<Line>]) -> bool
+fn lacks_answer(batch: &LineBatch, answers: &[Option<Line>]) -> bool
     ensures { result ≡ lacks_answer answers.now batch.now.requests }
 {
     batch
-        .requests
-        .as_slice()
+        .requests()
         .iter()
-        .any(|request| !is_answered(answers, request.ticket))
+        .any(|request| !is_answered(answers, request.ticket()))
 }
 
 // The replies whose text the bytes are, or why there are none.
@@ -77,7 +77,7 @@ fn receive<L: Link>(alloc: Global, link: &mut L, room: &mut [u8]) -> Result<Repl
 fn receive_one<L: Link>(
     alloc: Global,
     link: &mut L,
-    batch: &Batch,
+    batch: &LineBatch,
     answers: &mut Vec<Option<Line>>,
     room: &mut [u8],
 ) -> Result<(), AskFault>
@@ -109,13 +109,14 @@ fn receive_one<L: Link>(
     }
 }
 
-// Sends one batch, and receives until each of its requests is answered.
+// Sends one batch, and receives until each of its requests is answered. `text` is where it is written.
 fn ask_one<L: Link>(
     alloc: Global,
     link: &mut L,
     port: u16,
-    batch: &Batch,
+    batch: &LineBatch,
     answers: &mut Vec<Option<Line>>,
+    text: &mut Vec<u8>,
     room: &mut [u8],
 ) -> Result<(), AskFault>
     requires batch { IsBatch batch.now }
@@ -131,8 +132,8 @@ fn ask_one<L: Link>(
     ensures never_fall { L.faults link.old ≤ L.faults link.new }
     ensures ended { L.has_ended link.new ≡ (is_lost result || L.has_ended link.old) }
 {
-    let datagram = write_batch(alloc, batch)?;
-    link.send(port, datagram.bytes())?;
+    batch.write(text)?;
+    link.send(port, text.as_slice())?;
     'receiving: while lacks_answer(batch, answers.as_slice()) {
         match receive_one(alloc, link, batch, answers, room) {
             Ok(()) => {}
@@ -152,25 +153,23 @@ fn ask_all<L: Link>(
     requires batches { (n : ℕ) → AllByRecursion (λ group. IsBatch (record { version = VERSION; number = n; requests = group.requests })) groups.items }
     requires tickets { AllByRecursion (λ group. HasTickets (length answers.old.items) group.requests) groups.items }
     requires few { length groups.items < 4294967295 }
-    ensures asks { OnOk result (OnTalk (Passes (AsksAll (numbered 0 groups.items) answers.old.items answers.new.items))
+    ensures asks { OnOk result (OnTalk (Passes (AsksAll (numbered 0 groups.entry.items) answers.old.items answers.new.items))
         (L.talk link.old) (L.talk link.new)) }
-    ensures answered { OnOk result (AllByRecursion (λ group. lacks_answer answers.new.items group.requests ≡ false) groups.items) }
-    ensures keeps { OnOk result (KeepsAll groups.items answers.old.items answers.new.items) }
-    ensures stops { IfErr result (λ fault. OnTalk (Passes (IsCauseOf fault (standing_at (numbered 0 groups.items) None answers.old.items)))
+    ensures answered { OnOk result (AllByRecursion (λ group. lacks_answer answers.new.items group.requests ≡ false) groups.entry.items) }
+    ensures keeps { OnOk result (KeepsAll groups.entry.items answers.old.items answers.new.items) }
+    ensures stops { IfErr result (λ fault. OnTalk (Passes (IsCauseOf fault (standing_at (numbered 0 groups.entry.items) None answers.old.items)))
         (L.talk link.old) (L.talk link.new)) }
     ensures cause { IsErrOf result AskFault.Link → Rose (L.faults link.old) (L.faults link.new) }
     ensures never_fall { L.faults link.old ≤ L.faults link.new }
     ensures ended { L.has_ended link.new ≡ (is_lost result || L.has_ended link.old) }
 {
+    let mut text = Vec::new(alloc);
     let mut room = [0; ROOM];
     let mut number = 0;
     for group in groups {
-        let batch = Batch {
-            version: VERSION,
-            number,
-            requests: group.requests,
-        };
-        match ask_one(alloc, link, group.port, &batch, answers, &mut room) {
+        let port = group.port();
+        let batch = group.into_batch(number);
+        match ask_one(alloc, link, port, &batch, answers, &mut text, &mut room) {
             Ok(()) => number += 1,
             Err(fault) => return Err(fault),
         }

@@ -20,9 +20,11 @@ mod batches;
 mod exchange;
 mod fault;
 mod laws;
+mod line_batch;
 mod link;
 mod memory_link;
 mod options;
+mod share;
 mod udp_link;
 
 pub use exchange::ask;

@@ -1,15 +1,18 @@
-use Rattle.std.proofs.Common.{◌∙◌, sym}
-use Rattle.mica_client.proofs.Cutting.{sync_within, round_more, round_last}
+use Rattle.std.proofs.Common.{◌≡◌, [], List, drop, subst, arith}
+use Rattle.std.proofs.lemmas.List.{drop_all}
+use Rattle.mica_trace.specs.declared.line.TraceLine.{TraceLine}
+use Rattle.mica_client.specs.Batches.{groups_of}
+use Rattle.mica_client.specs.Cutting.{IsCutting}
+use Rattle.mica_client.proofs.Cutting.{all_taken}
 use Rattle.mica_client.proofs.batches.groups_of.Goals as goal
-
-pub loop-len-preserved : goal.loop-len-preserved
-loop-len-preserved c =
-    let place = sym c.first_sync.ensures ∙ c.in-Some.is in
-    record {
-      within = sync_within c.args.lines.now c.loop-len.first c.in-Some.len place;
-      so_far = round_more c.args.options.now c.args.lines.now _ c.loop-len.groups.items _ c.loop-len.first c.in-Some.len place c.loop-len.invariant.so_far c.in_ok-push_round.ensures;
-    }
 
 pub returns : goal.returns
 returns c =
-    round_last c.args.options.now c.args.lines.now _ c.loop-len.groups.items _ c.loop-len.first (sym c.first_sync.ensures ∙ c.in_default.is) c.loop-len.invariant.so_far c.in_ok-push_round-2.ensures
+    let options = c.args.options.now in
+    let lines = c.args.lines.now in
+    let n = c.loop-number.number in
+    let groups = c.loop-number.groups.items in
+    let shares = c.loop-number.shares.items in
+    let none : drop n lines ≡ [] = drop_all n lines (omega (arith, c.loop-number-test.false)) in
+    all_taken options n groups c.push_round.new.groups.items (groups_of options lines) shares c.loop-number.invariant.many c.in_ok-push_round.ensures
+    (subst (λ (later : List TraceLine). IsCutting options n later groups shares (groups_of options lines)) none c.loop-number.invariant.cut)

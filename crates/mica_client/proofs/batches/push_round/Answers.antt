@@ -1,7 +1,16 @@
-use Rattle.mica_client.proofs.Cutting.{partition_more}
-use Rattle.mica_client.specs.Batches.{requests_from}
+use Rattle.std.proofs.Common.{[], ◌++◌, List, sym, ap, ◌∙◌, append_assoc}
+use Rattle.std.specs.Prelude.{flat_map}
+use Rattle.std.specs.Vec.Iter.{into_iter_items}
+use Rattle.mica_client.specs.declared.share.Share.{Share}
+use Rattle.mica_client.specs.Batches.{Group}
+use Rattle.mica_client.specs.Cutting.{share_with}
 use Rattle.mica_client.proofs.batches.push_round.Goals as goal
 
-pub loop-partition-preserved : goal.loop-partition-preserved
-loop-partition-preserved c =
-    partition_more c.args.options.now (requests_from c.args.first c.args.lines.now) c.args.groups.now.items c.loop-partition.groups.items c.push_partition.new.groups.items c.loop-partition.partition c.loop-partition.invariant c.in_ok-push_partition.ensures
+pub loop-share-preserved : goal.loop-share-preserved
+loop-share-preserved c =
+    let batches = λ (share : Share). share_with c.args.per share [] in
+    let rest = flat_map batches (into_iter_items c.next.new.self) in
+    ap (λ (l : List Group). l ++ rest) (c.in_ok-finish.ensures c.args.per)
+    ∙ append_assoc c.loop-share.groups.items (batches c.in-Some.share) rest
+    ∙ ap (λ (l : List Share). c.loop-share.groups.items ++ flat_map batches l) (sym c.in-Some.ensures.steps.0)
+    ∙ c.loop-share.invariant

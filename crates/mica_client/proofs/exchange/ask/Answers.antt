@@ -3,11 +3,10 @@ use Rattle.std.specs.List.{AllByRecursion, AllZip}
 use Rattle.mica_trace.specs.declared.line.TraceLine.{TraceLine}
 use Rattle.mica_trace.specs.TraceGrammar.{IsTraceLine}
 use Rattle.mica_trace.specs.LawfulReport.{IsLineFor}
-use Rattle.mica_client.specs.declared.batches.Group.{Group}
-use Rattle.mica_client.specs.Batches.{groups_of}
+use Rattle.mica_client.specs.Batches.{Group, groups_of}
 use Rattle.mica_client.specs.Answers.{Answers, KeepsAll}
 use Rattle.mica_client.proofs.Asking.{AreBatches, HaveTickets, Answered}
-use Rattle.mica_client.proofs.Cutting.{few_groups}
+use Rattle.mica_client.proofs.Fitting.{few_groups}
 use Rattle.mica_client.proofs.Whole.{are_batches, have_tickets, all_known, report_lines}
 use Rattle.std.proofs.lemmas.List.{length-map}
 use Rattle.mica_client.proofs.exchange.ask.Goals as goal

@@ -1,9 +1,8 @@
-use Rattle.std.proofs.Common.{◌≡◌, ◌∙◌, true, arith, length, ap, sym, ℕ, List}
-use Rattle.mica_client.specs.Answers.{Answers}
+use Rattle.std.proofs.Common.{◌≡◌, ◌∙◌, true, arith, rules, length, ap, sym, ℕ, List}
 use Rattle.mica_client.specs.Exchange.{lacks_answer}
 use Rattle.mica_client.proofs.Running.{asks_more, asks_stop}
 use Rattle.mica_client.proofs.Taking.{keeps_both, same_tickets}
-use Rattle.mica_client.proofs.Cutting.{batch_some}
+use Rattle.mica_client.proofs.Fitting.{batch_some}
 use Rattle.mica_client.proofs.exchange.ask_one.Goals as goal
 
 pub receiving-preserved : goal.receiving-preserved
@@ -21,12 +20,11 @@ receiving-preserved g c =
 
 pub returns-in-Err-clause-stops : goal.returns-in-Err-clause-stops
 returns-in-Err-clause-stops g c =
-    let waited : lacks_answer c.receiving.answers.items c.args.batch.now.requests ≡ true =
-    ap (λ (a : Answers). lacks_answer a c.args.batch.now.requests) (sym c.as_slice.ensures.value) ∙ sym c.lacks_answer.ensures ∙ c.receiving-test.true in
+    let waited : lacks_answer c.receiving.answers.items c.args.batch.now.requests ≡ true = search rules in
     asks_stop (record { port = c.args.port; batch = c.args.batch.now }) c.args.answers.now.items c.receiving.answers.items waited _ _ _ _ c.receiving.invariant.asks c.in-Err.ensures.stops
 
 pub send-requires : goal.send-requires
 send-requires g c =
-    let text = c.bytes.ensures ∙ c.in_ok-datagram.ensures in
+    let text = c.as_slice.ensures.value ∙ c.in_ok-write.ensures in
     let some = batch_some c.args.batch.now in
     omega (arith, ap (λ (b : List ℕ). length b) text, some)
