@@ -19,7 +19,7 @@ pub(crate) fn open_queues<P: Drop>(
     let mut senders = Vec::with_capacity(alloc, owners.len())?;
     for p in 0..owners.len() {
         let owner = &mut owners[p];
-        let (mut own, receiver) = job_queue(alloc, 1, owner.writes.len() as u32)?;
+        let (mut own, receiver) = job_queue(alloc, 1, owner.writes.len() as u64)?;
         let Some(sender) = own.list.pop() else {
             unreachable!()
         };
