@@ -1,5 +1,5 @@
 -- How the command `unpack` keeps its promises.
-use Rattle.std.proofs.Common.{◌≡◌, ◌≢◌, inl, inr, ℕ, List, Some, Result, Ok, Err, refl}
+use Rattle.std.proofs.Common.{◌≡◌, ◌≢◌, ◌⊎◌, inl, inr, ℕ, List, Some, Result, Ok, Err, refl}
 use Rattle.std.specs.Prelude.{IfOk}
 use Rattle.mica_io.specs.declared.fault.NoMemory.{NoMemory as OutOfMemory}
 use Rattle.partition_model.specs.declared.options.Options.{Options}
@@ -7,10 +7,9 @@ use Rattle.mica_trace.specs.declared.line.TraceLine.{TraceLine}
 use Rattle.mica_trace.specs.TraceGrammar.{trace_text}
 use Rattle.store_image.specs.declared.made.Imaged.{Imaged}
 use Rattle.store_image.specs.ImageOf.{IsImaged}
-use Rattle.store_image.specs.declared.image.Pair.{Pair}
 use Rattle.store_image.specs.declared.fault.ImageFault.{ImageFault}
-use Rattle.store_image.specs.declared.fault.ImageFault.TheVariants.{Short, Magic, Version, Length, Order, Text, Trailing, NoMemory as NoSpace}
-use Rattle.store_image.specs.ImageGrammar.{SpellsImage, image_text, IsFirst, first_fault, fault_name}
+use Rattle.store_image.specs.declared.fault.ImageFault.TheVariants.{NoMemory as NoSpace}
+use Rattle.store_image.specs.ImageGrammar.{Pair, SpellsImage, image_text, first_fault, fault_name}
 use Rattle.store_image.specs.ImageLines.{put_lines}
 use Rattle.mica_cmd.specs.declared.status.Status.{Status}
 use Rattle.mica_cmd.specs.declared.status.Status.TheVariants.{Done, ImageRefused}
@@ -27,23 +26,17 @@ pub image_made : (options : Options) (trace : List TraceLine) (imaged : Imaged) 
 image_made options trace imaged (Ok text) is spelled = (imaged, is, spelled)
 image_made options trace imaged (Err e) is spelled = tt
 
--- a fault that comes first has its place in the bytes, but for want of memory
-first_is : (bytes : List ℕ) (fault : ImageFault) → IsFirst (first_fault bytes) fault → fault ≢ NoSpace → first_fault bytes ≡ Some fault
-first_is bytes NoSpace first named = absurd (named refl)
-first_is bytes Short first named = first
-first_is bytes Magic first named = first
-first_is bytes Version first named = first
-first_is bytes Length first named = first
-first_is bytes Order first named = first
-first_is bytes Text first named = first
-first_is bytes Trailing first named = first
+-- a fault that is not want of memory is the first one
+first_is : (bytes : List ℕ) (fault : ImageFault) → (fault ≡ NoSpace) ⊎ (first_fault bytes ≡ Some fault) → fault ≢ NoSpace → first_fault bytes ≡ Some fault
+first_is bytes fault (inl memory) named = absurd (named memory)
+first_is bytes fault (inr first) named = first
 
 module _ (old new : SourceFacts) (before after : SinkFacts) (result : Status) (bytes : List ℕ) where
   pub pairs_due : (pairs : List Pair) → ReadsWhole old new bytes → SpellsImage bytes pairs → IsTold Done (trace_text (put_lines pairs)) before after result
       → WritesDue (IsDueOfInput IsDueOfUnpack old new) before after result
   pairs_due pairs read is told = told_due (IsDueOfInput IsDueOfUnpack old new) before after Done (trace_text (put_lines pairs)) result (bytes, read, (pairs, is, refl)) told
 
-  pub image_refused_due : (fault : ImageFault) → ReadsWhole old new bytes → IsFirst (first_fault bytes) fault → IsRefusedImage fault before after result
+  pub image_refused_due : (fault : ImageFault) → ReadsWhole old new bytes → (fault ≡ NoSpace) ⊎ (first_fault bytes ≡ Some fault) → IsRefusedImage fault before after result
       → WritesDue (IsDueOfInput IsDueOfUnpack old new) before after result
   image_refused_due fault read first either = elim either as (λ _. WritesDue (IsDueOfInput IsDueOfUnpack old new) before after result) [
     | inl memory ↦ inl memory

@@ -9,9 +9,8 @@ use Rattle.mica_serve.specs.declared.ports.Ports.{Ports}
 use Rattle.mica_serve.specs.Served.{BeginsPorts}
 use Rattle.mica_serve.specs.NetRun.{NetFacts, OnPorts, ReleasesAll}
 use Rattle.mica_client.specs.declared.options.AskOptions.{AskOptions}
-use Rattle.store_image.specs.declared.image.Pair.{Pair}
 use Rattle.store_image.specs.declared.fault.ImageFault.{ImageFault}
-use Rattle.store_image.specs.ImageGrammar.{SpellsImage, first_fault}
+use Rattle.store_image.specs.ImageGrammar.{Pair, SpellsImage, first_fault}
 use Rattle.store_image.proofs.Faultless.{image_has_no_fault}
 use Rattle.mica_commands.specs.declared.command.Command.{Command}
 use Rattle.mica_commands.specs.declared.command.Command.TheVariants.{Replay, Serve, Gen, Bench, Check, Exclusive, Ask, Image, Unpack}

@@ -16,11 +16,10 @@ use Rattle.mica_client.specs.declared.fault.AskFault.TheVariants.{Link, NoMemory
 use Rattle.mica_client.specs.Talk.{OnTalk, Passes}
 use Rattle.mica_client.specs.Exchange.{MeansForAsk, start, is_lost_fault}
 use Rattle.mica_client.specs.FaultText.{ask_fault_text}
-use Rattle.store_image.specs.declared.image.Pair.{Pair}
 use Rattle.store_image.specs.declared.made.Imaged.{Imaged}
 use Rattle.store_image.specs.declared.fault.ImageFault.{ImageFault}
 use Rattle.store_image.specs.declared.fault.ImageFault.TheVariants.{NoMemory as NoSpace}
-use Rattle.store_image.specs.ImageGrammar.{SpellsImage, image_text, first_fault, fault_name}
+use Rattle.store_image.specs.ImageGrammar.{Pair, SpellsImage, image_text, first_fault, fault_name}
 use Rattle.store_image.specs.ImageLines.{put_lines}
 use Rattle.store_image.specs.ImageOf.{IsImaged}
 use Rattle.mica_replay.specs.Replayed.{IsReplayed}

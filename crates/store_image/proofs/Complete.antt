@@ -1,24 +1,22 @@
 -- Bytes without a fault are the text of an image.
-use Rattle.std.proofs.Common.{◌≡◌, ℕ, zero, suc, ◌+◌, ◌-◌, ◌^◌, ◌<◌, ◌≤◌, Bool, true, false, not, ltb, eqb, cond, List, [], ◌∷◌, ◌++◌, length, take, drop, Option, Some, None, refl, sym, ap, ◌∙◌, subst, arith, append_assoc, get_or}
-use Rattle.std.specs.Prelude.{nat_lt, nat_eq, ◌==◌, ◌||◌, ◌&&◌, slice_index}
+use Rattle.std.proofs.Common.{◌≡◌, ℕ, zero, suc, ◌+◌, ◌-◌, ◌^◌, ◌<◌, ◌≤◌, Bool, true, false, not, cond, List, [], ◌∷◌, ◌++◌, length, take, drop, Option, Some, None, refl, sym, ap, ◌∙◌, subst, arith, append_assoc, get_or}
+use Rattle.std.specs.Prelude.{nat_eq, ◌==◌, ◌||◌, ◌&&◌, slice_index}
 use Rattle.std.specs.Int.{w16, w32, from_le_bytes, to_le_bytes}
 use Rattle.std.specs.List.{flat_map, AllByRecursion, starts_with}
 use Rattle.std.proofs.lemmas.Bool.{ltb-false, eqb-false, eqb-true, true≢false}
 use Rattle.std.proofs.lemmas.Nat.{le_bytes_2, le_bytes_4}
 use Rattle.std.proofs.lemmas.Slice.Eq.{bytes_eq-Decides}
-use Rattle.std.proofs.lemmas.List.{length-take-le, take-append-drop, drop-drop, get_or-drop, length-drop, length_push}
-use Rattle.list_laws.proofs.AllElements.{all_push}
+use Rattle.std.proofs.lemmas.List.{length-take-le, take-append-drop, drop-drop, get_or-drop, length-drop}
 use Rattle.mica_words.specs.Packing.{AreBytes}
 use Rattle.mica_words.specs.Item.{KeyFits, ValueFits}
 use Rattle.mica_words.specs.declared.item.TheConstants.{MAX_VALUE_LEN}
 use Rattle.store_image.specs.declared.fault.ImageFault.{ImageFault}
-use Rattle.store_image.specs.declared.image.Pair.{Pair}
 use Rattle.store_image.specs.declared.image.TheConstants.{MAGIC, VERSION}
-use Rattle.store_image.specs.ImageGrammar.{IsPair, KeysRise, SpellsImage, or_later, header_text, header_fault, pair_text, image_text, key_len_at, value_len_at, pair_len_at, key_at, value_at, count_at, are_between, is_above, last_key, lengths_fault, texts_fault, pair_fault, pairs_fault, first_fault}
-use Rattle.store_image.proofs.PairLaws.{pair_in}
-use Rattle.store_image.proofs.Rising.{none_rise, rises_more, last_more}
+use Rattle.store_image.specs.ImageGrammar.{IsPair, SpellsImage, or_later, header_text, pair_text, image_text, key_len_at, value_len_at, pair_len_at, key_at, value_at, pair_at, after_pair, count_at, are_between, is_above, lengths_fault, texts_fault, pair_fault, pairs_fault, first_fault}
+use Rattle.store_image.specs.ImageTexts.{pairs_in, AreTexts}
+use Rattle.store_image.proofs.PairLaws.{length-pairs_in}
+use Rattle.store_image.proofs.Rising.{RiseAfter, keys_rise}
 use Rattle.store_image.proofs.Texts.{both, between_all}
-use Rattle.store_image.proofs.Walk.{texts_more, spelled}
 
 -- no fault of two is none of each
 neither : (first later : Option ImageFault) → or_later first later ≡ None → (first ≡ None) × (later ≡ None)
@@ -64,7 +62,7 @@ module _ (bytes : List ℕ) (are : AreBytes bytes) (none : lengths_fault bytes �
 
 -- its text
 text_by : (b v0 v1 : ℕ) (texts : List ℕ) → AreBytes (b ∷ v0 ∷ v1 ∷ texts) → pair_len_at (b ∷ v0 ∷ v1 ∷ texts) ≤ length (b ∷ v0 ∷ v1 ∷ texts)
-    → b ∷ v0 ∷ v1 ∷ texts ≡ pair_text (pair_in (b ∷ v0 ∷ v1 ∷ texts)) ++ drop (pair_len_at (b ∷ v0 ∷ v1 ∷ texts)) (b ∷ v0 ∷ v1 ∷ texts)
+    → b ∷ v0 ∷ v1 ∷ texts ≡ pair_text (pair_at (b ∷ v0 ∷ v1 ∷ texts)) ++ after_pair (b ∷ v0 ∷ v1 ∷ texts)
 unfolding pair_text
 text_by b v0 v1 texts are long =
     let bytes = b ∷ v0 ∷ v1 ∷ texts in
@@ -92,14 +90,14 @@ text_by b v0 v1 texts are long =
     below (suc zero) = are 2
     below (suc (suc i)) = omega arith
 
-text_is : (bytes : List ℕ) → AreBytes bytes → 3 ≤ length bytes → pair_len_at bytes ≤ length bytes → bytes ≡ pair_text (pair_in bytes) ++ drop (pair_len_at bytes) bytes
+text_is : (bytes : List ℕ) → AreBytes bytes → 3 ≤ length bytes → pair_len_at bytes ≤ length bytes → bytes ≡ pair_text (pair_at bytes) ++ after_pair bytes
 text_is [] are some long = absurd (omega arith)
 text_is (b ∷ []) are some long = absurd (omega arith)
 text_is (b ∷ v0 ∷ []) are some long = absurd (omega arith)
 text_is (b ∷ v0 ∷ v1 ∷ texts) are some long = text_by b v0 v1 texts are long
 
-module _ (last : Option (List ℕ)) (bytes : List ℕ) (are : AreBytes bytes) (none : pair_fault last bytes ≡ None) where
-  parts : (lengths_fault bytes ≡ None) × (texts_fault last (key_at bytes) (value_at bytes) ≡ None)
+module _ (last bytes : List ℕ) (are : AreBytes bytes) (none : pair_fault last bytes ≡ None) where
+  parts : (lengths_fault bytes ≡ None) × (texts_fault last (pair_at bytes) ≡ None)
   parts = neither _ _ none
 
   order : ((are_between 33 126 (key_at bytes) && are_between 32 126 (value_at bytes)) ≡ true) × (is_above last (key_at bytes) ≡ true)
@@ -108,7 +106,7 @@ module _ (last : Option (List ℕ)) (bytes : List ℕ) (are : AreBytes bytes) (n
       let two = passed _ _ _ one.1 in
       (is_not _ one.0, is_not _ two.0)
 
-  pub pair_fits : IsPair (pair_in bytes)
+  pub pair_fits : IsPair (pair_at bytes)
   pair_fits =
       let lengths = lengths_are bytes are parts.0 in
       let good : (are_between 33 126 (key_at bytes) ≡ true) × (are_between 32 126 (value_at bytes) ≡ true) = both _ _ order.0 in
@@ -121,37 +119,28 @@ module _ (last : Option (List ℕ)) (bytes : List ℕ) (are : AreBytes bytes) (n
       let value_fits : ValueFits (value_at bytes) = omega (arith, lengths.2) in
       ((key_fits, between_all 33 126 (key_at bytes) good.0), (value_fits, between_all 32 126 (value_at bytes) good.1))
 
-  pub pair_there : bytes ≡ pair_text (pair_in bytes) ++ drop (pair_len_at bytes) bytes
+  pub pair_there : bytes ≡ pair_text (pair_at bytes) ++ after_pair bytes
   pair_there = let lengths = lengths_are bytes are parts.0 in text_is bytes are lengths.0 lengths.3
 
   pub above : is_above last (key_at bytes) ≡ true
   above = order.1
 
--- so many pairs without a fault behind others
-image_of_rest : (count : ℕ) (pairs : List Pair) (from rest : List ℕ) → AreBytes rest → AllByRecursion IsPair pairs → KeysRise pairs → length pairs + count < 2 ^ 32
-    → from ≡ header_text (length pairs + count) ++ (flat_map pair_text pairs ++ rest) → pairs_fault (last_key pairs) count rest ≡ None → (all : List Pair) × SpellsImage from all
-unfolding pairs_fault
-image_of_rest zero pairs from rest are each rise few is none =
-    let end = passed _ _ _ none in
-    let empty : length rest ≡ 0 = let no = ltb-false 0 (length rest) end.0 in omega arith in (
-      pairs,
-      record {
-        image = record { each = each; rise = rise; few = omega arith };
-        text = spelled from (length pairs + 0) pairs rest is empty (omega arith);
-      },
+-- so many pairs without a fault
+texts_are : (last : List ℕ) (count : ℕ) (bytes : List ℕ) → AreBytes bytes → pairs_fault last count bytes ≡ None
+    → AllByRecursion IsPair (pairs_in count bytes) × RiseAfter last (pairs_in count bytes) × (bytes ≡ flat_map pair_text (pairs_in count bytes))
+unfolding pairs_fault pairs_in
+texts_are last zero bytes are none = (tt, tt, none_left bytes (ltb-false 0 (length bytes) (passed _ _ _ none).0))
+  where
+    none_left : (bytes : List ℕ) → length bytes ≤ 0 → bytes ≡ []
+    none_left [] few = refl
+    none_left (b ∷ bytes) few = absurd (omega arith)
+texts_are last (suc count) bytes are none =
+    let parts : (pair_fault last bytes ≡ None) × (pairs_fault (key_at bytes) count (after_pair bytes) ≡ None) = neither _ _ none in
+    let left = texts_are (key_at bytes) count (after_pair bytes) (bytes_left (pair_len_at bytes) bytes are) parts.1 in (
+      (pair_fits last bytes are parts.0, left.0),
+      (above last bytes are parts.0, left.1),
+      pair_there last bytes are parts.0 ∙ ap (λ (t : List ℕ). pair_text (pair_at bytes) ++ t) left.2,
     )
-image_of_rest (suc count) pairs from rest are each rise few is none =
-    let parts : (pair_fault (last_key pairs) rest ≡ None) × (pairs_fault (Some (key_at rest)) count (drop (pair_len_at rest) rest) ≡ None) = neither _ _ none in
-    let pair = pair_in rest in
-    let after = drop (pair_len_at rest) rest in
-    let long = length_push pairs pair in
-    let number : length pairs + suc count ≡ length (pairs ++ pair ∷ []) + count = omega arith in
-    image_of_rest count (pairs ++ pair ∷ []) from after (bytes_left (pair_len_at rest) rest are)
-    (all_push IsPair pairs pair each (pair_fits (last_key pairs) rest are parts.0)) (rises_more pairs pair rise (above (last_key pairs) rest are parts.0)) (omega arith)
-    (is ∙ ap (λ (n : ℕ). header_text n ++ (flat_map pair_text pairs ++ rest)) number
-    ∙ ap (λ (t : List ℕ). header_text (length (pairs ++ pair ∷ []) + count) ++ t)
-    (texts_more pairs pair (flat_map pair_text pairs ++ rest) rest after refl (pair_there (last_key pairs) rest are parts.0)))
-    (ap (λ (o : Option (List ℕ)). pairs_fault o count after) (last_more pairs pair) ∙ parts.1)
 
 -- The header
 
@@ -187,15 +176,27 @@ few_counted bytes are =
     let b3 = a 3 in
     omega arith
 
-pub faultless_is_image : (bytes : List ℕ) → AreBytes bytes → first_fault bytes ≡ None → (pairs : List Pair) × SpellsImage bytes pairs
-unfolding first_fault
-faultless_is_image bytes are none =
-    let parts = neither _ _ none in
-    let one = passed _ _ _ parts.0 in
-    let two = passed _ _ _ one.1 in
-    let three = passed _ _ _ two.1 in
-    let is = header_is bytes are (ltb-false (length bytes) 9 one.0) (is_not _ two.0) (is_not _ three.0) in
-    let few = few_counted bytes are in
-    let same : count_at bytes ≡ length {A = Pair} [] + count_at bytes = omega arith in
-    image_of_rest (count_at bytes) [] bytes (drop 9 bytes) (bytes_left 9 bytes are) tt none_rise (omega arith)
-    (is ∙ ap (λ (n : ℕ). header_text n ++ drop 9 bytes) same) parts.1
+module _ (bytes : List ℕ) (are : AreBytes bytes) (none : first_fault bytes ≡ None) where
+  -- what is behind the header of bytes without a fault
+  pub faultless_texts : AreTexts (count_at bytes) (drop 9 bytes)
+  unfolding first_fault
+  faultless_texts =
+      let is = texts_are [] (count_at bytes) (drop 9 bytes) (bytes_left 9 bytes are) (neither _ _ none).1 in
+      let few = few_counted bytes are in
+      record {
+        image = record { each = is.0; rise = keys_rise [] _ is.1; few = omega (arith, length-pairs_in (count_at bytes) (drop 9 bytes)) };
+        texts = is.2;
+      }
+
+  pub faultless_spells : SpellsImage bytes (pairs_in (count_at bytes) (drop 9 bytes))
+  unfolding first_fault image_text
+  faultless_spells =
+      let one = passed _ _ _ (neither _ _ none).0 in
+      let two = passed _ _ _ one.1 in
+      let three = passed _ _ _ two.1 in
+      let is = header_is bytes are (ltb-false (length bytes) 9 one.0) (is_not _ two.0) (is_not _ three.0) in
+      let count = length-pairs_in (count_at bytes) (drop 9 bytes) in
+      record {
+        image = faultless_texts.image;
+        text = is ∙ ap (λ (n : ℕ). header_text n ++ drop 9 bytes) (sym count) ∙ ap (λ (t : List ℕ). header_text (length (pairs_in (count_at bytes) (drop 9 bytes))) ++ t) faultless_texts.texts;
+      }

@@ -8,8 +8,7 @@ use Rattle.std.specs.Ordering.{nat_cmp}
 use Rattle.std.specs.Cmp.Lexicographic.{slice_cmp}
 use Rattle.std.proofs.lemmas.Slice.Eq.{bytes_eq-Decides}
 use Rattle.std.proofs.lemmas.List.Kept.{IsStrictlySortedBy-filter}
-use Rattle.store_image.specs.declared.image.Pair.{Pair}
-use Rattle.store_image.specs.ImageGrammar.{key_of, KeysRise}
+use Rattle.store_image.specs.ImageGrammar.{Pair, key_of, KeysRise}
 use Rattle.store_image.specs.PutKeys.{has_key, pair_by, pairs_by}
 use Rattle.store_image.specs.ImageOf.{value_in}
 

@@ -1,15 +1,15 @@
 -- What partitions answer to the keys that a trace puts, once they have answered its lines.
-use Rattle.std.proofs.Common.{◌≡◌, ℕ, zero, suc, ◌+◌, ◌<◌, ◌≤◌, ◌^◌, true, false, List, [], ◌∷◌, ◌++◌, length, map, take, get_or, Option, Some, None, refl, sym, ap, ◌∙◌, subst, arith, slice_get}
+use Rattle.std.proofs.Common.{◌≡◌, ℕ, zero, suc, ◌+◌, ◌<◌, ◌≤◌, ◌^◌, true, false, List, [], ◌∷◌, ◌++◌, length, map, drop, get_or, Option, Some, None, refl, sym, ap, ◌∙◌, arith, add-one, slice_get}
 use Rattle.std.specs.Prelude.{option_map, option_and_then}
 use Rattle.std.specs.List.{AllByRecursion, cons_option, filter_map}
 use Rattle.std.specs.List.Sorted.{IsStrictlySortedBy}
 use Rattle.std.specs.Ordering.{nat_cmp}
 use Rattle.std.specs.Cmp.Lexicographic.{slice_cmp}
-use Rattle.std.proofs.lemmas.List.{take_more, map-append, length-map}
-use Rattle.std.proofs.lemmas.List.Elements.{filter_map-append}
+use Rattle.std.proofs.lemmas.List.{length-map}
+use Rattle.std.proofs.Math.Seq.{drop-cons}
 use Rattle.std.proofs.lemmas.Option.{slice_get-map, slice_get-get_or}
-use Rattle.mica_words.specs.Hash.{partition_of}
-use Rattle.mica_words.proofs.Hashes.{partition_of-below}
+use Rattle.mica_words.specs.Hash.{fnv1a, hash_partition, partition_of}
+use Rattle.mica_words.proofs.Hashes.{partition_of_hash, partition_of-below}
 use Rattle.partition_model.specs.declared.options.Options.{Options}
 use Rattle.partition_model.specs.declared.options.Mode.TheVariants.{Store}
 use Rattle.partition_model.specs.Options.{IsValid}
@@ -25,7 +25,6 @@ use Rattle.epoch_core.specs.OwnerState.{options_in}
 use Rattle.epoch_core.specs.Shape.{shape_of, options_of}
 use Rattle.epoch_core.proofs.SameMachine.{same_state}
 use Rattle.line_replies.specs.Answered.{AreAnswered}
-use Rattle.store_image.specs.declared.image.Pair.{Pair}
 use Rattle.store_image.specs.ImageGrammar.{IsPair, IsImage}
 use Rattle.store_image.specs.PutKeys.{put_keys, has_key, pair_by, pairs_by}
 use Rattle.store_image.specs.Answers.{answer_in, value_at}
@@ -34,25 +33,37 @@ use Rattle.store_image.proofs.ImagePairs.{exactly, rising, each_pair}
 use Rattle.store_image.proofs.PutOnly.{none_left, none_written, not_put}
 
 -- the answer of a key's partition
-pub answered_at : {P : Type 0} (owner : P → OwnerState) (parts : List P) (at : ℕ) (part : P) (partitions : ℕ) (key : List ℕ) → at ≡ partition_of key partitions → at < length parts → part ≡ get_or parts at part
+answered_at : {P : Type 0} (owner : P → OwnerState) (parts : List P) (at : ℕ) (part : P) (partitions : ℕ) (key : List ℕ) → at ≡ partition_of key partitions → at < length parts → part ≡ get_or parts at part
     → value_at (map owner parts) partitions key ≡ answer_in key (owner part)
 answered_at owner parts at part partitions key number less is =
     ap (λ n. option_and_then (answer_in key) (slice_get (map owner parts) n)) (sym number)
     ∙ ap (option_and_then (answer_in key)) (slice_get-map owner parts at ∙ ap (option_map owner) (slice_get-get_or parts at part less))
     ∙ ap (λ x. answer_in key (owner x)) (sym is)
 
+module _ {P : Type 0} (owner : P → OwnerState) (initial parts : List P) (partitions at hash : ℕ) (key : List ℕ) (some : 0 < partitions) (many : length initial ≡ partitions) (same : map owner parts ≡ map owner initial)
+    (hashed : hash ≡ fnv1a key) (chosen : at ≡ hash_partition hash partitions) where
+  number : at ≡ partition_of key partitions
+  number = chosen ∙ ap (λ h. hash_partition h partitions) hashed ∙ sym (partition_of_hash key partitions)
+
+  pub part_there : at < length parts
+  part_there =
+      let low = partition_of-below key partitions some in
+      let is = number in
+      omega (arith, length-map parts owner, ap length same, length-map initial owner)
+
+  -- the answer of the partition that a key chooses
+  pub part_answers : (part : P) → part ≡ get_or parts at part → value_at (map owner initial) partitions key ≡ answer_in key (owner part)
+  part_answers part is = ap (λ os. value_at os partitions key) (sym same) ∙ answered_at owner parts at part partitions key number part_there is
+
 no_none : {X : Type 0} (xs : List X) (n : ℕ) → n < length xs → slice_get xs n ≡ None → ⊥
 no_none [] n less is = absurd (omega arith)
 no_none (x ∷ xs) zero less is = cc
 no_none (x ∷ xs) (suc n) less is = no_none xs n (omega arith) is
 
--- the pairs of one key more
-pub pairs_more : {X : Type 0} (value_of : List ℕ → Option (List ℕ)) (text : X → List ℕ) (xs : List X) (i : ℕ) (d : X) → i < length xs
-    → pairs_by value_of (map text (take (i + 1) xs)) ≡ pairs_by value_of (map text (take i xs)) ++ cons_option (pair_by value_of (text (get_or xs i d))) []
-pairs_more value_of text xs i d less =
-    ap (λ l. pairs_by value_of (map text l)) (take_more xs i d less)
-    ∙ ap (pairs_by value_of) (map-append text (take i xs) (get_or xs i d ∷ []))
-    ∙ filter_map-append (pair_by value_of) (map text (take i xs)) (text (get_or xs i d) ∷ [])
+-- the pairs of what is left of keys
+pub pairs_left : {X : Type 0} (value_of : List ℕ → Option (List ℕ)) (text : X → List ℕ) (xs : List X) (i : ℕ) (d : X) → i < length xs
+    → pairs_by value_of (map text (drop i xs)) ≡ cons_option (pair_by value_of (text (get_or xs i d))) (pairs_by value_of (map text (drop (i + 1) xs)))
+pairs_left value_of text xs i d less = rw (add-one, drop-cons xs i d) refl
 
 few_pairs : {X Y : Type 0} (h : X → Option Y) (xs : List X) → length (filter_map h xs) ≤ length xs
 few_pairs h [] = omega arith

@@ -1,11 +1,12 @@
 pub mod PairLaws
-pub mod Walk
-pub mod ImagePairs
-pub mod PutOnly
 pub mod Rising
 pub mod Texts
+pub mod Walk
 pub mod Faultless
+pub mod Complete
+pub mod PutLines
+pub mod ImagePairs
+pub mod PutOnly
 pub mod Keys
 pub mod Left
-pub mod Complete
 pub mod Unpacked

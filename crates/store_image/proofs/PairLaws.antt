@@ -1,17 +1,10 @@
 -- What the text of a pair tells of it, and that of an image of its pairs.
-use Rattle.std.proofs.Common.{◌≡◌, ℕ, zero, suc, ◌+◌, ◌*◌, ◌^◌, ◌<◌, ◌≤◌, true, false, ltb, leb, List, [], ◌∷◌, ◌++◌, length, take, drop, None, Option, Some, refl, sym, ap, ◌∙◌, arith, length-append, append_assoc}
-use Rattle.std.specs.Prelude.{nat_lt, nat_le, ◌==◌, ◌||◌, ◌&&◌, slice_index}
+use Rattle.std.proofs.Common.{◌≡◌, ℕ, zero, suc, ◌+◌, List, [], ◌∷◌, ◌++◌, length, take, drop, refl, sym, ap, ◌∙◌, subst, arith, length-append, append_assoc, append-nil}
 use Rattle.std.specs.List.{flat_map, AllByRecursion}
-use Rattle.std.specs.Int.{w16, w32, from_le_bytes, to_le_bytes}
-use Rattle.std.proofs.lemmas.Bool.{le-ltb, le-leb}
 use Rattle.std.proofs.lemmas.List.{take_at, drop_at}
-use Rattle.std.proofs.lemmas.Nat.{from_le_bytes-to_le_bytes_4, from_le_bytes-to_le_bytes_2}
-use Rattle.mica_words.specs.declared.item.TheConstants.{MAX_VALUE_LEN}
-use Rattle.store_image.specs.declared.image.Pair.{Pair}
-use Rattle.store_image.specs.ImageGrammar.{IsPair, IsImage, pair_text, image_text, SpellsImage, key_len_at, value_len_at, pair_len_at, key_at, value_at, count_at}
-
-abbrev pub pair_in : List ℕ → Pair
-pair_in bytes = record { key = key_at bytes; value = value_at bytes }
+use Rattle.std.proofs.lemmas.Nat.{from_le_bytes-to_le_bytes_4}
+use Rattle.store_image.specs.ImageGrammar.{Pair, IsPair, IsImage, pair_text, image_text, SpellsImage, key_len_at, value_len_at, pair_len_at, key_at, value_at, pair_at, after_pair, count_at}
+use Rattle.store_image.specs.ImageTexts.{pairs_in, AreTexts}
 
 pub key_len_is : (x : Pair) (rest : List ℕ) → key_len_at (pair_text x ++ rest) ≡ length x.key
 unfolding pair_text
@@ -43,36 +36,47 @@ value_is x rest is =
     let value : take (length x.value) (x.value ++ rest) ≡ x.value = take_at x.value rest (length x.value) refl in
     rw (key_len_is x rest, value_len_is x rest is, texts_are x rest, after_key) value
 
-pair_is : (x : Pair) (rest : List ℕ) → IsPair x → pair_in (pair_text x ++ rest) ≡ x
+pub pair_is : (x : Pair) (rest : List ℕ) → IsPair x → pair_at (pair_text x ++ rest) ≡ x
 pair_is x rest is = rw (key_is x rest, value_is x rest is) refl
 
--- as many pairs with one text are the same
-one_list : (xs ys : List Pair) → AllByRecursion IsPair xs → AllByRecursion IsPair ys → length xs ≡ length ys → flat_map pair_text xs ≡ flat_map pair_text ys → xs ≡ ys
-one_list [] [] p q len same = refl
-one_list [] (y ∷ ys) p q len same = absurd (omega arith)
-one_list (x ∷ xs) [] p q len same = absurd (omega arith)
-one_list (x ∷ xs) (y ∷ ys) p q len same =
-    let head : x ≡ y = sym (pair_is x (flat_map pair_text xs) p.0) ∙ ap pair_in same ∙ pair_is y (flat_map pair_text ys) q.0 in
-    let size : length (pair_text x) ≡ length (pair_text y) = sym (size x (flat_map pair_text xs) p.0) ∙ ap pair_len_at same ∙ size y (flat_map pair_text ys) q.0 in
-    let rest : flat_map pair_text xs ≡ flat_map pair_text ys
-    = sym (drop_at (pair_text x) (flat_map pair_text xs) (length (pair_text x)) refl) ∙ ap (drop (length (pair_text x))) same ∙ drop_at (pair_text y) (flat_map pair_text ys) (length (pair_text x)) (sym size) in
-    let tail = one_list xs ys p.1 q.1 (omega arith) rest in
-    ap (λ z. z ∷ xs) head ∙ ap (λ zs. y ∷ zs) tail
+pub behind : (x : Pair) (rest : List ℕ) → IsPair x → after_pair (pair_text x ++ rest) ≡ rest
+behind x rest is = drop_at (pair_text x) rest _ (sym (size x rest is))
 
-pub count_is : (pairs : List Pair) → length pairs < 2 ^ 32 → count_at (image_text pairs) ≡ length pairs
-unfolding image_text
-count_is pairs few = from_le_bytes-to_le_bytes_4 (length pairs) few
+-- the pairs of a text come back
+pub pairs_back : (pairs : List Pair) → AllByRecursion IsPair pairs → pairs_in (length pairs) (flat_map pair_text pairs) ≡ pairs
+unfolding pairs_in
+pairs_back [] all = refl
+pairs_back (x ∷ pairs) all =
+    let rest = flat_map pair_text pairs in
+    rw (pair_is x rest all.0, behind x rest all.0, pairs_back pairs all.1) refl
 
-pub texts_behind : (pairs : List Pair) → drop 9 (image_text pairs) ≡ flat_map pair_text pairs
+pub length-pairs_in : (count : ℕ) (bytes : List ℕ) → length (pairs_in count bytes) ≡ count
+unfolding pairs_in
+length-pairs_in zero bytes = refl
+length-pairs_in (suc count) bytes = ap suc (length-pairs_in count (after_pair bytes))
+
+-- bytes that spell an image say its pairs
+pub spelled_pairs : (text : List ℕ) (pairs : List Pair) → SpellsImage text pairs → pairs_in (count_at text) (drop 9 text) ≡ pairs
 unfolding image_text
-texts_behind pairs = refl
+spelled_pairs text pairs is =
+    ap (λ (t : List ℕ). pairs_in (count_at t) (drop 9 t)) is.text
+    ∙ ap (λ (n : ℕ). pairs_in n (flat_map pair_text pairs)) (from_le_bytes-to_le_bytes_4 (length pairs) is.image.few)
+    ∙ pairs_back pairs is.image.each
 
 pub one_image : (text : List ℕ) (a b : List Pair) → SpellsImage text a → SpellsImage text b → a ≡ b
-one_image text a b p q =
-    let same : image_text a ≡ image_text b = sym p.text ∙ q.text in
-    let count : length a ≡ length b = sym (count_is a p.image.few) ∙ ap count_at same ∙ count_is b q.image.few in
-    let texts : flat_map pair_text a ≡ flat_map pair_text b = sym (texts_behind a) ∙ ap (drop 9) same ∙ texts_behind b in
-    one_list a b p.image.each q.image.each count texts
+one_image text a b p q = sym (spelled_pairs text a p) ∙ spelled_pairs text b q
 
 pub one_text : (s t : List ℕ) (pairs : List Pair) → SpellsImage s pairs → SpellsImage t pairs → s ≡ t
 one_text s t pairs p q = p.text ∙ sym q.text
+
+-- the texts of an image's pairs are kept as such
+pub kept_texts : (count : ℕ) (texts : List ℕ) (pairs : List Pair) → IsImage pairs → count ≡ length pairs → texts ≡ flat_map pair_text pairs → AreTexts count texts × (pairs_in count texts ≡ pairs)
+kept_texts count texts pairs image many is =
+    let same : pairs_in count texts ≡ pairs = ap (λ (n : ℕ). pairs_in n texts) many ∙ ap (pairs_in (length pairs)) is ∙ pairs_back pairs image.each in
+    (record { image = subst IsImage (sym same) image; texts = is ∙ ap (flat_map pair_text) (sym same) }, same)
+
+-- and so are they once no pair is left
+pub kept_all : (count : ℕ) (texts : List ℕ) (left pairs : List Pair) → IsImage pairs → left ≡ [] → count + length left ≡ length pairs → texts ++ flat_map pair_text left ≡ flat_map pair_text pairs
+    → AreTexts count texts × (pairs_in count texts ≡ pairs)
+kept_all count texts left pairs image none many is =
+    kept_texts count texts pairs image (omega (arith, ap length none)) (sym (append-nil texts) ∙ ap (λ (ps : List Pair). texts ++ flat_map pair_text ps) (sym none) ∙ is)

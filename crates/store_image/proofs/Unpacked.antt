@@ -31,8 +31,7 @@ use Rattle.mica_trace.specs.declared.report.Line.TheVariants.{Wrote, Hit, Miss, 
 use Rattle.mica_trace.specs.Rounds.{is_in_partition}
 use Rattle.mica_trace.specs.LawfulReport.{IsLineFor, steps_of, step_by}
 use Rattle.mica_trace.specs.ExactReport.{ExactReport}
-use Rattle.store_image.specs.declared.image.Pair.{Pair}
-use Rattle.store_image.specs.ImageGrammar.{key_of, KeysRise, IsImage}
+use Rattle.store_image.specs.ImageGrammar.{Pair, key_of, KeysRise, IsImage}
 use Rattle.store_image.specs.ImageLines.{put_line, put_lines}
 use Rattle.store_image.specs.ImageOf.{value_in, value_after, HasPairsOf}
 use Rattle.store_image.specs.Unpacked.{IsAccepted, RefusesNothing}

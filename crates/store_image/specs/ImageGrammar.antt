@@ -1,5 +1,5 @@
 -- Images, by cases on bytes. Numbers are little endian.
-use Rattle.std.specs.Prelude.{◌≡◌, ◌+◌, ◌-◌, ◌^◌, ◌<◌, ◌==◌, ◌&&◌, ◌||◌, ℕ, zero, suc, Bool, true, not, List, [], ◌∷◌, ◌++◌, length, take, drop, map, slice_get, slice_index, option_map, nat_eq, nat_lt, nat_le, codes, Option, Some, None, Result, Ok, Err, if◌then◌else◌}
+use Rattle.std.specs.Prelude.{◌≡◌, ◌+◌, ◌^◌, ◌<◌, ◌==◌, ◌&&◌, ◌||◌, ℕ, zero, suc, Bool, not, List, [], ◌∷◌, ◌++◌, length, take, drop, map, slice_index, nat_eq, nat_lt, nat_le, codes, Option, Some, None, if◌then◌else◌}
 use Rattle.std.specs.Int.{w16, w32, to_le_bytes, from_le_bytes}
 use Rattle.std.specs.List.{AllByRecursion, flat_map, list_all, starts_with}
 use Rattle.std.specs.List.Sorted.{IsStrictlySortedBy}
@@ -9,10 +9,14 @@ use Rattle.mica_words.specs.declared.item.TheConstants.{MAX_VALUE_LEN}
 use Rattle.mica_trace.specs.TraceGrammar.{IsKey, IsValue}
 use Rattle.store_image.specs.declared.fault.ImageFault.{ImageFault}
 use Rattle.store_image.specs.declared.fault.ImageFault.TheVariants.{Short, Magic, Version, Length, Order, Text, Trailing, NoMemory}
-use Rattle.store_image.specs.declared.image.Pair.{Pair}
 use Rattle.store_image.specs.declared.image.TheConstants.{MAGIC, VERSION}
 
 -- Pairs
+
+-- a key with its value
+pub record Pair : Type 0 where
+  pub key : List ℕ
+  pub value : List ℕ
 
 abbrev pub key_of : Pair → List ℕ
 key_of pair = pair.key
@@ -49,25 +53,7 @@ pub record SpellsImage (bytes : List ℕ) (pairs : List Pair) : Type 0 where
   pub image : IsImage pairs
   pub text : bytes ≡ image_text pairs
 
--- The first fault
-
--- the fault of the first test that holds
-abbrev pub first_of : List (Bool × ImageFault) → Option ImageFault
-first_of [] = None
-first_of (test ∷ tests) = if test.0 then Some test.1 else first_of tests
-
--- the earlier fault, else the later one
-abbrev pub or_later : Option ImageFault → Option ImageFault → Option ImageFault
-or_later None later = later
-or_later (Some fault) later = Some fault
-
--- the header has nine bytes
-abbrev pub header_fault : List ℕ → Option ImageFault
-header_fault bytes = first_of
-    ((nat_lt (length bytes) 9, Short)
-    ∷ (not (starts_with nat_eq bytes MAGIC), Magic)
-    ∷ (not (slice_index bytes 4 == VERSION), Version)
-    ∷ [])
+-- What bytes say
 
 -- what the bytes from a pair's first one on say of it
 abbrev pub key_len_at : List ℕ → ℕ
@@ -85,17 +71,42 @@ key_at bytes = take (key_len_at bytes) (drop 3 bytes)
 abbrev pub value_at : List ℕ → List ℕ
 value_at bytes = take (value_len_at bytes) (drop (key_len_at bytes) (drop 3 bytes))
 
+abbrev pub pair_at : List ℕ → Pair
+pair_at bytes = record { key = key_at bytes; value = value_at bytes }
+
+-- what follows it
+abbrev pub after_pair : List ℕ → List ℕ
+after_pair bytes = drop (pair_len_at bytes) bytes
+
+-- the header has nine bytes
+abbrev pub count_at : List ℕ → ℕ
+count_at bytes = from_le_bytes w32 (drop 5 bytes)
+
+-- The first fault
+
+-- the fault of the first test that holds
+abbrev pub first_of : List (Bool × ImageFault) → Option ImageFault
+first_of [] = None
+first_of (test ∷ tests) = if test.0 then Some test.1 else first_of tests
+
+-- the earlier fault, else the later one
+abbrev pub or_later : Option ImageFault → Option ImageFault → Option ImageFault
+or_later None later = later
+or_later (Some fault) later = Some fault
+
+abbrev pub header_fault : List ℕ → Option ImageFault
+header_fault bytes = first_of
+    ((nat_lt (length bytes) 9, Short)
+    ∷ (not (starts_with nat_eq bytes MAGIC), Magic)
+    ∷ (not (slice_index bytes 4 == VERSION), Version)
+    ∷ [])
+
 abbrev pub are_between : ℕ → ℕ → List ℕ → Bool
 are_between least most text = list_all (λ b. nat_le least b && nat_le b most) text
 
--- the key is above this one, if there is one
-abbrev pub is_above : Option (List ℕ) → List ℕ → Bool
-is_above None key = true
-is_above (Some last) key = is_lt (slice_cmp nat_cmp last key)
-
--- the key of the last of these pairs, if there is one
-abbrev pub last_key : List Pair → Option (List ℕ)
-last_key pairs = option_map key_of (slice_get pairs (length pairs - 1))
+-- the key is above the one before it; before the first one stands no byte
+abbrev pub is_above : List ℕ → List ℕ → Bool
+is_above last key = is_lt (slice_cmp nat_cmp last key)
 
 -- the first fault of the lengths of the pair at the front
 abbrev pub lengths_fault : List ℕ → Option ImageFault
@@ -106,38 +117,24 @@ lengths_fault bytes = first_of
     ∷ [])
 
 -- and that of its texts, where it follows this key
-abbrev pub texts_fault : Option (List ℕ) → List ℕ → List ℕ → Option ImageFault
-texts_fault last key value = first_of
-    ((not (are_between 33 126 key && are_between 32 126 value), Text)
-    ∷ (not (is_above last key), Order)
+abbrev pub texts_fault : List ℕ → Pair → Option ImageFault
+texts_fault last pair = first_of
+    ((not (are_between 33 126 pair.key && are_between 32 126 pair.value), Text)
+    ∷ (not (is_above last pair.key), Order)
     ∷ [])
 
 -- the first fault of the pair at the front, which follows this key
-abbrev pub pair_fault : Option (List ℕ) → List ℕ → Option ImageFault
-pair_fault last bytes = or_later (lengths_fault bytes) (texts_fault last (key_at bytes) (value_at bytes))
+abbrev pub pair_fault : List ℕ → List ℕ → Option ImageFault
+pair_fault last bytes = or_later (lengths_fault bytes) (texts_fault last (pair_at bytes))
 
 -- the first fault of so many pairs, which nothing may follow
-unfoldable pub pairs_fault : Option (List ℕ) → ℕ → List ℕ → Option ImageFault
+unfoldable pub pairs_fault : List ℕ → ℕ → List ℕ → Option ImageFault
 pairs_fault last zero bytes = first_of ((nat_lt 0 (length bytes), Trailing) ∷ [])
-pairs_fault last (suc count) bytes =
-    or_later (pair_fault last bytes) (pairs_fault (Some (key_at bytes)) count (drop (pair_len_at bytes) bytes))
-
-abbrev pub count_at : List ℕ → ℕ
-count_at bytes = from_le_bytes w32 (drop 5 bytes)
+pairs_fault last (suc count) bytes = or_later (pair_fault last bytes) (pairs_fault (key_at bytes) count (after_pair bytes))
 
 -- the first fault of bytes
 unfoldable pub first_fault : List ℕ → Option ImageFault
-first_fault bytes = or_later (header_fault bytes) (pairs_fault None (count_at bytes) (drop 9 bytes))
-
--- A fault is this first one. Want of memory is the one free answer.
-abbrev pub IsFirst : Option ImageFault → ImageFault → Type 0
-IsFirst first NoMemory = Unit {0}
-IsFirst first fault = first ≡ Some fault
-
--- an answer is Ok only where there is no fault, and a fault only where that is the first one
-abbrev pub AgreesWith : {T : Type 0} → Option ImageFault → Result T ImageFault → Type 0
-AgreesWith first (Ok value) = first ≡ None
-AgreesWith first (Err fault) = IsFirst first fault
+first_fault bytes = or_later (header_fault bytes) (pairs_fault [] (count_at bytes) (drop 9 bytes))
 
 -- what is said of a fault
 abbrev pub fault_name : ImageFault → List ℕ

@@ -2,7 +2,7 @@
 use Rattle.std.specs.Prelude.{ℕ, List, map}
 use Rattle.mica_trace.specs.declared.line.TraceOp.TheVariants.{Put}
 use Rattle.mica_trace.specs.declared.line.TraceLine.{TraceLine}
-use Rattle.store_image.specs.declared.image.Pair.{Pair}
+use Rattle.store_image.specs.ImageGrammar.{Pair}
 
 -- the line that puts a pair
 abbrev pub put_line : Pair → TraceLine

@@ -8,7 +8,7 @@ use Rattle.mica_trace.specs.declared.line.TraceLine.{TraceLine}
 use Rattle.mica_trace.specs.declared.report.Line.{Line}
 use Rattle.mica_trace.specs.RoundReport.{history_in}
 use Rattle.mica_trace.specs.ExactReport.{ExactReport}
-use Rattle.store_image.specs.declared.image.Pair.{Pair}
+use Rattle.store_image.specs.ImageGrammar.{Pair}
 use Rattle.store_image.specs.declared.made.Imaged.{Imaged}
 
 -- the value that the pairs have for a key, if they have one

@@ -1,4 +1,5 @@
 pub mod ImageGrammar
+pub mod ImageTexts
 pub mod ImageLines
 pub mod PutKeys
 pub mod Answers

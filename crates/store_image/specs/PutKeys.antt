@@ -5,7 +5,7 @@ use Rattle.std.specs.Str.{bytes_eq}
 use Rattle.mica_trace.specs.declared.line.TraceOp.{TraceOp}
 use Rattle.mica_trace.specs.declared.line.TraceOp.TheVariants.{Put, Add}
 use Rattle.mica_trace.specs.declared.line.TraceLine.{TraceLine}
-use Rattle.store_image.specs.declared.image.Pair.{Pair}
+use Rattle.store_image.specs.ImageGrammar.{Pair}
 
 -- whether the operation gives its key a value
 abbrev pub gives_value : TraceOp → Bool

@@ -1,8 +1,7 @@
 //! Why bytes are no image.
 ghost use Rattle.std.specs.Prelude.{◌≡◌};
 
-use mica_io::NoMemory;
-use std::alloc::AllocFailed;
+use std::alloc::AllocError;
 use std::error::Error;
 use std::fmt;
 
@@ -48,22 +47,12 @@ impl fmt::Display for ImageFault {
 
 impl Error for ImageFault {}
 
-impl From<NoMemory> for ImageFault {
+impl From<AllocError> for ImageFault {
     ghost use Rattle.store_image.specs.declared.fault.ImageFault.TheVariants.{NoMemory};
 
     ghost from_gives = { λ _ e. e ≡ NoMemory };
 
-    fn from(_: NoMemory) -> Self {
-        ImageFault::NoMemory
-    }
-}
-
-impl<T: Drop> From<AllocFailed<T>> for ImageFault {
-    ghost use Rattle.store_image.specs.declared.fault.ImageFault.TheVariants.{NoMemory};
-
-    ghost from_gives = { λ _ e. e ≡ NoMemory };
-
-    fn from(_: AllocFailed<T>) -> Self {
+    fn from(_: AllocError) -> Self {
         ImageFault::NoMemory
     }
 }

@@ -1,7 +1,6 @@
 //! An image: pairs with rising keys.
-ghost use Rattle.std.specs.Prelude.{◌≡◌};
+ghost use Rattle.std.specs.Prelude.{◌≡◌, flat_map, length};
 
-use mica_io::Bytes;
 use std::marker::Model;
 
 /// What every image begins with.
@@ -10,47 +9,49 @@ pub const MAGIC: [u8; 4] = *b"MIMG";
 /// The byte behind it.
 pub const VERSION: u8 = 1;
 
-/// A key with its value.
-#[derive(Debug, Drop)]
-pub struct Pair {
-    pub key: Bytes,
-    pub value: Bytes,
-}
-
-/// Pairs whose keys rise by their bytes, each key and value one that a trace may have.
+/// Pairs whose keys rise by their bytes, each key and value one that a trace may have. They are kept as their texts.
 #[derive(Debug, Drop)]
 pub struct Image {
-    pairs: Vec<Pair>,
+    count: u32,
+    texts: Vec<u8>,
 }
 
 impl Model for Image {
     ghost use Rattle.std.specs.Prelude.{List};
-    ghost use Rattle.store_image.specs.declared.image.Pair.{Pair};
-    ghost use Rattle.store_image.specs.ImageGrammar.{IsImage};
+    ghost use Rattle.store_image.specs.ImageGrammar.{Pair};
+    ghost use Rattle.store_image.specs.ImageTexts.{pairs_in, AreTexts};
 
     ghost Value = { List Pair };
 
-    ghost view = { λ i. i.pairs.items };
+    ghost view = { λ i. pairs_in i.count i.texts.items };
 
-    ghost invariant = { λ i. IsImage i.pairs.items };
+    ghost invariant = { λ i. AreTexts i.count i.texts.items };
 }
 
 impl Image {
-    ghost use Rattle.store_image.specs.ImageGrammar.{IsImage};
+    ghost use Rattle.store_image.specs.ImageGrammar.{IsImage, pair_text};
+    ghost use Rattle.store_image.specs.ImageTexts.{pairs_in, AreTexts};
 
-    /// The image of these pairs, which it keeps.
-    pub fn of(pairs: Vec<Pair>) -> Self
-        requires { IsImage pairs.items }
-        ensures { result ≡ pairs.items }
+    // The image of so many pairs with these texts, which it keeps.
+    pub(crate) fn of(count: u32, texts: Vec<u8>) -> Self
+        requires { AreTexts count texts.items }
+        ensures { result ≡ pairs_in count texts.items }
     {
-        Image { pairs }
+        Image { count, texts }
     }
 
-    /// All pairs, in the order of their keys.
-    pub fn pairs(&self) -> &[Pair]
-        ensures same { result.now ≡ self.now }
+    /// How many pairs it has.
+    pub fn len(&self) -> u32
+        ensures { result ≡ length self.now }
+    {
+        self.count
+    }
+
+    // The texts of all pairs, in the order of their keys.
+    pub(crate) fn texts(&self) -> &[u8]
+        ensures texts { result.now ≡ flat_map pair_text self.now }
         ensures image { IsImage self.now }
     {
-        self.pairs.as_slice()
+        self.texts.as_slice()
     }
 }

@@ -14,7 +14,7 @@ mod reading;
 mod writing;
 
 pub use fault::ImageFault;
-pub use image::{Image, Pair};
+pub use image::Image;
 pub use laws::{faultless_is_image, one_image, unpacked_is_image};
 pub use lines::put_image;
 pub use made::{Imaged, image_of};

@@ -1,11 +1,20 @@
 //! Images as lines of a trace.
-ghost use Rattle.std.specs.Prelude.{◌≡◌, ◌++◌, OnOk, OnErr};
-ghost use Rattle.mica_trace.specs.TraceGrammar.{trace_text};
-ghost use Rattle.store_image.specs.ImageLines.{put_lines};
+ghost use Rattle.std.specs.Prelude.{◌≡◌, ◌++◌, ◌∷◌, [], OnOk, OnErr};
+ghost use Rattle.mica_trace.specs.TraceGrammar.{line_text, trace_text};
+ghost use Rattle.store_image.specs.ImageLines.{put_line as line_of, put_lines};
 
 use crate::Image;
+use crate::reading::split_pair;
 use mica_io::NoMemory;
 use mica_trace::append_line;
+
+// Appends the line that puts a pair. After want of memory nothing is appended.
+fn put_line(key: &[u8], value: &[u8], out: &mut Vec<u8>) -> Result<(), NoMemory>
+    ensures ok { OnOk result (out.new.items ≡ out.old.items ++ line_text (line_of (record { key = key.now; value = value.now })) ++ 10 ∷ []) }
+    ensures err { OnErr result (out.new.items ≡ out.old.items) }
+{
+    append_line(out, &[b"put ".as_slice(), key, b" ".as_slice(), value])
+}
 
 /// Appends a line for each pair, which puts it. After want of memory nothing is appended.
 pub fn put_image(image: &Image, out: &mut Vec<u8>) -> Result<(), NoMemory>
@@ -13,12 +22,18 @@ pub fn put_image(image: &Image, out: &mut Vec<u8>) -> Result<(), NoMemory>
     ensures err { OnErr result (out.new.items ≡ out.old.items) }
 {
     let start = out.len();
-    for pair in image.pairs() {
-        let (key, value) = (pair.key.bytes(), pair.value.bytes());
-        if append_line(out, &[b"put ".as_slice(), key, b" ".as_slice(), value]).is_err() {
+    let mut rest = image.texts();
+    // A line has three bytes more than the text of its pair.
+    out.reserve(rest.len().saturating_add(3 * image.len() as usize))?;
+    for _ in 0..image.len() {
+        let Ok((key, value, after)) = split_pair(rest) else {
+            unreachable!();
+        };
+        if put_line(key, value, out).is_err() {
             out.truncate(start);
             return Err(NoMemory);
         }
+        rest = after;
     }
     Ok(())
 }

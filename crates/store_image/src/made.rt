@@ -1,21 +1,24 @@
 //! The image that a trace leaves.
-ghost use Rattle.std.specs.Prelude.{◌≡◌, ◌<◌, ◌^◌, ℕ, List, [], IfOk, length, map};
+ghost use Rattle.std.specs.Prelude.{◌≡◌, ◌<◌, ◌^◌, ℕ, List, [], Some, None, IfOk, length, map, if◌then◌else◌};
 ghost use Rattle.std.specs.List.{AllByRecursion};
 ghost use Rattle.std.specs.List.Sorted.{IsStrictlySortedBy};
 ghost use Rattle.std.specs.Ordering.{nat_cmp};
 ghost use Rattle.std.specs.Cmp.Lexicographic.{slice_cmp};
+ghost use Rattle.mica_words.specs.Item.{KeyFits};
 ghost use Rattle.partition_model.specs.declared.options.Mode.{Mode};
 ghost use Rattle.partition_model.specs.Options.{IsValid};
 ghost use Rattle.mica_trace.specs.TraceGrammar.{IsKey, IsWithinLimits};
 ghost use Rattle.line_replies.specs.Answered.{AreAnswered};
+ghost use Rattle.store_image.specs.ImageGrammar.{IsImage};
 ghost use Rattle.store_image.specs.PutKeys.{gives_value as op_gives_value, put_keys, has_key, pairs_by};
-ghost use Rattle.store_image.specs.Answers.{value_at};
+ghost use Rattle.store_image.specs.Answers.{answer_in, value_at};
 ghost use Rattle.store_image.specs.ImageOf.{IsImaged};
 
-use crate::{Image, Pair};
+use crate::Image;
+use crate::writing::put_pair;
 use epoch_core::{Partition, PlainWords, Shape};
 use line_replies::reply_to_all;
-use mica_io::{Bytes, NoMemory};
+use mica_io::NoMemory;
 use mica_trace::{Report, Trace, TraceLine, TraceOp};
 use mica_words::{key_hash, partition_of};
 use partition_model::{Answer, ItemBuf, Options};
@@ -68,31 +71,40 @@ fn keys_of<'a>(alloc: Global, lines: &'a [TraceLine]) -> Result<Vec<&'a [u8]>, N
     Ok(keys)
 }
 
-// The pairs of these keys, by what their partitions answer.
-fn pairs_of<P: Partition>(
+// Whether the key has a value in its partition, which is then in the buffer.
+fn finds<P: Partition>(part: &mut P, key: &[u8], value: &mut ItemBuf) -> bool
+    requires { KeyFits key.now }
+    ensures answer { answer_in key.now (P.owner part.old) ≡ (if result then Some value.new else None) }
+    ensures same { P.owner part.new ≡ P.owner part.old }
+{
+    matches!(part.get(key, value), Answer::Hit)
+}
+
+// The image of the pairs of these keys, by what their partitions answer.
+fn image_of_keys<P: Partition>(
     alloc: Global,
     options: &Options,
     keys: &[&[u8]],
     parts: &mut Vec<P>,
-) -> Result<Vec<Pair>, NoMemory>
+) -> Result<Image, NoMemory>
     requires valid { IsValid options.now }
     requires many { length parts.old.items ≡ options.now.partitions }
     requires keys { AllByRecursion IsKey (map (λ key. key.now) keys.now) }
-    ensures pairs { IfOk result (λ pairs. pairs.items ≡ pairs_by (value_at (map (λ p. P.owner p) parts.old.items) options.now.partitions) (map (λ key. key.now) keys.now)) }
+    requires image { IsImage (pairs_by (value_at (map (λ p. P.owner p) parts.old.items) options.now.partitions) (map (λ key. key.now) keys.now)) }
+    ensures { IfOk result (λ image. image ≡ pairs_by (value_at (map (λ p. P.owner p) parts.old.items) options.now.partitions) (map (λ key. key.now) keys.now)) }
 {
-    let mut pairs = Vec::new(alloc);
+    let mut count = 0;
+    let mut texts = Vec::new(alloc);
     let mut value = ItemBuf::new(alloc)?;
     for key in keys {
         let partition = partition_of(key_hash(key), options.partitions);
         let part = &mut parts[partition as usize];
-        if let Answer::Hit = part.get(key, &mut value) {
-            pairs.push(Pair {
-                key: Bytes::copy(alloc, key)?,
-                value: Bytes::copy(alloc, value.value())?,
-            })?;
+        if finds(part, key, &mut value) {
+            put_pair(&mut texts, key, value.value())?;
+            count += 1;
         }
     }
-    Ok(pairs)
+    Ok(Image::of(count, texts))
 }
 
 /// Runs a trace in store mode on one thread, each line answered before the next one, and gives its exact report with the
@@ -106,9 +118,6 @@ pub fn image_of(alloc: Global, options: &Options, trace: &Trace) -> Result<Image
     let report = reply_to_all(alloc, options, trace, &mut parts)?;
     let lines = trace.lines();
     let keys = keys_of(alloc, lines)?;
-    let pairs = pairs_of(alloc, options, keys.as_slice(), &mut parts)?;
-    Ok(Imaged {
-        report,
-        image: Image::of(pairs),
-    })
+    let image = image_of_keys(alloc, options, keys.as_slice(), &mut parts)?;
+    Ok(Imaged { report, image })
 }

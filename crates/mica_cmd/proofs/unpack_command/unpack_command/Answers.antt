@@ -1,5 +1,6 @@
-use Rattle.std.proofs.Common.{List, ℕ, refl, subst}
-use Rattle.store_image.specs.ImageGrammar.{SpellsImage, IsFirst, first_fault}
+use Rattle.std.proofs.Common.{◌≡◌, ◌⊎◌, List, ℕ, Some, refl, subst}
+use Rattle.store_image.specs.declared.fault.ImageFault.TheVariants.{NoMemory as NoSpace}
+use Rattle.store_image.specs.ImageGrammar.{SpellsImage, first_fault}
 use Rattle.store_image.specs.ImageLines.{put_lines}
 use Rattle.mica_trace.specs.TraceGrammar.{trace_text}
 use Rattle.mica_cmd.specs.declared.status.Status.TheVariants.{Done}
@@ -27,6 +28,6 @@ pub returns : goal.returns
 returns g c =
     let facts = sink_facts g.K.Sink.taken g.K.Sink.faults in
     let fault = c.in-Err-read_image.fault in
-    let is = subst (λ (bytes : List ℕ). IsFirst (first_fault bytes) fault) c.as_slice.ensures.value c.in-Err-read_image.ensures.fault in
+    let is = subst (λ (bytes : List ℕ). (fault ≡ NoSpace) ⊎ (first_fault bytes ≡ Some fault)) c.as_slice.ensures.value c.in-Err-read_image.ensures.fault in
     let refused = subst (λ s. IsRefusedImage fault (facts s) (facts c.refuse_image.new.sink) c.refuse_image.result) c.in-Ok.ensures.unwritten c.refuse_image.ensures in
     λ net kept link. keeps_promise unpack_promise settles_unpack _ _ _ (image_refused_due _ _ _ _ _ c.in-Ok.bytes.items fault c.in-Ok.ensures.all is refused) c.in-Ok.ensures.reads refl refl refl

@@ -1,7 +1,6 @@
-use Rattle.std.proofs.Common.{◌≡◌, ◌≤◌, ◌<◌, ◌^◌, ◌++◌, ◌∷◌, [], ℕ, List, Option, Some, None, length, map, take, Bor, refl, sym, ap, ◌∙◌, arith, append-nil}
+use Rattle.std.proofs.Common.{◌≡◌, ◌++◌, ◌∷◌, [], ℕ, List, Option, Some, length, map, take, Bor, sym, ap, ◌∙◌, arith, append-nil}
 use Rattle.std.specs.List.{cons_option}
 use Rattle.std.proofs.lemmas.List.{map-append, length-map, take_all}
-use Rattle.mica_trace.specs.declared.line.TraceLine.{TraceLine}
 use Rattle.store_image.specs.PutKeys.{put_key, put_keys, has_key}
 use Rattle.store_image.proofs.Keys.{sorted_texts, same_keys, keys_more, no_key, own_key_of, few_keys}
 use Rattle.store_image.proofs.made.keys_of.Goals.{then-gives_value+in_ok-push, else-gives_value}

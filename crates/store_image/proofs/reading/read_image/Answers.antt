@@ -1,7 +1,17 @@
-use Rattle.store_image.specs.ImageGrammar.{first_fault}
-use Rattle.store_image.proofs.Walk.{memory_alone}
+use Rattle.std.proofs.Common.{sym, ◌∙◌, arith}
+use Rattle.store_image.proofs.Complete.{faultless_texts, faultless_spells}
 use Rattle.store_image.proofs.Faultless.{image_has_no_fault}
 use Rattle.store_image.proofs.reading.read_image.Goals as goal
 
-pub returns-in-Err-clause-only : goal.returns-in-Err-clause-only
-returns-in-Err-clause-only c = λ pairs spells. memory_alone (first_fault c.args.from.now) c.in-Err.fault (image_has_no_fault c.args.from.now pairs spells) c.in-Err.ensures.fault
+pub returns-in_err-count-clause-only : goal.returns-in_err-count-clause-only
+returns-in_err-count-clause-only c = λ pairs is. let no = sym (image_has_no_fault c.args.from.now pairs is) ∙ c.in_err-count.ensures.fault in absurd (cc)
+
+pub of-requires : goal.of-requires
+of-requires c =
+    let is = c.in_ok-count.ensures in
+    rw (c.in_ok-from_slice.ensures.items, ← is.parts.0, ← is.parts.1) (faultless_texts c.args.from.now (λ k. omega (arith, c.type_inv.from k)) is.fault)
+
+pub returns-clause-image : goal.returns-clause-image
+returns-clause-image c =
+    let is = c.in_ok-count.ensures in
+    rw (c.of.ensures, c.in_ok-from_slice.ensures.items, ← is.parts.0, ← is.parts.1) (faultless_spells c.args.from.now (λ k. omega (arith, c.type_inv.from k)) is.fault)
