@@ -1,3 +1,4 @@
+pub mod CrewRounds
 pub mod OwnerRuns
 pub mod ReaderSteps
 pub mod MergedReport

@@ -58,10 +58,10 @@ module _ (r : ToRun) where
   same_states : map state_of_owner r.given ≡ map state_of_owner r.owner_parts
   same_states = same_map state_of_owner r.owner_parts r.given r.shared.owners.many (λ n x y is_x is_y. (r.shared.owners.each n x y is_x is_y).0.keeps.state)
 
-  given_many : length r.given ≡ r.options.partitions
+  pub given_many : length r.given ≡ r.options.partitions
   given_many = r.shared.owners.many ∙ sym (length-map r.owner_parts state_of_owner) ∙ r.so_far.many
 
-  asked_many : length r.asked ≡ r.options.readers
+  pub asked_many : length r.asked ≡ r.options.readers
   asked_many = r.shared.readers.many ∙ r.free.many
 
   split : IsSplit r.options r.trace (gets_in r.before) r.round r.given r.asked

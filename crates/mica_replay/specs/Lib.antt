@@ -14,3 +14,4 @@ pub mod JobReplies
 pub mod Feeds
 pub mod RoundJobs
 pub mod Queues
+pub mod Crew

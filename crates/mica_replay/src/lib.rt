@@ -5,7 +5,9 @@
 //! owners wrote and the readers answered (`IsReplayed`).
 #![tactic(auto)]
 
+mod crew;
 mod done;
+mod duties;
 mod feeder;
 mod feeding;
 mod lending;

@@ -4,14 +4,14 @@ ghost use Rattle.owner_queue.specs.Messages.{has_end};
 ghost use Rattle.mica_replay.specs.JobReplies.{RepliesToJobs};
 
 use crate::done::Done;
-use epoch_core::LendPartition;
+use epoch_core::Partition;
 use mica_io::Gate;
 use owner_queue::{JobReceiver, Message, apply_write};
 use std::sync::Wait;
 
 /// Takes jobs until the queue's end, and adds the outcome and the stamp of each at the end of `out`. It takes no
 /// memory.
-pub fn run_owner<W: Wait, P: LendPartition, G: Gate>(
+pub fn run_owner<W: Wait, P: Partition, G: Gate>(
     rt: &W,
     part: &mut P,
     jobs: &mut JobReceiver,

@@ -5,31 +5,28 @@ ghost use Rattle.partition_table.specs.Seats.{reader_state, reader_home};
 ghost use Rattle.mica_replay.specs.Lending.{owner_part};
 ghost use Rattle.mica_replay.specs.LineNumbers.{homes_of};
 ghost use Rattle.mica_replay.specs.Queues.{AreWritesOf};
+ghost use Rattle.mica_replay.specs.Crew.{IsCrew};
 ghost use Rattle.mica_replay.specs.RoundRun.{reader_part, AreReady, HasRunRound};
 
+use crate::crew::Crew;
 use crate::feeding::run_fed;
 use crate::lending::{lend_all, meet_all};
 use crate::worker::{OwnerWork, ReaderWork};
 use epoch_core::LendPartition;
-use mica_io::{Gate, NoMemory};
+use mica_io::NoMemory;
 use mica_trace::Trace;
 use partition_model::Options;
 use partition_table::{Note, ReaderSeat};
 use std::alloc::Global;
 use std::sync::Wait;
-use std::thread::Threads;
 
 /// Lends each reader a seat of each partition, runs owners and readers side by side, and gives the seats back.
-pub(crate) fn run_round<
-    W: Threads + Wait + Sync,
-    P: LendPartition<Reader = ReaderSeat, Note = Note> + Drop + Send,
-    G: Gate,
->(
+pub(crate) fn run_round<W: Wait, P: LendPartition<Reader = ReaderSeat, Note = Note> + Drop>(
     rt: &W,
     alloc: Global,
     trace: &Trace,
     options: &Options,
-    gate: &G,
+    crew: &mut Crew<P>,
     from: u32,
     to: u32,
     homes: &[u32],
@@ -42,6 +39,7 @@ pub(crate) fn run_round<
         (map (λ r. reader_part reader_state reader_home r) readers.old.items) }
     requires bounds { (from ≤ to) × (to ≤ length trace.now) }
     requires homes { homes.now ≡ homes_of options.now (take (to - from) (drop from trace.now)) }
+    requires crew { IsCrew (length owners.old.items) (length readers.old.items) trace.now options.now crew.old }
     requires shared { AreWritesOf options.now trace.now (take (to - from) (drop from trace.now))
         (map (λ w. owner_part P.owner P.home w) owners.old.items) }
     ensures ran { OnOk result (HasRunRound trace.now options.now
@@ -49,13 +47,14 @@ pub(crate) fn run_round<
         (map (λ w. owner_part P.owner P.home w) owners.new.items)
         (map (λ r. reader_part reader_state reader_home r) readers.old.items)
         (map (λ r. reader_part reader_state reader_home r) readers.new.items)) }
+    ensures crew { crew.new ≡ crew.old }
 {
     for q in 0..readers.len() {
         let reader = &mut readers[q];
         lend_all(owners, &mut reader.seats)?;
     }
     run_fed(
-        rt, alloc, trace, options, gate, from, to, homes, owners, readers,
+        rt, alloc, trace, options, crew, from, to, homes, owners, readers,
     )?;
     for q in 0..readers.len() {
         let reader = &mut readers[q];

@@ -4,21 +4,22 @@ ghost use Rattle.partition_model.specs.Options.{IsValid};
 ghost use Rattle.mica_trace.specs.RoundReport.{EndsRound, IsOneRound, gets_in};
 ghost use Rattle.mica_replay.specs.Lending.{owner_part};
 ghost use Rattle.partition_table.specs.Seats.{reader_state, reader_home};
+ghost use Rattle.mica_replay.specs.Crew.{IsCrew};
 ghost use Rattle.mica_replay.specs.RoundRun.{reader_part, state_of_owner, AreFree, AreMade, IsRoundTo};
 ghost use Rattle.mica_replay.specs.Between.{IsReplaying};
 
+use crate::crew::Crew;
 use crate::merging::{collect, print_round};
 use crate::round::run_round;
 use crate::sharing::split_round;
 use crate::worker::{OwnerWork, ReaderWork};
 use epoch_core::LendPartition;
-use mica_io::{Gate, NoMemory};
+use mica_io::NoMemory;
 use mica_trace::{Report, Trace, TraceLine};
 use partition_model::Options;
 use partition_table::{Note, ReaderSeat};
 use std::alloc::Global;
 use std::sync::Wait;
-use std::thread::Threads;
 
 // The number of the next line that ends a round, from this one on.
 fn next_sync(lines: &[TraceLine], from: usize) -> Option<usize>
@@ -34,16 +35,12 @@ fn next_sync(lines: &[TraceLine], from: usize) -> Option<usize>
 }
 
 // Runs one round and prints it. Gives the number of gets up to its end.
-fn run_one<
-    W: Threads + Wait + Sync,
-    P: LendPartition<Reader = ReaderSeat, Note = Note> + Drop + Send,
-    G: Gate,
->(
+fn run_one<W: Wait, P: LendPartition<Reader = ReaderSeat, Note = Note> + Drop>(
     rt: &W,
     alloc: Global,
     options: &Options,
     trace: &Trace,
-    gate: &G,
+    crew: &mut Crew<P>,
     from: u32,
     to: u32,
     gets: u32,
@@ -59,15 +56,17 @@ fn run_one<
     requires so_far { IsReplaying options.now (take from trace.now) report.old
         (map state_of_owner (map (λ w. owner_part P.owner P.home w) owners.old.items)) }
     requires readers { AreFree options.now (map (λ r. reader_part reader_state reader_home r) readers.old.items) }
+    requires crew { IsCrew options.now.partitions options.now.readers trace.now options.now crew.old }
     ensures gets { IfOk result (λ g. g ≡ gets_in (take to trace.now)) }
     ensures so_far { OnOk result (IsReplaying options.now (take to trace.now) report.new
         (map state_of_owner (map (λ w. owner_part P.owner P.home w) owners.new.items))) }
     ensures readers { OnOk result (AreFree options.now (map (λ r. reader_part reader_state reader_home r) readers.new.items)) }
+    ensures crew { crew.new ≡ crew.old }
 {
     let (next, homes) = split_round(alloc, options, trace, from, to, gets, owners, readers)?;
     let homes = homes.as_slice();
     run_round(
-        rt, alloc, trace, options, gate, from, to, homes, owners, readers,
+        rt, alloc, trace, options, crew, from, to, homes, owners, readers,
     )?;
     let mut found = collect(alloc, readers)?;
     print_round(
@@ -84,24 +83,22 @@ fn run_one<
 }
 
 /// Runs a trace round by round, with owners as made and readers without seats.
-pub(crate) fn run_rounds<
-    W: Threads + Wait + Sync,
-    P: LendPartition<Reader = ReaderSeat, Note = Note> + Drop + Send,
-    G: Gate,
->(
+pub(crate) fn run_rounds<W: Wait, P: LendPartition<Reader = ReaderSeat, Note = Note> + Drop>(
     rt: &W,
     alloc: Global,
     options: &Options,
     trace: &Trace,
-    gate: &G,
+    crew: &mut Crew<P>,
     owners: &mut Vec<OwnerWork<P>>,
     readers: &mut Vec<ReaderWork<ReaderSeat>>,
 ) -> Result<Report, NoMemory>
     requires valid { IsValid options.now }
     requires made { AreMade options.now (map (λ w. owner_part P.owner P.home w) owners.old.items) }
     requires free { AreFree options.now (map (λ r. reader_part reader_state reader_home r) readers.old.items) }
-    ensures { IfOk result (λ report. IsReplaying options.now trace.now report
+    requires crew { IsCrew options.now.partitions options.now.readers trace.now options.now crew.old }
+    ensures report { IfOk result (λ report. IsReplaying options.now trace.now report
         (map state_of_owner (map (λ w. owner_part P.owner P.home w) owners.new.items))) }
+    ensures crew { crew.new ≡ crew.old }
 {
     let mut report = Report::with_capacity(alloc, trace.len())?;
     let mut from = 0;
@@ -113,7 +110,7 @@ pub(crate) fn run_rounds<
             alloc,
             options,
             trace,
-            gate,
+            crew,
             from as u32,
             next as u32,
             gets,
@@ -130,7 +127,7 @@ pub(crate) fn run_rounds<
         alloc,
         options,
         trace,
-        gate,
+        crew,
         from as u32,
         end,
         gets,

@@ -1,14 +1,20 @@
 //! A trace from its owners' making to the keeping of their seats.
-ghost use Rattle.std.specs.Prelude.{◌≡◌, ◌≤◌, ◌+◌, ◌++◌, [], ℕ, Some, All, IfOk, IfSome, OnErr, map, length, slice_get};
+ghost use Rattle.std.specs.Thread.{IsSync};
+ghost use Rattle.std.specs.Prelude.{None, ◌≡◌, ◌≤◌, ◌+◌, ◌++◌, [], ℕ, Some, All, IfOk, IfSome, OnErr, map, length, slice_get};
 ghost use Rattle.partition_model.specs.Options.{IsValid};
 ghost use Rattle.epoch_core.specs.declared.state.Phase.TheVariants.{Idle};
 ghost use Rattle.epoch_core.specs.Shape.{shape_of};
 ghost use Rattle.epoch_core.specs.OwnerState.{as_made};
 ghost use Rattle.mica_replay.specs.Lending.{OwnerPart, owner_part};
 ghost use Rattle.mica_replay.specs.RoundRun.{reader_part, AreMade, AreFree, kept_of};
+ghost use Rattle.partition_model.specs.declared.options.Mode.TheVariants.{Cache, Store};
+ghost use Rattle.work_desk.specs.Desk.{doer};
+ghost use Rattle.mica_replay.specs.Crew.{read_terms, IsCrew};
 ghost use Rattle.mica_replay.specs.Replayed.{IsReplayed};
 
+use crate::crew::{Crew, Hands, make_crew, work_as_owner, work_as_reader};
 use crate::done::Done;
+use crate::duties::ReadTerms;
 use crate::rounds::run_rounds;
 use crate::worker::{OwnerWork, ReaderWork};
 use cache_partition::CachePartition;
@@ -21,9 +27,10 @@ use partition_table::{Note, OwnerSeat, ReaderSeat, Tables, zeros_for};
 use seated_partition::OnTable;
 use std::alloc::Global;
 use std::sync::Wait;
-use std::thread::{Threads, for_each_mut};
+use std::thread::{Threads, for_each_mut, join_mut};
 use store_partition::StorePartition;
 use thread_rehearsal::rehearse;
+use work_desk::Doer;
 
 // The partitions, each made in a thread of its own: None in the place of one for which there was no memory.
 fn make_parts<W: Threads + Wait + Sync, P: OnTable + Partition + Send>(
@@ -122,8 +129,168 @@ fn keep_all<P: OnTable + Partition>(owners: Vec<OwnerWork<P>>, tables: &mut Tabl
 fn run_on<
     W: Threads + Wait + Sync,
     P: OnTable + LendPartition<Reader = ReaderSeat, Note = Note> + Send,
-    G: Gate,
 >(
+    rt: &W,
+    alloc: Global,
+    options: &Options,
+    trace: &Trace,
+    crew: &mut Crew<P>,
+    tables: &mut Tables,
+) -> Result<Report, NoMemory>
+    requires valid { IsValid options.now }
+    requires mode { options.now.mode ≡ P.mode }
+    requires same { (p : P) → P.state p ≡ P.owner p }
+    requires tables { tables.old ≡ [] }
+    requires crew { IsCrew options.now.partitions options.now.readers trace.now options.now crew.old }
+    ensures ok { IfOk result (λ report. IsReplayed options.now trace.now report tables.new) }
+    ensures none { OnErr result (tables.new ≡ []) }
+    ensures crew { crew.new ≡ crew.old }
+{
+    let mut owners = make_owners::<W, P>(rt, alloc, options)?;
+    let mut readers = make_readers::<ReaderSeat>(alloc, options)?;
+    let report = run_rounds(rt, alloc, options, trace, crew, &mut owners, &mut readers)?;
+    keep_all(owners, tables);
+    Ok(report)
+}
+
+// The same. The crew is told the end on every way out.
+fn drive<
+    W: Threads + Wait + Sync,
+    P: OnTable + LendPartition<Reader = ReaderSeat, Note = Note> + Send,
+>(
+    rt: &W,
+    alloc: Global,
+    options: &Options,
+    trace: &Trace,
+    crew: &mut Crew<P>,
+    tables: &mut Tables,
+) -> Result<Report, NoMemory>
+    requires valid { IsValid options.now }
+    requires mode { options.now.mode ≡ P.mode }
+    requires same { (p : P) → P.state p ≡ P.owner p }
+    requires tables { tables.old ≡ [] }
+    requires crew { IsCrew options.now.partitions options.now.readers trace.now options.now crew.old }
+    ensures ok { IfOk result (λ report. IsReplayed options.now trace.now report tables.new) }
+    ensures none { OnErr result (tables.new ≡ []) }
+{
+    let result = run_on(rt, alloc, options, trace, crew, tables);
+    crew.end(options, trace);
+    result
+}
+
+// The readers, each in a thread of its own until the end.
+fn read_all<W: Threads + Wait + Sync, G: Gate>(
+    rt: &W,
+    alloc: Global,
+    trace: &Trace,
+    options: &Options,
+    gate: &G,
+    readers: &mut Vec<Doer<ReaderWork<ReaderSeat>, ReadTerms>>,
+)
+    requires valid { IsValid options.now }
+    requires desks { All (λ d. d ≡ doer (read_terms trace.now options.now) None) readers.old.items }
+{
+    let threads = readers.len().max(1);
+    for_each_mut(
+        rt,
+        readers.as_mut_slice(),
+        threads,
+        &|_, desk|
+            requires { IsValid options.now × (desk.now ≡ doer (read_terms trace.now options.now) None) }
+        { work_as_reader(rt, alloc, trace, options, gate, desk) },
+    );
+}
+
+// The owners of one mode, each in a thread of its own until the end. No closure is passed on that names a partition
+// by its traits alone, so each mode has a function of its own.
+fn own_all_caches<W: Threads + Wait + Sync, G: Gate>(
+    rt: &W,
+    gate: &G,
+    owners: &mut Vec<Doer<OwnerWork<CachePartition<OwnerSeat>>, ()>>,
+)
+    requires { All (λ d. d ≡ doer tt None) owners.old.items }
+{
+    let threads = owners.len().max(1);
+    for_each_mut(
+        rt,
+        owners.as_mut_slice(),
+        threads,
+        &|_, desk|
+            requires { desk.now ≡ doer tt None }
+        { work_as_owner(rt, gate, desk) },
+    );
+}
+
+fn own_all_stores<W: Threads + Wait + Sync, G: Gate>(
+    rt: &W,
+    gate: &G,
+    owners: &mut Vec<Doer<OwnerWork<StorePartition<OwnerSeat>>, ()>>,
+)
+    requires { All (λ d. d ≡ doer tt None) owners.old.items }
+{
+    let threads = owners.len().max(1);
+    for_each_mut(
+        rt,
+        owners.as_mut_slice(),
+        threads,
+        &|_, desk|
+            requires { desk.now ≡ doer tt None }
+        { work_as_owner(rt, gate, desk) },
+    );
+}
+
+// All hands of a crew.
+fn work_in_cache<W: Threads + Wait + Sync, G: Gate>(
+    rt: &W,
+    alloc: Global,
+    trace: &Trace,
+    options: &Options,
+    gate: &G,
+    owners: &mut Vec<Doer<OwnerWork<CachePartition<OwnerSeat>>, ()>>,
+    readers: &mut Vec<Doer<ReaderWork<ReaderSeat>, ReadTerms>>,
+)
+    requires valid { IsValid options.now }
+    requires owners { All (λ d. d ≡ doer tt None) owners.old.items }
+    requires readers { All (λ d. d ≡ doer (read_terms trace.now options.now) None) readers.old.items }
+{
+    join_mut(
+        rt,
+        &mut ||
+            requires { IsSync W.row × IsSync G.row × IsValid options.now
+                × All (λ d. d ≡ doer (read_terms trace.now options.now) None) readers.now.items }
+        { read_all(rt, alloc, trace, options, gate, readers) },
+        &mut ||
+            requires { IsSync W.row × IsSync G.row × All (λ d. d ≡ doer tt None) owners.now.items }
+        { own_all_caches(rt, gate, owners) },
+    );
+}
+
+fn work_in_store<W: Threads + Wait + Sync, G: Gate>(
+    rt: &W,
+    alloc: Global,
+    trace: &Trace,
+    options: &Options,
+    gate: &G,
+    owners: &mut Vec<Doer<OwnerWork<StorePartition<OwnerSeat>>, ()>>,
+    readers: &mut Vec<Doer<ReaderWork<ReaderSeat>, ReadTerms>>,
+)
+    requires valid { IsValid options.now }
+    requires owners { All (λ d. d ≡ doer tt None) owners.old.items }
+    requires readers { All (λ d. d ≡ doer (read_terms trace.now options.now) None) readers.old.items }
+{
+    join_mut(
+        rt,
+        &mut ||
+            requires { IsSync W.row × IsSync G.row × IsValid options.now
+                × All (λ d. d ≡ doer (read_terms trace.now options.now) None) readers.now.items }
+        { read_all(rt, alloc, trace, options, gate, readers) },
+        &mut ||
+            requires { IsSync W.row × IsSync G.row × All (λ d. d ≡ doer tt None) owners.now.items }
+        { own_all_stores(rt, gate, owners) },
+    );
+}
+
+fn run_cache<W: Threads + Wait + Sync, G: Gate>(
     rt: &W,
     alloc: Global,
     options: &Options,
@@ -132,18 +299,63 @@ fn run_on<
     tables: &mut Tables,
 ) -> Result<Report, NoMemory>
     requires valid { IsValid options.now }
-    requires mode { options.now.mode ≡ P.mode }
-    requires same { (p : P) → P.state p ≡ P.owner p }
+    requires mode { options.now.mode ≡ Cache }
     requires tables { tables.old ≡ [] }
     ensures ok { IfOk result (λ report. IsReplayed options.now trace.now report tables.new) }
     ensures none { OnErr result (tables.new ≡ []) }
 {
-    rehearse(rt, alloc, options.readers + options.partitions + 1)?;
-    let mut owners = make_owners::<W, P>(rt, alloc, options)?;
-    let mut readers = make_readers::<ReaderSeat>(alloc, options)?;
-    let report = run_rounds(rt, alloc, options, trace, gate, &mut owners, &mut readers)?;
-    keep_all(owners, tables);
-    Ok(report)
+    let (crew, hands) = make_crew::<CachePartition<OwnerSeat>>(alloc, options, trace)?;
+    let mut crew = crew;
+    let Hands {
+        mut owners,
+        mut readers,
+    } = hands;
+    join_mut(
+        rt,
+        &mut ||
+            requires { IsSync W.row × IsSync G.row × IsValid options.now × All (λ d. d ≡ doer tt None) owners.items
+                × All (λ d. d ≡ doer (read_terms trace.now options.now) None) readers.items }
+        { work_in_cache(rt, alloc, trace, options, gate, &mut owners, &mut readers) },
+        &mut || -> Result<Report, NoMemory>
+            requires { IsSync W.row × IsValid options.now × (options.now.mode ≡ Cache) × (tables.now ≡ [])
+                × IsCrew options.now.partitions options.now.readers trace.now options.now crew }
+        { drive(rt, alloc, options, trace, &mut crew, tables) },
+    )
+    .1
+}
+
+fn run_store<W: Threads + Wait + Sync, G: Gate>(
+    rt: &W,
+    alloc: Global,
+    options: &Options,
+    trace: &Trace,
+    gate: &G,
+    tables: &mut Tables,
+) -> Result<Report, NoMemory>
+    requires valid { IsValid options.now }
+    requires mode { options.now.mode ≡ Store }
+    requires tables { tables.old ≡ [] }
+    ensures ok { IfOk result (λ report. IsReplayed options.now trace.now report tables.new) }
+    ensures none { OnErr result (tables.new ≡ []) }
+{
+    let (crew, hands) = make_crew::<StorePartition<OwnerSeat>>(alloc, options, trace)?;
+    let mut crew = crew;
+    let Hands {
+        mut owners,
+        mut readers,
+    } = hands;
+    join_mut(
+        rt,
+        &mut ||
+            requires { IsSync W.row × IsSync G.row × IsValid options.now × All (λ d. d ≡ doer tt None) owners.items
+                × All (λ d. d ≡ doer (read_terms trace.now options.now) None) readers.items }
+        { work_in_store(rt, alloc, trace, options, gate, &mut owners, &mut readers) },
+        &mut || -> Result<Report, NoMemory>
+            requires { IsSync W.row × IsValid options.now × (options.now.mode ≡ Store) × (tables.now ≡ [])
+                × IsCrew options.now.partitions options.now.readers trace.now options.now crew }
+        { drive(rt, alloc, options, trace, &mut crew, tables) },
+    )
+    .1
 }
 
 /// The report of a trace. In each round each partition has an owner and each reader seats of all partitions, all
@@ -161,12 +373,9 @@ pub fn run_trace<W: Threads + Wait + Sync, G: Gate>(
     ensures ok { IfOk result (λ report. IsReplayed options.now trace.now report tables.new) }
     ensures none { OnErr result (tables.new ≡ []) }
 {
+    rehearse(rt, alloc, options.readers + options.partitions + 1)?;
     match options.mode {
-        Mode::Cache => {
-            run_on::<W, CachePartition<OwnerSeat>, G>(rt, alloc, options, trace, gate, tables)
-        }
-        Mode::Store => {
-            run_on::<W, StorePartition<OwnerSeat>, G>(rt, alloc, options, trace, gate, tables)
-        }
+        Mode::Cache => run_cache(rt, alloc, options, trace, gate, tables),
+        Mode::Store => run_store(rt, alloc, options, trace, gate, tables),
     }
 }

@@ -1,16 +1,17 @@
 //! The workers of a round: each owner and each reader, with its part of the round, and the feeder, in a thread of its own.
-ghost use Rattle.std.specs.Thread.{IsSync};
-ghost use Rattle.std.specs.Prelude.{All};
+ghost use Rattle.std.specs.Prelude.{◌≡◌, All, length};
 ghost use Rattle.partition_model.specs.Options.{IsValid};
 ghost use Rattle.partition_table.specs.Seats.{reader_state, reader_home};
 ghost use Rattle.mica_replay.specs.Workers.{IsReadyReader, ReaderRan, ReadersRan, IsFedOwner, OwnerFed, OwnersFed};
 ghost use Rattle.mica_replay.specs.Feeds.{IsReadyFeeder, HasFed};
+ghost use Rattle.mica_replay.specs.Crew.{IsCrew};
 
+use crate::crew::Crew;
 use crate::done::Done;
 use crate::feeder::Feeder;
 use crate::owner::run_owner;
 use crate::reader::{Found, run_reader};
-use epoch_core::{LendPartition, ReaderWords};
+use epoch_core::{LendPartition, Partition, ReaderWords};
 use mica_io::Gate;
 use mica_trace::Trace;
 use owner_queue::JobReceiver;
@@ -18,7 +19,8 @@ use partition_model::Options;
 use partition_table::{Note, ReaderSeat};
 use std::alloc::Global;
 use std::sync::Wait;
-use std::thread::{Threads, for_each_mut, join_mut};
+use std::thread::Threads;
+use work_desk::{hand_all, take_all_back};
 
 /// An owner with its part of a round.
 #[derive(Drop)]
@@ -31,8 +33,8 @@ pub struct OwnerWork<P> {
     pub done: Done,
 }
 
-impl<P: LendPartition> OwnerWork<P> {
-    fn run<W: Wait, G: Gate>(&mut self, rt: &W, gate: &G)
+impl<P: Partition> OwnerWork<P> {
+    pub(crate) fn run<W: Wait, G: Gate>(&mut self, rt: &W, gate: &G)
         requires { IsFedOwner self.old }
         ensures { OwnerFed P.owner P.home self.old self.new }
     {
@@ -57,7 +59,7 @@ pub struct ReaderWork<R> {
 }
 
 impl<R: ReaderWords> ReaderWork<R> {
-    fn run<W: Threads + Wait + Sync, G: Gate>(
+    pub(crate) fn run<W: Threads + Wait + Sync, G: Gate>(
         &mut self,
         rt: &W,
         alloc: Global,
@@ -83,105 +85,31 @@ impl<R: ReaderWords> ReaderWork<R> {
     }
 }
 
-// Runs the owners side by side, each in a thread of its own.
-fn run_owners<
-    W: Threads + Wait + Sync,
-    P: LendPartition<Reader = ReaderSeat, Note = Note> + Drop + Send,
-    G: Gate,
->(rt: &W, gate: &G, owners: &mut Vec<OwnerWork<P>>)
-    requires { All IsFedOwner owners.old.items }
-    ensures { OwnersFed P.owner P.home owners.old.items owners.new.items }
-{
-    let threads = owners.len().max(1);
-    for_each_mut(
-        rt,
-        owners.as_mut_slice(),
-        threads,
-        &|_, owner|
-            requires { IsFedOwner owner.now }
-            ensures { OwnerFed P.owner P.home owner.entry.now owner.exit.now }
-        { owner.run(rt, gate) },
-    );
-}
-
-// Runs the readers side by side, each in a thread of its own.
-fn run_readers<W: Threads + Wait + Sync, G: Gate>(
+/// Hands all readers and owners of a round to the crew, feeds the owners' queues, and takes all back. Each runs in
+/// a thread of its own. It takes no memory.
+pub(crate) fn run_all<W: Wait, P: LendPartition<Reader = ReaderSeat, Note = Note> + Drop>(
     rt: &W,
-    alloc: Global,
     trace: &Trace,
     options: &Options,
-    gate: &G,
-    readers: &mut Vec<ReaderWork<ReaderSeat>>,
-)
-    requires valid { IsValid options.now }
-    requires ready { All (IsReadyReader reader_state trace.now options.now) readers.old.items }
-    ensures { ReadersRan reader_state reader_home trace.now options.now readers.old.items readers.new.items }
-{
-    let threads = readers.len().max(1);
-    for_each_mut(
-        rt,
-        readers.as_mut_slice(),
-        threads,
-        &|_, reader|
-            requires { IsValid options.now × IsReadyReader reader_state trace.now options.now reader.now }
-            ensures { ReaderRan reader_state reader_home trace.entry.now options.entry.now
-                reader.entry.now reader.exit.now }
-        { reader.run(rt, alloc, trace, options, gate) },
-    );
-}
-
-// Runs the owners beside the feeder of their queues.
-fn run_writers<
-    W: Threads + Wait + Sync,
-    P: LendPartition<Reader = ReaderSeat, Note = Note> + Drop + Send,
-    G: Gate,
->(rt: &W, gate: &G, feeder: &mut Feeder, owners: &mut Vec<OwnerWork<P>>)
-    requires owners { All IsFedOwner owners.old.items }
-    requires feeder { IsReadyFeeder feeder.old }
-    ensures owners { OwnersFed P.owner P.home owners.old.items owners.new.items }
-    ensures fed { HasFed feeder.old feeder.new.senders.items }
-{
-    join_mut(
-        rt,
-        &mut ||
-            requires { IsSync W.row × IsSync G.row × All IsFedOwner owners.now.items }
-        { run_owners(rt, gate, owners) },
-        &mut ||
-            requires { IsReadyFeeder feeder.now }
-        { feeder.run(rt) },
-    );
-}
-
-/// Runs all readers, all owners and the feeder of their queues side by side, each in a thread of its own. It takes no memory.
-pub(crate) fn run_all<
-    W: Threads + Wait + Sync,
-    P: LendPartition<Reader = ReaderSeat, Note = Note> + Drop + Send,
-    G: Gate,
->(
-    rt: &W,
-    alloc: Global,
-    trace: &Trace,
-    options: &Options,
-    gate: &G,
+    crew: &mut Crew<P>,
     feeder: &mut Feeder,
     owners: &mut Vec<OwnerWork<P>>,
     readers: &mut Vec<ReaderWork<ReaderSeat>>,
 )
-    requires valid { IsValid options.now }
     requires owners { All IsFedOwner owners.old.items }
     requires readers { All (IsReadyReader reader_state trace.now options.now) readers.old.items }
     requires feeder { IsReadyFeeder feeder.old }
+    requires crew { IsCrew (length owners.old.items) (length readers.old.items) trace.now options.now crew.old }
     ensures owners { OwnersFed P.owner P.home owners.old.items owners.new.items }
     ensures readers { ReadersRan reader_state reader_home trace.now options.now readers.old.items readers.new.items }
     ensures fed { HasFed feeder.old feeder.new.senders.items }
+    ensures crew { crew.new ≡ crew.old }
 {
-    join_mut(
-        rt,
-        &mut ||
-            requires { IsSync W.row × IsSync G.row × IsValid options.now × All (IsReadyReader reader_state trace.now options.now) readers.now.items }
-        { run_readers(rt, alloc, trace, options, gate, readers) },
-        &mut ||
-            requires { IsSync W.row × IsSync G.row × All IsFedOwner owners.now.items × IsReadyFeeder feeder.now }
-        { run_writers(rt, gate, feeder, owners) },
-    );
+    let _trace = trace;
+    let _options = options;
+    hand_all(&mut crew.readers, readers);
+    hand_all(&mut crew.owners, owners);
+    feeder.run(rt);
+    take_all_back(rt, &mut crew.owners, owners);
+    take_all_back(rt, &mut crew.readers, readers);
 }

@@ -1,4 +1,5 @@
-use Rattle.std.proofs.Common.{◌≡◌, ◌-◌, List, take, drop, ap, ◌∙◌}
+use Rattle.std.proofs.Common.{◌≡◌, ◌-◌, List, length, take, drop, sym, ap, ◌∙◌, subst}
+use Rattle.mica_replay.specs.Crew.{IsCrew}
 use Rattle.std.specs.Global.{Global}
 use Rattle.std.specs.declared.vec.IntoIter.{IntoIter}
 use Rattle.std.specs.Vec.Iter.{into_iter_items}
@@ -26,10 +27,14 @@ opened g c jobs rest = record {
 }
 
 pub run_all-requires-clause-owners : goal.run_all-requires-clause-owners
-run_all-requires-clause-owners g c κs within = fed_ready (opened g (goal.at.run_all-requires-clause-owners g c).In_ok-senders c.into_iter.result c.into_iter.ensures.rest)
+run_all-requires-clause-owners g c = fed_ready (opened g (goal.at.run_all-requires-clause-owners g c).In_ok-senders c.into_iter.result c.into_iter.ensures.rest)
+
+pub run_all-requires-clause-crew : goal.run_all-requires-clause-crew
+run_all-requires-clause-crew g c =
+    subst (λ n. IsCrew n (length c.args.readers.now.items) c.args.trace.now c.args.options.now c.args.crew.now) (sym c.in_ok-senders.ensures.many) c.requires.crew
 
 pub run_all-requires-clause-feeder : goal.run_all-requires-clause-feeder
-run_all-requires-clause-feeder g c κs within =
+run_all-requires-clause-feeder g c =
     feeder_ready (opened g (goal.at.run_all-requires-clause-feeder g c).In_ok-senders c.into_iter.result c.into_iter.ensures.rest) c.requires.valid
     (all_take IsTraceLine (c.args.to - c.args.from) (drop c.args.from c.args.trace.now) (all_drop IsTraceLine c.args.from c.args.trace.now c.lines.ensures.lines))
 

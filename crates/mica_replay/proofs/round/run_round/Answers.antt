@@ -1,5 +1,7 @@
-use Rattle.std.proofs.Common.{◌<◌, map, length, ap, ◌∙◌, arith, refl}
+use Rattle.std.proofs.Common.{ℕ, ◌<◌, map, length, sym, ap, ◌∙◌, subst, arith, refl}
 use Rattle.mica_replay.specs.declared.worker.ReaderWork.{ReaderWork}
+use Rattle.mica_replay.specs.declared.worker.OwnerWork.{OwnerWork}
+use Rattle.mica_replay.specs.Crew.{IsCrew}
 use Rattle.mica_replay.specs.Lending.{owner_part, lent_part, table_in}
 use Rattle.mica_replay.specs.RoundRun.{ReaderPart, reader_part}
 use Rattle.mica_replay.proofs.RoundSteps.{seen_many, lends_none, lends_one, owners_ready, readers_ready, homes_same, meets_more, leaves_one, ran_round, Ran}
@@ -52,17 +54,23 @@ loop-q-preserved g c =
     }
 
 pub run_fed-requires-clause-owners : goal.run_fed-requires-clause-owners
-run_fed-requires-clause-owners g c κs within =
+run_fed-requires-clause-owners g c =
     owners_ready g.P.Partition.owner g.P.Partition.home reader_state reader_home c.args.trace.now c.args.options.now _ _ c.requires.ready
     c.loop-q.owners.items c.loop-q.invariant.same
 
 pub run_fed-requires-clause-readers : goal.run_fed-requires-clause-readers
-run_fed-requires-clause-readers g c κs within =
+run_fed-requires-clause-readers g c =
     readers_ready g.P.Partition.owner g.P.Partition.home reader_state reader_home c.args.trace.now c.args.options.now _ _ c.requires.ready
     c.loop-q.readers.items c.loop-q.q (omega (arith, c.loop-q-test.false, c.len-q-end.ensures, c.args.readers.now.ok, seen_many part _ _ c.loop-q.invariant.lent.many)) c.loop-q.invariant.lent
 
+pub run_fed-requires-clause-crew : goal.run_fed-requires-clause-crew
+run_fed-requires-clause-crew g c =
+    let owner = λ (w : OwnerWork g.row.P.Denot). owner_part g.P.Partition.owner g.P.Partition.home w in
+    subst (λ (n : ℕ × ℕ). IsCrew n.0 n.1 c.args.trace.now c.args.options.now c.args.crew.now)
+    (λ i. (sym (seen_many owner _ _ (ap length c.loop-q.invariant.same)) i, sym (seen_many part _ _ c.loop-q.invariant.lent.many) i)) c.requires.crew
+
 pub run_fed-requires-clause-shared : goal.run_fed-requires-clause-shared
-run_fed-requires-clause-shared g c κs within = rw c.loop-q.invariant.same c.requires.shared
+run_fed-requires-clause-shared g c = rw c.loop-q.invariant.same c.requires.shared
 
 pub meet_all-requires : goal.meet_all-requires
 meet_all-requires g c =
@@ -83,11 +91,9 @@ loop-q-2-preserved g c =
           (record { seats = ap (λ ss. map (λ (s : ReaderSeat). reader_state s) ss) c.meet_all.ensures.empty; worker = refl; gets = refl; found = refl });
     }
 
-pub returns : goal.returns
-returns g c =
-    let all = ran g (goal.at.returns g c).In_ok-run_fed in
-    record {
-      ran = ran_round all c.loop-q-2.q c.loop-q-2.readers.items c.loop-q-2.owners.items
-          (omega (arith, c.loop-q-2-test.false, c.loop-q-2.auto.q-end, c.len-q-end-2.ensures, c.run_fed.new.readers.ok, seen_many part _ _ c.loop-q-2.invariant.left.many))
-          c.loop-q-2.invariant.left c.loop-q-2.invariant.met;
-    }
+pub returns-clause-ran : goal.returns-clause-ran
+returns-clause-ran g c =
+    let all = ran g (goal.at.returns-clause-ran g c).In_ok-run_fed in
+    ran_round all c.loop-q-2.q c.loop-q-2.readers.items c.loop-q-2.owners.items
+    (omega (arith, c.loop-q-2-test.false, c.loop-q-2.auto.q-end, c.len-q-end-2.ensures, c.run_fed.new.readers.ok, seen_many part _ _ c.loop-q-2.invariant.left.many))
+    c.loop-q-2.invariant.left c.loop-q-2.invariant.met

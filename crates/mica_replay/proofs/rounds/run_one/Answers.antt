@@ -1,4 +1,5 @@
-use Rattle.std.proofs.Common.{◌-◌, List, map, take, drop, Some, ◌∙◌, arith}
+use Rattle.std.proofs.Common.{ℕ, ◌-◌, List, map, take, drop, Some, sym, ◌∙◌, subst, arith}
+use Rattle.std.proofs.lemmas.List.{length-map}
 use Rattle.std.specs.Vec.Iter.{into_iter_items}
 use Rattle.mica_trace.specs.declared.line.TraceLine.{TraceLine}
 use Rattle.mica_trace.specs.declared.report.Line.{Line}
@@ -9,11 +10,12 @@ use Rattle.partition_table.specs.Seats.{reader_state, reader_home}
 use Rattle.partition_table.specs.declared.reader.ReaderSeat.{ReaderSeat}
 use Rattle.mica_replay.specs.declared.worker.OwnerWork.{OwnerWork}
 use Rattle.mica_replay.specs.declared.worker.ReaderWork.{ReaderWork}
+use Rattle.mica_replay.specs.Crew.{IsCrew}
 use Rattle.mica_replay.specs.Lending.{OwnerPart, owner_part}
 use Rattle.mica_replay.specs.RoundRun.{ReaderPart, reader_part}
 use Rattle.mica_replay.specs.Shares.{IsShared}
 use Rattle.mica_replay.proofs.LineShares.{take_most}
-use Rattle.mica_replay.proofs.OneRound.{ToRun, AllRan, are_ready, given_writes, are_enough, goes_next, free_again, take_join, all_take, all_drop, twice_map, gets_few, gets_join}
+use Rattle.mica_replay.proofs.OneRound.{ToRun, AllRan, given_many, asked_many, are_ready, given_writes, are_enough, goes_next, free_again, take_join, all_take, all_drop, twice_map, gets_few, gets_join}
 use Rattle.mica_replay.proofs.rounds.run_one.Given.{Over}
 use Rattle.mica_replay.proofs.rounds.run_one.Goals.{After-split_round, In_ok-found}
 use Rattle.mica_replay.proofs.rounds.run_one.Goals as goal
@@ -57,10 +59,18 @@ all_ran g c = record {
 }
 
 pub run_round-requires-clause-ready : goal.run_round-requires-clause-ready
-run_round-requires-clause-ready g c κs within = are_ready (to_run g (goal.at.run_round-requires-clause-ready g c).After-split_round c.in_ok-next.ensures.shared)
+run_round-requires-clause-ready g c = are_ready (to_run g (goal.at.run_round-requires-clause-ready g c).After-split_round c.in_ok-next.ensures.shared)
+
+pub run_round-requires-clause-crew : goal.run_round-requires-clause-crew
+run_round-requires-clause-crew g c =
+    let run = to_run g (goal.at.run_round-requires-clause-crew g c).After-split_round c.in_ok-next.ensures.shared in
+    let owner = λ (w : OwnerWork g.row.P.Denot). owner_part g.P.Partition.owner g.P.Partition.home w in
+    let reader = λ (r : ReaderWork ReaderSeat). reader_part reader_state reader_home r in
+    subst (λ (n : ℕ × ℕ). IsCrew n.0 n.1 c.args.trace.now c.args.options.now c.args.crew.now)
+    (λ i. (sym (sym (length-map c.split_round.new.owners.items owner) ∙ given_many run) i, sym (sym (length-map c.split_round.new.readers.items reader) ∙ asked_many run) i)) c.requires.crew
 
 pub run_round-requires-clause-shared : goal.run_round-requires-clause-shared
-run_round-requires-clause-shared g c κs within = given_writes (to_run g (goal.at.run_round-requires-clause-shared g c).After-split_round c.in_ok-next.ensures.shared)
+run_round-requires-clause-shared g c = given_writes (to_run g (goal.at.run_round-requires-clause-shared g c).After-split_round c.in_ok-next.ensures.shared)
 
 pub print_round-requires-clause-enough : goal.print_round-requires-clause-enough
 print_round-requires-clause-enough g c =

@@ -21,4 +21,6 @@ loop-sync-init g c =
           (starts c.args.options.now (map state_of_owner owner_parts) (length-map owner_parts state_of_owner ∙ c.requires.made.many)
           (λ p owner is. let back = from_map state_of_owner owner_parts p owner is in sym back.2 ∙ c.requires.made.each p back.0 back.1));
       readers = c.requires.free;
+      crew = c.requires.crew;
+      same = refl;
     }

@@ -1,5 +1,6 @@
 use Rattle.std.proofs.Common.{◌≡◌, ◌≤◌, ◌-◌, map, length, take}
 use Rattle.mica_trace.specs.RoundReport.{EndsRound, gets_in}
+use Rattle.mica_replay.specs.Crew.{IsCrew}
 use Rattle.mica_replay.specs.Lending.{owner_part}
 use Rattle.mica_replay.specs.RoundRun.{reader_part, state_of_owner, AreFree}
 use Rattle.mica_replay.specs.Between.{IsReplaying}
@@ -12,6 +13,8 @@ invariant-loop-sync g l = record {
   gets : l.gets ≡ gets_in (take l.from l.trace);
   ended : EndsRound (take l.from l.trace);
   so_far : IsReplaying l.options (take l.from l.trace) l.report (map state_of_owner (map (λ w. owner_part g.P.Partition.owner g.P.Partition.home w) l.owners.items));
+  crew : IsCrew l.options.partitions l.options.readers l.trace l.options l.crew;
+  same : l.crew ≡ l.initial.crew;
   readers : AreFree l.options (map (λ r. reader_part reader_state reader_home r) l.readers.items);
 }
 

@@ -13,7 +13,7 @@ use Rattle.mica_replay.proofs.run.run_on.Goals as goal
 
 pub keep_all-requires-clause-idle : goal.keep_all-requires-clause-idle
 keep_all-requires-clause-idle g c =
-    λ p w is. (c.in_ok-report.ensures.each p w.state (slice_get-map state_of_owner _ p ∙ ap (option_map state_of_owner) is)).idle
+    λ p w is. (c.in_ok-report.ensures.report.each p w.state (slice_get-map state_of_owner _ p ∙ ap (option_map state_of_owner) is)).idle
 
 pub returns-clause-ok : goal.returns-clause-ok
 returns-clause-ok g c =
@@ -21,5 +21,5 @@ returns-clause-ok g c =
     let owner_parts = map f c.run_rounds.new.owners.items in
     let all : c.keep_all.new.tables ≡ map kept_of owner_parts = c.keep_all.ensures ∙ ap (λ (l : List Entry). l ++ map kept_of owner_parts) c.requires.tables in
     subst (IsReplayed c.args.options.now c.args.trace.now c.in_ok-report.report) (sym all)
-    (ends c.args.options.now c.args.trace.now c.in_ok-report.report (map state_of_owner owner_parts) (map kept_of owner_parts) c.in_ok-report.ensures (length-map owner_parts kept_of ∙ sym (length-map owner_parts state_of_owner))
+    (ends c.args.options.now c.args.trace.now c.in_ok-report.report (map state_of_owner owner_parts) (map kept_of owner_parts) c.in_ok-report.ensures.report (length-map owner_parts kept_of ∙ sym (length-map owner_parts state_of_owner))
     (λ p entry is. let back = from_map kept_of owner_parts p entry is in (back.0.state, slice_get-map state_of_owner owner_parts p ∙ ap (option_map state_of_owner) back.1, sym back.2)))

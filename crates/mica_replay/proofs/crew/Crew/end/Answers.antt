@@ -1,0 +1,15 @@
+use Rattle.std.proofs.Common.{◌≡◌, None, All, refl, sym, ap, ◌∙◌, subst}
+use Rattle.std.proofs.lemmas.List.Elements.{All-replicate}
+use Rattle.work_desk.specs.Desk.{giver}
+use Rattle.mica_replay.specs.Crew.{Desks, read_terms}
+use Rattle.mica_replay.proofs.crew.Crew.end.Goals as goal
+
+pub end_all-requires : goal.end_all-requires
+end_all-requires g c =
+    subst (All (λ k. k.work ≡ None)) (sym (ap (λ (d : Desks g.row.P.Denot). d.owners) c.self.view_is ∙ c.requires.owners))
+    (All-replicate (λ k. k.work ≡ None) c.args.options.now.partitions (giver tt None) refl)
+
+pub end_all-requires-2 : goal.end_all-requires-2
+end_all-requires-2 g c =
+    subst (All (λ k. k.work ≡ None)) (sym (ap (λ (d : Desks g.row.P.Denot). d.readers) c.self.view_is ∙ c.requires.readers))
+    (All-replicate (λ k. k.work ≡ None) c.args.options.now.readers (giver (read_terms c.args.trace.now c.args.options.now) None) refl)

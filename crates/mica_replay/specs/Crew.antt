@@ -1,0 +1,28 @@
+-- The crew of a trace: a free desk for each owner and each reader.
+use Rattle.std.specs.Prelude.{◌≡◌, ℕ, List, [], replicate, None}
+use Rattle.partition_model.specs.declared.options.Options.{Options}
+use Rattle.partition_model.specs.declared.options.Mode.TheVariants.{Cache}
+use Rattle.mica_trace.specs.declared.line.TraceLine.{TraceLine}
+use Rattle.partition_table.specs.declared.reader.ReaderSeat.{ReaderSeat}
+use Rattle.work_desk.specs.declared.rule.Knows.{Knows}
+use Rattle.work_desk.specs.Desk.{giver}
+use Rattle.mica_replay.specs.declared.worker.OwnerWork.{OwnerWork}
+use Rattle.mica_replay.specs.declared.worker.ReaderWork.{ReaderWork}
+use Rattle.mica_replay.specs.declared.duties.ReadTerms.{ReadTerms}
+
+abbrev pub read_terms : List TraceLine → Options → ReadTerms
+read_terms lines options = record { lines = lines; options = options }
+
+abbrev pub no_terms : ReadTerms
+no_terms = read_terms [] (record { mode = Cache; partitions = 0; buckets = 0; spares = 0; words = 0; readers = 0; tries = 0; wear = 0 })
+
+-- what the desks' sides know
+pub record Desks (P : Type 0) : Type 0 where
+  pub owners : List (Knows (OwnerWork P) (Unit {0}))
+  pub readers : List (Knows (ReaderWork ReaderSeat) ReadTerms)
+
+module _ {P : Type 0} where
+  -- free desks, from the side that hands work over
+  pub record IsCrew (owner_count reader_count : ℕ) (lines : List TraceLine) (options : Options) (crew : Desks P) : Type 0 where
+    pub owners : crew.owners ≡ replicate owner_count (giver tt None)
+    pub readers : crew.readers ≡ replicate reader_count (giver (read_terms lines options) None)
