@@ -7,15 +7,15 @@ use Rattle.std.proofs.lemmas.List.{drop_at}
 use Rattle.batch_packets.specs.declared.header.TheConstants.{HEADER_LEN, MAX_DATAGRAM_LEN_V1, MAX_DATAGRAM_LEN_V2, MAX_VALUE_LEN_V1}
 use Rattle.mica_words.specs.declared.item.TheConstants.{MAX_VALUE_LEN}
 use Rattle.batch_packets.specs.declared.fault.BatchFault.{BatchFault}
-use Rattle.batch_packets.specs.Datagram.{Kind, is_version, max_datagram_len, max_value_len, item_fault, items_fault, first_fault, version_at, count_at}
+use Rattle.batch_packets.specs.Datagram.{DatagramKind, is_version, max_datagram_len, max_value_len, item_fault, items_fault, first_fault, version_at, count_at}
 
 -- what the text of an item of a version tells of it, whatever follows
-pub record Tells {Item : Type 0} (kind : Kind) (version : ℕ) (text : Item → List ℕ) (value_at : List ℕ → Item) (item : Item) : Type 0 where
+pub record Tells {Item : Type 0} (kind : DatagramKind) (version : ℕ) (text : Item → List ℕ) (value_at : List ℕ → Item) (item : Item) : Type 0 where
   pub no_fault : (rest : List ℕ) → item_fault kind version (text item ++ rest) ≡ None
   pub size : (rest : List ℕ) → kind.size (text item ++ rest) ≡ length (text item)
   pub value : (rest : List ℕ) → value_at (text item ++ rest) ≡ item
 
-pub no_faults : {Item : Type 0} (kind : Kind) (version : ℕ) (text : Item → List ℕ) (value_at : List ℕ → Item) (items : List Item) → AllByRecursion (Tells kind version text value_at) items → items_fault kind version (length items) (flat_map text items) ≡ None
+pub no_faults : {Item : Type 0} (kind : DatagramKind) (version : ℕ) (text : Item → List ℕ) (value_at : List ℕ → Item) (items : List Item) → AllByRecursion (Tells kind version text value_at) items → items_fault kind version (length items) (flat_map text items) ≡ None
 unfolding items_fault
 no_faults kind version text value_at [] h = refl
 no_faults kind version text value_at (x ∷ xs) h =
@@ -24,7 +24,7 @@ no_faults kind version text value_at (x ∷ xs) h =
     rw (h.0.no_fault (flat_map text xs), after) (no_faults kind version text value_at xs h.1)
 
 -- as many items with one text are the same
-pub one_list : {Item : Type 0} (kind : Kind) (version : ℕ) (text : Item → List ℕ) (value_at : List ℕ → Item) (xs ys : List Item) → AllByRecursion (Tells kind version text value_at) xs → AllByRecursion (Tells kind version text value_at) ys
+pub one_list : {Item : Type 0} (kind : DatagramKind) (version : ℕ) (text : Item → List ℕ) (value_at : List ℕ → Item) (xs ys : List Item) → AllByRecursion (Tells kind version text value_at) xs → AllByRecursion (Tells kind version text value_at) ys
     → length xs ≡ length ys → flat_map text xs ≡ flat_map text ys → xs ≡ ys
 one_list kind version text value_at [] [] p q len same = refl
 one_list kind version text value_at [] (y ∷ ys) p q len same = absurd (omega arith)
@@ -56,7 +56,7 @@ pub value_within : (version : ℕ) → max_value_len version < 2 ^ 16
 value_within version = cond_both (eqb version 1) MAX_VALUE_LEN_V1 MAX_VALUE_LEN (λ n. n < 2 ^ 16) (λ e. omega arith) (λ e. omega arith)
 
 -- a datagram without a fault in its header or its items has none
-pub no_first_fault : (kind : Kind) (bytes : List ℕ) (version count : ℕ) → IsTrue (is_version version) → length bytes ≤ max_datagram_len version → HEADER_LEN ≤ length bytes → starts_with nat_eq bytes kind.magic ≡ true → version_at bytes ≡ version → count_at bytes ≡ count → 0 < count
+pub no_first_fault : (kind : DatagramKind) (bytes : List ℕ) (version count : ℕ) → IsTrue (is_version version) → length bytes ≤ max_datagram_len version → HEADER_LEN ≤ length bytes → starts_with nat_eq bytes kind.magic ≡ true → version_at bytes ≡ version → count_at bytes ≡ count → 0 < count
     → items_fault kind version count (drop HEADER_LEN bytes) ≡ None → first_fault kind bytes ≡ None
 unfolding first_fault
 no_first_fault kind bytes version count known short long magic version_is count_is some none =

@@ -5,7 +5,7 @@ use Rattle.std.specs.Int.{w32, to_le_bytes}
 use Rattle.std.proofs.lemmas.List.{drop_at}
 use Rattle.std.proofs.lemmas.List.Elements.{All-cons, All-tail}
 use Rattle.batch_packets.specs.declared.header.TheConstants.{MAX_ITEMS}
-use Rattle.batch_packets.specs.Datagram.{Kind, FitsDatagram, SpellsItems, header_text, datagram_text, item_fault, max_datagram_len}
+use Rattle.batch_packets.specs.Datagram.{DatagramKind, FitsDatagram, SpellsItems, header_text, datagram_text, item_fault, max_datagram_len}
 use Rattle.batch_packets.proofs.ItemLaws.{Tells}
 
 module _ {Item : Type 0} (text : Item → List ℕ) (is_item : ℕ → Item → Type 0) (is_in_range : Item → Type 0) (version : ℕ) where
@@ -41,7 +41,7 @@ module _ {Item : Type 0} (text : Item → List ℕ) (is_item : ℕ → Item → 
     }
 
   -- items that each tell of themselves can be taken in one way
-  module _ (kind : Kind) (value_at : List ℕ → Item) (tells : (item : Item) → is_item version item → is_in_range item → Tells kind version text value_at item) (bytes : List ℕ) (item : Item) (later : List Item)
+  module _ (kind : DatagramKind) (value_at : List ℕ → Item) (tells : (item : Item) → is_item version item → is_in_range item → Tells kind version text value_at item) (bytes : List ℕ) (item : Item) (later : List Item)
       (spells : SpellsItems text is_item is_in_range version bytes (item ∷ later)) where
     first_tells : Tells kind version text value_at item
     first_tells = tells item (spells.each 0 item (omega arith)) (spells.in_range 0 item (omega arith))

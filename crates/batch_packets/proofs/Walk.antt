@@ -4,10 +4,10 @@ use Rattle.std.proofs.lemmas.Bool.{lt-ltb}
 use Rattle.std.proofs.lemmas.List.{drop-drop}
 use Rattle.batch_packets.specs.declared.fault.BatchFault.{BatchFault}
 use Rattle.batch_packets.specs.declared.fault.BatchFault.TheVariants.{Trailing}
-use Rattle.batch_packets.specs.Datagram.{Kind, item_fault, items_fault}
+use Rattle.batch_packets.specs.Datagram.{DatagramKind, item_fault, items_fault}
 
 -- an item without a fault leaves the faults of those after it
-pub goes_on : (kind : Kind) (version count i : ℕ) (rest after : List ℕ) (first : Option BatchFault) → i < count → item_fault kind version rest ≡ None → drop (kind.size rest) rest ≡ after
+pub goes_on : (kind : DatagramKind) (version count i : ℕ) (rest after : List ℕ) (first : Option BatchFault) → i < count → item_fault kind version rest ≡ None → drop (kind.size rest) rest ≡ after
     → first ≡ items_fault kind version (count - i) rest → first ≡ items_fault kind version (count - (i + 1)) after
 unfolding items_fault
 goes_on kind version count i rest after first lt none dropped so_far =
@@ -15,7 +15,7 @@ goes_on kind version count i rest after first lt none dropped so_far =
     so_far ∙ rw (k, none, dropped) refl
 
 -- the first item's fault is the first of all
-pub ends : (kind : Kind) (version count i : ℕ) (rest : List ℕ) (first : Option BatchFault) (fault : BatchFault) → i < count → item_fault kind version rest ≡ Some fault
+pub ends : (kind : DatagramKind) (version count i : ℕ) (rest : List ℕ) (first : Option BatchFault) (fault : BatchFault) → i < count → item_fault kind version rest ≡ Some fault
     → first ≡ items_fault kind version (count - i) rest → first ≡ Some fault
 unfolding items_fault
 ends kind version count i rest first fault lt is so_far =
@@ -23,7 +23,7 @@ ends kind version count i rest first fault lt is so_far =
     so_far ∙ rw (k, is) refl
 
 -- after the last item more bytes are a fault
-pub trails : (kind : Kind) (version count i : ℕ) (rest : List ℕ) (first : Option BatchFault) → count ≤ i → ¬ (length rest ≡ 0) → first ≡ items_fault kind version (count - i) rest → first ≡ Some Trailing
+pub trails : (kind : DatagramKind) (version count i : ℕ) (rest : List ℕ) (first : Option BatchFault) → count ≤ i → ¬ (length rest ≡ 0) → first ≡ items_fault kind version (count - i) rest → first ≡ Some Trailing
 unfolding items_fault
 trails kind version count i rest first le some so_far =
     let k : count - i ≡ 0 = omega arith in
@@ -31,7 +31,7 @@ trails kind version count i rest first le some so_far =
     so_far ∙ rw (k, test) refl
 
 -- after the last item no bytes are none
-pub is_done : (kind : Kind) (version count i : ℕ) (rest : List ℕ) (first : Option BatchFault) → count ≤ i → length rest ≡ 0 → first ≡ items_fault kind version (count - i) rest → first ≡ None
+pub is_done : (kind : DatagramKind) (version count i : ℕ) (rest : List ℕ) (first : Option BatchFault) → count ≤ i → length rest ≡ 0 → first ≡ items_fault kind version (count - i) rest → first ≡ None
 unfolding items_fault
 is_done kind version count i rest first le none so_far =
     let k : count - i ≡ 0 = omega arith in

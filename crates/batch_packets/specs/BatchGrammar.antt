@@ -6,7 +6,7 @@ use Rattle.batch_packets.specs.declared.batch.Want.{Want}
 use Rattle.batch_packets.specs.declared.batch.Want.TheVariants.{Get, Put, Del, Add, Touch}
 use Rattle.batch_packets.specs.declared.batch.Request.{Request}
 use Rattle.batch_packets.specs.declared.batch.Batch.{Batch}
-use Rattle.batch_packets.specs.Datagram.{is_version, max_value_len, datagram_text, FitsDatagram, Kind}
+use Rattle.batch_packets.specs.Datagram.{is_version, max_value_len, datagram_text, FitsDatagram, DatagramKind}
 
 -- the byte of an operation
 unfoldable pub operation_of : Want → ℕ
@@ -75,7 +75,7 @@ abbrev pub value_len_at : List ℕ → ℕ
 value_len_at bytes = from_le_bytes w16 (drop 2 bytes)
 
 -- what the bytes of a request say
-abbrev pub batch_kind : Kind
+abbrev pub batch_kind : DatagramKind
 batch_kind = record {
   magic = batch_magic;
   fixed = 8;

@@ -46,7 +46,7 @@ pub record SpellsItems {Item : Type 0} (text : Item → List ℕ) (is_item : ℕ
 
 -- What the two kinds of datagram differ in: the magic, and what the bytes of an item say of it. The
 -- bytes of an item are those from its first one on.
-pub record Kind : Type 0 where
+pub record DatagramKind : Type 0 where
   pub magic : List ℕ
   -- the bytes before an item's texts
   pub fixed : ℕ
@@ -77,7 +77,7 @@ header_fault magic bytes = first_of
     ∷ [])
 
 -- the first fault of the item at the front, in this order
-abbrev pub item_fault : Kind → ℕ → List ℕ → Option BatchFault
+abbrev pub item_fault : DatagramKind → ℕ → List ℕ → Option BatchFault
 item_fault kind version bytes = first_of
     ((nat_lt (length bytes) kind.fixed, Short)
     ∷ (not (kind.is_known version bytes), Op)
@@ -86,14 +86,14 @@ item_fault kind version bytes = first_of
     ∷ [])
 
 -- the first fault of so many items, which nothing may follow
-unfoldable pub items_fault : Kind → ℕ → ℕ → List ℕ → Option BatchFault
+unfoldable pub items_fault : DatagramKind → ℕ → ℕ → List ℕ → Option BatchFault
 items_fault kind version zero bytes = first_of ((nat_lt 0 (length bytes), Trailing) ∷ [])
 items_fault kind version (suc count) bytes =
     or_later (item_fault kind version bytes)
     (items_fault kind version count (drop (kind.size bytes) bytes))
 
 -- the first fault of a datagram
-unfoldable pub first_fault : Kind → List ℕ → Option BatchFault
+unfoldable pub first_fault : DatagramKind → List ℕ → Option BatchFault
 first_fault kind bytes =
     or_later (header_fault kind.magic bytes)
     (items_fault kind (version_at bytes) (count_at bytes) (drop HEADER_LEN bytes))

@@ -24,6 +24,6 @@ AgreesWith first (Ok value) = first ≡ None
 AgreesWith first (Err fault) = IsFirst first fault
 
 -- an answer is Ok where there is no fault, and else the first one
-abbrev pub Judges : {T : Type 0} → Option BatchFault → Result T BatchFault → Type 0
-Judges first (Ok value) = first ≡ None
-Judges first (Err fault) = first ≡ Some fault
+abbrev pub AnswersExactly : {T : Type 0} → Option BatchFault → Result T BatchFault → Type 0
+AnswersExactly first (Ok value) = first ≡ None
+AnswersExactly first (Err fault) = first ≡ Some fault

@@ -4,4 +4,4 @@ pub mod BatchGrammar
 pub mod ReplyGrammar
 pub mod Splitting
 pub mod Filling
-pub mod Unread
+pub mod Remaining

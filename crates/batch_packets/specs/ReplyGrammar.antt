@@ -3,7 +3,7 @@ use Rattle.std.specs.Prelude.{◌≡◌, ◌+◌, ◌^◌, ◌<◌, ◌≤◌, �
 use Rattle.std.specs.Int.{w16, w32, w64, to_le_bytes, from_le_bytes}
 use Rattle.batch_packets.specs.declared.replies.Reply.{Reply}
 use Rattle.batch_packets.specs.declared.replies.Replies.{Replies}
-use Rattle.batch_packets.specs.Datagram.{is_version, max_value_len, datagram_text, FitsDatagram, Kind}
+use Rattle.batch_packets.specs.Datagram.{is_version, max_value_len, datagram_text, FitsDatagram, DatagramKind}
 
 -- Whether a version has this status: 0 hit, 1 miss, 2 stored, 3 deleted, 4 absent, 5 full spare,
 -- 6 full block and 7 worn in both; 9 bad batch and 10 a hit of a longer value in the first; 11 exists
@@ -69,7 +69,7 @@ abbrev pub value_len_at : List ℕ → ℕ
 value_len_at bytes = from_le_bytes w16 (drop 2 bytes)
 
 -- what the bytes of a reply say; the byte after the status is 0
-abbrev pub replies_kind : Kind
+abbrev pub replies_kind : DatagramKind
 replies_kind = record {
   magic = replies_magic;
   fixed = 16;

@@ -2,10 +2,10 @@
 ghost use Rattle.std.specs.Prelude.{◌≡◌, ◌∷◌, List, length, IsOk, IfOk};
 ghost use Rattle.batch_packets.specs.declared.batch.Request.{Request};
 ghost use Rattle.batch_packets.specs.declared.batch.Batch.{Batch};
-ghost use Rattle.batch_packets.specs.Faults.{Judges};
+ghost use Rattle.batch_packets.specs.Faults.{AnswersExactly};
 ghost use Rattle.batch_packets.specs.Datagram.{first_fault};
 ghost use Rattle.batch_packets.specs.BatchGrammar.{SpellsBatch, batch_kind};
-ghost use Rattle.batch_packets.specs.Unread.{HasLeft};
+ghost use Rattle.batch_packets.specs.Remaining.{HasLeft};
 
 use crate::batch::Want;
 use crate::header::Header;
@@ -125,9 +125,9 @@ pub struct Requests<'a> {
 impl<'a> Model for Requests<'a> {
     ghost use Rattle.std.specs.Prelude.{IsTrue};
     ghost use Rattle.batch_packets.specs.Datagram.{is_version};
-    ghost use Rattle.batch_packets.specs.Unread.{Unread};
+    ghost use Rattle.batch_packets.specs.Remaining.{Remaining};
 
-    ghost Value = { Unread };
+    ghost Value = { Remaining };
 
     ghost view = { λ r. record { version = r.version; bytes = r.rest.now } };
 
@@ -163,7 +163,7 @@ pub fn check_batch(from: &[u8]) -> Result<(Header, Requests), BatchFault>
     ensures batch { IfOk result (λ x. (requests : List Request)
         × SpellsBatch from.now (record { version = x.0.version; number = x.0.number; requests = requests })
         × (length requests ≡ x.0.count) × (x.1.version ≡ x.0.version) × HasLeft x.1 requests) }
-    ensures fault { Judges (first_fault batch_kind from.now) result }
+    ensures fault { AnswersExactly (first_fault batch_kind from.now) result }
     // The text of a batch is one.
     ensures only { (batch : Batch) → SpellsBatch from.now batch → IsOk result }
 {

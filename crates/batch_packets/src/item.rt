@@ -1,15 +1,15 @@
 //! Requests and replies as items behind a header, which are read alike.
 ghost use Rattle.std.specs.Prelude.{◌≡◌, ◌^◌, ◌<◌, ◌≤◌, ◌++◌, ℕ, List, None, length, drop, All, IsTrue, IfOk, OnOk};
-ghost use Rattle.batch_packets.specs.Faults.{Judges};
+ghost use Rattle.batch_packets.specs.Faults.{AnswersExactly};
 ghost use Rattle.batch_packets.specs.declared.header.TheConstants.{MAX_ITEMS};
-ghost use Rattle.batch_packets.specs.Datagram.{Kind, SpellsItems, is_version, max_datagram_len, header_text, item_fault, items_fault, first_fault};
+ghost use Rattle.batch_packets.specs.Datagram.{DatagramKind, SpellsItems, is_version, max_datagram_len, header_text, item_fault, items_fault, first_fault};
 
 use crate::BatchFault;
 use crate::header::{Header, read_header};
 
 /// What a datagram has several of: requests in a batch, or replies. Its texts lie in the bytes that it is read from.
 pub trait Item<'a>: Drop {
-    ghost kind: { Kind };
+    ghost kind: { DatagramKind };
 
     ghost text: { Self → List ℕ };
 
@@ -29,7 +29,7 @@ pub trait Item<'a>: Drop {
         ensures lawful { IfOk result (λ x. is_item version x.0) }
         ensures in_range { IfOk result (λ x. is_in_range x.0) }
         ensures rest { IfOk result (λ x. drop (kind.size from.now) from.now ≡ x.1.now) }
-        ensures fault { Judges (item_fault kind version from.now) result };
+        ensures fault { AnswersExactly (item_fault kind version from.now) result };
 }
 
 /// Judges bytes as so many items of a version, after which nothing follows.
@@ -37,7 +37,7 @@ fn check_items<'a, T: Item<'a>>(version: u8, count: u8, from: &'a [u8]) -> Resul
     requires { IsTrue (is_version version) }
     ensures items { OnOk result ((items : List T) × (length items ≡ count)
         × SpellsItems T.text T.is_item T.is_in_range version from.now items) }
-    ensures fault { Judges (items_fault T.kind version count from.now) result }
+    ensures fault { AnswersExactly (items_fault T.kind version count from.now) result }
 {
     let mut rest = from;
     for _ in 0..count {
@@ -61,7 +61,7 @@ pub fn check_datagram<'a, T: Item<'a>>(from: &'a [u8]) -> Result<(Header, &'a [u
     ensures short { IfOk result (λ x. length from.now ≤ max_datagram_len x.0.version) }
     ensures items { IfOk result (λ x. (items : List T) × (length items ≡ x.0.count)
         × SpellsItems T.text T.is_item T.is_in_range x.0.version x.1.now items) }
-    ensures fault { Judges (first_fault T.kind from.now) result }
+    ensures fault { AnswersExactly (first_fault T.kind from.now) result }
 {
     let (header, rest) = read_header(T::magic(), from)?;
     check_items::<T>(header.version, header.count, rest)?;

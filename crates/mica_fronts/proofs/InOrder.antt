@@ -9,7 +9,7 @@ use Rattle.batch_packets.specs.declared.batch.Request.{Request}
 use Rattle.batch_packets.specs.declared.replies.Reply.{Reply}
 use Rattle.batch_packets.specs.BatchGrammar.{IsRequest}
 use Rattle.batch_packets.specs.Filling.{Filling}
-use Rattle.batch_packets.specs.Unread.{Unread, HasLeft}
+use Rattle.batch_packets.specs.Remaining.{Remaining, HasLeft}
 use Rattle.batch_packets.proofs.Filling.{adds_none as adds_none_to, adds_then}
 use Rattle.mica_fronts.specs.Turn.{Turn, write_in, partition_in}
 use Rattle.mica_fronts.specs.Dealing.{IsTurn}
@@ -106,7 +106,7 @@ module _ (options : Options) (is_alone : Bool) where
   }
 
   -- Of all requests these are left, from a number on. Whatever answers them makes, with what was done, the answers to all.
-  pub record Here (old : Sessions) (left : ℕ) (before : Filling) (all : List Request) (now : Sessions) (left_now : ℕ) (text : Filling) (unread : Unread) (count number : ℕ) : Type 0 where
+  pub record Here (old : Sessions) (left : ℕ) (before : Filling) (all : List Request) (now : Sessions) (left_now : ℕ) (text : Filling) (unread : Remaining) (count number : ℕ) : Type 0 where
     pub rest : List Request
     pub has : HasLeft unread rest
     pub many : length rest + number ≡ count
@@ -114,7 +114,7 @@ module _ (options : Options) (is_alone : Bool) where
         → AddsAll options is_alone old left before all new left_after after
     pub first : (new : Sessions) (left_after : ℕ) → AnswersFirst options is_alone now left_now rest new left_after → AnswersFirst options is_alone old left all new left_after
 
-  pub here_begins : (old : Sessions) (left : ℕ) (before : Filling) (all : List Request) (unread : Unread) (version count : ℕ) → AreLeft unread version count all
+  pub here_begins : (old : Sessions) (left : ℕ) (before : Filling) (all : List Request) (unread : Remaining) (version count : ℕ) → AreLeft unread version count all
       → Here old left before all old left before unread count 0
   here_begins old left before all unread version count are = record {
     rest = all;
@@ -124,7 +124,7 @@ module _ (options : Options) (is_alone : Bool) where
     first = λ new left_after h. h;
   }
 
-  module _ {old now : Sessions} {left left_now : ℕ} {before text : Filling} {all : List Request} {unread : Unread} {count number : ℕ} where
+  module _ {old now : Sessions} {left left_now : ℕ} {before text : Filling} {all : List Request} {unread : Remaining} {count number : ℕ} where
     -- none was answered since
     pub here_first : Here old left before all now left_now text unread count number → AnswersFirst options is_alone old left all now left_now
     here_first h = h.first now left_now (first_none now left_now h.rest)
@@ -147,14 +147,14 @@ module _ (options : Options) (is_alone : Bool) where
         by (x ∷ later) has many = (x, later, has)
 
   -- the request that was taken is the first of those that are left
-  abbrev pub Takes : Unread → Request → Unread → Type 0
+  abbrev pub Takes : Remaining → Request → Remaining → Type 0
   Takes unread request next = (x : Request) (later : List Request) → HasLeft unread (x ∷ later) → (request ≡ x) × HasLeft next later
 
-  pub here_lawful : {unread next : Unread} {request : Request} → (x : Request) × (later : List Request) × HasLeft unread (x ∷ later) → Takes unread request next → IsRequest unread.version request
+  pub here_lawful : {unread next : Remaining} {request : Request} → (x : Request) × (later : List Request) × HasLeft unread (x ∷ later) → Takes unread request next → IsRequest unread.version request
   here_lawful {unread} some takes =
       subst (λ (r : Request). IsRequest unread.version r) (sym (takes some.0 some.1 some.2).0) (recursion_from_All (IsRequest unread.version) (some.0 ∷ some.1) some.2.each).0
 
-  pub here_next : {old now then : Sessions} {left left_now left_then : ℕ} {before text mid : Filling} {all : List Request} {unread next : Unread} {count number : ℕ} {request : Request}
+  pub here_next : {old now then : Sessions} {left left_now left_then : ℕ} {before text mid : Filling} {all : List Request} {unread next : Remaining} {count number : ℕ} {request : Request}
       → Here old left before all now left_now text unread count number → number < count → Takes unread request next → AddsReply options is_alone now text request then mid
       → left_now ≤ left_then + writes_of_one request → Here old left before all then left_then mid next count (number + 1)
   here_next {old} {now} {then} {left} {left_now} {left_then} {before} {text} {mid} {all} {unread} {next} {count} {number} {request} h lt takes one few = by h.rest h.has h.many h.adds h.first
@@ -177,7 +177,7 @@ module _ (options : Options) (is_alone : Bool) where
           }
 
   -- it was answered, and its reply found no room
-  pub here_replied : {old now then : Sessions} {left left_now left_then version : ℕ} {before text : Filling} {all : List Request} {unread next : Unread} {count number : ℕ} {request : Request} {reply : Reply}
+  pub here_replied : {old now then : Sessions} {left left_now left_then version : ℕ} {before text : Filling} {all : List Request} {unread next : Remaining} {count number : ℕ} {request : Request} {reply : Reply}
       → Here old left before all now left_now text unread count number → number < count → Takes unread request next → RepliesTo options is_alone version now request then reply
       → left_now ≤ left_then + writes_of_one request → AnswersFirst options is_alone old left all then left_then
   here_replied {old} {now} {then} {left} {left_now} {left_then} {version} {before} {text} {all} {unread} {next} {count} {number} {request} {reply} h lt takes one few = by h.rest h.has h.many h.first

@@ -4,7 +4,7 @@ use Rattle.partition_model.specs.declared.options.Options.{Options}
 use Rattle.batch_packets.specs.declared.batch.Request.{Request}
 use Rattle.batch_packets.specs.declared.replies.Reply.{Reply}
 use Rattle.batch_packets.specs.Filling.{Filling, Adds}
-use Rattle.batch_packets.specs.Unread.{Unread, HasLeft}
+use Rattle.batch_packets.specs.Remaining.{Remaining, HasLeft}
 use Rattle.mica_fronts.specs.Turn.{Turn}
 use Rattle.mica_fronts.specs.Dealing.{IsTurn}
 use Rattle.mica_fronts.specs.Session.{Sessions, Answers, AnswersInOrder, count_of_writes}
@@ -48,7 +48,7 @@ pub record AnswersFirst (options : Options) (is_alone : Bool) (old : Sessions) (
   pub few : left ≤ left_after + count_of_writes turns
 
 -- so many requests of a version are left in the bytes of a batch, and these are they
-pub record AreLeft (unread : Unread) (version count : ℕ) (requests : List Request) : Type 0 where
+pub record AreLeft (unread : Remaining) (version count : ℕ) (requests : List Request) : Type 0 where
   pub left : HasLeft unread requests
   pub version_is : unread.version ≡ version
   pub many : length requests ≡ count

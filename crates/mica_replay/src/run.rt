@@ -58,7 +58,7 @@ fn make_parts<W: Threads + Wait + Sync, P: OnTable + Partition + Send>(
             requires { IsValid options.now × (options.now.mode ≡ P.mode) × (zeros.now ≡ (as_made (shape_of options.now)).words) }
             ensures { IfSome part.exit.now (λ p. P.state p ≡ as_made (shape_of options.entry.now)) }
         {
-            *part = P::over(alloc, options, zeros).ok();
+            *part = P::from_zeros(alloc, options, zeros).ok();
         },
     );
     Ok(parts)

@@ -76,7 +76,7 @@ fn open_owner<P: OnTable + LendPartition<Reader = ReaderSeat, Note = Note>>(
     ensures { IfOk result (λ task. LendsOneMore options.now most (owner_end P.owner P.home task)
         (map (λ own. own.items) hands.old.items) (map (λ own. own.items) hands.new.items)) }
 {
-    let part = P::over(alloc, options, zeros)?;
+    let part = P::from_zeros(alloc, options, zeros)?;
     let (senders, jobs) = job_queue(alloc, hands.len() as u32, most)?;
     let acks = Vec::with_capacity(alloc, hands.len())?;
     let mut owner = OwnerTask {

@@ -15,7 +15,7 @@ mod reader;
 mod rule;
 mod tables;
 
-pub use making::{make, make_over, zeros_for};
+pub use making::{make, make_from_zeros, zeros_for};
 pub use owner::OwnerSeat;
 pub use reader::{Note, ReaderSeat};
 pub use tables::{Entry, Tables};

@@ -22,7 +22,7 @@ pub fn zeros_for(alloc: Global, shape: &Shape) -> Result<Vec<u64>, NoMemory>
 }
 
 /// A partition whose words are 0, in the hands of its owner. The zeros are lent, and are the caller's afterwards.
-pub fn make_over(alloc: Global, shape: &Shape, zeros: &[u64]) -> Result<OwnerSeat, NoMemory>
+pub fn make_from_zeros(alloc: Global, shape: &Shape, zeros: &[u64]) -> Result<OwnerSeat, NoMemory>
     requires valid { IsValidShape shape.now }
     requires zeros { zeros.now ≡ (as_made shape.now).words }
     ensures made { IfOk result (λ s. owner_state s ≡ as_made shape.now) }
@@ -42,5 +42,5 @@ pub fn make(alloc: Global, shape: &Shape) -> Result<OwnerSeat, NoMemory>
     ensures made { IfOk result (λ s. owner_state s ≡ as_made shape.now) }
 {
     let zeros = zeros_for(alloc, shape)?;
-    make_over(alloc, shape, zeros.as_slice())
+    make_from_zeros(alloc, shape, zeros.as_slice())
 }

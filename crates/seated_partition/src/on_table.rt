@@ -11,7 +11,7 @@ use cache_partition::CachePartition;
 use epoch_core::{Partition, Shape};
 use mica_io::NoMemory;
 use partition_model::Options;
-use partition_table::{OwnerSeat, make_over, zeros_for};
+use partition_table::{OwnerSeat, make_from_zeros, zeros_for};
 use std::alloc::Global;
 use store_partition::StorePartition;
 
@@ -30,11 +30,11 @@ pub trait OnTable: Drop {
         ensures made { IfOk result (λ p. Self.state p ≡ as_made (shape_of options.now)) }
     {
         let zeros = zeros_for(alloc, &Shape::of(options))?;
-        Self::over(alloc, options, zeros.as_slice())
+        Self::from_zeros(alloc, options, zeros.as_slice())
     }
 
     /// The same, with a row of zeros that is lent: as many as a partition of these options has words.
-    fn over(alloc: Global, options: &Options, zeros: &[u64]) -> Result<Self, NoMemory>
+    fn from_zeros(alloc: Global, options: &Options, zeros: &[u64]) -> Result<Self, NoMemory>
         requires valid { IsValid options.now }
         requires mode { options.now.mode ≡ Self.mode }
         requires zeros { zeros.now ≡ (as_made (shape_of options.now)).words }
@@ -52,8 +52,8 @@ impl OnTable for CachePartition<OwnerSeat> {
 
     ghost state = { λ p. ⟦<CachePartition<OwnerSeat> as Partition>⟧.owner p };
 
-    fn over(alloc: Global, options: &Options, zeros: &[u64]) -> Result<Self, NoMemory> {
-        let words = make_over(alloc, &Shape::of(options), zeros)?;
+    fn from_zeros(alloc: Global, options: &Options, zeros: &[u64]) -> Result<Self, NoMemory> {
+        let words = make_from_zeros(alloc, &Shape::of(options), zeros)?;
         Ok(CachePartition::new(words))
     }
 
@@ -69,8 +69,8 @@ impl OnTable for StorePartition<OwnerSeat> {
 
     ghost state = { λ p. ⟦<StorePartition<OwnerSeat> as Partition>⟧.owner p };
 
-    fn over(alloc: Global, options: &Options, zeros: &[u64]) -> Result<Self, NoMemory> {
-        let words = make_over(alloc, &Shape::of(options), zeros)?;
+    fn from_zeros(alloc: Global, options: &Options, zeros: &[u64]) -> Result<Self, NoMemory> {
+        let words = make_from_zeros(alloc, &Shape::of(options), zeros)?;
         StorePartition::new(alloc, words)
     }
 

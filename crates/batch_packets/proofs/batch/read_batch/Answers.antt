@@ -1,5 +1,5 @@
 use Rattle.std.proofs.Common.{arith}
-use Rattle.batch_packets.specs.Unread.{HasLeft}
+use Rattle.batch_packets.specs.Remaining.{HasLeft}
 use Rattle.batch_packets.proofs.Taking.{some_left, one_read}
 use Rattle.batch_packets.proofs.batch.read_batch.Goals as goal
 

@@ -1,7 +1,7 @@
 use Rattle.std.proofs.Common.{◌≡◌, ◌≤◌}
 use Rattle.std.specs.Prelude.{vec_len, vec_capacity}
 use Rattle.batch_packets.specs.BatchGrammar.{SpellsBatch}
-use Rattle.batch_packets.specs.Unread.{HasLeft}
+use Rattle.batch_packets.specs.Remaining.{HasLeft}
 use Rattle.batch_packets.proofs.Taking.{IsReading}
 use Rattle.batch_packets.proofs.batch.read_batch.Given as goal
 

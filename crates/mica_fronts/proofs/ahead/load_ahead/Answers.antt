@@ -1,5 +1,5 @@
 use Rattle.std.proofs.Common.{[], sym, subst, arith}
-use Rattle.batch_packets.specs.Unread.{Unread, HasLeft}
+use Rattle.batch_packets.specs.Remaining.{Remaining, HasLeft}
 use Rattle.batch_packets.proofs.Taking.{some_left, one_read}
 use Rattle.mica_fronts.proofs.ahead.load_ahead.Goals as goal
 use Rattle.mica_fronts.proofs.ahead.load_ahead.Goals.{then-eq, else-eq}
@@ -12,7 +12,7 @@ loop-init g c = record {
     record {
       left = c.requires.0;
       few = omega (arith, c.requires.1.many);
-      has = subst (λ (u : Unread). HasLeft u c.requires.0) (sym c.again-ahead.ensures) c.requires.1.left;
+      has = subst (λ (u : Remaining). HasLeft u c.requires.0) (sym c.again-ahead.ensures) c.requires.1.left;
       all = tt;
     },
   );

@@ -1,6 +1,6 @@
 use Rattle.std.proofs.Common.{◌≤◌, List}
 use Rattle.batch_packets.specs.declared.batch.Request.{Request}
-use Rattle.batch_packets.specs.Unread.{HasLeft}
+use Rattle.batch_packets.specs.Remaining.{HasLeft}
 use Rattle.batch_packets.proofs.Taking.{IsReading}
 use Rattle.mica_fronts.proofs.ahead.load_ahead.Given as goal
 

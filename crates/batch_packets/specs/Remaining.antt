@@ -5,11 +5,11 @@ use Rattle.batch_packets.specs.Datagram.{SpellsItems}
 use Rattle.batch_packets.specs.BatchGrammar.{IsRequest, IsInRange, request_text}
 
 -- the requests of a batch that are still to be taken: their version, and their bytes
-pub record Unread : Type 0 where
+pub record Remaining : Type 0 where
   pub version : ℕ
   pub bytes : List ℕ
 
 -- these requests are left
-abbrev pub HasLeft : Unread → List Request → Type 0
+abbrev pub HasLeft : Remaining → List Request → Type 0
 HasLeft unread requests =
     SpellsItems request_text IsRequest IsInRange unread.version unread.bytes requests

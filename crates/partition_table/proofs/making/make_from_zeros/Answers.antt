@@ -6,7 +6,7 @@ use Rattle.partition_table.specs.Rule.{Seated, owner_in}
 use Rattle.epoch_core.proofs.Shapes.{in_range_valid}
 use Rattle.epoch_core.proofs.Made.{kept_as_made}
 use Rattle.partition_table.proofs.Steps.{starts}
-use Rattle.partition_table.proofs.making.make_over.Goals as goal
+use Rattle.partition_table.proofs.making.make_from_zeros.Goals as goal
 
 pub of_words-requires : goal.of_words-requires
 of_words-requires c = starts c.args.shape.now c.args.zeros.now c.requires.zeros c.requires.valid
