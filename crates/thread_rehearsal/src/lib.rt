@@ -9,8 +9,8 @@ use std::alloc::Global;
 use std::sync::{Mutex, Wait};
 use std::thread::{self, Threads};
 
-/// Has twice as many threads as workers, all at once, and lets them go again: those of one round may still be
-/// ending while the next one's start. Where the system refuses one, there is no room for the run.
+/// Has twice as many threads as workers, all at once, and lets them go again: beside the workers run those that make
+/// their partitions, and those that lead them. Where the system refuses one, there is no room for the run.
 pub fn rehearse<W: Threads + Wait + Sync>(
     rt: &W,
     alloc: Global,
