@@ -2,8 +2,8 @@
 use Rattle.std.proofs.Common.{le_refl, ◌≡◌, ◌≢◌, ℕ, ◌+◌, ◌*◌, ◌%◌, ◌<◌, ◌≤◌, List, [], ◌∷◌, ◌++◌, Bool, false, refl, sym, ap, ◌∙◌, subst, arith, eq-eqb, ne_eqb, Option, Some, None, inl, inr, if◌then◌else◌}
 use Rattle.std.specs.Prelude.{Contains, IfSome, ◌==◌}
 use Rattle.mica_words.specs.declared.entry.TheConstants.{SLOTS}
-use Rattle.mica_words.specs.Hash.{bucket_of, tag_of}
-use Rattle.mica_words.specs.Entry.{entry_tag, entry_offset}
+use Rattle.mica_words.specs.Hash.{bucket_of}
+use Rattle.mica_words.specs.Entry.{entry_offset}
 use Rattle.mica_words.specs.Packing.{AreBytes}
 use Rattle.partition_model.specs.declared.options.Mode.{Mode}
 use Rattle.partition_model.specs.declared.options.Mode.TheVariants.{Cache, Store}

@@ -1,4 +1,4 @@
-use Rattle.std.proofs.Common.{◌≡◌, ℕ, ◌+◌, Option, None, sym, ◌∙◌, subst, rules, arith}
+use Rattle.std.proofs.Common.{ℕ, ◌+◌, Option, None, sym, ◌∙◌, subst, rules, arith}
 use Rattle.optimistic_get.specs.Search.{Scans}
 use Rattle.optimistic_get.proofs.Entries.{first_found, first_whole, first_empty, none_of, scans_more}
 use Rattle.optimistic_get.proofs.searching.first_in.Given as given
