@@ -1,13 +1,13 @@
 -- What a try's loads spell, while its bucket's epoch has not moved, is the machine's answer.
 use Rattle.std.proofs.lemmas.Grind.{common_steps}
-use Rattle.epoch_core.proofs.Vocabulary.{AreBytes, Cell, Contains, Has, HasKey, HasLiveEntry, InChain, IsAmong, IsLive, IsSpelt, Kept, List, None}
+use Rattle.epoch_core.proofs.Vocabulary.{AreBytes, Cell, Contains, Has, HasChain, HasKey, HasLiveEntry, InChain, IsAmong, IsDense, IsLive, IsSpelt, Kept, List, Mode, None, Store}
 use Rattle.epoch_core.proofs.Vocabulary.{Option, OwnerState, Some, Spells, StandsFor, State, Try, TryKept, [], answer_of, ap, arith, bucket_in}
 use Rattle.epoch_core.proofs.Vocabulary.{by_entry, by_item, by_link, cache_state, cell_at, entry_at, entry_in, entry_offset, epoch_in, fnv1a, get}
 use Rattle.epoch_core.proofs.Vocabulary.{header_key_len, header_value_len, inl, inr, item_at, item_in, item_size, length, link_at, link_in}
 use Rattle.epoch_core.proofs.Vocabulary.{option_map, options_in, packed, refl, same_value, slice_index, stamp_of, state_in, store_state, subst, suc}
 use Rattle.epoch_core.proofs.Vocabulary.{sym, unpacked, value_in, value_word, words_for, zero, ℕ, ◌+◌, ◌<◌, ◌∙◌, ◌∷◌, ◌≡◌, ◌≢◌}
 use Rattle.partition_model.specs.Cache.{Record, record_of}
-use Rattle.epoch_core.specs.Spelt.{HasLinks, HasLoad, IsNoEntryOf, ShowsItem, ShowsOther, SpellsAnswer, by_hash, by_item as by_other, by_key_len}
+use Rattle.epoch_core.specs.Spelt.{HasLinks, HasLoad, IsNoEntryOf, LinksTo, ShowsItem, ShowsOther, SpellsAnswer, by_hash, by_item as by_other, by_key_len}
 use Rattle.epoch_core.specs.Spelt.{by_key_word, by_offset, by_stamp, by_tag, by_value_len}
 use Rattle.epoch_core.proofs.Machine.{Fits, has_fits}
 use Rattle.epoch_core.proofs.Keys.{has_its_key, has_no_other, header_there}
@@ -43,13 +43,16 @@ module _ (o : OwnerState) (s : Kept o) (t : Try) (k : TryKept o t) (still : epoc
   among_more : (n b d : ℕ) → link_in o b ≡ d → d ≢ 0 → (e : ℕ) → IsAmong o n d e → IsAmong o (suc n) b e
   among_more n b d is some e among = inr (λ none. some (sym is ∙ none), subst (λ (z : ℕ). IsAmong o n z e) (sym is) among)
 
-  walk : (n b : ℕ) (cs : List ℕ) → ((d : ℕ) → IsAmong o (suc n) b d → InChain o t.bucket d) → HasLinks o.shape t.loads n b cs
+  walk : (n b : ℕ) (cs : List ℕ) → ((d : ℕ) → IsAmong o (suc n) b d → InChain o t.bucket d) → LinksTo o.shape t.loads n b cs
       → (c : ℕ) → Contains (b ∷ cs) c → IsAmong o (suc n) b c
   walk n b [] up h c i = elim (in_cons b c [] i) [ inl e ↦ inl e | inr none ↦ absurd (in_none c none) ]
   walk zero b (d ∷ cs) up h c i = absurd h
   walk (suc n) b (d ∷ cs) up h c i =
       let more = among_more (suc n) b d (link_now b d (up b (inl refl)) h.1) h.0 in
       elim (in_cons b c (d ∷ cs) i) [ inl e ↦ inl e | inr i' ↦ more c (walk n d cs (λ e among. up e (more e among)) h.2 c i') ]
+
+  dense : o.shape.mode ≡ Store → IsDense o t.bucket
+  dense store = (subst (λ (m : Mode). HasChain m o t.bucket) store f.chain).0
 
   meets : (n b : ℕ) (cs : List ℕ) → ((d : ℕ) → IsAmong o (suc n) b d → InChain o t.bucket d) → HasLinks o.shape t.loads n b cs
       → (c : ℕ) → IsAmong o (suc n) b c → Contains (b ∷ cs) c
@@ -130,21 +133,26 @@ module _ (o : OwnerState) (s : Kept o) (t : Try) (k : TryKept o t) (still : epoc
       let has = has_value (state_in o) key v is in
       let at = f.each key has.0 has.1 bucket has.2 in
       let h = at.3 in
-      let shows = spell.shows at.0 at.1 (meets o.shape.spares t.bucket spell.behind (λ c h. h) spell.links at.0 h.in_chain) h.in_bucket in
-      let same : shows.0 ≡ at.2 = sym (entry_now at.0 at.1 shows.0 h.in_chain h.in_bucket shows.1) ∙ h.found in
-      absurd (is_one at.0 at.1 at.2 h key has.0 at.4 (rw same at shows.2))
+      elim (spell.slots at.0 at.1 (meets o.shape.spares t.bucket spell.behind (λ c h. h) spell.links at.0 h.in_chain) h.in_bucket) [
+        | inl empty ↦
+            absurd ((dense empty.0).in_order at.0 empty.1 at.1 h.in_chain empty.2 h.in_bucket (λ none. h.live.0 (sym h.found ∙ none))
+            (entry_now at.0 empty.1 0 h.in_chain (omega (arith, empty.2, h.in_bucket)) empty.3))
+        | inr shows ↦
+            let same : shows.0 ≡ at.2 = sym (entry_now at.0 at.1 shows.0 h.in_chain h.in_bucket shows.1) ∙ h.found in
+            absurd (is_one at.0 at.1 at.2 h key has.0 at.4 (rw same at shows.2))
+      ]
   told_answer key bytes bucket (Some value) spell now is =
-      let entry = spell.shows.0 in
-      let at = spell.shows.1 in
+      let entry = spell.entry in
+      let at = spell.of_key in
       let among = walk o.shape.spares t.bucket spell.behind (λ c h. h) spell.links at.bucket at.in_chain in
       let h : HasLiveEntry o t.bucket at.bucket at.slot entry = record {
         in_chain = among;
         in_bucket = at.in_bucket;
         found = entry_now at.bucket at.slot entry among at.in_bucket at.load;
-        live = subst (λ (z : ℕ). IsLive o.shape z entry) (sym s.stamp) spell.shows.2;
+        live = subst (λ (z : ℕ). IsLive o.shape z entry) (sym s.stamp) spell.live;
       } in
       let some = f.nothing_else at.bucket at.slot entry h in
-      let same = is_item at.bucket at.slot entry h some.0 some.1 some.2 key value bytes spell.shows.3 in
+      let same = is_item at.bucket at.slot entry h some.0 some.1 some.2 key value bytes spell.item in
       grind (arith, common_steps, value_has (state_in o) some.0 some.1 (entry_offset entry) some.2.has)
 
   pub spells : IsSpelt o.shape t.bucket record { history = o.history; loads = t.loads }

@@ -1,5 +1,5 @@
 -- What the loads of a try spell.
-use Rattle.std.specs.Prelude.{◌≡◌, ◌≢◌, ℕ, zero, suc, ◌+◌, ◌<◌, List, [], ◌∷◌, length, Contains, slice_index, Option, Some, None}
+use Rattle.std.specs.Prelude.{◌≡◌, ◌≢◌, ℕ, zero, suc, ◌+◌, ◌<◌, ◌⊎◌, List, [], ◌∷◌, length, Contains, slice_index, Option, Some, None}
 use Rattle.mica_words.specs.declared.item.TheConstants.{MAX_VALUE_LEN}
 use Rattle.mica_words.specs.declared.entry.TheConstants.{SLOTS}
 use Rattle.mica_words.specs.Hash.{fnv1a, tag_of}
@@ -7,6 +7,7 @@ use Rattle.mica_words.specs.Entry.{entry_tag, entry_offset}
 use Rattle.mica_words.specs.Header.{header_key_len, header_value_len}
 use Rattle.mica_words.specs.Item.{words_for}
 use Rattle.mica_words.specs.Packing.{packed, unpacked}
+use Rattle.partition_model.specs.declared.options.Mode.TheVariants.{Store}
 use Rattle.epoch_core.specs.declared.shape.Shape.{Shape}
 use Rattle.epoch_core.specs.Layout.{entry_at, link_at, item_at}
 use Rattle.epoch_core.specs.LiveEntry.{IsLive}
@@ -19,8 +20,18 @@ Loads = List (ℕ × ℕ)
 abbrev pub HasLoad : Loads → ℕ → ℕ → Type 0
 HasLoad loads place x = Contains loads (place, x)
 
--- The buckets cs stand behind b, one after another, by links that were loaded: up to one without a link,
--- or as many as there are spares.
+-- one of the first n slots of the bucket was found empty, in store mode, where chains are dense
+abbrev pub HasEmpty : Shape → Loads → ℕ → ℕ → Type 0
+HasEmpty shape loads b n = (shape.mode ≡ Store) × (slot : ℕ) × (slot < n) × HasLoad loads (entry_at shape b slot) 0
+
+-- the buckets cs stand behind b, one after another, by links that were loaded, no more than so many
+abbrev pub LinksTo : Shape → Loads → ℕ → ℕ → List ℕ → Type 0
+LinksTo shape loads left b [] = Unit {0}
+LinksTo shape loads zero b (c ∷ cs) = ⊥
+LinksTo shape loads (suc left) b (c ∷ cs) =
+    (c ≢ 0) × HasLoad loads (link_at shape b) c × LinksTo shape loads left c cs
+
+-- The same up to one without a link, or as many as there are spares.
 abbrev pub HasLinks : Shape → Loads → ℕ → ℕ → List ℕ → Type 0
 HasLinks shape loads zero b [] = Unit {0}
 HasLinks shape loads zero b (c ∷ cs) = ⊥
@@ -70,18 +81,25 @@ pub data IsNoEntryOf (shape : Shape) (loads : Loads) (stamp : ℕ) (key : List �
   by_stamp : ¬ (IsLive shape stamp entry) → IsNoEntryOf shape loads stamp key entry
   by_item : ShowsOther shape loads (entry_offset entry) key → IsNoEntryOf shape loads stamp key entry
 
--- A miss: each slot of the chain was loaded, and had no entry of the key. A hit: some slot had one, live by
--- the stamp, whose item holds the value.
-abbrev pub ShowsAnswer : Shape → Loads → ℕ → List ℕ → List ℕ → Option (List ℕ) → Type 0
-ShowsAnswer shape loads stamp chain key None = (c slot : ℕ) → Contains chain c → slot < SLOTS
-    → (entry : ℕ) × HasLoad loads (entry_at shape c slot) entry × IsNoEntryOf shape loads stamp key entry
-ShowsAnswer shape loads stamp chain key (Some value) =
-    (entry : ℕ) × IsEntryOf shape loads chain key entry × IsLive shape stamp entry
-    × ShowsItem shape loads (entry_offset entry) key value
-
--- The loads hold the links of the whole chain of the bucket, and by the stamp they tell the key's value, or
--- that it has none.
-pub record SpellsAnswer (shape : Shape) (loads : Loads) (stamp b : ℕ) (key : List ℕ) (answer : Option (List ℕ)) : Type 0 where
+-- A miss: the links of the whole chain were loaded, and each slot, which had no entry of the key, but for those behind
+-- an empty one.
+pub record SpellsMiss (shape : Shape) (loads : Loads) (stamp b : ℕ) (key : List ℕ) : Type 0 where
   pub behind : List ℕ
   pub links : HasLinks shape loads shape.spares b behind
-  pub shows : ShowsAnswer shape loads stamp (b ∷ behind) key answer
+  pub slots : (c slot : ℕ) → Contains (b ∷ behind) c → slot < SLOTS
+      → HasEmpty shape loads c slot
+      ⊎ ((entry : ℕ) × HasLoad loads (entry_at shape c slot) entry × IsNoEntryOf shape loads stamp key entry)
+
+-- A hit: some slot of the chain had an entry of the key, live by the stamp, whose item holds the value.
+pub record SpellsHit (shape : Shape) (loads : Loads) (stamp b : ℕ) (key value : List ℕ) : Type 0 where
+  pub behind : List ℕ
+  pub links : LinksTo shape loads shape.spares b behind
+  pub entry : ℕ
+  pub of_key : IsEntryOf shape loads (b ∷ behind) key entry
+  pub live : IsLive shape stamp entry
+  pub item : ShowsItem shape loads (entry_offset entry) key value
+
+-- by the stamp the loads tell the key's value, or that it has none
+abbrev pub SpellsAnswer : Shape → Loads → ℕ → ℕ → List ℕ → Option (List ℕ) → Type 0
+SpellsAnswer shape loads stamp b key None = SpellsMiss shape loads stamp b key
+SpellsAnswer shape loads stamp b key (Some value) = SpellsHit shape loads stamp b key value

@@ -1,11 +1,10 @@
 -- What a try's loads, its stamp and its two epochs tell together.
-use Rattle.std.proofs.Common.{le_refl, ◌≡◌, ◌≢◌, ℕ, ◌+◌, ◌*◌, ◌%◌, ◌<◌, ◌≤◌, List, [], ◌∷◌, ◌++◌, Bool, false, sym, ap, ◌∙◌, subst, arith, eq-eqb, ne_eqb, Option, Some, None, inl, inr, if◌then◌else◌}
+use Rattle.std.proofs.Common.{le_refl, ◌≡◌, ◌≢◌, ℕ, ◌+◌, ◌*◌, ◌%◌, ◌<◌, ◌≤◌, List, [], ◌∷◌, ◌++◌, Bool, false, refl, sym, ap, ◌∙◌, subst, arith, eq-eqb, ne_eqb, Option, Some, None, inl, inr, if◌then◌else◌}
 use Rattle.std.specs.Prelude.{Contains, IfSome, ◌==◌}
 use Rattle.mica_words.specs.declared.entry.TheConstants.{SLOTS}
-use Rattle.mica_words.specs.Hash.{bucket_of, tag_of}
-use Rattle.mica_words.specs.Entry.{entry_tag, entry_offset}
+use Rattle.mica_words.specs.Hash.{bucket_of}
+use Rattle.mica_words.specs.Entry.{entry_offset}
 use Rattle.mica_words.specs.Packing.{AreBytes}
-use Rattle.mica_words.proofs.Hashes.{tag_of-range}
 use Rattle.partition_model.specs.declared.options.Mode.{Mode}
 use Rattle.partition_model.specs.declared.options.Mode.TheVariants.{Cache, Store}
 use Rattle.partition_model.specs.History.{History, IsPrefix, stamp_of, answer_of, writes_to_bucket}
@@ -22,12 +21,13 @@ use Rattle.epoch_core.specs.Script.{Rests, owner_found, FindsEpoch, FindsLastEpo
 use Rattle.epoch_core.specs.LiveEntry.{IsLiveItem}
 use Rattle.epoch_core.specs.Failures.{failure}
 use Rattle.epoch_core.specs.ReaderState.{new_try, opened, with_cut, stamped, fails_after, closes, shut}
-use Rattle.epoch_core.specs.Spelt.{Loads, HasLinks, ShowsItem, IsNoEntryOf, by_tag as no_tag, by_stamp as no_stamp, by_item as no_item, SpellsAnswer}
+use Rattle.epoch_core.specs.Spelt.{Loads, LinksTo, HasLinks, ShowsItem, IsNoEntryOf, by_tag as no_tag, by_stamp as no_stamp, by_item as no_item, SpellsAnswer}
 use Rattle.epoch_core.specs.ReaderKept.{TellsTry, Tells}
 use Rattle.epoch_core.proofs.Prefixes.{prefix_same}
 use Rattle.optimistic_get.specs.Loading.{most_loads, loads_of, loads_in, TryGoesOn}
-use Rattle.optimistic_get.specs.Search.{IsWeighed, by_tag, by_item, by_best, IsBest, IsSlotWeighed, Searches}
+use Rattle.optimistic_get.specs.Search.{IsWeighed, by_tag, by_item, by_best, IsBest, IsSlotSeen, Searches}
 use Rattle.optimistic_get.specs.declared.getting.Got.{Got}
+use Rattle.optimistic_get.proofs.Entries.{tagged}
 use Rattle.optimistic_get.specs.Settled.{TriesAtRest}
 use Rattle.optimistic_get.specs.Gets.{is_again, IsAnsweredAt, TriesMade, TryAnswers, TryFails}
 
@@ -37,38 +37,38 @@ live_later : (mode : Mode) (words stamp p q : ℕ) → p ≤ q → IsLiveItem mo
 live_later Cache words stamp p q less live = omega arith
 live_later Store words stamp p q less live = tt
 
-tagged : (entry : ℕ) (key : List ℕ) → entry_tag entry ≡ tag_of key → entry ≢ 0
-tagged entry key tag none = let some = (tag_of-range key).0 in omega arith
-
-module _ (shape : Shape) (loads : Loads) (stamp b : ℕ) (key behind : List ℕ) (links : HasLinks shape loads shape.spares b behind) where
+module _ (shape : Shape) (loads : Loads) (stamp b : ℕ) (key behind : List ℕ) where
   -- the best item, where it is live
-  spells_hit : (p : ℕ) (value : List ℕ) → IsBest shape loads (b ∷ behind) key (Some p) value → IsLiveItem shape.mode shape.words stamp p
-      → SpellsAnswer shape loads stamp b key (Some value)
-  spells_hit p value best live = record {
+  spells_hit : (p : ℕ) (value : List ℕ) → LinksTo shape loads shape.spares b behind → IsBest shape loads (b ∷ behind) key (Some p) value
+      → IsLiveItem shape.mode shape.words stamp p → SpellsAnswer shape loads stamp b key (Some value)
+  spells_hit p value links best live = record {
     behind = behind;
     links = links;
-    shows = (
-      best.0,
-      best.1,
-      (tagged best.0 key best.1.tag, subst (IsLiveItem shape.mode shape.words stamp) (sym best.2) live),
-      subst (λ (z : ℕ). ShowsItem shape loads z key value) (sym best.2) best.3,
-    );
+    entry = best.0;
+    of_key = best.1;
+    live = (tagged best.0 key best.1.tag, subst (IsLiveItem shape.mode shape.words stamp) (sym best.2) live);
+    item = subst (λ (z : ℕ). ShowsItem shape loads z key value) (sym best.2) best.3;
   }
 
   -- none, where no best item is live
-  spells_miss : (best : Option ℕ) → ((p : ℕ) → best ≡ Some p → ¬ (IsLiveItem shape.mode shape.words stamp p))
-      → ((c slot : ℕ) → Contains (b ∷ behind) c → slot < SLOTS → IsSlotWeighed shape loads key best c slot)
+  spells_miss : (best : Option ℕ) → ((p : ℕ) → best ≡ Some p → ¬ (IsLiveItem shape.mode shape.words stamp p)) → HasLinks shape loads shape.spares b behind
+      → ((c slot : ℕ) → Contains (b ∷ behind) c → slot < SLOTS → IsSlotSeen shape loads key best c slot)
       → SpellsAnswer shape loads stamp b key None
-  spells_miss best dead slots = record {
+  spells_miss best dead links slots = record {
     behind = behind;
     links = links;
-    shows = λ c slot h l. let at = slots c slot h l in (at.0, at.1, no_entry at.0 at.2);
+    slots = λ c slot h l. elim (slots c slot h l) [ inl empty ↦ inl empty | inr at ↦ inr (at.0, at.1, no_entry at.0 at.2) ];
   }
     where
       no_entry : (entry : ℕ) → IsWeighed shape loads key best entry → IsNoEntryOf shape loads stamp key entry
       no_entry entry (by_tag n) = no_tag n
       no_entry entry (by_item shows) = no_item shows
       no_entry entry (by_best p is less) = no_stamp (λ live. dead p is (live_later shape.mode shape.words stamp (entry_offset entry) p less live.1))
+
+-- each item of store mode is live
+none_in_store : (mode : Mode) (words stamp : ℕ) (best : Option ℕ) → ((p : ℕ) → best ≡ Some p → ¬ (IsLiveItem mode words stamp p)) → mode ≡ Store → best ≡ None
+none_in_store mode words stamp None dead store = refl
+none_in_store mode words stamp (Some p) dead store = absurd (dead p refl (subst (λ (m : Mode). IsLiveItem m words stamp p) (sym store) tt))
 
 -- The owner's state at rest
 
@@ -249,20 +249,22 @@ module _ (r q : ReaderState) (b n : ℕ) (first : q ≡ opened b n r) (least : 2
       fails = same_fails still;
       closed = one_closed still;
       answered = answered still bytes here (Some value)
-          (spells_hit q2.shape (loads_in q2) stamp b key search.behind search.links p value
+          (spells_hit q2.shape (loads_in q2) stamp b key search.behind p value search.links
           (subst (λ (z : Option ℕ). IsBest q2.shape (loads_in q2) (b ∷ search.behind) key z value) is search.found) (live_then s p same live));
     }
 
     pub misses : (s : Shape) → s ≡ q4.shape → ((p : ℕ) → best ≡ Some p → ¬ (IsLiveItem s.mode s.words stamp p)) → last ≡ n → AreBytes key → bucket_of key r.shape.buckets ≡ b
         → TryAnswers r key None stamp q4
-    misses s same dead still bytes here = record {
-      made = once;
-      loads = loads_once;
-      fails = same_fails still;
-      closed = one_closed still;
-      answered = answered still bytes here None
-          (spells_miss q2.shape (loads_in q2) stamp b key search.behind search.links best (λ p is live. dead p is (live_now s p same live)) search.slots);
-    }
+    misses s same dead still bytes here =
+        let no_item : (p : ℕ) → best ≡ Some p → ¬ (IsLiveItem q2.shape.mode q2.shape.words stamp p) = λ p is live. dead p is (live_now s p same live) in
+        let whole = search.whole (none_in_store q2.shape.mode q2.shape.words stamp best no_item) in
+        record {
+          made = once;
+          loads = loads_once;
+          fails = same_fails still;
+          closed = one_closed still;
+          answered = answered still bytes here None (spells_miss q2.shape (loads_in q2) stamp b key search.behind best no_item whole.0 whole.1);
+        }
 
     pub moved : last ≢ n → TryFails r b n last q4
     moved other =

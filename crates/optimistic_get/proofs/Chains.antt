@@ -1,19 +1,20 @@
 -- A search along the links of a chain.
-use Rattle.std.proofs.Common.{◌≡◌, ◌≢◌, ℕ, zero, suc, ◌+◌, ◌*◌, ◌<◌, List, [], ◌∷◌, ◌++◌, length, refl, sym, ap, ◌∙◌, subst, arith, Option, None, ◌⊎◌, inl, inr, length-append}
+use Rattle.std.proofs.Common.{◌≡◌, ◌≢◌, ℕ, zero, suc, ◌+◌, ◌*◌, ◌<◌, ◌≤◌, List, [], ◌∷◌, ◌++◌, length, refl, sym, ap, ◌∙◌, subst, arith, Option, None, inl, inr, length-append}
 use Rattle.std.specs.Prelude.{Contains}
 use Rattle.mica_words.specs.declared.entry.TheConstants.{SLOTS}
 use Rattle.mica_words.specs.Item.{largest_item}
+use Rattle.partition_model.specs.declared.options.Mode.TheVariants.{Store}
 use Rattle.epoch_core.specs.declared.shape.Shape.{Shape}
 use Rattle.epoch_core.specs.declared.reader.ReaderState.{ReaderState}
 use Rattle.epoch_core.specs.Layout.{bucket_words, link_at}
 use Rattle.epoch_core.specs.ReaderState.{loaded}
-use Rattle.epoch_core.specs.Spelt.{Loads, HasLoad, HasLinks}
-use Rattle.epoch_core.proofs.Failing.{in_cons, in_none, in_left, in_both, in_last}
+use Rattle.epoch_core.specs.Spelt.{Loads, HasLoad, LinksTo, HasLinks}
+use Rattle.epoch_core.proofs.Failing.{in_cons, in_none, in_both, in_last}
 use Rattle.optimistic_get.specs.Loading.{loads_in, Keeps, GoesOn}
-use Rattle.optimistic_get.specs.Search.{IsBest, IsSlotWeighed, Scans, Searches}
+use Rattle.optimistic_get.specs.Search.{IsBest, IsSlotWeighed, IsSlotSeen, Scans, ScansFirst, Searches}
 use Rattle.optimistic_get.proofs.Loads.{on_then, on_at_most, on_open, on_keeps, on_shape, load_here}
 use Rattle.optimistic_get.proofs.Items.{on_one}
-use Rattle.optimistic_get.proofs.Entries.{best_keeps, slot_keeps, no_worse_same}
+use Rattle.optimistic_get.proofs.Entries.{is_best, best_keeps, slot_keeps}
 
 -- the buckets cs stand behind b, by links that were loaded, and the last one is this
 abbrev pub HasPath : Shape → Loads → ℕ → List ℕ → ℕ → Type 0
@@ -43,35 +44,58 @@ path_full shape loads zero b (c ∷ cs) last h full = absurd (omega arith)
 path_full shape loads (suc left) b [] last h full = absurd (omega arith)
 path_full shape loads (suc left) b (c ∷ cs) last h full = (h.0, h.1, path_full shape loads left c cs last h.2 (omega arith))
 
--- So many links were followed, and each bucket on the way was looked at.
+path_links : (shape : Shape) (loads : Loads) (left b : ℕ) (cs : List ℕ) (last : ℕ) → HasPath shape loads b cs last → length cs ≤ left → LinksTo shape loads left b cs
+path_links shape loads left b [] last h few = tt
+path_links shape loads zero b (c ∷ cs) last h few = absurd (omega arith)
+path_links shape loads (suc left) b (c ∷ cs) last h few = (h.0, h.1, path_links shape loads left c cs last h.2 (omega arith))
+
+-- In cache mode the bucket is all of its chain.
+pub searched_one : (r q : ReaderState) (b : ℕ) (key value : List ℕ) (best : Option ℕ) (v : List ℕ) → Scans r b SLOTS key None value best v q → r.shape.spares ≡ 0 → Searches r b key best v q
+searched_one r q b key value best v scans none =
+    let spares : q.shape.spares ≡ 0 = ap (λ (z : Shape). z.spares) (on_shape r q _ scans.on) ∙ none in
+    record {
+      on = on_at_most r q (SLOTS * (1 + largest_item)) ((r.shape.spares + 1) * (bucket_words + SLOTS * largest_item)) (omega arith) scans.on;
+      behind = [];
+      links = tt;
+      found = is_best q.shape (loads_in q) (b ∷ []) key value v best scans.found;
+      whole = λ _. (
+        subst (λ (n : ℕ). HasLinks q.shape (loads_in q) n b []) (sym spares) tt,
+        λ c slot h l. elim (in_cons b c [] h) [
+          | inl is ↦ inr (subst (λ (z : ℕ). IsSlotWeighed q.shape (loads_in q) key best z slot) is (scans.slots slot l))
+          | inr none ↦ absurd (in_none c none)
+        ],
+      );
+    }
+
+-- So many links were followed in store mode. The key's item is in the last bucket, or in none.
 pub record Walks (old : ReaderState) (b links at : ℕ) (key : List ℕ) (best : Option ℕ) (value : List ℕ) (new : ReaderState) : Type 0 where
   pub on : GoesOn old (links * (bucket_words + SLOTS * largest_item) + SLOTS * (1 + largest_item)) new
   pub behind : List ℕ
   pub long : length behind ≡ links
   pub path : HasPath new.shape (loads_in new) b behind at
   pub found : IsBest new.shape (loads_in new) (b ∷ behind) key best value
-  pub slots : (c slot : ℕ) → Contains (b ∷ behind) c → slot < SLOTS → IsSlotWeighed new.shape (loads_in new) key best c slot
+  pub slots : best ≡ None → (c slot : ℕ) → Contains (b ∷ behind) c → slot < SLOTS → IsSlotSeen new.shape (loads_in new) key None c slot
 
-none_found : (shape : Shape) (loads : Loads) (chain key value v : List ℕ) (best : Option ℕ) → ((best ≡ None) × (v ≡ value)) ⊎ IsBest shape loads chain key best v → IsBest shape loads chain key best v
-none_found shape loads chain key value v best (inl none) = subst (λ (z : Option ℕ). IsBest shape loads chain key z v) (sym none.0) tt
-none_found shape loads chain key value v best (inr is) = is
+seen_keeps : (shape : Shape) (loads more : Loads) → Keeps loads more → (key : List ℕ) (c slot : ℕ) → IsSlotSeen shape loads key None c slot → IsSlotSeen shape more key None c slot
+seen_keeps shape loads more keeps key c slot (inl empty) = inl (empty.0, empty.1, empty.2, keeps _ _ empty.3)
+seen_keeps shape loads more keeps key c slot (inr weighed) = inr (slot_keeps shape loads more keeps key None None c slot tt weighed)
 
 -- the first bucket
-pub walks_first : (r q : ReaderState) (b : ℕ) (key : List ℕ) (value : List ℕ) (best : Option ℕ) (v : List ℕ) → Scans r b SLOTS key None value best v q → Walks r b 0 b key best v q
-walks_first r q b key value best v scans = record {
+pub walks_first : (r q : ReaderState) (b : ℕ) (key : List ℕ) (best : Option ℕ) (v : List ℕ) → ScansFirst r b key best v q → Walks r b 0 b key best v q
+walks_first r q b key best v scans = record {
   on = on_at_most r q (SLOTS * (1 + largest_item)) (0 * (bucket_words + SLOTS * largest_item) + SLOTS * (1 + largest_item)) (omega arith) scans.on;
   behind = [];
   long = refl;
   path = refl;
-  found = none_found q.shape (loads_in q) (b ∷ []) key value v best scans.found;
-  slots = λ c slot h l. elim (in_cons b c [] h) [
-    | inl is ↦ subst (λ (z : ℕ). IsSlotWeighed q.shape (loads_in q) key best z slot) is (scans.slots slot l)
+  found = scans.found;
+  slots = λ none c slot h l. elim (in_cons b c [] h) [
+    | inl is ↦ subst (λ (z : ℕ). IsSlotSeen q.shape (loads_in q) key None z slot) is (scans.slots none slot l)
     | inr none ↦ absurd (in_none c none)
   ];
 }
 
 module _ (r q q1 q2 : ReaderState) (b links at next : ℕ) (key : List ℕ) (best : Option ℕ) (value : List ℕ) (now : Option ℕ) (v : List ℕ)
-    (before : Walks r b links at key best value q) (load : q1 ≡ loaded (link_at q.shape at) next q) where
+    (before : Walks r b links at key best value q) (nothing : best ≡ None) (load : q1 ≡ loaded (link_at q.shape at) next q) where
   one : GoesOn q 1 q1
   one = on_one q q1 (link_at q.shape at) next (on_open r q _ before.on) load
 
@@ -79,26 +103,28 @@ module _ (r q q1 q2 : ReaderState) (b links at next : ℕ) (key : List ℕ) (bes
   link_there = load_here q q1 (link_at q.shape at) next (on_open r q _ before.on) load
 
   -- where there is no link, the chain was looked at
-  pub searched : next ≡ 0 → links < r.shape.spares → Searches r b key best value q1
+  pub searched : next ≡ 0 → links < r.shape.spares → Searches r b key None value q1
   searched none few =
       let shape = on_shape q q1 1 one in
       let keeps = on_keeps q q1 1 one in
-      let start = on_shape r q _ before.on in record {
+      let spares = ap (λ (z : Shape). z.spares) (on_shape r q _ before.on) in
+      let path = path_keeps q.shape (loads_in q) (loads_in q1) keeps b before.behind at before.path in record {
         on = on_at_most r q1 (links * (bucket_words + SLOTS * largest_item) + SLOTS * (1 + largest_item) + 1) ((r.shape.spares + 1) * (bucket_words + SLOTS * largest_item)) (omega arith)
             (on_then r q q1 (links * (bucket_words + SLOTS * largest_item) + SLOTS * (1 + largest_item)) 1 before.on one);
         behind = before.behind;
-        links = subst (λ (z : Shape). HasLinks z (loads_in q1) z.spares b before.behind) (sym shape)
-            (path_ends q.shape (loads_in q1) q.shape.spares b before.behind at
-            (path_keeps q.shape (loads_in q) (loads_in q1) keeps b before.behind at before.path)
-            (omega (arith, before.long, ap (λ (z : Shape). z.spares) start))
-            (subst (HasLoad (loads_in q1) (link_at q.shape at)) none link_there));
-        found = subst (λ (z : Shape). IsBest z (loads_in q1) (b ∷ before.behind) key best value) (sym shape)
-            (best_keeps q.shape (loads_in q) (loads_in q1) keeps (b ∷ before.behind) (b ∷ before.behind) key best value (λ d h. h) before.found);
-        slots = λ c slot h l. subst (λ (z : Shape). IsSlotWeighed z (loads_in q1) key best c slot) (sym shape)
-            (slot_keeps q.shape (loads_in q) (loads_in q1) keeps key best best c slot (no_worse_same best) (before.slots c slot h l));
+        links = subst (λ (z : Shape). LinksTo z (loads_in q1) z.spares b before.behind) (sym shape)
+            (path_links q.shape (loads_in q1) q.shape.spares b before.behind at path (omega (arith, before.long, spares)));
+        found = tt;
+        whole = λ _. (
+          subst (λ (z : Shape). HasLinks z (loads_in q1) z.spares b before.behind) (sym shape)
+              (path_ends q.shape (loads_in q1) q.shape.spares b before.behind at path (omega (arith, before.long, spares))
+              (subst (HasLoad (loads_in q1) (link_at q.shape at)) none link_there)),
+          λ c slot h l. subst (λ (z : Shape). IsSlotSeen z (loads_in q1) key None c slot) (sym shape)
+              (seen_keeps q.shape (loads_in q) (loads_in q1) keeps key c slot (before.slots nothing c slot h l)),
+        );
       }
 
-  module _ (some : next ≢ 0) (scans : Scans q1 next SLOTS key best value now v q2) where
+  module _ (some : next ≢ 0) (scans : ScansFirst q1 next key now v q2) where
     all : GoesOn q (1 + SLOTS * (1 + largest_item)) q2
     all = on_then q q1 q2 1 (SLOTS * (1 + largest_item)) one scans.on
 
@@ -108,22 +134,10 @@ module _ (r q q1 q2 : ReaderState) (b links at next : ℕ) (key : List ℕ) (bes
     keeps : Keeps (loads_in q) (loads_in q2)
     keeps = on_keeps q q2 _ all
 
-    wider : (c : ℕ) → Contains (b ∷ before.behind) c → Contains (b ∷ (before.behind ++ next ∷ [])) c
-    wider c h = in_left (b ∷ before.behind) (next ∷ []) c h
-
     new_one : (c : ℕ) → Contains (next ∷ []) c → Contains (b ∷ (before.behind ++ next ∷ [])) c
     new_one c h = elim (in_cons next c [] h) [
       | inl is ↦ subst (Contains (b ∷ (before.behind ++ next ∷ []))) is (in_last (b ∷ before.behind) next)
       | inr none ↦ absurd (in_none c none)
-    ]
-
-    found_more : IsBest q2.shape (loads_in q2) (b ∷ (before.behind ++ next ∷ [])) key now v
-    found_more = elim scans.found [
-      | inl same ↦
-          subst (λ (z : Shape). IsBest z (loads_in q2) (b ∷ (before.behind ++ next ∷ [])) key now v) (sym shape)
-          (subst (λ (z : Option ℕ × List ℕ). IsBest q.shape (loads_in q2) (b ∷ (before.behind ++ next ∷ [])) key z.0 z.1) (λ i. (sym same.0 i, sym same.1 i))
-          (best_keeps q.shape (loads_in q) (loads_in q2) keeps (b ∷ before.behind) (b ∷ (before.behind ++ next ∷ [])) key best value wider before.found))
-      | inr is ↦ best_keeps q2.shape (loads_in q2) (loads_in q2) (λ place x h. h) (next ∷ []) (b ∷ (before.behind ++ next ∷ [])) key now v new_one is
     ]
 
     -- the bucket behind
@@ -137,26 +151,31 @@ module _ (r q q1 q2 : ReaderState) (b links at next : ℕ) (key : List ℕ) (bes
           (path_snoc q.shape (loads_in q2) b before.behind at next
           (path_keeps q.shape (loads_in q) (loads_in q2) keeps b before.behind at before.path) some
           (on_keeps q1 q2 _ scans.on (link_at q.shape at) next link_there));
-      found = found_more;
-      slots = λ c slot h l. elim (in_both (b ∷ before.behind) (next ∷ []) c h) [
+      found = best_keeps q2.shape (loads_in q2) (loads_in q2) (λ place x h. h) (next ∷ []) (b ∷ (before.behind ++ next ∷ [])) key now v new_one scans.found;
+      slots = λ none c slot h l. elim (in_both (b ∷ before.behind) (next ∷ []) c h) [
         | inl old ↦
-            subst (λ (z : Shape). IsSlotWeighed z (loads_in q2) key now c slot) (sym shape)
-            (slot_keeps q.shape (loads_in q) (loads_in q2) keeps key best now c slot scans.rises (before.slots c slot old l))
+            subst (λ (z : Shape). IsSlotSeen z (loads_in q2) key None c slot) (sym shape)
+            (seen_keeps q.shape (loads_in q) (loads_in q2) keeps key c slot (before.slots nothing c slot old l))
         | inr new ↦ elim (in_cons next c [] new) [
-          | inl is ↦ subst (λ (z : ℕ). IsSlotWeighed q2.shape (loads_in q2) key now z slot) is (scans.slots slot l)
+          | inl is ↦ subst (λ (z : ℕ). IsSlotSeen q2.shape (loads_in q2) key None z slot) is (scans.slots none slot l)
           | inr none ↦ absurd (in_none c none)
         ]
       ];
     }
 
--- where as many links were followed as there are spares, the chain was looked at
-pub searched_all : (r q : ReaderState) (b links at : ℕ) (key : List ℕ) (best : Option ℕ) (value : List ℕ) → Walks r b links at key best value q → links ≡ r.shape.spares
-    → Searches r b key best value q
-searched_all r q b links at key best value w all =
-    let shape = on_shape r q _ w.on in record {
+-- Where the key's item was found, or as many links were followed as there are spares, the chain was looked at.
+pub searched_all : (r q : ReaderState) (b links at : ℕ) (key : List ℕ) (best : Option ℕ) (value : List ℕ) → Walks r b links at key best value q → r.shape.mode ≡ Store → links ≤ r.shape.spares
+    → (best ≡ None → links ≡ r.shape.spares) → Searches r b key best value q
+searched_all r q b links at key best value w store few all =
+    let shape = on_shape r q _ w.on in
+    let spares = ap (λ (z : Shape). z.spares) shape in record {
       on = on_at_most r q (links * (bucket_words + SLOTS * largest_item) + SLOTS * (1 + largest_item)) ((r.shape.spares + 1) * (bucket_words + SLOTS * largest_item)) (omega arith) w.on;
       behind = w.behind;
-      links = path_full q.shape (loads_in q) q.shape.spares b w.behind at w.path (w.long ∙ (all ∙ ap (λ (z : Shape). z.spares) (sym shape)));
+      links = path_links q.shape (loads_in q) q.shape.spares b w.behind at w.path (omega (arith, w.long, spares));
       found = w.found;
-      slots = w.slots;
+      whole = λ none.
+          let nothing = none (ap (λ (z : Shape). z.mode) shape ∙ store) in (
+            path_full q.shape (loads_in q) q.shape.spares b w.behind at w.path (w.long ∙ (all nothing ∙ sym spares)),
+            λ c slot h l. subst (λ (z : Option ℕ). IsSlotSeen q.shape (loads_in q) key z c slot) (sym nothing) (w.slots nothing c slot h l),
+          );
     }

@@ -1,11 +1,13 @@
 -- A search, entry by entry and bucket by bucket.
-use Rattle.std.proofs.Common.{◌≡◌, ℕ, ◌+◌, ◌*◌, ◌<◌, ◌≤◌, List, [], ◌∷◌, refl, sym, ◌∙◌, subst, arith, Option, Some, None, ◌⊎◌, inl, inr, ⊎_elim}
-use Rattle.std.specs.Prelude.{Contains, true, is_some}
+use Rattle.std.proofs.Common.{◌≡◌, ◌≢◌, ℕ, ◌+◌, ◌*◌, ◌<◌, ◌≤◌, List, [], ◌∷◌, refl, sym, ap, ◌∙◌, subst, arith, Option, Some, None, ◌⊎◌, inl, inr, ⊎_elim}
+use Rattle.std.specs.Prelude.{Contains, true, false, is_some}
 use Rattle.std.proofs.lemmas.Bool.{cases_lt}
 use Rattle.mica_words.specs.declared.entry.TheConstants.{SLOTS}
 use Rattle.mica_words.specs.Hash.{tag_of}
 use Rattle.mica_words.specs.Entry.{entry_tag, entry_offset}
 use Rattle.mica_words.specs.Item.{largest_item}
+use Rattle.mica_words.proofs.Hashes.{tag_of-range}
+use Rattle.partition_model.specs.declared.options.Mode.TheVariants.{Store}
 use Rattle.epoch_core.specs.declared.shape.Shape.{Shape}
 use Rattle.epoch_core.specs.declared.reader.ReaderState.{ReaderState}
 use Rattle.epoch_core.specs.Layout.{entry_at, item_at}
@@ -13,7 +15,7 @@ use Rattle.epoch_core.specs.ReaderState.{loaded}
 use Rattle.epoch_core.specs.Spelt.{Loads, HasLoad, ShowsOther, by_offset, by_key_len, by_value_len, by_hash, by_key_word, ShowsItem, IsEntryOf}
 use Rattle.epoch_core.proofs.Failing.{in_head}
 use Rattle.optimistic_get.specs.Loading.{loads_in, Keeps, GoesOn}
-use Rattle.optimistic_get.specs.Search.{IsWeighed, by_tag, by_item, by_best, IsBest, IsNoWorse, IsSlotWeighed, Weighs, Scans}
+use Rattle.optimistic_get.specs.Search.{IsWeighed, by_tag, by_item, by_best, IsBest, IsNoWorse, IsSlotWeighed, IsSlotSeen, Weighs, Scans, ScansFirst}
 use Rattle.optimistic_get.proofs.Loads.{on_none, on_then, on_at_most, on_open, on_keeps, on_shape, load_here}
 use Rattle.optimistic_get.proofs.Items.{on_one}
 
@@ -166,3 +168,59 @@ module _ (r q q1 q2 : ReaderState) (c n entry : ℕ) (key : List ℕ) (best : Op
         (entry, subst (λ (z : Shape). HasLoad (loads_in q2) (entry_at z c n) entry) (sym shape) entry_there, weigh.weighed))
         (cases_lt slot n);
   }
+
+-- A bucket of store mode
+
+pub tagged : (entry : ℕ) (key : List ℕ) → entry_tag entry ≡ tag_of key → entry ≢ 0
+tagged entry key tag none = let some = (tag_of-range key).0 in omega arith
+
+pub some_no_none : (best : Option ℕ) → is_some best ≡ true → best ≢ None
+some_no_none None some none = cc some
+some_no_none (Some p) some none = cc none
+
+pub none_of : (best : Option ℕ) → is_some best ≡ false → best ≡ None
+none_of None none = refl
+none_of (Some p) none = cc none
+
+pub is_best : (shape : Shape) (loads : Loads) (chain key value v : List ℕ) (best : Option ℕ) → ((best ≡ None) × (v ≡ value)) ⊎ IsBest shape loads chain key best v → IsBest shape loads chain key best v
+is_best shape loads chain key value v best (inl none) = subst (λ (z : Option ℕ). IsBest shape loads chain key z v) (sym none.0) tt
+is_best shape loads chain key value v best (inr is) = is
+
+-- up to the key's item
+pub first_found : (r q : ReaderState) (c n : ℕ) (key value : List ℕ) (now : Option ℕ) (v : List ℕ) → Scans r c n key None value now v q → n ≤ SLOTS → is_some now ≡ true
+    → ScansFirst r c key now v q
+first_found r q c n key value now v scans few some = record {
+  on = on_at_most r q (n * (1 + largest_item)) (SLOTS * (1 + largest_item)) (omega arith) scans.on;
+  found = is_best q.shape (loads_in q) (c ∷ []) key value v now scans.found;
+  slots = λ none. absurd (some_no_none now some none);
+}
+
+-- whole
+pub first_whole : (r q : ReaderState) (c n : ℕ) (key value v : List ℕ) → Scans r c n key None value None v q → n ≡ SLOTS → ScansFirst r c key None v q
+first_whole r q c n key value v scans all = record {
+  on = on_at_most r q (n * (1 + largest_item)) (SLOTS * (1 + largest_item)) (omega arith) scans.on;
+  found = tt;
+  slots = λ none slot l. inr (scans.slots slot (omega arith));
+}
+
+-- up to an empty slot
+pub first_empty : (r q q1 : ReaderState) (c n entry : ℕ) (key value v : List ℕ) → Scans r c n key None value None v q → q1 ≡ loaded (entry_at q.shape c n) entry q → entry ≡ 0 → n < SLOTS
+    → r.shape.mode ≡ Store → ScansFirst r c key None v q1
+first_empty r q q1 c n entry key value v before load empty in_bucket store =
+    let one = on_one q q1 (entry_at q.shape c n) entry (on_open r q _ before.on) load in
+    let all = on_then r q q1 (n * (1 + largest_item)) 1 before.on one in
+    let shape : q1.shape ≡ q.shape = on_shape q q1 1 one in
+    let there = load_here q q1 (entry_at q.shape c n) entry (on_open r q _ before.on) load in
+    record {
+      on = on_at_most r q1 (n * (1 + largest_item) + 1) (SLOTS * (1 + largest_item)) (omega arith) all;
+      found = tt;
+      slots = λ none slot l. subst (λ (z : Shape). IsSlotSeen z (loads_in q1) key None c slot) (sym shape) (⊎_elim
+          (λ (less : slot < n). inr (slot_keeps q.shape (loads_in q) (loads_in q1) (on_keeps q q1 1 one) key None None c slot tt (before.slots slot less)))
+          (λ (not : n ≤ slot). ⊎_elim
+          (λ (less : n < slot). inl (ap (λ (z : Shape). z.mode) (on_shape r q _ before.on) ∙ store, n, less, subst (HasLoad (loads_in q1) (entry_at q.shape c n)) empty there))
+          (λ (last : slot ≤ n).
+          let same : n ≡ slot = omega arith in
+          inr (subst (IsSlotWeighed q.shape (loads_in q1) key None c) same (entry, there, by_tag (λ tag. tagged entry key tag empty))))
+          (cases_lt n slot))
+          (cases_lt slot n));
+    }

@@ -4,10 +4,11 @@ use Rattle.mica_words.specs.declared.entry.TheConstants.{SLOTS}
 use Rattle.mica_words.specs.Hash.{tag_of}
 use Rattle.mica_words.specs.Entry.{entry_tag, entry_offset}
 use Rattle.mica_words.specs.Item.{largest_item}
+use Rattle.partition_model.specs.declared.options.Mode.TheVariants.{Store}
 use Rattle.epoch_core.specs.declared.shape.Shape.{Shape}
 use Rattle.epoch_core.specs.declared.reader.ReaderState.{ReaderState}
 use Rattle.epoch_core.specs.Layout.{bucket_words, entry_at}
-use Rattle.epoch_core.specs.Spelt.{Loads, HasLoad, HasLinks, ShowsOther, ShowsItem, IsEntryOf}
+use Rattle.epoch_core.specs.Spelt.{Loads, HasLoad, HasEmpty, LinksTo, HasLinks, ShowsOther, ShowsItem, IsEntryOf}
 use Rattle.optimistic_get.specs.Loading.{loads_in, GoesOn}
 
 -- What was found of an entry: it has another tag, its item is another key's, or it begins no later than the
@@ -35,6 +36,10 @@ abbrev pub IsSlotWeighed : Shape → Loads → List ℕ → Option ℕ → ℕ �
 IsSlotWeighed shape loads key best c slot =
     (entry : ℕ) × HasLoad loads (entry_at shape c slot) entry × IsWeighed shape loads key best entry
 
+-- the same, or in store mode an earlier slot of the bucket was found empty
+abbrev pub IsSlotSeen : Shape → Loads → List ℕ → Option ℕ → ℕ → ℕ → Type 0
+IsSlotSeen shape loads key best c slot = HasEmpty shape loads c slot ⊎ IsSlotWeighed shape loads key best c slot
+
 -- An entry was looked at. The best item of before is the best still, or this entry's is.
 pub record Weighs (old : ReaderState) (entry : ℕ) (key : List ℕ) (best : Option ℕ) (value : List ℕ)
     (now : Option ℕ) (now_value : List ℕ) (new : ReaderState) : Type 0 where
@@ -54,11 +59,18 @@ pub record Scans (old : ReaderState) (c count : ℕ) (key : List ℕ) (best : Op
   pub found : ((now ≡ best) × (now_value ≡ value)) ⊎ IsBest new.shape (loads_in new) (c ∷ []) key now now_value
   pub slots : (slot : ℕ) → slot < count → IsSlotWeighed new.shape (loads_in new) key now c slot
 
--- The whole chain of a bucket was looked at.
+-- A bucket of store mode was looked at up to the key's item, or up to an empty slot, or whole.
+pub record ScansFirst (old : ReaderState) (c : ℕ) (key : List ℕ) (now : Option ℕ) (now_value : List ℕ) (new : ReaderState) : Type 0 where
+  pub on : GoesOn old (SLOTS * (1 + largest_item)) new
+  pub found : IsBest new.shape (loads_in new) (c ∷ []) key now now_value
+  pub slots : now ≡ None → (slot : ℕ) → slot < SLOTS → IsSlotSeen new.shape (loads_in new) key None c slot
+
+-- The whole chain of a bucket was looked at, in store mode up to the key's item.
 pub record Searches (old : ReaderState) (b : ℕ) (key : List ℕ) (best : Option ℕ) (value : List ℕ) (new : ReaderState) : Type 0 where
   pub on : GoesOn old ((old.shape.spares + 1) * (bucket_words + SLOTS * largest_item)) new
   pub behind : List ℕ
-  pub links : HasLinks new.shape (loads_in new) new.shape.spares b behind
+  pub links : LinksTo new.shape (loads_in new) new.shape.spares b behind
   pub found : IsBest new.shape (loads_in new) (b ∷ behind) key best value
-  pub slots : (c slot : ℕ) → Contains (b ∷ behind) c → slot < SLOTS
-      → IsSlotWeighed new.shape (loads_in new) key best c slot
+  pub whole : (new.shape.mode ≡ Store → best ≡ None) → HasLinks new.shape (loads_in new) new.shape.spares b behind
+      × ((c slot : ℕ) → Contains (b ∷ behind) c → slot < SLOTS
+      → IsSlotSeen new.shape (loads_in new) key best c slot)

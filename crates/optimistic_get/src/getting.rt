@@ -7,7 +7,7 @@ ghost use Rattle.optimistic_get.specs.Gets.{Answers};
 use crate::trying::try_get;
 use crate::wanted::Wanted;
 use epoch_core::ReaderWords;
-use mica_words::{bucket_of, key_hash};
+use mica_words::{bucket_of, key_hash, tag_of};
 use partition_model::ItemBuf;
 use std::hint::spin_loop;
 
@@ -60,7 +60,11 @@ pub fn get_hashed<R: ReaderWords>(
     ensures home { R.home seat.new ≡ R.home seat.old }
 {
     let bucket = bucket_of(hash, seat.shape().buckets);
-    let wanted = Wanted { key, hash };
+    let wanted = Wanted {
+        key,
+        hash,
+        tag: tag_of(hash),
+    };
     for _try in 1..tries {
         let got = try_get(seat, bucket, &wanted, out);
         if !got.is_again() {

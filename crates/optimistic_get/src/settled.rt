@@ -8,7 +8,7 @@ use crate::getting::Got;
 use crate::trying::try_get;
 use crate::wanted::Wanted;
 use epoch_core::{ReaderWords, Scripted};
-use mica_words::{bucket_of, key_hash};
+use mica_words::{bucket_of, key_hash, tag_of};
 use partition_model::{Answer, ItemBuf};
 
 /// The machine's answer after the events that were played, by one try.
@@ -19,7 +19,11 @@ pub fn get_settled(seat: &mut Scripted, key: &[u8], out: &mut ItemBuf) -> Answer
 {
     let hash = key_hash(key);
     let bucket = bucket_of(hash, seat.shape().buckets);
-    let wanted = Wanted { key, hash };
+    let wanted = Wanted {
+        key,
+        hash,
+        tag: tag_of(hash),
+    };
     match try_get(seat, bucket, &wanted, out) {
         Got::Hit { .. } => Answer::Hit,
         Got::Miss { .. } => Answer::Miss,
