@@ -1,6 +1,5 @@
 -- Work is handed over from the last to the first, and taken back from the first to the last.
-use Rattle.std.proofs.Common.{◌≡◌, ◌≢◌, ℕ, zero, suc, ◌<◌, ◌≤◌, List, [], ◌∷◌, ◌++◌, length, map, slice_get, slice_set, refl, sym, ap, ◌∙◌, subst, arith, Option, Some, None, IfSome}
-use Rattle.std.specs.Prelude.{⊤}
+use Rattle.std.proofs.Common.{◌≡◌, ◌≢◌, suc, ◌<◌, ◌≤◌, List, [], ◌∷◌, ◌++◌, length, map, slice_get, slice_set, refl, sym, ap, subst, arith, Some, None, IfSome}
 use Rattle.work_desk.specs.declared.rule.Knows.{Knows}
 use Rattle.work_desk.specs.Desk.{giver}
 use Rattle.work_desk.specs.Rows.{free_again, handed, AllHanded, MayHand, Returned}

@@ -1,12 +1,12 @@
 -- Each kind of step keeps the desk's rule.
-use Rattle.std.proofs.Common.{◌≡◌, ◌≢◌, ℕ, zero, suc, List, [], ◌∷◌, ◌⊎◌, inl, inr, Bool, true, false, get_or, refl, sym, ap, ◌∙◌, subst, set, ◌++◌, arith, Option, Some, None, is_none, is_some, IfSome}
+use Rattle.std.proofs.Common.{◌≡◌, ◌≢◌, ℕ, zero, suc, List, [], ◌∷◌, ◌⊎◌, inl, inr, true, false, get_or, refl, sym, ap, ◌∙◌, subst, set, ◌++◌, arith, Option, Some, None, is_none, is_some, IfSome}
 use mathlib.Core.Option.{Option as Home, some, none, some-injective, some-ne-none}
 use lib.ListN.{get_elem?}
-use Rattle.atomic_table.specs.Table.{State, Me, Act, keeps, takes, gives, step, stepped, opening, Allows, Splits, Valid, carried_after, rest}
+use Rattle.atomic_table.specs.Table.{State, Act, keeps, takes, gives, step, stepped, Allows, Splits, Valid, carried_after, rest}
 use Rattle.work_desk.specs.declared.rule.Knows.{Knows}
 use Rattle.work_desk.specs.declared.rule.Stage.{Stage}
-use Rattle.work_desk.specs.declared.rule.Stage.TheVariants.{New, Open, Gives, Does}
-use Rattle.work_desk.specs.Desk.{giver, doer, new, open_desk, desk, Stands, Runs, IsLawful, is_empty_slot, has_slot}
+use Rattle.work_desk.specs.declared.rule.Stage.TheVariants.{Gives, Does}
+use Rattle.work_desk.specs.Desk.{giver, doer, new, open_desk, desk, Stands, IsLawful, is_empty_slot, has_slot}
 use Rattle.work_desk.specs.Plays.{Seated, slot_in, opens, hands, gives_back, stays, looks, awaits}
 
 module _ {X : Type 0} where

@@ -1,4 +1,4 @@
-use Rattle.std.proofs.Common.{◌≡◌, None, Some, IfSome, sym, ap, ◌∙◌, subst}
+use Rattle.std.proofs.Common.{None, IfSome, sym, ap, ◌∙◌, subst}
 use Rattle.work_desk.specs.Desk.{doer}
 use Rattle.mica_replay.specs.Workers.{OwnerFed}
 use Rattle.mica_replay.proofs.crew.work_as_owner.Goals as goal

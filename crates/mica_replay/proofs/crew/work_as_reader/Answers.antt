@@ -1,4 +1,4 @@
-use Rattle.std.proofs.Common.{◌≡◌, None, Some, IfSome, sym, ap, ◌∙◌, subst}
+use Rattle.std.proofs.Common.{None, IfSome, sym, ap, ◌∙◌, subst}
 use Rattle.partition_table.specs.Seats.{reader_state, reader_home}
 use Rattle.work_desk.specs.Desk.{doer}
 use Rattle.mica_replay.specs.Workers.{IsReadyReader, ReaderRan}

@@ -1,7 +1,6 @@
-use Rattle.std.proofs.Common.{◌≡◌, length, map, List, sym, ap, ◌∙◌, subst, arith}
+use Rattle.std.proofs.Common.{◌≡◌, length, map, sym, ap, ◌∙◌, subst, arith}
 use Rattle.partition_table.specs.declared.reader.ReaderSeat.{ReaderSeat}
 use Rattle.partition_table.specs.Seats.{reader_state, reader_home}
-use Rattle.work_desk.specs.declared.rule.Knows.{Knows}
 use Rattle.work_desk.specs.Rows.{free_again, handed, AllHanded, MayHand, Returned}
 use Rattle.mica_replay.specs.declared.worker.OwnerWork.{OwnerWork}
 use Rattle.mica_replay.specs.declared.worker.ReaderWork.{ReaderWork}

@@ -1,4 +1,4 @@
-use Rattle.std.proofs.Common.{◌≡◌, ◌≤◌, None, replicate, length}
+use Rattle.std.proofs.Common.{◌≡◌, ◌≤◌, None, replicate}
 use Rattle.std.specs.Prelude.{vec_len, vec_capacity}
 use Rattle.work_desk.specs.Desk.{giver, doer}
 use Rattle.work_desk.proofs.rows.make_desks.Given as goal

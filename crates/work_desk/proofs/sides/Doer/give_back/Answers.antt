@@ -1,6 +1,5 @@
-use Rattle.std.proofs.Common.{◌≡◌, ◌≢◌, rules, ap, sym, ◌∙◌, None, Some, ◌∷◌, [], IfSome}
+use Rattle.std.proofs.Common.{◌≢◌, rules, ◌∙◌, None, Some, ◌∷◌}
 use Rattle.atomic_table.specs.Table.{rest}
-use Rattle.work_desk.specs.Desk.{doer}
 use Rattle.work_desk.proofs.Steps.{doer_busy, give_rule}
 use Rattle.work_desk.proofs.sides.Doer.give_back.Goals as goal
 

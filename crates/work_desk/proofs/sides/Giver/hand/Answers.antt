@@ -1,6 +1,5 @@
-use Rattle.std.proofs.Common.{◌≡◌, rules, ap, sym, ◌∙◌, None, Some, ◌∷◌, []}
+use Rattle.std.proofs.Common.{◌≡◌, rules, ap, ◌∙◌, None, Some, ◌∷◌}
 use Rattle.atomic_table.specs.Table.{rest}
-use Rattle.work_desk.specs.Desk.{giver}
 use Rattle.work_desk.proofs.Steps.{giver_idle, hand_rule}
 use Rattle.work_desk.proofs.sides.Giver.hand.Goals as goal
 
