@@ -153,7 +153,7 @@ fn run_on<
     Ok(report)
 }
 
-// The same. The crew is told the end on every way out.
+// The same. The crew is told the end, whatever came of the rounds.
 fn drive<
     W: Threads + Wait + Sync,
     P: OnTable + LendPartition<Reader = ReaderSeat, Note = Note> + Send,

@@ -1,4 +1,4 @@
-//! The workers of a round: each owner and each reader, with its part of the round, and the feeder, in a thread of its own.
+//! The workers of a round: each owner and each reader with its part of the round, handed to the crew and taken back.
 ghost use Rattle.std.specs.Prelude.{◌≡◌, All, length};
 ghost use Rattle.partition_model.specs.Options.{IsValid};
 ghost use Rattle.partition_table.specs.Seats.{reader_state, reader_home};
