@@ -1,10 +1,7 @@
 -- What a front knows once it has told its seat the note of an acknowledgement, and once its seat has answered a get.
-use Rattle.std.proofs.Common.{◌≡◌, ℕ, ◌<◌, ◌≤◌, Bool, true, false, List, [], ◌∷◌, ◌++◌, length, map, Option, Some, None, refl, sym, ap, ◌∙◌, subst, arith, append-nil, append_assoc, length-append}
-use Rattle.std.specs.List.{All, AllByRecursion, fold}
+use Rattle.std.proofs.Common.{◌≡◌, ℕ, ◌<◌, ◌≤◌, Bool, true, false, List, [], ◌∷◌, ◌++◌, length, map, Option, Some, None, refl, sym, ap, ◌∙◌, subst, append-nil, append_assoc, length-append}
 use Rattle.std.proofs.lemmas.Bool.{true≢false}
 use Rattle.std.proofs.lemmas.List.{map-append}
-use Rattle.std.proofs.lemmas.List.Elements.{recursion_from_All}
-use Rattle.list_laws.proofs.AllElements.{before_all}
 use Rattle.partition_model.specs.declared.options.Options.{Options}
 use Rattle.partition_model.specs.declared.write.Answer.{Answer}
 use Rattle.partition_model.specs.declared.write.Answer.TheVariants.{Hit, Miss}
@@ -13,7 +10,6 @@ use Rattle.partition_model.specs.declared.write.Write.{Write}
 use Rattle.partition_model.specs.Answer.{IsAnswer}
 use Rattle.partition_model.specs.Write.{is_accepted}
 use Rattle.partition_model.specs.History.{History, IsPrefix, stamp_in, stamp_of}
-use Rattle.partition_model.proofs.Rises.{stamp_rises}
 use Rattle.epoch_core.specs.declared.shape.Shape.{Shape}
 use Rattle.epoch_core.specs.declared.reader.ReaderState.{ReaderState}
 use Rattle.epoch_core.specs.Shape.{shape_of, options_of}
@@ -35,18 +31,7 @@ use Rattle.owner_queue.specs.AckEnds.{AckBox, ack_box}
 use Rattle.owner_queue.specs.JobEnds.{Outbox, outbox}
 use Rattle.mica_fronts.specs.declared.queue_front.FrontPart.{FrontPart}
 use Rattle.mica_fronts.specs.Session.{Writes, Reads, TellsStep}
-use Rattle.mica_fronts.specs.QueueFront.{IsWhole, HasTakenMore, HasAwaited, PartWrites, PartReads, acknowledged_by, last_stamp, told_by, session_of}
-
--- The last stamp
-
-last_of : (acks : List Ack) (ack : Ack) (z : ℕ) → fold (λ stamp a. a.stamp) z (acks ++ ack ∷ []) ≡ ack.stamp
-last_of [] ack z = refl
-last_of (a ∷ acks) ack z = last_of acks ack a.stamp
-
--- whatever holds of a number and of each stamp holds of the last
-last_is : (P : ℕ → Type 0) (acks : List Ack) (z : ℕ) → P z → AllByRecursion (λ a. P a.stamp) acks → P (fold (λ stamp a. a.stamp) z acks)
-last_is P [] z first all = first
-last_is P (a ∷ acks) z first all = last_is P acks a.stamp all.0 all.1
+use Rattle.mica_fronts.specs.QueueFront.{IsWhole, HasTakenMore, HasAwaited, PartWrites, PartReads, acknowledged_by, told_by, session_of}
 
 -- Acknowledgements taken
 
@@ -60,15 +45,17 @@ module _ (old mid new : AckBox) (ack : Ack) (so_far : HasTakenMore old mid) (is 
   pub awaits_more : HasTakenMore old new
   awaits_more = record { more = so_far.more ++ ack ∷ []; taken = taken_more ∙ ap (ack_box old.queue old.table old.shape) (append_assoc old.list so_far.more (ack ∷ [])) }
 
-  pub awaits_this : (ticket : ℕ) (write : Write) → AckMayFollow mid.table mid.shape mid.list ack → IsAcked (note_state ack.note) ack.write ack.outcome ack.stamp → ack.ticket ≡ ticket → ack.write ≡ write
-      → HasAwaited old ticket write ack new
-  awaits_this ticket write order acked ticket_is write_is = record {
+  pub awaits_this : (last ticket : ℕ) (write : Write) → AckMayFollow mid.table mid.shape mid.list ack → IsAcked (note_state ack.note) ack.write ack.outcome ack.stamp → ack.ticket ≡ ticket → ack.write ≡ write
+      → last ≤ ack.stamp → (is_accepted ack.outcome ≡ true → last < ack.stamp) → HasAwaited old last ticket write ack new
+  awaits_this last ticket write order acked ticket_is write_is no_fall rises = record {
     more = so_far.more;
     taken = taken_more;
     order = subst (λ (b : AckBox). AckMayFollow b.table b.shape b.list ack) so_far.taken order;
     acked = acked;
     ticket_is = ticket_is;
     write_is = write_is;
+    no_fall = no_fall;
+    rises = rises;
   }
 
 -- A reply by the options of the shape is one by the options
@@ -77,24 +64,13 @@ same_reply : (options : Options) (b : Bool) (cut : History) (write : Write) (out
 same_reply options true cut write outcome is = (is.0, is.1, same_may_give options is.0 write outcome is.2)
 same_reply options false cut write outcome is = same_may_give options cut write outcome is
 
--- the stamp after an accepted write is above 0
-above_none : (options : Options) (b : Bool) (cut : History) (write : Write) (outcome : Outcome) (stamp : ℕ) → stamp_of options cut ≡ stamp → IsReplyAt b options cut write outcome → b ≡ true → 0 < stamp
-above_none options true cut write outcome stamp is reply _ =
-    let one = stamp_rises options reply.0 write in
-    let here = ap (stamp_of options) reply.1 in
-    omega arith
-above_none options false cut write outcome stamp is reply off = absurd (true≢false (sym off))
-
-module _ (old new : FrontPart) (job : Job) (ack : Ack) (whole : IsWhole old) (awaited : HasAwaited old.acks job.ticket job.write ack new.acks)
+module _ (old new : FrontPart) (job : Job) (ack : Ack) (whole : IsWhole old) (awaited : HasAwaited old.acks old.last job.ticket job.write ack new.acks) (last : new.last ≡ ack.stamp)
     (jobs : new.jobs ≡ outbox old.jobs.queue old.jobs.number old.jobs.jobs (old.jobs.sent ++ message.Job job ∷ []))
     (event : reader_state new.seat ≡ stamped (reader_state new.seat).seen (told (reader_state old.seat) (note_state ack.note)))
     (seen : IsPrefix (reader_state old.seat).seen (reader_state new.seat).seen × IsPrefix (note_state ack.note).seen (reader_state new.seat).seen)
     (done : IsPrefix (reader_state old.seat).done (reader_state new.seat).done × IsPrefix (note_state ack.note).done (reader_state new.seat).done) where
   list : new.acks.list ≡ old.acks.list ++ awaited.more ++ ack ∷ []
   list = ap (λ (b : AckBox). b.list) awaited.taken
-
-  earlier : (P : ℕ → Type 0) → P 0 → All (λ a. P a.stamp) (old.acks.list ++ awaited.more) → P (last_stamp old.acks.list)
-  earlier P none all = last_is P old.acks.list 0 none (before_all (λ a. P a.stamp) old.acks.list awaited.more (recursion_from_All (λ a. P a.stamp) (old.acks.list ++ awaited.more) all))
 
   tells : TellsStep (told_by old) (record { write = job.write; outcome = ack.outcome; stamp = ack.stamp }) (told_by new)
   tells = record {
@@ -129,9 +105,9 @@ module _ (old new : FrontPart) (job : Job) (ack : Ack) (whole : IsWhole old) (aw
       reply = reply;
       done = done.0;
       ended = prefix_then acked.cut (note_state ack.note).done (reader_state new.seat).done acked.ended done.1;
-      order = earlier (λ n. n ≤ ack.stamp) (omega arith) awaited.order.stamp;
-      rises = λ accepted. earlier (λ n. n < ack.stamp) (above_none options (is_accepted ack.outcome) acked.cut job.write ack.outcome ack.stamp stamp_is reply accepted) (awaited.order.accepted accepted);
-      last = ap last_stamp list ∙ last_of (old.acks.list ++ awaited.more) ack 0;
+      order = awaited.no_fall;
+      rises = awaited.rises;
+      last = last;
       alone = λ off. absurd (true≢false (sym off));
       told = (told_by new, refl, tells);
     }
@@ -150,9 +126,9 @@ module _ (old new : FrontPart) (job : Job) (ack : Ack) (whole : IsWhole old) (aw
 -- A get
 
 was_read : (options : Options) (old new : FrontPart) (key : List ℕ) (stamp : ℕ) (value : Option (List ℕ)) → (reader_state old.seat).shape ≡ shape_of options
-    → new.jobs ≡ old.jobs → new.acks ≡ old.acks → IsReadAt (reader_state old.seat) key stamp value (reader_state new.seat)
+    → new.jobs ≡ old.jobs → new.acks ≡ old.acks → new.last ≡ stamp → IsReadAt (reader_state old.seat) key stamp value (reader_state new.seat)
     → Reads options false (session_of old) key stamp value (session_of new)
-was_read options old new key stamp value shape jobs acks read =
+was_read options old new key stamp value shape jobs acks last read =
     let seat = read.seat in
     let failed = length-append (reader_state old.seat).fails seat.more in
     let fails = ap length seat.fails in
@@ -160,7 +136,7 @@ was_read options old new key stamp value shape jobs acks read =
       grows = seat.seen;
       answer = same_answer options (reader_state old.seat).shape (reader_state new.seat).seen key stamp value shape read.answer;
       done = seat.done;
-      last = ap (λ (b : AckBox). last_stamp b.list) acks;
+      last = last;
       alone = λ off. absurd (true≢false (sym off));
       told = (
         length seat.more,
@@ -174,7 +150,7 @@ was_read options old new key stamp value shape jobs acks read =
       );
     }
 
-module _ (old new : FrontPart) (key : List ℕ) (stamp : ℕ) (buffer : List ℕ) (jobs : new.jobs ≡ old.jobs) (acks : new.acks ≡ old.acks) (home : reader_home new.seat ≡ reader_home old.seat) where
+module _ (old new : FrontPart) (key : List ℕ) (stamp : ℕ) (buffer : List ℕ) (jobs : new.jobs ≡ old.jobs) (acks : new.acks ≡ old.acks) (last : new.last ≡ stamp) (home : reader_home new.seat ≡ reader_home old.seat) where
   part_reads : (answer : Answer) (value : Option (List ℕ)) → IsAnswer answer buffer value → IsReadAt (reader_state old.seat) key stamp value (reader_state new.seat) → PartReads old key answer stamp buffer new
   part_reads answer value is read = record {
     jobs = jobs;
@@ -182,7 +158,7 @@ module _ (old new : FrontPart) (key : List ℕ) (stamp : ℕ) (buffer : List ℕ
     stays = record { shape = read.seat.shape; home = home; acks = acks ∙ ap (λ (b : AckBox). ack_box old.acks.queue old.acks.table old.acks.shape b.list) (sym acks) };
     value = value;
     is = is;
-    read = λ options shape. was_read options old new key stamp value shape jobs acks read;
+    read = λ options shape. was_read options old new key stamp value shape jobs acks last read;
   }
 
   pub reads_hit : (got : Got) → got ≡ GotHit stamp → IsRead (reader_state old.seat) key got buffer (reader_state new.seat) → PartReads old key Hit stamp buffer new

@@ -1,11 +1,12 @@
 -- What contracts see of a front before owners in other threads.
-use Rattle.std.specs.Prelude.{◌≡◌, ℕ, ◌+◌, ◌<◌, false, List, [], ◌∷◌, ◌++◌, All, map, length, fold, sum_by, slice_get, Option, Some, None}
+use Rattle.std.specs.Prelude.{◌≡◌, ℕ, ◌+◌, ◌<◌, ◌≤◌, true, false, List, [], ◌∷◌, ◌++◌, All, map, length, sum_by, slice_get, Option, Some, None}
 use Rattle.std.specs.List.{list_any}
 use Rattle.partition_model.specs.declared.options.Options.{Options}
 use Rattle.partition_model.specs.declared.write.Answer.{Answer}
 use Rattle.partition_model.specs.declared.write.Outcome.{Outcome}
 use Rattle.partition_model.specs.declared.write.Write.{Write}
 use Rattle.partition_model.specs.Answer.{IsAnswer}
+use Rattle.partition_model.specs.Write.{is_accepted}
 use Rattle.partition_model.specs.Options.{IsValid}
 use Rattle.epoch_core.specs.Shape.{shape_of}
 use Rattle.partition_table.specs.Seats.{reader_state, reader_home, note_state}
@@ -74,10 +75,6 @@ abbrev pub acknowledged_by : Ack → Acknowledged
 acknowledged_by ack =
     record { ticket = ack.ticket; step = record { write = ack.write; outcome = ack.outcome; stamp = ack.stamp } }
 
--- the stamp of the last of them, 0 before the first
-abbrev pub last_stamp : List Ack → ℕ
-last_stamp acks = fold (λ stamp ack. ack.stamp) 0 acks
-
 -- where the front stands before the owner
 abbrev pub stand_of : FrontPart → Stand
 stand_of part =
@@ -96,7 +93,7 @@ abbrev pub session_of : FrontPart → Session
 session_of part = record {
   seen = (reader_state part.seat).seen;
   done = (reader_state part.seat).done;
-  last = last_stamp part.acks.list;
+  last = part.last;
   told = Some (told_by part);
 }
 
@@ -115,14 +112,16 @@ pub record HasTakenMore (old new : AckBox) : Type 0 where
   pub more : List Ack
   pub taken : new ≡ ack_box old.queue old.table old.shape (old.list ++ more)
 
--- Acknowledgements were taken, the last of them the one of the ticket and the write.
-pub record HasAwaited (old : AckBox) (ticket : ℕ) (write : Write) (ack : Ack) (new : AckBox) : Type 0 where
+-- Acknowledgements were taken, the last of them the one of the ticket and the write, with a stamp that may be answered after the last one.
+pub record HasAwaited (old : AckBox) (last ticket : ℕ) (write : Write) (ack : Ack) (new : AckBox) : Type 0 where
   pub more : List Ack
   pub taken : new ≡ ack_box old.queue old.table old.shape (old.list ++ more ++ ack ∷ [])
   pub order : AckMayFollow old.table old.shape (old.list ++ more) ack
   pub acked : IsAcked (note_state ack.note) ack.write ack.outcome ack.stamp
   pub ticket_is : ack.ticket ≡ ticket
   pub write_is : ack.write ≡ write
+  pub no_fall : last ≤ ack.stamp
+  pub rises : is_accepted ack.outcome ≡ true → last < ack.stamp
 
 -- the ends and the table of a part are the same
 pub record StaysPart (old new : FrontPart) : Type 0 where

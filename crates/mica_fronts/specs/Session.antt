@@ -40,7 +40,7 @@ pub record Told : Type 0 where
   pub failed : ℕ
   pub closed : ℕ
 
--- the history that the front has seen, the part of it that had ended, and the stamp that it answered to a write last
+-- the history that the front has seen, the part of it that had ended, and the stamp that it answered last
 pub record Session : Type 0 where
   pub seen : History
   pub done : History
@@ -78,7 +78,8 @@ TellsRead (Some old) new =
 abbrev pub TakesStep : Options → History → RunStep → History → Type 0
 TakesStep options old step new = IsRunFrom options old (step ∷ []) × (new ≡ old ++ history_of (step ∷ []))
 
--- A write was answered with a stamp. Where nobody else writes, it is the one step that the machine took.
+-- A write was answered with a stamp, none below the one answered before, and above it where the write was accepted. Where nobody else writes, it
+-- is the one step that the machine took.
 pub record Writes (options : Options) (is_alone : Bool) (old : Session) (step : RunStep) (new : Session) : Type 0 where
   pub grows : IsPrefix old.seen new.seen
   pub cut : History
@@ -98,7 +99,7 @@ pub record Reads (options : Options) (is_alone : Bool) (old : Session) (key : Li
   pub grows : IsPrefix old.seen new.seen
   pub answer : IsAnswerAt options new.seen key stamp value
   pub done : new.done ≡ old.done
-  pub last : new.last ≡ old.last
+  pub last : new.last ≡ stamp
   pub alone : is_alone ≡ true → new.seen ≡ old.seen
   pub told : TellsRead old.told new.told
 

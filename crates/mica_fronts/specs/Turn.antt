@@ -1,5 +1,5 @@
 -- A request and its reply.
-use Rattle.std.specs.Prelude.{ℕ, ◌==◌, ◌&&◌, Bool, List, [], length, nat_lt, Option, Some, None, is_some, is_none, filter, if◌then◌else◌}
+use Rattle.std.specs.Prelude.{◌≡◌, ℕ, ◌==◌, ◌&&◌, Bool, true, List, [], length, nat_lt, Option, Some, None, is_some, is_none, filter, if◌then◌else◌}
 use Rattle.mica_words.specs.Hash.{partition_of}
 use Rattle.partition_model.specs.declared.options.Options.{Options}
 use Rattle.partition_model.specs.declared.write.Op.TheVariants.{Put as PutOp, Del as DelOp, Add as AddOp, Touch as TouchOp}
@@ -8,7 +8,7 @@ use Rattle.partition_model.specs.declared.write.Outcome.TheVariants.{Stored, Del
 use Rattle.partition_model.specs.declared.write.Write.{Write}
 use Rattle.partition_model.specs.declared.write.Answer.{Answer}
 use Rattle.partition_model.specs.declared.write.Answer.TheVariants.{Hit, Miss}
-use Rattle.partition_model.specs.Write.{write_of}
+use Rattle.partition_model.specs.Write.{write_of, is_accepted}
 use Rattle.batch_packets.specs.declared.header.TheConstants.{MAX_VALUE_LEN_V1}
 use Rattle.batch_packets.specs.declared.batch.Want.{Want}
 use Rattle.batch_packets.specs.declared.batch.Want.TheVariants.{Get, Put, Del, Add, Touch}
@@ -36,6 +36,10 @@ write_in request = write_by request.want request.key request.value
 abbrev pub partition_in : Options → Turn → ℕ
 partition_in options turn = partition_of turn.request.key options.partitions
 
+-- the turns of one partition
+abbrev pub turns_of : Options → ℕ → List Turn → List Turn
+turns_of options partition turns = filter (λ t. partition_in options t == partition) turns
+
 -- the writes among the turns, in one partition
 abbrev pub writes_of : Options → ℕ → List Turn → List Turn
 writes_of options partition turns =
@@ -56,6 +60,12 @@ status_of FullBlock = 6
 status_of Worn = 7
 status_of Exists = 11
 status_of Touched = 12
+
+-- the reply says that a write was accepted
+pub record Accepts (reply : Reply) : Type 0 where
+  pub outcome : Outcome
+  pub status : reply.status ≡ status_of outcome
+  pub accepted : is_accepted outcome ≡ true
 
 -- the status of a get's reply
 abbrev pub status_at : Answer → ℕ

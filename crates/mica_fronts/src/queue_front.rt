@@ -1,9 +1,9 @@
 //! A front before owners in other threads.
-ghost use Rattle.std.specs.Prelude.{◌≡◌, ◌<◌, All, IsTrue, map, vec_len};
+ghost use Rattle.std.specs.Prelude.{◌≡◌, ◌<◌, ◌≤◌, true, All, IsTrue, map, vec_len};
 ghost use Rattle.mica_words.specs.Hash.{fnv1a};
 ghost use Rattle.mica_words.specs.Item.{KeyFits};
 ghost use Rattle.partition_model.specs.Options.{IsValid};
-ghost use Rattle.partition_model.specs.Write.{write_of};
+ghost use Rattle.partition_model.specs.Write.{is_accepted, write_of};
 ghost use Rattle.owner_queue.specs.declared.message.Message.TheVariants as message;
 ghost use Rattle.owner_queue.specs.Messages.{MayFollow};
 ghost use Rattle.mica_fronts.specs.QueueFront.{IsWhole, IsNewPart, IsQueueFront, HasAwaited, PartWrites, PartReads, queue_view, ended_part};
@@ -26,6 +26,8 @@ pub struct FrontPart {
     pub seat: ReaderSeat,
     pub jobs: JobSender,
     pub acks: AckReceiver,
+    /// The stamp that was answered last, to a write or a get.
+    pub last: u64,
 }
 
 /// Whether it is the acknowledgement of this ticket and write.
@@ -40,20 +42,33 @@ fn is_of(ack: &Ack, ticket: u64, op: Op, key: &[u8], value: &[u8]) -> bool
         && write.value.bytes() == value
 }
 
-/// Takes acknowledgements until one has this ticket and write.
+/// Whether its stamp may be answered after the last one: it does not fall, and rises where the write was accepted.
+fn comes_after(ack: &Ack, last: u64) -> bool
+    ensures no_fall { IsTrue result → last ≤ ack.now.stamp }
+    ensures rises { IsTrue result → is_accepted ack.now.outcome ≡ true → last < ack.now.stamp }
+{
+    if ack.outcome.is_accepted() {
+        last < ack.stamp
+    } else {
+        last <= ack.stamp
+    }
+}
+
+/// Takes acknowledgements until one has this ticket and write, and may be answered after the last stamp.
 fn await_ack<R: Wait>(
     rt: &R,
     acks: &mut AckReceiver,
+    last: u64,
     ticket: u64,
     op: Op,
     key: &[u8],
     value: &[u8],
 ) -> Ack
-    ensures { HasAwaited acks.old ticket (write_of op key.now value.now) result acks.new }
+    ensures { HasAwaited acks.old last ticket (write_of op key.now value.now) result acks.new }
 {
     for _ in rt.forever() {
         let ack = acks.recv(rt);
-        if is_of(&ack, ticket, op, key, value) {
+        if is_of(&ack, ticket, op, key, value) && comes_after(&ack, last) {
             return ack;
         }
     }
@@ -78,8 +93,9 @@ impl FrontPart {
     {
         let ticket = job.ticket;
         self.jobs.send(rt, Message::Job(job));
-        let ack = await_ack(rt, &mut self.acks, ticket, op, key, value);
+        let ack = await_ack(rt, &mut self.acks, self.last, ticket, op, key, value);
         self.seat.tell(ack.note);
+        self.last = ack.stamp;
         (ack.outcome, ack.stamp)
     }
 
@@ -98,8 +114,14 @@ impl FrontPart {
         ensures { PartReads self.old key.now result.0 result.1 out.new self.new }
     {
         match ask_hashed(rt, &mut self.seat, key, hash, tries, out) {
-            Got::Hit { stamp } => (Answer::Hit, stamp),
-            Got::Miss { stamp } => (Answer::Miss, stamp),
+            Got::Hit { stamp } => {
+                self.last = stamp;
+                (Answer::Hit, stamp)
+            }
+            Got::Miss { stamp } => {
+                self.last = stamp;
+                (Answer::Miss, stamp)
+            }
             Got::Again { .. } => unreachable!(),
         }
     }

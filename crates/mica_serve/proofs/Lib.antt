@@ -1,4 +1,4 @@
-pub mod Fronts
+pub mod Order
 pub mod CutShort
 pub mod Opened
 pub mod Binding

@@ -1,20 +1,20 @@
 -- Fronts that were served beside each other, served.
 use Rattle.std.proofs.Common.{◌≡◌, ℕ, ◌+◌, ◌<◌, ◌≤◌, List, [], ◌++◌, length, map, Option, Some, None, refl, sym, ap, ◌∙◌, subst, slice_get, arith}
-use Rattle.std.specs.List.{AllZip, All}
+use Rattle.std.specs.List.{AllZip, All, AllPairs}
 use Rattle.std.proofs.lemmas.List.{append-nil, length-map}
 use Rattle.std.proofs.lemmas.Option.{slice_get-map}
 use Rattle.std.specs.Prelude.{option_map}
 use Rattle.partition_model.specs.declared.options.Options.{Options}
 use Rattle.partition_model.specs.Run.{RunStep}
-use Rattle.mica_fronts.specs.Turn.{Turn, writes_of, gets_of}
+use Rattle.mica_fronts.specs.Turn.{Turn, turns_of, writes_of, gets_of}
 use Rattle.mica_fronts.specs.Dealing.{Dealing, turns_in}
 use Rattle.mica_fronts.specs.Session.{Acknowledged, Told, Sessions}
 use Rattle.mica_fronts.specs.Placed.{Placed, steps_by, history_in}
-use Rattle.mica_serve.specs.Served.{ServesGet, IsGetAt, RepliesStep, AnswersLawfully}
+use Rattle.mica_serve.specs.Served.{ServesGet, NoFall, RepliesStep, AnswersLawfully}
 use Rattle.mica_serve.specs.Beside.{closed_of, AnsweredBeside, RunsPartitions}
-use Rattle.mica_serve.proofs.Fronts.{order_of}
+use Rattle.mica_serve.proofs.Order.{order_of}
 use Rattle.mica_serve.proofs.Among.{StandAmong, stand_few, stand_all, stand_append}
-use Rattle.mica_serve.proofs.Beside.{TellsTurns, beside_of, get_served}
+use Rattle.mica_serve.proofs.Beside.{TellsTurns, beside_of, gets_grow}
 use Rattle.mica_serve.proofs.PartitionTotals.{total_all, writes_total}
 
 module _ (options : Options) (some : 1 ≤ options.partitions) (runs : ℕ → List Placed) (f : ℕ) (turns : List Turn) (old new : Sessions)
@@ -45,9 +45,9 @@ module _ (options : Options) (some : 1 ≤ options.partitions) (runs : ℕ → L
       (λ q below. stand_few (writes_of options q turns) (steps_by f (runs q)) (stands q below))
       (omega (arith, known.few, writes_total options some turns)) p lt)
 
-  pub gets_of_run : (p n : ℕ) (turn : Turn) → p < options.partitions → IsGetAt options p turns n turn → ServesGet options (history_in (runs p)) turns n turn
-  gets_of_run p n turn lt is =
-      get_served options p (old p).seen (new p).seen (history_in (runs p)) turns n turn (known.seen p lt) ((beside_of options p old new turns known.answers).gets n turn is)
+  pub gets_of_run : (p : ℕ) → p < options.partitions → All (ServesGet options (history_in (runs p))) (gets_of options p turns)
+  gets_of_run p lt =
+      gets_grow options (new p).seen (history_in (runs p)) (gets_of options p turns) (known.seen p lt) (beside_of options p old new turns known.answers).gets
 
   -- its seat closed one try for each get
   pub closed_gets : (p : ℕ) → p < options.partitions → closed_of (new p).told ≡ length (gets_of options p turns)
@@ -69,11 +69,14 @@ lawful_beside options some runs fronts ran each =
             (let k = each f own.0 own.1 in all_replied options some runs f (turns_in own.0) k.0 k.1 k.2 p lt);
         no_others = subst (λ (n : ℕ). All (λ q. q.front < n) (runs p)) (sym (length-map fronts turns_in)) (ran.no_others p lt);
       };
-      order = λ p f lt. order_of options f [] (runs p) (ran.run p lt);
-      gets = λ p f turns n turn lt is.
+      gets = λ p f turns lt is.
           let own = dealt f turns is in
-          subst (λ (ts : List Turn). IsGetAt options p ts n turn → ServesGet options (history_in (runs p)) ts n turn) own.2
-          (let k = each f own.0 own.1 in gets_of_run options some runs f (turns_in own.0) k.0 k.1 k.2 p n turn lt);
+          subst (λ (ts : List Turn). All (ServesGet options (history_in (runs p))) (gets_of options p ts)) own.2
+          (let k = each f own.0 own.1 in gets_of_run options some runs f (turns_in own.0) k.0 k.1 k.2 p lt);
+      order = λ p f turns lt is.
+          let own = dealt f turns is in
+          subst (λ (ts : List Turn). AllPairs NoFall (turns_of options p ts)) own.2
+          (let k = each f own.0 own.1 in order_of options p k.0 k.1 (turns_in own.0) k.2.answers);
     }
   where
     dealt : (f : ℕ) (turns : List Turn) → slice_get (map turns_in fronts) f ≡ Some turns → (dealings : List Dealing) × (slice_get fronts f ≡ Some dealings) × (turns_in dealings ≡ turns)

@@ -1,9 +1,9 @@
 -- What a whole run makes of the ports: bound, served, released.
 use Rattle.std.proofs.Common.{◌≡◌, ℕ, ◌+◌, ◌-◌, ◌<◌, ◌≤◌, ◌⊎◌, inl, inr, true, List, [], length, map, take, drop, Option, Some, None, refl, sym, ap, ◌∙◌, subst, slice_get, arith}
 use Rattle.std.specs.Prelude.{◌≢◌, is_some, nat_lt, min, sum_by, Result, Ok, Err, IfSome}
-use Rattle.std.specs.List.{AllZip}
+use Rattle.std.specs.List.{All, AllPairs, AllZip}
 use Rattle.std.proofs.lemmas.Bool.{cases_lt}
-use Rattle.std.proofs.lemmas.List.Elements.{All-from_recursion}
+use Rattle.std.proofs.lemmas.List.Elements.{All-nil, All-from_recursion}
 use Rattle.std.proofs.lemmas.Option.{slice_get_within, same_Some}
 use Rattle.std.proofs.lemmas.List.{append-nil, length-map}
 use Rattle.std.proofs.lemmas.List.Sums.{sum-map}
@@ -13,11 +13,11 @@ use Rattle.mica_io.specs.Ports.{Port, Ports, out, back, is_waiting}
 use Rattle.partition_model.specs.declared.options.Options.{Options}
 use Rattle.mica_serve.specs.declared.ports.Ports.{Ports as PortOptions}
 use Rattle.mica_fronts.specs.declared.totals.Totals.{Totals}
-use Rattle.mica_fronts.specs.Turn.{Turn, writes_of}
+use Rattle.mica_fronts.specs.Turn.{Turn, turns_of, writes_of, gets_of}
 use Rattle.mica_fronts.specs.Dealing.{Dealing, IsDealing, turns_in, due_to}
 use Rattle.partition_table.specs.declared.tables.Entry.{Entry}
 use Rattle.mica_serve.specs.Beside.{ServesOnTables}
-use Rattle.mica_serve.specs.Served.{ServesPort, RepliesStep, LeavesPort, BeginsPorts, IsThrough, IsCutShort, IsStopped, StopsShort}
+use Rattle.mica_serve.specs.Served.{ServesPort, RepliesStep, ServesGet, NoFall, LeavesPort, BeginsPorts, IsThrough, IsCutShort, IsStopped, StopsShort}
 use Rattle.mica_io.specs.Faults.{Rose, LAST_COUNT}
 use Rattle.mica_fronts.specs.declared.totals.ServeFault.{ServeFault}
 use Rattle.mica_fronts.specs.declared.totals.ServeFault.TheVariants.{Net, NoMemory}
@@ -159,11 +159,8 @@ module _ (ports : PortOptions) (olds news : List EndFacts) (before mid after : P
           each = λ f turns is. subst (λ (ts : List Turn). AllZip RepliesStep (writes_of options p ts) []) (sym (none_asked f turns is)) tt;
           no_others = All-from_recursion (λ q. q.front < length (map turns_in nothing.0)) [] tt;
         };
-        order = λ p f lt i j d less within. absurd (omega arith);
-        gets = λ p f turns n turn lt is asks.
-            let asked = asks.asked in
-            let none : slice_get [] n ≡ Some turn = ap (λ (ts : List Turn). slice_get ts n) (sym (none_asked f turns is)) ∙ asked in
-            absurd (cc);
+        gets = λ p f turns lt is. subst (λ (ts : List Turn). All (ServesGet options []) (gets_of options p ts)) (sym (none_asked f turns is)) (All-nil (ServesGet options []));
+        order = λ p f turns lt is. subst (λ (ts : List Turn). AllPairs NoFall (turns_of options p ts)) (sym (none_asked f turns is)) (λ i j d less within. absurd (omega arith));
       };
       some = inl failed;
       blamed = inl failed;

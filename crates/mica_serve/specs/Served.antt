@@ -1,15 +1,14 @@
 -- What the fronts of a server received and replied to.
-use Rattle.std.specs.Prelude.{◌≡◌, ◌+◌, ◌<◌, ◌≤◌, ◌⊎◌, ℕ, Bool, true, List, [], ◌++◌, sum, take, drop, map, length, slice_get, nat_lt, Some, None, AllPairs, All}
+use Rattle.std.specs.Prelude.{◌≡◌, ◌+◌, ◌<◌, ◌≤◌, ◌⊎◌, ℕ, Bool, true, List, [], ◌++◌, sum, take, drop, map, length, slice_get, nat_lt, Some, AllPairs, All}
 use Rattle.std.specs.List.{AllZip}
 use Rattle.mica_io.specs.Traffic.{Datagram, Traffic, EndScript}
 use Rattle.mica_io.specs.Ports.{Port, Ports, waiting, back, is_waiting}
 use Rattle.partition_model.specs.declared.options.Options.{Options}
-use Rattle.partition_model.specs.Write.{is_accepted}
 use Rattle.partition_model.specs.History.{History, IsPrefix, stamp_of, answer_of}
 use Rattle.partition_model.specs.Run.{RunStep, IsRun}
 use Rattle.mica_serve.specs.declared.ports.Ports.{Ports as PortOptions}
 use Rattle.mica_fronts.specs.declared.totals.Totals.{Totals}
-use Rattle.mica_fronts.specs.Turn.{Turn, write_in, partition_in, writes_of, write_reply, get_reply}
+use Rattle.mica_fronts.specs.Turn.{Turn, Accepts, write_in, turns_of, writes_of, gets_of, write_reply, get_reply}
 use Rattle.mica_fronts.specs.Dealing.{Dealing, IsDealing, turns_in, due_to}
 use Rattle.mica_fronts.specs.Placed.{Placed, steps_by, steps_in, history_in}
 use Rattle.mica_fronts.specs.OneEnd.{BeginsAs}
@@ -42,33 +41,28 @@ pub record ServesWrites (options : Options) (partition : ℕ) (fronts : List (Li
       → AllZip RepliesStep (writes_of options partition turns) (steps_by f placed)
   pub no_others : All (λ q. q.front < length fronts) placed
 
--- the stamps of one front's writes never fall, and each accepted one is above those before it
-abbrev pub NoFall : RunStep → RunStep → Type 0
-NoFall earlier later = (earlier.stamp ≤ later.stamp) × (is_accepted later.outcome ≡ true → earlier.stamp < later.stamp)
-
--- A get is answered as of a beginning of the history, whose stamp is no less than those replied before to the same front.
-pub record ServesGet (options : Options) (history : History) (turns : List Turn) (n : ℕ) (turn : Turn) : Type 0 where
+-- a get is answered as of a beginning of the history
+pub record ServesGet (options : Options) (history : History) (turn : Turn) : Type 0 where
   pub cut : History
   pub begins : IsPrefix cut history
   pub reply : turn.reply
       ≡ get_reply turn.version turn.request.ticket (stamp_of options cut) (answer_of options cut turn.request.key)
-  pub latest : (m : ℕ) (earlier : Turn) → m < n → slice_get turns m ≡ Some earlier
-      → partition_in options earlier ≡ partition_in options turn → earlier.reply.stamp ≤ turn.reply.stamp
 
--- the request at this place is a get
-pub record IsGetAt (options : Options) (partition : ℕ) (turns : List Turn) (n : ℕ) (turn : Turn) : Type 0 where
-  pub asked : slice_get turns n ≡ Some turn
-  pub get : write_in turn.request ≡ None
-  pub here : partition_in options turn ≡ partition
+-- No stamp falls, to a write or to a get, and an accepted write's is above all before it: so a get sees each write of its front that was accepted
+-- before it, and none behind it.
+abbrev pub NoFall : Turn → Turn → Type 0
+NoFall earlier later =
+    (earlier.reply.stamp ≤ later.reply.stamp) × (Accepts later.reply → earlier.reply.stamp < later.reply.stamp)
 
 -- All fronts
 
--- The writes of all fronts are one run of each partition's machine, and each get is its answer, no older than what its front was told.
+-- The writes of all fronts are one run of each partition's machine, each get is its answer, and the stamps replied to each front never fall there.
 pub record AnswersLawfully (options : Options) (fronts : List (List Turn)) (runs : ℕ → List Placed) : Type 0 where
   pub writes : (p : ℕ) → p < options.partitions → ServesWrites options p fronts (runs p)
-  pub order : (p f : ℕ) → p < options.partitions → AllPairs NoFall (steps_by f (runs p))
-  pub gets : (p f : ℕ) (turns : List Turn) (n : ℕ) (turn : Turn) → p < options.partitions → slice_get fronts f ≡ Some turns
-      → IsGetAt options p turns n turn → ServesGet options (history_in (runs p)) turns n turn
+  pub gets : (p f : ℕ) (turns : List Turn) → p < options.partitions → slice_get fronts f ≡ Some turns
+      → All (ServesGet options (history_in (runs p))) (gets_of options p turns)
+  pub order : (p f : ℕ) (turns : List Turn) → p < options.partitions → slice_get fronts f ≡ Some turns
+      → AllPairs NoFall (turns_of options p turns)
 
 -- What the ports of a net tell before and after, what each front made of its datagrams, and a run of each partition's machine.
 pub record Served (options : Options) (ports : PortOptions) (before after : Ports) (fronts : List (List Dealing)) (runs : ℕ → List Placed)

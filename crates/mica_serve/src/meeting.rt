@@ -15,7 +15,12 @@ impl<P: LendPartition<Reader = ReaderSeat, Note = Note>> OwnerTask<P> {
         requires may { (f : ℕ) → length self.old.acks.items ≡ f + 1 → MayMeet f (owner_end P.owner P.home self.old) part }
         ensures { MeetsPart (owner_end P.owner P.home self.old) (owner_end P.owner P.home self.new) part }
     {
-        let FrontPart { seat, jobs, acks } = part;
+        let FrontPart {
+            seat,
+            jobs,
+            acks,
+            ..
+        } = part;
         self.jobs.take_in(jobs);
         let Some(answers) = self.acks.pop() else {
             unreachable!()

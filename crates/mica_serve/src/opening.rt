@@ -30,6 +30,7 @@ impl<P: LendPartition<Reader = ReaderSeat, Note = Note>> OwnerTask<P> {
             seat,
             jobs: sender,
             acks: answered,
+            last: 0,
         })
     }
 }

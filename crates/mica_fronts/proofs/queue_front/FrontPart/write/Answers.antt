@@ -1,4 +1,4 @@
-use Rattle.std.proofs.Common.{◌∙◌, sym, subst}
+use Rattle.std.proofs.Common.{◌∙◌, refl, sym, subst}
 use Rattle.partition_model.specs.declared.write.Write.{Write}
 use Rattle.mica_fronts.specs.declared.queue_front.FrontPart.{FrontPart}
 use Rattle.mica_fronts.specs.QueueFront.{HasAwaited}
@@ -12,6 +12,6 @@ pub returns : goal.returns
 returns g c =
     let old = c.args.self.now in
     let ack = c.await_ack-ack.result in
-    let new : FrontPart = record { seat = c.tell.new.self; jobs = c.send.new.self; acks = c.await_ack-ack.new.acks } in
-    let awaited = subst (λ (w : Write). HasAwaited old.acks c.args.job.ticket w ack new.acks) (sym c.requires.write) c.await_ack-ack.ensures in
-    part_writes old new c.args.job ack c.requires.whole awaited c.send.ensures c.tell.ensures.event c.tell.ensures.seen c.tell.ensures.done c.tell.ensures.home
+    let new : FrontPart = record { seat = c.tell.new.self; jobs = c.send.new.self; acks = c.await_ack-ack.new.acks; last = ack.stamp } in
+    let awaited = subst (λ (w : Write). HasAwaited old.acks old.last c.args.job.ticket w ack new.acks) (sym c.requires.write) c.await_ack-ack.ensures in
+    part_writes old new c.args.job ack c.requires.whole awaited refl c.send.ensures c.tell.ensures.event c.tell.ensures.seen c.tell.ensures.done c.tell.ensures.home
