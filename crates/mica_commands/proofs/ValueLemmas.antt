@@ -184,8 +184,9 @@ ports_valid given ports is =
     let f = both_told (value_of fronts given) _ ports p.2 in
     let b = both_told (value_of batches given) _ ports f.2 in
     let made : Ports = record { port = p.0; fronts = f.0; batches = b.0 } in
+    let count = required_bounds batches.name 1 1000000 (given batches.name) b.0 b.1 in
     subst IsValidPorts (ap (λ o. unwrap_or o made) b.2) (record {
       port = required_bounds port.name 1024 65000 (given port.name) p.0 p.1;
       fronts = value_bounds fronts.name 1 16 1 (given fronts.name) f.0 (omega arith, omega arith) f.1;
-      batches = required_bounds batches.name 1 1000000 (given batches.name) b.0 b.1;
+      batches = (count.0, omega (arith, count.1));
     })

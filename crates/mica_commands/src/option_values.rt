@@ -162,7 +162,7 @@ pub fn port_options(found: &ArgMatches<'_>) -> Option<Ports>
     Some(Ports {
         port: required(found, "port", 1_024, 65_000)? as u16,
         fronts: count(found, "fronts", 1, 16, 1)?,
-        batches: required(found, "batches", 1, 1_000_000)?,
+        batches: u64::from(required(found, "batches", 1, 1_000_000)?),
     })
 }
 

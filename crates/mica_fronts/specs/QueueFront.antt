@@ -55,7 +55,7 @@ pub record IsQueueFront (front : QueueView) : Type 0 where
   pub many : length front.parts ≡ front.options.partitions
   pub each : All (IsFrontPart front) front.parts
   pub sent : sum_by (λ part. length part.jobs.sent) front.parts ≡ front.next
-  pub few : front.next + front.left < 4294967296
+  pub few : front.next + front.left < 18446744073709551616
 
 -- a part that a front begins with
 pub record IsNewPart (options : Options) (number most : ℕ) (part : FrontPart) : Type 0 where

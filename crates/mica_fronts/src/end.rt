@@ -3,6 +3,7 @@ ghost use Rattle.std.specs.Prelude.{◌≡◌, ◌*◌, ◌+◌, ◌<◌, ◌≤
 ghost use Rattle.mica_io.specs.Faults.{Rose};
 ghost use Rattle.mica_io.specs.Traffic.{new_traffic};
 ghost use Rattle.mica_fronts.specs.OneEnd.{OnTraffic, SendsAll, SendsPart, IsAtEnd, ServesOne, StopsOne, LeavesUnread, ServesEnd, LeavesEnd, WantsAtEnd};
+ghost use Rattle.mica_fronts.specs.declared.totals.TheConstants.{MAX_BATCHES};
 ghost use Rattle.mica_fronts.specs.Totals.{IsUpTo};
 
 use crate::deal::deal;
@@ -92,10 +93,11 @@ pub fn serve_end<R: Threads + Wait + Sync, F: Front, D: Datagrams, G: Gate>(
     alloc: Global,
     front: &mut F,
     end: &mut D,
-    batches: u32,
+    batches: u64,
     gate: &G,
     worker: u32,
 ) -> Result<Totals, ServeFault>
+    requires few { batches ≤ MAX_BATCHES }
     requires open { D.has_ended end.old ≡ false }
     requires fresh { IfSome (D.traffic end.old) (λ t. t ≡ new_traffic t.left) }
     requires left { 255 * batches ≤ F.left front.old }

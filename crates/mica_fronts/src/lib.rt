@@ -20,4 +20,4 @@ pub use front::Front;
 pub use owner_work::serve_owner;
 pub use queue_front::{FrontPart, QueueFront};
 pub use solo::SoloFront;
-pub use totals::{ServeFault, Totals};
+pub use totals::{MAX_BATCHES, ServeFault, Totals};

@@ -142,7 +142,7 @@ pub struct QueueFront {
     options: Options,
     number: u32,
     next: u64,
-    left: u32,
+    left: u64,
     parts: Vec<FrontPart>,
 }
 
@@ -158,7 +158,7 @@ impl Model for QueueFront {
 
 impl QueueFront {
     /// A front that may send so many jobs in all.
-    pub fn new(options: &Options, number: u32, most: u32, parts: Vec<FrontPart>) -> QueueFront
+    pub fn new(options: &Options, number: u32, most: u64, parts: Vec<FrontPart>) -> QueueFront
         requires valid { IsValid options.now }
         requires many { vec_len parts ≡ options.now.partitions }
         requires each { All (IsNewPart options.now number most) parts.items }

@@ -4,6 +4,9 @@ ghost use Rattle.std.specs.Prelude.{◌≡◌};
 use mica_io::{Failed, NoMemory};
 use std::alloc::AllocError;
 
+/// The most datagrams of one front, whose requests, and those of all fronts, can be counted in 64 bits.
+pub const MAX_BATCHES: u64 = 1_099_511_627_776;
+
 /// How many datagrams were received, how many requests stood in those that were batches, and how many were none.
 #[derive(Clone, Copy, Debug, PartialEq, Eq)]
 pub struct Totals {
@@ -21,7 +24,8 @@ pub enum ServeFault {
 }
 
 impl Totals {
-    ghost use Rattle.std.specs.Prelude.{◌≡◌, ◌<◌, ◌+◌};
+    ghost use Rattle.std.specs.Prelude.{◌≡◌, ◌<◌, ◌+◌, ◌*◌};
+    ghost use Rattle.mica_fronts.specs.declared.totals.TheConstants.{MAX_BATCHES};
     ghost use Rattle.mica_fronts.specs.Totals.{added, counted, none_counted};
 
     /// Nothing was counted yet.
@@ -49,9 +53,9 @@ impl Totals {
 
     /// Counts one more datagram, of so many requests.
     pub fn count(&mut self, requests: u32)
-        requires batches { self.old.batches < 4294967296 }
-        requires requests { self.old.requests < 2305843009213693952 }
-        requires bad { self.old.bad < 4294967296 }
+        requires batches { self.old.batches < MAX_BATCHES }
+        requires requests { self.old.requests < 255 * MAX_BATCHES }
+        requires bad { self.old.bad < MAX_BATCHES }
         ensures { self.new ≡ counted requests self.old }
     {
         self.batches += 1;

@@ -202,9 +202,3 @@ shared_writes options trace lines g owner_parts given reader_parts asked shared 
 
     here : (p : ℕ) (w : OwnerPart) (at : slice_get given p ≡ Some w) → HasWrites options trace lines p (was p w at).0 w
     here p w at = (shared.owners.each p (was p w at).0 w (was p w at).1 at).0
-
--- an owner has no more writes than there are lines
-pub few_writes : {P : Type 0} (owner : P → OwnerState) (home : P → TableId) (options : Options) (trace lines : List TraceLine) (owners : List (OwnerWork P))
-    → AreWritesOf options trace lines (map (λ (w : OwnerWork P). owner_part owner home w) owners) → (p : ℕ) (w : OwnerWork P) → slice_get owners p ≡ Some w → length w.writes.items ≤ length lines
-few_writes {P = P} owner home options trace lines owners shared p w at =
-    shared.few p (owner_part owner home w) (slice_get-map (λ (x : OwnerWork P). owner_part owner home x) owners p ∙ ap (option_map (λ (x : OwnerWork P). owner_part owner home x)) at)

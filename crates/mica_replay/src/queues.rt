@@ -1,6 +1,5 @@
 //! The queues of a round: one for each owner, with one sender.
-ghost use Rattle.std.specs.Prelude.{◌≡◌, ◌<◌, ◌^◌, ℕ, IfOk, Some, length, slice_get};
-ghost use Rattle.mica_replay.specs.declared.worker.OwnerWork.{OwnerWork};
+ghost use Rattle.std.specs.Prelude.{IfOk};
 ghost use Rattle.mica_replay.specs.Queues.{HaveQueues, MayTakeIn, HaveTakenIn};
 
 use crate::worker::OwnerWork;
@@ -13,13 +12,12 @@ pub(crate) fn open_queues<P: Drop>(
     alloc: Global,
     owners: &mut Vec<OwnerWork<P>>,
 ) -> Result<Vec<JobSender>, NoMemory>
-    requires few { (p : ℕ) (w : OwnerWork P) → slice_get owners.old.items p ≡ Some w → length w.writes.items < 2 ^ 32 }
     ensures { IfOk result (λ senders. HaveQueues owners.old.items owners.new.items senders.items) }
 {
     let mut senders = Vec::with_capacity(alloc, owners.len())?;
     for p in 0..owners.len() {
         let owner = &mut owners[p];
-        let (mut own, receiver) = job_queue(alloc, 1, owner.writes.len() as u32)?;
+        let (mut own, receiver) = job_queue(alloc, 1, owner.writes.len() as u64)?;
         let Some(sender) = own.list.pop() else {
             unreachable!()
         };

@@ -16,6 +16,7 @@ use Rattle.partition_table.specs.Tabled.{entry_in}
 use Rattle.partition_table.specs.declared.tables.Entry.{Entry}
 use Rattle.owner_queue.specs.JobEnds.{Inbox}
 use Rattle.owner_queue.specs.AckEnds.{AckBox}
+use Rattle.mica_fronts.specs.declared.totals.TheConstants.{MAX_BATCHES}
 use Rattle.mica_serve.specs.declared.ports.Ports.{Ports}
 use Rattle.mica_fronts.specs.declared.queue_front.FrontPart.{FrontPart}
 use Rattle.mica_serve.specs.declared.worker.OwnerTask.{OwnerTask}
@@ -66,8 +67,8 @@ module _ {P D : Type 0} (owner : P → OwnerState) (home : P → TableId) (facts
     owners_ready paired = All-from_recursion (IsReadyTask owner home) os (all_places (IsReadyTask owner home) os
         (λ p t at. ready_owner options ports.fronts (255 * ports.batches) (end_of_owner t) (paired.opened.lent.fresh p (end_of_owner t) (at_map end_of_owner os p t at))))
 
-    pub fronts_ready : Paired os views tasks ends → AreOpen (map facts ends) → All (IsReadyFront ports.batches facts) tasks
-    fronts_ready paired opens = All-from_recursion (IsReadyFront ports.batches facts) tasks (all_places (IsReadyFront ports.batches facts) tasks (front_ready paired opens))
+    pub fronts_ready : ports.batches ≤ MAX_BATCHES → Paired os views tasks ends → AreOpen (map facts ends) → All (IsReadyFront ports.batches facts) tasks
+    fronts_ready few paired opens = All-from_recursion (IsReadyFront ports.batches facts) tasks (all_places (IsReadyFront ports.batches facts) tasks (front_ready paired opens))
       where
         front_ready : Paired os views tasks ends → AreOpen (map facts ends) → (f : ℕ) (t : FrontTask D) → slice_get tasks f ≡ Some t → IsReadyFront ports.batches facts t
         front_ready paired opens f t at =
@@ -77,7 +78,7 @@ module _ {P D : Type 0} (owner : P → OwnerState) (home : P → TableId) (facts
             at_map facts ends f t.end (ap (λ l. slice_get l f) (sym paired.own_ends) ∙ at_map (λ (t : FrontTask D). t.end) tasks f t at) in
             let is = opens f (facts t.end) own in
             let left : v.0.left ≡ 255 * ports.batches = ap (λ (w : QueueView). w.left) (paired.opened.each f v.0 v.1) in
-            record { front = v.0; front_is = sym v.2; left = omega (arith, left); unended = is.0; fresh = is.1 }
+            record { front = v.0; front_is = sym v.2; few = few; left = omega (arith, left); unended = is.0; fresh = is.1 }
 
     module _ {owners : List (OwnerTask P)} {served : List (FrontTask D)} (r : Ran os views tasks ends owners served) where
       all : HaveRan ports.batches facts options ports.fronts (255 * ports.batches) (map end_of_owner os) (map end_of_owner owners) views tasks served

@@ -5,6 +5,7 @@ use Rattle.std.proofs.lemmas.Bool.{cases_lt, true≢false}
 use Rattle.std.proofs.lemmas.List.{map-append, take_more, take_all}
 use Rattle.std.proofs.lemmas.List.Sums.{sum_by_push}
 use Rattle.std.proofs.lemmas.Option.{slice_get_within, slice_get-get_or, get_or_from_slice_get}
+use Rattle.mica_fronts.specs.declared.totals.TheConstants.{MAX_BATCHES}
 use Rattle.mica_fronts.specs.declared.totals.Totals.{Totals}
 use Rattle.mica_fronts.specs.declared.totals.ServeFault.{ServeFault}
 use Rattle.mica_fronts.specs.declared.totals.ServeFault.TheVariants.{Net, NoMemory}
@@ -27,9 +28,9 @@ pub record SumsTo (k : ℕ) (answers : List Answer) (failed : Bool) (totals : To
   pub summed : failed ≡ false → AreSummed k answers totals
   pub fault : failed ≡ true → HasFailed k answers
   pub no_want : (i : ℕ) → i < k → slice_get answers i ≢ Some (Err NoMemory)
-  pub batches : totals.batches ≤ 1000000 * k
-  pub requests : totals.requests ≤ 255000000 * k
-  pub refused : totals.bad ≤ 1000000 * k
+  pub batches : totals.batches ≤ MAX_BATCHES * k
+  pub requests : totals.requests ≤ 255 * MAX_BATCHES * k
+  pub refused : totals.bad ≤ MAX_BATCHES * k
 
 pub sums_none : (answers : List Answer) → SumsTo 0 answers false none_counted
 sums_none answers = record {
@@ -63,7 +64,7 @@ wants_more k answers answer is other before i lt = by (cases_lt i k)
     by (inl less) = before i less
     by (inr more) = λ e. let here : slice_get answers i ≡ Some answer = subst (λ (n : ℕ). slice_get answers n ≡ Some answer) (omega arith) is in other (cc)
 
-pub sums_one : (k : ℕ) (answers : List Answer) (failed : Bool) (totals one : Totals) → SumsTo k answers failed totals → slice_get answers k ≡ Some (Ok one) → IsUpTo 1000000 one
+pub sums_one : (k : ℕ) (answers : List Answer) (failed : Bool) (totals one : Totals) → SumsTo k answers failed totals → slice_get answers k ≡ Some (Ok one) → IsUpTo MAX_BATCHES one
     → SumsTo (k + 1) answers failed (added totals one)
 sums_one k answers failed totals one s is small = record {
   summed = λ fine.

@@ -4,6 +4,7 @@ use Rattle.atomic_table.specs.Seated.{TableId}
 use Rattle.mica_io.specs.Traffic.{new_traffic}
 use Rattle.epoch_core.specs.declared.state.OwnerState.{OwnerState}
 use Rattle.mica_fronts.specs.declared.queue_front.FrontPart.{FrontPart}
+use Rattle.mica_fronts.specs.declared.totals.TheConstants.{MAX_BATCHES}
 use Rattle.mica_fronts.specs.declared.totals.Totals.{Totals}
 use Rattle.mica_fronts.specs.declared.totals.ServeFault.{ServeFault}
 use Rattle.mica_serve.specs.declared.worker.OwnerTask.{OwnerTask}
@@ -35,6 +36,7 @@ module _ {D : Type 0} where
   pub record IsReadyFront (batches : ℕ) (facts : D → EndFacts) (task : FrontTask D) : Type 0 where
     pub front : QueueView
     pub front_is : task.front ≡ Some front
+    pub few : batches ≤ MAX_BATCHES
     pub left : 255 * batches ≤ front.left
     pub unended : (facts task.end).has_ended ≡ false
     pub fresh : IfSome (facts task.end).traffic (λ t. t ≡ new_traffic t.left)

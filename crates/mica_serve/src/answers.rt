@@ -1,5 +1,6 @@
 //! The answers of all fronts as one.
 ghost use Rattle.std.specs.Prelude.{◌≡◌, ◌≤◌, ℕ, Some, length, slice_get, Ok};
+ghost use Rattle.mica_fronts.specs.declared.totals.TheConstants.{MAX_BATCHES};
 ghost use Rattle.mica_fronts.specs.Totals.{IsUpTo};
 ghost use Rattle.mica_serve.specs.FrontRuns.{SumsUp};
 
@@ -8,7 +9,7 @@ use mica_fronts::{ServeFault, Totals};
 /// The sum of the totals, or the fault of a front: want of memory of any is that of all.
 pub(crate) fn sum_up(answers: &[Result<Totals, ServeFault>]) -> Result<Totals, ServeFault>
     requires few { length answers.now ≤ 16 }
-    requires small { (f : ℕ) (totals : Totals) → slice_get answers.now f ≡ Some (Ok totals) → IsUpTo 1000000 totals }
+    requires small { (f : ℕ) (totals : Totals) → slice_get answers.now f ≡ Some (Ok totals) → IsUpTo MAX_BATCHES totals }
     ensures { SumsUp answers.now result }
 {
     let mut totals = Totals::none();

@@ -1,6 +1,6 @@
 //! The server: its ports, the fronts behind them and the owners of the partitions, each in a thread of its own.
 //!
-//! What a front makes of its datagrams stands in `mica_fronts`, of whose public names this crate passes on six. What all fronts of `serve` received and
+//! What a front makes of its datagrams stands in `mica_fronts`, of whose public names this crate passes on seven. What all fronts of `serve` received and
 //! replied is `Served` (`specs/Served.antt`): the writes of all fronts are one run of each partition's machine, and each get is its answer at the
 //! replied stamp.
 #![tactic(auto)]
@@ -14,6 +14,6 @@ mod running;
 mod tables;
 mod worker;
 
-pub use mica_fronts::{Front, QueueFront, ServeFault, SoloFront, Totals, serve_batch};
+pub use mica_fronts::{Front, MAX_BATCHES, QueueFront, ServeFault, SoloFront, Totals, serve_batch};
 pub use ports::Ports;
 pub use run::serve;

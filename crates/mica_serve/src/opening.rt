@@ -64,7 +64,7 @@ fn open_owner<P: OnTable + LendPartition<Reader = ReaderSeat, Note = Note>>(
     alloc: Global,
     options: &Options,
     zeros: &[u64],
-    most: u32,
+    most: u64,
     worker: u32,
     hands: &mut Vec<Vec<FrontPart>>,
 ) -> Result<OwnerTask<P>, NoMemory>

@@ -1,12 +1,14 @@
 //! The ports of a server.
 ghost use Rattle.std.specs.Prelude.{◌↔◌, IsTrue};
 
+use mica_fronts::MAX_BATCHES;
+
 /// The first port, how many fronts there are, one behind each port from there on, and how many datagrams a front takes.
 #[derive(Clone, Copy, Debug, PartialEq, Eq)]
 pub struct Ports {
     pub port: u16,
     pub fronts: u32,
-    pub batches: u32,
+    pub batches: u64,
 }
 
 impl Ports {
@@ -18,6 +20,6 @@ impl Ports {
     {
         (1_024..=65_000).contains(&self.port)
             && (1..=16).contains(&self.fronts)
-            && (1..=1_000_000).contains(&self.batches)
+            && (1..=MAX_BATCHES).contains(&self.batches)
     }
 }

@@ -60,7 +60,7 @@ impl<D: Datagrams> FrontTask<D> {
         &mut self,
         rt: &W,
         alloc: Global,
-        batches: u32,
+        batches: u64,
         gate: &G,
     )
         requires { IsReadyFront batches (end_facts D.port D.traffic D.faults D.has_ended D.script) self.old }
@@ -108,7 +108,7 @@ fn run_owners<
 fn run_fronts<W: Threads + Wait + Sync, D: Datagrams + Drop + Send, G: Gate>(
     rt: &W,
     alloc: Global,
-    batches: u32,
+    batches: u64,
     gate: &G,
     fronts: &mut Vec<FrontTask<D>>,
 )
@@ -136,7 +136,7 @@ pub(crate) fn run_workers<
 >(
     rt: &W,
     alloc: Global,
-    batches: u32,
+    batches: u64,
     gate: &G,
     owners: &mut Vec<OwnerTask<P>>,
     fronts: &mut Vec<FrontTask<D>>,

@@ -131,7 +131,7 @@ fn all_true(flags: &[bool; 16], below: u32) -> bool
 pub fn job_queue(
     alloc: Global,
     senders: u32,
-    jobs: u32,
+    jobs: u64,
 ) -> Result<(JobSenders, JobReceiver), NoMemory>
     requires { (1 ≤ senders) × (senders ≤ 16) }
     ensures receiver { IfOk result (λ r. r.1 ≡ inbox r.1.queue senders jobs []) }
@@ -145,7 +145,7 @@ pub fn job_queue(
 fn make<J: Terms<Message, u64>>(
     alloc: Global,
     senders: u32,
-    jobs: u32,
+    jobs: u64,
 ) -> Result<(JobSenders, JobReceiver), NoMemory>
     requires senders { (1 ≤ senders) × (senders ≤ 16) }
     requires jobs { jobs ≡ J.terms }

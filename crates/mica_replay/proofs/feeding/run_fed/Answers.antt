@@ -1,4 +1,4 @@
-use Rattle.std.proofs.Common.{◌≡◌, ◌-◌, List, take, drop, ap, ◌∙◌, arith}
+use Rattle.std.proofs.Common.{◌≡◌, ◌-◌, List, take, drop, ap, ◌∙◌}
 use Rattle.std.specs.Global.{Global}
 use Rattle.std.specs.declared.vec.IntoIter.{IntoIter}
 use Rattle.std.specs.Vec.Iter.{into_iter_items}
@@ -7,8 +7,7 @@ use Rattle.mica_trace.specs.TraceGrammar.{IsTraceLine}
 use Rattle.mica_trace.specs.Rounds.{writes_of}
 use Rattle.mica_replay.specs.declared.feeder.Feed.{Feed}
 use Rattle.mica_replay.specs.RoundJobs.{jobs_from}
-use Rattle.mica_replay.proofs.FedRound.{Opened, few_writes, fed_ready, feeder_ready, may_take, owners_ran}
-use Rattle.mica_replay.proofs.LineShares.{take_most}
+use Rattle.mica_replay.proofs.FedRound.{Opened, fed_ready, feeder_ready, may_take, owners_ran}
 use Rattle.mica_replay.proofs.OneRound.{all_take, all_drop}
 use Rattle.mica_replay.proofs.feeding.run_fed.Given.{Over}
 use Rattle.mica_replay.proofs.feeding.run_fed.Goals.{In_ok-senders}
@@ -24,13 +23,6 @@ opened g c jobs rest = record {
   queues = c.in_ok-senders.ensures;
   made = λ p. c.in_ok-feeds.ensures p ∙ ap (λ (l : List TraceLine). jobs_from 0 (writes_of c.args.options.now p (take (c.args.to - c.args.from) (drop c.args.from l)))) c.lines.ensures.same;
   in_hand = rest;
-}
-
-pub open_queues-requires : goal.open_queues-requires
-open_queues-requires g c = record {
-  few = λ p w at.
-      let few = few_writes g.P.Partition.owner g.P.Partition.home c.args.options.now c.args.trace.now _ c.args.owners.now.items c.requires.shared p w at in
-      omega (arith, few, take_most (c.args.to - c.args.from) (drop c.args.from c.args.trace.now), c.ranges.to.fits);
 }
 
 pub run_all-requires-clause-owners : goal.run_all-requires-clause-owners

@@ -1,7 +1,6 @@
-use Rattle.std.proofs.Common.{◌≡◌, ℕ, ◌+◌, ◌<◌, ◌^◌, ◌++◌, [], length, slice_get, slice_set, Some, refl, sym, ap, ◌∙◌, subst, arith}
+use Rattle.std.proofs.Common.{◌≡◌, ℕ, ◌+◌, ◌++◌, [], length, slice_get, slice_set, Some, refl, sym, ap, ◌∙◌, subst, arith}
 use Rattle.std.specs.Option.{option_to_list}
 use Rattle.std.proofs.lemmas.Option.{slice_get_read}
-use Rattle.list_laws.proofs.Places.{element_at}
 use Rattle.owner_queue.specs.JobEnds.{outbox, inbox}
 use Rattle.mica_replay.specs.declared.worker.OwnerWork.{OwnerWork}
 use Rattle.mica_replay.specs.Queues.{HasQueue}
@@ -10,17 +9,6 @@ use Rattle.mica_replay.proofs.queues.open_queues.Goals as goal
 
 pub loop-p-init : goal.loop-p-init
 loop-p-init g c = subst (QueuesTo 0 c.args.owners.now.items c.args.owners.now.items) (sym c.in_ok-senders.ensures.items) (queues_none c.args.owners.now.items)
-
-pub overflow_cast-len : goal.overflow_cast-len
-overflow_cast-len g c =
-    let p : ℕ = c.loop-p.p in
-    let mid = c.index_mut-owner.result.now in
-    let less : p < length c.args.owners.now.items = omega (arith, c.loop-p-test.true, c.len-p-end.ensures, c.args.owners.now.ok) in
-    let at = slice_get_read c.loop-p.owners.items (length c.loop-p.owners.items) p mid refl (omega (arith, less, c.loop-p.invariant.many)) c.index_mut-owner.ensures.value in
-    let old = element_at c.args.owners.now.items p less in
-    let same = c.loop-p.invariant.later p old.0 mid (omega arith) old.1 at in
-    let few : length mid.writes.items < 2 ^ 32 = subst (λ (w : OwnerWork g.row.P.Denot). length w.writes.items < 2 ^ 32) (sym same) (c.requires.few p old.0 old.1) in
-    omega (arith, few, c.len-in-loop-p.ensures, mid.writes.ok)
 
 pub loop-p-preserved : goal.loop-p-preserved
 loop-p-preserved g c =

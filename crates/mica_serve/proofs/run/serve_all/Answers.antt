@@ -4,6 +4,7 @@ use Rattle.std.proofs.lemmas.List.{length-map}
 use Rattle.std.proofs.lemmas.Result.{err_from_is_err_and}
 use Rattle.partition_table.specs.declared.tables.Entry.{Entry}
 use Rattle.partition_table.specs.Tabled.{entry_in}
+use Rattle.mica_fronts.specs.declared.totals.TheConstants.{MAX_BATCHES}
 use Rattle.mica_fronts.specs.declared.totals.Totals.{Totals}
 use Rattle.mica_fronts.specs.declared.totals.ServeFault.{ServeFault}
 use Rattle.mica_serve.specs.declared.worker.OwnerTask.{OwnerTask}
@@ -35,7 +36,7 @@ sum_up-requires-clause-few g c =
 
 pub sum_up-requires-clause-small : goal.sum_up-requires-clause-small
 sum_up-requires-clause-small g c =
-    subst (λ (l : List (Result Totals ServeFault)). (f : ℕ) (totals : Totals) → slice_get l f ≡ Some (Ok totals) → IsUpTo 1000000 totals) (sym c.as_slice.ensures.value)
+    subst (λ (l : List (Result Totals ServeFault)). (f : ℕ) (totals : Totals) → slice_get l f ≡ Some (Ok totals) → IsUpTo MAX_BATCHES totals) (sym c.as_slice.ensures.value)
     (small_answers _ _ _ _ _ _ c.run_all-owners.ensures.ran c.requires.ports.batches.1)
 
 pub keep_all-requires-clause-room : goal.keep_all-requires-clause-room

@@ -39,7 +39,7 @@ pub run_workers-requires-clause-owners : goal.run_workers-requires-clause-owners
 run_workers-requires-clause-owners g c κs within = owners_ready _ _ (facts g) _ _ (paired g (goal.at.run_workers-requires-clause-owners g c).After-pair_up)
 
 pub run_workers-requires-clause-fronts : goal.run_workers-requires-clause-fronts
-run_workers-requires-clause-fronts g c κs within = fronts_ready _ _ (facts g) _ _ (paired g (goal.at.run_workers-requires-clause-fronts g c).After-pair_up) c.requires.open
+run_workers-requires-clause-fronts g c κs within = fronts_ready _ _ (facts g) _ _ c.requires.ports.batches.1 (paired g (goal.at.run_workers-requires-clause-fronts g c).After-pair_up) c.requires.open
 
 pub part_fronts-requires-clause-ends : goal.part_fronts-requires-clause-ends
 part_fronts-requires-clause-ends g c =

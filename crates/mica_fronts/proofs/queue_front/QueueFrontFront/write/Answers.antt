@@ -17,7 +17,7 @@ finds g c =
     c.key_hash.ensures c.partition_of-at.ensures c.index_mut.ensures.value
 
 pub overflow_add-self : goal.overflow_add-self
-overflow_add-self g c = omega (arith, c.self.invariant.few)
+overflow_add-self g c = omega (arith, c.self.invariant.few, c.requires.left, ap (λ (v : QueueView). v.left) c.self.view_is)
 
 pub invariant_of-self : goal.invariant_of-self
 invariant_of-self g c =
