@@ -147,6 +147,22 @@ def server(*words, fronts=1, batches=1_000_000):
             running.kill()
 
 
+# How many loops take processors beside what is measured, by what the machine is then.
+MACHINES = {"at rest": 0, "in use": os.cpu_count() // 2, "busy": 2 * os.cpu_count()}
+
+
+@contextlib.contextmanager
+def beside(machine):
+    """Has the machine at rest, in use or busy, by loops that end with it."""
+    loops = [subprocess.Popen(["sh", "-c", "while :; do :; done"]) for _ in range(MACHINES[machine])]
+    try:
+        yield
+    finally:
+        for loop in loops:
+            loop.kill()
+            loop.wait()
+
+
 def resident(process):
     """The resident memory of a process in bytes, and its peak."""
     fields = dict(line.split(":", 1) for line in pathlib.Path(f"/proc/{process}/status").read_text().splitlines() if ":" in line)

@@ -4,16 +4,13 @@ use crate::hash::{key_hash, partition_of};
 use crate::machine::{Options, Outcome};
 use crate::number_of;
 use crate::packets::{Head, LONGEST, LONGEST_VALUE, Replies, Request, read_batch, status_of};
+use crate::queue::{Receiver, Sender, queue};
 use crate::table::{Owner, Table};
 use std::collections::HashMap;
 use std::error::Error;
 use std::io;
 use std::net::UdpSocket;
-use std::sync::mpsc::{Receiver, SyncSender, sync_channel};
 use std::thread;
-
-/// How many messages may wait in a queue.
-const WAITING: usize = 64;
 
 struct Job {
     front: usize,
@@ -28,17 +25,17 @@ type Ack = (Outcome, u64);
 /// What a front has of each partition.
 struct Part<'a> {
     table: &'a Table,
-    jobs: SyncSender<Job>,
+    jobs: Sender<Job>,
     acks: Receiver<Ack>,
 }
 
-fn run_owner(mut owner: Owner<'_>, jobs: &Receiver<Job>, acks: &[SyncSender<Ack>]) {
+fn run_owner(mut owner: Owner<'_>, jobs: Receiver<Job>, acks: &[Sender<Ack>]) {
     for Job { front, hash, key, value } in jobs {
         let outcome = match value {
             Some(value) => owner.put(hash, &key, &value),
             None => owner.del(hash, &key),
         };
-        acks[front].send((outcome, owner.stamp())).expect("a front");
+        acks[front].send((outcome, owner.stamp()));
     }
 }
 
@@ -62,7 +59,7 @@ fn replies_to(front: usize, parts: &[Part<'_>], datagram: &[u8], value: &mut Vec
             Request::Put { value, .. } => Some(value.to_vec()),
             Request::Del { .. } => None,
         };
-        part.jobs.send(Job { front, hash, key: key.to_vec(), value: written }).expect("an owner");
+        part.jobs.send(Job { front, hash, key: key.to_vec(), value: written });
         let (outcome, stamp) = part.acks.recv().expect("an owner");
         replies.push(&head, status_of(outcome), ticket, stamp, b"");
     }
@@ -91,14 +88,14 @@ pub fn serve(words: &HashMap<&str, &str>, options: &Options) -> Result<Vec<u8>, 
     let mut hands: Vec<Vec<Part<'_>>> = sockets.iter().map(|_| Vec::new()).collect();
     let served: io::Result<Vec<()>> = thread::scope(|scope| {
         for table in &tables {
-            let (jobs, queue) = sync_channel(WAITING);
+            let (jobs, writes) = queue(options.yields);
             let mut answers = Vec::new();
             for hand in &mut hands {
-                let (answer, acks) = sync_channel(WAITING);
+                let (answer, acks) = queue(options.yields);
                 answers.push(answer);
                 hand.push(Part { table, jobs: jobs.clone(), acks });
             }
-            scope.spawn(move || run_owner(Owner::new(table, options), &queue, &answers));
+            scope.spawn(move || run_owner(Owner::new(table, options), writes, &answers));
         }
         let fronts: Vec<_> = hands
             .into_iter()

@@ -2,7 +2,8 @@
 //! over a channel.
 
 use crate::machine::{Options, Outcome};
-use crate::rounds::{Printed, Shares, WAITING, Write, feed, merge, run_owner, run_reader};
+use crate::queue;
+use crate::rounds::{Printed, Shares, Write, feed, merge, run_owner, run_reader};
 use crate::table::{Owner, Table};
 use crate::trace::Line;
 use std::sync::mpsc::{Receiver, SyncSender, sync_channel};
@@ -35,7 +36,7 @@ impl<W, R> Kept<W, R> {
     }
 }
 
-type Queue<'a> = (usize, Receiver<Write<'a>>);
+type Queue<'a> = (usize, queue::Receiver<Write<'a>>);
 
 pub fn run(options: &Options, lines: &[Line<'_>]) -> Vec<u8> {
     let tables: Vec<Table> = (0..options.partitions).map(|_| Table::new(options)).collect();
@@ -46,7 +47,7 @@ pub fn run(options: &Options, lines: &[Line<'_>]) -> Vec<u8> {
             .iter()
             .map(|table| {
                 let mut owner = Owner::new(table, options);
-                Kept::start(scope, move |(count, queue): Queue<'_>| run_owner(&mut owner, count, queue.into_iter()))
+                Kept::start(scope, move |(count, queue): Queue<'_>| run_owner(&mut owner, count, queue))
             })
             .collect();
         let readers: Vec<Kept<Vec<(u64, &[u8])>, Printed>> =
@@ -58,7 +59,7 @@ pub fn run(options: &Options, lines: &[Line<'_>]) -> Vec<u8> {
             let Shares { counts, writes, gets } = Shares::of(options, round, &mut next_get);
             let mut queues = Vec::with_capacity(owners.len());
             for (owner, count) in owners.iter().zip(counts) {
-                let (sender, receiver) = sync_channel(WAITING);
+                let (sender, receiver) = queue::queue(options.yields);
                 queues.push(sender);
                 owner.give((count, receiver));
             }

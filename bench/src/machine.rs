@@ -38,6 +38,8 @@ pub struct Options {
     pub words: usize,
     pub readers: usize,
     pub wear: u64,
+    /// How often an end of a queue that waits gives its core away before it sleeps.
+    pub yields: u32,
 }
 
 pub trait Machine {

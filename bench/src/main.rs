@@ -12,6 +12,7 @@ mod kept;
 mod load;
 mod machine;
 mod packets;
+mod queue;
 mod rounds;
 mod server;
 mod store;
@@ -130,6 +131,7 @@ fn options_of(options: &HashMap<&str, &str>) -> Result<Options, String> {
         words: number("words", 65_536)? as usize,
         readers: number("readers", 4)? as usize,
         wear: number("wear", 1 << 36)?,
+        yields: number("yields", 0)? as u32,
     })
 }
 

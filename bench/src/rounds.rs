@@ -3,14 +3,11 @@
 use crate::hash::{key_hash, partition_of};
 use crate::machine::{Options, Outcome};
 use crate::packets::LONGEST_VALUE;
+use crate::queue::{Sender, queue};
 use crate::table::{Owner, Table};
 use crate::trace::Line;
 use crate::{put_get, put_write};
-use std::sync::mpsc::{Receiver, SyncSender, sync_channel};
 use std::thread;
-
-/// How many writes may wait in a queue.
-pub const WAITING: usize = 64;
 
 /// How the owners get their writes.
 #[derive(Clone, Copy, PartialEq, Eq)]
@@ -65,9 +62,9 @@ pub fn run_reader(tables: &[Table], gets: &[(u64, &[u8])]) -> Printed {
 }
 
 /// Sends each write to the queue of its partition, in order.
-pub fn feed<'a>(jobs: Vec<Write<'a>>, queues: Vec<SyncSender<Write<'a>>>) {
+pub fn feed<'a>(jobs: Vec<Write<'a>>, queues: Vec<Sender<Write<'a>>>) {
     for job in jobs {
-        queues[partition_of(job.0, queues.len())].send(job).expect("an owner");
+        queues[partition_of(job.0, queues.len())].send(job);
     }
 }
 
@@ -126,9 +123,9 @@ pub fn run(options: &Options, lines: &[Line<'_>], fed: Feed) -> Vec<u8> {
                 .map(|((owner, list), count)| match fed {
                     Feed::Lists => scope.spawn(move || run_owner(owner, count, list.iter().copied())),
                     Feed::Queues => {
-                        let (sender, receiver): (_, Receiver<Write<'_>>) = sync_channel(WAITING);
+                        let (sender, receiver) = queue(options.yields);
                         queues.push(sender);
-                        scope.spawn(move || run_owner(owner, count, receiver.into_iter()))
+                        scope.spawn(move || run_owner(owner, count, receiver))
                     }
                 })
                 .collect();

@@ -3,11 +3,10 @@
 use crate::hash::{key_hash, partition_of};
 use crate::machine::{Options, Outcome};
 use crate::packets::LONGEST_VALUE;
-use crate::rounds::WAITING;
+use crate::queue::{Receiver, Sender, queue};
 use crate::table::{Owner, Table};
 use crate::trace;
 use crate::{put_get, put_write};
-use std::sync::mpsc::{Receiver, SyncSender, sync_channel};
 use std::thread;
 
 #[derive(Clone, Copy, PartialEq, Eq)]
@@ -75,9 +74,9 @@ fn run_reader(tables: &[Table], trace: &[TraceLine], gets: &[usize]) -> Vec<Line
 }
 
 /// Sends each write to the queue of its partition, in order.
-fn feed(jobs: Vec<(usize, Write)>, queues: Vec<SyncSender<Write>>) {
+fn feed(jobs: Vec<(usize, Write)>, queues: Vec<Sender<Write>>) {
     for (partition, write) in jobs {
-        queues[partition].send(write).expect("an owner");
+        queues[partition].send(write);
     }
 }
 
@@ -108,7 +107,7 @@ fn run_trace(options: &Options, trace: &[TraceLine]) -> Vec<Line> {
         }
         let (tables, gets) = (&tables, &gets);
         let (replies, found): (Vec<_>, Vec<_>) = thread::scope(|scope| {
-            let (queues, ends): (Vec<_>, Vec<_>) = owners.iter().map(|_| sync_channel(WAITING)).unzip();
+            let (queues, ends): (Vec<_>, Vec<_>) = owners.iter().map(|_| queue(options.yields)).unzip();
             let owners: Vec<_> = owners
                 .iter_mut()
                 .zip(ends)

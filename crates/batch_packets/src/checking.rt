@@ -135,6 +135,16 @@ impl<'a> Model for Requests<'a> {
 }
 
 impl<'a> Requests<'a> {
+    /// The same requests, to be taken once more.
+    pub fn again(&self) -> Requests<'a>
+        ensures { result ≡ self.now }
+    {
+        Requests {
+            version: self.version,
+            rest: self.rest,
+        }
+    }
+
     /// Takes the next request.
     pub fn next_request(&mut self) -> RequestRef<'a>
         requires some { (request : Request) × (later : List Request) × HasLeft self.old (request ∷ later) }

@@ -12,6 +12,7 @@ ghost use Rattle.mica_fronts.specs.Dealing.{bad_batch_text};
 ghost use Rattle.mica_fronts.specs.Session.{DealsWith, DealsInPart, writes_of_one};
 ghost use Rattle.mica_fronts.specs.Answering.{RepliesTo, AddsReply, AnswersAll, AddsAll, AnswersFirst, AreLeft};
 
+use crate::ahead::load_ahead;
 use crate::front::Front;
 use batch_packets::{
     Datagram, Header, MAX_VALUE_LEN_V1, Reply, ReplyText, RequestRef, Requests, Want, check_batch,
@@ -231,6 +232,7 @@ fn answer<R: Threads + Wait + Sync, F: Front, G: Gate>(
         number,
     } = *header;
     let mut replies = ReplyText::new(alloc, version, number)?;
+    load_ahead(front, count, requests);
     reply_to_all(
         rt,
         alloc,

@@ -30,6 +30,15 @@ pub trait Front {
     /// Whether nobody else writes its partitions.
     ghost is_alone: { Bool };
 
+    /// Whether its tables are larger than the caches, so that loads ahead are worth their time.
+    fn loads_ahead(&self) -> bool;
+
+    /// Loads the bucket of a key with this hash, so that it is at hand.
+    fn load_bucket(&self, hash: u64);
+
+    /// Loads the item of an entry of that bucket with this hash's tag, so that it is at hand.
+    fn load_item(&self, hash: u64);
+
     /// The outcome of a write, and the stamp after it.
     fn write<R: Threads + Wait + Sync>(
         &mut self,

@@ -4,6 +4,7 @@
 //! A `QueueFront` sends its writes to the owners, whose workers are `serve_owner`, and gets by loads of its own.
 #![tactic(auto)]
 
+mod ahead;
 mod batch;
 mod deal;
 mod end;

@@ -9,8 +9,9 @@ ghost use Rattle.owner_queue.specs.Messages.{MayFollow};
 ghost use Rattle.mica_fronts.specs.QueueFront.{IsWhole, IsNewPart, IsQueueFront, HasAwaited, PartWrites, PartReads, queue_view, ended_part};
 
 use crate::front::Front;
+use epoch_core::{ReaderWords, Shape, WordAt};
 use mica_io::{Bytes, NoMemory};
-use mica_words::{key_hash, partition_of};
+use mica_words::{SLOTS, bucket_of, entry_offset, entry_tag, key_hash, partition_of, tag_of};
 use optimistic_get::{Got, ask_hashed};
 use owner_queue::{Ack, AckReceiver, Job, JobSender, Message};
 use partition_model::{Answer, ItemBuf, Op, Options, Outcome, Write};
@@ -29,6 +30,12 @@ pub struct FrontPart {
     /// The stamp that was answered last, to a write or a get.
     pub last: u64,
 }
+
+/// What is in use of tables of as many words, 16 MiB, is mostly in the caches: there a load ahead costs more than it gains.
+const CACHED_WORDS: usize = 1 << 21;
+
+/// A cache line has so many words.
+const LINE_WORDS: u32 = 8;
 
 /// Whether it is the acknowledgement of this ticket and write.
 fn is_of(ack: &Ack, ticket: u64, op: Op, key: &[u8], value: &[u8]) -> bool
@@ -126,6 +133,29 @@ impl FrontPart {
         }
     }
 
+    /// Loads the lines of the bucket of this hash.
+    fn load_bucket(&self, hash: u64) {
+        let bucket = bucket_of(hash, self.seat.shape().buckets);
+        self.seat.peek(WordAt::Epoch(bucket));
+        self.seat.peek(WordAt::Entry(bucket, LINE_WORDS - 1));
+        self.seat.peek(WordAt::Entry(bucket, SLOTS - 1));
+    }
+
+    /// Loads the first lines of the item behind the first entry with this hash's tag.
+    fn load_item(&self, hash: u64) {
+        let bucket = bucket_of(hash, self.seat.shape().buckets);
+        let tag = tag_of(hash);
+        for slot in 0..SLOTS {
+            let entry = self.seat.peek(WordAt::Entry(bucket, slot));
+            if entry_tag(entry) == tag {
+                let offset = entry_offset(entry);
+                self.seat.peek(WordAt::Item(offset));
+                self.seat.peek(WordAt::Item(offset + u64::from(LINE_WORDS)));
+                return;
+            }
+        }
+    }
+
     /// Sends the front's end to the owner.
     fn end<R: Wait>(&mut self, rt: &R, number: u32)
         requires own { number ≡ self.old.jobs.number }
@@ -203,6 +233,21 @@ impl Front for QueueFront {
     ghost left = { λ f. f.left };
 
     ghost is_alone = { false };
+
+    fn loads_ahead(&self) -> bool {
+        let shape = Shape::of(&self.options);
+        self.parts.len() * shape.word_count() > CACHED_WORDS
+    }
+
+    fn load_bucket(&self, hash: u64) {
+        let at = partition_of(hash, self.options.partitions) as usize;
+        self.parts[at].load_bucket(hash);
+    }
+
+    fn load_item(&self, hash: u64) {
+        let at = partition_of(hash, self.options.partitions) as usize;
+        self.parts[at].load_item(hash);
+    }
 
     fn write<R: Threads + Wait + Sync>(
         &mut self,

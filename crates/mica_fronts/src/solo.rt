@@ -210,6 +210,14 @@ impl Front for SoloFront {
 
     ghost is_alone = { true };
 
+    fn loads_ahead(&self) -> bool {
+        false
+    }
+
+    fn load_bucket(&self, _hash: u64) {}
+
+    fn load_item(&self, _hash: u64) {}
+
     fn write<R: Threads + Wait + Sync>(
         &mut self,
         _rt: &R,

@@ -4,7 +4,7 @@ ghost use Rattle.std.specs.Arc.{arc_value};
 ghost use Rattle.partition_model.specs.History.{IsPrefix};
 ghost use Rattle.epoch_core.specs.declared.reader.Try.{Try};
 ghost use Rattle.epoch_core.specs.Shape.{is_in_range, IsMain};
-ghost use Rattle.epoch_core.specs.Layout.{word_count};
+ghost use Rattle.epoch_core.specs.Layout.{word_count, IsInside};
 ghost use Rattle.epoch_core.specs.ReaderState.{stamped};
 ghost use Rattle.epoch_core.specs.Joins.{note_of, told};
 ghost use Rattle.partition_table.specs.Rule.{is_reader, reader_in};
@@ -54,6 +54,13 @@ impl ReaderSeat {
     {
         let seat = self.table.shared.split_seat::<Lends>(&mut self.seat);
         Note { seat }
+    }
+
+    /// Loads a word outside of any try, so that it is at hand. It tells nothing.
+    pub fn peek(&self, at: WordAt) -> u64
+        requires { IsInside (reader_state self.now).shape at }
+    {
+        self.table.shared.peek(self.places.shape.place(at))
     }
 
     /// Takes in what a note of the same table has seen.
