@@ -28,6 +28,8 @@ pub use host::run_on_host;
 pub use mica_commands::{
     Command, GenOptions, MAX_SOURCE_LEN, WordsFault, gen_trace, put_summary, read_words,
 };
-pub use program::run_program;
+pub use output::write_due;
+pub use program::{all_words, behind_name, exit_code, run_program};
+pub use serve_command::print_totals;
 pub use status::Status;
 pub use top::mica;

@@ -28,8 +28,8 @@ fn gathered(alloc: Global, args: Args) -> Result<Vec<String>, NoMemory>
     Ok(words)
 }
 
-// All words, the program's name first.
-fn all_words(alloc: Global, args: io::Result<Args>) -> Result<Vec<String>, NoMemory>
+/// All words, the program's name first.
+pub fn all_words(alloc: Global, args: io::Result<Args>) -> Result<Vec<String>, NoMemory>
     ensures { IfOk result (λ words. all_words_of string_bytes args ≡ Some (map string_bytes words.items)) }
 {
     match args {
@@ -41,7 +41,8 @@ fn all_words(alloc: Global, args: io::Result<Args>) -> Result<Vec<String>, NoMem
     }
 }
 
-fn behind_name(words: &[String]) -> &[String]
+/// The words behind the program's name.
+pub fn behind_name(words: &[String]) -> &[String]
     ensures { result.now ≡ drop 1 words.now }
 {
     match words.split_first() {
@@ -50,7 +51,8 @@ fn behind_name(words: &[String]) -> &[String]
     }
 }
 
-fn exit_code(status: Status) -> ExitCode
+/// The number of a status.
+pub fn exit_code(status: Status) -> ExitCode
     ensures { exit_status result ≡ exit_number status }
 {
     ExitCode::from(status as u8)

@@ -45,7 +45,8 @@ pub fn serve_command<W: Threads + Wait + Sync, K: Sink, N: Net, G: Gate>(
     }
 }
 
-fn print_totals<K: Sink>(alloc: Global, totals: Totals, sink: &mut K) -> Status
+/// Prints the line of the totals.
+pub fn print_totals<K: Sink>(alloc: Global, totals: Totals, sink: &mut K) -> Status
     ensures { IsTold Status.Done (totals_text totals)
         (sink_facts K.taken K.faults sink.old) (sink_facts K.taken K.faults sink.new) result }
 {

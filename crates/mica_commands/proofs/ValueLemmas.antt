@@ -17,9 +17,11 @@ use Rattle.partition_model.specs.declared.options.Mode.TheVariants.{Store}
 use Rattle.mica_client.specs.declared.options.AskOptions.{AskOptions}
 use Rattle.mica_client.specs.AskOptions.{IsValidAsk}
 use Rattle.partition_model.specs.Options.{InRange, IsValid}
+use Rattle.mica_fronts.specs.declared.totals.TheConstants.{MAX_BATCHES}
 use Rattle.mica_serve.specs.declared.ports.Ports.{Ports}
 use Rattle.mica_serve.specs.PortOptions.{IsValidPorts}
 use Rattle.mica_commands.specs.Words.{Text}
+use Rattle.mica_commands.specs.DaemonWords.{lasting_ports}
 use Rattle.mica_commands.specs.CommandLine.{mode, partitions, buckets, spares, words, readers, tries, wear, port, fronts, batches, number, required_number, number_of, is_number, value_by, value_of, options_with, replay_options, serve_options, without_readers, exclusive_options, image_options, ask_options, per, port_options, ◌>>=◌}
 
 same_number : (a b : ℕ) → Some a ≡ Some b → a ≡ b
@@ -153,6 +155,17 @@ ask_valid given options is =
       partitions = value_bounds partitions.name 1 16 4 (given partitions.name) n.0 (omega arith, omega arith) n.1;
       fronts = value_bounds fronts.name 1 16 1 (given fronts.name) f.0 (omega arith, omega arith) f.1;
       per = value_bounds per.name 1 255 32 (given per.name) e.0 (omega arith, omega arith) e.1;
+    })
+
+pub lasting_valid : (given : Text → Option Text) (ports : Ports) → lasting_ports given ≡ Some ports → IsValidPorts ports
+lasting_valid given ports is =
+    let p = both_told (value_of port given) _ ports is in
+    let f = both_told (value_of fronts given) _ ports p.2 in
+    let made : Ports = record { port = p.0; fronts = f.0; batches = MAX_BATCHES } in
+    subst IsValidPorts (ap (λ o. unwrap_or o made) f.2) (record {
+      port = required_bounds port.name 1024 65000 (given port.name) p.0 p.1;
+      fronts = value_bounds fronts.name 1 16 1 (given fronts.name) f.0 (omega arith, omega arith) f.1;
+      batches = (omega arith, omega arith);
     })
 
 pub ports_valid : (given : Text → Option Text) (ports : Ports) → port_options given ≡ Some ports → IsValidPorts ports

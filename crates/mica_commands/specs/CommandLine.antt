@@ -293,7 +293,7 @@ abbrev pub unpack_given : (Text → Option Text) → Option Command
 unpack_given given = Some Unpack
 
 -- what words give as options of these names
-abbrev pub read_as : List Text → ((Text → Option Text) → Option Command) → List Text → Option Command
+abbrev pub read_as : {A : Type 0} → List Text → ((Text → Option Text) → Option A) → List Text → Option A
 read_as names meaning words = given_by names words >>= λ given. meaning (text_of given)
 
 -- a command as it is read: its name, the names of its options, and what it is by the texts that they were given

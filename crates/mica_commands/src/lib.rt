@@ -7,6 +7,7 @@
 
 mod clap_command;
 mod command;
+mod daemon_words;
 mod draw;
 mod gen_options;
 mod generated_text;
@@ -17,6 +18,7 @@ mod spelling;
 mod summary;
 
 pub use command::{Command, WordsFault, read_words};
+pub use daemon_words::read_daemon;
 pub use gen_options::GenOptions;
 pub use generated_text::gen_text;
 pub use generator::gen_trace;

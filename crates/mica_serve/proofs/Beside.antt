@@ -16,10 +16,16 @@ use Rattle.mica_fronts.specs.Session.{Acknowledged, Told, Session, Sessions, Tel
 use Rattle.mica_serve.specs.Served.{ServesGet}
 use Rattle.mica_serve.proofs.Among.{StandAmong, stand_append, stand_after}
 
--- gets of a history are gets of any that begins with it
-pub gets_grow : (options : Options) (old new : History) (gets : List Turn) → IsPrefix old new → All (ServesGet options old) gets → All (ServesGet options new) gets
-gets_grow options old new gets grows =
-    All-weaker (ServesGet options old) (ServesGet options new) (λ turn get. record { cut = get.cut; begins = prefix_then get.cut old new get.begins grows; reply = get.reply }) gets
+-- gets of a history are gets of any that begins with it, over any beginning of what they know
+pub gets_grow : (options : Options) (late early old new : History) (gets : List Turn) → IsPrefix early late → IsPrefix old new → All (ServesGet options late old) gets → All (ServesGet options early new) gets
+gets_grow options late early old new gets earlier grows =
+    All-weaker (ServesGet options late old) (ServesGet options early new)
+    (λ turn get. record {
+      cut = get.cut;
+      begins = prefix_then get.cut old new get.begins grows;
+      filled = prefix_then early late get.cut earlier get.filled;
+      reply = get.reply;
+    }) gets
 
 module _ (options : Options) (p : ℕ) where
   -- What a front that told this tells after these requests: more answers, among which its writes stand, and one closed try for each get.
@@ -34,7 +40,7 @@ module _ (options : Options) (p : ℕ) where
   -- what one request makes of the partition's session
   record One (old new : Session) (turn : Turn) : Type 0 where
     pub grows : IsPrefix old.seen new.seen
-    pub gets : All (ServesGet options new.seen) (gets_of options p (turn ∷ []))
+    pub gets : All (ServesGet options old.seen new.seen) (gets_of options p (turn ∷ []))
     pub tells : (told : Told) → old.told ≡ Some told → TellsTurns told (turn ∷ []) new.told
 
   by_write : (w : Option Write) (turn : Turn) (old new : Session) → write_in turn.request ≡ w → eqb (partition_in options turn) p ≡ true
@@ -46,7 +52,7 @@ module _ (options : Options) (p : ℕ) where
       let gets : (is_none (write_in turn.request) && eqb (partition_in options turn) p) ≡ false = ap (λ w. is_none w && eqb (partition_in options turn) p) is in
       record {
         grows = w.grows;
-        gets = subst (λ (b : Bool). All (ServesGet options new.seen) (cond b (turn ∷ []) [])) (sym gets) (All-nil (ServesGet options new.seen));
+        gets = subst (λ (b : Bool). All (ServesGet options old.seen new.seen) (cond b (turn ∷ []) [])) (sym gets) (All-nil (ServesGet options old.seen new.seen));
         tells = λ told tells.
             let t = subst (λ (o : Option Told). TellsWrite o step new.told) tells w.told in
             let last : Acknowledged = record { ticket = t.2.ticket; step = step } in
@@ -67,11 +73,12 @@ module _ (options : Options) (p : ℕ) where
       let gets : (is_none (write_in turn.request) && eqb (partition_in options turn) p) ≡ true = ap (λ w. is_none w && eqb (partition_in options turn) p) is ∙ here in
       record {
         grows = r.grows;
-        gets = subst (λ (b : Bool). All (ServesGet options new.seen) (cond b (turn ∷ []) [])) (sym gets) (All-cons (ServesGet options new.seen) turn [] (record {
+        gets = subst (λ (b : Bool). All (ServesGet options old.seen new.seen) (cond b (turn ∷ []) [])) (sym gets) (All-cons (ServesGet options old.seen new.seen) turn [] (record {
           cut = new.seen;
           begins = ([], sym (append-nil new.seen));
+          filled = r.grows;
           reply = h.2 ∙ ap (λ s. get_reply turn.version turn.request.ticket s h.1) r.answer.0 ∙ ap (get_reply turn.version turn.request.ticket (stamp_of options new.seen)) r.answer.1;
-        }) (All-nil (ServesGet options new.seen)));
+        }) (All-nil (ServesGet options old.seen new.seen)));
         tells = λ told tells.
             let t = subst (λ (o : Option Told). TellsRead o new.told) tells r.told in
             record {
@@ -88,7 +95,7 @@ module _ (options : Options) (p : ℕ) where
   elsewhere turn old new away same =
       record {
         grows = ([], ap (λ s. s.seen) same ∙ sym (append-nil old.seen));
-        gets = subst (λ (b : Bool). All (ServesGet options new.seen) (cond b (turn ∷ []) [])) (sym (and_right (is_none (write_in turn.request)) (eqb (partition_in options turn) p) away)) (All-nil (ServesGet options new.seen));
+        gets = subst (λ (b : Bool). All (ServesGet options old.seen new.seen) (cond b (turn ∷ []) [])) (sym (and_right (is_none (write_in turn.request)) (eqb (partition_in options turn) p) away)) (All-nil (ServesGet options old.seen new.seen));
         tells = λ told tells. record {
           told = told;
           is = ap (λ s. s.told) same ∙ tells;
@@ -128,7 +135,7 @@ module _ (options : Options) (p : ℕ) where
   pub record Beside (old new : Session) (turns : List Turn) : Type 0 where
     pub grows : IsPrefix old.seen new.seen
     pub tells : (told : Told) → old.told ≡ Some told → TellsTurns told turns new.told
-    pub gets : All (ServesGet options new.seen) (gets_of options p turns)
+    pub gets : All (ServesGet options old.seen new.seen) (gets_of options p turns)
 
   pub beside_of : (old new : Sessions) (turns : List Turn) → AnswersInOrder options false old turns new → Beside (old p) (new p) turns
   beside_of old new [] h =
@@ -142,7 +149,7 @@ module _ (options : Options) (p : ℕ) where
           stand = tt;
           closed = omega arith;
         };
-        gets = All-nil (ServesGet options (new p).seen);
+        gets = All-nil (ServesGet options (old p).seen (new p).seen);
       }
   beside_of old new (t ∷ ts) h =
       let between = h.0 p in
@@ -153,6 +160,8 @@ module _ (options : Options) (p : ℕ) where
         tells = λ told tells.
             let first = one.tells told tells in
             tells_more told t ts between.told (new p).told first (rest.tells first.told first.is);
-        gets = subst (All (ServesGet options (new p).seen)) (sym (filter-append (λ x. is_none (write_in x.request) && eqb (partition_in options x) p) (t ∷ []) ts))
-            (All-append (ServesGet options (new p).seen) (gets_of options p (t ∷ [])) (gets_of options p ts) (gets_grow options between.seen (new p).seen (gets_of options p (t ∷ [])) rest.grows one.gets) rest.gets);
+        gets = subst (All (ServesGet options (old p).seen (new p).seen)) (sym (filter-append (λ x. is_none (write_in x.request) && eqb (partition_in options x) p) (t ∷ []) ts))
+            (All-append (ServesGet options (old p).seen (new p).seen) (gets_of options p (t ∷ [])) (gets_of options p ts)
+            (gets_grow options (old p).seen (old p).seen between.seen (new p).seen (gets_of options p (t ∷ [])) ([], sym (append-nil (old p).seen)) rest.grows one.gets)
+            (gets_grow options between.seen (old p).seen (new p).seen (new p).seen (gets_of options p ts) one.grows ([], sym (append-nil (new p).seen)) rest.gets));
       }

@@ -10,6 +10,7 @@ use Rattle.std.proofs.lemmas.Option.{slice_get_within, slice_get-map, same_Some}
 use Rattle.list_laws.proofs.Places.{element_at}
 use Rattle.mica_io.specs.Traffic.{Datagram, Traffic}
 use Rattle.partition_model.specs.declared.options.Options.{Options}
+use Rattle.partition_model.specs.History.{History}
 use Rattle.partition_table.specs.declared.tables.Entry.{Entry}
 use Rattle.mica_fronts.specs.declared.totals.TheConstants.{MAX_BATCHES}
 use Rattle.mica_fronts.specs.declared.totals.Totals.{Totals}
@@ -94,7 +95,7 @@ module _ {Y : Type 0} where
       let rest = chosen (λ i. Q (suc i)) n (λ i lt. has (suc i) (omega arith)) in
       (one.0 ∷ rest.0, ap suc rest.1, consed Q one.0 one.1 rest.0 rest.2)
 
-module _ (options : Options) (batches : ℕ) where
+module _ (options : Options) (begun : ℕ → History) (batches : ℕ) where
   -- what the fronts made of ends that tell, where all were served
   record Built (rs : List FrontRun) (totals : Totals) (bs es : List EndFacts) : Type 0 where
     pub fronts : List (List Dealing)
@@ -182,34 +183,34 @@ module _ (options : Options) (batches : ℕ) where
       omega (arith, sum_by-cons g x xs, sum_by-cons h y ys, same 0 x y refl refl, same_sums g h xs ys (omega arith) (λ i. same (suc i)))
 
   all_served : (some : 1 ≤ options.partitions) (rs : List FrontRun) (totals : Totals) (kept : List Entry) (olds news : List EndFacts) → length olds ≡ length rs
-      → AreTakenIn options rs kept → Built rs totals olds news → ServesAll options batches totals kept olds news
+      → AreTakenIn options begun rs kept → Built rs totals olds news → ServesAll options begun batches totals kept olds news
   all_served some rs totals kept olds news many taken b =
       record {
         fronts = b.fronts;
         runs = taken.runs;
         many = b.many ∙ sym many;
         each = b.each;
-        ran = record { run = taken.ran.run; no_others = λ p lt. subst (λ (n : ℕ). All (λ q. q.front < n) (taken.runs p)) (sym b.many) (taken.ran.no_others p lt) };
+        ran = record { filled = taken.ran.filled; run = taken.ran.run; no_others = λ p lt. subst (λ (n : ℕ). All (λ q. q.front < n) (taken.runs p)) (sym b.many) (taken.ran.no_others p lt) };
         answered = answered taken b;
         counted = b.counted;
         tables = record {
           each = λ p entry is. record {
             history = taken.history p entry is;
             closed = taken.closed p entry is ∙ same_sums (closed_in p) (λ (d : List Dealing). length (gets_of options p (turns_in d))) rs b.fronts b.many
-                (λ f r d at at'. closed_gets options some taken.runs f (turns_in d) r.old r.new (one taken b f r d at at') p (omega (arith, slice_get_within kept p entry is, taken.shapes.many)));
+                (λ f r d at at'. closed_gets options some begun taken.runs f (turns_in d) r.old r.new (one taken b f r d at at') p (omega (arith, slice_get_within kept p entry is, taken.shapes.many)));
           };
         };
       }
     where
-      one : (taken : AreTakenIn options rs kept) (b : Built rs totals olds news) (f : ℕ) (r : FrontRun) (d : List Dealing) → slice_get rs f ≡ Some r → slice_get b.fronts f ≡ Some d
-          → AnsweredBeside options taken.runs f (turns_in d) r.old r.new
+      one : (taken : AreTakenIn options begun rs kept) (b : Built rs totals olds news) (f : ℕ) (r : FrontRun) (d : List Dealing) → slice_get rs f ≡ Some r → slice_get b.fronts f ≡ Some d
+          → AnsweredBeside options begun taken.runs f (turns_in d) r.old r.new
       one taken b f r d at at' =
           let t = taken.each f r at in
           let a = b.answers f r d at at' in
-          record { answers = a.0; starts = t.starts; seen = t.seen; took = t.took; few = omega (arith, t.sent, a.1) }
+          record { answers = a.0; starts = t.starts; began = t.began; seen = t.seen; took = t.took; few = omega (arith, t.sent, a.1) }
 
-      answered : (taken : AreTakenIn options rs kept) (b : Built rs totals olds news) (f : ℕ) (d : List Dealing) → slice_get b.fronts f ≡ Some d
-          → (old : Sessions) × (new : Sessions) × AnsweredBeside options taken.runs f (turns_in d) old new
+      answered : (taken : AreTakenIn options begun rs kept) (b : Built rs totals olds news) (f : ℕ) (d : List Dealing) → slice_get b.fronts f ≡ Some d
+          → (old : Sessions) × (new : Sessions) × AnsweredBeside options begun taken.runs f (turns_in d) old new
       answered taken b f d is =
           let r = element_at rs f (omega (arith, slice_get_within b.fronts f d is, b.many)) in
           (r.0.old, r.0.new, one taken b f r.0 d r.1 is)
@@ -264,8 +265,8 @@ module _ (options : Options) (batches : ℕ) where
 
   -- what is kept: the seats where all were served, and else nothing
   abbrev pub KeepsWhere : Result Totals ServeFault → List FrontRun → List Entry → Type 0
-  KeepsWhere (Ok totals) rs kept = AreTakenIn options rs kept
-  KeepsWhere (Err fault) rs kept = (kept ≡ []) × (left : List Entry) × AreTakenIn options rs left
+  KeepsWhere (Ok totals) rs kept = AreTakenIn options begun rs kept
+  KeepsWhere (Err fault) rs kept = (kept ≡ []) × (left : List Entry) × AreTakenIn options begun rs left
 
   -- what one of these fronts dealt with
   record StoppedAt (rs : List FrontRun) (olds news : List EndFacts) (f : ℕ) (dealings : List Dealing) : Type 0 where
@@ -278,8 +279,8 @@ module _ (options : Options) (batches : ℕ) where
     pub stopped : Stopped run before after dealings
 
   -- what all fronts dealt with beside each other, where there was memory for all
-  all_stopped : (rs : List FrontRun) (left : List Entry) (olds news : List EndFacts) → RunFronts options batches rs olds news → AreTakenIn options rs left
-      → ((f : ℕ) (r : FrontRun) → slice_get rs f ≡ Some r → r.answer ≢ Err NoMemory) → TellAll olds → StopsBeside options batches olds news
+  all_stopped : (rs : List FrontRun) (left : List Entry) (olds news : List EndFacts) → RunFronts options batches rs olds news → AreTakenIn options begun rs left
+      → ((f : ℕ) (r : FrontRun) → slice_get rs f ≡ Some r → r.answer ≢ Err NoMemory) → TellAll olds → StopsBeside options begun batches olds news
   all_stopped rs left olds news run taken other tell = record {
     fronts = all.0;
     runs = taken.runs;
@@ -289,11 +290,11 @@ module _ (options : Options) (batches : ℕ) where
         let old : q.before ≡ b = same_Some q.before b (sym q.was ∙ is') in
         let new : q.after ≡ a = same_Some q.after a (sym q.is ∙ is'') in
         subst (λ (x : EndFacts). MayStopAtEnd batches d x a) old (subst (λ (x : EndFacts). MayStopAtEnd batches d q.before x) new q.stopped.may);
-    ran = record { run = taken.ran.run; no_others = λ p lt. subst (λ (n : ℕ). All (λ q. q.front < n) (taken.runs p)) (sym (all.1 ∙ run.many_before)) (taken.ran.no_others p lt) };
+    ran = record { filled = taken.ran.filled; run = taken.ran.run; no_others = λ p lt. subst (λ (n : ℕ). All (λ q. q.front < n) (taken.runs p)) (sym (all.1 ∙ run.many_before)) (taken.ran.no_others p lt) };
     answered = λ f d is.
         let q = all.2 f d is in
         let t = taken.each f q.run q.ran in
-        (q.run.old, q.run.new, record { answers = q.stopped.answers; starts = t.starts; seen = t.seen; took = t.took; few = omega (arith, t.sent, q.stopped.few) });
+        (q.run.old, q.run.new, record { answers = q.stopped.answers; starts = t.starts; began = t.began; seen = t.seen; took = t.took; few = omega (arith, t.sent, q.stopped.few) });
   }
     where
       all : (ds : List (List Dealing)) × (length ds ≡ length olds) × ((f : ℕ) (d : List Dealing) → slice_get ds f ≡ Some d → StoppedAt rs olds news f d)
@@ -305,7 +306,7 @@ module _ (options : Options) (batches : ℕ) where
           (s.0, record { run = r.0; before = b.0; after = a.0; ran = r.1; was = b.1; is = a.1; stopped = s.1 }))
 
   pub gathered : (some : 1 ≤ options.partitions) (rs : List FrontRun) (kept : List Entry) (olds news : List EndFacts) (run : RunFronts options batches rs olds news)
-      (answer : Result Totals ServeFault) → SumsUp (map (λ (r : FrontRun). r.answer) rs) answer → KeepsWhere answer rs kept → ServesFronts options batches answer kept olds news
+      (answer : Result Totals ServeFault) → SumsUp (map (λ (r : FrontRun). r.answer) rs) answer → KeepsWhere answer rs kept → ServesFronts options begun batches answer kept olds news
   gathered some rs kept olds news run answer sums keeps = record {
     many = run.many_after ∙ sym run.many_before;
     keeps = λ i b a is is'.
@@ -317,7 +318,7 @@ module _ (options : Options) (batches : ℕ) where
     means = means answer sums keeps;
   }
     where
-      means : (answer : Result Totals ServeFault) → SumsUp (map (λ (r : FrontRun). r.answer) rs) answer → KeepsWhere answer rs kept → MeansForEnds answer options batches kept olds news
+      means : (answer : Result Totals ServeFault) → SumsUp (map (λ (r : FrontRun). r.answer) rs) answer → KeepsWhere answer rs kept → MeansForEnds answer options begun batches kept olds news
       means (Ok totals) sums taken = (
         taken.shapes,
         λ i b a is is' scripted.
@@ -358,20 +359,20 @@ module _ (options : Options) (batches : ℕ) where
   KeepsOf (Ok totals) left kept = kept ≡ left
   KeepsOf (Err fault) left kept = kept ≡ []
 
-  pub all_ran : (some : 1 ≤ options.partitions) (left kept : List Entry) (answers : List (Result Totals ServeFault)) (olds news : List EndFacts) (ran : RanAll options batches left answers olds news)
-      (answer : Result Totals ServeFault) → SumsUp answers answer → KeepsOf answer left kept → ServesFronts options batches answer kept olds news
+  pub all_ran : (some : 1 ≤ options.partitions) (left kept : List Entry) (answers : List (Result Totals ServeFault)) (olds news : List EndFacts) (ran : RanAll options begun batches left answers olds news)
+      (answer : Result Totals ServeFault) → SumsUp answers answer → KeepsOf answer left kept → ServesFronts options begun batches answer kept olds news
   all_ran some left kept answers olds news ran answer sums keeps =
       gathered some ran.fronts kept olds news ran.run answer (subst (λ (l : List (Result Totals ServeFault)). SumsUp l answer) ran.answers_are sums) (by answer keeps)
     where
       by : (answer : Result Totals ServeFault) → KeepsOf answer left kept → KeepsWhere answer ran.fronts kept
-      by (Ok totals) same = subst (AreTakenIn options ran.fronts) (sym same) ran.taken
+      by (Ok totals) same = subst (AreTakenIn options begun ran.fronts) (sym same) ran.taken
       by (Err fault) none = (none, left, ran.taken)
 
   -- as many answers as ends, and each that counts counts no more than its front was given
-  pub few_answers : (left : List Entry) (answers : List (Result Totals ServeFault)) (olds news : List EndFacts) → RanAll options batches left answers olds news → length answers ≡ length olds
+  pub few_answers : (left : List Entry) (answers : List (Result Totals ServeFault)) (olds news : List EndFacts) → RanAll options begun batches left answers olds news → length answers ≡ length olds
   few_answers left answers olds news ran = ap length ran.answers_are ∙ length-map ran.fronts (λ (r : FrontRun). r.answer) ∙ sym ran.run.many_before
 
-  pub small_answers : (left : List Entry) (answers : List (Result Totals ServeFault)) (olds news : List EndFacts) → RanAll options batches left answers olds news → batches ≤ MAX_BATCHES
+  pub small_answers : (left : List Entry) (answers : List (Result Totals ServeFault)) (olds news : List EndFacts) → RanAll options begun batches left answers olds news → batches ≤ MAX_BATCHES
       → (f : ℕ) (totals : Totals) → slice_get answers f ≡ Some (Ok totals) → IsUpTo MAX_BATCHES totals
   small_answers left answers olds news ran few f totals is =
       let r = answer_at ran.fronts f (Ok totals) (ap (λ l. slice_get l f) (sym ran.answers_are) ∙ is) in

@@ -1,3 +1,4 @@
+pub mod Fills
 pub mod Order
 pub mod CutShort
 pub mod Opened

@@ -1,7 +1,8 @@
 -- A server with its tables is one that served.
-use Rattle.std.proofs.Common.{Option, Some, None, List}
+use Rattle.std.proofs.Common.{ℕ, Option, Some, None, List}
 use Rattle.mica_io.specs.Ports.{Ports}
 use Rattle.partition_model.specs.declared.options.Options.{Options}
+use Rattle.partition_model.specs.History.{History}
 use Rattle.partition_table.specs.declared.tables.Entry.{Entry}
 use Rattle.mica_serve.specs.declared.ports.Ports.{Ports as PortOptions}
 use Rattle.mica_fronts.specs.declared.totals.Totals.{Totals}
@@ -14,10 +15,10 @@ on_ports_as P Q f None b p = p
 on_ports_as P Q f (Some a) None p = absurd p
 on_ports_as P Q f (Some a) (Some b) p = f a b p
 
-pub has_served : (options : Options) (ports : PortOptions) (totals : Totals) (kept : List Entry) (before after : NetFacts)
-    → HasServedOnTables options ports totals kept before after → HasServed options ports totals before after
-has_served options ports totals kept before after h = record {
-  served = on_ports_as (ServesOnTables options ports totals kept) (Serves options ports totals)
+pub has_served : (options : Options) (begun : ℕ → History) (ports : PortOptions) (totals : Totals) (kept : List Entry) (before after : NetFacts)
+    → HasServedOnTables options begun ports totals kept before after → HasServed options begun ports totals before after
+has_served options begun ports totals kept before after h = record {
+  served = on_ports_as (ServesOnTables options begun ports totals kept) (Serves options begun ports totals)
       (λ a b s. record { fronts = s.fronts; runs = s.runs; served = s.served; counted = s.counted }) before.ports after.ports h.served;
   no_fault = h.no_fault;
 }

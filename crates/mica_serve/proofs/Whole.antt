@@ -1,5 +1,5 @@
 -- What a whole run makes of the ports: bound, served, released.
-use Rattle.std.proofs.Common.{◌≡◌, ℕ, ◌+◌, ◌-◌, ◌<◌, ◌≤◌, ◌⊎◌, inl, inr, true, List, [], length, map, take, drop, Option, Some, None, refl, sym, ap, ◌∙◌, subst, slice_get, arith}
+use Rattle.std.proofs.Common.{◌≡◌, ℕ, ◌+◌, ◌-◌, ◌<◌, ◌≤◌, ◌⊎◌, inl, inr, true, List, [], ◌∷◌, ◌++◌, length, length-append, map, take, drop, Option, Some, None, refl, sym, ap, ◌∙◌, subst, slice_get, arith}
 use Rattle.std.specs.Prelude.{◌≢◌, is_some, nat_lt, min, sum_by, Result, Ok, Err, IfSome}
 use Rattle.std.specs.List.{All, AllPairs, AllZip}
 use Rattle.std.proofs.lemmas.Bool.{cases_lt}
@@ -15,13 +15,20 @@ use Rattle.mica_serve.specs.declared.ports.Ports.{Ports as PortOptions}
 use Rattle.mica_fronts.specs.declared.totals.Totals.{Totals}
 use Rattle.mica_fronts.specs.Turn.{Turn, turns_of, writes_of, gets_of}
 use Rattle.mica_fronts.specs.Dealing.{Dealing, IsDealing, turns_in, due_to}
+use Rattle.partition_model.specs.declared.write.Write.{Write}
+use Rattle.partition_model.specs.History.{History, IsHistory}
 use Rattle.partition_table.specs.declared.tables.Entry.{Entry}
 use Rattle.mica_serve.specs.Beside.{ServesOnTables}
-use Rattle.mica_serve.specs.Served.{ServesPort, RepliesStep, ServesGet, NoFall, LeavesPort, BeginsPorts, IsThrough, IsCutShort, IsStopped, StopsShort}
+use Rattle.mica_serve.specs.Served.{ServesPort, RepliesStep, ServesGet, NoFall, LeavesPort, BeginsPorts, IsThrough, IsCutShort, IsStopped, StopsShort, LeavesUnserved}
+use Rattle.mica_serve.specs.Filled.{begun_by, RefusesFilling}
+use Rattle.mica_serve.specs.declared.filling.OpenFault.{OpenFault}
+use Rattle.mica_serve.specs.declared.filling.OpenFault.TheVariants as open_fault
+use Rattle.mica_serve.specs.declared.stop.Stop.{Stop}
+use Rattle.mica_serve.specs.declared.stop.Stop.TheVariants.{Refused, Unannounced, Fault}
 use Rattle.mica_io.specs.Faults.{Rose, LAST_COUNT}
 use Rattle.mica_fronts.specs.declared.totals.ServeFault.{ServeFault}
 use Rattle.mica_fronts.specs.declared.totals.ServeFault.TheVariants.{Net, NoMemory}
-use Rattle.mica_serve.specs.NetRun.{NetFacts, OnPorts, CountsFaults, ReleasesAll, ReleasesNet, KeepsNet, BindsAndServes, FailsToBind, MeansForRun, HasNoFault, HasStopped, IsCauseOf}
+use Rattle.mica_serve.specs.NetRun.{NetFacts, OnPorts, CountsFaults, ReleasesAll, ReleasesNet, KeepsNet, BindsAndServes, FailsToBind, MeansForRun, HasNoFault, HasStopped, IsCauseOfStop, HasAnnounced, stop_of}
 use Rattle.mica_serve.specs.Ends.{EndFacts, TellAll, AreNewEnds, AreAtPorts, BindsEnds, ReleasesEnds, DealsWithEnd, DealsInPartWithEnd, BeginsEnds, MayStopAtEnd, StopsSome, StopsBeside, ServesAll, ServesFronts, MeansForEnds, KeepsEnd}
 use Rattle.mica_serve.proofs.Binding.{rose_on, rose_before}
 use Rattle.mica_serve.proofs.Gathered.{same_kept, chosen}
@@ -144,22 +151,23 @@ module _ (ports : PortOptions) (olds news : List EndFacts) (before mid after : P
     pub none : dealings ≡ []
     pub left : LeavesPort ports.batches (before (ports.port + f)) (after (ports.port + f)) dealings []
 
-  module _ (options : Options) (bind_failed : Type 0) (counts : ℕ → Type 0) where
+  module _ (options : Options) (begun : ℕ → History) (bind_failed : Type 0) (counts : ℕ → Type 0) where
     -- a bind failed, so no front dealt with anything
-    pub none_stopped : bind_failed → ((i : ℕ) (b a : EndFacts) → slice_get olds i ≡ Some b → slice_get news i ≡ Some a → DealsInPartWithEnd ports.batches [] [] b a)
-        → StopsShort options ports bind_failed counts before after
-    none_stopped failed part = record {
+    pub none_stopped : ((p : ℕ) → p < options.partitions → IsHistory options (begun p)) → bind_failed → ((i : ℕ) (b a : EndFacts) → slice_get olds i ≡ Some b → slice_get news i ≡ Some a → DealsInPartWithEnd ports.batches [] [] b a)
+        → StopsShort options begun ports bind_failed counts before after
+    none_stopped filled failed part = record {
       fronts = nothing.0;
       runs = λ p. [];
       many = nothing.1;
       each = λ f d is. (nothing.2 f d is).left;
       answered = record {
         writes = λ p lt. record {
+          filled = filled p lt;
           run = tt;
           each = λ f turns is. subst (λ (ts : List Turn). AllZip RepliesStep (writes_of options p ts) []) (sym (none_asked f turns is)) tt;
           no_others = All-from_recursion (λ q. q.front < length (map turns_in nothing.0)) [] tt;
         };
-        gets = λ p f turns lt is. subst (λ (ts : List Turn). All (ServesGet options []) (gets_of options p ts)) (sym (none_asked f turns is)) (All-nil (ServesGet options []));
+        gets = λ p f turns lt is. subst (λ (ts : List Turn). All (ServesGet options (begun p) (begun p ++ [])) (gets_of options p ts)) (sym (none_asked f turns is)) (All-nil (ServesGet options (begun p) (begun p ++ [])));
         order = λ p f turns lt is. subst (λ (ts : List Turn). AllPairs NoFall (turns_of options p ts)) (sym (none_asked f turns is)) (λ i j d less within. absurd (omega arith));
       };
       some = inl failed;
@@ -183,13 +191,13 @@ module _ (ports : PortOptions) (olds news : List EndFacts) (before mid after : P
 
     -- a front stopped, and what all dealt with beside each other is lawful
     pub all_stopped : 1 ≤ options.partitions → length olds ≡ ports.fronts → StopsSome ports.batches olds news
-        → counts (sum_by (λ e. e.faults) news) → StopsBeside options ports.batches olds news → StopsShort options ports bind_failed counts before after
+        → counts (sum_by (λ e. e.faults) news) → StopsBeside options begun ports.batches olds news → StopsShort options begun ports bind_failed counts before after
     all_stopped some full stops counted all = record {
       fronts = all.fronts;
       runs = all.runs;
       many = all.many ∙ full;
       each = λ f d is. let e = ends_at f d is in port_left ports.batches f d [] e.0 e.1 e.2 e.3 e.4.part;
-      answered = lawful_beside options some all.runs all.fronts all.ran all.answered;
+      answered = lawful_beside options some begun all.runs all.fronts all.ran all.answered;
       some = inr (stopped_some ports.batches stops);
       blamed = inr (record {
         faults = map (λ (e : EndFacts). e.faults) news;
@@ -224,9 +232,9 @@ module _ (ports : PortOptions) (olds news : List EndFacts) (before mid after : P
             let a = element_at news f (omega (arith, lt, all.many, many)) in
             (b.0, a.0, b.1, a.1, all.each f d b.0 a.0 is b.1 a.1)
 
-  pub all_served : (options : Options) (totals : Totals) (kept : List Entry) → 1 ≤ options.partitions → length olds ≡ ports.fronts
-      → ServesAll options ports.batches totals kept olds news → ServesOnTables options ports totals kept before after
-  all_served options totals kept some full all = record {
+  pub all_served : (options : Options) (begun : ℕ → History) (totals : Totals) (kept : List Entry) → 1 ≤ options.partitions → length olds ≡ ports.fronts
+      → ServesAll options begun ports.batches totals kept olds news → ServesOnTables options begun ports totals kept before after
+  all_served options begun totals kept some full all = record {
     fronts = all.fronts;
     runs = all.runs;
     served = record {
@@ -236,7 +244,7 @@ module _ (ports : PortOptions) (olds news : List EndFacts) (before mid after : P
           let b = element_at olds f (omega (arith, lt, all.many)) in
           let a = element_at news f (omega (arith, lt, all.many, many)) in
           port_served ports.batches f dealings b.0 a.0 b.1 a.1 (all.each f dealings b.0 a.0 is b.1 a.1);
-      answered = lawful_beside options some all.runs all.fronts all.ran all.answered;
+      answered = lawful_beside options some begun all.runs all.fronts all.ran all.answered;
     };
     counted = all.counted;
     tables = all.tables;
@@ -298,9 +306,13 @@ on_ports_then P Q R f (Some a) None c p q = absurd p
 on_ports_then P Q R f (Some a) (Some b) None p q = absurd q
 on_ports_then P Q R f (Some a) (Some b) (Some c) p q = f a b c p q
 
-module _ (options : Options) (some : 1 ≤ options.partitions) (ports : PortOptions) (kept : List Entry) (before mid after : NetFacts) (news : List EndFacts)
+module _ (options : Options) (some : 1 ≤ options.partitions) (writes : List Write) (ports : PortOptions) (kept : List Entry) (before mid after : NetFacts) (news : List EndFacts)
     (rel : ReleasesNet ports.port news mid after) where
-  pub keeps : (answer : Result Totals ServeFault) → BindsAndServes options ports answer kept before mid news → KeepsNet ports before after
+  -- what the partitions begin with
+  abbrev begun : ℕ → History
+  begun = begun_by options writes
+
+  pub keeps : (answer : Result Totals Stop) → BindsAndServes options begun ports answer kept before mid news → KeepsNet ports before after
   keeps answer run = record {
     binds = omega (arith, rel.binds, run.binds);
     first = λ some. rel.first_is ∙ run.first (omega (arith, rel.binds));
@@ -313,7 +325,7 @@ module _ (options : Options) (some : 1 ≤ options.partitions) (ports : PortOpti
         before.ports mid.ports after.ports run.bound rel.told;
   }
 
-  no_faults : (totals : Totals) (run : BindsAndServes options ports (Ok totals) kept before mid news) → HasNoFault before after
+  no_faults : (totals : Totals) (run : BindsAndServes options begun ports (Ok totals) kept before mid news) → HasNoFault before after
   no_faults totals run = by before.ports mid.ports before.fails refl run.bound
     where
       by : (x y : Option Ports) (l : Option (List ℕ)) → before.fails ≡ l → OnPorts (BindsEnds ports.port run.olds) x y
@@ -328,17 +340,17 @@ module _ (options : Options) (some : 1 ≤ options.partitions) (ports : PortOpti
           run.means.2.1 i o.0 a o.1 at (b.each i o.0 o.1).scripted ∙ (run.are_new i o.0 o.1).no_faults)
           ∙ run.means.1 (ap is_some is)
 
-  stops : (run : BindsAndServes options ports (Err Net) kept before mid news) → HasStopped options ports before after
+  stops : (run : BindsAndServes options begun ports (Err (Fault Net)) kept before mid news) → HasStopped options begun ports before after
   stops run = by run.means
     where
       by : (FailsToBind before mid run.olds news × (kept ≡ []))
           ⊎ ((length run.olds ≡ ports.fronts) × (is_some before.fails ≡ true → mid.faults ≡ before.faults)
-          × MeansForEnds (Err Net) options ports.batches kept run.olds news) → HasStopped options ports before after
+          × MeansForEnds (Err Net) options begun ports.batches kept run.olds news) → HasStopped options begun ports before after
       by (inl h) = record {
         rose = rose_before before.faults mid.faults after.faults run.never_fall h.0.rose rel.never_fall;
-        stopped = on_ports_then _ _ (StopsShort options ports (before.refused < after.refused) (CountsFaults before after))
-            (λ x y z b r. none_stopped ports run.olds news x y z run.many run.within b r options (before.refused < after.refused) (CountsFaults before after)
-            (omega (arith, h.0.refused, rel.refused))
+        stopped = on_ports_then _ _ (StopsShort options begun ports (before.refused < after.refused) (CountsFaults before after))
+            (λ x y z b r. none_stopped ports run.olds news x y z run.many run.within b r options begun (before.refused < after.refused) (CountsFaults before after)
+            run.filled (omega (arith, h.0.refused, rel.refused))
             (subst (λ (n : List EndFacts). (i : ℕ) (b a : EndFacts) → slice_get run.olds i ≡ Some b → slice_get n i ≡ Some a → DealsInPartWithEnd ports.batches [] [] b a)
             (sym h.0.untouched) (none_served ports.batches ports.port run.olds x y b)))
             before.ports mid.ports after.ports run.bound rel.told;
@@ -349,40 +361,53 @@ module _ (options : Options) (some : 1 ≤ options.partitions) (ports : PortOpti
           let some' : 0 < stops.new.faults = elim stops.rose as (λ _. 0 < stops.new.faults) [ inl lt ↦ omega (arith, zero_is) | inr last ↦ omega (arith, last) ] in
           record {
             rose = rose_on before.faults mid.faults after.faults run.never_fall (rel.cause stops.front stops.new stops.is some');
-            stopped = on_ports_then _ _ (StopsShort options ports (before.refused < after.refused) (CountsFaults before after))
-                (λ x y z b r. all_stopped ports run.olds news x y z run.many run.within b r options (before.refused < after.refused) (CountsFaults before after)
+            stopped = on_ports_then _ _ (StopsShort options begun ports (before.refused < after.refused) (CountsFaults before after))
+                (λ x y z b r. all_stopped ports run.olds news x y z run.many run.within b r options begun (before.refused < after.refused) (CountsFaults before after)
                 some h.0 stops
                 (λ told. rel.counted (ap is_some run.fails ∙ told) ∙ ap (λ (n : ℕ). min (n + sum_by (λ (e : EndFacts). e.faults) news) LAST_COUNT) (h.1 told))
                 (h.2.2 (bound_tell ports.port run.olds x y b)))
                 before.ports mid.ports after.ports run.bound rel.told;
           }
 
-  pub cause : (answer : Result Totals ServeFault) → BindsAndServes options ports answer kept before mid news → IsCauseOf answer options ports kept before after
+  -- the ports were bound, and the ends released as they were
+  unserved : (run : BindsAndServes options begun ports (Err Unannounced) kept before mid news) → OnPorts (LeavesUnserved ports) before.ports after.ports
+  unserved run = on_ports_then _ _ (LeavesUnserved ports)
+      (λ x y z b r f lt.
+      let o = element_at run.olds f (omega (arith, lt, run.means.0)) in
+      let part = none_served ports.batches ports.port run.olds x y b f o.0 o.0 o.1 o.1 in
+      port_left ports run.olds news x y z run.many run.within b r ports.batches f [] [] o.0 o.0 o.1 (ap (λ (l : List EndFacts). slice_get l f) run.means.1 ∙ o.1) part)
+      before.ports mid.ports after.ports run.bound rel.told
+
+  pub cause : (answer : Result Totals Stop) → BindsAndServes options begun ports answer kept before mid news → IsCauseOfStop answer options writes ports kept before after
   cause (Ok totals) run = record {
-    served = on_ports_then _ _ (ServesOnTables options ports totals kept)
-        (λ x y z b r. all_served ports run.olds news x y z run.many run.within b r options totals kept some run.means.0
+    served = on_ports_then _ _ (ServesOnTables options begun ports totals kept)
+        (λ x y z b r. all_served ports run.olds news x y z run.many run.within b r options begun totals kept some run.means.0
         (run.means.2.2 (bound_tell ports.port run.olds x y b)))
         before.ports mid.ports after.ports run.bound rel.told;
     no_fault = no_faults totals run;
     shapes = run.means.2.0;
   }
-  cause (Err Net) run = (unkept run.means, stops run)
+  cause (Err (Fault Net)) run = (unkept run.means, stops run)
     where
       unkept : {A B C D E : Type 0} → (A × (kept ≡ [])) ⊎ (B × C × ((kept ≡ []) × D × E)) → kept ≡ []
       unkept (inl h) = h.1
       unkept (inr h) = h.2.0
-  cause (Err NoMemory) run = run.means
+  cause (Err (Fault NoMemory)) run = run.means
+  cause (Err Unannounced) run = (run.means.2, unserved run)
+  cause (Err Refused) run = absurd run.means
 
 -- the run up to the release
 module _ (ports : PortOptions) (before mid : NetFacts) (olds : List EndFacts) (are_new : AreNewEnds ports.port olds)
     (bound : OnPorts (BindsEnds ports.port olds) before.ports mid.ports) (within : length olds ≤ ports.fronts) (never_fall : before.faults ≤ mid.faults)
-    (fails : mid.fails ≡ before.fails) (binds : mid.binds ≤ ports.fronts) (first : 0 < mid.binds → mid.first ≡ ports.port) where
-  pub run_failed : (options : Options) (answer : Result Totals ServeFault) (kept : List Entry) → answer ≡ Err Net → kept ≡ [] → Rose before.faults mid.faults → before.refused < mid.refused
-      → BindsAndServes options ports answer kept before mid olds
-  run_failed options answer kept is none rose refused = record {
+    (fails : mid.fails ≡ before.fails) (binds : mid.binds ≤ ports.fronts) (first : 0 < mid.binds → mid.first ≡ ports.port) (options : Options) (begun : ℕ → History)
+    (filled : (p : ℕ) → p < options.partitions → IsHistory options (begun p)) where
+  pub run_failed : (answer : Result Totals Stop) (kept : List Entry) → answer ≡ Err (Fault Net) → kept ≡ [] → Rose before.faults mid.faults → before.refused < mid.refused
+      → BindsAndServes options begun ports answer kept before mid olds
+  run_failed answer kept is none rose refused = record {
     olds = olds;
     are_new = are_new;
     bound = bound;
+    filled = filled;
     within = within;
     many = refl;
     keeps = λ i b a is is'. same_kept b a (cc);
@@ -391,16 +416,41 @@ module _ (ports : PortOptions) (before mid : NetFacts) (olds : List EndFacts) (a
     binds = binds;
     first = first;
     begun = none_begun ports.batches ports.port olds are_new;
-    means = subst (λ (r : Result Totals ServeFault). MeansForRun r options ports kept before mid olds olds) (sym is) (inl (record { rose = rose; refused = refused; untouched = refl }, none));
+    means = subst (λ (r : Result Totals Stop). MeansForRun r options begun ports kept before mid olds olds) (sym is) (inl (record { rose = rose; refused = refused; untouched = refl }, none));
   }
 
-  pub run_served : (options : Options) (answer : Result Totals ServeFault) (kept : List Entry) (news : List EndFacts) → length olds ≡ ports.fronts
-      → (is_some before.fails ≡ true → mid.faults ≡ before.faults) → ServesFronts options ports.batches answer kept olds news
-      → BindsAndServes options ports answer kept before mid news
-  run_served options answer kept news full steady s = record {
+  -- all ports were bound, and that could not be told
+  pub run_untold : (answer : Result Totals Stop) (kept : List Entry) → answer ≡ Err Unannounced → kept ≡ [] → length olds ≡ ports.fronts
+      → BindsAndServes options begun ports answer kept before mid olds
+  run_untold answer kept is none full = record {
     olds = olds;
     are_new = are_new;
     bound = bound;
+    filled = filled;
+    within = within;
+    many = refl;
+    keeps = λ i b a is is'. same_kept b a (cc);
+    never_fall = never_fall;
+    fails = fails;
+    binds = binds;
+    first = first;
+    begun = none_begun ports.batches ports.port olds are_new;
+    means = subst (λ (r : Result Totals Stop). MeansForRun r options begun ports kept before mid olds olds) (sym is) (full, refl, none);
+  }
+
+  -- what a server came to, with its fault as what stopped it
+  abbrev pub stopped_by : Result Totals ServeFault → Result Totals Stop
+  stopped_by (Ok totals) = Ok totals
+  stopped_by (Err fault) = Err (Fault fault)
+
+  pub run_served : (answer : Result Totals ServeFault) (kept : List Entry) (news : List EndFacts) → length olds ≡ ports.fronts
+      → (is_some before.fails ≡ true → mid.faults ≡ before.faults) → ServesFronts options begun ports.batches answer kept olds news
+      → BindsAndServes options begun ports (stopped_by answer) kept before mid news
+  run_served answer kept news full steady s = record {
+    olds = olds;
+    are_new = are_new;
+    bound = bound;
+    filled = filled;
     within = within;
     many = s.many;
     keeps = s.keeps;
@@ -412,10 +462,42 @@ module _ (ports : PortOptions) (before mid : NetFacts) (olds : List EndFacts) (a
     means = by answer s.means;
   }
     where
-      by : (answer : Result Totals ServeFault) → MeansForEnds answer options ports.batches kept olds news → MeansForRun answer options ports kept before mid olds news
+      by : (answer : Result Totals ServeFault) → MeansForEnds answer options begun ports.batches kept olds news → MeansForRun (stopped_by answer) options begun ports kept before mid olds news
       by (Ok totals) m = (full, steady, m)
       by (Err Net) m = inr (full, steady, m)
       by (Err NoMemory) m = m
+
+-- a fault that came once that was told
+pub fault_told : {A : Type 0} (fault : ServeFault) (says fails : A → A → Type 0) (before after : NetFacts) (old new : A) → says old new
+    → HasAnnounced says fails (Err (Fault fault)) before after old new
+fault_told Net says fails before after old new said = inr said
+fault_told NoMemory says fails before after old new said = inr said
+
+-- and what was told stands when the ends are released
+pub still_told : {A : Type 0} (answer : Result Totals Stop) (says fails : A → A → Type 0) (before mid after : NetFacts) (old new : A) → after.refused ≡ mid.refused
+    → HasAnnounced says fails answer before mid old new → HasAnnounced says fails answer before after old new
+still_told (Ok totals) says fails before mid after old new same told = told
+still_told (Err Refused) says fails before mid after old new same told = told
+still_told (Err Unannounced) says fails before mid after old new same told = told
+still_told (Err (Fault Net)) says fails before mid after old new same told =
+    elim told as (λ _. ((before.refused < after.refused) × (new ≡ old)) ⊎ says old new) [
+      | inl h ↦ inl (omega (arith, h.0, same), h.1)
+      | inr h ↦ inr h
+    ]
+still_told (Err (Fault NoMemory)) says fails before mid after old new same told = told
+
+-- a server whose partitions could not be made or filled
+pub not_opened : {A : Type 0} (fault : OpenFault) (options : Options) (writes : List Write) (ports : PortOptions) (kept : List Entry) (net : NetFacts) → kept ≡ []
+    → (fault ≡ open_fault.Refused → RefusesFilling options writes) → (says fails : A → A → Type 0) (a : A)
+    → IsCauseOfStop (Err (stop_of fault)) options writes ports kept net net × HasAnnounced says fails (Err (stop_of fault)) net net a a
+not_opened open_fault.Refused options writes ports kept net none why says fails a = ((none, refl, why refl), refl)
+not_opened open_fault.NoMemory options writes ports kept net none why says fails a = (none, inl refl)
+
+-- nothing refuses no writes
+pub none_refused : (options : Options) (writes : List Write) → writes ≡ [] → RefusesFilling options writes → ⊥
+none_refused options writes none r =
+    let split = r.split in
+    absurd (omega (arith, ap length none, ap length split, length-append r.before (r.write ∷ r.later)))
 
 -- the ports of the ends are out until they are released, and the ends tell what they did
 pub out_until : (first : ℕ) (olds news : List EndFacts) (a b : Option Ports) → length news ≡ length olds → OnPorts (BindsEnds first olds) a b

@@ -1,8 +1,8 @@
 -- What is known of fronts that were served beside each other, once their owners have taken in what each of them has in hand.
 use Rattle.std.specs.Prelude.{false, ◌≡◌, ◌+◌, ◌<◌, ◌≤◌, ℕ, zero, suc, List, ◌++◌, [], map, length, slice_get, Option, Some, None, All, sum_by}
 use Rattle.partition_model.specs.declared.options.Options.{Options}
-use Rattle.partition_model.specs.History.{IsPrefix}
-use Rattle.partition_model.specs.Run.{RunStep, IsRun}
+use Rattle.partition_model.specs.History.{History, IsHistory, IsPrefix}
+use Rattle.partition_model.specs.Run.{RunStep, IsRunFrom}
 use Rattle.epoch_core.specs.Shape.{shape_of}
 use Rattle.partition_table.specs.declared.tables.Entry.{Entry}
 use Rattle.mica_serve.specs.declared.ports.Ports.{Ports as PortOptions}
@@ -29,41 +29,43 @@ pub record IsUntold (told : Told) : Type 0 where
   pub acks : told.acks ≡ []
   pub closed : told.closed ≡ 0
 
--- A front answered its requests in order. In each partition what it has seen begins the history, and the answers that it took begin those to
+-- A front answered its requests in order. In each partition it saw at first what that began with, and what it has seen begins the history, and the answers that it took begin those to
 -- its writes in the partition's run, in all of which together there are no more than it was asked for.
-pub record AnsweredBeside (options : Options) (runs : ℕ → List Placed) (f : ℕ) (turns : List Turn) (old new : Sessions) : Type 0 where
+pub record AnsweredBeside (options : Options) (begun : ℕ → History) (runs : ℕ → List Placed) (f : ℕ) (turns : List Turn) (old new : Sessions) : Type 0 where
   pub answers : AnswersInOrder options false old turns new
   pub starts : (p : ℕ) → p < options.partitions → (told : Told) × ((old p).told ≡ Some told) × IsUntold told
-  pub seen : (p : ℕ) → p < options.partitions → IsPrefix (new p).seen (history_in (runs p))
+  pub began : (p : ℕ) → p < options.partitions → (old p).seen ≡ begun p
+  pub seen : (p : ℕ) → p < options.partitions → IsPrefix (new p).seen (begun p ++ history_in (runs p))
   pub took : (p : ℕ) (told : Told) → p < options.partitions → (new p).told ≡ Some told
       → (later : List RunStep) × (steps_by f (runs p) ≡ map (λ a. a.step) told.acks ++ later)
   pub few : total_below options.partitions (λ p. length (steps_by f (runs p))) ≤ count_of_writes turns
 
--- each partition's machine ran on the writes of these fronts alone
-pub record RunsPartitions (options : Options) (fronts : ℕ) (runs : ℕ → List Placed) : Type 0 where
-  pub run : (p : ℕ) → p < options.partitions → IsRun options (steps_in (runs p))
+-- each partition's machine accepted what it began with, and ran from there on the writes of these fronts alone
+pub record RunsPartitions (options : Options) (begun : ℕ → History) (fronts : ℕ) (runs : ℕ → List Placed) : Type 0 where
+  pub filled : (p : ℕ) → p < options.partitions → IsHistory options (begun p)
+  pub run : (p : ℕ) → p < options.partitions → IsRunFrom options (begun p) (steps_in (runs p))
   pub no_others : (p : ℕ) → p < options.partitions → All (λ q. q.front < fronts) (runs p)
 
 -- how many gets the fronts answered in a partition
 abbrev pub gets_answered : Options → ℕ → List (List Dealing) → ℕ
 gets_answered options p fronts = sum_by (λ dealings. length (gets_of options p (turns_in dealings))) fronts
 
--- the seat of partition p has the history of the fronts' accepted writes, and their seats closed one try for each get
-pub record IsServedEntry (options : Options) (fronts : List (List Dealing)) (runs : ℕ → List Placed) (p : ℕ) (entry : Entry) : Type 0 where
-  pub history : entry.history ≡ history_in (runs p)
+-- the seat of partition p has what that began with and then the fronts' accepted writes, and their seats closed one try for each get
+pub record IsServedEntry (options : Options) (begun : ℕ → History) (fronts : List (List Dealing)) (runs : ℕ → List Placed) (p : ℕ) (entry : Entry) : Type 0 where
+  pub history : entry.history ≡ begun p ++ history_in (runs p)
   pub closed : entry.closed ≡ gets_answered options p fronts
 
 -- one seat for each partition, in order
-pub record AreServedTables (options : Options) (fronts : List (List Dealing)) (runs : ℕ → List Placed) (kept : List Entry) : Type 0 where
-  pub each : (p : ℕ) (entry : Entry) → slice_get kept p ≡ Some entry → IsServedEntry options fronts runs p entry
+pub record AreServedTables (options : Options) (begun : ℕ → History) (fronts : List (List Dealing)) (runs : ℕ → List Placed) (kept : List Entry) : Type 0 where
+  pub each : (p : ℕ) (entry : Entry) → slice_get kept p ≡ Some entry → IsServedEntry options begun fronts runs p entry
 
 -- the fronts served, the totals count what they did, and these are their tables
-pub record ServesOnTables (options : Options) (ports : PortOptions) (totals : Totals) (kept : List Entry) (before after : Ports) : Type 0 where
+pub record ServesOnTables (options : Options) (begun : ℕ → History) (ports : PortOptions) (totals : Totals) (kept : List Entry) (before after : Ports) : Type 0 where
   pub fronts : List (List Dealing)
   pub runs : ℕ → List Placed
-  pub served : Served options ports before after fronts runs
+  pub served : Served options begun ports before after fronts runs
   pub counted : Counts fronts totals
-  pub tables : AreServedTables options fronts runs kept
+  pub tables : AreServedTables options begun fronts runs kept
 
 -- one seat of the options' shape for each partition
 pub record HaveShapes (options : Options) (kept : List Entry) : Type 0 where

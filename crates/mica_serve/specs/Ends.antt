@@ -4,6 +4,7 @@ use Rattle.mica_io.specs.Faults.{Rose}
 use Rattle.mica_io.specs.Traffic.{Datagram, Traffic, EndScript, new_traffic}
 use Rattle.mica_io.specs.Ports.{Ports, waiting, out, back}
 use Rattle.partition_model.specs.declared.options.Options.{Options}
+use Rattle.partition_model.specs.History.{History}
 use Rattle.mica_fronts.specs.declared.totals.Totals.{Totals}
 use Rattle.mica_fronts.specs.declared.totals.ServeFault.{ServeFault}
 use Rattle.mica_fronts.specs.declared.totals.ServeFault.TheVariants.{Net, NoMemory}
@@ -118,17 +119,17 @@ abbrev pub TellAll : List EndFacts → Type 0
 TellAll ends = (i : ℕ) (end : EndFacts) → slice_get ends i ≡ Some end → is_some end.traffic ≡ true
 
 -- each front dealt with its end, beside the others, and these are the tables of their partitions
-pub record ServesAll (options : Options) (batches : ℕ) (totals : Totals) (kept : List Entry) (before after : List EndFacts) : Type 0 where
+pub record ServesAll (options : Options) (begun : ℕ → History) (batches : ℕ) (totals : Totals) (kept : List Entry) (before after : List EndFacts) : Type 0 where
   pub fronts : List (List Dealing)
   pub runs : ℕ → List Placed
   pub many : length fronts ≡ length before
   pub each : (f : ℕ) (dealings : List Dealing) (b a : EndFacts) → slice_get fronts f ≡ Some dealings → slice_get before f ≡ Some b → slice_get after f ≡ Some a
       → DealsWithEnd batches dealings b a
-  pub ran : RunsPartitions options (length fronts) runs
+  pub ran : RunsPartitions options begun (length fronts) runs
   pub answered : (f : ℕ) (dealings : List Dealing) → slice_get fronts f ≡ Some dealings
-      → (old : Sessions) × (new : Sessions) × AnsweredBeside options runs f (turns_in dealings) old new
+      → (old : Sessions) × (new : Sessions) × AnsweredBeside options begun runs f (turns_in dealings) old new
   pub counted : Counts fronts totals
-  pub tables : AreServedTables options fronts runs kept
+  pub tables : AreServedTables options begun fronts runs kept
 
 -- one of the fronts stopped at a fault
 pub record StopsSome (batches : ℕ) (before after : List EndFacts) : Type 0 where
@@ -146,28 +147,28 @@ HasNoEndFault before after = (i : ℕ) (old new : EndFacts) → slice_get before
     → new.faults ≡ old.faults
 
 -- each front dealt with its end in part, beside the others
-pub record StopsBeside (options : Options) (batches : ℕ) (before after : List EndFacts) : Type 0 where
+pub record StopsBeside (options : Options) (begun : ℕ → History) (batches : ℕ) (before after : List EndFacts) : Type 0 where
   pub fronts : List (List Dealing)
   pub runs : ℕ → List Placed
   pub many : length fronts ≡ length before
   pub each : (f : ℕ) (dealings : List Dealing) (b a : EndFacts) → slice_get fronts f ≡ Some dealings → slice_get before f ≡ Some b → slice_get after f ≡ Some a
       → MayStopAtEnd batches dealings b a
-  pub ran : RunsPartitions options (length fronts) runs
+  pub ran : RunsPartitions options begun (length fronts) runs
   pub answered : (f : ℕ) (dealings : List Dealing) → slice_get fronts f ≡ Some dealings
-      → (old : Sessions) × (new : Sessions) × AnsweredBeside options runs f (turns_in dealings) old new
+      → (old : Sessions) × (new : Sessions) × AnsweredBeside options begun runs f (turns_in dealings) old new
 
 -- what each answer says of the ends and of the tables that are kept
-abbrev pub MeansForEnds : Result Totals ServeFault → Options → ℕ → List Entry → List EndFacts → List EndFacts → Type 0
-MeansForEnds (Ok totals) options batches kept before after =
-    HaveShapes options kept × HasNoEndFault before after × (TellAll before → ServesAll options batches totals kept before after)
-MeansForEnds (Err Net) options batches kept before after =
-    (kept ≡ []) × StopsSome batches before after × (TellAll before → StopsBeside options batches before after)
-MeansForEnds (Err NoMemory) options batches kept before after = kept ≡ []
+abbrev pub MeansForEnds : Result Totals ServeFault → Options → (ℕ → History) → ℕ → List Entry → List EndFacts → List EndFacts → Type 0
+MeansForEnds (Ok totals) options begun batches kept before after =
+    HaveShapes options kept × HasNoEndFault before after × (TellAll before → ServesAll options begun batches totals kept before after)
+MeansForEnds (Err Net) options begun batches kept before after =
+    (kept ≡ []) × StopsSome batches before after × (TellAll before → StopsBeside options begun batches before after)
+MeansForEnds (Err NoMemory) options begun batches kept before after = kept ≡ []
 
 -- the fronts were served, beside each other
-pub record ServesFronts (options : Options) (batches : ℕ) (answer : Result Totals ServeFault) (kept : List Entry) (before after : List EndFacts)
+pub record ServesFronts (options : Options) (origin : ℕ → History) (batches : ℕ) (answer : Result Totals ServeFault) (kept : List Entry) (before after : List EndFacts)
     : Type 0 where
   pub many : length after ≡ length before
   pub keeps : (i : ℕ) (b a : EndFacts) → slice_get before i ≡ Some b → slice_get after i ≡ Some a → KeepsEnd b a
   pub begun : TellAll before → BeginsEnds batches before after
-  pub means : MeansForEnds answer options batches kept before after
+  pub means : MeansForEnds answer options origin batches kept before after

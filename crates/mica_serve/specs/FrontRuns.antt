@@ -2,7 +2,7 @@
 use Rattle.std.specs.Prelude.{false, ◌≡◌, ◌≢◌, ◌+◌, ◌<◌, ◌≤◌, ℕ, true, List, ◌++◌, map, length, slice_get, Some, sum_by, Result, Ok, Err}
 use Rattle.mica_io.specs.Faults.{Rose}
 use Rattle.partition_model.specs.declared.options.Options.{Options}
-use Rattle.partition_model.specs.History.{IsPrefix}
+use Rattle.partition_model.specs.History.{History, IsPrefix}
 use Rattle.partition_model.specs.Run.{RunStep}
 use Rattle.partition_table.specs.declared.tables.Entry.{Entry}
 use Rattle.mica_fronts.specs.declared.totals.Totals.{Totals}
@@ -49,28 +49,29 @@ abbrev pub closed_in : ℕ → FrontRun → ℕ
 closed_in p run = closed_of (run.new p).told
 
 -- The owners took in all that a front had in hand: its seats, its jobs and the answers that it took.
-pub record IsTakenIn (options : Options) (runs : ℕ → List Placed) (f : ℕ) (run : FrontRun) : Type 0 where
+pub record IsTakenIn (options : Options) (begun : ℕ → History) (runs : ℕ → List Placed) (f : ℕ) (run : FrontRun) : Type 0 where
   pub starts : (p : ℕ) → p < options.partitions → (told : Told) × ((run.old p).told ≡ Some told) × IsUntold told
-  pub seen : (p : ℕ) → p < options.partitions → IsPrefix (run.new p).seen (history_in (runs p))
+  pub began : (p : ℕ) → p < options.partitions → (run.old p).seen ≡ begun p
+  pub seen : (p : ℕ) → p < options.partitions → IsPrefix (run.new p).seen (begun p ++ history_in (runs p))
   pub took : (p : ℕ) (told : Told) → p < options.partitions → (run.new p).told ≡ Some told
       → (later : List RunStep) × (steps_by f (runs p) ≡ map (λ a. a.step) told.acks ++ later)
   pub sent : total_below options.partitions (λ p. length (steps_by f (runs p))) + run.left_after ≤ run.left
 
 -- the owners took in all fronts, and these are the seats that they may leave
-pub record AreTakenIn (options : Options) (fronts : List FrontRun) (kept : List Entry) : Type 0 where
+pub record AreTakenIn (options : Options) (begun : ℕ → History) (fronts : List FrontRun) (kept : List Entry) : Type 0 where
   pub runs : ℕ → List Placed
-  pub ran : RunsPartitions options (length fronts) runs
-  pub each : (f : ℕ) (run : FrontRun) → slice_get fronts f ≡ Some run → IsTakenIn options runs f run
+  pub ran : RunsPartitions options begun (length fronts) runs
+  pub each : (f : ℕ) (run : FrontRun) → slice_get fronts f ≡ Some run → IsTakenIn options begun runs f run
   pub shapes : HaveShapes options kept
-  pub history : (p : ℕ) (entry : Entry) → slice_get kept p ≡ Some entry → entry.history ≡ history_in (runs p)
+  pub history : (p : ℕ) (entry : Entry) → slice_get kept p ≡ Some entry → entry.history ≡ begun p ++ history_in (runs p)
   pub closed : (p : ℕ) (entry : Entry) → slice_get kept p ≡ Some entry → entry.closed ≡ sum_by (closed_in p) fronts
 
 -- the workers of a server ran, and their owners took in all fronts
-pub record RanAll (options : Options) (batches : ℕ) (kept : List Entry) (answers : List (Result Totals ServeFault)) (before after : List EndFacts) : Type 0 where
+pub record RanAll (options : Options) (begun : ℕ → History) (batches : ℕ) (kept : List Entry) (answers : List (Result Totals ServeFault)) (before after : List EndFacts) : Type 0 where
   pub fronts : List FrontRun
   pub answers_are : answers ≡ map (λ r. r.answer) fronts
   pub run : RunFronts options batches fronts before after
-  pub taken : AreTakenIn options fronts kept
+  pub taken : AreTakenIn options begun fronts kept
 
 -- the totals of all
 abbrev pub sum_of_totals : List Totals → Totals

@@ -1,4 +1,5 @@
 pub mod PortOptions
+pub mod Filled
 pub mod Served
 pub mod Beside
 pub mod Ends

@@ -3,12 +3,19 @@ use Rattle.std.specs.Prelude.{◌≡◌, ◌≢◌, ◌+◌, ◌⊎◌, ℕ, ◌
 use Rattle.mica_io.specs.Ports.{Ports, out}
 use Rattle.mica_io.specs.Faults.{Rose, LAST_COUNT}
 use Rattle.partition_model.specs.declared.options.Options.{Options}
+use Rattle.partition_model.specs.declared.write.Write.{Write}
+use Rattle.partition_model.specs.History.{History, IsHistory}
 use Rattle.mica_serve.specs.declared.ports.Ports.{Ports as PortOptions}
+use Rattle.mica_serve.specs.declared.filling.OpenFault.{OpenFault}
+use Rattle.mica_serve.specs.declared.filling.OpenFault.TheVariants as open_fault
+use Rattle.mica_serve.specs.declared.stop.Stop.{Stop}
+use Rattle.mica_serve.specs.declared.stop.Stop.TheVariants.{Refused, Unannounced, Fault}
 use Rattle.mica_fronts.specs.declared.totals.Totals.{Totals}
 use Rattle.mica_fronts.specs.declared.totals.ServeFault.{ServeFault}
 use Rattle.mica_fronts.specs.declared.totals.ServeFault.TheVariants.{Net, NoMemory}
 use Rattle.partition_table.specs.declared.tables.Entry.{Entry}
-use Rattle.mica_serve.specs.Served.{Serves, StopsShort, BeginsPorts}
+use Rattle.mica_serve.specs.Filled.{begun_by, RefusesFilling}
+use Rattle.mica_serve.specs.Served.{Serves, StopsShort, BeginsPorts, LeavesUnserved}
 use Rattle.mica_serve.specs.Beside.{ServesOnTables, HaveShapes}
 use Rattle.mica_serve.specs.Ends.{EndFacts, AreNewEnds, BindsEnds, ReleasesEnds, KeepsEnd, TellAll, BeginsEnds, MeansForEnds}
 
@@ -43,8 +50,8 @@ abbrev pub HasNoFault : NetFacts → NetFacts → Type 0
 HasNoFault before after = IfSome before.ports (λ _. IfSome before.fails (λ _. after.faults ≡ before.faults))
 
 -- the fronts served, and the totals count what they did
-pub record HasServed (options : Options) (ports : PortOptions) (totals : Totals) (before after : NetFacts) : Type 0 where
-  pub served : OnPorts (Serves options ports totals) before.ports after.ports
+pub record HasServed (options : Options) (begun : ℕ → History) (ports : PortOptions) (totals : Totals) (before after : NetFacts) : Type 0 where
+  pub served : OnPorts (Serves options begun ports totals) before.ports after.ports
   pub no_fault : HasNoFault before after
 
 -- where the net tells its failing binds beforehand, its count rose by so many, as far as it can count
@@ -52,21 +59,41 @@ abbrev pub CountsFaults : NetFacts → NetFacts → ℕ → Type 0
 CountsFaults before after faults = is_some before.fails ≡ true → min after.faults LAST_COUNT ≡ min (before.faults + faults) LAST_COUNT
 
 -- A fault of the net stopped a front or a bind. What was answered until then is lawful.
-pub record HasStopped (options : Options) (ports : PortOptions) (before after : NetFacts) : Type 0 where
+pub record HasStopped (options : Options) (begun : ℕ → History) (ports : PortOptions) (before after : NetFacts) : Type 0 where
   pub rose : Rose before.faults after.faults
-  pub stopped : OnPorts (StopsShort options ports (before.refused < after.refused) (CountsFaults before after)) before.ports after.ports
+  pub stopped : OnPorts (StopsShort options begun ports (before.refused < after.refused) (CountsFaults before after)) before.ports after.ports
 
 -- the fronts served, the totals count what they did, and these are the tables of their partitions
-pub record HasServedOnTables (options : Options) (ports : PortOptions) (totals : Totals) (kept : List Entry) (before after : NetFacts) : Type 0 where
-  pub served : OnPorts (ServesOnTables options ports totals kept) before.ports after.ports
+pub record HasServedOnTables (options : Options) (begun : ℕ → History) (ports : PortOptions) (totals : Totals) (kept : List Entry) (before after : NetFacts) : Type 0 where
+  pub served : OnPorts (ServesOnTables options begun ports totals kept) before.ports after.ports
   pub no_fault : HasNoFault before after
   pub shapes : HaveShapes options kept
 
 -- What each answer says of the net and of the tables that are kept. Want of memory says nothing more of the net than `KeepsNet`.
-abbrev pub IsCauseOf : Result Totals ServeFault → Options → PortOptions → List Entry → NetFacts → NetFacts → Type 0
-IsCauseOf (Ok totals) options ports kept before after = HasServedOnTables options ports totals kept before after
-IsCauseOf (Err Net) options ports kept before after = (kept ≡ []) × HasStopped options ports before after
-IsCauseOf (Err NoMemory) options ports kept before after = kept ≡ []
+abbrev pub IsCauseOf : Result Totals ServeFault → Options → (ℕ → History) → PortOptions → List Entry → NetFacts → NetFacts → Type 0
+IsCauseOf (Ok totals) options begun ports kept before after = HasServedOnTables options begun ports totals kept before after
+IsCauseOf (Err Net) options begun ports kept before after = (kept ≡ []) × HasStopped options begun ports before after
+IsCauseOf (Err NoMemory) options begun ports kept before after = kept ≡ []
+
+-- What each answer says of a server whose partitions these writes filled. One that stopped before it served has bound nothing, or received nothing.
+abbrev pub IsCauseOfStop : Result Totals Stop → Options → List Write → PortOptions → List Entry → NetFacts → NetFacts → Type 0
+IsCauseOfStop (Ok totals) options writes ports kept before after = IsCauseOf (Ok totals) options (begun_by options writes) ports kept before after
+IsCauseOfStop (Err (Fault fault)) options writes ports kept before after = IsCauseOf (Err fault) options (begun_by options writes) ports kept before after
+IsCauseOfStop (Err Refused) options writes ports kept before after = (kept ≡ []) × (after ≡ before) × RefusesFilling options writes
+IsCauseOfStop (Err Unannounced) options writes ports kept before after = (kept ≡ []) × OnPorts (LeavesUnserved ports) before.ports after.ports
+
+-- the answer where the partitions could not be made and filled
+abbrev pub stop_of : OpenFault → Stop
+stop_of open_fault.Refused = Refused
+stop_of open_fault.NoMemory = Fault NoMemory
+
+-- What became of the announcement. It was made once all ports were bound, and before any datagram was received.
+abbrev pub HasAnnounced : {A : Type 0} → (A → A → Type 0) → (A → A → Type 0) → Result Totals Stop → NetFacts → NetFacts → A → A → Type 0
+HasAnnounced says fails (Ok totals) before after old new = says old new
+HasAnnounced says fails (Err Refused) before after old new = new ≡ old
+HasAnnounced says fails (Err Unannounced) before after old new = fails old new
+HasAnnounced says fails (Err (Fault Net)) before after old new = ((before.refused < after.refused) × (new ≡ old)) ⊎ says old new
+HasAnnounced says fails (Err (Fault NoMemory)) before after old new = (new ≡ old) ⊎ says old new
 
 -- no end is out that was not out before, and only ports of fronts changed
 pub record ReleasesAll (ports : PortOptions) (before after : Ports) : Type 0 where
@@ -88,22 +115,25 @@ pub record FailsToBind (before after : NetFacts) (olds news : List EndFacts) : T
   pub untouched : news ≡ olds
 
 -- what each answer says, once the ends were bound; want of memory says nothing but that no table is kept
-abbrev pub MeansForRun : Result Totals ServeFault → Options → PortOptions → List Entry → NetFacts → NetFacts → List EndFacts → List EndFacts → Type 0
-MeansForRun (Ok totals) options ports kept before after olds news =
+abbrev pub MeansForRun : Result Totals Stop → Options → (ℕ → History) → PortOptions → List Entry → NetFacts → NetFacts → List EndFacts → List EndFacts → Type 0
+MeansForRun (Ok totals) options begun ports kept before after olds news =
     (length olds ≡ ports.fronts) × (is_some before.fails ≡ true → after.faults ≡ before.faults)
-    × MeansForEnds (Ok totals) options ports.batches kept olds news
-MeansForRun (Err Net) options ports kept before after olds news =
+    × MeansForEnds (Ok totals) options begun ports.batches kept olds news
+MeansForRun (Err (Fault Net)) options begun ports kept before after olds news =
     (FailsToBind before after olds news × (kept ≡ []))
     ⊎ ((length olds ≡ ports.fronts) × (is_some before.fails ≡ true → after.faults ≡ before.faults)
-    × MeansForEnds (Err Net) options ports.batches kept olds news)
-MeansForRun (Err NoMemory) options ports kept before after olds news = kept ≡ []
+    × MeansForEnds (Err Net) options begun ports.batches kept olds news)
+MeansForRun (Err (Fault NoMemory)) options begun ports kept before after olds news = kept ≡ []
+MeansForRun (Err Unannounced) options begun ports kept before after olds news = (length olds ≡ ports.fronts) × (news ≡ olds) × (kept ≡ [])
+MeansForRun (Err Refused) options begun ports kept before after olds news = ⊥
 
 -- The ports were bound, up to the first bind that failed, and the fronts served; these ends are left to be released.
-pub record BindsAndServes (options : Options) (ports : PortOptions) (answer : Result Totals ServeFault) (kept : List Entry)
+pub record BindsAndServes (options : Options) (origin : ℕ → History) (ports : PortOptions) (answer : Result Totals Stop) (kept : List Entry)
     (before after : NetFacts) (news : List EndFacts) : Type 0 where
   pub olds : List EndFacts
   pub are_new : AreNewEnds ports.port olds
   pub bound : OnPorts (BindsEnds ports.port olds) before.ports after.ports
+  pub filled : (p : ℕ) → p < options.partitions → IsHistory options (origin p)
   pub within : length olds ≤ ports.fronts
   pub many : length news ≡ length olds
   pub keeps : (i : ℕ) (b a : EndFacts) → slice_get olds i ≡ Some b → slice_get news i ≡ Some a → KeepsEnd b a
@@ -112,7 +142,7 @@ pub record BindsAndServes (options : Options) (ports : PortOptions) (answer : Re
   pub binds : after.binds ≤ ports.fronts
   pub first : 0 < after.binds → after.first ≡ ports.port
   pub begun : TellAll olds → BeginsEnds ports.batches olds news
-  pub means : MeansForRun answer options ports kept before after olds news
+  pub means : MeansForRun answer options origin ports kept before after olds news
 
 -- the ends were released, and the net tells what they tell
 pub record ReleasesNet (first : ℕ) (ends : List EndFacts) (before after : NetFacts) : Type 0 where

@@ -4,8 +4,8 @@ use Rattle.std.specs.List.{AllZip}
 use Rattle.mica_io.specs.Traffic.{Datagram, Traffic, EndScript}
 use Rattle.mica_io.specs.Ports.{Port, Ports, waiting, back, is_waiting}
 use Rattle.partition_model.specs.declared.options.Options.{Options}
-use Rattle.partition_model.specs.History.{History, IsPrefix, stamp_of, answer_of}
-use Rattle.partition_model.specs.Run.{RunStep, IsRun}
+use Rattle.partition_model.specs.History.{History, IsHistory, IsPrefix, stamp_of, answer_of}
+use Rattle.partition_model.specs.Run.{RunStep, IsRunFrom}
 use Rattle.mica_serve.specs.declared.ports.Ports.{Ports as PortOptions}
 use Rattle.mica_fronts.specs.declared.totals.Totals.{Totals}
 use Rattle.mica_fronts.specs.Turn.{Turn, Accepts, write_in, turns_of, writes_of, gets_of, write_reply, get_reply}
@@ -34,17 +34,20 @@ pub record RepliesStep (turn : Turn) (step : RunStep) : Type 0 where
   pub write : write_in turn.request ≡ Some step.write
   pub reply : turn.reply ≡ write_reply turn.request.ticket step.outcome step.stamp
 
--- The writes of all fronts to a partition are one run of its machine, in which those of each front stand in the order of its requests.
-pub record ServesWrites (options : Options) (partition : ℕ) (fronts : List (List Turn)) (placed : List Placed) : Type 0 where
-  pub run : IsRun options (steps_in placed)
+-- The partition's machine accepted what it began with. The writes of all fronts are one run of it from there, in which those of each front stand in
+-- the order of its requests.
+pub record ServesWrites (options : Options) (begun : History) (partition : ℕ) (fronts : List (List Turn)) (placed : List Placed) : Type 0 where
+  pub filled : IsHistory options begun
+  pub run : IsRunFrom options begun (steps_in placed)
   pub each : (f : ℕ) (turns : List Turn) → slice_get fronts f ≡ Some turns
       → AllZip RepliesStep (writes_of options partition turns) (steps_by f placed)
   pub no_others : All (λ q. q.front < length fronts) placed
 
--- a get is answered as of a beginning of the history
-pub record ServesGet (options : Options) (history : History) (turn : Turn) : Type 0 where
+-- a get is answered as of a beginning of the history, with all that its partition began with
+pub record ServesGet (options : Options) (begun history : History) (turn : Turn) : Type 0 where
   pub cut : History
   pub begins : IsPrefix cut history
+  pub filled : IsPrefix begun cut
   pub reply : turn.reply
       ≡ get_reply turn.version turn.request.ticket (stamp_of options cut) (answer_of options cut turn.request.key)
 
@@ -56,27 +59,28 @@ NoFall earlier later =
 
 -- All fronts
 
--- The writes of all fronts are one run of each partition's machine, each get is its answer, and the stamps replied to each front never fall there.
-pub record AnswersLawfully (options : Options) (fronts : List (List Turn)) (runs : ℕ → List Placed) : Type 0 where
-  pub writes : (p : ℕ) → p < options.partitions → ServesWrites options p fronts (runs p)
+-- The writes of all fronts are one run of each partition's machine, from what it began with, each get is its answer, and the stamps replied to each
+-- front never fall there.
+pub record AnswersLawfully (options : Options) (begun : ℕ → History) (fronts : List (List Turn)) (runs : ℕ → List Placed) : Type 0 where
+  pub writes : (p : ℕ) → p < options.partitions → ServesWrites options (begun p) p fronts (runs p)
   pub gets : (p f : ℕ) (turns : List Turn) → p < options.partitions → slice_get fronts f ≡ Some turns
-      → All (ServesGet options (history_in (runs p))) (gets_of options p turns)
+      → All (ServesGet options (begun p) (begun p ++ history_in (runs p))) (gets_of options p turns)
   pub order : (p f : ℕ) (turns : List Turn) → p < options.partitions → slice_get fronts f ≡ Some turns
       → AllPairs NoFall (turns_of options p turns)
 
 -- What the ports of a net tell before and after, what each front made of its datagrams, and a run of each partition's machine.
-pub record Served (options : Options) (ports : PortOptions) (before after : Ports) (fronts : List (List Dealing)) (runs : ℕ → List Placed)
+pub record Served (options : Options) (begun : ℕ → History) (ports : PortOptions) (before after : Ports) (fronts : List (List Dealing)) (runs : ℕ → List Placed)
     : Type 0 where
   pub many : length fronts ≡ ports.fronts
   pub datagrams : (f : ℕ) (dealings : List Dealing) → slice_get fronts f ≡ Some dealings
       → ServesPort ports.batches (before (ports.port + f)) (after (ports.port + f)) dealings
-  pub answered : AnswersLawfully options (map turns_in fronts) runs
+  pub answered : AnswersLawfully options begun (map turns_in fronts) runs
 
 -- the fronts served, and the totals count what they did
-pub record Serves (options : Options) (ports : PortOptions) (totals : Totals) (before after : Ports) : Type 0 where
+pub record Serves (options : Options) (begun : ℕ → History) (ports : PortOptions) (totals : Totals) (before after : Ports) : Type 0 where
   pub fronts : List (List Dealing)
   pub runs : ℕ → List Placed
-  pub served : Served options ports before after fronts runs
+  pub served : Served options begun ports before after fronts runs
   pub counted : Counts fronts totals
 
 -- Where a fault came
@@ -98,6 +102,11 @@ abbrev pub LeavesPort : ℕ → Port → Port → List Dealing → List Datagram
 LeavesPort batches before after dealings unread =
     ((after ≡ before) × (dealings ≡ []) × (unread ≡ []))
     ⊎ ((traffic : Traffic) × (ended : Bool) × (after ≡ back traffic ended) × BeginsPort batches before traffic dealings unread)
+
+-- nothing was received at the port of any front, and nothing was sent
+abbrev pub LeavesUnserved : PortOptions → Ports → Ports → Type 0
+LeavesUnserved ports before after =
+    (f : ℕ) → f < ports.fronts → LeavesPort ports.batches (before (ports.port + f)) (after (ports.port + f)) [] []
 
 -- what was sent from each port is a beginning of what is due to what came there, of which one datagram at most is unread
 abbrev pub BeginsPorts : PortOptions → Ports → Ports → Type 0
@@ -135,12 +144,12 @@ pub record BlamesFronts (ports : PortOptions) (counts : ℕ → Type 0) (fronts 
 
 -- Each front began its port with these dealings, and all that was answered is lawful. A bind failed, or some front is not through, and each that
 -- is not had a fault of its own.
-pub record StopsShort (options : Options) (ports : PortOptions) (bind_failed : Type 0) (counts : ℕ → Type 0) (before after : Ports) : Type 0 where
+pub record StopsShort (options : Options) (begun : ℕ → History) (ports : PortOptions) (bind_failed : Type 0) (counts : ℕ → Type 0) (before after : Ports) : Type 0 where
   pub fronts : List (List Dealing)
   pub runs : ℕ → List Placed
   pub many : length fronts ≡ ports.fronts
   pub each : (f : ℕ) (dealings : List Dealing) → slice_get fronts f ≡ Some dealings
       → LeavesPort ports.batches (before (ports.port + f)) (after (ports.port + f)) dealings []
-  pub answered : AnswersLawfully options (map turns_in fronts) runs
+  pub answered : AnswersLawfully options begun (map turns_in fronts) runs
   pub some : bind_failed ⊎ ((f : ℕ) × (f < ports.fronts) × IsStopped ports.batches (before (ports.port + f)) (after (ports.port + f)))
   pub blamed : bind_failed ⊎ BlamesFronts ports counts fronts after

@@ -13,10 +13,11 @@ use Rattle.mica_serve.specs.declared.running.Room.{Room}
 use Rattle.mica_serve.specs.declared.running.Server.{Server}
 use Rattle.mica_serve.specs.declared.ports.Ports.{Ports}
 use Rattle.partition_model.specs.declared.options.Options.{Options}
+use Rattle.partition_model.specs.History.{History}
 use Rattle.mica_fronts.specs.QueueFront.{QueueView, IsQueueFront, stand_of, sessions_of, ended_part}
 use Rattle.mica_serve.specs.Ends.{EndFacts}
 use Rattle.mica_serve.specs.FrontRuns.{RunsFront}
-use Rattle.mica_serve.specs.Hands.{OwnerEnd, IsReadyOwner, RanOwner, AreFrontsOf}
+use Rattle.mica_serve.specs.Hands.{OwnerEnd, begun_in, IsReadyOwner, RanOwner, AreFrontsOf}
 
 abbrev pub owner_end : {P : Type 0} → (P → OwnerState) → (P → TableId) → OwnerTask P → OwnerEnd
 owner_end owner home task = record { state = owner task.part; table = home task.part; jobs = task.jobs; acks = task.acks.items }
@@ -69,7 +70,11 @@ module _ {D : Type 0} where
     pub answers : (room.answers.items ≡ []) × (fronts ≤ vec_capacity room.answers)
 
 module _ {P D : Type 0} where
-  -- the owners as made, a front before them for each port, and room for all
+  -- what each partition of a server begins with
+  abbrev pub begun_with : (P → OwnerState) → (P → TableId) → Server P D → ℕ → History
+  begun_with owner home server = begun_in (map (owner_end owner home) server.owners.items)
+
+  -- the owners as filled, a front before them for each port, and room for all
   pub record IsServer (owner : P → OwnerState) (home : P → TableId) (options : Options) (ports : Ports) (server : Server P D) : Type 0 where
     pub made : AreFrontsOf options ports.fronts (255 * ports.batches) (map (owner_end owner home) server.owners.items) server.fronts.items
     pub room : IsRoom (length server.fronts.items) server.room

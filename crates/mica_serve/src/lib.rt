@@ -5,15 +5,20 @@
 //! replied stamp.
 #![tactic(auto)]
 
+mod announce;
 mod answers;
+mod filling;
 mod meeting;
 mod opening;
 mod ports;
 mod run;
 mod running;
+mod stop;
 mod tables;
 mod worker;
 
+pub use announce::Announce;
 pub use mica_fronts::{Front, MAX_BATCHES, QueueFront, ServeFault, SoloFront, Totals, serve_batch};
 pub use ports::Ports;
-pub use run::serve;
+pub use run::{serve, serve_filled};
+pub use stop::{Stop, Untold};

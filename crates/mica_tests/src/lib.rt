@@ -11,6 +11,8 @@ mod datagrams;
 #[cfg(test)]
 mod exclusive;
 #[cfg(test)]
+mod lasting;
+#[cfg(test)]
 mod meeting;
 #[cfg(test)]
 mod rounds;

@@ -21,7 +21,7 @@ pub struct End {
 }
 
 /// The words of a command line that are parted by one space.
-fn words_of(alloc: Global, line: &str) -> Result<Vec<String>, NoMemory> {
+pub fn words_of(alloc: Global, line: &str) -> Result<Vec<String>, NoMemory> {
     let mut words = Vec::new(alloc);
     if line.is_empty() {
         return Ok(words);

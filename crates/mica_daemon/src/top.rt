@@ -1,0 +1,123 @@
+//! The top call: from words to a server that stays up, and to its status.
+ghost use Rattle.std.specs.Prelude.{◌≡◌, [], map, string_bytes, Err};
+ghost use Rattle.partition_model.specs.Options.{IsValid};
+ghost use Rattle.mica_serve.specs.PortOptions.{IsValidPorts};
+ghost use Rattle.mica_serve.specs.declared.stop.Stop.TheVariants.{Fault};
+ghost use Rattle.mica_serve.specs.NetRun.{net_facts};
+ghost use Rattle.mica_commands.specs.DaemonWords.{daemon_of};
+ghost use Rattle.mica_cmd.specs.Outside.{sink_facts};
+ghost use Rattle.mica_daemon.specs.Daemon.{WritesLast, Serves, ServesOrNot, KeepsUp, outside, ready_text};
+
+use crate::speaker::{Speaker, ready_line};
+use mica_cmd::{Status, print_totals, write_due};
+use mica_commands::{WordsFault, read_daemon};
+use mica_io::{Gate, Net, NoMemory, Sink};
+use mica_serve::{Ports, ServeFault, Stop, serve_filled};
+use partition_model::Options;
+use partition_table::Tables;
+use std::alloc::Global;
+use std::sync::Wait;
+use std::thread::Threads;
+
+// Writes the line of a fault that stopped the server.
+fn write_fault<K: Sink>(fault: ServeFault, sink: &mut K) -> Status
+    ensures { WritesLast (Err (Fault fault)) (sink_facts K.taken K.faults sink.old) (sink_facts K.taken K.faults sink.new) result }
+{
+    match fault {
+        ServeFault::Net => write_due(sink, b"net fault\n", Status::NetFault),
+        ServeFault::NoMemory => Status::NoMemory,
+    }
+}
+
+// Serves, with the line to be written at hand.
+fn serve_aloud<W: Threads + Wait + Sync, K: Sink + Drop, N: Net, G: Gate>(
+    rt: &W,
+    alloc: Global,
+    options: &Options,
+    ports: &Ports,
+    speaker: &mut Speaker<K>,
+    net: &mut N,
+    gate: &G,
+    tables: &mut Tables,
+) -> Status
+    requires options { IsValid options.now }
+    requires ports { IsValidPorts ports.now }
+    requires line { string_bytes speaker.old.line ≡ ready_text ports.now }
+    requires unbound { N.binds net.old ≡ 0 }
+    requires tables { tables.old ≡ [] }
+    ensures { Serves options.now ports.now
+        (outside (sink_facts K.taken K.faults speaker.old.sink) (net_facts N.faults N.binds N.first N.refused N.ports N.fails net.old) tables.old)
+        (outside (sink_facts K.taken K.faults speaker.new.sink) (net_facts N.faults N.binds N.first N.refused N.ports N.fails net.new) tables.new)
+        result }
+{
+    match serve_filled(
+        rt,
+        alloc,
+        options,
+        ports,
+        Vec::new(alloc),
+        net,
+        gate,
+        tables,
+        speaker,
+    ) {
+        Ok(totals) => print_totals(alloc, totals, &mut speaker.sink),
+        Err(Stop::Fault(fault)) => write_fault(fault, &mut speaker.sink),
+        Err(Stop::Unannounced) => Status::WriteFault,
+        Err(Stop::Refused) => unreachable!(),
+    }
+}
+
+// Serves, where there is memory for the line.
+fn stay_up<W: Threads + Wait + Sync, K: Sink + Drop, N: Net, G: Gate>(
+    rt: &W,
+    alloc: Global,
+    options: &Options,
+    ports: &Ports,
+    speaker: &mut Speaker<K>,
+    net: &mut N,
+    gate: &G,
+    tables: &mut Tables,
+) -> Status
+    requires options { IsValid options.now }
+    requires ports { IsValidPorts ports.now }
+    requires unbound { N.binds net.old ≡ 0 }
+    requires tables { tables.old ≡ [] }
+    ensures { ServesOrNot options.now ports.now
+        (outside (sink_facts K.taken K.faults speaker.old.sink) (net_facts N.faults N.binds N.first N.refused N.ports N.fails net.old) tables.old)
+        (outside (sink_facts K.taken K.faults speaker.new.sink) (net_facts N.faults N.binds N.first N.refused N.ports N.fails net.new) tables.new)
+        result }
+{
+    match ready_line(alloc, ports) {
+        Ok(line) => {
+            speaker.line = line;
+            serve_aloud(rt, alloc, options, ports, speaker, net, gate, tables)
+        }
+        Err(NoMemory) => Status::NoMemory,
+    }
+}
+
+/// Serves the ports that the words give, each for as many datagrams as can be counted. It writes one line once all of them are
+/// bound, and one at its end.
+pub fn daemon<W: Threads + Wait + Sync, K: Sink + Drop, N: Net, G: Gate>(
+    rt: &W,
+    alloc: Global,
+    words: &[String],
+    speaker: &mut Speaker<K>,
+    net: &mut N,
+    gate: &G,
+    tables: &mut Tables,
+) -> Status
+    requires net { N.binds net.old ≡ 0 }
+    requires tables { tables.old ≡ [] }
+    ensures { KeepsUp (daemon_of (map string_bytes words.now))
+        (outside (sink_facts K.taken K.faults speaker.old.sink) (net_facts N.faults N.binds N.first N.refused N.ports N.fails net.old) tables.old)
+        (outside (sink_facts K.taken K.faults speaker.new.sink) (net_facts N.faults N.binds N.first N.refused N.ports N.fails net.new) tables.new)
+        result }
+{
+    match read_daemon(alloc, words) {
+        Ok((options, ports)) => stay_up(rt, alloc, &options, &ports, speaker, net, gate, tables),
+        Err(WordsFault::Usage) => write_due(&mut speaker.sink, b"usage\n", Status::Usage),
+        Err(WordsFault::NoMemory) => Status::NoMemory,
+    }
+}

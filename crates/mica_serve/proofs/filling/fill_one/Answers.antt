@@ -1,0 +1,19 @@
+use Rattle.std.proofs.Common.{◌≡◌, sym, ap, ◌∙◌}
+use Rattle.mica_words.specs.Hash.{fnv1a, hash_partition, partition_of}
+use Rattle.mica_words.proofs.Hashes.{partition_of_hash}
+use Rattle.mica_serve.proofs.filling.fill_one.Given as given
+use Rattle.mica_serve.proofs.filling.fill_one.Goals.{After-partition_of}
+use Rattle.mica_serve.proofs.filling.fill_one.Goals as goal
+
+-- the partition that the code finds is that of the key
+here : (g : given.Over) (c : After-partition_of g) → partition_of c.args.write.now.key c.args.options.now.partitions ≡ c.partition_of.result
+here g c =
+    partition_of_hash c.args.write.now.key c.args.options.now.partitions
+    ∙ ap (λ h. hash_partition h c.args.options.now.partitions) (sym (c.key_hash.ensures ∙ ap fnv1a c.bytes.ensures)) ∙ sym c.partition_of.ensures
+
+pub returns-then-partition_of-number-clause-own : goal.returns-then-partition_of-number-clause-own
+returns-then-partition_of-number-clause-own g c is =
+    absurd (c.if-partition_of-number.true (sym (here g (goal.at.returns-then-partition_of-number-clause-own g c).After-partition_of) ∙ is))
+
+pub returns-clause-other : goal.returns-clause-other
+returns-clause-other g c differs = absurd (differs (here g (goal.at.returns-clause-other g c).After-partition_of ∙ c.if-partition_of-number.false))

@@ -1,0 +1,91 @@
+//! The filling of partitions, before any front is lent a part.
+ghost use Rattle.std.specs.Prelude.{◌≡◌, ◌≢◌, true, All, OnOk, OnErr};
+ghost use Rattle.mica_words.specs.Hash.{partition_of};
+ghost use Rattle.partition_model.specs.declared.write.Outcome.{Outcome};
+ghost use Rattle.partition_model.specs.Write.{IsWrite, is_accepted};
+ghost use Rattle.partition_model.specs.Options.{IsValid};
+ghost use Rattle.epoch_core.specs.OwnerState.{as_made};
+ghost use Rattle.epoch_core.specs.Shape.{shape_of};
+ghost use Rattle.epoch_core.specs.OwnerStep.{IsOwnerStep};
+ghost use Rattle.mica_serve.specs.Filled.{RefusesFilling, IsFilledOwner, begun_by};
+
+use epoch_core::Partition;
+use mica_io::NoMemory;
+use mica_words::{key_hash, partition_of};
+use owner_queue::apply_write;
+use partition_model::{Options, Write};
+use std::alloc::{AllocError, AllocFailed};
+
+/// Why the partitions could not be made and filled.
+#[derive(Clone, Copy, Debug, PartialEq, Eq)]
+pub enum OpenFault {
+    /// A write was refused.
+    Refused,
+    NoMemory,
+}
+
+impl From<NoMemory> for OpenFault {
+    ghost use Rattle.mica_serve.specs.declared.filling.OpenFault.TheVariants.{NoMemory};
+
+    ghost from_gives = { λ _ e. e ≡ NoMemory };
+
+    fn from(_: NoMemory) -> Self {
+        OpenFault::NoMemory
+    }
+}
+
+impl From<AllocError> for OpenFault {
+    ghost use Rattle.mica_serve.specs.declared.filling.OpenFault.TheVariants.{NoMemory};
+
+    ghost from_gives = { λ _ e. e ≡ NoMemory };
+
+    fn from(_: AllocError) -> Self {
+        OpenFault::NoMemory
+    }
+}
+
+impl<T: Drop> From<AllocFailed<T>> for OpenFault {
+    ghost use Rattle.mica_serve.specs.declared.filling.OpenFault.TheVariants.{NoMemory};
+
+    ghost from_gives = { λ _ e. e ≡ NoMemory };
+
+    fn from(_: AllocFailed<T>) -> Self {
+        OpenFault::NoMemory
+    }
+}
+
+// Does the write in the partition, where it is to one of its keys, and says whether it was not refused.
+fn fill_one<P: Partition>(part: &mut P, options: &Options, number: u32, write: &Write) -> bool
+    requires valid { IsValid options.now }
+    requires write { IsWrite write.now }
+    ensures own { partition_of write.now.key options.now.partitions ≡ number
+        → (outcome : Outcome) × (is_accepted outcome ≡ result) × IsOwnerStep (P.owner part.old) (P.owner part.new) write.now outcome }
+    ensures other { partition_of write.now.key options.now.partitions ≢ number → (result ≡ true) × (P.owner part.new ≡ P.owner part.old) }
+{
+    if partition_of(key_hash(write.key.bytes()), options.partitions) != number {
+        return true;
+    }
+    apply_write(part, write).is_accepted()
+}
+
+/// Does those of the writes in the partition that are to its keys, up to the first that is refused.
+pub(crate) fn fill<P: Partition>(
+    part: &mut P,
+    options: &Options,
+    number: u32,
+    filling: &[Write],
+) -> Result<(), OpenFault>
+    requires valid { IsValid options.now }
+    requires made { P.owner part.old ≡ as_made (shape_of options.now) }
+    requires writes { All IsWrite filling.now }
+    ensures filled { OnOk result (IsFilledOwner options.now (P.owner part.new)) }
+    ensures begun { OnOk result ((P.owner part.new).history ≡ begun_by options.now filling.now number) }
+    ensures refused { OnErr result (RefusesFilling options.now filling.now) }
+{
+    for write in filling {
+        if !fill_one(part, options, number, write) {
+            return Err(OpenFault::Refused);
+        }
+    }
+    Ok(())
+}

@@ -1,0 +1,76 @@
+//! Why a server stopped short.
+ghost use Rattle.std.specs.Prelude.{◌≡◌};
+
+use crate::filling::OpenFault;
+use mica_fronts::ServeFault;
+use mica_io::Failed;
+use std::alloc::AllocError;
+
+/// Why a server did not come to totals.
+#[derive(Clone, Copy, Debug, PartialEq, Eq)]
+pub enum Stop {
+    /// A write that was to fill its partition was refused. No port was bound.
+    Refused,
+    /// The ports were bound, and what was to be told then could not be told. Nothing was received.
+    Unannounced,
+    Fault(ServeFault),
+}
+
+/// What was to be told could not be told.
+#[derive(Clone, Copy, Debug, PartialEq, Eq)]
+pub struct Untold;
+
+impl From<Untold> for Stop {
+    ghost use Rattle.mica_serve.specs.declared.stop.Stop.TheVariants.{Unannounced};
+
+    ghost from_gives = { λ _ e. e ≡ Unannounced };
+
+    fn from(_: Untold) -> Self {
+        Stop::Unannounced
+    }
+}
+
+impl From<OpenFault> for Stop {
+    ghost use Rattle.mica_serve.specs.NetRun.{stop_of};
+
+    ghost from_gives = { λ fault e. e ≡ stop_of fault };
+
+    fn from(fault: OpenFault) -> Self {
+        match fault {
+            OpenFault::Refused => Stop::Refused,
+            OpenFault::NoMemory => Stop::Fault(ServeFault::NoMemory),
+        }
+    }
+}
+
+impl From<AllocError> for Stop {
+    ghost use Rattle.mica_fronts.specs.declared.totals.ServeFault.TheVariants.{NoMemory};
+    ghost use Rattle.mica_serve.specs.declared.stop.Stop.TheVariants.{Fault};
+
+    ghost from_gives = { λ _ e. e ≡ Fault NoMemory };
+
+    fn from(_: AllocError) -> Self {
+        Stop::Fault(ServeFault::NoMemory)
+    }
+}
+
+impl From<Failed> for Stop {
+    ghost use Rattle.mica_fronts.specs.declared.totals.ServeFault.TheVariants.{Net};
+    ghost use Rattle.mica_serve.specs.declared.stop.Stop.TheVariants.{Fault};
+
+    ghost from_gives = { λ _ e. e ≡ Fault Net };
+
+    fn from(_: Failed) -> Self {
+        Stop::Fault(ServeFault::Net)
+    }
+}
+
+impl From<ServeFault> for Stop {
+    ghost use Rattle.mica_serve.specs.declared.stop.Stop.TheVariants.{Fault};
+
+    ghost from_gives = { λ fault e. e ≡ Fault fault };
+
+    fn from(fault: ServeFault) -> Self {
+        Stop::Fault(fault)
+    }
+}

@@ -1,0 +1,9 @@
+//! The program that stays up: a server over standard output and UDP sockets of this machine.
+#![tactic(auto)]
+
+use mica_daemon::run_on_host;
+use std::process::ExitCode;
+
+fn main(rt: HostRuntime) -> ExitCode {
+    run_on_host(&rt)
+}
