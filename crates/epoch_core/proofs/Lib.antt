@@ -6,6 +6,7 @@ pub mod Marked
 pub mod Failing
 pub mod Spares
 pub mod Carried
+pub mod Differing
 pub mod Behind
 pub mod Counted
 pub mod Walks

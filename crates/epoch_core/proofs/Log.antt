@@ -8,7 +8,8 @@ use Rattle.partition_model.specs.Cache.{Cache, Record, record_of}
 use Rattle.partition_model.specs.CacheStep as cs
 use Rattle.partition_model.specs.History.{after, IsAcceptedAfter, IsHistory}
 use Rattle.partition_model.proofs.Histories.{last_accepted}
-use Rattle.partition_model.proofs.CacheLaws.{window, apart, own}
+use Rattle.partition_model.proofs.CacheKept.{after_kept}
+use Rattle.partition_model.proofs.CacheLaws.{accepted_fits, apart_kept, kept_in, own_kept, window_kept}
 use Rattle.epoch_core.proofs.Keys.{item_room}
 use Rattle.epoch_core.proofs.Machine.{all_parts, found_record, has_fits}
 use Rattle.epoch_core.proofs.Marked.{bit_else}
@@ -39,12 +40,15 @@ pub other_rooms : (options : Options) (history : History) → AllByRecursion IsW
     → (key : List ℕ) → key ≢ write.key → (r : Record) → record_of (cs.after options before write) key ≡ Some r
     → (i : ℕ) → i < r.room → (r.offset + i) % options.words ≢ p % options.words
 other_rooms options history writes write is accepted before at p item key differ r found i below same =
-    let mine = own options history writes write is accepted before at p item in
-    let there = window options history writes write is before at key r found in
-    let here = window options history writes write is before at write.key mine.0 mine.1 in
+    let was = kept_in options history writes before at in
+    let now = after_kept options before write is was in
+    let fits = accepted_fits options write before (state_of options history) at accepted.0 accepted.1 accepted.2 in
+    let mine = own_kept options before was write is fits p item in
+    let there = window_kept options (cs.after options before write) now key r found in
+    let here = window_kept options (cs.after options before write) now write.key mine.0 mine.1 in
     let one : r.offset + i ≡ p = one_place options.words (tail_of (cs.after options before write).stamp) (r.offset + i) p same
     (omega arith) (omega arith) (omega arith) (omega (arith, mine.3)) in
-    grind (arith, one, mine.2, mine.3, apart options history writes write is before at key write.key r mine.0 found mine.1 differ)
+    grind (arith, one, mine.2, mine.3, apart_kept options (cs.after options before write) now key write.key r mine.0 found mine.1 differ)
 
 pub log_spares : (o : OwnerState) → Kept o → LogSpares o
 log_spares o s b write history before c slot entry other p is at belongs l n h i =

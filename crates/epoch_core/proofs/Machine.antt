@@ -8,7 +8,7 @@ use Rattle.partition_model.specs.Cache.{Cache, Record, record_of}
 use Rattle.partition_model.specs.CacheStep as cs
 use Rattle.partition_model.specs.StoreStep as ss
 use Rattle.partition_model.specs.History.{after, stamp_in}
-use Rattle.partition_model.proofs.CacheLaws.{others_back, others_on, record_fits}
+use Rattle.partition_model.proofs.CacheLaws.{back_kept, fits_kept, kept_in, on_kept}
 use Rattle.partition_model.proofs.Rises.{stamp_rises}
 use Rattle.partition_model.proofs.StoreLaws.{cell_fits, others_same}
 use Rattle.epoch_core.proofs.Vocabulary.{Cache as CacheMode, Store as StoreMode}
@@ -44,7 +44,7 @@ has_fits options history writes key cell p h = by_state (state_of options histor
     by_state : (now : State) → state_of options history ≡ now → Has now key cell p → Fits key cell
     by_state (cache_state s) at h =
         let found = found_record (record_of s key) cell p h in
-        subst (Fits key) (sym found.3) (record_fits options history writes s at key found.0 found.1)
+        subst (Fits key) (sym found.3) (fits_kept options s (kept_in options history writes s at) key found.0 found.1)
     by_state (store_state s) at h = cell_fits options history writes s at key cell h
 
 -- What the machine has of a bucket's keys stays as a history goes on: where the log has not passed it, it has the same.
@@ -77,7 +77,7 @@ module _ (options : Options) (history : History) (writes : AllByRecursion IsWrit
         let has = rw at.1 at h in
         let found = found_record (record_of at.0 key) cell p has in
         let stamp = ap stamp_in now in
-        let there = others_on options history writes write is at.0 at.1 key (λ e. apart (sym same ∙ e)) found.0 found.1 (omega (arith, stamp, found.2)) in
+        let there = on_kept options at.0 (kept_in options history writes at.0 at.1) write is key (λ e. apart (sym same ∙ e)) found.0 found.1 (omega (arith, stamp, found.2)) in
         rw now (ap (option_map cell_at) (there ∙ sym found.1) ∙ has);
     live_on = λ key cell p q same h i live.
         let before = had key cell p same (rw now at h) in
@@ -96,7 +96,7 @@ module _ (options : Options) (history : History) (writes : AllByRecursion IsWrit
           → Has (cache_state at.0) key cell p × IsLiveItem CacheMode options.words (stamp_of options more) p
       had key cell p same h =
           let found = found_record (record_of (cs.after options at.0 write) key) cell p h in
-          let before = others_back options history writes write is at.0 at.1 key (λ e. apart (sym same ∙ e)) found.0 found.1 in
+          let before = back_kept options at.0 (kept_in options history writes at.0 at.1) write is key (λ e. apart (sym same ∙ e)) found.0 found.1 in
           (ap (option_map cell_at) (before.0 ∙ sym found.1) ∙ h, omega (arith, ap stamp_in now, found.2, before.1))
   by_mode StoreMode mode =
       let at = stored_in options mode history in

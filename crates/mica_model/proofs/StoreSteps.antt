@@ -14,7 +14,8 @@ use Rattle.partition_model.specs.Write.{GivesValue, write_of}
 use Rattle.partition_model.specs.Store.{Cell, Store, room_of, rooms, keys_in, spares_in_use}
 use Rattle.partition_model.specs.StoreStep.{FitsRoom, NeedsBlock, HasWords, room_after, after_put, after}
 use Rattle.partition_model.proofs.CellSums.{rooms_insert, rooms_remove, remove_none}
-use Rattle.partition_model.proofs.BucketSums.{new_spares, over_spares, less_spares, less_here}
+use Rattle.partition_model.proofs.BucketSums.{less_here}
+use Rattle.mica_model.proofs.SparesInUse.{new_spares, over_spares, less_spares}
 
 room_is : (o : Option Cell) (size : ℕ) → room_after o size ≡ max (room_of o) size
 room_is None size = omega arith

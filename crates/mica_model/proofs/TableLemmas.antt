@@ -18,8 +18,9 @@ use Rattle.partition_model.specs.Store.{Cell, Cells, room_of, rooms, keys_in, sp
 use Rattle.mica_model.specs.CellTable.{Table, cell_of}
 use Rattle.mica_model.specs.CellTableFields.{entries_of, cells_of, table_of, HasCounts, IsTable}
 use Rattle.mica_model.proofs.CellEntries.{by_items, has_bytes, sorted_entries, get_cell, put_cell, removed_cell}
-use Rattle.partition_model.proofs.CellSums.{by_bytes, rooms_insert, rooms_remove, keys_over, spares_among}
-use Rattle.partition_model.proofs.BucketSums.{new_here, new_others, new_spares, over_spares, less_here, less_others, less_spares}
+use Rattle.partition_model.proofs.CellSums.{by_bytes, rooms_insert, rooms_remove, keys_over}
+use Rattle.partition_model.proofs.BucketSums.{new_here, new_others, less_here, less_others}
+use Rattle.mica_model.proofs.SparesInUse.{spares_among, new_spares, over_spares, less_spares}
 
 -- one bucket has another number of keys
 counts_change : (buckets : ℕ) (counts : List ℕ) (m n : Cells) (bucket k : ℕ) → length counts ≡ buckets → bucket < buckets

@@ -9,7 +9,7 @@ use Rattle.partition_model.specs.declared.write.Write.{Write}
 use Rattle.partition_model.specs.Write.{GivesValue}
 use Rattle.partition_model.specs.History.{History, State, IsPrefix, MayGive, after, start, state_of}
 use Rattle.partition_model.specs.Run.{RunStep, accepted_write, history_of, IsRunFrom}
-use Rattle.partition_model.proofs.Values.{ValuesAre, start_are, after_are, value_is}
+use Rattle.mica_trace.proofs.Values.{ValuesAre, start_are, after_are, value_is}
 use Rattle.mica_trace.specs.declared.line.TraceOp.{TraceOp}
 use Rattle.mica_trace.specs.declared.line.TraceOp.TheVariants.{Put, Add, Del, Touch, Get, Sync}
 use Rattle.mica_trace.specs.declared.line.TraceLine.{TraceLine}

@@ -1,11 +1,11 @@
--- What a put and a removal make of how many keys each bucket has, and of the spares in use.
+-- What a put and a removal make of how many keys each bucket has.
 use Rattle.std.proofs.Common.{◌≡◌, ◌≢◌, ℕ, ◌+◌, ◌<◌, List, Some, None, sym, ap, ◌∙◌, arith, cond, eq-eqb}
 use Rattle.std.specs.Prelude.{nat_eq}
 use Rattle.std.specs.FinMap.{get, insert, remove}
 use Rattle.std.proofs.lemmas.Grind.{common_steps}
 use Rattle.mica_words.specs.Hash.{bucket_of}
-use Rattle.partition_model.specs.Store.{Cell, Cells, keys_in, spares_behind, spares_in_use}
-use Rattle.partition_model.proofs.CellSums.{keys_over, keys_new, keys_less, same_spares, spares_change}
+use Rattle.partition_model.specs.Store.{Cell, Cells, keys_in}
+use Rattle.partition_model.proofs.CellSums.{keys_new, keys_less}
 
 own : (bucket here : ℕ) → bucket ≡ here → cond {A = ℕ} (nat_eq here bucket) 1 0 ≡ 1
 own bucket here is = ap (λ b. cond {A = ℕ} b 1 0) (eq-eqb here bucket (sym is))
@@ -23,9 +23,6 @@ module _ (buckets bucket : ℕ) (m : Cells) (key : List ℕ) (is : bucket ≡ bu
     pub new_others : (other : ℕ) → other ≢ bucket → keys_in buckets other (insert m key cell) ≡ keys_in buckets other m
     new_others other apart = grind (arith, common_steps, keys_new buckets other m key cell new, other_one bucket _ other is apart)
 
-    pub new_spares : spares_in_use buckets (insert m key cell) + spares_behind (keys_in buckets bucket m) ≡ spares_in_use buckets m + spares_behind (keys_in buckets bucket m + 1)
-    new_spares = spares_change buckets bucket m (insert m key cell) new_others buckets within ∙ ap (λ k. spares_in_use buckets m + spares_behind k) new_here
-
   -- a key that had a cell
   module _ (old : Cell) (had : get m key ≡ Some old) where
     pub less_here : keys_in buckets bucket m ≡ keys_in buckets bucket (remove m key) + 1
@@ -33,11 +30,3 @@ module _ (buckets bucket : ℕ) (m : Cells) (key : List ℕ) (is : bucket ≡ bu
 
     pub less_others : (other : ℕ) → other ≢ bucket → keys_in buckets other (remove m key) ≡ keys_in buckets other m
     less_others other apart = grind (arith, common_steps, keys_less buckets other m key old had, other_one bucket _ other is apart)
-
-    pub less_spares : spares_in_use buckets (remove m key) + spares_behind (keys_in buckets bucket m) ≡ spares_in_use buckets m + spares_behind (keys_in buckets bucket (remove m key))
-    less_spares = spares_change buckets bucket m (remove m key) less_others buckets within
-
--- another cell for a key that has one
-module _ (buckets : ℕ) (m : Cells) (key : List ℕ) (old cell : Cell) (had : get m key ≡ Some old) where
-  pub over_spares : spares_in_use buckets (insert m key cell) ≡ spares_in_use buckets m
-  over_spares = same_spares buckets buckets m (insert m key cell) (λ other _. keys_over buckets other m key old cell had) buckets (omega arith)

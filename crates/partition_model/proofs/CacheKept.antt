@@ -56,10 +56,7 @@ none_fits : (value : List ℕ) → value ≡ [] → ValueFits value
 none_fits value none = let empty : length value ≡ 0 = ap length none in omega arith
 
 pub fits_by : (op : Op) (value : List ℕ) → HasValueOf op value → ValueFits value
-fits_by Put value fits = fits
-fits_by Add value fits = fits
-fits_by Touch value none = none_fits value none
-fits_by Del value none = none_fits value none
+fits_by op value fits = grind (arith, common_steps)
 
 -- the largest item has the most words
 pub item_at_most : (key value : List ℕ) → KeyFits key → ValueFits value → item_size key value ≤ largest_item
@@ -78,8 +75,7 @@ all_map_both P Q R f gives [] ps qs = tt
 all_map_both P Q R f gives (r ∷ rs) ps qs = (gives r ps.0 qs.0, all_map_both P Q R f gives rs ps.1 qs.1)
 
 pub count_map : (p : Record → Bool) (f : Record → Record) → ((r : Record) → p (f r) ≡ p r) → (rs : List Record) → count_by p (map f rs) ≡ count_by p rs
-count_map p f same [] = refl
-count_map p f same (r ∷ rs) = grind (arith, common_steps, count_map p f same rs)
+count_map p f same rs = grind (arith, common_steps)
 
 -- a record that is found by its key is the only one of that key
 only_found : (key : List ℕ) (held : Record) (rs : List Record) → IsUnique rs → find (has_key key) rs ≡ Some held → AllOf (λ r. has_key key r ≡ true → r ≡ held) rs
@@ -94,8 +90,7 @@ pub record KeepsPut (options : Options) (s : Cache) (write : Write) (held : Reco
   pub live : tail_of (s.stamp + 1) ≤ held.offset + options.words
 
 keeps_by : (options : Options) (s : Cache) (write : Write) (o : Option Record) → record_of s write.key ≡ o → (held : Record) → cs.kept_if options s write o ≡ Some held → KeepsPut options s write held
-keeps_by options s write None at held is = cc
-keeps_by options s write (Some r) at held is = grind (arith, common_steps)
+keeps_by options s write o at held is = grind (arith, common_steps)
 
 pub keeps_put : (options : Options) (s : Cache) (write : Write) (held : Record) → kept_record options s write ≡ Some held → KeepsPut options s write held
 keeps_put options s write held is = keeps_by options s write (record_of s write.key) refl held is
@@ -151,18 +146,10 @@ module _ (options : Options) (s : Cache) (kept : IsKept options s) (write : Writ
       record {
         laid = subst (λ (n : ℕ). IsLaid 0 n (others write.key s.records ++ new_record s write.key value ∷ [])) (sym (tail_past s.stamp (item_size write.key value))) (laid.laid_push 0 (tail_of s.stamp) (others write.key s.records) (new_record s write.key value) refl others_laid);
         unique = laid.unique_push (others write.key s.records) (new_record s write.key value) (others_lack write.key s.records) (laid.unique_filter (λ r. not (has_key write.key r)) s.records kept.unique);
-        are = found.all_push IsRecord (others write.key s.records) (new_record s write.key value) (found.all_filter IsRecord (λ r. not (has_key write.key r)) s.records kept.are)
-            (record { key = is.key; key_bytes = is.key_bytes; value = fits; value_bytes = bytes; size = omega arith; room = size });
+        are = grind (arith, found.all_push IsRecord (others write.key s.records) (new_record s write.key value) (found.all_filter IsRecord (λ r. not (has_key write.key r)) s.records kept.are) (record { key = is.key; key_bytes = is.key_bytes; value = fits; value_bytes = bytes; size = omega arith; room = size }));
         here =
-            let all = count (bucket_of write.key options.buckets) in
-            let few = fewer (bucket_of write.key options.buckets) in
-            let one : cond (is_in_bucket options (bucket_of write.key options.buckets) (new_record s write.key value)) 1 0 ≤ 1 = elim (is_in_bucket options (bucket_of write.key options.buckets) (new_record s write.key value)) as (λ b. cond b 1 0 ≤ 1) [ true ↦ omega arith | false ↦ omega arith ] in
-            omega arith;
-        there = λ bucket other.
-            let all = count bucket in
-            let few = fewer bucket in
-            let none : cond {A = ℕ} (is_in_bucket options bucket (new_record s write.key value)) 1 0 ≡ 0 = ap (λ (b : Bool). cond {A = ℕ} b 1 0) (ne_eqb (bucket_of write.key options.buckets) bucket other) in
-            omega arith;
+            grind (arith, count (bucket_of write.key options.buckets), fewer (bucket_of write.key options.buckets), is_in_bucket options (bucket_of write.key options.buckets) (new_record s write.key value));
+        there = λ bucket other. grind (arith, count bucket, fewer bucket, cond {A = ℕ}, ne_eqb (bucket_of write.key options.buckets) bucket other);
         least = omega arith;
         most = omega arith;
       }
@@ -187,10 +174,7 @@ module _ (options : Options) (s : Cache) (kept : IsKept options s) (write : Writ
         unique = laid.unique_map (rewritten write) (rewritten_key write) s.records kept.unique;
         are = all_map_both IsRecord (λ r. has_key write.key r ≡ true → r ≡ held) IsRecord (rewritten write)
             (λ r fine only. elim (has_key write.key r) as (λ b. has_key write.key r ≡ b → IsRecord (cond b (record r { value = write.value }) r)) [
-              | true ↦ λ here.
-                  let key = laid.key_is write.key r here in
-                  let room : size_of write ≤ r.room = subst (λ (h : Record). size_of write ≤ h.room) (sym (only here)) keeps.fits in
-                  record { key = fine.key; key_bytes = fine.key_bytes; value = value; value_bytes = is.value_bytes; size = subst (λ (k : List ℕ). item_size k write.value ≤ r.room) (sym key) room; room = fine.room }
+              | true ↦ grind (arith, common_steps)
               | false ↦ λ here. fine
             ] refl)
             s.records kept.are (only_found write.key held s.records kept.unique keeps.is);
@@ -240,15 +224,8 @@ module _ (options : Options) (s : Cache) (kept : IsKept options s) (write : Writ
       ⊎_elim
       (λ (same : bucket_of write.key options.buckets ≡ bucket). subst (λ (b : ℕ). count_by (is_in_bucket options b) (left_of options write live) ≤ SLOTS) same
       (elim (eqb (count_by (here_of options write) live) (SLOTS + 1)) as (λ b. eqb (count_by (here_of options write) live) (SLOTS + 1) ≡ b → count_by (here_of options write) (cond b (without_first (here_of options write) live) live) ≤ SLOTS) [
-        | true ↦ λ full.
-            let is = eqb-true (count_by (here_of options write) live) (SLOTS + 1) full in
-            let less = found.count_without_first (here_of options write) live (omega arith) in
-            omega arith
-        | false ↦ λ room.
-            let not_full = eqb-false (count_by (here_of options write) live) (SLOTS + 1) room in
-            let most = found.count_filter (here_of options write) (λ held. is_live options.words t.stamp held.offset) t.records in
-            let few = written.here in
-            omega arith
+        | true ↦ grind (arith, eqb-true (count_by (here_of options write) live) (SLOTS + 1), found.count_without_first (here_of options write) live)
+        | false ↦ grind (arith, eqb-false (count_by (here_of options write) live) (SLOTS + 1), found.count_filter (here_of options write) (λ held. is_live options.words t.stamp held.offset) t.records, written.here)
       ] refl))
       (λ (other : bucket_of write.key options.buckets ≢ bucket).
       let fewer = found.count_filter (is_in_bucket options bucket) (λ held. is_live options.words t.stamp held.offset) t.records in
@@ -263,8 +240,7 @@ module _ (options : Options) (s : Cache) (kept : IsKept options s) (write : Writ
       record {
         laid = by_left (IsLaid 0 (tail_of t.stamp)) options write live (laid.laid_without_first here 0 (tail_of t.stamp) live) (laid.laid_filter _ 0 (tail_of t.stamp) t.records written.laid);
         unique = by_left IsUnique options write live (laid.unique_without_first here live) (laid.unique_filter _ t.records written.unique);
-        live = by_left (AreLive options.words t.stamp) options write live (found.all_without_first _ here live)
-            (found.all_weaker (λ held. is_live options.words t.stamp held.offset ≡ true) (λ held. tail_of t.stamp ≤ held.offset + options.words) (λ held is. leb-true _ _ is) live (found.all_passes _ t.records));
+        live = grind (arith, by_left (AreLive options.words t.stamp) options write live (found.all_without_first _ here live) (found.all_weaker (λ held. is_live options.words t.stamp held.offset ≡ true) (λ held. tail_of t.stamp ≤ held.offset + options.words) (λ held is. leb-true _ _ is) live (found.all_passes _ t.records)));
         are = by_left (AllOf IsRecord) options write live (found.all_without_first IsRecord here live) (found.all_filter IsRecord _ t.records written.are);
         buckets = few_left;
         stamp = let most = written.most in let before = kept.stamp in omega arith;

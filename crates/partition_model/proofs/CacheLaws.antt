@@ -3,7 +3,7 @@ use Rattle.std.proofs.Common.{is_some, ◌≡◌, ℕ, ◌+◌, ◌*◌, ◌≤�
 use Rattle.std.specs.List.{find, filter, fold, AllByRecursion as AllOf, count_by}
 use Rattle.std.specs.Prelude.{map, option_map}
 use Rattle.std.proofs.lemmas.Option.{same_Some}
-use Rattle.std.proofs.lemmas.Bool.{leb-true, le-leb, eqb-true, ne_eqb, true≢false}
+use Rattle.std.proofs.lemmas.Bool.{leb-true, le-leb, eqb-true, ne_eqb}
 use Rattle.std.proofs.lemmas.List.Sums.{sum_by_push}
 use Rattle.std.proofs.lemmas.Grind.{common_steps}
 use Rattle.mica_words.specs.declared.entry.TheConstants.{SLOTS}
@@ -12,7 +12,6 @@ use Rattle.mica_words.specs.Item.{KeyFits, ValueFits, item_size}
 use Rattle.mica_words.specs.Packing.{AreBytes}
 use Rattle.mica_words.specs.Stamp.{tail_of}
 use Rattle.partition_model.specs.declared.options.Options.{Options}
-use Rattle.partition_model.specs.declared.options.Mode.TheVariants.{Cache as CacheMode, Store as StoreMode}
 use Rattle.partition_model.specs.declared.options.Mode.{Mode}
 use Rattle.partition_model.specs.declared.write.Write.{Write}
 use Rattle.partition_model.specs.declared.write.Op.{Op}
@@ -24,7 +23,7 @@ use Rattle.partition_model.specs.Write.{GivesValue, IsWrite, is_accepted, size_o
 use Rattle.partition_model.specs.Cache.{Record, Cache, has_key, record_of, value_in, is_live}
 use Rattle.partition_model.specs.CacheStep as cs
 use Rattle.partition_model.specs.CacheStep.{others, new_record, kept_record, without_first, is_in_bucket}
-use Rattle.partition_model.specs.History.{Allows, History, IsAcceptedAfter, State, cache_state, store_state, after, start, state_of}
+use Rattle.partition_model.specs.History.{Allows, History, State, cache_state, store_state, after, start, state_of}
 use Rattle.partition_model.proofs.Found as found
 use Rattle.partition_model.proofs.Laid as laid
 use Rattle.partition_model.proofs.CacheKept.{others_lack, count_map, IsRecord, IsKept, KeepsPut, keeps_put, start_kept, after_kept, after_write_is, begin_of, offset_of, rewritten, rewritten_key, left_of, live_of, here_of}
@@ -38,12 +37,10 @@ IsKeptState options (cache_state s) = IsKept options s
 IsKeptState options (store_state s) = Unit {0}
 
 kept_start : (options : Options) (mode : Mode) → IsKeptState options (start mode)
-kept_start options CacheMode = start_kept options
-kept_start options StoreMode = tt
+kept_start options mode = grind (arith, start_kept options)
 
 kept_after : (options : Options) (now : State) (write : Write) → IsWrite write → IsKeptState options now → IsKeptState options (after options now write)
-kept_after options (cache_state s) write is kept = after_kept options s write is kept
-kept_after options (store_state s) write is kept = tt
+kept_after options now write is kept = grind (arith, after_kept options)
 
 kept_from : (options : Options) (now : State) (history : History) → AllOf IsWrite history → IsKeptState options now → IsKeptState options (fold (after options) now history)
 kept_from options now [] writes kept = kept
@@ -95,18 +92,13 @@ module _ (options : Options) (s : Cache) (write : Write) (key : List ℕ) (other
   append_same value = found.found_push_other (has_key key) (others write.key s.records) (new_record s write.key value) (laid.has_other_key key (new_record s write.key value) (λ same. other (sym same))) ∙ others_same
 
   put_same : (o : Option Record) → record_of (cs.after_put o s write) key ≡ record_of s key
-  put_same None = append_same write.value
-  put_same (Some held) = grind (arith, common_steps, find_map (has_key key) (rewritten write), rewritten write, rewritten_key write, not_written)
+  put_same o = grind (arith, append_same write.value, find_map (has_key key) (rewritten write), rewritten write, rewritten_key write, not_written)
 
   touch_same : (o : Option Record) → record_of (cs.after_touch o s write) key ≡ record_of s key
-  touch_same None = refl
-  touch_same (Some held) = append_same held.value
+  touch_same o = grind (arith, append_same)
 
   op_same : (op : Op) → record_of (cs.after_op op options s write) key ≡ record_of s key
-  op_same Put = put_same (kept_record options s write)
-  op_same Add = append_same write.value
-  op_same Touch = touch_same (record_of s write.key)
-  op_same Del = others_same
+  op_same op = grind (arith, put_same (kept_record options s write), append_same write.value, touch_same (record_of s write.key), others_same)
 
   -- the write itself touches the written key alone
   pub written_same : record_of (cs.after_write options s write) key ≡ record_of s key
@@ -136,8 +128,7 @@ module _ (options : Options) (s : Cache) (kept : IsKept options s) (write : Writ
   pub on_kept : (r : Record) → record_of s key ≡ Some r → tail_of (cs.after options s write).stamp ≤ r.offset + options.words → record_of (cs.after options s write) key ≡ Some r
   unfolding cs.after
   on_kept r found_before live =
-      left_same (live_of options written)
-      ∙ found.found_filter (has_key key) (live_test options written) written.records r (written_same options s write key other_key ∙ found_before) (le-leb (tail_of written.stamp) (r.offset + options.words) live)
+      grind (arith, left_same (live_of options written), found.found_filter (has_key key) (live_test options written) written.records r (written_same options s write key other_key ∙ found_before) (le-leb (tail_of written.stamp) (r.offset + options.words) live))
 
 -- What a write's key has after the write itself: its item.
 module _ (options : Options) (s : Cache) (write : Write) where
@@ -154,16 +145,7 @@ module _ (options : Options) (s : Cache) (write : Write) where
       → (r : Record) × (record_of (cs.after_put o s write) write.key ≡ Some r) × (r.offset ≡ begin_of o s) × (item_size r.key r.value ≡ size_of write)
   written_own None at = (new_record s write.key write.value, appended_own write.value, refl, refl)
   written_own (Some held) at =
-      grind (
-        arith,
-        common_steps,
-        keeps_put options s write held at,
-        laid.found_map (rewritten write) (rewritten_key write) write.key s.records held,
-        rewritten write,
-        rewritten_key write,
-        found.found_passes (has_key write.key) s.records held,
-        laid.found_key write.key s.records held,
-      )
+      grind (arith, keeps_put options s write held at, laid.found_map (rewritten write) (rewritten_key write) write.key s.records held, rewritten_key write, found.found_passes (has_key write.key) s.records held, laid.found_key write.key s.records held)
 
   -- so these are the words of its item
   pub put_item : write.op ≡ Put → (p : ℕ) → offset_of options s write ≤ p → p < offset_of options s write + size_of write → cs.IsOfItem options s write p
@@ -172,15 +154,10 @@ module _ (options : Options) (s : Cache) (write : Write) where
 -- An item that the log is asked to store, and stores, has no more words than the log.
 module _ (options : Options) (write : Write) where
   by_words : (b : Bool) → leb (size_of write) options.words ≡ b → is_accepted (cond b Stored FullBlock) ≡ true → size_of write ≤ options.words
-  by_words true fits accepted = leb-true (size_of write) options.words fits
-  by_words false short accepted = absurd (true≢false (sym accepted))
+  by_words b fits accepted = grind (arith, common_steps)
 
   pub reply_fits : (op : Op) (found : Bool) → GivesValue op → is_accepted (cs.reply_of op options write found) ≡ true → size_of write ≤ options.words
-  reply_fits Put found gives accepted = by_words (leb (size_of write) options.words) refl accepted
-  reply_fits Add true gives accepted = absurd (true≢false (sym accepted))
-  reply_fits Add false gives accepted = by_words (leb (size_of write) options.words) refl accepted
-  reply_fits Touch found gives accepted = absurd gives
-  reply_fits Del found gives accepted = absurd gives
+  reply_fits op found gives accepted = grind (arith, common_steps)
 
   words_suffice : (s : Cache) → is_accepted (cs.reply options s write) ≡ true → GivesValue write.op → size_of write ≤ options.words
   unfolding cs.reply
@@ -283,21 +260,13 @@ module _ (options : Options) (s : Cache) (kept : IsKept options s) (write : Writ
 
   put_record_by : GivesValue write.op → (o : Option Record) → kept_record options s write ≡ o → PutRecord (put_of o) o
   put_record_by gives None at = grind (arith, common_steps, appended_stays write.value (few gives))
-  put_record_by gives (Some held) at =
-      let keeps = keeps_put options s write held at in
-      record { held = record held { value = write.value }; stays = rewritten_stays held keeps; value = refl; offset = refl; size = keeps.fits }
+  put_record_by gives (Some held) at = grind (arith, rewritten_stays held (keeps_put options s write held at))
 
   put_record_of : GivesValue write.op → (op : Op) → op ≡ Put → PutRecord (cs.after_op op options s write) (kept_record options s write)
-  put_record_of gives Put at = put_record_by gives (kept_record options s write) refl
-  put_record_of gives Add at = cc
-  put_record_of gives Touch at = cc
-  put_record_of gives Del at = cc
+  put_record_of gives op at = grind (arith, put_record_by gives (kept_record options s write) refl)
 
   written_by : (op : Op) → GivesValue op → is_some (record_of (cs.after_op op options s write) write.key) ≡ true
-  written_by Put gives = ap is_some (written_own options s write (kept_record options s write) refl).1
-  written_by Add gives = ap is_some (appended_own options s write write.value)
-  written_by Touch gives = absurd gives
-  written_by Del gives = absurd gives
+  written_by op gives = grind (arith, (written_own options s write (kept_record options s write) refl).1, appended_own options s write write.value, gives)
 
   -- after a put, its key has a record of its value, whose room has the item
   pub put_held : write.op ≡ Put → (r : Record) × (record_of (cs.after options s write) write.key ≡ Some r) × (r.value ≡ write.value) × (r.offset ≡ offset_of options s write) × (size_of write ≤ r.room)
@@ -337,50 +306,6 @@ module _ (options : Options) (s : Cache) (kept : IsKept options s) (write : Writ
 
   pub own_kept : (p : ℕ) → cs.IsOfItem options s write p → (r : Record) × (record_of (cs.after options s write) write.key ≡ Some r) × (r.offset ≤ p) × (p < r.offset + r.room)
   own_kept p item = own_by write.op refl p item
-
--- The laws over lawful histories.
-
-module _ (options : Options) (history : History) (writes : AllOf IsWrite history) (s : Cache) (at : state_of options history ≡ cache_state s) where
-  -- what the machine has of a key fits
-  pub record_fits : (key : List ℕ) (r : Record) → record_of s key ≡ Some r
-      → KeyFits key × AreBytes key × ValueFits r.value × AreBytes r.value × (item_size key r.value ≤ r.room) × (r.room < 65536)
-  record_fits = fits_kept options s (kept_in options history writes s at)
-
-module _ (options : Options) (history : History) (writes : AllOf IsWrite history) (write : Write) (is : IsWrite write) (before : Cache) (at : state_of options history ≡ cache_state before) where
-  was_kept : IsKept options before
-  was_kept = kept_in options history writes before at
-
-  now_kept : IsKept options (cs.after options before write)
-  now_kept = after_kept options before write is was_kept
-
-  -- What a key of another bucket has after a write is what it had, where the new tail has not passed it.
-  pub others_back : (key : List ℕ) → bucket_of key options.buckets ≢ bucket_of write.key options.buckets → (r : Record)
-      → record_of (cs.after options before write) key ≡ Some r
-      → (record_of before key ≡ Some r) × (tail_of (cs.after options before write).stamp ≤ r.offset + options.words)
-  others_back key apart = back_kept options before was_kept write is key apart
-
-  pub others_on : (key : List ℕ) → bucket_of key options.buckets ≢ bucket_of write.key options.buckets → (r : Record)
-      → record_of before key ≡ Some r → tail_of (cs.after options before write).stamp ≤ r.offset + options.words
-      → record_of (cs.after options before write) key ≡ Some r
-  others_on key apart = on_kept options before was_kept write is key apart
-
-  -- each record is in the log's window
-  pub window : (key : List ℕ) (r : Record) → record_of (cs.after options before write) key ≡ Some r
-      → (tail_of (cs.after options before write).stamp ≤ r.offset + options.words) × (r.offset + r.room ≤ tail_of (cs.after options before write).stamp)
-  window = window_kept options (cs.after options before write) now_kept
-
-  -- the rooms of two keys are apart
-  pub apart : (key key' : List ℕ) (r r' : Record) → record_of (cs.after options before write) key ≡ Some r → record_of (cs.after options before write) key' ≡ Some r'
-      → key ≢ key' → (r.offset + r.room ≤ r'.offset) ⊎ (r'.offset + r'.room ≤ r.offset)
-  apart = apart_kept options (cs.after options before write) now_kept
-
--- a word of the write's item is in the room of its key's record
-pub own : (options : Options) (history : History) → AllOf IsWrite history → (write : Write) → IsWrite write → IsAcceptedAfter options history write
-    → (before : Cache) → state_of options history ≡ cache_state before → (p : ℕ) → cs.IsOfItem options before write p
-    → (r : Record) × (record_of (cs.after options before write) write.key ≡ Some r) × (r.offset ≤ p) × (p < r.offset + r.room)
-own options history writes write is accepted before at =
-    own_kept options before (kept_in options history writes before at) write is
-    (accepted_fits options write before (state_of options history) at accepted.0 accepted.1 accepted.2)
 
 -- the tail never falls
 pub tail_rises : (options : Options) (s : Cache) (write : Write) → tail_of s.stamp ≤ tail_of (cs.after options s write).stamp

@@ -1,17 +1,15 @@
 -- Sums over the cells of a map, before and after a key has another cell or none.
-use Rattle.std.proofs.Common.{◌≡◌, ◌≢◌, ℕ, zero, suc, ◌+◌, ◌<◌, ◌≤◌, List, [], ◌∷◌, length, Option, Some, None, refl, sym, ap, ◌∙◌, subst, arith, cond, Ordering, Bool, true, false, T, map, ◌⊎◌, inl, inr, ⊎_elim, rules}
+use Rattle.std.proofs.Common.{◌≡◌, ◌≢◌, ℕ, ◌+◌, List, [], ◌∷◌, length, Option, Some, None, sym, ap, ◌∙◌, subst, arith, cond, Ordering, Bool, true, T, map}
 use Rattle.std.specs.Prelude.{sum_by, count_by, nat_eq, is_some}
 use Rattle.std.specs.Ordering.{nat_cmp, is_eq, eq_by_cmp}
 use Rattle.std.specs.Cmp.{eq_by_cmp_equiv}
 use Rattle.std.specs.Cmp.Lexicographic.{slice_cmp, nat_list_cmp_total}
-use Rattle.std.specs.declared.cmp.Ordering.TheVariants.{Less, Equal, Greater}
+use Rattle.std.specs.declared.cmp.Ordering.TheVariants.{Equal}
 use Rattle.std.specs.FinMap.{find, put, entries-from_sorted, get, insert, remove, entries, empty, entries-insert, get-entries, get-insert, get-remove, same_map, from_sorted, empty_of_len, len-entries, slice_cmp-IsAntisymmetric, nat_cmp-IsAntisymmetric}
-use Rattle.std.specs.FinMap.Entries.{by_order}
 use Rattle.std.proofs.lemmas.List.Sums.{sum_by-cons}
-use Rattle.std.proofs.lemmas.Bool.{cases_order}
 use Rattle.std.proofs.lemmas.Grind.{common_steps}
 use Rattle.mica_words.specs.Hash.{bucket_of}
-use Rattle.partition_model.specs.Store.{Cell, Cells, room_of, rooms, keys_in, spares_behind, spares_below}
+use Rattle.partition_model.specs.Store.{Cell, Cells, room_of, rooms, keys_in}
 
 -- the order of keys
 abbrev pub by_bytes : List ℕ → List ℕ → Ordering
@@ -29,13 +27,10 @@ not_some : (c : Cell) → Some c ≢ None
 not_some c none = subst T (ap is_some none) tt
 
 equal : (o : Ordering) → is_eq o ≡ true → o ≡ Equal
-equal Less is = absurd (subst T (sym is) tt)
-equal Equal is = refl
-equal Greater is = absurd (subst T (sym is) tt)
+equal o is = grind (arith, T, is)
 
 shadowed : (b : Bool) (o p : Option Cell) → cond b o p ≡ cond b o (cond b None p)
-shadowed true o p = refl
-shadowed false o p = refl
+shadowed b o p = grind (arith, common_steps)
 
 -- what a map has at a key, where it has this at another
 at_key : (m : Cells) (key q : List ℕ) (o : Option Cell) → get m key ≡ o → get m q ≡ cond (eq_by_cmp by_bytes q key) o (get m q)
@@ -63,21 +58,11 @@ module _ (w : List ℕ × Cell → ℕ) where
   add_new : (key : List ℕ) (cell : Cell) (es : List (List ℕ × Cell)) → find by_bytes key es ≡ None → sum_by w (put by_bytes key cell es) ≡ sum_by w es + w (key, cell)
   add_new key cell [] none = omega arith
   add_new key cell (e ∷ es) none =
-      elim (by_bytes key e.0) as (λ o. cond (is_eq o) (Some e.1) (find by_bytes key es) ≡ None
-      → sum_by w (by_order o ((key, cell) ∷ e ∷ es) ((e.0, cell) ∷ es) (e ∷ put by_bytes key cell es)) ≡ sum_by w (e ∷ es) + w (key, cell)) [
-        | Less ↦ λ _. let first = sum_by-cons w (key, cell) (e ∷ es) in omega arith
-        | Equal ↦ λ some. absurd (not_some e.1 some)
-        | Greater ↦ λ later.
-            let new = sum_by-cons w e (put by_bytes key cell es) in
-            let old = sum_by-cons w e es in
-            let rest = add_new key cell es later in
-            omega arith
-      ] none
+      grind (arith, sum_by-cons w (key, cell) (e ∷ es), not_some e.1, sum_by-cons w e (put by_bytes key cell es), sum_by-cons w e es, add_new key cell es)
 
   weigh_back : (m : Cells) (key : List ℕ) (cell : Cell) → sum_by w (entries (insert (remove m key) key cell)) ≡ sum_by w (entries (remove m key)) + w (key, cell)
   weigh_back m key cell =
-      ap (sum_by w) (entries-insert nat_list_cmp_total (remove m key) key cell)
-      ∙ add_new key cell (entries (remove m key)) (sym (get-entries (remove m key) key) ∙ removed m key)
+      grind (arith, entries-insert nat_list_cmp_total (remove m key) key cell, add_new key cell (entries (remove m key)) (sym (get-entries (remove m key) key) ∙ removed m key))
 
   -- the sum after a cell is put, and the sum before, beside the sum without the key
   pub weigh_insert : (m : Cells) (key : List ℕ) (cell : Cell) → sum_by w (entries (insert m key cell)) ≡ sum_by w (entries (remove m key)) + w (key, cell)
@@ -88,8 +73,7 @@ module _ (w : List ℕ × Cell → ℕ) where
 
 -- the rooms
 weight_room : (key : List ℕ) (o : Option Cell) → weight (λ entry. entry.1.room) key o ≡ room_of o
-weight_room key None = refl
-weight_room key (Some cell) = refl
+weight_room key o = grind (arith, common_steps)
 
 pub rooms_insert : (m : Cells) (key : List ℕ) (cell : Cell) → rooms (insert m key cell) + room_of (get m key) ≡ rooms m + cell.room
 rooms_insert m key cell = grind (arith, common_steps, weigh_insert, weigh_remove, weight_room key (get m key))
@@ -103,8 +87,7 @@ module _ (buckets bucket : ℕ) where
   here entry = cond (nat_eq (bucket_of entry.0 buckets) bucket) 1 0
 
   count_keys : (es : List (List ℕ × Cell)) → count_by (λ key. nat_eq (bucket_of key buckets) bucket) (map (λ e. e.0) es) ≡ sum_by here es
-  count_keys [] = refl
-  count_keys (e ∷ es) = grind (arith, common_steps, count_keys es)
+  count_keys es = grind (arith, common_steps)
 
   insert_counts : (m : Cells) (key : List ℕ) (cell : Cell) → keys_in buckets bucket (insert m key cell) ≡ keys_in buckets bucket (remove m key) + cond (nat_eq (bucket_of key buckets) bucket) 1 0
   insert_counts m key cell = grind (arith, common_steps, count_keys (entries (insert m key cell)), weigh_insert here m key cell, count_keys (entries (remove m key)))
@@ -123,9 +106,6 @@ module _ (buckets bucket : ℕ) where
   pub keys_less : (m : Cells) (key : List ℕ) (old : Cell) → get m key ≡ Some old → keys_in buckets bucket m ≡ keys_in buckets bucket (remove m key) + cond (nat_eq (bucket_of key buckets) bucket) 1 0
   keys_less m key old is = remove_counts m key ∙ ap (λ o. keys_in buckets bucket (remove m key) + weight here key o) is
 
-split_last : (b k : ℕ) → b < suc k → (b ≡ k) ⊎ (b < k)
-split_last b k lt = ⊎_elim inl (⊎_elim inr (λ more. absurd (let past : k < b = more in omega arith))) (cases_order b k)
-
 pub no_cells : from_sorted {X = Cell} {R = by_bytes} [] ≡ empty
 no_cells = empty_of_len (from_sorted []) (len-entries (from_sorted []) ∙ ap length (entries-from_sorted by_bytes [] tt))
 
@@ -137,34 +117,3 @@ no_keys buckets bucket = ap (λ es. count_by (λ key. nat_eq (bucket_of key buck
 
 pub no_rooms : rooms empty ≡ 0
 no_rooms = ap (sum_by (λ entry. entry.1.room)) no_entries
-
--- the spares
-module _ (buckets bucket : ℕ) (m n : Cells) (others : (other : ℕ) → other ≢ bucket → keys_in buckets other n ≡ keys_in buckets other m) where
-  pub same_spares : (k : ℕ) → k ≤ bucket → spares_below buckets k n ≡ spares_below buckets k m
-  unfolding spares_below
-  same_spares zero le = refl
-  same_spares (suc k) le = search (rules, same_spares k (omega arith))
-
-  pub spares_change : (k : ℕ) → bucket < k → spares_below buckets k n + spares_behind (keys_in buckets bucket m) ≡ spares_below buckets k m + spares_behind (keys_in buckets bucket n)
-  unfolding spares_below
-  spares_change zero lt = absurd (omega arith)
-  spares_change (suc k) lt =
-      ⊎_elim (λ same. let rest = same_spares k (omega arith) in
-      let old = ap (λ b. spares_behind (keys_in buckets b m)) same in
-      let new = ap (λ b. spares_behind (keys_in buckets b n)) same in
-      omega arith)
-      (λ apart. let rest = spares_change k (omega arith) in
-      let here = ap spares_behind (others k (omega arith)) in
-      omega arith)
-      (split_last bucket k lt)
-
--- the spares behind a bucket are among all
-pub spares_among : (buckets bucket : ℕ) (m : Cells) (k : ℕ) → bucket < k → spares_behind (keys_in buckets bucket m) ≤ spares_below buckets k m
-unfolding spares_below
-spares_among buckets bucket m zero lt = absurd (omega arith)
-spares_among buckets bucket m (suc k) lt = grind (arith, common_steps, spares_among buckets bucket m k)
-
-pub no_spares : (buckets k : ℕ) → spares_below buckets k empty ≡ 0
-unfolding spares_below
-no_spares buckets zero = refl
-no_spares buckets (suc k) = grind (arith, common_steps, no_spares buckets k, no_keys buckets k)

@@ -1,5 +1,5 @@
 -- The laws of fates: `Held` exactly where there is a record, `Never` exactly where no put was accepted.
-use Rattle.std.proofs.Common.{◌≡◌, ℕ, ◌+◌, List, [], ◌∷◌, ◌++◌, length, Option, Some, None, Bool, true, false, cond, not, ◌&&◌, refl, sym, ap, ◌∙◌, arith, is_some, ◌≢◌}
+use Rattle.std.proofs.Common.{◌≡◌, ℕ, ◌+◌, List, [], ◌∷◌, ◌++◌, length, Option, Some, None, Bool, true, cond, not, ◌&&◌, refl, ap, ◌∙◌, arith, is_some, ◌≢◌}
 use Rattle.std.specs.List.{find, fold}
 use Rattle.std.specs.Prelude.{option_map}
 use Rattle.std.proofs.lemmas.Grind.{common_steps}
@@ -49,8 +49,7 @@ pick had wrote live left n before =
     cond left Held (cond (had && not wrote) (Deleted n) (cond (wrote && not live) (Passed n) (cond (live && not left) (Displaced n) before)))
 
 some_back : {A : Type 0} (o p : Option A) → (o ≡ None → p ≡ None) → is_some p ≡ true → is_some o ≡ true
-some_back None p gone is = ap is_some (sym (gone refl)) ∙ is
-some_back (Some x) p gone is = refl
+some_back o p gone is = grind (arith, common_steps)
 
 module _ (options : Options) (s : Cache) (write : Write) (key : List ℕ) where
   abbrev one : Cache
@@ -80,12 +79,7 @@ no_displaced n e = cc
 
 held_by : (had wrote live left : Bool) (n : ℕ) (before : Fate) → (left ≡ true → live ≡ true) → (live ≡ true → wrote ≡ true) → (before ≡ Held → had ≡ true)
     → pick had wrote live left n before ≡ Held → left ≡ true
-held_by had wrote live true n before up up' back is = refl
-held_by true false live false n before up up' back is = absurd (no_deleted n is)
-held_by had true false false n before up up' back is = elim had as (λ b. pick b true false false n before ≡ Held → false ≡ true) [ true ↦ λ e. absurd (no_passed n e) | false ↦ λ e. absurd (no_passed n e) ] is
-held_by had true true false n before up up' back is = elim had as (λ b. pick b true true false n before ≡ Held → false ≡ true) [ true ↦ λ e. absurd (no_displaced n e) | false ↦ λ e. absurd (no_displaced n e) ] is
-held_by false false true false n before up up' back is = up' refl
-held_by false false false false n before up up' back is = back is
+held_by had wrote live left n before up up' back is = grind (arith, common_steps)
 
 -- the fate says `Held` exactly of a key with a record
 pub record IsRight (s : Cache) (key : List ℕ) (fate : Fate) : Type 0 where
@@ -111,16 +105,14 @@ right_in options history key = right_from options key cache.start 1 Never histor
 
 -- a fate is `Held` exactly where the machine has a value
 held_value : (o : Option Record) → (v : List ℕ) → option_map (λ held. held.value) o ≡ Some v → is_some o ≡ true
-held_value None v is = cc
-held_value (Some held) v is = refl
+held_value o v is = grind (arith, common_steps)
 
 pub hit_is_held : (options : Options) → options.mode ≡ CacheMode → (history : History) (key value : List ℕ) → answer_of options history key ≡ Some value → fate_of options history key ≡ Held
 hit_is_held options mode history key value is =
     grind (arith, common_steps, state_is_cache options mode history, right_in options history key, held_value (record_of (cache_of options history) key) value)
 
 no_value : (o : Option Record) → option_map (λ held. held.value) o ≡ None → is_some o ≡ true → ⊥
-no_value None is some = cc
-no_value (Some held) is some = cc
+no_value o is some = grind (arith, common_steps)
 
 pub miss_is_not_held : (options : Options) → options.mode ≡ CacheMode → (history : History) (key : List ℕ) → answer_of options history key ≡ None → fate_of options history key ≢ Held
 miss_is_not_held options mode history key is held =

@@ -59,8 +59,7 @@ module _ {X : Type 0} where
   all_passes q (x ∷ xs) = grind (arith, common_steps, all_passes q xs)
 
   pub all_push : (P : X → Type 0) (xs : List X) (y : X) → AllOf P xs → P y → AllOf P (xs ++ y ∷ [])
-  all_push P [] y all here = (here, tt)
-  all_push P (x ∷ xs) y all here = (all.0, all_push P xs y all.1 here)
+  all_push P xs y all here = grind (arith, common_steps)
 
   pub all_weaker : (P Q : X → Type 0) → ((x : X) → P x → Q x) → (xs : List X) → AllOf P xs → AllOf Q xs
   all_weaker P Q gives [] all = tt
@@ -97,15 +96,7 @@ all_without_first P here (x ∷ xs) all = grind (arith, common_steps, all_withou
 -- the count falls by one, where some pass
 pub count_without_first : (here : Record → Bool) (xs : List Record) → 0 < count_by here xs → count_by here (without_first here xs) + 1 ≡ count_by here xs
 count_without_first here [] some = absurd (omega arith)
-count_without_first here (x ∷ xs) some =
-    let whole = count_cons here x xs in
-    elim (here x) as (λ b. here x ≡ b → cond b 1 0 + count_by here xs ≡ count_by here (x ∷ xs) → count_by here (cond b xs (x ∷ without_first here xs)) + 1 ≡ count_by here (x ∷ xs)) [
-      | true ↦ λ is w. omega arith
-      | false ↦ λ is w.
-          let kept = count_cons here x (without_first here xs) ∙ ap (λ b. cond b 1 0 + count_by here (without_first here xs)) is in
-          let before = count_without_first here xs (omega arith) in
-          omega arith
-    ] refl (sym whole)
+count_without_first here (x ∷ xs) some = grind (arith, count_cons here x xs, count_without_first here xs)
 
 pub count_without_first_le : (p here : Record → Bool) (xs : List Record) → count_by p (without_first here xs) ≤ count_by p xs
 count_without_first_le p here [] = omega arith

@@ -1,4 +1,5 @@
 -- Histories, in both modes: the case of the state, one write more, and how many writes there are.
+use Rattle.std.proofs.Common.{rules}
 use Rattle.std.proofs.Common.{◌≡◌, ◌+◌, ◌≤◌, ◌<◌, [], ◌∷◌, ◌++◌, length, true, refl, sym, ap, ◌∙◌, subst, arith, append_assoc}
 use Rattle.std.specs.List.{fold}
 use Rattle.std.proofs.lemmas.List.{append-nil}
@@ -8,9 +9,7 @@ use Rattle.partition_model.specs.declared.options.Mode.{Mode}
 use Rattle.partition_model.specs.declared.options.Mode.TheVariants.{Cache as CacheMode, Store as StoreMode}
 use Rattle.partition_model.specs.declared.write.Write.{Write}
 use Rattle.partition_model.specs.declared.write.Op.{Op}
-use Rattle.partition_model.specs.declared.write.Op.TheVariants.{Put, Add, Del, Touch}
 use Rattle.partition_model.specs.declared.write.Outcome.{Outcome}
-use Rattle.partition_model.specs.declared.write.Outcome.TheVariants.{Stored, Deleted, Absent, Touched, FullSpare, FullBlock, Worn, Exists}
 use Rattle.partition_model.specs.Write.{is_accepted}
 use Rattle.partition_model.specs.Cache as cache
 use Rattle.partition_model.specs.CacheStep as cs
@@ -61,15 +60,11 @@ last_accepted options history write is = last_from options [] history write is
 -- the machine has accepted as many writes as the history has
 
 store_accepted : (op : Op) (s : store.Store) (write : Write) → (ss.after_op op s write).accepted ≡ s.accepted + 1
-store_accepted Put s write = refl
-store_accepted Add s write = refl
-store_accepted Del s write = refl
-store_accepted Touch s write = refl
+store_accepted op s write = grind (arith, common_steps)
 
 pub accepted_after : (options : Options) (now : State) (write : Write) → accepted_in (after options now write) ≡ accepted_in now + 1
 unfolding cs.after ss.after
-accepted_after options (cache_state s) write = refl
-accepted_after options (store_state s) write = store_accepted write.op s write
+accepted_after options now write = grind (arith, common_steps)
 
 accepted_from : (options : Options) (now : State) (history : History) → accepted_in (fold (after options) now history) ≡ accepted_in now + length history
 accepted_from options now [] = omega arith
@@ -77,8 +72,7 @@ accepted_from options now (write ∷ history) = grind (arith, common_steps, acce
 
 accepted_start : (mode : Mode) → accepted_in (start mode) ≡ 0
 unfolding cache.start store.start
-accepted_start CacheMode = refl
-accepted_start StoreMode = refl
+accepted_start mode = grind (arith, common_steps)
 
 pub accepted_is_length : (options : Options) (history : History) → accepted_in (state_of options history) ≡ length history
 accepted_is_length options history = grind (arith, common_steps, accepted_from options (start options.mode) history, accepted_start options.mode)
@@ -90,18 +84,10 @@ unfolding cs.reply
 cache_unworn options s write outcome accepted is = grind (arith, common_steps)
 
 store_unworn : (options : Options) (s : store.Store) (write : Write) (outcome : Outcome) → is_accepted outcome ≡ true → ss.Allows options s write outcome → s.accepted < options.wear
-store_unworn options s write Stored accepted is = let not_worn = is.0 in omega arith
-store_unworn options s write Deleted accepted is = let not_worn = is.0 in omega arith
-store_unworn options s write Absent accepted is = let not_worn = is.0 in omega arith
-store_unworn options s write Touched accepted is = let not_worn = is.0 in omega arith
-store_unworn options s write FullSpare accepted is = cc
-store_unworn options s write FullBlock accepted is = cc
-store_unworn options s write Worn accepted is = cc
-store_unworn options s write Exists accepted is = cc
+store_unworn options s write outcome accepted is = grind (arith, common_steps)
 
 unworn_in : (options : Options) (now : State) (write : Write) (outcome : Outcome) → is_accepted outcome ≡ true → Allows options now write outcome → accepted_in now < options.wear
-unworn_in options (cache_state s) write outcome accepted is = cache_unworn options s write outcome accepted is
-unworn_in options (store_state s) write outcome accepted is = store_unworn options s write outcome accepted is
+unworn_in options now write outcome accepted is = grind (arith, cache_unworn options, store_unworn options)
 
 pub unworn : (options : Options) (history : History) (write : Write) → IsAcceptedAfter options history write → accepted_in (state_of options history) < options.wear
 unworn options history write is = unworn_in options (state_of options history) write is.0 is.1 is.2
@@ -115,10 +101,6 @@ wear_from options before (write ∷ later) few is =
     (wear_from options (before ++ write ∷ []) later (omega arith) is.1)
 
 pub within_wear : (options : Options) (history : History) → IsHistory options history → length history ≤ options.wear
-within_wear options history is =
-    let none = accepted_start options.mode in
-    let all = wear_from options [] history (omega arith) is in
-    let count = accepted_is_length options history in
-    omega arith
+within_wear options history is = search (rules, accepted_start, wear_from, accepted_is_length)
 
 -- a step that is refused leaves the state, and one that is accepted adds its write

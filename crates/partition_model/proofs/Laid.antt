@@ -1,5 +1,5 @@
 -- Records in a log: each ends where or before the next begins, and no two are of one key.
-use Rattle.std.proofs.Common.{◌≡◌, ℕ, ◌+◌, ◌≤◌, ◌⊎◌, List, [], ◌∷◌, ◌++◌, Some, None, Bool, true, false, cond, refl, ap, subst, arith, ◌≢◌}
+use Rattle.std.proofs.Common.{◌≡◌, ℕ, ◌+◌, ◌≤◌, ◌⊎◌, List, [], ◌∷◌, ◌++◌, Some, None, Bool, true, false, cond, refl, ap, arith, ◌≢◌}
 use Rattle.std.specs.List.{find, filter}
 use Rattle.std.specs.Prelude.{map}
 use Rattle.std.proofs.lemmas.Bool.{true≢false, false_from_ne_true}
@@ -38,13 +38,11 @@ laid_from from from' upto (r ∷ rs) less laid = (let first = laid.0 in omega ar
 
 pub laid_filter : (q : Record → Bool) (from upto : ℕ) (rs : List Record) → IsLaid from upto rs → IsLaid from upto (filter q rs)
 laid_filter q from upto [] laid = laid
-laid_filter q from upto (r ∷ rs) laid =
-    grind (arith, common_steps, laid_filter q (r.offset + r.room) upto rs laid.1, laid_from (r.offset + r.room) from upto (filter q rs))
+laid_filter q from upto (r ∷ rs) laid = grind (arith, laid_filter q (r.offset + r.room) upto rs laid.1, laid_from (r.offset + r.room) from upto (filter q rs))
 
 pub laid_without_first : (here : Record → Bool) (from upto : ℕ) (rs : List Record) → IsLaid from upto rs → IsLaid from upto (without_first here rs)
 laid_without_first here from upto [] laid = laid
-laid_without_first here from upto (r ∷ rs) laid =
-    grind (arith, common_steps, laid_from (r.offset + r.room) from upto rs, laid_without_first here (r.offset + r.room) upto rs laid.1)
+laid_without_first here from upto (r ∷ rs) laid = grind (arith, laid_from (r.offset + r.room) from upto rs, laid_without_first here (r.offset + r.room) upto rs laid.1)
 
 pub laid_push : (from upto : ℕ) (rs : List Record) (r : Record) → r.offset ≡ upto → IsLaid from upto rs → IsLaid from (upto + r.room) (rs ++ r ∷ [])
 laid_push from upto [] r at laid = (omega arith, omega arith)
@@ -63,32 +61,14 @@ laid_later from upto upto' (r ∷ rs) more laid = (laid.0, laid_later (r.offset 
 pub laid_found : (p : Record → Bool) (from upto : ℕ) (rs : List Record) (r : Record) → IsLaid from upto rs → find p rs ≡ Some r
     → (from ≤ r.offset) × (r.offset + r.room ≤ upto)
 laid_found p from upto [] r laid is = cc
-laid_found p from upto (x ∷ rs) r laid is =
-    elim (p x) as (λ b. cond b (Some x) (find p rs) ≡ Some r → (from ≤ r.offset) × (r.offset + r.room ≤ upto)) [
-      | true ↦ λ e.
-          let end = laid_within (x.offset + x.room) upto rs laid.1 in
-          subst (λ (y : Record). (from ≤ y.offset) × (y.offset + y.room ≤ upto)) (same_Some x r e) (laid.0, end)
-      | false ↦ λ e.
-          let there = laid_found p (x.offset + x.room) upto rs r laid.1 e in
-          let first = laid.0 in
-          let least = there.0 in
-          (omega arith, there.1)
-    ] is
+laid_found p from upto (x ∷ rs) r laid is = grind (arith, laid_within (x.offset + x.room) upto rs laid.1, laid_found p (x.offset + x.room) upto rs r laid.1)
 
 -- of two records that two searches find, one ends where or before the other begins
 pub laid_apart : (p q : Record → Bool) → ((r : Record) → p r ≡ true → q r ≡ false) → (from upto : ℕ) (rs : List Record) (r r' : Record) → IsLaid from upto rs
     → find p rs ≡ Some r → find q rs ≡ Some r' → (r.offset + r.room ≤ r'.offset) ⊎ (r'.offset + r'.room ≤ r.offset)
 laid_apart p q differ from upto [] r r' laid is is' = cc
 laid_apart p q differ from upto (x ∷ rs) r r' laid is is' =
-    grind (
-      arith,
-      common_steps,
-      laid_found q (x.offset + x.room) upto rs r' laid.1,
-      same_Some x r,
-      laid_found p (x.offset + x.room) upto rs r laid.1,
-      same_Some x r',
-      laid_apart p q differ (x.offset + x.room) upto rs r r' laid.1,
-    )
+    grind (arith, laid_found q (x.offset + x.room) upto rs r' laid.1, same_Some x r, laid_found p (x.offset + x.room) upto rs r laid.1, laid_apart p q differ (x.offset + x.room) upto rs r r' laid.1)
 
 pub unique_filter : (q : Record → Bool) (rs : List Record) → IsUnique rs → IsUnique (filter q rs)
 unique_filter q [] unique = tt
@@ -104,8 +84,7 @@ missed_push p (x ∷ rs) r other is = grind (arith, common_steps, missed_push p 
 
 pub unique_push : (rs : List Record) (r : Record) → find (has_key r.key) rs ≡ None → IsUnique rs → IsUnique (rs ++ r ∷ [])
 unique_push [] r new unique = (refl, tt)
-unique_push (x ∷ rs) r new unique =
-    grind (arith, common_steps, has_other_key x.key r, true≢false, has_its_key r.key x, missed_push (has_key x.key) rs r, unique_push rs r)
+unique_push (x ∷ rs) r new unique = grind (arith, has_other_key x.key r, true≢false, missed_push (has_key x.key) rs r, unique_push rs r)
 
 module _ (f : Record → Record) (keys : (r : Record) → (f r).key ≡ r.key) where
   pub missed_map : (key : List ℕ) (rs : List Record) → find (has_key key) rs ≡ None → find (has_key key) (map f rs) ≡ None
@@ -124,5 +103,4 @@ module _ (f : Record → Record) (keys : (r : Record) → (f r).key ≡ r.key) w
 pub found_before_filter : (key : List ℕ) (q : Record → Bool) (rs : List Record) (r : Record) → IsUnique rs → find (has_key key) (filter q rs) ≡ Some r
     → (find (has_key key) rs ≡ Some r) × (q r ≡ true)
 found_before_filter key q [] r unique is = cc
-found_before_filter key q (x ∷ rs) r unique is =
-    grind (arith, common_steps, same_Some x r, found_before_filter key q rs r unique.1, key_is key x, missed_filter (has_key key) q rs)
+found_before_filter key q (x ∷ rs) r unique is = grind (arith, found_before_filter key q rs r unique.1, key_is key x)

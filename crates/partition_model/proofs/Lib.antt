@@ -11,4 +11,3 @@ pub mod FateLaws
 pub mod CellSums
 pub mod BucketSums
 pub mod PowersOfTwo
-pub mod Values

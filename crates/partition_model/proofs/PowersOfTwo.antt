@@ -5,7 +5,6 @@ use Rattle.std.proofs.lemmas.Nat.{ones_cat}
 use Rattle.std.proofs.Math.Nat.{pow-le-pow_right, one-le-pow}
 use Rattle.std.specs.Int.{is_power_of_two}
 use Rattle.std.specs.Int.RustNames.{count_ones}
-use Rattle.std.proofs.lemmas.Grind.{common_steps}
 use Rattle.mica_words.proofs.Buckets.{power_of_one_digit}
 use borrow.Author.Tests.{eqb-true}
 
@@ -13,8 +12,7 @@ small_power : (k : ℕ) → 2 ^ k ≤ 65536 → k ≤ 16
 small_power k le = ⊎_elim (λ more. let large = pow-le-pow_right {n = 2} (omega arith) {i = 17} {j = k} more in absurd (omega arith)) (λ less. omega arith) (cases_lt 16 k)
 
 pub small_power_of_two : (n : ℕ) → is_power_of_two n ≡ true → n ≤ 65536 → (k : ℕ) × (k ≤ 16) × (n ≡ 2 ^ k)
-small_power_of_two n power le =
-    grind (arith, common_steps, power_of_one_digit n n (omega arith) (eqb-true (count_ones n) 1 power), eqb-true (count_ones n) 1 power, small_power)
+small_power_of_two n power le = grind (arith, power_of_one_digit n n, eqb-true (count_ones n) 1 power, small_power)
 
 pub power_is_small : (k : ℕ) → k ≤ 16 → (is_power_of_two (2 ^ k) ≡ true) × (2 ^ k ≤ 65536)
 unfolding count_ones

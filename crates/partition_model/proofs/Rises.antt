@@ -1,47 +1,37 @@
 -- Each accepted write raises the stamp, so a stamp is that of one prefix of a history at most.
-use Rattle.std.proofs.Common.{◌≡◌, ◌≢◌, ℕ, zero, suc, ◌<◌, ◌≤◌, List, [], ◌∷◌, ◌++◌, take, refl, sym, ap, ◌∙◌, arith, Option, Some, None}
+use Rattle.std.proofs.Common.{rules}
+use Rattle.std.proofs.Common.{◌≡◌, ◌≢◌, ℕ, zero, suc, ◌<◌, ◌≤◌, List, [], ◌∷◌, ◌++◌, take, refl, ap, arith, Option}
 use Rattle.std.specs.List.{fold}
 use Rattle.std.proofs.lemmas.Grind.{fold-append}
 use Rattle.std.proofs.lemmas.Grind.{common_steps}
 use Rattle.partition_model.specs.declared.options.Options.{Options}
 use Rattle.partition_model.specs.declared.write.Write.{Write}
 use Rattle.partition_model.specs.declared.write.Op.{Op}
-use Rattle.partition_model.specs.declared.write.Op.TheVariants.{Put, Add, Touch, Del}
 use Rattle.partition_model.specs.Cache as cache
 use Rattle.partition_model.specs.CacheStep as cs
 use Rattle.partition_model.specs.Store as store
 use Rattle.partition_model.specs.StoreStep as ss
-use Rattle.partition_model.specs.History.{History, State, cache_state, store_state, after, start, state_of, stamp_in, stamp_of, IsPrefix, IsCut}
+use Rattle.partition_model.specs.History.{History, State, after, start, state_of, stamp_in, stamp_of, IsPrefix, IsCut}
 use Rattle.partition_model.specs.Run.{RunStep, history_of}
 
 put_rises : (found : Option cache.Record) (s : cache.Cache) (write : Write) → s.stamp < (cs.after_put found s write).stamp
-put_rises None s write = omega arith
-put_rises (Some held) s write = omega arith
+put_rises found s write = grind (arith, common_steps)
 
 touch_rises : (found : Option cache.Record) (s : cache.Cache) (write : Write) → s.stamp < (cs.after_touch found s write).stamp
-touch_rises None s write = omega arith
-touch_rises (Some held) s write = omega arith
+touch_rises found s write = grind (arith, common_steps)
 
 write_rises : (op : Op) (options : Options) (s : cache.Cache) (write : Write) → s.stamp < (cs.after_op op options s write).stamp
-write_rises Put options s write = put_rises (cs.kept_record options s write) s write
-write_rises Add options s write = omega arith
-write_rises Touch options s write = touch_rises (cache.record_of s write.key) s write
-write_rises Del options s write = omega arith
+write_rises op options s write = grind (arith, common_steps)
 
 store_rises : (op : Op) (s : store.Store) (write : Write) → s.stamp < (ss.after_op op s write).stamp
-store_rises Put s write = omega arith
-store_rises Add s write = omega arith
-store_rises Del s write = omega arith
-store_rises Touch s write = omega arith
+store_rises op s write = grind (arith, common_steps)
 
 pub after_rises : (options : Options) (now : State) (write : Write) → stamp_in now < stamp_in (after options now write)
 unfolding cs.after ss.after
-after_rises options (cache_state s) write = write_rises write.op options s write
-after_rises options (store_state s) write = store_rises write.op s write
+after_rises options now write = grind (arith, common_steps)
 
 pub fold-snoc : (options : Options) (now : State) (history : History) (write : Write) → fold (after options) now (history ++ write ∷ []) ≡ after options (fold (after options) now history) write
-fold-snoc options now [] write = refl
-fold-snoc options now (w ∷ history) write = fold-snoc options (after options now w) history write
+fold-snoc options now history write = grind (arith, common_steps)
 
 pub stamp_rises : (options : Options) (history : History) (write : Write) → stamp_of options history < stamp_of options (history ++ write ∷ [])
 stamp_rises options history write = let next = after_rises options (state_of options history) write in omega (arith, ap stamp_in (fold-snoc options (start options.mode) history write))
@@ -88,5 +78,4 @@ module _ (options : Options) where
 
   -- no two prefixes of a history have one stamp
   pub one_cut : (history : History) (stamp : ℕ) (a b : History) → IsCut options history stamp a → IsCut options history stamp b → a ≡ b
-  one_cut history stamp a b cut cut' =
-      one_from a b cut.begins.0 cut'.begins.0 (start options.mode) (sym cut.begins.1 ∙ cut'.begins.1) (cut.stamped ∙ sym cut'.stamped)
+  one_cut history stamp a b cut cut' = search (rules, one_from)

@@ -1,15 +1,14 @@
 -- A machine reads mode, buckets, words and wear of its options, and in store mode spares. It reads no partitions, readers and tries.
-use Rattle.std.proofs.Common.{◌≡◌, ℕ, inl, inr, List, [], ◌∷◌, ◌++◌, Bool, true, false, is_some, cond, refl, ap, ◌∙◌, subst, arith}
+use Rattle.std.proofs.Common.{◌≡◌, ℕ, List, [], ◌∷◌, ◌++◌, Bool, is_some, cond, refl, ap, ◌∙◌, subst, arith}
 use Rattle.std.specs.List.{fold}
 use Rattle.std.proofs.lemmas.Grind.{common_steps}
 use Rattle.partition_model.specs.declared.options.Options.{Options}
 use Rattle.partition_model.specs.declared.options.Mode.{Mode}
 use Rattle.partition_model.specs.declared.options.Mode.TheVariants.{Cache as CacheMode, Store as StoreMode}
 use Rattle.partition_model.specs.declared.write.Op.{Op}
-use Rattle.partition_model.specs.declared.write.Op.TheVariants.{Put, Add, Touch, Del}
 use Rattle.partition_model.specs.declared.write.Write.{Write}
 use Rattle.partition_model.specs.declared.write.Outcome.{Outcome}
-use Rattle.partition_model.specs.declared.write.Outcome.TheVariants.{Stored, FullSpare, FullBlock, Worn}
+use Rattle.partition_model.specs.declared.write.Outcome.TheVariants.{Worn}
 use Rattle.partition_model.specs.Cache as cache
 use Rattle.partition_model.specs.CacheStep as cs
 use Rattle.partition_model.specs.Store as store
@@ -32,23 +31,14 @@ module _ (options : Options) (partitions readers tries spares : ℕ) where
   same_state history = ap (λ (step : State → Write → State). fold step (start options.mode) history) (λ i now write. same_after now write i)
 
   same_reply : (op : Op) (write : Write) (found : Bool) → cs.reply_of op with_others write found ≡ cs.reply_of op options write found
-  same_reply Put write found = refl
-  same_reply Add write true = refl
-  same_reply Add write false = refl
-  same_reply Touch write true = refl
-  same_reply Touch write false = refl
-  same_reply Del write true = refl
-  same_reply Del write false = refl
+  same_reply op write found = grind (arith, common_steps)
 
   module _ (same : spares ≡ options.spares) (s : store.Store) (write : Write) where
     block : ss.NeedsBlock with_others s write → ss.NeedsBlock options s write
     block h = grind (arith, common_steps)
 
     allows : (outcome : Outcome) → ss.Allows with_others s write outcome → ss.Allows options s write outcome
-    allows Stored h = (h.0, (h.1.0, elim h.1.1 [ inl fits ↦ inl fits | inr needs ↦ inr (block needs.0, needs.1) ]))
-    allows FullSpare h = grind (arith, common_steps)
-    allows FullBlock h = (h.0, (block h.1.0, h.1.1))
-    allows outcome h = h
+    allows outcome h = grind (arith, common_steps)
 
   module _ (same : options.mode ≡ StoreMode → spares ≡ options.spares) where
     pub same_may_give : (history : History) (write : Write) (outcome : Outcome) → MayGive with_others history write outcome → MayGive options history write outcome

@@ -1,18 +1,18 @@
 -- The laws of the store machine's states, over lawful histories.
-use Rattle.std.proofs.Common.{◌≡◌, ℕ, ◌≤◌, ◌<◌, List, [], ◌∷◌, length, Option, Some, None, Bool, true, false, cond, refl, sym, ap, ◌∙◌, subst, arith, ◌≢◌, leb}
+use Rattle.std.proofs.lemmas.Grind.{common_steps}
+use Rattle.std.proofs.Common.{◌≡◌, ℕ, ◌≤◌, ◌<◌, List, [], ◌∷◌, length, Option, Some, None, Bool, true, false, cond, refl, sym, ap, ◌∙◌, subst, arith, ◌≢◌}
 use Rattle.std.specs.List.{fold, AllByRecursion as AllOf}
 use Rattle.std.specs.FinMap.{get, get-empty, get-insert, get-remove, slice_cmp-IsAntisymmetric, nat_cmp-IsAntisymmetric}
 use Rattle.std.specs.Ordering.{nat_cmp, eq_by_cmp, is_eq}
 use Rattle.std.specs.declared.cmp.Ordering.{Ordering}
-use Rattle.std.specs.declared.cmp.Ordering.TheVariants.{Less, Equal, Greater}
+use Rattle.std.specs.declared.cmp.Ordering.TheVariants.{Equal}
 use Rattle.std.specs.Cmp.Lexicographic.{slice_cmp, nat_list_cmp_total}
-use Rattle.std.proofs.lemmas.Bool.{leb-true, false_from_ne_true}
+use Rattle.std.proofs.lemmas.Bool.{false_from_ne_true}
 use Rattle.std.proofs.lemmas.Option.{same_Some}
 use Rattle.mica_words.specs.Item.{KeyFits, ValueFits, item_size, largest_item}
 use Rattle.mica_words.specs.Packing.{AreBytes}
 use Rattle.partition_model.specs.declared.options.Options.{Options}
 use Rattle.partition_model.specs.declared.options.Mode.{Mode}
-use Rattle.partition_model.specs.declared.options.Mode.TheVariants.{Cache as CacheMode, Store as StoreMode}
 use Rattle.partition_model.specs.declared.write.Write.{Write}
 use Rattle.partition_model.specs.declared.write.Op.{Op}
 use Rattle.partition_model.specs.declared.write.Op.TheVariants.{Put, Add, Del, Touch}
@@ -27,9 +27,7 @@ abbrev same_bytes : List ℕ → List ℕ → Bool
 same_bytes = eq_by_cmp (slice_cmp nat_cmp)
 
 is_equal : (o : Ordering) → is_eq o ≡ true → o ≡ Equal
-is_equal Less e = cc
-is_equal Equal e = refl
-is_equal Greater e = cc
+is_equal o e = grind (arith, common_steps)
 
 pub bytes_are_same : (key key' : List ℕ) → same_bytes key key' ≡ true → key ≡ key'
 bytes_are_same key key' e = slice_cmp-IsAntisymmetric nat_cmp-IsAntisymmetric key key' (is_equal (slice_cmp nat_cmp key key') e)
@@ -41,14 +39,10 @@ bytes_differ key key' differ = false_from_ne_true (same_bytes key key') (λ e. d
 
 put_same : (s : Store) (write : Write) (key : List ℕ) → key ≢ write.key → get (ss.after_put s write).cells key ≡ get s.cells key
 put_same s write key other =
-    get-insert nat_list_cmp_total s.cells write.key (record { value = write.value; room = ss.room_after (get s.cells write.key) (size_of write) }) key
-    ∙ ap (λ b. cond b (Some (record { value = write.value; room = ss.room_after (get s.cells write.key) (size_of write) })) (get s.cells key)) (bytes_differ key write.key other)
+    grind (arith, get-insert nat_list_cmp_total s.cells write.key (record { value = write.value; room = ss.room_after (get s.cells write.key) (size_of write) }) key, bytes_differ key write.key other)
 
 op_same : (op : Op) (s : Store) (write : Write) (key : List ℕ) → key ≢ write.key → get (ss.after_op op s write).cells key ≡ get s.cells key
-op_same Put s write key other = put_same s write key other
-op_same Add s write key other = put_same s write key other
-op_same Touch s write key other = refl
-op_same Del s write key other = get-remove nat_list_cmp_total s.cells write.key key ∙ ap (λ b. cond b None (get s.cells key)) (bytes_differ key write.key other)
+op_same op s write key other = grind (arith, put_same s write key other, get-remove nat_list_cmp_total s.cells write.key key, cond, bytes_differ key write.key other)
 
 pub others_same : (s : Store) (write : Write) (key : List ℕ) → key ≢ write.key → get (ss.after s write).cells key ≡ get s.cells key
 unfolding ss.after
@@ -73,12 +67,7 @@ unfolding store_start
 start_kept = record { are = λ key cell is. let none = get-empty {X = Cell} (slice_cmp nat_cmp) key in cc; stamp = refl }
 
 room_by : (o : Option Cell) (size : ℕ) → size ≤ largest_item → ((cell : Cell) → o ≡ Some cell → cell.room ≤ largest_item) → (size ≤ ss.room_after o size) × (ss.room_after o size ≤ largest_item)
-room_by None size small rooms = (omega arith, small)
-room_by (Some cell) size small rooms =
-    elim (leb size cell.room) as (λ b. leb size cell.room ≡ b → (size ≤ cond b cell.room size) × (cond b cell.room size ≤ largest_item)) [
-      | true ↦ λ fits. (leb-true size cell.room fits, rooms cell refl)
-      | false ↦ λ short. (omega arith, small)
-    ] refl
+room_by o size small rooms = grind (arith, common_steps)
 
 module _ (s : Store) (kept : IsKept s) (write : Write) (is : IsWrite write) where
   abbrev put_cell : Cell
@@ -92,8 +81,7 @@ module _ (s : Store) (kept : IsKept s) (write : Write) (is : IsWrite write) wher
   after_put_kept : ValueFits write.value → IsKept (ss.after_put s write)
   after_put_kept value = record {
     are = λ key cell found. elim (same_bytes key write.key) as (λ b. same_bytes key write.key ≡ b → cond b (Some put_cell) (get s.cells key) ≡ Some cell → IsCell key cell) [
-      | true ↦ λ same e.
-          subst (λ (k : List ℕ). IsCell k cell) (sym (bytes_are_same key write.key same)) (subst (IsCell write.key) (same_Some put_cell cell e) (put_cell_is value))
+      | true ↦ grind (arith, IsCell, bytes_are_same key write.key, IsCell write.key, same_Some put_cell cell, put_cell_is value)
       | false ↦ λ other e. kept.are key cell e
     ] refl (sym (get-insert nat_list_cmp_total s.cells write.key put_cell key) ∙ found);
     stamp = let e = kept.stamp in omega arith;
@@ -120,12 +108,10 @@ IsKeptState (cache_state s) = Unit {0}
 IsKeptState (store_state s) = IsKept s
 
 kept_start : (mode : Mode) → IsKeptState (start mode)
-kept_start CacheMode = tt
-kept_start StoreMode = start_kept
+kept_start mode = grind (arith, start_kept)
 
 state_kept : (options : Options) (now : State) (write : Write) → IsWrite write → IsKeptState now → IsKeptState (after options now write)
-state_kept options (cache_state s) write is kept = tt
-state_kept options (store_state s) write is kept = after_kept s kept write is
+state_kept options now write is kept = grind (arith, after_kept)
 
 kept_from : (options : Options) (now : State) (history : History) → AllOf IsWrite history → IsKeptState now → IsKeptState (fold (after options) now history)
 kept_from options now [] writes kept = kept

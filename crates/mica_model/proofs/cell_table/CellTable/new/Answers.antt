@@ -4,7 +4,8 @@ use Rattle.std.specs.FinMap.{from_sorted}
 use Rattle.std.proofs.lemmas.List.{get_or-replicate, length-replicate}
 use Rattle.partition_model.specs.Store.{keys_in, rooms, spares_in_use}
 use Rattle.mica_model.specs.CellTableFields.{entries_of, HasCounts}
-use Rattle.partition_model.proofs.CellSums.{by_bytes, no_cells, no_keys, no_rooms, no_spares}
+use Rattle.partition_model.proofs.CellSums.{by_bytes, no_cells, no_keys, no_rooms}
+use Rattle.mica_model.proofs.SparesInUse.{no_spares}
 use Rattle.mica_model.proofs.cell_table.CellTable.new.Goals as goal
 
 pub invariant_of-result : goal.invariant_of-result
