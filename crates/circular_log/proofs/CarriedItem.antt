@@ -1,5 +1,7 @@
 -- What is known of an item that is carried, and what copying its words makes of the state.
-use Rattle.std.proofs.Common.{◌≡◌, ℕ, zero, suc, ◌+◌, ◌<◌, ◌≤◌, List, [], ◌∷◌, ◌++◌, length, get_or, Option, Some, refl, sym, ap, ◌∙◌, subst, arith}
+use Rattle.std.proofs.Common.{rules}
+use Rattle.std.proofs.lemmas.Grind.{common_steps}
+use Rattle.std.proofs.Common.{◌≡◌, ℕ, suc, ◌+◌, ◌<◌, ◌≤◌, List, ◌∷◌, ◌++◌, length, get_or, Some, refl, sym, ap, ◌∙◌, subst, arith}
 use Rattle.std.specs.List.{AllByRecursion}
 use Rattle.std.proofs.lemmas.Grind.{same_number_lists}
 use Rattle.mica_words.specs.Hash.{fnv1a}
@@ -7,11 +9,10 @@ use Rattle.mica_words.specs.Header.{header_of, header_key_len, header_value_len}
 use Rattle.mica_words.specs.Item.{item_size, words_for}
 use Rattle.mica_words.specs.Packing.{packed}
 use Rattle.mica_words.specs.Spelling.{item_words}
-use Rattle.mica_words.specs.Stamp.{tail_of}
 use Rattle.mica_words.proofs.ItemWords.{item_words_are, length-item_words}
 use Rattle.partition_model.specs.declared.write.Write.{Write}
 use Rattle.partition_model.specs.Write.{IsWrite}
-use Rattle.partition_model.specs.Cache.{Cache, Record, has_key, record_of}
+use Rattle.partition_model.specs.Cache.{Record, has_key, record_of}
 use Rattle.partition_model.specs.CacheStep.{after_write}
 use Rattle.partition_model.specs.History.{History, State, cache_state, store_state, state_of}
 use Rattle.partition_model.proofs.CacheKept.{IsRecord}
@@ -21,7 +22,7 @@ use Rattle.partition_model.proofs.Laid.{found_key}
 use Rattle.epoch_core.specs.declared.event.Event.TheVariants.{PutsWord}
 use Rattle.epoch_core.specs.declared.state.OwnerState.{OwnerState}
 use Rattle.epoch_core.specs.declared.state.Phase.{Phase}
-use Rattle.epoch_core.specs.declared.state.Phase.TheVariants.{Idle, Begun, Marked}
+use Rattle.epoch_core.specs.declared.state.Phase.TheVariants.{Marked}
 use Rattle.epoch_core.specs.Layout.{item_at}
 use Rattle.epoch_core.specs.OwnerState.{item_in, options_in}
 use Rattle.epoch_core.specs.Events.{WhenMarked, MayPutWord, CanPlay, after, plays, puts_from}
@@ -30,7 +31,7 @@ use Rattle.epoch_core.proofs.EventWords.{other}
 use Rattle.epoch_core.proofs.Log.{not_below}
 use Rattle.epoch_core.proofs.Machine.{all_parts}
 use Rattle.circular_log.specs.LogItem.{IsItem, words_from}
-use Rattle.circular_log.specs.LogWrite.{LeavesItem, with_item, written_record}
+use Rattle.circular_log.specs.LogWrite.{LeavesItem, with_item}
 use Rattle.circular_log.specs.LogCarry.{Carries, IsTouchOf, StoresBehind}
 use Rattle.circular_log.proofs.LoadedValue.{key_len_is, length-words_from, value_len_is, word_from}
 use Rattle.circular_log.proofs.MarkedItem.{can_store}
@@ -52,27 +53,18 @@ module _ (o : OwnerState) (s : Kept o) (from to : ℕ) (held : Record) (c : Carr
       let window = window_kept (options_in o) m kept write.key held touched.1 in
       let key : write.key ≡ held.key = sym (found_key write.key m.records held touched.1) in
       let left : record_of (after_write (options_in o) m write) write.key ≡ Some (record { key = held.key; value = held.value; offset = to; room = item_size held.key held.value }) =
-      ap (λ (t : Cache). record_of t write.key) (touched_is (options_in o) m write held touched.0 touched.1)
-      ∙ (appended_own (options_in o) m write held.value
-      ∙ λ i. Some (record { key = key i; value = held.value; offset = sym touched.3 i; room = item_size (key i) held.value })) in
+      search (rules, touched_is, appended_own, Some, options_in, key, item_size) in
       record {
         item = record { key_fits = fine.key; value_fits = fine.value; value_bytes = fine.value_bytes; room_fits = (let room = fine.room in omega arith); spelt = c.there };
         size = fine.size;
         behind = omega (arith, window.1, touched.2, touched.3);
         near = omega (arith, window.0, touched.2, touched.3);
-        leaves = subst (λ (p : Phase). WhenMarked p (λ b write before. written_record (options_in o) (state_of (options_in o) before) write
-            ≡ Some (record { key = held.key; value = held.value; offset = to; room = item_size held.key held.value }))) (sym is)
-            (subst (λ (z : State). written_record (options_in o) z write ≡ Some (record { key = held.key; value = held.value; offset = to; room = item_size held.key held.value })) (sym at) left);
+        leaves = grind (arith, common_steps);
       }
   by_state b write before is writes (store_state m) at touched = absurd touched
 
   by_phase : (phase : Phase) → o.phase ≡ phase → WhenMarked phase (λ b write before. IsTouchOf (state_of (options_in o) before) write from to held) → CarriedItem o from to held
-  by_phase Idle is touched = absurd touched
-  by_phase (Begun b) is touched = absurd touched
-  by_phase (Marked b write before) is touched =
-      let fits = subst (PhaseFits o) is s.phase in
-      let all = all_parts IsWrite before write (subst (AllByRecursion IsWrite) fits.1 s.history.writes) in
-      by_state b write before is all.0 (state_of (options_in o) before) refl touched
+  by_phase phase is touched = grind (arith, PhaseFits o, is, s.phase, all_parts IsWrite, by_state)
 
   pub carried_item : CarriedItem o from to held
   carried_item = by_phase o.phase refl c.touched
@@ -118,10 +110,7 @@ module _ (o : OwnerState) (s : Kept o) (from to : ℕ) (held : Record) (c : Carr
   pub begun_is : (word keys values size header : ℕ) → word ≡ item_in o from → keys ≡ header_key_len word → values ≡ header_value_len word → size ≡ 2 + words_for keys + words_for values
       → header ≡ header_of size keys values → (now new : OwnerState) → now ≡ o → new ≡ after (PutsWord to header) now → (new ≡ begun) × (size ≡ item_size held.key held.value)
   begun_is word keys values size header at keys_are values_are size_is header_is now new same stored =
-      let k = key_len word keys at keys_are in
-      let v = value_len word values at values_are in
-      let long : size ≡ item_size held.key held.value = size_is ∙ (λ i. 2 + words_for (k i) + words_for (v i)) in
-      (stored ∙ (λ i. after (PutsWord to ((header_is ∙ (λ j. header_of (long j) (k j) (v j))) i)) (same i)), long)
+      grind (arith, key_len word keys at keys_are, value_len word values at values_are)
 
   -- each word behind the header stands where it stood
   rest_word : (k : ℕ) → k < length rest → item_in begun (from + 1 + k) ≡ get_or rest k 0
@@ -141,11 +130,7 @@ module _ (o : OwnerState) (s : Kept o) (from to : ℕ) (held : Record) (c : Carr
         word_from begun (from + 1) count i less ∙ rest_word i (omega (arith, length-rest)))
 
     pub stores_behind : StoresBehind o.shape (from + 1) (to + 1) count
-    stores_behind i j less low same =
-        let far = carried_item.behind in
-        let near = carried_item.near in
-        let long = carried_item.size in
-        not_below o.shape.words (from + 1 + j) (to + 1 + i) (omega arith) (omega arith) (omega arith)
+    stores_behind i j less low same = omega (arith, carried_item.behind, carried_item.near, carried_item.size, not_below o.shape.words (from + 1 + j) (to + 1 + i))
 
     pub can_copy : CanPlay (puts_from (to + 1) (words_from begun (from + 1) count)) begun
     can_copy = subst (λ (xs : List ℕ). CanPlay (puts_from (to + 1) xs) begun) (sym words_are) can.1

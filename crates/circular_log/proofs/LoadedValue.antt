@@ -1,14 +1,14 @@
 -- The bytes of the words that were loaded are the value of the item.
-use Rattle.std.proofs.Common.{◌≡◌, ℕ, zero, suc, ◌+◌, ◌*◌, ◌<◌, List, [], ◌∷◌, ◌++◌, length, take, flat_map, get_or, add-zero, refl, sym, ap, ◌∙◌, arith, inl, inr, length-append}
+use Rattle.std.proofs.Common.{rules}
+use Rattle.std.proofs.lemmas.Grind.{common_steps}
+use Rattle.std.proofs.Common.{◌≡◌, ℕ, zero, suc, ◌+◌, ◌*◌, ◌<◌, List, [], ◌∷◌, ◌++◌, length, take, flat_map, get_or, add-zero, refl, sym, ap, ◌∙◌, arith, length-append}
 use Rattle.std.proofs.lemmas.Bool.{cases_lt}
-use Rattle.std.proofs.lemmas.Grind.{flat_map-append}
-use Rattle.std.proofs.lemmas.List.{append-nil, get_or_append_left}
+use Rattle.std.proofs.lemmas.List.{get_or_append_left}
 use Rattle.std.proofs.Math.Seq.{get_or-append_seam}
 use Rattle.std.specs.Int.{w64, to_le_bytes}
 use Rattle.mica_words.specs.Header.{header_of, header_key_len, header_value_len}
 use Rattle.mica_words.specs.Item.{words_for}
 use Rattle.mica_words.specs.Packing.{packed, unpacked}
-use Rattle.mica_words.proofs.Fields.{header_key_len-header_of, header_value_len-header_of}
 use Rattle.mica_words.proofs.ItemWords.{header_word, value_word, same_value}
 use Rattle.mica_words.proofs.PackedBytes.{length-words}
 use Rattle.partition_model.specs.Store.{Cell}
@@ -27,21 +27,11 @@ length-words_from o p (suc n) = omega (arith, length-words_from o p n, length-ap
 pub word_from : (o : OwnerState) (p n k : ℕ) → k < n → get_or (words_from o p n) k 0 ≡ item_in o (p + k)
 word_from o p zero k below = absurd (omega arith)
 word_from o p (suc n) k below =
-    let long = length-words_from o p n in
-    elim (cases_lt k n) [
-      | inl less ↦ get_or_append_left (words_from o p n) (item_in o (p + n) ∷ []) 0 k (omega arith) ∙ word_from o p n k less
-      | inr more ↦
-          let last : k ≡ length (words_from o p n) = omega arith in
-          ap (λ (z : ℕ). get_or (words_from o p n ++ item_in o (p + n) ∷ []) z 0) last
-          ∙ (get_or-append_seam (words_from o p n) (item_in o (p + n)) [] 0 ∙ ap (λ (z : ℕ). item_in o (p + z)) (sym (last ∙ long)))
-    ]
+    grind (arith, length-words_from o p n, cases_lt k n, get_or_append_left (words_from o p n) (item_in o (p + n) ∷ []) 0 k, word_from o p n k, get_or-append_seam (words_from o p n) (item_in o (p + n)) [] 0, item_in o, (length-words_from o p n))
 
 -- one word more
 pub bytes_more : (o : OwnerState) (p i next : ℕ) → next ≡ suc i → (bytes : List ℕ) → bytes ≡ bytes_from o p i → bytes ++ to_le_bytes w64 (item_in o (p + i)) ≡ bytes_from o p next
-bytes_more o p i next more bytes so_far =
-    ap (λ (z : List ℕ). z ++ to_le_bytes w64 (item_in o (p + i))) so_far
-    ∙ (ap (λ (z : List ℕ). bytes_from o p i ++ z) (sym (append-nil (to_le_bytes w64 (item_in o (p + i)))))
-    ∙ (sym (flat_map-append (to_le_bytes w64) (words_from o p i) (item_in o (p + i) ∷ [])) ∙ ap (bytes_from o p) (sym more)))
+bytes_more o p i next more bytes so_far = grind (arith, common_steps)
 
 pub length-bytes_from : (o : OwnerState) (p n : ℕ) → length (bytes_from o p n) ≡ 8 * n
 length-bytes_from o p n = length-words (words_from o p n) ∙ ap (λ (z : ℕ). 8 * z) (length-words_from o p n)
@@ -51,19 +41,13 @@ module _ (o : OwnerState) (p : ℕ) (key : List ℕ) (cell : Cell) (item : IsIte
   header_is = ap (item_in o) (sym (add-zero p)) ∙ (item.spelt 0 (omega arith) ∙ header_word cell.room key cell.value)
 
   pub key_len_is : (word : ℕ) → word ≡ item_in o p → header_key_len word ≡ length key
-  key_len_is word is =
-      ap header_key_len (is ∙ header_is)
-      ∙ header_key_len-header_of cell.room (length key) (length cell.value) item.room_fits (omega (arith, item.key_fits.1))
+  key_len_is word is = search (rules, header_is)
 
   pub value_len_is : (word : ℕ) → word ≡ item_in o p → header_value_len word ≡ length cell.value
-  value_len_is word is =
-      ap header_value_len (is ∙ header_is)
-      ∙ header_value_len-header_of cell.room (length key) (length cell.value) item.room_fits (omega (arith, item.key_fits.1))
+  value_len_is word is = search (rules, header_is)
 
   value_word_is : (k : ℕ) → k < words_for (length cell.value) → item_in o (p + 2 + words_for (length key) + k) ≡ get_or (packed cell.value) k 0
-  value_word_is k below =
-      let place : p + 2 + words_for (length key) + k ≡ p + (2 + words_for (length key) + k) = omega arith in
-      ap (item_in o) place ∙ (item.spelt (2 + words_for (length key) + k) (omega arith) ∙ value_word cell.room key cell.value k below)
+  value_word_is k below = search (rules, item_in, value_word)
 
   value_by : (at : ℕ) → at ≡ p + 2 + words_for (length key) → take (length cell.value) (bytes_from o at (words_for (length cell.value))) ≡ cell.value
   unfolding unpacked
@@ -78,5 +62,4 @@ module _ (o : OwnerState) (p : ℕ) (key : List ℕ) (cell : Cell) (item : IsIte
   -- the bytes of all the value's words, in the state where they were loaded, begin with the value
   pub value_is : (now : OwnerState) (at n len : ℕ) (bytes : List ℕ) → now ≡ o → at ≡ p + 2 + words_for (length key) → n ≡ words_for (length cell.value)
       → len ≡ length cell.value → bytes ≡ bytes_from now at n → take len bytes ≡ cell.value
-  value_is now at n len bytes same place words long is =
-      (λ j. take (long j) (is j)) ∙ ((λ j. take (length cell.value) (bytes_from (same j) at (words j))) ∙ value_by at place)
+  value_is now at n len bytes same place words long is = search (rules, take, value_by)

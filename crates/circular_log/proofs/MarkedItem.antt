@@ -1,5 +1,6 @@
 -- The words of a marked write's item may be put.
-use Rattle.std.proofs.Common.{◌≡◌, ℕ, ◌+◌, ◌^◌, ◌<◌, ◌≤◌, List, Option, Some, refl, sym, ap, subst, arith}
+use Rattle.std.proofs.lemmas.Grind.{common_steps}
+use Rattle.std.proofs.Common.{◌≡◌, ℕ, ◌+◌, ◌^◌, ◌<◌, ◌≤◌, List, Some, refl, sym, subst, arith}
 use Rattle.std.specs.List.{AllByRecursion}
 use Rattle.std.proofs.lemmas.Option.{none-some}
 use Rattle.mica_words.specs.Item.{item_size}
@@ -9,7 +10,7 @@ use Rattle.mica_words.proofs.ItemWords.{length-item_words}
 use Rattle.partition_model.specs.declared.write.Write.{Write}
 use Rattle.partition_model.specs.Write.{IsWrite}
 use Rattle.partition_model.specs.Cache.{Record, has_key}
-use Rattle.partition_model.specs.CacheStep.{IsInItem, after_write}
+use Rattle.partition_model.specs.CacheStep.{after_write}
 use Rattle.partition_model.specs.Limits.{most_stamp}
 use Rattle.partition_model.specs.History.{History, State, cache_state, store_state, state_of, stamp_in, stamp_of}
 use Rattle.partition_model.proofs.CacheKept.{IsRecord, after_write_is}
@@ -33,15 +34,12 @@ module _ (o : OwnerState) (s : Kept o) (p room : ℕ) (key value : List ℕ) whe
   item = record { key = key; value = value; offset = p; room = room }
 
   belongs : (b : ℕ) (write : Write) (now : State) → written_record (options_in o) now write ≡ Some item → (i : ℕ) → i < item_size key value → BelongsTo o b write now (p + i)
-  belongs b write (cache_state now) is i l = subst (λ (r : Option Record). IsInItem r (p + i)) (sym is) (omega arith, omega arith)
-  belongs b write (store_state now) is i l = absurd (none-some item is)
+  belongs b write now is i l = grind (arith, common_steps)
 
   -- the tail before a marked write is far from the largest offset
   tail_small : (b : ℕ) (write : Write) (before : History) → o.phase ≡ Marked b write before → stamp_of (options_in o) before ≤ most_stamp
   tail_small b write before is =
-      let fits = subst (PhaseFits o) is s.phase in
-      let small = stamp_small (options_in o) s.shape.ranges o.history s.history.accepted s.history.writes in
-      omega (arith, small, stamp_rises (options_in o) before write, ap (stamp_of (options_in o)) fits.1)
+      grind (arith, PhaseFits o, is, s.phase, stamp_small (options_in o) s.shape.ranges o.history s.history.accepted s.history.writes, stamp_rises (options_in o) before write, stamp_of (options_in o))
 
   -- the item ends before the tail after it
   low : (before : History) → AllByRecursion IsWrite before → (write : Write) → IsWrite write → (now : State) → state_of (options_in o) before ≡ now → stamp_in now ≤ most_stamp

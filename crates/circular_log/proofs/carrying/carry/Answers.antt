@@ -1,8 +1,7 @@
-use Rattle.std.proofs.Common.{◌≡◌, ℕ, ◌+◌, ◌-◌, ◌<◌, ap, sym, ◌∙◌, subst, arith, length}
+use Rattle.std.proofs.Common.{◌≡◌, ◌+◌, ◌-◌, ap, sym, ◌∙◌, subst, arith}
 use Rattle.mica_words.specs.Item.{item_size}
 use Rattle.mica_words.proofs.Sizes.{item_size-most}
 use Rattle.partition_model.specs.Cache.{Record}
-use Rattle.epoch_core.specs.declared.shape.Shape.{Shape}
 use Rattle.epoch_core.specs.declared.state.OwnerState.{OwnerState}
 use Rattle.epoch_core.specs.Kept.{Kept}
 use Rattle.epoch_core.specs.Events.{CanPlay, MayPutWord, plays, puts_from}
@@ -56,10 +55,7 @@ header_of-requires-clause-room g c =
     omega (arith, keys, values, (its g z).item.key_fits, (its g z).item.value_fits, c.item_size-size.ensures)
 
 pub put_word-requires : goal.put_word-requires
-put_word-requires g c =
-    let z = (goal.at.put_word-requires g c).After-read-header in
-    subst (λ (o : OwnerState). MayPutWord o c.args.to) (sym c.read-header.ensures.same)
-    (carried.may_begin (g.W.OwnerWords.owner c.args.words.now) (kept g z) c.args.from c.args.to c.requires.marked.0 c.requires.marked.1)
+put_word-requires g c = grind (arith, (goal.at.put_word-requires g c).After-read-header, MayPutWord, c.read-header.ensures.same, carried.may_begin)
 
 pub overflow_add-from : goal.overflow_add-from
 overflow_add-from g c =

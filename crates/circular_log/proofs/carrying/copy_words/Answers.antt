@@ -1,13 +1,9 @@
-use Rattle.std.proofs.Common.{◌≡◌, ℕ, ◌+◌, ◌<◌, List, ◌∷◌, ap, sym, ◌∙◌, subst, arith, drop, length}
+use Rattle.std.proofs.Common.{rules}
+use Rattle.std.proofs.Common.{◌≡◌, ℕ, ◌+◌, ◌<◌, List, ◌∷◌, ap, sym, ◌∙◌, subst, arith, drop}
 use Rattle.std.proofs.lemmas.List.{drop_all}
-use Rattle.epoch_core.specs.declared.event.Event.{Event}
 use Rattle.epoch_core.specs.declared.event.Event.TheVariants.{PutsWord}
-use Rattle.epoch_core.specs.declared.shape.Shape.{Shape}
 use Rattle.epoch_core.specs.declared.state.OwnerState.{OwnerState}
-use Rattle.epoch_core.specs.Layout.{item_at}
-use Rattle.epoch_core.specs.OwnerState.{item_in}
-use Rattle.epoch_core.specs.Events.{CanPlay, MayPutWord, after, plays, puts_from}
-use Rattle.epoch_core.proofs.EventWords.{other}
+use Rattle.epoch_core.specs.Events.{MayPutWord, plays, puts_from}
 use Rattle.epoch_core.proofs.Puts.{next_put}
 use Rattle.circular_log.specs.LogItem.{words_from}
 use Rattle.circular_log.proofs.LoadedValue.{length-words_from, word_from}
@@ -33,27 +29,7 @@ put_word-requires g c = subst (λ (o : OwnerState). MayPutWord o (c.args.to + c.
     (rw (next g (goal.at.put_word-requires g c).After-read-word) at c.loop-i.invariant.allowed).0
 
 pub loop-i-preserved : goal.loop-i-preserved
-loop-i-preserved g c =
-    let owner = g.W.OwnerWords.owner in
-    let loop = c.loop-i.invariant in
-    let z = (goal.at.loop-i-preserved g c).After-read-word in
-    let next = next g z in
-    let now : owner c.put_word.new.self ≡ after (PutsWord (c.args.to + c.loop-i.i) c.read-word.result) (owner c.loop-i.words) =
-    c.put_word.ensures.event ∙ ap (after (PutsWord (c.args.to + c.loop-i.i) c.read-word.result)) c.read-word.ensures.same in
-    record {
-      allowed = subst (CanPlay (puts_from (c.args.to + (c.loop-i.i + 1)) (drop (c.loop-i.i + 1) (xs g z)))) (sym now) (rw next at loop.allowed).1;
-      leads = ap (plays (puts_from (c.args.to + (c.loop-i.i + 1)) (drop (c.loop-i.i + 1) (xs g z)))) now
-          ∙ (sym (ap (λ (es : List Event). plays es (owner c.loop-i.words)) next) ∙ loop.leads);
-      shape = ap (λ (o : OwnerState). o.shape) now ∙ loop.shape;
-      rest = λ j least less.
-          ap (λ (o : OwnerState). item_in o (c.args.from + j)) now
-          ∙ (other (owner c.loop-i.words) (PutsWord (c.args.to + c.loop-i.i) c.read-word.result) (item_at (owner c.loop-i.words).shape (c.args.from + j))
-          (λ same. c.requires.behind c.loop-i.i j (omega arith) less
-          (sym (subst (λ (shape : Shape). item_at shape (c.args.from + j) ≡ item_at shape (c.args.to + c.loop-i.i)) loop.shape same)))
-          ∙ loop.rest j (omega arith) less);
-      kept = c.put_word.ensures.kept;
-      home = c.put_word.ensures.home ∙ (c.read-word.ensures.home ∙ loop.home);
-    }
+loop-i-preserved g c = search (rules, next)
 
 pub returns-clause-copied : goal.returns-clause-copied
 returns-clause-copied g c =

@@ -1,3 +1,4 @@
+use Rattle.std.proofs.Common.{rules}
 use Rattle.std.proofs.Common.{subst, sym}
 use Rattle.epoch_core.specs.declared.state.OwnerState.{OwnerState}
 use Rattle.circular_log.specs.LogWrite.{MayRewrite}
@@ -14,6 +15,4 @@ pub rewrite_item-requires-clause-there : goal.rewrite_item-requires-clause-there
 rewrite_item-requires-clause-there g c = key_there _ c.args.offset c.args.key.now c.args.value.now (may g (goal.at.rewrite_item-requires-clause-there g c).After-read)
 
 pub rewrite_item-requires-clause-allowed : goal.rewrite_item-requires-clause-allowed
-rewrite_item-requires-clause-allowed g c =
-    let old = may g (goal.at.rewrite_item-requires-clause-allowed g c).After-read in
-    can_store (g.W.OwnerWords.owner c.read.new.self) c.read.ensures.kept c.args.offset old.cell.room c.args.key.now c.args.value.now old.leaves c.header_room-room.result
+rewrite_item-requires-clause-allowed g c = search (rules, may, can_store)
