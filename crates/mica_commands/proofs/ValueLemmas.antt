@@ -21,7 +21,7 @@ use Rattle.mica_fronts.specs.declared.totals.TheConstants.{MAX_BATCHES}
 use Rattle.mica_serve.specs.declared.ports.Ports.{Ports}
 use Rattle.mica_serve.specs.PortOptions.{IsValidPorts}
 use Rattle.mica_commands.specs.Words.{Text}
-use Rattle.mica_commands.specs.DaemonWords.{lasting_ports}
+use Rattle.mica_commands.specs.DaemonWords.{Service, image_name, lasting_ports, may_fill, daemon_given}
 use Rattle.mica_commands.specs.CommandLine.{mode, partitions, buckets, spares, words, readers, tries, wear, port, fronts, batches, number, required_number, number_of, is_number, value_by, value_of, options_with, replay_options, serve_options, without_readers, exclusive_options, image_options, ask_options, per, port_options, ◌>>=◌}
 
 same_number : (a b : ℕ) → Some a ≡ Some b → a ≡ b
@@ -167,6 +167,16 @@ lasting_valid given ports is =
       fronts = value_bounds fronts.name 1 16 1 (given fronts.name) f.0 (omega arith, omega arith) f.1;
       batches = (omega arith, omega arith);
     })
+
+pub service_valid : (given : Text → Option Text) (service : Service) → daemon_given given ≡ Some service → IsValid service.options × IsValidPorts service.ports
+service_valid given service is =
+    let o = both_told (serve_options given) _ service is in
+    let p = both_told (lasting_ports given) _ service o.2 in
+    let made : Service = record { options = o.0; ports = p.0; image = given image_name } in
+    elim (may_fill o.0.mode (given image_name)) as (λ b. (if b then Some made else None) ≡ Some service → IsValid service.options × IsValidPorts service.ports) [
+      | true ↦ λ same. subst (λ (s : Service). IsValid s.options × IsValidPorts s.ports) (ap (λ s. unwrap_or s made) same) (serve_valid given o.0 o.1, lasting_valid given p.0 p.1)
+      | false ↦ λ none. absurd (none-some service none)
+    ] p.2
 
 pub ports_valid : (given : Text → Option Text) (ports : Ports) → port_options given ≡ Some ports → IsValidPorts ports
 ports_valid given ports is =

@@ -1,15 +1,26 @@
 //! The words of a server that stays up.
-ghost use Rattle.std.specs.Prelude.{map, string_bytes};
-ghost use Rattle.mica_commands.specs.DaemonWords.{daemon_of, IsDaemonReading};
+ghost use Rattle.std.specs.Prelude.{◌≡◌, map, string_bytes, option_map};
+ghost use Rattle.clap.specs.Matches.{first_value, found_of};
+ghost use Rattle.mica_commands.specs.DaemonWords.{daemon_given, daemon_of, service_of, IsDaemonReading};
 
 use crate::WordsFault;
 use crate::clap_command::matches_of;
 use crate::option_values::{lasting_ports, serve_options};
+use clap::ArgMatches;
 use mica_serve::Ports;
-use partition_model::Options;
+use partition_model::{Mode, Options};
 use std::alloc::Global;
 
-static DAEMON_OPTIONS: [&str; 9] = [
+/// What a server that stays up is asked to do.
+#[derive(Debug, Drop)]
+pub struct DaemonOptions<'a> {
+    pub options: Options,
+    pub ports: Ports,
+    /// The file whose image fills the store.
+    pub image: Option<&'a str>,
+}
+
+static DAEMON_OPTIONS: [&str; 10] = [
     "mode",
     "partitions",
     "buckets",
@@ -19,18 +30,33 @@ static DAEMON_OPTIONS: [&str; 9] = [
     "wear",
     "port",
     "fronts",
+    "image",
 ];
 
-/// The partitions and the ports that the words after the program's name give.
-pub fn read_daemon(alloc: Global, words: &[String]) -> Result<(Options, Ports), WordsFault>
-    ensures { IsDaemonReading (daemon_of (map string_bytes words.now)) result }
+// The same from the texts of its options. An image fills a store, and no cache.
+fn daemon_options<'a>(found: &ArgMatches<'a>) -> Option<DaemonOptions<'a>>
+    ensures { option_map service_of result ≡ daemon_given (first_value (found_of found.now)) }
+{
+    let options = serve_options(found)?;
+    let ports = lasting_ports(found)?;
+    let image = found.get_str("image");
+    if options.mode == Mode::Cache && image.is_some() {
+        return None;
+    }
+    Some(DaemonOptions {
+        options,
+        ports,
+        image,
+    })
+}
+
+/// The partitions, the ports and the image that the words after the program's name give.
+pub fn read_daemon<'a>(alloc: Global, words: &'a [String]) -> Result<DaemonOptions<'a>, WordsFault>
+    ensures { IsDaemonReading (daemon_of (map string_bytes words.entry.now)) result }
 {
     let found = matches_of(alloc, "micad", DAEMON_OPTIONS.as_slice(), words)?;
-    let Some(options) = serve_options(&found) else {
-        return Err(WordsFault::Usage);
-    };
-    match lasting_ports(&found) {
-        Some(ports) => Ok((options, ports)),
+    match daemon_options(&found) {
+        Some(options) => Ok(options),
         None => Err(WordsFault::Usage),
     }
 }

@@ -18,7 +18,7 @@ mod spelling;
 mod summary;
 
 pub use command::{Command, WordsFault, read_words};
-pub use daemon_words::read_daemon;
+pub use daemon_words::{DaemonOptions, read_daemon};
 pub use gen_options::GenOptions;
 pub use generated_text::gen_text;
 pub use generator::gen_trace;

@@ -5,6 +5,7 @@ pub mod Walk
 pub mod Faultless
 pub mod Complete
 pub mod PutLines
+pub mod PutWrites
 pub mod ImagePairs
 pub mod PutOnly
 pub mod Keys

@@ -11,6 +11,7 @@ mod laws;
 mod lines;
 mod made;
 mod reading;
+mod writes;
 mod writing;
 
 pub use fault::ImageFault;
@@ -19,4 +20,5 @@ pub use laws::{faultless_is_image, one_image, unpacked_is_image};
 pub use lines::put_image;
 pub use made::{Imaged, image_of};
 pub use reading::read_image;
+pub use writes::writes_of;
 pub use writing::write_image;

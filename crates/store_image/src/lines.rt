@@ -4,7 +4,7 @@ ghost use Rattle.mica_trace.specs.TraceGrammar.{line_text, trace_text};
 ghost use Rattle.store_image.specs.ImageLines.{put_line as line_of, put_lines};
 
 use crate::Image;
-use crate::reading::split_pair;
+use crate::reading::first_pair;
 use mica_io::NoMemory;
 use mica_trace::append_line;
 
@@ -26,9 +26,7 @@ pub fn put_image(image: &Image, out: &mut Vec<u8>) -> Result<(), NoMemory>
     // A line has three bytes more than the text of its pair.
     out.reserve(rest.len().saturating_add(3 * image.len() as usize))?;
     for _ in 0..image.len() {
-        let Ok((key, value, after)) = split_pair(rest) else {
-            unreachable!();
-        };
+        let (key, value, after) = first_pair(rest);
         if put_line(key, value, out).is_err() {
             out.truncate(start);
             return Err(NoMemory);

@@ -1,5 +1,5 @@
 //! Reads images.
-ghost use Rattle.std.specs.Prelude.{◌≡◌, ◌⊎◌, ◌↔◌, List, true, drop, IsTrue, IfOk, IfErr, IsOkUnless};
+ghost use Rattle.std.specs.Prelude.{◌≡◌, ◌⊎◌, ◌↔◌, List, None, true, drop, IsTrue, IfOk, IfErr, IsOkUnless};
 ghost use Rattle.std.specs.Result.{result_err};
 ghost use Rattle.mica_words.specs.Item.{KeyFits, ValueFits};
 ghost use Rattle.mica_trace.specs.TraceGrammar.{IsKey, IsValue};
@@ -41,7 +41,7 @@ fn are_texts(key: &[u8], value: &[u8]) -> bool
 }
 
 // The key and the value of the pair at the front, by their lengths, and the bytes after it.
-pub(crate) fn split_pair(from: &[u8]) -> Result<(&[u8], &[u8], &[u8]), ImageFault>
+fn split_pair(from: &[u8]) -> Result<(&[u8], &[u8], &[u8]), ImageFault>
     ensures parts { IfOk result (λ x. (pair_at from.now ≡ record { key = x.0.now; value = x.1.now }) × (after_pair from.now ≡ x.2.now)) }
     ensures fit { IfOk result (λ x. KeyFits x.0.now × ValueFits x.1.now) }
     ensures fault { lengths_fault from.now ≡ result_err result }
@@ -60,6 +60,17 @@ pub(crate) fn split_pair(from: &[u8]) -> Result<(&[u8], &[u8], &[u8]), ImageFaul
     let (key, after_key) = texts.split_at(key_len);
     let (value, rest) = after_key.split_at(value_len);
     Ok((key, value, rest))
+}
+
+// The same, where the lengths have no fault.
+pub(crate) fn first_pair(from: &[u8]) -> (&[u8], &[u8], &[u8])
+    requires { lengths_fault from.now ≡ None }
+    ensures parts { (pair_at from.now ≡ record { key = result.0.now; value = result.1.now }) × (after_pair from.now ≡ result.2.now) }
+{
+    let Ok(parts) = split_pair(from) else {
+        unreachable!();
+    };
+    parts
 }
 
 // The key of the pair at the front, which follows this one, and the bytes after the pair.

@@ -10,11 +10,8 @@ done : {T E : Type 0} (result : Result T E) (P : Type 0) → is_err result ≡ f
 done (Ok x) P passed is = is
 done (Err e) P passed is = absurd (cc)
 
-pub unreachable-requires : goal.unreachable-requires
-unreachable-requires c =
-    let less : c.loop.counter < length c.args.image.now = omega arith in
-    let no = sym (none_wrong c.args.image.now c.loop.counter less c.texts-rest.ensures.image.each c.loop.rest.now c.loop.invariant.left) ∙ c.in_default.ensures.fault in
-    absurd (cc)
+pub first_pair-requires : goal.first_pair-requires
+first_pair-requires c = none_wrong c.args.image.now c.loop.counter (omega arith) c.texts-rest.ensures.image.each c.loop.rest.now c.loop.invariant.left
 
 pub loop-preserved : goal.loop-preserved
 loop-preserved c =
@@ -22,10 +19,10 @@ loop-preserved c =
     let i = c.loop.counter in
     let less : i < length image = omega arith in
     let all = c.texts-rest.ensures.image.each in
-    let next = sym c.in-Ok.ensures.parts.0 ∙ pair_next image i less all c.loop.rest.now c.loop.invariant.left in
-    let line : c.put_line.new.out.items ≡ c.loop.out.items ++ (line_text (put_line (record { key = c.in-Ok.key.now; value = c.in-Ok.value.now })) ++ 10 ∷ []) = done c.put_line.result _ (sym c.if-is_err.ensures.value) c.put_line.ensures.ok ∙ simp append_assoc in
+    let next = sym c.first_pair.ensures.parts.0 ∙ pair_next image i less all c.loop.rest.now c.loop.invariant.left in
+    let line : c.put_line.new.out.items ≡ c.loop.out.items ++ (line_text (put_line (record { key = c.first_pair.result.0.now; value = c.first_pair.result.1.now })) ++ 10 ∷ []) = done c.put_line.result _ (sym c.if-is_err.ensures.value) c.put_line.ensures.ok ∙ simp append_assoc in
     record {
-      told = line ∙ ap (λ (t : List ℕ). t ++ (line_text (put_line (record { key = c.in-Ok.key.now; value = c.in-Ok.value.now })) ++ 10 ∷ [])) c.loop.invariant.told
+      told = line ∙ ap (λ (t : List ℕ). t ++ (line_text (put_line (record { key = c.first_pair.result.0.now; value = c.first_pair.result.1.now })) ++ 10 ∷ [])) c.loop.invariant.told
           ∙ ap (λ (p : Pair). (c.reserve.new.self.items ++ trace_text (put_lines (take i image))) ++ (line_text (put_line p) ++ 10 ∷ [])) next ∙ line_more image i less c.reserve.new.self.items;
-      left = sym c.in-Ok.ensures.parts.1 ∙ left_next image i less all c.loop.rest.now c.loop.invariant.left;
+      left = sym c.first_pair.ensures.parts.1 ∙ left_next image i less all c.loop.rest.now c.loop.invariant.left;
     }
