@@ -30,13 +30,15 @@ feeds_none f ready = record {
       same ∙ ap (λ l. outbox old.queue old.number old.jobs l) (ready.none p old is_old).0;
 }
 
-pub jobs_for-push : (queue : ℕ) (feeds : List Feed) (feed : Feed) → jobs_for queue (feeds ++ feed ∷ []) ≡ jobs_for queue feeds ++ cond (feed.queue == queue) (kind.Job feed.job ∷ []) []
-jobs_for-push queue [] feed = elim (feed.queue == queue) as (λ b. map (λ (x : Feed). kind.Job x.job) (cond b (feed ∷ []) []) ≡ cond b (kind.Job feed.job ∷ []) []) [ true ↦ refl | false ↦ refl ]
-jobs_for-push queue (x ∷ feeds) feed =
-    elim (x.queue == queue) as (λ b. map (λ (y : Feed). kind.Job y.job) (cond b (x ∷ filter (λ y. y.queue == queue) (feeds ++ feed ∷ [])) (filter (λ y. y.queue == queue) (feeds ++ feed ∷ [])))
-    ≡ map (λ (y : Feed). kind.Job y.job) (cond b (x ∷ filter (λ y. y.queue == queue) feeds) (filter (λ y. y.queue == queue) feeds)) ++ cond (feed.queue == queue) (kind.Job feed.job ∷ []) []) [
-      | true ↦ ap (λ l. kind.Job x.job ∷ l) (jobs_for-push queue feeds feed)
-      | false ↦ jobs_for-push queue feeds feed
+-- what is made of the jobs for one queue, with one more
+pub for_push : {Z : Type 0} (h : Feed → Z) (queue : ℕ) (feeds : List Feed) (feed : Feed)
+    → map h (filter (λ x. x.queue == queue) (feeds ++ feed ∷ [])) ≡ map h (filter (λ x. x.queue == queue) feeds) ++ cond (feed.queue == queue) (h feed ∷ []) []
+for_push h queue [] feed = elim (feed.queue == queue) as (λ b. map h (cond b (feed ∷ []) []) ≡ cond b (h feed ∷ []) []) [ true ↦ refl | false ↦ refl ]
+for_push h queue (x ∷ feeds) feed =
+    elim (x.queue == queue) as (λ b. map h (cond b (x ∷ filter (λ y. y.queue == queue) (feeds ++ feed ∷ [])) (filter (λ y. y.queue == queue) (feeds ++ feed ∷ [])))
+    ≡ map h (cond b (x ∷ filter (λ y. y.queue == queue) feeds) (filter (λ y. y.queue == queue) feeds)) ++ cond (feed.queue == queue) (h feed ∷ []) []) [
+      | true ↦ ap (λ l. h x ∷ l) (for_push h queue feeds feed)
+      | false ↦ for_push h queue feeds feed
     ]
 
 -- the next job and its sender
@@ -75,11 +77,11 @@ module _ (f h : Feeder) (ready : IsReadyFeeder f) (so_far : IsFeeding f h) (feed
                 let is_old_here : slice_get f.senders.items feed.queue ≡ Some old = subst (λ (n : ℕ). slice_get f.senders.items n ≡ Some old) (sym same.0) is_old in
                 let was = so_far.each feed.queue old now is_old_here at in
                 let pushed : jobs_for p (so_far.sent ++ feed ∷ []) ≡ jobs_for feed.queue so_far.sent ++ kind.Job feed.job ∷ []
-                = jobs_for-push p so_far.sent feed ∙ ap (λ b. jobs_for p so_far.sent ++ cond b (kind.Job feed.job ∷ []) []) (eq-eqb feed.queue p same.0) ∙ ap (λ n. jobs_for n so_far.sent ++ kind.Job feed.job ∷ []) (sym same.0) in
+                = for_push (λ (x : Feed). kind.Job x.job) p so_far.sent feed ∙ ap (λ b. jobs_for p so_far.sent ++ cond b (kind.Job feed.job ∷ []) []) (eq-eqb feed.queue p same.0) ∙ ap (λ n. jobs_for n so_far.sent ++ kind.Job feed.job ∷ []) (sym same.0) in
                 sym same.1 ∙ ap (λ (o : Outbox). outbox o.queue o.number o.jobs (o.sent ++ kind.Job feed.job ∷ [])) was ∙ ap (λ l. outbox old.queue old.number old.jobs l) (sym pushed)
             | inr other ↦
                 let pushed : jobs_for p (so_far.sent ++ feed ∷ []) ≡ jobs_for p so_far.sent
-                = jobs_for-push p so_far.sent feed ∙ ap (λ b. jobs_for p so_far.sent ++ cond b (kind.Job feed.job ∷ []) []) (ne_eqb feed.queue p other.0) ∙ append-nil (jobs_for p so_far.sent) in
+                = for_push (λ (x : Feed). kind.Job x.job) p so_far.sent feed ∙ ap (λ b. jobs_for p so_far.sent ++ cond b (kind.Job feed.job ∷ []) []) (ne_eqb feed.queue p other.0) ∙ append-nil (jobs_for p so_far.sent) in
                 so_far.each p old new is_old other.1 ∙ ap (λ l. outbox old.queue old.number old.jobs l) (sym pushed)
           ];
     }

@@ -1,50 +1,21 @@
 -- The jobs of a round stand in an order that their senders may send them in.
-use Rattle.std.proofs.Common.{◌≡◌, ℕ, suc, ◌+◌, ◌<◌, ◌≤◌, ◌==◌, List, [], ◌∷◌, ◌++◌, length, map, filter, slice_get, Some, None, refl, sym, ap, ◌∙◌, subst, arith, cond, true, false, eq-eqb, ne_eqb, length-append, ⊎_elim}
-use Rattle.std.specs.List.{list_any, cons_option, AllByRecursion}
+use Rattle.std.proofs.Common.{◌≡◌, ℕ, suc, ◌+◌, ◌<◌, ◌≤◌, ◌==◌, List, [], ◌∷◌, ◌++◌, length, map, filter, slice_get, Some, refl, sym, ap, ◌∙◌, subst, arith, cond, false, eq-eqb, length-append, ⊎_elim}
+use Rattle.std.specs.List.{list_any, AllByRecursion}
 use Rattle.std.specs.Vec.Iter.{into_iter_items}
-use Rattle.std.proofs.lemmas.List.{map-append}
+use Rattle.std.proofs.lemmas.List.{map-append, length-map}
 use Rattle.std.proofs.lemmas.Bool.{cases_lt}
 use Rattle.std.proofs.lemmas.List.Elements.{filter-append, All-from_recursion}
-use Rattle.list_laws.proofs.Places.{element_at}
-use Rattle.mica_words.proofs.Hashes.{partition_of-below}
-use Rattle.partition_model.specs.declared.options.Options.{Options}
+use Rattle.list_laws.proofs.Places.{element_at, at_map}
 use Rattle.partition_model.specs.declared.write.Write.{Write}
-use Rattle.partition_model.specs.Options.{IsValid}
 use Rattle.partition_model.specs.Write.{IsWrite}
-use Rattle.mica_trace.specs.declared.line.TraceLine.{TraceLine}
-use Rattle.mica_trace.specs.TraceGrammar.{IsTraceLine}
-use Rattle.mica_trace.specs.Rounds.{partition_in, is_in_partition, write_by, writes_of}
-use Rattle.mica_trace.proofs.ReportStamps.{line_write}
 use Rattle.owner_queue.specs.declared.message.Message.{Message}
 use Rattle.owner_queue.specs.declared.message.Message.TheVariants as kind
 use Rattle.owner_queue.specs.Messages.{sender_of, ticket_of, is_end, IsFit, writes_in}
 use Rattle.owner_queue.specs.JobEnds.{Outbox, outbox}
 use Rattle.mica_replay.specs.declared.feeder.Feed.{Feed}
 use Rattle.mica_replay.specs.declared.feeder.Feeder.{Feeder}
-use Rattle.mica_replay.specs.Feeds.{jobs_for, IsReadyFeeder}
-use Rattle.mica_replay.specs.RoundJobs.{jobs_from}
-
--- Each write of a trace line fits.
-
-writes_fit : (options : Options) (p : ℕ) (lines : List TraceLine) → AllByRecursion IsTraceLine lines → AllByRecursion IsWrite (writes_of options p lines)
-writes_fit options p [] all = tt
-writes_fit options p (line ∷ lines) all =
-    let rest = writes_fit options p lines all.1 in
-    elim (is_in_partition options p line) as (λ b. AllByRecursion IsWrite (cons_option (cond b (write_by line.op line.key line.value) None) (writes_of options p lines))) [
-      | true ↦ elim (write_by line.op line.key line.value) as (λ o. write_by line.op line.key line.value ≡ o → AllByRecursion IsWrite (cons_option o (writes_of options p lines))) [
-        | None ↦ λ is. rest
-        | Some write ↦ λ is. (line_write line.op line.key line.value write all.0 is, rest)
-      ] refl
-      | false ↦ rest
-    ]
-
--- no line is of a partition that there isn't
-no_writes : (options : Options) (p : ℕ) (lines : List TraceLine) → IsValid options → options.partitions ≤ p → writes_of options p lines ≡ []
-no_writes options p [] valid far = refl
-no_writes options p (line ∷ lines) valid far =
-    let below = partition_of-below line.key options.partitions valid.partitions.0 in
-    ap (λ b. cons_option (cond b (write_by line.op line.key line.value) None) (writes_of options p lines)) (ne_eqb (partition_in options line) p (λ same. omega (arith, same, below, far)))
-    ∙ no_writes options p lines valid far
+use Rattle.mica_replay.specs.Feeds.{jobs_for, writes_for, IsReadyFeeder}
+use Rattle.mica_replay.specs.RoundJobs.{jobs_from, AreNumbered}
 
 -- What is known of a job between others of its queue.
 record JobAt (n : ℕ) (writes : List Write) (before : List Message) (m : Message) : Type 0 where
@@ -82,42 +53,36 @@ jobs_for-append q xs ys = ap (map (λ (feed : Feed). kind.Job feed.job)) (filter
 jobs_for-own : (feed : Feed) (feeds : List Feed) → jobs_for feed.queue (feed ∷ feeds) ≡ kind.Job feed.job ∷ jobs_for feed.queue feeds
 jobs_for-own feed feeds = ap (λ b. map (λ (x : Feed). kind.Job x.job) (cond b (feed ∷ filter (λ x. x.queue == feed.queue) feeds) (filter (λ x. x.queue == feed.queue) feeds))) (eq-eqb feed.queue feed.queue refl)
 
--- The feeder of a round has jobs in order, where each sender may send as many as its queue gets.
-pub ready : (options : Options) (lines : List TraceLine) (feeds : List Feed) (f : Feeder) → IsValid options → AllByRecursion IsTraceLine lines
-    → ((p : ℕ) → jobs_for p feeds ≡ jobs_from 0 (writes_of options p lines)) → length f.senders.items ≡ options.partitions
-    → ((p : ℕ) (sender : Outbox) → slice_get f.senders.items p ≡ Some sender → (n : ℕ) × (sender ≡ outbox sender.queue 0 n []) × (length (writes_of options p lines) ≤ n))
-    → into_iter_items f.feeds ≡ feeds → IsReadyFeeder f
-ready options lines feeds f valid fit made many fresh in_hand = record {
-  none = λ p sender at.
-      let it = fresh p sender at in
-      (ap (λ (o : Outbox). o.sent) it.1, ap (λ (o : Outbox). o.number) it.1);
+-- The feeder of a round has jobs in order, where each sender may send as many as its queue has.
+pub ready : (feeds : List Feed) (counts : List ℕ) (f : Feeder) → AreNumbered feeds counts → map (λ (s : Outbox). s.jobs) f.senders.items ≡ counts
+    → ((p : ℕ) (sender : Outbox) → slice_get f.senders.items p ≡ Some sender → sender ≡ outbox sender.queue 0 sender.jobs []) → into_iter_items f.feeds ≡ feeds → IsReadyFeeder f
+ready feeds counts f numbered counts_are fresh in_hand = record {
+  none = λ p sender at. let it = fresh p sender at in (ap (λ (o : Outbox). o.sent) it, ap (λ (o : Outbox). o.number) it);
   order = λ before later feed is.
       let q : ℕ = feed.queue in
-      let split : jobs_from 0 (writes_of options q lines) ≡ jobs_for q before ++ kind.Job feed.job ∷ jobs_for q later
-      = sym (made q) ∙ ap (jobs_for q) (sym in_hand ∙ is) ∙ jobs_for-append q before (feed ∷ later) ∙ ap (λ l. jobs_for q before ++ l) (jobs_for-own feed later) in
-      let here = job_at 0 (writes_of options q lines) (jobs_for q before) (jobs_for q later) (kind.Job feed.job) (writes_fit options q lines fit) split in
-      let inside : q < options.partitions = within q (let less = here.less in omega arith) in
-      let sender = element_at f.senders.items q (omega arith) in
+      let split : jobs_from 0 (writes_for q feeds) ≡ jobs_for q before ++ kind.Job feed.job ∷ jobs_for q later
+      = sym (numbered.jobs q) ∙ ap (jobs_for q) (sym in_hand ∙ is) ∙ jobs_for-append q before (feed ∷ later) ∙ ap (λ l. jobs_for q before ++ l) (jobs_for-own feed later) in
+      let here = job_at 0 (writes_for q feeds) (jobs_for q before) (jobs_for q later) (kind.Job feed.job) (numbered.fit q) split in
+      let inside : q < length counts = within q (omega (arith, here.less)) in
+      let sender = element_at f.senders.items q (omega (arith, ap length counts_are, length-map f.senders.items (λ (s : Outbox). s.jobs))) in
       let it = fresh q sender.0 sender.1 in
-      let jobs_is : sender.0.jobs ≡ it.0 = ap (λ (o : Outbox). o.jobs) it.1 in
+      let count = numbered.counted q sender.0.jobs (ap (λ l. slice_get l q) (sym counts_are) ∙ at_map (λ (s : Outbox). s.jobs) f.senders.items q sender.0 sender.1) in
       let ticket = here.ticket in (
         sender.0,
         sender.1,
-        here.own ∙ sym (ap (λ (o : Outbox). o.number) it.1),
+        here.own ∙ sym (ap (λ (o : Outbox). o.number) it),
         record {
           no_end = here.no_end;
-          in_range = λ _. omega (arith, here.ticket, here.less, it.2, jobs_is);
+          in_range = λ _. omega (arith, here.ticket, here.less, count);
           rises = λ _. All-from_recursion (λ b. ticket_of b < feed.job.ticket) (jobs_for q before) (subst (λ (k : ℕ). AllByRecursion (λ b. ticket_of b < k) (jobs_for q before)) (sym ticket) here.below);
           fit = here.fit;
         },
       );
 }
   where
-    within : (q : ℕ) → 0 < length (writes_of options q lines) → q < options.partitions
+    within : (q : ℕ) → 0 < length (writes_for q feeds) → q < length counts
     within q some =
-        ⊎_elim (λ (less : q < options.partitions). less)
-        (λ (far : options.partitions ≤ q). absurd (omega (arith, some, ap length (no_writes options q lines valid far))))
-        (cases_lt q options.partitions)
+        ⊎_elim (λ (less : q < length counts). less) (λ (far : length counts ≤ q). absurd (omega (arith, some, ap length (numbered.none q far)))) (cases_lt q (length counts))
 
 -- the writes of the jobs, and of the end behind them, are the writes that the jobs were made of
 pub writes_in-jobs : (n : ℕ) (writes : List Write) → writes_in (jobs_from n writes ++ kind.End 0 ∷ []) ≡ writes

@@ -1,19 +1,14 @@
 -- An owner's replies to one write more.
-use Rattle.std.proofs.Common.{◌≡◌, ℕ, ◌-◌, ◌<◌, List, [], ◌∷◌, ◌++◌, length, map, zip, Option, Some, None, refl, sym, ap, ◌∙◌, subst, arith, append-nil, append_assoc, slice_get, IsSomeAnd, ◌≤◌}
-use Rattle.std.specs.List.{cons_option, filter_map}
+use Rattle.std.proofs.Common.{◌≡◌, ℕ, ◌-◌, ◌<◌, List, [], ◌∷◌, ◌++◌, length, map, zip, Option, Some, None, refl, sym, ap, ◌∙◌, subst, arith, append-nil, append_assoc, IsSomeAnd}
 use Rattle.std.proofs.lemmas.List.{map-append, length_push}
-use Rattle.std.proofs.lemmas.List.Elements.{filter_map-append}
-use Rattle.list_laws.proofs.Places.{length-filter_map-le}
 use Rattle.partition_model.specs.declared.options.Options.{Options}
 use Rattle.partition_model.specs.declared.write.Write.{Write}
 use Rattle.partition_model.specs.declared.write.Outcome.{Outcome}
 use Rattle.partition_model.specs.History.{History, MayGive, stamp_of}
 use Rattle.partition_model.specs.Run.{RunStep, history_of, IsRunFrom}
-use Rattle.mica_trace.specs.declared.line.TraceLine.{TraceLine}
 use Rattle.epoch_core.specs.declared.state.OwnerState.{OwnerState}
 use Rattle.epoch_core.specs.OwnerState.{options_in}
 use Rattle.epoch_core.specs.OwnerStep.{IsOwnerStep}
-use Rattle.mica_replay.specs.LineNumbers.{lines_at, write_at, writes_at}
 use Rattle.mica_replay.specs.Replies.{Reply, Replies, replies_with, step_with, steps_with, RepliesTo}
 use Rattle.mica_trace.proofs.ListParts.{zip-append}
 use Rattle.owner_queue.proofs.Gains.{step_gains}
@@ -64,20 +59,6 @@ owns_one old mid new writes write before now after outcome stamp so_far step sta
             ∙ ap (λ (h : History). record old { words = new.words; history = h }) all_history;
       };
     }
-
--- the writes of one line more
-pub writes_at_push : (trace : List TraceLine) (numbers : List ℕ) (number : ℕ) (line : TraceLine) (write : Write) → slice_get trace number ≡ Some line → write_at line ≡ Some write
-    → writes_at trace (numbers ++ number ∷ []) ≡ writes_at trace numbers ++ write ∷ []
-writes_at_push trace numbers number line write is_line is_write =
-    ap (filter_map write_at) (filter_map-append (slice_get trace) numbers (number ∷ []) ∙ ap (λ o. lines_at trace numbers ++ cons_option o []) is_line)
-    ∙ filter_map-append write_at (lines_at trace numbers) (line ∷ [])
-    ∙ ap (λ o. writes_at trace numbers ++ cons_option o []) is_write
-
-pub writes_at_few : (trace : List TraceLine) (numbers : List ℕ) → length (writes_at trace numbers) ≤ length numbers
-writes_at_few trace numbers =
-    let one = length-filter_map-le (slice_get trace) numbers in
-    let two = length-filter_map-le write_at (lines_at trace numbers) in
-    omega arith
 
 pub some_and : {X : Type 0} (o : Option X) (P : X → Type 0) → IsSomeAnd o P → (x : X) × (o ≡ Some x) × P x
 some_and None P is = absurd is

@@ -1,6 +1,6 @@
 -- One queue more, and one sender more that is taken in.
-use Rattle.std.proofs.Common.{◌≡◌, ℕ, zero, suc, ◌+◌, ◌<◌, ◌≤◌, ◌⊎◌, inl, inr, List, [], ◌∷◌, ◌++◌, length, slice_get, slice_set, Some, refl, sym, ap, ◌∙◌, subst, arith, true, length-append}
-use Rattle.std.proofs.lemmas.List.{length_push, length-set}
+use Rattle.std.proofs.Common.{◌≡◌, ℕ, zero, suc, ◌+◌, ◌<◌, ◌≤◌, ◌⊎◌, inl, inr, List, [], ◌∷◌, ◌++◌, length, map, take, get_or, slice_get, slice_set, Some, refl, sym, ap, ◌∙◌, subst, arith, true, length-append}
+use Rattle.std.proofs.lemmas.List.{length_push, length-set, map-append, take_more, take_all}
 use Rattle.std.proofs.lemmas.Option.{slice_get_within, same_Some}
 use Rattle.list_laws.proofs.Places.{at_seam, set_same, set_cases}
 use Rattle.owner_queue.specs.Messages.{sent_by, has_end}
@@ -24,24 +24,27 @@ only_one items (x ∷ rest) last first is one at = absurd (omega (arith, ap leng
 
 module _ {P : Type 0} where
   -- the first p owners have their queues
-  pub record QueuesTo (p : ℕ) (olds news : List (OwnerWork P)) (senders : List Outbox) : Type 0 where
+  pub record QueuesTo (counts : List ℕ) (p : ℕ) (olds news : List (OwnerWork P)) (senders : List Outbox) : Type 0 where
     pub many : length news ≡ length olds
+    pub counts_are : map (λ s. s.jobs) senders ≡ take p counts
     pub senders_many : length senders ≡ p
     pub done : (i : ℕ) (old new : OwnerWork P) (sender : Outbox) → slice_get olds i ≡ Some old → slice_get news i ≡ Some new → slice_get senders i ≡ Some sender → HasQueue old new sender
     pub later : (i : ℕ) (old new : OwnerWork P) → p ≤ i → slice_get olds i ≡ Some old → slice_get news i ≡ Some new → new ≡ old
 
-  pub queues_none : (olds : List (OwnerWork P)) → QueuesTo 0 olds olds []
-  queues_none olds = record {
+  pub queues_none : (counts : List ℕ) (olds : List (OwnerWork P)) → QueuesTo counts 0 olds olds []
+  queues_none counts olds = record {
     many = refl;
+    counts_are = refl;
     senders_many = refl;
     done = λ i old new sender is_old is_new is_sender. absurd (cc);
     later = λ i old new from is_old is_new. same_Some _ _ (sym is_new ∙ is_old);
   }
 
-  pub queues_one : (p : ℕ) (olds mids : List (OwnerWork P)) (senders : List Outbox) (mid new : OwnerWork P) (sender : Outbox) → QueuesTo p olds mids senders → slice_get mids p ≡ Some mid
-      → HasQueue mid new sender → QueuesTo (p + 1) olds (slice_set mids p new) (senders ++ sender ∷ [])
-  queues_one p olds mids senders mid new sender so_far at one = record {
+  pub queues_one : (counts : List ℕ) (p : ℕ) (olds mids : List (OwnerWork P)) (senders : List Outbox) (mid new : OwnerWork P) (sender : Outbox) → QueuesTo counts p olds mids senders → slice_get mids p ≡ Some mid
+      → HasQueue mid new sender → p < length counts → sender.jobs ≡ get_or counts p 0 → QueuesTo counts (p + 1) olds (slice_set mids p new) (senders ++ sender ∷ [])
+  queues_one counts p olds mids senders mid new sender so_far at one less count = record {
     many = length-set mids p new ∙ so_far.many;
+    counts_are = map-append (λ s. s.jobs) senders (sender ∷ []) ∙ (λ i. so_far.counts_are i ++ count i ∷ []) ∙ sym (take_more counts p 0 less);
     senders_many = length_push senders sender ∙ ap (λ n. n + 1) so_far.senders_many;
     done = λ i old x s is_old is_new is_sender.
         elim (set_cases mids p new i x is_new) as (λ _. HasQueue old x s) [
@@ -65,8 +68,13 @@ module _ {P : Type 0} where
         ];
   }
 
-  pub queues_all : (n : ℕ) (olds news : List (OwnerWork P)) (senders : List Outbox) → length olds ≡ n → QueuesTo n olds news senders → HaveQueues olds news senders
-  queues_all n olds news senders long all = record { many = all.many; senders_many = all.senders_many ∙ sym long; each = all.done }
+  pub queues_all : (counts : List ℕ) (n : ℕ) (olds news : List (OwnerWork P)) (senders : List Outbox) → length olds ≡ n → length counts ≡ n → QueuesTo counts n olds news senders → HaveQueues counts olds news senders
+  queues_all counts n olds news senders long counted all = record {
+    many = all.many;
+    counts_are = all.counts_are ∙ take_all n counts (omega arith);
+    senders_many = all.senders_many ∙ sym long;
+    each = all.done;
+  }
 
   -- the owner at the place of the next sender takes it in, and is as it was
   pub takes_in_one : (olds news : List (OwnerWork P)) (senders : List Outbox) (sender : Outbox) (w new : OwnerWork P) → HaveTakenIn olds news senders → slice_get news (length senders) ≡ Some w

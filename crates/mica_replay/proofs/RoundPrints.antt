@@ -16,7 +16,7 @@ use Rattle.partition_model.specs.declared.write.Write.{Write}
 use Rattle.partition_model.specs.Options.{IsValid}
 use Rattle.mica_trace.specs.declared.line.TraceLine.{TraceLine}
 use Rattle.mica_trace.specs.declared.line.TraceOp.{TraceOp}
-use Rattle.mica_trace.specs.declared.line.TraceOp.TheVariants.{Put, Add, Del, Touch, Get, Sync}
+use Rattle.mica_trace.specs.declared.line.TraceOp.TheVariants.{Get, Sync}
 use Rattle.mica_trace.specs.declared.report.Line.{Line}
 use Rattle.mica_trace.specs.declared.report.Line.TheVariants.{Wrote, Sync as SyncLine}
 use Rattle.mica_trace.specs.LawfulReport.{IsReplyTo, IsKindOf, step_by, step_in, steps_of}
@@ -24,23 +24,18 @@ use Rattle.mica_trace.specs.Rounds.{is_get_op, is_in_partition, partition_in, op
 use Rattle.mica_trace.specs.RoundReport.{HasKind, is_get, gets_of, pairs_of}
 use Rattle.mica_trace.proofs.ListParts.{length_zip}
 use Rattle.mica_replay.specs.Lending.{OwnerPart}
-use Rattle.mica_replay.specs.LineNumbers.{homes_of}
+use Rattle.mica_replay.specs.LineNumbers.{homes_of, IsWriteOp}
 use Rattle.mica_replay.specs.Merged.{AreEnough, HasMerged, IsMerged}
 use Rattle.mica_replay.specs.Replies.{Reply, step_with, steps_with}
 use Rattle.mica_replay.specs.RoundRun.{replies_of}
-use Rattle.mica_replay.proofs.LineShares.{home_at, IsWriteOp, sync_no_write, get_no_write, write_no_get, op_is_write}
+use Rattle.mica_replay.proofs.LineShares.{home_at, sync_no_write, get_no_write, write_no_get, op_is_write}
 use Rattle.mica_replay.proofs.RoundSteps.{seen_at}
 
 wrote_kind : (op : TraceOp) (own : Op) → op_of op ≡ Some own → (o : Outcome) (s : ℕ) → IsKindOf op (Wrote own o s)
 wrote_kind op own is o s = subst (λ does. IsReplyTo does own) (sym is) refl
 
 sync_kind : (op : TraceOp) → op ≡ Sync → IsKindOf op SyncLine
-sync_kind Sync is = tt
-sync_kind Put is = absurd (cc)
-sync_kind Add is = absurd (cc)
-sync_kind Del is = absurd (cc)
-sync_kind Touch is = absurd (cc)
-sync_kind Get is = absurd (cc)
+sync_kind op is = subst (λ o. IsKindOf o SyncLine) (sym is) tt
 
 none_either : {X : Type 0} (b : Bool) → cond {A = Option X} b None None ≡ None
 none_either true = refl

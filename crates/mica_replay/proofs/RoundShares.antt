@@ -24,10 +24,10 @@ found_is None P lines is holds = absurd (cc)
 found_is (Some own) P lines is holds = subst P (same_Some _ _ is) holds
 
 -- `found` are the lines that the readers found, none of whom lacked memory
-pub shares : (options : Options) (trace before round : List TraceLine) (owner_parts news : List OwnerPart) (reader_parts left_readers : List ReaderPart) (found : List (List Line))
-    → (split : IsSplit options trace (gets_in before) round owner_parts reader_parts) → (run : HasRunRound trace options owner_parts news reader_parts left_readers) → map (λ (t : ReaderPart). t.found) left_readers ≡ map (λ (l : List Line). Some l) found
+pub shares : (options : Options) (trace before round : List TraceLine) (writes : ℕ → List Write) (owner_parts news : List OwnerPart) (reader_parts left_readers : List ReaderPart) (found : List (List Line))
+    → (split : IsSplit options trace (gets_in before) round writes owner_parts reader_parts) → (run : HasRunRound trace options writes owner_parts news reader_parts left_readers) → map (λ (t : ReaderPart). t.found) left_readers ≡ map (λ (l : List Line). Some l) found
     → HasRound options before round (map state_of_owner owner_parts) (map state_of_owner run.ran_owners) (map state_of_owner news) run.seats (map replies_of run.ran_owners) found
-shares options trace before round owner_parts news reader_parts left_readers found split run all_found =
+shares options trace before round writes owner_parts news reader_parts left_readers found split run all_found =
     let long_works = length-map owner_parts state_of_owner in
     let long_rans = length-map run.ran_owners state_of_owner in
     let long_news = length-map news state_of_owner in
@@ -35,7 +35,7 @@ shares options trace before round owner_parts news reader_parts left_readers fou
     let long_found = ap length all_found in
     let long_lefts = length-map left_readers (λ (t : ReaderPart). t.found) in
     let long_some = length-map found (λ (l : List Line). Some l) in
-    let one = run.ran in
+    let one = run.ran.many in
     let two = run.met in
     let three = run.seated in
     let four = run.left in
@@ -59,8 +59,8 @@ shares options trace before round owner_parts news reader_parts left_readers fou
           let now = from_map state_of_owner run.ran_owners p ran is_ran in
           let done = from_map replies_of run.ran_owners p replies is_done in
           let same : now.0 ≡ done.0 = same_Some _ _ (sym now.1 ∙ done.1) in
-          let wrote = (run.wrote p was.0 now.0 was.1 now.1).0 in
-          let by_lines = subst (λ (ws : List Write). HasWritten was.0.state now.0.state ws now.0.done.list) (split.writes p was.0 was.1) wrote in
+          let wrote = (run.ran.each p was.0 now.0 was.1 now.1).written in
+          let by_lines = subst (λ (ws : List Write). HasWritten was.0.state now.0.state ws now.0.done.list) (split.queued p) wrote in
           subst (λ (rs : List Reply). HasWritten old ran (writes_of options p round) rs) (ap (λ (w : OwnerPart). w.done.list) same ∙ done.2)
           (subst (λ (o : OwnerState). HasWritten old o (writes_of options p round) now.0.done.list) now.2
           (subst (λ (o : OwnerState). HasWritten o now.0.state (writes_of options p round) now.0.done.list) was.2 by_lines));

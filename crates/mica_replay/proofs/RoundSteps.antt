@@ -7,6 +7,7 @@ use Rattle.list_laws.proofs.Places.{from_map, element_at}
 use Rattle.list_laws.proofs.UpTo.{UpTo, up_one}
 use Rattle.atomic_table.specs.Seated.{TableId}
 use Rattle.partition_model.specs.declared.options.Options.{Options}
+use Rattle.partition_model.specs.declared.write.Write.{Write}
 use Rattle.mica_trace.specs.declared.line.TraceLine.{TraceLine}
 use Rattle.mica_trace.specs.declared.report.Line.{Line}
 use Rattle.epoch_core.specs.declared.reader.ReaderState.{ReaderState}
@@ -14,14 +15,13 @@ use Rattle.mica_replay.specs.declared.worker.OwnerWork.{OwnerWork}
 use Rattle.mica_replay.specs.declared.worker.ReaderWork.{ReaderWork}
 use Rattle.partition_model.specs.History.{IsPrefix}
 use Rattle.epoch_core.specs.declared.state.OwnerState.{OwnerState}
-use Rattle.mica_replay.specs.LineNumbers.{lines_at, writes_at, NamesGet}
+use Rattle.mica_replay.specs.Each.{Each}
+use Rattle.mica_replay.specs.LineNumbers.{lines_at, NamesGet}
 use Rattle.mica_replay.specs.ReaderGets.{AreSeatsOf, HaveRead}
-use Rattle.mica_replay.specs.Replies.{HasWritten}
-use Rattle.mica_replay.specs.Workers.{IsReadyOwner, IsReadyReader, OwnerRan, OwnersRan, ReaderRan, ReadersRan}
+use Rattle.mica_replay.specs.Workers.{IsReadyReader, ReaderRan, ReadersRan}
 use Rattle.mica_replay.specs.Between.{seat_of, closed_of, sum_to}
 use Rattle.mica_replay.specs.Lending.{OwnerPart, owner_part, lent_part, table_in, HaveMet}
-use Rattle.mica_replay.specs.RoundRun.{ReaderPart, reader_part, IsReadyOwnerPart, AreReady, HasMetReaders, HasRunRound}
-use Rattle.mica_replay.specs.Shares.{Each}
+use Rattle.mica_replay.specs.RoundRun.{ReaderPart, reader_part, AreReady, HasRunWrites, HasMetReaders, HasRunRound}
 
 pub up_all : {X : Type 0} (R : X → X → Type 0) (n : ℕ) (olds news : List X) → length news ≤ n → UpTo R n olds news → Each (λ (_ : ℕ). R) olds news
 up_all R n olds news all so_far = record {
@@ -100,7 +100,6 @@ pub record MetTo (q : ℕ) (seats : List (List ReaderState)) (p : ℕ) (ran new 
   pub seen : (i : ℕ) (seat : ReaderState) → i < q → seat_of seats i p ≡ Some seat → IsPrefix seat.seen new.state.history
   pub table : new.table ≡ ran.table
   pub worker : new.worker ≡ ran.worker
-  pub writes : new.writes ≡ ran.writes
   pub done : new.done ≡ ran.done
 
 pub record HaveMetTo (q : ℕ) (seats : List (List ReaderState)) (ran_owners news : List OwnerPart) : Type 0 where
@@ -144,7 +143,6 @@ met_more q seats ran_owners mids news own so_far is_his full met = record {
             ] refl;
         table = now.table ∙ was.table;
         worker = now.worker ∙ was.worker;
-        writes = now.writes ∙ was.writes;
         done = now.done ∙ was.done;
       };
 }
@@ -169,7 +167,6 @@ met_everybody seats n ran_owners news many met p ran new is_ran is_new =
       };
       table = it.table;
       worker = it.worker;
-      writes = it.writes;
       done = it.done;
     }
   where
@@ -210,17 +207,12 @@ module _ {P R : Type 0} (owner : P → OwnerState) (home : P → TableId) (reade
   lends_one readers q old new so_far less is lent =
       subst (UpTo (IsLent owner_parts) (q + 1) reader_parts) (sym (map-set t readers q new)) (up_one (IsLent owner_parts) q reader_parts (map t readers) (t old) (t new) so_far (seen_at t readers q old less is) lent)
 
-  pub owners_ready : (owners : List (OwnerWork P)) → map f owners ≡ owner_parts → All (IsReadyOwner trace) owners
-  owners_ready owners same =
-      all_by f (IsReadyOwner trace) (IsReadyOwnerPart trace options) owners (λ w it. record { named = it.named; none = it.none; room = it.room })
-      (λ n w is. ready.each_owner n w (subst (λ (ws : List OwnerPart). slice_get ws n ≡ Some w) same is))
-
   lent_seats : AreSeatsOf options (map lent_part owner_parts)
   lent_seats = record {
     many = length-map owner_parts lent_part ∙ ready.owners;
     shapes = λ p seat is.
         let back = from_map lent_part owner_parts p seat is in
-        ap (λ (s : ReaderState). s.shape) (sym back.2) ∙ (ready.each_owner p back.0 back.1).shape;
+        ap (λ (s : ReaderState). s.shape) (sym back.2) ∙ ready.shapes p back.0 back.1;
   }
 
   -- what was lent to the reader at a place
@@ -248,21 +240,19 @@ module _ {P R : Type 0} (owner : P → OwnerState) (home : P → TableId) (reade
 
 -- Owners have run, and readers have read with all that the owners had lent them.
 pub record Ran {P R : Type 0} (owner : P → OwnerState) (home : P → TableId) (reader : R → ReaderState) (at : R → TableId) (trace : List TraceLine) (options : Options)
-    (owner_parts : List OwnerPart) (reader_parts : List ReaderPart) : Type 0 where
+    (writes : ℕ → List Write) (owner_parts : List OwnerPart) (reader_parts : List ReaderPart) : Type 0 where
   pub ready : AreReady trace options owner_parts reader_parts
-  pub owners : List (OwnerWork P)
   pub ran_owners : List (OwnerWork P)
   pub lents : List (ReaderWork R)
   pub mids : List (ReaderWork R)
   pub count : ℕ
   pub all : length lents ≤ count
-  pub same : map (owner_part owner home) owners ≡ owner_parts
   pub lent : UpTo (IsLent owner_parts) count reader_parts (map (reader_part reader at) lents)
-  pub owned : OwnersRan owner home trace owners ran_owners
+  pub owned : Each (λ p. HasRunWrites (writes p)) owner_parts (map (owner_part owner home) ran_owners)
   pub reading : ReadersRan reader at trace options lents mids
 
 module _ {P R : Type 0} {owner : P → OwnerState} {home : P → TableId} {reader : R → ReaderState} {at : R → TableId} {trace : List TraceLine} {options : Options}
-    {owner_parts : List OwnerPart} {reader_parts : List ReaderPart} (r : Ran owner home reader at trace options owner_parts reader_parts) where
+    {writes : ℕ → List Write} {owner_parts : List OwnerPart} {reader_parts : List ReaderPart} (r : Ran owner home reader at trace options writes owner_parts reader_parts) where
   abbrev owner_seen : OwnerWork P → OwnerPart
   owner_seen w = owner_part owner home w
 
@@ -290,23 +280,10 @@ module _ {P R : Type 0} {owner : P → OwnerState} {home : P → TableId} {reade
             (subst (λ (l : List ReaderState). IfSome back.0.found (λ found. HaveRead options (lines_at trace was.0.gets.items) found l (map reader back.0.seats.items))) it.2.seats one.found);
       }))
 
-  ran_same : (p : ℕ) (old ran : OwnerPart) → slice_get owner_parts p ≡ Some old → slice_get (map owner_seen r.ran_owners) p ≡ Some ran → HasWritten old.state ran.state (writes_at trace old.writes) ran.done.list
-      × (ran.table ≡ old.table) × (ran.worker ≡ old.worker) × (ran.writes ≡ old.writes)
-  ran_same p old ran is_old is_ran =
-      let back = from_map owner_seen r.ran_owners p ran is_ran in
-      let first = from_map owner_seen r.owners p old (subst (λ (ws : List OwnerPart). slice_get ws p ≡ Some old) (sym r.same) is_old) in
-      let one = at_each (OwnerRan owner home trace) r.owners r.ran_owners r.owned.0 r.owned.1 p first.0 back.0 first.1 back.1 in
-      let here : HasWritten (owner first.0.part) (owner back.0.part) (writes_at trace first.0.writes.items) back.0.done.list × (home back.0.part ≡ home first.0.part) × (back.0.worker ≡ first.0.worker) × (back.0.writes.items ≡ first.0.writes.items) = (one.written, one.at_home, one.worker, ap (λ w. w.items) one.writes) in
-      subst (λ (w : OwnerPart). HasWritten old.state w.state (writes_at trace old.writes) w.done.list × (w.table ≡ old.table) × (w.worker ≡ old.worker) × (w.writes ≡ old.writes)) back.2
-      (subst (λ (w : OwnerPart). HasWritten w.state (owner back.0.part) (writes_at trace w.writes) back.0.done.list × (home back.0.part ≡ w.table) × (back.0.worker ≡ w.worker) × (back.0.writes.items ≡ w.writes)) first.2 here)
-
-  ran_many : length (map owner_seen r.ran_owners) ≡ length owner_parts
-  ran_many = length-map r.ran_owners owner_seen ∙ r.owned.0 ∙ sym (length-map r.owners owner_seen) ∙ ap length r.same
-
   tables_now : (q : ℕ) (now : List (OwnerWork P)) → HaveMetTo q given (map owner_seen r.ran_owners) (map owner_seen now) → map table_in (map owner_seen now) ≡ map table_in owner_parts
   tables_now q now met =
       same_map table_in (map owner_seen r.ran_owners) (map owner_seen now) met.many (λ n x y is_x is_y. (met.each n x y is_x is_y).table)
-      ∙ same_map table_in owner_parts (map owner_seen r.ran_owners) ran_many (λ n x y is_x is_y. (ran_same n x y is_x is_y).1)
+      ∙ same_map table_in owner_parts (map owner_seen r.ran_owners) r.owned.many (λ n x y is_x is_y. (r.owned.each n x y is_x is_y).table)
 
   -- the reader at a place that has not yet given its seats back
   mid_at : (q : ℕ) (readers : List (ReaderWork R)) (old : ReaderWork R) → UpTo HasLeft q (map reader_seen r.mids) (map reader_seen readers) → q < length readers → old ≡ get_or readers q old → slice_get (map reader_seen r.mids) q ≡ Some (reader_seen old)
@@ -340,7 +317,7 @@ module _ {P R : Type 0} {owner : P → OwnerState} {home : P → TableId} {reade
       let first = turn_at q (reader_seen old) mid in
       let it = answered q first.0 (reader_seen old) first.1 mid in
       let given_here : slice_get given q ≡ Some (reader_seen old).seats = slice_get-map (λ (x : ReaderPart). x.seats) (map reader_seen r.mids) q ∙ ap (option_map (λ (x : ReaderPart). x.seats)) mid in
-      met_more q given (map owner_seen r.ran_owners) (map owner_seen now) (map owner_seen later) (reader_seen old).seats met given_here (it.many ∙ sym ran_many) more
+      met_more q given (map owner_seen r.ran_owners) (map owner_seen now) (map owner_seen later) (reader_seen old).seats met given_here (it.many ∙ sym r.owned.many) more
 
   pub leaves_one : (q : ℕ) (readers : List (ReaderWork R)) (old new : ReaderWork R) → UpTo HasLeft q (map reader_seen r.mids) (map reader_seen readers) → q < length readers → old ≡ get_or readers q old → HasLeft (reader_seen old) (reader_seen new)
       → UpTo HasLeft (q + 1) (map reader_seen r.mids) (map reader_seen (slice_set readers q new))
@@ -348,7 +325,7 @@ module _ {P R : Type 0} {owner : P → OwnerState} {home : P → TableId} {reade
       subst (UpTo HasLeft (q + 1) (map reader_seen r.mids)) (sym (map-set reader_seen readers q new)) (up_one HasLeft q (map reader_seen r.mids) (map reader_seen readers) (reader_seen old) (reader_seen new) left (seen_at reader_seen readers q old less is) one)
 
   pub ran_round : (q : ℕ) (readers : List (ReaderWork R)) (now : List (OwnerWork P)) → length readers ≡ q → UpTo HasLeft q (map reader_seen r.mids) (map reader_seen readers) → HaveMetTo q given (map owner_seen r.ran_owners) (map owner_seen now)
-      → HasRunRound trace options owner_parts (map owner_seen now) reader_parts (map reader_seen readers)
+      → HasRunRound trace options writes owner_parts (map owner_seen now) reader_parts (map reader_seen readers)
   ran_round q readers now all_left left met =
       let count = left.many in
       let long = length-map readers reader_seen in
@@ -361,11 +338,10 @@ module _ {P R : Type 0} {owner : P → OwnerState} {home : P → TableId} {reade
       record {
         ran_owners = map owner_seen r.ran_owners;
         seats = given;
-        ran = ran_many;
-        met = met.many ∙ ran_many;
+        met = met.many ∙ r.owned.many;
         seated = omega arith;
         left = omega arith;
-        wrote = ran_same;
+        ran = r.owned;
         read = λ n old new own is_old is_new is_his.
             let back = from_map (λ (x : ReaderPart). x.seats) (map reader_seen r.mids) n own is_his in
             let it = answered n old back.0 is_old back.1 in

@@ -66,8 +66,8 @@ pub table_at : {S X T : Type 0} (h : S → T) (k : X → T) (seats : List S) (it
 table_at h k seats items p seat item same is_seat is_item =
     same_Some _ _ (sym (slice_get-map h seats p ∙ ap (option_map h) is_seat) ∙ ap (λ ts. slice_get ts p) same ∙ (slice_get-map k items p ∙ ap (option_map k) is_item))
 
-pub meets_by : (old new : OwnerPart) (r : ReaderState) → new.state ≡ met_by old.state r → Kept new.state → new.table ≡ old.table → new.worker ≡ old.worker → new.writes ≡ old.writes → new.done ≡ old.done → MeetsSeat r old new
-meets_by old new r met kept table worker writes done = record {
+pub meets_by : (old new : OwnerPart) (r : ReaderState) → new.state ≡ met_by old.state r → Kept new.state → new.table ≡ old.table → new.worker ≡ old.worker → new.done ≡ old.done → MeetsSeat r old new
+meets_by old new r met kept table worker done = record {
   shape = ap (λ (o : OwnerState). o.shape) met;
   history = ap (λ (o : OwnerState). o.history) met;
   phase = ap (λ (o : OwnerState). o.phase) met;
@@ -75,7 +75,6 @@ meets_by old new r met kept table worker writes done = record {
   seen = subst (λ (h : History). IsPrefix h new.state.history) (ap (λ (o : OwnerState). o.met.seen) met) kept.met_seen;
   table = table;
   worker = worker;
-  writes = writes;
   done = done;
 }
 

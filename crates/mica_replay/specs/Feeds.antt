@@ -1,6 +1,7 @@
 -- What a feeder has in hand, and what it makes of its senders.
 use Rattle.std.specs.Prelude.{◌≡◌, ℕ, ◌==◌, List, [], ◌∷◌, ◌++◌, length, map, filter, slice_get, Some}
 use Rattle.std.specs.Vec.Iter.{into_iter_items}
+use Rattle.partition_model.specs.declared.write.Write.{Write}
 use Rattle.owner_queue.specs.declared.message.Message.{Message}
 use Rattle.owner_queue.specs.declared.message.Message.TheVariants as kind
 use Rattle.owner_queue.specs.Messages.{MayFollow}
@@ -11,6 +12,10 @@ use Rattle.mica_replay.specs.declared.feeder.Feeder.{Feeder}
 -- the jobs for one queue, in order
 abbrev pub jobs_for : ℕ → List Feed → List Message
 jobs_for queue feeds = map (λ feed. kind.Job feed.job) (filter (λ feed. feed.queue == queue) feeds)
+
+-- the writes of these jobs
+abbrev pub writes_for : ℕ → List Feed → List Write
+writes_for queue feeds = map (λ feed. feed.job.write) (filter (λ feed. feed.queue == queue) feeds)
 
 -- each job may stand behind those for its queue before it, by what its sender may send
 abbrev pub AreInOrder : List Outbox → List Feed → Type 0

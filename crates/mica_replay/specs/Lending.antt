@@ -13,11 +13,10 @@ pub record OwnerPart : Type 0 where
   pub state : OwnerState
   pub table : TableId
   pub worker : ℕ
-  pub writes : List ℕ
   pub done : Replies
 
 abbrev pub owner_part : {P : Type 0} → (P → OwnerState) → (P → TableId) → OwnerWork P → OwnerPart
-owner_part owner home w = record { state = owner w.part; table = home w.part; worker = w.worker; writes = w.writes.items; done = w.done }
+owner_part owner home w = record { state = owner w.part; table = home w.part; worker = w.worker; done = w.done }
 
 abbrev pub lent_part : OwnerPart → ReaderState
 lent_part w = lent w.state
@@ -34,7 +33,6 @@ pub record MeetsSeat (seat : ReaderState) (old new : OwnerPart) : Type 0 where
   pub seen : IsPrefix seat.seen new.state.history
   pub table : new.table ≡ old.table
   pub worker : new.worker ≡ old.worker
-  pub writes : new.writes ≡ old.writes
   pub done : new.done ≡ old.done
 
 -- each owner met the seat of its place

@@ -1,29 +1,21 @@
 -- The queues of a round, and what their owners took of them.
-use Rattle.std.specs.Prelude.{◌≡◌, ℕ, ◌≤◌, List, [], length, slice_get, Some, true}
-use Rattle.partition_model.specs.declared.options.Options.{Options}
-use Rattle.mica_trace.specs.declared.line.TraceLine.{TraceLine}
-use Rattle.mica_trace.specs.Rounds.{writes_of}
+use Rattle.std.specs.Prelude.{◌≡◌, ℕ, List, [], length, map, slice_get, Some, true}
 use Rattle.owner_queue.specs.Messages.{sent_by, has_end}
 use Rattle.owner_queue.specs.JobEnds.{Outbox, outbox, inbox}
 use Rattle.mica_replay.specs.declared.worker.OwnerWork.{OwnerWork}
-use Rattle.mica_replay.specs.Lending.{OwnerPart}
-use Rattle.mica_replay.specs.LineNumbers.{writes_at}
-
--- each owner has the lines' writes of its partition
-pub record AreWritesOf (options : Options) (trace lines : List TraceLine) (owner_parts : List OwnerPart) : Type 0 where
-  pub many : length owner_parts ≡ options.partitions
-  pub each : (p : ℕ) (w : OwnerPart) → slice_get owner_parts p ≡ Some w → writes_at trace w.writes ≡ writes_of options p lines
-  pub few : (p : ℕ) (w : OwnerPart) → slice_get owner_parts p ≡ Some w → length w.writes ≤ length lines
+use Rattle.mica_replay.specs.Replies.{replies_with}
 
 module _ {P : Type 0} where
-  -- an owner has a fresh queue for as many jobs as it has writes, with this sender
+  -- an owner has a fresh queue with this sender, and room for a reply to each of its jobs
   pub record HasQueue (old new : OwnerWork P) (sender : Outbox) : Type 0 where
-    pub same : new ≡ record old { jobs = new.jobs }
-    pub sender_is : sender ≡ outbox new.jobs.queue 0 (length old.writes.items) []
-    pub jobs_are : new.jobs ≡ inbox new.jobs.queue 1 (length old.writes.items) []
+    pub same : new ≡ record old { jobs = new.jobs; done = replies_with [] sender.jobs }
+    pub sender_is : sender ≡ outbox new.jobs.queue 0 sender.jobs []
+    pub jobs_are : new.jobs ≡ inbox new.jobs.queue 1 sender.jobs []
 
-  pub record HaveQueues (olds news : List (OwnerWork P)) (senders : List Outbox) : Type 0 where
+  -- each owner has its queue, for as many jobs as these
+  pub record HaveQueues (counts : List ℕ) (olds news : List (OwnerWork P)) (senders : List Outbox) : Type 0 where
     pub many : length news ≡ length olds
+    pub counts_are : map (λ s. s.jobs) senders ≡ counts
     pub senders_many : length senders ≡ length olds
     pub each : (p : ℕ) (old new : OwnerWork P) (sender : Outbox) → slice_get olds p ≡ Some old → slice_get news p ≡ Some new → slice_get senders p ≡ Some sender → HasQueue old new sender
 

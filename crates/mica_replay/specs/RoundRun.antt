@@ -2,6 +2,7 @@
 use Rattle.std.specs.Prelude.{◌≡◌, ℕ, ◌<◌, ◌≤◌, ◌^◌, ◌+◌, ◌-◌, List, [], length, map, take, drop, slice_get, Option, Some, IfSome, All}
 use Rattle.atomic_table.specs.Seated.{TableId}
 use Rattle.partition_model.specs.declared.options.Options.{Options}
+use Rattle.partition_model.specs.declared.write.Write.{Write}
 use Rattle.mica_trace.specs.declared.line.TraceLine.{TraceLine}
 use Rattle.mica_trace.specs.declared.report.Line.{Line}
 use Rattle.epoch_core.specs.Shape.{shape_of}
@@ -11,7 +12,8 @@ use Rattle.mica_replay.specs.declared.worker.ReaderWork.{ReaderWork}
 use Rattle.mica_trace.specs.Rounds.{writes_of}
 use Rattle.mica_trace.specs.RoundReport.{EndsRound, IsOneRound, gets_of}
 use Rattle.epoch_core.specs.declared.state.OwnerState.{OwnerState}
-use Rattle.mica_replay.specs.LineNumbers.{lines_at, writes_at, NamesWrite, NamesGet}
+use Rattle.mica_replay.specs.Each.{Each}
+use Rattle.mica_replay.specs.LineNumbers.{lines_at, NamesGet}
 use Rattle.mica_replay.specs.ReaderGets.{HaveRead}
 use Rattle.mica_replay.specs.Replies.{Reply, HasWritten}
 use Rattle.mica_replay.specs.Lending.{OwnerPart, lent_part}
@@ -36,13 +38,6 @@ reader_part reader home r = record {
   found = r.found;
 }
 
--- an owner of the options' shape with lines to write, and room for the replies
-pub record IsReadyOwnerPart (trace : List TraceLine) (options : Options) (w : OwnerPart) : Type 0 where
-  pub shape : w.state.shape ≡ shape_of options
-  pub named : All (NamesWrite trace) w.writes
-  pub none : w.done.list ≡ []
-  pub room : length w.writes ≤ w.done.spare
-
 -- a reader with lines to get, and no seat yet
 pub record IsReadyReaderPart (trace : List TraceLine) (t : ReaderPart) : Type 0 where
   pub seats : t.seats ≡ []
@@ -52,8 +47,14 @@ pub record IsReadyReaderPart (trace : List TraceLine) (t : ReaderPart) : Type 0 
 pub record AreReady (trace : List TraceLine) (options : Options) (owner_parts : List OwnerPart) (reader_parts : List ReaderPart) : Type 0 where
   pub owners : length owner_parts ≡ options.partitions
   pub readers : 0 < length reader_parts
-  pub each_owner : (p : ℕ) (w : OwnerPart) → slice_get owner_parts p ≡ Some w → IsReadyOwnerPart trace options w
+  pub shapes : (p : ℕ) (w : OwnerPart) → slice_get owner_parts p ≡ Some w → w.state.shape ≡ shape_of options
   pub each_reader : (q : ℕ) (t : ReaderPart) → slice_get reader_parts q ≡ Some t → IsReadyReaderPart trace t
+
+-- An owner ran these writes, and has its replies to them.
+pub record HasRunWrites (writes : List Write) (old new : OwnerPart) : Type 0 where
+  pub written : HasWritten old.state new.state writes new.done.list
+  pub table : new.table ≡ old.table
+  pub worker : new.worker ≡ old.worker
 
 -- A reader answered its gets with seats that all owners had lent, and has given them back. There is nothing found where there was no memory.
 pub record HasReadWith (trace : List TraceLine) (options : Options) (owner_parts : List OwnerPart) (own : List ReaderState) (old new : ReaderPart) : Type 0 where
@@ -68,27 +69,24 @@ pub record HasMetReaders (readers : ℕ) (seats : List (List ReaderState)) (p : 
   pub met : HasMet readers seats p ran.state new.state
   pub table : new.table ≡ ran.table
   pub worker : new.worker ≡ ran.worker
-  pub writes : new.writes ≡ ran.writes
   pub done : new.done ≡ ran.done
 
--- Each owner ran its writes and then met one seat of each reader. The seats had been lent before, and had answered the reader's gets.
-pub record HasRunRound (trace : List TraceLine) (options : Options) (owner_parts news : List OwnerPart) (reader_parts left_readers : List ReaderPart) : Type 0 where
+-- Each owner ran the writes of its queue and then met one seat of each reader. The seats had been lent before, and had answered the reader's gets.
+pub record HasRunRound (trace : List TraceLine) (options : Options) (writes : ℕ → List Write) (owner_parts news : List OwnerPart) (reader_parts left_readers : List ReaderPart) : Type 0 where
   pub ran_owners : List OwnerPart
   pub seats : List (List ReaderState)
-  pub ran : length ran_owners ≡ length owner_parts
   pub met : length news ≡ length owner_parts
   pub seated : length seats ≡ length reader_parts
   pub left : length left_readers ≡ length reader_parts
-  pub wrote : (p : ℕ) (old ran : OwnerPart) → slice_get owner_parts p ≡ Some old → slice_get ran_owners p ≡ Some ran → HasWritten old.state ran.state (writes_at trace old.writes) ran.done.list
-      × (ran.table ≡ old.table) × (ran.worker ≡ old.worker) × (ran.writes ≡ old.writes)
+  pub ran : Each (λ p. HasRunWrites (writes p)) owner_parts ran_owners
   pub read : (q : ℕ) (old new : ReaderPart) (own : List ReaderState) → slice_get reader_parts q ≡ Some old → slice_get left_readers q ≡ Some new → slice_get seats q ≡ Some own → HasReadWith trace options owner_parts own old new
   pub meets : (p : ℕ) (ran new : OwnerPart) → slice_get ran_owners p ≡ Some ran → slice_get news p ≡ Some new → HasMetReaders (length reader_parts) seats p ran new
 
--- The lines of a round are shared out: to each owner its partition's writes and to each reader its gets, in trace order, by their numbers.
-pub record IsSplit (options : Options) (trace : List TraceLine) (g : ℕ) (round : List TraceLine) (owner_parts : List OwnerPart) (reader_parts : List ReaderPart) : Type 0 where
+-- The lines of a round are shared out, in trace order: to each queue its partition's writes, and to each reader its gets, by their numbers.
+pub record IsSplit (options : Options) (trace : List TraceLine) (g : ℕ) (round : List TraceLine) (writes : ℕ → List Write) (owner_parts : List OwnerPart) (reader_parts : List ReaderPart) : Type 0 where
   pub owners : length owner_parts ≡ options.partitions
   pub readers : length reader_parts ≡ options.readers
-  pub writes : (p : ℕ) (w : OwnerPart) → slice_get owner_parts p ≡ Some w → writes_at trace w.writes ≡ writes_of options p round
+  pub queued : (p : ℕ) → writes p ≡ writes_of options p round
   pub gets : (q : ℕ) (t : ReaderPart) → slice_get reader_parts q ≡ Some t → lines_at trace t.gets ≡ gets_of options q g round
 
 abbrev pub state_of_owner : OwnerPart → OwnerState

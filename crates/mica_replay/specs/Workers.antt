@@ -7,20 +7,13 @@ use Rattle.epoch_core.specs.declared.state.OwnerState.{OwnerState}
 use Rattle.epoch_core.specs.declared.reader.ReaderState.{ReaderState}
 use Rattle.mica_replay.specs.declared.worker.OwnerWork.{OwnerWork}
 use Rattle.mica_replay.specs.declared.worker.ReaderWork.{ReaderWork}
-use Rattle.mica_replay.specs.LineNumbers.{writes_at, lines_at, NamesWrite, NamesGet}
+use Rattle.mica_replay.specs.LineNumbers.{lines_at, NamesGet}
 use Rattle.mica_replay.specs.ReaderGets.{AreSeatsOf, HaveRead}
-use Rattle.mica_replay.specs.Replies.{HasWritten}
 use Rattle.mica_replay.specs.JobReplies.{RepliesToJobs}
 use Rattle.owner_queue.specs.Messages.{has_end}
 
 module _ {P : Type 0} where
-  -- an owner with lines to write, and room for the replies
-  pub record IsReadyOwner (trace : List TraceLine) (w : OwnerWork P) : Type 0 where
-    pub named : All (NamesWrite trace) w.writes.items
-    pub none : w.done.list ≡ []
-    pub room : length w.writes.items ≤ w.done.spare
-
-  -- the same owner with a fresh queue of one sender, for no more jobs than there is room for
+  -- an owner with a fresh queue of one sender, for no more jobs than there is room for
   pub record IsFedOwner (w : OwnerWork P) : Type 0 where
     pub one : w.jobs.senders ≡ 1
     pub fresh : w.jobs.taken ≡ []
@@ -29,7 +22,6 @@ module _ {P : Type 0} where
   module _ (owner : P → OwnerState) (home : P → TableId) where
     -- an owner that took its queue to the end
     pub record OwnerFed (w v : OwnerWork P) : Type 0 where
-      pub writes : v.writes ≡ w.writes
       pub worker : v.worker ≡ w.worker
       pub replied : RepliesToJobs (owner w.part) (owner v.part) w.jobs v.jobs w.done v.done
       pub ended : has_end 0 v.jobs.taken ≡ true
@@ -37,16 +29,6 @@ module _ {P : Type 0} where
 
     abbrev pub OwnersFed : List (OwnerWork P) → List (OwnerWork P) → Type 0
     OwnersFed xs ys = (length ys ≡ length xs) × ((i : ℕ) (d : OwnerWork P) → i < length xs → OwnerFed (slice_index_or xs i d) (slice_index_or ys i d))
-
-  module _ (owner : P → OwnerState) (home : P → TableId) (trace : List TraceLine) where
-    pub record OwnerRan (w v : OwnerWork P) : Type 0 where
-      pub writes : v.writes ≡ w.writes
-      pub worker : v.worker ≡ w.worker
-      pub written : HasWritten (owner w.part) (owner v.part) (writes_at trace w.writes.items) v.done.list
-      pub at_home : home v.part ≡ home w.part
-
-    abbrev pub OwnersRan : List (OwnerWork P) → List (OwnerWork P) → Type 0
-    OwnersRan xs ys = (length ys ≡ length xs) × ((i : ℕ) (d : OwnerWork P) → i < length xs → OwnerRan (slice_index_or xs i d) (slice_index_or ys i d))
 
 module _ {R : Type 0} where
   -- a reader with a seat of each partition and lines to get

@@ -1,20 +1,21 @@
 //! What is printed for a round.
-ghost use Rattle.std.specs.Prelude.{◌≡◌, ◌<◌, ◌+◌, ◌⊎◌, ◌∷◌, ◌^◌, IfOk, OnOk, Some, map, length, slice_get};
+ghost use Rattle.std.specs.Prelude.{◌≡◌, ◌<◌, ◌+◌, ◌∷◌, ◌^◌, IfOk, OnOk, Some, map, length, slice_get};
 ghost use Rattle.std.specs.Vec.Iter.{into_iter_items};
 ghost use Rattle.partition_model.specs.Options.{IsValid};
-ghost use Rattle.mica_trace.specs.Rounds.{op_of};
 ghost use Rattle.mica_replay.specs.Lending.{owner_part};
 ghost use Rattle.mica_replay.specs.LineNumbers.{homes_of};
 ghost use Rattle.mica_replay.specs.RoundRun.{reader_part, replies_of, found_of};
-ghost use Rattle.mica_replay.specs.Shares.{Each, KeepsGets};
+ghost use Rattle.mica_replay.specs.Each.{Each};
+ghost use Rattle.mica_replay.specs.Shares.{KeepsGets};
 ghost use Rattle.mica_replay.specs.Merged.{AreEnough, HasMerged};
 
 use crate::done::Done;
+use crate::round_jobs::write_op;
 use crate::worker::{OwnerWork, ReaderWork};
 use epoch_core::{Partition, ReaderWords};
 use mica_io::NoMemory;
 use mica_trace::{Line, Report, TraceLine, TraceOp};
-use partition_model::{Op, Options, Outcome};
+use partition_model::{Options, Outcome};
 use std::alloc::Global;
 use std::vec::IntoIter;
 
@@ -62,20 +63,6 @@ fn next_line(lines: &mut IntoIter<Line, Global>) -> Line
     match lines.next() {
         Some(line) => line,
         None => unreachable!(),
-    }
-}
-
-// The operation of a write.
-fn write_op(op: TraceOp) -> Op
-    requires { (op ≡ TraceOp.Put) ⊎ ((op ≡ TraceOp.Add) ⊎ ((op ≡ TraceOp.Del) ⊎ (op ≡ TraceOp.Touch))) }
-    ensures { op_of op ≡ Some result }
-{
-    match op {
-        TraceOp::Put => Op::Put,
-        TraceOp::Add => Op::Add,
-        TraceOp::Del => Op::Del,
-        TraceOp::Touch => Op::Touch,
-        TraceOp::Get | TraceOp::Sync => unreachable!(),
     }
 }
 

@@ -1,28 +1,34 @@
 //! The queues of a round: one for each owner, with one sender.
-ghost use Rattle.std.specs.Prelude.{IfOk};
+ghost use Rattle.std.specs.Prelude.{◌≡◌, IfOk, length};
 ghost use Rattle.mica_replay.specs.Queues.{HaveQueues, MayTakeIn, HaveTakenIn};
 
+use crate::done::Done;
 use crate::worker::OwnerWork;
 use mica_io::NoMemory;
 use owner_queue::{JobSender, job_queue};
 use std::alloc::Global;
 
-/// Gives each owner a fresh queue for as many jobs as it has writes. Gives their senders, in order.
+/// Gives each owner a fresh queue for that many jobs, and room for as many replies. Gives the queues' senders, in order.
 pub(crate) fn open_queues<P: Drop>(
     alloc: Global,
+    counts: &[u32],
     owners: &mut Vec<OwnerWork<P>>,
 ) -> Result<Vec<JobSender>, NoMemory>
-    ensures { IfOk result (λ senders. HaveQueues owners.old.items owners.new.items senders.items) }
+    requires { length counts.now ≡ length owners.old.items }
+    ensures { IfOk result (λ senders. HaveQueues counts.now owners.old.items owners.new.items senders.items) }
 {
     let mut senders = Vec::with_capacity(alloc, owners.len())?;
     for p in 0..owners.len() {
+        let count = counts[p];
         let owner = &mut owners[p];
-        let (mut own, receiver) = job_queue(alloc, 1, owner.writes.len() as u64)?;
+        let (mut own, receiver) = job_queue(alloc, 1, u64::from(count))?;
         let Some(sender) = own.list.pop() else {
             unreachable!()
         };
         senders.push(sender)?;
         owner.jobs = receiver;
+        let done = Done::new(alloc, count)?;
+        owner.done = done;
     }
     Ok(senders)
 }

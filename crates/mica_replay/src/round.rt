@@ -1,16 +1,16 @@
 //! A round from the lending of its seats to the last meeting.
-ghost use Rattle.std.specs.Prelude.{◌≡◌, ◌<◌, ◌≤◌, ◌-◌, OnOk, All, map, length, take, drop};
+ghost use Rattle.std.specs.Prelude.{◌≡◌, OnOk, map, length};
 ghost use Rattle.partition_model.specs.Options.{IsValid};
 ghost use Rattle.partition_table.specs.Seats.{reader_state, reader_home};
 ghost use Rattle.mica_replay.specs.Lending.{owner_part};
-ghost use Rattle.mica_replay.specs.LineNumbers.{homes_of};
-ghost use Rattle.mica_replay.specs.Queues.{AreWritesOf};
+ghost use Rattle.mica_replay.specs.Feeds.{writes_for};
 ghost use Rattle.mica_replay.specs.Crew.{IsCrew};
 ghost use Rattle.mica_replay.specs.RoundRun.{reader_part, AreReady, HasRunRound};
 
 use crate::crew::Crew;
 use crate::feeding::run_fed;
 use crate::lending::{lend_all, meet_all};
+use crate::round_jobs::RoundJobs;
 use crate::worker::{OwnerWork, ReaderWork};
 use epoch_core::LendPartition;
 use mica_io::NoMemory;
@@ -27,9 +27,7 @@ pub(crate) fn run_round<W: Wait, P: LendPartition<Reader = ReaderSeat, Note = No
     trace: &Trace,
     options: &Options,
     crew: &mut Crew<P>,
-    from: u32,
-    to: u32,
-    homes: &[u32],
+    jobs: RoundJobs,
     owners: &mut Vec<OwnerWork<P>>,
     readers: &mut Vec<ReaderWork<ReaderSeat>>,
 ) -> Result<(), NoMemory>
@@ -37,12 +35,9 @@ pub(crate) fn run_round<W: Wait, P: LendPartition<Reader = ReaderSeat, Note = No
     requires ready { AreReady trace.now options.now
         (map (λ w. owner_part P.owner P.home w) owners.old.items)
         (map (λ r. reader_part reader_state reader_home r) readers.old.items) }
-    requires bounds { (from ≤ to) × (to ≤ length trace.now) }
-    requires homes { homes.now ≡ homes_of options.now (take (to - from) (drop from trace.now)) }
+    requires queues { jobs.queues ≡ length owners.old.items }
     requires crew { IsCrew (length owners.old.items) (length readers.old.items) trace.now options.now crew.old }
-    requires shared { AreWritesOf options.now trace.now (take (to - from) (drop from trace.now))
-        (map (λ w. owner_part P.owner P.home w) owners.old.items) }
-    ensures ran { OnOk result (HasRunRound trace.now options.now
+    ensures ran { OnOk result (HasRunRound trace.now options.now (λ p. writes_for p jobs.feeds)
         (map (λ w. owner_part P.owner P.home w) owners.old.items)
         (map (λ w. owner_part P.owner P.home w) owners.new.items)
         (map (λ r. reader_part reader_state reader_home r) readers.old.items)
@@ -53,9 +48,7 @@ pub(crate) fn run_round<W: Wait, P: LendPartition<Reader = ReaderSeat, Note = No
         let reader = &mut readers[q];
         lend_all(owners, &mut reader.seats)?;
     }
-    run_fed(
-        rt, alloc, trace, options, crew, from, to, homes, owners, readers,
-    )?;
+    run_fed(rt, alloc, trace, options, crew, jobs, owners, readers)?;
     for q in 0..readers.len() {
         let reader = &mut readers[q];
         meet_all(owners, &mut reader.seats);

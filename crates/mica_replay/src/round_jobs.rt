@@ -1,96 +1,89 @@
 //! The jobs of a round, made before it begins.
-ghost use Rattle.std.specs.Prelude.{◌≡◌, ◌<◌, ◌≤◌, ◌^◌, ◌+◌, ℕ, IfOk, OnOk, length, take};
-ghost use Rattle.partition_model.specs.Options.{IsValid};
-ghost use Rattle.mica_trace.specs.Rounds.{writes_of};
-ghost use Rattle.mica_replay.specs.Feeds.{jobs_for};
-ghost use Rattle.mica_replay.specs.LineNumbers.{homes_of, write_at};
-ghost use Rattle.mica_replay.specs.RoundJobs.{jobs_from, HasFeeds};
+ghost use Rattle.std.specs.Prelude.{◌≡◌, ◌≢◌, ◌<◌, ◌++◌, ◌∷◌, [], ◌^◌, ◌+◌, ℕ, Some, IfOk, OnOk, length};
+ghost use Rattle.partition_model.specs.Write.{IsWrite};
+ghost use Rattle.mica_trace.specs.Rounds.{op_of};
+ghost use Rattle.mica_replay.specs.Feeds.{writes_for};
+ghost use Rattle.mica_replay.specs.LineNumbers.{write_at, IsWriteOp};
 
 use crate::feeder::Feed;
 use mica_io::{Bytes, NoMemory};
 use mica_trace::{TraceLine, TraceOp};
 use owner_queue::Job;
-use partition_model::{Op, Options, Write};
+use partition_model::{Op, Write};
 use std::alloc::Global;
+use std::marker::Model;
 
-// The write of a line, if it has one.
-fn write_of_line(alloc: Global, line: &TraceLine) -> Result<Option<Write>, NoMemory>
-    ensures { IfOk result (λ write. write ≡ write_at line.now) }
-{
-    let op = match line.op {
-        TraceOp::Put => Op::Put,
-        TraceOp::Add => Op::Add,
-        TraceOp::Del => Op::Del,
-        TraceOp::Touch => Op::Touch,
-        TraceOp::Get | TraceOp::Sync => return Ok(None),
-    };
-    Ok(Some(Write {
-        op,
-        key: Bytes::copy(alloc, line.key.bytes())?,
-        value: Bytes::copy(alloc, line.value.bytes())?,
-    }))
+/// Writes for the queues of owners, in order, as jobs: the tickets of a queue count from 0. Contracts see how many queues
+/// there are, and the jobs.
+#[derive(Drop)]
+pub(crate) struct RoundJobs {
+    pub(crate) feeds: Vec<Feed>,
+    /// How many jobs each queue has.
+    pub(crate) counts: Vec<u32>,
 }
 
-// The job of one line more, if it has one.
-fn feed_line(
-    alloc: Global,
-    options: &Options,
-    lines: &[TraceLine],
-    homes: &[u32],
-    number: usize,
-    feeds: &mut Vec<Feed>,
-    tickets: &mut Vec<u64>,
-) -> Result<(), NoMemory>
-    requires valid { IsValid options.now }
-    requires few { length lines.now < 2 ^ 32 }
-    requires homes { homes.now ≡ homes_of options.now lines.now }
-    requires number { number < length lines.now }
-    requires so_far { HasFeeds options.now (take number lines.now) feeds.old.items tickets.old.items }
-    ensures { OnOk result (HasFeeds options.now (take (number + 1) lines.now) feeds.new.items tickets.new.items) }
-{
-    let line = &lines[number];
-    let Some(write) = write_of_line(alloc, line)? else {
-        return Ok(());
-    };
-    let queue = homes[number];
-    let ticket = tickets[queue as usize];
-    feeds.push(Feed {
-        queue,
-        job: Job {
-            sender: 0,
-            ticket,
-            write,
-        },
-    })?;
-    tickets[queue as usize] = ticket + 1;
-    Ok(())
+impl Model for RoundJobs {
+    ghost use Rattle.mica_replay.specs.RoundJobs.{Queued, queued, AreNumbered};
+
+    ghost Value = { Queued };
+
+    ghost view = { λ j. queued j.feeds.items j.counts.items };
+
+    ghost invariant = { λ j. AreNumbered j.feeds.items j.counts.items };
 }
 
-/// The jobs of these lines' writes, in order, each for the queue of its partition. The tickets of a queue count
-/// from 0.
-pub(crate) fn make_feeds(
-    alloc: Global,
-    options: &Options,
-    lines: &[TraceLine],
-    homes: &[u32],
-) -> Result<Vec<Feed>, NoMemory>
-    requires valid { IsValid options.now }
-    requires few { length lines.now < 2 ^ 32 }
-    requires homes { homes.now ≡ homes_of options.now lines.now }
-    ensures { IfOk result (λ feeds. (p : ℕ) → jobs_for p feeds.items ≡ jobs_from 0 (writes_of options.now p lines.now)) }
-{
-    let mut feeds = Vec::with_capacity(alloc, lines.len())?;
-    let mut tickets = vec![in alloc; 0u64; options.partitions as usize]?;
-    for number in 0..lines.len() {
-        feed_line(
-            alloc,
-            options,
-            lines,
-            homes,
-            number,
-            &mut feeds,
-            &mut tickets,
-        )?;
+impl RoundJobs {
+    /// No jobs yet, and room for some.
+    pub(crate) fn new(alloc: Global, queues: u32, room: usize) -> Result<Self, NoMemory>
+        ensures queues { IfOk result (λ jobs. jobs.queues ≡ queues) }
+        ensures none { IfOk result (λ jobs. jobs.feeds ≡ []) }
+    {
+        let feeds = Vec::with_capacity(alloc, room)?;
+        let counts = vec![in alloc; 0u32; queues as usize]?;
+        Ok(RoundJobs { feeds, counts })
     }
-    Ok(feeds)
+
+    /// Adds the job of a write, behind those of its queue.
+    pub(crate) fn push(&mut self, queue: u32, write: Write) -> Result<(), NoMemory>
+        requires queue { queue < self.old.queues }
+        requires write { IsWrite write }
+        requires few { length (writes_for queue self.old.feeds) + 1 < 2 ^ 32 }
+        ensures queues { self.new.queues ≡ self.old.queues }
+        ensures own { OnOk result (writes_for queue self.new.feeds ≡ writes_for queue self.old.feeds ++ write ∷ []) }
+        ensures others { OnOk result ((p : ℕ) → queue ≢ p → writes_for p self.new.feeds ≡ writes_for p self.old.feeds) }
+    {
+        let count = self.counts[queue as usize];
+        self.feeds.push(Feed {
+            queue,
+            job: Job {
+                sender: 0,
+                ticket: u64::from(count),
+                write,
+            },
+        })?;
+        self.counts[queue as usize] = count + 1;
+        Ok(())
+    }
+}
+
+/// The operation of a write.
+pub(crate) fn write_op(op: TraceOp) -> Op
+    requires { IsWriteOp op }
+    ensures { op_of op ≡ Some result }
+{
+    match op.write_op() {
+        Some(does) => does,
+        None => unreachable!(),
+    }
+}
+
+/// The write that a line is.
+pub(crate) fn write_of_line(alloc: Global, line: &TraceLine) -> Result<Write, NoMemory>
+    requires { IsWriteOp line.now.op }
+    ensures { IfOk result (λ write. write_at line.now ≡ Some write) }
+{
+    let op = write_op(line.op);
+    let key = Bytes::copy(alloc, line.key.bytes())?;
+    let value = Bytes::copy(alloc, line.value.bytes())?;
+    Ok(Write { op, key, value })
 }

@@ -63,23 +63,29 @@ fn run_one<W: Wait, P: LendPartition<Reader = ReaderSeat, Note = Note> + Drop>(
     ensures readers { OnOk result (AreFree options.now (map (λ r. reader_part reader_state reader_home r) readers.new.items)) }
     ensures crew { crew.new ≡ crew.old }
 {
-    let (next, homes) = split_round(alloc, options, trace, from, to, gets, owners, readers)?;
-    let homes = homes.as_slice();
+    let shared = split_round(alloc, options, trace, from, to, gets, readers)?;
     run_round(
-        rt, alloc, trace, options, crew, from, to, homes, owners, readers,
+        rt,
+        alloc,
+        trace,
+        options,
+        crew,
+        shared.jobs,
+        owners,
+        readers,
     )?;
     let mut found = collect(alloc, readers)?;
     print_round(
         alloc,
         options,
         &trace.lines()[from as usize..to as usize],
-        homes,
+        shared.homes.as_slice(),
         gets,
         owners.as_slice(),
         found.as_mut_slice(),
         report,
     )?;
-    Ok(next)
+    Ok(shared.gets)
 }
 
 /// Runs a trace round by round, with owners as made and readers without seats.

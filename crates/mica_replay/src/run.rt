@@ -84,7 +84,6 @@ fn make_owners<W: Threads + Wait + Sync, P: OnTable + Partition + Send>(
         owners.push(OwnerWork {
             part,
             worker: options.readers + owners.len() as u32,
-            writes: Vec::new(alloc),
             jobs,
             done: Done::new(alloc, 0)?,
         })?;

@@ -1,29 +1,32 @@
 //! Each worker's part of a round.
-ghost use Rattle.std.specs.Prelude.{◌≡◌, ◌<◌, ◌≤◌, ◌+◌, ◌-◌, ◌^◌, ℕ, IfOk, OnOk, Some, map, length, take, drop, slice_get};
+ghost use Rattle.std.specs.Prelude.{◌≡◌, ◌<◌, ◌≤◌, ◌+◌, ◌-◌, ◌^◌, ℕ, IfOk, OnOk, map, length, take, drop};
 ghost use Rattle.partition_model.specs.Options.{IsValid};
+ghost use Rattle.mica_trace.specs.Rounds.{writes_of};
 ghost use Rattle.mica_trace.specs.RoundReport.{gets_in};
-ghost use Rattle.mica_replay.specs.Lending.{OwnerPart, owner_part};
+ghost use Rattle.mica_replay.specs.Each.{Each};
+ghost use Rattle.mica_replay.specs.Feeds.{writes_for};
 ghost use Rattle.mica_replay.specs.LineNumbers.{homes_of};
 ghost use Rattle.mica_replay.specs.RoundRun.{reader_part};
-ghost use Rattle.mica_replay.specs.Shares.{Each, HasNoWrites, HasNoGets, HasWrites, HasGets, HasRoom, AreWithoutWrites, AreWithoutGets, IsShared};
+ghost use Rattle.mica_replay.specs.Shares.{HasNoGets, HasGets};
 
-use crate::done::Done;
-use crate::worker::{OwnerWork, ReaderWork};
-use epoch_core::{Partition, ReaderWords};
+use crate::round_jobs::{RoundJobs, write_of_line};
+use crate::worker::ReaderWork;
+use epoch_core::ReaderWords;
 use mica_io::NoMemory;
 use mica_trace::{Trace, TraceOp};
 use mica_words::{key_hash, partition_of};
 use partition_model::Options;
 use std::alloc::Global;
 
-fn clear_owners<P: Partition>(owners: &mut Vec<OwnerWork<P>>)
-    ensures { Each (λ _. HasNoWrites) (map (λ w. owner_part P.owner P.home w) owners.old.items)
-        (map (λ w. owner_part P.owner P.home w) owners.new.items) }
-{
-    for p in 0..owners.len() {
-        let owner = &mut owners[p];
-        owner.writes.clear();
-    }
+/// What of a round is shared out, beside the gets that its readers have.
+#[derive(Drop)]
+pub(crate) struct Shared {
+    /// The number of gets up to the round's end.
+    pub gets: u32,
+    /// The partition of each line's write.
+    pub homes: Vec<u32>,
+    /// The writes, for the queues of their partitions.
+    pub jobs: RoundJobs,
 }
 
 fn clear_readers<R: ReaderWords>(readers: &mut Vec<ReaderWork<R>>)
@@ -36,46 +39,33 @@ fn clear_readers<R: ReaderWords>(readers: &mut Vec<ReaderWork<R>>)
     }
 }
 
-// Room for a reply to each write.
-fn make_room<P: Partition>(alloc: Global, owners: &mut Vec<OwnerWork<P>>) -> Result<(), NoMemory>
-    requires few { (p : ℕ) (w : OwnerPart) → slice_get (map (λ w. owner_part P.owner P.home w) owners.old.items) p ≡ Some w → length w.writes < 2 ^ 32 }
-    ensures { OnOk result (Each (λ _. HasRoom) (map (λ w. owner_part P.owner P.home w) owners.old.items)
-        (map (λ w. owner_part P.owner P.home w) owners.new.items)) }
-{
-    for p in 0..owners.len() {
-        let owner = &mut owners[p];
-        owner.done = Done::new(alloc, owner.writes.len() as u32)?;
-    }
-    Ok(())
-}
-
-// Each line of the round goes to the worker that has it. Gives the number of gets up to the round's end, and the
-// partition of each write.
-fn share<P: Partition, R: ReaderWords>(
+/// Each line of a round goes to the worker that has it: a get to its reader, and a write to the queue of its partition.
+pub(crate) fn split_round<R: ReaderWords>(
     alloc: Global,
     options: &Options,
     trace: &Trace,
     from: u32,
     to: u32,
     first: u32,
-    owners: &mut Vec<OwnerWork<P>>,
     readers: &mut Vec<ReaderWork<R>>,
-) -> Result<(u32, Vec<u32>), NoMemory>
+) -> Result<Shared, NoMemory>
     requires valid { IsValid options.now }
     requires bounds { (from ≤ to) × (to ≤ length trace.now) }
     requires count { first + (to - from) < 2 ^ 32 }
-    requires owners { AreWithoutWrites options.now (map (λ w. owner_part P.owner P.home w) owners.old.items) }
-    requires readers { AreWithoutGets options.now (map (λ r. reader_part R.reader R.home r) readers.old.items) }
-    ensures gets { IfOk result (λ shared. shared.0 ≡ first + gets_in (take (to - from) (drop from trace.now))) }
-    ensures homes { IfOk result (λ shared. shared.1.items ≡ homes_of options.now (take (to - from) (drop from trace.now))) }
-    ensures owners { OnOk result (Each (HasWrites options.now trace.now (take (to - from) (drop from trace.now)))
-        (map (λ w. owner_part P.owner P.home w) owners.old.items) (map (λ w. owner_part P.owner P.home w) owners.new.items)) }
+    requires many { length readers.old.items ≡ options.now.readers }
+    ensures gets { IfOk result (λ shared. shared.gets ≡ first + gets_in (take (to - from) (drop from trace.now))) }
+    ensures homes { IfOk result (λ shared. shared.homes.items ≡ homes_of options.now (take (to - from) (drop from trace.now))) }
+    ensures queues { IfOk result (λ shared. shared.jobs.queues ≡ options.now.partitions) }
+    ensures writes { IfOk result (λ shared. (p : ℕ) → writes_for p shared.jobs.feeds ≡ writes_of options.now p (take (to - from) (drop from trace.now))) }
     ensures readers { OnOk result (Each (HasGets options.now trace.now first (take (to - from) (drop from trace.now)))
         (map (λ r. reader_part R.reader R.home r) readers.old.items) (map (λ r. reader_part R.reader R.home r) readers.new.items)) }
 {
+    clear_readers(readers);
     let lines = trace.lines();
+    let room = (to - from) as usize;
     let mut gets = first;
-    let mut homes = Vec::with_capacity(alloc, (to - from) as usize)?;
+    let mut homes = Vec::with_capacity(alloc, room)?;
+    let mut jobs = RoundJobs::new(alloc, options.partitions, room)?;
     for number in from..to {
         let line = &lines[number as usize];
         let home = match line.op {
@@ -87,42 +77,13 @@ fn share<P: Partition, R: ReaderWords>(
             }
             TraceOp::Put | TraceOp::Add | TraceOp::Del | TraceOp::Touch => {
                 let partition = partition_of(key_hash(line.key.bytes()), options.partitions);
-                let owner = &mut owners[partition as usize];
-                owner.writes.push(number)?;
+                let write = write_of_line(alloc, line)?;
+                jobs.push(partition, write)?;
                 partition
             }
             TraceOp::Sync => 0,
         };
         homes.push(home)?;
     }
-    Ok((gets, homes))
-}
-
-/// Each worker gets its part of the round, and each owner room for its replies. Gives the number of gets up to the
-/// round's end, and the partition of each write.
-pub(crate) fn split_round<P: Partition, R: ReaderWords>(
-    alloc: Global,
-    options: &Options,
-    trace: &Trace,
-    from: u32,
-    to: u32,
-    first: u32,
-    owners: &mut Vec<OwnerWork<P>>,
-    readers: &mut Vec<ReaderWork<R>>,
-) -> Result<(u32, Vec<u32>), NoMemory>
-    requires valid { IsValid options.now }
-    requires bounds { (from ≤ to) × (to ≤ length trace.now) }
-    requires count { first + (to - from) < 2 ^ 32 }
-    requires many { (length owners.old.items ≡ options.now.partitions) × (length readers.old.items ≡ options.now.readers) }
-    ensures gets { IfOk result (λ shared. shared.0 ≡ first + gets_in (take (to - from) (drop from trace.now))) }
-    ensures homes { IfOk result (λ shared. shared.1.items ≡ homes_of options.now (take (to - from) (drop from trace.now))) }
-    ensures shared { OnOk result (IsShared options.now trace.now first (take (to - from) (drop from trace.now))
-        (map (λ w. owner_part P.owner P.home w) owners.old.items) (map (λ w. owner_part P.owner P.home w) owners.new.items)
-        (map (λ r. reader_part R.reader R.home r) readers.old.items) (map (λ r. reader_part R.reader R.home r) readers.new.items)) }
-{
-    clear_owners(owners);
-    clear_readers(readers);
-    let shared = share(alloc, options, trace, from, to, first, owners, readers)?;
-    make_room(alloc, owners)?;
-    Ok(shared)
+    Ok(Shared { gets, homes, jobs })
 }

@@ -27,8 +27,6 @@ use work_desk::{hand_all, take_all_back};
 pub struct OwnerWork<P> {
     pub part: P,
     pub worker: u32,
-    /// The lines whose writes it is fed.
-    pub writes: Vec<u32>,
     pub jobs: JobReceiver,
     pub done: Done,
 }

@@ -18,7 +18,7 @@ module _ (g : Over) (c : After-lend g) where
   same =
       let old = c.index_mut-owner.result.now in
       seen_same (part g) c.loop-p.owners.items c.loop-p.p old _ _ c.loop-p.invariant.same less c.index_mut-owner.ensures.value
-      (λ i. record { state = c.lend.ensures.same i; table = c.lend.ensures.home i; worker = old.worker; writes = old.writes.items; done = old.done })
+      (λ i. record { state = c.lend.ensures.same i; table = c.lend.ensures.home i; worker = old.worker; done = old.done })
 
 pub returns-in_err-seat-clause-same : goal.returns-in_err-seat-clause-same
 returns-in_err-seat-clause-same g c = same g (goal.at.returns-in_err-seat-clause-same g c).After-lend

@@ -34,5 +34,5 @@ loop-seat-preserved g c =
     let new : OwnerWork g.row.P.Denot = record old { part = c.meet.new.self } in
     let one = meets_one r (λ s. g.P.Reader.ReaderWords.home s) (part g) c.args.seats.now.items c.loop-seat.seats.items c.pop.new.self.items c.args.owners.now.items
     c.loop-seat.owners.items c.in-Some.seat old c.requires c.loop-seat.invariant.front (last g z) c.loop-seat.invariant.met (here g z) new
-    (meets_by (part g old) (part g new) (r c.in-Some.seat) c.meet.ensures.met c.meet.ensures.kept c.meet.ensures.home refl refl refl) in
+    (meets_by (part g old) (part g new) (r c.in-Some.seat) c.meet.ensures.met c.meet.ensures.kept c.meet.ensures.home refl refl) in
     record { front = one.0; met = rw (at g z) one.1 }

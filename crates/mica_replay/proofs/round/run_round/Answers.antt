@@ -1,10 +1,11 @@
 use Rattle.std.proofs.Common.{ℕ, ◌<◌, map, length, sym, ap, ◌∙◌, subst, arith, refl}
 use Rattle.mica_replay.specs.declared.worker.ReaderWork.{ReaderWork}
 use Rattle.mica_replay.specs.declared.worker.OwnerWork.{OwnerWork}
+use Rattle.mica_replay.specs.Feeds.{writes_for}
 use Rattle.mica_replay.specs.Crew.{IsCrew}
 use Rattle.mica_replay.specs.Lending.{owner_part, lent_part, table_in}
 use Rattle.mica_replay.specs.RoundRun.{ReaderPart, reader_part}
-use Rattle.mica_replay.proofs.RoundSteps.{seen_many, lends_none, lends_one, owners_ready, readers_ready, homes_same, meets_more, leaves_one, ran_round, Ran}
+use Rattle.mica_replay.proofs.RoundSteps.{seen_many, lends_none, lends_one, readers_ready, homes_same, meets_more, leaves_one, ran_round, Ran}
 use Rattle.partition_table.specs.Seats.{reader_state, reader_home}
 use Rattle.partition_table.specs.declared.reader.ReaderSeat.{ReaderSeat}
 use Rattle.mica_replay.proofs.round.run_round.Given.{Over}
@@ -15,19 +16,17 @@ abbrev part : ReaderWork ReaderSeat → ReaderPart
 part r = reader_part reader_state reader_home r
 
 -- once all have run
-abbrev ran : (g : Over) (c : In_ok-run_fed g) → Ran g.P.Partition.owner g.P.Partition.home reader_state reader_home c.args.trace.now c.args.options.now
+abbrev ran : (g : Over) (c : In_ok-run_fed g) → Ran g.P.Partition.owner g.P.Partition.home reader_state reader_home c.args.trace.now c.args.options.now (λ p. writes_for p c.args.jobs.feeds)
     (map (λ w. owner_part g.P.Partition.owner g.P.Partition.home w) c.args.owners.now.items) (map part c.args.readers.now.items)
 ran g c = record {
   ready = c.requires.ready;
-  owners = c.loop-q.owners.items;
   ran_owners = c.run_fed.new.owners.items;
   lents = c.loop-q.readers.items;
   mids = c.run_fed.new.readers.items;
   count = c.loop-q.q;
   all = omega (arith, c.loop-q-test.false, c.len-q-end.ensures, c.args.readers.now.ok, seen_many part _ _ c.loop-q.invariant.lent.many);
-  same = c.loop-q.invariant.same;
   lent = c.loop-q.invariant.lent;
-  owned = c.in_ok-run_fed.ensures.owners;
+  owned = rw c.loop-q.invariant.same at c.in_ok-run_fed.ensures.owners;
   reading = c.in_ok-run_fed.ensures.readers;
 }
 
@@ -53,10 +52,9 @@ loop-q-preserved g c =
           });
     }
 
-pub run_fed-requires-clause-owners : goal.run_fed-requires-clause-owners
-run_fed-requires-clause-owners g c =
-    owners_ready g.P.Partition.owner g.P.Partition.home reader_state reader_home c.args.trace.now c.args.options.now _ _ c.requires.ready
-    c.loop-q.owners.items c.loop-q.invariant.same
+pub run_fed-requires-clause-queues : goal.run_fed-requires-clause-queues
+run_fed-requires-clause-queues g c =
+    c.requires.queues ∙ sym (seen_many (λ (w : OwnerWork g.row.P.Denot). owner_part g.P.Partition.owner g.P.Partition.home w) _ _ (ap length c.loop-q.invariant.same))
 
 pub run_fed-requires-clause-readers : goal.run_fed-requires-clause-readers
 run_fed-requires-clause-readers g c =
@@ -68,9 +66,6 @@ run_fed-requires-clause-crew g c =
     let owner = λ (w : OwnerWork g.row.P.Denot). owner_part g.P.Partition.owner g.P.Partition.home w in
     subst (λ (n : ℕ × ℕ). IsCrew n.0 n.1 c.args.trace.now c.args.options.now c.args.crew.now)
     (λ i. (sym (seen_many owner _ _ (ap length c.loop-q.invariant.same)) i, sym (seen_many part _ _ c.loop-q.invariant.lent.many) i)) c.requires.crew
-
-pub run_fed-requires-clause-shared : goal.run_fed-requires-clause-shared
-run_fed-requires-clause-shared g c = rw c.loop-q.invariant.same c.requires.shared
 
 pub meet_all-requires : goal.meet_all-requires
 meet_all-requires g c =
