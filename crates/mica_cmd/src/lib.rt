@@ -33,3 +33,4 @@ pub use program::{all_words, behind_name, exit_code, run_program};
 pub use serve_command::print_totals;
 pub use status::Status;
 pub use top::mica;
+pub use unpack_command::refuse_image;

@@ -43,8 +43,8 @@ fn print_pairs<K: Sink>(alloc: Global, image: &Image, sink: &mut K) -> Status
     }
 }
 
-// Writes the line that names why an image is refused.
-fn refuse_image<K: Sink>(alloc: Global, sink: &mut K, fault: ImageFault) -> Status
+/// Writes the line that names why an image is refused.
+pub fn refuse_image<K: Sink>(alloc: Global, sink: &mut K, fault: ImageFault) -> Status
     ensures { IsRefusedImage fault
         (sink_facts K.taken K.faults sink.old) (sink_facts K.taken K.faults sink.new) result }
 {

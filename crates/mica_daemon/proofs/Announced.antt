@@ -1,5 +1,5 @@
 -- What a server that stays up has written, by what it came to.
-use Rattle.std.proofs.Common.{◌≡◌, ℕ, ◌<◌, ◌⊎◌, inl, inr, List, [], Option, Some, None, codes, sym, ap, subst}
+use Rattle.std.proofs.Common.{◌≡◌, ℕ, ◌<◌, ◌⊎◌, inl, inr, List, Option, Some, None, refl, sym, ap, subst, arith}
 use Rattle.std.specs.Prelude.{Result, Ok, Err}
 use Rattle.partition_model.specs.declared.options.Options.{Options}
 use Rattle.partition_model.specs.declared.write.Write.{Write}
@@ -10,11 +10,13 @@ use Rattle.mica_serve.specs.declared.stop.Stop.{Stop}
 use Rattle.mica_serve.specs.declared.stop.Stop.TheVariants.{Refused, Unannounced, Fault}
 use Rattle.mica_serve.specs.NetRun.{NetFacts, IsCauseOfStop, HasAnnounced, KeepsNet}
 use Rattle.mica_cmd.specs.declared.status.Status.{Status}
-use Rattle.mica_cmd.specs.declared.status.Status.TheVariants.{Usage}
+use Rattle.mica_commands.specs.Words.{Text}
+use Rattle.mica_commands.specs.DaemonWords.{Service}
 use Rattle.mica_cmd.specs.Outside.{SinkFacts}
-use Rattle.mica_cmd.specs.Promise.{IsUnwritten, IsTold}
-use Rattle.mica_cmd.specs.Input.{with_line_feed}
-use Rattle.mica_daemon.specs.Daemon.{Outside, Says, FailsToSay, ready_text, WritesLast, Serves, ServesOrNot, LeavesAll, KeepsUp}
+use Rattle.mica_cmd.specs.Promise.{IsUnwritten}
+use Rattle.mica_daemon.specs.Files.{FilesFacts}
+use Rattle.mica_daemon.specs.Filling.{KeepsFiles}
+use Rattle.mica_daemon.specs.Daemon.{Outside, Says, FailsToSay, ready_text, WritesLast, Serves, BindsNothing, KeepsUp}
 
 -- what was announced by a sink with a line at hand was announced by the sink
 module _ {A : Type 0} (line_of : A → List ℕ) (sink_of : A → SinkFacts) (line : List ℕ) (old new : A) (same : line_of old ≡ line) where
@@ -42,31 +44,19 @@ module _ {A : Type 0} (line_of : A → List ℕ) (sink_of : A → SinkFacts) (li
 pub written_last : (stop cause : Stop) (old new : SinkFacts) (status : Status) → stop ≡ cause → WritesLast (Err cause) old new status → WritesLast (Err stop) old new status
 written_last stop cause old new status is last = subst (λ (s : Stop). WritesLast (Err s) old new status) (sym is) last
 
--- a server that nothing filled
-pub serves : (options : Options) (ports : Ports) (answer : Result Totals Stop) (filling : List Write) (old new : Outside) (between : SinkFacts) (status : Status) → filling ≡ []
-    → IsCauseOfStop answer options filling ports new.tables old.net new.net
+-- a server that came to this answer
+pub serves : (options : Options) (ports : Ports) (answer : Result Totals Stop) (writes : List Write) (old new : Outside) (between : SinkFacts) (status : Status)
+    → IsCauseOfStop answer options writes ports new.tables old.net new.net
     → HasAnnounced (Says (ready_text ports)) (FailsToSay (ready_text ports)) answer old.net new.net old.sink between
-    → KeepsNet ports old.net new.net → WritesLast answer between new.sink status → Serves options ports old new status
-serves options ports answer filling old new between status none is announced kept last = record {
-  answer = answer;
-  said = between;
-  cause = subst (λ (l : List Write). IsCauseOfStop answer options l ports new.tables old.net new.net) none is;
-  announced = announced;
-  last = last;
-  kept = kept;
-}
+    → KeepsNet ports old.net new.net → WritesLast answer between new.sink status → Serves options ports writes old new status
+serves options ports answer writes old new between status is announced kept last =
+    record { answer = answer; said = between; cause = is; announced = announced; last = last; kept = kept }
 
--- words that give this server
-pub given_server : (given : Option (Options × Ports)) (read : Options × Ports) (old new : Outside) (status : Status) → given ≡ Some read
-    → ServesOrNot read.0 read.1 old new status → KeepsUp given old new status
-given_server given read old new status is kept = subst (λ o. KeepsUp o old new status) (sym is) kept
-
--- words that give none
-pub no_server : (given : Option (Options × Ports)) (old new : Outside) (status : Status) → given ≡ None
-    → IsTold Usage (with_line_feed (codes "usage")) old.sink new.sink status → LeavesAll old new → KeepsUp given old new status
-no_server given old new status is told same = subst (λ o. KeepsUp o old new status) (sym is) (told, same)
+kept_files : (image : Option Text) (files : FilesFacts) → KeepsFiles image files files
+kept_files None files = refl
+kept_files (Some name) files = omega arith
 
 -- where there was no memory before it began, the words do not matter
-pub unwritten : (given : Option (Options × Ports)) (old new : Outside) (status : Status) → IsUnwritten old.sink new.sink status → LeavesAll old new → KeepsUp given old new status
-unwritten None old new status none same = (inl none, same)
-unwritten (Some read) old new status none same = inr (none, same)
+pub unwritten : (given : Option Service) (files : FilesFacts) (old new : Outside) (status : Status) → IsUnwritten old.sink new.sink status → BindsNothing old new → KeepsUp given files files old new status
+unwritten None files old new status none same = (inl none, same, refl)
+unwritten (Some service) files old new status none same = (inr (inl none, same), kept_files service.image files)

@@ -1,19 +1,23 @@
 //! The top call: from words to a server that stays up, and to its status.
-ghost use Rattle.std.specs.Prelude.{◌≡◌, [], map, string_bytes, Err};
+ghost use Rattle.std.specs.Prelude.{◌≡◌, [], All, map, string_bytes, Err};
 ghost use Rattle.partition_model.specs.Options.{IsValid};
+ghost use Rattle.partition_model.specs.Write.{IsWrite};
 ghost use Rattle.mica_serve.specs.PortOptions.{IsValidPorts};
 ghost use Rattle.mica_serve.specs.declared.stop.Stop.TheVariants.{Fault};
 ghost use Rattle.mica_serve.specs.NetRun.{net_facts};
 ghost use Rattle.mica_commands.specs.DaemonWords.{daemon_of};
 ghost use Rattle.mica_cmd.specs.Outside.{sink_facts};
+ghost use Rattle.mica_daemon.specs.Files.{files_facts};
 ghost use Rattle.mica_daemon.specs.Daemon.{WritesLast, Serves, ServesOrNot, KeepsUp, outside, ready_text};
 
+use crate::Files;
+use crate::filling::filling_of;
 use crate::speaker::{Speaker, ready_line};
 use mica_cmd::{Status, print_totals, write_due};
-use mica_commands::{WordsFault, read_daemon};
+use mica_commands::{DaemonOptions, WordsFault, read_daemon};
 use mica_io::{Gate, Net, NoMemory, Sink};
 use mica_serve::{Ports, ServeFault, Stop, serve_filled};
-use partition_model::Options;
+use partition_model::{Options, Write};
 use partition_table::Tables;
 use std::alloc::Global;
 use std::sync::Wait;
@@ -35,6 +39,7 @@ fn serve_aloud<W: Threads + Wait + Sync, K: Sink + Drop, N: Net, G: Gate>(
     alloc: Global,
     options: &Options,
     ports: &Ports,
+    filling: Vec<Write>,
     speaker: &mut Speaker<K>,
     net: &mut N,
     gate: &G,
@@ -42,29 +47,22 @@ fn serve_aloud<W: Threads + Wait + Sync, K: Sink + Drop, N: Net, G: Gate>(
 ) -> Status
     requires options { IsValid options.now }
     requires ports { IsValidPorts ports.now }
+    requires filling { All IsWrite filling.items }
     requires line { string_bytes speaker.old.line ≡ ready_text ports.now }
     requires unbound { N.binds net.old ≡ 0 }
     requires tables { tables.old ≡ [] }
-    ensures { Serves options.now ports.now
+    ensures { Serves options.now ports.now filling.items
         (outside (sink_facts K.taken K.faults speaker.old.sink) (net_facts N.faults N.binds N.first N.refused N.ports N.fails net.old) tables.old)
         (outside (sink_facts K.taken K.faults speaker.new.sink) (net_facts N.faults N.binds N.first N.refused N.ports N.fails net.new) tables.new)
         result }
 {
     match serve_filled(
-        rt,
-        alloc,
-        options,
-        ports,
-        Vec::new(alloc),
-        net,
-        gate,
-        tables,
-        speaker,
+        rt, alloc, options, ports, filling, net, gate, tables, speaker,
     ) {
         Ok(totals) => print_totals(alloc, totals, &mut speaker.sink),
+        Err(Stop::Refused) => write_due(&mut speaker.sink, b"pair refused\n", Status::ImageRefused),
         Err(Stop::Fault(fault)) => write_fault(fault, &mut speaker.sink),
         Err(Stop::Unannounced) => Status::WriteFault,
-        Err(Stop::Refused) => unreachable!(),
     }
 }
 
@@ -74,6 +72,7 @@ fn stay_up<W: Threads + Wait + Sync, K: Sink + Drop, N: Net, G: Gate>(
     alloc: Global,
     options: &Options,
     ports: &Ports,
+    filling: Vec<Write>,
     speaker: &mut Speaker<K>,
     net: &mut N,
     gate: &G,
@@ -81,9 +80,10 @@ fn stay_up<W: Threads + Wait + Sync, K: Sink + Drop, N: Net, G: Gate>(
 ) -> Status
     requires options { IsValid options.now }
     requires ports { IsValidPorts ports.now }
+    requires filling { All IsWrite filling.items }
     requires unbound { N.binds net.old ≡ 0 }
     requires tables { tables.old ≡ [] }
-    ensures { ServesOrNot options.now ports.now
+    ensures { ServesOrNot options.now ports.now filling.items
         (outside (sink_facts K.taken K.faults speaker.old.sink) (net_facts N.faults N.binds N.first N.refused N.ports N.fails net.old) tables.old)
         (outside (sink_facts K.taken K.faults speaker.new.sink) (net_facts N.faults N.binds N.first N.refused N.ports N.fails net.new) tables.new)
         result }
@@ -91,33 +91,46 @@ fn stay_up<W: Threads + Wait + Sync, K: Sink + Drop, N: Net, G: Gate>(
     match ready_line(alloc, ports) {
         Ok(line) => {
             speaker.line = line;
-            serve_aloud(rt, alloc, options, ports, speaker, net, gate, tables)
+            serve_aloud(
+                rt, alloc, options, ports, filling, speaker, net, gate, tables,
+            )
         }
         Err(NoMemory) => Status::NoMemory,
     }
 }
 
-/// Serves the ports that the words give, each for as many datagrams as can be counted. It writes one line once all of them are
-/// bound, and one at its end.
-pub fn daemon<W: Threads + Wait + Sync, K: Sink + Drop, N: Net, G: Gate>(
+/// Fills the partitions from the image that the words name, and serves the ports that they give, each for as many datagrams as can be
+/// counted. It writes one line once all ports are bound, and one at its end.
+pub fn daemon<W: Threads + Wait + Sync, F: Files, K: Sink + Drop, N: Net, G: Gate>(
     rt: &W,
     alloc: Global,
     words: &[String],
     speaker: &mut Speaker<K>,
+    files: &mut F,
     net: &mut N,
     gate: &G,
     tables: &mut Tables,
 ) -> Status
     requires net { N.binds net.old ≡ 0 }
     requires tables { tables.old ≡ [] }
-    ensures { KeepsUp (daemon_of (map string_bytes words.now))
+    ensures { KeepsUp (daemon_of (map string_bytes words.now)) (files_facts F.file F.faults files.old) (files_facts F.file F.faults files.new)
         (outside (sink_facts K.taken K.faults speaker.old.sink) (net_facts N.faults N.binds N.first N.refused N.ports N.fails net.old) tables.old)
         (outside (sink_facts K.taken K.faults speaker.new.sink) (net_facts N.faults N.binds N.first N.refused N.ports N.fails net.new) tables.new)
         result }
 {
-    match read_daemon(alloc, words) {
-        Ok((options, ports)) => stay_up(rt, alloc, &options, &ports, speaker, net, gate, tables),
-        Err(WordsFault::Usage) => write_due(&mut speaker.sink, b"usage\n", Status::Usage),
-        Err(WordsFault::NoMemory) => Status::NoMemory,
+    let DaemonOptions {
+        options,
+        ports,
+        image,
+    } = match read_daemon(alloc, words) {
+        Ok(read) => read,
+        Err(WordsFault::Usage) => return write_due(&mut speaker.sink, b"usage\n", Status::Usage),
+        Err(WordsFault::NoMemory) => return Status::NoMemory,
+    };
+    match filling_of(alloc, files, image, &mut speaker.sink) {
+        Ok(filling) => stay_up(
+            rt, alloc, &options, &ports, filling, speaker, net, gate, tables,
+        ),
+        Err(status) => status,
     }
 }
