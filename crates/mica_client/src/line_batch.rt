@@ -16,7 +16,7 @@ use std::marker::Model;
 pub struct LineRequest<'a> {
     want: Want,
     ticket: u32,
-    line: &'a TraceLine,
+    line: &'a TraceLine<'a>,
 }
 
 impl<'a> Model for LineRequest<'a> {
@@ -56,7 +56,7 @@ fn operation_of(want: Want) -> u8
 
 impl<'a> LineRequest<'a> {
     /// The request of the line of this number, where it has one.
-    pub fn of(number: u32, line: &'a TraceLine) -> Option<LineRequest<'a>>
+    pub fn of(number: u32, line: &'a TraceLine<'a>) -> Option<LineRequest<'a>>
         requires { number < 100000 }
         ensures { result ≡ request_of number line.now }
     {

@@ -36,7 +36,8 @@ pub fn ask_command<W: Threads + Wait + Sync, S: Source, K: Sink, L: Link>(
         (outside (source_facts S.left S.has_ended S.faults source.new) (sink_facts K.taken K.faults sink.new) net kept
         (link_facts L.talk L.has_ended L.faults link.new)) result }
 {
-    let trace = match read_input(alloc, source, sink) {
+    let mut text = Vec::new(alloc);
+    let trace = match read_input(alloc, source, sink, &mut text) {
         Ok(trace) => trace,
         Err(status) => return status,
     };

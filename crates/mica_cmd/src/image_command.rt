@@ -30,7 +30,8 @@ pub fn image_command<S: Source, K: Sink>(
         (outside (source_facts S.left S.has_ended S.faults source.old) (sink_facts K.taken K.faults sink.old) net kept link)
         (outside (source_facts S.left S.has_ended S.faults source.new) (sink_facts K.taken K.faults sink.new) net kept link) result }
 {
-    let trace = match read_input(alloc, source, sink) {
+    let mut text = Vec::new(alloc);
+    let trace = match read_input(alloc, source, sink, &mut text) {
         Ok(trace) => trace,
         Err(status) => return status,
     };

@@ -50,12 +50,14 @@ fn refuse<K: Sink>(alloc: Global, sink: &mut K, fault: TraceFault) -> Status
     }
 }
 
-/// The trace that the source gives. Where it can't be had, what is due is written, and the answer is its status.
-pub fn read_input<S: Source, K: Sink>(
+/// The trace that the source gives, which lies in `text`. Where it can't be had, what is due is written, and the answer is
+/// its status.
+pub fn read_input<'a, S: Source, K: Sink>(
     alloc: Global,
     source: &mut S,
     sink: &mut K,
-) -> Result<Trace, Status>
+    text: &'a mut Vec<u8>,
+) -> Result<Trace<'a>, Status>
     requires open { S.has_ended source.old ≡ false }
     ensures trace { IfOk result (λ trace. GivesTrace
         (source_facts S.left S.has_ended S.faults source.old) (source_facts S.left S.has_ended S.faults source.new) trace) }
@@ -66,11 +68,11 @@ pub fn read_input<S: Source, K: Sink>(
     ensures reads { ReadsInput
         (source_facts S.left S.has_ended S.faults source.old) (source_facts S.left S.has_ended S.faults source.new) }
 {
-    let bytes = match read_source(alloc, source, sink) {
+    *text = match read_source(alloc, source, sink) {
         Ok(bytes) => bytes,
         Err(status) => return Err(status),
     };
-    match read_trace(alloc, bytes.as_slice()) {
+    match read_trace(alloc, text.as_slice()) {
         Ok(trace) => Ok(trace),
         Err(fault) => Err(refuse(alloc, sink, fault)),
     }

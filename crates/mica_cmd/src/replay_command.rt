@@ -33,7 +33,8 @@ pub fn replay_command<W: Threads + Wait + Sync, S: Source, K: Sink, G: Gate>(
         (outside (source_facts S.left S.has_ended S.faults source.old) (sink_facts K.taken K.faults sink.old) net tables.old link)
         (outside (source_facts S.left S.has_ended S.faults source.new) (sink_facts K.taken K.faults sink.new) net tables.new link) result }
 {
-    let trace = match read_input(alloc, source, sink) {
+    let mut text = Vec::new(alloc);
+    let trace = match read_input(alloc, source, sink, &mut text) {
         Ok(trace) => trace,
         Err(status) => return status,
     };

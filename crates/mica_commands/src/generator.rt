@@ -8,7 +8,7 @@ use crate::draw::{Draw, OpKind, ends_round, next_draw, start};
 use crate::spelling::{put_key, put_value};
 use crate::{GenOptions, MAX_SOURCE_LEN};
 use mica_io::{Bytes, NoMemory};
-use mica_trace::{Trace, TraceLine, TraceOp};
+use mica_trace::{CowBytes, Trace, TraceLine, TraceOp};
 use std::alloc::Global;
 
 // The key of a number.
@@ -34,7 +34,7 @@ fn value_of(alloc: Global, options: &GenOptions, number: u32) -> Result<Bytes, N
 }
 
 // The line of an operation.
-fn line_of(alloc: Global, options: &GenOptions, draw: &Draw) -> Result<TraceLine, NoMemory>
+fn line_of(alloc: Global, options: &GenOptions, draw: &Draw) -> Result<TraceLine<'static>, NoMemory>
     requires valid { is_valid options.now ≡ true }
     requires few { draw.now.key < 65536 }
     requires within { draw.now.number < options.now.ops }
@@ -42,11 +42,15 @@ fn line_of(alloc: Global, options: &GenOptions, draw: &Draw) -> Result<TraceLine
 {
     let key = key_of(alloc, options, draw.key)?;
     let (op, value) = match draw.kind {
-        OpKind::Put => (TraceOp::Put, value_of(alloc, options, draw.number)?),
-        OpKind::Del => (TraceOp::Del, Bytes::empty(alloc)),
-        OpKind::Get => (TraceOp::Get, Bytes::empty(alloc)),
+        OpKind::Put => (TraceOp::Put, value_of(alloc, options, draw.number)?.into()),
+        OpKind::Del => (TraceOp::Del, CowBytes::empty()),
+        OpKind::Get => (TraceOp::Get, CowBytes::empty()),
     };
-    Ok(TraceLine { op, key, value })
+    Ok(TraceLine {
+        op,
+        key: key.into(),
+        value,
+    })
 }
 
 // Adds the line of an operation, and the sync behind it.
@@ -54,7 +58,7 @@ fn push_operation(
     alloc: Global,
     options: &GenOptions,
     draw: &Draw,
-    lines: &mut Vec<TraceLine>,
+    lines: &mut Vec<TraceLine<'static>>,
 ) -> Result<(), NoMemory>
     requires valid { is_valid options.now ≡ true }
     requires few { draw.now.key < 65536 }
@@ -63,13 +67,13 @@ fn push_operation(
 {
     lines.push(line_of(alloc, options, draw)?)?;
     if ends_round(options, draw.number) {
-        lines.push(TraceLine::sync(alloc))?;
+        lines.push(TraceLine::sync())?;
     }
     Ok(())
 }
 
 /// The trace that the options generate.
-pub fn gen_trace(alloc: Global, options: &GenOptions) -> Result<Trace, NoMemory>
+pub fn gen_trace(alloc: Global, options: &GenOptions) -> Result<Trace<'static>, NoMemory>
     requires { is_valid options.now ≡ true }
     ensures trace { IfOk result (λ trace. trace ≡ generated options.now) }
 

@@ -10,7 +10,7 @@ use work_desk::{Terms, Work};
 
 /// The trace and the options by which a reader works. No value of it is made.
 pub struct ReadTerms {
-    pub lines: LinkedList<TraceLine>,
+    pub lines: LinkedList<TraceLine<'static>>,
     pub options: Options,
 }
 

@@ -1,12 +1,11 @@
 //! Reads traces.
-ghost use Rattle.std.specs.Prelude.{◌≡◌, ◌≤◌, ◌<◌, ◌+◌, ◌↔◌, ◌⊎◌, ◌∷◌, ◌++◌, [], ℕ, List, length, IfOk, IfErr, IsErrOf, IsTrue};
+ghost use Rattle.std.specs.Prelude.{◌≡◌, ◌≤◌, ◌<◌, ◌+◌, ◌↔◌, ◌⊎◌, ◌∷◌, ◌++◌, [], ℕ, List, length, IfOk, IfErr, MatchOption, IsTrue};
 ghost use Rattle.std.specs.List.{AllByRecursion};
 ghost use Rattle.mica_trace.specs.declared.line.TraceLine.{TraceLine};
 ghost use Rattle.mica_trace.specs.TraceGrammar.{IsKey, IsValue, IsTextOf, IsTrace, IsNoTrace, IsFaultOf, Refuses, HasLineRoom};
 
 use crate::split::{after_word, first_line, split_at_byte};
-use crate::{MAX_LINE_LEN, MAX_LINES, MAX_ROUNDS, Trace, TraceFault, TraceLine, TraceOp};
-use mica_io::{Bytes, NoMemory};
+use crate::{CowBytes, MAX_LINE_LEN, MAX_LINES, MAX_ROUNDS, Trace, TraceFault, TraceLine, TraceOp};
 use mica_words::{key_fits, value_fits};
 use std::alloc::Global;
 
@@ -35,88 +34,67 @@ pub fn is_value(value: &[u8]) -> bool
     value_fits(value) && are_between(value, 32, 126)
 }
 
-// Why a text is not read as a line.
-pub(crate) enum LineFault {
-    Bad,
-    NoMemory,
-}
-
-impl From<NoMemory> for LineFault {
-    ghost use Rattle.mica_trace.specs.declared.read.LineFault.TheVariants.{NoMemory};
-
-    ghost from_gives = { λ _ e. e ≡ NoMemory };
-
-    fn from(_: NoMemory) -> Self {
-        LineFault::NoMemory
-    }
-}
-
 // A line that has a key alone.
-fn read_key_line(alloc: Global, op: TraceOp, key: &[u8]) -> Result<TraceLine, LineFault>
-    ensures found { IfOk result (λ line. IsKey key.now × (line ≡ record { op = op; key = key.now; value = [] })) }
-    ensures bad { IsErrOf result LineFault.Bad → ¬ (IsKey key.now) }
+fn read_key_line(op: TraceOp, key: &[u8]) -> Option<TraceLine>
+    ensures { MatchOption result (¬ (IsKey key.now))
+        (λ line. IsKey key.now × (line ≡ record { op = op; key = key.now; value = [] })) }
 {
     if !is_key(key) {
-        return Err(LineFault::Bad);
+        return None;
     }
-    Ok(TraceLine {
+    Some(TraceLine {
         op,
-        key: Bytes::copy(alloc, key)?,
-        value: Bytes::empty(alloc),
+        key: key.into(),
+        value: CowBytes::empty(),
     })
 }
 
 // A line that has a key and a value, which the first space parts.
-fn read_value_line(alloc: Global, op: TraceOp, rest: &[u8]) -> Result<TraceLine, LineFault>
-    ensures found { IfOk result (λ line.
-        (line.op ≡ op) × IsKey line.key × IsValue line.value × (rest.now ≡ line.key ++ 32 ∷ line.value)) }
-    ensures bad { IsErrOf result LineFault.Bad → (key value : List ℕ) → IsKey key → IsValue value
-        → ¬ (rest.now ≡ key ++ 32 ∷ value) }
+fn read_value_line(op: TraceOp, rest: &[u8]) -> Option<TraceLine>
+    ensures { MatchOption result ((key value : List ℕ) → IsKey key → IsValue value → ¬ (rest.now ≡ key ++ 32 ∷ value))
+        (λ line. (line.op ≡ op) × IsKey line.key × IsValue line.value × (rest.now ≡ line.key ++ 32 ∷ line.value)) }
 {
     let Some((key, value)) = split_at_byte(rest, b' ') else {
-        return Err(LineFault::Bad);
+        return None;
     };
     if !is_key(key) || !is_value(value) {
-        return Err(LineFault::Bad);
+        return None;
     }
-    Ok(TraceLine {
+    Some(TraceLine {
         op,
-        key: Bytes::copy(alloc, key)?,
-        value: Bytes::copy(alloc, value)?,
+        key: key.into(),
+        value: value.into(),
     })
 }
 
-fn read_line(alloc: Global, text: &[u8]) -> Result<TraceLine, LineFault>
-    ensures found { IfOk result (IsTextOf text.now) }
-    ensures bad { IsErrOf result LineFault.Bad → (line : TraceLine) → ¬ (IsTextOf text.now line) }
+fn read_line(text: &[u8]) -> Option<TraceLine>
+    ensures { MatchOption result ((line : TraceLine) → ¬ (IsTextOf text.now line)) (IsTextOf text.now) }
 {
     if text == b"sync".as_slice() {
-        return Ok(TraceLine::sync(alloc));
+        return Some(TraceLine::sync());
     }
     if let Some(key) = after_word(text, b"get ") {
-        return read_key_line(alloc, TraceOp::Get, key);
+        return read_key_line(TraceOp::Get, key);
     }
     if let Some(key) = after_word(text, b"del ") {
-        return read_key_line(alloc, TraceOp::Del, key);
+        return read_key_line(TraceOp::Del, key);
     }
     if let Some(key) = after_word(text, b"touch ") {
-        return read_key_line(alloc, TraceOp::Touch, key);
+        return read_key_line(TraceOp::Touch, key);
     }
     if let Some(rest) = after_word(text, b"put ") {
-        return read_value_line(alloc, TraceOp::Put, rest);
+        return read_value_line(TraceOp::Put, rest);
     }
-    match after_word(text, b"add ") {
-        Some(rest) => read_value_line(alloc, TraceOp::Add, rest),
-        None => Err(LineFault::Bad),
-    }
+    let rest = after_word(text, b"add ")?;
+    read_value_line(TraceOp::Add, rest)
 }
 
 // The next line, after as many lines and syncs as are given.
-fn next_line(alloc: Global, text: &[u8], lines: u32, syncs: u32) -> Result<TraceLine, TraceFault>
+fn next_line(text: &[u8], lines: u32, syncs: u32) -> Result<TraceLine, TraceFault>
     requires lines { lines ≤ MAX_LINES }
     requires rounds { syncs < MAX_ROUNDS }
     ensures found { IfOk result (λ line. IsTextOf text.now line × HasLineRoom lines syncs line) }
-    ensures refused { IfErr result (λ fault. fault ≡ TraceFault.NoMemory ⊎ IsFaultOf (lines + 1) syncs text.now fault) }
+    ensures refused { IfErr result (IsFaultOf (lines + 1) syncs text.now) }
 {
     if lines == MAX_LINES {
         return Err(TraceFault::TooManyLines);
@@ -124,15 +102,15 @@ fn next_line(alloc: Global, text: &[u8], lines: u32, syncs: u32) -> Result<Trace
     if text.len() > MAX_LINE_LEN {
         return Err(TraceFault::LongLine(lines + 1));
     }
-    match read_line(alloc, text) {
-        Ok(line) if line.is_sync() && syncs + 1 >= MAX_ROUNDS => Err(TraceFault::TooManyRounds),
-        Ok(line) => Ok(line),
-        Err(LineFault::Bad) => Err(TraceFault::BadLine(lines + 1)),
-        Err(LineFault::NoMemory) => Err(TraceFault::NoMemory),
+    match read_line(text) {
+        Some(line) if line.is_sync() && syncs + 1 >= MAX_ROUNDS => Err(TraceFault::TooManyRounds),
+        Some(line) => Ok(line),
+        None => Err(TraceFault::BadLine(lines + 1)),
     }
 }
 
-/// Reads a trace. It looks at the lines in order, and refuses at the first that a trace can't have there.
+/// Reads a trace, which borrows keys and values. It looks at the lines in order, and refuses at the first that a trace
+/// can't have there.
 pub fn read_trace(alloc: Global, from: &[u8]) -> Result<Trace, TraceFault>
     ensures trace { IfOk result (IsTrace from.now) }
     ensures refused { IfErr result (λ fault. fault ≡ TraceFault.NoMemory ⊎ (Refuses from.now fault × IsNoTrace from.now)) }
@@ -142,7 +120,7 @@ pub fn read_trace(alloc: Global, from: &[u8]) -> Result<Trace, TraceFault>
     let mut rest = from;
     while !rest.is_empty() {
         let (text, after) = first_line(rest);
-        let line = match next_line(alloc, text, lines.len() as u32, syncs) {
+        let line = match next_line(text, lines.len() as u32, syncs) {
             Ok(line) => line,
             Err(fault) => return Err(fault),
         };

@@ -4,7 +4,7 @@ ghost use Rattle.std.specs.Fmt.{decimal};
 ghost use Rattle.partition_model.specs.declared.write.Outcome.{Outcome};
 ghost use Rattle.mica_trace.specs.ReportGrammar.{HasOutcome, outcome_words, op_word, IsStamp, SpellsLine, SpellsNoLine, IsReport, RefusesReport};
 
-use crate::read::{LineFault, is_value};
+use crate::read::is_value;
 use crate::split::{after_word, split_at_byte};
 use crate::{Line, Report};
 use itoa::Buffer;
@@ -27,6 +27,22 @@ impl From<NoMemory> for ReportFault {
 
     fn from(_: NoMemory) -> Self {
         ReportFault::NoMemory
+    }
+}
+
+// Why a text is not read as a line.
+enum LineFault {
+    Bad,
+    NoMemory,
+}
+
+impl From<NoMemory> for LineFault {
+    ghost use Rattle.mica_trace.specs.declared.report_reader.LineFault.TheVariants.{NoMemory};
+
+    ghost from_gives = { λ _ e. e ≡ NoMemory };
+
+    fn from(_: NoMemory) -> Self {
+        LineFault::NoMemory
     }
 }
 

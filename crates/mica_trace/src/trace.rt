@@ -7,11 +7,11 @@ use std::marker::Model;
 
 /// A list of lines, each of them one that a trace may have.
 #[derive(Debug, Drop)]
-pub struct Trace {
-    lines: Vec<TraceLine>,
+pub struct Trace<'a> {
+    lines: Vec<TraceLine<'a>>,
 }
 
-impl Model for Trace {
+impl<'a> Model for Trace<'a> {
     ghost use Rattle.std.specs.Prelude.{List, length, ◌≤◌};
     ghost use Rattle.std.specs.List.{AllByRecursion};
     ghost use Rattle.mica_trace.specs.declared.line.TraceLine.{TraceLine};
@@ -24,16 +24,16 @@ impl Model for Trace {
     ghost invariant = { λ t. AllByRecursion IsTraceLine t.lines.items × IsWithinLimits t.lines.items };
 }
 
-impl Trace {
+impl<'a> Trace<'a> {
     ghost use Rattle.std.specs.Prelude.{None, Some, IfSome};
     ghost use Rattle.std.specs.List.{AllByRecursion};
     ghost use Rattle.mica_trace.specs.TraceGrammar.{IsTraceLine, IsWithinLimits};
 
     /// The trace of these lines, which it keeps.
-    pub fn of(lines: Vec<TraceLine>) -> Self
+    pub fn of(lines: Vec<TraceLine<'a>>) -> Trace<'a>
         requires lines { AllByRecursion IsTraceLine lines.items }
         requires few { IsWithinLimits lines.items }
-        ensures { result ≡ lines.items }
+        ensures { result ≡ lines.entry.items }
     {
         Trace { lines }
     }
@@ -45,7 +45,7 @@ impl Trace {
     }
 
     /// All lines, in order.
-    pub fn lines(&self) -> &[TraceLine]
+    pub fn lines(&self) -> &[TraceLine<'a>]
         ensures same { result.now ≡ self.now }
         ensures lines { AllByRecursion IsTraceLine self.now }
         ensures within { IsWithinLimits self.now }
@@ -54,7 +54,7 @@ impl Trace {
     }
 
     /// The line of this number, from 0.
-    pub fn line(&self, number: u32) -> Option<&TraceLine>
+    pub fn line(&self, number: u32) -> Option<&TraceLine<'a>>
         ensures { option_copied result ≡ slice_get self.now number }
     {
         self.lines.get(number as usize)

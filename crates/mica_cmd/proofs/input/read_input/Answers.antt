@@ -23,8 +23,8 @@ returns-in-Ok-read_trace g c = record {
   reads = c.in-Ok.ensures.reads;
 }
 
-pub returns : goal.returns
-returns g c =
+pub returns-in-Err-read_trace : goal.returns-in-Err-read_trace
+returns-in-Err-read_trace g c =
     let fault = c.in-Err-read_trace.fault in
     let why = subst (λ bytes. (fault ≡ NoRoom) ⊎ (Refuses bytes fault × IsNoTrace bytes)) c.as_slice.ensures.value c.in-Err-read_trace.ensures.refused in
     let facts = sink_facts g.K.Sink.taken g.K.Sink.faults in

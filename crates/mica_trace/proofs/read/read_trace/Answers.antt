@@ -1,4 +1,4 @@
-use Rattle.std.proofs.Common.{◌≡◌, ◌+◌, ℕ, Bool, true, false, cond, sym, ◌∙◌, ap, subst, inl, inr, eqb-true, arith, length}
+use Rattle.std.proofs.Common.{◌≡◌, ◌+◌, ℕ, Bool, true, false, cond, sym, ◌∙◌, ap, subst, inr, eqb-true, arith, length}
 use Rattle.std.proofs.lemmas.List.{nil_from_length}
 use Rattle.mica_trace.specs.TraceGrammar.{IsFaultOf, HasLineRoom, is_sync}
 use Rattle.mica_trace.proofs.Reading.{HasRead, refuses, reads_more, reads_all, no_trace, AllZip_valid}
@@ -10,14 +10,10 @@ returns-in-Err-clause-refused c =
     let from = c.args.from.now in
     let at = c.first_line.result.0.now in
     let fault = c.in-Err.fault in
-    elim c.in-Err.ensures.refused [
-      | inl memory ↦ inl memory
-      | inr is ↦
-          let long : c.len.result ≡ length c.loop-rest.lines.items = omega (arith, c.len.ensures, c.loop-rest.lines.ok.0) in
-          let here = subst (λ n. IsFaultOf (n + 1) c.loop-rest.syncs at fault) long is in
-          let no = refuses from c.loop-rest.lines.items c.loop-rest.rest.now c.loop-rest.syncs c.loop-rest.invariant at c.first_line.result.1.now fault c.first_line.ensures.lines here in
-          inr (no, no_trace from fault no)
-    ]
+    let long : c.len.result ≡ length c.loop-rest.lines.items = omega (arith, c.len.ensures, c.loop-rest.lines.ok.0) in
+    let here = subst (λ n. IsFaultOf (n + 1) c.loop-rest.syncs at fault) long c.in-Err.ensures.refused in
+    let no = refuses from c.loop-rest.lines.items c.loop-rest.rest.now c.loop-rest.syncs c.loop-rest.invariant at c.first_line.result.1.now fault c.first_line.ensures.lines here in
+    inr (no, no_trace from fault no)
 
 counted : (b : Bool) (n m : ℕ) → b ≡ true → m ≡ n + 1 → m ≡ n + cond b 1 0
 counted b n m is more = more ∙ ap (λ x. n + cond x 1 0) (sym is)
