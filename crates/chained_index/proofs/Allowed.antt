@@ -1,7 +1,7 @@
 -- When the stores of a call may happen: its bucket is marked, and they go to buckets of its chain or to a free spare.
-use Rattle.chained_index.proofs.Words.{SLOTS, ◌≡◌, ◌≢◌, ℕ, ◌<◌, ◌≤◌, inl, inr, ◌⊎◌, refl, sym, ◌∙◌, subst, arith, entry_of, OwnerState, Phase, Idle}
-use Rattle.chained_index.proofs.Words.{Begun, Marked, PutsEntry, IsMain, link_in, marked_in, InChain, IsFreeSpare, WhenMarked, IsItsBucket}
-use Rattle.chained_index.proofs.Words.{MayPutEntry, MayPutLink, after, link_puts_entry, bit_is, bit_same, IsBucket, entry_at, length, length-set}
+use Rattle.chained_index.proofs.Words.{SLOTS, ◌≡◌, ◌≢◌, ℕ, ◌<◌, ◌≤◌, inl, inr, ◌⊎◌, sym, ◌∙◌, subst, arith, entry_of, OwnerState, Phase}
+use Rattle.chained_index.proofs.Words.{PutsEntry, IsMain, link_in, marked_in, InChain, IsFreeSpare, WhenMarked, IsItsBucket}
+use Rattle.chained_index.proofs.Words.{MayPutEntry, MayPutLink, after, link_puts_entry, bit_is, IsBucket, entry_at, length, length-set}
 use Rattle.chained_index.proofs.Chained.{Chained, all_on, free_on}
 
 -- an entry is not 0, as its tag is not
@@ -9,21 +9,15 @@ pub some_entry : (tag offset : ℕ) → 1 ≤ tag → entry_of tag offset ≢ 0
 some_entry tag offset some none = omega arith
 
 when_marked : (phase : Phase) (b : ℕ) (P : ℕ → Type 0) → marked_in phase b ≡ 1 → P b → WhenMarked phase (λ c write before. P c)
-when_marked Idle b P one h = absurd (omega arith)
-when_marked (Begun c) b P one h = absurd (omega arith)
-when_marked (Marked c write before) b P one h = subst P (sym (bit_is c b one)) h
+when_marked phase b P one h = grind (arith, bit_is, h)
 
 -- what holds of each bucket that may be the marked one holds when a write is marked
 pub marked_part : (phase : Phase) (P Q : ℕ → Type 0) → ((b : ℕ) → marked_in phase b ≡ 1 → P b → Q b)
     → WhenMarked phase (λ b write before. P b) → WhenMarked phase (λ b write before. Q b)
-marked_part Idle P Q f h = h
-marked_part (Begun b) P Q f h = h
-marked_part (Marked b write before) P Q f h = f b (bit_same b b refl) h
+marked_part phase P Q f h = grind (arith, h, f)
 
 pub marked_any : (phase : Phase) (R : Type 0) → WhenMarked phase (λ b write before. R) → R
-marked_any Idle R h = absurd h
-marked_any (Begun b) R h = absurd h
-marked_any (Marked b write before) R h = h
+marked_any phase R h = grind (arith, h)
 
 module _ (o : OwnerState) (b : ℕ) (one : marked_in o.phase b ≡ 1) where
   its_own : (c : ℕ) → InChain o b c ⊎ IsFreeSpare o c → IsItsBucket o c

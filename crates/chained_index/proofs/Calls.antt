@@ -1,5 +1,5 @@
 -- What the stores of each call make of a chain and its index.
-use Rattle.chained_index.proofs.Words.{SLOTS, ◌≡◌, ◌≢◌, ℕ, ◌+◌, ◌-◌, ◌*◌, ◌<◌, ◌≤◌, ◌⊎◌, List, [], ◌∷◌, ◌++◌, length, take, set, refl, sym, ap, ◌∙◌}
+use Rattle.chained_index.proofs.Words.{rules, SLOTS, ◌≡◌, ◌≢◌, ℕ, ◌+◌, ◌-◌, ◌*◌, ◌<◌, ◌≤◌, ◌⊎◌, List, [], ◌∷◌, ◌++◌, length, take, set, refl, sym, ap, ◌∙◌}
 use Rattle.chained_index.proofs.Words.{subst, arith, length-set, Contains, Contains-push, OwnerState, PutsEntry, PutsLink, IsMain, IsBucket, entry_in}
 use Rattle.chained_index.proofs.Words.{marked_in, InChain, IsFreeSpare, after, Kept, ends_main, Spot, ChainEnd, entries_of, number_of}
 use Rattle.chained_index.proofs.Words.{entries_without, IsUsed, EndsAt, Index, IsIndexOf, LacksPlace, last_of, link_in, in_chain, all_differ, at_most}
@@ -7,7 +7,8 @@ use Rattle.chained_index.proofs.Words.{Contains-get_or, take-length, take-suc, l
 use Rattle.chained_index.proofs.Words.{subst₂, inr, inl, IsPermutation, IsPermutation-sym, IsBlank, Contains-append_left, Contains-push_cases}
 use Rattle.chained_index.proofs.Words.{get_or_append_left, words_after, entries_with, get_or-set_same, get_or-set_other, get_or_push, get_or-take}
 use Rattle.chained_index.proofs.Words.{get_or_past, All-push, All-set, All-take}
-use Rattle.chained_index.proofs.Lists.{at, AllUsed, at-push_other, one_place}
+use Rattle.chained_index.proofs.Lists.{at, AllUsed, at-push_other}
+use Rattle.epoch_core.proofs.Differing.{one_place}
 use Rattle.chained_index.proofs.Chained.{last_at, step_on, chained, chain_inside, chained_before}
 use Rattle.chained_index.proofs.Changed.{Leaves, spares_differ, spares_are, Entered, none_entered, with_free, entered, kept_buckets, link_here}
 use Rattle.chained_index.proofs.Changed.{link_else, same_entry, relinks, moves, not_free}
@@ -111,12 +112,8 @@ module _ (o : OwnerState) (index : Index) (b : ℕ) (end : ChainEnd) (call : Cal
       (get_or_push cs next 0 (length cs) refl) (omega arith)
       (xs ++ x ∷ []) (get_or_push xs x 0 (SLOTS * length cs + 0) (sym place)) (λ i n. at-push_other xs x i (λ e. n (e ∙ sym place))) in
       let whole = sym (append-nil behind) in
-      relinks o index b call.v stored end.bucket next behind [] last_is whole (next ∷ []) (
-        link_here o index b call.v stored end.bucket next behind [] last_is whole,
-        (λ none. let low = free.spare.0 in let main = call.v.main in omega arith),
-        link_else o index b call.v stored end.bucket next behind [] last_is whole next (λ e. free.free b call.v.main (subst (InChain o b) (sym e) end_in_chain))
-            ∙ (call.v.known.blank next free).no_link,
-      )
+      relinks o index b call.v stored end.bucket next behind [] last_is whole (next ∷ [])
+      (link_here o index b call.v stored end.bucket next behind [] last_is whole, grind (arith, common_steps), search (rules, link_else, InChain, end_in_chain))
       (λ k l. (l, refl)) (λ d i. inr i) rest
       (subst (λ (z : List ℕ). IsPermutation (z ++ behind) (rest ++ (behind ++ next ∷ []))) (sym split) (moves rest behind next))
       (λ c i has. absurd (not_free o index b call.v c i (subst (λ (z : List ℕ). Contains z c) (sym split) (Contains-append_left rest (next ∷ []) c has))))
@@ -127,8 +124,7 @@ module _ (o : OwnerState) (index : Index) (b : ℕ) (end : ChainEnd) (call : Cal
   -- there is room for its bucket in the list of free spares
   pub release_room : end.bucket ≢ b → length index.free < o.shape.spares
   release_room n =
-      let few = at_most (index.free ++ behind) o.shape.buckets o.shape.spares (spares_differ o index b call.v) (λ c i. ((spares_are o index b call.v c).0 i).0) in
-      omega (arith, some_behind n, length-append index.free behind)
+      grind (arith, common_steps, at_most (index.free ++ behind) o.shape.buckets o.shape.spares (spares_differ o index b call.v) (λ c i. ((spares_are o index b call.v c).0 i).0), some_behind n, length-append index.free behind)
 
   module _ (spot : Spot) (u : IsUsed o b spot) where
     pub used_some : 0 < end.used
@@ -186,10 +182,7 @@ module _ (o : OwnerState) (index : Index) (b : ℕ) (end : ChainEnd) (call : Cal
       blank none n =
           let some = some_behind n in
           let same = same_entry o index b call.v dropped end.before 0 ds (end.bucket ∷ []) (before_is n) (split n) in record {
-            no_link =
-                let else = link_else o index b call.v dropped end.before 0 ds (end.bucket ∷ []) (before_is n) (split n) end.bucket in
-                let differ = one_place cs (all_differ (link_in o) b behind call.v.chain.behind) (length behind) (length behind - 1) in
-                grind (arith, else, differ, before n, last, step_on (link_in o) b behind call.v.chain.behind (length behind));
+            no_link = search (rules, link_else, one_place, before, last, step_on, before_is, split, all_differ, link_in, length);
             no_entry = λ slot low. grind (arith, same end.bucket slot low, last, dropped.entries (length behind) slot, get_or_past ys (SLOTS * length behind + slot) 0, used_some, size, long);
           }
 

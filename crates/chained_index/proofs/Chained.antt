@@ -25,8 +25,7 @@ module _ (o : OwnerState) (words : List ℕ) (history : History) (phase : Phase)
   module _ (b : ℕ) (main : IsMain o.shape b) (same : (c : ℕ) → InChain o b c → slice_index words (link_at o.shape c) ≡ link_in o c) where
     pub kept_chain : (cs : List ℕ) → IsChain o b cs → IsChain p b cs
     kept_chain cs was =
-        let behind = same_behind (link_in o) (link_in p) b cs (λ c i. same c (in_chain o b cs was c i)) was.behind in
-        record { behind = behind; spare = was.spare; few = was.few }
+        grind (arith, same_behind (link_in o) (link_in p) b cs (λ c i. same c (in_chain o b cs was c i)) was.behind, was.spare, was.few)
 
     pub chain_on : (c : ℕ) → InChain o b c → InChain p b c
     chain_on c h = let was = chain_there o s.chains b main in in_chain p b was.0 (kept_chain was.0 was.1) c (has_bucket o b was.0 was.1 c h)

@@ -4,23 +4,23 @@ use Rattle.chained_index.proofs.Words.{arith, ◌↔◌, ◌≡◌, ◌≢◌, �
 use Rattle.chained_index.proofs.Words.{OwnerState, link_in, IsMain, IsSpare, InChain, IsFreeSpare, ChangesOnlyIndex, in_cons, in_tail, ChangesChain}
 use Rattle.chained_index.proofs.Words.{Index, IsBlank, IsIndexOf, AreBehind, IsChain, has_bucket, in_chain, chain_of, behind_differ, not_main}
 use Rattle.chained_index.proofs.Words.{listed_or_not, IsPermutation, IsPermutation-sym, Contains-permutation, Contains-append_left}
-use Rattle.chained_index.proofs.Words.{Contains-append_right, Contains-append_cases, Kept, bucket_words, SLOTS, suc, ◌+◌, ◌*◌, ◌<◌, ◌⊎◌, [], refl, ap}
+use Rattle.chained_index.proofs.Words.{Contains-append_right, Contains-append_cases, Kept, bucket_words, SLOTS, suc, ◌+◌, ◌*◌, ◌<◌, ◌⊎◌, [], refl}
 use Rattle.chained_index.proofs.Words.{length-set, append_assoc, all_pairs_push, get_or, common_steps, get_or_past, Contains-push_cases}
 use Rattle.chained_index.proofs.Words.{Contains-get_or, spares_behind, PutsEntry, PutsLink, IsBucket, entry_at, entry_in, after, words_after}
 use Rattle.chained_index.proofs.Words.{word_count, entry_puts, entry_puts_other, entry_puts_link, link_puts_entry, link_puts, link_puts_other}
 use Rattle.chained_index.proofs.Words.{entries_of, inside, all_differ, same_behind, relinked, last_of, last_in, IsPermutation-refl}
 use Rattle.chained_index.proofs.Words.{IsPermutation-append_comm, IsPermutation-append_right, Event, place_of, entries_at}
-use Rattle.chained_index.proofs.Lists.{AllDiffer, differ_moved, differ_joined, differ_first, differ_apart, at, AllUsed, one_place}
+use Rattle.chained_index.proofs.Lists.{at, AllUsed}
+use Rattle.epoch_core.proofs.Differing.{AllDiffer, differ_moved, differ_joined, differ_first, differ_apart, one_place}
 use Rattle.chained_index.proofs.Chained.{Chained, chain_on, chain_back, chained}
-use Rattle.chained_index.proofs.Filled.{SameBucket, IsFilled, View, entries_are, dense_there}
+use Rattle.chained_index.proofs.Filled.{SameBucket, still_blank, IsFilled, View, entries_are, dense_there}
 use Rattle.chained_index.proofs.Stays.{chain_kept, dense_kept}
 
 module _ (o : OwnerState) (index : Index) (b : ℕ) (v : View o index b) where
   -- the free spares and those behind a bucket all differ
   pub spares_differ : AllDiffer (index.free ++ v.behind)
-  spares_differ = differ_joined index.free v.behind v.known.once
-      (behind_differ (link_in o) b v.behind v.chain.behind)
-      (λ c has i. ((v.known.free c).0 has).free b v.main (in_chain o b v.behind v.chain c (in_tail b c v.behind i)))
+  spares_differ =
+      grind (arith, common_steps, differ_joined index.free v.behind v.known.once (behind_differ (link_in o) b v.behind v.chain.behind) (λ c has i. ((v.known.free c).0 has).free b v.main (in_chain o b v.behind v.chain c (in_tail b c v.behind i))))
 
   -- they are the spares that stand behind no other bucket
   pub spares_are : (c : ℕ) → Contains (index.free ++ v.behind) c ↔ (IsSpare o.shape c × ((d : ℕ) → IsMain o.shape d → d ≢ b → ¬ (InChain o d c)))
@@ -31,10 +31,11 @@ module _ (o : OwnerState) (index : Index) (b : ℕ) (v : View o index b) where
     ],
     λ is. elim (listed_or_not v.behind c) [
       | inl own ↦ Contains-append_right index.free v.behind c own
-      | inr not ↦ Contains-append_left index.free v.behind c ((v.known.free c).1 record {
+      | inr not ↦ Contains-append_left index.free v.behind c ((v.known.free c).1 (record {
         spare = is.0;
-        free = λ d m h. grind (arith, is.1 d m, λ (i : InChain o b c). not_main o.shape b c v.behind v.main is.0 (has_bucket o b v.behind v.chain c i));
-      })
+        free = λ d m h.
+            grind (arith, is.1 d m, λ (i : InChain o b c). not_main o.shape b c v.behind v.main is.0 (has_bucket o b v.behind v.chain c i));
+      }))
     ],
   )
 
@@ -85,7 +86,7 @@ module _ (o : OwnerState) (words : List ℕ) (t : Chained (record o { words = wo
   changes : ChangesChain o p b ys
   changes = record {
     entries = entries_are p t.wide b v.main ds chain_now ys r.filled;
-    others = λ d m n. chain_kept o words o.history o.phase long v.s d m (other_same d m n);
+    others = λ d m n. chain_kept o words o.history o.phase long v.s d m (v.known.dense d m) (other_same d m n);
     rest = r.only;
   }
 
@@ -112,12 +113,8 @@ module _ (o : OwnerState) (words : List ℕ) (t : Chained (record o { words = wo
       elim (Contains-append_cases index.free v.behind c from) [
         | inl was ↦
             let f = (v.known.free c).0 was in
-            let empty = v.known.blank c f in
-            let same = r.same c (λ i. f.free b v.main (in_chain o b v.behind v.chain c i))
-            (λ i. differ_apart free ds all c has (not_main o.shape b c ds v.main f.spare i)) in record {
-              no_link = same.link ∙ empty.no_link;
-              no_entry = λ slot low. same.entry slot low ∙ empty.no_entry slot low;
-            }
+            still_blank o p c (r.same c (λ i. f.free b v.main (in_chain o b v.behind v.chain c i))
+            (λ i. differ_apart free ds all c has (not_main o.shape b c ds v.main f.spare i))) (v.known.blank c f)
         | inr own ↦ r.blank c own has
       ]
 
@@ -128,7 +125,7 @@ module _ (o : OwnerState) (words : List ℕ) (t : Chained (record o { words = wo
       shape = v.known.shape;
       dense = λ d m.
           let own = dense_there p t.wide b v.main ds chain_now ys r.filled in
-          grind (arith, λ (n : d ≢ b). dense_kept o words o.history o.phase long v.s d m (other_same d m n) (v.known.dense d m));
+          grind (arith, λ (n : d ≢ b). dense_kept o words o.history o.phase long v.s d m (v.known.dense d m) (other_same d m n));
       free = λ c. (is_free c, is_listed c);
       once = differ_first free ds all;
       blank = λ c f. blank c (is_listed c f);
@@ -139,8 +136,7 @@ module _ (o : OwnerState) (words : List ℕ) (t : Chained (record o { words = wo
 
 -- from the end of one list to that of the next
 pub moves : (xs ys : List ℕ) (x : ℕ) → IsPermutation ((xs ++ x ∷ []) ++ ys) (xs ++ (ys ++ x ∷ []))
-moves xs ys x = subst (λ (z : List ℕ). IsPermutation z (xs ++ (ys ++ x ∷ []))) (sym (append_assoc xs (x ∷ []) ys))
-    (IsPermutation-append_right xs (x ∷ ys) (ys ++ x ∷ []) (IsPermutation-append_comm (x ∷ []) ys))
+moves xs ys x = grind (arith, IsPermutation, append_assoc xs (x ∷ []) ys, IsPermutation-append_right xs (x ∷ ys) (ys ++ x ∷ []) (IsPermutation-append_comm (x ∷ []) ys))
 
 module _ (o : OwnerState) (index : Index) (b : ℕ) (v : View o index b) where
   abbrev cs : List ℕ
@@ -240,11 +236,7 @@ module _ (o : OwnerState) (index : Index) (b : ℕ) (v : View o index b) where
           (rewritten o linked.words (chained linked (subst Kept stored kept)) index b v (front ++ rest) free ys record {
             only = only_more words r.only c SLOTS (bucket_in c was_link) (omega arith) (PutsLink c next) refl refl;
             behind = relinked (link_in o) (link_in linked) c link_else rest to b front cut is (subst (AreBehind (link_in o) b) split v.chain.behind);
-            filled = record {
-              entries = λ k slot l low. same_entry (at (b ∷ front ++ rest) k) slot low ∙ (ap (λ (z : ℕ). entry_in (now words) z slot) (place k l).1 ∙ r.entries k slot (place k l).0 low);
-              used = used;
-              size = size;
-            };
+            filled = grind (arith, same_entry, r.entries, place, used, size);
             same = λ d out out'. record {
               link = link_else d (λ e. out (subst (Contains cs) (sym e) was_link));
               entry = λ slot low. same_entry d slot low ∙ r.others d slot (λ i. elim (within d i) [ inl was ↦ out was | inr now ↦ out' now ]) low;

@@ -5,14 +5,18 @@ use Rattle.chained_index.proofs.Words.{length-take, Contains, dite, ℕ_discrete
 use Rattle.chained_index.proofs.Words.{spares_behind, OwnerState, IsBucket, entry_at, word_count, entry_in, link_in, InChain, IsDense, entries_in}
 use Rattle.chained_index.proofs.Words.{entries_of, IsChain, has_bucket, in_chain, inside, chain_there, All, All-head, All-tail, All-take}
 use Rattle.chained_index.proofs.Words.{get_or-flat_map, common_steps, Bool, nat_eq, eq-eqb, ne_eqb, position_or_len, position_or_len_is, all_differ}
-use Rattle.chained_index.proofs.Words.{Spot, number_of, spot_entry, IsUsed}
-use Rattle.chained_index.proofs.Lists.{at, AllUsed, below, place_in, filter_is, used_part, one_place}
+use Rattle.chained_index.proofs.Words.{IsBlank, Spot, number_of, spot_entry, IsUsed}
+use Rattle.chained_index.proofs.Lists.{at, AllUsed, below, place_in, filter_front, filter_used, same_used}
+use Rattle.epoch_core.proofs.Differing.{one_place}
 use Rattle.chained_index.proofs.Chained.{chain_is, step_on, Chained, chained}
 
 -- a bucket's link and entries are the same
 pub record SameBucket (o p : OwnerState) (d : ℕ) : Type 0 where
   pub link : link_in p d ≡ link_in o d
   pub entry : (slot : ℕ) → slot < SLOTS → entry_in p d slot ≡ entry_in o d slot
+
+pub still_blank : (o p : OwnerState) (d : ℕ) → SameBucket o p d → IsBlank o d → IsBlank p d
+still_blank o p d same blank = record { no_link = same.link ∙ blank.no_link; no_entry = λ slot low. same.entry slot low ∙ blank.no_entry slot low }
 
 -- Each slot of the buckets has the entry of its place in the list, and none past the list's end. The buckets are no more than that takes.
 pub record IsFilled (o : OwnerState) (cs xs : List ℕ) : Type 0 where
@@ -55,9 +59,7 @@ module _ (o : OwnerState) (wide : length o.words ≡ word_count o.shape) where
   by_slot : (cs : List ℕ) → All (IsBucket o.shape) cs → (k slot : ℕ) → k < length cs → slot < SLOTS → at (all_slots o cs) (SLOTS * k + slot) ≡ entry_in o (at cs k) slot
   unfolding all_slots
   by_slot cs buckets k slot l low =
-      let before : SLOTS * k ≡ length (all_slots o (take k cs)) = omega (arith, length-all_slots (take k cs) (All-take (IsBucket o.shape) k cs buckets), length-take k cs) in
-      ap (λ (z : ℕ). at (all_slots o cs) (z + slot)) before
-      ∙ (get_or-flat_map (slots o) cs k slot 0 0 l (omega (arith, length-slots (at cs k) (buckets k 0 l))) ∙ at-slots (at cs k) slot low)
+      grind (arith, common_steps, length-all_slots (take k cs) (All-take (IsBucket o.shape) k cs buckets), length-take k cs, all_slots o cs, get_or-flat_map (slots o) cs k slot 0 0 l (omega (arith, length-slots (at cs k) (buckets k 0 l))), at-slots (at cs k) slot low)
 
   pub by_place : (cs : List ℕ) → All (IsBucket o.shape) cs → (i : ℕ) → i < SLOTS * length cs → at (all_slots o cs) i ≡ entry_in o (at cs (i / SLOTS)) (i % SLOTS)
   by_place cs buckets i l = grind (arith, by_slot cs buckets (i / SLOTS) (i % SLOTS))
@@ -87,7 +89,8 @@ module _ (o : OwnerState) (wide : length o.words ≡ word_count o.shape) (b : �
     same_places i = grind (arith, by_place o wide cs buckets i, f.entries (i / SLOTS) (i % SLOTS), get_or_past, size_all, f.size)
 
     pub entries_are : entries_of o b ≡ xs
-    entries_are = entries_filtered o b behind chain ∙ filter_is all xs f.used same_places
+    entries_are = entries_filtered o b behind chain ∙ same_used (filter (nat_lt 0) all) xs (filter_used all) f.used (λ i. filter_front all
+        (λ j k less n. grind (arith, same_places j, same_places k, below xs k, f.used j 0)) i ∙ same_places i)
 
     pub dense_there : IsDense o b
     dense_there = record {
@@ -106,32 +109,29 @@ module _ (o : OwnerState) (wide : length o.words ≡ word_count o.shape) (b : �
   module _ (d : IsDense o b) where
     order : (i j : ℕ) → i < j → at all j ≢ 0 → at all i ≢ 0
     order i j less n =
-        let step = step_on (link_in o) b behind chain.behind (i / SLOTS) in
-        let later = d.in_order (at cs (j / SLOTS)) (i % SLOTS) (j % SLOTS) in
-        let at_i = by_place o wide cs buckets i in
-        grind (arith, below all j n, at_i, by_place o wide cs buckets j, size_all, own (i / SLOTS), d.full (at cs (i / SLOTS)) (i % SLOTS))
+        grind (arith, step_on (link_in o) b behind chain.behind (i / SLOTS), d.in_order (at cs (j / SLOTS)) (i % SLOTS) (j % SLOTS), by_place o wide cs buckets i, below all j n, (by_place o wide cs buckets i), by_place o wide cs buckets j, size_all, own (i / SLOTS), d.full (at cs (i / SLOTS)) (i % SLOTS))
 
-    part : (xs : List ℕ) × AllUsed xs × ((i : ℕ) → at all i ≡ at xs i)
-    part = used_part all order
+    abbrev front : List ℕ
+    front = filter (nat_lt 0) all
 
     pub filled_there : IsFilled o cs (entries_of o b)
-    filled_there = subst (IsFilled o cs) (sym (entries_filtered o b behind chain ∙ filter_is all part.0 part.1 part.2))
-        record { entries = entries; used = part.1; size = size }
+    filled_there = subst (IsFilled o cs) (sym (entries_filtered o b behind chain))
+        record { entries = entries; used = filter_used all; size = size }
       where
-        entries : (k slot : ℕ) → k < length cs → slot < SLOTS → entry_in o (at cs k) slot ≡ at part.0 (SLOTS * k + slot)
-        entries k slot l low = sym (by_slot o wide cs buckets k slot l low) ∙ part.2 (SLOTS * k + slot)
+        entries : (k slot : ℕ) → k < length cs → slot < SLOTS → entry_in o (at cs k) slot ≡ at front (SLOTS * k + slot)
+        entries k slot l low = sym (by_slot o wide cs buckets k slot l low) ∙ sym (filter_front all order (SLOTS * k + slot))
 
-        most : length part.0 ≤ SLOTS * length cs
-        most = grind (arith, part.1 (SLOTS * length cs) 0, part.2 (SLOTS * length cs), get_or_past, size_all)
+        most : length front ≤ SLOTS * length cs
+        most = grind (arith, filter_used all (SLOTS * length cs) 0, filter_front all order (SLOTS * length cs), get_or_past, size_all)
 
         -- the last bucket is the main one or has an entry
-        size : length cs ≡ suc (spares_behind (length part.0))
+        size : length cs ≡ suc (spares_behind (length front))
         size = dite (ℕ_discrete (length behind) 0)
             (λ none. omega (arith, most))
             (λ n.
             let last : length behind - 1 < length behind = omega arith in
             let spare = chain.spare (at behind (length behind - 1)) (Contains-get_or behind (length behind - 1) 0 last) in
-            grind (arith, most, spare.0, below part.0 (SLOTS * length behind + 0), d.some (at behind (length behind - 1)) (own (suc (length behind - 1)) (omega arith)), entries (length behind) 0))
+            grind (arith, most, spare.0, below front (SLOTS * length behind + 0), d.some (at behind (length behind - 1)) (own (suc (length behind - 1)) (omega arith)), entries (length behind) 0))
 
 -- Where its buckets are the same, so is the chain
 

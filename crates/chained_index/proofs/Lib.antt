@@ -7,5 +7,4 @@ mod Changed
 mod Allowed
 mod Calls
 mod Walking
-pub mod Listed
-pub mod SpareCount
+mod AsMade

@@ -1,8 +1,9 @@
 -- A step along a chain, its end, and a search along it.
+use Rattle.std.proofs.Common.{rules}
 use Rattle.std.proofs.lemmas.Grind.{common_steps}
-use Rattle.chained_index.proofs.Words.{SLOTS, ◌≡◌, ◌≢◌, ℕ, suc, ◌+◌, ◌-◌, ◌*◌, ◌<◌, ◌≤◌, inl, inr, ◌⊎◌, List, ◌∷◌, length, sym, ap, ◌∙◌, subst, arith}
+use Rattle.chained_index.proofs.Words.{SLOTS, ◌≡◌, ◌≢◌, ℕ, suc, ◌+◌, ◌-◌, ◌*◌, ◌<◌, ◌≤◌, ◌⊎◌, List, ◌∷◌, length, sym, ap, ◌∙◌, subst, arith}
 use Rattle.chained_index.proofs.Words.{OwnerState, IsMain, IsBucket, entry_in, link_in, buckets_of, entries_of, bucket_at, EndsIn, EndsAt, Index}
-use Rattle.chained_index.proofs.Words.{inside, Contains-get_or, tag_of, entry_tag, entry_offset, InChain, HasKey, in_chain, IsSpotOf}
+use Rattle.chained_index.proofs.Words.{Contains-get_or, tag_of, entry_tag, entry_offset, InChain, HasKey, in_chain, IsSpotOf}
 use Rattle.chained_index.proofs.Words.{HasNoSpot}
 use Rattle.chained_index.proofs.Lists.{at, below}
 use Rattle.chained_index.proofs.Filled.{is_within, entry_there, View}
@@ -52,16 +53,7 @@ module _ (o : OwnerState) (index : Index) (b : ℕ) (v : View o index b) where
     -- the link was read: one further, or at the end
 
     pub one_further : (x : ℕ) → x ≡ link_in o c → x ≢ 0 → HasWalkedTo o b (link + 1) x
-    one_further x is some = elim step [
-      | inl more ↦
-          let less : suc link < length cs = omega (arith, more.0) in
-          let to : x ≡ at cs (suc link) = is ∙ more.2 in record {
-            inside = subst (IsBucket o.shape) (sym to) (inside o b v.behind v.chain v.main (at cs (suc link)) (Contains-get_or cs (suc link) 0 less));
-            within = omega (arith, less, ap length list);
-            here = grind (arith, list, to);
-          }
-      | inr last ↦ absurd (some (is ∙ last.1))
-    ]
+    one_further x is some = search (rules, step, is, IsBucket, list, some)
 
     pub at_end : (x : ℕ) → x ≡ link_in o c → x ≡ 0 → length (buckets_of o b) ≡ suc link
     at_end x is none = grind (arith, step, ap length list, is)
@@ -107,15 +99,8 @@ module _ (o : OwnerState) (index : Index) (b : ℕ) (v : View o index b) (key : 
     entry_here slot low = ap (λ (z : ℕ). entry_in o z slot) (sym here.1) ∙ v.filled.entries link slot here.0 low
 
     pub spot_found : (slot : ℕ) → slot < SLOTS → entry_in o c slot ≢ 0 → IsOfKey o key (entry_in o c slot) → IsSpotOf o b key (record { bucket = c; slot = slot })
-    spot_found slot low some is = record {
-      used = record {
-        in_chain = subst (InChain o b) here.1 (in_chain o b v.behind v.chain (at (b ∷ v.behind) link) (Contains-get_or (b ∷ v.behind) link 0 here.0));
-        in_bucket = low;
-        used = some;
-      };
-      tag = is.0;
-      item = is.1;
-    }
+    spot_found slot low some is =
+        grind (arith, InChain o b, here.1, in_chain o b v.behind v.chain (at (b ∷ v.behind) link) (Contains-get_or (b ∷ v.behind) link 0 here.0), low, some, is.0, is.1)
 
     -- where a slot is empty, so is all behind it
     pub none_past_empty : (slot : ℕ) → slot < SLOTS → entry_in o c slot ≡ 0 → NoneBefore o b key (SLOTS * link + slot) → HasNoSpot o b key

@@ -19,7 +19,7 @@ use Rattle.store_partition.proofs.Words.{◌⊎◌}
 use Rattle.chained_index.proofs.Filled.{SameBucket}
 use Rattle.store_partition.proofs.Held.{Held, IsOther, before, m, main_at, may_give, HasBlock, Split, as_cells, as_keys, as_rooms, each, has_cell}
 use Rattle.store_partition.proofs.Held.{once, one_entry, other_bucket, rooms_apart, stood, used}
-use Rattle.chained_index.proofs.Lists.{AllDiffer, differ_joined, differ_last, differ_moved, one_place}
+use Rattle.epoch_core.proofs.Differing.{AllDiffer, differ_joined, differ_last, differ_moved, one_place}
 use Rattle.store_partition.proofs.Lists.{Heap, in_one}
 use Rattle.store_partition.proofs.Cells.{exchanges, one_or_none}
 
@@ -95,7 +95,7 @@ module _ (h : Held) (a : AcceptedWrite h.o) where
       index = index_stays h.o words _ _ long (chained h.o h.kept) same h.index h.parts.known;
       bit = bit_same (bucket_in h.o a.w.key) b (sym here);
       mains = λ c l. l;
-      entries = entries_stay h.o words _ _ long (chained h.o h.kept) same;
+      entries = entries_stay h.o words _ _ long (chained h.o h.kept) same h.index h.parts.known;
       spots = λ spot used.
           let entry = (same spot.bucket (chain_inside h.o (chained h.o h.kept) b spot.bucket main used.in_chain)).entry spot.slot used.in_bucket in (
             record {
@@ -324,11 +324,11 @@ module _ (h : Held) (a : AcceptedWrite h.o) (b : ℕ) (here : b ≡ bucket_in h.
           mode = h.parts.mode;
           idle = refl;
           known = index_ends p (chained p kept) b l index known;
-          entries = λ c k. ap length (entries_ends p (chained p kept) b l c k) ∙ (keys_now c k ∙ ap (keys_in h.o.shape.buckets c) cells);
+          entries = λ c k. ap length (entries_ends p (chained p kept) b l index known c k) ∙ (keys_now c k ∙ ap (keys_in h.o.shape.buckets c) cells);
           list = heap.0;
           used = λ c k i less.
               let x = at (entries_of (after_event (Ends b) p) c) i in
-              let has = subst (λ xs. Contains xs x) (entries_ends p (chained p kept) b l c k)
+              let has = subst (λ xs. Contains xs x) (entries_ends p (chained p kept) b l index known c k)
               (Contains-get_or (entries_of (after_event (Ends b) p) c) i 0 less) in
               grind (arith, common_steps, room_ends p b l x, housed_last bs becomes c x (comes c k x has), comes c k x has);
           count =

@@ -80,9 +80,9 @@ pub use Rattle.block_heap.specs.Changes.{IsGiven, IsTaken}
 pub use Rattle.block_heap.specs.declared.block.Block.{Block}
 pub use Rattle.circular_log.specs.LogItem.{HasItem, IsItem, IsValueAt}
 pub use Rattle.chained_index.proofs.Chained.{all_on, chain_inside, chained}
-pub use Rattle.chained_index.proofs.Listed.{ListStands, at, listed, place as place_at, spot as spot_at, stands as stands_by}
+pub use Rattle.store_partition.proofs.Listed.{ListStands, at, listed, place as place_at, spot as spot_at, stands as stands_by}
 pub use Rattle.chained_index.proofs.Filled.{entry_there, is_within, view}
-pub use Rattle.chained_index.proofs.SpareCount.{free_spares}
+pub use Rattle.store_partition.proofs.FreeSpares.{free_spares}
 pub use Rattle.chained_index.proofs.Stays.{entries_ends, entries_stay, index_ends, index_stays}
 pub use Rattle.chained_index.specs.ChainEntries.{entries_of, number_of}
 pub use Rattle.chained_index.specs.declared.index.Spot.{Spot}

@@ -6,7 +6,5 @@ pub returns-else-not-is_empty-clause-place : goal.returns-else-not-is_empty-clau
 returns-else-not-is_empty-clause-place g c =
     let call = call_at _ _ _ _ _ c.end_of.ensures.same c.end_of.ensures.kept c.requires.index c.requires.bucket c.end_of.ensures.end in
     let empty : length c.self.inside.free.items ≡ 0 = search rules in
-    let none : c.args.self.now.free ≡ [] = sym (ap (λ (z : Index). z.free) c.self.view_is) ∙ nil_from_length c.self.inside.free.items empty in (
-      λ full. lacks _ _ _ _ call (ltb-false c.end_of.result.used SLOTS full) none,
-      λ l. let is = full_last _ _ _ _ call l in le-ltb c.end_of.result.used SLOTS (omega arith),
-    )
+    let none : c.args.self.now.free ≡ [] = sym (ap (λ (z : Index). z.free) c.self.view_is) ∙ nil_from_length c.self.inside.free.items empty in
+    (λ full. lacks _ _ _ _ call (ltb-false c.end_of.result.used SLOTS full) none, grind (arith, full_last _ _ _ _ call, le-ltb c.end_of.result.used SLOTS))

@@ -1,5 +1,5 @@
 use Rattle.chained_index.proofs.Words.{◌≡◌, ◌∙◌, arith}
-use Rattle.chained_index.proofs.SpareCount.{index_as_made}
+use Rattle.chained_index.proofs.AsMade.{index_as_made}
 use Rattle.chained_index.proofs.index.ChainedIndex.new.Goals as goal
 
 pub returns : goal.returns

@@ -1,5 +1,5 @@
-use Rattle.chained_index.proofs.Words.{◌≡◌, ℕ, inl, inr, ◌∙◌, Option, option_to_list, length, [], ◌∷◌, ◌++◌, sym, ap, subst, arith, rules}
-use Rattle.chained_index.proofs.Words.{nil_from_length, entry_of, PutsEntry, PutsLink, after, Index, IsIndexOf}
+use Rattle.chained_index.proofs.Words.{◌≡◌, ℕ, inl, inr, ◌∙◌, Option, option_to_list, length, [], ◌∷◌, ◌++◌, sym, ap, arith, rules}
+use Rattle.chained_index.proofs.Words.{nil_from_length, entry_of, Index}
 use Rattle.chained_index.proofs.Allowed.{may_enter, may_link, some_entry}
 use Rattle.chained_index.proofs.Calls.{Call, call_at, end_in_chain, lacks, last_free, added, added_behind}
 use Rattle.chained_index.proofs.index.ChainedIndex.place.Given.{Over}
@@ -16,23 +16,15 @@ put_entry-requires g c = may_enter _ c.args.bucket c.requires.marked _ c.end_of-
 -- the entry went into the last bucket
 pub returns-then-end-lt-SLOTS : goal.returns-then-end-lt-SLOTS
 returns-then-end-lt-SLOTS g c =
-    let end = c.end_of-end.result in
-    let is = c.put_entry.ensures.event ∙ (ap (after (PutsEntry end.bucket end.used c.entry_of-entry.result)) c.end_of-end.ensures.same
-    ∙ ap (λ (z : ℕ). after (PutsEntry end.bucket end.used z) (g.W.OwnerWords.owner c.args.words.now)) c.entry_of-entry.ensures) in
-    let pushed = added _ _ _ _ (call g (goal.at.returns-then-end-lt-SLOTS g c).After-end_of-end)
-    (entry_of c.args.tag c.args.offset) (some_entry c.args.tag c.args.offset c.requires.tag) c.if-end-lt-SLOTS.true _ c.put_entry.ensures.kept is in record {
-      entries = pushed.0;
-      index = pushed.1;
-      kept = c.put_entry.ensures.kept;
-      home = c.put_entry.ensures.home ∙ c.end_of-end.ensures.home;
-    }
+    let left = added _ _ _ _ (call g (goal.at.returns-then-end-lt-SLOTS g c).After-end_of-end) (entry_of c.args.tag c.args.offset)
+    (some_entry c.args.tag c.args.offset c.requires.tag) c.if-end-lt-SLOTS.true _ c.put_entry.ensures.kept (cc) in
+    record { entries = left.0; index = left.1; kept = c.put_entry.ensures.kept; home = cc }
 
 -- a free spare, the last in the list, is taken
 
 free_call : (g : Over) (c : In-Some g)
     → Call (g.W.OwnerWords.owner c.args.words.now) (record { shape = c.self.inside.shape; free = c.self.inside.free.items }) c.args.bucket c.end_of-end.result
-free_call g c = call_at _ _ _ _ _ c.end_of-end.ensures.same c.end_of-end.ensures.kept
-    (subst (λ (z : Index). IsIndexOf z (g.W.OwnerWords.owner c.args.words.now)) (sym c.self.view_is) c.requires.index) c.requires.bucket c.end_of-end.ensures.end
+free_call g c = search (rules, call_at)
 
 popped : (g : Over) (c : In-Some g) → c.self.inside.free.items ≡ c.pop.new.self.items ++ c.in-Some.next ∷ []
 popped g c = c.pop.ensures.items ∙ ap (λ (z : Option ℕ). c.pop.new.self.items ++ option_to_list z) c.in-Some.is
@@ -47,23 +39,16 @@ put_link-requires g c =
     let i = (goal.at.put_link-requires g c).In-Some in
     let call = free_call g i in
     let free = last_free _ _ _ _ call _ _ (popped g i) in
-    may_link _ call.v.s c.args.bucket call.v.main c.requires.marked c.in-Some.next 0 c.entry_of-entry.result (omega arith) _
-    (c.put_entry-in-Some.ensures.event ∙ ap (after (PutsEntry c.in-Some.next 0 c.entry_of-entry.result)) c.end_of-end.ensures.same) _ _
+    may_link _ call.v.s c.args.bucket call.v.main c.requires.marked c.in-Some.next 0 c.entry_of-entry.result (omega arith) _ (cc) _ _
     (end_in_chain _ _ _ _ call) (inr (free, (call.v.known.blank c.in-Some.next free).no_link))
 
 pub returns-in-Some : goal.returns-in-Some
 returns-in-Some g c =
     let i = (goal.at.returns-in-Some g c).In-Some in
-    let first = c.put_entry-in-Some.ensures.event ∙ (ap (after (PutsEntry c.in-Some.next 0 c.entry_of-entry.result)) c.end_of-end.ensures.same
-    ∙ ap (λ (z : ℕ). after (PutsEntry c.in-Some.next 0 z) (g.W.OwnerWords.owner c.args.words.now)) c.entry_of-entry.ensures) in
-    let taken = added_behind _ _ _ _ (free_call g i) (entry_of c.args.tag c.args.offset) c.in-Some.next c.pop.new.self.items
+    let left = added_behind _ _ _ _ (free_call g i) (entry_of c.args.tag c.args.offset) c.in-Some.next c.pop.new.self.items
     (some_entry c.args.tag c.args.offset c.requires.tag) c.if-end-lt-SLOTS.false (popped g i) _ c.put_link.ensures.kept
-    (c.put_link.ensures.event ∙ ap (after (PutsLink c.end_of-end.result.bucket c.in-Some.next)) first) in record {
-      entries = taken.0;
-      index = taken.1;
-      kept = c.put_link.ensures.kept;
-      home = c.put_link.ensures.home ∙ (c.put_entry-in-Some.ensures.home ∙ c.end_of-end.ensures.home);
-    }
+    (cc (c.put_link.ensures.event, c.put_entry-in-Some.ensures.event, c.end_of-end.ensures.same, c.entry_of-entry.ensures)) in
+    record { entries = left.0; index = left.1; kept = c.put_link.ensures.kept; home = cc }
 
 pub returns-in_default-clause-entries : goal.returns-in_default-clause-entries
 returns-in_default-clause-entries g c =

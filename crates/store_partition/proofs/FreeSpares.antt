@@ -1,10 +1,9 @@
--- All spare buckets are free or behind a main bucket, each in one place; in words as made all are free.
+-- How many spare buckets are free: all spares are free or behind a main bucket, each in one place.
 use Rattle.chained_index.proofs.Words.{◌↔◌, ◌≡◌, ℕ, zero, suc, ◌+◌, ◌≤◌, inl, inr, List, ◌++◌, length, refl, ap, arith, length-append, Contains}
 use Rattle.chained_index.proofs.Words.{Contains-append_left, Contains-append_right, Contains-append_cases, Cells, keys_in, spares_behind}
 use Rattle.chained_index.proofs.Words.{spares_below, spares_in_use, OwnerState, link_in, IsMain, IsSpare, InChain, entries_of, Index, IsIndexOf}
-use Rattle.chained_index.proofs.Words.{in_tail, in_chain, has_bucket, not_main, behind_differ, listed_or_not, all_there, ◌-◌, ◌<◌, get_or, replicate}
-use Rattle.chained_index.proofs.Words.{◌∙◌, get_or_past, get_or_default, Shape, entry_at, link_at, common_steps, word_count, entry_in, as_made}
-use Rattle.chained_index.proofs.Lists.{AllDiffer, differ_joined}
+use Rattle.chained_index.proofs.Words.{in_tail, in_chain, has_bucket, not_main, behind_differ, listed_or_not, all_there}
+use Rattle.epoch_core.proofs.Differing.{AllDiffer, differ_joined}
 use Rattle.chained_index.proofs.Chained.{Chained}
 use Rattle.chained_index.proofs.Filled.{view}
 
@@ -68,42 +67,3 @@ module _ (o : OwnerState) (s : Chained o) (index : Index) (known : IsIndexOf ind
 
     pub free_spares : length index.free + spares_in_use o.shape.buckets cells ≡ o.shape.spares
     free_spares = omega (arith, spares_counted, used_below o.shape.buckets (omega arith))
-
--- The index of words as made
-
-all_zero : (n i : ℕ) → get_or {A = ℕ} (replicate n 0) i 0 ≡ 0
-all_zero n i = grind (arith, common_steps, get_or_past)
-
-module _ (shape : Shape) where
-  abbrev o : OwnerState
-  o = as_made shape
-
-  no_link : (c : ℕ) → link_in o c ≡ 0
-  no_link c = all_zero (word_count shape) (link_at shape c)
-
-  no_entry : (c slot : ℕ) → entry_in o c slot ≡ 0
-  no_entry c slot = all_zero (word_count shape) (entry_at shape c slot)
-
-  alone : (b c : ℕ) → InChain o b c → b ≡ c
-  alone b c (inl is) = is
-  alone b c (inr h) = absurd (h.0 (no_link b))
-
-  -- all spares, in order, are the free ones
-  module _ (free : List ℕ) (size : length free ≡ shape.spares) (at : (k : ℕ) → k < shape.spares → get_or free k 0 ≡ shape.buckets + k) where
-    read : (k d : ℕ) → k < shape.spares → get_or free k d ≡ shape.buckets + k
-    read k d less = get_or_default free k d 0 (omega arith) ∙ at k less
-
-    pub index_as_made : IsIndexOf (record { shape = shape; free = free }) o
-    index_as_made = record {
-      shape = refl;
-      dense = λ b main. grind (arith, common_steps);
-      free = λ c. (
-        λ has. let is = read has.0 c (omega (arith, has.1)) in record {
-          spare = (omega (arith, has.1, has.2), omega (arith, has.1, has.2));
-          free = λ b main h. let same = alone b c h in omega (arith, has.1, has.2);
-        },
-        λ f. let low = f.spare.0 in let high = f.spare.1 in (c - shape.buckets, omega arith, read (c - shape.buckets) c (omega arith) ∙ omega arith),
-      );
-      once = λ i j d less within same. let one = read i d (omega arith) in let two = read j d (omega arith) in omega arith;
-      blank = λ c f. record { no_link = no_link c; no_entry = λ slot low. no_entry c slot };
-    }

@@ -1,11 +1,12 @@
 -- The words of a bucket stand for the machine's state, by the list of the chain's entries.
-use Rattle.std.proofs.lemmas.Grind.{common_steps}
+use Rattle.std.proofs.Common.{rules}
 use Rattle.chained_index.proofs.Words.{SLOTS, ◌≡◌, ◌≢◌, ℕ, ◌+◌, ◌*◌, ◌/◌, ◌%◌, ◌<◌, List, length, refl, sym, ap, subst, arith, entry_offset, Mode}
 use Rattle.chained_index.proofs.Words.{Store, Cell, OwnerState, IsMain, stamp_in, state_in, bucket_in, marked_in, IsLiveItem, HasLiveEntry, Has}
 use Rattle.chained_index.proofs.Words.{Spells, RoomsApart, StandsFor, buckets_of, entries_of, bucket_at, Index, IsIndexOf, ◌∷◌, InChain}
-use Rattle.chained_index.proofs.Words.{Contains-get_or, all_differ, in_chain, has_bucket, has_chain, link_in, subst₂}
+use Rattle.chained_index.proofs.Words.{Contains-get_or, all_differ, in_chain, has_bucket, has_chain, subst₂}
 pub use Rattle.chained_index.proofs.Lists.{at}
-use Rattle.chained_index.proofs.Lists.{below, place_in, one_place}
+use Rattle.chained_index.proofs.Lists.{below, place_in}
+use Rattle.epoch_core.proofs.Differing.{one_place}
 use Rattle.chained_index.proofs.Chained.{chain_is, Chained}
 use Rattle.chained_index.proofs.Filled.{View, view}
 
@@ -36,8 +37,7 @@ module _ {o : OwnerState} {b c slot c' slot' entry entry' i j : ℕ} (one : Stan
 
   -- and one spot one place
   same_place : (index : Index) → View o index b → (c ≡ c') × (slot ≡ slot') → i ≡ j
-  same_place index v same =
-      grind (arith, common_steps, chain_is o b v.behind v.chain, one_place (b ∷ v.behind) (all_differ (link_in o) b v.behind v.chain.behind) (i / SLOTS) (j / SLOTS), all_differ (link_in o) b v.behind v.chain.behind)
+  same_place index v same = search (rules, chain_is, one_place, all_differ)
 
 module _ (o : OwnerState) (s : Chained o) (mode : o.shape.mode ≡ Store) (index : Index) (known : IsIndexOf index o) where
   module _ (b : ℕ) (main : IsMain o.shape b) where
