@@ -98,15 +98,6 @@ module _ (options : AskOptions) (trace : List TraceLine) (groups : List Group) (
   pub fault_asked : (fault : AskFault) (x y : Option Talk) → OnTalk (Passes (IsCauseOf fault (standing_at (numbered 0 groups) None answers))) x y → OnTalk (Passes (MeansForAsk (Err fault) (start options trace))) x y
   fault_asked fault x y h = subst (λ (s : Standing). OnTalk (Passes (IsCauseOf fault s)) x y) begins h
 
-  pub memory_asked : (new : Answers) (x y : Option Talk) → OnTalk (Passes (AsksAll (numbered 0 groups) answers new)) x y → OnTalk (Passes (MeansForAsk (Err NoMemory) (start options trace))) x y
-  memory_asked new x y h =
-      on_each (Passes (AsksAll (numbered 0 groups) answers new)) (Passes (MeansForAsk (Err NoMemory) (start options trace)))
-      (λ a b p. record {
-        between = p.between;
-        went = p.went;
-        fact = subst (λ (s : Standing). IsCauseOf NoMemory s p.between b.left) begins (inl (p.fact.0, p.fact.1, tt));
-      }) x y h
-
   pub report_asked : (new : Answers) (report : List Line) → new ≡ map (λ line. Some line) report → (x y : Option Talk) → OnTalk (Passes (AsksAll (numbered 0 groups) answers new)) x y
       → OnTalk (Passes (MeansForAsk (Ok report) (start options trace))) x y
   report_asked new report is x y h =

@@ -11,3 +11,4 @@ pub mod Passing
 pub mod Replied
 pub mod Deciding
 pub mod Searching
+pub mod Known

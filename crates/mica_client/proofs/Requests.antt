@@ -74,11 +74,7 @@ lawful_fields op.Sync want key value h is = absurd (cc)
 
 known_operation : (want : Want) → IsTrue (is_operation VERSION (operation_of want))
 unfolding operation_of
-known_operation PutWant = refl
-known_operation AddWant = refl
-known_operation DelWant = refl
-known_operation TouchWant = refl
-known_operation GetWant = refl
+known_operation want = elim want as (λ w. IsTrue (is_operation VERSION (operation_of w))) [ PutWant ↦ refl | AddWant ↦ refl | DelWant ↦ refl | TouchWant ↦ refl | GetWant ↦ refl ]
 
 pub lawful_request : (n : ℕ) (line : TraceLine) (r : Request) → IsTraceLine line → request_of n line ≡ Some r → IsRequest VERSION r
 lawful_request n line r h is =

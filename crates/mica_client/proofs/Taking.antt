@@ -1,7 +1,7 @@
 -- What replies make of the answers: none that was known is lost, each reply makes one known, and each is a line for its line of the trace.
 use Rattle.std.proofs.Common.{◌≡◌, ◌≤◌, ◌<◌, ℕ, zero, suc, ◌+◌, ◌-◌, ◌==◌, Bool, true, false, List, [], ◌∷◌, length, refl, sym, ap, subst, ◌∙◌, arith, get_or, set, cond, Option, Some, None, is_some, is_none, Result, Ok, Err, option_map, option_and_then}
-use Rattle.std.specs.Prelude.{slice_get, find, nat_le}
-use Rattle.std.specs.List.{AllByRecursion, list_all}
+use Rattle.std.specs.Prelude.{slice_get, find, nat_le, IfSome}
+use Rattle.std.specs.List.{All, AllByRecursion, list_all}
 use Rattle.std.proofs.lemmas.Bool.{eqb-true, leb-true, and_parts}
 use Rattle.std.proofs.lemmas.List.{length-set}
 use Rattle.std.proofs.lemmas.List.Sums.{sum_by-set}
@@ -21,11 +21,11 @@ use Rattle.mica_trace.specs.LawfulReport.{IsLineFor, IsKindOf, IsReplyTo}
 use Rattle.mica_trace.specs.Rounds.{op_of}
 use Rattle.mica_trace.specs.ReportGrammar.{IsReportLine, HasOutcome}
 use Rattle.batch_packets.specs.declared.batch.Want.{Want}
-use Rattle.batch_packets.specs.declared.batch.Want.TheVariants.{Put, Add, Del, Touch, Get}
 use Rattle.batch_packets.specs.declared.batch.Request.{Request}
 use Rattle.batch_packets.specs.declared.batch.Batch.{Batch}
 use Rattle.batch_packets.specs.declared.replies.Reply.{Reply}
-use Rattle.batch_packets.specs.ReplyGrammar.{IsReply}
+use Rattle.batch_packets.specs.declared.replies.Replies.{Replies}
+use Rattle.batch_packets.specs.ReplyGrammar.{IsReply, IsReplies}
 use Rattle.mica_client.specs.declared.options.TheConstants.{VERSION}
 use Rattle.mica_client.specs.declared.fault.AskFault.{AskFault}
 use Rattle.mica_client.specs.declared.fault.AskFault.TheVariants.{Stranger, Double}
@@ -134,24 +134,18 @@ no_outcome : (P : Outcome → Type 0) (outcome : Outcome) → None ≡ Some outc
 no_outcome P outcome h = absurd (cc)
 
 put_outcome : (s : ℕ) (outcome : Outcome) → outcome_of_put s ≡ Some outcome → HasOutcome PutOp outcome
-put_outcome s outcome =
-    let P = λ (o : Outcome). HasOutcome PutOp o in
-    pick P (s == 2) Stored _ outcome tt (pick P (s == 5) FullSpare _ outcome tt (pick P (s == 6) FullBlock _ outcome tt (pick P (s == 7) Worn None outcome tt (no_outcome P outcome))))
+put_outcome s o = let P = HasOutcome PutOp in pick P (s == 2) Stored _ o tt (pick P (s == 5) FullSpare _ o tt (pick P (s == 6) FullBlock _ o tt (pick P (s == 7) Worn None o tt (no_outcome P o))))
 
 add_outcome : (s : ℕ) (outcome : Outcome) → outcome_of_add s ≡ Some outcome → HasOutcome AddOp outcome
-add_outcome s outcome =
-    let P = λ (o : Outcome). HasOutcome AddOp o in
-    pick P (s == 11) Exists _ outcome tt (pick P (s == 2) Stored _ outcome tt (pick P (s == 5) FullSpare _ outcome tt (pick P (s == 6) FullBlock _ outcome tt (pick P (s == 7) Worn None outcome tt (no_outcome P outcome)))))
+add_outcome s o =
+    let P = HasOutcome AddOp in
+    pick P (s == 11) Exists _ o tt (pick P (s == 2) Stored _ o tt (pick P (s == 5) FullSpare _ o tt (pick P (s == 6) FullBlock _ o tt (pick P (s == 7) Worn None o tt (no_outcome P o)))))
 
 touch_outcome : (s : ℕ) (outcome : Outcome) → outcome_of_touch s ≡ Some outcome → HasOutcome TouchOp outcome
-touch_outcome s outcome =
-    let P = λ (o : Outcome). HasOutcome TouchOp o in
-    pick P (s == 12) Touched _ outcome tt (pick P (s == 4) Absent _ outcome tt (pick P (s == 7) Worn None outcome tt (no_outcome P outcome)))
+touch_outcome s o = let P = HasOutcome TouchOp in pick P (s == 12) Touched _ o tt (pick P (s == 4) Absent _ o tt (pick P (s == 7) Worn None o tt (no_outcome P o)))
 
 del_outcome : (s : ℕ) (outcome : Outcome) → outcome_of_del s ≡ Some outcome → HasOutcome DelOp outcome
-del_outcome s outcome =
-    let P = λ (o : Outcome). HasOutcome DelOp o in
-    pick P (s == 3) Deleted _ outcome tt (pick P (s == 4) Absent _ outcome tt (pick P (s == 7) Worn None outcome tt (no_outcome P outcome)))
+del_outcome s o = let P = HasOutcome DelOp in pick P (s == 3) Deleted _ o tt (pick P (s == 4) Absent _ o tt (pick P (s == 7) Worn None o tt (no_outcome P o)))
 
 -- a report line of the operation's kind
 abbrev pub IsFor : TraceOp → Line → Type 0
@@ -180,22 +174,16 @@ get_line reply line lawful h = by (reply.status == 0) refl h
     by true e k = hit (list_all is_printable reply.value) refl (subst (λ b. length reply.value ≤ cond b MAX_VALUE_LEN 0) e lawful.value) k
     by false e k = miss (reply.status == 1) k
 
+kind_line : (reply : Reply) (line : Line) → IsReply VERSION reply → (asked : TraceOp) → IfSome (want_of asked) (λ want. line_of want reply ≡ Some line → IsFor asked line)
+kind_line reply line lawful op.Put = wrote_line op.Put PutOp reply.stamp (outcome_of_put reply.status) line refl (put_outcome reply.status)
+kind_line reply line lawful op.Add = wrote_line op.Add AddOp reply.stamp (outcome_of_add reply.status) line refl (add_outcome reply.status)
+kind_line reply line lawful op.Touch = wrote_line op.Touch TouchOp reply.stamp (outcome_of_touch reply.status) line refl (touch_outcome reply.status)
+kind_line reply line lawful op.Del = wrote_line op.Del DelOp reply.stamp (outcome_of_del reply.status) line refl (del_outcome reply.status)
+kind_line reply line lawful op.Get = get_line reply line lawful
+kind_line reply line lawful op.Sync = tt
+
 op_line : (asked : TraceOp) (want : Want) (reply : Reply) (line : Line) → want_of asked ≡ Some want → IsReply VERSION reply → line_of want reply ≡ Some line → IsFor asked line
-op_line op.Put want reply line is lawful h =
-    let same : want ≡ Put = cc in
-    wrote_line op.Put PutOp reply.stamp (outcome_of_put reply.status) line refl (λ o e. put_outcome reply.status o e) (subst (λ w. line_of w reply ≡ Some line) same h)
-op_line op.Add want reply line is lawful h =
-    let same : want ≡ Add = cc in
-    wrote_line op.Add AddOp reply.stamp (outcome_of_add reply.status) line refl (λ o e. add_outcome reply.status o e) (subst (λ w. line_of w reply ≡ Some line) same h)
-op_line op.Touch want reply line is lawful h =
-    let same : want ≡ Touch = cc in
-    wrote_line op.Touch TouchOp reply.stamp (outcome_of_touch reply.status) line refl (λ o e. touch_outcome reply.status o e) (subst (λ w. line_of w reply ≡ Some line) same h)
-op_line op.Del want reply line is lawful h =
-    let same : want ≡ Del = cc in
-    wrote_line op.Del DelOp reply.stamp (outcome_of_del reply.status) line refl (λ o e. del_outcome reply.status o e) (subst (λ w. line_of w reply ≡ Some line) same h)
-op_line op.Get want reply line is lawful h =
-    let same : want ≡ Get = cc in get_line reply line lawful (subst (λ w. line_of w reply ≡ Some line) same h)
-op_line op.Sync want reply line is lawful h = absurd (cc)
+op_line asked want reply line is lawful h = subst (λ w. IfSome w (λ want. line_of want reply ≡ Some line → IsFor asked line)) is (kind_line reply line lawful asked) h
 
 -- one reply
 
@@ -248,7 +236,7 @@ keeps_both requests a b c x y = record {
   lines = λ trace of h. y.lines trace of (x.lines trace of h);
 }
 
-pub keeps_replies : (batch : Batch) (number : ℕ) (replies : List Reply) (old new : Answers) → after_replies batch number replies old ≡ Ok new
+keeps_replies : (batch : Batch) (number : ℕ) (replies : List Reply) (old new : Answers) → after_replies batch number replies old ≡ Ok new
     → AllByRecursion (IsReply VERSION) replies → HasTickets (length old) batch.requests → KeepsMany batch.requests (length replies) old new
 keeps_replies batch number [] old new h lawful tickets =
     let same : old ≡ new = cc in
@@ -267,6 +255,12 @@ keeps_replies batch number (r ∷ rs) old new h lawful tickets =
         let first = keeps_one batch r old mid (took_one batch number r old mid e) lawful.0 tickets in
         let rest = later mid k (same_tickets (sym first.keeps.len) tickets) in
         record { keeps = keeps_both batch.requests old mid new first.keeps rest.keeps; less = omega (arith, first.one_less, rest.less) }
+
+-- a lawful datagram of them
+pub keeps_lawful : (batch : Batch) (replies : Replies) (old new : Answers) → after_replies batch replies.number replies.replies old ≡ Ok new → IsReplies replies → replies.version ≡ VERSION
+    → HasTickets (length old) batch.requests → KeepsMany batch.requests (length replies.replies) old new
+keeps_lawful batch replies old new made lawful version tickets =
+    keeps_replies batch replies.number replies.replies old new made (recursion_from_All (IsReply VERSION) _ (subst (λ v. All (IsReply v) replies.replies) version lawful.each)) tickets
 
 -- the lengths alone
 pub same_length : (batch : Batch) (number : ℕ) (reply : Reply) (old new : Answers) → after_one batch number reply old ≡ Ok new → length new ≡ length old

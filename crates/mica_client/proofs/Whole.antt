@@ -105,12 +105,8 @@ all_known options trace new valid answered keeps k d within =
 -- The report has a line for each
 
 first_for : (o : TraceOp) → IfSome (cond (is_sync_op o) (Some Sync) None) (λ printed. IsReportLine printed × IsKindOf o printed)
-first_for op.Sync = (tt, tt)
-first_for op.Put = tt
-first_for op.Add = tt
-first_for op.Del = tt
-first_for op.Touch = tt
-first_for op.Get = tt
+first_for o =
+    elim o as (λ o. IfSome (cond (is_sync_op o) (Some Sync) None) (λ printed. IsReportLine printed × IsKindOf o printed)) [ op.Sync ↦ (tt, tt) | op.Put ↦ tt | op.Add ↦ tt | op.Del ↦ tt | op.Touch ↦ tt | op.Get ↦ tt ]
 
 pub unanswered_for : (trace : List TraceLine) → AreFor trace (unanswered trace)
 unanswered_for [] = tt

@@ -27,6 +27,12 @@ Answers = List (Option Line)
 abbrev pub unanswered : List TraceLine → Answers
 unanswered trace = map (λ line. if is_sync line then Some Sync else None) trace
 
+-- the answers that these lines are, where each test says whether one is known
+abbrev pub answers_of : List Bool → List Line → Answers
+answers_of [] lines = []
+answers_of (known ∷ more) [] = []
+answers_of (known ∷ more) (line ∷ lines) = (if known then Some line else None) ∷ answers_of more lines
+
 -- the answer that a ticket has; tickets count from 1
 abbrev pub answer_of : Answers → ℕ → Option Line
 answer_of answers ticket = option_and_then (λ answer. answer) (slice_get answers (ticket - 1))

@@ -1,41 +1,15 @@
 //! What replies make of the lines that a report is to have.
-ghost use Rattle.std.specs.Prelude.{◌≡◌, ◌<◌, ◌≤◌, ◌-◌, length, map, option_map, false, All, Ok, Err, Some, IfErr, IfOk, OnOk};
+ghost use Rattle.std.specs.Prelude.{◌≡◌, length, option_map, false, Ok, Err, Some, IfErr, OnOk};
 ghost use Rattle.std.specs.List.{list_all};
-ghost use Rattle.mica_client.specs.Answers.{unanswered, is_answered, is_printable, line_of_get, outcome_of_put, outcome_of_add, outcome_of_touch, outcome_of_del, wrote, line_of, want_at, after_one, after_replies, TicketsRise, HasTickets, AnswerIsKnown, IsOfReply};
+ghost use Rattle.mica_client.specs.Answers.{is_answered, is_printable, line_of_get, outcome_of_put, outcome_of_add, outcome_of_touch, outcome_of_del, wrote, line_of, want_at, after_one, after_replies, TicketsRise, HasTickets, IsOfReply};
 ghost use Rattle.mica_client.specs.Exchange.{is_lost};
 
 use crate::AskFault;
+use crate::answer_list::AnswerList;
 use crate::line_batch::{LineBatch, LineRequest};
-use batch_packets::{Reply, Want};
-use mica_io::NoMemory;
-use mica_trace::{Line, Report, TraceLine};
+use batch_packets::{Reply, ReplyList, Want};
+use mica_trace::Line;
 use partition_model::{Op, Outcome};
-use std::alloc::Global;
-
-/// The answers before any reply: a sync needs none.
-pub fn unanswered(alloc: Global, lines: &[TraceLine]) -> Result<Vec<Option<Line>>, NoMemory>
-    ensures { IfOk result (λ answers. answers.items ≡ unanswered lines.now) }
-{
-    let mut answers = Vec::with_capacity(alloc, lines.len())?;
-    for line in lines {
-        answers.push(if line.is_sync() {
-            Some(Line::Sync)
-        } else {
-            None
-        })?;
-    }
-    Ok(answers)
-}
-
-/// Whether a ticket has its answer.
-pub fn is_answered(answers: &[Option<Line>], ticket: u32) -> bool
-    ensures { result ≡ is_answered answers.now ticket }
-{
-    matches!(
-        answers.get(ticket.saturating_sub(1) as usize),
-        Some(Some(_))
-    )
-}
 
 fn is_printable(byte: u8) -> bool
     ensures { result ≡ is_printable byte }
@@ -161,11 +135,11 @@ fn take_reply(
     number: u32,
     likely: usize,
     reply: Reply,
-    answers: &mut Vec<Option<Line>>,
+    answers: &mut AnswerList,
 ) -> Result<(), AskFault>
-    requires { HasTickets (length answers.old.items) batch.now.requests }
-    ensures taken { OnOk result (after_one batch.now number reply answers.old.items ≡ Ok answers.new.items) }
-    ensures shown { IfErr result (λ fault. after_one batch.now number reply answers.old.items ≡ Err fault) }
+    requires { HasTickets (length answers.old) batch.now.requests }
+    ensures taken { OnOk result (after_one batch.now number reply answers.old ≡ Ok answers.new) }
+    ensures shown { IfErr result (λ fault. after_one batch.now number reply answers.old ≡ Err fault) }
     ensures fault { IfErr result IsOfReply }
     ensures not_lost { is_lost result ≡ false }
 {
@@ -176,13 +150,13 @@ fn take_reply(
     let Some(want) = want_at(batch.requests(), likely, ticket) else {
         return Err(AskFault::Stranger(ticket));
     };
-    if is_answered(answers.as_slice(), ticket) {
+    if answers.is_answered(ticket) {
         return Err(AskFault::Double(ticket));
     }
     let Some(line) = line_of(want, reply) else {
         return Err(AskFault::Wrong(ticket));
     };
-    answers[(ticket - 1) as usize] = Some(line);
+    answers.set((ticket - 1) as usize, line);
     Ok(())
 }
 
@@ -190,36 +164,20 @@ fn take_reply(
 pub fn take_replies(
     batch: &LineBatch,
     number: u32,
-    replies: Vec<Reply>,
-    answers: &mut Vec<Option<Line>>,
+    replies: ReplyList,
+    answers: &mut AnswerList,
 ) -> Result<(), AskFault>
-    requires { HasTickets (length answers.old.items) batch.now.requests }
-    ensures taken { OnOk result (after_replies batch.now number replies.items answers.old.items ≡ Ok answers.new.items) }
-    ensures shown { IfErr result (λ fault. after_replies batch.now number replies.items answers.old.items ≡ Err fault) }
+    requires { HasTickets (length answers.old) batch.now.requests }
+    ensures taken { OnOk result (after_replies batch.now number replies answers.old ≡ Ok answers.new) }
+    ensures shown { IfErr result (λ fault. after_replies batch.now number replies answers.old ≡ Err fault) }
     ensures fault { IfErr result IsOfReply }
     ensures not_lost { is_lost result ≡ false }
 {
     // A server answers in the order of the requests.
     let mut likely = 0usize;
-    for reply in replies {
+    for reply in replies.into_vec() {
         take_reply(batch, number, likely, reply, answers)?;
         likely = likely.saturating_add(1);
     }
     Ok(())
-}
-
-/// The report, where each answer is known.
-pub fn report_of(alloc: Global, answers: Vec<Option<Line>>) -> Result<Report, NoMemory>
-    requires few { length answers.items ≤ 100000 }
-    requires known { All AnswerIsKnown answers.items }
-    ensures { IfOk result (λ report. answers.items ≡ map (λ line. Some line) report) }
-{
-    let mut report = Report::with_capacity(alloc, answers.len() as u32)?;
-    for answer in answers {
-        let Some(line) = answer else {
-            unreachable!();
-        };
-        report.push(line)?;
-    }
-    Ok(report)
 }

@@ -12,27 +12,27 @@ ghost use Rattle.mica_client.specs.Batches.{numbered};
 ghost use Rattle.mica_client.specs.Answers.{HasTickets, KeepsAnswers, KeepsAll, open_answers};
 ghost use Rattle.mica_client.specs.Exchange.{lacks_answer, start, standing_at, SpellsAnswers, IsUnread, AnswersBatch, IsCauseOf, MeansForAsk, Receives, StopsReading, StopsOne, Asks, StopsAsking, AsksAll, IsOfReading, is_lost};
 
-use crate::answers::{is_answered, report_of, take_replies, unanswered};
+use crate::answer_list::AnswerList;
+use crate::answers::take_replies;
 use crate::batches::groups_of;
 use crate::line_batch::{Group, LineBatch};
 use crate::link::Link;
 use crate::{AskFault, AskOptions, VERSION};
 use batch_packets::{BatchFault, MAX_DATAGRAM_LEN_V2, Replies, read_replies};
-use mica_io::NoMemory;
-use mica_trace::{Line, Report, Trace};
+use mica_trace::{Report, Trace};
 use std::alloc::Global;
 
 /// The room for one datagram: a byte more than the longest, so that a longer one is still too long.
 pub const ROOM: usize = MAX_DATAGRAM_LEN_V2 + 1;
 
 // Whether some request of the batch has no answer.
-fn lacks_answer(batch: &LineBatch, answers: &[Option<Line>]) -> bool
+fn lacks_answer(batch: &LineBatch, answers: &AnswerList) -> bool
     ensures { result ≡ lacks_answer answers.now batch.now.requests }
 {
     batch
         .requests()
         .iter()
-        .any(|request| !is_answered(answers, request.ticket()))
+        .any(|request| !answers.is_answered(request.ticket()))
 }
 
 // The replies whose text the bytes are, or why there are none.
@@ -78,17 +78,17 @@ fn receive_one<L: Link>(
     alloc: Global,
     link: &mut L,
     batch: &LineBatch,
-    answers: &mut Vec<Option<Line>>,
+    answers: &mut AnswerList,
     room: &mut [u8],
 ) -> Result<(), AskFault>
-    requires waits { lacks_answer answers.old.items batch.now.requests ≡ true }
-    requires tickets { HasTickets (length answers.old.items) batch.now.requests }
+    requires waits { lacks_answer answers.old batch.now.requests ≡ true }
+    requires tickets { HasTickets (length answers.old) batch.now.requests }
     requires room { length room.old ≡ ROOM }
-    ensures taken { OnOk result (OnTalk (Receives (λ bytes. AnswersBatch batch.now answers.old.items bytes answers.new.items))
+    ensures taken { OnOk result (OnTalk (Receives (λ bytes. AnswersBatch batch.now answers.old bytes answers.new))
         (L.talk link.old) (L.talk link.new)) }
-    ensures keeps { OnOk result (KeepsAnswers batch.now.requests answers.old.items answers.new.items) }
-    ensures fewer { OnOk result (open_answers answers.new.items < open_answers answers.old.items) }
-    ensures stops { IfErr result (λ fault. OnTalk (StopsOne fault batch.now answers.old.items) (L.talk link.old) (L.talk link.new)) }
+    ensures keeps { OnOk result (KeepsAnswers batch.now.requests answers.old answers.new) }
+    ensures fewer { OnOk result (open_answers answers.new < open_answers answers.old) }
+    ensures stops { IfErr result (λ fault. OnTalk (StopsOne fault batch.now answers.old) (L.talk link.old) (L.talk link.new)) }
     ensures cause { IsErrOf result AskFault.Link → Rose (L.faults link.old) (L.faults link.new) }
     ensures never_fall { L.faults link.old ≤ L.faults link.new }
     ensures ended { L.has_ended link.new ≡ (is_lost result || L.has_ended link.old) }
@@ -100,7 +100,7 @@ fn receive_one<L: Link>(
                 number,
                 replies,
             } = replies;
-            match take_replies(batch, number, replies.into_vec(), answers) {
+            match take_replies(batch, number, replies, answers) {
                 Ok(()) => Ok(()),
                 Err(fault) => Err(fault),
             }
@@ -115,18 +115,18 @@ fn ask_one<L: Link>(
     link: &mut L,
     port: u16,
     batch: &LineBatch,
-    answers: &mut Vec<Option<Line>>,
+    answers: &mut AnswerList,
     text: &mut Vec<u8>,
     room: &mut [u8],
 ) -> Result<(), AskFault>
     requires batch { IsBatch batch.now }
-    requires tickets { HasTickets (length answers.old.items) batch.now.requests }
+    requires tickets { HasTickets (length answers.old) batch.now.requests }
     requires room { length room.old ≡ ROOM }
-    ensures asks { OnOk result (OnTalk (Passes (Asks (record { port = port; batch = batch.now }) answers.old.items answers.new.items))
+    ensures asks { OnOk result (OnTalk (Passes (Asks (record { port = port; batch = batch.now }) answers.old answers.new))
         (L.talk link.old) (L.talk link.new)) }
-    ensures answered { OnOk result (lacks_answer answers.new.items batch.now.requests ≡ false) }
-    ensures keeps { OnOk result (KeepsAnswers batch.now.requests answers.old.items answers.new.items) }
-    ensures stops { IfErr result (λ fault. OnTalk (Passes (StopsAsking fault (record { port = port; batch = batch.now }) answers.old.items))
+    ensures answered { OnOk result (lacks_answer answers.new batch.now.requests ≡ false) }
+    ensures keeps { OnOk result (KeepsAnswers batch.now.requests answers.old answers.new) }
+    ensures stops { IfErr result (λ fault. OnTalk (Passes (StopsAsking fault (record { port = port; batch = batch.now }) answers.old))
         (L.talk link.old) (L.talk link.new)) }
     ensures cause { IsErrOf result AskFault.Link → Rose (L.faults link.old) (L.faults link.new) }
     ensures never_fall { L.faults link.old ≤ L.faults link.new }
@@ -134,7 +134,7 @@ fn ask_one<L: Link>(
 {
     batch.write(text)?;
     link.send(port, text.as_slice())?;
-    'receiving: while lacks_answer(batch, answers.as_slice()) {
+    'receiving: while lacks_answer(batch, answers) {
         match receive_one(alloc, link, batch, answers, room) {
             Ok(()) => {}
             Err(fault) => return Err(fault),
@@ -148,16 +148,16 @@ fn ask_all<L: Link>(
     alloc: Global,
     link: &mut L,
     groups: Vec<Group>,
-    answers: &mut Vec<Option<Line>>,
+    answers: &mut AnswerList,
 ) -> Result<(), AskFault>
     requires batches { (n : ℕ) → AllByRecursion (λ group. IsBatch (record { version = VERSION; number = n; requests = group.requests })) groups.items }
-    requires tickets { AllByRecursion (λ group. HasTickets (length answers.old.items) group.requests) groups.items }
+    requires tickets { AllByRecursion (λ group. HasTickets (length answers.old) group.requests) groups.items }
     requires few { length groups.items < 4294967295 }
-    ensures asks { OnOk result (OnTalk (Passes (AsksAll (numbered 0 groups.entry.items) answers.old.items answers.new.items))
+    ensures asks { OnOk result (OnTalk (Passes (AsksAll (numbered 0 groups.entry.items) answers.old answers.new))
         (L.talk link.old) (L.talk link.new)) }
-    ensures answered { OnOk result (AllByRecursion (λ group. lacks_answer answers.new.items group.requests ≡ false) groups.entry.items) }
-    ensures keeps { OnOk result (KeepsAll groups.entry.items answers.old.items answers.new.items) }
-    ensures stops { IfErr result (λ fault. OnTalk (Passes (IsCauseOf fault (standing_at (numbered 0 groups.entry.items) None answers.old.items)))
+    ensures answered { OnOk result (AllByRecursion (λ group. lacks_answer answers.new group.requests ≡ false) groups.entry.items) }
+    ensures keeps { OnOk result (KeepsAll groups.entry.items answers.old answers.new) }
+    ensures stops { IfErr result (λ fault. OnTalk (Passes (IsCauseOf fault (standing_at (numbered 0 groups.entry.items) None answers.old)))
         (L.talk link.old) (L.talk link.new)) }
     ensures cause { IsErrOf result AskFault.Link → Rose (L.faults link.old) (L.faults link.new) }
     ensures never_fall { L.faults link.old ≤ L.faults link.new }
@@ -212,15 +212,11 @@ pub fn ask<L: Link>(
     let Ok(groups) = groups_of(alloc, options, lines) else {
         return Err(AskFault::NoMemory);
     };
-    let Ok(mut answers) = unanswered(alloc, lines) else {
+    let Ok(mut answers) = AnswerList::unanswered(alloc, lines) else {
         return Err(AskFault::NoMemory);
     };
     match ask_all(alloc, link, groups, &mut answers) {
-        Ok(()) => {}
-        Err(fault) => return Err(fault),
-    }
-    match report_of(alloc, answers) {
-        Ok(report) => Ok(report),
-        Err(NoMemory) => Err(AskFault::NoMemory),
+        Ok(()) => Ok(answers.into_report()),
+        Err(fault) => Err(fault),
     }
 }

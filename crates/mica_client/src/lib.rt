@@ -15,6 +15,7 @@
 //! A test does so with a `MemLink`, to which it has added the replies.
 #![tactic(auto)]
 
+mod answer_list;
 mod answers;
 mod batches;
 mod exchange;

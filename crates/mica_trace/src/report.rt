@@ -82,6 +82,14 @@ impl Model for Report {
 }
 
 impl Report {
+    /// The report of these lines.
+    pub fn of(lines: Vec<Line>) -> Self
+        requires { length lines.items < 4294967296 }
+        ensures { result ≡ lines.items }
+    {
+        Report { lines }
+    }
+
     /// No lines, with room for this many.
     pub fn with_capacity(alloc: Global, lines: u32) -> Result<Self, NoMemory>
         ensures { IfOk result (λ report. report ≡ []) }

@@ -10,9 +10,9 @@ overflow_sub-ticket c =
     ap (λ (rs : List Request). want_at rs c.args.reply.ticket) (sym c.requests.ensures) ∙ sym c.want_at.ensures ∙ c.in-Some.is in
     (ticket_in _ _ _ _ c.requires found).0
 
-pub index_mut-requires : goal.index_mut-requires
-index_mut-requires c =
+pub set-requires : goal.set-requires
+set-requires c =
     let found : want_at c.args.batch.now.requests c.args.reply.ticket ≡ Some c.in-Some.want =
     ap (λ (rs : List Request). want_at rs c.args.reply.ticket) (sym c.requests.ensures) ∙ sym c.want_at.ensures ∙ c.in-Some.is in
     let within = ticket_in _ _ _ _ c.requires found in
-    omega (arith, within.0, within.1, c.args.answers.now.ok)
+    omega (arith, within.0, within.1)

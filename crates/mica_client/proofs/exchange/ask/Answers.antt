@@ -18,7 +18,7 @@ ask_all-requires-clause-batches g c =
 pub ask_all-requires-clause-tickets : goal.ask_all-requires-clause-tickets
 ask_all-requires-clause-tickets g c =
     let lines = c.lines-lines.result.now in
-    let long : length lines ≡ length c.in-Ok-unanswered.answers.items = sym (ap (λ (a : Answers). length a) c.in-Ok-unanswered.ensures ∙ length-map lines _) in
+    let long : length lines ≡ length c.in-Ok-unanswered.answers = sym (ap (λ (a : Answers). length a) c.in-Ok-unanswered.ensures ∙ length-map lines _) in
     subst (λ (n : ℕ). HaveTickets n c.in-Ok.groups.items) long (subst (HaveTickets (length lines)) (sym c.in-Ok.ensures) (have_tickets c.args.options.now lines))
 
 pub ask_all-requires-clause-few : goal.ask_all-requires-clause-few
@@ -27,20 +27,20 @@ ask_all-requires-clause-few g c =
     let short : length lines ≤ 100000 = let l = c.lines-lines.ensures.within.few_lines in let same = ap (λ (x : List TraceLine). length x) c.lines-lines.ensures.same in omega (arith, l, same) in
     subst (λ (groups : List Group). length groups < 4294967295) (sym c.in-Ok.ensures) (few_groups c.args.options.now lines c.requires (subst (AllByRecursion IsTraceLine) (sym c.lines-lines.ensures.same) c.lines-lines.ensures.lines) short)
 
-pub report_of-requires-clause-known : goal.report_of-requires-clause-known
-report_of-requires-clause-known g c =
+pub into_report-requires-clause-known : goal.into_report-requires-clause-known
+into_report-requires-clause-known g c =
     let lines = c.lines-lines.result.now in
-    let new = c.ask_all.new.answers.items in
+    let new = c.ask_all.new.answers in
     let e = c.in-Ok-ask_all.ensures in
     let keeps = subst (λ (old : Answers). KeepsAll (groups_of c.args.options.now lines) old new) c.in-Ok-unanswered.ensures
-    (subst (λ (groups : List Group). KeepsAll groups c.in-Ok-unanswered.answers.items new) c.in-Ok.ensures e.keeps) in
+    (subst (λ (groups : List Group). KeepsAll groups c.in-Ok-unanswered.answers new) c.in-Ok.ensures e.keeps) in
     all_known c.args.options.now lines new c.requires (subst (AllByRecursion (Answered new)) c.in-Ok.ensures e.answered) keeps
 
-pub returns-in-Ok-report_of-clause-lines : goal.returns-in-Ok-report_of-clause-lines
-returns-in-Ok-report_of-clause-lines g c =
+pub returns-in-Ok-ask_all-clause-lines : goal.returns-in-Ok-ask_all-clause-lines
+returns-in-Ok-ask_all-clause-lines g c =
     let lines = c.lines-lines.result.now in
-    let new = c.ask_all.new.answers.items in
+    let new = c.ask_all.new.answers in
     let e = c.in-Ok-ask_all.ensures in
     let keeps = subst (λ (old : Answers). KeepsAll (groups_of c.args.options.now lines) old new) c.in-Ok-unanswered.ensures
-    (subst (λ (groups : List Group). KeepsAll groups c.in-Ok-unanswered.answers.items new) c.in-Ok.ensures e.keeps) in
-    subst (λ (l : List TraceLine). AllZip IsLineFor l c.in-Ok-report_of.report) c.lines-lines.ensures.same (report_lines c.args.options.now lines new c.in-Ok-report_of.report keeps c.in-Ok-report_of.ensures)
+    (subst (λ (groups : List Group). KeepsAll groups c.in-Ok-unanswered.answers new) c.in-Ok.ensures e.keeps) in
+    subst (λ (l : List TraceLine). AllZip IsLineFor l c.into_report.result) c.lines-lines.ensures.same (report_lines c.args.options.now lines new c.into_report.result keeps c.into_report.ensures)

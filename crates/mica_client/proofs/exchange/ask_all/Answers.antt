@@ -13,7 +13,7 @@ use Rattle.mica_client.proofs.exchange.ask_all.Goals as goal
 pub loop-group-init : goal.loop-group-init
 loop-group-init g c =
     let groups = c.args.groups.items in
-    let old = c.args.answers.now.items in
+    let old = c.args.answers.now in
     let all : groups ≡ into_iter_items c.into_iter-group-iterator.result = sym c.into_iter-group-iterator.ensures.into_iter_gives.0 in
     record {
       going = subst (λ (rest : List Group). Going groups rest 0 old old) all (going_none groups old c.requires.batches c.requires.tickets);
@@ -25,14 +25,14 @@ loop-group-init g c =
 
 pub ask_one-requires-clause-batch : goal.ask_one-requires-clause-batch
 ask_one-requires-clause-batch g c =
-    let going = subst (λ (rest : List Group). Going c.args.groups.items rest c.loop-group.number c.args.answers.now.items c.loop-group.answers.items) c.in-Some.ensures.steps.0 c.loop-group.invariant.going in
+    let going = subst (λ (rest : List Group). Going c.args.groups.items rest c.loop-group.number c.args.answers.now c.loop-group.answers) c.in-Some.ensures.steps.0 c.loop-group.invariant.going in
     rw c.into_batch-batch.ensures (going.batches c.loop-group.number).0
 
 pub returns-in-Err-clause-stops : goal.returns-in-Err-clause-stops
 returns-in-Err-clause-stops g c =
     let groups = c.args.groups.items in
-    let old = c.args.answers.now.items in
-    let mid = c.loop-group.answers.items in
+    let old = c.args.answers.now in
+    let mid = c.loop-group.answers in
     let number = c.loop-group.number in
     let rest = into_iter_items c.next.new.self in
     let before = subst (λ (r : List Group). OnTalk (Passes (SoFar (numbered 0 groups) (numbered number r) old mid)) (g.L.Link.talk c.args.link.now) (g.L.Link.talk c.loop-group.link)) c.in-Some.ensures.steps.0 c.loop-group.invariant.asks in
@@ -42,9 +42,9 @@ returns-in-Err-clause-stops g c =
 pub loop-group-preserved : goal.loop-group-preserved
 loop-group-preserved g c =
     let groups = c.args.groups.items in
-    let old = c.args.answers.now.items in
-    let mid = c.loop-group.answers.items in
-    let new = c.ask_one.new.answers.items in
+    let old = c.args.answers.now in
+    let mid = c.loop-group.answers in
+    let new = c.ask_one.new.answers in
     let number = c.loop-group.number in
     let rest = into_iter_items c.next.new.self in
     let i = c.loop-group.invariant in
@@ -64,5 +64,5 @@ loop-group-preserved g c =
 pub returns-clause-answered : goal.returns-clause-answered
 returns-clause-answered g c =
     let none : into_iter_items c.loop-group.group-iterator ≡ [] = nil_from_length (into_iter_items c.loop-group.group-iterator) (omega (arith, c.loop-group.group-iterator.rest.ok, c.in-None.ensures.steps.0)) in
-    let going = subst (λ (r : List Group). Going c.args.groups.items r c.loop-group.number c.args.answers.now.items c.loop-group.answers.items) none c.loop-group.invariant.going in
-    all_answered c.args.groups.items c.loop-group.number c.args.answers.now.items c.loop-group.answers.items going
+    let going = subst (λ (r : List Group). Going c.args.groups.items r c.loop-group.number c.args.answers.now c.loop-group.answers) none c.loop-group.invariant.going in
+    all_answered c.args.groups.items c.loop-group.number c.args.answers.now c.loop-group.answers going

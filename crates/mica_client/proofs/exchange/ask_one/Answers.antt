@@ -10,8 +10,8 @@ receiving-preserved g c =
     let i = c.receiving.invariant in
     let e = c.in-Ok.ensures in
     record {
-      asks = asks_more (record { port = c.args.port; batch = c.args.batch.now }) c.args.answers.now.items c.receiving.answers.items c.receive_one.new.answers.items _ _ _ i.asks e.taken;
-      keeps = keeps_both c.args.batch.now.requests c.args.answers.now.items c.receiving.answers.items c.receive_one.new.answers.items i.keeps e.keeps;
+      asks = asks_more (record { port = c.args.port; batch = c.args.batch.now }) c.args.answers.now c.receiving.answers c.receive_one.new.answers _ _ _ i.asks e.taken;
+      keeps = keeps_both c.args.batch.now.requests c.args.answers.now c.receiving.answers c.receive_one.new.answers i.keeps e.keeps;
       tickets = same_tickets (sym e.keeps.len) i.tickets;
       room = omega (arith, i.room, c.receive_one.auto.room);
       ended = e.ended ∙ i.ended;
@@ -20,8 +20,8 @@ receiving-preserved g c =
 
 pub returns-in-Err-clause-stops : goal.returns-in-Err-clause-stops
 returns-in-Err-clause-stops g c =
-    let waited : lacks_answer c.receiving.answers.items c.args.batch.now.requests ≡ true = search rules in
-    asks_stop (record { port = c.args.port; batch = c.args.batch.now }) c.args.answers.now.items c.receiving.answers.items waited _ _ _ _ c.receiving.invariant.asks c.in-Err.ensures.stops
+    let waited : lacks_answer c.receiving.answers c.args.batch.now.requests ≡ true = search rules in
+    asks_stop (record { port = c.args.port; batch = c.args.batch.now }) c.args.answers.now c.receiving.answers waited _ _ _ _ c.receiving.invariant.asks c.in-Err.ensures.stops
 
 pub send-requires : goal.send-requires
 send-requires g c =
