@@ -27,10 +27,8 @@ module _ (o : OwnerState) (words : List ℕ) (history : History) (phase : Phase)
     filled = same_filled o p (b ∷ behind) (entries_of o b) (filled_there o s.wide b main behind was dense) (λ c i. same c (in_chain o b behind was c i))
 
     pub chain_kept : KeepsChain o p b
-    chain_kept = record {
-      buckets = chain_is p b behind now ∙ sym (chain_is o b behind was);
-      entries = entries_are p (long ∙ s.wide) b main behind now (entries_of o b) filled;
-    }
+    chain_kept =
+        record { buckets = chain_is p b behind now ∙ sym (chain_is o b behind was); entries = entries_are p (long ∙ s.wide) b main behind now (entries_of o b) filled }
 
     pub dense_kept : IsDense p b
     dense_kept = dense_there p (long ∙ s.wide) b main behind now (entries_of o b) filled

@@ -1,5 +1,5 @@
 -- The laws of the cache machine's states, over lawful histories.
-use Rattle.std.proofs.Common.{is_some, ◌≡◌, ℕ, ◌+◌, ◌*◌, ◌≤◌, ◌<◌, ◌⊎◌, List, [], ◌∷◌, ◌++◌, length, Option, Some, None, Bool, true, false, cond, not, refl, sym, ap, ◌∙◌, subst, arith, ◌≢◌, eqb, leb, rules}
+use Rattle.std.proofs.Common.{is_some, ◌≡◌, ℕ, ◌+◌, ◌*◌, ◌≤◌, ◌<◌, ◌⊎◌, List, [], ◌∷◌, ◌++◌, length, Option, Some, None, Bool, true, false, cond, not, refl, sym, ap, ◌∙◌, subst, arith, ◌≢◌, eqb, rules}
 use Rattle.std.specs.List.{find, filter, fold, AllByRecursion as AllOf, count_by}
 use Rattle.std.specs.Prelude.{map, option_map}
 use Rattle.std.proofs.lemmas.Option.{same_Some}
@@ -18,7 +18,6 @@ use Rattle.partition_model.specs.declared.write.Op.{Op}
 use Rattle.partition_model.specs.declared.write.Op.TheVariants.{Put, Add, Touch, Del}
 use Rattle.partition_model.specs.Limits.{most_added}
 use Rattle.partition_model.specs.declared.write.Outcome.{Outcome}
-use Rattle.partition_model.specs.declared.write.Outcome.TheVariants.{Stored, FullBlock}
 use Rattle.partition_model.specs.Write.{GivesValue, IsWrite, is_accepted, size_of}
 use Rattle.partition_model.specs.Cache.{Record, Cache, has_key, record_of, value_in, is_live}
 use Rattle.partition_model.specs.CacheStep as cs
@@ -153,9 +152,6 @@ module _ (options : Options) (s : Cache) (write : Write) where
 
 -- An item that the log is asked to store, and stores, has no more words than the log.
 module _ (options : Options) (write : Write) where
-  by_words : (b : Bool) → leb (size_of write) options.words ≡ b → is_accepted (cond b Stored FullBlock) ≡ true → size_of write ≤ options.words
-  by_words b fits accepted = grind (arith, common_steps)
-
   pub reply_fits : (op : Op) (found : Bool) → GivesValue op → is_accepted (cs.reply_of op options write found) ≡ true → size_of write ≤ options.words
   reply_fits op found gives accepted = grind (arith, common_steps)
 

@@ -68,15 +68,6 @@ module _ (options : Options) (s : Cache) (write : Write) (key : List ℕ) where
 
 -- `Held` exactly where the key has a record
 
-no_deleted : (n : ℕ) → Deleted n ≡ Held → ⊥
-no_deleted n e = cc
-
-no_passed : (n : ℕ) → Passed n ≡ Held → ⊥
-no_passed n e = cc
-
-no_displaced : (n : ℕ) → Displaced n ≡ Held → ⊥
-no_displaced n e = cc
-
 held_by : (had wrote live left : Bool) (n : ℕ) (before : Fate) → (left ≡ true → live ≡ true) → (live ≡ true → wrote ≡ true) → (before ≡ Held → had ≡ true)
     → pick had wrote live left n before ≡ Held → left ≡ true
 held_by had wrote live left n before up up' back is = grind (arith, common_steps)

@@ -8,7 +8,6 @@ use Rattle.partition_model.specs.declared.options.Options.{Options}
 use Rattle.partition_model.specs.declared.options.Mode.{Mode}
 use Rattle.partition_model.specs.declared.options.Mode.TheVariants.{Cache as CacheMode, Store as StoreMode}
 use Rattle.partition_model.specs.declared.write.Write.{Write}
-use Rattle.partition_model.specs.declared.write.Op.{Op}
 use Rattle.partition_model.specs.declared.write.Outcome.{Outcome}
 use Rattle.partition_model.specs.Write.{is_accepted}
 use Rattle.partition_model.specs.Cache as cache
@@ -58,9 +57,6 @@ pub last_accepted : (options : Options) (history : History) (write : Write) → 
 last_accepted options history write is = last_from options [] history write is
 
 -- the machine has accepted as many writes as the history has
-
-store_accepted : (op : Op) (s : store.Store) (write : Write) → (ss.after_op op s write).accepted ≡ s.accepted + 1
-store_accepted op s write = grind (arith, common_steps)
 
 pub accepted_after : (options : Options) (now : State) (write : Write) → accepted_in (after options now write) ≡ accepted_in now + 1
 unfolding cs.after ss.after

@@ -1,30 +1,15 @@
 -- Each accepted write raises the stamp, so a stamp is that of one prefix of a history at most.
 use Rattle.std.proofs.Common.{rules}
-use Rattle.std.proofs.Common.{◌≡◌, ◌≢◌, ℕ, zero, suc, ◌<◌, ◌≤◌, List, [], ◌∷◌, ◌++◌, take, refl, ap, arith, Option}
+use Rattle.std.proofs.Common.{◌≡◌, ◌≢◌, ℕ, zero, suc, ◌<◌, ◌≤◌, List, [], ◌∷◌, ◌++◌, take, refl, ap, arith}
 use Rattle.std.specs.List.{fold}
 use Rattle.std.proofs.lemmas.Grind.{fold-append}
 use Rattle.std.proofs.lemmas.Grind.{common_steps}
 use Rattle.partition_model.specs.declared.options.Options.{Options}
 use Rattle.partition_model.specs.declared.write.Write.{Write}
-use Rattle.partition_model.specs.declared.write.Op.{Op}
-use Rattle.partition_model.specs.Cache as cache
 use Rattle.partition_model.specs.CacheStep as cs
-use Rattle.partition_model.specs.Store as store
 use Rattle.partition_model.specs.StoreStep as ss
 use Rattle.partition_model.specs.History.{History, State, after, start, state_of, stamp_in, stamp_of, IsPrefix, IsCut}
 use Rattle.partition_model.specs.Run.{RunStep, history_of}
-
-put_rises : (found : Option cache.Record) (s : cache.Cache) (write : Write) → s.stamp < (cs.after_put found s write).stamp
-put_rises found s write = grind (arith, common_steps)
-
-touch_rises : (found : Option cache.Record) (s : cache.Cache) (write : Write) → s.stamp < (cs.after_touch found s write).stamp
-touch_rises found s write = grind (arith, common_steps)
-
-write_rises : (op : Op) (options : Options) (s : cache.Cache) (write : Write) → s.stamp < (cs.after_op op options s write).stamp
-write_rises op options s write = grind (arith, common_steps)
-
-store_rises : (op : Op) (s : store.Store) (write : Write) → s.stamp < (ss.after_op op s write).stamp
-store_rises op s write = grind (arith, common_steps)
 
 pub after_rises : (options : Options) (now : State) (write : Write) → stamp_in now < stamp_in (after options now write)
 unfolding cs.after ss.after
