@@ -1,4 +1,3 @@
-pub mod Runs
 pub mod InOrder
 pub mod Statuses
 pub mod Replying

@@ -1,5 +1,5 @@
 -- What an owner makes of one message more.
-use Rattle.std.proofs.Common.{◌≡◌, ◌≢◌, ℕ, ◌<◌, ◌≤◌, ◌==◌, inl, inr, Bool, true, false, List, [], ◌∷◌, ◌++◌, length, map, Some, None, slice_get, slice_set, length-set, refl, sym, ap, ◌∙◌, subst, arith, cond, append-nil, append_assoc, eq-eqb, ne_eqb}
+use Rattle.std.proofs.Common.{◌≡◌, ◌≢◌, ℕ, ◌<◌, ◌≤◌, ◌==◌, inl, inr, Bool, true, false, List, [], ◌∷◌, ◌++◌, length, map, Some, None, slice_get, slice_set, length-set, refl, sym, ap, ◌∙◌, subst, arith, cond, append-nil, eq-eqb, ne_eqb}
 use Rattle.std.specs.List.{All, cons_option}
 use Rattle.std.proofs.lemmas.List.{map-append}
 use Rattle.std.proofs.lemmas.List.Elements.{filter_map-append, filter-append, All-nil, All-same, All-push, All-weaker, recursion_from_All}
@@ -12,7 +12,7 @@ use Rattle.partition_model.specs.declared.write.Outcome.{Outcome}
 use Rattle.partition_model.specs.declared.write.Write.{Write}
 use Rattle.partition_model.specs.Write.{IsWrite, is_accepted}
 use Rattle.partition_model.specs.History.{History, IsPrefix, MayGive, stamp_of}
-use Rattle.partition_model.specs.Run.{RunStep, history_of, IsRunFrom}
+use Rattle.partition_model.specs.Run.{RunStep, history_of}
 use Rattle.epoch_core.specs.declared.shape.Shape.{Shape}
 use Rattle.epoch_core.specs.declared.state.OwnerState.{OwnerState}
 use Rattle.epoch_core.specs.declared.state.Phase.{Phase}
@@ -22,7 +22,7 @@ use Rattle.epoch_core.specs.Shape.{options_of}
 use Rattle.epoch_core.specs.Joins.{ended_in, lent}
 use Rattle.epoch_core.proofs.Prefixes.{prefix_same}
 use Rattle.partition_table.specs.Seats.{note_state, note_home}
-use Rattle.partition_model.proofs.Rises.{stamp_rises}
+use Rattle.partition_model.proofs.Rises.{stamp_rises, prefix_rises}
 use Rattle.epoch_core.specs.OwnerState.{options_in}
 use Rattle.epoch_core.specs.OwnerStep.{IsOwnerStep}
 use Rattle.owner_queue.specs.declared.ack.Ack.{Ack}
@@ -35,10 +35,10 @@ use Rattle.owner_queue.specs.AckOrder.{AckMayFollow}
 use Rattle.owner_queue.specs.AckEnds.{AckBox, ack_box}
 use Rattle.owner_queue.specs.JobEnds.{Inbox, inbox}
 use Rattle.owner_queue.proofs.Gains.{step_gains}
-use Rattle.mica_fronts.specs.Placed.{Placed, steps_in, history_in}
 use Rattle.mica_fronts.specs.QueueFront.{acknowledged_by}
-use Rattle.mica_fronts.specs.OwnerWork.{DoneJob, job_in, jobs_in, job_of, placed_in, answers_to, IsAckBoxOf, IsNewAckBox, IsSent, HasDone, HasAnsweredJobs}
-use Rattle.mica_fronts.proofs.Runs.{stamp_grows, history_append, run_append}
+use Rattle.owner_queue.specs.Worked.{DoneJob, done_by, jobs_in, HasWorked}
+use Rattle.mica_fronts.specs.OwnerWork.{answers_to, IsAckBoxOf, IsNewAckBox, IsSent, HasDone, HasAnsweredJobs}
+use Rattle.owner_queue.proofs.Worked.{worked_none, worked_end, worked_job}
 
 -- the acknowledgements to a front: those of its jobs, whose tickets nothing bounds but what bounds those of its messages
 pub record AckedTo (home : TableId) (owner : OwnerState) (front : ℕ) (taken : List Message) (box : AckBox) : Type 0 where
@@ -56,12 +56,8 @@ pub serves_none : (home : TableId) (o : OwnerState) (from : Inbox) (boxes : List
 serves_none home o from boxes fresh new = record {
   home_is = refl;
   served = record {
-    queue = refl;
-    low = All-same (λ m. sender_of m < from.senders) from.taken [] fresh (All-nil (λ m. sender_of m < from.senders));
     done = [];
-    jobs = sym (ap jobs_in fresh);
-    run = tt;
-    gained = ap (λ (h : History). record o { history = h }) (sym (append-nil o.history));
+    worked = subst (λ l. HasWorked o o from from l []) (sym fresh) (worked_none o from);
     fronts = refl;
     sent = λ front was box at at'.
         let same : was ≡ box = cc in
@@ -91,14 +87,12 @@ module _ (home now_home : TableId) (old mid : OwnerState) (from now to : Inbox) 
   taken_is : to.taken ≡ now.taken ++ m ∷ []
   taken_is = ap (λ (i : Inbox). i.taken) is
 
-  queue_is : to ≡ inbox from.queue from.senders from.jobs to.taken
-  queue_is = is ∙ ap (λ (i : Inbox). inbox i.queue i.senders i.jobs (now.taken ++ m ∷ [])) so_far.served.queue ∙ ap (inbox from.queue from.senders from.jobs) (sym taken_is)
-
   low_is : sender_of m < from.senders
-  low_is = subst (λ n. sender_of m < n) (ap (λ (i : Inbox). i.senders) so_far.served.queue) low
+  low_is = subst (λ n. sender_of m < n) (ap (λ (i : Inbox). i.senders) so_far.served.worked.taken) low
 
-  low_more : All (λ x. sender_of x < from.senders) to.taken
-  low_more = All-same (λ x. sender_of x < from.senders) to.taken (now.taken ++ m ∷ []) taken_is (All-push (λ x. sender_of x < from.senders) now.taken m so_far.served.low low_is)
+  -- what was worked with the message is what was worked in all
+  worked_to : {new : OwnerState} {done : List DoneJob} → HasWorked old new from to (now.taken ++ m ∷ []) done → HasWorked old new from to to.taken done
+  worked_to {new = new} {done = done} it = subst (λ l. HasWorked old new from to l done) (sym taken_is) it
 
   sent_more : (front : ℕ) → sent_by front to.taken ≡ sent_by front now.taken ++ sent_by front (m ∷ [])
   sent_more front = ap (sent_by front) taken_is ∙ filter-append (λ x. sender_of x == front) now.taken (m ∷ [])
@@ -106,19 +100,12 @@ module _ (home now_home : TableId) (old mid : OwnerState) (from now to : Inbox) 
   below_still : (front : ℕ) (box : AckBox) → AckedTo home mid front now.taken box → (bound : ℕ) → All (λ x. ticket_of x < bound) (sent_by front to.taken) → All (λ a. a.ticket < bound) box.list
   below_still front box it bound all = it.below bound (All-before (λ x. ticket_of x < bound) (sent_by front now.taken) (sent_by front (m ∷ [])) (subst (All (λ x. ticket_of x < bound)) (sent_more front) all))
 
-  jobs_more : jobs_in to.taken ≡ jobs_in now.taken ++ jobs_in (m ∷ [])
-  jobs_more = ap jobs_in taken_is ∙ filter_map-append job_in now.taken (m ∷ [])
-
   pub serves_end : jobs_in (m ∷ []) ≡ [] → IsServing home now_home old mid from to before after
   serves_end none = record {
     home_is = so_far.home_is;
     served = record {
-      queue = queue_is;
-      low = low_more;
       done = so_far.served.done;
-      jobs = so_far.served.jobs ∙ sym (jobs_more ∙ ap (λ l. jobs_in now.taken ++ l) none ∙ append-nil (jobs_in now.taken));
-      run = so_far.served.run;
-      gained = so_far.served.gained;
+      worked = worked_to (worked_end m so_far.served.worked is low none);
       fronts = so_far.served.fronts;
       sent = so_far.served.sent;
     };
@@ -142,28 +129,17 @@ module _ (home now_home : TableId) (old mid : OwnerState) (from now to : Inbox) 
     ticket_above may = here.below job.ticket ((subst (λ (x : Message). MayFollow now.jobs (sent_by (sender_of x) now.taken) x) job_is may).rises refl)
 
     module _ (new_home : TableId) (new : OwnerState) (sent : AckBox) (did : HasDone now_home new_home mid new job box sent) where
-      step : RunStep
-      step = record { write = job.write; outcome = did.ack.outcome; stamp = did.ack.stamp }
+      abbrev one : DoneJob
+      one = done_by job did.ack.outcome did.ack.stamp
 
-      one : DoneJob
-      one = record { front = job.sender; answer = record { ticket = job.ticket; step = step } }
+      abbrev step : RunStep
+      step = one.answer.step
 
-      so : List DoneJob
+      abbrev so : List DoneJob
       so = so_far.served.done
 
-      steps : List RunStep
-      steps = steps_in (placed_in so)
-
       gains : new ≡ record mid { words = new.words; history = mid.history ++ history_of (step ∷ []) }
-      unfolding step
       gains = step_gains mid new job.write did.ack.outcome did.ack.stamp did.step
-
-      mid_history : mid.history ≡ old.history ++ history_of steps
-      unfolding steps so
-      mid_history = ap (λ (o : OwnerState). o.history) so_far.served.gained
-
-      mid_options : options_in mid ≡ options_in old
-      mid_options = ap options_in so_far.served.gained
 
       new_options : options_in new ≡ options_in mid
       new_options = ap options_in gains
@@ -171,44 +147,22 @@ module _ (home now_home : TableId) (old mid : OwnerState) (from now to : Inbox) 
       new_history : new.history ≡ mid.history ++ history_of (step ∷ [])
       new_history = ap (λ (o : OwnerState). o.history) gains
 
-      steps_more : steps_in (placed_in (so ++ one ∷ [])) ≡ steps ++ step ∷ []
-      unfolding steps one
-      steps_more = ap steps_in (map-append (λ (it : DoneJob). record { front = it.front; step = it.answer.step }) so (one ∷ [])) ∙ map-append (λ (q : Placed). q.step) (placed_in so) (placed_in (one ∷ []))
-
-      run_more : IsRunFrom (options_in old) old.history (steps_in (placed_in (so ++ one ∷ [])))
-      unfolding steps step so
-      run_more =
-          let may = subst (λ (y : Options × History). MayGive y.0 y.1 job.write did.ack.outcome) (λ i. (mid_options i, mid_history i)) did.step.allowed in
-          let stamped : did.ack.stamp ≡ stamp_of (options_in old) ((old.history ++ history_of steps) ++ history_of (step ∷ []))
-          = did.stamped ∙ ap (λ (y : Options × History). stamp_of y.0 y.1) (λ i. ((new_options ∙ mid_options) i, (new_history ∙ ap (λ h. h ++ history_of (step ∷ [])) mid_history) i)) in
-          subst (IsRunFrom (options_in old) old.history) (sym steps_more) (run_append (options_in old) old.history steps (step ∷ []) so_far.served.run (may, stamped, tt))
-
-      gained_more : new ≡ record old { words = new.words; history = old.history ++ history_in (placed_in (so ++ one ∷ [])) }
-      unfolding steps so
-      gained_more = gains ∙ ap (λ (o : OwnerState). record o { words = new.words; history = o.history ++ history_of (step ∷ []) }) so_far.served.gained
-          ∙ ap (λ (h : History). record old { words = new.words; history = h })
-          (append_assoc old.history (history_of steps) (history_of (step ∷ [])) ∙ ap (λ h. old.history ++ h) (sym (history_append steps (step ∷ [])) ∙ ap history_of (sym steps_more)))
-
       answers_more : (front : ℕ) → answers_to front (so ++ one ∷ []) ≡ answers_to front so ++ answers_to front (one ∷ [])
-      answers_more front = filter_map-append (λ (it : DoneJob). cond (it.front == front) (Some it.answer) None) so (one ∷ [])
+      answers_more front = filter_map-append (λ (it : DoneJob). cond (it.sender == front) (Some it.answer) None) so (one ∷ [])
 
       own_answer : answers_to job.sender (one ∷ []) ≡ one.answer ∷ []
-      unfolding one
       own_answer = ap (λ b. cons_option (cond b (Some one.answer) None) []) (eq-eqb job.sender job.sender refl)
 
       other_answer : (front : ℕ) → job.sender ≢ front → answers_to front (one ∷ []) ≡ []
-      unfolding one
       other_answer front other = ap (λ b. cons_option (cond b (Some one.answer) None) []) (ne_eqb job.sender front other)
 
       ack_is : acknowledged_by did.ack ≡ one.answer
-      unfolding one step
       ack_is = λ i. record { ticket = did.ticket i; step = record { write = did.write i; outcome = did.ack.outcome; stamp = did.ack.stamp } }
 
       list_is : sent.list ≡ box.list ++ did.ack ∷ []
       list_is = ap (λ (b : AckBox). b.list) did.sent
 
       sent_here : (was : AckBox) → slice_get before job.sender ≡ Some was → IsSent job.sender (so ++ one ∷ []) was sent
-      unfolding so
       sent_here was at =
           let it = so_far.served.sent job.sender was box at there in
           record {
@@ -225,7 +179,7 @@ module _ (home now_home : TableId) (old mid : OwnerState) (from now to : Inbox) 
 
       up : stamp_of (options_in mid) mid.history ≤ stamp_of (options_in new) new.history
       up =
-          let more = stamp_grows (options_in mid) mid.history (history_of (step ∷ [])) in
+          let more = prefix_rises (options_in mid) mid.history (mid.history ++ history_of (step ∷ [])) (history_of (step ∷ []), refl) in
           let same = ap (λ (y : Options × History). stamp_of y.0 y.1) (λ i. (new_options i, new_history i)) in
           omega arith
 
@@ -260,16 +214,11 @@ module _ (home now_home : TableId) (old mid : OwnerState) (from now to : Inbox) 
       }
 
       pub serves_job : IsServing home new_home old new from to before (slice_set after job.sender sent)
-      unfolding so one step
       serves_job = record {
         home_is = did.home ∙ so_far.home_is;
         served = record {
-          queue = queue_is;
-          low = low_more;
           done = so ++ one ∷ [];
-          jobs = map-append job_of so (one ∷ []) ∙ (λ i. so_far.served.jobs i ++ job ∷ []) ∙ sym (jobs_more ∙ ap (λ (x : Message). jobs_in now.taken ++ jobs_in (x ∷ [])) job_is);
-          run = run_more;
-          gained = gained_more;
+          worked = worked_to (worked_job m so_far.served.worked is low job job_is new did.ack.outcome did.ack.stamp did.step did.stamped);
           fronts = length-set after job.sender sent ∙ so_far.served.fronts;
           sent = λ front was other at at'.
               elim (set_cases after job.sender sent front other at') as (λ _. IsSent front (so ++ one ∷ []) was other) [
@@ -315,7 +264,7 @@ module _ (mid new : OwnerState) (write : Write) (outcome : Outcome) (stamp : ℕ
   stamp_no_less : stamp_of (options_in mid) mid.history ≤ stamp
   stamp_no_less =
       let gains = step_gains mid new write outcome stamp step in
-      let more = stamp_grows (options_in mid) mid.history (history_of (record { write = write; outcome = outcome; stamp = stamp } ∷ [])) in
+      let more = prefix_rises (options_in mid) mid.history (mid.history ++ history_of (record { write = write; outcome = outcome; stamp = stamp } ∷ [])) (history_of (record { write = write; outcome = outcome; stamp = stamp } ∷ []), refl) in
       let here = ap (λ (y : Shape × History). stamp_of (options_of y.0) y.1) (λ i. (same_shape i, ap (λ (o : OwnerState). o.history) gains i)) in
       omega arith
 

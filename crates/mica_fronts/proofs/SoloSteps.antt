@@ -22,7 +22,7 @@ use Rattle.epoch_core.proofs.SameMachine.{same_state, same_may_give}
 use Rattle.owner_queue.specs.Acked.{IsReplyAt}
 use Rattle.mica_fronts.specs.Session.{Session, Writes, ChangesOnly}
 use Rattle.mica_fronts.specs.Solo.{Solo, StepsPartition, history_at, alone_with, sessions_in}
-use Rattle.mica_fronts.proofs.Runs.{stamp_grows}
+use Rattle.partition_model.proofs.Rises.{prefix_rises}
 
 -- what a step makes of its owner's history, by the options
 pub record Stepped (options : Options) (old new : OwnerState) (write : Write) (outcome : Outcome) : Type 0 where
@@ -147,7 +147,7 @@ module _ (old : Solo) (p : ℕ) (step : RunStep) (new : Solo) (h : StepsPartitio
 
   grows : stamp_of old.options before ≤ step.stamp
   unfolding before after
-  grows = omega (arith, h.stamped, stamp_grows old.options before (history_of (step ∷ [])))
+  grows = omega (arith, h.stamped, prefix_rises old.options before (before ++ history_of (step ∷ [])) (history_of (step ∷ []), refl))
 
   -- the step is what a front that is alone answers
   pub writes_alone : Writes old.options true (sessions_in old p) step (sessions_in new p)

@@ -1,46 +1,26 @@
 -- What an owner makes of the jobs of its fronts.
-use Rattle.std.specs.Prelude.{◌≡◌, ℕ, ◌<◌, ◌≤◌, ◌==◌, List, [], ◌∷◌, ◌++◌, All, length, map, slice_get, Option, Some, None, if◌then◌else◌}
+use Rattle.std.specs.Prelude.{◌≡◌, ℕ, ◌≤◌, ◌==◌, List, [], ◌∷◌, ◌++◌, All, length, map, slice_get, Some, None, if◌then◌else◌}
 use Rattle.std.specs.List.{filter_map}
 use Rattle.atomic_table.specs.Seated.{TableId}
 use Rattle.partition_model.specs.History.{stamp_of}
-use Rattle.partition_model.specs.Run.{IsRunFrom}
 use Rattle.epoch_core.specs.declared.state.OwnerState.{OwnerState}
 use Rattle.epoch_core.specs.OwnerState.{options_in}
 use Rattle.epoch_core.specs.OwnerStep.{IsOwnerStep}
 use Rattle.owner_queue.specs.declared.ack.Ack.{Ack}
 use Rattle.owner_queue.specs.declared.message.Job.{Job}
-use Rattle.owner_queue.specs.declared.message.Message.{Message}
-use Rattle.owner_queue.specs.declared.message.Message.TheVariants as kind
-use Rattle.owner_queue.specs.Messages.{sender_of}
-use Rattle.owner_queue.specs.JobEnds.{Inbox, inbox}
+use Rattle.owner_queue.specs.JobEnds.{Inbox}
+use Rattle.owner_queue.specs.Worked.{Acknowledged, DoneJob, HasWorked}
 use Rattle.owner_queue.specs.AckEnds.{AckBox, ack_box}
-use Rattle.mica_fronts.specs.Session.{Acknowledged}
-use Rattle.mica_fronts.specs.Placed.{Placed, steps_in, history_in}
+use Rattle.mica_fronts.specs.Placed.{Placed}
 use Rattle.mica_fronts.specs.QueueFront.{acknowledged_by}
-
--- a job that was done: the front that sent it, and its ticket with the step of the machine
-pub record DoneJob : Type 0 where
-  pub front : ℕ
-  pub answer : Acknowledged
-
-abbrev pub job_in : Message → Option Job
-job_in (kind.Job job) = Some job
-job_in (kind.End front) = None
-
--- the jobs among the messages, in order
-abbrev pub jobs_in : List Message → List Job
-jobs_in messages = filter_map job_in messages
-
-abbrev pub job_of : DoneJob → Job
-job_of it = record { sender = it.front; ticket = it.answer.ticket; write = it.answer.step.write }
 
 -- the machine's steps, each with its front
 abbrev pub placed_in : List DoneJob → List Placed
-placed_in done = map (λ it. record { front = it.front; step = it.answer.step }) done
+placed_in done = map (λ it. record { front = it.sender; step = it.answer.step }) done
 
 -- the answers to one front, in order
 abbrev pub answers_to : ℕ → List DoneJob → List Acknowledged
-answers_to front done = filter_map (λ it. if it.front == front then Some it.answer else None) done
+answers_to front done = filter_map (λ it. if it.sender == front then Some it.answer else None) done
 
 -- acknowledgements of an owner: their notes are of its table, and their stamps are none above its own
 pub record IsAckBoxOf (home : TableId) (owner : OwnerState) (box : AckBox) : Type 0 where
@@ -69,13 +49,9 @@ pub record IsSent (front : ℕ) (done : List DoneJob) (was box : AckBox) : Type 
   pub same : box ≡ ack_box was.queue was.table was.shape box.list
   pub answers : map acknowledged_by box.list ≡ answers_to front done
 
--- The owner of a fresh queue ran the jobs that it took, and each front was sent the answers to its own, in order.
+-- The owner of a fresh queue did the jobs that it took, and each front was sent the answers to its own, in order.
 pub record HasAnsweredJobs (old new : OwnerState) (from to : Inbox) (before after : List AckBox) : Type 0 where
-  pub queue : to ≡ inbox from.queue from.senders from.jobs to.taken
-  pub low : All (λ m. sender_of m < from.senders) to.taken
   pub done : List DoneJob
-  pub jobs : map job_of done ≡ jobs_in to.taken
-  pub run : IsRunFrom (options_in old) old.history (steps_in (placed_in done))
-  pub gained : new ≡ record old { words = new.words; history = old.history ++ history_in (placed_in done) }
+  pub worked : HasWorked old new from to to.taken done
   pub fronts : length after ≡ length before
   pub sent : (front : ℕ) (was box : AckBox) → slice_get before front ≡ Some was → slice_get after front ≡ Some box → IsSent front done was box

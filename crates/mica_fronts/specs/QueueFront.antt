@@ -19,7 +19,8 @@ use Rattle.owner_queue.specs.Acked.{IsAcked}
 use Rattle.owner_queue.specs.AckOrder.{AckMayFollow}
 use Rattle.owner_queue.specs.AckEnds.{AckBox, ack_box}
 use Rattle.mica_fronts.specs.declared.queue_front.FrontPart.{FrontPart}
-use Rattle.mica_fronts.specs.Session.{Acknowledged, Stand, Told, Session, Sessions, Writes, Reads}
+use Rattle.owner_queue.specs.Worked.{Acknowledged}
+use Rattle.mica_fronts.specs.Session.{Stand, Told, Session, Sessions, Writes, Reads}
 
 -- the options, the front's number in each queue of jobs, the ticket of its next job, how many writes it may still be given, and what it
 -- holds of each partition

@@ -15,13 +15,9 @@ use Rattle.owner_queue.specs.declared.message.Message.{Message}
 use Rattle.owner_queue.specs.declared.ack.Ack.{Ack}
 use Rattle.ruled_queue.specs.Ends.{Queue}
 use Rattle.owner_queue.specs.Acked.{IsReplyAt}
+use Rattle.owner_queue.specs.Worked.{Acknowledged}
 use Rattle.mica_fronts.specs.Dealing.{Dealing, IsDealing}
 use Rattle.mica_fronts.specs.Turn.{Turn, write_in, partition_in, write_reply, get_reply}
-
--- an answer that an owner gave to a write, under the write's ticket
-pub record Acknowledged : Type 0 where
-  pub ticket : ℕ
-  pub step : RunStep
 
 -- where a front stands before an owner: the queue of its jobs, its number there and how many jobs it may send, the queue of its
 -- acknowledgements, and the table that their notes are of

@@ -9,9 +9,11 @@ use Rattle.list_laws.proofs.AllElements.{all_places}
 use Rattle.atomic_table.specs.Seated.{TableId}
 use Rattle.partition_model.specs.declared.write.Write.{Write}
 use Rattle.epoch_core.specs.declared.state.OwnerState.{OwnerState}
+use Rattle.owner_queue.specs.declared.message.Job.{Job}
 use Rattle.owner_queue.specs.declared.message.Message.{Message}
 use Rattle.owner_queue.specs.declared.message.Message.TheVariants as kind
-use Rattle.owner_queue.specs.Messages.{sent_by, has_end, writes_in}
+use Rattle.owner_queue.specs.Messages.{sent_by, has_end}
+use Rattle.owner_queue.specs.Worked.{jobs_in}
 use Rattle.ruled_queue.specs.Ends.{Queue}
 use Rattle.owner_queue.specs.JobEnds.{Outbox, Inbox, outbox}
 use Rattle.mica_replay.specs.declared.feeder.Feed.{Feed}
@@ -21,11 +23,11 @@ use Rattle.mica_replay.specs.Each.{Each}
 use Rattle.mica_replay.specs.Feeds.{jobs_for, writes_for, IsReadyFeeder, HasFed}
 use Rattle.mica_replay.specs.Lending.{OwnerPart, owner_part}
 use Rattle.mica_replay.specs.Queues.{HasQueue, HaveQueues, MayTakeIn, HaveTakenIn}
-use Rattle.mica_replay.specs.Replies.{HasWritten, RepliesTo}
+use Rattle.mica_replay.specs.Replies.{HasWritten}
 use Rattle.mica_replay.specs.RoundJobs.{AreNumbered}
 use Rattle.mica_replay.specs.RoundRun.{HasRunWrites}
 use Rattle.mica_replay.specs.Workers.{IsFedOwner, OwnerFed, OwnersFed}
-use Rattle.mica_replay.proofs.JobOrder.{ready, writes_in-jobs}
+use Rattle.mica_replay.proofs.JobOrder.{ready, jobs_made}
 use Rattle.mica_replay.proofs.JobRuns.{ran_all}
 use Rattle.mica_replay.proofs.RoundSteps.{at_each}
 
@@ -109,7 +111,7 @@ module _ {P : Type 0} {feeds : List Feed} {counts : List ℕ} {olds fed : List (
       many = has_fed.many ∙ r.queues.senders_many ∙ sym ran_many;
       each = λ p v sender is_v is_sender.
           let it = sent_at p v sender is_v is_sender in (
-            ap (λ (o : Outbox). o.queue) it.sent ∙ sym (ap (λ (j : Inbox). j.queue) it.fed_owner.replied.taken),
+            ap (λ (o : Outbox). o.queue) it.sent ∙ sym (ap (λ (j : Inbox). j.queue) it.fed_owner.replied.worked.taken),
             subst (λ (n : ℕ). has_end n v.jobs.taken ≡ true) (sym (ap (λ (o : Outbox). o.number) it.sent)) it.fed_owner.ended,
           );
     }
@@ -122,13 +124,12 @@ module _ {P : Type 0} {feeds : List Feed} {counts : List ℕ} {olds fed : List (
         let whole : sent_by 0 v.jobs.taken ≡ sent
         = subst (λ (n : ℕ). sent_by n v.jobs.taken ≡ sender.sent) (ap (λ (o : Outbox). o.number) it.sent) taken ∙ ap (λ (o : Outbox). o.sent) it.sent in
         let none : it.new.done.list ≡ [] = ap (λ (w : OwnerWork P). w.done.list) same in
-        let replied : RepliesTo (owner it.new.part) (owner v.part) (writes_in sent) it.new.done v.done
-        = ran_all (owner it.new.part) (owner v.part) it.new.jobs v.jobs it.new.done v.done sent (ap (λ (j : Inbox). j.taken) it.place.is.jobs_are) (ap (λ (j : Inbox). j.senders) it.place.is.jobs_are) it.fed_owner.replied whole in
-        let writes : writes_in sent ≡ writes_for p feeds = ap (λ l. writes_in (l ++ kind.End 0 ∷ [])) (r.numbered.jobs p) ∙ writes_in-jobs 0 (writes_for p feeds) in
-        let gained : replied.gained ≡ v.done.list = sym (replied.list ∙ ap (λ l. l ++ replied.gained) none) in
+        let written : HasWritten (owner it.new.part) (owner v.part) (map (λ (j : Job). j.write) (jobs_in sent)) v.done.list
+        = ran_all (owner it.new.part) (owner v.part) it.new.jobs v.jobs it.new.done v.done sent (ap (λ (j : Inbox). j.taken) it.place.is.jobs_are) (ap (λ (j : Inbox). j.senders) it.place.is.jobs_are) none it.fed_owner.replied whole in
+        let writes : map (λ (j : Job). j.write) (jobs_in sent) ≡ writes_for p feeds = ap (λ l. map (λ (j : Job). j.write) (jobs_in (l ++ kind.End 0 ∷ []))) (r.numbered.jobs p) ∙ jobs_made 0 (writes_for p feeds) in
         let same_part : owner it.new.part ≡ owner it.place.old.part = ap (λ (w : OwnerWork P). owner w.part) same in
         record {
-          written = subst (λ (y : OwnerState × List Write × List _). HasWritten y.0 (owner v.part) y.1 y.2) (λ i. (same_part i, writes i, gained i)) replied.written;
+          written = subst (λ (y : OwnerState × List Write). HasWritten y.0 (owner v.part) y.1 v.done.list) (λ i. (same_part i, writes i)) written;
           table = it.fed_owner.at_home ∙ ap (λ (w : OwnerWork P). home w.part) same;
           worker = it.fed_owner.worker ∙ ap (λ (w : OwnerWork P). w.worker) same;
         }

@@ -8,9 +8,11 @@ use Rattle.std.proofs.lemmas.List.Elements.{filter-append, All-from_recursion}
 use Rattle.list_laws.proofs.Places.{element_at, at_map}
 use Rattle.partition_model.specs.declared.write.Write.{Write}
 use Rattle.partition_model.specs.Write.{IsWrite}
+use Rattle.owner_queue.specs.declared.message.Job.{Job}
 use Rattle.owner_queue.specs.declared.message.Message.{Message}
 use Rattle.owner_queue.specs.declared.message.Message.TheVariants as kind
-use Rattle.owner_queue.specs.Messages.{sender_of, ticket_of, is_end, IsFit, writes_in}
+use Rattle.owner_queue.specs.Messages.{sender_of, ticket_of, is_end, IsFit}
+use Rattle.owner_queue.specs.Worked.{jobs_in}
 use Rattle.owner_queue.specs.JobEnds.{Outbox, outbox}
 use Rattle.mica_replay.specs.declared.feeder.Feed.{Feed}
 use Rattle.mica_replay.specs.declared.feeder.Feeder.{Feeder}
@@ -84,7 +86,7 @@ ready feeds counts f numbered counts_are fresh in_hand = record {
     within q some =
         ⊎_elim (λ (less : q < length counts). less) (λ (far : length counts ≤ q). absurd (omega (arith, some, ap length (numbered.none q far)))) (cases_lt q (length counts))
 
--- the writes of the jobs, and of the end behind them, are the writes that the jobs were made of
-pub writes_in-jobs : (n : ℕ) (writes : List Write) → writes_in (jobs_from n writes ++ kind.End 0 ∷ []) ≡ writes
-writes_in-jobs n [] = refl
-writes_in-jobs n (write ∷ writes) = ap (λ l. write ∷ l) (writes_in-jobs (n + 1) writes)
+-- the jobs, with the end behind them, are of the writes that they were made of
+pub jobs_made : (n : ℕ) (writes : List Write) → map (λ (j : Job). j.write) (jobs_in (jobs_from n writes ++ kind.End 0 ∷ [])) ≡ writes
+jobs_made n [] = refl
+jobs_made n (write ∷ writes) = ap (λ l. write ∷ l) (jobs_made (n + 1) writes)

@@ -1,5 +1,4 @@
 pub mod CrewRounds
-pub mod OwnerRuns
 pub mod ReaderSteps
 pub mod MergedReport
 pub mod ClosedTries
@@ -9,6 +8,7 @@ pub mod RoundSteps
 pub mod RoundShares
 pub mod RoundEnds
 pub mod LineShares
+pub mod LinePrints
 pub mod RoundPrints
 pub mod OneRound
 pub mod JobRuns

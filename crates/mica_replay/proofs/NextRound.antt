@@ -7,8 +7,8 @@ use Rattle.std.proofs.lemmas.Option.{slice_get_within, same_Some}
 use Rattle.list_laws.proofs.Places.{element_at}
 use Rattle.partition_model.specs.declared.options.Options.{Options}
 use Rattle.partition_model.specs.Options.{IsValid}
-use Rattle.partition_model.specs.History.{History, IsPrefix, stamp_in}
-use Rattle.partition_model.specs.Run.{RunStep, IsRunFrom, history_of}
+use Rattle.partition_model.specs.History.{History, IsPrefix}
+use Rattle.partition_model.specs.Run.{IsRunFrom, history_of}
 use Rattle.mica_trace.specs.declared.line.TraceLine.{TraceLine}
 use Rattle.mica_trace.specs.declared.report.Line.{Line}
 use Rattle.mica_trace.specs.TraceGrammar.{IsTraceLine}
@@ -16,9 +16,9 @@ use Rattle.mica_trace.specs.Rounds.{is_in_partition, writes_of}
 use Rattle.mica_trace.specs.LawfulReport.{IsLineFor, step_in, steps_of}
 use Rattle.epoch_core.specs.declared.shape.Shape.{Shape}
 use Rattle.epoch_core.specs.declared.state.OwnerState.{OwnerState}
+use Rattle.owner_queue.proofs.Runs.{run_as}
 use Rattle.epoch_core.specs.Shape.{shape_of, options_of}
 use Rattle.epoch_core.specs.OwnerState.{as_made}
-use Rattle.epoch_core.proofs.SameMachine.{same_state, same_may_give}
 use Rattle.epoch_core.specs.declared.reader.ReaderState.{ReaderState}
 use Rattle.partition_table.specs.declared.tables.Entry.{Entry}
 use Rattle.mica_trace.specs.RoundReport.{Pair, EndsRound, IsOneRound, is_get, gets_in, pairs_of, gets_of, pairs_in, AnswersRise, history_in, IsRoundReport}
@@ -35,15 +35,6 @@ use Rattle.mica_trace.proofs.RoundPlaces.{steps_count}
 use Rattle.mica_trace.proofs.RoundLawful.{none_lawful, round_lawful}
 use Rattle.mica_replay.proofs.MergedReport.{merged_report}
 use Rattle.mica_replay.proofs.ClosedTries.{same_sums, gets_shared}
-
--- A run of the shape's machine is one of the options'
-run_as : (options : Options) (history : History) (steps : List RunStep) → IsRunFrom (options_of (shape_of options)) history steps → IsRunFrom options history steps
-run_as options history [] run = tt
-run_as options history (step ∷ steps) run = (
-  same_may_give options history step.write step.outcome run.0,
-  run.1 ∙ ap stamp_in (same_state options (history ++ history_of (step ∷ []))),
-  run_as options (history ++ history_of (step ∷ [])) steps run.2,
-)
 
 -- before any line
 pub starts : (options : Options) (owners : List OwnerState) → length owners ≡ options.partitions → ((p : ℕ) (owner : OwnerState) → slice_get owners p ≡ Some owner → owner ≡ as_made (shape_of options))

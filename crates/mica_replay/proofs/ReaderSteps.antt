@@ -1,5 +1,5 @@
 -- A reader's answers, one after another.
-use Rattle.std.proofs.Common.{◌≡◌, ◌≢◌, ℕ, zero, suc, ◌+◌, ◌<◌, inl, inr, List, [], ◌∷◌, ◌++◌, length, map, zip, take, slice_get, slice_set, Some, None, refl, sym, ap, ◌∙◌, subst, arith, cond, append-nil, length-set, eq-eqb, ne_eqb, get_or}
+use Rattle.std.proofs.Common.{◌≡◌, ◌≢◌, ℕ, zero, suc, ◌+◌, ◌<◌, inl, inr, List, [], ◌∷◌, ◌++◌, length, map, zip, take, slice_get, slice_set, Some, None, refl, sym, ap, ◌∙◌, subst, arith, cond, append-nil, length-set, eq-eqb, ne_eqb, get_or, Option, IsSomeAnd}
 use Rattle.std.specs.List.{All, AllByRecursion, cons_option}
 use Rattle.std.proofs.lemmas.Option.{slice_get_within, get_or_from_slice_get, slice_get_read}
 use Rattle.std.proofs.lemmas.List.{length_push, take_more, map-set, length-map}
@@ -30,7 +30,10 @@ use Rattle.mica_replay.specs.ReaderGets.{HasRead, HaveRead, AreSeatsOf, HaveSeen
 use Rattle.mica_trace.specs.RoundReport.{HasKind}
 use Rattle.mica_trace.proofs.ListParts.{zip-append, AllZip-append, length_zip}
 use Rattle.mica_trace.proofs.Prefixes.{prefix_same, prefix_trans}
-use Rattle.mica_replay.proofs.OwnerRuns.{some_and}
+
+some_and : {X : Type 0} (o : Option X) (P : X → Type 0) → IsSomeAnd o P → (x : X) × (o ≡ Some x) × P x
+some_and None P is = absurd is
+some_and (Some x) P is = (x, refl, is)
 
 -- One get more
 

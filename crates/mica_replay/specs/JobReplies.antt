@@ -1,15 +1,15 @@
--- What an owner makes of the jobs that it takes.
-use Rattle.std.specs.Prelude.{◌<◌, ◌≡◌, List, ◌++◌}
-use Rattle.std.specs.List.{AllByRecursion}
+-- What an owner replies to the jobs that it takes.
+use Rattle.std.specs.Prelude.{◌≡◌, ◌+◌, List, ◌++◌, length, map}
 use Rattle.epoch_core.specs.declared.state.OwnerState.{OwnerState}
 use Rattle.owner_queue.specs.declared.message.Message.{Message}
-use Rattle.owner_queue.specs.Messages.{sender_of, writes_in}
-use Rattle.owner_queue.specs.JobEnds.{Inbox, inbox}
-use Rattle.mica_replay.specs.Replies.{Replies, RepliesTo}
+use Rattle.owner_queue.specs.JobEnds.{Inbox}
+use Rattle.owner_queue.specs.Worked.{DoneJob, HasWorked}
+use Rattle.mica_replay.specs.Replies.{Replies, reply_of}
 
--- Messages of the queue's senders were taken, and the writes of the jobs among them replied to in order.
+-- Messages were taken and their jobs done, and the replies to these stand behind those that were there, in their room.
 pub record RepliesToJobs (old new : OwnerState) (from to : Inbox) (before after : Replies) : Type 0 where
   pub messages : List Message
-  pub taken : to ≡ inbox from.queue from.senders from.jobs (from.taken ++ messages)
-  pub low : AllByRecursion (λ m. sender_of m < from.senders) messages
-  pub replies : RepliesTo old new (writes_in messages) before after
+  pub done : List DoneJob
+  pub worked : HasWorked old new from to messages done
+  pub list : after.list ≡ before.list ++ map reply_of done
+  pub room : after.spare + length done ≡ before.spare

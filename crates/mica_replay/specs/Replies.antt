@@ -1,10 +1,11 @@
 -- What an owner replies to writes.
-use Rattle.std.specs.Prelude.{◌≡◌, ℕ, ◌+◌, List, ◌++◌, length, map, zip}
+use Rattle.std.specs.Prelude.{◌≡◌, ℕ, List, ◌++◌, length, map, zip}
 use Rattle.partition_model.specs.declared.write.Write.{Write}
 use Rattle.partition_model.specs.declared.write.Outcome.{Outcome}
 use Rattle.partition_model.specs.Run.{RunStep, IsRunFrom, history_of}
 use Rattle.epoch_core.specs.declared.state.OwnerState.{OwnerState}
 use Rattle.epoch_core.specs.OwnerState.{options_in}
+use Rattle.owner_queue.specs.Worked.{DoneJob}
 
 -- the outcome of a write, and the stamp after it
 abbrev pub Reply : Type 0
@@ -31,9 +32,5 @@ pub record HasWritten (old new : OwnerState) (writes : List Write) (replies : Li
   pub run : IsRunFrom (options_in old) old.history (steps_with writes replies)
   pub gained : new ≡ record old { words = new.words; history = old.history ++ history_of (steps_with writes replies) }
 
--- An owner's replies to the writes stand behind those that were there, in their room.
-pub record RepliesTo (old new : OwnerState) (writes : List Write) (before after : Replies) : Type 0 where
-  pub gained : List Reply
-  pub list : after.list ≡ before.list ++ gained
-  pub room : after.spare + length gained ≡ before.spare
-  pub written : HasWritten old new writes gained
+abbrev pub reply_of : DoneJob → Reply
+reply_of it = (it.answer.step.outcome, it.answer.step.stamp)

@@ -1,6 +1,5 @@
 //! The owners of a round, each fed by its queue, beside the readers.
 ghost use Rattle.std.specs.Prelude.{◌≡◌, OnOk, All, length, map};
-ghost use Rattle.partition_model.specs.Options.{IsValid};
 ghost use Rattle.partition_table.specs.Seats.{reader_state, reader_home};
 ghost use Rattle.mica_replay.specs.Lending.{owner_part};
 ghost use Rattle.mica_replay.specs.Each.{Each};
@@ -33,7 +32,6 @@ pub(crate) fn run_fed<W: Wait, P: LendPartition<Reader = ReaderSeat, Note = Note
     owners: &mut Vec<OwnerWork<P>>,
     readers: &mut Vec<ReaderWork<ReaderSeat>>,
 ) -> Result<(), NoMemory>
-    requires valid { IsValid options.now }
     requires queues { jobs.queues ≡ length owners.old.items }
     requires readers { All (IsReadyReader reader_state trace.now options.now) readers.old.items }
     requires crew { IsCrew (length owners.old.items) (length readers.old.items) trace.now options.now crew.old }

@@ -1,6 +1,5 @@
 //! A round from the lending of its seats to the last meeting.
 ghost use Rattle.std.specs.Prelude.{◌≡◌, OnOk, map, length};
-ghost use Rattle.partition_model.specs.Options.{IsValid};
 ghost use Rattle.partition_table.specs.Seats.{reader_state, reader_home};
 ghost use Rattle.mica_replay.specs.Lending.{owner_part};
 ghost use Rattle.mica_replay.specs.Feeds.{writes_for};
@@ -31,7 +30,6 @@ pub(crate) fn run_round<W: Wait, P: LendPartition<Reader = ReaderSeat, Note = No
     owners: &mut Vec<OwnerWork<P>>,
     readers: &mut Vec<ReaderWork<ReaderSeat>>,
 ) -> Result<(), NoMemory>
-    requires valid { IsValid options.now }
     requires ready { AreReady trace.now options.now
         (map (λ w. owner_part P.owner P.home w) owners.old.items)
         (map (λ r. reader_part reader_state reader_home r) readers.old.items) }

@@ -12,7 +12,8 @@ use Rattle.partition_model.specs.History.{History, IsPrefix, stamp_of}
 use Rattle.partition_model.specs.Run.{RunStep}
 use Rattle.epoch_core.proofs.Prefixes.{prefix_then}
 use Rattle.mica_fronts.specs.Turn.{Turn, write_in, partition_in, writes_of, gets_of, get_reply}
-use Rattle.mica_fronts.specs.Session.{Acknowledged, Told, Session, Sessions, TellsWrite, TellsRead, Answers, AnswersBy, AnswersInOrder}
+use Rattle.owner_queue.specs.Worked.{Acknowledged}
+use Rattle.mica_fronts.specs.Session.{Told, Session, Sessions, TellsWrite, TellsRead, Answers, AnswersBy, AnswersInOrder}
 use Rattle.mica_serve.specs.Served.{ServesGet}
 use Rattle.mica_serve.proofs.Among.{StandAmong, stand_append, stand_after}
 

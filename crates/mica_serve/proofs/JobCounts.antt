@@ -11,24 +11,29 @@ use Rattle.owner_queue.specs.declared.message.Job.{Job}
 use Rattle.owner_queue.specs.declared.message.Message.{Message}
 use Rattle.owner_queue.specs.declared.message.Message.TheVariants as message
 use Rattle.owner_queue.specs.Messages.{sent_by}
-use Rattle.mica_fronts.specs.Session.{Acknowledged}
-use Rattle.mica_fronts.specs.Placed.{steps_by}
-use Rattle.mica_fronts.specs.OwnerWork.{DoneJob, jobs_in, job_of, placed_in, answers_to}
+use Rattle.mica_fronts.specs.Placed.{steps_by, steps_in}
+use Rattle.owner_queue.specs.Worked.{Acknowledged, DoneJob, jobs_in, job_of, steps_of}
+use Rattle.mica_fronts.specs.OwnerWork.{placed_in, answers_to}
 use Rattle.mica_serve.specs.Beside.{total_below}
 
 -- the steps of a front are those of its answers
 pub steps_answered : (f : ℕ) (done : List DoneJob) → steps_by f (placed_in done) ≡ map (λ (a : Acknowledged). a.step) (answers_to f done)
 steps_answered f [] = refl
-steps_answered f (it ∷ done) = by (eqb it.front f) (steps_answered f done)
+steps_answered f (it ∷ done) = by (eqb it.sender f) (steps_answered f done)
   where
     by : (b : Bool) → steps_by f (placed_in done) ≡ map (λ (a : Acknowledged). a.step) (answers_to f done)
         → cons_option (cond b (Some it.answer.step) None) (steps_by f (placed_in done)) ≡ map (λ (a : Acknowledged). a.step) (cons_option (cond b (Some it.answer) None) (answers_to f done))
     by true rest = ap (λ (l : List RunStep). it.answer.step ∷ l) rest
     by false rest = rest
 
+-- they are the steps of the owner's work
+pub steps_placed : (done : List DoneJob) → steps_in (placed_in done) ≡ steps_of done
+steps_placed [] = refl
+steps_placed (it ∷ done) = ap (λ (l : List RunStep). it.answer.step ∷ l) (steps_placed done)
+
 answers_counted : (f : ℕ) (done : List DoneJob) → length (answers_to f done) ≡ length (filter (λ (j : Job). eqb j.sender f) (map job_of done))
 answers_counted f [] = refl
-answers_counted f (it ∷ done) = by (eqb it.front f) (answers_counted f done)
+answers_counted f (it ∷ done) = by (eqb it.sender f) (answers_counted f done)
   where
     by : (b : Bool) → length (answers_to f done) ≡ length (filter (λ (j : Job). eqb j.sender f) (map job_of done))
         → length (cons_option (cond b (Some it.answer) None) (answers_to f done))

@@ -9,9 +9,11 @@ pub mod PartitionTotals
 pub mod ServedBeside
 pub mod Gathered
 pub mod SumsUp
+pub mod PortRuns
 pub mod Whole
 pub mod Tabled
 pub mod JobCounts
+pub mod MadeOf
 pub mod TakenIn
 pub mod LentParts
 pub mod FrontEnds

@@ -9,10 +9,10 @@ use Rattle.partition_model.specs.declared.write.Outcome.{Outcome}
 use Rattle.partition_model.specs.declared.write.Outcome.TheVariants.{Stored, Deleted, Absent, Touched, FullSpare, FullBlock, Worn, Exists}
 use Rattle.partition_model.specs.declared.write.Write.{Write}
 use Rattle.partition_model.specs.Write.{is_accepted}
-use Rattle.partition_model.specs.History.{History, IsPrefix, stamp_of}
+use Rattle.partition_model.specs.History.{stamp_of}
 use Rattle.mica_fronts.specs.Turn.{Turn, Accepts, write_in, partition_in, turns_of, status_of, is_too_long, get_reply}
 use Rattle.mica_fronts.specs.Session.{Session, Sessions, Answers, AnswersBy, AnswersInOrder}
-use Rattle.mica_fronts.proofs.Runs.{stamp_grows}
+use Rattle.partition_model.proofs.Rises.{prefix_rises}
 use Rattle.mica_serve.specs.Served.{NoFall}
 
 -- the statuses of accepted writes
@@ -37,10 +37,6 @@ get_says version ticket stamp (Some value) =
 accepts_says : (turn : Turn) → Accepts turn.reply → says_accepted turn.reply.status ≡ true
 accepts_says turn accepts = ap says_accepted accepts.status ∙ outcome_says accepts.outcome ∙ accepts.accepted
 
--- the stamp of a beginning is no greater
-stamp_begins : (options : Options) (begun all : History) → IsPrefix begun all → stamp_of options begun ≤ stamp_of options all
-stamp_begins options begun all begins = let grows = stamp_grows options begun begins.0 in omega (arith, ap (stamp_of options) begins.1)
-
 stamp_in_get : (version ticket stamp : ℕ) (value : Option (List ℕ)) → (get_reply version ticket stamp value).stamp ≡ stamp
 stamp_in_get version ticket stamp None = refl
 stamp_in_get version ticket stamp (Some value) = refl
@@ -63,7 +59,7 @@ module _ (options : Options) (p : ℕ) where
   replied (Some write) old new turn h =
       let w = h.2 in
       let stamp : turn.reply.stamp ≡ new.last = ap (λ r. r.stamp) h.1 in
-      let low = stamp_begins options w.cut new.seen w.at.begins in
+      let low = prefix_rises options w.cut new.seen w.at.begins in
       record {
         last = sym stamp;
         known = omega (arith, w.at.stamped);
@@ -78,7 +74,7 @@ module _ (options : Options) (p : ℕ) where
   replied None old new turn h =
       let r = h.3 in
       let stamp : turn.reply.stamp ≡ h.0 = ap (λ r. r.stamp) h.2 ∙ stamp_in_get turn.version turn.request.ticket h.0 h.1 in
-      let low = stamp_begins options old.seen new.seen r.grows in
+      let low = prefix_rises options old.seen new.seen r.grows in
       record {
         last = r.last ∙ sym stamp;
         known = omega (arith, r.last, r.answer.0);

@@ -127,4 +127,4 @@ module _ {P D : Type 0} (owner : P → OwnerState) (home : P → TableId) (facts
             let now = element_at (map end_of_owner owners) p (omega (arith, slice_get_within after p task at, met.many)) in
             let z = owner_at all p now.0 now.1 in
             let same = met.same p now.0 (end_of_owner task) now.1 (at_map end_of_owner after p task at) in
-            ap (λ (o : OwnerEnd). o.state.phase) same ∙ ap (λ (s : OwnerState). s.phase) z.ran.served.gained ∙ ap (λ (s : OwnerState). s.phase) z.new.filled.state
+            ap (λ (o : OwnerEnd). o.state.phase) same ∙ ap (λ (s : OwnerState). s.phase) z.ran.served.worked.gained ∙ ap (λ (s : OwnerState). s.phase) z.new.filled.state

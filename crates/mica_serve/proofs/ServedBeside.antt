@@ -9,7 +9,8 @@ use Rattle.partition_model.specs.History.{History}
 use Rattle.partition_model.specs.Run.{RunStep}
 use Rattle.mica_fronts.specs.Turn.{Turn, turns_of, writes_of, gets_of}
 use Rattle.mica_fronts.specs.Dealing.{Dealing, turns_in}
-use Rattle.mica_fronts.specs.Session.{Acknowledged, Told, Sessions}
+use Rattle.mica_fronts.specs.Session.{Told, Sessions}
+use Rattle.owner_queue.specs.Worked.{Acknowledged}
 use Rattle.mica_fronts.specs.Placed.{Placed, steps_by, history_in}
 use Rattle.mica_serve.specs.Served.{ServesGet, NoFall, RepliesStep, AnswersLawfully}
 use Rattle.mica_serve.specs.Beside.{closed_of, AnsweredBeside, RunsPartitions}

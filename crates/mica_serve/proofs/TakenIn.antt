@@ -1,5 +1,5 @@
 -- What owners and fronts came to, once they met, is what is known of fronts beside each other.
-use Rattle.std.proofs.Common.{◌≡◌, ℕ, zero, suc, ◌+◌, ◌<◌, ◌≤◌, List, [], ◌∷◌, ◌++◌, length, map, Option, Some, None, refl, sym, ap, ◌∙◌, subst, slice_get, arith, All}
+use Rattle.std.proofs.Common.{◌≡◌, ℕ, ◌+◌, ◌<◌, ◌≤◌, List, [], ◌∷◌, ◌++◌, length, map, Option, Some, None, refl, sym, ap, ◌∙◌, subst, slice_get, arith, All}
 use Rattle.std.specs.Prelude.{sum, sum_by, option_map, unwrap_or}
 use Rattle.std.specs.List.{AllZip, AllByRecursion}
 use Rattle.std.proofs.lemmas.List.{length-map, map-append}
@@ -11,13 +11,12 @@ use Rattle.std.proofs.lemmas.Option.{slice_get-map, slice_get_within, same_Some}
 use Rattle.list_laws.proofs.AllElements.{all_at}
 use Rattle.list_laws.proofs.Places.{at_map, from_map, element_at}
 use Rattle.partition_model.specs.declared.options.Options.{Options}
-use Rattle.partition_model.specs.History.{History, IsHistory, IsPrefix, stamp_in}
+use Rattle.partition_model.specs.History.{History, IsHistory, IsPrefix}
 use Rattle.partition_model.specs.Run.{RunStep, IsRunFrom, history_of}
 use Rattle.epoch_core.specs.declared.state.OwnerState.{OwnerState}
 use Rattle.epoch_core.specs.declared.reader.ReaderState.{ReaderState}
-use Rattle.epoch_core.specs.Shape.{shape_of, options_of}
+use Rattle.owner_queue.proofs.Runs.{run_as}
 use Rattle.epoch_core.specs.OwnerState.{options_in}
-use Rattle.epoch_core.proofs.SameMachine.{same_state, same_may_give}
 use Rattle.partition_table.specs.declared.tables.Entry.{Entry}
 use Rattle.partition_table.specs.Tabled.{entry_in}
 use Rattle.partition_table.specs.Seats.{reader_state, reader_home}
@@ -30,58 +29,18 @@ use Rattle.owner_queue.specs.JobEnds.{Outbox, Inbox}
 use Rattle.owner_queue.specs.AckEnds.{AckBox}
 use Rattle.mica_fronts.specs.declared.queue_front.FrontPart.{FrontPart}
 use Rattle.mica_serve.specs.declared.worker.FrontTask.{FrontTask}
-use Rattle.mica_fronts.specs.Session.{Acknowledged, Stand, Told, Session}
+use Rattle.mica_fronts.specs.Session.{Stand, Told, Session}
 use Rattle.mica_fronts.specs.Placed.{Placed, steps_in, steps_by, history_in}
 use Rattle.mica_serve.specs.Beside.{closed_of, total_below}
 use Rattle.mica_fronts.specs.QueueFront.{QueueView, IsFrontPart, queue_view, stand_of, told_by, session_or_none, sessions_of, ended_part, acknowledged_by}
-use Rattle.mica_fronts.specs.OwnerWork.{DoneJob, jobs_in, job_of, placed_in}
+use Rattle.owner_queue.specs.Worked.{Acknowledged, DoneJob, jobs_in, job_of}
+use Rattle.mica_fronts.specs.OwnerWork.{placed_in}
 use Rattle.mica_serve.specs.Ends.{EndFacts}
 use Rattle.mica_serve.specs.FrontRuns.{FrontRun, RunsFront, RunFronts, RanAll, IsTakenIn, AreTakenIn, closed_in}
 use Rattle.mica_serve.specs.Hands.{OwnerEnd, begun_in, IsNewOwner, IsLentBy, AreFrontsOf, RanOwner, MayMeet, HasMet, MayMeetAll, HaveMetAll, closed_by, closed_at, met_after}
 use Rattle.mica_serve.specs.Tasks.{FrontRan}
-use Rattle.mica_serve.proofs.JobCounts.{steps_answered, few_answered, total_few}
-
--- a run of the shape's machine is one of the options'
-run_as : (options : Options) (history : History) (steps : List RunStep) → IsRunFrom (options_of (shape_of options)) history steps → IsRunFrom options history steps
-run_as options history [] run = tt
-run_as options history (step ∷ steps) run = (
-  same_may_give options history step.write step.outcome run.0,
-  run.1 ∙ ap stamp_in (same_state options (history ++ history_of (step ∷ []))),
-  run_as options (history ++ history_of (step ∷ [])) steps run.2,
-)
-
--- what is made of each two of two lists, as far as they are
-module _ {X Y Z : Type 0} {Q : X → Y → Type 0} (make : (x : X) (y : Y) → Q x y → Z) where
-  abbrev made_of : (xs : List X) (ys : List Y) → AllZip Q xs ys → List Z
-  made_of [] [] z = []
-  made_of [] (y ∷ ys) z = []
-  made_of (x ∷ xs) [] z = []
-  made_of (x ∷ xs) (y ∷ ys) z = make x y z.0 ∷ made_of xs ys z.1
-
-  made_map : {W : Type 0} (g : Y → W) (h : Z → W) → ((x : X) (y : Y) (q : Q x y) → g y ≡ h (make x y q)) → (xs : List X) (ys : List Y) (z : AllZip Q xs ys)
-      → map g ys ≡ map h (made_of xs ys z)
-  made_map g h same [] [] z = refl
-  made_map g h same [] (y ∷ ys) z = absurd z
-  made_map g h same (x ∷ xs) [] z = absurd z
-  made_map g h same (x ∷ xs) (y ∷ ys) z = λ i. same x y z.0 i ∷ made_map g h same xs ys z.1 i
-
-  made_long : (xs : List X) (ys : List Y) (z : AllZip Q xs ys) → length (made_of xs ys z) ≡ length ys
-  made_long xs ys z =
-      sym (length-map (made_of xs ys z) (λ _. zero)) ∙ ap length (sym (made_map (λ _. zero) (λ _. zero) (λ x y q. refl) xs ys z)) ∙ length-map ys (λ _. zero)
-
-  record MadeAt (xs : List X) (ys : List Y) (z : AllZip Q xs ys) (i : ℕ) (y : Y) : Type 0 where
-    from : X
-    both : Q from y
-    at : slice_get xs i ≡ Some from
-    is : slice_get (made_of xs ys z) i ≡ Some (make from y both)
-
-  made_at : (xs : List X) (ys : List Y) (z : AllZip Q xs ys) (i : ℕ) (y : Y) → slice_get ys i ≡ Some y → MadeAt xs ys z i y
-  made_at [] [] z zero y at = absurd (cc)
-  made_at [] [] z (suc i) y at = absurd (cc)
-  made_at [] (b ∷ ys) z i y at = absurd z
-  made_at (a ∷ xs) [] z i y at = absurd z
-  made_at (a ∷ xs) (b ∷ ys) z zero y at = subst (MadeAt (a ∷ xs) (b ∷ ys) z zero) (same_Some _ _ at) (record { from = a; both = z.0; at = refl; is = refl })
-  made_at (a ∷ xs) (b ∷ ys) z (suc i) y at = let m = made_at xs ys z.1 i y at in record { from = m.from; both = m.both; at = m.at; is = m.is }
+use Rattle.mica_serve.proofs.MadeOf.{made_of, made_map, made_long, made_at}
+use Rattle.mica_serve.proofs.JobCounts.{steps_answered, steps_placed, few_answered, total_few}
 
 module _ {D : Type 0} (batches : ℕ) (facts : D → EndFacts) (options : Options) (fronts most : ℕ) where
   -- owners and fronts as made, and the same after all of them ran as workers
@@ -244,7 +203,7 @@ module _ {D : Type 0} {batches : ℕ} {facts : D → EndFacts} {options : Option
   may_meet_part : {f p : ℕ} {n : FrontTask D} {owner : OwnerEnd} (a : FrontAt f n) (o : OwnerAt p owner) (part : FrontPart) → PartAt a o part → MayMeet f owner part
   may_meet_part {f} a o part x = record {
     number = ap (λ (y : FrontPart). y.jobs.number) x.part_is ∙ ap (λ (s : Stand). s.number) x.stands ∙ ap (λ (b : Outbox). b.number) x.lent.jobs;
-    jobs = ap (λ (y : FrontPart). y.jobs.queue) x.part_is ∙ ap (λ (s : Stand). s.jobs) x.stands ∙ ap (λ (b : Outbox). b.queue) x.lent.jobs ∙ sym (ap (λ (b : Inbox). b.queue) o.ran.served.queue);
+    jobs = ap (λ (y : FrontPart). y.jobs.queue) x.part_is ∙ ap (λ (s : Stand). s.jobs) x.stands ∙ ap (λ (b : Outbox). b.queue) x.lent.jobs ∙ sym (ap (λ (b : Inbox). b.queue) o.ran.served.worked.taken);
     ended = o.ran.ended f (omega (arith, front_low a, senders_many o));
     acks = λ box box_at.
         ap (λ (b : AckBox). b.queue) (o.ran.served.sent f x.first.acks box x.lent.answers box_at).same
@@ -287,7 +246,7 @@ module _ {D : Type 0} {batches : ℕ} {facts : D → EndFacts} {options : Option
     -- an owner's history is its run
     history_run : {p : ℕ} {owner : OwnerEnd} → OwnerAt p owner → owner.state.history ≡ begun p ++ history_in (placed p)
     history_run {p} o =
-        ap (λ (s : OwnerState). s.history) o.ran.served.gained ∙ ap (λ (h : History). h ++ history_in (placed_in o.ran.served.done)) (sym (begun_at o))
+        ap (λ (s : OwnerState). s.history) o.ran.served.worked.gained ∙ (λ i. sym (begun_at o) i ++ history_of (sym (steps_placed o.ran.served.done) i))
         ∙ ap (λ (l : List Placed). begun p ++ history_in l) (sym o.placed_is)
 
     met_part : {f p : ℕ} {n : FrontTask D} {owner : OwnerEnd} (a : FrontAt f n) (o : OwnerAt p owner) (part : FrontPart) → PartAt a o part → HasMet f owner part
@@ -342,7 +301,7 @@ module _ {D : Type 0} {batches : ℕ} {facts : D → EndFacts} {options : Option
             let x = part_of a o.1 in
             let same : x.1.last ≡ last = same_Some _ _ (sym x.1.last_at ∙ at) in
             subst (λ (y : List Placed × FrontPart). length (steps_by f y.0) ≤ length y.1.jobs.sent) (λ i. (sym o.1.placed_is i, same i))
-            (few_answered f o.1.ran.served.done o.0.jobs.taken x.1.last.jobs.sent a.ran.ran.new.number o.1.ran.served.jobs
+            (few_answered f o.1.ran.served.done o.0.jobs.taken x.1.last.jobs.sent a.ran.ran.new.number o.1.ran.served.worked.jobs
             ((met_part a o.1 x.0 x.1).whole ∙ ap (λ (y : FrontPart). y.jobs.sent) x.1.part_is))
 
     abbrev kept : List Entry
@@ -365,27 +324,28 @@ module _ {D : Type 0} {batches : ℕ} {facts : D → EndFacts} {options : Option
             subst (λ (l : List Placed). IsRunFrom options (begun p) (steps_in l)) (sym o.placed_is)
             (subst (λ (h : History). IsRunFrom options h (steps_in (placed_in o.ran.served.done))) (sym (begun_at o))
             (run_as options o.old.state.history (steps_in (placed_in o.ran.served.done))
-            (subst (λ (s : OwnerState). IsRunFrom (options_in s) s.history (steps_in (placed_in o.ran.served.done))) o.new.filled.state o.ran.served.run)));
+            (subst (λ (s : OwnerState). IsRunFrom (options_in s) s.history (steps_in (placed_in o.ran.served.done))) o.new.filled.state
+            (subst (IsRunFrom (options_in o.old.state) o.old.state.history) (sym (steps_placed o.ran.served.done)) o.ran.served.worked.run))));
         no_others = λ p low.
             let o = owner_of p low in
             let senders : o.1.old.jobs.senders ≡ length runs = senders_many o.1 ∙ sym news_long ∙ sym (made_long run_of olds news all.fronts_ran) in
             subst (λ (l : List Placed). All (λ s. s.front < length runs) l) (sym o.1.placed_is)
             (All-from_recursion (λ s. s.front < length runs) (placed_in o.1.ran.served.done)
-            (all_low o.1.ran.served.done o.0.jobs.taken (length runs) o.1.ran.served.jobs
+            (all_low o.1.ran.served.done o.0.jobs.taken (length runs) o.1.ran.served.worked.jobs
             (subst (λ (m : ℕ). AllByRecursion (λ s. sender_of s < m) o.0.jobs.taken) senders
-            (recursion_from_All (λ s. sender_of s < o.1.old.jobs.senders) o.0.jobs.taken o.1.ran.served.low))));
+            (recursion_from_All (λ s. sender_of s < o.1.old.jobs.senders) o.0.jobs.taken o.1.ran.served.worked.low))));
       };
       each = λ f run is. let n = front_of f run is in subst (IsTakenIn options begun placed f) n.2 (taken_front n.1);
       shapes = record {
         many = length-map after (λ (o : OwnerEnd). entry_in o.state) ∙ met.many ∙ owners_long;
         shapes = λ p entry is.
             let m = met_owner p entry is in
-            ap (λ (e : Entry). e.shape) m.3 ∙ ap (λ (s : OwnerState). s.shape) m.2.ran.served.gained ∙ ap (λ (s : OwnerState). s.shape) m.2.new.filled.state;
+            ap (λ (e : Entry). e.shape) m.3 ∙ ap (λ (s : OwnerState). s.shape) m.2.ran.served.worked.gained ∙ ap (λ (s : OwnerState). s.shape) m.2.new.filled.state;
       };
       history = λ p entry is. let m = met_owner p entry is in ap (λ (e : Entry). e.history) m.3 ∙ history_run m.2;
       closed = λ p entry is.
           let m = met_owner p entry is in
-          let none : m.0.state.closed ≡ 0 = ap (λ (s : OwnerState). s.closed) m.2.ran.served.gained ∙ ap (λ (s : OwnerState). s.closed) m.2.new.filled.state in
+          let none : m.0.state.closed ≡ 0 = ap (λ (s : OwnerState). s.closed) m.2.ran.served.worked.gained ∙ ap (λ (s : OwnerState). s.closed) m.2.new.filled.state in
           omega (arith, ap (λ (e : Entry). e.closed) m.3, none, all_closed p);
     }
       where

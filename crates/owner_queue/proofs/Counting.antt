@@ -7,7 +7,8 @@ use Rattle.std.proofs.lemmas.List.Sums.{sum_by-append, sum_by-cons}
 use Rattle.ruled_queue.proofs.Keeps.{from_append}
 use Rattle.owner_queue.specs.declared.message.Message.{Message}
 use Rattle.owner_queue.specs.declared.message.Message.TheVariants as kind
-use Rattle.owner_queue.specs.Messages.{sender_of, ticket_of, is_end, sent_by, MayFollow, write_in, writes_in}
+use Rattle.owner_queue.specs.Messages.{sender_of, ticket_of, is_end, sent_by, MayFollow}
+use Rattle.owner_queue.specs.Worked.{job_in, jobs_in}
 
 -- f of each number below n, added up
 abbrev sum_to : ℕ → (ℕ → ℕ) → ℕ
@@ -25,7 +26,7 @@ jobs_of p ms = count_by (is_job_of p) ms
 pub record AreCounted (senders jobs : ℕ) (before messages : List Message) : Type 0 where
   pub few : (p : ℕ) → jobs_of p messages ≤ jobs
   pub below : (p k : ℕ) → All (λ b. ticket_of b < k) (sent_by p (before ++ messages)) → jobs_of p messages ≤ k
-  pub sum : length (writes_in messages) ≡ sum_to senders (λ p. jobs_of p messages)
+  pub sum : length (jobs_in messages) ≡ sum_to senders (λ p. jobs_of p messages)
 
 zeros : (n : ℕ) → 0 ≡ sum_to n (λ p. 0)
 zeros zero = refl
@@ -40,9 +41,9 @@ jobs_push p ms m =
     let two = sum_by-cons (λ x. cond (is_job_of p x) 1 0) m [] in
     omega arith
 
-writes_push : (ms : List Message) (m : Message) → length (writes_in (ms ++ m ∷ [])) ≡ length (writes_in ms) + cond (not (is_end m)) 1 0
-writes_push ms (kind.Job j) = ap length (filter_map-append write_in ms (kind.Job j ∷ [])) ∙ length_push (writes_in ms) j.write
-writes_push ms (kind.End p) = ap length (filter_map-append write_in ms (kind.End p ∷ []) ∙ append-nil (writes_in ms)) ∙ omega arith
+all_jobs_push : (ms : List Message) (m : Message) → length (jobs_in (ms ++ m ∷ [])) ≡ length (jobs_in ms) + cond (not (is_end m)) 1 0
+all_jobs_push ms (kind.Job j) = ap length (filter_map-append job_in ms (kind.Job j ∷ [])) ∙ length_push (jobs_in ms) j
+all_jobs_push ms (kind.End p) = ap length (filter_map-append job_in ms (kind.End p ∷ []) ∙ append-nil (jobs_in ms)) ∙ omega arith
 
 same_sums : (n : ℕ) (f h : ℕ → ℕ) → ((q : ℕ) → q < n → f q ≡ h q) → sum_to n f ≡ sum_to n h
 same_sums zero f h same = refl
@@ -82,7 +83,7 @@ one_counted senders jobs before messages m so_far low may =
     record {
       few = λ p. few p (sender_of m == p) (is_end m) refl refl;
       below = λ p k all. below p k (sender_of m == p) (is_end m) refl refl all;
-      sum = writes_push messages m ∙ sums;
+      sum = all_jobs_push messages m ∙ sums;
     }
   where
     few : (p : ℕ) (here end : Bool) → (sender_of m == p) ≡ here → is_end m ≡ end → jobs_of p (messages ++ m ∷ []) ≤ jobs
@@ -131,7 +132,7 @@ one_counted senders jobs before messages m so_far low may =
         let push = jobs_push p messages m in
         omega arith
 
-    sums : length (writes_in messages) + cond (not (is_end m)) 1 0 ≡ sum_to senders (λ p. jobs_of p (messages ++ m ∷ []))
+    sums : length (jobs_in messages) + cond (not (is_end m)) 1 0 ≡ sum_to senders (λ p. jobs_of p (messages ++ m ∷ []))
     sums =
         let was = so_far.sum in
         let own : jobs_of (sender_of m) (messages ++ m ∷ []) ≡ jobs_of (sender_of m) messages + cond (not (is_end m)) 1 0
@@ -149,8 +150,8 @@ sum_few (suc n) b f few =
     let product = suc-mul n b in
     omega arith
 
-pub few_writes : (senders jobs : ℕ) (before messages : List Message) → AreCounted senders jobs before messages → length (writes_in messages) ≤ senders * jobs
-few_writes senders jobs before messages counted =
+pub few_jobs : (senders jobs : ℕ) (before messages : List Message) → AreCounted senders jobs before messages → length (jobs_in messages) ≤ senders * jobs
+few_jobs senders jobs before messages counted =
     let all = sum_few senders jobs (λ p. jobs_of p messages) counted.few in
     let sum = counted.sum in
     omega arith

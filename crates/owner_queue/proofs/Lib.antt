@@ -5,3 +5,5 @@ pub mod Whole
 pub mod Counting
 pub mod OnlySender
 pub mod Gains
+pub mod Runs
+pub mod Worked

@@ -1,7 +1,6 @@
 -- Jobs, ends, and in what order one sender may send them.
-use Rattle.std.specs.Prelude.{Option, Some, None, ◌≡◌, ℕ, ◌<◌, Bool, true, false, List, All}
-use Rattle.std.specs.List.{list_any, filter_map}
-use Rattle.partition_model.specs.declared.write.Write.{Write}
+use Rattle.std.specs.Prelude.{◌≡◌, ℕ, ◌<◌, Bool, true, false, List, All}
+use Rattle.std.specs.List.{list_any}
 use Rattle.partition_model.specs.Write.{IsWrite}
 use Rattle.owner_queue.specs.declared.message.Message.{Message}
 use Rattle.owner_queue.specs.declared.message.Message.TheVariants as kind
@@ -40,11 +39,3 @@ pub record MayFollow (jobs : ℕ) (before : List Message) (m : Message) : Type 0
   pub in_range : is_end m ≡ false → ticket_of m < jobs
   pub rises : is_end m ≡ false → All (λ b. ticket_of b < ticket_of m) before
   pub fit : IsFit m
-
-abbrev pub write_in : Message → Option Write
-write_in (kind.Job j) = Some j.write
-write_in (kind.End p) = None
-
--- the writes of the jobs, in order
-abbrev pub writes_in : List Message → List Write
-writes_in messages = filter_map write_in messages

@@ -1,7 +1,7 @@
 use Rattle.std.proofs.Common.{◌≡◌, [], ◌∷◌, refl, ap, arith, length}
 use Rattle.std.proofs.lemmas.Option.{slice_get_read}
 use Rattle.owner_queue.specs.declared.message.Message.{Message}
-use Rattle.mica_fronts.specs.OwnerWork.{jobs_in}
+use Rattle.owner_queue.specs.Worked.{jobs_in}
 use Rattle.mica_fronts.proofs.OwnerSteps.{serves_none, serves_end, serves_job, front_below, job_fits, box_of, ticket_above}
 use Rattle.mica_fronts.proofs.owner_work.serve_owner.Goals as goal
 

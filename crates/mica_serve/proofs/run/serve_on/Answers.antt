@@ -10,7 +10,8 @@ use Rattle.mica_serve.specs.declared.filling.OpenFault.TheVariants as open_fault
 use Rattle.mica_serve.specs.declared.stop.Stop.{Stop}
 use Rattle.mica_serve.specs.Filled.{begun_by, RefusesFilling}
 use Rattle.mica_serve.specs.NetRun.{NetFacts, BindsAndServes, IsCauseOfStop, HasAnnounced, net_facts}
-use Rattle.mica_serve.proofs.Whole.{kept_at, out_until, tell_until, keeps, cause, net_kept, still_told, not_opened}
+use Rattle.mica_serve.proofs.PortRuns.{kept_at}
+use Rattle.mica_serve.proofs.Whole.{out_until, tell_until, keeps, cause, net_kept, still_told, not_opened}
 use Rattle.mica_serve.proofs.run.serve_on.Given as given
 use Rattle.mica_serve.proofs.run.serve_on.Goals as goal
 
