@@ -1,4 +1,5 @@
 -- The gets of a round, collected and sorted.
+use Rattle.std.proofs.Common.{rules}
 use Rattle.std.proofs.Common.{◌≡◌, ℕ, zero, suc, ◌<◌, ◌≤◌, inl, inr, List, [], ◌∷◌, ◌++◌, length, Some, Contains, IsPermutation, refl, sym, ap, ◌∙◌, subst, arith, slice_get}
 use Rattle.std.specs.List.Sorted.{IsNonDecreasingBy}
 use Rattle.std.proofs.lemmas.Option.{slice_get_within, get_or_from_slice_get, slice_get_read}
@@ -41,8 +42,7 @@ module _ (trace : List TraceLine) (report : List Line) where
   longer lines own a is = (is.0, is.1, slice_get_front lines (own ∷ []) is.0 is.1 is.2, is.3, is.4, is.5, is.6, is.7)
 
   only : {X : Type 0} (k : ℕ) (new x : X) → slice_get (new ∷ []) k ≡ Some x → new ≡ x
-  only zero new x is = cc
-  only (suc k) new x is = absurd (cc)
+  only k new x is = grind (arith, common_steps)
 
   -- one line more, which is no get
   pub among_skip : (lines : List OwnLine) (own : OwnLine) (asked : List Asked) → ((line : TraceLine) (printed : Line) → ¬ (IsGetAt trace report own.place line printed))
@@ -111,5 +111,4 @@ module _ (trace : List TraceLine) (report : List Line) where
   }
 
 pub rising : (asked : List Asked) → IsNonDecreasingBy (λ a. a.stamp) asked → StampsRise asked
-rising asked up i j a b le at_i at_j =
-    grind (arith, common_steps, slice_get_within asked j b at_j, get_or_from_slice_get asked i a a at_i, get_or_from_slice_get asked j b a at_j)
+rising asked up i j a b le at_i at_j = search (rules, slice_get_within, get_or_from_slice_get)

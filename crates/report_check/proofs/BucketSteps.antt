@@ -55,19 +55,16 @@ module _ (options : Options) (s : Cache) (write : Write) where
   own_delete = ap (λ (rs : List Record). record (cs.after_delete s write) { records = rs }) (filter_swap (λ r. not (has_key write.key r)) here s.records)
 
   same_kept : (o : Option Record) → kept_if options part write o ≡ kept_if options s write o
-  same_kept None = refl
-  same_kept (Some held) = refl
+  same_kept o = grind (arith, common_steps)
 
   own_kept : kept_record options part write ≡ kept_record options s write
   own_kept = ap (kept_if options part write) own_record ∙ same_kept (record_of s write.key)
 
   own_put : (o : Option Record) → cs.after_put o part write ≡ part_of options own (cs.after_put o s write)
-  own_put None = own_append write.value
-  own_put (Some held) = own_rewrite
+  own_put o = grind (arith, own_append write.value, own_rewrite)
 
   own_touch : (o : Option Record) → cs.after_touch o part write ≡ part_of options own (cs.after_touch o s write)
-  own_touch None = refl
-  own_touch (Some held) = own_append held.value
+  own_touch o = grind (arith, own_append)
 
   own_op : (op : Op) → cs.after_op op options part write ≡ part_of options own (cs.after_op op options s write)
   own_op Put = ap (λ o. cs.after_put o part write) own_kept ∙ own_put (kept_record options s write)
@@ -106,39 +103,22 @@ module _ (options : Options) (s : Cache) (write : Write) where
     other_others = filter_weaker (λ r. not (has_key write.key r)) there (λ r is. ap not (other_key r is)) s.records
 
     other_append : (value : List ℕ) → filter there (cs.after_append s (new_record s write.key value)).records ≡ filter there s.records
-    other_append value =
-        let new = new_record s write.key value in
-        filter-append there (others write.key s.records) (new ∷ [])
-        ∙ ap (λ b. filter there (others write.key s.records) ++ cond b (new ∷ []) []) (ne_eqb own bucket other)
-        ∙ append_nil (filter there (others write.key s.records)) ∙ other_others
-      where
-        append_nil : (rs : List Record) → rs ++ [] ≡ rs
-        append_nil [] = refl
-        append_nil (r ∷ rs) = ap (λ l. r ∷ l) (append_nil rs)
+    other_append value = search (rules, new_record, filter-append, ne_eqb, other_others, others, filter)
 
     other_rewrite : filter there (cs.after_rewrite s write).records ≡ filter there s.records
-    other_rewrite =
-        grind (arith, common_steps, filter_map_same there (rewritten write), rewritten write, rewritten_key write, filter_map_none there (rewritten write), other_key)
+    other_rewrite = search (rules, filter_map_same, rewritten, rewritten_key, filter_map_none, other_key)
 
     other_put : (o : Option Record) → filter there (cs.after_put o s write).records ≡ filter there s.records
-    other_put None = other_append write.value
-    other_put (Some held) = other_rewrite
+    other_put o = grind (arith, other_append write.value, other_rewrite)
 
     other_touch : (o : Option Record) → filter there (cs.after_touch o s write).records ≡ filter there s.records
-    other_touch None = refl
-    other_touch (Some held) = other_append held.value
+    other_touch o = grind (arith, other_append)
 
     other_op : (op : Op) → filter there (cs.after_op op options s write).records ≡ filter there s.records
-    other_op Put = other_put (kept_record options s write)
-    other_op Add = other_append write.value
-    other_op Touch = other_touch (record_of s write.key)
-    other_op Del = other_others
+    other_op op = grind (arith, other_put (kept_record options s write), other_append write.value, other_touch (record_of s write.key), other_others)
 
     other_left : (rs : List Record) → filter there (left rs) ≡ filter there rs
-    other_left rs = elim (eqb (count_by here rs) (SLOTS + 1)) as (λ b. filter there (cond b (without_first here rs) rs) ≡ filter there rs) [
-      | true ↦ first_of_others here there apart rs
-      | false ↦ refl
-    ]
+    other_left rs = search (rules, eqb, first_of_others, count_by)
 
     pub other_after : filter there (cs.after options s write).records ≡ filter (λ held. is_live options.words (cs.after options s write).stamp held.offset) (filter there s.records)
     unfolding cs.after
@@ -146,7 +126,4 @@ module _ (options : Options) (s : Cache) (write : Write) where
 
   -- what the log has not passed after the write, it had not before
   pub live_before : (r : Record) → is_live options.words (cs.after options s write).stamp r.offset ≡ true → is_live options.words s.stamp r.offset ≡ true
-  live_before r is =
-      let low = leb-true (tail_of (cs.after options s write).stamp) (r.offset + options.words) is in
-      let rises = tail_rises options s write in
-      le-leb (tail_of s.stamp) (r.offset + options.words) (omega arith)
+  live_before r is = search (rules, leb-true, tail_rises, le-leb, tail_of)

@@ -1,4 +1,5 @@
 -- The buckets of a partition in cache mode stand for its state.
+use Rattle.std.proofs.Common.{rules}
 use Rattle.std.proofs.Common.{◌≡◌, ◌≢◌, ℕ, zero, suc, ◌+◌, ◌<◌, ◌≤◌, List, [], ◌∷◌, ◌++◌, length, length-set, set, get_or, slice_get, Some, true, false, not, refl, sym, ap, ◌∙◌, subst, arith, eqb, eqb-true, ◌&&◌}
 use borrow.Author.Tests.{eqb-false}
 use Rattle.std.specs.Global.{Vec}
@@ -44,16 +45,7 @@ reached_kept options s reached = kept_in options reached.0 reached.1 s reached.2
 
 -- a bucket's part of a state has what every state has
 pub part_kept : (options : Options) (bucket : ℕ) (s : Cache) → IsKept options s → IsKept options (part_of options bucket s)
-part_kept options bucket s kept =
-    let q = is_in_bucket options bucket in
-    record {
-      laid = laid_filter q 0 (tail_of s.stamp) s.records kept.laid;
-      unique = unique_filter q s.records kept.unique;
-      live = all_filter _ q s.records kept.live;
-      are = all_filter _ q s.records kept.are;
-      buckets = λ b. let fewer = count_filter (is_in_bucket options b) q s.records in let few = kept.buckets b in omega arith;
-      stamp = kept.stamp;
-    }
+part_kept options bucket s kept = search (rules, is_in_bucket, laid_filter, unique_filter, all_filter, count_filter, tail_of)
 
 -- a bucket that was met has its part of the state, and nothing else
 pub part_is : (options : Options) (bucket : ℕ) (s : Cache) → IsKept options s → HasPart options bucket s (part_of options bucket s)
@@ -85,11 +77,7 @@ pub set_parts : (options : Options) (buckets : List Cache) (at : ℕ) (new s : C
     → ((bucket : ℕ) (held : Cache) → bucket ≢ at → slice_get buckets bucket ≡ Some held → HasPart options bucket s held)
     → (bucket : ℕ) (held : Cache) → slice_get (set buckets at new) bucket ≡ Some held → HasPart options bucket s held
 set_parts options buckets at new s kept is others bucket held here =
-    let seen = seen_set buckets at bucket new held here in
-    elim (eqb bucket at) as (λ b. eqb bucket at ≡ b → HasPart options bucket s held) [
-      | true ↦ λ e. grind (arith, common_steps, eqb-true bucket at e, part_is options bucket s kept)
-      | false ↦ λ f. let other = eqb-false bucket at f in others bucket held other (seen.1 other)
-    ] refl
+    grind (arith, seen_set buckets at bucket new held here, eqb bucket at, eqb-true bucket at, part_is options bucket s kept, eqb-false bucket at, others bucket held)
 
 module _ (options : Options) (s : Cache) (reached : IsReached options s) (write : Write) (is : IsWrite write) where
   pub reached_after : IsReached options (cs.after options s write)

@@ -18,8 +18,7 @@ fit_more trace report n line printed asked answered fits all =
     grind (arith, common_steps, take_one trace n line asked, take_one report n printed answered, AllZip-append IsLineFor (take n trace) (line ∷ []) (take n report) (printed ∷ []) all (fits, tt))
 
 fit_before : (trace : List TraceLine) (report : List Line) (n m : ℕ) → AllZip IsLineFor (take n trace) (take n report) → m < n → ¬ (IsMisfit trace report m)
-fit_before trace report n m all less bad =
-    search (rules, all_fit (take n trace) (take n report) all m, slice_get (take n report) m, get_take trace n m less, slice_get trace m, get_take report n m less)
+fit_before trace report n m all less bad = search (rules, all_fit, slice_get, get_take, take)
 
 pub first_here : (trace : List TraceLine) (report : List Line) (n : ℕ) (line : TraceLine) (printed : Line) → slice_get trace n ≡ Some line → slice_get report n ≡ Some printed
     → ¬ (IsLineFor line printed) → AllZip IsLineFor (take n trace) (take n report) → IsFirst (IsMisfit trace report) n

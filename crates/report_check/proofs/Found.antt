@@ -1,4 +1,5 @@
 -- What is found of one partition more.
+use Rattle.std.proofs.Common.{rules}
 use Rattle.std.proofs.Common.{◌≡◌, ℕ, ◌+◌, ◌<◌, ◌≤◌, ◌⊎◌, inl, inr, List, length, Option, Some, None, refl, arith, true, false, cond, ltb, ltb-true, ltb-false, slice_get}
 use Rattle.std.proofs.lemmas.Option.{slice_get_within}
 use Rattle.std.specs.List.{AllZip}
@@ -32,18 +33,13 @@ both one None = one
 both one (Some place) = earlier one place
 
 least_both : (Bad One Two : ℕ → Type 0) (a b : Option ℕ) → IsLeast Bad One a → IsLeast Bad Two b → IsLeast Bad (λ n. One n × Two n) (both a b)
-least_both Bad One Two None None one two = λ n. (one n, two n)
-least_both Bad One Two None (Some k) one two = (two.0, λ n less. (one n, two.1 n less))
-least_both Bad One Two (Some j) None one two = (one.0, λ n less. (one.1 n less, two n))
-least_both Bad One Two (Some j) (Some k) one two = grind (arith, common_steps)
+least_both Bad One Two a b one two = grind (arith, common_steps)
 
 least_weaker : (Bad One Two : ℕ → Type 0) (a : Option ℕ) → ((n : ℕ) → One n → Two n) → IsLeast Bad One a → IsLeast Bad Two a
-least_weaker Bad One Two None weaker one = λ n. weaker n (one n)
-least_weaker Bad One Two (Some k) weaker one = (one.0, λ n less. weaker n (one.1 n less))
+least_weaker Bad One Two a weaker one = grind (arith, common_steps)
 
 never : (write : Option ℕ) (k : ℕ) → earlier write k ≡ None → ⊥
-never None k is = cc
-never (Some j) k is = grind (arith, common_steps)
+never write k is = grind (arith, common_steps)
 
 module _ (options : Options) (trace : List TraceLine) (report : List Line) where
   -- a partition below the next number is below this one, or it is the new one
@@ -54,8 +50,7 @@ module _ (options : Options) (trace : List TraceLine) (report : List Line) where
 
   -- no write before the first wrong one is wrong
   right_before : (p k n : ℕ) (line : TraceLine) → IsFirstWrong options p trace report k → n < k → slice_get trace n ≡ Some line → partition_in options line ≡ p → ¬ (IsWrongWrite options trace report n)
-  right_before p k n line first less asked inside wrong =
-      grind (arith, common_steps, get_take trace k n less, get_take report k n less, take_lower trace k n (omega arith), take_lower report k n (omega arith), run_right options p)
+  right_before p k n line first less asked inside wrong = search (rules, get_take, take_lower, run_right)
 
   runs_more : (p : ℕ) → ((q : ℕ) → q < p → IsRun options (steps_of options q trace report)) → IsRun options (steps_of options p trace report)
       → (q : ℕ) → q < p + 1 → IsRun options (steps_of options q trace report)
@@ -72,11 +67,7 @@ module _ (options : Options) (trace : List TraceLine) (report : List Line) where
     first.wrong,
     λ n line less. right_more p n (λ l asked below. run_right options (partition_in options l) trace report n l (olds (partition_in options l) below) asked refl) (λ l asked inside. right_before p k n l first less asked inside) line,
   )
-  write_wrong p k (Some j) olds first =
-      elim (ltb j k) as (λ t. ltb j k ≡ t → IsWriteOf options (p + 1) trace report (cond t (Some j) (Some k))) [
-        | true ↦ λ e. grind (arith, common_steps, ltb-true j k e, right_more p, right_before p k)
-        | false ↦ λ f. grind (arith, common_steps, ltb-false j k f, right_more p, right_before p k)
-      ] refl
+  write_wrong p k (Some j) olds first = search (rules, ltb, ltb-true, right_more, right_before, ltb-false)
 
   write_run : (p : ℕ) (write : Option ℕ) → IsWriteOf options p trace report write → IsRun options (steps_of options p trace report) → IsWriteOf options (p + 1) trace report write
   write_run p None olds run = runs_more p olds run
@@ -135,8 +126,7 @@ module _ (options : Options) (trace : List TraceLine) (report : List Line) where
   found_more p found (Run None) None olds judged falls = grind (arith, common_steps, write_run p found.write olds.write judged.0, get_more p found.get None None)
   found_more p found (Run None) (Some f) olds judged falls = grind (arith, common_steps, write_run p found.write olds.write judged.0, get_more p found.get None (Some f))
   found_more p found (Run (Some m)) None olds judged falls = grind (arith, common_steps, write_run p found.write olds.write judged.0, get_more p found.get (Some m) None)
-  found_more p found (Run (Some m)) (Some f) olds judged falls =
-      grind (arith, common_steps, write_run p found.write olds.write judged.0, get_more p found.get (Some m) (Some f))
+  found_more p found (Run (Some m)) (Some f) olds judged falls = grind (arith, write_run p found.write olds.write judged.0, get_more p found.get (Some m) (Some f))
 
   -- All partitions
 

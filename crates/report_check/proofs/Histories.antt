@@ -26,18 +26,10 @@ pub take_one : {X : Type 0} (xs : List X) (n : ℕ) (x : X) → slice_get xs n �
 take_one xs n x is = take_more xs n x (slice_get_within xs n x is) ∙ ap (λ y. take n xs ++ y ∷ []) (get_or_from_slice_get xs n x x is)
 
 pub take_past : {X : Type 0} (xs : List X) (n : ℕ) → length xs ≤ n → take n xs ≡ xs
-take_past [] zero le = refl
-take_past [] (suc n) le = refl
-take_past (x ∷ xs) zero le = absurd (omega arith)
-take_past (x ∷ xs) (suc n) le = ap (λ ys. x ∷ ys) (take_past xs n (omega arith))
+take_past xs n le = grind (arith, common_steps)
 
 pub same_take : {X Y : Type 0} (xs : List X) (ys : List Y) (n : ℕ) → length ys ≡ length xs → length (take n ys) ≡ length (take n xs)
-same_take [] [] zero same = refl
-same_take [] [] (suc n) same = refl
-same_take [] (y ∷ ys) n same = absurd (omega arith)
-same_take (x ∷ xs) [] n same = absurd (omega arith)
-same_take (x ∷ xs) (y ∷ ys) zero same = refl
-same_take (x ∷ xs) (y ∷ ys) (suc n) same = ap suc (same_take xs ys n (omega arith))
+same_take xs ys n same = grind (arith, common_steps)
 
 pub AllZip-take : {X Y : Type 0} (R : X → Y → Type 0) (xs : List X) (ys : List Y) (n : ℕ) → AllZip R xs ys → AllZip R (take n xs) (take n ys)
 AllZip-take R xs ys zero all = tt
@@ -54,10 +46,7 @@ get_take (x ∷ xs) (suc k) zero less = refl
 get_take (x ∷ xs) (suc k) (suc n) less = get_take xs k n (omega arith)
 
 pub take_lower : {X : Type 0} (xs : List X) (k n : ℕ) → n ≤ k → take n (take k xs) ≡ take n xs
-take_lower xs k zero le = refl
-take_lower xs zero (suc n) le = absurd (omega arith)
-take_lower [] (suc k) (suc n) le = refl
-take_lower (x ∷ xs) (suc k) (suc n) le = ap (λ ys. x ∷ ys) (take_lower xs k n (omega arith))
+take_lower xs k n le = grind (arith, common_steps)
 
 module _ (options : Options) (p : ℕ) (trace : List TraceLine) (report : List Line) (same : length report ≡ length trace) where
   abbrev steps_to : ℕ → List RunStep
@@ -67,15 +56,7 @@ module _ (options : Options) (p : ℕ) (trace : List TraceLine) (report : List L
   steps_more : (n : ℕ) (line : TraceLine) (printed : Line) → slice_get trace n ≡ Some line → slice_get report n ≡ Some printed
       → steps_to (n + 1) ≡ steps_to n ++ cons_option (step_in options p (line, printed)) []
   steps_more n line printed asked answered =
-      grind (
-        arith,
-        common_steps,
-        take_one trace n line asked,
-        take_one report n printed answered,
-        zip-append (take n trace) (line ∷ []) (take n report) (printed ∷ []) (same_take trace report n same),
-        same_take trace report n same,
-        filter_map-append (step_in options p) (zip (take n trace) (take n report)) ((line, printed) ∷ []),
-      )
+      grind (arith, take_one trace n line asked, take_one report n printed answered, zip-append (take n trace) (line ∷ []) (take n report) (printed ∷ []) (same_take trace report n same), same_take trace report n same, filter_map-append (step_in options p) (zip (take n trace) (take n report)) ((line, printed) ∷ []))
 
   pub steps_here : (n : ℕ) (line : TraceLine) (printed : Line) → slice_get trace n ≡ Some line → slice_get report n ≡ Some printed → partition_in options line ≡ p
       → steps_to (n + 1) ≡ steps_to n ++ step_at line printed
@@ -122,9 +103,7 @@ module _ (options : Options) (p : ℕ) (trace : List TraceLine) (report : List L
   pub one_history : (m n : ℕ) → m ≤ n → stamp_of options (history_at options p trace report m) ≡ stamp_of options (history_at options p trace report n)
       → history_at options p trace report m ≡ history_at options p trace report n
   one_history m n le stamps =
-      one_cut options (history_at options p trace report n) (stamp_of options (history_at options p trace report n)) _ _
-      (record { begins = history_grows m n le; stamped = stamps })
-      (record { begins = ([], sym (append-nil _)); stamped = refl })
+      grind (arith, one_cut options (history_at options p trace report n) (stamp_of options (history_at options p trace report n)) _ _ (record { begins = history_grows m n le; stamped = stamps }) (record { begins = ([], sym (append-nil _)); stamped = refl }))
 
   -- how many writes of the partition the first lines have
   abbrev pub writes_to : ℕ → ℕ

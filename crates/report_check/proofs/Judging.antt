@@ -1,4 +1,5 @@
 -- Gets judged one after another by one state.
+use Rattle.std.proofs.Common.{rules}
 use Rattle.std.proofs.Common.{◌≡◌, ℕ, ◌+◌, ◌<◌, ◌≤◌, ◌⊎◌, inl, inr, List, length, Option, Some, IfSome, refl, sym, subst, arith, ltb-true, ltb-false, slice_get}
 use Rattle.std.proofs.lemmas.Option.{IfSome_then, slice_get_within}
 use Rattle.std.proofs.lemmas.Grind.{common_steps}
@@ -69,8 +70,7 @@ module _ (asked : List Asked) (settling : Settling) where
   leaves_first = grind (arith, common_steps)
 
   pub leaves_more : (at : ℕ) (missed : Option ℕ) (a : Asked) → LeavesUpTo asked settling at missed → slice_get asked at ≡ Some a → LeavesUpTo asked settling (at + 1) (earlier missed a.place)
-  leaves_more at missed a so_far is =
-      grind (arith, common_steps, earlier_kept missed a.place, ltb-true, ltb-false, earlier_here missed a.place, earlier_one missed a.place)
+  leaves_more at missed a so_far is = search (rules, earlier_kept, ltb-true, ltb-false, earlier_here, earlier_one)
 
   pub leaves_all : (at : ℕ) (missed : Option ℕ) → LeavesUpTo asked settling at missed → length asked ≤ at → LeavesMissed asked settling missed
   leaves_all at missed so_far past = grind (arith, common_steps, slice_get_within asked)

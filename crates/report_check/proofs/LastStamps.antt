@@ -20,12 +20,7 @@ use Rattle.report_check.specs.Shared.{HasNone, AreLinesOf}
 use Rattle.report_check.proofs.OwnLines.{skip_to}
 
 pub is_get_true : (op : TraceOp) → is_get_op op ≡ true → op ≡ Get
-is_get_true Get is = refl
-is_get_true Put is = absurd (cc)
-is_get_true Add is = absurd (cc)
-is_get_true Del is = absurd (cc)
-is_get_true Touch is = absurd (cc)
-is_get_true Sync is = absurd (cc)
+is_get_true op is = grind (arith, common_steps)
 
 -- a line that is none stands at no get
 pub no_get_here : (trace : List TraceLine) (report : List Line) (place : ℕ) (line : TraceLine) → slice_get trace place ≡ Some line → is_get line ≡ false
@@ -33,9 +28,7 @@ pub no_get_here : (trace : List TraceLine) (report : List Line) (place : ℕ) (l
 no_get_here trace report place line is denied l printed get = grind (arith, common_steps)
 
 pub same_default : (xs : List ℕ) (n d e : ℕ) → n < length xs → get_or xs n d ≡ get_or xs n e
-same_default [] n d e less = absurd (omega arith)
-same_default (x ∷ xs) zero d e less = refl
-same_default (x ∷ xs) (suc n) d e less = same_default xs n d e (omega arith)
+same_default xs n d e less = grind (arith, common_steps)
 
 module _ (options : Options) (p : ℕ) (trace : List TraceLine) (report : List Line) where
   -- no get before the place falls behind, and the greatest stamp of each reader there is known
@@ -49,9 +42,7 @@ module _ (options : Options) (p : ℕ) (trace : List TraceLine) (report : List L
         → ¬ (FallsBehind options trace report m line printed)
 
   zeros : (n q : ℕ) → let none : ℕ = 0 in get_or (replicate n none) q none ≡ none
-  zeros zero q = refl
-  zeros (suc n) zero = refl
-  zeros (suc n) (suc q) = zeros n q
+  zeros n q = grind (arith, common_steps)
 
   -- a stamp below the greatest one falls behind
   pub falls_here : (place : ℕ) (last : List ℕ) (line : TraceLine) (printed : Line) → HasNoFall place last → IsGetAt trace report place line printed → partition_in options line ≡ p
@@ -151,8 +142,7 @@ pub record NoneFell (options : Options) (p : ℕ) (trace : List TraceLine) (repo
 
 module _ (options : Options) (p : ℕ) (trace : List TraceLine) (report : List Line) (last : List ℕ) where
   pub none_fell_before : (own : OwnLine) (later : List OwnLine) → NoneFell options p trace report (own ∷ later) last → HasNoFall options p trace report own.place last
-  none_fell_before own later fell =
-      grind (arith, common_steps, no_fall_over options p trace report fell.place own.place last fell.left.1 (omega arith) fell.left.3 fell.so_far)
+  none_fell_before own later fell = grind (arith, no_fall_over options p trace report fell.place own.place last fell.left.1 (omega arith) fell.left.3 fell.so_far)
 
   pub none_fell_at_end : NoneFell options p trace report [] last → HasNoFall options p trace report (length trace) last
   none_fell_at_end fell = no_fall_over options p trace report fell.place (length trace) last fell.left.0 (omega arith) fell.left.1 fell.so_far
@@ -170,8 +160,7 @@ module _ (options : Options) (p : ℕ) (trace : List TraceLine) (report : List L
   -- the get that falls
   pub first_to_fall : (own : OwnLine) (later : List OwnLine) (line : TraceLine) (printed : Line) → NoneFell options p trace report (own ∷ later) last → IsGetAt trace report own.place line printed
       → printed_stamp printed < get_or last (own.gets % options.readers) 0 → IsFirstFall options p trace report (Some own.place)
-  first_to_fall own later line printed fell get less =
-      grind (arith, common_steps, none_fell_before own later fell, falls_here options p trace report own.place last line printed)
+  first_to_fall own later line printed fell get less = grind (arith, none_fell_before own later fell, falls_here options p trace report own.place last line printed)
 
   pub none_to_fall : NoneFell options p trace report [] last → IsFirstFall options p trace report None
   none_to_fall fell n line printed get inside falls =

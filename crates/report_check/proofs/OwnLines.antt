@@ -1,4 +1,5 @@
 -- The lines of a partition, shared out, cut at a place, and gone through.
+use Rattle.std.proofs.Common.{rules}
 use Rattle.std.proofs.Common.{◌≡◌, ◌≢◌, ℕ, zero, suc, ◌+◌, ◌-◌, ◌<◌, ◌≤◌, List, [], ◌∷◌, ◌++◌, length, take, drop, set, slice_get, get_or, Some, true, false, cond, not, refl, sym, ◌∙◌, subst, arith, ltb, ltb-true, ltb-false, leb, leb-false, eqb, eqb-true, append_assoc, append-nil, length-set}
 use Rattle.std.proofs.Math.Seq.{drop-nil}
 use borrow.Author.Tests.{eqb-false}
@@ -98,15 +99,11 @@ left_one xs at x less is = grind (arith, common_steps)
 
 -- and none, behind the last
 pub left_none : {X : Type 0} (xs : List X) (at : ℕ) → length xs ≤ at → drop at xs ≡ []
-left_none [] at past = drop-nil at
-left_none (x ∷ xs) zero past = absurd (omega arith)
-left_none (x ∷ xs) (suc at) past = left_none xs at (omega arith)
+left_none xs at past = grind (arith, common_steps)
 
 -- as the code reads an element that is there
 pub read_same : {X : Type 0} (xs : List X) (at : ℕ) (d : X) → at < length xs → get_or xs at d ≡ get_or xs at (get_or xs at d)
-read_same [] at d less = absurd (omega arith)
-read_same (x ∷ xs) zero d less = refl
-read_same (x ∷ xs) (suc at) d less = read_same xs at d (omega arith)
+read_same xs at d less = grind (arith, common_steps)
 
 pub all_seen : {X : Type 0} (P : X → Type 0) (xs : List X) (i : ℕ) (x : X) → AllOf P xs → slice_get xs i ≡ Some x → P x
 all_seen P [] i x all is = absurd (cc)
@@ -124,17 +121,8 @@ module _ (options : Options) (trace : List TraceLine) where
   pub shared_more : (place gets : ℕ) (line : TraceLine) (shared : List (Vec OwnLine)) (p : ℕ) (old new : Vec OwnLine) → AreSharedTo options trace place shared → slice_get trace place ≡ Some line
       → p ≡ partition_in options line → slice_get shared p ≡ Some old → new.items ≡ old.items ++ record { place = place; gets = gets } ∷ [] → gets ≡ gets_in (take place trace)
       → AreSharedTo options trace (place + 1) (set shared p new)
-  shared_more place gets line shared p old new so_far is inside at pushed counted = record {
-    many = length-set shared p new ∙ so_far.many;
-    each = λ q own here rest are.
-        let seen = seen_set shared p q new own here in
-        elim (eqb q p) as (λ b. eqb q p ≡ b → AreLinesOf options q trace 0 (length trace) (own.items ++ rest)) [
-          | true ↦ λ e.
-              grind (arith, common_steps, eqb-true q p e, append_assoc old.items, slice_get_within trace place line is, none_there options q trace place)
-          | false ↦ λ f.
-              grind (arith, common_steps, eqb-false q p f, earlier_lines options q trace place (place + 1) (length trace) rest (omega arith))
-        ] refl;
-  }
+  shared_more place gets line shared p old new so_far is inside at pushed counted =
+      search (rules, length-set, seen_set, eqb, eqb-true, append_assoc, slice_get_within, none_there, eqb-false, earlier_lines, length)
 
   pub shared_all : (shared : List (Vec OwnLine)) → AreSharedTo options trace (length trace) shared → (p : ℕ) (own : Vec OwnLine) → slice_get shared p ≡ Some own → AreLinesOf options p trace 0 (length trace) own.items
   shared_all shared so_far p own is = grind (arith, common_steps, append-nil own.items, none_there options p trace (length trace))

@@ -1,4 +1,5 @@
 -- The rounds of a partition, one behind another.
+use Rattle.std.proofs.Common.{rules}
 use Rattle.std.proofs.Common.{◌≡◌, ℕ, ◌<◌, ◌≤◌, List, [], ◌∷◌, length, take, drop, Option, Some, None, refl, sym, subst, arith, get_or, ◌+◌, ◌-◌, true, false, ltb, ltb-true, ltb-false, leb, is_some}
 use Rattle.std.specs.List.{AllZip, position_or_len}
 use Rattle.std.proofs.lemmas.List.{drop-drop, take_rest}
@@ -75,18 +76,11 @@ module _ (options : Options) (p : ℕ) (trace : List TraceLine) (report : List L
       grind (arith, common_steps, before_round to later lines old missed between, missed_more options p trace report all between.from to between.rounds.0 missed found between.first judged.2)
 
   pub judged_at_end : (lines : List OwnLine) (machine : Machine) (missed : Option ℕ) → StandsBetween options p trace report [] lines machine missed → IsJudged options p trace report (Run missed)
-  judged_at_end lines machine missed between =
-      let at = between.rounds in
-      let same = length_zip IsLineFor trace report all in (
-        subst (λ (ls : List TraceLine). IsRun options (steps_of options p ls report)) (take_past trace between.from (omega arith))
-            (subst (λ (rs : List Line). IsRun options (steps_of options p (take between.from trace) rs)) (take_past report between.from (omega arith)) between.run),
-        subst (λ m. IsFirstMissed options p trace report m missed) at between.first,
-      )
+  judged_at_end lines machine missed between = search (rules, length_zip, IsRun, take_past, IsFirstMissed, steps_of, take)
 
 -- the one that the code keeps
 pub first_is : (missed found now : Option ℕ) → (is_some missed ≡ false → now ≡ found) → (is_some missed ≡ true → now ≡ missed) → now ≡ first_some missed found
-first_is None found now none some = none refl
-first_is (Some k) found now none some = some refl
+first_is missed found now none some = grind (arith, common_steps)
 
 -- One round, by the number of its end and by how many lines were gone through before it.
 module _ (options : Options) (p : ℕ) (trace : List TraceLine) (report : List Line) (all : AllZip IsLineFor trace report) (ends : List ℕ) (round : ℕ) (lines : List OwnLine) (first count : ℕ)

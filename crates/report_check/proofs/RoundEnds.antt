@@ -32,13 +32,7 @@ behind_sync (l ∷ lines) (suc n) line is sync =
 pub past_syncs : (lines : List TraceLine) (k : ℕ) → syncs_in lines < k → lines_before lines k ≡ lines
 past_syncs [] k less = refl
 past_syncs (l ∷ lines) zero less = absurd (omega arith)
-past_syncs (l ∷ lines) (suc k) less =
-    let counted = syncs_cons l lines in
-    ap (λ ls. l ∷ ls)
-    (elim (is_sync l) as (λ b. syncs_in (l ∷ lines) ≡ cond b 1 0 + syncs_in lines → lines_before lines (cond b k (suc k)) ≡ lines) [
-      | true ↦ λ c. past_syncs lines k (omega arith)
-      | false ↦ λ c. past_syncs lines (suc k) (omega arith)
-    ] counted)
+past_syncs (l ∷ lines) (suc k) less = grind (arith, syncs_cons l lines, is_sync l, past_syncs lines k, past_syncs lines (suc k))
 
 pub starts : (lines : List TraceLine) → StartsRound lines 0
 starts lines = no_lines lines
@@ -61,16 +55,7 @@ pub round_to_sync : (lines : List TraceLine) (from place : ℕ) (line : TraceLin
 round_to_sync lines from place line begins is sync low inside = search (rules, starts, slice_get_within lines place line is, behind_sync lines place line is sync)
 
 pub round_to_end : (lines : List TraceLine) (from : ℕ) → StartsRound lines from → from ≤ length lines → IsInside lines from (length lines) → IsRound lines from (length lines)
-round_to_end lines from begins low inside =
-    let whole : take (length lines) lines ≡ lines = take_past lines (length lines) (omega arith) in
-    let all : syncs_in lines ≡ syncs_in (take from lines) = ap syncs_in (sym whole) ∙ inside (length lines) low (omega arith) in
-    record {
-      starts = begins;
-      low = low;
-      high = omega arith;
-      ends = past_syncs lines (syncs_in (take from lines) + 1) (omega arith) ∙ sym whole;
-      inside = λ n low' less. inside n low' (omega arith);
-    }
+round_to_end lines from begins low inside = search (rules, take_past, inside, begins, low, past_syncs, length)
 
 -- Where the rounds end up to a place: with the ends that are left they are all.
 

@@ -21,24 +21,18 @@ use Rattle.report_check.proofs.Histories.{stamps_grow, one_history}
 
 -- An answer by the state is one after its history.
 pub answers_after : (options : Options) (history : History) (key : List ℕ) (printed : Line) → AnswersIn (state_of options history) key printed → Answers options history key printed
-answers_after options history key (Wrote op outcome s) is = absurd is
-answers_after options history key (Hit s value) is = is
-answers_after options history key (Miss s) is = is
-answers_after options history key Sync is = absurd is
+answers_after options history key printed is = grind (arith, is)
 
 -- Places
 
 pub earlier_here : (missed : Option ℕ) (place : ℕ) → IsMissedBy (earlier missed place) place
-earlier_here None place = let goal : place ≤ place = omega arith in goal
-earlier_here (Some k) place = grind (arith, common_steps)
+earlier_here missed place = grind (arith, common_steps)
 
 pub earlier_kept : (missed : Option ℕ) (place n : ℕ) → IsMissedBy missed n → IsMissedBy (earlier missed place) n
-earlier_kept None place n is = absurd is
-earlier_kept (Some k) place n is = grind (arith, common_steps)
+earlier_kept missed place n is = grind (arith, is)
 
 pub earlier_one : (missed : Option ℕ) (place : ℕ) → (earlier missed place ≡ missed) ⊎ (earlier missed place ≡ Some place)
-earlier_one None place = inr refl
-earlier_one (Some k) place = grind (arith, common_steps)
+earlier_one missed place = grind (arith, common_steps)
 
 module _ (options : Options) (p : ℕ) (trace : List TraceLine) (report : List Line) (same : length report ≡ length trace) (from : ℕ) (asked : List Asked) (gets : AreGets trace report asked) where
   abbrev history : ℕ → History
@@ -87,10 +81,7 @@ module _ (options : Options) (p : ℕ) (trace : List TraceLine) (report : List L
   -- nor is one at any moment before, where the get's stamp is above it
   not_before : (now later j : ℕ) (a : Asked) → slice_get asked j ≡ Some a → stamp_of options (history now) < a.stamp → (b : Between later a.place) → now < b.moment
   not_before now later j a is above b =
-      elim (ltb now b.moment) as (λ t. ltb now b.moment ≡ t → now < b.moment) [
-        | true ↦ λ e. ltb-true now b.moment e
-        | false ↦ λ f. grind (arith, common_steps, ltb-false now b.moment f, stamp_between later j a is b, stamps_grow options p trace report same b.moment now)
-      ] refl
+      grind (arith, ltb now b.moment, ltb-true now b.moment, ltb-false now b.moment, stamp_between later j a is b, stamps_grow options p trace report same b.moment now)
 
   -- the first moment settles the gets up to its stamp
   pub settled_first : (new : Settling) → HasJudged (state_of options (history from)) trace report asked (record { next = 0; missed = None }) new

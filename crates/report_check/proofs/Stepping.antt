@@ -58,13 +58,7 @@ module _ (options : Options) (p : ℕ) (trace : List TraceLine) (report : List L
   pub stands_there : (place : ℕ) (line : TraceLine) (printed : Line) (machine : Machine) (settling : Settling) → from ≤ place → slice_get trace place ≡ Some line → slice_get report place ≡ Some printed
       → partition_in options line ≢ p → Stands options p trace report from place asked machine settling → Stands options p trace report from (place + 1) asked machine settling
   stands_there place line printed machine settling low is_line is_printed outside stands =
-      grind (
-        arith,
-        common_steps,
-        history_there options p trace report same place line printed is_line is_printed outside,
-        steps_there options p trace report same place line printed is_line is_printed outside,
-        settled_same options p trace report same from asked gets place settling low,
-      )
+      grind (arith, history_there options p trace report same place line printed is_line is_printed outside, steps_there options p trace report same place line printed is_line is_printed outside, settled_same options p trace report same from asked gets place settling low)
 
   -- a write that the machine may not take
   pub wrong_here : (place : ℕ) (line : TraceLine) (printed : Line) (machine : Machine) (settling : Settling) → slice_get trace place ≡ Some line → slice_get report place ≡ Some printed
@@ -75,13 +69,11 @@ module _ (options : Options) (p : ℕ) (trace : List TraceLine) (report : List L
 -- what a step that may be taken, or may not, says
 pub took : (may : Bool) (options : Options) (history : History) (line : TraceLine) (printed : Line) (machine : Machine) → may ≡ true
     → MatchBool may (TakesStep options history line printed machine) (¬ (IsRunFrom options history (step_at line printed))) → TakesStep options history line printed machine
-took true options history line printed machine holds is = is
-took false options history line printed machine holds is = absurd (false≢true holds)
+took may options history line printed machine holds is = grind (arith, common_steps)
 
 pub refused : (may : Bool) (options : Options) (history : History) (line : TraceLine) (printed : Line) (machine : Machine) → may ≡ false
     → MatchBool may (TakesStep options history line printed machine) (¬ (IsRunFrom options history (step_at line printed))) → ¬ (IsRunFrom options history (step_at line printed))
-refused true options history line printed machine denied is = absurd (false≢true (sym denied))
-refused false options history line printed machine denied is = is
+refused may options history line printed machine denied is = grind (arith, common_steps)
 
 -- The machine stands before the lines that are left of a round.
 pub record GoesOn (options : Options) (p : ℕ) (trace : List TraceLine) (report : List Line) (from to : ℕ) (lines : List OwnLine) (asked : List Asked) (machine : Machine) (settling : Settling) : Type 0 where
@@ -131,11 +123,5 @@ module _ (options : Options) (p : ℕ) (trace : List TraceLine) (report : List L
     takes_next holds = took may options (history_at options p trace report own.place) line printed new holds said
 
     pub goes_on : may ≡ true → (settled : Settling) → Judges options p trace report same from asked gets new settling settled → GoesOn options p trace report from to later asked new settled
-    goes_on holds settled judges = record {
-      place = own.place + 1;
-      low = (let low = on.low in let first = on.left.1 in omega arith);
-      left = on.left.4;
-      stands = stands_here options p trace report same from asked gets own.place line printed machine new settling settled (let low = on.low in let first = on.left.1 in omega arith)
-          is_line is_printed inside stands (takes_next holds) judges;
-      high = on.high;
-    }
+    goes_on holds settled judges =
+        grind (arith, on.low, on.left.1, on.left.4, stands_here options p trace report same from asked gets own.place line printed machine new settling settled (let low = on.low in let first = on.left.1 in omega arith) is_line is_printed inside stands (takes_next holds) judges, on.high)

@@ -23,8 +23,7 @@ use Rattle.report_check.specs.Judged.{step_at, TakesStep}
 use Rattle.report_check.specs.Machines.{options_in, AreBuckets, IsAt, IsAfter, Takes, TakesInBuckets}
 
 by_reply : (asked : Option Op) (op : Op) → IsReplyTo asked op → asked ≡ Some op
-by_reply None op is = absurd is
-by_reply (Some asked) op is = ap Some (sym is)
+by_reply asked op is = grind (arith, is)
 
 module _ (options : Options) (history : History) (line : TraceLine) (op : Op) (outcome : Outcome) (stamp : ℕ) (replies : IsReplyTo (op_of line.op) op) where
   abbrev write : Write
@@ -45,8 +44,7 @@ module _ (options : Options) (history : History) (line : TraceLine) (op : Op) (o
     pub stamped : (may : Bool) → MatchBool may (Takes (state_of options history) write outcome old new) (¬ (Allows (options_in old) (state_of options history) write outcome)) → may ≡ true
         → (found : ℕ) → ((state : State) → IsAt state new → found ≡ stamp_in state)
         → MatchBool (eqb found stamp) (TakesStep options history line (Wrote op outcome stamp) new) (¬ (IsRunFrom options history (step_at line (Wrote op outcome stamp))))
-    stamped true takes is found stamps = grind (arith, common_steps)
-    stamped false takes is found stamps = absurd (false≢true is)
+    stamped may takes is found stamps = grind (arith, common_steps)
 
 -- the machine of cache mode takes what its buckets do
 pub machine_takes : (m new : CacheBuckets) (may : Bool) (write : Write) (outcome : Outcome)

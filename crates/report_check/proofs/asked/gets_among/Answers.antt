@@ -40,8 +40,7 @@ loop-at-preserved c =
     ]
 
 pub returns-clause-all : goal.returns-clause-all
-returns-clause-all c =
-    grind (arith, common_steps, take_past c.args.lines.now c.loop-at.at c.loop-at-test.false, among_sorted c.args.trace.now c.args.report.now c.args.lines.now c.loop-at.asked.items _ c.sort_by_key.ensures.permutation)
+returns-clause-all c = search (rules, take_past, among_sorted)
 
 pub returns-clause-rising : goal.returns-clause-rising
 returns-clause-rising c = rising _ (IsNonDecreasingBy-from_sort_by_key (λ (a : Asked). a.stamp) _ c.in_ok-sort_by_key.ensures.sorted (λ a r q k. search rules))

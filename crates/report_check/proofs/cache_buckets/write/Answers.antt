@@ -40,9 +40,4 @@ drop_passed-requires c =
 
 pub returns : goal.returns
 returns c =
-    grind (
-      arith,
-      common_steps,
-      after_is c.args.options.now c.args.bucket.now (write_of c.args.op c.args.key.now c.args.value.now) c.write.new.self c.remove.new.self c.in_ok-write.ensures.ok,
-      displaced_goes c.args.options.now c.args.key.now (without_passed c.args.options.now c.write.new.self).records,
-    )
+    grind (arith, after_is c.args.options.now c.args.bucket.now (write_of c.args.op c.args.key.now c.args.value.now) c.write.new.self c.remove.new.self c.in_ok-write.ensures.ok, displaced_goes c.args.options.now c.args.key.now (without_passed c.args.options.now c.write.new.self).records)

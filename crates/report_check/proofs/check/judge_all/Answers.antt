@@ -1,3 +1,4 @@
+use Rattle.std.proofs.Common.{rules}
 use Rattle.std.proofs.Common.{◌≡◌, ◌<◌, ℕ, List, length, get_or, sym, arith}
 use Rattle.std.specs.Global.{Vec}
 use Rattle.std.proofs.lemmas.Option.{slice_get_read}
@@ -20,8 +21,7 @@ pub first_fall-requires-clause-same : goal.first_fall-requires-clause-same
 first_fall-requires-clause-same c = length_zip IsLineFor c.args.trace.now c.args.report.now c.requires.lines
 
 pub judge_partition-requires-clause-own : goal.judge_partition-requires-clause-own
-judge_partition-requires-clause-own c =
-    (c.loop-p.p, own_lines c.args.options.now c.args.trace.now c.in_ok-shared.shared.items c.loop-p.p c.index.result.now c.as_slice-lines.result.now c.in_ok-shared.ensures c.loop-p-test.true c.index.ensures c.as_slice-lines.ensures.value)
+judge_partition-requires-clause-own c = search (rules, own_lines)
 
 pub loop-p-preserved : goal.loop-p-preserved
 loop-p-preserved c =

@@ -1,3 +1,4 @@
+use Rattle.std.proofs.Common.{rules}
 use Rattle.std.proofs.Common.{◌≡◌, ◌+◌, ◌<◌, ◌≤◌, ◌%◌, List, [], ◌∷◌, ℕ, drop, length, length-set, get_or, slice_get, Some, refl, sym, ap, ◌∙◌, subst, arith}
 use Rattle.std.specs.List.{AllByRecursion}
 use Rattle.std.proofs.lemmas.Option.{slice_get_read, slice_get-get_or}
@@ -25,9 +26,7 @@ here trace lines at line less within is =
 
 answered : (trace : List TraceLine) (report : List Line) (lines : List OwnLine) (at : ℕ) (printed : Line) → at < length lines → AllByRecursion (λ (own : OwnLine). own.place < length trace) lines
     → length report ≡ length trace → printed ≡ get_or report (get_or lines at none).place printed → slice_get report (get_or lines at none).place ≡ Some printed
-answered trace report lines at printed less within same is =
-    let inside = all_seen (λ (own : OwnLine). own.place < length trace) lines at (get_or lines at none) within (slice_get-get_or lines at none less) in
-    slice_get_read report (length report) (get_or lines at none).place printed refl (omega arith) is
+answered trace report lines at printed less within same is = search (rules, all_seen, slice_get_read, get_or, slice_get-get_or, length)
 
 left : (lines : List OwnLine) (at : ℕ) → at < length lines → drop at lines ≡ get_or lines at none ∷ drop (at + 1) lines
 left lines at less = left_one lines at (get_or lines at none) less (read_same lines at none less)

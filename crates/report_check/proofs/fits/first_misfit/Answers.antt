@@ -1,3 +1,4 @@
+use Rattle.std.proofs.Common.{rules}
 use Rattle.std.proofs.Common.{◌<◌, length, refl, arith}
 use Rattle.std.proofs.lemmas.Bool.{false≢true}
 use Rattle.std.proofs.lemmas.Option.{slice_get_read}
@@ -29,5 +30,4 @@ loop-place-preserved c =
     (c.stands_for.ensures.0 c.if-not-stands_for.false) c.loop-place.invariant
 
 pub returns-else-trace-report-clause-first : goal.returns-else-trace-report-clause-first
-returns-else-trace-report-clause-first c =
-    grind (arith, common_steps, first_end c.args.trace.now c.args.report.now c.min-shorter.result (omega (arith, c.min-shorter.ensures)) (omega (arith, c.min-shorter.ensures)))
+returns-else-trace-report-clause-first c = search (rules, first_end)

@@ -66,9 +66,5 @@ loop-round-preserved c =
     }
 
 pub returns : goal.returns
-returns c = λ p are.
-    let options = c.args.options.now in
-    let trace = c.args.trace.now in
-    let report = c.args.report.now in
-    let lines = drop c.loop-round.first c.args.lines.now in
-    grind (arith, common_steps, judged_at_end options p trace report c.requires.lines lines c.loop-round.machine c.loop-round.missed, left_none c.args.ends.now c.loop-round.round c.loop-round-test.false)
+returns c =
+    grind (arith, c.args.options.now, c.args.trace.now, c.args.report.now, drop c.loop-round.first c.args.lines.now, judged_at_end c.args.options.now, left_none c.args.ends.now c.loop-round.round c.loop-round-test.false)

@@ -1,3 +1,4 @@
+use Rattle.std.proofs.Common.{rules}
 use Rattle.std.proofs.Common.{◌≡◌, ◌+◌, ◌<◌, ◌∷◌, ℕ, List, drop, get_or, length, slice_get, Some, None, refl, subst, arith}
 use Rattle.std.proofs.lemmas.Option.{slice_get_read, slice_get-get_or}
 use Rattle.std.specs.List.{AllByRecursion}
@@ -45,20 +46,16 @@ loop-at-init c = λ options p from to before.
     }
 
 pub bounds-report-place : goal.bounds-report-place
-bounds-report-place c =
-    grind (arith, common_steps, all_seen, slice_get-get_or c.args.lines.now c.loop-at.at none c.loop-at-test.true, length_zip IsLineFor c.args.trace.now c.args.report.now c.requires.lines)
+bounds-report-place c = search (rules, all_seen, slice_get-get_or, length_zip)
 
 -- the lines at the next of the places
 is_line : (trace : List TraceLine) (lines : List OwnLine) (at : ℕ) (line : TraceLine) → at < length lines → AllByRecursion (λ (own : OwnLine). own.place < length trace) lines
     → line ≡ get_or trace (get_or lines at none).place line → slice_get trace (get_or lines at none).place ≡ Some line
-is_line trace lines at line less within is =
-    grind (arith, common_steps, slice_get_read trace (length trace) (get_or lines at none).place line refl, all_seen, slice_get-get_or lines at none less)
+is_line trace lines at line less within is = search (rules, slice_get_read, all_seen, slice_get-get_or, length, get_or)
 
 is_printed : (trace : List TraceLine) (report : List Line) (lines : List OwnLine) (at : ℕ) (printed : Line) → at < length lines → AllByRecursion (λ (own : OwnLine). own.place < length trace) lines
     → length report ≡ length trace → printed ≡ get_or report (get_or lines at none).place printed → slice_get report (get_or lines at none).place ≡ Some printed
-is_printed trace report lines at printed less within same is =
-    let inside = all_seen (λ (own : OwnLine). own.place < length trace) lines at (get_or lines at none) within (slice_get-get_or lines at none less) in
-    slice_get_read report (length report) (get_or lines at none).place printed refl (omega arith) is
+is_printed trace report lines at printed less within same is = search (rules, all_seen, slice_get_read, get_or, slice_get-get_or, length)
 
 pub take_step-requires-clause-stands : goal.take_step-requires-clause-stands
 take_step-requires-clause-stands c =

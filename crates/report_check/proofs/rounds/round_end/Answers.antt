@@ -1,3 +1,4 @@
+use Rattle.std.proofs.Common.{rules}
 use Rattle.std.proofs.Common.{◌<◌, length, refl, sym, ◌∙◌, arith}
 use Rattle.std.proofs.lemmas.Option.{slice_get_read}
 use Rattle.std.proofs.lemmas.Grind.{common_steps}
@@ -14,8 +15,7 @@ returns-then-is_sync-clause-round c =
     round_to_sync lines c.args.from place line c.requires.starts (slice_get_read lines (length lines) place line refl less c.index-trace-place.is) (sym c.is_sync.ensures ∙ c.if-is_sync.true) low c.loop-place.invariant.inside
 
 pub returns-then-is_sync-clause-next : goal.returns-then-is_sync-clause-next
-returns-then-is_sync-clause-next c =
-    grind (arith, common_steps, next_starts c.args.trace.now c.loop-place.place c.index-trace-place.result, slice_get_read c.args.trace.now (length c.args.trace.now) c.loop-place.place c.index-trace-place.result refl)
+returns-then-is_sync-clause-next c = search (rules, next_starts, slice_get_read, length)
 
 pub returns-clause-round : goal.returns-clause-round
 returns-clause-round c = grind (arith, common_steps, round_to_end c.args.trace.now c.args.from c.requires.starts (omega arith))

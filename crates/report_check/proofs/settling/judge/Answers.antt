@@ -1,3 +1,4 @@
+use Rattle.std.proofs.Common.{rules}
 use Rattle.std.proofs.Common.{◌≡◌, ◌+◌, ◌≤◌, get_or, slice_get, Some, sym, ◌∙◌, subst, arith, Option, ℕ}
 use Rattle.std.proofs.lemmas.Bool.{false≢true}
 use Rattle.std.proofs.lemmas.Option.{slice_get-get_or}
@@ -33,12 +34,7 @@ loop-next-preserved c = λ state at.
     ]
 
 pub returns-else-asked-next-clause-ahead : goal.returns-else-asked-next-clause-ahead
-returns-else-asked-next-clause-ahead c = λ state at.
-    let asked = c.args.asked.now in
-    let n = c.loop-next.next in
-    let a : Asked = get_or asked n none in
-    let is : slice_get asked n ≡ Some a = slice_get-get_or asked n none (omega (arith, c.loop-next-test.true)) in
-    ahead_of state c.args.trace.now c.args.report.now asked n a c.requires.rising is (omega (arith, c.if-asked-next.false, c.stamp-stamp.ensures state at))
+returns-else-asked-next-clause-ahead c = search (rules, get_or, slice_get-get_or, ahead_of)
 
 pub returns-after-loop-next-clause-ahead : goal.returns-after-loop-next-clause-ahead
 returns-after-loop-next-clause-ahead c = λ state at. none_ahead state c.args.trace.now c.args.report.now c.args.asked.now c.loop-next.next (omega (arith, c.loop-next-test.false))

@@ -1,3 +1,4 @@
+use Rattle.std.proofs.Common.{rules}
 use Rattle.std.proofs.Common.{◌≡◌, true, false, refl, sym, ap, ◌∙◌, arith}
 use Rattle.std.proofs.lemmas.Bool.{false≢true}
 use Rattle.std.specs.Vec.{with_item}
@@ -13,8 +14,7 @@ use Rattle.report_check.proofs.cache_buckets.CacheBuckets.take.Goals as goal
 
 pub catch_up-requires : goal.catch_up-requires
 catch_up-requires c =
-    let before = c.requires.buckets in
-    (part_at c.args.self.now before.0 before.1 c.bucket_number-at.result c.index_mut-bucket.result.now c.bucket_number-at.ensures.within c.index_mut-bucket.ensures.value).rising
+    grind (arith, c.requires.buckets, (part_at c.args.self.now c.requires.buckets.0 c.requires.buckets.1 c.bucket_number-at.result c.index_mut-bucket.result.now c.bucket_number-at.ensures.within c.index_mut-bucket.ensures.value).rising)
 
 pub returns-then-not-replies : goal.returns-then-not-replies
 returns-then-not-replies c = λ s are replied.
@@ -25,18 +25,10 @@ returns-then-not-replies c = λ s are replied.
     false≢true (sym c.if-not-replies.true ∙ c.replies.ensures.1 (replied ∙ sym (ap (λ (b : Cache). reply m.options b write) part ∙ own_reply m.options s write)))
 
 pub write-requires-clause-part : goal.write-requires-clause-part
-write-requires-clause-part c =
-    let m = c.args.self.now in
-    let before = c.requires.buckets in (
-      before.0,
-      before.1.reached,
-      c.catch_up.ensures ∙ caught_at m before.0 before.1 c.bucket_number-at.result c.index_mut-bucket.result.now c.bucket_number-at.ensures.within c.index_mut-bucket.ensures.value
-          ∙ ap (λ n. part_of m.options n before.0) c.bucket_number-at.ensures.value,
-    )
+write-requires-clause-part c = search (rules, caught_at, part_of)
 
 pub write-requires-clause-unworn : goal.write-requires-clause-unworn
-write-requires-clause-unworn c =
-    cache_unworn c.args.self.now.options c.catch_up.new.bucket (write_of c.args.op c.args.key.now c.args.value.now) c.args.outcome (sym c.is_accepted.ensures ∙ c.if-is_accepted.true) (c.replies.ensures.0 c.if-not-replies.false)
+write-requires-clause-unworn c = search (rules, cache_unworn, write_of)
 
 pub returns-in_ok-write : goal.returns-in_ok-write
 returns-in_ok-write c = λ s are.
