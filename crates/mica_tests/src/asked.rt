@@ -50,16 +50,16 @@ static ROWS: [Row; 2] = [
 
 /// What the client's thread sees of the server's.
 #[derive(Drop)]
-struct Progress {
-    bound: AtomicU32,
-    has_ended: AtomicBool,
+pub struct Progress {
+    pub bound: AtomicU32,
+    pub has_ended: AtomicBool,
 }
 
 /// A net that tells how many ports it bound.
 #[derive(Drop)]
-struct WatchedNet<'a, N> {
-    net: N,
-    progress: &'a Progress,
+pub struct WatchedNet<'a, N> {
+    pub net: N,
+    pub progress: &'a Progress,
 }
 
 impl<'a, N: Net> Net for WatchedNet<'a, N> {
@@ -135,17 +135,18 @@ fn serve_row<W: Threads + Wait + Sockets + Sync>(
 }
 
 /// The client's run, where the server has its ports.
-fn ask_row<W: Threads + Wait + Sockets + Sync>(
+pub fn ask_bound<W: Threads + Wait + Sockets + Sync>(
     rt: &W,
     alloc: Global,
     port: u16,
-    row: &Row,
+    ask: &str,
+    trace: &[u8],
     progress: &Progress,
 ) -> Result<Option<End>, NoMemory> {
     if !is_bound(progress) {
         return Ok(None);
     }
-    let words = format!(in alloc; "ask --port {port} --fronts 2 --partitions 2{}", row.ask)?;
+    let words = format!(in alloc; "ask --port {port} --fronts 2 --partitions 2{ask}")?;
     let mut net = MemNet::new(alloc, &[])?;
     let mut link = UdpLink::new(rt);
     let end = run_between(
@@ -155,7 +156,7 @@ fn ask_row<W: Threads + Wait + Sockets + Sync>(
         &mut net,
         &mut link,
         words.as_str(),
-        row.trace,
+        trace,
     )?;
     Ok(Some(end))
 }
@@ -174,7 +175,7 @@ fn serve_and_ask<W: Threads + Wait + Sockets<Listener = TcpListener, Stream = Tc
     let (served, asked) = join(
         rt,
         || serve_row(rt, alloc, port, row, &progress),
-        || ask_row(rt, alloc, port, row, &progress),
+        || ask_bound(rt, alloc, port, row.ask, row.trace, &progress),
     );
     Ok((served?, asked?))
 }

@@ -1,13 +1,11 @@
 //! A server that stays up, over a net in memory.
-//!
-//! That it takes more than a million datagrams is not tried here: a net in memory keeps room for each reply, with its mark.
 
 ghost use Rattle.std.specs.Prelude.{◌≡◌};
 
 use crate::datagrams::{BATCH, REPLIES};
 use crate::runs::words_of;
 use mica_cmd::Status;
-use mica_daemon::{Speaker, daemon};
+use mica_daemon::{Files, MemFiles, Speaker, daemon};
 use mica_io::{FreeGate, MemNet, MemSink, Net, NoMemory};
 use partition_table::Tables;
 use std::alloc::Global;
@@ -16,14 +14,15 @@ use std::test::Fail;
 use std::thread::Threads;
 
 /// The status and what the sink took, which has so much room.
-fn run_lasting<W: Threads + Wait + Sync>(
+pub fn run_lasting<W: Threads + Wait + Sync, F: Files, N: Net>(
     rt: &W,
     alloc: Global,
-    net: &mut MemNet,
+    files: &mut F,
+    net: &mut N,
     line: &str,
     room: u32,
 ) -> Result<(Status, MemSink), NoMemory>
-    requires { ⟦<MemNet as Net>⟧.binds net.old ≡ 0 }
+    requires { N.binds net.old ≡ 0 }
 {
     let words = words_of(alloc, line)?;
     let mut speaker = Speaker {
@@ -36,11 +35,25 @@ fn run_lasting<W: Threads + Wait + Sync>(
         alloc,
         words.as_slice(),
         &mut speaker,
+        files,
         net,
         &FreeGate,
         &mut tables,
     );
     Ok((status, speaker.sink))
+}
+
+// The same with no files.
+fn run_unfilled<W: Threads + Wait + Sync>(
+    rt: &W,
+    alloc: Global,
+    net: &mut MemNet,
+    line: &str,
+    room: u32,
+) -> Result<(Status, MemSink), NoMemory>
+    requires { ⟦<MemNet as Net>⟧.binds net.old ≡ 0 }
+{
+    run_lasting(rt, alloc, &mut MemFiles::new(alloc), net, line, room)
 }
 
 const WORDS: &str = "--mode store --partitions 1 --port 9000 --fronts 2";
@@ -52,7 +65,7 @@ fn says_that_it_is_ready(rt: HostRuntime) -> Result<(), Fail> {
     net.add_port(alloc, 9_000, 100, &[], &[])?;
     net.add_port(alloc, 9_001, 100, &[], &[])?;
     net.add_datagram(alloc, 9_000, BATCH)?;
-    let (status, sink) = run_lasting(&rt, alloc, &mut net, WORDS, 100)?;
+    let (status, sink) = run_unfilled(&rt, alloc, &mut net, WORDS, 100)?;
     assert!(rt; status == Status::Done);
     assert!(rt; sink.taken() == b"ready 9000 to 9001\nbatches 1 requests 2 bad 0\n".as_slice());
     assert!(rt; net.sent(9_000, 0) == Some(REPLIES));
@@ -65,7 +78,7 @@ fn is_not_ready_where_a_bind_fails(rt: HostRuntime) -> Result<(), Fail> {
     let alloc = rt.alloc();
     let mut net = MemNet::new(alloc, &[])?;
     net.add_port(alloc, 9_000, 100, &[], &[])?;
-    let (status, sink) = run_lasting(&rt, alloc, &mut net, WORDS, 100)?;
+    let (status, sink) = run_unfilled(&rt, alloc, &mut net, WORDS, 100)?;
     assert!(rt; status == Status::NetFault && sink.taken() == b"net fault\n".as_slice());
     Ok(())
 }
@@ -78,7 +91,7 @@ fn ends_where_it_cannot_say_so(rt: HostRuntime) -> Result<(), Fail> {
     net.add_port(alloc, 9_000, 100, &[], &[])?;
     net.add_port(alloc, 9_001, 100, &[], &[])?;
     net.add_datagram(alloc, 9_000, BATCH)?;
-    let (status, sink) = run_lasting(&rt, alloc, &mut net, WORDS, 5)?;
+    let (status, sink) = run_unfilled(&rt, alloc, &mut net, WORDS, 5)?;
     assert!(rt; status == Status::WriteFault && sink.taken() == b"ready".as_slice());
     assert!(rt; net.sent(9_000, 0).is_none());
     Ok(())
@@ -89,7 +102,7 @@ fn ends_where_it_cannot_say_so(rt: HostRuntime) -> Result<(), Fail> {
 fn has_no_number_of_batches(rt: HostRuntime) -> Result<(), Fail> {
     let alloc = rt.alloc();
     let mut net = MemNet::new(alloc, &[])?;
-    let (status, sink) = run_lasting(
+    let (status, sink) = run_unfilled(
         &rt,
         alloc,
         &mut net,

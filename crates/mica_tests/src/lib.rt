@@ -11,9 +11,15 @@ mod datagrams;
 #[cfg(test)]
 mod exclusive;
 #[cfg(test)]
+mod filled;
+#[cfg(test)]
+mod filled_udp;
+#[cfg(test)]
 mod lasting;
 #[cfg(test)]
 mod meeting;
+#[cfg(test)]
+mod repeated;
 #[cfg(test)]
 mod rounds;
 #[cfg(test)]

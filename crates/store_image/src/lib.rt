@@ -2,7 +2,7 @@
 //!
 //! The layer above may rely on this: what is read is the image whose text the bytes are, and a fault is the first one in
 //! the order of the format; what is written is the text, and an image has one. `image_of` gives an exact report of the
-//! trace, and with it the pairs that all partitions have after the trace's writes.
+//! trace, and with it the pairs that all partitions have after the trace's writes. `writes_of` gives the puts of an image's pairs.
 #![tactic(auto)]
 
 mod fault;

@@ -1,0 +1,183 @@
+//! A client beside a server that stays up, which is filled from a file: their datagrams pass real sockets.
+ghost use Rattle.std.specs.Prelude.{◌≡◌, ◌⊎◌, false, None, is_none, is_some, length, IfOk, IfSome, OnErr};
+
+use crate::asked::{Progress, WatchedNet, ask_bound};
+use crate::lasting::run_lasting;
+use crate::runs::{End, run_words};
+use mica_cmd::{MAX_SOURCE_LEN, Status};
+use mica_daemon::{Files, HostFiles, MemFiles};
+use mica_io::{Datagrams, Failed, FreeGate, MemSink, Net, NoMemory, UdpEnd, UdpNet};
+use std::alloc::Global;
+use std::fs;
+use std::net::{Net as Sockets, TcpListener, TcpStream};
+use std::process::Abort;
+use std::rt::Files as FileSystem;
+use std::sync::Wait;
+use std::sync::atomic::{AtomicBool, AtomicU32, Ordering};
+use std::test::Fail;
+use std::thread::{Threads, join};
+
+const FILE: &str = "apple_and_pear.image";
+
+/// A socket that says that it has ended after so many datagrams.
+#[derive(Drop)]
+struct CountedEnd {
+    end: UdpEnd,
+    left: u32,
+    has_ended: bool,
+}
+
+impl Datagrams for CountedEnd {
+    ghost port = { λ e. ⟦<UdpEnd as Datagrams>⟧.port e.end };
+
+    ghost traffic = { λ _. None };
+
+    ghost faults = { λ e. ⟦<UdpEnd as Datagrams>⟧.faults e.end };
+
+    ghost has_ended = { λ e. e.has_ended };
+
+    ghost has_received = { λ e. ⟦<UdpEnd as Datagrams>⟧.has_received e.end };
+
+    ghost script = { λ _. None };
+
+    fn recv(&mut self, out: &mut [u8]) -> Result<Option<usize>, Failed> {
+        if self.left == 0 {
+            self.has_ended = true;
+            return Ok(None);
+        }
+        self.left -= 1;
+        self.end.recv(out)
+    }
+
+    fn reply(&mut self, piece: &[u8]) -> Result<(), Failed> {
+        self.end.reply(piece)
+    }
+}
+
+/// Sockets that say so.
+#[derive(Drop)]
+struct CountedNet<'a, R> {
+    net: UdpNet<'a, R>,
+    times: u32,
+}
+
+impl<'a, R: Sockets> Net for CountedNet<'a, R> {
+    type End = CountedEnd;
+
+    ghost faults = { λ n. ⟦<UdpNet<'a, R> as Net>⟧.faults n.net };
+
+    ghost binds = { λ n. ⟦<UdpNet<'a, R> as Net>⟧.binds n.net };
+
+    ghost first = { λ n. ⟦<UdpNet<'a, R> as Net>⟧.first n.net };
+
+    ghost refused = { λ n. ⟦<UdpNet<'a, R> as Net>⟧.refused n.net };
+
+    ghost ports = { λ _. None };
+
+    ghost fails = { λ _. None };
+
+    fn bind(&mut self, port: u16) -> Result<CountedEnd, Failed> {
+        match self.net.bind(port) {
+            Ok(end) => Ok(CountedEnd {
+                end,
+                left: self.times,
+                has_ended: false,
+            }),
+            Err(failed) => Err(failed),
+        }
+    }
+
+    fn release(&mut self, end: CountedEnd) {
+        self.net.release(end.end);
+    }
+}
+
+/// The server's run, in which each front takes one datagram.
+fn serve_image<W: Threads + Wait + Sockets + Sync>(
+    rt: &W,
+    alloc: Global,
+    port: u16,
+    image: &[u8],
+    progress: &Progress,
+) -> Result<(Status, MemSink), NoMemory> {
+    let line = format!(in alloc;
+        "--mode store --partitions 2 --port {port} --fronts 2 --image {FILE}"
+    )?;
+    let mut files = MemFiles::new(alloc);
+    files.add(alloc, FILE, image, &[])?;
+    let net = CountedNet {
+        net: UdpNet::new(rt),
+        times: 1,
+    };
+    let mut net = WatchedNet { net, progress };
+    let end = run_lasting(rt, alloc, &mut files, &mut net, line.as_str(), 100);
+    progress.has_ended.store(true, Ordering::SeqCst);
+    end
+}
+
+/// Serves and asks side by side. Where a port is taken nobody asks.
+fn serve_and_ask<W: Threads + Wait + Sockets<Listener = TcpListener, Stream = TcpStream> + Sync>(
+    rt: &W,
+    alloc: Global,
+    port: u16,
+    image: &[u8],
+    trace: &[u8],
+) -> Result<((Status, MemSink), Option<End>), NoMemory> {
+    let progress = Progress {
+        bound: AtomicU32::new(0),
+        has_ended: AtomicBool::new(false),
+    };
+    let (served, asked) = join(
+        rt,
+        || serve_image(rt, alloc, port, image, &progress),
+        || ask_bound(rt, alloc, port, "", trace, &progress),
+    );
+    Ok((served?, asked?))
+}
+
+// What `image` makes of a trace, read back from a file.
+fn written_image(
+    rt: &(impl Abort + AllocGlobal + Threads + Wait + FileSystem + Sync),
+) -> Result<Vec<u8>, Fail> {
+    let image = run_words(
+        rt,
+        &FreeGate,
+        "image",
+        b"put apple red\nput pear blue\nput pear green\n",
+    )?;
+    assert!(rt; image.status == Status::Done);
+    fs::write(rt, FILE, image.sink.taken())?;
+    match HostFiles::new(rt).read(rt.alloc(), FILE, MAX_SOURCE_LEN) {
+        Ok(bytes) => Ok(bytes),
+        Err(_) => panic!(rt; "the file can't be read"),
+    }
+}
+
+// The keys of a server that the image fills are those of the trace.
+#[test]
+fn a_client_gets_what_an_image_has(rt: HostRuntime) -> Result<(), Fail> {
+    let image = written_image(&rt)?;
+    for place in 0..100u16 {
+        let port = 47_400 + 2 * place;
+        let (served, asked) = serve_and_ask(
+            &rt,
+            rt.alloc(),
+            port,
+            image.as_slice(),
+            b"get apple\nget pear\n",
+        )?;
+        let (status, sink) = served;
+        if let Some(asked) = asked {
+            assert!(rt; asked.status == Status::Done);
+            assert!(rt; asked.sink.taken() == b"get 1 hit red\nget 1 hit green\n".as_slice());
+            let said = format!(in rt.alloc();
+                "ready {port} to {}\nbatches 2 requests 2 bad 0\n",
+                port + 1
+            )?;
+            assert!(rt; status == Status::Done && sink.taken() == said.as_bytes());
+            return Ok(());
+        }
+        assert!(rt; status == Status::NetFault);
+    }
+    panic!(rt; "no two ports are free");
+}
