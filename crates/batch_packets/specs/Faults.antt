@@ -14,14 +14,14 @@ or_later None later = later
 or_later (Some fault) later = Some fault
 
 -- A fault is this first one. Want of memory is the one free answer.
-abbrev pub IsFirst : Option BatchFault → BatchFault → Type 0
-IsFirst first faults.NoMemory = Unit {0}
-IsFirst first fault = first ≡ Some fault
+abbrev pub IsFirstFault : Option BatchFault → BatchFault → Type 0
+IsFirstFault first faults.NoMemory = Unit {0}
+IsFirstFault first fault = first ≡ Some fault
 
 -- an answer is Ok only where there is no fault, and a fault only where that is the first one
 abbrev pub AgreesWith : {T : Type 0} → Option BatchFault → Result T BatchFault → Type 0
 AgreesWith first (Ok value) = first ≡ None
-AgreesWith first (Err fault) = IsFirst first fault
+AgreesWith first (Err fault) = IsFirstFault first fault
 
 -- an answer is Ok where there is no fault, and else the first one
 abbrev pub AnswersExactly : {T : Type 0} → Option BatchFault → Result T BatchFault → Type 0

@@ -6,7 +6,7 @@ use Rattle.std.proofs.lemmas.List.Sums.{sum_by-le, sum-map}
 use Rattle.std.proofs.lemmas.List.Filters.{sum_by-filter_both}
 use Rattle.std.proofs.lemmas.Grind.{common_steps}
 use Rattle.block_heap.specs.declared.block.Block.{Block}
-use Rattle.block_heap.specs.Blocks.{free_block, IsFree, BeginsFree, IsMerged, words_of, used_blocks, free_sizes, NoneFits, MayLack}
+use Rattle.block_heap.specs.Blocks.{free_block, IsFree, BeginsFree, IsCoalesced, words_of, used_blocks, free_sizes, NoneFits, MayLack}
 
 pub free_more : (block : Block) (blocks : List Block) → IsFree block → free_sizes (block ∷ blocks) ≡ block.size ∷ free_sizes blocks
 free_more block blocks free = ap (λ u. map (λ (b : Block). b.size) (cond (not u) (block ∷ filter (λ b. not b.used) blocks) (filter (λ b. not b.used) blocks))) free
@@ -28,7 +28,7 @@ few_by block blocks true used not_both few = grind (arith, common_steps)
 few_by block blocks false is_free not_both few = grind (arith, common_steps)
 
 -- a used block parts any two free ones
-are_few : (blocks : List Block) → IsMerged blocks → AreFew blocks
+are_few : (blocks : List Block) → IsCoalesced blocks → AreFew blocks
 are_few [] h = (omega arith, λ _. omega arith)
 are_few (block ∷ blocks) h = few_by block blocks block.used refl h.0 (are_few blocks h.1)
 
@@ -43,7 +43,7 @@ words_parted blocks =
     not_not false = refl
 
 -- a refusal implies the inequality
-pub MayLack-none_fits : (blocks : List Block) (need : ℕ) → IsMerged blocks → NoneFits blocks need → MayLack blocks need
+pub MayLack-none_fits : (blocks : List Block) (need : ℕ) → IsCoalesced blocks → NoneFits blocks need → MayLack blocks need
 MayLack-none_fits blocks need h none = grind (arith, common_steps, are_few blocks h, sum_by-le, mul-le-mul_right (need - 1) ((are_few blocks h).0), words_parted blocks)
 
 -- where a free block fits, it is not so that none does

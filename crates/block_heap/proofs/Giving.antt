@@ -5,7 +5,7 @@ use Rattle.std.specs.List.{Contains}
 use Rattle.std.proofs.lemmas.List.{append-nil}
 use Rattle.std.proofs.lemmas.Grind.{common_steps}
 use Rattle.block_heap.specs.declared.block.Block.{Block}
-use Rattle.block_heap.specs.Blocks.{free_block, used_block, IsFree, Fills, IsMerged, IsBlockList, HasUsed, used_blocks, words_of}
+use Rattle.block_heap.specs.Blocks.{free_block, used_block, IsFree, Fills, IsCoalesced, IsBlockList, HasUsed, used_blocks, words_of}
 use Rattle.block_heap.specs.Changes.{merged, IsGiven}
 use Rattle.block_heap.specs.Inside.{blocks_in, words_in}
 use Rattle.block_heap.specs.Tags.{HasBlock, EndsFree, IsLastFree, IsFirstFree}
@@ -24,7 +24,7 @@ IsBlockList-given words old new place list given =
     (subst (λ xs. Fills 0 xs words) given.was list.fills) (λ at h. h) in
     record {
       fills = subst (λ xs. Fills 0 xs words) (sym given.now) (merged_fills 0 words freed fills);
-      merged = subst IsMerged (sym given.now) (merged_merged freed);
+      merged = subst IsCoalesced (sym given.now) (merged_merged freed);
     }
 
 -- the blocks before a place without the free one that ends there
@@ -38,18 +38,18 @@ back_of after None none = (after, refl)
 back_of after (Some first) is = (is.0, is.1)
 
 -- a free block as one with the free one behind it
-right_merged : (place size : ℕ) (after : List Block) (right : Option Block) → IsMerged after → (is : IsFirstFree after right) → merged (free_block place size ∷ after) ≡ free_block place (size + words_in right) ∷ (back_of after right is).0
+right_merged : (place size : ℕ) (after : List Block) (right : Option Block) → IsCoalesced after → (is : IsFirstFree after right) → merged (free_block place size ∷ after) ≡ free_block place (size + words_in right) ∷ (back_of after right is).0
 right_merged place size after None h none = grind (arith, common_steps, merged_same after h, joined_apart (free_block place size) after)
 right_merged place size after (Some first) h is = grind (arith, common_steps, merged_same after h)
 
 -- a list that ends in a used block
-closed : (xs ys zs : List Block) → IsMerged (xs ++ zs) → (EndsFree xs → ⊥) → IsMerged ys → IsMerged (xs ++ ys)
+closed : (xs ys zs : List Block) → IsCoalesced (xs ++ zs) → (EndsFree xs → ⊥) → IsCoalesced ys → IsCoalesced (xs ++ ys)
 closed [] ys zs h ends is = is
 closed (x ∷ []) ys zs h ends is = (λ both. ends both.0, is)
 closed (x ∷ y ∷ xs) ys zs h ends is = (h.0, closed (y ∷ xs) ys zs h.1 ends is)
 
 -- a freed block as one with its free neighbours
-all_merged : (place size : ℕ) (before after : List Block) (left right : Option Block) → IsMerged (before ++ used_block place size ∷ after) → (last : IsLastFree before left) → (first : IsFirstFree after right) → place ≡ words_of (front_of before left last).0 + words_in left
+all_merged : (place size : ℕ) (before after : List Block) (left right : Option Block) → IsCoalesced (before ++ used_block place size ∷ after) → (last : IsLastFree before left) → (first : IsFirstFree after right) → place ≡ words_of (front_of before left last).0 + words_in left
     → IfSome left (λ block. block.place ≡ words_of (front_of before left last).0)
     → merged (before ++ free_block place size ∷ after) ≡ (front_of before left last).0 ++ free_block (place - words_in left) (words_in left + size + words_in right) ∷ (back_of after right first).0
 all_merged place size before after None right h last first here lies =
@@ -67,7 +67,7 @@ all_merged place size before after (Some block) right h last first here lies =
     ap (λ xs. xs ++ used_block place size ∷ after) last.1 ∙ append_assoc front (block ∷ []) (used_block place size ∷ after) in
     let freed : before ++ free_block place size ∷ after ≡ front ++ rest =
     ap (λ xs. xs ++ free_block place size ∷ after) last.1 ∙ append_assoc front (block ∷ []) (free_block place size ∷ after) in
-    let apart = merged_instead front (block ∷ used_block place size ∷ after) (merged rest) (subst IsMerged old h) (joined_begins block (merged (free_block place size ∷ after))) (merged_merged rest) in
+    let apart = merged_instead front (block ∷ used_block place size ∷ after) (merged rest) (subst IsCoalesced old h) (joined_begins block (merged (free_block place size ∷ after))) (merged_merged rest) in
     let there : block.place ≡ place - block.size = omega arith in
     let same : block.size + (size + words_in right) ≡ block.size + size + words_in right = omega arith in
     grind (arith, common_steps, freed, merged_behind front rest apart)

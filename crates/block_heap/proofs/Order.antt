@@ -3,7 +3,7 @@ use Rattle.std.proofs.Common.{◌≡◌, ℕ, ◌+◌, List, [], ◌∷◌, ◌+
 use Rattle.std.proofs.lemmas.List.Sums.{sum_by-cons, sum_by-append}
 use Rattle.std.proofs.lemmas.Grind.{common_steps}
 use Rattle.block_heap.specs.declared.block.Block.{Block}
-use Rattle.block_heap.specs.Blocks.{Fills, BeginsFree, IsMerged, words_of}
+use Rattle.block_heap.specs.Blocks.{Fills, BeginsFree, IsCoalesced, words_of}
 
 pub words_of-cons : (block : Block) (blocks : List Block) → words_of (block ∷ blocks) ≡ block.size + words_of blocks
 words_of-cons block blocks = sum_by-cons (λ (b : Block). b.size) block blocks
@@ -31,12 +31,12 @@ back_fills from end (x ∷ xs) ys h = grind (arith, common_steps, back_fills (fr
 pub fills_instead : (from end : ℕ) (xs ys zs : List Block) → Fills from (xs ++ ys) end → ((at : ℕ) → Fills at ys end → Fills at zs end) → Fills from (xs ++ zs) end
 fills_instead from end xs ys zs h instead = fills-append from end xs zs (front_fills from end xs ys h) (instead _ (back_fills from end xs ys h))
 
-pub back_merged : (xs ys : List Block) → IsMerged (xs ++ ys) → IsMerged ys
+pub back_merged : (xs ys : List Block) → IsCoalesced (xs ++ ys) → IsCoalesced ys
 back_merged [] ys h = h
 back_merged (x ∷ xs) ys h = back_merged xs ys h.1
 
 -- the same for blocks that begin with a free one only where the others did
-pub merged_instead : (xs ys zs : List Block) → IsMerged (xs ++ ys) → (BeginsFree zs → BeginsFree ys) → IsMerged zs → IsMerged (xs ++ zs)
+pub merged_instead : (xs ys zs : List Block) → IsCoalesced (xs ++ ys) → (BeginsFree zs → BeginsFree ys) → IsCoalesced zs → IsCoalesced (xs ++ zs)
 merged_instead [] ys zs h begins is = is
 merged_instead (x ∷ []) ys zs h begins is = (λ both. h.0 (both.0, begins both.1), is)
 merged_instead (x ∷ y ∷ xs) ys zs h begins is = (h.0, merged_instead (y ∷ xs) ys zs h.1 begins is)

@@ -2,7 +2,7 @@
 use Rattle.std.proofs.Common.{◌≡◌, ℕ, zero, suc, ◌+◌, ◌-◌, ◌<◌, ◌≤◌, List, [], ◌∷◌, ◌++◌, refl, sym, subst, arith}
 use Rattle.std.proofs.lemmas.Grind.{common_steps}
 use Rattle.block_heap.specs.declared.block.Block.{Block}
-use Rattle.block_heap.specs.Blocks.{free_block, used_block, Fills, IsMerged, IsBlockList, words_of}
+use Rattle.block_heap.specs.Blocks.{free_block, used_block, Fills, IsCoalesced, IsBlockList, words_of}
 use Rattle.block_heap.specs.Changes.{rest_of, IsTaken}
 use Rattle.block_heap.proofs.Order.{words_of-fills, back_fills, fills_instead, back_merged, merged_instead}
 
@@ -13,11 +13,11 @@ rest_fills from end place (suc size) after here h = (here, (omega arith), h)
 taken_fills : (from end place size need : ℕ) (after : List Block) → 0 < need → need ≤ size → Fills from (free_block place size ∷ after) end → Fills from (used_block place need ∷ (rest_of (place + need) (size - need) ++ after)) end
 taken_fills from end place size need after some enough h = grind (arith, common_steps)
 
-rest_merged : (place size other more : ℕ) (after : List Block) → IsMerged (free_block place size ∷ after) → IsMerged (rest_of other more ++ after)
+rest_merged : (place size other more : ℕ) (after : List Block) → IsCoalesced (free_block place size ∷ after) → IsCoalesced (rest_of other more ++ after)
 rest_merged place size other zero after h = h.1
 rest_merged place size other (suc more) after h = (h.0, h.1)
 
-taken_merged : (place size need : ℕ) (before after : List Block) → IsMerged (before ++ free_block place size ∷ after) → IsMerged (before ++ used_block place need ∷ (rest_of (place + need) (size - need) ++ after))
+taken_merged : (place size need : ℕ) (before after : List Block) → IsCoalesced (before ++ free_block place size ∷ after) → IsCoalesced (before ++ used_block place need ∷ (rest_of (place + need) (size - need) ++ after))
 taken_merged place size need before after h =
     let own = back_merged before (free_block place size ∷ after) h in
     merged_instead before (free_block place size ∷ after) (used_block place need ∷ (rest_of (place + need) (size - need) ++ after)) h (λ e. cc)
@@ -27,12 +27,12 @@ taken_merged place size need before after h =
 pub IsBlockList-taken : (words : ℕ) (old new : List Block) (place need : ℕ) → 0 < need → IsBlockList words old → IsTaken old new place need → IsBlockList words new
 IsBlockList-taken words old new place need some list taken =
     let fills = subst (λ xs. Fills 0 xs words) taken.was list.fills in
-    let merged = subst IsMerged taken.was list.merged in
+    let merged = subst IsCoalesced taken.was list.merged in
     record {
       fills = subst (λ xs. Fills 0 xs words) (sym taken.now)
           (fills_instead 0 words taken.before (free_block place taken.size ∷ taken.after)
           (used_block place need ∷ (rest_of (place + need) (taken.size - need) ++ taken.after)) fills (λ at. taken_fills at words place taken.size need taken.after some taken.enough));
-      merged = subst IsMerged (sym taken.now) (taken_merged place taken.size need taken.before taken.after merged);
+      merged = subst IsCoalesced (sym taken.now) (taken_merged place taken.size need taken.before taken.after merged);
     }
 
 pub words_of-list : (words : ℕ) (blocks : List Block) → IsBlockList words blocks → words_of blocks ≡ words

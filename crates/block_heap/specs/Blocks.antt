@@ -22,14 +22,14 @@ BeginsFree [] = ⊥
 BeginsFree (block ∷ _) = IsFree block
 
 -- no free block is followed by a free one
-abbrev pub IsMerged : List Block → Type 0
-IsMerged [] = Unit {0}
-IsMerged (block ∷ blocks) = (¬ (IsFree block × BeginsFree blocks)) × IsMerged blocks
+abbrev pub IsCoalesced : List Block → Type 0
+IsCoalesced [] = Unit {0}
+IsCoalesced (block ∷ blocks) = (¬ (IsFree block × BeginsFree blocks)) × IsCoalesced blocks
 
 -- the blocks fill a heap of this many words, and no two free ones touch
 pub record IsBlockList (words : ℕ) (blocks : List Block) : Type 0 where
   pub fills : Fills 0 blocks words
-  pub merged : IsMerged blocks
+  pub merged : IsCoalesced blocks
 
 -- the words of all blocks
 abbrev pub words_of : List Block → ℕ

@@ -18,15 +18,15 @@ pub record IsTaken (old new : List Block) (place need : ℕ) : Type 0 where
   pub now : new ≡ before ++ used_block place need ∷ (rest_of (place + need) (size - need) ++ after)
 
 -- a block before others, as one with the first of them where both are free
-abbrev pub joined : Block → List Block → List Block
-joined block [] = block ∷ []
-joined block (next ∷ rest) =
+abbrev pub coalesced : Block → List Block → List Block
+coalesced block [] = block ∷ []
+coalesced block (next ∷ rest) =
     if block.used || next.used then block ∷ next ∷ rest else free_block block.place (block.size + next.size) ∷ rest
 
 -- the blocks with free neighbours made one
 abbrev pub merged : List Block → List Block
 merged [] = []
-merged (block ∷ blocks) = joined block (merged blocks)
+merged (block ∷ blocks) = coalesced block (merged blocks)
 
 -- The used block at the place is free now, and one with its free neighbours. All other blocks stay.
 pub record IsGiven (old new : List Block) (place : ℕ) : Type 0 where

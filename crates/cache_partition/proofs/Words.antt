@@ -69,7 +69,7 @@ pub use Rattle.circular_log.proofs.SpeltItem.{spelt_item}
 pub use Rattle.circular_log.specs.LogItem.{HasItem, IsItem, room_at}
 pub use Rattle.circular_log.specs.LogCarry.{Carries, IsTouchOf, MayCarry}
 pub use Rattle.circular_log.specs.LogWrite.{LeavesItem, MayAppend, MayRewrite, with_item, written_record}
-pub use Rattle.lossy_index.specs.Place.{GivesWay, HoldsOfNone, Takes, empty, oldest, passed}
+pub use Rattle.lossy_index.specs.Place.{GivesWay, HoldsOfNone, TakesSlot, empty, oldest, passed}
 pub use Rattle.lossy_index.specs.Slot.{HasNoSlot, IsFoundAt, IsPassed, IsSlotOf, offset_in}
 pub use Rattle.cache_partition.specs.Gained.{Gains, MayWrite, marked_with}
-pub use Rattle.cache_partition.specs.Sought.{AppendsBy, AppendsValue, IsTaken, had_record, had_record_by, kept_offset, kept_offset_by}
+pub use Rattle.cache_partition.specs.Sought.{AppendsBy, AppendsValue, IsAcceptable, had_record, had_record_by, kept_offset, kept_offset_by}

@@ -1,11 +1,11 @@
 -- A write from its begin to its end: when its events may happen, and what it has made of the partition.
 use Rattle.partition_model.specs.CacheStep as cs
 use Rattle.std.proofs.lemmas.Grind.{common_steps}
-use Rattle.cache_partition.proofs.Words.{AcceptedWrite, Add, Allows, AppendsBy, AppendsValue, Carries, FullBlock, IsItem, IsTaken, IsTouchOf, Stored, Touch, appended_own, found_key, offset_in, refused_step, spelt_item, tail_past, touched_is, window_kept}
+use Rattle.cache_partition.proofs.Words.{AcceptedWrite, Add, Allows, AppendsBy, AppendsValue, Carries, FullBlock, IsItem, IsAcceptable, IsTouchOf, Stored, Touch, appended_own, found_key, offset_in, refused_step, spelt_item, tail_past, touched_is, window_kept}
 use Rattle.cache_partition.proofs.Words.{Allows, AreBytes, Begins, Bool, Cache, CacheMode, Del, Ends, Gains, HasNoSlot, Idle, IsMain}
 use Rattle.cache_partition.proofs.Words.{IsOwnerStep, IsSlotOf, IsWrite, Kept, KeyFits, LeavesItem, List, MatchOption, MayAppend, MayBegin, MayEnd}
 use Rattle.cache_partition.proofs.Words.{MayGive, MayMark, MayRewrite, MayWrite, None, Op, Option, Options, Outcome, OwnerState, Put, PutsEntry}
-use Rattle.cache_partition.proofs.Words.{Record, SLOTS, Some, SpellsItem, StandsFor, State, Takes, Worn, Write, [], accepted_in, accepted_is_length}
+use Rattle.cache_partition.proofs.Words.{Record, SLOTS, Some, SpellsItem, StandsFor, State, TakesSlot, Worn, Write, [], accepted_in, accepted_is_length}
 use Rattle.cache_partition.proofs.Words.{accepted_step, after, ap, arith, bucket_in, cached_in, cell_at, cond, ended_gains, entry_in}
 use Rattle.cache_partition.proofs.Words.{entry_not_empty, entry_of, entry_offset, entry_offset-entry_of, entry_tag-entry_of, false, fits_kept}
 use Rattle.cache_partition.proofs.Words.{had_record, had_record_by, is_accepted, is_live, is_some, item_in, item_room, item_size, item_words}
@@ -35,10 +35,10 @@ add_reply o w found none = ap (cs.reply_of Add (options_in o) w) none
 
 -- a delete and a touch are accepted
 
-pub delete_taken : (o : OwnerState) (key value : List ℕ) → IsTaken o (write_of Del key value)
+pub delete_taken : (o : OwnerState) (key value : List ℕ) → IsAcceptable o (write_of Del key value)
 delete_taken o key value = elim (had_record o key) as (λ b. is_accepted (cs.reply_of Del (options_in o) (write_of Del key value) b) ≡ true) [ true ↦ refl | false ↦ refl ]
 
-pub touch_taken : (o : OwnerState) (key value : List ℕ) → IsTaken o (write_of Touch key value)
+pub touch_taken : (o : OwnerState) (key value : List ℕ) → IsAcceptable o (write_of Touch key value)
 touch_taken o key value = elim (had_record o key) as (λ b. is_accepted (cs.reply_of Touch (options_in o) (write_of Touch key value) b) ≡ true) [ true ↦ refl | false ↦ refl ]
 
 -- before the partition is worn the machine gives this reply
@@ -100,7 +100,7 @@ pub record Appends (o : OwnerState) (w : Write) (b t p : ℕ) (value : List ℕ)
   pub may : MayAppend (marked_with o b w t) p w.key value
   pub ready : (q : OwnerState) → HasStored o w b t p value q → (marked_in q.phase b ≡ 1) × IsMain q.shape b
   pub closes : (old : Option ℕ) → MatchOption old (HasNoSlot o b w.key) (IsSlotOf o b w.key) → (q q' : OwnerState) (slot tag : ℕ) → HasStored o w b t p value q
-      → Takes q b old slot → tag ≡ tag_of w.key → q' ≡ after (PutsEntry b slot (entry_of tag p)) q → Kept q' → Closes o w b t q'
+      → TakesSlot q b old slot → tag ≡ tag_of w.key → q' ≡ after (PutsEntry b slot (entry_of tag p)) q → Kept q' → Closes o w b t q'
 
 -- the record that keeps a put, by its offset
 abbrev KeptAt : Option Record → Option ℕ → Type 0
@@ -165,7 +165,7 @@ module _ (o : OwnerState) (s : Kept o) (may : MayWrite o) (w : Write) (is : IsWr
 
   -- The write is marked by this stamp
 
-  module _ (taken : IsTaken o w) (t : ℕ) (stamp : t ≡ stamp_of (options_in o) (o.history ++ w ∷ [])) where
+  module _ (taken : IsAcceptable o w) (t : ℕ) (stamp : t ≡ stamp_of (options_in o) (o.history ++ w ∷ [])) where
     abbrev accepted : AcceptedWrite o
     accepted = record {
       kept = s;
@@ -284,7 +284,7 @@ module _ (o : OwnerState) (s : Kept o) (may : MayWrite o) (w : Write) (is : IsWr
       own_live : tail_of (made h w).stamp ≤ p + o.shape.words
       own_live = omega (arith, short, tail_past h.m.stamp (item_size w.key value), ap (λ (z : Cache). tail_of z.stamp) (appends_made value adds))
 
-      before : (old : Option ℕ) (slot : ℕ) → MatchOption old (HasNoSlot o b w.key) (IsSlotOf o b w.key) → Takes filled b old slot → (slot < SLOTS) × Before h accepted slot
+      before : (old : Option ℕ) (slot : ℕ) → MatchOption old (HasNoSlot o b w.key) (IsSlotOf o b w.key) → TakesSlot filled b old slot → (slot < SLOTS) × Before h accepted slot
       before None slot none gives = slot_that_gives_way h accepted none (new_record h.m w.key value) its_own refl own_live filled refl
           (λ i l. put_entry o accepted p xs few b i (let main = main o accepted in omega arith) l) filled_stamp slot gives
       before (Some old) slot found same =
@@ -309,7 +309,7 @@ module _ (o : OwnerState) (s : Kept o) (may : MayWrite o) (w : Write) (is : IsWr
             let is = at ∙ put_same o accepted p xs few in
             let entry_is = entry ∙ (λ j. after (PutsEntry b slot (entry_of (tag_is j) p)) (is j)) in
             closes (after (PutsEntry b slot (entry_of (tag_of w.key) p)) filled).words
-            (stands slot (before old slot found (subst (λ (z : OwnerState). Takes z b old slot) is takes)) (subst Kept entry_is k)) q' entry_is;
+            (stands slot (before old slot found (subst (λ (z : OwnerState). TakesSlot z b old slot) is takes)) (subst Kept entry_is k)) q' entry_is;
       }
 
       pub appends : (c at : ℕ) → c ≡ b → at ≡ tail_of (stamp_in o) → Appends o w c t at value

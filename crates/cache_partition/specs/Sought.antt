@@ -38,8 +38,8 @@ abbrev pub had_record : OwnerState → List ℕ → Bool
 had_record o key = had_record_by (state_in o) key
 
 -- the machine of a partition that is not worn accepts the write
-abbrev pub IsTaken : OwnerState → Write → Type 0
-IsTaken o write = is_accepted (reply_of write.op (options_in o) write (had_record o write.key)) ≡ true
+abbrev pub IsAcceptable : OwnerState → Write → Type 0
+IsAcceptable o write = is_accepted (reply_of write.op (options_in o) write (had_record o write.key)) ≡ true
 
 abbrev pub AppendsBy : Options → State → Write → List ℕ → Type 0
 AppendsBy options (cache_state s) write value = after_write options s write ≡ after_append s (new_record s write.key value)

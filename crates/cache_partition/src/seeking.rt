@@ -8,7 +8,7 @@ ghost use Rattle.epoch_core.specs.Shape.{IsMain};
 ghost use Rattle.epoch_core.specs.OwnerState.{options_in, bucket_in};
 ghost use Rattle.epoch_core.specs.Kept.{Kept};
 ghost use Rattle.cache_partition.specs.Gained.{MayWrite, marked_with};
-ghost use Rattle.cache_partition.specs.Sought.{IsSought, IsTaken};
+ghost use Rattle.cache_partition.specs.Sought.{IsSought, IsAcceptable};
 
 use epoch_core::{OwnerWords, WordAt};
 use lossy_index::find_hashed;
@@ -75,7 +75,7 @@ pub(crate) fn begin<W: OwnerWords>(
     requires may { MayWrite (W.owner words.old) }
     requires bucket { bucket ≡ bucket_in (W.owner words.old) key.now }
     requires write { IsWrite (write_of op key.now value.now) }
-    requires taken { IsTaken (W.owner words.old) (write_of op key.now value.now) }
+    requires taken { IsAcceptable (W.owner words.old) (write_of op key.now value.now) }
     requires stamp { stamp ≡ stamp_of (options_in (W.owner words.old))
         ((W.owner words.old).history ++ write_of op key.now value.now ∷ []) }
     ensures marked { W.owner words.new ≡ marked_with (W.owner words.old) bucket

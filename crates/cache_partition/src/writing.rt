@@ -7,7 +7,7 @@ ghost use Rattle.partition_model.specs.History.{stamp_of};
 ghost use Rattle.epoch_core.specs.OwnerState.{options_in};
 ghost use Rattle.epoch_core.specs.Kept.{Kept};
 ghost use Rattle.cache_partition.specs.Gained.{MayWrite, Gains};
-ghost use Rattle.cache_partition.specs.Sought.{AppendsValue, IsSought, IsTaken, kept_offset};
+ghost use Rattle.cache_partition.specs.Sought.{AppendsValue, IsSought, IsAcceptable, kept_offset};
 
 use crate::seeking::{Sought, begin, seek};
 use circular_log::{append_hashed, is_live, rewrite};
@@ -21,7 +21,7 @@ pub(crate) fn put<W: OwnerWords>(words: &mut W, key: &[u8], value: &[u8]) -> u64
     requires may { MayWrite (W.owner words.old) }
     requires key { KeyFits key.now }
     requires value { ValueFits value.now }
-    requires taken { IsTaken (W.owner words.old) (write_of Put key.now value.now) }
+    requires taken { IsAcceptable (W.owner words.old) (write_of Put key.now value.now) }
     ensures gains { Gains (W.owner words.old) (W.owner words.new)
         (write_of Put key.entry.now value.entry.now) }
     ensures stamp { result ≡ stamp_of (options_in (W.owner words.new)) (W.owner words.new).history }
@@ -68,7 +68,7 @@ fn put_in_place<W: OwnerWords>(
     requires kept { Kept (W.owner words.old) }
     requires may { MayWrite (W.owner words.old) }
     requires write { IsWrite (write_of Put key.now value.now) }
-    requires taken { IsTaken (W.owner words.old) (write_of Put key.now value.now) }
+    requires taken { IsAcceptable (W.owner words.old) (write_of Put key.now value.now) }
     requires sought { IsSought (W.owner words.old) key.now sought.now }
     requires in_place { kept_offset (W.owner words.old) (write_of Put key.now value.now)
         ≡ Some offset }
@@ -97,7 +97,7 @@ pub(crate) fn put_at_tail<W: OwnerWords>(
     requires may { MayWrite (W.owner words.old) }
     requires value { ValueFits value.now }
     requires write { IsWrite (write_of op key.now value.now) }
-    requires taken { IsTaken (W.owner words.old) (write_of op key.now value.now) }
+    requires taken { IsAcceptable (W.owner words.old) (write_of op key.now value.now) }
     requires sought { IsSought (W.owner words.old) key.now sought.now }
     requires at_tail { AppendsValue (W.owner words.old) (write_of op key.now value.now) value.now }
     ensures gains { Gains (W.owner words.old) (W.owner words.new)

@@ -1,7 +1,7 @@
 -- What the stores of each call make of a chain and its index.
 use Rattle.chained_index.proofs.Words.{rules, SLOTS, ◌≡◌, ◌≢◌, ℕ, ◌+◌, ◌-◌, ◌*◌, ◌<◌, ◌≤◌, ◌⊎◌, List, [], ◌∷◌, ◌++◌, length, take, set, refl, sym, ap, ◌∙◌}
 use Rattle.chained_index.proofs.Words.{subst, arith, length-set, Contains, Contains-push, OwnerState, PutsEntry, PutsLink, IsMain, IsBucket, entry_in}
-use Rattle.chained_index.proofs.Words.{marked_in, InChain, IsFreeSpare, after, Kept, ends_main, Spot, ChainEnd, entries_of, number_of}
+use Rattle.chained_index.proofs.Words.{marked_in, InChain, IsFreeSpare, after, Kept, ends_main, Spot, ChainEnd, entries_of, place_in_chain}
 use Rattle.chained_index.proofs.Words.{entries_without, IsUsed, EndsAt, Index, IsIndexOf, LacksPlace, last_of, link_in, in_chain, all_differ, at_most}
 use Rattle.chained_index.proofs.Words.{Contains-get_or, take-length, take-suc, length-take, length-append, length_push, common_steps, append-nil}
 use Rattle.chained_index.proofs.Words.{subst₂, inr, inl, IsPermutation, IsPermutation-sym, IsBlank, Contains-append_left, Contains-push_cases}
@@ -17,14 +17,14 @@ use Rattle.chained_index.proofs.Walking.{list, last_bucket}
 
 -- The entry of a used spot is changed.
 module _ (o : OwnerState) (index : Index) (b : ℕ) (v : View o index b) (spot : Spot) (u : IsUsed o b spot) (x y : ℕ) (is : x ≡ y) where
-  spot_entered : Entered o index b v (b ∷ v.behind) (words_after (PutsEntry spot.bucket spot.slot x) o) (set (entries_of o b) (number_of o b spot) y)
+  spot_entered : Entered o index b v (b ∷ v.behind) (words_after (PutsEntry spot.bucket spot.slot x) o) (set (entries_of o b) (place_in_chain o b spot) y)
   spot_entered =
       let xs : List ℕ = entries_of o b in
       let at_k = place o index b v spot u in
       let number = number_is o index b v spot u in
-      entered o index b v (none_entered o index b v) at_k.0 spot.bucket spot.slot x at_k.1 at_k.2 u.in_bucket (set xs (number_of o b spot) y)
-      (ap (at (set xs (number_of o b spot) y)) (sym number) ∙ (get_or-set_same xs (number_of o b spot) y 0 (is_within o index b v spot u) ∙ sym is))
-      (λ i n. get_or-set_other xs (number_of o b spot) i y 0 (λ e. n (e ∙ number)))
+      entered o index b v (none_entered o index b v) at_k.0 spot.bucket spot.slot x at_k.1 at_k.2 u.in_bucket (set xs (place_in_chain o b spot) y)
+      (ap (at (set xs (place_in_chain o b spot) y)) (sym number) ∙ (get_or-set_same xs (place_in_chain o b spot) y 0 (is_within o index b v spot u) ∙ sym is))
+      (λ i n. get_or-set_other xs (place_in_chain o b spot) i y 0 (λ e. n (e ∙ number)))
 
 -- where the owner's fact is known after the store alone
 pub replaced : (o p : OwnerState) → Kept p → (spot : Spot) (x : ℕ) → x ≢ 0 → p ≡ after (PutsEntry spot.bucket spot.slot x) o → (b : ℕ) → marked_in o.phase b ≡ 1
@@ -34,8 +34,8 @@ replaced o p kept spot x some is b one u index known =
     let t = chained (after (PutsEntry spot.bucket spot.slot x) o) stored in
     let v = view o (chained_before o spot.bucket spot.slot x u.in_bucket t) index known b (ends_main (after (PutsEntry spot.bucket spot.slot x) o) stored o.phase refl b one) in
     let xs : List ℕ = entries_of o b in
-    kept_buckets o index b v (spot_entered o index b v spot u x x refl) p kept is (All-set (λ z. z ≢ 0) xs (number_of o b spot) x some v.filled.used)
-    (omega (arith, v.filled.size, length-set xs (number_of o b spot) x))
+    kept_buckets o index b v (spot_entered o index b v spot u x x refl) p kept is (All-set (λ z. z ≢ 0) xs (place_in_chain o b spot) x some v.filled.used)
+    (omega (arith, v.filled.size, length-set xs (place_in_chain o b spot) x))
 
 -- A call in the chain of a main bucket that ends here.
 pub record Call (o : OwnerState) (index : Index) (b : ℕ) (end : ChainEnd) : Type 0 where
@@ -135,7 +135,7 @@ module _ (o : OwnerState) (index : Index) (b : ℕ) (end : ChainEnd) (call : Cal
       m = after (PutsEntry end.bucket (end.used - 1) 0) (after (PutsEntry spot.bucket spot.slot y) o)
 
       abbrev moved : List ℕ
-      moved = set xs (number_of o b spot) (at xs (length xs - 1))
+      moved = set xs (place_in_chain o b spot) (at xs (length xs - 1))
 
       abbrev ys : List ℕ
       ys = entries_without o b spot
@@ -144,7 +144,7 @@ module _ (o : OwnerState) (index : Index) (b : ℕ) (end : ChainEnd) (call : Cal
       there = omega (arith, used_some, size)
 
       long : length ys ≡ length xs - 1
-      long = let size = length-set xs (number_of o b spot) (at xs (length xs - 1)) in omega (arith, length-take (length xs - 1) moved)
+      long = let size = length-set xs (place_in_chain o b spot) (at xs (length xs - 1)) in omega (arith, length-take (length xs - 1) moved)
 
       value : y ≡ at xs (length xs - 1)
       value = grind (arith, used_some, call.ends.within, is_last, last, there, call.v.filled.entries (length behind) (end.used - 1))
@@ -155,11 +155,11 @@ module _ (o : OwnerState) (index : Index) (b : ℕ) (end : ChainEnd) (call : Cal
           let within = call.ends.within in
           entered o index b call.v (spot_entered o index b call.v spot u y (at xs (length xs - 1)) value) (length behind) end.bucket (end.used - 1) 0
           (omega arith) last (omega arith) ys (get_or_past ys (SLOTS * length behind + (end.used - 1)) 0 (omega (arith, there, long)))
-          (λ i n. let size = length-set xs (number_of o b spot) (at xs (length xs - 1)) in
+          (λ i n. let size = length-set xs (place_in_chain o b spot) (at xs (length xs - 1)) in
           grind (arith, get_or_past ys i 0, get_or_past moved i 0, get_or-take (length xs - 1) moved i 0, long, there))
 
       used : AllUsed ys
-      used = All-take (λ z. z ≢ 0) (length xs - 1) moved (All-set (λ z. z ≢ 0) xs (number_of o b spot) (at xs (length xs - 1))
+      used = All-take (λ z. z ≢ 0) (length xs - 1) moved (All-set (λ z. z ≢ 0) xs (place_in_chain o b spot) (at xs (length xs - 1))
           (call.v.filled.used (length xs - 1) 0 (omega (arith, used_some, size))) call.v.filled.used)
 
       -- its bucket stays where it is the main one or has more entries

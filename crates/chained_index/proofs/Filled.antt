@@ -5,7 +5,7 @@ use Rattle.chained_index.proofs.Words.{length-take, Contains, dite, ℕ_discrete
 use Rattle.chained_index.proofs.Words.{spares_behind, OwnerState, IsBucket, entry_at, word_count, entry_in, link_in, InChain, IsDense, entries_in}
 use Rattle.chained_index.proofs.Words.{entries_of, IsChain, has_bucket, in_chain, inside, chain_there, All, All-head, All-tail, All-take}
 use Rattle.chained_index.proofs.Words.{get_or-flat_map, common_steps, Bool, nat_eq, eq-eqb, ne_eqb, position_or_len, position_or_len_is, all_differ}
-use Rattle.chained_index.proofs.Words.{IsBlank, Spot, number_of, spot_entry, IsUsed}
+use Rattle.chained_index.proofs.Words.{IsBlank, Spot, place_in_chain, spot_entry, IsUsed}
 use Rattle.chained_index.proofs.Lists.{at, AllUsed, below, place_in, filter_front, filter_used, same_used}
 use Rattle.epoch_core.proofs.Differing.{one_place}
 use Rattle.chained_index.proofs.Chained.{chain_is, step_on, Chained, chained}
@@ -164,8 +164,8 @@ module _ (o : OwnerState) (index : Index) (b : ℕ) (v : View o index b) (spot :
   pub place : (k : ℕ) × (k < length list) × (at list k ≡ spot.bucket)
   place = place_in list spot.bucket (has_bucket o b v.behind v.chain spot.bucket u.in_chain)
 
-  pub number_is : number_of o b spot ≡ SLOTS * place.0 + spot.slot
-  unfolding number_of
+  pub number_is : place_in_chain o b spot ≡ SLOTS * place.0 + spot.slot
+  unfolding place_in_chain
   number_is =
       let less = place.1 in
       let test : ℕ → Bool = λ c. nat_eq c spot.bucket in
@@ -175,8 +175,8 @@ module _ (o : OwnerState) (index : Index) (b : ℕ) (v : View o index b) (spot :
       let is = one_place list (all_differ (link_in o) b v.behind v.chain.behind) j place.0 (omega arith) place.1 (same ∙ sym place.2) in omega arith))
       (λ within. eq-eqb (at list place.0) spot.bucket place.2))
 
-  pub entry_there : at (entries_of o b) (number_of o b spot) ≡ spot_entry o spot
+  pub entry_there : at (entries_of o b) (place_in_chain o b spot) ≡ spot_entry o spot
   entry_there = grind (arith, number_is, v.filled.entries place.0 spot.slot place.1 u.in_bucket, place.2)
 
-  pub is_within : number_of o b spot < length (entries_of o b)
-  is_within = grind (arith, below (entries_of o b) (number_of o b spot), u.used, entry_there)
+  pub is_within : place_in_chain o b spot < length (entries_of o b)
+  is_within = grind (arith, below (entries_of o b) (place_in_chain o b spot), u.used, entry_there)

@@ -8,7 +8,7 @@ pub use Rattle.epoch_core.proofs.Vocabulary.{ltb-false, marked_in, nat_eq, nat_l
 pub use Rattle.epoch_core.proofs.Vocabulary.{stamp_at, stamp_in, state_in, subst, suc, sym, take, true, word_count, zero, ℕ, ℕ_discrete, ◌%◌, ◌*◌}
 pub use Rattle.epoch_core.proofs.Vocabulary.{◌++◌, ◌+◌, ◌-◌, ◌<◌, ◌∙◌, ◌∷◌, ◌≡◌, ◌≢◌, ◌≤◌, ◌⊎◌}
 pub use Rattle.chained_index.specs.ChainChange.{ChangesChain, ChangesOnlyIndex, KeepsChain}
-unfoldable pub use Rattle.chained_index.specs.ChainEntries.{entries_of, buckets_of, number_of, entries_in, buckets_from}
+unfoldable pub use Rattle.chained_index.specs.ChainEntries.{entries_of, buckets_of, place_in_chain, entries_in, buckets_from}
 pub use Rattle.chained_index.specs.ChainEntries.{spot_entry, IsUsed, entries_with, entries_without, IsSpotOf, HasNoSpot}
 pub use Rattle.chained_index.specs.ChainShape.{bucket_at, EndsIn, EndsAt}
 pub use Rattle.chained_index.specs.Index.{Index, IsIndexOf, IsBlank, LacksPlace}

@@ -41,16 +41,16 @@ pub record IsUsed (o : OwnerState) (b : ℕ) (spot : Spot) : Type 0 where
 
 -- where the entry of a used spot stands in the list of a dense chain, all of whose buckets but the last
 -- are full
-unfoldable pub number_of : OwnerState → ℕ → Spot → ℕ
-number_of o b spot = SLOTS * position_or_len (λ c. c == spot.bucket) (buckets_of o b) + spot.slot
+unfoldable pub place_in_chain : OwnerState → ℕ → Spot → ℕ
+place_in_chain o b spot = SLOTS * position_or_len (λ c. c == spot.bucket) (buckets_of o b) + spot.slot
 
 -- the entries with another one in the spot
 abbrev pub entries_with : OwnerState → ℕ → Spot → ℕ → List ℕ
-entries_with o b spot entry = slice_set (entries_of o b) (number_of o b spot) entry
+entries_with o b spot entry = slice_set (entries_of o b) (place_in_chain o b spot) entry
 
 -- the entries without the one in the spot, whose place the last one takes
 abbrev pub entries_without : OwnerState → ℕ → Spot → List ℕ
-entries_without o b spot = swap_remove (entries_of o b) (number_of o b spot) 0
+entries_without o b spot = swap_remove (entries_of o b) (place_in_chain o b spot) 0
 
 -- The spot has an entry of the key's tag, whose item has the key.
 pub record IsSpotOf (o : OwnerState) (b : ℕ) (key : List ℕ) (spot : Spot) : Type 0 where

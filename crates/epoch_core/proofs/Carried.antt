@@ -1,7 +1,7 @@
 -- What the words stand for in a bucket stays where the words in its reach do, and the machine has the same of its keys.
 use Rattle.std.proofs.lemmas.Grind.{common_steps}
 use Rattle.epoch_core.proofs.Vocabulary.{Cache, Cell, Has, HasChain, HasChains, HasLiveEntry, History, InChain, IsDense, IsInRoom, IsLiveItem, IsMain}
-use Rattle.epoch_core.proofs.Vocabulary.{IsReached, List, Marked, Mode, OwnerState, Phase, Spells, StandsFor, Store, add-zero, ap, arith, by_entry}
+use Rattle.epoch_core.proofs.Vocabulary.{IsInReach, List, Marked, Mode, OwnerState, Phase, Spells, StandsFor, Store, add-zero, ap, arith, by_entry}
 use Rattle.epoch_core.proofs.Vocabulary.{by_item, by_link, entry_at, entry_offset, get_or, header_room, inl, inr, item_at, item_in, item_size}
 use Rattle.epoch_core.proofs.Vocabulary.{link_at, link_in, marked_in, options_in, refl, room_in, stamp_in, stamp_of, state_in, sym, ℕ}
 use Rattle.epoch_core.proofs.Vocabulary.{◌+◌, ◌<◌, ◌∙◌, ◌≡◌, ◌≢◌, ◌⊎◌}
@@ -27,7 +27,7 @@ pub record Carries (o new : OwnerState) (b : ℕ) : Type 0 where
   pub chains : HasChains o
   pub main : IsMain o.shape b
   pub stands : StandsFor o b
-  pub word : (i : ℕ) → IsReached o b i → get_or new.words i 0 ≡ get_or o.words i 0
+  pub word : (i : ℕ) → IsInReach o b i → get_or new.words i 0 ≡ get_or o.words i 0
   pub stamp : stamp_in o ≡ stamp_of (options_in o) o.history
   pub stamp_now : stamp_in new ≡ stamp_of (options_in o) new.history
   pub has : HasStill o.shape.mode (options_in o) o.history new.history b
@@ -109,7 +109,7 @@ module _ (o new : OwnerState) where
         (λ i x. sym (k.word _ (by_item c slot entry i before (omega (arith, sp.in_room, same)) refl))) sp
 
     -- and so what is reached now was reached before
-    pub reach_back : (i : ℕ) → IsReached p b i → IsReached o b i
+    pub reach_back : (i : ℕ) → IsInReach p b i → IsInReach o b i
     reach_back i (by_entry c slot h x is) = by_entry c slot (chain_back c h) x is
     reach_back i (by_link c h is) = by_link c (chain_back c h) is
     reach_back i (by_item c slot entry j h x is) =

@@ -1,6 +1,6 @@
 -- Each event of an owner keeps the owner's fact.
 use Rattle.std.proofs.lemmas.Grind.{common_steps}
-use Rattle.epoch_core.proofs.Vocabulary.{Begins, Bool, Ends, Event, History, IsAllowed, IsLawfulHistory, IsMain, IsPrefix, IsReached, IsWrite, Kept}
+use Rattle.epoch_core.proofs.Vocabulary.{Begins, Bool, Ends, Event, History, IsAllowed, IsLawfulHistory, IsMain, IsPrefix, IsInReach, IsWrite, Kept}
 use Rattle.epoch_core.proofs.Vocabulary.{List, Marked, Marks, OwnerState, Phase, PhaseFits, StandsFor, Write, [], after, ap, arith, begun_in}
 use Rattle.epoch_core.proofs.Vocabulary.{by_entry, by_item, by_link, cond, count_by, dite, epoch_at, epoch_in, get_or-set_same}
 use Rattle.epoch_core.proofs.Vocabulary.{history_after, history_snoc, if◌then◌else◌, length-append, length-set, marked_in, options_in}
@@ -76,14 +76,14 @@ module _ (o : OwnerState) (s : Kept o) where
   -- The words
 
   -- no get needs an epoch
-  reached_no_epoch : (b c i : ℕ) → IsMain o.shape b → IsReached o c i → i ≢ epoch_at b
+  reached_no_epoch : (b c i : ℕ) → IsMain o.shape b → IsInReach o c i → i ≢ epoch_at b
   reached_no_epoch b c i l (by_entry d slot h x at) is = omega arith
   reached_no_epoch b c i l (by_link d h at) is = omega arith
   reached_no_epoch b c i l (by_item d slot entry j h x at) is = omega arith
 
   -- a bucket without a marked write keeps the words in its reach
   abbrev Stood : Event → ℕ → Type 0
-  Stood e b = StandsFor o b × ((i : ℕ) → IsReached o b i → i ≢ place_of o.shape e)
+  Stood e b = StandsFor o b × ((i : ℕ) → IsInReach o b i → i ≢ place_of o.shape e)
 
   unmarked : (e : Event) → IsAllowed e o → (b : ℕ) → IsMain o.shape b → marked_in o.phase b ≡ 0 → Stood e b
   unmarked e a b l none = (s.state b l none, spares o s (log_spares o s) b l none e a)

@@ -1,7 +1,7 @@
 -- What an owner has met changes nothing else of what is kept of it.
 use Rattle.std.proofs.Common.{arith}
 use Rattle.std.proofs.lemmas.Grind.{common_steps}
-use Rattle.epoch_core.proofs.Vocabulary.{FailsFit, Grows, IsDense, IsMain, IsPrefix, IsReached, Kept, OwnerState, by_entry}
+use Rattle.epoch_core.proofs.Vocabulary.{FailsFit, Grows, IsDense, IsMain, IsPrefix, IsInReach, Kept, OwnerState, by_entry}
 use Rattle.epoch_core.proofs.Vocabulary.{by_item, by_link, le_refl, marked_in, refl, ℕ, ◌≡◌}
 use Rattle.epoch_core.specs.declared.state.Met.{Met}
 use Rattle.epoch_core.proofs.Carried.{Carries, stands_on}
@@ -14,7 +14,7 @@ module _ (o : OwnerState) (met : Met) (closed : ℕ) where
   pub dense_on : (b : ℕ) → IsDense o b → IsDense p b
   dense_on b d = assumption
 
-  reach_back : (b place : ℕ) → IsReached p b place → IsReached o b place
+  reach_back : (b place : ℕ) → IsInReach p b place → IsInReach o b place
   reach_back b place (by_entry c slot h x is) = by_entry c slot h x is
   reach_back b place (by_link c h is) = by_link c h is
   reach_back b place (by_item c slot entry i h x is) = by_item c slot entry i (assumption) x is

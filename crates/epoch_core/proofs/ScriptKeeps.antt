@@ -17,14 +17,14 @@ use Rattle.epoch_core.proofs.Growing.{grows, reader_grows}
 use Rattle.epoch_core.proofs.LoadKeeps.{loads, opens, shuts, stamps}
 use Rattle.epoch_core.proofs.JoinKeeps.{lends}
 use Rattle.epoch_core.proofs.DiaryKeeps.{one_fits, plays_more, set_fit}
-use Rattle.epoch_core.specs.Script.{AllFit, BookFits, IsTime, MayLook, Reading, first_of, look_at, look_next, looked, next_owner, opening_book}
-use Rattle.epoch_core.specs.Script.{owner_at, owner_place, owner_sum, plan_of, play_next, played, reads_on, rest_of}
+use Rattle.epoch_core.specs.Script.{AllFit, BookFits, IsTime, MayLook, Reading, first_event, look_at, look_next, looked, next_owner, opening_book}
+use Rattle.epoch_core.specs.Script.{owner_at, owner_place, owner_sum, plan_of, play_next, played, reads_on, later_events}
 
 next_fits : (b : Book) → BookFits b → BookFits (play_next b)
 next_fits b f = by_rest b.rest f.script f.rest
   where
     by_rest : (rest : List Event) → b.played ++ rest ≡ b.plan.events → CanPlay rest b.owner
-        → BookFits (record b { owner = next_owner rest b.owner; played = b.played ++ first_of rest; rest = rest_of rest })
+        → BookFits (record b { owner = next_owner rest b.owner; played = b.played ++ first_event rest; rest = later_events rest })
     by_rest [] script can = record {
       owner = f.owner;
       reader = f.reader;

@@ -5,21 +5,21 @@ use Rattle.epoch_core.proofs.Vocabulary.{refl, sym, true, ℕ, ◌-◌, ◌<◌,
 use Rattle.epoch_core.specs.declared.scripted.Scripted.{Scripted}
 use Rattle.epoch_core.specs.Seats.{book_of}
 use Rattle.epoch_core.proofs.Cuts.{last_of_still, still_at_last}
-use Rattle.epoch_core.specs.Script.{IsSettled, Rests, is_writing, owner_at}
+use Rattle.epoch_core.specs.Script.{HasPlayedOut, Rests, is_writing, owner_at}
 
 idle_is : (phase : Phase) → is_writing phase ≡ false → phase ≡ Idle
 idle_is Idle e = refl
 idle_is phase e = absurd (cc e)
 
 module _ (s : Scripted) (last : ℕ) (is : last ≡ get_or s.cuts.items (length s.cuts.items - 1) 0) where
-  pub settled : s.stage.played ≡ last → s.stage.writing ≡ false → IsSettled (book_of s)
+  pub settled : s.stage.played ≡ last → s.stage.writing ≡ false → HasPlayedOut (book_of s)
   settled end calm =
       grind (arith, common_steps, still_at_last s.cuts.items (book_of s).reader.loads s.stage.played s.rise s.at (end ∙ is), idle_is (book_of s).owner.phase (sym s.stage.begun ∙ calm), calm)
 
-  pub at_end : IsSettled (book_of s) → s.stage.played ≡ last
+  pub at_end : HasPlayedOut (book_of s) → s.stage.played ≡ last
   at_end now = grind (arith, common_steps, last_of_still s.cuts.items (book_of s).reader.loads s.stage.played)
 
-  pub calm : IsSettled (book_of s) → s.stage.writing ≡ false
+  pub calm : HasPlayedOut (book_of s) → s.stage.writing ≡ false
   calm now = s.stage.begun ∙ ap is_writing now.idle
 
 pub quiet_is : (writing : Bool) → IsTrue (not writing) → writing ≡ false
@@ -28,7 +28,7 @@ quiet_is true quiet = absurd (cc quiet)
 
 -- from then on the owner is at rest
 
-module _ (s : Scripted) (settled : IsSettled (book_of s)) where
+module _ (s : Scripted) (settled : HasPlayedOut (book_of s)) where
   pub at_rest : Rests (book_of s).plan (book_of s).reader.loads (book_of s).owner
   at_rest = grind (arith, common_steps)
 
@@ -40,5 +40,5 @@ module _ (s : Scripted) (settled : IsSettled (book_of s)) where
     same_number : length (book_of s).played ≡ length (book_of t).played
     same_number = grind (arith, common_steps)
 
-    pub settled_still : IsSettled (book_of t)
+    pub settled_still : HasPlayedOut (book_of t)
     settled_still = grind (arith, common_steps)

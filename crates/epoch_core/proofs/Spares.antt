@@ -1,5 +1,5 @@
 -- An event goes to no word that a get of a bucket with no marked write needs.
-use Rattle.epoch_core.proofs.Vocabulary.{Begins, BelongsTo, Ends, Event, HasLiveEntry, InChain, IsAllowed, IsInRoom, IsItsBucket, IsMain, IsReached}
+use Rattle.epoch_core.proofs.Vocabulary.{Begins, BelongsTo, Ends, Event, HasLiveEntry, InChain, IsAllowed, IsInRoom, IsItsBucket, IsMain, IsInReach}
 use Rattle.epoch_core.proofs.Vocabulary.{Kept, List, Marked, Marks, OwnerState, Phase, PutsEntry, PutsLink, PutsWord, SLOTS, State, WhenMarked, Write}
 use Rattle.epoch_core.proofs.Vocabulary.{arith, bucket_words, by_entry, by_item, by_link, cache_state, entries_at, entry_offset, item_at, marked_in}
 use Rattle.epoch_core.proofs.Vocabulary.{options_in, place_of, refl, room_in, state_of, store_state, subst, sym, ℕ, ◌+◌, ◌<◌, ◌∙◌, ◌≡◌, ◌≢◌}
@@ -48,7 +48,7 @@ module _ (o : OwnerState) (s : Kept o) (log : LogSpares o) where
     apart_room (Ends b) a c slot entry i h x e = item_no_epoch o.shape b (entry_offset entry + i) (ends_main o s o.phase refl b a.marked) e
 
     -- the law
-    pub spares : (e : Event) → IsAllowed e o → (place : ℕ) → IsReached o other place → place ≢ place_of o.shape e
+    pub spares : (e : Event) → IsAllowed e o → (place : ℕ) → IsInReach o other place → place ≢ place_of o.shape e
     spares e a place (by_entry c slot h x at) is = apart_slot e a c slot h (omega arith) (sym at ∙ is)
     spares e a place (by_link c h at) is = apart_slot e a c SLOTS h (omega arith) (sym at ∙ is)
     spares e a place (by_item c slot entry i h x at) is = apart_room e a c slot entry i h x (sym at ∙ is)

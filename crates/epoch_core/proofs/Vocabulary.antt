@@ -31,7 +31,7 @@ pub use Rattle.epoch_core.specs.Layout.{bucket_words, entries_at, entry_at, epoc
 pub use Rattle.epoch_core.specs.LiveEntry.{HasLiveEntry, IsLive, IsLiveItem}
 pub use Rattle.epoch_core.specs.OwnerState.{as_made, begun_in, bucket_in, entry_in, epoch_in, item_in, link_in, marked_in, options_in, stamp_in}
 pub use Rattle.epoch_core.specs.OwnerState.{state_in, writes_in}
-pub use Rattle.epoch_core.specs.Reach.{IsReached, by_entry, by_item, by_link}
+pub use Rattle.epoch_core.specs.Reach.{IsInReach, by_entry, by_item, by_link}
 pub use Rattle.epoch_core.specs.ReaderKept.{IsSpelt, ReaderKept, Tells, TellsTry, TryKept}
 pub use Rattle.epoch_core.specs.ReaderState.{fails_after, loaded, new_try, newcomer, opened, shut, stamped, with_cut, with_load}
 pub use Rattle.epoch_core.specs.Shape.{IsBucket, IsMain, IsSpare, IsValidShape, is_in_range, options_of, shape_of, spares_in}

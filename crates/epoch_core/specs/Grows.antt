@@ -4,7 +4,7 @@ use Rattle.partition_model.specs.History.{IsPrefix}
 use Rattle.epoch_core.specs.declared.state.OwnerState.{OwnerState}
 use Rattle.epoch_core.specs.Shape.{IsMain}
 use Rattle.epoch_core.specs.OwnerState.{epoch_in}
-use Rattle.epoch_core.specs.Reach.{IsReached}
+use Rattle.epoch_core.specs.Reach.{IsInReach}
 
 -- The history goes on, epochs rise, and where an even one stood still, the words in its bucket's reach were
 -- there before, each as it is now.
@@ -13,5 +13,5 @@ pub record Grows (old new : OwnerState) : Type 0 where
   pub history : IsPrefix old.history new.history
   pub rises : (b : ℕ) → IsMain old.shape b → epoch_in old b ≤ epoch_in new b
   pub still : (b : ℕ) → IsMain old.shape b → epoch_in old b % 2 ≡ 0 → epoch_in new b ≡ epoch_in old b
-      → (place : ℕ) → IsReached new b place
-      → IsReached old b place × (slice_index new.words place ≡ slice_index old.words place)
+      → (place : ℕ) → IsInReach new b place
+      → IsInReach old b place × (slice_index new.words place ≡ slice_index old.words place)

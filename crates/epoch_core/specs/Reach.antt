@@ -9,9 +9,9 @@ use Rattle.epoch_core.specs.LiveEntry.{HasLiveEntry}
 use Rattle.epoch_core.specs.StandsFor.{room_in}
 
 -- The entries and links of its chain, and the words of the rooms of the items that its live entries name.
-pub data IsReached (o : OwnerState) (b place : ℕ) : Type 0 where
+pub data IsInReach (o : OwnerState) (b place : ℕ) : Type 0 where
   by_entry : (c slot : ℕ) → InChain o b c → slot < SLOTS → place ≡ entry_at o.shape c slot
-      → IsReached o b place
-  by_link : (c : ℕ) → InChain o b c → place ≡ link_at o.shape c → IsReached o b place
+      → IsInReach o b place
+  by_link : (c : ℕ) → InChain o b c → place ≡ link_at o.shape c → IsInReach o b place
   by_item : (c slot entry i : ℕ) → HasLiveEntry o b c slot entry → i < room_in o entry
-      → place ≡ item_at o.shape (entry_offset entry + i) → IsReached o b place
+      → place ≡ item_at o.shape (entry_offset entry + i) → IsInReach o b place

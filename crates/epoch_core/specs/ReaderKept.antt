@@ -11,7 +11,7 @@ use Rattle.epoch_core.specs.declared.reader.Known.{Known}
 use Rattle.epoch_core.specs.declared.reader.ReaderState.{ReaderState}
 use Rattle.epoch_core.specs.Shape.{options_of, IsMain}
 use Rattle.epoch_core.specs.OwnerState.{epoch_in, options_in}
-use Rattle.epoch_core.specs.Reach.{IsReached}
+use Rattle.epoch_core.specs.Reach.{IsInReach}
 use Rattle.epoch_core.specs.Failures.{FailsFit}
 use Rattle.epoch_core.specs.Spelt.{HasLoad, SpellsAnswer}
 
@@ -35,7 +35,7 @@ pub record TryKept (o : OwnerState) (t : Try) : Type 0 where
   pub first : t.first ≤ epoch_in o t.bucket
   -- while the epoch has not moved, what was loaded of the words in reach is there still
   pub loads : epoch_in o t.bucket ≡ t.first → (place x : ℕ)
-      → HasLoad t.loads place x → IsReached o t.bucket place → slice_index o.words place ≡ x
+      → HasLoad t.loads place x → IsInReach o t.bucket place → slice_index o.words place ≡ x
   pub at : IfSome t.at (CutKept o t)
 
 -- what both seats of the last join knew is known

@@ -135,19 +135,19 @@ abbrev pub next_owner : List Event → OwnerState → OwnerState
 next_owner [] o = o
 next_owner (e ∷ es) o = after e o
 
-abbrev pub first_of : List Event → List Event
-first_of [] = []
-first_of (e ∷ es) = e ∷ []
+abbrev pub first_event : List Event → List Event
+first_event [] = []
+first_event (e ∷ es) = e ∷ []
 
-abbrev pub rest_of : List Event → List Event
-rest_of [] = []
-rest_of (e ∷ es) = es
+abbrev pub later_events : List Event → List Event
+later_events [] = []
+later_events (e ∷ es) = es
 
 abbrev pub play_next : Book → Book
 play_next b = record b {
   owner = next_owner b.rest b.owner;
-  played = b.played ++ first_of b.rest;
-  rest = rest_of b.rest;
+  played = b.played ++ first_event b.rest;
+  rest = later_events b.rest;
 }
 
 abbrev pub played : Step (Unit {0}) → Reading → ℕ → Reading → Type 0
@@ -166,7 +166,7 @@ abbrev pub looked : Look → Step (Unit {0}) → Reading → ℕ → Reading →
 looked look step me n now = (now ≡ (look_next look me.0, me.1)) × BookFits me.0 × BookFits (look_next look me.0)
 
 -- No later load plays an event, and no write is begun.
-pub record IsSettled (b : Book) : Type 0 where
+pub record HasPlayedOut (b : Book) : Type 0 where
   pub still : (n : ℕ) → b.reader.loads < n → cut_at b.plan.cuts n ≡ length b.played
   pub idle : b.owner.phase ≡ Idle
 

@@ -6,7 +6,7 @@ ghost use Rattle.epoch_core.specs.Layout.{word_count};
 ghost use Rattle.epoch_core.specs.Kept.{Kept};
 ghost use Rattle.epoch_core.specs.ReaderKept.{ReaderKept};
 ghost use Rattle.epoch_core.specs.Diary.{owner_event};
-ghost use Rattle.epoch_core.specs.Script.{Rises, NoneAbove, cut_at, owner_at, owner_found, look_at, reader_after, BookFits, MayLook, StaysIn, look_next, IsTime, IsSettled, owner_place, owner_word, owner_sum, is_writing, writing_after};
+ghost use Rattle.epoch_core.specs.Script.{Rises, NoneAbove, cut_at, owner_at, owner_found, look_at, reader_after, BookFits, MayLook, StaysIn, look_next, IsTime, HasPlayedOut, owner_place, owner_word, owner_sum, is_writing, writing_after};
 
 use crate::event::{Event, OwnerEvent};
 use crate::plain::{PlainWords, Script};
@@ -275,7 +275,7 @@ impl Scripted {
 
     /// Whether no later load plays an event, and each write that was begun has ended.
     pub fn is_settled(&self) -> bool
-        ensures { IsTrue result ↔ IsSettled (book_of self.now) }
+        ensures { IsTrue result ↔ HasPlayedOut (book_of self.now) }
     {
         self.stage.played == self.last_cut() && !self.stage.writing
     }

@@ -20,7 +20,7 @@ use Rattle.mica_trace.specs.LineReply.{steps_at}
 use Rattle.epoch_core.specs.declared.state.OwnerState.{OwnerState}
 use Rattle.epoch_core.specs.OwnerState.{options_in}
 use Rattle.epoch_core.specs.OwnerStep.{IsOwnerStep}
-use Rattle.line_replies.specs.Replied.{IsWritten, IsReplied}
+use Rattle.line_replies.specs.Replied.{IsWriteReply, IsReplied}
 
 -- what an owner gained by a write
 gained : (old new : OwnerState) (write : Write) (outcome : Outcome) → IsOwnerStep old new write outcome
@@ -59,7 +59,7 @@ module _ (old new : OwnerState) (line : TraceLine) (does : Op) (op : op_of line.
         ∙ ap (λ s. record old { words = new.words; history = old.history ++ history_of s }) (sym (steps outcome stamp));
   }
 
-  pub replied_write : (printed : Line) → IsWritten old new write printed → IsReplied old new line printed
+  pub replied_write : (printed : Line) → IsWriteReply old new write printed → IsReplied old new line printed
   replied_write printed is = subst (IsReplied old new line) (sym is.is) (replied_with is.outcome is.stamp is.step is.stamped)
 
 -- a line that changes nothing

@@ -17,7 +17,7 @@ abbrev pub IsAnswered : OwnerState → List ℕ → Line → Type 0
 IsAnswered owner key printed = Answers (options_in owner) owner.history key printed
 
 -- the line has the outcome of the write, which is a step of the owner's machine, and the stamp after it
-pub record IsWritten (old new : OwnerState) (write : Write) (printed : Line) : Type 0 where
+pub record IsWriteReply (old new : OwnerState) (write : Write) (printed : Line) : Type 0 where
   pub outcome : Outcome
   pub stamp : ℕ
   pub step : IsOwnerStep old new write outcome

@@ -3,7 +3,7 @@ ghost use Rattle.std.specs.Prelude.{◌≡◌, IfOk, OnErr};
 ghost use Rattle.mica_words.specs.Item.{KeyFits};
 ghost use Rattle.partition_model.specs.Write.{HasValueOf, write_of};
 ghost use Rattle.mica_trace.specs.TraceGrammar.{IsTraceLine};
-ghost use Rattle.line_replies.specs.Replied.{IsWritten, IsReplied, IsAnswered};
+ghost use Rattle.line_replies.specs.Replied.{IsWriteReply, IsReplied, IsAnswered};
 
 use epoch_core::{Partition, write_to};
 use mica_io::{Bytes, NoMemory};
@@ -40,7 +40,7 @@ fn answer<P: Partition>(
 fn write<P: Partition>(part: &mut P, op: Op, key: &[u8], value: &[u8]) -> Line
     requires key { KeyFits key.now }
     requires value { HasValueOf op value.now }
-    ensures { IsWritten (P.owner part.old) (P.owner part.new) (write_of op key.now value.now) result }
+    ensures { IsWriteReply (P.owner part.old) (P.owner part.new) (write_of op key.now value.now) result }
 {
     let outcome = write_to(part, op, key, value);
     Line::Wrote {

@@ -28,6 +28,6 @@ pub data GivesWay (o : OwnerState) (b slot : ℕ) : Type 0 where
       → GivesWay o b slot
 
 -- the slot that an entry takes: the given one, else the one that gives way
-abbrev pub Takes : OwnerState → ℕ → Option ℕ → ℕ → Type 0
-Takes o b (Some old) slot = slot ≡ old
-Takes o b None slot = GivesWay o b slot
+abbrev pub TakesSlot : OwnerState → ℕ → Option ℕ → ℕ → Type 0
+TakesSlot o b (Some old) slot = slot ≡ old
+TakesSlot o b None slot = GivesWay o b slot

@@ -7,7 +7,7 @@ ghost use Rattle.epoch_core.specs.Shape.{IsMain};
 ghost use Rattle.epoch_core.specs.OwnerState.{marked_in};
 ghost use Rattle.epoch_core.specs.Events.{after};
 ghost use Rattle.epoch_core.specs.Kept.{Kept};
-ghost use Rattle.lossy_index.specs.Place.{GivesWay, Takes};
+ghost use Rattle.lossy_index.specs.Place.{GivesWay, TakesSlot};
 
 use epoch_core::{OwnerWords, WordAt};
 use mica_words::{SLOTS, entry_of, entry_offset, tail_of};
@@ -26,7 +26,7 @@ pub fn place<W: OwnerWords>(
     requires old { IfSome old (λ slot. slot < SLOTS) }
     requires tag { 1 ≤ tag }
     requires offset { offset < 2 ^ 48 }
-    ensures slot { Takes (W.owner words.old) bucket old result }
+    ensures slot { TakesSlot (W.owner words.old) bucket old result }
     ensures entry { W.owner words.new
         ≡ after (PutsEntry bucket result (entry_word tag offset)) (W.owner words.old) }
     ensures home { W.home words.new ≡ W.home words.old }

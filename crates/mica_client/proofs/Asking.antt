@@ -14,13 +14,13 @@ use Rattle.mica_client.specs.declared.options.TheConstants.{VERSION}
 use Rattle.mica_client.proofs.Running.{on_each, went_none}
 use Rattle.mica_client.specs.Talk.{Talk, OnTalk, Passes}
 use Rattle.mica_client.specs.Batches.{Group, ask_of, numbered, groups_of}
-use Rattle.mica_client.specs.Answers.{Answers, unanswered, is_answered, HasTickets, AreFor, IsOfTrace, KeepsAnswers, KeepsAll}
+use Rattle.mica_client.specs.Answers.{KnownLines, unanswered, is_answered, HasTickets, AreFor, IsOfTrace, KeepsAnswers, KeepsAll}
 use Rattle.mica_client.specs.Exchange.{Standing, start, standing_at, lacks_answer, IsWhole, ComesTo, IsCauseOf, MeansForAsk, AsksAll}
 
-abbrev pub Grows : Answers → Answers → Type 0
+abbrev pub Grows : KnownLines → KnownLines → Type 0
 Grows old new = (ticket : ℕ) → is_answered old ticket ≡ true → is_answered new ticket ≡ true
 
-abbrev pub Answered : Answers → Group → Type 0
+abbrev pub Answered : KnownLines → Group → Type 0
 Answered answers group = lacks_answer answers group.requests ≡ false
 
 abbrev pub OfTrace : List TraceLine → List Group → Type 0
@@ -32,7 +32,7 @@ AreBatches groups = (n : ℕ) → AllByRecursion (λ group. IsBatch (record { ve
 abbrev pub HaveTickets : ℕ → List Group → Type 0
 HaveTickets lines groups = AllByRecursion (λ group. HasTickets lines group.requests) groups
 
-still_answered : (old new : Answers) (requests : List Request) → Grows old new → lacks_answer old requests ≡ false → lacks_answer new requests ≡ false
+still_answered : (old new : KnownLines) (requests : List Request) → Grows old new → lacks_answer old requests ≡ false → lacks_answer new requests ≡ false
 still_answered old new [] grows h = refl
 still_answered old new (r ∷ rs) grows h =
     let parts = or_parts (not (is_answered old r.ticket)) (lacks_answer old rs) h in
@@ -45,16 +45,16 @@ pub ask_is : {number port : ℕ} {group : Group} {batch : Batch} → port ≡ gr
 ask_is {batch = batch} port_is batch_is = λ i. record { port = port_is i; batch = batch_is i }
 
 -- these batches of all are left, behind so many
-pub record Going (groups rest : List Group) (number : ℕ) (old now : Answers) : Type 0 where
+pub record Going (groups rest : List Group) (number : ℕ) (old now : KnownLines) : Type 0 where
   pub count : number + length rest ≡ length groups
   pub batches : AreBatches rest
   pub tickets : HaveTickets (length now) rest
-  pub answered : (final : Answers) → Grows now final → AllByRecursion (Answered final) rest → AllByRecursion (Answered final) groups
+  pub answered : (final : KnownLines) → Grows now final → AllByRecursion (Answered final) rest → AllByRecursion (Answered final) groups
   pub len : length now ≡ length old
   pub known : Grows old now
   pub lines : (trace : List TraceLine) → OfTrace trace groups → AreFor trace old → OfTrace trace rest × AreFor trace now
 
-pub going_none : (groups : List Group) (answers : Answers) → AreBatches groups → HaveTickets (length answers) groups → Going groups groups 0 answers answers
+pub going_none : (groups : List Group) (answers : KnownLines) → AreBatches groups → HaveTickets (length answers) groups → Going groups groups 0 answers answers
 going_none groups answers batches tickets = record {
   count = omega arith;
   batches = batches;
@@ -65,7 +65,7 @@ going_none groups answers batches tickets = record {
   lines = λ trace of h. (of, h);
 }
 
-pub going_more : (groups rest : List Group) (group : Group) (number : ℕ) (old mid new : Answers) → Going groups (group ∷ rest) number old mid → KeepsAnswers group.requests mid new
+pub going_more : (groups rest : List Group) (group : Group) (number : ℕ) (old mid new : KnownLines) → Going groups (group ∷ rest) number old mid → KeepsAnswers group.requests mid new
     → lacks_answer new group.requests ≡ false → Going groups rest (number + 1) old new
 going_more groups rest group number old mid new going keeps done = record {
   count = omega (arith, going.count);
@@ -77,10 +77,10 @@ going_more groups rest group number old mid new going keeps done = record {
   lines = λ trace of h. let before = going.lines trace of h in (before.0.1, keeps.lines trace before.0.0 before.1);
 }
 
-pub all_answered : (groups : List Group) (number : ℕ) (old new : Answers) → Going groups [] number old new → AllByRecursion (Answered new) groups
+pub all_answered : (groups : List Group) (number : ℕ) (old new : KnownLines) → Going groups [] number old new → AllByRecursion (Answered new) groups
 all_answered groups number old new going = going.answered new (λ t h. h) tt
 
-pub keeps_all : (groups : List Group) (number : ℕ) (old new : Answers) → Going groups [] number old new → KeepsAll groups old new
+pub keeps_all : (groups : List Group) (number : ℕ) (old new : KnownLines) → Going groups [] number old new → KeepsAll groups old new
 keeps_all groups number old new going = record { len = going.len; known = going.known; lines = λ trace of h. (going.lines trace of h).1 }
 
 -- What is said of the whole
@@ -89,16 +89,16 @@ pub nothing_asked : (before : Standing) (x : Option Talk) → OnTalk (Passes (Me
 nothing_asked before None = tt
 nothing_asked before (Some t) = record { between = []; went = went_none t; fact = inl (before, refl, tt) }
 
-module _ (options : AskOptions) (trace : List TraceLine) (groups : List Group) (answers : Answers) (groups_are : groups ≡ groups_of options trace) (answers_are : answers ≡ unanswered trace) where
+module _ (options : AskOptions) (trace : List TraceLine) (groups : List Group) (answers : KnownLines) (groups_are : groups ≡ groups_of options trace) (answers_are : answers ≡ unanswered trace) where
   begins : standing_at (numbered 0 groups) None answers ≡ start options trace
   begins =
       ap (λ (gs : List Group). standing_at (numbered 0 gs) None answers) groups_are
-      ∙ ap (λ (a : Answers). standing_at (numbered 0 (groups_of options trace)) None a) answers_are
+      ∙ ap (λ (a : KnownLines). standing_at (numbered 0 (groups_of options trace)) None a) answers_are
 
   pub fault_asked : (fault : AskFault) (x y : Option Talk) → OnTalk (Passes (IsCauseOf fault (standing_at (numbered 0 groups) None answers))) x y → OnTalk (Passes (MeansForAsk (Err fault) (start options trace))) x y
   fault_asked fault x y h = subst (λ (s : Standing). OnTalk (Passes (IsCauseOf fault s)) x y) begins h
 
-  pub report_asked : (new : Answers) (report : List Line) → new ≡ map (λ line. Some line) report → (x y : Option Talk) → OnTalk (Passes (AsksAll (numbered 0 groups) answers new)) x y
+  pub report_asked : (new : KnownLines) (report : List Line) → new ≡ map (λ line. Some line) report → (x y : Option Talk) → OnTalk (Passes (AsksAll (numbered 0 groups) answers new)) x y
       → OnTalk (Passes (MeansForAsk (Ok report) (start options trace))) x y
   report_asked new report is x y h =
       on_each (Passes (AsksAll (numbered 0 groups) answers new)) (Passes (MeansForAsk (Ok report) (start options trace)))

@@ -9,8 +9,8 @@ use Rattle.mica_client.specs.declared.fault.AskFault.{AskFault}
 use Rattle.mica_client.specs.declared.fault.AskFault.TheVariants.{Unread, Stranger, Double, Wrong, Lost, Link, NoMemory}
 use Rattle.mica_client.specs.Talk.{Passed, sent, received}
 use Rattle.mica_client.specs.Batches.{Ask}
-use Rattle.mica_client.specs.Answers.{Answers, after_replies}
-use Rattle.mica_client.specs.Exchange.{Standing, Steps, Runs, IsWhole, ComesTo, StopsAt, IsUnread, ShowsFault, AnswersBatch, IsCauseOf, MeansForAsk}
+use Rattle.mica_client.specs.Answers.{KnownLines, after_replies}
+use Rattle.mica_client.specs.Exchange.{Standing, Steps, Runs, IsWhole, ComesTo, StopsAt, IsUnread, ShowsFault, TakesReplies, IsCauseOf, MeansForAsk}
 use Rattle.mica_client.specs.Replied.{broken_off}
 use Rattle.mica_client.proofs.Running.{not_whole}
 
@@ -18,7 +18,7 @@ abbrev failed : AskFault → Result (List Line) AskFault
 failed fault = Err fault
 
 -- what a datagram shows that is the last
-abbrev pub Shows : AskFault → Batch → Answers → Datagram → Type 0
+abbrev pub Shows : AskFault → Batch → KnownLines → Datagram → Type 0
 Shows Unread batch answers bytes = IsUnread bytes
 Shows fault batch answers bytes = ShowsFault batch answers bytes fault
 
@@ -62,7 +62,7 @@ same_standing : (a b : Standing) → a.left ≡ b.left → a.asked ≡ b.asked �
 same_standing a b left asked answers =
     ap (λ (l : List Ask). let s : Standing = record { left = l; asked = a.asked; answers = a.answers } in s) left
     ∙ ap (λ (o : Option Batch). let s : Standing = record { left = b.left; asked = o; answers = a.answers } in s) asked
-    ∙ ap (λ (l : Answers). let s : Standing = record { left = b.left; asked = b.asked; answers = l } in s) answers
+    ∙ ap (λ (l : KnownLines). let s : Standing = record { left = b.left; asked = b.asked; answers = l } in s) answers
 
 last_alike : (xs ys : List Passed) (b d : Datagram) (f g : ℕ) → xs ++ received b f ∷ [] ≡ ys ++ received d g ∷ [] → (xs ≡ ys) × (b ≡ d)
 last_alike [] [] b d f g e = (refl, cc)
@@ -78,7 +78,7 @@ last_alike (x ∷ xs) (y ∷ ys) b d f g e =
     (cc, more.1)
 
 module _ (once : (bytes : Datagram) (a b : Replies) → SpellsReplies bytes a → SpellsReplies bytes b → a ≡ b) where
-  answers_once : (batch : Batch) (old a b : Answers) (bytes : Datagram) → AnswersBatch batch old bytes a → AnswersBatch batch old bytes b → a ≡ b
+  answers_once : (batch : Batch) (old a b : KnownLines) (bytes : Datagram) → TakesReplies batch old bytes a → TakesReplies batch old bytes b → a ≡ b
   answers_once batch old a b bytes p q =
       let same = once bytes p.replies q.replies p.spelled.spelled q.spelled.spelled in
       let made : after_replies batch q.replies.number q.replies.replies old ≡ Ok a = subst (λ (r : Replies). after_replies batch r.number r.replies old ≡ Ok a) same p.made in
@@ -97,7 +97,7 @@ module _ (once : (bytes : Datagram) (a b : Replies) → SpellsReplies bytes a �
       let q_asked = q.asked in
       let batch : p.batch ≡ q.batch = cc in
       same_standing a b (p.left ∙ sym q.left) (p.same ∙ sym q.same)
-      (answers_once q.batch before.answers a.answers b.answers bytes (subst (λ (k : Batch). AnswersBatch k before.answers bytes a.answers) batch p.taken) q.taken)
+      (answers_once q.batch before.answers a.answers b.answers bytes (subst (λ (k : Batch). TakesReplies k before.answers bytes a.answers) batch p.taken) q.taken)
 
   runs_once : (before a b : Standing) (passed : List Passed) → Runs before passed a → Runs before passed b → a ≡ b
   runs_once before a b [] p q = p ∙ sym q
@@ -113,15 +113,15 @@ module _ (once : (bytes : Datagram) (a b : Replies) → SpellsReplies bytes a �
       let same = step_once before r.0 s.0 x r.1 s.1 in
       last_taken s.0 at mid xs bytes faults (subst (λ (k : Standing). Runs k (xs ++ received bytes faults ∷ []) at) same r.2) s.2
 
-  same_after : (batch : Batch) (old : Answers) (x y : Result Answers AskFault) (bytes : Datagram) (a b : Replies) → SpellsReplies bytes a → SpellsReplies bytes b → after_replies batch a.number a.replies old ≡ x
+  same_after : (batch : Batch) (old : KnownLines) (x y : Result KnownLines AskFault) (bytes : Datagram) (a b : Replies) → SpellsReplies bytes a → SpellsReplies bytes b → after_replies batch a.number a.replies old ≡ x
       → after_replies batch b.number b.replies old ≡ y → x ≡ y
   same_after batch old x y bytes a b p q e f = sym e ∙ ap (λ (r : Replies). after_replies batch r.number r.replies old) (once bytes a b p q) ∙ f
 
-  taken_shown : (batch : Batch) (old new : Answers) (bytes : Datagram) (fault : AskFault) → ShowsFault batch old bytes fault → AnswersBatch batch old bytes new → ⊥
+  taken_shown : (batch : Batch) (old new : KnownLines) (bytes : Datagram) (fault : AskFault) → ShowsFault batch old bytes fault → TakesReplies batch old bytes new → ⊥
   taken_shown batch old new bytes fault shown taken =
       let same : Ok new ≡ Err fault = same_after batch old (Ok new) (Err fault) bytes taken.replies shown.replies taken.spelled.spelled shown.spelled.spelled taken.made shown.shown in cc
 
-  not_both : (fault : AskFault) → is_shown fault ≡ true → (batch : Batch) (old new : Answers) (bytes : Datagram) → Shows fault batch old bytes → AnswersBatch batch old bytes new → ⊥
+  not_both : (fault : AskFault) → is_shown fault ≡ true → (batch : Batch) (old new : KnownLines) (bytes : Datagram) → Shows fault batch old bytes → TakesReplies batch old bytes new → ⊥
   not_both Unread s batch old new bytes none taken = none taken.replies taken.spelled
   not_both (Stranger t) s batch old new bytes shown taken = taken_shown batch old new bytes (Stranger t) shown taken
   not_both (Double t) s batch old new bytes shown taken = taken_shown batch old new bytes (Double t) shown taken
@@ -136,9 +136,9 @@ module _ (once : (bytes : Datagram) (a b : Replies) → SpellsReplies bytes a �
       let asked = s.asked in
       let its = taken.asked in
       let batch : taken.batch ≡ s.batch = cc in
-      not_both fault shown s.batch s.at.answers c.0.answers s.bytes s.shown (subst (λ (k : Batch). AnswersBatch k s.at.answers s.bytes c.0.answers) batch taken.taken)
+      not_both fault shown s.batch s.at.answers c.0.answers s.bytes s.shown (subst (λ (k : Batch). TakesReplies k s.at.answers s.bytes c.0.answers) batch taken.taken)
 
-  pub one_stop : (f g : AskFault) → is_shown f ≡ true → is_shown g ≡ true → (batch : Batch) (old : Answers) (bytes : Datagram) → Shows f batch old bytes → Shows g batch old bytes → f ≡ g
+  pub one_stop : (f g : AskFault) → is_shown f ≡ true → is_shown g ≡ true → (batch : Batch) (old : KnownLines) (bytes : Datagram) → Shows f batch old bytes → Shows g batch old bytes → f ≡ g
   one_stop f g sf sg batch old bytes a b = by f g sf sg (fault_of f sf a) (fault_of g sg b)
     where
       fault_of : (f : AskFault) → is_shown f ≡ true → Shows f batch old bytes → (f ≡ Unread) × IsUnread bytes ⊎ ShowsFault batch old bytes f

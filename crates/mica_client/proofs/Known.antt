@@ -1,4 +1,4 @@
--- Answers as lines, and a test of each that says whether it is known.
+-- KnownLines as lines, and a test of each that says whether it is known.
 use Rattle.std.proofs.Common.{◌≡◌, ℕ, zero, suc, Bool, true, false, List, [], ◌∷◌, map, length, refl, ap, arith, cond, set, Some, None, is_some, option_and_then}
 use Rattle.std.specs.Prelude.{slice_get, unwrap_or}
 use Rattle.std.specs.List.{All, AllByRecursion}
@@ -7,7 +7,7 @@ use Rattle.mica_trace.specs.declared.line.TraceLine.{TraceLine}
 use Rattle.mica_trace.specs.declared.report.Line.{Line}
 use Rattle.mica_trace.specs.declared.report.Line.TheVariants.{Sync}
 use Rattle.mica_trace.specs.TraceGrammar.{is_sync}
-use Rattle.mica_client.specs.Answers.{Answers, answers_of, unanswered, AnswerIsKnown}
+use Rattle.mica_client.specs.Answers.{KnownLines, answers_of, unanswered, AnswerIsKnown}
 
 pub length_answers : (known : List Bool) (lines : List Line) → length known ≡ length lines → length (answers_of known lines) ≡ length lines
 length_answers [] lines same = same
@@ -17,7 +17,7 @@ length_answers (k ∷ ks) (l ∷ ls) same = ap suc (length_answers ks ls (omega 
 -- before any reply
 pub none_answered : (trace : List TraceLine) → answers_of (map is_sync trace) (map (λ line. Sync) trace) ≡ unanswered trace
 none_answered [] = refl
-none_answered (x ∷ xs) = ap (λ (rest : Answers). cond (is_sync x) (Some Sync) None ∷ rest) (none_answered xs)
+none_answered (x ∷ xs) = ap (λ (rest : KnownLines). cond (is_sync x) (Some Sync) None ∷ rest) (none_answered xs)
 
 pub known_at : (known : List Bool) (lines : List Line) (n : ℕ) → length known ≡ length lines
     → unwrap_or (slice_get known n) false ≡ is_some (option_and_then (λ a. a) (slice_get (answers_of known lines) n))
@@ -32,14 +32,14 @@ set_answer [] lines n l = refl
 set_answer (k ∷ ks) [] zero l = refl
 set_answer (k ∷ ks) [] (suc n) l = refl
 set_answer (k ∷ ks) (y ∷ ys) zero l = refl
-set_answer (k ∷ ks) (y ∷ ys) (suc n) l = ap (λ (rest : Answers). cond k (Some y) None ∷ rest) (set_answer ks ys n l)
+set_answer (k ∷ ks) (y ∷ ys) (suc n) l = ap (λ (rest : KnownLines). cond k (Some y) None ∷ rest) (set_answer ks ys n l)
 
 all_recursively : (known : List Bool) (lines : List Line) → length known ≡ length lines → AllByRecursion AnswerIsKnown (answers_of known lines)
     → answers_of known lines ≡ map (λ line. Some line) lines
 all_recursively [] [] same all = refl
 all_recursively [] (y ∷ ys) same all = absurd (omega (arith, same))
 all_recursively (k ∷ ks) [] same all = absurd (omega (arith, same))
-all_recursively (true ∷ ks) (y ∷ ys) same all = ap (λ (rest : Answers). Some y ∷ rest) (all_recursively ks ys (omega (arith, same)) all.1)
+all_recursively (true ∷ ks) (y ∷ ys) same all = ap (λ (rest : KnownLines). Some y ∷ rest) (all_recursively ks ys (omega (arith, same)) all.1)
 all_recursively (false ∷ ks) (y ∷ ys) same all = let no = all.0 in absurd (cc)
 
 pub all_lines_known : (known : List Bool) (lines : List Line) → length known ≡ length lines → All AnswerIsKnown (answers_of known lines) → answers_of known lines ≡ map (λ line. Some line) lines

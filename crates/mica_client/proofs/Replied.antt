@@ -21,7 +21,7 @@ use Rattle.mica_client.specs.declared.options.AskOptions.{AskOptions}
 use Rattle.mica_client.specs.declared.fault.AskFault.{AskFault}
 use Rattle.mica_client.specs.Talk.{Passed, sent, received}
 use Rattle.mica_client.specs.Batches.{Group, Ask, groups_of, numbered, want_of}
-use Rattle.mica_client.specs.Answers.{Answers, unanswered, line_of, after_one, after_replies, go_on, IsOfTrace}
+use Rattle.mica_client.specs.Answers.{KnownLines, unanswered, line_of, after_one, after_replies, go_on, IsOfTrace}
 use Rattle.mica_client.specs.Exchange.{Standing, start, Runs, ComesTo, IsWhole}
 use Rattle.mica_client.specs.Replied.{RepliesIn, with_ticket, IsReplied, IsRepliedOnce}
 use Rattle.mica_client.proofs.Requests.{of_line}
@@ -37,13 +37,13 @@ abbrev pub IsAnswer : Option Want → List Reply → Option Line → Type 0
 IsAnswer want replies None = replies ≡ []
 IsAnswer want replies (Some printed) = IsReplied want replies printed
 
-pub record AnswerAt (answers : Answers) (n : ℕ) (want : Option Want) (replies : List Reply) : Type 0 where
+pub record AnswerAt (answers : KnownLines) (n : ℕ) (want : Option Want) (replies : List Reply) : Type 0 where
   pub answer : Option Line
   pub at : slice_get answers n ≡ Some answer
   pub is : IsAnswer want replies answer
 
 -- what is known are the replies so far
-pub record Replied (trace : List TraceLine) (replies : List Reply) (answers : Answers) : Type 0 where
+pub record Replied (trace : List TraceLine) (replies : List Reply) (answers : KnownLines) : Type 0 where
   pub each : (n : ℕ) (line : TraceLine) → slice_get trace n ≡ Some line → AnswerAt answers n (want_of line.op) (with_ticket (n + 1) replies)
   pub tickets : AllByRecursion (λ reply. (1 ≤ reply.ticket) × (reply.ticket ≤ length trace)) replies
 
@@ -55,7 +55,7 @@ abbrev pub OfRequests : List TraceLine → List Request → Type 0
 OfRequests trace requests = AllByRecursion (IsOfTrace trace) requests
 
 -- the reply has the ticket of this line, which was not answered
-pub record IsReplyTo (trace : List TraceLine) (answers : Answers) (reply : Reply) (want : Want) : Type 0 where
+pub record IsReplyTo (trace : List TraceLine) (answers : KnownLines) (reply : Reply) (want : Want) : Type 0 where
   pub place : ℕ
   pub line : TraceLine
   pub at : slice_get trace place ≡ Some line
@@ -63,7 +63,7 @@ pub record IsReplyTo (trace : List TraceLine) (answers : Answers) (reply : Reply
   pub ticket_is : reply.ticket ≡ place + 1
   pub unknown : is_some (option_and_then (λ answer. answer) (slice_get answers place)) ≡ false
 
-reply_to : (trace : List TraceLine) (batch : Batch) (reply : Reply) (old new : Answers) → OfRequests trace batch.requests → (took : TookOne batch reply old new) → IsReplyTo trace old reply took.want
+reply_to : (trace : List TraceLine) (batch : Batch) (reply : Reply) (old new : KnownLines) → OfRequests trace batch.requests → (took : TookOne batch reply old new) → IsReplyTo trace old reply took.want
 reply_to trace batch reply old new of took =
     let found = asked (IsOfTrace trace) batch.requests reply.ticket took.want of took.at in
     let h = found.holds in
@@ -78,8 +78,8 @@ reply_to trace batch reply old new of took =
       unknown = subst (λ (k : ℕ). is_some (option_and_then (λ answer. answer) (slice_get old k)) ≡ false) (let e : reply.ticket - 1 ≡ h.place = omega (arith, ticket) in e) took.unknown;
     }
 
-module _ (trace : List TraceLine) (replies : List Reply) (reply : Reply) (old : Answers) (want : Want) (printed : Line) (so_far : Replied trace replies old) (to : IsReplyTo trace old reply want) (means : line_of want reply ≡ Some printed) where
-  abbrev new : Answers
+module _ (trace : List TraceLine) (replies : List Reply) (reply : Reply) (old : KnownLines) (want : Want) (printed : Line) (so_far : Replied trace replies old) (to : IsReplyTo trace old reply want) (means : line_of want reply ≡ Some printed) where
+  abbrev new : KnownLines
   new = set old to.place (Some printed)
 
   answered : AnswerAt new to.place (Some want) (with_ticket (to.place + 1) (replies ++ reply ∷ []))
@@ -118,7 +118,7 @@ module _ (trace : List TraceLine) (replies : List Reply) (reply : Reply) (old : 
           let its : want_of line.op ≡ Some want = ap (λ (l : TraceLine). want_of l.op) one ∙ to.want_is in
           subst (λ (w : Option Want). AnswerAt new n w (with_ticket (n + 1) (replies ++ reply ∷ []))) (sym its) (subst (λ (k : ℕ). AnswerAt new k (Some want) (with_ticket (k + 1) (replies ++ reply ∷ []))) same answered)
 
-one_replied : (trace : List TraceLine) (batch : Batch) (reply : Reply) (replies : List Reply) (old new : Answers) → OfRequests trace batch.requests → TookOne batch reply old new → Replied trace replies old
+one_replied : (trace : List TraceLine) (batch : Batch) (reply : Reply) (replies : List Reply) (old new : KnownLines) → OfRequests trace batch.requests → TookOne batch reply old new → Replied trace replies old
     → Replied trace (replies ++ reply ∷ []) new
 one_replied trace batch reply replies old new of took so_far =
     let to = reply_to trace batch reply old new of took in
@@ -126,15 +126,15 @@ one_replied trace batch reply replies old new of took so_far =
     subst (Replied trace (replies ++ reply ∷ [])) (ap (λ (k : ℕ). set old k (Some took.line)) place ∙ sym took.made)
     (replied_more trace replies reply old took.want took.line so_far to took.means)
 
-datagram_replied : (trace : List TraceLine) (batch : Batch) (number : ℕ) (own replies : List Reply) (old new : Answers) → OfRequests trace batch.requests → after_replies batch number own old ≡ Ok new
+datagram_replied : (trace : List TraceLine) (batch : Batch) (number : ℕ) (own replies : List Reply) (old new : KnownLines) → OfRequests trace batch.requests → after_replies batch number own old ≡ Ok new
     → Replied trace replies old → Replied trace (replies ++ own) new
 datagram_replied trace batch number [] replies old new of made so_far =
     let same : old ≡ new = cc in subst (λ (l : List Reply). Replied trace l new) (sym (append-nil replies)) (subst (Replied trace replies) same so_far)
 datagram_replied trace batch number (r ∷ rs) replies old new of made so_far =
     by (after_one batch number r old) refl made (λ mid k h. datagram_replied trace batch number rs (replies ++ r ∷ []) mid new of k h)
   where
-    by : (x : Result Answers AskFault) → after_one batch number r old ≡ x → go_on x (after_replies batch number rs) ≡ Ok new
-        → ((mid : Answers) → after_replies batch number rs mid ≡ Ok new → Replied trace (replies ++ r ∷ []) mid → Replied trace ((replies ++ r ∷ []) ++ rs) new)
+    by : (x : Result KnownLines AskFault) → after_one batch number r old ≡ x → go_on x (after_replies batch number rs) ≡ Ok new
+        → ((mid : KnownLines) → after_replies batch number rs mid ≡ Ok new → Replied trace (replies ++ r ∷ []) mid → Replied trace ((replies ++ r ∷ []) ++ rs) new)
         → Replied trace (replies ++ r ∷ rs) new
     by (Err fault) e k later = absurd (cc)
     by (Ok mid) e k later =
@@ -149,7 +149,7 @@ OfAsks trace asks = AllByRecursion (λ ask. OfRequests trace ask.batch.requests)
 abbrev pub OfAsked : List TraceLine → Option Batch → Type 0
 OfAsked trace asked = IfSome asked (λ batch. OfRequests trace batch.requests)
 
-pub record RepliedLater (trace : List TraceLine) (passed : List Passed) (replies : List Reply) (answers : Answers) : Type 0 where
+pub record RepliedLater (trace : List TraceLine) (passed : List Passed) (replies : List Reply) (answers : KnownLines) : Type 0 where
   pub later : List Reply
   pub are : RepliesIn passed later
   pub replied : Replied trace (replies ++ later) answers
@@ -222,7 +222,7 @@ replied_once options trace report passed c =
       record {
         lines = λ n line at.
             let here = each.each n line at in
-            let printed = printed_at report n here.answer (subst (λ (a : Answers). slice_get a n ≡ Some here.answer) c.2.1 here.at) in
+            let printed = printed_at report n here.answer (subst (λ (a : KnownLines). slice_get a n ≡ Some here.answer) c.2.1 here.at) in
             (printed.printed, printed.at, subst (IsAnswer (want_of line.op) (with_ticket (n + 1) all.later)) printed.is here.is);
         tickets = each.tickets;
       },

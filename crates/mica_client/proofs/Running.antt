@@ -8,10 +8,10 @@ use Rattle.mica_client.specs.declared.fault.AskFault.{AskFault}
 use Rattle.mica_client.specs.declared.fault.AskFault.TheVariants.{Unread, Stranger, Double, Wrong, Lost, Link, NoMemory}
 use Rattle.mica_client.specs.Talk.{Passed, sent, received, Talk, sent_one, received_in, Went, OnTalk, Passes, ReceivesNext}
 use Rattle.mica_client.specs.Batches.{Ask}
-use Rattle.mica_client.specs.Answers.{Answers, IsOfReply}
+use Rattle.mica_client.specs.Answers.{KnownLines, IsOfReply}
 use Rattle.mica_client.specs.declared.exchange.TheConstants.{ROOM}
 use Rattle.mica_client.proofs.Cut.{cut_spells, cut_unread}
-use Rattle.mica_client.specs.Exchange.{Standing, standing_at, waits, waits_for, lacks_answer, Steps, Runs, IsWhole, ComesTo, StopsAt, IsCauseOf, IsUnread, IsOfReading, SpellsAnswers, AnswersBatch, ShowsFault, Receives, StopsReading, StopsOne, Asks, StopsAsking, AsksAll}
+use Rattle.mica_client.specs.Exchange.{Standing, standing_at, waits, waits_for, lacks_answer, Steps, Runs, IsWhole, ComesTo, StopsAt, IsCauseOf, IsUnread, IsOfReading, SpellsAnswers, TakesReplies, ShowsFault, Receives, StopsReading, StopsOne, Asks, StopsAsking, AsksAll}
 
 -- a fact of what was told gives another
 pub on_each : (P Q : Talk → Talk → Type 0) → ((a b : Talk) → P a b → Q a b) → (x y : Option Talk) → OnTalk P x y → OnTalk Q x y
@@ -51,7 +51,7 @@ runs_on a b c (x ∷ xs) ys r s = (r.0, r.1, runs_on r.0 b c xs ys r.2 s)
 comes_on : (fact : Standing → Type 0) (a b : Standing) (xs ys : List Passed) → Runs a xs b → ComesTo b ys fact → ComesTo a (xs ++ ys) fact
 comes_on fact a b xs ys r c = (c.0, runs_on a b c.0 xs ys r c.1, c.2)
 
-stops_on : (shows : Batch → Answers → Datagram → Type 0) (a b : Standing) (xs ys : List Passed) → Runs a xs b → StopsAt b ys shows → StopsAt a (xs ++ ys) shows
+stops_on : (shows : Batch → KnownLines → Datagram → Type 0) (a b : Standing) (xs ys : List Passed) → Runs a xs b → StopsAt b ys shows → StopsAt a (xs ++ ys) shows
 stops_on shows a b xs ys r s = record {
   earlier = xs ++ s.earlier;
   at = s.at;
@@ -118,7 +118,7 @@ link_at None y same = tt
 link_at (Some t) y same = subst (OnTalk (StopsReading Link) (Some t)) (sym same) refl
 
 -- a fault of receiving and reading is one of the whole step
-as_step : (fault : AskFault) (batch : Batch) (answers : Answers) (a b : Talk) → StopsReading fault a b → StopsOne fault batch answers a b
+as_step : (fault : AskFault) (batch : Batch) (answers : KnownLines) (a b : Talk) → StopsReading fault a b → StopsOne fault batch answers a b
 as_step Unread batch answers a b s = s
 as_step NoMemory batch answers a b s = s
 as_step Lost batch answers a b s = s
@@ -127,11 +127,11 @@ as_step (Stranger t) batch answers a b s = absurd s
 as_step (Double t) batch answers a b s = absurd s
 as_step (Wrong t) batch answers a b s = absurd s
 
-pub stops_reading : (fault : AskFault) (batch : Batch) (answers : Answers) (x y : Option Talk) → OnTalk (StopsReading fault) x y → OnTalk (StopsOne fault batch answers) x y
+pub stops_reading : (fault : AskFault) (batch : Batch) (answers : KnownLines) (x y : Option Talk) → OnTalk (StopsReading fault) x y → OnTalk (StopsOne fault batch answers) x y
 stops_reading fault batch answers x y s = on_each (StopsReading fault) (StopsOne fault batch answers) (as_step fault batch answers) x y s
 
 -- and so is one that a reply shows
-shown_step : (fault : AskFault) (batch : Batch) (answers : Answers) (a b : Talk) → IsOfReply fault → Receives (λ bytes. ShowsFault batch answers bytes fault) a b → StopsOne fault batch answers a b
+shown_step : (fault : AskFault) (batch : Batch) (answers : KnownLines) (a b : Talk) → IsOfReply fault → Receives (λ bytes. ShowsFault batch answers bytes fault) a b → StopsOne fault batch answers a b
 shown_step Unread batch answers a b is s = absurd is
 shown_step NoMemory batch answers a b is s = absurd is
 shown_step Lost batch answers a b is s = absurd is
@@ -140,13 +140,13 @@ shown_step (Stranger t) batch answers a b is s = s
 shown_step (Double t) batch answers a b is s = s
 shown_step (Wrong t) batch answers a b is s = s
 
-pub stops_shown : (fault : AskFault) (batch : Batch) (answers : Answers) (x y : Option Talk) → IsOfReply fault → OnTalk (Receives (λ bytes. ShowsFault batch answers bytes fault)) x y → OnTalk (StopsOne fault batch answers) x y
+pub stops_shown : (fault : AskFault) (batch : Batch) (answers : KnownLines) (x y : Option Talk) → IsOfReply fault → OnTalk (Receives (λ bytes. ShowsFault batch answers bytes fault)) x y → OnTalk (StopsOne fault batch answers) x y
 stops_shown fault batch answers x y is s = on_each (Receives (λ bytes. ShowsFault batch answers bytes fault)) (StopsOne fault batch answers) (λ a b s. shown_step fault batch answers a b is s) x y s
 
 -- One batch
 
 -- it was sent
-pub asks_sent : (ask : Ask) (answers : Answers) (faults : ℕ) (x y : Option Talk) → y ≡ option_map (sent_one faults ask.port (batch_text ask.batch)) x → OnTalk (Passes (Asks ask answers answers)) x y
+pub asks_sent : (ask : Ask) (answers : KnownLines) (faults : ℕ) (x y : Option Talk) → y ≡ option_map (sent_one faults ask.port (batch_text ask.batch)) x → OnTalk (Passes (Asks ask answers answers)) x y
 asks_sent ask answers faults None y told = tt
 asks_sent ask answers faults (Some t) y told =
     subst (OnTalk (Passes (Asks ask answers answers)) (Some t)) (sym told)
@@ -171,11 +171,11 @@ asks_sent ask answers faults (Some t) y told =
     })
 
 -- one datagram of answers more
-pub asks_more : (ask : Ask) (old mid new : Answers) (x y z : Option Talk) → OnTalk (Passes (Asks ask old mid)) x y → OnTalk (Receives (λ bytes. AnswersBatch ask.batch mid bytes new)) y z
+pub asks_more : (ask : Ask) (old mid new : KnownLines) (x y z : Option Talk) → OnTalk (Passes (Asks ask old mid)) x y → OnTalk (Receives (λ bytes. TakesReplies ask.batch mid bytes new)) y z
     → OnTalk (Passes (Asks ask old new)) x z
-asks_more ask old mid new x y z p q = on_both (Passes (Asks ask old mid)) (Receives (λ bytes. AnswersBatch ask.batch mid bytes new)) (Passes (Asks ask old new)) step x y z p q
+asks_more ask old mid new x y z p q = on_both (Passes (Asks ask old mid)) (Receives (λ bytes. TakesReplies ask.batch mid bytes new)) (Passes (Asks ask old new)) step x y z p q
   where
-    step : (a b c : Talk) → Passes (Asks ask old mid) a b → Receives (λ bytes. AnswersBatch ask.batch mid bytes new) b c → Passes (Asks ask old new) a c
+    step : (a b c : Talk) → Passes (Asks ask old mid) a b → Receives (λ bytes. TakesReplies ask.batch mid bytes new) b c → Passes (Asks ask old new) a c
     step a b c p q = record {
       between = p.between ++ received q.bytes q.faults ∷ [];
       went = went_on a b c p.between (received q.bytes q.faults ∷ []) p.went q.went;
@@ -191,7 +191,7 @@ asks_more ask old mid new x y z p q = on_both (Passes (Asks ask old mid)) (Recei
     }
 
 -- a datagram that shows something, behind what passed
-stop_at : (shows : Batch → Answers → Datagram → Type 0) (ask : Ask) (old mid : Answers) (between : List Passed) (left : List Datagram) (bytes : Datagram) (faults : ℕ) → Asks ask old mid between left
+stop_at : (shows : Batch → KnownLines → Datagram → Type 0) (ask : Ask) (old mid : KnownLines) (between : List Passed) (left : List Datagram) (bytes : Datagram) (faults : ℕ) → Asks ask old mid between left
     → lacks_answer mid ask.batch.requests ≡ true → shows ask.batch mid bytes → (later : List Ask) (asked : Option Batch) → waits_for asked old ≡ false
     → StopsAt (standing_at (ask ∷ later) asked old) (between ++ received bytes faults ∷ []) shows
 stop_at shows ask old mid between left bytes faults asks waited shown later asked idle = record {
@@ -210,9 +210,9 @@ stop_at shows ask old mid between left bytes faults asks waited shown later aske
 pub not_whole : (standing : Standing) → waits standing ≡ true → IsWhole standing → ⊥
 not_whole standing waited whole = let no = whole.answered in cc
 
-module _ (ask : Ask) (old mid : Answers) (waited : lacks_answer mid ask.batch.requests ≡ true) where
+module _ (ask : Ask) (old mid : KnownLines) (waited : lacks_answer mid ask.batch.requests ≡ true) where
   -- what follows a datagram that was received
-  behind : (shows : Batch → Answers → Datagram → Type 0) (fault : AskFault)
+  behind : (shows : Batch → KnownLines → Datagram → Type 0) (fault : AskFault)
       → ((before : Standing) (passed : List Passed) (left : List Datagram) → StopsAt before passed shows → IsCauseOf fault before passed left)
       → (a b c : Talk) → Passes (Asks ask old mid) a b → Receives (λ bytes. shows ask.batch mid bytes) b c → Passes (StopsAsking fault ask old) a c
   behind shows fault is a b c p q = record {
@@ -244,30 +244,30 @@ module _ (ask : Ask) (old mid : Answers) (waited : lacks_answer mid ask.batch.re
   asks_stop fault x y z p q = on_both (Passes (Asks ask old mid)) (StopsOne fault ask.batch mid) (Passes (StopsAsking fault ask old)) (stop fault) x y z p q
 
 -- it was not sent
-not_sent : (fault : AskFault) (ask : Ask) (old : Answers) → ((later : List Ask) (asked : Option Batch) (left : List Datagram) → IsCauseOf fault (standing_at (ask ∷ later) asked old) [] left)
+not_sent : (fault : AskFault) (ask : Ask) (old : KnownLines) → ((later : List Ask) (asked : Option Batch) (left : List Datagram) → IsCauseOf fault (standing_at (ask ∷ later) asked old) [] left)
     → (x y : Option Talk) → y ≡ x → OnTalk (Passes (StopsAsking fault ask old)) x y
 not_sent fault ask old is None y same = tt
 not_sent fault ask old is (Some t) y same =
     subst (OnTalk (Passes (StopsAsking fault ask old)) (Some t)) (sym same)
     (record { between = []; went = went_none t; fact = record { cause = λ later asked idle. is later asked t.left } })
 
-pub not_sent_link : (ask : Ask) (old : Answers) (x y : Option Talk) → y ≡ x → OnTalk (Passes (StopsAsking Link ask old)) x y
+pub not_sent_link : (ask : Ask) (old : KnownLines) (x y : Option Talk) → y ≡ x → OnTalk (Passes (StopsAsking Link ask old)) x y
 not_sent_link ask old x y same = not_sent Link ask old (λ later asked left. (standing_at (ask ∷ later) asked old, refl, λ whole. absurd (let none = whole.all_sent in cc))) x y same
 
-pub not_sent_memory : (ask : Ask) (old : Answers) (x : Option Talk) → OnTalk (Passes (StopsAsking NoMemory ask old)) x x
+pub not_sent_memory : (ask : Ask) (old : KnownLines) (x : Option Talk) → OnTalk (Passes (StopsAsking NoMemory ask old)) x x
 not_sent_memory ask old x = not_sent NoMemory ask old (λ later asked left. inl (standing_at (ask ∷ later) asked old, refl, tt)) x x refl
 
 -- All batches
 
 -- these are left, and no ticket waits
-abbrev pub SoFar : List Ask → List Ask → Answers → Answers → List Passed → List Datagram → Type 0
+abbrev pub SoFar : List Ask → List Ask → KnownLines → KnownLines → List Passed → List Datagram → Type 0
 SoFar asks rest old mid between left = (asked : Option Batch) × Runs (standing_at asks None old) between (standing_at rest asked mid) × (waits_for asked mid ≡ false)
 
-pub so_far_none : (asks : List Ask) (old : Answers) (x : Option Talk) → OnTalk (Passes (SoFar asks asks old old)) x x
+pub so_far_none : (asks : List Ask) (old : KnownLines) (x : Option Talk) → OnTalk (Passes (SoFar asks asks old old)) x x
 so_far_none asks old None = tt
 so_far_none asks old (Some t) = record { between = []; went = went_none t; fact = (None, refl, refl) }
 
-pub so_far_more : (asks rest : List Ask) (ask : Ask) (old mid new : Answers) (x y z : Option Talk) → OnTalk (Passes (SoFar asks (ask ∷ rest) old mid)) x y → OnTalk (Passes (Asks ask mid new)) y z
+pub so_far_more : (asks rest : List Ask) (ask : Ask) (old mid new : KnownLines) (x y z : Option Talk) → OnTalk (Passes (SoFar asks (ask ∷ rest) old mid)) x y → OnTalk (Passes (Asks ask mid new)) y z
     → lacks_answer new ask.batch.requests ≡ false → OnTalk (Passes (SoFar asks rest old new)) x z
 so_far_more asks rest ask old mid new x y z p q done = on_both (Passes (SoFar asks (ask ∷ rest) old mid)) (Passes (Asks ask mid new)) (Passes (SoFar asks rest old new)) step x y z p q
   where
@@ -278,7 +278,7 @@ so_far_more asks rest ask old mid new x y z p q done = on_both (Passes (SoFar as
       fact = (Some ask.batch, runs_on _ _ _ p.between q.between p.fact.1 (q.fact.runs rest p.fact.0 p.fact.2), done);
     }
 
-pub so_far_stop : (fault : AskFault) (asks rest : List Ask) (ask : Ask) (old mid : Answers) (x y z : Option Talk) → OnTalk (Passes (SoFar asks (ask ∷ rest) old mid)) x y
+pub so_far_stop : (fault : AskFault) (asks rest : List Ask) (ask : Ask) (old mid : KnownLines) (x y z : Option Talk) → OnTalk (Passes (SoFar asks (ask ∷ rest) old mid)) x y
     → OnTalk (Passes (StopsAsking fault ask mid)) y z → OnTalk (Passes (IsCauseOf fault (standing_at asks None old))) x z
 so_far_stop fault asks rest ask old mid x y z p q =
     on_both (Passes (SoFar asks (ask ∷ rest) old mid)) (Passes (StopsAsking fault ask mid)) (Passes (IsCauseOf fault (standing_at asks None old))) step x y z p q
@@ -290,7 +290,7 @@ so_far_stop fault asks rest ask old mid x y z p q =
       fact = cause_on fault _ _ p.between q.between c.left p.fact.1 (q.fact.cause rest p.fact.0 p.fact.2);
     }
 
-pub so_far_all : (asks : List Ask) (old new : Answers) (x y : Option Talk) → OnTalk (Passes (SoFar asks [] old new)) x y → OnTalk (Passes (AsksAll asks old new)) x y
+pub so_far_all : (asks : List Ask) (old new : KnownLines) (x y : Option Talk) → OnTalk (Passes (SoFar asks [] old new)) x y → OnTalk (Passes (AsksAll asks old new)) x y
 so_far_all asks old new x y p =
     on_each (Passes (SoFar asks [] old new)) (Passes (AsksAll asks old new))
     (λ a b p. record {

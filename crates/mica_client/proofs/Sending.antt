@@ -7,7 +7,7 @@ use Rattle.mica_trace.specs.declared.report.Line.{Line}
 use Rattle.batch_packets.specs.declared.batch.Batch.{Batch}
 use Rattle.mica_client.specs.declared.fault.AskFault.{AskFault}
 use Rattle.mica_client.specs.declared.fault.AskFault.TheVariants.{Unread, Stranger, Double, Wrong, Lost, Link, NoMemory}
-use Rattle.mica_client.specs.Answers.{Answers}
+use Rattle.mica_client.specs.Answers.{KnownLines}
 use Rattle.mica_client.specs.Exchange.{Standing, Runs, IsWhole, sending, ComesTo, StopsAt, MeansForAsk}
 
 pub sent_so_far : (before after : Standing) (passed : List Passed) → Runs before passed after → sent_in passed ++ map sending after.left ≡ map sending before.left
@@ -37,7 +37,7 @@ BeginsSending before passed = (later : List (ℕ × Datagram)) × (sent_in passe
 begins_coming : (before : Standing) (passed : List Passed) (fact : Standing → Type 0) → ComesTo before passed fact → BeginsSending before passed
 begins_coming before passed fact c = (map sending c.0.left, sent_so_far before c.0 passed c.1)
 
-begins_stopping : (before : Standing) (passed : List Passed) (shows : Batch → Answers → Datagram → Type 0) → StopsAt before passed shows → BeginsSending before passed
+begins_stopping : (before : Standing) (passed : List Passed) (shows : Batch → KnownLines → Datagram → Type 0) → StopsAt before passed shows → BeginsSending before passed
 begins_stopping before passed shows s = (
   map sending s.at.left,
   ap (λ (l : List (ℕ × Datagram)). l ++ map sending s.at.left) (ap (λ (p : List Passed). sent_in p) s.last ∙ sent_last s.earlier s.bytes s.faults)

@@ -31,11 +31,11 @@ use Rattle.mica_client.specs.declared.fault.AskFault.{AskFault}
 use Rattle.mica_client.specs.declared.fault.AskFault.TheVariants.{Stranger, Double}
 use Rattle.mica_client.specs.Batches.{want_of}
 use Rattle.mica_client.proofs.Requests.{of_line}
-use Rattle.mica_client.specs.Answers.{Answers, HasTicketIn, HasTickets, wrote, is_answered, line_of, line_of_get, outcome_of_put, outcome_of_add, outcome_of_touch, outcome_of_del, is_printable, want_at, by_line, by_want, after_one, after_replies, go_on, open_answers, AreFor, IsOfTrace, KeepsAnswers}
+use Rattle.mica_client.specs.Answers.{KnownLines, HasTicketIn, HasTickets, wrote, is_answered, line_of, line_of_get, outcome_of_put, outcome_of_add, outcome_of_touch, outcome_of_del, is_printable, want_at, by_line, by_want, after_one, after_replies, go_on, open_answers, AreFor, IsOfTrace, KeepsAnswers}
 
 -- a list of answers with one more known
 
-known_set : (answers : Answers) (i : ℕ) (line : Line) (n : ℕ) → is_some (option_and_then (λ a. a) (slice_get answers n)) ≡ true → is_some (option_and_then (λ a. a) (slice_get (set answers i (Some line)) n)) ≡ true
+known_set : (answers : KnownLines) (i : ℕ) (line : Line) (n : ℕ) → is_some (option_and_then (λ a. a) (slice_get answers n)) ≡ true → is_some (option_and_then (λ a. a) (slice_get (set answers i (Some line)) n)) ≡ true
 known_set [] i line n h = h
 known_set (x ∷ xs) zero line zero h = refl
 known_set (x ∷ xs) zero line (suc n) h = h
@@ -46,7 +46,7 @@ none_known : (answer : Option Line) → is_some answer ≡ false → is_none ans
 none_known None h = refl
 none_known (Some line) h = absurd (cc)
 
-open_at : (answers : Answers) (i : ℕ) (d : Option Line) → i < length answers → is_some (option_and_then (λ a. a) (slice_get answers i)) ≡ false → is_none (get_or answers i d) ≡ true
+open_at : (answers : KnownLines) (i : ℕ) (d : Option Line) → i < length answers → is_some (option_and_then (λ a. a) (slice_get answers i)) ≡ false → is_none (get_or answers i d) ≡ true
 open_at [] i d within h = absurd (omega arith)
 open_at (x ∷ xs) zero d within h = none_known x h
 open_at (x ∷ xs) (suc i) d within h = open_at xs i d (omega arith) h
@@ -54,7 +54,7 @@ open_at (x ∷ xs) (suc i) d within h = open_at xs i d (omega arith) h
 abbrev none_count : Option Line → ℕ
 none_count a = cond (is_none a) 1 0
 
-open_set : (answers : Answers) (i : ℕ) (line : Line) → i < length answers
+open_set : (answers : KnownLines) (i : ℕ) (line : Line) → i < length answers
     → is_some (option_and_then (λ a. a) (slice_get answers i)) ≡ false → open_answers (set answers i (Some line)) + 1 ≡ open_answers answers
 open_set answers i line within h =
     let was : is_none (get_or answers i None) ≡ true = open_at answers i None within h in
@@ -62,7 +62,7 @@ open_set answers i line within h =
     let sums : open_answers (set answers i (Some line)) + none_count (get_or answers i None) ≡ open_answers answers + 0 = sum_by-set none_count answers i (Some line) None within in
     omega (arith, sums, one)
 
-for_set : (trace : List TraceLine) (answers : Answers) (i : ℕ) (line : TraceLine) (printed : Line) → slice_get trace i ≡ Some line → IsLineFor line printed → AreFor trace answers → AreFor trace (set answers i (Some printed))
+for_set : (trace : List TraceLine) (answers : KnownLines) (i : ℕ) (line : TraceLine) (printed : Line) → slice_get trace i ≡ Some line → IsLineFor line printed → AreFor trace answers → AreFor trace (set answers i (Some printed))
 for_set [] [] i line printed at fits all = absurd (cc)
 for_set [] (y ∷ ys) i line printed at fits all = absurd all
 for_set (x ∷ xs) [] i line printed at fits all = absurd all
@@ -89,7 +89,7 @@ asked fact (r ∷ rs) ticket want all h = by (r.ticket == ticket) refl h (λ k. 
 
 -- what one reply that shows nothing made of the answers
 
-pub record TookOne (batch : Batch) (reply : Reply) (old new : Answers) : Type 0 where
+pub record TookOne (batch : Batch) (reply : Reply) (old new : KnownLines) : Type 0 where
   pub want : Want
   pub line : Line
   pub at : want_at batch.requests reply.ticket ≡ Some want
@@ -97,12 +97,12 @@ pub record TookOne (batch : Batch) (reply : Reply) (old new : Answers) : Type 0 
   pub means : line_of want reply ≡ Some line
   pub made : new ≡ set old (reply.ticket - 1) (Some line)
 
-took_line : (batch : Batch) (reply : Reply) (old new : Answers) (want : Want) (line : Option Line) → want_at batch.requests reply.ticket ≡ Some want → is_answered old reply.ticket ≡ false → line_of want reply ≡ line
+took_line : (batch : Batch) (reply : Reply) (old new : KnownLines) (want : Want) (line : Option Line) → want_at batch.requests reply.ticket ≡ Some want → is_answered old reply.ticket ≡ false → line_of want reply ≡ line
     → by_line line reply old ≡ Ok new → TookOne batch reply old new
 took_line batch reply old new want None at unknown means h = absurd (cc)
 took_line batch reply old new want (Some line) at unknown means h = record { want = want; line = line; at = at; unknown = unknown; means = means; made = cc }
 
-took_want : (batch : Batch) (reply : Reply) (old new : Answers) (want : Option Want) → want_at batch.requests reply.ticket ≡ want → by_want want reply old ≡ Ok new → TookOne batch reply old new
+took_want : (batch : Batch) (reply : Reply) (old new : KnownLines) (want : Option Want) → want_at batch.requests reply.ticket ≡ want → by_want want reply old ≡ Ok new → TookOne batch reply old new
 took_want batch reply old new None at h = absurd (cc)
 took_want batch reply old new (Some want) at h = by (is_answered old reply.ticket) refl h
   where
@@ -110,7 +110,7 @@ took_want batch reply old new (Some want) at h = by (is_answered old reply.ticke
     by true e k = absurd (cc)
     by false e k = took_line batch reply old new want (line_of want reply) at e refl k
 
-pub took_one : (batch : Batch) (number : ℕ) (reply : Reply) (old new : Answers) → after_one batch number reply old ≡ Ok new → TookOne batch reply old new
+pub took_one : (batch : Batch) (number : ℕ) (reply : Reply) (old new : KnownLines) → after_one batch number reply old ≡ Ok new → TookOne batch reply old new
 took_one batch number reply old new h = by (number == batch.number) refl h
   where
     by : (b : Bool) → (number == batch.number) ≡ b → cond b (by_want (want_at batch.requests reply.ticket) reply old) (Err (Stranger reply.ticket)) ≡ Ok new → TookOne batch reply old new
@@ -190,11 +190,11 @@ op_line asked want reply line is lawful h = subst (λ w. IfSome w (λ want. line
 pub same_tickets : {requests : List Request} {a b : ℕ} → a ≡ b → HasTickets a requests → HasTickets b requests
 same_tickets {requests} same has = subst (λ (n : ℕ). HasTickets n requests) same has
 
-pub record KeepsOne (requests : List Request) (old new : Answers) : Type 0 where
+pub record KeepsOne (requests : List Request) (old new : KnownLines) : Type 0 where
   pub keeps : KeepsAnswers requests old new
   pub one_less : open_answers new + 1 ≡ open_answers old
 
-pub keeps_one : (batch : Batch) (reply : Reply) (old new : Answers) → TookOne batch reply old new → IsReply VERSION reply → HasTickets (length old) batch.requests → KeepsOne batch.requests old new
+pub keeps_one : (batch : Batch) (reply : Reply) (old new : KnownLines) → TookOne batch reply old new → IsReply VERSION reply → HasTickets (length old) batch.requests → KeepsOne batch.requests old new
 keeps_one batch reply old new took lawful tickets =
     let t = reply.ticket in
     let found = asked (HasTicketIn (length old)) batch.requests t took.want (recursion_from_All _ batch.requests tickets.within) took.at in
@@ -210,7 +210,7 @@ keeps_one batch reply old new took lawful tickets =
       one_less = subst (λ a. open_answers a + 1 ≡ open_answers old) (sym made) (open_set old (t - 1) took.line (omega arith) took.unknown);
     }
   where
-    lawful_line : (batch : Batch) (reply : Reply) (old : Answers) {new : Answers} (took : TookOne batch reply old new) → IsReply VERSION reply → (trace : List TraceLine) → AllByRecursion (IsOfTrace trace) batch.requests
+    lawful_line : (batch : Batch) (reply : Reply) (old : KnownLines) {new : KnownLines} (took : TookOne batch reply old new) → IsReply VERSION reply → (trace : List TraceLine) → AllByRecursion (IsOfTrace trace) batch.requests
         → AreFor trace old → AreFor trace (set old (reply.ticket - 1) (Some took.line))
     lawful_line batch reply old took lawful trace of so_far =
         let found = asked (IsOfTrace trace) batch.requests reply.ticket took.want of took.at in
@@ -222,33 +222,33 @@ keeps_one batch reply old new took lawful tickets =
 
 -- a datagram of replies
 
-pub record KeepsMany (requests : List Request) (many : ℕ) (old new : Answers) : Type 0 where
+pub record KeepsMany (requests : List Request) (many : ℕ) (old new : KnownLines) : Type 0 where
   pub keeps : KeepsAnswers requests old new
   pub less : open_answers new + many ≡ open_answers old
 
-pub keeps_none : (requests : List Request) (answers : Answers) → KeepsAnswers requests answers answers
+pub keeps_none : (requests : List Request) (answers : KnownLines) → KeepsAnswers requests answers answers
 keeps_none requests answers = record { len = refl; known = λ t h. h; lines = λ trace of h. h }
 
-pub keeps_both : (requests : List Request) (a b c : Answers) → KeepsAnswers requests a b → KeepsAnswers requests b c → KeepsAnswers requests a c
+pub keeps_both : (requests : List Request) (a b c : KnownLines) → KeepsAnswers requests a b → KeepsAnswers requests b c → KeepsAnswers requests a c
 keeps_both requests a b c x y = record {
   len = y.len ∙ x.len;
   known = λ t h. y.known t (x.known t h);
   lines = λ trace of h. y.lines trace of (x.lines trace of h);
 }
 
-keeps_replies : (batch : Batch) (number : ℕ) (replies : List Reply) (old new : Answers) → after_replies batch number replies old ≡ Ok new
+keeps_replies : (batch : Batch) (number : ℕ) (replies : List Reply) (old new : KnownLines) → after_replies batch number replies old ≡ Ok new
     → AllByRecursion (IsReply VERSION) replies → HasTickets (length old) batch.requests → KeepsMany batch.requests (length replies) old new
 keeps_replies batch number [] old new h lawful tickets =
     let same : old ≡ new = cc in
     record {
       keeps = subst (KeepsAnswers batch.requests old) same (keeps_none batch.requests old);
-      less = let e : open_answers new ≡ open_answers old = ap (λ (a : Answers). open_answers a) (sym same) in omega (arith, e);
+      less = let e : open_answers new ≡ open_answers old = ap (λ (a : KnownLines). open_answers a) (sym same) in omega (arith, e);
     }
 keeps_replies batch number (r ∷ rs) old new h lawful tickets =
     by (after_one batch number r old) refl h (λ mid k t. keeps_replies batch number rs mid new k lawful.1 t)
   where
-    by : (x : Result Answers AskFault) → after_one batch number r old ≡ x → go_on x (after_replies batch number rs) ≡ Ok new
-        → ((mid : Answers) → after_replies batch number rs mid ≡ Ok new → HasTickets (length mid) batch.requests → KeepsMany batch.requests (length rs) mid new)
+    by : (x : Result KnownLines AskFault) → after_one batch number r old ≡ x → go_on x (after_replies batch number rs) ≡ Ok new
+        → ((mid : KnownLines) → after_replies batch number rs mid ≡ Ok new → HasTickets (length mid) batch.requests → KeepsMany batch.requests (length rs) mid new)
         → KeepsMany batch.requests (length (r ∷ rs)) old new
     by (Err fault) e k later = absurd (cc)
     by (Ok mid) e k later =
@@ -257,15 +257,15 @@ keeps_replies batch number (r ∷ rs) old new h lawful tickets =
         record { keeps = keeps_both batch.requests old mid new first.keeps rest.keeps; less = omega (arith, first.one_less, rest.less) }
 
 -- a lawful datagram of them
-pub keeps_lawful : (batch : Batch) (replies : Replies) (old new : Answers) → after_replies batch replies.number replies.replies old ≡ Ok new → IsReplies replies → replies.version ≡ VERSION
+pub keeps_lawful : (batch : Batch) (replies : Replies) (old new : KnownLines) → after_replies batch replies.number replies.replies old ≡ Ok new → IsReplies replies → replies.version ≡ VERSION
     → HasTickets (length old) batch.requests → KeepsMany batch.requests (length replies.replies) old new
 keeps_lawful batch replies old new made lawful version tickets =
     keeps_replies batch replies.number replies.replies old new made (recursion_from_All (IsReply VERSION) _ (subst (λ v. All (IsReply v) replies.replies) version lawful.each)) tickets
 
 -- the lengths alone
-pub same_length : (batch : Batch) (number : ℕ) (reply : Reply) (old new : Answers) → after_one batch number reply old ≡ Ok new → length new ≡ length old
+pub same_length : (batch : Batch) (number : ℕ) (reply : Reply) (old new : KnownLines) → after_one batch number reply old ≡ Ok new → length new ≡ length old
 same_length batch number reply old new h =
-    let took = took_one batch number reply old new h in ap (λ (a : Answers). length a) took.made ∙ length-set old (reply.ticket - 1) (Some took.line)
+    let took = took_one batch number reply old new h in ap (λ (a : KnownLines). length a) took.made ∙ length-set old (reply.ticket - 1) (Some took.line)
 
 -- the ticket of a request of the batch is that of a line
 pub ticket_in : (lines : ℕ) (requests : List Request) (ticket : ℕ) (want : Want) → HasTickets lines requests → want_at requests ticket ≡ Some want → (1 ≤ ticket) × (ticket ≤ lines)

@@ -20,7 +20,7 @@ use Rattle.mica_client.specs.declared.options.AskOptions.{AskOptions}
 use Rattle.mica_client.specs.declared.options.TheConstants.{VERSION}
 use Rattle.mica_client.specs.AskOptions.{IsValidAsk}
 use Rattle.mica_client.specs.Batches.{Group, groups_of, requests_from, request_of, in_front}
-use Rattle.mica_client.specs.Answers.{Answers, unanswered, is_answered, HasTicketIn, TicketsRise, HasTickets, AreFor, IsOfTrace, KeepsAll, AnswerIsKnown}
+use Rattle.mica_client.specs.Answers.{KnownLines, unanswered, is_answered, HasTicketIn, TicketsRise, HasTickets, AreFor, IsOfTrace, KeepsAll, AnswerIsKnown}
 use Rattle.mica_client.specs.Exchange.{lacks_answer}
 use Rattle.mica_client.proofs.Requests.{of_line, other_some, each_request, requests_rise, requests_lawful}
 use Rattle.mica_client.proofs.Fitting.{Fits, of_each, of_rise, groups_fit, all_groups, all_lines, all_each}
@@ -52,7 +52,7 @@ of_trace options trace =
 
 -- Each line has its answer
 
-requests_answered : (answers : Answers) (requests : List Request) → lacks_answer answers requests ≡ false → AllByRecursion (λ r. is_answered answers r.ticket ≡ true) requests
+requests_answered : (answers : KnownLines) (requests : List Request) → lacks_answer answers requests ≡ false → AllByRecursion (λ r. is_answered answers r.ticket ≡ true) requests
 requests_answered answers [] h = tt
 requests_answered answers (r ∷ rs) h =
     let parts = or_parts (not (is_answered answers r.ticket)) (lacks_answer answers rs) h in
@@ -88,7 +88,7 @@ sync_known (x ∷ xs) zero line at sync =
     ap (λ (b : Bool). is_some (cond b (Some Sync) None)) s
 sync_known (x ∷ xs) (suc k) line at sync = sync_known xs k line at sync
 
-pub all_known : (options : AskOptions) (trace : List TraceLine) (new : Answers) → IsValidAsk options → AllByRecursion (Answered new) (groups_of options trace) → KeepsAll (groups_of options trace) (unanswered trace) new
+pub all_known : (options : AskOptions) (trace : List TraceLine) (new : KnownLines) → IsValidAsk options → AllByRecursion (Answered new) (groups_of options trace) → KeepsAll (groups_of options trace) (unanswered trace) new
     → All AnswerIsKnown new
 all_known options trace new valid answered keeps k d within =
     let Q = λ (t : ℕ). is_answered new t ≡ true in
@@ -118,6 +118,6 @@ lines_for [] (y ∷ ys) h = absurd h
 lines_for (x ∷ xs) [] h = absurd h
 lines_for (x ∷ xs) (y ∷ ys) h = (h.0, lines_for xs ys h.1)
 
-pub report_lines : (options : AskOptions) (trace : List TraceLine) (new : Answers) (report : List Line) → KeepsAll (groups_of options trace) (unanswered trace) new → new ≡ map (λ line. Some line) report → AllZip IsLineFor trace report
+pub report_lines : (options : AskOptions) (trace : List TraceLine) (new : KnownLines) (report : List Line) → KeepsAll (groups_of options trace) (unanswered trace) new → new ≡ map (λ line. Some line) report → AllZip IsLineFor trace report
 report_lines options trace new report keeps is =
     lines_for trace report (subst (AreFor trace) is (keeps.lines trace (of_trace options trace) (unanswered_for trace)))

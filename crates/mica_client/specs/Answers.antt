@@ -20,25 +20,25 @@ use Rattle.mica_client.specs.Batches.{Group, request_of}
 use Rattle.mica_client.specs.declared.fault.AskFault.TheVariants.{Stranger, Double, Wrong}
 
 -- for each line of a trace the line of the report, where it is known
-abbrev pub Answers : Type 0
-Answers = List (Option Line)
+abbrev pub KnownLines : Type 0
+KnownLines = List (Option Line)
 
 -- before any reply: a sync needs none
-abbrev pub unanswered : List TraceLine → Answers
+abbrev pub unanswered : List TraceLine → KnownLines
 unanswered trace = map (λ line. if is_sync line then Some Sync else None) trace
 
 -- the answers that these lines are, where each test says whether one is known
-abbrev pub answers_of : List Bool → List Line → Answers
+abbrev pub answers_of : List Bool → List Line → KnownLines
 answers_of [] lines = []
 answers_of (known ∷ more) [] = []
 answers_of (known ∷ more) (line ∷ lines) = (if known then Some line else None) ∷ answers_of more lines
 
 -- the answer that a ticket has; tickets count from 1
-abbrev pub answer_of : Answers → ℕ → Option Line
-answer_of answers ticket = option_and_then (λ answer. answer) (slice_get answers (ticket - 1))
+abbrev pub answer_to : KnownLines → ℕ → Option Line
+answer_to answers ticket = option_and_then (λ answer. answer) (slice_get answers (ticket - 1))
 
-abbrev pub is_answered : Answers → ℕ → Bool
-is_answered answers ticket = is_some (answer_of answers ticket)
+abbrev pub is_answered : KnownLines → ℕ → Bool
+is_answered answers ticket = is_some (answer_to answers ticket)
 
 -- the ticket is that of one of so many lines
 abbrev pub HasTicketIn : ℕ → Request → Type 0
@@ -102,18 +102,18 @@ abbrev pub want_at : List Request → ℕ → Option Want
 want_at requests ticket = option_map (λ request. request.want) (find (λ request. request.ticket == ticket) requests)
 
 -- the line is the answer to its ticket, where the reply means one
-abbrev pub by_line : Option Line → Reply → Answers → Result Answers AskFault
+abbrev pub by_line : Option Line → Reply → KnownLines → Result KnownLines AskFault
 by_line None reply answers = Err (Wrong reply.ticket)
 by_line (Some line) reply answers = Ok (slice_set answers (reply.ticket - 1) (Some line))
 
 -- the same, where the ticket is one of the batch
-abbrev pub by_want : Option Want → Reply → Answers → Result Answers AskFault
+abbrev pub by_want : Option Want → Reply → KnownLines → Result KnownLines AskFault
 by_want None reply answers = Err (Stranger reply.ticket)
 by_want (Some want) reply answers =
     if is_answered answers reply.ticket then Err (Double reply.ticket) else by_line (line_of want reply) reply answers
 
 -- what a reply in a datagram of this number makes of the answers while the batch waits, or what it shows
-abbrev pub after_one : Batch → ℕ → Reply → Answers → Result Answers AskFault
+abbrev pub after_one : Batch → ℕ → Reply → KnownLines → Result KnownLines AskFault
 after_one batch number reply answers =
     if number == batch.number then by_want (want_at batch.requests reply.ticket) reply answers
     else Err (Stranger reply.ticket)
@@ -126,18 +126,18 @@ IsOfReply (Wrong ticket) = Unit {0}
 IsOfReply fault = ⊥
 
 -- the second, which goes on with the answers, where the first shows nothing
-abbrev pub go_on : Result Answers AskFault → (Answers → Result Answers AskFault) → Result Answers AskFault
+abbrev pub go_on : Result KnownLines AskFault → (KnownLines → Result KnownLines AskFault) → Result KnownLines AskFault
 go_on (Ok answers) next = next answers
 go_on (Err fault) next = Err fault
 
 -- what the replies of a datagram make of the answers, or what the first of them shows that shows anything
-abbrev pub after_replies : Batch → ℕ → List Reply → Answers → Result Answers AskFault
+abbrev pub after_replies : Batch → ℕ → List Reply → KnownLines → Result KnownLines AskFault
 after_replies batch number [] answers = Ok answers
 after_replies batch number (reply ∷ replies) answers =
     go_on (after_one batch number reply answers) (after_replies batch number replies)
 
 -- each answer that is known is a line for the line of the trace
-abbrev pub AreFor : List TraceLine → Answers → Type 0
+abbrev pub AreFor : List TraceLine → KnownLines → Type 0
 AreFor trace answers = AllZip (λ line answer. IfSome answer (IsLineFor line)) trace answers
 
 -- the request is that of a line of the trace
@@ -148,17 +148,17 @@ pub record IsOfTrace (trace : List TraceLine) (request : Request) : Type 0 where
   pub is : request_of place line ≡ Some request
 
 -- how many answers are not known
-abbrev pub open_answers : Answers → ℕ
+abbrev pub open_answers : KnownLines → ℕ
 open_answers answers = count_by (λ answer. is_none answer) answers
 
 -- what answers to a batch make of the answers: none that was known is lost
-pub record KeepsAnswers (requests : List Request) (old new : Answers) : Type 0 where
+pub record KeepsAnswers (requests : List Request) (old new : KnownLines) : Type 0 where
   pub len : length new ≡ length old
   pub known : (ticket : ℕ) → is_answered old ticket ≡ true → is_answered new ticket ≡ true
   pub lines : (trace : List TraceLine) → AllByRecursion (IsOfTrace trace) requests → AreFor trace old → AreFor trace new
 
 -- the same of all batches
-pub record KeepsAll (groups : List Group) (old new : Answers) : Type 0 where
+pub record KeepsAll (groups : List Group) (old new : KnownLines) : Type 0 where
   pub len : length new ≡ length old
   pub known : (ticket : ℕ) → is_answered old ticket ≡ true → is_answered new ticket ≡ true
   pub lines : (trace : List TraceLine) → AllByRecursion (λ group. AllByRecursion (IsOfTrace trace) group.requests) groups

@@ -15,23 +15,23 @@ use Rattle.mica_client.specs.declared.fault.AskFault.{AskFault}
 use Rattle.mica_client.specs.declared.fault.AskFault.TheVariants.{Unread, Stranger, Double, Wrong, Lost, Link, NoMemory}
 use Rattle.mica_client.specs.Talk.{Passed, sent, received, Talk, Went}
 use Rattle.mica_client.specs.Batches.{Ask, asks_of}
-use Rattle.mica_client.specs.Answers.{Answers, unanswered, is_answered, after_replies}
+use Rattle.mica_client.specs.Answers.{KnownLines, unanswered, is_answered, after_replies}
 
 -- where an exchange stands: the batches that are not sent, the one that was sent last, and the answers so far
 pub record Standing : Type 0 where
   pub left : List Ask
   pub asked : Option Batch
-  pub answers : Answers
+  pub answers : KnownLines
 
 -- before any datagram
 abbrev pub start : AskOptions → List TraceLine → Standing
 start options trace = record { left = asks_of options trace; asked = None; answers = unanswered trace }
 
 -- some request has no answer
-abbrev pub lacks_answer : Answers → List Request → Bool
+abbrev pub lacks_answer : KnownLines → List Request → Bool
 lacks_answer answers requests = list_any (λ request. not (is_answered answers request.ticket)) requests
 
-abbrev pub waits_for : Option Batch → Answers → Bool
+abbrev pub waits_for : Option Batch → KnownLines → Bool
 waits_for None answers = false
 waits_for (Some batch) answers = lacks_answer answers batch.requests
 
@@ -55,14 +55,14 @@ pub record SpellsAnswers (bytes : Datagram) (replies : Replies) : Type 0 where
   pub version : replies.version ≡ VERSION
 
 -- while a ticket of the batch waited, a datagram of replies was received, each of which answered one that had no answer
-pub record AnswersBatch (batch : Batch) (before : Answers) (bytes : Datagram) (after : Answers) : Type 0 where
+pub record TakesReplies (batch : Batch) (before : KnownLines) (bytes : Datagram) (after : KnownLines) : Type 0 where
   pub waited : lacks_answer before batch.requests ≡ true
   pub replies : Replies
   pub spelled : SpellsAnswers bytes replies
   pub made : after_replies batch replies.number replies.replies before ≡ Ok after
 
 -- the same of a datagram whose first reply that shows anything shows this fault
-pub record ShowsFault (batch : Batch) (before : Answers) (bytes : Datagram) (fault : AskFault) : Type 0 where
+pub record ShowsFault (batch : Batch) (before : KnownLines) (bytes : Datagram) (fault : AskFault) : Type 0 where
   pub waited : lacks_answer before batch.requests ≡ true
   pub replies : Replies
   pub spelled : SpellsAnswers bytes replies
@@ -76,7 +76,7 @@ IsUnread bytes = (replies : Replies) → ¬ (SpellsAnswers bytes replies)
 pub record TakesAnswers (before : Standing) (bytes : Datagram) (after : Standing) : Type 0 where
   pub batch : Batch
   pub asked : before.asked ≡ Some batch
-  pub taken : AnswersBatch batch before.answers bytes after.answers
+  pub taken : TakesReplies batch before.answers bytes after.answers
   pub left : after.left ≡ before.left
   pub same : after.asked ≡ before.asked
 
@@ -100,7 +100,7 @@ abbrev pub ComesTo : Standing → List Passed → (Standing → Type 0) → Type
 ComesTo before passed fact = (at : Standing) × Runs before passed at × fact at
 
 -- The exchange came to where a ticket waits, and the datagram that was received then is the last.
-pub record StopsAt (before : Standing) (passed : List Passed) (shows : Batch → Answers → Datagram → Type 0) : Type 0 where
+pub record StopsAt (before : Standing) (passed : List Passed) (shows : Batch → KnownLines → Datagram → Type 0) : Type 0 where
   pub earlier : List Passed
   pub at : Standing
   pub runs : Runs before earlier at
@@ -139,7 +139,7 @@ is_lost (Ok value) = false
 is_lost (Err fault) = is_lost_fault fault
 
 -- where it stands with these parts
-abbrev pub standing_at : List Ask → Option Batch → Answers → Standing
+abbrev pub standing_at : List Ask → Option Batch → KnownLines → Standing
 standing_at left asked answers = record { left = left; asked = asked; answers = answers }
 
 -- a fault of the reading of a datagram
@@ -164,24 +164,24 @@ StopsReading Link before after = after ≡ before
 StopsReading fault before after = ⊥
 
 -- the same of one that takes the replies too, while the batch waits
-abbrev pub StopsOne : AskFault → Batch → Answers → Talk → Talk → Type 0
+abbrev pub StopsOne : AskFault → Batch → KnownLines → Talk → Talk → Type 0
 StopsOne (Stranger ticket) batch answers before after = Receives (λ bytes. ShowsFault batch answers bytes (Stranger ticket)) before after
 StopsOne (Double ticket) batch answers before after = Receives (λ bytes. ShowsFault batch answers bytes (Double ticket)) before after
 StopsOne (Wrong ticket) batch answers before after = Receives (λ bytes. ShowsFault batch answers bytes (Wrong ticket)) before after
 StopsOne fault batch answers before after = StopsReading fault before after
 
 -- from before the batch was sent until there are these answers, whatever follows and whatever was asked before
-pub record Asks (ask : Ask) (old new : Answers) (between : List Passed) (left : List Datagram) : Type 0 where
+pub record Asks (ask : Ask) (old new : KnownLines) (between : List Passed) (left : List Datagram) : Type 0 where
   pub runs : (later : List Ask) (asked : Option Batch) → waits_for asked old ≡ false
       → Runs (standing_at (ask ∷ later) asked old) between (standing_at later (Some ask.batch) new)
 
 -- the same up to a fault
-pub record StopsAsking (fault : AskFault) (ask : Ask) (old : Answers) (between : List Passed) (left : List Datagram) : Type 0 where
+pub record StopsAsking (fault : AskFault) (ask : Ask) (old : KnownLines) (between : List Passed) (left : List Datagram) : Type 0 where
   pub cause : (later : List Ask) (asked : Option Batch) → waits_for asked old ≡ false
       → IsCauseOf fault (standing_at (ask ∷ later) asked old) between left
 
 -- all these batches were sent and answered
-abbrev pub AsksAll : List Ask → Answers → Answers → List Passed → List Datagram → Type 0
+abbrev pub AsksAll : List Ask → KnownLines → KnownLines → List Passed → List Datagram → Type 0
 AsksAll asks old new between left = ComesTo (standing_at asks None old) between (λ at. IsWhole at × (at.answers ≡ new))
 
 -- what is sent for a batch

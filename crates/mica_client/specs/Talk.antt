@@ -31,13 +31,13 @@ OnTalk P (Some before) None = ⊥
 OnTalk P (Some before) (Some after) = P before after
 
 -- the datagrams that were sent, with their ports
-abbrev pub sent_by : Passed → List (ℕ × Datagram) → List (ℕ × Datagram)
-sent_by (sent port bytes faults) later = (port, bytes) ∷ later
-sent_by (received bytes faults) later = later
+abbrev pub with_sent : Passed → List (ℕ × Datagram) → List (ℕ × Datagram)
+with_sent (sent port bytes faults) later = (port, bytes) ∷ later
+with_sent (received bytes faults) later = later
 
 abbrev pub sent_in : List Passed → List (ℕ × Datagram)
 sent_in [] = []
-sent_in (one ∷ more) = sent_by one (sent_in more)
+sent_in (one ∷ more) = with_sent one (sent_in more)
 
 -- the datagrams that were received
 abbrev pub received_by : Passed → List Datagram → List Datagram

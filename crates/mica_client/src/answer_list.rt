@@ -16,9 +16,9 @@ pub struct AnswerList {
 
 impl Model for AnswerList {
     ghost use Rattle.std.specs.Prelude.{◌≡◌, length};
-    ghost use Rattle.mica_client.specs.Answers.{Answers, answers_of};
+    ghost use Rattle.mica_client.specs.Answers.{KnownLines, answers_of};
 
-    ghost Value = { Answers };
+    ghost Value = { KnownLines };
 
     ghost view = { λ a. answers_of a.known.items a.lines.items };
 

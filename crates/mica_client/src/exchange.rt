@@ -10,7 +10,7 @@ ghost use Rattle.mica_client.specs.AskOptions.{IsValidAsk};
 ghost use Rattle.mica_client.specs.Talk.{OnTalk, Passes};
 ghost use Rattle.mica_client.specs.Batches.{numbered};
 ghost use Rattle.mica_client.specs.Answers.{HasTickets, KeepsAnswers, KeepsAll, open_answers};
-ghost use Rattle.mica_client.specs.Exchange.{lacks_answer, start, standing_at, SpellsAnswers, IsUnread, AnswersBatch, IsCauseOf, MeansForAsk, Receives, StopsReading, StopsOne, Asks, StopsAsking, AsksAll, IsOfReading, is_lost};
+ghost use Rattle.mica_client.specs.Exchange.{lacks_answer, start, standing_at, SpellsAnswers, IsUnread, TakesReplies, IsCauseOf, MeansForAsk, Receives, StopsReading, StopsOne, Asks, StopsAsking, AsksAll, IsOfReading, is_lost};
 
 use crate::answer_list::AnswerList;
 use crate::answers::take_replies;
@@ -84,7 +84,7 @@ fn receive_one<L: Link>(
     requires waits { lacks_answer answers.old batch.now.requests ≡ true }
     requires tickets { HasTickets (length answers.old) batch.now.requests }
     requires room { length room.old ≡ ROOM }
-    ensures taken { OnOk result (OnTalk (Receives (λ bytes. AnswersBatch batch.now answers.old bytes answers.new))
+    ensures taken { OnOk result (OnTalk (Receives (λ bytes. TakesReplies batch.now answers.old bytes answers.new))
         (L.talk link.old) (L.talk link.new)) }
     ensures keeps { OnOk result (KeepsAnswers batch.now.requests answers.old answers.new) }
     ensures fewer { OnOk result (open_answers answers.new < open_answers answers.old) }

@@ -8,11 +8,11 @@ use Rattle.mica_trace.specs.declared.line.TraceLine.{TraceLine}
 use Rattle.mica_trace.specs.declared.line.TraceFault.{TraceFault}
 use Rattle.mica_trace.specs.declared.line.TraceFault.TheVariants.{NoMemory as NoRoom}
 use Rattle.mica_trace.specs.TraceGrammar.{IsNoTrace, Refuses, fault_text}
-use Rattle.partition_table.specs.declared.tables.Entry.{Entry}
+use Rattle.partition_table.specs.declared.tables.KeptSeat.{KeptSeat}
 use Rattle.mica_trace.specs.declared.report.Line.{Line}
 use Rattle.mica_trace.specs.Printed.{PrintsText, PrintsPart}
 use Rattle.mica_replay.specs.Replayed.{IsReplayed}
-use Rattle.mica_serve.specs.declared.ports.Ports.{Ports}
+use Rattle.mica_fronts.specs.declared.ports.Ports.{Ports}
 use Rattle.mica_fronts.specs.declared.totals.Totals.{Totals}
 use Rattle.mica_fronts.specs.declared.totals.ServeFault.{ServeFault}
 use Rattle.mica_fronts.specs.declared.totals.ServeFault.TheVariants.{Net}
@@ -96,7 +96,7 @@ replay_done options old new trace given printed reads net link =
     (printed_due (IsDueOfReplay options old new) old.source new.source old.sink new.sink trace given (λ report. IsReplayed options trace report new.tables) (λ report is. (report, is.lawful, refl)) printed) reads net
     (λ _. (text, (given.0, given.1, (trace, given.2, (printed.report, printed.is_report, refl))), printed.taken)) link
 
-pub replay_cut : (options : Options) (old new : Outside) (trace : List TraceLine) (kept : List Entry) → GivesTrace old.source new.source trace
+pub replay_cut : (options : Options) (old new : Outside) (trace : List TraceLine) (kept : List KeptSeat) → GivesTrace old.source new.source trace
     → Rose old.sink.faults new.sink.faults → PrintsPart (λ report. IsReplayed options trace report kept) old.sink.taken new.sink.taken
     → ReadsInput old.source new.source → new.net ≡ old.net → new.link ≡ old.link → KeepsPromise (replay_promise options) old new WriteFault
 replay_cut options old new trace kept given rose part reads net link =
@@ -106,7 +106,7 @@ replay_cut options old new trace kept given rose part reads net link =
 
 -- ---- bench
 
-pub bench_done : (options : Options) (generator : GenOptions) (source : SourceFacts) (old new : SinkFacts) (net : NetFacts) (was kept : List Entry) (link : LinkFacts) (text : List ℕ) (result : Status)
+pub bench_done : (options : Options) (generator : GenOptions) (source : SourceFacts) (old new : SinkFacts) (net : NetFacts) (was kept : List KeptSeat) (link : LinkFacts) (text : List ℕ) (result : Status)
     → IsSeatedSummary options generator kept text → IsWritten Done text old new result
     → KeepsPromise (bench_promise options generator) (outside source old net was link) (outside source new net kept link) result
 bench_done options generator source old new net was kept link text result is written =

@@ -5,7 +5,7 @@ use Rattle.mica_io.specs.Faults.{Rose}
 use Rattle.mica_io.specs.Ports.{Ports as NetPorts}
 use Rattle.partition_model.specs.declared.options.Options.{Options}
 use Rattle.mica_trace.specs.declared.line.TraceLine.{TraceLine}
-use Rattle.mica_serve.specs.declared.ports.Ports.{Ports}
+use Rattle.mica_fronts.specs.declared.ports.Ports.{Ports}
 use Rattle.mica_serve.specs.Served.{BeginsPorts}
 use Rattle.mica_serve.specs.NetRun.{NetFacts, OnPorts, ReleasesAll}
 use Rattle.mica_client.specs.declared.options.AskOptions.{AskOptions}

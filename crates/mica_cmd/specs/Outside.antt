@@ -1,7 +1,7 @@
 -- What is known of the outside at one moment of a run.
 use Rattle.std.specs.Prelude.{◌≡◌, ℕ, Bool, true, List, Option}
 use Rattle.std.specs.Io.KnownBytes.{IsAtEnd}
-use Rattle.partition_table.specs.declared.tables.Entry.{Entry}
+use Rattle.partition_table.specs.declared.tables.KeptSeat.{KeptSeat}
 use Rattle.mica_serve.specs.NetRun.{NetFacts}
 use Rattle.mica_client.specs.Talk.{Talk}
 
@@ -39,11 +39,11 @@ pub record Outside : Type 0 where
   pub source : SourceFacts
   pub sink : SinkFacts
   pub net : NetFacts
-  pub tables : List Entry
+  pub tables : List KeptSeat
   pub link : LinkFacts
 
 -- of its parts
-abbrev pub outside : SourceFacts → SinkFacts → NetFacts → List Entry → LinkFacts → Outside
+abbrev pub outside : SourceFacts → SinkFacts → NetFacts → List KeptSeat → LinkFacts → Outside
 outside source sink net tables link = record { source = source; sink = sink; net = net; tables = tables; link = link }
 
 -- the source was read to its end

@@ -9,7 +9,7 @@ use Rattle.mica_trace.specs.TraceGrammar.{trace_text}
 use Rattle.mica_trace.specs.ReportGrammar.{report_text}
 use Rattle.mica_trace.specs.LawfulReport.{LawfulReport}
 use Rattle.mica_trace.specs.ExactReport.{ExactReport}
-use Rattle.partition_table.specs.declared.tables.Entry.{Entry}
+use Rattle.partition_table.specs.declared.tables.KeptSeat.{KeptSeat}
 use Rattle.mica_client.specs.declared.options.AskOptions.{AskOptions}
 use Rattle.mica_client.specs.declared.fault.AskFault.{AskFault}
 use Rattle.mica_client.specs.declared.fault.AskFault.TheVariants.{Link, NoMemory as NoRoom}
@@ -23,7 +23,7 @@ use Rattle.store_image.specs.ImageGrammar.{Pair, SpellsImage, image_text, first_
 use Rattle.store_image.specs.ImageLines.{put_lines}
 use Rattle.store_image.specs.ImageOf.{IsImaged}
 use Rattle.mica_replay.specs.Replayed.{IsReplayed}
-use Rattle.mica_serve.specs.declared.ports.Ports.{Ports}
+use Rattle.mica_fronts.specs.declared.ports.Ports.{Ports}
 use Rattle.mica_fronts.specs.declared.totals.Totals.{Totals}
 use Rattle.mica_serve.specs.Filled.{nothing_begun}
 use Rattle.mica_serve.specs.NetRun.{NetFacts, HasServed, HasServedOnTables, HasStopped, KeepsNet}
@@ -99,7 +99,7 @@ IsAlwaysDone status trace = status ≡ Done
 -- ---- replay: a lawful report of the trace that the source gives
 
 -- the report is that of a run whose owners' seats these are
-abbrev pub IsSeatedReport : Options → List Entry → List TraceLine → List ℕ → Type 0
+abbrev pub IsSeatedReport : Options → List KeptSeat → List TraceLine → List ℕ → Type 0
 IsSeatedReport options kept trace text = (report : List Line) × IsReplayed options trace report kept × (text ≡ report_text report)
 
 -- with Done this is the headline
@@ -153,7 +153,7 @@ IsSummary options generator text =
     (report : List Line) × LawfulReport options (generated generator) report × (text ≡ summary_text options (generated generator) report)
 
 -- the summary is that of a run whose owners' seats these are
-abbrev pub IsSeatedSummary : Options → GenOptions → List Entry → List ℕ → Type 0
+abbrev pub IsSeatedSummary : Options → GenOptions → List KeptSeat → List ℕ → Type 0
 IsSeatedSummary options generator kept text =
     (report : List Line) × IsReplayed options (generated generator) report kept × (text ≡ summary_text options (generated generator) report)
 

@@ -2,7 +2,7 @@
 ghost use Rattle.std.specs.Prelude.{◌≡◌, false, List};
 ghost use Rattle.std.specs.List.{AllByRecursion};
 ghost use Rattle.mica_serve.specs.NetRun.{NetFacts};
-ghost use Rattle.partition_table.specs.declared.tables.Entry.{Entry};
+ghost use Rattle.partition_table.specs.declared.tables.KeptSeat.{KeptSeat};
 ghost use Rattle.mica_trace.specs.ReportGrammar.{report_text, IsReportLine};
 ghost use Rattle.mica_client.specs.AskOptions.{IsValidAsk};
 ghost use Rattle.mica_cmd.specs.Outside.{outside, source_facts, sink_facts, link_facts};
@@ -30,7 +30,7 @@ pub fn ask_command<W: Threads + Wait + Sync, S: Source, K: Sink, L: Link>(
 ) -> Status
     requires open { S.has_ended source.old ≡ false }
     requires valid { IsValidAsk options.now }
-    ensures { (net : NetFacts) → (kept : List Entry) → KeepsPromise (ask_promise options.now)
+    ensures { (net : NetFacts) → (kept : List KeptSeat) → KeepsPromise (ask_promise options.now)
         (outside (source_facts S.left S.has_ended S.faults source.old) (sink_facts K.taken K.faults sink.old) net kept
         (link_facts L.talk L.has_ended L.faults link.old))
         (outside (source_facts S.left S.has_ended S.faults source.new) (sink_facts K.taken K.faults sink.new) net kept

@@ -2,7 +2,7 @@
 ghost use Rattle.std.specs.Prelude.{◌≡◌, false, List};
 ghost use Rattle.partition_model.specs.Options.{IsValid};
 ghost use Rattle.mica_serve.specs.NetRun.{NetFacts};
-ghost use Rattle.partition_table.specs.declared.tables.Entry.{Entry};
+ghost use Rattle.partition_table.specs.declared.tables.KeptSeat.{KeptSeat};
 ghost use Rattle.mica_cmd.specs.Outside.{outside, source_facts, sink_facts, LinkFacts};
 ghost use Rattle.mica_cmd.specs.Promise.{KeepsPromise};
 ghost use Rattle.mica_cmd.specs.Promises.{exclusive_promise};
@@ -27,7 +27,7 @@ pub fn exclusive_command<W: Threads + Wait + Sync, S: Source, K: Sink, G: Gate>(
 ) -> Status
     requires open { S.has_ended source.old ≡ false }
     requires valid { IsValid options.now }
-    ensures { (net : NetFacts) → (kept : List Entry) → (link : LinkFacts) → KeepsPromise (exclusive_promise options.now)
+    ensures { (net : NetFacts) → (kept : List KeptSeat) → (link : LinkFacts) → KeepsPromise (exclusive_promise options.now)
         (outside (source_facts S.left S.has_ended S.faults source.old) (sink_facts K.taken K.faults sink.old) net kept link)
         (outside (source_facts S.left S.has_ended S.faults source.new) (sink_facts K.taken K.faults sink.new) net kept link) result }
 {

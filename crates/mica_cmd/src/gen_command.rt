@@ -1,7 +1,7 @@
 //! The command `gen`.
 ghost use Rattle.std.specs.Prelude.{◌≡◌, List, true};
 ghost use Rattle.mica_serve.specs.NetRun.{NetFacts};
-ghost use Rattle.partition_table.specs.declared.tables.Entry.{Entry};
+ghost use Rattle.partition_table.specs.declared.tables.KeptSeat.{KeptSeat};
 ghost use Rattle.mica_commands.specs.GenOptions.{is_valid};
 ghost use Rattle.mica_cmd.specs.Outside.{outside, SourceFacts, sink_facts, LinkFacts};
 ghost use Rattle.mica_cmd.specs.Promise.{KeepsPromise};
@@ -16,7 +16,7 @@ use std::alloc::Global;
 /// Prints the trace that the options generate.
 pub fn gen_command<K: Sink>(alloc: Global, generator: &GenOptions, sink: &mut K) -> Status
     requires { is_valid generator.now ≡ true }
-    ensures { (source : SourceFacts) → (net : NetFacts) → (kept : List Entry) → (link : LinkFacts) → KeepsPromise (gen_promise generator.now)
+    ensures { (source : SourceFacts) → (net : NetFacts) → (kept : List KeptSeat) → (link : LinkFacts) → KeepsPromise (gen_promise generator.now)
         (outside source (sink_facts K.taken K.faults sink.old) net kept link)
         (outside source (sink_facts K.taken K.faults sink.new) net kept link) result }
 {

@@ -2,7 +2,7 @@
 ghost use Rattle.std.specs.Prelude.{◌≡◌, false, List, IfOk};
 ghost use Rattle.partition_model.specs.Options.{IsValid};
 ghost use Rattle.mica_serve.specs.NetRun.{NetFacts};
-ghost use Rattle.partition_table.specs.declared.tables.Entry.{Entry};
+ghost use Rattle.partition_table.specs.declared.tables.KeptSeat.{KeptSeat};
 ghost use Rattle.mica_cmd.specs.Outside.{outside, source_facts, sink_facts, LinkFacts};
 ghost use Rattle.mica_cmd.specs.Promise.{KeepsPromise};
 ghost use Rattle.mica_cmd.specs.Promises.{image_promise, IsImageText};
@@ -26,7 +26,7 @@ pub fn image_command<S: Source, K: Sink>(
     requires open { S.has_ended source.old ≡ false }
     requires valid { IsValid options.now }
     requires mode { options.now.mode ≡ Mode.Store }
-    ensures { (net : NetFacts) → (kept : List Entry) → (link : LinkFacts) → KeepsPromise (image_promise options.now)
+    ensures { (net : NetFacts) → (kept : List KeptSeat) → (link : LinkFacts) → KeepsPromise (image_promise options.now)
         (outside (source_facts S.left S.has_ended S.faults source.old) (sink_facts K.taken K.faults sink.old) net kept link)
         (outside (source_facts S.left S.has_ended S.faults source.new) (sink_facts K.taken K.faults sink.new) net kept link) result }
 {

@@ -1,7 +1,7 @@
 //! The command `unpack`.
 ghost use Rattle.std.specs.Prelude.{◌≡◌, false, List};
 ghost use Rattle.mica_serve.specs.NetRun.{NetFacts};
-ghost use Rattle.partition_table.specs.declared.tables.Entry.{Entry};
+ghost use Rattle.partition_table.specs.declared.tables.KeptSeat.{KeptSeat};
 ghost use Rattle.mica_trace.specs.TraceGrammar.{trace_text};
 ghost use Rattle.store_image.specs.ImageLines.{put_lines};
 ghost use Rattle.mica_cmd.specs.Outside.{outside, source_facts, sink_facts, LinkFacts};
@@ -18,7 +18,7 @@ use store_image::{Image, ImageFault, put_image, read_image};
 /// Prints a line for each pair of the image that the source gives.
 pub fn unpack_command<S: Source, K: Sink>(alloc: Global, source: &mut S, sink: &mut K) -> Status
     requires { S.has_ended source.old ≡ false }
-    ensures { (net : NetFacts) → (kept : List Entry) → (link : LinkFacts) → KeepsPromise unpack_promise
+    ensures { (net : NetFacts) → (kept : List KeptSeat) → (link : LinkFacts) → KeepsPromise unpack_promise
         (outside (source_facts S.left S.has_ended S.faults source.old) (sink_facts K.taken K.faults sink.old) net kept link)
         (outside (source_facts S.left S.has_ended S.faults source.new) (sink_facts K.taken K.faults sink.new) net kept link) result }
 {

@@ -18,8 +18,8 @@ use Rattle.mica_client.specs.declared.options.AskOptions.{AskOptions}
 use Rattle.mica_client.specs.AskOptions.{IsValidAsk}
 use Rattle.partition_model.specs.Options.{InRange, IsValid}
 use Rattle.mica_fronts.specs.declared.totals.TheConstants.{MAX_BATCHES}
-use Rattle.mica_serve.specs.declared.ports.Ports.{Ports}
-use Rattle.mica_serve.specs.PortOptions.{IsValidPorts}
+use Rattle.mica_fronts.specs.declared.ports.Ports.{Ports}
+use Rattle.mica_fronts.specs.PortOptions.{IsValidPorts}
 use Rattle.mica_commands.specs.Words.{Text}
 use Rattle.mica_commands.specs.DaemonWords.{Service, image_name, lasting_ports, may_fill, daemon_given}
 use Rattle.mica_commands.specs.CommandLine.{mode, partitions, buckets, spares, words, readers, tries, wear, port, fronts, batches, number, required_number, number_of, is_number, value_by, value_of, options_with, replay_options, serve_options, without_readers, exclusive_options, image_options, ask_options, per, port_options, ◌>>=◌}

@@ -5,8 +5,8 @@ use Rattle.partition_model.specs.declared.options.Mode.{Mode}
 use Rattle.partition_model.specs.declared.options.Mode.TheVariants.{Cache, Store}
 use Rattle.partition_model.specs.Options.{IsValid}
 use Rattle.mica_fronts.specs.declared.totals.TheConstants.{MAX_BATCHES}
-use Rattle.mica_serve.specs.declared.ports.Ports.{Ports}
-use Rattle.mica_serve.specs.PortOptions.{IsValidPorts}
+use Rattle.mica_fronts.specs.declared.ports.Ports.{Ports}
+use Rattle.mica_fronts.specs.PortOptions.{IsValidPorts}
 use Rattle.mica_commands.specs.declared.command.WordsFault.{WordsFault}
 use Rattle.mica_commands.specs.declared.command.WordsFault.TheVariants.{Usage, NoMemory}
 use Rattle.mica_commands.specs.declared.daemon_words.DaemonOptions.{DaemonOptions}

@@ -9,7 +9,7 @@ use crate::option_values::{
     serve_options,
 };
 use mica_client::AskOptions;
-use mica_serve::Ports;
+use mica_fronts::Ports;
 use partition_model::Options;
 use std::alloc::Global;
 

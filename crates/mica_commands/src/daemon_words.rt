@@ -7,7 +7,7 @@ use crate::WordsFault;
 use crate::clap_command::matches_of;
 use crate::option_values::{lasting_ports, serve_options};
 use clap::ArgMatches;
-use mica_serve::Ports;
+use mica_fronts::Ports;
 use partition_model::{Mode, Options};
 use std::alloc::Global;
 

@@ -8,7 +8,7 @@ ghost use Rattle.mica_commands.specs.DaemonWords.{lasting_ports};
 use crate::GenOptions;
 use clap::ArgMatches;
 use mica_client::AskOptions;
-use mica_serve::{MAX_BATCHES, Ports};
+use mica_fronts::{MAX_BATCHES, Ports};
 use partition_model::{MAX_WEAR, Mode, Options};
 
 fn begins_number(text: &str) -> bool

@@ -5,7 +5,7 @@ use Rattle.partition_model.specs.declared.options.Options.{Options}
 use Rattle.partition_model.specs.declared.write.Write.{Write}
 use Rattle.mica_fronts.specs.declared.totals.Totals.{Totals}
 use Rattle.mica_fronts.specs.declared.totals.ServeFault.TheVariants.{Net, NoMemory as NoRoom}
-use Rattle.mica_serve.specs.declared.ports.Ports.{Ports}
+use Rattle.mica_fronts.specs.declared.ports.Ports.{Ports}
 use Rattle.mica_serve.specs.declared.stop.Stop.{Stop}
 use Rattle.mica_serve.specs.declared.stop.Stop.TheVariants.{Refused, Unannounced, Fault}
 use Rattle.mica_serve.specs.NetRun.{NetFacts, IsCauseOfStop, HasAnnounced, KeepsNet}

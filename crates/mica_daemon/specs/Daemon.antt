@@ -5,10 +5,10 @@ use Rattle.std.specs.Io.KnownBytes.{Appends}
 use Rattle.mica_io.specs.Faults.{Rose}
 use Rattle.partition_model.specs.declared.options.Options.{Options}
 use Rattle.partition_model.specs.declared.write.Write.{Write}
-use Rattle.partition_table.specs.declared.tables.Entry.{Entry}
+use Rattle.partition_table.specs.declared.tables.KeptSeat.{KeptSeat}
 use Rattle.mica_fronts.specs.declared.totals.Totals.{Totals}
 use Rattle.mica_fronts.specs.declared.totals.ServeFault.TheVariants.{Net, NoMemory as NoRoom}
-use Rattle.mica_serve.specs.declared.ports.Ports.{Ports}
+use Rattle.mica_fronts.specs.declared.ports.Ports.{Ports}
 use Rattle.mica_serve.specs.declared.stop.Stop.{Stop}
 use Rattle.mica_serve.specs.declared.stop.Stop.TheVariants.{Refused, Unannounced, Fault}
 use Rattle.mica_serve.specs.NetRun.{NetFacts, IsCauseOfStop, HasAnnounced, KeepsNet}
@@ -37,10 +37,10 @@ FailsToSay line old new = Rose old.faults new.faults × ((n : ℕ) × (n < lengt
 pub record Outside : Type 0 where
   pub sink : SinkFacts
   pub net : NetFacts
-  pub tables : List Entry
+  pub tables : List KeptSeat
 
 -- of its parts
-abbrev pub outside : SinkFacts → NetFacts → List Entry → Outside
+abbrev pub outside : SinkFacts → NetFacts → List KeptSeat → Outside
 outside sink net tables = record { sink = sink; net = net; tables = tables }
 
 -- what is written last, by what the server came to, and the status

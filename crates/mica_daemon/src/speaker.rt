@@ -1,6 +1,6 @@
 //! The sink of a server that stays up, with the line that it is to write once its ports are bound.
 ghost use Rattle.std.specs.Prelude.{◌≡◌, string_bytes, IfOk};
-ghost use Rattle.mica_serve.specs.PortOptions.{IsValidPorts};
+ghost use Rattle.mica_fronts.specs.PortOptions.{IsValidPorts};
 ghost use Rattle.mica_daemon.specs.Daemon.{ready_text};
 
 use mica_io::{Datagrams, NoMemory, Sink, write_all};

@@ -2,7 +2,7 @@
 ghost use Rattle.std.specs.Prelude.{◌≡◌, [], All, map, string_bytes, Err};
 ghost use Rattle.partition_model.specs.Options.{IsValid};
 ghost use Rattle.partition_model.specs.Write.{IsWrite};
-ghost use Rattle.mica_serve.specs.PortOptions.{IsValidPorts};
+ghost use Rattle.mica_fronts.specs.PortOptions.{IsValidPorts};
 ghost use Rattle.mica_serve.specs.declared.stop.Stop.TheVariants.{Fault};
 ghost use Rattle.mica_serve.specs.NetRun.{net_facts};
 ghost use Rattle.mica_commands.specs.DaemonWords.{daemon_of};

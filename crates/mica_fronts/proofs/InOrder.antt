@@ -13,7 +13,7 @@ use Rattle.batch_packets.specs.Remaining.{Remaining, HasLeft}
 use Rattle.batch_packets.proofs.Filling.{adds_none as adds_none_to, adds_then}
 use Rattle.mica_fronts.specs.Turn.{Turn, write_in, partition_in}
 use Rattle.mica_fronts.specs.Dealing.{IsTurn}
-use Rattle.mica_fronts.specs.Session.{Session, Sessions, Answers, AnswersBy, AnswersInOrder, count_of_writes, writes_of_one}
+use Rattle.mica_fronts.specs.Session.{Session, Sessions, AnswersTurn, AnswersBy, AnswersInOrder, count_of_writes, writes_of_one}
 use Rattle.mica_fronts.specs.Answering.{RepliesTo, AddsReply, AnswersAll, AddsAll, AnswersFirst, AreLeft}
 
 module _ (options : Options) (is_alone : Bool) where
@@ -23,7 +23,7 @@ module _ (options : Options) (is_alone : Bool) where
   answers_moved (t ∷ ts) old between new same h =
       let p = partition_in options t in
       let one = subst (λ (s : Session). AnswersBy options is_alone (write_in t.request) s t (h.0 p)) (same p) h.1.one in
-      let answered : Answers options is_alone old t h.0 = record { one = one; others = λ q other. h.1.others q other ∙ same q } in
+      let answered : AnswersTurn options is_alone old t h.0 = record { one = one; others = λ q other. h.1.others q other ∙ same q } in
       (h.0, answered, h.2)
 
   pub answers_append : (one two : List Turn) (old between new : Sessions) → AnswersInOrder options is_alone old one between

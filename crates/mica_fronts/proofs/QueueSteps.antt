@@ -22,12 +22,12 @@ use Rattle.owner_queue.specs.AckEnds.{AckBox}
 use Rattle.owner_queue.specs.JobEnds.{Outbox}
 use Rattle.mica_fronts.specs.declared.queue_front.FrontPart.{FrontPart}
 use Rattle.mica_fronts.specs.Session.{Session, ChangesOnly, Writes, Reads}
-use Rattle.mica_fronts.specs.QueueFront.{QueueView, queue_view, IsWhole, IsFrontPart, IsNewPart, IsQueueFront, StaysPart, PartWrites, PartReads, stand_of, session_of, session_or_none, sessions_of}
+use Rattle.mica_fronts.specs.QueueFront.{QueueView, queue_view, IsOfOneTable, IsFrontPart, IsNewPart, IsQueueFront, StaysPart, PartWrites, PartReads, stand_of, session_of, session_or_none, sessions_of}
 
 any_push : {X : Type 0} (p : X → Bool) (xs : List X) (x : X) → list_any p xs ≡ false → p x ≡ false → list_any p (xs ++ x ∷ []) ≡ false
 any_push p xs x all one = list_any-append p xs (x ∷ []) ∙ ap (λ b. b || list_any p (x ∷ [])) all ∙ ap (λ b. b || false) one
 
-pub stays_whole : (old new : FrontPart) → StaysPart old new → IsWhole old → IsWhole new
+pub stays_whole : (old new : FrontPart) → StaysPart old new → IsOfOneTable old → IsOfOneTable new
 stays_whole old new stays whole = record {
   home = ap (λ (b : AckBox). b.table) stays.acks ∙ whole.home ∙ sym stays.home;
   shape = ap (λ (b : AckBox). b.shape) stays.acks ∙ whole.shape ∙ sym stays.shape;

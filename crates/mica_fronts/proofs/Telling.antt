@@ -31,7 +31,7 @@ use Rattle.owner_queue.specs.AckEnds.{AckBox, ack_box}
 use Rattle.owner_queue.specs.JobEnds.{Outbox, outbox}
 use Rattle.mica_fronts.specs.declared.queue_front.FrontPart.{FrontPart}
 use Rattle.mica_fronts.specs.Session.{Writes, Reads, TellsStep}
-use Rattle.mica_fronts.specs.QueueFront.{IsWhole, HasTakenMore, HasAwaited, PartWrites, PartReads, acknowledged_by, told_by, session_of}
+use Rattle.mica_fronts.specs.QueueFront.{IsOfOneTable, HasTakenMore, HasAwaited, PartWrites, PartReads, acknowledged_by, told_by, session_of}
 
 -- Acknowledgements taken
 
@@ -64,7 +64,7 @@ same_reply : (options : Options) (b : Bool) (cut : History) (write : Write) (out
 same_reply options true cut write outcome is = (is.0, is.1, same_may_give options is.0 write outcome is.2)
 same_reply options false cut write outcome is = same_may_give options cut write outcome is
 
-module _ (old new : FrontPart) (job : Job) (ack : Ack) (whole : IsWhole old) (awaited : HasAwaited old.acks old.last job.ticket job.write ack new.acks) (last : new.last ≡ ack.stamp)
+module _ (old new : FrontPart) (job : Job) (ack : Ack) (whole : IsOfOneTable old) (awaited : HasAwaited old.acks old.last job.ticket job.write ack new.acks) (last : new.last ≡ ack.stamp)
     (jobs : new.jobs ≡ outbox old.jobs.queue old.jobs.number old.jobs.jobs (old.jobs.sent ++ message.Job job ∷ []))
     (event : reader_state new.seat ≡ stamped (reader_state new.seat).seen (told (reader_state old.seat) (note_state ack.note)))
     (seen : IsPrefix (reader_state old.seat).seen (reader_state new.seat).seen × IsPrefix (note_state ack.note).seen (reader_state new.seat).seen)

@@ -7,12 +7,12 @@ use Rattle.batch_packets.specs.Filling.{Filling, Adds}
 use Rattle.batch_packets.specs.Remaining.{Remaining, HasLeft}
 use Rattle.mica_fronts.specs.Turn.{Turn}
 use Rattle.mica_fronts.specs.Dealing.{IsTurn}
-use Rattle.mica_fronts.specs.Session.{Sessions, Answers, AnswersInOrder, count_of_writes}
+use Rattle.mica_fronts.specs.Session.{Sessions, AnswersTurn, AnswersInOrder, count_of_writes}
 
 -- a request of a version was answered with this reply
 pub record RepliesTo (options : Options) (is_alone : Bool) (version : ℕ) (old : Sessions) (request : Request) (new : Sessions) (reply : Reply) : Type 0 where
   pub is : IsTurn version (record { version = version; request = request; reply = reply })
-  pub answers : Answers options is_alone old (record { version = version; request = request; reply = reply }) new
+  pub answers : AnswersTurn options is_alone old (record { version = version; request = request; reply = reply }) new
 
 -- a request was answered, and its reply added to a text of its version
 pub record AddsReply (options : Options) (is_alone : Bool) (old : Sessions) (before : Filling) (request : Request) (new : Sessions) (after : Filling)

@@ -1,3 +1,4 @@
+pub mod PortOptions
 pub mod Turn
 pub mod Dealing
 pub mod Session

@@ -36,7 +36,7 @@ queue_view options number next left parts =
     record { options = options; number = number; next = next; left = left; parts = parts }
 
 -- the seat is of the table whose notes the acknowledgements have
-pub record IsWhole (part : FrontPart) : Type 0 where
+pub record IsOfOneTable (part : FrontPart) : Type 0 where
   pub home : part.acks.table ≡ reader_home part.seat
   pub shape : part.acks.shape ≡ (reader_state part.seat).shape
 
@@ -44,7 +44,7 @@ pub record IsWhole (part : FrontPart) : Type 0 where
 -- tickets below the next one.
 pub record IsFrontPart (front : QueueView) (part : FrontPart) : Type 0 where
   pub shape : (reader_state part.seat).shape ≡ shape_of front.options
-  pub whole : IsWhole part
+  pub whole : IsOfOneTable part
   pub sender : part.jobs.number ≡ front.number
   pub most : part.jobs.jobs ≡ front.next + front.left
   pub unended : list_any is_end part.jobs.sent ≡ false
@@ -61,7 +61,7 @@ pub record IsQueueFront (front : QueueView) : Type 0 where
 -- a part that a front begins with
 pub record IsNewPart (options : Options) (number most : ℕ) (part : FrontPart) : Type 0 where
   pub shape : (reader_state part.seat).shape ≡ shape_of options
-  pub whole : IsWhole part
+  pub whole : IsOfOneTable part
   pub fresh : part.jobs ≡ outbox part.jobs.queue number most []
 
 -- the part once the front's end was sent to the owner

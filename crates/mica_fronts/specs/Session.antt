@@ -108,7 +108,7 @@ AnswersBy options is_alone None old turn new =
     × Reads options is_alone old turn.request.key stamp value new
 
 -- one request was answered with its reply
-pub record Answers (options : Options) (is_alone : Bool) (old : Sessions) (turn : Turn) (new : Sessions) : Type 0 where
+pub record AnswersTurn (options : Options) (is_alone : Bool) (old : Sessions) (turn : Turn) (new : Sessions) : Type 0 where
   pub one : AnswersBy options is_alone (write_in turn.request) (old (partition_in options turn)) turn (new (partition_in options turn))
   pub others : ChangesOnly (partition_in options turn) old new
 
@@ -116,7 +116,7 @@ pub record Answers (options : Options) (is_alone : Bool) (old : Sessions) (turn 
 abbrev pub AnswersInOrder : Options → Bool → Sessions → List Turn → Sessions → Type 0
 AnswersInOrder options is_alone old [] new = (q : ℕ) → new q ≡ old q
 AnswersInOrder options is_alone old (turn ∷ later) new =
-    (between : Sessions) × Answers options is_alone old turn between × AnswersInOrder options is_alone between later new
+    (between : Sessions) × AnswersTurn options is_alone old turn between × AnswersInOrder options is_alone between later new
 
 -- how many of the turns are writes
 abbrev pub count_of_writes : List Turn → ℕ

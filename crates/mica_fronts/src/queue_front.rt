@@ -6,7 +6,7 @@ ghost use Rattle.partition_model.specs.Options.{IsValid};
 ghost use Rattle.partition_model.specs.Write.{is_accepted, write_of};
 ghost use Rattle.owner_queue.specs.declared.message.Message.TheVariants as message;
 ghost use Rattle.owner_queue.specs.Messages.{MayFollow};
-ghost use Rattle.mica_fronts.specs.QueueFront.{IsWhole, IsNewPart, IsQueueFront, HasAwaited, PartWrites, PartReads, queue_view, ended_part};
+ghost use Rattle.mica_fronts.specs.QueueFront.{IsOfOneTable, IsNewPart, IsQueueFront, HasAwaited, PartWrites, PartReads, queue_view, ended_part};
 
 use crate::front::Front;
 use epoch_core::{ReaderWords, Shape, WordAt};
@@ -92,7 +92,7 @@ impl FrontPart {
         key: &[u8],
         value: &[u8],
     ) -> (Outcome, u64)
-        requires whole { IsWhole self.old }
+        requires whole { IsOfOneTable self.old }
         requires own { job.sender ≡ self.old.jobs.number }
         requires order { MayFollow self.old.jobs.jobs self.old.jobs.sent (message.Job job) }
         requires write { job.write ≡ write_of op key.now value.now }

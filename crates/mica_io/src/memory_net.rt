@@ -1,6 +1,6 @@
 //! A net over memory.
 ghost use Rattle.std.specs.Prelude.{◌≡◌, ◌+◌, ◌≤◌, [], true, Some, IfOk, IfSome, OnOk, OnErr, option_map};
-ghost use Rattle.mica_io.specs.Ports.{absent, waiting, with_port, with_datagram, takes_datagram, is_added, sent_by};
+ghost use Rattle.mica_io.specs.Ports.{absent, waiting, with_port, with_datagram, takes_datagram, is_added, reply_sent};
 ghost use Rattle.mica_io.specs.MemoryPorts.{ports_in};
 
 use crate::memory_end::MemEnd;
@@ -93,7 +93,7 @@ impl MemNet {
     /// The reply datagram of this number, from 0, that a released port sent.
     pub fn sent(&self, port: u16, number: u32) -> Option<&[u8]>
         ensures { IfSome (⟦<MemNet as Net>⟧.ports self.now)
-            (λ all. option_map (λ r. r.now) result ≡ sent_by (all port) number) }
+            (λ all. option_map (λ r. r.now) result ≡ reply_sent (all port) number) }
     {
         let at = find(self.ports.as_slice(), port)?;
         match &self.ports[at].place {

@@ -1,7 +1,7 @@
 //! The ports of a net over memory.
 ghost use Rattle.std.specs.Prelude.{◌≡◌, ◌==◌, false, true, IfSome, IfNone, OnOk, OnErr, position};
 ghost use Rattle.mica_io.specs.Ports.{out, with_port, with_datagram, takes_datagram, is_waiting};
-ghost use Rattle.mica_io.specs.MemoryPorts.{ports_in, port_of};
+ghost use Rattle.mica_io.specs.MemoryPorts.{ports_in, told_port};
 
 use crate::memory_end::MemEnd;
 use crate::setup::Setup;
@@ -32,7 +32,7 @@ pub fn find(ports: &[MemPort], number: u16) -> Option<usize>
 
 /// Takes what the port waits with, where it waits. Its end is out from then on.
 pub fn take_setup(ports: &mut Vec<MemPort>, number: u16) -> Option<Setup>
-    ensures waited { IfSome result (λ setup. ports_in ports.old.items number ≡ port_of (Place.Waiting setup)) }
+    ensures waited { IfSome result (λ setup. ports_in ports.old.items number ≡ told_port (Place.Waiting setup)) }
     ensures taken { IfSome result (λ _. ports_in ports.new.items ≡ with_port number out (ports_in ports.old.items)) }
     ensures no_setup { IfNone result (is_waiting (ports_in ports.old.items number) ≡ false) }
     ensures same { IfNone result (ports.new.items ≡ ports.old.items) }
@@ -50,7 +50,7 @@ pub fn take_setup(ports: &mut Vec<MemPort>, number: u16) -> Option<Setup>
 /// Puts an end back at its port.
 pub fn put_back(ports: &mut Vec<MemPort>, end: MemEnd)
     requires { ports_in ports.old.items end.port ≡ out }
-    ensures { ports_in ports.new.items ≡ with_port end.port (port_of (Place.Back end)) (ports_in ports.old.items) }
+    ensures { ports_in ports.new.items ≡ with_port end.port (told_port (Place.Back end)) (ports_in ports.old.items) }
 {
     let Some(at) = find(ports.as_slice(), end.port) else {
         unreachable!();
@@ -61,9 +61,9 @@ pub fn put_back(ports: &mut Vec<MemPort>, end: MemEnd)
 impl Place {
     /// Adds a datagram at the end of those that are left, where no end is out.
     fn add(&mut self, datagram: Bytes) -> Result<(), NoMemory>
-        requires { takes_datagram (port_of self.old) ≡ true }
-        ensures ok { OnOk result (port_of self.new ≡ with_datagram datagram (port_of self.old)) }
-        ensures err { OnErr result (port_of self.new ≡ port_of self.old) }
+        requires { takes_datagram (told_port self.old) ≡ true }
+        ensures ok { OnOk result (told_port self.new ≡ with_datagram datagram (told_port self.old)) }
+        ensures err { OnErr result (told_port self.new ≡ told_port self.old) }
     {
         match self {
             Place::Waiting(setup) => setup.datagrams.push(datagram)?,

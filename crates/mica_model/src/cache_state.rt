@@ -2,7 +2,7 @@
 ghost use Rattle.std.specs.Prelude.{◌≡◌, ◌+◌, ◌≤◌, ◌<◌, [], ◌↔◌, IsTrue, IfSome, OnOk, OnErr, length, drop, is_some, option_copied, position, count_by, vec_len, vec_capacity};
 ghost use Rattle.mica_words.specs.Item.{KeyFits, ValueFits};
 ghost use Rattle.partition_model.specs.Cache.{start, has_key, is_live, record_of, value_in};
-ghost use Rattle.partition_model.specs.Records.{AreShort, IsUnique};
+ghost use Rattle.partition_model.specs.Records.{ValuesFit, IsUnique};
 ghost use Rattle.mica_model.specs.CacheFields.{displaced_at, kept_place, passed_front, without_at};
 ghost use Rattle.partition_model.specs.CacheStep.{after_append, new_record, after_put, after_touch, after_delete, after_write, reply, kept_record, is_in_bucket};
 ghost use Rattle.partition_model.specs.Limits.{most_stamp};
@@ -145,7 +145,7 @@ impl CacheState {
         requires value { HasValueOf op value.now }
         requires stamp { self.old.stamp ≤ most_stamp }
         requires unique { IsUnique self.old.records }
-        requires values { AreShort self.old.records }
+        requires values { ValuesFit self.old.records }
 
         ensures ok { OnOk result
             (self.new ≡ after_write options.now self.old (write_of op key.now value.now)) }
@@ -253,7 +253,7 @@ impl CacheState {
         requires key { KeyFits key.now }
         requires stamp { self.old.stamp ≤ most_stamp }
         requires unique { IsUnique self.old.records }
-        requires values { AreShort self.old.records }
+        requires values { ValuesFit self.old.records }
         ensures { self.new
             ≡ after_touch (record_of self.old key.now) self.old (write_of Op.Touch key.now []) }
     {

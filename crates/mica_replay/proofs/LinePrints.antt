@@ -17,7 +17,7 @@ use Rattle.mica_trace.specs.declared.report.Line.TheVariants.{Wrote, Sync as Syn
 use Rattle.mica_trace.specs.LawfulReport.{IsReplyTo, IsKindOf, step_by, step_in, steps_of}
 use Rattle.mica_trace.specs.Rounds.{is_in_partition, partition_in, op_of, write_by, write_in, writes_of}
 use Rattle.mica_trace.specs.RoundReport.{HasKind, is_get, gets_of, pairs_of}
-use Rattle.mica_replay.specs.Merged.{AreEnough, IsMerged}
+use Rattle.mica_replay.specs.Merged.{AreEnough, IsMergedRound}
 use Rattle.mica_replay.specs.Replies.{Reply, step_with, steps_with}
 
 pub wrote_kind : (op : TraceOp) (own : Op) → op_of op ≡ Some own → (o : Outcome) (s : ℕ) → IsKindOf op (Wrote own o s)
@@ -34,7 +34,7 @@ none_either false = refl
 
 pub record Goes (options : Options) (g h : ℕ) (line : TraceLine) (later : List TraceLine) (r : Line) (done left : List (List Reply)) (found rests : List (List Line)) : Type 0 where
   pub enough : AreEnough options h later left rests
-  pub merges : (more : List Line) → IsMerged options h later more left rests → IsMerged options g (line ∷ later) (r ∷ more) done found
+  pub merges : (more : List Line) → IsMergedRound options h later more left rests → IsMergedRound options g (line ∷ later) (r ∷ more) done found
 
 module _ (options : Options) (g : ℕ) (line : TraceLine) (later : List TraceLine) (done : List (List Reply)) (found : List (List Line)) (enough : AreEnough options g (line ∷ later) done found) where
   -- an owner whom the line does not concern
@@ -113,7 +113,7 @@ module _ (options : Options) (g : ℕ) (line : TraceLine) (later : List TraceLin
         };
       }
         where
-          by : (more : List Line) → IsMerged options g later more (slice_set done p left) found → (q : ℕ) (theirs : List Reply) → slice_get done q ≡ Some theirs → (p ≡ q) ⊎ (p ≡ q → ⊥)
+          by : (more : List Line) → IsMergedRound options g later more (slice_set done p left) found → (q : ℕ) (theirs : List Reply) → slice_get done q ≡ Some theirs → (p ≡ q) ⊎ (p ≡ q → ⊥)
               → steps_of options q (line ∷ later) (r ∷ more) ≡ steps_with (writes_of options q (line ∷ later)) theirs
           by more m q theirs is (inl same) =
               let own : (outcome, stamp) ∷ left ≡ theirs = same_Some _ _ (sym at ∙ ap (slice_get done) same ∙ is) in
@@ -170,7 +170,7 @@ module _ (options : Options) (g : ℕ) (line : TraceLine) (later : List TraceLin
         none : (p : ℕ) → write_in options p line ≡ None
         none p = ap (λ o. cond (is_in_partition options p line) o None) no_write ∙ none_either (is_in_partition options p line)
 
-        by : (more : List Line) → IsMerged options (g + 1) later more done (slice_set found q left) → (x : ℕ) (theirs : List Line) → slice_get found x ≡ Some theirs → (q ≡ x) ⊎ (q ≡ x → ⊥)
+        by : (more : List Line) → IsMergedRound options (g + 1) later more done (slice_set found q left) → (x : ℕ) (theirs : List Line) → slice_get found x ≡ Some theirs → (q ≡ x) ⊎ (q ≡ x → ⊥)
             → pairs_of options x g (zip (line ∷ later) (r ∷ more)) ≡ zip (gets_of options x g (line ∷ later)) theirs
         by more m x theirs is (inl same) =
             let own : r ∷ left ≡ theirs = same_Some _ _ (sym at ∙ ap (slice_get found) same ∙ is) in

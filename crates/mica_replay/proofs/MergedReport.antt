@@ -18,9 +18,9 @@ use Rattle.mica_trace.specs.TraceGrammar.{IsTraceLine}
 use Rattle.mica_trace.specs.ReportGrammar.{IsReportLine}
 use Rattle.mica_trace.specs.Rounds.{partition_in, is_in_partition, write_by, is_get_op}
 use Rattle.mica_trace.specs.LawfulReport.{IsKindOf, steps_of}
-use Rattle.mica_trace.specs.RoundReport.{Pair, is_get, gets_in, gets_by, pairs_of, pairs_in, AnswersRise, history_in, IsRoundReport}
+use Rattle.mica_trace.specs.RoundReport.{LinePair, is_get, gets_in, gets_by, pairs_of, line_pairs_in, AnswersRise, history_in, IsRoundReport}
 use Rattle.mica_replay.specs.Between.{HaveWorked}
-use Rattle.mica_replay.specs.Merged.{IsMerged}
+use Rattle.mica_replay.specs.Merged.{IsMergedRound}
 use Rattle.mica_replay.specs.Replies.{Reply}
 use Rattle.mica_trace.specs.RoundReport.{HasKind}
 use Rattle.mica_trace.proofs.ListParts.{zip_at}
@@ -64,7 +64,7 @@ kind_at (l ∷ lines) (x ∷ report) (suc n) line r kinds is_line is_r = kind_at
 
 module _ (options : Options) (valid : IsValid options) (before : List TraceLine) (report : List Line) (round : List TraceLine) (printed : List Line)
     (done : List (List Reply)) (found : List (List Line)) (lines_before : AllByRecursion IsTraceLine before) (lines_here : AllByRecursion IsTraceLine round)
-    (worked : HaveWorked options before report round done found) (merged : IsMerged options (gets_in before) round printed done found) where
+    (worked : HaveWorked options before report round done found) (merged : IsMergedRound options (gets_in before) round printed done found) where
   runs : (p : ℕ) → p < options.partitions → IsRunFrom options (history_in options p before report) (steps_of options p round printed)
   runs p below =
       let owners = worked.owners in
@@ -73,7 +73,7 @@ module _ (options : Options) (valid : IsValid options) (before : List TraceLine)
 
   reads : (q p : ℕ) → q < options.readers → p < options.partitions → (last : History)
       × IsPrefix last (history_in options p before report ++ history_in options p round printed)
-      × AnswersRise options (history_in options p before report) (pairs_in options p (pairs_of options q (gets_in before) (zip round printed))) last
+      × AnswersRise options (history_in options p before report) (line_pairs_in options p (pairs_of options q (gets_in before) (zip round printed))) last
   reads q p q_below p_below =
       let owners = worked.owners in
       let readers = worked.readers in
@@ -82,7 +82,7 @@ module _ (options : Options) (valid : IsValid options) (before : List TraceLine)
       let was = worked.gets q p own.0 at.0 own.1 at.1 in (
         was.0,
         subst (λ s. IsPrefix was.0 (history_in options p before report ++ history_of s)) (sym (merged.writes p at.0 at.1)) was.1,
-        subst (λ (pairs : List Pair). AnswersRise options (history_in options p before report) (pairs_in options p pairs) was.0) (sym (merged.gets q own.0 own.1)) was.2,
+        subst (λ (pairs : List LinePair). AnswersRise options (history_in options p before report) (line_pairs_in options p pairs) was.0) (sym (merged.gets q own.0 own.1)) was.2,
       )
 
   in_partitions : (line : TraceLine) → partition_in options line < options.partitions

@@ -20,14 +20,14 @@ use Rattle.owner_queue.proofs.Runs.{run_as}
 use Rattle.epoch_core.specs.Shape.{shape_of, options_of}
 use Rattle.epoch_core.specs.OwnerState.{as_made}
 use Rattle.epoch_core.specs.declared.reader.ReaderState.{ReaderState}
-use Rattle.partition_table.specs.declared.tables.Entry.{Entry}
-use Rattle.mica_trace.specs.RoundReport.{Pair, EndsRound, IsOneRound, is_get, gets_in, pairs_of, gets_of, pairs_in, AnswersRise, history_in, IsRoundReport}
+use Rattle.partition_table.specs.declared.tables.KeptSeat.{KeptSeat}
+use Rattle.mica_trace.specs.RoundReport.{LinePair, EndsRound, IsOneRound, is_get, gets_in, pairs_of, gets_of, line_pairs_in, AnswersRise, history_in, IsRoundReport}
 use Rattle.mica_replay.specs.Between.{HaveWorked}
-use Rattle.mica_replay.specs.Merged.{IsMerged}
+use Rattle.mica_replay.specs.Merged.{IsMergedRound}
 use Rattle.mica_replay.specs.Replies.{Reply, steps_with}
 use Rattle.mica_trace.specs.RoundReport.{HasKind}
-use Rattle.partition_table.specs.Tabled.{entry_in}
-use Rattle.mica_replay.specs.Replayed.{gets_to_partition, IsEntryOf, IsReplayed}
+use Rattle.partition_table.specs.Tabled.{kept_seat_in}
+use Rattle.mica_replay.specs.Replayed.{gets_to_partition, IsKeptSeatOf, IsReplayed}
 use Rattle.mica_replay.specs.Between.{IsOwnerAt, IsReplaying, seat_of, closed_of, HasRound}
 use Rattle.mica_trace.proofs.ListParts.{zip-append, length_zip}
 use Rattle.mica_trace.proofs.Prefixes.{history-append}
@@ -54,20 +54,20 @@ starts options owners many made = record {
 
 -- the gets of a list of pairs are those of its lines
 gets_of_pairs : (options : Options) (p : ℕ) (lines : List TraceLine) (printed : List Line) → length printed ≡ length lines
-    → count_by (λ (pair : Pair). is_get pair.0 && is_in_partition options p pair.0) (zip lines printed) ≡ gets_to_partition options p lines
+    → count_by (λ (pair : LinePair). is_get pair.0 && is_in_partition options p pair.0) (zip lines printed) ≡ gets_to_partition options p lines
 gets_of_pairs options p [] [] same = refl
 gets_of_pairs options p [] (r ∷ printed) same = absurd (omega arith)
 gets_of_pairs options p (line ∷ lines) [] same = absurd (omega arith)
 gets_of_pairs options p (line ∷ lines) (r ∷ printed) same =
     let rest = gets_of_pairs options p lines printed (omega arith) in
-    let one = sum_by-cons (λ (pair : Pair). cond (is_get pair.0 && is_in_partition options p pair.0) 1 0) (line, r) (zip lines printed) in
+    let one = sum_by-cons (λ (pair : LinePair). cond (is_get pair.0 && is_in_partition options p pair.0) 1 0) (line, r) (zip lines printed) in
     let two = sum_by-cons (λ (l : TraceLine). cond (is_get l && is_in_partition options p l) 1 0) line lines in
     one ∙ ap (λ n. cond (is_get line && is_in_partition options p line) 1 0 + n) rest ∙ sym two
 
 module _ (options : Options) (valid : IsValid options) (before round : List TraceLine) (report printed : List Line) (owners ran_owners met_owners : List OwnerState) (seats : List (List ReaderState))
     (done : List (List Reply)) (found : List (List Line)) (so_far : IsReplaying options before report owners) (ended : EndsRound before) (one : IsOneRound round)
     (lines_before : AllByRecursion IsTraceLine before) (lines_here : AllByRecursion IsTraceLine round)
-    (here : HasRound options before round owners ran_owners met_owners seats done found) (merged : IsMerged options (gets_in before) round printed done found) where
+    (here : HasRound options before round owners ran_owners met_owners seats done found) (merged : IsMergedRound options (gets_in before) round printed done found) where
   -- the owner of partition p, and what the round made of it
   record Of (p : ℕ) : Type 0 where
     old : OwnerState
@@ -129,7 +129,7 @@ module _ (options : Options) (valid : IsValid options) (before round : List Trac
         let seen = subst (IsPrefix seat.0.seen) (met_history p it) (met.seen q seat.0 seat.1) in (
           seat.0.seen,
           subst (λ (rs : List Reply). IsPrefix seat.0.seen (history_in options p before report ++ history_of (steps_with (writes_of options p round) rs))) same seen,
-          subst (λ (h : History). AnswersRise options h (pairs_in options p (zip (gets_of options q (gets_in before) round) lines)) seat.0.seen) was.history read.answers,
+          subst (λ (h : History). AnswersRise options h (line_pairs_in options p (zip (gets_of options q (gets_in before) round) lines)) seat.0.seen) was.history read.answers,
         );
   }
 
@@ -146,7 +146,7 @@ module _ (options : Options) (valid : IsValid options) (before round : List Trac
       ∙ ap history_of (sym (ap (filter_map (step_in options p)) (zip-append before round report printed same) ∙ filter_map-append (step_in options p) (zip before report) (zip round printed)))
 
   -- a reader's lines in the partition are as many as its seat closed tries
-  closed_here : (p : ℕ) (it : Of p) (q : ℕ) → q < options.readers → closed_of (seat_of seats q p) ≡ length (pairs_in options p (pairs_of options q (gets_in before) (zip round printed)))
+  closed_here : (p : ℕ) (it : Of p) (q : ℕ) → q < options.readers → closed_of (seat_of seats q p) ≡ length (line_pairs_in options p (pairs_of options q (gets_in before) (zip round printed)))
   closed_here p it q below =
       let many = so_far.many in
       let readers = here.readers in
@@ -154,8 +154,8 @@ module _ (options : Options) (valid : IsValid options) (before round : List Trac
       let lines = element_at found q (omega arith) in
       let seat = here.seats_of q p below (omega arith) in
       let read = here.reads q p it.old lines.0 seat.0 it.is_old lines.1 seat.1 in
-      let none : 0 + length (pairs_in options p (zip (gets_of options q (gets_in before) round) lines.0)) ≡ length (pairs_in options p (zip (gets_of options q (gets_in before) round) lines.0)) = omega arith in
-      ap closed_of seat.1 ∙ read.seat.closed ∙ none ∙ ap (λ (pairs : List Pair). length (pairs_in options p pairs)) (sym (merged.gets q lines.0 lines.1))
+      let none : 0 + length (line_pairs_in options p (zip (gets_of options q (gets_in before) round) lines.0)) ≡ length (line_pairs_in options p (zip (gets_of options q (gets_in before) round) lines.0)) = omega arith in
+      ap closed_of seat.1 ∙ read.seat.closed ∙ none ∙ ap (λ (pairs : List LinePair). length (line_pairs_in options p pairs)) (sym (merged.gets q lines.0 lines.1))
 
   closed_all : (p : ℕ) (it : Of p) → it.met.closed ≡ gets_to_partition options p (before ++ round)
   closed_all p it =
@@ -164,7 +164,7 @@ module _ (options : Options) (valid : IsValid options) (before round : List Trac
       let wrote = here.writes p it.old it.ran it.replies it.is_old it.is_ran it.is_done in
       let met = here.meets p it.ran it.met it.is_ran it.is_met in
       let ran_closed : it.ran.closed ≡ gets_to_partition options p before = ap (λ (o : OwnerState). o.closed) wrote.gained ∙ was.closed in
-      let sums = same_sums options.readers (λ q. closed_of (seat_of seats q p)) (λ q. length (pairs_in options p (pairs_of options q (gets_in before) (zip round printed)))) (closed_here p it) in
+      let sums = same_sums options.readers (λ q. closed_of (seat_of seats q p)) (λ q. length (line_pairs_in options p (pairs_of options q (gets_in before) (zip round printed)))) (closed_here p it) in
       let shared = gets_shared options p (omega arith) (zip round printed) (gets_in before) in
       let counted = gets_of_pairs options p round printed (length_zip HasKind round printed merged.lines) in
       let parts : gets_to_partition options p (before ++ round) ≡ gets_to_partition options p before + gets_to_partition options p round = sum_by-append (λ l. cond (is_get l && is_in_partition options p l) 1 0) before round in
@@ -191,8 +191,8 @@ module _ (options : Options) (valid : IsValid options) (before round : List Trac
   }
 
 -- after the last round, the kept seats are those of the run
-pub ends : (options : Options) (trace : List TraceLine) (report : List Line) (owners : List OwnerState) (kept : List Entry) → IsReplaying options trace report owners → length kept ≡ length owners
-    → ((p : ℕ) (entry : Entry) → slice_get kept p ≡ Some entry → (owner : OwnerState) × (slice_get owners p ≡ Some owner) × (entry ≡ entry_in owner)) → IsReplayed options trace report kept
+pub ends : (options : Options) (trace : List TraceLine) (report : List Line) (owners : List OwnerState) (kept : List KeptSeat) → IsReplaying options trace report owners → length kept ≡ length owners
+    → ((p : ℕ) (entry : KeptSeat) → slice_get kept p ≡ Some entry → (owner : OwnerState) × (slice_get owners p ≡ Some owner) × (entry ≡ kept_seat_in owner)) → IsReplayed options trace report kept
 ends options trace report owners kept so_far many each = record {
   lawful = so_far.lawful;
   tables = record {
@@ -201,7 +201,7 @@ ends options trace report owners kept so_far many each = record {
         let at = each p entry is in
         let was = so_far.each p at.0 at.1 in
         let count = steps_count options p trace report so_far.lawful.lines in
-        subst (IsEntryOf options trace report p) (sym at.2) (record {
+        subst (IsKeptSeatOf options trace report p) (sym at.2) (record {
           shape = was.shape;
           history = was.history ∙ ap history_of (sym (ap (λ n. take n (steps_of options p trace report)) (sym count) ∙ take_all (length (steps_of options p trace report)) (steps_of options p trace report) (omega arith)));
           closed = was.closed;

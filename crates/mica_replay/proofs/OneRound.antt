@@ -15,7 +15,7 @@ use Rattle.mica_trace.specs.TraceGrammar.{IsTraceLine}
 use Rattle.mica_trace.specs.Rounds.{writes_of}
 use Rattle.mica_trace.specs.RoundReport.{EndsRound, IsOneRound, is_get, gets_in}
 use Rattle.mica_replay.specs.LineNumbers.{lines_at}
-use Rattle.mica_replay.specs.Merged.{IsMerged}
+use Rattle.mica_replay.specs.Merged.{IsMergedRound}
 use Rattle.mica_replay.specs.ReaderGets.{HaveRead}
 use Rattle.mica_replay.specs.Replies.{Reply}
 use Rattle.mica_trace.specs.RoundReport.{HasKind}
@@ -122,7 +122,7 @@ module _ (r : ToRun) where
     pub goes_next : EndsRound r.before → IsOneRound r.round → AllByRecursion IsTraceLine r.before → AllByRecursion IsTraceLine r.round → (now : List Line) → HasMerged r.options (gets_in r.before) r.round r.report now (map replies_of after.news) after.found
         → IsReplaying r.options (r.before ++ r.round) now (map state_of_owner after.news)
     goes_next ended one lines_before lines_here now merged =
-        let by_rans = subst (λ (l : List (List Reply)). IsMerged r.options (gets_in r.before) r.round merged.printed l after.found) same_replies merged.merged in
+        let by_rans = subst (λ (l : List (List Reply)). IsMergedRound r.options (gets_in r.before) r.round merged.printed l after.found) same_replies merged.merged in
         subst (λ (l : List Line). IsReplaying r.options (r.before ++ r.round) l (map state_of_owner after.news)) (sym merged.report)
         (next_round r.options r.valid r.before r.round r.report merged.printed (map state_of_owner r.owner_parts) (map state_of_owner after.run.ran_owners) (map state_of_owner after.news) after.run.seats (map replies_of after.run.ran_owners) after.found
         r.so_far ended one lines_before lines_here here by_rans)

@@ -21,7 +21,7 @@ use Rattle.epoch_core.specs.Shape.{shape_of}
 use Rattle.optimistic_get.specs.declared.getting.Got.{Got}
 use Rattle.optimistic_get.specs.declared.getting.Got.TheVariants.{Hit, Miss, Again}
 use Rattle.epoch_core.specs.declared.reader.ReaderState.{ReaderState}
-use Rattle.mica_trace.specs.RoundReport.{Pair, pairs_in, AnswersRise}
+use Rattle.mica_trace.specs.RoundReport.{LinePair, line_pairs_in, AnswersRise}
 use Rattle.optimistic_get.specs.Asked.{SeatAnswers, IsRead}
 use Rattle.optimistic_get.proofs.Repeated.{no_answers, seat_further, same_answer}
 use Rattle.mica_replay.specs.Answered.{line_of}
@@ -57,40 +57,40 @@ read_kind Touch got buffer is = absurd (cc)
 read_kind Sync got buffer is = absurd (cc)
 
 -- answers behind others
-answers_push : (options : Options) (pairs : List Pair) (pair : Pair) (seen mid last : History) → AnswersRise options seen pairs mid → IsPrefix mid last → Answers options last pair.0.key pair.1
+answers_push : (options : Options) (pairs : List LinePair) (pair : LinePair) (seen mid last : History) → AnswersRise options seen pairs mid → IsPrefix mid last → Answers options last pair.0.key pair.1
     → AnswersRise options seen (pairs ++ pair ∷ []) last
 answers_push options [] pair seen mid last on further answer = (last, prefix_trans seen mid last on further, answer, prefix_same last)
 answers_push options (first ∷ pairs) pair seen mid last on further answer = (on.0, on.1, on.2, answers_push options pairs pair on.0 mid last on.3 further answer)
 
 module _ (options : Options) (gets : List TraceLine) (found : List Line) (line : TraceLine) (printed : Line) (same : length found ≡ length gets) where
-  pairs_push : (p : ℕ) → pairs_in options p (zip (gets ++ line ∷ []) (found ++ printed ∷ [])) ≡ pairs_in options p (zip gets found) ++ pairs_in options p ((line, printed) ∷ [])
-  pairs_push p = ap (pairs_in options p) (zip-append gets (line ∷ []) found (printed ∷ []) same) ∙ filter-append (λ pair. is_in_partition options p pair.0) (zip gets found) ((line, printed) ∷ [])
+  pairs_push : (p : ℕ) → line_pairs_in options p (zip (gets ++ line ∷ []) (found ++ printed ∷ [])) ≡ line_pairs_in options p (zip gets found) ++ line_pairs_in options p ((line, printed) ∷ [])
+  pairs_push p = ap (line_pairs_in options p) (zip-append gets (line ∷ []) found (printed ∷ []) same) ∙ filter-append (λ pair. is_in_partition options p pair.0) (zip gets found) ((line, printed) ∷ [])
 
-  own_pair : pairs_in options (partition_in options line) ((line, printed) ∷ []) ≡ (line, printed) ∷ []
+  own_pair : line_pairs_in options (partition_in options line) ((line, printed) ∷ []) ≡ (line, printed) ∷ []
   own_pair = ap (λ b. cond b ((line, printed) ∷ []) []) (eq-eqb (partition_in options line) (partition_in options line) refl)
 
-  other_pair : (p : ℕ) → partition_in options line ≢ p → pairs_in options p ((line, printed) ∷ []) ≡ []
+  other_pair : (p : ℕ) → partition_in options line ≢ p → line_pairs_in options p ((line, printed) ∷ []) ≡ []
   other_pair p other = ap (λ b. cond b ((line, printed) ∷ []) []) (ne_eqb (partition_in options line) p other)
 
   read_here : (old mid new : ReaderState) → HasRead options (partition_in options line) gets found old mid → LineIsRead options mid line.key printed new
       → HasRead options (partition_in options line) (gets ++ line ∷ []) (found ++ printed ∷ []) old new
   read_here old mid new so_far one =
       let p = partition_in options line in
-      let pushed = pairs_push p ∙ ap (λ l. pairs_in options p (zip gets found) ++ l) own_pair in
-      let count : length (pairs_in options p (zip gets found)) + 1 ≡ length (pairs_in options p (zip (gets ++ line ∷ []) (found ++ printed ∷ [])))
-      = sym (ap length pushed ∙ length_push (pairs_in options p (zip gets found)) (line, printed)) in
+      let pushed = pairs_push p ∙ ap (λ l. line_pairs_in options p (zip gets found) ++ l) own_pair in
+      let count : length (line_pairs_in options p (zip gets found)) + 1 ≡ length (line_pairs_in options p (zip (gets ++ line ∷ []) (found ++ printed ∷ [])))
+      = sym (ap length pushed ∙ length_push (line_pairs_in options p (zip gets found)) (line, printed)) in
       record {
         seat = subst (λ (n : ℕ). SeatAnswers old new n) count (seat_further old mid new _ 1 so_far.seat one.0);
-        answers = subst (λ (l : List Pair). AnswersRise options old.seen l new.seen) (sym pushed)
-            (answers_push options (pairs_in options p (zip gets found)) (line, printed) old.seen mid.seen new.seen so_far.answers one.0.seen one.1);
+        answers = subst (λ (l : List LinePair). AnswersRise options old.seen l new.seen) (sym pushed)
+            (answers_push options (line_pairs_in options p (zip gets found)) (line, printed) old.seen mid.seen new.seen so_far.answers one.0.seen one.1);
       }
 
   read_elsewhere : (p : ℕ) (old new : ReaderState) → partition_in options line ≢ p → HasRead options p gets found old new → HasRead options p (gets ++ line ∷ []) (found ++ printed ∷ []) old new
   read_elsewhere p old new other so_far =
-      let pushed = pairs_push p ∙ ap (λ l. pairs_in options p (zip gets found) ++ l) (other_pair p other) ∙ append-nil (pairs_in options p (zip gets found)) in
+      let pushed = pairs_push p ∙ ap (λ l. line_pairs_in options p (zip gets found) ++ l) (other_pair p other) ∙ append-nil (line_pairs_in options p (zip gets found)) in
       record {
         seat = subst (λ (n : ℕ). SeatAnswers old new n) (ap length (sym pushed)) so_far.seat;
-        answers = subst (λ (l : List Pair). AnswersRise options old.seen l new.seen) (sym pushed) so_far.answers;
+        answers = subst (λ (l : List LinePair). AnswersRise options old.seen l new.seen) (sym pushed) so_far.answers;
       }
 
 pub reads_none : (options : Options) (seats : List ReaderState) → HaveRead options [] [] seats seats

@@ -22,7 +22,7 @@ use Rattle.mica_trace.specs.RoundReport.{HasKind, gets_of}
 use Rattle.mica_trace.proofs.ListParts.{length_zip}
 use Rattle.mica_replay.specs.Lending.{OwnerPart}
 use Rattle.mica_replay.specs.LineNumbers.{homes_of, IsWriteOp}
-use Rattle.mica_replay.specs.Merged.{AreEnough, HasMerged, IsMerged}
+use Rattle.mica_replay.specs.Merged.{AreEnough, HasMerged, IsMergedRound}
 use Rattle.mica_replay.specs.Replies.{Reply}
 use Rattle.mica_replay.specs.RoundRun.{replies_of}
 use Rattle.mica_replay.proofs.LineShares.{home_at, sync_no_write, get_no_write, write_no_get, op_is_write}
@@ -38,7 +38,7 @@ pub record HasPrinted (options : Options) (first : ℕ) (lines : List TraceLine)
   pub cursors_many : length cursors ≡ length dones
   pub left_is : (p n : ℕ) (all : List Reply) → slice_get cursors p ≡ Some n → slice_get dones p ≡ Some all → slice_get left p ≡ Some (drop n all)
   pub enough : AreEnough options gets (drop k lines) left rests
-  pub whole : (more : List Line) → IsMerged options gets (drop k lines) more left rests → IsMerged options first lines (printed ++ more) dones founds
+  pub whole : (more : List Line) → IsMergedRound options gets (drop k lines) more left rests → IsMergedRound options first lines (printed ++ more) dones founds
   pub few : gets ≤ first + k
   pub long : length report ≡ length before + k
 
@@ -76,8 +76,8 @@ module _ (options : Options) (first : ℕ) (lines : List TraceLine) (dones : Lis
   printed_all k report cursors rests gets all so_far = record {
     printed = so_far.printed;
     report = so_far.report_is;
-    merged = subst (λ l. IsMerged options first lines l dones founds) (append-nil so_far.printed)
-        (so_far.whole [] (subst (λ l. IsMerged options gets l [] so_far.left rests) (sym (drop_of_length-le lines all)) (record { lines = tt; writes = λ p replies at. refl; gets = λ q lines at. refl })));
+    merged = subst (λ l. IsMergedRound options first lines l dones founds) (append-nil so_far.printed)
+        (so_far.whole [] (subst (λ l. IsMergedRound options gets l [] so_far.left rests) (sym (drop_of_length-le lines all)) (record { lines = tt; writes = λ p replies at. refl; gets = λ q lines at. refl })));
   }
 
 -- the loop at one of the lines
@@ -136,8 +136,8 @@ module _ {W X : Type 0} {f : W → OwnerPart} {h : X → List Line} (l : AtLine 
     cursors_many = many;
     left_is = later_is;
     enough = g.enough;
-    whole = λ more m. subst (λ x. IsMerged l.options l.first l.lines x dones founds) (sym (append_assoc l.so_far.printed (r ∷ []) more))
-        (l.so_far.whole (r ∷ more) (subst (λ ls. IsMerged l.options l.gets ls (r ∷ more) left rests) (sym cut) (g.merges more m)));
+    whole = λ more m. subst (λ x. IsMergedRound l.options l.first l.lines x dones founds) (sym (append_assoc l.so_far.printed (r ∷ []) more))
+        (l.so_far.whole (r ∷ more) (subst (λ ls. IsMergedRound l.options l.gets ls (r ∷ more) left rests) (sym cut) (g.merges more m)));
     few = let low = l.so_far.few in omega arith;
     long = let one = length_push l.report r in let so_long = l.so_far.long in omega arith;
   }

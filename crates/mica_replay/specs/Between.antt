@@ -12,7 +12,7 @@ use Rattle.epoch_core.specs.declared.state.OwnerState.{OwnerState}
 use Rattle.epoch_core.specs.declared.state.Phase.TheVariants.{Idle}
 use Rattle.epoch_core.specs.Shape.{shape_of}
 use Rattle.epoch_core.specs.declared.reader.ReaderState.{ReaderState}
-use Rattle.mica_trace.specs.RoundReport.{gets_in, gets_of, pairs_in, AnswersRise, history_in}
+use Rattle.mica_trace.specs.RoundReport.{gets_in, gets_of, line_pairs_in, AnswersRise, history_in}
 use Rattle.epoch_core.specs.Joins.{lent}
 use Rattle.mica_replay.specs.ReaderGets.{HasRead}
 use Rattle.mica_replay.specs.Replies.{Reply, steps_with, HasWritten}
@@ -76,4 +76,4 @@ pub record HaveWorked (options : Options) (before : List TraceLine) (report : Li
       → IsRunFrom options (history_in options p before report) (steps_with (writes_of options p round) replies)
   pub gets : (q p : ℕ) (lines : List Line) (replies : List Reply) → slice_get found q ≡ Some lines → slice_get done p ≡ Some replies
       → (last : History) × IsPrefix last (history_in options p before report ++ history_of (steps_with (writes_of options p round) replies))
-      × AnswersRise options (history_in options p before report) (pairs_in options p (zip (gets_of options q (gets_in before) round) lines)) last
+      × AnswersRise options (history_in options p before report) (line_pairs_in options p (zip (gets_of options q (gets_in before) round) lines)) last

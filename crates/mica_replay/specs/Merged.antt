@@ -11,7 +11,7 @@ use Rattle.mica_trace.specs.LawfulReport.{steps_of}
 use Rattle.mica_replay.specs.Replies.{Reply, steps_with}
 
 -- What is printed for a round has each owner's replies at its writes, and each reader's lines at its gets.
-pub record IsMerged (options : Options) (g : ℕ) (round : List TraceLine) (printed : List Line) (done : List (List Reply)) (found : List (List Line)) : Type 0 where
+pub record IsMergedRound (options : Options) (g : ℕ) (round : List TraceLine) (printed : List Line) (done : List (List Reply)) (found : List (List Line)) : Type 0 where
   pub lines : AllZip HasKind round printed
   pub writes : (p : ℕ) (replies : List Reply) → slice_get done p ≡ Some replies → steps_of options p round printed ≡ steps_with (writes_of options p round) replies
   pub gets : (q : ℕ) (lines : List Line) → slice_get found q ≡ Some lines → pairs_of options q g (zip round printed) ≡ zip (gets_of options q g round) lines
@@ -27,4 +27,4 @@ pub record AreEnough (options : Options) (g : ℕ) (round : List TraceLine) (don
 pub record HasMerged (options : Options) (g : ℕ) (round : List TraceLine) (old new : List Line) (done : List (List Reply)) (found : List (List Line)) : Type 0 where
   pub printed : List Line
   pub report : new ≡ old ++ printed
-  pub merged : IsMerged options g round printed done found
+  pub merged : IsMergedRound options g round printed done found

@@ -8,12 +8,12 @@ use Rattle.epoch_core.specs.Shape.{shape_of}
 use Rattle.optimistic_get.specs.Asked.{SeatAnswers}
 use Rattle.mica_trace.specs.declared.line.TraceLine.{TraceLine}
 use Rattle.mica_trace.specs.declared.report.Line.{Line}
-use Rattle.mica_trace.specs.RoundReport.{HasKind, pairs_in, AnswersRise}
+use Rattle.mica_trace.specs.RoundReport.{HasKind, line_pairs_in, AnswersRise}
 
 -- The gets of a partition were answered by its seat: at histories that rise from what it had seen to what it has seen.
 pub record HasRead (options : Options) (p : ℕ) (gets : List TraceLine) (found : List Line) (old new : ReaderState) : Type 0 where
-  pub seat : SeatAnswers old new (length (pairs_in options p (zip gets found)))
-  pub answers : AnswersRise options old.seen (pairs_in options p (zip gets found)) new.seen
+  pub seat : SeatAnswers old new (length (line_pairs_in options p (zip gets found)))
+  pub answers : AnswersRise options old.seen (line_pairs_in options p (zip gets found)) new.seen
 
 -- The gets were answered, each by one line, by the seats of their partitions.
 pub record HaveRead (options : Options) (gets : List TraceLine) (found : List Line) (olds news : List ReaderState) : Type 0 where

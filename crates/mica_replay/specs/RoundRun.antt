@@ -17,8 +17,8 @@ use Rattle.mica_replay.specs.LineNumbers.{lines_at, NamesGet}
 use Rattle.mica_replay.specs.ReaderGets.{HaveRead}
 use Rattle.mica_replay.specs.Replies.{Reply, HasWritten}
 use Rattle.mica_replay.specs.Lending.{OwnerPart, lent_part}
-use Rattle.partition_table.specs.declared.tables.Entry.{Entry}
-use Rattle.partition_table.specs.Tabled.{entry_in}
+use Rattle.partition_table.specs.declared.tables.KeptSeat.{KeptSeat}
+use Rattle.partition_table.specs.Tabled.{kept_seat_in}
 use Rattle.mica_replay.specs.Between.{HasMet}
 
 -- a reader's seats with their tables, and its part of a round
@@ -109,8 +109,8 @@ pub record AreMade (options : Options) (owner_parts : List OwnerPart) : Type 0 w
   pub each : (p : ℕ) (w : OwnerPart) → slice_get owner_parts p ≡ Some w → w.state ≡ as_made (shape_of options)
 
 -- what is kept of an owner
-abbrev pub kept_of : OwnerPart → Entry
-kept_of w = entry_in w.state
+abbrev pub kept_of : OwnerPart → KeptSeat
+kept_of w = kept_seat_in w.state
 
 -- line `sync` ends the round that begins at line `from`
 pub record IsRoundTo (lines : List TraceLine) (from sync : ℕ) : Type 0 where

@@ -13,7 +13,7 @@ use Rattle.partition_model.specs.Run.{RunStep}
 use Rattle.epoch_core.proofs.Prefixes.{prefix_then}
 use Rattle.mica_fronts.specs.Turn.{Turn, write_in, partition_in, writes_of, gets_of, get_reply}
 use Rattle.owner_queue.specs.Worked.{Acknowledged}
-use Rattle.mica_fronts.specs.Session.{Told, Session, Sessions, TellsWrite, TellsRead, Answers, AnswersBy, AnswersInOrder}
+use Rattle.mica_fronts.specs.Session.{Told, Session, Sessions, TellsWrite, TellsRead, AnswersTurn, AnswersBy, AnswersInOrder}
 use Rattle.mica_serve.specs.Served.{ServesGet}
 use Rattle.mica_serve.proofs.Among.{StandAmong, stand_append, stand_after}
 
@@ -107,7 +107,7 @@ module _ (options : Options) (p : ℕ) where
         };
       }
 
-  one_of : (old new : Sessions) (turn : Turn) → Answers options false old turn new → One (old p) (new p) turn
+  one_of : (old new : Sessions) (turn : Turn) → AnswersTurn options false old turn new → One (old p) (new p) turn
   one_of old new turn h =
       elim (eqb (partition_in options turn) p) as (λ b. eqb (partition_in options turn) p ≡ b → One (old p) (new p) turn) [
         | true ↦ λ here.

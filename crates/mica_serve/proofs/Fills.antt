@@ -20,7 +20,7 @@ use Rattle.epoch_core.specs.OwnerStep.{IsOwnerStep}
 use Rattle.epoch_core.specs.Shape.{shape_of}
 use Rattle.epoch_core.proofs.SameMachine.{same_may_give}
 use Rattle.mica_serve.specs.Filled.{begun_by, RefusesFilling, IsFilledOwner}
-use Rattle.mica_serve.specs.Hands.{OwnerEnd, AreFrontsOf, begun_in}
+use Rattle.mica_serve.specs.Hands.{OwnerEnd, AreFrontsOf, accepted_by}
 use Rattle.mica_fronts.specs.QueueFront.{QueueView}
 use Rattle.mica_serve.proofs.Binding.{at_snoc}
 
@@ -131,21 +131,21 @@ none_there options some p past (write ∷ writes) = by (eqb (partition_of write.
 
 -- what the owners of all partitions have accepted
 pub begun_whole : (options : Options) → 1 ≤ options.partitions → (writes : List Write) (owners : List OwnerEnd) → length owners ≡ options.partitions
-    → ((p : ℕ) (o : OwnerEnd) → slice_get owners p ≡ Some o → o.state.history ≡ begun_by options writes p) → begun_in owners ≡ begun_by options writes
+    → ((p : ℕ) (o : OwnerEnd) → slice_get owners p ≡ Some o → o.state.history ≡ begun_by options writes p) → accepted_by owners ≡ begun_by options writes
 begun_whole options some writes owners many each = λ i p. at p i
   where
     found : Option OwnerEnd → History
     found x = unwrap_or (option_map (λ (o : OwnerEnd). o.state.history) x) []
 
-    at : (p : ℕ) → begun_in owners p ≡ begun_by options writes p
-    at p = elim (cases_lt p (length owners)) as (λ _. begun_in owners p ≡ begun_by options writes p) [
+    at : (p : ℕ) → accepted_by owners p ≡ begun_by options writes p
+    at p = elim (cases_lt p (length owners)) as (λ _. accepted_by owners p ≡ begun_by options writes p) [
       | inl low ↦ let o = element_at owners p low in ap found o.1 ∙ each p o.0 o.1
       | inr past ↦ ap found (slice_get_past owners p past) ∙ sym (none_there options some p (omega (arith, many)) writes)
     ]
 
 -- each owner has accepted what it begins with
 pub all_filled : (options : Options) (fronts most : ℕ) (owners : List OwnerEnd) (made : List QueueView) → AreFrontsOf options fronts most owners made
-    → (p : ℕ) → p < options.partitions → IsHistory options (begun_in owners p)
+    → (p : ℕ) → p < options.partitions → IsHistory options (accepted_by owners p)
 all_filled options fronts most owners made are p low =
     let o = element_at owners p (omega (arith, are.partitions)) in
     subst (IsHistory options) (sym (ap (λ (x : Option OwnerEnd). unwrap_or (option_map (λ (y : OwnerEnd). y.state.history) x) []) o.1)) (are.lent.fresh p o.0 o.1).filled.accepted

@@ -11,7 +11,7 @@ use Rattle.list_laws.proofs.Places.{element_at}
 use Rattle.mica_io.specs.Traffic.{Datagram, Traffic}
 use Rattle.partition_model.specs.declared.options.Options.{Options}
 use Rattle.partition_model.specs.History.{History}
-use Rattle.partition_table.specs.declared.tables.Entry.{Entry}
+use Rattle.partition_table.specs.declared.tables.KeptSeat.{KeptSeat}
 use Rattle.mica_fronts.specs.declared.totals.TheConstants.{MAX_BATCHES}
 use Rattle.mica_fronts.specs.declared.totals.Totals.{Totals}
 use Rattle.mica_fronts.specs.declared.totals.ServeFault.{ServeFault}
@@ -182,7 +182,7 @@ module _ (options : Options) (begun : ℕ → History) (batches : ℕ) where
   same_sums g h (x ∷ xs) (y ∷ ys) many same =
       omega (arith, sum_by-cons g x xs, sum_by-cons h y ys, same 0 x y refl refl, same_sums g h xs ys (omega arith) (λ i. same (suc i)))
 
-  all_served : (some : 1 ≤ options.partitions) (rs : List FrontRun) (totals : Totals) (kept : List Entry) (olds news : List EndFacts) → length olds ≡ length rs
+  all_served : (some : 1 ≤ options.partitions) (rs : List FrontRun) (totals : Totals) (kept : List KeptSeat) (olds news : List EndFacts) → length olds ≡ length rs
       → AreTakenIn options begun rs kept → Built rs totals olds news → ServesAll options begun batches totals kept olds news
   all_served some rs totals kept olds news many taken b =
       record {
@@ -264,9 +264,9 @@ module _ (options : Options) (begun : ℕ → History) (batches : ℕ) where
       (told.4.dealings, told.4.unread, told.4.one, record { had = told.0; has = told.1; had_is = told.2; has_is = told.3; begins = told.4.begins })
 
   -- what is kept: the seats where all were served, and else nothing
-  abbrev pub KeepsWhere : Result Totals ServeFault → List FrontRun → List Entry → Type 0
+  abbrev pub KeepsWhere : Result Totals ServeFault → List FrontRun → List KeptSeat → Type 0
   KeepsWhere (Ok totals) rs kept = AreTakenIn options begun rs kept
-  KeepsWhere (Err fault) rs kept = (kept ≡ []) × (left : List Entry) × AreTakenIn options begun rs left
+  KeepsWhere (Err fault) rs kept = (kept ≡ []) × (left : List KeptSeat) × AreTakenIn options begun rs left
 
   -- what one of these fronts dealt with
   record StoppedAt (rs : List FrontRun) (olds news : List EndFacts) (f : ℕ) (dealings : List Dealing) : Type 0 where
@@ -279,7 +279,7 @@ module _ (options : Options) (begun : ℕ → History) (batches : ℕ) where
     pub stopped : Stopped run before after dealings
 
   -- what all fronts dealt with beside each other, where there was memory for all
-  all_stopped : (rs : List FrontRun) (left : List Entry) (olds news : List EndFacts) → RunFronts options batches rs olds news → AreTakenIn options begun rs left
+  all_stopped : (rs : List FrontRun) (left : List KeptSeat) (olds news : List EndFacts) → RunFronts options batches rs olds news → AreTakenIn options begun rs left
       → ((f : ℕ) (r : FrontRun) → slice_get rs f ≡ Some r → r.answer ≢ Err NoMemory) → TellAll olds → StopsBeside options begun batches olds news
   all_stopped rs left olds news run taken other tell = record {
     fronts = all.0;
@@ -305,7 +305,7 @@ module _ (options : Options) (begun : ℕ → History) (batches : ℕ) where
           let s = stopped r.0 b.0 a.0 r.0.answer (other f r.0 r.1) (run.each f r.0 b.0 a.0 r.1 b.1 a.1).means (tell f b.0 b.1) in
           (s.0, record { run = r.0; before = b.0; after = a.0; ran = r.1; was = b.1; is = a.1; stopped = s.1 }))
 
-  pub gathered : (some : 1 ≤ options.partitions) (rs : List FrontRun) (kept : List Entry) (olds news : List EndFacts) (run : RunFronts options batches rs olds news)
+  pub gathered : (some : 1 ≤ options.partitions) (rs : List FrontRun) (kept : List KeptSeat) (olds news : List EndFacts) (run : RunFronts options batches rs olds news)
       (answer : Result Totals ServeFault) → SumsUp (map (λ (r : FrontRun). r.answer) rs) answer → KeepsWhere answer rs kept → ServesFronts options begun batches answer kept olds news
   gathered some rs kept olds news run answer sums keeps = record {
     many = run.many_after ∙ sym run.many_before;
@@ -355,11 +355,11 @@ module _ (options : Options) (begun : ℕ → History) (batches : ℕ) where
       means (Err NoMemory) sums none = none.0
 
   -- what is kept of the seats that the owners may leave
-  abbrev pub KeepsOf : Result Totals ServeFault → List Entry → List Entry → Type 0
+  abbrev pub KeepsOf : Result Totals ServeFault → List KeptSeat → List KeptSeat → Type 0
   KeepsOf (Ok totals) left kept = kept ≡ left
   KeepsOf (Err fault) left kept = kept ≡ []
 
-  pub all_ran : (some : 1 ≤ options.partitions) (left kept : List Entry) (answers : List (Result Totals ServeFault)) (olds news : List EndFacts) (ran : RanAll options begun batches left answers olds news)
+  pub all_ran : (some : 1 ≤ options.partitions) (left kept : List KeptSeat) (answers : List (Result Totals ServeFault)) (olds news : List EndFacts) (ran : RanAll options begun batches left answers olds news)
       (answer : Result Totals ServeFault) → SumsUp answers answer → KeepsOf answer left kept → ServesFronts options begun batches answer kept olds news
   all_ran some left kept answers olds news ran answer sums keeps =
       gathered some ran.fronts kept olds news ran.run answer (subst (λ (l : List (Result Totals ServeFault)). SumsUp l answer) ran.answers_are sums) (by answer keeps)
@@ -369,10 +369,10 @@ module _ (options : Options) (begun : ℕ → History) (batches : ℕ) where
       by (Err fault) none = (none, left, ran.taken)
 
   -- as many answers as ends, and each that counts counts no more than its front was given
-  pub few_answers : (left : List Entry) (answers : List (Result Totals ServeFault)) (olds news : List EndFacts) → RanAll options begun batches left answers olds news → length answers ≡ length olds
+  pub few_answers : (left : List KeptSeat) (answers : List (Result Totals ServeFault)) (olds news : List EndFacts) → RanAll options begun batches left answers olds news → length answers ≡ length olds
   few_answers left answers olds news ran = ap length ran.answers_are ∙ length-map ran.fronts (λ (r : FrontRun). r.answer) ∙ sym ran.run.many_before
 
-  pub small_answers : (left : List Entry) (answers : List (Result Totals ServeFault)) (olds news : List EndFacts) → RanAll options begun batches left answers olds news → batches ≤ MAX_BATCHES
+  pub small_answers : (left : List KeptSeat) (answers : List (Result Totals ServeFault)) (olds news : List EndFacts) → RanAll options begun batches left answers olds news → batches ≤ MAX_BATCHES
       → (f : ℕ) (totals : Totals) → slice_get answers f ≡ Some (Ok totals) → IsUpTo MAX_BATCHES totals
   small_answers left answers olds news ran few f totals is =
       let r = answer_at ran.fronts f (Ok totals) (ap (λ l. slice_get l f) (sym ran.answers_are) ∙ is) in

@@ -11,7 +11,7 @@ use Rattle.partition_model.specs.declared.write.Write.{Write}
 use Rattle.partition_model.specs.Write.{is_accepted}
 use Rattle.partition_model.specs.History.{stamp_of}
 use Rattle.mica_fronts.specs.Turn.{Turn, Accepts, write_in, partition_in, turns_of, status_of, is_too_long, get_reply}
-use Rattle.mica_fronts.specs.Session.{Session, Sessions, Answers, AnswersBy, AnswersInOrder}
+use Rattle.mica_fronts.specs.Session.{Session, Sessions, AnswersTurn, AnswersBy, AnswersInOrder}
 use Rattle.partition_model.proofs.Rises.{prefix_rises}
 use Rattle.mica_serve.specs.Served.{NoFall}
 
@@ -85,12 +85,12 @@ module _ (options : Options) (p : ℕ) where
         );
       }
 
-  here_replied : (old new : Sessions) (turn : Turn) → Answers options false old turn new → eqb (partition_in options turn) p ≡ true → Replied (old p) (new p) turn
+  here_replied : (old new : Sessions) (turn : Turn) → AnswersTurn options false old turn new → eqb (partition_in options turn) p ≡ true → Replied (old p) (new p) turn
   here_replied old new turn h here =
       subst (λ (q : ℕ). Replied (old q) (new q) turn) (eqb-true (partition_in options turn) p here)
       (replied (write_in turn.request) (old (partition_in options turn)) (new (partition_in options turn)) turn h.one)
 
-  same_elsewhere : (old new : Sessions) (turn : Turn) → Answers options false old turn new → eqb (partition_in options turn) p ≡ false → new p ≡ old p
+  same_elsewhere : (old new : Sessions) (turn : Turn) → AnswersTurn options false old turn new → eqb (partition_in options turn) p ≡ false → new p ≡ old p
   same_elsewhere old new turn h away = h.others p (λ e. absurd (true≢false (sym (eq-eqb _ _ (sym e)) ∙ away)))
 
   all_follow : (old new : Sessions) (turns : List Turn) → AnswersInOrder options false old turns new → IsKnown (old p) → All (Follows (old p).last) (turns_of options p turns)

@@ -11,12 +11,12 @@ use Rattle.list_laws.proofs.Places.{element_at, from_map}
 use Rattle.mica_io.specs.Traffic.{Datagram, Traffic, new_traffic}
 use Rattle.mica_io.specs.Ports.{Port, Ports, out, back, is_waiting}
 use Rattle.partition_model.specs.declared.options.Options.{Options}
-use Rattle.mica_serve.specs.declared.ports.Ports.{Ports as PortOptions}
+use Rattle.mica_fronts.specs.declared.ports.Ports.{Ports as PortOptions}
 use Rattle.mica_fronts.specs.declared.totals.Totals.{Totals}
 use Rattle.mica_fronts.specs.Turn.{Turn, turns_of, writes_of, gets_of}
 use Rattle.mica_fronts.specs.Dealing.{Dealing, IsDealing, turns_in, due_to}
 use Rattle.partition_model.specs.History.{History, IsHistory}
-use Rattle.partition_table.specs.declared.tables.Entry.{Entry}
+use Rattle.partition_table.specs.declared.tables.KeptSeat.{KeptSeat}
 use Rattle.mica_serve.specs.Beside.{ServesOnTables}
 use Rattle.mica_serve.specs.Served.{ServesPort, RepliesStep, ServesGet, NoFall, LeavesPort, BeginsPorts, IsThrough, IsCutShort, IsStopped, StopsShort}
 use Rattle.mica_serve.specs.declared.filling.OpenFault.TheVariants as open_fault
@@ -224,7 +224,7 @@ module _ (ports : PortOptions) (olds news : List EndFacts) (before mid after : P
             let a = element_at news f (omega (arith, lt, all.many, many)) in
             (b.0, a.0, b.1, a.1, all.each f d b.0 a.0 is b.1 a.1)
 
-  pub all_served : (options : Options) (begun : ℕ → History) (totals : Totals) (kept : List Entry) → 1 ≤ options.partitions → length olds ≡ ports.fronts
+  pub all_served : (options : Options) (begun : ℕ → History) (totals : Totals) (kept : List KeptSeat) → 1 ≤ options.partitions → length olds ≡ ports.fronts
       → ServesAll options begun ports.batches totals kept olds news → ServesOnTables options begun ports totals kept before after
   all_served options begun totals kept some full all = record {
     fronts = all.fronts;

@@ -12,18 +12,18 @@ use Rattle.atomic_table.specs.Seated.{TableId}
 use Rattle.partition_model.specs.declared.options.Options.{Options}
 use Rattle.epoch_core.specs.declared.state.OwnerState.{OwnerState}
 use Rattle.epoch_core.specs.declared.state.Phase.TheVariants.{Idle}
-use Rattle.partition_table.specs.Tabled.{entry_in}
-use Rattle.partition_table.specs.declared.tables.Entry.{Entry}
+use Rattle.partition_table.specs.Tabled.{kept_seat_in}
+use Rattle.partition_table.specs.declared.tables.KeptSeat.{KeptSeat}
 use Rattle.owner_queue.specs.JobEnds.{Inbox}
 use Rattle.owner_queue.specs.AckEnds.{AckBox}
 use Rattle.mica_fronts.specs.declared.totals.TheConstants.{MAX_BATCHES}
-use Rattle.mica_serve.specs.declared.ports.Ports.{Ports}
+use Rattle.mica_fronts.specs.declared.ports.Ports.{Ports}
 use Rattle.mica_fronts.specs.declared.queue_front.FrontPart.{FrontPart}
 use Rattle.mica_serve.specs.declared.worker.OwnerTask.{OwnerTask}
 use Rattle.mica_serve.specs.declared.worker.FrontTask.{FrontTask}
 use Rattle.mica_serve.specs.Ends.{EndFacts, AreOpen}
 use Rattle.mica_serve.specs.FrontRuns.{RanAll}
-use Rattle.mica_serve.specs.Hands.{OwnerEnd, begun_in, IsReadyOwner, IsNewOwner, AreFrontsOf, RanOwner, MayMeetAll, HaveMetAll}
+use Rattle.mica_serve.specs.Hands.{OwnerEnd, accepted_by, IsReadyOwner, IsNewOwner, AreFrontsOf, RanOwner, MayMeetAll, HaveMetAll}
 use Rattle.mica_fronts.specs.OwnerWork.{IsNewAckBox}
 use Rattle.mica_fronts.specs.QueueFront.{QueueView}
 use Rattle.mica_serve.specs.Tasks.{owner_end, IsReadyTask, TaskRan, OwnersRan, IsReadyFront, FrontRan, FrontsRan}
@@ -107,17 +107,17 @@ module _ {P D : Type 0} (owner : P → OwnerState) (home : P → TableId) (facts
 
         -- what all came to
         pub all_came : (news : List D) → news ≡ map (λ (t : FrontTask D). t.end) served
-            → RanAll options (begun_in (map end_of_owner os)) ports.batches (map (λ (t : OwnerTask P). entry_in (owner t.part)) after) (map (λ (t : FrontTask D). t.answer) served) (map facts ends) (map facts news)
+            → RanAll options (accepted_by (map end_of_owner os)) ports.batches (map (λ (t : OwnerTask P). kept_seat_in (owner t.part)) after) (map (λ (t : FrontTask D). t.answer) served) (map facts ends) (map facts news)
         all_came news news_are =
             let it = ran_all all (map end_of_owner after) here in
-            let kept = map-map (λ (o : OwnerEnd). entry_in o.state) end_of_owner after in
+            let kept = map-map (λ (o : OwnerEnd). kept_seat_in o.state) end_of_owner after in
             let one : map (λ (t : FrontTask D). facts t.end) tasks ≡ map facts ends = sym (map-map facts (λ (t : FrontTask D). t.end) tasks) ∙ ap (map facts) r.paired.own_ends in
             let two : map (λ (t : FrontTask D). facts t.end) served ≡ map facts news = sym (map-map facts (λ (t : FrontTask D). t.end) served) ∙ ap (map facts) (sym news_are) in
-            let left = map (λ (o : OwnerEnd). entry_in o.state) (map end_of_owner after) in
+            let left = map (λ (o : OwnerEnd). kept_seat_in o.state) (map end_of_owner after) in
             let answers = map (λ (t : FrontTask D). t.answer) served in
-            subst (λ (k : List Entry). RanAll options (begun_in (map end_of_owner os)) ports.batches k answers (map facts ends) (map facts news)) kept
-            (subst (λ (b : List EndFacts). RanAll options (begun_in (map end_of_owner os)) ports.batches left answers b (map facts news)) one
-            (subst (λ (a : List EndFacts). RanAll options (begun_in (map end_of_owner os)) ports.batches left answers (map (λ (t : FrontTask D). facts t.end) tasks) a) two it))
+            subst (λ (k : List KeptSeat). RanAll options (accepted_by (map end_of_owner os)) ports.batches k answers (map facts ends) (map facts news)) kept
+            (subst (λ (b : List EndFacts). RanAll options (accepted_by (map end_of_owner os)) ports.batches left answers b (map facts news)) one
+            (subst (λ (a : List EndFacts). RanAll options (accepted_by (map end_of_owner os)) ports.batches left answers (map (λ (t : FrontTask D). facts t.end) tasks) a) two it))
 
         -- the owners are idle
         pub idle : (p : ℕ) (task : OwnerTask P) → slice_get after p ≡ Some task → (owner task.part).phase ≡ Idle

@@ -3,8 +3,8 @@ use Rattle.std.proofs.Common.{ℕ, Option, Some, None, List}
 use Rattle.mica_io.specs.Ports.{Ports}
 use Rattle.partition_model.specs.declared.options.Options.{Options}
 use Rattle.partition_model.specs.History.{History}
-use Rattle.partition_table.specs.declared.tables.Entry.{Entry}
-use Rattle.mica_serve.specs.declared.ports.Ports.{Ports as PortOptions}
+use Rattle.partition_table.specs.declared.tables.KeptSeat.{KeptSeat}
+use Rattle.mica_fronts.specs.declared.ports.Ports.{Ports as PortOptions}
 use Rattle.mica_fronts.specs.declared.totals.Totals.{Totals}
 use Rattle.mica_serve.specs.Served.{Serves}
 use Rattle.mica_serve.specs.Beside.{ServesOnTables}
@@ -15,7 +15,7 @@ on_ports_as P Q f None b p = p
 on_ports_as P Q f (Some a) None p = absurd p
 on_ports_as P Q f (Some a) (Some b) p = f a b p
 
-pub has_served : (options : Options) (begun : ℕ → History) (ports : PortOptions) (totals : Totals) (kept : List Entry) (before after : NetFacts)
+pub has_served : (options : Options) (begun : ℕ → History) (ports : PortOptions) (totals : Totals) (kept : List KeptSeat) (before after : NetFacts)
     → HasServedOnTables options begun ports totals kept before after → HasServed options begun ports totals before after
 has_served options begun ports totals kept before after h = record {
   served = on_ports_as (ServesOnTables options begun ports totals kept) (Serves options begun ports totals)

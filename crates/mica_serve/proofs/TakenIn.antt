@@ -17,8 +17,8 @@ use Rattle.epoch_core.specs.declared.state.OwnerState.{OwnerState}
 use Rattle.epoch_core.specs.declared.reader.ReaderState.{ReaderState}
 use Rattle.owner_queue.proofs.Runs.{run_as}
 use Rattle.epoch_core.specs.OwnerState.{options_in}
-use Rattle.partition_table.specs.declared.tables.Entry.{Entry}
-use Rattle.partition_table.specs.Tabled.{entry_in}
+use Rattle.partition_table.specs.declared.tables.KeptSeat.{KeptSeat}
+use Rattle.partition_table.specs.Tabled.{kept_seat_in}
 use Rattle.partition_table.specs.Seats.{reader_state, reader_home}
 use Rattle.owner_queue.specs.declared.ack.Ack.{Ack}
 use Rattle.owner_queue.specs.declared.message.Message.{Message}
@@ -37,7 +37,7 @@ use Rattle.owner_queue.specs.Worked.{Acknowledged, DoneJob, jobs_in, job_of}
 use Rattle.mica_fronts.specs.OwnerWork.{placed_in}
 use Rattle.mica_serve.specs.Ends.{EndFacts}
 use Rattle.mica_serve.specs.FrontRuns.{FrontRun, RunsFront, RunFronts, RanAll, IsTakenIn, AreTakenIn, closed_in}
-use Rattle.mica_serve.specs.Hands.{OwnerEnd, begun_in, IsNewOwner, IsLentBy, AreFrontsOf, RanOwner, MayMeet, HasMet, MayMeetAll, HaveMetAll, closed_by, closed_at, met_after}
+use Rattle.mica_serve.specs.Hands.{OwnerEnd, accepted_by, IsNewOwner, IsLentBy, AreFrontsOf, RanOwner, MayMeet, HasMet, MayMeetAll, HaveMetAll, closed_by, closed_at, met_after}
 use Rattle.mica_serve.specs.Tasks.{FrontRan}
 use Rattle.mica_serve.proofs.MadeOf.{made_of, made_map, made_long, made_at}
 use Rattle.mica_serve.proofs.JobCounts.{steps_answered, steps_placed, few_answered, total_few}
@@ -64,7 +64,7 @@ module _ {D : Type 0} {batches : ℕ} {facts : D → EndFacts} {options : Option
     {olds news : List (FrontTask D)} (all : HaveRan batches facts options fronts most made owners views olds news) where
   -- what the owners begin with
   abbrev begun : ℕ → History
-  begun = begun_in made
+  begun = accepted_by made
 
   abbrev hand_of : FrontTask D → List FrontPart
   hand_of task = task.parts.items
@@ -304,15 +304,15 @@ module _ {D : Type 0} {batches : ℕ} {facts : D → EndFacts} {options : Option
             (few_answered f o.1.ran.served.done o.0.jobs.taken x.1.last.jobs.sent a.ran.ran.new.number o.1.ran.served.worked.jobs
             ((met_part a o.1 x.0 x.1).whole ∙ ap (λ (y : FrontPart). y.jobs.sent) x.1.part_is))
 
-    abbrev kept : List Entry
-    kept = map (λ (o : OwnerEnd). entry_in o.state) after
+    abbrev kept : List KeptSeat
+    kept = map (λ (o : OwnerEnd). kept_seat_in o.state) after
 
     -- what is left of an owner after all meetings
-    met_owner : (p : ℕ) (entry : Entry) → slice_get kept p ≡ Some entry → (owner : OwnerEnd) × (new : OwnerEnd) × OwnerAt p owner × (entry ≡ entry_in (met_after p hands owner new).state)
+    met_owner : (p : ℕ) (entry : KeptSeat) → slice_get kept p ≡ Some entry → (owner : OwnerEnd) × (new : OwnerEnd) × OwnerAt p owner × (entry ≡ kept_seat_in (met_after p hands owner new).state)
     met_owner p entry is =
-        let new = from_map (λ (o : OwnerEnd). entry_in o.state) after p entry is in
+        let new = from_map (λ (o : OwnerEnd). kept_seat_in o.state) after p entry is in
         let owner = element_at owners p (omega (arith, slice_get_within after p new.0 new.1, met.many)) in
-        (owner.0, new.0, owner_at p owner.0 owner.1, sym new.2 ∙ ap (λ (o : OwnerEnd). entry_in o.state) (met.same p owner.0 new.0 owner.1 new.1))
+        (owner.0, new.0, owner_at p owner.0 owner.1, sym new.2 ∙ ap (λ (o : OwnerEnd). kept_seat_in o.state) (met.same p owner.0 new.0 owner.1 new.1))
 
     taken : AreTakenIn options begun runs kept
     taken = record {
@@ -337,16 +337,16 @@ module _ {D : Type 0} {batches : ℕ} {facts : D → EndFacts} {options : Option
       };
       each = λ f run is. let n = front_of f run is in subst (IsTakenIn options begun placed f) n.2 (taken_front n.1);
       shapes = record {
-        many = length-map after (λ (o : OwnerEnd). entry_in o.state) ∙ met.many ∙ owners_long;
+        many = length-map after (λ (o : OwnerEnd). kept_seat_in o.state) ∙ met.many ∙ owners_long;
         shapes = λ p entry is.
             let m = met_owner p entry is in
-            ap (λ (e : Entry). e.shape) m.3 ∙ ap (λ (s : OwnerState). s.shape) m.2.ran.served.worked.gained ∙ ap (λ (s : OwnerState). s.shape) m.2.new.filled.state;
+            ap (λ (e : KeptSeat). e.shape) m.3 ∙ ap (λ (s : OwnerState). s.shape) m.2.ran.served.worked.gained ∙ ap (λ (s : OwnerState). s.shape) m.2.new.filled.state;
       };
-      history = λ p entry is. let m = met_owner p entry is in ap (λ (e : Entry). e.history) m.3 ∙ history_run m.2;
+      history = λ p entry is. let m = met_owner p entry is in ap (λ (e : KeptSeat). e.history) m.3 ∙ history_run m.2;
       closed = λ p entry is.
           let m = met_owner p entry is in
           let none : m.0.state.closed ≡ 0 = ap (λ (s : OwnerState). s.closed) m.2.ran.served.worked.gained ∙ ap (λ (s : OwnerState). s.closed) m.2.new.filled.state in
-          omega (arith, ap (λ (e : Entry). e.closed) m.3, none, all_closed p);
+          omega (arith, ap (λ (e : KeptSeat). e.closed) m.3, none, all_closed p);
     }
       where
         all_low : (done : List DoneJob) (messages : List Message) (n : ℕ) → map job_of done ≡ jobs_in messages → AllByRecursion (λ s. sender_of s < n) messages

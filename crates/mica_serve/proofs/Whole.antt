@@ -5,11 +5,11 @@ use Rattle.std.proofs.lemmas.Option.{slice_get_within}
 use Rattle.list_laws.proofs.Places.{element_at}
 use Rattle.mica_io.specs.Ports.{Ports, out}
 use Rattle.partition_model.specs.declared.options.Options.{Options}
-use Rattle.mica_serve.specs.declared.ports.Ports.{Ports as PortOptions}
+use Rattle.mica_fronts.specs.declared.ports.Ports.{Ports as PortOptions}
 use Rattle.mica_fronts.specs.declared.totals.Totals.{Totals}
 use Rattle.partition_model.specs.declared.write.Write.{Write}
 use Rattle.partition_model.specs.History.{History, IsHistory}
-use Rattle.partition_table.specs.declared.tables.Entry.{Entry}
+use Rattle.partition_table.specs.declared.tables.KeptSeat.{KeptSeat}
 use Rattle.mica_serve.specs.Beside.{ServesOnTables}
 use Rattle.mica_serve.specs.Served.{BeginsPorts, StopsShort, LeavesUnserved}
 use Rattle.mica_serve.specs.Filled.{begun_by, RefusesFilling}
@@ -33,7 +33,7 @@ on_ports_then P Q R f (Some a) None c p q = absurd p
 on_ports_then P Q R f (Some a) (Some b) None p q = absurd q
 on_ports_then P Q R f (Some a) (Some b) (Some c) p q = f a b c p q
 
-module _ (options : Options) (some : 1 ≤ options.partitions) (writes : List Write) (ports : PortOptions) (kept : List Entry) (before mid after : NetFacts) (news : List EndFacts)
+module _ (options : Options) (some : 1 ≤ options.partitions) (writes : List Write) (ports : PortOptions) (kept : List KeptSeat) (before mid after : NetFacts) (news : List EndFacts)
     (rel : ReleasesNet ports.port news mid after) where
   -- what the partitions begin with
   abbrev begun : ℕ → History
@@ -129,7 +129,7 @@ module _ (ports : PortOptions) (before mid : NetFacts) (olds : List EndFacts) (a
     (fails : mid.fails ≡ before.fails) (binds : mid.binds ≤ ports.fronts) (first : 0 < mid.binds → mid.first ≡ ports.port) (options : Options) (begun : ℕ → History)
     (filled : (p : ℕ) → p < options.partitions → IsHistory options (begun p)) where
   -- a run that ended before any end was served
-  run_unserved : (answer : Result Totals Stop) (kept : List Entry) → MeansForRun answer options begun ports kept before mid olds olds → BindsAndServes options begun ports answer kept before mid olds
+  run_unserved : (answer : Result Totals Stop) (kept : List KeptSeat) → MeansForRun answer options begun ports kept before mid olds olds → BindsAndServes options begun ports answer kept before mid olds
   run_unserved answer kept means = record {
     olds = olds;
     are_new = are_new;
@@ -146,13 +146,13 @@ module _ (ports : PortOptions) (before mid : NetFacts) (olds : List EndFacts) (a
     means = means;
   }
 
-  pub run_failed : (answer : Result Totals Stop) (kept : List Entry) → answer ≡ Err (Fault Net) → kept ≡ [] → Rose before.faults mid.faults → before.refused < mid.refused
+  pub run_failed : (answer : Result Totals Stop) (kept : List KeptSeat) → answer ≡ Err (Fault Net) → kept ≡ [] → Rose before.faults mid.faults → before.refused < mid.refused
       → BindsAndServes options begun ports answer kept before mid olds
   run_failed answer kept is none rose refused =
       run_unserved answer kept (subst (λ (r : Result Totals Stop). MeansForRun r options begun ports kept before mid olds olds) (sym is) (inl (record { rose = rose; refused = refused; untouched = refl }, none)))
 
   -- all ports were bound, and that could not be told
-  pub run_untold : (answer : Result Totals Stop) (kept : List Entry) → answer ≡ Err Unannounced → kept ≡ [] → length olds ≡ ports.fronts
+  pub run_untold : (answer : Result Totals Stop) (kept : List KeptSeat) → answer ≡ Err Unannounced → kept ≡ [] → length olds ≡ ports.fronts
       → BindsAndServes options begun ports answer kept before mid olds
   run_untold answer kept is none full = run_unserved answer kept (subst (λ (r : Result Totals Stop). MeansForRun r options begun ports kept before mid olds olds) (sym is) (full, refl, none))
 
@@ -161,7 +161,7 @@ module _ (ports : PortOptions) (before mid : NetFacts) (olds : List EndFacts) (a
   stopped_by (Ok totals) = Ok totals
   stopped_by (Err fault) = Err (Fault fault)
 
-  pub run_served : (answer : Result Totals ServeFault) (kept : List Entry) (news : List EndFacts) → length olds ≡ ports.fronts
+  pub run_served : (answer : Result Totals ServeFault) (kept : List KeptSeat) (news : List EndFacts) → length olds ≡ ports.fronts
       → (is_some before.fails ≡ true → mid.faults ≡ before.faults) → ServesFronts options begun ports.batches answer kept olds news
       → BindsAndServes options begun ports (stopped_by answer) kept before mid news
   run_served answer kept news full steady s = record {
@@ -205,7 +205,7 @@ still_told (Err (Fault Net)) says fails before mid after old new same told =
 still_told (Err (Fault NoMemory)) says fails before mid after old new same told = told
 
 -- a server whose partitions could not be made or filled
-pub not_opened : {A : Type 0} (fault : OpenFault) (options : Options) (writes : List Write) (ports : PortOptions) (kept : List Entry) (net : NetFacts) → kept ≡ []
+pub not_opened : {A : Type 0} (fault : OpenFault) (options : Options) (writes : List Write) (ports : PortOptions) (kept : List KeptSeat) (net : NetFacts) → kept ≡ []
     → (fault ≡ open_fault.Refused → RefusesFilling options writes) → (says fails : A → A → Type 0) (a : A)
     → IsCauseOfStop (Err (stop_of fault)) options writes ports kept net net × HasAnnounced says fails (Err (stop_of fault)) net net a a
 not_opened open_fault.Refused options writes ports kept net none why says fails a = ((none, refl, why refl), refl)

@@ -4,8 +4,8 @@ use Rattle.partition_model.specs.declared.options.Options.{Options}
 use Rattle.partition_model.specs.History.{History, IsHistory, IsPrefix}
 use Rattle.partition_model.specs.Run.{RunStep, IsRunFrom}
 use Rattle.epoch_core.specs.Shape.{shape_of}
-use Rattle.partition_table.specs.declared.tables.Entry.{Entry}
-use Rattle.mica_serve.specs.declared.ports.Ports.{Ports as PortOptions}
+use Rattle.partition_table.specs.declared.tables.KeptSeat.{KeptSeat}
+use Rattle.mica_fronts.specs.declared.ports.Ports.{Ports as PortOptions}
 use Rattle.mica_fronts.specs.declared.totals.Totals.{Totals}
 use Rattle.mica_io.specs.Ports.{Ports}
 use Rattle.mica_fronts.specs.Turn.{Turn, gets_of}
@@ -51,16 +51,16 @@ abbrev pub gets_answered : Options → ℕ → List (List Dealing) → ℕ
 gets_answered options p fronts = sum_by (λ dealings. length (gets_of options p (turns_in dealings))) fronts
 
 -- the seat of partition p has what that began with and then the fronts' accepted writes, and their seats closed one try for each get
-pub record IsServedEntry (options : Options) (begun : ℕ → History) (fronts : List (List Dealing)) (runs : ℕ → List Placed) (p : ℕ) (entry : Entry) : Type 0 where
+pub record IsServedSeat (options : Options) (begun : ℕ → History) (fronts : List (List Dealing)) (runs : ℕ → List Placed) (p : ℕ) (entry : KeptSeat) : Type 0 where
   pub history : entry.history ≡ begun p ++ history_in (runs p)
   pub closed : entry.closed ≡ gets_answered options p fronts
 
 -- one seat for each partition, in order
-pub record AreServedTables (options : Options) (begun : ℕ → History) (fronts : List (List Dealing)) (runs : ℕ → List Placed) (kept : List Entry) : Type 0 where
-  pub each : (p : ℕ) (entry : Entry) → slice_get kept p ≡ Some entry → IsServedEntry options begun fronts runs p entry
+pub record AreServedTables (options : Options) (begun : ℕ → History) (fronts : List (List Dealing)) (runs : ℕ → List Placed) (kept : List KeptSeat) : Type 0 where
+  pub each : (p : ℕ) (entry : KeptSeat) → slice_get kept p ≡ Some entry → IsServedSeat options begun fronts runs p entry
 
 -- the fronts served, the totals count what they did, and these are their tables
-pub record ServesOnTables (options : Options) (begun : ℕ → History) (ports : PortOptions) (totals : Totals) (kept : List Entry) (before after : Ports) : Type 0 where
+pub record ServesOnTables (options : Options) (begun : ℕ → History) (ports : PortOptions) (totals : Totals) (kept : List KeptSeat) (before after : Ports) : Type 0 where
   pub fronts : List (List Dealing)
   pub runs : ℕ → List Placed
   pub served : Served options begun ports before after fronts runs
@@ -68,6 +68,6 @@ pub record ServesOnTables (options : Options) (begun : ℕ → History) (ports :
   pub tables : AreServedTables options begun fronts runs kept
 
 -- one seat of the options' shape for each partition
-pub record HaveShapes (options : Options) (kept : List Entry) : Type 0 where
+pub record HaveShapes (options : Options) (kept : List KeptSeat) : Type 0 where
   pub many : length kept ≡ options.partitions
-  pub shapes : (p : ℕ) (entry : Entry) → slice_get kept p ≡ Some entry → entry.shape ≡ shape_of options
+  pub shapes : (p : ℕ) (entry : KeptSeat) → slice_get kept p ≡ Some entry → entry.shape ≡ shape_of options

@@ -8,7 +8,7 @@ use Rattle.partition_model.specs.History.{History}
 use Rattle.mica_fronts.specs.declared.totals.Totals.{Totals}
 use Rattle.mica_fronts.specs.declared.totals.ServeFault.{ServeFault}
 use Rattle.mica_fronts.specs.declared.totals.ServeFault.TheVariants.{Net, NoMemory}
-use Rattle.partition_table.specs.declared.tables.Entry.{Entry}
+use Rattle.partition_table.specs.declared.tables.KeptSeat.{KeptSeat}
 use Rattle.mica_fronts.specs.Dealing.{Dealing, IsDealing, turns_in, due_to}
 use Rattle.mica_fronts.specs.Session.{Sessions}
 use Rattle.mica_fronts.specs.Placed.{Placed}
@@ -119,7 +119,7 @@ abbrev pub TellAll : List EndFacts → Type 0
 TellAll ends = (i : ℕ) (end : EndFacts) → slice_get ends i ≡ Some end → is_some end.traffic ≡ true
 
 -- each front dealt with its end, beside the others, and these are the tables of their partitions
-pub record ServesAll (options : Options) (begun : ℕ → History) (batches : ℕ) (totals : Totals) (kept : List Entry) (before after : List EndFacts) : Type 0 where
+pub record ServesAll (options : Options) (begun : ℕ → History) (batches : ℕ) (totals : Totals) (kept : List KeptSeat) (before after : List EndFacts) : Type 0 where
   pub fronts : List (List Dealing)
   pub runs : ℕ → List Placed
   pub many : length fronts ≡ length before
@@ -158,7 +158,7 @@ pub record StopsBeside (options : Options) (begun : ℕ → History) (batches : 
       → (old : Sessions) × (new : Sessions) × AnsweredBeside options begun runs f (turns_in dealings) old new
 
 -- what each answer says of the ends and of the tables that are kept
-abbrev pub MeansForEnds : Result Totals ServeFault → Options → (ℕ → History) → ℕ → List Entry → List EndFacts → List EndFacts → Type 0
+abbrev pub MeansForEnds : Result Totals ServeFault → Options → (ℕ → History) → ℕ → List KeptSeat → List EndFacts → List EndFacts → Type 0
 MeansForEnds (Ok totals) options begun batches kept before after =
     HaveShapes options kept × HasNoEndFault before after × (TellAll before → ServesAll options begun batches totals kept before after)
 MeansForEnds (Err Net) options begun batches kept before after =
@@ -166,7 +166,7 @@ MeansForEnds (Err Net) options begun batches kept before after =
 MeansForEnds (Err NoMemory) options begun batches kept before after = kept ≡ []
 
 -- the fronts were served, beside each other
-pub record ServesFronts (options : Options) (origin : ℕ → History) (batches : ℕ) (answer : Result Totals ServeFault) (kept : List Entry) (before after : List EndFacts)
+pub record ServesFronts (options : Options) (origin : ℕ → History) (batches : ℕ) (answer : Result Totals ServeFault) (kept : List KeptSeat) (before after : List EndFacts)
     : Type 0 where
   pub many : length after ≡ length before
   pub keeps : (i : ℕ) (b a : EndFacts) → slice_get before i ≡ Some b → slice_get after i ≡ Some a → KeepsEnd b a

@@ -4,7 +4,7 @@ use Rattle.mica_io.specs.Faults.{Rose}
 use Rattle.partition_model.specs.declared.options.Options.{Options}
 use Rattle.partition_model.specs.History.{History, IsPrefix}
 use Rattle.partition_model.specs.Run.{RunStep}
-use Rattle.partition_table.specs.declared.tables.Entry.{Entry}
+use Rattle.partition_table.specs.declared.tables.KeptSeat.{KeptSeat}
 use Rattle.mica_fronts.specs.declared.totals.Totals.{Totals}
 use Rattle.mica_fronts.specs.declared.totals.ServeFault.{ServeFault}
 use Rattle.mica_fronts.specs.declared.totals.ServeFault.TheVariants.{Net, NoMemory}
@@ -58,16 +58,16 @@ pub record IsTakenIn (options : Options) (begun : ℕ → History) (runs : ℕ �
   pub sent : total_below options.partitions (λ p. length (steps_by f (runs p))) + run.left_after ≤ run.left
 
 -- the owners took in all fronts, and these are the seats that they may leave
-pub record AreTakenIn (options : Options) (begun : ℕ → History) (fronts : List FrontRun) (kept : List Entry) : Type 0 where
+pub record AreTakenIn (options : Options) (begun : ℕ → History) (fronts : List FrontRun) (kept : List KeptSeat) : Type 0 where
   pub runs : ℕ → List Placed
   pub ran : RunsPartitions options begun (length fronts) runs
   pub each : (f : ℕ) (run : FrontRun) → slice_get fronts f ≡ Some run → IsTakenIn options begun runs f run
   pub shapes : HaveShapes options kept
-  pub history : (p : ℕ) (entry : Entry) → slice_get kept p ≡ Some entry → entry.history ≡ begun p ++ history_in (runs p)
-  pub closed : (p : ℕ) (entry : Entry) → slice_get kept p ≡ Some entry → entry.closed ≡ sum_by (closed_in p) fronts
+  pub history : (p : ℕ) (entry : KeptSeat) → slice_get kept p ≡ Some entry → entry.history ≡ begun p ++ history_in (runs p)
+  pub closed : (p : ℕ) (entry : KeptSeat) → slice_get kept p ≡ Some entry → entry.closed ≡ sum_by (closed_in p) fronts
 
 -- the workers of a server ran, and their owners took in all fronts
-pub record RanAll (options : Options) (begun : ℕ → History) (batches : ℕ) (kept : List Entry) (answers : List (Result Totals ServeFault)) (before after : List EndFacts) : Type 0 where
+pub record RanAll (options : Options) (begun : ℕ → History) (batches : ℕ) (kept : List KeptSeat) (answers : List (Result Totals ServeFault)) (before after : List EndFacts) : Type 0 where
   pub fronts : List FrontRun
   pub answers_are : answers ≡ map (λ r. r.answer) fronts
   pub run : RunFronts options batches fronts before after

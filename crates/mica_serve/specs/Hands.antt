@@ -24,8 +24,8 @@ pub record OwnerEnd : Type 0 where
 -- Before they run
 
 -- what each partition's owner has accepted
-abbrev pub begun_in : List OwnerEnd → ℕ → History
-begun_in owners = λ p. unwrap_or (option_map (λ owner. owner.state.history) (slice_get owners p)) []
+abbrev pub accepted_by : List OwnerEnd → ℕ → History
+accepted_by owners = λ p. unwrap_or (option_map (λ owner. owner.state.history) (slice_get owners p)) []
 
 -- an owner as filled, with a fresh queue of so many jobs from each of so many fronts, and an end of a queue to each front
 pub record IsNewOwner (options : Options) (fronts most : ℕ) (owner : OwnerEnd) : Type 0 where

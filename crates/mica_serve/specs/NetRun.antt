@@ -5,7 +5,7 @@ use Rattle.mica_io.specs.Faults.{Rose, LAST_COUNT}
 use Rattle.partition_model.specs.declared.options.Options.{Options}
 use Rattle.partition_model.specs.declared.write.Write.{Write}
 use Rattle.partition_model.specs.History.{History, IsHistory}
-use Rattle.mica_serve.specs.declared.ports.Ports.{Ports as PortOptions}
+use Rattle.mica_fronts.specs.declared.ports.Ports.{Ports as PortOptions}
 use Rattle.mica_serve.specs.declared.filling.OpenFault.{OpenFault}
 use Rattle.mica_serve.specs.declared.filling.OpenFault.TheVariants as open_fault
 use Rattle.mica_serve.specs.declared.stop.Stop.{Stop}
@@ -13,7 +13,7 @@ use Rattle.mica_serve.specs.declared.stop.Stop.TheVariants.{Refused, Unannounced
 use Rattle.mica_fronts.specs.declared.totals.Totals.{Totals}
 use Rattle.mica_fronts.specs.declared.totals.ServeFault.{ServeFault}
 use Rattle.mica_fronts.specs.declared.totals.ServeFault.TheVariants.{Net, NoMemory}
-use Rattle.partition_table.specs.declared.tables.Entry.{Entry}
+use Rattle.partition_table.specs.declared.tables.KeptSeat.{KeptSeat}
 use Rattle.mica_serve.specs.Filled.{begun_by, RefusesFilling}
 use Rattle.mica_serve.specs.Served.{Serves, StopsShort, BeginsPorts, LeavesUnserved}
 use Rattle.mica_serve.specs.Beside.{ServesOnTables, HaveShapes}
@@ -64,19 +64,19 @@ pub record HasStopped (options : Options) (begun : ℕ → History) (ports : Por
   pub stopped : OnPorts (StopsShort options begun ports (before.refused < after.refused) (CountsFaults before after)) before.ports after.ports
 
 -- the fronts served, the totals count what they did, and these are the tables of their partitions
-pub record HasServedOnTables (options : Options) (begun : ℕ → History) (ports : PortOptions) (totals : Totals) (kept : List Entry) (before after : NetFacts) : Type 0 where
+pub record HasServedOnTables (options : Options) (begun : ℕ → History) (ports : PortOptions) (totals : Totals) (kept : List KeptSeat) (before after : NetFacts) : Type 0 where
   pub served : OnPorts (ServesOnTables options begun ports totals kept) before.ports after.ports
   pub no_fault : HasNoFault before after
   pub shapes : HaveShapes options kept
 
 -- What each answer says of the net and of the tables that are kept. Want of memory says nothing more of the net than `KeepsNet`.
-abbrev pub IsCauseOf : Result Totals ServeFault → Options → (ℕ → History) → PortOptions → List Entry → NetFacts → NetFacts → Type 0
+abbrev pub IsCauseOf : Result Totals ServeFault → Options → (ℕ → History) → PortOptions → List KeptSeat → NetFacts → NetFacts → Type 0
 IsCauseOf (Ok totals) options begun ports kept before after = HasServedOnTables options begun ports totals kept before after
 IsCauseOf (Err Net) options begun ports kept before after = (kept ≡ []) × HasStopped options begun ports before after
 IsCauseOf (Err NoMemory) options begun ports kept before after = kept ≡ []
 
 -- What each answer says of a server whose partitions these writes filled. One that stopped before it served has bound nothing, or received nothing.
-abbrev pub IsCauseOfStop : Result Totals Stop → Options → List Write → PortOptions → List Entry → NetFacts → NetFacts → Type 0
+abbrev pub IsCauseOfStop : Result Totals Stop → Options → List Write → PortOptions → List KeptSeat → NetFacts → NetFacts → Type 0
 IsCauseOfStop (Ok totals) options writes ports kept before after = IsCauseOf (Ok totals) options (begun_by options writes) ports kept before after
 IsCauseOfStop (Err (Fault fault)) options writes ports kept before after = IsCauseOf (Err fault) options (begun_by options writes) ports kept before after
 IsCauseOfStop (Err Refused) options writes ports kept before after = (kept ≡ []) × (after ≡ before) × RefusesFilling options writes
@@ -115,7 +115,7 @@ pub record FailsToBind (before after : NetFacts) (olds news : List EndFacts) : T
   pub untouched : news ≡ olds
 
 -- what each answer says, once the ends were bound; want of memory says nothing but that no table is kept
-abbrev pub MeansForRun : Result Totals Stop → Options → (ℕ → History) → PortOptions → List Entry → NetFacts → NetFacts → List EndFacts → List EndFacts → Type 0
+abbrev pub MeansForRun : Result Totals Stop → Options → (ℕ → History) → PortOptions → List KeptSeat → NetFacts → NetFacts → List EndFacts → List EndFacts → Type 0
 MeansForRun (Ok totals) options begun ports kept before after olds news =
     (length olds ≡ ports.fronts) × (is_some before.fails ≡ true → after.faults ≡ before.faults)
     × MeansForEnds (Ok totals) options begun ports.batches kept olds news
@@ -128,7 +128,7 @@ MeansForRun (Err Unannounced) options begun ports kept before after olds news = 
 MeansForRun (Err Refused) options begun ports kept before after olds news = ⊥
 
 -- The ports were bound, up to the first bind that failed, and the fronts served; these ends are left to be released.
-pub record BindsAndServes (options : Options) (origin : ℕ → History) (ports : PortOptions) (answer : Result Totals Stop) (kept : List Entry)
+pub record BindsAndServes (options : Options) (origin : ℕ → History) (ports : PortOptions) (answer : Result Totals Stop) (kept : List KeptSeat)
     (before after : NetFacts) (news : List EndFacts) : Type 0 where
   pub olds : List EndFacts
   pub are_new : AreNewEnds ports.port olds

@@ -6,7 +6,7 @@ use Rattle.mica_io.specs.Ports.{Port, Ports, waiting, back, is_waiting}
 use Rattle.partition_model.specs.declared.options.Options.{Options}
 use Rattle.partition_model.specs.History.{History, IsHistory, IsPrefix, stamp_of, answer_of}
 use Rattle.partition_model.specs.Run.{RunStep, IsRunFrom}
-use Rattle.mica_serve.specs.declared.ports.Ports.{Ports as PortOptions}
+use Rattle.mica_fronts.specs.declared.ports.Ports.{Ports as PortOptions}
 use Rattle.mica_fronts.specs.declared.totals.Totals.{Totals}
 use Rattle.mica_fronts.specs.Turn.{Turn, Accepts, write_in, turns_of, writes_of, gets_of, write_reply, get_reply}
 use Rattle.mica_fronts.specs.Dealing.{Dealing, IsDealing, turns_in, due_to}

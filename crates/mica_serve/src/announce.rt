@@ -1,10 +1,10 @@
 //! What a server tells once its ports are bound.
 ghost use Rattle.std.specs.Prelude.{◌≡◌, ⊤, map, length, OnOk, OnErr};
-ghost use Rattle.mica_serve.specs.declared.ports.Ports.{Ports as PortOptions};
+ghost use Rattle.mica_fronts.specs.declared.ports.Ports.{Ports as PortOptions};
 ghost use Rattle.mica_serve.specs.Ends.{AreNewEnds, end_facts};
 
-use crate::ports::Ports;
 use crate::stop::Untold;
+use mica_fronts::Ports;
 use mica_io::Datagrams;
 
 /// What a server tells once all its ports are bound, and before it receives anything.

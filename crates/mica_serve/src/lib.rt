@@ -1,6 +1,6 @@
 //! The server: its ports, the fronts behind them and the owners of the partitions, each in a thread of its own.
 //!
-//! What a front makes of its datagrams stands in `mica_fronts`, of whose public names this crate passes on seven. What all fronts of `serve` received and
+//! What a front makes of its datagrams stands in `mica_fronts`, of whose public names this crate passes on eight. What all fronts of `serve` received and
 //! replied is `Served` (`specs/Served.antt`): the writes of all fronts are one run of each partition's machine, and each get is its answer at the
 //! replied stamp.
 #![tactic(auto)]
@@ -10,7 +10,6 @@ mod answers;
 mod filling;
 mod meeting;
 mod opening;
-mod ports;
 mod run;
 mod running;
 mod stop;
@@ -18,7 +17,8 @@ mod tables;
 mod worker;
 
 pub use announce::Announce;
-pub use mica_fronts::{Front, MAX_BATCHES, QueueFront, ServeFault, SoloFront, Totals, serve_batch};
-pub use ports::Ports;
+pub use mica_fronts::{
+    Front, MAX_BATCHES, Ports, QueueFront, ServeFault, SoloFront, Totals, serve_batch,
+};
 pub use run::{serve, serve_filled};
 pub use stop::{Stop, Untold};

@@ -4,16 +4,15 @@ ghost use Rattle.partition_model.specs.Options.{IsValid};
 ghost use Rattle.partition_model.specs.Write.{IsWrite};
 ghost use Rattle.epoch_core.specs.OwnerState.{as_made};
 ghost use Rattle.epoch_core.specs.Shape.{shape_of};
-ghost use Rattle.mica_serve.specs.PortOptions.{IsValidPorts};
+ghost use Rattle.mica_fronts.specs.PortOptions.{IsValidPorts};
 ghost use Rattle.mica_serve.specs.Filled.{begun_by, RefusesFilling};
-ghost use Rattle.mica_serve.specs.Hands.{begun_in, LendsPart, AreSendersOf, LendsEach, AreLent, LendsOneMore, AreFrontsOf};
+ghost use Rattle.mica_serve.specs.Hands.{accepted_by, LendsPart, AreSendersOf, LendsEach, AreLent, LendsOneMore, AreFrontsOf};
 ghost use Rattle.mica_serve.specs.Tasks.{owner_end};
 
 use crate::filling::{OpenFault, fill};
-use crate::ports::Ports;
 use crate::worker::OwnerTask;
 use epoch_core::{LendPartition, Partition, Shape};
-use mica_fronts::{FrontPart, QueueFront};
+use mica_fronts::{FrontPart, Ports, QueueFront};
 use mica_io::NoMemory;
 use owner_queue::{JobSender, ack_queue, job_queue};
 use partition_model::{Options, Write};
@@ -113,7 +112,7 @@ fn open_owners<P: OnTable + LendPartition<Reader = ReaderSeat, Note = Note>>(
     requires filling { All IsWrite filling.now }
     ensures lent { IfOk result (λ owners. AreLent options.now ports.now.fronts (255 * ports.now.batches)
         (map (λ task. owner_end P.owner P.home task) owners.items) (map (λ own. own.items) hands.new.items)) }
-    ensures begun { IfOk result (λ owners. begun_in (map (λ task. owner_end P.owner P.home task) owners.items) ≡ begun_by options.now filling.now) }
+    ensures begun { IfOk result (λ owners. accepted_by (map (λ task. owner_end P.owner P.home task) owners.items) ≡ begun_by options.now filling.now) }
     ensures many { IfOk result (λ owners. length owners.items ≡ options.now.partitions) }
     ensures refused { IsErrOf result OpenFault.Refused → RefusesFilling options.now filling.now }
 {
@@ -154,7 +153,7 @@ pub(crate) fn open_all<P: OnTable + LendPartition<Reader = ReaderSeat, Note = No
     requires filling { All IsWrite filling.now }
     ensures made { IfOk result (λ owners. AreFrontsOf options.now ports.now.fronts (255 * ports.now.batches)
         (map (λ task. owner_end P.owner P.home task) owners.items) fronts.new.items) }
-    ensures begun { IfOk result (λ owners. begun_in (map (λ task. owner_end P.owner P.home task) owners.items) ≡ begun_by options.now filling.now) }
+    ensures begun { IfOk result (λ owners. accepted_by (map (λ task. owner_end P.owner P.home task) owners.items) ≡ begun_by options.now filling.now) }
     ensures refused { IsErrOf result OpenFault.Refused → RefusesFilling options.now filling.now }
 {
     let mut hands = Vec::with_capacity(alloc, ports.fronts as usize)?;

@@ -6,7 +6,7 @@ ghost use Rattle.partition_model.specs.Options.{IsValid};
 ghost use Rattle.partition_model.specs.Write.{IsWrite};
 ghost use Rattle.partition_table.specs.declared.reader.Note.{Note};
 ghost use Rattle.partition_table.specs.Seats.{note_state, note_home};
-ghost use Rattle.mica_serve.specs.PortOptions.{IsValidPorts};
+ghost use Rattle.mica_fronts.specs.PortOptions.{IsValidPorts};
 ghost use Rattle.mica_serve.specs.Filled.{nothing_begun};
 ghost use Rattle.mica_serve.specs.Ends.{AreNewEnds, AreAtPorts, AreOpen, BindsEnds, TellAll, ServesFronts, end_facts};
 ghost use Rattle.mica_serve.specs.Tasks.{IsServer, begun_with};
@@ -14,13 +14,12 @@ ghost use Rattle.mica_serve.specs.NetRun.{OnPorts, ReleasesNet, BindsAndServes, 
 
 use crate::announce::{Announce, Silent};
 use crate::answers::sum_up;
-use crate::ports::Ports;
 use crate::running::{Server, run_all};
 use crate::stop::Stop;
 use crate::tables::keep_all;
 use cache_partition::CachePartition;
 use epoch_core::LendPartition;
-use mica_fronts::{ServeFault, Totals};
+use mica_fronts::{Ports, ServeFault, Totals};
 use mica_io::{Datagrams, Failed, Gate, Net};
 use partition_model::{Mode, Options, Write};
 use partition_table::{Note, OwnerSeat, ReaderSeat, Tables};

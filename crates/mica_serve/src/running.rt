@@ -2,11 +2,11 @@
 ghost use Rattle.std.specs.Prelude.{◌≡◌, ◌+◌, ◌≤◌, ℕ, All, IfOk, IsErrOf, length, map, slice_get, Some};
 ghost use Rattle.partition_model.specs.Options.{IsValid};
 ghost use Rattle.epoch_core.specs.declared.state.Phase.TheVariants.{Idle};
-ghost use Rattle.partition_table.specs.Tabled.{entry_in};
+ghost use Rattle.partition_table.specs.Tabled.{kept_seat_in};
 ghost use Rattle.partition_table.specs.declared.reader.Note.{Note};
 ghost use Rattle.partition_table.specs.Seats.{note_state, note_home};
 ghost use Rattle.partition_model.specs.Write.{IsWrite};
-ghost use Rattle.mica_serve.specs.PortOptions.{IsValidPorts};
+ghost use Rattle.mica_fronts.specs.PortOptions.{IsValidPorts};
 ghost use Rattle.mica_serve.specs.Filled.{begun_by, RefusesFilling};
 ghost use Rattle.mica_serve.specs.Ends.{AreOpen, end_facts};
 ghost use Rattle.mica_serve.specs.FrontRuns.{RanAll};
@@ -15,10 +15,9 @@ ghost use Rattle.mica_serve.specs.Tasks.{IsRoom, IsServer, begun_with};
 use crate::filling::OpenFault;
 use crate::meeting::meet_all;
 use crate::opening::open_all;
-use crate::ports::Ports;
 use crate::worker::{FrontTask, OwnerTask, pair_up, part_fronts, run_workers};
 use epoch_core::LendPartition;
-use mica_fronts::{FrontPart, QueueFront, ServeFault, Totals};
+use mica_fronts::{FrontPart, Ports, QueueFront, ServeFault, Totals};
 use mica_io::{Datagrams, Gate, NoMemory};
 use partition_model::{Options, Write};
 use partition_table::{Note, ReaderSeat};
@@ -112,7 +111,7 @@ pub(crate) fn run_all<
     requires server { IsServer P.owner P.home options.now ports.now server }
     requires open { AreOpen (map (end_facts D.port D.traffic D.faults D.has_ended D.script) ends.old.items) }
     requires many { length ends.old.items ≡ ports.now.fronts }
-    ensures ran { RanAll options.now (begun_with P.owner P.home server) ports.now.batches (map (λ task. entry_in (P.owner task.part)) result.0.items) result.1.items
+    ensures ran { RanAll options.now (begun_with P.owner P.home server) ports.now.batches (map (λ task. kept_seat_in (P.owner task.part)) result.0.items) result.1.items
         (map (end_facts D.port D.traffic D.faults D.has_ended D.script) ends.old.items) (map (end_facts D.port D.traffic D.faults D.has_ended D.script) ends.new.items) }
     ensures idle { (p : ℕ) (task : OwnerTask P) → slice_get result.0.items p ≡ Some task → (P.owner task.part).phase ≡ Idle }
 {

@@ -33,8 +33,8 @@ abbrev pub gets_in : List TraceLine → ℕ
 gets_in lines = count_by is_get lines
 
 -- a line of a trace, and the line of its report
-abbrev pub Pair : Type 0
-Pair = TraceLine × Line
+abbrev pub LinePair : Type 0
+LinePair = TraceLine × Line
 
 -- the report line is of the kind that the trace line has
 abbrev pub HasKind : TraceLine → Line → Type 0
@@ -54,16 +54,16 @@ abbrev pub gets_of : Options → ℕ → ℕ → List TraceLine → List TraceLi
 gets_of options reader g lines = gets_by (λ line. line) options reader g lines
 
 -- a reader's gets with their answers
-abbrev pub pairs_of : Options → ℕ → ℕ → List Pair → List Pair
+abbrev pub pairs_of : Options → ℕ → ℕ → List LinePair → List LinePair
 pairs_of options reader g pairs = gets_by (λ pair. pair.0) options reader g pairs
 
 -- those whose key is in the partition
-abbrev pub pairs_in : Options → ℕ → List Pair → List Pair
-pairs_in options partition pairs = filter (λ pair. is_in_partition options partition pair.0) pairs
+abbrev pub line_pairs_in : Options → ℕ → List LinePair → List LinePair
+line_pairs_in options partition pairs = filter (λ pair. is_in_partition options partition pair.0) pairs
 
 -- Each answer is the machine's after some history. The first of these begins with `seen`, each later one with the one before it, and
 -- `last` with the last of them.
-abbrev pub AnswersRise : Options → History → List Pair → History → Type 0
+abbrev pub AnswersRise : Options → History → List LinePair → History → Type 0
 AnswersRise options seen [] last = IsPrefix seen last
 AnswersRise options seen (pair ∷ pairs) last =
     (cut : History) × IsPrefix seen cut × Answers options cut pair.0.key pair.1 × AnswersRise options cut pairs last
@@ -84,4 +84,4 @@ pub record IsRoundReport (options : Options) (before : List TraceLine) (report :
   pub gets : (q p : ℕ) → q < options.readers → p < options.partitions → (last : History)
       × IsPrefix last (history_in options p before report ++ history_in options p round printed)
       × AnswersRise options (history_in options p before report)
-      (pairs_in options p (pairs_of options q (gets_in before) (zip round printed))) last
+      (line_pairs_in options p (pairs_of options q (gets_in before) (zip round printed))) last

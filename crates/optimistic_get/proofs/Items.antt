@@ -11,7 +11,7 @@ use Rattle.epoch_core.specs.declared.reader.ReaderState.{ReaderState}
 use Rattle.epoch_core.specs.Layout.{item_at}
 use Rattle.epoch_core.specs.ReaderState.{loaded}
 use Rattle.epoch_core.specs.Spelt.{HasLoad, ShowsOther, by_key_len, by_value_len, by_hash, by_key_word, ShowsItem}
-use Rattle.optimistic_get.specs.Loading.{loads_in, GoesOn, HasWords, LacksWord, HasKeyOf, HoldsValue}
+use Rattle.optimistic_get.specs.Loading.{loads_in, GoesOn, HasLoadedWords, LacksWord, HasKeyOf, HoldsValue}
 use Rattle.optimistic_get.proofs.Loads.{on_none, on_load, on_then, on_open, item_here, item_still, words_still}
 
 pub on_one : (r q : ReaderState) (place x : ℕ) → is_some r.current ≡ true → q ≡ loaded place x r → GoesOn r 1 q
@@ -43,7 +43,7 @@ module _ (r q : ReaderState) (p header : ℕ) (key : List ℕ) (trying : is_some
           let inside = lacks.inside in
           by_key_word lacks.at lacks.found (omega (arith, length-packed key)) lacks.load lacks.other
 
-      pub has_key : header_key_len header ≡ length key → header_value_len header ≤ MAX_VALUE_LEN → x ≡ fnv1a key → HasWords q3 (p + 2) (packed key)
+      pub has_key : header_key_len header ≡ length key → header_value_len header ≤ MAX_VALUE_LEN → x ≡ fnv1a key → HasLoadedWords q3 (p + 2) (packed key)
           → HasKeyOf q3 p key (header_value_len header)
       has_key key_len fits hash has = record {
         header = header;

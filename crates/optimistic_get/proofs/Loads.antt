@@ -11,7 +11,7 @@ use Rattle.epoch_core.specs.Layout.{item_at}
 use Rattle.epoch_core.specs.ReaderState.{with_load, loaded}
 use Rattle.epoch_core.specs.Spelt.{HasLoad}
 use Rattle.epoch_core.proofs.Failing.{in_left, in_last}
-use Rattle.optimistic_get.specs.Loading.{loads_of, loads_in, Keeps, TryGoesOn, GoesOn, HasWords, LacksWord}
+use Rattle.optimistic_get.specs.Loading.{loads_of, loads_in, Keeps, TryGoesOn, GoesOn, HasLoadedWords, LacksWord}
 
 -- a try goes on
 
@@ -126,7 +126,7 @@ item_here q p' p x trying is = subst (λ (z : ReaderState). HasLoad (loads_in z)
 pub item_still : (r q : ReaderState) (n p x : ℕ) → GoesOn r n q → HasLoad (loads_in r) (item_at r.shape p) x → HasLoad (loads_in q) (item_at q.shape p) x
 item_still r q n p x g h = subst (λ (z : Shape). HasLoad (loads_in q) (item_at z p) x) (sym (on_shape r q n g)) (on_keeps r q n g (item_at r.shape p) x h)
 
-pub words_still : (r q : ReaderState) (n p : ℕ) (words : List ℕ) → GoesOn r n q → HasWords r p words → HasWords q p words
+pub words_still : (r q : ReaderState) (n p : ℕ) (words : List ℕ) → GoesOn r n q → HasLoadedWords r p words → HasLoadedWords q p words
 words_still r q n p words g has i l = item_still r q n (p + i) (slice_index words i) g (has i l)
 
 -- a word more at a list's end

@@ -11,7 +11,7 @@ use Rattle.epoch_core.proofs.Prefixes.{prefix_same, prefix_then}
 use Rattle.optimistic_get.specs.declared.getting.Got.{Got}
 use Rattle.optimistic_get.specs.declared.getting.Got.TheVariants.{Hit, Miss, Again}
 use Rattle.optimistic_get.specs.Gets.{TriesMade, FailsMore, Answered}
-use Rattle.optimistic_get.specs.Gets.{Answers as GetAnswers}
+use Rattle.optimistic_get.specs.Gets.{AnswersGet as GetAnswers}
 use Rattle.optimistic_get.specs.Asked.{SeatAnswers, IsReadAt, IsRead}
 
 pub no_answers : (old : ReaderState) → SeatAnswers old old 0

@@ -13,7 +13,7 @@ use Rattle.epoch_core.proofs.Failing.{in_cons, in_none, in_both}
 use Rattle.optimistic_get.specs.declared.getting.Got.{Got}
 use Rattle.optimistic_get.specs.declared.getting.Got.TheVariants.{Hit, Miss, Again}
 use Rattle.optimistic_get.specs.Loading.{most_loads}
-use Rattle.optimistic_get.specs.Gets.{is_again, TriesMade, IsFailureAt, most_of_failure, most_of_failures, TryAnswers, TryFails, Tries, FailsMore, Answered, AllFailed, Answers}
+use Rattle.optimistic_get.specs.Gets.{is_again, TriesMade, IsFailureAt, most_of_failure, most_of_failures, TryAnswers, TryFails, Tries, FailsMore, Answered, AllFailed, AnswersGet}
 
 made_none : (r : ReaderState) → TriesMade r 0 r
 made_none r = record {
@@ -134,7 +134,7 @@ answered_after r q p b n tries key answer stamp f few t = record {
 }
 
 pub answers_after : (r q p : ReaderState) (b n tries : ℕ) (key out : List ℕ) (got : Got) → Failing r b n q → n < tries → (is_again got ≡ true → n + 1 ≡ tries) → Tries q b key got out p
-    → Answers r b tries key got out p
+    → AnswersGet r b tries key got out p
 answers_after r q p b n tries key out (Hit stamp) f few all t = answered_after r q p b n tries key (Some out) stamp f few t
 answers_after r q p b n tries key out (Miss stamp) f few all t = (answered_after r q p b n tries key None stamp f few t.0, t.1)
 answers_after r q p b n tries key out (Again first last) f few all t = (all_failed r q p b n tries first last f t.0 (all refl), t.1)

@@ -6,14 +6,14 @@ use Rattle.partition_model.specs.Answer.{IsAnswer}
 use Rattle.epoch_core.specs.declared.reader.ReaderState.{ReaderState}
 use Rattle.epoch_core.specs.declared.scripted.Scripted.{Scripted}
 use Rattle.epoch_core.specs.Shape.{options_of}
-use Rattle.epoch_core.specs.Script.{IsSettled}
+use Rattle.epoch_core.specs.Script.{HasPlayedOut}
 use Rattle.epoch_core.specs.Seats.{book_of}
 use Rattle.epoch_core.proofs.Settling.{at_rest, same_owner, settled_still}
 use Rattle.optimistic_get.specs.declared.getting.Got.{Got}
 use Rattle.optimistic_get.specs.Gets.{is_again, TryAnswers}
 use Rattle.optimistic_get.specs.Settled.{SeesAll, TriesAtRest, AnswersPlayed}
 
-module _ (s t : Scripted) (settled : IsSettled (book_of s)) (got : Got) (planned : TriesAtRest (book_of s).reader got (book_of t).reader (book_of s).plan) where
+module _ (s t : Scripted) (settled : HasPlayedOut (book_of s)) (got : Got) (planned : TriesAtRest (book_of s).reader got (book_of t).reader (book_of s).plan) where
   sees : SeesAll (book_of s).reader got (book_of s).owner (book_of t).reader
   sees = planned (book_of s).owner (at_rest s settled)
 

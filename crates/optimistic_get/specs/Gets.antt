@@ -96,7 +96,7 @@ pub record AllFailed (old : ReaderState) (b tries first last : ℕ) (new : Reade
   pub failure : IsFailureAt old b first last
 
 -- What a get answers: the machine's answer at the history that the seat has seen then, or that each try failed.
-abbrev pub Answers : ReaderState → ℕ → ℕ → List ℕ → Got → List ℕ → ReaderState → Type 0
-Answers old b tries key (Hit stamp) out new = Answered old b tries key (Some out) stamp new
-Answers old b tries key (Miss stamp) out new = Answered old b tries key None stamp new × (out ≡ [])
-Answers old b tries key (Again first last) out new = AllFailed old b tries first last new × (out ≡ [])
+abbrev pub AnswersGet : ReaderState → ℕ → ℕ → List ℕ → Got → List ℕ → ReaderState → Type 0
+AnswersGet old b tries key (Hit stamp) out new = Answered old b tries key (Some out) stamp new
+AnswersGet old b tries key (Miss stamp) out new = Answered old b tries key None stamp new × (out ≡ [])
+AnswersGet old b tries key (Again first last) out new = AllFailed old b tries first last new × (out ≡ [])

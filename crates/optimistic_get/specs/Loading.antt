@@ -42,8 +42,8 @@ pub record GoesOn (old : ReaderState) (n : ℕ) (new : ReaderState) : Type 0 whe
   pub current : TryGoesOn old.current new.current
 
 -- these words were found from the offset on
-abbrev pub HasWords : ReaderState → ℕ → List ℕ → Type 0
-HasWords r p words = (i : ℕ) → i < length words
+abbrev pub HasLoadedWords : ReaderState → ℕ → List ℕ → Type 0
+HasLoadedWords r p words = (i : ℕ) → i < length words
     → HasLoad (loads_in r) (item_at r.shape (p + i)) (slice_index words i)
 
 -- one of these words was not
@@ -62,12 +62,12 @@ pub record HasKeyOf (r : ReaderState) (p : ℕ) (key : List ℕ) (len : ℕ) : T
   pub value_len : header_value_len header ≡ len
   pub fits : len ≤ MAX_VALUE_LEN
   pub hash : HasLoad (loads_in r) (item_at r.shape (p + 1)) (fnv1a key)
-  pub words : HasWords r (p + 2) (packed key)
+  pub words : HasLoadedWords r (p + 2) (packed key)
 
 -- the words from the offset on hold this value
 pub record HoldsValue (r : ReaderState) (p len : ℕ) (value : List ℕ) : Type 0 where
   pub words : List ℕ
   pub enough : length words ≡ words_for len
-  pub load : HasWords r p words
+  pub load : HasLoadedWords r p words
   pub held : value ≡ unpacked len words
   pub long : length value ≡ len

@@ -8,7 +8,7 @@ use Rattle.epoch_core.specs.declared.reader.ReaderState.{ReaderState}
 use Rattle.epoch_core.specs.declared.scripted.Plan.{Plan}
 use Rattle.epoch_core.specs.declared.scripted.Book.{Book}
 use Rattle.epoch_core.specs.OwnerState.{options_in}
-use Rattle.epoch_core.specs.Script.{Rests, IsSettled}
+use Rattle.epoch_core.specs.Script.{Rests, HasPlayedOut}
 use Rattle.optimistic_get.specs.declared.getting.Got.{Got}
 use Rattle.optimistic_get.specs.Gets.{is_again, TriesMade}
 
@@ -29,4 +29,4 @@ pub record AnswersPlayed (old : Book) (key : List ℕ) (answer : Answer) (out : 
   pub closed : new.reader.closed ≡ old.reader.closed + 1
   pub seen : new.reader.seen ≡ old.owner.history
   pub owner : new.owner ≡ old.owner
-  pub settled : IsSettled new
+  pub settled : HasPlayedOut new

@@ -2,7 +2,7 @@
 ghost use Rattle.std.specs.Prelude.{◌≡◌, ◌<◌};
 ghost use Rattle.mica_words.specs.Hash.{bucket_of as bucket_of_key, fnv1a};
 ghost use Rattle.mica_words.specs.Item.{KeyFits};
-ghost use Rattle.optimistic_get.specs.Gets.{Answers};
+ghost use Rattle.optimistic_get.specs.Gets.{AnswersGet};
 
 use crate::trying::try_get;
 use crate::wanted::Wanted;
@@ -37,7 +37,7 @@ impl Got {
 pub fn get<R: ReaderWords>(seat: &mut R, key: &[u8], tries: u32, out: &mut ItemBuf) -> Got
     requires key { KeyFits key.now }
     requires tries { 0 < tries }
-    ensures answers { Answers (R.reader seat.old) (bucket_of_key key.now (R.reader seat.old).shape.buckets)
+    ensures answers { AnswersGet (R.reader seat.old) (bucket_of_key key.now (R.reader seat.old).shape.buckets)
         tries key.now result out.new (R.reader seat.new) }
     ensures home { R.home seat.new ≡ R.home seat.old }
 {
@@ -55,7 +55,7 @@ pub fn get_hashed<R: ReaderWords>(
     requires key { KeyFits key.now }
     requires hashed { hash ≡ fnv1a key.now }
     requires tries { 0 < tries }
-    ensures answers { Answers (R.reader seat.old) (bucket_of_key key.now (R.reader seat.old).shape.buckets)
+    ensures answers { AnswersGet (R.reader seat.old) (bucket_of_key key.now (R.reader seat.old).shape.buckets)
         tries key.now result out.new (R.reader seat.new) }
     ensures home { R.home seat.new ≡ R.home seat.old }
 {

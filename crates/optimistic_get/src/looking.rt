@@ -4,7 +4,7 @@ ghost use Rattle.mica_words.specs.declared.item.TheConstants.{MAX_VALUE_LEN};
 ghost use Rattle.mica_words.specs.Item.{words_for, largest_item};
 ghost use Rattle.mica_words.specs.Packing.{packed};
 ghost use Rattle.epoch_core.specs.Spelt.{ShowsOther, ShowsItem};
-ghost use Rattle.optimistic_get.specs.Loading.{loads_in, GoesOn, HasWords, LacksWord, HasKeyOf, HoldsValue};
+ghost use Rattle.optimistic_get.specs.Loading.{loads_in, GoesOn, HasLoadedWords, LacksWord, HasKeyOf, HoldsValue};
 
 use crate::wanted::Wanted;
 use epoch_core::ReaderWords;
@@ -16,7 +16,7 @@ fn holds_packed<R: ReaderWords>(seat: &mut R, offset: u64, bytes: &[u8]) -> bool
     requires open { is_some (R.reader seat.old).current ≡ true }
     requires low { offset + words_for (length bytes.now) < 2 ^ 64 }
     ensures on { GoesOn (R.reader seat.old) (words_for (length bytes.entry.now)) (R.reader seat.new) }
-    ensures shows { MatchBool result (HasWords (R.reader seat.new) offset (packed bytes.entry.now))
+    ensures shows { MatchBool result (HasLoadedWords (R.reader seat.new) offset (packed bytes.entry.now))
         (LacksWord (R.reader seat.new) offset (packed bytes.entry.now)) }
     ensures home { R.home seat.new ≡ R.home seat.old }
     ensures plan { R.plan seat.new ≡ R.plan seat.old }

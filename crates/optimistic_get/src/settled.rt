@@ -1,6 +1,6 @@
 //! The get of a script that has no event left.
 ghost use Rattle.mica_words.specs.Item.{KeyFits};
-ghost use Rattle.epoch_core.specs.Script.{IsSettled};
+ghost use Rattle.epoch_core.specs.Script.{HasPlayedOut};
 ghost use Rattle.epoch_core.specs.Seats.{book_of};
 ghost use Rattle.optimistic_get.specs.Settled.{AnswersPlayed};
 
@@ -14,7 +14,7 @@ use partition_model::{Answer, ItemBuf};
 /// The machine's answer after the events that were played, by one try.
 pub fn get_settled(seat: &mut Scripted, key: &[u8], out: &mut ItemBuf) -> Answer
     requires key { KeyFits key.now }
-    requires settled { IsSettled (book_of seat.old) }
+    requires settled { HasPlayedOut (book_of seat.old) }
     ensures { AnswersPlayed (book_of seat.old) key.now result out.new (book_of seat.new) }
 {
     let hash = key_hash(key);

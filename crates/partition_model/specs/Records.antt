@@ -15,5 +15,5 @@ AreRising [] = Unit {0}
 AreRising (r ∷ rs) = AllByRecursion (λ later. r.offset ≤ later.offset) rs × AreRising rs
 
 -- their values fit
-abbrev pub AreShort : List Record → Type 0
-AreShort records = AllByRecursion (λ held. ValueFits held.value) records
+abbrev pub ValuesFit : List Record → Type 0
+ValuesFit records = AllByRecursion (λ held. ValueFits held.value) records

@@ -2,21 +2,21 @@
 use Rattle.std.specs.Prelude.{ℕ, zero, suc, List, [], ◌∷◌, ◌++◌, Option, Some, None}
 use Rattle.epoch_core.specs.declared.state.OwnerState.{OwnerState}
 use Rattle.partition_table.specs.declared.owner.OwnerSeat.{OwnerSeat}
-use Rattle.partition_table.specs.declared.tables.Entry.{Entry}
+use Rattle.partition_table.specs.declared.tables.KeptSeat.{KeptSeat}
 use Rattle.partition_table.specs.Seats.{owner_state}
 
-abbrev pub entry_in : OwnerState → Entry
-entry_in o = record { shape = o.shape; history = o.history; closed = o.closed }
+abbrev pub kept_seat_in : OwnerState → KeptSeat
+kept_seat_in o = record { shape = o.shape; history = o.history; closed = o.closed }
 
-abbrev pub entry_of : OwnerSeat → Entry
-entry_of s = entry_in (owner_state s)
+abbrev pub kept_seat_of : OwnerSeat → KeptSeat
+kept_seat_of s = kept_seat_in (owner_state s)
 
-abbrev pub some_entry : Option OwnerSeat → List Entry
-some_entry None = []
-some_entry (Some s) = entry_of s ∷ []
+abbrev pub kept_seat_or_none : Option OwnerSeat → List KeptSeat
+kept_seat_or_none None = []
+kept_seat_or_none (Some s) = kept_seat_of s ∷ []
 
 -- the first n places' seats
-abbrev pub entries : List (Option OwnerSeat) → ℕ → List Entry
-entries [] n = []
-entries (p ∷ ps) zero = []
-entries (p ∷ ps) (suc n) = some_entry p ++ entries ps n
+abbrev pub kept_seats : List (Option OwnerSeat) → ℕ → List KeptSeat
+kept_seats [] n = []
+kept_seats (p ∷ ps) zero = []
+kept_seats (p ∷ ps) (suc n) = kept_seat_or_none p ++ kept_seats ps n

@@ -18,4 +18,4 @@ mod tables;
 pub use making::{make, make_from_zeros, zeros_for};
 pub use owner::OwnerSeat;
 pub use reader::{Note, ReaderSeat};
-pub use tables::{Entry, Tables};
+pub use tables::{KeptSeat, Tables};

@@ -2,7 +2,7 @@
 ghost use Rattle.std.specs.Prelude.{◌≡◌, ◌<◌, ◌+◌, ◌++◌, [], ◌∷◌, length};
 ghost use Rattle.epoch_core.specs.declared.state.Phase.TheVariants.{Idle};
 ghost use Rattle.partition_table.specs.Seats.{owner_state};
-ghost use Rattle.partition_table.specs.Tabled.{entry_of};
+ghost use Rattle.partition_table.specs.Tabled.{kept_seat_of};
 
 use crate::owner::OwnerSeat;
 use epoch_core::Shape;
@@ -11,7 +11,7 @@ use std::collections::LinkedList;
 use std::marker::Model;
 
 /// What contracts see of a kept seat. No value of it is made.
-pub struct Entry {
+pub struct KeptSeat {
     pub shape: Shape,
     pub history: LinkedList<Write>,
     pub closed: u64,
@@ -26,14 +26,14 @@ pub struct Tables {
 
 impl Model for Tables {
     ghost use Rattle.std.specs.Prelude.{◌≡◌, ◌≤◌, List, length};
-    ghost use Rattle.partition_table.specs.declared.tables.Entry.{Entry};
-    ghost use Rattle.partition_table.specs.Tabled.{entries};
+    ghost use Rattle.partition_table.specs.declared.tables.KeptSeat.{KeptSeat};
+    ghost use Rattle.partition_table.specs.Tabled.{kept_seats};
 
-    ghost Value = { List Entry };
+    ghost Value = { List KeptSeat };
 
-    ghost view = { λ t. entries t.seats t.count };
+    ghost view = { λ t. kept_seats t.seats t.count };
 
-    ghost invariant = { λ t. (length t.seats ≡ 16) × (t.count ≤ 16) × (length (entries t.seats t.count) ≡ t.count) };
+    ghost invariant = { λ t. (length t.seats ≡ 16) × (t.count ≤ 16) × (length (kept_seats t.seats t.count) ≡ t.count) };
 }
 
 impl Tables {
@@ -59,7 +59,7 @@ impl Tables {
     pub fn keep(&mut self, seat: OwnerSeat)
         requires few { length self.old < 16 }
         requires idle { (owner_state seat).phase ≡ Idle }
-        ensures { self.new ≡ self.old ++ entry_of seat ∷ [] }
+        ensures { self.new ≡ self.old ++ kept_seat_of seat ∷ [] }
     {
         self.seats[self.count as usize] = Some(seat);
         self.count += 1;

@@ -20,7 +20,7 @@ use Rattle.partition_model.proofs.CacheKept.{rewritten, rewritten_key}
 use Rattle.partition_model.proofs.CacheLaws.{tail_rises}
 use Rattle.partition_model.proofs.Found.{found_filter_all}
 use Rattle.partition_model.proofs.Laid.{key_is}
-use Rattle.report_check.specs.Machines.{part_of}
+use Rattle.report_check.specs.Machines.{bucket_part}
 use Rattle.report_check.proofs.Filters.{filter_swap, filter_weaker, filter_map_same, filter_map_none, count_filtered, first_filtered, first_of_others}
 
 module _ (options : Options) (s : Cache) (write : Write) where
@@ -31,7 +31,7 @@ module _ (options : Options) (s : Cache) (write : Write) where
   here = is_in_bucket options own
 
   abbrev part : Cache
-  part = part_of options own s
+  part = bucket_part options own s
 
   own_key : (r : Record) → has_key write.key r ≡ true → here r ≡ true
   own_key r is = eq-eqb (bucket_of r.key options.buckets) own (ap (λ k. bucket_of k options.buckets) (key_is write.key r is))
@@ -45,13 +45,13 @@ module _ (options : Options) (s : Cache) (write : Write) where
 
   -- the write itself
 
-  own_append : (value : List ℕ) → cs.after_append part (new_record part write.key value) ≡ part_of options own (cs.after_append s (new_record s write.key value))
+  own_append : (value : List ℕ) → cs.after_append part (new_record part write.key value) ≡ bucket_part options own (cs.after_append s (new_record s write.key value))
   own_append value = grind (arith, common_steps, filter_swap, eq-eqb own own refl, filter-append here (others write.key s.records))
 
-  own_rewrite : cs.after_rewrite part write ≡ part_of options own (cs.after_rewrite s write)
+  own_rewrite : cs.after_rewrite part write ≡ bucket_part options own (cs.after_rewrite s write)
   own_rewrite = grind (arith, common_steps, filter_map_same here (rewritten write), rewritten write, rewritten_key write)
 
-  own_delete : cs.after_delete part write ≡ part_of options own (cs.after_delete s write)
+  own_delete : cs.after_delete part write ≡ bucket_part options own (cs.after_delete s write)
   own_delete = ap (λ (rs : List Record). record (cs.after_delete s write) { records = rs }) (filter_swap (λ r. not (has_key write.key r)) here s.records)
 
   same_kept : (o : Option Record) → kept_if options part write o ≡ kept_if options s write o
@@ -60,13 +60,13 @@ module _ (options : Options) (s : Cache) (write : Write) where
   own_kept : kept_record options part write ≡ kept_record options s write
   own_kept = ap (kept_if options part write) own_record ∙ same_kept (record_of s write.key)
 
-  own_put : (o : Option Record) → cs.after_put o part write ≡ part_of options own (cs.after_put o s write)
+  own_put : (o : Option Record) → cs.after_put o part write ≡ bucket_part options own (cs.after_put o s write)
   own_put o = grind (arith, own_append write.value, own_rewrite)
 
-  own_touch : (o : Option Record) → cs.after_touch o part write ≡ part_of options own (cs.after_touch o s write)
+  own_touch : (o : Option Record) → cs.after_touch o part write ≡ bucket_part options own (cs.after_touch o s write)
   own_touch o = grind (arith, own_append)
 
-  own_op : (op : Op) → cs.after_op op options part write ≡ part_of options own (cs.after_op op options s write)
+  own_op : (op : Op) → cs.after_op op options part write ≡ bucket_part options own (cs.after_op op options s write)
   own_op Put = ap (λ o. cs.after_put o part write) own_kept ∙ own_put (kept_record options s write)
   own_op Add = own_append write.value
   own_op Touch = ap (λ o. cs.after_touch o part write) own_record ∙ own_touch (record_of s write.key)
@@ -83,7 +83,7 @@ module _ (options : Options) (s : Cache) (write : Write) where
   own_left : (rs : List Record) → left (filter here rs) ≡ filter here (left rs)
   own_left rs = grind (arith, common_steps, count_filtered here rs, first_filtered here rs)
 
-  pub own_after : cs.after options part write ≡ part_of options own (cs.after options s write)
+  pub own_after : cs.after options part write ≡ bucket_part options own (cs.after options s write)
   unfolding cs.after
   own_after = search (rules, own_op write.op, filter_swap, own_left live)
 

@@ -28,7 +28,7 @@ use Rattle.partition_model.proofs.Histories.{state_snoc}
 use Rattle.partition_model.proofs.Laid.{laid_filter, unique_filter, key_is}
 use Rattle.mica_model.proofs.Passed.{laid_rising}
 use Rattle.report_check.specs.declared.cache_buckets.CacheBuckets.{CacheBuckets}
-use Rattle.report_check.specs.Machines.{in_bucket, part_of, AreBuckets, HasPart, IsReached}
+use Rattle.report_check.specs.Machines.{in_bucket, bucket_part, AreBuckets, HasPart, IsReachable}
 use Rattle.report_check.proofs.Filters.{filter_weaker, filter_all, find_both}
 use Rattle.report_check.proofs.BucketSteps.{own_after, other_after, live_before}
 
@@ -40,15 +40,15 @@ seen_set (y ∷ xs) zero (suc j) new x is = ((λ same. absurd (omega arith)), (�
 seen_set (y ∷ xs) (suc i) zero new x is = ((λ same. absurd (omega arith)), (λ _. is))
 seen_set (y ∷ xs) (suc i) (suc j) new x is = grind (arith, common_steps, seen_set xs i j new x is)
 
-pub reached_kept : (options : Options) (s : Cache) → IsReached options s → IsKept options s
+pub reached_kept : (options : Options) (s : Cache) → IsReachable options s → IsKept options s
 reached_kept options s reached = kept_in options reached.0 reached.1 s reached.2
 
 -- a bucket's part of a state has what every state has
-pub part_kept : (options : Options) (bucket : ℕ) (s : Cache) → IsKept options s → IsKept options (part_of options bucket s)
+pub part_kept : (options : Options) (bucket : ℕ) (s : Cache) → IsKept options s → IsKept options (bucket_part options bucket s)
 part_kept options bucket s kept = search (rules, is_in_bucket, laid_filter, unique_filter, all_filter, count_filter, tail_of)
 
 -- a bucket that was met has its part of the state, and nothing else
-pub part_is : (options : Options) (bucket : ℕ) (s : Cache) → IsKept options s → HasPart options bucket s (part_of options bucket s)
+pub part_is : (options : Options) (bucket : ℕ) (s : Cache) → IsKept options s → HasPart options bucket s (bucket_part options bucket s)
 part_is options bucket s kept =
     let part = part_kept options bucket s kept in
     record {
@@ -58,7 +58,7 @@ part_is options bucket s kept =
 
 -- a bucket that catches up
 pub caught_up : (options : Options) (bucket : ℕ) (s held : Cache) → HasPart options bucket s held
-    → cs.without_passed options (record held { stamp = s.stamp; accepted = s.accepted }) ≡ part_of options bucket s
+    → cs.without_passed options (record held { stamp = s.stamp; accepted = s.accepted }) ≡ bucket_part options bucket s
 caught_up options bucket s held has = ap (λ (rs : List Record). record s { records = rs }) has.live
 
 -- the value of a key, by its bucket
@@ -73,14 +73,14 @@ value_by options s held key has =
     own_key r is = eq-eqb (bucket_of r.key options.buckets) (bucket_of key options.buckets) (ap (λ k. bucket_of k options.buckets) (key_is key r is))
 
 -- each bucket has its part, where one has just its part and the others have theirs
-pub set_parts : (options : Options) (buckets : List Cache) (at : ℕ) (new s : Cache) → IsKept options s → new ≡ part_of options at s
+pub set_parts : (options : Options) (buckets : List Cache) (at : ℕ) (new s : Cache) → IsKept options s → new ≡ bucket_part options at s
     → ((bucket : ℕ) (held : Cache) → bucket ≢ at → slice_get buckets bucket ≡ Some held → HasPart options bucket s held)
     → (bucket : ℕ) (held : Cache) → slice_get (set buckets at new) bucket ≡ Some held → HasPart options bucket s held
 set_parts options buckets at new s kept is others bucket held here =
     grind (arith, seen_set buckets at bucket new held here, eqb bucket at, eqb-true bucket at, part_is options bucket s kept, eqb-false bucket at, others bucket held)
 
-module _ (options : Options) (s : Cache) (reached : IsReached options s) (write : Write) (is : IsWrite write) where
-  pub reached_after : IsReached options (cs.after options s write)
+module _ (options : Options) (s : Cache) (reached : IsReachable options s) (write : Write) (is : IsWrite write) where
+  pub reached_after : IsReachable options (cs.after options s write)
   reached_after = (reached.0 ++ write ∷ [], all_push IsWrite reached.0 write reached.1 is, state_snoc options reached.0 write ∙ ap (λ t. after_in options t write) reached.2)
 
   -- a bucket after a write to a key of another
@@ -93,7 +93,7 @@ module _ (options : Options) (olds news : Vec Cache) (stamp accepted : ℕ) (s :
   met_many : length news.items ≡ options.buckets
   met_many = ap length items ∙ length-set olds.items at b ∙ are.many
 
-  pub are_met : b ≡ part_of options at s → AreBuckets s (record { options = options; buckets = news; stamp = stamp; accepted = accepted })
+  pub are_met : b ≡ bucket_part options at s → AreBuckets s (record { options = options; buckets = news; stamp = stamp; accepted = accepted })
   are_met is = record {
     valid = are.valid;
     reached = are.reached;
@@ -105,11 +105,11 @@ module _ (options : Options) (olds news : Vec Cache) (stamp accepted : ℕ) (s :
   }
 
   -- and took a write
-  pub are_after : (write : Write) → IsWrite write → at ≡ bucket_of write.key options.buckets → b ≡ cs.after options (part_of options at s) write → (stamp' accepted' : ℕ) → stamp' ≡ b.stamp → accepted' ≡ b.accepted
+  pub are_after : (write : Write) → IsWrite write → at ≡ bucket_of write.key options.buckets → b ≡ cs.after options (bucket_part options at s) write → (stamp' accepted' : ℕ) → stamp' ≡ b.stamp → accepted' ≡ b.accepted
       → AreBuckets (cs.after options s write) (record { options = options; buckets = news; stamp = stamp'; accepted = accepted' })
   are_after write is own is_b stamp' accepted' same same' =
       let now = cs.after options s write in
-      let part : b ≡ part_of options at now = is_b ∙ ap (λ k. cs.after options (part_of options k s) write) own ∙ own_after options s write ∙ ap (λ k. part_of options k now) (sym own) in
+      let part : b ≡ bucket_part options at now = is_b ∙ ap (λ k. cs.after options (bucket_part options k s) write) own ∙ own_after options s write ∙ ap (λ k. bucket_part options k now) (sym own) in
       let reached = reached_after options s are.reached write is in
       record {
         valid = are.valid;
@@ -133,7 +133,7 @@ pub front_within : (words stamp : ℕ) (records : List Record) → passed_front 
 front_within words stamp records = prefix_len-le-length (λ held. not (is_live words stamp held.offset)) records
 
 -- what a write to a bucket may rely on
-pub bucket_kept : (options : Options) (s bucket : Cache) (b : ℕ) → IsReached options s → bucket ≡ part_of options b s → IsKept options bucket
+pub bucket_kept : (options : Options) (s bucket : Cache) (b : ℕ) → IsReachable options s → bucket ≡ bucket_part options b s → IsKept options bucket
 bucket_kept options s bucket b reached is = subst (IsKept options) (sym is) (part_kept options b s (reached_kept options s reached))
 
 -- One bucket of them, by its number.
@@ -142,7 +142,7 @@ module _ (m : CacheBuckets) (s : Cache) (are : AreBuckets s m) (number : ℕ) (h
   part_at = are.each number held (slice_get_read m.buckets.items m.options.buckets number held (sym are.many) less is)
 
   -- that catches up
-  pub caught_at : cs.without_passed m.options (record held { stamp = m.stamp; accepted = m.accepted }) ≡ part_of m.options number s
+  pub caught_at : cs.without_passed m.options (record held { stamp = m.stamp; accepted = m.accepted }) ≡ bucket_part m.options number s
   caught_at = grind (arith, common_steps, caught_up m.options number s held part_at, part_at)
 
   -- where a key's record is found

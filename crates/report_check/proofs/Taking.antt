@@ -20,7 +20,7 @@ use Rattle.report_check.specs.declared.cache_buckets.CacheBuckets.{CacheBuckets}
 use Rattle.report_check.specs.declared.machine.Machine.{Machine}
 use Rattle.report_check.specs.declared.machine.Machine.TheVariants.{Cache as OfCache}
 use Rattle.report_check.specs.Judged.{step_at, TakesStep}
-use Rattle.report_check.specs.Machines.{options_in, AreBuckets, IsAt, IsAfter, Takes, TakesInBuckets}
+use Rattle.report_check.specs.Machines.{options_in, AreBuckets, IsAt, IsAfter, TakesWrite, TakesInBuckets}
 
 by_reply : (asked : Option Op) (op : Op) → IsReplyTo asked op → asked ≡ Some op
 by_reply asked op is = grind (arith, is)
@@ -41,7 +41,7 @@ module _ (options : Options) (history : History) (line : TraceLine) (op : Op) (o
 
   module _ (old new : Machine) (was : IsAfter options history old) where
     -- the machine may take it, and then has a stamp
-    pub stamped : (may : Bool) → MatchBool may (Takes (state_of options history) write outcome old new) (¬ (Allows (options_in old) (state_of options history) write outcome)) → may ≡ true
+    pub stamped : (may : Bool) → MatchBool may (TakesWrite (state_of options history) write outcome old new) (¬ (Allows (options_in old) (state_of options history) write outcome)) → may ≡ true
         → (found : ℕ) → ((state : State) → IsAt state new → found ≡ stamp_in state)
         → MatchBool (eqb found stamp) (TakesStep options history line (Wrote op outcome stamp) new) (¬ (IsRunFrom options history (step_at line (Wrote op outcome stamp))))
     stamped may takes is found stamps = grind (arith, common_steps)
@@ -49,11 +49,11 @@ module _ (options : Options) (history : History) (line : TraceLine) (op : Op) (o
 -- the machine of cache mode takes what its buckets do
 pub machine_takes : (m new : CacheBuckets) (may : Bool) (write : Write) (outcome : Outcome)
     → ((cache : Cache) → AreBuckets cache m → MatchBool may (TakesInBuckets cache write outcome m new) (¬ (outcome ≡ reply m.options cache write)))
-    → (self : Machine) → self ≡ OfCache m → (state : State) → IsAt state self → MatchBool may (Takes state write outcome self (OfCache new)) (¬ (Allows (options_in self) state write outcome))
+    → (self : Machine) → self ≡ OfCache m → (state : State) → IsAt state self → MatchBool may (TakesWrite state write outcome self (OfCache new)) (¬ (Allows (options_in self) state write outcome))
 machine_takes m new true write outcome says self is state at =
     let here : IsAt state (OfCache m) = subst (IsAt state) is at in
     let taken = says here.0 here.2 in
-    subst (λ (x : Machine). Takes state write outcome x (OfCache new)) (sym is) (record {
+    subst (λ (x : Machine). TakesWrite state write outcome x (OfCache new)) (sym is) (record {
       now = cache_state taken.now;
       step = subst (λ s. IsStep m.options s write outcome (cache_state taken.now)) (sym here.1) taken.step;
       at = (taken.now, refl, taken.buckets);

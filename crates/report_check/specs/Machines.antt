@@ -22,8 +22,8 @@ abbrev pub in_bucket : Options → ℕ → List Record → List Record
 in_bucket options bucket records = filter (is_in_bucket options bucket) records
 
 -- what a partition's state has of a bucket, with the stamp and the count of all
-abbrev pub part_of : Options → ℕ → Cache → Cache
-part_of options bucket cache = record cache { records = in_bucket options bucket cache.records }
+abbrev pub bucket_part : Options → ℕ → Cache → Cache
+bucket_part options bucket cache = record cache { records = in_bucket options bucket cache.records }
 
 -- A bucket has the live records of the partition whose bucket it is, oldest first, behind some that the log has passed.
 pub record HasPart (options : Options) (bucket : ℕ) (cache held : Cache) : Type 0 where
@@ -31,13 +31,13 @@ pub record HasPart (options : Options) (bucket : ℕ) (cache held : Cache) : Typ
   pub live : filter (λ r. is_live options.words cache.stamp r.offset) held.records ≡ in_bucket options bucket cache.records
 
 -- a state that a history of writes leaves
-abbrev pub IsReached : Options → Cache → Type 0
-IsReached options cache = (history : History) × AllByRecursion IsWrite history × (state_of options history ≡ cache_state cache)
+abbrev pub IsReachable : Options → Cache → Type 0
+IsReachable options cache = (history : History) × AllByRecursion IsWrite history × (state_of options history ≡ cache_state cache)
 
 -- the buckets of a partition in this state
 pub record AreBuckets (cache : Cache) (machine : CacheBuckets) : Type 0 where
   pub valid : IsValid machine.options
-  pub reached : IsReached machine.options cache
+  pub reached : IsReachable machine.options cache
   pub stamp : machine.stamp ≡ cache.stamp
   pub accepted : machine.accepted ≡ cache.accepted
   pub many : length machine.buckets.items ≡ machine.options.buckets
@@ -62,7 +62,7 @@ IsAt state (OfCache m) = (cache : Cache) × (state ≡ cache_state cache) × Are
 IsAt state (OfStore m) = m.state ≡ state
 
 -- the write has the outcome, and the machine is in the state that it leaves
-pub record Takes (state : State) (write : Write) (outcome : Outcome) (old new : Machine) : Type 0 where
+pub record TakesWrite (state : State) (write : Write) (outcome : Outcome) (old new : Machine) : Type 0 where
   pub now : State
   pub step : IsStep (options_in old) state write outcome now
   pub at : IsAt now new

@@ -8,7 +8,7 @@ ghost use Rattle.partition_model.specs.Records.{AreRising};
 ghost use Rattle.partition_model.specs.CacheStep.{after, reply, without_passed};
 ghost use Rattle.partition_model.specs.Options.{IsValid};
 ghost use Rattle.partition_model.specs.Write.{HasValueOf, is_accepted, write_of};
-ghost use Rattle.report_check.specs.Machines.{part_of, AreBuckets, IsReached, TakesInBuckets};
+ghost use Rattle.report_check.specs.Machines.{bucket_part, AreBuckets, IsReachable, TakesInBuckets};
 
 use mica_io::NoMemory;
 use mica_model::{Answer, CacheRecord, CacheState, ItemBuf, Mode, Op, Options, Outcome};
@@ -151,8 +151,8 @@ fn write(
     requires valid { IsValid options.now }
     requires key { KeyFits key.now }
     requires value { HasValueOf op value.now }
-    requires part { (cache : Cache) × IsReached options.now cache
-        × (bucket.old ≡ part_of options.now (bucket_of key.now options.now.buckets) cache) }
+    requires part { (cache : Cache) × IsReachable options.now cache
+        × (bucket.old ≡ bucket_part options.now (bucket_of key.now options.now.buckets) cache) }
     requires unworn { bucket.old.accepted < options.now.wear }
     ensures { OnOk result (bucket.new ≡ after options.now bucket.old (write_of op key.now value.now)) }
 {

@@ -5,7 +5,7 @@ ghost use Rattle.partition_model.specs.Answer.{IsAnswer};
 ghost use Rattle.partition_model.specs.History.{Allows, IsStep, State, stamp_in, value_in};
 ghost use Rattle.partition_model.specs.Options.{IsValid};
 ghost use Rattle.partition_model.specs.Write.{HasValueOf, write_of};
-ghost use Rattle.report_check.specs.Machines.{options_in, AnswersIn, IsAfter, IsAt, Takes};
+ghost use Rattle.report_check.specs.Machines.{options_in, AnswersIn, IsAfter, IsAt, TakesWrite};
 
 use crate::cache_buckets::CacheBuckets;
 use mica_io::NoMemory;
@@ -53,7 +53,7 @@ impl Machine {
         requires value { HasValueOf op value.now }
         requires at { (state : State) × IsAt state self.old }
         ensures { IfOk result (λ may. (state : State) → IsAt state self.old
-            → MatchBool may (Takes state (write_of op key.now value.now) outcome self.old self.new)
+            → MatchBool may (TakesWrite state (write_of op key.now value.now) outcome self.old self.new)
             (¬ (Allows (options_in self.old) state (write_of op key.now value.now) outcome))) }
     {
         match self {

@@ -3,5 +3,5 @@ use Rattle.std.specs.Prelude.{◌≡◌, ℕ, true, Option, IfSome}
 use Rattle.mica_io.specs.Ports.{Ports, takes_datagram}
 
 -- where a net tells of its ports, this one takes datagrams
-abbrev pub Takes : ℕ → Option Ports → Type 0
-Takes port ports = IfSome ports (λ all. takes_datagram (all port) ≡ true)
+abbrev pub TakesDatagrams : ℕ → Option Ports → Type 0
+TakesDatagrams port ports = IfSome ports (λ all. takes_datagram (all port) ≡ true)

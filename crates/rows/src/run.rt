@@ -1,7 +1,7 @@
 //! A row's runs of the top call, over memory.
 
 ghost use Rattle.std.specs.Prelude.{◌≡◌, ◌<◌, IfOk, IsTrue};
-ghost use Rattle.rows.specs.Taking.{Takes};
+ghost use Rattle.rows.specs.Taking.{TakesDatagrams};
 
 use crate::outside::{Outside, Peer, Place, Sent};
 use crate::row::Row;
@@ -27,8 +27,8 @@ struct End {
 /// Adds a datagram to a port that takes some.
 #[tactic(auto, using(crate::proofs::Ports::takes_more))]
 fn add_datagram(alloc: Global, net: &mut MemNet, port: u16, from: &[u8]) -> Result<(), NoMemory>
-    requires { Takes port (⟦<MemNet as Net>⟧.ports net.old) }
-    ensures takes { Takes port (⟦<MemNet as Net>⟧.ports net.new) }
+    requires { TakesDatagrams port (⟦<MemNet as Net>⟧.ports net.old) }
+    ensures takes { TakesDatagrams port (⟦<MemNet as Net>⟧.ports net.new) }
     ensures binds { ⟦<MemNet as Net>⟧.binds net.new ≡ ⟦<MemNet as Net>⟧.binds net.old }
 {
     net.add_datagram(alloc, port, from)
@@ -37,7 +37,7 @@ fn add_datagram(alloc: Global, net: &mut MemNet, port: u16, from: &[u8]) -> Resu
 /// Adds a port, where its number is new, and tells whether it takes datagrams.
 #[tactic(auto, using(crate::proofs::Ports::not_added, crate::proofs::Ports::takes_first))]
 fn add_port(alloc: Global, net: &mut MemNet, port: u16, peer: &Peer) -> Result<bool, NoMemory>
-    ensures takes { IfOk result (λ added. IsTrue added → Takes port (⟦<MemNet as Net>⟧.ports net.new)) }
+    ensures takes { IfOk result (λ added. IsTrue added → TakesDatagrams port (⟦<MemNet as Net>⟧.ports net.new)) }
     ensures binds { ⟦<MemNet as Net>⟧.binds net.new ≡ ⟦<MemNet as Net>⟧.binds net.old }
 {
     if net.has_port(port) {

@@ -13,7 +13,7 @@ use Rattle.mica_words.specs.declared.item.TheConstants.{MAX_VALUE_LEN}
 use Rattle.store_image.specs.declared.fault.ImageFault.{ImageFault}
 use Rattle.store_image.specs.declared.image.TheConstants.{MAGIC, VERSION}
 use Rattle.store_image.specs.ImageGrammar.{IsPair, SpellsImage, or_later, header_text, pair_text, image_text, key_len_at, value_len_at, pair_len_at, key_at, value_at, pair_at, after_pair, count_at, are_between, is_above, lengths_fault, texts_fault, pair_fault, pairs_fault, first_fault}
-use Rattle.store_image.specs.ImageTexts.{pairs_in, AreTexts}
+use Rattle.store_image.specs.ImageTexts.{pairs_in, ArePairTexts}
 use Rattle.store_image.proofs.PairLaws.{length-pairs_in}
 use Rattle.store_image.proofs.Rising.{RiseAfter, keys_rise}
 use Rattle.store_image.proofs.Texts.{both, between_all}
@@ -178,7 +178,7 @@ few_counted bytes are =
 
 module _ (bytes : List ℕ) (are : AreBytes bytes) (none : first_fault bytes ≡ None) where
   -- what is behind the header of bytes without a fault
-  pub faultless_texts : AreTexts (count_at bytes) (drop 9 bytes)
+  pub faultless_texts : ArePairTexts (count_at bytes) (drop 9 bytes)
   unfolding first_fault
   faultless_texts =
       let is = texts_are [] (count_at bytes) (drop 9 bytes) (bytes_left 9 bytes are) (neither _ _ none).1 in

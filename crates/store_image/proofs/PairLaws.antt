@@ -4,7 +4,7 @@ use Rattle.std.specs.List.{flat_map, AllByRecursion}
 use Rattle.std.proofs.lemmas.List.{take_at, drop_at}
 use Rattle.std.proofs.lemmas.Nat.{from_le_bytes-to_le_bytes_4}
 use Rattle.store_image.specs.ImageGrammar.{Pair, IsPair, IsImage, pair_text, image_text, SpellsImage, key_len_at, value_len_at, pair_len_at, key_at, value_at, pair_at, after_pair, count_at}
-use Rattle.store_image.specs.ImageTexts.{pairs_in, AreTexts}
+use Rattle.store_image.specs.ImageTexts.{pairs_in, ArePairTexts}
 
 pub key_len_is : (x : Pair) (rest : List ℕ) → key_len_at (pair_text x ++ rest) ≡ length x.key
 unfolding pair_text
@@ -70,13 +70,13 @@ pub one_text : (s t : List ℕ) (pairs : List Pair) → SpellsImage s pairs → 
 one_text s t pairs p q = p.text ∙ sym q.text
 
 -- the texts of an image's pairs are kept as such
-pub kept_texts : (count : ℕ) (texts : List ℕ) (pairs : List Pair) → IsImage pairs → count ≡ length pairs → texts ≡ flat_map pair_text pairs → AreTexts count texts × (pairs_in count texts ≡ pairs)
+pub kept_texts : (count : ℕ) (texts : List ℕ) (pairs : List Pair) → IsImage pairs → count ≡ length pairs → texts ≡ flat_map pair_text pairs → ArePairTexts count texts × (pairs_in count texts ≡ pairs)
 kept_texts count texts pairs image many is =
     let same : pairs_in count texts ≡ pairs = ap (λ (n : ℕ). pairs_in n texts) many ∙ ap (pairs_in (length pairs)) is ∙ pairs_back pairs image.each in
     (record { image = subst IsImage (sym same) image; texts = is ∙ ap (flat_map pair_text) (sym same) }, same)
 
 -- and so are they once no pair is left
 pub kept_all : (count : ℕ) (texts : List ℕ) (left pairs : List Pair) → IsImage pairs → left ≡ [] → count + length left ≡ length pairs → texts ++ flat_map pair_text left ≡ flat_map pair_text pairs
-    → AreTexts count texts × (pairs_in count texts ≡ pairs)
+    → ArePairTexts count texts × (pairs_in count texts ≡ pairs)
 kept_all count texts left pairs image none many is =
     kept_texts count texts pairs image (omega (arith, ap length none)) (sym (append-nil texts) ∙ ap (λ (ps : List Pair). texts ++ flat_map pair_text ps) (sym none) ∙ is)

@@ -9,6 +9,6 @@ pairs_in zero bytes = []
 pairs_in (suc count) bytes = pair_at bytes ∷ pairs_in count (after_pair bytes)
 
 -- the bytes are the texts of so many pairs, which make an image
-pub record AreTexts (count : ℕ) (bytes : List ℕ) : Type 0 where
+pub record ArePairTexts (count : ℕ) (bytes : List ℕ) : Type 0 where
   pub image : IsImage (pairs_in count bytes)
   pub texts : bytes ≡ flat_map pair_text (pairs_in count bytes)

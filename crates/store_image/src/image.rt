@@ -19,22 +19,22 @@ pub struct Image {
 impl Model for Image {
     ghost use Rattle.std.specs.Prelude.{List};
     ghost use Rattle.store_image.specs.ImageGrammar.{Pair};
-    ghost use Rattle.store_image.specs.ImageTexts.{pairs_in, AreTexts};
+    ghost use Rattle.store_image.specs.ImageTexts.{pairs_in, ArePairTexts};
 
     ghost Value = { List Pair };
 
     ghost view = { λ i. pairs_in i.count i.texts.items };
 
-    ghost invariant = { λ i. AreTexts i.count i.texts.items };
+    ghost invariant = { λ i. ArePairTexts i.count i.texts.items };
 }
 
 impl Image {
     ghost use Rattle.store_image.specs.ImageGrammar.{IsImage, pair_text};
-    ghost use Rattle.store_image.specs.ImageTexts.{pairs_in, AreTexts};
+    ghost use Rattle.store_image.specs.ImageTexts.{pairs_in, ArePairTexts};
 
     // The image of so many pairs with these texts, which it keeps.
     pub(crate) fn of(count: u32, texts: Vec<u8>) -> Self
-        requires { AreTexts count texts.items }
+        requires { ArePairTexts count texts.items }
         ensures { result ≡ pairs_in count texts.items }
     {
         Image { count, texts }

@@ -7,7 +7,7 @@ use Rattle.store_partition.proofs.Words.{IsUsed, IsWrite, Keeps, Kept, List, Mar
 use Rattle.store_partition.proofs.Words.{WhenMarked, Write, [], after, after_event, all_more, all_on, ap, at, bit_same, bucket_in, chain_inside}
 use Rattle.store_partition.proofs.Words.{chained, ended_step, entries_of, entries_stay, entry_offset, header_room, index_stays, is_accepted, item_at}
 use Rattle.store_partition.proofs.Words.{item_in, item_no_epoch, kept_marked, length, length-set, length_push, marked, marked_entry, marked_in}
-use Rattle.store_partition.proofs.Words.{marked_in_bucket, marked_item, marked_link, may_begin, may_mark, entry_there, is_within, view, number_of}
+use Rattle.store_partition.proofs.Words.{marked_in_bucket, marked_item, marked_link, may_begin, may_mark, entry_there, is_within, view, place_in_chain}
 use Rattle.store_partition.proofs.Words.{options_in, other_word, refl, room_in, spot_entry, stamp_in, stamp_is_length, stamp_of, state_in, state_snoc}
 use Rattle.store_partition.proofs.Words.{store_state, subst, subst₂, sym, true, written, written_state, ℕ, ◌++◌, ◌+◌, ◌<◌, ◌↔◌, ◌∙◌, ◌∷◌, ◌≡◌, Cell}
 use Rattle.store_partition.proofs.Words.{Cells, ChangesChain, Contains, Contains-append_cases, Contains-append_left, Contains-append_right}
@@ -122,10 +122,10 @@ module _ (h : Held) (a : AcceptedWrite h.o) where
 
     -- where the entry of a used spot stands
     module _ (o3 : OwnerState) (z : Base b o3) (spot : Spot) (used : IsUsed h.o b spot) where
-      pub number_in : number_of o3 b spot < length (entries_of o3 b)
+      pub number_in : place_in_chain o3 b spot < length (entries_of o3 b)
       number_in = is_within o3 h.index b (view o3 (chained o3 z.kept) h.index z.index b (z.mains b main)) spot (z.spots spot used).0
 
-      pub number_is : at (entries_of o3 b) (number_of o3 b spot) ≡ spot_entry h.o spot
+      pub number_is : at (entries_of o3 b) (place_in_chain o3 b spot) ≡ spot_entry h.o spot
       number_is = entry_there o3 h.index b (view o3 (chained o3 z.kept) h.index z.index b (z.mains b main)) spot (z.spots spot used).0 ∙
           (z.spots spot used).1
 

@@ -8,7 +8,7 @@ use Rattle.store_partition.proofs.Words.{IsPermutation-refl, IsPermutation-sym, 
 use Rattle.store_partition.proofs.Words.{OwnerState, RoomsApart, Some, Spells, Spot, Store, Write, [], accepted_in, accepted_is_length, ap, arith, at}
 use Rattle.store_partition.proofs.Words.{bucket_at, bucket_in, cells_of, chain_inside, chained, entries_of, entry_offset, entry_tag, get}
 use Rattle.store_partition.proofs.Words.{get_or_default, has_its_key, item_at, keys_in, len, length, listed, main_of, entry_there}
-use Rattle.store_partition.proofs.Words.{is_within, view, number_of, only_key, options_in, refl, room_in, room_is, rooms, same_Some, spelt_key}
+use Rattle.store_partition.proofs.Words.{is_within, view, place_in_chain, only_key, options_in, refl, room_in, room_is, rooms, same_Some, spelt_key}
 use Rattle.store_partition.proofs.Words.{spot_at, spot_entry, stands_idle, state_in, store_state, stored_in, subst, sym, used_block, used_blocks}
 use Rattle.store_partition.proofs.Words.{words_of, ℕ, ◌%◌, ◌++◌, ◌+◌, ◌/◌, ◌<◌, ◌^◌, ◌∙◌, ◌∷◌, ◌≡◌, ◌≢◌, ◌≤◌, HasItem, IsItem, IsValueAt, answer_of}
 use Rattle.store_partition.proofs.Words.{option_map, value_in, FullBlock, FullSpare, IsOwnerStep, IsSomeAnd, IsTaken, LacksPlace, MayLack, GivesValue, Op, Replaces}
@@ -172,7 +172,7 @@ module _ (h : Held) (key : List ℕ) (b : ℕ) (here : b ≡ bucket_in h.o key) 
 
     there : Contains xs e
     there = subst (Contains xs) (entry_there h.o h.index b (view h.o (chained h.o h.kept) h.index h.parts.known b main) spot found.used)
-        (Contains-get_or xs (number_of h.o b spot) 0
+        (Contains-get_or xs (place_in_chain h.o b spot) 0
         (is_within h.o h.index b (view h.o (chained h.o h.kept) h.index h.parts.known b main) spot found.used))
 
     own : (cell : Cell) × Spells h.o b e key cell

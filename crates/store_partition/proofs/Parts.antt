@@ -3,7 +3,7 @@ use Rattle.std.proofs.lemmas.Grind.{common_steps}
 use Rattle.partition_model.specs.Store as store
 use Rattle.chained_index.specs.ChainEntries.{buckets_from, buckets_of, entries_in, entries_of}
 use Rattle.store_partition.proofs.Words.{AreParts, Block, Bool, CacheMode, Cell, Contains, Decides, Decides-eqb, Fills, Has, Index}
-use Rattle.store_partition.proofs.Words.{IsIndexOf, IsMain, IsMerged, IsValidShape, Kept, List, Met, Mode, OwnerState, Shape, StoreMode, [], ap}
+use Rattle.store_partition.proofs.Words.{IsIndexOf, IsMain, IsCoalesced, IsValidShape, Kept, List, Met, Mode, OwnerState, Shape, StoreMode, [], ap}
 use Rattle.store_partition.proofs.Words.{arith, as_made, cells_of, chained, cond, dense_on, dite, empty, entry_offset, flat_map, free_block}
 use Rattle.store_partition.proofs.Words.{get-empty, if◌then◌else◌, is_member-Decides, kept_as_made, keys_in, len, len-empty, length, link_in, listed}
 use Rattle.store_partition.proofs.Words.{nat_cmp, no_keys, no_rooms, not, props, refl, room_in, rooms, slice_cmp, slice_index, start, subst, suc, sym}
@@ -27,7 +27,7 @@ fills_once : (from end : ℕ) (blocks : List Block) → IsProp (Fills from block
 fills_once from end [] = hlevel props
 fills_once from end (block ∷ blocks) = hlevel (props, fills_once (from + block.size) end blocks)
 
-merged_once : (blocks : List Block) → IsProp (IsMerged blocks)
+merged_once : (blocks : List Block) → IsProp (IsCoalesced blocks)
 merged_once [] = hlevel props
 merged_once (block ∷ blocks) = hlevel (props, merged_once blocks)
 

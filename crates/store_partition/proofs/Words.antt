@@ -75,7 +75,7 @@ pub use Rattle.epoch_core.specs.declared.state.Phase.TheVariants.{Marked}
 pub use Rattle.block_heap.proofs.Counting.{words_parted}
 pub use Rattle.block_heap.proofs.Order.{back_fills, words_of-append, words_of-fills}
 pub use Rattle.block_heap.proofs.UsedBlocks.{AddsBlock, taken_apart, taken_within, used_apart, used_blocks-given, used_blocks-taken, used_within}
-pub use Rattle.block_heap.specs.Blocks.{Fills, HasUsed, IsBlockList, IsMerged, MayLack, free_block, used_block, used_blocks, words_of}
+pub use Rattle.block_heap.specs.Blocks.{Fills, HasUsed, IsBlockList, IsCoalesced, MayLack, free_block, used_block, used_blocks, words_of}
 pub use Rattle.block_heap.specs.Changes.{IsGiven, IsTaken}
 pub use Rattle.block_heap.specs.declared.block.Block.{Block}
 pub use Rattle.circular_log.specs.LogItem.{HasItem, IsItem, IsValueAt}
@@ -84,7 +84,7 @@ pub use Rattle.store_partition.proofs.Listed.{ListStands, at, listed, place as p
 pub use Rattle.chained_index.proofs.Filled.{entry_there, is_within, view}
 pub use Rattle.store_partition.proofs.FreeSpares.{free_spares}
 pub use Rattle.chained_index.proofs.Stays.{entries_ends, entries_stay, index_ends, index_stays}
-pub use Rattle.chained_index.specs.ChainEntries.{entries_of, number_of}
+pub use Rattle.chained_index.specs.ChainEntries.{entries_of, place_in_chain}
 pub use Rattle.chained_index.specs.declared.index.Spot.{Spot}
 pub use Rattle.store_partition.specs.Parts.{AreParts, cells_of, marked_in_bucket}
 pub use Rattle.store_partition.specs.Sought.{IsSought}

@@ -11,7 +11,7 @@ use Rattle.store_partition.proofs.Words.{SpellsItem, Spot, Stored, Touch, Touche
 use Rattle.store_partition.proofs.Words.{cond-false, entries_of, entry_of, entry_offset, entry_offset-entry_of, entry_tag}
 use Rattle.store_partition.proofs.Words.{entry_tag-entry_of, get, header_room, inl, inr, is_accepted, item_at, item_events, item_in, item_room}
 use Rattle.store_partition.proofs.Words.{item_size, item_words, kept_after, kept_marked, leb, length, length-item_words, list_remove, lt-leb}
-use Rattle.store_partition.proofs.Words.{marked, marked_in, marked_in_bucket, marked_item, number_of, options_in, place_at, plays, put_entry}
+use Rattle.store_partition.proofs.Words.{marked, marked_in, marked_in_bucket, marked_item, place_in_chain, options_in, place_at, plays, put_entry}
 use Rattle.store_partition.proofs.Words.{put_item, put_link, put_others, put_same, put_words, puts_from, refl, room_in, room_of, room_same, size_at_most}
 use Rattle.store_partition.proofs.Words.{size_of, slice_set, spells_item, spells_on, spot_entry, store_state, subst, subst₂, swap_remove, sym, tag_of}
 use Rattle.store_partition.proofs.Words.{taken_apart, taken_within, true, used_block, used_blocks, used_blocks-taken, words_of, write_of, written, ℕ}
@@ -154,7 +154,7 @@ pub record PutGrown (o : OwnerState) (index : Index) (blocks : List Block) (w : 
   pub item : (o2 : OwnerState) → o2 ≡ marked_in_bucket o b w t → CanPlay (item_events place (size_of w) w.key w.value) o2
   pub replaces : (o3 : OwnerState) → HasPut o w b t place (size_of w) o3 → IsIndexOf index o3 × WhenMarked o3.phase (λ c write history. IsUsed o3 c spot)
   pub closes : (o3 o4 : OwnerState) (tag : ℕ) (index' : Index) → HasPut o w b t place (size_of w) o3 → tag ≡ tag_of w.key → Kept o4 → IsIndexOf index' o4
-      → WhenMarked o3.phase (λ c write history. ChangesChain o3 o4 c (slice_set (entries_of o3 c) (number_of o3 c spot) (entry_of tag place)))
+      → WhenMarked o3.phase (λ c write history. ChangesChain o3 o4 c (slice_set (entries_of o3 c) (place_in_chain o3 c spot) (entry_of tag place)))
       → Closes o w Stored b t index' (Gave blocks old) o4
   pub small : old < 2 ^ 32
   pub gives : HasUsed blocks old
@@ -174,7 +174,7 @@ pub record DelKnown (o : OwnerState) (index : Index) (blocks : List Block) (w : 
   pub removes : (o2 : OwnerState) → o2 ≡ marked_in_bucket o b w t
       → record { index : IsIndexOf index o2; marked : marked_in o2.phase b ≡ 1; bucket : IsMain o2.shape b; spot : IsUsed o2 b spot }
   pub closes : (o2 o4 : OwnerState) (index' : Index) → o2 ≡ marked_in_bucket o b w t → Kept o4 → IsIndexOf index' o4
-      → ChangesChain o2 o4 b (swap_remove (entries_of o2 b) (number_of o2 b spot) 0)
+      → ChangesChain o2 o4 b (swap_remove (entries_of o2 b) (place_in_chain o2 b spot) 0)
       → Closes o w Deleted b t index' (Gave blocks old) o4
   pub small : old < 2 ^ 32
   pub gives : HasUsed blocks old
@@ -294,13 +294,13 @@ module _ (h : Held) (op : Op) (gives : GivesValue op) (key value : List ℕ) (is
         closes = λ o3 o4 tag index events tag_is kept known change.
             let z = put_base h w place size larger b here o3 events in
             let xs = entries_of o3 b in
-            let i = number_of o3 b spot in
+            let i = place_in_chain o3 b spot in
             let e = spot_entry h.o spot in
             let entry = entry_of tag place in
             let inside = number_in h w b here o3 z spot k.found.used in
             let moved = removed xs i e inside (number_is h w b here o3 z spot k.found.used) in
             put_closes h w place size larger b here o3 events o4 (slice_set xs i entry)
-            ((when_marked h w b here o3 z (λ c. ChangesChain o3 o4 c (slice_set (entries_of o3 c) (number_of o3 c spot) entry))).0 change)
+            ((when_marked h w b here o3 z (λ c. ChangesChain o3 o4 c (slice_set (entries_of o3 c) (place_in_chain o3 c spot) entry))).0 change)
             kept index known entry (entry_offset-entry_of tag place low) (entry_tag-entry_of tag place low ∙ tag_is) (e ∷ []) (list_remove xs i)
             (k.split (list_remove xs i) (subst (λ ys. IsPermutation ys (e ∷ list_remove xs i)) (z.entries b (main h w b here)) moved)) (set_moved xs i entry inside)
             blocks (used_block place size ∷ []) (used_block old k.cell.room ∷ []) (Gave blocks old)
@@ -455,7 +455,7 @@ module _ (h : Held) (key : List ℕ) (fits : KeyFits key) (bytes : AreBytes key)
         closes = λ o2 o4 index events kept known change.
             let z = marked_base h a b here o2 events in
             let xs = entries_of o2 b in
-            let i = number_of o2 b spot in
+            let i = place_in_chain o2 b spot in
             let e = spot_entry h.o spot in
             let rest = swap_remove xs i 0 in
             let moved = swap_moved xs i e (number_in h a b here o2 z spot k.found.used) (number_is h a b here o2 z spot k.found.used) in

@@ -4,7 +4,7 @@ use Rattle.mica_trace.specs.declared.line.TraceLine.{TraceLine}
 use Rattle.mica_trace.specs.TraceGrammar.{IsTraceLine}
 use Rattle.mica_trace.specs.LawfulReport.{IsLineFor}
 use Rattle.mica_client.specs.Batches.{Group, groups_of}
-use Rattle.mica_client.specs.Answers.{Answers, KeepsAll}
+use Rattle.mica_client.specs.Answers.{KnownLines, KeepsAll}
 use Rattle.mica_client.proofs.Asking.{AreBatches, HaveTickets, Answered}
 use Rattle.mica_client.proofs.Fitting.{few_groups}
 use Rattle.mica_client.proofs.Whole.{are_batches, have_tickets, all_known, report_lines}
@@ -18,7 +18,7 @@ ask_all-requires-clause-batches g c =
 pub ask_all-requires-clause-tickets : goal.ask_all-requires-clause-tickets
 ask_all-requires-clause-tickets g c =
     let lines = c.lines-lines.result.now in
-    let long : length lines ≡ length c.in-Ok-unanswered.answers = sym (ap (λ (a : Answers). length a) c.in-Ok-unanswered.ensures ∙ length-map lines _) in
+    let long : length lines ≡ length c.in-Ok-unanswered.answers = sym (ap (λ (a : KnownLines). length a) c.in-Ok-unanswered.ensures ∙ length-map lines _) in
     subst (λ (n : ℕ). HaveTickets n c.in-Ok.groups.items) long (subst (HaveTickets (length lines)) (sym c.in-Ok.ensures) (have_tickets c.args.options.now lines))
 
 pub ask_all-requires-clause-few : goal.ask_all-requires-clause-few
@@ -32,7 +32,7 @@ into_report-requires-clause-known g c =
     let lines = c.lines-lines.result.now in
     let new = c.ask_all.new.answers in
     let e = c.in-Ok-ask_all.ensures in
-    let keeps = subst (λ (old : Answers). KeepsAll (groups_of c.args.options.now lines) old new) c.in-Ok-unanswered.ensures
+    let keeps = subst (λ (old : KnownLines). KeepsAll (groups_of c.args.options.now lines) old new) c.in-Ok-unanswered.ensures
     (subst (λ (groups : List Group). KeepsAll groups c.in-Ok-unanswered.answers new) c.in-Ok.ensures e.keeps) in
     all_known c.args.options.now lines new c.requires (subst (AllByRecursion (Answered new)) c.in-Ok.ensures e.answered) keeps
 
@@ -41,6 +41,6 @@ returns-in-Ok-ask_all-clause-lines g c =
     let lines = c.lines-lines.result.now in
     let new = c.ask_all.new.answers in
     let e = c.in-Ok-ask_all.ensures in
-    let keeps = subst (λ (old : Answers). KeepsAll (groups_of c.args.options.now lines) old new) c.in-Ok-unanswered.ensures
+    let keeps = subst (λ (old : KnownLines). KeepsAll (groups_of c.args.options.now lines) old new) c.in-Ok-unanswered.ensures
     (subst (λ (groups : List Group). KeepsAll groups c.in-Ok-unanswered.answers new) c.in-Ok.ensures e.keeps) in
     subst (λ (l : List TraceLine). AllZip IsLineFor l c.into_report.result) c.lines-lines.ensures.same (report_lines c.args.options.now lines new c.into_report.result keeps c.into_report.ensures)

@@ -5,8 +5,8 @@ use Rattle.std.proofs.lemmas.List.{length_push}
 use Rattle.epoch_core.specs.declared.state.Phase.TheVariants.{Idle}
 use Rattle.mica_replay.specs.declared.worker.OwnerWork.{OwnerWork}
 use Rattle.epoch_core.specs.declared.state.OwnerState.{OwnerState}
-use Rattle.partition_table.specs.declared.tables.Entry.{Entry}
-use Rattle.partition_table.specs.Tabled.{entry_in}
+use Rattle.partition_table.specs.declared.tables.KeptSeat.{KeptSeat}
+use Rattle.partition_table.specs.Tabled.{kept_seat_in}
 use Rattle.mica_replay.specs.Lending.{OwnerPart, owner_part}
 use Rattle.mica_replay.specs.RoundRun.{kept_of}
 use Rattle.mica_replay.proofs.run.keep_all.Goals as goal
@@ -35,7 +35,7 @@ loop-owner-preserved g c =
     let rest = into_iter_items c.next.new.self in
     let owner = c.in-Some.owner in
     let head : into_iter_items c.loop-owner.left ≡ owner ∷ rest = c.next.ensures.items ∙ ap (λ o. option_to_list o ++ rest) c.in-Some.is in
-    let kept : c.keep.new.self ≡ c.loop-owner.tables ++ kept_of (f owner) ∷ [] = c.keep.ensures ∙ ap (λ (o : OwnerState). c.loop-owner.tables ++ entry_in o ∷ []) (c.into_seat.ensures ∙ c.requires.same owner.part) in
+    let kept : c.keep.new.self ≡ c.loop-owner.tables ++ kept_of (f owner) ∷ [] = c.keep.ensures ∙ ap (λ (o : OwnerState). c.loop-owner.tables ++ kept_seat_in o ∷ []) (c.into_seat.ensures ∙ c.requires.same owner.part) in
     let one = ap length kept in
     let two = length_push c.loop-owner.tables (kept_of (f owner)) in
     let three = ap length head in
@@ -43,6 +43,6 @@ loop-owner-preserved g c =
     record {
       room = omega arith;
       idle = λ p w is. c.loop-owner.invariant.idle (suc p) w (ap (λ l. slice_get (map f l) (suc p)) head ∙ is);
-      kept = ap (λ (l : List Entry). l ++ map kept_of (map f rest)) kept ∙ append_assoc c.loop-owner.tables (kept_of (f owner) ∷ []) (map kept_of (map f rest))
+      kept = ap (λ (l : List KeptSeat). l ++ map kept_of (map f rest)) kept ∙ append_assoc c.loop-owner.tables (kept_of (f owner) ∷ []) (map kept_of (map f rest))
           ∙ ap (λ l. c.loop-owner.tables ++ map kept_of (map f l)) (sym head) ∙ c.loop-owner.invariant.kept;
     }

@@ -5,7 +5,7 @@ use Rattle.std.proofs.lemmas.Result.{err_from_is_err_and}
 use Rattle.partition_model.specs.declared.options.Options.{Options}
 use Rattle.partition_model.specs.History.{History, IsHistory}
 use Rattle.mica_fronts.specs.declared.totals.Totals.{Totals}
-use Rattle.mica_serve.specs.declared.ports.Ports.{Ports}
+use Rattle.mica_fronts.specs.declared.ports.Ports.{Ports}
 use Rattle.mica_serve.specs.declared.running.Server.{Server}
 use Rattle.mica_serve.specs.declared.stop.Stop.{Stop}
 use Rattle.mica_serve.specs.Ends.{EndFacts, AreNewEnds, end_facts}

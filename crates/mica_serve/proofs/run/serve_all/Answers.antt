@@ -2,8 +2,8 @@ use Rattle.std.proofs.Common.{◌≡◌, ◌++◌, ℕ, List, length, map, slice
 use Rattle.std.specs.Prelude.{Result, Ok, Err}
 use Rattle.std.proofs.lemmas.List.{length-map}
 use Rattle.std.proofs.lemmas.Result.{err_from_is_err_and}
-use Rattle.partition_table.specs.declared.tables.Entry.{Entry}
-use Rattle.partition_table.specs.Tabled.{entry_in}
+use Rattle.partition_table.specs.declared.tables.KeptSeat.{KeptSeat}
+use Rattle.partition_table.specs.Tabled.{kept_seat_in}
 use Rattle.mica_fronts.specs.declared.totals.TheConstants.{MAX_BATCHES}
 use Rattle.mica_fronts.specs.declared.totals.Totals.{Totals}
 use Rattle.mica_fronts.specs.declared.totals.ServeFault.{ServeFault}
@@ -20,8 +20,8 @@ abbrev facts : (g : given.Over) → g.row.D.Denot → EndFacts
 facts g = end_facts g.D.Datagrams.port g.D.Datagrams.traffic g.D.Datagrams.faults g.D.Datagrams.has_ended g.D.Datagrams.script
 
 -- the seats that the owners may leave
-abbrev entry : (g : given.Over) → OwnerTask g.row.P.Denot → Entry
-entry g task = entry_in (g.P.Partition.owner task.part)
+abbrev entry : (g : given.Over) → OwnerTask g.row.P.Denot → KeptSeat
+entry g task = kept_seat_in (g.P.Partition.owner task.part)
 
 pub sum_up-requires-clause-few : goal.sum_up-requires-clause-few
 sum_up-requires-clause-few g c =
@@ -44,7 +44,7 @@ pub keep_all-requires-clause-room : goal.keep_all-requires-clause-room
 keep_all-requires-clause-room g c =
     omega (
       arith,
-      ap (λ (l : List Entry). length l) c.requires.tables,
+      ap (λ (l : List KeptSeat). length l) c.requires.tables,
       length-map c.run_all-owners.result.0.items (entry g),
       c.run_all-owners.ensures.ran.taken.shapes.many,
       c.requires.options.partitions.1,
@@ -62,4 +62,4 @@ pub returns : goal.returns
 returns g c =
     all_ran _ _ _ c.requires.options.partitions.0 _ c.keep_all.new.tables _ _ _ c.run_all-owners.ensures.ran (Ok c.in_ok-totals.totals)
     (subst (λ (l : List (Result Totals ServeFault)). SumsUp l (Ok c.in_ok-totals.totals)) c.as_slice.ensures.value c.in_ok-totals.ensures)
-    (c.keep_all.ensures ∙ ap (λ (l : List Entry). l ++ map (entry g) c.run_all-owners.result.0.items) c.requires.tables)
+    (c.keep_all.ensures ∙ ap (λ (l : List KeptSeat). l ++ map (entry g) c.run_all-owners.result.0.items) c.requires.tables)

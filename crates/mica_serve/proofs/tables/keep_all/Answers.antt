@@ -4,8 +4,8 @@ use Rattle.std.specs.Vec.Iter.{into_iter_items}
 use Rattle.std.proofs.lemmas.List.{length_push}
 use Rattle.epoch_core.specs.declared.state.Phase.TheVariants.{Idle}
 use Rattle.epoch_core.specs.declared.state.OwnerState.{OwnerState}
-use Rattle.partition_table.specs.declared.tables.Entry.{Entry}
-use Rattle.partition_table.specs.Tabled.{entry_in}
+use Rattle.partition_table.specs.declared.tables.KeptSeat.{KeptSeat}
+use Rattle.partition_table.specs.Tabled.{kept_seat_in}
 use Rattle.mica_serve.specs.declared.worker.OwnerTask.{OwnerTask}
 use Rattle.mica_serve.proofs.tables.keep_all.Goals as goal
 
@@ -27,11 +27,11 @@ keep-requires-clause-idle g c =
 
 pub loop-owner-preserved : goal.loop-owner-preserved
 loop-owner-preserved g c =
-    let f = λ (w : OwnerTask g.row.P.Denot). entry_in (g.P.Partition.owner w.part) in
+    let f = λ (w : OwnerTask g.row.P.Denot). kept_seat_in (g.P.Partition.owner w.part) in
     let rest = into_iter_items c.next.new.self in
     let owner = c.in-Some.owner in
     let head : into_iter_items c.loop-owner.left ≡ owner ∷ rest = c.next.ensures.items ∙ ap (λ o. option_to_list o ++ rest) c.in-Some.is in
-    let kept : c.keep.new.self ≡ c.loop-owner.tables ++ f owner ∷ [] = c.keep.ensures ∙ ap (λ (o : OwnerState). c.loop-owner.tables ++ entry_in o ∷ []) (c.into_seat.ensures ∙ c.requires.same owner.part) in
+    let kept : c.keep.new.self ≡ c.loop-owner.tables ++ f owner ∷ [] = c.keep.ensures ∙ ap (λ (o : OwnerState). c.loop-owner.tables ++ kept_seat_in o ∷ []) (c.into_seat.ensures ∙ c.requires.same owner.part) in
     let one = ap length kept in
     let two = length_push c.loop-owner.tables (f owner) in
     let three = ap length head in
@@ -39,6 +39,6 @@ loop-owner-preserved g c =
     record {
       room = omega arith;
       idle = λ p w is. c.loop-owner.invariant.idle (suc p) w (ap (λ l. slice_get l (suc p)) head ∙ is);
-      kept = ap (λ (l : List Entry). l ++ map f rest) kept ∙ append_assoc c.loop-owner.tables (f owner ∷ []) (map f rest)
+      kept = ap (λ (l : List KeptSeat). l ++ map f rest) kept ∙ append_assoc c.loop-owner.tables (f owner ∷ []) (map f rest)
           ∙ ap (λ l. c.loop-owner.tables ++ map f l) (sym head) ∙ c.loop-owner.invariant.kept;
     }

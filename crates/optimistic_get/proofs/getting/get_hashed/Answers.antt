@@ -4,7 +4,7 @@ use Rattle.mica_words.specs.Hash.{hash_bucket, bucket_of}
 use Rattle.mica_words.proofs.Hashes.{bucket_of_hash, bucket_of-below}
 use Rattle.epoch_core.specs.declared.shape.Shape.{Shape}
 use Rattle.epoch_core.specs.Shape.{IsMain}
-use Rattle.optimistic_get.specs.Gets.{is_again, Answers}
+use Rattle.optimistic_get.specs.Gets.{is_again, AnswersGet}
 use Rattle.optimistic_get.proofs.Repeating.{failing_none, fails_again, answers_after}
 use Rattle.optimistic_get.proofs.getting.get_hashed.Goals as goal
 
@@ -45,7 +45,7 @@ returns-then-not-is_again-clause-answers g c =
     let r = reader c.args.seat.now in
     let few : loop.failed < c.args.tries = omega (arith, loop.number, c.loop-try-test.true) in
     let answered : is_again c.try_get-got.result ≡ false = sym c.is_again.ensures ∙ c.if-not-is_again.true in
-    subst (λ (z : ℕ). Answers r z c.args.tries c.args.key.now c.try_get-got.result c.try_get-got.new.out (reader c.try_get-got.new.seat)) loop.bucket
+    subst (λ (z : ℕ). AnswersGet r z c.args.tries c.args.key.now c.try_get-got.result c.try_get-got.new.out (reader c.try_get-got.new.seat)) loop.bucket
     (answers_after r (reader c.loop-try.seat) (reader c.try_get-got.new.seat) c.bucket_of-bucket.result loop.failed c.args.tries c.args.key.now c.try_get-got.new.out c.try_get-got.result
     loop.failing few (λ again. absurd (cc (sym again ∙ answered))) c.try_get-got.ensures.tries)
 
@@ -55,6 +55,6 @@ returns-clause-answers g c =
     let loop = c.loop-try.invariant in
     let r = reader c.args.seat.now in
     let last : loop.failed + 1 ≡ c.args.tries = omega (arith, loop.number, c.loop-try-test.false, c.loop-try.auto._try-end c.requires.tries) in
-    subst (λ (z : ℕ). Answers r z c.args.tries c.args.key.now c.try_get.result c.try_get.new.out (reader c.try_get.new.seat)) loop.bucket
+    subst (λ (z : ℕ). AnswersGet r z c.args.tries c.args.key.now c.try_get.result c.try_get.new.out (reader c.try_get.new.seat)) loop.bucket
     (answers_after r (reader c.loop-try.seat) (reader c.try_get.new.seat) c.bucket_of-bucket.result loop.failed c.args.tries c.args.key.now c.try_get.new.out c.try_get.result
     loop.failing (omega arith) (λ _. last) c.try_get.ensures.tries)

@@ -1,4 +1,4 @@
-use Rattle.cache_partition.proofs.Words.{Add, Exists, FullBlock, Gains, IsOwnerStep, IsTaken, IsWrite, Kept, MayWrite, OwnerState, Stored, ap, arith, cond, false, had_record, is_accepted, item_size, leb-true, length}
+use Rattle.cache_partition.proofs.Words.{Add, Exists, FullBlock, Gains, IsOwnerStep, IsAcceptable, IsWrite, Kept, MayWrite, OwnerState, Stored, ap, arith, cond, false, had_record, is_accepted, item_size, leb-true, length}
 use Rattle.cache_partition.proofs.Words.{nat_le, options_in, refl, reply_of, subst, sym, true, worn_step, write_of, Bool, ◌∙◌, ◌≡◌}
 use Rattle.cache_partition.proofs.Held.{found_had, held, stands_at}
 use Rattle.cache_partition.proofs.Writes.{add_appends, add_reply, gained_step, left_step, may_write}
@@ -56,7 +56,7 @@ pub put_at_tail-self-requires-clause-taken : goal.put_at_tail-self-requires-clau
 put_at_tail-self-requires-clause-taken g c =
     let z = (goal.at.put_at_tail-self-requires-clause-taken g c).After-is_some in
     let fits = subst (λ (q : OwnerState). nat_le (item_size c.args.key.now c.args.value.now) q.shape.words ≡ true) c.seek-sought.ensures.same.0 (sym c.fits_log.ensures ∙ c.if-not-fits_log.false) in
-    subst (λ (q : OwnerState). IsTaken q (write_of Add c.args.key.now c.args.value.now)) (sym c.seek-sought.ensures.same.0)
+    subst (λ (q : OwnerState). IsAcceptable q (write_of Add c.args.key.now c.args.value.now)) (sym c.seek-sought.ensures.same.0)
     (ap is_accepted (reply_is g z c.is_some.result true refl c.if-is_some.false fits))
 
 pub put_at_tail-self-requires-clause-at_tail : goal.put_at_tail-self-requires-clause-at_tail

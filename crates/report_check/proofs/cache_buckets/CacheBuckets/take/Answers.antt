@@ -7,7 +7,7 @@ use Rattle.partition_model.specs.Cache.{Cache}
 use Rattle.partition_model.specs.CacheStep.{after, reply}
 use Rattle.partition_model.specs.Write.{IsWrite, is_accepted, write_of}
 use Rattle.partition_model.proofs.Histories.{cache_unworn}
-use Rattle.report_check.specs.Machines.{part_of}
+use Rattle.report_check.specs.Machines.{bucket_part}
 use Rattle.report_check.proofs.BucketSteps.{own_reply}
 use Rattle.report_check.proofs.Buckets.{are_after, are_met, caught_at, part_at}
 use Rattle.report_check.proofs.cache_buckets.CacheBuckets.take.Goals as goal
@@ -21,11 +21,11 @@ returns-then-not-replies c = λ s are replied.
     let m = c.args.self.now in
     let write = write_of c.args.op c.args.key.now c.args.value.now in
     let part = c.catch_up.ensures ∙ caught_at m s are c.bucket_number-at.result c.index_mut-bucket.result.now c.bucket_number-at.ensures.within c.index_mut-bucket.ensures.value
-    ∙ ap (λ n. part_of m.options n s) c.bucket_number-at.ensures.value in
+    ∙ ap (λ n. bucket_part m.options n s) c.bucket_number-at.ensures.value in
     false≢true (sym c.if-not-replies.true ∙ c.replies.ensures.1 (replied ∙ sym (ap (λ (b : Cache). reply m.options b write) part ∙ own_reply m.options s write)))
 
 pub write-requires-clause-part : goal.write-requires-clause-part
-write-requires-clause-part c = search (rules, caught_at, part_of)
+write-requires-clause-part c = search (rules, caught_at, bucket_part)
 
 pub write-requires-clause-unworn : goal.write-requires-clause-unworn
 write-requires-clause-unworn c = search (rules, cache_unworn, write_of)
@@ -42,7 +42,7 @@ returns-in_ok-write c = λ s are.
       value_bytes = λ k. omega (arith, c.type_inv.value k);
     } in
     let caught = c.catch_up.ensures ∙ caught_at m s are number c.index_mut-bucket.result.now c.bucket_number-at.ensures.within c.index_mut-bucket.ensures.value in
-    let part = caught ∙ ap (λ n. part_of m.options n s) c.bucket_number-at.ensures.value in
+    let part = caught ∙ ap (λ n. bucket_part m.options n s) c.bucket_number-at.ensures.value in
     let accepted : is_accepted c.args.outcome ≡ true = sym c.is_accepted.ensures ∙ c.if-is_accepted.true in
     record {
       now = after m.options s write;
@@ -58,7 +58,7 @@ returns-else-is_accepted c = λ s are.
     let number = c.bucket_number-at.result in
     let write = write_of c.args.op c.args.key.now c.args.value.now in
     let caught = c.catch_up.ensures ∙ caught_at m s are number c.index_mut-bucket.result.now c.bucket_number-at.ensures.within c.index_mut-bucket.ensures.value in
-    let part = caught ∙ ap (λ n. part_of m.options n s) c.bucket_number-at.ensures.value in
+    let part = caught ∙ ap (λ n. bucket_part m.options n s) c.bucket_number-at.ensures.value in
     let refused : is_accepted c.args.outcome ≡ false = sym c.is_accepted.ensures ∙ c.if-is_accepted.false in
     record {
       now = s;

@@ -1,7 +1,7 @@
 //! The ports of a server.
 ghost use Rattle.std.specs.Prelude.{◌↔◌, IsTrue};
 
-use mica_fronts::MAX_BATCHES;
+use crate::totals::MAX_BATCHES;
 
 /// The first port, how many fronts there are, one behind each port from there on, and how many datagrams a front takes.
 #[derive(Clone, Copy, Debug, PartialEq, Eq)]
@@ -12,7 +12,7 @@ pub struct Ports {
 }
 
 impl Ports {
-    ghost use Rattle.mica_serve.specs.PortOptions.{IsValidPorts};
+    ghost use Rattle.mica_fronts.specs.PortOptions.{IsValidPorts};
 
     /// Whether each number is in its range.
     pub fn is_valid(&self) -> bool
