@@ -30,7 +30,7 @@ use Rattle.partition_table.specs.Tabled.{kept_seat_in}
 use Rattle.mica_replay.specs.Replayed.{gets_to_partition, IsKeptSeatOf, IsReplayed}
 use Rattle.mica_replay.specs.Between.{IsOwnerAt, IsReplaying, seat_of, closed_of, HasRound}
 use Rattle.mica_trace.proofs.ListParts.{zip-append, length_zip}
-use Rattle.mica_trace.proofs.Prefixes.{history-append}
+use Rattle.partition_model.proofs.Runs.{history-append}
 use Rattle.mica_trace.proofs.RoundPlaces.{steps_count}
 use Rattle.mica_trace.proofs.RoundLawful.{none_lawful, round_lawful}
 use Rattle.mica_replay.proofs.MergedReport.{merged_report}

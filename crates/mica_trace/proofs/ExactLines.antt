@@ -28,7 +28,7 @@ use Rattle.mica_trace.specs.RoundReport.{history_in}
 use Rattle.mica_trace.specs.LineReply.{steps_at, history_with, IsReplyAfter}
 use Rattle.mica_trace.specs.ExactReport.{writes_before, ExactReport}
 use Rattle.mica_trace.proofs.ListParts.{same_part, zip-append, AllZip-append, length_zip, length-cons_option}
-use Rattle.mica_trace.proofs.Prefixes.{run-append, history-append}
+use Rattle.partition_model.proofs.Runs.{run-append, history-append}
 use Rattle.mica_trace.proofs.RoundPlaces.{steps_count}
 use Rattle.mica_trace.proofs.Outcomes.{has_outcome}
 use Rattle.mica_trace.proofs.Standing.{StoresValue, answer_stands, stored}

@@ -24,7 +24,7 @@ use Rattle.mica_trace.specs.ReportGrammar.{IsStamp, IsPrintable, printed_stamp, 
 use Rattle.mica_trace.specs.Rounds.{partition_in, is_in_partition, write_by}
 use Rattle.mica_trace.specs.LawfulReport.{IsKindOf, IsLineFor, step_by, step_in, steps_of, IsGetAt, LawfulReport}
 use Rattle.mica_trace.proofs.Exact.{stamp_printed}
-use Rattle.mica_trace.proofs.Prefixes.{history_cons}
+use Rattle.partition_model.proofs.Runs.{history_cons}
 
 -- Each write of a trace line fits.
 

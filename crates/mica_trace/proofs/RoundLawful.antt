@@ -22,7 +22,8 @@ use Rattle.mica_trace.specs.LawfulReport.{IsLineFor, step_in, steps_of, history_
 use Rattle.mica_trace.specs.RoundReport.{EndsRound, IsOneRound, gets_in, history_in, IsRoundReport}
 use Rattle.partition_model.proofs.Rises.{prefix_rises}
 use Rattle.mica_trace.proofs.ListParts.{same_part, zip-append, zip_at, AllZip-append, length_zip, take_past}
-use Rattle.mica_trace.proofs.Prefixes.{prefix_trans, prefix_between, history-append, run-append, step_of_prefix}
+use Rattle.partition_model.proofs.Runs.{history-append, run-append}
+use Rattle.mica_trace.proofs.Prefixes.{prefix_trans, prefix_between, step_of_prefix}
 use Rattle.mica_trace.proofs.RoundPlaces.{before_old, before_whole, before_all, round_old, round_low, round_new, writes_before_low, steps_count}
 use Rattle.mica_trace.proofs.ReaderAnswers.{gets_to, gets_to-zip, IsMine, find_one, find_two}
 

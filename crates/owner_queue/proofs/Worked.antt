@@ -7,7 +7,7 @@ use Rattle.partition_model.specs.declared.options.Options.{Options}
 use Rattle.partition_model.specs.declared.write.Outcome.{Outcome}
 use Rattle.partition_model.specs.History.{History, MayGive, stamp_of}
 use Rattle.partition_model.specs.Run.{RunStep, history_of, IsRunFrom}
-use Rattle.owner_queue.proofs.Runs.{history_append, run_append}
+use Rattle.partition_model.proofs.Runs.{history-append, run-append}
 use Rattle.epoch_core.specs.declared.state.OwnerState.{OwnerState}
 use Rattle.epoch_core.specs.OwnerState.{options_in}
 use Rattle.epoch_core.specs.OwnerStep.{IsOwnerStep}
@@ -83,8 +83,8 @@ module _ {old mid : OwnerState} {from now to : Inbox} {messages : List Message} 
       taken = taken_more;
       low = low_more;
       jobs = map-append job_of done (one ∷ []) ∙ (λ i. so_far.jobs i ++ job ∷ []) ∙ sym (jobs_more ∙ ap (λ (x : Message). jobs_in messages ++ jobs_in (x ∷ [])) job_is);
-      run = subst (IsRunFrom (options_in old) old.history) (sym steps_more) (run_append (options_in old) old.history steps (one.answer.step ∷ []) so_far.run (may, stamp_is, tt));
+      run = subst (IsRunFrom (options_in old) old.history) (sym steps_more) (run-append (options_in old) old.history steps (one.answer.step ∷ []) so_far.run (may, stamp_is, tt));
       gained = gains ∙ ap (λ (o : OwnerState). record o { words = new.words; history = o.history ++ history_of (one.answer.step ∷ []) }) so_far.gained
           ∙ ap (λ (h : History). record old { words = new.words; history = h })
-          (append_assoc old.history (history_of steps) (history_of (one.answer.step ∷ [])) ∙ ap (λ h. old.history ++ h) (sym (history_append steps (one.answer.step ∷ [])) ∙ ap history_of (sym steps_more)));
+          (append_assoc old.history (history_of steps) (history_of (one.answer.step ∷ [])) ∙ ap (λ h. old.history ++ h) (sym (history-append steps (one.answer.step ∷ [])) ∙ ap history_of (sym steps_more)));
     }

@@ -11,3 +11,4 @@ pub mod FateLaws
 pub mod CellSums
 pub mod BucketSums
 pub mod PowersOfTwo
+pub mod Runs

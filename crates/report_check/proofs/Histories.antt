@@ -15,7 +15,7 @@ use Rattle.mica_trace.specs.declared.report.Line.{Line}
 use Rattle.mica_trace.specs.Rounds.{partition_in, write_in, writes_of}
 use Rattle.mica_trace.specs.LawfulReport.{IsLineFor, step_in, steps_of, history_after}
 use Rattle.mica_trace.proofs.ListParts.{zip-append}
-use Rattle.mica_trace.proofs.Prefixes.{history-append}
+use Rattle.partition_model.proofs.Runs.{history-append}
 use Rattle.mica_trace.proofs.RoundPlaces.{steps_count}
 use Rattle.report_check.specs.Judged.{step_at}
 use Rattle.report_check.specs.Moments.{history_at}

@@ -9,7 +9,7 @@ use Rattle.mica_trace.specs.declared.line.TraceLine.{TraceLine}
 use Rattle.mica_trace.specs.declared.report.Line.{Line}
 use Rattle.mica_trace.specs.Rounds.{partition_in}
 use Rattle.mica_trace.specs.LawfulReport.{steps_of}
-use Rattle.mica_trace.proofs.Prefixes.{run-append}
+use Rattle.partition_model.proofs.Runs.{run-append}
 use Rattle.report_check.specs.declared.asked.Asked.{Asked}
 use Rattle.report_check.specs.declared.machine.Machine.{Machine}
 use Rattle.report_check.specs.declared.settling.Settling.{Settling}
