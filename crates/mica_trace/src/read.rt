@@ -9,6 +9,9 @@ use crate::{CowBytes, MAX_LINE_LEN, MAX_LINES, MAX_ROUNDS, Trace, TraceFault, Tr
 use mica_words::{key_fits, value_fits};
 use std::alloc::Global;
 
+// The bytes of the shortest line, with its line feed.
+const SHORTEST_LINE_LEN: usize = b"sync\n".len();
+
 // Whether each byte is one of these. There is no early exit, so that many bytes are judged at a time.
 fn are_between(text: &[u8], least: u8, most: u8) -> bool
     ensures { IsTrue result ↔ AllByRecursion (λ b. (least ≤ b) × (b ≤ most)) text.now }
@@ -115,7 +118,10 @@ pub fn read_trace(alloc: Global, from: &[u8]) -> Result<Trace, TraceFault>
     ensures trace { IfOk result (IsTrace from.now) }
     ensures refused { IfErr result (λ fault. fault ≡ TraceFault.NoMemory ⊎ (Refuses from.now fault × IsNoTrace from.now)) }
 {
-    let mut lines = Vec::new(alloc);
+    let most = (from.len() / SHORTEST_LINE_LEN + 1).min(MAX_LINES as usize);
+    let Ok(mut lines) = Vec::with_capacity(alloc, most) else {
+        return Err(TraceFault::NoMemory);
+    };
     let mut syncs = 0;
     let mut rest = from;
     while !rest.is_empty() {

@@ -23,18 +23,18 @@ uncounted b n m is same = let whole : m ≡ n + 0 = omega arith in subst (λ x. 
 
 pub loop-rest-preserved : goal.loop-rest-preserved
 loop-rest-preserved c =
-    let found = c.in-Ok.ensures.found in
+    let found = c.in-Ok-next_line.ensures.found in
     let n = c.loop-rest.syncs in
     let m = c.if-is_sync.syncs in
-    let counts : m ≡ n + cond (is_sync c.in-Ok.line) 1 0 = elim c.if-is_sync.branch [
-      | then-is_sync w ↦ counted (is_sync c.in-Ok.line) n m (sym c.is_sync.ensures ∙ w.if-is_sync.true) w.syncs-is
-      | else-is_sync w ↦ uncounted (is_sync c.in-Ok.line) n m (sym c.is_sync.ensures ∙ w.if-is_sync.false) w.syncs-is
+    let counts : m ≡ n + cond (is_sync c.in-Ok-next_line.line) 1 0 = elim c.if-is_sync.branch [
+      | then-is_sync w ↦ counted (is_sync c.in-Ok-next_line.line) n m (sym c.is_sync.ensures ∙ w.if-is_sync.true) w.syncs-is
+      | else-is_sync w ↦ uncounted (is_sync c.in-Ok-next_line.line) n m (sym c.is_sync.ensures ∙ w.if-is_sync.false) w.syncs-is
     ] in
     subst (λ ls. HasRead c.args.from.now ls c.first_line.result.1.now m) (sym c.in_ok-push.ensures.items)
     (reads_more c.args.from.now c.loop-rest.lines.items c.loop-rest.rest.now n c.loop-rest.invariant
-    c.first_line.result.0.now c.first_line.result.1.now c.in-Ok.line m c.first_line.ensures.lines found.0
+    c.first_line.result.0.now c.first_line.result.1.now c.in-Ok-next_line.line m c.first_line.ensures.lines found.0
     (let long : c.len.result ≡ length c.loop-rest.lines.items = omega (arith, c.len.ensures, c.loop-rest.lines.ok.0) in
-    subst (λ k. HasLineRoom k n c.in-Ok.line) long found.1) counts)
+    subst (λ k. HasLineRoom k n c.in-Ok-next_line.line) long found.1) counts)
 
 pub of-requires-clause-lines : goal.of-requires-clause-lines
 of-requires-clause-lines c =
