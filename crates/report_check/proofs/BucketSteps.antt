@@ -1,5 +1,5 @@
 -- A step of cache mode, bucket by bucket: in the bucket of its key it is the step of that bucket alone, and in another it is what the log passes.
-use Rattle.std.proofs.Common.{◌≡◌, ◌≢◌, ℕ, ◌+◌, List, [], ◌∷◌, ◌++◌, Option, Some, None, Bool, true, false, cond, not, refl, sym, ap, ◌∙◌, arith, eqb, eqb-true, leb-true, rules}
+use Rattle.std.proofs.Common.{◌≡◌, ◌≢◌, ℕ, ◌+◌, List, Option, Bool, true, false, cond, not, refl, sym, ap, ◌∙◌, arith, eqb, eqb-true, leb-true, rules}
 use Rattle.std.specs.List.{filter, count_by}
 use Rattle.std.specs.Prelude.{is_some}
 use Rattle.std.proofs.lemmas.Bool.{eq-eqb, ne_eqb, le-leb, true≢false}

@@ -1,6 +1,6 @@
 -- The buckets of a partition in cache mode stand for its state.
 use Rattle.std.proofs.Common.{rules}
-use Rattle.std.proofs.Common.{◌≡◌, ◌≢◌, ℕ, zero, suc, ◌+◌, ◌<◌, ◌≤◌, List, [], ◌∷◌, ◌++◌, length, length-set, set, get_or, slice_get, Some, true, false, not, refl, sym, ap, ◌∙◌, subst, arith, eqb, eqb-true, ◌&&◌}
+use Rattle.std.proofs.Common.{◌≡◌, ◌≢◌, ℕ, zero, suc, ◌+◌, ◌<◌, ◌≤◌, List, [], ◌∷◌, ◌++◌, length, length-set, set, get_or, slice_get, Some, true, not, refl, sym, ap, ◌∙◌, subst, arith, eqb, eqb-true, ◌&&◌}
 use borrow.Author.Tests.{eqb-false}
 use Rattle.std.specs.Global.{Vec}
 use Rattle.std.specs.List.{find}

@@ -1,7 +1,6 @@
 -- The lines of a partition, shared out, cut at a place, and gone through.
 use Rattle.std.proofs.Common.{rules}
-use Rattle.std.proofs.Common.{◌≡◌, ◌≢◌, ℕ, zero, suc, ◌+◌, ◌-◌, ◌<◌, ◌≤◌, List, [], ◌∷◌, ◌++◌, length, take, drop, set, slice_get, get_or, Some, true, false, cond, not, refl, sym, ◌∙◌, subst, arith, ltb, ltb-true, ltb-false, leb, leb-false, eqb, eqb-true, append_assoc, append-nil, length-set}
-use Rattle.std.proofs.Math.Seq.{drop-nil}
+use Rattle.std.proofs.Common.{◌≡◌, ◌≢◌, ℕ, zero, suc, ◌+◌, ◌-◌, ◌<◌, ◌≤◌, List, [], ◌∷◌, ◌++◌, length, take, drop, set, slice_get, get_or, Some, true, false, cond, not, refl, sym, subst, arith, ltb, ltb-true, ltb-false, leb, leb-false, eqb, eqb-true, append_assoc, append-nil, length-set}
 use borrow.Author.Tests.{eqb-false}
 use Rattle.std.specs.Global.{Vec}
 use Rattle.std.specs.List.{position_or_len, AllByRecursion as AllOf}

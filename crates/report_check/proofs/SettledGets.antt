@@ -6,7 +6,6 @@ use Rattle.partition_model.specs.declared.options.Options.{Options}
 use Rattle.partition_model.specs.History.{History, state_of, stamp_of}
 use Rattle.mica_trace.specs.declared.line.TraceLine.{TraceLine}
 use Rattle.mica_trace.specs.declared.report.Line.{Line}
-use Rattle.mica_trace.specs.declared.report.Line.TheVariants.{Wrote, Hit, Miss, Sync}
 use Rattle.mica_trace.specs.ReportGrammar.{printed_stamp}
 use Rattle.mica_trace.specs.Rounds.{partition_in}
 use Rattle.mica_trace.specs.LawfulReport.{IsGetAt, Answers}

@@ -1,6 +1,5 @@
 -- A round of a partition, line by line.
 use Rattle.std.proofs.Common.{◌≡◌, ◌≢◌, ℕ, ◌+◌, ◌≤◌, List, [], ◌∷◌, length, take, Some, None, sym, ap, ◌∙◌, subst, arith, slice_get, Bool, true, false, MatchBool}
-use Rattle.std.proofs.lemmas.Bool.{false≢true}
 use Rattle.list_laws.proofs.Places.{element_at}
 use Rattle.partition_model.specs.declared.options.Options.{Options}
 use Rattle.partition_model.specs.History.{History, State, stamp_in}

@@ -1,9 +1,10 @@
 -- Bytes without a fault are the text of an image.
+use Rattle.std.proofs.lemmas.Grind.{common_steps}
 use Rattle.std.proofs.Common.{◌≡◌, ℕ, zero, suc, ◌+◌, ◌-◌, ◌^◌, ◌<◌, ◌≤◌, Bool, true, false, not, cond, List, [], ◌∷◌, ◌++◌, length, take, drop, Option, Some, None, refl, sym, ap, ◌∙◌, subst, arith, append_assoc, get_or}
-use Rattle.std.specs.Prelude.{nat_eq, ◌==◌, ◌||◌, ◌&&◌, slice_index}
+use Rattle.std.specs.Prelude.{nat_eq, ◌==◌, ◌&&◌, slice_index}
 use Rattle.std.specs.Int.{w16, w32, from_le_bytes, to_le_bytes}
 use Rattle.std.specs.List.{flat_map, AllByRecursion, starts_with}
-use Rattle.std.proofs.lemmas.Bool.{ltb-false, eqb-false, eqb-true, true≢false}
+use Rattle.std.proofs.lemmas.Bool.{ltb-false, eqb-true}
 use Rattle.std.proofs.lemmas.Nat.{le_bytes_2, le_bytes_4}
 use Rattle.std.proofs.lemmas.Slice.Eq.{bytes_eq-Decides}
 use Rattle.std.proofs.lemmas.List.{length-take-le, take-append-drop, drop-drop, get_or-drop, length-drop}
@@ -20,21 +21,14 @@ use Rattle.store_image.proofs.Texts.{both, between_all}
 
 -- no fault of two is none of each
 neither : (first later : Option ImageFault) → or_later first later ≡ None → (first ≡ None) × (later ≡ None)
-neither None later e = (refl, e)
-neither (Some fault) later e = absurd (cc)
+neither first later e = grind (arith, e)
 
 -- a test that does not hold, and what comes after it
 passed : (test : Bool) (fault : ImageFault) (later : Option ImageFault) → cond test (Some fault) later ≡ None → (test ≡ false) × (later ≡ None)
-passed true fault later e = absurd (cc)
-passed false fault later e = (refl, e)
-
-no_or : (a b : Bool) → (a || b) ≡ false → (a ≡ false) × (b ≡ false)
-no_or true b e = absurd (true≢false e)
-no_or false b e = (refl, e)
+passed test fault later e = grind (arith, e)
 
 is_not : (a : Bool) → not a ≡ false → a ≡ true
-is_not true e = refl
-is_not false e = absurd (true≢false e)
+is_not a e = grind (arith, common_steps)
 
 bytes_left : (n : ℕ) (bytes : List ℕ) → AreBytes bytes → AreBytes (drop n bytes)
 bytes_left n bytes are k = subst (λ (m : ℕ). m < 256) (sym (get_or-drop n bytes k 0)) (are (n + k))
@@ -44,21 +38,7 @@ bytes_left n bytes are k = subst (λ (m : ℕ). m < 256) (sym (get_or-drop n byt
 module _ (bytes : List ℕ) (are : AreBytes bytes) (none : lengths_fault bytes ≡ None) where
   -- what its lengths say
   pub lengths_are : (3 ≤ length bytes) × (0 < key_len_at bytes) × (value_len_at bytes ≤ MAX_VALUE_LEN) × (pair_len_at bytes ≤ length bytes)
-  lengths_are =
-      let one = passed _ _ _ none in
-      let two = passed _ _ _ one.1 in
-      let three = passed _ _ _ two.1 in
-      let lengths = no_or _ _ two.0 in
-      let some = eqb-false (key_len_at bytes) 0 lengths.0 in (
-        ltb-false (length bytes) 3 one.0,
-        above (key_len_at bytes) some,
-        ltb-false MAX_VALUE_LEN (value_len_at bytes) lengths.1,
-        ltb-false (length bytes) (pair_len_at bytes) three.0,
-      )
-    where
-      above : (n : ℕ) → (n ≡ 0 → ⊥) → 0 < n
-      above zero some = absurd (some refl)
-      above (suc n) some = omega arith
+  lengths_are = grind (arith, common_steps)
 
 -- its text
 text_by : (b v0 v1 : ℕ) (texts : List ℕ) → AreBytes (b ∷ v0 ∷ v1 ∷ texts) → pair_len_at (b ∷ v0 ∷ v1 ∷ texts) ≤ length (b ∷ v0 ∷ v1 ∷ texts)
@@ -101,10 +81,7 @@ module _ (last bytes : List ℕ) (are : AreBytes bytes) (none : pair_fault last 
   parts = neither _ _ none
 
   order : ((are_between 33 126 (key_at bytes) && are_between 32 126 (value_at bytes)) ≡ true) × (is_above last (key_at bytes) ≡ true)
-  order =
-      let one = passed _ _ _ parts.1 in
-      let two = passed _ _ _ one.1 in
-      (is_not _ one.0, is_not _ two.0)
+  order = grind (arith, common_steps)
 
   pub pair_fits : IsPair (pair_at bytes)
   pair_fits =
@@ -129,11 +106,7 @@ module _ (last bytes : List ℕ) (are : AreBytes bytes) (none : pair_fault last 
 texts_are : (last : List ℕ) (count : ℕ) (bytes : List ℕ) → AreBytes bytes → pairs_fault last count bytes ≡ None
     → AllByRecursion IsPair (pairs_in count bytes) × RiseAfter last (pairs_in count bytes) × (bytes ≡ flat_map pair_text (pairs_in count bytes))
 unfolding pairs_fault pairs_in
-texts_are last zero bytes are none = (tt, tt, none_left bytes (ltb-false 0 (length bytes) (passed _ _ _ none).0))
-  where
-    none_left : (bytes : List ℕ) → length bytes ≤ 0 → bytes ≡ []
-    none_left [] few = refl
-    none_left (b ∷ bytes) few = absurd (omega arith)
+texts_are last zero bytes are none = grind (arith, common_steps)
 texts_are last (suc count) bytes are none =
     let parts : (pair_fault last bytes ≡ None) × (pairs_fault (key_at bytes) count (after_pair bytes) ≡ None) = neither _ _ none in
     let left = texts_are (key_at bytes) count (after_pair bytes) (bytes_left (pair_len_at bytes) bytes are) parts.1 in (
@@ -148,19 +121,7 @@ header_by : (b0 b1 b2 b3 b4 b5 b6 b7 b8 : ℕ) (rest : List ℕ) → AreBytes (b
     → starts_with nat_eq (b0 ∷ b1 ∷ b2 ∷ b3 ∷ b4 ∷ b5 ∷ b6 ∷ b7 ∷ b8 ∷ rest) MAGIC ≡ true → (b4 == VERSION) ≡ true
     → b0 ∷ b1 ∷ b2 ∷ b3 ∷ b4 ∷ b5 ∷ b6 ∷ b7 ∷ b8 ∷ rest ≡ header_text (count_at (b0 ∷ b1 ∷ b2 ∷ b3 ∷ b4 ∷ b5 ∷ b6 ∷ b7 ∷ b8 ∷ rest)) ++ rest
 header_by b0 b1 b2 b3 b4 b5 b6 b7 b8 rest are starts version =
-    let first : b0 ∷ b1 ∷ b2 ∷ b3 ∷ [] ≡ MAGIC = sym ((bytes_eq-Decides MAGIC (b0 ∷ b1 ∷ b2 ∷ b3 ∷ [])).0 starts) in
-    let fifth : b4 ≡ VERSION = eqb-true b4 VERSION version in
-    let n = from_le_bytes w32 (b5 ∷ b6 ∷ b7 ∷ b8 ∷ rest) in
-    let four : to_le_bytes w32 n ≡ b5 ∷ b6 ∷ b7 ∷ b8 ∷ [] = le_bytes_4 (b5 ∷ b6 ∷ b7 ∷ b8 ∷ []) n refl below refl in
-    let back : b5 ∷ b6 ∷ b7 ∷ b8 ∷ [] ≡ to_le_bytes w32 n = sym four in
-    λ i. (first i ++ (fifth i ∷ back i)) ++ rest
-  where
-    below : (i : ℕ) → get_or (b5 ∷ b6 ∷ b7 ∷ b8 ∷ []) i 0 < 256
-    below zero = are 5
-    below (suc zero) = are 6
-    below (suc (suc zero)) = are 7
-    below (suc (suc (suc zero))) = are 8
-    below (suc (suc (suc (suc i)))) = omega arith
+    grind (arith, (bytes_eq-Decides MAGIC (b0 ∷ b1 ∷ b2 ∷ b3 ∷ [])).0, eqb-true b4 VERSION version, from_le_bytes w32 (b5 ∷ b6 ∷ b7 ∷ b8 ∷ rest), le_bytes_4 (b5 ∷ b6 ∷ b7 ∷ b8 ∷ []) (from_le_bytes w32 (b5 ∷ b6 ∷ b7 ∷ b8 ∷ rest)) refl, are 5, are 6, are 7, are 8)
 
 header_is : (bytes : List ℕ) → AreBytes bytes → 9 ≤ length bytes → starts_with nat_eq bytes MAGIC ≡ true → (slice_index bytes 4 == VERSION) ≡ true → bytes ≡ header_text (count_at bytes) ++ drop 9 bytes
 header_is (b0 ∷ b1 ∷ b2 ∷ b3 ∷ b4 ∷ b5 ∷ b6 ∷ b7 ∷ b8 ∷ rest) are long starts version = header_by b0 b1 b2 b3 b4 b5 b6 b7 b8 rest are starts version
@@ -169,12 +130,7 @@ header_is bytes are long starts version = absurd (omega arith)
 -- a number of four bytes
 few_counted : (bytes : List ℕ) → AreBytes bytes → count_at bytes < 2 ^ 32
 few_counted bytes are =
-    let a = bytes_left 5 bytes are in
-    let b0 = a 0 in
-    let b1 = a 1 in
-    let b2 = a 2 in
-    let b3 = a 3 in
-    omega arith
+    grind (arith, bytes_left 5 bytes are, (bytes_left 5 bytes are) 0, (bytes_left 5 bytes are) 1, (bytes_left 5 bytes are) 2, (bytes_left 5 bytes are) 3)
 
 module _ (bytes : List ℕ) (are : AreBytes bytes) (none : first_fault bytes ≡ None) where
   -- what is behind the header of bytes without a fault

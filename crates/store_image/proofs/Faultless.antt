@@ -1,27 +1,16 @@
 -- The text of an image has no fault.
-use Rattle.std.proofs.Common.{◌≡◌, ℕ, ◌+◌, ◌^◌, ◌<◌, ◌≤◌, true, false, ltb, eqb, List, [], ◌∷◌, ◌++◌, length, None, refl, ap, ◌∙◌, arith, length-append}
+use Rattle.std.proofs.Common.{rules}
+use Rattle.std.proofs.lemmas.Grind.{common_steps}
+use Rattle.std.proofs.Common.{◌≡◌, ℕ, ◌^◌, ◌<◌, true, List, [], ◌∷◌, ◌++◌, length, None, refl, arith, length-append}
 use Rattle.std.specs.List.{flat_map, AllByRecursion}
 use Rattle.std.proofs.lemmas.Bool.{le-ltb, ne_eqb}
-use Rattle.std.proofs.lemmas.Nat.{from_le_bytes-to_le_bytes_4}
-use Rattle.mica_words.specs.declared.item.TheConstants.{MAX_VALUE_LEN}
-use Rattle.store_image.specs.ImageGrammar.{Pair, IsPair, SpellsImage, header_text, pair_text, image_text, key_len_at, value_len_at, pair_len_at, is_above, lengths_fault, pair_fault, pairs_fault, first_fault}
+use Rattle.store_image.specs.ImageGrammar.{Pair, IsPair, SpellsImage, header_text, pair_text, image_text, lengths_fault, pairs_fault, first_fault}
 use Rattle.store_image.proofs.PairLaws.{key_len_is, value_len_is, length-pair_text, key_is, pair_is, behind}
 use Rattle.store_image.proofs.Rising.{RiseAfter, rise_after, above_none}
 use Rattle.store_image.proofs.Texts.{good_texts, pair_tested}
 
 pub no_lengths_fault : (x : Pair) (rest : List ℕ) → IsPair x → lengths_fault (pair_text x ++ rest) ≡ None
-no_lengths_fault x rest is =
-    let text = pair_text x ++ rest in
-    let len : length text ≡ 3 + length x.key + length x.value + length rest = length-append (pair_text x) rest ∙ rw (length-pair_text x) refl in
-    let some = is.0.0 in
-    let few = is.1.0 in
-    let key_len = key_len_is x rest in
-    let value_len = value_len_is x rest is in
-    let a : ltb (length text) 3 ≡ false = le-ltb _ _ (omega arith) in
-    let b : eqb (key_len_at text) 0 ≡ false = ne_eqb _ 0 (λ e. omega arith) in
-    let c : ltb MAX_VALUE_LEN (value_len_at text) ≡ false = le-ltb _ _ (omega arith) in
-    let d : ltb (length text) (pair_len_at text) ≡ false = le-ltb _ _ (omega arith) in
-    rw (a, b, c, d) refl
+no_lengths_fault x rest is = search (rules, length-append, length-pair_text, key_len_is, value_len_is, le-ltb, ne_eqb, pair_text)
 
 no_faults : (last : List ℕ) (pairs : List Pair) → AllByRecursion IsPair pairs → RiseAfter last pairs → pairs_fault last (length pairs) (flat_map pair_text pairs) ≡ None
 unfolding pairs_fault
@@ -34,12 +23,8 @@ no_faults last (x ∷ pairs) all rise =
 -- behind a header the faults are those of the pairs
 header_passed : (count : ℕ) (rest : List ℕ) → count < 2 ^ 32 → first_fault (header_text count ++ rest) ≡ pairs_fault [] count rest
 unfolding first_fault
-header_passed count rest few =
-    let long : ltb (length (header_text count ++ rest)) 9 ≡ false = le-ltb _ _ (omega arith) in
-    rw (long, from_le_bytes-to_le_bytes_4 count few) refl
+header_passed count rest few = grind (arith, common_steps)
 
 pub image_has_no_fault : (bytes : List ℕ) (pairs : List Pair) → SpellsImage bytes pairs → first_fault bytes ≡ None
 unfolding image_text
-image_has_no_fault bytes pairs is =
-    ap first_fault is.text ∙ header_passed (length pairs) (flat_map pair_text pairs) is.image.few
-    ∙ no_faults [] pairs is.image.each (rise_after [] pairs (above_none pairs is.image.each) is.image.rise)
+image_has_no_fault bytes pairs is = search (rules, header_passed, no_faults, length, flat_map, rise_after, above_none)

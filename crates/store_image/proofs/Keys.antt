@@ -1,7 +1,8 @@
 -- Keys, sorted and each once.
-use Rattle.std.proofs.Common.{◌≡◌, ◌≢◌, ℕ, zero, suc, ◌+◌, ◌<◌, ◌≤◌, Bool, true, false, cond, List, [], ◌∷◌, ◌++◌, length, map, take, get_or, Option, Some, None, refl, sym, ap, ◌∙◌, subst, arith}
+use Rattle.std.proofs.lemmas.Grind.{common_steps}
+use Rattle.std.proofs.Common.{◌≡◌, ℕ, zero, suc, ◌+◌, ◌<◌, ◌≤◌, Bool, true, false, cond, List, [], ◌∷◌, ◌++◌, length, map, take, get_or, Some, None, refl, sym, ap, subst, arith}
 use Rattle.std.specs.Prelude.{◌||◌}
-use Rattle.std.specs.List.{All, AllByRecursion, cons_option, filter_map, list_any, dedup, dedup_from}
+use Rattle.std.specs.List.{AllByRecursion, cons_option, list_any, dedup, dedup_from}
 use Rattle.std.specs.List.Sorted.{IsSorted, IsStrictlySortedBy, IsPermutation}
 use Rattle.std.specs.List.Retain.{DiffersFromLast, IsFiltered}
 use Rattle.std.specs.Cmp.{IsTotalOrder}
@@ -11,14 +12,13 @@ use Rattle.std.specs.Ordering.{nat_cmp}
 use Rattle.std.specs.Str.{bytes_eq}
 use Rattle.std.specs.Cmp.Lexicographic.{slice_cmp, nat_list_cmp_total}
 use Rattle.std.proofs.lemmas.List.{take_more}
-use Rattle.std.proofs.lemmas.List.Elements.{filter_map-append, recursion_from_All, All-from_recursion}
+use Rattle.std.proofs.lemmas.List.Elements.{filter_map-append}
 use Rattle.std.proofs.lemmas.List.Filters.{dedup_is}
 use Rattle.std.proofs.lemmas.List.Kept.{IsStrictlySortedBy-dedup}
-use Rattle.std.proofs.lemmas.List.Sorted.{list_any-IsPermutation, All-permutation}
+use Rattle.std.proofs.lemmas.List.Sorted.{list_any-IsPermutation}
 use Rattle.std.proofs.lemmas.Map.Text.{is_eq-slice_cmp}
 use Rattle.std.proofs.lemmas.Slice.Eq.{bytes_eq-Decides}
 use Rattle.mica_trace.specs.declared.line.TraceOp.{TraceOp}
-use Rattle.mica_trace.specs.declared.line.TraceOp.TheVariants.{Put, Add, Touch, Del, Get, Sync}
 use Rattle.mica_trace.specs.declared.line.TraceLine.{TraceLine}
 use Rattle.mica_trace.specs.TraceGrammar.{IsKey, IsTraceLine, HasFields}
 use Rattle.store_image.specs.PutKeys.{gives_value, key_by, put_key, put_keys, has_key}
@@ -31,11 +31,7 @@ module _ {X : Type 0} (text : X → List ℕ) where
   same x y = bytes_eq (text x) (text y)
 
   total : IsTotalOrder cmp
-  total = record {
-    antisymm = λ x y. nat_list_cmp_total.antisymm (text x) (text y);
-    trans = λ x y z. nat_list_cmp_total.trans (text x) (text y) (text z);
-    congr = λ x y z. nat_list_cmp_total.congr (text x) (text y) (text z);
-  }
+  total = grind (arith, nat_list_cmp_total.antisymm, nat_list_cmp_total.trans, nat_list_cmp_total.congr)
 
   below : (x : X) (xs : List X) → AllByRecursion (λ y. cmp x y ≡ Less) xs → AllByRecursion (λ k. slice_cmp nat_cmp (text x) k ≡ Less) (map text xs)
   below x [] all = tt
@@ -55,32 +51,23 @@ module _ {X : Type 0} (text : X → List ℕ) where
   any_map p (x ∷ xs) = ap (λ b. p (text x) || b) (any_map p xs)
 
   twice : (a b c : Bool) → a ≡ b → (b || c) ≡ (b || (a || c))
-  twice a true c e = refl
-  twice a false c e = ap (λ z. z || c) (sym e)
+  twice a b c e = grind (arith, e)
 
   any_from : (key : List ℕ) (k : X) (xs : List X) → has_key (map text (dedup_from same k xs)) key ≡ (bytes_eq (text k) key || has_key (map text xs) key)
   any_from key k [] = refl
   any_from key k (x ∷ xs) =
-      elim (same x k) as (λ b. same x k ≡ b → has_key (map text (cond b (dedup_from same k xs) (k ∷ dedup_from same x xs))) key ≡ (bytes_eq (text k) key || (bytes_eq (text x) key || has_key (map text xs) key))) [
-        | true ↦ λ e.
-            let is : text x ≡ text k = (bytes_eq-Decides (text x) (text k)).0 e in
-            any_from key k xs ∙ twice (bytes_eq (text x) key) (bytes_eq (text k) key) (has_key (map text xs) key) (ap (λ t. bytes_eq t key) is)
-        | false ↦ λ e. ap (λ b. bytes_eq (text k) key || b) (any_from key x xs)
-      ] refl
+      grind (arith, same x k, (bytes_eq-Decides (text x) (text k)).0, any_from key k xs, twice (bytes_eq (text x) key) (bytes_eq (text k) key) (has_key (map text xs) key), any_from key x xs)
 
   any_dedup : (key : List ℕ) (xs : List X) → has_key (map text (dedup same xs)) key ≡ has_key (map text xs) key
-  any_dedup key [] = refl
-  any_dedup key (x ∷ xs) = any_from key x xs
+  any_dedup key xs = grind (arith, any_from key)
 
   pub same_keys : (xs sorted ys : List X) (key : List ℕ) → IsPermutation xs sorted → IsFiltered (DiffersFromLast same) [] sorted ys → has_key (map text ys) key ≡ has_key (map text xs) key
   same_keys xs sorted ys key moved left =
-      ap (λ (l : List X). has_key (map text l) key) (dedup_is same sorted ys left) ∙ any_dedup key sorted
-      ∙ any_map (λ t. bytes_eq t key) sorted ∙ sym (list_any-IsPermutation (λ x. bytes_eq (text x) key) xs sorted moved) ∙ sym (any_map (λ t. bytes_eq t key) xs)
+      grind (arith, has_key, dedup_is same sorted ys left, any_dedup key sorted, any_map (λ t. bytes_eq t key) sorted, list_any-IsPermutation (λ x. bytes_eq (text x) key) xs sorted moved, any_map (λ t. bytes_eq t key) xs)
 
 -- the keys of one line more
 pub keys_more : (lines : List TraceLine) (i : ℕ) (line : TraceLine) → i < length lines → line ≡ get_or lines i line → put_keys (take (i + 1) lines) ≡ put_keys (take i lines) ++ cons_option (put_key line) []
-keys_more lines i line less is =
-    ap put_keys (take_more lines i line less ∙ ap (λ (x : TraceLine). take i lines ++ x ∷ []) (sym is)) ∙ filter_map-append put_key (take i lines) (line ∷ [])
+keys_more lines i line less is = grind (arith, take_more lines i line less, is, filter_map-append put_key (take i lines) (line ∷ []))
 
 pub no_key : (op : TraceOp) (key : List ℕ) → gives_value op ≡ false → key_by op key ≡ None
 no_key op key none = ap (λ b. cond b (Some key) None) none
@@ -91,11 +78,7 @@ own_key_of op key gives = ap (λ b. cond b (Some key) None) gives
 -- what has the key is among the keys that pass
 key_in : (P : List ℕ → Type 0) (keys : List (List ℕ)) (key : List ℕ) → AllByRecursion P keys → has_key keys key ≡ true → P key
 key_in P [] key all has = absurd (cc)
-key_in P (k ∷ keys) key all has =
-    elim (bytes_eq k key) as (λ b. bytes_eq k key ≡ b → (b || has_key keys key) ≡ true → P key) [
-      | true ↦ λ e h. subst P ((bytes_eq-Decides k key).0 e) all.0
-      | false ↦ λ e h. key_in P keys key all.1 h
-    ] refl has
+key_in P (k ∷ keys) key all has = grind (arith, bytes_eq k key, P, (bytes_eq-Decides k key).0, all.0, key_in P keys key all.1)
 
 own_key : (k : List ℕ) (keys : List (List ℕ)) → has_key (k ∷ keys) k ≡ true
 own_key k keys = ap (λ b. b || has_key keys k) ((bytes_eq-Decides k k).1 refl)
@@ -110,12 +93,7 @@ all_among P (k ∷ keys) others among all =
     (key_in P others k all (among k (own_key k keys)), all_among P keys others (λ key has. among key (later_key k key keys has)) all)
 
 fields_key : (op : TraceOp) (key value : List ℕ) (keys : List (List ℕ)) → HasFields op key value → AllByRecursion IsKey keys → AllByRecursion IsKey (cons_option (key_by op key) keys)
-fields_key Put key value keys fields all = (fields.0, all)
-fields_key Add key value keys fields all = (fields.0, all)
-fields_key Touch key value keys fields all = all
-fields_key Del key value keys fields all = all
-fields_key Get key value keys fields all = all
-fields_key Sync key value keys fields all = all
+fields_key op key value keys fields all = grind (arith, common_steps)
 
 -- the keys of a trace are keys
 pub put_keys_are : (lines : List TraceLine) → AllByRecursion IsTraceLine lines → AllByRecursion IsKey (put_keys lines)
@@ -124,11 +102,7 @@ put_keys_are (line ∷ lines) all = fields_key line.op line.key line.value (put_
 
 pub few_keys : (lines : List TraceLine) → length (put_keys lines) ≤ length lines
 few_keys [] = omega arith
-few_keys (line ∷ lines) =
-    elim (put_key line) as (λ o. length (cons_option o (put_keys lines)) ≤ length (line ∷ lines)) [
-      | None ↦ let rest = few_keys lines in omega arith
-      | Some k ↦ let rest = few_keys lines in omega arith
-    ]
+few_keys (line ∷ lines) = grind (arith, put_key line, few_keys lines)
 
 -- what the texts of all elements have, that of each has
 pub text_at : {X : Type 0} (text : X → List ℕ) (P : List ℕ → Type 0) (xs : List X) (i : ℕ) (d : X) → AllByRecursion P (map text xs) → i < length xs → P (text (get_or xs i d))

@@ -1,11 +1,12 @@
 -- What partitions answer to the keys that a trace puts, once they have answered its lines.
-use Rattle.std.proofs.Common.{◌≡◌, ℕ, zero, suc, ◌+◌, ◌<◌, ◌≤◌, ◌^◌, true, false, List, [], ◌∷◌, ◌++◌, length, map, drop, get_or, Option, Some, None, refl, sym, ap, ◌∙◌, arith, add-one, slice_get}
+use Rattle.std.proofs.Common.{rules}
+use Rattle.std.proofs.lemmas.Grind.{common_steps}
+use Rattle.std.proofs.Common.{◌≡◌, ℕ, zero, suc, ◌+◌, ◌<◌, ◌≤◌, ◌^◌, List, [], ◌∷◌, length, map, drop, get_or, Option, Some, None, refl, sym, ap, ◌∙◌, arith, add-one, slice_get}
 use Rattle.std.specs.Prelude.{option_map, option_and_then}
 use Rattle.std.specs.List.{AllByRecursion, cons_option, filter_map}
 use Rattle.std.specs.List.Sorted.{IsStrictlySortedBy}
 use Rattle.std.specs.Ordering.{nat_cmp}
 use Rattle.std.specs.Cmp.Lexicographic.{slice_cmp}
-use Rattle.std.proofs.lemmas.List.{length-map}
 use Rattle.std.proofs.Math.Seq.{drop-cons}
 use Rattle.std.proofs.lemmas.Option.{slice_get-map, slice_get-get_or}
 use Rattle.mica_words.specs.Hash.{fnv1a, hash_partition, partition_of}
@@ -21,14 +22,13 @@ use Rattle.mica_trace.specs.TraceGrammar.{IsKey, IsValue, IsTraceLine}
 use Rattle.mica_trace.specs.RoundReport.{history_in}
 use Rattle.mica_trace.proofs.Standing.{answer_stands, stored}
 use Rattle.epoch_core.specs.declared.state.OwnerState.{OwnerState}
-use Rattle.epoch_core.specs.OwnerState.{options_in}
 use Rattle.epoch_core.specs.Shape.{shape_of, options_of}
 use Rattle.epoch_core.proofs.SameMachine.{same_state}
 use Rattle.line_replies.specs.Answered.{AreAnswered}
 use Rattle.store_image.specs.ImageGrammar.{IsPair, IsImage}
 use Rattle.store_image.specs.PutKeys.{put_keys, has_key, pair_by, pairs_by}
 use Rattle.store_image.specs.Answers.{answer_in, value_at}
-use Rattle.store_image.specs.ImageOf.{value_in, value_after, HasPairsOf}
+use Rattle.store_image.specs.ImageOf.{value_after, HasPairsOf}
 use Rattle.store_image.proofs.ImagePairs.{exactly, rising, each_pair}
 use Rattle.store_image.proofs.PutOnly.{none_left, none_written, not_put}
 
@@ -36,9 +36,7 @@ use Rattle.store_image.proofs.PutOnly.{none_left, none_written, not_put}
 answered_at : {P : Type 0} (owner : P → OwnerState) (parts : List P) (at : ℕ) (part : P) (partitions : ℕ) (key : List ℕ) → at ≡ partition_of key partitions → at < length parts → part ≡ get_or parts at part
     → value_at (map owner parts) partitions key ≡ answer_in key (owner part)
 answered_at owner parts at part partitions key number less is =
-    ap (λ n. option_and_then (answer_in key) (slice_get (map owner parts) n)) (sym number)
-    ∙ ap (option_and_then (answer_in key)) (slice_get-map owner parts at ∙ ap (option_map owner) (slice_get-get_or parts at part less))
-    ∙ ap (λ x. answer_in key (owner x)) (sym is)
+    search (rules, option_and_then, number, slice_get-map, option_map, slice_get-get_or, answer_in, is, slice_get, map, owner)
 
 module _ {P : Type 0} (owner : P → OwnerState) (initial parts : List P) (partitions at hash : ℕ) (key : List ℕ) (some : 0 < partitions) (many : length initial ≡ partitions) (same : map owner parts ≡ map owner initial)
     (hashed : hash ≡ fnv1a key) (chosen : at ≡ hash_partition hash partitions) where
@@ -46,10 +44,7 @@ module _ {P : Type 0} (owner : P → OwnerState) (initial parts : List P) (parti
   number = chosen ∙ ap (λ h. hash_partition h partitions) hashed ∙ sym (partition_of_hash key partitions)
 
   pub part_there : at < length parts
-  part_there =
-      let low = partition_of-below key partitions some in
-      let is = number in
-      omega (arith, length-map parts owner, ap length same, length-map initial owner)
+  part_there = grind (arith, common_steps)
 
   -- the answer of the partition that a key chooses
   pub part_answers : (part : P) → part ≡ get_or parts at part → value_at (map owner initial) partitions key ≡ answer_in key (owner part)
@@ -67,11 +62,7 @@ pairs_left value_of text xs i d less = rw (add-one, drop-cons xs i d) refl
 
 few_pairs : {X Y : Type 0} (h : X → Option Y) (xs : List X) → length (filter_map h xs) ≤ length xs
 few_pairs h [] = omega arith
-few_pairs h (x ∷ xs) =
-    elim (h x) as (λ o. length (cons_option o (filter_map h xs)) ≤ length (x ∷ xs)) [
-      | None ↦ let rest = few_pairs h xs in omega arith
-      | Some y ↦ let rest = few_pairs h xs in omega arith
-    ]
+few_pairs h (x ∷ xs) = grind (arith, h x, few_pairs h xs)
 
 module _ (options : Options) (valid : IsValid options) (lines : List TraceLine) (report : List Line) (owners : List OwnerState) (answered : AreAnswered options lines report owners) where
   -- what a partition answers to a key is what its machine has after the trace
@@ -106,11 +97,7 @@ module _ (options : Options) (valid : IsValid options) (lines : List TraceLine) 
     pairs_each (k ∷ keys) are = ((λ v is. (are.0, value_stands k v is)), pairs_each keys are.1)
 
     pub left_image : (keys : List (List ℕ)) → AllByRecursion IsKey keys → IsStrictlySortedBy (slice_cmp nat_cmp) keys → length keys < 2 ^ 32 → IsImage (pairs_by (value_at owners options.partitions) keys)
-    left_image keys are rise few = record {
-      each = each_pair (value_at owners options.partitions) IsPair keys (pairs_each keys are);
-      rise = rising (value_at owners options.partitions) keys rise;
-      few = let less = few_pairs (pair_by (value_at owners options.partitions)) keys in omega arith;
-    }
+    left_image keys are rise few = search (rules, each_pair, rising, few_pairs, value_at, pairs_each, pair_by)
 
   pub left_pairs : options.mode ≡ Store → (keys : List (List ℕ)) → ((key : List ℕ) → has_key keys key ≡ has_key (put_keys lines) key)
       → HasPairsOf options lines report (pairs_by (value_at owners options.partitions) keys)

@@ -1,5 +1,6 @@
 -- What the text of a pair tells of it, and that of an image of its pairs.
-use Rattle.std.proofs.Common.{◌≡◌, ℕ, zero, suc, ◌+◌, List, [], ◌∷◌, ◌++◌, length, take, drop, refl, sym, ap, ◌∙◌, subst, arith, length-append, append_assoc, append-nil}
+use Rattle.std.proofs.Common.{rules}
+use Rattle.std.proofs.Common.{◌≡◌, ℕ, zero, suc, ◌+◌, List, [], ◌∷◌, ◌++◌, length, drop, refl, sym, ap, ◌∙◌, arith, length-append, append_assoc, append-nil}
 use Rattle.std.specs.List.{flat_map, AllByRecursion}
 use Rattle.std.proofs.lemmas.List.{take_at, drop_at}
 use Rattle.std.proofs.lemmas.Nat.{from_le_bytes-to_le_bytes_4}
@@ -26,15 +27,10 @@ pub size : (x : Pair) (rest : List ℕ) → IsPair x → pair_len_at (pair_text 
 size x rest is = rw (length-pair_text x, key_len_is x rest, value_len_is x rest is) refl
 
 pub key_is : (x : Pair) (rest : List ℕ) → key_at (pair_text x ++ rest) ≡ x.key
-key_is x rest =
-    let key : take (length x.key) (x.key ++ (x.value ++ rest)) ≡ x.key = take_at x.key (x.value ++ rest) (length x.key) refl in
-    rw (key_len_is x rest, texts_are x rest) key
+key_is x rest = search (rules, take_at, key_len_is, texts_are, length)
 
 pub value_is : (x : Pair) (rest : List ℕ) → IsPair x → value_at (pair_text x ++ rest) ≡ x.value
-value_is x rest is =
-    let after_key : drop (length x.key) (x.key ++ (x.value ++ rest)) ≡ x.value ++ rest = drop_at x.key (x.value ++ rest) (length x.key) refl in
-    let value : take (length x.value) (x.value ++ rest) ≡ x.value = take_at x.value rest (length x.value) refl in
-    rw (key_len_is x rest, value_len_is x rest is, texts_are x rest, after_key) value
+value_is x rest is = search (rules, drop_at, take_at, key_len_is, value_len_is, texts_are, length)
 
 pub pair_is : (x : Pair) (rest : List ℕ) → IsPair x → pair_at (pair_text x ++ rest) ≡ x
 pair_is x rest is = rw (key_is x rest, value_is x rest is) refl
@@ -47,8 +43,7 @@ pub pairs_back : (pairs : List Pair) → AllByRecursion IsPair pairs → pairs_i
 unfolding pairs_in
 pairs_back [] all = refl
 pairs_back (x ∷ pairs) all =
-    let rest = flat_map pair_text pairs in
-    rw (pair_is x rest all.0, behind x rest all.0, pairs_back pairs all.1) refl
+    grind (arith, flat_map pair_text pairs, pair_is x (flat_map pair_text pairs) all.0, behind x (flat_map pair_text pairs) all.0, pairs_back pairs all.1)
 
 pub length-pairs_in : (count : ℕ) (bytes : List ℕ) → length (pairs_in count bytes) ≡ count
 unfolding pairs_in
@@ -58,10 +53,7 @@ length-pairs_in (suc count) bytes = ap suc (length-pairs_in count (after_pair by
 -- bytes that spell an image say its pairs
 pub spelled_pairs : (text : List ℕ) (pairs : List Pair) → SpellsImage text pairs → pairs_in (count_at text) (drop 9 text) ≡ pairs
 unfolding image_text
-spelled_pairs text pairs is =
-    ap (λ (t : List ℕ). pairs_in (count_at t) (drop 9 t)) is.text
-    ∙ ap (λ (n : ℕ). pairs_in n (flat_map pair_text pairs)) (from_le_bytes-to_le_bytes_4 (length pairs) is.image.few)
-    ∙ pairs_back pairs is.image.each
+spelled_pairs text pairs is = search (rules, pairs_in, from_le_bytes-to_le_bytes_4, pairs_back, count_at, drop, flat_map, length)
 
 pub one_image : (text : List ℕ) (a b : List Pair) → SpellsImage text a → SpellsImage text b → a ≡ b
 one_image text a b p q = sym (spelled_pairs text a p) ∙ spelled_pairs text b q
@@ -71,12 +63,9 @@ one_text s t pairs p q = p.text ∙ sym q.text
 
 -- the texts of an image's pairs are kept as such
 pub kept_texts : (count : ℕ) (texts : List ℕ) (pairs : List Pair) → IsImage pairs → count ≡ length pairs → texts ≡ flat_map pair_text pairs → ArePairTexts count texts × (pairs_in count texts ≡ pairs)
-kept_texts count texts pairs image many is =
-    let same : pairs_in count texts ≡ pairs = ap (λ (n : ℕ). pairs_in n texts) many ∙ ap (pairs_in (length pairs)) is ∙ pairs_back pairs image.each in
-    (record { image = subst IsImage (sym same) image; texts = is ∙ ap (flat_map pair_text) (sym same) }, same)
+kept_texts count texts pairs image many is = search (rules, pairs_in, pairs_back, IsImage, image, is, flat_map, length)
 
 -- and so are they once no pair is left
 pub kept_all : (count : ℕ) (texts : List ℕ) (left pairs : List Pair) → IsImage pairs → left ≡ [] → count + length left ≡ length pairs → texts ++ flat_map pair_text left ≡ flat_map pair_text pairs
     → ArePairTexts count texts × (pairs_in count texts ≡ pairs)
-kept_all count texts left pairs image none many is =
-    kept_texts count texts pairs image (omega (arith, ap length none)) (sym (append-nil texts) ∙ ap (λ (ps : List Pair). texts ++ flat_map pair_text ps) (sym none) ∙ is)
+kept_all count texts left pairs image none many is = search (rules, kept_texts, append-nil, none, is)

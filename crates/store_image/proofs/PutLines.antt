@@ -1,8 +1,9 @@
 -- The lines of an image's pairs, and their texts, one after another.
-use Rattle.std.proofs.Common.{◌≡◌, ◌+◌, ◌<◌, ◌++◌, ◌∷◌, [], ℕ, List, suc, None, length, take, drop, get_or, map, refl, sym, ap, ◌∙◌, add-one}
+use Rattle.std.proofs.Common.{arith}
+use Rattle.std.proofs.lemmas.Grind.{common_steps}
+use Rattle.std.proofs.Common.{◌≡◌, ◌+◌, ◌<◌, ◌++◌, ◌∷◌, [], ℕ, List, None, length, take, drop, get_or, refl, ap, ◌∙◌, add-one}
 use Rattle.std.specs.List.{flat_map, AllByRecursion}
 use Rattle.std.proofs.Math.Seq.{drop-cons}
-use Rattle.std.proofs.lemmas.List.{take_more, map-append, flat_map_more}
 use Rattle.std.proofs.lemmas.List.Elements.{All-from_recursion}
 use Rattle.mica_trace.specs.TraceGrammar.{line_text, trace_text}
 use Rattle.store_image.specs.ImageGrammar.{Pair, IsPair, pair_text, pair_at, after_pair, lengths_fault}
@@ -18,9 +19,7 @@ module _ (pairs : List Pair) (i : ℕ) (less : i < length pairs) where
   x = pair_number pairs i
 
   pub line_more : (start : List ℕ) → (start ++ trace_text (put_lines (take i pairs))) ++ (line_text (put_line x) ++ 10 ∷ []) ≡ start ++ trace_text (put_lines (take (i + 1) pairs))
-  line_more start =
-      flat_map_more (λ line. line_text line ++ 10 ∷ []) start (put_lines (take i pairs)) (put_line x)
-      ∙ ap (λ ls. start ++ trace_text ls) (sym (ap put_lines (take_more pairs i _ less) ∙ map-append put_line (take i pairs) (x ∷ [])))
+  line_more start = grind (arith, common_steps)
 
   module _ (all : AllByRecursion IsPair pairs) (rest : List ℕ) (is : rest ≡ flat_map pair_text (drop i pairs)) where
     abbrev left : List ℕ

@@ -1,7 +1,10 @@
 -- In store mode a key has a value only where a line of the trace gives it one.
-use Rattle.std.proofs.Common.{◌≡◌, ◌≢◌, ℕ, List, [], ◌∷◌, ◌++◌, Option, Some, None, Bool, true, false, cond, fold, refl, sym, ap, ◌∙◌, subst}
+use Rattle.std.proofs.Common.{arith}
+use Rattle.std.proofs.Common.{rules}
+use Rattle.std.proofs.lemmas.Grind.{common_steps}
+use Rattle.std.proofs.Common.{◌≡◌, ◌≢◌, ℕ, List, [], ◌∷◌, ◌++◌, Some, None, Bool, true, false, cond, fold, refl, sym, ap, ◌∙◌, subst}
 use Rattle.std.specs.Prelude.{◌||◌, option_map}
-use Rattle.std.specs.List.{cons_option, filter_map, list_any, AllByRecursion}
+use Rattle.std.specs.List.{cons_option, AllByRecursion}
 use Rattle.std.specs.Str.{bytes_eq}
 use Rattle.std.specs.FinMap.{get, get-empty, get-remove}
 use Rattle.std.specs.Ordering.{nat_cmp, eq_by_cmp}
@@ -9,24 +12,21 @@ use Rattle.std.specs.Cmp.Lexicographic.{slice_cmp, nat_list_cmp_total}
 use Rattle.std.proofs.lemmas.Bool.{true≢false}
 use Rattle.std.proofs.lemmas.Slice.Eq.{bytes_eq-Decides}
 use Rattle.partition_model.specs.declared.options.Options.{Options}
-use Rattle.partition_model.specs.declared.options.Mode.{Mode}
 use Rattle.partition_model.specs.declared.options.Mode.TheVariants.{Store as StoreMode}
 use Rattle.partition_model.specs.declared.write.Op.{Op}
-use Rattle.partition_model.specs.declared.write.Op.TheVariants.{Put as PutOp, Add as AddOp, Touch as TouchOp, Del as DelOp}
+use Rattle.partition_model.specs.declared.write.Op.TheVariants.{Del as DelOp}
 use Rattle.partition_model.specs.declared.write.Write.{Write}
 use Rattle.partition_model.specs.declared.write.Outcome.{Outcome}
 use Rattle.partition_model.specs.Write.{is_accepted, GivesValue, write_of}
 use Rattle.partition_model.specs.Fate.{GivesNoValue}
 use Rattle.partition_model.specs.Store as store
 use Rattle.partition_model.specs.StoreStep as ss
-use Rattle.partition_model.specs.History.{History, State, store_state, after, start, answer_of, value_in}
-use Rattle.partition_model.specs.Run.{RunStep, history_of}
+use Rattle.partition_model.specs.History.{History, store_state, after, answer_of, value_in}
+use Rattle.partition_model.specs.Run.{history_of}
 use Rattle.partition_model.proofs.StoreLaws.{others_same}
 use Rattle.mica_trace.specs.declared.line.TraceOp.{TraceOp}
-use Rattle.mica_trace.specs.declared.line.TraceOp.TheVariants.{Put, Add, Touch, Del, Get, Sync}
 use Rattle.mica_trace.specs.declared.line.TraceLine.{TraceLine}
 use Rattle.mica_trace.specs.declared.report.Line.{Line}
-use Rattle.mica_trace.specs.declared.report.Line.TheVariants.{Wrote, Hit, Miss, Sync as SyncLine}
 use Rattle.mica_trace.specs.Rounds.{is_in_partition, write_by}
 use Rattle.mica_trace.specs.LawfulReport.{step_by, steps_of}
 use Rattle.mica_trace.proofs.Standing.{history_first}
@@ -38,19 +38,11 @@ start_none key = get-empty (slice_cmp nat_cmp) key
 
 module _ (options : Options) (key : List ℕ) where
   after_del : (s : store.Store) (write : Write) → get s.cells key ≡ None → get (ss.after_op DelOp s write).cells key ≡ None
-  after_del s write none =
-      get-remove nat_list_cmp_total s.cells write.key key
-      ∙ elim (eq_by_cmp (slice_cmp nat_cmp) key write.key) as (λ b. cond b None (get s.cells key) ≡ None) [ true ↦ refl | false ↦ none ]
+  after_del s write none = grind (arith, get-remove nat_list_cmp_total s.cells write.key key, eq_by_cmp (slice_cmp nat_cmp) key write.key, none)
 
   still_none : (s : store.Store) (write : Write) → GivesNoValue key write → get s.cells key ≡ None → get (ss.after s write).cells key ≡ None
   unfolding ss.after
-  still_none s write leaves none = by write.op refl
-    where
-      by : (op : Op) → write.op ≡ op → get (ss.after s write).cells key ≡ None
-      by PutOp is = others_same s write key (λ same. leaves (subst (λ (o : Op). GivesValue o) (sym is) tt) (sym same)) ∙ none
-      by AddOp is = others_same s write key (λ same. leaves (subst (λ (o : Op). GivesValue o) (sym is) tt) (sym same)) ∙ none
-      by TouchOp is = ap (λ (o : Op). get (ss.after_op o s write).cells key) is ∙ none
-      by DelOp is = ap (λ (o : Op). get (ss.after_op o s write).cells key) is ∙ after_del s write none
+  still_none s write leaves none = search (rules, others_same, none, get, after_del, leaves, GivesValue)
 
   none_from : (s : store.Store) (history : History) → AllByRecursion (GivesNoValue key) history → get s.cells key ≡ None → value_in (fold (after options) (store_state s) history) key ≡ None
   none_from s [] all none = ap (option_map (λ cell. cell.value)) none
@@ -58,8 +50,7 @@ module _ (options : Options) (key : List ℕ) where
 
   -- a history that gives a key no value leaves none
   pub none_left : options.mode ≡ StoreMode → (history : History) → AllByRecursion (GivesNoValue key) history → answer_of options history key ≡ None
-  none_left mode history all =
-      subst (λ (m : Mode). value_in (fold (after options) (start m) history) key ≡ None) (sym mode) (none_from store.start history all (start_none key))
+  none_left mode history all = search (rules, mode, none_from, start_none)
 
   -- lines that put no such key leave no such write
 
@@ -70,18 +61,10 @@ module _ (options : Options) (key : List ℕ) where
     -- one write more, if it was accepted
     one_more : (does : Op) (outcome : Outcome) → GivesNoValue key (write_of does k v)
         → AllByRecursion (GivesNoValue key) (cons_option (cond (is_accepted outcome) (Some (write_of does k v)) None) [] ++ h)
-    one_more does outcome none =
-        elim (is_accepted outcome) as (λ b. AllByRecursion (GivesNoValue key) (cons_option (cond b (Some (write_of does k v)) None) [] ++ h)) [
-          | true ↦ (none, all)
-          | false ↦ all
-        ]
+    one_more does outcome none = grind (arith, common_steps)
 
     leaves : (op : TraceOp) (r : Line) → (key_by op k ≢ Some key) → AllByRecursion (GivesNoValue key) (history_of (cons_option (step_by (write_by op k v) r) []) ++ h)
-    leaves Put (Wrote op outcome s) not = one_more PutOp outcome (λ gives same. not (ap Some same))
-    leaves Add (Wrote op outcome s) not = one_more AddOp outcome (λ gives same. not (ap Some same))
-    leaves Touch (Wrote op outcome s) not = one_more TouchOp outcome (λ gives. absurd gives)
-    leaves Del (Wrote op outcome s) not = one_more DelOp outcome (λ gives. absurd gives)
-    leaves op r not = all
+    leaves op r not = grind (arith, common_steps)
 
   pub none_written : (p : ℕ) (lines : List TraceLine) (report : List Line) → AllByRecursion PutsNot lines → AllByRecursion (GivesNoValue key) (history_of (steps_of options p lines report))
   none_written p [] report all = tt

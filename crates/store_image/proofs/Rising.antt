@@ -1,9 +1,10 @@
 -- Keys that rise, one after another.
-use Rattle.std.proofs.Common.{◌≡◌, ◌≤◌, ◌<◌, List, [], ◌∷◌, ℕ, length, map, true, refl, ap, arith}
+use Rattle.std.proofs.lemmas.Grind.{common_steps}
+use Rattle.std.proofs.Common.{◌≡◌, List, [], ◌∷◌, ℕ, map, true, ap, arith}
 use Rattle.std.specs.List.{AllByRecursion}
 use Rattle.std.specs.List.Sorted.{IsStrictlySortedBy}
 use Rattle.std.specs.declared.cmp.Ordering.{Ordering}
-use Rattle.std.specs.declared.cmp.Ordering.TheVariants.{Less, Equal, Greater}
+use Rattle.std.specs.declared.cmp.Ordering.TheVariants.{Less}
 use Rattle.std.specs.Ordering.{nat_cmp, is_lt}
 use Rattle.std.specs.Cmp.Lexicographic.{slice_cmp, nat_list_cmp_total}
 use Rattle.store_image.specs.ImageGrammar.{Pair, key_of, IsPair, KeysRise, is_above}
@@ -15,9 +16,7 @@ abbrev pub AreAbove : List ℕ → List (List ℕ) → Type 0
 AreAbove key keys = AllByRecursion (λ k. cmp key k ≡ Less) keys
 
 less : (o : Ordering) → is_lt o ≡ true → o ≡ Less
-less Less e = refl
-less Equal e = absurd (cc)
-less Greater e = absurd (cc)
+less o e = grind (arith, common_steps)
 
 pub above_more : (a b : List ℕ) (keys : List (List ℕ)) → cmp a b ≡ Less → AreAbove b keys → AreAbove a keys
 above_more a b [] less all = tt
@@ -31,8 +30,7 @@ RiseAfter last (pair ∷ pairs) = (is_above last pair.key ≡ true) × RiseAfter
 all_above : (last : List ℕ) (pairs : List Pair) → RiseAfter last pairs → AreAbove last (map key_of pairs)
 all_above last [] rise = tt
 all_above last (x ∷ pairs) rise =
-    let next = less (cmp last x.key) rise.0 in
-    (next, above_more last x.key (map key_of pairs) next (all_above x.key pairs rise.1))
+    grind (arith, less (cmp last x.key) rise.0, (less (cmp last x.key) rise.0), above_more last x.key (map key_of pairs) (less (cmp last x.key) rise.0) (all_above x.key pairs rise.1))
 
 pub keys_rise : (last : List ℕ) (pairs : List Pair) → RiseAfter last pairs → KeysRise pairs
 unfolding IsStrictlySortedBy
@@ -47,8 +45,4 @@ rise_after last (x ∷ pairs) above rise = (ap is_lt above.0, rise_after x.key p
 -- no key is empty
 pub above_none : (pairs : List Pair) → AllByRecursion IsPair pairs → AreAbove [] (map key_of pairs)
 above_none [] all = tt
-above_none (x ∷ pairs) all = (some x.key all.0.0.0.0, above_none pairs all.1)
-  where
-    some : (key : List ℕ) → 0 < length key → cmp [] key ≡ Less
-    some [] long = absurd (omega arith)
-    some (b ∷ key) long = refl
+above_none (x ∷ pairs) all = grind (arith, above_none pairs all.1)

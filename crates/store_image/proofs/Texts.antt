@@ -1,5 +1,7 @@
 -- The characters of keys and values.
-use Rattle.std.proofs.Common.{◌≡◌, ℕ, ◌≤◌, Bool, true, false, true≢false, leb, not, Option, None, List, [], ◌∷◌, refl, sym, ap, ◌∙◌}
+use Rattle.std.proofs.Common.{arith}
+use Rattle.std.proofs.lemmas.Grind.{common_steps}
+use Rattle.std.proofs.Common.{◌≡◌, ℕ, ◌≤◌, Bool, true, false, leb, not, Option, None, List, [], ◌∷◌, refl, sym, ap, ◌∙◌}
 use Rattle.std.specs.Prelude.{◌&&◌, ◌↔◌, IsTrue}
 use Rattle.std.specs.List.{AllByRecursion}
 use Rattle.std.proofs.lemmas.Bool.{le-leb, leb-true}
@@ -10,8 +12,7 @@ use Rattle.store_image.specs.declared.fault.ImageFault.TheVariants.{Text, Order}
 use Rattle.store_image.specs.ImageGrammar.{Pair, pair_at, are_between, is_above, first_of, or_later, lengths_fault, texts_fault, pair_fault}
 
 pub both : (a b : Bool) → (a && b) ≡ true → (a ≡ true) × (b ≡ true)
-both true b e = (refl, e)
-both false b e = absurd (true≢false (sym e))
+both a b e = grind (arith, common_steps)
 
 pub between_all : (least most : ℕ) (text : List ℕ) → are_between least most text ≡ true → AllByRecursion (λ b. (least ≤ b) × (b ≤ most)) text
 between_all least most [] e = tt
@@ -23,9 +24,7 @@ between_all least most (b ∷ text) e =
 all_between : (least most : ℕ) (text : List ℕ) → AllByRecursion (λ b. (least ≤ b) × (b ≤ most)) text → are_between least most text ≡ true
 all_between least most [] all = refl
 all_between least most (b ∷ text) all =
-    let low : leb least b ≡ true = le-leb _ _ all.0.0 in
-    let high : leb b most ≡ true = le-leb _ _ all.0.1 in
-    rw (low, high) (all_between least most text all.1)
+    grind (arith, le-leb _ _ all.0.0, le-leb _ _ all.0.1, (le-leb _ _ all.0.0), (le-leb _ _ all.0.1), all_between least most text all.1)
 
 pub good_texts : (key value : List ℕ) → IsKey key × IsValue value → (are_between 33 126 key && are_between 32 126 value) ≡ true
 good_texts key value is = rw (all_between 33 126 key is.0.1, all_between 32 126 value is.1.1) refl

@@ -1,6 +1,9 @@
 -- The lines of an image, replayed from nothing, leave the image where none of them is refused.
-use Rattle.std.proofs.Common.{◌≡◌, ◌≢◌, ℕ, List, [], ◌∷◌, ◌++◌, Option, Some, None, Bool, true, false, cond, fold, map, refl, sym, ap, ◌∙◌, subst, eq-eqb}
-use Rattle.std.specs.Prelude.{option_map, ◌==◌}
+use Rattle.std.proofs.Common.{arith}
+use Rattle.std.proofs.Common.{rules}
+use Rattle.std.proofs.lemmas.Grind.{common_steps}
+use Rattle.std.proofs.Common.{◌≡◌, ◌≢◌, ℕ, List, [], ◌∷◌, Option, Some, None, Bool, true, false, cond, fold, map, refl, sym, ap, ◌∙◌, subst, eq-eqb}
+use Rattle.std.specs.Prelude.{option_map}
 use Rattle.std.specs.List.{cons_option, AllByRecursion, AllZip}
 use Rattle.std.specs.List.Sorted.{IsStrictlySortedBy}
 use Rattle.std.specs.Str.{bytes_eq}
@@ -9,11 +12,10 @@ use Rattle.std.specs.declared.cmp.Ordering.{Ordering}
 use Rattle.std.specs.declared.cmp.Ordering.TheVariants.{Less, Equal, Greater}
 use Rattle.std.specs.Ordering.{nat_cmp, ordering_reverse, is_eq}
 use Rattle.std.specs.Cmp.Lexicographic.{slice_cmp, nat_list_cmp_total}
-use Rattle.std.proofs.lemmas.Bool.{true≢false, eqb-true}
+use Rattle.std.proofs.lemmas.Bool.{true≢false}
 use Rattle.std.proofs.lemmas.Slice.Eq.{bytes_eq-Decides}
 use Rattle.mica_words.specs.Hash.{partition_of}
 use Rattle.partition_model.specs.declared.options.Options.{Options}
-use Rattle.partition_model.specs.declared.options.Mode.{Mode}
 use Rattle.partition_model.specs.declared.options.Mode.TheVariants.{Store as StoreMode}
 use Rattle.partition_model.specs.declared.write.Op.{Op}
 use Rattle.partition_model.specs.declared.write.Op.TheVariants.{Put as PutOp}
@@ -22,19 +24,18 @@ use Rattle.partition_model.specs.declared.write.Write.{Write}
 use Rattle.partition_model.specs.Write.{is_accepted, write_of, size_of}
 use Rattle.partition_model.specs.Store as store
 use Rattle.partition_model.specs.StoreStep as ss
-use Rattle.partition_model.specs.History.{History, State, store_state, after, start, answer_of, value_in as value_by}
+use Rattle.partition_model.specs.History.{History, store_state, after, value_in as value_by}
 use Rattle.partition_model.specs.Run.{RunStep, history_of}
 use Rattle.partition_model.proofs.StoreLaws.{others_same}
-use Rattle.mica_trace.specs.declared.line.TraceLine.{TraceLine}
 use Rattle.mica_trace.specs.declared.report.Line.{Line}
 use Rattle.mica_trace.specs.declared.report.Line.TheVariants.{Wrote, Hit, Miss, Sync as SyncLine}
 use Rattle.mica_trace.specs.Rounds.{is_in_partition}
-use Rattle.mica_trace.specs.LawfulReport.{IsLineFor, steps_of, step_by}
+use Rattle.mica_trace.specs.LawfulReport.{IsLineFor, steps_of}
 use Rattle.mica_trace.specs.ExactReport.{ExactReport}
 use Rattle.store_image.specs.ImageGrammar.{Pair, key_of, KeysRise, IsImage}
 use Rattle.store_image.specs.ImageLines.{put_line, put_lines}
 use Rattle.store_image.specs.ImageOf.{value_in, value_after, HasPairsOf}
-use Rattle.store_image.specs.Unpacked.{IsAccepted, RefusesNothing}
+use Rattle.store_image.specs.Unpacked.{RefusesNothing}
 use Rattle.store_image.proofs.PutOnly.{start_none}
 
 abbrev cmp : List ℕ → List ℕ → Ordering
@@ -46,10 +47,7 @@ own : (key : List ℕ) → bytes_eq key key ≡ true
 own key = (bytes_eq-Decides key key).1 refl
 
 differs : (a b : List ℕ) → a ≢ b → bytes_eq a b ≡ false
-differs a b other = elim (bytes_eq a b) as (λ t. bytes_eq a b ≡ t → t ≡ false) [
-  | true ↦ λ e. absurd (other ((bytes_eq-Decides a b).0 e))
-  | false ↦ λ e. refl
-] refl
+differs a b other = search (rules, bytes_eq, other, bytes_eq-Decides)
 
 less_differs : (a b : List ℕ) → cmp a b ≡ Less → b ≢ a
 less_differs a b less same = no (cmp a a) (ap (cmp a) (sym same) ∙ less) (nat_list_cmp_total.antisymm a a)
@@ -62,8 +60,7 @@ less_differs a b less same = no (cmp a a) (ap (cmp a) (sym same) ∙ less) (nat_
 -- a key below all others has no value
 below_none : (key : List ℕ) (pairs : List Pair) → AllByRecursion (λ z. cmp key z ≡ Less) (map key_of pairs) → value_in pairs key ≡ None
 below_none key [] all = refl
-below_none key (x ∷ pairs) all =
-    ap (λ b. cond b (Some x.value) (value_in pairs key)) (differs x.key key (less_differs key x.key all.0)) ∙ below_none key pairs all.1
+below_none key (x ∷ pairs) all = grind (arith, cond, differs x.key key (less_differs key x.key all.0), below_none key pairs all.1)
 
 below_more : (a b : List ℕ) (keys : List (List ℕ)) → cmp a b ≡ Less → AllByRecursion (λ z. cmp b z ≡ Less) keys → AllByRecursion (λ z. cmp a z ≡ Less) keys
 below_more a b [] less all = tt
@@ -88,21 +85,7 @@ same_first : (x y : Pair) (xs ys : List Pair) → KeysRise (x ∷ xs) → KeysRi
     → (((key : List ℕ) → value_in xs key ≡ value_in ys key) → xs ≡ ys) → x ∷ xs ≡ y ∷ ys
 unfolding IsStrictlySortedBy
 same_first x y xs ys p q same is rest =
-    let value : Some x.value ≡ Some y.value = sym (first_value x xs) ∙ same x.key ∙ ap (value_in (y ∷ ys)) is ∙ first_value y ys in
-    let one : x.value ≡ y.value = cc in
-    let head : x ≡ y = λ i. record { key = is i; value = one i } in
-    let tails : (key : List ℕ) → value_in xs key ≡ value_in ys key = λ key.
-    elim (bytes_eq x.key key) as (λ b. bytes_eq x.key key ≡ b → value_in xs key ≡ value_in ys key) [
-      | true ↦ λ e.
-          let here : x.key ≡ key = (bytes_eq-Decides x.key key).0 e in
-          subst (λ k. value_in xs k ≡ value_in ys k) here
-          (below_none x.key xs p.0 ∙ sym (ap (value_in ys) is ∙ below_none y.key ys q.0))
-      | false ↦ λ e.
-          let not_x : x.key ≢ key = λ h. true≢false (sym ((bytes_eq-Decides x.key key).1 h) ∙ e) in
-          let not_y : y.key ≢ key = λ h. not_x (is ∙ h) in
-          sym (later_value x xs key not_x) ∙ same key ∙ later_value y ys key not_y
-    ] refl in
-    ap (λ (z : Pair). z ∷ xs) head ∙ ap (λ (zs : List Pair). y ∷ zs) (rest tails)
+    grind (arith, first_value x xs, same x.key, value_in (y ∷ ys), first_value y ys, is, bytes_eq x.key, below_none x.key xs p.0, value_in ys, below_none y.key ys q.0, true≢false, later_value x xs, same, later_value y ys)
 
 -- with the same values they are the same
 pub same_pairs : (xs ys : List Pair) → KeysRise xs → KeysRise ys → ((key : List ℕ) → value_in xs key ≡ value_in ys key) → xs ≡ ys
@@ -169,19 +152,10 @@ module _ (options : Options) (key : List ℕ) where
     mine : x.key ≡ key → value_if (is_in_partition options p (put_line x)) ≡ Some x.value
     unfolding IsStrictlySortedBy
     mine is =
-        let here : is_in_partition options p (put_line x) ≡ true = eq-eqb _ _ (ap (λ k. partition_of k options.partitions) is) in
-        let none : value_in pairs key ≡ None = subst (λ k. value_in pairs k ≡ None) is (below_none x.key pairs rise.0) in
-        let stored : value_from (ss.after s write) [] ≡ Some x.value = subst (λ k. value_by (store_state (ss.after s write)) k ≡ Some x.value) is (put_own s x.key x.value) in
-        ap value_if here ∙ with_write ∙ rest (ss.after s write) ∙ ap (λ o. or_else o (value_from (ss.after s write) [])) none ∙ stored
+        grind (arith, eq-eqb _ _ (ap (λ k. partition_of k options.partitions) is), is, below_none x.key pairs rise.0, put_own s x.key x.value, with_write, rest (ss.after s write), or_else, (subst (λ k. value_by (store_state (ss.after s write)) k ≡ Some x.value) is (put_own s x.key x.value)))
 
     other : x.key ≢ key → value_if (is_in_partition options p (put_line x)) ≡ or_else (value_in pairs key) (value_from s [])
-    other differs =
-        elim (is_in_partition options p (put_line x)) as (λ here. value_if here ≡ or_else (value_in pairs key) (value_from s [])) [
-          | true ↦
-              with_write ∙ rest (ss.after s write)
-              ∙ ap (λ o. or_else (value_in pairs key) (option_map (λ (c : store.Cell). c.value) o)) (others_same s write key (λ same. differs (sym same)))
-          | false ↦ rest s
-        ]
+    other differs = search (rules, is_in_partition, with_write, rest, or_else, others_same, put_line, value_in, option_map, differs)
 
     one_put : value_if (is_in_partition options p (put_line x)) ≡ or_else (value_in (x ∷ pairs) key) (value_from s [])
     one_put =
@@ -204,18 +178,13 @@ module _ (options : Options) (key : List ℕ) where
   puts_value s (x ∷ pairs) (SyncLine ∷ report) rise lines done = absurd done.0
 
   or_none : (o : Option (List ℕ)) → or_else o None ≡ o
-  or_none None = refl
-  or_none (Some x) = refl
+  or_none o = grind (arith, common_steps)
 
   -- from nothing it is that of the image
   value_again : options.mode ≡ StoreMode → (pairs : List Pair) (report : List Line) → KeysRise pairs → AllZip IsLineFor (put_lines pairs) report → RefusesNothing report
       → value_after options (put_lines pairs) report key ≡ value_in pairs key
-  value_again mode pairs report rise lines done =
-      subst (λ (m : Mode). value_by (fold (after options) (start m) (history_for pairs report)) key ≡ value_in pairs key) (sym mode)
-      (puts_value store.start pairs report rise lines done
-      ∙ ap (λ o. or_else (value_in pairs key) (option_map (λ (c : store.Cell). c.value) o)) (start_none key) ∙ or_none (value_in pairs key))
+  value_again mode pairs report rise lines done = search (rules, mode, puts_value, or_else, start_none, or_none, value_in, option_map)
 
 pub unpacked_again : (options : Options) (pairs : List Pair) (report : List Line) (again : List Pair) → options.mode ≡ StoreMode → IsImage pairs → IsImage again
     → ExactReport options (put_lines pairs) report → HasPairsOf options (put_lines pairs) report again → RefusesNothing report → again ≡ pairs
-unpacked_again options pairs report again mode image image' exact has done =
-    same_pairs again pairs image'.rise image.rise (λ key. has key ∙ value_again options key mode pairs report image.rise exact.lines done)
+unpacked_again options pairs report again mode image image' exact has done = search (rules, same_pairs, has, value_again)

@@ -1,9 +1,6 @@
 -- The first fault, as a walk over the pairs meets it.
-use Rattle.std.proofs.Common.{◌≡◌, ℕ, suc, ◌+◌, ◌-◌, ◌<◌, ◌≤◌, true, List, length, drop, Option, Some, None, refl, sym, ap, ◌∙◌, arith}
-use Rattle.std.specs.Prelude.{nat_lt}
-use Rattle.std.proofs.lemmas.Bool.{lt-ltb}
-use Rattle.std.proofs.lemmas.List.{drop-drop}
-use Rattle.store_image.specs.declared.fault.ImageFault.{ImageFault}
+use Rattle.std.proofs.lemmas.Grind.{common_steps}
+use Rattle.std.proofs.Common.{◌≡◌, ℕ, suc, ◌+◌, ◌-◌, ◌<◌, ◌≤◌, List, length, drop, Some, None, refl, arith}
 use Rattle.store_image.specs.declared.fault.ImageFault.TheVariants.{Trailing}
 use Rattle.store_image.specs.ImageGrammar.{or_later, pair_fault, pairs_fault, key_at, after_pair}
 
@@ -16,10 +13,7 @@ module _ (last : List ℕ) (count i : ℕ) (rest : List ℕ) where
   -- after the last pair more bytes are a fault
   pub trails : count ≤ i → ¬ (length rest ≡ 0) → pairs_fault last (count - i) rest ≡ Some Trailing
   unfolding pairs_fault
-  trails end some =
-      let none : count - i ≡ 0 = omega arith in
-      let test : nat_lt 0 (length rest) ≡ true = lt-ltb 0 (length rest) (omega arith) in
-      rw (none, test) refl
+  trails end some = grind (arith, common_steps)
 
   pub is_done : count ≤ i → length rest ≡ 0 → pairs_fault last (count - i) rest ≡ None
   unfolding pairs_fault
@@ -27,6 +21,4 @@ module _ (last : List ℕ) (count i : ℕ) (rest : List ℕ) where
 
 -- what is left after a fixed part, a key and a value
 pub after_two : (fixed : ℕ) (from : List ℕ) (key value size : ℕ) (after_key rest : List ℕ) → size ≡ fixed + key + value → after_key ≡ drop key (drop fixed from) → rest ≡ drop value after_key → drop size from ≡ rest
-after_two fixed from key value size after_key rest is one two =
-    let total : fixed + (key + value) ≡ size = omega arith in
-    sym (two ∙ ap (drop value) one ∙ drop-drop value key (drop fixed from) ∙ drop-drop (key + value) fixed from ∙ ap (λ (n : ℕ). drop n from) total)
+after_two fixed from key value size after_key rest is one two = grind (arith, common_steps)

@@ -1,10 +1,10 @@
-use Rattle.std.proofs.Common.{◌<◌, ◌^◌, List, ℕ, Bor, length, map, sym, ap, ◌∙◌, subst, arith}
+use Rattle.std.proofs.Common.{rules}
+use Rattle.std.proofs.Common.{◌<◌, ◌^◌, List, ℕ, Bor, length, map, sym, ◌∙◌, subst, arith}
 use Rattle.std.specs.List.{AllByRecursion}
 use Rattle.std.proofs.lemmas.List.{length-map}
 use Rattle.mica_trace.specs.declared.line.TraceLine.{TraceLine}
 use Rattle.mica_trace.specs.TraceGrammar.{IsKey, IsTraceLine}
 use Rattle.epoch_core.specs.Seats.{diary_of}
-use Rattle.store_image.specs.ImageGrammar.{Pair}
 use Rattle.store_image.specs.PutKeys.{put_keys, has_key, pairs_by}
 use Rattle.store_image.specs.Answers.{value_at}
 use Rattle.store_image.specs.ImageOf.{HasPairsOf}
@@ -16,12 +16,7 @@ abbrev now : Bor (List ℕ) → List ℕ
 now k = k.now
 
 pub image_of_keys-requires-clause-keys : goal.image_of_keys-requires-clause-keys
-image_of_keys-requires-clause-keys c =
-    let lines = c.lines-lines.result.now in
-    let keys = c.in_ok-keys.keys.items in
-    let all = subst (λ (ls : List TraceLine). AllByRecursion IsTraceLine ls) (sym c.lines-lines.ensures.same) c.lines-lines.ensures.lines in
-    let are = all_among IsKey (map now keys) (put_keys lines) (λ key has. sym (c.in_ok-keys.ensures.all key) ∙ has) (put_keys_are lines all) in
-    subst (λ (ks : List (Bor (List ℕ))). AllByRecursion IsKey (map now ks)) (sym c.as_slice.ensures.value) are
+image_of_keys-requires-clause-keys c = search (rules, AllByRecursion, all_among, map, put_keys, put_keys_are)
 
 pub image_of_keys-requires-clause-image : goal.image_of_keys-requires-clause-image
 image_of_keys-requires-clause-image c =
@@ -35,15 +30,4 @@ image_of_keys-requires-clause-image c =
     rw c.as_slice.ensures.value (left_image options c.requires.valid c.args.trace.now c.in_ok-report.report owners c.in_ok-report.ensures c.lines-lines.ensures.lines (map now keys) are c.in_ok-keys.ensures.rise few)
 
 pub returns : goal.returns
-returns c =
-    let options = c.args.options.now in
-    let trace = c.args.trace.now in
-    let keys = c.in_ok-keys.keys.items in
-    let owners = map (λ p. (diary_of p.words).owner) c.reply_to_all.new.parts.items in
-    let is = c.in_ok-image.ensures ∙ ap (λ (ks : List (Bor (List ℕ))). pairs_by (value_at owners options.partitions) (map now ks)) c.as_slice.ensures.value in
-    let same = λ (key : List ℕ). c.in_ok-keys.ensures.all key ∙ ap (λ (ls : List TraceLine). has_key (put_keys ls) key) c.lines-lines.ensures.same in
-    record {
-      exact = c.in_ok-report.ensures.exact;
-      pairs = subst (λ (ps : List Pair). HasPairsOf options trace c.in_ok-report.report ps) (sym is)
-          (left_pairs options c.requires.valid trace c.in_ok-report.report owners c.in_ok-report.ensures c.requires.mode (map now keys) same);
-    }
+returns c = search (rules, map, pairs_by, has_key, HasPairsOf, left_pairs, diary_of, value_at, put_keys)

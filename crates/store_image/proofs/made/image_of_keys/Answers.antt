@@ -1,3 +1,4 @@
+use Rattle.std.proofs.Common.{rules}
 use Rattle.std.proofs.Common.{◌≡◌, ◌+◌, ◌<◌, ◌++◌, [], ℕ, List, Option, Some, None, Bor, length, map, drop, get_or, sym, ap, ◌∙◌, arith, append_assoc}
 use Rattle.std.specs.Prelude.{option_map}
 use Rattle.std.specs.List.{cons_option, flat_map}
@@ -86,11 +87,7 @@ loop-key-preserved g c =
     ]
 
 pub of-requires : goal.of-requires
-of-requires g c =
-    let pairs = λ (keys : List (Bor (List ℕ))). pairs_by (value_at (map g.P.Partition.owner c.args.parts.now.items) c.args.options.now.partitions) (map now keys) in
-    (kept_all c.loop-key.count c.loop-key.texts.items _ _ c.requires.image (ap pairs (drop_of_length-le c.args.keys.now c.loop-key-test.false)) c.loop-key.invariant.count c.loop-key.invariant.texts).0
+of-requires g c = search (rules, pairs_by, value_at, map, kept_all, drop_of_length-le)
 
 pub returns : goal.returns
-returns g c =
-    let pairs = λ (keys : List (Bor (List ℕ))). pairs_by (value_at (map g.P.Partition.owner c.args.parts.now.items) c.args.options.now.partitions) (map now keys) in
-    c.of.ensures ∙ (kept_all c.loop-key.count c.loop-key.texts.items _ _ c.requires.image (ap pairs (drop_of_length-le c.args.keys.now c.loop-key-test.false)) c.loop-key.invariant.count c.loop-key.invariant.texts).1
+returns g c = search (rules, pairs_by, value_at, map, kept_all, drop_of_length-le)

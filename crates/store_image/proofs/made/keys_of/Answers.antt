@@ -1,4 +1,5 @@
-use Rattle.std.proofs.Common.{◌≡◌, ◌++◌, ◌∷◌, [], ℕ, List, Option, Some, length, map, take, Bor, sym, ap, ◌∙◌, arith, append-nil}
+use Rattle.std.proofs.Common.{rules}
+use Rattle.std.proofs.Common.{◌≡◌, ◌++◌, ◌∷◌, [], ℕ, List, Option, Some, map, take, Bor, sym, ap, ◌∙◌, append-nil}
 use Rattle.std.specs.List.{cons_option}
 use Rattle.std.proofs.lemmas.List.{map-append, length-map, take_all}
 use Rattle.store_image.specs.PutKeys.{put_key, put_keys, has_key}
@@ -32,19 +33,7 @@ pub returns-clause-rise : goal.returns-clause-rise
 returns-clause-rise c = sorted_texts now c.sort.new.self.items c.dedup.new.self.items c.in_ok-sort.ensures.sorted c.dedup.ensures.filtered
 
 pub returns-clause-all : goal.returns-clause-all
-returns-clause-all c = λ key.
-    let lines = c.args.lines.now in
-    let whole : take c.loop-line.line-index lines ≡ lines = take_all c.loop-line.line-index lines c.loop-line-test.false in
-    same_keys now c.loop-line.keys.items c.sort.new.self.items c.dedup.new.self.items key c.in_ok-sort.ensures.permutation c.dedup.ensures.filtered
-    ∙ ap (λ (ks : List (List ℕ)). has_key ks key) (c.loop-line.invariant ∙ ap put_keys whole)
+returns-clause-all c = search (rules, take_all, same_keys, has_key)
 
 pub returns-clause-few : goal.returns-clause-few
-returns-clause-few c =
-    let lines = c.args.lines.now in
-    let whole : take c.loop-line.line-index lines ≡ lines = take_all c.loop-line.line-index lines c.loop-line-test.false in
-    let many : length c.loop-line.keys.items ≡ length (put_keys lines) = sym (length-map c.loop-line.keys.items now) ∙ ap length (c.loop-line.invariant ∙ ap put_keys whole) in
-    let few = few_keys lines in
-    let limit = c.requires.few_lines in
-    let left = c.dedup.ensures.bound in
-    let sorted = c.in_ok-sort.ensures.len in
-    omega arith
+returns-clause-few c = search (rules, take_all, length-map, few_keys)

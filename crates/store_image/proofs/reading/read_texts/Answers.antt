@@ -1,23 +1,18 @@
-use Rattle.std.proofs.Common.{◌≡◌, ◌-◌, refl, ◌∙◌, arith, rules}
+use Rattle.std.proofs.lemmas.Grind.{common_steps}
+use Rattle.std.proofs.Common.{◌∙◌, arith, rules}
 use Rattle.store_image.specs.ImageGrammar.{first_fault}
 use Rattle.store_image.proofs.Walk.{next_fault, trails, is_done}
 use Rattle.store_image.proofs.reading.read_texts.Goals as goal
 
 pub loop-init : goal.loop-init
 unfolding first_fault
-loop-init c =
-    let count = c.in_ok-count.count in
-    let all : count ≡ count - 0 = omega arith in
-    let is = c.in_ok-count.ensures in
-    rw (is.fault, is.parts.0, is.parts.1, c.as_slice-last.ensures, ← all) refl
+loop-init c = grind (arith, common_steps)
 
 pub returns-in_err-key-clause-fault : goal.returns-in_err-key-clause-fault
 returns-in_err-key-clause-fault c = c.loop.invariant ∙ next_fault _ _ _ _ c.loop-test.true ∙ rw c.in_err-key.ensures.fault (search rules)
 
 pub loop-preserved : goal.loop-preserved
-loop-preserved c =
-    let is = c.in_ok-key.ensures in
-    c.loop.invariant ∙ next_fault _ _ _ _ c.loop-test.true ∙ rw (is.fault, is.parts.0, is.parts.1) refl
+loop-preserved c = search (rules, next_fault)
 
 pub returns-then-not-is_empty-clause-fault : goal.returns-then-not-is_empty-clause-fault
 returns-then-not-is_empty-clause-fault c = c.loop.invariant ∙ trails _ _ _ _ c.loop-test.false (search rules)
