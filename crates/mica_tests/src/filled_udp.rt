@@ -147,7 +147,9 @@ fn written_image(
     )?;
     assert!(rt; image.status == Status::Done);
     fs::write(rt, FILE, image.sink.taken())?;
-    match HostFiles::new(rt).read(rt.alloc(), FILE, MAX_SOURCE_LEN) {
+    let read = HostFiles::new(rt).read(rt.alloc(), FILE, MAX_SOURCE_LEN);
+    fs::remove_file(rt, FILE)?;
+    match read {
         Ok(bytes) => Ok(bytes),
         Err(_) => panic!(rt; "the file can't be read"),
     }
