@@ -4,31 +4,28 @@ ghost use Rattle.partition_model.specs.Write.{IsWrite};
 ghost use Rattle.owner_queue.specs.Messages.{has_end, sender_of};
 ghost use Rattle.owner_queue.specs.JobEnds.{outbox, inbox};
 
-use mica_io::{Bytes, NoMemory};
-use owner_queue::{Job, JobReceiver, JobSender, Message, job_queue};
-use partition_model::{Op, Write};
+use mica_io::CowBytes;
+use owner_queue::{CowWrite, Job, JobReceiver, JobSender, Message, job_queue};
+use partition_model::Op;
 use std::alloc::Global;
 use std::sync::Wait;
 use std::thread::{Threads, join};
 
 const JOBS: u64 = 100;
 
-// Sends the jobs, with tickets from 0, and then the end. Without memory it sends fewer jobs.
-fn send_jobs<W: Wait>(rt: &W, alloc: Global, sender: JobSender, number: u32) -> JobSender
+// Sends the jobs, with tickets from 0, and then the end.
+fn send_jobs<W: Wait>(rt: &W, sender: JobSender<'static>, number: u32) -> JobSender<'static>
     requires { sender ≡ outbox sender.queue number 100 [] }
-    ensures { (result.queue ≡ sender.queue) × (result.number ≡ number) }
+    ensures { (result.queue ≡ sender.entry.queue) × (result.number ≡ number) }
 {
     let mut sender = sender;
     for ticket in 0..JOBS {
-        let Ok(write) = deletion(alloc) else {
-            break;
-        };
         sender.send(
             rt,
             Message::Job(Job {
                 sender: number,
                 ticket,
-                write,
+                write: deletion(),
             }),
         );
     }
@@ -36,15 +33,14 @@ fn send_jobs<W: Wait>(rt: &W, alloc: Global, sender: JobSender, number: u32) -> 
     sender
 }
 
-fn deletion(alloc: Global) -> Result<Write, NoMemory>
-    ensures { IfOk result IsWrite }
+fn deletion() -> CowWrite<'static>
+    ensures { IsWrite result }
 {
-    let key = Bytes::copy(alloc, b"k")?;
-    Ok(Write {
+    CowWrite {
         op: Op::Del,
-        key,
-        value: Bytes::empty(alloc),
-    })
+        key: b"k".as_slice().into(),
+        value: CowBytes::empty(),
+    }
 }
 
 // Whether the message is the next of its sender, whose next ticket is told for the message after it.
@@ -61,9 +57,9 @@ fn is_in_turn(next: &mut [u64; 2], message: &Message) -> bool
 }
 
 // Takes all messages of two senders, and tells whether all jobs came, each in its turn.
-fn take_jobs<W: Wait>(rt: &W, receiver: JobReceiver) -> (JobReceiver, bool)
+fn take_jobs<W: Wait>(rt: &W, receiver: JobReceiver<'static>) -> (JobReceiver<'static>, bool)
     requires { receiver ≡ inbox receiver.queue 2 100 [] }
-    ensures queue { result.0.queue ≡ receiver.queue }
+    ensures queue { result.0.queue ≡ receiver.entry.queue }
     ensures ended { (p : ℕ) → p < 2 → has_end p result.0.taken ≡ true }
 {
     let mut receiver = receiver;
@@ -81,10 +77,9 @@ fn take_jobs<W: Wait>(rt: &W, receiver: JobReceiver) -> (JobReceiver, bool)
 // Each end of the queue in a thread of its own, and then both senders taken in.
 fn exchange<W: Threads + Wait + Sync>(
     rt: &W,
-    alloc: Global,
-    first: JobSender,
-    second: JobSender,
-    receiver: JobReceiver,
+    first: JobSender<'static>,
+    second: JobSender<'static>,
+    receiver: JobReceiver<'static>,
 ) -> bool
     requires first { first ≡ outbox receiver.queue 0 100 [] }
     requires second { second ≡ outbox receiver.queue 1 100 [] }
@@ -92,11 +87,11 @@ fn exchange<W: Threads + Wait + Sync>(
 {
     let ((first, second), (receiver, came)) = join(
         rt,
-        || -> (JobSender, JobSender)
+        || -> (JobSender<'static>, JobSender<'static>)
             requires { (first ≡ outbox first.queue 0 100 []) × (second ≡ outbox second.queue 1 100 []) }
-            ensures { ((result.0.queue ≡ first.queue) × (result.0.number ≡ 0))
-                × (result.1.queue ≡ second.queue) × (result.1.number ≡ 1) }
-        { send_both(rt, alloc, first, second) },
+            ensures { ((result.0.queue ≡ first.entry.queue) × (result.0.number ≡ 0))
+                × (result.1.queue ≡ second.entry.queue) × (result.1.number ≡ 1) }
+        { send_both(rt, first, second) },
         || take_jobs(rt, receiver),
     );
     let mut receiver = receiver;
@@ -107,19 +102,18 @@ fn exchange<W: Threads + Wait + Sync>(
 
 fn send_both<W: Threads + Wait + Sync>(
     rt: &W,
-    alloc: Global,
-    first: JobSender,
-    second: JobSender,
-) -> (JobSender, JobSender)
+    first: JobSender<'static>,
+    second: JobSender<'static>,
+) -> (JobSender<'static>, JobSender<'static>)
     requires first { first ≡ outbox first.queue 0 100 [] }
     requires second { second ≡ outbox second.queue 1 100 [] }
-    ensures first { (result.0.queue ≡ first.queue) × (result.0.number ≡ 0) }
-    ensures second { (result.1.queue ≡ second.queue) × (result.1.number ≡ 1) }
+    ensures first { (result.0.queue ≡ first.entry.queue) × (result.0.number ≡ 0) }
+    ensures second { (result.1.queue ≡ second.entry.queue) × (result.1.number ≡ 1) }
 {
     join(
         rt,
-        || send_jobs(rt, alloc, first, 0),
-        || send_jobs(rt, alloc, second, 1),
+        || send_jobs(rt, first, 0),
+        || send_jobs(rt, second, 1),
     )
 }
 
@@ -134,7 +128,7 @@ fn is_exchanged<W: Threads + Wait + Sync>(rt: &W, alloc: Global) -> bool {
     let Some(first) = senders.list.pop() else {
         return false;
     };
-    exchange(rt, alloc, first, second, receiver)
+    exchange(rt, first, second, receiver)
 }
 
 #[test]

@@ -7,8 +7,8 @@ ghost use Rattle.mica_commands.specs.Generator.{padded, drawn_key, drawn_line, d
 use crate::draw::{Draw, OpKind, ends_round, next_draw, start};
 use crate::spelling::{put_key, put_value};
 use crate::{GenOptions, MAX_SOURCE_LEN};
-use mica_io::{Bytes, NoMemory};
-use mica_trace::{CowBytes, Trace, TraceLine, TraceOp};
+use mica_io::{Bytes, CowBytes, NoMemory};
+use mica_trace::{Trace, TraceLine, TraceOp};
 use std::alloc::Global;
 
 // The key of a number.

@@ -17,13 +17,13 @@ fn serve_job<W: Wait, P: LendPartition<Reader = ReaderSeat, Note = Note>>(
     rt: &W,
     part: &mut P,
     acks: &mut AckSender,
-    job: Job,
+    job: Job<'static>,
 )
     requires notes { (n : Note) → (P.noted n ≡ note_state n) × (P.note_home n ≡ note_home n) }
     requires write { IsWrite job.write }
     requires acks { IsAckBoxOf (P.home part.old) (P.owner part.old) acks.old }
     requires ticket { All (λ a. a.ticket < job.ticket) acks.old.list }
-    ensures { HasDone (P.home part.old) (P.home part.new) (P.owner part.old) (P.owner part.new) job acks.old acks.new }
+    ensures { HasDone (P.home part.old) (P.home part.new) (P.owner part.old) (P.owner part.new) job.entry acks.old acks.new }
 {
     let outcome = apply_write(part, &job.write);
     let ack = Ack {
@@ -40,7 +40,7 @@ fn serve_job<W: Wait, P: LendPartition<Reader = ReaderSeat, Note = Note>>(
 pub fn serve_owner<W: Wait, P: LendPartition<Reader = ReaderSeat, Note = Note>, G: Gate>(
     rt: &W,
     part: &mut P,
-    jobs: &mut JobReceiver,
+    jobs: &mut JobReceiver<'static>,
     acks: &mut Vec<AckSender>,
     gate: &G,
     worker: u32,

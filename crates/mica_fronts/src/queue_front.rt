@@ -13,8 +13,8 @@ use epoch_core::{ReaderWords, Shape, WordAt};
 use mica_io::{Bytes, NoMemory};
 use mica_words::{SLOTS, bucket_of, entry_offset, entry_tag, key_hash, partition_of, tag_of};
 use optimistic_get::{Got, ask_hashed};
-use owner_queue::{Ack, AckReceiver, Job, JobSender, Message};
-use partition_model::{Answer, ItemBuf, Op, Options, Outcome, Write};
+use owner_queue::{Ack, AckReceiver, CowWrite, Job, JobSender, Message};
+use partition_model::{Answer, ItemBuf, Op, Options, Outcome};
 use partition_table::ReaderSeat;
 use std::alloc::Global;
 use std::marker::Model;
@@ -25,7 +25,7 @@ use std::thread::Threads;
 #[derive(Drop)]
 pub struct FrontPart {
     pub seat: ReaderSeat,
-    pub jobs: JobSender,
+    pub jobs: JobSender<'static>,
     pub acks: AckReceiver,
     /// The stamp that was answered last, to a write or a get.
     pub last: u64,
@@ -87,7 +87,7 @@ impl FrontPart {
     fn write<R: Wait>(
         &mut self,
         rt: &R,
-        job: Job,
+        job: Job<'static>,
         op: Op,
         key: &[u8],
         value: &[u8],
@@ -96,7 +96,7 @@ impl FrontPart {
         requires own { job.sender ≡ self.old.jobs.number }
         requires order { MayFollow self.old.jobs.jobs self.old.jobs.sent (message.Job job) }
         requires write { job.write ≡ write_of op key.now value.now }
-        ensures { PartWrites self.old job result.0 result.1 self.new }
+        ensures { PartWrites self.old job.entry result.0 result.1 self.new }
     {
         let ticket = job.ticket;
         self.jobs.send(rt, Message::Job(job));
@@ -257,10 +257,10 @@ impl Front for QueueFront {
         key: &[u8],
         value: &[u8],
     ) -> Result<(Outcome, u64), NoMemory> {
-        let write = Write {
+        let write = CowWrite {
             op,
-            key: Bytes::copy(alloc, key)?,
-            value: Bytes::copy(alloc, value)?,
+            key: Bytes::copy(alloc, key)?.into(),
+            value: Bytes::copy(alloc, value)?.into(),
         };
         let job = Job {
             sender: self.number,

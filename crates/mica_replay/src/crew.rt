@@ -20,12 +20,12 @@ use work_desk::{Doer, Giver, Terms, end_all, make_desks};
 
 /// The desks of all owners and readers, from the side that hands work over. Contracts see what they know.
 #[derive(Drop)]
-pub struct Crew<P: Partition + Drop> {
-    pub owners: Vec<Giver<OwnerWork<P>, ()>>,
+pub struct Crew<'a, P: Partition + Drop> {
+    pub owners: Vec<Giver<OwnerWork<'a, P>, ()>>,
     pub readers: Vec<Giver<ReaderWork<ReaderSeat>, ReadTerms>>,
 }
 
-impl<P: Partition + Drop> Model for Crew<P> {
+impl<'a, P: Partition + Drop> Model for Crew<'a, P> {
     ghost use Rattle.mica_replay.specs.Crew.{Desks};
 
     ghost Value = { Desks P };
@@ -35,8 +35,8 @@ impl<P: Partition + Drop> Model for Crew<P> {
 
 /// The same desks, from the side that does the work.
 #[derive(Drop)]
-pub struct Hands<P: Partition + Drop> {
-    pub owners: Vec<Doer<OwnerWork<P>, ()>>,
+pub struct Hands<'a, P: Partition + Drop> {
+    pub owners: Vec<Doer<OwnerWork<'a, P>, ()>>,
     pub readers: Vec<Doer<ReaderWork<ReaderSeat>, ReadTerms>>,
 }
 
@@ -65,17 +65,17 @@ fn make_reader_desks<J: Terms<ReadTerms>>(
 }
 
 /// A free desk for each owner and each reader.
-pub(crate) fn make_crew<P: Partition + Drop>(
+pub(crate) fn make_crew<'a, P: Partition + Drop>(
     alloc: Global,
     options: &Options,
     trace: &Trace,
-) -> Result<(Crew<P>, Hands<P>), NoMemory>
+) -> Result<(Crew<'a, P>, Hands<'a, P>), NoMemory>
     ensures crew { IfOk result (λ r. IsCrew options.now.partitions options.now.readers trace.now options.now r.0) }
     ensures owners { IfOk result (λ r. All (λ d. d ≡ doer tt None) r.1.owners.items) }
     ensures readers { IfOk result (λ r. All (λ d. d ≡ doer (read_terms trace.now options.now) None) r.1.readers.items) }
 {
     let (reader_givers, reader_doers) = make_reader_desks::<Brand>(alloc, options, trace)?;
-    let (givers, doers) = make_desks::<Brand, (), OwnerWork<P>>(
+    let (givers, doers) = make_desks::<Brand, (), OwnerWork<'a, P>>(
         alloc,
         options.partitions as usize,
     )?;
@@ -91,7 +91,7 @@ pub(crate) fn make_crew<P: Partition + Drop>(
     ))
 }
 
-impl<P: Partition + Drop> Crew<P> {
+impl<'a, P: Partition + Drop> Crew<'a, P> {
     /// Tells all owners and readers that there is no more work.
     pub(crate) fn end(&mut self, options: &Options, trace: &Trace)
         requires { IsCrew options.now.partitions options.now.readers trace.now options.now self.old }

@@ -14,7 +14,7 @@ pub struct ReadTerms {
     pub options: Options,
 }
 
-impl<P: Partition + Drop> Work<()> for OwnerWork<P> {
+impl<'a, P: Partition + Drop> Work<()> for OwnerWork<'a, P> {
     ghost use Rattle.mica_replay.specs.Workers.{IsFedOwner, OwnerFed};
 
     ghost ready = { λ _ w. IsFedOwner w };

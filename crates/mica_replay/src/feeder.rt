@@ -9,19 +9,19 @@ use std::vec::IntoIter;
 
 /// A job, and the number of its queue.
 #[derive(Drop)]
-pub struct Feed {
+pub struct Feed<'a> {
     pub queue: u32,
-    pub job: Job,
+    pub job: Job<'a>,
 }
 
 /// One sender for each queue, and the jobs of a round in trace order.
 #[derive(Drop)]
-pub struct Feeder {
-    pub senders: Vec<JobSender>,
-    pub feeds: IntoIter<Feed, Global>,
+pub struct Feeder<'a> {
+    pub senders: Vec<JobSender<'a>>,
+    pub feeds: IntoIter<Feed<'a>, Global>,
 }
 
-impl Feeder {
+impl<'a> Feeder<'a> {
     /// Sends each job to its queue, and then an end to each queue.
     pub fn run<W: Wait>(&mut self, rt: &W)
         requires { IsReadyFeeder self.old }

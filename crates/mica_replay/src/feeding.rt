@@ -22,20 +22,20 @@ use std::alloc::Global;
 use std::sync::Wait;
 
 /// Runs the owners and the readers of a round side by side. One worker more sends the owners their jobs.
-pub(crate) fn run_fed<W: Wait, P: LendPartition<Reader = ReaderSeat, Note = Note> + Drop>(
+pub(crate) fn run_fed<'a, W: Wait, P: LendPartition<Reader = ReaderSeat, Note = Note> + Drop>(
     rt: &W,
     alloc: Global,
     trace: &Trace,
     options: &Options,
-    crew: &mut Crew<P>,
-    jobs: RoundJobs,
-    owners: &mut Vec<OwnerWork<P>>,
+    crew: &mut Crew<'a, P>,
+    jobs: RoundJobs<'a>,
+    owners: &mut Vec<OwnerWork<'a, P>>,
     readers: &mut Vec<ReaderWork<ReaderSeat>>,
 ) -> Result<(), NoMemory>
     requires queues { jobs.queues ≡ length owners.old.items }
     requires readers { All (IsReadyReader reader_state trace.now options.now) readers.old.items }
     requires crew { IsCrew (length owners.old.items) (length readers.old.items) trace.now options.now crew.old }
-    ensures owners { OnOk result (Each (λ p. HasRunWrites (writes_for p jobs.feeds)) (map (λ w. owner_part P.owner P.home w) owners.old.items)
+    ensures owners { OnOk result (Each (λ p. HasRunWrites (writes_for p jobs.entry.feeds)) (map (λ w. owner_part P.owner P.home w) owners.old.items)
         (map (λ w. owner_part P.owner P.home w) owners.new.items)) }
     ensures readers { OnOk result (ReadersRan reader_state reader_home trace.now options.now
         readers.old.items readers.new.items) }

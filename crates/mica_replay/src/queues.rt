@@ -7,13 +7,14 @@ use crate::worker::OwnerWork;
 use mica_io::NoMemory;
 use owner_queue::{JobSender, job_queue};
 use std::alloc::Global;
+use std::mem;
 
 /// Gives each owner a fresh queue for that many jobs, and room for as many replies. Gives the queues' senders, in order.
-pub(crate) fn open_queues<P: Drop>(
+pub(crate) fn open_queues<'a, P: Drop>(
     alloc: Global,
     counts: &[u32],
-    owners: &mut Vec<OwnerWork<P>>,
-) -> Result<Vec<JobSender>, NoMemory>
+    owners: &mut Vec<OwnerWork<'a, P>>,
+) -> Result<Vec<JobSender<'a>>, NoMemory>
     requires { length counts.now ≡ length owners.old.items }
     ensures { IfOk result (λ senders. HaveQueues counts.now owners.old.items owners.new.items senders.items) }
 {
@@ -26,7 +27,7 @@ pub(crate) fn open_queues<P: Drop>(
             unreachable!()
         };
         senders.push(sender)?;
-        owner.jobs = receiver;
+        let _spent = mem::replace(&mut owner.jobs, receiver);
         let done = Done::new(alloc, count)?;
         owner.done = done;
     }
@@ -34,9 +35,9 @@ pub(crate) fn open_queues<P: Drop>(
 }
 
 /// Each owner's queue takes in its sender, whose end was taken.
-pub(crate) fn take_senders_in<P: Drop>(owners: &mut Vec<OwnerWork<P>>, senders: Vec<JobSender>)
+pub(crate) fn take_senders_in<'a, P: Drop>(owners: &mut Vec<OwnerWork<'a, P>>, senders: Vec<JobSender<'a>>)
     requires { MayTakeIn owners.old.items senders.items }
-    ensures { HaveTakenIn owners.old.items owners.new.items senders.items }
+    ensures { HaveTakenIn owners.old.items owners.new.items senders.entry.items }
 {
     let mut at = 0;
     for sender in senders {

@@ -20,14 +20,14 @@ use std::alloc::Global;
 use std::sync::Wait;
 
 /// Lends each reader a seat of each partition, runs owners and readers side by side, and gives the seats back.
-pub(crate) fn run_round<W: Wait, P: LendPartition<Reader = ReaderSeat, Note = Note> + Drop>(
+pub(crate) fn run_round<'a, W: Wait, P: LendPartition<Reader = ReaderSeat, Note = Note> + Drop>(
     rt: &W,
     alloc: Global,
     trace: &Trace,
     options: &Options,
-    crew: &mut Crew<P>,
-    jobs: RoundJobs,
-    owners: &mut Vec<OwnerWork<P>>,
+    crew: &mut Crew<'a, P>,
+    jobs: RoundJobs<'a>,
+    owners: &mut Vec<OwnerWork<'a, P>>,
     readers: &mut Vec<ReaderWork<ReaderSeat>>,
 ) -> Result<(), NoMemory>
     requires ready { AreReady trace.now options.now
@@ -35,7 +35,7 @@ pub(crate) fn run_round<W: Wait, P: LendPartition<Reader = ReaderSeat, Note = No
         (map (λ r. reader_part reader_state reader_home r) readers.old.items) }
     requires queues { jobs.queues ≡ length owners.old.items }
     requires crew { IsCrew (length owners.old.items) (length readers.old.items) trace.now options.now crew.old }
-    ensures ran { OnOk result (HasRunRound trace.now options.now (λ p. writes_for p jobs.feeds)
+    ensures ran { OnOk result (HasRunRound trace.now options.now (λ p. writes_for p jobs.entry.feeds)
         (map (λ w. owner_part P.owner P.home w) owners.old.items)
         (map (λ w. owner_part P.owner P.home w) owners.new.items)
         (map (λ r. reader_part reader_state reader_home r) readers.old.items)

@@ -6,23 +6,23 @@ ghost use Rattle.mica_replay.specs.Feeds.{writes_for};
 ghost use Rattle.mica_replay.specs.LineNumbers.{write_at, IsWriteOp};
 
 use crate::feeder::Feed;
-use mica_io::{Bytes, NoMemory};
+use mica_io::NoMemory;
 use mica_trace::{TraceLine, TraceOp};
-use owner_queue::Job;
-use partition_model::{Op, Write};
+use owner_queue::{CowWrite, Job};
+use partition_model::Op;
 use std::alloc::Global;
 use std::marker::Model;
 
 /// Writes for the queues of owners, in order, as jobs: the tickets of a queue count from 0. Contracts see how many queues
 /// there are, and the jobs.
 #[derive(Drop)]
-pub(crate) struct RoundJobs {
-    pub(crate) feeds: Vec<Feed>,
+pub(crate) struct RoundJobs<'a> {
+    pub(crate) feeds: Vec<Feed<'a>>,
     /// How many jobs each queue has.
     pub(crate) counts: Vec<u32>,
 }
 
-impl Model for RoundJobs {
+impl<'a> Model for RoundJobs<'a> {
     ghost use Rattle.mica_replay.specs.RoundJobs.{Queued, queued, AreNumbered};
 
     ghost Value = { Queued };
@@ -32,7 +32,7 @@ impl Model for RoundJobs {
     ghost invariant = { λ j. AreNumbered j.feeds.items j.counts.items };
 }
 
-impl RoundJobs {
+impl<'a> RoundJobs<'a> {
     /// No jobs yet, and room for some.
     pub(crate) fn new(alloc: Global, queues: u32, room: usize) -> Result<Self, NoMemory>
         ensures queues { IfOk result (λ jobs. jobs.queues ≡ queues) }
@@ -44,12 +44,12 @@ impl RoundJobs {
     }
 
     /// Adds the job of a write, behind those of its queue.
-    pub(crate) fn push(&mut self, queue: u32, write: Write) -> Result<(), NoMemory>
+    pub(crate) fn push(&mut self, queue: u32, write: CowWrite<'a>) -> Result<(), NoMemory>
         requires queue { queue < self.old.queues }
         requires write { IsWrite write }
         requires few { length (writes_for queue self.old.feeds) + 1 < 2 ^ 32 }
         ensures queues { self.new.queues ≡ self.old.queues }
-        ensures own { OnOk result (writes_for queue self.new.feeds ≡ writes_for queue self.old.feeds ++ write ∷ []) }
+        ensures own { OnOk result (writes_for queue self.new.feeds ≡ writes_for queue self.old.feeds ++ write.entry ∷ []) }
         ensures others { OnOk result ((p : ℕ) → queue ≢ p → writes_for p self.new.feeds ≡ writes_for p self.old.feeds) }
     {
         let count = self.counts[queue as usize];
@@ -77,13 +77,14 @@ pub(crate) fn write_op(op: TraceOp) -> Op
     }
 }
 
-/// The write that a line is.
-pub(crate) fn write_of_line(alloc: Global, line: &TraceLine) -> Result<Write, NoMemory>
+/// The write that a line is, which lends its key and value.
+pub(crate) fn write_of_line<'a>(line: &'a TraceLine) -> CowWrite<'a>
     requires { IsWriteOp line.now.op }
-    ensures { IfOk result (λ write. write_at line.now ≡ Some write) }
+    ensures { write_at line.now ≡ Some result }
 {
-    let op = write_op(line.op);
-    let key = Bytes::copy(alloc, line.key.bytes())?;
-    let value = Bytes::copy(alloc, line.value.bytes())?;
-    Ok(Write { op, key, value })
+    CowWrite {
+        op: write_op(line.op),
+        key: line.key.bytes().into(),
+        value: line.value.bytes().into(),
+    }
 }

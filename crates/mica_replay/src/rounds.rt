@@ -35,16 +35,16 @@ fn next_sync(lines: &[TraceLine], from: usize) -> Option<usize>
 }
 
 // Runs one round and prints it. Gives the number of gets up to its end.
-fn run_one<W: Wait, P: LendPartition<Reader = ReaderSeat, Note = Note> + Drop>(
+fn run_one<'a, W: Wait, P: LendPartition<Reader = ReaderSeat, Note = Note> + Drop>(
     rt: &W,
     alloc: Global,
     options: &Options,
-    trace: &Trace,
-    crew: &mut Crew<P>,
+    trace: &'a Trace,
+    crew: &mut Crew<'a, P>,
     from: u32,
     to: u32,
     gets: u32,
-    owners: &mut Vec<OwnerWork<P>>,
+    owners: &mut Vec<OwnerWork<'a, P>>,
     readers: &mut Vec<ReaderWork<ReaderSeat>>,
     report: &mut Report,
 ) -> Result<u32, NoMemory>
@@ -89,13 +89,13 @@ fn run_one<W: Wait, P: LendPartition<Reader = ReaderSeat, Note = Note> + Drop>(
 }
 
 /// Runs a trace round by round, with owners as made and readers without seats.
-pub(crate) fn run_rounds<W: Wait, P: LendPartition<Reader = ReaderSeat, Note = Note> + Drop>(
+pub(crate) fn run_rounds<'a, W: Wait, P: LendPartition<Reader = ReaderSeat, Note = Note> + Drop>(
     rt: &W,
     alloc: Global,
     options: &Options,
-    trace: &Trace,
-    crew: &mut Crew<P>,
-    owners: &mut Vec<OwnerWork<P>>,
+    trace: &'a Trace,
+    crew: &mut Crew<'a, P>,
+    owners: &mut Vec<OwnerWork<'a, P>>,
     readers: &mut Vec<ReaderWork<ReaderSeat>>,
 ) -> Result<Report, NoMemory>
     requires valid { IsValid options.now }

@@ -27,7 +27,7 @@ use partition_table::{Note, OwnerSeat, ReaderSeat, Tables, zeros_for};
 use seated_partition::OnTable;
 use std::alloc::Global;
 use std::sync::Wait;
-use std::thread::{Threads, for_each_mut, join_mut};
+use std::thread::{Threads, for_each_mut, join, join_mut};
 use store_partition::StorePartition;
 use thread_rehearsal::rehearse;
 use work_desk::Doer;
@@ -65,11 +65,11 @@ fn make_parts<W: Threads + Wait + Sync, P: OnTable + Partition + Send>(
 }
 
 // One owner for each partition.
-fn make_owners<W: Threads + Wait + Sync, P: OnTable + Partition + Send>(
+fn make_owners<'a, W: Threads + Wait + Sync, P: OnTable + Partition + Send>(
     rt: &W,
     alloc: Global,
     options: &Options,
-) -> Result<Vec<OwnerWork<P>>, NoMemory>
+) -> Result<Vec<OwnerWork<'a, P>>, NoMemory>
     requires valid { IsValid options.now }
     requires mode { options.now.mode ≡ P.mode }
     requires same { (p : P) → P.state p ≡ P.owner p }
@@ -116,7 +116,7 @@ fn keep_all<P: OnTable + Partition>(owners: Vec<OwnerWork<P>>, tables: &mut Tabl
     requires same { (p : P) → P.state p ≡ P.owner p }
     requires room { length tables.old + length owners.items ≤ 16 }
     requires idle { (p : ℕ) (w : OwnerPart) → slice_get (map (λ w. owner_part P.owner P.home w) owners.items) p ≡ Some w → w.state.phase ≡ Idle }
-    ensures { tables.new ≡ tables.old ++ map kept_of (map (λ w. owner_part P.owner P.home w) owners.items) }
+    ensures { tables.new ≡ tables.old ++ map kept_of (map (λ w. owner_part P.owner P.home w) owners.entry.items) }
 {
     let mut left = owners.into_iter();
     while let Some(owner) = left.next() {
@@ -126,14 +126,15 @@ fn keep_all<P: OnTable + Partition>(owners: Vec<OwnerWork<P>>, tables: &mut Tabl
 
 // The report of a trace, by one owner for each partition and readers beside them.
 fn run_on<
+    'a,
     W: Threads + Wait + Sync,
     P: OnTable + LendPartition<Reader = ReaderSeat, Note = Note> + Send,
 >(
     rt: &W,
     alloc: Global,
     options: &Options,
-    trace: &Trace,
-    crew: &mut Crew<P>,
+    trace: &'a Trace,
+    crew: &mut Crew<'a, P>,
     tables: &mut Tables,
 ) -> Result<Report, NoMemory>
     requires valid { IsValid options.now }
@@ -152,29 +153,37 @@ fn run_on<
     Ok(report)
 }
 
-// The same. The crew is told the end, whatever came of the rounds.
+/// The rounds of a trace, with the crew that does their work.
+#[derive(Drop)]
+struct Rounds<'a, 't, P: Partition + Drop> {
+    trace: &'a Trace<'t>,
+    crew: Crew<'a, P>,
+}
+
+// The report of a trace, with the owners' seats. The crew is told the end, whatever came of the rounds.
 fn drive<
+    'a,
+    't,
     W: Threads + Wait + Sync,
     P: OnTable + LendPartition<Reader = ReaderSeat, Note = Note> + Send,
 >(
     rt: &W,
     alloc: Global,
     options: &Options,
-    trace: &Trace,
-    crew: &mut Crew<P>,
-    tables: &mut Tables,
-) -> Result<Report, NoMemory>
+    rounds: Rounds<'a, 't, P>,
+) -> (Result<Report, NoMemory>, Tables)
     requires valid { IsValid options.now }
     requires mode { options.now.mode ≡ P.mode }
     requires same { (p : P) → P.state p ≡ P.owner p }
-    requires tables { tables.old ≡ [] }
-    requires crew { IsCrew options.now.partitions options.now.readers trace.now options.now crew.old }
-    ensures ok { IfOk result (λ report. IsReplayed options.now trace.now report tables.new) }
-    ensures none { OnErr result (tables.new ≡ []) }
+    requires crew { IsCrew options.now.partitions options.now.readers rounds.trace.now options.now rounds.crew }
+    ensures ok { IfOk result.0 (λ report. IsReplayed options.now rounds.entry.trace.now report result.1) }
+    ensures none { OnErr result.0 (result.1 ≡ []) }
 {
-    let result = run_on(rt, alloc, options, trace, crew, tables);
+    let Rounds { trace, mut crew } = rounds;
+    let mut tables = Tables::new();
+    let report = run_on(rt, alloc, options, trace, &mut crew, &mut tables);
     crew.end(options, trace);
-    result
+    (report, tables)
 }
 
 // The readers, each in a thread of its own until the end.
@@ -289,11 +298,11 @@ fn work_in_store<W: Threads + Wait + Sync, G: Gate>(
     );
 }
 
-fn run_cache<W: Threads + Wait + Sync, G: Gate>(
+fn run_cache<'a, 't, W: Threads + Wait + Sync, G: Gate>(
     rt: &W,
     alloc: Global,
     options: &Options,
-    trace: &Trace,
+    trace: &'a Trace<'t>,
     gate: &G,
     tables: &mut Tables,
 ) -> Result<Report, NoMemory>
@@ -304,30 +313,31 @@ fn run_cache<W: Threads + Wait + Sync, G: Gate>(
     ensures none { OnErr result (tables.new ≡ []) }
 {
     let (crew, hands) = make_crew::<CachePartition<OwnerSeat>>(alloc, options, trace)?;
-    let mut crew = crew;
+    let rounds = Rounds { trace, crew };
     let Hands {
         mut owners,
         mut readers,
     } = hands;
-    join_mut(
+    let (_, (report, kept)) = join(
         rt,
-        &mut ||
+        ||
             requires { IsSync W.row × IsSync G.row × IsValid options.now × All (λ d. d ≡ doer tt None) owners.items
                 × All (λ d. d ≡ doer (read_terms trace.now options.now) None) readers.items }
         { work_in_cache(rt, alloc, trace, options, gate, &mut owners, &mut readers) },
-        &mut || -> Result<Report, NoMemory>
-            requires { IsSync W.row × IsValid options.now × (options.now.mode ≡ Cache) × (tables.now ≡ [])
-                × IsCrew options.now.partitions options.now.readers trace.now options.now crew }
-        { drive(rt, alloc, options, trace, &mut crew, tables) },
-    )
-    .1
+        || -> (Result<Report, NoMemory>, Tables)
+            requires { IsSync W.row × IsValid options.now × (options.now.mode ≡ Cache)
+                × IsCrew options.now.partitions options.now.readers rounds.trace.now options.now rounds.crew }
+        { drive(rt, alloc, options, rounds) },
+    );
+    *tables = kept;
+    report
 }
 
-fn run_store<W: Threads + Wait + Sync, G: Gate>(
+fn run_store<'a, 't, W: Threads + Wait + Sync, G: Gate>(
     rt: &W,
     alloc: Global,
     options: &Options,
-    trace: &Trace,
+    trace: &'a Trace<'t>,
     gate: &G,
     tables: &mut Tables,
 ) -> Result<Report, NoMemory>
@@ -338,23 +348,24 @@ fn run_store<W: Threads + Wait + Sync, G: Gate>(
     ensures none { OnErr result (tables.new ≡ []) }
 {
     let (crew, hands) = make_crew::<StorePartition<OwnerSeat>>(alloc, options, trace)?;
-    let mut crew = crew;
+    let rounds = Rounds { trace, crew };
     let Hands {
         mut owners,
         mut readers,
     } = hands;
-    join_mut(
+    let (_, (report, kept)) = join(
         rt,
-        &mut ||
+        ||
             requires { IsSync W.row × IsSync G.row × IsValid options.now × All (λ d. d ≡ doer tt None) owners.items
                 × All (λ d. d ≡ doer (read_terms trace.now options.now) None) readers.items }
         { work_in_store(rt, alloc, trace, options, gate, &mut owners, &mut readers) },
-        &mut || -> Result<Report, NoMemory>
-            requires { IsSync W.row × IsValid options.now × (options.now.mode ≡ Store) × (tables.now ≡ [])
-                × IsCrew options.now.partitions options.now.readers trace.now options.now crew }
-        { drive(rt, alloc, options, trace, &mut crew, tables) },
-    )
-    .1
+        || -> (Result<Report, NoMemory>, Tables)
+            requires { IsSync W.row × IsValid options.now × (options.now.mode ≡ Store)
+                × IsCrew options.now.partitions options.now.readers rounds.trace.now options.now rounds.crew }
+        { drive(rt, alloc, options, rounds) },
+    );
+    *tables = kept;
+    report
 }
 
 /// The report of a trace. In each round each partition has an owner and each reader seats of all partitions, all

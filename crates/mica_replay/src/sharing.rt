@@ -20,13 +20,13 @@ use std::alloc::Global;
 
 /// What of a round is shared out, beside the gets that its readers have.
 #[derive(Drop)]
-pub(crate) struct Shared {
+pub(crate) struct Shared<'a> {
     /// The number of gets up to the round's end.
     pub gets: u32,
     /// The partition of each line's write.
     pub homes: Vec<u32>,
     /// The writes, for the queues of their partitions.
-    pub jobs: RoundJobs,
+    pub jobs: RoundJobs<'a>,
 }
 
 fn clear_readers<R: ReaderWords>(readers: &mut Vec<ReaderWork<R>>)
@@ -40,15 +40,15 @@ fn clear_readers<R: ReaderWords>(readers: &mut Vec<ReaderWork<R>>)
 }
 
 /// Each line of a round goes to the worker that has it: a get to its reader, and a write to the queue of its partition.
-pub(crate) fn split_round<R: ReaderWords>(
+pub(crate) fn split_round<'a, R: ReaderWords>(
     alloc: Global,
     options: &Options,
-    trace: &Trace,
+    trace: &'a Trace,
     from: u32,
     to: u32,
     first: u32,
     readers: &mut Vec<ReaderWork<R>>,
-) -> Result<Shared, NoMemory>
+) -> Result<Shared<'a>, NoMemory>
     requires valid { IsValid options.now }
     requires bounds { (from ≤ to) × (to ≤ length trace.now) }
     requires count { first + (to - from) < 2 ^ 32 }
@@ -77,8 +77,7 @@ pub(crate) fn split_round<R: ReaderWords>(
             }
             TraceOp::Put | TraceOp::Add | TraceOp::Del | TraceOp::Touch => {
                 let partition = partition_of(key_hash(line.key.bytes()), options.partitions);
-                let write = write_of_line(alloc, line)?;
-                jobs.push(partition, write)?;
+                jobs.push(partition, write_of_line(line))?;
                 partition
             }
             TraceOp::Sync => 0,

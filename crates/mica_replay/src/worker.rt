@@ -24,14 +24,14 @@ use work_desk::{hand_all, take_all_back};
 
 /// An owner with its part of a round.
 #[derive(Drop)]
-pub struct OwnerWork<P> {
+pub struct OwnerWork<'a, P> {
     pub part: P,
     pub worker: u32,
-    pub jobs: JobReceiver,
+    pub jobs: JobReceiver<'a>,
     pub done: Done,
 }
 
-impl<P: Partition> OwnerWork<P> {
+impl<'a, P: Partition> OwnerWork<'a, P> {
     pub(crate) fn run<W: Wait, G: Gate>(&mut self, rt: &W, gate: &G)
         requires { IsFedOwner self.old }
         ensures { OwnerFed P.owner P.home self.old self.new }
@@ -85,13 +85,13 @@ impl<R: ReaderWords> ReaderWork<R> {
 
 /// Hands all readers and owners of a round to the crew, feeds the owners' queues, and takes all back. Each runs in
 /// a thread of its own. It takes no memory.
-pub(crate) fn run_all<W: Wait, P: LendPartition<Reader = ReaderSeat, Note = Note> + Drop>(
+pub(crate) fn run_all<'a, W: Wait, P: LendPartition<Reader = ReaderSeat, Note = Note> + Drop>(
     rt: &W,
     trace: &Trace,
     options: &Options,
-    crew: &mut Crew<P>,
-    feeder: &mut Feeder,
-    owners: &mut Vec<OwnerWork<P>>,
+    crew: &mut Crew<'a, P>,
+    feeder: &mut Feeder<'a>,
+    owners: &mut Vec<OwnerWork<'a, P>>,
     readers: &mut Vec<ReaderWork<ReaderSeat>>,
 )
     requires owners { All IsFedOwner owners.old.items }

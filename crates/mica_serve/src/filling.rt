@@ -9,10 +9,9 @@ ghost use Rattle.epoch_core.specs.Shape.{shape_of};
 ghost use Rattle.epoch_core.specs.OwnerStep.{IsOwnerStep};
 ghost use Rattle.mica_serve.specs.Filled.{RefusesFilling, IsFilledOwner, begun_by};
 
-use epoch_core::Partition;
+use epoch_core::{Partition, write_to};
 use mica_io::NoMemory;
 use mica_words::{key_hash, partition_of};
-use owner_queue::apply_write;
 use partition_model::{Options, Write};
 use std::alloc::{AllocError, AllocFailed};
 
@@ -65,7 +64,7 @@ fn fill_one<P: Partition>(part: &mut P, options: &Options, number: u32, write: &
     if partition_of(key_hash(write.key.bytes()), options.partitions) != number {
         return true;
     }
-    apply_write(part, write).is_accepted()
+    write_to(part, write.op, write.key.bytes(), write.value.bytes()).is_accepted()
 }
 
 /// Does those of the writes in the partition that are to its keys, up to the first that is refused.

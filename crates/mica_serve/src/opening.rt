@@ -22,8 +22,8 @@ use std::alloc::Global;
 
 impl<P: LendPartition<Reader = ReaderSeat, Note = Note>> OwnerTask<P> {
     // Lends one more front a part: a seat, its sender to the owner, and an end of a queue of answers from there.
-    fn lend(&mut self, alloc: Global, sender: JobSender) -> Result<FrontPart, NoMemory>
-        ensures { IfOk result (LendsPart sender (owner_end P.owner P.home self.old) (owner_end P.owner P.home self.new)) }
+    fn lend(&mut self, alloc: Global, sender: JobSender<'static>) -> Result<FrontPart, NoMemory>
+        ensures { IfOk result (LendsPart sender.entry (owner_end P.owner P.home self.old) (owner_end P.owner P.home self.new)) }
     {
         let seat = self.part.lend()?;
         let (answers, answered) = ack_queue(alloc, &seat)?;
@@ -41,7 +41,7 @@ impl<P: LendPartition<Reader = ReaderSeat, Note = Note>> OwnerTask<P> {
 fn lend_all<P: LendPartition<Reader = ReaderSeat, Note = Note>>(
     alloc: Global,
     owner: &mut OwnerTask<P>,
-    senders: Vec<JobSender>,
+    senders: Vec<JobSender<'static>>,
     hands: &mut Vec<Vec<FrontPart>>,
 ) -> Result<(), NoMemory>
     requires none { owner.old.acks.items ≡ [] }

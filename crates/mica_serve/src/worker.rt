@@ -21,7 +21,7 @@ use std::thread::{Threads, for_each_mut, join_mut};
 pub struct OwnerTask<P> {
     pub part: P,
     pub worker: u32,
-    pub jobs: JobReceiver,
+    pub jobs: JobReceiver<'static>,
     pub acks: Vec<AckSender>,
 }
 

@@ -2,7 +2,6 @@
 #![tactic(auto)]
 
 mod append;
-mod cow_bytes;
 mod laws;
 mod limits;
 mod line;
@@ -15,7 +14,6 @@ mod trace;
 mod trace_text;
 
 pub use append::append_line;
-pub use cow_bytes::CowBytes;
 pub use laws::{exact_is_lawful, lawful_is_report, one_exact_report, one_fault, one_reading};
 pub use limits::{MAX_LINE_LEN, MAX_LINES, MAX_ROUNDS};
 pub use line::{TraceFault, TraceLine, TraceOp};

@@ -5,7 +5,8 @@ ghost use Rattle.mica_trace.specs.declared.line.TraceLine.{TraceLine};
 ghost use Rattle.mica_trace.specs.TraceGrammar.{IsKey, IsValue, IsTextOf, IsTrace, IsNoTrace, IsFaultOf, Refuses, HasLineRoom};
 
 use crate::split::{after_word, first_line, split_at_byte};
-use crate::{CowBytes, MAX_LINE_LEN, MAX_LINES, MAX_ROUNDS, Trace, TraceFault, TraceLine, TraceOp};
+use crate::{MAX_LINE_LEN, MAX_LINES, MAX_ROUNDS, Trace, TraceFault, TraceLine, TraceOp};
+use mica_io::CowBytes;
 use mica_words::{key_fits, value_fits};
 use std::alloc::Global;
 

@@ -2,7 +2,8 @@
 ghost use Rattle.owner_queue.specs.Acked.{IsAcked};
 ghost use Rattle.partition_table.specs.Seats.{note_state};
 
-use partition_model::{Outcome, Write};
+use crate::cow_write::CowWrite;
+use partition_model::Outcome;
 use partition_table::Note;
 use ruled_queue::{Queued, Terms};
 use std::marker::Brand;
@@ -11,7 +12,7 @@ use std::marker::Brand;
 #[derive(Drop)]
 pub struct Ack {
     pub ticket: u64,
-    pub write: Write,
+    pub write: CowWrite<'static>,
     pub outcome: Outcome,
     pub stamp: u64,
     pub note: Note,

@@ -3,11 +3,12 @@ ghost use Rattle.std.specs.Prelude.{◌≡◌};
 ghost use Rattle.partition_model.specs.Write.{IsWrite};
 ghost use Rattle.epoch_core.specs.OwnerStep.{IsOwnerStep};
 
+use crate::cow_write::CowWrite;
 use epoch_core::{Partition, write_to};
-use partition_model::{Outcome, Write};
+use partition_model::Outcome;
 
 /// Does the write in the partition.
-pub fn apply_write<P: Partition>(part: &mut P, write: &Write) -> Outcome
+pub fn apply_write<P: Partition>(part: &mut P, write: &CowWrite) -> Outcome
     requires { IsWrite write.now }
     ensures step { IsOwnerStep (P.owner part.old) (P.owner part.new) write.now result }
     ensures home { P.home part.new ≡ P.home part.old }

@@ -3,7 +3,7 @@ ghost use Rattle.std.specs.Prelude.{◌≡◌, ◌<◌, ◌≤◌, ◌*◌, ℕ,
 ghost use Rattle.owner_queue.specs.Messages.{sender_of, sent_by, has_end, MayFollow};
 ghost use Rattle.owner_queue.specs.JobEnds.{outbox, inbox};
 
-use crate::message::Message;
+use crate::message::{JobTerms, Message, MostJobs};
 use crossbeam_channel::{Pass, RuledReceiver, RuledSender, bounded_with};
 use mica_io::NoMemory;
 use ruled_queue::{CAPACITY, InOrder, Knows, NewSender, TakenIn, Terms, Whole, put, take};
@@ -13,12 +13,12 @@ use std::sync::Wait;
 
 /// One sender of a queue. Contracts see its queue, its number, how many jobs it may send and what it sent.
 #[derive(Drop)]
-pub struct JobSender {
-    end: RuledSender<Message, Knows<Message, u64>, InOrder>,
-    pass: Pass<Message, Knows<Message, u64>>,
+pub struct JobSender<'a> {
+    end: RuledSender<Message<'a>, Knows<Message<'a>, u64>, InOrder>,
+    pass: Pass<Message<'a>, Knows<Message<'a>, u64>>,
 }
 
-impl Model for JobSender {
+impl<'a> Model for JobSender<'a> {
     ghost use Rattle.std.specs.Prelude.{◌≡◌};
     ghost use Rattle.crossbeam_channel.specs.Claims.{IsSeatAt};
     ghost use Rattle.crossbeam_channel.specs.Ends.{sends_on, ruled_capacity};
@@ -35,12 +35,12 @@ impl Model for JobSender {
         × (ruled_capacity (sends_on s.end) ≡ capacity) };
 }
 
-impl JobSender {
+impl<'a> JobSender<'a> {
     /// Waits until the message is in the queue.
-    pub fn send<R: Wait>(&mut self, rt: &R, message: Message)
+    pub fn send<R: Wait>(&mut self, rt: &R, message: Message<'a>)
         requires own { sender_of message ≡ self.old.number }
         requires order { MayFollow self.old.jobs self.old.sent message }
-        ensures { self.new ≡ outbox self.old.queue self.old.number self.old.jobs (self.old.sent ++ message ∷ []) }
+        ensures { self.new ≡ outbox self.old.queue self.old.number self.old.jobs (self.old.sent ++ message.entry ∷ []) }
     {
         put(rt, 0, &self.end, &mut self.pass, message);
     }
@@ -48,22 +48,22 @@ impl JobSender {
 
 /// The senders of a queue. Contracts see the list.
 #[derive(Drop)]
-pub struct JobSenders {
-    pub list: Vec<JobSender>,
+pub struct JobSenders<'a> {
+    pub list: Vec<JobSender<'a>>,
 }
 
 /// The one receiver of a queue. Contracts see its queue, how many senders it was made with, how many jobs each
 /// may send, and the messages that were taken, in order.
 #[derive(Drop)]
-pub struct JobReceiver {
-    end: RuledReceiver<Message, Knows<Message, u64>, InOrder>,
-    pass: Pass<Message, Knows<Message, u64>>,
+pub struct JobReceiver<'a> {
+    end: RuledReceiver<Message<'a>, Knows<Message<'a>, u64>, InOrder>,
+    pass: Pass<Message<'a>, Knows<Message<'a>, u64>>,
     senders: u32,
     // Which senders' ends were taken.
     ended: [bool; 16],
 }
 
-impl Model for JobReceiver {
+impl<'a> Model for JobReceiver<'a> {
     ghost use Rattle.std.specs.Prelude.{◌≡◌, ◌≤◌, true, false};
     ghost use Rattle.crossbeam_channel.specs.Claims.{IsSeatAt};
     ghost use Rattle.crossbeam_channel.specs.Ends.{receives_on, ruled_capacity};
@@ -80,10 +80,10 @@ impl Model for JobReceiver {
         × (ruled_capacity (receives_on r.end) ≡ capacity) };
 }
 
-impl JobReceiver {
+impl<'a> JobReceiver<'a> {
     /// Waits for a message and takes the front. `None` comes without waiting, exactly where an end of every
     /// sender was taken.
-    pub fn recv<R: Wait>(&mut self, rt: &R) -> Option<Message>
+    pub fn recv<R: Wait>(&mut self, rt: &R) -> Option<Message<'a>>
         ensures some { IfSome result (λ m. self.new
             ≡ inbox self.old.queue self.old.senders self.old.jobs (self.old.taken ++ m ∷ [])) }
         ensures sender { IfSome result (λ m. sender_of m < self.old.senders) }
@@ -103,11 +103,11 @@ impl JobReceiver {
     }
 
     /// Ends a sender whose end was taken. What was taken of it is all that it sent.
-    pub fn take_in(&mut self, sender: JobSender)
+    pub fn take_in(&mut self, sender: JobSender<'a>)
         requires queue { sender.queue ≡ self.old.queue }
         requires ended { has_end sender.number self.old.taken ≡ true }
         ensures same { self.new ≡ self.old }
-        ensures whole { sent_by sender.number self.old.taken ≡ sender.sent }
+        ensures whole { sent_by sender.entry.number self.old.taken ≡ sender.entry.sent }
     {
         let JobSender { end, pass } = sender;
         end.absorb::<TakenIn>(&mut self.pass, pass);
@@ -128,25 +128,40 @@ fn all_true(flags: &[bool; 16], below: u32) -> bool
 }
 
 /// A queue of capacity 64 with one sender for each number below `senders`. A sender sends tickets below `jobs`.
-pub fn job_queue(
+pub fn job_queue<'a>(
     alloc: Global,
     senders: u32,
     jobs: u64,
-) -> Result<(JobSenders, JobReceiver), NoMemory>
+) -> Result<(JobSenders<'a>, JobReceiver<'a>), NoMemory>
     requires { (1 ≤ senders) × (senders ≤ 16) }
     ensures receiver { IfOk result (λ r. r.1 ≡ inbox r.1.queue senders jobs []) }
     ensures count { IfOk result (λ r. vec_len r.0.list ≡ senders) }
     ensures each { IfOk result (λ r. (p : ℕ) → p < senders
         → slice_get r.0.list.items p ≡ Some (outbox r.1.queue p jobs [])) }
 {
-    make::<Brand>(alloc, senders, jobs)
+    with_most::<Brand>(alloc, senders, jobs)
 }
 
-fn make<J: Terms<Message, u64>>(
+fn with_most<'a, M: MostJobs>(
     alloc: Global,
     senders: u32,
     jobs: u64,
-) -> Result<(JobSenders, JobReceiver), NoMemory>
+) -> Result<(JobSenders<'a>, JobReceiver<'a>), NoMemory>
+    requires senders { (1 ≤ senders) × (senders ≤ 16) }
+    requires jobs { jobs ≡ M.jobs }
+    ensures receiver { IfOk result (λ r. r.1 ≡ inbox r.1.queue senders jobs []) }
+    ensures count { IfOk result (λ r. vec_len r.0.list ≡ senders) }
+    ensures each { IfOk result (λ r. (p : ℕ) → p < senders
+        → slice_get r.0.list.items p ≡ Some (outbox r.1.queue p jobs [])) }
+{
+    make::<JobTerms<M>>(alloc, senders, jobs)
+}
+
+fn make<'a, J: Terms<Message<'a>, u64>>(
+    alloc: Global,
+    senders: u32,
+    jobs: u64,
+) -> Result<(JobSenders<'a>, JobReceiver<'a>), NoMemory>
     requires senders { (1 ≤ senders) × (senders ≤ 16) }
     requires jobs { jobs ≡ J.terms }
     ensures receiver { IfOk result (λ r. r.1 ≡ inbox r.1.queue senders jobs []) }
@@ -154,7 +169,7 @@ fn make<J: Terms<Message, u64>>(
     ensures each { IfOk result (λ r. (p : ℕ) → p < senders
         → slice_get r.0.list.items p ≡ Some (outbox r.1.queue p jobs [])) }
 {
-    let (first, end, mut pass) = bounded_with::<Message, Knows<Message, u64>, InOrder, Global>(
+    let (first, end, mut pass) = bounded_with::<Message<'a>, Knows<Message<'a>, u64>, InOrder, Global>(
         alloc, CAPACITY,
     )?;
     let mut list = Vec::with_capacity(alloc, senders as usize)?;

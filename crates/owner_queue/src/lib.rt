@@ -7,11 +7,13 @@
 mod ack;
 mod acks;
 mod applying;
+mod cow_write;
 mod jobs;
 mod message;
 
 pub use ack::Ack;
 pub use acks::{AckReceiver, AckSender, ack_queue};
 pub use applying::apply_write;
+pub use cow_write::CowWrite;
 pub use jobs::{JobReceiver, JobSender, JobSenders, job_queue};
 pub use message::{Job, Message};

@@ -32,6 +32,16 @@ loop-preserved-in-Some-Job g c =
       home = c.apply_write-outcome.ensures.home ∙ c.loop.invariant.home;
     }
 
+pub loop-preserved-in-Some-Job-2 : goal.loop-preserved-in-Some-Job-2
+loop-preserved-in-Some-Job-2 g c =
+    let m = c.in-Some-Job in
+    record {
+      fed = fed_job (g.P.Partition.owner c.args.part.now) (g.P.Partition.owner c.loop.part) c.args.jobs.now c.loop.jobs c.recv.new.self c.args.out.now c.loop.out c.loop.call m.field-0
+          c.loop.invariant.fed m.ensures.some m.ensures.sender m.ensures.order m.job m.field-0-is c.requires.room
+          (g.P.Partition.owner c.apply_write-outcome.new.part) c.push.new.self c.apply_write-outcome.result c.stamp.result c.apply_write-outcome.ensures.step c.stamp.ensures c.push.ensures;
+      home = c.apply_write-outcome.ensures.home ∙ c.loop.invariant.home;
+    }
+
 pub loop-preserved : goal.loop-preserved
 loop-preserved g c =
     let m = c.in-Some-End in

@@ -1,7 +1,7 @@
 use Rattle.std.proofs.Common.{◌≡◌, ℕ, ◌+◌, ◌<◌, ◌++◌, [], length, slice_get, slice_set, Some, refl, sym, ap, ◌∙◌, subst, arith}
 use Rattle.std.specs.Option.{option_to_list}
 use Rattle.std.proofs.lemmas.Option.{slice_get_read}
-use Rattle.owner_queue.specs.JobEnds.{Outbox, outbox, inbox}
+use Rattle.owner_queue.specs.JobEnds.{Inbox, Outbox, outbox, inbox}
 use Rattle.mica_replay.specs.declared.worker.OwnerWork.{OwnerWork}
 use Rattle.mica_replay.specs.Queues.{HasQueue}
 use Rattle.mica_replay.specs.Replies.{replies_with}
@@ -32,8 +32,10 @@ loop-p-preserved g c =
       sender_is = one ∙ ap (λ (n : ℕ). outbox receiver.queue 0 n []) (sym sent);
       jobs_are = c.in_ok-own.ensures.receiver ∙ ap (λ (n : ℕ). inbox receiver.queue 1 n []) (sym sent);
     } in
-    subst (QueuesTo c.args.counts.now (p + 1) c.args.owners.now.items (slice_set c.loop-p.owners.items p new)) (sym c.in_ok-push.ensures.items)
-    (queues_one c.args.counts.now p c.args.owners.now.items c.loop-p.owners.items c.loop-p.senders.items mid new sender c.loop-p.invariant at has (omega (arith, less, c.requires)) (sent ∙ c.from.ensures))
+    let renewed = ap (λ (j : Inbox). record mid { jobs = j; done = c.in_ok-done.done }) (sym c.replace-spent.ensures.after) in
+    subst (λ (w : OwnerWork g.row.P.Denot). QueuesTo c.args.counts.now (p + 1) c.args.owners.now.items (slice_set c.loop-p.owners.items p w) c.push.new.self.items) renewed
+    (subst (QueuesTo c.args.counts.now (p + 1) c.args.owners.now.items (slice_set c.loop-p.owners.items p new)) (sym c.in_ok-push.ensures.items)
+    (queues_one c.args.counts.now p c.args.owners.now.items c.loop-p.owners.items c.loop-p.senders.items mid new sender c.loop-p.invariant at has (omega (arith, less, c.requires)) (sent ∙ c.from.ensures)))
 
 pub returns : goal.returns
 returns g c = queues_all c.args.counts.now c.loop-p.p c.args.owners.now.items c.loop-p.owners.items c.loop-p.senders.items (omega (arith, c.loop-p-test.false, c.loop-p.auto.p-end, c.len-p-end.ensures, c.args.owners.now.ok)) (omega (arith, c.requires, c.loop-p-test.false, c.loop-p.auto.p-end, c.len-p-end.ensures, c.args.owners.now.ok)) c.loop-p.invariant

@@ -1,7 +1,7 @@
-use Rattle.std.proofs.Common.{◌≡◌, ℕ, suc, ◌+◌, ◌≤◌, ◌++◌, ◌∷◌, [], Some, List, map, length, slice_get, refl, sym, ap, ◌∙◌, subst, arith, append_assoc}
+use Rattle.std.proofs.Common.{rules, append-nil, ◌≡◌, ℕ, suc, ◌+◌, ◌≤◌, ◌++◌, ◌∷◌, [], Some, List, map, length, slice_get, refl, sym, ap, ◌∙◌, subst, arith, append_assoc}
 use Rattle.std.specs.Option.{option_to_list}
 use Rattle.std.specs.Vec.Iter.{into_iter_items}
-use Rattle.std.proofs.lemmas.List.{length_push}
+use Rattle.std.proofs.lemmas.List.{length_push, nil_from_length}
 use Rattle.epoch_core.specs.declared.state.Phase.TheVariants.{Idle}
 use Rattle.mica_replay.specs.declared.worker.OwnerWork.{OwnerWork}
 use Rattle.epoch_core.specs.declared.state.OwnerState.{OwnerState}
@@ -46,3 +46,10 @@ loop-owner-preserved g c =
       kept = ap (λ (l : List KeptSeat). l ++ map kept_of (map f rest)) kept ∙ append_assoc c.loop-owner.tables (kept_of (f owner) ∷ []) (map kept_of (map f rest))
           ∙ ap (λ l. c.loop-owner.tables ++ map kept_of (map f l)) (sym head) ∙ c.loop-owner.invariant.kept;
     }
+
+pub returns : goal.returns
+returns g c =
+    let f = λ (w : OwnerWork g.row.P.Denot). owner_part g.P.Partition.owner g.P.Partition.home w in
+    let none : into_iter_items c.loop-owner.left ≡ [] = nil_from_length (into_iter_items c.loop-owner.left) (search rules) in
+    sym (append-nil c.loop-owner.tables) ∙ ap (λ l. c.loop-owner.tables ++ map kept_of (map f l)) (sym none) ∙ c.loop-owner.invariant.kept
+    ∙ ap (λ l. c.args.tables.now ++ map kept_of (map f l)) c.into_iter-left.ensures.rest

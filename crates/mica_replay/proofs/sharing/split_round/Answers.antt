@@ -21,7 +21,7 @@ use Rattle.mica_replay.proofs.RoundEnds.{part_more}
 use Rattle.mica_replay.proofs.LineShares.{no_home, own_home, home_push, gets_push, gets_none, gets_skip, gets_give, sync_no_write, get_no_write, write_no_get, take_most}
 use Rattle.mica_replay.proofs.RoundJobs.{few_jobs, queued_none, queued_one}
 use Rattle.mica_replay.proofs.sharing.split_round.Given.{Over}
-use Rattle.mica_replay.proofs.sharing.split_round.Goals.{in-Get+in_ok-push-in-Get, in-Put+in_ok-write-in-Put+in_ok-push-in-Put, in-Sync}
+use Rattle.mica_replay.proofs.sharing.split_round.Goals.{in-Get+in_ok-push-in-Get, in-Put+in_ok-push-in-Put, in-Sync}
 use Rattle.mica_replay.proofs.sharing.split_round.Goals as goal
 
 abbrev seen : (g : Over) → ReaderWork g.row.R.Denot → ReaderPart
@@ -59,7 +59,7 @@ push-requires-in-Put g c =
     let lines = take (number - from) (drop from trace) in
     record {
       queue = omega (arith, here, partition_of-below line.key options.partitions c.requires.valid.partitions.0, inv.queues);
-      write = line_write line.op line.key line.value c.in_ok-write-in-Put.write (all_at IsTraceLine trace number line c.lines-lines.ensures.lines (slice_get_read trace (length trace) number line refl less is)) c.in_ok-write-in-Put.ensures;
+      write = line_write line.op line.key line.value c.write_of_line.result (all_at IsTraceLine trace number line c.lines-lines.ensures.lines (slice_get_read trace (length trace) number line refl less is)) c.write_of_line.ensures;
       few = omega (arith, ap length (inv.writes c.partition_of-partition.result), few_jobs options c.partition_of-partition.result lines, take_most (number - from) (drop from trace), c.ranges.to.fits, c.loop-number-test.true);
     }
 
@@ -106,10 +106,10 @@ loop-number-preserved g c =
             readers = rw (w.readers-is, more, map-set (seen g) c.loop-number.readers.items q new) (gets_give options trace lines line c.args.first olds mids number q (seen g old) (seen g new)
                 inv.readers w.in-Get.is here is_line at (record { seats = refl; tables = refl; worker = refl }) w.in_ok-push-in-Get.ensures.items);
           }
-      | in-Put+in_ok-write-in-Put+in_ok-push-in-Put w ↦
+      | in-Put+in_ok-push-in-Put w ↦
           let later : Queued = w.push-in-Put.new.self in
-          let write = w.in_ok-write-in-Put.write in
-          let is_write = w.in_ok-write-in-Put.ensures in
+          let write = w.write_of_line.result in
+          let is_write = w.write_of_line.ensures in
           let no_get = write_no_get line.op line.key line.value write is_write in
           let none = pushed ∙ ap (λ b. gets_in lines + cond b 1 0) no_get in
           let same = w.gets-is in

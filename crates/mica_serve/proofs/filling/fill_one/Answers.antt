@@ -1,6 +1,9 @@
-use Rattle.std.proofs.Common.{◌≡◌, sym, ap, ◌∙◌}
+use Rattle.std.proofs.Common.{◌≡◌, sym, ap, ◌∙◌, subst}
 use Rattle.mica_words.specs.Hash.{fnv1a, hash_partition, partition_of}
 use Rattle.mica_words.proofs.Hashes.{partition_of_hash}
+use Rattle.partition_model.specs.declared.write.Write.{Write}
+use Rattle.partition_model.specs.Write.{write_of}
+use Rattle.epoch_core.specs.OwnerStep.{IsOwnerStep}
 use Rattle.mica_serve.proofs.filling.fill_one.Given as given
 use Rattle.mica_serve.proofs.filling.fill_one.Goals.{After-partition_of}
 use Rattle.mica_serve.proofs.filling.fill_one.Goals as goal
@@ -14,6 +17,14 @@ here g c =
 pub returns-then-partition_of-number-clause-own : goal.returns-then-partition_of-number-clause-own
 returns-then-partition_of-number-clause-own g c is =
     absurd (c.if-partition_of-number.true (sym (here g (goal.at.returns-then-partition_of-number-clause-own g c).After-partition_of) ∙ is))
+
+pub returns-clause-own : goal.returns-clause-own
+returns-clause-own g c _ =
+    let given = c.args.write.now in
+    let same : write_of given.op c.bytes-2.result.now c.bytes-3.result.now ≡ given
+    = λ i. record { op = given.op; key = c.bytes-2.ensures i; value = c.bytes-3.ensures i } in
+    (c.write_to.result, sym c.is_accepted.ensures,
+      subst (λ (w : Write). IsOwnerStep (g.P.Partition.owner c.args.part.now) (g.P.Partition.owner c.write_to.new.part) w c.write_to.result) same c.write_to.ensures.step)
 
 pub returns-clause-other : goal.returns-clause-other
 returns-clause-other g c differs = absurd (differs (here g (goal.at.returns-clause-other g c).After-partition_of ∙ c.if-partition_of-number.false))

@@ -1,4 +1,4 @@
 use Rattle.owner_queue.proofs.jobs.job_queue.Given as goal
 
-abbrev pub ghosts-make : goal.ghosts-make
-ghosts-make a = record { terms = a.jobs }
+abbrev pub ghosts-with_most : goal.ghosts-with_most
+ghosts-with_most a = record { jobs = a.jobs }

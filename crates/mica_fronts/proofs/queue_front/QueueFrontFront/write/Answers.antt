@@ -1,4 +1,4 @@
-use Rattle.std.proofs.Common.{◌≡◌, ◌<◌, refl, ap, arith}
+use Rattle.std.proofs.Common.{◌≡◌, ◌∙◌, ◌<◌, refl, ap, arith}
 use Rattle.partition_model.specs.declared.write.Write.{Write}
 use Rattle.partition_model.specs.Write.{write_of}
 use Rattle.mica_fronts.specs.QueueFront.{QueueView, queue_view}
@@ -26,8 +26,10 @@ invariant_of-self g c =
 
 pub returns-clause-written : goal.returns-clause-written
 returns-clause-written g c =
-    let write : Write = record { op = c.args.op; key = c.in_ok-copy.field-0; value = c.in_ok-copy-2.field-0 } in
-    let same : write ≡ write_of c.args.op c.args.key.now c.args.value.now = λ i. record { op = c.args.op; key = c.in_ok-copy.ensures i; value = c.in_ok-copy-2.ensures i } in
+    let write : Write = record { op = c.args.op; key = c.into.result; value = c.into-2.result } in
+    let key : write.key ≡ c.args.key.now = c.into.ensures ∙ c.in_ok-copy.ensures in
+    let value : write.value ≡ c.args.value.now = c.into-2.ensures ∙ c.in_ok-copy-2.ensures in
+    let same : write ≡ write_of c.args.op c.args.key.now c.args.value.now = λ i. record { op = c.args.op; key = key i; value = value i } in
     writes_at (finds g (goal.at.returns-clause-written g c).After-index_mut) c.write-answer.new.self (write_of c.args.op c.args.key.now c.args.value.now) same c.write-answer.ensures
 
 pub returns-clause-others : goal.returns-clause-others

@@ -1,7 +1,7 @@
 //! Bytes that are borrowed or owned.
 ghost use Rattle.std.specs.Prelude.{◌≡◌, []};
 
-use mica_io::Bytes;
+use crate::Bytes;
 use std::alloc::Global;
 use std::borrow::CowSlice;
 use std::marker::Model;
