@@ -87,7 +87,7 @@ fn exchange<W: Threads + Wait + Sync>(
 {
     let ((first, second), (receiver, came)) = join(
         rt,
-        || -> (JobSender<'static>, JobSender<'static>)
+        || -> (JobSender, JobSender)
             requires { (first ≡ outbox first.queue 0 100 []) × (second ≡ outbox second.queue 1 100 []) }
             ensures { ((result.0.queue ≡ first.entry.queue) × (result.0.number ≡ 0))
                 × (result.1.queue ≡ second.entry.queue) × (result.1.number ≡ 1) }
