@@ -110,11 +110,7 @@ fn send_both<W: Threads + Wait + Sync>(
     ensures first { (result.0.queue ≡ first.entry.queue) × (result.0.number ≡ 0) }
     ensures second { (result.1.queue ≡ second.entry.queue) × (result.1.number ≡ 1) }
 {
-    join(
-        rt,
-        || send_jobs(rt, first, 0),
-        || send_jobs(rt, second, 1),
-    )
+    join(rt, || send_jobs(rt, first, 0), || send_jobs(rt, second, 1))
 }
 
 // Whether the jobs of two senders come, each in its turn.

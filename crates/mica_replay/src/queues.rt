@@ -35,7 +35,10 @@ pub(crate) fn open_queues<'a, P: Drop>(
 }
 
 /// Each owner's queue takes in its sender, whose end was taken.
-pub(crate) fn take_senders_in<'a, P: Drop>(owners: &mut Vec<OwnerWork<'a, P>>, senders: Vec<JobSender<'a>>)
+pub(crate) fn take_senders_in<'a, P: Drop>(
+    owners: &mut Vec<OwnerWork<'a, P>>,
+    senders: Vec<JobSender<'a>>,
+)
     requires { MayTakeIn owners.old.items senders.items }
     ensures { HaveTakenIn owners.old.items owners.new.items senders.entry.items }
 {

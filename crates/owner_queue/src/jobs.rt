@@ -169,9 +169,12 @@ fn make<'a, J: Terms<Message<'a>, u64>>(
     ensures each { IfOk result (λ r. (p : ℕ) → p < senders
         → slice_get r.0.list.items p ≡ Some (outbox r.1.queue p jobs [])) }
 {
-    let (first, end, mut pass) = bounded_with::<Message<'a>, Knows<Message<'a>, u64>, InOrder, Global>(
-        alloc, CAPACITY,
-    )?;
+    let (first, end, mut pass) = bounded_with::<
+        Message<'a>,
+        Knows<Message<'a>, u64>,
+        InOrder,
+        Global,
+    >(alloc, CAPACITY)?;
     let mut list = Vec::with_capacity(alloc, senders as usize)?;
     for _made in 0..senders {
         let own = first.try_clone()?;

@@ -22,9 +22,11 @@ pub returns-clause-own : goal.returns-clause-own
 returns-clause-own g c _ =
     let given = c.args.write.now in
     let same : write_of given.op c.bytes-2.result.now c.bytes-3.result.now ≡ given
-    = λ i. record { op = given.op; key = c.bytes-2.ensures i; value = c.bytes-3.ensures i } in
-    (c.write_to.result, sym c.is_accepted.ensures,
-      subst (λ (w : Write). IsOwnerStep (g.P.Partition.owner c.args.part.now) (g.P.Partition.owner c.write_to.new.part) w c.write_to.result) same c.write_to.ensures.step)
+    = λ i. record { op = given.op; key = c.bytes-2.ensures i; value = c.bytes-3.ensures i } in (
+      c.write_to.result,
+      sym c.is_accepted.ensures,
+      subst (λ (w : Write). IsOwnerStep (g.P.Partition.owner c.args.part.now) (g.P.Partition.owner c.write_to.new.part) w c.write_to.result) same c.write_to.ensures.step,
+    )
 
 pub returns-clause-other : goal.returns-clause-other
 returns-clause-other g c differs = absurd (differs (here g (goal.at.returns-clause-other g c).After-partition_of ∙ c.if-partition_of-number.false))
