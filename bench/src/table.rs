@@ -84,9 +84,19 @@ impl Table {
         is_key.then_some(len)
     }
 
+    /// Puts the value behind `out`, eight words at a time, as `mica` does.
     fn put_value(&self, offset: u64, len: usize, out: &mut Vec<u8>) {
         let end = out.len() + len;
-        for at in 0..len.div_ceil(8) as u64 {
+        let words = len.div_ceil(8) as u64;
+        let blocks = words / 8;
+        for block in 0..blocks {
+            let mut bytes = [0; 64];
+            for (at, part) in (8 * block..).zip(bytes.chunks_exact_mut(8)) {
+                part.copy_from_slice(&self.load(self.item_at(offset + at)).to_le_bytes());
+            }
+            out.extend_from_slice(&bytes);
+        }
+        for at in 8 * blocks..words {
             out.extend_from_slice(&self.load(self.item_at(offset + at)).to_le_bytes());
         }
         out.truncate(end);

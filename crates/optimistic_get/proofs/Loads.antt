@@ -1,9 +1,10 @@
 -- Loads in an open try, one after another.
-use Rattle.std.proofs.Common.{◌≡◌, ◌≢◌, ℕ, ◌+◌, ◌<◌, ◌≤◌, List, [], ◌∷◌, ◌++◌, length, slice_index, true, refl, sym, ap, ◌∙◌, subst, arith, Option, Some, None, ⊎_elim}
+use Rattle.std.proofs.Common.{◌≡◌, ◌≢◌, ℕ, ◌+◌, ◌-◌, ◌<◌, ◌≤◌, List, [], ◌∷◌, ◌++◌, length, slice_index, true, refl, sym, ap, ◌∙◌, subst, arith, Option, Some, None, ⊎_elim, length-append}
 use Rattle.std.specs.Prelude.{is_some}
 use Rattle.std.proofs.lemmas.Bool.{cases_lt}
-use Rattle.std.proofs.lemmas.List.{get_or_append_left}
-use Rattle.std.proofs.Math.Seq.{get_or-append_seam}
+use Rattle.std.proofs.lemmas.List.{get_or_append_left, get_or-set_same, get_or-set_other}
+use Rattle.std.proofs.Math.ListN.{set}
+use Rattle.std.proofs.Math.Seq.{get_or-append_seam, get_or-append_right}
 use Rattle.epoch_core.specs.declared.shape.Shape.{Shape}
 use Rattle.epoch_core.specs.declared.reader.Try.{Try}
 use Rattle.epoch_core.specs.declared.reader.ReaderState.{ReaderState}
@@ -136,3 +137,22 @@ first_snoc q p' x p i words trying is long has =
     first_more q p' x p i (words ++ x ∷ []) trying is
     (sym (ap (λ (z : ℕ). slice_index (words ++ x ∷ []) z) (sym long) ∙ get_or-append_seam words x [] 0))
     (λ k l. subst (HasLoad (loads_in q) (item_at q.shape (p + k))) (sym (get_or_append_left words (x ∷ []) 0 k (omega arith))) (has k l))
+
+-- a word more, in its place among others
+pub first_set : (q p' : ReaderState) (x p i : ℕ) (words : List ℕ) → is_some q.current ≡ true → p' ≡ loaded (item_at q.shape (p + i)) x q
+    → i < length words → HasFirst q p words i → HasFirst p' p (set words i x) (i + 1)
+first_set q p' x p i words trying is inside has =
+    first_more q p' x p i (set words i x) trying is (sym (get_or-set_same words i x 0 inside))
+    (λ k l. subst (HasLoad (loads_in q) (item_at q.shape (p + k))) (sym (get_or-set_other words i k x 0 (λ same. absurd (omega (arith, same, l))))) (has k l))
+
+-- words more at a list's end
+pub words_then : (q p' : ReaderState) (n p : ℕ) (words more : List ℕ) → GoesOn q n p' → HasLoadedWords q p words → HasLoadedWords p' (p + length words) more
+    → HasLoadedWords p' p (words ++ more)
+words_then q p' n p words more g has new k l = ⊎_elim
+    (λ (less : k < length words). subst (HasLoad (loads_in p') (item_at p'.shape (p + k))) (sym (get_or_append_left words more 0 k less)) (words_still q p' n p words g has k less))
+    (λ (not : length words ≤ k).
+    let at : p + length words + (k - length words) ≡ p + k = omega arith in
+    subst (λ (z : ℕ × ℕ). HasLoad (loads_in p') (item_at p'.shape z.0) z.1)
+    (λ j. (at j, sym (get_or-append_right words more k 0 not) j))
+    (new (k - length words) (omega (arith, l, length-append words more))))
+    (cases_lt k (length words))

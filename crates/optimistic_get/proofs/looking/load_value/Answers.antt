@@ -1,8 +1,27 @@
-use Rattle.std.proofs.Common.{◌≡◌, [], ◌∷◌, ◌++◌, ◌∙◌, arith, rules, length-append}
+use Rattle.std.proofs.Common.{◌≡◌, ℕ, ◌+◌, ◌*◌, [], ◌∷◌, ◌++◌, ◌∙◌, length, subst, sym, arith, rules, length-append}
 use Rattle.mica_words.specs.Item.{words_for}
-use Rattle.optimistic_get.proofs.Loads.{on_load, on_open, first_snoc}
-use Rattle.optimistic_get.proofs.Bytes.{bytes_more, eight_more, value_of}
+use Rattle.optimistic_get.specs.Loading.{HasLoadedWords}
+use Rattle.optimistic_get.proofs.Loads.{on_load, on_open, on_then, on_at_most, first_snoc, words_then}
+use Rattle.optimistic_get.proofs.Bytes.{bytes_more, bytes_then, longer, eight_more, value_of}
 use Rattle.optimistic_get.proofs.looking.load_value.Goals as goal
+
+pub loop-at-preserved : goal.loop-at-preserved
+loop-at-preserved g c =
+    let reader = g.R.ReaderWords.reader in
+    let loop = c.loop-at.invariant in
+    let block = c.block_at-block.result in
+    let eight : length block ≡ 8 = search rules in record {
+      on = on_at_most (reader c.args.seat.now) (reader c.block_at-block.new.seat) (8 * c.loop-at.at + 8) _ (omega arith)
+          (on_then (reader c.args.seat.now) (reader c.loop-at.seat) (reader c.block_at-block.new.seat) (8 * c.loop-at.at) 8 loop.on c.block_at-block.ensures.on);
+      words = loop.words ++ block;
+      long = omega (arith, loop.long, eight, length-append loop.words block);
+      first = words_then (reader c.loop-at.seat) (reader c.block_at-block.new.seat) 8 c.args.offset loop.words block c.block_at-block.ensures.on loop.first
+          (subst (λ (z : ℕ). HasLoadedWords (reader c.block_at-block.new.seat) (c.args.offset + z) block) (sym loop.long) c.block_at-block.ensures.words);
+      bytes = c.push_words.ensures ∙ bytes_then loop.words block c.loop-at.out loop.bytes;
+      wide = omega (arith, loop.wide, eight, longer block c.loop-at.out c.push_words.new.self c.push_words.ensures);
+      home = search rules;
+      plan = search rules;
+    }
 
 pub loop-i-preserved : goal.loop-i-preserved
 loop-i-preserved g c =
@@ -24,7 +43,7 @@ pub returns-clause-value : goal.returns-clause-value
 returns-clause-value g c =
     let loop = c.loop-i.invariant in
     let few = c.requires.len in
-    let words : c.loop-i.i ≡ words_for c.args.len = omega (arith, c.loop-i-test.false, c.div_ceil-i-end.ensures) in
+    let words : c.loop-i.i ≡ words_for c.args.len = omega (arith, c.loop-i-test.false, c.div_ceil-words.ensures) in
     let held = c.truncate.ensures ∙ value_of c.args.len c.loop-i.out loop.words loop.bytes in record {
       words = loop.words;
       enough = loop.long ∙ words;
