@@ -9,7 +9,7 @@ use Rattle.cache_partition.proofs.Words.{all_weaker, ap, arith, bucket_in, cases
 use Rattle.cache_partition.proofs.Words.{eq-eqb, eqb, eqb-true, false, filter, find, found_has, has_key, has_other_key, here_of, inl, inr, is_its_key}
 use Rattle.cache_partition.proofs.Words.{is_live, keeps_put, kept_record, laid_found, le-leb, le-length_from_below, leb-true, left_of, length}
 use Rattle.cache_partition.proofs.Words.{length-filter, length-le_from_distinct_below, list_any, live_of, missed_all, nat_tests, ne_eqb, new_record}
-use Rattle.cache_partition.proofs.Words.{options_in, others, others_lack, record_of, refl, rewritten, rewritten_key, same_Some, same_or_other, subst}
+use Rattle.cache_partition.proofs.Words.{options_in, others_lack, record_of, refl, rewritten, rewritten_key, same_Some, same_or_other, subst}
 use Rattle.cache_partition.proofs.Words.{suc, sym, tail_of, true, true≢false, without_first, written_same, ℕ, ⊎_elim, ◌+◌, ◌<◌, ◌∙◌, ◌∷◌, ◌≡◌, ◌≢◌}
 use Rattle.cache_partition.proofs.Words.{◌≤◌, ◌⊎◌}
 use Rattle.cache_partition.proofs.Held.{HasSlot, Held, live_entry, machine, of_others, one_slot, slot_key, slot_of, slot_record, stamp_is}

@@ -4,7 +4,7 @@ use Rattle.std.proofs.lemmas.Grind.{common_steps}
 use Rattle.cache_partition.proofs.Words.{AcceptedWrite, Add, Allows, AppendsBy, AppendsValue, Carries, FullBlock, IsItem, IsAcceptable, IsTouchOf, Stored, Touch, appended_own, found_key, offset_in, refused_step, spelt_item, tail_past, touched_is, window_kept}
 use Rattle.cache_partition.proofs.Words.{Allows, AreBytes, Begins, Bool, Cache, CacheMode, Del, Ends, Gains, HasNoSlot, Idle, IsMain}
 use Rattle.cache_partition.proofs.Words.{IsOwnerStep, IsSlotOf, IsWrite, Kept, KeyFits, LeavesItem, List, MatchOption, MayAppend, MayBegin, MayEnd}
-use Rattle.cache_partition.proofs.Words.{MayGive, MayMark, MayRewrite, MayWrite, None, Op, Option, Options, Outcome, OwnerState, Put, PutsEntry}
+use Rattle.cache_partition.proofs.Words.{MayGive, MayMark, MayRewrite, MayWrite, None, Op, Option, Outcome, OwnerState, Put, PutsEntry}
 use Rattle.cache_partition.proofs.Words.{Record, SLOTS, Some, SpellsItem, StandsFor, State, TakesSlot, Worn, Write, [], accepted_in, accepted_is_length}
 use Rattle.cache_partition.proofs.Words.{accepted_step, after, ap, arith, bucket_in, cached_in, cell_at, cond, ended_gains, entry_in}
 use Rattle.cache_partition.proofs.Words.{entry_not_empty, entry_of, entry_offset, entry_offset-entry_of, entry_tag-entry_of, false, fits_kept}

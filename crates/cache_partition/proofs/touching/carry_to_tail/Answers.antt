@@ -1,6 +1,6 @@
-use Rattle.cache_partition.proofs.Words.{AppendsValue, Carries, HasItem, HasNoSlot, IfSome, IsItem, IsSlotOf, Kept, MatchOption, MayCarry, Option, OwnerState, Some, Touch, Write, []}
+use Rattle.cache_partition.proofs.Words.{AppendsValue, Carries, HasNoSlot, IfSome, IsSlotOf, MatchOption, Option, OwnerState, Some, Touch, Write, []}
 use Rattle.cache_partition.proofs.Words.{ap, arith, cell_at, found_key, hash_tag, item_size, item_size-most, marked_with, offset_in, options_in, refl, stamp_of, subst, sym, tag_of_hash, tail_of}
-use Rattle.cache_partition.proofs.Words.{with_item, write_of, List, ℕ, ◌*◌, ◌++◌, ◌+◌, ◌<◌, ◌^◌, ◌∙◌, ◌∷◌, ◌≡◌}
+use Rattle.cache_partition.proofs.Words.{with_item, write_of, List, ℕ, ◌*◌, ◌++◌, ◌+◌, ◌∙◌, ◌∷◌, ◌≡◌}
 use Rattle.cache_partition.proofs.Held.{held}
 use Rattle.cache_partition.proofs.Writes.{Appends, Closes, HasItemAt, HasStored, appends, item_of_slot, may_carry, stamp_appended, stamp_limit, touch_appends, touch_taken}
 use Rattle.cache_partition.proofs.touching.carry_to_tail.Given.{Over}

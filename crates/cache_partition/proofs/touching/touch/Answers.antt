@@ -1,4 +1,4 @@
-use Rattle.cache_partition.proofs.Words.{IsWrite, Kept, OwnerState, Touch, [], ap, arith, subst, sym, write_of, ◌∙◌, ◌≡◌}
+use Rattle.cache_partition.proofs.Words.{IsWrite, Kept, OwnerState, Touch, [], arith, subst, sym, write_of, ◌∙◌}
 use Rattle.cache_partition.proofs.Held.{found_had, held, stands_at}
 use Rattle.cache_partition.proofs.Writes.{touch_is}
 use Rattle.cache_partition.proofs.touching.touch.Given.{Over}

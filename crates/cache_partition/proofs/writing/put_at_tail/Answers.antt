@@ -1,4 +1,4 @@
-use Rattle.cache_partition.proofs.Words.{MayAppend, OwnerState, Write, [], ap, arith, had_record, hash_tag, item_size, item_size-most, options_in, refl, reply_fits}
+use Rattle.cache_partition.proofs.Words.{MayAppend, OwnerState, Write, [], ap, arith, had_record, hash_tag, item_size, item_size-most, options_in, reply_fits}
 use Rattle.cache_partition.proofs.Words.{stamp_of, subst, sym, tag_of_hash, tail_of, with_item, write_of, ℕ, ◌*◌, ◌++◌, ◌+◌, ◌∙◌, ◌∷◌, ◌≡◌}
 use Rattle.cache_partition.proofs.Writes.{Appends, Closes, HasStored, appends, stamp_appended, stamp_limit}
 use Rattle.cache_partition.proofs.writing.put_at_tail.Given.{Over}

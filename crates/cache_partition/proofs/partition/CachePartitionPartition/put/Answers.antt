@@ -1,4 +1,4 @@
-use Rattle.cache_partition.proofs.Words.{FullBlock, OwnerState, Put, Stored, ap, had_record, is_accepted, leb-true, length, refl, sym, worn_step, write_of, ◌∙◌}
+use Rattle.cache_partition.proofs.Words.{FullBlock, Put, Stored, ap, had_record, is_accepted, leb-true, length, refl, sym, worn_step, write_of, ◌∙◌}
 use Rattle.cache_partition.proofs.Writes.{gained_step, left_step, may_write, put_refused, put_stored}
 use Rattle.cache_partition.proofs.partition.CachePartitionPartition.put.Goals as goal
 
