@@ -1,3 +1,4 @@
+pub mod Blocks
 pub mod Vocabulary
 pub mod Shapes
 pub mod Places

@@ -6,6 +6,7 @@ use Rattle.epoch_core.specs.declared.state.Failure.{Failure}
 use Rattle.epoch_core.specs.declared.reader.Try.{Try}
 use Rattle.epoch_core.specs.declared.reader.ReaderState.{ReaderState}
 use Rattle.epoch_core.specs.Failures.{failure}
+use Rattle.epoch_core.specs.Layout.{item_at}
 
 -- one just split off, that has seen this history, of which the first part had ended
 abbrev pub newcomer : Shape → History → History → ReaderState
@@ -42,6 +43,11 @@ with_load place x (Some t) = Some (record t { loads = t.loads ++ (place, x) ∷ 
 -- the load of an entry, a link or an item word, which found x
 abbrev pub loaded : ℕ → ℕ → ReaderState → ReaderState
 loaded place x r = record r { loads = r.loads + 1; current = with_load place x r.current }
+
+-- the loads of item words, one after another from an offset on, which found these
+abbrev pub loaded_items : ℕ → List ℕ → ReaderState → ReaderState
+loaded_items p [] r = r
+loaded_items p (x ∷ xs) r = loaded_items (p + 1) xs (loaded (item_at r.shape p) x r)
 
 abbrev pub with_cut : History → Option Try → Option Try
 with_cut history None = None

@@ -1,5 +1,5 @@
 //! The reader's words.
-ghost use Rattle.std.specs.Prelude.{◌≡◌, ℕ, ◌*◌, ◌<◌, ◌≤◌, ◌⊎◌, true, is_some, Option, IfSome};
+ghost use Rattle.std.specs.Prelude.{◌≡◌, ℕ, ◌+◌, ◌*◌, ◌^◌, ◌<◌, ◌≤◌, ◌⊎◌, true, is_some, Option, IfSome};
 ghost use Rattle.atomic_table.specs.Seated.{TableId};
 ghost use Rattle.mica_words.specs.declared.entry.TheConstants.{SLOTS};
 ghost use Rattle.partition_model.specs.History.{IsPrefix, stamp_of, writes_to_bucket};
@@ -7,14 +7,14 @@ ghost use Rattle.epoch_core.specs.declared.reader.ReaderState.{ReaderState};
 ghost use Rattle.epoch_core.specs.declared.scripted.Plan.{Plan};
 ghost use Rattle.epoch_core.specs.Shape.{options_of, IsValidShape, IsMain, IsSpare, IsBucket};
 ghost use Rattle.epoch_core.specs.Layout.{entry_at, link_at, item_at};
-ghost use Rattle.epoch_core.specs.ReaderState.{opened, loaded, stamped, shut};
+ghost use Rattle.epoch_core.specs.ReaderState.{opened, loaded, loaded_items, stamped, shut};
 ghost use Rattle.epoch_core.specs.ReaderKept.{Tells};
 ghost use Rattle.epoch_core.specs.Script.{FindsEpoch, FindsLastEpoch, FindsHistory};
 
 use crate::shape::Shape;
 
-/// The words of a partition, in the hands of one of its readers. Each method is one load, takes no memory and
-/// refuses nothing, whatever the owner does meanwhile.
+/// The words of a partition, in the hands of one of its readers. Each method but `item_block` is one load. None takes memory
+/// or refuses anything, whatever the owner does meanwhile.
 pub trait ReaderWords: Drop {
     /// What the reader knows.
     ghost reader: { Self → ReaderState };
@@ -62,6 +62,20 @@ pub trait ReaderWords: Drop {
             ≡ loaded (item_at (reader self.old).shape offset) result (reader self.old) }
         ensures home { home self.new ≡ home self.old }
         ensures plan { plan self.new ≡ plan self.old };
+
+    /// Eight item words from this offset on, loaded one after another.
+    fn item_block(&mut self, offset: u64) -> [u64; 8]
+        requires { offset + 8 < 2 ^ 64 }
+        ensures event { reader self.new ≡ loaded_items offset result (reader self.old) }
+        ensures home { home self.new ≡ home self.old }
+        ensures plan { plan self.new ≡ plan self.old }
+    {
+        let mut block = [0; 8];
+        for i in 0..8 {
+            block[i] = self.item_word(offset + i as u64);
+        }
+        block
+    }
 
     /// The stamp. The reader has seen the owner's history at this load from then on, and that history is the cut of
     /// an open try.

@@ -2,14 +2,13 @@
 use Rattle.std.proofs.Common.{◌≡◌, ◌≢◌, ℕ, ◌+◌, ◌-◌, ◌<◌, ◌≤◌, List, [], ◌∷◌, ◌++◌, length, slice_index, true, refl, sym, ap, ◌∙◌, subst, arith, Option, Some, None, ⊎_elim, length-append}
 use Rattle.std.specs.Prelude.{is_some}
 use Rattle.std.proofs.lemmas.Bool.{cases_lt}
-use Rattle.std.proofs.lemmas.List.{get_or_append_left, get_or-set_same, get_or-set_other}
-use Rattle.std.proofs.Math.ListN.{set}
+use Rattle.std.proofs.lemmas.List.{get_or_append_left}
 use Rattle.std.proofs.Math.Seq.{get_or-append_seam, get_or-append_right}
 use Rattle.epoch_core.specs.declared.shape.Shape.{Shape}
 use Rattle.epoch_core.specs.declared.reader.Try.{Try}
 use Rattle.epoch_core.specs.declared.reader.ReaderState.{ReaderState}
 use Rattle.epoch_core.specs.Layout.{item_at}
-use Rattle.epoch_core.specs.ReaderState.{with_load, loaded}
+use Rattle.epoch_core.specs.ReaderState.{with_load, loaded, loaded_items}
 use Rattle.epoch_core.specs.Spelt.{HasLoad}
 use Rattle.epoch_core.proofs.Failing.{in_left, in_last}
 use Rattle.optimistic_get.specs.Loading.{loads_of, loads_in, Keeps, TryGoesOn, GoesOn, HasLoadedWords, LacksWord}
@@ -138,13 +137,6 @@ first_snoc q p' x p i words trying is long has =
     (sym (ap (λ (z : ℕ). slice_index (words ++ x ∷ []) z) (sym long) ∙ get_or-append_seam words x [] 0))
     (λ k l. subst (HasLoad (loads_in q) (item_at q.shape (p + k))) (sym (get_or_append_left words (x ∷ []) 0 k (omega arith))) (has k l))
 
--- a word more, in its place among others
-pub first_set : (q p' : ReaderState) (x p i : ℕ) (words : List ℕ) → is_some q.current ≡ true → p' ≡ loaded (item_at q.shape (p + i)) x q
-    → i < length words → HasFirst q p words i → HasFirst p' p (set words i x) (i + 1)
-first_set q p' x p i words trying is inside has =
-    first_more q p' x p i (set words i x) trying is (sym (get_or-set_same words i x 0 inside))
-    (λ k l. subst (HasLoad (loads_in q) (item_at q.shape (p + k))) (sym (get_or-set_other words i k x 0 (λ same. absurd (omega (arith, same, l))))) (has k l))
-
 -- words more at a list's end
 pub words_then : (q p' : ReaderState) (n p : ℕ) (words more : List ℕ) → GoesOn q n p' → HasLoadedWords q p words → HasLoadedWords p' (p + length words) more
     → HasLoadedWords p' p (words ++ more)
@@ -156,3 +148,24 @@ words_then q p' n p words more g has new k l = ⊎_elim
     (λ j. (at j, sym (get_or-append_right words more k 0 not) j))
     (new (k - length words) (omega (arith, l, length-append words more))))
     (cases_lt k (length words))
+
+-- words that were loaded one after another
+
+first_on : (r : ReaderState) (place x : ℕ) → is_some r.current ≡ true → GoesOn r 1 (loaded place x r)
+first_on r place x trying = on_load r r (loaded place x r) 0 place x (on_none r trying) refl
+
+pub on_items : (p : ℕ) (xs : List ℕ) (r q : ReaderState) → is_some r.current ≡ true → q ≡ loaded_items p xs r → GoesOn r (length xs) q
+on_items p [] r q trying is = subst (GoesOn r 0) (sym is) (on_none r trying)
+on_items p (x ∷ xs) r q trying is =
+    let next = loaded (item_at r.shape p) x r in
+    let first = first_on r (item_at r.shape p) x trying in
+    on_at_most r q (1 + length xs) _ (omega arith) (on_then r next q 1 (length xs) first (on_items (p + 1) xs next q (on_open r next 1 first) is))
+
+pub items_here : (p : ℕ) (xs : List ℕ) (r q : ReaderState) → is_some r.current ≡ true → q ≡ loaded_items p xs r → HasLoadedWords q p xs
+items_here p [] r q trying is = λ i l. absurd (omega (arith, l))
+items_here p (x ∷ xs) r q trying is =
+    let next = loaded (item_at r.shape p) x r in
+    let tried = on_open r next 1 (first_on r (item_at r.shape p) x trying) in
+    words_then next q (length xs) p (x ∷ []) xs (on_items (p + 1) xs next q tried is)
+    (first_snoc r next x p 0 [] trying (ap (λ (z : ℕ). loaded (item_at r.shape z) x r) (omega arith)) refl (λ i l. absurd (omega (arith, l))))
+    (items_here (p + 1) xs next q tried is)

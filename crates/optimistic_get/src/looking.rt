@@ -58,22 +58,6 @@ fn value_len_at<R: ReaderWords>(seat: &mut R, offset: u64, wanted: &Wanted<'_>) 
     }
 }
 
-// Loads eight words from the offset on.
-fn block_at<R: ReaderWords>(seat: &mut R, offset: u64) -> [u64; 8]
-    requires open { is_some (R.reader seat.old).current ≡ true }
-    requires low { offset + 8 < 2 ^ 64 }
-    ensures on { GoesOn (R.reader seat.old) 8 (R.reader seat.new) }
-    ensures words { HasLoadedWords (R.reader seat.new) offset result }
-    ensures home { R.home seat.new ≡ R.home seat.old }
-    ensures plan { R.plan seat.new ≡ R.plan seat.old }
-{
-    let mut block = [0; 8];
-    for i in 0..8 {
-        block[i] = seat.item_word(offset + i as u64);
-    }
-    block
-}
-
 // Loads the value of this length, which stands at the offset. The buffer's length is stored once for eight words.
 fn load_value<R: ReaderWords>(seat: &mut R, offset: u64, len: usize, out: &mut ItemBuf)
     requires open { is_some (R.reader seat.old).current ≡ true }
@@ -87,7 +71,7 @@ fn load_value<R: ReaderWords>(seat: &mut R, offset: u64, len: usize, out: &mut I
     out.clear();
     let words = len.div_ceil(8);
     for at in 0..words / 8 {
-        let block = block_at(seat, offset + 8 * at as u64);
+        let block = seat.item_block(offset + 8 * at as u64);
         out.push_words(&block);
     }
     for i in words / 8 * 8..words {

@@ -1,7 +1,7 @@
 //! Where words lie, with what was divided last at hand.
-ghost use Rattle.std.specs.Prelude.{◌≡◌, ◌+◌, ◌*◌, ◌%◌, ◌<◌};
+ghost use Rattle.std.specs.Prelude.{◌≡◌, ◌+◌, ◌*◌, ◌%◌, ◌^◌, ◌<◌};
 ghost use Rattle.epoch_core.specs.Layout.{place_at, item_at};
-ghost use Rattle.partition_table.specs.Rounds.{BeginsRound};
+ghost use Rattle.partition_table.specs.Rounds.{BeginsRound, BeginsBlock};
 
 use epoch_core::{Shape, WordAt};
 
@@ -48,6 +48,21 @@ impl Places {
     {
         self.round = self.round_of(offset);
         self.items + (offset - self.round) as usize
+    }
+
+    /// Where the first of eight item words lies, if they lie side by side.
+    pub fn of_block(&mut self, offset: u64) -> Option<usize>
+        requires { offset + 8 < 2 ^ 64 }
+        ensures first { BeginsBlock self.old.shape offset result }
+        ensures shape { self.new.shape ≡ self.old.shape }
+    {
+        self.round = self.round_of(offset);
+        let into = offset - self.round;
+        if into + 8 <= u64::from(self.shape.words) {
+            Some(self.items + into as usize)
+        } else {
+            None
+        }
     }
 
     // Where the round of the offset begins.

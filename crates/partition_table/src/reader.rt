@@ -1,11 +1,11 @@
 //! A seat that reads, and a note of what one has seen.
-ghost use Rattle.std.specs.Prelude.{◌≡◌, ◌<◌, true, [], Some, None};
+ghost use Rattle.std.specs.Prelude.{◌≡◌, ◌+◌, ◌^◌, ◌<◌, true, [], Some, None};
 ghost use Rattle.std.specs.Arc.{arc_value};
 ghost use Rattle.partition_model.specs.History.{IsPrefix};
 ghost use Rattle.epoch_core.specs.declared.reader.Try.{Try};
 ghost use Rattle.epoch_core.specs.Shape.{is_in_range, IsMain};
 ghost use Rattle.epoch_core.specs.Layout.{word_count, IsInside};
-ghost use Rattle.epoch_core.specs.ReaderState.{stamped};
+ghost use Rattle.epoch_core.specs.ReaderState.{stamped, loaded_items};
 ghost use Rattle.epoch_core.specs.Joins.{note_of, told};
 ghost use Rattle.partition_table.specs.Rule.{is_reader, reader_in};
 
@@ -63,6 +63,22 @@ impl ReaderSeat {
         self.table.shared.peek(self.places.shape.place(at))
     }
 
+    // Eight item words that go round the end of the words.
+    #[cold]
+    #[inline(never)]
+    fn block_around(&mut self, offset: u64) -> [u64; 8]
+        requires { offset + 8 < 2 ^ 64 }
+        ensures event { reader_state self.new ≡ loaded_items offset result (reader_state self.old) }
+        ensures home { reader_home self.new ≡ reader_home self.old }
+    {
+        let mut block = [0; 8];
+        for i in 0..8 {
+            let place = self.places.of(WordAt::Item(offset + i as u64));
+            block[i] = self.table.shared.load::<Looks>(&mut self.seat, place);
+        }
+        block
+    }
+
     /// Takes in what a note of the same table has seen.
     pub fn tell(&mut self, note: Note)
         requires { note_home note ≡ reader_home self.old }
@@ -113,6 +129,19 @@ impl ReaderWords for ReaderSeat {
     fn item_word(&mut self, offset: u64) -> u64 {
         let place = self.places.of(WordAt::Item(offset));
         self.table.shared.load::<Looks>(&mut self.seat, place)
+    }
+
+    // A call would give the words back by memory.
+    #[inline(always)]
+    fn item_block(&mut self, offset: u64) -> [u64; 8] {
+        let Some(first) = self.places.of_block(offset) else {
+            return self.block_around(offset);
+        };
+        let mut block = [0; 8];
+        for i in 0..8 {
+            block[i] = self.table.shared.load::<Looks>(&mut self.seat, first + i);
+        }
+        block
     }
 
     fn stamp(&mut self) -> u64 {

@@ -1,7 +1,7 @@
 use Rattle.std.proofs.Common.{◌≡◌, ℕ, ◌+◌, ◌*◌, [], ◌∷◌, ◌++◌, ◌∙◌, length, subst, sym, arith, rules, length-append}
 use Rattle.mica_words.specs.Item.{words_for}
 use Rattle.optimistic_get.specs.Loading.{HasLoadedWords}
-use Rattle.optimistic_get.proofs.Loads.{on_load, on_open, on_then, on_at_most, first_snoc, words_then}
+use Rattle.optimistic_get.proofs.Loads.{on_load, on_open, on_then, on_at_most, first_snoc, words_then, on_items, items_here}
 use Rattle.optimistic_get.proofs.Bytes.{bytes_more, bytes_then, longer, eight_more, value_of}
 use Rattle.optimistic_get.proofs.looking.load_value.Goals as goal
 
@@ -9,14 +9,18 @@ pub loop-at-preserved : goal.loop-at-preserved
 loop-at-preserved g c =
     let reader = g.R.ReaderWords.reader in
     let loop = c.loop-at.invariant in
-    let block = c.block_at-block.result in
+    let block = c.item_block-block.result in
+    let now = reader c.item_block-block.new.self in
+    let tried = on_open (reader c.args.seat.now) (reader c.loop-at.seat) (8 * c.loop-at.at) loop.on in
+    let on = on_items (c.args.offset + 8 * c.loop-at.at) block (reader c.loop-at.seat) now tried c.item_block-block.ensures.event in
     let eight : length block ≡ 8 = search rules in record {
-      on = on_at_most (reader c.args.seat.now) (reader c.block_at-block.new.seat) (8 * c.loop-at.at + 8) _ (omega arith)
-          (on_then (reader c.args.seat.now) (reader c.loop-at.seat) (reader c.block_at-block.new.seat) (8 * c.loop-at.at) 8 loop.on c.block_at-block.ensures.on);
+      on = on_at_most (reader c.args.seat.now) now (8 * c.loop-at.at + length block) _ (omega (arith, eight))
+          (on_then (reader c.args.seat.now) (reader c.loop-at.seat) now (8 * c.loop-at.at) (length block) loop.on on);
       words = loop.words ++ block;
       long = omega (arith, loop.long, eight, length-append loop.words block);
-      first = words_then (reader c.loop-at.seat) (reader c.block_at-block.new.seat) 8 c.args.offset loop.words block c.block_at-block.ensures.on loop.first
-          (subst (λ (z : ℕ). HasLoadedWords (reader c.block_at-block.new.seat) (c.args.offset + z) block) (sym loop.long) c.block_at-block.ensures.words);
+      first = words_then (reader c.loop-at.seat) now (length block) c.args.offset loop.words block on loop.first
+          (subst (λ (z : ℕ). HasLoadedWords now (c.args.offset + z) block) (sym loop.long)
+          (items_here (c.args.offset + 8 * c.loop-at.at) block (reader c.loop-at.seat) now tried c.item_block-block.ensures.event));
       bytes = c.push_words.ensures ∙ bytes_then loop.words block c.loop-at.out loop.bytes;
       wide = omega (arith, loop.wide, eight, longer block c.loop-at.out c.push_words.new.self c.push_words.ensures);
       home = search rules;
