@@ -212,16 +212,6 @@ pub fn is_request(version: u8, request: &Request) -> bool
         && value.len() <= request.want.longest_value(version)
 }
 
-/// How many bytes a request adds to the text of its batch.
-pub fn request_len(request: &Request) -> usize
-    requires { (version : ℕ) × IsTrue (is_version version) × IsRequest version request.now }
-    ensures len { result ≡ length (request_text request.now) }
-    ensures fits { (version : ℕ) → IsTrue (is_version version) → IsRequest version request.now
-        → HEADER_LEN + result ≤ max_datagram_len version }
-{
-    request.size()
-}
-
 /// How many bytes the text of a batch has.
 #[tactic(auto, unfolding(crate::specs::BatchGrammar::batch_text))]
 pub fn batch_len(batch: &Batch) -> usize

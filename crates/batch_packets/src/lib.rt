@@ -15,8 +15,7 @@ mod replies;
 mod reply_text;
 
 pub use batch::{
-    Batch, Request, RequestList, Want, batch_len, is_batch, is_request, read_batch, request_len,
-    write_batch,
+    Batch, Request, RequestList, Want, batch_len, is_batch, is_request, read_batch, write_batch,
 };
 pub use checking::{RequestRef, Requests, check_batch};
 pub use fault::BatchFault;
@@ -25,7 +24,7 @@ pub use header::{
     is_version, max_datagram_len, max_value_len,
 };
 pub use laws::one_reading;
-pub use replies::{Replies, Reply, ReplyList, read_replies, write_replies};
+pub use replies::{Replies, Reply, ReplyList, is_reply, read_replies, write_replies};
 pub use reply_text::ReplyText;
 
 /// The text of a batch, or of replies.

@@ -1,5 +1,5 @@
 //! Replies, read from bytes and split into datagrams.
-ghost use Rattle.std.specs.Prelude.{◌≡◌, All, IsTrue, IfOk, IsOkUnless};
+ghost use Rattle.std.specs.Prelude.{◌≡◌, ◌↔◌, All, IsTrue, IfOk, IsOkUnless};
 ghost use Rattle.batch_packets.specs.Faults.{AgreesWith};
 ghost use Rattle.batch_packets.specs.Datagram.{is_version, first_fault};
 
@@ -89,6 +89,14 @@ fn longest_value(version: u8, status: u8) -> usize
     } else {
         0
     }
+}
+
+/// Whether a datagram of this version may have the reply.
+pub fn is_reply(version: u8, reply: &Reply) -> bool
+    ensures { IsTrue result ↔ IsReply version reply.now }
+{
+    is_status(version, reply.status)
+        && reply.value.bytes().len() <= longest_value(version, reply.status)
 }
 
 /// A reply whose value lies in the bytes that it is read from. Clauses see it as the reply.

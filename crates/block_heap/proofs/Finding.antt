@@ -8,10 +8,11 @@ use Rattle.std.proofs.lemmas.List.Elements.{All-nil, All-cons, Contains-append_c
 use Rattle.std.proofs.lemmas.Grind.{common_steps}
 use Rattle.size_classes.specs.Classes.{class_of}
 use Rattle.size_classes.proofs.Rising.{rises, below_sixty_four}
+use Rattle.block_heap.specs.declared.block.TheConstants.{MOST_WORDS}
 use Rattle.block_heap.specs.declared.block.Block.{Block}
 use Rattle.block_heap.specs.Blocks.{free_block, IsFree, IsLargest, free_sizes, NoneFits, MayLack, words_of}
 use Rattle.block_heap.specs.Links.{node_of}
-use Rattle.block_heap.specs.Lists.{left_from}
+use Rattle.block_heap.specs.Lists.{AreListed, left_from}
 use Rattle.block_heap.specs.Inside.{IsHeap, HasFreeAt, HaveFree, AreShort, IsMost}
 use Rattle.block_heap.proofs.Places.{in_middle}
 use Rattle.block_heap.proofs.Counting.{free_more, free_same, MayLack-none_fits}
@@ -39,7 +40,7 @@ size_among (b ∷ blocks) block (suc k, lt, is) free = by (size_among blocks blo
 -- a free block's size is within the limits
 pub record FreeSize (blocks : List Block) (block : Block) : Type 0 where
   pub some : 1 ≤ block.size
-  pub limit : block.size ≤ 1048576
+  pub limit : block.size ≤ MOST_WORDS
   pub within : block.place + block.size ≤ words_of blocks
   pub few : class_of block.size < 64
 
@@ -49,11 +50,11 @@ free_size blocks words lists block heap among =
     let some = lies.0 in
     let within = lies.1 in
     let limit = heap.limit in
-    record { some = omega arith; limit = omega arith; within = within; few = below_sixty_four block.size (omega arith) (omega arith) }
+    record { some = omega arith; limit = omega arith; within = within; few = below_sixty_four block.size }
 
--- where the class has none that fits and no class above has any, none fits
+-- where the class of the need has none that fits and no class above has any, none fits
 pub none_fits : (blocks : List Block) (words : ℕ) (lists : ℕ → List ℕ) (need : ℕ) → IsHeap blocks words lists → 1 ≤ need → need ≤ words_of blocks
-    → AreShort blocks (lists (class_of need)) need → ((next : ℕ) → class_of need < next → next < 64 → length (lists next) ≡ 0) → NoneFits blocks need
+    → ((block : Block) → Contains blocks block → IsFree block → class_of block.size ≡ class_of need → block.size < need) → ((next : ℕ) → class_of need < next → next < 64 → length (lists next) ≡ 0) → NoneFits blocks need
 none_fits blocks words lists need heap some limit short above = all_free (λ size. size < need) blocks (λ block among free. by block among free (cases_lt block.size need) (cases_lt (class_of need) (class_of block.size)))
   where
     by : (block : Block) → Contains blocks block → IsFree block → (block.size < need) ⊎ (need ≤ block.size) → (class_of need < class_of block.size) ⊎ (class_of block.size ≤ class_of need) → block.size < need
@@ -68,8 +69,12 @@ none_fits blocks words lists need heap some limit short above = all_free (λ siz
         let bound = size.limit in
         let rise = rises need block.size some le (omega arith) in
         let same : class_of block.size ≡ class_of need = omega arith in
-        let few = size.few in
-        short block among (place_listed lists blocks block (class_of need) (omega arith) same heap.listed among free)
+        short block among free same
+
+-- of a class that was searched whole, each free block has fewer words
+pub short_blocks : (blocks : List Block) (lists : ℕ → List ℕ) (class need : ℕ) → class < 64 → AreListed lists blocks → AreShort blocks (lists class) need
+    → (block : Block) → Contains blocks block → IsFree block → class_of block.size ≡ class → block.size < need
+short_blocks blocks lists class need few listed short block among free same = short block among (place_listed lists blocks block class few same listed among free)
 
 -- a need beyond all words
 pub none_fits_beyond : (blocks : List Block) (words : ℕ) (lists : ℕ → List ℕ) (need : ℕ) → IsHeap blocks words lists → words_of blocks < need → NoneFits blocks need

@@ -1,15 +1,17 @@
 -- What a change of the blocks and of their lists keeps.
-use Rattle.std.proofs.Common.{◌≡◌, ◌≢◌, ℕ, ◌+◌, ◌-◌, ◌<◌, ◌≤◌, Option, Some, None, List, [], ◌∷◌, ◌++◌, length, refl, sym, ap, subst, arith, append_assoc}
-use Rattle.std.specs.List.{Contains}
+use Rattle.std.proofs.Common.{◌≡◌, ◌≢◌, ℕ, ◌+◌, ◌-◌, ◌<◌, ◌≤◌, Option, Some, None, List, [], ◌∷◌, ◌++◌, length, refl, sym, ap, ◌∙◌, subst, arith, append_assoc}
+use Rattle.std.specs.List.{Contains, sum_by}
 use Rattle.std.specs.Prelude.{IfSome}
 use Rattle.std.proofs.lemmas.Grind.{common_steps}
 use Rattle.size_classes.specs.Classes.{class_of}
 use Rattle.size_classes.proofs.Rising.{below_sixty_four}
+use Rattle.block_heap.specs.declared.block.TheConstants.{MOST_WORDS}
 use Rattle.block_heap.specs.declared.block.Block.{Block}
 use Rattle.block_heap.specs.Blocks.{free_block, used_block, IsFree, IsBlockList, words_of}
 use Rattle.block_heap.specs.Changes.{rest_of, IsTaken}
 use Rattle.block_heap.specs.Lists.{AreListed, IsUnlisted, IsWithout}
 use Rattle.block_heap.specs.Inside.{IsHeap, IsListable, blocks_in}
+use Rattle.block_heap.proofs.Order.{words_of-cons}
 use Rattle.block_heap.proofs.Places.{free_is, parted, in_middle}
 use Rattle.block_heap.proofs.Taking.{IsBlockList-taken, words_of-list, rest_is}
 use Rattle.block_heap.proofs.Listing.{listed_added, listed_removed, listed_beside, unlisted, may_lie, free_within, place_listed}
@@ -21,20 +23,20 @@ heap_with blocks now words lists new heap list listed = grind (arith, common_ste
 -- A free block whose place may be added to the list of its class.
 pub record IsAddable (words : ℕ) (lists : ℕ → List ℕ) (block : Block) : Type 0 where
   pub some : 1 ≤ block.size
-  pub limit : block.size ≤ 1048576
+  pub limit : block.size ≤ MOST_WORDS
   pub few : class_of block.size < 64
   pub within : block.place < words
   pub unlisted : IsUnlisted lists block.place
   pub room : length (lists (class_of block.size)) < words
 
-pub addable : (words : ℕ) (lists : ℕ → List ℕ) (now before after : List Block) (block : Block) → words ≤ 1048576 → IsBlockList words now → now ≡ before ++ block ∷ after → IsFree block → AreListed lists (before ++ after)
+pub addable : (words : ℕ) (lists : ℕ → List ℕ) (now before after : List Block) (block : Block) → words ≤ MOST_WORDS → IsBlockList words now → now ≡ before ++ block ∷ after → IsFree block → AreListed lists (before ++ after)
     → IsAddable words lists block
 addable words lists now before after block limit list is free listed =
     let own = subst (IsBlockList words) is list in
     let lies = free_within words (before ++ block ∷ after) block own.fills (in_middle before after block) in
     let some = lies.0 in
     let within = lies.1 in
-    let few = below_sixty_four block.size (omega arith) (omega arith) in
+    let few = below_sixty_four block.size in
     record {
       some = omega arith;
       limit = omega arith;
@@ -48,6 +50,7 @@ addable words lists now before after block limit list is free listed =
 pub record Taken (blocks now : List Block) (mid : ℕ → List ℕ) (block : Block) (need : ℕ) : Type 0 where
   pub before : List Block
   pub after : List Block
+  pub was : blocks ≡ before ++ block ∷ after
   pub now_is : now ≡ before ++ used_block block.place need ∷ (rest_of (block.place + need) (block.size - need) ++ after)
   pub listed : AreListed mid (before ++ after)
   pub taken : IsTaken blocks now block.place need
@@ -114,3 +117,17 @@ pub listable : (blocks : List Block) (words : ℕ) (lists mid : ℕ → List ℕ
 listable blocks words lists mid None front back before after heap is listed free = tt
 listable blocks words lists mid (Some block) front back before after heap is listed free =
     grind (arith, common_steps, free_size blocks words lists block heap, in_middle front back block, place_listed mid (before ++ block ∷ after) block, in_middle before after block)
+
+-- one free block of all words, which is listed
+pub heap_new : (words : ℕ) (blocks : List Block) (told : ℕ) (lists new : ℕ → List ℕ) → blocks ≡ free_block 0 words ∷ [] → 1 ≤ words → words ≤ MOST_WORDS → told ≡ words → ((class : ℕ) → class < 64 → lists class ≡ [])
+    → (class : ℕ) → class ≡ class_of words → new class ≡ lists class ++ 0 ∷ [] → ((other : ℕ) → other < 64 → other ≢ class → new other ≡ lists other) → IsHeap blocks told new
+heap_new words blocks told lists new is some limit same none class of added others =
+    let all : words_of (free_block 0 words ∷ []) ≡ words = omega (arith, words_of-cons (free_block 0 words) []) in
+    subst (λ (bs : List Block). IsHeap bs told new) (sym is) (record {
+      list = record { fills = (refl, omega arith, omega (arith, all)); merged = (λ both. both.1, tt) };
+      listed =
+          listed_added lists new [] [] (free_block 0 words) refl (subst (λ (c : ℕ). new c ≡ lists c ++ 0 ∷ []) of added) (λ other few ne. others other few (λ e. ne (e ∙ of)))
+          (λ c few weight. ap (sum_by weight) (none c few));
+      same = same ∙ sym all;
+      limit = omega (arith, all);
+    })

@@ -11,3 +11,4 @@ pub mod Listing
 pub mod Keeping
 pub mod Giving
 pub mod Finding
+pub mod Bounding

@@ -9,6 +9,7 @@ use Rattle.std.proofs.lemmas.Nat.{pow-add, leading_top}
 use Rattle.std.proofs.lemmas.Nat.Bits.{bit_at-trailing_zeros, bit_at_above, bit_at-zero}
 use Rattle.std.proofs.lemmas.Bool.{cases_eq, cases_lt, le-leb, lt-leb}
 use Rattle.std.proofs.lemmas.Grind.{common_steps}
+use Rattle.block_heap.specs.declared.block.TheConstants.{MOST_WORDS}
 use Rattle.block_heap.specs.declared.links.Link.{Link}
 use Rattle.block_heap.specs.Links.{node_of, link_of, next_of, prev_of, places_after, LeadOver, AreJoined}
 use Rattle.block_heap.specs.Lists.{KeepsLists, IsUnlisted, IsWithout, left_from}
@@ -194,5 +195,5 @@ last_filled words links room filled h some =
 pub no_places : (words : ℕ) (links : List Link) (class : ℕ) → class < 64 → (next_of links class ≡ class) × (prev_of links class ≡ class) → places_after links words class ≡ []
 no_places words links class few leads = told_places links words class [] class leads few (omega arith)
 
-pub keeps_none : (words : ℕ) (links : List Link) (room : ℕ) → words ≤ 1048576 → 64 ≤ length links → words + 64 ≤ room → ((class : ℕ) → class < 64 → (next_of links class ≡ class) × (prev_of links class ≡ class)) → KeepsLists words links room 0
+pub keeps_none : (words : ℕ) (links : List Link) (room : ℕ) → words ≤ MOST_WORDS → 64 ≤ length links → words + 64 ≤ room → ((class : ℕ) → class < 64 → (next_of links class ≡ class) × (prev_of links class ≡ class)) → KeepsLists words links room 0
 keeps_none words links room limit heads enough alone = grind (arith, common_steps, no_places words links, bit_at-zero)

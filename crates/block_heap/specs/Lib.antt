@@ -4,3 +4,4 @@ pub mod Tags
 pub mod Links
 pub mod Lists
 pub mod Inside
+pub mod Bounds

@@ -2,6 +2,7 @@
 use Rattle.std.specs.Prelude.{◌≡◌, ◌==◌, if◌then◌else◌, ℕ, ◌+◌, ◌<◌, ◌≤◌, ◌^◌, min, List, [], ◌∷◌, ◌++◌, length, sum_by, Contains, Option, Some, None}
 use Rattle.std.specs.Int.{bit_at}
 use Rattle.size_classes.specs.Classes.{class_of}
+use Rattle.block_heap.specs.declared.block.TheConstants.{MOST_WORDS}
 use Rattle.block_heap.specs.declared.block.Block.{Block}
 use Rattle.block_heap.specs.declared.links.Link.{Link}
 use Rattle.block_heap.specs.Links.{node_of, places_after, LeadOver}
@@ -39,7 +40,7 @@ left_from lists (Some place) = place ∷ lists (node_of place)
 
 -- What the lists keep: the links from the head of each lead over its places back to it, and the bits say which lists have one.
 pub record KeepsLists (words : ℕ) (links : List Link) (room filled : ℕ) : Type 0 where
-  pub limit : words ≤ 1048576
+  pub limit : words ≤ MOST_WORDS
   pub heads : 64 ≤ length links
   pub enough : words + 64 ≤ room
   pub wide : filled < 2 ^ 64

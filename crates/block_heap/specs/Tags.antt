@@ -1,5 +1,6 @@
 -- Blocks told by tags: the size and the use of each stand at its first word and at its last.
 use Rattle.std.specs.Prelude.{Option, Some, None, Contains, ◌++◌, ◌≡◌, ◌≢◌, ℕ, zero, suc, ◌+◌, ◌-◌, ◌≤◌, Bool, true, List, [], ◌∷◌, length, slice_index_or, nat_lt, if◌then◌else◌}
+use Rattle.block_heap.specs.declared.block.TheConstants.{MOST_WORDS}
 use Rattle.block_heap.specs.declared.block.Block.{Block}
 use Rattle.block_heap.specs.Blocks.{Fills, IsFree, BeginsFree}
 
@@ -34,7 +35,7 @@ pub record TellBlocks (sizes : List ℕ) (used : List Bool) (blocks : List Block
   pub fills : Fills 0 blocks (length sizes)
   pub tagged : AreTagged sizes used blocks
   pub both : length used ≡ length sizes
-  pub limit : length sizes ≤ 1048576
+  pub limit : length sizes ≤ MOST_WORDS
 
 -- the words but those of the block's two ends tell what they told
 abbrev pub OthersStay : List ℕ → List Bool → List ℕ → List Bool → Block → Type 0

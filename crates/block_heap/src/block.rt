@@ -2,6 +2,9 @@
 ghost use Rattle.std.specs.Prelude.{◌≡◌};
 ghost use Rattle.block_heap.specs.Blocks.{free_block, used_block};
 
+/// The most words that a heap can have.
+pub const MOST_WORDS: u32 = 1_073_741_824;
+
 /// Words that lie together, which are used or free as a whole.
 #[derive(Clone, Copy)]
 pub struct Block {

@@ -1,13 +1,17 @@
 //! The heap: its blocks, told by tags, and the lists of the free ones.
 ghost use Rattle.std.specs.Prelude.{◌≡◌, ◌+◌, ◌<◌, ◌≤◌, ◌↔◌, ℕ, List, [], ◌∷◌, ◌++◌, IfOk, IfNone, IfSome, IsNone, Contains, All, length};
+ghost use Rattle.block_heap.specs.declared.block.TheConstants.{MOST_WORDS};
 ghost use Rattle.block_heap.specs.declared.block.Block.{Block};
 ghost use Rattle.block_heap.specs.Blocks.{free_block, IsBlockList, HasUsed, NoneFits, MayLack, IsFree, IsLargest, words_of};
 ghost use Rattle.block_heap.specs.Changes.{IsTaken, IsGiven};
 ghost use Rattle.block_heap.specs.Links.{list_of};
 ghost use Rattle.block_heap.specs.Lists.{AreListed};
-ghost use Rattle.block_heap.specs.Inside.{IsListable, blocks_in, words_in, HaveFree, AreShort, IsMost};
+ghost use Rattle.block_heap.specs.Inside.{IsHeap, IsListable, blocks_in, words_in, HaveFree, AreShort, IsMost};
+ghost use Rattle.block_heap.specs.Bounds.{AreBounded};
+ghost use Rattle.size_classes.specs.Classes.{class_of};
 
 use crate::block::Block;
+use crate::bounds::Bounds;
 use crate::lists::FreeLists;
 use crate::tagged::TaggedBlocks;
 use mica_io::NoMemory;
@@ -15,24 +19,28 @@ use size_classes::class_of;
 use std::alloc::Global;
 use std::marker::Model;
 
+// How many blocks of the own class are looked at before one of a class above is taken.
+const FEW: u32 = 8;
+
 /// Words that are given out in blocks, and come back.
 #[derive(Drop)]
 pub struct Heap {
     blocks: TaggedBlocks,
     free: FreeLists,
+    bounds: Bounds,
 }
 
 impl Model for Heap {
     ghost use Rattle.std.specs.Prelude.{List};
     ghost use Rattle.block_heap.specs.declared.block.Block.{Block};
     ghost use Rattle.block_heap.specs.Links.{list_of};
-    ghost use Rattle.block_heap.specs.Inside.{IsHeap};
+    ghost use Rattle.block_heap.specs.Inside.{IsBoundedHeap};
 
     ghost Value = { List Block };
 
     ghost view = { λ s. s.blocks };
 
-    ghost invariant = { λ s. IsHeap s.blocks s.free.0 (list_of s.free) };
+    ghost invariant = { λ s. IsBoundedHeap s.blocks s.free.0 (list_of s.free) s.bounds };
 }
 
 // Takes a free neighbour out of its list, and tells how many words it has.
@@ -67,6 +75,67 @@ fn first_fit(blocks: &TaggedBlocks, free: &FreeLists, class: u32, need: u32) -> 
     None
 }
 
+// A block of a class that has as many words as are needed, where one of its first few has.
+fn early_fit(blocks: &TaggedBlocks, free: &FreeLists, class: u32, need: u32) -> Option<Block>
+    requires class { class < 64 }
+    requires have { HaveFree blocks.now (list_of free.now class) }
+    ensures some { IfSome result (λ block. Contains blocks.now block × IsFree block × (need ≤ block.size)) }
+{
+    let mut listed = free.first(class);
+    for _step in 0..FEW {
+        let place = listed?;
+        let size = blocks.size_at(place);
+        if need <= size {
+            return Some(Block::free(place, size));
+        }
+        listed = free.after(place);
+    }
+    None
+}
+
+// The first block of the next class that has one.
+fn first_above(blocks: &TaggedBlocks, free: &FreeLists, class: u32) -> Option<Block>
+    requires class { class < 64 }
+    requires heap { IsHeap blocks.now free.now.0 (list_of free.now) }
+    ensures none { IfNone result ((next : ℕ) → class < next → next < 64 → length (list_of free.now next) ≡ 0) }
+    ensures some { IfSome result (λ block. Contains blocks.now block × IsFree block × (class < class_of block.size)) }
+{
+    let next = free.next_above(class)?;
+    let place = free.first(next)?;
+    Some(Block::free(place, blocks.size_at(place)))
+}
+
+// A free block of as many words as are needed: one of the first few of the need's own class, else the first of the next
+// class that has one, else any of the own class. Where none of them has as many, the class has a lower bound from then
+// on, so that the next refusal looks at the few alone.
+fn fitting(blocks: &TaggedBlocks, free: &FreeLists, bounds: &mut Bounds, need: u32) -> Option<Block>
+    requires some { 1 ≤ need }
+    requires heap { IsHeap blocks.now free.now.0 (list_of free.now) }
+    requires bounded { AreBounded bounds.old blocks.now }
+    ensures none { IfNone result (NoneFits blocks.now need) }
+    ensures some { IfSome result (λ block. Contains blocks.now block × IsFree block × (need ≤ block.size)) }
+    ensures bounded { AreBounded bounds.new blocks.now }
+{
+    if need > blocks.words() {
+        return None;
+    }
+    let class = class_of(need);
+    if let Some(block) = early_fit(blocks, free, class, need) {
+        return Some(block);
+    }
+    if let Some(block) = first_above(blocks, free, class) {
+        return Some(block);
+    }
+    if bounds.of(class) <= need {
+        return None;
+    }
+    if let Some(block) = first_fit(blocks, free, class, need) {
+        return Some(block);
+    }
+    bounds.lower(class, need);
+    None
+}
+
 // The words of the largest block of a class.
 fn most_words(blocks: &TaggedBlocks, free: &FreeLists, class: u32) -> u32
     requires class { class < 64 }
@@ -86,33 +155,20 @@ impl Heap {
     /// One free block of all words.
     pub fn new(alloc: Global, words: u32) -> Result<Self, NoMemory>
         requires some { 1 ≤ words }
-        requires limit { words ≤ 1048576 }
+        requires limit { words ≤ MOST_WORDS }
         ensures { IfOk result (λ heap. heap ≡ free_block 0 words ∷ []) }
     {
         let blocks = TaggedBlocks::new(alloc, words)?;
         let mut free = FreeLists::new(alloc, words)?;
-        free.add(class_of(words), 0);
-        Ok(Heap { blocks, free })
-    }
-
-    // A free block of as many words as are needed: of the class of the need, which is searched whole, else
-    // the first of the next class that has one.
-    fn fitting(&self, need: u32) -> Option<Block>
-        requires { 1 ≤ need }
-        ensures none { IfNone result (NoneFits self.now need) }
-        ensures may_lack { IfNone result (MayLack self.now need) }
-        ensures some { IfSome result (λ block. Contains self.now block × IsFree block × (need ≤ block.size)) }
-    {
-        if need > self.blocks.words() {
-            return None;
-        }
-        let class = class_of(need);
-        if let Some(block) = first_fit(&self.blocks, &self.free, class, need) {
-            return Some(block);
-        }
-        let next = self.free.next_above(class)?;
-        let place = self.free.first(next)?;
-        Some(Block::free(place, self.blocks.size_at(place)))
+        let mut bounds = Bounds::new(alloc)?;
+        let class = class_of(words);
+        free.add(class, 0);
+        bounds.raise(class, words);
+        Ok(Heap {
+            blocks,
+            free,
+            bounds,
+        })
     }
 
     /// The place of a block of as many words as are needed. Which free block it is cut from is left open.
@@ -124,12 +180,14 @@ impl Heap {
         ensures taken { IfSome result (λ place. IsTaken self.old self.new place need) }
         ensures blocks { IsBlockList (words_of self.old) self.new }
     {
-        let block = self.fitting(need)?;
+        let block = fitting(&self.blocks, &self.free, &mut self.bounds, need)?;
         self.free.remove(class_of(block.size), block.place);
         self.blocks.cut(block, need);
         if need < block.size {
             let rest = block.size - need;
-            self.free.add(class_of(rest), block.place + need);
+            let class = class_of(rest);
+            self.free.add(class, block.place + need);
+            self.bounds.raise(class, rest);
         }
         Some(block.place)
     }
@@ -147,7 +205,9 @@ impl Heap {
         let after = unlist(&mut self.free, right);
         let block = Block::free(place - before, before + size + after);
         self.blocks.replace(block);
-        self.free.add(class_of(block.size), block.place);
+        let class = class_of(block.size);
+        self.free.add(class, block.place);
+        self.bounds.raise(class, block.size);
     }
 
     /// The size of the largest free block, or 0 where there is none.

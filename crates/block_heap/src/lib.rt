@@ -6,9 +6,11 @@
 #![tactic(auto)]
 
 mod block;
+mod bounds;
 mod heap;
 mod links;
 mod lists;
 mod tagged;
 
+pub use block::MOST_WORDS;
 pub use heap::Heap;

@@ -1,6 +1,7 @@
 //! The places of free blocks, in lists by class.
 ghost use Rattle.std.specs.Prelude.{◌≡◌, ◌≢◌, ◌+◌, ◌<◌, ◌≤◌, ℕ, Bool, [], ◌∷◌, ◌++◌, List, length, IfOk, IfSome, IfNone, Contains, if◌then◌else◌};
 ghost use Rattle.std.specs.Int.{bit_at};
+ghost use Rattle.block_heap.specs.declared.block.TheConstants.{MOST_WORDS};
 ghost use Rattle.block_heap.specs.Links.{node_of, list_of};
 ghost use Rattle.block_heap.specs.Lists.{IsUnlisted, IsListed, IsWithout, left_from};
 
@@ -45,7 +46,7 @@ fn with_bit(bits: u64, at: u32, on: bool) -> u64
 
 impl FreeLists {
     pub fn new(alloc: Global, words: u32) -> Result<Self, NoMemory>
-        requires { words ≤ 1048576 }
+        requires { words ≤ MOST_WORDS }
         ensures words { IfOk result (λ lists. lists.0 ≡ words) }
         ensures empty { IfOk result (λ lists. (class : ℕ) → class < 64 → list_of lists class ≡ []) }
     {

@@ -1,5 +1,6 @@
 //! The blocks of a heap, told by the size and the use of each at its first word and at its last.
 ghost use Rattle.std.specs.Prelude.{◌≡◌, ◌≢◌, ◌+◌, ◌-◌, ◌<◌, ◌≤◌, ℕ, [], ◌∷◌, ◌++◌, List, length, IfOk, Contains};
+ghost use Rattle.block_heap.specs.declared.block.TheConstants.{MOST_WORDS};
 ghost use Rattle.block_heap.specs.Blocks.{free_block, used_block, words_of, Fills};
 ghost use Rattle.block_heap.specs.declared.block.Block.{Block};
 ghost use Rattle.block_heap.specs.Changes.{rest_of};
@@ -32,7 +33,7 @@ impl Model for TaggedBlocks {
 fn tag(sizes: &mut Vec<u32>, used: &mut Vec<bool>, block: Block)
     requires some { 0 < block.size }
     requires within { block.place + block.size ≤ length sizes.old.items }
-    requires limit { length sizes.old.items ≤ 1048576 }
+    requires limit { length sizes.old.items ≤ MOST_WORDS }
     requires both { length used.old.items ≡ length sizes.old.items }
     ensures here { IsTagged sizes.new.items used.new.items block }
     ensures others { OthersStay sizes.old.items used.old.items sizes.new.items used.new.items block }
@@ -51,7 +52,7 @@ impl TaggedBlocks {
     // One free block of all words.
     pub fn new(alloc: Global, words: u32) -> Result<Self, NoMemory>
         requires some { 1 ≤ words }
-        requires limit { words ≤ 1048576 }
+        requires limit { words ≤ MOST_WORDS }
         ensures { IfOk result (λ blocks. blocks ≡ free_block 0 words ∷ []) }
     {
         let mut sizes = vec![in alloc; 0; words as usize]?;
@@ -63,7 +64,7 @@ impl TaggedBlocks {
     // How many words there are.
     pub fn words(&self) -> u32
         ensures words { result ≡ words_of self.now }
-        ensures limit { result ≤ 1048576 }
+        ensures limit { result ≤ MOST_WORDS }
     {
         self.sizes.len() as u32
     }

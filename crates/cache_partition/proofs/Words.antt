@@ -9,7 +9,7 @@ pub use Rattle.std.proofs.lemmas.Option.{same_Some}
 pub use Rattle.std.specs.Bool.{then_some}
 pub use Rattle.std.specs.List.{AllByRecursion as AllOf, filter, find, list_any}
 unfoldable pub use Rattle.std.specs.List.{IsDistinct}
-pub use Rattle.std.specs.Prelude.{MatchOption, nat_le, ◌&&◌}
+pub use Rattle.std.specs.Prelude.{MatchOption, nat_le, ◌&&◌, ◌||◌}
 pub use Rattle.mica_words.proofs.Fields.{entry_not_empty, entry_offset-entry_of, entry_tag-entry_of}
 pub use Rattle.mica_words.proofs.Hashes.{bucket_of_hash, tag_of-range, tag_of_hash}
 pub use Rattle.mica_words.proofs.ItemWords.{length-item_words}
@@ -28,13 +28,12 @@ pub use Rattle.partition_model.proofs.Found.{all_filter, all_passes, all_weaker,
 pub use Rattle.partition_model.proofs.Histories.{accepted_is_length}
 pub use Rattle.partition_model.proofs.Laid.{IsLaid, found_key, has_its_key as is_its_key, has_other_key, laid_found}
 pub use Rattle.partition_model.proofs.Rises.{stamp_rises}
-pub use Rattle.partition_model.proofs.Stamps.{stamp_small}
 pub use Rattle.partition_model.specs.Answer.{IsAnswer}
 pub use Rattle.partition_model.specs.Cache.{Cache, Record, has_key, is_live, record_of}
 pub use Rattle.partition_model.specs.Records.{IsUnique}
 pub use Rattle.partition_model.specs.CacheStep.{kept_record, new_record, others, reply_of, without_first}
 pub use Rattle.partition_model.specs.History.{Allows, accepted_in, after as state_after, stamp_in as stamp_of_state}
-pub use Rattle.partition_model.specs.Limits.{most_stamp}
+pub use Rattle.partition_model.specs.Limits.{is_at_end, last_tail, most_added}
 pub use Rattle.partition_model.specs.Write.{IsWrite, is_accepted, size_of, write_of}
 pub use Rattle.partition_model.specs.declared.options.Options.{Options}
 pub use Rattle.partition_model.specs.declared.write.Answer.{Answer}
@@ -57,7 +56,7 @@ pub use Rattle.epoch_core.proofs.Machine.{found_record}
 pub use Rattle.epoch_core.proofs.PartitionLaws.{AcceptedWrite, Keeps, accepted_step, ended_gains, item_room, main, main_of, marked, marked_item}
 pub use Rattle.epoch_core.proofs.PartitionLaws.{may_begin, may_end, may_mark, new_stamp, only_key, put_entry, put_item as item_put, put_long, refused_step}
 pub use Rattle.epoch_core.proofs.PartitionLaws.{put_others, put_same, put_stamp, put_words, same_cell, same_or_other, spells_item, spells_on}
-pub use Rattle.epoch_core.proofs.PartitionLaws.{spelt_key, stands_idle, stood, worn_step, written, written_marked, written_state}
+pub use Rattle.epoch_core.proofs.PartitionLaws.{spelt_key, stands_idle, stood, written, written_marked, written_state}
 pub use Rattle.epoch_core.specs.Events.{MayBegin, MayEnd, MayMark}
 pub use Rattle.epoch_core.specs.OwnerStep.{IsOwnerStep}
 pub use Rattle.epoch_core.specs.StandsFor.{IsOffset, SpellsItem}
@@ -71,5 +70,5 @@ pub use Rattle.circular_log.specs.LogCarry.{Carries, IsTouchOf, MayCarry}
 pub use Rattle.circular_log.specs.LogWrite.{LeavesItem, MayAppend, MayRewrite, with_item, written_record}
 pub use Rattle.lossy_index.specs.Place.{GivesWay, HoldsOfNone, TakesSlot, empty, oldest, passed}
 pub use Rattle.lossy_index.specs.Slot.{HasNoSlot, IsFoundAt, IsPassed, IsSlotOf, offset_in}
-pub use Rattle.cache_partition.specs.Gained.{Gains, MayWrite, marked_with}
+pub use Rattle.cache_partition.specs.Gained.{Gains, MayWrite, is_worn, marked_with}
 pub use Rattle.cache_partition.specs.Sought.{AppendsBy, AppendsValue, IsAcceptable, had_record, had_record_by, kept_offset, kept_offset_by}

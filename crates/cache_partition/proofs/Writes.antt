@@ -8,13 +8,13 @@ use Rattle.cache_partition.proofs.Words.{MayGive, MayMark, MayRewrite, MayWrite,
 use Rattle.cache_partition.proofs.Words.{Record, SLOTS, Some, SpellsItem, StandsFor, State, TakesSlot, Worn, Write, [], accepted_in, accepted_is_length}
 use Rattle.cache_partition.proofs.Words.{accepted_step, after, ap, arith, bucket_in, cached_in, cell_at, cond, ended_gains, entry_in}
 use Rattle.cache_partition.proofs.Words.{entry_not_empty, entry_of, entry_offset, entry_offset-entry_of, entry_tag-entry_of, false, fits_kept}
-use Rattle.cache_partition.proofs.Words.{had_record, had_record_by, is_accepted, is_live, is_some, item_in, item_room, item_size, item_words}
-use Rattle.cache_partition.proofs.Words.{keeps_put, kept_offset, kept_offset_by, kept_record, leb-false, length, length-item_words, lt-leb, main}
-use Rattle.cache_partition.proofs.Words.{marked, marked_in, marked_item, marked_with, may_begin, may_end, may_mark, most_stamp, nat_le, nat_tests}
+use Rattle.cache_partition.proofs.Words.{had_record, had_record_by, is_accepted, is_live, is_some, is_at_end, is_worn, item_in, item_room, item_size, item_words}
+use Rattle.cache_partition.proofs.Words.{keeps_put, kept_offset, kept_offset_by, kept_record, last_tail, length, length-item_words, main}
+use Rattle.cache_partition.proofs.Words.{marked, marked_in, marked_item, marked_with, may_begin, may_end, may_mark, most_added, nat_le, nat_tests}
 use Rattle.cache_partition.proofs.Words.{new_record, option_map, options_in, put_entry, put_same, put_stamp, put_words, record_of, refl, room_at}
-use Rattle.cache_partition.proofs.Words.{room_in, room_is, size_of, stamp_in, stamp_of, stamp_of_state, stamp_small, state_after}
+use Rattle.cache_partition.proofs.Words.{room_in, room_is, size_of, stamp_in, stamp_of, stamp_of_state, state_after}
 use Rattle.cache_partition.proofs.Words.{state_snoc, stood, subst, sym, tag_of, tag_of-range, tail_of, then_some, true, with_item, write_of, written}
-use Rattle.cache_partition.proofs.Words.{written_marked, written_record, ℕ, ◌&&◌, ◌*◌, ◌++◌, ◌+◌, ◌<◌, ◌^◌, ◌∙◌, ◌∷◌, ◌≡◌, ◌≤◌, ◌⊎◌}
+use Rattle.cache_partition.proofs.Words.{written_marked, written_record, ℕ, ◌&&◌, ◌||◌, ◌*◌, ◌++◌, ◌+◌, ◌<◌, ◌^◌, ◌∙◌, ◌∷◌, ◌≡◌, ◌≤◌, ◌⊎◌}
 use Rattle.cache_partition.proofs.Leaves as leaves
 use Rattle.cache_partition.proofs.Held.{Held, found_slot, held, machine, no_record, slot_of, stamp_is, stands_at}
 use Rattle.cache_partition.proofs.OneSlot.{Before, dead_slot, emptied, entry_effect, own_slot, put_effect, slot_that_gives_way, stored}
@@ -41,18 +41,37 @@ delete_taken o key value = elim (had_record o key) as (λ b. is_accepted (cs.rep
 pub touch_taken : (o : OwnerState) (key value : List ℕ) → IsAcceptable o (write_of Touch key value)
 touch_taken o key value = elim (had_record o key) as (λ b. is_accepted (cs.reply_of Touch (options_in o) (write_of Touch key value) b) ≡ true) [ true ↦ refl | false ↦ refl ]
 
+-- the machine is worn where its partition is
+machine_worn : (o : OwnerState) (mode : o.shape.mode ≡ CacheMode) → is_worn o ≡ cs.is_worn (options_in o) (cached_in (options_in o) mode o.history).0
+machine_worn o mode =
+    let there = cached_in (options_in o) mode o.history in
+    let count : length o.history ≡ there.0.accepted = sym (accepted_is_length (options_in o) o.history) ∙ ap accepted_in there.1 in
+    λ i. nat_le o.shape.wear (count i) || is_at_end (stamp_of_state (there.1 i))
+
+-- then it refuses each write
+pub worn_step : (o : OwnerState) → o.phase ≡ Idle → o.shape.mode ≡ CacheMode → is_worn o ≡ true → (w : Write) → IsOwnerStep o o w Worn
+unfolding cs.reply
+worn_step o idle mode worn w =
+    let there = cached_in (options_in o) mode o.history in
+    refused_step o idle w Worn refl (subst (λ (z : State). Allows (options_in o) z w Worn) (sym there.1)
+    (ap (λ b. cond b Worn (cs.reply_of w.op (options_in o) w (is_some (record_of there.0 w.key)))) (sym worn ∙ machine_worn o mode)))
+
+-- where the state is not worn
+pub may_write : (o : OwnerState) → o.phase ≡ Idle → o.shape.mode ≡ CacheMode → is_worn o ≡ false → MayWrite o
+may_write o idle mode few =
+    let both : (length o.history < o.shape.wear) × (tail_of (stamp_of (options_in o) o.history) < last_tail) = grind (arith, nat_tests, common_steps) in
+    record { idle = idle; cached = mode; not_worn = both.0; has_room = both.1 }
+
+not_worn : (o : OwnerState) → MayWrite o → is_worn o ≡ false
+not_worn o may = grind (arith, nat_tests, common_steps, may.not_worn, may.has_room)
+
 -- before the partition is worn the machine gives this reply
 may_give : (o : OwnerState) → MayWrite o → (w : Write) → MayGive (options_in o) o.history w (cs.reply_of w.op (options_in o) w (had_record o w.key))
 unfolding cs.reply
 may_give o may w =
     let there = cached_in (options_in o) may.cached o.history in
-    let less : there.0.accepted < o.shape.wear = omega (arith, ap accepted_in there.1, accepted_is_length (options_in o) o.history, may.not_worn) in
     subst (λ (z : State). Allows (options_in o) z w (cs.reply_of w.op (options_in o) w (had_record_by z w.key))) (sym there.1)
-    (ap (λ b. cond b Worn (cs.reply_of w.op (options_in o) w (is_some (record_of there.0 w.key)))) (sym (lt-leb o.shape.wear there.0.accepted less)))
-
--- where the state is not worn
-pub may_write : (o : OwnerState) → o.phase ≡ Idle → o.shape.mode ≡ CacheMode → nat_le o.shape.wear (length o.history) ≡ false → MayWrite o
-may_write o idle mode few = record { idle = idle; cached = mode; not_worn = leb-false o.shape.wear (length o.history) few }
+    (ap (λ b. cond b Worn (cs.reply_of w.op (options_in o) w (is_some (record_of there.0 w.key)))) (sym (not_worn o may) ∙ machine_worn o may.cached))
 
 -- a step that gains the write
 pub gained_step : (o new : OwnerState) → MayWrite o → (w : Write) (outcome : Outcome) → is_accepted outcome ≡ true → Gains o new w → outcome ≡ cs.reply_of w.op (options_in o) w (had_record o w.key)
@@ -70,9 +89,9 @@ delete_is key key_fits key_bytes = record { key = key_fits; key_bytes = key_byte
 pub touch_is : (key : List ℕ) → KeyFits key → AreBytes key → IsWrite (write_of Touch key [])
 touch_is key key_fits key_bytes = record { key = key_fits; key_bytes = key_bytes; value = refl; value_bytes = λ k. omega arith }
 
--- the stamp stays far below the limit of a word
-pub stamp_limit : (o : OwnerState) → Kept o → (stamp : ℕ) → stamp ≡ stamp_in o → stamp ≤ most_stamp
-stamp_limit o s stamp is = omega (arith, s.stamp, is, stamp_small (options_in o) s.shape.ranges o.history s.history.accepted s.history.writes)
+-- with the largest item the stamp is still a word
+pub stamp_limit : (o : OwnerState) → Kept o → MayWrite o → (stamp : ℕ) → stamp ≡ stamp_in o → stamp + most_added < 2 ^ 64
+stamp_limit o s may stamp is = omega (arith, s.stamp, is, may.has_room)
 
 -- What a write ends with
 
@@ -295,7 +314,7 @@ module _ (o : OwnerState) (s : Kept o) (may : MayWrite o) (w : Write) (is : IsWr
       stands : (slot : ℕ) → (slot < SLOTS) × Before h accepted slot → Kept (after (PutsEntry b slot (entry_of (tag_of w.key) p)) filled)
           → StandsFor (after (PutsEntry b slot (entry_of (tag_of w.key) p)) filled) b
       stands slot spelt k =
-          let low : p < 2 ^ 48 = omega (arith, stamp_limit o s h.m.stamp (sym (stamp_is h))) in
+          let low : p < 2 ^ 48 = omega (arith, stamp_limit o s may h.m.stamp (sym (stamp_is h))) in
           stored h accepted (after (PutsEntry b slot (entry_of (tag_of w.key) p)) filled).words k slot (entry_of (tag_of w.key) p) spelt.1 spelt.0 (new_record h.m w.key value)
           its_own own_live (entry_not_empty (tag_of w.key) p (tag_of-range w.key).0)
           (entry_offset-entry_of (tag_of w.key) p low) (entry_tag-entry_of (tag_of w.key) p low) (entry_effect h accepted p xs few slot (entry_of (tag_of w.key) p) spelt.0)

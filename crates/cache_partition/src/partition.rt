@@ -9,9 +9,10 @@ ghost use Rattle.partition_model.specs.declared.write.Op.TheVariants.{Add, Touch
 ghost use Rattle.partition_model.specs.Write.{write_of};
 ghost use Rattle.partition_model.specs.History.{stamp_of, answer_of};
 ghost use Rattle.epoch_core.specs.declared.state.Phase.TheVariants.{Idle};
-ghost use Rattle.epoch_core.specs.Shape.{IsValidShape};
+ghost use Rattle.epoch_core.specs.Shape.{IsPossibleShape};
 ghost use Rattle.epoch_core.specs.OwnerState.{options_in, as_made};
 ghost use Rattle.epoch_core.specs.OwnerStep.{IsOwnerStep};
+ghost use Rattle.cache_partition.specs.Gained.{is_worn};
 
 use crate::reading::value_of;
 use crate::removing::remove;
@@ -21,7 +22,7 @@ use crate::writing::{put, put_at_tail};
 use epoch_core::{LendPartition, LendWords, OwnerWords, Partition};
 use mica_io::NoMemory;
 use mica_words::item_size;
-use partition_model::{Answer, ItemBuf, Op, Outcome};
+use partition_model::{Answer, ItemBuf, Op, Outcome, has_room};
 
 /// A partition over an owner's words, with its stamp and the number of accepted writes at hand.
 #[derive(Drop)]
@@ -68,13 +69,12 @@ impl<W: OwnerWords> CachePartition<W> {
         item_size(key.len(), value.len()) <= self.words.shape().words
     }
 
-    // Whether as many writes were accepted as the partition may bear.
+    // Whether as many writes were accepted as the partition may bear, or its log has come to its end.
     fn is_worn(&self) -> bool
-        ensures worn { result ≡ nat_le (W.owner self.now.words).shape.wear
-            (length (W.owner self.now.words).history) }
-        ensures valid { IsValidShape (W.owner self.now.words).shape }
+        ensures worn { result ≡ is_worn (W.owner self.now.words) }
+        ensures valid { IsPossibleShape (W.owner self.now.words).shape }
     {
-        self.words.shape().wear <= self.accepted
+        self.words.shape().wear <= self.accepted || !has_room(self.stamp)
     }
 }
 

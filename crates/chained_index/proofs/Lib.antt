@@ -8,3 +8,4 @@ mod Allowed
 mod Calls
 mod Walking
 mod AsMade
+mod UnusedLaws

@@ -2,3 +2,4 @@ pub mod ChainEntries
 pub mod ChainShape
 pub mod ChainChange
 pub mod Index
+pub mod Unused

@@ -1,10 +1,10 @@
 //! The chained index of store mode.
-ghost use Rattle.std.specs.Prelude.{◌≡◌, ◌≢◌, ℕ, ◌+◌, ◌<◌, ◌≤◌, ◌^◌, ◌↔◌, ◌++◌, ◌∷◌, [], IsTrue, IsFalse, IfOk, MatchOption};
+ghost use Rattle.std.specs.Prelude.{◌≡◌, ◌≢◌, ℕ, ◌+◌, ◌<◌, ◌≤◌, ◌^◌, ◌↔◌, ◌++◌, ◌∷◌, [], IsTrue, IsFalse, IfOk, MatchOption, length};
 ghost use Rattle.mica_words.specs.declared.entry.TheConstants.{SLOTS};
 ghost use Rattle.mica_words.specs.Entry.{entry_of, entry_tag as entry_tag_of, entry_offset as entry_offset_of};
 ghost use Rattle.mica_words.specs.Hash.{fnv1a};
 ghost use Rattle.mica_words.specs.Item.{KeyFits};
-ghost use Rattle.epoch_core.specs.Shape.{IsValidShape, IsMain, IsBucket};
+ghost use Rattle.epoch_core.specs.Shape.{IsPossibleShape, IsMain, IsBucket};
 ghost use Rattle.epoch_core.specs.OwnerState.{as_made, entry_in, marked_in};
 ghost use Rattle.epoch_core.specs.Events.{WhenMarked};
 ghost use Rattle.epoch_core.specs.ItemAt.{HasKey};
@@ -27,22 +27,29 @@ pub struct Spot {
     pub slot: u32,
 }
 
-/// Which spare buckets are free. The chains themselves stand in the words.
+/// Which spare buckets are free: those that came back, and so many that were never used from one on, which no row lists.
+/// The chains themselves stand in the words.
 #[derive(Drop)]
 pub struct ChainedIndex {
     shape: Shape,
-    free: Vec<u32>,
+    returned: Vec<u32>,
+    unused: u32,
+    left: u32,
 }
 
 impl Model for ChainedIndex {
-    ghost use Rattle.std.specs.Prelude.{◌≤◌, vec_capacity};
+    ghost use Rattle.std.specs.Prelude.{◌+◌, ◌^◌, ◌<◌, ◌≤◌, ◌++◌, vec_capacity};
     ghost use Rattle.chained_index.specs.Index.{Index};
+    ghost use Rattle.chained_index.specs.Unused.{unused_from};
 
     ghost Value = { Index };
 
-    ghost view = { λ i. record { shape = i.shape; free = i.free.items } };
+    ghost view = { λ i. record {
+      shape = i.shape;
+      free = unused_from i.unused i.left ++ i.returned.items;
+    } };
 
-    ghost invariant = { λ i. i.shape.spares ≤ vec_capacity i.free };
+    ghost invariant = { λ i. (i.shape.spares ≤ vec_capacity i.returned) × (i.unused + i.left < 2 ^ 32) };
 }
 
 // Where a chain ends: its last bucket, the bucket before that, and how many slots of the last one
@@ -57,17 +64,48 @@ struct ChainEnd {
 impl ChainedIndex {
     /// The index of words as made: all spare buckets are free.
     pub fn new(alloc: Global, shape: &Shape) -> Result<ChainedIndex, NoMemory>
-        requires { IsValidShape shape.now }
+        requires { IsPossibleShape shape.now }
         ensures { IfOk result (λ index. IsIndexOf index (as_made shape.now)) }
     {
-        let mut free = Vec::with_capacity(alloc, shape.spares as usize)?;
-        for spare in 0..shape.spares {
-            free.push_reserved(shape.buckets + spare);
-        }
+        let returned = Vec::with_capacity(alloc, shape.spares as usize)?;
         Ok(ChainedIndex {
             shape: *shape,
-            free,
+            returned,
+            unused: shape.buckets,
+            left: shape.spares,
         })
+    }
+
+    // Whether a spare is free.
+    fn has_spare(&self) -> bool
+        ensures { IsFalse result ↔ (self.now.free ≡ []) }
+    {
+        self.left > 0 || !self.returned.is_empty()
+    }
+
+    // Takes a free spare, one that came back where there is one.
+    fn take_spare(&mut self) -> Option<u32>
+        ensures shape { self.new.shape ≡ self.old.shape }
+        ensures taken { MatchOption result (self.old.free ≡ []) (λ spare. self.old.free ≡ self.new.free ++ spare ∷ []) }
+    {
+        if let Some(spare) = self.returned.pop() {
+            return Some(spare);
+        }
+        if self.left == 0 {
+            return None;
+        }
+        let spare = self.unused;
+        self.unused += 1;
+        self.left -= 1;
+        Some(spare)
+    }
+
+    // Takes a spare back.
+    fn give_spare(&mut self, spare: u32)
+        requires { length self.old.free < self.old.shape.spares }
+        ensures { self.new ≡ record self.old { free = self.old.free ++ spare ∷ [] } }
+    {
+        self.returned.push_reserved(spare);
     }
 
     /// Looks behind the entries of the key's tag alone.
@@ -131,7 +169,7 @@ impl ChainedIndex {
         ensures same { W.owner words.new ≡ W.owner words.old }
         ensures home { W.home words.new ≡ W.home words.old }
     {
-        !self.free.is_empty() || self.end_of(words, bucket).used < SLOTS
+        self.has_spare() || self.end_of(words, bucket).used < SLOTS
     }
 
     /// Adds an entry after the chain's last.
@@ -152,7 +190,7 @@ impl ChainedIndex {
         let end = self.end_of(words, bucket);
         if end.used < SLOTS {
             words.put_entry(end.bucket, end.used, entry);
-        } else if let Some(next) = self.free.pop() {
+        } else if let Some(next) = self.take_spare() {
             words.put_entry(next, 0, entry);
             words.put_link(end.bucket, next);
         }
@@ -194,7 +232,7 @@ impl ChainedIndex {
         words.put_entry(end.bucket, last, 0);
         if last == 0 && end.bucket != bucket {
             words.put_link(end.before, 0);
-            self.free.push_reserved(end.bucket);
+            self.give_spare(end.bucket);
         }
     }
 

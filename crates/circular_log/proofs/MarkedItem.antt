@@ -11,14 +11,12 @@ use Rattle.partition_model.specs.declared.write.Write.{Write}
 use Rattle.partition_model.specs.Write.{IsWrite}
 use Rattle.partition_model.specs.Cache.{Record, has_key}
 use Rattle.partition_model.specs.CacheStep.{after_write}
-use Rattle.partition_model.specs.Limits.{most_stamp}
-use Rattle.partition_model.specs.History.{History, State, cache_state, store_state, state_of, stamp_in, stamp_of}
+use Rattle.partition_model.specs.History.{Allows, History, IsAcceptedAfter, IsHistory, State, cache_state, store_state, state_of}
 use Rattle.partition_model.proofs.CacheKept.{IsRecord, after_write_is}
 use Rattle.partition_model.proofs.CacheLaws.{kept_in}
 use Rattle.partition_model.proofs.Found.{found_has}
+use Rattle.partition_model.proofs.Histories.{cache_has_room, last_accepted}
 use Rattle.partition_model.proofs.Laid.{laid_found}
-use Rattle.partition_model.proofs.Rises.{stamp_rises}
-use Rattle.partition_model.proofs.Stamps.{stamp_small}
 use Rattle.epoch_core.specs.declared.state.OwnerState.{OwnerState}
 use Rattle.epoch_core.specs.declared.state.Phase.{Phase}
 use Rattle.epoch_core.specs.declared.state.Phase.TheVariants.{Idle, Begun, Marked}
@@ -36,20 +34,16 @@ module _ (o : OwnerState) (s : Kept o) (p room : ℕ) (key value : List ℕ) whe
   belongs : (b : ℕ) (write : Write) (now : State) → written_record (options_in o) now write ≡ Some item → (i : ℕ) → i < item_size key value → BelongsTo o b write now (p + i)
   belongs b write now is i l = grind (arith, common_steps)
 
-  -- the tail before a marked write is far from the largest offset
-  tail_small : (b : ℕ) (write : Write) (before : History) → o.phase ≡ Marked b write before → stamp_of (options_in o) before ≤ most_stamp
-  tail_small b write before is =
-      grind (arith, PhaseFits o, is, s.phase, stamp_small (options_in o) s.shape.ranges o.history s.history.accepted s.history.writes, stamp_rises (options_in o) before write, stamp_of (options_in o))
-
-  -- the item ends before the tail after it
-  low : (before : History) → AllByRecursion IsWrite before → (write : Write) → IsWrite write → (now : State) → state_of (options_in o) before ≡ now → stamp_in now ≤ most_stamp
+  -- the item of an accepted write ends before the tail after it, for which the log had room
+  low : (before : History) → AllByRecursion IsWrite before → (write : Write) → IsWrite write → IsAcceptedAfter (options_in o) before write → (now : State) → state_of (options_in o) before ≡ now
       → written_record (options_in o) now write ≡ Some item → p + item_size key value ≤ 2 ^ 48
-  low before writes write is (cache_state now) at small stored =
+  low before writes write is accepted (cache_state now) at stored =
+      let room = cache_has_room (options_in o) now write accepted.0 accepted.1 (subst (λ (z : State). Allows (options_in o) z write accepted.0) at accepted.2) in
       let written = after_write_is (options_in o) now (kept_in (options_in o) before writes now at) write is in
       let end = (laid_found (has_key write.key) 0 (tail_of (after_write (options_in o) now write).stamp) (after_write (options_in o) now write).records item written.laid stored).1 in
       let fits = (found_has IsRecord (has_key write.key) (after_write (options_in o) now write).records item written.are stored).size in
-      omega (arith, end, fits, small, written.most)
-  low before writes write is (store_state now) at small stored = absurd (none-some item stored)
+      omega (arith, end, fits, room, written.most)
+  low before writes write is accepted (store_state now) at stored = absurd (none-some item stored)
 
   may_put : (phase : Phase) → o.phase ≡ phase → WhenMarked phase (λ b write before. written_record (options_in o) (state_of (options_in o) before) write ≡ Some item) → MayPutWords o p (item_size key value)
   may_put Idle is stored = absurd stored
@@ -57,7 +51,8 @@ module _ (o : OwnerState) (s : Kept o) (p room : ℕ) (key value : List ℕ) whe
   may_put (Marked b write before) is stored =
       let fits = subst (PhaseFits o) is s.phase in
       let all = all_parts IsWrite before write (subst (AllByRecursion IsWrite) fits.1 s.history.writes) in
-      let end = low before all.0 write all.1 (state_of (options_in o) before) refl (tail_small b write before is) stored in
+      let accepted = last_accepted (options_in o) before write (subst (IsHistory (options_in o)) fits.1 s.history.accepted) in
+      let end = low before all.0 write all.1 accepted (state_of (options_in o) before) refl stored in
       λ i l. record {
         its_word = subst (λ (z : Phase). WhenMarked z (λ b write before. BelongsTo o b write (state_of (options_in o) before) (p + i))) (sym is) (belongs b write (state_of (options_in o) before) stored i l);
         low = omega arith;

@@ -1,5 +1,5 @@
 //! The tests of what stands below the server and the commands, with answers that were found by hand or by another
-//! program: words, heaps, datagrams, adapters and reports, both machines, the core and the partitions event by event, and
+//! program: words, heaps, datagrams, adapters, traces and reports, both machines, the core and the partitions event by event, and
 //! readers in threads of their own.
 #![tactic(auto)]
 
@@ -18,6 +18,8 @@ mod machine;
 #[cfg(test)]
 mod machine_steps;
 #[cfg(test)]
+mod memcached;
+#[cfg(test)]
 mod one_spare;
 #[cfg(test)]
 mod packets;
@@ -33,5 +35,7 @@ mod schedules;
 mod scripts;
 #[cfg(test)]
 mod torn_get;
+#[cfg(test)]
+mod traces;
 #[cfg(test)]
 mod words;

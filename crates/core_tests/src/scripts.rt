@@ -1,8 +1,5 @@
 //! An owner's writes between the loads of a get with one try, judged by the plain machine at the carried stamp.
 
-ghost use Rattle.std.specs.Prelude.{IsTrue};
-ghost use Rattle.epoch_core.specs.Script.{Rises, NoneAbove};
-
 use crate::machine::Machine;
 use crate::partitions::{cache_over, store_over, write};
 use epoch_core::{Partition, PlainWords, Scripted};
@@ -163,20 +160,6 @@ impl Judge {
     }
 }
 
-/// Whether the cuts rise, to this many at most.
-fn are_cuts(cuts: &[u32], most: usize) -> bool
-    ensures { IsTrue result → Rises cuts.now × NoneAbove most cuts.now }
-{
-    let mut last = 0;
-    for i in 0..cuts.len() {
-        if cuts[i] < last {
-            return false;
-        }
-        last = cuts[i];
-    }
-    last as usize <= most
-}
-
 /// A seat over the script's words, so many of whose events happen before each load.
 pub(crate) fn seat_of(
     rt: &(impl Abort + AllocGlobal),
@@ -184,7 +167,7 @@ pub(crate) fn seat_of(
     cuts: &[u32],
 ) -> Result<Scripted, Fail> {
     let words = stored_words(rt, script)?;
-    assert!(rt; are_cuts(cuts, words.events().len()));
+    assert!(rt; Scripted::takes(&words, cuts));
     Ok(Scripted::new(rt.alloc(), words, cuts)?)
 }
 

@@ -1,5 +1,5 @@
 -- Each event keeps the rule of the one-word table whose seat has a diary.
-use Rattle.epoch_core.proofs.Vocabulary.{Bool, ◌≡◌, CanPlay, Event, IsAllowed, IsValidShape, List, OwnerState, [], after, ap, arith, as_made, cond}
+use Rattle.epoch_core.proofs.Vocabulary.{Bool, ◌≡◌, CanPlay, Event, IsAllowed, IsPossibleShape, List, OwnerState, [], after, ap, arith, as_made, cond}
 use Rattle.epoch_core.proofs.Vocabulary.{false}
 use Rattle.epoch_core.proofs.Vocabulary.{length, ltb-false, ltb-true, nat_lt, plays, refl, set, subst, suc, sym, true, zero, ℕ, ⊎_elim, ◌++◌, ◌∙◌}
 use Rattle.epoch_core.proofs.Vocabulary.{◌∷◌, ◌≡◌}
@@ -53,6 +53,6 @@ module _ (slots id : ℕ) (me : Me (Unit {0}) Diary) where
       let now : Diary = diary_after e me.0 in
       (now, keeps, tt, set_fit DiaryFits s.views id now (diary_fits e me.0 f allowed) all, (refl, f.owner, kept_after me.0.owner f.owner e allowed))
 
-pub starts : (blank : Blank) (words : List ℕ) → IsValidShape blank.shape → AllFit (opening words [] (blank_diary blank))
+pub starts : (blank : Blank) (words : List ℕ) → IsPossibleShape blank.shape → AllFit (opening words [] (blank_diary blank))
 starts blank words valid =
     one_fits DiaryFits (blank_diary blank) record { owner = kept_as_made blank.shape valid; kept = tt; whole = λ less. refl }

@@ -1,5 +1,5 @@
 -- The owner's fact holds before any event.
-use Rattle.epoch_core.proofs.Vocabulary.{Cache, Has, HasChain, HasLiveEntry, InChain, IsValidShape, Kept, List, Mode, OwnerState, Shape, StandsFor}
+use Rattle.epoch_core.proofs.Vocabulary.{Cache, Has, HasChain, HasLiveEntry, InChain, IsPossibleShape, Kept, List, Mode, OwnerState, Shape, StandsFor}
 use Rattle.epoch_core.proofs.Vocabulary.{Store, [], arith, as_made, entry_at, epoch_at, get-empty, get_or, inl, inr, length-replicate, link_at, refl}
 use Rattle.epoch_core.proofs.Vocabulary.{replicate, start, suc, sym, word_count, zero, ℕ, ◌∙◌, ◌≡◌}
 use Rattle.std.specs.Ordering.{nat_cmp}
@@ -25,7 +25,7 @@ unfolding cache.start store.start
 has_nothing Cache key cell p h = cc h
 has_nothing Store key cell p h = cc (sym h ∙ get-empty {X = store.Cell} (slice_cmp nat_cmp) key)
 
-module _ (shape : Shape) (valid : IsValidShape shape) where
+module _ (shape : Shape) (valid : IsPossibleShape shape) where
   abbrev o : OwnerState
   o = as_made shape
 

@@ -68,7 +68,7 @@ refused_step o idle w outcome refuses may = record { allowed = may; gained = rw 
 
 allows_worn : (options : Options) (now : State) (w : Write) → options.wear ≤ accepted_in now → Allows options now w Worn
 unfolding cs.reply
-allows_worn options (cache_state s) w full = rw (le-leb options.wear s.accepted full) refl
+allows_worn options (cache_state s) w full = grind (arith, common_steps, le-leb options.wear s.accepted full)
 allows_worn options (store_state s) w full = full
 
 -- in a worn partition each is

@@ -1,6 +1,6 @@
 -- The machine of options is that of their shape: it reads no other option, and in cache mode no spares.
 use Rattle.std.proofs.lemmas.Grind.{common_steps}
-use Rattle.epoch_core.proofs.Vocabulary.{History, IsValid, IsValidShape, MayGive, Options, Outcome, Write}
+use Rattle.epoch_core.proofs.Vocabulary.{History, IsPossible, IsPossibleShape, MayGive, Options, Outcome, Write}
 use Rattle.epoch_core.proofs.Vocabulary.{arith, options_of, shape_of, spares_in, state_of, ℕ, ◌≡◌}
 use Rattle.partition_model.proofs.SameMachine as machine
 
@@ -16,5 +16,5 @@ module _ (options : Options) where
       → MayGive (options_of (shape_of options)) history write outcome → MayGive options history write outcome
   same_may_give history write outcome may = grind (arith, common_steps, machine.same_may_give options 1 1 1 spares)
 
-pub shape_valid : (options : Options) → IsValid options → IsValidShape (shape_of options)
-shape_valid options valid = grind (arith, common_steps)
+pub shape_possible : (options : Options) → IsPossible options → IsPossibleShape (shape_of options)
+shape_possible options possible = grind (arith, common_steps)

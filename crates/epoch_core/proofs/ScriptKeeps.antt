@@ -1,5 +1,5 @@
 -- Each step of a script keeps the rule of the one-word table whose seat has a book.
-use Rattle.epoch_core.proofs.Vocabulary.{Begins, Book, CanPlay, Ends, Event, IsAllowed, IsValidShape, Kept, List, OwnerState, Plan, ReaderKept}
+use Rattle.epoch_core.proofs.Vocabulary.{Begins, Book, CanPlay, Ends, Event, IsAllowed, IsPossibleShape, Kept, List, OwnerState, Plan, ReaderKept}
 use Rattle.epoch_core.proofs.Vocabulary.{ReaderState, Shape, [], after, ap, append-nil, append_assoc, arith, as_made, drop, drop-cons, get_or, length}
 use Rattle.epoch_core.proofs.Vocabulary.{map, newcomer, owner_event, plays, refl, suc, sym, ℕ, ◌++◌, ◌+◌, ◌<◌, ◌^◌, ◌∙◌, ◌∷◌, ◌≡◌}
 use Rattle.std.proofs.lemmas.Grind.{common_steps}
@@ -97,7 +97,7 @@ module _ (script : Script) where
         let fits = book_looks look me.0 f.1 may time in
         (look_next look me.0, keeps, tt, set_fit Fit s.views id (look_next look me.0) (f.0, fits) all, (refl, f.1, fits))
 
-  pub starts : (words : List ℕ) → IsValidShape script.shape → CanPlay script.token.me.0.kept (as_made script.shape)
+  pub starts : (words : List ℕ) → IsPossibleShape script.shape → CanPlay script.token.me.0.kept (as_made script.shape)
       → AllFit script (opening words [] (opening_book (plan_of script)))
   starts words valid can =
       let s = kept_as_made script.shape valid in

@@ -34,7 +34,7 @@ pub use Rattle.epoch_core.specs.OwnerState.{state_in, writes_in}
 pub use Rattle.epoch_core.specs.Reach.{IsInReach, by_entry, by_item, by_link}
 pub use Rattle.epoch_core.specs.ReaderKept.{IsSpelt, ReaderKept, Tells, TellsTry, TryKept}
 pub use Rattle.epoch_core.specs.ReaderState.{fails_after, loaded, new_try, newcomer, opened, shut, stamped, with_cut, with_load}
-pub use Rattle.epoch_core.specs.Shape.{IsBucket, IsMain, IsSpare, IsValidShape, is_in_range, options_of, shape_of, spares_in}
+pub use Rattle.epoch_core.specs.Shape.{IsBucket, IsMain, IsSpare, IsPossibleShape, is_in_range, options_of, shape_of, spares_in}
 pub use Rattle.epoch_core.specs.StandsFor.{Has, HasChain, IsInRoom, IsOffset, RoomsApart, Spells, SpellsItem, StandsFor, cell_at, room_in}
 pub use Rattle.epoch_core.specs.declared.event.Event.{Event}
 pub use Rattle.epoch_core.specs.declared.event.Event.TheVariants.{Begins, Ends, Marks, PutsEntry, PutsLink, PutsWord}
@@ -49,7 +49,7 @@ pub use Rattle.epoch_core.specs.Joins.{ended_in, known, lent, longer, met_by, no
 pub use Rattle.epoch_core.specs.declared.reader.Try.{Try}
 pub use Rattle.epoch_core.specs.declared.scripted.Book.{Book}
 pub use Rattle.epoch_core.specs.declared.scripted.Plan.{Plan}
-pub use Rattle.partition_model.specs.Options.{InRange, IsValid}
+pub use Rattle.partition_model.specs.Options.{InRange, IsPossible, IsValid}
 pub use Rattle.partition_model.specs.Write.{IsWrite, is_accepted, write_of}
 pub use Rattle.partition_model.specs.declared.options.Options.{Options}
 pub use Rattle.partition_model.specs.declared.write.Outcome.{Outcome}

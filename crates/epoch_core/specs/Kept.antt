@@ -7,7 +7,7 @@ use Rattle.epoch_core.specs.declared.shape.Shape.{Shape}
 use Rattle.epoch_core.specs.declared.state.OwnerState.{OwnerState}
 use Rattle.epoch_core.specs.declared.state.Phase.{Phase}
 use Rattle.epoch_core.specs.declared.state.Phase.TheVariants.{Idle, Begun, Marked}
-use Rattle.epoch_core.specs.Shape.{options_of, IsValidShape, IsMain}
+use Rattle.epoch_core.specs.Shape.{options_of, IsPossibleShape, IsMain}
 use Rattle.epoch_core.specs.Layout.{word_count}
 use Rattle.epoch_core.specs.OwnerState.{stamp_in, epoch_in, options_in, bucket_in, writes_in, begun_in, marked_in}
 use Rattle.epoch_core.specs.Chain.{HasChains}
@@ -28,7 +28,7 @@ PhaseFits o (Marked b write before) = (b ≡ bucket_in o write.key) × (o.histor
 
 -- The owner's words are those of its machine.
 pub record Kept (o : OwnerState) : Type 0 where
-  pub shape : IsValidShape o.shape
+  pub shape : IsPossibleShape o.shape
   pub wide : length o.words ≡ word_count o.shape
   pub chains : HasChains o
   pub history : IsLawfulHistory o.shape o.history

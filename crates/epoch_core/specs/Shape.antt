@@ -1,11 +1,11 @@
 -- The shape of a partition, and the options that its machine goes by.
-use Rattle.std.specs.Prelude.{◌≡◌, ℕ, ◌+◌, ◌<◌, ◌≤◌, Bool, ◌&&◌, nat_le}
+use Rattle.std.specs.Prelude.{◌≡◌, ℕ, ◌+◌, ◌<◌, ◌≤◌, ◌^◌, Bool, ◌&&◌, nat_le}
 use Rattle.std.specs.Int.{is_power_of_two}
 use Rattle.partition_model.specs.declared.options.Mode.{Mode}
 use Rattle.partition_model.specs.declared.options.Mode.TheVariants.{Cache, Store}
 use Rattle.partition_model.specs.declared.options.Options.{Options}
-use Rattle.partition_model.specs.declared.options.TheConstants.{MAX_WEAR}
-use Rattle.partition_model.specs.Options.{IsValid}
+use Rattle.partition_model.specs.declared.options.TheConstants.{MOST_SPARES, MOST_WORDS, MOST_WEAR}
+use Rattle.partition_model.specs.Options.{IsPossible}
 use Rattle.epoch_core.specs.declared.shape.Shape.{Shape}
 
 -- there are no spares in cache mode
@@ -35,18 +35,18 @@ options_of shape = record {
   wear = shape.wear;
 }
 
--- each field is in its range
-pub record IsValidShape (shape : Shape) : Type 0 where
-  pub ranges : IsValid (options_of shape)
+-- partitions can be made of this shape
+pub record IsPossibleShape (shape : Shape) : Type 0 where
+  pub ranges : IsPossible (options_of shape)
   pub no_spares : shape.mode ≡ Cache → shape.spares ≡ 0
 
 -- the same as a test
 abbrev pub is_in_range : Shape → Bool
 is_in_range shape =
-    is_power_of_two shape.buckets && nat_le shape.buckets 65536
-    && nat_le shape.spares (spares_in shape.mode 65536)
-    && nat_le 256 shape.words && nat_le shape.words 1048576
-    && nat_le 1 shape.wear && nat_le shape.wear MAX_WEAR
+    is_power_of_two shape.buckets && nat_le shape.buckets (2 ^ 24)
+    && nat_le shape.spares (spares_in shape.mode MOST_SPARES)
+    && nat_le 256 shape.words && nat_le shape.words MOST_WORDS
+    && nat_le 1 shape.wear && nat_le shape.wear MOST_WEAR
 
 -- main buckets have an epoch, and a key's bucket is one of them
 abbrev pub IsMain : Shape → ℕ → Type 0

@@ -1,7 +1,7 @@
 //! The owner's words in a vector. Beside them stands a table of one word, whose one seat's view is what
 //! contracts see of the owner.
 ghost use Rattle.std.specs.Prelude.{◌≡◌, ◌<◌, true, map, ◌∷◌, ◌++◌, [], length, nat_lt, if◌then◌else◌, IfOk, vec_len, vec_capacity};
-ghost use Rattle.epoch_core.specs.Shape.{IsValidShape, is_in_range};
+ghost use Rattle.epoch_core.specs.Shape.{IsPossibleShape, is_in_range};
 ghost use Rattle.epoch_core.specs.OwnerState.{as_made};
 ghost use Rattle.epoch_core.specs.Events.{IsAllowed, CanPlay, place_of};
 ghost use Rattle.epoch_core.specs.Kept.{Kept};
@@ -131,7 +131,7 @@ impl PlainWords {
 
     /// Words as made, and room for so many of the first events.
     pub fn new(alloc: Global, shape: &Shape, log_room: u32) -> Result<PlainWords, NoMemory>
-        requires { IsValidShape shape.now }
+        requires { IsPossibleShape shape.now }
         ensures made { IfOk result (λ w. (diary_of w).owner ≡ as_made shape.now) }
         ensures log { IfOk result (λ w. ((diary_of w).kept ≡ []) × ((diary_of w).room ≡ log_room)) }
     {

@@ -26,8 +26,9 @@ pub struct Known {
 }
 
 /// The state of a reader, or of a note: the history that it has seen, the part of it whose writes had ended,
-/// what both seats of its last join knew, the number of its loads and of its tries, its failures, the number
-/// of its tries that loaded a stamp and found the first epoch again, and its open try.
+/// what both seats of its last join knew, the number of its tries' loads and of its tries, its failures, the
+/// number of its tries that loaded a stamp and found the first epoch again, and its open try. A look ahead is no
+/// load of a try and is not counted.
 pub struct ReaderState {
     pub shape: Shape,
     pub seen: LinkedList<Write>,

@@ -5,7 +5,7 @@ ghost use Rattle.mica_words.specs.declared.entry.TheConstants.{SLOTS};
 ghost use Rattle.partition_model.specs.History.{IsPrefix, stamp_of, writes_to_bucket};
 ghost use Rattle.epoch_core.specs.declared.reader.ReaderState.{ReaderState};
 ghost use Rattle.epoch_core.specs.declared.scripted.Plan.{Plan};
-ghost use Rattle.epoch_core.specs.Shape.{options_of, IsValidShape, IsMain, IsSpare, IsBucket};
+ghost use Rattle.epoch_core.specs.Shape.{options_of, IsPossibleShape, IsMain, IsSpare, IsBucket};
 ghost use Rattle.epoch_core.specs.Layout.{entry_at, link_at, item_at};
 ghost use Rattle.epoch_core.specs.ReaderState.{opened, loaded, loaded_items, stamped, shut};
 ghost use Rattle.epoch_core.specs.ReaderKept.{Tells};
@@ -27,7 +27,7 @@ pub trait ReaderWords: Drop {
 
     fn shape(&self) -> Shape
         ensures same { result ≡ (reader self.now).shape }
-        ensures valid { IsValidShape result };
+        ensures valid { IsPossibleShape result };
 
     /// Opens a try of a main bucket where its epoch is even. A try that was open is given up.
     fn first_epoch(&mut self, bucket: u32) -> u64

@@ -236,10 +236,31 @@ impl Stage {
     }
 }
 
+// Whether the cuts never fall, and none is above this.
+fn are_cuts(cuts: &[u32], most: usize) -> bool
+    ensures { IsTrue result ↔ (Rises cuts.now × NoneAbove most cuts.now) }
+{
+    let mut last = 0;
+    for i in 0..cuts.len() {
+        if cuts[i] < last {
+            return false;
+        }
+        last = cuts[i];
+    }
+    last as usize <= most
+}
+
 impl Scripted {
     ghost use Rattle.std.specs.Prelude.{IfOk};
     ghost use Rattle.epoch_core.specs.Script.{opening_book};
     ghost use Rattle.epoch_core.specs.Seats.{diary_of, book_of, plan_for};
+
+    /// Whether `new` takes the cuts: they never fall, and none is above the number of events that the words kept.
+    pub fn takes(plain: &PlainWords, cuts: &[u32]) -> bool
+        ensures { IsTrue result ↔ (Rises cuts.now × NoneAbove (length (diary_of plain.now).kept) cuts.now) }
+    {
+        are_cuts(cuts, plain.events().len())
+    }
 
     /// A reader of the words whose events the plain words kept, which begin as made. On `NoMemory` the plain words
     /// are dropped.

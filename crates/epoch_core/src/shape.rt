@@ -1,11 +1,11 @@
 //! The shape of a partition, and its words by their meaning.
 ghost use Rattle.std.specs.Prelude.{◌≡◌, ◌↔◌, IsTrue, ◌+◌, ◌*◌, ◌%◌, ◌<◌};
-ghost use Rattle.partition_model.specs.Options.{IsValid};
-ghost use Rattle.epoch_core.specs.Shape.{shape_of, IsValidShape, is_in_range};
+ghost use Rattle.partition_model.specs.Options.{IsPossible, IsValid};
+ghost use Rattle.epoch_core.specs.Shape.{shape_of, IsPossibleShape, is_in_range};
 ghost use Rattle.epoch_core.specs.Layout.{bucket_words, main_words, entries_at, place_at, word_count};
 
 use mica_words::SLOTS;
-use partition_model::{MAX_WEAR, Mode, Options};
+use partition_model::{MOST_SPARES, MOST_WEAR, MOST_WORDS, Mode, Options};
 
 /// A bucket's entries and its link.
 const BUCKET_WORDS: usize = SLOTS as usize + 1;
@@ -41,7 +41,8 @@ impl Shape {
     /// There are no spares in cache mode.
     pub fn of(options: &Options) -> Shape
         ensures same { result ≡ shape_of options.now }
-        ensures valid { IsValid options.now → IsValidShape result }
+        ensures possible { IsPossible options.now → IsPossibleShape result }
+        ensures valid { IsValid options.now → IsPossibleShape result }
     {
         let spares = match options.mode {
             Mode::Cache => 0,
@@ -56,9 +57,9 @@ impl Shape {
         }
     }
 
-    /// Whether each field is in its range.
-    pub fn is_valid(&self) -> bool
-        ensures { IsTrue result ↔ IsValidShape self.now }
+    /// Whether partitions can be made of this shape.
+    pub fn is_possible(&self) -> bool
+        ensures { IsTrue result ↔ IsPossibleShape self.now }
     {
         self.is_in_range()
     }
@@ -68,15 +69,15 @@ impl Shape {
     {
         let spares = match self.mode {
             Mode::Cache => 0,
-            Mode::Store => 65_536,
+            Mode::Store => MOST_SPARES,
         };
         self.buckets.is_power_of_two()
-            && self.buckets <= 65_536
+            && self.buckets <= 1 << 24
             && self.spares <= spares
             && 256 <= self.words
-            && self.words <= 1_048_576
+            && self.words <= MOST_WORDS
             && 1 <= self.wear
-            && self.wear <= MAX_WEAR
+            && self.wear <= MOST_WEAR
     }
 
     /// Where the word lies.

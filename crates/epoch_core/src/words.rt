@@ -4,7 +4,7 @@ ghost use Rattle.atomic_table.specs.Seated.{TableId};
 ghost use Rattle.partition_model.specs.Write.{write_of};
 ghost use Rattle.epoch_core.specs.declared.state.OwnerState.{OwnerState};
 ghost use Rattle.epoch_core.specs.declared.event.Event.TheVariants.{Begins, Marks, PutsWord, PutsEntry, PutsLink, Ends};
-ghost use Rattle.epoch_core.specs.Shape.{IsValidShape};
+ghost use Rattle.epoch_core.specs.Shape.{IsPossibleShape};
 ghost use Rattle.epoch_core.specs.Layout.{IsInside};
 ghost use Rattle.epoch_core.specs.OwnerState.{word_at};
 ghost use Rattle.epoch_core.specs.Events.{MayBegin, MayMark, MayPutWord, MayPutEntry, MayPutLink, MayEnd, after};
@@ -24,7 +24,7 @@ pub trait OwnerWords: Drop {
 
     fn shape(&self) -> Shape
         ensures same { result ≡ (owner self.now).shape }
-        ensures valid { IsValidShape result };
+        ensures valid { IsPossibleShape result };
 
     fn read(&mut self, at: WordAt) -> u64
         requires { IsInside (owner self.old).shape at }

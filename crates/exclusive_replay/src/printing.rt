@@ -10,6 +10,8 @@ use mica_io::{Failed, Gate, NoMemory, Sink};
 use mica_trace::{Trace, texts_of, write_texts};
 use partition_model::Options;
 use std::alloc::Global;
+use std::error::Error;
+use std::fmt;
 use std::sync::Wait;
 use std::thread::Threads;
 
@@ -20,6 +22,17 @@ pub enum ExclusiveFault {
     Write,
     NoMemory,
 }
+
+impl fmt::Display for ExclusiveFault {
+    fn fmt<W: fmt::Write>(&self, f: &mut fmt::Formatter<W>) -> fmt::Result {
+        match self {
+            ExclusiveFault::Write => f.write_str("a write failed"),
+            ExclusiveFault::NoMemory => fmt::Display::fmt(&NoMemory, f),
+        }
+    }
+}
+
+impl Error for ExclusiveFault {}
 
 impl From<NoMemory> for ExclusiveFault {
     ghost use Rattle.exclusive_replay.specs.declared.printing.ExclusiveFault.TheVariants.{NoMemory};

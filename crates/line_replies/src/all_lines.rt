@@ -20,7 +20,8 @@ pub fn reply_to_all<P: Partition>(
 ) -> Result<Report, NoMemory>
     requires valid { IsValid options.now }
     requires made { AreAnswered options.now [] [] (map (λ p. P.owner p) parts.old.items) }
-    ensures { IfOk result (λ report. AreAnswered options.now trace.now report (map (λ p. P.owner p) parts.new.items)) }
+    ensures answered { IfOk result (λ report. AreAnswered options.now trace.now report (map (λ p. P.owner p) parts.new.items)) }
+    ensures homes { map (λ p. P.home p) parts.new.items ≡ map (λ p. P.home p) parts.old.items }
 {
     let mut report = Report::with_capacity(alloc, trace.len())?;
     let mut value = ItemBuf::new(alloc)?;

@@ -21,6 +21,7 @@ fn answer<P: Partition>(
     requires { KeyFits key.now }
     ensures answer { IfOk result (IsAnswered (P.owner part.old) key.now) }
     ensures same { P.owner part.new ≡ P.owner part.old }
+    ensures home { P.home part.new ≡ P.home part.old }
 {
     match part.get(key, value) {
         Answer::Hit => {
@@ -40,7 +41,8 @@ fn answer<P: Partition>(
 fn write<P: Partition>(part: &mut P, op: Op, key: &[u8], value: &[u8]) -> Line
     requires key { KeyFits key.now }
     requires value { HasValueOf op value.now }
-    ensures { IsWriteReply (P.owner part.old) (P.owner part.new) (write_of op key.now value.now) result }
+    ensures reply { IsWriteReply (P.owner part.old) (P.owner part.new) (write_of op key.now value.now) result }
+    ensures home { P.home part.new ≡ P.home part.old }
 {
     let outcome = write_to(part, op, key, value);
     Line::Wrote {
@@ -61,6 +63,7 @@ pub fn reply_to<P: Partition>(
     requires { IsTraceLine line.now }
     ensures ok { IfOk result (IsReplied (P.owner part.old) (P.owner part.new) line.now) }
     ensures err { OnErr result (P.owner part.new ≡ P.owner part.old) }
+    ensures home { P.home part.new ≡ P.home part.old }
 {
     let (key, given) = (line.key.bytes(), line.value.bytes());
     match line.op.write_op() {

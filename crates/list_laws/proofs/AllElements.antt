@@ -2,15 +2,11 @@
 use Rattle.std.proofs.Common.{◌≡◌, ℕ, zero, suc, ◌<◌, List, [], ◌∷◌, ◌++◌, length, Some, slice_get, slice_index_or, refl, subst, arith}
 use Rattle.std.specs.List.{All, AllByRecursion, AllZip}
 use Rattle.std.proofs.lemmas.List.Elements.{All-from_recursion, All-tail, recursion_from_All}
-use Rattle.std.proofs.lemmas.Option.{get_or_from_slice_get, slice_get_within}
 
 pub all_at : {X : Type 0} (P : X → Type 0) (xs : List X) (n : ℕ) (x : X) → AllByRecursion P xs → slice_get xs n ≡ Some x → P x
 all_at P [] n x all at = absurd (cc)
 all_at P (y ∷ xs) zero x all at = let same : y ≡ x = cc in subst P same all.0
 all_at P (y ∷ xs) (suc n) x all at = all_at P xs n x all.1 at
-
-pub All-at : {X : Type 0} (P : X → Type 0) (xs : List X) (n : ℕ) (x : X) → All P xs → slice_get xs n ≡ Some x → P x
-All-at P xs n x all at = subst P (get_or_from_slice_get xs n x x at) (all n x (slice_get_within xs n x at))
 
 -- what each place has, all have
 pub all_places : {X : Type 0} (P : X → Type 0) (xs : List X) → ((n : ℕ) (x : X) → slice_get xs n ≡ Some x → P x) → AllByRecursion P xs

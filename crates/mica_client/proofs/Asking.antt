@@ -1,5 +1,5 @@
 -- All batches, one after another: what is left of them, and what is known of the answers.
-use Rattle.std.proofs.Common.{◌≡◌, inl, ℕ, ◌+◌, ◌||◌, Bool, true, false, not, List, [], ◌∷◌, map, length, refl, sym, ap, subst, ◌∙◌, arith, Option, Some, None, Ok, Err}
+use Rattle.std.proofs.Common.{◌≡◌, ℕ, ◌+◌, ◌||◌, Bool, true, false, not, List, [], ◌∷◌, length, refl, sym, ap, subst, ◌∙◌, arith, Option, None}
 use Rattle.std.specs.List.{AllByRecursion}
 use Rattle.std.proofs.lemmas.Bool.{or_parts, not-false, not_from_true}
 use Rattle.mica_trace.specs.declared.line.TraceLine.{TraceLine}
@@ -8,14 +8,10 @@ use Rattle.batch_packets.specs.declared.batch.Request.{Request}
 use Rattle.batch_packets.specs.declared.batch.Batch.{Batch}
 use Rattle.batch_packets.specs.BatchGrammar.{IsBatch}
 use Rattle.mica_client.specs.declared.options.AskOptions.{AskOptions}
-use Rattle.mica_client.specs.declared.fault.AskFault.{AskFault}
-use Rattle.mica_client.specs.declared.fault.AskFault.TheVariants.{NoMemory}
 use Rattle.mica_client.specs.declared.options.TheConstants.{VERSION}
-use Rattle.mica_client.proofs.Running.{on_each, went_none}
-use Rattle.mica_client.specs.Talk.{Talk, OnTalk, Passes}
 use Rattle.mica_client.specs.Batches.{Group, ask_of, numbered, groups_of}
-use Rattle.mica_client.specs.Answers.{KnownLines, unanswered, is_answered, HasTickets, AreFor, IsOfTrace, KeepsAnswers, KeepsAll}
-use Rattle.mica_client.specs.Exchange.{Standing, start, standing_at, lacks_answer, IsWhole, ComesTo, IsCauseOf, MeansForAsk, AsksAll}
+use Rattle.mica_client.specs.Answers.{KnownLines, unanswered, is_answered, HasTickets, AreFor, IsOfTrace, KeepsAnswers}
+use Rattle.mica_client.specs.Exchange.{start, standing_at, lacks_answer}
 
 abbrev pub Grows : KnownLines → KnownLines → Type 0
 Grows old new = (ticket : ℕ) → is_answered old ticket ≡ true → is_answered new ticket ≡ true
@@ -80,30 +76,10 @@ going_more groups rest group number old mid new going keeps done = record {
 pub all_answered : (groups : List Group) (number : ℕ) (old new : KnownLines) → Going groups [] number old new → AllByRecursion (Answered new) groups
 all_answered groups number old new going = going.answered new (λ t h. h) tt
 
-pub keeps_all : (groups : List Group) (number : ℕ) (old new : KnownLines) → Going groups [] number old new → KeepsAll groups old new
-keeps_all groups number old new going = record { len = going.len; known = going.known; lines = λ trace of h. (going.lines trace of h).1 }
-
 -- What is said of the whole
-
-pub nothing_asked : (before : Standing) (x : Option Talk) → OnTalk (Passes (MeansForAsk (Err NoMemory) before)) x x
-nothing_asked before None = tt
-nothing_asked before (Some t) = record { between = []; went = went_none t; fact = inl (before, refl, tt) }
 
 module _ (options : AskOptions) (trace : List TraceLine) (groups : List Group) (answers : KnownLines) (groups_are : groups ≡ groups_of options trace) (answers_are : answers ≡ unanswered trace) where
   begins : standing_at (numbered 0 groups) None answers ≡ start options trace
   begins =
       ap (λ (gs : List Group). standing_at (numbered 0 gs) None answers) groups_are
       ∙ ap (λ (a : KnownLines). standing_at (numbered 0 (groups_of options trace)) None a) answers_are
-
-  pub fault_asked : (fault : AskFault) (x y : Option Talk) → OnTalk (Passes (IsCauseOf fault (standing_at (numbered 0 groups) None answers))) x y → OnTalk (Passes (MeansForAsk (Err fault) (start options trace))) x y
-  fault_asked fault x y h = subst (λ (s : Standing). OnTalk (Passes (IsCauseOf fault s)) x y) begins h
-
-  pub report_asked : (new : KnownLines) (report : List Line) → new ≡ map (λ line. Some line) report → (x y : Option Talk) → OnTalk (Passes (AsksAll (numbered 0 groups) answers new)) x y
-      → OnTalk (Passes (MeansForAsk (Ok report) (start options trace))) x y
-  report_asked new report is x y h =
-      on_each (Passes (AsksAll (numbered 0 groups) answers new)) (Passes (MeansForAsk (Ok report) (start options trace)))
-      (λ a b p. record {
-        between = p.between;
-        went = p.went;
-        fact = subst (λ (s : Standing). ComesTo s p.between (λ at. IsWhole at × (at.answers ≡ map (λ line. Some line) report))) begins (p.fact.0, p.fact.1, (p.fact.2.0, p.fact.2.1 ∙ is));
-      }) x y h

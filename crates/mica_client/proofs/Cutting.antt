@@ -1,31 +1,22 @@
 -- A trace is cut in one pass over its lines: each share holds what the requests of the round so far are to its partition.
-use Rattle.std.proofs.Common.{◌≡◌, ◌<◌, ◌≤◌, ℕ, zero, suc, ◌+◌, Bool, true, false, List, [], ◌∷◌, ◌++◌, length, refl, sym, ap, subst, ◌∙◌, arith, cond, Option, Some, None, eq-eqb, length-append, append_assoc, append-nil, get_or, set}
+use Rattle.std.proofs.Common.{◌≡◌, ◌<◌, ◌≤◌, ℕ, zero, suc, ◌+◌, Bool, true, false, List, [], ◌∷◌, ◌++◌, length, refl, sym, ap, subst, ◌∙◌, arith, cond, Option, Some, None, eq-eqb, append_assoc, append-nil, get_or, set}
 use Rattle.std.specs.Prelude.{filter, flat_map}
 use Rattle.std.specs.List.{range_with_len}
 use Rattle.std.proofs.lemmas.Bool.{ne_eqb}
 use Rattle.std.proofs.lemmas.List.Elements.{filter-append}
-use Rattle.std.proofs.lemmas.Grind.{flat_map-append}
 use Rattle.mica_words.specs.Hash.{partition_of}
 use Rattle.mica_trace.specs.declared.line.TraceLine.{TraceLine}
 use Rattle.batch_packets.specs.declared.batch.Request.{Request}
-use Rattle.batch_packets.specs.BatchGrammar.{IsRequest, request_text}
+use Rattle.batch_packets.specs.BatchGrammar.{IsRequest}
 use Rattle.mica_client.specs.declared.options.TheConstants.{VERSION}
 use Rattle.mica_client.specs.declared.options.AskOptions.{AskOptions}
 use Rattle.mica_client.specs.declared.share.Share.{Share}
-use Rattle.mica_client.specs.Batches.{Group, request_of, on_line, rounds_from, text_len, joins, cut, batches_with, is_in_partition, port_of, groups_at, groups_in, groups_of_round, groups_of}
+use Rattle.mica_client.specs.Batches.{Group, request_of, on_line, rounds_from, joins, cut, batches_with, is_in_partition, port_of, groups_at, groups_in, groups_of_round, groups_of}
 use Rattle.mica_client.specs.Cutting.{share_with, Holds, AllHold, IsCutting}
 use Rattle.mica_client.proofs.Requests.{of_line}
 use Rattle.mica_client.proofs.Fitting.{joins_none}
 
 -- The last batch of a share
-
-pub text_len_more : (group : List Request) (r : Request) → text_len (group ++ r ∷ []) ≡ text_len group + length (request_text r)
-text_len_more group r =
-    let parts = flat_map-append request_text group (r ∷ []) in
-    let long = ap (λ (t : List ℕ). length t) parts in
-    let both = length-append (flat_map request_text group) (request_text r ++ []) in
-    let none = length-append (request_text r) [] in
-    omega (arith, long, both, none)
 
 pub cut_joins : (per port : ℕ) (full : List Group) (group later : List Request) (r : Request) → joins per group r ≡ true
     → batches_with per port full (group ++ r ∷ []) later ≡ batches_with per port full group (r ∷ later)
@@ -112,9 +103,6 @@ module _ (options : AskOptions) (round : List Request) where
   round_done shares many h = finished 0 shares h ∙ ap (λ (n : ℕ). flat_map (groups_in options round) (range_with_len 0 n)) many
 
 -- The lines
-
-pub none_taken : (options : AskOptions) (lines : List TraceLine) (shares : List Share) → AllHold options [] 0 shares → IsCutting options 0 lines [] shares (groups_of options lines)
-none_taken options lines shares h = record { round = []; holds = h; makes = refl }
 
 module _ (options : AskOptions) (n : ℕ) (line : TraceLine) (later : List TraceLine) (groups all : List Group) (shares : List Share) (c : IsCutting options n (line ∷ later) groups shares all) where
   -- what follows the round's requests, where the line has this one

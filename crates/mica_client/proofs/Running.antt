@@ -1,23 +1,16 @@
 -- An exchange goes on by a datagram, and by what follows it.
-use Rattle.std.proofs.Common.{◌≡◌, inl, inr, ℕ, true, false, List, [], ◌∷◌, ◌++◌, refl, sym, ap, subst, ◌∙◌, append_assoc, append-nil, take, IfSome, IfOk, IfErr, Option, Some, None, option_map, Result, Ok, Err}
+use Rattle.std.proofs.Common.{◌≡◌, inl, inr, ℕ, true, false, List, [], ◌∷◌, ◌++◌, refl, sym, ap, subst, ◌∙◌, append_assoc, append-nil, take, IfSome, IfOk, IfErr, Option, Some, None, Result, Ok, Err}
 use Rattle.mica_io.specs.Traffic.{Datagram}
 use Rattle.batch_packets.specs.declared.batch.Batch.{Batch}
 use Rattle.batch_packets.specs.declared.replies.Replies.{Replies}
-use Rattle.batch_packets.specs.BatchGrammar.{batch_text}
 use Rattle.mica_client.specs.declared.fault.AskFault.{AskFault}
 use Rattle.mica_client.specs.declared.fault.AskFault.TheVariants.{Unread, Stranger, Double, Wrong, Lost, Link, NoMemory}
-use Rattle.mica_client.specs.Talk.{Passed, sent, received, Talk, sent_one, received_in, Went, OnTalk, Passes, ReceivesNext}
+use Rattle.mica_client.specs.Talk.{Passed, sent, received, Talk, received_in, Went, OnTalk, Passes, ReceivesNext}
 use Rattle.mica_client.specs.Batches.{Ask}
-use Rattle.mica_client.specs.Answers.{KnownLines, IsOfReply}
+use Rattle.mica_client.specs.Answers.{KnownLines}
 use Rattle.mica_client.specs.declared.exchange.TheConstants.{ROOM}
 use Rattle.mica_client.proofs.Cut.{cut_spells, cut_unread}
-use Rattle.mica_client.specs.Exchange.{Standing, standing_at, waits, waits_for, lacks_answer, Steps, Runs, IsWhole, ComesTo, StopsAt, IsCauseOf, IsUnread, IsOfReading, SpellsAnswers, TakesReplies, ShowsFault, Receives, StopsReading, StopsOne, Asks, StopsAsking, AsksAll}
-
--- a fact of what was told gives another
-pub on_each : (P Q : Talk → Talk → Type 0) → ((a b : Talk) → P a b → Q a b) → (x y : Option Talk) → OnTalk P x y → OnTalk Q x y
-on_each P Q gives None y p = tt
-on_each P Q gives (Some a) None p = absurd p
-on_each P Q gives (Some a) (Some b) p = gives a b p
+use Rattle.mica_client.specs.Exchange.{Standing, standing_at, waits, waits_for, lacks_answer, Steps, Runs, IsWhole, ComesTo, StopsAt, IsCauseOf, IsUnread, IsOfReading, SpellsAnswers, TakesReplies, ShowsFault, Receives, StopsReading, StopsOne, Asks, StopsAsking}
 
 -- two facts of what was told, one after the other
 pub on_both : (P Q R : Talk → Talk → Type 0) → ((a b c : Talk) → P a b → Q b c → R a c) → (x y z : Option Talk) → OnTalk P x y → OnTalk Q y z → OnTalk R x z
@@ -108,67 +101,11 @@ stops_told (Err (Stranger t)) x y faults given room wide next un is = absurd is
 stops_told (Err (Double t)) x y faults given room wide next un is = absurd is
 stops_told (Err (Wrong t)) x y faults given room wide next un is = absurd is
 
--- the end came, or a fault of the link: nothing passed
-pub lost_at : (x y : Option Talk) → IfSome x (λ t. t.left ≡ []) → y ≡ x → OnTalk (StopsReading Lost) x y
-lost_at None y none same = tt
-lost_at (Some t) y none same = subst (OnTalk (StopsReading Lost) (Some t)) (sym same) (refl, none)
-
 pub link_at : (x y : Option Talk) → y ≡ x → OnTalk (StopsReading Link) x y
 link_at None y same = tt
 link_at (Some t) y same = subst (OnTalk (StopsReading Link) (Some t)) (sym same) refl
 
--- a fault of receiving and reading is one of the whole step
-as_step : (fault : AskFault) (batch : Batch) (answers : KnownLines) (a b : Talk) → StopsReading fault a b → StopsOne fault batch answers a b
-as_step Unread batch answers a b s = s
-as_step NoMemory batch answers a b s = s
-as_step Lost batch answers a b s = s
-as_step Link batch answers a b s = s
-as_step (Stranger t) batch answers a b s = absurd s
-as_step (Double t) batch answers a b s = absurd s
-as_step (Wrong t) batch answers a b s = absurd s
-
-pub stops_reading : (fault : AskFault) (batch : Batch) (answers : KnownLines) (x y : Option Talk) → OnTalk (StopsReading fault) x y → OnTalk (StopsOne fault batch answers) x y
-stops_reading fault batch answers x y s = on_each (StopsReading fault) (StopsOne fault batch answers) (as_step fault batch answers) x y s
-
--- and so is one that a reply shows
-shown_step : (fault : AskFault) (batch : Batch) (answers : KnownLines) (a b : Talk) → IsOfReply fault → Receives (λ bytes. ShowsFault batch answers bytes fault) a b → StopsOne fault batch answers a b
-shown_step Unread batch answers a b is s = absurd is
-shown_step NoMemory batch answers a b is s = absurd is
-shown_step Lost batch answers a b is s = absurd is
-shown_step Link batch answers a b is s = absurd is
-shown_step (Stranger t) batch answers a b is s = s
-shown_step (Double t) batch answers a b is s = s
-shown_step (Wrong t) batch answers a b is s = s
-
-pub stops_shown : (fault : AskFault) (batch : Batch) (answers : KnownLines) (x y : Option Talk) → IsOfReply fault → OnTalk (Receives (λ bytes. ShowsFault batch answers bytes fault)) x y → OnTalk (StopsOne fault batch answers) x y
-stops_shown fault batch answers x y is s = on_each (Receives (λ bytes. ShowsFault batch answers bytes fault)) (StopsOne fault batch answers) (λ a b s. shown_step fault batch answers a b is s) x y s
-
 -- One batch
-
--- it was sent
-pub asks_sent : (ask : Ask) (answers : KnownLines) (faults : ℕ) (x y : Option Talk) → y ≡ option_map (sent_one faults ask.port (batch_text ask.batch)) x → OnTalk (Passes (Asks ask answers answers)) x y
-asks_sent ask answers faults None y told = tt
-asks_sent ask answers faults (Some t) y told =
-    subst (OnTalk (Passes (Asks ask answers answers)) (Some t)) (sym told)
-    (record {
-      between = sent ask.port (batch_text ask.batch) faults ∷ [];
-      went = record { told = refl; given = refl };
-      fact = record {
-        runs = λ later asked idle. (
-          standing_at later (Some ask.batch) answers,
-          record {
-            ask = ask;
-            next = refl;
-            in_turn = idle;
-            port_is = refl;
-            text = refl;
-            asked = refl;
-            answers = refl;
-          },
-          refl,
-        );
-      };
-    })
 
 -- one datagram of answers more
 pub asks_more : (ask : Ask) (old mid new : KnownLines) (x y z : Option Talk) → OnTalk (Passes (Asks ask old mid)) x y → OnTalk (Receives (λ bytes. TakesReplies ask.batch mid bytes new)) y z
@@ -243,20 +180,6 @@ module _ (ask : Ask) (old mid : KnownLines) (waited : lacks_answer mid ask.batch
   pub asks_stop : (fault : AskFault) (x y z : Option Talk) → OnTalk (Passes (Asks ask old mid)) x y → OnTalk (StopsOne fault ask.batch mid) y z → OnTalk (Passes (StopsAsking fault ask old)) x z
   asks_stop fault x y z p q = on_both (Passes (Asks ask old mid)) (StopsOne fault ask.batch mid) (Passes (StopsAsking fault ask old)) (stop fault) x y z p q
 
--- it was not sent
-not_sent : (fault : AskFault) (ask : Ask) (old : KnownLines) → ((later : List Ask) (asked : Option Batch) (left : List Datagram) → IsCauseOf fault (standing_at (ask ∷ later) asked old) [] left)
-    → (x y : Option Talk) → y ≡ x → OnTalk (Passes (StopsAsking fault ask old)) x y
-not_sent fault ask old is None y same = tt
-not_sent fault ask old is (Some t) y same =
-    subst (OnTalk (Passes (StopsAsking fault ask old)) (Some t)) (sym same)
-    (record { between = []; went = went_none t; fact = record { cause = λ later asked idle. is later asked t.left } })
-
-pub not_sent_link : (ask : Ask) (old : KnownLines) (x y : Option Talk) → y ≡ x → OnTalk (Passes (StopsAsking Link ask old)) x y
-not_sent_link ask old x y same = not_sent Link ask old (λ later asked left. (standing_at (ask ∷ later) asked old, refl, λ whole. absurd (let none = whole.all_sent in cc))) x y same
-
-pub not_sent_memory : (ask : Ask) (old : KnownLines) (x : Option Talk) → OnTalk (Passes (StopsAsking NoMemory ask old)) x x
-not_sent_memory ask old x = not_sent NoMemory ask old (λ later asked left. inl (standing_at (ask ∷ later) asked old, refl, tt)) x x refl
-
 -- All batches
 
 -- these are left, and no ticket waits
@@ -289,12 +212,3 @@ so_far_stop fault asks rest ask old mid x y z p q =
       went = went_on a b c p.between q.between p.went q.went;
       fact = cause_on fault _ _ p.between q.between c.left p.fact.1 (q.fact.cause rest p.fact.0 p.fact.2);
     }
-
-pub so_far_all : (asks : List Ask) (old new : KnownLines) (x y : Option Talk) → OnTalk (Passes (SoFar asks [] old new)) x y → OnTalk (Passes (AsksAll asks old new)) x y
-so_far_all asks old new x y p =
-    on_each (Passes (SoFar asks [] old new)) (Passes (AsksAll asks old new))
-    (λ a b p. record {
-      between = p.between;
-      went = p.went;
-      fact = (standing_at [] p.fact.0 new, p.fact.1, (record { all_sent = refl; answered = p.fact.2 }, refl));
-    }) x y p

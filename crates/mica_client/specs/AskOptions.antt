@@ -7,3 +7,4 @@ pub record IsValidAsk (options : AskOptions) : Type 0 where
   pub partitions : InRange 1 16 options.partitions
   pub fronts : InRange 1 16 options.fronts
   pub per : InRange 1 255 options.per
+  pub wait : InRange 1 3600 options.wait

@@ -66,6 +66,7 @@ fn receive<L: Link>(alloc: Global, link: &mut L, room: &mut [u8]) -> Result<Repl
     ensures cause { IsErrOf result AskFault.Link → Rose (L.faults link.old) (L.faults link.new) }
     ensures never_fall { L.faults link.old ≤ L.faults link.new }
     ensures ended { L.has_ended link.new ≡ (is_lost result || L.has_ended link.old) }
+    ensures silence { L.silence link.new ≡ L.silence link.old }
 {
     match link.recv(room)? {
         Some(count) => replies_in(alloc, &room[..count]),
@@ -92,6 +93,7 @@ fn receive_one<L: Link>(
     ensures cause { IsErrOf result AskFault.Link → Rose (L.faults link.old) (L.faults link.new) }
     ensures never_fall { L.faults link.old ≤ L.faults link.new }
     ensures ended { L.has_ended link.new ≡ (is_lost result || L.has_ended link.old) }
+    ensures silence { L.silence link.new ≡ L.silence link.old }
 {
     match receive(alloc, link, room) {
         Ok(replies) => {
@@ -131,6 +133,7 @@ fn ask_one<L: Link>(
     ensures cause { IsErrOf result AskFault.Link → Rose (L.faults link.old) (L.faults link.new) }
     ensures never_fall { L.faults link.old ≤ L.faults link.new }
     ensures ended { L.has_ended link.new ≡ (is_lost result || L.has_ended link.old) }
+    ensures silence { L.silence link.new ≡ L.silence link.old }
 {
     batch.write(text)?;
     link.send(port, text.as_slice())?;
@@ -162,6 +165,7 @@ fn ask_all<L: Link>(
     ensures cause { IsErrOf result AskFault.Link → Rose (L.faults link.old) (L.faults link.new) }
     ensures never_fall { L.faults link.old ≤ L.faults link.new }
     ensures ended { L.has_ended link.new ≡ (is_lost result || L.has_ended link.old) }
+    ensures silence { L.silence link.new ≡ L.silence link.old }
 {
     let mut text = Vec::new(alloc);
     let mut room = [0; ROOM];
@@ -180,8 +184,9 @@ fn ask_all<L: Link>(
 /// Asks a server for all that the trace says, and makes the report of its replies: line n is what the reply to ticket n means.
 ///
 /// The batches are those of each round, in it of each partition. One is on its way at a time, and waits until each of its tickets
-/// is answered; nothing is sent again, and the first fault ends the exchange. `options.partitions` and `options.fronts` must be the
-/// server's, or a key's batch goes to a front of another partition. `sent_in_order`, `answered_once` and `one_cause` say what the
+/// is answered; nothing is sent again, and the first fault ends the exchange. `options.partitions` and `options.fronts` should be the
+/// server's. Every front serves all partitions, so other numbers are answered too; but then keys of one partition may go to several
+/// fronts, between which no order of stamps is promised, and nobody answers at a front that the server lacks. `sent_in_order`, `answered_once` and `one_cause` say what the
 /// clause `told` means for the datagrams.
 ///
 /// ```text
@@ -205,9 +210,11 @@ pub fn ask<L: Link>(
     ensures cause { IsErrOf result AskFault.Link → Rose (L.faults link.old) (L.faults link.new) }
     ensures never_fall { L.faults link.old ≤ L.faults link.new }
     ensures ended { L.has_ended link.new ≡ (is_lost result || L.has_ended link.old) }
+    ensures silence { L.silence link.new ≡ options.now.wait }
     // The report has a line for each line of the trace, by its operation.
     ensures lines { IfOk result (AllZip IsLineFor trace.now) }
 {
+    link.set_silence(options.wait);
     let lines = trace.lines();
     let Ok(groups) = groups_of(alloc, options, lines) else {
         return Err(AskFault::NoMemory);

@@ -7,7 +7,7 @@
 //! A program asks a server at port 9000 of this machine over UDP:
 //!
 //! ```text
-//! let options = AskOptions { port: 9_000, partitions: 4, fronts: 1, per: 32 };
+//! let options = AskOptions { port: 9_000, partitions: 4, fronts: 1, per: 32, wait: 5 };
 //! let trace = read_trace(alloc, b"put a 1\nsync\nget a\n")?;
 //! let report = ask(alloc, &options, &trace, &mut UdpLink::new(&rt))?;
 //! ```

@@ -20,6 +20,15 @@ pub trait Link {
     /// Which calls fail, where the link tells it.
     ghost script: { Self → Option EndScript };
 
+    /// After how many seconds in which nothing comes it has ended. One in memory never waits, and ends where none is left.
+    ghost silence: { Self → ℕ };
+
+    fn set_silence(&mut self, seconds: u32)
+        requires { 0 < seconds }
+        ensures silence { silence self.new ≡ seconds }
+        ensures same { (talk self.new ≡ talk self.old) × (faults self.new ≡ faults self.old)
+            × (has_ended self.new ≡ has_ended self.old) × (script self.new ≡ script self.old) };
+
     /// Sends one datagram to a port.
     fn send(&mut self, port: u16, piece: &[u8]) -> Result<(), Failed>
         requires { 0 < length piece.now }
@@ -36,7 +45,8 @@ pub trait Link {
         ensures foretold { IfSome (script self.old)
             (λ s. is_err result ≡ fails_reply (length piece.now) s) }
         ensures moves_on { script self.new
-            ≡ option_map (after_reply (length piece.now)) (script self.old) };
+            ≡ option_map (after_reply (length piece.now)) (script self.old) }
+        ensures silence { silence self.new ≡ silence self.old };
 
     /// Puts the next datagram at the front of `out`, as far as it fits, and says how many bytes that are. `None` is the end.
     fn recv(&mut self, out: &mut [u8]) -> Result<Option<usize>, Failed>
@@ -58,5 +68,6 @@ pub trait Link {
             (λ _. faults self.new ≡ faults_after (is_err result) (faults self.old)) }
 
         ensures foretold { IfSome (script self.old) (λ s. is_err result ≡ fails_recv s) }
-        ensures moves_on { script self.new ≡ option_map after_recv (script self.old) };
+        ensures moves_on { script self.new ≡ option_map after_recv (script self.old) }
+        ensures silence { silence self.new ≡ silence self.old };
 }

@@ -37,6 +37,7 @@ pub struct MemLink {
     recv_fails: Vec<u32>,
     recvs: u32,
     ended: bool,
+    silence: u32,
     faults: u64,
     ghost in_range: { at ≤ vec_len datagrams },
     ghost bytes_room: { vec_len bytes + room ≤ vec_capacity bytes },
@@ -70,6 +71,7 @@ impl MemLink {
             recv_fails: Vec::from_slice(alloc, recv_fails)?,
             recvs: 0,
             ended: false,
+            silence: 0,
             faults: 0,
         })
     }
@@ -124,6 +126,12 @@ impl Link for MemLink {
       replies = l.sends;
       room = l.room;
     }) };
+
+    ghost silence = { λ l. l.silence };
+
+    fn set_silence(&mut self, seconds: u32) {
+        self.silence = seconds;
+    }
 
     fn send(&mut self, port: u16, piece: &[u8]) -> Result<(), Failed> {
         self.sends = self.sends.saturating_add(1);

@@ -15,6 +15,8 @@ pub struct AskOptions {
     pub fronts: u32,
     /// The most requests of a batch, from 1 to 255.
     pub per: u32,
+    /// The seconds of silence after which the link ends, from 1 to 3,600.
+    pub wait: u32,
 }
 
 impl AskOptions {
@@ -28,5 +30,6 @@ impl AskOptions {
             && (1..=16).contains(&self.partitions)
             && (1..=16).contains(&self.fronts)
             && (1..=255).contains(&self.per)
+            && (1..=3_600).contains(&self.wait)
     }
 }

@@ -1,31 +1,47 @@
 //! A UDP socket of this machine.
-ghost use Rattle.std.specs.Prelude.{◌≡◌, ◌≤◌, false, None, length, IfOk};
+ghost use Rattle.std.specs.Prelude.{◌≡◌, ◌≤◌, false, None, length, IfOk, IfSome};
 
 use crate::Link;
 use mica_io::Failed;
-use std::io::ErrorKind;
+use std::io::{self, ErrorKind};
 use std::net::{Net as Sockets, UdpSocket};
+use std::time::Duration;
+
+/// The silence of a new link, in seconds.
+const SILENCE: u32 = 5;
 
 /// A UDP socket, from which datagrams go to ports of 127.0.0.1. The first one that is sent opens it, at a port that the system picks.
-/// It takes a datagram from any sender of this machine, tells nothing of content, and waits where nothing comes.
+/// It takes a datagram from any sender of this machine, and tells nothing of content. Where nothing comes for the silence, it has ended.
 #[derive(Drop)]
 pub struct UdpLink<'a, R> {
     rt: &'a R,
     socket: Option<UdpSocket>,
+    silence: u32,
+    ended: bool,
     faults: u64,
 }
 
 impl<'a, R: Sockets> UdpLink<'a, R> {
     /// A link with no socket yet.
     pub fn new(rt: &'a R) -> UdpLink<'a, R>
-        ensures { ⟦<UdpLink<'a, R> as Link>⟧.faults result ≡ 0 }
+        ensures faults { ⟦<UdpLink<'a, R> as Link>⟧.faults result ≡ 0 }
+        ensures open { ⟦<UdpLink<'a, R> as Link>⟧.has_ended result ≡ false }
     {
         UdpLink {
             rt,
             socket: None,
+            silence: SILENCE,
+            ended: false,
             faults: 0,
         }
     }
+}
+
+/// A socket whose receive gives up after so many seconds.
+fn open<R: Sockets>(rt: &R, silence: u32) -> io::Result<UdpSocket> {
+    let socket = UdpSocket::bind(rt, ("127.0.0.1", 0))?;
+    socket.set_read_timeout(Some(Duration::from_secs(u64::from(silence))))?;
+    Ok(socket)
 }
 
 /// Sends a whole datagram. A wait that the system interrupts begins again.
@@ -40,14 +56,18 @@ fn send_whole(socket: &UdpSocket, port: u16, piece: &[u8]) -> Result<(), Failed>
     Err(Failed)
 }
 
-/// The next datagram, as far as it fits. A wait that the system interrupts begins again.
-fn receive(socket: &UdpSocket, out: &mut [u8]) -> Result<usize, Failed>
-    ensures { IfOk result (λ n. n ≤ length out.new) }
+/// The next datagram, as far as it fits, or nothing after the silence. A wait that the system interrupts begins again.
+fn receive(socket: &UdpSocket, out: &mut [u8]) -> Result<Option<usize>, Failed>
+    ensures { IfOk result (λ got. IfSome got (λ n. n ≤ length out.new)) }
 {
     for _ in 0..u64::MAX {
         match socket.recv(out) {
-            Err(error) if error.kind() == ErrorKind::Interrupted => {}
-            received => return received.map_err(|_| Failed),
+            Ok(count) => return Ok(Some(count)),
+            Err(error) => match error.kind() {
+                ErrorKind::Interrupted => {}
+                ErrorKind::WouldBlock => return Ok(None),
+                _ => return Err(Failed),
+            },
         }
     }
     Err(Failed)
@@ -58,13 +78,23 @@ impl<'a, R: Sockets> Link for UdpLink<'a, R> {
 
     ghost faults = { λ l. l.faults };
 
-    ghost has_ended = { λ _. false };
+    ghost has_ended = { λ l. l.ended };
 
     ghost script = { λ _. None };
 
+    ghost silence = { λ l. l.silence };
+
+    /// Where it was another, the socket is closed, and the next datagram that is sent opens one.
+    fn set_silence(&mut self, seconds: u32) {
+        if seconds != self.silence {
+            self.socket = None;
+        }
+        self.silence = seconds;
+    }
+
     fn send(&mut self, port: u16, piece: &[u8]) -> Result<(), Failed> {
         if self.socket.is_none() {
-            self.socket = UdpSocket::bind(self.rt, ("127.0.0.1", 0)).ok();
+            self.socket = open(self.rt, self.silence).ok();
         }
         if let Some(socket) = &self.socket {
             if send_whole(socket, port, piece).is_ok() {
@@ -78,8 +108,9 @@ impl<'a, R: Sockets> Link for UdpLink<'a, R> {
     /// Where no socket is open nothing can come, which is a fault.
     fn recv(&mut self, out: &mut [u8]) -> Result<Option<usize>, Failed> {
         if let Some(socket) = &self.socket {
-            if let Ok(count) = receive(socket, out) {
-                return Ok(Some(count));
+            if let Ok(got) = receive(socket, out) {
+                self.ended = self.ended || got.is_none();
+                return Ok(got);
             }
         }
         self.faults = self.faults.saturating_add(1);

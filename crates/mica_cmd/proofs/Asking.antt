@@ -49,18 +49,18 @@ module _ (options : AskOptions) (old new : Outside) where
     fault_due Link named is = (given.0, given.1, (trace, given.2, is))
 
     -- the report of the replies
-    pub ask_done : (report : List Line) (result : Status) → AnswersAs options trace old new (Ok report) → IsTold Done (report_text report) old.sink new.sink result
+    pub ask_done : (report : List Line) (result : Status) → AnswersAs options trace old new (Ok report) → new.link.silence ≡ options.wait → IsTold Done (report_text report) old.sink new.sink result
         → ReadsInput old.source new.source → new.net ≡ old.net → new.tables ≡ old.tables → KeepsPromise (ask_promise options) old new result
-    ask_done report result answers told reads net tables =
+    ask_done report result answers silence told reads net tables =
         keeps_promise (ask_promise options) (settles_ask options) old new result
         (done_due (IsDueOfAsk options old new) old.source new.source old.sink new.sink trace given (report_text report) result (report, answers, refl) told) reads net tables
-        (inr (trace, given, (Ok report, answers)))
+        (inr (silence, (trace, given, (Ok report, answers))))
 
     -- a fault of the exchange
-    pub ask_fault : (fault : AskFault) (result : Status) → AnswersAs options trace old new (Err fault) → new.link.has_ended ≡ (is_lost_fault fault || old.link.has_ended)
+    pub ask_fault : (fault : AskFault) (result : Status) → AnswersAs options trace old new (Err fault) → new.link.silence ≡ options.wait → new.link.has_ended ≡ (is_lost_fault fault || old.link.has_ended)
         → (fault ≡ Link → Rose old.link.faults new.link.faults) → IsToldFault fault old.sink new.sink result
         → ReadsInput old.source new.source → new.net ≡ old.net → new.tables ≡ old.tables → KeepsPromise (ask_promise options) old new result
-    ask_fault fault result answers ended rose either reads net tables =
+    ask_fault fault result answers silence ended rose either reads net tables =
         keeps_promise (ask_promise options) (settles_ask options) old new result
         (elim either as (λ _. WritesDue (IsDueOfInput (IsDueOfTrace (IsDueOfAsk options old new)) old.source new.source) old.sink new.sink result) [
           | inl memory ↦ inl memory
@@ -70,4 +70,4 @@ module _ (options : AskOptions) (old new : Outside) where
             fault_due fault written.0 (record { fault = fault; status_is = refl; cause = answers; ended = ended; rose = rose; spelled = refl }),
             written.1,
           )
-        ]) reads net tables (inr (trace, given, (Err fault, answers)))
+        ]) reads net tables (inr (silence, (trace, given, (Err fault, answers))))

@@ -1,7 +1,7 @@
 -- How each command's last step keeps its promises.
-use Rattle.std.proofs.Common.{◌≡◌, ◌⊎◌, ℕ, ◌+◌, inl, inr, List, Option, Some, None, length, length-append, Err, codes, refl, sym, ap, ◌∙◌, subst, arith}
+use Rattle.std.proofs.Common.{◌≡◌, ◌⊎◌, ℕ, ◌+◌, false, inl, inr, List, [], Option, Some, None, length, length-append, Err, codes, refl, sym, ap, ◌∙◌, subst, arith}
 use Rattle.std.specs.Prelude.{IfSome}
-use Rattle.std.specs.Io.KnownBytes.{Appends, Consumes}
+use Rattle.std.specs.Io.KnownBytes.{Consumes}
 use Rattle.mica_io.specs.Faults.{Rose}
 use Rattle.partition_model.specs.declared.options.Options.{Options}
 use Rattle.mica_trace.specs.declared.line.TraceLine.{TraceLine}
@@ -25,21 +25,22 @@ use Rattle.mica_cmd.specs.declared.status.Status.{Status}
 use Rattle.mica_cmd.specs.declared.status.Status.TheVariants.{Done, TraceRefused, WriteFault, NetFault}
 use Rattle.mica_commands.specs.declared.gen_options.GenOptions.{GenOptions}
 use Rattle.mica_cmd.specs.Outside.{SourceFacts, SinkFacts, LinkFacts, Outside, outside}
-use Rattle.mica_cmd.specs.Headline.{IsTooLong, ReadsWhole}
+use Rattle.mica_cmd.specs.Headline.{IsTooLong, GivesTooMany, ReadsWhole, IsDueByBytes, IsDueByTrace}
 use Rattle.mica_cmd.specs.Promise.{KeepsPromise, IsWritten, WritesDue, IsTold}
 use Rattle.mica_cmd.specs.Input.{with_line_feed, IsDueOfInput, IsDueOfTrace, NoneByTrace, ReadsInput, GivesTrace, IsRefusedWith}
-use Rattle.mica_cmd.specs.Promises.{replay_promise, IsDueOfReplay, serve_promise, bench_promise, IsSeatedSummary, IsSeatedService, totals_text}
-use Rattle.mica_cmd.proofs.Keeping.{keeps_promise, stopped_trace, told_due, trace_not_done, seats_of}
-use Rattle.mica_cmd.proofs.Settled.{settles_replay, settles_serve, settles_bench, never_done}
+use Rattle.mica_cmd.specs.Promises.{replay_promise, IsDueOfReplay, IsSeatedReport, serve_promise, bench_promise, IsSeatedSummary, IsSeatedService, totals_text}
+use Rattle.mica_cmd.proofs.Keeping.{keeps_promise, stopped_trace, told_due, trace_not_done, keeps_tables, keeps_seats}
+use Rattle.mica_cmd.proofs.Settled.{settles_replay, settles_serve, settles_bench}
 
 -- a source whose reads gave more than the limit has more
-pub long_source : (left after : Option (List ℕ)) → (bytes : List ℕ) × (length bytes ≡ MAX_SOURCE_LEN + 1) × Consumes left after bytes → IfSome left IsTooLong
-long_source None after read = tt
-long_source (Some input) None read = absurd read.2
-long_source (Some input) (Some rest) read =
-    let long = read.1 in
-    let whole = ap length read.2 ∙ length-append read.0 rest in
-    omega arith
+has_more : (left after : Option (List ℕ)) (bytes : List ℕ) → length bytes ≡ MAX_SOURCE_LEN + 1 → Consumes left after bytes → IfSome left IsTooLong
+has_more None after bytes long read = tt
+has_more (Some input) None bytes long read = absurd read
+has_more (Some input) (Some rest) bytes long read = let whole = ap length read ∙ length-append bytes rest in omega (arith, whole, long)
+
+pub long_source : (old new : SourceFacts) → (bytes : List ℕ) × (length bytes ≡ MAX_SOURCE_LEN + 1) × Consumes old.left new.left bytes × (new.has_ended ≡ false)
+    × (new.given ≡ old.given + MAX_SOURCE_LEN + 1) → GivesTooMany old new
+long_source old new read = record { many = has_more old.left new.left read.0 read.1 read.2; given = omega (arith, read.4); goes_on = read.3 }
 
 -- bytes that are no trace
 pub refused_due : (old new : SourceFacts) (before after : SinkFacts) (input : List ℕ) (fault : TraceFault) (result : Status) → ReadsWhole old new input
@@ -80,12 +81,15 @@ module _ (due : Status → List TraceLine → List ℕ → Type 0) (old new : So
 
 -- ---- replay
 
+abbrev SeatedReport : Options → Outside → Outside → List ℕ → Type 0
+SeatedReport options old new = IsDueByBytes (IsDueByTrace (IsSeatedReport options new.tables)) old.source new.source
+
 -- a trace that could not be had
 pub replay_stopped : (options : Options) (old new : Outside) (result : Status) → WritesDue (IsDueOfInput (IsDueOfTrace NoneByTrace) old.source new.source) old.sink new.sink result
-    → ReadsInput old.source new.source → new.net ≡ old.net → new.link ≡ old.link → KeepsPromise (replay_promise options) old new result
-replay_stopped options old new result writes reads net link =
+    → ReadsInput old.source new.source → new.net ≡ old.net → new.tables ≡ old.tables → new.link ≡ old.link → KeepsPromise (replay_promise options) old new result
+replay_stopped options old new result writes reads net same link =
     keeps_promise (replay_promise options) (settles_replay options) old new result (stopped_trace (IsDueOfReplay options old new) old.source new.source old.sink new.sink result writes) reads net
-    (λ done. absurd (trace_not_done old.source new.source old.sink new.sink result writes done)) link
+    (keeps_tables (SeatedReport options) old new result (trace_not_done old.source new.source old.sink new.sink result writes) same) link
 
 pub replay_done : (options : Options) (old new : Outside) (trace : List TraceLine) → GivesTrace old.source new.source trace
     → PrintsText (λ report. IsReplayed options trace report new.tables) old.sink.taken new.sink.taken → ReadsInput old.source new.source → new.net ≡ old.net → new.link ≡ old.link
@@ -94,15 +98,15 @@ replay_done options old new trace given printed reads net link =
     let text = report_text printed.report in
     keeps_promise (replay_promise options) (settles_replay options) old new Done
     (printed_due (IsDueOfReplay options old new) old.source new.source old.sink new.sink trace given (λ report. IsReplayed options trace report new.tables) (λ report is. (report, is.lawful, refl)) printed) reads net
-    (λ _. (text, (given.0, given.1, (trace, given.2, (printed.report, printed.is_report, refl))), printed.taken)) link
+    (text, (given.0, given.1, (trace, given.2, (printed.report, printed.is_report, refl))), printed.taken) link
 
-pub replay_cut : (options : Options) (old new : Outside) (trace : List TraceLine) (kept : List KeptSeat) → GivesTrace old.source new.source trace
-    → Rose old.sink.faults new.sink.faults → PrintsPart (λ report. IsReplayed options trace report kept) old.sink.taken new.sink.taken
+pub replay_cut : (options : Options) (old new : Outside) (trace : List TraceLine) → GivesTrace old.source new.source trace
+    → Rose old.sink.faults new.sink.faults → PrintsPart (λ report. IsReplayed options trace report new.tables) old.sink.taken new.sink.taken
     → ReadsInput old.source new.source → new.net ≡ old.net → new.link ≡ old.link → KeepsPromise (replay_promise options) old new WriteFault
-replay_cut options old new trace kept given rose part reads net link =
+replay_cut options old new trace given rose part reads net link =
     keeps_promise (replay_promise options) (settles_replay options) old new WriteFault
-    (cut_due (IsDueOfReplay options old new) old.source new.source old.sink new.sink trace given (λ report. IsReplayed options trace report kept) (λ report is. (report, is.lawful, refl)) rose part) reads net
-    (λ no. absurd (cc)) link
+    (cut_due (IsDueOfReplay options old new) old.source new.source old.sink new.sink trace given (λ report. IsReplayed options trace report new.tables) (λ report is. (report, is.lawful, refl)) rose part) reads net
+    (inr (report_text part.report, (given.0, given.1, (trace, given.2, (part.report, part.is_report, refl))))) link
 
 -- ---- bench
 
@@ -111,7 +115,8 @@ pub bench_done : (options : Options) (generator : GenOptions) (source : SourceFa
     → KeepsPromise (bench_promise options generator) (outside source old net was link) (outside source new net kept link) result
 bench_done options generator source old new net was kept link text result is written =
     keeps_promise (bench_promise options generator) (settles_bench options generator) (outside source old net was link) (outside source new net kept link) result
-    (inr (Done, text, (is.0, is.1.lawful, is.2), written)) refl refl (seats_of (IsSeatedSummary options generator kept) old new text result is written) refl
+    (inr (Done, text, (is.0, is.1.lawful, is.2), written)) refl refl
+    (keeps_seats (λ _ after. IsSeatedSummary options generator after.tables) (outside source old net was link) (outside source new net kept link) text result is (inr written)) refl
 
 -- ---- serve
 
@@ -121,21 +126,17 @@ pub serve_done : (options : Options) (ports : Ports) (totals : Totals) (old new 
 serve_done options ports totals old new result served net same link printed =
     keeps_promise (serve_promise options ports) (settles_serve options ports) old new result
     (told_due ((serve_promise options ports).is_due old new) old.sink new.sink Done (totals_text totals) result (totals, has_served options nothing_begun ports totals new.tables old.net new.net served, refl) printed) same net
-    (λ done.
-    elim printed as (λ _. (text : List ℕ) × IsSeatedService options ports old new text × Appends old.sink.taken new.sink.taken text) [
-      | inl none ↦ never_done (sym none.0 ∙ done)
-      | inr written ↦ seats_of (IsSeatedService options ports old new) old.sink new.sink (totals_text totals) result (totals, served, refl) written done
-    ]) link
+    (keeps_seats (IsSeatedService options ports) old new (totals_text totals) result (totals, served, refl) printed) link
 
 -- a server that a fault of the net stopped
 pub serve_stopped : (options : Options) (ports : Ports) (fault : ServeFault) (old new : Outside) (result : Status) → fault ≡ Net → IsCauseOf (Err fault) options nothing_begun ports new.tables old.net new.net
-    → KeepsNet ports old.net new.net → new.source ≡ old.source → new.link ≡ old.link → IsWritten NetFault (with_line_feed (codes "net fault")) old.sink new.sink result
+    → KeepsNet ports old.net new.net → new.source ≡ old.source → old.tables ≡ [] → new.link ≡ old.link → IsWritten NetFault (with_line_feed (codes "net fault")) old.sink new.sink result
     → KeepsPromise (serve_promise options ports) old new result
-serve_stopped options ports fault old new result is cause net same link written =
+serve_stopped options ports fault old new result is cause net same none link written =
     let stopped = subst (λ e. IsCauseOf (Err e) options nothing_begun ports new.tables old.net new.net) is cause in
     keeps_promise (serve_promise options ports) (settles_serve options ports) old new result (inr (NetFault, with_line_feed (codes "net fault"), (stopped.1, refl), written)) same net
-    (λ done.
-    elim written as (λ _. (text : List ℕ) × IsSeatedService options ports old new text × Appends old.sink.taken new.sink.taken text) [
-      | inl all ↦ let no : NetFault ≡ Done = sym all.0 ∙ done in absurd (cc)
-      | inr part ↦ let no : WriteFault ≡ Done = sym part.0 ∙ done in absurd (cc)
-    ]) link
+    (keeps_tables (IsSeatedService options ports) old new result
+    (λ done. elim written as (λ _. ⊥) [
+      | inl all ↦ let no : NetFault ≡ Done = sym all.0 ∙ done in cc
+      | inr part ↦ let no : WriteFault ≡ Done = sym part.0 ∙ done in cc
+    ]) (stopped.0 ∙ sym none)) link

@@ -9,9 +9,10 @@ use Rattle.mica_trace.specs.declared.line.TraceLine.{TraceLine}
 use Rattle.mica_cmd.specs.declared.status.Status.{Status}
 use Rattle.mica_cmd.specs.declared.status.Status.TheVariants.{Done, NoMemory, TraceRefused, TraceLong, ReadFault, WriteFault}
 use Rattle.mica_cmd.specs.Outside.{SourceFacts, SinkFacts, Outside}
-use Rattle.mica_cmd.specs.Headline.{IsTooLong, ReadsWhole, Prints}
+use Rattle.mica_cmd.specs.Headline.{IsTooLong, ReadsWhole}
 use Rattle.mica_cmd.specs.Promise.{Promise, IsDue, Ends, KeepsPromise, IsWritten, WritesDue, IsTold}
 use Rattle.mica_cmd.specs.Input.{AtDone, IsDueOfInput, IsDueOfTrace, NoneByBytes, NoneByTrace, TellsInput, IsKindOfTrace}
+use Rattle.mica_cmd.specs.Promises.{KeepsSeats}
 
 abbrev Due : Type 1
 Due = Status → List ℕ → Type 0
@@ -101,7 +102,7 @@ kind_of_bytes is_kind old new bytes free read told =
 pub input_once : (due : Status → List ℕ → List ℕ → Type 0) (is_kind : Status → List ℕ → Type 0)
     → ((status free : Status) (bytes text : List ℕ) → due status bytes text → is_kind free bytes → status ≡ free)
     → (old new : SourceFacts) (status free : Status) (text : List ℕ) → IsDueOfInput due old new status text → ¬ (Rose old.faults new.faults) → TellsInput is_kind old free → status ≡ free
-input_once due is_kind once old new TraceLong free text is quiet told = long_once is_kind old free is.0 told
+input_once due is_kind once old new TraceLong free text is quiet told = long_once is_kind old free is.0.many told
 input_once due is_kind once old new ReadFault free text is quiet told = absurd (quiet is.0)
 input_once due is_kind once old new status free text is quiet told = once status free is.0 text is.2 (kind_of_bytes is_kind old new is.0 free is.1 told)
 
@@ -174,10 +175,22 @@ unwritten_promise promise settles old new same reads net tables link =
     keeps_promise promise settles old new NoMemory
     (subst (λ s. WritesDue (promise.is_due old new) old.sink s NoMemory) (sym same) (finds_no_memory (promise.is_due old new) old.sink)) reads net tables link
 
--- what the sink took where a command was carried out
-pub seats_of : (is_seated : List ℕ → Type 0) (old new : SinkFacts) (text : List ℕ) (result : Status) → is_seated text → IsWritten Done text old new result
-    → result ≡ Done → Prints is_seated old new
-seats_of is_seated old new text result is written done = elim written as (λ _. Prints is_seated old new) [
-  | inl all ↦ (text, is, all.1)
-  | inr part ↦ let no : WriteFault ≡ Done = sym part.0 ∙ done in absurd (cc)
-]
+-- ---- what the tables keep
+
+module _ (is_seated : Outside → Outside → List ℕ → Type 0) (old new : Outside) where
+  -- no run was begun, or none has ended
+  pub keeps_tables : (result : Status) → result ≢ Done → new.tables ≡ old.tables → KeepsSeats is_seated old new result
+  keeps_tables Done not_done same = absurd (not_done refl)
+  keeps_tables NoMemory not_done same = inl same
+  keeps_tables WriteFault not_done same = inl same
+  keeps_tables _ not_done same = same
+
+  -- a run has ended, and its text was told
+  pub keeps_seats : (text : List ℕ) (result : Status) → is_seated old new text → IsTold Done text old.sink new.sink result → KeepsSeats is_seated old new result
+  keeps_seats text result is told = elim told as (λ _. KeepsSeats is_seated old new result) [
+    | inl none ↦ subst (KeepsSeats is_seated old new) (sym none.0) (inr (text, is))
+    | inr written ↦ elim written as (λ _. KeepsSeats is_seated old new result) [
+      | inl all ↦ subst (KeepsSeats is_seated old new) (sym all.0) (text, is, all.1)
+      | inr part ↦ subst (KeepsSeats is_seated old new) (sym part.0) (inr (text, is))
+    ]
+  ]

@@ -132,14 +132,11 @@ binds_nothing (Some (Image options)) net none = refl
 binds_nothing (Some Unpack) net none = refl
 binds_nothing None net none = refl
 
-pub never_done : {A : Type 0} → NoMemory ≡ Done → A
-never_done is = absurd (cc)
-
 keeps_nothing : (command : Option Command) (outside : Outside) → (promise_of command).tables outside outside NoMemory
-keeps_nothing (Some (Replay options)) outside = never_done
-keeps_nothing (Some (Serve options ports)) outside = never_done
+keeps_nothing (Some (Replay options)) outside = inl refl
+keeps_nothing (Some (Serve options ports)) outside = inl refl
 keeps_nothing (Some (Gen generator)) outside = refl
-keeps_nothing (Some (Bench options generator)) outside = never_done
+keeps_nothing (Some (Bench options generator)) outside = inl refl
 keeps_nothing (Some (Check options)) outside = refl
 keeps_nothing (Some (Exclusive options)) outside = refl
 keeps_nothing (Some (Ask options)) outside = refl

@@ -1,5 +1,5 @@
 -- What is due of a command that reads the source, and what it reads.
-use Rattle.std.specs.Prelude.{◌≡◌, ◌≢◌, ℕ, ◌+◌, ◌≤◌, ◌⊎◌, List, [], ◌∷◌, ◌++◌, length, codes, IfSome}
+use Rattle.std.specs.Prelude.{◌≡◌, ◌≢◌, ℕ, ◌+◌, ◌≤◌, ◌⊎◌, List, [], ◌∷◌, ◌++◌, length, codes}
 use Rattle.std.specs.Option.{IsSomeAnd}
 use Rattle.std.specs.Io.KnownBytes.{Consumes}
 use Rattle.mica_io.specs.Faults.{Rose}
@@ -11,7 +11,7 @@ use Rattle.mica_commands.specs.declared.limits.TheConstants.{MAX_SOURCE_LEN}
 use Rattle.mica_cmd.specs.declared.status.Status.{Status}
 use Rattle.mica_cmd.specs.declared.status.Status.TheVariants.{Done, TraceRefused, TraceLong, ReadFault}
 use Rattle.mica_cmd.specs.Outside.{SourceFacts, SinkFacts, Outside}
-use Rattle.mica_cmd.specs.Headline.{IsTooLong, ReadsWhole, ByBytes, ByTrace}
+use Rattle.mica_cmd.specs.Headline.{IsTooLong, GivesTooMany, ReadsWhole, IsDueByBytes, IsDueByTrace}
 use Rattle.mica_cmd.specs.Promise.{IsUnwritten, IsWritten}
 
 -- a line that names what went wrong
@@ -25,9 +25,9 @@ AtDone is_due _ text = ⊥
 
 -- the text that is due of a source: the line of too many bytes, the line of a read that failed, or what is due by all its bytes
 abbrev pub IsDueOfInput : (Status → List ℕ → List ℕ → Type 0) → SourceFacts → SourceFacts → Status → List ℕ → Type 0
-IsDueOfInput is_due old new TraceLong text = IfSome old.left IsTooLong × (text ≡ with_line_feed (codes "trace too long"))
+IsDueOfInput is_due old new TraceLong text = GivesTooMany old new × (text ≡ with_line_feed (codes "trace too long"))
 IsDueOfInput is_due old new ReadFault text = Rose old.faults new.faults × (text ≡ with_line_feed (codes "read fault"))
-IsDueOfInput is_due old new status text = ByBytes (is_due status) old new text
+IsDueOfInput is_due old new status text = IsDueByBytes (is_due status) old new text
 
 -- the line of the first fault of bytes that are no trace
 pub record IsRefusalLine (bytes text : List ℕ) : Type 0 where
@@ -40,7 +40,7 @@ pub record IsRefusalLine (bytes text : List ℕ) : Type 0 where
 -- the text that is due of bytes: the line of their first fault, or what is due by the trace that they spell
 abbrev pub IsDueOfTrace : (Status → List TraceLine → List ℕ → Type 0) → Status → List ℕ → List ℕ → Type 0
 IsDueOfTrace is_due TraceRefused bytes text = IsRefusalLine bytes text
-IsDueOfTrace is_due status bytes text = ByTrace (is_due status) bytes text
+IsDueOfTrace is_due status bytes text = IsDueByTrace (is_due status) bytes text
 
 -- no count of faults of source and sink rose
 pub record IsUntroubled (old new : Outside) : Type 0 where

@@ -30,14 +30,14 @@ use Rattle.mica_serve.specs.NetRun.{NetFacts, HasServed, HasServedOnTables, HasS
 use Rattle.mica_commands.specs.declared.command.Command.{Command}
 use Rattle.mica_commands.specs.declared.command.Command.TheVariants.{Replay, Serve, Gen, Bench, Check, Exclusive, Ask, Image, Unpack}
 use Rattle.mica_cmd.specs.declared.status.Status.{Status}
-use Rattle.mica_cmd.specs.declared.status.Status.TheVariants.{Done, Usage, NoMemory, NetFault, ReplyRefused, LinkFault, ImageRefused}
+use Rattle.mica_cmd.specs.declared.status.Status.TheVariants.{Done, Usage, NoMemory, WriteFault, NetFault, ReplyRefused, LinkFault, ImageRefused}
 use Rattle.mica_commands.specs.declared.gen_options.GenOptions.{GenOptions}
 use Rattle.mica_commands.specs.Generator.{generated}
 use Rattle.mica_commands.specs.Summary.{summary_text}
 use Rattle.mica_cmd.specs.declared.finding.Finding.{Finding}
 use Rattle.mica_cmd.specs.Findings.{Finds, finding_text, status_of}
 use Rattle.mica_cmd.specs.Outside.{SourceFacts, SinkFacts, Outside}
-use Rattle.mica_cmd.specs.Headline.{ByBytes, ByTrace, IsLawfulText, Prints}
+use Rattle.mica_cmd.specs.Headline.{IsDueByBytes, IsDueByTrace, IsLawfulText, Prints}
 use Rattle.mica_cmd.specs.Promise.{Promise, IsUnwritten, IsWritten}
 use Rattle.mica_cmd.specs.Input.{with_line_feed, AtDone, IsDueOfInput, IsDueOfTrace, IsUntroubled, TellsInput, IsKindOfTrace, ReadsInput, GivesTrace}
 
@@ -58,9 +58,13 @@ LeavesTables old new status = new.tables ≡ old.tables
 abbrev pub LeavesLink : Outside → Outside → Type 0
 LeavesLink old new = new.link ≡ old.link
 
--- Where the command was carried out, the text that the sink took is one of a run whose owners' seats the tables keep.
+-- What the tables keep. Where the command was carried out: the owners' seats of the run whose text the sink took. Out of memory, or where a
+-- write failed: those of a run whose text the sink did not take, or what they kept before. With each other status what they kept before.
 abbrev pub KeepsSeats : (Outside → Outside → List ℕ → Type 0) → Outside → Outside → Status → Type 0
-KeepsSeats is_seated old new status = status ≡ Done → Prints (is_seated old new) old.sink new.sink
+KeepsSeats is_seated old new Done = Prints (is_seated old new) old.sink new.sink
+KeepsSeats is_seated old new NoMemory = (new.tables ≡ old.tables) ⊎ ((text : List ℕ) × is_seated old new text)
+KeepsSeats is_seated old new WriteFault = (new.tables ≡ old.tables) ⊎ ((text : List ℕ) × is_seated old new text)
+KeepsSeats is_seated old new _ = new.tables ≡ old.tables
 
 -- no count of the sink's faults rose, and this status comes whatever was told before
 abbrev pub IsWritable : Status → Outside → Outside → Status → Type 0
@@ -108,7 +112,7 @@ IsDueOfReplay options old new status trace = AtDone (IsLawfulText options trace)
 
 abbrev pub replay_promise : Options → Promise
 replay_promise options = record (trace_promise (IsDueOfReplay options) IsAlwaysDone) {
-  tables = KeepsSeats (λ old new. ByBytes (ByTrace (IsSeatedReport options new.tables)) old.source new.source);
+  tables = KeepsSeats (λ old new. IsDueByBytes (IsDueByTrace (IsSeatedReport options new.tables)) old.source new.source);
 }
 
 -- ---- serve: the totals of what the fronts received
@@ -224,12 +228,13 @@ IsToldFault fault old new result =
 abbrev pub IsNeverTold : Status → List TraceLine → Type 0
 IsNeverTold status trace = ⊥
 
--- the link is as it was, or what passed over it is an exchange of the batches of the trace that the source gave, up to some answer
+-- The link is as it was. Or it ends after the silence of the options, and what passed over it is an exchange of the batches of the trace that
+-- the source gave, up to some answer.
 abbrev pub KeepsLink : AskOptions → Outside → Outside → Type 0
 KeepsLink options old new =
     (new.link ≡ old.link)
-    ⊎ ((trace : List TraceLine) × GivesTrace old.source new.source trace
-    × ((answer : Result (List Line) AskFault) × AnswersAs options trace old new answer))
+    ⊎ ((new.link.silence ≡ options.wait) × ((trace : List TraceLine) × GivesTrace old.source new.source trace
+    × ((answer : Result (List Line) AskFault) × AnswersAs options trace old new answer)))
 
 abbrev pub ask_promise : AskOptions → Promise
 ask_promise options = record (trace_promise (IsDueOfAsk options) IsNeverTold) { link = KeepsLink options }

@@ -31,10 +31,10 @@ pub fn ask_command<W: Threads + Wait + Sync, S: Source, K: Sink, L: Link>(
     requires open { S.has_ended source.old ≡ false }
     requires valid { IsValidAsk options.now }
     ensures { (net : NetFacts) → (kept : List KeptSeat) → KeepsPromise (ask_promise options.now)
-        (outside (source_facts S.left S.has_ended S.faults source.old) (sink_facts K.taken K.faults sink.old) net kept
-        (link_facts L.talk L.has_ended L.faults link.old))
-        (outside (source_facts S.left S.has_ended S.faults source.new) (sink_facts K.taken K.faults sink.new) net kept
-        (link_facts L.talk L.has_ended L.faults link.new)) result }
+        (outside (source_facts S.left S.given S.has_ended S.faults source.old) (sink_facts K.taken K.faults sink.old) net kept
+        (link_facts L.talk L.has_ended L.silence L.faults link.old))
+        (outside (source_facts S.left S.given S.has_ended S.faults source.new) (sink_facts K.taken K.faults sink.new) net kept
+        (link_facts L.talk L.has_ended L.silence L.faults link.new)) result }
 {
     let mut text = Vec::new(alloc);
     let trace = match read_input(alloc, source, sink, &mut text) {

@@ -1,5 +1,5 @@
 //! The command `bench`.
-ghost use Rattle.std.specs.Prelude.{◌≡◌, [], IfOk, true};
+ghost use Rattle.std.specs.Prelude.{◌≡◌, ◌⊎◌, ℕ, List, [], IfOk, OnErr, true};
 ghost use Rattle.partition_model.specs.Options.{IsValid};
 ghost use Rattle.mica_serve.specs.NetRun.{NetFacts};
 ghost use Rattle.mica_commands.specs.GenOptions.{is_valid};
@@ -52,7 +52,8 @@ fn summary_of_run<W: Threads + Wait + Sync, G: Gate>(
     requires options { IsValid options.now }
     requires generator { is_valid generator.now ≡ true }
     requires tables { tables.old ≡ [] }
-    ensures { IfOk result (λ text. IsSeatedSummary options.now generator.now tables.new text.items) }
+    ensures ok { IfOk result (λ text. IsSeatedSummary options.now generator.now tables.new text.items) }
+    ensures err { OnErr result ((tables.new ≡ []) ⊎ ((text : List ℕ) × IsSeatedSummary options.now generator.now tables.new text)) }
 {
     let trace = gen_trace(alloc, generator)?;
     let report = run_trace(rt, alloc, options, &trace, gate, tables)?;

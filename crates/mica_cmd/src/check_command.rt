@@ -30,8 +30,8 @@ pub fn check_command<S: Source, K: Sink>(
     requires open { S.has_ended source.old ≡ false }
     requires valid { IsValid options.now }
     ensures { (net : NetFacts) → (kept : List KeptSeat) → (link : LinkFacts) → KeepsPromise (check_promise options.now)
-        (outside (source_facts S.left S.has_ended S.faults source.old) (sink_facts K.taken K.faults sink.old) net kept link)
-        (outside (source_facts S.left S.has_ended S.faults source.new) (sink_facts K.taken K.faults sink.new) net kept link) result }
+        (outside (source_facts S.left S.given S.has_ended S.faults source.old) (sink_facts K.taken K.faults sink.old) net kept link)
+        (outside (source_facts S.left S.given S.has_ended S.faults source.new) (sink_facts K.taken K.faults sink.new) net kept link) result }
 {
     let bytes = match read_source(alloc, source, sink) {
         Ok(bytes) => bytes,

@@ -16,6 +16,7 @@ mod gen_command;
 mod host;
 mod image_command;
 mod input;
+mod laws;
 mod output;
 mod program;
 mod replay_command;
@@ -25,6 +26,7 @@ mod top;
 mod unpack_command;
 
 pub use host::run_on_host;
+pub use laws::headline;
 pub use mica_commands::{
     Command, GenOptions, MAX_SOURCE_LEN, WordsFault, gen_trace, put_summary, read_words,
 };

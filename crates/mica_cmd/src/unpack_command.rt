@@ -19,8 +19,8 @@ use store_image::{Image, ImageFault, put_image, read_image};
 pub fn unpack_command<S: Source, K: Sink>(alloc: Global, source: &mut S, sink: &mut K) -> Status
     requires { S.has_ended source.old ≡ false }
     ensures { (net : NetFacts) → (kept : List KeptSeat) → (link : LinkFacts) → KeepsPromise unpack_promise
-        (outside (source_facts S.left S.has_ended S.faults source.old) (sink_facts K.taken K.faults sink.old) net kept link)
-        (outside (source_facts S.left S.has_ended S.faults source.new) (sink_facts K.taken K.faults sink.new) net kept link) result }
+        (outside (source_facts S.left S.given S.has_ended S.faults source.old) (sink_facts K.taken K.faults sink.old) net kept link)
+        (outside (source_facts S.left S.given S.has_ended S.faults source.new) (sink_facts K.taken K.faults sink.new) net kept link) result }
 {
     let bytes = match read_source(alloc, source, sink) {
         Ok(bytes) => bytes,

@@ -22,7 +22,7 @@ use Rattle.mica_fronts.specs.declared.ports.Ports.{Ports}
 use Rattle.mica_fronts.specs.PortOptions.{IsValidPorts}
 use Rattle.mica_commands.specs.Words.{Text}
 use Rattle.mica_commands.specs.DaemonWords.{Service, image_name, lasting_ports, may_fill, daemon_given}
-use Rattle.mica_commands.specs.CommandLine.{mode, partitions, buckets, spares, words, readers, tries, wear, port, fronts, batches, number, required_number, number_of, is_number, value_by, value_of, options_with, replay_options, serve_options, without_readers, exclusive_options, image_options, ask_options, per, port_options, ◌>>=◌}
+use Rattle.mica_commands.specs.CommandLine.{mode, partitions, buckets, spares, words, readers, tries, wear, port, fronts, batches, number, required_number, number_of, is_number, value_by, value_of, options_with, replay_options, serve_options, without_readers, exclusive_options, image_options, ask_options, per, wait, port_options, ◌>>=◌}
 
 same_number : (a b : ℕ) → Some a ≡ Some b → a ≡ b
 same_number a b e = ap (λ o. unwrap_or o 0) e
@@ -149,12 +149,14 @@ ask_valid given options is =
     let n = both_told (value_of partitions given) _ options p.2 in
     let f = both_told (value_of fronts given) _ options n.2 in
     let e = both_told (value_of per given) _ options f.2 in
-    let made : AskOptions = record { port = p.0; partitions = n.0; fronts = f.0; per = e.0 } in
-    subst IsValidAsk (ap (λ o. unwrap_or o made) e.2) (record {
+    let w = both_told (value_of wait given) _ options e.2 in
+    let made : AskOptions = record { port = p.0; partitions = n.0; fronts = f.0; per = e.0; wait = w.0 } in
+    subst IsValidAsk (ap (λ o. unwrap_or o made) w.2) (record {
       port = required_bounds port.name 1024 65000 (given port.name) p.0 p.1;
       partitions = value_bounds partitions.name 1 16 4 (given partitions.name) n.0 (omega arith, omega arith) n.1;
       fronts = value_bounds fronts.name 1 16 1 (given fronts.name) f.0 (omega arith, omega arith) f.1;
       per = value_bounds per.name 1 255 32 (given per.name) e.0 (omega arith, omega arith) e.1;
+      wait = value_bounds wait.name 1 3600 5 (given wait.name) w.0 (omega arith, omega arith) w.1;
     })
 
 pub lasting_valid : (given : Text → Option Text) (ports : Ports) → lasting_ports given ≡ Some ports → IsValidPorts ports

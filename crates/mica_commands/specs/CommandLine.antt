@@ -104,6 +104,10 @@ batches = required_number (codes "batches") 1 1000000
 abbrev pub per : Setting ℕ
 per = number (codes "per") 1 255 32
 
+-- the seconds of silence after which a client gives up
+abbrev pub wait : Setting ℕ
+wait = number (codes "wait") 1 3600 5
+
 -- the options of a generated trace
 abbrev pub seed : Setting ℕ
 seed = number (codes "seed") 0 18446744073709551615 1
@@ -209,7 +213,7 @@ unpack_names = []
 
 -- the names of the options of `ask`
 abbrev pub ask_names : List Text
-ask_names = port.name ∷ partitions.name ∷ fronts.name ∷ per.name ∷ []
+ask_names = port.name ∷ partitions.name ∷ fronts.name ∷ per.name ∷ wait.name ∷ []
 
 -- the options of `ask`
 abbrev pub ask_options : (Text → Option Text) → Option AskOptions
@@ -218,7 +222,8 @@ ask_options given =
     value_of partitions given >>= λ partitions.
     value_of fronts given >>= λ fronts.
     value_of per given >>= λ per.
-    Some (record { port = port; partitions = partitions; fronts = fronts; per = per })
+    value_of wait given >>= λ wait.
+    Some (record { port = port; partitions = partitions; fronts = fronts; per = per; wait = wait })
 
 -- the ports of `serve`
 abbrev pub port_options : (Text → Option Text) → Option Ports

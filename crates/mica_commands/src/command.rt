@@ -10,8 +10,11 @@ use crate::option_values::{
 };
 use mica_client::AskOptions;
 use mica_fronts::Ports;
+use mica_io::NoMemory;
 use partition_model::Options;
 use std::alloc::Global;
+use std::error::Error;
+use std::fmt;
 
 /// What the program is asked to do.
 #[derive(Clone, Copy, Debug, PartialEq, Eq)]
@@ -43,6 +46,17 @@ pub enum WordsFault {
     NoMemory,
 }
 
+impl fmt::Display for WordsFault {
+    fn fmt<W: fmt::Write>(&self, f: &mut fmt::Formatter<W>) -> fmt::Result {
+        match self {
+            WordsFault::Usage => f.write_str("the words are no command"),
+            WordsFault::NoMemory => fmt::Display::fmt(&NoMemory, f),
+        }
+    }
+}
+
+impl Error for WordsFault {}
+
 static REPLAY_OPTIONS: [&str; 8] = [
     "mode",
     "partitions",
@@ -71,7 +85,7 @@ static EXCLUSIVE_OPTIONS: [&str; 6] = ["mode", "partitions", "buckets", "spares"
 
 static IMAGE_OPTIONS: [&str; 5] = ["partitions", "buckets", "spares", "words", "wear"];
 
-static ASK_OPTIONS: [&str; 4] = ["port", "partitions", "fronts", "per"];
+static ASK_OPTIONS: [&str; 5] = ["port", "partitions", "fronts", "per", "wait"];
 
 static UNPACK_OPTIONS: [&str; 0] = [];
 

@@ -9,6 +9,7 @@ mod clap_command;
 mod command;
 mod daemon_words;
 mod draw;
+mod examples;
 mod gen_options;
 mod generated_text;
 mod generator;
@@ -19,6 +20,7 @@ mod summary;
 
 pub use command::{Command, WordsFault, read_words};
 pub use daemon_words::{DaemonOptions, read_daemon};
+pub use examples::default_replay;
 pub use gen_options::GenOptions;
 pub use generated_text::gen_text;
 pub use generator::gen_trace;

@@ -153,6 +153,7 @@ pub fn ask_options(found: &ArgMatches<'_>) -> Option<AskOptions>
         partitions: count(found, "partitions", 1, 16, 4)?,
         fronts: count(found, "fronts", 1, 16, 1)?,
         per: count(found, "per", 1, 255, 32)?,
+        wait: count(found, "wait", 1, 3_600, 5)?,
     })
 }
 

@@ -30,9 +30,9 @@ module _ {A : Type 0} (line_of : A → List ℕ) (sink_of : A → SinkFacts) (li
   announced_by (Err Refused) before after is = ap sink_of is
   announced_by (Err Unannounced) before after is = subst (λ l. FailsToSay l (sink_of old) (sink_of new)) same is
   announced_by (Err (Fault Net)) before after is =
-      elim is as (λ _. ((before.refused < after.refused) × (sink_of new ≡ sink_of old)) ⊎ Says line (sink_of old) (sink_of new)) [
+      elim is as (λ _. ((before.refused < after.refused) × (sink_of new ≡ sink_of old)) ⊎ ((after.refused ≡ before.refused) × Says line (sink_of old) (sink_of new))) [
         | inl bound ↦ inl (bound.0, ap sink_of bound.1)
-        | inr told ↦ inr (said told)
+        | inr told ↦ inr (told.0, said told.1)
       ]
   announced_by (Err (Fault NoRoom)) before after is =
       elim is as (λ _. (sink_of new ≡ sink_of old) ⊎ Says line (sink_of old) (sink_of new)) [

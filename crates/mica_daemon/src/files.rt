@@ -1,6 +1,7 @@
 //! Files, by their names.
-ghost use Rattle.std.specs.Prelude.{◌≡◌, ◌<◌, ◌≤◌, ℕ, List, Option, length, vec_len, IfOk, IfSome, IsErrOf};
-ghost use Rattle.mica_io.specs.Faults.{Rose};
+ghost use Rattle.std.specs.Prelude.{◌≡◌, ◌<◌, ◌≤◌, ℕ, List, Option, option_map, length, vec_len, IfOk, IfSome, IsErrOf};
+ghost use Rattle.mica_io.specs.Faults.{Rose, faults_after};
+ghost use Rattle.mica_daemon.specs.Files.{ReadScript, is_next_failing, after_read, has_failed, Foretells};
 
 use mica_io::{ReadFault, StdSource, read_up_to};
 use std::alloc::Global;
@@ -15,6 +16,9 @@ pub trait Files {
     /// The count of faults.
     ghost faults: { Self → ℕ };
 
+    /// Whether there is a file of a name and which reads of it fail, where it is told.
+    ghost script: { Self → List ℕ → Option ReadScript };
+
     /// All bytes of the file of this name. A file that can't be opened is a read that failed.
     fn read(&mut self, alloc: Global, name: &str, limit: usize) -> Result<Vec<u8>, ReadFault>
         requires small { limit < 4294967296 }
@@ -22,10 +26,13 @@ pub trait Files {
         ensures within { IfOk result (λ bytes. vec_len bytes ≤ limit) }
         ensures long { IsErrOf result ReadFault.Long → IfSome (file self.old name.now) (λ told. limit < length told) }
         ensures cause { IsErrOf result ReadFault.Failed → Rose (faults self.old) (faults self.new) }
-        ensures never_fall { faults self.old ≤ faults self.new };
+        ensures never_fall { faults self.old ≤ faults self.new }
+        ensures foretold { IfSome (script self.old name.now) (λ s. Foretells (is_next_failing s) result) }
+        ensures counted { IfSome (script self.old name.now) (λ _. faults self.new ≡ faults_after (has_failed result) (faults self.old)) }
+        ensures moves_on { (other : List ℕ) → script self.new other ≡ option_map after_read (script self.old other) };
 }
 
-/// The files of this machine. It tells nothing of content.
+/// The files of this machine. No contract can tell what lies under a name there.
 #[derive(Drop)]
 pub struct HostFiles<'a, R> {
     rt: &'a R,
@@ -46,6 +53,8 @@ impl<'a, R: FileSystem> Files for HostFiles<'a, R> {
     ghost file = { λ _ _. None };
 
     ghost faults = { λ f. f.faults };
+
+    ghost script = { λ _ _. None };
 
     fn read(&mut self, alloc: Global, name: &str, limit: usize) -> Result<Vec<u8>, ReadFault> {
         let read = match fs::open(self.rt, name) {

@@ -13,6 +13,7 @@ use std::net::Net as Sockets;
 use std::process::ExitCode;
 use std::rt::{Env, Files};
 use std::sync::Wait;
+use std::sync::atomic::AtomicBool;
 use std::thread::Threads;
 use std::{env, io};
 
@@ -24,7 +25,8 @@ pub fn run_on_host<R: Threads + Wait + Sync + AllocGlobal + Env + Files + Print 
 {
     let alloc = rt.alloc();
     let mut files = HostFiles::new(rt);
-    let mut net = UdpNet::new(rt);
+    let has_failed = AtomicBool::new(false);
+    let mut net = UdpNet::failing_whole(rt, &has_failed);
     let mut tables = Tables::new();
     let mut speaker = Speaker {
         sink: StdSink::new(io::writer(rt)),

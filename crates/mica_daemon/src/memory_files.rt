@@ -1,13 +1,11 @@
 //! Files in memory.
-ghost use Rattle.std.specs.Prelude.{◌≡◌, ◌<◌, ◌≤◌, List, ℕ, Some, None, find, option_map, string_bytes, bytes_eq, length, vec_len, IfOk, IfSome, IsErrOf, OnOk, OnErr, if◌then◌else◌};
-ghost use Rattle.mica_daemon.specs.Files.{file_in};
+ghost use Rattle.std.specs.Prelude.{◌≡◌, ◌<◌, ◌≤◌, List, ℕ, true, false, [], Some, None, option_map, bytes_eq, length, vec_len, IfOk, IfSome, IsErrOf, OnOk, OnErr, if◌then◌else◌};
+ghost use Rattle.mica_io.specs.Script.{is_listed};
+ghost use Rattle.mica_daemon.specs.Files.{ReadScript, Foretells, named_in, file_in, script_of, fails_at};
 
 use crate::Files;
-use mica_io::{MemSource, NoMemory, ReadFault, read_up_to};
+use mica_io::{NoMemory, ReadFault};
 use std::alloc::Global;
-
-/// The most bytes that one read of a file gives.
-const PIECE: u32 = 4_093;
 
 #[derive(Drop)]
 struct MemFile {
@@ -16,25 +14,29 @@ struct MemFile {
     fails: Vec<u32>,
 }
 
-/// Files in memory. A name that none of them has can't be read.
+/// Files in memory. A read fails where no file has the name, or where it is listed with the file.
 #[derive(Drop)]
 pub struct MemFiles {
     files: Vec<MemFile>,
+    calls: u32,
     faults: u64,
 }
 
 impl MemFiles {
     pub fn new(alloc: Global) -> Self
         ensures files { (name : List ℕ) → ⟦<MemFiles as Files>⟧.file result name ≡ None }
+        ensures script { (name : List ℕ) → ⟦<MemFiles as Files>⟧.script result name ≡ Some (record { is_there = false; fails = []; calls = 0 }) }
         ensures faults { ⟦<MemFiles as Files>⟧.faults result ≡ 0 }
     {
         MemFiles {
             files: Vec::new(alloc),
+            calls: 0,
             faults: 0,
         }
     }
 
-    /// Adds a file, in place of one of the same name. The reads of it that are to fail are listed by their numbers from 1.
+    /// Adds a file, in place of one of the same name. The reads of it that are to fail are listed by their numbers from 1, among
+    /// the reads of all files.
     pub fn add(
         &mut self,
         alloc: Global,
@@ -45,6 +47,11 @@ impl MemFiles {
         ensures ok { OnOk result ((other : List ℕ) → ⟦<MemFiles as Files>⟧.file self.new other
             ≡ (if bytes_eq name.now other then Some bytes.now else ⟦<MemFiles as Files>⟧.file self.old other)) }
         ensures err { OnErr result ((other : List ℕ) → ⟦<MemFiles as Files>⟧.file self.new other ≡ ⟦<MemFiles as Files>⟧.file self.old other) }
+        ensures listed { OnOk result ((other : List ℕ) → ⟦<MemFiles as Files>⟧.script self.new other
+            ≡ (if bytes_eq name.now other
+            then option_map (λ (s : ReadScript). record s { is_there = true; fails = fails.now }) (⟦<MemFiles as Files>⟧.script self.old other)
+            else ⟦<MemFiles as Files>⟧.script self.old other)) }
+        ensures unlisted { OnErr result ((other : List ℕ) → ⟦<MemFiles as Files>⟧.script self.new other ≡ ⟦<MemFiles as Files>⟧.script self.old other) }
         ensures faults { ⟦<MemFiles as Files>⟧.faults self.new ≡ ⟦<MemFiles as Files>⟧.faults self.old }
     {
         let file = MemFile {
@@ -59,28 +66,37 @@ impl MemFiles {
 
 // The first file of this name.
 fn find<'a>(files: &'a [MemFile], name: &str) -> Option<&'a MemFile>
-    ensures { option_map (λ file. file.now) result ≡ find (λ file. bytes_eq (string_bytes file.name) name.now) files.entry.now }
+    ensures { option_map (λ file. file.now) result ≡ named_in files.now name.now }
 {
     files.iter().find(|file| file.name.as_str() == name)
 }
 
-// All bytes of the first file of this name.
+// All bytes of the first file of this name, by the read with this number.
 fn read_named(
     alloc: Global,
     files: &[MemFile],
+    number: u32,
     name: &str,
     limit: usize,
 ) -> Result<Vec<u8>, ReadFault>
-    requires small { limit < 4294967296 }
     ensures all { IfOk result (λ bytes. IfSome (file_in files.now name.now) (λ told. bytes.items ≡ told)) }
     ensures within { IfOk result (λ bytes. vec_len bytes ≤ limit) }
     ensures long { IsErrOf result ReadFault.Long → IfSome (file_in files.now name.now) (λ told. limit < length told) }
+    ensures foretold { Foretells (fails_at number (named_in files.now name.now)) result }
 {
     let Some(file) = find(files, name) else {
         return Err(ReadFault::Failed);
     };
-    let mut source = MemSource::new(alloc, file.bytes.as_slice(), PIECE, file.fails.as_slice())?;
-    read_up_to(alloc, &mut source, limit)
+    if file.fails.contains(&number) {
+        return Err(ReadFault::Failed);
+    }
+    if file.bytes.len() > limit {
+        return Err(ReadFault::Long);
+    }
+    match Vec::from_slice(alloc, file.bytes.as_slice()) {
+        Ok(bytes) => Ok(bytes),
+        Err(_) => Err(ReadFault::NoMemory),
+    }
 }
 
 impl Files for MemFiles {
@@ -88,8 +104,11 @@ impl Files for MemFiles {
 
     ghost faults = { λ f. f.faults };
 
+    ghost script = { λ f name. Some (script_of f.calls (named_in f.files.items name)) };
+
     fn read(&mut self, alloc: Global, name: &str, limit: usize) -> Result<Vec<u8>, ReadFault> {
-        let read = read_named(alloc, self.files.as_slice(), name, limit);
+        self.calls = self.calls.saturating_add(1);
+        let read = read_named(alloc, self.files.as_slice(), self.calls, name, limit);
         if matches!(&read, Err(ReadFault::Failed)) {
             self.faults = self.faults.saturating_add(1);
         }

@@ -13,10 +13,11 @@ ghost use Rattle.mica_daemon.specs.Daemon.{WritesLast, Serves, ServesOrNot, Keep
 use crate::Files;
 use crate::filling::filling_of;
 use crate::speaker::{Speaker, ready_line};
+use locked_serve::serve_locked;
 use mica_cmd::{Status, print_totals, write_due};
 use mica_commands::{DaemonOptions, WordsFault, read_daemon};
 use mica_io::{Gate, Net, NoMemory, Sink};
-use mica_serve::{Ports, ServeFault, Stop, serve_filled};
+use mica_serve::{Ports, ServeFault, Stop};
 use partition_model::{Options, Write};
 use partition_table::Tables;
 use std::alloc::Global;
@@ -56,7 +57,7 @@ fn serve_aloud<W: Threads + Wait + Sync, K: Sink + Drop, N: Net, G: Gate>(
         (outside (sink_facts K.taken K.faults speaker.new.sink) (net_facts N.faults N.binds N.first N.refused N.ports N.fails net.new) tables.new)
         result }
 {
-    match serve_filled(
+    match serve_locked(
         rt, alloc, options, ports, filling, net, gate, tables, speaker,
     ) {
         Ok(totals) => print_totals(alloc, totals, &mut speaker.sink),

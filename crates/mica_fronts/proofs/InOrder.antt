@@ -1,85 +1,96 @@
 -- Requests that are answered one after another.
-use Rattle.std.proofs.Common.{◌≡◌, ℕ, ◌+◌, ◌<◌, ◌≤◌, Bool, true, false, cond, List, [], ◌∷◌, ◌++◌, length, map, refl, sym, ap, ◌∙◌, subst, arith, length-append}
+use Rattle.std.proofs.Common.{◌≡◌, ℕ, ◌+◌, ◌<◌, ◌≤◌, Bool, true, false, cond, List, [], ◌∷◌, ◌++◌, length, map, Option, refl, sym, ap, ◌∙◌, subst, arith, length-append}
 use Rattle.std.specs.Prelude.{is_some}
-use Rattle.std.specs.List.{filter}
+use Rattle.std.specs.List.{AllZip, AllByRecursion}
 use Rattle.std.proofs.lemmas.List.{append-nil}
-use Rattle.std.proofs.lemmas.List.Elements.{All-cons, All-from_recursion, recursion_from_All, filter-append}
+use Rattle.std.proofs.lemmas.List.Elements.{All-cons, All-from_recursion, recursion_from_All, filter_map-append}
 use Rattle.partition_model.specs.declared.options.Options.{Options}
+use Rattle.partition_model.specs.declared.write.Write.{Write}
 use Rattle.batch_packets.specs.declared.batch.Request.{Request}
 use Rattle.batch_packets.specs.declared.replies.Reply.{Reply}
 use Rattle.batch_packets.specs.BatchGrammar.{IsRequest}
 use Rattle.batch_packets.specs.Filling.{Filling}
 use Rattle.batch_packets.specs.Remaining.{Remaining, HasLeft}
 use Rattle.batch_packets.proofs.Filling.{adds_none as adds_none_to, adds_then}
-use Rattle.mica_fronts.specs.Turn.{Turn, write_in, partition_in}
+use Rattle.mica_fronts.specs.Answered.{Answered, wrote, got, step_in, partition_in, count_of_writes}
+use Rattle.mica_fronts.specs.Turn.{Turn, Asks, write_in, writes_of_one, reply_to, reply_of, answers_in}
 use Rattle.mica_fronts.specs.Dealing.{IsTurn}
-use Rattle.mica_fronts.specs.Session.{Session, Sessions, AnswersTurn, AnswersBy, AnswersInOrder, count_of_writes, writes_of_one}
+use Rattle.mica_fronts.specs.Session.{Session, Sessions, Answers, AnswersOne, AnswersInOrder}
 use Rattle.mica_fronts.specs.Answering.{RepliesTo, AddsReply, AnswersAll, AddsAll, AnswersFirst, AreLeft}
 
+-- a request that was answered is one write where the answer is to one
+pub asked_many : (request : Request) (answered : Answered) → Asks request answered → count_of_writes (answered ∷ []) ≡ writes_of_one request
+asked_many request (wrote step) is = ap (λ (w : Option Write). cond (is_some w) 1 0) (sym is)
+asked_many request (got key stamp value) is = ap (λ (w : Option Write). cond (is_some w) 1 0) (sym is.0)
+
+-- the answers are those that the requests asked
+each_asked : (version : ℕ) (turns : List Turn) → AllByRecursion (IsTurn version) turns → AllZip Asks (map (λ t. t.request) turns) (answers_in turns)
+each_asked version [] each = tt
+each_asked version (t ∷ turns) each = (each.0.asked, each_asked version turns each.1)
+
 module _ (options : Options) (is_alone : Bool) where
-  pub answers_moved : (turns : List Turn) (old between new : Sessions) → ((q : ℕ) → between q ≡ old q) → AnswersInOrder options is_alone between turns new
-      → AnswersInOrder options is_alone old turns new
+  pub answers_moved : (answers : List Answered) (old between new : Sessions) → ((q : ℕ) → between q ≡ old q) → AnswersInOrder options is_alone between answers new
+      → AnswersInOrder options is_alone old answers new
   answers_moved [] old between new same h = λ q. h q ∙ same q
-  answers_moved (t ∷ ts) old between new same h =
-      let p = partition_in options t in
-      let one = subst (λ (s : Session). AnswersBy options is_alone (write_in t.request) s t (h.0 p)) (same p) h.1.one in
-      let answered : AnswersTurn options is_alone old t h.0 = record { one = one; others = λ q other. h.1.others q other ∙ same q } in
+  answers_moved (a ∷ later) old between new same h =
+      let p = partition_in options a in
+      let answered : Answers options is_alone old a h.0 = record {
+        one = subst (λ (s : Session). AnswersOne options is_alone s a (h.0 p)) (same p) h.1.one;
+        others = λ q other. h.1.others q other ∙ same q;
+      } in
       (h.0, answered, h.2)
 
-  pub answers_append : (one two : List Turn) (old between new : Sessions) → AnswersInOrder options is_alone old one between
+  pub answers_append : (one two : List Answered) (old between new : Sessions) → AnswersInOrder options is_alone old one between
       → AnswersInOrder options is_alone between two new → AnswersInOrder options is_alone old (one ++ two) new
   answers_append [] two old between new first second = answers_moved two old between new first second
-  answers_append (t ∷ one) two old between new first second = (first.0, first.1, answers_append one two first.0 between new first.2 second)
+  answers_append (a ∷ one) two old between new first second = (first.0, first.1, answers_append one two first.0 between new first.2 second)
 
-  pub count_append : (one two : List Turn) → count_of_writes (one ++ two) ≡ count_of_writes one + count_of_writes two
-  count_append one two = ap length (filter-append (λ t. is_some (write_in t.request)) one two) ∙ length-append _ _
+  pub count_append : (one two : List Answered) → count_of_writes (one ++ two) ≡ count_of_writes one + count_of_writes two
+  count_append one two = ap length (filter_map-append step_in one two) ∙ length-append _ _
 
-  few_before : (left left_between left_after : ℕ) (turn : Turn) (turns : List Turn) → left ≤ left_between + writes_of_one turn.request → left_between ≤ left_after + count_of_writes turns
-      → left ≤ left_after + count_of_writes (turn ∷ turns)
-  few_before left left_between left_after turn turns few rest = by (is_some (write_in turn.request)) few
-    where
-      by : (b : Bool) → left ≤ left_between + cond b 1 0
-          → left ≤ left_after + length (cond b (turn ∷ filter (λ t. is_some (write_in t.request)) turns) (filter (λ t. is_some (write_in t.request)) turns))
-      by true few = omega (arith, few, rest)
-      by false few = omega (arith, few, rest)
+  few_before : (left left_between left_after : ℕ) (request : Request) (answered : Answered) (answers : List Answered) → Asks request answered
+      → left ≤ left_between + writes_of_one request → left_between ≤ left_after + count_of_writes answers → left ≤ left_after + count_of_writes (answered ∷ answers)
+  few_before left left_between left_after request answered answers asked few rest =
+      omega (arith, few, rest, asked_many request answered asked, count_append (answered ∷ []) answers)
 
   -- a request before those that are left
-  pub all_from : {version : ℕ} {old between new : Sessions} {left left_between left_after : ℕ} {request : Request} {requests : List Request} {reply : Reply} {replies : List Reply}
-      → RepliesTo options is_alone version old request between reply → left ≤ left_between + writes_of_one request
+  pub all_from : {version : ℕ} {old between new : Sessions} {left left_between left_after : ℕ} {request : Request} {requests : List Request} {answered : Answered} {replies : List Reply}
+      → RepliesTo options is_alone version old request between answered → left ≤ left_between + writes_of_one request
       → AnswersAll options is_alone version between left_between requests new left_after replies
-      → AnswersAll options is_alone version old left (request ∷ requests) new left_after (reply ∷ replies)
-  all_from {version} {old} {between} {new} {left} {left_between} {left_after} {request} {requests} {reply} {replies} one few all =
-      let turn : Turn = record { version = version; request = request; reply = reply } in
+      → AnswersAll options is_alone version old left (request ∷ requests) new left_after (reply_to version request.ticket answered ∷ replies)
+  all_from {version} {old} {between} {new} {left} {left_between} {left_after} {request} {requests} {answered} {replies} one few all =
+      let turn : Turn = record { version = version; request = request; answered = answered } in
       record {
         turns = turn ∷ all.turns;
         asked = ap (λ r. request ∷ r) all.asked;
-        replied = ap (λ r. reply ∷ r) all.replied;
+        replied = ap (λ r. reply_of turn ∷ r) all.replied;
         each = All-cons (IsTurn version) turn all.turns one.is all.each;
         answers = (between, one.answers, all.answers);
-        few = few_before left left_between left_after turn all.turns few all.few;
+        few = few_before left left_between left_after request answered (answers_in all.turns) one.is.asked few all.few;
       }
 
-  pub first_from : {version : ℕ} {old between new : Sessions} {left left_between left_after : ℕ} {request : Request} {requests : List Request} {reply : Reply}
-      → RepliesTo options is_alone version old request between reply → left ≤ left_between + writes_of_one request
+  pub first_from : {version : ℕ} {old between new : Sessions} {left left_between left_after : ℕ} {request : Request} {requests : List Request} {answered : Answered}
+      → RepliesTo options is_alone version old request between answered → left ≤ left_between + writes_of_one request
       → AnswersFirst options is_alone between left_between requests new left_after → AnswersFirst options is_alone old left (request ∷ requests) new left_after
-  first_from {version} {old} {between} {new} {left} {left_between} {left_after} {request} {requests} {reply} one few first =
-      let turn : Turn = record { version = version; request = request; reply = reply } in
+  first_from {version} {old} {between} {new} {left} {left_between} {left_after} {request} {requests} {answered} one few rest =
       record {
-        turns = turn ∷ first.turns;
-        later = first.later;
-        begins = ap (λ r. request ∷ r) first.begins;
-        answers = (between, one.answers, first.answers);
-        few = few_before left left_between left_after turn first.turns few first.few;
+        first = request ∷ rest.first;
+        later = rest.later;
+        begins = ap (λ r. request ∷ r) rest.begins;
+        answers = answered ∷ rest.answers;
+        asked = (one.is.asked, rest.asked);
+        in_order = (between, one.answers, rest.in_order);
+        few = few_before left left_between left_after request answered rest.answers one.is.asked few rest.few;
       }
 
   pub adds_from : {old between new : Sessions} {left left_between left_after : ℕ} {request : Request} {requests : List Request} {before mid after : Filling}
       → AddsReply options is_alone old before request between mid → left ≤ left_between + writes_of_one request
       → AddsAll options is_alone between left_between mid requests new left_after after → AddsAll options is_alone old left before (request ∷ requests) new left_after after
   adds_from {old} {between} {new} {left} {left_between} {left_after} {request} {requests} {before} {mid} {after} one few all = record {
-    replies = one.reply ∷ all.replies;
+    replies = reply_to before.version request.ticket one.answered ∷ all.replies;
     answered = all_from one.replied few
         (subst (λ (v : ℕ). AnswersAll options is_alone v between left_between requests new left_after all.replies) one.added.version all.answered);
-    added = adds_then before mid after (one.reply ∷ []) all.replies one.added all.added;
+    added = adds_then before mid after (reply_to before.version request.ticket one.answered ∷ []) all.replies one.added all.added;
   }
 
   -- nothing is left
@@ -92,16 +103,18 @@ module _ (options : Options) (is_alone : Bool) where
 
   -- none of these was answered
   pub first_none : (now : Sessions) (left : ℕ) (requests : List Request) → AnswersFirst options is_alone now left requests now left
-  first_none now left requests = record { turns = []; later = requests; begins = refl; answers = λ q. refl; few = omega arith }
+  first_none now left requests = record { first = []; later = requests; begins = refl; answers = []; asked = tt; in_order = λ q. refl; few = omega arith }
 
   -- all of them were
   pub first_all : {version : ℕ} {old new : Sessions} {left left_after : ℕ} {requests : List Request} {replies : List Reply}
       → AnswersAll options is_alone version old left requests new left_after replies → AnswersFirst options is_alone old left requests new left_after
   first_all {requests = requests} all = record {
-    turns = all.turns;
+    first = requests;
     later = [];
-    begins = sym all.asked ∙ sym (append-nil (map (λ t. t.request) all.turns));
-    answers = all.answers;
+    begins = sym (append-nil requests);
+    answers = answers_in all.turns;
+    asked = subst (λ (rs : List Request). AllZip Asks rs (answers_in all.turns)) all.asked (each_asked _ all.turns (recursion_from_All _ all.turns all.each));
+    in_order = all.answers;
     few = all.few;
   }
 
@@ -177,10 +190,10 @@ module _ (options : Options) (is_alone : Bool) where
           }
 
   -- it was answered, and its reply found no room
-  pub here_replied : {old now then : Sessions} {left left_now left_then version : ℕ} {before text : Filling} {all : List Request} {unread next : Remaining} {count number : ℕ} {request : Request} {reply : Reply}
-      → Here old left before all now left_now text unread count number → number < count → Takes unread request next → RepliesTo options is_alone version now request then reply
+  pub here_replied : {old now then : Sessions} {left left_now left_then version : ℕ} {before text : Filling} {all : List Request} {unread next : Remaining} {count number : ℕ} {request : Request} {answered : Answered}
+      → Here old left before all now left_now text unread count number → number < count → Takes unread request next → RepliesTo options is_alone version now request then answered
       → left_now ≤ left_then + writes_of_one request → AnswersFirst options is_alone old left all then left_then
-  here_replied {old} {now} {then} {left} {left_now} {left_then} {version} {before} {text} {all} {unread} {next} {count} {number} {request} {reply} h lt takes one few = by h.rest h.has h.many h.first
+  here_replied {old} {now} {then} {left} {left_now} {left_then} {version} {before} {text} {all} {unread} {next} {count} {number} {request} {answered} h lt takes one few = by h.rest h.has h.many h.first
     where
       by : (rest : List Request) → HasLeft unread rest → length rest + number ≡ count
           → ((new : Sessions) (left_after : ℕ) → AnswersFirst options is_alone now left_now rest new left_after → AnswersFirst options is_alone old left all new left_after)
@@ -188,7 +201,7 @@ module _ (options : Options) (is_alone : Bool) where
       by [] has many first = absurd (omega (arith, many, lt))
       by (x ∷ later) has many first =
           let taken = takes x later has in
-          first then left_then (first_from (subst (λ (r : Request). RepliesTo options is_alone version now r then reply) taken.0 one)
+          first then left_then (first_from (subst (λ (r : Request). RepliesTo options is_alone version now r then answered) taken.0 one)
           (subst (λ (r : Request). left_now ≤ left_then + writes_of_one r) taken.0 few) (first_none then left_then later))
 
 -- a request is one write at most

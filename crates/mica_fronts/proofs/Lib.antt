@@ -1,3 +1,4 @@
+pub mod FlushLaws
 pub mod InOrder
 pub mod Statuses
 pub mod Replying

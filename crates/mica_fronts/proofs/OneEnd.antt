@@ -6,7 +6,8 @@ use Rattle.partition_model.specs.declared.options.Options.{Options}
 use Rattle.mica_fronts.specs.declared.end.TheConstants.{ROOM}
 use Rattle.mica_fronts.specs.Turn.{Turn}
 use Rattle.mica_fronts.specs.Dealing.{IsDealing}
-use Rattle.mica_fronts.specs.Session.{Sessions, DealsWith}
+use Rattle.mica_fronts.specs.Session.{Sessions}
+use Rattle.mica_fronts.specs.Answering.{DealsWith}
 use Rattle.mica_fronts.specs.OneEnd.{OnTraffic, SendsAll, SendsPart, sent_all, IsAtEnd, received_one, ServesOne, StopsOne, LeavesUnread}
 use Rattle.mica_fronts.proofs.Cut.{cut_dealing}
 

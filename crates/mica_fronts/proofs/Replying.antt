@@ -9,10 +9,9 @@ use Rattle.mica_words.specs.Hash.{partition_of}
 use Rattle.partition_model.specs.declared.options.Options.{Options}
 use Rattle.partition_model.specs.declared.write.Answer.{Answer}
 use Rattle.partition_model.specs.declared.write.Answer.TheVariants.{Hit, Miss}
-use Rattle.partition_model.specs.declared.write.Op.{Op}
 use Rattle.partition_model.specs.declared.write.Outcome.{Outcome}
 use Rattle.partition_model.specs.declared.write.Write.{Write}
-use Rattle.partition_model.specs.Write.{write_of, is_accepted}
+use Rattle.partition_model.specs.Write.{is_accepted}
 use Rattle.partition_model.specs.Answer.{IsAnswer}
 use Rattle.batch_packets.specs.declared.header.TheConstants.{MAX_VALUE_LEN_V1}
 use Rattle.batch_packets.specs.declared.batch.Request.{Request}
@@ -21,10 +20,12 @@ use Rattle.batch_packets.specs.BatchGrammar.{IsRequest, SpellsBatch}
 use Rattle.batch_packets.specs.declared.replies.Reply.{Reply}
 use Rattle.batch_packets.specs.ReplyGrammar.{replies_text, IsReply}
 use Rattle.batch_packets.specs.Splitting.{SplitsInto}
-use Rattle.mica_fronts.specs.Turn.{Turn, write_in, partition_in, status_of, write_reply, get_reply}
-use Rattle.mica_fronts.specs.Session.{Sessions, Writes, Reads, ChangesOnly, AnswersBy, DealsWith}
+use Rattle.mica_fronts.specs.Answered.{wrote, got}
+use Rattle.mica_fronts.specs.Turn.{write_in, get_reply}
+use Rattle.mica_fronts.specs.Session.{Sessions, Writes, Reads, ChangesOnly}
 use Rattle.mica_fronts.specs.Dealing.{IsNoBatch, bad_batch_text}
-use Rattle.mica_fronts.specs.Answering.{RepliesTo, AnswersAll}
+use Rattle.mica_fronts.specs.Answering.{RepliesTo, AnswersAll, DealsWith, DealsInPart}
+use Rattle.mica_fronts.proofs.InOrder.{first_none}
 use Rattle.mica_fronts.proofs.Statuses.{replied_status}
 
 pub err_anyway : {T E : Type 0} {X : Type 0} (r : Result T E) → X → OnErr r X
@@ -46,58 +47,34 @@ fits_of : (answer : Answer) (buffer : List ℕ) (value : Option (List ℕ)) → 
 fits_of Hit buffer value fits is = subst (λ (o : Option (List ℕ)). IfSome o ValueFits) (sym is) fits
 fits_of Miss buffer value fits is = subst (λ (o : Option (List ℕ)). IfSome o ValueFits) (sym is.0) tt
 
--- the reply to a get
+-- a get
 pub get_replied : (options : Options) (is_alone : Bool) (version : ℕ) (old new : Sessions) (request : Request) (key : List ℕ) (answer : Answer) (buffer : List ℕ) (stamp : ℕ) (value : Option (List ℕ))
     → write_in request ≡ None → key ≡ request.key → ValueFits buffer → IsAnswer answer buffer value
     → Reads options is_alone (old (partition_of key options.partitions)) key stamp value (new (partition_of key options.partitions))
     → ChangesOnly (partition_of key options.partitions) old new
-    → RepliesTo options is_alone version old request new (get_reply version request.ticket stamp value)
-get_replied options is_alone version old new request key answer buffer stamp value none same fits is reads others =
-    let turn : Turn = record { version = version; request = request; reply = get_reply version request.ticket stamp value } in
-    let p = partition_in options turn in
-    record {
-      is = record { version_is = refl; ticket = ticket_in value; lawful = lawful_get version request.ticket stamp value (fits_of answer buffer value fits is) };
-      answers = record {
-        one = subst (λ (w : Option Write). AnswersBy options is_alone w (old p) turn (new p)) (sym none)
-            (stamp, value, refl, subst (λ (k : List ℕ). Reads options is_alone (old (partition_of k options.partitions)) k stamp value (new (partition_of k options.partitions))) same reads);
-        others = subst (λ (k : List ℕ). ChangesOnly (partition_of k options.partitions) old new) same others;
-      };
-    }
-  where
-    ticket_in : (value : Option (List ℕ)) → (get_reply version request.ticket stamp value).ticket ≡ request.ticket
-    ticket_in None = refl
-    ticket_in (Some v) = refl
+    → RepliesTo options is_alone version old request new (got key stamp value)
+get_replied options is_alone version old new request key answer buffer stamp value none same fits is reads others = record {
+  is = record { version_is = refl; asked = (none, same); lawful = lawful_get version request.ticket stamp value (fits_of answer buffer value fits is) };
+  answers = record { one = reads; others = others };
+}
 
--- the reply to a write
-pub write_replied : (options : Options) (is_alone : Bool) (version : ℕ) (old new : Sessions) (request : Request) (op : Op) (key value : List ℕ) (outcome : Outcome) (stamp : ℕ)
-    → IsRequest version request → write_in request ≡ Some (write_of op request.key request.value) → key ≡ request.key → value ≡ request.value
-    → Writes options is_alone (old (partition_of key options.partitions)) (record { write = write_of op key value; outcome = outcome; stamp = stamp }) (new (partition_of key options.partitions))
-    → ChangesOnly (partition_of key options.partitions) old new
-    → RepliesTo options is_alone version old request new (record { status = status_of outcome; ticket = request.ticket; stamp = stamp; value = [] })
-write_replied options is_alone version old new request op key value outcome stamp lawful is same_key same_value writes others =
-    let turn : Turn = record { version = version; request = request; reply = record { status = status_of outcome; ticket = request.ticket; stamp = stamp; value = [] } } in
-    let p = partition_in options turn in
-    let write = write_of op request.key request.value in
-    let by_value = subst (λ (v : List ℕ). Writes options is_alone (old (partition_of key options.partitions)) (record { write = write_of op key v; outcome = outcome; stamp = stamp }) (new (partition_of key options.partitions))) same_value writes in
-    let here = subst (λ (k : List ℕ). Writes options is_alone (old (partition_of k options.partitions)) (record { write = write_of op k request.value; outcome = outcome; stamp = stamp }) (new (partition_of k options.partitions))) same_key by_value in
-    record {
-      is = record {
-        version_is = refl;
-        ticket = refl;
-        lawful = record {
-          status = replied_status version request.want request.key request.value lawful.operation options (is_accepted outcome) here.cut write outcome is here.reply;
-          value = omega arith;
-        };
-      };
-      answers = record {
-        one = subst (λ (w : Option Write). AnswersBy options is_alone w (old p) turn (new p)) (sym is) (
-          outcome,
-          ap (write_reply request.ticket outcome) (sym here.last),
-          subst (λ s. Writes options is_alone (old p) (record { write = write; outcome = outcome; stamp = s }) (new p)) (sym here.last) here,
-        );
-        others = subst (λ (k : List ℕ). ChangesOnly (partition_of k options.partitions) old new) same_key others;
-      };
-    }
+-- a write
+pub write_replied : (options : Options) (is_alone : Bool) (version : ℕ) (old new : Sessions) (request : Request) (write : Write) (outcome : Outcome) (stamp : ℕ)
+    → IsRequest version request → write_in request ≡ Some write
+    → Writes options is_alone (old (partition_of write.key options.partitions)) (record { write = write; outcome = outcome; stamp = stamp }) (new (partition_of write.key options.partitions))
+    → ChangesOnly (partition_of write.key options.partitions) old new
+    → RepliesTo options is_alone version old request new (wrote (record { write = write; outcome = outcome; stamp = stamp }))
+write_replied options is_alone version old new request write outcome stamp lawful is writes others = record {
+  is = record {
+    version_is = refl;
+    asked = is;
+    lawful = record {
+      status = replied_status version request.want request.key request.value lawful.operation options (is_accepted outcome) writes.cut write outcome is writes.reply;
+      value = omega arith;
+    };
+  };
+  answers = record { one = writes; others = others };
+}
 
 -- one reply is one datagram
 pub one_datagram : (version number : ℕ) (reply : Reply) (datagrams : List (List ℕ)) → SplitsInto version number (reply ∷ []) datagrams
@@ -126,6 +103,10 @@ refuses options is_alone sessions left bytes replies none is = record {
   answers = λ q. refl;
   few = omega arith;
 }
+
+-- no request of any datagram was answered
+pub none_dealt : (options : Options) (is_alone : Bool) (sessions : Sessions) (left : ℕ) (bytes : List ℕ) → DealsInPart options is_alone sessions left bytes sessions left
+none_dealt options is_alone sessions left bytes = record { requests = []; of = inl refl; first = first_none options is_alone sessions left [] }
 
 -- all requests of a batch were answered
 pub answered : (options : Options) (is_alone : Bool) (old new : Sessions) (left left_after : ℕ) (bytes : List ℕ) (batch : Batch) (replies : List Reply) (datagrams : List (List ℕ))

@@ -11,6 +11,7 @@ use Rattle.batch_packets.specs.BatchGrammar.{SpellsBatch}
 use Rattle.batch_packets.specs.ReplyGrammar.{replies_datagram}
 use Rattle.batch_packets.specs.Splitting.{SplitsInto}
 use Rattle.batch_packets.proofs.RequestLaws.{one_batch}
+use Rattle.mica_fronts.specs.Turn.{reply_of}
 use Rattle.mica_fronts.specs.Dealing.{Dealing, IsDealing, AnswersBatch, RefusesBatch, bad_batch_text, due_after, due_to}
 use Rattle.mica_fronts.specs.OneEnd.{BeginsAs}
 
@@ -56,7 +57,7 @@ record Due (dealing : Dealing) (n : ℕ) : Type 0 where
 answered : (dealing : Dealing) (h : AnswersBatch dealing) → Due dealing (length h.batch.requests)
 answered dealing h =
     let s = split _ _ _ dealing.replies h.split in
-    let one = length-map dealing.turns (λ t. t.reply) in
+    let one = length-map dealing.turns reply_of in
     let two = length-map dealing.turns (λ t. t.request) in
     let same = ap length h.requests in
     record { all = omega (arith, s.all); some = s.some }

@@ -9,9 +9,10 @@ use Rattle.std.proofs.lemmas.List.Elements.{All-append, All-from_recursion, filt
 use Rattle.mica_io.specs.Traffic.{Datagram, Traffic, Sent, new_traffic}
 use Rattle.partition_model.specs.declared.options.Options.{Options}
 use Rattle.mica_fronts.specs.declared.totals.Totals.{Totals}
-use Rattle.mica_fronts.specs.Turn.{Turn}
-use Rattle.mica_fronts.specs.Dealing.{Dealing, IsDealing, turns_in, due_after, due_to}
-use Rattle.mica_fronts.specs.Session.{Sessions, AnswersInOrder, count_of_writes}
+use Rattle.mica_fronts.specs.Answered.{Answered, count_of_writes}
+use Rattle.mica_fronts.specs.Turn.{Turn, answers_in}
+use Rattle.mica_fronts.specs.Dealing.{Dealing, IsDealing, turns_in, answered_in, due_after, due_to}
+use Rattle.mica_fronts.specs.Session.{Sessions, AnswersInOrder}
 use Rattle.mica_fronts.specs.Totals.{Counts, has_no_turns}
 use Rattle.mica_fronts.specs.OneEnd.{OnTraffic, ServesOne, StopsOne, LeavesUnread, ServesSome, LeavesEnd, WantsAtEnd}
 use Rattle.mica_fronts.specs.Totals.{counted}
@@ -50,6 +51,9 @@ due_more dealings d =
 
 turns_more : (dealings : List Dealing) (d : Dealing) → turns_in (dealings ++ d ∷ []) ≡ turns_in dealings ++ d.turns
 turns_more dealings d = flat_map-append (λ x. x.turns) dealings (d ∷ []) ∙ ap (λ (ts : List Turn). turns_in dealings ++ ts) (append-nil d.turns)
+
+answered_more : (dealings : List Dealing) (d : Dealing) → answered_in (dealings ++ d ∷ []) ≡ answered_in dealings ++ answers_in d.turns
+answered_more dealings d = ap answers_in (turns_more dealings d) ∙ map-append (λ t. t.answered) (turns_in dealings) d.turns
 
 one_front : (f : List Dealing → ℕ) (dealings : List Dealing) → sum_by f (dealings ∷ []) ≡ f dealings
 one_front f dealings = omega (arith, sum_by-cons f dealings [])
@@ -103,9 +107,9 @@ module _ (options : Options) (is_alone : Bool) (old : Sessions) (left : ℕ) whe
         received = ap (λ (t : Traffic). t.received) one.told ∙ ap (λ (r : List Datagram). r ++ d.datagram ∷ []) some.received ∙ sym all;
         sent = ap (λ (t : Traffic). t.sent) one.told ∙ ap (λ (s : List Sent). s ++ due_one d (length (b.received ++ d.datagram ∷ [])) d.replies) some.sent
             ∙ ap (λ (m : ℕ). due_to some.dealings ++ due_one d m d.replies) got ∙ sym (due_more some.dealings d);
-        answers = subst (λ (ts : List Turn). AnswersInOrder options is_alone old ts new) (sym (turns_more some.dealings d))
-            (answers_append options is_alone (turns_in some.dealings) d.turns old between new some.answers one.answers);
-        few = omega (arith, some.few, one.few, ap count_of_writes (turns_more some.dealings d), count_append options is_alone (turns_in some.dealings) d.turns);
+        answers = subst (λ (l : List Answered). AnswersInOrder options is_alone old l new) (sym (answered_more some.dealings d))
+            (answers_append options is_alone (answered_in some.dealings) (answers_in d.turns) old between new some.answers one.answers);
+        few = omega (arith, some.few, one.few, ap count_of_writes (answered_more some.dealings d), count_append options is_alone (answered_in some.dealings) (answers_in d.turns));
         counts = counts_more some.dealings d requests totals one.count some.counts;
       }
 
@@ -129,7 +133,7 @@ module _ (options : Options) (is_alone : Bool) (old : Sessions) (left : ℕ) whe
           sent = ([], sym sent ∙ sym (append-nil c.sent));
         };
         short = inr (refl, omega (arith, ap length got, many, lt));
-        answers = subst (λ (s : Sessions). AnswersInOrder options is_alone old (turns_in some.dealings) s) (sym unmoved.1) some.answers;
+        answers = subst (λ (s : Sessions). AnswersInOrder options is_alone old (answered_in some.dealings) s) (sym unmoved.1) some.answers;
         few = omega (arith, some.few, unmoved.2);
       }
   stops_at n batches totals between new left_before left_after a b c lt some (inr h) =
@@ -169,9 +173,9 @@ module _ (options : Options) (is_alone : Bool) (old : Sessions) (left : ℕ) whe
           length-drop k d.replies,
           h.part.1,
         ));
-        answers = subst (λ (ts : List Turn). AnswersInOrder options is_alone old ts new) (sym (turns_more some.dealings d))
-            (answers_append options is_alone (turns_in some.dealings) d.turns old between new some.answers h.answers);
-        few = omega (arith, some.few, h.few, ap count_of_writes (turns_more some.dealings d), count_append options is_alone (turns_in some.dealings) d.turns);
+        answers = subst (λ (l : List Answered). AnswersInOrder options is_alone old l new) (sym (answered_more some.dealings d))
+            (answers_append options is_alone (answered_in some.dealings) (answers_in d.turns) old between new some.answers h.answers);
+        few = omega (arith, some.few, h.few, ap count_of_writes (answered_more some.dealings d), count_append options is_alone (answered_in some.dealings) (answers_in d.turns));
       }
 
   -- a datagram was received, and there was no memory to deal with it

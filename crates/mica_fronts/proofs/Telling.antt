@@ -31,7 +31,7 @@ use Rattle.owner_queue.specs.AckEnds.{AckBox, ack_box}
 use Rattle.owner_queue.specs.JobEnds.{Outbox, outbox}
 use Rattle.mica_fronts.specs.declared.queue_front.FrontPart.{FrontPart}
 use Rattle.mica_fronts.specs.Session.{Writes, Reads, TellsStep}
-use Rattle.mica_fronts.specs.QueueFront.{IsOfOneTable, HasTakenMore, HasAwaited, PartWrites, PartReads, acknowledged_by, told_by, session_of}
+use Rattle.mica_fronts.specs.QueueFront.{IsOfOneTable, HasTakenMore, HasAwaited, PartWrites, PartReads, step_by, told_by, session_of}
 
 -- Acknowledgements taken
 
@@ -74,12 +74,10 @@ module _ (old new : FrontPart) (job : Job) (ack : Ack) (whole : IsOfOneTable old
 
   tells : TellsStep (told_by old) (record { write = job.write; outcome = ack.outcome; stamp = ack.stamp }) (told_by new)
   tells = record {
-    stand = ap (λ (y : AckBox × Outbox). record { jobs = y.1.queue; number = y.1.number; most = y.1.jobs; acks = y.0.queue; table = y.0.table }) (λ i. (awaited.taken i, jobs i));
-    more = map acknowledged_by awaited.more;
-    ticket = ack.ticket;
-    acks = ap (map acknowledged_by) list ∙ map-append acknowledged_by (old.acks.list ++ awaited.more) (ack ∷ [])
-        ∙ ap (λ l. l ++ map acknowledged_by (ack ∷ [])) (map-append acknowledged_by old.acks.list awaited.more)
-        ∙ ap (λ (w : Write). map acknowledged_by old.acks.list ++ map acknowledged_by awaited.more ++ record { ticket = ack.ticket; step = record { write = w; outcome = ack.outcome; stamp = ack.stamp } } ∷ []) awaited.write_is;
+    more = map step_by awaited.more;
+    steps = ap (map step_by) list ∙ map-append step_by (old.acks.list ++ awaited.more) (ack ∷ []) ∙ ap (λ l. l ++ map step_by (ack ∷ [])) (map-append step_by old.acks.list awaited.more)
+        ∙ ap (λ (w : Write). map step_by old.acks.list ++ map step_by awaited.more ++ record { write = w; outcome = ack.outcome; stamp = ack.stamp } ∷ []) awaited.write_is;
+    tried = ap (λ (r : ReaderState). r.tried) event;
     closed = ap (λ (r : ReaderState). r.closed) event;
   }
 
@@ -141,8 +139,7 @@ was_read options old new key stamp value shape jobs acks last read =
       told = (
         length seat.more,
         ap Some (λ i. record {
-          stand = record { jobs = (jobs i).queue; number = (jobs i).number; most = (jobs i).jobs; acks = (acks i).queue; table = (acks i).table };
-          acks = map acknowledged_by (acks i).list;
+          steps = map step_by (acks i).list;
           tried = seat.tried i;
           failed = (fails ∙ failed) i;
           closed = seat.closed i;

@@ -5,19 +5,20 @@ use Rattle.batch_packets.specs.declared.batch.Batch.{Batch}
 use Rattle.batch_packets.specs.BatchGrammar.{SpellsBatch}
 use Rattle.batch_packets.specs.ReplyGrammar.{IsReply, replies_text}
 use Rattle.batch_packets.specs.Splitting.{SplitsInto}
-use Rattle.mica_fronts.specs.Turn.{Turn, bad_batch_reply}
+use Rattle.mica_fronts.specs.Answered.{Answered}
+use Rattle.mica_fronts.specs.Turn.{Turn, Asks, reply_of, answers_in, bad_batch_reply}
 
--- a datagram that was received, the requests in it with their replies, and the datagrams that are due to it
+-- a datagram that was received, the requests in it with what was answered to each, and the datagrams that are due to it
 pub record Dealing : Type 0 where
   pub datagram : Datagram
   pub turns : List Turn
   pub replies : List Datagram
 
--- the reply repeats the ticket, and is one that the version may have
+-- what the request asks was answered, and the reply is one that the version may have
 pub record IsTurn (version : ℕ) (turn : Turn) : Type 0 where
   pub version_is : turn.version ≡ version
-  pub ticket : turn.reply.ticket ≡ turn.request.ticket
-  pub lawful : IsReply version turn.reply
+  pub asked : Asks turn.request turn.answered
+  pub lawful : IsReply version (reply_of turn)
 
 -- the datagram is a batch: one reply for each of its requests, in order
 pub record AnswersBatch (dealing : Dealing) : Type 0 where
@@ -25,7 +26,7 @@ pub record AnswersBatch (dealing : Dealing) : Type 0 where
   pub spelled : SpellsBatch dealing.datagram batch
   pub requests : map (λ t. t.request) dealing.turns ≡ batch.requests
   pub each : All (IsTurn batch.version) dealing.turns
-  pub split : SplitsInto batch.version batch.number (map (λ t. t.reply) dealing.turns) dealing.replies
+  pub split : SplitsInto batch.version batch.number (map reply_of dealing.turns) dealing.replies
 
 -- the bytes are the text of no batch
 abbrev pub IsNoBatch : Datagram → Type 0
@@ -44,9 +45,13 @@ pub record RefusesBatch (dealing : Dealing) : Type 0 where
 abbrev pub IsDealing : Dealing → Type 0
 IsDealing dealing = AnswersBatch dealing ⊎ RefusesBatch dealing
 
--- the requests in all datagrams, with their replies, in order
+-- the requests in all datagrams, in order
 abbrev pub turns_in : List Dealing → List Turn
 turns_in dealings = flat_map (λ e. e.turns) dealings
+
+-- what was answered to all of them
+abbrev pub answered_in : List Dealing → List Answered
+answered_in dealings = answers_in (turns_in dealings)
 
 -- the datagrams that are due, each after its own was received and before the next one was, where so many were received before
 abbrev pub due_after : ℕ → List Dealing → List Sent

@@ -3,8 +3,10 @@ use Rattle.std.specs.Prelude.{◌≡◌, ◌+◌, ◌<◌, ◌≤◌, ◌⊎◌,
 use Rattle.mica_io.specs.Traffic.{Datagram, Traffic, Sent}
 use Rattle.partition_model.specs.declared.options.Options.{Options}
 use Rattle.mica_fronts.specs.declared.totals.Totals.{Totals}
-use Rattle.mica_fronts.specs.Dealing.{Dealing, IsDealing, turns_in, due_to}
-use Rattle.mica_fronts.specs.Session.{Sessions, AnswersInOrder, count_of_writes}
+use Rattle.mica_fronts.specs.Answered.{count_of_writes}
+use Rattle.mica_fronts.specs.Turn.{answers_in}
+use Rattle.mica_fronts.specs.Dealing.{Dealing, IsDealing, answered_in, due_to}
+use Rattle.mica_fronts.specs.Session.{Sessions, AnswersInOrder}
 use Rattle.mica_fronts.specs.Totals.{Counts}
 
 -- a fact of the traffic before and after, where the end tells it; it goes on telling it
@@ -42,8 +44,8 @@ pub record ServesOne (options : Options) (is_alone : Bool) (old : Sessions) (lef
   pub is : IsDealing dealing
   pub count : requests ≡ length dealing.turns
   pub told : after ≡ sent_all dealing.replies (received_one dealing.datagram later before)
-  pub answers : AnswersInOrder options is_alone old dealing.turns new
-  pub few : left ≤ left_after + count_of_writes dealing.turns
+  pub answers : AnswersInOrder options is_alone old (answers_in dealing.turns) new
+  pub few : left ≤ left_after + count_of_writes (answers_in dealing.turns)
 
 -- one datagram was received and dealt with, and a proper beginning of what is due to it was sent
 pub record SendsShort (options : Options) (is_alone : Bool) (old : Sessions) (left : ℕ) (new : Sessions) (left_after : ℕ) (before after : Traffic)
@@ -53,8 +55,8 @@ pub record SendsShort (options : Options) (is_alone : Bool) (old : Sessions) (le
   pub next : before.left ≡ dealing.datagram ∷ later
   pub is : IsDealing dealing
   pub part : SendsPart dealing.replies (received_one dealing.datagram later before) after
-  pub answers : AnswersInOrder options is_alone old dealing.turns new
-  pub few : left ≤ left_after + count_of_writes dealing.turns
+  pub answers : AnswersInOrder options is_alone old (answers_in dealing.turns) new
+  pub few : left ≤ left_after + count_of_writes (answers_in dealing.turns)
 
 -- a fault came before a datagram was received, or before all that is due to it was sent
 abbrev pub StopsOne : Options → Bool → Sessions → ℕ → Sessions → ℕ → Traffic → Traffic → Type 0
@@ -75,8 +77,8 @@ pub record ServesSome (options : Options) (is_alone : Bool) (old : Sessions) (le
   pub split : before.left ≡ map (λ d. d.datagram) dealings ++ after.left
   pub received : after.received ≡ map (λ d. d.datagram) dealings
   pub sent : after.sent ≡ due_to dealings
-  pub answers : AnswersInOrder options is_alone old (turns_in dealings) new
-  pub few : left ≤ left_after + count_of_writes (turns_in dealings)
+  pub answers : AnswersInOrder options is_alone old (answered_in dealings) new
+  pub few : left ≤ left_after + count_of_writes (answered_in dealings)
   pub counts : Counts (dealings ∷ []) totals
 
 -- What a front made of an end that had these datagrams left: it received so many of them, or all where there are fewer, sent what is due to
@@ -88,8 +90,8 @@ pub record ServesEnd (options : Options) (is_alone : Bool) (old : Sessions) (lef
   pub asked : map (λ d. d.datagram) dealings ≡ take batches before.left
   pub told : after ≡ record { left = drop batches before.left; received = take batches before.left; sent = due_to dealings }
   pub at_end : ended ≡ nat_lt (length before.left) batches
-  pub answers : AnswersInOrder options is_alone old (turns_in dealings) new
-  pub few : left ≤ left_after + count_of_writes (turns_in dealings)
+  pub answers : AnswersInOrder options is_alone old (answered_in dealings) new
+  pub few : left ≤ left_after + count_of_writes (answered_in dealings)
   pub counts : Counts (dealings ∷ []) totals
 
 -- a list of datagrams begins as the other
@@ -116,8 +118,8 @@ pub record LeavesEnd (options : Options) (is_alone : Bool) (old : Sessions) (lef
   pub dealings : List Dealing
   pub begins : BeginsEnd batches dealings [] before after
   pub short : IsShort batches dealings ended after
-  pub answers : AnswersInOrder options is_alone old (turns_in dealings) new
-  pub few : left ≤ left_after + count_of_writes (turns_in dealings)
+  pub answers : AnswersInOrder options is_alone old (answered_in dealings) new
+  pub few : left ≤ left_after + count_of_writes (answered_in dealings)
 
 -- what a front left of an end at want of memory: one datagram at most is unread
 pub record WantsAtEnd (batches : ℕ) (before after : Traffic) : Type 0 where

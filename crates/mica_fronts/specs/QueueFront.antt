@@ -7,6 +7,7 @@ use Rattle.partition_model.specs.declared.write.Outcome.{Outcome}
 use Rattle.partition_model.specs.declared.write.Write.{Write}
 use Rattle.partition_model.specs.Answer.{IsAnswer}
 use Rattle.partition_model.specs.Write.{is_accepted}
+use Rattle.partition_model.specs.Run.{RunStep}
 use Rattle.partition_model.specs.Options.{IsValid}
 use Rattle.epoch_core.specs.Shape.{shape_of}
 use Rattle.partition_table.specs.Seats.{reader_state, reader_home, note_state}
@@ -18,9 +19,10 @@ use Rattle.owner_queue.specs.JobEnds.{outbox}
 use Rattle.owner_queue.specs.Acked.{IsAcked}
 use Rattle.owner_queue.specs.AckOrder.{AckMayFollow}
 use Rattle.owner_queue.specs.AckEnds.{AckBox, ack_box}
-use Rattle.mica_fronts.specs.declared.queue_front.FrontPart.{FrontPart}
 use Rattle.owner_queue.specs.Worked.{Acknowledged}
-use Rattle.mica_fronts.specs.Session.{Stand, Told, Session, Sessions, Writes, Reads}
+use Rattle.mica_fronts.specs.declared.queue_front.FrontPart.{FrontPart}
+use Rattle.mica_fronts.specs.Stand.{Stand}
+use Rattle.mica_fronts.specs.Session.{Told, Session, Sessions, Writes, Reads}
 
 -- the options, the front's number in each queue of jobs, the ticket of its next job, how many writes it may still be given, and what it
 -- holds of each partition
@@ -62,6 +64,7 @@ pub record IsQueueFront (front : QueueView) : Type 0 where
 pub record IsNewPart (options : Options) (number most : ℕ) (part : FrontPart) : Type 0 where
   pub shape : (reader_state part.seat).shape ≡ shape_of options
   pub whole : IsOfOneTable part
+  pub unanswered : part.last ≡ 0
   pub fresh : part.jobs ≡ outbox part.jobs.queue number most []
 
 -- the part once the front's end was sent to the owner
@@ -72,9 +75,11 @@ ended_part number part = record part {
 
 -- What contracts see of it as a front
 
+abbrev pub step_by : Ack → RunStep
+step_by ack = record { write = ack.write; outcome = ack.outcome; stamp = ack.stamp }
+
 abbrev pub acknowledged_by : Ack → Acknowledged
-acknowledged_by ack =
-    record { ticket = ack.ticket; step = record { write = ack.write; outcome = ack.outcome; stamp = ack.stamp } }
+acknowledged_by ack = record { ticket = ack.ticket; step = step_by ack }
 
 -- where the front stands before the owner
 abbrev pub stand_of : FrontPart → Stand
@@ -83,8 +88,7 @@ stand_of part =
 
 abbrev pub told_by : FrontPart → Told
 told_by part = record {
-  stand = stand_of part;
-  acks = map acknowledged_by part.acks.list;
+  steps = map step_by part.acks.list;
   tried = (reader_state part.seat).tried;
   failed = length (reader_state part.seat).fails;
   closed = (reader_state part.seat).closed;

@@ -1,37 +1,15 @@
--- What contracts see of a front before each partition, and what a request makes of it.
-use Rattle.std.specs.Prelude.{◌≡◌, ◌≢◌, ◌+◌, ◌<◌, ◌≤◌, ◌⊎◌, ◌++◌, ◌∷◌, [], ℕ, Bool, true, List, map, filter, length, Option, Some, None, is_some, if◌then◌else◌}
-use Rattle.atomic_table.specs.Seated.{TableId}
-use Rattle.mica_io.specs.Traffic.{Datagram}
+-- What contracts see of a front before each partition, and what an answer makes of it.
+use Rattle.std.specs.Prelude.{◌≡◌, ◌≢◌, ◌+◌, ◌<◌, ◌≤◌, ◌++◌, ◌∷◌, [], ℕ, Bool, true, List, Option, Some, None}
 use Rattle.partition_model.specs.declared.options.Options.{Options}
-use Rattle.partition_model.specs.declared.write.Outcome.{Outcome}
-use Rattle.partition_model.specs.declared.write.Write.{Write}
 use Rattle.partition_model.specs.Write.{is_accepted}
 use Rattle.partition_model.specs.History.{History, IsPrefix, IsCut}
 use Rattle.partition_model.specs.Run.{RunStep, history_of, IsRunFrom, IsAnswerAt}
-use Rattle.batch_packets.specs.declared.batch.Batch.{Batch}
-use Rattle.batch_packets.specs.declared.batch.Request.{Request}
-use Rattle.batch_packets.specs.BatchGrammar.{SpellsBatch}
-use Rattle.owner_queue.specs.declared.message.Message.{Message}
-use Rattle.owner_queue.specs.declared.ack.Ack.{Ack}
-use Rattle.ruled_queue.specs.Ends.{Queue}
 use Rattle.owner_queue.specs.Acked.{IsReplyAt}
-use Rattle.owner_queue.specs.Worked.{Acknowledged}
-use Rattle.mica_fronts.specs.Dealing.{Dealing, IsDealing}
-use Rattle.mica_fronts.specs.Turn.{Turn, write_in, partition_in, write_reply, get_reply}
+use Rattle.mica_fronts.specs.Answered.{Answered, wrote, got, partition_in}
 
--- where a front stands before an owner: the queue of its jobs, its number there and how many jobs it may send, the queue of its
--- acknowledgements, and the table that their notes are of
-pub record Stand : Type 0 where
-  pub jobs : Queue Message
-  pub number : ℕ
-  pub most : ℕ
-  pub acks : Queue Ack
-  pub table : TableId
-
--- what a front tells: where it stands, the answers that it took, and how many tries its seat made, how many failed and how many answered
+-- what a front tells: the steps whose answers it took, and how many tries its seat made, how many failed and how many answered
 pub record Told : Type 0 where
-  pub stand : Stand
-  pub acks : List Acknowledged
+  pub steps : List RunStep
   pub tried : ℕ
   pub failed : ℕ
   pub closed : ℕ
@@ -51,12 +29,11 @@ Sessions = ℕ → Session
 abbrev pub ChangesOnly : ℕ → Sessions → Sessions → Type 0
 ChangesOnly partition old new = (q : ℕ) → q ≢ partition → new q ≡ old q
 
--- One or more answers were taken, the last of them this one. What the seat learned with it may have made its list of failed tries longer.
+-- One or more answers to writes were taken, the last of them this one. What the seat learned with it may have made its list of failed tries longer.
 pub record TellsStep (old : Told) (step : RunStep) (new : Told) : Type 0 where
-  pub stand : new.stand ≡ old.stand
-  pub more : List Acknowledged
-  pub ticket : ℕ
-  pub acks : new.acks ≡ old.acks ++ more ++ record { ticket = ticket; step = step } ∷ []
+  pub more : List RunStep
+  pub steps : new.steps ≡ old.steps ++ more ++ step ∷ []
+  pub tried : new.tried ≡ old.tried
   pub closed : new.closed ≡ old.closed
 
 -- where answers are told, this write's was taken
@@ -99,45 +76,18 @@ pub record Reads (options : Options) (is_alone : Bool) (old : Session) (key : Li
   pub alone : is_alone ≡ true → new.seen ≡ old.seen
   pub told : TellsRead old.told new.told
 
-abbrev pub AnswersBy : Options → Bool → Option Write → Session → Turn → Session → Type 0
-AnswersBy options is_alone (Some write) old turn new =
-    (outcome : Outcome) × (turn.reply ≡ write_reply turn.request.ticket outcome new.last)
-    × Writes options is_alone old (record { write = write; outcome = outcome; stamp = new.last }) new
-AnswersBy options is_alone None old turn new =
-    (stamp : ℕ) × (value : Option (List ℕ)) × (turn.reply ≡ get_reply turn.version turn.request.ticket stamp value)
-    × Reads options is_alone old turn.request.key stamp value new
+-- one partition's session is that of a front which was answered so
+abbrev pub AnswersOne : Options → Bool → Session → Answered → Session → Type 0
+AnswersOne options is_alone old (wrote step) new = Writes options is_alone old step new
+AnswersOne options is_alone old (got key stamp value) new = Reads options is_alone old key stamp value new
 
--- one request was answered with its reply
-pub record AnswersTurn (options : Options) (is_alone : Bool) (old : Sessions) (turn : Turn) (new : Sessions) : Type 0 where
-  pub one : AnswersBy options is_alone (write_in turn.request) (old (partition_in options turn)) turn (new (partition_in options turn))
-  pub others : ChangesOnly (partition_in options turn) old new
+-- a partition answered
+pub record Answers (options : Options) (is_alone : Bool) (old : Sessions) (answered : Answered) (new : Sessions) : Type 0 where
+  pub one : AnswersOne options is_alone (old (partition_in options answered)) answered (new (partition_in options answered))
+  pub others : ChangesOnly (partition_in options answered) old new
 
--- the requests were answered in order, each before the next one
-abbrev pub AnswersInOrder : Options → Bool → Sessions → List Turn → Sessions → Type 0
+-- these were answered in order, each before the next was asked
+abbrev pub AnswersInOrder : Options → Bool → Sessions → List Answered → Sessions → Type 0
 AnswersInOrder options is_alone old [] new = (q : ℕ) → new q ≡ old q
-AnswersInOrder options is_alone old (turn ∷ later) new =
-    (between : Sessions) × AnswersTurn options is_alone old turn between × AnswersInOrder options is_alone between later new
-
--- how many of the turns are writes
-abbrev pub count_of_writes : List Turn → ℕ
-count_of_writes turns = length (filter (λ t. is_some (write_in t.request)) turns)
-
--- how many writes a request is
-abbrev pub writes_of_one : Request → ℕ
-writes_of_one request = if is_some (write_in request) then 1 else 0
-
--- A datagram was dealt with: its requests were answered in order, and no more writes were given than it has.
-pub record DealsWith (options : Options) (is_alone : Bool) (old : Sessions) (left : ℕ) (dealing : Dealing) (new : Sessions) (left_after : ℕ)
-    : Type 0 where
-  pub is : IsDealing dealing
-  pub answers : AnswersInOrder options is_alone old dealing.turns new
-  pub few : left ≤ left_after + count_of_writes dealing.turns
-
--- Some requests at the beginning of a batch were answered in order, or none.
-pub record DealsInPart (options : Options) (is_alone : Bool) (old : Sessions) (left : ℕ) (datagram : Datagram) (new : Sessions) (left_after : ℕ)
-    : Type 0 where
-  pub turns : List Turn
-  pub begins : (turns ≡ []) ⊎ ((batch : Batch) × SpellsBatch datagram batch
-      × (later : List Request) × (batch.requests ≡ map (λ t. t.request) turns ++ later))
-  pub answers : AnswersInOrder options is_alone old turns new
-  pub few : left ≤ left_after + count_of_writes turns
+AnswersInOrder options is_alone old (answered ∷ later) new =
+    (between : Sessions) × Answers options is_alone old answered between × AnswersInOrder options is_alone between later new

@@ -1,25 +1,20 @@
--- A request and its reply.
-use Rattle.std.specs.Prelude.{◌≡◌, ℕ, ◌==◌, ◌&&◌, Bool, true, List, [], length, nat_lt, Option, Some, None, is_some, is_none, filter, if◌then◌else◌}
-use Rattle.mica_words.specs.Hash.{partition_of}
-use Rattle.partition_model.specs.declared.options.Options.{Options}
+-- A request, what was answered to it, and its reply.
+use Rattle.std.specs.Prelude.{◌≡◌, ℕ, ◌==◌, ◌&&◌, Bool, List, [], length, map, nat_lt, Option, Some, None, is_some, if◌then◌else◌}
 use Rattle.partition_model.specs.declared.write.Op.TheVariants.{Put as PutOp, Del as DelOp, Add as AddOp, Touch as TouchOp}
 use Rattle.partition_model.specs.declared.write.Outcome.{Outcome}
 use Rattle.partition_model.specs.declared.write.Outcome.TheVariants.{Stored, Deleted, Absent, Touched, FullSpare, FullBlock, Worn, Exists}
 use Rattle.partition_model.specs.declared.write.Write.{Write}
 use Rattle.partition_model.specs.declared.write.Answer.{Answer}
 use Rattle.partition_model.specs.declared.write.Answer.TheVariants.{Hit, Miss}
-use Rattle.partition_model.specs.Write.{write_of, is_accepted}
+use Rattle.partition_model.specs.Write.{write_of}
 use Rattle.batch_packets.specs.declared.header.TheConstants.{MAX_VALUE_LEN_V1}
 use Rattle.batch_packets.specs.declared.batch.Want.{Want}
 use Rattle.batch_packets.specs.declared.batch.Want.TheVariants.{Get, Put, Del, Add, Touch}
 use Rattle.batch_packets.specs.declared.batch.Request.{Request}
 use Rattle.batch_packets.specs.declared.replies.Reply.{Reply}
+use Rattle.mica_fronts.specs.Answered.{Answered, wrote, got}
 
--- the version is that of the request's batch
-pub record Turn : Type 0 where
-  pub version : ℕ
-  pub request : Request
-  pub reply : Reply
+-- What a request asks
 
 abbrev pub write_by : Want → List ℕ → List ℕ → Option Write
 write_by Get key value = None
@@ -32,23 +27,16 @@ write_by Touch key value = Some (write_of TouchOp key value)
 abbrev pub write_in : Request → Option Write
 write_in request = write_by request.want request.key request.value
 
--- the partition of a request's key
-abbrev pub partition_in : Options → Turn → ℕ
-partition_in options turn = partition_of turn.request.key options.partitions
+-- how many writes a request is
+abbrev pub writes_of_one : Request → ℕ
+writes_of_one request = if is_some (write_in request) then 1 else 0
 
--- the turns of one partition
-abbrev pub turns_of : Options → ℕ → List Turn → List Turn
-turns_of options partition turns = filter (λ t. partition_in options t == partition) turns
+-- it is what the request asks that was answered
+abbrev pub Asks : Request → Answered → Type 0
+Asks request (wrote step) = write_in request ≡ Some step.write
+Asks request (got key stamp value) = (write_in request ≡ None) × (key ≡ request.key)
 
--- the writes among the turns, in one partition
-abbrev pub writes_of : Options → ℕ → List Turn → List Turn
-writes_of options partition turns =
-    filter (λ t. is_some (write_in t.request) && (partition_in options t == partition)) turns
-
--- the gets among the turns, in one partition
-abbrev pub gets_of : Options → ℕ → List Turn → List Turn
-gets_of options partition turns =
-    filter (λ t. is_none (write_in t.request) && (partition_in options t == partition)) turns
+-- What is replied
 
 -- the status of a write's reply; the last two are of an add and a touch, which the second version alone has
 abbrev pub status_of : Outcome → ℕ
@@ -60,12 +48,6 @@ status_of FullBlock = 6
 status_of Worn = 7
 status_of Exists = 11
 status_of Touched = 12
-
--- the reply says that a write was accepted
-pub record Accepts (reply : Reply) : Type 0 where
-  pub outcome : Outcome
-  pub status : reply.status ≡ status_of outcome
-  pub accepted : is_accepted outcome ≡ true
 
 -- the status of a get's reply
 abbrev pub status_at : Answer → ℕ
@@ -93,3 +75,20 @@ get_reply version ticket stamp (Some value) = record {
 -- the reply to bytes that are no batch
 abbrev pub bad_batch_reply : Reply
 bad_batch_reply = record { status = 9; ticket = 0; stamp = 0; value = [] }
+
+-- the reply of a version, with this ticket
+abbrev pub reply_to : ℕ → ℕ → Answered → Reply
+reply_to version ticket (wrote step) = write_reply ticket step.outcome step.stamp
+reply_to version ticket (got key stamp value) = get_reply version ticket stamp value
+
+-- a request of a batch of this version, and what was answered to it
+pub record Turn : Type 0 where
+  pub version : ℕ
+  pub request : Request
+  pub answered : Answered
+
+abbrev pub reply_of : Turn → Reply
+reply_of turn = reply_to turn.version turn.request.ticket turn.answered
+
+abbrev pub answers_in : List Turn → List Answered
+answers_in turns = map (λ t. t.answered) turns

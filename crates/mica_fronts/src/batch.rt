@@ -1,7 +1,7 @@
 //! One datagram to a front.
 ghost use Rattle.std.specs.Prelude.{◌≡◌, ◌≤◌, List, IfOk, OnErr};
 ghost use Rattle.mica_fronts.specs.Turn.{Turn};
-ghost use Rattle.mica_fronts.specs.Session.{DealsWith, DealsInPart};
+ghost use Rattle.mica_fronts.specs.Answering.{DealsWith, DealsInPart};
 
 use crate::deal::deal;
 use crate::front::Front;
@@ -29,6 +29,7 @@ pub fn serve_batch<R: Threads + Wait + Sync, F: Front, G: Gate>(
     ensures partly { OnErr result (DealsInPart (F.options front.old) F.is_alone
         (F.sessions front.old) (F.left front.old) from.now (F.sessions front.new) (F.left front.new)) }
     ensures options { F.options front.new ≡ F.options front.old }
+    ensures number { F.number front.new ≡ F.number front.old }
     ensures stands { F.stands front.new ≡ F.stands front.old }
 {
     let mut out = ItemBuf::new(alloc)?;

@@ -7,10 +7,10 @@ ghost use Rattle.batch_packets.specs.Datagram.{is_version};
 ghost use Rattle.batch_packets.specs.BatchGrammar.{IsRequest};
 ghost use Rattle.batch_packets.specs.Splitting.{SplitsInto};
 ghost use Rattle.batch_packets.specs.declared.replies.Reply.{Reply};
-ghost use Rattle.mica_fronts.specs.Turn.{Turn, status_of, status_at, write_in, get_reply};
+ghost use Rattle.mica_fronts.specs.Answered.{Answered};
+ghost use Rattle.mica_fronts.specs.Turn.{Turn, status_of, status_at, write_in, writes_of_one, get_reply};
 ghost use Rattle.mica_fronts.specs.Dealing.{bad_batch_text};
-ghost use Rattle.mica_fronts.specs.Session.{DealsWith, DealsInPart, writes_of_one};
-ghost use Rattle.mica_fronts.specs.Answering.{RepliesTo, AddsReply, AnswersAll, AddsAll, AnswersFirst, AreLeft};
+ghost use Rattle.mica_fronts.specs.Answering.{RepliesTo, AddsReply, AnswersAll, AddsAll, AnswersFirst, AreLeft, DealsWith, DealsInPart};
 
 use crate::ahead::load_ahead;
 use crate::front::Front;
@@ -71,10 +71,11 @@ fn written<R: Threads + Wait + Sync, F: Front>(
     requires write { write_in request.now ≡ Some (write_of op request.now.key request.now.value) }
     requires left { 0 < F.left front.old }
     ensures replied { OnOk result (AddsReply (F.options front.old) F.is_alone (F.sessions front.old) replies.old request.now (F.sessions front.new) replies.new) }
-    ensures err { OnErr result ((front.new ≡ front.old) ⊎ ((reply : Reply)
-        × RepliesTo (F.options front.old) F.is_alone replies.old.version (F.sessions front.old) request.now (F.sessions front.new) reply)) }
+    ensures err { OnErr result ((front.new ≡ front.old) ⊎ ((answered : Answered)
+        × RepliesTo (F.options front.old) F.is_alone replies.old.version (F.sessions front.old) request.now (F.sessions front.new) answered)) }
     ensures left { F.left front.old ≤ F.left front.new + 1 }
     ensures options { F.options front.new ≡ F.options front.old }
+    ensures number { F.number front.new ≡ F.number front.old }
     ensures stands { F.stands front.new ≡ F.stands front.old }
 {
     let (outcome, stamp) = front.write(rt, alloc, op, request.key(), request.value())?;
@@ -105,10 +106,11 @@ fn got<R: Threads + Wait + Sync, F: Front>(
     requires request { IsRequest version request.now }
     requires get { write_in request.now ≡ None }
     ensures replied { OnOk result (AddsReply (F.options front.old) F.is_alone (F.sessions front.old) replies.old request.now (F.sessions front.new) replies.new) }
-    ensures err { OnErr result ((reply : Reply)
-        × RepliesTo (F.options front.old) F.is_alone replies.old.version (F.sessions front.old) request.now (F.sessions front.new) reply) }
+    ensures err { OnErr result ((answered : Answered)
+        × RepliesTo (F.options front.old) F.is_alone replies.old.version (F.sessions front.old) request.now (F.sessions front.new) answered) }
     ensures left { F.left front.new ≡ F.left front.old }
     ensures options { F.options front.new ≡ F.options front.old }
+    ensures number { F.number front.new ≡ F.number front.old }
     ensures stands { F.stands front.new ≡ F.stands front.old }
 {
     let (answer, stamp) = front.read(rt, request.key(), out);
@@ -130,10 +132,11 @@ fn reply_to<R: Threads + Wait + Sync, F: Front>(
     requires request { IsRequest version request.now }
     requires left { 0 < F.left front.old }
     ensures replied { OnOk result (AddsReply (F.options front.old) F.is_alone (F.sessions front.old) replies.old request.now (F.sessions front.new) replies.new) }
-    ensures err { OnErr result ((front.new ≡ front.old) ⊎ ((reply : Reply)
-        × RepliesTo (F.options front.old) F.is_alone replies.old.version (F.sessions front.old) request.now (F.sessions front.new) reply)) }
+    ensures err { OnErr result ((front.new ≡ front.old) ⊎ ((answered : Answered)
+        × RepliesTo (F.options front.old) F.is_alone replies.old.version (F.sessions front.old) request.now (F.sessions front.new) answered)) }
     ensures left { F.left front.old ≤ F.left front.new + writes_of_one request.now }
     ensures options { F.options front.new ≡ F.options front.old }
+    ensures number { F.number front.new ≡ F.number front.old }
     ensures stands { F.stands front.new ≡ F.stands front.old }
 {
     match request.want() {
@@ -168,6 +171,7 @@ fn reply_to_all<R: Threads + Wait + Sync, F: Front, G: Gate>(
         all (F.sessions front.new) (F.left front.new)) }
     ensures left { F.left front.old ≤ F.left front.new + 255 }
     ensures options { F.options front.new ≡ F.options front.old }
+    ensures number { F.number front.new ≡ F.number front.old }
     ensures stands { F.stands front.new ≡ F.stands front.old }
 {
     for number in 0..count {
@@ -224,6 +228,7 @@ fn answer<R: Threads + Wait + Sync, F: Front, G: Gate>(
     ensures few { IfOk result (λ dealt. dealt.requests ≤ 255) }
     ensures left { F.left front.old ≤ F.left front.new + 255 }
     ensures options { F.options front.new ≡ F.options front.old }
+    ensures number { F.number front.new ≡ F.number front.old }
     ensures stands { F.stands front.new ≡ F.stands front.old }
 {
     let Header {
@@ -269,6 +274,7 @@ pub(crate) fn deal<R: Threads + Wait + Sync, F: Front, G: Gate>(
     ensures few { IfOk result (λ dealt. dealt.requests ≤ 255) }
     ensures left { F.left front.old ≤ F.left front.new + 255 }
     ensures options { F.options front.new ≡ F.options front.old }
+    ensures number { F.number front.new ≡ F.number front.old }
     ensures stands { F.stands front.new ≡ F.stands front.old }
 {
     match check_batch(from) {

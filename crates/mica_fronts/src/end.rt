@@ -72,6 +72,7 @@ fn serve_one<R: Threads + Wait + Sync, F: Front, D: Datagrams, G: Gate>(
     ensures tells { OnTraffic (λ before after. ⊤) (D.traffic end.old) (D.traffic end.new) }
     ensures port { D.port end.new ≡ D.port end.old }
     ensures options { F.options front.new ≡ F.options front.old }
+    ensures number { F.number front.new ≡ F.number front.old }
     ensures stands { F.stands front.new ≡ F.stands front.old }
 {
     let Some(count) = end.recv(room)? else {
@@ -115,6 +116,7 @@ pub fn serve_end<R: Threads + Wait + Sync, F: Front, D: Datagrams, G: Gate>(
     ensures tells { OnTraffic (λ before after. ⊤) (D.traffic end.old) (D.traffic end.new) }
     ensures port { D.port end.new ≡ D.port end.old }
     ensures options { F.options front.new ≡ F.options front.old }
+    ensures number { F.number front.new ≡ F.number front.old }
     ensures stands { F.stands front.new ≡ F.stands front.old }
 {
     let mut out = ItemBuf::new(alloc)?;

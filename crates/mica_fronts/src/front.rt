@@ -5,7 +5,8 @@ ghost use Rattle.mica_words.specs.Hash.{partition_of};
 ghost use Rattle.partition_model.specs.declared.options.Options.{Options};
 ghost use Rattle.partition_model.specs.Answer.{IsAnswer};
 ghost use Rattle.partition_model.specs.Write.{HasValueOf, write_of};
-ghost use Rattle.mica_fronts.specs.Session.{Stand, Sessions, ChangesOnly, Writes, Reads};
+ghost use Rattle.mica_fronts.specs.Stand.{Stand};
+ghost use Rattle.mica_fronts.specs.Session.{Sessions, ChangesOnly, Writes, Reads};
 
 use mica_io::NoMemory;
 use partition_model::{Answer, ItemBuf, Op, Outcome};
@@ -17,6 +18,9 @@ use std::thread::Threads;
 pub trait Front {
     /// The options of its partitions. No call changes them.
     ghost options: { Self → Options };
+
+    /// Which of the fronts beside each other it is. No call changes it.
+    ghost number: { Self → ℕ };
 
     /// Where it stands before each owner in another thread, by their partitions. No call changes it.
     ghost stands: { Self → List Stand };
@@ -60,6 +64,7 @@ pub trait Front {
         ensures err { OnErr result (self.new ≡ self.old) }
         ensures left { left self.old ≤ left self.new + 1 }
         ensures options { options self.new ≡ options self.old }
+        ensures number { number self.new ≡ number self.old }
         ensures stands { stands self.new ≡ stands self.old };
 
     /// The machine's answer, and its stamp. The buffer has the value of a hit, and is empty at a miss.
@@ -77,5 +82,6 @@ pub trait Front {
         ensures others { ChangesOnly (partition_of key.entry.now (options self.old).partitions) (sessions self.old) (sessions self.new) }
         ensures left { left self.new ≡ left self.old }
         ensures options { options self.new ≡ options self.old }
+        ensures number { number self.new ≡ number self.old }
         ensures stands { stands self.new ≡ stands self.old };
 }

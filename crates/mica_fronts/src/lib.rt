@@ -6,6 +6,7 @@
 
 mod ahead;
 mod batch;
+mod changing;
 mod deal;
 mod end;
 mod front;
@@ -13,10 +14,12 @@ mod gate;
 mod owner_work;
 mod ports;
 mod queue_front;
+pub mod seat_loads;
 mod solo;
 mod totals;
 
 pub use batch::serve_batch;
+pub use changing::{Change, Changed, Changes, Decide, When};
 pub use end::serve_end;
 pub use front::Front;
 pub use owner_work::serve_owner;

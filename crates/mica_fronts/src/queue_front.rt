@@ -9,9 +9,9 @@ ghost use Rattle.owner_queue.specs.Messages.{MayFollow};
 ghost use Rattle.mica_fronts.specs.QueueFront.{IsOfOneTable, IsNewPart, IsQueueFront, HasAwaited, PartWrites, PartReads, queue_view, ended_part};
 
 use crate::front::Front;
-use epoch_core::{ReaderWords, Shape, WordAt};
+use crate::seat_loads;
 use mica_io::{Bytes, NoMemory};
-use mica_words::{SLOTS, bucket_of, entry_offset, entry_tag, key_hash, partition_of, tag_of};
+use mica_words::{key_hash, partition_of};
 use optimistic_get::{Got, ask_hashed};
 use owner_queue::{Ack, AckReceiver, CowWrite, Job, JobSender, Message};
 use partition_model::{Answer, ItemBuf, Op, Options, Outcome};
@@ -30,12 +30,6 @@ pub struct FrontPart {
     /// The stamp that was answered last, to a write or a get.
     pub last: u64,
 }
-
-/// What is in use of tables of as many words, 16 MiB, is mostly in the caches: there a load ahead costs more than it gains.
-const CACHED_WORDS: usize = 1 << 21;
-
-/// A cache line has so many words.
-const LINE_WORDS: u32 = 8;
 
 /// Whether it is the acknowledgement of this ticket and write.
 fn is_of(ack: &Ack, ticket: u64, op: Op, key: &[u8], value: &[u8]) -> bool
@@ -133,29 +127,6 @@ impl FrontPart {
         }
     }
 
-    /// Loads the lines of the bucket of this hash.
-    fn load_bucket(&self, hash: u64) {
-        let bucket = bucket_of(hash, self.seat.shape().buckets);
-        self.seat.peek(WordAt::Epoch(bucket));
-        self.seat.peek(WordAt::Entry(bucket, LINE_WORDS - 1));
-        self.seat.peek(WordAt::Entry(bucket, SLOTS - 1));
-    }
-
-    /// Loads the first lines of the item behind the first entry with this hash's tag.
-    fn load_item(&self, hash: u64) {
-        let bucket = bucket_of(hash, self.seat.shape().buckets);
-        let tag = tag_of(hash);
-        for slot in 0..SLOTS {
-            let entry = self.seat.peek(WordAt::Entry(bucket, slot));
-            if entry_tag(entry) == tag {
-                let offset = entry_offset(entry);
-                self.seat.peek(WordAt::Item(offset));
-                self.seat.peek(WordAt::Item(offset + u64::from(LINE_WORDS)));
-                return;
-            }
-        }
-    }
-
     /// Sends the front's end to the owner.
     fn end<R: Wait>(&mut self, rt: &R, number: u32)
         requires own { number ≡ self.old.jobs.number }
@@ -226,6 +197,8 @@ impl Front for QueueFront {
 
     ghost options = { λ f. f.options };
 
+    ghost number = { λ f. f.number };
+
     ghost stands = { λ f. map stand_of f.parts };
 
     ghost sessions = { λ f. sessions_of f.parts };
@@ -235,18 +208,17 @@ impl Front for QueueFront {
     ghost is_alone = { false };
 
     fn loads_ahead(&self) -> bool {
-        let shape = Shape::of(&self.options);
-        self.parts.len() * shape.word_count() > CACHED_WORDS
+        seat_loads::are_large(&self.options)
     }
 
     fn load_bucket(&self, hash: u64) {
         let at = partition_of(hash, self.options.partitions) as usize;
-        self.parts[at].load_bucket(hash);
+        seat_loads::load_bucket(&self.parts[at].seat, hash);
     }
 
     fn load_item(&self, hash: u64) {
         let at = partition_of(hash, self.options.partitions) as usize;
-        self.parts[at].load_item(hash);
+        seat_loads::load_item(&self.parts[at].seat, hash);
     }
 
     fn write<R: Threads + Wait + Sync>(

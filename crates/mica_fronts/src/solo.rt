@@ -202,6 +202,8 @@ impl Front for SoloFront {
 
     ghost options = { λ f. (solo_of f.owners).options };
 
+    ghost number = { λ _. 0 };
+
     ghost stands = { λ _. [] };
 
     ghost sessions = { λ f. sessions_in (solo_of f.owners) };

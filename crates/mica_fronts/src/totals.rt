@@ -3,6 +3,8 @@ ghost use Rattle.std.specs.Prelude.{◌≡◌};
 
 use mica_io::{Failed, NoMemory};
 use std::alloc::AllocError;
+use std::error::Error;
+use std::fmt;
 
 /// The most datagrams of one front, whose requests, and those of all fronts, can be counted in 64 bits.
 pub const MAX_BATCHES: u64 = 1_099_511_627_776;
@@ -22,6 +24,17 @@ pub enum ServeFault {
     Net,
     NoMemory,
 }
+
+impl fmt::Display for ServeFault {
+    fn fmt<W: fmt::Write>(&self, f: &mut fmt::Formatter<W>) -> fmt::Result {
+        match self {
+            ServeFault::Net => f.write_str("a call of the net failed"),
+            ServeFault::NoMemory => fmt::Display::fmt(&NoMemory, f),
+        }
+    }
+}
+
+impl Error for ServeFault {}
 
 impl Totals {
     ghost use Rattle.std.specs.Prelude.{◌≡◌, ◌<◌, ◌+◌, ◌*◌};

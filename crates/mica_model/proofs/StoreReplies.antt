@@ -1,6 +1,6 @@
 -- Which outcomes a write to the store may have, case by case.
 use Rattle.std.proofs.Common.{◌≡◌, ◌≢◌, ◌↔◌, ◌≤◌, List, ℕ, ⊎_elim, Option, None, refl, sym, ap, ◌∙◌, subst, cond, is_some, le-leb}
-use Rattle.std.specs.Prelude.{IsSome, IsSomeAnd}
+use Rattle.std.specs.Prelude.{IsSome, IsSomeAnd, ◌||◌}
 use Rattle.std.specs.FinMap.{get}
 use Rattle.std.proofs.lemmas.Bool.{false≢true}
 use Rattle.partition_model.specs.declared.options.Options.{Options}
@@ -12,6 +12,7 @@ use Rattle.partition_model.specs.declared.write.Write.{Write}
 use Rattle.partition_model.specs.Write.{GivesValue, Replaces, write_of}
 use Rattle.partition_model.specs.Cache as cache
 use Rattle.partition_model.specs.CacheStep as cs
+use Rattle.partition_model.specs.Limits.{is_at_end}
 use Rattle.partition_model.specs.Store.{Cell, Store}
 use Rattle.partition_model.specs.History.{State, cache_state, store_state, accepted_in, Allows as AllowsIn}
 use Rattle.partition_model.specs.StoreStep.{Allows, IsWorn, NeedsSpare, NeedsBlock, Stores}
@@ -31,7 +32,7 @@ when_worn options s write worn Worn = (λ e. worn, λ a. refl)
 
 worn_reply : (options : Options) (s : cache.Cache) (write : Write) → options.wear ≤ s.accepted → cs.reply options s write ≡ Worn
 unfolding cs.reply
-worn_reply options s write worn = ap (λ b. cond b Worn (cs.reply_of write.op options write (is_some (cache.record_of s write.key)))) (le-leb options.wear s.accepted worn)
+worn_reply options s write worn = ap (λ b. cond (b || is_at_end s.stamp) Worn (cs.reply_of write.op options write (is_some (cache.record_of s write.key)))) (le-leb options.wear s.accepted worn)
 
 -- in both modes a worn partition replies that it is
 pub worn_in : (options : Options) (now : State) (write : Write) → options.wear ≤ accepted_in now → (outcome : Outcome) → (outcome ≡ Worn) ↔ AllowsIn options now write outcome

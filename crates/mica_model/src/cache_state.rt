@@ -13,7 +13,7 @@ ghost use Rattle.partition_model.specs.Write.{HasValueOf, write_of};
 use crate::cache_record::CacheRecord;
 use mica_io::{Bytes, NoMemory};
 use mica_words::{SLOTS, bucket_of, item_size, key_hash, tail_of};
-use partition_model::{Op, Options, Outcome};
+use partition_model::{Op, Options, Outcome, has_room};
 use std::alloc::Global;
 use std::marker::Model;
 
@@ -100,7 +100,7 @@ impl CacheState {
         requires value { HasValueOf op value.now }
         ensures { result ≡ reply options.now self.now (write_of op key.now value.now) }
     {
-        if self.accepted >= options.wear {
+        if self.accepted >= options.wear || !has_room(self.stamp) {
             return Outcome::Worn;
         }
         match op {

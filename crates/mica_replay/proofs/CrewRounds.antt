@@ -2,8 +2,8 @@
 use Rattle.std.proofs.Common.{◌≡◌, ℕ, zero, suc, ◌<◌, List, [], ◌∷◌, length, map, replicate, slice_index_or, All, None, refl, ap, arith}
 use Rattle.std.proofs.lemmas.List.Elements.{All-head, All-tail}
 use Rattle.work_desk.specs.declared.rule.Knows.{Knows}
-use Rattle.work_desk.specs.Desk.{giver}
-use Rattle.work_desk.specs.Rows.{free_again, handed, AllHanded, MayHand, Returned}
+use Rattle.work_desk.specs.Desk.{giver, told}
+use Rattle.work_desk.specs.Rows.{free_again, all_told, handed, AllHanded, MayHand, Returned}
 
 module _ {T S : Type 0} (terms : S) where
   abbrev pub free : ℕ → List (Knows T S)
@@ -24,6 +24,11 @@ module _ {T S : Type 0} (terms : S) where
   pub freed : (ws : List T) → map (λ g. free_again g) (handed ws (free (length ws))) ≡ free (length ws)
   freed [] = refl
   freed (w ∷ ws) = ap (λ l. giver terms None ∷ l) (freed ws)
+
+  -- the end is told at each free desk
+  pub dismiss : (n : ℕ) → all_told (free n) ≡ replicate n (told terms)
+  dismiss zero = refl
+  dismiss (suc n) = ap (λ l. told terms ∷ l) (dismiss n)
 
   later : (done : S → T → T → Type 0) (w u : T) (ws us : List T) → done terms w u → ((i : ℕ) (d : T) → i < length ws → done terms (slice_index_or ws i d) (slice_index_or us i d))
       → (i : ℕ) (d : T) → i < length (w ∷ ws) → done terms (slice_index_or (w ∷ ws) i d) (slice_index_or (u ∷ us) i d)

@@ -3,7 +3,7 @@ use Rattle.std.proofs.Common.{◌≡◌, ℕ, ◌+◌, ◌<◌, ◌==◌, inl, i
 use Rattle.std.specs.List.{list_any}
 use Rattle.std.specs.Vec.Iter.{into_iter_items}
 use Rattle.std.proofs.lemmas.List.{length-set}
-use Rattle.std.proofs.lemmas.Option.{slice_get_read, slice_get_within, same_Some}
+use Rattle.std.proofs.lemmas.Option.{slice_get_read, slice_get_within}
 use Rattle.list_laws.proofs.UpTo.{UpTo, up_one}
 use Rattle.list_laws.proofs.Places.{element_at, set_cases}
 use Rattle.owner_queue.specs.declared.message.Message.TheVariants as kind
@@ -19,16 +19,6 @@ pub record IsFeeding (f h : Feeder) : Type 0 where
   pub split : into_iter_items f.feeds ≡ sent ++ into_iter_items h.feeds
   pub many : length h.senders.items ≡ length f.senders.items
   pub each : (p : ℕ) (old new : Outbox) → slice_get f.senders.items p ≡ Some old → slice_get h.senders.items p ≡ Some new → new ≡ outbox old.queue old.number old.jobs (jobs_for p sent)
-
-pub feeds_none : (f : Feeder) → IsReadyFeeder f → IsFeeding f f
-feeds_none f ready = record {
-  sent = [];
-  split = refl;
-  many = refl;
-  each = λ p old new is_old is_new.
-      let same : new ≡ old = same_Some _ _ (sym is_new ∙ is_old) in
-      same ∙ ap (λ l. outbox old.queue old.number old.jobs l) (ready.none p old is_old).0;
-}
 
 -- what is made of the jobs for one queue, with one more
 pub for_push : {Z : Type 0} (h : Feed → Z) (queue : ℕ) (feeds : List Feed) (feed : Feed)

@@ -55,13 +55,6 @@ pub none_seen : {X Y : Type 0} (f : X → Y) (items : List X) → map f items �
 none_seen f [] is = refl
 none_seen f (x ∷ xs) is = absurd (cc)
 
-pub all_by : {X Y : Type 0} (f : X → Y) (P : X → Type 0) (Q : Y → Type 0) (items : List X) → ((x : X) → Q (f x) → P x) → ((n : ℕ) (y : Y) → slice_get (map f items) n ≡ Some y → Q y) → All P items
-all_by f P Q items step each =
-    λ n d less.
-    let at = element_at items n less in
-    let is = get_or_from_slice_get items n at.0 d at.1 in
-    subst P (sym is) (step at.0 (each n (f at.0) (slice_get-map f items n ∙ ap (option_map f) at.1)))
-
 -- what each element keeps, all keep
 pub same_map : {X Y : Type 0} (f : X → Y) (xs ys : List X) → length ys ≡ length xs → ((n : ℕ) (x y : X) → slice_get xs n ≡ Some x → slice_get ys n ≡ Some y → f y ≡ f x) → map f ys ≡ map f xs
 same_map f [] [] many each = refl

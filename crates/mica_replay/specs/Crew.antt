@@ -1,11 +1,11 @@
--- The crew of a trace: a free desk for each owner and each reader.
+-- The crew of a trace: a desk for each owner and each reader, free until the end is told there.
 use Rattle.std.specs.Prelude.{◌≡◌, ℕ, List, [], replicate, None}
 use Rattle.partition_model.specs.declared.options.Options.{Options}
 use Rattle.partition_model.specs.declared.options.Mode.TheVariants.{Cache}
 use Rattle.mica_trace.specs.declared.line.TraceLine.{TraceLine}
 use Rattle.partition_table.specs.declared.reader.ReaderSeat.{ReaderSeat}
 use Rattle.work_desk.specs.declared.rule.Knows.{Knows}
-use Rattle.work_desk.specs.Desk.{giver}
+use Rattle.work_desk.specs.Desk.{giver, told}
 use Rattle.mica_replay.specs.declared.worker.OwnerWork.{OwnerWork}
 use Rattle.mica_replay.specs.declared.worker.ReaderWork.{ReaderWork}
 use Rattle.mica_replay.specs.declared.duties.ReadTerms.{ReadTerms}
@@ -26,3 +26,8 @@ module _ {P : Type 0} where
   pub record IsCrew (owner_count reader_count : ℕ) (lines : List TraceLine) (options : Options) (crew : Desks P) : Type 0 where
     pub owners : crew.owners ≡ replicate owner_count (giver tt None)
     pub readers : crew.readers ≡ replicate reader_count (giver (read_terms lines options) None)
+
+  -- each owner and each reader was told that there is no more work
+  pub record IsDismissed (owner_count reader_count : ℕ) (lines : List TraceLine) (options : Options) (crew : Desks P) : Type 0 where
+    pub owners : crew.owners ≡ replicate owner_count (told tt)
+    pub readers : crew.readers ≡ replicate reader_count (told (read_terms lines options))

@@ -2,8 +2,8 @@
 //! to it and back.
 ghost use Rattle.std.specs.Prelude.{◌≡◌, All, IfOk, None, replicate};
 ghost use Rattle.partition_model.specs.Options.{IsValid};
-ghost use Rattle.work_desk.specs.Desk.{giver, doer};
-ghost use Rattle.mica_replay.specs.Crew.{read_terms, IsCrew};
+ghost use Rattle.work_desk.specs.Desk.{giver, doer, dismissed};
+ghost use Rattle.mica_replay.specs.Crew.{read_terms, IsCrew, IsDismissed};
 
 use crate::duties::ReadTerms;
 use crate::worker::{OwnerWork, ReaderWork};
@@ -95,6 +95,7 @@ impl<'a, P: Partition + Drop> Crew<'a, P> {
     /// Tells all owners and readers that there is no more work.
     pub(crate) fn end(&mut self, options: &Options, trace: &Trace)
         requires { IsCrew options.now.partitions options.now.readers trace.now options.now self.old }
+        ensures { IsDismissed options.now.partitions options.now.readers trace.now options.now self.new }
     {
         let _options = options;
         let _trace = trace;
@@ -110,6 +111,7 @@ pub(crate) fn work_as_owner<W: Wait, P: Partition + Drop, G: Gate>(
     desk: &mut Doer<OwnerWork<P>, ()>,
 )
     requires { desk.old ≡ doer tt None }
+    ensures { desk.new ≡ dismissed tt }
 {
     for _ in rt.forever() {
         let Some(work) = desk.take(rt) else {
@@ -133,6 +135,7 @@ pub(crate) fn work_as_reader<W: Threads + Wait + Sync, G: Gate>(
 )
     requires valid { IsValid options.now }
     requires desk { desk.old ≡ doer (read_terms trace.now options.now) None }
+    ensures { desk.new ≡ dismissed (read_terms trace.now options.now) }
 {
     for _ in rt.forever() {
         let Some(work) = desk.take(rt) else {

@@ -10,6 +10,8 @@ use mica_trace::{Trace, texts_of, write_texts};
 use partition_model::Options;
 use partition_table::Tables;
 use std::alloc::Global;
+use std::error::Error;
+use std::fmt;
 use std::sync::Wait;
 use std::thread::Threads;
 
@@ -20,6 +22,17 @@ pub enum ReplayFault {
     Write,
     NoMemory,
 }
+
+impl fmt::Display for ReplayFault {
+    fn fmt<W: fmt::Write>(&self, f: &mut fmt::Formatter<W>) -> fmt::Result {
+        match self {
+            ReplayFault::Write => f.write_str("a write failed"),
+            ReplayFault::NoMemory => fmt::Display::fmt(&NoMemory, f),
+        }
+    }
+}
+
+impl Error for ReplayFault {}
 
 impl From<NoMemory> for ReplayFault {
     ghost use Rattle.mica_replay.specs.declared.printing.ReplayFault.TheVariants.{NoMemory};

@@ -9,7 +9,7 @@ ghost use Rattle.mica_replay.specs.Lending.{OwnerPart, owner_part};
 ghost use Rattle.mica_replay.specs.RoundRun.{reader_part, AreMade, AreFree, kept_of};
 ghost use Rattle.partition_model.specs.declared.options.Mode.TheVariants.{Cache, Store};
 ghost use Rattle.work_desk.specs.Desk.{doer};
-ghost use Rattle.mica_replay.specs.Crew.{read_terms, IsCrew};
+ghost use Rattle.mica_replay.specs.Crew.{read_terms, IsCrew, IsDismissed};
 ghost use Rattle.mica_replay.specs.Replayed.{IsReplayed};
 
 use crate::crew::{Crew, Hands, make_crew, work_as_owner, work_as_reader};
@@ -160,7 +160,7 @@ struct Rounds<'a, 't, P: Partition + Drop> {
     crew: Crew<'a, P>,
 }
 
-// The report of a trace, with the owners' seats. The crew is told the end, whatever came of the rounds.
+// The report of a trace, with the owners' seats, and the crew, which was told the end, whatever came of the rounds.
 fn drive<
     'a,
     't,
@@ -171,19 +171,20 @@ fn drive<
     alloc: Global,
     options: &Options,
     rounds: Rounds<'a, 't, P>,
-) -> (Result<Report, NoMemory>, Tables)
+) -> (Result<Report, NoMemory>, Tables, Crew<'a, P>)
     requires valid { IsValid options.now }
     requires mode { options.now.mode ≡ P.mode }
     requires same { (p : P) → P.state p ≡ P.owner p }
     requires crew { IsCrew options.now.partitions options.now.readers rounds.trace.now options.now rounds.crew }
     ensures ok { IfOk result.0 (λ report. IsReplayed options.now rounds.entry.trace.now report result.1) }
     ensures none { OnErr result.0 (result.1 ≡ []) }
+    ensures told { IsDismissed options.now.partitions options.now.readers rounds.entry.trace.now options.now result.2 }
 {
     let Rounds { trace, mut crew } = rounds;
     let mut tables = Tables::new();
     let report = run_on(rt, alloc, options, trace, &mut crew, &mut tables);
     crew.end(options, trace);
-    (report, tables)
+    (report, tables, crew)
 }
 
 // The readers, each in a thread of its own until the end.
@@ -318,13 +319,17 @@ fn run_cache<'a, 't, W: Threads + Wait + Sync, G: Gate>(
         mut owners,
         mut readers,
     } = hands;
-    let (_, (report, kept)) = join(
+    let (_, (report, kept, _)) = join(
         rt,
         ||
             requires { IsSync W.row × IsSync G.row × IsValid options.now × All (λ d. d ≡ doer tt None) owners.items
                 × All (λ d. d ≡ doer (read_terms trace.now options.now) None) readers.items }
         { work_in_cache(rt, alloc, trace, options, gate, &mut owners, &mut readers) },
-        || -> (Result<Report, NoMemory>, Tables)
+        || -> (
+            Result<Report, NoMemory>,
+            Tables,
+            Crew<CachePartition<OwnerSeat>>,
+        )
             requires { IsSync W.row × IsValid options.now × (options.now.mode ≡ Cache)
                 × IsCrew options.now.partitions options.now.readers rounds.trace.now options.now rounds.crew }
         { drive(rt, alloc, options, rounds) },
@@ -353,13 +358,17 @@ fn run_store<'a, 't, W: Threads + Wait + Sync, G: Gate>(
         mut owners,
         mut readers,
     } = hands;
-    let (_, (report, kept)) = join(
+    let (_, (report, kept, _)) = join(
         rt,
         ||
             requires { IsSync W.row × IsSync G.row × IsValid options.now × All (λ d. d ≡ doer tt None) owners.items
                 × All (λ d. d ≡ doer (read_terms trace.now options.now) None) readers.items }
         { work_in_store(rt, alloc, trace, options, gate, &mut owners, &mut readers) },
-        || -> (Result<Report, NoMemory>, Tables)
+        || -> (
+            Result<Report, NoMemory>,
+            Tables,
+            Crew<StorePartition<OwnerSeat>>,
+        )
             requires { IsSync W.row × IsValid options.now × (options.now.mode ≡ Store)
                 × IsCrew options.now.partitions options.now.readers rounds.trace.now options.now rounds.crew }
         { drive(rt, alloc, options, rounds) },

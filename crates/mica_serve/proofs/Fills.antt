@@ -121,7 +121,7 @@ begun_pushed f begun owners after new n many is one each p o at =
       | inr h ↦ ap (λ (x : OwnerEnd). x.state.history) (sym h.1) ∙ one ∙ ap begun (sym (h.0 ∙ many))
     ]
 
-none_there : (options : Options) → 1 ≤ options.partitions → (p : ℕ) → options.partitions ≤ p → (writes : List Write) → begun_by options writes p ≡ []
+pub none_there : (options : Options) → 1 ≤ options.partitions → (p : ℕ) → options.partitions ≤ p → (writes : List Write) → begun_by options writes p ≡ []
 none_there options some p past [] = refl
 none_there options some p past (write ∷ writes) = by (eqb (partition_of write.key options.partitions) p) refl (none_there options some p past writes)
   where

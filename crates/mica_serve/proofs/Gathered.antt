@@ -16,9 +16,9 @@ use Rattle.mica_fronts.specs.declared.totals.TheConstants.{MAX_BATCHES}
 use Rattle.mica_fronts.specs.declared.totals.Totals.{Totals}
 use Rattle.mica_fronts.specs.declared.totals.ServeFault.{ServeFault}
 use Rattle.mica_fronts.specs.declared.totals.ServeFault.TheVariants.{Net, NoMemory}
-use Rattle.mica_fronts.specs.Turn.{gets_of}
-use Rattle.mica_fronts.specs.Dealing.{Dealing, turns_in}
-use Rattle.mica_fronts.specs.Session.{Sessions, AnswersInOrder, count_of_writes}
+use Rattle.mica_fronts.specs.Answered.{gets_of, count_of_writes}
+use Rattle.mica_fronts.specs.Dealing.{Dealing, turns_in, answered_in}
+use Rattle.mica_fronts.specs.Session.{Sessions, AnswersInOrder}
 use Rattle.mica_serve.specs.Served.{IsThrough}
 use Rattle.mica_fronts.specs.Totals.{Counts, has_no_turns}
 use Rattle.mica_serve.specs.Beside.{AnsweredBeside}
@@ -102,7 +102,7 @@ module _ (options : Options) (begun : ℕ → History) (batches : ℕ) where
     pub many : length fronts ≡ length rs
     pub each : (f : ℕ) (d : List Dealing) (b a : EndFacts) → slice_get fronts f ≡ Some d → slice_get bs f ≡ Some b → slice_get es f ≡ Some a → DealsWithEnd batches d b a
     pub answers : (f : ℕ) (r : FrontRun) (d : List Dealing) → slice_get rs f ≡ Some r → slice_get fronts f ≡ Some d
-        → AnswersInOrder options false r.old (turns_in d) r.new × (r.left ≤ r.left_after + count_of_writes (turns_in d))
+        → AnswersInOrder options false r.old (answered_in d) r.new × (r.left ≤ r.left_after + count_of_writes (answered_in d))
     pub counted : Counts fronts totals
 
   abbrev Each : List FrontRun → List EndFacts → List EndFacts → Type 0
@@ -164,13 +164,13 @@ module _ (options : Options) (begun : ℕ → History) (batches : ℕ) where
           answers_of : (rest : Built rs (sum_of_totals all) bs es)
               (told : (had : Traffic) × (has : Traffic) × (b.traffic ≡ Some had) × (a.traffic ≡ Some has) × ServesEnd options false r.old r.left batches a.has_ended t r.new r.left_after had has)
               → (f : ℕ) (x : FrontRun) (d : List Dealing) → slice_get (r ∷ rs) f ≡ Some x → slice_get (told.4.dealings ∷ rest.fronts) f ≡ Some d
-              → AnswersInOrder options false x.old (turns_in d) x.new × (x.left ≤ x.left_after + count_of_writes (turns_in d))
+              → AnswersInOrder options false x.old (answered_in d) x.new × (x.left ≤ x.left_after + count_of_writes (answered_in d))
           answers_of rest told zero x d is is' =
               let s = told.4 in
               let same : s.dealings ≡ d = cc in
               let first : r ≡ x = cc in
-              subst (λ (z : FrontRun). AnswersInOrder options false z.old (turns_in d) z.new × (z.left ≤ z.left_after + count_of_writes (turns_in d))) first
-              (subst (λ (ds : List Dealing). AnswersInOrder options false r.old (turns_in ds) r.new × (r.left ≤ r.left_after + count_of_writes (turns_in ds))) same (s.answers, s.few))
+              subst (λ (z : FrontRun). AnswersInOrder options false z.old (answered_in d) z.new × (z.left ≤ z.left_after + count_of_writes (answered_in d))) first
+              (subst (λ (ds : List Dealing). AnswersInOrder options false r.old (answered_in ds) r.new × (r.left ≤ r.left_after + count_of_writes (answered_in ds))) same (s.answers, s.few))
           answers_of rest told (suc f) x d is is' = rest.answers f x d is is'
 
   -- a sum over one list is that over another of the same length, place by place
@@ -196,21 +196,21 @@ module _ (options : Options) (begun : ℕ → History) (batches : ℕ) where
         tables = record {
           each = λ p entry is. record {
             history = taken.history p entry is;
-            closed = taken.closed p entry is ∙ same_sums (closed_in p) (λ (d : List Dealing). length (gets_of options p (turns_in d))) rs b.fronts b.many
-                (λ f r d at at'. closed_gets options some begun taken.runs f (turns_in d) r.old r.new (one taken b f r d at at') p (omega (arith, slice_get_within kept p entry is, taken.shapes.many)));
+            closed = taken.closed p entry is ∙ same_sums (closed_in p) (λ (d : List Dealing). length (gets_of options p (answered_in d))) rs b.fronts b.many
+                (λ f r d at at'. closed_gets options some begun taken.runs f (answered_in d) r.old r.new (one taken b f r d at at') p (omega (arith, slice_get_within kept p entry is, taken.shapes.many)));
           };
         };
       }
     where
       one : (taken : AreTakenIn options begun rs kept) (b : Built rs totals olds news) (f : ℕ) (r : FrontRun) (d : List Dealing) → slice_get rs f ≡ Some r → slice_get b.fronts f ≡ Some d
-          → AnsweredBeside options begun taken.runs f (turns_in d) r.old r.new
+          → AnsweredBeside options begun taken.runs f (answered_in d) r.old r.new
       one taken b f r d at at' =
           let t = taken.each f r at in
           let a = b.answers f r d at at' in
           record { answers = a.0; starts = t.starts; began = t.began; seen = t.seen; took = t.took; few = omega (arith, t.sent, a.1) }
 
       answered : (taken : AreTakenIn options begun rs kept) (b : Built rs totals olds news) (f : ℕ) (d : List Dealing) → slice_get b.fronts f ≡ Some d
-          → (old : Sessions) × (new : Sessions) × AnsweredBeside options begun taken.runs f (turns_in d) old new
+          → (old : Sessions) × (new : Sessions) × AnsweredBeside options begun taken.runs f (answered_in d) old new
       answered taken b f d is =
           let r = element_at rs f (omega (arith, slice_get_within b.fronts f d is, b.many)) in
           (r.0.old, r.0.new, one taken b f r.0 d r.1 is)
@@ -225,8 +225,8 @@ module _ (options : Options) (begun : ℕ → History) (batches : ℕ) where
   -- what a front dealt with, where there was memory
   record Stopped (r : FrontRun) (b a : EndFacts) (dealings : List Dealing) : Type 0 where
     pub may : MayStopAtEnd batches dealings b a
-    pub answers : AnswersInOrder options false r.old (turns_in dealings) r.new
-    pub few : r.left ≤ r.left_after + count_of_writes (turns_in dealings)
+    pub answers : AnswersInOrder options false r.old (answered_in dealings) r.new
+    pub few : r.left ≤ r.left_after + count_of_writes (answered_in dealings)
 
   stopped : (r : FrontRun) (b a : EndFacts) (answer : Result Totals ServeFault) → answer ≢ Err NoMemory → MeansForFront answer options batches r b a → is_some b.traffic ≡ true
       → (dealings : List Dealing) × Stopped r b a dealings

@@ -54,9 +54,9 @@ module _ (most : ℕ) (state : OwnerState) (table : TableId) (jobs : Inbox) wher
       none (suc f) is = cc
 
   pub lends_one : (k : ℕ) (acks : List AckBox) (before between : List (List FrontPart)) (own : List FrontPart) (part : FrontPart) → LendsTo k acks before between → slice_get between k ≡ Some own
-      → reader_state part.seat ≡ lent state → reader_home part.seat ≡ table → part.jobs ≡ outbox jobs.queue k most [] → part.acks ≡ ack_box part.acks.queue table state.shape []
+      → reader_state part.seat ≡ lent state → reader_home part.seat ≡ table → part.last ≡ 0 → part.jobs ≡ outbox jobs.queue k most [] → part.acks ≡ ack_box part.acks.queue table state.shape []
       → LendsTo (k + 1) (acks ++ part.acks ∷ []) before (slice_set between k (own ++ part ∷ []))
-  lends_one k acks before between own part so_far is seat home sends answers = record {
+  lends_one k acks before between own part so_far is seat home unanswered sends answers = record {
     many = length-set between k (own ++ part ∷ []) ∙ so_far.many;
     lent = λ f old new lt old_at new_at.
         elim (set_cases between k (own ++ part ∷ []) f new new_at) as (λ _. (x : FrontPart) × (new ≡ old ++ x ∷ []) × IsLentBy f most (owner_with state table jobs (acks ++ part.acks ∷ [])) x) [
@@ -68,6 +68,7 @@ module _ (most : ℕ) (state : OwnerState) (table : TableId) (jobs : Inbox) wher
                 subst (λ (n : ℕ). IsLentBy n most (owner_with state table jobs (acks ++ part.acks ∷ [])) part) same.0 (record {
                   seat = seat;
                   table = home;
+                  unanswered = unanswered;
                   jobs = sends;
                   acks = answers;
                   answers = subst (λ (n : ℕ). slice_get (acks ++ part.acks ∷ []) n ≡ Some part.acks) so_far.acks_many (at_last acks part.acks);
@@ -77,7 +78,7 @@ module _ (most : ℕ) (state : OwnerState) (table : TableId) (jobs : Inbox) wher
               let l = so_far.lent f old new (less f lt other.0) old_at other.1 in (
                 l.0,
                 l.1,
-                record { seat = l.2.seat; table = l.2.table; jobs = l.2.jobs; acks = l.2.acks; answers = get_left acks part.acks l.0.acks f l.2.answers },
+                record { seat = l.2.seat; table = l.2.table; unanswered = l.2.unanswered; jobs = l.2.jobs; acks = l.2.acks; answers = get_left acks part.acks l.0.acks f l.2.answers },
               )
         ];
     rest = λ f old new low old_at new_at.
@@ -145,6 +146,7 @@ new_part options fronts f most owner part new lent =
         home = ap (λ (b : AckBox). b.table) lent.acks ∙ sym lent.table;
         shape = ap (λ (b : AckBox). b.shape) lent.acks ∙ sym (ap (λ (r : ReaderState). r.shape) lent.seat);
       };
+      unanswered = lent.unanswered;
       fresh = lent.jobs ∙ ap (λ q. outbox q f most []) (sym (ap (λ (b : Outbox). b.queue) lent.jobs));
     }
 

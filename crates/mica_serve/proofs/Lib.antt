@@ -4,6 +4,7 @@ pub mod CutShort
 pub mod Opened
 pub mod Binding
 pub mod Among
+pub mod OnePartition
 pub mod Beside
 pub mod PartitionTotals
 pub mod ServedBeside

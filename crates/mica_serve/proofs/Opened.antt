@@ -81,7 +81,7 @@ lends_next first now next k left rest before hands after sender part hand pushed
           (subst (λ (l : List AckBox). LendsTo first.jobs.jobs first.state first.table first.jobs (k + 1) l before (slice_set (rows hands) k (hand.items ++ part ∷ [])))
           (sym (ap (λ (o : OwnerEnd). o.acks) lends.same))
           (lends_one first.jobs.jobs first.state first.table first.jobs k now.acks before (rows hands) hand.items part so_far.lends here
-          (lends.seat ∙ ap lent state) (lends.table ∙ table) (lends.jobs ∙ is_sender)
+          (lends.seat ∙ ap lent state) (lends.table ∙ table) lends.unanswered (lends.jobs ∙ is_sender)
           (lends.acks ∙ (λ i. ack_box part.acks.queue (table i) (ap (λ (s : OwnerState). s.shape) state i) []))));
     }
 

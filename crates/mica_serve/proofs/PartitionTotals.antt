@@ -1,12 +1,12 @@
 -- Sums of a number for each partition.
-use Rattle.std.proofs.Common.{◌≡◌, ℕ, zero, suc, ◌+◌, ◌<◌, ◌≤◌, inl, inr, Bool, true, false, cond, eqb, List, [], ◌∷◌, length, refl, ap, subst, arith}
+use Rattle.std.proofs.Common.{◌≡◌, ℕ, zero, suc, ◌+◌, ◌<◌, ◌≤◌, inl, inr, Bool, true, false, cond, eqb, List, [], ◌∷◌, length, Option, Some, None, refl, ap, subst, arith}
 use Rattle.std.specs.Prelude.{is_some, ◌&&◌}
-use Rattle.std.specs.List.{filter}
+use Rattle.std.specs.List.{cons_option}
 use Rattle.std.proofs.lemmas.Bool.{eq-eqb, ne_eqb, cases_lt}
 use Rattle.mica_words.proofs.Hashes.{partition_of-below}
 use Rattle.partition_model.specs.declared.options.Options.{Options}
-use Rattle.mica_fronts.specs.Turn.{Turn, write_in, partition_in, writes_of}
-use Rattle.mica_fronts.specs.Session.{count_of_writes}
+use Rattle.partition_model.specs.Run.{RunStep}
+use Rattle.mica_fronts.specs.Answered.{Answered, key_of, step_in, partition_in, answers_of, steps_of, writes_of, count_of_writes}
 use Rattle.mica_serve.specs.Beside.{total_below}
 
 pub total_add : (n : ℕ) (f g : ℕ → ℕ) → total_below n (λ p. f p + g p) ≡ total_below n f + total_below n g
@@ -62,31 +62,38 @@ total_one (suc n) q b lt = elim (cases_lt q n) as (λ _. total_below (suc n) (λ
 ]
 
 module _ (options : Options) (some : 1 ≤ options.partitions) where
-  writes_cons : (p : ℕ) (turn : Turn) (turns : List Turn)
-      → length (writes_of options p (turn ∷ turns)) ≡ cond (is_some (write_in turn.request) && eqb (partition_in options turn) p) 1 0 + length (writes_of options p turns)
-  writes_cons p turn turns = by (is_some (write_in turn.request) && eqb (partition_in options turn) p)
+  writes_cons : (p : ℕ) (a : Answered) (answers : List Answered)
+      → length (writes_of options p (a ∷ answers)) ≡ cond (is_some (step_in a) && eqb (partition_in options a) p) 1 0 + length (writes_of options p answers)
+  writes_cons p a answers = by (eqb (partition_in options a) p)
     where
-      by : (b : Bool) → length (cond b (turn ∷ writes_of options p turns) (writes_of options p turns)) ≡ cond b 1 0 + length (writes_of options p turns)
-      by true = omega arith
-      by false = omega arith
+      here_one : (o : Option RunStep) → length (cons_option o (writes_of options p answers)) ≡ cond (is_some o && true) 1 0 + length (writes_of options p answers)
+      here_one (Some step) = omega arith
+      here_one None = omega arith
+
+      away : (b : Bool) → length (writes_of options p answers) ≡ cond (b && false) 1 0 + length (writes_of options p answers)
+      away true = omega arith
+      away false = omega arith
+
+      by : (b : Bool) → length (steps_of (cond b (a ∷ answers_of options p answers) (answers_of options p answers))) ≡ cond (is_some (step_in a) && b) 1 0 + length (writes_of options p answers)
+      by true = here_one (step_in a)
+      by false = away (is_some (step_in a))
 
   -- each write is one of one partition
-  pub writes_total : (turns : List Turn) → count_of_writes turns ≡ total_below options.partitions (λ p. length (writes_of options p turns))
+  pub writes_total : (answers : List Answered) → count_of_writes answers ≡ total_below options.partitions (λ p. length (writes_of options p answers))
   writes_total [] = none options.partitions
     where
       none : (n : ℕ) → 0 ≡ total_below n (λ p. 0)
       none zero = refl
       none (suc n) = omega (arith, none n)
-  writes_total (turn ∷ turns) =
-      let rest = writes_total turns in
-      let q = partition_in options turn in
-      let own = total_one options.partitions q (is_some (write_in turn.request)) (partition_of-below turn.request.key options.partitions some) in
-      let sum = total_add options.partitions (λ p. cond (is_some (write_in turn.request) && eqb q p) 1 0) (λ p. length (writes_of options p turns)) in
-      let all = total_same options.partitions (λ p. length (writes_of options p (turn ∷ turns)))
-      (λ p. cond (is_some (write_in turn.request) && eqb q p) 1 0 + length (writes_of options p turns)) (λ p _. writes_cons p turn turns) in
-      omega (arith, rest, own, sum, all, one (is_some (write_in turn.request)))
+  writes_total (a ∷ answers) =
+      let rest = writes_total answers in
+      let q = partition_in options a in
+      let own = total_one options.partitions q (is_some (step_in a)) (partition_of-below (key_of a) options.partitions some) in
+      let sum = total_add options.partitions (λ p. cond (is_some (step_in a) && eqb q p) 1 0) (λ p. length (writes_of options p answers)) in
+      let all = total_same options.partitions (λ p. length (writes_of options p (a ∷ answers)))
+      (λ p. cond (is_some (step_in a) && eqb q p) 1 0 + length (writes_of options p answers)) (λ p _. writes_cons p a answers) in
+      omega (arith, rest, own, sum, all, one (step_in a))
     where
-      one : (b : Bool) → length (cond b (turn ∷ filter (λ t. is_some (write_in t.request)) turns) (filter (λ t. is_some (write_in t.request)) turns))
-          ≡ cond b 1 0 + count_of_writes turns
-      one true = omega arith
-      one false = omega arith
+      one : (o : Option RunStep) → length (cons_option o (steps_of answers)) ≡ cond (is_some o) 1 0 + count_of_writes answers
+      one (Some step) = omega arith
+      one None = omega arith

@@ -1,7 +1,7 @@
 -- What a whole run makes of the ports: bound, served, released.
 use Rattle.std.proofs.Common.{◌≡◌, ℕ, ◌+◌, ◌-◌, ◌<◌, ◌≤◌, ◌⊎◌, inl, inr, true, List, [], ◌++◌, length, map, take, drop, Option, Some, None, refl, sym, ap, ◌∙◌, subst, slice_get, arith}
 use Rattle.std.specs.Prelude.{◌≢◌, is_some, nat_lt, sum_by, IfSome}
-use Rattle.std.specs.List.{All, AllPairs, AllZip}
+use Rattle.std.specs.List.{All, AllPairs}
 use Rattle.std.proofs.lemmas.Bool.{cases_lt}
 use Rattle.std.proofs.lemmas.List.Elements.{All-nil, All-from_recursion}
 use Rattle.std.proofs.lemmas.Option.{slice_get_within, same_Some}
@@ -13,12 +13,12 @@ use Rattle.mica_io.specs.Ports.{Port, Ports, out, back, is_waiting}
 use Rattle.partition_model.specs.declared.options.Options.{Options}
 use Rattle.mica_fronts.specs.declared.ports.Ports.{Ports as PortOptions}
 use Rattle.mica_fronts.specs.declared.totals.Totals.{Totals}
-use Rattle.mica_fronts.specs.Turn.{Turn, turns_of, writes_of, gets_of}
-use Rattle.mica_fronts.specs.Dealing.{Dealing, IsDealing, turns_in, due_to}
+use Rattle.mica_fronts.specs.Answered.{Answered, answers_of, writes_of, gets_of}
+use Rattle.mica_fronts.specs.Dealing.{Dealing, IsDealing, answered_in, due_to}
 use Rattle.partition_model.specs.History.{History, IsHistory}
 use Rattle.partition_table.specs.declared.tables.KeptSeat.{KeptSeat}
 use Rattle.mica_serve.specs.Beside.{ServesOnTables}
-use Rattle.mica_serve.specs.Served.{ServesPort, RepliesStep, ServesGet, NoFall, LeavesPort, BeginsPorts, IsThrough, IsCutShort, IsStopped, StopsShort}
+use Rattle.mica_serve.specs.Served.{ServesPort, ServesGet, NoFall, LeavesPort, BeginsPorts, IsThrough, IsCutShort, IsStopped, StopsShort}
 use Rattle.mica_serve.specs.declared.filling.OpenFault.TheVariants as open_fault
 use Rattle.mica_io.specs.Faults.{Rose}
 use Rattle.mica_serve.specs.NetRun.{ReleasesAll}
@@ -156,11 +156,11 @@ module _ (ports : PortOptions) (olds news : List EndFacts) (before mid after : P
         writes = λ p lt. record {
           filled = filled p lt;
           run = tt;
-          each = λ f turns is. subst (λ (ts : List Turn). AllZip RepliesStep (writes_of options p ts) []) (sym (none_asked f turns is)) tt;
-          no_others = All-from_recursion (λ q. q.front < length (map turns_in nothing.0)) [] tt;
+          each = λ f answers is. ap (writes_of options p) (none_asked f answers is);
+          no_others = All-from_recursion (λ q. q.front < length (map answered_in nothing.0)) [] tt;
         };
-        gets = λ p f turns lt is. subst (λ (ts : List Turn). All (ServesGet options (begun p) (begun p ++ [])) (gets_of options p ts)) (sym (none_asked f turns is)) (All-nil (ServesGet options (begun p) (begun p ++ [])));
-        order = λ p f turns lt is. subst (λ (ts : List Turn). AllPairs NoFall (turns_of options p ts)) (sym (none_asked f turns is)) (λ i j d less within. absurd (omega arith));
+        gets = λ p f answers lt is. subst (λ (l : List Answered). All (ServesGet options (begun p) (begun p ++ [])) (gets_of options p l)) (sym (none_asked f answers is)) (All-nil (ServesGet options (begun p) (begun p ++ [])));
+        order = λ p f answers lt is. subst (λ (l : List Answered). AllPairs NoFall (answers_of options p l)) (sym (none_asked f answers is)) (λ i j d less within. absurd (omega arith));
       };
       some = inl failed;
       blamed = inl failed;
@@ -176,10 +176,10 @@ module _ (ports : PortOptions) (olds news : List EndFacts) (before mid after : P
         nothing : (ds : List (List Dealing)) × (length ds ≡ ports.fronts) × ((f : ℕ) (d : List Dealing) → slice_get ds f ≡ Some d → DealtNothing f d)
         nothing = chosen DealtNothing ports.fronts (λ f lt. began f lt (cases_lt f (length olds)))
 
-        none_asked : (f : ℕ) (turns : List Turn) → slice_get (map turns_in nothing.0) f ≡ Some turns → turns ≡ []
-        none_asked f turns is =
-            let d = from_map turns_in nothing.0 f turns is in
-            sym d.2 ∙ ap turns_in (nothing.2 f d.0 d.1).none
+        none_asked : (f : ℕ) (answers : List Answered) → slice_get (map answered_in nothing.0) f ≡ Some answers → answers ≡ []
+        none_asked f answers is =
+            let d = from_map answered_in nothing.0 f answers is in
+            sym d.2 ∙ ap answered_in (nothing.2 f d.0 d.1).none
 
     -- a front stopped, and what all dealt with beside each other is lawful
     pub all_stopped : 1 ≤ options.partitions → length olds ≡ ports.fronts → StopsSome ports.batches olds news
@@ -189,7 +189,7 @@ module _ (ports : PortOptions) (olds news : List EndFacts) (before mid after : P
       runs = all.runs;
       many = all.many ∙ full;
       each = λ f d is. let e = ends_at f d is in port_left ports.batches f d [] e.0 e.1 e.2 e.3 e.4.part;
-      answered = lawful_beside options some begun all.runs all.fronts all.ran all.answered;
+      answered = lawful_beside answered_in options some begun all.runs all.fronts all.ran all.answered;
       some = inr (stopped_some ports.batches stops);
       blamed = inr (record {
         faults = map (λ (e : EndFacts). e.faults) news;
@@ -236,7 +236,7 @@ module _ (ports : PortOptions) (olds news : List EndFacts) (before mid after : P
           let b = element_at olds f (omega (arith, lt, all.many)) in
           let a = element_at news f (omega (arith, lt, all.many, many)) in
           port_served ports.batches f dealings b.0 a.0 b.1 a.1 (all.each f dealings b.0 a.0 is b.1 a.1);
-      answered = lawful_beside options some begun all.runs all.fronts all.ran all.answered;
+      answered = lawful_beside answered_in options some begun all.runs all.fronts all.ran all.answered;
     };
     counted = all.counted;
     tables = all.tables;

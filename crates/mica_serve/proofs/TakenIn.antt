@@ -29,10 +29,11 @@ use Rattle.owner_queue.specs.JobEnds.{Outbox, Inbox}
 use Rattle.owner_queue.specs.AckEnds.{AckBox}
 use Rattle.mica_fronts.specs.declared.queue_front.FrontPart.{FrontPart}
 use Rattle.mica_serve.specs.declared.worker.FrontTask.{FrontTask}
-use Rattle.mica_fronts.specs.Session.{Stand, Told, Session}
+use Rattle.mica_fronts.specs.Stand.{Stand}
+use Rattle.mica_fronts.specs.Session.{Told, Session}
 use Rattle.mica_fronts.specs.Placed.{Placed, steps_in, steps_by, history_in}
 use Rattle.mica_serve.specs.Beside.{closed_of, total_below}
-use Rattle.mica_fronts.specs.QueueFront.{QueueView, IsFrontPart, queue_view, stand_of, told_by, session_or_none, sessions_of, ended_part, acknowledged_by}
+use Rattle.mica_fronts.specs.QueueFront.{QueueView, IsFrontPart, queue_view, stand_of, told_by, session_or_none, sessions_of, ended_part, step_by, acknowledged_by}
 use Rattle.owner_queue.specs.Worked.{Acknowledged, DoneJob, jobs_in, job_of}
 use Rattle.mica_fronts.specs.OwnerWork.{placed_in}
 use Rattle.mica_serve.specs.Ends.{EndFacts}
@@ -258,7 +259,7 @@ module _ {D : Type 0} {batches : ℕ} {facts : D → EndFacts} {options : Option
           let x = (part_of a (owner_of p low).1).1 in (
             told_by x.first,
             ap (λ (y : Option FrontPart). (session_or_none y).told) x.first_at,
-            record { acks = ap (λ (b : AckBox). map acknowledged_by b.list) x.lent.acks; closed = ap (λ s. s.closed) x.lent.seat },
+            record { steps = ap (λ (b : AckBox). map step_by b.list) x.lent.acks; closed = ap (λ s. s.closed) x.lent.seat },
           );
       began = λ p low.
           let o = owner_of p low in
@@ -278,12 +279,10 @@ module _ {D : Type 0} {batches : ℕ} {facts : D → EndFacts} {options : Option
           let sent = (o.1.ran.served.sent f x.1.first.acks box.0 x.1.lent.answers box.1).answers in
           let own : told_by x.1.last ≡ told = same_Some _ _ (sym (ap (λ (y : Option FrontPart). (session_or_none y).told) x.1.last_at) ∙ told_is) in
           let list : x.0.acks.list ≡ x.1.last.acks.list = ap (λ (y : FrontPart). y.acks.list) x.1.part_is in (
-            map step_of (map acknowledged_by begun.0),
+            map step_by begun.0,
             ap (steps_by f) o.1.placed_is ∙ steps_answered f o.1.ran.served.done ∙ ap (map step_of) (sym sent)
-                ∙ ap (λ (l : List Ack). map step_of (map acknowledged_by l)) (begun.1 ∙ ap (λ (l : List Ack). l ++ begun.0) list)
-                ∙ ap (map step_of) (map-append acknowledged_by x.1.last.acks.list begun.0)
-                ∙ map-append step_of (map acknowledged_by x.1.last.acks.list) (map acknowledged_by begun.0)
-                ∙ ap (λ (t : Told). map step_of t.acks ++ map step_of (map acknowledged_by begun.0)) own,
+                ∙ map-map step_of acknowledged_by box.0.list ∙ ap (map step_by) (begun.1 ∙ ap (λ (l : List Ack). l ++ begun.0) list)
+                ∙ map-append step_by x.1.last.acks.list begun.0 ∙ ap (λ (t : Told). t.steps ++ map step_by begun.0) own,
           );
       sent =
           let total = subst (λ (m : ℕ). total_below m (λ p. length (steps_by f (placed p))) ≤ sum_by (λ (y : FrontPart). length y.jobs.sent) a.ran.ran.new.parts) a.new_many

@@ -20,7 +20,7 @@ use Rattle.mica_serve.specs.declared.stop.Stop.TheVariants.{Refused, Unannounced
 use Rattle.mica_io.specs.Faults.{Rose, LAST_COUNT}
 use Rattle.mica_fronts.specs.declared.totals.ServeFault.{ServeFault}
 use Rattle.mica_fronts.specs.declared.totals.ServeFault.TheVariants.{Net, NoMemory}
-use Rattle.mica_serve.specs.NetRun.{NetFacts, OnPorts, CountsFaults, ReleasesAll, ReleasesNet, KeepsNet, BindsAndServes, FailsToBind, MeansForRun, HasNoFault, HasStopped, IsCauseOfStop, HasAnnounced, stop_of}
+use Rattle.mica_serve.specs.NetRun.{NetFacts, OnPorts, CountsFaults, ReleasesAll, ReleasesNet, KeepsNet, BindsAndServes, FailsToBind, MeansForRun, HasNoFault, HasStopped, IsCauseOnceOpen, IsCauseOfStop, HasAnnounced, stop_of}
 use Rattle.mica_serve.specs.Ends.{EndFacts, TellAll, AreNewEnds, BindsEnds, DealsInPartWithEnd, ServesFronts, MeansForEnds, KeepsEnd}
 use Rattle.mica_serve.proofs.Binding.{rose_on, rose_before}
 use Rattle.mica_serve.proofs.Gathered.{same_kept}
@@ -33,12 +33,8 @@ on_ports_then P Q R f (Some a) None c p q = absurd p
 on_ports_then P Q R f (Some a) (Some b) None p q = absurd q
 on_ports_then P Q R f (Some a) (Some b) (Some c) p q = f a b c p q
 
-module _ (options : Options) (some : 1 ≤ options.partitions) (writes : List Write) (ports : PortOptions) (kept : List KeptSeat) (before mid after : NetFacts) (news : List EndFacts)
+module _ (options : Options) (some : 1 ≤ options.partitions) (begun : ℕ → History) (ports : PortOptions) (kept : List KeptSeat) (before mid after : NetFacts) (news : List EndFacts)
     (rel : ReleasesNet ports.port news mid after) where
-  -- what the partitions begin with
-  abbrev begun : ℕ → History
-  begun = begun_by options writes
-
   pub keeps : (answer : Result Totals Stop) → BindsAndServes options begun ports answer kept before mid news → KeepsNet ports before after
   keeps answer run = record {
     binds = omega (arith, rel.binds, run.binds);
@@ -105,7 +101,7 @@ module _ (options : Options) (some : 1 ≤ options.partitions) (writes : List Wr
       port_left ports run.olds news x y z run.many run.within b r ports.batches f [] [] o.0 o.0 o.1 (ap (λ (l : List EndFacts). slice_get l f) run.means.1 ∙ o.1) part)
       before.ports mid.ports after.ports run.bound rel.told
 
-  pub cause : (answer : Result Totals Stop) → BindsAndServes options begun ports answer kept before mid news → IsCauseOfStop answer options writes ports kept before after
+  pub cause : (answer : Result Totals Stop) → BindsAndServes options begun ports answer kept before mid news → IsCauseOnceOpen answer options begun ports kept before after
   cause (Ok totals) run = record {
     served = on_ports_then _ _ (ServesOnTables options begun ports totals kept)
         (λ x y z b r. all_served ports run.olds news x y z run.many run.within b r options begun totals kept some run.means.0
@@ -186,10 +182,10 @@ module _ (ports : PortOptions) (before mid : NetFacts) (olds : List EndFacts) (a
       by (Err NoMemory) m = m
 
 -- a fault that came once that was told
-pub fault_told : {A : Type 0} (fault : ServeFault) (says fails : A → A → Type 0) (before after : NetFacts) (old new : A) → says old new
+pub fault_told : {A : Type 0} (fault : ServeFault) (says fails : A → A → Type 0) (before after : NetFacts) (old new : A) → after.refused ≡ before.refused → says old new
     → HasAnnounced says fails (Err (Fault fault)) before after old new
-fault_told Net says fails before after old new said = inr said
-fault_told NoMemory says fails before after old new said = inr said
+fault_told Net says fails before after old new none said = inr (none, said)
+fault_told NoMemory says fails before after old new none said = inr said
 
 -- and what was told stands when the ends are released
 pub still_told : {A : Type 0} (answer : Result Totals Stop) (says fails : A → A → Type 0) (before mid after : NetFacts) (old new : A) → after.refused ≡ mid.refused
@@ -198,11 +194,19 @@ still_told (Ok totals) says fails before mid after old new same told = told
 still_told (Err Refused) says fails before mid after old new same told = told
 still_told (Err Unannounced) says fails before mid after old new same told = told
 still_told (Err (Fault Net)) says fails before mid after old new same told =
-    elim told as (λ _. ((before.refused < after.refused) × (new ≡ old)) ⊎ says old new) [
+    elim told as (λ _. ((before.refused < after.refused) × (new ≡ old)) ⊎ ((after.refused ≡ before.refused) × says old new)) [
       | inl h ↦ inl (omega (arith, h.0, same), h.1)
-      | inr h ↦ inr h
+      | inr h ↦ inr (same ∙ h.0, h.1)
     ]
 still_told (Err (Fault NoMemory)) says fails before mid after old new same told = told
+
+-- a server that these writes filled
+pub cause_filled : (options : Options) (writes : List Write) (ports : PortOptions) (kept : List KeptSeat) (before after : NetFacts) (answer : Result Totals Stop)
+    → IsCauseOnceOpen answer options (begun_by options writes) ports kept before after → IsCauseOfStop answer options writes ports kept before after
+cause_filled options writes ports kept before after (Ok totals) is = is
+cause_filled options writes ports kept before after (Err (Fault fault)) is = is
+cause_filled options writes ports kept before after (Err Unannounced) is = is
+cause_filled options writes ports kept before after (Err Refused) is = absurd is
 
 -- a server whose partitions could not be made or filled
 pub not_opened : {A : Type 0} (fault : OpenFault) (options : Options) (writes : List Write) (ports : PortOptions) (kept : List KeptSeat) (net : NetFacts) → kept ≡ []

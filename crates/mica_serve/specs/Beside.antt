@@ -8,9 +8,9 @@ use Rattle.partition_table.specs.declared.tables.KeptSeat.{KeptSeat}
 use Rattle.mica_fronts.specs.declared.ports.Ports.{Ports as PortOptions}
 use Rattle.mica_fronts.specs.declared.totals.Totals.{Totals}
 use Rattle.mica_io.specs.Ports.{Ports}
-use Rattle.mica_fronts.specs.Turn.{Turn, gets_of}
-use Rattle.mica_fronts.specs.Dealing.{Dealing, turns_in}
-use Rattle.mica_fronts.specs.Session.{Told, Sessions, AnswersInOrder, count_of_writes}
+use Rattle.mica_fronts.specs.Answered.{Answered, gets_of, count_of_writes}
+use Rattle.mica_fronts.specs.Dealing.{Dealing, answered_in}
+use Rattle.mica_fronts.specs.Session.{Told, Sessions, AnswersInOrder}
 use Rattle.mica_fronts.specs.Placed.{Placed, steps_in, steps_by, history_in}
 use Rattle.mica_serve.specs.Served.{Served}
 use Rattle.mica_fronts.specs.Totals.{Counts}
@@ -26,19 +26,19 @@ total_below (suc n) f = total_below n f + f n
 
 -- nothing was told yet
 pub record IsUntold (told : Told) : Type 0 where
-  pub acks : told.acks ≡ []
+  pub steps : told.steps ≡ []
   pub closed : told.closed ≡ 0
 
--- A front answered its requests in order. In each partition it saw at first what that began with, and what it has seen begins the history, and the answers that it took begin those to
+-- A front was answered so, in order. In each partition it saw at first what that began with, and what it has seen begins the history, and the answers that it took begin those to
 -- its writes in the partition's run, in all of which together there are no more than it was asked for.
-pub record AnsweredBeside (options : Options) (begun : ℕ → History) (runs : ℕ → List Placed) (f : ℕ) (turns : List Turn) (old new : Sessions) : Type 0 where
-  pub answers : AnswersInOrder options false old turns new
+pub record AnsweredBeside (options : Options) (begun : ℕ → History) (runs : ℕ → List Placed) (f : ℕ) (answered : List Answered) (old new : Sessions) : Type 0 where
+  pub answers : AnswersInOrder options false old answered new
   pub starts : (p : ℕ) → p < options.partitions → (told : Told) × ((old p).told ≡ Some told) × IsUntold told
   pub began : (p : ℕ) → p < options.partitions → (old p).seen ≡ begun p
   pub seen : (p : ℕ) → p < options.partitions → IsPrefix (new p).seen (begun p ++ history_in (runs p))
   pub took : (p : ℕ) (told : Told) → p < options.partitions → (new p).told ≡ Some told
-      → (later : List RunStep) × (steps_by f (runs p) ≡ map (λ a. a.step) told.acks ++ later)
-  pub few : total_below options.partitions (λ p. length (steps_by f (runs p))) ≤ count_of_writes turns
+      → (later : List RunStep) × (steps_by f (runs p) ≡ told.steps ++ later)
+  pub few : total_below options.partitions (λ p. length (steps_by f (runs p))) ≤ count_of_writes answered
 
 -- each partition's machine accepted what it began with, and ran from there on the writes of these fronts alone
 pub record RunsPartitions (options : Options) (begun : ℕ → History) (fronts : ℕ) (runs : ℕ → List Placed) : Type 0 where
@@ -48,7 +48,7 @@ pub record RunsPartitions (options : Options) (begun : ℕ → History) (fronts 
 
 -- how many gets the fronts answered in a partition
 abbrev pub gets_answered : Options → ℕ → List (List Dealing) → ℕ
-gets_answered options p fronts = sum_by (λ dealings. length (gets_of options p (turns_in dealings))) fronts
+gets_answered options p fronts = sum_by (λ dealings. length (gets_of options p (answered_in dealings))) fronts
 
 -- the seat of partition p has what that began with and then the fronts' accepted writes, and their seats closed one try for each get
 pub record IsServedSeat (options : Options) (begun : ℕ → History) (fronts : List (List Dealing)) (runs : ℕ → List Placed) (p : ℕ) (entry : KeptSeat) : Type 0 where

@@ -9,7 +9,7 @@ use Rattle.mica_fronts.specs.declared.totals.Totals.{Totals}
 use Rattle.mica_fronts.specs.declared.totals.ServeFault.{ServeFault}
 use Rattle.mica_fronts.specs.declared.totals.ServeFault.TheVariants.{Net, NoMemory}
 use Rattle.partition_table.specs.declared.tables.KeptSeat.{KeptSeat}
-use Rattle.mica_fronts.specs.Dealing.{Dealing, IsDealing, turns_in, due_to}
+use Rattle.mica_fronts.specs.Dealing.{Dealing, IsDealing, answered_in, due_to}
 use Rattle.mica_fronts.specs.Session.{Sessions}
 use Rattle.mica_fronts.specs.Placed.{Placed}
 use Rattle.mica_fronts.specs.Totals.{Counts}
@@ -127,7 +127,7 @@ pub record ServesAll (options : Options) (begun : ℕ → History) (batches : �
       → DealsWithEnd batches dealings b a
   pub ran : RunsPartitions options begun (length fronts) runs
   pub answered : (f : ℕ) (dealings : List Dealing) → slice_get fronts f ≡ Some dealings
-      → (old : Sessions) × (new : Sessions) × AnsweredBeside options begun runs f (turns_in dealings) old new
+      → (old : Sessions) × (new : Sessions) × AnsweredBeside options begun runs f (answered_in dealings) old new
   pub counted : Counts fronts totals
   pub tables : AreServedTables options begun fronts runs kept
 
@@ -155,7 +155,7 @@ pub record StopsBeside (options : Options) (begun : ℕ → History) (batches : 
       → MayStopAtEnd batches dealings b a
   pub ran : RunsPartitions options begun (length fronts) runs
   pub answered : (f : ℕ) (dealings : List Dealing) → slice_get fronts f ≡ Some dealings
-      → (old : Sessions) × (new : Sessions) × AnsweredBeside options begun runs f (turns_in dealings) old new
+      → (old : Sessions) × (new : Sessions) × AnsweredBeside options begun runs f (answered_in dealings) old new
 
 -- what each answer says of the ends and of the tables that are kept
 abbrev pub MeansForEnds : Result Totals ServeFault → Options → (ℕ → History) → ℕ → List KeptSeat → List EndFacts → List EndFacts → Type 0

@@ -54,7 +54,7 @@ pub record IsTakenIn (options : Options) (begun : ℕ → History) (runs : ℕ �
   pub began : (p : ℕ) → p < options.partitions → (run.old p).seen ≡ begun p
   pub seen : (p : ℕ) → p < options.partitions → IsPrefix (run.new p).seen (begun p ++ history_in (runs p))
   pub took : (p : ℕ) (told : Told) → p < options.partitions → (run.new p).told ≡ Some told
-      → (later : List RunStep) × (steps_by f (runs p) ≡ map (λ a. a.step) told.acks ++ later)
+      → (later : List RunStep) × (steps_by f (runs p) ≡ told.steps ++ later)
   pub sent : total_below options.partitions (λ p. length (steps_by f (runs p))) + run.left_after ≤ run.left
 
 -- the owners took in all fronts, and these are the seats that they may leave

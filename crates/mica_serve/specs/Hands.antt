@@ -38,6 +38,7 @@ pub record IsNewOwner (options : Options) (fronts most : ℕ) (owner : OwnerEnd)
 pub record IsLentBy (f most : ℕ) (owner : OwnerEnd) (part : FrontPart) : Type 0 where
   pub seat : reader_state part.seat ≡ lent owner.state
   pub table : reader_home part.seat ≡ owner.table
+  pub unanswered : part.last ≡ 0
   pub jobs : part.jobs ≡ outbox owner.jobs.queue f most []
   pub acks : part.acks ≡ ack_box part.acks.queue owner.table owner.state.shape []
   pub answers : slice_get owner.acks f ≡ Some part.acks
@@ -59,6 +60,7 @@ pub record LendsPart (sender : Outbox) (old new : OwnerEnd) (part : FrontPart) :
   pub same : new ≡ record old { acks = old.acks ++ part.acks ∷ [] }
   pub seat : reader_state part.seat ≡ lent old.state
   pub table : reader_home part.seat ≡ old.table
+  pub unanswered : part.last ≡ 0
   pub jobs : part.jobs ≡ sender
   pub acks : part.acks ≡ ack_box part.acks.queue old.table old.state.shape []
 

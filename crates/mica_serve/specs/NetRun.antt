@@ -75,12 +75,19 @@ IsCauseOf (Ok totals) options begun ports kept before after = HasServedOnTables 
 IsCauseOf (Err Net) options begun ports kept before after = (kept ≡ []) × HasStopped options begun ports before after
 IsCauseOf (Err NoMemory) options begun ports kept before after = kept ≡ []
 
--- What each answer says of a server whose partitions these writes filled. One that stopped before it served has bound nothing, or received nothing.
+-- What each answer says of a server whose partitions begin with this. One that could not tell that its ports were bound has received nothing.
+abbrev pub IsCauseOnceOpen : Result Totals Stop → Options → (ℕ → History) → PortOptions → List KeptSeat → NetFacts → NetFacts → Type 0
+IsCauseOnceOpen (Ok totals) options begun ports kept before after = IsCauseOf (Ok totals) options begun ports kept before after
+IsCauseOnceOpen (Err (Fault fault)) options begun ports kept before after = IsCauseOf (Err fault) options begun ports kept before after
+IsCauseOnceOpen (Err Unannounced) options begun ports kept before after = (kept ≡ []) × OnPorts (LeavesUnserved ports) before.ports after.ports
+IsCauseOnceOpen (Err Refused) options begun ports kept before after = ⊥
+
+-- The same where these writes fill the partitions. Where one of them was refused, nothing was bound.
 abbrev pub IsCauseOfStop : Result Totals Stop → Options → List Write → PortOptions → List KeptSeat → NetFacts → NetFacts → Type 0
-IsCauseOfStop (Ok totals) options writes ports kept before after = IsCauseOf (Ok totals) options (begun_by options writes) ports kept before after
-IsCauseOfStop (Err (Fault fault)) options writes ports kept before after = IsCauseOf (Err fault) options (begun_by options writes) ports kept before after
+IsCauseOfStop (Ok totals) options writes ports kept before after = IsCauseOnceOpen (Ok totals) options (begun_by options writes) ports kept before after
+IsCauseOfStop (Err (Fault fault)) options writes ports kept before after = IsCauseOnceOpen (Err (Fault fault)) options (begun_by options writes) ports kept before after
+IsCauseOfStop (Err Unannounced) options writes ports kept before after = IsCauseOnceOpen (Err Unannounced) options (begun_by options writes) ports kept before after
 IsCauseOfStop (Err Refused) options writes ports kept before after = (kept ≡ []) × (after ≡ before) × RefusesFilling options writes
-IsCauseOfStop (Err Unannounced) options writes ports kept before after = (kept ≡ []) × OnPorts (LeavesUnserved ports) before.ports after.ports
 
 -- the answer where the partitions could not be made and filled
 abbrev pub stop_of : OpenFault → Stop
@@ -92,7 +99,7 @@ abbrev pub HasAnnounced : {A : Type 0} → (A → A → Type 0) → (A → A →
 HasAnnounced says fails (Ok totals) before after old new = says old new
 HasAnnounced says fails (Err Refused) before after old new = new ≡ old
 HasAnnounced says fails (Err Unannounced) before after old new = fails old new
-HasAnnounced says fails (Err (Fault Net)) before after old new = ((before.refused < after.refused) × (new ≡ old)) ⊎ says old new
+HasAnnounced says fails (Err (Fault Net)) before after old new = ((before.refused < after.refused) × (new ≡ old)) ⊎ ((after.refused ≡ before.refused) × says old new)
 HasAnnounced says fails (Err (Fault NoMemory)) before after old new = (new ≡ old) ⊎ says old new
 
 -- no end is out that was not out before, and only ports of fronts changed

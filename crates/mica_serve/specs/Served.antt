@@ -1,6 +1,5 @@
 -- What the fronts of a server received and replied to.
 use Rattle.std.specs.Prelude.{◌≡◌, ◌+◌, ◌<◌, ◌≤◌, ◌⊎◌, ℕ, Bool, true, List, [], ◌++◌, sum, take, drop, map, length, slice_get, nat_lt, Some, AllPairs, All}
-use Rattle.std.specs.List.{AllZip}
 use Rattle.mica_io.specs.Traffic.{Datagram, Traffic, EndScript}
 use Rattle.mica_io.specs.Ports.{Port, Ports, waiting, back, is_waiting}
 use Rattle.partition_model.specs.declared.options.Options.{Options}
@@ -8,8 +7,8 @@ use Rattle.partition_model.specs.History.{History, IsHistory, IsPrefix, stamp_of
 use Rattle.partition_model.specs.Run.{RunStep, IsRunFrom}
 use Rattle.mica_fronts.specs.declared.ports.Ports.{Ports as PortOptions}
 use Rattle.mica_fronts.specs.declared.totals.Totals.{Totals}
-use Rattle.mica_fronts.specs.Turn.{Turn, Accepts, write_in, turns_of, writes_of, gets_of, write_reply, get_reply}
-use Rattle.mica_fronts.specs.Dealing.{Dealing, IsDealing, turns_in, due_to}
+use Rattle.mica_fronts.specs.Answered.{Answered, got, key_of, stamp_given, accepts, answers_of, writes_of, gets_of}
+use Rattle.mica_fronts.specs.Dealing.{Dealing, IsDealing, answered_in, due_to}
 use Rattle.mica_fronts.specs.Placed.{Placed, steps_by, steps_in, history_in}
 use Rattle.mica_fronts.specs.OneEnd.{BeginsAs}
 use Rattle.mica_fronts.specs.Totals.{Counts}
@@ -29,44 +28,37 @@ pub record ServesPort (batches : ℕ) (before after : Port) (dealings : List Dea
 
 -- Partitions
 
--- the reply to a write is that of the step
-pub record RepliesStep (turn : Turn) (step : RunStep) : Type 0 where
-  pub write : write_in turn.request ≡ Some step.write
-  pub reply : turn.reply ≡ write_reply turn.request.ticket step.outcome step.stamp
-
 -- The partition's machine accepted what it began with. The writes of all fronts are one run of it from there, in which those of each front stand in
--- the order of its requests.
-pub record ServesWrites (options : Options) (begun : History) (partition : ℕ) (fronts : List (List Turn)) (placed : List Placed) : Type 0 where
+-- the order in which they were answered.
+pub record ServesWrites (options : Options) (begun : History) (partition : ℕ) (fronts : List (List Answered)) (placed : List Placed) : Type 0 where
   pub filled : IsHistory options begun
   pub run : IsRunFrom options begun (steps_in placed)
-  pub each : (f : ℕ) (turns : List Turn) → slice_get fronts f ≡ Some turns
-      → AllZip RepliesStep (writes_of options partition turns) (steps_by f placed)
+  pub each : (f : ℕ) (answers : List Answered) → slice_get fronts f ≡ Some answers → writes_of options partition answers ≡ steps_by f placed
   pub no_others : All (λ q. q.front < length fronts) placed
 
 -- a get is answered as of a beginning of the history, with all that its partition began with
-pub record ServesGet (options : Options) (begun history : History) (turn : Turn) : Type 0 where
+pub record ServesGet (options : Options) (begun history : History) (answered : Answered) : Type 0 where
   pub cut : History
   pub begins : IsPrefix cut history
   pub filled : IsPrefix begun cut
-  pub reply : turn.reply
-      ≡ get_reply turn.version turn.request.ticket (stamp_of options cut) (answer_of options cut turn.request.key)
+  pub is : answered ≡ got (key_of answered) (stamp_of options cut) (answer_of options cut (key_of answered))
 
--- No stamp falls, to a write or to a get, and an accepted write's is above all before it: so a get sees each write of its front that was accepted
+-- No stamp falls, of a write or of a get, and an accepted write's is above all before it: so a get sees each write of its front that was accepted
 -- before it, and none behind it.
-abbrev pub NoFall : Turn → Turn → Type 0
+abbrev pub NoFall : Answered → Answered → Type 0
 NoFall earlier later =
-    (earlier.reply.stamp ≤ later.reply.stamp) × (Accepts later.reply → earlier.reply.stamp < later.reply.stamp)
+    (stamp_given earlier ≤ stamp_given later) × (accepts later ≡ true → stamp_given earlier < stamp_given later)
 
 -- All fronts
 
--- The writes of all fronts are one run of each partition's machine, from what it began with, each get is its answer, and the stamps replied to each
+-- The writes of all fronts are one run of each partition's machine, from what it began with, each get is its answer, and the stamps given to each
 -- front never fall there.
-pub record AnswersLawfully (options : Options) (begun : ℕ → History) (fronts : List (List Turn)) (runs : ℕ → List Placed) : Type 0 where
+pub record AnswersLawfully (options : Options) (begun : ℕ → History) (fronts : List (List Answered)) (runs : ℕ → List Placed) : Type 0 where
   pub writes : (p : ℕ) → p < options.partitions → ServesWrites options (begun p) p fronts (runs p)
-  pub gets : (p f : ℕ) (turns : List Turn) → p < options.partitions → slice_get fronts f ≡ Some turns
-      → All (ServesGet options (begun p) (begun p ++ history_in (runs p))) (gets_of options p turns)
-  pub order : (p f : ℕ) (turns : List Turn) → p < options.partitions → slice_get fronts f ≡ Some turns
-      → AllPairs NoFall (turns_of options p turns)
+  pub gets : (p f : ℕ) (answers : List Answered) → p < options.partitions → slice_get fronts f ≡ Some answers
+      → All (ServesGet options (begun p) (begun p ++ history_in (runs p))) (gets_of options p answers)
+  pub order : (p f : ℕ) (answers : List Answered) → p < options.partitions → slice_get fronts f ≡ Some answers
+      → AllPairs NoFall (answers_of options p answers)
 
 -- What the ports of a net tell before and after, what each front made of its datagrams, and a run of each partition's machine.
 pub record Served (options : Options) (begun : ℕ → History) (ports : PortOptions) (before after : Ports) (fronts : List (List Dealing)) (runs : ℕ → List Placed)
@@ -74,7 +66,7 @@ pub record Served (options : Options) (begun : ℕ → History) (ports : PortOpt
   pub many : length fronts ≡ ports.fronts
   pub datagrams : (f : ℕ) (dealings : List Dealing) → slice_get fronts f ≡ Some dealings
       → ServesPort ports.batches (before (ports.port + f)) (after (ports.port + f)) dealings
-  pub answered : AnswersLawfully options begun (map turns_in fronts) runs
+  pub answered : AnswersLawfully options begun (map answered_in fronts) runs
 
 -- the fronts served, and the totals count what they did
 pub record Serves (options : Options) (begun : ℕ → History) (ports : PortOptions) (totals : Totals) (before after : Ports) : Type 0 where
@@ -150,6 +142,6 @@ pub record StopsShort (options : Options) (begun : ℕ → History) (ports : Por
   pub many : length fronts ≡ ports.fronts
   pub each : (f : ℕ) (dealings : List Dealing) → slice_get fronts f ≡ Some dealings
       → LeavesPort ports.batches (before (ports.port + f)) (after (ports.port + f)) dealings []
-  pub answered : AnswersLawfully options begun (map turns_in fronts) runs
+  pub answered : AnswersLawfully options begun (map answered_in fronts) runs
   pub some : bind_failed ⊎ ((f : ℕ) × (f < ports.fronts) × IsStopped ports.batches (before (ports.port + f)) (after (ports.port + f)))
   pub blamed : bind_failed ⊎ BlamesFronts ports counts fronts after

@@ -68,7 +68,7 @@ fn fill_one<P: Partition>(part: &mut P, options: &Options, number: u32, write: &
 }
 
 /// Does those of the writes in the partition that are to its keys, up to the first that is refused.
-pub(crate) fn fill<P: Partition>(
+pub fn fill<P: Partition>(
     part: &mut P,
     options: &Options,
     number: u32,

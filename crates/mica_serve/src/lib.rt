@@ -17,8 +17,10 @@ mod tables;
 mod worker;
 
 pub use announce::Announce;
+pub use answers::sum_up;
+pub use filling::{OpenFault, fill};
 pub use mica_fronts::{
     Front, MAX_BATCHES, Ports, QueueFront, ServeFault, SoloFront, Totals, serve_batch,
 };
-pub use run::{serve, serve_filled};
+pub use run::{bind_all, release_all, serve, serve_filled};
 pub use stop::{Stop, Untold};

@@ -30,7 +30,7 @@ use std::thread::Threads;
 use store_partition::StorePartition;
 
 /// Binds a port for each front, in order, up to the first bind that fails.
-fn bind_all<N: Net>(net: &mut N, ports: &Ports, ends: &mut Vec<N::End>) -> Result<(), Failed>
+pub fn bind_all<N: Net>(net: &mut N, ports: &Ports, ends: &mut Vec<N::End>) -> Result<(), Failed>
     requires ports { IsValidPorts ports.now }
     requires unbound { N.binds net.old ≡ 0 }
     requires none { ends.old.items ≡ [] }
@@ -39,6 +39,7 @@ fn bind_all<N: Net>(net: &mut N, ports: &Ports, ends: &mut Vec<N::End>) -> Resul
     ensures bound { OnPorts (BindsEnds ports.now.port (map (end_facts N.End.port N.End.traffic N.End.faults N.End.has_ended N.End.script) ends.new.items)) (N.ports net.old) (N.ports net.new) }
     ensures all { OnOk result (vec_len ends.new ≡ ports.now.fronts) }
     ensures few { vec_len ends.new ≤ ports.now.fronts }
+    ensures none_refused { OnOk result (N.refused net.new ≡ N.refused net.old) }
     ensures steady { OnOk result (is_some (N.fails net.old) ≡ true → N.faults net.new ≡ N.faults net.old) }
     ensures cause { OnErr result (Rose (N.faults net.old) (N.faults net.new)) }
     ensures refused { OnErr result (N.refused net.old < N.refused net.new) }
@@ -55,7 +56,7 @@ fn bind_all<N: Net>(net: &mut N, ports: &Ports, ends: &mut Vec<N::End>) -> Resul
 }
 
 /// Releases the ends, the last one first.
-fn release_all<N: Net>(net: &mut N, ends: Vec<N::End>, first: u16)
+pub fn release_all<N: Net>(net: &mut N, ends: Vec<N::End>, first: u16)
     requires ports { AreAtPorts first (map (end_facts N.End.port N.End.traffic N.End.faults N.End.has_ended N.End.script) ends.items) }
     requires out { IfSome (N.ports net.old) (λ all. (i : ℕ) → i < vec_len ends → all (first + i) ≡ out) }
     requires tell { IfSome (N.ports net.old) (λ all. TellAll (map (end_facts N.End.port N.End.traffic N.End.faults N.End.has_ended N.End.script) ends.items)) }
@@ -231,7 +232,8 @@ pub fn serve_filled<W: Threads + Wait + Sync, N: Net, G: Gate, A: Announce>(
     }
 }
 
-/// The same with partitions that nothing fills, and nothing told.
+/// Binds a port for each front, in order; then the fronts and the owners of the partitions run side by side, each in a thread of its own. All ends
+/// are released. The owners' seats are kept, in the order of the partitions, where no front failed.
 pub fn serve<W: Threads + Wait + Sync, N: Net, G: Gate>(
     rt: &W,
     alloc: Global,

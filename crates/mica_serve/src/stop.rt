@@ -3,8 +3,10 @@ ghost use Rattle.std.specs.Prelude.{◌≡◌};
 
 use crate::filling::OpenFault;
 use mica_fronts::ServeFault;
-use mica_io::Failed;
+use mica_io::{Failed, NoMemory};
 use std::alloc::AllocError;
+use std::error::Error;
+use std::fmt;
 
 /// Why a server did not come to totals.
 #[derive(Clone, Copy, Debug, PartialEq, Eq)]
@@ -19,6 +21,26 @@ pub enum Stop {
 /// What was to be told could not be told.
 #[derive(Clone, Copy, Debug, PartialEq, Eq)]
 pub struct Untold;
+
+impl fmt::Display for Stop {
+    fn fmt<W: fmt::Write>(&self, f: &mut fmt::Formatter<W>) -> fmt::Result {
+        match self {
+            Stop::Refused => f.write_str("a write that was to fill a partition was refused"),
+            Stop::Unannounced => fmt::Display::fmt(&Untold, f),
+            Stop::Fault(fault) => fmt::Display::fmt(fault, f),
+        }
+    }
+}
+
+impl fmt::Display for Untold {
+    fn fmt<W: fmt::Write>(&self, f: &mut fmt::Formatter<W>) -> fmt::Result {
+        f.write_str("what was to be told could not be told")
+    }
+}
+
+impl Error for Stop {}
+
+impl Error for Untold {}
 
 impl From<Untold> for Stop {
     ghost use Rattle.mica_serve.specs.declared.stop.Stop.TheVariants.{Unannounced};
@@ -50,6 +72,17 @@ impl From<AllocError> for Stop {
     ghost from_gives = { λ _ e. e ≡ Fault NoMemory };
 
     fn from(_: AllocError) -> Self {
+        Stop::Fault(ServeFault::NoMemory)
+    }
+}
+
+impl From<NoMemory> for Stop {
+    ghost use Rattle.mica_fronts.specs.declared.totals.ServeFault.TheVariants.{NoMemory};
+    ghost use Rattle.mica_serve.specs.declared.stop.Stop.TheVariants.{Fault};
+
+    ghost from_gives = { λ _ e. e ≡ Fault NoMemory };
+
+    fn from(_: NoMemory) -> Self {
         Stop::Fault(ServeFault::NoMemory)
     }
 }

@@ -88,7 +88,7 @@ static ROWS: [Row<'static>; 10] = [
     Row {
         words: "--mode store --image ab.image",
         bytes: IMAGE,
-        fails: &[2],
+        fails: &[1],
         status: Status::ReadFault,
         said: b"read fault\n",
     },

@@ -21,22 +21,22 @@ const FILE: &str = "apple_and_pear.image";
 
 /// A socket that says that it has ended after so many datagrams.
 #[derive(Drop)]
-struct CountedEnd {
-    end: UdpEnd,
+struct CountedEnd<'a> {
+    end: UdpEnd<'a>,
     left: u32,
     has_ended: bool,
 }
 
-impl Datagrams for CountedEnd {
-    ghost port = { λ e. ⟦<UdpEnd as Datagrams>⟧.port e.end };
+impl<'a> Datagrams for CountedEnd<'a> {
+    ghost port = { λ e. ⟦<UdpEnd<'a> as Datagrams>⟧.port e.end };
 
     ghost traffic = { λ _. None };
 
-    ghost faults = { λ e. ⟦<UdpEnd as Datagrams>⟧.faults e.end };
+    ghost faults = { λ e. ⟦<UdpEnd<'a> as Datagrams>⟧.faults e.end };
 
     ghost has_ended = { λ e. e.has_ended };
 
-    ghost has_received = { λ e. ⟦<UdpEnd as Datagrams>⟧.has_received e.end };
+    ghost has_received = { λ e. ⟦<UdpEnd<'a> as Datagrams>⟧.has_received e.end };
 
     ghost script = { λ _. None };
 
@@ -62,7 +62,7 @@ struct CountedNet<'a, R> {
 }
 
 impl<'a, R: Sockets> Net for CountedNet<'a, R> {
-    type End = CountedEnd;
+    type End = CountedEnd<'a>;
 
     ghost faults = { λ n. ⟦<UdpNet<'a, R> as Net>⟧.faults n.net };
 
@@ -76,7 +76,7 @@ impl<'a, R: Sockets> Net for CountedNet<'a, R> {
 
     ghost fails = { λ _. None };
 
-    fn bind(&mut self, port: u16) -> Result<CountedEnd, Failed> {
+    fn bind(&mut self, port: u16) -> Result<CountedEnd<'a>, Failed> {
         match self.net.bind(port) {
             Ok(end) => Ok(CountedEnd {
                 end,
@@ -87,7 +87,7 @@ impl<'a, R: Sockets> Net for CountedNet<'a, R> {
         }
     }
 
-    fn release(&mut self, end: CountedEnd) {
+    fn release(&mut self, end: CountedEnd<'a>) {
         self.net.release(end.end);
     }
 }

@@ -7,6 +7,8 @@ mod asked;
 #[cfg(test)]
 mod batches;
 #[cfg(test)]
+mod counts;
+#[cfg(test)]
 mod datagrams;
 #[cfg(test)]
 mod exclusive;
@@ -28,5 +30,7 @@ mod runs;
 mod same_as_machine;
 #[cfg(test)]
 mod served;
+#[cfg(test)]
+mod silence;
 #[cfg(test)]
 mod udp;

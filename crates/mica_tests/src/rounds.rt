@@ -1,12 +1,11 @@
 //! Readers beside the owner in one round, and the calls of the gate.
 
+use crate::counts::Counts;
 use crate::meeting::Meeting;
 use crate::runs::{is_one_of, run_words};
 use mica_cmd::Status;
-use mica_io::Gate;
 use std::process::Abort;
 use std::sync::Wait;
-use std::sync::atomic::{AtomicU64, Ordering};
 use std::test::Fail;
 use std::thread::Threads;
 
@@ -39,20 +38,6 @@ fn the_workers_of_a_round_meet_at_the_gate(rt: HostRuntime) -> Result<(), Fail> 
     Ok(())
 }
 
-/// Counts the calls of four workers, each in 16 bits of its own: digit `call` of these says how often it called with
-/// that number.
-#[derive(Drop)]
-struct Counts {
-    calls: AtomicU64,
-}
-
-impl Gate for Counts {
-    fn turn(&self, worker: u32, call: u32) {
-        let place = 16 * worker.min(3) + 4 * call.min(3);
-        self.calls.fetch_add(1 << place, Ordering::SeqCst);
-    }
-}
-
 /// How often each worker calls the gate with each number.
 fn expect_calls(
     rt: &(impl Abort + AllocGlobal + Threads + Wait + Sync),
@@ -60,11 +45,9 @@ fn expect_calls(
     input: &[u8],
     calls: u64,
 ) -> Result<(), Fail> {
-    let gate = Counts {
-        calls: AtomicU64::new(0),
-    };
+    let gate = Counts::new();
     let end = run_words(rt, &gate, words, input)?;
-    assert!(rt; end.status == Status::Done && gate.calls.load(Ordering::SeqCst) == calls);
+    assert!(rt; end.status == Status::Done && gate.calls() == calls);
     Ok(())
 }
 
@@ -96,4 +79,15 @@ fn each_owner_calls_the_gate_behind_the_readers(rt: HostRuntime) -> Result<(), F
 fn an_empty_round_is_run(rt: HostRuntime) -> Result<(), Fail> {
     expect_calls(&rt, TWO_READERS, b"", 0x0000_0001_0001_0001)?;
     expect_calls(&rt, TWO_READERS, b"sync\n", 0x0000_0002_0002_0002)
+}
+
+// Two puts in a round, and no get: the owner stands behind the reader.
+#[test]
+fn the_workers_of_a_bench_call_the_gate(rt: HostRuntime) -> Result<(), Fail> {
+    expect_calls(
+        &rt,
+        "bench --mode store --partitions 1 --readers 1 --ops 2 --gets 0",
+        b"",
+        0x0000_0000_0111_0001,
+    )
 }

@@ -4,14 +4,17 @@ ghost use Rattle.std.specs.Prelude.{◌≡◌, false, true};
 use mica_io::{Datagrams, Net, UdpEnd, UdpNet};
 use std::net::{Net as Sockets, UdpSocket};
 use std::process::Abort;
+use std::sync::atomic::{AtomicBool, Ordering};
 use std::test::Fail;
+use std::thread::join;
+use std::time::Duration;
 
 /// An end at the first of some ports that is free, and this port.
-fn new_end(rt: &(impl Abort + Sockets)) -> (UdpEnd, u16)
-    ensures { ⟦<UdpEnd as Datagrams>⟧.has_ended result.0 ≡ false }
+fn new_end<'a, R: Abort + Sockets>(rt: &'a R, has_failed: &'a AtomicBool) -> (UdpEnd<'a>, u16)
+    ensures { ⟦<UdpEnd<'a> as Datagrams>⟧.has_ended result.0 ≡ false }
 {
     for port in 47_000..47_100u16 {
-        if let Ok(end) = UdpNet::new(rt).bind(port) {
+        if let Ok(end) = UdpNet::failing_whole(rt, has_failed).bind(port) {
             return (end, port);
         }
     }
@@ -33,7 +36,8 @@ fn expect_datagram<D: Datagrams>(rt: &impl Abort, end: &mut D, given: &[u8])
 
 #[test]
 fn datagrams_come_in_order_and_replies_go_back(rt: HostRuntime) -> Result<(), Fail> {
-    let (mut end, port) = new_end(&rt);
+    let has_failed = AtomicBool::new(false);
+    let (mut end, port) = new_end(&rt, &has_failed);
     let client = UdpSocket::bind(&rt, "127.0.0.1:0")?;
     client.send_to(b"hello", ("127.0.0.1", port))?;
     client.send_to(b"longer than the room", ("127.0.0.1", port))?;
@@ -51,9 +55,51 @@ fn datagrams_come_in_order_and_replies_go_back(rt: HostRuntime) -> Result<(), Fa
 
 #[test]
 fn a_taken_port_is_refused(rt: HostRuntime) -> Result<(), Fail> {
-    let (end, port) = new_end(&rt);
+    let has_failed = AtomicBool::new(false);
+    let (end, port) = new_end(&rt, &has_failed);
     let mut net = UdpNet::new(&rt);
     assert!(&rt; net.bind(port).is_err());
     net.release(end);
+    Ok(())
+}
+
+// A reply goes to the sender of the last datagram, and what is sent to another address of this machine does not come.
+#[test]
+fn a_reply_goes_to_the_last_sender(rt: HostRuntime) -> Result<(), Fail> {
+    let has_failed = AtomicBool::new(false);
+    let (mut end, port) = new_end(&rt, &has_failed);
+    let one = UdpSocket::bind(&rt, "127.0.0.1:0")?;
+    let other = UdpSocket::bind(&rt, "127.0.0.1:0")?;
+    one.send_to(b"past", ("127.0.0.2", port))?;
+    one.send_to(b"one", ("127.0.0.1", port))?;
+    expect_datagram(&rt, &mut end, b"one");
+    other.send_to(b"other", ("127.0.0.1", port))?;
+    expect_datagram(&rt, &mut end, b"other");
+    assert!(&rt; end.reply(b"back").is_ok());
+    let mut back = [0; 16];
+    let (count, _) = other.recv_from(&mut back)?;
+    assert!(&rt; &back[..count] == b"back".as_slice());
+    UdpNet::new(&rt).release(end);
+    Ok(())
+}
+
+// An end that waits fails once another end of its net has. A socket that nobody sends to lets the wait begin.
+#[test]
+fn ends_fail_together(rt: HostRuntime) -> Result<(), Fail> {
+    let has_failed = AtomicBool::new(false);
+    let (mut end, _) = new_end(&rt, &has_failed);
+    let clock = UdpSocket::bind(&rt, "127.0.0.1:0")?;
+    clock.set_read_timeout(Some(Duration::from_millis(1_500)))?;
+    let (received, timed) = join(
+        &rt,
+        || end.recv(&mut [0; 8]),
+        || {
+            let timed = clock.recv(&mut [0; 8]);
+            has_failed.store(true, Ordering::Relaxed);
+            timed
+        },
+    );
+    assert!(&rt; received.is_err() && timed.is_err());
+    UdpNet::new(&rt).release(end);
     Ok(())
 }

@@ -11,7 +11,8 @@ use itoa::Buffer;
 use mica_io::{Bytes, NoMemory};
 use partition_model::{Op, Outcome};
 use std::alloc::Global;
-use std::str;
+use std::error::Error;
+use std::{fmt, str};
 
 /// Why bytes are no report. Lines count from 1.
 #[derive(Clone, Copy, Debug, PartialEq, Eq)]
@@ -19,6 +20,17 @@ pub enum ReportFault {
     BadLine(u32),
     NoMemory,
 }
+
+impl fmt::Display for ReportFault {
+    fn fmt<W: fmt::Write>(&self, f: &mut fmt::Formatter<W>) -> fmt::Result {
+        match self {
+            ReportFault::BadLine(number) => write!(f, "bad report line {number}"),
+            ReportFault::NoMemory => fmt::Display::fmt(&NoMemory, f),
+        }
+    }
+}
+
+impl Error for ReportFault {}
 
 impl From<NoMemory> for ReportFault {
     ghost use Rattle.mica_trace.specs.declared.report_reader.ReportFault.TheVariants.{NoMemory};

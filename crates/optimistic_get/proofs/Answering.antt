@@ -1,6 +1,6 @@
 -- What a try's loads, its stamp and its two epochs tell together.
 use Rattle.std.proofs.Common.{le_refl, ◌≡◌, ◌≢◌, ℕ, ◌+◌, ◌*◌, ◌%◌, ◌<◌, ◌≤◌, List, [], ◌∷◌, ◌++◌, Bool, false, refl, sym, ap, ◌∙◌, subst, arith, eq-eqb, ne_eqb, Option, Some, None, inl, inr, if◌then◌else◌}
-use Rattle.std.specs.Prelude.{Contains, IfSome, ◌==◌}
+use Rattle.std.specs.Prelude.{Contains, IfSome}
 use Rattle.mica_words.specs.declared.entry.TheConstants.{SLOTS}
 use Rattle.mica_words.specs.Hash.{bucket_of}
 use Rattle.mica_words.specs.Entry.{entry_offset}
@@ -23,7 +23,6 @@ use Rattle.epoch_core.specs.Failures.{failure}
 use Rattle.epoch_core.specs.ReaderState.{new_try, opened, with_cut, stamped, fails_after, closes, shut}
 use Rattle.epoch_core.specs.Spelt.{Loads, LinksTo, HasLinks, ShowsItem, IsNoEntryOf, by_tag as no_tag, by_stamp as no_stamp, by_item as no_item, SpellsAnswer}
 use Rattle.epoch_core.specs.ReaderKept.{TellsTry, Tells}
-use Rattle.epoch_core.proofs.Prefixes.{prefix_same}
 use Rattle.optimistic_get.specs.Loading.{most_loads, loads_of, loads_in, TryGoesOn}
 use Rattle.optimistic_get.specs.Search.{IsWeighed, by_tag, by_item, by_best, IsBest, IsSlotSeen, Searches}
 use Rattle.optimistic_get.specs.declared.getting.Got.{Got}
@@ -95,35 +94,7 @@ goes_to t None g = absurd g
 goes_to t (Some u) g = ap (λ (z : Try). Some z) g.0
 
 module _ (r q : ReaderState) (b n : ℕ) (first : q ≡ opened b n r) (least : 2 * writes_to_bucket (options_of r.shape) r.done b ≤ n) where
-  -- an odd epoch
-  pub odd_fails : n % 2 ≡ 1 → TryFails r b n n q
-  odd_fails odd = record {
-    made = record {
-      same = λ i. record {
-        shape = ap (λ (z : ReaderState). z.shape) first i;
-        seen = q.seen;
-        done = ap (λ (z : ReaderState). z.done) first i;
-        met = ap (λ (z : ReaderState). z.met) first i;
-        loads = q.loads;
-        tried = ap (λ (z : ReaderState). z.tried) first i;
-        fails = q.fails;
-        closed = q.closed;
-        current = q.current;
-      };
-      seen = subst (IsPrefix r.seen) (sym (ap (λ (z : ReaderState). z.seen) first)) (prefix_same r.seen);
-      ended = λ _. ap (λ (z : ReaderState). z.current) first ∙ ap (λ (z : Bool). if z then Some (new_try b n) else None) not_even;
-    };
-    loads = subst (λ (z : Bool). q.loads ≤ r.loads + (if z then 1 else most_loads r.shape)) (sym (eq-eqb (n % 2) 1 odd))
-        (let one = ap (λ (z : ReaderState). z.loads) first in omega arith);
-    fails = ap (λ (z : ReaderState). z.fails) first ∙ ap (λ (z : Bool). if z then r.fails else (r.fails ++ failure b n n ∷ [])) not_even;
-    closed = ap (λ (z : ReaderState). z.closed) first;
-    failure = record { fails = (omega arith, inl odd); least = least };
-  }
-    where
-      not_even : (n % 2 == 0) ≡ false
-      not_even = ne_eqb (n % 2) 0 (λ even. omega (arith, odd, even))
-
-  -- which no plan finds at rest
+  -- no plan finds an odd epoch at rest
   pub odd_rests : IsMain r.shape b → n % 2 ≡ 1 → (got : Got) (plan : Option Plan) → IfSome plan (FindsEpoch r b n) → IfSome plan (TriesAtRest r got q)
   odd_rests main odd got None finds = tt
   odd_rests main odd got (Some plan) finds = λ o rests. absurd (let even = even_at_rest plan o r b n main rests finds in omega (arith, odd, even))

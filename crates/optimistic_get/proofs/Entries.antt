@@ -16,7 +16,7 @@ use Rattle.epoch_core.specs.Spelt.{Loads, HasLoad, ShowsOther, by_offset, by_key
 use Rattle.epoch_core.proofs.Failing.{in_head}
 use Rattle.optimistic_get.specs.Loading.{loads_in, Keeps, GoesOn}
 use Rattle.optimistic_get.specs.Search.{IsWeighed, by_tag, by_item, by_best, IsBest, IsNoWorse, IsSlotWeighed, IsSlotSeen, Weighs, Scans, ScansFirst}
-use Rattle.optimistic_get.proofs.Loads.{on_none, on_then, on_at_most, on_open, on_keeps, on_shape, load_here}
+use Rattle.optimistic_get.proofs.Loads.{on_then, on_at_most, on_open, on_keeps, on_shape, load_here}
 use Rattle.optimistic_get.proofs.Items.{on_one}
 
 -- What loads tell they tell still with more of them.
@@ -105,10 +105,6 @@ weighs_one r q entry key best value now g later tag shows = record {
 }
 
 -- One slot more
-
-pub scans_none : (r : ReaderState) (c : ℕ) (key : List ℕ) (best : Option ℕ) (value : List ℕ) → is_some r.current ≡ true → Scans r c 0 key best value best value r
-scans_none r c key best value trying =
-    record { on = on_none r trying; rises = no_worse_same best; found = inl (refl, refl); slots = λ slot l. absurd (omega arith) }
 
 module _ (r q q1 q2 : ReaderState) (c n entry : ℕ) (key : List ℕ) (best : Option ℕ) (value : List ℕ) (now : Option ℕ) (v : List ℕ) (next : Option ℕ) (w : List ℕ)
     (before : Scans r c n key best value now v q) (load : q1 ≡ loaded (entry_at q.shape c n) entry q) (weigh : Weighs q1 entry key now v next w q2) (in_bucket : n < SLOTS) where

@@ -1,4 +1,5 @@
 //! The get of a script that has no event left.
+ghost use Rattle.std.specs.Prelude.{◌≡◌};
 ghost use Rattle.mica_words.specs.Item.{KeyFits};
 ghost use Rattle.epoch_core.specs.Script.{HasPlayedOut};
 ghost use Rattle.epoch_core.specs.Seats.{book_of};
@@ -15,7 +16,9 @@ use partition_model::{Answer, ItemBuf};
 pub fn get_settled(seat: &mut Scripted, key: &[u8], out: &mut ItemBuf) -> Answer
     requires key { KeyFits key.now }
     requires settled { HasPlayedOut (book_of seat.old) }
-    ensures { AnswersPlayed (book_of seat.old) key.now result out.new (book_of seat.new) }
+    ensures played { AnswersPlayed (book_of seat.old) key.now result out.new (book_of seat.new) }
+    ensures home { ⟦<Scripted as ReaderWords>⟧.home seat.new ≡ ⟦<Scripted as ReaderWords>⟧.home seat.old }
+    ensures plan { ⟦<Scripted as ReaderWords>⟧.plan seat.new ≡ ⟦<Scripted as ReaderWords>⟧.plan seat.old }
 {
     let hash = key_hash(key);
     let bucket = bucket_of(hash, seat.shape().buckets);

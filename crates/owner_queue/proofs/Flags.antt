@@ -50,6 +50,3 @@ flags_end flags taken m s of is l has p lp =
 -- the flags fit what a pass knows that took one message more
 pub flags_after_end : (flags : List Bool) (u v : Knows Message ℕ) (m : Message) (s : ℕ) → m ≡ kind.End s → s < 16 → u ≡ receiver v.number v.terms (v.taken ++ m ∷ []) → HasFlags flags v.taken → HasFlags (set flags s true) u.taken
 flags_after_end flags u v m s is l e has = subst (λ (t : Knows Message ℕ). HasFlags (set flags s true) t.taken) (sym e) (flags_end flags v.taken m s (ap sender_of is) (ap is_end is) l has)
-
-pub flags_after_job : (flags : List Bool) (u v : Knows Message ℕ) (m : Message) → is_end m ≡ false → u ≡ receiver v.number v.terms (v.taken ++ m ∷ []) → HasFlags flags v.taken → HasFlags flags u.taken
-flags_after_job flags u v m is e has = subst (λ (t : Knows Message ℕ). HasFlags flags t.taken) (sym e) (flags_job flags v.taken m is has)

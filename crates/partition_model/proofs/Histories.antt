@@ -4,11 +4,13 @@ use Rattle.std.proofs.Common.{◌≡◌, ◌+◌, ◌≤◌, ◌<◌, [], ◌∷
 use Rattle.std.specs.List.{fold}
 use Rattle.std.proofs.lemmas.List.{append-nil}
 use Rattle.std.proofs.lemmas.Grind.{common_steps}
+use Rattle.mica_words.specs.Stamp.{tail_of}
 use Rattle.partition_model.specs.declared.options.Options.{Options}
 use Rattle.partition_model.specs.declared.options.Mode.{Mode}
 use Rattle.partition_model.specs.declared.options.Mode.TheVariants.{Cache as CacheMode, Store as StoreMode}
 use Rattle.partition_model.specs.declared.write.Write.{Write}
 use Rattle.partition_model.specs.declared.write.Outcome.{Outcome}
+use Rattle.partition_model.specs.Limits.{last_tail}
 use Rattle.partition_model.specs.Write.{is_accepted}
 use Rattle.partition_model.specs.Cache as cache
 use Rattle.partition_model.specs.CacheStep as cs
@@ -78,6 +80,11 @@ accepted_is_length options history = grind (arith, common_steps, accepted_from o
 pub cache_unworn : (options : Options) (s : cache.Cache) (write : Write) (outcome : Outcome) → is_accepted outcome ≡ true → outcome ≡ cs.reply options s write → s.accepted < options.wear
 unfolding cs.reply
 cache_unworn options s write outcome accepted is = grind (arith, common_steps)
+
+-- nor has its log come to its end
+pub cache_has_room : (options : Options) (s : cache.Cache) (write : Write) (outcome : Outcome) → is_accepted outcome ≡ true → outcome ≡ cs.reply options s write → tail_of s.stamp < last_tail
+unfolding cs.reply
+cache_has_room options s write outcome accepted is = grind (arith, common_steps)
 
 store_unworn : (options : Options) (s : store.Store) (write : Write) (outcome : Outcome) → is_accepted outcome ≡ true → ss.Allows options s write outcome → s.accepted < options.wear
 store_unworn options s write outcome accepted is = grind (arith, common_steps)

@@ -12,3 +12,4 @@ pub mod CellSums
 pub mod BucketSums
 pub mod PowersOfTwo
 pub mod Runs
+pub mod PossibleOptions

@@ -1,10 +1,11 @@
 -- The stamps of a history, in both modes: they have a bound.
 use Rattle.std.proofs.Common.{rules}
-use Rattle.std.proofs.Common.{◌≡◌, ◌*◌, ◌≤◌, length, arith}
+use Rattle.std.proofs.Common.{◌≡◌, ◌*◌, ◌<◌, ◌≤◌, length, arith}
 use Rattle.std.specs.List.{AllByRecursion as AllOf}
+use Rattle.mica_words.specs.Stamp.{tail_of}
 use Rattle.partition_model.specs.declared.options.Options.{Options}
 use Rattle.partition_model.specs.Options.{IsValid}
-use Rattle.partition_model.specs.Limits.{most_added, most_stamp}
+use Rattle.partition_model.specs.Limits.{last_tail, most_added, most_stamp}
 use Rattle.partition_model.specs.Write.{IsWrite}
 use Rattle.partition_model.specs.History.{History, State, state_of, stamp_of, stamp_in, IsHistory}
 use Rattle.partition_model.proofs.CacheLaws.{stamp_bound}
@@ -16,3 +17,7 @@ stamp_at_most options history writes now at = grind (arith, stamp_bound options 
 
 pub stamp_small : (options : Options) → IsValid options → (history : History) → IsHistory options history → AllOf IsWrite history → stamp_of options history ≤ most_stamp
 stamp_small options valid history is writes = search (rules, stamp_at_most, within_wear)
+
+-- so the count comes before the end of a log
+pub tail_small : (options : Options) (history : History) → IsValid options → IsHistory options history → AllOf IsWrite history → tail_of (stamp_of options history) < last_tail
+tail_small options history valid is writes = (let small = stamp_small options valid history is writes in omega arith)

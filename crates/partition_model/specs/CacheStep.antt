@@ -1,5 +1,5 @@
 -- The step of a partition in cache mode: a circular log and a lossy index. It is a function, whose rules stand in order.
-use Rattle.std.specs.Prelude.{ℕ, ◌+◌, ◌*◌, ◌<◌, ◌≤◌, ◌==◌, Bool, true, false, not, ◌&&◌, List, [], ◌∷◌, ◌++◌, Option, Some, None, is_some, filter, map, count_by, if◌then◌else◌, nat_le}
+use Rattle.std.specs.Prelude.{ℕ, ◌+◌, ◌*◌, ◌<◌, ◌≤◌, ◌==◌, Bool, true, false, not, ◌&&◌, ◌||◌, List, [], ◌∷◌, ◌++◌, Option, Some, None, is_some, filter, map, count_by, if◌then◌else◌, nat_le}
 use Rattle.mica_words.specs.Hash.{bucket_of}
 use Rattle.mica_words.specs.declared.entry.TheConstants.{SLOTS}
 use Rattle.mica_words.specs.Item.{item_size}
@@ -12,10 +12,11 @@ use Rattle.partition_model.specs.declared.write.Outcome.{Outcome}
 use Rattle.partition_model.specs.declared.write.Outcome.TheVariants.{Stored, Deleted, Absent, Touched, FullBlock, Worn, Exists}
 use Rattle.partition_model.specs.Write.{size_of, is_accepted}
 use Rattle.partition_model.specs.Cache.{Record, Cache, has_key, record_of, is_live}
+use Rattle.partition_model.specs.Limits.{is_at_end}
 
--- as many writes were accepted as the partition may bear
+-- as many writes were accepted as the partition may bear, or its log has come to its end
 abbrev pub is_worn : Options → Cache → Bool
-is_worn options cache = nat_le options.wear cache.accepted
+is_worn options cache = nat_le options.wear cache.accepted || is_at_end cache.stamp
 
 -- whether a put may be kept in this record's room: its item fits, and the log will not have passed it
 abbrev pub may_keep : Options → Cache → Write → Record → Bool

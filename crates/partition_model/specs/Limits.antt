@@ -1,12 +1,21 @@
--- How far the stamps of a partition rise, by the longest key and value and by the wear.
-use Rattle.std.specs.Prelude.{ℕ, ◌*◌}
+-- How far the stamps of a partition rise, by the longest key and value and by the wear; and how far the tail of a log.
+use Rattle.std.specs.Prelude.{ℕ, ◌*◌, ◌-◌, ◌^◌, Bool, nat_le}
 use Rattle.mica_words.specs.Item.{largest_item}
+use Rattle.mica_words.specs.Stamp.{tail_of}
 use Rattle.partition_model.specs.declared.options.TheConstants.{MAX_WEAR}
 
 -- The most that a write adds to a stamp: in cache mode the words of its item, which stand above 16 bits of it.
 abbrev pub most_added : ℕ
 most_added = 65536 * largest_item
 
--- no stamp is greater
+-- no stamp of options of the words of `mica` is greater
 abbrev pub most_stamp : ℕ
 most_stamp = MAX_WEAR * most_added
+
+-- An offset has 48 bits. From this tail on a log has no room for the largest item and the tail behind it.
+abbrev pub last_tail : ℕ
+last_tail = 2 ^ 48 - largest_item
+
+-- whether the log of this stamp has come to its end
+abbrev pub is_at_end : ℕ → Bool
+is_at_end stamp = nat_le last_tail (tail_of stamp)

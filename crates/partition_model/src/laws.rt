@@ -1,7 +1,23 @@
-//! Laws of histories, which hold of every call.
+//! Laws of options and of histories, which hold of every call.
 ghost use Rattle.std.specs.Prelude.{◌≡◌, ◌≢◌, ◌<◌, ℕ};
 ghost use Rattle.partition_model.specs.declared.options.Options.{Options};
-ghost use Rattle.partition_model.specs.History.{History, IsPrefix, IsCut, stamp_of};
+ghost use Rattle.std.specs.List.{AllByRecursion};
+ghost use Rattle.mica_words.specs.Stamp.{tail_of};
+ghost use Rattle.partition_model.specs.History.{History, IsHistory, IsPrefix, IsCut, stamp_of};
+ghost use Rattle.partition_model.specs.Limits.{last_tail};
+ghost use Rattle.partition_model.specs.Write.{IsWrite};
+ghost use Rattle.partition_model.specs.Options.{IsValid, IsPossible};
+
+/// Partitions can be made of what the words of `mica` may ask for.
+pub fn valid_is_possible()
+    ensures { (options : Options) → IsValid options → IsPossible options }
+{}
+
+/// Within the ranges of the words of `mica` a partition has accepted as many writes as it may before its log ends.
+pub fn count_comes_first()
+    ensures { (options : Options) (history : History) → IsValid options → IsHistory options history → AllByRecursion IsWrite history
+        → tail_of (stamp_of options history) < last_tail }
+{}
 
 /// Each accepted write raises the stamp, so a stamp is that of one prefix of a history at most.
 pub fn one_cut()

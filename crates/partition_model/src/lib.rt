@@ -8,12 +8,14 @@
 mod fate;
 mod item_buf;
 mod laws;
+mod log_end;
 mod options;
 mod ranges;
 mod write;
 
 pub use fate::Fate;
 pub use item_buf::ItemBuf;
-pub use laws::one_cut;
-pub use options::{MAX_WEAR, Mode, Options};
+pub use laws::{count_comes_first, one_cut, valid_is_possible};
+pub use log_end::{LAST_TAIL, has_room};
+pub use options::{MAX_WEAR, MOST_PARTITIONS, MOST_SPARES, MOST_WEAR, MOST_WORDS, Mode, Options};
 pub use write::{Answer, Op, Outcome, Write, write_fits};

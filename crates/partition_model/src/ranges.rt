@@ -1,6 +1,6 @@
 //! The ranges of the options.
-ghost use Rattle.std.specs.Prelude.{◌↔◌, IsTrue};
-ghost use Rattle.partition_model.specs.Options.{InRange, IsBucketNumber};
+ghost use Rattle.std.specs.Prelude.{◌↔◌, ◌<◌, IsTrue};
+ghost use Rattle.partition_model.specs.Options.{InRange, IsPowerUpTo};
 
 pub fn is_in(n: u32, least: u32, most: u32) -> bool
     ensures { IsTrue result ↔ InRange least most n }
@@ -8,8 +8,9 @@ pub fn is_in(n: u32, least: u32, most: u32) -> bool
     least <= n && n <= most
 }
 
-pub fn is_bucket_number(n: u32) -> bool
-    ensures { IsTrue result ↔ IsBucketNumber n }
+pub fn is_power_up_to(n: u32, exponent: u32) -> bool
+    requires { exponent < 32 }
+    ensures { IsTrue result ↔ IsPowerUpTo exponent n }
 {
-    n.is_power_of_two() && n <= 65_536
+    n.is_power_of_two() && n <= 1 << exponent
 }

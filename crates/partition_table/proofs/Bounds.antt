@@ -13,17 +13,17 @@ use Rattle.epoch_core.specs.Layout.{place_at, IsInside, word_count}
 use Rattle.epoch_core.specs.OwnerState.{marked_in}
 use Rattle.epoch_core.specs.Events.{IsAllowed, place_of}
 use Rattle.epoch_core.specs.Kept.{Kept}
-use Rattle.epoch_core.proofs.Shapes.{valid_in_range}
+use Rattle.epoch_core.proofs.Shapes.{possible_in_range}
 use Rattle.epoch_core.proofs.Inside.{event_inside}
 use Rattle.epoch_core.proofs.Marked.{ends_main}
 
 -- a word
 pub word_there : (shape : Shape) → is_in_range shape ≡ true → (at : WordAt) → IsInside shape at → place_at shape at < word_count shape
-word_there shape valid Stamp is = let least = (valid_in_range shape valid).ranges.words.0 in omega arith
-word_there shape valid (Epoch b) is = let least = (valid_in_range shape valid).ranges.words.0 in omega arith
-word_there shape valid (Entry c slot) is = let bucket = is.0 in let small = is.1 in let least = (valid_in_range shape valid).ranges.words.0 in omega arith
-word_there shape valid (Link c) is = let least = (valid_in_range shape valid).ranges.words.0 in omega arith
-word_there shape valid (Item p) is = let least = (valid_in_range shape valid).ranges.words.0 in let less : p % shape.words < shape.words = mod-lt p (omega arith) in omega arith
+word_there shape valid Stamp is = let least = (possible_in_range shape valid).ranges.words.0 in omega arith
+word_there shape valid (Epoch b) is = let least = (possible_in_range shape valid).ranges.words.0 in omega arith
+word_there shape valid (Entry c slot) is = let bucket = is.0 in let small = is.1 in let least = (possible_in_range shape valid).ranges.words.0 in omega arith
+word_there shape valid (Link c) is = let least = (possible_in_range shape valid).ranges.words.0 in omega arith
+word_there shape valid (Item p) is = let least = (possible_in_range shape valid).ranges.words.0 in let less : p % shape.words < shape.words = mod-lt p (omega arith) in omega arith
 
 pub word_inside : (shape : Shape) (at : WordAt) (i n : ℕ) → is_in_range shape ≡ true → IsInside shape at → i ≡ place_at shape at → n ≡ word_count shape → i < n
 word_inside shape at i n valid is place wide = let there = word_there shape valid at is in omega arith

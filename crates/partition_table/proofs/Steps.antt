@@ -12,7 +12,7 @@ use Rattle.epoch_core.specs.declared.event.Event.{Event}
 use Rattle.epoch_core.specs.declared.state.OwnerState.{OwnerState}
 use Rattle.epoch_core.specs.declared.reader.Try.{Try}
 use Rattle.epoch_core.specs.declared.reader.ReaderState.{ReaderState}
-use Rattle.epoch_core.specs.Shape.{options_of, IsValidShape, IsMain, IsBucket, IsSpare}
+use Rattle.epoch_core.specs.Shape.{options_of, IsPossibleShape, IsMain, IsBucket, IsSpare}
 use Rattle.epoch_core.specs.Layout.{epoch_at, link_at, word_count}
 use Rattle.epoch_core.specs.OwnerState.{as_made, epoch_in}
 use Rattle.epoch_core.specs.Events.{IsAllowed, place_of, word_after, after}
@@ -21,7 +21,7 @@ use Rattle.epoch_core.specs.Grows.{Grows}
 use Rattle.std.specs.Prelude.{is_some, if◌then◌else◌, ◌==◌}
 use Rattle.epoch_core.specs.ReaderState.{new_try, opened, loaded, stamped, shut}
 use Rattle.epoch_core.specs.ReaderKept.{MetKept, ReaderKept, Tells}
-use Rattle.epoch_core.specs.Joins.{lent, note_of, met_by, known, told}
+use Rattle.epoch_core.specs.Joins.{lent, met_by, known, told}
 use Rattle.epoch_core.proofs.Made.{kept_as_made}
 use Rattle.epoch_core.proofs.Inside.{epoch_small}
 use Rattle.epoch_core.proofs.Keeps.{kept_after}
@@ -310,7 +310,7 @@ reader_joins id Spent other w reads is s k at apart there = absurd (cc reads)
 
 -- the table as made
 
-pub starts : (shape : Shape) (words : List ℕ) → words ≡ replicate (word_count shape) 0 → IsValidShape shape → IsLawful (opening words [] (Owns (as_made shape)))
+pub starts : (shape : Shape) (words : List ℕ) → words ≡ replicate (word_count shape) 0 → IsPossibleShape shape → IsLawful (opening words [] (Owns (as_made shape)))
 starts shape words is valid = record {
   owner = as_made shape;
   words = is;
@@ -334,16 +334,6 @@ pub met_owner : (v w : View) → is_owner v ≡ true → owner_in (view_met v w)
 met_owner (Owns o) w e = refl
 met_owner (Reads r) w e = absurd (cc e)
 met_owner Spent w e = absurd (cc e)
-
-pub lent_owner : (v : View) → is_owner v ≡ true → view_lent v ≡ lent (owner_in v)
-lent_owner (Owns o) e = refl
-lent_owner (Reads r) e = absurd (cc e)
-lent_owner Spent e = absurd (cc e)
-
-pub noted_reader : (v : View) → is_reader v ≡ true → view_lent v ≡ note_of (reader_in v)
-noted_reader (Owns o) e = absurd (cc e)
-noted_reader (Reads r) e = refl
-noted_reader Spent e = absurd (cc e)
 
 pub met_reads : (v w : View) → is_reader v ≡ true → (is_reader (view_met v w) ≡ true) × (reader_in (view_met v w) ≡ told (reader_in v) (reader_in w))
 met_reads (Owns o) w e = absurd (cc e)

@@ -1,4 +1,5 @@
 -- What each kind of step tells: of the seat before, the number found or stored, and the seat after.
+-- A look ahead (`ReaderSeat::peek`) is no such step: it is a load outside every try, of which no view keeps anything and no play tells. So nothing rests on what it finds.
 use Rattle.std.specs.Prelude.{◌≡◌, ℕ, ◌*◌, ◌≤◌, ◌⊎◌, slice_index}
 use Rattle.atomic_table.specs.Table.{Step}
 use Rattle.partition_model.specs.History.{History, IsPrefix, stamp_of, writes_to_bucket}

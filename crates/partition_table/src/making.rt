@@ -1,6 +1,6 @@
 //! Making a partition's table.
 ghost use Rattle.std.specs.Prelude.{◌≡◌, IfOk};
-ghost use Rattle.epoch_core.specs.Shape.{IsValidShape};
+ghost use Rattle.epoch_core.specs.Shape.{IsPossibleShape};
 ghost use Rattle.epoch_core.specs.OwnerState.{as_made};
 ghost use Rattle.partition_table.specs.Seats.{owner_state};
 
@@ -23,7 +23,7 @@ pub fn zeros_for(alloc: Global, shape: &Shape) -> Result<Vec<u64>, NoMemory>
 
 /// A partition whose words are 0, in the hands of its owner. The zeros are lent, and are the caller's afterwards.
 pub fn make_from_zeros(alloc: Global, shape: &Shape, zeros: &[u64]) -> Result<OwnerSeat, NoMemory>
-    requires valid { IsValidShape shape.now }
+    requires valid { IsPossibleShape shape.now }
     requires zeros { zeros.now ≡ (as_made shape.now).words }
     ensures made { IfOk result (λ s. owner_state s ≡ as_made shape.now) }
 {
@@ -38,7 +38,7 @@ pub fn make_from_zeros(alloc: Global, shape: &Shape, zeros: &[u64]) -> Result<Ow
 
 /// A partition whose words are 0, with a row of zeros of its own.
 pub fn make(alloc: Global, shape: &Shape) -> Result<OwnerSeat, NoMemory>
-    requires { IsValidShape shape.now }
+    requires { IsPossibleShape shape.now }
     ensures made { IfOk result (λ s. owner_state s ≡ as_made shape.now) }
 {
     let zeros = zeros_for(alloc, shape)?;

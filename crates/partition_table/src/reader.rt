@@ -56,7 +56,7 @@ impl ReaderSeat {
         Note { seat }
     }
 
-    /// Loads a word outside of any try, so that it is at hand. It tells nothing.
+    /// Looks ahead: loads a word outside every try, so that it is at hand. Nothing rests on what it finds.
     pub fn peek(&self, at: WordAt) -> u64
         requires { IsInside (reader_state self.now).shape at }
     {

@@ -20,7 +20,7 @@ pub struct KeptSeat {
 /// Its places are a fixed row, so that keeping a seat takes no memory.
 #[derive(Drop)]
 pub struct Tables {
-    seats: [Option<OwnerSeat>; 16],
+    seats: [Option<OwnerSeat>; 64],
     count: u32,
 }
 
@@ -33,7 +33,7 @@ impl Model for Tables {
 
     ghost view = { λ t. kept_seats t.seats t.count };
 
-    ghost invariant = { λ t. (length t.seats ≡ 16) × (t.count ≤ 16) × (length (kept_seats t.seats t.count) ≡ t.count) };
+    ghost invariant = { λ t. (length t.seats ≡ 64) × (t.count ≤ 64) × (length (kept_seats t.seats t.count) ≡ t.count) };
 }
 
 impl Tables {
@@ -43,7 +43,10 @@ impl Tables {
         Tables {
             seats: [
                 None, None, None, None, None, None, None, None, None, None, None, None, None, None,
-                None, None,
+                None, None, None, None, None, None, None, None, None, None, None, None, None, None,
+                None, None, None, None, None, None, None, None, None, None, None, None, None, None,
+                None, None, None, None, None, None, None, None, None, None, None, None, None, None,
+                None, None, None, None, None, None, None, None,
             ],
             count: 0,
         }
@@ -57,7 +60,7 @@ impl Tables {
 
     /// Keeps a seat, last.
     pub fn keep(&mut self, seat: OwnerSeat)
-        requires few { length self.old < 16 }
+        requires few { length self.old < 64 }
         requires idle { (owner_state seat).phase ≡ Idle }
         ensures { self.new ≡ self.old ++ kept_seat_of seat ∷ [] }
     {

@@ -5,7 +5,7 @@ use Rattle.partition_model.specs.History.{History}
 use Rattle.mica_trace.specs.declared.line.TraceLine.{TraceLine}
 use Rattle.mica_trace.specs.declared.report.Line.{Line}
 use Rattle.mica_trace.specs.TraceGrammar.{syncs_in}
-use Rattle.mica_trace.specs.Rounds.{round_of, lines_before, partition_in}
+use Rattle.mica_trace.specs.Rounds.{round_of, lines_before}
 use Rattle.mica_trace.specs.LawfulReport.{Answers, IsGetAt}
 use Rattle.mica_trace.specs.RoundReport.{history_in}
 
@@ -29,13 +29,6 @@ pub record IsRound (trace : List TraceLine) (from to : ℕ) : Type 0 where
 abbrev pub AreRounds : List TraceLine → ℕ → List ℕ → Type 0
 AreRounds trace from [] = from ≡ length trace
 AreRounds trace from (to ∷ later) = IsRound trace from to × AreRounds trace to later
-
--- the get at the place, in the partition
-pub record IsGetIn (options : Options) (p : ℕ) (trace : List TraceLine) (report : List Line) (place : ℕ) : Type 0 where
-  pub line : TraceLine
-  pub printed : Line
-  pub get : IsGetAt trace report place line printed
-  pub inside : partition_in options line ≡ p
 
 -- the get at the place is answered as at a moment between two
 pub record IsAnsweredBetween (options : Options) (p : ℕ) (trace : List TraceLine) (report : List Line) (from to place : ℕ) : Type 0 where

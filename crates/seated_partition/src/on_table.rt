@@ -1,7 +1,7 @@
 //! What each mode's partition does for its table.
 ghost use Rattle.std.specs.Prelude.{◌≡◌, IfOk};
 ghost use Rattle.partition_model.specs.declared.options.Mode.{Mode};
-ghost use Rattle.partition_model.specs.Options.{IsValid};
+ghost use Rattle.partition_model.specs.Options.{IsPossible};
 ghost use Rattle.epoch_core.specs.declared.state.OwnerState.{OwnerState};
 ghost use Rattle.epoch_core.specs.Shape.{shape_of};
 ghost use Rattle.epoch_core.specs.OwnerState.{as_made};
@@ -11,7 +11,7 @@ use cache_partition::CachePartition;
 use epoch_core::{Partition, Shape};
 use mica_io::NoMemory;
 use partition_model::Options;
-use partition_table::{OwnerSeat, make_from_zeros, zeros_for};
+use partition_table::{OwnerSeat, make_from_zeros};
 use std::alloc::Global;
 use store_partition::StorePartition;
 
@@ -23,19 +23,9 @@ pub trait OnTable: Drop {
     /// The owner's state, as the partition has it.
     ghost state: { Self → OwnerState };
 
-    /// A partition with nothing in it, over a table made for these options.
-    fn new(alloc: Global, options: &Options) -> Result<Self, NoMemory>
-        requires valid { IsValid options.now }
-        requires mode { options.now.mode ≡ Self.mode }
-        ensures made { IfOk result (λ p. Self.state p ≡ as_made (shape_of options.now)) }
-    {
-        let zeros = zeros_for(alloc, &Shape::of(options))?;
-        Self::from_zeros(alloc, options, zeros.as_slice())
-    }
-
-    /// The same, with a row of zeros that is lent: as many as a partition of these options has words.
+    /// A partition with nothing in it, over a table made for these options by a row of zeros that is lent: as many as the table has words.
     fn from_zeros(alloc: Global, options: &Options, zeros: &[u64]) -> Result<Self, NoMemory>
-        requires valid { IsValid options.now }
+        requires possible { IsPossible options.now }
         requires mode { options.now.mode ≡ Self.mode }
         requires zeros { zeros.now ≡ (as_made (shape_of options.now)).words }
         ensures made { IfOk result (λ p. Self.state p ≡ as_made (shape_of options.now)) };

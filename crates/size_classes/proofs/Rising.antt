@@ -1,5 +1,5 @@
 -- The class of a size never falls.
-use Rattle.std.proofs.Common.{◌≡◌, ℕ, ◌+◌, ◌-◌, ◌*◌, ◌/◌, ◌^◌, ◌<◌, ◌≤◌, refl, arith, rules}
+use Rattle.std.proofs.Common.{◌≡◌, ℕ, ◌+◌, ◌-◌, ◌*◌, ◌/◌, ◌^◌, ◌<◌, ◌≤◌, min, refl, arith, rules}
 use Rattle.std.specs.Int.{bit_at}
 use Rattle.std.proofs.Math.Pow.{pow_mono, shr_mono}
 use Rattle.std.proofs.Math.Nat.{div-mul-le_self, lt_of_mul-lt-mul_right}
@@ -14,7 +14,7 @@ large words = 31 + 2 * (highest_bit words - 5) + bit_at words (highest_bit words
 pub class_small : (words : ℕ) → words < 32 → class_of words ≡ words - 1
 class_small words small = rw (lt-ltb words 32 small) refl
 
-pub class_large : (words : ℕ) → 32 ≤ words → class_of words ≡ large words
+pub class_large : (words : ℕ) → 32 ≤ words → class_of words ≡ min 63 (large words)
 class_large words least = rw (le-ltb words 32 least) refl
 
 -- a number lies between two powers
@@ -62,7 +62,5 @@ large_rises a b least le limit = search (rules, halves, bit_at-lt, highest_rises
 pub rises : (a b : ℕ) → 1 ≤ a → a ≤ b → b < 2 ^ 32 → class_of a ≤ class_of b
 rises a b some le limit = grind (arith, class_small a, class_small b, class_large b, class_large a, large_rises a b)
 
--- up to 1,048,576 the highest bit is 20
-pub below_sixty_four : (words : ℕ) → 1 ≤ words → words ≤ 1048576 → class_of words < 64
-below_sixty_four words some few =
-    grind (arith, class_small words, class_large words, below_power (highest_bit words) 21 words, between words, bit_at-lt words (highest_bit words - 1))
+pub below_sixty_four : (words : ℕ) → class_of words < 64
+below_sixty_four words = grind (arith, class_small words, class_large words)

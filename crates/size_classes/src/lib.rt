@@ -12,8 +12,7 @@ pub const CLASSES: u32 = 64;
 
 /// The class of a size.
 pub fn class_of(words: u32) -> u32
-    requires some { 1 ≤ words }
-    requires limit { words ≤ 1048576 }
+    requires { 1 ≤ words }
     ensures formula { result ≡ class_of words }
     ensures never_falls { (fewer : ℕ) → 1 ≤ fewer → fewer ≤ words → class_of fewer ≤ result }
     ensures below { result < CLASSES }
@@ -22,5 +21,6 @@ pub fn class_of(words: u32) -> u32
         return words - 1;
     }
     let highest = 31 - words.leading_zeros();
-    31 + 2 * (highest - 5) + (words >> (highest - 1)) % 2
+    let class = 31 + 2 * (highest - 5) + (words >> (highest - 1)) % 2;
+    class.min(CLASSES - 1)
 }

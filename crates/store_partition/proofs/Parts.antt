@@ -3,7 +3,7 @@ use Rattle.std.proofs.lemmas.Grind.{common_steps}
 use Rattle.partition_model.specs.Store as store
 use Rattle.chained_index.specs.ChainEntries.{buckets_from, buckets_of, entries_in, entries_of}
 use Rattle.store_partition.proofs.Words.{AreParts, Block, Bool, CacheMode, Cell, Contains, Decides, Decides-eqb, Fills, Has, Index}
-use Rattle.store_partition.proofs.Words.{IsIndexOf, IsMain, IsCoalesced, IsValidShape, Kept, List, Met, Mode, OwnerState, Shape, StoreMode, [], ap}
+use Rattle.store_partition.proofs.Words.{IsIndexOf, IsMain, IsCoalesced, IsPossibleShape, Kept, List, Met, Mode, OwnerState, Shape, StoreMode, [], ap}
 use Rattle.store_partition.proofs.Words.{arith, as_made, cells_of, chained, cond, dense_on, dite, empty, entry_offset, flat_map, free_block}
 use Rattle.store_partition.proofs.Words.{get-empty, if◌then◌else◌, is_member-Decides, kept_as_made, keys_in, len, len-empty, length, link_in, listed}
 use Rattle.store_partition.proofs.Words.{nat_cmp, no_keys, no_rooms, not, props, refl, room_in, rooms, slice_cmp, slice_index, start, subst, suc, sym}
@@ -71,7 +71,7 @@ unfolding store.start
 nothing_at_start CacheMode is key cell q h = cc is
 nothing_at_start StoreMode is key cell q h = let none = get-empty {X = Cell} (slice_cmp nat_cmp) key in cc (sym none ∙ h)
 
-module _ (shape : Shape) (valid : IsValidShape shape) (mode : shape.mode ≡ StoreMode) (index : Index) (known : IsIndexOf index (as_made shape)) where
+module _ (shape : Shape) (valid : IsPossibleShape shape) (mode : shape.mode ≡ StoreMode) (index : Index) (known : IsIndexOf index (as_made shape)) where
   no_entry : (b : ℕ) → IsMain shape b → length (entries_of (as_made shape) b) ≡ 0
   no_entry b l = dite (ℕ_discrete (length (entries_of (as_made shape) b)) 0) (λ none. none) (λ some.
       let kept = kept_as_made shape valid in

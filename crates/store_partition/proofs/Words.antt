@@ -1,6 +1,6 @@
 -- The words that the proofs of this crate speak in, passed on once.
 pub use Rattle.epoch_core.proofs.Vocabulary.{All-contains, AreBytes, Bool, CanPlay, Cell, Contains, Contains-append_cases, Has, IsBucket, IsMain}
-pub use Rattle.epoch_core.proofs.Vocabulary.{IsValidShape, Kept, KeyFits, List, MayGive, None, Option, RoomsApart, Some, Spells, StandsFor}
+pub use Rattle.epoch_core.proofs.Vocabulary.{IsPossibleShape, Kept, KeyFits, List, MayGive, None, Option, RoomsApart, Some, Spells, StandsFor}
 pub use Rattle.epoch_core.proofs.Vocabulary.{WhenMarked, [], after as after_event, answer_of, ap, arith, as_made, bucket_in, bucket_of, cond, dite}
 pub use Rattle.epoch_core.proofs.Vocabulary.{drop, false, fnv1a, get_or_default, header_room, if◌then◌else◌, inl, inr, is_some, item_at, item_events}
 pub use Rattle.epoch_core.proofs.Vocabulary.{item_in, item_size, length, length-append, length-set, link_in, marked_in, not, option_map, options_in}

@@ -1,15 +1,16 @@
 -- Work is handed over from the last to the first, and taken back from the first to the last.
-use Rattle.std.proofs.Common.{◌≡◌, ◌≢◌, suc, ◌<◌, ◌≤◌, List, [], ◌∷◌, ◌++◌, length, map, slice_get, slice_set, refl, sym, ap, subst, arith, Some, None, IfSome}
+use Rattle.std.proofs.Common.{◌≡◌, ◌≢◌, ℕ, zero, suc, ◌<◌, ◌≤◌, List, [], ◌∷◌, ◌++◌, length, map, slice_get, slice_set, refl, sym, ap, subst, arith, Some, None, IfSome}
 use Rattle.work_desk.specs.declared.rule.Knows.{Knows}
-use Rattle.work_desk.specs.Desk.{giver}
-use Rattle.work_desk.specs.Rows.{free_again, handed, AllHanded, MayHand, Returned}
+use Rattle.work_desk.specs.Desk.{giver, told}
+use Rattle.work_desk.specs.Rows.{free_again, all_told, handed, AllHanded, MayHand, Returned}
+use Rattle.work_desk.proofs.Steps.{some_is}
 
 module _ {T S : Type 0} (ready : S → T → Type 0) where
   -- the desk at which the last work is handed
   pub record Last (ws : List T) (w : T) (gs : List (Knows T S)) : Type 0 where
     pub at : Knows T S
     pub is : slice_get gs (length ws) ≡ Some at
-    pub free : at.work ≡ None
+    pub free : at ≡ giver at.terms None
     pub may : ready at.terms w
     pub left : MayHand ready ws (slice_set gs (length ws) (giver at.terms (Some w)))
     pub same : handed ws (slice_set gs (length ws) (giver at.terms (Some w))) ≡ handed (ws ++ w ∷ []) gs
@@ -65,3 +66,33 @@ module _ {T S : Type 0} (done : S → T → T → Type 0) where
   all_taken (g ∷ gs) (n ∷ ns) (u ∷ us) so_far most =
       let r = all_taken gs ns us so_far.2 (omega (arith, most)) in
       ((so_far.1, r.0), (λ i. so_far.0 i ∷ r.1 i))
+
+module _ {T S : Type 0} where
+  -- the end was told at the first so many desks
+  abbrev pub told_to : ℕ → List (Knows T S) → List (Knows T S)
+  told_to zero gs = gs
+  told_to (suc n) [] = []
+  told_to (suc n) (g ∷ gs) = told g.terms ∷ told_to n gs
+
+  -- the next desk is as it was, and then it is told there too
+  pub not_told_yet : (n : ℕ) (gs : List (Knows T S)) → slice_get (told_to n gs) n ≡ slice_get gs n
+  not_told_yet zero gs = refl
+  not_told_yet (suc n) [] = refl
+  not_told_yet (suc n) (g ∷ gs) = not_told_yet n gs
+
+  pub told_next : (n : ℕ) (gs : List (Knows T S)) (g : Knows T S) → slice_get gs n ≡ Some g → slice_set (told_to n gs) n (told g.terms) ≡ told_to (suc n) gs
+  told_next zero [] g e = refl
+  told_next zero (x ∷ gs) g e = ap (λ (k : Knows T S). told k.terms ∷ gs) (some_is g x (sym e))
+  told_next (suc n) [] g e = refl
+  told_next (suc n) (x ∷ gs) g e = ap (λ l. told x.terms ∷ l) (told_next n gs g e)
+
+  pub length-told : (n : ℕ) (gs : List (Knows T S)) → length (told_to n gs) ≡ length gs
+  length-told zero gs = refl
+  length-told (suc n) [] = refl
+  length-told (suc n) (g ∷ gs) = ap suc (length-told n gs)
+
+  pub told_all : (n : ℕ) (gs : List (Knows T S)) → length gs ≤ n → told_to n gs ≡ all_told gs
+  told_all zero [] most = refl
+  told_all zero (g ∷ gs) most = absurd (omega (arith, most))
+  told_all (suc n) [] most = refl
+  told_all (suc n) (g ∷ gs) most = ap (λ l. told g.terms ∷ l) (told_all n gs (omega (arith, most)))

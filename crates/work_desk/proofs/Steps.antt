@@ -5,9 +5,9 @@ use lib.ListN.{get_elem?}
 use Rattle.atomic_table.specs.Table.{State, Act, keeps, takes, gives, step, stepped, Allows, Splits, Valid, carried_after, rest}
 use Rattle.work_desk.specs.declared.rule.Knows.{Knows}
 use Rattle.work_desk.specs.declared.rule.Stage.{Stage}
-use Rattle.work_desk.specs.declared.rule.Stage.TheVariants.{Gives, Does}
-use Rattle.work_desk.specs.Desk.{giver, doer, new, open_desk, desk, Stands, IsLawful, is_empty_slot, has_slot}
-use Rattle.work_desk.specs.Plays.{Seated, slot_in, opens, hands, gives_back, stays, looks, awaits}
+use Rattle.work_desk.specs.declared.rule.Stage.TheVariants.{Gives, Told, Does, Dismissed}
+use Rattle.work_desk.specs.Desk.{giver, doer, told, dismissed, new, open_desk, desk, Stands, Ended, IsLawful, IsSide, is_empty_slot, has_slot}
+use Rattle.work_desk.specs.Plays.{Seated, slot_in, opens, hands, gives_back, ends, looks, awaits}
 
 module _ {X : Type 0} where
   -- the one seat of a desk, and the two
@@ -61,6 +61,11 @@ module _ {T S : Type 0} where
   abbrev stage_of : Knows T S → Stage
   stage_of v = v.stage
 
+  -- a side with work is no side behind the end
+  pub at_work : (works ended : Stage) (side : Knows T S) → IsSide works ended side → side.work ≢ None → side.stage ≡ works
+  at_work works ended side (inl s) n = s
+  at_work works ended side (inr e) n = absurd (n e.1)
+
   -- a seat, by what is kept of it
 
   view_is : (v : Knows T S) (stage : Stage) (work : Option T) → v.stage ≡ stage → v.work ≡ work → v ≡ record { stage = stage; terms = v.terms; work = work }
@@ -99,17 +104,44 @@ module _ {T S : Type 0} (unset : S) (ready : S → T → Type 0) (done : S → T
   sides terms handed in_hand = giver terms handed ∷ doer terms in_hand ∷ []
 
   runs : (terms : S) (word : ℕ) (home : Home (Option T)) (handed in_hand : Option T) → Stand terms word home handed in_hand → Law (desk word home (sides terms handed in_hand))
-  runs terms word home handed in_hand stands = inr (inr (record { word = word; home = home; terms = terms; handed = handed; in_hand = in_hand; is = refl; stands = stands }))
+  runs terms word home handed in_hand stands = inr (inr (inl (record { word = word; home = home; terms = terms; handed = handed; in_hand = in_hand; is = refl; stands = stands })))
+
+  has_ended : (terms : S) (home : Home (Option T)) (other : Knows T S) → home ≡ none → (other ≡ doer terms None) ⊎ (other ≡ dismissed terms) → Law (desk 2 home (told terms ∷ other ∷ []))
+  has_ended terms home other h knows = inr (inr (inr (record { terms = terms; other = other; is = ap (λ x. desk 2 x (told terms ∷ other ∷ [])) h; knows = knows })))
 
   not_new : (u : Knows T S) (s : Desk) (id : ℕ) (v : Knows T S) (word : ℕ) (home : Home (Option T)) → s ≡ desk word home (v ∷ []) → get_elem? s.views id ≡ some u → v ≡ u
   not_new u s id v word home is at = (alone v u id (ap (λ (d : Desk). get_elem? d.views id) (sym is) ∙ at)).1
+
+  -- a seat at a desk whose end was told: of who told it, of who found it, or of who did the work
+  at_end : (s : Desk) (e : Ended s) (id : ℕ) (u : Knows T S) → get_elem? s.views id ≡ some u
+      → (u.stage ≡ Told) ⊎ ((u.stage ≡ Dismissed) ⊎ ((id ≡ 1) × (u ≡ doer e.terms None) × (s ≡ desk 2 none (told e.terms ∷ doer e.terms None ∷ []))))
+  at_end s e id u at =
+      let Seat : Type 0 = (u.stage ≡ Told) ⊎ ((u.stage ≡ Dismissed) ⊎ ((id ≡ 1) × (u ≡ doer e.terms None) × (s ≡ desk 2 none (told e.terms ∷ doer e.terms None ∷ [])))) in
+      elim (either_of (told e.terms) e.other u id (ap (λ (d : Desk). get_elem? d.views id) (sym e.is) ∙ at)) as (λ _. Seat) [
+        | inl z ↦ inl (ap stage_of (sym z.1))
+        | inr z ↦ elim e.knows as (λ _. Seat) [
+          | inl k ↦ inr (inr (z.0, sym z.1 ∙ k, e.is ∙ ap (λ (o : Knows T S). desk 2 none (told e.terms ∷ o ∷ [])) k))
+          | inr k ↦ inr (inl (ap stage_of (sym z.1 ∙ k)))
+        ]
+      ]
+
+  not_at_end : (s : Desk) (e : Ended s) (id : ℕ) (u : Knows T S) → u.stage ≢ Told → u.stage ≢ Dismissed → u.stage ≢ Does → get_elem? s.views id ≡ some u → ⊥
+  not_at_end s e id u no_told no_dismissed no_doer at =
+      elim (at_end s e id u at) as (λ _. ⊥) [
+        | inl t ↦ no_told t
+        | inr r ↦ elim r as (λ _. ⊥) [
+          | inl d ↦ no_dismissed d
+          | inr z ↦ no_doer (ap stage_of z.1)
+        ]
+      ]
 
   giver_step : (f : ℕ → ℕ) (then : ℕ → Seated T S → Type 0) (terms : S) (handed : Option T) (held : List (ℕ × Option T))
       → ((word : ℕ) (home : Home (Option T)) (in_hand : Option T) → Stand terms word home handed in_hand → Goes 0 (giver terms handed, held) f then (desk word home (sides terms handed in_hand)))
       → (slots id : ℕ) → Allows Law slots id (giver terms handed, held) 0 f then
   giver_step f then terms handed held go slots id s (inl e) _ at _ = absurd (cc (ap stage_of (not_new (giver terms handed) s id (new unset) 0 (some None) e at)))
   giver_step f then terms handed held go slots id s (inr (inl e)) _ at _ = absurd (cc (ap stage_of (not_new (giver terms handed) s id (open_desk unset) 0 none e at)))
-  giver_step f then terms handed held go slots id s (inr (inr r)) _ at _ =
+  giver_step f then terms handed held go slots id s (inr (inr (inr e))) _ at _ = absurd (not_at_end s e id (giver terms handed) (λ h. cc h) (λ h. cc h) (λ h. cc h) at)
+  giver_step f then terms handed held go slots id s (inr (inr (inl r))) _ at _ =
       elim (either_of (giver r.terms r.handed) (doer r.terms r.in_hand) (giver terms handed) id (ap (λ (d : Desk). get_elem? d.views id) (sym r.is) ∙ at)) as (λ _. Goes id (giver terms handed, held) f then s) [
         | inl z ↦
             let t : r.terms ≡ terms = ap (λ (v : Knows T S). v.terms) z.1 in
@@ -122,10 +154,24 @@ module _ {T S : Type 0} (unset : S) (ready : S → T → Type 0) (done : S → T
 
   doer_step : (f : ℕ → ℕ) (then : ℕ → Seated T S → Type 0) (terms : S) (in_hand : Option T) (held : List (ℕ × Option T))
       → ((word : ℕ) (home : Home (Option T)) (handed : Option T) → Stand terms word home handed in_hand → Goes 1 (doer terms in_hand, held) f then (desk word home (sides terms handed in_hand)))
+      → (None ≡ in_hand → Goes 1 (doer terms in_hand, held) f then (desk 2 none (told terms ∷ doer terms in_hand ∷ [])))
       → (slots id : ℕ) → Allows Law slots id (doer terms in_hand, held) 0 f then
-  doer_step f then terms in_hand held go slots id s (inl e) _ at _ = absurd (cc (ap stage_of (not_new (doer terms in_hand) s id (new unset) 0 (some None) e at)))
-  doer_step f then terms in_hand held go slots id s (inr (inl e)) _ at _ = absurd (cc (ap stage_of (not_new (doer terms in_hand) s id (open_desk unset) 0 none e at)))
-  doer_step f then terms in_hand held go slots id s (inr (inr r)) _ at _ =
+  doer_step f then terms in_hand held go last slots id s (inl e) _ at _ = absurd (cc (ap stage_of (not_new (doer terms in_hand) s id (new unset) 0 (some None) e at)))
+  doer_step f then terms in_hand held go last slots id s (inr (inl e)) _ at _ = absurd (cc (ap stage_of (not_new (doer terms in_hand) s id (open_desk unset) 0 none e at)))
+  doer_step f then terms in_hand held go last slots id s (inr (inr (inr e))) _ at _ =
+      elim (at_end s e id (doer terms in_hand) at) as (λ _. Goes id (doer terms in_hand, held) f then s) [
+        | inl h ↦ absurd (cc h)
+        | inr r ↦ elim r as (λ _. Goes id (doer terms in_hand, held) f then s) [
+          | inl h ↦ absurd (cc h)
+          | inr z ↦
+              let t : e.terms ≡ terms = ap (λ (v : Knows T S). v.terms) (sym z.1) in
+              let h : None ≡ in_hand = ap (λ (v : Knows T S). v.work) (sym z.1) in
+              subst (λ (y : ℕ × Desk). Goes y.0 (doer terms in_hand, held) f then y.1)
+              (λ i. (sym z.0 i, (sym (z.2 ∙ (λ j. desk 2 none (told (t j) ∷ doer (t j) (h j) ∷ [])))) i))
+              (last h)
+        ]
+      ]
+  doer_step f then terms in_hand held go last slots id s (inr (inr (inl r))) _ at _ =
       elim (either_of (giver r.terms r.handed) (doer r.terms r.in_hand) (doer terms in_hand) id (ap (λ (d : Desk). get_elem? d.views id) (sym r.is) ∙ at)) as (λ _. Goes id (doer terms in_hand, held) f then s) [
         | inl z ↦ absurd (cc (ap stage_of z.1))
         | inr z ↦
@@ -142,8 +188,8 @@ module _ {T S : Type 0} (unset : S) (ready : S → T → Type 0) (done : S → T
   hand_goes terms t may word home (Some u) st = absurd st
 
   end_goes : (terms : S) (held : List (ℕ × Option T)) (word : ℕ) (home : Home (Option T)) (in_hand : Option T) → Stand terms word home None in_hand
-      → Goes 0 (giver terms None, held) (λ _. 2) (λ _ m. m ≡ (giver terms None, held)) (desk word home (sides terms None in_hand))
-  end_goes terms held word home None st = (giver terms None, keeps, tt, runs terms 2 home None None (λ e. absurd (omega (arith, e)), st.1), refl)
+      → Goes 0 (giver terms None, held) (λ _. 2) (λ _ m. m ≡ (told terms, held)) (desk word home (sides terms None in_hand))
+  end_goes terms held word home None st = (told terms, keeps, tt, has_ended terms home (doer terms None) st.1 (inl refl), refl)
   end_goes terms held word home (Some u) st = absurd st
 
   give_goes : (terms : S) (t u : T) → done terms t u → (word : ℕ) (home : Home (Option T)) (handed : Option T) → Stand terms word home handed (Some t)
@@ -153,18 +199,21 @@ module _ {T S : Type 0} (unset : S) (ready : S → T → Type 0) (done : S → T
 
   look_goes : (terms : S) (word : ℕ) (home : Home (Option T)) (handed : Option T) → Stand terms word home handed None
       → Goes 1 (doer terms None, []) (λ n. n) (looks ready (step 1 0 0 0 none) (doer terms None, [])) (desk word home (sides terms handed None))
-  look_goes terms word home None st = (doer terms None, keeps, tt, runs terms word home None None st, (λ e. absurd (st.0 e), λ _. refl))
+  look_goes terms word home None st = (doer terms None, keeps, tt, runs terms word home None None st, (λ e. absurd (omega (arith, e, st.0)), λ e. absurd (omega (arith, e, st.0)), λ _ _. refl))
   look_goes terms word home (Some t) (inl st) =
-      (doer terms (Some t), takes 0 (Some t), ap some st.1, runs terms word none (Some t) (Some t) (st.0, refl, refl), (λ _. (t, st.2, refl), λ n. absurd (n st.0)))
+      (doer terms (Some t), takes 0 (Some t), ap some st.1, runs terms word none (Some t) (Some t) (st.0, refl, refl), (λ _. (t, st.2, refl), λ e. absurd (omega (arith, e, st.0)), λ n _. absurd (n st.0)))
   look_goes terms word home (Some t) (inr st) =
-      (doer terms None, keeps, tt, runs terms word home (Some t) None (inr st), (λ e. absurd (omega (arith, e, st.0)), λ _. refl))
+      (doer terms None, keeps, tt, runs terms word home (Some t) None (inr st), (λ e. absurd (omega (arith, e, st.0)), λ e. absurd (omega (arith, e, st.0)), λ _ _. refl))
+
+  look_last : (terms : S) → Goes 1 (doer terms None, []) (λ n. n) (looks ready (step 1 0 0 0 none) (doer terms None, [])) (desk 2 none (told terms ∷ doer terms None ∷ []))
+  look_last terms = (dismissed terms, keeps, tt, has_ended terms none (dismissed terms) refl (inr refl), (λ e. absurd (omega (arith, e)), λ _. refl, λ _ n. absurd (n refl)))
 
   await_goes : (terms : S) (t : T) (word : ℕ) (home : Home (Option T)) (in_hand : Option T) → Stand terms word home (Some t) in_hand
       → Goes 0 (giver terms (Some t), []) (λ n. n) (awaits done (step 1 0 0 0 none) (giver terms (Some t), [])) (desk word home (sides terms (Some t) in_hand))
   await_goes terms t word home (Some u) st = (giver terms (Some t), keeps, tt, runs terms word home (Some t) (Some u) st, (λ e. absurd (omega (arith, e, st.0)), λ _. refl))
   await_goes terms t word home None (inl st) = (giver terms (Some t), keeps, tt, runs terms word home (Some t) None (inl st), (λ e. absurd (omega (arith, e, st.0)), λ _. refl))
   await_goes terms t word home None (inr st) =
-      (giver terms None, takes 0 (Some st.1.0), ap some st.1.1, runs terms word none None None (λ e. absurd (omega (arith, e, st.0)), refl), (λ _. (st.1.0, st.1.2, refl), λ n. absurd (n st.0)))
+      (giver terms None, takes 0 (Some st.1.0), ap some st.1.1, runs terms word none None None (st.0, refl), (λ _. (st.1.0, st.1.2, refl), λ n. absurd (n st.0)))
 
   -- the same steps, from what a caller knows of its seat
 
@@ -172,19 +221,19 @@ module _ {T S : Type 0} (unset : S) (ready : S → T → Type 0) (done : S → T
   hand_rule slots id me terms t e may = subst (λ (y : Seated T S). Allows Law slots id y 0 (λ _. 1) (λ _. hands (step slots 0 1 0 none) y 1)) (sym e)
       (giver_step (λ _. 1) (λ _ m. m ≡ (giver terms (Some t), [])) terms None ((0, Some t) ∷ []) (hand_goes terms t may) slots id)
 
-  pub end_rule : (slots id : ℕ) (me : Seated T S) (terms : S) (held : List (ℕ × Option T)) → me ≡ (giver terms None, held) → Allows Law slots id me 0 (λ _. 2) (λ _. stays (step slots 0 2 0 none) me 2)
-  end_rule slots id me terms held e = subst (λ (y : Seated T S). Allows Law slots id y 0 (λ _. 2) (λ _. stays (step slots 0 2 0 none) y 2)) (sym e)
-      (giver_step (λ _. 2) (λ _ m. m ≡ (giver terms None, held)) terms None held (end_goes terms held) slots id)
+  pub end_rule : (slots id : ℕ) (me : Seated T S) (terms : S) (held : List (ℕ × Option T)) → me ≡ (giver terms None, held) → Allows Law slots id me 0 (λ _. 2) (λ _. ends (step slots 0 2 0 none) me 2)
+  end_rule slots id me terms held e = subst (λ (y : Seated T S). Allows Law slots id y 0 (λ _. 2) (λ _. ends (step slots 0 2 0 none) y 2)) (sym e)
+      (giver_step (λ _. 2) (λ _ m. m ≡ (told terms, held)) terms None held (end_goes terms held) slots id)
 
   pub give_rule : (slots id : ℕ) (me : Seated T S) (terms : S) (work : Option T) (u : T) → me ≡ (doer terms work, (0, Some u) ∷ []) → work ≢ None → IfSome work (λ t. done terms t u)
       → Allows Law slots id me 0 (λ _. 0) (λ _. gives_back (step slots 0 0 0 none) me 0)
   give_rule slots id me terms None u e n did = absurd (n refl)
   give_rule slots id me terms (Some t) u e n did = subst (λ (y : Seated T S). Allows Law slots id y 0 (λ _. 0) (λ _. gives_back (step slots 0 0 0 none) y 0)) (sym e)
-      (doer_step (λ _. 0) (λ _ m. m ≡ (doer terms None, [])) terms (Some t) ((0, Some u) ∷ []) (give_goes terms t u did) slots id)
+      (doer_step (λ _. 0) (λ _ m. m ≡ (doer terms None, [])) terms (Some t) ((0, Some u) ∷ []) (give_goes terms t u did) (λ e. absurd (cc e)) slots id)
 
   pub look_rule : (slots id : ℕ) (me : Seated T S) (terms : S) → me ≡ (doer terms None, []) → Allows Law slots id me 0 (λ n. n) (looks ready (step slots 0 0 0 none) me)
   look_rule slots id me terms e = subst (λ (y : Seated T S). Allows Law slots id y 0 (λ n. n) (looks ready (step slots 0 0 0 none) y)) (sym e)
-      (doer_step (λ n. n) (looks ready (step slots 0 0 0 none) (doer terms None, [])) terms None [] (look_goes terms) slots id)
+      (doer_step (λ n. n) (looks ready (step slots 0 0 0 none) (doer terms None, [])) terms None [] (look_goes terms) (λ _. look_last terms) slots id)
 
   pub await_rule : (slots id : ℕ) (me : Seated T S) (terms : S) (work : Option T) → me ≡ (giver terms work, []) → work ≢ None → Allows Law slots id me 0 (λ n. n) (awaits done (step slots 0 0 0 none) me)
   await_rule slots id me terms None e n = absurd (n refl)
@@ -197,7 +246,8 @@ module _ {T S : Type 0} (unset : S) (ready : S → T → Type 0) (done : S → T
       subst (λ (y : ℕ × Desk). Goes y.0 (new unset, []) (λ n. n) (opens (step slots 0 0 0 none) (new unset, [])) y.1) (λ i. (sym here.0 i, sym e i))
       (open_desk unset, takes 0 None, refl, inr (inl refl), refl)
   open_step slots id s (inr (inl e)) _ at _ = absurd (cc (ap stage_of (not_new (new unset) s id (open_desk unset) 0 none e at)))
-  open_step slots id s (inr (inr r)) _ at _ =
+  open_step slots id s (inr (inr (inr e))) _ at _ = absurd (not_at_end s e id (new unset) (λ h. cc h) (λ h. cc h) (λ h. cc h) at)
+  open_step slots id s (inr (inr (inl r))) _ at _ =
       elim (either_of (giver r.terms r.handed) (doer r.terms r.in_hand) (new unset) id (ap (λ (d : Desk). get_elem? d.views id) (sym r.is) ∙ at)) as (λ _. Goes id (new unset, []) (λ n. n) (opens (step slots 0 0 0 none) (new unset, [])) s) [
         | inl z ↦ absurd (cc (ap stage_of z.1))
         | inr z ↦ absurd (cc (ap stage_of z.1))
@@ -215,10 +265,13 @@ module _ {T S : Type 0} (unset : S) (ready : S → T → Type 0) (done : S → T
         | inr law ↦ elim law as (λ _. After id s) [
           | inl e ↦
               let here = alone (open_desk unset) (open_desk unset) id (ap (λ (d : Desk). get_elem? d.views id) (sym e) ∙ at') in
-              subst (λ (y : ℕ × Desk). After y.0 y.1) (λ i. (sym here.0 i, sym e i)) (runs terms 0 none None None (λ e. absurd (omega (arith, e)), refl))
-          | inr r ↦ elim (either_of (giver r.terms r.handed) (doer r.terms r.in_hand) (open_desk unset) id (ap (λ (d : Desk). get_elem? d.views id) (sym r.is) ∙ at')) as (λ _. After id s) [
-            | inl z ↦ absurd (cc (ap stage_of z.1))
-            | inr z ↦ absurd (cc (ap stage_of z.1))
+              subst (λ (y : ℕ × Desk). After y.0 y.1) (λ i. (sym here.0 i, sym e i)) (runs terms 0 none None None (refl, refl))
+          | inr law ↦ elim law as (λ _. After id s) [
+            | inl r ↦ elim (either_of (giver r.terms r.handed) (doer r.terms r.in_hand) (open_desk unset) id (ap (λ (d : Desk). get_elem? d.views id) (sym r.is) ∙ at')) as (λ _. After id s) [
+              | inl z ↦ absurd (cc (ap stage_of z.1))
+              | inr z ↦ absurd (cc (ap stage_of z.1))
+            ]
+            | inr e ↦ absurd (not_at_end s e id (open_desk unset) (λ h. cc h) (λ h. cc h) (λ h. cc h) at')
           ]
         ]
       ]

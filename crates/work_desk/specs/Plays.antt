@@ -2,7 +2,7 @@
 use Rattle.std.specs.Prelude.{◌≡◌, ◌≢◌, ℕ, List, [], ◌∷◌, Option, Some, None, IfSome}
 use Rattle.atomic_table.specs.Table.{Me, Step}
 use Rattle.work_desk.specs.declared.rule.Knows.{Knows}
-use Rattle.work_desk.specs.Desk.{giver, doer, open_desk}
+use Rattle.work_desk.specs.Desk.{giver, told, doer, dismissed, open_desk}
 
 abbrev pub Seated : Type 0 → Type 0 → Type 0
 Seated T S = Me (Option T) (Knows T S)
@@ -24,12 +24,16 @@ module _ {T S : Type 0} where
   abbrev pub gives_back : Step (Option T) → Seated T S → ℕ → Seated T S → Type 0
   gives_back step me n now = now ≡ (doer me.0.terms None, [])
 
-  abbrev pub stays : Step (Option T) → Seated T S → ℕ → Seated T S → Type 0
-  stays step me n now = now ≡ me
+  -- the end was told
+  abbrev pub ends : Step (Option T) → Seated T S → ℕ → Seated T S → Type 0
+  ends step me n now = now ≡ (told me.0.terms, me.1)
 
-  -- work that may be handed was found and taken with the slot, or nothing happened
+  -- work that may be handed was found and taken with the slot, or the end was found, or nothing happened
   abbrev pub looks : (S → T → Type 0) → Step (Option T) → Seated T S → ℕ → Seated T S → Type 0
-  looks ready step me n now = (n ≡ 1 → (t : T) × ready me.0.terms t × (now ≡ (doer me.0.terms (Some t), (0, Some t) ∷ []))) × (n ≢ 1 → now ≡ me)
+  looks ready step me n now =
+      (n ≡ 1 → (t : T) × ready me.0.terms t × (now ≡ (doer me.0.terms (Some t), (0, Some t) ∷ [])))
+      × (n ≡ 2 → now ≡ (dismissed me.0.terms, me.1))
+      × (n ≢ 1 → n ≢ 2 → now ≡ me)
 
   -- what was done to the work that was handed was taken with the slot, or nothing happened
   abbrev pub awaits : (S → T → T → Type 0) → Step (Option T) → Seated T S → ℕ → Seated T S → Type 0

@@ -1,11 +1,15 @@
 -- What is handed over at a row of desks, and what is taken back.
-use Rattle.std.specs.Prelude.{◌≡◌, ◌≢◌, List, [], ◌∷◌, Some, None, IfSome, ⊤}
+use Rattle.std.specs.Prelude.{◌≡◌, ◌≢◌, List, map, [], ◌∷◌, Some, None, IfSome, ⊤}
 use Rattle.work_desk.specs.declared.rule.Knows.{Knows}
-use Rattle.work_desk.specs.Desk.{giver}
+use Rattle.work_desk.specs.Desk.{giver, told}
 
 module _ {T S : Type 0} where
   abbrev pub free_again : Knows T S → Knows T S
   free_again g = giver g.terms None
+
+  -- the end was told at each desk
+  abbrev pub all_told : List (Knows T S) → List (Knows T S)
+  all_told gs = map (λ g. told g.terms) gs
 
   -- each desk that has work's place has that work
   abbrev pub handed : List T → List (Knows T S) → List (Knows T S)
@@ -21,7 +25,7 @@ module _ {T S : Type 0} where
   abbrev pub MayHand : (S → T → Type 0) → List T → List (Knows T S) → Type 0
   MayHand ready [] gs = ⊤
   MayHand ready (w ∷ ws) [] = ⊥
-  MayHand ready (w ∷ ws) (g ∷ gs) = (g.work ≡ None) × ready g.terms w × MayHand ready ws gs
+  MayHand ready (w ∷ ws) (g ∷ gs) = (g ≡ giver g.terms None) × ready g.terms w × MayHand ready ws gs
 
   -- what came back from each desk was done to what had been handed there
   abbrev pub Returned : (S → T → T → Type 0) → List (Knows T S) → List T → Type 0

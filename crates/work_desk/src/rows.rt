@@ -1,7 +1,7 @@
 //! Rows of desks: work is handed over, each at the desk of its place, and taken back.
 ghost use Rattle.std.specs.Prelude.{◌≡◌, ◌≤◌, [], None, All, IfOk, map, replicate, length, vec_capacity};
 ghost use Rattle.work_desk.specs.Desk.{giver, doer};
-ghost use Rattle.work_desk.specs.Rows.{MayHand, handed, AllHanded, Returned, free_again};
+ghost use Rattle.work_desk.specs.Rows.{MayHand, handed, AllHanded, Returned, free_again, all_told};
 
 use crate::rule::{Terms, Work};
 use crate::sides::{Doer, Giver, make_desk};
@@ -62,10 +62,11 @@ pub fn take_all_back<T: Work<S>, S, R: Wait>(
 
 /// Tells each other side that there is no more work.
 pub fn end_all<T: Work<S>, S>(givers: &mut Vec<Giver<T, S>>)
-    requires { All (λ g. g.work ≡ None) givers.old.items }
+    requires { All (λ g. g ≡ giver g.terms None) givers.old.items }
+    ensures { givers.new.items ≡ all_told givers.old.items }
 {
-    while let Some(giver) = givers.pop() {
-        let mut giver = giver;
+    for desk in 0..givers.len() {
+        let giver = &mut givers[desk];
         giver.end();
     }
 }

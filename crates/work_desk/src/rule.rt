@@ -22,8 +22,12 @@ pub enum Stage {
     Open,
     /// Of who hands work over.
     Gives,
+    /// Of who handed work over, and has told that there is no more.
+    Told,
     /// Of who does the work.
     Does,
+    /// Of who did the work, and has found that there is no more.
+    Dismissed,
 }
 
 /// What a seat knows: what it handed and has not taken back, or what it has in hand. No value of it is made.
@@ -107,7 +111,7 @@ impl<S, T: Work<S>> Play<Option<T>, Knows<T, S>> for Awaits {
 pub(crate) struct Ends;
 
 impl<T, S> Play<Option<T>, Knows<T, S>> for Ends {
-    ghost use Rattle.work_desk.specs.Plays.{stays};
+    ghost use Rattle.work_desk.specs.Plays.{ends};
 
-    ghost then = { stays };
+    ghost then = { ends };
 }

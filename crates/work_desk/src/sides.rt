@@ -1,6 +1,6 @@
 //! The two sides of a desk: one hands work over and takes it back, the other does it.
 ghost use Rattle.std.specs.Prelude.{◌≡◌, ◌≢◌, Some, None, IfOk, IfSome, IsNone};
-ghost use Rattle.work_desk.specs.Desk.{giver, doer};
+ghost use Rattle.work_desk.specs.Desk.{giver, told, doer, dismissed};
 
 use crate::rule::{Awaits, Ends, GivesBack, Hands, Knows, Law, Looks, Opens, Settles, Terms, Work};
 use atomic_table::{Seat, Table};
@@ -26,15 +26,15 @@ impl<T: Work<S>, S> Model for Giver<T, S> {
     ghost use Rattle.std.specs.Prelude.{◌≡◌, true, is_none};
     ghost use Rattle.std.specs.Arc.{arc_value};
     ghost use Rattle.work_desk.specs.declared.rule.Knows.{Knows};
-    ghost use Rattle.work_desk.specs.declared.rule.Stage.TheVariants.{Gives};
-    ghost use Rattle.work_desk.specs.Desk.{has_slot, IsAtDesk};
+    ghost use Rattle.work_desk.specs.declared.rule.Stage.TheVariants.{Gives, Told};
+    ghost use Rattle.work_desk.specs.Desk.{has_slot, IsAtDesk, IsSide};
 
     ghost Value = { Knows T S };
 
     ghost view = { λ g. g.seat.me.0 };
 
     ghost invariant = { λ g. IsAtDesk (arc_value g.table).shared.table_id g.seat.table_id
-        × (g.seat.me.0.stage ≡ Gives) × (has_slot (is_none g.seat.me.0.work) g.seat.me.1 ≡ true) };
+        × IsSide Gives Told g.seat.me.0 × (has_slot (is_none g.seat.me.0.work) g.seat.me.1 ≡ true) };
 }
 
 /// The side that does the work. Contracts see the terms, and what is in hand.
@@ -48,15 +48,15 @@ impl<T: Work<S>, S> Model for Doer<T, S> {
     ghost use Rattle.std.specs.Prelude.{◌≡◌, true, is_some};
     ghost use Rattle.std.specs.Arc.{arc_value};
     ghost use Rattle.work_desk.specs.declared.rule.Knows.{Knows};
-    ghost use Rattle.work_desk.specs.declared.rule.Stage.TheVariants.{Does};
-    ghost use Rattle.work_desk.specs.Desk.{has_slot, IsAtDesk};
+    ghost use Rattle.work_desk.specs.declared.rule.Stage.TheVariants.{Does, Dismissed};
+    ghost use Rattle.work_desk.specs.Desk.{has_slot, IsAtDesk, IsSide};
 
     ghost Value = { Knows T S };
 
     ghost view = { λ d. d.seat.me.0 };
 
     ghost invariant = { λ d. IsAtDesk (arc_value d.table).shared.table_id d.seat.table_id
-        × (d.seat.me.0.stage ≡ Does) × (has_slot (is_some d.seat.me.0.work) d.seat.me.1 ≡ true) };
+        × IsSide Does Dismissed d.seat.me.0 × (has_slot (is_some d.seat.me.0.work) d.seat.me.1 ≡ true) };
 }
 
 /// A desk with nothing on it, on the terms of J.
@@ -88,7 +88,7 @@ pub fn make_desk<J: Terms<S>, S, T: Work<S>>(
 impl<T: Work<S>, S> Giver<T, S> {
     /// Hands the work over.
     pub fn hand(&mut self, work: T)
-        requires idle { self.old.work ≡ None }
+        requires free { self.old ≡ giver self.old.terms None }
         requires ready { T.ready self.old.terms work }
         ensures { self.new ≡ giver self.old.terms (Some work) }
     {
@@ -118,8 +118,8 @@ impl<T: Work<S>, S> Giver<T, S> {
 
     /// Tells the other side that there is no more work.
     pub fn end(&mut self)
-        requires { self.old.work ≡ None }
-        ensures { self.new ≡ self.old }
+        requires { self.old ≡ giver self.old.terms None }
+        ensures { self.new ≡ told self.old.terms }
     {
         self.table.shared.store::<Ends>(&mut self.seat, 0, END);
         self.table.shared.wake_one(0);
@@ -127,12 +127,12 @@ impl<T: Work<S>, S> Giver<T, S> {
 }
 
 impl<T: Work<S>, S> Doer<T, S> {
-    /// Waits for work. None says that there is no more.
+    /// Waits for work. None comes only where the other side told that there is no more.
     pub fn take<R: Wait>(&mut self, rt: &R) -> Option<T>
-        requires { self.old.work ≡ None }
+        requires { self.old ≡ doer self.old.terms None }
         ensures some { IfSome result (λ work. self.new ≡ doer self.old.terms (Some work)) }
         ensures ready { IfSome result (λ work. T.ready self.old.terms work) }
-        ensures none { IsNone result → self.new ≡ doer self.old.terms None }
+        ensures none { IsNone result → self.new ≡ dismissed self.old.terms }
     {
         for _ in rt.forever() {
             let found = self.table.shared.load::<Looks>(&mut self.seat, 0);

@@ -27,7 +27,7 @@ module _ (g : Over) (c : After-seek-sought g) where
 
 pub overflow_add-stamp : goal.overflow_add-stamp
 overflow_add-stamp g c =
-    let small = stamp_limit (g.W.OwnerWords.owner c.args.words.now) (kept g (goal.at.overflow_add-stamp g c).After-seek-sought) c.seek-sought.result.stamp c.seek-sought.ensures.sought.stamp in
+    let small = stamp_limit (g.W.OwnerWords.owner c.args.words.now) (kept g (goal.at.overflow_add-stamp g c).After-seek-sought) c.requires.may c.seek-sought.result.stamp c.seek-sought.ensures.sought.stamp in
     omega arith
 
 pub begin-requires-clause-taken : goal.begin-requires-clause-taken

@@ -84,7 +84,7 @@ pub overflow_add-stamp : goal.overflow_add-stamp
 overflow_add-stamp g c =
     let z = goal.at.overflow_add-stamp g c in
     let i = its g z.Start in
-    let small = stamp_limit (g.W.OwnerWords.owner c.args.words.now) c.requires.kept c.args.sought.now.stamp c.requires.sought.stamp in
+    let small = stamp_limit (g.W.OwnerWords.owner c.args.words.now) c.requires.kept c.requires.may c.args.sought.now.stamp c.requires.sought.stamp in
     omega (arith, small, item_size-most c.args.key.now i.r.value i.item.key_fits i.item.value_fits, c.from.ensures, c.size_at-size.ensures.size c.args.key.now (cell_at i.r).0 i.item)
 
 pub begin-requires-clause-taken : goal.begin-requires-clause-taken

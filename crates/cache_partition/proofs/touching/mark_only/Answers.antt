@@ -33,7 +33,7 @@ closes g c lacks stamp = untouched (g.W.OwnerWords.owner c.args.words.now) c.req
 
 pub overflow_add-stamp : goal.overflow_add-stamp
 overflow_add-stamp g c =
-    let small = stamp_limit (g.W.OwnerWords.owner c.args.words.now) c.requires.kept c.args.sought.now.stamp c.requires.sought.stamp in
+    let small = stamp_limit (g.W.OwnerWords.owner c.args.words.now) c.requires.kept c.requires.may c.args.sought.now.stamp c.requires.sought.stamp in
     omega arith
 
 pub begin-requires-clause-taken : goal.begin-requires-clause-taken

@@ -13,7 +13,7 @@ returns-in_err-sought-clause-kept_offset g c =
 
 pub overflow_add-sought : goal.overflow_add-sought
 overflow_add-sought g c =
-    omega (arith, stamp_limit (g.W.OwnerWords.owner c.args.words.now) c.requires.kept c.args.sought.now.stamp c.requires.sought.stamp)
+    omega (arith, stamp_limit (g.W.OwnerWords.owner c.args.words.now) c.requires.kept c.requires.may c.args.sought.now.stamp c.requires.sought.stamp)
 
 pub returns-clause-kept_offset : goal.returns-clause-kept_offset
 returns-clause-kept_offset g c =

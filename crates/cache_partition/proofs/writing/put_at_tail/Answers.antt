@@ -7,7 +7,7 @@ use Rattle.cache_partition.proofs.writing.put_at_tail.Goals.{After-append_hashed
 
 pub overflow_add-stamp : goal.overflow_add-stamp
 overflow_add-stamp g c =
-    let small = stamp_limit (g.W.OwnerWords.owner c.args.words.now) c.requires.kept c.args.sought.now.stamp c.requires.sought.stamp in
+    let small = stamp_limit (g.W.OwnerWords.owner c.args.words.now) c.requires.kept c.requires.may c.args.sought.now.stamp c.requires.sought.stamp in
     omega (arith, small, item_size-most c.args.key.now c.args.value.now c.requires.write.key c.requires.value)
 
 module _ (g : Over) (c : After-from g) where

@@ -26,7 +26,7 @@ closes g c steps = steps.closes _
 
 pub overflow_add-stamp : goal.overflow_add-stamp
 overflow_add-stamp g c =
-    omega (arith, stamp_limit (g.W.OwnerWords.owner c.args.words.now) c.requires.kept c.args.sought.now.stamp c.requires.sought.stamp)
+    omega (arith, stamp_limit (g.W.OwnerWords.owner c.args.words.now) c.requires.kept c.requires.may c.args.sought.now.stamp c.requires.sought.stamp)
 
 pub begin-requires-clause-stamp : goal.begin-requires-clause-stamp
 begin-requires-clause-stamp g c = stamp g (goal.at.begin-requires-clause-stamp g c).Start

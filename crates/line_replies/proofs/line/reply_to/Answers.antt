@@ -11,6 +11,6 @@ returns-in-Some-clause-ok g c =
     let line = c.args.line.now in
     let does = c.in-Some.op in
     let printed = c.write.result in
-    let key = subst (λ (k : List ℕ). IsWriteReply old new (write_of does k c.bytes-given.result.now) printed) c.bytes-key.ensures c.write.ensures in
+    let key = subst (λ (k : List ℕ). IsWriteReply old new (write_of does k c.bytes-given.result.now) printed) c.bytes-key.ensures c.write.ensures.reply in
     let value = subst (λ (v : List ℕ). IsWriteReply old new (write_of does line.key v) printed) c.bytes-given.ensures key in
     replied_write old new line does (sym c.write_op.ensures ∙ c.in-Some.is) printed value

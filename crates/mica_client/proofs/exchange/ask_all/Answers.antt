@@ -20,6 +20,7 @@ loop-group-init g c =
       asks = subst (λ (rest : List Group). OnTalk (Passes (SoFar (numbered 0 groups) (numbered 0 rest) old old)) (g.L.Link.talk c.args.link.now) (g.L.Link.talk c.args.link.now)) all
           (so_far_none (numbered 0 groups) old (g.L.Link.talk c.args.link.now));
       ended = refl;
+      silence = refl;
       faults = omega arith;
     }
 
@@ -58,6 +59,7 @@ loop-group-preserved g c =
       going = going_more groups rest c.in-Some.group number old mid new going (subst (λ (b : Batch). KeepsAnswers b.requests mid new) batch e.keeps) answered;
       asks = so_far_more (numbered 0 groups) (numbered (number + 1) rest) (ask_of number c.in-Some.group) old mid new _ _ _ before asks answered;
       ended = e.ended ∙ i.ended;
+      silence = e.silence ∙ i.silence;
       faults = omega (arith, i.faults, e.never_fall);
     }
 

@@ -15,6 +15,7 @@ receiving-preserved g c =
       tickets = same_tickets (sym e.keeps.len) i.tickets;
       room = omega (arith, i.room, c.receive_one.auto.room);
       ended = e.ended ∙ i.ended;
+      silence = e.silence ∙ i.silence;
       faults = omega (arith, i.faults, e.never_fall);
     }
 

@@ -12,6 +12,7 @@ invariant-receiving g l = record {
   tickets : HasTickets (length l.answers) l.batch.requests;
   room : length l.room ≡ ROOM;
   ended : g.L.Link.has_ended l.link ≡ g.L.Link.has_ended l.fn.link;
+  silence : g.L.Link.silence l.link ≡ g.L.Link.silence l.fn.link;
   faults : g.L.Link.faults l.fn.link ≤ g.L.Link.faults l.link;
 }
 

@@ -1,9 +1,14 @@
 use Rattle.std.proofs.Common.{Err, inl, inr, codes, refl, ap, arith}
 use Rattle.std.proofs.KnownBytes.{Keeps-refl}
 use Rattle.mica_cmd.specs.declared.status.Status.TheVariants.{TraceLong, ReadFault}
+use Rattle.mica_cmd.specs.Outside.{SourceFacts, source_facts}
 use Rattle.mica_cmd.specs.Input.{with_line_feed}
 use Rattle.mica_cmd.proofs.Ending.{long_source}
+use Rattle.mica_cmd.proofs.input.read_source.Given as given
 use Rattle.mica_cmd.proofs.input.read_source.Goals as goal
+
+abbrev facts : (g : given.Over) → g.row.S.Denot → SourceFacts
+facts g = source_facts g.S.Source.left g.S.Source.given g.S.Source.has_ended g.S.Source.faults
 
 pub returns-in-Ok : goal.returns-in-Ok
 returns-in-Ok g c =
@@ -32,7 +37,7 @@ returns-in-Err-Long g c =
     record {
       all = tt;
       unwritten = tt;
-      stopped = inr (TraceLong, with_line_feed (codes "trace too long"), (long_source _ _ (read.long (ap Err c.in-Err-Long.field-0-is)), refl), c.write_due-in-Err-Long.ensures);
+      stopped = inr (TraceLong, with_line_feed (codes "trace too long"), (long_source (facts g c.args.source.now) (facts g c.read_up_to.new.source) (read.long (ap Err c.in-Err-Long.field-0-is)), refl), c.write_due-in-Err-Long.ensures);
       reads = read.took;
     }
 

@@ -19,27 +19,27 @@ line_at g speaker = string_bytes speaker.line
 
 pub returns-in-Ok : goal.returns-in-Ok
 returns-in-Ok g c =
-    serves c.args.options.now c.args.ports.now (Ok c.in-Ok.totals) c.args.filling.items _ _ (sink_at g c.serve_filled.new.announce) _ c.in-Ok.ensures.cause
-    (announced_by (line_at g) (sink_at g) _ c.args.speaker.now c.serve_filled.new.announce c.requires.line (Ok c.in-Ok.totals) (net_at g c.args.net.now) (net_at g c.serve_filled.new.net) c.in-Ok.ensures.announced)
+    serves c.args.options.now c.args.ports.now (Ok c.in-Ok.totals) c.args.filling.items _ _ (sink_at g c.serve_locked.new.announce) _ c.in-Ok.ensures.cause
+    (announced_by (line_at g) (sink_at g) _ c.args.speaker.now c.serve_locked.new.announce c.requires.line (Ok c.in-Ok.totals) (net_at g c.args.net.now) (net_at g c.serve_locked.new.net) c.in-Ok.ensures.announced)
     c.in-Ok.ensures.kept c.print_totals.ensures
 
 pub returns-in-Err-Fault : goal.returns-in-Err-Fault
 returns-in-Err-Fault g c =
     let stop = c.in-Err-Fault.field-0 in
-    serves c.args.options.now c.args.ports.now (Err stop) c.args.filling.items _ _ (sink_at g c.serve_filled.new.announce) _ c.in-Err-Fault.ensures.cause
-    (announced_by (line_at g) (sink_at g) _ c.args.speaker.now c.serve_filled.new.announce c.requires.line (Err stop) (net_at g c.args.net.now) (net_at g c.serve_filled.new.net) c.in-Err-Fault.ensures.announced)
-    c.in-Err-Fault.ensures.kept (written_last stop (Fault c.in-Err-Fault.fault) (sink_at g c.serve_filled.new.announce) _ _ c.in-Err-Fault.field-0-is (rw c.in-Err-Fault.field-0-is at c.write_fault.ensures))
+    serves c.args.options.now c.args.ports.now (Err stop) c.args.filling.items _ _ (sink_at g c.serve_locked.new.announce) _ c.in-Err-Fault.ensures.cause
+    (announced_by (line_at g) (sink_at g) _ c.args.speaker.now c.serve_locked.new.announce c.requires.line (Err stop) (net_at g c.args.net.now) (net_at g c.serve_locked.new.net) c.in-Err-Fault.ensures.announced)
+    c.in-Err-Fault.ensures.kept (written_last stop (Fault c.in-Err-Fault.fault) (sink_at g c.serve_locked.new.announce) _ _ c.in-Err-Fault.field-0-is (rw c.in-Err-Fault.field-0-is at c.write_fault.ensures))
 
 pub returns-in-Err-Unannounced : goal.returns-in-Err-Unannounced
 returns-in-Err-Unannounced g c =
     let stop = c.in-Err-Unannounced.field-0 in
-    serves c.args.options.now c.args.ports.now (Err stop) c.args.filling.items _ _ (sink_at g c.serve_filled.new.announce) _ c.in-Err-Unannounced.ensures.cause
-    (announced_by (line_at g) (sink_at g) _ c.args.speaker.now c.serve_filled.new.announce c.requires.line (Err stop) (net_at g c.args.net.now) (net_at g c.serve_filled.new.net) c.in-Err-Unannounced.ensures.announced)
-    c.in-Err-Unannounced.ensures.kept (written_last stop (Unannounced) (sink_at g c.serve_filled.new.announce) _ _ c.in-Err-Unannounced.field-0-is (refl, refl))
+    serves c.args.options.now c.args.ports.now (Err stop) c.args.filling.items _ _ (sink_at g c.serve_locked.new.announce) _ c.in-Err-Unannounced.ensures.cause
+    (announced_by (line_at g) (sink_at g) _ c.args.speaker.now c.serve_locked.new.announce c.requires.line (Err stop) (net_at g c.args.net.now) (net_at g c.serve_locked.new.net) c.in-Err-Unannounced.ensures.announced)
+    c.in-Err-Unannounced.ensures.kept (written_last stop (Unannounced) (sink_at g c.serve_locked.new.announce) _ _ c.in-Err-Unannounced.field-0-is (refl, refl))
 
 pub returns-in-Err-Refused : goal.returns-in-Err-Refused
 returns-in-Err-Refused g c =
     let stop = c.in-Err-Refused.field-0 in
-    serves c.args.options.now c.args.ports.now (Err stop) c.args.filling.items _ _ (sink_at g c.serve_filled.new.announce) _ c.in-Err-Refused.ensures.cause
-    (announced_by (line_at g) (sink_at g) _ c.args.speaker.now c.serve_filled.new.announce c.requires.line (Err stop) (net_at g c.args.net.now) (net_at g c.serve_filled.new.net) c.in-Err-Refused.ensures.announced)
-    c.in-Err-Refused.ensures.kept (written_last stop Refused (sink_at g c.serve_filled.new.announce) _ _ c.in-Err-Refused.field-0-is c.write_due.ensures)
+    serves c.args.options.now c.args.ports.now (Err stop) c.args.filling.items _ _ (sink_at g c.serve_locked.new.announce) _ c.in-Err-Refused.ensures.cause
+    (announced_by (line_at g) (sink_at g) _ c.args.speaker.now c.serve_locked.new.announce c.requires.line (Err stop) (net_at g c.args.net.now) (net_at g c.serve_locked.new.net) c.in-Err-Refused.ensures.announced)
+    c.in-Err-Refused.ensures.kept (written_last stop Refused (sink_at g c.serve_locked.new.announce) _ _ c.in-Err-Refused.field-0-is c.write_due.ensures)

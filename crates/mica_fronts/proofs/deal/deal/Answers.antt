@@ -1,7 +1,7 @@
 use Rattle.std.proofs.Common.{[], sym}
 use Rattle.std.proofs.lemmas.Bool.{true≢false}
 use Rattle.std.proofs.lemmas.Result.{IfOk-weaker}
-use Rattle.mica_fronts.proofs.Replying.{refuses}
+use Rattle.mica_fronts.proofs.Replying.{err_anyway, refuses, none_dealt}
 use Rattle.mica_fronts.proofs.deal.deal.Goals as goal
 
 pub returns-in-Err-clause-dealt : goal.returns-in-Err-clause-dealt
@@ -14,3 +14,7 @@ returns-in-Err-clause-dealt g c =
           (λ batch spelled. true≢false (sym (c.in-Err.ensures.only batch spelled))) made.1,
     ))
     c.refuse.ensures
+
+pub returns-in-Err-clause-partly : goal.returns-in-Err-clause-partly
+returns-in-Err-clause-partly g c =
+    err_anyway c.refuse.result (none_dealt (g.F.Front.options c.args.front.now) g.F.Front.is_alone (g.F.Front.sessions c.args.front.now) (g.F.Front.left c.args.front.now) c.args.from.now)

@@ -14,6 +14,7 @@ loop-number-init g c =
       unread = c.requires.some.1.version_is;
       few = omega arith;
       options = search rules;
+      number = search rules;
       stands = search rules;
     }
 
@@ -46,6 +47,7 @@ loop-number-preserved g c =
       unread = c.next_request-request.ensures.version ∙ inv.unread;
       few = omega (arith, small, inv.few, few);
       options = c.reply_to.ensures.options ∙ inv.options;
+      number = c.reply_to.ensures.number ∙ inv.number;
       stands = c.reply_to.ensures.stands ∙ inv.stands;
     }
 

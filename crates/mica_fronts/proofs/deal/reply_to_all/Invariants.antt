@@ -13,5 +13,6 @@ invariant-loop-number g l = record {
   unread : l.requests.version ≡ l.version;
   few : g.F.Front.left l.initial.front ≤ g.F.Front.left l.front + l.number;
   options : g.F.Front.options l.front ≡ g.F.Front.options l.initial.front;
+  number : g.F.Front.number l.front ≡ g.F.Front.number l.initial.front;
   stands : g.F.Front.stands l.front ≡ g.F.Front.stands l.initial.front;
 }

@@ -69,6 +69,7 @@ loop-preserved g c =
       search rules,
       c.serve_one.ensures.script ∙ inv.10,
       c.serve_one.ensures.port ∙ inv.11,
+      c.serve_one.ensures.number ∙ inv.12,
     )
   where
     one_at_most : (n : ℕ) → cond (eqb n 0) 1 0 ≤ 1

@@ -18,3 +18,4 @@ invariant-loop g l =
     × (is_some (g.D.Datagrams.script l.initial.end) ≡ true → g.D.Datagrams.faults l.end ≡ g.D.Datagrams.faults l.initial.end)
     × (is_some (g.D.Datagrams.script l.end) ≡ is_some (g.D.Datagrams.script l.initial.end))
     × (g.D.Datagrams.port l.end ≡ g.D.Datagrams.port l.initial.end)
+    × (g.F.Front.number l.front ≡ g.F.Front.number l.initial.front)

@@ -22,4 +22,4 @@ loop-filled-preserved g c =
     let before = c.loop-filled.invariant in
     let items = with_items_is c.make_room.new.bytes c.read_after.new.bytes (search (rules, places)) in
     let consumed = Consumes-after _ _ _ _ _ _ _ _ _ made.front c.deref_mut.ensures.value read.front before.2 read.given in
-    (search (rules, places), made.within, rw items consumed, search rules, search rules)
+    (search (rules, places), made.within, rw items consumed, search rules, search rules, search rules)

@@ -1,10 +1,10 @@
-use Rattle.std.proofs.Common.{None, IfSome, sym, ap, ◌∙◌, subst}
+use Rattle.std.proofs.Common.{◌≡◌, None, IfSome, refl, sym, ap, ◌∙◌, subst}
 use Rattle.work_desk.specs.Desk.{doer}
 use Rattle.mica_replay.specs.Workers.{OwnerFed}
 use Rattle.mica_replay.proofs.crew.work_as_owner.Goals as goal
 
 pub take-requires : goal.take-requires
-take-requires g c = ap (λ k. k.work) c.loop.invariant
+take-requires g c = subst (λ k. k ≡ doer k.terms None) (sym c.loop.invariant) refl
 
 pub give_back-requires-clause-taken : goal.give_back-requires-clause-taken
 give_back-requires-clause-taken g c = λ e. absurd (cc (e, ap (λ k. k.work) c.in-Some-take.ensures.some))

@@ -1,11 +1,11 @@
-use Rattle.std.proofs.Common.{None, IfSome, sym, ap, ◌∙◌, subst}
+use Rattle.std.proofs.Common.{◌≡◌, None, IfSome, refl, sym, ap, ◌∙◌, subst}
 use Rattle.partition_table.specs.Seats.{reader_state, reader_home}
 use Rattle.work_desk.specs.Desk.{doer}
 use Rattle.mica_replay.specs.Workers.{IsReadyReader, ReaderRan}
 use Rattle.mica_replay.proofs.crew.work_as_reader.Goals as goal
 
 pub take-requires : goal.take-requires
-take-requires g c = ap (λ k. k.work) c.loop.invariant
+take-requires g c = subst (λ k. k ≡ doer k.terms None) (sym c.loop.invariant) refl
 
 pub run-requires-clause-ready : goal.run-requires-clause-ready
 run-requires-clause-ready g c κs within = subst (λ k. IsReadyReader reader_state k.terms.lines k.terms.options c.in-Some-take.work) c.loop.invariant c.in-Some-take.ensures.ready

@@ -91,7 +91,7 @@ returns-in_err-totals-clause-announced g c =
     let is = err_from_is_err_and c.from_residual-in_err-totals.result c.from_residual-in_err-totals.ensures.1 in
     subst (λ (r : Result Totals Stop). HasAnnounced (g.A.Announce.says c.args.ports.now) (g.A.Announce.fails c.args.ports.now) r (net_at g c.args.net.now) (net_at g c.bind_all.new.net) c.args.announce.now c.ready.new.self)
     (sym (is.1 ∙ ap Err is.2)) (fault_told c.in_err-totals.field-0.0 (g.A.Announce.says c.args.ports.now) (g.A.Announce.fails c.args.ports.now) (net_at g c.args.net.now) (net_at g c.bind_all.new.net)
-    c.args.announce.now c.ready.new.self c.in_ok-ready.ensures.said)
+    c.args.announce.now c.ready.new.self c.in_ok-bind_all.ensures.none_refused c.in_ok-ready.ensures.said)
 
 pub returns-clause-served : goal.returns-clause-served
 returns-clause-served g c =

@@ -11,8 +11,9 @@ use Rattle.mica_serve.specs.declared.stop.Stop.{Stop}
 use Rattle.mica_serve.specs.Filled.{begun_by, RefusesFilling}
 use Rattle.mica_serve.specs.NetRun.{NetFacts, BindsAndServes, IsCauseOfStop, HasAnnounced, net_facts}
 use Rattle.mica_serve.proofs.PortRuns.{kept_at}
-use Rattle.mica_serve.proofs.Whole.{out_until, tell_until, keeps, cause, net_kept, still_told, not_opened}
+use Rattle.mica_serve.proofs.Whole.{out_until, tell_until, keeps, cause, cause_filled, net_kept, still_told, not_opened}
 use Rattle.mica_serve.proofs.run.serve_on.Given as given
+use Rattle.mica_serve.proofs.run.serve_on.Goals.{After-bind_and_serve-answer}
 use Rattle.mica_serve.proofs.run.serve_on.Goals as goal
 
 abbrev facts : (g : given.Over) → g.row.N-End.Denot → EndFacts
@@ -40,23 +41,25 @@ release_all-requires-clause-tell g c _ _ =
     tell_until c.args.ports.now.port run.olds (map (facts g) c.bind_and_serve-answer.new.ends.items) (g.N.Net.ports c.args.net.now) (g.N.Net.ports c.bind_and_serve-answer.new.net) run.many run.keeps run.bound
 
 -- the run, with what the partitions begin with by the writes that filled them
+module _ (g : given.Over) (c : After-bind_and_serve-answer g) where
+  served : BindsAndServes c.args.options.now (begun_by c.args.options.now c.args.filling.items) c.args.ports.now c.bind_and_serve-answer.result c.bind_and_serve-answer.new.tables (net_at g c.args.net.now)
+      (net_at g c.bind_and_serve-answer.new.net) (map (facts g) c.bind_and_serve-answer.new.ends.items)
+  served =
+      subst (λ (b : ℕ → History). BindsAndServes c.args.options.now b c.args.ports.now c.bind_and_serve-answer.result c.bind_and_serve-answer.new.tables (net_at g c.args.net.now) (net_at g c.bind_and_serve-answer.new.net)
+      (map (facts g) c.bind_and_serve-answer.new.ends.items))
+      (c.in_ok-server.ensures.begun ∙ ap (begun_by c.args.options.now) c.as_slice.ensures.value) c.bind_and_serve-answer.ensures.served
+
 pub returns-clause-cause : goal.returns-clause-cause
 returns-clause-cause g c =
     let answer = c.bind_and_serve-answer.result in
-    let news = map (facts g) c.bind_and_serve-answer.new.ends.items in
-    cause c.args.options.now c.requires.options.partitions.0 c.args.filling.items c.args.ports.now c.bind_and_serve-answer.new.tables (net_at g c.args.net.now) (net_at g c.bind_and_serve-answer.new.net) (net_at g c.release_all.new.net)
-    news c.release_all.ensures answer
-    (subst (λ (b : ℕ → History). BindsAndServes c.args.options.now b c.args.ports.now answer c.bind_and_serve-answer.new.tables (net_at g c.args.net.now) (net_at g c.bind_and_serve-answer.new.net) news)
-    (c.in_ok-server.ensures.begun ∙ ap (begun_by c.args.options.now) c.as_slice.ensures.value) c.bind_and_serve-answer.ensures.served)
+    cause_filled c.args.options.now c.args.filling.items c.args.ports.now c.bind_and_serve-answer.new.tables (net_at g c.args.net.now) (net_at g c.release_all.new.net) answer
+    (cause c.args.options.now c.requires.options.partitions.0 (begun_by c.args.options.now c.args.filling.items) c.args.ports.now c.bind_and_serve-answer.new.tables (net_at g c.args.net.now) (net_at g c.bind_and_serve-answer.new.net)
+    (net_at g c.release_all.new.net) (map (facts g) c.bind_and_serve-answer.new.ends.items) c.release_all.ensures answer (served g (goal.at.returns-clause-cause g c).After-bind_and_serve-answer))
 
 pub returns-clause-kept : goal.returns-clause-kept
 returns-clause-kept g c =
-    let answer = c.bind_and_serve-answer.result in
-    let news = map (facts g) c.bind_and_serve-answer.new.ends.items in
-    keeps c.args.options.now c.requires.options.partitions.0 c.args.filling.items c.args.ports.now c.bind_and_serve-answer.new.tables (net_at g c.args.net.now) (net_at g c.bind_and_serve-answer.new.net) (net_at g c.release_all.new.net)
-    news c.release_all.ensures answer
-    (subst (λ (b : ℕ → History). BindsAndServes c.args.options.now b c.args.ports.now answer c.bind_and_serve-answer.new.tables (net_at g c.args.net.now) (net_at g c.bind_and_serve-answer.new.net) news)
-    (c.in_ok-server.ensures.begun ∙ ap (begun_by c.args.options.now) c.as_slice.ensures.value) c.bind_and_serve-answer.ensures.served)
+    keeps c.args.options.now c.requires.options.partitions.0 (begun_by c.args.options.now c.args.filling.items) c.args.ports.now c.bind_and_serve-answer.new.tables (net_at g c.args.net.now) (net_at g c.bind_and_serve-answer.new.net)
+    (net_at g c.release_all.new.net) (map (facts g) c.bind_and_serve-answer.new.ends.items) c.release_all.ensures c.bind_and_serve-answer.result (served g (goal.at.returns-clause-kept g c).After-bind_and_serve-answer)
 
 pub returns-clause-announced : goal.returns-clause-announced
 returns-clause-announced g c =

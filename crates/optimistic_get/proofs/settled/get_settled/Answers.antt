@@ -20,14 +20,14 @@ unreachable-requires c = cc (
     sym (ap is_again c.in-Again.is) ∙ never_again c.args.seat.now c.try_get.new.seat c.requires.settled c.try_get.result c.try_get.ensures.planned
     )
 
-pub returns-in-Hit : goal.returns-in-Hit
-returns-in-Hit c =
+pub returns-in-Hit-clause-played : goal.returns-in-Hit-clause-played
+returns-in-Hit-clause-played c =
     let plan : (book_of c.try_get.new.seat).plan ≡ (book_of c.args.seat.now).plan = let same = c.try_get.ensures.plan in cc in
     answers_played c.args.seat.now c.try_get.new.seat c.requires.settled c.try_get.result c.try_get.ensures.planned plan
     c.args.key.now c.try_get.new.out (Some c.try_get.new.out) c.in-Hit.stamp Hit refl c.in-Hit.ensures.tries
 
-pub returns-in-Miss : goal.returns-in-Miss
-returns-in-Miss c =
+pub returns-in-Miss-clause-played : goal.returns-in-Miss-clause-played
+returns-in-Miss-clause-played c =
     let plan : (book_of c.try_get.new.seat).plan ≡ (book_of c.args.seat.now).plan = let same = c.try_get.ensures.plan in cc in
     let tries = c.in-Miss.ensures.tries in
     answers_played c.args.seat.now c.try_get.new.seat c.requires.settled c.try_get.result c.try_get.ensures.planned plan

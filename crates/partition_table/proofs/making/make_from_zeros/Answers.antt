@@ -3,7 +3,7 @@ use Rattle.epoch_core.specs.declared.shape.Shape.{Shape}
 use Rattle.epoch_core.specs.Shape.{is_in_range}
 use Rattle.epoch_core.specs.Kept.{Kept}
 use Rattle.partition_table.specs.Rule.{Seated, owner_in}
-use Rattle.epoch_core.proofs.Shapes.{in_range_valid}
+use Rattle.epoch_core.proofs.Shapes.{in_range_possible}
 use Rattle.epoch_core.proofs.Made.{kept_as_made}
 use Rattle.partition_table.proofs.Steps.{starts}
 use Rattle.partition_table.proofs.making.make_from_zeros.Goals as goal
@@ -12,7 +12,7 @@ pub of_words-requires : goal.of_words-requires
 of_words-requires c = starts c.args.shape.now c.args.zeros.now c.requires.zeros c.requires.valid
 
 pub invariant_of-result-clause-valid : goal.invariant_of-result-clause-valid
-invariant_of-result-clause-valid c = subst (λ (z : Shape). is_in_range z ≡ true) (sym c.new-2.ensures) (in_range_valid c.args.shape.now c.requires.valid)
+invariant_of-result-clause-valid c = subst (λ (z : Shape). is_in_range z ≡ true) (sym c.new-2.ensures) (in_range_possible c.args.shape.now c.requires.valid)
 
 pub invariant_of-result-clause-kept : goal.invariant_of-result-clause-kept
 invariant_of-result-clause-kept c = ∣ subst (λ (z : Seated). Kept (owner_in z.0)) (sym c.in_ok-table.ensures.4) (kept_as_made c.args.shape.now c.requires.valid) ∣₁

@@ -27,7 +27,7 @@ image_of_keys-requires-clause-image c =
     let are = all_among IsKey (map now keys) (put_keys lines) (λ key has. sym (c.in_ok-keys.ensures.all key) ∙ has) (put_keys_are lines all) in
     let owners = map (λ p. (diary_of p.words).owner) c.reply_to_all.new.parts.items in
     let few : length (map now keys) < 2 ^ 32 = omega (arith, length-map keys now, c.in_ok-keys.ensures.few) in
-    rw c.as_slice.ensures.value (left_image options c.requires.valid c.args.trace.now c.in_ok-report.report owners c.in_ok-report.ensures c.lines-lines.ensures.lines (map now keys) are c.in_ok-keys.ensures.rise few)
+    rw c.as_slice.ensures.value (left_image options c.requires.valid c.args.trace.now c.in_ok-report.report owners c.in_ok-report.ensures.answered c.lines-lines.ensures.lines (map now keys) are c.in_ok-keys.ensures.rise few)
 
 pub returns : goal.returns
 returns c = search (rules, map, pairs_by, has_key, HasPairsOf, left_pairs, diary_of, value_at, put_keys)

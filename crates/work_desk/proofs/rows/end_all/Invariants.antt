@@ -1,9 +1,6 @@
-use Rattle.std.proofs.Common.{◌≡◌, None, All}
-use Rattle.std.specs.Prelude.{vec_len}
+use Rattle.std.proofs.Common.{◌≡◌}
+use Rattle.work_desk.proofs.RowSteps.{told_to}
 use Rattle.work_desk.proofs.rows.end_all.Given as goal
 
-abbrev pub invariant-loop-giver : goal.invariant-loop-giver
-invariant-loop-giver g l = All (λ g. g.work ≡ None) l.givers.items
-
-abbrev pub decreases-loop-giver : goal.decreases-loop-giver
-decreases-loop-giver g l = vec_len l.givers
+abbrev pub invariant-loop-desk : goal.invariant-loop-desk
+invariant-loop-desk g l = (l.givers.items ≡ told_to l.desk l.initial.givers.items)

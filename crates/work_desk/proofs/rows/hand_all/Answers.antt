@@ -1,4 +1,4 @@
-use Rattle.std.proofs.Common.{◌≡◌, ℕ, ◌∷◌, ◌++◌, [], length, slice_get, slice_set, Some, refl, sym, ap, ◌∙◌, subst, arith}
+use Rattle.std.proofs.Common.{◌≡◌, ℕ, ◌∷◌, ◌++◌, [], length, slice_get, slice_set, None, Some, refl, sym, ap, ◌∙◌, subst, arith}
 use Rattle.std.specs.Option.{option_to_list}
 use Rattle.std.proofs.lemmas.Option.{slice_get_read, slice_get_within}
 use Rattle.work_desk.specs.declared.rule.Knows.{Knows}
@@ -34,10 +34,10 @@ index_mut-giver-requires g c =
     let last = last_of g.T.Work.ready rest c.in-Some.work gs may in
     omega (arith, c.len-at.ensures, c.pop.new.self.ok, slice_get_within gs (length rest) last.at last.is, c.loop-work.givers.ok)
 
-pub hand-requires-clause-idle : goal.hand-requires-clause-idle
-hand-requires-clause-idle g c =
-    let z = (goal.at.hand-requires-clause-idle g c).After-index_mut-giver in
-    ap (λ k. k.work) (at_last g z) ∙ (last g z).free
+pub hand-requires-clause-free : goal.hand-requires-clause-free
+hand-requires-clause-free g c =
+    let z = (goal.at.hand-requires-clause-free g c).After-index_mut-giver in
+    subst (λ k. k ≡ giver k.terms None) (sym (at_last g z)) (last g z).free
 
 pub hand-requires-clause-ready : goal.hand-requires-clause-ready
 hand-requires-clause-ready g c =

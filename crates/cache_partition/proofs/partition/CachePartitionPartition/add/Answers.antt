@@ -1,7 +1,7 @@
-use Rattle.cache_partition.proofs.Words.{Add, Exists, FullBlock, Gains, IsOwnerStep, IsAcceptable, IsWrite, Kept, MayWrite, OwnerState, Stored, ap, arith, cond, false, had_record, is_accepted, item_size, leb-true, length}
-use Rattle.cache_partition.proofs.Words.{nat_le, options_in, refl, reply_of, subst, sym, true, worn_step, write_of, Bool, ◌∙◌, ◌≡◌}
+use Rattle.cache_partition.proofs.Words.{Add, Exists, FullBlock, Gains, IsOwnerStep, IsAcceptable, IsWrite, Kept, MayWrite, OwnerState, Stored, ap, arith, cond, false, had_record, is_accepted, item_size, length}
+use Rattle.cache_partition.proofs.Words.{nat_le, options_in, refl, reply_of, subst, sym, true, write_of, Bool, ◌∙◌, ◌≡◌}
 use Rattle.cache_partition.proofs.Held.{found_had, held, stands_at}
-use Rattle.cache_partition.proofs.Writes.{add_appends, add_reply, gained_step, left_step, may_write}
+use Rattle.cache_partition.proofs.Writes.{add_appends, add_reply, gained_step, left_step, may_write, worn_step}
 use Rattle.cache_partition.proofs.partition.CachePartitionPartition.add.Given.{Over}
 use Rattle.cache_partition.proofs.partition.CachePartitionPartition.add.Goals as goal
 use Rattle.cache_partition.proofs.partition.CachePartitionPartition.add.Goals.{After-is_some}
@@ -33,7 +33,7 @@ module _ (g : Over) (c : After-is_some g) where
 pub returns-then-is_worn-clause-step : goal.returns-then-is_worn-clause-step
 returns-then-is_worn-clause-step g c =
     let o = g.W.OwnerWords.owner c.args.self.now.words in
-    worn_step o c.args.self.now.idle (leb-true o.shape.wear (length o.history) (sym c.is_worn.ensures.worn ∙ c.if-is_worn.true)) (write_of Add c.args.key.now c.args.value.now)
+    worn_step o c.args.self.now.idle c.args.self.now.cached (sym c.is_worn.ensures.worn ∙ c.if-is_worn.true) (write_of Add c.args.key.now c.args.value.now)
 
 pub returns-then-is_some-clause-step : goal.returns-then-is_some-clause-step
 returns-then-is_some-clause-step g c =

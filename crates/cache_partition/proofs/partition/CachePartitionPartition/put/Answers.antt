@@ -1,11 +1,11 @@
-use Rattle.cache_partition.proofs.Words.{FullBlock, Put, Stored, ap, had_record, is_accepted, leb-true, length, refl, sym, worn_step, write_of, ◌∙◌}
-use Rattle.cache_partition.proofs.Writes.{gained_step, left_step, may_write, put_refused, put_stored}
+use Rattle.cache_partition.proofs.Words.{FullBlock, Put, Stored, ap, had_record, is_accepted, refl, sym, write_of, ◌∙◌}
+use Rattle.cache_partition.proofs.Writes.{gained_step, left_step, may_write, put_refused, put_stored, worn_step}
 use Rattle.cache_partition.proofs.partition.CachePartitionPartition.put.Goals as goal
 
 pub returns-then-is_worn-clause-step : goal.returns-then-is_worn-clause-step
 returns-then-is_worn-clause-step g c =
     let o = g.W.OwnerWords.owner c.args.self.now.words in
-    worn_step o c.args.self.now.idle (leb-true o.shape.wear (length o.history) (sym c.is_worn.ensures.worn ∙ c.if-is_worn.true)) (write_of Put c.args.key.now c.args.value.now)
+    worn_step o c.args.self.now.idle c.args.self.now.cached (sym c.is_worn.ensures.worn ∙ c.if-is_worn.true) (write_of Put c.args.key.now c.args.value.now)
 
 pub returns-clause-step : goal.returns-clause-step
 returns-clause-step g c =

@@ -1,11 +1,11 @@
-use Rattle.cache_partition.proofs.Words.{Absent, Touch, Touched, [], ap, leb-true, length, options_in, refl, reply_of, sym, worn_step, write_of, ◌∙◌}
-use Rattle.cache_partition.proofs.Writes.{gained_step, may_write}
+use Rattle.cache_partition.proofs.Words.{Absent, Touch, Touched, [], ap, options_in, refl, reply_of, sym, write_of, ◌∙◌}
+use Rattle.cache_partition.proofs.Writes.{gained_step, may_write, worn_step}
 use Rattle.cache_partition.proofs.partition.CachePartitionPartition.touch.Goals as goal
 
 pub returns-then-is_worn-clause-step : goal.returns-then-is_worn-clause-step
 returns-then-is_worn-clause-step g c =
     let o = g.W.OwnerWords.owner c.args.self.now.words in
-    worn_step o c.args.self.now.idle (leb-true o.shape.wear (length o.history) (sym c.is_worn.ensures.worn ∙ c.if-is_worn.true)) (write_of Touch c.args.key.now [])
+    worn_step o c.args.self.now.idle c.args.self.now.cached (sym c.is_worn.ensures.worn ∙ c.if-is_worn.true) (write_of Touch c.args.key.now [])
 
 pub returns-then-touched-clause-step : goal.returns-then-touched-clause-step
 returns-then-touched-clause-step g c =

@@ -1,5 +1,5 @@
-use Rattle.chained_index.proofs.Words.{◌≡◌, inl, refl, ◌-◌, ◌≤◌, rules, ◌∙◌, sym, ap, subst, arith, length, vec_len, vec_capacity}
-use Rattle.chained_index.proofs.Words.{Shape, PutsEntry, PutsLink, entry_in, after, Kept, Index, IsIndexOf}
+use Rattle.chained_index.proofs.Words.{◌≡◌, inl, refl, ◌-◌, rules, ◌∙◌, ap, subst, arith}
+use Rattle.chained_index.proofs.Words.{Shape, PutsEntry, PutsLink, entry_in, after, Kept}
 use Rattle.chained_index.proofs.Chained.{chained}
 use Rattle.chained_index.proofs.Allowed.{may_enter, may_link, still_in}
 use Rattle.chained_index.proofs.Calls.{Call, call_at, end_in_chain, end_inside, before_in_chain, used_some, release_room, drop, release}
@@ -42,13 +42,10 @@ put_link-requires g c =
     (omega (arith, call.ends.within, used_some _ _ _ _ call c.args.spot c.requires.spot)) _ (cc (c.put_entry-2.ensures.event, is)) _ _
     (still_in _ call.v.s _ call.v.main c.requires.marked _ _ _ c.requires.spot.in_bucket _ (before_in_chain _ _ _ _ call c.if-end-bucket.true)) (inl refl)
 
-pub push_reserved-requires : goal.push_reserved-requires
-push_reserved-requires g c =
-    let index = subst (λ (z : Index). IsIndexOf z (g.W.OwnerWords.owner c.args.words.now)) (sym c.self.view_is) c.requires.index in
-    let call = call_at _ _ _ _ _ c.end_of-end.ensures.same c.end_of-end.ensures.kept index c.requires.bucket c.end_of-end.ensures.end in
-    let reserved : c.self.inside.shape.spares ≤ vec_capacity c.self.inside.free = c.self.invariant in
-    let size : vec_len c.self.inside.free ≡ length c.self.inside.free.items = search rules in
-    omega (arith, release_room _ _ _ _ call c.if-end-bucket.true, ap (λ (z : Shape). z.spares) index.shape)
+pub give_spare-requires : goal.give_spare-requires
+give_spare-requires g c =
+    let call = call g (goal.at.give_spare-requires g c).After-end_of-end in
+    omega (arith, release_room _ _ _ _ call c.if-end-bucket.true, ap (λ (z : Shape). z.spares) c.requires.index.shape)
 
 -- the last bucket stays
 pub returns-else-last-eq0 : goal.returns-else-last-eq0
@@ -61,10 +58,9 @@ returns-else-last-eq0 g c =
 -- the last bucket is released
 pub returns-then-end-bucket : goal.returns-then-end-bucket
 returns-then-end-bucket g c =
-    let index = subst (λ (z : Index). IsIndexOf z (g.W.OwnerWords.owner c.args.words.now)) (sym c.self.view_is) c.requires.index in
-    let call = call_at _ _ _ _ _ c.end_of-end.ensures.same c.end_of-end.ensures.kept index c.requires.bucket c.end_of-end.ensures.end in
+    let call = call g (goal.at.returns-then-end-bucket g c).After-end_of-end in
     let a = (goal.at.returns-then-end-bucket g c).After-put_entry in
     let end = c.end_of-end.result in
     let left = release _ _ _ _ call c.args.spot c.requires.spot _ (last g a) c.if-last-eq0.true c.if-end-bucket.true
     _ c.put_link.ensures.kept (c.put_link.ensures.event ∙ ap (after (PutsLink end.before 0)) (c.put_entry-2.ensures.event ∙ ap (after (PutsEntry end.bucket (end.used - 1) 0)) (first g a))) in
-    record { entries = left.0; index = rw c.push_reserved.ensures.items left.1; kept = c.put_link.ensures.kept; home = cc }
+    record { entries = left.0; index = rw c.give_spare.ensures left.1; kept = c.put_link.ensures.kept; home = cc }

@@ -1,5 +1,5 @@
 use Rattle.std.proofs.Common.{[], ◌∷◌}
-use Rattle.epoch_core.proofs.Shapes.{valid_in_range}
+use Rattle.epoch_core.proofs.Shapes.{possible_in_range}
 use Rattle.epoch_core.proofs.ScriptKeeps.{starts}
 use Rattle.epoch_core.proofs.scripted.Scripted.new.Goals as goal
 
@@ -7,4 +7,4 @@ pub of_words-requires : goal.of_words-requires
 of_words-requires c =
     let script = c.into_script-script.result in
     let e = c.into_script-script.ensures in
-    starts script (0 ∷ []) (valid_in_range script.shape e.valid) e.can
+    starts script (0 ∷ []) (possible_in_range script.shape e.valid) e.can

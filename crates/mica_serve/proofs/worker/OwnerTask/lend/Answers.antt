@@ -13,6 +13,7 @@ returns g c =
       same = λ i. record { state = seat.same i; table = seat.home i; jobs = old.jobs; acks = acks i };
       seat = seat.lent.0;
       table = seat.lent.1;
+      unanswered = refl;
       jobs = refl;
       acks = ends.receiver ∙ (λ i. ack_box c.in_ok-answers.answered.queue (seat.lent.1 i) (ap (λ (r : ReaderState). r.shape) seat.lent.0 i) []);
     }

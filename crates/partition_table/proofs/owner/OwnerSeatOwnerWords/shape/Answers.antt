@@ -1,5 +1,5 @@
-use Rattle.epoch_core.proofs.Shapes.{valid_in_range}
+use Rattle.epoch_core.proofs.Shapes.{possible_in_range}
 use Rattle.partition_table.proofs.owner.OwnerSeatOwnerWords.shape.Goals as goal
 
 pub returns-clause-valid : goal.returns-clause-valid
-returns-clause-valid c = valid_in_range c.args.self.now.places.shape c.args.self.now.valid
+returns-clause-valid c = possible_in_range c.args.self.now.places.shape c.args.self.now.valid

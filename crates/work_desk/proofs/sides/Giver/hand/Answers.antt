@@ -1,12 +1,12 @@
-use Rattle.std.proofs.Common.{◌≡◌, rules, ap, ◌∙◌, None, Some, ◌∷◌}
+use Rattle.std.proofs.Common.{rules, ap, ◌∙◌, Some, ◌∷◌}
 use Rattle.atomic_table.specs.Table.{rest}
 use Rattle.work_desk.proofs.Steps.{giver_idle, hand_rule}
 use Rattle.work_desk.proofs.sides.Giver.hand.Goals as goal
 
 pub store-requires : goal.store-requires
 store-requires g c =
-    let none : c.self.inside.seat.me.0.work ≡ None = search rules in
-    let idle = giver_idle c.self.inside.seat.me c.self.invariant.1 none c.self.invariant.2 in (
+    let free = c.self.view_is ∙ c.requires.free in
+    let idle = giver_idle c.self.inside.seat.me (ap (λ k. k.stage) free) (ap (λ k. k.work) free) c.self.invariant.2 in (
       search rules,
       search rules,
       hand_rule g.T.Work.unset g.T.Work.ready g.T.Work.done _ _ c.exchange.new.seat.me c.self.inside.seat.me.0.terms c.args.work

@@ -1,14 +1,15 @@
-use Rattle.std.proofs.Common.{◌≡◌, ◌≢◌, rules, arith, ap, sym, ◌∙◌, subst, None, Some, IfSome, is_none, [], ◌∷◌}
+use Rattle.std.proofs.Common.{◌≡◌, ◌≢◌, inl, rules, arith, ap, sym, ◌∙◌, subst, None, Some, IfSome, is_none, [], ◌∷◌}
 use Rattle.std.specs.Arc.{arc_value}
 use Rattle.atomic_table.specs.Table.{rest}
+use Rattle.work_desk.specs.declared.rule.Stage.TheVariants.{Gives, Told}
 use Rattle.work_desk.specs.Desk.{giver, has_slot, IsAtDesk}
-use Rattle.work_desk.proofs.Steps.{giver_waits, await_rule, one_slot, slot_is, some_is}
+use Rattle.work_desk.proofs.Steps.{at_work, giver_waits, await_rule, one_slot, slot_is, some_is}
 use Rattle.work_desk.proofs.sides.Giver.take_back.Goals as goal
 
 pub loop-init : goal.loop-init
 loop-init g c =
     let some : c.self.inside.seat.me.0.work ≢ None = rw c.self.view_is c.requires in
-    (giver_waits c.self.inside.seat.me c.self.invariant.1 some c.self.invariant.2 ∙ (λ i. (giver (c.self.view_is i).terms (c.self.view_is i).work, [])), c.self.invariant.0)
+    (giver_waits c.self.inside.seat.me (at_work Gives Told c.self.inside.seat.me.0 c.self.invariant.1 some) some c.self.invariant.2 ∙ (λ i. (giver (c.self.view_is i).terms (c.self.view_is i).work, [])), c.self.invariant.0)
 
 pub load-requires : goal.load-requires
 load-requires g c = (search rules, search rules, await_rule g.T.Work.unset g.T.Work.ready g.T.Work.done _ _ c.loop.self-inside.seat.me _ _ c.loop.invariant.0 c.requires)
@@ -22,7 +23,7 @@ pub invariant_of-self : goal.invariant_of-self
 invariant_of-self g c =
     let took = c.load.ensures.2.0 (omega (arith, c.if-load-eq-IDLE.true)) in
     let me : c.exchange.new.seat.me ≡ (giver c.loop.self-inside.seat.me.0.terms None, (0, None) ∷ []) = c.exchange.ensures.3 ∙ (λ i. ((took.2 i).0, (0, None) ∷ rest (took.2 i).1)) in
-    (subst (IsAtDesk (arc_value c.loop.self-inside.table).shared.table_id) (sym (c.exchange.ensures.0 ∙ c.load.ensures.0)) c.loop.invariant.1, ap (λ m. m.0.stage) me, ap (λ m. has_slot (is_none m.0.work) m.1) me)
+    (subst (IsAtDesk (arc_value c.loop.self-inside.table).shared.table_id) (sym (c.exchange.ensures.0 ∙ c.load.ensures.0)) c.loop.invariant.1, inl (ap (λ m. m.0.stage) me), ap (λ m. has_slot (is_none m.0.work) m.1) me)
 
 pub returns-then-load-eq-IDLE-clause-idle : goal.returns-then-load-eq-IDLE-clause-idle
 returns-then-load-eq-IDLE-clause-idle g c =

@@ -1,0 +1,4 @@
+pub mod Turning
+pub mod Telling
+pub mod Finding
+pub mod Ending

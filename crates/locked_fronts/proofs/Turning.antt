@@ -1,0 +1,204 @@
+-- What one step makes of what is kept under a lock.
+use Rattle.std.proofs.Common.{◌≡◌, ℕ, ◌<◌, ◌≤◌, Bool, true, false, List, [], ◌∷◌, ◌++◌, Option, Some, None, inr, cond, refl, sym, ap, ◌∙◌, subst, append_assoc, length, suc, arith}
+use Rattle.std.proofs.lemmas.List.{map-append, length_push}
+use Rattle.atomic_table.specs.Seated.{TableId}
+use Rattle.partition_model.specs.declared.options.Options.{Options}
+use Rattle.partition_model.specs.declared.write.Outcome.{Outcome}
+use Rattle.partition_model.specs.declared.write.Write.{Write}
+use Rattle.partition_model.specs.Write.{is_accepted}
+use Rattle.partition_model.specs.History.{History, MayGive, stamp_in, value_in, stamp_of, answer_of}
+use Rattle.partition_model.specs.Run.{RunStep, history_of, IsRunFrom}
+use Rattle.partition_model.proofs.Runs.{history-append, run-append}
+use Rattle.epoch_core.specs.declared.shape.Shape.{Shape}
+use Rattle.epoch_core.specs.declared.state.OwnerState.{OwnerState}
+use Rattle.epoch_core.specs.declared.state.Phase.{Phase}
+use Rattle.epoch_core.specs.declared.state.Phase.TheVariants.{Idle}
+use Rattle.epoch_core.specs.declared.reader.ReaderState.{ReaderState}
+use Rattle.epoch_core.specs.Shape.{shape_of, options_of}
+use Rattle.epoch_core.specs.OwnerState.{options_in}
+use Rattle.epoch_core.specs.OwnerStep.{IsOwnerStep}
+use Rattle.epoch_core.specs.Joins.{lent, ended_in}
+use Rattle.epoch_core.proofs.SameMachine.{same_state, same_may_give}
+use Rattle.partition_table.specs.declared.reader.Note.{Note}
+use Rattle.partition_table.specs.Seats.{note_state, note_home}
+use Rattle.owner_queue.proofs.Gains.{step_gains}
+use Rattle.mica_fronts.specs.declared.changing.Changed.{Changed}
+use Rattle.mica_fronts.specs.declared.changing.When.{When}
+use Rattle.mica_fronts.specs.Changing.{Becoming, IsFound, when_after, write_by}
+use Rattle.mica_fronts.specs.Flushes.{is_flush, flushed_in}
+use Rattle.mica_fronts.proofs.FlushLaws.{flushed_then}
+use Rattle.turn_book.specs.declared.rule.Entry.{Entry}
+use Rattle.turn_book.specs.Entries.{BookView, TakerView, entry, book_view, taker_view}
+use Rattle.locked_fronts.specs.declared.owned.Step.{Step}
+use Rattle.locked_fronts.specs.Plan.{Plan}
+use Rattle.locked_fronts.specs.Owned.{Owned, owned_as, step_of, run_step, run_in, IsOwned, IsHere, IsElsewhere, HasSeen, TookTurn, LeftAll, TookOrLeft, TookLook}
+
+-- the stamp by the options of a shape is that by the options
+pub plan_stamp : (options : Options) (shape : Shape) (history : History) → shape ≡ shape_of options → stamp_of (options_of shape) history ≡ stamp_of options history
+plan_stamp options shape history is = ap (λ s. stamp_of (options_of s) history) is ∙ ap stamp_in (same_state options history)
+
+-- the value of a key likewise
+plan_answer : (options : Options) (shape : Shape) (history : History) (key : List ℕ) → shape ≡ shape_of options → answer_of (options_of shape) history key ≡ answer_of options history key
+plan_answer options shape history key is = ap (λ s. answer_of (options_of s) history key) is ∙ ap (λ s. value_in s key) (same_state options history)
+
+-- A partition that is the one that was asked for
+
+pub here_now : (plan : Plan) (owned : Owned) (number least stamp : ℕ) → IsOwned plan owned → owned.number ≡ number → stamp ≡ stamp_of (options_in owned.owner) owned.owner.history → least ≤ stamp
+    → IsHere plan number least owned
+here_now plan owned number least stamp law is stamped le = record {
+  number_is = is;
+  book = law.book ∙ ap plan.books is;
+  come = let same = stamped ∙ plan_stamp plan.options owned.owner.shape owned.owner.history law.shape in omega (arith, le, same);
+}
+
+pub not_yet : (plan : Plan) (owned : Owned) (number least stamp : ℕ) → IsOwned plan owned → stamp ≡ stamp_of (options_in owned.owner) owned.owner.history → stamp < least → IsElsewhere plan number least owned
+not_yet plan owned number least stamp law stamped lt = inr (let same = stamped ∙ plan_stamp plan.options owned.owner.shape owned.owner.history law.shape in omega (arith, lt, same))
+
+-- the stamp that it has come to
+abbrev least_of : Plan → Owned → ℕ
+least_of plan owned = stamp_of plan.options owned.owner.history
+
+module _ {plan : Plan} {number least : ℕ} {owned : Owned} (here : IsHere plan number least owned) where
+  pub turn_here : {old new : TakerView Step} {step : RunStep} {note : Note} → TookTurn plan owned.number (least_of plan owned) owned.owner.history old new step note → TookTurn plan number least owned.owner.history old new step note
+  turn_here {step = step} {note = note} took = record {
+    come = here.come;
+    allowed = took.allowed;
+    seen = subst (λ n. HasSeen plan n (owned.owner.history ++ history_of (step ∷ [])) step.stamp note) here.number_is took.seen;
+    entered = took.entered;
+  }
+
+  either_here : (old new : TakerView Step) (write : Option Write) (outcome : Option Outcome) (stamp : ℕ) (note : Note) → TookOrLeft plan owned.number (least_of plan owned) owned.owner.history old new write outcome stamp note
+      → TookOrLeft plan number least owned.owner.history old new write outcome stamp note
+  either_here old new None None stamp note left = record {
+    come = here.come;
+    seen = subst (λ n. HasSeen plan n owned.owner.history stamp note) here.number_is left.seen;
+    entered = left.entered;
+  }
+  either_here old new (Some write) (Some outcome) stamp note took = turn_here took
+  either_here old new None (Some outcome) stamp note never = absurd never
+  either_here old new (Some write) None stamp note never = absurd never
+
+  pub look_here : {old new : TakerView Step} {second : ℕ} {key : List ℕ} {needs : Bool} {becoming : When → Option (List ℕ) → Becoming} {changed : Changed} {buffer : List ℕ} {note : Note}
+      → TookLook plan owned.number (least_of plan owned) second owned.owner.history key needs becoming old new changed buffer note → TookLook plan number least second owned.owner.history key needs becoming old new changed buffer note
+  look_here {old = old} {new = new} {changed = changed} {note = note} took = record {
+    value = took.value;
+    found = took.found;
+    at = took.at;
+    looked = took.looked;
+    does = either_here old new _ changed.outcome changed.stamp note took.does;
+  }
+
+-- what a look came to, where `owner` is the same as before
+pub looks : (plan : Plan) (was : Owned) (owner : OwnerState) (second : ℕ) (key : List ℕ) (needs : Bool) (becoming : When → Option (List ℕ) → Becoming) (old new : TakerView Step) (changed : Changed) (buffer : List ℕ)
+    (note : Note) (write : Option Write) → IsOwned plan was → owner ≡ was.owner → changed.when ≡ when_after second was.owner.history
+    → IsFound needs changed.found buffer (answer_of (options_in was.owner) was.owner.history key)
+    → write ≡ write_by becoming key (record { when = changed.when; value = answer_of (options_in was.owner) was.owner.history key })
+    → TookOrLeft plan was.number (stamp_of plan.options owner.history) owner.history old new write changed.outcome changed.stamp note
+    → TookLook plan was.number (stamp_of plan.options was.owner.history) second was.owner.history key needs becoming old new changed buffer note
+looks plan was owner second key needs becoming old new changed buffer note write law same when found is did = record {
+  value = answer_of (options_in was.owner) was.owner.history key;
+  found = found;
+  at = ap (λ (w : When). w.second) when;
+  looked = record {
+    when = when ∙ ap (λ s. when_after s was.owner.history) (sym (ap (λ (w : When). w.second) when));
+    value = plan_answer plan.options was.owner.shape was.owner.history key law.shape;
+  };
+  does = subst (λ (y : Option Write × History). TookOrLeft plan was.number (stamp_of plan.options y.1) y.1 old new y.0 changed.outcome changed.stamp note)
+      (λ i. (is i, ap (λ (o : OwnerState). o.history) same i)) did;
+}
+
+-- The last flush
+
+module _ (old new : OwnerState) (write : Write) (outcome : Outcome) (step : IsOwnerStep old new write outcome) where
+  history_is : (b : Bool) → is_accepted outcome ≡ b → new.history ≡ cond b (old.history ++ write ∷ []) old.history
+  history_is true is = ap (λ (o : OwnerState). o.history) (step.gained ∙ ap (λ b. cond b (record old { words = new.words; history = old.history ++ write ∷ [] }) old) is)
+  history_is false is = ap (λ (o : OwnerState). o.history) (step.gained ∙ ap (λ b. cond b (record old { words = new.words; history = old.history ++ write ∷ [] }) old) is)
+
+  flushed_after : (b : Bool) → is_flush write ≡ b → is_accepted outcome ≡ true → flushed_in new.history ≡ cond b (suc (length old.history)) (flushed_in old.history)
+  flushed_after b is accepted = ap flushed_in (history_is true accepted) ∙ flushed_then old.history write ∙ ap (λ x. cond x (suc (length old.history)) (flushed_in old.history)) is
+
+  pub flushes : is_accepted outcome ≡ true → is_flush write ≡ true → length new.history ≡ flushed_in new.history
+  flushes accepted is = ap length (history_is true accepted) ∙ length_push old.history write ∙ omega arith ∙ sym (flushed_after true is accepted)
+
+  pub no_flush : is_accepted outcome ≡ false → flushed_in new.history ≡ flushed_in old.history
+  no_flush refused = ap flushed_in (history_is false refused)
+
+  pub flushes_not : (b : Bool) → is_accepted outcome ≡ b → is_flush write ≡ false → flushed_in new.history ≡ flushed_in old.history
+  flushes_not true accepted is = flushed_after false is accepted
+  flushes_not false refused is = no_flush refused
+
+-- what a note has seen that an owner split off between its writes
+pub seen_by : (plan : Plan) (number : ℕ) (owner : OwnerState) (home : TableId) (stamp : ℕ) (note : Note) → owner.shape ≡ shape_of plan.options → owner.phase ≡ Idle → home ≡ plan.homes number
+    → stamp ≡ stamp_of (options_in owner) owner.history → note_state note ≡ lent owner → note_home note ≡ home → HasSeen plan number owner.history stamp note
+seen_by plan number owner home stamp note shape idle at stamped noted at_home = record {
+  home = at_home ∙ at;
+  shape = ap (λ (r : ReaderState). r.shape) noted ∙ shape;
+  seen = ap (λ (r : ReaderState). r.seen) noted;
+  done = ap (λ (r : ReaderState). r.done) noted ∙ ap (λ (p : Phase). ended_in p owner.history) idle;
+  stamped = stamped ∙ plan_stamp plan.options owner.shape owner.history shape;
+}
+
+module _ (plan : Plan) (old : Owned) (owner : OwnerState) (home : TableId) (book : BookView Step) (taker : TakerView Step) (write : Write) (outcome : Outcome) (stamp : ℕ)
+    (law : IsOwned plan old) (step : IsOwnerStep old.owner owner write outcome) (stamped : stamp ≡ stamp_of (options_in owner) owner.history) (home_is : home ≡ old.home)
+    (book_is : book ≡ book_view old.book.table old.book.takers (old.book.entries ++ entry taker.number (step_of write outcome stamp) ∷ [])) where
+  abbrev steps : List RunStep
+  steps = run_in old.book.entries
+
+  abbrev one : RunStep
+  one = record { write = write; outcome = outcome; stamp = stamp }
+
+  gains : owner ≡ record old.owner { words = owner.words; history = old.owner.history ++ history_of (one ∷ []) }
+  gains = step_gains old.owner owner write outcome stamp step
+
+  longer : owner.history ≡ old.owner.history ++ history_of (one ∷ [])
+  longer = ap (λ (o : OwnerState). o.history) gains
+
+  shape : owner.shape ≡ shape_of plan.options
+  shape = ap (λ (o : OwnerState). o.shape) gains ∙ law.shape
+
+  may : MayGive plan.options old.owner.history write outcome
+  may = same_may_give plan.options old.owner.history write outcome (subst (λ (s : Shape). MayGive (options_of s) old.owner.history write outcome) law.shape step.allowed)
+
+  stamp_is : stamp ≡ stamp_of plan.options (old.owner.history ++ history_of (one ∷ []))
+  stamp_is = stamped ∙ plan_stamp plan.options owner.shape owner.history shape ∙ ap (stamp_of plan.options) longer
+
+  run_is : run_in book.entries ≡ steps ++ one ∷ []
+  run_is = ap (λ (b : BookView Step). run_in b.entries) book_is ∙ map-append (λ (e : Entry Step). run_step e.what) old.book.entries (entry taker.number (step_of write outcome stamp) ∷ [])
+
+  run_longer : IsRunFrom plan.options (plan.begun old.number) (steps ++ one ∷ [])
+  run_longer = run-append plan.options (plan.begun old.number) steps (one ∷ []) law.run (
+    subst (λ h. MayGive plan.options h write outcome) law.history may,
+    stamp_is ∙ ap (λ h. stamp_of plan.options (h ++ history_of (one ∷ []))) law.history,
+    tt,
+  )
+
+  pub keeps : IsOwned plan (owned_as old.number home owner book)
+  keeps = record {
+    book = ap (λ (b : BookView Step). b.table) book_is ∙ law.book;
+    fronts = ap (λ (b : BookView Step). b.takers) book_is ∙ law.fronts;
+    home = home_is ∙ law.home;
+    shape = shape;
+    idle = step.idle;
+    closed = ap (λ (o : OwnerState). o.closed) gains ∙ law.closed;
+    run = subst (λ (l : List RunStep). IsRunFrom plan.options (plan.begun old.number) l) (sym run_is) run_longer;
+    history = longer ∙ ap (λ h. h ++ history_of (one ∷ [])) law.history ∙ append_assoc (plan.begun old.number) (history_of steps) (history_of (one ∷ []))
+        ∙ ap (λ h. plan.begun old.number ++ h) (sym (history-append steps (one ∷ [])) ∙ ap history_of (sym run_is));
+  }
+
+  pub takes : (after : TakerView Step) (note : Note) → after ≡ taker_view taker.table taker.number (taker.mine ++ step_of write outcome stamp ∷ [])
+      → note_state note ≡ lent owner → note_home note ≡ home → TookTurn plan old.number (stamp_of plan.options old.owner.history) old.owner.history taker after one note
+  takes after note entered noted at_home = record {
+    come = omega arith;
+    allowed = may;
+    seen = subst (λ h. HasSeen plan old.number h stamp note) longer (seen_by plan old.number owner home stamp note shape step.idle (home_is ∙ law.home) stamped noted at_home);
+    entered = entered;
+  }
+
+-- a partition that nothing was written in
+pub leaves : (plan : Plan) (was : Owned) (stamp : ℕ) (taker : TakerView Step) (note : Note) → IsOwned plan was → stamp ≡ stamp_of (options_in was.owner) was.owner.history
+    → note_state note ≡ lent was.owner → note_home note ≡ was.home → LeftAll plan was.number (stamp_of plan.options was.owner.history) was.owner.history taker taker stamp note
+leaves plan was stamp taker note law stamped noted at_home = record {
+  come = omega arith;
+  seen = seen_by plan was.number was.owner was.home stamp note law.shape law.idle law.home stamped noted at_home;
+  entered = refl;
+}

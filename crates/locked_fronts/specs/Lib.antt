@@ -1,0 +1,4 @@
+pub mod Plan
+pub mod Owned
+pub mod Parts
+pub mod Returned

@@ -1,0 +1,123 @@
+-- What is kept of a partition under its lock, and what a front has of it once it let go.
+use Rattle.std.specs.Prelude.{◌≡◌, ◌≢◌, ◌<◌, ◌≤◌, ◌⊎◌, ℕ, Bool, List, [], ◌∷◌, ◌++◌, map, Option, Some, None}
+use Rattle.atomic_table.specs.Seated.{TableId}
+use Rattle.partition_model.specs.declared.write.Op.TheVariants.{Del}
+use Rattle.partition_model.specs.declared.write.Outcome.{Outcome}
+use Rattle.partition_model.specs.declared.write.Outcome.TheVariants.{Absent}
+use Rattle.partition_model.specs.declared.write.Write.{Write}
+use Rattle.partition_model.specs.Write.{write_of}
+use Rattle.partition_model.specs.History.{History, MayGive, stamp_of}
+use Rattle.partition_model.specs.Run.{RunStep, history_of, IsRunFrom}
+use Rattle.epoch_core.specs.declared.state.OwnerState.{OwnerState}
+use Rattle.epoch_core.specs.declared.state.Phase.TheVariants.{Idle}
+use Rattle.epoch_core.specs.declared.reader.ReaderState.{ReaderState}
+use Rattle.epoch_core.specs.Shape.{shape_of}
+use Rattle.partition_table.specs.declared.reader.Note.{Note}
+use Rattle.partition_table.specs.Seats.{note_state, note_home}
+use Rattle.turn_book.specs.declared.rule.Entry.{Entry}
+use Rattle.turn_book.specs.Entries.{BookView, TakerView, taker_view}
+use Rattle.mica_fronts.specs.declared.changing.Change.{Change}
+use Rattle.mica_fronts.specs.declared.changing.Change.TheVariants.{Stay, Become, Go}
+use Rattle.mica_fronts.specs.declared.changing.Changed.{Changed}
+use Rattle.mica_fronts.specs.declared.changing.When.{When}
+use Rattle.mica_fronts.specs.Changing.{Becoming, IsLookAt, IsFound, write_by}
+use Rattle.locked_fronts.specs.declared.owned.Step.{Step}
+use Rattle.locked_fronts.specs.Plan.{Plan}
+
+-- The step as a book has it
+
+abbrev pub step_of : Write → Outcome → ℕ → Step
+step_of write outcome stamp = record { write = write; outcome = outcome; stamp = stamp }
+
+abbrev pub no_step : Step
+no_step = step_of (write_of Del [] []) Absent 0
+
+abbrev pub run_step : Step → RunStep
+run_step step = record { write = step.write; outcome = step.outcome; stamp = step.stamp }
+
+-- the run of a partition's machine in the entries of its book
+abbrev pub run_in : List (Entry Step) → List RunStep
+run_in entries = map (λ e. run_step e.what) entries
+
+-- Under the lock
+
+pub record Owned : Type 0 where
+  pub number : ℕ
+  pub home : TableId
+  pub owner : OwnerState
+  pub book : BookView Step
+
+abbrev pub owned_as : ℕ → TableId → OwnerState → BookView Step → Owned
+owned_as number home owner book = record { number = number; home = home; owner = owner; book = book }
+
+-- The partition is the plan's of its number. Its history is what it began with and then the accepted steps of the book, which are a run of its
+-- machine. No front was taken in.
+pub record IsOwned (plan : Plan) (owned : Owned) : Type 0 where
+  pub book : owned.book.table ≡ plan.books owned.number
+  pub fronts : owned.book.takers ≡ plan.fronts
+  pub home : owned.home ≡ plan.homes owned.number
+  pub shape : owned.owner.shape ≡ shape_of plan.options
+  pub idle : owned.owner.phase ≡ Idle
+  pub closed : owned.owner.closed ≡ 0
+  pub run : IsRunFrom plan.options (plan.begun owned.number) (run_in owned.book.entries)
+  pub history : owned.owner.history ≡ plan.begun owned.number ++ history_of (run_in owned.book.entries)
+
+-- notes are those of a partition's table
+abbrev pub NotesAre : {N : Type 0} → (N → ReaderState) → (N → TableId) → (N → ReaderState) → (N → TableId) → Type 0
+NotesAre {N} noted home_of state home = (n : N) → (noted n ≡ state n) × (home_of n ≡ home n)
+
+-- What a hold gives
+
+-- the note is of the plan's partition, and has seen the history of this stamp, all of which had ended
+pub record HasSeen (plan : Plan) (number : ℕ) (history : History) (stamp : ℕ) (note : Note) : Type 0 where
+  pub home : note_home note ≡ plan.homes number
+  pub shape : (note_state note).shape ≡ shape_of plan.options
+  pub seen : (note_state note).seen ≡ history
+  pub done : (note_state note).done ≡ history
+  pub stamped : stamp ≡ stamp_of plan.options history
+
+-- The partition had come as far as the least stamp. The machine took one step there, which is the one entry that the taker gained.
+pub record TookTurn (plan : Plan) (number least : ℕ) (before : History) (old new : TakerView Step) (step : RunStep) (note : Note) : Type 0 where
+  pub come : least ≤ stamp_of plan.options before
+  pub allowed : MayGive plan.options before step.write step.outcome
+  pub seen : HasSeen plan number (before ++ history_of (step ∷ [])) step.stamp note
+  pub entered : new ≡ taker_view old.table old.number (old.mine ++ step_of step.write step.outcome step.stamp ∷ [])
+
+-- Nothing was written.
+pub record LeftAll (plan : Plan) (number least : ℕ) (before : History) (old new : TakerView Step) (stamp : ℕ) (note : Note) : Type 0 where
+  pub come : least ≤ stamp_of plan.options before
+  pub seen : HasSeen plan number before stamp note
+  pub entered : new ≡ old
+
+-- what is not there does not go
+abbrev pub where_none : Change → Change
+where_none Stay = Stay
+where_none Become = Become
+where_none Go = Stay
+
+-- a write was done, with this outcome; or there was none to do
+abbrev pub TookOrLeft : Plan → ℕ → ℕ → History → TakerView Step → TakerView Step → Option Write → Option Outcome → ℕ → Note → Type 0
+TookOrLeft plan number least before old new None None stamp note = LeftAll plan number least before old new stamp note
+TookOrLeft plan number least before old new (Some write) (Some outcome) stamp note =
+    TookTurn plan number least before old new (record { write = write; outcome = outcome; stamp = stamp }) note
+TookOrLeft _ _ _ _ _ _ _ _ _ _ = ⊥
+
+-- a value was looked at, and what was decided of it was done
+pub record TookLook (plan : Plan) (number least second : ℕ) (before : History) (key : List ℕ) (needs : Bool) (becoming : When → Option (List ℕ) → Becoming)
+    (old new : TakerView Step) (changed : Changed) (buffer : List ℕ) (note : Note) : Type 0 where
+  pub value : Option (List ℕ)
+  pub found : IsFound needs changed.found buffer value
+  pub at : changed.when.second ≡ second
+  pub looked : IsLookAt plan.options before key (record { when = changed.when; value = value })
+  pub does : TookOrLeft plan number least before old new (write_by becoming key (record { when = changed.when; value = value })) changed.outcome
+      changed.stamp note
+
+-- It is the partition of the number, and has come as far as the stamp.
+pub record IsHere (plan : Plan) (number least : ℕ) (owned : Owned) : Type 0 where
+  pub number_is : owned.number ≡ number
+  pub book : owned.book.table ≡ plan.books number
+  pub come : least ≤ stamp_of plan.options owned.owner.history
+
+-- it is another partition, or one that stands before the stamp
+abbrev pub IsElsewhere : Plan → ℕ → ℕ → Owned → Type 0
+IsElsewhere plan number least owned = (owned.number ≢ number) ⊎ (stamp_of plan.options owned.owner.history < least)

@@ -1,0 +1,157 @@
+//! A front that owns each partition in turn.
+ghost use Rattle.std.specs.Prelude.{◌≡◌, ◌<◌, ℕ, Some, length, slice_get, vec_len};
+ghost use Rattle.partition_model.specs.Options.{IsValid};
+ghost use Rattle.locked_fronts.specs.declared.part.LockedPart.{LockedPart};
+ghost use Rattle.locked_fronts.specs.Parts.{IsPartOf, IsLockedFront, locked_view, turns_taken};
+
+use crate::owned::{OwnedPartition, ServerPlan};
+use crate::part::LockedPart;
+use epoch_core::LendPartition;
+use mica_fronts::{Changed, Changes, Decide, Front, seat_loads};
+use mica_io::NoMemory;
+use mica_words::{key_hash, partition_of};
+use partition_model::{Answer, ItemBuf, Op, Options, Outcome};
+use partition_table::{Note, ReaderSeat};
+use std::alloc::Global;
+use std::marker::Model;
+use std::sync::{Mutex, Wait};
+use std::thread::Threads;
+
+/// A front that takes the lock of a partition for each write, and gets by loads of its own.
+#[derive(Drop)]
+pub struct LockedFront<
+    'a,
+    J: ServerPlan,
+    P: LendPartition<Reader = ReaderSeat, Note = Note> + Drop,
+> {
+    options: Options,
+    locks: &'a [Mutex<OwnedPartition<J, P>>],
+    number: u32,
+    parts: Vec<LockedPart>,
+}
+
+impl<'a, J: ServerPlan, P: LendPartition<Reader = ReaderSeat, Note = Note> + Drop> Model
+    for LockedFront<'a, J, P> {
+    ghost use Rattle.std.specs.Prelude.{◌≡◌, length};
+    ghost use Rattle.locked_fronts.specs.Parts.{LockedView, IsLockedFront, locked_view};
+
+    ghost Value = { LockedView };
+
+    ghost view = { λ f. locked_view f.options f.number f.parts.items };
+
+    ghost invariant = { λ f. IsLockedFront J.plan (locked_view f.options f.number f.parts.items) × (length f.locks.now ≡ f.options.partitions) };
+}
+
+impl<'a, J: ServerPlan, P: LendPartition<Reader = ReaderSeat, Note = Note> + Drop> LockedFront<
+    'a,
+    J,
+    P,
+> {
+    /// A front that has taken no turn. The locks are those of the partitions, in order.
+    pub fn new(
+        options: &Options,
+        locks: &'a [Mutex<OwnedPartition<J, P>>],
+        number: u32,
+        parts: Vec<LockedPart>,
+    ) -> LockedFront<'a, J, P>
+        requires options { options.now ≡ J.plan.options }
+        requires valid { IsValid options.now }
+        requires low { number < J.plan.fronts }
+        requires locks { length locks.now ≡ options.now.partitions }
+        requires many { vec_len parts ≡ options.now.partitions }
+        requires none { turns_taken parts.items ≡ 0 }
+        requires each { (p : ℕ) (part : LockedPart) → slice_get parts.items p ≡ Some part → IsPartOf J.plan p number part }
+        ensures { result ≡ locked_view options.now number parts.items }
+    {
+        LockedFront {
+            options: *options,
+            locks,
+            number,
+            parts,
+        }
+    }
+
+    /// What it has of each partition, in order.
+    pub fn into_parts(self) -> Vec<LockedPart>
+        ensures front { IsLockedFront J.plan self.entry }
+        ensures same { result.items ≡ self.entry.parts }
+    {
+        self.parts
+    }
+}
+
+impl<'a, J: ServerPlan, P: LendPartition<Reader = ReaderSeat, Note = Note> + Drop> Front
+    for LockedFront<'a, J, P> {
+    ghost use Rattle.std.specs.Prelude.{false, []};
+    ghost use Rattle.locked_fronts.specs.Parts.{sessions_of, turns_left};
+
+    ghost options = { λ f. f.options };
+
+    ghost number = { λ f. f.number };
+
+    ghost stands = { λ _. [] };
+
+    ghost sessions = { λ f. sessions_of f.parts };
+
+    ghost left = { λ f. turns_left f.parts };
+
+    ghost is_alone = { false };
+
+    fn loads_ahead(&self) -> bool {
+        seat_loads::are_large(&self.options)
+    }
+
+    fn load_bucket(&self, hash: u64) {
+        let at = partition_of(hash, self.options.partitions) as usize;
+        seat_loads::load_bucket(&self.parts[at].seat, hash);
+    }
+
+    fn load_item(&self, hash: u64) {
+        let at = partition_of(hash, self.options.partitions) as usize;
+        seat_loads::load_item(&self.parts[at].seat, hash);
+    }
+
+    fn write<R: Threads + Wait + Sync>(
+        &mut self,
+        rt: &R,
+        _alloc: Global,
+        op: Op,
+        key: &[u8],
+        value: &[u8],
+    ) -> Result<(Outcome, u64), NoMemory> {
+        let number = partition_of(key_hash(key), self.options.partitions);
+        let at = number as usize;
+        let lock = &self.locks[at];
+        Ok(self.parts[at].write(rt, lock, number, op, key, value))
+    }
+
+    fn read<R: Threads + Wait + Sync>(
+        &mut self,
+        rt: &R,
+        key: &[u8],
+        out: &mut ItemBuf,
+    ) -> (Answer, u64) {
+        let hash = key_hash(key);
+        let number = partition_of(hash, self.options.partitions);
+        let tries = self.options.tries;
+        self.parts[number as usize].read::<R, J>(rt, number, key, hash, tries, out)
+    }
+}
+
+impl<'a, J: ServerPlan, P: LendPartition<Reader = ReaderSeat, Note = Note> + Drop> Changes
+    for LockedFront<'a, J, P> {
+    fn change<R: Threads + Wait + Sync, D: Decide>(
+        &mut self,
+        rt: &R,
+        second: u64,
+        key: &[u8],
+        decide: &D,
+        found: &mut ItemBuf,
+        next: &mut ItemBuf,
+    ) -> Changed {
+        let number = partition_of(key_hash(key), self.options.partitions);
+        let at = number as usize;
+        let lock = &self.locks[at];
+        self.parts[at].change(rt, lock, number, second, key, decide, found, next)
+    }
+}

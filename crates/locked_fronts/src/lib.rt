@@ -1,0 +1,18 @@
+//! Fronts that own partitions in turn, by locks, in place of owners in threads of their own.
+//!
+//! Under each lock lies a partition, with a book of the turns that were taken there. A front takes the lock for one write, or for one look and the
+//! write that is decided of it. The layer above may rely on this: a front's calls meet the clauses of any `Front` and of `Changes`, and of the one
+//! run of a partition just those steps are its own that it answered, in its order.
+#![tactic(auto)]
+
+mod flushes;
+mod front;
+mod owned;
+mod part;
+mod returned;
+
+pub use flushes::write_counted;
+pub use front::LockedFront;
+pub use owned::{OwnedPartition, ServerPlan, Step, Written};
+pub use part::LockedPart;
+pub use returned::Returned;

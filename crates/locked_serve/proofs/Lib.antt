@@ -1,0 +1,4 @@
+pub mod Named
+pub mod Lending
+pub mod Taken
+pub mod Ran

@@ -1,0 +1,64 @@
+use Rattle.std.proofs.Common.{rules, ◌≡◌, ◌+◌, ◌<◌, ℕ, length, vec_len, map, sym, ◌∙◌, subst}
+use Rattle.std.specs.Prelude.{IfSome}
+use Rattle.std.proofs.lemmas.List.{length-map}
+use Rattle.mica_io.specs.Ports.{out}
+use Rattle.mica_serve.specs.Ends.{EndFacts, end_facts}
+use Rattle.mica_serve.specs.NetRun.{NetFacts, net_facts}
+use Rattle.mica_serve.proofs.PortRuns.{kept_at}
+use Rattle.mica_serve.proofs.Whole.{out_until, tell_until, keeps, cause, net_kept, still_told}
+use Rattle.partition_model.specs.declared.options.Options.{Options}
+use Rattle.partition_model.specs.History.{IsHistory}
+use Rattle.locked_serve.specs.Opening.{filled_view}
+use Rattle.locked_serve.proofs.Named.{accepted}
+use Rattle.locked_serve.proofs.serve.serve_named.Given as given
+use Rattle.locked_serve.proofs.serve.serve_named.Goals as goal
+
+abbrev facts : (g : given.Over) → g.row.N-End.Denot → EndFacts
+facts g = end_facts g.N.End.Datagrams.port g.N.End.Datagrams.traffic g.N.End.Datagrams.faults g.N.End.Datagrams.has_ended g.N.End.Datagrams.script
+
+abbrev net_at : (g : given.Over) → g.row.N.Denot → NetFacts
+net_at g = net_facts g.N.Net.faults g.N.Net.binds g.N.Net.first g.N.Net.refused g.N.Net.ports g.N.Net.fails
+
+pub release_all-requires-clause-ports : goal.release_all-requires-clause-ports
+release_all-requires-clause-ports g c _ _ =
+    let run = c.bind_and_serve-answer.ensures.served in
+    kept_at c.args.ports.now.port run.olds (map (facts g) c.bind_and_serve-answer.new.ends.items) run.many run.are_new run.keeps
+
+pub release_all-requires-clause-out : goal.release_all-requires-clause-out
+release_all-requires-clause-out g c _ _ =
+    let run = c.bind_and_serve-answer.ensures.served in
+    let items = c.bind_and_serve-answer.new.ends.items in
+    let size : length (map (facts g) items) ≡ vec_len c.bind_and_serve-answer.new.ends = length-map items (facts g) ∙ (search rules) in
+    subst (λ (n : ℕ). IfSome (g.N.Net.ports c.bind_and_serve-answer.new.net) (λ all. (i : ℕ) → i < n → all (c.args.ports.now.port + i) ≡ out)) size
+    (out_until c.args.ports.now.port run.olds (map (facts g) items) (g.N.Net.ports c.args.net.now) (g.N.Net.ports c.bind_and_serve-answer.new.net) run.many run.bound)
+
+pub release_all-requires-clause-tell : goal.release_all-requires-clause-tell
+release_all-requires-clause-tell g c _ _ =
+    let run = c.bind_and_serve-answer.ensures.served in
+    tell_until c.args.ports.now.port run.olds (map (facts g) c.bind_and_serve-answer.new.ends.items) (g.N.Net.ports c.args.net.now) (g.N.Net.ports c.bind_and_serve-answer.new.net) run.many run.keeps run.bound
+
+pub returns-clause-cause : goal.returns-clause-cause
+returns-clause-cause g c =
+    cause c.args.options.now c.requires.options.partitions.0 g.J.ServerPlan.plan.begun c.args.ports.now c.bind_and_serve-answer.new.tables (net_at g c.args.net.now) (net_at g c.bind_and_serve-answer.new.net)
+    (net_at g c.release_all.new.net) (map (facts g) c.bind_and_serve-answer.new.ends.items) c.release_all.ensures c.bind_and_serve-answer.result c.bind_and_serve-answer.ensures.served
+
+pub returns-clause-kept : goal.returns-clause-kept
+returns-clause-kept g c =
+    keeps c.args.options.now c.requires.options.partitions.0 g.J.ServerPlan.plan.begun c.args.ports.now c.bind_and_serve-answer.new.tables (net_at g c.args.net.now) (net_at g c.bind_and_serve-answer.new.net)
+    (net_at g c.release_all.new.net) (map (facts g) c.bind_and_serve-answer.new.ends.items) c.release_all.ensures c.bind_and_serve-answer.result c.bind_and_serve-answer.ensures.served
+
+pub returns-clause-announced : goal.returns-clause-announced
+returns-clause-announced g c =
+    still_told c.bind_and_serve-answer.result (g.A.Announce.says c.args.ports.now) (g.A.Announce.fails c.args.ports.now) (net_at g c.args.net.now) (net_at g c.bind_and_serve-answer.new.net)
+    (net_at g c.release_all.new.net) c.args.announce.now c.bind_and_serve-answer.new.announce c.release_all.ensures.refused c.bind_and_serve-answer.ensures.announced
+
+pub returns-in_err-ends-clause-kept : goal.returns-in_err-ends-clause-kept
+returns-in_err-ends-clause-kept g c = net_kept c.args.ports.now (net_at g c.args.net.now) c.requires.unbound
+
+pub bind_and_serve-answer-requires-clause-filled : goal.bind_and_serve-answer-requires-clause-filled
+bind_and_serve-answer-requires-clause-filled g c κs within =
+    subst (λ (o : Options). (p : ℕ) → p < o.partitions → IsHistory o (g.J.ServerPlan.plan.begun p)) (sym c.requires.named)
+    (accepted g.J.ServerPlan.plan 0 (map (λ f. filled_view g.P.Partition.owner g.P.Partition.home f) c.args.parts.items) c.requires.of)
+
+pub returns-in_err-server-clause-kept : goal.returns-in_err-server-clause-kept
+returns-in_err-server-clause-kept g c = net_kept c.args.ports.now (net_at g c.args.net.now) c.requires.unbound

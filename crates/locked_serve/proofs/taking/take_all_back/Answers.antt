@@ -1,0 +1,52 @@
+use Rattle.std.proofs.Common.{rules, ◌≡◌, ◌+◌, ◌++◌, ◌∷◌, [], ℕ, List, length, map, slice_get, Some, inl, inr, refl, sym, ap, ◌∙◌, subst, arith}
+use Rattle.std.proofs.lemmas.List.{length-map, length_push, map-append}
+use Rattle.std.proofs.lemmas.Option.{slice_get_within}
+use Rattle.mica_serve.proofs.Binding.{at_snoc}
+use Rattle.locked_fronts.specs.declared.returned.Returned.{Returned}
+use Rattle.locked_fronts.specs.Owned.{Owned, IsOwned}
+use Rattle.locked_serve.specs.Taking.{left_view}
+use Rattle.locked_serve.proofs.taking.take_all_back.Given as given
+use Rattle.locked_serve.proofs.taking.take_all_back.Goals as goal
+
+abbrev view : (g : given.Over) → Returned g.row.P.Denot → Owned
+view g part = left_view g.P.Partition.owner g.P.Partition.home part
+
+pub loop-lock-init : goal.loop-lock-init
+loop-lock-init g c = record {
+  each = record { each = λ p left at. absurd (let low = slice_get_within (map (view g) c.args.parts.now.items) p left at in omega (arith, ap length (ap (map (view g)) c.requires.none))) };
+  many = omega (arith, ap length c.requires.none, ap length c.into_iter-lock-iterator.ensures.into_iter_gives.0);
+  number = sym (ap length c.requires.none);
+  room = c.requires.room;
+}
+
+pub push_reserved-requires : goal.push_reserved-requires
+push_reserved-requires g c =
+    omega (arith, c.loop-lock.invariant.many, ap length c.in-Some.ensures.steps.0, c.loop-lock.invariant.room, c.args.locks.ok, c.loop-lock.parts.ok)
+
+pub overflow_add-number : goal.overflow_add-number
+overflow_add-number g c =
+    omega (arith, c.loop-lock.invariant.many, c.loop-lock.invariant.number, ap length c.in-Some.ensures.steps.0, c.args.locks.ok, c.requires.few)
+
+pub returns-clause-many : goal.returns-clause-many
+returns-clause-many g c = omega (arith, c.loop-lock.invariant.many, c.in-None.ensures.steps.0, c.loop-lock.lock-iterator.rest.ok)
+
+pub loop-lock-preserved : goal.loop-lock-preserved
+loop-lock-preserved g c =
+    let i = c.loop-lock.invariant in
+    let part = c.take_back.result in
+    let pushed = c.push_reserved.ensures.items in
+    record {
+      each = record {
+        each = λ p left at.
+            elim (at_snoc (map (view g) c.loop-lock.parts.items) (view g part) p left
+            (ap (λ l. slice_get l p) (sym (ap (map (view g)) pushed ∙ map-append (view g) c.loop-lock.parts.items (part ∷ []))) ∙ at))
+            as (λ _. (left.number ≡ p) × IsOwned g.J.ServerPlan.plan left) [
+              | inl h ↦ i.each.each p left h.0
+              | inr h ↦ subst (λ (v : Owned). (v.number ≡ p) × IsOwned g.J.ServerPlan.plan v) h.1
+                  (c.take_back.ensures.number ∙ i.number ∙ sym (length-map c.loop-lock.parts.items (view g)) ∙ sym h.0, c.take_back.ensures.of)
+            ];
+      };
+      many = omega (arith, ap length pushed, length_push c.loop-lock.parts.items part, i.many, ap length c.in-Some.ensures.steps.0);
+      number = omega (arith, ap length pushed, length_push c.loop-lock.parts.items part, i.number);
+      room = search rules;
+    }

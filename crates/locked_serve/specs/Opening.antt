@@ -1,0 +1,108 @@
+-- What partitions and the fronts' parts of them are before any front runs.
+use Rattle.std.specs.Prelude.{◌≡◌, ◌+◌, ℕ, List, [], length, slice_get, Option, Some, None}
+use Rattle.atomic_table.specs.Seated.{TableId}
+use Rattle.partition_model.specs.declared.options.Options.{Options}
+use Rattle.partition_model.specs.declared.write.Write.{Write}
+use Rattle.partition_model.specs.History.{History, stamp_of}
+use Rattle.epoch_core.specs.OwnerState.{options_in}
+use Rattle.epoch_core.specs.declared.state.OwnerState.{OwnerState}
+use Rattle.epoch_core.specs.Joins.{lent}
+use Rattle.partition_table.specs.Seats.{reader_state, reader_home}
+use Rattle.turn_book.specs.Entries.{BookView, book_view, taker_view}
+use Rattle.locked_fronts.specs.declared.owned.Step.{Step}
+use Rattle.locked_fronts.specs.declared.part.LockedPart.{LockedPart}
+use Rattle.locked_fronts.specs.Plan.{Plan}
+use Rattle.locked_fronts.specs.Parts.{IsPartOf}
+use Rattle.mica_fronts.specs.Flushes.{flushed_in}
+use Rattle.mica_serve.specs.Filled.{IsFilledOwner, begun_by}
+use Rattle.locked_serve.specs.declared.opening.FilledPart.{FilledPart}
+
+-- the table, the owner's state, the book, and how many writes were accepted up to the last flush
+pub record FilledView : Type 0 where
+  pub home : TableId
+  pub owner : OwnerState
+  pub book : BookView Step
+  pub flushed : ℕ
+
+abbrev pub filled_view : {P : Type 0} → (P → OwnerState) → (P → TableId) → FilledPart P → FilledView
+filled_view owner home filled = record { home = home filled.part; owner = owner filled.part; book = filled.book; flushed = filled.flushed }
+
+-- filled by those of the writes that are to its keys, with a book of no takers
+pub record IsFilled (options : Options) (writes : List Write) (p : ℕ) (filled : FilledView) : Type 0 where
+  pub owner : IsFilledOwner options filled.owner
+  pub begun : filled.owner.history ≡ begun_by options writes p
+  pub book : filled.book ≡ book_view filled.book.table 0 []
+  pub flushed : filled.flushed ≡ flushed_in filled.owner.history
+
+-- one for each partition, in order
+pub record AreFilled (options : Options) (writes : List Write) (all : List FilledView) : Type 0 where
+  pub many : length all ≡ options.partitions
+  pub each : (p : ℕ) (filled : FilledView) → slice_get all p ≡ Some filled → IsFilled options writes p filled
+
+-- What they are, by number
+
+abbrev nowhere : TableId
+nowhere = record { words = 0; slots = 0; views_name = 0; atom = 0; block = 0; offset = 0; slot_names = [] }
+
+abbrev pub book_in : Option FilledView → TableId
+book_in None = nowhere
+book_in (Some filled) = filled.book.table
+
+abbrev pub home_in : Option FilledView → TableId
+home_in None = nowhere
+home_in (Some filled) = filled.home
+
+abbrev pub begun_in : Option FilledView → History
+begun_in None = []
+begun_in (Some filled) = filled.owner.history
+
+-- what is named of these partitions, before so many fronts
+abbrev pub plan_of : Options → ℕ → List FilledView → Plan
+plan_of options fronts all = record {
+  options = options;
+  fronts = fronts;
+  books = λ p. book_in (slice_get all p);
+  homes = λ p. home_in (slice_get all p);
+  begun = λ p. begun_in (slice_get all p);
+}
+
+-- it is the plan's of this number, and so many fronts have a part of it
+pub record IsPlanned (plan : Plan) (takers p : ℕ) (filled : FilledView) : Type 0 where
+  pub owner : IsFilledOwner plan.options filled.owner
+  pub begun : filled.owner.history ≡ plan.begun p
+  pub home : filled.home ≡ plan.homes p
+  pub book : filled.book ≡ book_view (plan.books p) takers []
+  pub flushed : filled.flushed ≡ flushed_in filled.owner.history
+
+pub record ArePlanned (plan : Plan) (takers : ℕ) (all : List FilledView) : Type 0 where
+  pub many : length all ≡ plan.options.partitions
+  pub each : (p : ℕ) (filled : FilledView) → slice_get all p ≡ Some filled → IsPlanned plan takers p filled
+
+-- What each front has of them
+
+-- one taker more was enrolled, and has a seat that has seen all
+pub record LendsOne (old new : FilledView) (part : LockedPart) : Type 0 where
+  pub same : new ≡ record old { book = book_view old.book.table (old.book.takers + 1) old.book.entries }
+  pub taker : part.taker ≡ taker_view old.book.table old.book.takers []
+  pub seat : reader_state part.seat ≡ lent old.owner
+  pub home : reader_home part.seat ≡ old.home
+  pub unanswered : part.last ≡ 0
+  pub newest : part.newest ≡ stamp_of (options_in old.owner) old.owner.history
+
+-- what front f begins with in a partition
+pub record IsNewPart (plan : Plan) (f p : ℕ) (part : LockedPart) : Type 0 where
+  pub of : IsPartOf plan p f part
+  pub none : part.taker.mine ≡ []
+  pub unanswered : part.last ≡ 0
+  pub closed : (reader_state part.seat).closed ≡ 0
+  pub seen : (reader_state part.seat).seen ≡ plan.begun p
+
+-- one for each partition, in order
+pub record AreNewParts (plan : Plan) (f : ℕ) (parts : List LockedPart) : Type 0 where
+  pub many : length parts ≡ plan.options.partitions
+  pub each : (p : ℕ) (part : LockedPart) → slice_get parts p ≡ Some part → IsNewPart plan f p part
+
+-- and for each front
+pub record AreNewHands (plan : Plan) (fronts : ℕ) (hands : List (List LockedPart)) : Type 0 where
+  pub many : length hands ≡ fronts
+  pub each : (f : ℕ) (parts : List LockedPart) → slice_get hands f ≡ Some parts → AreNewParts plan f parts

@@ -1,0 +1,14 @@
+//! The server whose partitions lie under locks: its ports, and the fronts behind them, each in a thread of its own.
+//!
+//! What all fronts of `serve_locked` received and replied is `Served` of `mica_serve`, as where the owners are in threads of their own: the writes of
+//! all fronts are one run of each partition's machine, and each get is its answer at the replied stamp.
+#![tactic(auto)]
+
+mod filling;
+mod opening;
+mod serve;
+mod server;
+mod taking;
+mod worker;
+
+pub use serve::serve_locked;

@@ -1,0 +1,153 @@
+//! Partitions as filled, the fronts' parts of them, and their locks, before any front runs.
+ghost use Rattle.std.specs.Prelude.{◌≡◌, ◌+◌, ◌<◌, ◌≤◌, ℕ, [], All, IfOk, OnOk, IsErrOf, Some, length, map, slice_get, vec_len};
+ghost use Rattle.partition_model.specs.Options.{IsValid};
+ghost use Rattle.partition_model.specs.Write.{IsWrite};
+ghost use Rattle.epoch_core.specs.OwnerState.{as_made};
+ghost use Rattle.epoch_core.specs.Shape.{shape_of};
+ghost use Rattle.partition_table.specs.Seats.{note_state, note_home};
+ghost use Rattle.locked_fronts.specs.Owned.{NotesAre};
+ghost use Rattle.mica_serve.specs.Filled.{RefusesFilling};
+ghost use Rattle.locked_serve.specs.Opening.{IsFilled, AreFilled, ArePlanned, LendsOne, AreNewParts, AreNewHands, filled_view};
+
+use crate::filling::fill;
+use epoch_core::{LendPartition, Partition, Shape};
+use locked_fronts::{LockedPart, OwnedPartition, ServerPlan, Step};
+use mica_io::NoMemory;
+use mica_serve::OpenFault;
+use partition_model::{Options, Write};
+use partition_table::{Note, ReaderSeat, zeros_for};
+use seated_partition::OnTable;
+use std::alloc::Global;
+use std::sync::Mutex;
+use turn_book::TurnBook;
+
+/// A partition as filled, with its book.
+#[derive(Drop)]
+pub struct FilledPart<P> {
+    pub part: P,
+    pub book: TurnBook<Step>,
+    /// How many writes it had accepted up to its last flush, with that one.
+    pub flushed: u64,
+}
+
+// Makes and fills one partition.
+fn open_part<P: OnTable + LendPartition<Reader = ReaderSeat, Note = Note>>(
+    alloc: Global,
+    options: &Options,
+    zeros: &[u64],
+    filling: &[Write],
+    number: u32,
+) -> Result<FilledPart<P>, OpenFault>
+    requires valid { IsValid options.now }
+    requires mode { options.now.mode ≡ P.mode }
+    requires same { (p : P) → P.state p ≡ P.owner p }
+    requires zeros { zeros.now ≡ (as_made (shape_of options.now)).words }
+    requires filling { All IsWrite filling.now }
+    ensures filled { IfOk result (λ filled. IsFilled options.now filling.now number (filled_view P.owner P.home filled)) }
+    ensures refused { IsErrOf result OpenFault.Refused → RefusesFilling options.now filling.now }
+{
+    let mut part = P::from_zeros(alloc, options, zeros)?;
+    let flushed = fill(&mut part, options, number, filling)?;
+    Ok(FilledPart {
+        part,
+        book: TurnBook::new(alloc)?,
+        flushed,
+    })
+}
+
+/// All partitions, filled.
+pub(crate) fn open_parts<P: OnTable + LendPartition<Reader = ReaderSeat, Note = Note>>(
+    alloc: Global,
+    options: &Options,
+    filling: &[Write],
+) -> Result<Vec<FilledPart<P>>, OpenFault>
+    requires valid { IsValid options.now }
+    requires mode { options.now.mode ≡ P.mode }
+    requires same { (p : P) → P.state p ≡ P.owner p }
+    requires filling { All IsWrite filling.now }
+    ensures filled { IfOk result (λ parts. AreFilled options.now filling.now (map (λ f. filled_view P.owner P.home f) parts.items)) }
+    ensures refused { IsErrOf result OpenFault.Refused → RefusesFilling options.now filling.now }
+{
+    let zeros = zeros_for(alloc, &Shape::of(options))?;
+    let zeros = zeros.as_slice();
+    let mut parts = Vec::with_capacity(alloc, options.partitions as usize)?;
+    for p in 0..options.partitions {
+        parts.push(open_part(alloc, options, zeros, filling, p)?)?;
+    }
+    Ok(parts)
+}
+
+impl<P: LendPartition<Reader = ReaderSeat, Note = Note>> FilledPart<P> {
+    // A part for one front more.
+    fn lend(&mut self) -> Result<LockedPart, NoMemory>
+        ensures { IfOk result (LendsOne (filled_view P.owner P.home self.old) (filled_view P.owner P.home self.new)) }
+    {
+        let seat = self.part.lend()?;
+        Ok(LockedPart {
+            seat,
+            taker: self.book.enroll(),
+            last: 0,
+            newest: self.part.stamp(),
+        })
+    }
+}
+
+// One front more, with a part of each partition.
+fn lend_hand<J: ServerPlan, P: LendPartition<Reader = ReaderSeat, Note = Note>>(
+    alloc: Global,
+    parts: &mut Vec<FilledPart<P>>,
+    front: u32,
+) -> Result<Vec<LockedPart>, NoMemory>
+    requires of { ArePlanned J.plan front (map (λ f. filled_view P.owner P.home f) parts.old.items) }
+    ensures lent { IfOk result (λ hand. AreNewParts J.plan front hand.items) }
+    ensures of { OnOk result (ArePlanned J.plan (front + 1) (map (λ f. filled_view P.owner P.home f) parts.new.items)) }
+{
+    let count = parts.len();
+    let mut hand = Vec::with_capacity(alloc, count)?;
+    for p in 0..count {
+        let part = &mut parts[p];
+        hand.push(part.lend()?)?;
+    }
+    Ok(hand)
+}
+
+/// So many fronts, each with a part of each partition.
+pub(crate) fn lend_hands<J: ServerPlan, P: LendPartition<Reader = ReaderSeat, Note = Note>>(
+    alloc: Global,
+    parts: &mut Vec<FilledPart<P>>,
+    fronts: u32,
+) -> Result<Vec<Vec<LockedPart>>, NoMemory>
+    requires of { ArePlanned J.plan 0 (map (λ f. filled_view P.owner P.home f) parts.old.items) }
+    ensures lent { IfOk result (λ hands. AreNewHands J.plan fronts (map (λ hand. hand.items) hands.items)) }
+    ensures of { OnOk result (ArePlanned J.plan fronts (map (λ f. filled_view P.owner P.home f) parts.new.items)) }
+{
+    let mut hands = Vec::with_capacity(alloc, fronts as usize)?;
+    for f in 0..fronts {
+        hands.push(lend_hand::<J, P>(alloc, parts, f)?)?;
+    }
+    Ok(hands)
+}
+
+/// Each partition under its lock.
+pub(crate) fn lock_parts<J: ServerPlan, P: LendPartition<Reader = ReaderSeat, Note = Note> + Drop>(
+    alloc: Global,
+    parts: Vec<FilledPart<P>>,
+) -> Result<Vec<Mutex<OwnedPartition<J, P>>>, NoMemory>
+    requires notes { NotesAre P.noted P.note_home note_state note_home }
+    requires of { ArePlanned J.plan J.plan.fronts (map (λ f. filled_view P.owner P.home f) parts.items) }
+    requires few { J.plan.options.partitions ≤ 64 }
+    ensures { IfOk result (λ locks. length locks.items ≡ length parts.items) }
+{
+    let mut locks = Vec::with_capacity(alloc, parts.len())?;
+    let mut number = 0;
+    for filled in parts {
+        let FilledPart {
+            part,
+            book,
+            flushed,
+        } = filled;
+        locks.push(Mutex::new(OwnedPartition::new(number, part, book, flushed)))?;
+        number += 1;
+    }
+    Ok(locks)
+}

@@ -1,0 +1,11 @@
+//! A command of memcached as a decision that is made where its partition is held.
+//!
+//! The layer above may rely on this: what the partition's front does by it is what `decide` says of the value that is there
+//! at that moment, where unique numbers and flushes are functions of the partition's history.
+#![tactic(auto)]
+
+mod laws;
+mod order;
+
+pub use laws::numbers_rise;
+pub use order::{CommandOrder, moment_at};

@@ -1,0 +1,4 @@
+pub mod AskLaws
+pub mod CountLaws
+pub mod DecideLaws
+pub mod SpaceLaws

@@ -1,0 +1,43 @@
+-- What is replied to a command.
+use Rattle.std.specs.Prelude.{ℕ, Bool, true, false, List, [], ◌∷◌, flat_map, Some, None, if◌then◌else◌}
+use Rattle.memcached_text.specs.declared.item.Item.{Item}
+use Rattle.memcached_text.specs.declared.reply.Reply.TheVariants.{End}
+use Rattle.memcached_text.specs.Answer.{Part, value, Last, line, refusal, number, Answer}
+use Rattle.memcached_text.specs.Replies.{Found}
+use Rattle.memcached_commands.specs.declared.ask.Says.{Says}
+use Rattle.memcached_commands.specs.declared.ask.Says.TheVariants.{Line, Refusal, Number, Shows, Nothing}
+
+-- what a get tells of the item of a key, with its number where that is asked for
+abbrev pub found_of : Bool → List ℕ → Item → Found
+found_of unique key item = record { key = key; flags = item.flags; value = item.value; unique = if unique then Some item.unique else None }
+
+-- what stands in front of the last line: the item that a get found
+abbrev pub parts_of : Bool → List ℕ → Says → List Part
+parts_of unique key (Shows item) = value (found_of unique key item) ∷ []
+parts_of unique key _ = []
+
+-- the last line, which for a get is its end
+abbrev pub last_of : Says → Last
+last_of (Line reply) = line reply
+last_of (Refusal fault) = refusal fault
+last_of (Number n) = number n
+last_of (Shows item) = line End
+last_of Nothing = line End
+
+-- what was said last; nothing, where nothing was asked
+abbrev pub last_said : List (List ℕ × Says) → Says
+last_said [] = Nothing
+last_said (said ∷ []) = said.1
+last_said (said ∷ next ∷ later) = last_said (next ∷ later)
+
+-- The answer to a command, by what is said of each key that it asks.
+abbrev pub answer_of : Bool → List (List ℕ × Says) → Answer
+answer_of unique saids = record {
+  parts = flat_map (λ said. parts_of unique said.0 said.1) saids;
+  last = last_of (last_said saids);
+}
+
+-- nothing, where no reply is wanted
+abbrev pub unless_quiet : Bool → List ℕ → List ℕ
+unless_quiet true text = []
+unless_quiet false text = text

@@ -1,0 +1,34 @@
+-- What becomes of what is stored under a key.
+use Rattle.std.specs.Prelude.{◌≡◌, ⊤, ℕ, Bool, true, false, List, Option, Some, None}
+use Rattle.memcached_text.specs.declared.item.Item.{Item}
+use Rattle.memcached_text.specs.Item.{item_text}
+use Rattle.memcached_commands.specs.declared.moment.Moment.{Moment}
+use Rattle.memcached_commands.specs.declared.ask.Ask.{Ask}
+use Rattle.memcached_text.specs.declared.command.Wants.TheVariants.{Whatever}
+use Rattle.memcached_commands.specs.declared.ask.Ask.TheVariants.{Store, Spoil}
+use Rattle.memcached_commands.specs.declared.change.Change.{Change}
+use Rattle.memcached_commands.specs.declared.change.Change.TheVariants.{Stay, Become, Go}
+use Rattle.memcached_commands.specs.Moments.{found_in}
+use Rattle.memcached_commands.specs.Decide.{Becoming, stays, becomes, goes, decide}
+
+-- what is stored and not there is not left
+abbrev pub without_dead : Option (List ℕ) → Option Item → Becoming → Becoming
+without_dead (Some stored) None stays = goes
+without_dead _ _ becoming = becoming
+
+-- What a command makes of what is stored.
+abbrev pub becoming_of : Moment → Ask → Option (List ℕ) → Becoming
+becoming_of at ask stored = without_dead stored (found_in at stored) (decide at ask (found_in at stored)).becoming
+
+-- the same in memory, where a buffer has the text of the item that is to be
+abbrev pub IsChange : Becoming → Change → List ℕ → Type 0
+IsChange stays Stay next = ⊤
+IsChange (becomes item) Become next = next ≡ item_text item
+IsChange goes Go next = ⊤
+IsChange _ _ _ = ⊥
+
+-- Whether that depends on what is stored. It does not for a set, and for one that is too large.
+abbrev pub looks : Ask → Bool
+looks (Store Whatever flags lifetime value) = false
+looks Spoil = false
+looks _ = true

@@ -1,0 +1,27 @@
+-- What may be asked, and found.
+use Rattle.std.specs.Prelude.{⊤, ℕ, ◌^◌, ◌<◌, ◌≤◌, List, length, Option, Some, None}
+use Rattle.mica_words.specs.Item.{ValueFits}
+use Rattle.memcached_text.specs.declared.limits.TheConstants.{MAX_TEXT_LEN}
+use Rattle.memcached_text.specs.Fit.{IsFitKey, IsWant}
+use Rattle.memcached_text.specs.Lifetimes.{IsLifetime}
+use Rattle.memcached_commands.specs.declared.ask.Ask.{Ask}
+use Rattle.memcached_commands.specs.declared.asks.Asked.{Asked}
+use Rattle.memcached_commands.specs.declared.ask.Ask.TheVariants.{GetTouch, Store, Join, Count, Touch}
+
+-- a value is no longer than an item's may be, and numbers and lifetimes are such as a client may write
+abbrev pub IsFitAsk : Ask → Type 0
+IsFitAsk (GetTouch lifetime) = IsLifetime lifetime
+IsFitAsk (Store wants flags lifetime value) = IsWant wants × (flags < 2 ^ 32) × IsLifetime lifetime × (length value ≤ MAX_TEXT_LEN)
+IsFitAsk (Join side more) = length more ≤ MAX_TEXT_LEN
+IsFitAsk (Count direction delta) = delta < 2 ^ 64
+IsFitAsk (Touch lifetime) = IsLifetime lifetime
+IsFitAsk _ = ⊤
+
+-- nothing is stored, or a value that the store takes
+abbrev pub IsFitStored : Option (List ℕ) → Type 0
+IsFitStored None = ⊤
+IsFitStored (Some stored) = ValueFits stored
+
+-- and its key is neither empty nor too long
+abbrev pub IsFitAsked : Asked → Type 0
+IsFitAsked asked = IsFitKey asked.key × IsFitAsk asked.ask

@@ -1,0 +1,64 @@
+//! What is replied to a command, as text.
+ghost use Rattle.std.specs.Prelude.{◌≡◌, ◌++◌, ◌∷◌, [], flat_map, OnOk, OnErr};
+ghost use Rattle.memcached_text.specs.Answer.{part_text, last_text, answer_text};
+ghost use Rattle.memcached_commands.specs.Answers.{parts_of, last_of, answer_of, unless_quiet};
+
+use crate::Says;
+use memcached_text::{Reply, fault_line, put_number, put_value, reply_line};
+use mica_io::NoMemory;
+
+/// Appends the item that a get of this key shows, if it shows one. After want of memory nothing is appended.
+pub fn put_part(out: &mut Vec<u8>, unique: bool, key: &[u8], says: &Says) -> Result<(), NoMemory>
+    ensures ok { OnOk result (out.new.items ≡ out.old.items ++ flat_map part_text (parts_of unique key.now says.now)) }
+    ensures err { OnErr result (out.new.items ≡ out.old.items) }
+{
+    let Says::Shows(item) = says else {
+        return Ok(());
+    };
+    let number = if unique { Some(item.unique) } else { None };
+    put_value(out, key, item.flags, item.value.bytes(), number)
+}
+
+// Appends a line.
+fn put_line(out: &mut Vec<u8>, line: &[u8]) -> Result<(), NoMemory>
+    ensures ok { OnOk result (out.new.items ≡ out.old.items ++ line.now) }
+    ensures err { OnErr result (out.new.items ≡ out.old.items) }
+{
+    Ok(out.extend_from_slice(line)?)
+}
+
+/// Appends the last line of what is replied, which for a get is its end. After want of memory nothing is appended.
+pub fn put_last(out: &mut Vec<u8>, says: &Says) -> Result<(), NoMemory>
+    ensures ok { OnOk result (out.new.items ≡ out.old.items ++ last_text (last_of says.now)) }
+    ensures err { OnErr result (out.new.items ≡ out.old.items) }
+{
+    match says {
+        Says::Line(reply) => put_line(out, reply_line(*reply)),
+        Says::Refusal(fault) => put_line(out, fault_line(*fault)),
+        Says::Number(number) => put_number(out, *number),
+        Says::Shows(_) | Says::Nothing => put_line(out, reply_line(Reply::End)),
+    }
+}
+
+/// Appends what is replied to a command of one key, unless it is quiet. After want of memory nothing is appended.
+pub fn put_answer(
+    out: &mut Vec<u8>,
+    quiet: bool,
+    unique: bool,
+    key: &[u8],
+    says: &Says,
+) -> Result<(), NoMemory>
+    ensures ok { OnOk result (out.new.items ≡ out.old.items ++ unless_quiet quiet (answer_text (answer_of unique ((key.now, says.now) ∷ [])))) }
+    ensures err { OnErr result (out.new.items ≡ out.old.items) }
+{
+    if quiet {
+        return Ok(());
+    }
+    let start = out.len();
+    put_part(out, unique, key, says)?;
+    if put_last(out, says).is_err() {
+        out.truncate(start);
+        return Err(NoMemory);
+    }
+    Ok(())
+}

@@ -1,0 +1,13 @@
+pub mod LineLaws
+pub mod WordLaws
+pub mod NumberLaws
+pub mod NextLaws
+pub mod MeaningLaws
+pub mod QuietLaws
+pub mod SpellingLaws
+pub mod StreamLaws
+pub mod ItemLaws
+pub mod ReplyLaws
+pub mod AnswerLaws
+pub mod PlaceLaws
+pub mod FitLaws

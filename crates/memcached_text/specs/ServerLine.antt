@@ -1,0 +1,47 @@
+-- Lines about the server: flush_all, stats, verbosity.
+use Rattle.std.specs.Prelude.{ℕ, ◌||◌, Bool, true, false, List, [], ◌∷◌, codes, bytes_eq, Option, Some, None, option_map, if◌then◌else◌}
+use Rattle.memcached_text.specs.declared.fault.Fault.TheVariants.{Format, ExpiryFormat}
+use Rattle.memcached_text.specs.declared.command.Command.TheVariants as commands
+use Rattle.memcached_text.specs.declared.command.Topic.TheVariants.{Server, NoPart}
+use Rattle.memcached_text.specs.declared.lifetime.Lifetime.{Lifetime}
+use Rattle.memcached_text.specs.declared.lifetime.Due.TheVariants.{Now}
+use Rattle.memcached_text.specs.declared.line.Line.{Line}
+use Rattle.memcached_text.specs.declared.line.Line.TheVariants.{Whole}
+use Rattle.memcached_text.specs.Lifetimes.{lifetime_of, due_of}
+use Rattle.memcached_text.specs.Line.{refused, is_noreply, quiet_tail}
+use Rattle.memcached_text.specs.Numbers.{number_of}
+
+-- Each of the lines below is of the words behind a command's name. None where they are too few or too many.
+
+-- a flush at the end of a lifetime, which may be no number
+abbrev pub flushed : Option Lifetime → Bool → Line
+flushed None quiet = refused ExpiryFormat quiet
+flushed (Some lifetime) quiet = Whole (commands.Flush (due_of lifetime) quiet)
+
+-- an expiry time that may stand there, and whether a reply is wanted
+unfoldable pub flush_line : List (List ℕ) → Option Line
+flush_line [] = Some (Whole (commands.Flush Now false))
+flush_line (word ∷ []) =
+    Some (if is_noreply word then Whole (commands.Flush Now true) else flushed (lifetime_of word) false)
+flush_line (expiry ∷ last ∷ []) = Some (flushed (lifetime_of expiry) (is_noreply last))
+flush_line (_ ∷ _ ∷ _ ∷ _) = None
+
+-- the parts of memcached that clients ask for, and that this server does not have
+abbrev pub is_part : List ℕ → Bool
+is_part word =
+    bytes_eq word (codes "items") || bytes_eq word (codes "slabs") || bytes_eq word (codes "settings")
+    || bytes_eq word (codes "sizes") || bytes_eq word (codes "conns")
+
+-- nothing, or a part, and whatever else
+unfoldable pub stats_line : List (List ℕ) → Option Line
+stats_line [] = Some (Whole (commands.Stats Server))
+stats_line (word ∷ words) = if is_part word then Some (Whole (commands.Stats NoPart)) else None
+
+abbrev pub verbosity_by : Option ℕ → Bool → Line
+verbosity_by None quiet = refused Format quiet
+verbosity_by (Some level) quiet = Whole (commands.Verbosity quiet)
+
+-- a level, and whether a reply is wanted
+unfoldable pub verbosity_line : List (List ℕ) → Option Line
+verbosity_line [] = None
+verbosity_line (level ∷ tail) = option_map (verbosity_by (number_of 4294967295 level)) (quiet_tail level tail)

@@ -1,0 +1,19 @@
+//! Appends parts to a text.
+ghost use Rattle.std.specs.Prelude.{◌≡◌, ◌++◌, flat_map, OnOk, OnErr};
+
+use mica_io::NoMemory;
+
+// Appends the parts. After want of memory nothing is appended.
+pub fn append_parts(out: &mut Vec<u8>, parts: &[&[u8]]) -> Result<(), NoMemory>
+    ensures ok { OnOk result (out.new.items ≡ out.old.items ++ flat_map (λ part. part.now) parts.now) }
+    ensures err { OnErr result (out.new.items ≡ out.old.items) }
+{
+    let start = out.len();
+    for part in parts {
+        if out.extend_from_slice(part).is_err() {
+            out.truncate(start);
+            return Err(NoMemory);
+        }
+    }
+    Ok(())
+}

@@ -1,0 +1,21 @@
+//! How long the parts of a command may be.
+
+use mica_words::MAX_VALUE_LEN;
+
+/// The longest key, in bytes, as the protocol has it. The store takes longer ones.
+pub const MAX_KEY_LEN: usize = 250;
+
+/// The bytes of an item's numbers, which are stored before its value.
+pub const HEADER_LEN: usize = 16;
+
+/// The longest value of an item, in bytes. What is stored is longer by the header.
+pub const MAX_TEXT_LEN: usize = MAX_VALUE_LEN - HEADER_LEN;
+
+/// The most bytes that a line may say of the value in its block. What is longer than a value may be is dropped.
+pub const MAX_BLOCK_LEN: u32 = 2_147_483_645;
+
+/// The longest line, in bytes, without its line feed. A get may name some hundred keys.
+pub const MAX_LINE_LEN: usize = 65_536;
+
+/// Bytes that wait for more are fewer than so many: a line, its line feed, and a block with its two last bytes.
+pub const MAX_WAITING_LEN: usize = MAX_LINE_LEN + 1 + MAX_TEXT_LEN + 2;

@@ -1,0 +1,128 @@
+//! Texts of replies.
+ghost use Rattle.std.specs.Prelude.{◌≡◌, ◌++◌, OnOk, OnErr};
+ghost use Rattle.memcached_text.specs.Replies.{reply_text, fault_text, value_text, number_text, stat_text};
+
+use crate::Fault;
+use crate::append::append_parts;
+use itoa::Buffer;
+use mica_io::NoMemory;
+
+/// What is replied to a command, but for the values of a get.
+#[derive(Clone, Copy, Debug, PartialEq, Eq)]
+pub enum Reply {
+    Stored,
+    /// What is stored under the key is not as a store or a join wants it.
+    NotStored,
+    /// The item has another unique number than a store wants.
+    Exists,
+    /// There is no room for an item.
+    NoRoom,
+    Deleted,
+    /// The key is absent.
+    NotFound,
+    Touched,
+    /// Behind the values of a get, and the lines of what is counted.
+    End,
+    Version,
+    /// Of a flush, and of a verbosity.
+    Done,
+    /// Of a command of no effect.
+    Noop,
+    /// A line was too long.
+    LongLine,
+}
+
+/// The line of a reply.
+pub fn reply_line(reply: Reply) -> &'static [u8]
+    ensures { result.now ≡ reply_text reply }
+{
+    match reply {
+        Reply::Stored => b"STORED\r\n",
+        Reply::NotStored => b"NOT_STORED\r\n",
+        Reply::Exists => b"EXISTS\r\n",
+        Reply::NoRoom => b"SERVER_ERROR out of memory storing object\r\n",
+        Reply::Deleted => b"DELETED\r\n",
+        Reply::NotFound => b"NOT_FOUND\r\n",
+        Reply::Touched => b"TOUCHED\r\n",
+        Reply::End => b"END\r\n",
+        Reply::Version => b"VERSION 1.5.16-mica\r\n",
+        Reply::Done => b"OK\r\n",
+        Reply::Noop => b"MN\r\n",
+        Reply::LongLine => b"CLIENT_ERROR line too long\r\n",
+    }
+}
+
+/// The line that is replied to what is refused, where a reply is wanted.
+pub fn fault_line(fault: Fault) -> &'static [u8]
+    ensures { result.now ≡ fault_text fault }
+{
+    match fault {
+        Fault::Unknown => b"ERROR\r\n",
+        Fault::Format => b"CLIENT_ERROR bad command line format\r\n",
+        Fault::DeleteUsage => {
+            b"CLIENT_ERROR bad command line format.  Usage: delete <key> [noreply]\r\n"
+        }
+        Fault::ExpiryFormat => b"CLIENT_ERROR invalid exptime argument\r\n",
+        Fault::DeltaFormat => b"CLIENT_ERROR invalid numeric delta argument\r\n",
+        Fault::BadBlock => b"CLIENT_ERROR bad data chunk\r\n",
+        Fault::TooLarge => b"SERVER_ERROR object too large for cache\r\n",
+        Fault::NotNumber => { b"CLIENT_ERROR cannot increment or decrement non-numeric value\r\n" }
+        Fault::NotSupported => b"ERROR\r\n",
+    }
+}
+
+/// Appends the value that a get found, with its unique number where there is one. After want of memory nothing is
+/// appended.
+#[tactic(auto, unfolding(crate::specs::Replies::value_text))]
+pub fn put_value(
+    out: &mut Vec<u8>,
+    key: &[u8],
+    flags: u32,
+    value: &[u8],
+    unique: Option<u64>,
+) -> Result<(), NoMemory>
+    ensures ok { OnOk result (out.new.items ≡ out.old.items ++ value_text key.now flags value.now unique) }
+    ensures err { OnErr result (out.new.items ≡ out.old.items) }
+{
+    let mut flags_digits = Buffer::new();
+    let mut len_digits = Buffer::new();
+    let mut unique_digits = Buffer::new();
+    let flags = flags_digits.format(flags).as_bytes();
+    let len = len_digits.format(value.len()).as_bytes();
+    let (space, end) = (b" ".as_slice(), b"\r\n".as_slice());
+    let begin = b"VALUE ".as_slice();
+    match unique {
+        Some(unique) => {
+            let unique = unique_digits.format(unique).as_bytes();
+            append_parts(
+                out,
+                &[
+                    begin, key, space, flags, space, len, space, unique, end, value, end,
+                ],
+            )
+        }
+        None => append_parts(
+            out,
+            &[begin, key, space, flags, space, len, end, value, end],
+        ),
+    }
+}
+
+/// Appends the number that a count gave. After want of memory nothing is appended.
+#[tactic(auto, unfolding(crate::specs::Replies::number_text))]
+pub fn put_number(out: &mut Vec<u8>, number: u64) -> Result<(), NoMemory>
+    ensures ok { OnOk result (out.new.items ≡ out.old.items ++ number_text number) }
+    ensures err { OnErr result (out.new.items ≡ out.old.items) }
+{
+    let mut digits = Buffer::new();
+    append_parts(out, &[digits.format(number).as_bytes(), b"\r\n"])
+}
+
+/// Appends one line of what is counted. After want of memory nothing is appended.
+#[tactic(auto, unfolding(crate::specs::Replies::stat_text))]
+pub fn put_stat(out: &mut Vec<u8>, name: &[u8], value: &[u8]) -> Result<(), NoMemory>
+    ensures ok { OnOk result (out.new.items ≡ out.old.items ++ stat_text name.now value.now) }
+    ensures err { OnErr result (out.new.items ≡ out.old.items) }
+{
+    append_parts(out, &[b"STAT ", name, b" ", value, b"\r\n"])
+}

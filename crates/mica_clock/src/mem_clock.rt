@@ -1,0 +1,38 @@
+//! A clock in memory.
+ghost use Rattle.std.specs.Prelude.{◌≡◌, ◌≤◌, ℕ, List, drop};
+ghost use Rattle.mica_clock.specs.Seconds.{second_after, shown_in};
+
+use crate::clock::{Clock, second_after};
+
+/// A clock that shows what its script says: a second, or nothing where it can't be read. Behind its end it can't.
+#[derive(Drop)]
+pub struct MemClock<'a> {
+    script: &'a [Option<u64>],
+    last: u64,
+}
+
+impl<'a> MemClock<'a> {
+    pub fn new(script: &'a [Option<u64>]) -> MemClock<'a>
+        ensures script { result.script.now ≡ script.now }
+        ensures last { result.last ≡ 0 }
+    {
+        MemClock { script, last: 0 }
+    }
+}
+
+impl<'a> Clock for MemClock<'a> {
+    ghost last = { λ clock. clock.last };
+
+    fn second(&mut self) -> u64
+        ensures told { result ≡ self.new.last }
+        ensures never_falls { self.old.last ≤ self.new.last }
+        ensures shown { self.new.last ≡ second_after self.old.last (shown_in self.old.script.now) }
+        ensures later { self.new.script.now ≡ drop 1 self.old.script.now }
+    {
+        if let Some((shown, later)) = self.script.split_first() {
+            self.last = second_after(self.last, *shown);
+            self.script = later;
+        }
+        self.last
+    }
+}

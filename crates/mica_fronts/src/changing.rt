@@ -1,0 +1,85 @@
+//! A front that looks at a value and writes under one hold.
+ghost use Rattle.std.specs.Prelude.{◌≡◌, ◌+◌, ◌<◌, ◌≤◌, ℕ, Bool, false, List, Option, option_copied};
+ghost use Rattle.mica_words.specs.Hash.{partition_of};
+ghost use Rattle.mica_words.specs.Item.{KeyFits};
+ghost use Rattle.mica_fronts.specs.Session.{ChangesOnly};
+ghost use Rattle.mica_fronts.specs.Changing.{Becoming, IsChange, count_of};
+ghost use Rattle.mica_fronts.specs.Looks.{ComesTo};
+
+use crate::front::Front;
+use partition_model::{Answer, ItemBuf, Outcome};
+use std::sync::Wait;
+use std::thread::Threads;
+
+/// When a decision is made.
+#[derive(Clone, Copy, Debug, PartialEq, Eq)]
+pub struct When {
+    /// The second that the caller gave.
+    pub second: u64,
+    /// How many writes the partition had accepted.
+    pub written: u64,
+    /// How many it had accepted up to its last flush, with that one; 0 where there was none.
+    pub flushed: u64,
+}
+
+/// What is to become of a value.
+#[derive(Clone, Copy, Debug, PartialEq, Eq)]
+pub enum Change {
+    Stay,
+    /// It is to be what the buffer has.
+    Become,
+    Go,
+}
+
+/// A decision, which has no effects: it can neither wait nor take memory.
+pub trait Decide {
+    ghost use Rattle.mica_fronts.specs.declared.changing.When.{When};
+
+    ghost becoming: { Self → When → Option (List ℕ) → Becoming };
+
+    /// Whether it depends on the value.
+    ghost needs: { Self → Bool };
+
+    fn looks(&self) -> bool
+        ensures needs { result ≡ needs self.now }
+        ensures blind { result ≡ false → (when : When) (one other : Option (List ℕ)) → becoming self.now when one ≡ becoming self.now when other };
+
+    /// What becomes of the value that was found, or of none.
+    fn decide(&self, when: When, found: Option<&[u8]>, next: &mut ItemBuf) -> Change
+        ensures { IsChange (becoming self.now when (option_copied found.entry)) result next.new };
+}
+
+/// What a change came to.
+#[derive(Clone, Copy, Debug, PartialEq, Eq)]
+pub struct Changed {
+    pub when: When,
+    /// The answer to a get of the value, where it was looked at: always where the decision needs it. The buffer has the value of a hit.
+    pub found: Option<Answer>,
+    /// That of the write, where one was made.
+    pub outcome: Option<Outcome>,
+    /// The stamp after it.
+    pub stamp: u64,
+}
+
+/// A front that looks at a value, decides, and writes what was decided, with nothing between.
+pub trait Changes: Front {
+    fn change<R: Threads + Wait + Sync, D: Decide>(
+        &mut self,
+        rt: &R,
+        second: u64,
+        key: &[u8],
+        decide: &D,
+        found: &mut ItemBuf,
+        next: &mut ItemBuf,
+    ) -> Changed
+        requires key { KeyFits key.now }
+        requires left { 0 < Self.left self.old }
+        ensures changed { let p = partition_of key.entry.now (Self.options self.old).partitions in
+            ComesTo (Self.options self.old) Self.is_alone second key.entry.now (D.needs decide.entry.now) (D.becoming decide.entry.now)
+            (Self.sessions self.old p) result found.new (Self.sessions self.new p) }
+        ensures others { ChangesOnly (partition_of key.entry.now (Self.options self.old).partitions) (Self.sessions self.old) (Self.sessions self.new) }
+        ensures left { Self.left self.old ≤ Self.left self.new + count_of result.outcome }
+        ensures options { Self.options self.new ≡ Self.options self.old }
+        ensures number { Self.number self.new ≡ Self.number self.old }
+        ensures stands { Self.stands self.new ≡ Self.stands self.old };
+}

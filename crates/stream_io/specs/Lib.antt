@@ -1,0 +1,9 @@
+pub mod Connection
+pub mod State
+pub mod Log
+pub mod Calls
+pub mod Ports
+pub mod MemoryLog
+pub mod MemoryConnection
+pub mod Stage
+pub mod MemoryConnections

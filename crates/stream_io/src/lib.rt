@@ -1,0 +1,24 @@
+//! The outside as connections: where streams of bytes come from and go to, over epoll and in memory.
+//!
+//! The layer above may rely on this: connections in memory tell their schedule beforehand and each call that was made, so what stands is
+//! known; a read that says `Later` left nothing, and a write takes all that the peer has room for. A connection that breaks is its peer's
+//! doing and no fault: `next` alone answers `Failed`, where the count of faults rose in that call.
+#![tactic(auto)]
+
+mod connections;
+mod listeners;
+mod memory_connection;
+mod memory_connections;
+mod memory_list;
+mod memory_log;
+mod schedule;
+mod stage;
+mod tcp_connections;
+mod tcp_listeners;
+
+pub use connections::{Broken, Connections, Event, Input};
+pub use listeners::Listeners;
+pub use memory_connections::MemConnections;
+pub use schedule::{Change, Step};
+pub use tcp_connections::TcpConnections;
+pub use tcp_listeners::TcpListeners;

@@ -1,0 +1,86 @@
+//! What calls did, in room that was taken beforehand.
+ghost use Rattle.std.specs.Prelude.{◌≡◌, ◌-◌, ◌<◌, ◌≤◌, ◌∷◌, [], length, IfOk};
+ghost use Rattle.stream_io.specs.State.{sent};
+ghost use Rattle.stream_io.specs.MemoryLog.{noted};
+
+use mica_io::NoMemory;
+use std::alloc::Global;
+use std::marker::Model;
+
+/// What a call did that keeps no bytes of its own.
+#[derive(Clone, Copy)]
+pub enum Note<'a> {
+    Opened(u32),
+    Reported(u32),
+    Met,
+    Received(usize, &'a [u8]),
+    Asked(usize),
+    Closed(usize),
+}
+
+/// What a call did: what it sent lies between two places of the bytes that were sent.
+#[derive(Clone, Copy)]
+pub enum Mark<'a> {
+    Noted(Note<'a>),
+    Sent(usize, usize, usize),
+}
+
+/// What calls did, with room for so much more.
+#[derive(Drop)]
+pub struct MemLog<'a> {
+    marks: Vec<Mark<'a>>,
+    bytes: Vec<u8>,
+    room: usize,
+}
+
+impl<'a> Model for MemLog<'a> {
+    ghost use Rattle.std.specs.Prelude.{◌+◌, ◌≤◌, All, length, vec_len, vec_capacity};
+    ghost use Rattle.stream_io.specs.MemoryLog.{LogRoom, entries_in, IsWithin};
+
+    ghost Value = { LogRoom };
+
+    ghost view = { λ l. record { entries = entries_in l.bytes.items l.marks.items; room = l.room } };
+
+    ghost invariant = { λ l. (vec_len l.bytes + l.room ≤ vec_capacity l.bytes)
+        × (vec_len l.marks + l.room ≤ vec_capacity l.marks)
+        × All (IsWithin (length l.bytes.items)) l.marks.items };
+}
+
+impl<'a> MemLog<'a> {
+    /// An entry takes a place of the room, or one for each byte that was sent.
+    pub fn new(alloc: Global, room: usize) -> Result<Self, NoMemory>
+        ensures entries { IfOk result (λ l. l.entries ≡ []) }
+        ensures room { IfOk result (λ l. l.room ≡ room) }
+    {
+        Ok(MemLog {
+            marks: Vec::with_capacity(alloc, room)?,
+            bytes: Vec::with_capacity(alloc, room)?,
+            room,
+        })
+    }
+
+    pub fn note(&mut self, note: Note<'a>)
+        requires { 0 < self.old.room }
+        ensures entries { self.new.entries ≡ noted note.entry ∷ self.old.entries }
+        ensures room { self.new.room ≡ self.old.room - 1 }
+    {
+        self.marks.push_reserved(Mark::Noted(note));
+        self.room -= 1;
+    }
+
+    /// Bytes were sent for a connection.
+    pub fn send(&mut self, place: usize, bytes: &[u8])
+        requires some { 0 < length bytes.now }
+        requires fits { length bytes.now ≤ self.old.room }
+        ensures entries { self.new.entries ≡ sent place bytes.now ∷ self.old.entries }
+        ensures room { self.new.room ≡ self.old.room - length bytes.now }
+    {
+        let from = self.bytes.len();
+        if self.bytes.extend_from_slice(bytes).is_err() {
+            unreachable!();
+        }
+        let to = self.bytes.len();
+        self.marks.push_reserved(Mark::Sent(place, from, to));
+        self.room -= bytes.len();
+    }
+}

@@ -1,0 +1,342 @@
+//! TCP connections of this machine, over epoll.
+ghost use Rattle.std.specs.Prelude.{◌≡◌, ◌<◌, ◌≤◌, false, None, length, is_none, is_err, IfOk, IfSome, IfNone, OnErr};
+ghost use Rattle.mica_io.specs.Faults.{Rose, faults_after};
+ghost use Rattle.stream_io.specs.Calls.{FitsRoom};
+
+use crate::{Broken, Connections, Event, Input};
+use mica_io::Failed;
+use mio::event::Events;
+use mio::net::{TcpListener, TcpStream};
+use mio::{Interest, Poll, Token};
+use slab::Slab;
+use std::alloc::Global;
+use std::collections::VecDeque;
+use std::io::{self, ErrorKind, Read, Write};
+use std::net::{Ipv4Addr, Net as Sockets, Shutdown, SocketAddr};
+use std::time::Duration;
+
+/// The token of the listener, which no connection has.
+const LISTENER: Token = Token(usize::MAX);
+
+/// The most events that one wait gives.
+const MOST_EVENTS: usize = 1_024;
+
+/// How many milliseconds to wait before the system is asked again for a connection that it refused.
+const PAUSE: u64 = 100;
+
+/// How many bytes that nobody reads any more are dropped before a close, so that the replies before it are not lost to a reset.
+const MOST_DROPPED: usize = 64 * 1_024;
+
+#[derive(Drop)]
+struct Slot {
+    stream: TcpStream,
+    /// Whether a read may give more, as far as is known. Readiness is told once.
+    may_read: bool,
+    /// Whether the peer's end was told: it isn't told again, so a short read doesn't say that nothing is left.
+    half_closed: bool,
+    /// Whether it is among those to be reported.
+    queued: bool,
+}
+
+/// Whether a connection may wait to be accepted.
+#[derive(Clone, Copy, Debug, PartialEq, Eq)]
+enum Accepting {
+    Idle,
+    Ready,
+    /// The system refused one, for want of descriptors or memory.
+    Refused,
+}
+
+/// The TCP connections at one port, at most so many at a time: more wait to be accepted. It tells nothing of content, and waits where nothing comes.
+#[derive(Drop)]
+pub struct TcpConnections {
+    port: u16,
+    most: usize,
+    poll: Poll,
+    events: Events,
+    listener: TcpListener,
+    accepting: Accepting,
+    slots: Slab<Slot>,
+    /// The connections to be reported, each once. There is room for all.
+    queue: VecDeque<u32>,
+    /// How many of these are reported before the system is asked again.
+    turns: usize,
+    faults: u64,
+}
+
+/// Puts a connection among those to be reported, once. There is room for it.
+fn put(slots: &mut Slab<Slot>, queue: &mut VecDeque<u32>, number: usize) {
+    if let Some(slot) = slots.get_mut(number) {
+        if !slot.queued {
+            if let Ok(short) = u32::try_from(number) {
+                slot.queued = queue.push_back(short).is_ok();
+            }
+        }
+    }
+}
+
+/// Puts each connection of the events among those to be reported, and says whether the listener was among them.
+fn put_events(events: &Events, slots: &mut Slab<Slot>, queue: &mut VecDeque<u32>) -> bool {
+    let mut listens = false;
+    for event in events {
+        let token = event.token();
+        if token == LISTENER {
+            listens = true;
+        } else {
+            let ended = event.is_read_closed() || event.is_error();
+            if let Some(slot) = slots.get_mut(token.0) {
+                slot.half_closed = slot.half_closed || ended;
+                slot.may_read = slot.may_read || event.is_readable() || ended;
+            }
+            put(slots, queue, token.0);
+        }
+    }
+    listens
+}
+
+/// Reads once, and notes whether there may be more.
+fn read_from(slot: &mut Slot, out: &mut [u8]) -> Result<Input, Broken>
+    requires room { 0 < length out.old }
+    ensures fits { IfOk result (FitsRoom (length out.old)) }
+{
+    for _ in 0..u64::MAX {
+        match (&slot.stream).read(out) {
+            Ok(0) => return Ok(Input::Ended),
+            Ok(count) => {
+                slot.may_read = slot.half_closed || count == out.len();
+                return Ok(Input::Bytes(count));
+            }
+            Err(error) => match error.kind() {
+                ErrorKind::WouldBlock => {
+                    slot.may_read = false;
+                    return Ok(Input::Later);
+                }
+                ErrorKind::Interrupted => {}
+                _ => break,
+            },
+        }
+    }
+    Err(Broken)
+}
+
+/// Writes once. Where nothing is taken now, that is 0.
+fn write_to(stream: &TcpStream, piece: &[u8]) -> Result<usize, Broken>
+    ensures { IfOk result (λ n. n ≤ length piece.now) }
+{
+    for _ in 0..u64::MAX {
+        match (&*stream).write(piece) {
+            Err(error) => match error.kind() {
+                ErrorKind::WouldBlock => return Ok(0),
+                ErrorKind::Interrupted => {}
+                _ => break,
+            },
+            taken => return taken.map_err(|_| Broken),
+        }
+    }
+    Err(Broken)
+}
+
+/// Says that nothing more will be sent, and drops what the peer sent and nobody reads, up to a bound: a close with bytes unread loses replies.
+fn drop_unread(slot: &mut Slot) {
+    let _unheeded = slot.stream.shutdown(Shutdown::Write);
+    let mut scratch = [0; 4_096];
+    for _ in 0..MOST_DROPPED / 4_096 {
+        match read_from(slot, &mut scratch) {
+            Ok(Input::Bytes(_)) => {}
+            _ => return,
+        }
+    }
+}
+
+impl TcpConnections {
+    pub(crate) fn open(
+        rt: &impl Sockets,
+        alloc: Global,
+        address: Ipv4Addr,
+        port: u16,
+        most: usize,
+    ) -> io::Result<TcpConnections>
+        ensures { IfOk result (λ c. (c.port ≡ port) × (c.faults ≡ 0)) }
+    {
+        let poll = Poll::new(rt)?;
+        let events = Events::with_capacity(alloc, MOST_EVENTS)?;
+        let mut listener = TcpListener::bind(rt, SocketAddr::from((address, port)))?;
+        poll.registry()
+            .register(&mut listener, LISTENER, Interest::READABLE)?;
+        Ok(TcpConnections {
+            port,
+            most,
+            poll,
+            events,
+            listener,
+            accepting: Accepting::Ready,
+            slots: Slab::new(alloc),
+            queue: VecDeque::new(alloc),
+            turns: 0,
+            faults: 0,
+        })
+    }
+
+    /// Takes a connection in, and says its number. Where there is no memory for it, it is let go.
+    fn take_in(&mut self, stream: TcpStream) -> Option<u32>
+        ensures { (self.new.port ≡ self.old.port) × (self.new.faults ≡ self.old.faults) }
+    {
+        let _unheeded = stream.set_nodelay(true);
+        // Each that is open once, and each that was closed since the last round.
+        let room = self.slots.len().saturating_add(1).saturating_mul(2);
+        self.queue
+            .reserve(room.saturating_sub(self.queue.len()))
+            .ok()?;
+        let slot = Slot {
+            stream,
+            may_read: false,
+            half_closed: false,
+            queued: false,
+        };
+        let number = self.slots.insert(slot).ok()?;
+        let slot = self.slots.get_mut(number)?;
+        let both = Interest::READABLE | Interest::WRITABLE;
+        let registry = self.poll.registry();
+        if registry
+            .register(&mut slot.stream, Token(number), both)
+            .is_err()
+        {
+            let _gone = self.slots.try_remove(number);
+            return None;
+        }
+        u32::try_from(number).ok()
+    }
+
+    /// Whether there is room for one more connection, and one may wait.
+    fn may_accept(&self) -> bool {
+        self.accepting == Accepting::Ready && self.slots.len() < self.most
+    }
+
+    /// The next connection, where one waits and there is room.
+    fn accept(&mut self) -> Option<u32>
+        ensures { (self.new.port ≡ self.old.port) × (self.new.faults ≡ self.old.faults) }
+    {
+        if !self.may_accept() {
+            return None;
+        }
+        match self.listener.accept() {
+            Ok((stream, _)) => self.take_in(stream),
+            Err(error) => {
+                match error.kind() {
+                    ErrorKind::WouldBlock => self.accepting = Accepting::Idle,
+                    ErrorKind::Interrupted | ErrorKind::ConnectionAborted => {}
+                    _ => self.accepting = Accepting::Refused,
+                }
+                None
+            }
+        }
+    }
+
+    /// How long to wait: not at all where something is to be reported or accepted.
+    fn timeout(&self) -> Option<Duration> {
+        if !self.queue.is_empty() || self.may_accept() {
+            Some(Duration::ZERO)
+        } else if self.accepting == Accepting::Refused {
+            Some(Duration::from_millis(PAUSE))
+        } else {
+            None
+        }
+    }
+
+    /// Asks the system what is ready. All of it is one round of reports.
+    fn ask(&mut self) -> io::Result<()>
+        ensures { (self.new.port ≡ self.old.port) × (self.new.faults ≡ self.old.faults) }
+    {
+        let timeout = self.timeout();
+        self.poll.poll(&mut self.events, timeout)?;
+        let listens = put_events(&self.events, &mut self.slots, &mut self.queue);
+        if listens || self.accepting == Accepting::Refused {
+            self.accepting = Accepting::Ready;
+        }
+        self.turns = self.queue.len();
+        Ok(())
+    }
+
+    /// The next connection to be reported in this round, where it was not closed since.
+    fn take_ready(&mut self) -> Option<u32>
+        ensures { (self.new.port ≡ self.old.port) × (self.new.faults ≡ self.old.faults) }
+    {
+        let number = self.queue.pop_front()?;
+        let slot = self.slots.get_mut(number as usize)?;
+        slot.queued = false;
+        Some(number)
+    }
+
+    /// The next report: those of a round, and after each round one connection that waits to be accepted.
+    fn report(&mut self) -> io::Result<Event>
+        ensures { (self.new.port ≡ self.old.port) × (self.new.faults ≡ self.old.faults) }
+    {
+        let mut asked = false;
+        for _ in 0..u64::MAX {
+            if self.turns > 0 {
+                self.turns -= 1;
+                if let Some(number) = self.take_ready() {
+                    return Ok(Event::Ready(number));
+                }
+            } else if asked {
+                asked = false;
+                if let Some(number) = self.accept() {
+                    return Ok(Event::Opened(number));
+                }
+            } else {
+                self.ask()?;
+                asked = true;
+            }
+        }
+        Err(ErrorKind::TimedOut.into())
+    }
+}
+
+impl Connections for TcpConnections {
+    ghost port = { λ c. c.port };
+
+    ghost log = { λ _. None };
+
+    ghost faults = { λ c. c.faults };
+
+    ghost has_ended = { λ _. false };
+
+    fn next(&mut self) -> Result<Option<Event>, Failed> {
+        if let Ok(event) = self.report() {
+            return Ok(Some(event));
+        }
+        self.faults = self.faults.saturating_add(1);
+        Err(Failed)
+    }
+
+    fn read(&mut self, number: u32, out: &mut [u8]) -> Result<Input, Broken> {
+        match self.slots.get_mut(number as usize) {
+            Some(slot) if slot.may_read => read_from(slot, out),
+            Some(_) => Ok(Input::Later),
+            None => Err(Broken),
+        }
+    }
+
+    fn write(&mut self, number: u32, piece: &[u8]) -> Result<usize, Broken> {
+        match self.slots.get(number as usize) {
+            Some(slot) => write_to(&slot.stream, piece),
+            None => Err(Broken),
+        }
+    }
+
+    fn again(&mut self, number: u32) {
+        put(&mut self.slots, &mut self.queue, number as usize);
+    }
+
+    fn close(&mut self, number: u32) {
+        if let Some(slot) = self.slots.get_mut(number as usize) {
+            if slot.may_read {
+                drop_unread(slot);
+            }
+        }
+        let _gone = self.slots.try_remove(number as usize);
+        if self.accepting == Accepting::Refused {
+            self.accepting = Accepting::Ready;
+        }
+    }
+}
