@@ -116,8 +116,9 @@ fn serve_row<W: Threads + Wait + Sockets + Sync>(
         "serve --port {port} --fronts 2 --partitions 2 {}",
         row.serve
     )?;
+    let has_failed = AtomicBool::new(false);
     let mut net = WatchedNet {
-        net: UdpNet::new(rt),
+        net: UdpNet::failing_whole(rt, &has_failed),
         progress,
     };
     let mut link = UdpLink::new(rt);

@@ -105,8 +105,9 @@ fn serve_image<W: Threads + Wait + Sockets + Sync>(
     )?;
     let mut files = MemFiles::new(alloc);
     files.add(alloc, FILE, image, &[])?;
+    let has_failed = AtomicBool::new(false);
     let net = CountedNet {
-        net: UdpNet::new(rt),
+        net: UdpNet::failing_whole(rt, &has_failed),
         times: 1,
     };
     let mut net = WatchedNet { net, progress };
