@@ -55,7 +55,7 @@ unfolding words_of
 words_are_some text = filter_some (slice_split (λ b. b == 32) text)
 
 -- a lifetime that a word says
-at_fits : (n : ℕ) → n ≤ 4294967295 → IsLifetime (lifetime_at n)
+pub at_fits : (n : ℕ) → n ≤ 4294967295 → IsLifetime (lifetime_at n)
 at_fits n low = go (eqb n 0) (nat_le n MAX_SECONDS) refl refl
   where
     go : (zero short : Bool) → eqb n 0 ≡ zero → nat_le n MAX_SECONDS ≡ short → IsLifetime (cond zero Forever (cond short (For n) (Until n)))

@@ -11,3 +11,5 @@ pub mod ReplyLaws
 pub mod AnswerLaws
 pub mod PlaceLaws
 pub mod FitLaws
+pub mod SpelledLaws
+pub mod KeyLaws

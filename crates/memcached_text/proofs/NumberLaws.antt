@@ -12,7 +12,7 @@ use Rattle.std.proofs.lemmas.Bool.{ltb-false, leb-true, le-leb, lt-leb, lt-ltb, 
 use Rattle.memcached_text.specs.Lines.{Lacks}
 use Rattle.memcached_text.specs.Numbers.{is_digits, number_of}
 
-abbrev own : IsNumeralModel (λ ds. all_ascii_digits ds ≡ true) (digits_value 10)
+abbrev pub own : IsNumeralModel (λ ds. all_ascii_digits ds ≡ true) (digits_value 10)
 own = numerals_by_value _ tells_all_ascii_digits
 
 digits_lack : (byte : ℕ) → byte < 48 → (ds : List ℕ) → AllDigits 10 ds → Lacks byte ds
@@ -63,7 +63,7 @@ pub record IsPartRead (word : List ℕ) (number : ℕ) (rest : List ℕ) : Type 
 pub none_read : (word : List ℕ) → IsPartRead word 0 word
 none_read word = record { digits = refl; value = refl }
 
-digit_is : (b : ℕ) → is_ascii_digit b ≡ true → digit_value b ≡ b - 48
+pub digit_is : (b : ℕ) → is_ascii_digit b ≡ true → digit_value b ≡ b - 48
 digit_is b is = grind (arith, common_steps, is)
 
 -- one digit more

@@ -326,10 +326,10 @@ join_is_read Front key len quiet is len_is =
     (rw (join_meant (verbs.Join Front) key len quiet is len_is) refl)
 
 -- a line, its end, a block and more
-regroup_text : (line block more : List ℕ) → line ++ codes "\r\n" ++ block ++ more ≡ line ++ 13 ∷ 10 ∷ (block ++ more)
+pub regroup_text : (line block more : List ℕ) → line ++ codes "\r\n" ++ block ++ more ≡ line ++ 13 ∷ 10 ∷ (block ++ more)
 regroup_text line block more = append_assoc (line ++ codes "\r\n") block more ∙ append_assoc line (codes "\r\n") (block ++ more)
 
-text_len : (line block : List ℕ) → length (line ++ codes "\r\n" ++ block) ≡ length line + 2 + length block
+pub text_len : (line block : List ℕ) → length (line ++ codes "\r\n" ++ block) ≡ length line + 2 + length block
 text_len line block = omega (arith, length-append (line ++ codes "\r\n") block, length-append line (codes "\r\n"))
 
 -- a line that is a whole command

@@ -45,9 +45,18 @@ pub words_of_end : (part rest : List ℕ) → Lacks 32 part → rest ≡ [] → 
 words_of_end [] rest lacks none = ap words_of (sym none)
 words_of_end (b ∷ part) rest lacks none = words_of_last (b ∷ part) (omega arith) lacks ∙ ap (λ ws. (b ∷ part) ∷ ws) (sym (ap words_of none ∙ words_of_none))
 
-with_some : (word : List ℕ) (words : List (List ℕ)) → (length word == 0) ≡ false → with_word word words ≡ word ∷ words
+pub with_some : (word : List ℕ) (words : List (List ℕ)) → (length word == 0) ≡ false → with_word word words ≡ word ∷ words
 with_some [] words some = absurd (true≢false some)
 with_some (b ∷ word) words some = refl
+
+pub with_none : (word : List ℕ) (words : List (List ℕ)) → (length word == 0) ≡ true → with_word word words ≡ words
+with_none [] words none = refl
+with_none (b ∷ word) words none = let zero : length (b ∷ word) ≡ 0 = eqb-true _ 0 none in absurd (omega arith)
+
+-- one word alone
+pub one_word : (word rest : List ℕ) → 0 < length word → rest ≡ [] → with_word word (words_of rest) ≡ word ∷ []
+one_word [] rest some none = absurd (omega arith)
+one_word (b ∷ word) rest some none = ap (λ words. (b ∷ word) ∷ words) (ap words_of none ∙ words_of_none)
 
 -- a first part that is a word, and one that is none
 pub is_word : (text : List ℕ) (word : List ℕ) (words : List (List ℕ)) (t : Bool) → words_of text ≡ with_word word words → t ≡ (length word == 0) → t ≡ false → words_of text ≡ word ∷ words

@@ -34,6 +34,10 @@ abbrev pub quiet_words : Bool → List (List ℕ)
 quiet_words false = []
 quiet_words true = codes "noreply" ∷ []
 
+-- what asks for no reply, behind the other words of a line
+abbrev pub asking : Bool → List ℕ
+asking quiet = flat_map (λ next. 32 ∷ next) (quiet_words quiet)
+
 -- an expiry time
 abbrev pub lifetime_text : Lifetime → List ℕ
 lifetime_text Forever = codes "0"
@@ -131,6 +135,13 @@ IsCommand (Delete key quiet) = IsKey key
 IsCommand (Touch key lifetime quiet) = IsKey key × IsLifetime lifetime
 IsCommand (Flush due quiet) = IsDue due
 IsCommand _ = ⊤
+
+-- bytes that begin with the text of this command, which has so many bytes
+pub record BeginsAs (bytes : List ℕ) (command : Command) (len : ℕ) : Type 0 where
+  pub is : IsCommand command
+  pub more : List ℕ
+  pub text : bytes ≡ command_text command ++ more
+  pub whole : len ≡ length (command_text command)
 
 -- the text of a command is read as it, whatever follows
 abbrev pub ReadsBack : Type 0

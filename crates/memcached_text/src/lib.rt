@@ -21,6 +21,7 @@ mod next;
 mod number;
 mod reply;
 mod server_line;
+mod spelled;
 mod split;
 mod storage_line;
 mod text;

@@ -32,7 +32,7 @@ pub const MAX_SECONDS: u32 = 2_592_000;
 /// The lowest number that is read as an expiry time, without its sign.
 pub const MOST_BELOW: u64 = 9_223_372_036_854_775_808;
 
-fn lifetime_at(number: u32) -> Lifetime
+pub fn lifetime_at(number: u32) -> Lifetime
     ensures { result ≡ lifetime_at number }
 {
     if number == 0 {

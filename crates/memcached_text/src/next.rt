@@ -8,6 +8,7 @@ use crate::block::{Block, END_LEN, block_at};
 use crate::forms::line_of;
 use crate::limits::{MAX_LINE_LEN, MAX_TEXT_LEN, MAX_WAITING_LEN};
 use crate::line::Line;
+use crate::spelled::{spelled_get, spelled_set};
 use crate::split::split_at_byte;
 use crate::storage_line::ItemLine;
 use crate::{Command, Fault, Text, Words};
@@ -137,7 +138,9 @@ fn is_binary(from: &[u8]) -> bool
     }
 }
 
-fn front_of(from: &[u8]) -> Next
+// What the bytes begin with, by the line at their front.
+#[inline(never)]
+fn front_line(from: &[u8]) -> Next
     ensures { result ≡ next_of from.now }
 {
     if is_binary(from) {
@@ -154,6 +157,25 @@ fn front_of(from: &[u8]) -> Next
         None if from.len() > MAX_LINE_LEN => Next::LongLine,
         None => Next::More,
     }
+}
+
+fn front_of(from: &[u8]) -> Next
+    ensures { result ≡ next_of from.now }
+{
+    if let Some((key, len)) = spelled_get(from) {
+        let command = Command::Get {
+            keys: Words::one(key),
+            unique: false,
+            lifetime: None,
+        };
+        return Next::Command { command, len };
+    }
+    if let Some(set) = spelled_set(from) {
+        let len = set.len;
+        let command = set.command();
+        return Next::Command { command, len };
+    }
+    front_line(from)
 }
 
 /// What the bytes begin with. It stays so whatever bytes follow, unless it is `More`.

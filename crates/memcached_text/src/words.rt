@@ -1,26 +1,29 @@
 //! The words of a line.
-ghost use Rattle.std.specs.Prelude.{◌≡◌, ◌<◌, ◌∷◌, [], length, MatchOption};
+ghost use Rattle.std.specs.Prelude.{◌≡◌, ◌<◌, ◌∷◌, ◌++◌, [], length, MatchOption};
 ghost use Rattle.std.specs.List.{list_all};
-ghost use Rattle.memcached_text.specs.Lines.{with_word, words_of};
+ghost use Rattle.memcached_text.specs.Lines.{Lacks, with_word, words_of};
 ghost use Rattle.memcached_text.specs.Line.{is_key};
 
 use crate::limits::MAX_KEY_LEN;
 use crate::split::split_at_byte;
+use memchr::memrchr;
 use std::marker::Model;
 
 /// Words of a line, of which some may have been taken. Clauses see the list of those that are left.
 #[derive(Drop)]
 pub struct Words<'a> {
+    // The next word, where it has been found.
+    found: &'a [u8],
     rest: &'a [u8],
 }
 
 impl<'a> Model for Words<'a> {
     ghost use Rattle.std.specs.Prelude.{List, ℕ};
-    ghost use Rattle.memcached_text.specs.Lines.{words_of};
+    ghost use Rattle.memcached_text.specs.Lines.{with_word, words_of};
 
     ghost Value = { List (List ℕ) };
 
-    ghost view = { λ w. words_of w.rest.now };
+    ghost view = { λ w. with_word w.found.now (words_of w.rest.now) };
 }
 
 // What stands before the first space, and the text behind that.
@@ -51,19 +54,60 @@ fn first_word(text: &[u8]) -> Option<(&[u8], &[u8])>
     None
 }
 
+// What stands before and behind the last space.
+fn split_at_last_space(text: &[u8]) -> Option<(&[u8], &[u8])>
+    ensures { MatchOption result (Lacks 32 text.now) (λ parts. text.now ≡ parts.0.now ++ 32 ∷ parts.1.now) }
+{
+    let at = memrchr(b' ', text)?;
+    Some((&text[..at], &text[at + 1..]))
+}
+
+// Whether each word of the text may be a key. Of so many bytes that a word of them would be too long, one has to be a
+// space.
+fn are_keys(text: &[u8]) -> bool
+    ensures { result ≡ list_all is_key (words_of text.now) }
+{
+    let mut rest = text;
+    while rest.len() > MAX_KEY_LEN {
+        let (near, _) = rest.split_at(MAX_KEY_LEN + 1);
+        match split_at_last_space(near) {
+            Some((front, _)) => rest = &rest[front.len() + 1..],
+            None => return false,
+        }
+    }
+    true
+}
+
 impl<'a> Words<'a> {
     /// The words of a text: what stands between its spaces.
     pub fn of(text: &'a [u8]) -> Words<'a>
         ensures { result ≡ words_of text.now }
     {
-        Words { rest: text }
+        Words {
+            found: b"".as_slice(),
+            rest: text,
+        }
+    }
+
+    /// This word alone.
+    pub fn one(word: &'a [u8]) -> Words<'a>
+        requires { 0 < length word.now }
+        ensures { result ≡ word.now ∷ [] }
+    {
+        Words {
+            found: word,
+            rest: b"".as_slice(),
+        }
     }
 
     /// The same words, to be taken once more.
     pub fn again(&self) -> Words<'a>
         ensures { result ≡ self.now }
     {
-        Words { rest: self.rest }
+        Words {
+            found: self.found,
+            rest: self.rest,
+        }
     }
 
     /// Takes the next word.
@@ -71,6 +115,11 @@ impl<'a> Words<'a> {
         ensures { MatchOption result ((self.old ≡ []) × (self.new ≡ []))
             (λ word. self.old ≡ word.now ∷ self.new) }
     {
+        if !self.found.is_empty() {
+            let word = self.found;
+            self.found = b"".as_slice();
+            return Some(word);
+        }
         let (word, rest) = first_word(self.rest)?;
         self.rest = rest;
         Some(word)
@@ -80,12 +129,6 @@ impl<'a> Words<'a> {
     pub fn are_keys(&self) -> bool
         ensures { result ≡ list_all is_key self.now }
     {
-        let mut words = self.again();
-        while let Some(word) = words.next_word() {
-            if word.len() > MAX_KEY_LEN {
-                return false;
-            }
-        }
-        true
+        self.found.len() <= MAX_KEY_LEN && are_keys(self.rest)
     }
 }
