@@ -1,4 +1,4 @@
-use Rattle.std.proofs.Common.{◌≡◌, ◌≤◌, ◌∙◌, length, take, sym, subst, arith}
+use Rattle.std.proofs.Common.{◌≤◌, ◌∙◌, take, sym, subst, arith}
 use Rattle.std.proofs.lemmas.List.{length-take-le}
 use Rattle.memcached_text.specs.Lines.{Lacks}
 use Rattle.memcached_text.proofs.SpelledLaws.{lacks_before, take_within}

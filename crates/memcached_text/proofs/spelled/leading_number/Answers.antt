@@ -1,4 +1,4 @@
-use Rattle.std.proofs.Common.{◌≡◌, ◌+◌, ◌-◌, ◌*◌, ◌∙◌, length, get_or, take, sym, ap, subst, arith}
+use Rattle.std.proofs.Common.{◌+◌, ◌*◌, ◌∙◌, take, sym, ap, subst, arith}
 use Rattle.memcached_text.proofs.SpelledLaws.{IsRead, nothing_read, digit_read, spelled_number}
 use Rattle.memcached_text.proofs.spelled.leading_number.Goals as goal
 

@@ -1,4 +1,4 @@
-use Rattle.std.proofs.Common.{◌≡◌, ◌≤◌, ◌-◌, length, take}
+use Rattle.std.proofs.Common.{◌≤◌, ◌-◌, length, take}
 use Rattle.memcached_text.proofs.SpelledLaws.{IsRead}
 use Rattle.memcached_text.proofs.spelled.leading_number.Given as goal
 

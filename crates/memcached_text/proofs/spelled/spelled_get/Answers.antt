@@ -1,4 +1,3 @@
-use Rattle.std.proofs.Common.{sym, ◌∙◌}
 use Rattle.memcached_text.proofs.SpelledLaws.{get_begins}
 use Rattle.memcached_text.proofs.spelled.spelled_get.Goals as goal
 
