@@ -1,5 +1,5 @@
 //! The commands that most clients send, where they are spelled as `command_text` spells them: each byte of their lines is
-//! looked at once. All else is read by `front_of`.
+//! looked at once. All else is read by `front_line`.
 ghost use Rattle.std.specs.Prelude.{◌≡◌, ◌<◌, ◌≤◌, ◌++◌, ◌∷◌, [], false, None, length, codes, decimal, slice_index, IfSome, IsTrue};
 ghost use Rattle.memcached_text.specs.Lines.{Lacks};
 ghost use Rattle.memcached_text.specs.Spelling.{BeginsAs, asking};
@@ -80,9 +80,9 @@ pub fn spelled_get(from: &[u8]) -> Option<(&[u8], usize)>
     Some((key, line.len() + 5))
 }
 
-// Whether digits are as a number has them: some, and no zero before others.
+// Whether digits are as a number is spelled: some, and no zero before others.
 #[inline]
-fn is_plain(digits: &[u8]) -> bool
+fn is_spelled(digits: &[u8]) -> bool
     ensures { IsTrue result → (0 < length digits.now) × (slice_index digits.now 0 ≡ 48 → length digits.now ≡ 1) }
 {
     !digits.is_empty() && (digits.len() == 1 || digits[0] != b'0')
@@ -104,7 +104,7 @@ fn leading_number(text: &[u8]) -> Option<(u32, &[u8])>
         len += 1;
     }
     let (digits, rest) = text.split_at(len);
-    if !is_plain(digits) {
+    if !is_spelled(digits) {
         return None;
     }
     Some((number as u32, rest))

@@ -15,6 +15,6 @@ loop-len-preserved c =
 pub returns : goal.returns
 returns c =
     let word = c.split_at.result.0.now in
-    let some = c.is_plain.ensures c.if-not-is_plain.false in
+    let some = c.is_spelled.ensures c.if-not-is_spelled.false in
     let read = subst (λ w. IsRead w c.loop-len.number) (sym c.split_at.ensures.front) c.loop-len.invariant.2 in
     (omega arith, spelled_number c.args.text.now word c.split_at.result.1.now c.loop-len.number c.split_at.ensures.by_index.0 read some.0 some.1 (omega arith))
