@@ -20,6 +20,10 @@ mod machine_steps;
 #[cfg(test)]
 mod memcached;
 #[cfg(test)]
+mod memcached_items;
+#[cfg(test)]
+mod memcached_rows;
+#[cfg(test)]
 mod one_spare;
 #[cfg(test)]
 mod packets;

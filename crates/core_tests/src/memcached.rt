@@ -199,7 +199,7 @@ static OTHER: [Row; 22] = [
 ];
 
 /// The text of a row as a client sends it. None where there is no memory for it.
-fn sent(alloc: Global, text: &[u8]) -> Option<Vec<u8>> {
+pub fn sent(alloc: Global, text: &[u8]) -> Option<Vec<u8>> {
     let mut bytes = Vec::new(alloc);
     for byte in text {
         if *byte == b'*' {
