@@ -1,14 +1,14 @@
 //! What memcached's commands make of an item, sent as a client's bytes, with what is answered.
-ghost use Rattle.memcached_commands.specs.Fit.{IsFitAsk};
+ghost use Rattle.std.specs.Prelude.{IfSome, option_copied};
+ghost use Rattle.memcached_text.specs.Fit.{IsFitNext};
+ghost use Rattle.memcached_commands.specs.Fit.{IsFitAsk, IsFitStored};
 
 use crate::memcached::sent;
 use crate::memcached_rows::{BARE, OTHER, SAME, Turn};
 use memcached_commands::{
-    Ask, Asks, Change, Moment, change_stored, found_in, put_answer, says_of, wants_numbers,
+    Ask, Asked, Asks, Change, Moment, change_stored, found_in, put_answer, says_of, wants_numbers,
 };
-use memcached_text::{
-    Command, Fault, Next, Reply, fault_line, next_command, read_item, reply_line,
-};
+use memcached_text::{Command, Next, Reply, fault_line, next_command, read_item, reply_line};
 use partition_model::ItemBuf;
 use std::alloc::Global;
 
@@ -23,6 +23,21 @@ struct Place {
     item: ItemBuf,
     next: ItemBuf,
     answers: Vec<u8>,
+}
+
+/// What a command asks of its first key.
+fn first_asked<'a>(next: Next<'a>) -> Option<Asked<'a>>
+    requires { IsFitNext next }
+    ensures { IfSome result (λ asked. IsFitAsk asked.ask) }
+{
+    let mut asks = Asks::by(next);
+    asks.next_asked()
+}
+
+fn stored_in(is_stored: bool, item: &ItemBuf) -> Option<&[u8]>
+    ensures { IsFitStored (option_copied result) }
+{
+    if is_stored { Some(item.value()) } else { None }
 }
 
 impl Place {
@@ -66,11 +81,7 @@ impl Place {
     fn carry_out(&mut self, quiet: bool, unique: bool, ask: &Ask) -> Option<()>
         requires { IsFitAsk ask.now }
     {
-        let stored = if self.is_stored {
-            Some(self.item.value())
-        } else {
-            None
-        };
+        let stored = stored_in(self.is_stored, &self.item);
         let change = change_stored(&self.at, ask, stored, &mut self.next);
         let says = says_of(ask, found_in(&self.at, stored));
         put_answer(&mut self.answers, quiet, unique, b"k", &says).ok()?;
@@ -110,7 +121,7 @@ impl Place {
             Next::Refused { quiet, len, .. } => (*len, *quiet, false),
             Next::More | Next::LongLine => return None,
         };
-        let asked = Asks::by(next).next_asked()?;
+        let asked = first_asked(next)?;
         self.carry_out(quiet, unique, &asked.ask)?;
         Some(len)
     }
