@@ -9,3 +9,5 @@ pub mod GenFacts
 pub mod Drawing
 pub mod Generating
 pub mod Summing
+mod MemoryLemmas
+mod DaemonLemmas

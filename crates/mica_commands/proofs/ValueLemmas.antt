@@ -16,31 +16,24 @@ use Rattle.partition_model.specs.declared.options.Mode.{Mode}
 use Rattle.partition_model.specs.declared.options.Mode.TheVariants.{Store}
 use Rattle.mica_client.specs.declared.options.AskOptions.{AskOptions}
 use Rattle.mica_client.specs.AskOptions.{IsValidAsk}
-use Rattle.partition_model.specs.Options.{InRange, IsValid}
+use Rattle.partition_model.specs.Options.{InRange, IsPowerUpTo, IsValid}
+use Rattle.partition_model.proofs.PowersOfTwo.{small_power_of_two}
 use Rattle.mica_fronts.specs.declared.totals.TheConstants.{MAX_BATCHES}
 use Rattle.mica_fronts.specs.declared.ports.Ports.{Ports}
 use Rattle.mica_fronts.specs.PortOptions.{IsValidPorts}
 use Rattle.mica_commands.specs.Words.{Text}
-use Rattle.mica_commands.specs.DaemonWords.{Service, image_name, lasting_ports, may_fill, daemon_given}
-use Rattle.mica_commands.specs.CommandLine.{mode, partitions, buckets, spares, words, readers, tries, wear, port, fronts, batches, number, required_number, number_of, is_number, value_by, value_of, options_with, replay_options, serve_options, without_readers, exclusive_options, image_options, ask_options, per, wait, port_options, ◌>>=◌}
+use Rattle.mica_commands.specs.DaemonWords.{lasting_ports}
+use Rattle.mica_commands.specs.CommandLine.{mode, partitions, buckets, spares, words, readers, tries, wear, port, fronts, batches, number, power_of_two, required_number, number_of, is_number, value_by, value_of, options_with, replay_options, serve_options, without_readers, exclusive_options, image_options, ask_options, per, wait, port_options, ◌>>=◌}
 
 same_number : (a b : ℕ) → Some a ≡ Some b → a ≡ b
 same_number a b e = ap (λ o. unwrap_or o 0) e
 
-pub no_buckets : (given : Option Text) (b : ℕ) → value_by (number (codes "buckets") 1 65536 1024) given ≡ Some b → is_power_of_two b ≡ false → value_by buckets given ≡ None
-unfolding ones
-no_buckets None b is none = absurd (true≢false (subst (λ n. is_power_of_two n ≡ false) (sym (same_number 1024 b is)) none))
-no_buckets (Some text) b is none = rw is (rw none refl)
+pub no_power : (name : Text) (most default : ℕ) (given : Option Text) (n : ℕ) → is_power_of_two default ≡ true → value_by (number name 1 most default) given ≡ Some n → is_power_of_two n ≡ false
+    → value_by (power_of_two name most default) given ≡ None
+no_power name most default None n power is none = absurd (true≢false (sym power ∙ subst (λ m. is_power_of_two m ≡ false) (sym (same_number default n is)) none))
+no_power name most default (Some text) n power is none = rw is (rw none refl)
 
-from_half : (n r : ℕ) → n % 2 ≡ r → count_ones n ≡ 1 → (count_ones (n / 2) ≡ 1 → (k : ℕ) × (n / 2 ≡ 2 ^ k)) → (k : ℕ) × (n ≡ 2 ^ k)
-from_half n zero even one half = let s = ones_step n in let h = half (omega arith) in (suc h.0, omega (arith, h.1, pow-suc 2 h.0))
-from_half n (suc r) odd one half = let s = ones_step n in let none = zero_from_ones (n / 2) (omega arith) in (0, omega arith)
-
-power : (d n : ℕ) → n ≤ d → count_ones n ≡ 1 → (k : ℕ) × (n ≡ 2 ^ k)
-power zero n below one = absurd (let l = ones_le_self n in omega arith)
-power (suc d) n below one = let l = ones_le_self n in from_half n (n % 2) refl one (power d (n / 2) (omega arith))
-
-number_bounds : (least most : ℕ) (t : Text) (n : ℕ) → number_of least most t ≡ Some n → InRange least most n
+pub number_bounds : (least most : ℕ) (t : Text) (n : ℕ) → number_of least most t ≡ Some n → InRange least most n
 number_bounds least most t n e =
     elim (is_number t) as (λ p. (if p && (nat_le least (digits_value 10 t) && nat_le (digits_value 10 t) most) then Some (digits_value 10 t) else None) ≡ Some n → InRange least most n) [
       | true ↦ bounds (nat_le least (digits_value 10 t)) (nat_le (digits_value 10 t) most) refl refl
@@ -52,33 +45,33 @@ number_bounds least most t n e =
     bounds true false l h is = absurd (none-some n is)
     bounds false high l h is = absurd (none-some n is)
 
-value_bounds : (name : Text) (least most default : ℕ) (given : Option Text) (n : ℕ) → InRange least most default → value_by (number name least most default) given ≡ Some n → InRange least most n
+pub value_bounds : (name : Text) (least most default : ℕ) (given : Option Text) (n : ℕ) → InRange least most default → value_by (number name least most default) given ≡ Some n → InRange least most n
 value_bounds name least most default None n between is = subst (InRange least most) (same_number default n is) between
 value_bounds name least most default (Some t) n between is = number_bounds least most t n is
 
-power_bounds : (o : Option ℕ) (n : ℕ) → ((m : ℕ) → o ≡ Some m → InRange 1 65536 m) → (o >>= λ m. if is_power_of_two m then Some m else None) ≡ Some n → InRange 1 65536 n × (is_power_of_two n ≡ true)
-power_bounds None n within is = absurd (none-some n is)
-power_bounds (Some m) n within is = grind (arith, common_steps)
+power_bounds : (most : ℕ) (o : Option ℕ) (n : ℕ) → ((m : ℕ) → o ≡ Some m → InRange 1 most m) → (o >>= λ m. if is_power_of_two m then Some m else None) ≡ Some n → InRange 1 most n × (is_power_of_two n ≡ true)
+power_bounds most None n within is = absurd (none-some n is)
+power_bounds most (Some m) n within is = grind (arith, common_steps)
 
-buckets_bounds : (given : Option Text) (n : ℕ) → value_by buckets given ≡ Some n → InRange 1 65536 n × (is_power_of_two n ≡ true)
+-- a power of two that an option was given, or its default
+pub power_value : (name : Text) (most exponent default : ℕ) (given : Option Text) (n : ℕ) → most ≡ 2 ^ exponent → default ≤ most → is_power_of_two default ≡ true
+    → value_by (power_of_two name most default) given ≡ Some n → IsPowerUpTo exponent n
+power_value name most exponent default None n same few power is =
+    small_power_of_two exponent n (subst (λ m. is_power_of_two m ≡ true) (same_number default n is) power) (let e = same_number default n is in omega arith)
+power_value name most exponent default (Some t) n same few power is =
+    let p = power_bounds most (number_of 1 most t) n (number_bounds 1 most t) is in
+    small_power_of_two exponent n p.1 (omega (arith, p.0))
+
+pub one_kilo : is_power_of_two 1024 ≡ true
 unfolding ones
-buckets_bounds None n is = subst (λ k. InRange 1 65536 k × (is_power_of_two k ≡ true)) (same_number 1024 n is) ((omega arith, omega arith), refl)
-buckets_bounds (Some t) n is = power_bounds (number_of 1 65536 t) n (number_bounds 1 65536 t) is
-
-small_power : (k : ℕ) → 2 ^ k ≤ 65536 → k ≤ 16
-small_power k below = elim (leb_tells k 16) as (λ _. k ≤ 16) [ inl h ↦ h.1 | inr h ↦ absurd (let more : 2 ^ 17 ≤ 2 ^ k = pow_mono {i = 17} {j = k} (omega (arith, h.1)) in omega arith) ]
-
-bucket_power : (n : ℕ) → InRange 1 65536 n → is_power_of_two n ≡ true → (k : ℕ) × (k ≤ 16) × (n ≡ 2 ^ k)
-bucket_power n within is =
-    let p = power n n (omega arith) (grind (arith, nat_tests)) in
-    (p.0, small_power p.0 (omega (arith, p.1)), p.1)
+one_kilo = refl
 
 -- one value after another
 pub both_told : {A B : Type 0} (o : Option A) (next : A → Option B) (b : B) → (o >>= next) ≡ Some b → (a : A) × (o ≡ Some a) × (next a ≡ Some b)
 both_told None next b is = absurd (none-some b is)
 both_told (Some a) next b is = (a, refl, is)
 
-same_options : (a b : Options) → Some a ≡ Some b → a ≡ b
+pub same_options : (a b : Options) → Some a ≡ Some b → a ≡ b
 same_options a b e = ap (λ o. unwrap_or o a) e
 
 pub with_valid : (mode : Mode) (given : Text → Option Text) (options : Options) → options_with mode given ≡ Some options → IsValid options
@@ -90,10 +83,9 @@ with_valid mode given options is =
     let r = both_told (value_of readers given) _ options w.2 in
     let t = both_told (value_of tries given) _ options r.2 in
     let e = both_told (value_of wear given) _ options t.2 in
-    let power = buckets_bounds (given buckets.name) b.0 b.1 in
     subst IsValid (same_options _ options e.2) (record {
       partitions = value_bounds partitions.name 1 16 4 (given partitions.name) p.0 (omega arith, omega arith) p.1;
-      buckets = bucket_power b.0 power.0 power.1;
+      buckets = power_value buckets.name 65536 16 1024 (given buckets.name) b.0 refl (omega arith) one_kilo b.1;
       spares = value_bounds spares.name 0 65536 1024 (given spares.name) s.0 (omega arith, omega arith) s.1;
       words = value_bounds words.name 256 1048576 65536 (given words.name) w.0 (omega arith, omega arith) w.1;
       readers = value_bounds readers.name 1 16 4 (given readers.name) r.0 (omega arith, omega arith) r.1;
@@ -169,16 +161,6 @@ lasting_valid given ports is =
       fronts = value_bounds fronts.name 1 16 1 (given fronts.name) f.0 (omega arith, omega arith) f.1;
       batches = (omega arith, omega arith);
     })
-
-pub service_valid : (given : Text → Option Text) (service : Service) → daemon_given given ≡ Some service → IsValid service.options × IsValidPorts service.ports
-service_valid given service is =
-    let o = both_told (serve_options given) _ service is in
-    let p = both_told (lasting_ports given) _ service o.2 in
-    let made : Service = record { options = o.0; ports = p.0; image = given image_name } in
-    elim (may_fill o.0.mode (given image_name)) as (λ b. (if b then Some made else None) ≡ Some service → IsValid service.options × IsValidPorts service.ports) [
-      | true ↦ λ same. subst (λ (s : Service). IsValid s.options × IsValidPorts s.ports) (ap (λ s. unwrap_or s made) same) (serve_valid given o.0 o.1, lasting_valid given p.0 p.1)
-      | false ↦ λ none. absurd (none-some service none)
-    ] p.2
 
 pub ports_valid : (given : Text → Option Text) (ports : Ports) → port_options given ≡ Some ports → IsValidPorts ports
 ports_valid given ports is =

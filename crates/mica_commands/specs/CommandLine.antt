@@ -65,6 +65,11 @@ abbrev pub required_number : Text → ℕ → ℕ → Setting ℕ
 required_number name least most =
     record { name = name; meaning = number_of least most; default = None }
 
+-- an option whose value is a power of two, at most this
+abbrev pub power_of_two : Text → ℕ → ℕ → Setting ℕ
+power_of_two name most default =
+    record { name = name; meaning = power_of_two_of most; default = Some default }
+
 -- each option by its name; a number by its name, its least and greatest value, and its default
 abbrev pub mode : Setting Mode
 mode = record { name = codes "mode"; meaning = mode_named; default = None }
@@ -73,7 +78,7 @@ abbrev pub partitions : Setting ℕ
 partitions = number (codes "partitions") 1 16 4
 
 abbrev pub buckets : Setting ℕ
-buckets = record { name = codes "buckets"; meaning = power_of_two_of 65536; default = Some 1024 }
+buckets = power_of_two (codes "buckets") 65536 1024
 
 abbrev pub spares : Setting ℕ
 spares = number (codes "spares") 0 65536 1024

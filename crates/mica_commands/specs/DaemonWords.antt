@@ -1,9 +1,12 @@
--- The words of a server that stays up: the options of `serve`, but for the number of datagrams, and an image.
-use Rattle.std.specs.Prelude.{◌≡◌, ⊤, Bool, true, List, [], ◌∷◌, Option, Some, None, is_none, option_map, codes, Result, Ok, Err, if◌then◌else◌}
+-- The words of a server that stays up: its partitions, by their sizes or by how much memory they may take, its ports, and an image.
+use Rattle.std.specs.Prelude.{◌≡◌, ⊤, ℕ, Bool, ◌||◌, true, List, [], ◌∷◌, Option, Some, None, is_none, is_some, option_map, codes, Result, Ok, Err, if◌then◌else◌}
 use Rattle.partition_model.specs.declared.options.Options.{Options}
 use Rattle.partition_model.specs.declared.options.Mode.{Mode}
 use Rattle.partition_model.specs.declared.options.Mode.TheVariants.{Cache, Store}
-use Rattle.partition_model.specs.Options.{IsValid}
+use Rattle.partition_model.specs.declared.options.TheConstants.{MOST_PARTITIONS, MOST_SPARES, MOST_WORDS, MOST_WEAR}
+use Rattle.partition_model.specs.Options.{IsPossible}
+use Rattle.partition_sizes.specs.declared.sizes.Sizes.{Sizes}
+use Rattle.partition_sizes.specs.Sizes.{sizes_for}
 use Rattle.mica_fronts.specs.declared.totals.TheConstants.{MAX_BATCHES}
 use Rattle.mica_fronts.specs.declared.ports.Ports.{Ports}
 use Rattle.mica_fronts.specs.PortOptions.{IsValidPorts}
@@ -11,7 +14,67 @@ use Rattle.mica_commands.specs.declared.command.WordsFault.{WordsFault}
 use Rattle.mica_commands.specs.declared.command.WordsFault.TheVariants.{Usage, NoMemory}
 use Rattle.mica_commands.specs.declared.daemon_words.DaemonOptions.{DaemonOptions}
 use Rattle.mica_commands.specs.Words.{Text}
-use Rattle.mica_commands.specs.CommandLine.{mode, partitions, buckets, spares, words, tries, wear, port, fronts, value_of, serve_options, read_as, ◌>>=◌}
+use Rattle.mica_commands.specs.Memory.{memory_of}
+use Rattle.mica_commands.specs.CommandLine.{Setting, number, power_of_two, mode, tries, port, fronts, value_of, read_as, ◌>>=◌}
+
+-- its options for partitions have the names of those of `serve`, and all the values that partitions can be made of
+abbrev pub partitions : Setting ℕ
+partitions = number (codes "partitions") 1 MOST_PARTITIONS 4
+
+abbrev pub buckets : Setting ℕ
+buckets = power_of_two (codes "buckets") 16777216 1024
+
+abbrev pub spares : Setting ℕ
+spares = number (codes "spares") 0 MOST_SPARES 1024
+
+abbrev pub words : Setting ℕ
+words = number (codes "words") 256 MOST_WORDS 65536
+
+abbrev pub wear : Setting ℕ
+wear = number (codes "wear") 1 MOST_WEAR MOST_WEAR
+
+-- the option that says how much memory all partitions may take
+abbrev pub memory_name : Text
+memory_name = codes "memory"
+
+-- the sizes that are given one by one
+abbrev pub sizes_by_words : (Text → Option Text) → Option Sizes
+sizes_by_words given =
+    value_of partitions given >>= λ partitions.
+    value_of buckets given >>= λ buckets.
+    value_of spares given >>= λ spares.
+    value_of words given >>= λ words.
+    Some (record { partitions = partitions; buckets = buckets; spares = spares; words = words })
+
+-- one of them is given
+abbrev pub gives_size : (Text → Option Text) → Bool
+gives_size given = is_some (given partitions.name) || is_some (given buckets.name) || is_some (given spares.name) || is_some (given words.name)
+
+-- the sizes for the memory that is given, beside which none of them may be
+abbrev pub sizes_by : Mode → (Text → Option Text) → Option Text → Option Sizes
+sizes_by chosen given None = sizes_by_words given
+sizes_by chosen given (Some text) = if gives_size given then None else option_map (sizes_for chosen) (memory_of text)
+
+abbrev pub sizes_given : Mode → (Text → Option Text) → Option Sizes
+sizes_given mode given = sizes_by mode given (given memory_name)
+
+-- its partitions, which one reader a front reads
+abbrev pub service_options : (Text → Option Text) → Option Options
+service_options given =
+    value_of mode given >>= λ mode.
+    sizes_given mode given >>= λ sizes.
+    value_of tries given >>= λ tries.
+    value_of wear given >>= λ wear.
+    Some (record {
+      mode = mode;
+      partitions = sizes.partitions;
+      buckets = sizes.buckets;
+      spares = sizes.spares;
+      words = sizes.words;
+      readers = 1;
+      tries = tries;
+      wear = wear;
+    })
 
 -- the option that names the file of an image, which any text may be
 abbrev pub image_name : Text
@@ -19,7 +82,7 @@ image_name = codes "image"
 
 -- the names of its options
 abbrev pub daemon_names : List Text
-daemon_names = mode.name ∷ partitions.name ∷ buckets.name ∷ spares.name ∷ words.name ∷ tries.name ∷ wear.name ∷ port.name ∷ fronts.name ∷ image_name ∷ []
+daemon_names = mode.name ∷ partitions.name ∷ buckets.name ∷ spares.name ∷ words.name ∷ memory_name ∷ tries.name ∷ wear.name ∷ port.name ∷ fronts.name ∷ image_name ∷ []
 
 -- its ports, each of whose fronts takes as many datagrams as can be counted
 abbrev pub lasting_ports : (Text → Option Text) → Option Ports
@@ -41,7 +104,7 @@ may_fill Cache image = is_none image
 
 abbrev pub daemon_given : (Text → Option Text) → Option Service
 daemon_given given =
-    serve_options given >>= λ options.
+    service_options given >>= λ options.
     lasting_ports given >>= λ ports.
     if may_fill options.mode (given image_name) then Some (record { options = options; ports = ports; image = given image_name }) else None
 
@@ -55,6 +118,6 @@ service_of read = record { options = read.options; ports = read.ports; image = o
 
 -- what is read of words that give this, or nothing: want of memory may come with any
 abbrev pub IsDaemonReading : Option Service → Result DaemonOptions WordsFault → Type 0
-IsDaemonReading given (Ok read) = (given ≡ Some (service_of read)) × IsValid read.options × IsValidPorts read.ports
+IsDaemonReading given (Ok read) = (given ≡ Some (service_of read)) × IsPossible read.options × IsValidPorts read.ports
 IsDaemonReading given (Err Usage) = given ≡ None
 IsDaemonReading given (Err NoMemory) = ⊤

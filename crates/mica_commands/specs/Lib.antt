@@ -1,5 +1,6 @@
 pub mod Words
 pub mod CommandLine
+pub mod Memory
 pub mod DaemonWords
 pub mod ClapCommand
 pub mod GenOptions

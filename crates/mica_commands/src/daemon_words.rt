@@ -1,14 +1,16 @@
 //! The words of a server that stays up.
 ghost use Rattle.std.specs.Prelude.{◌≡◌, map, string_bytes, option_map};
 ghost use Rattle.clap.specs.Matches.{first_value, found_of};
-ghost use Rattle.mica_commands.specs.DaemonWords.{daemon_given, daemon_of, service_of, IsDaemonReading};
+ghost use Rattle.mica_commands.specs.DaemonWords.{sizes_by_words, gives_size, sizes_given, service_options, daemon_given, daemon_of, service_of, IsDaemonReading};
 
 use crate::WordsFault;
 use crate::clap_command::matches_of;
-use crate::option_values::{lasting_ports, serve_options};
+use crate::memory::memory_of;
+use crate::option_values::{count, lasting_ports, mode, number, power_of_two};
 use clap::ArgMatches;
 use mica_fronts::Ports;
-use partition_model::{Mode, Options};
+use partition_model::{MOST_PARTITIONS, MOST_SPARES, MOST_WEAR, MOST_WORDS, Mode, Options};
+use partition_sizes::{Sizes, sizes_for};
 use std::alloc::Global;
 
 /// What a server that stays up is asked to do.
@@ -20,12 +22,13 @@ pub struct DaemonOptions<'a> {
     pub image: Option<&'a str>,
 }
 
-static DAEMON_OPTIONS: [&str; 10] = [
+static DAEMON_OPTIONS: [&str; 11] = [
     "mode",
     "partitions",
     "buckets",
     "spares",
     "words",
+    "memory",
     "tries",
     "wear",
     "port",
@@ -33,11 +36,65 @@ static DAEMON_OPTIONS: [&str; 10] = [
     "image",
 ];
 
+// The sizes that are given one by one.
+fn sizes_by_words(found: &ArgMatches<'_>) -> Option<Sizes>
+    ensures { result ≡ sizes_by_words (first_value (found_of found.now)) }
+{
+    Some(Sizes {
+        partitions: count(found, "partitions", 1, MOST_PARTITIONS, 4)?,
+        buckets: power_of_two(found, "buckets", 16_777_216, 1_024)?,
+        spares: count(found, "spares", 0, MOST_SPARES, 1_024)?,
+        words: count(found, "words", 256, MOST_WORDS, 65_536)?,
+    })
+}
+
+// Whether one of them is given.
+fn gives_size(found: &ArgMatches<'_>) -> bool
+    ensures { result ≡ gives_size (first_value (found_of found.now)) }
+{
+    found.get_str("partitions").is_some()
+        || found.get_str("buckets").is_some()
+        || found.get_str("spares").is_some()
+        || found.get_str("words").is_some()
+}
+
+// The sizes that are given one by one, or those for the memory that is given.
+fn sizes_given(found: &ArgMatches<'_>, mode: Mode) -> Option<Sizes>
+    ensures { result ≡ sizes_given mode (first_value (found_of found.now)) }
+{
+    let Some(text) = found.get_str("memory") else {
+        return sizes_by_words(found);
+    };
+    if gives_size(found) {
+        return None;
+    }
+    let memory = memory_of(text)?;
+    Some(sizes_for(mode, memory))
+}
+
+// The partitions, which one reader a front reads.
+fn service_options(found: &ArgMatches<'_>) -> Option<Options>
+    ensures { result ≡ service_options (first_value (found_of found.now)) }
+{
+    let mode = mode(found)?;
+    let sizes = sizes_given(found, mode)?;
+    Some(Options {
+        mode,
+        partitions: sizes.partitions,
+        buckets: sizes.buckets,
+        spares: sizes.spares,
+        words: sizes.words,
+        readers: 1,
+        tries: count(found, "tries", 1, 1_000, 100)?,
+        wear: number(found, "wear", 1, MOST_WEAR, MOST_WEAR)?,
+    })
+}
+
 // The same from the texts of its options. An image fills a store, and no cache.
 fn daemon_options<'a>(found: &ArgMatches<'a>) -> Option<DaemonOptions<'a>>
     ensures { option_map service_of result ≡ daemon_given (first_value (found_of found.now)) }
 {
-    let options = serve_options(found)?;
+    let options = service_options(found)?;
     let ports = lasting_ports(found)?;
     let image = found.get_str("image");
     if options.mode == Mode::Cache && image.is_some() {

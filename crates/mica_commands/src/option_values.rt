@@ -1,8 +1,8 @@
 //! The values of options, from the texts that they were given.
-ghost use Rattle.std.specs.Prelude.{◌≡◌, Some, None, option_map, option_and_then};
+ghost use Rattle.std.specs.Prelude.{◌≡◌, Some, None, option_map, option_and_then, true};
 ghost use Rattle.std.specs.Int.{is_power_of_two};
 ghost use Rattle.clap.specs.Matches.{first_value, found_of};
-ghost use Rattle.mica_commands.specs.CommandLine.{begins_number, mode, buckets, number, required_number, number_of, value_of, options_with, replay_options, serve_options, without_readers, exclusive_options, image_options, ask_options, port_options, gen_options};
+ghost use Rattle.mica_commands.specs.CommandLine.{begins_number, mode, power_of_two, number, required_number, number_of, value_of, options_with, replay_options, serve_options, without_readers, exclusive_options, image_options, ask_options, port_options, gen_options};
 ghost use Rattle.mica_commands.specs.DaemonWords.{lasting_ports};
 
 use crate::GenOptions;
@@ -17,8 +17,8 @@ fn begins_number(text: &str) -> bool
     matches!(text.as_bytes(), [b'0'..=b'9'] | [b'1'..=b'9', _, ..])
 }
 
-// The number that a text writes, where it lies in its range.
-fn number_of(text: &str, least: u64, most: u64) -> Option<u64>
+/// The number that a text writes, where it lies in its range.
+pub fn number_of(text: &str, least: u64, most: u64) -> Option<u64>
     ensures { result ≡ number_of least most text.now }
 {
     if !begins_number(text) {
@@ -32,7 +32,13 @@ fn number_of(text: &str, least: u64, most: u64) -> Option<u64>
     }
 }
 
-fn number(found: &ArgMatches<'_>, name: &str, least: u64, most: u64, default: u64) -> Option<u64>
+pub fn number(
+    found: &ArgMatches<'_>,
+    name: &str,
+    least: u64,
+    most: u64,
+    default: u64,
+) -> Option<u64>
     ensures { result ≡ value_of (number name.now least most default) (first_value (found_of found.now)) }
 {
     match found.get_str(name) {
@@ -42,7 +48,7 @@ fn number(found: &ArgMatches<'_>, name: &str, least: u64, most: u64, default: u6
 }
 
 // The same of a number that fits 32 bits.
-fn count(found: &ArgMatches<'_>, name: &str, least: u32, most: u32, default: u32) -> Option<u32>
+pub fn count(found: &ArgMatches<'_>, name: &str, least: u32, most: u32, default: u32) -> Option<u32>
     ensures { result ≡ value_of (number name.now least most default) (first_value (found_of found.now)) }
 {
     let value = number(
@@ -56,7 +62,7 @@ fn count(found: &ArgMatches<'_>, name: &str, least: u32, most: u32, default: u32
 }
 
 // The same where the option is required.
-fn required(found: &ArgMatches<'_>, name: &str, least: u32, most: u32) -> Option<u32>
+pub fn required(found: &ArgMatches<'_>, name: &str, least: u32, most: u32) -> Option<u32>
     ensures { result ≡ value_of (required_number name.now least most) (first_value (found_of found.now)) }
 {
     let text = found.get_str(name)?;
@@ -64,7 +70,7 @@ fn required(found: &ArgMatches<'_>, name: &str, least: u32, most: u32) -> Option
     Some(value as u32)
 }
 
-fn mode(found: &ArgMatches<'_>) -> Option<Mode>
+pub fn mode(found: &ArgMatches<'_>) -> Option<Mode>
     ensures { result ≡ value_of mode (first_value (found_of found.now)) }
 {
     match found.get_str("mode")? {
@@ -74,12 +80,14 @@ fn mode(found: &ArgMatches<'_>) -> Option<Mode>
     }
 }
 
-fn buckets(found: &ArgMatches<'_>) -> Option<u32>
-    ensures { result ≡ value_of buckets (first_value (found_of found.now)) }
+// The same of a power of two.
+pub fn power_of_two(found: &ArgMatches<'_>, name: &str, most: u32, default: u32) -> Option<u32>
+    requires { is_power_of_two default ≡ true }
+    ensures { result ≡ value_of (power_of_two name.now most default) (first_value (found_of found.now)) }
 {
-    let buckets = count(found, "buckets", 1, 65_536, 1_024)?;
-    if buckets.is_power_of_two() {
-        Some(buckets)
+    let value = count(found, name, 1, most, default)?;
+    if value.is_power_of_two() {
+        Some(value)
     } else {
         None
     }
@@ -92,7 +100,7 @@ pub fn options_with(found: &ArgMatches<'_>, mode: Mode) -> Option<Options>
     Some(Options {
         mode,
         partitions: count(found, "partitions", 1, 16, 4)?,
-        buckets: buckets(found)?,
+        buckets: power_of_two(found, "buckets", 65_536, 1_024)?,
         spares: count(found, "spares", 0, 65_536, 1_024)?,
         words: count(found, "words", 256, 1_048_576, 65_536)?,
         readers: count(found, "readers", 1, 16, 4)?,

@@ -1,2 +1,2 @@
 mod Doubling
-mod Fitting
+pub mod Fitting

@@ -3,7 +3,7 @@ use Rattle.std.proofs.lemmas.Result.{err_from_is_err_and}
 use Rattle.clap.specs.Matches.{first_value, found_of}
 use Rattle.mica_commands.specs.DaemonWords.{daemon_names, daemon_given, service_of}
 use Rattle.mica_commands.proofs.CommandLemmas.{read_given, daemon_none}
-use Rattle.mica_commands.proofs.ValueLemmas.{service_valid}
+use Rattle.mica_commands.proofs.DaemonLemmas.{service_valid}
 use Rattle.mica_commands.proofs.daemon_words.read_daemon.Goals as goal
 
 pub returns-in_err-found : goal.returns-in_err-found
