@@ -5,7 +5,7 @@ use Rattle.partition_model.specs.declared.write.Answer.{Answer}
 use Rattle.partition_model.specs.declared.write.Outcome.{Outcome}
 use Rattle.partition_model.specs.declared.write.Write.{Write}
 use Rattle.partition_model.specs.Answer.{IsAnswer}
-use Rattle.partition_model.specs.Options.{IsValid}
+use Rattle.partition_model.specs.Options.{IsPossible}
 use Rattle.partition_model.specs.History.{IsPrefix, stamp_of}
 use Rattle.epoch_core.specs.Shape.{shape_of, options_of}
 use Rattle.partition_table.specs.declared.reader.Note.{Note}
@@ -103,7 +103,7 @@ turns_left parts = most_turns - turns_taken parts
 -- a front of the plan, with a part of each partition, in order
 pub record IsLockedFront (plan : Plan) (front : LockedView) : Type 0 where
   pub options_are : front.options ≡ plan.options
-  pub valid : IsValid front.options
+  pub valid : IsPossible front.options
   pub low : front.number < plan.fronts
   pub many : length front.parts ≡ front.options.partitions
   pub each : (p : ℕ) (part : LockedPart) → slice_get front.parts p ≡ Some part → IsPartOf plan p front.number part

@@ -1,6 +1,6 @@
 //! A front that owns each partition in turn.
 ghost use Rattle.std.specs.Prelude.{◌≡◌, ◌<◌, ℕ, Some, length, slice_get, vec_len};
-ghost use Rattle.partition_model.specs.Options.{IsValid};
+ghost use Rattle.partition_model.specs.Options.{IsPossible};
 ghost use Rattle.locked_fronts.specs.declared.part.LockedPart.{LockedPart};
 ghost use Rattle.locked_fronts.specs.Parts.{IsPartOf, IsLockedFront, locked_view, turns_taken};
 
@@ -55,7 +55,7 @@ impl<'a, J: ServerPlan, P: LendPartition<Reader = ReaderSeat, Note = Note> + Dro
         parts: Vec<LockedPart>,
     ) -> LockedFront<'a, J, P>
         requires options { options.now ≡ J.plan.options }
-        requires valid { IsValid options.now }
+        requires valid { IsPossible options.now }
         requires low { number < J.plan.fronts }
         requires locks { length locks.now ≡ options.now.partitions }
         requires many { vec_len parts ≡ options.now.partitions }

@@ -3,7 +3,7 @@ ghost use Rattle.std.specs.Prelude.{◌≡◌, ◌≢◌, true, All, IfOk, OnOk,
 ghost use Rattle.mica_words.specs.Hash.{partition_of};
 ghost use Rattle.partition_model.specs.declared.write.Outcome.{Outcome};
 ghost use Rattle.partition_model.specs.Write.{IsWrite, is_accepted};
-ghost use Rattle.partition_model.specs.Options.{IsValid};
+ghost use Rattle.partition_model.specs.Options.{IsPossible};
 ghost use Rattle.epoch_core.specs.OwnerState.{as_made};
 ghost use Rattle.epoch_core.specs.Shape.{shape_of};
 ghost use Rattle.epoch_core.specs.OwnerStep.{IsOwnerStep};
@@ -24,7 +24,7 @@ fn fill_one<P: Partition>(
     number: u32,
     write: &Write,
 ) -> bool
-    requires valid { IsValid options.now }
+    requires valid { IsPossible options.now }
     requires write { IsWrite write.now }
     requires flushed { flushed.old ≡ flushed_in (P.owner part.old).history }
     ensures own { partition_of write.now.key options.now.partitions ≡ number
@@ -52,7 +52,7 @@ pub(crate) fn fill<P: Partition>(
     number: u32,
     filling: &[Write],
 ) -> Result<u64, OpenFault>
-    requires valid { IsValid options.now }
+    requires valid { IsPossible options.now }
     requires made { P.owner part.old ≡ as_made (shape_of options.now) }
     requires writes { All IsWrite filling.now }
     ensures filled { OnOk result (IsFilledOwner options.now (P.owner part.new)) }

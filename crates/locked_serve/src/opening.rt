@@ -1,6 +1,6 @@
 //! Partitions as filled, the fronts' parts of them, and their locks, before any front runs.
 ghost use Rattle.std.specs.Prelude.{◌≡◌, ◌+◌, ◌<◌, ◌≤◌, ℕ, [], All, IfOk, OnOk, IsErrOf, Some, length, map, slice_get, vec_len};
-ghost use Rattle.partition_model.specs.Options.{IsValid};
+ghost use Rattle.partition_model.specs.Options.{IsPossible};
 ghost use Rattle.partition_model.specs.Write.{IsWrite};
 ghost use Rattle.epoch_core.specs.OwnerState.{as_made};
 ghost use Rattle.epoch_core.specs.Shape.{shape_of};
@@ -38,7 +38,7 @@ fn open_part<P: OnTable + LendPartition<Reader = ReaderSeat, Note = Note>>(
     filling: &[Write],
     number: u32,
 ) -> Result<FilledPart<P>, OpenFault>
-    requires valid { IsValid options.now }
+    requires valid { IsPossible options.now }
     requires mode { options.now.mode ≡ P.mode }
     requires same { (p : P) → P.state p ≡ P.owner p }
     requires zeros { zeros.now ≡ (as_made (shape_of options.now)).words }
@@ -61,7 +61,7 @@ pub(crate) fn open_parts<P: OnTable + LendPartition<Reader = ReaderSeat, Note = 
     options: &Options,
     filling: &[Write],
 ) -> Result<Vec<FilledPart<P>>, OpenFault>
-    requires valid { IsValid options.now }
+    requires valid { IsPossible options.now }
     requires mode { options.now.mode ≡ P.mode }
     requires same { (p : P) → P.state p ≡ P.owner p }
     requires filling { All IsWrite filling.now }

@@ -1,6 +1,6 @@
 //! The server over partitions under locks: filled, bound, served and taken back.
 ghost use Rattle.std.specs.Prelude.{◌≡◌, ◌<◌, ◌≤◌, ℕ, [], All, length, map, vec_capacity};
-ghost use Rattle.partition_model.specs.Options.{IsValid};
+ghost use Rattle.partition_model.specs.Options.{IsPossible};
 ghost use Rattle.partition_model.specs.History.{IsHistory};
 ghost use Rattle.partition_model.specs.Write.{IsWrite};
 ghost use Rattle.partition_table.specs.Seats.{note_state, note_home};
@@ -50,7 +50,7 @@ fn bind_and_serve<
     announce: &mut A,
 ) -> Result<Totals, Stop>
     requires same { (p : P) → P.state p ≡ P.owner p }
-    requires options { IsValid options.now }
+    requires options { IsPossible options.now }
     requires named { options.now ≡ J.plan.options }
     requires takers { J.plan.fronts ≡ ports.now.fronts }
     requires ports { IsValidPorts ports.now }
@@ -95,7 +95,7 @@ fn serve_named<
 ) -> Result<Totals, Stop>
     requires notes { NotesAre P.noted P.note_home note_state note_home }
     requires same { (p : P) → P.state p ≡ P.owner p }
-    requires options { IsValid options.now }
+    requires options { IsPossible options.now }
     requires ports { IsValidPorts ports.now }
     requires named { options.now ≡ J.plan.options }
     requires takers { J.plan.fronts ≡ ports.now.fronts }
@@ -141,7 +141,7 @@ fn serve_on<
 ) -> Result<Totals, Stop>
     requires notes { NotesAre P.noted P.note_home note_state note_home }
     requires same { (p : P) → P.state p ≡ P.owner p }
-    requires options { IsValid options.now }
+    requires options { IsPossible options.now }
     requires mode { options.now.mode ≡ P.mode }
     requires ports { IsValidPorts ports.now }
     requires filling { All IsWrite filling.items }
@@ -179,7 +179,7 @@ pub fn serve_locked<W: Threads + Wait + Sync, N: Net, G: Gate, A: Announce>(
     tables: &mut Tables,
     announce: &mut A,
 ) -> Result<Totals, Stop>
-    requires options { IsValid options.now }
+    requires options { IsPossible options.now }
     requires ports { IsValidPorts ports.now }
     requires filling { All IsWrite filling.items }
     requires unbound { N.binds net.old ≡ 0 }

@@ -1,6 +1,6 @@
 //! The partitions under their locks and the fronts before them, opened and run.
 ghost use Rattle.std.specs.Prelude.{◌≡◌, ◌<◌, ◌≤◌, ℕ, [], IfOk, Some, length, map, slice_get, vec_len};
-ghost use Rattle.partition_model.specs.Options.{IsValid};
+ghost use Rattle.partition_model.specs.Options.{IsPossible};
 ghost use Rattle.partition_model.specs.History.{IsHistory};
 ghost use Rattle.epoch_core.specs.declared.state.Phase.TheVariants.{Idle};
 ghost use Rattle.partition_table.specs.Tabled.{kept_seat_in};
@@ -109,7 +109,7 @@ fn run_all<
     ends: &mut Vec<D>,
     gate: &G,
 ) -> (Vec<Returned<P>>, Vec<Result<Totals, ServeFault>>)
-    requires options { IsValid options.now }
+    requires options { IsPossible options.now }
     requires named { options.now ≡ J.plan.options }
     requires takers { J.plan.fronts ≡ ports.now.fronts }
     requires ports { IsValidPorts ports.now }
@@ -168,7 +168,7 @@ pub(crate) fn serve_all<
     tables: &mut Tables,
 ) -> Result<Totals, ServeFault>
     requires same { (p : P) → P.state p ≡ P.owner p }
-    requires options { IsValid options.now }
+    requires options { IsPossible options.now }
     requires named { options.now ≡ J.plan.options }
     requires takers { J.plan.fronts ≡ ports.now.fronts }
     requires ports { IsValidPorts ports.now }

@@ -83,7 +83,7 @@ pub(crate) fn keep_all<P: OnTable + LendPartition<Reader = ReaderSeat, Note = No
     tables: &mut Tables,
 )
     requires same { (p : P) → P.state p ≡ P.owner p }
-    requires room { length tables.old + length parts.items ≤ 16 }
+    requires room { length tables.old + length parts.items ≤ 64 }
     requires idle { (p : ℕ) (left : Owned) → slice_get (map (λ part. left_view P.owner P.home part) parts.items) p ≡ Some left → left.owner.phase ≡ Idle }
     ensures { tables.new ≡ tables.old ++ map (λ left. kept_seat_in left.owner) (map (λ part. left_view P.owner P.home part) parts.items) }
 {

@@ -1,6 +1,6 @@
 //! The fronts side by side, each in a thread of its own.
 ghost use Rattle.std.specs.Prelude.{◌≡◌, ◌<◌, ◌≤◌, [], length, map, vec_len, vec_capacity};
-ghost use Rattle.partition_model.specs.Options.{IsValid};
+ghost use Rattle.partition_model.specs.Options.{IsPossible};
 ghost use Rattle.mica_serve.specs.Ends.{end_facts};
 ghost use Rattle.locked_serve.specs.Running.{IsReadyTask, TaskRan, AreReadyTasks, TasksRan};
 
@@ -40,7 +40,7 @@ impl<D: Datagrams> FrontTask<D> {
         gate: &G,
         number: u32,
     )
-        requires valid { IsValid options.now }
+        requires valid { IsPossible options.now }
         requires options { options.now ≡ J.plan.options }
         requires locks { length locks.now ≡ options.now.partitions }
         requires low { number < J.plan.fronts }
@@ -79,7 +79,7 @@ pub(crate) fn run_fronts<
     gate: &G,
     fronts: &mut Vec<FrontTask<D>>,
 )
-    requires valid { IsValid options.now }
+    requires valid { IsPossible options.now }
     requires options { options.now ≡ J.plan.options }
     requires locks { length locks.now ≡ options.now.partitions }
     requires few { J.plan.fronts ≤ 64 }
@@ -93,7 +93,7 @@ pub(crate) fn run_fronts<
         fronts.as_mut_slice(),
         threads,
         &|number, front|
-            requires { (number < J.plan.fronts) × (J.plan.fronts ≤ 64) × IsValid options.now × (options.now ≡ J.plan.options) × (length locks.now ≡ options.now.partitions)
+            requires { (number < J.plan.fronts) × (J.plan.fronts ≤ 64) × IsPossible options.now × (options.now ≡ J.plan.options) × (length locks.now ≡ options.now.partitions)
                 × IsReadyTask J.plan batches (end_facts D.port D.traffic D.faults D.has_ended D.script) number front.now }
             ensures { TaskRan J.plan batches (end_facts D.port D.traffic D.faults D.has_ended D.script) number front.entry.now front.exit.now }
         { front.run(rt, alloc, options, batches, locks, gate, number as u32) },

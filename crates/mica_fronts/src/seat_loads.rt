@@ -1,5 +1,6 @@
 //! Loads by a reader's seat ahead of its gets, so that what they will look at is at hand.
-ghost use Rattle.partition_model.specs.Options.{IsValid};
+ghost use Rattle.std.specs.Prelude.{◌≤◌};
+ghost use Rattle.partition_model.specs.declared.options.TheConstants.{MOST_PARTITIONS};
 
 use epoch_core::{ReaderWords, Shape, WordAt};
 use mica_words::{SLOTS, bucket_of, entry_offset, entry_tag, tag_of};
@@ -14,7 +15,7 @@ const LINE_WORDS: u32 = 8;
 
 /// Whether the tables of all partitions together are larger than the caches.
 pub fn are_large(options: &Options) -> bool
-    requires { IsValid options.now }
+    requires { options.now.partitions ≤ MOST_PARTITIONS }
 {
     let shape = Shape::of(options);
     options.partitions as usize * shape.word_count() > CACHED_WORDS

@@ -22,7 +22,7 @@ pub loop-left-init : goal.loop-left-init
 loop-left-init g c =
     let all = sym c.into_iter-rest.ensures.rest in
     record {
-      room = subst (λ (l : List (Returned g.row.P.Denot)). length c.args.tables.now + length l ≤ 16) all c.requires.room;
+      room = subst (λ (l : List (Returned g.row.P.Denot)). length c.args.tables.now + length l ≤ 64) all c.requires.room;
       idle = subst (λ (l : List (Returned g.row.P.Denot)). (p : ℕ) (left : Owned) → slice_get (map (view g) l) p ≡ Some left → left.owner.phase ≡ Idle) all c.requires.idle;
       kept = refl;
     }

@@ -8,7 +8,7 @@ use Rattle.locked_serve.proofs.taking.keep_all.Given as goal
 
 abbrev pub invariant-loop-left : goal.invariant-loop-left
 invariant-loop-left g l = record {
-  room : length l.tables + length (into_iter_items l.rest) ≤ 16;
+  room : length l.tables + length (into_iter_items l.rest) ≤ 64;
   idle : (p : ℕ) (left : Owned) → slice_get (map (λ part. left_view g.P.Partition.owner g.P.Partition.home part) (into_iter_items l.rest)) p ≡ Some left → left.owner.phase ≡ Idle;
   kept : l.tables ++ map (λ left. kept_seat_in left.owner) (map (λ part. left_view g.P.Partition.owner g.P.Partition.home part) (into_iter_items l.rest))
       ≡ l.initial.tables ++ map (λ left. kept_seat_in left.owner) (map (λ part. left_view g.P.Partition.owner g.P.Partition.home part) (into_iter_items l.initial.rest));
