@@ -1,10 +1,10 @@
 //! A client beside the server that it asks: two runs of the top call, whose datagrams pass real sockets.
-ghost use Rattle.std.specs.Prelude.{◌≡◌, false};
+ghost use Rattle.std.specs.Prelude.{◌≡◌, ◌⊎◌, false, None, is_none, is_some, length, IfOk, IfSome, OnErr};
 
 use crate::runs::{End, run_between};
 use mica_client::UdpLink;
 use mica_cmd::Status;
-use mica_io::{Failed, FreeGate, MemNet, Net, NoMemory, UdpNet};
+use mica_io::{Datagrams, Failed, FreeGate, MemNet, Net, NoMemory, UdpEnd, UdpNet};
 use std::alloc::Global;
 use std::net::{Net as Sockets, TcpListener, TcpStream};
 use std::process::Abort;
@@ -55,38 +55,76 @@ pub struct Progress {
     pub has_ended: AtomicBool,
 }
 
-/// A net that tells how many ports it bound.
+/// A socket that says that it has ended after so many datagrams.
 #[derive(Drop)]
-pub struct WatchedNet<'a, N> {
-    pub net: N,
+pub struct CountedEnd<'a> {
+    end: UdpEnd<'a>,
+    left: u32,
+    has_ended: bool,
+}
+
+impl<'a> Datagrams for CountedEnd<'a> {
+    ghost port = { λ e. ⟦<UdpEnd<'a> as Datagrams>⟧.port e.end };
+
+    ghost traffic = { λ _. None };
+
+    ghost faults = { λ e. ⟦<UdpEnd<'a> as Datagrams>⟧.faults e.end };
+
+    ghost has_ended = { λ e. e.has_ended };
+
+    ghost has_received = { λ e. ⟦<UdpEnd<'a> as Datagrams>⟧.has_received e.end };
+
+    ghost script = { λ _. None };
+
+    fn recv(&mut self, out: &mut [u8]) -> Result<Option<usize>, Failed> {
+        if self.left == 0 {
+            self.has_ended = true;
+            return Ok(None);
+        }
+        self.left -= 1;
+        self.end.recv(out)
+    }
+
+    fn reply(&mut self, piece: &[u8]) -> Result<(), Failed> {
+        self.end.reply(piece)
+    }
+}
+
+/// Such sockets, of which it tells how many were bound.
+#[derive(Drop)]
+pub struct WatchedNet<'a, R> {
+    pub net: UdpNet<'a, R>,
+    pub times: u32,
     pub progress: &'a Progress,
 }
 
-impl<'a, N: Net> Net for WatchedNet<'a, N> {
-    type End = N::End;
+impl<'a, R: Sockets> Net for WatchedNet<'a, R> {
+    type End = CountedEnd<'a>;
 
-    ghost faults = { λ n. N.faults n.net };
+    ghost faults = { λ n. ⟦<UdpNet<'a, R> as Net>⟧.faults n.net };
 
-    ghost binds = { λ n. N.binds n.net };
+    ghost binds = { λ n. ⟦<UdpNet<'a, R> as Net>⟧.binds n.net };
 
-    ghost first = { λ n. N.first n.net };
+    ghost first = { λ n. ⟦<UdpNet<'a, R> as Net>⟧.first n.net };
 
-    ghost refused = { λ n. N.refused n.net };
+    ghost refused = { λ n. ⟦<UdpNet<'a, R> as Net>⟧.refused n.net };
 
-    ghost ports = { λ n. N.ports n.net };
+    ghost ports = { λ _. None };
 
-    ghost fails = { λ n. N.fails n.net };
+    ghost fails = { λ _. None };
 
-    fn bind(&mut self, port: u16) -> Result<N::End, Failed> {
-        let bound = self.net.bind(port);
-        if bound.is_ok() {
-            self.progress.bound.fetch_add(1, Ordering::SeqCst);
-        }
-        bound
+    fn bind(&mut self, port: u16) -> Result<CountedEnd<'a>, Failed> {
+        let end = self.net.bind(port)?;
+        self.progress.bound.fetch_add(1, Ordering::SeqCst);
+        Ok(CountedEnd {
+            end,
+            left: self.times,
+            has_ended: false,
+        })
     }
 
-    fn release(&mut self, end: N::End) {
-        self.net.release(end);
+    fn release(&mut self, end: CountedEnd<'a>) {
+        self.net.release(end.end);
     }
 }
 
@@ -116,9 +154,9 @@ fn serve_row<W: Threads + Wait + Sockets + Sync>(
         "serve --port {port} --fronts 2 --partitions 2 {}",
         row.serve
     )?;
-    let has_failed = AtomicBool::new(false);
     let mut net = WatchedNet {
-        net: UdpNet::failing_whole(rt, &has_failed),
+        net: UdpNet::new(rt),
+        times: 100,
         progress,
     };
     let mut link = UdpLink::new(rt);

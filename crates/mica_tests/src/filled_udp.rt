@@ -1,12 +1,12 @@
 //! A client beside a server that stays up, which is filled from a file: their datagrams pass real sockets.
-ghost use Rattle.std.specs.Prelude.{◌≡◌, ◌⊎◌, false, None, is_none, is_some, length, IfOk, IfSome, OnErr};
+ghost use Rattle.std.specs.Prelude.{◌≡◌};
 
 use crate::asked::{Progress, WatchedNet, ask_bound};
 use crate::lasting::run_lasting;
 use crate::runs::{End, run_words};
 use mica_cmd::{MAX_SOURCE_LEN, Status};
 use mica_daemon::{Files, HostFiles, MemFiles};
-use mica_io::{Datagrams, Failed, FreeGate, MemSink, Net, NoMemory, UdpEnd, UdpNet};
+use mica_io::{FreeGate, MemSink, NoMemory, UdpNet};
 use std::alloc::Global;
 use std::fs;
 use std::net::{Net as Sockets, TcpListener, TcpStream};
@@ -18,79 +18,6 @@ use std::test::Fail;
 use std::thread::{Threads, join};
 
 const FILE: &str = "apple_and_pear.image";
-
-/// A socket that says that it has ended after so many datagrams.
-#[derive(Drop)]
-struct CountedEnd<'a> {
-    end: UdpEnd<'a>,
-    left: u32,
-    has_ended: bool,
-}
-
-impl<'a> Datagrams for CountedEnd<'a> {
-    ghost port = { λ e. ⟦<UdpEnd<'a> as Datagrams>⟧.port e.end };
-
-    ghost traffic = { λ _. None };
-
-    ghost faults = { λ e. ⟦<UdpEnd<'a> as Datagrams>⟧.faults e.end };
-
-    ghost has_ended = { λ e. e.has_ended };
-
-    ghost has_received = { λ e. ⟦<UdpEnd<'a> as Datagrams>⟧.has_received e.end };
-
-    ghost script = { λ _. None };
-
-    fn recv(&mut self, out: &mut [u8]) -> Result<Option<usize>, Failed> {
-        if self.left == 0 {
-            self.has_ended = true;
-            return Ok(None);
-        }
-        self.left -= 1;
-        self.end.recv(out)
-    }
-
-    fn reply(&mut self, piece: &[u8]) -> Result<(), Failed> {
-        self.end.reply(piece)
-    }
-}
-
-/// Sockets that say so.
-#[derive(Drop)]
-struct CountedNet<'a, R> {
-    net: UdpNet<'a, R>,
-    times: u32,
-}
-
-impl<'a, R: Sockets> Net for CountedNet<'a, R> {
-    type End = CountedEnd<'a>;
-
-    ghost faults = { λ n. ⟦<UdpNet<'a, R> as Net>⟧.faults n.net };
-
-    ghost binds = { λ n. ⟦<UdpNet<'a, R> as Net>⟧.binds n.net };
-
-    ghost first = { λ n. ⟦<UdpNet<'a, R> as Net>⟧.first n.net };
-
-    ghost refused = { λ n. ⟦<UdpNet<'a, R> as Net>⟧.refused n.net };
-
-    ghost ports = { λ _. None };
-
-    ghost fails = { λ _. None };
-
-    fn bind(&mut self, port: u16) -> Result<CountedEnd<'a>, Failed> {
-        match self.net.bind(port) {
-            Ok(end) => Ok(CountedEnd {
-                end,
-                left: self.times,
-                has_ended: false,
-            }),
-            Err(failed) => Err(failed),
-        }
-    }
-
-    fn release(&mut self, end: CountedEnd<'a>) {
-        self.net.release(end.end);
-    }
-}
 
 /// The server's run, in which each front takes one datagram.
 fn serve_image<W: Threads + Wait + Sockets + Sync>(
@@ -105,12 +32,11 @@ fn serve_image<W: Threads + Wait + Sockets + Sync>(
     )?;
     let mut files = MemFiles::new(alloc);
     files.add(alloc, FILE, image, &[])?;
-    let has_failed = AtomicBool::new(false);
-    let net = CountedNet {
-        net: UdpNet::failing_whole(rt, &has_failed),
+    let mut net = WatchedNet {
+        net: UdpNet::new(rt),
         times: 1,
+        progress,
     };
-    let mut net = WatchedNet { net, progress };
     let end = run_lasting(rt, alloc, &mut files, &mut net, line.as_str(), 100);
     progress.has_ended.store(true, Ordering::SeqCst);
     end
