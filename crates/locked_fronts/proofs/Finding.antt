@@ -12,9 +12,8 @@ use Rattle.partition_model.specs.declared.write.Write.{Write}
 use Rattle.partition_model.specs.Answer.{IsAnswer}
 use Rattle.mica_fronts.specs.declared.changing.Changed.{Changed}
 use Rattle.mica_fronts.specs.declared.changing.When.{When}
-use Rattle.mica_fronts.specs.Changing.{Becoming, count_of}
 use Rattle.mica_fronts.specs.Session.{Session, ChangesOnly, Writes, Reads}
-use Rattle.mica_fronts.specs.Looks.{ComesTo}
+use Rattle.mica_fronts.specs.Changing.{Becoming, ComesTo, count_of}
 use Rattle.locked_fronts.specs.declared.part.LockedPart.{LockedPart}
 use Rattle.locked_fronts.specs.Plan.{Plan}
 use Rattle.locked_fronts.specs.Parts.{LockedView, locked_view, IsPartOf, IsLockedFront, most_turns, turns_taken, turns_left, PartWrites, PartChanges, PartReads, session_of, session_or_none, sessions_of}

@@ -28,9 +28,9 @@ use Rattle.owner_queue.specs.Acked.{IsReplyAt}
 use Rattle.mica_fronts.specs.declared.changing.Changed.{Changed}
 use Rattle.mica_fronts.specs.declared.changing.When.{When}
 use Rattle.std.proofs.lemmas.Option.{same_Some}
-use Rattle.mica_fronts.specs.Changing.{Becoming, stays, becomes, goes, Look, IsLookAt, write_for, write_by, count_of}
-use Rattle.mica_fronts.specs.Session.{Writes}
-use Rattle.mica_fronts.specs.Looks.{Changes, Keeps, DoesWrite}
+use Rattle.mica_fronts.specs.Looks.{Look, IsLookAt}
+use Rattle.mica_fronts.specs.Session.{Writes, Changes, Keeps}
+use Rattle.mica_fronts.specs.Changing.{Becoming, stays, becomes, goes, DoesWrite, write_for, write_by, count_of}
 use Rattle.turn_book.specs.Entries.{TakerView}
 use Rattle.locked_fronts.specs.declared.owned.Step.{Step}
 use Rattle.locked_fronts.specs.declared.part.LockedPart.{LockedPart}

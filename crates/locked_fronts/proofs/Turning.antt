@@ -24,7 +24,8 @@ use Rattle.partition_table.specs.Seats.{note_state, note_home}
 use Rattle.owner_queue.proofs.Gains.{step_gains}
 use Rattle.mica_fronts.specs.declared.changing.Changed.{Changed}
 use Rattle.mica_fronts.specs.declared.changing.When.{When}
-use Rattle.mica_fronts.specs.Changing.{Becoming, IsFound, when_after, write_by}
+use Rattle.mica_fronts.specs.Looks.{when_after}
+use Rattle.mica_fronts.specs.Changing.{Becoming, IsFound, write_by}
 use Rattle.mica_fronts.specs.Flushes.{is_flush, flushed_in}
 use Rattle.mica_fronts.proofs.FlushLaws.{flushed_then}
 use Rattle.turn_book.specs.declared.rule.Entry.{Entry}

@@ -20,7 +20,8 @@ use Rattle.mica_fronts.specs.declared.changing.Change.{Change}
 use Rattle.mica_fronts.specs.declared.changing.Change.TheVariants.{Stay, Become, Go}
 use Rattle.mica_fronts.specs.declared.changing.Changed.{Changed}
 use Rattle.mica_fronts.specs.declared.changing.When.{When}
-use Rattle.mica_fronts.specs.Changing.{Becoming, IsLookAt, IsFound, write_by}
+use Rattle.mica_fronts.specs.Looks.{IsLookAt}
+use Rattle.mica_fronts.specs.Changing.{Becoming, IsFound, write_by}
 use Rattle.locked_fronts.specs.declared.owned.Step.{Step}
 use Rattle.locked_fronts.specs.Plan.{Plan}
 

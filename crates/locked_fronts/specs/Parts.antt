@@ -12,9 +12,8 @@ use Rattle.partition_table.specs.declared.reader.Note.{Note}
 use Rattle.partition_table.specs.Seats.{reader_state, reader_home, note_state}
 use Rattle.mica_fronts.specs.declared.changing.Changed.{Changed}
 use Rattle.mica_fronts.specs.declared.changing.When.{When}
-use Rattle.mica_fronts.specs.Changing.{Becoming, count_of}
 use Rattle.mica_fronts.specs.Session.{Session, Sessions, Writes, Reads}
-use Rattle.mica_fronts.specs.Looks.{ComesTo}
+use Rattle.mica_fronts.specs.Changing.{Becoming, ComesTo, count_of}
 use Rattle.mica_fronts.specs.SeatSession.{session_at}
 use Rattle.locked_fronts.specs.declared.part.LockedPart.{LockedPart}
 use Rattle.locked_fronts.specs.Plan.{Plan}

@@ -12,7 +12,7 @@ use Rattle.batch_packets.specs.BatchGrammar.{IsRequest}
 use Rattle.batch_packets.specs.Filling.{Filling}
 use Rattle.batch_packets.specs.Remaining.{Remaining, HasLeft}
 use Rattle.batch_packets.proofs.Filling.{adds_none as adds_none_to, adds_then}
-use Rattle.mica_fronts.specs.Answered.{Answered, wrote, got, step_in, partition_in, count_of_writes}
+use Rattle.mica_fronts.specs.Answered.{Answered, wrote, got, changed, kept, step_in, partition_in, count_of_writes}
 use Rattle.mica_fronts.specs.Turn.{Turn, Asks, write_in, writes_of_one, reply_to, reply_of, answers_in}
 use Rattle.mica_fronts.specs.Dealing.{IsTurn}
 use Rattle.mica_fronts.specs.Session.{Session, Sessions, Answers, AnswersOne, AnswersInOrder}
@@ -22,6 +22,8 @@ use Rattle.mica_fronts.specs.Answering.{RepliesTo, AddsReply, AnswersAll, AddsAl
 pub asked_many : (request : Request) (answered : Answered) → Asks request answered → count_of_writes (answered ∷ []) ≡ writes_of_one request
 asked_many request (wrote step) is = ap (λ (w : Option Write). cond (is_some w) 1 0) (sym is)
 asked_many request (got key stamp value) is = ap (λ (w : Option Write). cond (is_some w) 1 0) (sym is.0)
+asked_many request (changed step look) is = absurd is
+asked_many request (kept key stamp look) is = absurd is
 
 -- the answers are those that the requests asked
 each_asked : (version : ℕ) (turns : List Turn) → AllByRecursion (IsTurn version) turns → AllZip Asks (map (λ t. t.request) turns) (answers_in turns)

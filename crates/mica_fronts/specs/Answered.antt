@@ -5,33 +5,48 @@ use Rattle.mica_words.specs.Hash.{partition_of}
 use Rattle.partition_model.specs.declared.options.Options.{Options}
 use Rattle.partition_model.specs.Write.{is_accepted}
 use Rattle.partition_model.specs.Run.{RunStep}
+use Rattle.mica_fronts.specs.Looks.{Look}
 
--- a write, with its outcome and its stamp; or the value of a key, or none, at a stamp
+-- A write, with its outcome and its stamp; or the value of a key, or none, at a stamp. Under a hold: a write that was made of a look, or a look at a
+-- key, at a stamp, where nothing was written.
 pub data Answered : Type 0 where
   wrote : RunStep → Answered
   got : List ℕ → ℕ → Option (List ℕ) → Answered
+  changed : RunStep → Look → Answered
+  kept : List ℕ → ℕ → Look → Answered
 
 abbrev pub key_of : Answered → List ℕ
 key_of (wrote step) = step.write.key
 key_of (got key stamp value) = key
+key_of (changed step look) = step.write.key
+key_of (kept key stamp look) = key
 
 abbrev pub stamp_given : Answered → ℕ
 stamp_given (wrote step) = step.stamp
 stamp_given (got key stamp value) = stamp
+stamp_given (changed step look) = step.stamp
+stamp_given (kept key stamp look) = stamp
 
 -- the step of a write
 abbrev pub step_in : Answered → Option RunStep
 step_in (wrote step) = Some step
 step_in (got key stamp value) = None
+step_in (changed step look) = Some step
+step_in (kept key stamp look) = None
 
+-- whether it was answered by a seat, without a hold
 abbrev pub is_get : Answered → Bool
 is_get (wrote step) = false
 is_get (got key stamp value) = true
+is_get (changed step look) = false
+is_get (kept key stamp look) = false
 
 -- whether a write was accepted
 abbrev pub accepts : Answered → Bool
 accepts (wrote step) = is_accepted step.outcome
 accepts (got key stamp value) = false
+accepts (changed step look) = is_accepted step.outcome
+accepts (kept key stamp look) = false
 
 abbrev pub partition_in : Options → Answered → ℕ
 partition_in options answered = partition_of (key_of answered) options.partitions

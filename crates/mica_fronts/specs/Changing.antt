@@ -1,5 +1,5 @@
 -- What becomes of a value that is looked at and written under one hold.
-use Rattle.std.specs.Prelude.{◌≡◌, ℕ, Bool, true, false, List, [], length, Option, Some, None, ⊤}
+use Rattle.std.specs.Prelude.{◌≡◌, ℕ, Bool, true, false, List, [], Option, Some, None, ⊤}
 use Rattle.partition_model.specs.declared.options.Options.{Options}
 use Rattle.partition_model.specs.declared.write.Op.TheVariants.{Put, Del}
 use Rattle.partition_model.specs.declared.write.Write.{Write}
@@ -7,11 +7,12 @@ use Rattle.partition_model.specs.declared.write.Answer.{Answer}
 use Rattle.partition_model.specs.declared.write.Outcome.{Outcome}
 use Rattle.partition_model.specs.Write.{write_of}
 use Rattle.partition_model.specs.Answer.{IsAnswer}
-use Rattle.partition_model.specs.History.{History, answer_of}
 use Rattle.mica_fronts.specs.declared.changing.Change.{Change}
 use Rattle.mica_fronts.specs.declared.changing.Change.TheVariants.{Stay, Become, Go}
+use Rattle.mica_fronts.specs.declared.changing.Changed.{Changed}
 use Rattle.mica_fronts.specs.declared.changing.When.{When}
-use Rattle.mica_fronts.specs.Flushes.{flushed_in}
+use Rattle.mica_fronts.specs.Looks.{Look}
+use Rattle.mica_fronts.specs.Session.{Session, Changes, Keeps}
 
 -- What a decision makes of a key's value.
 pub data Becoming : Type 0 where
@@ -44,20 +45,6 @@ abbrev pub count_of : Option Outcome → ℕ
 count_of None = 0
 count_of (Some outcome) = 1
 
--- when a decision is made: at a second, behind this history
-abbrev pub when_after : ℕ → History → When
-when_after second history = record { second = second; written = length history; flushed = flushed_in history }
-
--- what was looked at under a hold: the value of a key, or none, and when
-pub record Look : Type 0 where
-  pub when : When
-  pub value : Option (List ℕ)
-
--- it is what the machine has behind this history
-pub record IsLookAt (options : Options) (history : History) (key : List ℕ) (look : Look) : Type 0 where
-  pub when : look.when ≡ when_after look.when.second history
-  pub value : look.value ≡ answer_of options history key
-
 -- what a decision asks of a look
 abbrev pub write_by : (When → Option (List ℕ) → Becoming) → List ℕ → Look → Option Write
 write_by becoming key look = write_for key look.value (becoming look.when look.value)
@@ -66,3 +53,19 @@ write_by becoming key look = write_for key look.value (becoming look.when look.v
 abbrev pub IsFound : Bool → Option Answer → List ℕ → Option (List ℕ) → Type 0
 IsFound needs None buffer value = needs ≡ false
 IsFound needs (Some answer) buffer value = IsAnswer answer buffer value
+
+-- the write of a decision was done, with this outcome; or there was none
+abbrev pub DoesWrite : Options → Bool → Session → List ℕ → Option Write → Option Outcome → ℕ → Look → Session → Type 0
+DoesWrite options is_alone old key None None stamp look new = Keeps options old key stamp look new
+DoesWrite options is_alone old key (Some write) (Some outcome) stamp look new =
+    Changes options is_alone old (record { write = write; outcome = outcome; stamp = stamp }) look new
+DoesWrite _ _ _ _ _ _ _ _ _ = ⊥
+
+-- What a change came to: the value was looked at at this second, and what was decided of it was done.
+pub record ComesTo (options : Options) (is_alone : Bool) (second : ℕ) (key : List ℕ) (needs : Bool) (becoming : When → Option (List ℕ) → Becoming) (old : Session)
+    (changed : Changed) (buffer : List ℕ) (new : Session) : Type 0 where
+  pub value : Option (List ℕ)
+  pub found : IsFound needs changed.found buffer value
+  pub at : changed.when.second ≡ second
+  pub does : DoesWrite options is_alone old key (write_by becoming key (record { when = changed.when; value = value })) changed.outcome changed.stamp
+      (record { when = changed.when; value = value }) new

@@ -1,13 +1,13 @@
 pub mod PortOptions
+pub mod Flushes
+pub mod Looks
 pub mod Answered
 pub mod Turn
 pub mod Dealing
 pub mod Stand
-pub mod Flushes
-pub mod Changing
 pub mod Session
 pub mod SeatSession
-pub mod Looks
+pub mod Changing
 pub mod Answering
 pub mod Placed
 pub mod Totals

@@ -5,7 +5,8 @@ use Rattle.partition_model.specs.Write.{is_accepted}
 use Rattle.partition_model.specs.History.{History, IsPrefix, IsCut}
 use Rattle.partition_model.specs.Run.{RunStep, history_of, IsRunFrom, IsAnswerAt}
 use Rattle.owner_queue.specs.Acked.{IsReplyAt}
-use Rattle.mica_fronts.specs.Answered.{Answered, wrote, got, partition_in}
+use Rattle.mica_fronts.specs.Answered.{Answered, wrote, got, changed, kept, partition_in}
+use Rattle.mica_fronts.specs.Looks.{Look, IsLookAt}
 
 -- what a front tells: the steps whose answers it took, and how many tries its seat made, how many failed and how many answered
 pub record Told : Type 0 where
@@ -76,10 +77,38 @@ pub record Reads (options : Options) (is_alone : Bool) (old : Session) (key : Li
   pub alone : is_alone ≡ true → new.seen ≡ old.seen
   pub told : TellsRead old.told new.told
 
+-- The value was looked at behind a history that begins with all that the front had seen, and the write is the step that follows it, with nothing between.
+pub record Changes (options : Options) (is_alone : Bool) (old : Session) (step : RunStep) (look : Look) (new : Session) : Type 0 where
+  pub written : Writes options is_alone old step new
+  pub before : History
+  pub newest : IsPrefix old.seen before
+  pub looked : IsLookAt options before step.write.key look
+  pub next : written.cut ≡ before ++ history_of (step ∷ [])
+
+-- where they are told, no answer was taken; what the seat learned may have made its list of failed tries longer
+abbrev pub TellsLook : Option Told → Option Told → Type 0
+TellsLook None new = new ≡ None
+TellsLook (Some old) new = (n : ℕ) × (new ≡ Some (record old { failed = old.failed + n }))
+
+-- The value was looked at behind a history that begins with all that the front had seen, and left.
+pub record Keeps (options : Options) (old : Session) (key : List ℕ) (stamp : ℕ) (look : Look) (new : Session) : Type 0 where
+  pub grows : IsPrefix old.seen new.seen
+  pub cut : History
+  pub at : IsCut options new.seen stamp cut
+  pub newest : IsPrefix old.seen cut
+  pub looked : IsLookAt options cut key look
+  pub done : IsPrefix old.done new.done
+  pub ended : IsPrefix cut new.done
+  pub order : old.last ≤ stamp
+  pub last : new.last ≡ stamp
+  pub told : TellsLook old.told new.told
+
 -- one partition's session is that of a front which was answered so
 abbrev pub AnswersOne : Options → Bool → Session → Answered → Session → Type 0
 AnswersOne options is_alone old (wrote step) new = Writes options is_alone old step new
 AnswersOne options is_alone old (got key stamp value) new = Reads options is_alone old key stamp value new
+AnswersOne options is_alone old (changed step look) new = Changes options is_alone old step look new
+AnswersOne options is_alone old (kept key stamp look) new = Keeps options old key stamp look new
 
 -- a partition answered
 pub record Answers (options : Options) (is_alone : Bool) (old : Sessions) (answered : Answered) (new : Sessions) : Type 0 where

@@ -12,7 +12,7 @@ use Rattle.batch_packets.specs.declared.batch.Want.{Want}
 use Rattle.batch_packets.specs.declared.batch.Want.TheVariants.{Get, Put, Del, Add, Touch}
 use Rattle.batch_packets.specs.declared.batch.Request.{Request}
 use Rattle.batch_packets.specs.declared.replies.Reply.{Reply}
-use Rattle.mica_fronts.specs.Answered.{Answered, wrote, got}
+use Rattle.mica_fronts.specs.Answered.{Answered, wrote, got, changed, kept}
 
 -- What a request asks
 
@@ -31,10 +31,12 @@ write_in request = write_by request.want request.key request.value
 abbrev pub writes_of_one : Request → ℕ
 writes_of_one request = if is_some (write_in request) then 1 else 0
 
--- it is what the request asks that was answered
+-- It is what the request asks that was answered. None asks for a look under a hold.
 abbrev pub Asks : Request → Answered → Type 0
 Asks request (wrote step) = write_in request ≡ Some step.write
 Asks request (got key stamp value) = (write_in request ≡ None) × (key ≡ request.key)
+Asks request (changed step look) = ⊥
+Asks request (kept key stamp look) = ⊥
 
 -- What is replied
 
@@ -80,6 +82,8 @@ bad_batch_reply = record { status = 9; ticket = 0; stamp = 0; value = [] }
 abbrev pub reply_to : ℕ → ℕ → Answered → Reply
 reply_to version ticket (wrote step) = write_reply ticket step.outcome step.stamp
 reply_to version ticket (got key stamp value) = get_reply version ticket stamp value
+reply_to version ticket (changed step look) = write_reply ticket step.outcome step.stamp
+reply_to version ticket (kept key stamp look) = get_reply version ticket stamp look.value
 
 -- a request of a batch of this version, and what was answered to it
 pub record Turn : Type 0 where

@@ -3,8 +3,7 @@ ghost use Rattle.std.specs.Prelude.{◌≡◌, ◌+◌, ◌<◌, ◌≤◌, ℕ,
 ghost use Rattle.mica_words.specs.Hash.{partition_of};
 ghost use Rattle.mica_words.specs.Item.{KeyFits};
 ghost use Rattle.mica_fronts.specs.Session.{ChangesOnly};
-ghost use Rattle.mica_fronts.specs.Changing.{Becoming, IsChange, count_of};
-ghost use Rattle.mica_fronts.specs.Looks.{ComesTo};
+ghost use Rattle.mica_fronts.specs.Changing.{Becoming, IsChange, ComesTo, count_of};
 
 use crate::front::Front;
 use partition_model::{Answer, ItemBuf, Outcome};

@@ -6,6 +6,7 @@ pub mod Binding
 pub mod Among
 pub mod OnePartition
 pub mod Beside
+mod Looked
 pub mod PartitionTotals
 pub mod ServedBeside
 pub mod Gathered

@@ -18,7 +18,7 @@ use Rattle.mica_fronts.specs.Dealing.{Dealing, IsDealing, answered_in, due_to}
 use Rattle.partition_model.specs.History.{History, IsHistory}
 use Rattle.partition_table.specs.declared.tables.KeptSeat.{KeptSeat}
 use Rattle.mica_serve.specs.Beside.{ServesOnTables}
-use Rattle.mica_serve.specs.Served.{ServesPort, ServesGet, NoFall, LeavesPort, BeginsPorts, IsThrough, IsCutShort, IsStopped, StopsShort}
+use Rattle.mica_serve.specs.Served.{ServesPort, ServesGet, ServesLook, NoFall, LeavesPort, BeginsPorts, IsThrough, IsCutShort, IsStopped, StopsShort}
 use Rattle.mica_serve.specs.declared.filling.OpenFault.TheVariants as open_fault
 use Rattle.mica_io.specs.Faults.{Rose}
 use Rattle.mica_serve.specs.NetRun.{ReleasesAll}
@@ -160,6 +160,7 @@ module _ (ports : PortOptions) (olds news : List EndFacts) (before mid after : P
           no_others = All-from_recursion (λ q. q.front < length (map answered_in nothing.0)) [] tt;
         };
         gets = λ p f answers lt is. subst (λ (l : List Answered). All (ServesGet options (begun p) (begun p ++ [])) (gets_of options p l)) (sym (none_asked f answers is)) (All-nil (ServesGet options (begun p) (begun p ++ [])));
+        looks = λ p f answers lt is. subst (λ (l : List Answered). All (ServesLook options (begun p) []) (answers_of options p l)) (sym (none_asked f answers is)) (All-nil (ServesLook options (begun p) []));
         order = λ p f answers lt is. subst (λ (l : List Answered). AllPairs NoFall (answers_of options p l)) (sym (none_asked f answers is)) (λ i j d less within. absurd (omega arith));
       };
       some = inl failed;

@@ -5,16 +5,17 @@ use Rattle.std.proofs.lemmas.List.{append-nil, length-map}
 use Rattle.list_laws.proofs.Places.{from_map}
 use Rattle.partition_model.specs.declared.options.Options.{Options}
 use Rattle.partition_model.specs.History.{History}
-use Rattle.partition_model.specs.Run.{RunStep}
+use Rattle.partition_model.specs.Run.{RunStep, IsRunFrom}
 use Rattle.mica_fronts.specs.Answered.{Answered, answers_of, writes_of, gets_of}
 use Rattle.mica_fronts.specs.Session.{Told, Sessions}
-use Rattle.mica_fronts.specs.Placed.{Placed, steps_by, history_in}
-use Rattle.mica_serve.specs.Served.{ServesGet, NoFall, AnswersLawfully}
+use Rattle.mica_fronts.specs.Placed.{Placed, steps_by, steps_in, history_in}
+use Rattle.mica_serve.specs.Served.{ServesGet, ServesLook, NoFall, AnswersLawfully}
 use Rattle.mica_serve.specs.Beside.{closed_of, AnsweredBeside, RunsPartitions}
 use Rattle.mica_serve.proofs.Order.{order_of}
 use Rattle.mica_serve.proofs.Among.{StandAmong, stand_before, stand_few, stand_all}
 use Rattle.mica_serve.proofs.OnePartition.{in_partition}
-use Rattle.mica_serve.proofs.Beside.{Beside, TellsAnswers, beside_of, gets_grow}
+use Rattle.mica_serve.proofs.Beside.{Beside, TellsAnswers, IsOf, beside_of, all_grow, gets_among}
+use Rattle.mica_serve.proofs.Looked.{serves_looks}
 use Rattle.mica_serve.proofs.PartitionTotals.{total_all, writes_total}
 
 module _ (options : Options) (some : 1 ≤ options.partitions) (begun : ℕ → History) (runs : ℕ → List Placed) (f : ℕ) (answers : List Answered) (old new : Sessions)
@@ -22,7 +23,7 @@ module _ (options : Options) (some : 1 ≤ options.partitions) (begun : ℕ → 
   beside : (p : ℕ) → Beside options (old p) (new p) (answers_of options p answers)
   beside p = beside_of options (answers_of options p answers) (old p) (new p) (in_partition options p answers old new known.answers)
 
-  told : (p : ℕ) → p < options.partitions → (told : Told) × (told.steps ≡ []) × (told.closed ≡ 0) × TellsAnswers told (answers_of options p answers) (new p).told
+  told : (p : ℕ) → p < options.partitions → (told : Told) × (told.steps ≡ []) × (told.closed ≡ 0) × TellsAnswers told (writes_of options p answers) (length (gets_of options p answers)) (new p).told
   told p lt = let start = known.starts p lt in (start.0, start.2.steps, start.2.closed, (beside p).tells start.0 start.1)
 
   -- the writes stand in order among the steps of the front
@@ -43,10 +44,17 @@ module _ (options : Options) (some : 1 ≤ options.partitions) (begun : ℕ → 
       (λ q below. stand_few (writes_of options q answers) (steps_by f (runs q)) (stands q below))
       (omega (arith, known.few, writes_total options some answers)) p lt)
 
+  -- what it got and looked at
+  known_of_run : (p : ℕ) → p < options.partitions → All (IsOf options (begun p) (begun p ++ history_in (runs p))) (answers_of options p answers)
+  known_of_run p lt =
+      all_grow options (old p).seen (begun p) (new p).seen (begun p ++ history_in (runs p)) ([], known.began p lt ∙ sym (append-nil (begun p))) (known.seen p lt)
+      (answers_of options p answers) (beside p).known
+
   pub gets_of_run : (p : ℕ) → p < options.partitions → All (ServesGet options (begun p) (begun p ++ history_in (runs p))) (gets_of options p answers)
-  gets_of_run p lt =
-      gets_grow options (old p).seen (begun p) (new p).seen (begun p ++ history_in (runs p)) (gets_of options p answers)
-      ([], known.began p lt ∙ sym (append-nil (begun p))) (known.seen p lt) (beside p).gets
+  gets_of_run p lt = gets_among options (begun p) (begun p ++ history_in (runs p)) (answers_of options p answers) (known_of_run p lt)
+
+  pub looks_of_run : (p : ℕ) → p < options.partitions → IsRunFrom options (begun p) (steps_in (runs p)) → All (ServesLook options (begun p) (steps_in (runs p))) (answers_of options p answers)
+  looks_of_run p lt run = serves_looks options (begun p) f (runs p) (answers_of options p answers) run (all_written p lt) (known_of_run p lt)
 
   pub order_in : (p : ℕ) → AllPairs NoFall (answers_of options p answers)
   order_in p = order_of options (answers_of options p answers) (old p) (new p) (in_partition options p answers old new known.answers)
@@ -72,6 +80,7 @@ lawful_beside answered options some begun runs fronts ran each =
         no_others = subst (λ (n : ℕ). All (λ q. q.front < n) (runs p)) (sym (length-map fronts answered)) (ran.no_others p lt);
       };
       gets = λ p f answers lt is. let k = known f answers is in gets_of_run options some begun runs f answers k.0 k.1 k.2 p lt;
+      looks = λ p f answers lt is. let k = known f answers is in looks_of_run options some begun runs f answers k.0 k.1 k.2 p lt (ran.run p lt);
       order = λ p f answers lt is. let k = known f answers is in order_in options some begun runs f answers k.0 k.1 k.2 p;
     }
   where

@@ -1,13 +1,14 @@
 -- What the fronts of a server received and replied to.
-use Rattle.std.specs.Prelude.{◌≡◌, ◌+◌, ◌<◌, ◌≤◌, ◌⊎◌, ℕ, Bool, true, List, [], ◌++◌, sum, take, drop, map, length, slice_get, nat_lt, Some, AllPairs, All}
+use Rattle.std.specs.Prelude.{◌≡◌, ◌+◌, ◌<◌, ◌≤◌, ◌⊎◌, ℕ, Bool, true, List, [], ◌∷◌, ◌++◌, ⊤, sum, take, drop, map, length, slice_get, nat_lt, Some, AllPairs, All}
 use Rattle.mica_io.specs.Traffic.{Datagram, Traffic, EndScript}
 use Rattle.mica_io.specs.Ports.{Port, Ports, waiting, back, is_waiting}
 use Rattle.partition_model.specs.declared.options.Options.{Options}
 use Rattle.partition_model.specs.History.{History, IsHistory, IsPrefix, stamp_of, answer_of}
-use Rattle.partition_model.specs.Run.{RunStep, IsRunFrom}
+use Rattle.partition_model.specs.Run.{RunStep, IsRunFrom, history_of}
 use Rattle.mica_fronts.specs.declared.ports.Ports.{Ports as PortOptions}
 use Rattle.mica_fronts.specs.declared.totals.Totals.{Totals}
-use Rattle.mica_fronts.specs.Answered.{Answered, got, key_of, stamp_given, accepts, answers_of, writes_of, gets_of}
+use Rattle.mica_fronts.specs.Looks.{Look, IsLookAt}
+use Rattle.mica_fronts.specs.Answered.{Answered, wrote, got, changed, kept, key_of, stamp_given, accepts, answers_of, writes_of, gets_of}
 use Rattle.mica_fronts.specs.Dealing.{Dealing, IsDealing, answered_in, due_to}
 use Rattle.mica_fronts.specs.Placed.{Placed, steps_by, steps_in, history_in}
 use Rattle.mica_fronts.specs.OneEnd.{BeginsAs}
@@ -43,6 +44,28 @@ pub record ServesGet (options : Options) (begun history : History) (answered : A
   pub filled : IsPrefix begun cut
   pub is : answered ≡ got (key_of answered) (stamp_of options cut) (answer_of options cut (key_of answered))
 
+-- The partition's run is some steps, then this one, then others: it was made of what the machine has behind those before it.
+pub record ServesChange (options : Options) (begun : History) (run : List RunStep) (step : RunStep) (look : Look) : Type 0 where
+  pub earlier : List RunStep
+  pub later : List RunStep
+  pub stands : run ≡ earlier ++ step ∷ later
+  pub looked : IsLookAt options (begun ++ history_of earlier) step.write.key look
+
+-- what was found and left is what the machine has behind a beginning of the history, with all that its partition began with
+pub record ServesKept (options : Options) (begun history : History) (key : List ℕ) (stamp : ℕ) (look : Look) : Type 0 where
+  pub cut : History
+  pub begins : IsPrefix cut history
+  pub filled : IsPrefix begun cut
+  pub stamped : stamp ≡ stamp_of options cut
+  pub looked : IsLookAt options cut key look
+
+-- a look under a hold of the partition
+abbrev pub ServesLook : Options → History → List RunStep → Answered → Type 0
+ServesLook options begun run (wrote step) = ⊤
+ServesLook options begun run (got key stamp value) = ⊤
+ServesLook options begun run (changed step look) = ServesChange options begun run step look
+ServesLook options begun run (kept key stamp look) = ServesKept options begun (begun ++ history_of run) key stamp look
+
 -- No stamp falls, of a write or of a get, and an accepted write's is above all before it: so a get sees each write of its front that was accepted
 -- before it, and none behind it.
 abbrev pub NoFall : Answered → Answered → Type 0
@@ -51,12 +74,14 @@ NoFall earlier later =
 
 -- All fronts
 
--- The writes of all fronts are one run of each partition's machine, from what it began with, each get is its answer, and the stamps given to each
--- front never fall there.
+-- The writes of all fronts are one run of each partition's machine, from what it began with, each get is its answer, each look under a hold is what
+-- it has there, with nothing between a look and the write made of it, and the stamps given to each front never fall.
 pub record AnswersLawfully (options : Options) (begun : ℕ → History) (fronts : List (List Answered)) (runs : ℕ → List Placed) : Type 0 where
   pub writes : (p : ℕ) → p < options.partitions → ServesWrites options (begun p) p fronts (runs p)
   pub gets : (p f : ℕ) (answers : List Answered) → p < options.partitions → slice_get fronts f ≡ Some answers
       → All (ServesGet options (begun p) (begun p ++ history_in (runs p))) (gets_of options p answers)
+  pub looks : (p f : ℕ) (answers : List Answered) → p < options.partitions → slice_get fronts f ≡ Some answers
+      → All (ServesLook options (begun p) (steps_in (runs p))) (answers_of options p answers)
   pub order : (p f : ℕ) (answers : List Answered) → p < options.partitions → slice_get fronts f ≡ Some answers
       → AllPairs NoFall (answers_of options p answers)
 
