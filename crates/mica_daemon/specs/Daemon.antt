@@ -1,10 +1,11 @@
 -- What a server that stays up writes, and what it leaves.
-use Rattle.std.specs.Prelude.{◌≡◌, ◌+◌, ◌-◌, ◌<◌, ◌⊎◌, ◌++◌, ◌∷◌, [], ℕ, List, length, take, codes, Option, Some, None, Result, Ok, Err}
+use Rattle.std.specs.Prelude.{◌≡◌, ◌+◌, ◌-◌, ◌<◌, ◌≤◌, ◌⊎◌, ◌++◌, ◌∷◌, [], ℕ, List, length, take, codes, Option, Some, None, IfSome, Result, Ok, Err}
 use Rattle.std.specs.Fmt.{decimal}
 use Rattle.std.specs.Io.KnownBytes.{Appends}
 use Rattle.mica_io.specs.Faults.{Rose}
 use Rattle.partition_model.specs.declared.options.Options.{Options}
 use Rattle.partition_model.specs.declared.write.Write.{Write}
+use Rattle.partition_sizes.specs.Bytes.{start_bytes}
 use Rattle.partition_table.specs.declared.tables.KeptSeat.{KeptSeat}
 use Rattle.mica_fronts.specs.declared.totals.Totals.{Totals}
 use Rattle.mica_fronts.specs.declared.totals.ServeFault.TheVariants.{Net, NoMemory as NoRoom}
@@ -69,10 +70,14 @@ pub record BindsNothing (old new : Outside) : Type 0 where
 abbrev pub ServesOrNot : Options → Ports → List Write → Outside → Outside → Status → Type 0
 ServesOrNot options ports writes old new status = Serves options ports writes old new status ⊎ (IsUnwritten old.sink new.sink status × BindsNothing old new)
 
--- It served with partitions that were filled as it was asked; or it wrote why there is nothing to fill them with, or had no memory, before it began.
+-- the partitions take no more memory than is free, where that is told
+abbrev pub HasMemory : FilesFacts → Options → Type 0
+HasMemory files options = IfSome files.free (λ free. start_bytes options ≤ free)
+
+-- It served with partitions that there is memory for, and that were filled as it was asked; or it wrote why there is nothing to fill them with, or had no memory, before it began.
 abbrev pub FillsAndServes : Service → FilesFacts → FilesFacts → Outside → Outside → Status → Type 0
 FillsAndServes service before after old new status =
-    ((writes : List Write) × Fills before service.image writes × Serves service.options service.ports writes old new status)
+    ((writes : List Write) × HasMemory before service.options × Fills before service.image writes × Serves service.options service.ports writes old new status)
     ⊎ (WritesDue (IsDueOfFile before after service.image) old.sink new.sink status × BindsNothing old new)
 
 -- What a run promises by its words: it served as they ask, or said that they are none of its own.

@@ -6,14 +6,15 @@ use Rattle.mica_io.specs.declared.source.ReadFault.TheVariants.{Failed, NoMemory
 use Rattle.mica_commands.specs.Words.{Text}
 use Rattle.mica_daemon.specs.declared.memory_files.MemFile.{MemFile}
 
--- at one moment: the bytes of each file by its name, where they are told, and the count of faults
+-- at one moment: the bytes of each file by its name and of the memory that is free, where they are told, and the count of faults
 pub record FilesFacts : Type 0 where
   pub file : Text → Option (List ℕ)
+  pub free : Option ℕ
   pub faults : ℕ
 
 -- by what files tell
-abbrev pub files_facts : {F : Type 0} → (F → Text → Option (List ℕ)) → (F → ℕ) → F → FilesFacts
-files_facts file faults = λ f. record { file = file f; faults = faults f }
+abbrev pub files_facts : {F : Type 0} → (F → Text → Option (List ℕ)) → (F → Option ℕ) → (F → ℕ) → F → FilesFacts
+files_facts file free faults = λ f. record { file = file f; free = free f; faults = faults f }
 
 -- what files over memory tell of the reads of one name beforehand: whether there is such a file, which reads fail, and how many were made of all names
 pub record ReadScript : Type 0 where

@@ -1,8 +1,9 @@
 //! Files, by their names.
-ghost use Rattle.std.specs.Prelude.{◌≡◌, ◌<◌, ◌≤◌, ℕ, List, Option, option_map, length, vec_len, IfOk, IfSome, IsErrOf};
+ghost use Rattle.std.specs.Prelude.{◌≡◌, ◌<◌, ◌≤◌, ℕ, List, Option, Some, option_map, length, vec_len, IfOk, IfSome, IsErrOf};
 ghost use Rattle.mica_io.specs.Faults.{Rose, faults_after};
 ghost use Rattle.mica_daemon.specs.Files.{ReadScript, is_next_failing, after_read, has_failed, Foretells};
 
+use crate::free_memory::{bound_in, free_in};
 use mica_io::{ReadFault, StdSource, read_up_to};
 use std::alloc::Global;
 use std::fs;
@@ -19,6 +20,13 @@ pub trait Files {
     /// Whether there is a file of a name and which reads of it fail, where it is told.
     ghost script: { Self → List ℕ → Option ReadScript };
 
+    /// How many bytes of memory are free, where it is told.
+    ghost free: { Self → Option ℕ };
+
+    /// How many bytes of memory are free, or `None` where that is not known.
+    fn free_memory(&self, alloc: Global) -> Option<u64>
+        ensures { IfSome (free self.now) (λ told. result ≡ Some told) };
+
     /// All bytes of the file of this name. A file that can't be opened is a read that failed.
     fn read(&mut self, alloc: Global, name: &str, limit: usize) -> Result<Vec<u8>, ReadFault>
         requires small { limit < 4294967296 }
@@ -29,6 +37,7 @@ pub trait Files {
         ensures never_fall { faults self.old ≤ faults self.new }
         ensures foretold { IfSome (script self.old name.now) (λ s. Foretells (is_next_failing s) result) }
         ensures counted { IfSome (script self.old name.now) (λ _. faults self.new ≡ faults_after (has_failed result) (faults self.old)) }
+        ensures same_free { free self.new ≡ free self.old }
         ensures moves_on { (other : List ℕ) → script self.new other ≡ option_map after_read (script self.old other) };
 }
 
@@ -45,6 +54,12 @@ impl<'a, R: FileSystem> HostFiles<'a, R> {
     {
         HostFiles { rt, faults: 0 }
     }
+
+    // The bytes of a file that has no more than 64 KiB, where it can be read.
+    fn short_file(&self, alloc: Global, name: &str) -> Option<Vec<u8>> {
+        let file = fs::open(self.rt, name).ok()?;
+        read_up_to(alloc, &mut StdSource::new(file), 65_536).ok()
+    }
 }
 
 impl<'a, R: FileSystem> Files for HostFiles<'a, R> {
@@ -55,6 +70,18 @@ impl<'a, R: FileSystem> Files for HostFiles<'a, R> {
     ghost faults = { λ f. f.faults };
 
     ghost script = { λ _ _. None };
+
+    ghost free = { λ _. None };
+
+    // What the machine has, and no more than the control group may take.
+    fn free_memory(&self, alloc: Global) -> Option<u64> {
+        let free = free_in(self.short_file(alloc, "/proc/meminfo")?.as_slice())?;
+        let bound = match self.short_file(alloc, "/sys/fs/cgroup/memory.max") {
+            Some(bytes) => bound_in(bytes.as_slice()).unwrap_or(free),
+            None => free,
+        };
+        Some(free.min(bound))
+    }
 
     fn read(&mut self, alloc: Global, name: &str, limit: usize) -> Result<Vec<u8>, ReadFault> {
         let read = match fs::open(self.rt, name) {

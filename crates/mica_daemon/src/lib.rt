@@ -1,19 +1,21 @@
 //! The program that stays up: a server whose fronts take as many datagrams as can be counted.
 //!
-//! A caller may rely on this: `daemon` fills its partitions by the pairs of an image, where the words name one, before it binds
-//! a port. It serves as `mica_serve` promises, says once that all its ports are bound, before it receives anything, and then
-//! nothing until it ends. `specs/Daemon.antt` says what the sink took by what the server came to, and `specs/Filling.antt` what
-//! it took where there was no image.
+//! A caller may rely on this: `daemon` ends at once where its partitions take more memory than the system says is free. Else it
+//! fills them by the pairs of an image, where the words name one, before it binds a port. It serves as `mica_serve` promises, says
+//! once that all its ports are bound, before it receives anything, and then nothing until it ends. `specs/Daemon.antt` says what
+//! the sink took by what the server came to, and `specs/Filling.antt` what it took where there was no image.
 #![tactic(auto)]
 
 mod files;
 mod filling;
+mod free_memory;
 mod host;
 mod memory_files;
 mod speaker;
 mod top;
 
 pub use files::{Files, HostFiles};
+pub use free_memory::{bound_in, free_in};
 pub use host::run_on_host;
 pub use memory_files::MemFiles;
 pub use speaker::Speaker;

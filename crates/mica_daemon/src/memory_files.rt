@@ -20,6 +20,7 @@ pub struct MemFiles {
     files: Vec<MemFile>,
     calls: u32,
     faults: u64,
+    free: Option<u64>,
 }
 
 impl MemFiles {
@@ -27,12 +28,24 @@ impl MemFiles {
         ensures files { (name : List ℕ) → ⟦<MemFiles as Files>⟧.file result name ≡ None }
         ensures script { (name : List ℕ) → ⟦<MemFiles as Files>⟧.script result name ≡ Some (record { is_there = false; fails = []; calls = 0 }) }
         ensures faults { ⟦<MemFiles as Files>⟧.faults result ≡ 0 }
+        ensures free { ⟦<MemFiles as Files>⟧.free result ≡ None }
     {
         MemFiles {
             files: Vec::new(alloc),
             calls: 0,
             faults: 0,
+            free: None,
         }
+    }
+
+    /// From now on so many bytes of memory are free.
+    pub fn set_free(&mut self, bytes: u64)
+        ensures files { (name : List ℕ) → ⟦<MemFiles as Files>⟧.file self.new name ≡ ⟦<MemFiles as Files>⟧.file self.old name }
+        ensures script { (name : List ℕ) → ⟦<MemFiles as Files>⟧.script self.new name ≡ ⟦<MemFiles as Files>⟧.script self.old name }
+        ensures faults { ⟦<MemFiles as Files>⟧.faults self.new ≡ ⟦<MemFiles as Files>⟧.faults self.old }
+        ensures free { ⟦<MemFiles as Files>⟧.free self.new ≡ Some bytes }
+    {
+        self.free = Some(bytes);
     }
 
     /// Adds a file, in place of one of the same name. The reads of it that are to fail are listed by their numbers from 1, among
@@ -53,6 +66,7 @@ impl MemFiles {
             else ⟦<MemFiles as Files>⟧.script self.old other)) }
         ensures unlisted { OnErr result ((other : List ℕ) → ⟦<MemFiles as Files>⟧.script self.new other ≡ ⟦<MemFiles as Files>⟧.script self.old other) }
         ensures faults { ⟦<MemFiles as Files>⟧.faults self.new ≡ ⟦<MemFiles as Files>⟧.faults self.old }
+        ensures free { ⟦<MemFiles as Files>⟧.free self.new ≡ ⟦<MemFiles as Files>⟧.free self.old }
     {
         let file = MemFile {
             name: String::from_str(alloc, name)?,
@@ -105,6 +119,12 @@ impl Files for MemFiles {
     ghost faults = { λ f. f.faults };
 
     ghost script = { λ f name. Some (script_of f.calls (named_in f.files.items name)) };
+
+    ghost free = { λ f. f.free };
+
+    fn free_memory(&self, _alloc: Global) -> Option<u64> {
+        self.free
+    }
 
     fn read(&mut self, alloc: Global, name: &str, limit: usize) -> Result<Vec<u8>, ReadFault> {
         self.calls = self.calls.saturating_add(1);

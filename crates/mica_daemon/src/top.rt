@@ -1,6 +1,6 @@
 //! The top call: from words to a server that stays up, and to its status.
-ghost use Rattle.std.specs.Prelude.{◌≡◌, [], All, map, string_bytes, Err};
-ghost use Rattle.partition_model.specs.Options.{IsValid};
+ghost use Rattle.std.specs.Prelude.{◌≡◌, [], All, map, string_bytes, Err, IsTrue};
+ghost use Rattle.partition_model.specs.Options.{IsPossible};
 ghost use Rattle.partition_model.specs.Write.{IsWrite};
 ghost use Rattle.mica_fronts.specs.PortOptions.{IsValidPorts};
 ghost use Rattle.mica_serve.specs.declared.stop.Stop.TheVariants.{Fault};
@@ -8,7 +8,7 @@ ghost use Rattle.mica_serve.specs.NetRun.{net_facts};
 ghost use Rattle.mica_commands.specs.DaemonWords.{daemon_of};
 ghost use Rattle.mica_cmd.specs.Outside.{sink_facts};
 ghost use Rattle.mica_daemon.specs.Files.{files_facts};
-ghost use Rattle.mica_daemon.specs.Daemon.{WritesLast, Serves, ServesOrNot, KeepsUp, outside, ready_text};
+ghost use Rattle.mica_daemon.specs.Daemon.{HasMemory, WritesLast, Serves, ServesOrNot, KeepsUp, outside, ready_text};
 
 use crate::Files;
 use crate::filling::filling_of;
@@ -19,6 +19,7 @@ use mica_commands::{DaemonOptions, WordsFault, read_daemon};
 use mica_io::{Gate, Net, NoMemory, Sink};
 use mica_serve::{Ports, ServeFault, Stop};
 use partition_model::{Options, Write};
+use partition_sizes::start_bytes;
 use partition_table::Tables;
 use std::alloc::Global;
 use std::sync::Wait;
@@ -46,7 +47,7 @@ fn serve_aloud<W: Threads + Wait + Sync, K: Sink + Drop, N: Net, G: Gate>(
     gate: &G,
     tables: &mut Tables,
 ) -> Status
-    requires options { IsValid options.now }
+    requires options { IsPossible options.now }
     requires ports { IsValidPorts ports.now }
     requires filling { All IsWrite filling.items }
     requires line { string_bytes speaker.old.line ≡ ready_text ports.now }
@@ -79,7 +80,7 @@ fn stay_up<W: Threads + Wait + Sync, K: Sink + Drop, N: Net, G: Gate>(
     gate: &G,
     tables: &mut Tables,
 ) -> Status
-    requires options { IsValid options.now }
+    requires options { IsPossible options.now }
     requires ports { IsValidPorts ports.now }
     requires filling { All IsWrite filling.items }
     requires unbound { N.binds net.old ≡ 0 }
@@ -100,8 +101,19 @@ fn stay_up<W: Threads + Wait + Sync, K: Sink + Drop, N: Net, G: Gate>(
     }
 }
 
+// Whether there is memory for the partitions, as far as that is known.
+fn has_memory<F: Files>(alloc: Global, files: &F, options: &Options) -> bool
+    requires { IsPossible options.now }
+    ensures { IsTrue result → HasMemory (files_facts F.file F.free F.faults files.now) options.now }
+{
+    match files.free_memory(alloc) {
+        Some(free) => start_bytes(options) <= free,
+        None => true,
+    }
+}
+
 /// Fills the partitions from the image that the words name, and serves the ports that they give, each for as many datagrams as can be
-/// counted. It writes one line once all ports are bound, and one at its end.
+/// counted. It writes one line once all ports are bound, and one at its end. Where they take more memory than is free, it ends at once.
 pub fn daemon<W: Threads + Wait + Sync, F: Files, K: Sink + Drop, N: Net, G: Gate>(
     rt: &W,
     alloc: Global,
@@ -114,7 +126,7 @@ pub fn daemon<W: Threads + Wait + Sync, F: Files, K: Sink + Drop, N: Net, G: Gat
 ) -> Status
     requires net { N.binds net.old ≡ 0 }
     requires tables { tables.old ≡ [] }
-    ensures { KeepsUp (daemon_of (map string_bytes words.now)) (files_facts F.file F.faults files.old) (files_facts F.file F.faults files.new)
+    ensures { KeepsUp (daemon_of (map string_bytes words.now)) (files_facts F.file F.free F.faults files.old) (files_facts F.file F.free F.faults files.new)
         (outside (sink_facts K.taken K.faults speaker.old.sink) (net_facts N.faults N.binds N.first N.refused N.ports N.fails net.old) tables.old)
         (outside (sink_facts K.taken K.faults speaker.new.sink) (net_facts N.faults N.binds N.first N.refused N.ports N.fails net.new) tables.new)
         result }
@@ -128,6 +140,9 @@ pub fn daemon<W: Threads + Wait + Sync, F: Files, K: Sink + Drop, N: Net, G: Gat
         Err(WordsFault::Usage) => return write_due(&mut speaker.sink, b"usage\n", Status::Usage),
         Err(WordsFault::NoMemory) => return Status::NoMemory,
     };
+    if !has_memory(alloc, files, &options) {
+        return Status::NoMemory;
+    }
     match filling_of(alloc, files, image, &mut speaker.sink) {
         Ok(filling) => stay_up(
             rt, alloc, &options, &ports, filling, speaker, net, gate, tables,

@@ -5,3 +5,6 @@ use Rattle.mica_daemon.proofs.top.daemon.Goals as goal
 
 pub returns-in-Err-NoMemory : goal.returns-in-Err-NoMemory
 returns-in-Err-NoMemory g c = unwritten _ _ _ _ _ (refl, Keeps-refl (g.K.Sink.taken c.args.speaker.now.sink)) (record { net = refl; tables = refl })
+
+pub returns-then-not-has_memory : goal.returns-then-not-has_memory
+returns-then-not-has_memory g c = unwritten _ _ _ _ _ (refl, Keeps-refl (g.K.Sink.taken c.args.speaker.now.sink)) (record { net = refl; tables = refl })
