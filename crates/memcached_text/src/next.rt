@@ -139,7 +139,6 @@ fn is_binary(from: &[u8]) -> bool
 }
 
 // What the bytes begin with, by the line at their front.
-#[inline(never)]
 fn front_line(from: &[u8]) -> Next
     ensures { result ≡ next_of from.now }
 {
