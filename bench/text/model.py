@@ -97,7 +97,8 @@ class Model:
                     self.keep(key, item, found)
         return text + b"END\r\n"
 
-    def act(self, name, found, words, data):
+    def act(self, name, found, words, data, text):
+        """What is answered to a command of these words and this data, whose text the bytes begin with."""
         key = words[1] if len(words) > 1 else b""
         if name == "get":
             return self.get(found, words[2:] if found.life else words[1:])
@@ -122,6 +123,9 @@ class Model:
             return b"OK\r\n"
         return {"stats": b"END\r\n", "version": b"VERSION\r\n", "verbosity": b"OK\r\n", "mn": b"MN\r\n"}[name]
 
+    def spoil(self, words, text):
+        self.items.pop(words[1], None)
+
     def answers(self, stream):
         """What is due to a connection that sends these bytes and then ends."""
         text, rest = b"", stream
@@ -133,14 +137,14 @@ class Model:
             words = [word for word in rest[: rest.find(b"\n")].removesuffix(b"\r").split(b" ") if word]
             if found.kind == 1:
                 if found.which:
-                    self.items.pop(words[1], None)
+                    self.spoil(words, rest)
                 text += b"" if found.quiet else line
             else:
                 name = COMMANDS[found.name]
                 if name == "quit":
                     return text
                 data = rest[found.len - 2 - found.value_len : found.len - 2]
-                reply = self.act(name, found, words, data)
+                reply = self.act(name, found, words, data, rest)
                 text += b"" if found.quiet else reply
             if found.len > len(rest):
                 return text
