@@ -1,5 +1,5 @@
 //! What a client's commands ask of which keys.
-ghost use Rattle.std.specs.Prelude.{◌≡◌, ◌∷◌, [], MatchOption};
+ghost use Rattle.std.specs.Prelude.{◌≡◌, ◌==◌, ◌∷◌, [], length, MatchOption};
 ghost use Rattle.std.specs.List.{AllByRecursion};
 ghost use Rattle.memcached_text.specs.Fit.{IsFit, IsFitNext};
 ghost use Rattle.memcached_commands.specs.Fit.{IsFitAsked};
@@ -123,6 +123,13 @@ impl<'a> Asks<'a> {
             } => Asks::one(key, Ask::Spoil),
             _ => Asks::none(),
         }
+    }
+
+    /// Whether nothing is still to be asked.
+    pub fn is_empty(&self) -> bool
+        ensures { result ≡ (length self.now == 0) }
+    {
+        self.one.is_none() && self.keys.again().next_word().is_none()
     }
 
     /// Takes the next.

@@ -1,0 +1,6 @@
+pub mod AskLaws
+pub mod Looking
+pub mod Asking
+pub mod Flushing
+pub mod ExchangeLaws
+pub mod SpellsLaws

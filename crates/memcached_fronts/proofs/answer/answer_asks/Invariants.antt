@@ -1,0 +1,28 @@
+use Rattle.std.proofs.Common.{◌≡◌, ◌≤◌, ◌+◌, ◌-◌, ◌++◌, List, length, drop}
+use Rattle.std.specs.List.{AllByRecursion}
+use Rattle.memcached_commands.specs.Answers.{unless_quiet}
+use Rattle.memcached_commands.specs.Fit.{IsFitAsked}
+use Rattle.mica_fronts.specs.Answered.{Answered}
+use Rattle.memcached_fronts.specs.AskAnswers.{asks_text}
+use Rattle.memcached_fronts.specs.Going.{AnswersFirst}
+use Rattle.memcached_fronts.proofs.answer.answer_asks.Given as goal
+
+abbrev pub invariant-loop-count : goal.invariant-loop-count
+invariant-loop-count g l =
+    let F = g.F.Front in record {
+      answers : List Answered;
+      first : AnswersFirst (F.options l.initial.front) F.is_alone l.base l.initial.asks (F.sessions l.initial.front) (g.C.Clock.last l.initial.clock)
+          (F.sessions l.front) (g.C.Clock.last l.clock) answers;
+      many : l.count ≡ length answers;
+      left_is : l.asks ≡ drop l.count l.initial.asks;
+      fit : AllByRecursion IsFitAsked l.asks;
+      text : l.out.items ≡ l.initial.out.items ++ unless_quiet l.style.quiet (asks_text l.base l.style.unique l.initial.asks answers);
+      few : l.count ≤ l.limits.asks;
+      left : F.left l.initial.front ≤ F.left l.front + l.count;
+      options : F.options l.front ≡ F.options l.initial.front;
+      number : F.number l.front ≡ F.number l.initial.front;
+      stands : F.stands l.front ≡ F.stands l.initial.front;
+    }
+
+abbrev pub decreases-loop-count : goal.decreases-loop-count
+decreases-loop-count g l = l.limits.asks - l.count

@@ -1,0 +1,142 @@
+use Rattle.std.proofs.Common.{◌≡◌, ◌<◌, ◌≤◌, ◌++◌, ◌==◌, ◌+◌, ℕ, Bool, true, false, List, [], length, drop, sym, ap, ◌∙◌, subst, arith}
+use Rattle.std.specs.Prelude.{IfOk}
+use Rattle.std.specs.declared.result.Result.{Result}
+use Rattle.std.specs.declared.result.Result.TheVariants.{Ok, Err}
+use Rattle.std.proofs.lemmas.List.{length-drop}
+use Rattle.mica_fronts.specs.Answered.{Answered}
+use Rattle.memcached_text.specs.declared.next.Next.{Next}
+use Rattle.memcached_commands.specs.declared.asks.Asked.{Asked}
+use Rattle.memcached_commands.specs.Asks.{asks_in}
+use Rattle.memcached_commands.specs.Answers.{unless_quiet}
+use Rattle.memcached_fronts.specs.declared.answer.Progress.{Progress}
+use Rattle.memcached_fronts.specs.AskAnswers.{AnswersAsks}
+use Rattle.memcached_fronts.specs.Exchange.{IsOpenAt, flush_text, flushes_now, wants_numbers}
+use Rattle.memcached_fronts.specs.Going.{AnswersFirst, RepliesFirst, Replies}
+use Rattle.memcached_fronts.proofs.AskLaws.{none_left, some_left, few_answers}
+use Rattle.memcached_fronts.proofs.ExchangeLaws.{flush_goes, flush_replies, plain_goes, plain_replies, asks_go, asks_reply, is_below}
+use Rattle.memcached_fronts.proofs.answer.answer_next.Goals as goal
+
+if_ok : {T E : Type 0} (P Q : T → Type 0) (r : Result T E) → ((t : T) → P t → Q t) → IfOk r P → IfOk r Q
+if_ok P Q (Ok t) then is = then t is
+if_ok P Q (Err e) then is = is
+
+abbrev progress_of : ℕ → Bool → Progress
+progress_of done whole = record { done = done; is_whole = whole }
+
+pub returns-then-is_flush-clause-answered : goal.returns-then-is_flush-clause-answered
+returns-then-is_flush-clause-answered g c =
+    let F = g.F.Front in
+    let options = F.options c.args.front.now in
+    let old = F.sessions c.args.front.now in
+    let new = F.sessions c.answer_flush.new.front in
+    let told = g.C.Clock.last c.args.clock.now in
+    let next = c.args.next in
+    let done = c.args.done in
+    let flushes : flushes_now next ≡ true = sym c.is_flush.ensures ∙ c.if-is_flush.true in
+    let r = c.answer_flush.ensures.flushed in (
+      r.0,
+      flush_goes options F.is_alone c.args.numbering.base next done c.requires.open old new told told flushes r.0 r.2 r.1,
+      if_ok _ (Replies options c.args.numbering.base next done c.args.limits r.0 c.args.out.now.items c.answer_flush.new.out.items) c.answer_flush.result
+          (λ progress all. flush_replies options F.is_alone c.args.numbering.base next done c.requires.open old new told told flushes r.0 r.2 c.args.limits c.args.out.now.items
+          c.answer_flush.new.out.items progress (all.0 ∙ c.requires.partitions) (all.1 ∙ ap (λ n. progress_of n true) c.requires.partitions)
+          (all.2 ∙ ap (λ q. c.args.out.now.items ++ unless_quiet q (flush_text true r.0)) c.style_of-style.ensures.quiet)) r.3,
+    )
+
+pub returns-then-is_empty-clause-answered : goal.returns-then-is_empty-clause-answered
+returns-then-is_empty-clause-answered g c =
+    let F = g.F.Front in
+    let options = F.options c.args.front.now in
+    let old = F.sessions c.args.front.now in
+    let told = g.C.Clock.last c.args.clock.now in
+    let next = c.args.next in
+    let keyed : flushes_now next ≡ false = sym c.is_flush.ensures ∙ c.if-is_flush.false in
+    let none : asks_in next ≡ [] = sym c.by-asks.ensures.asks ∙ none_left c.by-asks.result (sym c.is_empty.ensures ∙ c.if-is_empty.true) in
+    let text = c.in-Ok.ensures.ok ∙ (λ i. c.args.out.now.items ++ unless_quiet (c.style_of-style.ensures.quiet i) (c.plain_line-line.ensures i)) in (
+      [],
+      plain_goes options F.is_alone c.args.numbering.base next c.args.done c.requires.open old old told told keyed none,
+      plain_replies options F.is_alone c.args.numbering.base next c.args.done c.requires.open old old told told keyed none c.args.limits c.args.out.now.items c.put_line.new.out.items text,
+    )
+
+pub returns-in_default-clause-answered : goal.returns-in_default-clause-answered
+returns-in_default-clause-answered g c =
+    let F = g.F.Front in
+    let options = F.options c.args.front.now in
+    let old = F.sessions c.args.front.now in
+    let told = g.C.Clock.last c.args.clock.now in
+    let keyed : flushes_now c.args.next ≡ false = sym c.is_flush.ensures ∙ c.if-is_flush.false in
+    let none : asks_in c.args.next ≡ [] = sym c.by-asks.ensures.asks ∙ none_left c.by-asks.result (sym c.is_empty.ensures ∙ c.if-is_empty.true) in
+    ([], plain_goes options F.is_alone c.args.numbering.base c.args.next c.args.done c.requires.open old old told told keyed none, tt)
+
+module _ (next : Next) (asks : List Asked) (same : asks ≡ asks_in next) (done : ℕ) (stands : IsOpenAt next done) (some : (length asks == 0) ≡ false) where
+  some_asked : 0 < length (asks_in next)
+  some_asked = subst (λ l. 0 < length l) same (some_left asks some)
+
+  less : done < length (asks_in next)
+  less = is_below next done stands some_asked
+
+  fits : (base count : ℕ) (answers : List Answered) → AnswersAsks base (drop done (asks_in next)) answers → count ≡ length answers → done + count ≤ length (asks_in next)
+  fits base count answers to_asks many =
+      let few = few_answers base (drop done (asks_in next)) answers to_asks in
+      let len = length-drop done (asks_in next) in
+      omega (arith, few, len, many, less)
+
+pub skip-requires : goal.skip-requires
+skip-requires g c =
+    let below = less c.args.next c.by-asks.result c.by-asks.ensures.asks c.args.done c.requires.open (sym c.is_empty.ensures ∙ c.if-is_empty.false) in
+    let same = ap length c.by-asks.ensures.asks in
+    omega (arith, below, same)
+
+pub overflow_add-result : goal.overflow_add-result
+overflow_add-result g c =
+    let asks_are = c.skip.ensures ∙ ap (drop c.args.done) c.by-asks.ensures.asks in
+    let r = c.in-Ok-answer_asks.ensures.answered in
+    let to_asks = subst (λ l. AnswersAsks c.args.numbering.base l r.0) asks_are r.1.to_asks in
+    let most = fits c.args.next c.by-asks.result c.by-asks.ensures.asks c.args.done c.requires.open (sym c.is_empty.ensures ∙ c.if-is_empty.false) c.args.numbering.base
+    c.in-Ok-answer_asks.count r.0 to_asks r.2.many in
+    let few = c.requires.few in
+    omega (arith, most, few)
+
+pub returns-in-Ok-answer_asks-clause-answered : goal.returns-in-Ok-answer_asks-clause-answered
+returns-in-Ok-answer_asks-clause-answered g c =
+    let F = g.F.Front in
+    let options = F.options c.args.front.now in
+    let old = F.sessions c.args.front.now in
+    let new = F.sessions c.answer_asks.new.front in
+    let told = g.C.Clock.last c.args.clock.now in
+    let tells = g.C.Clock.last c.answer_asks.new.clock in
+    let next = c.args.next in
+    let done = c.args.done in
+    let base = c.args.numbering.base in
+    let count = c.in-Ok-answer_asks.count in
+    let before = c.args.out.now.items in
+    let after = c.answer_asks.new.out.items in
+    let left = c.answer_asks.new.asks in
+    let keyed : flushes_now next ≡ false = sym c.is_flush.ensures ∙ c.if-is_flush.false in
+    let asks_are : c.skip.new.asks ≡ drop done (asks_in next) = c.skip.ensures ∙ ap (drop done) c.by-asks.ensures.asks in
+    let some = some_asked next c.by-asks.result c.by-asks.ensures.asks done c.requires.open (sym c.is_empty.ensures ∙ c.if-is_empty.false) in
+    let r = c.in-Ok-answer_asks.ensures.answered in
+    let first = subst (λ (l : List Asked). AnswersFirst options F.is_alone base l old told new tells r.0) asks_are r.1 in
+    let said = subst (λ (l : List Asked). RepliesFirst base c.style_of-style.result.quiet c.style_of-style.result.unique l c.args.limits r.0 before after count left) asks_are r.2 in
+    let said_so = subst (λ (u : Bool). RepliesFirst base c.style_of-style.result.quiet u (drop done (asks_in next)) c.args.limits r.0 before after count left)
+    c.style_of-style.ensures.unique said in
+    let replies = subst (λ (q : Bool). RepliesFirst base q (wants_numbers next) (drop done (asks_in next)) c.args.limits r.0 before after count left)
+    c.style_of-style.ensures.quiet said_so in (
+      r.0,
+      asks_go options F.is_alone base next done c.requires.open old new told tells keyed r.0 first,
+      subst (λ (w : Bool). Replies options base next done c.args.limits r.0 before after (progress_of (done + count) w)) (sym c.is_empty-in-Ok-answer_asks.ensures)
+          (asks_reply options F.is_alone base next done c.requires.open old new told tells keyed r.0 c.args.limits before after count left some first.to_asks replies),
+    )
+
+pub returns-in-Err-clause-answered : goal.returns-in-Err-clause-answered
+returns-in-Err-clause-answered g c =
+    let F = g.F.Front in
+    let options = F.options c.args.front.now in
+    let old = F.sessions c.args.front.now in
+    let new = F.sessions c.answer_asks.new.front in
+    let told = g.C.Clock.last c.args.clock.now in
+    let tells = g.C.Clock.last c.answer_asks.new.clock in
+    let keyed : flushes_now c.args.next ≡ false = sym c.is_flush.ensures ∙ c.if-is_flush.false in
+    let asks_are : c.skip.new.asks ≡ drop c.args.done (asks_in c.args.next) = c.skip.ensures ∙ ap (drop c.args.done) c.by-asks.ensures.asks in
+    let r = c.answer_asks.ensures.answered in
+    let first = subst (λ (l : List Asked). AnswersFirst options F.is_alone c.args.numbering.base l old told new tells r.0) asks_are r.1 in
+    (r.0, asks_go options F.is_alone c.args.numbering.base c.args.next c.args.done c.requires.open old new told tells keyed r.0 first, tt)

@@ -1,0 +1,110 @@
+-- What a client said, and what was answered to it so far.
+use Rattle.std.specs.Prelude.{◌≡◌, ℕ, ◌==◌, ◌⊎◌, ◌<◌, Bool, true, false, List, [], ◌∷◌, ◌++◌, length, if◌then◌else◌}
+use Rattle.std.specs.List.{list_all}
+use Rattle.partition_model.specs.declared.options.Options.{Options}
+use Rattle.memcached_text.specs.declared.command.Command.{Command}
+use Rattle.memcached_text.specs.declared.command.Command.TheVariants as commands
+use Rattle.memcached_text.specs.declared.lifetime.Due.TheVariants.{Now}
+use Rattle.memcached_text.specs.declared.fault.Fault.TheVariants.{ExpiryFormat}
+use Rattle.memcached_text.specs.declared.reply.Reply.TheVariants as replies
+use Rattle.memcached_text.specs.declared.next.Next.{Next}
+use Rattle.memcached_text.specs.declared.next.Next.TheVariants as nexts
+use Rattle.memcached_text.specs.Replies.{reply_text, fault_text}
+use Rattle.memcached_text.specs.Quiet as quiets
+use Rattle.memcached_commands.specs.declared.asks.Asked.{Asked}
+use Rattle.memcached_commands.specs.Asks as asks
+use Rattle.memcached_commands.specs.Answers.{unless_quiet}
+use Rattle.mica_fronts.specs.Answered.{Answered, accepts}
+use Rattle.memcached_fronts.specs.AskAnswers.{AnswersAsks, asks_text}
+use Rattle.memcached_fronts.specs.FlushAnswers.{FlushesFrom}
+
+-- what a client said, and what partitions answered to it so far, in order
+pub record Exchange : Type 0 where
+  pub next : Next
+  pub answers : List Answered
+
+-- Answers
+
+-- a flush of all partitions at once
+abbrev pub flushes_now : Next → Bool
+flushes_now (nexts.Command (commands.Flush Now quiet) len) = true
+flushes_now _ = false
+
+-- a flush of each partition; or the asks of keys
+abbrev pub AnswersBy : Bool → Options → ℕ → List Asked → List Answered → Type 0
+AnswersBy true options base asked answers = FlushesFrom options 0 answers
+AnswersBy false options base asked answers = AnswersAsks base asked answers
+
+-- These are answers to what was said, in order. A flush that is not due at once is refused, and asks nothing.
+abbrev pub AnswersNext : Options → ℕ → Next → List Answered → Type 0
+AnswersNext options base next answers = AnswersBy (flushes_now next) options base (asks.asks_in next) answers
+
+-- how many answers there are once all is answered
+abbrev pub count_of_answers : Options → Next → ℕ
+count_of_answers options next = if flushes_now next then options.partitions else length (asks.asks_in next)
+
+abbrev pub is_answered : Options → Exchange → Bool
+is_answered options e = length e.answers == count_of_answers options e.next
+
+-- Texts
+
+-- whether no reply is wanted
+abbrev pub is_quiet : Next → Bool
+is_quiet (nexts.Command command len) = quiets.is_quiet command
+is_quiet (nexts.Refused fault stale quiet len) = quiet
+is_quiet _ = false
+
+-- whether unique numbers are wanted
+abbrev pub wants_numbers : Next → Bool
+wants_numbers (nexts.Command command len) = asks.wants_numbers command
+wants_numbers _ = false
+
+-- what is due to a command that asks nothing: it is carried out by its reply alone
+abbrev pub plain_command_text : Command → List ℕ
+plain_command_text (commands.Get keys unique lifetime) = reply_text replies.End
+plain_command_text (commands.Flush due quiet) = fault_text ExpiryFormat
+plain_command_text (commands.Stats topic) = reply_text replies.End
+plain_command_text commands.Version = reply_text replies.Version
+plain_command_text (commands.Verbosity quiet) = reply_text replies.Done
+plain_command_text commands.Noop = reply_text replies.Noop
+plain_command_text _ = []
+
+-- what is due where nothing is asked
+abbrev pub plain_text : Next → List ℕ
+plain_text (nexts.Command command len) = plain_command_text command
+plain_text (nexts.Refused fault stale quiet len) = fault_text fault
+plain_text nexts.More = []
+plain_text nexts.LongLine = reply_text replies.LongLine
+
+-- what is due where this is asked, or nothing
+abbrev pub keyed_text : ℕ → Next → List Asked → List Answered → List ℕ
+keyed_text base next [] answers = plain_text next
+keyed_text base next (asked ∷ later) answers = asks_text base (wants_numbers next) (asked ∷ later) answers
+
+-- what is due to a flush of all partitions; one that takes no more writes has no room for it
+abbrev pub flush_text : Bool → List Answered → List ℕ
+flush_text false answers = []
+flush_text true answers = reply_text (if list_all accepts answers then replies.Done else replies.NoRoom)
+
+abbrev pub text_by : Options → ℕ → Next → List Answered → List ℕ
+text_by options base next answers =
+    if flushes_now next then flush_text (length answers == options.partitions) answers
+    else keyed_text base next (asks.asks_in next) answers
+
+-- What is due so far.
+abbrev pub due_to : Options → ℕ → Exchange → List ℕ
+due_to options base e = unless_quiet (is_quiet e.next) (text_by options base e.next e.answers)
+
+-- Going on
+
+-- it has so many answers, and more are to come, or none at all was asked for; a flush is not left halfway
+abbrev pub IsOpenAt : Next → ℕ → Type 0
+IsOpenAt next done = (done ≡ 0) ⊎ (done < length (asks.asks_in next))
+
+-- what was due before more is answered: nothing at first
+abbrev pub due_before : Options → ℕ → Exchange → List ℕ
+due_before options base e = if is_answered options e then [] else due_to options base e
+
+-- the same with these answers more
+abbrev pub longer : Exchange → List Answered → Exchange
+longer e more = record e { answers = e.answers ++ more }

@@ -1,0 +1,218 @@
+//! What a client said, answered.
+ghost use Rattle.std.specs.Prelude.{◌≡◌, ◌<◌, ◌≤◌, ◌+◌, ◌^◌, ◌++◌, ℕ, true, List, length, drop, IfOk, OnErr};
+ghost use Rattle.std.specs.List.{AllByRecursion, list_all};
+ghost use Rattle.memcached_text.specs.Fit.{IsFitNext};
+ghost use Rattle.memcached_commands.specs.Answers.{unless_quiet};
+ghost use Rattle.memcached_commands.specs.Asks.{asks_in};
+ghost use Rattle.memcached_commands.specs.Fit.{IsFitAsked};
+ghost use Rattle.mica_fronts.specs.Answered.{Answered, accepts};
+ghost use Rattle.mica_fronts.specs.Session.{AnswersInOrder};
+ghost use Rattle.memcached_fronts.specs.Exchange.{IsOpenAt, flush_text, flushes_now};
+ghost use Rattle.memcached_fronts.specs.FlushAnswers.{FlushesFrom};
+ghost use Rattle.memcached_fronts.specs.Going.{AnswersFirst, RepliesFirst, GoesOn, Replies};
+
+use crate::ask::answer_ask;
+use crate::buffers::Buffers;
+use crate::flush::flush_all;
+use crate::plain::{Style, plain_line, put_line, style_of};
+use memcached_commands::Asks;
+use memcached_text::{Command, Due, Next, Reply, reply_line};
+use mica_clock::Clock;
+use mica_fronts::{Changes, Front};
+use mica_io::NoMemory;
+use std::alloc::Global;
+use std::sync::Wait;
+use std::thread::Threads;
+
+/// The partitions of a server, as commands see them.
+#[derive(Clone, Copy)]
+pub struct Numbering {
+    pub partitions: u32,
+    /// The unique number of the first value that a partition accepts.
+    pub base: u64,
+}
+
+/// How much one call answers: at most so many asks, and none once the text has so many bytes.
+#[derive(Clone, Copy)]
+pub struct Limits {
+    pub asks: usize,
+    pub bytes: usize,
+}
+
+/// How far what was said is answered.
+#[derive(Clone, Copy)]
+pub struct Progress {
+    /// How many answers were given.
+    pub done: usize,
+    pub is_whole: bool,
+}
+
+fn is_flush(next: &Next) -> bool
+    ensures { result ≡ flushes_now next.now }
+{
+    match next {
+        Next::Command {
+            command: Command::Flush { due, .. },
+            ..
+        } => *due == Due::Now,
+        _ => false,
+    }
+}
+
+// The line of a flush, by whether all partitions took it.
+fn flush_line(took: bool) -> &'static [u8]
+    ensures { (answers : List Answered) → took ≡ list_all accepts answers → result.now ≡ flush_text true answers }
+{
+    if took {
+        reply_line(Reply::Done)
+    } else {
+        reply_line(Reply::NoRoom)
+    }
+}
+
+// Flushes all partitions, and appends the line that is due to it.
+fn answer_flush<R: Threads + Wait + Sync, F: Front>(
+    rt: &R,
+    alloc: Global,
+    front: &mut F,
+    partitions: u32,
+    quiet: bool,
+    out: &mut Vec<u8>,
+) -> Result<Progress, NoMemory>
+    requires partitions { partitions ≡ (F.options front.old).partitions }
+    requires left { partitions ≤ F.left front.old }
+    ensures flushed { (answers : List Answered) × AnswersInOrder (F.options front.old) F.is_alone (F.sessions front.old) answers (F.sessions front.new)
+        × FlushesFrom (F.options front.old) 0 answers
+        × IfOk result (λ progress. (length answers ≡ partitions) × (progress ≡ record { done = partitions; is_whole = true })
+        × (out.new.items ≡ out.old.items ++ unless_quiet quiet (flush_text true answers))) }
+    ensures err { OnErr result (out.new.items ≡ out.old.items) }
+    ensures left { F.left front.old ≤ F.left front.new + partitions }
+    ensures options { F.options front.new ≡ F.options front.old }
+    ensures number { F.number front.new ≡ F.number front.old }
+    ensures stands { F.stands front.new ≡ F.stands front.old }
+{
+    let Ok(took) = flush_all(rt, alloc, front, partitions) else {
+        return Err(NoMemory);
+    };
+    let Ok(()) = put_line(out, quiet, flush_line(took)) else {
+        return Err(NoMemory);
+    };
+    Ok(Progress {
+        done: partitions as usize,
+        is_whole: true,
+    })
+}
+
+// Leaves so many out.
+fn skip(asks: &mut Asks, count: usize)
+    requires { count ≤ length asks.old }
+    ensures { asks.new ≡ drop count asks.old }
+{
+    for _ in 0..count {
+        let _ = asks.next_asked();
+    }
+}
+
+// Answers asks in order, as far as the limits allow, and appends the text that is due to them. After want of memory some of it may be appended.
+fn answer_asks<'a, R: Threads + Wait + Sync, F: Changes, C: Clock>(
+    rt: &R,
+    front: &mut F,
+    clock: &mut C,
+    base: u64,
+    buffers: &mut Buffers,
+    style: Style,
+    asks: &mut Asks<'a>,
+    limits: Limits,
+    out: &mut Vec<u8>,
+) -> Result<usize, NoMemory>
+    requires fit { AllByRecursion IsFitAsked asks.old }
+    requires left { limits.asks ≤ F.left front.old }
+    ensures answered { (answers : List Answered)
+        × AnswersFirst (F.options front.old) F.is_alone base asks.old (F.sessions front.old) (C.last clock.old) (F.sessions front.new) (C.last clock.new) answers
+        × IfOk result (λ count. RepliesFirst base style.quiet style.unique asks.old limits answers out.old.items out.new.items count asks.new) }
+    ensures part { (text : List ℕ) × (out.new.items ≡ out.old.items ++ text) }
+    ensures left { F.left front.old ≤ F.left front.new + limits.asks }
+    ensures options { F.options front.new ≡ F.options front.old }
+    ensures number { F.number front.new ≡ F.number front.old }
+    ensures stands { F.stands front.new ≡ F.stands front.old }
+{
+    let mut count = 0;
+    while count < limits.asks && out.len() < limits.bytes {
+        let Some(asked) = asks.next_asked() else {
+            return Ok(count);
+        };
+        let is_last = asks.is_empty();
+        let Ok(()) = answer_ask(rt, front, clock, base, buffers, style, &asked, is_last, out) else {
+            return Err(NoMemory);
+        };
+        count += 1;
+    }
+    Ok(count)
+}
+
+/// Answers what a client said, of which so many answers were given, and appends the text that is due. After want of memory nothing is appended, though
+/// some of it may be done: then the connection is to end.
+pub fn answer_next<'a, R: Threads + Wait + Sync, F: Changes, C: Clock>(
+    rt: &R,
+    alloc: Global,
+    front: &mut F,
+    clock: &mut C,
+    numbering: Numbering,
+    buffers: &mut Buffers,
+    next: Next<'a>,
+    done: usize,
+    limits: Limits,
+    out: &mut Vec<u8>,
+) -> Result<Progress, NoMemory>
+    requires fit { IsFitNext next }
+    requires open { IsOpenAt next done }
+    requires few { length (asks_in next) < 2 ^ 64 }
+    requires partitions { numbering.partitions ≡ (F.options front.old).partitions }
+    requires left { limits.asks + numbering.partitions ≤ F.left front.old }
+    ensures answered { (answers : List Answered)
+        × GoesOn (F.options front.old) F.is_alone numbering.base next.entry done (F.sessions front.old) (C.last clock.old) (F.sessions front.new) (C.last clock.new) answers
+        × IfOk result (Replies (F.options front.old) numbering.base next.entry done limits answers out.old.items out.new.items) }
+    ensures err { OnErr result (out.new.items ≡ out.old.items) }
+    ensures left { F.left front.old ≤ F.left front.new + limits.asks + numbering.partitions }
+    ensures options { F.options front.new ≡ F.options front.old }
+    ensures number { F.number front.new ≡ F.number front.old }
+    ensures stands { F.stands front.new ≡ F.stands front.old }
+{
+    let style = style_of(&next);
+    if is_flush(&next) {
+        return answer_flush(rt, alloc, front, numbering.partitions, style.quiet, out);
+    }
+    let line = plain_line(&next);
+    let mut asks = Asks::by(next);
+    if asks.is_empty() {
+        let Ok(()) = put_line(out, style.quiet, line) else {
+            return Err(NoMemory);
+        };
+        return Ok(Progress {
+            done,
+            is_whole: true,
+        });
+    }
+    skip(&mut asks, done);
+    let start = out.len();
+    match answer_asks(
+        rt,
+        front,
+        clock,
+        numbering.base,
+        buffers,
+        style,
+        &mut asks,
+        limits,
+        out,
+    ) {
+        Ok(count) => Ok(Progress {
+            done: done + count,
+            is_whole: asks.is_empty(),
+        }),
+        Err(NoMemory) => {
+            out.truncate(start);
+            Err(NoMemory)
+        }
+    }
+}

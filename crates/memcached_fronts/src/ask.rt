@@ -1,0 +1,91 @@
+//! One ask of a command.
+ghost use Rattle.std.specs.Prelude.{◌≡◌, ◌<◌, ◌≤◌, ◌+◌, ◌++◌, option_copied, OnOk, OnErr};
+ghost use Rattle.memcached_commands.specs.Fit.{IsFitAsked};
+ghost use Rattle.mica_fronts.specs.Answered.{Answered};
+ghost use Rattle.memcached_fronts.specs.AskAnswers.{said_of};
+ghost use Rattle.memcached_fronts.specs.Going.{AnswersAt, ask_text, value_found};
+
+use crate::buffers::Buffers;
+use crate::plain::Style;
+use memcached_changes::CommandOrder;
+use memcached_commands::{Asked, Says, put_last, put_part};
+use mica_clock::Clock;
+use mica_fronts::Changes;
+use mica_io::NoMemory;
+use partition_model::{Answer, ItemBuf};
+use std::sync::Wait;
+use std::thread::Threads;
+
+// Appends the text that is due to one ask. After want of memory nothing is appended.
+fn put_said(
+    out: &mut Vec<u8>,
+    style: Style,
+    is_last: bool,
+    key: &[u8],
+    says: &Says,
+) -> Result<(), NoMemory>
+    ensures ok { OnOk result (out.new.items ≡ out.old.items ++ ask_text style.quiet style.unique is_last key.now says.now) }
+    ensures err { OnErr result (out.new.items ≡ out.old.items) }
+{
+    if style.quiet {
+        return Ok(());
+    }
+    let start = out.len();
+    put_part(out, style.unique, key, says)?;
+    if is_last && put_last(out, says).is_err() {
+        out.truncate(start);
+        return Err(NoMemory);
+    }
+    Ok(())
+}
+
+// The value in the buffer, where one was found.
+fn value_found(found: Option<Answer>, buffer: &ItemBuf) -> Option<&[u8]>
+    ensures { option_copied result ≡ value_found found buffer.now }
+{
+    match found {
+        Some(Answer::Hit) => Some(buffer.value()),
+        _ => None,
+    }
+}
+
+/// Has what is asked of a key decided and done under one hold of its partition, at the second that the clock tells, and appends the text that is due
+/// to it. After want of memory nothing is appended, and it is done all the same.
+pub fn answer_ask<R: Threads + Wait + Sync, F: Changes, C: Clock>(
+    rt: &R,
+    front: &mut F,
+    clock: &mut C,
+    base: u64,
+    buffers: &mut Buffers,
+    style: Style,
+    asked: &Asked,
+    is_last: bool,
+    out: &mut Vec<u8>,
+) -> Result<(), NoMemory>
+    requires fit { IsFitAsked asked.now }
+    requires left { 0 < F.left front.old }
+    ensures answered { (answered : Answered)
+        × AnswersAt (F.options front.old) F.is_alone base (C.last clock.new) (F.sessions front.old) asked.now (F.sessions front.new) answered
+        × OnOk result (out.new.items ≡ out.old.items ++ ask_text style.quiet style.unique is_last asked.now.key (said_of base asked.now answered)) }
+    ensures err { OnErr result (out.new.items ≡ out.old.items) }
+    ensures never_falls { C.last clock.old ≤ C.last clock.new }
+    ensures left { F.left front.old ≤ F.left front.new + 1 }
+    ensures options { F.options front.new ≡ F.options front.old }
+    ensures number { F.number front.new ≡ F.number front.old }
+    ensures stands { F.stands front.new ≡ F.stands front.old }
+{
+    let second = clock.second();
+    let order = CommandOrder::new(&asked.ask, base);
+    let key = asked.key.bytes();
+    let changed = front.change(
+        rt,
+        second,
+        key,
+        &order,
+        &mut buffers.found,
+        &mut buffers.next,
+    );
+    let stored = value_found(changed.found, &buffers.found);
+    let says = order.says(changed.when, stored, changed.outcome);
+    put_said(out, style, is_last, key, &says)
+}

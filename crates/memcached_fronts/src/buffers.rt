@@ -1,0 +1,21 @@
+//! Room for values.
+
+use mica_io::NoMemory;
+use partition_model::ItemBuf;
+use std::alloc::Global;
+
+/// Room for a value that is found, and for the one that is to be.
+#[derive(Drop)]
+pub struct Buffers {
+    pub found: ItemBuf,
+    pub next: ItemBuf,
+}
+
+impl Buffers {
+    pub fn new(alloc: Global) -> Result<Buffers, NoMemory> {
+        Ok(Buffers {
+            found: ItemBuf::new(alloc)?,
+            next: ItemBuf::new(alloc)?,
+        })
+    }
+}

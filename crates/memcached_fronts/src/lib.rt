@@ -1,0 +1,17 @@
+//! How commands of memcached are answered through a front, with no connection.
+//!
+//! What a client said is answered key by key: each by one look under a hold of its partition, with the write that is decided there and then. So a get
+//! of many keys may be answered in parts, with other answers between. The layer above may rely on this: the front's sessions go on by just the answers
+//! that `answer_next` says, these are answers to what was asked, and the text that is appended is the one that is due to them.
+#![tactic(auto)]
+
+mod answer;
+mod ask;
+mod buffers;
+mod flush;
+mod laws;
+mod plain;
+
+pub use answer::{Limits, Numbering, Progress, answer_next};
+pub use buffers::Buffers;
+pub use laws::spells_on;
