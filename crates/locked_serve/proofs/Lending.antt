@@ -15,7 +15,7 @@ use Rattle.locked_fronts.specs.declared.owned.Step.{Step}
 use Rattle.locked_fronts.specs.declared.part.LockedPart.{LockedPart}
 use Rattle.locked_fronts.specs.Plan.{Plan}
 use Rattle.locked_fronts.specs.Returned.{IsNew}
-use Rattle.mica_serve.specs.Filled.{IsFilledOwner}
+use Rattle.locked_serve.specs.Filled.{IsFilledOwner}
 use Rattle.locked_serve.specs.Opening.{FilledView, IsPlanned, ArePlanned, LendsOne, IsNewPart, AreNewParts}
 
 -- a partition with one taker more

@@ -1,4 +1,6 @@
+mod Fills
 pub mod Named
 pub mod Lending
 pub mod Taken
 pub mod Ran
+mod Stopped

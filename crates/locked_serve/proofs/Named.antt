@@ -7,8 +7,8 @@ use Rattle.partition_model.specs.declared.options.Options.{Options}
 use Rattle.partition_model.specs.declared.write.Write.{Write}
 use Rattle.partition_model.specs.History.{IsHistory}
 use Rattle.turn_book.specs.Entries.{book_view}
-use Rattle.mica_serve.specs.Filled.{begun_by}
-use Rattle.mica_serve.proofs.Fills.{none_there}
+use Rattle.locked_serve.specs.Filled.{begun_by}
+use Rattle.locked_serve.proofs.Fills.{none_there}
 use Rattle.locked_fronts.specs.Plan.{Plan}
 use Rattle.locked_serve.specs.Opening.{FilledView, AreFilled, ArePlanned, book_in, home_in, begun_in, plan_of}
 

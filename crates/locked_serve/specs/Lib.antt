@@ -1,3 +1,5 @@
+pub mod Filled
+pub mod Causes
 pub mod Opening
 pub mod Running
 pub mod Taking

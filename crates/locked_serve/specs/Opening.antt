@@ -14,7 +14,7 @@ use Rattle.locked_fronts.specs.declared.part.LockedPart.{LockedPart}
 use Rattle.locked_fronts.specs.Plan.{Plan}
 use Rattle.locked_fronts.specs.Parts.{IsPartOf}
 use Rattle.mica_fronts.specs.Flushes.{flushed_in}
-use Rattle.mica_serve.specs.Filled.{IsFilledOwner, begun_by}
+use Rattle.locked_serve.specs.Filled.{IsFilledOwner, begun_by}
 use Rattle.locked_serve.specs.declared.opening.FilledPart.{FilledPart}
 
 -- the table, the owner's state, the book, and how many writes were accepted up to the last flush

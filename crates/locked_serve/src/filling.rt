@@ -8,13 +8,52 @@ ghost use Rattle.epoch_core.specs.OwnerState.{as_made};
 ghost use Rattle.epoch_core.specs.Shape.{shape_of};
 ghost use Rattle.epoch_core.specs.OwnerStep.{IsOwnerStep};
 ghost use Rattle.mica_fronts.specs.Flushes.{flushed_in};
-ghost use Rattle.mica_serve.specs.Filled.{RefusesFilling, IsFilledOwner, begun_by};
+ghost use Rattle.locked_serve.specs.Filled.{RefusesFilling, IsFilledOwner, begun_by};
 
 use epoch_core::Partition;
 use locked_fronts::write_counted;
-use mica_serve::OpenFault;
+use mica_io::NoMemory;
 use mica_words::{key_hash, partition_of};
 use partition_model::{Options, Write};
+use std::alloc::{AllocError, AllocFailed};
+
+/// Why the partitions could not be made and filled.
+#[derive(Clone, Copy, Debug, PartialEq, Eq)]
+pub enum OpenFault {
+    /// A write was refused.
+    Refused,
+    NoMemory,
+}
+
+impl From<NoMemory> for OpenFault {
+    ghost use Rattle.locked_serve.specs.declared.filling.OpenFault.TheVariants.{NoMemory};
+
+    ghost from_gives = { λ _ e. e ≡ NoMemory };
+
+    fn from(_: NoMemory) -> Self {
+        OpenFault::NoMemory
+    }
+}
+
+impl From<AllocError> for OpenFault {
+    ghost use Rattle.locked_serve.specs.declared.filling.OpenFault.TheVariants.{NoMemory};
+
+    ghost from_gives = { λ _ e. e ≡ NoMemory };
+
+    fn from(_: AllocError) -> Self {
+        OpenFault::NoMemory
+    }
+}
+
+impl<T: Drop> From<AllocFailed<T>> for OpenFault {
+    ghost use Rattle.locked_serve.specs.declared.filling.OpenFault.TheVariants.{NoMemory};
+
+    ghost from_gives = { λ _ e. e ≡ NoMemory };
+
+    fn from(_: AllocFailed<T>) -> Self {
+        OpenFault::NoMemory
+    }
+}
 
 // Does the write in the partition, where it is to one of its keys, and says whether it was not refused.
 fn fill_one<P: Partition>(

@@ -4,11 +4,17 @@
 //! all fronts are one run of each partition's machine, and each get is its answer at the replied stamp.
 #![tactic(auto)]
 
+mod announce;
 mod filling;
 mod opening;
 mod serve;
 mod server;
+mod stop;
 mod taking;
 mod worker;
 
+pub use announce::Announce;
+pub use filling::OpenFault;
+pub use opening::{FilledPart, lend_hand, lock_parts, open_parts};
 pub use serve::serve_locked;
+pub use stop::{Stop, Untold};

@@ -6,14 +6,13 @@ ghost use Rattle.epoch_core.specs.OwnerState.{as_made};
 ghost use Rattle.epoch_core.specs.Shape.{shape_of};
 ghost use Rattle.partition_table.specs.Seats.{note_state, note_home};
 ghost use Rattle.locked_fronts.specs.Owned.{NotesAre};
-ghost use Rattle.mica_serve.specs.Filled.{RefusesFilling};
+ghost use Rattle.locked_serve.specs.Filled.{RefusesFilling};
 ghost use Rattle.locked_serve.specs.Opening.{IsFilled, AreFilled, ArePlanned, LendsOne, AreNewParts, AreNewHands, filled_view};
 
-use crate::filling::fill;
+use crate::filling::{OpenFault, fill};
 use epoch_core::{LendPartition, Partition, Shape};
 use locked_fronts::{LockedPart, OwnedPartition, ServerPlan, Step};
 use mica_io::NoMemory;
-use mica_serve::OpenFault;
 use partition_model::{Options, Write};
 use partition_table::{Note, ReaderSeat, zeros_for};
 use seated_partition::OnTable;
@@ -56,7 +55,7 @@ fn open_part<P: OnTable + LendPartition<Reader = ReaderSeat, Note = Note>>(
 }
 
 /// All partitions, filled.
-pub(crate) fn open_parts<P: OnTable + LendPartition<Reader = ReaderSeat, Note = Note>>(
+pub fn open_parts<P: OnTable + LendPartition<Reader = ReaderSeat, Note = Note>>(
     alloc: Global,
     options: &Options,
     filling: &[Write],
@@ -92,8 +91,8 @@ impl<P: LendPartition<Reader = ReaderSeat, Note = Note>> FilledPart<P> {
     }
 }
 
-// One front more, with a part of each partition.
-fn lend_hand<J: ServerPlan, P: LendPartition<Reader = ReaderSeat, Note = Note>>(
+/// One front more, with a part of each partition.
+pub fn lend_hand<J: ServerPlan, P: LendPartition<Reader = ReaderSeat, Note = Note>>(
     alloc: Global,
     parts: &mut Vec<FilledPart<P>>,
     front: u32,
@@ -129,7 +128,7 @@ pub(crate) fn lend_hands<J: ServerPlan, P: LendPartition<Reader = ReaderSeat, No
 }
 
 /// Each partition under its lock.
-pub(crate) fn lock_parts<J: ServerPlan, P: LendPartition<Reader = ReaderSeat, Note = Note> + Drop>(
+pub fn lock_parts<J: ServerPlan, P: LendPartition<Reader = ReaderSeat, Note = Note> + Drop>(
     alloc: Global,
     parts: Vec<FilledPart<P>>,
 ) -> Result<Vec<Mutex<OwnedPartition<J, P>>>, NoMemory>

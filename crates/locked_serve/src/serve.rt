@@ -1,5 +1,5 @@
 //! The server over partitions under locks: filled, bound, served and taken back.
-ghost use Rattle.std.specs.Prelude.{◌≡◌, ◌<◌, ◌≤◌, ℕ, [], All, length, map, vec_capacity};
+ghost use Rattle.std.specs.Prelude.{◌≡◌, ◌≢◌, ◌<◌, ◌≤◌, ℕ, [], All, Err, length, map, vec_capacity};
 ghost use Rattle.partition_model.specs.Options.{IsPossible};
 ghost use Rattle.partition_model.specs.History.{IsHistory};
 ghost use Rattle.partition_model.specs.Write.{IsWrite};
@@ -7,18 +7,21 @@ ghost use Rattle.partition_table.specs.Seats.{note_state, note_home};
 ghost use Rattle.mica_fronts.specs.PortOptions.{IsValidPorts};
 ghost use Rattle.locked_fronts.specs.Owned.{NotesAre};
 ghost use Rattle.mica_serve.specs.Ends.{end_facts};
-ghost use Rattle.mica_serve.specs.NetRun.{BindsAndServes, IsCauseOnceOpen, IsCauseOfStop, HasAnnounced, KeepsNet, net_facts};
+ghost use Rattle.mica_serve.specs.NetRun.{BindsAndServes, IsCauseOnceBound, KeepsNet, net_facts};
+ghost use Rattle.locked_serve.specs.Causes.{came_to, IsCauseOfStop, HasAnnounced};
 ghost use Rattle.locked_serve.specs.Opening.{ArePlanned, filled_view};
 ghost use Rattle.locked_serve.specs.Server.{IsLockedServer};
 
+use crate::announce::Announce;
 use crate::opening::{FilledPart, open_parts};
 use crate::server::{LockedServer, serve_all};
+use crate::stop::Stop;
 use cache_partition::CachePartition;
 use epoch_core::LendPartition;
 use locked_fronts::ServerPlan;
 use mica_fronts::{Ports, Totals};
 use mica_io::{Gate, Net};
-use mica_serve::{Announce, Stop, bind_all, release_all};
+use mica_serve::{bind_all, release_all};
 use partition_model::{Mode, Options, Write};
 use partition_table::{Note, OwnerSeat, ReaderSeat, Tables};
 use seated_partition::OnTable;
@@ -60,10 +63,11 @@ fn bind_and_serve<
     requires unbound { N.binds net.old ≡ 0 }
     requires none { ends.old.items ≡ [] }
     requires room { ports.now.fronts ≤ vec_capacity ends.old }
-    ensures served { BindsAndServes options.now J.plan.begun ports.now result tables.new
+    ensures served { BindsAndServes options.now J.plan.begun ports.now (came_to result) tables.new
         (net_facts N.faults N.binds N.first N.refused N.ports N.fails net.old)
         (net_facts N.faults N.binds N.first N.refused N.ports N.fails net.new)
         (map (end_facts N.End.port N.End.traffic N.End.faults N.End.has_ended N.End.script) ends.new.items) }
+    ensures unrefused { result ≢ Err Stop.Refused }
     ensures announced { HasAnnounced (A.says ports.now) (A.fails ports.now) result
         (net_facts N.faults N.binds N.first N.refused N.ports N.fails net.old)
         (net_facts N.faults N.binds N.first N.refused N.ports N.fails net.new) announce.old announce.new }
@@ -102,7 +106,8 @@ fn serve_named<
     requires of { ArePlanned J.plan 0 (map (λ f. filled_view P.owner P.home f) parts.items) }
     requires unbound { N.binds net.old ≡ 0 }
     requires tables { tables.old ≡ [] }
-    ensures cause { IsCauseOnceOpen result options.now J.plan.begun ports.now tables.new
+    ensures unrefused { result ≢ Err Stop.Refused }
+    ensures cause { IsCauseOnceBound (came_to result) options.now J.plan.begun ports.now tables.new
         (net_facts N.faults N.binds N.first N.refused N.ports N.fails net.old)
         (net_facts N.faults N.binds N.first N.refused N.ports N.fails net.new) }
     ensures kept { KeepsNet ports.now

@@ -16,7 +16,7 @@ use Rattle.mica_fronts.specs.declared.ports.Ports.{Ports}
 use Rattle.mica_fronts.specs.declared.totals.Totals.{Totals}
 use Rattle.mica_fronts.specs.declared.totals.ServeFault.{ServeFault}
 use Rattle.mica_fronts.specs.declared.totals.ServeFault.TheVariants.{Net}
-use Rattle.mica_serve.specs.Filled.{nothing_begun}
+use Rattle.mica_serve.specs.Served.{nothing_begun}
 use Rattle.mica_serve.specs.NetRun.{NetFacts, HasServedOnTables, IsCauseOf, KeepsNet}
 use Rattle.mica_serve.proofs.Tabled.{has_served}
 use Rattle.mica_trace.specs.ReportGrammar.{report_text}

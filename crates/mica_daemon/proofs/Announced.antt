@@ -6,9 +6,10 @@ use Rattle.partition_model.specs.declared.write.Write.{Write}
 use Rattle.mica_fronts.specs.declared.totals.Totals.{Totals}
 use Rattle.mica_fronts.specs.declared.totals.ServeFault.TheVariants.{Net, NoMemory as NoRoom}
 use Rattle.mica_fronts.specs.declared.ports.Ports.{Ports}
-use Rattle.mica_serve.specs.declared.stop.Stop.{Stop}
-use Rattle.mica_serve.specs.declared.stop.Stop.TheVariants.{Refused, Unannounced, Fault}
-use Rattle.mica_serve.specs.NetRun.{NetFacts, IsCauseOfStop, HasAnnounced, KeepsNet}
+use Rattle.locked_serve.specs.declared.stop.Stop.{Stop}
+use Rattle.locked_serve.specs.declared.stop.Stop.TheVariants.{Refused, Unannounced, Fault}
+use Rattle.mica_serve.specs.NetRun.{NetFacts, KeepsNet}
+use Rattle.locked_serve.specs.Causes.{IsCauseOfStop, HasAnnounced}
 use Rattle.mica_cmd.specs.declared.status.Status.{Status}
 use Rattle.mica_commands.specs.Words.{Text}
 use Rattle.mica_commands.specs.DaemonWords.{Service}

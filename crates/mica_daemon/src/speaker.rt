@@ -3,8 +3,9 @@ ghost use Rattle.std.specs.Prelude.{◌≡◌, string_bytes, IfOk};
 ghost use Rattle.mica_fronts.specs.PortOptions.{IsValidPorts};
 ghost use Rattle.mica_daemon.specs.Daemon.{ready_text};
 
+use locked_serve::{Announce, Untold};
+use mica_fronts::Ports;
 use mica_io::{Datagrams, NoMemory, Sink, write_all};
-use mica_serve::{Announce, Ports, Untold};
 use std::alloc::Global;
 
 /// A sink, and the line that says that the ports are bound.

@@ -3,7 +3,7 @@ ghost use Rattle.std.specs.Prelude.{◌≡◌, [], All, map, string_bytes, Err, 
 ghost use Rattle.partition_model.specs.Options.{IsPossible};
 ghost use Rattle.partition_model.specs.Write.{IsWrite};
 ghost use Rattle.mica_fronts.specs.PortOptions.{IsValidPorts};
-ghost use Rattle.mica_serve.specs.declared.stop.Stop.TheVariants.{Fault};
+ghost use Rattle.locked_serve.specs.declared.stop.Stop.TheVariants.{Fault};
 ghost use Rattle.mica_serve.specs.NetRun.{net_facts};
 ghost use Rattle.mica_commands.specs.DaemonWords.{daemon_of};
 ghost use Rattle.mica_cmd.specs.Outside.{sink_facts};
@@ -13,11 +13,11 @@ ghost use Rattle.mica_daemon.specs.Daemon.{HasMemory, WritesLast, Serves, Serves
 use crate::Files;
 use crate::filling::filling_of;
 use crate::speaker::{Speaker, ready_line};
-use locked_serve::serve_locked;
+use locked_serve::{Stop, serve_locked};
 use mica_cmd::{Status, print_totals, write_due};
 use mica_commands::{DaemonOptions, WordsFault, read_daemon};
+use mica_fronts::{Ports, ServeFault};
 use mica_io::{Gate, Net, NoMemory, Sink};
-use mica_serve::{Ports, ServeFault, Stop};
 use partition_model::{Options, Write};
 use partition_sizes::start_bytes;
 use partition_table::Tables;

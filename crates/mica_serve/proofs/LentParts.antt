@@ -139,7 +139,7 @@ hands_more options fronts most owners owner hands after so_far one = record {
 -- a part that was lent is one that a front begins with
 pub new_part : (options : Options) (fronts f most : ℕ) (owner : OwnerEnd) (part : FrontPart) → IsNewOwner options fronts most owner → IsLentBy f most owner part → IsNewPart options f most part
 new_part options fronts f most owner part new lent =
-    let shape : (reader_state part.seat).shape ≡ shape_of options = ap (λ (r : ReaderState). r.shape) lent.seat ∙ ap (λ (s : OwnerState). s.shape) new.filled.state in
+    let shape : (reader_state part.seat).shape ≡ shape_of options = ap (λ (r : ReaderState). r.shape) lent.seat ∙ ap (λ (s : OwnerState). s.shape) new.state in
     record {
       shape = shape;
       whole = record {

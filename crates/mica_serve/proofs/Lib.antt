@@ -1,4 +1,3 @@
-pub mod Fills
 pub mod Order
 pub mod CutShort
 pub mod Opened

@@ -6,12 +6,13 @@ use Rattle.std.specs.Prelude.{option_map}
 use Rattle.list_laws.proofs.Places.{at_seam}
 use Rattle.partition_model.specs.declared.options.Options.{Options}
 use Rattle.epoch_core.specs.declared.state.OwnerState.{OwnerState}
+use Rattle.epoch_core.specs.Shape.{shape_of}
+use Rattle.epoch_core.specs.OwnerState.{as_made}
 use Rattle.epoch_core.specs.Joins.{lent}
 use Rattle.owner_queue.specs.JobEnds.{Outbox, outbox, Inbox, inbox}
 use Rattle.owner_queue.specs.AckEnds.{AckBox, ack_box}
 use Rattle.mica_fronts.specs.declared.queue_front.FrontPart.{FrontPart}
 use Rattle.mica_fronts.specs.QueueFront.{QueueView, IsNewPart, queue_view}
-use Rattle.mica_serve.specs.Filled.{IsFilledOwner}
 use Rattle.mica_serve.specs.Hands.{OwnerEnd, IsLentBy, LendsPart, AreSendersOf, LendsEach, AreLent, LendsOneMore}
 use Rattle.mica_serve.proofs.Binding.{at_snoc}
 use Rattle.mica_serve.proofs.LentParts.{LendsTo, lends_none, lends_one, hands_more, new_parts}
@@ -97,7 +98,7 @@ lends_last first now k left before after none so_far =
       each = λ f was own was_at own_at. l.lent f was own (let low = slice_get_within before f was was_at in omega arith) was_at own_at;
     })
 
-pub lends_more : (options : Options) (most : ℕ) (old new : OwnerEnd) (before after : List (List FrontPart)) → IsFilledOwner options old.state
+pub lends_more : (options : Options) (most : ℕ) (old new : OwnerEnd) (before after : List (List FrontPart)) → old.state ≡ as_made (shape_of options)
     → old.jobs ≡ inbox old.jobs.queue (length before) most [] → LendsEach old new before after → LendsOneMore options most new before after
 lends_more options most old new before after made fresh lends =
     let jobs = ap (λ (o : OwnerEnd). o.jobs) lends.same in
@@ -105,7 +106,7 @@ lends_more options most old new before after made fresh lends =
     record {
       many = lends.many;
       made = record {
-        filled = subst (IsFilledOwner options) (sym (ap (λ (o : OwnerEnd). o.state) lends.same)) made;
+        state = ap (λ (o : OwnerEnd). o.state) lends.same ∙ made;
         jobs = jobs ∙ fresh ∙ ap (λ (b : Inbox). inbox b.queue (length before) most []) (sym jobs);
         acks = lends.acks;
         unsent = lends.unsent;

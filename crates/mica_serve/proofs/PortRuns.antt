@@ -19,7 +19,6 @@ use Rattle.partition_model.specs.History.{History, IsHistory}
 use Rattle.partition_table.specs.declared.tables.KeptSeat.{KeptSeat}
 use Rattle.mica_serve.specs.Beside.{ServesOnTables}
 use Rattle.mica_serve.specs.Served.{ServesPort, ServesGet, ServesLook, NoFall, LeavesPort, BeginsPorts, IsThrough, IsCutShort, IsStopped, StopsShort}
-use Rattle.mica_serve.specs.declared.filling.OpenFault.TheVariants as open_fault
 use Rattle.mica_io.specs.Faults.{Rose}
 use Rattle.mica_serve.specs.NetRun.{ReleasesAll}
 use Rattle.mica_serve.specs.Ends.{EndFacts, TellAll, AreNewEnds, AreAtPorts, BindsEnds, ReleasesEnds, DealsWithEnd, DealsInPartWithEnd, BeginsEnds, MayStopAtEnd, StopsSome, StopsBeside, ServesAll, KeepsEnd}

@@ -11,7 +11,7 @@ use Rattle.std.proofs.lemmas.Option.{slice_get-map, slice_get_within, same_Some}
 use Rattle.list_laws.proofs.AllElements.{all_at}
 use Rattle.list_laws.proofs.Places.{at_map, from_map, element_at}
 use Rattle.partition_model.specs.declared.options.Options.{Options}
-use Rattle.partition_model.specs.History.{History, IsHistory, IsPrefix}
+use Rattle.partition_model.specs.History.{IsPrefix}
 use Rattle.partition_model.specs.Run.{RunStep, IsRunFrom, history_of}
 use Rattle.epoch_core.specs.declared.state.OwnerState.{OwnerState}
 use Rattle.epoch_core.specs.declared.reader.ReaderState.{ReaderState}
@@ -32,13 +32,14 @@ use Rattle.mica_serve.specs.declared.worker.FrontTask.{FrontTask}
 use Rattle.mica_fronts.specs.Stand.{Stand}
 use Rattle.mica_fronts.specs.Session.{Told, Session}
 use Rattle.mica_fronts.specs.Placed.{Placed, steps_in, steps_by, history_in}
+use Rattle.mica_serve.specs.Served.{nothing_begun}
 use Rattle.mica_serve.specs.Beside.{closed_of, total_below}
 use Rattle.mica_fronts.specs.QueueFront.{QueueView, IsFrontPart, queue_view, stand_of, told_by, session_or_none, sessions_of, ended_part, step_by, acknowledged_by}
 use Rattle.owner_queue.specs.Worked.{Acknowledged, DoneJob, jobs_in, job_of}
 use Rattle.mica_fronts.specs.OwnerWork.{placed_in}
 use Rattle.mica_serve.specs.Ends.{EndFacts}
 use Rattle.mica_serve.specs.FrontRuns.{FrontRun, RunsFront, RunFronts, RanAll, IsTakenIn, AreTakenIn, closed_in}
-use Rattle.mica_serve.specs.Hands.{OwnerEnd, accepted_by, IsNewOwner, IsLentBy, AreFrontsOf, RanOwner, MayMeet, HasMet, MayMeetAll, HaveMetAll, closed_by, closed_at, met_after}
+use Rattle.mica_serve.specs.Hands.{OwnerEnd, IsNewOwner, IsLentBy, AreFrontsOf, RanOwner, MayMeet, HasMet, MayMeetAll, HaveMetAll, closed_by, closed_at, met_after}
 use Rattle.mica_serve.specs.Tasks.{FrontRan}
 use Rattle.mica_serve.proofs.MadeOf.{made_of, made_map, made_long, made_at}
 use Rattle.mica_serve.proofs.JobCounts.{steps_answered, steps_placed, few_answered, total_few}
@@ -63,10 +64,6 @@ step_of answer = answer.step
 
 module _ {D : Type 0} {batches : ℕ} {facts : D → EndFacts} {options : Options} {fronts most : ℕ} {made owners : List OwnerEnd} {views : List QueueView}
     {olds news : List (FrontTask D)} (all : HaveRan batches facts options fronts most made owners views olds news) where
-  -- what the owners begin with
-  abbrev begun : ℕ → History
-  begun = accepted_by made
-
   abbrev hand_of : FrontTask D → List FrontPart
   hand_of task = task.parts.items
 
@@ -110,8 +107,8 @@ module _ {D : Type 0} {batches : ℕ} {facts : D → EndFacts} {options : Option
         placed_is = ap (λ (x : Option (List Placed)). unwrap_or x []) m.is;
       }
 
-  begun_at : {p : ℕ} {owner : OwnerEnd} (o : OwnerAt p owner) → begun p ≡ o.old.state.history
-  begun_at o = ap (λ (x : Option OwnerEnd). unwrap_or (option_map (λ (y : OwnerEnd). y.state.history) x) []) o.old_at
+  unwritten : {p : ℕ} {owner : OwnerEnd} (o : OwnerAt p owner) → o.old.state.history ≡ []
+  unwritten o = ap (λ (s : OwnerState). s.history) o.new.state
 
   owner_of : (p : ℕ) → p < options.partitions → (owner : OwnerEnd) × OwnerAt p owner
   owner_of p low = let o = element_at owners p (omega (arith, owners_long)) in (o.0, owner_at p o.0 o.1)
@@ -245,15 +242,14 @@ module _ {D : Type 0} {batches : ℕ} {facts : D → EndFacts} {options : Option
 
   module _ (after : List OwnerEnd) (met : HaveMetAll owners after hands) where
     -- an owner's history is its run
-    history_run : {p : ℕ} {owner : OwnerEnd} → OwnerAt p owner → owner.state.history ≡ begun p ++ history_in (placed p)
-    history_run {p} o =
-        ap (λ (s : OwnerState). s.history) o.ran.served.worked.gained ∙ (λ i. sym (begun_at o) i ++ history_of (sym (steps_placed o.ran.served.done) i))
-        ∙ ap (λ (l : List Placed). begun p ++ history_in l) (sym o.placed_is)
+    history_run : {p : ℕ} {owner : OwnerEnd} → OwnerAt p owner → owner.state.history ≡ history_in (placed p)
+    history_run o =
+        ap (λ (s : OwnerState). s.history) o.ran.served.worked.gained ∙ (λ i. unwritten o i ++ history_of (sym (steps_placed o.ran.served.done) i)) ∙ ap history_in (sym o.placed_is)
 
     met_part : {f p : ℕ} {n : FrontTask D} {owner : OwnerEnd} (a : FrontAt f n) (o : OwnerAt p owner) (part : FrontPart) → PartAt a o part → HasMet f owner part
     met_part {f} {p} {n} {owner} a o part x = met.met f p n.parts.items part owner (at_map hand_of news f n a.at) x.at o.at
 
-    taken_front : {f : ℕ} {n : FrontTask D} (a : FrontAt f n) → IsTakenIn options begun placed f (run_of a.old n a.ran)
+    taken_front : {f : ℕ} {n : FrontTask D} (a : FrontAt f n) → IsTakenIn options nothing_begun placed f (run_of a.old n a.ran)
     taken_front {f} {n} a = record {
       starts = λ p low.
           let x = (part_of a (owner_of p low).1).1 in (
@@ -264,11 +260,11 @@ module _ {D : Type 0} {batches : ℕ} {facts : D → EndFacts} {options : Option
       began = λ p low.
           let o = owner_of p low in
           let x = (part_of a o.1).1 in
-          ap (λ (y : Option FrontPart). (session_or_none y).seen) x.first_at ∙ ap (λ (r : ReaderState). r.seen) x.lent.seat ∙ sym (begun_at o.1);
+          ap (λ (y : Option FrontPart). (session_or_none y).seen) x.first_at ∙ ap (λ (r : ReaderState). r.seen) x.lent.seat ∙ unwritten o.1;
       seen = λ p low.
           let o = owner_of p low in
           let x = part_of a o.1 in
-          subst (λ (s : Session). IsPrefix s.seen (begun p ++ history_in (placed p))) (sym (ap session_or_none x.1.last_at))
+          subst (λ (s : Session). IsPrefix s.seen (history_in (placed p))) (sym (ap session_or_none x.1.last_at))
           (subst (IsPrefix (reader_state x.1.last.seat).seen) (history_run o.1)
           (subst (λ (y : FrontPart). IsPrefix (reader_state y.seat).seen o.0.state.history) x.1.part_is (met_part a o.1 x.0 x.1).seen));
       took = λ p told low told_is.
@@ -313,18 +309,17 @@ module _ {D : Type 0} {batches : ℕ} {facts : D → EndFacts} {options : Option
         let owner = element_at owners p (omega (arith, slice_get_within after p new.0 new.1, met.many)) in
         (owner.0, new.0, owner_at p owner.0 owner.1, sym new.2 ∙ ap (λ (o : OwnerEnd). kept_seat_in o.state) (met.same p owner.0 new.0 owner.1 new.1))
 
-    taken : AreTakenIn options begun runs kept
+    taken : AreTakenIn options nothing_begun runs kept
     taken = record {
       runs = placed;
       ran = record {
-        filled = λ p low. let o = (owner_of p low).1 in subst (IsHistory options) (sym (begun_at o)) o.new.filled.accepted;
+        filled = λ p low. tt;
         run = λ p low.
             let o = (owner_of p low).1 in
-            subst (λ (l : List Placed). IsRunFrom options (begun p) (steps_in l)) (sym o.placed_is)
-            (subst (λ (h : History). IsRunFrom options h (steps_in (placed_in o.ran.served.done))) (sym (begun_at o))
-            (run_as options o.old.state.history (steps_in (placed_in o.ran.served.done))
-            (subst (λ (s : OwnerState). IsRunFrom (options_in s) s.history (steps_in (placed_in o.ran.served.done))) o.new.filled.state
-            (subst (IsRunFrom (options_in o.old.state) o.old.state.history) (sym (steps_placed o.ran.served.done)) o.ran.served.worked.run))));
+            subst (λ (l : List Placed). IsRunFrom options [] (steps_in l)) (sym o.placed_is)
+            (run_as options [] (steps_in (placed_in o.ran.served.done))
+            (subst (λ (s : OwnerState). IsRunFrom (options_in s) s.history (steps_in (placed_in o.ran.served.done))) o.new.state
+            (subst (IsRunFrom (options_in o.old.state) o.old.state.history) (sym (steps_placed o.ran.served.done)) o.ran.served.worked.run)));
         no_others = λ p low.
             let o = owner_of p low in
             let senders : o.1.old.jobs.senders ≡ length runs = senders_many o.1 ∙ sym news_long ∙ sym (made_long run_of olds news all.fronts_ran) in
@@ -334,17 +329,17 @@ module _ {D : Type 0} {batches : ℕ} {facts : D → EndFacts} {options : Option
             (subst (λ (m : ℕ). AllByRecursion (λ s. sender_of s < m) o.0.jobs.taken) senders
             (recursion_from_All (λ s. sender_of s < o.1.old.jobs.senders) o.0.jobs.taken o.1.ran.served.worked.low))));
       };
-      each = λ f run is. let n = front_of f run is in subst (IsTakenIn options begun placed f) n.2 (taken_front n.1);
+      each = λ f run is. let n = front_of f run is in subst (IsTakenIn options nothing_begun placed f) n.2 (taken_front n.1);
       shapes = record {
         many = length-map after (λ (o : OwnerEnd). kept_seat_in o.state) ∙ met.many ∙ owners_long;
         shapes = λ p entry is.
             let m = met_owner p entry is in
-            ap (λ (e : KeptSeat). e.shape) m.3 ∙ ap (λ (s : OwnerState). s.shape) m.2.ran.served.worked.gained ∙ ap (λ (s : OwnerState). s.shape) m.2.new.filled.state;
+            ap (λ (e : KeptSeat). e.shape) m.3 ∙ ap (λ (s : OwnerState). s.shape) m.2.ran.served.worked.gained ∙ ap (λ (s : OwnerState). s.shape) m.2.new.state;
       };
       history = λ p entry is. let m = met_owner p entry is in ap (λ (e : KeptSeat). e.history) m.3 ∙ history_run m.2;
       closed = λ p entry is.
           let m = met_owner p entry is in
-          let none : m.0.state.closed ≡ 0 = ap (λ (s : OwnerState). s.closed) m.2.ran.served.worked.gained ∙ ap (λ (s : OwnerState). s.closed) m.2.new.filled.state in
+          let none : m.0.state.closed ≡ 0 = ap (λ (s : OwnerState). s.closed) m.2.ran.served.worked.gained ∙ ap (λ (s : OwnerState). s.closed) m.2.new.state in
           omega (arith, ap (λ (e : KeptSeat). e.closed) m.3, none, all_closed p);
     }
       where
@@ -375,7 +370,7 @@ module _ {D : Type 0} {batches : ℕ} {facts : D → EndFacts} {options : Option
             ∙ sum-map (closed_in p) runs
 
     -- the workers of a server ran, and their owners took in all fronts
-    pub ran_all : RanAll options begun batches kept (map (λ (t : FrontTask D). t.answer) news) (map end_of olds) (map end_of news)
+    pub ran_all : RanAll options nothing_begun batches kept (map (λ (t : FrontTask D). t.answer) news) (map end_of olds) (map end_of news)
     ran_all = record {
       fronts = runs;
       answers_are = made_map run_of (λ (t : FrontTask D). t.answer) (λ (r : FrontRun). r.answer) (λ o n r. refl) olds news all.fronts_ran;

@@ -7,20 +7,14 @@ use Rattle.mica_io.specs.Ports.{Ports, out}
 use Rattle.partition_model.specs.declared.options.Options.{Options}
 use Rattle.mica_fronts.specs.declared.ports.Ports.{Ports as PortOptions}
 use Rattle.mica_fronts.specs.declared.totals.Totals.{Totals}
-use Rattle.partition_model.specs.declared.write.Write.{Write}
 use Rattle.partition_model.specs.History.{History, IsHistory}
 use Rattle.partition_table.specs.declared.tables.KeptSeat.{KeptSeat}
 use Rattle.mica_serve.specs.Beside.{ServesOnTables}
 use Rattle.mica_serve.specs.Served.{BeginsPorts, StopsShort, LeavesUnserved}
-use Rattle.mica_serve.specs.Filled.{begun_by, RefusesFilling}
-use Rattle.mica_serve.specs.declared.filling.OpenFault.{OpenFault}
-use Rattle.mica_serve.specs.declared.filling.OpenFault.TheVariants as open_fault
-use Rattle.mica_serve.specs.declared.stop.Stop.{Stop}
-use Rattle.mica_serve.specs.declared.stop.Stop.TheVariants.{Refused, Unannounced, Fault}
 use Rattle.mica_io.specs.Faults.{Rose, LAST_COUNT}
 use Rattle.mica_fronts.specs.declared.totals.ServeFault.{ServeFault}
 use Rattle.mica_fronts.specs.declared.totals.ServeFault.TheVariants.{Net, NoMemory}
-use Rattle.mica_serve.specs.NetRun.{NetFacts, OnPorts, CountsFaults, ReleasesAll, ReleasesNet, KeepsNet, BindsAndServes, FailsToBind, MeansForRun, HasNoFault, HasStopped, IsCauseOnceOpen, IsCauseOfStop, HasAnnounced, stop_of}
+use Rattle.mica_serve.specs.NetRun.{NetFacts, OnPorts, CountsFaults, ReleasesAll, ReleasesNet, KeepsNet, BindsAndServes, FailsToBind, MeansForRun, HasNoFault, HasStopped, IsCauseOnceBound}
 use Rattle.mica_serve.specs.Ends.{EndFacts, TellAll, AreNewEnds, BindsEnds, DealsInPartWithEnd, ServesFronts, MeansForEnds, KeepsEnd}
 use Rattle.mica_serve.proofs.Binding.{rose_on, rose_before}
 use Rattle.mica_serve.proofs.Gathered.{same_kept}
@@ -35,7 +29,7 @@ on_ports_then P Q R f (Some a) (Some b) (Some c) p q = f a b c p q
 
 module _ (options : Options) (some : 1 ≤ options.partitions) (begun : ℕ → History) (ports : PortOptions) (kept : List KeptSeat) (before mid after : NetFacts) (news : List EndFacts)
     (rel : ReleasesNet ports.port news mid after) where
-  pub keeps : (answer : Result Totals Stop) → BindsAndServes options begun ports answer kept before mid news → KeepsNet ports before after
+  pub keeps : (answer : Option (Result Totals ServeFault)) → BindsAndServes options begun ports answer kept before mid news → KeepsNet ports before after
   keeps answer run = record {
     binds = omega (arith, rel.binds, run.binds);
     first = λ some. rel.first_is ∙ run.first (omega (arith, rel.binds));
@@ -48,7 +42,7 @@ module _ (options : Options) (some : 1 ≤ options.partitions) (begun : ℕ → 
         before.ports mid.ports after.ports run.bound rel.told;
   }
 
-  no_faults : (totals : Totals) (run : BindsAndServes options begun ports (Ok totals) kept before mid news) → HasNoFault before after
+  no_faults : (totals : Totals) (run : BindsAndServes options begun ports (Some (Ok totals)) kept before mid news) → HasNoFault before after
   no_faults totals run = by before.ports mid.ports before.fails refl run.bound
     where
       by : (x y : Option Ports) (l : Option (List ℕ)) → before.fails ≡ l → OnPorts (BindsEnds ports.port run.olds) x y
@@ -63,7 +57,7 @@ module _ (options : Options) (some : 1 ≤ options.partitions) (begun : ℕ → 
           run.means.2.1 i o.0 a o.1 at (b.each i o.0 o.1).scripted ∙ (run.are_new i o.0 o.1).no_faults)
           ∙ run.means.1 (ap is_some is)
 
-  stops : (run : BindsAndServes options begun ports (Err (Fault Net)) kept before mid news) → HasStopped options begun ports before after
+  stops : (run : BindsAndServes options begun ports (Some (Err Net)) kept before mid news) → HasStopped options begun ports before after
   stops run = by run.means
     where
       by : (FailsToBind before mid run.olds news × (kept ≡ []))
@@ -93,7 +87,7 @@ module _ (options : Options) (some : 1 ≤ options.partitions) (begun : ℕ → 
           }
 
   -- the ports were bound, and the ends released as they were
-  unserved : (run : BindsAndServes options begun ports (Err Unannounced) kept before mid news) → OnPorts (LeavesUnserved ports) before.ports after.ports
+  unserved : (run : BindsAndServes options begun ports None kept before mid news) → OnPorts (LeavesUnserved ports) before.ports after.ports
   unserved run = on_ports_then _ _ (LeavesUnserved ports)
       (λ x y z b r f lt.
       let o = element_at run.olds f (omega (arith, lt, run.means.0)) in
@@ -101,8 +95,8 @@ module _ (options : Options) (some : 1 ≤ options.partitions) (begun : ℕ → 
       port_left ports run.olds news x y z run.many run.within b r ports.batches f [] [] o.0 o.0 o.1 (ap (λ (l : List EndFacts). slice_get l f) run.means.1 ∙ o.1) part)
       before.ports mid.ports after.ports run.bound rel.told
 
-  pub cause : (answer : Result Totals Stop) → BindsAndServes options begun ports answer kept before mid news → IsCauseOnceOpen answer options begun ports kept before after
-  cause (Ok totals) run = record {
+  pub cause : (answer : Option (Result Totals ServeFault)) → BindsAndServes options begun ports answer kept before mid news → IsCauseOnceBound answer options begun ports kept before after
+  cause (Some (Ok totals)) run = record {
     served = on_ports_then _ _ (ServesOnTables options begun ports totals kept)
         (λ x y z b r. all_served ports run.olds news x y z run.many run.within b r options begun totals kept some run.means.0
         (run.means.2.2 (bound_tell ports.port run.olds x y b)))
@@ -110,14 +104,13 @@ module _ (options : Options) (some : 1 ≤ options.partitions) (begun : ℕ → 
     no_fault = no_faults totals run;
     shapes = run.means.2.0;
   }
-  cause (Err (Fault Net)) run = (unkept run.means, stops run)
+  cause (Some (Err Net)) run = (unkept run.means, stops run)
     where
       unkept : {A B C D E : Type 0} → (A × (kept ≡ [])) ⊎ (B × C × ((kept ≡ []) × D × E)) → kept ≡ []
       unkept (inl h) = h.1
       unkept (inr h) = h.2.0
-  cause (Err (Fault NoMemory)) run = run.means
-  cause (Err Unannounced) run = (run.means.2, unserved run)
-  cause (Err Refused) run = absurd run.means
+  cause (Some (Err NoMemory)) run = run.means
+  cause None run = (run.means.2, unserved run)
 
 -- the run up to the release
 module _ (ports : PortOptions) (before mid : NetFacts) (olds : List EndFacts) (are_new : AreNewEnds ports.port olds)
@@ -125,7 +118,7 @@ module _ (ports : PortOptions) (before mid : NetFacts) (olds : List EndFacts) (a
     (fails : mid.fails ≡ before.fails) (binds : mid.binds ≤ ports.fronts) (first : 0 < mid.binds → mid.first ≡ ports.port) (options : Options) (begun : ℕ → History)
     (filled : (p : ℕ) → p < options.partitions → IsHistory options (begun p)) where
   -- a run that ended before any end was served
-  run_unserved : (answer : Result Totals Stop) (kept : List KeptSeat) → MeansForRun answer options begun ports kept before mid olds olds → BindsAndServes options begun ports answer kept before mid olds
+  run_unserved : (answer : Option (Result Totals ServeFault)) (kept : List KeptSeat) → MeansForRun answer options begun ports kept before mid olds olds → BindsAndServes options begun ports answer kept before mid olds
   run_unserved answer kept means = record {
     olds = olds;
     are_new = are_new;
@@ -142,24 +135,19 @@ module _ (ports : PortOptions) (before mid : NetFacts) (olds : List EndFacts) (a
     means = means;
   }
 
-  pub run_failed : (answer : Result Totals Stop) (kept : List KeptSeat) → answer ≡ Err (Fault Net) → kept ≡ [] → Rose before.faults mid.faults → before.refused < mid.refused
+  pub run_failed : (answer : Option (Result Totals ServeFault)) (kept : List KeptSeat) → answer ≡ Some (Err Net) → kept ≡ [] → Rose before.faults mid.faults → before.refused < mid.refused
       → BindsAndServes options begun ports answer kept before mid olds
   run_failed answer kept is none rose refused =
-      run_unserved answer kept (subst (λ (r : Result Totals Stop). MeansForRun r options begun ports kept before mid olds olds) (sym is) (inl (record { rose = rose; refused = refused; untouched = refl }, none)))
+      run_unserved answer kept (subst (λ (r : Option (Result Totals ServeFault)). MeansForRun r options begun ports kept before mid olds olds) (sym is) (inl (record { rose = rose; refused = refused; untouched = refl }, none)))
 
-  -- all ports were bound, and that could not be told
-  pub run_untold : (answer : Result Totals Stop) (kept : List KeptSeat) → answer ≡ Err Unannounced → kept ≡ [] → length olds ≡ ports.fronts
+  -- all ports were bound, and the ends left unserved
+  pub run_left : (answer : Option (Result Totals ServeFault)) (kept : List KeptSeat) → answer ≡ None → kept ≡ [] → length olds ≡ ports.fronts
       → BindsAndServes options begun ports answer kept before mid olds
-  run_untold answer kept is none full = run_unserved answer kept (subst (λ (r : Result Totals Stop). MeansForRun r options begun ports kept before mid olds olds) (sym is) (full, refl, none))
-
-  -- what a server came to, with its fault as what stopped it
-  abbrev pub stopped_by : Result Totals ServeFault → Result Totals Stop
-  stopped_by (Ok totals) = Ok totals
-  stopped_by (Err fault) = Err (Fault fault)
+  run_left answer kept is none full = run_unserved answer kept (subst (λ (r : Option (Result Totals ServeFault)). MeansForRun r options begun ports kept before mid olds olds) (sym is) (full, refl, none))
 
   pub run_served : (answer : Result Totals ServeFault) (kept : List KeptSeat) (news : List EndFacts) → length olds ≡ ports.fronts
       → (is_some before.fails ≡ true → mid.faults ≡ before.faults) → ServesFronts options begun ports.batches answer kept olds news
-      → BindsAndServes options begun ports (stopped_by answer) kept before mid news
+      → BindsAndServes options begun ports (Some answer) kept before mid news
   run_served answer kept news full steady s = record {
     olds = olds;
     are_new = are_new;
@@ -176,50 +164,10 @@ module _ (ports : PortOptions) (before mid : NetFacts) (olds : List EndFacts) (a
     means = by answer s.means;
   }
     where
-      by : (answer : Result Totals ServeFault) → MeansForEnds answer options begun ports.batches kept olds news → MeansForRun (stopped_by answer) options begun ports kept before mid olds news
+      by : (answer : Result Totals ServeFault) → MeansForEnds answer options begun ports.batches kept olds news → MeansForRun (Some answer) options begun ports kept before mid olds news
       by (Ok totals) m = (full, steady, m)
       by (Err Net) m = inr (full, steady, m)
       by (Err NoMemory) m = m
-
--- a fault that came once that was told
-pub fault_told : {A : Type 0} (fault : ServeFault) (says fails : A → A → Type 0) (before after : NetFacts) (old new : A) → after.refused ≡ before.refused → says old new
-    → HasAnnounced says fails (Err (Fault fault)) before after old new
-fault_told Net says fails before after old new none said = inr (none, said)
-fault_told NoMemory says fails before after old new none said = inr said
-
--- and what was told stands when the ends are released
-pub still_told : {A : Type 0} (answer : Result Totals Stop) (says fails : A → A → Type 0) (before mid after : NetFacts) (old new : A) → after.refused ≡ mid.refused
-    → HasAnnounced says fails answer before mid old new → HasAnnounced says fails answer before after old new
-still_told (Ok totals) says fails before mid after old new same told = told
-still_told (Err Refused) says fails before mid after old new same told = told
-still_told (Err Unannounced) says fails before mid after old new same told = told
-still_told (Err (Fault Net)) says fails before mid after old new same told =
-    elim told as (λ _. ((before.refused < after.refused) × (new ≡ old)) ⊎ ((after.refused ≡ before.refused) × says old new)) [
-      | inl h ↦ inl (omega (arith, h.0, same), h.1)
-      | inr h ↦ inr (same ∙ h.0, h.1)
-    ]
-still_told (Err (Fault NoMemory)) says fails before mid after old new same told = told
-
--- a server that these writes filled
-pub cause_filled : (options : Options) (writes : List Write) (ports : PortOptions) (kept : List KeptSeat) (before after : NetFacts) (answer : Result Totals Stop)
-    → IsCauseOnceOpen answer options (begun_by options writes) ports kept before after → IsCauseOfStop answer options writes ports kept before after
-cause_filled options writes ports kept before after (Ok totals) is = is
-cause_filled options writes ports kept before after (Err (Fault fault)) is = is
-cause_filled options writes ports kept before after (Err Unannounced) is = is
-cause_filled options writes ports kept before after (Err Refused) is = absurd is
-
--- a server whose partitions could not be made or filled
-pub not_opened : {A : Type 0} (fault : OpenFault) (options : Options) (writes : List Write) (ports : PortOptions) (kept : List KeptSeat) (net : NetFacts) → kept ≡ []
-    → (fault ≡ open_fault.Refused → RefusesFilling options writes) → (says fails : A → A → Type 0) (a : A)
-    → IsCauseOfStop (Err (stop_of fault)) options writes ports kept net net × HasAnnounced says fails (Err (stop_of fault)) net net a a
-not_opened open_fault.Refused options writes ports kept net none why says fails a = ((none, refl, why refl), refl)
-not_opened open_fault.NoMemory options writes ports kept net none why says fails a = (none, inl refl)
-
--- nothing refuses no writes
-pub none_refused : (options : Options) (writes : List Write) → writes ≡ [] → RefusesFilling options writes → ⊥
-none_refused options writes none r =
-    let split = r.split in
-    absurd (omega (arith, ap length none, ap length split, length-append r.before (r.write ∷ r.later)))
 
 -- the ports of the ends are out until they are released, and the ends tell what they did
 pub out_until : (first : ℕ) (olds news : List EndFacts) (a b : Option Ports) → length news ≡ length olds → OnPorts (BindsEnds first olds) a b

@@ -1,9 +1,11 @@
 -- What owners and fronts have in hand of each other: before they run, afterwards, and once they met.
-use Rattle.std.specs.Prelude.{◌≡◌, ◌+◌, ◌<◌, ℕ, true, List, [], ◌∷◌, ◌++◌, map, length, slice_get, Option, Some, None, option_map, unwrap_or, sum_by, All}
+use Rattle.std.specs.Prelude.{◌≡◌, ◌+◌, ◌<◌, ℕ, true, List, [], ◌∷◌, ◌++◌, map, length, slice_get, Option, Some, None, sum_by, All}
 use Rattle.atomic_table.specs.Seated.{TableId}
 use Rattle.partition_model.specs.declared.options.Options.{Options}
-use Rattle.partition_model.specs.History.{History, IsPrefix}
+use Rattle.partition_model.specs.History.{IsPrefix}
 use Rattle.epoch_core.specs.declared.state.OwnerState.{OwnerState}
+use Rattle.epoch_core.specs.Shape.{shape_of}
+use Rattle.epoch_core.specs.OwnerState.{as_made}
 use Rattle.epoch_core.specs.Joins.{lent}
 use Rattle.partition_table.specs.Seats.{reader_state, reader_home}
 use Rattle.owner_queue.specs.Messages.{sent_by, has_end}
@@ -12,7 +14,6 @@ use Rattle.owner_queue.specs.AckEnds.{AckBox, ack_box, BeginsAcks}
 use Rattle.mica_fronts.specs.declared.queue_front.FrontPart.{FrontPart}
 use Rattle.mica_fronts.specs.QueueFront.{QueueView, queue_view}
 use Rattle.mica_fronts.specs.OwnerWork.{IsNewAckBox, HasAnsweredJobs}
-use Rattle.mica_serve.specs.Filled.{IsFilledOwner}
 
 -- of an owner: its state and its table, its end of the queue of jobs, and its end of the queue of answers to each front
 pub record OwnerEnd : Type 0 where
@@ -23,13 +24,9 @@ pub record OwnerEnd : Type 0 where
 
 -- Before they run
 
--- what each partition's owner has accepted
-abbrev pub accepted_by : List OwnerEnd → ℕ → History
-accepted_by owners = λ p. unwrap_or (option_map (λ owner. owner.state.history) (slice_get owners p)) []
-
--- an owner as filled, with a fresh queue of so many jobs from each of so many fronts, and an end of a queue to each front
+-- an owner as made, with a fresh queue of so many jobs from each of so many fronts, and an end of a queue to each front
 pub record IsNewOwner (options : Options) (fronts most : ℕ) (owner : OwnerEnd) : Type 0 where
-  pub filled : IsFilledOwner options owner.state
+  pub state : owner.state ≡ as_made (shape_of options)
   pub jobs : owner.jobs ≡ inbox owner.jobs.queue fronts most []
   pub acks : length owner.acks ≡ fronts
   pub unsent : (f : ℕ) (a : AckBox) → slice_get owner.acks f ≡ Some a → a ≡ ack_box a.queue owner.table owner.state.shape []
@@ -73,7 +70,7 @@ pub record LendsEach (old new : OwnerEnd) (before after : List (List FrontPart))
   pub each : (f : ℕ) (was own : List FrontPart) → slice_get before f ≡ Some was → slice_get after f ≡ Some own
       → (part : FrontPart) × (own ≡ was ++ part ∷ []) × IsLentBy f new.jobs.jobs new part
 
--- the owner was filled, and each front has one part more, of this owner
+-- the owner was made, and each front has one part more, of this owner
 pub record LendsOneMore (options : Options) (most : ℕ) (owner : OwnerEnd) (before after : List (List FrontPart)) : Type 0 where
   pub many : length after ≡ length before
   pub made : IsNewOwner options (length before) most owner

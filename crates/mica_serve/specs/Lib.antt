@@ -1,4 +1,3 @@
-pub mod Filled
 pub mod Served
 pub mod Beside
 pub mod Ends

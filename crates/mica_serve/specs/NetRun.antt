@@ -3,18 +3,12 @@ use Rattle.std.specs.Prelude.{◌≡◌, ◌≢◌, ◌+◌, ◌⊎◌, ℕ, ◌
 use Rattle.mica_io.specs.Ports.{Ports, out}
 use Rattle.mica_io.specs.Faults.{Rose, LAST_COUNT}
 use Rattle.partition_model.specs.declared.options.Options.{Options}
-use Rattle.partition_model.specs.declared.write.Write.{Write}
 use Rattle.partition_model.specs.History.{History, IsHistory}
 use Rattle.mica_fronts.specs.declared.ports.Ports.{Ports as PortOptions}
-use Rattle.mica_serve.specs.declared.filling.OpenFault.{OpenFault}
-use Rattle.mica_serve.specs.declared.filling.OpenFault.TheVariants as open_fault
-use Rattle.mica_serve.specs.declared.stop.Stop.{Stop}
-use Rattle.mica_serve.specs.declared.stop.Stop.TheVariants.{Refused, Unannounced, Fault}
 use Rattle.mica_fronts.specs.declared.totals.Totals.{Totals}
 use Rattle.mica_fronts.specs.declared.totals.ServeFault.{ServeFault}
 use Rattle.mica_fronts.specs.declared.totals.ServeFault.TheVariants.{Net, NoMemory}
 use Rattle.partition_table.specs.declared.tables.KeptSeat.{KeptSeat}
-use Rattle.mica_serve.specs.Filled.{begun_by, RefusesFilling}
 use Rattle.mica_serve.specs.Served.{Serves, StopsShort, BeginsPorts, LeavesUnserved}
 use Rattle.mica_serve.specs.Beside.{ServesOnTables, HaveShapes}
 use Rattle.mica_serve.specs.Ends.{EndFacts, AreNewEnds, BindsEnds, ReleasesEnds, KeepsEnd, TellAll, BeginsEnds, MeansForEnds}
@@ -75,32 +69,10 @@ IsCauseOf (Ok totals) options begun ports kept before after = HasServedOnTables 
 IsCauseOf (Err Net) options begun ports kept before after = (kept ≡ []) × HasStopped options begun ports before after
 IsCauseOf (Err NoMemory) options begun ports kept before after = kept ≡ []
 
--- What each answer says of a server whose partitions begin with this. One that could not tell that its ports were bound has received nothing.
-abbrev pub IsCauseOnceOpen : Result Totals Stop → Options → (ℕ → History) → PortOptions → List KeptSeat → NetFacts → NetFacts → Type 0
-IsCauseOnceOpen (Ok totals) options begun ports kept before after = IsCauseOf (Ok totals) options begun ports kept before after
-IsCauseOnceOpen (Err (Fault fault)) options begun ports kept before after = IsCauseOf (Err fault) options begun ports kept before after
-IsCauseOnceOpen (Err Unannounced) options begun ports kept before after = (kept ≡ []) × OnPorts (LeavesUnserved ports) before.ports after.ports
-IsCauseOnceOpen (Err Refused) options begun ports kept before after = ⊥
-
--- The same where these writes fill the partitions. Where one of them was refused, nothing was bound.
-abbrev pub IsCauseOfStop : Result Totals Stop → Options → List Write → PortOptions → List KeptSeat → NetFacts → NetFacts → Type 0
-IsCauseOfStop (Ok totals) options writes ports kept before after = IsCauseOnceOpen (Ok totals) options (begun_by options writes) ports kept before after
-IsCauseOfStop (Err (Fault fault)) options writes ports kept before after = IsCauseOnceOpen (Err (Fault fault)) options (begun_by options writes) ports kept before after
-IsCauseOfStop (Err Unannounced) options writes ports kept before after = IsCauseOnceOpen (Err Unannounced) options (begun_by options writes) ports kept before after
-IsCauseOfStop (Err Refused) options writes ports kept before after = (kept ≡ []) × (after ≡ before) × RefusesFilling options writes
-
--- the answer where the partitions could not be made and filled
-abbrev pub stop_of : OpenFault → Stop
-stop_of open_fault.Refused = Refused
-stop_of open_fault.NoMemory = Fault NoMemory
-
--- What became of the announcement. It was made once all ports were bound, and before any datagram was received.
-abbrev pub HasAnnounced : {A : Type 0} → (A → A → Type 0) → (A → A → Type 0) → Result Totals Stop → NetFacts → NetFacts → A → A → Type 0
-HasAnnounced says fails (Ok totals) before after old new = says old new
-HasAnnounced says fails (Err Refused) before after old new = new ≡ old
-HasAnnounced says fails (Err Unannounced) before after old new = fails old new
-HasAnnounced says fails (Err (Fault Net)) before after old new = ((before.refused < after.refused) × (new ≡ old)) ⊎ ((after.refused ≡ before.refused) × says old new)
-HasAnnounced says fails (Err (Fault NoMemory)) before after old new = (new ≡ old) ⊎ says old new
+-- The same of a server that came to no answer where its ports were bound, since its fronts were not served.
+abbrev pub IsCauseOnceBound : Option (Result Totals ServeFault) → Options → (ℕ → History) → PortOptions → List KeptSeat → NetFacts → NetFacts → Type 0
+IsCauseOnceBound (Some answer) options begun ports kept before after = IsCauseOf answer options begun ports kept before after
+IsCauseOnceBound None options begun ports kept before after = (kept ≡ []) × OnPorts (LeavesUnserved ports) before.ports after.ports
 
 -- no end is out that was not out before, and only ports of fronts changed
 pub record ReleasesAll (ports : PortOptions) (before after : Ports) : Type 0 where
@@ -121,21 +93,20 @@ pub record FailsToBind (before after : NetFacts) (olds news : List EndFacts) : T
   pub refused : before.refused < after.refused
   pub untouched : news ≡ olds
 
--- what each answer says, once the ends were bound; want of memory says nothing but that no table is kept
-abbrev pub MeansForRun : Result Totals Stop → Options → (ℕ → History) → PortOptions → List KeptSeat → NetFacts → NetFacts → List EndFacts → List EndFacts → Type 0
-MeansForRun (Ok totals) options begun ports kept before after olds news =
+-- What each answer says, once the ends were bound; want of memory says nothing but that no table is kept. With no answer the ends were not served.
+abbrev pub MeansForRun : Option (Result Totals ServeFault) → Options → (ℕ → History) → PortOptions → List KeptSeat → NetFacts → NetFacts → List EndFacts → List EndFacts → Type 0
+MeansForRun (Some (Ok totals)) options begun ports kept before after olds news =
     (length olds ≡ ports.fronts) × (is_some before.fails ≡ true → after.faults ≡ before.faults)
     × MeansForEnds (Ok totals) options begun ports.batches kept olds news
-MeansForRun (Err (Fault Net)) options begun ports kept before after olds news =
+MeansForRun (Some (Err Net)) options begun ports kept before after olds news =
     (FailsToBind before after olds news × (kept ≡ []))
     ⊎ ((length olds ≡ ports.fronts) × (is_some before.fails ≡ true → after.faults ≡ before.faults)
     × MeansForEnds (Err Net) options begun ports.batches kept olds news)
-MeansForRun (Err (Fault NoMemory)) options begun ports kept before after olds news = kept ≡ []
-MeansForRun (Err Unannounced) options begun ports kept before after olds news = (length olds ≡ ports.fronts) × (news ≡ olds) × (kept ≡ [])
-MeansForRun (Err Refused) options begun ports kept before after olds news = ⊥
+MeansForRun (Some (Err NoMemory)) options begun ports kept before after olds news = kept ≡ []
+MeansForRun None options begun ports kept before after olds news = (length olds ≡ ports.fronts) × (news ≡ olds) × (kept ≡ [])
 
 -- The ports were bound, up to the first bind that failed, and the fronts served; these ends are left to be released.
-pub record BindsAndServes (options : Options) (origin : ℕ → History) (ports : PortOptions) (answer : Result Totals Stop) (kept : List KeptSeat)
+pub record BindsAndServes (options : Options) (origin : ℕ → History) (ports : PortOptions) (answer : Option (Result Totals ServeFault)) (kept : List KeptSeat)
     (before after : NetFacts) (news : List EndFacts) : Type 0 where
   pub olds : List EndFacts
   pub are_new : AreNewEnds ports.port olds

@@ -29,6 +29,10 @@ pub record ServesPort (batches : ℕ) (before after : Port) (dealings : List Dea
 
 -- Partitions
 
+-- no partition was filled
+abbrev pub nothing_begun : ℕ → History
+nothing_begun partition = []
+
 -- The partition's machine accepted what it began with. The writes of all fronts are one run of it from there, in which those of each front stand in
 -- the order in which they were answered.
 pub record ServesWrites (options : Options) (begun : History) (partition : ℕ) (fronts : List (List Answered)) (placed : List Placed) : Type 0 where

@@ -13,11 +13,10 @@ use Rattle.mica_serve.specs.declared.running.Room.{Room}
 use Rattle.mica_serve.specs.declared.running.Server.{Server}
 use Rattle.mica_fronts.specs.declared.ports.Ports.{Ports}
 use Rattle.partition_model.specs.declared.options.Options.{Options}
-use Rattle.partition_model.specs.History.{History}
 use Rattle.mica_fronts.specs.QueueFront.{QueueView, IsQueueFront, stand_of, sessions_of, ended_part}
 use Rattle.mica_serve.specs.Ends.{EndFacts}
 use Rattle.mica_serve.specs.FrontRuns.{RunsFront}
-use Rattle.mica_serve.specs.Hands.{OwnerEnd, accepted_by, IsReadyOwner, RanOwner, AreFrontsOf}
+use Rattle.mica_serve.specs.Hands.{OwnerEnd, IsReadyOwner, RanOwner, AreFrontsOf}
 
 abbrev pub owner_end : {P : Type 0} → (P → OwnerState) → (P → TableId) → OwnerTask P → OwnerEnd
 owner_end owner home task = record { state = owner task.part; table = home task.part; jobs = task.jobs; acks = task.acks.items }
@@ -70,11 +69,7 @@ module _ {D : Type 0} where
     pub answers : (room.answers.items ≡ []) × (fronts ≤ vec_capacity room.answers)
 
 module _ {P D : Type 0} where
-  -- what each partition of a server begins with
-  abbrev pub begun_with : (P → OwnerState) → (P → TableId) → Server P D → ℕ → History
-  begun_with owner home server = accepted_by (map (owner_end owner home) server.owners.items)
-
-  -- the owners as filled, a front before them for each port, and room for all
+  -- the owners as made, a front before them for each port, and room for all
   pub record IsServer (owner : P → OwnerState) (home : P → TableId) (options : Options) (ports : Ports) (server : Server P D) : Type 0 where
     pub made : AreFrontsOf options ports.fronts (255 * ports.batches) (map (owner_end owner home) server.owners.items) server.fronts.items
     pub room : IsRoom (length server.fronts.items) server.room

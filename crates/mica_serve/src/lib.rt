@@ -5,22 +5,16 @@
 //! replied stamp.
 #![tactic(auto)]
 
-mod announce;
 mod answers;
-mod filling;
 mod meeting;
 mod opening;
 mod run;
 mod running;
-mod stop;
 mod tables;
 mod worker;
 
-pub use announce::Announce;
 pub use answers::sum_up;
-pub use filling::{OpenFault, fill};
 pub use mica_fronts::{
     Front, MAX_BATCHES, Ports, QueueFront, ServeFault, SoloFront, Totals, serve_batch,
 };
-pub use run::{bind_all, release_all, serve, serve_filled};
-pub use stop::{Stop, Untold};
+pub use run::{bind_all, release_all, serve};

@@ -1,21 +1,18 @@
 //! Owners and fronts as made, with their queues and seats, before any of them starts.
-ghost use Rattle.std.specs.Prelude.{◌≡◌, ◌*◌, ◌<◌, ◌≤◌, [], All, IfOk, OnOk, IsErrOf, map, length, vec_len};
+ghost use Rattle.std.specs.Prelude.{◌≡◌, ◌*◌, ◌<◌, ◌≤◌, [], IfOk, OnOk, map, length, vec_len};
 ghost use Rattle.partition_model.specs.Options.{IsValid};
-ghost use Rattle.partition_model.specs.Write.{IsWrite};
 ghost use Rattle.epoch_core.specs.OwnerState.{as_made};
 ghost use Rattle.epoch_core.specs.Shape.{shape_of};
 ghost use Rattle.mica_fronts.specs.PortOptions.{IsValidPorts};
-ghost use Rattle.mica_serve.specs.Filled.{begun_by, RefusesFilling};
-ghost use Rattle.mica_serve.specs.Hands.{accepted_by, LendsPart, AreSendersOf, LendsEach, AreLent, LendsOneMore, AreFrontsOf};
+ghost use Rattle.mica_serve.specs.Hands.{LendsPart, AreSendersOf, LendsEach, AreLent, LendsOneMore, AreFrontsOf};
 ghost use Rattle.mica_serve.specs.Tasks.{owner_end};
 
-use crate::filling::{OpenFault, fill};
 use crate::worker::OwnerTask;
-use epoch_core::{LendPartition, Partition, Shape};
+use epoch_core::{LendPartition, Shape};
 use mica_fronts::{FrontPart, Ports, QueueFront};
 use mica_io::NoMemory;
 use owner_queue::{JobSender, ack_queue, job_queue};
-use partition_model::{Options, Write};
+use partition_model::Options;
 use partition_table::{Note, ReaderSeat, zeros_for};
 use seated_partition::OnTable;
 use std::alloc::Global;
@@ -61,29 +58,24 @@ fn lend_all<P: LendPartition<Reader = ReaderSeat, Note = Note>>(
     Ok(())
 }
 
-// Makes and fills the owner of one more partition, which lends each front a part.
+// Makes the owner of one more partition, which lends each front a part.
 fn open_owner<P: OnTable + LendPartition<Reader = ReaderSeat, Note = Note>>(
     alloc: Global,
     options: &Options,
     zeros: &[u64],
-    filling: &[Write],
     most: u64,
     worker: u32,
     hands: &mut Vec<Vec<FrontPart>>,
-) -> Result<OwnerTask<P>, OpenFault>
+) -> Result<OwnerTask<P>, NoMemory>
     requires valid { IsValid options.now }
     requires mode { options.now.mode ≡ P.mode }
     requires same { (p : P) → P.state p ≡ P.owner p }
     requires zeros { zeros.now ≡ (as_made (shape_of options.now)).words }
     requires some { (1 ≤ vec_len hands.old) × (vec_len hands.old ≤ 16) }
-    requires filling { All IsWrite filling.now }
-    ensures made { IfOk result (λ task. LendsOneMore options.now most (owner_end P.owner P.home task)
+    ensures { IfOk result (λ task. LendsOneMore options.now most (owner_end P.owner P.home task)
         (map (λ own. own.items) hands.old.items) (map (λ own. own.items) hands.new.items)) }
-    ensures begun { IfOk result (λ task. (P.owner task.part).history ≡ begun_by options.now filling.now worker) }
-    ensures refused { IsErrOf result OpenFault.Refused → RefusesFilling options.now filling.now }
 {
-    let mut part = P::from_zeros(alloc, options, zeros)?;
-    fill(&mut part, options, worker, filling)?;
+    let part = P::from_zeros(alloc, options, zeros)?;
     let (senders, jobs) = job_queue(alloc, hands.len() as u32, most)?;
     let acks = Vec::with_capacity(alloc, hands.len())?;
     let mut owner = OwnerTask {
@@ -96,25 +88,21 @@ fn open_owner<P: OnTable + LendPartition<Reader = ReaderSeat, Note = Note>>(
     Ok(owner)
 }
 
-// The owners of all partitions, filled, and in each front's hands a part of each.
+// The owners of all partitions, and in each front's hands a part of each.
 fn open_owners<P: OnTable + LendPartition<Reader = ReaderSeat, Note = Note>>(
     alloc: Global,
     options: &Options,
     ports: &Ports,
-    filling: &[Write],
     hands: &mut Vec<Vec<FrontPart>>,
-) -> Result<Vec<OwnerTask<P>>, OpenFault>
+) -> Result<Vec<OwnerTask<P>>, NoMemory>
     requires valid { IsValid options.now }
     requires mode { options.now.mode ≡ P.mode }
     requires same { (p : P) → P.state p ≡ P.owner p }
     requires ports { IsValidPorts ports.now }
     requires none { hands.old.items ≡ [] }
-    requires filling { All IsWrite filling.now }
     ensures lent { IfOk result (λ owners. AreLent options.now ports.now.fronts (255 * ports.now.batches)
         (map (λ task. owner_end P.owner P.home task) owners.items) (map (λ own. own.items) hands.new.items)) }
-    ensures begun { IfOk result (λ owners. accepted_by (map (λ task. owner_end P.owner P.home task) owners.items) ≡ begun_by options.now filling.now) }
     ensures many { IfOk result (λ owners. length owners.items ≡ options.now.partitions) }
-    ensures refused { IsErrOf result OpenFault.Refused → RefusesFilling options.now filling.now }
 {
     for _ in 0..ports.fronts {
         hands.push(Vec::with_capacity(alloc, options.partitions as usize)?)?;
@@ -123,41 +111,29 @@ fn open_owners<P: OnTable + LendPartition<Reader = ReaderSeat, Note = Note>>(
     let zeros = zeros.as_slice();
     let mut owners = Vec::with_capacity(alloc, options.partitions as usize)?;
     for p in 0..options.partitions {
-        let owner = open_owner(
-            alloc,
-            options,
-            zeros,
-            filling,
-            255 * ports.batches,
-            p,
-            hands,
-        )?;
+        let owner = open_owner(alloc, options, zeros, 255 * ports.batches, p, hands)?;
         owners.push(owner)?;
     }
     Ok(owners)
 }
 
-/// The owners of all partitions, filled, and a front for each port before them.
+/// The owners of all partitions, and a front for each port before them.
 pub(crate) fn open_all<P: OnTable + LendPartition<Reader = ReaderSeat, Note = Note>>(
     alloc: Global,
     options: &Options,
     ports: &Ports,
-    filling: &[Write],
     fronts: &mut Vec<QueueFront>,
-) -> Result<Vec<OwnerTask<P>>, OpenFault>
+) -> Result<Vec<OwnerTask<P>>, NoMemory>
     requires valid { IsValid options.now }
     requires mode { options.now.mode ≡ P.mode }
     requires same { (p : P) → P.state p ≡ P.owner p }
     requires ports { IsValidPorts ports.now }
     requires none { fronts.old.items ≡ [] }
-    requires filling { All IsWrite filling.now }
-    ensures made { IfOk result (λ owners. AreFrontsOf options.now ports.now.fronts (255 * ports.now.batches)
+    ensures { IfOk result (λ owners. AreFrontsOf options.now ports.now.fronts (255 * ports.now.batches)
         (map (λ task. owner_end P.owner P.home task) owners.items) fronts.new.items) }
-    ensures begun { IfOk result (λ owners. accepted_by (map (λ task. owner_end P.owner P.home task) owners.items) ≡ begun_by options.now filling.now) }
-    ensures refused { IsErrOf result OpenFault.Refused → RefusesFilling options.now filling.now }
 {
     let mut hands = Vec::with_capacity(alloc, ports.fronts as usize)?;
-    let owners = open_owners(alloc, options, ports, filling, &mut hands)?;
+    let owners = open_owners(alloc, options, ports, &mut hands)?;
     let mut number = 0;
     for hand in hands {
         fronts.push(QueueFront::new(options, number, 255 * ports.batches, hand))?;

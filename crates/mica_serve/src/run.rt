@@ -1,27 +1,24 @@
 //! The server: its ports bound, its fronts and owners run side by side, its ends released and its tables kept.
-ghost use Rattle.std.specs.Prelude.{◌≡◌, ◌+◌, ◌<◌, ◌≤◌, ℕ, [], true, All, map, vec_len, vec_capacity, is_some, Some, IfSome, OnOk, OnErr};
+ghost use Rattle.std.specs.Prelude.{◌≡◌, ◌+◌, ◌<◌, ◌≤◌, ℕ, [], true, map, vec_len, vec_capacity, is_some, Some, IfSome, OnOk, OnErr};
 ghost use Rattle.mica_io.specs.Faults.{Rose};
 ghost use Rattle.mica_io.specs.Ports.{out};
 ghost use Rattle.partition_model.specs.Options.{IsValid};
-ghost use Rattle.partition_model.specs.Write.{IsWrite};
 ghost use Rattle.partition_table.specs.declared.reader.Note.{Note};
 ghost use Rattle.partition_table.specs.Seats.{note_state, note_home};
 ghost use Rattle.mica_fronts.specs.PortOptions.{IsValidPorts};
-ghost use Rattle.mica_serve.specs.Filled.{nothing_begun};
+ghost use Rattle.mica_serve.specs.Served.{nothing_begun};
 ghost use Rattle.mica_serve.specs.Ends.{AreNewEnds, AreAtPorts, AreOpen, BindsEnds, TellAll, ServesFronts, end_facts};
-ghost use Rattle.mica_serve.specs.Tasks.{IsServer, begun_with};
-ghost use Rattle.mica_serve.specs.NetRun.{OnPorts, ReleasesNet, BindsAndServes, IsCauseOf, IsCauseOfStop, HasAnnounced, KeepsNet, net_facts};
+ghost use Rattle.mica_serve.specs.Tasks.{IsServer};
+ghost use Rattle.mica_serve.specs.NetRun.{OnPorts, ReleasesNet, BindsAndServes, IsCauseOf, KeepsNet, net_facts};
 
-use crate::announce::{Announce, Silent};
 use crate::answers::sum_up;
 use crate::running::{Server, run_all};
-use crate::stop::Stop;
 use crate::tables::keep_all;
 use cache_partition::CachePartition;
 use epoch_core::LendPartition;
 use mica_fronts::{Ports, ServeFault, Totals};
 use mica_io::{Datagrams, Failed, Gate, Net};
-use partition_model::{Mode, Options, Write};
+use partition_model::{Mode, Options};
 use partition_table::{Note, OwnerSeat, ReaderSeat, Tables};
 use seated_partition::OnTable;
 use std::alloc::Global;
@@ -94,7 +91,7 @@ fn serve_all<
     requires tables { tables.old ≡ [] }
     requires open { AreOpen (map (end_facts D.port D.traffic D.faults D.has_ended D.script) ends.old.items) }
     requires many { vec_len ends.old ≡ ports.now.fronts }
-    ensures { ServesFronts options.now (begun_with P.owner P.home server) ports.now.batches result tables.new
+    ensures { ServesFronts options.now nothing_begun ports.now.batches result tables.new
         (map (end_facts D.port D.traffic D.faults D.has_ended D.script) ends.old.items)
         (map (end_facts D.port D.traffic D.faults D.has_ended D.script) ends.new.items) }
 {
@@ -104,13 +101,12 @@ fn serve_all<
     Ok(totals)
 }
 
-/// Binds the ports, tells so where all were bound, and serves the fronts.
+/// Binds the ports, and serves the fronts where all were bound.
 fn bind_and_serve<
     W: Threads + Wait + Sync,
     P: OnTable + LendPartition<Reader = ReaderSeat, Note = Note> + Send,
     N: Net,
     G: Gate,
-    A: Announce,
 >(
     rt: &W,
     alloc: Global,
@@ -121,8 +117,7 @@ fn bind_and_serve<
     ends: &mut Vec<N::End>,
     gate: &G,
     tables: &mut Tables,
-    announce: &mut A,
-) -> Result<Totals, Stop>
+) -> Result<Totals, ServeFault>
     requires same { (p : P) → P.state p ≡ P.owner p }
     requires notes { (n : Note) → (P.noted n ≡ note_state n) × (P.note_home n ≡ note_home n) }
     requires options { IsValid options.now }
@@ -132,18 +127,13 @@ fn bind_and_serve<
     requires unbound { N.binds net.old ≡ 0 }
     requires none { ends.old.items ≡ [] }
     requires room { ports.now.fronts ≤ vec_capacity ends.old }
-    ensures served { BindsAndServes options.now (begun_with P.owner P.home server) ports.now result tables.new
+    ensures { BindsAndServes options.now nothing_begun ports.now (Some result) tables.new
         (net_facts N.faults N.binds N.first N.refused N.ports N.fails net.old)
         (net_facts N.faults N.binds N.first N.refused N.ports N.fails net.new)
         (map (end_facts N.End.port N.End.traffic N.End.faults N.End.has_ended N.End.script) ends.new.items) }
-    ensures announced { HasAnnounced (A.says ports.now) (A.fails ports.now) result
-        (net_facts N.faults N.binds N.first N.refused N.ports N.fails net.old)
-        (net_facts N.faults N.binds N.first N.refused N.ports N.fails net.new) announce.old announce.new }
 {
     bind_all(net, ports, ends)?;
-    announce.ready(ports, ends.as_slice())?;
-    let totals = serve_all(rt, alloc, options, ports, server, ends, gate, tables)?;
-    Ok(totals)
+    serve_all(rt, alloc, options, ports, server, ends, gate, tables)
 }
 
 /// Serves the ports before partitions of one mode.
@@ -152,84 +142,36 @@ fn serve_on<
     P: OnTable + LendPartition<Reader = ReaderSeat, Note = Note> + Send,
     N: Net,
     G: Gate,
-    A: Announce,
 >(
     rt: &W,
     alloc: Global,
     options: &Options,
     ports: &Ports,
-    filling: Vec<Write>,
     net: &mut N,
     gate: &G,
     tables: &mut Tables,
-    announce: &mut A,
-) -> Result<Totals, Stop>
+) -> Result<Totals, ServeFault>
     requires notes { (n : Note) → (P.noted n ≡ note_state n) × (P.note_home n ≡ note_home n) }
     requires options { IsValid options.now }
     requires mode { options.now.mode ≡ P.mode }
     requires same { (p : P) → P.state p ≡ P.owner p }
     requires ports { IsValidPorts ports.now }
-    requires filling { All IsWrite filling.items }
     requires unbound { N.binds net.old ≡ 0 }
     requires tables { tables.old ≡ [] }
-    ensures cause { IsCauseOfStop result options.now filling.items ports.now tables.new
+    ensures cause { IsCauseOf result options.now nothing_begun ports.now tables.new
         (net_facts N.faults N.binds N.first N.refused N.ports N.fails net.old)
         (net_facts N.faults N.binds N.first N.refused N.ports N.fails net.new) }
     ensures kept { KeepsNet ports.now
         (net_facts N.faults N.binds N.first N.refused N.ports N.fails net.old)
         (net_facts N.faults N.binds N.first N.refused N.ports N.fails net.new) }
-    ensures announced { HasAnnounced (A.says ports.now) (A.fails ports.now) result
-        (net_facts N.faults N.binds N.first N.refused N.ports N.fails net.old)
-        (net_facts N.faults N.binds N.first N.refused N.ports N.fails net.new) announce.old announce.new }
 {
-    let server = Server::<P, N::End>::open(rt, alloc, options, ports, filling.as_slice())?;
-    drop(filling);
+    let server = Server::<P, N::End>::open(rt, alloc, options, ports)?;
     let mut ends = Vec::with_capacity(alloc, ports.fronts as usize)?;
     let answer = bind_and_serve(
-        rt, alloc, options, ports, server, net, &mut ends, gate, tables, announce,
+        rt, alloc, options, ports, server, net, &mut ends, gate, tables,
     );
     release_all(net, ends, ports.port);
     answer
-}
-
-/// Fills the partitions by these writes, binds a port for each front, in order, and tells so. Then the fronts and the owners of the partitions run
-/// side by side, each in a thread of its own. All ends are released. The owners' seats are kept, in the order of the partitions, where no front
-/// failed.
-pub fn serve_filled<W: Threads + Wait + Sync, N: Net, G: Gate, A: Announce>(
-    rt: &W,
-    alloc: Global,
-    options: &Options,
-    ports: &Ports,
-    filling: Vec<Write>,
-    net: &mut N,
-    gate: &G,
-    tables: &mut Tables,
-    announce: &mut A,
-) -> Result<Totals, Stop>
-    requires options { IsValid options.now }
-    requires ports { IsValidPorts ports.now }
-    requires filling { All IsWrite filling.items }
-    requires unbound { N.binds net.old ≡ 0 }
-    requires tables { tables.old ≡ [] }
-
-    ensures cause { IsCauseOfStop result options.now filling.items ports.now tables.new
-        (net_facts N.faults N.binds N.first N.refused N.ports N.fails net.old)
-        (net_facts N.faults N.binds N.first N.refused N.ports N.fails net.new) }
-    ensures kept { KeepsNet ports.now
-        (net_facts N.faults N.binds N.first N.refused N.ports N.fails net.old)
-        (net_facts N.faults N.binds N.first N.refused N.ports N.fails net.new) }
-    ensures announced { HasAnnounced (A.says ports.now) (A.fails ports.now) result
-        (net_facts N.faults N.binds N.first N.refused N.ports N.fails net.old)
-        (net_facts N.faults N.binds N.first N.refused N.ports N.fails net.new) announce.old announce.new }
-{
-    match options.mode {
-        Mode::Cache => serve_on::<W, CachePartition<OwnerSeat>, N, G, A>(
-            rt, alloc, options, ports, filling, net, gate, tables, announce,
-        ),
-        Mode::Store => serve_on::<W, StorePartition<OwnerSeat>, N, G, A>(
-            rt, alloc, options, ports, filling, net, gate, tables, announce,
-        ),
-    }
 }
 
 /// Binds a port for each front, in order; then the fronts and the owners of the partitions run side by side, each in a thread of its own. All ends
@@ -255,21 +197,12 @@ pub fn serve<W: Threads + Wait + Sync, N: Net, G: Gate>(
         (net_facts N.faults N.binds N.first N.refused N.ports N.fails net.old)
         (net_facts N.faults N.binds N.first N.refused N.ports N.fails net.new) }
 {
-    let none = Vec::new(alloc);
-    match serve_filled(
-        rt,
-        alloc,
-        options,
-        ports,
-        none,
-        net,
-        gate,
-        tables,
-        &mut Silent,
-    ) {
-        Ok(totals) => Ok(totals),
-        Err(Stop::Fault(fault)) => Err(fault),
-        Err(Stop::Refused) => unreachable!(),
-        Err(Stop::Unannounced) => unreachable!(),
+    match options.mode {
+        Mode::Cache => serve_on::<W, CachePartition<OwnerSeat>, N, G>(
+            rt, alloc, options, ports, net, gate, tables,
+        ),
+        Mode::Store => serve_on::<W, StorePartition<OwnerSeat>, N, G>(
+            rt, alloc, options, ports, net, gate, tables,
+        ),
     }
 }

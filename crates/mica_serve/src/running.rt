@@ -1,25 +1,23 @@
 //! All workers of a server, from their room to the last meeting.
-ghost use Rattle.std.specs.Prelude.{◌≡◌, ◌+◌, ◌≤◌, ℕ, All, IfOk, IsErrOf, length, map, slice_get, Some};
+ghost use Rattle.std.specs.Prelude.{◌≡◌, ◌+◌, ◌≤◌, ℕ, IfOk, length, map, slice_get, Some};
 ghost use Rattle.partition_model.specs.Options.{IsValid};
 ghost use Rattle.epoch_core.specs.declared.state.Phase.TheVariants.{Idle};
 ghost use Rattle.partition_table.specs.Tabled.{kept_seat_in};
 ghost use Rattle.partition_table.specs.declared.reader.Note.{Note};
 ghost use Rattle.partition_table.specs.Seats.{note_state, note_home};
-ghost use Rattle.partition_model.specs.Write.{IsWrite};
 ghost use Rattle.mica_fronts.specs.PortOptions.{IsValidPorts};
-ghost use Rattle.mica_serve.specs.Filled.{begun_by, RefusesFilling};
+ghost use Rattle.mica_serve.specs.Served.{nothing_begun};
 ghost use Rattle.mica_serve.specs.Ends.{AreOpen, end_facts};
 ghost use Rattle.mica_serve.specs.FrontRuns.{RanAll};
-ghost use Rattle.mica_serve.specs.Tasks.{IsRoom, IsServer, begun_with};
+ghost use Rattle.mica_serve.specs.Tasks.{IsRoom, IsServer};
 
-use crate::filling::OpenFault;
 use crate::meeting::meet_all;
 use crate::opening::open_all;
 use crate::worker::{FrontTask, OwnerTask, pair_up, part_fronts, run_workers};
 use epoch_core::LendPartition;
 use mica_fronts::{FrontPart, Ports, QueueFront, ServeFault, Totals};
 use mica_io::{Datagrams, Gate, NoMemory};
-use partition_model::{Options, Write};
+use partition_model::Options;
 use partition_table::{Note, ReaderSeat};
 use seated_partition::OnTable;
 use std::alloc::Global;
@@ -51,7 +49,7 @@ impl<D: Drop> Room<D> {
     }
 }
 
-/// The owners as filled and the fronts as made, with the room for them to run.
+/// The owners and the fronts as made, with the room for them to run.
 #[derive(Drop)]
 pub(crate) struct Server<P, D> {
     owners: Vec<OwnerTask<P>>,
@@ -66,20 +64,16 @@ impl<P: OnTable + LendPartition<Reader = ReaderSeat, Note = Note>, D: Drop> Serv
         alloc: Global,
         options: &Options,
         ports: &Ports,
-        filling: &[Write],
-    ) -> Result<Server<P, D>, OpenFault>
+    ) -> Result<Server<P, D>, NoMemory>
         requires valid { IsValid options.now }
         requires mode { options.now.mode ≡ P.mode }
         requires same { (p : P) → P.state p ≡ P.owner p }
         requires ports { IsValidPorts ports.now }
-        requires filling { All IsWrite filling.now }
-        ensures made { IfOk result (IsServer P.owner P.home options.now ports.now) }
-        ensures begun { IfOk result (λ server. begun_with P.owner P.home server ≡ begun_by options.now filling.now) }
-        ensures refused { IsErrOf result OpenFault.Refused → RefusesFilling options.now filling.now }
+        ensures { IfOk result (IsServer P.owner P.home options.now ports.now) }
     {
         rehearse(rt, alloc, options.partitions + ports.fronts)?;
         let mut fronts = Vec::with_capacity(alloc, ports.fronts as usize)?;
-        let owners = open_all(alloc, options, ports, filling, &mut fronts)?;
+        let owners = open_all(alloc, options, ports, &mut fronts)?;
         let room = Room::new(alloc, fronts.len())?;
         Ok(Server {
             owners,
@@ -111,7 +105,7 @@ pub(crate) fn run_all<
     requires server { IsServer P.owner P.home options.now ports.now server }
     requires open { AreOpen (map (end_facts D.port D.traffic D.faults D.has_ended D.script) ends.old.items) }
     requires many { length ends.old.items ≡ ports.now.fronts }
-    ensures ran { RanAll options.now (begun_with P.owner P.home server) ports.now.batches (map (λ task. kept_seat_in (P.owner task.part)) result.0.items) result.1.items
+    ensures ran { RanAll options.now nothing_begun ports.now.batches (map (λ task. kept_seat_in (P.owner task.part)) result.0.items) result.1.items
         (map (end_facts D.port D.traffic D.faults D.has_ended D.script) ends.old.items) (map (end_facts D.port D.traffic D.faults D.has_ended D.script) ends.new.items) }
     ensures idle { (p : ℕ) (task : OwnerTask P) → slice_get result.0.items p ≡ Some task → (P.owner task.part).phase ≡ Idle }
 {

@@ -3,7 +3,7 @@ use Rattle.std.proofs.lemmas.Option.{slice_get_read}
 use Rattle.partition_model.specs.declared.write.Write.{Write}
 use Rattle.epoch_core.specs.declared.state.OwnerState.{OwnerState}
 use Rattle.mica_fronts.specs.Flushes.{flushed_in}
-use Rattle.mica_serve.proofs.Fills.{FilledBy, filled_none, filled_more, refuses, taken_more, split_at}
+use Rattle.locked_serve.proofs.Fills.{FilledBy, filled_none, filled_more, refuses, taken_more, split_at}
 use Rattle.locked_serve.proofs.filling.fill.Goals as goal
 
 pub loop-write-init : goal.loop-write-init

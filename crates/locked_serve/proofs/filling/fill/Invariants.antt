@@ -1,6 +1,6 @@
 use Rattle.std.proofs.Common.{◌≡◌, take}
 use Rattle.mica_fronts.specs.Flushes.{flushed_in}
-use Rattle.mica_serve.proofs.Fills.{FilledBy}
+use Rattle.locked_serve.proofs.Fills.{FilledBy}
 use Rattle.locked_serve.proofs.filling.fill.Given as goal
 
 abbrev pub invariant-loop-write : goal.invariant-loop-write

@@ -3,10 +3,12 @@ use Rattle.std.specs.Prelude.{Result, Ok, Err}
 use Rattle.std.proofs.lemmas.List.{length-map}
 use Rattle.std.proofs.lemmas.Result.{err_from_is_err_and}
 use Rattle.mica_fronts.specs.declared.totals.Totals.{Totals}
-use Rattle.mica_serve.specs.declared.stop.Stop.{Stop}
+use Rattle.locked_serve.specs.declared.stop.Stop.{Stop}
 use Rattle.mica_serve.specs.Ends.{EndFacts, AreNewEnds, end_facts}
-use Rattle.mica_serve.specs.NetRun.{NetFacts, BindsAndServes, HasAnnounced, net_facts}
-use Rattle.mica_serve.proofs.Whole.{run_failed, run_untold, run_served, fault_told}
+use Rattle.mica_serve.specs.NetRun.{NetFacts, BindsAndServes, net_facts}
+use Rattle.mica_serve.proofs.Whole.{run_failed, run_left, run_served}
+use Rattle.locked_serve.specs.Causes.{came_to, HasAnnounced}
+use Rattle.locked_serve.proofs.Stopped.{fault_told}
 use Rattle.locked_serve.proofs.serve.bind_and_serve.Given as given
 use Rattle.locked_serve.proofs.serve.bind_and_serve.Goals as goal
 
@@ -29,7 +31,12 @@ returns-in_err-bind_all-clause-served g c =
     run_failed c.args.ports.now (net_at g c.args.net.now) (net_at g c.bind_all.new.net) (map (facts g) c.bind_all.new.ends.items)
     bound.new bound.bound (omega (arith, bound.few, many, size)) bound.never_fall bound.fails bound.binds bound.first
     c.args.options.now g.J.ServerPlan.plan.begun c.requires.filled
-    c.from_residual.result c.args.tables.now (is.1 ∙ ap Err is.2) c.requires.tables failed.cause failed.refused
+    (came_to c.from_residual.result) c.args.tables.now (ap came_to (is.1 ∙ ap Err is.2)) c.requires.tables failed.cause failed.refused
+
+pub returns-in_err-bind_all-clause-unrefused : goal.returns-in_err-bind_all-clause-unrefused
+returns-in_err-bind_all-clause-unrefused g c refused =
+    let is = err_from_is_err_and c.from_residual.result c.from_residual.ensures.1 in
+    absurd (cc (sym refused ∙ is.1 ∙ ap Err is.2))
 
 pub returns-in_err-bind_all-clause-announced : goal.returns-in_err-bind_all-clause-announced
 returns-in_err-bind_all-clause-announced g c =
@@ -43,10 +50,15 @@ returns-in_err-ready-clause-served g c =
     let many = length-map c.bind_all.new.ends.items (facts g) in
     let size : vec_len c.bind_all.new.ends ≡ length c.bind_all.new.ends.items = search rules in
     let is = err_from_is_err_and c.from_residual-in_err-ready.result c.from_residual-in_err-ready.ensures.1 in
-    run_untold c.args.ports.now (net_at g c.args.net.now) (net_at g c.bind_all.new.net) (map (facts g) c.bind_all.new.ends.items)
+    run_left c.args.ports.now (net_at g c.args.net.now) (net_at g c.bind_all.new.net) (map (facts g) c.bind_all.new.ends.items)
     bound.new bound.bound (omega (arith, bound.few, many, size)) bound.never_fall bound.fails bound.binds bound.first
     c.args.options.now g.J.ServerPlan.plan.begun c.requires.filled
-    c.from_residual-in_err-ready.result c.args.tables.now (is.1 ∙ ap Err is.2) c.requires.tables (many ∙ sym size ∙ c.in_ok-bind_all.ensures.all)
+    (came_to c.from_residual-in_err-ready.result) c.args.tables.now (ap came_to (is.1 ∙ ap Err is.2)) c.requires.tables (many ∙ sym size ∙ c.in_ok-bind_all.ensures.all)
+
+pub returns-in_err-ready-clause-unrefused : goal.returns-in_err-ready-clause-unrefused
+returns-in_err-ready-clause-unrefused g c refused =
+    let is = err_from_is_err_and c.from_residual-in_err-ready.result c.from_residual-in_err-ready.ensures.1 in
+    absurd (cc (sym refused ∙ is.1 ∙ ap Err is.2))
 
 pub returns-in_err-ready-clause-announced : goal.returns-in_err-ready-clause-announced
 returns-in_err-ready-clause-announced g c =
@@ -64,13 +76,18 @@ returns-in_err-totals-clause-served g c =
     let many = length-map c.bind_all.new.ends.items (facts g) in
     let size : vec_len c.bind_all.new.ends ≡ length c.bind_all.new.ends.items = search rules in
     let is = err_from_is_err_and c.from_residual-in_err-totals.result c.from_residual-in_err-totals.ensures.1 in
-    subst (λ (r : Result Totals Stop). BindsAndServes c.args.options.now g.J.ServerPlan.plan.begun c.args.ports.now r c.serve_all.new.tables (net_at g c.args.net.now) (net_at g c.bind_all.new.net)
+    subst (λ (r : Result Totals Stop). BindsAndServes c.args.options.now g.J.ServerPlan.plan.begun c.args.ports.now (came_to r) c.serve_all.new.tables (net_at g c.args.net.now) (net_at g c.bind_all.new.net)
     (map (facts g) c.serve_all.new.ends.items)) (sym (is.1 ∙ ap Err is.2))
     (run_served c.args.ports.now (net_at g c.args.net.now) (net_at g c.bind_all.new.net) (map (facts g) c.bind_all.new.ends.items)
     bound.new bound.bound (omega (arith, bound.few, many, size)) bound.never_fall bound.fails bound.binds bound.first
     c.args.options.now g.J.ServerPlan.plan.begun c.requires.filled
     (Err c.in_err-totals.field-0.0) c.serve_all.new.tables (map (facts g) c.serve_all.new.ends.items) (many ∙ sym size ∙ c.in_ok-bind_all.ensures.all) c.in_ok-bind_all.ensures.steady
     c.in_err-totals.ensures)
+
+pub returns-in_err-totals-clause-unrefused : goal.returns-in_err-totals-clause-unrefused
+returns-in_err-totals-clause-unrefused g c refused =
+    let is = err_from_is_err_and c.from_residual-in_err-totals.result c.from_residual-in_err-totals.ensures.1 in
+    absurd (cc (sym refused ∙ is.1 ∙ ap Err is.2))
 
 pub returns-in_err-totals-clause-announced : goal.returns-in_err-totals-clause-announced
 returns-in_err-totals-clause-announced g c =

@@ -5,11 +5,13 @@ use Rattle.mica_io.specs.Ports.{out}
 use Rattle.mica_serve.specs.Ends.{EndFacts, end_facts}
 use Rattle.mica_serve.specs.NetRun.{NetFacts, net_facts}
 use Rattle.mica_serve.proofs.PortRuns.{kept_at}
-use Rattle.mica_serve.proofs.Whole.{out_until, tell_until, keeps, cause, net_kept, still_told}
+use Rattle.mica_serve.proofs.Whole.{out_until, tell_until, keeps, cause, net_kept}
 use Rattle.partition_model.specs.declared.options.Options.{Options}
 use Rattle.partition_model.specs.History.{IsHistory}
 use Rattle.locked_serve.specs.Opening.{filled_view}
+use Rattle.locked_serve.specs.Causes.{came_to}
 use Rattle.locked_serve.proofs.Named.{accepted}
+use Rattle.locked_serve.proofs.Stopped.{still_told}
 use Rattle.locked_serve.proofs.serve.serve_named.Given as given
 use Rattle.locked_serve.proofs.serve.serve_named.Goals as goal
 
@@ -40,12 +42,12 @@ release_all-requires-clause-tell g c _ _ =
 pub returns-clause-cause : goal.returns-clause-cause
 returns-clause-cause g c =
     cause c.args.options.now c.requires.options.partitions.0 g.J.ServerPlan.plan.begun c.args.ports.now c.bind_and_serve-answer.new.tables (net_at g c.args.net.now) (net_at g c.bind_and_serve-answer.new.net)
-    (net_at g c.release_all.new.net) (map (facts g) c.bind_and_serve-answer.new.ends.items) c.release_all.ensures c.bind_and_serve-answer.result c.bind_and_serve-answer.ensures.served
+    (net_at g c.release_all.new.net) (map (facts g) c.bind_and_serve-answer.new.ends.items) c.release_all.ensures (came_to c.bind_and_serve-answer.result) c.bind_and_serve-answer.ensures.served
 
 pub returns-clause-kept : goal.returns-clause-kept
 returns-clause-kept g c =
     keeps c.args.options.now c.requires.options.partitions.0 g.J.ServerPlan.plan.begun c.args.ports.now c.bind_and_serve-answer.new.tables (net_at g c.args.net.now) (net_at g c.bind_and_serve-answer.new.net)
-    (net_at g c.release_all.new.net) (map (facts g) c.bind_and_serve-answer.new.ends.items) c.release_all.ensures c.bind_and_serve-answer.result c.bind_and_serve-answer.ensures.served
+    (net_at g c.release_all.new.net) (map (facts g) c.bind_and_serve-answer.new.ends.items) c.release_all.ensures (came_to c.bind_and_serve-answer.result) c.bind_and_serve-answer.ensures.served
 
 pub returns-clause-announced : goal.returns-clause-announced
 returns-clause-announced g c =

@@ -4,14 +4,16 @@ use Rattle.std.proofs.lemmas.Result.{err_from_is_err_and}
 use Rattle.partition_model.specs.declared.write.Write.{Write}
 use Rattle.partition_model.specs.History.{History}
 use Rattle.mica_fronts.specs.declared.totals.Totals.{Totals}
-use Rattle.mica_serve.specs.declared.filling.OpenFault.TheVariants as open_fault
-use Rattle.mica_serve.specs.declared.stop.Stop.{Stop}
-use Rattle.mica_serve.specs.Filled.{begun_by, RefusesFilling}
-use Rattle.mica_serve.specs.NetRun.{NetFacts, IsCauseOnceOpen, IsCauseOfStop, HasAnnounced, net_facts}
-use Rattle.mica_serve.proofs.Whole.{net_kept, not_opened, cause_filled}
+use Rattle.locked_serve.specs.declared.filling.OpenFault.TheVariants as open_fault
+use Rattle.locked_serve.specs.declared.stop.Stop.{Stop}
+use Rattle.mica_serve.specs.NetRun.{NetFacts, IsCauseOnceBound, net_facts}
+use Rattle.mica_serve.proofs.Whole.{net_kept}
+use Rattle.locked_serve.specs.Filled.{begun_by, RefusesFilling}
+use Rattle.locked_serve.specs.Causes.{came_to, IsCauseOfStop, HasAnnounced}
 use Rattle.locked_serve.specs.declared.opening.FilledPart.{FilledPart}
 use Rattle.locked_serve.specs.Opening.{FilledView, AreFilled, filled_view}
 use Rattle.locked_serve.proofs.Named.{of_plan, begun_is}
+use Rattle.locked_serve.proofs.Stopped.{not_opened, cause_filled}
 use Rattle.locked_serve.proofs.serve.serve_on.Given as given
 use Rattle.locked_serve.proofs.serve.serve_on.Goals as goal
 
@@ -27,8 +29,8 @@ serve_named-requires-clause-of g c κs within = of_plan c.args.options.now c.arg
 pub returns-clause-cause : goal.returns-clause-cause
 returns-clause-cause g c =
     let filled = subst (λ (w : List Write). AreFilled c.args.options.now w (views g c.in_ok-parts.parts.items)) c.as_slice.ensures.value c.in_ok-parts.ensures.filled in
-    cause_filled c.args.options.now c.args.filling.items c.args.ports.now c.serve_named.new.tables (net_at g c.args.net.now) (net_at g c.serve_named.new.net) c.serve_named.result
-    (subst (λ (b : ℕ → History). IsCauseOnceOpen c.serve_named.result c.args.options.now b c.args.ports.now c.serve_named.new.tables (net_at g c.args.net.now) (net_at g c.serve_named.new.net))
+    cause_filled c.args.options.now c.args.filling.items c.args.ports.now c.serve_named.new.tables (net_at g c.args.net.now) (net_at g c.serve_named.new.net) c.serve_named.result c.serve_named.ensures.unrefused
+    (subst (λ (b : ℕ → History). IsCauseOnceBound (came_to c.serve_named.result) c.args.options.now b c.args.ports.now c.serve_named.new.tables (net_at g c.args.net.now) (net_at g c.serve_named.new.net))
     (begun_is c.args.options.now c.args.ports.now.fronts c.args.filling.items (views g c.in_ok-parts.parts.items) c.requires.options.partitions.0 filled) c.serve_named.ensures.cause)
 
 pub returns-in_err-parts-clause-cause : goal.returns-in_err-parts-clause-cause

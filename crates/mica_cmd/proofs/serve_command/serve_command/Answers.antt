@@ -1,5 +1,5 @@
 use Rattle.std.proofs.Common.{◌∙◌, inl, Err, refl, sym, subst}
-use Rattle.mica_serve.specs.Filled.{nothing_begun}
+use Rattle.mica_serve.specs.Served.{nothing_begun}
 use Rattle.mica_serve.specs.NetRun.{NetFacts, IsCauseOf, net_facts}
 use Rattle.mica_cmd.specs.Promises.{serve_promise}
 use Rattle.mica_cmd.proofs.Keeping.{unwritten_promise}

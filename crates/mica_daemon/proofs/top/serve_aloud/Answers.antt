@@ -1,6 +1,6 @@
 use Rattle.std.proofs.Common.{ℕ, List, refl, string_bytes}
 use Rattle.std.specs.Prelude.{Ok, Err}
-use Rattle.mica_serve.specs.declared.stop.Stop.TheVariants.{Refused, Fault, Unannounced}
+use Rattle.locked_serve.specs.declared.stop.Stop.TheVariants.{Refused, Fault, Unannounced}
 use Rattle.mica_serve.specs.NetRun.{NetFacts, net_facts}
 use Rattle.mica_cmd.specs.Outside.{SinkFacts, sink_facts}
 use Rattle.mica_daemon.specs.declared.speaker.Speaker.{Speaker}

@@ -66,8 +66,8 @@ loop-hand-preserved g c =
           (c.new.ensures ∙ ap (λ (v : QueueView). queue_view options n 0 most v.parts) (sym c.new.ensures)) i.each;
     }
 
-pub returns-clause-made : goal.returns-clause-made
-returns-clause-made g c =
+pub returns : goal.returns
+returns g c =
     let i = c.loop-hand.invariant in
     let f = λ (t : OwnerTask g.row.P.Denot). owner_end g.P.Partition.owner g.P.Partition.home t in
     let made = c.loop-hand.fronts.items in

@@ -1,7 +1,6 @@
 use Rattle.std.proofs.Common.{[], sym, ap, ◌∙◌, arith, length}
 use Rattle.std.proofs.lemmas.List.{length-map}
 use Rattle.owner_queue.specs.JobEnds.{inbox}
-use Rattle.mica_serve.specs.Hands.{OwnerEnd}
 use Rattle.mica_serve.specs.Tasks.{owner_end}
 use Rattle.mica_serve.specs.declared.worker.OwnerTask.{OwnerTask}
 use Rattle.mica_serve.proofs.Opened.{rows, senders_of, lends_more}
@@ -11,7 +10,7 @@ pub lend_all-requires-clause-senders : goal.lend_all-requires-clause-senders
 lend_all-requires-clause-senders g c =
     let made = c.in_ok-senders in
     let hands = c.args.hands.now in
-    senders_of (record { state = g.P.Partition.owner c.fill.new.part; table = g.P.Partition.home c.fill.new.part; jobs = made.jobs; acks = c.in_ok-acks.acks.items })
+    senders_of (record { state = g.P.Partition.owner c.in_ok-part.part; table = g.P.Partition.home c.in_ok-part.part; jobs = made.jobs; acks = c.in_ok-acks.acks.items })
     (length hands.items) c.args.most made.senders.list.items (made.ensures.receiver ∙ ap (λ n. inbox made.jobs.queue n c.args.most []) (omega (arith, hands.ok, c.len.ensures)))
     (omega (arith, made.ensures.count, made.senders.list.ok, hands.ok, c.len.ensures)) (λ p low. made.ensures.each p (omega (arith, low, hands.ok, c.len.ensures)))
 
@@ -20,19 +19,12 @@ lend_all-requires-clause-many g c =
     let made = c.in_ok-senders in
     omega (arith, made.ensures.count, made.senders.list.ok, c.args.hands.now.ok, c.len.ensures)
 
-pub fill-requires-clause-made : goal.fill-requires-clause-made
-fill-requires-clause-made g c = sym (c.requires.same c.in_ok-part.part) ∙ c.in_ok-part.ensures.made
-
-pub returns-clause-begun : goal.returns-clause-begun
-returns-clause-begun g c =
-    ap (λ (o : OwnerEnd). o.state.history) c.in_ok-lend_all.ensures.same ∙ c.in_ok-fill.ensures.begun
-
-pub returns-clause-made : goal.returns-clause-made
-returns-clause-made g c =
+pub returns : goal.returns
+returns g c =
     let end = λ (t : OwnerTask g.row.P.Denot). owner_end g.P.Partition.owner g.P.Partition.home t in
-    let first = c.fill.new.part in
+    let first = c.in_ok-part.part in
     let made = c.in_ok-senders in
     let hands = c.args.hands.now in
     lends_more c.args.options.now c.args.most (record { state = g.P.Partition.owner first; table = g.P.Partition.home first; jobs = made.jobs; acks = c.in_ok-acks.acks.items })
-    (end c.lend_all.new.owner) (rows hands.items) (rows c.lend_all.new.hands.items) c.in_ok-fill.ensures.filled
+    (end c.lend_all.new.owner) (rows hands.items) (rows c.lend_all.new.hands.items) (sym (c.requires.same first) ∙ c.in_ok-part.ensures.made)
     (made.ensures.receiver ∙ ap (λ n. inbox made.jobs.queue n c.args.most []) (omega (arith, hands.ok, c.len.ensures, length-map hands.items (λ own. own.items)))) c.in_ok-lend_all.ensures

@@ -1,11 +1,8 @@
 use Rattle.std.proofs.Common.{◌≡◌, ◌+◌, ◌*◌, [], List, length, map, sym, ap, ◌∙◌, subst, arith}
 use Rattle.std.proofs.lemmas.List.{length-map, length_push}
 use Rattle.mica_serve.specs.declared.worker.OwnerTask.{OwnerTask}
-use Rattle.std.proofs.lemmas.Option.{slice_get_within}
-use Rattle.mica_serve.specs.Filled.{begun_by}
 use Rattle.mica_serve.specs.Hands.{AreLent}
 use Rattle.mica_serve.specs.Tasks.{owner_end}
-use Rattle.mica_serve.proofs.Fills.{begun_pushed, begun_whole}
 use Rattle.mica_serve.proofs.LentParts.{hands_none}
 use Rattle.mica_serve.proofs.Opened.{rows, none_pushed, owners_pushed}
 use Rattle.mica_serve.proofs.opening.open_owners.Goals as goal
@@ -33,7 +30,6 @@ loop-p-init g c =
       lent = subst (λ (l : List (OwnerTask g.row.P.Denot)). AreLent options fronts most (map f l) (rows hands)) (sym none)
           (hands_none options fronts most (rows hands) (omega (arith, length-map hands (λ own. own.items), i.many, c.loop-test.false, c.loop.auto.counter-end)) i.none);
       many = ap length none;
-      begun = λ p o at. absurd (let low = slice_get_within (map f c.in_ok-owners.owners.items) p o at in omega (arith, ap length (ap (map f) none)));
     }
 
 pub loop-p-preserved : goal.loop-p-preserved
@@ -44,16 +40,6 @@ loop-p-preserved g c =
     let pushed = c.in_ok-push-2.ensures.items in
     record {
       lent = owners_pushed c.args.options.now c.args.ports.now.fronts (255 * c.args.ports.now.batches) f c.loop-p.owners.items c.push-in-loop-p.new.self.items owner
-          (rows c.loop-p.hands.items) (rows c.open_owner.new.hands.items) pushed i.lent c.in_ok-owner.ensures.made;
+          (rows c.loop-p.hands.items) (rows c.open_owner.new.hands.items) pushed i.lent c.in_ok-owner.ensures;
       many = ap length pushed ∙ length_push c.loop-p.owners.items owner ∙ ap (λ n. n + 1) i.many;
-      begun = begun_pushed f (begun_by c.args.options.now c.args.filling.now) c.loop-p.owners.items c.push-in-loop-p.new.self.items owner c.loop-p.p
-          (length-map c.loop-p.owners.items f ∙ i.many) pushed c.in_ok-owner.ensures.begun i.begun;
     }
-
-pub returns-clause-begun : goal.returns-clause-begun
-returns-clause-begun g c =
-    let i = c.loop-p.invariant in
-    let f = λ (t : OwnerTask g.row.P.Denot). owner_end g.P.Partition.owner g.P.Partition.home t in
-    let owners = c.loop-p.owners.items in
-    begun_whole c.args.options.now c.requires.valid.partitions.0 c.args.filling.now (map f owners)
-    (omega (arith, length-map owners f, i.many, c.loop-p-test.false, c.loop-p.auto.p-end)) i.begun

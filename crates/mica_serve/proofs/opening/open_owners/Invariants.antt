@@ -1,8 +1,7 @@
 use Rattle.std.proofs.Common.{◌≡◌, ℕ, [], Some, length, map, slice_get}
 use Rattle.std.specs.Prelude.{◌*◌}
 use Rattle.mica_serve.specs.Tasks.{owner_end}
-use Rattle.mica_serve.specs.Filled.{begun_by}
-use Rattle.mica_serve.specs.Hands.{OwnerEnd, AreLent}
+use Rattle.mica_serve.specs.Hands.{AreLent}
 use Rattle.mica_serve.proofs.opening.open_owners.Given as goal
 
 abbrev pub invariant-loop : goal.invariant-loop
@@ -16,6 +15,4 @@ invariant-loop-p g l = record {
   lent : AreLent l.options l.ports.fronts (255 * l.ports.batches) (map (λ t. owner_end g.P.Partition.owner g.P.Partition.home t) l.owners.items)
       (map (λ own. own.items) l.hands.items);
   many : length l.owners.items ≡ l.p;
-  begun : (p : ℕ) (o : OwnerEnd) → slice_get (map (λ t. owner_end g.P.Partition.owner g.P.Partition.home t) l.owners.items) p ≡ Some o
-      → o.state.history ≡ begun_by l.options l.filling p;
 }

@@ -1,18 +1,11 @@
-use Rattle.std.proofs.Common.{◌≡◌, ◌<◌, ◌*◌, ℕ, inl, rules, length, vec_len, List, map, refl, sym, ap, ◌∙◌, subst, arith}
-use Rattle.std.specs.Prelude.{Result, Ok, Err}
+use Rattle.std.proofs.Common.{◌≡◌, rules, length, vec_len, map, Some, sym, ap, ◌∙◌, arith}
+use Rattle.std.specs.Prelude.{Err}
 use Rattle.std.proofs.lemmas.List.{length-map}
 use Rattle.std.proofs.lemmas.Result.{err_from_is_err_and}
-use Rattle.partition_model.specs.declared.options.Options.{Options}
-use Rattle.partition_model.specs.History.{History, IsHistory}
-use Rattle.mica_fronts.specs.declared.totals.Totals.{Totals}
-use Rattle.mica_fronts.specs.declared.ports.Ports.{Ports}
-use Rattle.mica_serve.specs.declared.running.Server.{Server}
-use Rattle.mica_serve.specs.declared.stop.Stop.{Stop}
-use Rattle.mica_serve.specs.Ends.{EndFacts, AreNewEnds, end_facts}
-use Rattle.mica_serve.specs.Tasks.{IsServer, owner_end, begun_with}
-use Rattle.mica_serve.specs.NetRun.{NetFacts, BindsAndServes, HasAnnounced, net_facts}
-use Rattle.mica_serve.proofs.Fills.{all_filled}
-use Rattle.mica_serve.proofs.Whole.{run_failed, run_untold, run_served, fault_told}
+use Rattle.mica_serve.specs.Served.{nothing_begun}
+use Rattle.mica_serve.specs.Ends.{EndFacts, end_facts}
+use Rattle.mica_serve.specs.NetRun.{NetFacts, net_facts}
+use Rattle.mica_serve.proofs.Whole.{run_failed, run_served}
 use Rattle.mica_serve.proofs.run.bind_and_serve.Given as given
 use Rattle.mica_serve.proofs.run.bind_and_serve.Goals as goal
 
@@ -25,16 +18,8 @@ net_at g = net_facts g.N.Net.faults g.N.Net.binds g.N.Net.first g.N.Net.refused 
 pub serve_all-requires-clause-open : goal.serve_all-requires-clause-open
 serve_all-requires-clause-open g c _ _ i e is = let new = c.bind_all.ensures.new i e is in (new.unended, new.fresh)
 
--- what each partition begins with was accepted
-abbrev begun : (g : given.Over) → Server g.row.P.Denot g.row.N-End.Denot → ℕ → History
-begun g server = begun_with g.P.Partition.owner g.P.Partition.home server
-
-filled : (g : given.Over) (options : Options) (ports : Ports) (server : Server g.row.P.Denot g.row.N-End.Denot) → IsServer g.P.Partition.owner g.P.Partition.home options ports server
-    → (p : ℕ) → p < options.partitions → IsHistory options (begun g server p)
-filled g options ports server is = all_filled options ports.fronts (255 * ports.batches) (map (owner_end g.P.Partition.owner g.P.Partition.home) server.owners.items) server.fronts.items is.made
-
-pub returns-in_err-bind_all-clause-served : goal.returns-in_err-bind_all-clause-served
-returns-in_err-bind_all-clause-served g c =
+pub returns-in_err-bind_all : goal.returns-in_err-bind_all
+returns-in_err-bind_all g c =
     let bound = c.bind_all.ensures in
     let failed = c.in_err-bind_all.ensures in
     let many = length-map c.bind_all.new.ends.items (facts g) in
@@ -42,64 +27,14 @@ returns-in_err-bind_all-clause-served g c =
     let is = err_from_is_err_and c.from_residual.result c.from_residual.ensures.1 in
     run_failed c.args.ports.now (net_at g c.args.net.now) (net_at g c.bind_all.new.net) (map (facts g) c.bind_all.new.ends.items)
     bound.new bound.bound (omega (arith, bound.few, many, size)) bound.never_fall bound.fails bound.binds bound.first
-    c.args.options.now (begun g c.args.server) (filled g c.args.options.now c.args.ports.now c.args.server c.requires.server)
-    c.from_residual.result c.args.tables.now (is.1 ∙ ap Err is.2) c.requires.tables failed.cause failed.refused
+    c.args.options.now nothing_begun (λ p low. tt) (Some c.from_residual.result) c.args.tables.now (ap Some (is.1 ∙ ap Err is.2)) c.requires.tables failed.cause failed.refused
 
-pub returns-in_err-bind_all-clause-announced : goal.returns-in_err-bind_all-clause-announced
-returns-in_err-bind_all-clause-announced g c =
-    let is = err_from_is_err_and c.from_residual.result c.from_residual.ensures.1 in
-    subst (λ (r : Result Totals Stop). HasAnnounced (g.A.Announce.says c.args.ports.now) (g.A.Announce.fails c.args.ports.now) r (net_at g c.args.net.now) (net_at g c.bind_all.new.net) c.args.announce.now c.args.announce.now)
-    (sym (is.1 ∙ ap Err is.2)) (inl (c.in_err-bind_all.ensures.refused, refl))
-
-pub returns-in_err-ready-clause-served : goal.returns-in_err-ready-clause-served
-returns-in_err-ready-clause-served g c =
-    let bound = c.bind_all.ensures in
-    let many = length-map c.bind_all.new.ends.items (facts g) in
-    let size : vec_len c.bind_all.new.ends ≡ length c.bind_all.new.ends.items = search rules in
-    let is = err_from_is_err_and c.from_residual-in_err-ready.result c.from_residual-in_err-ready.ensures.1 in
-    run_untold c.args.ports.now (net_at g c.args.net.now) (net_at g c.bind_all.new.net) (map (facts g) c.bind_all.new.ends.items)
-    bound.new bound.bound (omega (arith, bound.few, many, size)) bound.never_fall bound.fails bound.binds bound.first
-    c.args.options.now (begun g c.args.server) (filled g c.args.options.now c.args.ports.now c.args.server c.requires.server)
-    c.from_residual-in_err-ready.result c.args.tables.now (is.1 ∙ ap Err is.2) c.requires.tables (many ∙ sym size ∙ c.in_ok-bind_all.ensures.all)
-
-pub returns-in_err-ready-clause-announced : goal.returns-in_err-ready-clause-announced
-returns-in_err-ready-clause-announced g c =
-    let is = err_from_is_err_and c.from_residual-in_err-ready.result c.from_residual-in_err-ready.ensures.1 in
-    subst (λ (r : Result Totals Stop). HasAnnounced (g.A.Announce.says c.args.ports.now) (g.A.Announce.fails c.args.ports.now) r (net_at g c.args.net.now) (net_at g c.bind_all.new.net) c.args.announce.now c.ready.new.self)
-    (sym (is.1 ∙ ap Err is.2)) c.in_err-ready.ensures.failed
-
-pub ready-requires-clause-new : goal.ready-requires-clause-new
-ready-requires-clause-new g c =
-    subst (λ (l : List _). AreNewEnds c.args.ports.now.port (map (facts g) l)) (sym c.as_slice.ensures.value) c.bind_all.ensures.new
-
-pub returns-in_err-totals-clause-served : goal.returns-in_err-totals-clause-served
-returns-in_err-totals-clause-served g c =
-    let bound = c.bind_all.ensures in
-    let many = length-map c.bind_all.new.ends.items (facts g) in
-    let size : vec_len c.bind_all.new.ends ≡ length c.bind_all.new.ends.items = search rules in
-    let is = err_from_is_err_and c.from_residual-in_err-totals.result c.from_residual-in_err-totals.ensures.1 in
-    subst (λ (r : Result Totals Stop). BindsAndServes c.args.options.now (begun g c.args.server) c.args.ports.now r c.serve_all.new.tables (net_at g c.args.net.now) (net_at g c.bind_all.new.net)
-    (map (facts g) c.serve_all.new.ends.items)) (sym (is.1 ∙ ap Err is.2))
-    (run_served c.args.ports.now (net_at g c.args.net.now) (net_at g c.bind_all.new.net) (map (facts g) c.bind_all.new.ends.items)
-    bound.new bound.bound (omega (arith, bound.few, many, size)) bound.never_fall bound.fails bound.binds bound.first
-    c.args.options.now (begun g c.args.server) (filled g c.args.options.now c.args.ports.now c.args.server c.requires.server)
-    (Err c.in_err-totals.field-0.0) c.serve_all.new.tables (map (facts g) c.serve_all.new.ends.items) (many ∙ sym size ∙ c.in_ok-bind_all.ensures.all) c.in_ok-bind_all.ensures.steady
-    c.in_err-totals.ensures)
-
-pub returns-in_err-totals-clause-announced : goal.returns-in_err-totals-clause-announced
-returns-in_err-totals-clause-announced g c =
-    let is = err_from_is_err_and c.from_residual-in_err-totals.result c.from_residual-in_err-totals.ensures.1 in
-    subst (λ (r : Result Totals Stop). HasAnnounced (g.A.Announce.says c.args.ports.now) (g.A.Announce.fails c.args.ports.now) r (net_at g c.args.net.now) (net_at g c.bind_all.new.net) c.args.announce.now c.ready.new.self)
-    (sym (is.1 ∙ ap Err is.2)) (fault_told c.in_err-totals.field-0.0 (g.A.Announce.says c.args.ports.now) (g.A.Announce.fails c.args.ports.now) (net_at g c.args.net.now) (net_at g c.bind_all.new.net)
-    c.args.announce.now c.ready.new.self c.in_ok-bind_all.ensures.none_refused c.in_ok-ready.ensures.said)
-
-pub returns-clause-served : goal.returns-clause-served
-returns-clause-served g c =
+pub returns : goal.returns
+returns g c =
     let bound = c.bind_all.ensures in
     let many = length-map c.bind_all.new.ends.items (facts g) in
     let size : vec_len c.bind_all.new.ends ≡ length c.bind_all.new.ends.items = search rules in
     run_served c.args.ports.now (net_at g c.args.net.now) (net_at g c.bind_all.new.net) (map (facts g) c.bind_all.new.ends.items)
     bound.new bound.bound (omega (arith, bound.few, many, size)) bound.never_fall bound.fails bound.binds bound.first
-    c.args.options.now (begun g c.args.server) (filled g c.args.options.now c.args.ports.now c.args.server c.requires.server)
-    (Ok c.in_ok-totals.totals) c.serve_all.new.tables (map (facts g) c.serve_all.new.ends.items) (many ∙ sym size ∙ c.in_ok-bind_all.ensures.all) c.in_ok-bind_all.ensures.steady
-    c.in_ok-totals.ensures
+    c.args.options.now nothing_begun (λ p low. tt) c.serve_all.result c.serve_all.new.tables (map (facts g) c.serve_all.new.ends.items) (many ∙ sym size ∙ c.in_ok-bind_all.ensures.all)
+    c.in_ok-bind_all.ensures.steady c.serve_all.ensures

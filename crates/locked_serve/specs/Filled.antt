@@ -14,10 +14,6 @@ use Rattle.epoch_core.specs.Shape.{shape_of}
 abbrev pub begun_by : Options → List Write → ℕ → History
 begun_by options writes partition = filter (λ w. partition_of w.key options.partitions == partition) writes
 
--- no partition was filled
-abbrev pub nothing_begun : ℕ → History
-nothing_begun partition = []
-
 -- A write was refused: its partition accepted those before it, and may refuse this one after them.
 pub record RefusesFilling (options : Options) (writes : List Write) : Type 0 where
   pub before : List Write

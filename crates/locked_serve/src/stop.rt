@@ -43,7 +43,7 @@ impl Error for Stop {}
 impl Error for Untold {}
 
 impl From<Untold> for Stop {
-    ghost use Rattle.mica_serve.specs.declared.stop.Stop.TheVariants.{Unannounced};
+    ghost use Rattle.locked_serve.specs.declared.stop.Stop.TheVariants.{Unannounced};
 
     ghost from_gives = { λ _ e. e ≡ Unannounced };
 
@@ -53,7 +53,7 @@ impl From<Untold> for Stop {
 }
 
 impl From<OpenFault> for Stop {
-    ghost use Rattle.mica_serve.specs.NetRun.{stop_of};
+    ghost use Rattle.locked_serve.specs.Causes.{stop_of};
 
     ghost from_gives = { λ fault e. e ≡ stop_of fault };
 
@@ -67,7 +67,7 @@ impl From<OpenFault> for Stop {
 
 impl From<AllocError> for Stop {
     ghost use Rattle.mica_fronts.specs.declared.totals.ServeFault.TheVariants.{NoMemory};
-    ghost use Rattle.mica_serve.specs.declared.stop.Stop.TheVariants.{Fault};
+    ghost use Rattle.locked_serve.specs.declared.stop.Stop.TheVariants.{Fault};
 
     ghost from_gives = { λ _ e. e ≡ Fault NoMemory };
 
@@ -78,7 +78,7 @@ impl From<AllocError> for Stop {
 
 impl From<NoMemory> for Stop {
     ghost use Rattle.mica_fronts.specs.declared.totals.ServeFault.TheVariants.{NoMemory};
-    ghost use Rattle.mica_serve.specs.declared.stop.Stop.TheVariants.{Fault};
+    ghost use Rattle.locked_serve.specs.declared.stop.Stop.TheVariants.{Fault};
 
     ghost from_gives = { λ _ e. e ≡ Fault NoMemory };
 
@@ -89,7 +89,7 @@ impl From<NoMemory> for Stop {
 
 impl From<Failed> for Stop {
     ghost use Rattle.mica_fronts.specs.declared.totals.ServeFault.TheVariants.{Net};
-    ghost use Rattle.mica_serve.specs.declared.stop.Stop.TheVariants.{Fault};
+    ghost use Rattle.locked_serve.specs.declared.stop.Stop.TheVariants.{Fault};
 
     ghost from_gives = { λ _ e. e ≡ Fault Net };
 
@@ -99,7 +99,7 @@ impl From<Failed> for Stop {
 }
 
 impl From<ServeFault> for Stop {
-    ghost use Rattle.mica_serve.specs.declared.stop.Stop.TheVariants.{Fault};
+    ghost use Rattle.locked_serve.specs.declared.stop.Stop.TheVariants.{Fault};
 
     ghost from_gives = { λ fault e. e ≡ Fault fault };
 

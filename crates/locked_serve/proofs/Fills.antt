@@ -1,11 +1,10 @@
--- How a partition is filled, one write after another, and what all partitions then begin with.
-use Rattle.std.proofs.Common.{◌≡◌, ℕ, ◌+◌, ◌<◌, ◌≤◌, inl, inr, Bool, true, false, cond, List, [], ◌∷◌, ◌++◌, length, map, take, drop, Option, Some, refl, sym, ap, ◌∙◌, subst, append_assoc, slice_get, eqb, eqb-true, arith}
-use Rattle.std.specs.Prelude.{◌≢◌, option_map, unwrap_or}
-use Rattle.std.proofs.lemmas.Bool.{true≢false, eq-eqb, cases_lt}
-use Rattle.std.proofs.lemmas.List.{append-nil, map_push, take_more, take-append-drop}
+-- How a partition is filled, one write after another.
+use Rattle.std.proofs.Common.{◌≡◌, ℕ, ◌+◌, ◌<◌, ◌≤◌, Bool, true, false, cond, List, [], ◌∷◌, ◌++◌, take, drop, Some, refl, sym, ap, ◌∙◌, subst, append_assoc, slice_get, eqb, eqb-true, arith}
+use Rattle.std.specs.Prelude.{◌≢◌}
+use Rattle.std.proofs.lemmas.Bool.{true≢false, eq-eqb}
+use Rattle.std.proofs.lemmas.List.{append-nil, take_more, take-append-drop}
 use Rattle.std.proofs.lemmas.List.Elements.{filter-append}
-use Rattle.std.proofs.lemmas.Option.{slice_get_within, slice_get_past, get_or_from_slice_get}
-use Rattle.list_laws.proofs.Places.{element_at}
+use Rattle.std.proofs.lemmas.Option.{slice_get_within, get_or_from_slice_get}
 use Rattle.mica_words.specs.Hash.{partition_of}
 use Rattle.mica_words.proofs.Hashes.{partition_of-below}
 use Rattle.partition_model.specs.declared.options.Options.{Options}
@@ -19,10 +18,7 @@ use Rattle.epoch_core.specs.OwnerState.{as_made, options_in}
 use Rattle.epoch_core.specs.OwnerStep.{IsOwnerStep}
 use Rattle.epoch_core.specs.Shape.{shape_of}
 use Rattle.epoch_core.proofs.SameMachine.{same_may_give}
-use Rattle.mica_serve.specs.Filled.{begun_by, RefusesFilling, IsFilledOwner}
-use Rattle.mica_serve.specs.Hands.{OwnerEnd, AreFrontsOf, accepted_by}
-use Rattle.mica_fronts.specs.QueueFront.{QueueView}
-use Rattle.mica_serve.proofs.Binding.{at_snoc}
+use Rattle.locked_serve.specs.Filled.{begun_by, RefusesFilling, IsFilledOwner}
 
 module _ (options : Options) (p : ℕ) where
   -- the partition accepted those of these writes that are its own
@@ -111,16 +107,6 @@ split_at writes k write is =
     sym (take-append-drop (k + 1) writes) ∙ ap (λ (l : List Write). l ++ drop (k + 1) writes) (taken_more writes k write is)
     ∙ append_assoc (take k writes) (write ∷ []) (drop (k + 1) writes)
 
--- one owner more, filled as its place is
-pub begun_pushed : {T : Type 0} (f : T → OwnerEnd) (begun : ℕ → History) (owners after : List T) (new : T) (n : ℕ) → length (map f owners) ≡ n → after ≡ owners ++ new ∷ []
-    → (f new).state.history ≡ begun n → ((p : ℕ) (o : OwnerEnd) → slice_get (map f owners) p ≡ Some o → o.state.history ≡ begun p)
-    → (p : ℕ) (o : OwnerEnd) → slice_get (map f after) p ≡ Some o → o.state.history ≡ begun p
-begun_pushed f begun owners after new n many is one each p o at =
-    elim (at_snoc (map f owners) (f new) p o (ap (λ (l : List OwnerEnd). slice_get l p) (sym (ap (map f) is ∙ map_push f owners new)) ∙ at)) as (λ _. o.state.history ≡ begun p) [
-      | inl h ↦ each p o h.0
-      | inr h ↦ ap (λ (x : OwnerEnd). x.state.history) (sym h.1) ∙ one ∙ ap begun (sym (h.0 ∙ many))
-    ]
-
 pub none_there : (options : Options) → 1 ≤ options.partitions → (p : ℕ) → options.partitions ≤ p → (writes : List Write) → begun_by options writes p ≡ []
 none_there options some p past [] = refl
 none_there options some p past (write ∷ writes) = by (eqb (partition_of write.key options.partitions) p) refl (none_there options some p past writes)
@@ -128,24 +114,3 @@ none_there options some p past (write ∷ writes) = by (eqb (partition_of write.
     by : (b : Bool) → eqb (partition_of write.key options.partitions) p ≡ b → begun_by options writes p ≡ [] → cond b (write ∷ begun_by options writes p) (begun_by options writes p) ≡ []
     by true is rest = absurd (omega (arith, eqb-true (partition_of write.key options.partitions) p is, partition_of-below write.key options.partitions some))
     by false is rest = rest
-
--- what the owners of all partitions have accepted
-pub begun_whole : (options : Options) → 1 ≤ options.partitions → (writes : List Write) (owners : List OwnerEnd) → length owners ≡ options.partitions
-    → ((p : ℕ) (o : OwnerEnd) → slice_get owners p ≡ Some o → o.state.history ≡ begun_by options writes p) → accepted_by owners ≡ begun_by options writes
-begun_whole options some writes owners many each = λ i p. at p i
-  where
-    found : Option OwnerEnd → History
-    found x = unwrap_or (option_map (λ (o : OwnerEnd). o.state.history) x) []
-
-    at : (p : ℕ) → accepted_by owners p ≡ begun_by options writes p
-    at p = elim (cases_lt p (length owners)) as (λ _. accepted_by owners p ≡ begun_by options writes p) [
-      | inl low ↦ let o = element_at owners p low in ap found o.1 ∙ each p o.0 o.1
-      | inr past ↦ ap found (slice_get_past owners p past) ∙ sym (none_there options some p (omega (arith, many)) writes)
-    ]
-
--- each owner has accepted what it begins with
-pub all_filled : (options : Options) (fronts most : ℕ) (owners : List OwnerEnd) (made : List QueueView) → AreFrontsOf options fronts most owners made
-    → (p : ℕ) → p < options.partitions → IsHistory options (accepted_by owners p)
-all_filled options fronts most owners made are p low =
-    let o = element_at owners p (omega (arith, are.partitions)) in
-    subst (IsHistory options) (sym (ap (λ (x : Option OwnerEnd). unwrap_or (option_map (λ (y : OwnerEnd). y.state.history) x) []) o.1)) (are.lent.fresh p o.0 o.1).filled.accepted

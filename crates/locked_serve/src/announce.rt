@@ -1,5 +1,5 @@
 //! What a server tells once its ports are bound.
-ghost use Rattle.std.specs.Prelude.{◌≡◌, ⊤, map, length, OnOk, OnErr};
+ghost use Rattle.std.specs.Prelude.{◌≡◌, map, length, OnOk, OnErr};
 ghost use Rattle.mica_fronts.specs.declared.ports.Ports.{Ports as PortOptions};
 ghost use Rattle.mica_serve.specs.Ends.{AreNewEnds, end_facts};
 
@@ -21,18 +21,4 @@ pub trait Announce {
         requires new { AreNewEnds ports.now.port (map (end_facts D.port D.traffic D.faults D.has_ended D.script) ends.now) }
         ensures said { OnOk result (says ports.now self.old self.new) }
         ensures failed { OnErr result (fails ports.now self.old self.new) };
-}
-
-/// Nothing is told.
-#[derive(Clone, Copy, Debug)]
-pub(crate) struct Silent;
-
-impl Announce for Silent {
-    ghost says = { λ _ _ _. ⊤ };
-
-    ghost fails = { λ _ _ _. ⊥ };
-
-    fn ready<D: Datagrams>(&mut self, _ports: &Ports, _ends: &[D]) -> Result<(), Untold> {
-        Ok(())
-    }
 }
