@@ -38,6 +38,8 @@ mod schedules;
 #[cfg(test)]
 mod scripts;
 #[cfg(test)]
+mod sizes;
+#[cfg(test)]
 mod torn_get;
 #[cfg(test)]
 mod traces;

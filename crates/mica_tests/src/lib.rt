@@ -17,6 +17,8 @@ mod filled;
 #[cfg(test)]
 mod filled_udp;
 #[cfg(test)]
+mod large;
+#[cfg(test)]
 mod lasting;
 #[cfg(test)]
 mod meeting;

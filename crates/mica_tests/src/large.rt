@@ -1,0 +1,112 @@
+//! The sizes that the words of a server that stays up may ask for, and the memory that they take.
+
+use crate::lasting::run_lasting;
+use mica_cmd::Status;
+use mica_daemon::{MemFiles, bound_in, free_in};
+use mica_io::MemNet;
+use std::process::Abort;
+use std::sync::Wait;
+use std::test::Fail;
+use std::thread::Threads;
+
+// Words that are taken where no memory is free.
+static TAKEN: [&str; 14] = [
+    "--partitions 64",
+    "--buckets 16777216",
+    "--spares 16777216",
+    "--words 1073741824",
+    "--words 256",
+    "--wear 4611686018427387904",
+    "--memory 64M",
+    "--memory 65536K",
+    "--memory 67108864",
+    "--memory 1G",
+    "--memory 512G",
+    "--memory=524288M",
+    "--memory 549755813888",
+    "--memory 4G --tries 1 --wear 1 --fronts 16",
+];
+
+static REFUSED: [&str; 24] = [
+    "--partitions 65",
+    "--partitions 0",
+    "--buckets 33554432",
+    "--buckets 16777215",
+    "--spares 16777217",
+    "--words 1073741825",
+    "--words 255",
+    "--wear 4611686018427387905",
+    "--wear 0",
+    "--fronts 17",
+    "--memory 63M",
+    "--memory 65535K",
+    "--memory 67108863",
+    "--memory 513G",
+    "--memory 549755813889",
+    "--memory 4T",
+    "--memory 4g",
+    "--memory 04G",
+    "--memory 4.5G",
+    "--memory G",
+    "--memory=",
+    "--memory 4G --words 65536",
+    "--memory 4G --partitions 16",
+    "--memory 18014398509481984K",
+];
+
+// The status and what was written, where so many bytes are free and no port can be had.
+fn expect_end(
+    rt: &(impl Abort + AllocGlobal + Threads + Wait + Sync),
+    words: &str,
+    free: u64,
+    status: Status,
+    said: &[u8],
+) -> Result<(), Fail> {
+    let alloc = rt.alloc();
+    let mut files = MemFiles::new(alloc);
+    files.set_free(free);
+    let mut net = MemNet::new(alloc, &[])?;
+    let line = format!(in alloc; "--mode store --port 9000 {words}")?;
+    let (ended, sink) = run_lasting(rt, alloc, &mut files, &mut net, line.as_str(), 100)?;
+    assert!(rt; ended == status && sink.taken() == said);
+    Ok(())
+}
+
+#[test]
+fn takes_what_partitions_can_be_made_of(rt: HostRuntime) -> Result<(), Fail> {
+    for words in &TAKEN {
+        expect_end(&rt, words, 0, Status::NoMemory, b"")?;
+    }
+    Ok(())
+}
+
+#[test]
+fn refuses_what_they_cannot(rt: HostRuntime) -> Result<(), Fail> {
+    for words in &REFUSED {
+        expect_end(&rt, words, 0, Status::Usage, b"usage\n")?;
+    }
+    Ok(())
+}
+
+// A partition of one bucket and 256 words has 6,288 bytes, and a start takes 2,192 more. With enough of them it comes to its port.
+#[test]
+fn ends_where_too_little_is_free(rt: HostRuntime) -> Result<(), Fail> {
+    let words = "--partitions 1 --buckets 1 --spares 0 --words 256";
+    expect_end(&rt, words, 8_479, Status::NoMemory, b"")?;
+    expect_end(&rt, words, 8_480, Status::NetFault, b"net fault\n")
+}
+
+#[test]
+fn what_the_system_says_is_free(rt: HostRuntime) {
+    assert!(rt;
+        free_in(b"MemTotal:  9 kB\nMemFree: 4 kB\nMemAvailable:    2048 kB\nBuffers: 1 kB\n")
+            == Some(2_097_152)
+    );
+    assert!(rt; free_in(b"MemAvailable: 0 kB\n") == Some(0));
+    assert!(rt; free_in(b"MemTotal:  9 kB\n").is_none());
+    assert!(rt; free_in(b"MemAvailable: 2048").is_none());
+    assert!(rt; free_in(b"MemAvailable: many kB\n").is_none());
+    assert!(rt; free_in(b"").is_none());
+    assert!(rt; bound_in(b"1048576\n") == Some(1_048_576));
+    assert!(rt; bound_in(b"max\n").is_none());
+}
