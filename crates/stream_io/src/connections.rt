@@ -1,5 +1,5 @@
 //! The connections at one port.
-ghost use Rattle.std.specs.Prelude.{◌≡◌, ◌<◌, ◌≤◌, ℕ, Bool, false, Option, option_map, length, is_none, is_err, IfOk, IfSome, IfNone, OnErr};
+ghost use Rattle.std.specs.Prelude.{◌≡◌, ◌<◌, ◌≤◌, ℕ, Bool, false, Option, option_map, length, is_some, is_none, is_err, IfOk, IfSome, IfNone, OnErr};
 ghost use Rattle.mica_io.specs.Faults.{Rose, faults_after};
 ghost use Rattle.mica_io.specs.Script.{is_next_listed};
 ghost use Rattle.stream_io.specs.Log.{Log, IsHeld, called};
@@ -62,6 +62,7 @@ pub trait Connections: Drop {
         ensures never_fall { faults self.old ≤ faults self.new }
         ensures counted { faults self.new ≡ faults_after (is_err result) (faults self.old) }
         ensures foretold { IfSome (log self.old) (λ l. is_err result ≡ is_next_listed l.script) }
+        ensures told { is_some (log self.new) ≡ is_some (log self.old) }
         ensures port { port self.new ≡ port self.old };
 
     /// Puts what has come at the front of `out`.
@@ -71,6 +72,7 @@ pub trait Connections: Drop {
         ensures fits { IfOk result (FitsRoom (length out.old)) }
         ensures read { IfSome (log self.old)
             (λ l. ReadGives number (length out.old) out.new result l (log self.new)) }
+        ensures told { is_some (log self.new) ≡ is_some (log self.old) }
         ensures ended { has_ended self.new ≡ has_ended self.old }
         ensures faults { faults self.new ≡ faults self.old }
         ensures port { port self.new ≡ port self.old };
@@ -82,6 +84,7 @@ pub trait Connections: Drop {
         ensures fits { IfOk result (λ n. n ≤ length piece.now) }
         ensures written { IfSome (log self.old)
             (λ l. WriteTakes number piece.now result l (log self.new)) }
+        ensures told { is_some (log self.new) ≡ is_some (log self.old) }
         ensures ended { has_ended self.new ≡ has_ended self.old }
         ensures faults { faults self.new ≡ faults self.old }
         ensures port { port self.new ≡ port self.old };
@@ -91,6 +94,7 @@ pub trait Connections: Drop {
         requires held { IfSome (log self.old) (IsHeld number) }
         requires seldom { IfSome (log self.old) (MayAsk number) }
         ensures asked { IfSome (log self.old) (λ l. Asks number l (log self.new)) }
+        ensures told { is_some (log self.new) ≡ is_some (log self.old) }
         ensures ended { has_ended self.new ≡ has_ended self.old }
         ensures faults { faults self.new ≡ faults self.old }
         ensures port { port self.new ≡ port self.old };
@@ -99,6 +103,7 @@ pub trait Connections: Drop {
     fn close(&mut self, number: u32)
         requires held { IfSome (log self.old) (IsHeld number) }
         ensures closed { IfSome (log self.old) (λ l. Closes number l (log self.new)) }
+        ensures told { is_some (log self.new) ≡ is_some (log self.old) }
         ensures ended { has_ended self.new ≡ has_ended self.old }
         ensures faults { faults self.new ≡ faults self.old }
         ensures port { port self.new ≡ port self.old };
