@@ -87,7 +87,8 @@ fn has_sizes(row: &Row) -> bool {
 }
 
 fn has_bytes(row: &Row) -> bool {
-    row.sizes[0] <= 64 && bytes_of(&options_with(row.mode, row.sizes)) == row.bytes
+    let options = options_with(row.mode, row.sizes);
+    options.partitions <= 64 && bytes_of(&options) == row.bytes
 }
 
 #[test]
@@ -102,5 +103,7 @@ fn sizes_and_their_bytes(rt: HostRuntime) {
 #[test]
 fn bytes_of_a_start(rt: HostRuntime) {
     let options = options_with(Mode::Store, [1, 1, 0, 256]);
-    assert!(rt; bytes_of(&options) == 2_192 + 4_096 && start_bytes(&options) == 6_288 + 2_192);
+    assert!(rt;
+        options.partitions <= 64 && bytes_of(&options) == 6_288 && start_bytes(&options) == 8_480
+    );
 }
