@@ -7,7 +7,7 @@ use std::error::Error;
 use std::fmt;
 
 /// The most datagrams of one front, whose requests, and those of all fronts, can be counted in 64 bits.
-pub const MAX_BATCHES: u64 = 1_099_511_627_776;
+pub const MAX_BATCHES: u64 = 281_474_976_710_656;
 
 /// How many datagrams were received, how many requests stood in those that were batches, and how many were none.
 #[derive(Clone, Copy, Debug, PartialEq, Eq)]
