@@ -1,0 +1,4 @@
+pub mod Places
+pub mod Opening
+pub mod Going
+pub mod Few
