@@ -2,3 +2,4 @@ pub mod Places
 pub mod Opening
 pub mod Going
 pub mod Few
+pub mod Holding

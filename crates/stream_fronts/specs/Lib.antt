@@ -6,3 +6,4 @@ pub mod Serving
 pub mod Open
 pub mod Going
 pub mod Parts
+pub mod Clients

@@ -26,7 +26,7 @@ pub const LIMITS: Limits = Limits {
 };
 
 /// Why no more was answered.
-#[derive(Clone, Copy)]
+#[derive(Clone, Copy, Debug, PartialEq, Eq)]
 pub enum Stand {
     /// What is left is no whole command.
     Needs,
