@@ -170,3 +170,8 @@ received_open number asks None None same r = tt
 received_open number asks None (Some new) same r = absurd (true≢false same)
 received_open number asks (Some old) None same r = absurd r
 received_open number asks (Some old) (Some new) same r = r.1
+
+-- who may ask more often may ask less often
+pub fewer_asks : (number more asks : ℕ) (log : Option Log) → asks ≤ more → IfSome log (IsOpen number more) → IfSome log (IsOpen number asks)
+fewer_asks number more asks None fewer stands = tt
+fewer_asks number more asks (Some log) fewer stands = (stands.0, (stands.1.0, omega (arith, fewer, stands.1.1)))
