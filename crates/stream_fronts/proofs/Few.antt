@@ -1,6 +1,6 @@
 -- A command asks of no more keys than its line has words, so of no more than a line has bytes.
-use Rattle.std.proofs.Common.{◌≡◌, ℕ, ◌+◌, ◌^◌, ◌<◌, ◌≤◌, Bool, true, false, ◌&&◌, ◌||◌, cond, List, [], ◌∷◌, length, map, Option, Some, None, nat_lt, refl, sym, subst, arith, codes}
-use Rattle.std.specs.Prelude.{⊤, ◌==◌, bytes_eq, filter, find, option_map, option_and_then}
+use Rattle.std.proofs.Common.{◌≡◌, ℕ, ◌+◌, ◌^◌, ◌<◌, ◌≤◌, Bool, true, false, ◌&&◌, ◌||◌, cond, List, [], ◌∷◌, length, Option, Some, None, nat_lt, refl, sym, subst, arith, codes}
+use Rattle.std.specs.Prelude.{⊤, ◌==◌, bytes_eq, find, option_map, option_and_then}
 use Rattle.std.specs.Option.{IfSome}
 use Rattle.std.specs.List.{AllByRecursion, list_all, slice_split}
 use Rattle.std.proofs.lemmas.Bool.{ltb-false}
@@ -25,7 +25,6 @@ use Rattle.memcached_text.specs.declared.block.Block.{Block}
 use Rattle.memcached_text.specs.declared.block.Block.TheVariants as blocks
 use Rattle.memcached_text.specs.declared.next.Next.{Next}
 use Rattle.memcached_text.specs.declared.next.Next.TheVariants.{LongLine, More, Refused}
-use Rattle.memcached_text.specs.declared.next.Next.TheVariants as nexts
 use Rattle.memcached_text.specs.declared.fault.Fault.TheVariants as faults
 use Rattle.memcached_text.specs.Lines.{is_some_text, words_of, without_return, line_at}
 use Rattle.memcached_text.specs.Numbers.{number_of}

@@ -1,4 +1,4 @@
-use Rattle.std.proofs.Common.{rules, ◌≡◌, ◌≤◌, ◌+◌, length, ◌∙◌}
+use Rattle.std.proofs.Common.{rules, ◌≤◌, ◌+◌, length, ◌∙◌}
 use Rattle.stream_fronts.proofs.Opening.{sends, keeps_on, still_open}
 use Rattle.stream_fronts.proofs.calls.send.Goals as goal
 
