@@ -1,0 +1,38 @@
+-- Answers that were given one after another.
+use Rattle.std.proofs.Common.{◌≡◌, ℕ, ◌≤◌, Bool, List, [], ◌∷◌, ◌++◌, refl, sym, subst, ap, ◌∙◌}
+use Rattle.std.proofs.lemmas.List.Elements.{filter_map-append}
+use Rattle.partition_model.specs.declared.options.Options.{Options}
+use Rattle.mica_fronts.specs.Answered.{Answered}
+use Rattle.mica_fronts.specs.Session.{Sessions}
+use Rattle.mica_fronts.proofs.InOrder.{answers_append}
+use Rattle.memcached_text.specs.declared.next.Next.{Next}
+use Rattle.memcached_fronts.specs.Going.{GoesOn}
+use Rattle.memcached_fronts.specs.Seconds.{second_in, seconds_of, ToldFrom}
+use Rattle.stream_fronts.specs.Going.{GoesBy}
+
+seconds_append : (one two : List Answered) → seconds_of (one ++ two) ≡ seconds_of one ++ seconds_of two
+seconds_append one two = filter_map-append second_in one two
+
+told_moved : (before between : ℕ) (seconds : List ℕ) (after : ℕ) → between ≡ before → ToldFrom between seconds after → ToldFrom before seconds after
+told_moved before between seconds after same told = subst (λ b. ToldFrom b seconds after) same told
+
+told_append : (before : ℕ) (one : List ℕ) (between : ℕ) (two : List ℕ) (after : ℕ) → ToldFrom before one between → ToldFrom between two after → ToldFrom before (one ++ two) after
+told_append before [] between two after first second = told_moved before between two after first second
+told_append before (s ∷ one) between two after first second = (first.0, told_append s one between two after first.1 second)
+
+module _ (options : Options) (is_alone : Bool) where
+  pub by_none : (old : Sessions) (told : ℕ) → GoesBy options is_alone old told old told
+  by_none old told = record { answers = []; in_order = λ q. refl; seconds = refl }
+
+  pub by_both : (old between new : Sessions) (told then_told tells : ℕ) → GoesBy options is_alone old told between then_told → GoesBy options is_alone between then_told new tells
+      → GoesBy options is_alone old told new tells
+  by_both old between new told then_told tells first second = record {
+    answers = first.answers ++ second.answers;
+    in_order = answers_append options is_alone first.answers second.answers old between new first.in_order second.in_order;
+    seconds = subst (λ s. ToldFrom told s tells) (sym (seconds_append first.answers second.answers))
+        (told_append told (seconds_of first.answers) then_told (seconds_of second.answers) tells first.seconds second.seconds);
+  }
+
+  pub by_answers : (old : Sessions) (told : ℕ) (new : Sessions) (tells : ℕ) (base : ℕ) (next : Next) (done : ℕ) (answers : List Answered)
+      → GoesOn options is_alone base next done old told new tells answers → GoesBy options is_alone old told new tells
+  by_answers old told new tells base next done answers goes = record { answers = answers; in_order = goes.in_order; seconds = goes.seconds }

@@ -1,0 +1,5 @@
+pub mod Places
+pub mod Opening
+pub mod Going
+pub mod Holding
+pub mod Moments

@@ -1,0 +1,165 @@
+//! What is answered at one look at a connection.
+ghost use Rattle.std.specs.Prelude.{◌≡◌, ◌≤◌, ◌+◌, length, drop, IfOk};
+ghost use Rattle.memcached_text.specs.Next.{next_of};
+ghost use Rattle.memcached_fronts.specs.Exchange.{IsOpenAt};
+ghost use Rattle.stream_fronts.specs.declared.answer.TheConstants.{LIMITS};
+ghost use Rattle.stream_fronts.specs.Clients.{IsPart};
+ghost use Rattle.stream_fronts.specs.Going.{GoesBy};
+
+use crate::next::{is_last, len_of};
+use memcached_fronts::{Buffers, Limits, Numbering, answer_next};
+use memcached_text::{Next, next_command};
+use mica_clock::Clock;
+use mica_fronts::Changes;
+use mica_io::NoMemory;
+use std::alloc::Global;
+use std::sync::Wait;
+use std::thread::Threads;
+
+/// The most commands that are answered at one look, so that no connection holds up the others.
+pub const MOST_COMMANDS: u32 = 256;
+
+/// The most keys of one command that are answered at one look, and for how many bytes of replies that wait no more is answered.
+pub const LIMITS: Limits = Limits {
+    asks: 1_024,
+    bytes: 65_536,
+};
+
+/// Why no more was answered.
+#[derive(Clone, Copy, Debug, PartialEq, Eq)]
+pub enum Stand {
+    /// What is left is no whole command.
+    Needs,
+    /// There may be more to answer, but enough was done, or enough waits.
+    Enough,
+    /// What was said last ends the connection.
+    Leaves,
+}
+
+/// How far the bytes were answered.
+#[derive(Clone, Copy, Debug, PartialEq, Eq)]
+pub struct Answered {
+    pub taken: usize,
+    /// How many answers were given to the command behind what was taken.
+    pub done: usize,
+    /// How many bytes of what was taken have not come.
+    pub dropping: usize,
+    pub stand: Stand,
+}
+
+impl Answered {
+    /// Where all that was taken has come.
+    fn at(taken: usize, done: usize, stand: Stand) -> Answered
+        ensures { (result.taken ≡ taken) × (result.done ≡ done) × (result.dropping ≡ 0) × (result.stand ≡ stand) }
+    {
+        Answered {
+            taken,
+            done,
+            dropping: 0,
+            stand,
+        }
+    }
+}
+
+/// What came of the command that the bytes begin with.
+#[derive(Clone, Copy, Debug, PartialEq, Eq)]
+pub enum Said {
+    /// Not all of it has come.
+    Nothing,
+    /// So many answers were given to it, and more are due.
+    Part(usize),
+    /// It was answered, and takes so many bytes.
+    Whole(usize),
+    /// It was answered, and ends the connection.
+    Last,
+}
+
+/// Answers the command that the bytes begin with, to which so many answers were given, and appends its replies.
+#[tactic(auto, using(crate::proofs::Going::by_none, crate::proofs::Going::by_answers))]
+fn answer_one<R: Threads + Wait + Sync, F: Changes, K: Clock>(
+    rt: &R,
+    alloc: Global,
+    front: &mut F,
+    clock: &mut K,
+    numbering: Numbering,
+    buffers: &mut Buffers,
+    bytes: &[u8],
+    done: usize,
+    out: &mut Vec<u8>,
+) -> Result<Said, NoMemory>
+    requires open { IsOpenAt (next_of bytes.now) done }
+    requires partitions { numbering.partitions ≡ (F.options front.old).partitions }
+    requires left { LIMITS.asks + numbering.partitions ≤ F.left front.old }
+    ensures part { IfOk result (IsPart (next_of bytes.now)) }
+    ensures goes { GoesBy (F.options front.old) F.is_alone (F.sessions front.old) (K.last clock.old) (F.sessions front.new) (K.last clock.new) }
+    ensures left { F.left front.old ≤ F.left front.new + LIMITS.asks + numbering.partitions }
+    ensures options { F.options front.new ≡ F.options front.old }
+    ensures number { F.number front.new ≡ F.number front.old }
+    ensures stands { F.stands front.new ≡ F.stands front.old }
+{
+    let next = next_command(bytes);
+    if let Next::More = next {
+        return Ok(Said::Nothing);
+    }
+    let (len, last) = (len_of(&next), is_last(&next));
+    let progress = answer_next(
+        rt, alloc, front, clock, numbering, buffers, next, done, LIMITS, out,
+    )?;
+    if !progress.is_whole {
+        return Ok(Said::Part(progress.done));
+    }
+    Ok(if last { Said::Last } else { Said::Whole(len) })
+}
+
+/// Answers what the bytes spell, in order, to whose first command so many answers were given, and appends the replies.
+#[tactic(auto, using(crate::proofs::Going::by_none, crate::proofs::Going::by_both))]
+pub fn answer<R: Threads + Wait + Sync, F: Changes, K: Clock>(
+    rt: &R,
+    alloc: Global,
+    front: &mut F,
+    clock: &mut K,
+    numbering: Numbering,
+    left: &mut u64,
+    buffers: &mut Buffers,
+    bytes: &[u8],
+    done: usize,
+    out: &mut Vec<u8>,
+) -> Result<Answered, NoMemory>
+    requires open { IsOpenAt (next_of bytes.now) done }
+    requires partitions { numbering.partitions ≡ (F.options front.old).partitions }
+    requires left { left.old ≤ F.left front.old }
+    ensures within { IfOk result (λ a. a.taken ≤ length bytes.now) }
+    ensures open { IfOk result (λ a. IsOpenAt (next_of (drop a.taken bytes.now)) a.done) }
+    ensures goes { GoesBy (F.options front.old) F.is_alone (F.sessions front.old) (K.last clock.old) (F.sessions front.new) (K.last clock.new) }
+    ensures left { left.new ≤ F.left front.new }
+    ensures options { F.options front.new ≡ F.options front.old }
+    ensures number { F.number front.new ≡ F.number front.old }
+    ensures stands { F.stands front.new ≡ F.stands front.old }
+{
+    let cost = LIMITS.asks as u64 + u64::from(numbering.partitions);
+    let (mut taken, mut done) = (0, done);
+    for _ in 0..MOST_COMMANDS {
+        if *left < cost || out.len() >= LIMITS.bytes {
+            break;
+        }
+        *left -= cost;
+        let rest = &bytes[taken..];
+        let said = answer_one(rt, alloc, front, clock, numbering, buffers, rest, done, out)?;
+        match said {
+            Said::Nothing => return Ok(Answered::at(taken, done, Stand::Needs)),
+            Said::Part(done) => return Ok(Answered::at(taken, done, Stand::Enough)),
+            Said::Last => return Ok(Answered::at(bytes.len(), 0, Stand::Leaves)),
+            Said::Whole(len) if len > rest.len() => return Ok(Answered {
+                taken: bytes.len(),
+                done: 0,
+                dropping: len - rest.len(),
+                stand: Stand::Needs,
+            }),
+            Said::Whole(len) => {
+                taken += len;
+                done = 0;
+            }
+        }
+    }
+    Ok(Answered::at(taken, done, Stand::Enough))
+}

@@ -1,0 +1,82 @@
+//! Calls of connections, by numbers under which they are open.
+ghost use Rattle.std.specs.Prelude.{◌≡◌, ◌<◌, ◌≤◌, ◌+◌, ◌-◌, length, is_some, IfOk, IfSome};
+ghost use Rattle.stream_io.specs.Calls.{FitsRoom};
+ghost use Rattle.stream_fronts.specs.Open.{IsOpen, Keeps, KeepsOthers, AsksOnce, OnLogs, gained};
+
+use stream_io::{Broken, Connections, Input};
+
+/// Reads once.
+#[tactic(auto, using(crate::proofs::Opening::is_held, crate::proofs::Opening::receives, crate::proofs::Opening::received_keeps, crate::proofs::Opening::received_open))]
+pub fn receive<C: Connections>(
+    connections: &mut C,
+    number: u32,
+    asks: u64,
+    out: &mut [u8],
+) -> Result<Input, Broken>
+    requires room { 0 < length out.old }
+    requires open { IfSome (C.log connections.old) (IsOpen number asks) }
+    ensures fits { IfOk result (FitsRoom (length out.old)) }
+    ensures keeps { OnLogs Keeps (C.log connections.old) (C.log connections.new) }
+    ensures open { IfSome (C.log connections.new) (IsOpen number (asks + gained result)) }
+    ensures told { is_some (C.log connections.new) ≡ is_some (C.log connections.old) }
+    ensures ended { C.has_ended connections.new ≡ C.has_ended connections.old }
+    ensures faults { C.faults connections.new ≡ C.faults connections.old }
+    ensures port { C.port connections.new ≡ C.port connections.old }
+{
+    connections.read(number, out)
+}
+
+/// Sends as much as is taken, and says how many bytes that are.
+#[tactic(auto, using(crate::proofs::Opening::is_held, crate::proofs::Opening::sends, crate::proofs::Opening::still_open, crate::proofs::Opening::keeps_on, crate::proofs::Opening::same_keeps))]
+pub fn send<C: Connections>(
+    connections: &mut C,
+    number: u32,
+    asks: u64,
+    text: &[u8],
+) -> Result<usize, Broken>
+    requires open { IfSome (C.log connections.old) (IsOpen number asks) }
+    ensures fits { IfOk result (λ n. n ≤ length text.now) }
+    ensures keeps { OnLogs Keeps (C.log connections.old) (C.log connections.new) }
+    ensures open { IfSome (C.log connections.new) (IsOpen number asks) }
+    ensures told { is_some (C.log connections.new) ≡ is_some (C.log connections.old) }
+    ensures ended { C.has_ended connections.new ≡ C.has_ended connections.old }
+    ensures faults { C.faults connections.new ≡ C.faults connections.old }
+    ensures port { C.port connections.new ≡ C.port connections.old }
+{
+    let mut sent = 0;
+    while sent < text.len() {
+        let count = connections.write(number, &text[sent..])?;
+        if count == 0 {
+            break;
+        }
+        sent += count;
+    }
+    Ok(sent)
+}
+
+/// Has a connection reported once more.
+#[tactic(auto, using(crate::proofs::Opening::is_held, crate::proofs::Opening::may_ask, crate::proofs::Opening::asks_once))]
+pub fn ask_again<C: Connections>(connections: &mut C, number: u32, asks: u64)
+    requires some { 0 < asks }
+    requires open { IfSome (C.log connections.old) (IsOpen number asks) }
+    ensures asked { OnLogs (AsksOnce number asks) (C.log connections.old) (C.log connections.new) }
+    ensures told { is_some (C.log connections.new) ≡ is_some (C.log connections.old) }
+    ensures ended { C.has_ended connections.new ≡ C.has_ended connections.old }
+    ensures faults { C.faults connections.new ≡ C.faults connections.old }
+    ensures port { C.port connections.new ≡ C.port connections.old }
+{
+    connections.again(number);
+}
+
+/// Closes a connection.
+#[tactic(auto, using(crate::proofs::Opening::is_held, crate::proofs::Opening::closes))]
+pub fn close<C: Connections>(connections: &mut C, number: u32, asks: u64)
+    requires open { IfSome (C.log connections.old) (IsOpen number asks) }
+    ensures others { OnLogs (KeepsOthers number) (C.log connections.old) (C.log connections.new) }
+    ensures told { is_some (C.log connections.new) ≡ is_some (C.log connections.old) }
+    ensures ended { C.has_ended connections.new ≡ C.has_ended connections.old }
+    ensures faults { C.faults connections.new ≡ C.faults connections.old }
+    ensures port { C.port connections.new ≡ C.port connections.old }
+{
+    connections.close(number);
+}

@@ -1,0 +1,38 @@
+//! What a front holds of one connection.
+ghost use Rattle.std.specs.Prelude.{◌≡◌};
+ghost use Rattle.stream_fronts.specs.Clients.{IsClient};
+
+use crate::unsent::Unsent;
+use std::alloc::Global;
+
+/// What a front holds of one connection. It takes no memory while no command and no reply is unfinished.
+#[derive(Drop)]
+pub struct Client {
+    /// What was received and is no whole command, or waits for those before it.
+    pub kept: Vec<u8>,
+    /// How many answers were given to the command that this begins with.
+    pub done: usize,
+    /// So many bytes of what is to be dropped have not come.
+    pub dropping: usize,
+    /// Nothing more is read: the connection ends once all replies are taken.
+    pub leaving: bool,
+    pub unsent: Unsent,
+    /// How often it may be asked for again, at least.
+    pub asks: u64,
+}
+
+impl Client {
+    pub fn new(alloc: Global) -> Client
+        ensures client { IsClient result }
+        ensures asks { result.asks ≡ 0 }
+    {
+        Client {
+            kept: Vec::new(alloc),
+            done: 0,
+            dropping: 0,
+            leaving: false,
+            unsent: Unsent::new(alloc),
+            asks: 0,
+        }
+    }
+}

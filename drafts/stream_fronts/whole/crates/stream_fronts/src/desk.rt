@@ -1,0 +1,32 @@
+//! The room that a front has once, for all its connections.
+ghost use Rattle.std.specs.Prelude.{◌≡◌, IfOk, vec_len};
+ghost use Rattle.memcached_text.specs.declared.limits.TheConstants.{MAX_WAITING_LEN};
+
+use crate::answer::LIMITS;
+use memcached_fronts::Buffers;
+use memcached_text::MAX_WAITING_LEN;
+use mica_io::NoMemory;
+use std::alloc::Global;
+
+/// The longest reply to one command or one key.
+pub const LONGEST_REPLY: usize = 8_704;
+
+/// Room for what is looked at of a connection, for replies, and for values.
+#[derive(Drop)]
+pub struct Desk {
+    pub room: Vec<u8>,
+    pub replies: Vec<u8>,
+    pub buffers: Buffers,
+}
+
+impl Desk {
+    pub fn new(alloc: Global) -> Result<Desk, NoMemory>
+        ensures { IfOk result (λ desk. vec_len desk.room ≡ MAX_WAITING_LEN) }
+    {
+        Ok(Desk {
+            room: Vec::from_elem(alloc, 0, MAX_WAITING_LEN)?,
+            replies: Vec::with_capacity(alloc, LIMITS.bytes + LONGEST_REPLY)?,
+            buffers: Buffers::new(alloc)?,
+        })
+    }
+}

@@ -1,0 +1,71 @@
+//! What is made of the bytes of a connection that lie there.
+ghost use Rattle.std.specs.Prelude.{◌≡◌, ◌≤◌, length, IfOk};
+ghost use Rattle.memcached_text.specs.declared.limits.TheConstants.{MAX_WAITING_LEN};
+ghost use Rattle.memcached_text.specs.Next.{next_of};
+ghost use Rattle.memcached_fronts.specs.Exchange.{IsOpenAt};
+ghost use Rattle.stream_fronts.specs.Clients.{IsClient};
+ghost use Rattle.stream_fronts.specs.Going.{GoesBy};
+
+use crate::answer::{Stand, answer};
+use crate::client::Client;
+use memcached_fronts::{Buffers, Numbering};
+use mica_clock::Clock;
+use mica_fronts::Changes;
+use mica_io::NoMemory;
+use std::alloc::Global;
+use std::sync::Wait;
+use std::thread::Threads;
+
+impl Client {
+    /// Keeps what is left of the bytes, to whose first command so many answers were given.
+    fn keep(&mut self, alloc: Global, bytes: &[u8], done: usize) -> Result<(), NoMemory>
+        requires short { length bytes.now ≤ MAX_WAITING_LEN }
+        requires open { IsOpenAt (next_of bytes.now) done }
+        ensures client { IfOk result (λ _. IsClient self.new) }
+        ensures asks { self.new.asks ≡ self.old.asks }
+    {
+        self.kept = if bytes.is_empty() {
+            Vec::new(alloc)
+        } else {
+            Vec::from_slice(alloc, bytes)?
+        };
+        self.done = done;
+        Ok(())
+    }
+}
+
+/// Answers what the bytes spell, where so many answers were given to their first command, and keeps what is left of them.
+pub fn look<R: Threads + Wait + Sync, F: Changes, K: Clock>(
+    rt: &R,
+    alloc: Global,
+    front: &mut F,
+    clock: &mut K,
+    numbering: Numbering,
+    left: &mut u64,
+    client: &mut Client,
+    bytes: &[u8],
+    done: usize,
+    buffers: &mut Buffers,
+    replies: &mut Vec<u8>,
+) -> Result<Stand, NoMemory>
+    requires short { length bytes.now ≤ MAX_WAITING_LEN }
+    requires open { IsOpenAt (next_of bytes.now) done }
+    requires partitions { numbering.partitions ≡ (F.options front.old).partitions }
+    requires left { left.old ≤ F.left front.old }
+    ensures client { IfOk result (λ _. IsClient client.new) }
+    ensures asks { client.new.asks ≡ client.old.asks }
+    ensures goes { GoesBy (F.options front.old) F.is_alone (F.sessions front.old) (K.last clock.old) (F.sessions front.new) (K.last clock.new) }
+    ensures left { left.new ≤ F.left front.new }
+    ensures options { F.options front.new ≡ F.options front.old }
+    ensures number { F.number front.new ≡ F.number front.old }
+    ensures stands { F.stands front.new ≡ F.stands front.old }
+{
+    replies.clear();
+    let answered = answer(
+        rt, alloc, front, clock, numbering, left, buffers, bytes, done, replies,
+    )?;
+    client.dropping = answered.dropping;
+    client.leaving = answered.stand == Stand::Leaves;
+    client.keep(alloc, &bytes[answered.taken..], answered.done)?;
+    Ok(answered.stand)
+}
