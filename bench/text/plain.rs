@@ -1,7 +1,7 @@
 //! Plain Rust of the rules of memcached's text protocol, by memchr and without memory.
 
-const MAX_KEY: usize = 250;
-const MAX_TEXT: usize = 8_176;
+pub const MAX_KEY: usize = 250;
+pub const MAX_TEXT: usize = 8_176;
 const MAX_LINE: usize = 65_536;
 
 unsafe extern "C" {
@@ -71,7 +71,7 @@ pub enum Next<'a> {
 
 /// The words of a line.
 #[derive(Clone)]
-pub struct Words<'a>(&'a [u8]);
+pub struct Words<'a>(pub &'a [u8]);
 
 impl<'a> Iterator for Words<'a> {
     type Item = &'a [u8];
